@@ -1,0 +1,14 @@
+pub mod Ceremony
+pub mod Outputs
+pub mod Places
+pub mod Poly
+pub use Rattle.dkg_values.specs.Codec
+pub use Rattle.dkg_values.specs.Grammar
+pub use Rattle.dkg_values.specs.Joined
+pub use Rattle.dkg_values.specs.ListGrammar
+pub use Rattle.dkg_values.specs.Lists
+pub use Rattle.dkg_values.specs.Rising
+pub use Rattle.dkg_values.specs.Sizes
+pub use Rattle.dkg_values.specs.Uint
+pub use Rattle.dkg_values.specs.UintGrammar
+pub use Rattle.dkg_values.specs.Uints

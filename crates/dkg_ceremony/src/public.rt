@@ -1,0 +1,93 @@
+ghost use Rattle.std.specs.Prelude.{◌≡◌, ℕ, ◌<◌, ◌^◌, List, length, vec_len};
+
+use bytes::{BufMut, BytesMut};
+use dkg_values::{
+    CodecError, Element, EncodeSize, Mem, Read, Reader, Spelled, Value, Write, read_count,
+    read_many, uint_size, write_uint,
+};
+use std::alloc::Global;
+use std::marker::Model;
+
+/// The public half of a dealing: the coefficients of a polynomial.
+#[derive(Debug, Drop)]
+pub struct Public {
+    elements: Vec<Element>,
+}
+
+impl Model for Public {
+    ghost use Rattle.std.specs.Prelude.{List, ℕ, length, ◌<◌, ◌^◌};
+
+    ghost Value = { List ℕ };
+
+    ghost view = { λ p. p.elements.items };
+
+    ghost invariant = { λ p. length p.elements.items < 2 ^ 32 };
+}
+
+impl Public {
+    pub fn new(elements: Vec<Element>) -> Public
+        requires { vec_len elements < 2 ^ 32 }
+        ensures { result ≡ elements.items }
+    {
+        Public { elements }
+    }
+
+    pub fn as_slice(&self) -> &[Element]
+        ensures { result.now ≡ self.now }
+    {
+        &self.elements
+    }
+}
+
+impl Value for Public {
+    fn copy(&self, alloc: Global) -> Mem<Public> {
+        let elements = Vec::from_slice(alloc, &self.elements)?;
+        Ok(Public { elements })
+    }
+
+    fn same(&self, other: &Public) -> bool {
+        self.elements == other.elements
+    }
+}
+
+impl Spelled for Public {
+    ghost use Rattle.dkg_values.specs.Lists.{public_spelling};
+
+    ghost spelling = { public_spelling };
+}
+
+impl EncodeSize for Public {
+    #[tactic(auto, using(dkg_values::specs::ListGrammar::public_size))]
+    fn encode_size(&self) -> usize {
+        uint_size(self.elements.len() as u64) + 2 * self.elements.len()
+    }
+}
+
+impl Write for Public {
+    fn put(&self, out: &mut BytesMut) -> Mem<()> {
+        write_uint(out, self.elements.len() as u64)?;
+        for element in &self.elements {
+            out.put_u16(element.get())?;
+        }
+        Ok(())
+    }
+}
+
+impl Read for Public {
+    type Cfg = u32;
+
+    ghost use Rattle.dkg_values.specs.Lists.{public_at, PublicFits};
+    ghost use Rattle.dkg_values.specs.ListGrammar.{public_grammar};
+
+    ghost fits = { PublicFits };
+
+    ghost read_of = { public_at };
+
+    ghost grammar = { public_grammar };
+
+    fn read_cfg(alloc: Global, input: &mut Reader<'_>, cfg: &u32) -> Result<Public, CodecError> {
+        let count = read_count(input, 1, *cfg)?;
+        let elements = read_many::<Element>(alloc, input, count, &())?;
+        Ok(Public { elements })
+    }
+}

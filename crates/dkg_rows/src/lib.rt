@@ -1,0 +1,2 @@
+//! Worked examples of whole runs.
+#![tactic(auto)]

@@ -1,0 +1,2 @@
+//! A node run through the lives of a script.
+#![tactic(auto)]

@@ -1,0 +1,4 @@
+pub mod Keys
+pub mod KeysRead
+pub mod PairsRead
+pub mod Sets

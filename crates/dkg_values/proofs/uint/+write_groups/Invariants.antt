@@ -1,0 +1,4 @@
+use Rattle.dkg_values.proofs.uint.+write_groups.Given as goal
+
+abbrev pub decreases-write_groups : goal.decreases-write_groups
+decreases-write_groups l = l.n

@@ -1,0 +1,10 @@
+pub mod Codec
+pub mod Grammar
+pub mod Joined
+pub mod ListGrammar
+pub mod Lists
+pub mod Rising
+pub mod Sizes
+pub mod Uint
+pub mod UintGrammar
+pub mod Uints

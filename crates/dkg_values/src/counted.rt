@@ -1,0 +1,78 @@
+ghost use Rattle.std.specs.Prelude.{◌≡◌, ℕ, ◌-◌, ◌<◌, ◌≤◌, ◌^◌, ◌++◌, List, length, IfOk, OnOk, IsErrOf};
+ghost use Rattle.std.specs.List.Sorted.{IsStrictlyIncreasing};
+ghost use Rattle.std.specs.Int.{w16, w32, to_be_bytes};
+ghost use Rattle.dkg_values.specs.Codec.{Reading, Reads, ReadsBy, IsGrammar, number_at, many_at};
+ghost use Rattle.dkg_values.specs.Uint.{uint};
+ghost use Rattle.dkg_values.specs.Lists.{count_at, keys_at};
+
+use crate::codec::{CodecError, Read, Reader, What};
+use crate::numbers::Key;
+use crate::uint::read_u32;
+use std::alloc::Global;
+
+/// A count within its range.
+pub fn read_count(input: &mut Reader<'_>, least: u32, most: u32) -> Result<u32, CodecError>
+    ensures exact { Reads (count_at least most input.old) result input.new }
+    ensures sure { IsErrOf result CodecError.NoMemory → ⊥ }
+{
+    let count = read_u32(input)?;
+    if count < least || count > most {
+        return Err(CodecError::InvalidLength {
+            got: u64::from(count),
+            max: u64::from(most),
+        });
+    }
+    Ok(count)
+}
+
+pub fn read_be32(input: &mut Reader<'_>) -> Result<u32, CodecError>
+    ensures exact { Reads (number_at w32 input.old) result input.new }
+    ensures sure { IsErrOf result CodecError.NoMemory → ⊥ }
+{
+    let piece = input.take(4)?;
+    Ok(u32::from_be_bytes([piece[0], piece[1], piece[2], piece[3]]))
+}
+
+pub fn read_be16(input: &mut Reader<'_>) -> Result<u16, CodecError>
+    ensures exact { Reads (number_at w16 input.old) result input.new }
+    ensures sure { IsErrOf result CodecError.NoMemory → ⊥ }
+{
+    let piece = input.take(2)?;
+    Ok(u16::from_be_bytes([piece[0], piece[1]]))
+}
+
+/// Keys that rise.
+pub fn read_keys(alloc: Global, input: &mut Reader<'_>, count: u32) -> Result<Vec<Key>, CodecError>
+    ensures exact { ReadsBy (λ keys. keys.items) (keys_at count 0 input.old) result input.new }
+    ensures rising { IfOk result (λ keys. (length keys.items ≡ count) × IsStrictlyIncreasing keys.items) }
+{
+    let mut keys = Vec::new(alloc);
+    let mut least = 0u64;
+    for _ in 0..count {
+        let key = read_be32(input)?;
+        if u64::from(key) < least {
+            return Err(CodecError::Invalid(What::Set));
+        }
+        keys.push(Key(key))?;
+        least = u64::from(key) + 1;
+    }
+    Ok(keys)
+}
+
+/// Things one after another.
+pub fn read_many<T: Read + Drop>(
+    alloc: Global,
+    input: &mut Reader<'_>,
+    count: u32,
+    cfg: &T::Cfg,
+) -> Result<Vec<T>, CodecError>
+    ensures exact { ReadsBy (λ made. made.items) (many_at (T.read_of cfg.now) count input.old) result input.new }
+    ensures count { IfOk result (λ made. length made.items ≡ count) }
+{
+    let mut made = Vec::new(alloc);
+    for _ in 0..count {
+        let one = T::read_cfg(alloc, input, cfg)?;
+        made.push(one)?;
+    }
+    Ok(made)
+}

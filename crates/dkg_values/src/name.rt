@@ -1,0 +1,12 @@
+//! The names of a disk's files.
+
+/// A file of a node's disk.
+#[derive(Clone, Copy, Debug, PartialEq, Eq)]
+pub enum Name {
+    /// The start plan's record.
+    Plan,
+    /// The journal in one file.
+    Flat,
+    /// The journal's file of one section.
+    Segment(u64),
+}

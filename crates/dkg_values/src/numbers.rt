@@ -1,0 +1,171 @@
+ghost use Rattle.std.specs.Prelude.{◌≡◌, ℕ, ◌<◌, ◌↔◌, IsSome, IfSome, IsErrOf};
+ghost use Rattle.std.specs.Int.{w32};
+ghost use Rattle.dkg_values.specs.Codec.{Reads, number_at};
+
+use crate::codec::{CodecError, EncodeSize, Read, Reader, Spelled, What, Write};
+use crate::counted::{read_be16, read_be32};
+use crate::memory::Mem;
+use bytes::{BufMut, BytesMut};
+use std::alloc::Global;
+use std::marker::Model;
+
+/// A participant's public key.
+#[derive(Clone, Copy, Debug, PartialEq, Eq, PartialOrd, Ord, Hash)]
+pub struct Key(pub u32);
+
+impl Model for Key {
+    ghost Value = { ℕ };
+
+    ghost view = { λ k. k.0 };
+
+    ghost inverse = { λ n. record { 0 = n } };
+}
+
+impl Key {
+    pub fn number(&self) -> u32
+        ensures { result ≡ self.now }
+    {
+        self.0
+    }
+}
+
+#[derive(Clone, Copy, Debug, PartialEq, Eq, PartialOrd, Ord, Hash)]
+pub struct Epoch(pub u64);
+
+impl Model for Epoch {
+    ghost Value = { ℕ };
+
+    ghost view = { λ k. k.0 };
+
+    ghost inverse = { λ n. record { 0 = n } };
+}
+
+#[derive(Clone, Copy, Debug, PartialEq, Eq, PartialOrd, Ord, Hash)]
+pub struct Height(pub u64);
+
+/// The first eight bytes of a digest.
+#[derive(Clone, Copy, Debug, PartialEq, Eq)]
+pub struct Mark(pub [u8; 8]);
+
+impl Model for Mark {
+    ghost use Rattle.std.specs.Prelude.{List, ℕ};
+
+    ghost Value = { List ℕ };
+
+    ghost view = { λ m. m.0 };
+
+    ghost inverse = { λ bytes. record { 0 = bytes } };
+}
+
+/// A number below 65,521.
+#[derive(Clone, Copy, Debug, PartialEq, Eq)]
+pub struct Element(u16);
+
+impl Model for Element {
+    ghost use Rattle.std.specs.Prelude.{ℕ, ◌<◌};
+
+    ghost Value = { ℕ };
+
+    ghost view = { λ e. e.0 };
+
+    ghost invariant = { λ e. e.0 < 65521 };
+
+    ghost inverse = { λ n. record { 0 = n } };
+}
+
+impl Element {
+    pub fn new(value: u16) -> Option<Element>
+        ensures below { IsSome result ↔ (value < 65521) }
+        ensures same { IfSome result (λ e. e ≡ value) }
+    {
+        if value < 65521 {
+            Some(Element(value))
+        } else {
+            None
+        }
+    }
+
+    pub fn get(&self) -> u16
+        ensures same { result ≡ self.now }
+        ensures below { result < 65521 }
+    {
+        self.0
+    }
+}
+
+impl Spelled for Key {
+    ghost use Rattle.std.specs.Int.{w32, to_be_bytes};
+
+    ghost spelling = { to_be_bytes w32 };
+}
+
+impl EncodeSize for Key {
+    fn encode_size(&self) -> usize {
+        4
+    }
+}
+
+impl Write for Key {
+    fn put(&self, out: &mut BytesMut) -> Mem<()> {
+        Ok(out.put_u32(self.0)?)
+    }
+}
+
+impl Read for Key {
+    type Cfg = ();
+
+    ghost use Rattle.std.specs.Prelude.{◌<◌, ◌^◌};
+    ghost use Rattle.std.specs.Int.{w32};
+    ghost use Rattle.dkg_values.specs.Codec.{number_at};
+    ghost use Rattle.dkg_values.specs.ListGrammar.{be32_grammar};
+
+    ghost fits = { λ _ n. n < 2 ^ 32 };
+
+    ghost read_of = { λ _. number_at w32 };
+
+    ghost grammar = { λ _. be32_grammar };
+
+    fn read_cfg(_alloc: Global, input: &mut Reader<'_>, _cfg: &()) -> Result<Key, CodecError>
+        ensures exact { Reads (number_at w32 input.old) result input.new }
+        ensures sure { IsErrOf result CodecError.NoMemory → ⊥ }
+    {
+        Ok(Key(read_be32(input)?))
+    }
+}
+
+impl Spelled for Element {
+    ghost use Rattle.std.specs.Int.{w16, to_be_bytes};
+
+    ghost spelling = { to_be_bytes w16 };
+}
+
+impl EncodeSize for Element {
+    fn encode_size(&self) -> usize {
+        2
+    }
+}
+
+impl Write for Element {
+    fn put(&self, out: &mut BytesMut) -> Mem<()> {
+        Ok(out.put_u16(self.0)?)
+    }
+}
+
+impl Read for Element {
+    type Cfg = ();
+
+    ghost use Rattle.std.specs.Prelude.{◌<◌};
+    ghost use Rattle.dkg_values.specs.Lists.{element_at};
+    ghost use Rattle.dkg_values.specs.ListGrammar.{element_grammar};
+
+    ghost fits = { λ _ n. n < 65521 };
+
+    ghost read_of = { λ _. element_at };
+
+    ghost grammar = { λ _. element_grammar };
+
+    fn read_cfg(_alloc: Global, input: &mut Reader<'_>, _cfg: &()) -> Result<Element, CodecError> {
+        let value = read_be16(input)?;
+        Element::new(value).ok_or(CodecError::Invalid(What::Element))
+    }
+}
