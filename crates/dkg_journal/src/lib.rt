@@ -1,2 +1,15 @@
 //! Disks, and an append-only journal that every crash leaves readable.
+//!
+//! A `Disk` is the trait of the outside; `perform` makes its changing calls, counted by a `Fuse` that may cut one. The journal
+//! keeps one list of entries in one file, and the store above keeps its events in it.
 #![tactic(auto)]
+
+mod call;
+mod disk;
+mod fuse;
+mod journal;
+
+pub use call::{JournalError, perform};
+pub use disk::{Disk, DiskError, Op};
+pub use fuse::Fuse;
+pub use journal::{Journal, Prepared};

@@ -1,0 +1,38 @@
+-- A fuse counts calls, and gives its pick at one of them.
+use Rattle.std.specs.Prelude.{◌≡◌, ◌<◌, ◌≤◌, ◌^◌, ℕ, ◌+◌, ◌==◌, nat_lt, if◌then◌else◌, List, [], ◌∷◌, ◌++◌, Option, Some, None}
+use Rattle.dkg_journal.specs.Burn.{Burn}
+
+-- the count stands still at its last value
+abbrev pub counted : ℕ → ℕ
+counted n = if nat_lt (n + 1) (2 ^ 64) then n + 1 else n
+
+abbrev pub spent_once : Burn → Burn
+spent_once f = record { call = f.call; pick = f.pick; spent = counted f.spent }
+
+abbrev pub pick_now : Burn → Option ℕ
+pick_now f = if f.spent + 1 == f.call then Some f.pick else None
+
+abbrev pub IsBlown : Burn → Type 0
+IsBlown f = (0 < f.call) × (f.call ≤ f.spent)
+
+-- the call that is cut came in between
+pub record Reached (before now : Burn) : Type 0 where
+  pub not_yet : before.spent < now.call
+  pub by_now : now.call ≤ now.spent
+
+-- what a fuse has counted after these calls
+abbrev pub burned : {O : Type 0} → List O → Burn → Burn
+burned [] f = f
+burned (op ∷ ops) f = burned ops (spent_once f)
+
+-- These calls were made and counted, and no others.
+pub record RanAll {D O : Type 0} (made : D → D → List O → Type 0) (old new : D) (before now : Burn) (calls : List O) : Type 0 where
+  pub each : made old new calls
+  pub fuse : now ≡ burned calls before
+
+-- the first of these calls were made and counted, and no others
+pub record Ran {D O : Type 0} (made : D → D → List O → Type 0) (old new : D) (before now : Burn) (calls : List O) : Type 0 where
+  pub first : List O
+  pub rest : List O
+  pub whole : calls ≡ first ++ rest
+  pub all : RanAll made old new before now first

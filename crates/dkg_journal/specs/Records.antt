@@ -1,0 +1,111 @@
+-- What the bytes of a journal's file stand for.
+use Rattle.std.specs.Prelude.{◌≡◌, ◌≢◌, ℕ, zero, suc, ◌+◌, ◌<◌, ◌^◌, ◌==◌, ◌&&◌, nat_le, nat_lt, List, [], ◌∷◌, ◌++◌, map, fold, flat_map, length, take, drop, if◌then◌else◌, Option, Some, None}
+use Rattle.std.specs.Int.{w32, w64, to_be_bytes, from_be_bytes}
+use Rattle.std.specs.List.{AllByRecursion}
+use Rattle.std.specs.FinMap as map_of
+use Rattle.dkg_journal.specs.Names.{Files}
+use Rattle.dkg_values.specs.declared.name.Name.{Name}
+use Rattle.dkg_values.specs.declared.name.Name.TheVariants.{Flat, Segment}
+
+-- numbers in four and in eight bytes, the highest first
+unfoldable pub number32 : ℕ → List ℕ
+number32 n = to_be_bytes w32 n
+
+unfoldable pub number64 : ℕ → List ℕ
+number64 n = to_be_bytes w64 n
+
+unfoldable pub read32 : List ℕ → ℕ
+read32 bytes = from_be_bytes w32 (take 4 bytes)
+
+unfoldable pub read64 : List ℕ → ℕ
+read64 bytes = from_be_bytes w64 (take 8 bytes)
+
+-- The bodies of the records up to the first gate that isn't 1, or to the end, of which there are at most n.
+abbrev pub bodies : ℕ → List ℕ → List (List ℕ)
+bodies zero bytes = []
+bodies (suc n) [] = []
+bodies (suc n) (gate ∷ rest) = if (gate == 1) && nat_le (4 + read32 rest) (length rest) then take (read32 rest) (drop 4 rest) ∷ bodies n (drop (4 + read32 rest) rest) else []
+
+-- a section and a body
+abbrev pub Entry : Type 0
+Entry = ℕ × List ℕ
+
+abbrev pub entry_of : List ℕ → Entry
+entry_of body = (read64 body, drop 8 body)
+
+-- behind the entries of its section and of those below
+abbrev pub placed : List Entry → Entry → List Entry
+placed [] e = e ∷ []
+placed (x ∷ xs) e = if nat_lt e.0 x.0 then e ∷ x ∷ xs else x ∷ placed xs e
+
+abbrev pub in_sections : List (List ℕ) → List Entry
+in_sections bs = fold placed [] (map entry_of bs)
+
+-- the entries of the flat file, sections rising
+abbrev pub flat_entries : List ℕ → List Entry
+flat_entries file = in_sections (bodies (length file) file)
+
+abbrev pub segment_entries : Name × List ℕ → List Entry
+segment_entries (Segment section, file) = map (λ body. (section, body)) (bodies (length file) file)
+segment_entries (_, file) = []
+
+abbrev pub entries_with : Option (List ℕ) → Files → List Entry
+entries_with (Some file) f = flat_entries file
+entries_with None f = flat_map segment_entries (map_of.entries f)
+
+-- what the files of a journal stand for
+abbrev pub entries : Files → List Entry
+entries f = entries_with (map_of.get f Flat) f
+
+-- an open gate, the body's length, and the body
+abbrev pub record_of : List ℕ → List ℕ
+record_of body = 1 ∷ (number32 (length body) ++ body)
+
+abbrev pub spelled : List (List ℕ) → List ℕ
+spelled [] = []
+spelled (b ∷ bs) = record_of b ++ spelled bs
+
+abbrev pub AreShort : List (List ℕ) → Type 0
+AreShort bs = AllByRecursion (λ b. length b < 2 ^ 32) bs
+
+-- Records of these bodies, and at this place a gate that isn't open. Anything may stand behind it.
+pub record IsFlat (bs : List (List ℕ)) (place : ℕ) (file : List ℕ) : Type 0 where
+  pub gate : ℕ
+  pub junk : List ℕ
+  pub is : file ≡ spelled bs ++ gate ∷ junk
+  pub shut : gate ≢ 1
+  pub size : length (spelled bs) ≡ place
+  pub short : AreShort bs
+
+-- what is written behind the closed gate: a record but for its gate, and the next gate
+abbrev pub behind : List ℕ → List ℕ
+behind body = (number32 (length body) ++ body) ++ 0 ∷ []
+
+-- the same file with one more record, whose gate isn't open
+pub record Staged (bs : List (List ℕ)) (body : List ℕ) (place : ℕ) (file : List ℕ) : Type 0 where
+  pub gate : ℕ
+  pub junk : List ℕ
+  pub is : file ≡ spelled bs ++ gate ∷ ((number32 (length body) ++ body) ++ 0 ∷ junk)
+  pub shut : gate ≢ 1
+  pub size : length (spelled bs) ≡ place
+  pub short : AreShort bs
+  pub short_body : length body < 2 ^ 32
+
+-- no record's gate stands at the front
+abbrev pub Ends : List ℕ → Type 0
+Ends [] = Unit {0}
+Ends (gate ∷ rest) = gate ≢ 1
+
+-- the bytes are whole records, which stand for these entries, up to this place, and a rest
+pub record Front (bytes rest : List ℕ) (out : List Entry) (place : ℕ) : Type 0 where
+  pub bs : List (List ℕ)
+  pub split : bytes ≡ spelled bs ++ rest
+  pub stands_for : out ≡ in_sections bs
+  pub size : length (spelled bs) ≡ place
+  pub short : AreShort bs
+
+-- whole records, which stand for these entries, up to this place, where no open gate stands
+pub record Whole (bytes : List ℕ) (out : List Entry) (place : ℕ) : Type 0 where
+  pub rest : List ℕ
+  pub front : Front bytes rest out place
+  pub ends : Ends rest

@@ -1,0 +1,243 @@
+//! An append-only journal in one flat file.
+//!
+//! The store above opens it once a life, replays its entries, and appends an entry for each event.
+ghost use Rattle.std.specs.Prelude.{◌≡◌, ◌≢◌, ◌⊎◌, ◌↔◌, ◌<◌, ◌≤◌, ◌^◌, ◌+◌, ◌++◌, [], ◌∷◌, List, ℕ, Option, Some, None, length, OnOk, IfOk, IfErr, IsErrOf, IsTrue};
+ghost use Rattle.dkg_journal.specs.Errors.{IsOfDevice};
+ghost use Rattle.dkg_journal.specs.Names.{Files};
+ghost use Rattle.dkg_journal.specs.Disk.{Follows, Allowed, Torn, Rose, written};
+ghost use Rattle.dkg_journal.specs.Fuse.{Reached, Ran, RanAll};
+ghost use Rattle.dkg_journal.specs.Ready.{IsReady};
+ghost use Rattle.dkg_journal.specs.Records.{behind, number64};
+ghost use Rattle.dkg_journal.specs.Steps.{Firm, IsOpenAt, Into, Keeps, Adds, MayAdd, FlatAt, start, make_flat, make_calls, record_calls, append_calls, body_of};
+ghost use Rattle.dkg_values.specs.declared.name.Name.{Name};
+
+use crate::{Disk, Fuse, JournalError, Op, perform};
+use dkg_values::{Blob, Name};
+use std::alloc::{AllocError, Global};
+
+const MAX_PLACE: u64 = 1 << 62;
+
+#[derive(Drop)]
+pub struct Journal {
+    pub place: Option<u64>,
+}
+
+/// Makes one write to the flat file, and syncs it.
+fn write_flat<D: Disk>(
+    alloc: Global,
+    disk: &mut D,
+    fuse: &mut Fuse,
+    write: &Op,
+) -> Result<(), JournalError>
+    requires { IsTrue D.tells → Allowed (D.files disk.old) write.now }
+    ensures done { OnOk result (IsTrue D.tells → (x bytes : List ℕ) (place : ℕ) → write.now ≡ Op.WriteAt Name.Flat place bytes → Firm x (D.files disk.old) (D.image disk.old)
+        → Firm (written place bytes x) (D.files disk.new) (D.image disk.new)) }
+    ensures images { (x bytes : List ℕ) (place : ℕ) → write.now ≡ Op.WriteAt Name.Flat place bytes → Firm x (D.files disk.old) (D.image disk.old)
+        → Follows (Into (Torn place (length bytes) x)) (D.image disk.old) (D.image disk.new) }
+    ensures later { D.faults disk.old ≤ D.faults disk.new }
+    ensures later_wants { D.wants disk.old ≤ D.wants disk.new }
+    ensures wanted { IsErrOf result JournalError.NoMemory → Rose (D.wants disk.old) (D.wants disk.new) }
+    ensures disk { IsErrOf result JournalError.Disk → Rose (D.faults disk.old) (D.faults disk.new) }
+    ensures kinds { IfErr result IsOfDevice }
+    ensures cut { IsErrOf result JournalError.Cut → Reached fuse.old fuse.new }
+    ensures not_cut { OnOk result (Reached fuse.old fuse.new → ⊥) }
+    ensures all { OnOk result (RanAll D.made disk.old disk.new fuse.old fuse.new (write.now ∷ Op.Sync Name.Flat ∷ [])) }
+    ensures calls { Ran D.made disk.old disk.new fuse.old fuse.new (write.now ∷ Op.Sync Name.Flat ∷ []) }
+{
+    perform(alloc, disk, fuse, write)?;
+    perform(alloc, disk, fuse, &Op::Sync { name: Name::Flat })?;
+    Ok(())
+}
+
+/// Makes the file with a closed gate, if there is none.
+fn make_file<D: Disk>(
+    alloc: Global,
+    disk: &mut D,
+    fuse: &mut Fuse,
+    place: Option<u64>,
+    make: &Op,
+) -> Result<(), JournalError>
+    requires { make.now ≡ make_flat }
+    ensures open { OnOk result (IsTrue D.tells → IsOpenAt place (D.files disk.old) (D.image disk.old) → FlatAt (start place) (D.files disk.new) (D.image disk.new)) }
+    ensures images { IsOpenAt place (D.files disk.old) (D.image disk.old) → Follows Keeps (D.image disk.old) (D.image disk.new) }
+    ensures later { D.faults disk.old ≤ D.faults disk.new }
+    ensures later_wants { D.wants disk.old ≤ D.wants disk.new }
+    ensures wanted { IsErrOf result JournalError.NoMemory → Rose (D.wants disk.old) (D.wants disk.new) }
+    ensures disk { IsErrOf result JournalError.Disk → Rose (D.faults disk.old) (D.faults disk.new) }
+    ensures kinds { IfErr result IsOfDevice }
+    ensures cut { IsErrOf result JournalError.Cut → Reached fuse.old fuse.new }
+    ensures not_cut { OnOk result (Reached fuse.old fuse.new → ⊥) }
+    ensures all { OnOk result (RanAll D.made disk.old disk.new fuse.old fuse.new (make_calls place)) }
+    ensures calls { Ran D.made disk.old disk.new fuse.old fuse.new (make_calls place) }
+{
+    match place {
+        Some(_) => Ok(()),
+        None => {
+            perform(alloc, disk, fuse, make)?;
+            Ok(())
+        }
+    }
+}
+
+/// What is written behind the closed gate.
+#[tactic(auto, unfolding(crate::specs::Records::number32, crate::specs::Records::number64))]
+fn bytes_behind(alloc: Global, section: u64, body: &[u8]) -> Result<Vec<u8>, AllocError>
+    requires { 8 + length body.now < 2 ^ 32 }
+    ensures { IfOk result (λ v. v.items ≡ behind (number64 section ++ body.now)) }
+{
+    let len = (8 + body.len()) as u32;
+    let mut bytes = Vec::new(alloc);
+    bytes.extend_from_slice(&len.to_be_bytes())?;
+    bytes.extend_from_slice(&section.to_be_bytes())?;
+    bytes.extend_from_slice(body)?;
+    bytes.push(0)?;
+    Ok(bytes)
+}
+
+/// The calls of an append, with their bytes.
+#[derive(Drop)]
+pub struct Prepared {
+    make: Op,
+    write: Op,
+    gate: Op,
+}
+
+fn prepare(alloc: Global, place: u64, section: u64, body: &[u8]) -> Result<Prepared, AllocError>
+    requires short { 8 + length body.now < 2 ^ 32 }
+    requires low { place < 2 ^ 63 }
+    ensures make { IfOk result (λ p. p.make ≡ make_flat) }
+    ensures write { IfOk result (λ p. p.write ≡ Op.WriteAt Name.Flat (place + 1) (behind (body_of (section, body.now)))) }
+    ensures gate { IfOk result (λ p. p.gate ≡ Op.WriteAt Name.Flat place (1 ∷ [])) }
+{
+    let behind = bytes_behind(alloc, section, body)?;
+    let open = vec![in alloc; 1]?;
+    let closed = vec![in alloc; 0]?;
+    Ok(Prepared {
+        make: Op::Install {
+            name: Name::Flat,
+            bytes: Blob::new(closed),
+        },
+        write: Op::WriteAt {
+            name: Name::Flat,
+            place: place + 1,
+            bytes: Blob::new(behind),
+        },
+        gate: Op::WriteAt {
+            name: Name::Flat,
+            place,
+            bytes: Blob::new(open),
+        },
+    })
+}
+
+/// Makes the calls of an append.
+fn append_prepared<D: Disk>(
+    alloc: Global,
+    disk: &mut D,
+    fuse: &mut Fuse,
+    place: Option<u64>,
+    calls: &Prepared,
+    section: u64,
+    body: &[u8],
+) -> Result<(), JournalError>
+    requires make { calls.now.make ≡ make_flat }
+    requires write { calls.now.write ≡ Op.WriteAt Name.Flat (start place + 1) (behind (body_of (section, body.now))) }
+    requires gate { calls.now.gate ≡ Op.WriteAt Name.Flat (start place) (1 ∷ []) }
+    requires short { 8 + length body.now < 2 ^ 32 }
+    requires open { IsTrue D.tells → IsOpenAt place (D.files disk.old) (D.image disk.old) }
+    ensures open { OnOk result (IsTrue D.tells → IsOpenAt (Some (start place + 13 + length body.now)) (D.files disk.new) (D.image disk.new)) }
+    ensures added { OnOk result (IsTrue D.tells → Follows (Adds (section, body.now)) (D.image disk.old) (D.image disk.new)) }
+    ensures images { IsTrue D.tells → Follows (MayAdd (section, body.now)) (D.image disk.old) (D.image disk.new) }
+    ensures later { D.faults disk.old ≤ D.faults disk.new }
+    ensures later_wants { D.wants disk.old ≤ D.wants disk.new }
+    ensures wanted { IsErrOf result JournalError.NoMemory → Rose (D.wants disk.old) (D.wants disk.new) }
+    ensures disk { IsErrOf result JournalError.Disk → Rose (D.faults disk.old) (D.faults disk.new) }
+    ensures kinds { IfErr result IsOfDevice }
+    ensures cut { IsErrOf result JournalError.Cut → Reached fuse.old fuse.new }
+    ensures not_cut { OnOk result (Reached fuse.old fuse.new → ⊥) }
+    ensures all { OnOk result (RanAll D.made disk.old disk.new fuse.old fuse.new (append_calls place (section, body.now))) }
+    ensures calls { Ran D.made disk.old disk.new fuse.old fuse.new (append_calls place (section, body.now)) }
+{
+    make_file(alloc, disk, fuse, place, &calls.make)?;
+    write_flat(alloc, disk, fuse, &calls.write)?;
+    write_flat(alloc, disk, fuse, &calls.gate)?;
+    Ok(())
+}
+
+impl Journal {
+    /// What an append will write, with all the memory that it takes.
+    pub fn ready(&self, alloc: Global, section: u64, body: &[u8]) -> Result<Prepared, JournalError>
+        ensures calls { IfOk result (λ calls. IsReady calls self.now.place (section, body.now)) }
+        ensures too_long { IsErrOf result JournalError.TooLong ↔ 2 ^ 32 ≤ 8 + length body.now }
+        ensures kinds { IfErr result (λ e. (e ≡ JournalError.TooLong) ⊎ (e ≡ JournalError.NoMemory)) }
+    {
+        if body.len() >= (1 << 32) - 8 {
+            return Err(JournalError::TooLong);
+        }
+        let place = self.place.unwrap_or(0);
+        if place > MAX_PLACE {
+            return Err(JournalError::NoMemory);
+        }
+        let calls = prepare(alloc, place, section, body)?;
+        Ok(calls)
+    }
+
+    /// Makes the calls of an append that is ready. It takes no memory of its own. After an error, open the journal again.
+    pub fn append_ready<D: Disk>(
+        &mut self,
+        alloc: Global,
+        disk: &mut D,
+        fuse: &mut Fuse,
+        calls: &Prepared,
+        section: u64,
+        body: &[u8],
+    ) -> Result<(), JournalError>
+        requires ready { IsReady calls.now self.old.place (section, body.now) }
+        requires open { IsTrue D.tells → IsOpenAt self.old.place (D.files disk.old) (D.image disk.old) }
+        ensures open { OnOk result (IsTrue D.tells → IsOpenAt self.new.place (D.files disk.new) (D.image disk.new)) }
+        ensures added { OnOk result (IsTrue D.tells → Follows (Adds (section, body.now)) (D.image disk.old) (D.image disk.new)) }
+        ensures images { IsTrue D.tells → Follows (MayAdd (section, body.now)) (D.image disk.old) (D.image disk.new) }
+        ensures later { D.faults disk.old ≤ D.faults disk.new }
+        ensures later_wants { D.wants disk.old ≤ D.wants disk.new }
+        ensures wanted { IsErrOf result JournalError.NoMemory → Rose (D.wants disk.old) (D.wants disk.new) }
+        ensures disk { IsErrOf result JournalError.Disk → Rose (D.faults disk.old) (D.faults disk.new) }
+        ensures kinds { IfErr result IsOfDevice }
+        ensures cut { IsErrOf result JournalError.Cut → Reached fuse.old fuse.new }
+        ensures not_cut { OnOk result (Reached fuse.old fuse.new → ⊥) }
+        ensures all { OnOk result (RanAll D.made disk.old disk.new fuse.old fuse.new (append_calls self.old.place (section, body.now))) }
+        ensures calls { Ran D.made disk.old disk.new fuse.old fuse.new (append_calls self.old.place (section, body.now)) }
+    {
+        append_prepared(alloc, disk, fuse, self.place, calls, section, body)?;
+        self.place = Some(self.place.unwrap_or(0) + 13 + body.len() as u64);
+        Ok(())
+    }
+
+    /// Adds an entry at the end of its section. After an error, open the journal again.
+    pub fn append<D: Disk>(
+        &mut self,
+        alloc: Global,
+        disk: &mut D,
+        fuse: &mut Fuse,
+        section: u64,
+        body: &[u8],
+    ) -> Result<(), JournalError>
+        requires { IsTrue D.tells → IsOpenAt self.old.place (D.files disk.old) (D.image disk.old) }
+        ensures open { OnOk result (IsTrue D.tells → IsOpenAt self.new.place (D.files disk.new) (D.image disk.new)) }
+        ensures added { OnOk result (IsTrue D.tells → Follows (Adds (section, body.now)) (D.image disk.old) (D.image disk.new)) }
+        // Each image has the entries from before, with the new one or without.
+        ensures images { IsTrue D.tells → Follows (MayAdd (section, body.now)) (D.image disk.old) (D.image disk.new) }
+        ensures too_long { IsErrOf result JournalError.TooLong ↔ 2 ^ 32 ≤ 8 + length body.now }
+        ensures later { D.faults disk.old ≤ D.faults disk.new }
+        ensures later_wants { D.wants disk.old ≤ D.wants disk.new }
+        ensures memory { IsErrOf result JournalError.NoMemory → ((self.new ≡ self.old) × (disk.new ≡ disk.old) × (fuse.new ≡ fuse.old)) ⊎ Rose (D.wants disk.old) (D.wants disk.new) }
+        ensures disk { IsErrOf result JournalError.Disk → Rose (D.faults disk.old) (D.faults disk.new) }
+        ensures not_corrupt { (name : Name) (place : ℕ) → IsErrOf result (JournalError.Corrupt name place) → ⊥ }
+        ensures cut { IsErrOf result JournalError.Cut → Reached fuse.old fuse.new }
+        ensures not_cut { OnOk result (Reached fuse.old fuse.new → ⊥) }
+        ensures all { OnOk result (RanAll D.made disk.old disk.new fuse.old fuse.new (append_calls self.old.place (section, body.now))) }
+        ensures calls { Ran D.made disk.old disk.new fuse.old fuse.new (append_calls self.old.place (section, body.now)) }
+    {
+        let calls = self.ready(alloc, section, body)?;
+        self.append_ready(alloc, disk, fuse, &calls, section, body)
+    }
+}
