@@ -1,3 +1,4 @@
+pub mod Bytes
 pub mod Codec
 pub mod Grammar
 pub mod Joined

@@ -7,7 +7,7 @@ use Rattle.dkg_values.specs.declared.codec.CodecError.{CodecError}
 use Rattle.dkg_values.specs.declared.codec.CodecError.TheVariants.{InvalidVarint}
 use Rattle.dkg_values.specs.Codec.{Reading, ◌>>=◌, IsBytes, IsGrammar}
 use Rattle.dkg_values.specs.Uint.{IsMost, groups, groups_at, uint, uint_at}
-use Rattle.dkg_values.specs.Uints.{most_step, below_most}
+use Rattle.dkg_values.specs.Uints.{most_step, below_most, most32, most64}
 use Rattle.dkg_values.specs.Grammar.{bind_ok, chosen, guard_ok, ok_is}
 
 IsBytes-tail : (b : ℕ) (bytes : List ℕ) → IsBytes (b ∷ bytes) → IsBytes bytes
@@ -117,3 +117,13 @@ length-groups (suc more) n =
 
 pub uint_short : (n : ℕ) → length (uint n) ≤ 10
 uint_short n = length-groups 9 n
+
+pub u64_grammar : IsGrammar (λ n. n < 2 ^ 64) uint (uint_at (2 ^ 64 - 1))
+u64_grammar =
+    let law = uint_grammar (2 ^ 64 - 1) most64 (omega arith) in
+    record { found = λ bytes n rest are e. let f = law.found bytes n rest are e in (omega (arith, f.0), f.1); again = λ n rest lt. law.again n rest (omega arith) }
+
+pub u32_grammar : IsGrammar (λ n. n < 2 ^ 32) uint (uint_at (2 ^ 32 - 1))
+u32_grammar =
+    let law = uint_grammar (2 ^ 32 - 1) most32 (omega arith) in
+    record { found = λ bytes n rest are e. let f = law.found bytes n rest are e in (omega (arith, f.0), f.1); again = λ n rest lt. law.again n rest (omega arith) }

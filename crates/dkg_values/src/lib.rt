@@ -6,6 +6,7 @@
 mod blob;
 mod codec;
 mod counted;
+mod fixed;
 mod map;
 mod memory;
 mod name;
@@ -19,10 +20,11 @@ pub use codec::{
     CodecError, EncodeSize, Read, Reader, Spelled, What, Write, decode_cfg, encode, no_prefix,
 };
 pub use counted::{read_be16, read_be32, read_count, read_keys, read_many};
+pub use fixed::{Digest, Mark, Seed, read_array, read_byte};
 pub use map::{Map, MapCfg, MapIter};
 pub use memory::{Mem, NoMemory};
 pub use name::Name;
-pub use numbers::{Element, Epoch, Height, Key, Mark};
+pub use numbers::{Element, Epoch, Height, Key};
 pub use set::{NotRising, Set, SetIter};
 pub use uint::{read_u32, read_u64, uint_size, write_uint};
 pub use value::Value;

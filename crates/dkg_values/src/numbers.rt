@@ -1,10 +1,16 @@
-ghost use Rattle.std.specs.Prelude.{◌≡◌, ℕ, ◌<◌, ◌↔◌, IsSome, IfSome, IsErrOf};
-ghost use Rattle.std.specs.Int.{w32};
+//! The numbers that name keys, epochs and heights, and the elements of the ceremony's field.
+//!
+//! Contracts see each as its number. Sets, maps, rounds and blocks are made of these.
+ghost use Rattle.std.specs.Prelude.{◌≡◌, ℕ, ◌-◌, ◌<◌, ◌^◌, ◌↔◌, IsSome, IfSome, IsErrOf};
+ghost use Rattle.std.specs.Int.{w16, w32};
 ghost use Rattle.dkg_values.specs.Codec.{Reads, number_at};
+ghost use Rattle.dkg_values.specs.Uint.{uint_at};
+ghost use Rattle.dkg_values.specs.Lists.{element_at};
 
 use crate::codec::{CodecError, EncodeSize, Read, Reader, Spelled, What, Write};
 use crate::counted::{read_be16, read_be32};
 use crate::memory::Mem;
+use crate::uint::{read_u64, uint_size, write_uint};
 use bytes::{BufMut, BytesMut};
 use std::alloc::Global;
 use std::marker::Model;
@@ -29,6 +35,7 @@ impl Key {
     }
 }
 
+/// A period of the chain through which one set of holders keeps the key, counted from 0.
 #[derive(Clone, Copy, Debug, PartialEq, Eq, PartialOrd, Ord, Hash)]
 pub struct Epoch(pub u64);
 
@@ -40,21 +47,16 @@ impl Model for Epoch {
     ghost inverse = { λ n. record { 0 = n } };
 }
 
+/// The place of a block in the chain, counted from 0.
 #[derive(Clone, Copy, Debug, PartialEq, Eq, PartialOrd, Ord, Hash)]
 pub struct Height(pub u64);
 
-/// The first eight bytes of a digest.
-#[derive(Clone, Copy, Debug, PartialEq, Eq)]
-pub struct Mark(pub [u8; 8]);
+impl Model for Height {
+    ghost Value = { ℕ };
 
-impl Model for Mark {
-    ghost use Rattle.std.specs.Prelude.{List, ℕ};
+    ghost view = { λ k. k.0 };
 
-    ghost Value = { List ℕ };
-
-    ghost view = { λ m. m.0 };
-
-    ghost inverse = { λ bytes. record { 0 = bytes } };
+    ghost inverse = { λ n. record { 0 = n } };
 }
 
 /// A number below 65,521.
@@ -133,6 +135,84 @@ impl Read for Key {
     }
 }
 
+impl Spelled for Epoch {
+    ghost use Rattle.dkg_values.specs.Uint.{uint};
+
+    ghost spelling = { uint };
+}
+
+impl EncodeSize for Epoch {
+    fn encode_size(&self) -> usize {
+        uint_size(self.0)
+    }
+}
+
+impl Write for Epoch {
+    fn put(&self, out: &mut BytesMut) -> Mem<()> {
+        write_uint(out, self.0)
+    }
+}
+
+impl Read for Epoch {
+    type Cfg = ();
+
+    ghost use Rattle.std.specs.Prelude.{◌-◌, ◌<◌, ◌^◌};
+    ghost use Rattle.dkg_values.specs.Uint.{uint_at};
+    ghost use Rattle.dkg_values.specs.UintGrammar.{u64_grammar};
+
+    ghost fits = { λ _ n. n < 2 ^ 64 };
+
+    ghost read_of = { λ _. uint_at (2 ^ 64 - 1) };
+
+    ghost grammar = { λ _. u64_grammar };
+
+    fn read_cfg(_alloc: Global, input: &mut Reader<'_>, _cfg: &()) -> Result<Epoch, CodecError>
+        ensures exact { Reads (uint_at (2 ^ 64 - 1) input.old) result input.new }
+        ensures sure { IsErrOf result CodecError.NoMemory → ⊥ }
+    {
+        Ok(Epoch(read_u64(input)?))
+    }
+}
+
+impl Spelled for Height {
+    ghost use Rattle.dkg_values.specs.Uint.{uint};
+
+    ghost spelling = { uint };
+}
+
+impl EncodeSize for Height {
+    fn encode_size(&self) -> usize {
+        uint_size(self.0)
+    }
+}
+
+impl Write for Height {
+    fn put(&self, out: &mut BytesMut) -> Mem<()> {
+        write_uint(out, self.0)
+    }
+}
+
+impl Read for Height {
+    type Cfg = ();
+
+    ghost use Rattle.std.specs.Prelude.{◌-◌, ◌<◌, ◌^◌};
+    ghost use Rattle.dkg_values.specs.Uint.{uint_at};
+    ghost use Rattle.dkg_values.specs.UintGrammar.{u64_grammar};
+
+    ghost fits = { λ _ n. n < 2 ^ 64 };
+
+    ghost read_of = { λ _. uint_at (2 ^ 64 - 1) };
+
+    ghost grammar = { λ _. u64_grammar };
+
+    fn read_cfg(_alloc: Global, input: &mut Reader<'_>, _cfg: &()) -> Result<Height, CodecError>
+        ensures exact { Reads (uint_at (2 ^ 64 - 1) input.old) result input.new }
+        ensures sure { IsErrOf result CodecError.NoMemory → ⊥ }
+    {
+        Ok(Height(read_u64(input)?))
+    }
+}
+
 impl Spelled for Element {
     ghost use Rattle.std.specs.Int.{w16, to_be_bytes};
 
@@ -164,7 +244,10 @@ impl Read for Element {
 
     ghost grammar = { λ _. element_grammar };
 
-    fn read_cfg(_alloc: Global, input: &mut Reader<'_>, _cfg: &()) -> Result<Element, CodecError> {
+    fn read_cfg(_alloc: Global, input: &mut Reader<'_>, _cfg: &()) -> Result<Element, CodecError>
+        ensures exact { Reads (element_at input.old) result input.new }
+        ensures sure { IsErrOf result CodecError.NoMemory → ⊥ }
+    {
         let value = read_be16(input)?;
         Element::new(value).ok_or(CodecError::Invalid(What::Element))
     }
