@@ -2,6 +2,7 @@ pub mod Ceremony
 pub mod Outputs
 pub mod Places
 pub mod Poly
+pub use Rattle.dkg_values.specs.Bytes
 pub use Rattle.dkg_values.specs.Codec
 pub use Rattle.dkg_values.specs.Grammar
 pub use Rattle.dkg_values.specs.Joined
