@@ -2,6 +2,7 @@
 #![tactic(auto)]
 
 mod ceremony;
+mod phase;
 mod public;
 mod round;
 mod sign;
@@ -15,6 +16,7 @@ pub use dkg_values::{
     decode_cfg, encode, no_prefix, read_array, read_be16, read_be32, read_byte, read_count,
     read_keys, read_many, read_u32, read_u64, uint_size, write_uint,
 };
+pub use phase::Phase;
 pub use public::Public;
 pub use round::{Mode, Output, Reveal, Round, Sharing};
 pub use sign::{Domain, Signer, StandSigner, mark_of};
