@@ -1,0 +1,21 @@
+-- The directory that says nothing.
+use Rattle.std.proofs.Common.{◌≡◌, ◌≤◌, ◌^◌, List, [], length, ℕ, Ok, refl, ap, arith}
+use Rattle.std.specs.Prelude.{⊤}
+use Rattle.dkg_values.specs.Codec.{Reading, IsGrammar}
+use Rattle.dkg_values.specs.Grammar.{ok_is}
+use Rattle.dkg_types.specs.declared.directory.Unit as directory
+
+abbrev pub unit_at : List ℕ → Reading directory.Unit
+unit_at bytes = Ok (record {}, bytes)
+
+abbrev pub unit_spelling : directory.Unit → List ℕ
+unit_spelling u = []
+
+pub unit_grammar : IsGrammar (λ (u : directory.Unit). ⊤) unit_spelling unit_at
+unit_grammar = record {
+  found = λ bytes v rest are e. (tt, ap (λ (x : directory.Unit × List ℕ). x.1) (ok_is (record {}, bytes) (v, rest) e));
+  again = λ v rest fit. refl;
+}
+
+pub unit_sized : (u : directory.Unit) → ⊤ → length (unit_spelling u) ≤ 2 ^ 61
+unit_sized u h = omega arith

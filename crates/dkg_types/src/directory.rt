@@ -1,0 +1,125 @@
+//! How peers are reached: nothing for a network that finds them by key, or their addresses.
+ghost use Rattle.std.specs.Prelude.{◌≡◌, ℕ, ◌≤◌, ◌^◌, Bool, List, true};
+
+use bytes::BytesMut;
+use dkg_ceremony::{CodecError, EncodeSize, Mem, Read, Reader, Set, Spelled, Value, Write};
+use std::alloc::Global;
+
+/// What an info says of how its peers are reached, as the upstream's `network` module has it.
+pub trait Directory: Value + Write + EncodeSize + Read {
+    ghost use Rattle.std.specs.Prelude.{◌≡◌, ℕ, ◌≤◌, ◌^◌, Bool, List, length};
+
+    /// How a directory of these peers is read.
+    ghost config_of: { List ℕ → Self.Cfg };
+
+    /// A bound of the spelling of a directory of so many peers.
+    ghost bound_of: { ℕ → ℕ };
+
+    /// Whether a directory is one of exactly these peers.
+    ghost matches_of: { Self → List ℕ → Bool };
+
+    fn codec_config(peers: &Set) -> Self::Cfg
+        ensures { result ≡ config_of peers.now };
+
+    /// A bound, in bytes, of the encoding of a directory of so many peers.
+    fn max_encode_size(peers: usize) -> usize
+        requires { peers ≤ 2 ^ 34 }
+        ensures bound { result ≡ bound_of peers }
+        ensures small { result ≤ 2 ^ 61 };
+
+    /// Whether this is a directory of exactly these peers.
+    fn matches(&self, peers: &Set) -> bool
+        ensures { result ≡ matches_of self.now peers.now };
+
+    /// What has a size has one of at most 2^61 bytes.
+    ghost sized: { (d : Self) → Self.can_size d → length (Self.spelling d) ≤ 2 ^ 61 };
+}
+
+/// The directory of a network that reaches peers by their keys alone.
+#[derive(Clone, Copy, Debug, PartialEq, Eq)]
+pub struct Unit;
+
+/// An IPv4 address and a port.
+#[derive(Clone, Copy, Debug, PartialEq, Eq)]
+pub struct Socket {
+    pub ip: u32,
+    pub port: u16,
+}
+
+/// Where a peer is reached.
+#[derive(Clone, Copy, Debug, PartialEq, Eq)]
+pub enum Address {
+    /// It is dialed where it dials from.
+    Symmetric(Socket),
+    /// It is dialed at one socket and dials from another.
+    Asymmetric { ingress: Socket, egress: Socket },
+}
+
+impl Value for Unit {
+    fn copy(&self, _alloc: Global) -> Mem<Unit> {
+        Ok(Unit)
+    }
+
+    fn same(&self, other: &Unit) -> bool {
+        *self == *other
+    }
+}
+
+impl Spelled for Unit {
+    ghost use Rattle.dkg_types.specs.Units.{unit_spelling};
+
+    ghost spelling = { unit_spelling };
+}
+
+impl EncodeSize for Unit {
+    fn encode_size(&self) -> usize {
+        0
+    }
+}
+
+impl Write for Unit {
+    fn put(&self, _out: &mut BytesMut) -> Mem<()> {
+        Ok(())
+    }
+}
+
+impl Read for Unit {
+    type Cfg = ();
+
+    ghost use Rattle.std.specs.Prelude.{⊤};
+    ghost use Rattle.dkg_types.specs.Units.{unit_at, unit_grammar};
+
+    ghost fits = { λ _ _. ⊤ };
+
+    ghost read_of = { λ _. unit_at };
+
+    ghost grammar = { λ _. unit_grammar };
+
+    fn read_cfg(_alloc: Global, _input: &mut Reader<'_>, _cfg: &()) -> Result<Unit, CodecError> {
+        Ok(Unit)
+    }
+}
+
+impl Directory for Unit {
+    ghost use Rattle.std.specs.Prelude.{true};
+
+    ghost config_of = { λ _. tt };
+
+    ghost bound_of = { λ _. 0 };
+
+    ghost matches_of = { λ _ _. true };
+
+    ghost use Rattle.dkg_types.specs.Units.{unit_sized};
+
+    ghost sized = { unit_sized };
+
+    fn codec_config(_peers: &Set) {}
+
+    fn max_encode_size(_peers: usize) -> usize {
+        0
+    }
+
+    fn matches(&self, _peers: &Set) -> bool {
+        true
+    }
+}
