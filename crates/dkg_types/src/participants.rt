@@ -1,8 +1,14 @@
 //! Who takes part in an epoch. Setup validates them and hands the tracked ones to a manager.
 ghost use Rattle.std.specs.Prelude.{◌≡◌, ℕ, ◌+◌, ◌<◌, ◌^◌, ◌⊎◌, length, Contains, IfOk};
+ghost use Rattle.std.specs.Int.NonZero.{non_zero_u32_get};
+ghost use Rattle.std.specs.Option.{option_copied};
+ghost use Rattle.std.specs.Str.{bytes_eq};
+ghost use Rattle.dkg_values.specs.Rising.{IsSetOf};
+ghost use Rattle.dkg_types.specs.Validation.{are_among as among, limited, reshare_validation, validation};
 
-use dkg_ceremony::{Mem, Set, Value};
+use dkg_ceremony::{Mem, Output, Set, Value};
 use std::alloc::Global;
+use std::num::NonZeroU32;
 use thiserror::Error;
 
 /// The participants of an epoch.
@@ -38,6 +44,91 @@ pub enum ParticipantsError {
     InitialReshareDealers,
     #[error("a reshare's dealer is not one of the previous output's players")]
     UnknownReshareDealer,
+}
+
+fn is_same(one: &Set, other: &Set) -> bool
+    ensures { result ≡ bytes_eq one.now other.now }
+{
+    one.same(other)
+}
+
+/// Whether each key of some is one of the others.
+fn are_among(some: &Set, keys: &Set) -> bool
+    ensures { result ≡ among some.now keys.now }
+{
+    for key in some.as_slice() {
+        if !keys.has(*key) {
+            return false;
+        }
+    }
+    true
+}
+
+fn limit(set: &Set, max: u32) -> Result<(), ParticipantsError>
+    ensures { result ≡ limited (length set.now) max }
+{
+    if set.len() > max {
+        return Err(ParticipantsError::TooManyParticipants {
+            actual: set.len(),
+            max,
+        });
+    }
+    Ok(())
+}
+
+fn validate_reshare(dealers: &Set, previous: &Set, round: u64) -> Result<(), ParticipantsError>
+    ensures { result ≡ reshare_validation dealers.now previous.now round }
+{
+    if round == 0 {
+        if !is_same(dealers, previous) {
+            return Err(ParticipantsError::InitialReshareDealers);
+        }
+        return Ok(());
+    }
+    if !are_among(dealers, previous) {
+        return Err(ParticipantsError::UnknownReshareDealer);
+    }
+    Ok(())
+}
+
+impl Participants {
+    /// The peers to activate: the dealers as primary ones, the players and next players as secondary ones.
+    pub fn tracked_peers(&self, alloc: Global) -> Mem<TrackedPeers>
+        requires { length self.now.players + length self.now.next_players < 2 ^ 32 }
+        ensures primary { IfOk result (λ peers. peers.primary ≡ self.now.dealers) }
+        ensures secondary { IfOk result (λ peers. IsSetOf (λ x. Contains self.now.players x ⊎ Contains self.now.next_players x) peers.secondary) }
+    {
+        Ok(TrackedPeers {
+            primary: self.dealers.copy(alloc)?,
+            secondary: self.players.union(alloc, &self.next_players)?,
+        })
+    }
+
+    /// Whether these may take part in a round, under a limit for each set. A first ceremony has no previous output.
+    #[tactic(auto, unfolding(crate::specs::Validation::validation))]
+    pub fn validate(
+        &self,
+        max: NonZeroU32,
+        previous: Option<&Output>,
+        round: u64,
+    ) -> Result<(), ParticipantsError>
+        ensures { result ≡ validation self.now (non_zero_u32_get max) (option_copied previous.entry) round }
+    {
+        if self.dealers.is_empty() {
+            return Err(ParticipantsError::EmptyDealers);
+        }
+        if self.players.is_empty() {
+            return Err(ParticipantsError::EmptyPlayers);
+        }
+        let max = max.get();
+        limit(&self.dealers, max)?;
+        limit(&self.players, max)?;
+        limit(&self.next_players, max)?;
+        match previous {
+            None => Ok(()),
+            Some(output) => validate_reshare(&self.dealers, &output.players, round),
+        }
+    }
 }
 
 impl Value for Participants {
