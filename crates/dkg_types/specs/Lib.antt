@@ -1,4 +1,6 @@
+pub mod OutcomeCodes
 pub mod Units
 pub mod Validation
+pub mod Variants
 pub use Rattle.dkg_ceremony.specs.Ceremony
 pub use Rattle.dkg_ceremony.specs.Outputs

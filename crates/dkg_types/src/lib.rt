@@ -10,6 +10,7 @@ mod manager;
 mod outcome;
 mod participants;
 mod payload;
+mod provider;
 
 pub use directory::{Address, Directory, Socket, Unit};
 pub use finalization::Finalization;
@@ -18,3 +19,4 @@ pub use manager::{MissingAddress, TrackError};
 pub use outcome::EpochOutcome;
 pub use participants::{Participants, ParticipantsError, TrackedPeers};
 pub use payload::Payload;
+pub use provider::{ParticipantsProvider, StaticParticipants};
