@@ -1,4 +1,5 @@
 pub mod Keys
 pub mod KeysRead
 pub mod PairsRead
+pub mod Searches
 pub mod Sets

@@ -5,6 +5,7 @@ pub mod Joined
 pub mod ListGrammar
 pub mod Lists
 pub mod Rising
+pub mod RisingLaws
 pub mod Sizes
 pub mod Uint
 pub mod UintGrammar

@@ -1,8 +1,8 @@
-ghost use Rattle.std.specs.Prelude.{◌≡◌, ℕ, ◌+◌, ◌<◌, ◌^◌, ◌↔◌, ◌⊎◌, ◌==◌, false, List, length, vec_len, slice_index, Contains, IfOk, IfSome, IsTrue, IsErr, IsOk, is_some};
+ghost use Rattle.std.specs.Prelude.{◌≡◌, ℕ, ◌+◌, ◌<◌, ◌^◌, ◌++◌, ◌↔◌, ◌⊎◌, ◌==◌, List, length, vec_len, slice_index, Contains, IfOk, IfSome, IsTrue, IsErr, IsOk, is_some};
 ghost use Rattle.std.specs.Iterator.{YieldsFirst, item_count};
 ghost use Rattle.std.specs.List.Sorted.{IsStrictlyIncreasing};
 ghost use Rattle.dkg_values.specs.Lists.{set_spelling};
-ghost use Rattle.dkg_values.specs.Rising.{IsSetOf, IsSet, place_of};
+ghost use Rattle.dkg_values.specs.Rising.{IsSetOf, IsSet, place_of, set_of};
 
 use crate::codec::{CodecError, EncodeSize, Read, Reader, Spelled, Write};
 use crate::counted::{read_count, read_keys};
@@ -58,7 +58,20 @@ fn known(keys: &[Key])
     }
 }
 
+/// Sorts the keys and drops repeats, in place.
+fn in_order(mut keys: Vec<Key>) -> Set
+    requires { vec_len keys < 2 ^ 32 }
+    ensures exact { result ≡ set_of keys.items }
+    ensures members { IsSetOf (λ x. Contains keys.items x) result }
+{
+    keys.sort_unstable();
+    keys.dedup();
+    known(&keys);
+    Set { keys }
+}
+
 impl Set {
+    /// The keys as they are, which must rise.
     pub fn from_sorted(keys: Vec<Key>) -> Result<Set, NotRising>
         requires { vec_len keys < 2 ^ 32 }
         ensures ok { IfOk result (λ set. set ≡ keys.items) }
@@ -72,37 +85,37 @@ impl Set {
         }
     }
 
+    /// The keys of a list, rising, each once.
     pub fn from_any(alloc: Global, keys: &[Key]) -> Mem<Set>
         requires { length keys.now < 2 ^ 32 }
-        ensures { IfOk result (IsSetOf (λ x. Contains keys.now x)) }
+        ensures exact { IfOk result (λ set. set ≡ set_of keys.now) }
+        ensures members { IfOk result (IsSetOf (λ x. Contains keys.now x)) }
     {
-        let mut keys = Vec::from_slice(alloc, keys)?;
-        keys.sort_unstable();
-        keys.dedup();
-        known(&keys);
-        Ok(Set { keys })
+        let keys = Vec::from_slice(alloc, keys)?;
+        Ok(in_order(keys))
     }
 
+    /// The keys of either set.
     pub fn union(&self, alloc: Global, other: &Set) -> Mem<Set>
         requires { length self.now + length other.now < 2 ^ 32 }
-        ensures { IfOk result (IsSetOf (λ x. Contains self.now x ⊎ Contains other.now x)) }
+        ensures exact { IfOk result (λ set. set ≡ set_of (self.now ++ other.now)) }
+        ensures members { IfOk result (IsSetOf (λ x. Contains self.now x ⊎ Contains other.now x)) }
     {
-        let mut keys = Vec::from_slice(alloc, &self.keys)?;
+        let mut keys = Vec::with_capacity(alloc, self.keys.len() + other.keys.len())?;
+        keys.extend_from_slice(&self.keys)?;
         keys.extend_from_slice(&other.keys)?;
-        Set::from_any(alloc, &keys)
+        Ok(in_order(keys))
     }
 
-    /// The place of a key, from 0.
+    /// The place of a key, from 0, by binary search.
     pub fn position(&self, key: Key) -> Option<u32>
         ensures place { result ≡ place_of key self.now }
         ensures within { IfSome result (λ i. i < length self.now) }
     {
-        for (i, x) in self.keys.iter().enumerate() {
-            if *x == key {
-                return Some(i as u32);
-            }
+        match self.keys.binary_search(&key) {
+            Ok(i) => Some(i as u32),
+            Err(_) => None,
         }
-        None
     }
 
     pub fn has(&self, key: Key) -> bool
