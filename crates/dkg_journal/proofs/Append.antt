@@ -5,7 +5,7 @@ use Rattle.std.proofs.lemmas.List.Sums.{fold_push}
 use Rattle.std.specs.FinMap.{get, same_map}
 use Rattle.dkg_journal.specs.Names.{Files, name_number, name_at, name_at-name_number}
 use Rattle.dkg_journal.specs.Disk.{Torn, written, SameElse, HasFile, Inside, Follows, Did}
-use Rattle.dkg_journal.specs.Records.{Entry, entries, entries_with, entry_of, placed, in_sections, number64, IsFlat, Staged, spelled, behind}
+use Rattle.dkg_journal.specs.Records.{Entry, entries, entries_with, entry_of, placed, in_sections, number64, IsFlat, IsFlatBody, Staged, spelled, behind}
 use Rattle.dkg_journal.specs.Steps.{Firm, Bare, FlatAt, Into, Keeps, Adds, MayAdd, body_of}
 use Rattle.std.proofs.lemmas.Bool.{cases_eq}
 use Rattle.dkg_values.specs.declared.name.Name.{Name}
@@ -125,8 +125,10 @@ made_keeps files image next bare step = weaken _ _ image next (λ d c now into. 
     none_is d c now others is = ap entries (same_files Flat d c others is)
 
 -- the body with its section is short
-pub short_body : (section : ℕ) (body : List ℕ) → 8 + length body < 2 ^ 32 → length (body_of (section, body)) < 2 ^ 32
-short_body section body short = omega (arith, length-append (number64 section) body, length-number64 section)
+pub short_body : (section : ℕ) (body : List ℕ) → 8 + length body < 2 ^ 32 → IsFlatBody (body_of (section, body))
+short_body section body short =
+    let long : length (body_of (section, body)) ≡ 8 + length body = length-append (number64 section) body ∙ ap (λ (n : ℕ). n + length body) (length-number64 section) in
+    (omega (arith, long), omega (arith, long, short))
 
 module _ (place section : ℕ) (body : List ℕ) (in_range : section < 2 ^ 64) (short : 8 + length body < 2 ^ 32) where
   pub is_staged : (bs : List (List ℕ)) (x : List ℕ) → IsFlat bs place x → Staged bs (body_of (section, body)) place (written (place + 1) (behind (body_of (section, body))) x)

@@ -1,15 +1,15 @@
 -- What a crash leaves of a flat file in each of the two steps of an append.
-use Rattle.std.proofs.Common.{◌≡◌, ◌⊎◌, inl, inr, ℕ, suc, ◌+◌, ◌<◌, ◌^◌, List, [], ◌∷◌, ◌++◌, length, get_or, take, drop, sym, ◌∙◌, ap, arith, append_assoc, length-append, take-append-drop}
+use Rattle.std.proofs.Common.{◌≡◌, ◌⊎◌, inl, inr, ℕ, suc, ◌+◌, List, [], ◌∷◌, ◌++◌, length, get_or, take, drop, sym, ◌∙◌, ap, arith, append_assoc, length-append, take-append-drop}
 use Rattle.std.proofs.lemmas.List.{take_at, drop_at, drop_more}
 use Rattle.std.proofs.lemmas.Bool.{cases_eq}
 use Rattle.dkg_journal.specs.Disk.{Torn, written}
-use Rattle.dkg_journal.specs.Records.{number32, record_of, spelled, AreShort, IsFlat, Staged, bodies, behind}
-use Rattle.dkg_journal.proofs.Bytes.{bodies_spelled, spelled-push, short-push, length-number32}
+use Rattle.dkg_journal.specs.Records.{number32, record_of, spelled, AreFlat, IsFlatBody, IsFlat, Staged, bodies, behind}
+use Rattle.dkg_journal.proofs.Bytes.{read_spelled, shut_stops, spelled-push, short-push, length-number32}
 
-pub flat_bodies : (bs : List (List ℕ)) (place : ℕ) (file : List ℕ) → IsFlat bs place file → bodies (length file) file ≡ bs
+pub flat_bodies : (bs : List (List ℕ)) (place : ℕ) (file : List ℕ) → IsFlat bs place file → bodies 8 (length file) file ≡ bs
 flat_bodies bs place file flat =
     let long : length file ≡ length (spelled bs) + suc (length flat.junk) = ap length flat.is ∙ length-append (spelled bs) (flat.gate ∷ flat.junk) in
-    ap (bodies (length file)) flat.is ∙ bodies_spelled bs (length file) flat.gate flat.junk flat.short flat.shut (omega (arith, long))
+    ap (bodies 8 (length file)) flat.is ∙ (read_spelled bs (length file) (flat.gate ∷ flat.junk) flat.short (shut_stops flat.gate flat.junk flat.shut) (omega (arith, long))).0
 
 -- the front up to a gate, from what the whole is
 split_front : (bs : List (List ℕ)) (place gate : ℕ) (rest file : List ℕ) → file ≡ spelled bs ++ gate ∷ rest → length (spelled bs) ≡ place → (take place file ≡ spelled bs) × (take (place + 1) file ≡ spelled bs ++ gate ∷ []) × (drop (place + 1) file ≡ rest) × (length file ≡ place + 1 + length rest)
@@ -35,7 +35,7 @@ torn_behind bs place n file c flat torn =
       short = flat.short;
     }
 
-pub written_behind : (bs : List (List ℕ)) (body : List ℕ) (place : ℕ) (file : List ℕ) → IsFlat bs place file → length body < 2 ^ 32 → Staged bs body place (written (place + 1) (behind body) file)
+pub written_behind : (bs : List (List ℕ)) (body : List ℕ) (place : ℕ) (file : List ℕ) → IsFlat bs place file → IsFlatBody body → Staged bs body place (written (place + 1) (behind body) file)
 written_behind bs body place file flat short_body =
     let parts = split_front bs place flat.gate flat.junk file flat.is flat.size in
     let left = drop (place + 1 + length (behind body)) file in
@@ -50,7 +50,7 @@ written_behind bs body place file flat short_body =
     }
 
 -- a whole record behind a gate counts or it doesn't
-module _ (bs : List (List ℕ)) (body : List ℕ) (place : ℕ) (junk : List ℕ) (size : length (spelled bs) ≡ place) (short : AreShort bs) (short_body : length body < 2 ^ 32) where
+module _ (bs : List (List ℕ)) (body : List ℕ) (place : ℕ) (junk : List ℕ) (size : length (spelled bs) ≡ place) (short : AreFlat bs) (short_body : IsFlatBody body) where
   pub opened : (c : List ℕ) → c ≡ spelled bs ++ 1 ∷ ((number32 (length body) ++ body) ++ 0 ∷ junk) → IsFlat (bs ++ body ∷ []) (place + 5 + length body) c
   opened c is = record {
     gate = 0;

@@ -1,5 +1,5 @@
 -- What the bytes of a journal's file stand for.
-use Rattle.std.specs.Prelude.{◌≡◌, ◌≢◌, ℕ, zero, suc, ◌+◌, ◌<◌, ◌^◌, ◌==◌, ◌&&◌, nat_le, nat_lt, List, [], ◌∷◌, ◌++◌, map, fold, flat_map, length, take, drop, if◌then◌else◌, Option, Some, None}
+use Rattle.std.specs.Prelude.{◌≡◌, ◌≢◌, ℕ, zero, suc, ◌+◌, ◌-◌, ◌<◌, ◌≤◌, ◌^◌, ◌==◌, ◌&&◌, nat_le, nat_lt, List, [], ◌∷◌, ◌++◌, map, fold, flat_map, length, take, drop, if◌then◌else◌, Bool, false, Option, Some, None}
 use Rattle.std.specs.Int.{w32, w64, to_be_bytes, from_be_bytes}
 use Rattle.std.specs.List.{AllByRecursion}
 use Rattle.std.specs.FinMap as map_of
@@ -20,11 +20,21 @@ read32 bytes = from_be_bytes w32 (take 4 bytes)
 unfoldable pub read64 : List ℕ → ℕ
 read64 bytes = from_be_bytes w64 (take 8 bytes)
 
--- The bodies of the records up to the first gate that isn't 1, or to the end, of which there are at most n.
-abbrev pub bodies : ℕ → List ℕ → List (List ℕ)
-bodies zero bytes = []
-bodies (suc n) [] = []
-bodies (suc n) (gate ∷ rest) = if (gate == 1) && nat_le (4 + read32 rest) (length rest) then take (read32 rest) (drop 4 rest) ∷ bodies n (drop (4 + read32 rest) rest) else []
+-- What stands behind an open gate is a whole record: its body has at least so many bytes, and the file holds all of them.
+abbrev pub is_whole : ℕ → List ℕ → Bool
+is_whole least rest = nat_le least (read32 rest) && nat_le (4 + read32 rest) (length rest)
+
+-- the bodies of the whole records in front, of which there are at most n
+abbrev pub bodies : ℕ → ℕ → List ℕ → List (List ℕ)
+bodies least zero bytes = []
+bodies least (suc n) [] = []
+bodies least (suc n) (gate ∷ rest) = if (gate == 1) && is_whole least rest then take (read32 rest) (drop 4 rest) ∷ bodies least n (drop (4 + read32 rest) rest) else []
+
+-- what stands behind those records
+abbrev pub left_over : ℕ → ℕ → List ℕ → List ℕ
+left_over least zero bytes = bytes
+left_over least (suc n) [] = []
+left_over least (suc n) (gate ∷ rest) = if (gate == 1) && is_whole least rest then left_over least n (drop (4 + read32 rest) rest) else gate ∷ rest
 
 -- a section and a body
 abbrev pub Entry : Type 0
@@ -38,15 +48,19 @@ abbrev pub placed : List Entry → Entry → List Entry
 placed [] e = e ∷ []
 placed (x ∷ xs) e = if nat_lt e.0 x.0 then e ∷ x ∷ xs else x ∷ placed xs e
 
-abbrev pub in_sections : List (List ℕ) → List Entry
-in_sections bs = fold placed [] (map entry_of bs)
+-- sections rising, each in its order
+abbrev pub in_order : List Entry → List Entry
+in_order es = fold placed [] es
 
--- the entries of the flat file, sections rising
+abbrev pub in_sections : List (List ℕ) → List Entry
+in_sections bs = in_order (map entry_of bs)
+
+-- The entries of the flat file, sections rising. There a body begins with the eight bytes of its section.
 abbrev pub flat_entries : List ℕ → List Entry
-flat_entries file = in_sections (bodies (length file) file)
+flat_entries file = in_sections (bodies 8 (length file) file)
 
 abbrev pub segment_entries : Name × List ℕ → List Entry
-segment_entries (Segment section, file) = map (λ body. (section, body)) (bodies (length file) file)
+segment_entries (Segment section, file) = map (λ body. (section, body)) (bodies 0 (length file) file)
 segment_entries (_, file) = []
 
 abbrev pub entries_with : Option (List ℕ) → Files → List Entry
@@ -65,8 +79,12 @@ abbrev pub spelled : List (List ℕ) → List ℕ
 spelled [] = []
 spelled (b ∷ bs) = record_of b ++ spelled bs
 
-abbrev pub AreShort : List (List ℕ) → Type 0
-AreShort bs = AllByRecursion (λ b. length b < 2 ^ 32) bs
+-- the body of a record of the flat file
+abbrev pub IsFlatBody : List ℕ → Type 0
+IsFlatBody b = (8 ≤ length b) × (length b < 2 ^ 32)
+
+abbrev pub AreFlat : List (List ℕ) → Type 0
+AreFlat bs = AllByRecursion IsFlatBody bs
 
 -- Records of these bodies, and at this place a gate that isn't open. Anything may stand behind it.
 pub record IsFlat (bs : List (List ℕ)) (place : ℕ) (file : List ℕ) : Type 0 where
@@ -75,7 +93,7 @@ pub record IsFlat (bs : List (List ℕ)) (place : ℕ) (file : List ℕ) : Type 
   pub is : file ≡ spelled bs ++ gate ∷ junk
   pub shut : gate ≢ 1
   pub size : length (spelled bs) ≡ place
-  pub short : AreShort bs
+  pub short : AreFlat bs
 
 -- what is written behind the closed gate: a record but for its gate, and the next gate
 abbrev pub behind : List ℕ → List ℕ
@@ -88,24 +106,38 @@ pub record Staged (bs : List (List ℕ)) (body : List ℕ) (place : ℕ) (file :
   pub is : file ≡ spelled bs ++ gate ∷ ((number32 (length body) ++ body) ++ 0 ∷ junk)
   pub shut : gate ≢ 1
   pub size : length (spelled bs) ≡ place
-  pub short : AreShort bs
-  pub short_body : length body < 2 ^ 32
+  pub short : AreFlat bs
+  pub short_body : IsFlatBody body
 
--- no record's gate stands at the front
+-- no whole record stands in front
+abbrev pub Stops : List ℕ → Type 0
+Stops [] = Unit {0}
+Stops (gate ∷ rest) = ((gate == 1) && is_whole 8 rest) ≡ false
+
+-- no open gate stands in front
 abbrev pub Ends : List ℕ → Type 0
 Ends [] = Unit {0}
 Ends (gate ∷ rest) = gate ≢ 1
 
--- the bytes are whole records, which stand for these entries, up to this place, and a rest
+-- the bytes are whole records with these entries, in the order of the file, up to this place, and a rest
 pub record Front (bytes rest : List ℕ) (out : List Entry) (place : ℕ) : Type 0 where
   pub bs : List (List ℕ)
   pub split : bytes ≡ spelled bs ++ rest
-  pub stands_for : out ≡ in_sections bs
+  pub stands_for : out ≡ map entry_of bs
   pub size : length (spelled bs) ≡ place
-  pub short : AreShort bs
+  pub short : AreFlat bs
 
--- whole records, which stand for these entries, up to this place, where no open gate stands
+-- whole records with these entries up to this place, where no open gate stands
 pub record Whole (bytes : List ℕ) (out : List Entry) (place : ℕ) : Type 0 where
   pub rest : List ℕ
   pub front : Front bytes rest out place
   pub ends : Ends rest
+
+-- the place of an open gate, where one stands in front of these last bytes of n
+abbrev pub open_gate : ℕ → List ℕ → Option ℕ
+open_gate n [] = None
+open_gate n (gate ∷ rest) = if gate == 1 then Some (n - suc (length rest)) else None
+
+-- the place of the first record of the flat file that isn't whole
+abbrev pub broken_at : List ℕ → Option ℕ
+broken_at file = open_gate (length file) (left_over 8 (length file) file)

@@ -11,15 +11,17 @@ ghost use Rattle.dkg_journal.specs.Records.{behind, number64};
 ghost use Rattle.dkg_journal.specs.Steps.{Firm, IsOpenAt, Into, Keeps, Adds, MayAdd, FlatAt, start, make_flat, make_calls, record_calls, append_calls, body_of};
 ghost use Rattle.dkg_values.specs.declared.name.Name.{Name};
 
-use crate::{Disk, Fuse, JournalError, Op, perform};
+use crate::{Disk, Fuse, JournalEntry, JournalError, Op, perform};
 use dkg_values::{Blob, Name};
 use std::alloc::{AllocError, Global};
 
 const MAX_PLACE: u64 = 1 << 62;
 
+/// A journal over one flat file: the place of its closed gate, if the file is there, and the entries that are still to be replayed.
 #[derive(Drop)]
 pub struct Journal {
-    pub place: Option<u64>,
+    pub(crate) place: Option<u64>,
+    pub(crate) waiting: Vec<JournalEntry>,
 }
 
 /// Makes one write to the flat file, and syncs it.

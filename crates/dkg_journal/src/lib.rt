@@ -8,8 +8,11 @@ mod call;
 mod disk;
 mod fuse;
 mod journal;
+mod open;
+mod opening;
 
 pub use call::{JournalError, perform};
 pub use disk::{Disk, DiskError, Op};
 pub use fuse::Fuse;
 pub use journal::{Journal, Prepared};
+pub use opening::JournalEntry;

@@ -1,0 +1,67 @@
+use Rattle.std.proofs.Common.{[], refl, sym, ◌∙◌, ap}
+use Rattle.std.specs.Prelude.{option_map}
+use Rattle.dkg_journal.specs.Opening.{mend_of, broken_of}
+use Rattle.dkg_journal.proofs.Append.{keeps_keeps}
+use Rattle.dkg_journal.proofs.Steps.{then_all, then_ran, ran_same, all_same}
+use Rattle.dkg_journal.proofs.Reading.{whole_unbroken}
+use Rattle.dkg_journal.proofs.Mending.{unchanged_keeps, firm_read, bare_read, whole_at}
+use Rattle.dkg_journal.proofs.journal.Journal.open.Goals as goal
+
+pub returns-in_err-bytes-clause-images : goal.returns-in_err-bytes-clause-images
+returns-in_err-bytes-clause-images g c = λ tells lands. unchanged_keeps g.D.Disk.files g.D.Disk.image _ _ c.read_flat.ensures.same
+
+pub returns-in_err-entries-clause-images : goal.returns-in_err-entries-clause-images
+returns-in_err-entries-clause-images g c = λ tells lands. unchanged_keeps g.D.Disk.files g.D.Disk.image _ _ c.read_flat.ensures.same
+
+pub returns-in-None-clause-images : goal.returns-in-None-clause-images
+returns-in-None-clause-images g c = λ tells lands. unchanged_keeps g.D.Disk.files g.D.Disk.image _ _ c.read_flat.ensures.same
+
+pub returns-in-None-clause-open : goal.returns-in-None-clause-open
+returns-in-None-clause-open g c = λ tells lands form.
+    let is = ap (λ o. option_map (λ v. v.items) o) (sym c.in-None.is) ∙ c.in_ok-bytes.ensures.bytes tells in
+    bare_read g.D.Disk.files g.D.Disk.image _ _ lands form c.read_flat.ensures.same is
+
+pub returns-in_err-mend-clause-images : goal.returns-in_err-mend-clause-images
+returns-in_err-mend-clause-images g c = λ tells lands.
+    let is = ap (λ o. option_map (λ v. v.items) o) (sym c.in-Some.is) ∙ c.in_ok-bytes.ensures.bytes tells in
+    let firm = firm_read g.D.Disk.files g.D.Disk.image _ _ c.in-Some.bytes.items lands c.read_flat.ensures.same is in
+    let whole = whole_at _ _ _ _ c.deref.ensures.value c.in_ok-entries.ensures.whole in
+    keeps_keeps _ _ _ (unchanged_keeps g.D.Disk.files g.D.Disk.image _ _ c.read_flat.ensures.same) (c.mend.ensures.images _ whole firm)
+
+pub returns-clause-images : goal.returns-clause-images
+returns-clause-images g c = λ tells lands.
+    let is = ap (λ o. option_map (λ v. v.items) o) (sym c.in-Some.is) ∙ c.in_ok-bytes.ensures.bytes tells in
+    let firm = firm_read g.D.Disk.files g.D.Disk.image _ _ c.in-Some.bytes.items lands c.read_flat.ensures.same is in
+    let whole = whole_at _ _ _ _ c.deref.ensures.value c.in_ok-entries.ensures.whole in
+    keeps_keeps _ _ _ (unchanged_keeps g.D.Disk.files g.D.Disk.image _ _ c.read_flat.ensures.same) (c.mend.ensures.images _ whole firm)
+
+pub returns-clause-open : goal.returns-clause-open
+returns-clause-open g c = λ tells lands form.
+    let is = ap (λ o. option_map (λ v. v.items) o) (sym c.in-Some.is) ∙ c.in_ok-bytes.ensures.bytes tells in
+    let firm = firm_read g.D.Disk.files g.D.Disk.image _ _ c.in-Some.bytes.items lands c.read_flat.ensures.same is in
+    let whole = whole_at _ _ _ _ c.deref.ensures.value c.in_ok-entries.ensures.whole in
+    c.in_ok-mend.ensures.open _ whole firm tells
+
+pub returns-clause-whole : goal.returns-clause-whole
+returns-clause-whole g c = λ tells.
+    let is = ap (λ o. option_map (λ v. v.items) o) (sym c.in-Some.is) ∙ c.in_ok-bytes.ensures.bytes tells in
+    let whole = whole_at _ _ _ _ c.deref.ensures.value c.in_ok-entries.ensures.whole in
+    sym (ap broken_of is) ∙ whole_unbroken c.in-Some.bytes.items _ _ whole
+
+pub returns-in_err-mend-clause-calls : goal.returns-in_err-mend-clause-calls
+returns-in_err-mend-clause-calls g c = λ tells.
+    let is = ap (λ o. option_map (λ v. v.items) o) (sym c.in-Some.is) ∙ c.in_ok-bytes.ensures.bytes tells in
+    let whole = whole_at _ _ _ _ c.deref.ensures.value c.in_ok-entries.ensures.whole in
+    then_ran g.D.Disk.made g.met.D.Disk.made_more _ _ _ _ _ _ [] _ (record { each = c.read_flat.ensures.calls; fuse = refl }) (ran_same g.D.Disk.made _ _ _ _ _ _ (ap mend_of is) (c.mend.ensures.calls _ whole))
+
+pub returns-clause-calls : goal.returns-clause-calls
+returns-clause-calls g c = λ tells.
+    let is = ap (λ o. option_map (λ v. v.items) o) (sym c.in-Some.is) ∙ c.in_ok-bytes.ensures.bytes tells in
+    let whole = whole_at _ _ _ _ c.deref.ensures.value c.in_ok-entries.ensures.whole in
+    then_ran g.D.Disk.made g.met.D.Disk.made_more _ _ _ _ _ _ [] _ (record { each = c.read_flat.ensures.calls; fuse = refl }) (ran_same g.D.Disk.made _ _ _ _ _ _ (ap mend_of is) (c.mend.ensures.calls _ whole))
+
+pub returns-clause-all : goal.returns-clause-all
+returns-clause-all g c = λ tells.
+    let is = ap (λ o. option_map (λ v. v.items) o) (sym c.in-Some.is) ∙ c.in_ok-bytes.ensures.bytes tells in
+    let whole = whole_at _ _ _ _ c.deref.ensures.value c.in_ok-entries.ensures.whole in
+    then_all g.D.Disk.made g.met.D.Disk.made_more _ _ _ _ _ _ [] _ (record { each = c.read_flat.ensures.calls; fuse = refl }) (all_same g.D.Disk.made _ _ _ _ _ _ (ap mend_of is) (c.in_ok-mend.ensures.all _ whole))
