@@ -1,4 +1,4 @@
-ghost use Rattle.std.specs.Prelude.{◌≡◌, ℕ, ◌+◌, ◌<◌, ◌^◌, ◌++◌, ◌↔◌, ◌⊎◌, ◌==◌, List, length, vec_len, slice_index, Contains, IfOk, IfSome, IsTrue, IsErr, IsOk, is_some};
+ghost use Rattle.std.specs.Prelude.{◌≡◌, ℕ, ◌+◌, ◌<◌, ◌≤◌, ◌^◌, ◌++◌, ◌↔◌, ◌⊎◌, ◌==◌, List, length, vec_len, slice_index, Contains, IfOk, IfSome, IsTrue, IsErr, IsOk, is_some};
 ghost use Rattle.std.specs.Iterator.{YieldsFirst, item_count};
 ghost use Rattle.std.specs.List.Sorted.{IsStrictlyIncreasing};
 ghost use Rattle.dkg_values.specs.Lists.{set_spelling};
@@ -156,7 +156,10 @@ impl Spelled for Set {
 
 impl EncodeSize for Set {
     #[tactic(auto, using(crate::specs::ListGrammar::set_size))]
-    fn encode_size(&self) -> usize {
+    fn encode_size(&self) -> usize
+        ensures size { result ≡ length (set_spelling self.now) }
+        ensures bound { result ≤ 2 ^ 35 }
+    {
         uint_size(u64::from(self.len())) + 4 * self.keys.len()
     }
 }
