@@ -1,4 +1,5 @@
 pub mod OutcomeCodes
+pub mod ParticipantsCodes
 pub mod Units
 pub mod Validation
 pub mod Variants

@@ -6,7 +6,8 @@ ghost use Rattle.std.specs.Str.{bytes_eq};
 ghost use Rattle.dkg_values.specs.Rising.{IsSetOf};
 ghost use Rattle.dkg_types.specs.Validation.{are_among as among, limited, reshare_validation, validation};
 
-use dkg_ceremony::{Mem, Output, Set, Value};
+use bytes::BytesMut;
+use dkg_ceremony::{CodecError, EncodeSize, Mem, Output, Read, Reader, Set, Spelled, Value, Write};
 use std::alloc::Global;
 use std::num::NonZeroU32;
 use thiserror::Error;
@@ -144,6 +145,54 @@ impl Value for Participants {
         self.dealers.same(&other.dealers)
             && self.players.same(&other.players)
             && self.next_players.same(&other.next_players)
+    }
+}
+
+impl Spelled for Participants {
+    ghost use Rattle.dkg_types.specs.ParticipantsCodes.{participants_spelling};
+
+    ghost spelling = { participants_spelling };
+}
+
+impl EncodeSize for Participants {
+    fn encode_size(&self) -> usize {
+        self.dealers.encode_size() + self.players.encode_size() + self.next_players.encode_size()
+    }
+}
+
+impl Write for Participants {
+    fn put(&self, out: &mut BytesMut) -> Mem<()> {
+        self.dealers.write(out)?;
+        self.players.write(out)?;
+        self.next_players.write(out)
+    }
+}
+
+impl Read for Participants {
+    /// How many keys each set may have.
+    type Cfg = u32;
+
+    ghost use Rattle.dkg_types.specs.ParticipantsCodes.{ParticipantsFit, participants_at, participants_grammar};
+
+    ghost fits = { ParticipantsFit };
+
+    ghost read_of = { participants_at };
+
+    ghost grammar = { participants_grammar };
+
+    fn read_cfg(
+        alloc: Global,
+        input: &mut Reader<'_>,
+        cfg: &u32,
+    ) -> Result<Participants, CodecError> {
+        let dealers = Set::read_cfg(alloc, input, cfg)?;
+        let players = Set::read_cfg(alloc, input, cfg)?;
+        let next_players = Set::read_cfg(alloc, input, cfg)?;
+        Ok(Participants {
+            dealers,
+            players,
+            next_players,
+        })
     }
 }
 
