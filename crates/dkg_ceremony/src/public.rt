@@ -1,4 +1,8 @@
-ghost use Rattle.std.specs.Prelude.{◌≡◌, ℕ, ◌<◌, ◌^◌, List, length, vec_len};
+//! The public half of a dealing.
+//!
+//! A dealer sends it to every player; a sharing has one as its polynomial.
+ghost use Rattle.std.specs.Prelude.{◌≡◌, ℕ, ◌<◌, ◌≤◌, ◌^◌, length, vec_len};
+ghost use Rattle.dkg_values.specs.Lists.{public_spelling};
 
 use bytes::{BufMut, BytesMut};
 use dkg_values::{
@@ -8,20 +12,18 @@ use dkg_values::{
 use std::alloc::Global;
 use std::marker::Model;
 
-/// The public half of a dealing: the coefficients of a polynomial.
+/// The coefficients of a polynomial, from the constant one on: fewer than 2^32, which contracts see as a list.
 #[derive(Debug, Drop)]
-pub struct Public {
-    elements: Vec<Element>,
-}
+pub struct Public(pub Vec<Element>);
 
 impl Model for Public {
     ghost use Rattle.std.specs.Prelude.{List, ℕ, length, ◌<◌, ◌^◌};
 
     ghost Value = { List ℕ };
 
-    ghost view = { λ p. p.elements.items };
+    ghost view = { λ p. p.0.items };
 
-    ghost invariant = { λ p. length p.elements.items < 2 ^ 32 };
+    ghost invariant = { λ p. length p.0.items < 2 ^ 32 };
 }
 
 impl Public {
@@ -29,24 +31,24 @@ impl Public {
         requires { vec_len elements < 2 ^ 32 }
         ensures { result ≡ elements.items }
     {
-        Public { elements }
+        Public(elements)
     }
 
     pub fn as_slice(&self) -> &[Element]
         ensures { result.now ≡ self.now }
     {
-        &self.elements
+        &self.0
     }
 }
 
 impl Value for Public {
     fn copy(&self, alloc: Global) -> Mem<Public> {
-        let elements = Vec::from_slice(alloc, &self.elements)?;
-        Ok(Public { elements })
+        let elements = Vec::from_slice(alloc, &self.0)?;
+        Ok(Public(elements))
     }
 
     fn same(&self, other: &Public) -> bool {
-        self.elements == other.elements
+        self.0 == other.0
     }
 }
 
@@ -58,15 +60,18 @@ impl Spelled for Public {
 
 impl EncodeSize for Public {
     #[tactic(auto, using(dkg_values::specs::ListGrammar::public_size))]
-    fn encode_size(&self) -> usize {
-        uint_size(self.elements.len() as u64) + 2 * self.elements.len()
+    fn encode_size(&self) -> usize
+        ensures size { result ≡ length (public_spelling self.now) }
+        ensures bound { result ≤ 2 ^ 34 }
+    {
+        uint_size(self.0.len() as u64) + 2 * self.0.len()
     }
 }
 
 impl Write for Public {
     fn put(&self, out: &mut BytesMut) -> Mem<()> {
-        write_uint(out, self.elements.len() as u64)?;
-        for element in &self.elements {
+        write_uint(out, self.0.len() as u64)?;
+        for element in &self.0 {
             out.put_u16(element.get())?;
         }
         Ok(())
@@ -88,6 +93,6 @@ impl Read for Public {
     fn read_cfg(alloc: Global, input: &mut Reader<'_>, cfg: &u32) -> Result<Public, CodecError> {
         let count = read_count(input, 1, *cfg)?;
         let elements = read_many::<Element>(alloc, input, count, &())?;
-        Ok(Public { elements })
+        Ok(Public(elements))
     }
 }

@@ -1,15 +1,23 @@
+//! Marks: what stands for a signature in the small ceremony, and who makes them.
+//!
+//! Acknowledgements, logs, round summaries and finalizations each bear one.
 ghost use Rattle.std.specs.Prelude.{◌≡◌, ℕ, List};
-ghost use Rattle.dkg_ceremony.specs.Ceremony.{domain_byte, mark_of as mark_from};
+ghost use Rattle.dkg_ceremony.specs.Marks.{domain_byte, mark_of as mark_from};
 
 use dkg_values::{Key, Mark};
 use sha2::{Digest, Sha256};
+use std::marker::Model;
 
 /// What a mark is made for.
 #[derive(Clone, Copy, Debug, PartialEq, Eq)]
 pub enum Domain {
+    /// A player's acknowledgement.
     Ack,
+    /// A dealer's log.
     Log,
+    /// An output's summary.
     Round,
+    /// A block's finalization.
     Final,
 }
 
@@ -24,8 +32,8 @@ fn byte_of(domain: Domain) -> u8
     }
 }
 
-/// The mark of a key on a content.
-#[tactic(auto, unfolding(crate::specs::Ceremony::mark_of))]
+/// The mark of a key on a content: the first eight bytes of SHA-256 over the key, the domain's byte and the content.
+#[tactic(auto, unfolding(crate::specs::Marks::mark_of))]
 pub fn mark_of(key: Key, domain: Domain, content: &[u8]) -> Mark
     ensures { result ≡ mark_from key domain content.now }
 {
@@ -39,7 +47,7 @@ pub fn mark_of(key: Key, domain: Domain, content: &[u8]) -> Mark
     ])
 }
 
-/// Who makes marks.
+/// Who makes marks under a key.
 pub trait Signer {
     ghost use Rattle.std.specs.Prelude.{◌≡◌, ℕ, List};
     ghost use Rattle.dkg_ceremony.specs.declared.sign.Domain.{Domain};
@@ -48,30 +56,43 @@ pub trait Signer {
 
     ghost sign_of: { Self → Domain → List ℕ → List ℕ };
 
+    /// The key under which marks are made.
     fn public_key(&self) -> Key
         ensures { result ≡ key_of self.now };
 
+    /// The mark on a content.
     fn sign(&self, domain: Domain, content: &[u8]) -> Mark
         ensures { result ≡ sign_of self.now domain content.now };
 }
 
+/// A signer of the small ceremony, which contracts see as its key's number.
 #[derive(Clone, Copy, Debug, PartialEq, Eq)]
 pub struct StandSigner {
     key: Key,
 }
 
+impl Model for StandSigner {
+    ghost use Rattle.std.specs.Prelude.{ℕ};
+
+    ghost Value = { ℕ };
+
+    ghost view = { λ s. s.key };
+
+    ghost inverse = { λ n. record { key = n } };
+}
+
 impl StandSigner {
     pub fn new(key: Key) -> StandSigner
-        ensures { result.key ≡ key }
+        ensures { result ≡ key }
     {
         StandSigner { key }
     }
 }
 
 impl Signer for StandSigner {
-    ghost key_of = { λ s. s.key };
+    ghost key_of = { λ key. key };
 
-    ghost sign_of = { λ s. mark_from s.key };
+    ghost sign_of = { mark_from };
 
     fn public_key(&self) -> Key {
         self.key

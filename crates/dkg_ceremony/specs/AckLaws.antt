@@ -1,4 +1,4 @@
--- The places of keys.
+-- What a player acknowledges passes the check.
 use Rattle.std.proofs.Common.{◌≡◌, ℕ, zero, suc, ◌+◌, ◌<◌, Bool, true, false, cond, eqb, not, List, [], ◌∷◌, length, get_or, Option, Some, None, is_some, Result, Ok, Err, refl, sym, ap, ◌∙◌, ◌⊎◌, inl, inr, arith}
 use Rattle.std.specs.Prelude.{Contains}
 use Rattle.std.specs.List.{position_from}
@@ -7,7 +7,7 @@ use Rattle.std.proofs.lemmas.Bool.{eq-eqb}
 use Rattle.std.proofs.lemmas.Slice.Eq.{bytes_eq-Decides}
 use Rattle.dkg_ceremony.specs.declared.round.Round.{Round}
 use Rattle.dkg_values.specs.Rising.{place_of}
-use Rattle.dkg_ceremony.specs.Ceremony.{ack_of, check_ack_of}
+use Rattle.dkg_ceremony.specs.Acks.{ack_of, check_ack_of}
 
 found_from : (key i : ℕ) (keys : List ℕ) (k : ℕ) → k < length keys → get_or keys k key ≡ key → is_some (position_from (λ x. eqb x key) i keys) ≡ true
 found_from key i [] k lt is = absurd (omega arith)

@@ -1,0 +1,25 @@
+-- A round that is drawn up has the parts that it was asked for.
+use Rattle.std.specs.Prelude.{◌≡◌, ℕ, Bool, true, false, ◌==◌, ◌||◌, not, nat_lt, List, length, Option, Result, Ok, Err, IfOk, refl}
+use Rattle.std.proofs.Common.{cond}
+use Rattle.dkg_ceremony.specs.declared.round.Round.{Round}
+use Rattle.dkg_ceremony.specs.declared.round.RoundError.{RoundError}
+use Rattle.dkg_ceremony.specs.declared.round.RoundError.TheVariants.{NoDealers, NoPlayers, TooMany, DealersNotPrevious}
+use Rattle.dkg_ceremony.specs.declared.output.Output.{Output}
+use Rattle.dkg_ceremony.specs.declared.mode.Mode.{Mode}
+use Rattle.dkg_ceremony.specs.declared.mode.Reveal.{Reveal}
+use Rattle.dkg_ceremony.specs.Rounds.{most_points, has_too_many, are_previous, round_of}
+
+-- after four tests
+past_four : (a b c d : Bool) (first second third fourth : RoundError) (round : Round) → IfOk (cond a (Err first) (cond b (Err second) (cond c (Err third) (cond d (Err fourth) (Ok round))))) (λ r. r ≡ round)
+past_four true b c d first second third fourth round = tt
+past_four false true c d first second third fourth round = tt
+past_four false false true d first second third fourth round = tt
+past_four false false false true first second third fourth round = tt
+past_four false false false false first second third fourth round = refl
+
+pub round_has : (namespace : List ℕ) (number : ℕ) (previous : Option Output) (mode : Mode) (reveal : Reveal) (dealers players : List ℕ)
+    → IfOk (round_of namespace number previous mode reveal dealers players) (λ round. round ≡ record { namespace = namespace; number = number; previous = previous; mode = mode; reveal = reveal; dealers = dealers; players = players })
+unfolding round_of
+round_has namespace number previous mode reveal dealers players =
+    past_four (length dealers == 0) (length players == 0) (nat_lt most_points (length dealers) || nat_lt most_points (length players) || has_too_many previous) (not (are_previous dealers previous)) NoDealers NoPlayers TooMany DealersNotPrevious
+    (record { namespace = namespace; number = number; previous = previous; mode = mode; reveal = reveal; dealers = dealers; players = players })

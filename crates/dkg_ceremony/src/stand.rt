@@ -1,0 +1,172 @@
+//! A small ceremony in place of a real one: elements of a field of 65,521, and digests for signatures.
+//!
+//! It keeps all of a ceremony's rules and none of its secrets: public halves are the polynomials themselves.
+ghost use Rattle.std.specs.Prelude.{◌≡◌, IfOk};
+ghost use Rattle.std.specs.Option.{option_copied};
+ghost use Rattle.dkg_ceremony.specs.Acks.{ack_content};
+ghost use Rattle.dkg_ceremony.specs.Rounds.{Draws, has_too_many, are_previous};
+
+use crate::ceremony::{AckError, Ceremony, DealingError};
+use crate::evaluate::{fits, is_reshare};
+use crate::mode::{Mode, Reveal};
+use crate::output::{Output, are_all_in};
+use crate::private::{Ack, Private};
+use crate::public::Public;
+use crate::round::{Round, RoundError, copy_of_previous, write_round};
+use crate::sign::{Domain, Signer, StandSigner, mark_of};
+use crate::threshold::quorum;
+use bytes::{BufMut, BytesMut};
+use dkg_values::{Blob, Key, Mem, Set, Value, Write};
+use std::alloc::Global;
+
+/// How many points there are: every element but 0.
+const MOST_POINTS: u32 = 65520;
+
+/// The stand-in ceremony.
+#[derive(Clone, Copy, Debug, PartialEq, Eq)]
+pub struct StandCeremony;
+
+/// Whether the previous output has more players than there are points.
+fn are_too_many(previous: &Option<&Output>) -> bool
+    ensures { result ≡ has_too_many (option_copied previous.now) }
+{
+    match previous {
+        None => false,
+        Some(output) => output.players.len() > MOST_POINTS,
+    }
+}
+
+/// Whether each dealer is a player of the previous output.
+fn come_from(dealers: &Set, previous: &Option<&Output>) -> bool
+    ensures { result ≡ are_previous dealers.now (option_copied previous.now) }
+{
+    match previous {
+        None => true,
+        Some(output) => are_all_in(dealers, &output.players),
+    }
+}
+
+/// What an acknowledgement is a mark on: the round, the dealer and the public half.
+#[tactic(auto, unfolding(crate::specs::Acks::ack_content))]
+fn content_of(alloc: Global, round: &Round, dealer: Key, public: &Public) -> Mem<BytesMut>
+    ensures { IfOk result (λ content. content.items ≡ ack_content round.now dealer public.now) }
+{
+    let mut content = BytesMut::new(alloc);
+    write_round(round, &mut content)?;
+    content.put_u32(dealer.0)?;
+    public.put(&mut content)?;
+    Ok(content)
+}
+
+impl Ceremony for StandCeremony {
+    type Signer = StandSigner;
+
+    ghost use Rattle.dkg_ceremony.specs.Rounds.{round_of as round_from};
+    ghost use Rattle.dkg_ceremony.specs.RoundLaws.{round_has as round_has_parts};
+    ghost use Rattle.dkg_ceremony.specs.Dealings.{dealing_of as dealing_from};
+    ghost use Rattle.dkg_ceremony.specs.Acks.{ack_of as ack_from, check_ack_of as check_ack_from};
+    ghost use Rattle.dkg_ceremony.specs.AckLaws.{ack_passes};
+
+    ghost round_of = { round_from };
+
+    ghost dealing_of = { dealing_from };
+
+    ghost ack_of = { ack_from };
+
+    ghost check_ack_of = { check_ack_from };
+
+    ghost round_has = { round_has_parts };
+
+    ghost acks_pass = { ack_passes };
+
+    #[tactic(auto, unfolding(crate::specs::Rounds::round_of))]
+    fn round(
+        &self,
+        alloc: Global,
+        namespace: &[u8],
+        number: u64,
+        previous: Option<&Output>,
+        mode: Mode,
+        reveal: Reveal,
+        dealers: &Set,
+        players: &Set,
+    ) -> Result<Round, RoundError> {
+        if dealers.is_empty() {
+            return Err(RoundError::NoDealers);
+        }
+        if players.is_empty() {
+            return Err(RoundError::NoPlayers);
+        }
+        if dealers.len() > MOST_POINTS || players.len() > MOST_POINTS || are_too_many(&previous) {
+            return Err(RoundError::TooMany);
+        }
+        if !come_from(dealers, &previous) {
+            return Err(RoundError::DealersNotPrevious);
+        }
+        Ok(Round {
+            namespace: Blob::new(Vec::from_slice(alloc, namespace)?),
+            number,
+            previous: copy_of_previous(alloc, previous)?,
+            mode,
+            reveal,
+            dealers: dealers.copy(alloc)?,
+            players: players.copy(alloc)?,
+        })
+    }
+
+    #[tactic(auto, unfolding(crate::specs::Dealings::dealing_of))]
+    fn check_dealing(
+        &self,
+        round: &Round,
+        me: Key,
+        dealer: Key,
+        public: &Public,
+        private: &Private,
+    ) -> Result<(), DealingError> {
+        if !round.dealers.has(dealer) {
+            return Err(DealingError::UnexpectedDealer);
+        }
+        if public.as_slice().len() != quorum(round.players.len()) as usize {
+            return Err(DealingError::InvalidCommitmentDegree);
+        }
+        if !is_reshare(&round.previous, dealer, public) {
+            return Err(DealingError::MismatchedReshareCommitment);
+        }
+        if !fits(&round.players, me, public, private.0) {
+            return Err(DealingError::InvalidDealerShare);
+        }
+        Ok(())
+    }
+
+    fn ack(
+        &self,
+        alloc: Global,
+        signer: &StandSigner,
+        round: &Round,
+        dealer: Key,
+        public: &Public,
+    ) -> Mem<Ack> {
+        let content = content_of(alloc, round, dealer, public)?;
+        Ok(Ack(signer.sign(Domain::Ack, &content)))
+    }
+
+    #[tactic(auto, unfolding(crate::specs::Acks::ack_content, crate::specs::Acks::check_ack_of))]
+    fn check_ack(
+        &self,
+        alloc: Global,
+        round: &Round,
+        dealer: Key,
+        public: &Public,
+        player: Key,
+        ack: &Ack,
+    ) -> Result<(), AckError> {
+        if !round.players.has(player) {
+            return Err(AckError::UnexpectedPlayer);
+        }
+        let content = content_of(alloc, round, dealer, public)?;
+        if mark_of(player, Domain::Ack, &content) != ack.0 {
+            return Err(AckError::InvalidAck);
+        }
+        Ok(())
+    }
+}
