@@ -1,5 +1,5 @@
 -- The keys of pairs, by places.
-use Rattle.std.proofs.Common.{◌≡◌, ℕ, ◌<◌, List, [], ◌∷◌, length, get_or, zero, suc, refl, arith, ◌-◌, ◌+◌, ◌≤◌, true, is_ge, nat_cmp, ap, subst, ◌∙◌}
+use Rattle.std.proofs.Common.{◌≡◌, ℕ, ◌<◌, List, [], ◌∷◌, length, get_or, zero, suc, refl, arith, ◌-◌, ◌+◌, ◌≤◌, true, is_ge, nat_cmp, subst}
 use Rattle.std.specs.List.Sorted.{IsStrictlyIncreasing}
 use Rattle.std.proofs.lemmas.List.{length-map}
 use Rattle.std.proofs.lemmas.Bool.Decides.{nat_tests}

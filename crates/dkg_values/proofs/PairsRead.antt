@@ -1,10 +1,11 @@
 -- Reading a value for each key, as a loop does.
-use Rattle.std.proofs.Common.{◌≡◌, ℕ, suc, ◌-◌, ◌+◌, ◌≤◌, ◌<◌, ◌^◌, List, [], ◌∷◌, ◌++◌, length, get_or, drop, Result, Ok, Err, refl, sym, ap, subst, ◌∙◌, add-one, append_assoc, arith, drop-cons}
+use Rattle.std.proofs.Common.{◌≡◌, ℕ, suc, ◌+◌, ◌≤◌, ◌<◌, ◌^◌, List, [], ◌∷◌, ◌++◌, length, get_or, drop, Ok, refl, sym, ap, subst, ◌∙◌, add-one, arith, drop-cons}
+use Rattle.std.specs.Prelude.{slice_index}
 use Rattle.std.specs.List.Sorted.{IsStrictlyIncreasing}
 use Rattle.std.proofs.lemmas.List.{append-nil, length-map}
 use Rattle.std.proofs.Math.ListN.{drop_of_length-le}
 use Rattle.dkg_values.specs.declared.codec.CodecError.{CodecError}
-use Rattle.dkg_values.specs.Codec.{Reading, ◌>>=◌, Fails}
+use Rattle.dkg_values.specs.Codec.{Reading, Fails}
 use Rattle.dkg_values.specs.Rising.{keys_of, IsMap}
 use Rattle.dkg_values.specs.Lists.{pairs_at}
 use Rattle.dkg_values.specs.Grammar.{with_front, regroup, fails_with}
@@ -31,5 +32,5 @@ pairs_done {V} read front keys i bytes total le so_far =
     let one : with_front front (pairs_at read (drop i keys) bytes) ≡ Ok (front, bytes) = rw (drop_of_length-le keys le) (ap (λ (xs : List (ℕ × V)). Ok (xs, bytes)) (append-nil front)) in
     sym so_far ∙ one
 
-pub is_map : {V : Type 0} (keys : List ℕ) (pairs : List (ℕ × V)) (count : ℕ) → keys_of pairs ≡ keys → length keys ≡ count → count < 2 ^ 32 → IsStrictlyIncreasing keys → IsMap pairs
-is_map {V} keys pairs count are long small rising = record { rising = subst IsStrictlyIncreasing (sym are) rising; few = omega (arith, length-map pairs (λ (p : ℕ × V). p.0), ap length are, long) }
+pub is_map : {V : Type 0} (keys : List ℕ) (pairs : List (ℕ × V)) (count : ℕ) → keys_of pairs ≡ keys → length keys ≡ count → count < 2 ^ 32 → IsStrictlyIncreasing keys → ((i : ℕ) → slice_index (keys_of pairs) i < 2 ^ 32) → IsMap pairs
+is_map {V} keys pairs count are long small rising each = record { rising = subst IsStrictlyIncreasing (sym are) rising; few = omega (arith, length-map pairs (λ (p : ℕ × V). p.0), ap length are, long); small = each }

@@ -1,10 +1,10 @@
 -- Laws of grammars: what is read as a whole, one thing after another, and a list of things.
-use Rattle.std.proofs.Common.{◌≡◌, ℕ, zero, suc, ◌+◌, ◌-◌, ◌<◌, ◌≤◌, Bool, true, false, cond, List, [], ◌∷◌, ◌++◌, length, get_or, Result, Ok, Err, ◌⊎◌, inl, inr, refl, sym, ap, subst, ◌∙◌, append_assoc, arith}
+use Rattle.std.proofs.Common.{◌≡◌, ℕ, suc, ◌+◌, ◌-◌, ◌<◌, ◌≤◌, Bool, true, false, cond, List, [], ◌∷◌, ◌++◌, Result, Ok, Err, ◌⊎◌, inl, inr, refl, sym, ap, subst, ◌∙◌, append_assoc, arith}
 use Rattle.std.specs.Prelude.{IfOk}
 use Rattle.std.proofs.lemmas.List.{append-nil}
 use Rattle.dkg_values.specs.declared.codec.CodecError.{CodecError}
 use Rattle.dkg_values.specs.declared.codec.CodecError.TheVariants as errors
-use Rattle.dkg_values.specs.Codec.{Reading, ◌>>=◌, Fails, Reads, whole, Decodes, IsBytes, IsGrammar, many_at}
+use Rattle.dkg_values.specs.Codec.{Reading, ◌>>=◌, Fails, whole, Decodes, IsBytes, IsGrammar, many_at}
 
 abbrev done : {A : Type 0} → A → Result A CodecError
 done x = Ok x

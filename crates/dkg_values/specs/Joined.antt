@@ -1,7 +1,7 @@
 -- Grammars made of grammars: one thing and then another, and a thing that must pass a test.
-use Rattle.std.proofs.Common.{◌≡◌, ℕ, Bool, true, false, cond, List, [], ◌∷◌, ◌++◌, Result, Ok, Err, refl, sym, ap, subst, ◌∙◌, append_assoc}
+use Rattle.std.proofs.Common.{◌≡◌, ℕ, Bool, true, cond, List, ◌++◌, Ok, Err, refl, sym, ap, subst, ◌∙◌, append_assoc}
 use Rattle.dkg_values.specs.declared.codec.CodecError.{CodecError}
-use Rattle.dkg_values.specs.Codec.{Reading, ◌>>=◌, IsBytes, IsGrammar}
+use Rattle.dkg_values.specs.Codec.{Reading, ◌>>=◌, IsGrammar}
 use Rattle.dkg_values.specs.Grammar.{bind_ok, guard_ok, ok_is}
 use Rattle.dkg_values.specs.ListGrammar.{took}
 

@@ -1,5 +1,6 @@
 pub mod Bytes
 pub mod Codec
+pub mod Fits
 pub mod Grammar
 pub mod Joined
 pub mod ListGrammar

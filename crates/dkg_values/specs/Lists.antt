@@ -1,9 +1,7 @@
 -- Spellings and readings of keys, sets, elements, lists of elements and maps.
-use Rattle.std.specs.Prelude.{◌≡◌, ℕ, zero, suc, ◌+◌, ◌-◌, ◌<◌, ◌≤◌, ◌^◌, nat_lt, nat_le, ◌&&◌, ◌==◌, List, [], ◌∷◌, ◌++◌, length, map, Ok, Err, if◌then◌else◌}
-use Rattle.std.specs.List.{flat_map, AllByRecursion, zip}
-use Rattle.std.specs.List.Sorted.{IsStrictlyIncreasing}
+use Rattle.std.specs.Prelude.{ℕ, zero, suc, ◌+◌, ◌-◌, ◌<◌, ◌≤◌, ◌^◌, nat_lt, nat_le, ◌&&◌, ◌==◌, List, [], ◌∷◌, ◌++◌, length, map, Ok, Err, if◌then◌else◌}
+use Rattle.std.specs.List.{flat_map, AllByRecursion}
 use Rattle.std.specs.Int.{w16, w32, to_be_bytes}
-use Rattle.dkg_values.specs.declared.codec.CodecError.{CodecError}
 use Rattle.dkg_values.specs.declared.codec.CodecError.TheVariants.{InvalidLength, Invalid}
 use Rattle.dkg_values.specs.declared.codec.What.TheVariants as what
 use Rattle.dkg_values.specs.Codec.{Reading, ◌>>=◌, number_at, many_at}

@@ -1,11 +1,10 @@
 -- Lists that rise are told apart by their members, and rising pairs by what is found in them.
-use Rattle.std.proofs.Common.{◌≡◌, ℕ, zero, suc, ◌+◌, ◌-◌, ◌<◌, ◌≤◌, ◌^◌, Bool, true, false, cond, ltb, eqb, ◌||◌, List, [], ◌∷◌, ◌++◌, length, get_or, ◌⊎◌, inl, inr, refl, sym, ap, subst, ◌∙◌, arith, add-one, Option, Some, None}
-use Rattle.std.specs.Prelude.{Contains, is_some}
+use Rattle.std.proofs.Common.{◌≡◌, ℕ, zero, suc, ◌+◌, ◌<◌, ◌≤◌, Bool, true, false, cond, eqb, ◌||◌, List, [], ◌∷◌, length, get_or, inl, inr, refl, sym, ap, subst, ◌∙◌, arith, Option, Some, None}
+use Rattle.std.specs.Prelude.{Contains}
 use Rattle.std.specs.List.{position_from}
 use Rattle.std.specs.List.Sorted.{IsStrictlyIncreasing}
-use Rattle.std.proofs.lemmas.Bool.{eqb-true, eq-eqb, ltb-true, ltb-false, lt-ltb, le-ltb, cases_lt}
+use Rattle.std.proofs.lemmas.Bool.{eqb-true, eq-eqb, lt-ltb, le-ltb, cases_lt}
 use Rattle.std.proofs.lemmas.Bool.Decides.{nat_tests}
-use Rattle.std.proofs.lemmas.List.{length-map}
 use Rattle.std.proofs.lemmas.Cmp.{nat_eq_equiv}
 use Rattle.std.proofs.lemmas.Map.Views.{list_any-from_Contains, Contains-from_any}
 use Rattle.dkg_values.specs.Rising.{Rises, has_key, with_key, set_of, with_pair, map_of, lookup, keys_of, place_of, IsSetOf}
@@ -40,7 +39,7 @@ rises_above least [] i r lt = absurd (omega arith)
 rises_above least (x ∷ xs) zero r lt = r.0
 rises_above least (x ∷ xs) (suc i) r lt = omega (arith, r.0, rises_above (x + 1) xs i r.1 (omega arith))
 
-apart : (x y : ℕ) → (x ≡ y → ⊥) → eqb x y ≡ false
+pub apart : (x y : ℕ) → (x ≡ y → ⊥) → eqb x y ≡ false
 apart x y h = elim (cases_lt x y) [ inl lt ↦ grind (arith, nat_tests) | inr ge ↦ elim (cases_lt y x) [ inl gt ↦ grind (arith, nat_tests) | inr le ↦ absurd (h (omega arith)) ] ]
 
 rises_far-at : (least : ℕ) (xs : List ℕ) (i j : ℕ) → Rises least xs → i ≤ j → j < length xs → get_or xs i 0 ≤ get_or xs j 0
@@ -244,7 +243,7 @@ lookup-below least k (p ∷ ps) lt r =
 swap_tests : {A : Type 0} (x y z : ℕ) (a b : A) (o : A) → eqb x y ≡ false → cond (eqb y z) b (cond (eqb x z) a o) ≡ cond (eqb x z) a (cond (eqb y z) b o)
 swap_tests x y z a b o h = grind (arith, nat_tests)
 
-same_test : {A : Type 0} (x y z : ℕ) (a b o : A) → x ≡ y → cond (eqb x z) a o ≡ cond (eqb x z) a (cond (eqb y z) b o)
+pub same_test : {A : Type 0} (x y z : ℕ) (a b o : A) → x ≡ y → cond (eqb x z) a o ≡ cond (eqb x z) a (cond (eqb y z) b o)
 same_test x y z a b o h = grind (arith, nat_tests)
 
 with_pair-lookup : {V : Type 0} (k : ℕ) (p : ℕ × V) (ps : List (ℕ × V)) → lookup k (with_pair p ps) ≡ cond (eqb p.0 k) (Some p.1) (lookup k ps)

@@ -1,6 +1,5 @@
 -- Numbers in base 128, the low group first, of least length.
 use Rattle.std.specs.Prelude.{◌≡◌, ℕ, zero, suc, ◌+◌, ◌-◌, ◌*◌, ◌/◌, ◌%◌, ◌^◌, nat_lt, nat_le, ◌&&◌, List, [], ◌∷◌, Ok, Err, if◌then◌else◌}
-use Rattle.dkg_values.specs.declared.codec.CodecError.{CodecError}
 use Rattle.dkg_values.specs.declared.codec.CodecError.TheVariants.{EndOfBuffer, InvalidVarint}
 use Rattle.dkg_values.specs.Codec.{Reading, ◌>>=◌}
 

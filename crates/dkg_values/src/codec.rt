@@ -160,8 +160,7 @@ pub fn encode<T: Write + EncodeSize>(alloc: Global, value: &T) -> Mem<Blob>
 {
     let mut out = BytesMut::with_capacity(alloc, value.encode_size())?;
     value.write(&mut out)?;
-    let bytes = Vec::from_slice(alloc, &out)?;
-    Ok(Blob::new(bytes))
+    Ok(Blob::new(out.into_vec()?))
 }
 
 fn decode_whole<T: Read + Drop>(alloc: Global, bytes: &[u8], cfg: &T::Cfg) -> Result<T, CodecError>
@@ -189,6 +188,20 @@ pub fn decode_cfg<T: Read + Drop>(
     ensures exact { Decodes (whole (T.read_of cfg.now bytes.now)) result }
 {
     decode_whole(alloc, bytes, cfg)
+}
+
+/// Writes a value and reads it again: what comes back is the value, unless memory runs out.
+pub fn round_trip<T: Write + EncodeSize + Read + Drop>(
+    alloc: Global,
+    value: &T,
+    cfg: &T::Cfg,
+) -> Result<T, CodecError>
+    requires size { T.can_size value.now }
+    requires fits { T.fits cfg.now value.now }
+    ensures { Decodes (Ok value.now) result }
+{
+    let bytes = encode(alloc, value)?;
+    decode_cfg(alloc, bytes.as_slice(), cfg)
 }
 
 /// No spelling begins another, so what was written is read again whatever follows it.

@@ -18,6 +18,7 @@ mod value;
 pub use blob::Blob;
 pub use codec::{
     CodecError, EncodeSize, Read, Reader, Spelled, What, Write, decode_cfg, encode, no_prefix,
+    round_trip,
 };
 pub use counted::{read_be16, read_be32, read_count, read_keys, read_many};
 pub use fixed::{Digest, Mark, Seed, read_array, read_byte};

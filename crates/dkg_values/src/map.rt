@@ -1,10 +1,10 @@
-ghost use Rattle.std.specs.Prelude.{◌≡◌, ℕ, ◌<◌, ◌^◌, ◌↔◌, ◌==◌, List, length, vec_len, IfOk, IsTrue, IsOk};
+ghost use Rattle.std.specs.Prelude.{◌≡◌, ℕ, ◌<◌, ◌^◌, ◌↔◌, ◌==◌, List, length, vec_len, slice_index, IfOk, IsTrue, IsOk};
 ghost use Rattle.std.specs.Option.{option_copied};
 ghost use Rattle.std.specs.Iterator.{YieldsFirstBy, item_count};
 ghost use Rattle.std.specs.List.Sorted.{IsStrictlyIncreasing};
 ghost use Rattle.dkg_values.specs.Codec.{ReadsBy};
 ghost use Rattle.dkg_values.specs.Lists.{pairs_at};
-ghost use Rattle.dkg_values.specs.Rising.{keys_of, lookup};
+ghost use Rattle.dkg_values.specs.Rising.{IsMap, keys_of, lookup, map_of};
 
 use crate::codec::{CodecError, EncodeSize, Read, Reader, Spelled, Write};
 use crate::counted::{read_count, read_keys};
@@ -48,13 +48,36 @@ fn is_rising<V>(pairs: &[(Key, V)]) -> bool
     true
 }
 
+/// Each key is a number of 32 bits: to know it, each is read.
+#[tactic(auto, using(crate::proofs::Keys::key_at))]
+fn known<V>(pairs: &[(Key, V)])
+    ensures { (i : ℕ) → slice_index (keys_of pairs.now) i < 2 ^ 32 }
+{
+    for (key, _) in pairs {
+        let _number = key.number();
+    }
+}
+
 impl<V: Drop> Map<V> {
+    /// The first pair of each key, the keys rising.
+    pub fn from_any(_alloc: Global, mut pairs: Vec<(Key, V)>) -> Mem<Map<V>>
+        requires { vec_len pairs < 2 ^ 32 }
+        ensures exact { IfOk result (λ map. map ≡ map_of pairs.items) }
+        ensures first { IfOk result (λ map. (key : ℕ) → lookup key map ≡ lookup key pairs.items) }
+    {
+        pairs.sort_by_key(|pair| pair.0)?;
+        pairs.dedup_by_key(|pair| pair.0);
+        known(&pairs);
+        Ok(Map { pairs })
+    }
+
     pub fn from_sorted(pairs: Vec<(Key, V)>) -> Result<Map<V>, NotRising>
         requires { vec_len pairs < 2 ^ 32 }
         ensures ok { IfOk result (λ map. map ≡ pairs.items) }
         ensures rising { IsOk result ↔ IsStrictlyIncreasing (keys_of pairs.items) }
     {
         if is_rising(&pairs) {
+            known(&pairs);
             Ok(Map { pairs })
         } else {
             Err(NotRising)
@@ -63,23 +86,38 @@ impl<V: Drop> Map<V> {
 }
 
 impl<V> Map<V> {
+    /// The value at a key, by binary search.
     pub fn get(&self, key: Key) -> Option<&V>
         ensures { option_copied result ≡ lookup key self.now }
     {
-        for (k, v) in &self.pairs {
-            if *k == key {
-                return Some(v);
-            }
+        match self.pairs.binary_search_by_key(&key, |pair| pair.0) {
+            Ok(i) => Some(&self.pairs[i].1),
+            Err(_) => None,
         }
-        None
     }
 
+    /// How many keys there are.
     pub fn len(&self) -> u32
         ensures { result ≡ length self.now }
     {
         self.pairs.len() as u32
     }
 
+    pub fn is_empty(&self) -> bool
+        ensures { result ≡ (length self.now == 0) }
+    {
+        self.pairs.is_empty()
+    }
+
+    /// The pairs, keys rising.
+    pub fn as_slice(&self) -> &[(Key, V)]
+        ensures items { result.now ≡ self.now }
+        ensures kept { IsMap self.now }
+    {
+        &self.pairs
+    }
+
+    /// Each key with its value, keys rising.
     pub fn iter(&self) -> MapIter<'_, V>
         ensures { result ≡ self.now }
     {
@@ -190,6 +228,7 @@ impl<V: Read + Drop> Read for Map<V> {
             });
         }
         let pairs = read_pairs::<V>(alloc, input, &keys, &cfg.value)?;
+        known(&pairs);
         Ok(Map { pairs })
     }
 }

@@ -1,4 +1,4 @@
-use Rattle.std.proofs.Common.{◌≡◌, ◌++◌, ◌∷◌, [], arith}
+use Rattle.std.proofs.Common.{arith}
 use Rattle.std.proofs.lemmas.Result.{err_from_is_err_and}
 use Rattle.dkg_values.specs.Lists.{keys_at}
 use Rattle.dkg_values.proofs.KeysRead.{keys_goes_on, keys_ends, keys_refuses, keys_done}

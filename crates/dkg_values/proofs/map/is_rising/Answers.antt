@@ -1,4 +1,3 @@
-use Rattle.std.proofs.Common.{arith}
 use Rattle.dkg_values.proofs.Keys.{not_rising}
 use Rattle.dkg_values.proofs.map.is_rising.Goals as goal
 

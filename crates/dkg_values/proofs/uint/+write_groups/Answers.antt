@@ -1,4 +1,4 @@
-use Rattle.std.proofs.Common.{arith, rules}
+use Rattle.std.proofs.Common.{arith}
 use Rattle.dkg_values.specs.Uints.{wrote}
 use Rattle.dkg_values.proofs.uint.+write_groups.Goals as goal
 

@@ -1,5 +1,3 @@
-use Rattle.std.proofs.Common.{rules}
-use Rattle.dkg_values.specs.Uint.{IsMost}
 use Rattle.dkg_values.specs.Uints.{most32}
 use Rattle.dkg_values.proofs.uint.read_u32.Goals as goal
 

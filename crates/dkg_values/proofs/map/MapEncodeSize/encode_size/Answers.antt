@@ -1,6 +1,5 @@
-use Rattle.std.proofs.Common.{◌≡◌, ◌<◌, length, ap, ◌∙◌, arith}
-use Rattle.dkg_values.specs.Uint.{uint}
-use Rattle.dkg_values.specs.Sizes.{turn, done_size, map_size, values_size}
+use Rattle.std.proofs.Common.{length, ap, ◌∙◌, arith}
+use Rattle.dkg_values.specs.Sizes.{turn, done_size, map_size}
 use Rattle.dkg_values.proofs.map.MapEncodeSize.encode_size.Goals as goal
 
 pub encode_size-size-requires : goal.encode_size-size-requires

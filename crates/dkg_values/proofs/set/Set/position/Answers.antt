@@ -1,4 +1,4 @@
-use Rattle.std.proofs.Common.{◌∙◌, rules}
+use Rattle.std.proofs.Common.{◌∙◌}
 use Rattle.dkg_values.proofs.Searches.{found_place, found_none}
 use Rattle.dkg_values.proofs.set.Set.position.Goals as goal
 

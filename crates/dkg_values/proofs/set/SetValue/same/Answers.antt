@@ -1,4 +1,4 @@
-use Rattle.std.proofs.Common.{◌≡◌, rules, eqb}
+use Rattle.std.proofs.Common.{◌≡◌, eqb}
 use Rattle.std.specs.Cmp.Lexicographic.{pointwise}
 use Rattle.std.proofs.lemmas.Bool.Decides.{Decides-eqb}
 use Rattle.std.proofs.lemmas.Slice.Eq.{slice_eq-Decides}
