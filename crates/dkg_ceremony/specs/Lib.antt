@@ -18,11 +18,13 @@ pub mod Sharings
 pub mod Thresholds
 pub use Rattle.dkg_values.specs.Bytes
 pub use Rattle.dkg_values.specs.Codec
+pub use Rattle.dkg_values.specs.Fits
 pub use Rattle.dkg_values.specs.Grammar
 pub use Rattle.dkg_values.specs.Joined
 pub use Rattle.dkg_values.specs.ListGrammar
 pub use Rattle.dkg_values.specs.Lists
 pub use Rattle.dkg_values.specs.Rising
+pub use Rattle.dkg_values.specs.RisingLaws
 pub use Rattle.dkg_values.specs.Sizes
 pub use Rattle.dkg_values.specs.Uint
 pub use Rattle.dkg_values.specs.UintGrammar

@@ -22,7 +22,7 @@ pub use dkg_values::{
     Blob, CodecError, Digest, Element, EncodeSize, Epoch, Height, Key, Map, MapCfg, MapIter, Mark,
     Mem, Name, NoMemory, NotRising, Read, Reader, Seed, Set, SetIter, Spelled, Value, What, Write,
     decode_cfg, encode, no_prefix, read_array, read_be16, read_be32, read_byte, read_count,
-    read_keys, read_many, read_u32, read_u64, uint_size, write_uint,
+    read_keys, read_many, read_u32, read_u64, round_trip, uint_size, write_uint,
 };
 pub use mode::{Mode, ModeVersion, Reveal};
 pub use output::Output;
