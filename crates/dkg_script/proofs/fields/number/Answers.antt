@@ -1,0 +1,15 @@
+use Rattle.std.proofs.Common.{◌≡◌, true, sym, ◌∙◌}
+use Rattle.dkg_script.proofs.Numbers.{found, only, plain}
+use Rattle.dkg_script.proofs.fields.number.Goals as goal
+
+pub returns-then-is_plain-clause-found : goal.returns-then-is_plain-clause-found
+returns-then-is_plain-clause-found c = found c.args.text.now c.parsed.result (c.is_plain.ensures.0 c.if-is_plain.true) c.parsed.ensures
+
+pub returns-then-is_plain-clause-only : goal.returns-then-is_plain-clause-only
+returns-then-is_plain-clause-only c = only c.args.text.now c.parsed.result c.parsed.ensures
+
+pub returns-else-is_plain-clause-only : goal.returns-else-is_plain-clause-only
+returns-else-is_plain-clause-only c = λ n small is.
+    let is_true = c.is_plain.ensures.1 (plain c.args.text.now n small is) in
+    let is_false = c.if-is_plain.false in
+    absurd (cc)

@@ -1,0 +1,125 @@
+//! The reading of a script's text, line by line; the program calls it on the bytes that it was given.
+//!
+//! There is one form yet: a configuration without a namespace, one block that carries an info of epoch 0,
+//! and lives that hold that block and receive messages of the dealing channel.
+ghost use Rattle.std.specs.Prelude.{◌≡◌, ℕ, ◌+◌, ◌<◌, ◌≤◌, ◌^◌, IfOk, IfErr, IfSome, OnOk, length};
+ghost use Rattle.dkg_script.specs.Places.{IsPlaceIn};
+
+use crate::error::ScriptError;
+use crate::fields::{bytes, cut, number32};
+use crate::lines::Lines;
+use crate::script::{
+    BlockLine, BlockLines, Event, Events, Indexes, Life, Lives, PlayerLines, Script, ScriptConfig,
+};
+use dkg_ceremony::{Blob, Height, Key, Map, Mem, Mode, ModeVersion};
+use std::alloc::Global;
+use std::num::{NonZeroU32, NonZeroU64};
+
+/// The highest limit of participants.
+const MOST_PARTICIPANTS: u64 = 1 << 30;
+
+/// The lines from `dkg` to `space`.
+fn read_config(alloc: Global, lines: &mut Lines<'_>) -> Result<ScriptConfig, ScriptError>
+    ensures text { lines.new.text.now ≡ lines.old.text.now }
+    ensures bad { IfErr result (λ e. IsPlaceIn (length lines.old.text.now) e) }
+{
+    lines.take_line(b"dkg 1")?;
+    let me = lines.take_number(b"me ", 0, u64::from(u32::MAX))?;
+    let blocks = lines.take_number(b"blocks ", 2, u64::MAX)?;
+    let limit = lines.take_number(b"limit ", 1, MOST_PARTICIPANTS)?;
+    lines.take_line(b"mode 0 0")?;
+    lines.take_line(b"space -")?;
+    Ok(ScriptConfig {
+        me: Key(me as u32),
+        blocks_per_epoch: NonZeroU64::new(blocks).unwrap(),
+        limit: NonZeroU32::new(limit as u32).unwrap(),
+        mode: Mode::NonZeroCounter,
+        max_mode: ModeVersion(0),
+        namespace: Blob::new(Vec::new(alloc)),
+        oneshot: None,
+        players: PlayerLines::new(Vec::new(alloc)),
+        addresses: Map::from_sorted(Vec::new(alloc)).unwrap(),
+        probe: None,
+    })
+}
+
+/// A message of the dealing channel, from the fields after the word.
+fn peer(alloc: Global, fields: &[u8]) -> Mem<Option<Event>> {
+    let Some((from, text)) = cut(fields, b' ') else {
+        return Ok(None);
+    };
+    let Some(from) = number32(from) else {
+        return Ok(None);
+    };
+    match bytes(alloc, text)? {
+        Some(bytes) => Ok(Some(Event::Peer {
+            from: Key(from),
+            bytes,
+        })),
+        None => Ok(None),
+    }
+}
+
+/// The event of a line, where the line is one.
+fn event_of(alloc: Global, line: &[u8]) -> Mem<Option<Event>> {
+    match cut(line, b' ') {
+        Some((b"peer", fields)) => peer(alloc, fields),
+        _ => Ok(None),
+    }
+}
+
+/// The lines of events, up to the first other line.
+fn read_events(alloc: Global, lines: &mut Lines<'_>) -> Result<Events, ScriptError>
+    ensures text { lines.new.text.now ≡ lines.old.text.now }
+    ensures on { lines.old.place ≤ lines.new.place }
+    ensures bad { IfErr result (λ e. IsPlaceIn (length lines.old.text.now) e) }
+{
+    let mut events = Vec::new(alloc);
+    'events: while let Some(line) = lines.line() {
+        match event_of(alloc, line)? {
+            Some(event) => {
+                events.push(event)?;
+                lines.advance();
+            }
+            None => break 'events,
+        }
+    }
+    Ok(Events::new(events))
+}
+
+/// The lines from `life` to `stop`.
+fn read_life(alloc: Global, lines: &mut Lines<'_>) -> Result<Life, ScriptError>
+    ensures text { lines.new.text.now ≡ lines.old.text.now }
+    ensures on { OnOk result (lines.old.place < lines.new.place) }
+    ensures bad { IfErr result (λ e. IsPlaceIn (length lines.old.text.now) e) }
+{
+    let word = lines.take_number(b"life ", 0, u64::MAX)?;
+    lines.take_line(b"held 0")?;
+    let mut held = Vec::new(alloc);
+    held.push(0)?;
+    let events = read_events(alloc, lines)?;
+    let pick = lines.take_number(b"stop ", 0, u64::MAX)?;
+    Ok(Life {
+        word,
+        anchor: None,
+        held: Indexes::new(held),
+        sync: None,
+        events,
+        cut: None,
+        pick,
+    })
+}
+
+/// One life or more.
+fn read_lives(alloc: Global, lines: &mut Lines<'_>) -> Result<Lives, ScriptError>
+    ensures text { lines.new.text.now ≡ lines.old.text.now }
+    ensures some { IfOk result (λ lives. 0 < length lives) }
+    ensures bad { IfErr result (λ e. IsPlaceIn (length lines.old.text.now) e) }
+{
+    let mut lives = Vec::new(alloc);
+    lives.push(read_life(alloc, lines)?)?;
+    'lives: while lines.begins(b"life ") {
+        lives.push(read_life(alloc, lines)?)?;
+    }
+    Ok(Lives::new(lives))
+}
