@@ -23,6 +23,7 @@ pub use Rattle.dkg_values.specs.Grammar
 pub use Rattle.dkg_values.specs.Joined
 pub use Rattle.dkg_values.specs.ListGrammar
 pub use Rattle.dkg_values.specs.Lists
+pub use Rattle.dkg_values.specs.Places
 pub use Rattle.dkg_values.specs.Rising
 pub use Rattle.dkg_values.specs.RisingLaws
 pub use Rattle.dkg_values.specs.Sizes

@@ -1,8 +1,9 @@
 //! How the points of a sharing are chosen, and how the players that are revealed are.
 //!
 //! A sharing and a round name their mode; a reader of outputs is told the newest mode that it may meet.
-ghost use Rattle.std.specs.Prelude.{◌≡◌};
-ghost use Rattle.dkg_ceremony.specs.Modes.{mode_byte, reveal_byte, supports_of};
+ghost use Rattle.std.specs.Prelude.{◌≡◌, IsErrOf};
+ghost use Rattle.dkg_values.specs.Codec.{Reads};
+ghost use Rattle.dkg_ceremony.specs.Modes.{mode_byte, reveal_byte, supports_of, mode_at};
 
 use bytes::{BufMut, BytesMut};
 use dkg_values::{CodecError, EncodeSize, Mem, Read, Reader, Spelled, Write};
@@ -92,7 +93,10 @@ impl Read for Mode {
         _alloc: Global,
         input: &mut Reader<'_>,
         cfg: &ModeVersion,
-    ) -> Result<Mode, CodecError> {
+    ) -> Result<Mode, CodecError>
+        ensures exact { Reads (mode_at cfg.now.0 input.old) result input.new }
+        ensures sure { IsErrOf result CodecError.NoMemory → ⊥ }
+    {
         let piece = input.take(1)?;
         match piece[0] {
             0 => Ok(Mode::NonZeroCounter),

@@ -5,6 +5,7 @@ pub mod Grammar
 pub mod Joined
 pub mod ListGrammar
 pub mod Lists
+pub mod Places
 pub mod Rising
 pub mod RisingLaws
 pub mod Sizes

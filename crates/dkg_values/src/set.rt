@@ -118,8 +118,10 @@ impl Set {
         }
     }
 
+    #[tactic(auto, using(crate::specs::Places::has_place))]
     pub fn has(&self, key: Key) -> bool
-        ensures { result ≡ is_some (place_of key self.now) }
+        ensures place { result ≡ is_some (place_of key self.now) }
+        ensures member { IsTrue result ↔ Contains self.now key }
     {
         self.position(key).is_some()
     }
