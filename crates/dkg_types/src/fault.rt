@@ -1,0 +1,138 @@
+//! Why a node stops. Setup and the steps answer these, and the top call prints them by number.
+ghost use Rattle.std.specs.Prelude.{◌≡◌};
+ghost use Rattle.dkg_types.specs.Faults.{number_of};
+ghost use Rattle.dkg_types.specs.declared.fault.Fault.TheVariants.{NoMemory as OutOfMemory};
+
+use crate::participants::ParticipantsError;
+use dkg_ceremony::{Epoch, Height, Key, Name, NoMemory, Public, RoundError};
+use thiserror::Error;
+
+/// What is wrong with a configuration.
+#[derive(Clone, Copy, Debug, PartialEq, Eq, Error)]
+pub enum ConfigCause {
+    #[error("the sharing mode is not supported")]
+    Mode,
+    #[error("a reshare needs more than one block an epoch")]
+    OneBlock,
+    #[error("the one-shot set is empty")]
+    OneShotEmpty,
+    #[error("the one-shot set is without this node")]
+    OneShotWithout,
+}
+
+/// Why an epoch's participants are refused.
+#[derive(Clone, Copy, Debug, PartialEq, Eq, Error)]
+pub enum ParticipantsCause {
+    #[error("{0}")]
+    Refused(ParticipantsError),
+    #[error("the provider's set is empty")]
+    ProviderEmpty,
+    #[error("the provider's set has {actual} keys, where {max} is the limit")]
+    ProviderAbove { actual: u32, max: u32 },
+    #[error("no round: {0}")]
+    Round(RoundError),
+}
+
+/// What a node's own state contradicts.
+#[derive(Debug, Drop, Error)]
+pub enum LocalCause {
+    #[error("the stored dealing of dealer {} for epoch {} is refused", .dealer.0, .epoch.0)]
+    StoredDealing {
+        epoch: Epoch,
+        dealer: Key,
+    },
+    #[error("the held share of epoch {} is refused", .epoch.0)]
+    ShareRefused {
+        epoch: Epoch,
+    },
+    #[error("the player keeps another dealing of this node for epoch {}", .epoch.0)]
+    OwnDealing {
+        epoch: Epoch,
+        kept: Public,
+        dealt: Public,
+    },
+    #[error("the ceremony succeeded and gave this node no share")]
+    NoShare,
+    #[error("the final block omits the outcome")]
+    OutcomeOmitted,
+}
+
+/// Why a node stops, in the order of the numbers, from 1.
+#[derive(Debug, Drop, Error)]
+pub enum Fault {
+    #[error("out of memory")]
+    NoMemory,
+    #[error("the disk failed")]
+    Disk,
+    #[error("the secret store failed")]
+    Secrets,
+    #[error("no record in its grammar at {place} of {name:?}")]
+    Corrupt { name: Name, place: u64 },
+    #[error("{0}")]
+    InvalidConfig(ConfigCause),
+    #[error("the material's info is of epoch {}, its floor of epoch {}", .info.0, .floor.0)]
+    StateSyncEpochs { info: Epoch, floor: Epoch },
+    #[error("the material is refused under the limits")]
+    StateSyncMaterial,
+    #[error("another block at the tip's height {}", .height.0)]
+    ConflictingBlock { height: Height },
+    #[error("the block at height {} has another parent than the tip", .height.0)]
+    DetachedBlock { height: Height },
+    #[error("a block at height {}, where height {} is awaited", .got.0, .awaited.0)]
+    SkippedHeight { awaited: Height, got: Height },
+    #[error("the block at height {} is outside the awaited window", .height.0)]
+    OutOfWindow { height: Height },
+    #[error("a height or an epoch passes 64 bits")]
+    HeightRange,
+    #[error("the block at height {} carries no info", .height.0)]
+    MissingEpochInfo { height: Height },
+    #[error("an info of epoch {}, where epoch {} is expected", .got.0, .expected.0)]
+    WrongEpoch { expected: Epoch, got: Epoch },
+    #[error("{0}")]
+    InvalidParticipants(ParticipantsCause),
+    #[error("the directory of epoch {} does not match its peers", .epoch.0)]
+    DirectoryMismatch { epoch: Epoch },
+    #[error("{0}")]
+    LocalState(LocalCause),
+    #[error("the final block is not held")]
+    FinalBlockMissing,
+    #[error("the floor's block is not held")]
+    FloorBlockMissing,
+}
+
+impl Fault {
+    /// The number by which a fault is printed, from 1 to 19.
+    pub fn number(&self) -> u8
+        ensures { result ≡ number_of self.now }
+    {
+        match self {
+            Fault::NoMemory => 1,
+            Fault::Disk => 2,
+            Fault::Secrets => 3,
+            Fault::Corrupt { .. } => 4,
+            Fault::InvalidConfig(_) => 5,
+            Fault::StateSyncEpochs { .. } => 6,
+            Fault::StateSyncMaterial => 7,
+            Fault::ConflictingBlock { .. } => 8,
+            Fault::DetachedBlock { .. } => 9,
+            Fault::SkippedHeight { .. } => 10,
+            Fault::OutOfWindow { .. } => 11,
+            Fault::HeightRange => 12,
+            Fault::MissingEpochInfo { .. } => 13,
+            Fault::WrongEpoch { .. } => 14,
+            Fault::InvalidParticipants(_) => 15,
+            Fault::DirectoryMismatch { .. } => 16,
+            Fault::LocalState(_) => 17,
+            Fault::FinalBlockMissing => 18,
+            Fault::FloorBlockMissing => 19,
+        }
+    }
+}
+
+impl From<NoMemory> for Fault {
+    ghost from_gives = { λ _ e. e ≡ OutOfMemory };
+
+    fn from(_e: NoMemory) -> Fault {
+        Fault::NoMemory
+    }
+}
