@@ -6,13 +6,18 @@
 
 mod call;
 mod disk;
+mod file;
 mod fuse;
 mod journal;
+mod memory;
 mod open;
 mod opening;
+mod table;
+mod tally;
 
 pub use call::{JournalError, perform};
 pub use disk::{Disk, DiskError, Op};
 pub use fuse::Fuse;
 pub use journal::{Journal, Prepared};
+pub use memory::MemoryDisk;
 pub use opening::JournalEntry;

@@ -1,0 +1,238 @@
+//! A file in memory, and what a crash leaves of it.
+//!
+//! The memory disk keeps one for each name. A write keeps what it puts others in place of, so that a write, a sync and a crash take
+//! time in what was written since the last sync, and not in the length of the file.
+ghost use Rattle.std.specs.Prelude.{◌≡◌, ◌≤◌, ◌<◌, ◌+◌, ◌-◌, ◌++◌, [], ◌∷◌, List, ℕ, length, take, drop, min, max, map, replicate, OnOk, OnErr, IfOk};
+ghost use Rattle.dkg_journal.specs.Disk.{written};
+ghost use Rattle.dkg_journal.specs.Kept.{Kept, Undone, restored, rolled, kept_to, settled, wrote, filled, filled_all, FileImage, AreWithin};
+
+use std::alloc::{AllocError, Global};
+use std::marker::Model;
+
+/// Bytes that a write put others in place of.
+#[derive(Drop)]
+struct Undo {
+    place: usize,
+    old: Vec<u8>,
+}
+
+/// The bytes, how many there were at the last sync, and what the writes since have put others in place of, oldest first.
+#[derive(Drop)]
+pub struct File {
+    bytes: Vec<u8>,
+    synced: usize,
+    undo: Vec<Undo>,
+}
+
+impl Model for File {
+    ghost use Rattle.std.specs.Prelude.{◌≤◌, length, map};
+    ghost use Rattle.dkg_journal.specs.Kept.{Kept, AreWithin};
+
+    ghost Value = { Kept };
+
+    ghost view = { λ f. record { bytes = f.bytes.items; synced = f.synced; undo = map (λ u. (u.place, u.old.items)) f.undo.items } };
+
+    ghost invariant = { λ f. (f.synced ≤ length f.bytes.items) × AreWithin (map (λ u. (u.place, u.old.items)) f.undo.items) (length f.bytes.items) };
+}
+
+/// Puts old bytes back, from a place on.
+fn restore(bytes: &mut Vec<u8>, from: usize, undo: &Undo)
+    requires { undo.now.place + length undo.now.old.items ≤ length bytes.old.items }
+    ensures { bytes.new.items ≡ restored from (undo.now.place, undo.now.old.items) bytes.old.items }
+{
+    let skip = from.saturating_sub(undo.place).min(undo.old.len());
+    let at = undo.place + skip;
+    let end = undo.place + undo.old.len();
+    bytes[at..end].copy_from_slice(&undo.old[skip..]);
+}
+
+/// Undoes the writes from a place on.
+fn roll_back(bytes: &mut Vec<u8>, undo: &mut Vec<Undo>, from: usize)
+    requires { AreWithin (map (λ u. (u.place, u.old.items)) undo.old.items) (length bytes.old.items) }
+    ensures bytes { bytes.new.items ≡ rolled from (map (λ u. (u.place, u.old.items)) undo.old.items) bytes.old.items }
+    ensures undo { undo.new.items ≡ [] }
+{
+    while let Some(last) = undo.pop() {
+        restore(bytes, from, &last);
+    }
+}
+
+/// The part of the bytes that a write of `n` bytes puts others in place of.
+fn overwritten(alloc: Global, bytes: &[u8], place: usize, n: usize) -> Result<Vec<u8>, AllocError>
+    requires { place ≤ length bytes.now }
+    ensures { IfOk result (λ v. v.items ≡ take n (drop place bytes.now)) }
+{
+    let rest = &bytes[place..];
+    Vec::from_slice(alloc, &rest[..n.min(rest.len())])
+}
+
+/// Writes over what is there and past the end, in place.
+fn overwrite(bytes: &mut Vec<u8>, place: usize, new: &[u8]) -> Result<(), AllocError>
+    requires { place ≤ length bytes.old.items }
+    ensures done { OnOk result (bytes.new.items ≡ written place new.now bytes.old.items) }
+    ensures kept { OnErr result (bytes.new.items ≡ bytes.old.items) }
+{
+    let inside = new.len().min(bytes.len() - place);
+    bytes.extend_from_slice(&new[inside..])?;
+    bytes[place..place + inside].copy_from_slice(&new[..inside]);
+    Ok(())
+}
+
+/// Writes one byte over a range.
+fn fill(bytes: &mut Vec<u8>, place: usize, n: usize, byte: u8)
+    requires { place + n ≤ length bytes.old.items }
+    ensures { bytes.new.items ≡ written place (replicate n byte) bytes.old.items }
+{
+    bytes[place..place + n].fill(byte);
+}
+
+/// Writes one byte over all that the writes since the last sync have put others in place of.
+fn fill_undone(bytes: &mut Vec<u8>, undo: &[Undo], byte: u8)
+    requires { AreWithin (map (λ u. (u.place, u.old.items)) undo.now) (length bytes.old.items) }
+    ensures { bytes.new.items ≡ filled byte (map (λ u. (u.place, u.old.items)) undo.now) bytes.old.items }
+{
+    for one in undo {
+        fill(bytes, one.place, one.old.len(), byte);
+    }
+}
+
+/// The lowest place from this one on that a write since the last sync has touched, and the end of that write's range there. All from
+/// the old end on was touched.
+fn next_loose(undo: &[Undo], synced: usize, len: usize, from: usize) -> (usize, usize)
+    requires within { AreWithin (map (λ u. (u.place, u.old.items)) undo.now) len }
+    requires synced { synced ≤ len }
+    requires from { from ≤ len }
+    ensures low { from ≤ result.0 }
+    ensures order { result.0 ≤ result.1 }
+    ensures high { result.1 ≤ len }
+    ensures more { result.0 ≡ result.1 → result.1 ≡ len }
+{
+    let mut start = synced.max(from);
+    let mut end = len;
+    for one in undo {
+        let one_start = one.place.max(from);
+        let one_end = one.place + one.old.len();
+        if one_start < one_end && one_start < start {
+            start = one_start;
+            end = one_end;
+        }
+    }
+    (start, end)
+}
+
+/// The place behind the first so many loose bytes, or the file's end, and how many are then left to count.
+fn place_behind(undo: &[Undo], synced: usize, len: usize, count: u64) -> (usize, u64)
+    requires within { AreWithin (map (λ u. (u.place, u.old.items)) undo.now) len }
+    requires synced { synced ≤ len }
+    ensures place { result.0 ≤ len }
+    ensures left { result.1 ≤ count }
+{
+    let mut left = count;
+    let mut at = 0;
+    while at < len {
+        let (start, end) = next_loose(undo, synced, len, at);
+        let n = (end - start) as u64;
+        if left < n {
+            return (start + left as usize, 0);
+        }
+        left -= n;
+        at = end;
+    }
+    (len, left)
+}
+
+impl File {
+    /// A file of which nothing is loose.
+    pub fn new(bytes: Vec<u8>) -> File
+        ensures { result ≡ settled bytes.items }
+    {
+        let synced = bytes.len();
+        let undo = Vec::new(*bytes.allocator());
+        File {
+            bytes,
+            synced,
+            undo,
+        }
+    }
+
+    pub fn bytes(&self) -> &[u8]
+        ensures { result.now ≡ self.now.bytes }
+    {
+        &self.bytes
+    }
+
+    /// Makes sure of all that was written.
+    pub fn settle(&mut self)
+        ensures settled { self.new ≡ settled self.old.bytes }
+        ensures image { FileImage self.old self.new.bytes }
+    {
+        self.synced = self.bytes.len();
+        self.undo.clear();
+    }
+
+    /// Writes in place, and keeps what was there. The place is at most the file's length.
+    pub fn write(&mut self, alloc: Global, place: usize, bytes: &[u8]) -> Result<(), AllocError>
+        requires { place ≤ length self.old.bytes }
+        ensures done { OnOk result (self.new ≡ wrote place bytes.now self.old) }
+        ensures kept { OnErr result (self.new ≡ self.old) }
+    {
+        let old = overwritten(alloc, &self.bytes, place, bytes.len())?;
+        self.undo.reserve(1)?;
+        overwrite(&mut self.bytes, place, bytes)?;
+        let pushed = self.undo.push(Undo { place, old });
+        prove!(pushed.is_ok());
+        let _ = pushed;
+        Ok(())
+    }
+
+    /// A crash that keeps what was written below a place, and leaves the rest as it was last synced.
+    pub fn crash_to(&mut self, from: usize)
+        ensures settled { self.new ≡ settled (kept_to from self.old) }
+        ensures image { FileImage self.old self.new.bytes }
+    {
+        let len = self.bytes.len();
+        roll_back(&mut self.bytes, &mut self.undo, from);
+        self.bytes.truncate(self.synced.max(from.min(len)));
+        self.synced = self.bytes.len();
+    }
+
+    /// A crash that leaves one byte in every loose place.
+    pub fn crash_filled(&mut self, byte: u8)
+        ensures settled { self.new ≡ settled (filled_all byte self.old) }
+        ensures image { FileImage self.old self.new.bytes }
+    {
+        fill_undone(&mut self.bytes, &self.undo, byte);
+        let n = self.bytes.len() - self.synced;
+        fill(&mut self.bytes, self.synced, n, byte);
+        self.synced = self.bytes.len();
+        self.undo.clear();
+    }
+
+    /// What a crash leaves by its pick. `count` is how many loose bytes of this file and those behind it may still be kept; what is left
+    /// of it is returned.
+    pub fn crash(&mut self, pick: u64, count: u64) -> u64
+        ensures image { FileImage self.old self.new.bytes }
+        ensures settled { self.new ≡ settled self.new.bytes }
+        ensures left { result ≤ count }
+    {
+        match pick % 4 {
+            0 => {
+                self.settle();
+                count
+            }
+            1 => {
+                self.crash_to(0);
+                count
+            }
+            2 => {
+                let (place, left) = place_behind(&self.undo, self.synced, self.bytes.len(), count);
+                self.crash_to(place);
+                left
+            }
+            _ => {
+                self.crash_filled((pick / 4 % 256) as u8);
+                count
+            }
+        }
+    }
+}
