@@ -1,10 +1,11 @@
 //! Why a node stops. Setup and the steps answer these, and the top call prints them by number.
-ghost use Rattle.std.specs.Prelude.{◌≡◌};
+ghost use Rattle.std.specs.Prelude.{◌≡◌, IfOk};
 ghost use Rattle.dkg_types.specs.Faults.{number_of};
 ghost use Rattle.dkg_types.specs.declared.fault.Fault.TheVariants.{NoMemory as OutOfMemory};
 
 use crate::participants::ParticipantsError;
-use dkg_ceremony::{Epoch, Height, Key, Name, NoMemory, Public, RoundError};
+use dkg_ceremony::{Epoch, Height, Key, Mem, Name, NoMemory, Public, RoundError, Value};
+use std::alloc::Global;
 use thiserror::Error;
 
 /// What is wrong with a configuration.
@@ -55,6 +56,28 @@ pub enum LocalCause {
     NoShare,
     #[error("the final block omits the outcome")]
     OutcomeOmitted,
+}
+
+impl LocalCause {
+    /// A copy, for the transcript.
+    pub fn copy(&self, alloc: Global) -> Mem<LocalCause>
+        ensures { IfOk result (λ made. made ≡ self.now) }
+    {
+        match self {
+            LocalCause::StoredDealing { epoch, dealer } => Ok(LocalCause::StoredDealing {
+                epoch: *epoch,
+                dealer: *dealer,
+            }),
+            LocalCause::ShareRefused { epoch } => Ok(LocalCause::ShareRefused { epoch: *epoch }),
+            LocalCause::OwnDealing { epoch, kept, dealt } => Ok(LocalCause::OwnDealing {
+                epoch: *epoch,
+                kept: kept.copy(alloc)?,
+                dealt: dealt.copy(alloc)?,
+            }),
+            LocalCause::NoShare => Ok(LocalCause::NoShare),
+            LocalCause::OutcomeOmitted => Ok(LocalCause::OutcomeOmitted),
+        }
+    }
 }
 
 /// Why a node stops, in the order of the numbers, from 1.
@@ -125,6 +148,47 @@ impl Fault {
             Fault::LocalState(_) => 17,
             Fault::FinalBlockMissing => 18,
             Fault::FloorBlockMissing => 19,
+        }
+    }
+}
+
+impl Fault {
+    /// A copy, for the transcript.
+    pub fn copy(&self, alloc: Global) -> Mem<Fault>
+        ensures { IfOk result (λ made. made ≡ self.now) }
+    {
+        match self {
+            Fault::NoMemory => Ok(Fault::NoMemory),
+            Fault::Disk => Ok(Fault::Disk),
+            Fault::Secrets => Ok(Fault::Secrets),
+            Fault::Corrupt { name, place } => Ok(Fault::Corrupt {
+                name: *name,
+                place: *place,
+            }),
+            Fault::InvalidConfig(cause) => Ok(Fault::InvalidConfig(*cause)),
+            Fault::StateSyncEpochs { info, floor } => Ok(Fault::StateSyncEpochs {
+                info: *info,
+                floor: *floor,
+            }),
+            Fault::StateSyncMaterial => Ok(Fault::StateSyncMaterial),
+            Fault::ConflictingBlock { height } => Ok(Fault::ConflictingBlock { height: *height }),
+            Fault::DetachedBlock { height } => Ok(Fault::DetachedBlock { height: *height }),
+            Fault::SkippedHeight { awaited, got } => Ok(Fault::SkippedHeight {
+                awaited: *awaited,
+                got: *got,
+            }),
+            Fault::OutOfWindow { height } => Ok(Fault::OutOfWindow { height: *height }),
+            Fault::HeightRange => Ok(Fault::HeightRange),
+            Fault::MissingEpochInfo { height } => Ok(Fault::MissingEpochInfo { height: *height }),
+            Fault::WrongEpoch { expected, got } => Ok(Fault::WrongEpoch {
+                expected: *expected,
+                got: *got,
+            }),
+            Fault::InvalidParticipants(cause) => Ok(Fault::InvalidParticipants(*cause)),
+            Fault::DirectoryMismatch { epoch } => Ok(Fault::DirectoryMismatch { epoch: *epoch }),
+            Fault::LocalState(cause) => Ok(Fault::LocalState(cause.copy(alloc)?)),
+            Fault::FinalBlockMissing => Ok(Fault::FinalBlockMissing),
+            Fault::FloorBlockMissing => Ok(Fault::FloorBlockMissing),
         }
     }
 }
