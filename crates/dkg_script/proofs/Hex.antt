@@ -3,7 +3,7 @@ use Rattle.std.proofs.Common.{◌≡◌, ℕ, zero, suc, ◌+◌, ◌-◌, ◌*�
 use Rattle.std.specs.Prelude.{IfOk, IfSome, MatchOption, IsErr, All, if◌then◌else◌}
 use Rattle.std.specs.Result.{result_unwrap_or}
 use Rattle.std.proofs.lemmas.Bool.{and_parts, cases_lt, eqb-true}
-use Rattle.std.proofs.lemmas.List.{take_more}
+use Rattle.std.proofs.lemmas.List.{append_assoc, take_more}
 use Rattle.std.proofs.lemmas.List.Elements.{All-cons, All-head, All-nil, All-tail}
 use Rattle.hex.specs.Hex.{decode_of, decode_pairs, digit_or_error, hex_digit_value, encode_lower, encode_with, lower_digits, pair_value, value_at, ◌>>=◌, IsBytes}
 use Rattle.hex.specs.declared.error.FromHexError.{FromHexError}
@@ -141,7 +141,13 @@ encode-append [] ys = refl
 encode-append (x ∷ xs) ys = rw (encode-append xs ys) refl
 
 -- one byte more
-pub encode_more : (xs : List ℕ) (i : ℕ) → i < length xs → encode_lower (take (i + 1) xs) ≡ encode_lower (take i xs) ++ slice_index lower_digits (slice_index xs i / 16) ∷ slice_index lower_digits (slice_index xs i % 16) ∷ []
+encode_more : (xs : List ℕ) (i : ℕ) → i < length xs → encode_lower (take (i + 1) xs) ≡ encode_lower (take i xs) ++ slice_index lower_digits (slice_index xs i / 16) ∷ slice_index lower_digits (slice_index xs i % 16) ∷ []
 unfolding encode_with
 encode_more xs i below =
     rw (take_more xs i 0 below) (encode-append (take i xs) (slice_index xs i ∷ []))
+
+-- one byte more, after what was there
+pub written_more : (before xs now after : List ℕ) (i : ℕ) → i < length xs → now ≡ before ++ encode_lower (take i xs) → after ≡ now ++ slice_index lower_digits (slice_index xs i / 16) ∷ slice_index lower_digits (slice_index xs i % 16) ∷ [] → after ≡ before ++ encode_lower (take (i + 1) xs)
+written_more before xs now after i below so_far pair =
+    let more = encode_more xs i below in
+    pair ∙ (rw (so_far, more, append_assoc) refl)

@@ -2,12 +2,19 @@
 #![tactic(auto)]
 
 mod error;
+mod fault;
 mod fields;
 mod lines;
+mod print;
 mod read;
 mod script;
+#[cfg(test)]
+mod tests;
+mod text;
+mod words;
 
 pub use error::ScriptError;
+pub use print::print_of;
 pub use script::{
     Anchor, BlockLine, BlockLines, Cut, Event, Events, Indexes, Life, Lives, PlayerLine,
     PlayerLines, ProbeLine, Script, ScriptConfig, SyncLine,
