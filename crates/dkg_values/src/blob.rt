@@ -21,12 +21,14 @@ impl Model for Blob {
 }
 
 impl Blob {
+    /// Takes the bytes as they are.
     pub fn new(bytes: Vec<u8>) -> Blob
         ensures { result ≡ bytes.items }
     {
         Blob { bytes }
     }
 
+    /// The bytes.
     pub fn as_slice(&self) -> &[u8]
         ensures { result.now ≡ self.now }
     {
@@ -34,6 +36,7 @@ impl Blob {
     }
 }
 
+/// Whether both are the same bytes.
 fn is_same(one: &[u8], other: &[u8]) -> bool
     ensures { IsTrue result ↔ (one.now ≡ other.now) }
 {

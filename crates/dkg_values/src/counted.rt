@@ -1,3 +1,4 @@
+//! Readers of counts, of fixed-width numbers and of many things in a row, for the codecs of sets, maps and lists.
 ghost use Rattle.std.specs.Prelude.{◌≡◌, ℕ, ◌-◌, ◌<◌, ◌≤◌, ◌^◌, ◌++◌, List, length, IfOk, OnOk, IsErrOf};
 ghost use Rattle.std.specs.List.Sorted.{IsStrictlyIncreasing};
 ghost use Rattle.std.specs.Int.{w16, w32, to_be_bytes};
@@ -10,7 +11,7 @@ use crate::numbers::Key;
 use crate::uint::read_u32;
 use std::alloc::Global;
 
-/// A count within its range.
+/// A count within its range, as base 128. Past it `InvalidLength` names the count and `most`, below `least` too.
 pub fn read_count(input: &mut Reader<'_>, least: u32, most: u32) -> Result<u32, CodecError>
     ensures exact { Reads (count_at least most input.old) result input.new }
     ensures sure { IsErrOf result CodecError.NoMemory → ⊥ }
@@ -25,6 +26,7 @@ pub fn read_count(input: &mut Reader<'_>, least: u32, most: u32) -> Result<u32, 
     Ok(count)
 }
 
+/// A number of four bytes, the high byte first.
 pub fn read_be32(input: &mut Reader<'_>) -> Result<u32, CodecError>
     ensures exact { Reads (number_at w32 input.old) result input.new }
     ensures sure { IsErrOf result CodecError.NoMemory → ⊥ }
@@ -33,6 +35,7 @@ pub fn read_be32(input: &mut Reader<'_>) -> Result<u32, CodecError>
     Ok(u32::from_be_bytes([piece[0], piece[1], piece[2], piece[3]]))
 }
 
+/// A number of two bytes, the high byte first.
 pub fn read_be16(input: &mut Reader<'_>) -> Result<u16, CodecError>
     ensures exact { Reads (number_at w16 input.old) result input.new }
     ensures sure { IsErrOf result CodecError.NoMemory → ⊥ }
@@ -41,7 +44,7 @@ pub fn read_be16(input: &mut Reader<'_>) -> Result<u16, CodecError>
     Ok(u16::from_be_bytes([piece[0], piece[1]]))
 }
 
-/// Keys that rise.
+/// So many keys that rise. The first that doesn't is `Invalid(Set)`, whatever follows.
 pub fn read_keys(alloc: Global, input: &mut Reader<'_>, count: u32) -> Result<Vec<Key>, CodecError>
     ensures exact { ReadsBy (λ keys. keys.items) (keys_at count 0 input.old) result input.new }
     ensures rising { IfOk result (λ keys. (length keys.items ≡ count) × IsStrictlyIncreasing keys.items) }
@@ -59,7 +62,7 @@ pub fn read_keys(alloc: Global, input: &mut Reader<'_>, count: u32) -> Result<Ve
     Ok(keys)
 }
 
-/// Things one after another.
+/// So many things, one after another.
 pub fn read_many<T: Read + Drop>(
     alloc: Global,
     input: &mut Reader<'_>,

@@ -1,3 +1,4 @@
+//! Maps from keys to values: shares, acknowledgements, logs and addresses by participant.
 ghost use Rattle.std.specs.Prelude.{◌≡◌, ℕ, ◌<◌, ◌^◌, ◌↔◌, ◌==◌, List, length, vec_len, slice_index, IfOk, IsTrue, IsOk};
 ghost use Rattle.std.specs.Option.{option_copied};
 ghost use Rattle.std.specs.Iterator.{YieldsFirstBy, item_count};
@@ -17,7 +18,7 @@ use bytes::{BufMut, BytesMut};
 use std::alloc::Global;
 use std::marker::Model;
 
-/// Values under keys, the keys rising.
+/// Values under keys, the keys rising; contracts see the list of the pairs. Fewer than 2^32.
 #[derive(Debug, Drop)]
 pub struct Map<V> {
     pairs: Vec<(Key, V)>,
@@ -36,6 +37,7 @@ impl<V> Model for Map<V> {
     ghost invariant = { λ m. IsMap m.pairs.items };
 }
 
+/// Whether each key is below the next.
 #[tactic(auto, using(crate::proofs::Keys::key_at))]
 fn is_rising<V>(pairs: &[(Key, V)]) -> bool
     ensures { IsTrue result ↔ IsStrictlyIncreasing (keys_of pairs.now) }
@@ -71,6 +73,7 @@ impl<V: Drop> Map<V> {
         Ok(Map { pairs })
     }
 
+    /// The pairs as they are, whose keys must rise.
     pub fn from_sorted(pairs: Vec<(Key, V)>) -> Result<Map<V>, NotRising>
         requires { vec_len pairs < 2 ^ 32 }
         ensures ok { IfOk result (λ map. map ≡ pairs.items) }
@@ -103,6 +106,7 @@ impl<V> Map<V> {
         self.pairs.len() as u32
     }
 
+    /// Whether there is none.
     pub fn is_empty(&self) -> bool
         ensures { result ≡ (length self.now == 0) }
     {
@@ -124,6 +128,7 @@ impl<V> Map<V> {
         MapIter { rest: &self.pairs }
     }
 
+    /// Whether the keys are just these.
     #[tactic(auto, using(crate::proofs::Keys::key_at))]
     pub fn has_keys(&self, keys: &Set) -> bool
         ensures { IsTrue result ↔ (keys_of self.now ≡ keys.now) }
@@ -144,8 +149,11 @@ impl<V> Map<V> {
 /// How many keys a map may have, and how its values are read.
 #[derive(Clone, Copy, Debug, PartialEq, Eq)]
 pub struct MapCfg<C> {
+    /// The fewest keys.
     pub least: u32,
+    /// The most keys.
     pub most: u32,
+    /// The limits of each value.
     pub value: C,
 }
 

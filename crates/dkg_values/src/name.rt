@@ -1,4 +1,4 @@
-//! The names of a disk's files.
+//! The names of a disk's files, by which journals and records call them.
 
 /// A file of a node's disk.
 #[derive(Clone, Copy, Debug, PartialEq, Eq)]

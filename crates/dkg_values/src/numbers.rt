@@ -1,10 +1,10 @@
 //! The numbers that name keys, epochs and heights, and the elements of the ceremony's field.
 //!
 //! Contracts see each as its number. Sets, maps, rounds and blocks are made of these.
-ghost use Rattle.std.specs.Prelude.{◌≡◌, ℕ, ◌-◌, ◌<◌, ◌^◌, ◌↔◌, IsSome, IfSome, IsErrOf};
+ghost use Rattle.std.specs.Prelude.{◌≡◌, ℕ, ◌-◌, ◌<◌, ◌≤◌, ◌^◌, ◌↔◌, length, IsSome, IfSome, IsErrOf};
 ghost use Rattle.std.specs.Int.{w16, w32};
 ghost use Rattle.dkg_values.specs.Codec.{Reads, number_at};
-ghost use Rattle.dkg_values.specs.Uint.{uint_at};
+ghost use Rattle.dkg_values.specs.Uint.{uint, uint_at};
 ghost use Rattle.dkg_values.specs.Lists.{element_at};
 
 use crate::codec::{CodecError, EncodeSize, Read, Reader, Spelled, What, Write};
@@ -15,7 +15,7 @@ use bytes::{BufMut, BytesMut};
 use std::alloc::Global;
 use std::marker::Model;
 
-/// A participant's public key.
+/// A participant's public key, by which all sets and maps are ordered.
 #[derive(Clone, Copy, Debug, PartialEq, Eq, PartialOrd, Ord, Hash)]
 pub struct Key(pub u32);
 
@@ -28,6 +28,7 @@ impl Model for Key {
 }
 
 impl Key {
+    /// The key as a number.
     pub fn number(&self) -> u32
         ensures { result ≡ self.now }
     {
@@ -59,7 +60,7 @@ impl Model for Height {
     ghost inverse = { λ n. record { 0 = n } };
 }
 
-/// A number below 65,521.
+/// An element of the ceremony's field: a number below the prime 65,521.
 #[derive(Clone, Copy, Debug, PartialEq, Eq)]
 pub struct Element(u16);
 
@@ -76,6 +77,7 @@ impl Model for Element {
 }
 
 impl Element {
+    /// The number as an element, where it is one.
     pub fn new(value: u16) -> Option<Element>
         ensures below { IsSome result ↔ (value < 65521) }
         ensures same { IfSome result (λ e. e ≡ value) }
@@ -87,6 +89,7 @@ impl Element {
         }
     }
 
+    /// The element as a number.
     pub fn get(&self) -> u16
         ensures same { result ≡ self.now }
         ensures below { result < 65521 }
@@ -142,7 +145,10 @@ impl Spelled for Epoch {
 }
 
 impl EncodeSize for Epoch {
-    fn encode_size(&self) -> usize {
+    fn encode_size(&self) -> usize
+        ensures size { result ≡ length (uint self.now) }
+        ensures bound { result ≤ 10 }
+    {
         uint_size(self.0)
     }
 }
@@ -181,7 +187,10 @@ impl Spelled for Height {
 }
 
 impl EncodeSize for Height {
-    fn encode_size(&self) -> usize {
+    fn encode_size(&self) -> usize
+        ensures size { result ≡ length (uint self.now) }
+        ensures bound { result ≤ 10 }
+    {
         uint_size(self.0)
     }
 }

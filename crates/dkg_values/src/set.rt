@@ -1,3 +1,4 @@
+//! Sets of participants: dealers, players and peers, in rising order of their keys.
 ghost use Rattle.std.specs.Prelude.{◌≡◌, ℕ, ◌+◌, ◌<◌, ◌≤◌, ◌^◌, ◌++◌, ◌↔◌, ◌⊎◌, ◌==◌, List, length, vec_len, slice_index, Contains, IfOk, IfSome, IsTrue, IsErr, IsOk, is_some};
 ghost use Rattle.std.specs.Iterator.{YieldsFirst, item_count};
 ghost use Rattle.std.specs.List.Sorted.{IsStrictlyIncreasing};
@@ -15,12 +16,12 @@ use std::alloc::Global;
 use std::marker::Model;
 use thiserror::Error;
 
-/// Two neighbours don't rise.
+/// Two neighbours don't rise, so the list is no set or no map.
 #[derive(Clone, Copy, Debug, PartialEq, Eq, Error)]
 #[error("the keys don't rise")]
 pub struct NotRising;
 
-/// Keys, rising.
+/// Keys, rising, each once; contracts see the list. Fewer than 2^32.
 #[derive(Debug, Drop)]
 pub struct Set {
     keys: Vec<Key>,
@@ -38,6 +39,7 @@ impl Model for Set {
     ghost invariant = { λ s. IsSet s.keys.items };
 }
 
+/// Whether each key is below the next.
 fn is_rising(keys: &[Key]) -> bool
     ensures { IsTrue result ↔ IsStrictlyIncreasing keys.now }
 {
@@ -118,6 +120,7 @@ impl Set {
         }
     }
 
+    /// Whether the key is there.
     #[tactic(auto, using(crate::specs::Places::has_place))]
     pub fn has(&self, key: Key) -> bool
         ensures place { result ≡ is_some (place_of key self.now) }
@@ -126,18 +129,21 @@ impl Set {
         self.position(key).is_some()
     }
 
+    /// How many keys there are.
     pub fn len(&self) -> u32
         ensures { result ≡ length self.now }
     {
         self.keys.len() as u32
     }
 
+    /// Whether there is none.
     pub fn is_empty(&self) -> bool
         ensures { result ≡ (length self.now == 0) }
     {
         self.keys.is_empty()
     }
 
+    /// The keys, rising.
     pub fn as_slice(&self) -> &[Key]
         ensures items { result.now ≡ self.now }
         ensures kept { IsSet self.now }
@@ -145,6 +151,7 @@ impl Set {
         &self.keys
     }
 
+    /// Each key, rising.
     pub fn iter(&self) -> SetIter<'_>
         ensures { result ≡ self.now }
     {

@@ -1,3 +1,7 @@
+//! Numbers in base 128, the low group first, of least length, as counts, epochs and heights are spelled.
+//!
+//! A group is a byte whose high bit says that more follow. The last of several groups is not zero, so a number has one
+//! spelling. A group that would take the number past its width is refused where it stands, whatever follows.
 ghost use Rattle.std.specs.Prelude.{◌≡◌, ℕ, ◌-◌, ◌*◌, ◌<◌, ◌≤◌, ◌^◌, ◌++◌, ◌+◌, length, IfOk, OnOk, OnErr, Err, IsErrOf};
 ghost use Rattle.dkg_values.specs.Codec.{Reads, StandsInFront};
 ghost use Rattle.dkg_values.specs.Uint.{groups, uint, groups_at, uint_at, IsMost};
@@ -29,6 +33,7 @@ fn read_groups(input: &mut Reader<'_>, least: u8, most: u64) -> Result<u64, Code
     Ok(u64::from(byte - 128) + 128 * high)
 }
 
+/// A number below 2^64, of at most ten groups.
 pub fn read_u64(input: &mut Reader<'_>) -> Result<u64, CodecError>
     ensures exact { Reads (uint_at (2 ^ 64 - 1) input.old) result input.new }
     ensures sure { IsErrOf result CodecError.NoMemory → ⊥ }
@@ -36,6 +41,7 @@ pub fn read_u64(input: &mut Reader<'_>) -> Result<u64, CodecError>
     read_groups(input, 0, u64::MAX)
 }
 
+/// A number below 2^32, of at most five groups.
 pub fn read_u32(input: &mut Reader<'_>) -> Result<u32, CodecError>
     ensures exact { Reads (uint_at (2 ^ 32 - 1) input.old) result input.new }
     ensures sure { IsErrOf result CodecError.NoMemory → ⊥ }
@@ -44,6 +50,7 @@ pub fn read_u32(input: &mut Reader<'_>) -> Result<u32, CodecError>
     Ok(n as u32)
 }
 
+/// The groups of a number, low first.
 #[tactic(auto, unfolding(crate::specs::Uint::groups))]
 fn write_groups(out: &mut BytesMut, n: u64) -> Mem<()>
     ensures ok { OnOk result ((more : ℕ) → n < 128 * 128 ^ more → out.new.items ≡ out.old.items ++ groups more n) }
@@ -57,6 +64,7 @@ fn write_groups(out: &mut BytesMut, n: u64) -> Mem<()>
     write_groups(out, n / 128)
 }
 
+/// Writes a number at the end; on an error a part of it may be there.
 pub fn write_uint(out: &mut BytesMut, n: u64) -> Mem<()>
     ensures ok { OnOk result (out.new.items ≡ out.old.items ++ uint n) }
     ensures err { OnErr result (StandsInFront out.old.items out.new.items) }
@@ -64,7 +72,7 @@ pub fn write_uint(out: &mut BytesMut, n: u64) -> Mem<()>
     write_groups(out, n)
 }
 
-/// How many bytes a number takes.
+/// How many groups a number takes.
 #[tactic(auto, unfolding(crate::specs::Uint::groups))]
 fn groups_size(n: u64) -> usize
     ensures size { (more : ℕ) → n < 128 * 128 ^ more → result ≡ length (groups more n) }
@@ -73,6 +81,7 @@ fn groups_size(n: u64) -> usize
     if n < 128 { 1 } else { 1 + groups_size(n / 128) }
 }
 
+/// How many bytes a number takes, at most ten.
 #[tactic(auto, using(crate::specs::UintGrammar::uint_short))]
 pub fn uint_size(n: u64) -> usize
     ensures size { result ≡ length (uint n) }
