@@ -12,6 +12,8 @@ mod memory;
 mod name;
 mod numbers;
 mod set;
+#[cfg(test)]
+mod tests;
 mod uint;
 mod value;
 

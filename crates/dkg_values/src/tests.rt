@@ -1,0 +1,190 @@
+use crate::*;
+use bytes::BytesMut;
+use std::alloc::Global;
+use std::test::Fail;
+
+#[test]
+fn numbers_are_of_least_length(rt: HostRuntime) -> Result<(), Fail> {
+    let rows: [(&[u8], Result<Epoch, CodecError>); 9] = [
+        (&[0], Ok(Epoch(0))),
+        (&[0x7f], Ok(Epoch(127))),
+        (&[0xac, 0x02], Ok(Epoch(300))),
+        (
+            &[0xff, 0xff, 0xff, 0xff, 0xff, 0xff, 0xff, 0xff, 0xff, 0x01],
+            Ok(Epoch(u64::MAX)),
+        ),
+        (&[0x80, 0x00], Err(CodecError::InvalidVarint)),
+        (
+            &[0xff, 0xff, 0xff, 0xff, 0xff, 0xff, 0xff, 0xff, 0xff, 0x02],
+            Err(CodecError::InvalidVarint),
+        ),
+        (
+            &[0x80, 0x80, 0x80, 0x80, 0x80, 0x80, 0x80, 0x80, 0x80, 0x80],
+            Err(CodecError::InvalidVarint),
+        ),
+        (&[0x80], Err(CodecError::EndOfBuffer)),
+        (&[0xac, 0x02, 0x00], Err(CodecError::ExtraData)),
+    ];
+    for (bytes, want) in rows {
+        assert_eq!(rt;
+            decode_cfg::<Epoch>(rt.alloc(), bytes, &()),
+            want,
+            "at {bytes:?}"
+        );
+    }
+    let wide = [0xff, 0xff, 0xff, 0xff, 0x10];
+    assert_eq!(rt;
+        read_u32(&mut Reader::new(&wide)),
+        Err(CodecError::InvalidVarint)
+    );
+    assert_eq!(rt; read_u64(&mut Reader::new(&wide)), Ok(0x1_0fff_ffff));
+    Ok(())
+}
+
+fn fault_of<T: Drop>(answer: Result<T, CodecError>) -> Option<CodecError> {
+    match answer {
+        Ok(_) => None,
+        Err(fault) => Some(fault),
+    }
+}
+
+#[test]
+fn sets_rise_within_their_limit(rt: HostRuntime) -> Result<(), Fail> {
+    let length = CodecError::InvalidLength { got: 3, max: 2 };
+    let rows: [(&[u8], Option<CodecError>); 8] = [
+        (&[0], None),
+        (&[2, 0, 0, 0, 1, 0xff, 0xff, 0xff, 0xff], None),
+        (
+            &[2, 0, 0, 0, 2, 0, 0, 0, 1],
+            Some(CodecError::Invalid(What::Set)),
+        ),
+        (
+            &[2, 0, 0, 0, 2, 0, 0, 0, 2],
+            Some(CodecError::Invalid(What::Set)),
+        ),
+        (&[3, 0, 0, 0, 1], Some(length)),
+        (&[0x80, 0x00], Some(CodecError::InvalidVarint)),
+        (&[1, 0, 0, 0], Some(CodecError::EndOfBuffer)),
+        (&[0, 0], Some(CodecError::ExtraData)),
+    ];
+    for (bytes, want) in rows {
+        let fault = fault_of(decode_cfg::<Set>(rt.alloc(), bytes, &2));
+        assert_eq!(rt; fault, want, "at {bytes:?}");
+    }
+    Ok(())
+}
+
+#[test]
+fn maps_count_twice(rt: HostRuntime) -> Result<(), Fail> {
+    let rows: [(&[u8], Option<CodecError>); 8] = [
+        (&[1, 0, 0, 0, 5, 1, 0xff, 0xf0], None),
+        (
+            &[1, 0, 0, 0, 5, 1, 0xff, 0xf1],
+            Some(CodecError::Invalid(What::Element)),
+        ),
+        (
+            &[1, 0, 0, 0, 5, 2],
+            Some(CodecError::InvalidLength { got: 2, max: 1 }),
+        ),
+        (&[0, 0], Some(CodecError::InvalidLength { got: 0, max: 2 })),
+        (&[3], Some(CodecError::InvalidLength { got: 3, max: 2 })),
+        (
+            &[2, 0, 0, 0, 5, 0, 0, 0, 5],
+            Some(CodecError::Invalid(What::Set)),
+        ),
+        (&[1, 0, 0, 0, 5, 1, 7], Some(CodecError::EndOfBuffer)),
+        (&[1, 0, 0, 0, 5, 1, 0, 7, 0], Some(CodecError::ExtraData)),
+    ];
+    let cfg = MapCfg {
+        least: 1,
+        most: 2,
+        value: (),
+    };
+    for (bytes, want) in rows {
+        let fault = fault_of(decode_cfg::<Map<Element>>(rt.alloc(), bytes, &cfg));
+        assert_eq!(rt; fault, want, "at {bytes:?}");
+    }
+    Ok(())
+}
+
+fn written<T: Write>(alloc: Global, value: &T) -> Mem<Vec<u8>> {
+    let mut out = BytesMut::new(alloc);
+    value.write(&mut out)?;
+    Ok(out.into_vec()?)
+}
+
+#[test]
+fn plain_values_have_their_bytes(rt: HostRuntime) -> Result<(), Fail> {
+    let alloc = rt.alloc();
+    assert_eq!(rt;
+        written(alloc, &Key(0x0102_0304))?.as_slice(),
+        [1, 2, 3, 4].as_slice()
+    );
+    assert_eq!(rt;
+        written(alloc, &Height(300))?.as_slice(),
+        [0xac, 0x02].as_slice()
+    );
+    assert_eq!(rt;
+        written(alloc, &Mark([7; 8]))?.as_slice(),
+        [7; 8].as_slice()
+    );
+    assert_eq!(rt;
+        written(alloc, &Digest([8; 32]))?.as_slice(),
+        [8; 32].as_slice()
+    );
+    assert_eq!(rt;
+        written(alloc, &Seed([9; 32]))?.as_slice(),
+        [9; 32].as_slice()
+    );
+    assert_eq!(rt; Element::new(65521), None);
+    let element = Element::new(65520).ok_or("65520 is an element")?;
+    assert_eq!(rt;
+        written(alloc, &element)?.as_slice(),
+        [0xff, 0xf0].as_slice()
+    );
+    assert_eq!(rt; round_trip(alloc, &Key(5), &()), Ok(Key(5)));
+    assert_eq!(rt; round_trip(alloc, &Height(9), &()), Ok(Height(9)));
+    assert_eq!(rt;
+        decode_cfg::<Mark>(alloc, &[1, 2, 3], &()),
+        Err(CodecError::EndOfBuffer)
+    );
+    assert_eq!(rt; read_byte(&mut Reader::new(&[6, 7])), Ok(6));
+    assert_eq!(rt; read_array::<2>(&mut Reader::new(&[6, 7, 8])), Ok([6, 7]));
+    Ok(())
+}
+
+#[test]
+fn sets_and_maps_of_any_list(rt: HostRuntime) -> Result<(), Fail> {
+    let alloc = rt.alloc();
+    let some = Set::from_any(alloc, &[Key(5), Key(1), Key(5)])?;
+    let more = Set::from_any(alloc, &[Key(3), Key(1)])?;
+    let all = [Key(1), Key(3), Key(5)];
+    assert_eq!(rt; some.union(alloc, &more)?.as_slice(), all.as_slice());
+    assert_eq!(rt; some.position(Key(5)), Some(1));
+    assert_eq!(rt; some.position(Key(4)), None);
+    assert!(rt; Set::from_sorted(all.to_vec(alloc)?).is_ok());
+    assert!(rt; Set::from_sorted([Key(2), Key(2)].to_vec(alloc)?).is_err());
+    assert!(rt; some.copy(alloc)?.same(&some));
+    assert_eq!(rt;
+        encode(alloc, &more)?.as_slice(),
+        [2, 0, 0, 0, 1, 0, 0, 0, 3].as_slice()
+    );
+
+    let pairs = [
+        (Key(5), Height(1)),
+        (Key(1), Height(2)),
+        (Key(5), Height(3)),
+    ];
+    let heights = Map::from_any(alloc, pairs.to_vec(alloc)?)?;
+    assert_eq!(rt; heights.len(), 2);
+    assert_eq!(rt; heights.get(Key(5)), Some(&Height(1)));
+    assert_eq!(rt; heights.get(Key(4)), None);
+    assert!(rt; heights.has_keys(&some));
+    assert!(rt; !heights.has_keys(&more));
+    assert!(rt; heights.copy(alloc)?.same(&heights));
+    let mut bytes = BytesMut::new(alloc);
+    heights.write(&mut bytes)?;
+    let want = [2, 0, 0, 0, 1, 0, 0, 0, 5, 2, 2, 1];
+    assert_eq!(rt; bytes.as_slice(), want.as_slice());
+    Ok(())
+}
