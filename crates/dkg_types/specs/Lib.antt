@@ -1,6 +1,9 @@
 pub mod Faults
+pub mod InfoCodes
+pub mod MessageCodes
 pub mod OutcomeCodes
 pub mod ParticipantsCodes
+pub mod PayloadCodes
 pub mod Schemes
 pub mod Told
 pub mod Units

@@ -1,11 +1,20 @@
 //! The public description of an epoch. Genesis and the last block of each epoch carry one.
-ghost use Rattle.std.specs.Prelude.{◌≡◌, IfOk};
+ghost use Rattle.std.specs.Prelude.{◌≡◌, ◌+◌, ◌*◌, ◌^◌, ◌≤◌, ◌++◌, length, IfOk, OnOk, OnErr};
+ghost use Rattle.std.specs.Int.NonZero.{non_zero_u32_get};
+ghost use Rattle.dkg_values.specs.Rising.{set_of};
+ghost use Rattle.dkg_values.specs.Codec.{Reads, StandsInFront};
+ghost use Rattle.dkg_types.specs.InfoCodes.{held_at, info_spelling, parts_at, parts_text, peers_of as peers_from};
 
 use crate::directory::Directory;
 use crate::outcome::EpochOutcome;
 use crate::participants::Participants;
-use dkg_ceremony::{Epoch, Mem, Output, Set, Value};
+use bytes::BytesMut;
+use dkg_ceremony::{
+    CodecError, EncodeSize, Epoch, Mem, ModeVersion, NoMemory, Output, Read, Reader, Set, Spelled,
+    Value, What, Write, uint_size,
+};
 use std::alloc::Global;
+use std::num::NonZeroU32;
 
 /// The public description of an epoch: its output, the participants that the output does not name, and how they are
 /// reached.
@@ -59,5 +68,161 @@ impl<Dir: Directory + Drop> Value for EpochInfo<Dir> {
             && self.players.same(&other.players)
             && self.next_players.same(&other.next_players)
             && self.directory.same(&other.directory)
+    }
+}
+
+/// The union of two sets. One of 2^32 keys or more is answered by want of memory.
+fn union_of(alloc: Global, one: &Set, other: &Set) -> Mem<Set>
+    ensures { IfOk result (λ set. set ≡ set_of (one.now ++ other.now)) }
+{
+    match one.len().checked_add(other.len()) {
+        Some(_) => one.union(alloc, other),
+        None => Err(NoMemory),
+    }
+}
+
+/// The peers of an epoch: those who hold the key, the players and the next players.
+fn peers_of(alloc: Global, holders: &Set, players: &Set, next_players: &Set) -> Mem<Set>
+    ensures { IfOk result (λ set. set ≡ peers_from holders.now players.now next_players.now) }
+{
+    let both = union_of(alloc, holders, players)?;
+    union_of(alloc, &both, next_players)
+}
+
+/// All of an info but the directory.
+fn put_parts<Dir>(info: &EpochInfo<Dir>, out: &mut BytesMut) -> Mem<()>
+    ensures ok { OnOk result (out.new.items ≡ out.old.items ++ parts_text info.now) }
+    ensures err { OnErr result (StandsInFront out.old.items out.new.items) }
+{
+    info.outcome.put(out)?;
+    info.epoch.put(out)?;
+    info.output.put(out)?;
+    info.players.put(out)?;
+    info.next_players.put(out)?;
+    Ok(())
+}
+
+#[tactic(auto, unfolding(crate::specs::InfoCodes::held_at))]
+fn read_output(
+    alloc: Global,
+    input: &mut Reader<'_>,
+    limits: &(u32, ModeVersion),
+) -> Result<Output, CodecError>
+    ensures { Reads (held_at limits.now.0 limits.now.1.0 input.old) result input.new }
+{
+    Output::read_cfg(alloc, input, limits)
+}
+
+/// What stands before the directory: outcome, epoch, output, players and next players.
+type Parts = (EpochOutcome, (Epoch, (Output, (Set, Set))));
+
+#[tactic(auto, unfolding(crate::specs::InfoCodes::parts_at))]
+fn read_parts(
+    alloc: Global,
+    input: &mut Reader<'_>,
+    limits: &(u32, ModeVersion),
+) -> Result<Parts, CodecError>
+    ensures { Reads (parts_at limits.now.0 limits.now.1.0 input.old) result input.new }
+{
+    let outcome = EpochOutcome::read_cfg(alloc, input, &())?;
+    let epoch = Epoch::read_cfg(alloc, input, &())?;
+    let output = read_output(alloc, input, limits)?;
+    let players = Set::read_cfg(alloc, input, &limits.0)?;
+    let next_players = Set::read_cfg(alloc, input, &limits.0)?;
+    Ok((outcome, (epoch, (output, (players, next_players)))))
+}
+
+/// How many bytes a directory takes.
+fn size_of_directory<Dir: Directory>(directory: &Dir) -> usize
+    requires { Dir.can_size directory.now }
+    ensures size { result ≡ length (Dir.spelling directory.now) }
+    ensures bound { result ≤ 2 ^ 61 }
+{
+    directory.encode_size()
+}
+
+impl<Dir: Directory> EpochInfo<Dir> {
+    /// A bound, in bytes, of the encoding of an info whose sets each have at most `max` keys.
+    pub fn max_encode_size(max: NonZeroU32) -> usize
+        ensures bound { result ≡ 55 + 22 * non_zero_u32_get max + Dir.bound_of (3 * non_zero_u32_get max) }
+        ensures small { result ≤ 2 ^ 62 }
+    {
+        let most = max.get() as usize;
+        55 + 22 * most + Dir::max_encode_size(3 * most)
+    }
+}
+
+impl<Dir: Directory> Spelled for EpochInfo<Dir> {
+    ghost use Rattle.dkg_types.specs.InfoCodes.{info_spelling};
+
+    ghost spelling = { info_spelling Dir.spelling };
+}
+
+impl<Dir: Directory> EncodeSize for EpochInfo<Dir> {
+    ghost use Rattle.std.specs.Prelude.{◌≡◌, ◌^◌, ◌≤◌, length};
+    ghost use Rattle.dkg_types.specs.InfoCodes.{info_spelling};
+
+    ghost can_size = { λ i. Dir.can_size i.directory };
+
+    fn encode_size(&self) -> usize
+        requires { Dir.can_size self.now.directory }
+        ensures size { result ≡ length (info_spelling Dir.spelling self.now) }
+        ensures bound { result ≤ 2 ^ 62 }
+    {
+        1 + uint_size(self.epoch.0)
+            + self.output.encode_size()
+            + self.players.encode_size()
+            + self.next_players.encode_size()
+            + size_of_directory(&self.directory)
+    }
+}
+
+impl<Dir: Directory> Write for EpochInfo<Dir> {
+    fn put(&self, out: &mut BytesMut) -> Mem<()> {
+        put_parts(self, out)?;
+        self.directory.put(out)?;
+        Ok(())
+    }
+}
+
+impl<Dir: Directory + Drop> Read for EpochInfo<Dir>
+where
+    Dir::Cfg: Drop,
+{
+    /// How many keys a set may have, and the newest mode that a sharing may have.
+    type Cfg = (NonZeroU32, ModeVersion);
+
+    ghost use Rattle.std.specs.Int.NonZero.{non_zero_u32_get};
+    ghost use Rattle.dkg_types.specs.InfoCodes.{info_at, InfoFits, info_grammar};
+
+    ghost fits = { λ cfg. InfoFits (λ peers. Dir.fits (Dir.config_of peers)) Dir.matches_of (non_zero_u32_get cfg.0) cfg.1.0 };
+
+    ghost read_of = { λ cfg. info_at (λ peers. Dir.read_of (Dir.config_of peers)) Dir.matches_of (non_zero_u32_get cfg.0) cfg.1.0 };
+
+    ghost grammar = { λ cfg. info_grammar (λ peers. Dir.fits (Dir.config_of peers)) Dir.spelling (λ peers. Dir.read_of (Dir.config_of peers)) Dir.matches_of (λ peers. Dir.grammar (Dir.config_of peers)) (non_zero_u32_get cfg.0) cfg.1.0 };
+
+    fn read_cfg(
+        alloc: Global,
+        input: &mut Reader<'_>,
+        cfg: &(NonZeroU32, ModeVersion),
+    ) -> Result<EpochInfo<Dir>, CodecError> {
+        let limits = (cfg.0.get(), cfg.1);
+        let (outcome, (epoch, (output, (players, next_players)))) = read_parts(
+            alloc, input, &limits,
+        )?;
+        let peers = peers_of(alloc, &output.players, &players, &next_players)?;
+        let config = Dir::codec_config(&peers);
+        let directory = Dir::read_cfg(alloc, input, &config)?;
+        if !directory.matches(&peers) {
+            return Err(CodecError::Invalid(What::Directory));
+        }
+        Ok(EpochInfo {
+            outcome,
+            epoch,
+            output,
+            players,
+            next_players,
+            directory,
+        })
     }
 }

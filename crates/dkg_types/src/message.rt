@@ -1,8 +1,12 @@
 //! What participants send each other on the ceremony's channel.
-ghost use Rattle.std.specs.Prelude.{◌≡◌, ◌+◌, ◌*◌};
+ghost use Rattle.std.specs.Prelude.{◌≡◌, ◌+◌, ◌*◌, length};
 ghost use Rattle.std.specs.Int.NonZero.{non_zero_u32_get};
 
-use dkg_ceremony::{Ack, Mem, Private, Public, Value};
+use bytes::{BufMut, BytesMut};
+use dkg_ceremony::{
+    Ack, CodecError, EncodeSize, Mem, Private, Public, Read, Reader, Spelled, Value, Write,
+    read_byte,
+};
 use std::alloc::Global;
 use std::num::NonZeroU32;
 
@@ -48,6 +52,76 @@ impl Value for Message {
             }
             (Message::Ack(one), Message::Ack(two)) => *one == *two,
             _ => false,
+        }
+    }
+}
+
+/// How many bytes an acknowledgement takes.
+fn size_of_ack(ack: &Ack) -> usize
+    ensures size { result ≡ length ack.now }
+    ensures bound { result ≡ 8 }
+{
+    let mark = &ack.0;
+    let bytes = &mark.0;
+    bytes.len()
+}
+
+impl Spelled for Message {
+    ghost use Rattle.dkg_types.specs.MessageCodes.{message_spelling};
+
+    ghost spelling = { message_spelling };
+}
+
+impl EncodeSize for Message {
+    fn encode_size(&self) -> usize {
+        match self {
+            Message::Dealer(public, private) => 1 + public.encode_size() + private.encode_size(),
+            Message::Ack(ack) => 1 + size_of_ack(ack),
+        }
+    }
+}
+
+impl Write for Message {
+    fn put(&self, out: &mut BytesMut) -> Mem<()> {
+        match self {
+            Message::Dealer(public, private) => {
+                out.put_u8(0)?;
+                public.put(out)?;
+                private.put(out)
+            }
+            Message::Ack(ack) => {
+                out.put_u8(1)?;
+                ack.put(out)
+            }
+        }
+    }
+}
+
+impl Read for Message {
+    /// How many coefficients a public half may have.
+    type Cfg = u32;
+
+    ghost use Rattle.dkg_types.specs.MessageCodes.{MessageFits, message_at, message_grammar};
+
+    ghost fits = { MessageFits };
+
+    ghost read_of = { message_at };
+
+    ghost grammar = { message_grammar };
+
+    #[tactic(auto, unfolding(crate::specs::MessageCodes::message_after))]
+    fn read_cfg(alloc: Global, input: &mut Reader<'_>, cfg: &u32) -> Result<Message, CodecError> {
+        match read_byte(input)? {
+            0 => {
+                let public = Public::read_cfg(alloc, input, cfg)?;
+                let private = Private::read_cfg(alloc, input, &())?;
+                Ok(Message::Dealer(public, private))
+            }
+            1 => {
+                let ack = Ack::read_cfg(alloc, input, &())?;
+                Ok(Message::Ack(ack))
+            }
+            other => Err(CodecError::InvalidEnum(other)),
         }
     }
 }

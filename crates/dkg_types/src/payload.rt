@@ -1,9 +1,18 @@
 //! What a block may carry for the ceremony.
 
+ghost use Rattle.std.specs.Prelude.{◌≡◌, ◌+◌, ◌*◌, ◌^◌, ◌≤◌, length};
+ghost use Rattle.std.specs.Int.NonZero.{non_zero_u32_get};
+ghost use Rattle.dkg_values.specs.Codec.{Reads};
+ghost use Rattle.dkg_types.specs.PayloadCodes.{carried_at, payload_spelling, CanSize};
+
 use crate::directory::Directory;
 use crate::info::EpochInfo;
-use dkg_ceremony::{Mem, Value};
+use bytes::{BufMut, BytesMut};
+use dkg_ceremony::{
+    CodecError, EncodeSize, Mem, ModeVersion, Read, Reader, Spelled, Value, Write, read_byte,
+};
 use std::alloc::Global;
+use std::num::NonZeroU32;
 
 /// What a block carries for the ceremony.
 #[derive(Drop)]
@@ -22,6 +31,95 @@ impl<Dir: Directory + Drop> Value for Payload<Dir> {
     fn same(&self, other: &Payload<Dir>) -> bool {
         match (self, other) {
             (Payload::EpochInfo(one), Payload::EpochInfo(two)) => one.same(two),
+        }
+    }
+}
+
+#[tactic(auto, unfolding(crate::specs::PayloadCodes::carried_at))]
+fn read_info<Dir: Directory + Drop>(
+    alloc: Global,
+    input: &mut Reader<'_>,
+    cfg: &(NonZeroU32, ModeVersion),
+) -> Result<EpochInfo<Dir>, CodecError>
+where
+    Dir::Cfg: Drop,
+    ensures { Reads (carried_at (λ peers. Dir.read_of (Dir.config_of peers)) Dir.matches_of (non_zero_u32_get cfg.now.0) cfg.now.1.0 input.old) result input.new }
+{
+    EpochInfo::read_cfg(alloc, input, cfg)
+}
+
+impl<Dir: Directory> Payload<Dir> {
+    /// A bound, in bytes, of the encoding of a payload among at most `max` participants.
+    pub fn max_encode_size(max: NonZeroU32) -> usize
+        ensures bound { result ≡ 56 + 22 * non_zero_u32_get max + Dir.bound_of (3 * non_zero_u32_get max) }
+        ensures small { result ≤ 2 ^ 62 + 1 }
+    {
+        1 + EpochInfo::<Dir>::max_encode_size(max)
+    }
+}
+
+impl<Dir: Directory> Spelled for Payload<Dir> {
+    ghost use Rattle.dkg_types.specs.PayloadCodes.{payload_spelling};
+
+    ghost spelling = { payload_spelling Dir.spelling };
+}
+
+impl<Dir: Directory> EncodeSize for Payload<Dir> {
+    ghost use Rattle.dkg_types.specs.PayloadCodes.{CanSize};
+
+    ghost can_size = { CanSize Dir.can_size };
+
+    fn encode_size(&self) -> usize
+        requires { CanSize Dir.can_size self.now }
+        ensures size { result ≡ length (payload_spelling Dir.spelling self.now) }
+        ensures bound { result ≤ 2 ^ 62 + 1 }
+    {
+        match self {
+            Payload::EpochInfo(info) => 1 + info.encode_size(),
+        }
+    }
+}
+
+impl<Dir: Directory> Write for Payload<Dir> {
+    fn put(&self, out: &mut BytesMut) -> Mem<()> {
+        match self {
+            Payload::EpochInfo(info) => {
+                out.put_u8(1)?;
+                info.put(out)
+            }
+        }
+    }
+}
+
+impl<Dir: Directory + Drop> Read for Payload<Dir>
+where
+    Dir::Cfg: Drop,
+{
+    /// How many keys a set may have, and the newest mode that a sharing may have.
+    type Cfg = (NonZeroU32, ModeVersion);
+
+    ghost use Rattle.std.specs.Int.NonZero.{non_zero_u32_get};
+    ghost use Rattle.dkg_types.specs.PayloadCodes.{payload_at, PayloadFits, payload_grammar};
+
+    ghost fits = { λ cfg. PayloadFits (λ peers. Dir.fits (Dir.config_of peers)) Dir.matches_of (non_zero_u32_get cfg.0) cfg.1.0 };
+
+    ghost read_of = { λ cfg. payload_at (λ peers. Dir.read_of (Dir.config_of peers)) Dir.matches_of (non_zero_u32_get cfg.0) cfg.1.0 };
+
+    ghost grammar = { λ cfg. payload_grammar (λ peers. Dir.fits (Dir.config_of peers)) Dir.spelling (λ peers. Dir.read_of (Dir.config_of peers)) Dir.matches_of (λ peers. Dir.grammar (Dir.config_of peers)) (non_zero_u32_get cfg.0) cfg.1.0 };
+
+    #[tactic(auto, unfolding(crate::specs::PayloadCodes::payload_after))]
+    fn read_cfg(
+        alloc: Global,
+        input: &mut Reader<'_>,
+        cfg: &(NonZeroU32, ModeVersion),
+    ) -> Result<Payload<Dir>, CodecError> {
+        match read_byte(input)? {
+            1 => {
+                let info = read_info(alloc, input, cfg)?;
+                Ok(Payload::EpochInfo(info))
+            }
+            // No payload begins with 0 until logs are carried.
+            other => Err(CodecError::InvalidEnum(other)),
         }
     }
 }
