@@ -3,6 +3,8 @@
 //! There is one form yet: a configuration without a namespace, one block that carries an info of epoch 0,
 //! and lives that hold that block and receive messages of the dealing channel.
 ghost use Rattle.std.specs.Prelude.{◌≡◌, ℕ, ◌+◌, ◌<◌, ◌≤◌, ◌^◌, IfOk, IfErr, IfSome, OnOk, length};
+ghost use Rattle.std.specs.List.{AllByRecursion};
+ghost use Rattle.dkg_script.specs.Form.{IsPeer, IsLifeOfToday};
 ghost use Rattle.dkg_script.specs.Places.{IsPlaceIn};
 
 use crate::error::ScriptError;
@@ -44,7 +46,9 @@ fn read_config(alloc: Global, lines: &mut Lines<'_>) -> Result<ScriptConfig, Scr
 }
 
 /// A message of the dealing channel, from the fields after the word.
-fn peer(alloc: Global, fields: &[u8]) -> Mem<Option<Event>> {
+fn peer(alloc: Global, fields: &[u8]) -> Mem<Option<Event>>
+    ensures { IfOk result (λ event. IfSome event IsPeer) }
+{
     let Some((from, text)) = cut(fields, b' ') else {
         return Ok(None);
     };
@@ -61,7 +65,9 @@ fn peer(alloc: Global, fields: &[u8]) -> Mem<Option<Event>> {
 }
 
 /// The event of a line, where the line is one.
-fn event_of(alloc: Global, line: &[u8]) -> Mem<Option<Event>> {
+fn event_of(alloc: Global, line: &[u8]) -> Mem<Option<Event>>
+    ensures { IfOk result (λ event. IfSome event IsPeer) }
+{
     match cut(line, b' ') {
         Some((b"peer", fields)) => peer(alloc, fields),
         _ => Ok(None),
@@ -72,6 +78,7 @@ fn event_of(alloc: Global, line: &[u8]) -> Mem<Option<Event>> {
 fn read_events(alloc: Global, lines: &mut Lines<'_>) -> Result<Events, ScriptError>
     ensures text { lines.new.text.now ≡ lines.old.text.now }
     ensures on { lines.old.place ≤ lines.new.place }
+    ensures peers { IfOk result (λ events. AllByRecursion IsPeer events) }
     ensures bad { IfErr result (λ e. IsPlaceIn (length lines.old.text.now) e) }
 {
     let mut events = Vec::new(alloc);
@@ -91,6 +98,7 @@ fn read_events(alloc: Global, lines: &mut Lines<'_>) -> Result<Events, ScriptErr
 fn read_life(alloc: Global, lines: &mut Lines<'_>) -> Result<Life, ScriptError>
     ensures text { lines.new.text.now ≡ lines.old.text.now }
     ensures on { OnOk result (lines.old.place < lines.new.place) }
+    ensures life { IfOk result IsLifeOfToday }
     ensures bad { IfErr result (λ e. IsPlaceIn (length lines.old.text.now) e) }
 {
     let word = lines.take_number(b"life ", 0, u64::MAX)?;
@@ -114,6 +122,7 @@ fn read_life(alloc: Global, lines: &mut Lines<'_>) -> Result<Life, ScriptError>
 fn read_lives(alloc: Global, lines: &mut Lines<'_>) -> Result<Lives, ScriptError>
     ensures text { lines.new.text.now ≡ lines.old.text.now }
     ensures some { IfOk result (λ lives. 0 < length lives) }
+    ensures lives { IfOk result (λ lives. AllByRecursion IsLifeOfToday lives) }
     ensures bad { IfErr result (λ e. IsPlaceIn (length lines.old.text.now) e) }
 {
     let mut lives = Vec::new(alloc);
