@@ -1,3 +1,4 @@
+pub mod BlockCodes
 pub mod Faults
 pub mod InfoCodes
 pub mod MessageCodes

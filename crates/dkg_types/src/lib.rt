@@ -19,7 +19,7 @@ mod registrar;
 mod scheme;
 mod transcript;
 
-pub use block::{Context, ReshareBlock};
+pub use block::{Block, Context, ReshareBlock};
 pub use directory::{Address, Directory, Socket, Unit};
 pub use entry::{
     AnswerLine, BlockedWhy, Entry, Part, PreparedLine, Restored, RestoredList, Role, Verdict, Why,
