@@ -11,6 +11,7 @@ pub mod Outputs
 pub mod Partly
 pub mod PolynomialLaws
 pub mod Polynomials
+pub mod Publics
 pub mod RoundLaws
 pub mod Rounds
 pub mod SharingGrammar

@@ -1,7 +1,8 @@
 //! The public half of a dealing.
 //!
 //! A dealer sends it to every player; a sharing has one as its polynomial.
-ghost use Rattle.std.specs.Prelude.{◌≡◌, ℕ, ◌<◌, ◌≤◌, ◌^◌, length, vec_len};
+ghost use Rattle.std.specs.Prelude.{◌≡◌, ℕ, ◌<◌, ◌≤◌, ◌^◌, length, slice_index, vec_len};
+ghost use Rattle.dkg_ceremony.specs.Publics.{IsPublic};
 ghost use Rattle.dkg_values.specs.Lists.{public_spelling};
 
 use bytes::{BufMut, BytesMut};
@@ -17,25 +18,39 @@ use std::marker::Model;
 pub struct Public(pub Vec<Element>);
 
 impl Model for Public {
-    ghost use Rattle.std.specs.Prelude.{List, ℕ, length, ◌<◌, ◌^◌};
+    ghost use Rattle.std.specs.Prelude.{List, ℕ};
+    ghost use Rattle.dkg_ceremony.specs.Publics.{IsPublic};
 
     ghost Value = { List ℕ };
 
     ghost view = { λ p. p.0.items };
 
-    ghost invariant = { λ p. length p.0.items < 2 ^ 32 };
+    ghost invariant = { λ p. IsPublic p.0.items };
+}
+
+/// Each element is below 65,521: to know it, each is read.
+fn known(elements: &[Element])
+    ensures { (i : ℕ) → slice_index elements.now i < 65521 }
+{
+    for element in elements {
+        let _value = element.get();
+    }
 }
 
 impl Public {
+    /// The polynomial of these coefficients.
     pub fn new(elements: Vec<Element>) -> Public
         requires { vec_len elements < 2 ^ 32 }
         ensures { result ≡ elements.items }
     {
+        known(&elements);
         Public(elements)
     }
 
+    /// The coefficients, from the constant one on.
     pub fn as_slice(&self) -> &[Element]
-        ensures { result.now ≡ self.now }
+        ensures items { result.now ≡ self.now }
+        ensures kept { IsPublic self.now }
     {
         &self.0
     }
@@ -93,6 +108,7 @@ impl Read for Public {
     fn read_cfg(alloc: Global, input: &mut Reader<'_>, cfg: &u32) -> Result<Public, CodecError> {
         let count = read_count(input, 1, *cfg)?;
         let elements = read_many::<Element>(alloc, input, count, &())?;
+        known(&elements);
         Ok(Public(elements))
     }
 }
