@@ -8,7 +8,7 @@ use Rattle.dkg_types.specs.declared.block.Block.{Block}
 use Rattle.dkg_types.specs.declared.info.EpochInfo as info
 use Rattle.dkg_types.specs.declared.payload.Payload.{Payload}
 use Rattle.dkg_types.specs.declared.payload.Payload.TheVariants.{EpochInfo}
-use Rattle.dkg_types.specs.PayloadCodes.{payload_spelling, CanSize}
+use Rattle.dkg_types.specs.PayloadCodes.{payload_spelling}
 
 abbrev pub context_bytes : Context → List ℕ
 context_bytes c = uint c.epoch ++ uint c.view ++ to_be_bytes w32 c.leader ++ uint c.parent_view ++ c.parent

@@ -23,10 +23,6 @@ payload_spelling spelling = tagged payload_tag (payload_body spelling)
 abbrev pub PayloadFits : {Dir : Type 0} → (List ℕ → Dir → Type 0) → (Dir → List ℕ → Bool) → (most version : ℕ) → Payload Dir → Type 0
 PayloadFits fits matches most version (EpochInfo i) = InfoFits fits matches most version i
 
--- where the size of a payload fits
-abbrev pub CanSize : {Dir : Type 0} → (Dir → Type 0) → Payload Dir → Type 0
-CanSize can_size (EpochInfo i) = can_size i.directory
-
 abbrev pub info_payload : {Dir : Type 0} → info.EpochInfo Dir → Payload Dir
 info_payload i = EpochInfo i
 

@@ -16,6 +16,3 @@ unit_grammar = record {
   found = λ bytes v rest are e. (tt, ap (λ (x : directory.Unit × List ℕ). x.1) (ok_is (record {}, bytes) (v, rest) e));
   again = λ v rest fit. refl;
 }
-
-pub unit_sized : (u : directory.Unit) → ⊤ → length (unit_spelling u) ≤ 2 ^ 61
-unit_sized u h = omega arith

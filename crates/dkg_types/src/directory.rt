@@ -31,8 +31,10 @@ pub trait Directory: Value + Write + EncodeSize + Read {
     fn matches(&self, peers: &Set) -> bool
         ensures { result ≡ matches_of self.now peers.now };
 
-    /// What has a size has one of at most 2^61 bytes.
-    ghost sized: { (d : Self) → Self.can_size d → length (Self.spelling d) ≤ 2 ^ 61 };
+    /// How many bytes its encoding takes: what `encode_size` gives, known to be at most 2^61.
+    fn size(&self) -> usize
+        ensures size { result ≡ length (Self.spelling self.now) }
+        ensures small { result ≤ 2 ^ 61 };
 }
 
 /// The directory of a network that reaches peers by their keys alone.
@@ -109,10 +111,6 @@ impl Directory for Unit {
 
     ghost matches_of = { λ _ _. true };
 
-    ghost use Rattle.dkg_types.specs.Units.{unit_sized};
-
-    ghost sized = { unit_sized };
-
     fn codec_config(_peers: &Set) {}
 
     fn max_encode_size(_peers: usize) -> usize {
@@ -121,5 +119,9 @@ impl Directory for Unit {
 
     fn matches(&self, _peers: &Set) -> bool {
         true
+    }
+
+    fn size(&self) -> usize {
+        0
     }
 }

@@ -132,15 +132,6 @@ fn read_parts(
     Ok((outcome, (epoch, (output, (players, next_players)))))
 }
 
-/// How many bytes a directory takes.
-fn size_of_directory<Dir: Directory>(directory: &Dir) -> usize
-    requires { Dir.can_size directory.now }
-    ensures size { result ≡ length (Dir.spelling directory.now) }
-    ensures bound { result ≤ 2 ^ 61 }
-{
-    directory.encode_size()
-}
-
 impl<Dir: Directory> EpochInfo<Dir> {
     /// A bound, in bytes, of the encoding of an info whose sets each have at most `max` keys.
     pub fn max_encode_size(max: NonZeroU32) -> usize
@@ -162,10 +153,7 @@ impl<Dir: Directory> EncodeSize for EpochInfo<Dir> {
     ghost use Rattle.std.specs.Prelude.{◌≡◌, ◌^◌, ◌≤◌, length};
     ghost use Rattle.dkg_types.specs.InfoCodes.{info_spelling};
 
-    ghost can_size = { λ i. Dir.can_size i.directory };
-
     fn encode_size(&self) -> usize
-        requires { Dir.can_size self.now.directory }
         ensures size { result ≡ length (info_spelling Dir.spelling self.now) }
         ensures bound { result ≤ 2 ^ 62 }
     {
@@ -173,7 +161,7 @@ impl<Dir: Directory> EncodeSize for EpochInfo<Dir> {
             + self.output.encode_size()
             + self.players.encode_size()
             + self.next_players.encode_size()
-            + size_of_directory(&self.directory)
+            + self.directory.size()
     }
 }
 

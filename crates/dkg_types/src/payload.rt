@@ -3,7 +3,7 @@
 ghost use Rattle.std.specs.Prelude.{◌≡◌, ◌+◌, ◌*◌, ◌^◌, ◌≤◌, length};
 ghost use Rattle.std.specs.Int.NonZero.{non_zero_u32_get};
 ghost use Rattle.dkg_values.specs.Codec.{Reads};
-ghost use Rattle.dkg_types.specs.PayloadCodes.{carried_at, payload_spelling, CanSize};
+ghost use Rattle.dkg_types.specs.PayloadCodes.{carried_at, payload_spelling};
 
 use crate::directory::Directory;
 use crate::info::EpochInfo;
@@ -65,12 +65,7 @@ impl<Dir: Directory> Spelled for Payload<Dir> {
 }
 
 impl<Dir: Directory> EncodeSize for Payload<Dir> {
-    ghost use Rattle.dkg_types.specs.PayloadCodes.{CanSize};
-
-    ghost can_size = { CanSize Dir.can_size };
-
     fn encode_size(&self) -> usize
-        requires { CanSize Dir.can_size self.now }
         ensures size { result ≡ length (payload_spelling Dir.spelling self.now) }
         ensures bound { result ≤ 2 ^ 62 + 1 }
     {
