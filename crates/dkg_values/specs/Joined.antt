@@ -23,6 +23,20 @@ pub record Both {A B C : Type 0} (fits : A → Type 0) (next_fits : A → B → 
   pub one : fits (first c)
   pub other : next_fits (first c) (second c)
 
+-- one text and then another, grouped anew
+joined : (bytes one mid other rest : List ℕ) → bytes ≡ one ++ mid → mid ≡ other ++ rest → bytes ≡ (one ++ other) ++ rest
+joined bytes one mid other rest is then =
+    let whole : bytes ≡ one ++ (other ++ rest) = rw (is, then) refl in
+    rw append_assoc whole
+
+made_fit : {A B C : Type 0} (fits : A → Type 0) (spelling : A → List ℕ) (next_fits : A → B → Type 0) (next_spelling : B → List ℕ) (make : A → B → C) (first : C → A) (second : C → B) → IsMade make first second → (a : A) (b : B) (bytes rest : List ℕ)
+    → fits a → next_fits a b → bytes ≡ (spelling a ++ next_spelling b) ++ rest → Both fits next_fits first second (make a b) × (bytes ≡ (spelling (first (make a b)) ++ next_spelling (second (make a b))) ++ rest)
+made_fit {A} {B} {C} fits spelling next_fits next_spelling make first second made a b bytes rest fit next_fit parts =
+    let fit_is : fits (first (make a b)) = rw (made.first_is a b) fit in
+    let next_is : next_fits (first (make a b)) (second (make a b)) = rw (made.first_is a b, made.second_is a b) next_fit in
+    let parts_are : bytes ≡ (spelling (first (make a b)) ++ next_spelling (second (make a b))) ++ rest = rw (made.first_is a b, made.second_is a b) parts in
+    (record { one = fit_is; other = next_is }, parts_are)
+
 pub then_grammar : {A B C : Type 0} (fits : A → Type 0) (spelling : A → List ℕ) (read : List ℕ → Reading A) (next_fits : A → B → Type 0) (next_spelling : B → List ℕ) (next : A → List ℕ → Reading B) (make : A → B → C) (first : C → A) (second : C → B)
     → IsGrammar fits spelling read → ((a : A) → IsGrammar (next_fits a) next_spelling (next a)) → IsMade make first second
     → IsGrammar (Both fits next_fits first second) (λ c. spelling (first c) ++ next_spelling (second c)) (then_at read next make)
@@ -33,15 +47,8 @@ then_grammar {A} {B} {C} fits spelling read next_fits next_spelling next make fi
       let t = took fits spelling read law bytes a.0.0 a.0.1 are a.1 in
       let u = took (next_fits a.0.0) next_spelling (next a.0.0) (next_law a.0.0) a.0.1 b.0.0 b.0.1 t.left b.1 in
       let o = ok_is (make a.0.0 b.0.0, b.0.1) (c, rest) b.2 in
-      let whole : bytes ≡ (spelling a.0.0 ++ next_spelling b.0.0) ++ b.0.1 = t.parts ∙ ap (λ (x : List ℕ). spelling a.0.0 ++ x) u.parts ∙ sym (append_assoc (spelling a.0.0) (next_spelling b.0.0) b.0.1) in
-      let f = made.first_is a.0.0 b.0.0 in
-      let s = made.second_is a.0.0 b.0.0 in
-      let fit : Both fits next_fits first second (make a.0.0 b.0.0) = record {
-        one = subst fits (sym f) t.fit;
-        other = subst (λ (y : B). next_fits (first (make a.0.0 b.0.0)) y) (sym s) (subst (λ (x : A). next_fits x b.0.0) (sym f) u.fit);
-      } in
-      let spelled : bytes ≡ (spelling (first (make a.0.0 b.0.0)) ++ next_spelling (second (make a.0.0 b.0.0))) ++ b.0.1 = whole ∙ ap (λ (x : A). (spelling x ++ next_spelling b.0.0) ++ b.0.1) (sym f) ∙ ap (λ (y : B). (spelling (first (make a.0.0 b.0.0)) ++ next_spelling y) ++ b.0.1) (sym s) in
-      subst (λ (x : C × List ℕ). Both fits next_fits first second x.0 × (bytes ≡ (spelling (first x.0) ++ next_spelling (second x.0)) ++ x.1)) o (fit, spelled);
+      let parts = joined bytes (spelling a.0.0) a.0.1 (next_spelling b.0.0) b.0.1 t.parts u.parts in
+      subst (λ (x : C × List ℕ). Both fits next_fits first second x.0 × (bytes ≡ (spelling (first x.0) ++ next_spelling (second x.0)) ++ x.1)) o (made_fit fits spelling next_fits next_spelling make first second made a.0.0 b.0.0 bytes b.0.1 t.fit u.fit parts);
   again = λ c rest fit.
       ap (then_at read next make) (append_assoc (spelling (first c)) (next_spelling (second c)) rest)
       ∙ rw (law.again (first c) (next_spelling (second c) ++ rest) fit.one, (next_law (first c)).again (second c) rest fit.other) (ap (λ (x : C). Ok (x, rest)) (made.whole_is c));
