@@ -142,6 +142,12 @@ fn plain_values_have_their_bytes(rt: HostRuntime) -> Result<(), Fail> {
         written(alloc, &element)?.as_slice(),
         [0xff, 0xf0].as_slice()
     );
+    Ok(())
+}
+
+#[test]
+fn plain_values_are_read(rt: HostRuntime) -> Result<(), Fail> {
+    let alloc = rt.alloc();
     assert_eq!(rt; round_trip(alloc, &Key(5), &()), Ok(Key(5)));
     assert_eq!(rt; round_trip(alloc, &Height(9), &()), Ok(Height(9)));
     assert_eq!(rt;
@@ -154,7 +160,7 @@ fn plain_values_have_their_bytes(rt: HostRuntime) -> Result<(), Fail> {
 }
 
 #[test]
-fn sets_and_maps_of_any_list(rt: HostRuntime) -> Result<(), Fail> {
+fn sets_are_of_any_list(rt: HostRuntime) -> Result<(), Fail> {
     let alloc = rt.alloc();
     let some = Set::from_any(alloc, &[Key(5), Key(1), Key(5)])?;
     let more = Set::from_any(alloc, &[Key(3), Key(1)])?;
@@ -169,7 +175,12 @@ fn sets_and_maps_of_any_list(rt: HostRuntime) -> Result<(), Fail> {
         encode(alloc, &more)?.as_slice(),
         [2, 0, 0, 0, 1, 0, 0, 0, 3].as_slice()
     );
+    Ok(())
+}
 
+#[test]
+fn maps_keep_the_first_pair(rt: HostRuntime) -> Result<(), Fail> {
+    let alloc = rt.alloc();
     let pairs = [
         (Key(5), Height(1)),
         (Key(1), Height(2)),
@@ -179,6 +190,8 @@ fn sets_and_maps_of_any_list(rt: HostRuntime) -> Result<(), Fail> {
     assert_eq!(rt; heights.len(), 2);
     assert_eq!(rt; heights.get(Key(5)), Some(&Height(1)));
     assert_eq!(rt; heights.get(Key(4)), None);
+    let some = Set::from_any(alloc, &[Key(5), Key(1)])?;
+    let more = Set::from_any(alloc, &[Key(3), Key(1)])?;
     assert!(rt; heights.has_keys(&some));
     assert!(rt; !heights.has_keys(&more));
     assert!(rt; heights.copy(alloc)?.same(&heights));
