@@ -8,6 +8,7 @@ mod lines;
 mod print;
 mod read;
 mod script;
+mod start;
 #[cfg(test)]
 mod tests;
 mod text;
@@ -15,6 +16,7 @@ mod words;
 
 pub use error::ScriptError;
 pub use print::print_of;
+pub use read::read_script;
 pub use script::{
     Anchor, BlockLine, BlockLines, Cut, Event, Events, Indexes, Life, Lives, PlayerLine,
     PlayerLines, ProbeLine, Script, ScriptConfig, SyncLine,

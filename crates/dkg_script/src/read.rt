@@ -2,17 +2,18 @@
 //!
 //! There is one form yet: a configuration without a namespace, one block that carries an info of epoch 0,
 //! and lives that hold that block and receive messages of the dealing channel.
-ghost use Rattle.std.specs.Prelude.{◌≡◌, ℕ, ◌+◌, ◌<◌, ◌≤◌, ◌^◌, IfOk, IfErr, IfSome, OnOk, length};
+ghost use Rattle.std.specs.Prelude.{◌≡◌, ℕ, ◌+◌, ◌<◌, ◌≤◌, ◌^◌, IfOk, IfErr, IfSome, OnOk, false, length};
 ghost use Rattle.std.specs.List.{AllByRecursion};
-ghost use Rattle.dkg_script.specs.Form.{IsPeer, IsLifeOfToday};
+ghost use Rattle.dkg_script.specs.Form.{IsFormOfToday, IsLifeOfToday, IsPeer};
 ghost use Rattle.dkg_script.specs.Places.{IsPlaceIn};
 
 use crate::error::ScriptError;
-use crate::fields::{bytes, cut, number32};
+use crate::fields::{bytes, cut, number, number32};
 use crate::lines::Lines;
 use crate::script::{
     BlockLine, BlockLines, Event, Events, Indexes, Life, Lives, PlayerLines, Script, ScriptConfig,
 };
+use crate::start::starts;
 use dkg_ceremony::{Blob, Height, Key, Map, Mem, Mode, ModeVersion};
 use std::alloc::Global;
 use std::num::{NonZeroU32, NonZeroU64};
@@ -23,6 +24,7 @@ const MOST_PARTICIPANTS: u64 = 1 << 30;
 /// The lines from `dkg` to `space`.
 fn read_config(alloc: Global, lines: &mut Lines<'_>) -> Result<ScriptConfig, ScriptError>
     ensures text { lines.new.text.now ≡ lines.old.text.now }
+    ensures reshares { IfOk result (λ config. config.oneshot ≡ None) }
     ensures bad { IfErr result (λ e. IsPlaceIn (length lines.old.text.now) e) }
 {
     lines.take_line(b"dkg 1")?;
@@ -43,6 +45,51 @@ fn read_config(alloc: Global, lines: &mut Lines<'_>) -> Result<ScriptConfig, Scr
         addresses: Map::from_sorted(Vec::new(alloc)).unwrap(),
         probe: None,
     })
+}
+
+/// The one block, from its line.
+fn block_of(alloc: Global, config: &ScriptConfig, line: &[u8]) -> Mem<Option<BlockLine>> {
+    let Some((view, text)) = line
+        .strip_prefix(b"block 0 - ")
+        .and_then(|rest| cut(rest, b' '))
+    else {
+        return Ok(None);
+    };
+    let Some(view) = number(view) else {
+        return Ok(None);
+    };
+    let Some(payload) = bytes(alloc, text)? else {
+        return Ok(None);
+    };
+    if !starts(alloc, config, payload.as_slice())? {
+        return Ok(None);
+    }
+    Ok(Some(BlockLine {
+        height: Height(0),
+        parent: None,
+        view,
+        payload: Some(payload),
+    }))
+}
+
+/// The line of the one block.
+fn read_blocks(
+    alloc: Global,
+    config: &ScriptConfig,
+    lines: &mut Lines<'_>,
+) -> Result<BlockLines, ScriptError>
+    ensures text { lines.new.text.now ≡ lines.old.text.now }
+    ensures bad { IfErr result (λ e. IsPlaceIn (length lines.old.text.now) e) }
+{
+    let mut blocks = Vec::new(alloc);
+    if let Some(line) = lines.line()
+        && let Some(block) = block_of(alloc, config, line)?
+    {
+        blocks.push(block)?;
+        lines.advance();
+        return Ok(BlockLines::new(blocks));
+    }
+    Err(lines.bad())
 }
 
 /// A message of the dealing channel, from the fields after the word.
@@ -131,4 +178,29 @@ fn read_lives(alloc: Global, lines: &mut Lines<'_>) -> Result<Lives, ScriptError
         lives.push(read_life(alloc, lines)?)?;
     }
     Ok(Lives::new(lives))
+}
+
+/// Reads a script, of the one form that there is yet: its directories are `Unit`.
+///
+/// The time and the memory grow linearly with the text.
+pub fn read_script(alloc: Global, bytes: &[u8], addressed: bool) -> Result<Script, ScriptError>
+    ensures plain { IfOk result (λ script. script.addressed ≡ false) }
+    ensures lives { IfOk result (λ script. 0 < length script.lives) }
+    ensures form { IfOk result IsFormOfToday }
+    ensures bad { IfErr result (λ e. IsPlaceIn (length bytes.now) e) }
+{
+    let mut lines = Lines::new(bytes);
+    if addressed {
+        return Err(lines.bad());
+    }
+    let config = read_config(alloc, &mut lines)?;
+    let blocks = read_blocks(alloc, &config, &mut lines)?;
+    let lives = read_lives(alloc, &mut lines)?;
+    lines.take_end()?;
+    Ok(Script {
+        addressed,
+        config,
+        blocks,
+        lives,
+    })
 }

@@ -2,3 +2,4 @@
 //! each does, and a line of each kind of entry.
 
 mod lines;
+mod scripts;
