@@ -117,6 +117,10 @@ module _ (file next : Kept) (place : ℕ) (bytes : List ℕ) (u : Undone) (fits 
   length_next : length next.bytes ≡ max (length file.bytes) (place + length bytes)
   length_next = ap length is_bytes ∙ omega (arith, length-append (take place file.bytes ++ bytes) (drop (place + length bytes) file.bytes), length-append (take place file.bytes) bytes, length-take-le place file.bytes fits, length-drop (place + length bytes) file.bytes)
 
+  -- an image is no shorter than the file at the last sync
+  long_enough : (c : List ℕ) → FileImage next c → file.synced ≤ length c
+  long_enough c image = omega (arith, image.no_shorter, is_synced, length_next, synced)
+
   -- an image that has the place
   module _ (c : List ℕ) (image : FileImage next c) (low : place ≤ length c) where
     abbrev k : List ℕ
@@ -131,7 +135,7 @@ module _ (file next : Kept) (place : ℕ) (bytes : List ℕ) (u : Undone) (fits 
     -- the old bytes stand in the range
     agrees : (i : ℕ) → i < file.synced → IsOutside file.undo i → get_or (written place k c) i 0 ≡ get_or file.bytes i 0
     agrees i below out =
-        let long = image.no_shorter in
+        let long = long_enough c image in
         elim (cases_lt i place) [
           | inl under ↦ get_or-written_low place k c i low under ∙ outside c image i below out (inl under)
           | inr over ↦ elim (cases_lt i (place + length k)) [
@@ -145,7 +149,7 @@ module _ (file next : Kept) (place : ℕ) (bytes : List ℕ) (u : Undone) (fits 
     pub plain_before : (length file.bytes ≡ file.synced → length bytes + place ≤ length file.bytes) → FileImage file (written place k c) × Torn place (length bytes) (written place k c) c
     plain_before grown = (
       record {
-        no_shorter = omega (arith, parts.0, image.no_shorter, is_synced);
+        no_shorter = omega (arith, parts.0, long_enough c image, is_synced);
         same_length = λ h. parts.0 ∙ image.same_length (omega (arith, length_next, grown h, h, is_synced)) ∙ is_synced;
         agrees = agrees;
       },
@@ -158,7 +162,7 @@ module _ (file next : Kept) (place : ℕ) (bytes : List ℕ) (u : Undone) (fits 
 
     pub grown_before : length file.bytes ≡ file.synced → length file.bytes < length bytes + place → FileImage file (take file.synced (written place k c)) × Torn place (length bytes) (take file.synced (written place k c)) c
     grown_before all_synced grows =
-        let long : length (take file.synced (written place k c)) ≡ file.synced = length-take-le file.synced (written place k c) (omega (arith, parts.0, image.no_shorter, is_synced)) in (
+        let long : length (take file.synced (written place k c)) ≡ file.synced = length-take-le file.synced (written place k c) (omega (arith, parts.0, long_enough c image, is_synced)) in (
           record {
             no_shorter = omega (arith, long);
             same_length = λ h. long;
@@ -167,16 +171,16 @@ module _ (file next : Kept) (place : ℕ) (bytes : List ℕ) (u : Undone) (fits 
           record {
             before = sym (take-take place file.synced (written place k c) (omega (arith, all_synced, fits)) ∙ (torn_written place k c low).before);
             after = λ le. absurd (omega (arith, le, long, grows, all_synced));
-            no_shorter = omega (arith, long, image.no_shorter, is_synced);
+            no_shorter = omega (arith, long, long_enough c image, is_synced);
           },
         )
 
   -- an image that ends before the place
   short_before : (c : List ℕ) → FileImage next c → length c < place → FileImage file c
   short_before c image under = record {
-    no_shorter = omega (arith, image.no_shorter, is_synced);
-    same_length = λ h. absurd (omega (arith, h, image.no_shorter, is_synced, under, fits));
-    agrees = λ i below out. outside c image i below out (inl (omega (arith, below, image.no_shorter, is_synced, under)));
+    no_shorter = omega (arith, long_enough c image, is_synced);
+    same_length = λ h. absurd (omega (arith, h, long_enough c image, is_synced, under, fits));
+    agrees = λ i below out. outside c image i below out (inl (omega (arith, below, long_enough c image, is_synced, under)));
   }
 
   pub torn_file : (c : List ℕ) → FileImage next c → (d : List ℕ) × FileImage file d × Torn place (length bytes) d c

@@ -1,9 +1,10 @@
 -- What a file in memory keeps of the writes since its last sync.
 use Rattle.std.proofs.Common.{◌≡◌, inl, inr, ⊎_elim, ℕ, zero, suc, ◌+◌, ◌-◌, ◌<◌, ◌≤◌, max, get_or, replicate, List, [], ◌∷◌, ◌++◌, map, length, take, drop, refl, sym, ◌∙◌, ap, subst, arith, length-append}
 use Rattle.std.proofs.lemmas.List.{map-append, length-take, length-take-le, length-drop, take_more, get_or-map, length-map, length-replicate}
+use Rattle.std.proofs.lemmas.Grind.{same_number_lists}
 use Rattle.std.proofs.lemmas.List.Sums.{fold_push}
 use Rattle.dkg_journal.specs.Disk.{written}
-use Rattle.dkg_journal.specs.Kept.{Undone, AreWithin, Kept, IsOutside, FileImage, restored, rolled, filled, filled_all}
+use Rattle.dkg_journal.specs.Kept.{Undone, AreWithin, Kept, IsOutside, FileImage, settled, restored, rolled, filled, filled_all}
 use Rattle.dkg_journal.specs.declared.file.Undo.{Undo}
 use Rattle.dkg_journal.proofs.Loose.{rolled-push, within-push, length-written, get_or-written}
 
@@ -86,5 +87,9 @@ filled_image byte f synced within =
       agrees = λ i low out. get_or-written f.synced (replicate (length f.bytes - f.synced) byte) inner i fits (inl low) ∙ get_or-filled byte f.undo f.bytes i within out;
     }
 
-pub settled_image : (f : Kept) → f.synced ≤ length f.bytes → FileImage f f.bytes
-settled_image f synced = record { no_shorter = synced; same_length = λ h. h; agrees = λ i low out. refl }
+pub settled_image : (f : Kept) → FileImage f f.bytes
+settled_image f = record { no_shorter = omega arith; same_length = λ h. h; agrees = λ i low out. refl }
+
+-- of a file of which nothing is loose a crash leaves what a read gives
+pub settled_only : (b c : List ℕ) → FileImage (settled b) c → c ≡ b
+settled_only b c image = same_number_lists c b (image.same_length refl) (λ k low. image.agrees k (omega (arith, low, image.same_length refl)) tt)

@@ -56,6 +56,6 @@ IsOutside (u ∷ us) i = ((i < u.0) ⊎ (u.0 + length u.1 ≤ i)) × IsOutside u
 
 -- what a crash may leave
 pub record FileImage (f : Kept) (c : List ℕ) : Type 0 where
-  pub no_shorter : f.synced ≤ length c
+  pub no_shorter : min f.synced (length f.bytes) ≤ length c
   pub same_length : length f.bytes ≡ f.synced → length c ≡ f.synced
   pub agrees : (i : ℕ) → i < f.synced → IsOutside f.undo i → get_or c i 0 ≡ get_or f.bytes i 0

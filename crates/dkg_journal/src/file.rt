@@ -175,6 +175,7 @@ impl File {
         requires { place ≤ length self.old.bytes }
         ensures done { OnOk result (self.new ≡ wrote place bytes.now self.old) }
         ensures kept { OnErr result (self.new ≡ self.old) }
+        ensures sound { self.old.synced ≤ length self.old.bytes }
     {
         let old = overwritten(alloc, &self.bytes, place, bytes.len())?;
         self.undo.reserve(1)?;

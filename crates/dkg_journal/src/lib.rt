@@ -12,8 +12,8 @@ mod journal;
 mod memory;
 mod open;
 mod opening;
+mod sure;
 mod table;
-mod tally;
 
 pub use call::{JournalError, perform};
 pub use disk::{Disk, DiskError, Op};
@@ -21,3 +21,4 @@ pub use fuse::Fuse;
 pub use journal::{Journal, Prepared};
 pub use memory::MemoryDisk;
 pub use opening::JournalEntry;
+pub use sure::SureDisk;

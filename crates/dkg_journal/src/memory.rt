@@ -1,21 +1,23 @@
-//! A disk in memory, whose crashes are picked and whose calls fail by number.
+//! A disk in memory whose calls fail by number.
 //!
-//! Runs and tests stand on it. A pick is `r + 4 q`. At a crash, where r is 0 all files are as written, where r is 1 as they were last
-//! synced, where r is 2 the first q unsynced bytes are as written, and where r is 3 each unsynced byte is q mod 256.
-ghost use Rattle.std.specs.Prelude.{◌≡◌, ◌≤◌, [], ◌∷◌, List, ℕ, Option, Some, None};
+//! Runs and tests stand on it. What it holds, and what a crash leaves, is the affair of the sure disk inside.
+ghost use Rattle.std.specs.Prelude.{◌≡◌, ◌≤◌, [], IsTrue};
 ghost use Rattle.dkg_journal.specs.Disk.{Rose};
 
-use crate::table::Table;
-use crate::tally::Tally;
-use crate::{Disk, DiskError, Op};
-use dkg_values::{Mem, Name, NoMemory};
+use crate::{Disk, DiskError, Op, SureDisk};
+use dkg_values::{Mem, Name};
 use std::alloc::Global;
 
-/// A disk in memory.
+/// A disk in memory, of which some calls fail. A call that fails changes nothing.
 #[derive(Drop)]
 pub struct MemoryDisk {
-    files: Table,
-    tally: Tally,
+    disk: SureDisk,
+    /// The numbers, from 1, of the calls that fail, rising.
+    failing: Vec<u64>,
+    /// How many calls were made that may fail: all but `cut` and `crash`.
+    calls: u64,
+    /// How many of them failed.
+    faults: u64,
 }
 
 impl MemoryDisk {
@@ -24,64 +26,68 @@ impl MemoryDisk {
         MemoryDisk::failing(alloc, Vec::new(alloc))
     }
 
-    /// An empty disk on which the calls of these numbers fail. The first is 1. `cut` and `crash` don't fail and are not counted, and
-    /// a call that fails changes nothing.
+    /// An empty disk on which the calls of these numbers fail. The first is 1. `cut` and `crash` don't fail and are not counted.
     pub fn failing(alloc: Global, calls: Vec<u64>) -> MemoryDisk {
+        let mut failing = calls;
+        failing.sort_unstable();
         MemoryDisk {
-            files: Table::new(alloc),
-            tally: Tally::new(calls),
+            disk: SureDisk::new(alloc),
+            failing,
+            calls: 0,
+            faults: 0,
         }
+    }
+
+    /// Counts a call, and whether it fails.
+    fn fails(&mut self) -> bool
+        ensures disk { self.new.disk ≡ self.old.disk }
+        ensures later { self.old.faults ≤ self.new.faults }
+        ensures failed { IsTrue result → Rose self.old.faults self.new.faults }
+    {
+        self.calls = self.calls.saturating_add(1);
+        if self.failing.binary_search(&self.calls).is_ok() {
+            self.faults = self.faults.saturating_add(1);
+            return true;
+        }
+        false
     }
 }
 
 impl Disk for MemoryDisk {
-    ghost use Rattle.std.specs.Prelude.{◌≡◌, false, List, ℕ};
-    ghost use Rattle.std.specs.FinMap as map;
-    ghost use Rattle.std.proofs.Common.{refl, rules};
-    ghost use Rattle.dkg_journal.specs.Made.{count_of, counts_more};
+    ghost use Rattle.std.specs.Prelude.{◌≡◌, true, List, ℕ};
+    ghost use Rattle.dkg_journal.specs.Made.{Made, made_nothing, made_both};
+    ghost use Rattle.dkg_journal.specs.Table.{contents, RowsImage, reads_image};
 
-    ghost tells = { false };
+    ghost tells = { true };
 
-    ghost files = { λ d. map.empty };
+    ghost files = { λ d. contents d.disk.files };
 
-    ghost image = { λ d c. ⊥ };
+    ghost image = { λ d. RowsImage d.disk.files };
 
-    ghost faults = { λ d. d.tally.faults };
+    ghost faults = { λ d. d.faults };
 
-    ghost wants = { λ d. d.tally.wants };
+    ghost wants = { λ d. d.disk.wants };
 
-    ghost made = { λ a b ops. b.tally.changes ≡ count_of ops a.tally.changes };
+    ghost made = { λ a b ops. Made ops a.disk.changes b.disk.changes (RowsImage a.disk.files) (RowsImage b.disk.files) };
 
-    ghost reads = { λ d tells. absurd (Prim.search (rules, tells)) };
+    ghost reads = { λ d tells. reads_image d.disk.files };
 
-    ghost made_none = { λ a. refl };
+    ghost made_none = { λ a. made_nothing a.disk.changes (RowsImage a.disk.files) };
 
-    ghost made_more = { λ a b c xs ys p q. counts_more xs ys a.tally.changes b.tally.changes c.tally.changes p q };
+    ghost made_more = { λ a b c xs ys p q. made_both xs ys a.disk.changes b.disk.changes c.disk.changes (RowsImage a.disk.files) (RowsImage b.disk.files) (RowsImage c.disk.files) p q };
 
     fn list(&mut self, alloc: Global) -> Result<Vec<Name>, DiskError> {
-        self.tally.call()?;
-        match self.files.names(alloc) {
-            Ok(names) => Ok(names),
-            Err(_) => {
-                self.tally.want();
-                Err(DiskError::NoMemory)
-            }
+        if self.fails() {
+            return Err(DiskError::Failed);
         }
+        self.disk.list(alloc)
     }
 
     fn read(&mut self, alloc: Global, name: Name) -> Result<Option<Vec<u8>>, DiskError> {
-        self.tally.call()?;
-        let bytes = match self.files.get(name) {
-            Some(file) => Vec::from_slice(alloc, file.bytes()),
-            None => return Ok(None),
-        };
-        match bytes {
-            Ok(bytes) => Ok(Some(bytes)),
-            Err(_) => {
-                self.tally.want();
-                Err(DiskError::NoMemory)
-            }
+        if self.fails() {
+            return Err(DiskError::Failed);
         }
+        self.disk.read(alloc, name)
     }
 
     fn write_at(
@@ -91,65 +97,50 @@ impl Disk for MemoryDisk {
         place: u64,
         bytes: &[u8],
     ) -> Result<(), DiskError> {
-        self.tally.change();
-        self.tally.call()?;
-        match self.files.write(alloc, name, place as usize, bytes) {
-            Ok(()) => Ok(()),
-            Err(_) => {
-                self.tally.want();
-                Err(DiskError::NoMemory)
-            }
+        if self.fails() {
+            self.disk.count_change();
+            return Err(DiskError::Failed);
         }
+        self.disk.write_at(alloc, name, place, bytes)
     }
 
     fn sync(&mut self, alloc: Global, name: Name) -> Result<(), DiskError> {
-        self.tally.change();
-        self.tally.call()?;
-        self.files.settle(name);
-        Ok(())
+        if self.fails() {
+            self.disk.count_change();
+            return Err(DiskError::Failed);
+        }
+        self.disk.sync(alloc, name)
     }
 
     fn barrier(&mut self, alloc: Global) -> Result<(), DiskError> {
-        self.tally.change();
-        self.tally.call()?;
-        self.files.settle_all();
-        Ok(())
+        if self.fails() {
+            self.disk.count_change();
+            return Err(DiskError::Failed);
+        }
+        self.disk.barrier(alloc)
     }
 
     fn install(&mut self, alloc: Global, name: Name, bytes: &[u8]) -> Result<(), DiskError> {
-        self.tally.change();
-        self.tally.call()?;
-        match self.files.install(alloc, name, bytes) {
-            Ok(()) => Ok(()),
-            Err(_) => {
-                self.tally.want();
-                Err(DiskError::NoMemory)
-            }
+        if self.fails() {
+            self.disk.count_change();
+            return Err(DiskError::Failed);
         }
+        self.disk.install(alloc, name, bytes)
     }
 
     fn remove(&mut self, alloc: Global, name: Name) -> Result<(), DiskError> {
-        self.tally.change();
-        self.tally.call()?;
-        self.files.remove(name);
-        Ok(())
+        if self.fails() {
+            self.disk.count_change();
+            return Err(DiskError::Failed);
+        }
+        self.disk.remove(alloc, name)
     }
 
     fn cut(&mut self, alloc: Global, op: &Op, pick: u64) -> Mem<()> {
-        self.tally.change();
-        match self.files.begin(alloc, op, pick) {
-            Ok(but) => {
-                self.files.crash(pick, but);
-                Ok(())
-            }
-            Err(NoMemory) => {
-                self.tally.want();
-                Err(NoMemory)
-            }
-        }
+        self.disk.cut(alloc, op, pick)
     }
 
     fn crash(&mut self, pick: u64) {
-        self.files.crash(pick, None);
+        self.disk.crash(pick);
     }
 }

@@ -1,0 +1,9 @@
+use Rattle.dkg_journal.specs.declared.disk.Op.TheVariants.{Sync}
+use Rattle.dkg_journal.proofs.OnRows.{failed_inside, failed_made}
+use Rattle.dkg_journal.proofs.memory.MemoryDiskDisk.sync.Goals as goal
+
+pub returns-then-fails-clause-crash : goal.returns-then-fails-clause-crash
+returns-then-fails-clause-crash c = failed_inside (Sync c.args.name) c.args.self.now.disk c.fails.new.self.disk c.count_change.new.self c.fails.ensures.disk c.count_change.ensures.files
+
+pub returns-then-fails-clause-calls : goal.returns-then-fails-clause-calls
+returns-then-fails-clause-calls c = failed_made (Sync c.args.name) c.args.self.now.disk c.fails.new.self.disk c.count_change.new.self c.fails.ensures.disk c.count_change.ensures.files c.count_change.ensures.changes
