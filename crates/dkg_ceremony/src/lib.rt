@@ -15,6 +15,8 @@ mod round;
 mod sharing;
 mod sign;
 mod stand;
+#[cfg(test)]
+mod tests;
 mod threshold;
 
 pub use ceremony::{AckError, Ceremony, DealingError, acks_pass};
