@@ -14,7 +14,7 @@ ghost use Rattle.dkg_journal.specs.Steps.{Firm, FlatAt, IsOpenAt, Keeps};
 ghost use Rattle.dkg_values.specs.declared.name.Name.{Name};
 ghost use Rattle.dkg_values.specs.declared.name.Name.TheVariants.{Flat};
 
-use crate::opening::{Parsed, parse};
+use crate::opening::{Parsed, in_sections, parse};
 use crate::{Disk, DiskError, Fuse, Journal, JournalEntry, JournalError, Op, perform};
 use dkg_values::{Blob, Name};
 use std::alloc::Global;
@@ -80,6 +80,8 @@ impl Journal {
         fuse: &mut Fuse,
     ) -> Result<Journal, JournalError>
         ensures open { IfOk result (λ j. IsTrue D.tells → Lands (D.files disk.old) (D.image disk.old) → IsFormOfToday (D.files disk.old) → IsOpenAt j.place (D.files disk.new) (D.image disk.new)) }
+        // What it read is what the files stand for.
+        ensures listed { IfOk result (λ j. IsTrue D.tells → IsFormOfToday (D.files disk.old) → views j.waiting.items ≡ entries (D.files disk.old)) }
         ensures images { IsTrue D.tells → Lands (D.files disk.old) (D.image disk.old) → Follows Keeps (D.image disk.old) (D.image disk.new) }
         // A record that is not whole is the one cause of Corrupt, and no Ok passes over one.
         ensures broken { (name : Name) (place : ℕ) → IsErrOf result (JournalError.Corrupt name place) → IsTrue D.tells → (name ≡ Flat) × (broken (D.files disk.old) ≡ Some place) }
@@ -104,10 +106,11 @@ impl Journal {
             }
         };
         let Parsed { entries, place } = parse(alloc, &bytes)?;
+        let waiting = in_sections(entries)?;
         mend(alloc, disk, fuse, bytes, place)?;
         Ok(Journal {
             place: Some(place),
-            waiting: entries,
+            waiting,
         })
     }
 

@@ -3,13 +3,13 @@
 //! Opening a journal calls this on what the disk read.
 ghost use Rattle.std.specs.Prelude.{◌≡◌, ◌≢◌, ◌⊎◌, ◌<◌, ◌≤◌, ◌^◌, ◌+◌, ◌++◌, [], ◌∷◌, List, ℕ, Option, Some, None, length, drop, take, OnOk, IfOk, IfSome, IfNone, IfErr, IsErrOf, MatchResult};
 ghost use Rattle.dkg_values.specs.declared.name.Name.{Name};
-ghost use Rattle.dkg_journal.specs.Records.{Entry, Ends, Front, Whole, number32, read32, read64, entry_of, broken_at};
+ghost use Rattle.dkg_journal.specs.Records.{Entry, Ends, Front, Whole, number32, read32, read64, entry_of, broken_at, in_order};
 ghost use Rattle.dkg_journal.specs.Views.{view, views};
 ghost use Rattle.dkg_journal.specs.Errors.{IsOfReading};
 
 use crate::JournalError;
 use dkg_values::{Blob, Mem, Name, NoMemory};
-use std::alloc::Global;
+use std::alloc::{AllocError, Global};
 
 /// An entry, and the place of its record's gate in its file.
 #[derive(Debug, Drop)]
@@ -122,4 +122,13 @@ pub fn parse(alloc: Global, bytes: &[u8]) -> Result<Parsed, JournalError>
         rest = next;
     }
     Ok(Parsed { entries, place })
+}
+
+/// The entries with sections rising, each section in its order.
+pub fn in_sections(entries: Vec<JournalEntry>) -> Result<Vec<JournalEntry>, AllocError>
+    ensures { IfOk result (λ v. views v.items ≡ in_order (views entries.items)) }
+{
+    let mut sorted = entries;
+    sorted.sort_by_key(|entry| entry.section)?;
+    Ok(sorted)
 }

@@ -1,10 +1,12 @@
-use Rattle.std.proofs.Common.{[], refl, sym, ◌∙◌, ap}
+use Rattle.std.proofs.Common.{List, ℕ, Option, [], refl, sym, ◌∙◌, ap}
 use Rattle.std.specs.Prelude.{option_map}
 use Rattle.dkg_journal.specs.Opening.{mend_of, broken_of}
 use Rattle.dkg_journal.proofs.Append.{keeps_keeps}
 use Rattle.dkg_journal.proofs.Steps.{then_all, then_ran, ran_same, all_same}
-use Rattle.dkg_journal.proofs.Reading.{whole_unbroken}
-use Rattle.dkg_journal.proofs.Mending.{unchanged_keeps, firm_read, bare_read, whole_at}
+use Rattle.dkg_journal.proofs.Reading.{whole_entries, whole_unbroken}
+use Rattle.dkg_journal.specs.Views.{views}
+use Rattle.dkg_journal.specs.Records.{entries_with}
+use Rattle.dkg_journal.proofs.Mending.{unchanged_keeps, firm_read, bare_read, bare_entries, whole_at}
 use Rattle.dkg_journal.proofs.journal.Journal.open.Goals as goal
 
 pub returns-in_err-bytes-clause-images : goal.returns-in_err-bytes-clause-images
@@ -65,3 +67,17 @@ returns-clause-all g c = λ tells.
     let is = ap (λ o. option_map (λ v. v.items) o) (sym c.in-Some.is) ∙ c.in_ok-bytes.ensures.bytes tells in
     let whole = whole_at _ _ _ _ c.deref.ensures.value c.in_ok-entries.ensures.whole in
     then_all g.D.Disk.made g.met.D.Disk.made_more _ _ _ _ _ _ [] _ (record { each = c.read_flat.ensures.calls; fuse = refl }) (all_same g.D.Disk.made _ _ _ _ _ _ (ap mend_of is) (c.in_ok-mend.ensures.all _ whole))
+
+pub returns-in_err-waiting-clause-images : goal.returns-in_err-waiting-clause-images
+returns-in_err-waiting-clause-images g c = λ tells lands. unchanged_keeps g.D.Disk.files g.D.Disk.image _ _ c.read_flat.ensures.same
+
+pub returns-in-None-clause-listed : goal.returns-in-None-clause-listed
+returns-in-None-clause-listed g c = λ tells form.
+    let is = ap (λ o. option_map (λ v. v.items) o) (sym c.in-None.is) ∙ c.in_ok-bytes.ensures.bytes tells in
+    ap views c.new.ensures.items ∙ sym (bare_entries _ form (sym is))
+
+pub returns-clause-listed : goal.returns-clause-listed
+returns-clause-listed g c = λ tells form.
+    let is = ap (λ o. option_map (λ v. v.items) o) (sym c.in-Some.is) ∙ c.in_ok-bytes.ensures.bytes tells in
+    let whole = whole_at _ _ _ _ c.deref.ensures.value c.in_ok-entries.ensures.whole in
+    c.in_ok-waiting.ensures ∙ whole_entries c.in-Some.bytes.items _ _ whole ∙ ap (λ (o : Option (List ℕ)). entries_with o (g.D.Disk.files c.args.disk.now)) is

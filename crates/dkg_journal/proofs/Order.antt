@@ -1,0 +1,133 @@
+-- A stable sort by sections gives the order of the definition.
+use Rattle.std.proofs.Common.{◌≡◌, ◌≢◌, inl, inr, ℕ, suc, ◌<◌, ◌≤◌, ◌==◌, ◌&&◌, Bool, true, false, cond, not, nat_lt, List, [], ◌∷◌, ◌++◌, map, fold, length, drop, get_or, refl, sym, ◌∙◌, ap, arith, append_assoc}
+use Rattle.std.specs.Prelude.{filter}
+use Rattle.std.specs.Ordering.{nat_cmp, is_lt}
+use Rattle.std.specs.List.Sorted.{IsNonDecreasingBy, IsStableByKey, ties}
+use Rattle.std.proofs.lemmas.List.{append-nil}
+use Rattle.std.proofs.lemmas.Bool.{cases_eq, cases_lt}
+use Rattle.std.proofs.lemmas.Bool.Decides.{nat_tests}
+use Rattle.dkg_journal.specs.Records.{Entry, placed, in_order}
+use Rattle.dkg_journal.specs.Views.{view, views}
+use Rattle.dkg_journal.specs.declared.opening.JournalEntry.{JournalEntry}
+
+abbrev of_section : ℕ → List Entry → List Entry
+of_section k es = filter (λ e. e.0 == k) es
+
+-- sections rise, from this one on
+abbrev Above : ℕ → List Entry → Type 0
+Above n [] = Unit {0}
+Above n (e ∷ es) = (n ≤ e.0) × Above e.0 es
+
+same_section : (k : ℕ) → (k == k) ≡ true
+same_section k = grind (arith, nat_tests)
+
+other_section : (a k : ℕ) → a ≢ k → (a == k) ≡ false
+other_section a k ne = grind (arith, nat_tests)
+
+none_of : (k n : ℕ) (es : List Entry) → Above n es → k < n → of_section k es ≡ []
+none_of k n [] above low = refl
+none_of k n (e ∷ es) above low =
+    let apart : (e.0 == k) ≡ false = other_section e.0 k (λ is. absurd (omega (arith, is, above.0, low))) in
+    ap (λ (b : Bool). cond b (e ∷ of_section k es) (of_section k es)) apart ∙ none_of k e.0 es above.1 (omega (arith, above.0, low))
+
+head_of : (k : ℕ) (e : Entry) (es : List Entry) → e.0 ≡ k → of_section k (e ∷ es) ≡ e ∷ of_section k es
+head_of k e es is = ap (λ (b : Bool). cond b (e ∷ of_section k es) (of_section k es)) (ap (λ (n : ℕ). n == k) is ∙ same_section k)
+
+no_head : (e : Entry) (es : List Entry) → e ∷ es ≢ []
+no_head e es is = absurd (omega (arith, ap length is))
+
+-- lists whose sections rise and are the same are the same
+pub unique : (ys zs : List Entry) (m n : ℕ) → Above m ys → Above n zs → ((k : ℕ) → of_section k ys ≡ of_section k zs) → ys ≡ zs
+unique [] [] m n up vp same = refl
+unique [] (z ∷ zs) m n up vp same = absurd (no_head z (of_section z.0 zs) (sym (head_of z.0 z zs refl) ∙ sym (same z.0)))
+unique (y ∷ ys) [] m n up vp same = absurd (no_head y (of_section y.0 ys) (sym (head_of y.0 y ys refl) ∙ same y.0))
+unique (y ∷ ys) (z ∷ zs) m n up vp same = elim (cases_lt y.0 z.0) [
+  | inl low ↦ absurd (no_head y (of_section y.0 ys) (sym (head_of y.0 y ys refl) ∙ same y.0 ∙ none_of y.0 z.0 (z ∷ zs) (omega arith, vp.1) low))
+  | inr high ↦ elim (cases_lt z.0 y.0) [
+    | inl low ↦ absurd (no_head z (of_section z.0 zs) (sym (head_of z.0 z zs refl) ∙ sym (same z.0) ∙ none_of z.0 y.0 (y ∷ ys) (omega arith, up.1) low))
+    | inr at_most ↦
+        let at : z.0 ≡ y.0 = omega (arith, high, at_most) in
+        let both : y ∷ of_section y.0 ys ≡ z ∷ of_section y.0 zs = sym (head_of y.0 y ys refl) ∙ same y.0 ∙ head_of y.0 z zs at in
+        let first : y ≡ z = ap (λ (l : List Entry). get_or l 0 y) both in
+        λ i. first i ∷ unique ys zs y.0 z.0 up.1 vp.1 (rest first) i
+  ]
+]
+  where
+    tails : (y z : Entry) (ys zs : List Entry) (k : ℕ) → y ≡ z → of_section k (y ∷ ys) ≡ of_section k (z ∷ zs) → of_section k ys ≡ of_section k zs
+    tails y z ys zs k first is = elim (y.0 == k) as (λ (b : Bool). cond b (y ∷ of_section k ys) (of_section k ys) ≡ cond b (z ∷ of_section k zs) (of_section k zs) → of_section k ys ≡ of_section k zs) [
+      | true ↦ λ e. ap (drop 1) e
+      | false ↦ λ e. e
+    ] (is ∙ ap (λ (x : Entry). cond (x.0 == k) (z ∷ of_section k zs) (of_section k zs)) (sym first))
+
+    rest : y ≡ z → (k : ℕ) → of_section k ys ≡ of_section k zs
+    rest first k = tails y z ys zs k first (same k)
+
+placed_above : (es : List Entry) (e : Entry) (n : ℕ) → Above n es → n ≤ e.0 → Above n (placed es e)
+placed_above [] e n above low = (low, tt)
+placed_above (x ∷ xs) e n above low = elim (nat_lt e.0 x.0) as (λ (b : Bool). nat_lt e.0 x.0 ≡ b → Above n (cond b (e ∷ x ∷ xs) (x ∷ placed xs e))) [
+  | true ↦ λ t. (low, (under e.0 x.0 t, above.1))
+  | false ↦ λ t. (above.0, placed_above xs e x.0 above.1 (over e.0 x.0 t))
+] refl
+  where
+    under : (a b : ℕ) → nat_lt a b ≡ true → a ≤ b
+    under a b t = grind (arith, nat_tests)
+
+    over : (a b : ℕ) → nat_lt a b ≡ false → b ≤ a
+    over a b t = grind (arith, nat_tests)
+
+of_both : (k : ℕ) (xs ys : List Entry) → of_section k (xs ++ ys) ≡ of_section k xs ++ of_section k ys
+of_both k [] ys = refl
+of_both k (x ∷ xs) ys = elim (x.0 == k) as (λ (b : Bool). cond b (x ∷ of_section k (xs ++ ys)) (of_section k (xs ++ ys)) ≡ cond b (x ∷ of_section k xs) (of_section k xs) ++ of_section k ys) [
+  | true ↦ ap (λ (l : List Entry). x ∷ l) (of_both k xs ys)
+  | false ↦ of_both k xs ys
+]
+
+placed_section : (k : ℕ) (es : List Entry) (e : Entry) (n : ℕ) → Above n es → of_section k (placed es e) ≡ of_section k (es ++ e ∷ [])
+placed_section k [] e n above = refl
+placed_section k (x ∷ xs) e n above = elim (nat_lt e.0 x.0) as (λ (b : Bool). nat_lt e.0 x.0 ≡ b → of_section k (cond b (e ∷ x ∷ xs) (x ∷ placed xs e)) ≡ of_section k ((x ∷ xs) ++ e ∷ [])) [
+  | true ↦ λ t. elim (cases_eq e.0 k) [
+    | inl is ↦
+        let none : of_section k (x ∷ xs) ≡ [] = none_of k x.0 (x ∷ xs) (omega arith, above.1) (under e.0 x.0 k t is) in
+        head_of k e (x ∷ xs) is ∙ ap (λ (l : List Entry). e ∷ l) none ∙ sym (of_both k (x ∷ xs) (e ∷ []) ∙ ap (λ (l : List Entry). l ++ of_section k (e ∷ [])) none ∙ head_of k e [] is)
+    | inr ne ↦
+        let gone : (es : List Entry) → of_section k (e ∷ es) ≡ of_section k es = λ es. ap (λ (b : Bool). cond b (e ∷ of_section k es) (of_section k es)) (other_section e.0 k ne) in
+        gone (x ∷ xs) ∙ sym (of_both k (x ∷ xs) (e ∷ []) ∙ ap (λ (l : List Entry). of_section k (x ∷ xs) ++ l) (gone []) ∙ append-nil (of_section k (x ∷ xs)))
+  ]
+  | false ↦ λ t. ap (λ (l : List Entry). cond (x.0 == k) (x ∷ l) l) (placed_section k xs e x.0 above.1)
+] refl
+  where
+    under : (a b k : ℕ) → nat_lt a b ≡ true → a ≡ k → k < b
+    under a b k t is = grind (arith, nat_tests)
+
+fold_above : (es acc : List Entry) → Above 0 acc → Above 0 (fold placed acc es)
+fold_above [] acc above = above
+fold_above (e ∷ es) acc above = fold_above es (placed acc e) (placed_above acc e 0 above (omega arith))
+
+fold_section : (k : ℕ) (es acc : List Entry) → Above 0 acc → of_section k (fold placed acc es) ≡ of_section k (acc ++ es)
+fold_section k [] acc above = ap (of_section k) (sym (append-nil acc))
+fold_section k (e ∷ es) acc above =
+    fold_section k es (placed acc e) (placed_above acc e 0 above (omega arith))
+    ∙ of_both k (placed acc e) es ∙ ap (λ (l : List Entry). l ++ of_section k es) (placed_section k acc e 0 above)
+    ∙ sym (of_both k (acc ++ e ∷ []) es) ∙ ap (of_section k) (append_assoc acc (e ∷ []) es)
+
+-- from the clauses of the sort
+above_from : (xs : List JournalEntry) (n : ℕ) → IsNonDecreasingBy (λ x. x.section) xs → ((d : JournalEntry) → 0 < length xs → n ≤ (get_or xs 0 d).section) → Above n (views xs)
+above_from [] n up low = tt
+above_from (x ∷ xs) n up low = (low x (omega arith), above_from xs x.section (λ i j d le lt. up (suc i) (suc j) d (omega (arith, le)) (omega (arith, lt))) (λ d lt. up 0 1 d (omega arith) (omega (arith, lt))))
+
+ties_is : (a b : ℕ) → (not (is_lt (nat_cmp a b)) && not (is_lt (nat_cmp b a))) ≡ (b == a)
+ties_is a b = grind (arith, nat_tests)
+
+section_views : (x : JournalEntry) (xs : List JournalEntry) → map view (filter (ties (λ a b. is_lt (nat_cmp a.section b.section)) x) xs) ≡ of_section x.section (views xs)
+section_views x [] = refl
+section_views x (y ∷ ys) =
+    ap (λ (b : Bool). map view (cond b (y ∷ filter (ties (λ a b. is_lt (nat_cmp a.section b.section)) x) ys) (filter (ties (λ a b. is_lt (nat_cmp a.section b.section)) x) ys))) (ties_is x.section y.section)
+    ∙ elim (y.section == x.section) as (λ (b : Bool). map view (cond b (y ∷ filter (ties (λ a b. is_lt (nat_cmp a.section b.section)) x) ys) (filter (ties (λ a b. is_lt (nat_cmp a.section b.section)) x) ys)) ≡ cond b (view y ∷ of_section x.section (views ys)) (of_section x.section (views ys))) [
+      | true ↦ ap (λ (l : List Entry). view y ∷ l) (section_views x ys)
+      | false ↦ section_views x ys
+    ]
+
+pub sorted_in_order : (xs ys : List JournalEntry) → IsNonDecreasingBy (λ x. x.section) ys → IsStableByKey (λ x. x.section) nat_cmp xs ys → views ys ≡ in_order (views xs)
+sorted_in_order xs ys up stable = unique (views ys) (in_order (views xs)) 0 0 (above_from ys 0 up (λ d lt. omega arith)) (fold_above (views xs) [] tt) (λ k.
+    let one : JournalEntry = record { section = k; place = 0; body = [] } in
+    sym (section_views one ys) ∙ ap (map view) (stable one) ∙ section_views one xs ∙ sym (fold_section k (views xs) [] tt))
