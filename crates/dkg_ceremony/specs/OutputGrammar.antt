@@ -1,5 +1,5 @@
 -- The grammar of outputs.
-use Rattle.std.proofs.Common.{◌≡◌, ℕ, ◌+◌, Bool, true, false, List, ◌++◌, length, Result, Ok, Err, refl, sym, ap, subst, ◌∙◌, append_assoc, length-append}
+use Rattle.std.proofs.Common.{◌≡◌, ℕ, ◌+◌, Bool, true, false, List, ◌++◌, length, Result, Ok, refl, sym, ap, ◌∙◌, append_assoc, length-append}
 use Rattle.dkg_values.specs.declared.codec.CodecError.{CodecError}
 use Rattle.dkg_values.specs.Codec.{◌>>=◌, IsGrammar}
 use Rattle.dkg_values.specs.Grammar.{ok_is}

@@ -10,7 +10,7 @@ use Rattle.dkg_values.specs.Joined.{beside_at, BothFit}
 use Rattle.dkg_ceremony.specs.declared.sharing.Sharing.{Sharing}
 use Rattle.dkg_ceremony.specs.declared.output.Output.{Output}
 use Rattle.dkg_ceremony.specs.Sharings.{sharing_bytes, sharing_at, SharingFits}
-use Rattle.dkg_ceremony.specs.Agreement.{parts_agree, PartsAgree}
+use Rattle.dkg_ceremony.specs.Agreement.{parts_agree}
 use Rattle.dkg_ceremony.specs.AgreementTest.{agreed}
 use Rattle.dkg_ceremony.specs.Partly.{partly_at}
 

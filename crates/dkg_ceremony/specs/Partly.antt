@@ -1,5 +1,5 @@
 -- Grammars of things that are made of others where these pass.
-use Rattle.std.proofs.Common.{◌≡◌, List, ◌++◌, Result, Ok, Err, refl, sym, ap, subst, ◌∙◌}
+use Rattle.std.proofs.Common.{◌≡◌, List, ◌++◌, Result, Ok, refl, sym, ap, subst, ◌∙◌}
 use Rattle.dkg_values.specs.declared.codec.CodecError.{CodecError}
 use Rattle.dkg_values.specs.Codec.{Reading, ◌>>=◌, IsGrammar}
 use Rattle.dkg_values.specs.Grammar.{bind_ok, ok_is}

@@ -1,12 +1,12 @@
 -- The grammar of sharings.
-use Rattle.std.specs.Prelude.{◌≡◌, ℕ, ◌-◌, ◌^◌, ◌<◌, IsTrue, List, ◌++◌, refl}
+use Rattle.std.specs.Prelude.{ℕ, ◌-◌, ◌^◌, ◌<◌, IsTrue, refl}
 use Rattle.std.proofs.Common.{append_assoc}
 use Rattle.dkg_values.specs.Codec.{IsGrammar}
 use Rattle.dkg_values.specs.Uint.{uint, uint_at}
 use Rattle.dkg_values.specs.UintGrammar.{u32_grammar}
 use Rattle.dkg_values.specs.Lists.{public_at, public_spelling, PublicFits}
 use Rattle.dkg_values.specs.ListGrammar.{public_grammar}
-use Rattle.dkg_values.specs.Joined.{beside_at, beside_grammar, BothFit, both_spelled, seen_at, seen_grammar}
+use Rattle.dkg_values.specs.Joined.{beside_at, beside_grammar, BothFit, both_spelled, seen_grammar}
 use Rattle.dkg_ceremony.specs.declared.mode.Mode.{Mode}
 use Rattle.dkg_ceremony.specs.Modes.{supports_of, mode_spelling, mode_at}
 use Rattle.dkg_ceremony.specs.ModeGrammar.{mode_grammar}
