@@ -1,0 +1,10 @@
+pub mod Both
+pub mod Commits
+pub mod Errors
+pub mod Events
+pub mod Keys
+pub mod On
+pub mod Pairs
+pub mod Player
+pub mod Ready
+pub mod Secrets

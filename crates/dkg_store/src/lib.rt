@@ -1,2 +1,29 @@
-//! What a node keeps over its lives: dealings in two devices, seeds, shares.
+//! What a node keeps over its lives, on two devices: recorded dealings, seeds and shares.
+//!
+//! A disk has the journal of what was recorded, a secret store the private halves, the seeds and the shares. A `Store` is opened
+//! over both at the start of a life. A `Player` records each dealing there before it acknowledges it.
 #![tactic(auto)]
+
+mod call;
+mod devices;
+mod event;
+mod held;
+mod memory_secrets;
+mod number_map;
+mod pair_map;
+mod player;
+mod restoring;
+mod secrets;
+mod store;
+mod sure_secrets;
+#[cfg(test)]
+mod tests;
+
+pub use call::{StoreError, perform_secret};
+pub use devices::Devices;
+pub use dkg_types::Restored;
+pub use memory_secrets::MemorySecrets;
+pub use player::{DealingHandleError, Player};
+pub use secrets::{SecretError, SecretOp, SecretStore};
+pub use store::Store;
+pub use sure_secrets::SureSecrets;

@@ -1,0 +1,30 @@
+use Rattle.std.proofs.Common.{◌≡◌, ℕ, List, ap, sym, subst, ◌∙◌}
+use Rattle.std.specs.Ordering.{nat_cmp}
+use Rattle.std.specs.FinMap as map
+use Rattle.dkg_store.specs.Pairs.{Pairs}
+use Rattle.dkg_store.specs.Player.{IsPlayerOf, Acknowledges}
+use Rattle.dkg_store.proofs.Both.{none_ran}
+use Rattle.dkg_store.proofs.Playing.{new, one_more, dealt}
+use Rattle.dkg_store.proofs.player.Player.accept.Goals as goal
+
+pub returns-in-Err-clause-calls : goal.returns-in-Err-clause-calls
+returns-in-Err-clause-calls g c = none_ran g.D.Disk.made g.X.SecretStore.made _ _ _ _ (g.met.D.Disk.made_none _) (g.met.X.SecretStore.made_none _)
+
+pub returns-in_err-ack-clause-calls : goal.returns-in_err-ack-clause-calls
+returns-in_err-ack-clause-calls g c = none_ran g.D.Disk.made g.X.SecretStore.made _ _ _ _ (g.met.D.Disk.made_none _) (g.met.X.SecretStore.made_none _)
+
+pub returns-clause-answer : goal.returns-clause-answer
+returns-clause-answer g c = λ is.
+    let answer : c.in_ok-ack.ack ≡ g.C.Ceremony.ack_of c.args.self.now.me c.args.self.now.round c.args.dealer c.args.public = c.in_ok-ack.ensures.ack ∙ ap (λ (k : ℕ). g.C.Ceremony.ack_of k c.args.self.now.round c.args.dealer c.args.public) c.requires.signer in
+    subst (λ (m : Pairs). Acknowledges g.C.Ceremony.ack_of c.args.self.now.me c.args.self.now.round m c.args.epoch c.args.dealer c.in_ok-ack.ack) (sym c.in_ok-keep_dealing.ensures.pairs)
+    (new g.C.Ceremony.ack_of c.args.self.now.me c.args.self.now.round c.args.store.now.dealings c.args.epoch c.args.dealer (c.args.public, c.args.private) c.in_ok-ack.ack answer)
+
+pub returns-clause-player : goal.returns-clause-player
+returns-clause-player g c = λ is.
+    let answer : c.in_ok-ack.ack ≡ g.C.Ceremony.ack_of c.args.self.now.me c.args.self.now.round c.args.dealer c.args.public = c.in_ok-ack.ensures.ack ∙ ap (λ (k : ℕ). g.C.Ceremony.ack_of k c.args.self.now.round c.args.dealer c.args.public) c.requires.signer in
+    let pairs : Pairs = map.insert c.args.store.now.dealings (c.args.epoch, c.args.dealer) (c.args.public, c.args.private) in
+    let was = dealt g.C.Ceremony.ack_of c.args.self.now.me c.args.self.now.round c.args.store.now.dealings c.args.epoch c.args.dealer (c.args.public, c.args.private) c.args.self.now.acks c.requires.unrecorded is in
+    let here = new g.C.Ceremony.ack_of c.args.self.now.me c.args.self.now.round c.args.store.now.dealings c.args.epoch c.args.dealer (c.args.public, c.args.private) c.in_ok-ack.ack answer in
+    let next = one_more g.C.Ceremony.ack_of c.args.self.now.me c.args.self.now.round pairs c.args.epoch c.args.dealer (c.args.public, c.args.private) c.args.self.now.acks c.in_ok-ack.ack was here in
+    subst (λ (m : Pairs). IsPlayerOf g.C.Ceremony.ack_of c.args.self.now.me c.args.self.now.round c.keep_dealing.new.acks m c.args.epoch) (sym c.in_ok-keep_dealing.ensures.pairs)
+    (subst (λ (a : map.FinMap nat_cmp (List ℕ)). IsPlayerOf g.C.Ceremony.ack_of c.args.self.now.me c.args.self.now.round a pairs c.args.epoch) (sym c.in_ok-keep_dealing.ensures.acks) next)

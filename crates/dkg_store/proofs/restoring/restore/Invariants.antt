@@ -1,0 +1,14 @@
+use Rattle.std.proofs.Common.{◌≡◌, ◌≤◌, [], take, map}
+use Rattle.dkg_journal.specs.Records.{Entry}
+use Rattle.dkg_store.specs.Pairs.{Pairs, recovered}
+use Rattle.dkg_journal.specs.Views.{view}
+use Rattle.std.specs.Bool.{IsTrue}
+use Rattle.dkg_store.proofs.restoring.restore.Given as goal
+
+abbrev pub invariant-loop-entry : goal.invariant-loop-entry
+invariant-loop-entry g l = record {
+  given : IsTrue g.X.SecretStore.tells → l.dealings ≡ recovered (map view (take l.entry-index l.entries)) (g.X.SecretStore.held l.initial.secrets);
+  same : g.X.SecretStore.held l.secrets ≡ g.X.SecretStore.held l.initial.secrets;
+  later : g.X.SecretStore.faults l.initial.secrets ≤ g.X.SecretStore.faults l.secrets;
+  calls : g.X.SecretStore.made l.initial.secrets l.secrets [];
+}

@@ -1,0 +1,46 @@
+use Rattle.std.proofs.Common.{[], ◌∷◌, List, sym, subst, ap, ◌∙◌}
+use Rattle.std.specs.FinMap.{get}
+use Rattle.dkg_journal.specs.Names.{Files}
+use Rattle.dkg_journal.specs.Opening.{IsFormOfToday, open_calls}
+use Rattle.dkg_journal.specs.Fuse.{Ran, RanAll}
+use Rattle.dkg_journal.specs.declared.disk.Op.{Op}
+use Rattle.dkg_journal.specs.declared.disk.Op.TheVariants.{Barrier}
+use Rattle.dkg_journal.proofs.Steps.{then_all, then_ran}
+use Rattle.dkg_store.proofs.Opened.{barred, kept_on}
+use Rattle.dkg_store.proofs.store.open_journal.Goals as goal
+
+pub returns-in_err-perform-clause-images : goal.returns-in_err-perform-clause-images
+returns-in_err-perform-clause-images g c = λ told. barred _ _ c.perform.ensures.crash
+
+pub returns-in_err-open-clause-images : goal.returns-in_err-open-clause-images
+returns-in_err-open-clause-images g c = λ told.
+    let did = c.in_ok-perform.ensures.done told in
+    kept_on _ _ _ (barred _ _ c.perform.ensures.crash) (c.open.ensures.images told (record { only = λ f in_image. did.durable f in_image ∙ sym did.reads }))
+
+pub returns-in_err-open-clause-calls : goal.returns-in_err-open-clause-calls
+returns-in_err-open-clause-calls g c = λ told.
+    let did = c.in_ok-perform.ensures.done told in
+    then_ran g.D.Disk.made g.met.D.Disk.made_more _ _ _ _ _ _ (Barrier ∷ []) (open_calls (g.D.Disk.files c.args.disk.now)) (record { each = c.perform.ensures.calls; fuse = c.perform.ensures.counted })
+    (subst (λ (files : Files). Ran g.D.Disk.made c.perform.new.disk c.open.new.disk c.perform.new.fuse c.open.new.fuse (open_calls files)) did.reads (c.open.ensures.calls told))
+
+pub returns-clause-open : goal.returns-clause-open
+returns-clause-open g c = λ told form.
+    let did = c.in_ok-perform.ensures.done told in
+    c.in_ok-open.ensures.open told (record { only = λ f in_image. did.durable f in_image ∙ sym did.reads }) (subst IsFormOfToday (sym did.reads) form)
+
+pub returns-clause-images : goal.returns-clause-images
+returns-clause-images g c = λ told.
+    let did = c.in_ok-perform.ensures.done told in
+    kept_on _ _ _ (barred _ _ c.perform.ensures.crash) (c.open.ensures.images told (record { only = λ f in_image. did.durable f in_image ∙ sym did.reads }))
+
+pub returns-clause-all : goal.returns-clause-all
+returns-clause-all g c = λ told.
+    let did = c.in_ok-perform.ensures.done told in
+    then_all g.D.Disk.made g.met.D.Disk.made_more _ _ _ _ _ _ (Barrier ∷ []) (open_calls (g.D.Disk.files c.args.disk.now)) (record { each = c.perform.ensures.calls; fuse = c.perform.ensures.counted })
+    (subst (λ (files : Files). RanAll g.D.Disk.made c.perform.new.disk c.open.new.disk c.perform.new.fuse c.open.new.fuse (open_calls files)) did.reads (c.in_ok-open.ensures.all told))
+
+pub returns-clause-calls : goal.returns-clause-calls
+returns-clause-calls g c = λ told.
+    let did = c.in_ok-perform.ensures.done told in
+    then_ran g.D.Disk.made g.met.D.Disk.made_more _ _ _ _ _ _ (Barrier ∷ []) (open_calls (g.D.Disk.files c.args.disk.now)) (record { each = c.perform.ensures.calls; fuse = c.perform.ensures.counted })
+    (subst (λ (files : Files). Ran g.D.Disk.made c.perform.new.disk c.open.new.disk c.perform.new.fuse c.open.new.fuse (open_calls files)) did.reads (c.open.ensures.calls told))

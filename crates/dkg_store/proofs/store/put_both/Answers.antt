@@ -1,0 +1,24 @@
+use Rattle.std.proofs.Common.{ℕ, [], ◌∷◌, Option, subst, sym}
+use Rattle.dkg_journal.specs.Fuse.{Ran, RanAll}
+use Rattle.dkg_journal.proofs.Steps.{then_all, ran_all}
+use Rattle.dkg_store.specs.Commits.{commit_calls}
+use Rattle.dkg_store.specs.declared.secrets.SecretOp.TheVariants.{PutShare, PutSeed}
+use Rattle.dkg_store.proofs.Both.{one_call}
+use Rattle.dkg_store.proofs.store.put_both.Goals as goal
+
+pub returns-in_err-perform_secret-in-Some-2-clause-calls : goal.returns-in_err-perform_secret-in-Some-2-clause-calls
+returns-in_err-perform_secret-in-Some-2-clause-calls g c =
+    subst (λ (o : Option ℕ). Ran g.X.SecretStore.made c.args.secrets.now c.perform_secret-in-Some-2.new.secrets c.args.fuse.now c.perform_secret-in-Some-2.new.fuse (commit_calls c.args.epoch c.args.seed o)) (sym c.in-Some.is)
+    (ran_all _ _ _ _ _ _ (then_all g.X.SecretStore.made g.met.X.SecretStore.made_more _ _ _ _ _ _ (PutShare c.args.epoch c.in-Some.share ∷ []) (PutSeed c.args.epoch c.args.seed ∷ [])
+    (one_call _ _ _ _ _ _ c.perform_secret-in-Some.ensures.calls c.perform_secret-in-Some.ensures.counted)
+    (one_call _ _ _ _ _ _ c.perform_secret-in-Some-2.ensures.calls c.perform_secret-in-Some-2.ensures.counted)))
+
+pub returns-in_ok-perform_secret-in-Some-2-clause-all : goal.returns-in_ok-perform_secret-in-Some-2-clause-all
+returns-in_ok-perform_secret-in-Some-2-clause-all g c =
+    subst (λ (o : Option ℕ). RanAll g.X.SecretStore.made c.args.secrets.now c.perform_secret-in-Some-2.new.secrets c.args.fuse.now c.perform_secret-in-Some-2.new.fuse (commit_calls c.args.epoch c.args.seed o)) (sym c.in-Some.is)
+    (then_all g.X.SecretStore.made g.met.X.SecretStore.made_more _ _ _ _ _ _ (PutShare c.args.epoch c.in-Some.share ∷ []) (PutSeed c.args.epoch c.args.seed ∷ [])
+    (one_call _ _ _ _ _ _ c.perform_secret-in-Some.ensures.calls c.perform_secret-in-Some.ensures.counted)
+    (one_call _ _ _ _ _ _ c.perform_secret-in-Some-2.ensures.calls c.perform_secret-in-Some-2.ensures.counted))
+
+pub returns-in_ok-perform_secret-in-Some-2-clause-calls : goal.returns-in_ok-perform_secret-in-Some-2-clause-calls
+returns-in_ok-perform_secret-in-Some-2-clause-calls g c = ran_all _ _ _ _ _ _ (returns-in_ok-perform_secret-in-Some-2-clause-all g c)

@@ -1,0 +1,35 @@
+-- The errors that a call of a secret store may give.
+use Rattle.dkg_journal.specs.declared.call.JournalError.{JournalError}
+use Rattle.dkg_journal.specs.declared.call.JournalError.TheVariants as of_journal
+use Rattle.dkg_values.specs.declared.name.Name.TheVariants.{Flat}
+use Rattle.dkg_store.specs.declared.call.StoreError.{StoreError}
+use Rattle.dkg_store.specs.declared.call.StoreError.TheVariants.{Disk, Secrets, Corrupt, LocalState, StateSyncEpochs, StateSyncMaterial, Cut, NoMemory}
+
+abbrev pub IsOfSecrets : StoreError → Type 0
+IsOfSecrets Secrets = Unit {0}
+IsOfSecrets Cut = Unit {0}
+IsOfSecrets NoMemory = Unit {0}
+IsOfSecrets Disk = ⊥
+IsOfSecrets (Corrupt name place) = ⊥
+IsOfSecrets (LocalState cause) = ⊥
+IsOfSecrets (StateSyncEpochs info floor) = ⊥
+IsOfSecrets StateSyncMaterial = ⊥
+
+-- the errors that taking up an entry may give
+abbrev pub IsOfRestoring : StoreError → Type 0
+IsOfRestoring Secrets = Unit {0}
+IsOfRestoring NoMemory = Unit {0}
+IsOfRestoring (Corrupt name place) = Unit {0}
+IsOfRestoring Cut = ⊥
+IsOfRestoring Disk = ⊥
+IsOfRestoring (LocalState cause) = ⊥
+IsOfRestoring (StateSyncEpochs info floor) = ⊥
+IsOfRestoring StateSyncMaterial = ⊥
+
+-- No call of a store meets a body that is too long.
+abbrev pub store_error_of : JournalError → StoreError
+store_error_of of_journal.Disk = Disk
+store_error_of (of_journal.Corrupt name place) = Corrupt name place
+store_error_of of_journal.TooLong = Corrupt Flat 0
+store_error_of of_journal.Cut = Cut
+store_error_of of_journal.NoMemory = NoMemory

@@ -1,0 +1,65 @@
+-- The dealings that the entries of a journal and a secret store stand for together.
+use Rattle.std.specs.Prelude.{◌≡◌, ◌⊎◌, ℕ, List, fold, Option, Some, None, IsSome, Result, Ok, Err}
+use Rattle.std.specs.List.{AllByRecursion}
+use Rattle.std.specs.FinMap.{FinMap, get, insert, empty}
+use Rattle.dkg_journal.specs.Names.{Files}
+use Rattle.dkg_journal.specs.Disk.{Follows}
+use Rattle.dkg_journal.specs.Records.{Entry, entries}
+use Rattle.dkg_journal.specs.Steps.{MayAdd}
+use Rattle.dkg_values.specs.Codec.{whole}
+use Rattle.dkg_values.specs.declared.codec.CodecError.{CodecError}
+use Rattle.dkg_store.specs.Keys.{key_cmp}
+use Rattle.dkg_store.specs.Events.{event_at, no_limit}
+use Rattle.dkg_store.specs.Secrets.{Secrets, Tries, after}
+use Rattle.dkg_store.specs.declared.secrets.SecretOp.{SecretOp}
+
+-- both halves by epoch and dealer
+abbrev pub Pairs : Type 0
+Pairs = FinMap key_cmp (List ℕ × ℕ)
+
+-- the record of a dealing: its epoch and dealer, and its public half
+pub record Dealing : Type 0 where
+  pub key : ℕ × ℕ
+  pub public : List ℕ
+
+abbrev pub dealing_in : ℕ → Result (ℕ × List ℕ) CodecError → Option Dealing
+dealing_in epoch (Ok d) = Some (record { key = (epoch, d.0); public = d.1 })
+dealing_in epoch (Err e) = None
+
+-- the dealing of which an entry is the record
+abbrev pub dealing_of : Entry → Option Dealing
+dealing_of e = dealing_in e.0 (whole (event_at no_limit e.1))
+
+abbrev pub with_half : Pairs → Dealing → Option ℕ → Pairs
+with_half m d None = m
+with_half m d (Some private) = insert m d.key (d.public, private)
+
+abbrev pub with_dealing : Secrets → Pairs → Option Dealing → Pairs
+with_dealing s m None = m
+with_dealing s m (Some d) = with_half m d (get s.privates d.key)
+
+-- The dealings of which both halves are there. A later record of a key replaces an earlier one.
+abbrev pub recovered : List Entry → Secrets → Pairs
+recovered es s = fold (λ m e. with_dealing s m (dealing_of e)) empty es
+
+abbrev pub HasHalf : Secrets → Option Dealing → Type 0
+HasHalf s None = Unit {0}
+HasHalf s (Some d) = IsSome (get s.privates d.key)
+
+-- each recorded dealing has its private half
+abbrev pub IsWhole : List Entry → Secrets → Type 0
+IsWhole es s = AllByRecursion (λ e. HasHalf s (dealing_of e)) es
+
+-- whatever a crash now leaves is whole, and gives these dealings back
+pub record Holds (pairs : Pairs) (image : Files → Type 0) (held : Secrets) : Type 0 where
+  pub whole : (c : Files) → image c → IsWhole (entries c) held
+  pub gives : (c : Files) → image c → recovered (entries c) held ≡ pairs
+
+-- .. these, or those
+pub record HoldsEither (pairs more : Pairs) (image : Files → Type 0) (held : Secrets) : Type 0 where
+  pub whole : (c : Files) → image c → IsWhole (entries c) held
+  pub gives : (c : Files) → image c → (recovered (entries c) held ≡ pairs) ⊎ (recovered (entries c) held ≡ more)
+
+-- The put was tried and the disk is as it was; or the put is done, and the journal may have the entry.
+pub record PutsFirst (op : SecretOp) (e : Entry) (image next : Files → Type 0) (held now : Secrets) : Type 0 where
+  pub so : (Tries op held now × ((c : Files) → next c → image c)) ⊎ ((now ≡ after op held) × Follows (MayAdd e) image next)

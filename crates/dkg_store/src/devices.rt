@@ -1,0 +1,55 @@
+//! Both devices of a step, and the calls that change them, in one order.
+ghost use Rattle.std.specs.Prelude.{◌≡◌, ◌≤◌, ◌^◌, ◌∷◌, [], OnOk, IsErrOf, IsTrue};
+ghost use Rattle.dkg_journal.specs.Disk.{Follows, Rose};
+ghost use Rattle.dkg_journal.specs.Fuse.{Reached, Ran, RanAll};
+ghost use Rattle.dkg_journal.specs.Ready.{IsReady};
+ghost use Rattle.dkg_journal.specs.Steps.{IsOpenAt, Adds};
+ghost use Rattle.dkg_store.specs.Secrets.{after};
+ghost use Rattle.dkg_store.specs.Pairs.{PutsFirst};
+ghost use Rattle.dkg_store.specs.Both.{IsWanted, MadeBoth, put_then_append};
+
+use crate::call::{StoreError, perform_secret};
+use crate::secrets::{SecretOp, SecretStore};
+use dkg_journal::{Disk, Fuse, Journal, Prepared};
+use std::alloc::Global;
+
+/// Both devices, and the fuse that counts the changing calls of one step on either.
+#[derive(Drop)]
+pub struct Devices<'a, D, X> {
+    pub disk: &'a mut D,
+    pub secrets: &'a mut X,
+    pub fuse: Fuse,
+}
+
+/// Puts a secret, and then appends an entry.
+pub fn put_and_append<D: Disk, X: SecretStore>(
+    alloc: Global,
+    devices: &mut Devices<'_, D, X>,
+    journal: &mut Journal,
+    put: &SecretOp,
+    calls: &Prepared,
+    section: u64,
+    body: &[u8],
+) -> Result<(), StoreError>
+    requires ready { IsReady calls.now journal.old.place (section, body.now) }
+    requires open { IsTrue D.tells → IsOpenAt journal.old.place (D.files devices.old.disk.now) (D.image devices.old.disk.now) }
+    ensures open { OnOk result (IsTrue D.tells → IsOpenAt journal.new.place (D.files devices.new.disk.now) (D.image devices.new.disk.now)) }
+    ensures done { OnOk result (IsTrue X.tells → X.held devices.new.secrets.now ≡ after put.now (X.held devices.old.secrets.now)) }
+    ensures added { OnOk result (IsTrue D.tells → Follows (Adds (section, body.now)) (D.image devices.old.disk.now) (D.image devices.new.disk.now)) }
+    ensures steps { IsTrue D.tells → IsTrue X.tells → PutsFirst put.now (section, body.now) (D.image devices.old.disk.now) (D.image devices.new.disk.now) (X.held devices.old.secrets.now) (X.held devices.new.secrets.now) }
+    ensures later_disk { D.faults devices.old.disk.now ≤ D.faults devices.new.disk.now }
+    ensures later_secrets { X.faults devices.old.secrets.now ≤ X.faults devices.new.secrets.now }
+    ensures disk { IsErrOf result StoreError.Disk → Rose (D.faults devices.old.disk.now) (D.faults devices.new.disk.now) }
+    ensures secrets { IsErrOf result StoreError.Secrets → Rose (X.faults devices.old.secrets.now) (X.faults devices.new.secrets.now) }
+    ensures memory { IsErrOf result StoreError.NoMemory → IsWanted (D.wants devices.old.disk.now) (D.wants devices.new.disk.now) (X.wants devices.old.secrets.now) (X.wants devices.new.secrets.now) }
+    ensures cut { IsErrOf result StoreError.Cut → Reached devices.old.fuse devices.new.fuse }
+    ensures not_cut { OnOk result (Reached devices.old.fuse devices.new.fuse → ⊥) }
+    ensures all { OnOk result (RanAll (MadeBoth D.made X.made) (devices.old.disk.now, devices.old.secrets.now) (devices.new.disk.now, devices.new.secrets.now) devices.old.fuse devices.new.fuse (put_then_append put.now journal.old.place (section, body.now))) }
+    ensures calls { Ran (MadeBoth D.made X.made) (devices.old.disk.now, devices.old.secrets.now) (devices.new.disk.now, devices.new.secrets.now) devices.old.fuse devices.new.fuse (put_then_append put.now journal.old.place (section, body.now)) }
+    ensures same_disk { devices.new.disk.ghost_name ≡ devices.old.disk.ghost_name }
+    ensures same_secrets { devices.new.secrets.ghost_name ≡ devices.old.secrets.ghost_name }
+{
+    perform_secret(alloc, devices.secrets, &mut devices.fuse, put)?;
+    journal.append_ready(alloc, devices.disk, &mut devices.fuse, calls, section, body)?;
+    Ok(())
+}

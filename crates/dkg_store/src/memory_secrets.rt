@@ -1,0 +1,155 @@
+//! A secret store in memory, whose calls fail where it is told.
+//!
+//! Runs and tests use it in place of a node's own secret store.
+ghost use Rattle.std.specs.Prelude.{◌≡◌, ◌∷◌, [], OnOk, OnErr, IsErrOf};
+ghost use Rattle.std.specs.FinMap as map;
+ghost use Rattle.dkg_store.specs.Secrets.{HasCause, HasWant, Tries, TriesAll, after};
+
+use crate::held::Held;
+use crate::secrets::{SecretError, SecretOp, SecretStore};
+use dkg_ceremony::{Private, Share};
+use dkg_values::{Epoch, Key, Mem, NoMemory, Seed};
+use std::alloc::Global;
+
+/// A secret store in memory, of which calls may be told to fail. A failed call changes nothing.
+#[derive(Drop)]
+pub struct MemorySecrets {
+    held: Held,
+    failing: Vec<u64>,
+    calls: u64,
+    faults: u64,
+    wants: u64,
+}
+
+impl MemorySecrets {
+    /// A store that holds nothing and never fails.
+    pub fn new(alloc: Global) -> MemorySecrets
+        ensures { result.held ≡ record { shares = map.empty; seeds = map.empty; privates = map.empty } }
+    {
+        MemorySecrets::failing(alloc, Vec::new(alloc))
+    }
+
+    /// A store that holds nothing and fails at these of its calls, numbered from 1. `cut` and `crash` don't count.
+    pub fn failing(alloc: Global, calls: Vec<u64>) -> MemorySecrets
+        ensures { result.held ≡ record { shares = map.empty; seeds = map.empty; privates = map.empty } }
+    {
+        MemorySecrets {
+            held: Held::new(alloc),
+            failing: calls,
+            calls: 0,
+            faults: 0,
+            wants: 0,
+        }
+    }
+
+    /// Counts a call, and fails where it is one that was told to.
+    fn begin(&mut self) -> Result<(), SecretError>
+        ensures held { self.new.held ≡ self.old.held }
+        ensures wants { self.new.wants ≡ self.old.wants }
+        ensures cause { HasCause self.old.faults self.new.faults result }
+        ensures kinds { IsErrOf result SecretError.NoMemory → ⊥ }
+    {
+        self.calls = self.calls.saturating_add(1);
+        if self.failing.contains(&self.calls) {
+            self.faults = self.faults.saturating_add(1);
+            return Err(SecretError::Failed);
+        }
+        Ok(())
+    }
+
+    fn change(&mut self, op: &SecretOp) -> Result<(), SecretError>
+        ensures done { OnOk result (self.new.held ≡ after op.now self.old.held) }
+        ensures kept { OnErr result (self.new.held ≡ self.old.held) }
+        ensures tried { Tries op.now self.old.held self.new.held }
+        ensures calls { TriesAll (op.now ∷ []) self.old.held self.new.held }
+        ensures cause { HasCause self.old.faults self.new.faults result }
+        ensures want { HasWant self.old.wants self.new.wants result }
+    {
+        self.begin()?;
+        match self.held.apply(op) {
+            Ok(()) => Ok(()),
+            Err(NoMemory) => {
+                self.wants = self.wants.saturating_add(1);
+                Err(SecretError::NoMemory)
+            }
+        }
+    }
+}
+
+impl SecretStore for MemorySecrets {
+    ghost use Rattle.std.specs.Prelude.{true};
+    ghost use Rattle.dkg_store.specs.Secrets.{TriesAll};
+
+    ghost tells = { true };
+
+    ghost held = { λ s. s.held };
+
+    ghost faults = { λ s. s.faults };
+
+    ghost wants = { λ s. s.wants };
+
+    ghost made = { λ old new ops. TriesAll ops old.held new.held };
+
+    fn put_share(&mut self, _alloc: Global, epoch: Epoch, share: Share) -> Result<(), SecretError> {
+        self.change(&SecretOp::PutShare { epoch, share })
+    }
+
+    fn get_share(&mut self, _alloc: Global, epoch: Epoch) -> Result<Option<Share>, SecretError> {
+        self.begin()?;
+        Ok(self.held.share(epoch))
+    }
+
+    fn put_seed(&mut self, _alloc: Global, epoch: Epoch, seed: Seed) -> Result<(), SecretError> {
+        self.change(&SecretOp::PutSeed { epoch, seed })
+    }
+
+    fn get_seed(&mut self, _alloc: Global, epoch: Epoch) -> Result<Option<Seed>, SecretError> {
+        self.begin()?;
+        Ok(self.held.seed(epoch))
+    }
+
+    fn put_dealing(
+        &mut self,
+        _alloc: Global,
+        epoch: Epoch,
+        dealer: Key,
+        private: Private,
+    ) -> Result<(), SecretError> {
+        self.change(&SecretOp::PutDealing {
+            epoch,
+            dealer,
+            private,
+        })
+    }
+
+    fn get_dealing(
+        &mut self,
+        _alloc: Global,
+        epoch: Epoch,
+        dealer: Key,
+    ) -> Result<Option<Private>, SecretError> {
+        self.begin()?;
+        Ok(self.held.private(epoch, dealer))
+    }
+
+    fn prune(&mut self, _alloc: Global, min: Epoch) -> Result<(), SecretError> {
+        self.change(&SecretOp::Prune { min })
+    }
+
+    fn cut(&mut self, alloc: Global, op: &SecretOp, pick: u64) -> Mem<()> {
+        if self.held.cut(alloc, op, pick).is_err() {
+            self.wants = self.wants.saturating_add(1);
+            return Err(NoMemory);
+        }
+        Ok(())
+    }
+
+    fn crash(&mut self, _pick: u64) {}
+
+    ghost use Rattle.std.proofs.Common.{refl};
+    ghost use Rattle.dkg_store.specs.Secrets.{tries_more};
+
+    ghost made_none = { λ _. refl };
+
+    ghost made_more = { λ a b c xs ys. tries_more xs ys a.held b.held c.held };
+}

@@ -1,0 +1,313 @@
+//! A player of a round: it acknowledges each dealer once, for the dealing that is recorded.
+//!
+//! A reshare actor hands it each dealing that comes in.
+ghost use Rattle.std.specs.Prelude.{◌≡◌, ◌<◌, ◌+◌, ◌^◌, ◌++◌, ◌∷◌, [], length, OnOk, OnErr, IfOk, IfErr, IsErrOf, IsTrue, IsSome, IsOk, is_some, None, Ok, Err, Contains, if◌then◌else◌};
+ghost use Rattle.std.specs.FinMap as map;
+ghost use Rattle.dkg_journal.specs.Fuse.{Reached, Ran, RanAll};
+ghost use Rattle.dkg_journal.specs.Steps.{IsOpenAt};
+ghost use Rattle.dkg_store.specs.Events.{event_spelling, IsPublic};
+ghost use Rattle.dkg_store.specs.Pairs.{Holds, HoldsEither};
+ghost use Rattle.dkg_store.specs.Player.{IsPlayerOf, Acknowledges};
+ghost use Rattle.dkg_store.specs.Both.{MadeBoth, IsWant, put_then_append};
+ghost use Rattle.dkg_store.specs.declared.player.DealingHandleError.TheVariants.{Store as OfStore};
+ghost use Rattle.dkg_ceremony.specs.declared.ceremony.DealingError.{DealingError};
+
+use crate::call::StoreError;
+use crate::devices::Devices;
+use crate::number_map::NumberMap;
+use crate::secrets::{SecretOp, SecretStore};
+use crate::store::Store;
+use dkg_ceremony::{Ack, Ceremony, DealingError, Private, Public, Round, Value};
+use dkg_journal::Disk;
+use dkg_types::{Entry, Transcript};
+use dkg_values::{Epoch, Key, Mem};
+use std::alloc::Global;
+use thiserror::Error;
+
+/// Why a dealing gets no acknowledgement.
+#[derive(Debug, Drop, Error)]
+pub enum DealingHandleError {
+    /// The dealing is not one of the round's to this player.
+    #[error("the dealing is refused: {0}")]
+    Refused(DealingError),
+    /// The store did not record it.
+    #[error("the dealing is not recorded: {0}")]
+    Store(StoreError),
+}
+
+impl From<StoreError> for DealingHandleError {
+    ghost from_gives = { λ of_store of_player. of_player ≡ OfStore of_store };
+
+    fn from(error: StoreError) -> DealingHandleError {
+        DealingHandleError::Store(error)
+    }
+}
+
+/// A node as a player of one round.
+#[derive(Drop)]
+pub struct Player {
+    me: Key,
+    round: Round,
+    /// The acknowledgements that were asked for, by dealer.
+    acks: NumberMap<Ack>,
+}
+
+fn kept_ack(acks: &NumberMap<Ack>, dealer: Key) -> Option<Ack>
+    ensures { result ≡ map.get acks.now dealer }
+{
+    acks.get(u64::from(dealer.0)).copied()
+}
+
+fn keep_ack(acks: &mut NumberMap<Ack>, dealer: Key, ack: Ack) -> Result<(), StoreError>
+    ensures done { OnOk result (acks.new ≡ map.insert acks.old dealer ack) }
+    ensures kept { OnErr result (acks.new ≡ acks.old) }
+    ensures memory { IfErr result (λ e. e ≡ StoreError.NoMemory) }
+{
+    acks.insert(u64::from(dealer.0), ack)?;
+    Ok(())
+}
+
+fn forget_ack(acks: &mut NumberMap<Ack>, dealer: Key)
+    ensures { acks.new ≡ map.remove acks.old dealer }
+{
+    acks.remove(u64::from(dealer.0));
+}
+
+/// Records a new dealing, tells it, and keeps its acknowledgement.
+fn keep_dealing<D: Disk, X: SecretStore, Dir: Drop>(
+    alloc: Global,
+    acks: &mut NumberMap<Ack>,
+    devices: &mut Devices<'_, D, X>,
+    store: &mut Store<Dir>,
+    out: &mut Transcript,
+    told: Public,
+    ack: Ack,
+    epoch: Epoch,
+    dealer: Key,
+    public: Public,
+    private: Private,
+) -> Result<(), StoreError>
+    requires short { 8 + length (event_spelling dealer public) < 2 ^ 32 }
+    requires room { 0 < out.old.spare }
+    requires new { map.get acks.old dealer ≡ None }
+    requires unrecorded { map.get store.old.dealings (epoch, dealer) ≡ None }
+    requires open { IsTrue D.tells → IsOpenAt store.old.journal.place (D.files devices.old.disk.now) (D.image devices.old.disk.now) }
+    ensures acks { OnOk result (acks.new ≡ map.insert acks.old dealer ack) }
+    ensures no_ack { OnErr result (acks.new ≡ acks.old) }
+    ensures pairs { OnOk result (store.new.dealings ≡ map.insert store.old.dealings (epoch, dealer) (public, private)) }
+    ensures no_pair { OnErr result (store.new.dealings ≡ store.old.dealings) }
+    ensures told { OnOk result (out.new.entries ≡ out.old.entries ++ Entry.Recorded epoch dealer told private ∷ []) }
+    ensures untold { OnErr result (out.new.entries ≡ out.old.entries) }
+    ensures open { OnOk result (IsTrue D.tells → IsOpenAt store.new.journal.place (D.files devices.new.disk.now) (D.image devices.new.disk.now)) }
+    ensures holds { OnOk result (IsPublic public → IsTrue D.tells → IsTrue X.tells → Holds store.old.dealings (D.image devices.old.disk.now) (X.held devices.old.secrets.now) → Holds store.new.dealings (D.image devices.new.disk.now) (X.held devices.new.secrets.now)) }
+    ensures images { IsPublic public → IsTrue D.tells → IsTrue X.tells → Holds store.old.dealings (D.image devices.old.disk.now) (X.held devices.old.secrets.now) → HoldsEither store.old.dealings (map.insert store.old.dealings (epoch, dealer) (public, private)) (D.image devices.new.disk.now) (X.held devices.new.secrets.now) }
+    ensures all { OnOk result (RanAll (MadeBoth D.made X.made) (devices.old.disk.now, devices.old.secrets.now) (devices.new.disk.now, devices.new.secrets.now) devices.old.fuse devices.new.fuse (put_then_append (SecretOp.PutDealing epoch dealer private) store.old.journal.place (epoch, event_spelling dealer public))) }
+    ensures calls { Ran (MadeBoth D.made X.made) (devices.old.disk.now, devices.old.secrets.now) (devices.new.disk.now, devices.new.secrets.now) devices.old.fuse devices.new.fuse (put_then_append (SecretOp.PutDealing epoch dealer private) store.old.journal.place (epoch, event_spelling dealer public)) }
+    ensures memory { IsErrOf result StoreError.NoMemory → IsWant ((acks.new ≡ acks.old) × (store.new ≡ store.old) × (devices.new ≡ devices.old)) (D.wants devices.old.disk.now) (D.wants devices.new.disk.now) (X.wants devices.old.secrets.now) (X.wants devices.new.secrets.now) }
+    ensures cut { IsErrOf result StoreError.Cut → Reached devices.old.fuse devices.new.fuse }
+    ensures not_cut { OnOk result (Reached devices.old.fuse devices.new.fuse → ⊥) }
+    ensures same_disk { devices.new.disk.ghost_name ≡ devices.old.disk.ghost_name }
+    ensures same_secrets { devices.new.secrets.ghost_name ≡ devices.old.secrets.ghost_name }
+{
+    keep_ack(acks, dealer, ack)?;
+    match store.append_dealing(alloc, devices, epoch, dealer, public, private) {
+        Err(error) => {
+            forget_ack(acks, dealer);
+            Err(error)
+        }
+        Ok(_) => {
+            let pushed = out.push(Entry::Recorded {
+                epoch,
+                dealer,
+                public: told,
+                private,
+            });
+            prove!(pushed.is_ok());
+            Ok(())
+        }
+    }
+}
+
+/// The acknowledgement of a new dealing and the public half that is told, with room to tell it.
+fn ready_answer<C: Ceremony>(
+    alloc: Global,
+    ceremony: &C,
+    signer: &C::Signer,
+    round: &Round,
+    out: &mut Transcript,
+    dealer: Key,
+    public: &Public,
+) -> Result<(Ack, Public), StoreError>
+    requires { Contains round.now.players (C.Signer.key_of signer.now) }
+    ensures ack { IfOk result (λ r. r.0 ≡ C.ack_of (C.Signer.key_of signer.now) round.now dealer public.now) }
+    ensures told { IfOk result (λ r. r.1 ≡ public.now) }
+    ensures room { OnOk result (0 < out.new.spare) }
+    ensures same { out.new.entries ≡ out.old.entries }
+{
+    let ack = ceremony.ack(alloc, signer, round, dealer, public)?;
+    let told = public.copy(alloc)?;
+    out.reserve(1)?;
+    Ok((ack, told))
+}
+
+/// The acknowledgement of what is recorded.
+fn acknowledge<C: Ceremony>(
+    alloc: Global,
+    acks: &mut NumberMap<Ack>,
+    ceremony: &C,
+    signer: &C::Signer,
+    round: &Round,
+    dealer: Key,
+    public: &Public,
+) -> Result<Ack, StoreError>
+    requires { Contains round.now.players (C.Signer.key_of signer.now) }
+    ensures ack { IfOk result (λ ack. ack ≡ C.ack_of (C.Signer.key_of signer.now) round.now dealer public.now) }
+    ensures kept { IfOk result (λ ack. acks.new ≡ map.insert acks.old dealer ack) }
+    ensures same { OnErr result (acks.new ≡ acks.old) }
+    ensures memory { IfErr result (λ e. e ≡ StoreError.NoMemory) }
+{
+    let ack = ceremony.ack(alloc, signer, round, dealer, public)?;
+    keep_ack(acks, dealer, ack)?;
+    Ok(ack)
+}
+
+impl Player {
+    /// A player that has not been asked for an acknowledgement in this life. It keeps the round.
+    pub(crate) fn new(alloc: Global, me: Key, round: &Round) -> Mem<Player>
+        ensures me { IfOk result (λ player. player.me ≡ me) }
+        ensures round { IfOk result (λ player. player.round ≡ round.now) }
+        ensures acks { IfOk result (λ player. player.acks ≡ map.empty) }
+    {
+        Ok(Player {
+            me,
+            round: round.copy(alloc)?,
+            acks: NumberMap::new(alloc),
+        })
+    }
+
+    /// Checks a new dealing, records it, and acknowledges it.
+    fn accept<C: Ceremony, D: Disk, X: SecretStore, Dir: Drop>(
+        &mut self,
+        alloc: Global,
+        ceremony: &C,
+        signer: &C::Signer,
+        devices: &mut Devices<'_, D, X>,
+        store: &mut Store<Dir>,
+        out: &mut Transcript,
+        epoch: Epoch,
+        dealer: Key,
+        public: Public,
+        private: Private,
+    ) -> Result<Ack, DealingHandleError>
+        requires short { 8 + length (event_spelling dealer public) < 2 ^ 32 }
+        requires playing { Contains self.old.round.players self.old.me }
+        requires signer { C.Signer.key_of signer.now ≡ self.old.me }
+        requires unrecorded { map.get store.old.dealings (epoch, dealer) ≡ None }
+        requires unkept { map.get self.old.acks dealer ≡ None }
+        requires open { IsTrue D.tells → IsOpenAt store.old.journal.place (D.files devices.old.disk.now) (D.image devices.old.disk.now) }
+        ensures me { self.new.me ≡ self.old.me }
+        ensures round { self.new.round ≡ self.old.round }
+        ensures answer { IfOk result (λ ack. IsPlayerOf C.ack_of self.old.me self.old.round self.old.acks store.old.dealings epoch → Acknowledges C.ack_of self.old.me self.old.round store.new.dealings epoch dealer ack) }
+        ensures player { IsPlayerOf C.ack_of self.old.me self.old.round self.old.acks store.old.dealings epoch → IsPlayerOf C.ack_of self.new.me self.new.round self.new.acks store.new.dealings epoch }
+        ensures refused { (e : DealingError) → IsErrOf result (DealingHandleError.Refused e) → C.dealing_of self.old.round self.old.me dealer public private ≡ Err e }
+        ensures checked { OnOk result (C.dealing_of self.old.round self.old.me dealer public private ≡ Ok tt) }
+        ensures pairs { OnOk result (store.new.dealings ≡ map.insert store.old.dealings (epoch, dealer) (public, private)) }
+        ensures no_pair { OnErr result (store.new.dealings ≡ store.old.dealings) }
+        ensures told { OnOk result (out.new.entries ≡ out.old.entries ++ Entry.Recorded epoch dealer public private ∷ []) }
+        ensures untold { OnErr result (out.new.entries ≡ out.old.entries) }
+        ensures open { OnOk result (IsTrue D.tells → IsOpenAt store.new.journal.place (D.files devices.new.disk.now) (D.image devices.new.disk.now)) }
+        ensures holds { OnOk result (IsPublic public → IsTrue D.tells → IsTrue X.tells → Holds store.old.dealings (D.image devices.old.disk.now) (X.held devices.old.secrets.now) → Holds store.new.dealings (D.image devices.new.disk.now) (X.held devices.new.secrets.now)) }
+        ensures images { IsPublic public → IsTrue D.tells → IsTrue X.tells → Holds store.old.dealings (D.image devices.old.disk.now) (X.held devices.old.secrets.now) → HoldsEither store.old.dealings (map.insert store.old.dealings (epoch, dealer) (public, private)) (D.image devices.new.disk.now) (X.held devices.new.secrets.now) }
+        ensures calls { Ran (MadeBoth D.made X.made) (devices.old.disk.now, devices.old.secrets.now) (devices.new.disk.now, devices.new.secrets.now) devices.old.fuse devices.new.fuse (put_then_append (SecretOp.PutDealing epoch dealer private) store.old.journal.place (epoch, event_spelling dealer public)) }
+        ensures memory { IsErrOf result (DealingHandleError.Store StoreError.NoMemory) → IsWant ((self.new ≡ self.old) × (store.new ≡ store.old) × (devices.new ≡ devices.old)) (D.wants devices.old.disk.now) (D.wants devices.new.disk.now) (X.wants devices.old.secrets.now) (X.wants devices.new.secrets.now) }
+        ensures same_disk { devices.new.disk.ghost_name ≡ devices.old.disk.ghost_name }
+        ensures same_secrets { devices.new.secrets.ghost_name ≡ devices.old.secrets.ghost_name }
+    {
+        if let Err(error) = ceremony.check_dealing(
+            &self.round,
+            self.me,
+            dealer,
+            &public,
+            &private,
+        ) {
+            return Err(DealingHandleError::Refused(error));
+        }
+        let (ack, told) = ready_answer(alloc, ceremony, signer, &self.round, out, dealer, &public)?;
+        keep_dealing(
+            alloc,
+            &mut self.acks,
+            devices,
+            store,
+            out,
+            told,
+            ack,
+            epoch,
+            dealer,
+            public,
+            private,
+        )?;
+        Ok(ack)
+    }
+
+    /// Answers a dealing: to a dealer whose dealing is recorded by the acknowledgement of that, whatever comes now; else by the
+    /// check, the record, and the acknowledgement.
+    ///
+    /// Refused: what the check answers. Want of memory leaves all as before, but where a device itself wanted it.
+    pub fn handle<C: Ceremony, D: Disk, X: SecretStore, Dir: Drop>(
+        &mut self,
+        alloc: Global,
+        ceremony: &C,
+        signer: &C::Signer,
+        devices: &mut Devices<'_, D, X>,
+        store: &mut Store<Dir>,
+        out: &mut Transcript,
+        epoch: Epoch,
+        dealer: Key,
+        public: Public,
+        private: Private,
+    ) -> Result<Ack, DealingHandleError>
+        requires short { 8 + length (event_spelling dealer public) < 2 ^ 32 }
+        requires playing { Contains self.old.round.players self.old.me }
+        requires signer { C.Signer.key_of signer.now ≡ self.old.me }
+        requires open { IsTrue D.tells → IsOpenAt store.old.journal.place (D.files devices.old.disk.now) (D.image devices.old.disk.now) }
+        ensures me { self.new.me ≡ self.old.me }
+        ensures round { self.new.round ≡ self.old.round }
+        // The acknowledgement is that of the dealing that is recorded.
+        ensures answer { IfOk result (λ ack. IsPlayerOf C.ack_of self.old.me self.old.round self.old.acks store.old.dealings epoch → Acknowledges C.ack_of self.old.me self.old.round store.new.dealings epoch dealer ack) }
+        ensures player { IsPlayerOf C.ack_of self.old.me self.old.round self.old.acks store.old.dealings epoch → IsPlayerOf C.ack_of self.new.me self.new.round self.new.acks store.new.dealings epoch }
+        ensures refused { (e : DealingError) → IsErrOf result (DealingHandleError.Refused e) → C.dealing_of self.old.round self.old.me dealer public private ≡ Err e }
+        ensures checked { OnOk result (IsPlayerOf C.ack_of self.old.me self.old.round self.old.acks store.old.dealings epoch → map.get store.old.dealings (epoch, dealer) ≡ None → C.dealing_of self.old.round self.old.me dealer public private ≡ Ok tt) }
+        // A recorded dealer touches nothing, and no memory is taken where it was answered before.
+        ensures recorded { IsSome (map.get store.old.dealings (epoch, dealer)) → (store.new ≡ store.old) × (out.new ≡ out.old) × (devices.new ≡ devices.old) }
+        ensures cached { IsSome (map.get self.old.acks dealer) → (self.new ≡ self.old) × (store.new ≡ store.old) × (out.new ≡ out.old) × (devices.new ≡ devices.old) × IsOk result }
+        ensures pairs { OnOk result (IsPlayerOf C.ack_of self.old.me self.old.round self.old.acks store.old.dealings epoch → store.new.dealings ≡ (if is_some (map.get store.old.dealings (epoch, dealer)) then store.old.dealings else map.insert store.old.dealings (epoch, dealer) (public, private))) }
+        ensures no_pair { OnErr result (store.new.dealings ≡ store.old.dealings) }
+        ensures told { OnOk result (IsPlayerOf C.ack_of self.old.me self.old.round self.old.acks store.old.dealings epoch → out.new.entries ≡ (if is_some (map.get store.old.dealings (epoch, dealer)) then out.old.entries else out.old.entries ++ Entry.Recorded epoch dealer public private ∷ [])) }
+        ensures untold { OnErr result (out.new.entries ≡ out.old.entries) }
+        ensures open { OnOk result (IsTrue D.tells → IsOpenAt store.new.journal.place (D.files devices.new.disk.now) (D.image devices.new.disk.now)) }
+        ensures holds { OnOk result (IsPublic public → IsTrue D.tells → IsTrue X.tells → Holds store.old.dealings (D.image devices.old.disk.now) (X.held devices.old.secrets.now) → Holds store.new.dealings (D.image devices.new.disk.now) (X.held devices.new.secrets.now)) }
+        ensures images { IsPublic public → IsTrue D.tells → IsTrue X.tells → Holds store.old.dealings (D.image devices.old.disk.now) (X.held devices.old.secrets.now) → HoldsEither store.old.dealings (map.insert store.old.dealings (epoch, dealer) (public, private)) (D.image devices.new.disk.now) (X.held devices.new.secrets.now) }
+        ensures calls { Ran (MadeBoth D.made X.made) (devices.old.disk.now, devices.old.secrets.now) (devices.new.disk.now, devices.new.secrets.now) devices.old.fuse devices.new.fuse (put_then_append (SecretOp.PutDealing epoch dealer private) store.old.journal.place (epoch, event_spelling dealer public)) }
+        ensures memory { IsErrOf result (DealingHandleError.Store StoreError.NoMemory) → IsWant ((self.new ≡ self.old) × (store.new ≡ store.old) × (devices.new ≡ devices.old)) (D.wants devices.old.disk.now) (D.wants devices.new.disk.now) (X.wants devices.old.secrets.now) (X.wants devices.new.secrets.now) }
+        ensures same_disk { devices.new.disk.ghost_name ≡ devices.old.disk.ghost_name }
+        ensures same_secrets { devices.new.secrets.ghost_name ≡ devices.old.secrets.ghost_name }
+    {
+        if let Some(ack) = kept_ack(&self.acks, dealer) {
+            return Ok(ack);
+        }
+        if let Some((recorded, _)) = store.dealing(epoch, dealer) {
+            return Ok(acknowledge(
+                alloc,
+                &mut self.acks,
+                ceremony,
+                signer,
+                &self.round,
+                dealer,
+                recorded,
+            )?);
+        }
+        self.accept(
+            alloc, ceremony, signer, devices, store, out, epoch, dealer, public, private,
+        )
+    }
+}
