@@ -13,6 +13,8 @@ use Rattle.dkg_journal.specs.Names.{Files, name_cmp, name_number, name_at, name_
 use Rattle.dkg_journal.specs.Disk.{Inside, Follows, Did, HasFile, Torn, Lands as Left, after_write}
 use Rattle.dkg_journal.specs.Kept.{Kept, FileImage, settled, wrote}
 use Rattle.dkg_journal.specs.Table.{Rows, file_at, IsUpdate, made_sure, Lands, row_bytes, contents, bytes_of, get_contents, matches, MatchFile, RowsImage, reads_image}
+use Rattle.dkg_journal.specs.Opening.{IsFormOfToday}
+use Rattle.dkg_values.specs.declared.name.Name.TheVariants.{Segment}
 use Rattle.dkg_journal.specs.Fuse.{counted}
 use Rattle.dkg_journal.specs.Made.{Made, made_one, made_nothing}
 use Rattle.dkg_journal.specs.declared.sure.SureDisk.{SureDisk}
@@ -270,3 +272,17 @@ failed_made op old mid new same kept count = made_one op old.changes new.changes
 
 pub unmade : (old new : SureDisk) → new ≡ old → Made [] old.changes new.changes (RowsImage old.files) (RowsImage new.files)
 unmade old new same = subst (λ (d : SureDisk). Made [] old.changes d.changes (RowsImage old.files) (RowsImage d.files)) (sym same) (made_nothing old.changes (RowsImage old.files))
+
+-- a disk without files
+pub bare_lands : (rows : Rows) → rows ≡ [] → Left (contents rows) (RowsImage rows)
+bare_lands rows bare = record {
+  only = λ c image. same_contents rows c (λ q. none_there (file_at q rows) (get c q) (ap (file_at q) bare) (image.each q));
+}
+  where
+    none_there : (o : Option Kept) (c : Option (List ℕ)) → o ≡ None → MatchFile o c → c ≡ bytes_of o
+    none_there None None is image = refl
+    none_there None (Some c) is image = absurd image
+    none_there (Some f) c is image = absurd (none-some f (sym is))
+
+pub bare_form : (rows : Rows) → rows ≡ [] → IsFormOfToday (contents rows)
+bare_form rows bare = record { no_segment = λ section. get_contents rows (Segment section) ∙ ap (λ (r : Rows). bytes_of (file_at (Segment section) r)) bare }

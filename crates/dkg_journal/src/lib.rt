@@ -14,6 +14,8 @@ mod open;
 mod opening;
 mod sure;
 mod table;
+#[cfg(test)]
+mod tests;
 
 pub use call::{JournalError, perform};
 pub use disk::{Disk, DiskError, Op};

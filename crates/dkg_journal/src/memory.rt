@@ -22,12 +22,18 @@ pub struct MemoryDisk {
 
 impl MemoryDisk {
     /// An empty disk that never fails.
-    pub fn new(alloc: Global) -> MemoryDisk {
+    pub fn new(alloc: Global) -> MemoryDisk
+        ensures files { result.disk.files ≡ [] }
+        ensures faults { result.faults ≡ 0 }
+    {
         MemoryDisk::failing(alloc, Vec::new(alloc))
     }
 
     /// An empty disk on which the calls of these numbers fail. The first is 1. `cut` and `crash` don't fail and are not counted.
-    pub fn failing(alloc: Global, calls: Vec<u64>) -> MemoryDisk {
+    pub fn failing(alloc: Global, calls: Vec<u64>) -> MemoryDisk
+        ensures files { result.disk.files ≡ [] }
+        ensures faults { result.faults ≡ 0 }
+    {
         let mut failing = calls;
         failing.sort_unstable();
         MemoryDisk {
