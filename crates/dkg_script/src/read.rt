@@ -3,9 +3,11 @@
 //! There is one form yet: a configuration without a namespace, one block that carries an info of epoch 0,
 //! and lives that hold that block and receive messages of the dealing channel.
 ghost use Rattle.std.specs.Prelude.{◌≡◌, ℕ, ◌+◌, ◌<◌, ◌≤◌, ◌^◌, IfOk, IfErr, IfSome, OnOk, false, length};
+ghost use Rattle.std.specs.Int.NonZero.{non_zero_u32_get};
 ghost use Rattle.std.specs.List.{AllByRecursion};
 ghost use Rattle.dkg_script.specs.Form.{IsFormOfToday, IsLifeOfToday, IsPeer};
 ghost use Rattle.dkg_script.specs.Places.{IsPlaceIn};
+ghost use Rattle.dkg_script.specs.Starts.{AreFirst, IsFirstBlock};
 
 use crate::error::ScriptError;
 use crate::fields::{bytes, cut, number, number32};
@@ -48,7 +50,9 @@ fn read_config(alloc: Global, lines: &mut Lines<'_>) -> Result<ScriptConfig, Scr
 }
 
 /// The one block, from its line.
-fn block_of(alloc: Global, config: &ScriptConfig, line: &[u8]) -> Mem<Option<BlockLine>> {
+fn block_of(alloc: Global, config: &ScriptConfig, line: &[u8]) -> Mem<Option<BlockLine>>
+    ensures { IfOk result (λ made. IfSome made (λ block. IsFirstBlock (non_zero_u32_get config.now.limit) config.now.max_mode.0 config.now.me block)) }
+{
     let Some((view, text)) = line
         .strip_prefix(b"block 0 - ")
         .and_then(|rest| cut(rest, b' '))
@@ -79,6 +83,7 @@ fn read_blocks(
     lines: &mut Lines<'_>,
 ) -> Result<BlockLines, ScriptError>
     ensures text { lines.new.text.now ≡ lines.old.text.now }
+    ensures first { IfOk result (λ blocks. AreFirst config.now blocks) }
     ensures bad { IfErr result (λ e. IsPlaceIn (length lines.old.text.now) e) }
 {
     let mut blocks = Vec::new(alloc);
@@ -185,6 +190,8 @@ fn read_lives(alloc: Global, lines: &mut Lines<'_>) -> Result<Lives, ScriptError
 /// The time and the memory grow linearly with the text.
 pub fn read_script(alloc: Global, bytes: &[u8], addressed: bool) -> Result<Script, ScriptError>
     ensures plain { IfOk result (λ script. script.addressed ≡ false) }
+    // The one block carries an info of epoch 0 that passes, with this node among its players.
+    ensures first { IfOk result (λ script. AreFirst script.config script.blocks) }
     ensures lives { IfOk result (λ script. 0 < length script.lives) }
     ensures form { IfOk result IsFormOfToday }
     ensures bad { IfErr result (λ e. IsPlaceIn (length bytes.now) e) }

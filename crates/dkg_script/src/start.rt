@@ -2,13 +2,14 @@
 //! with this node among its players.
 //!
 //! The reader of scripts asks it of the one block that there is yet.
+ghost use Rattle.std.specs.Bool.{OnTrue};
 ghost use Rattle.std.specs.Prelude.{◌≡◌, ◌↔◌, IfOk, IfSome, IsOk, IsTrue, Ok, Some, [], Contains};
 ghost use Rattle.std.specs.Int.NonZero.{non_zero_u32_get};
 ghost use Rattle.dkg_ceremony.specs.Rounds.{round_of};
 ghost use Rattle.dkg_ceremony.specs.declared.mode.Mode.TheVariants.{NonZeroCounter};
 ghost use Rattle.dkg_ceremony.specs.declared.mode.Reveal.TheVariants.{V1};
 ghost use Rattle.dkg_types.specs.Validation.{validation};
-ghost use Rattle.dkg_script.specs.Starts.{Carries, Starts, participants_of};
+ghost use Rattle.dkg_script.specs.Starts.{Carries, IsStart, Starts, participants_of};
 ghost use Rattle.dkg_types.specs.declared.info.EpochInfo.{EpochInfo};
 ghost use Rattle.dkg_types.specs.declared.directory.Unit.{Unit};
 
@@ -71,7 +72,9 @@ fn is_start(alloc: Global, config: &ScriptConfig, info: &EpochInfo<Unit>) -> Mem
 }
 
 /// Whether the encoded payload starts the lives.
-pub(crate) fn starts(alloc: Global, config: &ScriptConfig, payload: &[u8]) -> Mem<bool> {
+pub(crate) fn starts(alloc: Global, config: &ScriptConfig, payload: &[u8]) -> Mem<bool>
+    ensures { IfOk result (λ yes. OnTrue yes (IsStart (non_zero_u32_get config.now.limit) config.now.max_mode.0 config.now.me payload.now)) }
+{
     match info_of(alloc, config, payload)? {
         Some(info) => is_start(alloc, config, &info),
         None => Ok(false),
