@@ -2,6 +2,7 @@ pub mod Both
 pub mod Events
 pub mod Map
 pub mod Opened
+pub mod Others
 pub mod Pairs
 pub mod Playing
 pub mod Replayed

@@ -1,6 +1,7 @@
 //! Both devices of a step, and the calls that change them, in one order.
 ghost use Rattle.std.specs.Prelude.{◌≡◌, ◌≤◌, ◌^◌, ◌∷◌, [], OnOk, IsErrOf, IsTrue};
-ghost use Rattle.dkg_journal.specs.Disk.{Follows, Rose};
+ghost use Rattle.dkg_values.specs.declared.name.Name.TheVariants.{Flat};
+ghost use Rattle.dkg_journal.specs.Disk.{Follows, Rose, SameElse};
 ghost use Rattle.dkg_journal.specs.Fuse.{Reached, Ran, RanAll};
 ghost use Rattle.dkg_journal.specs.Ready.{IsReady};
 ghost use Rattle.dkg_journal.specs.Steps.{IsOpenAt, Adds};
@@ -46,6 +47,8 @@ pub fn put_and_append<D: Disk, X: SecretStore>(
     ensures not_cut { OnOk result (Reached devices.old.fuse devices.new.fuse → ⊥) }
     ensures all { OnOk result (RanAll (MadeBoth D.made X.made) (devices.old.disk.now, devices.old.secrets.now) (devices.new.disk.now, devices.new.secrets.now) devices.old.fuse devices.new.fuse (put_then_append put.now journal.old.place (section, body.now))) }
     ensures calls { Ran (MadeBoth D.made X.made) (devices.old.disk.now, devices.old.secrets.now) (devices.new.disk.now, devices.new.secrets.now) devices.old.fuse devices.new.fuse (put_then_append put.now journal.old.place (section, body.now)) }
+    // A crash leaves every file but the journal's as it was.
+    ensures others { IsTrue D.tells → Follows (SameElse Flat) (D.image devices.old.disk.now) (D.image devices.new.disk.now) }
     ensures same_disk { devices.new.disk.ghost_name ≡ devices.old.disk.ghost_name }
     ensures same_secrets { devices.new.secrets.ghost_name ≡ devices.old.secrets.ghost_name }
 {

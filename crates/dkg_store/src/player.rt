@@ -3,6 +3,8 @@
 //! A reshare actor hands it each dealing that comes in.
 ghost use Rattle.std.specs.Prelude.{◌≡◌, ◌<◌, ◌+◌, ◌^◌, ◌++◌, ◌∷◌, [], length, OnOk, OnErr, IfOk, IfErr, IsErrOf, IsTrue, IsSome, IsOk, is_some, None, Ok, Err, Contains, if◌then◌else◌};
 ghost use Rattle.std.specs.FinMap as map;
+ghost use Rattle.dkg_values.specs.declared.name.Name.TheVariants.{Flat};
+ghost use Rattle.dkg_journal.specs.Disk.{Follows, SameElse};
 ghost use Rattle.dkg_journal.specs.Fuse.{Reached, Ran, RanAll};
 ghost use Rattle.dkg_journal.specs.Steps.{IsOpenAt};
 ghost use Rattle.dkg_store.specs.Events.{event_spelling, IsPublic};
@@ -106,6 +108,8 @@ fn keep_dealing<D: Disk, X: SecretStore, Dir: Drop>(
     ensures memory { IsErrOf result StoreError.NoMemory → IsWant ((acks.new ≡ acks.old) × (store.new ≡ store.old) × (devices.new ≡ devices.old)) (D.wants devices.old.disk.now) (D.wants devices.new.disk.now) (X.wants devices.old.secrets.now) (X.wants devices.new.secrets.now) }
     ensures cut { IsErrOf result StoreError.Cut → Reached devices.old.fuse devices.new.fuse }
     ensures not_cut { OnOk result (Reached devices.old.fuse devices.new.fuse → ⊥) }
+    // A crash leaves every file but the journal's as it was.
+    ensures others { IsTrue D.tells → Follows (SameElse Flat) (D.image devices.old.disk.now) (D.image devices.new.disk.now) }
     ensures same_disk { devices.new.disk.ghost_name ≡ devices.old.disk.ghost_name }
     ensures same_secrets { devices.new.secrets.ghost_name ≡ devices.old.secrets.ghost_name }
 {
@@ -220,6 +224,8 @@ impl Player {
         ensures images { IsPublic public → IsTrue D.tells → IsTrue X.tells → Holds store.old.dealings (D.image devices.old.disk.now) (X.held devices.old.secrets.now) → HoldsEither store.old.dealings (map.insert store.old.dealings (epoch, dealer) (public, private)) (D.image devices.new.disk.now) (X.held devices.new.secrets.now) }
         ensures calls { Ran (MadeBoth D.made X.made) (devices.old.disk.now, devices.old.secrets.now) (devices.new.disk.now, devices.new.secrets.now) devices.old.fuse devices.new.fuse (put_then_append (SecretOp.PutDealing epoch dealer private) store.old.journal.place (epoch, event_spelling dealer public)) }
         ensures memory { IsErrOf result (DealingHandleError.Store StoreError.NoMemory) → IsWant ((self.new ≡ self.old) × (store.new ≡ store.old) × (devices.new ≡ devices.old)) (D.wants devices.old.disk.now) (D.wants devices.new.disk.now) (X.wants devices.old.secrets.now) (X.wants devices.new.secrets.now) }
+        // A crash leaves every file but the journal's as it was.
+        ensures others { IsTrue D.tells → Follows (SameElse Flat) (D.image devices.old.disk.now) (D.image devices.new.disk.now) }
         ensures same_disk { devices.new.disk.ghost_name ≡ devices.old.disk.ghost_name }
         ensures same_secrets { devices.new.secrets.ghost_name ≡ devices.old.secrets.ghost_name }
     {
@@ -289,6 +295,8 @@ impl Player {
         ensures images { IsPublic public → IsTrue D.tells → IsTrue X.tells → Holds store.old.dealings (D.image devices.old.disk.now) (X.held devices.old.secrets.now) → HoldsEither store.old.dealings (map.insert store.old.dealings (epoch, dealer) (public, private)) (D.image devices.new.disk.now) (X.held devices.new.secrets.now) }
         ensures calls { Ran (MadeBoth D.made X.made) (devices.old.disk.now, devices.old.secrets.now) (devices.new.disk.now, devices.new.secrets.now) devices.old.fuse devices.new.fuse (put_then_append (SecretOp.PutDealing epoch dealer private) store.old.journal.place (epoch, event_spelling dealer public)) }
         ensures memory { IsErrOf result (DealingHandleError.Store StoreError.NoMemory) → IsWant ((self.new ≡ self.old) × (store.new ≡ store.old) × (devices.new ≡ devices.old)) (D.wants devices.old.disk.now) (D.wants devices.new.disk.now) (X.wants devices.old.secrets.now) (X.wants devices.new.secrets.now) }
+        // A crash leaves every file but the journal's as it was.
+        ensures others { IsTrue D.tells → Follows (SameElse Flat) (D.image devices.old.disk.now) (D.image devices.new.disk.now) }
         ensures same_disk { devices.new.disk.ghost_name ≡ devices.old.disk.ghost_name }
         ensures same_secrets { devices.new.secrets.ghost_name ≡ devices.old.secrets.ghost_name }
     {

@@ -4,7 +4,8 @@
 ghost use Rattle.std.specs.Prelude.{◌≡◌, ◌≤◌, ◌<◌, ◌+◌, ◌^◌, ◌∷◌, [], length, OnOk, OnErr, IfOk, IfErr, IfSome, IsSome, IsErrOf, IsTrue, Some, None, not, nat_le, Contains, if◌then◌else◌};
 ghost use Rattle.std.specs.Option.{option_copied};
 ghost use Rattle.std.specs.FinMap as map;
-ghost use Rattle.dkg_journal.specs.Disk.{Rose, Follows};
+ghost use Rattle.dkg_values.specs.declared.name.Name.TheVariants.{Flat};
+ghost use Rattle.dkg_journal.specs.Disk.{Rose, Follows, SameElse};
 ghost use Rattle.dkg_journal.specs.Fuse.{Reached, Ran, RanAll};
 ghost use Rattle.dkg_journal.specs.Steps.{IsOpenAt, Keeps};
 ghost use Rattle.dkg_journal.specs.Opening.{IsFormOfToday, open_calls};
@@ -188,6 +189,8 @@ fn record_dealing<D: Disk, X: SecretStore>(
     ensures secrets { IsErrOf result StoreError.Secrets → Rose (X.faults devices.old.secrets.now) (X.faults devices.new.secrets.now) }
     ensures cut { IsErrOf result StoreError.Cut → Reached devices.old.fuse devices.new.fuse }
     ensures not_cut { OnOk result (Reached devices.old.fuse devices.new.fuse → ⊥) }
+    // A crash leaves every file but the journal's as it was.
+    ensures others { IsTrue D.tells → Follows (SameElse Flat) (D.image devices.old.disk.now) (D.image devices.new.disk.now) }
     ensures same_disk { devices.new.disk.ghost_name ≡ devices.old.disk.ghost_name }
     ensures same_secrets { devices.new.secrets.ghost_name ≡ devices.old.secrets.ghost_name }
 {
@@ -350,6 +353,7 @@ impl<Dir: Drop> Store<Dir> {
         ensures err { OnErr result (self.new ≡ self.old) }
         ensures dealings { self.new.dealings ≡ self.old.dealings }
         ensures done { OnOk result (IsTrue X.tells → X.held devices.new.secrets.now ≡ committed info.epoch seed share (X.held devices.old.secrets.now)) }
+        ensures journal { self.new.journal ≡ self.old.journal }
         ensures disk { devices.new.disk.now ≡ devices.old.disk.now }
         ensures wanted { IsErrOf result StoreError.NoMemory → Rose (X.wants devices.old.secrets.now) (X.wants devices.new.secrets.now) }
         ensures secrets { IsErrOf result StoreError.Secrets → Rose (X.faults devices.old.secrets.now) (X.faults devices.new.secrets.now) }
@@ -384,6 +388,7 @@ impl<Dir: Drop> Store<Dir> {
         ensures dealings { self.new.dealings ≡ map.retain_keys self.old.dealings (λ key. nat_le min key.0) }
         ensures done { OnOk result (IsTrue X.tells → X.held devices.new.secrets.now ≡ after (SecretOp.Prune min) (X.held devices.old.secrets.now)) }
         ensures crash { Tries (SecretOp.Prune min) (X.held devices.old.secrets.now) (X.held devices.new.secrets.now) }
+        ensures journal { self.new.journal ≡ self.old.journal }
         ensures disk { devices.new.disk.now ≡ devices.old.disk.now }
         ensures wanted { IsErrOf result StoreError.NoMemory → Rose (X.wants devices.old.secrets.now) (X.wants devices.new.secrets.now) }
         ensures secrets { IsErrOf result StoreError.Secrets → Rose (X.faults devices.old.secrets.now) (X.faults devices.new.secrets.now) }
@@ -431,6 +436,8 @@ impl<Dir: Drop> Store<Dir> {
         ensures secrets { IsErrOf result StoreError.Secrets → Rose (X.faults devices.old.secrets.now) (X.faults devices.new.secrets.now) }
         ensures cut { IsErrOf result StoreError.Cut → Reached devices.old.fuse devices.new.fuse }
         ensures not_cut { OnOk result (Reached devices.old.fuse devices.new.fuse → ⊥) }
+        // A crash leaves every file but the journal's as it was.
+        ensures others { IsTrue D.tells → Follows (SameElse Flat) (D.image devices.old.disk.now) (D.image devices.new.disk.now) }
         ensures same_disk { devices.new.disk.ghost_name ≡ devices.old.disk.ghost_name }
         ensures same_secrets { devices.new.secrets.ghost_name ≡ devices.old.secrets.ghost_name }
     {

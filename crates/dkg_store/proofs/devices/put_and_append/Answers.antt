@@ -4,6 +4,7 @@ use Rattle.dkg_journal.specs.Steps.{append_calls}
 use Rattle.dkg_journal.proofs.Steps.{then_all, then_ran, ran_all, ran_first}
 use Rattle.dkg_store.specs.Both.{MadeBoth, on_disk, on_secrets}
 use Rattle.dkg_store.proofs.Both.{both_more, disk_all, disk_ran, secret_one}
+use Rattle.dkg_store.proofs.Others.{others_of}
 use Rattle.dkg_store.proofs.devices.put_and_append.Goals as goal
 
 pub returns-in_err-perform_secret-clause-calls : goal.returns-in_err-perform_secret-clause-calls
@@ -25,3 +26,9 @@ returns-clause-all g c =
 
 pub returns-clause-calls : goal.returns-clause-calls
 returns-clause-calls g c = ran_all _ _ _ _ _ _ (returns-clause-all g c)
+
+pub returns-in_err-append_ready-clause-others : goal.returns-in_err-append_ready-clause-others
+returns-in_err-append_ready-clause-others g c told = others_of (c.args.section, c.args.body.now) _ _ (c.append_ready.ensures.images told)
+
+pub returns-clause-others : goal.returns-clause-others
+returns-clause-others g c told = others_of (c.args.section, c.args.body.now) _ _ (c.append_ready.ensures.images told)
