@@ -1,5 +1,6 @@
 -- The one form of script that is read and run so far: nothing happens but messages of the dealing channel.
-use Rattle.std.specs.Prelude.{◌≡◌, List, [], ◌∷◌, Option, None}
+use Rattle.std.specs.Prelude.{◌≡◌, ◌≤◌, ◌^◌, List, [], ◌∷◌, Option, None}
+use Rattle.std.specs.Int.NonZero.{non_zero_u32_get}
 use Rattle.std.specs.List.{AllByRecursion}
 use Rattle.dkg_script.specs.declared.script.Event.{Event}
 use Rattle.dkg_script.specs.declared.script.Event.TheVariants.{Peer}
@@ -18,7 +19,8 @@ pub record IsLifeOfToday (life : Life) : Type 0 where
   pub no_sync : life.sync ≡ None
   pub events : AllByRecursion IsPeer life.events
 
--- The script is of a reshare, and each of its lives is of the form.
+-- The script is of a reshare, its limit is one that a script may have, and each of its lives is of the form.
 pub record IsFormOfToday (script : Script) : Type 0 where
   pub reshares : script.config.oneshot ≡ None
+  pub few : non_zero_u32_get script.config.limit ≤ 2 ^ 30
   pub lives : AllByRecursion IsLifeOfToday script.lives

@@ -27,6 +27,7 @@ const MOST_PARTICIPANTS: u64 = 1 << 30;
 fn read_config(alloc: Global, lines: &mut Lines<'_>) -> Result<ScriptConfig, ScriptError>
     ensures text { lines.new.text.now ≡ lines.old.text.now }
     ensures reshares { IfOk result (λ config. config.oneshot ≡ None) }
+    ensures few { IfOk result (λ config. non_zero_u32_get config.limit ≤ 2 ^ 30) }
     ensures bad { IfErr result (λ e. IsPlaceIn (length lines.old.text.now) e) }
 {
     lines.take_line(b"dkg 1")?;
