@@ -30,7 +30,10 @@ pub enum Op {
     Remove { name: Name },
 }
 
-/// Names and their bytes. What an object holds is told or it isn't: `files` is `None` where it isn't.
+/// A finite map from names to bytes, of which a crash may tear what was written since a name's last sync. Whether a disk tells what it
+/// holds is a matter of its type. A count of faults, and one of how often the disk itself wanted memory, never fall and stand still at
+/// their last value; a call answers `Failed`, or `NoMemory`, only where its count rose in this call. A call that answers `NoMemory` changed
+/// nothing.
 pub trait Disk {
     /// Whether the type tells what its disks hold.
     ghost tells: { Bool };
@@ -66,7 +69,8 @@ pub trait Disk {
         ensures want { HasWant (wants self.old) (wants self.new) result }
         ensures calls { made self.old self.new [] };
 
-    /// Writes over what is there, and past the end. Until a sync a crash may leave any bytes in the range.
+    /// Writes over what is there, and past the end, of a file that is there, at a place in it or at its end. Until a sync a crash may
+    /// leave any bytes in the range, and from the old end on.
     fn write_at(
         &mut self,
         alloc: Global,
@@ -82,7 +86,7 @@ pub trait Disk {
         ensures want { HasWant (wants self.old) (wants self.new) result }
         ensures calls { made self.old self.new (Op.WriteAt name place bytes.now ∷ []) };
 
-    /// After it, a crash leaves of this file what a read gives.
+    /// After it, a crash leaves of this file what a read gives. An absent name is Ok.
     fn sync(&mut self, alloc: Global, name: Name) -> Result<(), DiskError>
         requires { IsTrue tells → Allowed (files self.old) (Op.Sync name) }
         ensures done { OnOk result (IsTrue tells → Did (Op.Sync name) (files self.old) (files self.new) (image self.new)) }

@@ -6,6 +6,7 @@ ghost use Rattle.dkg_journal.specs.Fuse.{spent_once, pick_now, IsBlown, Reached}
 
 use std::marker::Model;
 
+/// A count of changing calls, and the call, from 1, at which the step is cut. It stands still at its last value, 2^64 - 1.
 #[derive(Drop)]
 pub struct Fuse {
     call: u64,
@@ -22,6 +23,7 @@ impl Model for Fuse {
 }
 
 impl Fuse {
+    /// Cuts no call.
     pub fn never() -> Fuse
         ensures { result ≡ record { call = 0; pick = 0; spent = 0 } }
     {
@@ -61,12 +63,14 @@ impl Fuse {
         }
     }
 
+    /// How many calls were counted.
     pub fn spent(&self) -> u64
         ensures { result ≡ self.now.spent }
     {
         self.spent
     }
 
+    /// Whether the call that is cut was reached.
     pub fn blown(&self) -> bool
         ensures { IsTrue result ↔ IsBlown self.now }
     {
