@@ -214,6 +214,8 @@ impl Player {
         ensures answer { IfOk result (λ ack. IsPlayerOf C.ack_of self.old.me self.old.round self.old.acks store.old.dealings epoch → Acknowledges C.ack_of self.old.me self.old.round store.new.dealings epoch dealer ack) }
         ensures player { IsPlayerOf C.ack_of self.old.me self.old.round self.old.acks store.old.dealings epoch → IsPlayerOf C.ack_of self.new.me self.new.round self.new.acks store.new.dealings epoch }
         ensures refused { (e : DealingError) → IsErrOf result (DealingHandleError.Refused e) → C.dealing_of self.old.round self.old.me dealer public private ≡ Err e }
+        // A refusal touches nothing.
+        ensures untouched { (e : DealingError) → IsErrOf result (DealingHandleError.Refused e) → (self.new ≡ self.old) × (store.new ≡ store.old) × (out.new ≡ out.old) × (devices.new ≡ devices.old) }
         ensures checked { OnOk result (C.dealing_of self.old.round self.old.me dealer public private ≡ Ok tt) }
         ensures pairs { OnOk result (store.new.dealings ≡ map.insert store.old.dealings (epoch, dealer) (public, private)) }
         ensures no_pair { OnErr result (store.new.dealings ≡ store.old.dealings) }
@@ -282,6 +284,8 @@ impl Player {
         ensures answer { IfOk result (λ ack. IsPlayerOf C.ack_of self.old.me self.old.round self.old.acks store.old.dealings epoch → Acknowledges C.ack_of self.old.me self.old.round store.new.dealings epoch dealer ack) }
         ensures player { IsPlayerOf C.ack_of self.old.me self.old.round self.old.acks store.old.dealings epoch → IsPlayerOf C.ack_of self.new.me self.new.round self.new.acks store.new.dealings epoch }
         ensures refused { (e : DealingError) → IsErrOf result (DealingHandleError.Refused e) → C.dealing_of self.old.round self.old.me dealer public private ≡ Err e }
+        // A refusal touches nothing.
+        ensures untouched { (e : DealingError) → IsErrOf result (DealingHandleError.Refused e) → (self.new ≡ self.old) × (store.new ≡ store.old) × (out.new ≡ out.old) × (devices.new ≡ devices.old) }
         ensures checked { OnOk result (IsPlayerOf C.ack_of self.old.me self.old.round self.old.acks store.old.dealings epoch → map.get store.old.dealings (epoch, dealer) ≡ None → C.dealing_of self.old.round self.old.me dealer public private ≡ Ok tt) }
         // A recorded dealer touches nothing, and no memory is taken where it was answered before.
         ensures recorded { IsSome (map.get store.old.dealings (epoch, dealer)) → (store.new ≡ store.old) × (out.new ≡ out.old) × (devices.new ≡ devices.old) }
