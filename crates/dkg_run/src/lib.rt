@@ -1,2 +1,21 @@
-//! A node run through the lives of a script.
+//! A node run through the lives of a script, and the top call that reads the script and writes the transcript.
+//!
+//! `main` makes the outside (source, sink, devices) and calls `run_command`; whoever has a script already calls `run_lives`.
 #![tactic(auto)]
+
+mod beginning;
+mod calls;
+mod command;
+mod lives;
+mod node;
+mod sink;
+mod source;
+mod standard;
+mod stop;
+mod transfer;
+
+pub use command::{Status, run_command};
+pub use lives::run_lives;
+pub use sink::{MemorySink, Sink, SureSink};
+pub use source::{Failed, MemorySource, Source, SureSource};
+pub use standard::{StdSink, StdSource};

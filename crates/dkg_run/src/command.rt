@@ -1,0 +1,156 @@
+//! The top call: it reads a script, runs its lives, and writes their transcript.
+ghost use Rattle.std.specs.Prelude.{IsTrue};
+ghost use Rattle.dkg_run.specs.Devices.{IsToday};
+
+use crate::lives::run_lives;
+use crate::sink::Sink;
+use crate::source::Source;
+use crate::transfer::{ReadError, read_all, write_all};
+use dkg_ceremony::Mem;
+use dkg_journal::Disk;
+use dkg_script::{ScriptError, print_of, read_script};
+use dkg_store::SecretStore;
+use dkg_types::{Entry, Fault, Transcript};
+use std::alloc::Global;
+
+/// How a command ended. The program's exit status is its number.
+#[derive(Debug, Drop)]
+pub enum Status {
+    /// The script was read to its end, and every life was run.
+    Done,
+    /// The words name no command.
+    Usage,
+    /// The bytes are no script of the form that is built so far.
+    Unsupported,
+    /// The node ended with a fault that is neither want of memory nor a device's.
+    Fault(Fault),
+    /// The disk or the secret store failed.
+    Device,
+    /// Memory ran out.
+    NoMemory,
+    /// The source failed.
+    ReadFault,
+    /// The sink failed.
+    WriteFault,
+    /// The source has more bytes than a script may have.
+    TooLong,
+}
+
+impl Status {
+    /// The number of the status.
+    pub fn number(&self) -> u8 {
+        match self {
+            Status::Done => 0,
+            Status::Usage => 2,
+            Status::Fault(_) => 4,
+            Status::Device => 5,
+            Status::NoMemory => 6,
+            Status::ReadFault => 7,
+            Status::WriteFault => 8,
+            Status::TooLong => 9,
+            Status::Unsupported => 10,
+        }
+    }
+
+    /// The last line that is written for the status, where it has one.
+    fn last_line(&self) -> &'static str {
+        match self {
+            Status::Done => "done\n",
+            Status::Usage => "usage\n",
+            Status::Unsupported => "unsupported\n",
+            _ => "",
+        }
+    }
+}
+
+/// Whether the words are those of the one command.
+fn is_run(words: &[String]) -> bool {
+    match words {
+        [word] => word.as_str() == "run",
+        _ => false,
+    }
+}
+
+/// The status of a run that a fault ended.
+fn status_of(fault: Fault) -> Status {
+    match fault {
+        Fault::NoMemory => Status::NoMemory,
+        Fault::Disk | Fault::Secrets => Status::Device,
+        other => Status::Fault(other),
+    }
+}
+
+/// Reads a script and runs its lives.
+fn run<S: Source, D: Disk, X: SecretStore>(
+    alloc: Global,
+    source: &mut S,
+    disk: &mut D,
+    secrets: &mut X,
+    out: &mut Transcript,
+) -> Status
+    requires { IsTrue D.tells → IsToday (D.image disk.old) }
+    ensures { IsTrue D.tells → IsToday (D.image disk.new) }
+{
+    let bytes = match read_all(alloc, source) {
+        Ok(bytes) => bytes,
+        Err(ReadError::Failed) => return Status::ReadFault,
+        Err(ReadError::TooLong) => return Status::TooLong,
+        Err(ReadError::NoMemory) => return Status::NoMemory,
+    };
+    let script = match read_script(alloc, &bytes, false) {
+        Ok(script) => script,
+        Err(ScriptError::Bad { place: _ }) => return Status::Unsupported,
+        Err(ScriptError::NoMemory) => return Status::NoMemory,
+    };
+    drop(bytes);
+    match run_lives(alloc, &script, disk, secrets, out) {
+        Ok(()) => Status::Done,
+        Err(fault) => status_of(fault),
+    }
+}
+
+/// The lines of the new entries, and the status's last line.
+fn text_of(alloc: Global, entries: &[Entry], status: &Status) -> Mem<Vec<u8>> {
+    let mut text = print_of(alloc, entries)?;
+    text.extend_from_slice(status.last_line().as_bytes())?;
+    Ok(text)
+}
+
+/// Writes what a status has to say: the new entries' lines, and its last line.
+fn report<K: Sink>(alloc: Global, sink: &mut K, entries: &[Entry], status: Status) -> Status {
+    let Ok(text) = text_of(alloc, entries, &status) else {
+        return Status::NoMemory;
+    };
+    match write_all(sink, &text) {
+        Ok(()) => status,
+        Err(_) => Status::WriteFault,
+    }
+}
+
+/// The entries of a transcript from a place on.
+fn entries_from(out: &Transcript, place: usize) -> &[Entry] {
+    out.entries().get(place..).unwrap_or(&[])
+}
+
+/// Does what the words say. `run` reads a script from the source, runs its lives over the devices, and writes the
+/// lines of the new entries and the status's last line to the sink. Any other words are Usage.
+pub fn run_command<S: Source, K: Sink, D: Disk, X: SecretStore>(
+    alloc: Global,
+    words: &[String],
+    source: &mut S,
+    sink: &mut K,
+    disk: &mut D,
+    secrets: &mut X,
+    out: &mut Transcript,
+) -> Status
+    requires { IsTrue D.tells → IsToday (D.image disk.old) }
+    ensures { IsTrue D.tells → IsToday (D.image disk.new) }
+{
+    let before = out.entries().len();
+    let status = if is_run(words) {
+        run(alloc, source, disk, secrets, out)
+    } else {
+        Status::Usage
+    };
+    report(alloc, sink, entries_from(out, before), status)
+}

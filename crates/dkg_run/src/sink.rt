@@ -1,0 +1,114 @@
+//! Where a command writes its transcript to: any writer of bytes that may fail, and two in memory.
+ghost use Rattle.std.specs.Prelude.{◌≡◌, ◌<◌, ◌≤◌, ◌++◌, List, [], ℕ, Bool, IsTrue, IsOk, IfOk, OnErr, length, take};
+ghost use Rattle.dkg_journal.specs.Disk.{Rose};
+
+use crate::calls::Calls;
+use crate::source::Failed;
+use std::alloc::Global;
+
+/// Bytes that are written at the end.
+pub trait Sink {
+    /// Whether the type tells what its sinks hold.
+    ghost tells: { Bool };
+
+    /// The bytes that it holds.
+    ghost held: { Self → List ℕ };
+
+    /// How often the sink has failed.
+    ghost faults: { Self → ℕ };
+
+    /// Takes some bytes from the front of a piece, and says how many: at least one, where the piece has any.
+    fn write(&mut self, piece: &[u8]) -> Result<usize, Failed>
+        ensures within { IfOk result (λ n. n ≤ length piece.now) }
+        ensures some { IfOk result (λ n. 0 < length piece.now → 0 < n) }
+        ensures takes { IfOk result (λ n. IsTrue tells → held self.new ≡ held self.old ++ take n piece.now) }
+        ensures lost { OnErr result (IsTrue tells → held self.new ≡ held self.old) }
+        ensures later { faults self.old ≤ faults self.new }
+        ensures failed { OnErr result (Rose (faults self.old) (faults self.new)) };
+}
+
+/// A sink in memory, some calls of which fail. Want of memory is a failure too.
+#[derive(Drop)]
+pub struct MemorySink {
+    bytes: Vec<u8>,
+    calls: Calls,
+}
+
+impl MemorySink {
+    /// A sink that fails only where memory runs out.
+    pub fn new(alloc: Global) -> MemorySink {
+        MemorySink::failing(alloc, Vec::new(alloc))
+    }
+
+    /// A sink whose calls with these numbers fail. The first call has number 1.
+    pub fn failing(alloc: Global, calls: Vec<u64>) -> MemorySink {
+        MemorySink {
+            bytes: Vec::new(alloc),
+            calls: Calls::failing(calls),
+        }
+    }
+
+    /// What the sink holds.
+    pub fn bytes(&self) -> &[u8] {
+        &self.bytes
+    }
+}
+
+impl Sink for MemorySink {
+    ghost use Rattle.std.specs.Prelude.{true};
+
+    ghost tells = { true };
+
+    ghost held = { λ s. s.bytes.items };
+
+    ghost faults = { λ s. s.calls.faults };
+
+    fn write(&mut self, piece: &[u8]) -> Result<usize, Failed> {
+        self.calls.make()?;
+        match self.bytes.extend_from_slice(piece) {
+            Ok(()) => Ok(piece.len()),
+            Err(_) => Err(self.calls.fail()),
+        }
+    }
+}
+
+/// A sink in memory that never fails. Where memory runs out it keeps no more than it has, so it tells nothing of
+/// what it holds: a front of what it was given.
+#[derive(Drop)]
+pub struct SureSink {
+    bytes: Vec<u8>,
+    is_full: bool,
+}
+
+impl SureSink {
+    pub fn new(alloc: Global) -> SureSink {
+        SureSink {
+            bytes: Vec::new(alloc),
+            is_full: false,
+        }
+    }
+
+    /// What the sink holds.
+    pub fn bytes(&self) -> &[u8] {
+        &self.bytes
+    }
+}
+
+impl Sink for SureSink {
+    ghost use Rattle.std.specs.Prelude.{false, []};
+
+    ghost tells = { false };
+
+    ghost held = { λ _. [] };
+
+    ghost faults = { λ _. 0 };
+
+    fn write(&mut self, piece: &[u8]) -> Result<usize, Failed>
+        ensures sure { result ≡ Ok (length piece.now) }
+    {
+        if !self.is_full && self.bytes.extend_from_slice(piece).is_err() {
+            self.is_full = true;
+        }
+        Ok(piece.len())
+    }
+}
