@@ -1,0 +1,43 @@
+//! The program: reads a script from standard input, and writes its transcript to standard output.
+//!
+//! Its exit status is the number of the command's status.
+#![tactic(auto)]
+
+use dkg_journal::MemoryDisk;
+use dkg_run::{StdSink, StdSource, run_command};
+use dkg_store::MemorySecrets;
+use dkg_types::Transcript;
+use std::process::ExitCode;
+use std::{env, io};
+
+/// The words of the command line. Where one is no text, there are none.
+fn words<R: env::Env + AllocGlobal>(rt: &R) -> Vec<String> {
+    match env::args(rt) {
+        Ok(args) => args
+            .skip(1)
+            .collect(rt.alloc())
+            .unwrap_or(Vec::new(rt.alloc())),
+        Err(_) => Vec::new(rt.alloc()),
+    }
+}
+
+#[tactic(auto, using(dkg_run::proofs::Today::empty_today))]
+fn main(rt: HostRuntime) -> ExitCode {
+    let alloc = rt.alloc();
+    let words = words(&rt);
+    let mut source = StdSource::new(rt.reader());
+    let mut sink = StdSink::new(io::writer(&rt));
+    let mut disk = MemoryDisk::new(alloc);
+    let mut secrets = MemorySecrets::new(alloc);
+    let mut out = Transcript::new(alloc);
+    let status = run_command(
+        alloc,
+        &words,
+        &mut source,
+        &mut sink,
+        &mut disk,
+        &mut secrets,
+        &mut out,
+    );
+    ExitCode::from(status.number())
+}
