@@ -4,27 +4,32 @@
 #![tactic(auto)]
 
 use dkg_journal::MemoryDisk;
-use dkg_run::{StdSink, StdSource, run_command};
+use dkg_run::{Status, StdSink, StdSource, run_command};
 use dkg_store::MemorySecrets;
 use dkg_types::Transcript;
+use dkg_values::{Mem, NoMemory};
 use std::process::ExitCode;
 use std::{env, io};
 
 /// The words of the command line. Where one is no text, there are none.
-fn words<R: env::Env + AllocGlobal>(rt: &R) -> Vec<String> {
+fn words<R: env::Env + AllocGlobal>(rt: &R) -> Mem<Vec<String>> {
     match env::args(rt) {
-        Ok(args) => args
-            .skip(1)
-            .collect(rt.alloc())
-            .unwrap_or(Vec::new(rt.alloc())),
-        Err(_) => Vec::new(rt.alloc()),
+        Ok(args) => Ok(args.skip(1).collect(rt.alloc())?),
+        Err(error) => {
+            if error.kind() == io::ErrorKind::OutOfMemory {
+                return Err(NoMemory);
+            }
+            Ok(Vec::new(rt.alloc()))
+        }
     }
 }
 
 #[tactic(auto, using(dkg_run::proofs::Today::empty_today))]
 fn main(rt: HostRuntime) -> ExitCode {
     let alloc = rt.alloc();
-    let words = words(&rt);
+    let Ok(words) = words(&rt) else {
+        return ExitCode::from(Status::NoMemory.number());
+    };
     let mut source = StdSource::new(rt.reader());
     let mut sink = StdSink::new(io::writer(&rt));
     let mut disk = MemoryDisk::new(alloc);

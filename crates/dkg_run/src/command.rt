@@ -1,6 +1,9 @@
 //! The top call: it reads a script, runs its lives, and writes their transcript.
-ghost use Rattle.std.specs.Prelude.{IsTrue};
+ghost use Rattle.std.specs.Prelude.{◌≡◌, ◌≢◌, ◌≤◌, ◌↔◌, [], ◌∷◌, map, codes, string_bytes, IsTrue};
+ghost use Rattle.dkg_journal.specs.Disk.{Rose};
+ghost use Rattle.dkg_run.specs.Command.{IsToldAs};
 ghost use Rattle.dkg_run.specs.Devices.{IsToday};
+ghost use Rattle.dkg_run.specs.Outside.{TookMore, HoldsFront};
 
 use crate::lives::run_lives;
 use crate::sink::Sink;
@@ -63,16 +66,29 @@ impl Status {
     }
 }
 
+fn is_run_word(word: &str) -> bool
+    ensures { IsTrue result ↔ (word.now ≡ codes "run") }
+{
+    word == "run"
+}
+
 /// Whether the words are those of the one command.
-fn is_run(words: &[String]) -> bool {
+fn is_run(words: &[String]) -> bool
+    ensures { IsTrue result ↔ (map string_bytes words.now ≡ codes "run" ∷ []) }
+{
     match words {
-        [word] => word.as_str() == "run",
+        [word] => is_run_word(word.as_str()),
         _ => false,
     }
 }
 
 /// The status of a run that a fault ended.
-fn status_of(fault: Fault) -> Status {
+fn status_of(fault: Fault) -> Status
+    ensures not_usage { result ≢ Status.Usage }
+    ensures not_read { result ≢ Status.ReadFault }
+    ensures not_long { result ≢ Status.TooLong }
+    ensures not_write { result ≢ Status.WriteFault }
+{
     match fault {
         Fault::NoMemory => Status::NoMemory,
         Fault::Disk | Fault::Secrets => Status::Device,
@@ -89,7 +105,11 @@ fn run<S: Source, D: Disk, X: SecretStore>(
     out: &mut Transcript,
 ) -> Status
     requires { IsTrue D.tells → IsToday (D.image disk.old) }
-    ensures { IsTrue D.tells → IsToday (D.image disk.new) }
+    ensures today { IsTrue D.tells → IsToday (D.image disk.new) }
+    ensures read_fault { result ≡ Status.ReadFault → Rose (S.faults source.old) (S.faults source.new) }
+    ensures too_long { result ≡ Status.TooLong → IsTrue S.tells → TookMore 16777216 (S.left source.old) (S.left source.new) }
+    ensures not_usage { result ≢ Status.Usage }
+    ensures not_write { result ≢ Status.WriteFault }
 {
     let bytes = match read_all(alloc, source) {
         Ok(bytes) => bytes,
@@ -117,7 +137,11 @@ fn text_of(alloc: Global, entries: &[Entry], status: &Status) -> Mem<Vec<u8>> {
 }
 
 /// Writes what a status has to say: the new entries' lines, and its last line.
-fn report<K: Sink>(alloc: Global, sink: &mut K, entries: &[Entry], status: Status) -> Status {
+fn report<K: Sink>(alloc: Global, sink: &mut K, entries: &[Entry], status: Status) -> Status
+    requires { status ≢ Status.WriteFault }
+    ensures told { IsToldAs status result }
+    ensures write_fault { result ≡ Status.WriteFault → Rose (K.faults sink.old) (K.faults sink.new) }
+{
     let Ok(text) = text_of(alloc, entries, &status) else {
         return Status::NoMemory;
     };
@@ -144,7 +168,14 @@ pub fn run_command<S: Source, K: Sink, D: Disk, X: SecretStore>(
     out: &mut Transcript,
 ) -> Status
     requires { IsTrue D.tells → IsToday (D.image disk.old) }
-    ensures { IsTrue D.tells → IsToday (D.image disk.new) }
+    ensures today { IsTrue D.tells → IsToday (D.image disk.new) }
+    // Other words read and run nothing.
+    ensures usage { (map string_bytes words.now ≢ codes "run" ∷ []) → IsToldAs Status.Usage result × (source.new ≡ source.old) × (disk.new ≡ disk.old) × (secrets.new ≡ secrets.old) × (out.new ≡ out.old) }
+    ensures only_usage { result ≡ Status.Usage → map string_bytes words.now ≢ codes "run" ∷ [] }
+    // The causes of what the outside's statuses tell.
+    ensures read_fault { result ≡ Status.ReadFault → Rose (S.faults source.old) (S.faults source.new) }
+    ensures write_fault { result ≡ Status.WriteFault → Rose (K.faults sink.old) (K.faults sink.new) }
+    ensures too_long { result ≡ Status.TooLong → IsTrue S.tells → TookMore 16777216 (S.left source.old) (S.left source.new) }
 {
     let before = out.entries().len();
     let status = if is_run(words) {
