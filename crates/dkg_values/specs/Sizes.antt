@@ -72,3 +72,15 @@ pub map_limit : {V : Type 0} (spelling : V → List ℕ) (pairs : List (ℕ × V
 map_limit spelling pairs most each few small h =
     let more = mul-le (length pairs) each most each few (omega arith) in
     omega (arith, map_size spelling pairs, values_limit spelling pairs each h, more, uint_narrow (length pairs) small)
+
+-- where values take at most `each` bytes, whose sizes are all known, the size of a map fits
+pub map_sizes : {V : Type 0} (spelling : V → List ℕ) (can_size : V → Type 0) (pairs : List (ℕ × V)) (each : ℕ) → length pairs < 2 ^ 32 → each ≤ 2 ^ 30 → AllByRecursion (λ v. length (spelling v) ≤ each) (values_of pairs) → AllByRecursion can_size (values_of pairs)
+    → MapSizes spelling can_size pairs
+map_sizes spelling can_size pairs each few small short can =
+    let most = mul-le (2 ^ 32) each (2 ^ 32) (2 ^ 30) (omega arith) small in
+    record { total = omega (arith, map_limit spelling pairs (2 ^ 32) each (omega arith) few short, most); each = can }
+
+-- what holds of each value holds of all in a list
+pub all_hold : {A : Type 0} (P : A → Type 0) → ((a : A) → P a) → (xs : List A) → AllByRecursion P xs
+all_hold P h [] = tt
+all_hold P h (x ∷ xs) = (h x, all_hold P h xs)

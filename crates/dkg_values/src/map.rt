@@ -5,7 +5,7 @@ ghost use Rattle.std.specs.Iterator.{YieldsFirstBy, item_count};
 ghost use Rattle.std.specs.List.Sorted.{IsStrictlyIncreasing};
 ghost use Rattle.dkg_values.specs.Codec.{ReadsBy};
 ghost use Rattle.std.specs.List.{AllByRecursion};
-ghost use Rattle.dkg_values.specs.Lists.{pairs_at, map_spelling, values_of};
+ghost use Rattle.dkg_values.specs.Lists.{pairs_at, map_spelling, values_of, MapFits};
 ghost use Rattle.dkg_values.specs.Rising.{IsMap, keys_of, lookup, map_of};
 ghost use Rattle.dkg_values.specs.Sizes.{MapSizes};
 
@@ -145,6 +145,24 @@ impl<V> Map<V> {
             }
         }
         true
+    }
+}
+
+impl<V: EncodeSize> Map<V> {
+    /// A map has a size where its values have one each, of at most 2^30 bytes.
+    pub fn has_size(&self)
+        ensures { (each : ℕ) → each ≤ 2 ^ 30 → AllByRecursion (λ v. length (V.spelling v) ≤ each) (values_of self.now) → AllByRecursion V.can_size (values_of self.now) → MapSizes V.spelling V.can_size self.now }
+    {
+        let _pairs = self.as_slice();
+    }
+}
+
+impl<V: Read> Map<V> {
+    /// A map may be read under each limits that its length keeps to, where its values may.
+    pub fn fits_limits(&self)
+        ensures { (cfg : V.Cfg) (least most : ℕ) → least ≤ length self.now → length self.now ≤ most → AllByRecursion (V.fits cfg) (values_of self.now) → MapFits (V.fits cfg) least most self.now }
+    {
+        let _pairs = self.as_slice();
     }
 }
 
