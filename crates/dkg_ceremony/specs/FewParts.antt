@@ -1,5 +1,5 @@
 -- How many the parts of an output are, which agree.
-use Rattle.std.proofs.Common.{◌≡◌, ℕ, ◌<◌, ◌≤◌, List, [], ◌∷◌, length, inl, inr, sym, subst, arith}
+use Rattle.std.proofs.Common.{ℕ, ◌≤◌, List, [], ◌∷◌, length, inl, inr, sym, subst, arith}
 use Rattle.std.specs.Prelude.{IsTrue, Contains, is_some}
 use Rattle.std.proofs.lemmas.Bool.{and_parts}
 use Rattle.dkg_values.specs.Among.{first_or_later, few_among}

@@ -1,5 +1,5 @@
 -- A sharing's parts are all that its spelling asks, but the limit and the version.
-use Rattle.std.specs.Prelude.{ℕ, ◌<◌, ◌≤◌, ◌^◌, IsTrue, length}
+use Rattle.std.specs.Prelude.{ℕ, ◌<◌, ◌^◌, IsTrue}
 use Rattle.dkg_values.specs.Lists.{PublicFits}
 use Rattle.dkg_ceremony.specs.declared.sharing.Sharing.{Sharing}
 use Rattle.dkg_ceremony.specs.Modes.{supports_of}

@@ -1,4 +1,4 @@
-use Rattle.std.proofs.Common.{◌∙◌, arith}
+use Rattle.std.proofs.Common.{arith}
 use Rattle.dkg_ceremony.specs.OutputLimits.{output_fits}
 use Rattle.dkg_ceremony.proofs.output.Output.fits_limits.Goals as goal
 
