@@ -3,7 +3,7 @@
 //! The journal makes all its changing calls through `perform`, and so do the crates above it.
 ghost use Rattle.std.specs.Prelude.{◌≡◌, ◌⊎◌, ◌≤◌, [], ◌∷◌, OnOk, IsErrOf, IsTrue, IfErr, ◌+◌, None};
 ghost use Rattle.dkg_journal.specs.Disk.{Inside, Follows, Allowed, Did, Lands, IsUnchanged, HasCause, HasWant, Rose};
-ghost use Rattle.dkg_journal.specs.Fuse.{spent_once, Reached};
+ghost use Rattle.dkg_journal.specs.Fuse.{spent_once, Reached, Fused};
 ghost use Rattle.dkg_journal.specs.Errors.{IsOfDevice};
 ghost use Rattle.dkg_journal.specs.declared.call.JournalError.TheVariants.{NoMemory as WantOfMemory};
 
@@ -95,6 +95,7 @@ pub fn perform<D: Disk>(
     ensures lands { IsErrOf result JournalError.Cut → IsTrue D.tells → Lands (D.files disk.new) (D.image disk.new) }
     ensures reached { Reached fuse.old fuse.new → IsErrOf result JournalError.Cut ⊎ IsErrOf result JournalError.NoMemory }
     ensures kinds { IfErr result IsOfDevice }
+    ensures fused { Fused JournalError.Cut JournalError.NoMemory result fuse.old fuse.new }
 {
     if let Some(pick) = fuse.spend() {
         return match disk.cut(alloc, op, pick) {
