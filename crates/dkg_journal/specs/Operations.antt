@@ -1,5 +1,5 @@
 -- What the calls of the journal and of the one-key record make of what a disk's files stand for.
-use Rattle.std.specs.Prelude.{◌≡◌, ◌⊎◌, ℕ, List, length, filter, nat_le, nat_lt, if◌then◌else◌, Bool, not, ◌||◌, ◌&&◌, Option, Some, None}
+use Rattle.std.specs.Prelude.{◌≡◌, ◌⊎◌, ℕ, List, length, nat_lt, if◌then◌else◌, Bool, not, ◌||◌, ◌&&◌, Option, Some, None}
 use Rattle.std.specs.Option.{is_some}
 use Rattle.std.specs.List.{list_any}
 use Rattle.std.specs.Ordering.{eq_by_cmp}
@@ -8,7 +8,7 @@ use Rattle.dkg_journal.specs.Names.{Files, name_cmp}
 use Rattle.dkg_journal.specs.Disk.{Lands}
 use Rattle.dkg_journal.specs.Burn.{Burn}
 use Rattle.dkg_journal.specs.Fuse.{burnt, SpentUpTo}
-use Rattle.dkg_journal.specs.Records.{Entry, entries, placed}
+use Rattle.dkg_journal.specs.Records.{Entry, entries, placed, from_section}
 use Rattle.dkg_journal.specs.Opening.{open_calls}
 use Rattle.dkg_values.specs.declared.name.Name.{Name}
 use Rattle.dkg_values.specs.declared.name.Name.TheVariants.{Plan, Flat}
@@ -35,10 +35,6 @@ with_name name names q = eq_by_cmp name_cmp q name || names q
 
 abbrev pub without_name : Name → (Name → Bool) → Name → Bool
 without_name name names q = not (eq_by_cmp name_cmp q name) && names q
-
--- the entries of sections at or above a minimum
-abbrev pub from_section : ℕ → List Entry → List Entry
-from_section min es = filter (λ e. nat_le min e.0) es
 
 -- what an operation makes of it
 abbrev pub after_operation : Operation → Journaled → Journaled

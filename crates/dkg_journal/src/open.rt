@@ -58,7 +58,7 @@ fn mend<D: Disk>(
 }
 
 /// The bytes of the flat file, if it is there.
-fn read_flat<D: Disk>(alloc: Global, disk: &mut D) -> Result<Option<Vec<u8>>, JournalError>
+pub fn read_flat<D: Disk>(alloc: Global, disk: &mut D) -> Result<Option<Vec<u8>>, JournalError>
     ensures bytes { IfOk result (λ bytes. IsTrue D.tells → option_map (λ v. v.items) bytes ≡ get (D.files disk.old) Flat) }
     ensures same { IsUnchanged D.files D.image disk.old disk.new }
     ensures later { D.faults disk.old ≤ D.faults disk.new }
