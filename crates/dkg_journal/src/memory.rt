@@ -1,8 +1,12 @@
 //! A disk in memory whose calls fail by number.
 //!
 //! Runs and tests stand on it. What it holds, and what a crash leaves, is the affair of the sure disk inside.
-ghost use Rattle.std.specs.Prelude.{◌≡◌, ◌≤◌, [], IsTrue};
-ghost use Rattle.dkg_journal.specs.Disk.{Rose};
+ghost use Rattle.std.specs.Prelude.{◌≡◌, ◌≤◌, [], ◌∷◌, None, OnOk, OnErr, IsTrue};
+ghost use Rattle.dkg_journal.specs.declared.memory.MemoryDisk.{MemoryDisk};
+ghost use Rattle.dkg_journal.specs.Disk.{Allowed, Rose, Lands, Follows, Inside, IsUnchanged};
+ghost use Rattle.dkg_journal.specs.Made.{Made};
+ghost use Rattle.dkg_journal.specs.Names.{Files};
+ghost use Rattle.dkg_journal.specs.Table.{contents, RowsImage, CrashedBy, CutBy};
 
 use crate::{Disk, DiskError, Op, SureDisk};
 use dkg_values::{Mem, Name};
@@ -142,11 +146,28 @@ impl Disk for MemoryDisk {
         self.disk.remove(alloc, name)
     }
 
-    fn cut(&mut self, alloc: Global, op: &Op, pick: u64) -> Mem<()> {
+    fn cut(&mut self, alloc: Global, op: &Op, pick: u64) -> Mem<()>
+        requires { Allowed (contents self.old.disk.files) op.now }
+        ensures cut { OnOk result (Lands (contents self.new.disk.files) (RowsImage self.new.disk.files)) }
+        ensures crash { Follows (Inside op.now) (RowsImage self.old.disk.files) (RowsImage self.new.disk.files) }
+        ensures memory { OnErr result (IsUnchanged (λ (d : MemoryDisk). contents d.disk.files) (λ (d : MemoryDisk). RowsImage d.disk.files) self.old self.new) }
+        ensures cause { self.new.faults ≡ self.old.faults }
+        ensures later { self.old.disk.wants ≤ self.new.disk.wants }
+        ensures wanted { OnErr result (Rose self.old.disk.wants self.new.disk.wants) }
+        ensures calls { Made (op.now ∷ []) self.old.disk.changes self.new.disk.changes (RowsImage self.old.disk.files) (RowsImage self.new.disk.files) }
+        // It has done what the pick says.
+        ensures picked { OnOk result (CutBy op.now pick self.old.disk.files self.new.disk.files) }
+    {
         self.disk.cut(alloc, op, pick)
     }
 
-    fn crash(&mut self, pick: u64) {
+    fn crash(&mut self, pick: u64)
+        ensures lands { Lands (contents self.new.disk.files) (RowsImage self.new.disk.files) }
+        ensures crash { (c : Files) → RowsImage self.new.disk.files c → RowsImage self.old.disk.files c }
+        ensures cause { self.new.faults ≡ self.old.faults }
+        // It has left what the pick says.
+        ensures picked { CrashedBy pick None self.old.disk.files self.new.disk.files }
+    {
         self.disk.crash(pick);
     }
 }
