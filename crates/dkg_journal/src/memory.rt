@@ -1,7 +1,8 @@
 //! A disk in memory whose calls fail by number.
 //!
 //! Runs and tests stand on it. What it holds, and what a crash leaves, is the affair of the sure disk inside.
-ghost use Rattle.std.specs.Prelude.{◌≡◌, ◌≤◌, [], ◌∷◌, None, OnOk, OnErr, IsTrue};
+ghost use Rattle.std.specs.Prelude.{◌≡◌, ◌≤◌, ◌↔◌, [], ◌∷◌, None, OnOk, OnErr, IsTrue, Contains};
+ghost use Rattle.dkg_journal.specs.Fuse.{counted};
 ghost use Rattle.dkg_journal.specs.declared.memory.MemoryDisk.{MemoryDisk};
 ghost use Rattle.dkg_journal.specs.Disk.{Allowed, Rose, Lands, Follows, Inside, IsUnchanged};
 ghost use Rattle.dkg_journal.specs.Made.{Made};
@@ -16,7 +17,7 @@ use std::alloc::Global;
 #[derive(Drop)]
 pub struct MemoryDisk {
     disk: SureDisk,
-    /// The numbers, from 1, of the calls that fail, rising.
+    /// The numbers, from 1, of the calls that fail.
     failing: Vec<u64>,
     /// How many calls were made that may fail: all but `cut` and `crash`.
     calls: u64,
@@ -37,12 +38,12 @@ impl MemoryDisk {
     pub fn failing(alloc: Global, calls: Vec<u64>) -> MemoryDisk
         ensures files { result.disk.files ≡ [] }
         ensures faults { result.faults ≡ 0 }
+        ensures failing { result.failing.items ≡ calls.items }
+        ensures calls { result.calls ≡ 0 }
     {
-        let mut failing = calls;
-        failing.sort_unstable();
         MemoryDisk {
             disk: SureDisk::new(alloc),
-            failing,
+            failing: calls,
             calls: 0,
             faults: 0,
         }
@@ -53,9 +54,13 @@ impl MemoryDisk {
         ensures disk { self.new.disk ≡ self.old.disk }
         ensures later { self.old.faults ≤ self.new.faults }
         ensures failed { IsTrue result → Rose self.old.faults self.new.faults }
+        // Exactly the calls of these numbers fail.
+        ensures number { self.new.calls ≡ counted self.old.calls }
+        ensures exact { IsTrue result ↔ Contains self.old.failing.items (counted self.old.calls) }
+        ensures failing { self.new.failing ≡ self.old.failing }
     {
         self.calls = self.calls.saturating_add(1);
-        if self.failing.binary_search(&self.calls).is_ok() {
+        if self.failing.contains(&self.calls) {
             self.faults = self.faults.saturating_add(1);
             return true;
         }
