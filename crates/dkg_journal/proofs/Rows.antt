@@ -1,5 +1,5 @@
 -- A memory disk's list of files as rows.
-use Rattle.std.proofs.Common.{◌≡◌, ℕ, suc, ◌+◌, ◌<◌, ◌≤◌, ◌&&◌, Bool, true, false, cond, not, nat_lt, List, [], ◌∷◌, ◌++◌, map, length, take, drop, get_or, Option, Some, None, refl, sym, ◌∙◌, ap, subst, arith}
+use Rattle.std.proofs.Common.{◌≡◌, ℕ, suc, ◌+◌, ◌/◌, ◌<◌, ◌≤◌, ◌&&◌, Bool, true, false, cond, not, nat_lt, List, [], ◌∷◌, ◌++◌, map, length, take, drop, get_or, Option, Some, None, refl, sym, ◌∙◌, ap, subst, arith}
 use Rattle.std.proofs.Math.Dec.{T}
 use Rattle.std.specs.Prelude.{IsTrue, filter, slice_set}
 use Rattle.std.specs.List.{prefix_len, position, insert}
@@ -7,13 +7,14 @@ use Rattle.std.specs.Ordering.{eq_by_cmp, is_eq, is_gt, is_lt}
 use Rattle.std.specs.declared.cmp.Ordering.TheVariants.{Less, Equal, Greater}
 use Rattle.std.specs.FinMap.Entries.{find, put, by_order, is_sorted, below_all, where_key, find-put, is_sorted-put, find-where_key, is_sorted-where_key}
 use Rattle.std.proofs.lemmas.Option.{cond_some}
-use Rattle.std.proofs.lemmas.List.{take_all, drop_all, take_at}
+use Rattle.std.proofs.lemmas.List.{take_all, drop_all, take_at, take_more, take_more_set, map-append}
+use Rattle.std.proofs.Math.ListN.{set}
 use Rattle.std.proofs.lemmas.Bool.Decides.{nat_tests}
 use Rattle.std.proofs.lemmas.Cmp.{alike_right, eq_by_cmp_equiv}
 use Rattle.dkg_values.specs.declared.name.Name.{Name}
 use Rattle.dkg_journal.specs.Names.{name_cmp}
 use Rattle.dkg_journal.specs.Kept.{Kept, settled, FileImage}
-use Rattle.dkg_journal.specs.Table.{Rows, file_at, IsUpdate, made_sure, Lands}
+use Rattle.dkg_journal.specs.Table.{Rows, file_at, IsUpdate, made_sure, Lands, PickedRow, Crashed, CrashedBy}
 use Rattle.dkg_journal.specs.declared.table.Held.{Held}
 use Rattle.dkg_journal.proofs.Steps.{names_total, exact_names}
 
@@ -277,3 +278,27 @@ slot_none hs ds g same is =
 pub row_names : (hs : List Held) → ◌≡◌ {A = List Name} (map (λ h. h.name) hs) (map (λ e. e.0) (rows hs))
 row_names [] = refl
 row_names (h ∷ hs) = ap (λ (l : List Name). h.name ∷ l) (row_names hs)
+
+-- a crash, row by row
+crashed_push : (pick count m left : ℕ) (but : Option Name) (rs ss : Rows) (r s : Name × Kept) → Crashed pick count but rs ss m → s.0 ≡ r.0 → PickedRow pick m but r.0 r.1 s.1 left → Crashed pick count but (rs ++ r ∷ []) (ss ++ s ∷ []) left
+crashed_push pick count m left but [] [] r s front same picked = (left, (same, subst (λ (n : ℕ). PickedRow pick n but r.0 r.1 s.1 left) front picked, refl))
+crashed_push pick count m left but [] (q ∷ ss) r s front same picked = absurd front
+crashed_push pick count m left but (p ∷ rs) [] r s front same picked = absurd front
+crashed_push pick count m left but (p ∷ rs) (q ∷ ss) r s front same picked = (front.0, (front.1.0, front.1.1, crashed_push pick front.0 m left but rs ss r s front.1.2 same picked))
+
+pub crashed_more : (pick count m left : ℕ) (but : Option Name) (hs gs : List Held) (i : ℕ) (d x y : Held) → i < length hs → length gs ≡ length hs → x ≡ get_or hs i d → Crashed pick count but (rows (take i hs)) (rows (take i gs)) m → y.name ≡ x.name → PickedRow pick m but x.name x.file y.file left → Crashed pick count but (rows (take (i + 1) hs)) (rows (take (i + 1) (set gs i y))) left
+crashed_more pick count m left but hs gs i d x y low size is front same picked =
+    let first : rows (take (i + 1) hs) ≡ rows (take i hs) ++ row x ∷ [] = ap rows (take_more hs i d low ∙ ap (λ (h : Held). take i hs ++ h ∷ []) (sym is)) ∙ map-append row (take i hs) (x ∷ []) in
+    let second : rows (take (i + 1) (set gs i y)) ≡ rows (take i gs) ++ row y ∷ [] = ap rows (take_more_set gs i y (omega (arith, low, size))) ∙ map-append row (take i gs) (y ∷ []) in
+    subst (λ (l : Rows). Crashed pick count but l (rows (take (i + 1) (set gs i y))) left) (sym first)
+    (subst (λ (l : Rows). Crashed pick count but (rows (take i hs) ++ row x ∷ []) l left) (sym second)
+    (crashed_push pick count m left but (rows (take i hs)) (rows (take i gs)) (row x) (row y) front same picked))
+
+pub crashed_all : (pick left : ℕ) (but : Option Name) (old : Rows) (inside hs gs : List Held) (i n : ℕ) → rows inside ≡ old → hs ≡ inside → n ≡ length inside → length hs ≤ i → length gs ≡ length hs → Crashed pick (pick / 4) but (rows (take i hs)) (rows (take i gs)) left → CrashedBy pick but old (rows (take n (gs ++ drop (length gs) inside)))
+crashed_all pick left but old inside hs gs i n view same long ended size all =
+    let is : take n (gs ++ drop (length gs) inside) ≡ gs = take_at gs (drop (length gs) inside) n (omega (arith, size, long, ap length same)) in
+    record {
+      left = left;
+      each = subst (λ (l : Rows). Crashed pick (pick / 4) but l (rows (take n (gs ++ drop (length gs) inside))) left) (ap rows (take_all i hs ended ∙ same) ∙ view)
+          (subst (λ (l : Rows). Crashed pick (pick / 4) but (rows (take i hs)) l left) (ap rows (take_all i gs (omega (arith, ended, size)) ∙ sym is)) all);
+    }

@@ -4,8 +4,12 @@ use Rattle.std.proofs.lemmas.List.{map-append, length-take, length-take-le, leng
 use Rattle.std.proofs.lemmas.Grind.{same_number_lists}
 use Rattle.std.proofs.lemmas.List.Sums.{fold_push}
 use Rattle.dkg_journal.specs.Disk.{written}
-use Rattle.dkg_journal.specs.Kept.{Undone, AreWithin, Kept, IsOutside, FileImage, settled, restored, rolled, filled, filled_all}
+use Rattle.dkg_journal.specs.Kept.{Undone, touched, AreWithin, Kept, IsOutside, FileImage, settled, restored, rolled, filled, filled_all}
 use Rattle.dkg_journal.specs.declared.file.Undo.{Undo}
+use Rattle.dkg_journal.specs.declared.file.Span.{Span}
+use Rattle.std.specs.Prelude.{nat_le, nat_lt, ◌&&◌, ◌||◌, false}
+use Rattle.std.proofs.lemmas.List.Folds.{list_any-append}
+use Rattle.dkg_journal.proofs.Counting.{by_spans, covers}
 use Rattle.dkg_journal.proofs.Loose.{rolled-push, within-push, length-written, get_or-written}
 
 abbrev pub undone : Undo → Undone
@@ -93,3 +97,10 @@ settled_image f = record { no_shorter = omega arith; same_length = λ h. h; agre
 -- of a file of which nothing is loose a crash leaves what a read gives
 pub settled_only : (b c : List ℕ) → FileImage (settled b) c → c ≡ b
 settled_only b c image = same_number_lists c b (image.same_length refl) (λ k low. image.agrees k (omega (arith, low, image.same_length refl)) tt)
+
+-- spans and writes that touch the same places, with one more of each
+pub touched_push : (ss next : List Span) (us all : List Undo) (s : Span) (u : Undo) → next ≡ ss ++ s ∷ [] → all ≡ us ++ u ∷ [] → s.start ≡ u.place → s.end ≡ u.place + length u.old.items → ((i : ℕ) → by_spans ss i ≡ touched (map undone us) i) → (i : ℕ) → by_spans next i ≡ touched (map undone all) i
+touched_push ss next us all s u noted pushed at end same i =
+    ap (λ (l : List Span). by_spans l i) noted ∙ list_any-append (covers i) ss (s ∷ [])
+    ∙ (λ k. same i k || (nat_le (at k) i && nat_lt i (end k) || false))
+    ∙ sym (ap (λ (l : List Undone). touched l i) (undone-push all us u pushed) ∙ list_any-append (λ (v : Undone). nat_le v.0 i && nat_lt i (v.0 + length v.1)) (map undone us) (undone u ∷ []))

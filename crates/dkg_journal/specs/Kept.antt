@@ -1,5 +1,6 @@
 -- A file in memory: its bytes, what the last sync left, and what a crash may leave of it.
-use Rattle.std.specs.Prelude.{◌≡◌, ◌⊎◌, ◌<◌, ◌≤◌, ◌++◌, ℕ, ◌+◌, ◌-◌, min, max, List, [], ◌∷◌, length, take, drop, get_or, replicate, fold}
+use Rattle.std.specs.Prelude.{◌≡◌, ◌⊎◌, ◌<◌, ◌≤◌, ◌++◌, ◌||◌, ◌&&◌, ℕ, zero, suc, ◌+◌, ◌-◌, ◌/◌, ◌%◌, min, max, nat_le, nat_lt, if◌then◌else◌, Bool, List, [], ◌∷◌, length, take, drop, get_or, replicate, fold}
+use Rattle.std.specs.List.{list_any}
 use Rattle.dkg_journal.specs.Disk.{written}
 
 -- bytes that a write put others in place of, and their place
@@ -59,3 +60,45 @@ pub record FileImage (f : Kept) (c : List ℕ) : Type 0 where
   pub no_shorter : min f.synced (length f.bytes) ≤ length c
   pub same_length : length f.bytes ≡ f.synced → length c ≡ f.synced
   pub agrees : (i : ℕ) → i < f.synced → IsOutside f.undo i → get_or c i 0 ≡ get_or f.bytes i 0
+
+-- whether a write since the last sync has touched a place
+abbrev pub touched : List Undone → ℕ → Bool
+touched us i = list_any (λ u. nat_le u.0 i && nat_lt i (u.0 + length u.1)) us
+
+-- .. or it lies behind the old end: a crash may leave any byte there
+abbrev pub loose_by : ℕ → (ℕ → Bool) → ℕ → Bool
+loose_by synced test i = nat_le synced i || test i
+
+abbrev pub is_loose : Kept → ℕ → Bool
+is_loose f = loose_by f.synced (touched f.undo)
+
+-- how many places below one pass a test
+abbrev pub count_below : (ℕ → Bool) → ℕ → ℕ
+count_below test zero = 0
+count_below test (suc n) = count_below test n + (if test n then 1 else 0)
+
+-- A place below which the first q of the places that pass are, or all of them, and what is then left of q.
+pub record IsBehind (test : ℕ → Bool) (len q place left : ℕ) : Type 0 where
+  pub within : place ≤ len
+  pub counts : count_below test place ≡ min q (count_below test len)
+  pub rest : left ≡ q - count_below test len
+
+-- the first q loose bytes as written, and the others as last synced
+pub record KeepsFirst (q : ℕ) (f : Kept) (bytes : List ℕ) : Type 0 where
+  pub place : ℕ
+  pub left : ℕ
+  pub behind : IsBehind (is_loose f) (length f.bytes) q place left
+  pub is : bytes ≡ kept_to place f
+
+-- What a crash leaves by its pick r + 4 q, where so many loose bytes of this file may still be kept.
+pub record Picked (pick count : ℕ) (f : Kept) (bytes : List ℕ) : Type 0 where
+  pub as_written : pick % 4 ≡ 0 → bytes ≡ f.bytes
+  pub as_synced : pick % 4 ≡ 1 → bytes ≡ kept_to 0 f
+  pub first : pick % 4 ≡ 2 → KeepsFirst count f bytes
+  pub one_byte : pick % 4 ≡ 3 → bytes ≡ filled_all (pick / 4 % 256) f
+
+-- how many may then be kept of the files behind it
+pub record LeftOver (pick count : ℕ) (f : Kept) (left : ℕ) : Type 0 where
+  pub counted : pick % 4 ≡ 2 → left ≡ count - count_below (is_loose f) (length f.bytes)
+  pub same : pick % 4 < 2 → left ≡ count
+  pub same_too : pick % 4 ≡ 3 → left ≡ count

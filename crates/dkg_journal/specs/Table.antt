@@ -1,5 +1,5 @@
 -- The files of a memory disk by name, and what they are as a disk.
-use Rattle.std.specs.Prelude.{◌≡◌, ℕ, List, [], ◌∷◌, map, Bool, true, false, cond, Option, Some, None, refl}
+use Rattle.std.specs.Prelude.{◌≡◌, ℕ, ◌/◌, ◌%◌, List, [], ◌∷◌, map, Bool, true, false, cond, Option, Some, None, refl}
 use Rattle.std.proofs.Common.{sym, ◌∙◌, subst, arith}
 use Rattle.std.specs.Cmp.{IsTotalOrder, nat_cmp_total}
 use Rattle.std.proofs.lemmas.Cmp.{on_total}
@@ -7,7 +7,9 @@ use Rattle.std.specs.Ordering.{eq_by_cmp}
 use Rattle.std.specs.FinMap.{find, get, from_entries, get-from_entries}
 use Rattle.dkg_values.specs.declared.name.Name.{Name}
 use Rattle.dkg_journal.specs.Names.{Files, name_cmp, name_number}
-use Rattle.dkg_journal.specs.Kept.{Kept, FileImage, settled}
+use Rattle.dkg_journal.specs.declared.disk.Op.{Op}
+use Rattle.dkg_journal.specs.declared.disk.Op.TheVariants.{WriteAt, Sync, Barrier, Install, Remove}
+use Rattle.dkg_journal.specs.Kept.{Kept, FileImage, settled, wrote, Picked, LeftOver}
 
 -- names rising, each with its file
 abbrev pub Rows : Type 0
@@ -31,6 +33,59 @@ Lands None None = Unit {0}
 Lands (Some f) (Some g) = FileImage f g.bytes × (g ≡ settled g.bytes)
 Lands None (Some g) = ⊥
 Lands (Some f) None = ⊥
+
+-- a name that a crash leaves as it is
+abbrev pub is_spared : Option Name → Name → Bool
+is_spared None name = false
+is_spared (Some but) name = eq_by_cmp name_cmp but name
+
+-- What a crash leaves of one file by its pick, where so many loose bytes may still be kept, and how many may be kept behind it.
+pub record PickedRow (pick count : ℕ) (but : Option Name) (name : Name) (file after : Kept) (left : ℕ) : Type 0 where
+  pub spared : is_spared but name ≡ true → (after ≡ settled file.bytes) × (left ≡ count)
+  pub picked : is_spared but name ≡ false → Picked pick count file after.bytes × (after ≡ settled after.bytes) × LeftOver pick count file left
+
+-- .. of all files, one behind the other
+abbrev pub Crashed : ℕ → ℕ → Option Name → Rows → Rows → ℕ → Type 0
+Crashed pick count but [] [] left = left ≡ count
+Crashed pick count but (r ∷ rs) (s ∷ ss) left = (between : ℕ) × ((s.0 ≡ r.0) × PickedRow pick count but r.0 r.1 s.1 between × Crashed pick between but rs ss left)
+Crashed pick count but [] (s ∷ ss) left = ⊥
+Crashed pick count but (r ∷ rs) [] left = ⊥
+
+-- after a crash of this pick
+pub record CrashedBy (pick : ℕ) (but : Option Name) (old new : Rows) : Type 0 where
+  pub left : ℕ
+  pub each : Crashed pick (pick / 4) but old new left
+
+-- the file that a crash inside a call leaves as it is: what stands there is the old or the new one
+abbrev pub spared_by : Op → Option Name
+spared_by (WriteAt name place bytes) = None
+spared_by (Sync name) = None
+spared_by Barrier = None
+spared_by (Install name bytes) = Some name
+spared_by (Remove name) = Some name
+
+-- a file that is written, made or taken away
+abbrev pub Wrote : Name → ℕ → List ℕ → Rows → Rows → Type 0
+Wrote name place bytes old new = (f : Kept) → file_at name old ≡ Some f → IsUpdate name (Some (wrote place bytes f)) old new
+
+-- done at an even pick, and else not
+pub record AtEven (pick : ℕ) (name : Name) (file : Option Kept) (old new : Rows) : Type 0 where
+  pub even : pick % 2 ≡ 0 → IsUpdate name file old new
+  pub odd : pick % 2 ≡ 1 → new ≡ old
+
+-- what a call that is cut has done before the crash
+abbrev pub Begun : Op → ℕ → Rows → Rows → Type 0
+Begun (WriteAt name place bytes) pick old new = Wrote name place bytes old new
+Begun (Sync name) pick old new = new ≡ old
+Begun Barrier pick old new = new ≡ old
+Begun (Install name bytes) pick old new = AtEven pick name (Some (settled bytes)) old new
+Begun (Remove name) pick old new = AtEven pick name None old new
+
+-- a call that is cut
+pub record CutBy (op : Op) (pick : ℕ) (old new : Rows) : Type 0 where
+  pub between : Rows
+  pub begun : Begun op pick old between
+  pub crashed : CrashedBy pick (spared_by op) between new
 
 -- what a read gives, by name
 abbrev pub row_bytes : Name × Kept → Name × List ℕ

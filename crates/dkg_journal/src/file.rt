@@ -1,10 +1,12 @@
 //! A file in memory, and what a crash leaves of it.
 //!
-//! The memory disk keeps one for each name. A write keeps what it puts others in place of, so that a write, a sync and a crash take
-//! time in what was written since the last sync, and not in the length of the file.
-ghost use Rattle.std.specs.Prelude.{◌≡◌, ◌≤◌, ◌<◌, ◌+◌, ◌-◌, ◌++◌, [], ◌∷◌, List, ℕ, length, take, drop, min, max, map, replicate, OnOk, OnErr, IfOk};
+//! The memory disk keeps one for each name. A write keeps what it puts others in place of, and its range, so that a write, a sync and a
+//! crash take time in what was written since the last sync, and not in the length of the file.
+ghost use Rattle.std.specs.Prelude.{◌≡◌, ◌≤◌, ◌<◌, ◌+◌, ◌-◌, ◌++◌, ◌&&◌, [], ◌∷◌, List, ℕ, length, take, drop, min, max, map, nat_le, nat_lt, replicate, OnOk, OnErr, IfOk};
+ghost use Rattle.std.specs.List.{list_any};
+ghost use Rattle.std.specs.List.Sorted.{IsNonDecreasingBy};
 ghost use Rattle.dkg_journal.specs.Disk.{written};
-ghost use Rattle.dkg_journal.specs.Kept.{Kept, Undone, restored, rolled, kept_to, settled, wrote, filled, filled_all, FileImage, AreWithin};
+ghost use Rattle.dkg_journal.specs.Kept.{Kept, Undone, restored, rolled, kept_to, settled, wrote, filled, filled_all, FileImage, AreWithin, loose_by, is_loose, count_below, IsBehind, KeepsFirst, Picked, LeftOver};
 
 use std::alloc::{AllocError, Global};
 use std::marker::Model;
@@ -16,23 +18,33 @@ struct Undo {
     old: Vec<u8>,
 }
 
-/// The bytes, how many there were at the last sync, and what the writes since have put others in place of, oldest first.
+/// The places that a write has touched: from the first up to the second.
+#[derive(Clone, Copy, Drop)]
+struct Span {
+    start: usize,
+    end: usize,
+}
+
+/// The bytes, how many there were at the last sync, what the writes since have put others in place of, oldest first, and where, in any
+/// order.
 #[derive(Drop)]
 pub struct File {
     bytes: Vec<u8>,
     synced: usize,
     undo: Vec<Undo>,
+    spans: Vec<Span>,
 }
 
 impl Model for File {
-    ghost use Rattle.std.specs.Prelude.{◌≤◌, length, map};
-    ghost use Rattle.dkg_journal.specs.Kept.{Kept, AreWithin};
+    ghost use Rattle.std.specs.Prelude.{◌≡◌, ◌≤◌, ◌&&◌, ℕ, nat_le, nat_lt, length, map};
+    ghost use Rattle.std.specs.List.{list_any};
+    ghost use Rattle.dkg_journal.specs.Kept.{Kept, AreWithin, touched};
 
     ghost Value = { Kept };
 
     ghost view = { λ f. record { bytes = f.bytes.items; synced = f.synced; undo = map (λ u. (u.place, u.old.items)) f.undo.items } };
 
-    ghost invariant = { λ f. (f.synced ≤ length f.bytes.items) × AreWithin (map (λ u. (u.place, u.old.items)) f.undo.items) (length f.bytes.items) };
+    ghost invariant = { λ f. (f.synced ≤ length f.bytes.items) × AreWithin (map (λ u. (u.place, u.old.items)) f.undo.items) (length f.bytes.items) × ((i : ℕ) → list_any (λ s. nat_le s.start i && nat_lt i s.end) f.spans.items ≡ touched (map (λ u. (u.place, u.old.items)) f.undo.items) i) };
 }
 
 /// Puts old bytes back, from a place on.
@@ -96,49 +108,40 @@ fn fill_undone(bytes: &mut Vec<u8>, undo: &[Undo], byte: u8)
     }
 }
 
-/// The lowest place from this one on that a write since the last sync has touched, and the end of that write's range there. All from
-/// the old end on was touched.
-fn next_loose(undo: &[Undo], synced: usize, len: usize, from: usize) -> (usize, usize)
-    requires within { AreWithin (map (λ u. (u.place, u.old.items)) undo.now) len }
+/// The place behind the first so many loose bytes, or the file's end, and how many are then left to count. The spans have rising starts.
+fn place_behind(spans: &[Span], synced: usize, len: usize, count: u64) -> (usize, u64)
+    requires sorted { IsNonDecreasingBy (λ s. s.start) spans.now }
     requires synced { synced ≤ len }
-    requires from { from ≤ len }
-    ensures low { from ≤ result.0 }
-    ensures order { result.0 ≤ result.1 }
-    ensures high { result.1 ≤ len }
-    ensures more { result.0 ≡ result.1 → result.1 ≡ len }
-{
-    let mut start = synced.max(from);
-    let mut end = len;
-    for one in undo {
-        let one_start = one.place.max(from);
-        let one_end = one.place + one.old.len();
-        if one_start < one_end && one_start < start {
-            start = one_start;
-            end = one_end;
-        }
-    }
-    (start, end)
-}
-
-/// The place behind the first so many loose bytes, or the file's end, and how many are then left to count.
-fn place_behind(undo: &[Undo], synced: usize, len: usize, count: u64) -> (usize, u64)
-    requires within { AreWithin (map (λ u. (u.place, u.old.items)) undo.now) len }
-    requires synced { synced ≤ len }
-    ensures place { result.0 ≤ len }
-    ensures left { result.1 ≤ count }
+    ensures { IsBehind (loose_by synced (λ i. list_any (λ s. nat_le s.start i && nat_lt i s.end) spans.now)) len count result.0 result.1 }
 {
     let mut left = count;
     let mut at = 0;
-    while at < len {
-        let (start, end) = next_loose(undo, synced, len, at);
-        let n = (end - start) as u64;
-        if left < n {
-            return (start + left as usize, 0);
+    for span in spans {
+        let start = span.start.min(synced).max(at);
+        let end = span.end.min(len);
+        if start < end {
+            let n = (end - start) as u64;
+            if left < n {
+                return (start + left as usize, 0);
+            }
+            left -= n;
+            at = end;
         }
-        left -= n;
-        at = end;
     }
-    (len, left)
+    let start = synced.max(at);
+    let n = (len - start) as u64;
+    if left < n {
+        return (start + left as usize, 0);
+    }
+    (len, left - n)
+}
+
+/// Puts spans in the order of their starts.
+fn sort_spans(spans: &mut Vec<Span>)
+    ensures sorted { IsNonDecreasingBy (λ s. s.start) spans.new.items }
+    ensures same { (i : ℕ) → list_any (λ s. nat_le s.start i && nat_lt i s.end) spans.new.items ≡ list_any (λ s. nat_le s.start i && nat_lt i s.end) spans.old.items }
+{
+    spans.sort_unstable_by_key(|span| span.start);
 }
 
 impl File {
@@ -148,10 +151,12 @@ impl File {
     {
         let synced = bytes.len();
         let undo = Vec::new(*bytes.allocator());
+        let spans = Vec::new(*bytes.allocator());
         File {
             bytes,
             synced,
             undo,
+            spans,
         }
     }
 
@@ -168,6 +173,7 @@ impl File {
     {
         self.synced = self.bytes.len();
         self.undo.clear();
+        self.spans.clear();
     }
 
     /// Writes in place, and keeps what was there. The place is at most the file's length.
@@ -179,10 +185,18 @@ impl File {
     {
         let old = overwritten(alloc, &self.bytes, place, bytes.len())?;
         self.undo.reserve(1)?;
+        self.spans.reserve(1)?;
         overwrite(&mut self.bytes, place, bytes)?;
+        let span = Span {
+            start: place,
+            end: place + old.len(),
+        };
         let pushed = self.undo.push(Undo { place, old });
         prove!(pushed.is_ok());
         let _ = pushed;
+        let noted = self.spans.push(span);
+        prove!(noted.is_ok());
+        let _ = noted;
         Ok(())
     }
 
@@ -195,6 +209,7 @@ impl File {
         roll_back(&mut self.bytes, &mut self.undo, from);
         self.bytes.truncate(self.synced.max(from.min(len)));
         self.synced = self.bytes.len();
+        self.spans.clear();
     }
 
     /// A crash that leaves one byte in every loose place.
@@ -207,6 +222,20 @@ impl File {
         fill(&mut self.bytes, self.synced, n, byte);
         self.synced = self.bytes.len();
         self.undo.clear();
+        self.spans.clear();
+    }
+
+    /// A crash that keeps the first so many loose bytes, and leaves the rest as it was last synced. What is left of the count is returned.
+    fn crash_first(&mut self, count: u64) -> u64
+        ensures settled { self.new ≡ settled self.new.bytes }
+        ensures image { FileImage self.old self.new.bytes }
+        ensures first { KeepsFirst count self.old self.new.bytes }
+        ensures left { result ≡ count - count_below (is_loose self.old) (length self.old.bytes) }
+    {
+        sort_spans(&mut self.spans);
+        let (place, left) = place_behind(&self.spans, self.synced, self.bytes.len(), count);
+        self.crash_to(place);
+        left
     }
 
     /// What a crash leaves by its pick. `count` is how many loose bytes of this file and those behind it may still be kept; what is left
@@ -214,7 +243,8 @@ impl File {
     pub fn crash(&mut self, pick: u64, count: u64) -> u64
         ensures image { FileImage self.old self.new.bytes }
         ensures settled { self.new ≡ settled self.new.bytes }
-        ensures left { result ≤ count }
+        ensures picked { Picked pick count self.old self.new.bytes }
+        ensures left { LeftOver pick count self.old result }
     {
         match pick % 4 {
             0 => {
@@ -225,11 +255,7 @@ impl File {
                 self.crash_to(0);
                 count
             }
-            2 => {
-                let (place, left) = place_behind(&self.undo, self.synced, self.bytes.len(), count);
-                self.crash_to(place);
-                left
-            }
+            2 => self.crash_first(count),
             _ => {
                 self.crash_filled((pick / 4 % 256) as u8);
                 count

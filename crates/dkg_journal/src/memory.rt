@@ -1,8 +1,13 @@
 //! A disk in memory whose calls fail by number.
 //!
 //! Runs and tests stand on it. What it holds, and what a crash leaves, is the affair of the sure disk inside.
-ghost use Rattle.std.specs.Prelude.{◌≡◌, ◌≤◌, [], IsTrue};
-ghost use Rattle.dkg_journal.specs.Disk.{Rose};
+ghost use Rattle.std.specs.Prelude.{◌≡◌, ◌≤◌, ◌↔◌, [], ◌∷◌, None, OnOk, OnErr, IsTrue, Contains};
+ghost use Rattle.dkg_journal.specs.Fuse.{counted};
+ghost use Rattle.dkg_journal.specs.declared.memory.MemoryDisk.{MemoryDisk};
+ghost use Rattle.dkg_journal.specs.Disk.{Allowed, Rose, Lands, Follows, Inside, IsUnchanged};
+ghost use Rattle.dkg_journal.specs.Made.{Made};
+ghost use Rattle.dkg_journal.specs.Names.{Files};
+ghost use Rattle.dkg_journal.specs.Table.{contents, RowsImage, CrashedBy, CutBy};
 
 use crate::{Disk, DiskError, Op, SureDisk};
 use dkg_values::{Mem, Name};
@@ -12,7 +17,7 @@ use std::alloc::Global;
 #[derive(Drop)]
 pub struct MemoryDisk {
     disk: SureDisk,
-    /// The numbers, from 1, of the calls that fail, rising.
+    /// The numbers, from 1, of the calls that fail.
     failing: Vec<u64>,
     /// How many calls were made that may fail: all but `cut` and `crash`.
     calls: u64,
@@ -33,12 +38,12 @@ impl MemoryDisk {
     pub fn failing(alloc: Global, calls: Vec<u64>) -> MemoryDisk
         ensures files { result.disk.files ≡ [] }
         ensures faults { result.faults ≡ 0 }
+        ensures failing { result.failing.items ≡ calls.items }
+        ensures calls { result.calls ≡ 0 }
     {
-        let mut failing = calls;
-        failing.sort_unstable();
         MemoryDisk {
             disk: SureDisk::new(alloc),
-            failing,
+            failing: calls,
             calls: 0,
             faults: 0,
         }
@@ -49,9 +54,13 @@ impl MemoryDisk {
         ensures disk { self.new.disk ≡ self.old.disk }
         ensures later { self.old.faults ≤ self.new.faults }
         ensures failed { IsTrue result → Rose self.old.faults self.new.faults }
+        // Exactly the calls of these numbers fail.
+        ensures number { self.new.calls ≡ counted self.old.calls }
+        ensures exact { IsTrue result ↔ Contains self.old.failing.items (counted self.old.calls) }
+        ensures failing { self.new.failing ≡ self.old.failing }
     {
         self.calls = self.calls.saturating_add(1);
-        if self.failing.binary_search(&self.calls).is_ok() {
+        if self.failing.contains(&self.calls) {
             self.faults = self.faults.saturating_add(1);
             return true;
         }
@@ -142,11 +151,28 @@ impl Disk for MemoryDisk {
         self.disk.remove(alloc, name)
     }
 
-    fn cut(&mut self, alloc: Global, op: &Op, pick: u64) -> Mem<()> {
+    fn cut(&mut self, alloc: Global, op: &Op, pick: u64) -> Mem<()>
+        requires { Allowed (contents self.old.disk.files) op.now }
+        ensures cut { OnOk result (Lands (contents self.new.disk.files) (RowsImage self.new.disk.files)) }
+        ensures crash { Follows (Inside op.now) (RowsImage self.old.disk.files) (RowsImage self.new.disk.files) }
+        ensures memory { OnErr result (IsUnchanged (λ (d : MemoryDisk). contents d.disk.files) (λ (d : MemoryDisk). RowsImage d.disk.files) self.old self.new) }
+        ensures cause { self.new.faults ≡ self.old.faults }
+        ensures later { self.old.disk.wants ≤ self.new.disk.wants }
+        ensures wanted { OnErr result (Rose self.old.disk.wants self.new.disk.wants) }
+        ensures calls { Made (op.now ∷ []) self.old.disk.changes self.new.disk.changes (RowsImage self.old.disk.files) (RowsImage self.new.disk.files) }
+        // It has done what the pick says.
+        ensures picked { OnOk result (CutBy op.now pick self.old.disk.files self.new.disk.files) }
+    {
         self.disk.cut(alloc, op, pick)
     }
 
-    fn crash(&mut self, pick: u64) {
+    fn crash(&mut self, pick: u64)
+        ensures lands { Lands (contents self.new.disk.files) (RowsImage self.new.disk.files) }
+        ensures crash { (c : Files) → RowsImage self.new.disk.files c → RowsImage self.old.disk.files c }
+        ensures cause { self.new.faults ≡ self.old.faults }
+        // It has left what the pick says.
+        ensures picked { CrashedBy pick None self.old.disk.files self.new.disk.files }
+    {
         self.disk.crash(pick);
     }
 }

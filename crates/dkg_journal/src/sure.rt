@@ -1,9 +1,13 @@
 //! A disk in memory that never fails, and whose crashes are picked.
 //!
 //! The memory disk that may fail stands on it.
-ghost use Rattle.std.specs.Prelude.{◌≡◌, ◌≤◌, []};
-ghost use Rattle.dkg_journal.specs.Disk.{Rose};
+ghost use Rattle.std.specs.Prelude.{◌≡◌, ◌≤◌, ℕ, [], ◌∷◌, None, OnOk, OnErr};
+ghost use Rattle.dkg_journal.specs.declared.sure.SureDisk.{SureDisk};
+ghost use Rattle.dkg_journal.specs.Disk.{Allowed, Rose, Lands, Follows, Inside, IsUnchanged};
 ghost use Rattle.dkg_journal.specs.Fuse.{counted};
+ghost use Rattle.dkg_journal.specs.Made.{Made};
+ghost use Rattle.dkg_journal.specs.Names.{Files};
+ghost use Rattle.dkg_journal.specs.Table.{contents, RowsImage, CrashedBy, CutBy, spared_by};
 
 use crate::table::Table;
 use crate::{Disk, DiskError, Op};
@@ -31,7 +35,9 @@ fn one_more(count: u64) -> u64
 }
 
 /// The file that a crash inside a call leaves as it is: what stands there is the old or the new one.
-fn spared(op: &Op) -> Option<Name> {
+fn spared(op: &Op) -> Option<Name>
+    ensures { result ≡ spared_by op.now }
+{
     match op {
         Op::Install { name, .. } => Some(*name),
         Op::Remove { name } => Some(*name),
@@ -152,7 +158,18 @@ impl Disk for SureDisk {
         Ok(())
     }
 
-    fn cut(&mut self, alloc: Global, op: &Op, pick: u64) -> Mem<()> {
+    fn cut(&mut self, alloc: Global, op: &Op, pick: u64) -> Mem<()>
+        requires { Allowed (contents self.old.files) op.now }
+        ensures cut { OnOk result (Lands (contents self.new.files) (RowsImage self.new.files)) }
+        ensures crash { Follows (Inside op.now) (RowsImage self.old.files) (RowsImage self.new.files) }
+        ensures memory { OnErr result (IsUnchanged (λ (d : SureDisk). contents d.files) (λ (d : SureDisk). RowsImage d.files) self.old self.new) }
+        ensures cause { ◌≡◌ {A = ℕ} 0 0 }
+        ensures later { self.old.wants ≤ self.new.wants }
+        ensures wanted { OnErr result (Rose self.old.wants self.new.wants) }
+        ensures calls { Made (op.now ∷ []) self.old.changes self.new.changes (RowsImage self.old.files) (RowsImage self.new.files) }
+        // It has done what the pick says.
+        ensures picked { OnOk result (CutBy op.now pick self.old.files self.new.files) }
+    {
         self.changes = one_more(self.changes);
         match self.files.begin(alloc, op, pick) {
             Ok(()) => {
@@ -166,7 +183,13 @@ impl Disk for SureDisk {
         }
     }
 
-    fn crash(&mut self, pick: u64) {
+    fn crash(&mut self, pick: u64)
+        ensures lands { Lands (contents self.new.files) (RowsImage self.new.files) }
+        ensures crash { (c : Files) → RowsImage self.new.files c → RowsImage self.old.files c }
+        ensures cause { ◌≡◌ {A = ℕ} 0 0 }
+        // It has left what the pick says.
+        ensures picked { CrashedBy pick None self.old.files self.new.files }
+    {
         self.files.crash(pick, None);
     }
 }

@@ -8,8 +8,8 @@ ghost use Rattle.std.specs.Ordering.{eq_by_cmp, is_gt};
 ghost use Rattle.std.specs.FinMap.{find};
 ghost use Rattle.std.specs.FinMap.Entries.{is_sorted};
 ghost use Rattle.dkg_journal.specs.Names.{name_cmp};
-ghost use Rattle.dkg_journal.specs.Kept.{Kept, settled, wrote};
-ghost use Rattle.dkg_journal.specs.Table.{Rows, RowsImage, bytes_of, contents, file_at, IsUpdate, made_sure, Lands};
+ghost use Rattle.dkg_journal.specs.Kept.{Kept, FileImage, settled, wrote};
+ghost use Rattle.dkg_journal.specs.Table.{Rows, RowsImage, bytes_of, contents, file_at, IsUpdate, made_sure, Lands, PickedRow, CrashedBy, Begun};
 ghost use Rattle.dkg_values.specs.declared.name.Name.{Name};
 
 use crate::Op;
@@ -80,6 +80,21 @@ fn slot_of(held: &[Held], name: Name) -> Option<usize>
     ensures { result ≡ position (λ h. not (is_gt (name_cmp name h.name))) held.now }
 {
     held.iter().position(|one| !is_after(name, one.name))
+}
+
+/// What a crash leaves of a file by its pick, and how many loose bytes may be kept of the files behind it.
+fn crash_one(one: &mut Held, pick: u64, but: Option<Name>, count: u64) -> u64
+    ensures name { one.new.name ≡ one.old.name }
+    ensures image { FileImage one.old.file one.new.file.bytes }
+    ensures settled { one.new.file ≡ settled one.new.file.bytes }
+    ensures picked { PickedRow pick count but one.old.name one.old.file one.new.file result }
+{
+    if but.is_some_and(|name| is_same(name, one.name)) {
+        one.file.settle();
+        count
+    } else {
+        one.file.crash(pick, count)
+    }
 }
 
 /// Puts a file of a name that is not there in its place.
@@ -220,15 +235,12 @@ impl Table {
 
     /// What a crash leaves by its pick, of all files but one that is made sure of.
     pub fn crash(&mut self, pick: u64, but: Option<Name>)
-        ensures { (q : Name) → Lands (file_at q self.old) (file_at q self.new) }
+        ensures lands { (q : Name) → Lands (file_at q self.old) (file_at q self.new) }
+        ensures picked { CrashedBy pick but self.old self.new }
     {
         let mut count = pick / 4;
         for one in self.held.iter_mut() {
-            if but.is_some_and(|name| is_same(name, one.name)) {
-                one.file.settle();
-            } else {
-                count = one.file.crash(pick, count);
-            }
+            count = crash_one(one, pick, but, count);
         }
     }
 
@@ -236,6 +248,7 @@ impl Table {
     pub fn begin(&mut self, alloc: Global, op: &Op, pick: u64) -> Mem<()>
         requires { Allowed (contents self.old) op.now }
         ensures inside { Follows (Inside op.now) (RowsImage self.old) (RowsImage self.new) }
+        ensures begun { OnOk result (Begun op.now pick self.old self.new) }
         ensures kept { OnErr result (self.new ≡ self.old) }
     {
         match op {

@@ -247,6 +247,108 @@ fn a_cut_leaves_whole_entries(rt: HostRuntime) -> Result<(), Fail> {
 }
 
 #[test]
+fn every_cut_of_an_append_leaves_it_or_not(rt: HostRuntime) -> Result<(), Fail> {
+    let one: &[u8] = &[6, 0xbb];
+    let both: &[u8] = &[5, 0xaa, 6, 0xbb];
+    for call in 1..10u64 {
+        // The first append makes the file too: five calls. The second makes four.
+        let (before, after) = if call <= 5 {
+            (&[][..], one)
+        } else {
+            (one, both)
+        };
+        for pick in 0..8u64 {
+            let mut disk = MemoryDisk::new(rt.alloc());
+            let ended = fill(rt.alloc(), &mut disk, &mut Fuse::at(call, pick));
+            assert_eq!(rt; ended, Err(JournalError::Cut), "at {call} {pick}");
+            let all = read_again(rt.alloc(), &mut disk)?;
+            let is_either = all.as_slice() == before || all.as_slice() == after;
+            assert_eq!(rt; is_either, true, "at {call} {pick}");
+        }
+    }
+    Ok(())
+}
+
+#[test]
+fn every_cut_of_a_mending_keeps_the_entry(rt: HostRuntime) -> Result<(), Fail> {
+    for pick in 0..8u64 {
+        let mut disk = MemoryDisk::new(rt.alloc());
+        disk.install(
+            rt.alloc(),
+            Name::Flat,
+            &[1, 0, 0, 0, 9, 0, 0, 0, 0, 0, 0, 0, 5, 0xaa],
+        )?;
+        let mut fuse = Fuse::at(1, pick);
+        let is_cut = matches!(
+            &Journal::open(rt.alloc(), &mut disk, &mut fuse),
+            Err(JournalError::Cut)
+        );
+        assert_eq!(rt; is_cut, true, "at {pick}");
+        assert_eq!(rt; fuse.blown(), true, "at {pick}");
+        assert_eq!(rt;
+            read_again(rt.alloc(), &mut disk)?.as_slice(),
+            [5, 0xaa].as_slice(),
+            "at {pick}"
+        );
+    }
+    Ok(())
+}
+
+/// Opens the journal of an empty disk, appends to it, and takes the entries below section 6 away.
+fn fill_and_prune(alloc: Global, disk: &mut MemoryDisk, fuse: &mut Fuse) -> Result<(), JournalError>
+    requires { disk.old.disk.files ≡ [] }
+{
+    let mut journal = Journal::open(alloc, disk, fuse)?;
+    journal.append(alloc, disk, fuse, 5, &[0xaa])?;
+    journal.append(alloc, disk, fuse, 6, &[0xbb])?;
+    journal.prune(alloc, disk, fuse, 6)?;
+    journal.prune(alloc, disk, fuse, 6)
+}
+
+#[test]
+fn a_prune_leaves_the_sections_from_its_minimum_on(rt: HostRuntime) -> Result<(), Fail> {
+    let left: &[u8] = &[6, 0xbb];
+    let both: &[u8] = &[5, 0xaa, 6, 0xbb];
+    // The call that is cut, the pick, the calls that were made, and what is read again.
+    let rows: [(u64, u64, u64, &[u8]); 7] = [
+        (0, 0, 10, left),
+        (11, 0, 10, left),
+        (10, 0, 10, left),
+        (10, 1, 10, both),
+        (10, 6, 10, left),
+        (10, 7, 10, both),
+        (9, 1, 9, &[5, 0xaa]),
+    ];
+    for (call, pick, calls, want) in rows {
+        let mut disk = MemoryDisk::new(rt.alloc());
+        let mut fuse = Fuse::at(call, pick);
+        let ended = fill_and_prune(rt.alloc(), &mut disk, &mut fuse);
+        assert_eq!(rt; ended.is_ok(), call == 0 || call == 11, "at {call} {pick}");
+        assert_eq!(rt; fuse.spent(), calls, "at {call} {pick}");
+        assert_eq!(rt;
+            read_again(rt.alloc(), &mut disk)?.as_slice(),
+            want,
+            "at {call} {pick}"
+        );
+    }
+    Ok(())
+}
+
+#[test]
+fn a_value_is_put_read_and_cleared(rt: HostRuntime) -> Result<(), Fail> {
+    let mut disk = MemoryDisk::new(rt.alloc());
+    let mut fuse = Fuse::never();
+    assert_eq!(rt; Record::get(rt.alloc(), &mut disk)?.is_none(), true);
+    Record::put(rt.alloc(), &mut disk, &mut fuse, &[1])?;
+    let read = Record::get(rt.alloc(), &mut disk)?.unwrap_or_else(|| Vec::new(rt.alloc()));
+    assert_eq!(rt; read.as_slice(), [1].as_slice());
+    Record::clear(rt.alloc(), &mut disk, &mut fuse)?;
+    assert_eq!(rt; Record::get(rt.alloc(), &mut disk)?.is_none(), true);
+    assert_eq!(rt; fuse.spent(), 2);
+    Ok(())
+}
+
+#[test]
 fn records_that_are_not_whole(rt: HostRuntime) -> Result<(), Fail> {
     let rows: [(&[u8], Option<JournalError>, u64); 7] = [
         (&[], None, 1),

@@ -1,8 +1,5 @@
-use Rattle.std.proofs.Common.{◌-◌, ◌≤◌}
+use Rattle.dkg_journal.proofs.Counting.{Swept}
 use Rattle.dkg_journal.proofs.file.place_behind.Given as goal
 
-abbrev pub invariant-loop-at : goal.invariant-loop-at
-invariant-loop-at l = record { at : l.at ≤ l.len; left : l.left ≤ l.count }
-
-abbrev pub decreases-loop-at : goal.decreases-loop-at
-decreases-loop-at l = l.len - l.at
+abbrev pub invariant-loop-span : goal.invariant-loop-span
+invariant-loop-span l = Swept l.spans l.synced l.len l.count l.at l.left l.span-index
