@@ -3,10 +3,12 @@ pub mod Acks
 pub mod Agreement
 pub mod AgreementTest
 pub mod Dealings
+pub mod FewParts
 pub mod Marks
 pub mod ModeGrammar
 pub mod Modes
 pub mod OutputGrammar
+pub mod OutputLimits
 pub mod Outputs
 pub mod Partly
 pub mod PolynomialLaws
@@ -15,8 +17,10 @@ pub mod Publics
 pub mod RoundLaws
 pub mod Rounds
 pub mod SharingGrammar
+pub mod SharingLimits
 pub mod Sharings
 pub mod Thresholds
+pub use Rattle.dkg_values.specs.Among
 pub use Rattle.dkg_values.specs.Bytes
 pub use Rattle.dkg_values.specs.Codec
 pub use Rattle.dkg_values.specs.Fits

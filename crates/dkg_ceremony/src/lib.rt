@@ -6,6 +6,7 @@
 
 mod ceremony;
 mod evaluate;
+mod limits;
 mod mode;
 mod output;
 mod phase;
@@ -23,8 +24,8 @@ pub use ceremony::{AckError, Ceremony, DealingError, acks_pass};
 pub use dkg_values::{
     Blob, CodecError, Digest, Element, EncodeSize, Epoch, Height, Key, Map, MapCfg, MapIter, Mark,
     Mem, Name, NoMemory, NotRising, Read, Reader, Seed, Set, SetIter, Spelled, Value, What, Write,
-    decode_cfg, encode, no_prefix, read_array, read_be16, read_be32, read_byte, read_count,
-    read_keys, read_many, read_u32, read_u64, round_trip, uint_size, write_uint,
+    decode_cfg, encode, no_prefix, numbers_compare, read_array, read_be16, read_be32, read_byte,
+    read_count, read_keys, read_many, read_u32, read_u64, round_trip, uint_size, write_uint,
 };
 pub use mode::{Mode, ModeVersion, Reveal};
 pub use output::Output;

@@ -1,9 +1,9 @@
 //! How the points of a sharing are chosen, and how the players that are revealed are.
 //!
 //! A sharing and a round name their mode; a reader of outputs is told the newest mode that it may meet.
-ghost use Rattle.std.specs.Prelude.{◌≡◌, IsErrOf};
+ghost use Rattle.std.specs.Prelude.{◌≡◌, length, IsErrOf};
 ghost use Rattle.dkg_values.specs.Codec.{Reads};
-ghost use Rattle.dkg_ceremony.specs.Modes.{mode_byte, reveal_byte, supports_of, mode_at};
+ghost use Rattle.dkg_ceremony.specs.Modes.{mode_byte, mode_spelling, reveal_byte, supports_of, mode_at};
 
 use bytes::{BufMut, BytesMut};
 use dkg_values::{CodecError, EncodeSize, Mem, Read, Reader, Spelled, Write};
@@ -64,7 +64,10 @@ impl Spelled for Mode {
 }
 
 impl EncodeSize for Mode {
-    fn encode_size(&self) -> usize {
+    fn encode_size(&self) -> usize
+        ensures size { result ≡ length (mode_spelling self.now) }
+        ensures bound { result ≡ 1 }
+    {
         1
     }
 }

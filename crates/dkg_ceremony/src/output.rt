@@ -1,8 +1,9 @@
 //! What a finished round leaves in public: the shared key, who dealt it and who holds it.
 //!
 //! An epoch's info carries one, and the next round reshares it.
-ghost use Rattle.std.specs.Prelude.{◌≡◌, length};
+ghost use Rattle.std.specs.Prelude.{◌≡◌, ℕ, ◌+◌, ◌*◌, ◌≤◌, length};
 ghost use Rattle.dkg_ceremony.specs.Agreement.{PartsAgree, all_in, parts_agree};
+ghost use Rattle.dkg_ceremony.specs.FewParts.{AreFew};
 
 use crate::mode::ModeVersion;
 use crate::sharing::Sharing;
@@ -50,6 +51,14 @@ fn size_of_mark(mark: &Mark) -> usize
     bytes.len()
 }
 
+/// An output's coefficients and revealed keys are no more than its players.
+pub(crate) fn known(output: &Output)
+    ensures { AreFew output.now.sharing.poly output.now.players output.now.revealed }
+{
+    let _players = output.players.as_slice();
+    let _revealed = output.revealed.as_slice();
+}
+
 /// Whether the parts make an output.
 fn do_agree(sharing: &Sharing, players: &Set, revealed: &Set) -> bool
     ensures { result ≡ parts_agree sharing.now.total sharing.now.poly players.now revealed.now }
@@ -95,7 +104,9 @@ impl EncodeSize for Output {
     fn encode_size(&self) -> usize
         ensures size { result ≡ length (output_bytes self.now) }
         ensures bound { result ≤ 2 ^ 38 }
+        ensures limit { (most : ℕ) → length self.now.dealers ≤ most → length self.now.players ≤ most → result ≤ 34 + 14 * most }
     {
+        known(self);
         size_of_mark(&self.summary)
             + self.sharing.encode_size()
             + self.dealers.encode_size()

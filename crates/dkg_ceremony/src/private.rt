@@ -1,7 +1,8 @@
 //! What one player alone is given of a dealing, and what it answers: private halves, shares and acknowledgements.
 //!
 //! Contracts see a private half and a share as the number, an acknowledgement as its list of bytes.
-ghost use Rattle.std.specs.Prelude.{◌≡◌, IsErrOf};
+ghost use Rattle.std.specs.Prelude.{◌≡◌, length, IsErrOf};
+ghost use Rattle.std.specs.Int.{w16, to_be_bytes};
 ghost use Rattle.dkg_values.specs.Codec.{Reads};
 ghost use Rattle.dkg_values.specs.Bytes.{bytes_at};
 ghost use Rattle.dkg_values.specs.Lists.{element_at};
@@ -90,7 +91,10 @@ impl Spelled for Private {
 }
 
 impl EncodeSize for Private {
-    fn encode_size(&self) -> usize {
+    fn encode_size(&self) -> usize
+        ensures size { result ≡ length (to_be_bytes w16 self.now) }
+        ensures bound { result ≡ 2 }
+    {
         self.0.encode_size()
     }
 }
@@ -129,7 +133,10 @@ impl Spelled for Share {
 }
 
 impl EncodeSize for Share {
-    fn encode_size(&self) -> usize {
+    fn encode_size(&self) -> usize
+        ensures size { result ≡ length (to_be_bytes w16 self.now) }
+        ensures bound { result ≡ 2 }
+    {
         self.0.encode_size()
     }
 }
@@ -166,7 +173,10 @@ impl Spelled for Ack {
 }
 
 impl EncodeSize for Ack {
-    fn encode_size(&self) -> usize {
+    fn encode_size(&self) -> usize
+        ensures size { result ≡ length self.now }
+        ensures bound { result ≡ 8 }
+    {
         self.0.encode_size()
     }
 }

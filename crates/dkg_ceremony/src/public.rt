@@ -1,9 +1,9 @@
 //! The public half of a dealing.
 //!
 //! A dealer sends it to every player; a sharing has one as its polynomial.
-ghost use Rattle.std.specs.Prelude.{◌≡◌, ℕ, ◌<◌, ◌≤◌, ◌^◌, length, slice_index, vec_len};
+ghost use Rattle.std.specs.Prelude.{◌≡◌, ℕ, ◌+◌, ◌*◌, ◌<◌, ◌≤◌, ◌^◌, length, slice_index, vec_len};
 ghost use Rattle.dkg_ceremony.specs.Publics.{IsPublic};
-ghost use Rattle.dkg_values.specs.Lists.{public_spelling};
+ghost use Rattle.dkg_values.specs.Lists.{public_spelling, PublicFits};
 
 use bytes::{BufMut, BytesMut};
 use dkg_values::{
@@ -54,6 +54,14 @@ impl Public {
     {
         &self.0
     }
+
+    /// A polynomial with a coefficient may be read under each limit that is no less than its length.
+    #[tactic(auto, using(crate::specs::Publics::public_fits))]
+    pub fn fits_limits(&self)
+        ensures { (most : ℕ) → 1 ≤ length self.now → length self.now ≤ most → PublicFits most self.now }
+    {
+        let _elements = self.as_slice();
+    }
 }
 
 impl Value for Public {
@@ -78,6 +86,7 @@ impl EncodeSize for Public {
     fn encode_size(&self) -> usize
         ensures size { result ≡ length (public_spelling self.now) }
         ensures bound { result ≤ 2 ^ 34 }
+        ensures limit { (most : ℕ) → length self.now ≤ most → result ≤ 5 + 2 * most }
     {
         uint_size(self.0.len() as u64) + 2 * self.0.len()
     }

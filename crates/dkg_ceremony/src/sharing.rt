@@ -1,8 +1,9 @@
 //! A shared key in public: the polynomial, the number of its holders, and how their points are chosen.
 //!
 //! An output holds one.
-ghost use Rattle.std.specs.Prelude.{◌≡◌, ◌^◌, ◌≤◌, length};
-ghost use Rattle.dkg_ceremony.specs.Sharings.{sharing_bytes};
+ghost use Rattle.std.specs.Prelude.{◌≡◌, ℕ, ◌+◌, ◌*◌, ◌^◌, ◌≤◌, length, IsTrue};
+ghost use Rattle.dkg_ceremony.specs.Modes.{supports_of};
+ghost use Rattle.dkg_ceremony.specs.Sharings.{sharing_bytes, SharingFits};
 
 use crate::mode::{Mode, ModeVersion};
 use crate::public::Public;
@@ -19,6 +20,18 @@ pub struct Sharing {
     pub mode: Mode,
     pub total: u32,
     pub poly: Public,
+}
+
+impl Sharing {
+    /// A sharing whose polynomial has a coefficient may be read under each limit that is no less than its length, by
+    /// each version that has its mode.
+    #[tactic(auto, using(crate::specs::SharingLimits::sharing_fits))]
+    pub fn fits_limits(&self)
+        ensures { (most version : ℕ) → IsTrue (supports_of version self.now.mode) → 1 ≤ length self.now.poly → length self.now.poly ≤ most → SharingFits most version self.now }
+    {
+        let _total = self.total;
+        self.poly.fits_limits();
+    }
 }
 
 impl Value for Sharing {
@@ -45,6 +58,7 @@ impl EncodeSize for Sharing {
     fn encode_size(&self) -> usize
         ensures size { result ≡ length (sharing_bytes self.now) }
         ensures bound { result ≤ 2 ^ 35 }
+        ensures limit { (most : ℕ) → length self.now.poly ≤ most → result ≤ 11 + 2 * most }
     {
         1 + uint_size(u64::from(self.total)) + self.poly.encode_size()
     }

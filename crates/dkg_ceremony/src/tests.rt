@@ -276,26 +276,44 @@ fn ack_of(alloc: Global, round: &Round) -> Result<Option<Ack>, Fail> {
     Ok(acknowledge(&StandCeremony, alloc, &me, round, &public)?)
 }
 
+fn worked_ack(alloc: Global, follows: bool) -> Result<Option<Ack>, Fail> {
+    let previous = output(alloc)?;
+    let previous = if follows { Some(&previous) } else { None };
+    let round = worked_round(alloc, previous)?;
+    ack_of(alloc, &round)
+}
+
 #[test]
 fn dealings_are_acknowledged(rt: HostRuntime) -> Result<(), Fail> {
-    let alloc = rt.alloc();
-    let previous = output(alloc)?;
-    let later = ack_of(alloc, &worked_round(alloc, Some(&previous))?)?;
-    let mark = Mark([0x13, 0x48, 0x84, 0x48, 0x6f, 0x93, 0x7d, 0x35]);
-    assert_eq!(rt; later, Some(Ack(mark)));
-    let first = ack_of(alloc, &worked_round(alloc, None)?)?;
-    let mark = Mark([0x64, 0x77, 0x07, 0xff, 0xb0, 0x9f, 0xc3, 0x22]);
-    assert_eq!(rt; first, Some(Ack(mark)));
+    let rows = [
+        (true, [0x13, 0x48, 0x84, 0x48, 0x6f, 0x93, 0x7d, 0x35]),
+        (false, [0x64, 0x77, 0x07, 0xff, 0xb0, 0x9f, 0xc3, 0x22]),
+    ];
+    for (follows, mark) in rows {
+        let ack = worked_ack(rt.alloc(), follows)?;
+        assert_eq!(rt; ack, Some(Ack(Mark(mark))), "follows: {follows}");
+    }
     Ok(())
+}
+
+/// What any ceremony says of an acknowledgement of the worked dealing.
+fn check_ack<C: Ceremony>(
+    ceremony: &C,
+    alloc: Global,
+    round: &Round,
+    dealer: u32,
+    player: u32,
+) -> Result<Option<AckError>, Fail> {
+    let public = public(alloc, &[3, 0, 15, 0, 7, 0, 1])?;
+    let ack = Ack(Mark([0x13, 0x48, 0x84, 0x48, 0x6f, 0x93, 0x7d, 0x35]));
+    let answer = ceremony.check_ack(alloc, round, Key(dealer), &public, Key(player), &ack);
+    Ok(answer.err())
 }
 
 fn ack_fault(alloc: Global, player: u32, dealer: u32) -> Result<Option<AckError>, Fail> {
     let previous = output(alloc)?;
     let round = worked_round(alloc, Some(&previous))?.copy(alloc)?;
-    let public = public(alloc, &[3, 0, 15, 0, 7, 0, 1])?;
-    let ack = Ack(Mark([0x13, 0x48, 0x84, 0x48, 0x6f, 0x93, 0x7d, 0x35]));
-    let answer = StandCeremony.check_ack(alloc, &round, Key(dealer), &public, Key(player), &ack);
-    Ok(answer.err())
+    check_ack(&StandCeremony, alloc, &round, dealer, player)
 }
 
 #[test]
@@ -385,5 +403,103 @@ fn private_values_are_spelled(rt: HostRuntime) -> Result<(), Fail> {
     assert_eq!(rt; bytes.as_slice(), [2, 1, 2, 1, 2].as_slice());
     let bytes = encode(alloc, &private)?;
     assert_eq!(rt; bytes.as_slice(), [1, 2].as_slice());
+    Ok(())
+}
+
+/// An output that is written and read again, where the limits allow it.
+fn read_again(
+    alloc: Global,
+    output: &Output,
+    cfg: &(u32, ModeVersion),
+) -> Result<Option<Output>, CodecError> {
+    let (most, version) = *cfg;
+    if output.dealers.len() > most || output.players.len() > most {
+        return Ok(None);
+    }
+    if !version.supports(output.sharing.mode) {
+        return Ok(None);
+    }
+    output.fits_limits();
+    Ok(Some(round_trip(alloc, output, cfg)?))
+}
+
+/// A sharing that is written and read again, where the limits allow it.
+fn share_again(
+    alloc: Global,
+    sharing: &Sharing,
+    cfg: &(u32, ModeVersion),
+) -> Result<Option<Sharing>, CodecError> {
+    let (most, version) = *cfg;
+    let elements = sharing.poly.as_slice();
+    if elements.is_empty() || elements.len() > most as usize {
+        return Ok(None);
+    }
+    if !version.supports(sharing.mode) {
+        return Ok(None);
+    }
+    sharing.fits_limits();
+    Ok(Some(round_trip(alloc, sharing, cfg)?))
+}
+
+#[test]
+fn outputs_are_written_and_read(rt: HostRuntime) -> Result<(), Fail> {
+    let alloc = rt.alloc();
+    let value = output(alloc)?;
+    let cfg = (4, ModeVersion(0));
+    let again = read_again(alloc, &value, &cfg)?.ok_or("the limits allow it")?;
+    assert!(rt; again.same(&value));
+    assert_eq!(rt; value.encode_size(), OUTPUT.len());
+    let sharing = share_again(alloc, &value.sharing, &cfg)?.ok_or("the limits allow it")?;
+    assert!(rt; sharing.same(&value.sharing));
+    assert!(rt; read_again(alloc, &value, &(3, ModeVersion(0)))?.is_none());
+    no_prefix::<Output>();
+    no_prefix::<Sharing>();
+    Ok(())
+}
+
+/// Whether a value's copy is the value.
+fn has_copy<T: Value + Drop>(alloc: Global, value: &T) -> Mem<bool> {
+    Ok(value.copy(alloc)?.same(value))
+}
+
+fn round_has_copy(alloc: Global, follows: bool) -> Result<bool, Fail> {
+    let previous = output(alloc)?;
+    let previous = if follows { Some(&previous) } else { None };
+    let round = worked_round(alloc, previous)?;
+    Ok(has_copy(alloc, &round)?)
+}
+
+fn public_has_copy(alloc: Global) -> Result<bool, Fail> {
+    let public = public(alloc, &[3, 0, 15, 0, 7, 0, 1])?;
+    Ok(has_copy(alloc, &public)?)
+}
+
+#[test]
+fn ceremony_values_are_copied(rt: HostRuntime) -> Result<(), Fail> {
+    let alloc = rt.alloc();
+    assert!(rt; round_has_copy(alloc, true)?);
+    assert!(rt; round_has_copy(alloc, false)?);
+    assert!(rt; public_has_copy(alloc)?);
+    let element = Element::new(23).ok_or("23 is an element")?;
+    let halves = (Private(element), (Share(element), Ack(Mark([1; 8]))));
+    assert!(rt; has_copy(alloc, &halves)?);
+    Ok(())
+}
+
+#[test]
+fn versions_know_their_modes(rt: HostRuntime) -> Result<(), Fail> {
+    let rows = [
+        (0, Mode::NonZeroCounter, true),
+        (0, Mode::RootsOfUnity, false),
+        (1, Mode::NonZeroCounter, true),
+        (1, Mode::RootsOfUnity, true),
+    ];
+    for (version, mode, want) in rows {
+        let version = ModeVersion(version);
+        assert_eq!(rt; version.supports(mode), want, "{mode:?} in {version:?}");
+        let bytes = encode(rt.alloc(), &mode)?;
+        let read = decode_cfg::<Mode>(rt.alloc(), bytes.as_slice(), &version);
+        assert_eq!(rt; read.ok(), want.then_some(mode), "{mode:?} in {version:?}");
+    }
     Ok(())
 }

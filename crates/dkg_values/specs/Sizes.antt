@@ -6,7 +6,10 @@ use Rattle.dkg_values.specs.Lists.{values_of, map_spelling, keys_spelling}
 use Rattle.dkg_values.specs.Uint.{uint}
 use Rattle.dkg_values.specs.Rising.{keys_of}
 use Rattle.dkg_values.specs.ListGrammar.{length-keys_spelling}
+use Rattle.dkg_values.specs.UintGrammar.{uint_narrow}
 use Rattle.std.proofs.lemmas.List.{length-map}
+use Rattle.std.proofs.lemmas.Nat.{mul-le}
+use Rattle.std.proofs.Math.Nat.{suc-mul}
 
 -- where the size of a map fits
 pub record MapSizes {V : Type 0} (spelling : V → List ℕ) (can_size : V → Type 0) (pairs : List (ℕ × V)) : Type 0 where
@@ -58,3 +61,26 @@ done_size spelling [] zero le = refl
 done_size spelling [] (suc i) le = refl
 done_size spelling (p ∷ ps) zero le = absurd (omega arith)
 done_size spelling (p ∷ ps) (suc i) le = omega (arith, done_size spelling ps i (omega arith))
+
+values_limit : {V : Type 0} (spelling : V → List ℕ) (pairs : List (ℕ × V)) (each : ℕ) → AllByRecursion (λ v. length (spelling v) ≤ each) (values_of pairs) → values_size spelling pairs ≤ length pairs * each
+values_limit spelling [] each h = omega arith
+values_limit spelling (p ∷ ps) each h = simp suc-mul (omega (arith, h.0, values_limit spelling ps each h.1))
+
+-- how large a map is at most, whose values have a limit each
+pub map_limit : {V : Type 0} (spelling : V → List ℕ) (pairs : List (ℕ × V)) (most each : ℕ) → length pairs ≤ most → length pairs < 2 ^ 32 → AllByRecursion (λ v. length (spelling v) ≤ each) (values_of pairs)
+    → length (map_spelling spelling pairs) ≤ 10 + 4 * most + most * each
+map_limit spelling pairs most each few small h =
+    let more = mul-le (length pairs) each most each few (omega arith) in
+    omega (arith, map_size spelling pairs, values_limit spelling pairs each h, more, uint_narrow (length pairs) small)
+
+-- where values take at most `each` bytes, whose sizes are all known, the size of a map fits
+pub map_sizes : {V : Type 0} (spelling : V → List ℕ) (can_size : V → Type 0) (pairs : List (ℕ × V)) (each : ℕ) → length pairs < 2 ^ 32 → each ≤ 2 ^ 30 → AllByRecursion (λ v. length (spelling v) ≤ each) (values_of pairs) → AllByRecursion can_size (values_of pairs)
+    → MapSizes spelling can_size pairs
+map_sizes spelling can_size pairs each few small short can =
+    let most = mul-le (2 ^ 32) each (2 ^ 32) (2 ^ 30) (omega arith) small in
+    record { total = omega (arith, map_limit spelling pairs (2 ^ 32) each (omega arith) few short, most); each = can }
+
+-- what holds of each value holds of all in a list
+pub all_hold : {A : Type 0} (P : A → Type 0) → ((a : A) → P a) → (xs : List A) → AllByRecursion P xs
+all_hold P h [] = tt
+all_hold P h (x ∷ xs) = (h x, all_hold P h xs)

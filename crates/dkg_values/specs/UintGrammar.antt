@@ -117,6 +117,21 @@ length-groups (suc more) n =
 pub uint_short : (n : ℕ) → length (uint n) ≤ 10
 uint_short n = length-groups 9 n
 
+length-groups_below : (few more n : ℕ) → n < 128 * 128 ^ few → length (groups more n) ≤ few + 1
+unfolding groups
+length-groups_below few zero n lt = omega arith
+length-groups_below zero (suc more) n lt = rw (lt-ltb n 128 (omega arith)) (omega arith)
+length-groups_below (suc few) (suc more) n lt =
+    let power : 128 ^ suc few ≡ 128 * 128 ^ few = omega (arith, pow-add 128 1 few) in
+    elim (cases_lt n 128) [
+      | inl short ↦ rw (lt-ltb n 128 short) (omega arith)
+      | inr long ↦ rw (le-ltb n 128 long) (omega (arith, length-groups_below few more (n / 128) (omega (arith, power))))
+    ]
+
+-- five groups hold any number below 2 ^ 32
+pub uint_narrow : (n : ℕ) → n < 2 ^ 32 → length (uint n) ≤ 5
+uint_narrow n lt = length-groups_below 4 9 n (omega arith)
+
 pub u64_grammar : IsGrammar (λ n. n < 2 ^ 64) uint (uint_at (2 ^ 64 - 1))
 u64_grammar =
     let law = uint_grammar (2 ^ 64 - 1) most64 (omega arith) in

@@ -1,7 +1,7 @@
 //! Values of a fixed number of bytes: digests, seeds and marks.
 //!
 //! Contracts see each as its list of bytes; a spelling is the bytes themselves.
-ghost use Rattle.std.specs.Prelude.{◌≡◌, ℕ, List, IsErrOf};
+ghost use Rattle.std.specs.Prelude.{◌≡◌, ℕ, List, length, IsErrOf};
 ghost use Rattle.dkg_values.specs.Codec.{Reads};
 ghost use Rattle.dkg_values.specs.Bytes.{byte_at, bytes_at};
 
@@ -79,7 +79,10 @@ impl Spelled for Digest {
 }
 
 impl EncodeSize for Digest {
-    fn encode_size(&self) -> usize {
+    fn encode_size(&self) -> usize
+        ensures size { result ≡ length self.now }
+        ensures bound { result ≡ 32 }
+    {
         let Digest(bytes) = *self;
         bytes.len()
     }
@@ -116,7 +119,10 @@ impl Spelled for Seed {
 }
 
 impl EncodeSize for Seed {
-    fn encode_size(&self) -> usize {
+    fn encode_size(&self) -> usize
+        ensures size { result ≡ length self.now }
+        ensures bound { result ≡ 32 }
+    {
         let Seed(bytes) = *self;
         bytes.len()
     }
@@ -153,7 +159,10 @@ impl Spelled for Mark {
 }
 
 impl EncodeSize for Mark {
-    fn encode_size(&self) -> usize {
+    fn encode_size(&self) -> usize
+        ensures size { result ≡ length self.now }
+        ensures bound { result ≡ 8 }
+    {
         let Mark(bytes) = *self;
         bytes.len()
     }

@@ -27,7 +27,7 @@ pub use fixed::{Digest, Mark, Seed, read_array, read_byte};
 pub use map::{Map, MapCfg, MapIter};
 pub use memory::{Mem, NoMemory};
 pub use name::Name;
-pub use numbers::{Element, Epoch, Height, Key};
+pub use numbers::{Element, Epoch, Height, Key, numbers_compare};
 pub use set::{NotRising, Set, SetIter};
 pub use uint::{read_u32, read_u64, uint_size, write_uint};
 pub use value::Value;

@@ -1,11 +1,13 @@
 //! Maps from keys to values: shares, acknowledgements, logs and addresses by participant.
-ghost use Rattle.std.specs.Prelude.{◌≡◌, ℕ, ◌<◌, ◌^◌, ◌↔◌, ◌==◌, List, length, vec_len, slice_index, IfOk, IsTrue, IsOk};
+ghost use Rattle.std.specs.Prelude.{◌≡◌, ℕ, ◌+◌, ◌*◌, ◌<◌, ◌≤◌, ◌^◌, ◌↔◌, ◌==◌, List, length, vec_len, slice_index, IfOk, IsTrue, IsOk};
 ghost use Rattle.std.specs.Option.{option_copied};
 ghost use Rattle.std.specs.Iterator.{YieldsFirstBy, item_count};
 ghost use Rattle.std.specs.List.Sorted.{IsStrictlyIncreasing};
 ghost use Rattle.dkg_values.specs.Codec.{ReadsBy};
-ghost use Rattle.dkg_values.specs.Lists.{pairs_at};
+ghost use Rattle.std.specs.List.{AllByRecursion};
+ghost use Rattle.dkg_values.specs.Lists.{pairs_at, map_spelling, values_of, MapFits};
 ghost use Rattle.dkg_values.specs.Rising.{IsMap, keys_of, lookup, map_of};
+ghost use Rattle.dkg_values.specs.Sizes.{MapSizes};
 
 use crate::codec::{CodecError, EncodeSize, Read, Reader, Spelled, Write};
 use crate::counted::{read_count, read_keys};
@@ -146,6 +148,24 @@ impl<V> Map<V> {
     }
 }
 
+impl<V: EncodeSize> Map<V> {
+    /// A map has a size where its values have one each, of at most 2^30 bytes.
+    pub fn has_size(&self)
+        ensures { (each : ℕ) → each ≤ 2 ^ 30 → AllByRecursion (λ v. length (V.spelling v) ≤ each) (values_of self.now) → AllByRecursion V.can_size (values_of self.now) → MapSizes V.spelling V.can_size self.now }
+    {
+        let _pairs = self.as_slice();
+    }
+}
+
+impl<V: Read> Map<V> {
+    /// A map may be read under each limits that its length keeps to, where its values may.
+    pub fn fits_limits(&self)
+        ensures { (cfg : V.Cfg) (least most : ℕ) → least ≤ length self.now → length self.now ≤ most → AllByRecursion (V.fits cfg) (values_of self.now) → MapFits (V.fits cfg) least most self.now }
+    {
+        let _pairs = self.as_slice();
+    }
+}
+
 /// How many keys a map may have, and how its values are read.
 #[derive(Clone, Copy, Debug, PartialEq, Eq)]
 pub struct MapCfg<C> {
@@ -182,7 +202,11 @@ impl<V: EncodeSize> EncodeSize for Map<V> {
 
     ghost can_size = { MapSizes V.spelling V.can_size };
 
-    fn encode_size(&self) -> usize {
+    fn encode_size(&self) -> usize
+        requires { MapSizes V.spelling V.can_size self.now }
+        ensures size { result ≡ length (map_spelling V.spelling self.now) }
+        ensures limit { (most each : ℕ) → length self.now ≤ most → AllByRecursion (λ v. length (V.spelling v) ≤ each) (values_of self.now) → result ≤ 10 + 4 * most + most * each }
+    {
         let mut size = 2 * uint_size(u64::from(self.len())) + 4 * self.pairs.len();
         for (_, value) in &self.pairs {
             size += value.encode_size();

@@ -1,8 +1,10 @@
 //! The numbers that name keys, epochs and heights, and the elements of the ceremony's field.
 //!
 //! Contracts see each as its number. Sets, maps, rounds and blocks are made of these.
-ghost use Rattle.std.specs.Prelude.{◌≡◌, ℕ, ◌-◌, ◌<◌, ◌≤◌, ◌^◌, ◌↔◌, length, IsSome, IfSome, IsErrOf};
-ghost use Rattle.std.specs.Int.{w16, w32};
+ghost use Rattle.std.specs.Prelude.{◌≡◌, ℕ, ◌-◌, ◌<◌, ◌≤◌, ◌^◌, ◌↔◌, ◌==◌, length, IsSome, IfSome, IsErrOf};
+ghost use Rattle.std.specs.Hash as fed;
+ghost use Rattle.std.specs.Int.{w16, w32, to_be_bytes};
+ghost use Rattle.std.specs.Ordering.{nat_cmp};
 ghost use Rattle.dkg_values.specs.Codec.{Reads, number_at};
 ghost use Rattle.dkg_values.specs.Uint.{uint, uint_at};
 ghost use Rattle.dkg_values.specs.Lists.{element_at};
@@ -13,6 +15,7 @@ use crate::memory::Mem;
 use crate::uint::{read_u64, uint_size, write_uint};
 use bytes::{BufMut, BytesMut};
 use std::alloc::Global;
+use std::hash::Hash;
 use std::marker::Model;
 
 /// A participant's public key, by which all sets and maps are ordered.
@@ -98,6 +101,15 @@ impl Element {
     }
 }
 
+/// Keys, epochs, heights and elements are equal where their numbers are; the first three are ordered as these, and
+/// hashed as these.
+pub fn numbers_compare()
+    ensures keys { (a b : ℕ) → (⟦<Key as PartialEq>⟧.eq a b ≡ (a == b)) × (⟦<Key as PartialOrd>⟧.partial_cmp a b ≡ Some (nat_cmp a b)) × (⟦<Key as Ord>⟧.cmp a b ≡ nat_cmp a b) × (⟦<Key as Hash>⟧.hash_input a ≡ fed.u32 a) }
+    ensures epochs { (a b : ℕ) → (⟦<Epoch as PartialEq>⟧.eq a b ≡ (a == b)) × (⟦<Epoch as PartialOrd>⟧.partial_cmp a b ≡ Some (nat_cmp a b)) × (⟦<Epoch as Ord>⟧.cmp a b ≡ nat_cmp a b) × (⟦<Epoch as Hash>⟧.hash_input a ≡ fed.u64 a) }
+    ensures heights { (a b : ℕ) → (⟦<Height as PartialEq>⟧.eq a b ≡ (a == b)) × (⟦<Height as PartialOrd>⟧.partial_cmp a b ≡ Some (nat_cmp a b)) × (⟦<Height as Ord>⟧.cmp a b ≡ nat_cmp a b) × (⟦<Height as Hash>⟧.hash_input a ≡ fed.u64 a) }
+    ensures elements { (a b : ℕ) → ⟦<Element as PartialEq>⟧.eq a b ≡ (a == b) }
+{}
+
 impl Spelled for Key {
     ghost use Rattle.std.specs.Int.{w32, to_be_bytes};
 
@@ -105,7 +117,10 @@ impl Spelled for Key {
 }
 
 impl EncodeSize for Key {
-    fn encode_size(&self) -> usize {
+    fn encode_size(&self) -> usize
+        ensures size { result ≡ length (to_be_bytes w32 self.now) }
+        ensures bound { result ≡ 4 }
+    {
         4
     }
 }
@@ -229,7 +244,10 @@ impl Spelled for Element {
 }
 
 impl EncodeSize for Element {
-    fn encode_size(&self) -> usize {
+    fn encode_size(&self) -> usize
+        ensures size { result ≡ length (to_be_bytes w16 self.now) }
+        ensures bound { result ≡ 2 }
+    {
         2
     }
 }

@@ -1,8 +1,8 @@
 //! Sets of participants: dealers, players and peers, in rising order of their keys.
-ghost use Rattle.std.specs.Prelude.{◌≡◌, ℕ, ◌+◌, ◌<◌, ◌≤◌, ◌^◌, ◌++◌, ◌↔◌, ◌⊎◌, ◌==◌, List, length, vec_len, slice_index, Contains, IfOk, IfSome, IsTrue, IsErr, IsOk, is_some};
+ghost use Rattle.std.specs.Prelude.{◌≡◌, ℕ, ◌+◌, ◌*◌, ◌<◌, ◌≤◌, ◌^◌, ◌++◌, ◌↔◌, ◌⊎◌, ◌==◌, List, length, vec_len, slice_index, Contains, IfOk, IfSome, IsTrue, IsErr, IsOk, is_some};
 ghost use Rattle.std.specs.Iterator.{YieldsFirst, item_count};
 ghost use Rattle.std.specs.List.Sorted.{IsStrictlyIncreasing};
-ghost use Rattle.dkg_values.specs.Lists.{set_spelling};
+ghost use Rattle.dkg_values.specs.Lists.{set_spelling, SetFits};
 ghost use Rattle.dkg_values.specs.Rising.{IsSetOf, IsSet, place_of, set_of};
 
 use crate::codec::{CodecError, EncodeSize, Read, Reader, Spelled, Write};
@@ -151,6 +151,14 @@ impl Set {
         &self.keys
     }
 
+    /// A set may be read under each limit that is no less than its length.
+    #[tactic(auto, using(crate::specs::Fits::set_fits))]
+    pub fn fits_limits(&self)
+        ensures { (most : ℕ) → length self.now ≤ most → SetFits most self.now }
+    {
+        let _keys = self.as_slice();
+    }
+
     /// Each key, rising.
     pub fn iter(&self) -> SetIter<'_>
         ensures { result ≡ self.now }
@@ -168,6 +176,7 @@ impl EncodeSize for Set {
     fn encode_size(&self) -> usize
         ensures size { result ≡ length (set_spelling self.now) }
         ensures bound { result ≤ 2 ^ 35 }
+        ensures limit { (most : ℕ) → length self.now ≤ most → result ≤ 5 + 4 * most }
     {
         uint_size(u64::from(self.len())) + 4 * self.keys.len()
     }

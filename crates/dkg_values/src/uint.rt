@@ -81,11 +81,12 @@ fn groups_size(n: u64) -> usize
     if n < 128 { 1 } else { 1 + groups_size(n / 128) }
 }
 
-/// How many bytes a number takes, at most ten.
+/// How many bytes a number takes: at most ten, and at most five below 2^32.
 #[tactic(auto, using(crate::specs::UintGrammar::uint_short))]
 pub fn uint_size(n: u64) -> usize
     ensures size { result ≡ length (uint n) }
     ensures bound { result ≤ 10 }
+    ensures narrow { n < 2 ^ 32 → result ≤ 5 }
 {
     groups_size(n)
 }
