@@ -13,7 +13,7 @@ use Rattle.dkg_values.specs.Sizes.{MapSizes, map_size, values_size}
 use Rattle.dkg_types.specs.declared.addresses.Address.{Address}
 use Rattle.dkg_types.specs.declared.addresses.Address.TheVariants.{Symmetric, Asymmetric}
 use Rattle.dkg_types.specs.declared.addresses.Socket.{Socket}
-use Rattle.dkg_types.specs.Short.{uint_of_32_bits}
+use Rattle.dkg_values.specs.UintGrammar.{uint_narrow}
 use Rattle.dkg_types.specs.Variants.{Always, MadeOf, variant_grammar, none_grammar}
 
 abbrev pub socket_spelling : Socket → List ℕ
@@ -135,7 +135,7 @@ values_short [] = omega arith
 values_short (p ∷ ps) = omega (arith, address_short p.1, values_short ps)
 
 pub addresses_short : (pairs : Pairs) → length pairs < 2 ^ 32 → length (addresses_spelling pairs) ≤ 10 + 17 * length pairs
-addresses_short pairs few = omega (arith, map_size address_spelling pairs, uint_of_32_bits (length pairs) few, values_short pairs)
+addresses_short pairs few = omega (arith, map_size address_spelling pairs, uint_narrow (length pairs) few, values_short pairs)
 
 each_has_size : (pairs : Pairs) → AllByRecursion (Always {A = Address}) (values_of pairs)
 each_has_size [] = tt

@@ -2,7 +2,7 @@
 use Rattle.std.proofs.Common.{◌≡◌, ℕ, ◌+◌, ◌*◌, ◌^◌, ◌<◌, ◌≤◌, Bool, true, false, cond, ltb, eqb, Option, Some, None, List, [], ◌∷◌, ◌++◌, length, refl, arith, length-append}
 use Rattle.std.specs.Int.{w16, w32, to_be_bytes}
 use Rattle.dkg_values.specs.Uint.{uint}
-use Rattle.dkg_values.specs.UintGrammar.{uint_short}
+use Rattle.dkg_values.specs.UintGrammar.{uint_narrow, uint_short}
 use Rattle.dkg_values.specs.Joined.{BothFit, both_spelled}
 use Rattle.dkg_values.specs.Lists.{set_spelling, SetFits, public_spelling, PublicFits}
 use Rattle.dkg_values.specs.ListGrammar.{set_size, public_size}
@@ -24,7 +24,6 @@ use Rattle.dkg_types.specs.InfoCodes.{InfoFits, info_spelling, peers_of}
 use Rattle.dkg_types.specs.MessageCodes.{MessageFits, message_spelling}
 use Rattle.dkg_types.specs.OutcomeCodes.{outcome_spelling}
 use Rattle.dkg_types.specs.ParticipantsCodes.{ParticipantsFit, participants_spelling}
-use Rattle.dkg_types.specs.Short.{uint_of_32_bits}
 use Rattle.dkg_types.specs.PayloadCodes.{PayloadFits, payload_spelling}
 
 -- no value that fits is spelled longer
@@ -37,10 +36,10 @@ longer fits spelling bound more b le = record { within = λ a fit. omega (arith,
 -- ---- sets and lists of elements
 
 pub set_bound : (most : ℕ) (keys : List ℕ) → SetFits most keys → length (set_spelling keys) ≤ 5 + 4 * most
-set_bound most keys fit = omega (arith, fit.few, uint_of_32_bits (length keys) fit.small, set_size keys (length (uint (length keys))) (length keys) refl refl)
+set_bound most keys fit = omega (arith, fit.few, uint_narrow (length keys) fit.small, set_size keys (length (uint (length keys))) (length keys) refl refl)
 
 pub public_bound : (most : ℕ) (xs : List ℕ) → PublicFits most xs → length (public_spelling xs) ≤ 5 + 2 * most
-public_bound most xs fit = omega (arith, fit.few, uint_of_32_bits (length xs) fit.small, public_size xs (length (uint (length xs))) (length xs) refl refl)
+public_bound most xs fit = omega (arith, fit.few, uint_narrow (length xs) fit.small, public_size xs (length (uint (length xs))) (length xs) refl refl)
 
 length_with_key : (x : ℕ) (xs : List ℕ) → length (with_key x xs) ≤ length xs + 1
 length_with_key x [] = omega arith
@@ -64,7 +63,7 @@ length_three : (a b c : List ℕ) → length (a ++ b ++ c) ≡ length a + length
 length_three a b c = simp length-append refl
 
 sharing_bound : (most version : ℕ) (s : Sharing) → SharingFits most version s → length (sharing_bytes s) ≤ 11 + 2 * most
-sharing_bound most version s fit = omega (arith, length_three (mode_byte s.mode ∷ []) (uint s.total) (public_spelling s.poly), uint_of_32_bits s.total fit.other.one, public_bound most s.poly fit.other.other)
+sharing_bound most version s fit = omega (arith, length_three (mode_byte s.mode ∷ []) (uint s.total) (public_spelling s.poly), uint_narrow s.total fit.other.one, public_bound most s.poly fit.other.other)
 
 pub output_bound : (most version : ℕ) (o : Output) → OutputFits most version o → length (output_bytes o) ≤ 34 + 14 * most
 output_bound most version o fit =

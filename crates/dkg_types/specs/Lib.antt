@@ -9,7 +9,6 @@ pub mod OutcomeCodes
 pub mod ParticipantsCodes
 pub mod PayloadCodes
 pub mod Schemes
-pub mod Short
 pub mod Told
 pub mod Tracking
 pub mod Units
