@@ -1,7 +1,7 @@
 use crate::*;
 use dkg_ceremony::{
-    CodecError, Digest, EncodeSize, Epoch, Height, Key, Mark, Mem, ModeVersion, NoMemory, Set,
-    Share, Value, decode_cfg, encode, round_trip,
+    CodecError, Digest, EncodeSize, Epoch, Height, Key, Map, Mark, Mem, ModeVersion, NoMemory,
+    Read, Set, Share, Value, What, decode_cfg, encode, round_trip,
 };
 use std::alloc::Global;
 use std::num::NonZeroU32;
@@ -39,6 +39,21 @@ fn keys(alloc: Global, count: u32) -> Result<Set, Fail> {
         return Err(Fail::from("too many keys"));
     }
     Ok(Set::from_any(alloc, &keys)?)
+}
+
+/// What reading the first bytes gives, one of them another.
+fn fault_at<T: Read + Drop>(
+    alloc: Global,
+    bytes: &[u8],
+    (place, byte, len): (usize, u8, usize),
+    cfg: &T::Cfg,
+) -> Result<Option<CodecError>, Fail> {
+    let mut bytes = bytes.to_vec(alloc)?;
+    if place >= bytes.len() || len > bytes.len() {
+        return Err(Fail::from("past the end"));
+    }
+    bytes[place] = byte;
+    Ok(fault_of(decode_cfg::<T>(alloc, &bytes[..len], cfg)))
 }
 
 #[test]
@@ -167,6 +182,62 @@ fn a_block_has_the_digest_of_its_encoding(rt: HostRuntime) -> Result<(), Fail> {
     Ok(())
 }
 
+/// The bytes of that block.
+const BLOCK: [u8; 163] = [
+    1, 0xac, 2, 0, 0, 0, 3, 2, 0, 1, 2, 3, 4, 5, 6, 7, 8, 9, 0x0a, 0x0b, 0x0c, 0x0d, 0x0e, 0x0f,
+    0x10, 0x11, 0x12, 0x13, 0x14, 0x15, 0x16, 0x17, 0x18, 0x19, 0x1a, 0x1b, 0x1c, 0x1d, 0x1e, 0x1f,
+    9, 9, 9, 9, 9, 9, 9, 9, 9, 9, 9, 9, 9, 9, 9, 9, 9, 9, 9, 9, 9, 9, 9, 9, 9, 9, 9, 9, 9, 9, 9, 9,
+    0x0f, 1, 1, 0, 0, 0, 0, 0, 0, 0, 0, 0, 0, 0, 4, 3, 0, 5, 0, 1, 0, 2, 4, 0, 0, 0, 1, 0, 0, 0, 2,
+    0, 0, 0, 3, 0, 0, 0, 4, 4, 0, 0, 0, 1, 0, 0, 0, 2, 0, 0, 0, 3, 0, 0, 0, 4, 0, 4, 0, 0, 0, 1, 0,
+    0, 0, 2, 0, 0, 0, 3, 0, 0, 0, 4, 4, 0, 0, 0, 1, 0, 0, 0, 2, 0, 0, 0, 3, 0, 0, 0, 4,
+];
+
+#[test]
+fn a_block_is_spelled_with_its_payload(rt: HostRuntime) -> Result<(), Fail> {
+    let block = later_block(rt.alloc())?;
+    let bytes = encode(rt.alloc(), &block)?;
+    assert_eq!(rt; bytes.as_slice(), BLOCK.as_slice());
+    Ok(())
+}
+
+#[test]
+fn a_copied_block_is_the_same(rt: HostRuntime) -> Result<(), Fail> {
+    let block = later_block(rt.alloc())?;
+    let copy = block.copy(rt.alloc())?;
+    assert!(rt; copy.same(&block));
+    Ok(())
+}
+
+fn fault_of_block(alloc: Global, at: (usize, u8, usize)) -> Result<Option<CodecError>, Fail> {
+    let limits = (four()?, ModeVersion(0));
+    fault_at::<Block<Unit>>(alloc, &BLOCK, at, &limits)
+}
+
+#[test]
+fn edited_blocks_are_refused(rt: HostRuntime) -> Result<(), Fail> {
+    let rows: [(usize, u8, usize, Option<CodecError>); 9] = [
+        (0, 2, 163, None),
+        (2, 0, 163, Some(CodecError::InvalidVarint)),
+        (73, 2, 163, Some(CodecError::InvalidEnum(2))),
+        (73, 0, 163, Some(CodecError::ExtraData)),
+        (74, 2, 163, Some(CodecError::InvalidEnum(2))),
+        (
+            129,
+            5,
+            163,
+            Some(CodecError::InvalidLength { got: 5, max: 4 }),
+        ),
+        (86, 3, 163, Some(CodecError::Invalid(What::Output))),
+        (133, 2, 163, Some(CodecError::Invalid(What::Set))),
+        (162, 0, 162, Some(CodecError::EndOfBuffer)),
+    ];
+    for (place, byte, len, want) in rows {
+        let fault = fault_of_block(rt.alloc(), (place, byte, len))?;
+        assert_eq!(rt; fault, want, "{byte} at {place} of {len}");
+    }
+    Ok(())
+}
+
 #[test]
 fn a_finalization_bears_its_certificate(rt: HostRuntime) -> Result<(), Fail> {
     let alloc = rt.alloc();
@@ -216,5 +287,182 @@ fn a_transcript_keeps_its_entries(rt: HostRuntime) -> Result<(), Fail> {
     assert_eq!(rt; told.entries().len(), 2);
     assert_eq!(rt; Fault::from(NoMemory).number(), 1);
     assert_eq!(rt; Fault::FloorBlockMissing.copy(alloc)?.number(), 19);
+    Ok(())
+}
+
+/// The addresses of four peers, and a byte too many.
+const DIRECTORY: [u8; 47] = [
+    4, 0, 0, 0, 1, 0, 0, 0, 2, 0, 0, 0, 3, 0, 0, 0, 4, 4, 0, 0, 0, 0, 1, 0, 1, 0, 0, 0, 0, 2, 0, 2,
+    0, 0, 0, 0, 3, 0, 3, 0, 0, 0, 0, 4, 0, 4, 0,
+];
+
+#[test]
+fn edited_directories_are_refused(rt: HostRuntime) -> Result<(), Fail> {
+    let rows: [(usize, u8, usize, Option<CodecError>); 8] = [
+        (0, 4, 46, None),
+        (0, 3, 46, Some(CodecError::InvalidLength { got: 3, max: 4 })),
+        (0, 0x80, 46, Some(CodecError::InvalidVarint)),
+        (4, 2, 46, Some(CodecError::Invalid(What::Set))),
+        (
+            17,
+            3,
+            46,
+            Some(CodecError::InvalidLength { got: 3, max: 4 }),
+        ),
+        (18, 2, 46, Some(CodecError::InvalidEnum(2))),
+        (45, 0, 45, Some(CodecError::EndOfBuffer)),
+        (46, 0, 47, Some(CodecError::ExtraData)),
+    ];
+    for (place, byte, len, want) in rows {
+        let fault = fault_at::<Addresses>(rt.alloc(), &DIRECTORY, (place, byte, len), &4)?;
+        assert_eq!(rt; fault, want, "{byte} at {place} of {len}");
+    }
+    Ok(())
+}
+
+/// The worked info with the directory, of which one byte is another.
+fn fault_of_addressed(alloc: Global, place: usize, byte: u8) -> Result<Option<CodecError>, Fail> {
+    let mut bytes = INFO.as_slice().to_vec(alloc)?;
+    bytes.extend_from_slice(&DIRECTORY)?;
+    let limits = (four()?, ModeVersion(0));
+    fault_at::<EpochInfo<Addresses>>(alloc, &bytes, (place, byte, 134), &limits)
+}
+
+#[test]
+fn a_directory_is_of_the_peers(rt: HostRuntime) -> Result<(), Fail> {
+    let rows = [
+        (88, 4, None),
+        (88, 3, Some(CodecError::InvalidLength { got: 3, max: 4 })),
+        (104, 5, Some(CodecError::Invalid(What::Directory))),
+        (106, 2, Some(CodecError::InvalidEnum(2))),
+    ];
+    for (place, byte, want) in rows {
+        let fault = fault_of_addressed(rt.alloc(), place, byte)?;
+        assert_eq!(rt; fault, want, "{byte} at {place}");
+    }
+    let max = four()?;
+    assert_eq!(rt; EpochInfo::<Addresses>::max_encode_size(max), 357);
+    assert_eq!(rt; Payload::<Addresses>::max_encode_size(max), 358);
+    assert_eq!(rt; Block::<Addresses>::max_encode_size(max), 467);
+    Ok(())
+}
+
+const ONE: Address = Address::Symmetric(Socket { ip: 1, port: 1 });
+
+const TWO: Address = Address::Asymmetric {
+    ingress: Socket { ip: 2, port: 2 },
+    egress: Socket { ip: 3, port: 3 },
+};
+
+/// The addresses of keys 1 and 2, or of key 1 alone.
+fn addresses(alloc: Global, both: bool) -> Mem<Addresses> {
+    let mut pairs = Vec::new(alloc);
+    pairs.push((Key(1), ONE))?;
+    if both {
+        pairs.push((Key(2), TWO))?;
+    }
+    if pairs.len() > 9 {
+        return Err(NoMemory);
+    }
+    Addresses::from_pairs(alloc, pairs)
+}
+
+/// A manager of peers that keeps the last set that it was handed.
+#[derive(Drop)]
+struct Kept {
+    id: u64,
+    primary: Option<Set>,
+}
+
+impl Provider for Kept {
+    ghost use Rattle.std.specs.Prelude.{None, false};
+
+    ghost tells = { false };
+
+    ghost sets = { λ _ _. None };
+
+    fn peer_set(&mut self, alloc: Global, id: u64) -> Mem<Option<TrackedPeers>> {
+        match &self.primary {
+            Some(primary) if id == self.id => Ok(Some(TrackedPeers {
+                primary: primary.copy(alloc)?,
+                secondary: Set::from_any(alloc, &[])?,
+            })),
+            _ => Ok(None),
+        }
+    }
+}
+
+impl PeerManager for Kept {
+    fn track(&mut self, _alloc: Global, id: u64, peers: TrackedPeers) -> Mem<()> {
+        self.id = id;
+        self.primary = Some(peers.primary);
+        Ok(())
+    }
+}
+
+impl AddressedPeerManager for Kept {
+    ghost use Rattle.std.specs.Prelude.{None};
+
+    ghost reached = { λ _ _. None };
+
+    fn track(
+        &mut self,
+        alloc: Global,
+        id: u64,
+        primary: Map<Address>,
+        _secondary: Map<Address>,
+    ) -> Mem<()> {
+        let mut keys = Vec::new(alloc);
+        for (key, _) in primary.as_slice() {
+            keys.push(*key)?;
+        }
+        if keys.len() > 9 {
+            return Err(NoMemory);
+        }
+        self.id = id;
+        self.primary = Some(Set::from_any(alloc, &keys)?);
+        Ok(())
+    }
+}
+
+/// What a manager of any kind answers where keys 1 and 2 are primary, and how many peers it tracks then.
+fn tracked_by<M: Manager>(
+    manager: &mut M,
+    alloc: Global,
+    directory: &M::Dir,
+) -> Result<(Result<(), TrackError>, Option<u32>), Fail> {
+    let peers = TrackedPeers {
+        primary: keys(alloc, 2)?,
+        secondary: keys(alloc, 0)?,
+    };
+    let answer = manager.track(alloc, Epoch(0), peers, directory);
+    let set = manager.peer_set(alloc, 0)?;
+    Ok((answer, set.map(|peers| peers.primary.len())))
+}
+
+fn empty_manager() -> Kept {
+    Kept {
+        id: 9,
+        primary: None,
+    }
+}
+
+#[test]
+fn a_refused_call_tracks_nobody(rt: HostRuntime) -> Result<(), Fail> {
+    let alloc = rt.alloc();
+    let mut manager = AddressableManager::new(empty_manager());
+    let missing = TrackError::Missing(MissingAddress(Key(2)));
+    let answer = tracked_by(&mut manager, alloc, &addresses(alloc, false)?)?;
+    assert_eq!(rt; answer, (Err(missing), None));
+    let answer = tracked_by(&mut manager, alloc, &addresses(alloc, true)?)?;
+    assert_eq!(rt; answer, (Ok(()), Some(2)));
+    Ok(())
+}
+
+#[test]
+fn keys_alone_never_miss(rt: HostRuntime) -> Result<(), Fail> {
+    let mut manager = KeyOnlyManager::new(empty_manager());
+    let answer = tracked_by(&mut manager, rt.alloc(), &Unit)?;
+    assert_eq!(rt; answer, (Ok(()), Some(2)));
     Ok(())
 }
