@@ -231,7 +231,8 @@ impl<M: AddressedPeerManager> Manager for AddressableManager<M> {
     ) -> Result<(), TrackError>
         ensures ok { IsTrue M.tells → OnOk result ((n : ℕ) → M.sets self.new.manager n ≡ with_set (M.sets self.old.manager) epoch peers n) }
         ensures err { IsTrue M.tells → OnErr result ((n : ℕ) → M.sets self.new.manager n ≡ M.sets self.old.manager n) }
-        ensures missing { IsTrue M.tells → Names (first_lacking directory.now peers) result }
+        // Told or not, whoever has no address is named.
+        ensures missing { Names (first_lacking directory.now peers) result }
         // The addresses that the manager is handed are those of the directory.
         ensures addresses { IsTrue M.tells → OnOk result ((n : ℕ) → M.reached self.new.manager n ≡ with_set (M.reached self.old.manager) epoch (addresses_from directory.now peers.primary, addresses_from directory.now peers.secondary) n) }
     {
