@@ -1,9 +1,9 @@
 -- Infos as bytes. The directory's limits follow from the peers that the rest names.
-use Rattle.std.proofs.Common.{◌≡◌, ℕ, ◌-◌, ◌<◌, ◌^◌, Bool, List, [], ◌∷◌, ◌++◌, length, Ok, Err, refl, sym, ap, ◌∙◌, append_assoc}
+use Rattle.std.proofs.Common.{◌≡◌, ℕ, ◌-◌, ◌<◌, ◌^◌, Bool, List, ◌++◌, refl, sym, ap, ◌∙◌, append_assoc}
 use Rattle.dkg_values.specs.declared.codec.CodecError.TheVariants.{Invalid}
 use Rattle.dkg_values.specs.declared.codec.What.TheVariants as what
 use Rattle.dkg_values.specs.Codec.{Reading, IsGrammar}
-use Rattle.dkg_values.specs.Joined.{then_at, then_grammar, Both, IsMade, checked_at, checked_grammar, Passes, beside_at, beside_grammar, BothFit, both_spelled}
+use Rattle.dkg_values.specs.Joined.{then_at, then_grammar, Both, checked_at, checked_grammar, Passes, beside_at, beside_grammar, BothFit, both_spelled}
 use Rattle.dkg_values.specs.Lists.{set_at, set_spelling, SetFits}
 use Rattle.dkg_values.specs.ListGrammar.{set_grammar}
 use Rattle.dkg_values.specs.Rising.{set_of}

@@ -1,5 +1,8 @@
+pub mod AddressCodes
 pub mod BlockCodes
+pub mod Bounds
 pub mod Faults
+pub mod FinalizationCodes
 pub mod InfoCodes
 pub mod MessageCodes
 pub mod OutcomeCodes
@@ -7,6 +10,7 @@ pub mod ParticipantsCodes
 pub mod PayloadCodes
 pub mod Schemes
 pub mod Told
+pub mod Tracking
 pub mod Units
 pub mod Validation
 pub mod Variants

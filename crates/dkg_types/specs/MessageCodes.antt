@@ -1,5 +1,5 @@
 -- Messages as bytes.
-use Rattle.std.proofs.Common.{◌≡◌, ℕ, zero, suc, ◌<◌, List, [], ◌∷◌, ◌++◌, length, Ok, Err, refl}
+use Rattle.std.proofs.Common.{◌≡◌, ℕ, zero, suc, ◌<◌, List, ◌++◌, length, Err, refl}
 use Rattle.std.specs.Int.{w16, to_be_bytes}
 use Rattle.dkg_values.specs.declared.codec.CodecError.TheVariants.{InvalidEnum}
 use Rattle.dkg_values.specs.Bytes.{bytes_at, bytes_grammar, HasTag, tagged, tagged_at, tagged_grammar}

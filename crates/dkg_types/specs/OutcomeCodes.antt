@@ -1,12 +1,12 @@
 -- Outcomes as bytes.
-use Rattle.std.proofs.Common.{◌≡◌, ℕ, zero, suc, List, [], ◌∷◌, Ok, Err, refl}
+use Rattle.std.proofs.Common.{◌≡◌, ℕ, zero, suc, List, Err, refl}
 use Rattle.dkg_values.specs.declared.codec.CodecError.TheVariants.{InvalidEnum}
 use Rattle.dkg_values.specs.Bytes.{HasTag, tagged, tagged_at, tagged_grammar}
 use Rattle.dkg_values.specs.Codec.{Reading, IsGrammar}
 use Rattle.dkg_values.specs.Joined.{seen_at}
 use Rattle.dkg_types.specs.declared.outcome.EpochOutcome.{EpochOutcome}
 use Rattle.dkg_types.specs.declared.outcome.EpochOutcome.TheVariants.{Success, Failure}
-use Rattle.dkg_types.specs.Variants.{Always, no_bytes, nothing_at, nothing_grammar, MadeOf, IsVariant, variant_grammar, none_grammar}
+use Rattle.dkg_types.specs.Variants.{Always, no_bytes, nothing_at, nothing_grammar, MadeOf, variant_grammar, none_grammar}
 
 abbrev pub outcome_byte : EpochOutcome → ℕ
 outcome_byte Success = 0

@@ -1,5 +1,5 @@
 -- Participants as bytes: dealers, players and next players.
-use Rattle.std.proofs.Common.{◌≡◌, ℕ, List, ◌++◌, refl, append_assoc}
+use Rattle.std.proofs.Common.{ℕ, List, ◌++◌, refl, append_assoc}
 use Rattle.dkg_values.specs.Codec.{Reading, IsGrammar}
 use Rattle.dkg_values.specs.Joined.{beside_at, beside_grammar, BothFit, both_spelled, seen_at, seen_grammar}
 use Rattle.dkg_values.specs.Lists.{set_at, set_spelling, SetFits}

@@ -1,5 +1,5 @@
 -- Payloads as bytes.
-use Rattle.std.proofs.Common.{◌≡◌, ℕ, zero, suc, Bool, List, [], ◌∷◌, ◌++◌, Ok, Err, refl}
+use Rattle.std.proofs.Common.{◌≡◌, ℕ, zero, suc, Bool, List, Err, refl}
 use Rattle.dkg_values.specs.declared.codec.CodecError.TheVariants.{InvalidEnum}
 use Rattle.dkg_values.specs.Bytes.{HasTag, tagged, tagged_at, tagged_grammar}
 use Rattle.dkg_values.specs.Codec.{Reading, IsGrammar}

@@ -1,8 +1,8 @@
 -- Grammars of enums: a first byte tells which variant follows.
-use Rattle.std.proofs.Common.{◌≡◌, ℕ, List, [], ◌∷◌, ◌++◌, Result, Ok, Err, refl, sym, ap, subst, ◌∙◌}
+use Rattle.std.proofs.Common.{◌≡◌, ℕ, List, [], ◌++◌, Ok, Err, refl, sym, ap, subst, ◌∙◌}
 use Rattle.dkg_values.specs.declared.codec.CodecError.{CodecError}
 use Rattle.dkg_values.specs.Bytes.{HasTag}
-use Rattle.dkg_values.specs.Codec.{Reading, ◌>>=◌, IsBytes, IsGrammar}
+use Rattle.dkg_values.specs.Codec.{Reading, IsGrammar}
 use Rattle.dkg_values.specs.Grammar.{bind_ok, ok_is}
 use Rattle.dkg_values.specs.Joined.{seen_at}
 
@@ -54,4 +54,20 @@ pub none_grammar : {B : Type 0} (new_fits : B → Type 0) (tag_of : B → ℕ) (
 none_grammar {B} new_fits tag_of body tag fault never = record {
   found = λ bytes b rest are e. absurd cc;
   again = λ b rest h. absurd (never b h.has);
+}
+
+-- the same under another shape, where not each value of that shape is read
+pub made_grammar : {A B : Type 0} (fits : A → Type 0) (spelling : A → List ℕ) (read : List ℕ → Reading A) (make : A → B) (new_fits : B → Type 0) (new_spelling : B → List ℕ)
+    → IsGrammar fits spelling read → ((a : A) → fits a → new_fits (make a)) → ((a : A) → spelling a ≡ new_spelling (make a)) → ((b : B) → new_fits b → MadeOf fits make b) → IsGrammar new_fits new_spelling (seen_at make read)
+made_grammar {A} {B} fits spelling read make new_fits new_spelling law there same back = record {
+  found = λ bytes b rest are e.
+      let a = bind_ok (read bytes) (λ a. Ok (make a.0, a.1)) (b, rest) e in
+      let f = law.found bytes a.0.0 a.0.1 are a.1 in
+      let o = ok_is (make a.0.0, a.0.1) (b, rest) a.2 in
+      let made : new_fits (make a.0.0) × (bytes ≡ new_spelling (make a.0.0) ++ a.0.1) = (there a.0.0 f.0, f.1 ∙ ap (λ (x : List ℕ). x ++ a.0.1) (same a.0.0)) in
+      subst (λ (x : B × List ℕ). new_fits x.0 × (bytes ≡ new_spelling x.0 ++ x.1)) o made;
+  again = λ b rest h.
+      let m = back b h in
+      let s : new_spelling b ≡ spelling m.of = ap new_spelling (sym m.is) ∙ sym (same m.of) in
+      ap (λ (x : List ℕ). seen_at make read (x ++ rest)) s ∙ rw (law.again m.of rest m.fit) (ap (λ (x : B). Ok (x, rest)) m.is);
 }

@@ -1,15 +1,21 @@
 //! Blocks of the chain, as far as the ceremony looks at them. A source holds them and the actors are delivered them.
-ghost use Rattle.std.specs.Prelude.{◌≡◌, ◌+◌, ◌*◌, ◌++◌, ◌↔◌, IfOk, OnOk, IsTrue, None};
+ghost use Rattle.std.specs.Prelude.{◌≡◌, ℕ, ◌+◌, ◌*◌, ◌^◌, ◌≤◌, ◌++◌, ◌↔◌, length, IfOk, OnOk, OnErr, IsTrue, None};
 ghost use Rattle.std.specs.Int.NonZero.{non_zero_u32_get};
 ghost use Rattle.std.specs.Option.{option_copied};
 ghost use Rattle.sha2.specs.Sha256.{sha256};
-ghost use Rattle.dkg_types.specs.BlockCodes.{IsBlock, block_bytes, context_bytes, flagged_bytes, info_of};
+ghost use Rattle.dkg_values.specs.Codec.{Reads, StandsInFront};
+ghost use Rattle.dkg_types.specs.Bounds.{IsBound};
+ghost use Rattle.dkg_types.specs.PayloadCodes.{PayloadFits};
+ghost use Rattle.dkg_types.specs.BlockCodes.{BlockFits, IsBlock, block_bytes, block_spelling, flagged_at, flagged_bytes, genesis_context, head_at, held_at, info_of, zero_digest};
 
 use crate::directory::Directory;
 use crate::info::EpochInfo;
 use crate::payload::Payload;
 use bytes::{BufMut, BytesMut};
-use dkg_ceremony::{Digest, Epoch, Height, Key, Mem, Value, Write, write_uint};
+use dkg_ceremony::{
+    CodecError, Digest, EncodeSize, Epoch, Height, Key, Mem, ModeVersion, Read, Reader, Spelled,
+    Value, Write, read_byte, read_u64, uint_size, write_uint,
+};
 use sha2::{Digest as Hashes, Sha256};
 use std::alloc::Global;
 use std::num::NonZeroU32;
@@ -26,7 +32,15 @@ pub struct Context {
 
 /// A block that may carry something for the ceremony.
 pub trait ReshareBlock<Dir> {
-    fn payload(&self) -> Option<&Payload<Dir>>;
+    ghost use Rattle.std.specs.Prelude.{◌≡◌, Option};
+    ghost use Rattle.std.specs.Option.{option_copied};
+    ghost use Rattle.dkg_types.specs.declared.payload.Payload.{Payload};
+
+    /// What it carries.
+    ghost carried: { Self → Option (Payload Dir) };
+
+    fn payload(&self) -> Option<&Payload<Dir>>
+        ensures { option_copied result ≡ carried self.now };
 }
 
 /// A block of the chain. Its digest is computed once, when it is made.
@@ -39,18 +53,77 @@ pub struct Block<Dir> {
     digest: Digest,
 }
 
-fn put_context(context: &Context, out: &mut BytesMut) -> Mem<()>
-    ensures { OnOk result (out.new.items ≡ out.old.items ++ context_bytes context.now) }
+impl Spelled for Context {
+    ghost use Rattle.dkg_types.specs.BlockCodes.{context_bytes};
+
+    ghost spelling = { context_bytes };
+}
+
+/// How many bytes a digest takes.
+fn size_of_digest(digest: &Digest) -> usize
+    ensures size { result ≡ length digest.now }
+    ensures bound { result ≡ 32 }
 {
-    context.epoch.put(out)?;
-    write_uint(out, context.view)?;
-    context.leader.put(out)?;
-    write_uint(out, context.parent_view)?;
-    context.parent.put(out)
+    let bytes = &digest.0;
+    bytes.len()
+}
+
+impl EncodeSize for Context {
+    ghost use Rattle.std.specs.Prelude.{◌≡◌, ◌≤◌, length};
+    ghost use Rattle.dkg_types.specs.BlockCodes.{context_bytes};
+
+    fn encode_size(&self) -> usize
+        ensures size { result ≡ length (context_bytes self.now) }
+        ensures bound { result ≤ 66 }
+    {
+        uint_size(self.epoch.0)
+            + uint_size(self.view)
+            + 4
+            + uint_size(self.parent_view)
+            + size_of_digest(&self.parent)
+    }
+}
+
+impl Write for Context {
+    fn put(&self, out: &mut BytesMut) -> Mem<()> {
+        self.epoch.put(out)?;
+        write_uint(out, self.view)?;
+        self.leader.put(out)?;
+        write_uint(out, self.parent_view)?;
+        self.parent.put(out)
+    }
+}
+
+impl Read for Context {
+    type Cfg = ();
+
+    ghost use Rattle.dkg_types.specs.BlockCodes.{ContextFits, context_at, context_grammar};
+
+    ghost fits = { λ _. ContextFits };
+
+    ghost read_of = { λ _. context_at };
+
+    ghost grammar = { λ _. context_grammar };
+
+    fn read_cfg(alloc: Global, input: &mut Reader<'_>, _cfg: &()) -> Result<Context, CodecError> {
+        let epoch = Epoch::read_cfg(alloc, input, &())?;
+        let view = read_u64(input)?;
+        let leader = Key::read_cfg(alloc, input, &())?;
+        let parent_view = read_u64(input)?;
+        let parent = Digest::read_cfg(alloc, input, &())?;
+        Ok(Context {
+            epoch,
+            view,
+            leader,
+            parent_view,
+            parent,
+        })
+    }
 }
 
 fn put_flagged<Dir: Directory>(payload: &Option<Payload<Dir>>, out: &mut BytesMut) -> Mem<()>
-    ensures { OnOk result (out.new.items ≡ out.old.items ++ flagged_bytes Dir.spelling payload.now) }
+    ensures ok { OnOk result (out.new.items ≡ out.old.items ++ flagged_bytes Dir.spelling payload.now) }
+    ensures err { OnErr result (StandsInFront out.old.items out.new.items) }
 {
     match payload {
         None => Ok(out.put_u8(0)?),
@@ -107,7 +180,7 @@ fn block_digest<Dir: Directory>(
     ensures { IfOk result (λ digest. digest ≡ sha256 (block_bytes Dir.spelling context.now parent.now height payload.now)) }
 {
     let mut out = BytesMut::new(alloc);
-    put_context(context, &mut out)?;
+    context.put(&mut out)?;
     parent.put(&mut out)?;
     height.put(&mut out)?;
     put_flagged(payload, &mut out)?;
@@ -139,6 +212,7 @@ impl<Dir: Directory + Drop> Block<Dir> {
         ensures height { IfOk result (λ block. block.height ≡ 0) }
         ensures payload { IfOk result (λ block. block.payload ≡ None) }
         ensures leader { IfOk result (λ block. block.context.leader ≡ leader) }
+        ensures exact { IfOk result (IsBlock Dir.spelling (genesis_context leader) zero_digest 0 None) }
     {
         let zeros = Digest([0; 32]);
         let context = Context {
@@ -155,7 +229,8 @@ impl<Dir: Directory + Drop> Block<Dir> {
 impl<Dir: Directory> Block<Dir> {
     /// A bound, in bytes, of the encoding of a block among at most `max` participants.
     pub fn max_encode_size(max: NonZeroU32) -> usize
-        ensures { result ≡ 165 + 22 * non_zero_u32_get max + Dir.bound_of (3 * non_zero_u32_get max) }
+        ensures bound { result ≡ 165 + 22 * non_zero_u32_get max + Dir.bound_of (3 * non_zero_u32_get max) }
+        ensures enough { (version : ℕ) → IsBound (BlockFits (PayloadFits (λ peers. Dir.fits (Dir.config_of peers)) Dir.matches_of (non_zero_u32_get max) version) Dir.spelling) (block_spelling Dir.spelling) result }
     {
         109 + Payload::<Dir>::max_encode_size(max)
     }
@@ -199,6 +274,8 @@ impl<Dir> Block<Dir> {
 }
 
 impl<Dir> ReshareBlock<Dir> for Block<Dir> {
+    ghost carried = { λ block. block.payload };
+
     fn payload(&self) -> Option<&Payload<Dir>>
         ensures { option_copied result ≡ self.now.payload }
     {
@@ -223,5 +300,116 @@ impl<Dir: Directory + Drop> Value for Block<Dir> {
             && self.height == other.height
             && is_same_payload(&self.payload, &other.payload)
             && self.digest == other.digest
+    }
+}
+
+impl<Dir: Directory> Spelled for Block<Dir> {
+    ghost use Rattle.dkg_types.specs.BlockCodes.{block_spelling};
+
+    ghost spelling = { block_spelling Dir.spelling };
+}
+
+/// How many bytes a flag takes and the payload behind it.
+fn size_of_flagged<Dir: Directory>(payload: &Option<Payload<Dir>>) -> usize
+    ensures size { result ≡ length (flagged_bytes Dir.spelling payload.now) }
+    ensures bound { result ≤ 2 ^ 62 + 2 }
+{
+    match payload {
+        None => 1,
+        Some(payload) => 1 + payload.encode_size(),
+    }
+}
+
+impl<Dir: Directory> EncodeSize for Block<Dir> {
+    #[tactic(auto, unfolding(crate::specs::BlockCodes::block_bytes))]
+    fn encode_size(&self) -> usize {
+        self.context.encode_size()
+            + size_of_digest(&self.parent)
+            + uint_size(self.height.0)
+            + size_of_flagged(&self.payload)
+    }
+}
+
+impl<Dir: Directory> Write for Block<Dir> {
+    #[tactic(auto, unfolding(crate::specs::BlockCodes::block_bytes))]
+    fn put(&self, out: &mut BytesMut) -> Mem<()> {
+        self.context.put(out)?;
+        self.parent.put(out)?;
+        self.height.put(out)?;
+        put_flagged(&self.payload, out)
+    }
+}
+
+/// What stands before the flag: where the block was proposed, the digest of the block below, and the height.
+type Head = (Context, (Digest, Height));
+
+#[tactic(auto, unfolding(crate::specs::BlockCodes::head_at))]
+fn read_head(alloc: Global, input: &mut Reader<'_>) -> Result<Head, CodecError>
+    ensures { Reads (head_at input.old) result input.new }
+{
+    let context = Context::read_cfg(alloc, input, &())?;
+    let parent = Digest::read_cfg(alloc, input, &())?;
+    let height = Height::read_cfg(alloc, input, &())?;
+    Ok((context, (parent, height)))
+}
+
+#[tactic(auto, unfolding(crate::specs::BlockCodes::held_at))]
+fn read_payload<Dir: Directory + Drop>(
+    alloc: Global,
+    input: &mut Reader<'_>,
+    cfg: &(NonZeroU32, ModeVersion),
+) -> Result<Payload<Dir>, CodecError>
+where
+    Dir::Cfg: Drop,
+    ensures { Reads (held_at (λ peers. Dir.read_of (Dir.config_of peers)) Dir.matches_of (non_zero_u32_get cfg.now.0) cfg.now.1.0 input.old) result input.new }
+{
+    Payload::read_cfg(alloc, input, cfg)
+}
+
+#[tactic(auto, unfolding(crate::specs::BlockCodes::flagged_after))]
+fn read_flagged<Dir: Directory + Drop>(
+    alloc: Global,
+    input: &mut Reader<'_>,
+    cfg: &(NonZeroU32, ModeVersion),
+) -> Result<Option<Payload<Dir>>, CodecError>
+where
+    Dir::Cfg: Drop,
+    ensures { Reads (flagged_at (held_at (λ peers. Dir.read_of (Dir.config_of peers)) Dir.matches_of (non_zero_u32_get cfg.now.0) cfg.now.1.0) input.old) result input.new }
+{
+    match read_byte(input)? {
+        0 => Ok(None),
+        1 => {
+            let payload = read_payload(alloc, input, cfg)?;
+            Ok(Some(payload))
+        }
+        other => Err(CodecError::InvalidEnum(other)),
+    }
+}
+
+impl<Dir: Directory + Drop> Read for Block<Dir>
+where
+    Dir::Cfg: Drop,
+{
+    /// How many keys a set may have, and the newest mode that a sharing may have.
+    type Cfg = (NonZeroU32, ModeVersion);
+
+    ghost use Rattle.std.specs.Int.NonZero.{non_zero_u32_get};
+    ghost use Rattle.dkg_types.specs.BlockCodes.{BlockFits, block_at, block_grammar, held_at, held_grammar};
+    ghost use Rattle.dkg_types.specs.PayloadCodes.{PayloadFits};
+
+    ghost fits = { λ cfg. BlockFits (PayloadFits (λ peers. Dir.fits (Dir.config_of peers)) Dir.matches_of (non_zero_u32_get cfg.0) cfg.1.0) Dir.spelling };
+
+    ghost read_of = { λ cfg. block_at Dir.spelling (held_at (λ peers. Dir.read_of (Dir.config_of peers)) Dir.matches_of (non_zero_u32_get cfg.0) cfg.1.0) };
+
+    ghost grammar = { λ cfg. block_grammar (PayloadFits (λ peers. Dir.fits (Dir.config_of peers)) Dir.matches_of (non_zero_u32_get cfg.0) cfg.1.0) Dir.spelling (held_at (λ peers. Dir.read_of (Dir.config_of peers)) Dir.matches_of (non_zero_u32_get cfg.0) cfg.1.0) (held_grammar (λ peers. Dir.fits (Dir.config_of peers)) Dir.spelling (λ peers. Dir.read_of (Dir.config_of peers)) Dir.matches_of (λ peers. Dir.grammar (Dir.config_of peers)) (non_zero_u32_get cfg.0) cfg.1.0) };
+
+    fn read_cfg(
+        alloc: Global,
+        input: &mut Reader<'_>,
+        cfg: &(NonZeroU32, ModeVersion),
+    ) -> Result<Block<Dir>, CodecError> {
+        let (context, (parent, height)) = read_head(alloc, input)?;
+        let payload = read_flagged(alloc, input, cfg)?;
+        Ok(Block::new(alloc, context, parent, height, payload)?)
     }
 }

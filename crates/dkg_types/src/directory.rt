@@ -35,27 +35,17 @@ pub trait Directory: Value + Write + EncodeSize + Read {
     fn size(&self) -> usize
         ensures size { result ≡ length (Self.spelling self.now) }
         ensures small { result ≤ 2 ^ 61 };
+
+    /// No directory of so many peers is spelled longer.
+    ghost within: { (peers : List ℕ) (d : Self) → Self.fits (config_of peers) d → length (Self.spelling d) ≤ bound_of (length peers) };
+
+    /// More peers have no lower bound.
+    ghost rising: { (few many : ℕ) → few ≤ many → bound_of few ≤ bound_of many };
 }
 
 /// The directory of a network that reaches peers by their keys alone.
 #[derive(Clone, Copy, Debug, PartialEq, Eq)]
 pub struct Unit;
-
-/// An IPv4 address and a port.
-#[derive(Clone, Copy, Debug, PartialEq, Eq)]
-pub struct Socket {
-    pub ip: u32,
-    pub port: u16,
-}
-
-/// Where a peer is reached.
-#[derive(Clone, Copy, Debug, PartialEq, Eq)]
-pub enum Address {
-    /// It is dialed where it dials from.
-    Symmetric(Socket),
-    /// It is dialed at one socket and dials from another.
-    Asymmetric { ingress: Socket, egress: Socket },
-}
 
 impl Value for Unit {
     fn copy(&self, _alloc: Global) -> Mem<Unit> {
@@ -104,6 +94,7 @@ impl Read for Unit {
 
 impl Directory for Unit {
     ghost use Rattle.std.specs.Prelude.{true};
+    ghost use Rattle.dkg_types.specs.Units.{unit_rising, unit_within};
 
     ghost config_of = { λ _. tt };
 
@@ -124,4 +115,8 @@ impl Directory for Unit {
     fn size(&self) -> usize {
         0
     }
+
+    ghost within = { unit_within };
+
+    ghost rising = { unit_rising };
 }

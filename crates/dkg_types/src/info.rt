@@ -1,9 +1,10 @@
 //! The public description of an epoch. Genesis and the last block of each epoch carry one.
-ghost use Rattle.std.specs.Prelude.{◌≡◌, ◌+◌, ◌*◌, ◌^◌, ◌≤◌, ◌++◌, length, IfOk, OnOk, OnErr};
+ghost use Rattle.std.specs.Prelude.{◌≡◌, ℕ, ◌+◌, ◌*◌, ◌^◌, ◌≤◌, ◌++◌, length, IfOk, OnOk, OnErr};
 ghost use Rattle.std.specs.Int.NonZero.{non_zero_u32_get};
 ghost use Rattle.dkg_values.specs.Rising.{set_of};
 ghost use Rattle.dkg_values.specs.Codec.{Reads, StandsInFront};
-ghost use Rattle.dkg_types.specs.InfoCodes.{held_at, info_spelling, parts_at, parts_text, peers_of as peers_from};
+ghost use Rattle.dkg_types.specs.Bounds.{IsBound};
+ghost use Rattle.dkg_types.specs.InfoCodes.{InfoFits, held_at, info_spelling, parts_at, parts_text, peers_of as peers_from};
 
 use crate::directory::Directory;
 use crate::outcome::EpochOutcome;
@@ -137,6 +138,7 @@ impl<Dir: Directory> EpochInfo<Dir> {
     pub fn max_encode_size(max: NonZeroU32) -> usize
         ensures bound { result ≡ 55 + 22 * non_zero_u32_get max + Dir.bound_of (3 * non_zero_u32_get max) }
         ensures small { result ≤ 2 ^ 62 }
+        ensures enough { (version : ℕ) → IsBound (InfoFits (λ peers. Dir.fits (Dir.config_of peers)) Dir.matches_of (non_zero_u32_get max) version) (info_spelling Dir.spelling) result }
     {
         let most = max.get() as usize;
         55 + 22 * most + Dir::max_encode_size(3 * most)

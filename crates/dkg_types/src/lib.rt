@@ -3,6 +3,7 @@
 //! The store, the script, the node's steps and the program stand on these. Nothing here reaches a device.
 #![tactic(auto)]
 
+mod addresses;
 mod block;
 mod directory;
 mod entry;
@@ -17,17 +18,23 @@ mod payload;
 mod provider;
 mod registrar;
 mod scheme;
+#[cfg(test)]
+mod tests;
 mod transcript;
 
+pub use addresses::{Address, Addresses, Socket};
 pub use block::{Block, Context, ReshareBlock};
-pub use directory::{Address, Directory, Socket, Unit};
+pub use directory::{Directory, Unit};
 pub use entry::{
     AnswerLine, BlockedWhy, Entry, Part, PreparedLine, Restored, RestoredList, Role, Verdict, Why,
 };
 pub use fault::{ConfigCause, Fault, LocalCause, ParticipantsCause};
-pub use finalization::Finalization;
+pub use finalization::{Finalization, Scheme, StandScheme};
 pub use info::EpochInfo;
-pub use manager::{MissingAddress, TrackError};
+pub use manager::{
+    AddressableManager, AddressedPeerManager, KeyOnlyManager, Manager, MissingAddress, PeerManager,
+    Provider, TrackError,
+};
 pub use message::{Message, max_payload_size};
 pub use outcome::EpochOutcome;
 pub use participants::{Participants, ParticipantsError, TrackedPeers};

@@ -1,6 +1,10 @@
 //! What participants send each other on the ceremony's channel.
-ghost use Rattle.std.specs.Prelude.{◌≡◌, ◌+◌, ◌*◌, length};
+ghost use Rattle.std.specs.Prelude.{◌≡◌, ◌+◌, ◌*◌, ◌^◌, ◌<◌, length};
 ghost use Rattle.std.specs.Int.NonZero.{non_zero_u32_get};
+ghost use Rattle.dkg_values.specs.Joined.{BothFit, both_spelled};
+ghost use Rattle.dkg_values.specs.Uint.{uint};
+ghost use Rattle.dkg_types.specs.Bounds.{IsBound};
+ghost use Rattle.dkg_types.specs.MessageCodes.{MessageFits, message_spelling};
 
 use bytes::{BufMut, BytesMut};
 use dkg_ceremony::{
@@ -22,7 +26,8 @@ pub enum Message {
 impl Message {
     /// A bound, in bytes, of the encoding of a message among at most `max` participants.
     pub fn max_encode_size(max: NonZeroU32) -> usize
-        ensures { result ≡ 8 + 2 * non_zero_u32_get max }
+        ensures bound { result ≡ 8 + 2 * non_zero_u32_get max }
+        ensures enough { IsBound (MessageFits (non_zero_u32_get max)) message_spelling result }
     {
         8 + 2 * max.get() as usize
     }
@@ -30,7 +35,8 @@ impl Message {
 
 /// A bound, in bytes, of what is sent on the ceremony's channel: the epoch and a message.
 pub fn max_payload_size(max: NonZeroU32) -> usize
-    ensures { result ≡ 18 + 2 * non_zero_u32_get max }
+    ensures bound { result ≡ 18 + 2 * non_zero_u32_get max }
+    ensures enough { IsBound (BothFit (λ n. n < 2 ^ 64) (MessageFits (non_zero_u32_get max))) (both_spelled uint message_spelling) result }
 {
     10 + Message::max_encode_size(max)
 }

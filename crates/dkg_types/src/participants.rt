@@ -1,9 +1,9 @@
 //! Who takes part in an epoch. Setup validates them and hands the tracked ones to a manager.
-ghost use Rattle.std.specs.Prelude.{◌≡◌, ℕ, ◌+◌, ◌<◌, ◌^◌, ◌⊎◌, length, Contains, IfOk};
+ghost use Rattle.std.specs.Prelude.{◌≡◌, ℕ, ◌+◌, ◌++◌, ◌<◌, ◌^◌, ◌⊎◌, length, Contains, IfOk};
 ghost use Rattle.std.specs.Int.NonZero.{non_zero_u32_get};
 ghost use Rattle.std.specs.Option.{option_copied};
 ghost use Rattle.std.specs.Str.{bytes_eq};
-ghost use Rattle.dkg_values.specs.Rising.{IsSetOf};
+ghost use Rattle.dkg_values.specs.Rising.{IsSetOf, set_of};
 ghost use Rattle.dkg_types.specs.Validation.{are_among as among, limited, reshare_validation, validation};
 
 use bytes::BytesMut;
@@ -97,6 +97,7 @@ impl Participants {
     pub fn tracked_peers(&self, alloc: Global) -> Mem<TrackedPeers>
         requires { length self.now.players + length self.now.next_players < 2 ^ 32 }
         ensures primary { IfOk result (λ peers. peers.primary ≡ self.now.dealers) }
+        ensures exact { IfOk result (λ peers. peers.secondary ≡ set_of (self.now.players ++ self.now.next_players)) }
         ensures secondary { IfOk result (λ peers. IsSetOf (λ x. Contains self.now.players x ⊎ Contains self.now.next_players x) peers.secondary) }
     {
         Ok(TrackedPeers {

@@ -1,9 +1,10 @@
 //! What a block may carry for the ceremony.
 
-ghost use Rattle.std.specs.Prelude.{◌≡◌, ◌+◌, ◌*◌, ◌^◌, ◌≤◌, length};
+ghost use Rattle.std.specs.Prelude.{◌≡◌, ℕ, ◌+◌, ◌*◌, ◌^◌, ◌≤◌, length};
 ghost use Rattle.std.specs.Int.NonZero.{non_zero_u32_get};
 ghost use Rattle.dkg_values.specs.Codec.{Reads};
-ghost use Rattle.dkg_types.specs.PayloadCodes.{carried_at, payload_spelling};
+ghost use Rattle.dkg_types.specs.Bounds.{IsBound};
+ghost use Rattle.dkg_types.specs.PayloadCodes.{PayloadFits, carried_at, payload_spelling};
 
 use crate::directory::Directory;
 use crate::info::EpochInfo;
@@ -53,6 +54,7 @@ impl<Dir: Directory> Payload<Dir> {
     pub fn max_encode_size(max: NonZeroU32) -> usize
         ensures bound { result ≡ 56 + 22 * non_zero_u32_get max + Dir.bound_of (3 * non_zero_u32_get max) }
         ensures small { result ≤ 2 ^ 62 + 1 }
+        ensures enough { (version : ℕ) → IsBound (PayloadFits (λ peers. Dir.fits (Dir.config_of peers)) Dir.matches_of (non_zero_u32_get max) version) (payload_spelling Dir.spelling) result }
     {
         1 + EpochInfo::<Dir>::max_encode_size(max)
     }

@@ -1,0 +1,48 @@
+-- Which peers a manager tracks, and the first peer that a directory lacks.
+use Rattle.std.specs.Prelude.{◌≡◌, ℕ, ◌==◌, List, [], ◌∷◌, Option, Some, None, is_some, Result, Ok, Err, if◌then◌else◌}
+use Rattle.dkg_values.specs.Rising.{keys_of, lookup}
+use Rattle.dkg_types.specs.declared.addresses.Address.{Address}
+use Rattle.dkg_types.specs.declared.manager.TrackError.{TrackError}
+use Rattle.dkg_types.specs.declared.manager.TrackError.TheVariants.{Missing, NoMemory}
+use Rattle.dkg_types.specs.declared.participants.TrackedPeers.{TrackedPeers}
+
+abbrev pub Pairs : Type 0
+Pairs = List (ℕ × Address)
+
+-- what is kept by number, with one more under its number
+abbrev pub with_set : {A : Type 0} → (ℕ → Option A) → ℕ → A → ℕ → Option A
+with_set sets id peers n = if n == id then Some peers else sets n
+
+-- the first peer without an address
+abbrev pub first_without : Pairs → List ℕ → Option ℕ
+first_without addresses [] = None
+first_without addresses (peer ∷ peers) = if is_some (lookup peer addresses) then first_without addresses peers else Some peer
+
+abbrev pub or_else : Option ℕ → Option ℕ → Option ℕ
+or_else None other = other
+or_else (Some peer) other = Some peer
+
+-- the first peer without an address, the primary ones before the secondary ones
+abbrev pub first_lacking : Pairs → TrackedPeers → Option ℕ
+first_lacking addresses peers = or_else (first_without addresses peers.primary) (first_without addresses peers.secondary)
+
+-- a peer's address in front of others
+abbrev pub in_front : Option Address → ℕ → Pairs → Pairs
+in_front None peer others = others
+in_front (Some address) peer others = (peer, address) ∷ others
+
+-- the addresses of some peers
+abbrev pub addresses_of : Pairs → List ℕ → Pairs
+addresses_of addresses [] = []
+addresses_of addresses (peer ∷ peers) = in_front (lookup peer addresses) peer (addresses_of addresses peers)
+
+-- the answer of a call that must name the first peer that is lacking, unless memory ran out
+abbrev pub Names : {A : Type 0} → Option ℕ → Result A TrackError → Type 0
+Names lack (Ok answer) = lack ≡ None
+Names lack (Err (Missing peer)) = lack ≡ Some peer.0
+Names lack (Err NoMemory) = Unit {0}
+
+-- the addresses of just these peers
+pub record IsOf (addresses : Pairs) (peers : List ℕ) (pairs : Pairs) : Type 0 where
+  pub keys : keys_of pairs ≡ peers
+  pub of : pairs ≡ addresses_of addresses peers
