@@ -56,20 +56,20 @@ module _ {C R : Type 0} where
 
   pub stamped_below : (from a b : ℕ) (l : List (HistoryEntry C R)) → a ≤ b → IsStamped from a l → IsStamped from b l
   stamped_below from a b [] le h = omega arith
-  stamped_below from a b (e ∷ es) le h = (h.0, stamped_below (e.ticket.value + 1) a b es le h.1)
+  stamped_below from a b (e ∷ es) le h = (h.0, stamped_below (e.ticket + 1) a b es le h.1)
 
-  stamped_snoc : (from t : ℕ) (l : List (HistoryEntry C R)) (e : HistoryEntry C R) → e.ticket.value ≡ t → IsStamped from t l → IsStamped from (t + 1) (l ++ e ∷ [])
+  stamped_snoc : (from t : ℕ) (l : List (HistoryEntry C R)) (e : HistoryEntry C R) → e.ticket ≡ t → IsStamped from t l → IsStamped from (t + 1) (l ++ e ∷ [])
   stamped_snoc from t [] e is h = (omega arith, omega arith)
-  stamped_snoc from t (x ∷ xs) e is h = (h.0, stamped_snoc (x.ticket.value + 1) t xs e is h.1)
+  stamped_snoc from t (x ∷ xs) e is h = (h.0, stamped_snoc (x.ticket + 1) t xs e is h.1)
 
-  pub stamped_one : (t : ℕ) (l : List (HistoryEntry C R)) (e : HistoryEntry C R) → e.ticket.value ≡ t → IsStamped 0 t l → IsStamped 0 (t + 1) (l ++ e ∷ [])
+  pub stamped_one : (t : ℕ) (l : List (HistoryEntry C R)) (e : HistoryEntry C R) → e.ticket ≡ t → IsStamped 0 t l → IsStamped 0 (t + 1) (l ++ e ∷ [])
   stamped_one t l e is h = stamped_snoc 0 t l e is h
 
   -- a stay with this ticket leaves one entry at most
   pub stamped_adds : (t : ℕ) (ns : List ℕ) (l ext : List (HistoryEntry C R)) → AddsOne t ns ext → IsStamped 0 t l → IsStamped 0 (t + 1) (l ++ ext)
   stamped_adds t ns l ext adds h = ⊎_elim
       (λ (e : ext ≡ []). subst (IsStamped 0 (t + 1)) (sym (append-nil l) ∙ ap (λ x. l ++ x) (sym e)) (stamped_below 0 t (t + 1) l (omega arith) h))
-      (λ (x : (e : HistoryEntry C R) × (ext ≡ e ∷ []) × (has ns e.caller ≡ true) × (e.ticket.value ≡ t)). subst (IsStamped 0 (t + 1)) (ap (λ y. l ++ y) (sym x.1)) (stamped_one t l x.0 x.3 h))
+      (λ (x : (e : HistoryEntry C R) × (ext ≡ e ∷ []) × (has ns e.caller ≡ true) × (e.ticket ≡ t)). subst (IsStamped 0 (t + 1)) (ap (λ y. l ++ y) (sym x.1)) (stamped_one t l x.0 x.3 h))
       adds
 
   -- of the callers' own calls, those seen before and the last one

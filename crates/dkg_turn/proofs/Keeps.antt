@@ -94,7 +94,7 @@ module _ {C R : Type 0} where
   -- the calls that others do not have
   not_theirs : (t : ℕ) (mine theirs : List ℕ) (ext : List (HistoryEntry C R)) → AddsOne t mine ext → ((n : ℕ) → has mine n ≡ true → ¬ (has theirs n ≡ true)) → calls_of theirs ext ≡ []
   not_theirs t mine theirs ext adds apart = ⊎_elim (λ (e : ext ≡ []). ap (calls_of theirs) e)
-      (λ (x : (e : HistoryEntry C R) × (ext ≡ e ∷ []) × (has mine e.caller ≡ true) × (e.ticket.value ≡ t)). ap (calls_of theirs) x.1 ∙ no_call theirs x.0 (apart x.0.caller x.2)) adds
+      (λ (x : (e : HistoryEntry C R) × (ext ≡ e ∷ []) × (has mine e.caller ≡ true) × (e.ticket ≡ t)). ap (calls_of theirs) x.1 ∙ no_call theirs x.0 (apart x.0.caller x.2)) adds
 
 module _ {T C R : Type 0} where
   pub tickets_of-set : (l : List (View T C R)) (i : ℕ) (v w : View T C R) → get_elem? l i ≡ some v → tickets_of (set l i w) + v.drew ≡ tickets_of l + w.drew
@@ -355,7 +355,7 @@ module _ {T C R : Type 0} (turns : T → C → R → T → Type 0) (start : T) w
             ((λ t' h. absurd h), (λ n h j u ne e g. ⊎_elim (λ (o : has v.numbers n ≡ true). (r.apart id j v u at e (λ q. ne (sym q))).1 n o g) (λ (o : n ≡ t + 1). let l = (r.each j u e).named n g in omega arith) (new n h)))
             sub
             (λ n h. ⊎_elim (λ (e : ext ≡ []). inl (λ z. h (ap (calls_of (n ∷ [])) (sym longer ∙ ap (λ l. r.log ++ l) e ∙ append-nil r.log) ∙ z)))
-            (λ (y : (e : HistoryEntry C R) × (ext ≡ e ∷ []) × (has v.numbers e.caller ≡ true) × (e.ticket.value ≡ t)). dite (ℕ_discrete n y.0.caller)
+            (λ (y : (e : HistoryEntry C R) × (ext ≡ e ∷ []) × (has v.numbers e.caller ≡ true) × (e.ticket ≡ t)). dite (ℕ_discrete n y.0.caller)
             (λ same. inr (sub n (subst (λ (m : ℕ). has v.numbers m ≡ true) (sym same) y.2)))
             (λ other. inl (λ z. h (ap (calls_of (n ∷ [])) (sym longer) ∙ calls_of-append (n ∷ []) r.log ext ∙ (λ i. z i ++ (ap (calls_of (n ∷ [])) y.1 ∙ not_n n y.0 other) i)))))
             adds),

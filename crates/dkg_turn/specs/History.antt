@@ -24,7 +24,7 @@ module _ {C R : Type 0} where
   -- tickets rise along the history, from this one on, and stay below the limit
   abbrev pub IsStamped : ℕ → ℕ → List (HistoryEntry C R) → Type 0
   IsStamped from limit [] = from ≤ limit
-  IsStamped from limit (e ∷ es) = (from ≤ e.ticket.value) × IsStamped (e.ticket.value + 1) limit es
+  IsStamped from limit (e ∷ es) = (from ≤ e.ticket) × IsStamped (e.ticket + 1) limit es
 
   -- of two beginnings of one history, the longer
   abbrev pub longer : List (HistoryEntry C R) → List (HistoryEntry C R) → List (HistoryEntry C R)

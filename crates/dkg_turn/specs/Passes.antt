@@ -1,5 +1,5 @@
 -- What the calls of a pass tell.
-use Rattle.std.specs.Prelude.{◌≡◌, ℕ, ◌+◌, ◌-◌, ◌/◌, ◌<◌, ◌≤◌, ◌^◌, ◌||◌, max, true, false, List, [], ◌∷◌, ◌++◌, Option, Some, None}
+use Rattle.std.specs.Prelude.{◌≡◌, ◌↔◌, IsTrue, IsNone, Bool, ℕ, ◌+◌, ◌-◌, ◌/◌, ◌<◌, ◌≤◌, ◌^◌, ◌||◌, max, true, false, List, [], ◌∷◌, ◌++◌, Option, Some, None}
 use Rattle.dkg_turn.specs.declared.turn.HistoryEntry.{HistoryEntry}
 use Rattle.dkg_turn.specs.History.{has, calls_of, HasSeen, IsStamped, longer, IsRun}
 use Rattle.dkg_turn.specs.Known.{Lock, Known}
@@ -67,7 +67,7 @@ module _ {T C R : Type 0} where
       pub found : Finds ticket v log before
       pub caller : entry.caller ≡ v.number
       pub call_is : entry.call ≡ call
-      pub stamp : entry.ticket.value ≡ ticket
+      pub stamp : entry.ticket ≡ ticket
       pub kept : turns before call entry.reply after
       pub given : turns before call reply after
       pub alike : same entry.reply reply
@@ -112,6 +112,15 @@ module _ {T C R : Type 0} where
     pub record Ends (v : Known T C R) (log : List (HistoryEntry C R)) (value : T) : Type 0 where
       pub ticket : ℕ
       pub found : Finds ticket v log value
+
+  module _ {M A : Type 0} (turns : T → C → R → T → Type 0) (start : T) where
+    -- a message was posted as a call, and the answer in its reply meets the relation of core, message and answer after that turn
+    pub record Posted (same : R → R → Type 0) (call : C) (answered : R → Option A) (stopped : R → Bool) (meets : T → M → A → Type 0) (message : M) (answer : Option A) (v w : Known T C R) : Type 0 where
+      pub reply : R
+      pub called : Called turns start same call reply v w
+      pub answer_is : answer ≡ answered reply
+      pub stop : IsNone answer ↔ IsTrue (stopped reply)
+      pub met : (a : A) → answer ≡ Some a → meets called.after message a
 
   -- no ticket is left: 2 ^ 64 - 1 were drawn, and a pass with all parts drew them
   pub record IsExhausted (v w : Known T C R) : Type 0 where

@@ -36,7 +36,7 @@ tail_of (n ∷ ns) = ns
 module _ {C R : Type 0} where
   -- one call of these callers at most, with this ticket
   abbrev pub AddsOne : ℕ → List ℕ → List (HistoryEntry C R) → Type 0
-  AddsOne ticket numbers ext = (ext ≡ []) ⊎ ((e : HistoryEntry C R) × (ext ≡ e ∷ []) × (has numbers e.caller ≡ true) × (e.ticket.value ≡ ticket))
+  AddsOne ticket numbers ext = (ext ≡ []) ⊎ ((e : HistoryEntry C R) × (ext ≡ e ∷ []) × (has numbers e.caller ≡ true) × (e.ticket ≡ ticket))
 
   -- the same for some of the pass's numbers
   abbrev pub PartOf : List ℕ → List ℕ → List (HistoryEntry C R) → List (HistoryEntry C R) → Type 0

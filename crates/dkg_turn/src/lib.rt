@@ -9,6 +9,8 @@ mod carries;
 mod lock;
 mod pass;
 mod play;
+#[cfg(test)]
+mod tests;
 mod turn;
 mod view;
 

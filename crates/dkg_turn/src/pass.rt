@@ -92,7 +92,7 @@ impl<T: Turn> Pass<T> {
             caller: self.number,
             call,
             reply: kept,
-            ticket: Snapshot::of(&ticket),
+            ticket,
         });
         lock.give(&mut self.seat, node);
         Ok(reply)
@@ -120,11 +120,13 @@ impl<T: Turn> Pass<T> {
         let node = lock.come(rt, &mut self.seat, ticket);
         let told = node.value.reply(alloc, number);
         lock.give(&mut self.seat, node);
-        match told {
-            Ok(Some(reply)) => Ok(reply),
-            Ok(None) => Err(TurnError::NotYet),
-            Err(_) => Err(TurnError::NoMemory),
-        }
+        let Ok(told) = told else {
+            return Err(TurnError::NoMemory);
+        };
+        let Some(reply) = told else {
+            return Err(TurnError::NotYet);
+        };
+        Ok(reply)
     }
 
     /// Gives half of the parts, rounded down, to a new pass, for another caller.

@@ -4,7 +4,6 @@ ghost use Rattle.dkg_turn.specs.Replies.{SameOption};
 
 use dkg_values::Mem;
 use std::alloc::Global;
-use std::snapshot::Snapshot;
 
 /// What lies behind a lock: a call changes it, and has a reply.
 ///
@@ -44,8 +43,8 @@ pub struct HistoryEntry<C, R> {
     pub caller: u64,
     pub call: C,
     pub reply: R,
-    /// The ticket of the stay in which the call was made, for contracts alone: it has no bytes. Tickets rise along a history.
-    pub ticket: Snapshot<u64>,
+    /// The ticket of the stay in which the call was made. Tickets rise along a history.
+    pub ticket: u64,
 }
 
 /// One call in the history of a lock round a `T`.
