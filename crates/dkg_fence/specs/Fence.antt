@@ -2,11 +2,7 @@
 use Rattle.std.specs.Prelude.{◌≡◌, ℕ, max, nat_le, if◌then◌else◌, true, false, Option, Some, None, List, [], ◌∷◌}
 use Rattle.dkg_fence.specs.declared.fence.Waited.{Waited}
 use Rattle.dkg_fence.specs.declared.fence.Waited.TheVariants.{Ready, Pending, Closed}
-use Rattle.dkg_fence.specs.Readiness as known
-use Rattle.dkg_fence.specs.Readiness.{Readiness, IsAhead}
-
-abbrev pub IsReady : Option ℕ → ℕ → Type 0
-IsReady = known.IsReady
+use Rattle.dkg_fence.specs.Readiness.{Readiness, IsReady, IsAhead}
 
 -- the greatest of the ready epochs after one more mark
 abbrev pub raised : ℕ → Option ℕ → Option ℕ

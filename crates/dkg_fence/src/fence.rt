@@ -2,8 +2,9 @@
 //!
 //! The upstream's gate hands out a future; here a fence is plain data that the node lends to both halves, `wait` answers at once, and
 //! `close` stands for the upstream's drop.
-ghost use Rattle.std.specs.Prelude.{◌≡◌, ℕ, ◌↔◌, ◌++◌, ◌∷◌, [], List, true, false, IsTrue, IsSome, None};
-ghost use Rattle.dkg_fence.specs.Fence.{IsReady, Wakes, WaitsFor, marked, closed, waited, greatest};
+ghost use Rattle.std.specs.Prelude.{◌≡◌, ℕ, ◌↔◌, ◌++◌, ◌∷◌, [], List, false, IsTrue, IsSome, None};
+ghost use Rattle.dkg_fence.specs.Fence.{Wakes, WaitsFor, marked, closed, waited, greatest};
+ghost use Rattle.dkg_fence.specs.Readiness.{IsReady};
 
 use dkg_values::Epoch;
 use std::marker::Model;

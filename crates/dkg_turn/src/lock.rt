@@ -4,11 +4,11 @@
 //! A pass draws a ticket by the one `compare_exchange` that succeeds, waits until the turns passed on are its ticket, takes the node
 //! out of the slot, puts it back, and passes the turn on by one `fetch_add`. Whoever waits sleeps on the serving word, and is woken
 //! by who passes the turn on.
-ghost use Rattle.std.specs.Prelude.{◌≡◌, ℕ, ◌+◌, ◌^◌, ◌≤◌, ◌∷◌, ◌<◌, [], true, Some, None, IfOk, IfSome, IfNone};
+ghost use Rattle.std.specs.Prelude.{◌≡◌, ◌+◌, ◌^◌, ◌≤◌, ◌∷◌, ◌<◌, [], true, None, IfOk, IfSome, IfNone};
 ghost use Rattle.dkg_turn.specs.History.{has, HasSeen};
 ghost use Rattle.dkg_turn.specs.Passes.{first_pass};
 ghost use Rattle.dkg_turn.specs.Rules.{drawn, Took, rested, MayGive, after_naming, ticket_in, spent, IsNewlyNamed, head_of, tail_of, kept_part, given_part, both_views};
-ghost use Rattle.dkg_turn.specs.declared.view.Stage.TheVariants.{Idle, Waits, Holds};
+ghost use Rattle.dkg_turn.specs.declared.view.Stage.TheVariants.{Idle, Waits};
 
 use crate::pass::Pass;
 use crate::play::{Come, Draw, Halves, Look, Named, PassOn, Settle};

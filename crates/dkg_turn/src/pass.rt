@@ -1,8 +1,7 @@
 //! What a caller takes turns with.
-ghost use Rattle.std.specs.Prelude.{◌≡◌, ℕ, ◌+◌, ◌^◌, ◌≤◌, ◌<◌, [], true, None, IfOk, IfErr, IsErr};
-ghost use Rattle.atomic_table.specs.Seated.{TableId};
+ghost use Rattle.std.specs.Prelude.{◌≡◌, ◌≤◌, [], true, IfOk, IfErr, IsErr};
 ghost use Rattle.dkg_turn.specs.History.{HasSeen};
-ghost use Rattle.dkg_turn.specs.Passes.{IsPassOf, Called, Looked, Reads, ReadsNone, SplitOff, Ends, IsExhausted, joined, told_exhausted};
+ghost use Rattle.dkg_turn.specs.Passes.{IsPassOf, Called, Reads, SplitOff, Ends, IsExhausted, joined};
 ghost use Rattle.dkg_turn.specs.Refusals.{CallRefused, TakeRefused, SplitRefused};
 ghost use Rattle.dkg_turn.specs.Rules.{known_of, first_view};
 
