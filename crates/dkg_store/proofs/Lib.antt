@@ -1,3 +1,4 @@
+pub mod Acts
 pub mod Both
 pub mod Events
 pub mod Map
@@ -6,4 +7,5 @@ pub mod Others
 pub mod Pairs
 pub mod Playing
 pub mod Replayed
+pub mod Recorded
 pub mod Tried

@@ -26,6 +26,17 @@ IsOfRestoring (LocalState cause) = ⊥
 IsOfRestoring (StateSyncEpochs info floor) = ⊥
 IsOfRestoring StateSyncMaterial = ⊥
 
+-- the errors that opening a store may give
+abbrev pub IsOfOpening : StoreError → Type 0
+IsOfOpening Disk = Unit {0}
+IsOfOpening Secrets = Unit {0}
+IsOfOpening Cut = Unit {0}
+IsOfOpening NoMemory = Unit {0}
+IsOfOpening (Corrupt name place) = Unit {0}
+IsOfOpening (LocalState cause) = ⊥
+IsOfOpening (StateSyncEpochs info floor) = ⊥
+IsOfOpening StateSyncMaterial = ⊥
+
 -- No call of a store meets a body that is too long.
 abbrev pub store_error_of : JournalError → StoreError
 store_error_of of_journal.Disk = Disk

@@ -1,5 +1,8 @@
+pub mod Acts
 pub mod Both
+pub mod Calls
 pub mod Commits
+pub mod Corrupt
 pub mod Errors
 pub mod Events
 pub mod Keys
@@ -7,4 +10,5 @@ pub mod On
 pub mod Pairs
 pub mod Player
 pub mod Ready
+pub mod Recorded
 pub mod Secrets

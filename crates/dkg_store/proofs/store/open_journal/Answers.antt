@@ -5,7 +5,8 @@ use Rattle.dkg_journal.specs.Opening.{IsFormOfToday, open_calls}
 use Rattle.dkg_journal.specs.Fuse.{Ran, RanAll}
 use Rattle.dkg_journal.specs.declared.disk.Op.{Op}
 use Rattle.dkg_journal.specs.declared.disk.Op.TheVariants.{Barrier}
-use Rattle.dkg_journal.proofs.Steps.{then_all, then_ran}
+use Rattle.dkg_journal.proofs.Steps.{then_all, then_ran, not_reached}
+use Rattle.dkg_store.proofs.Opened.{same_call}
 use Rattle.dkg_store.proofs.Opened.{barred, kept_on}
 use Rattle.dkg_store.proofs.store.open_journal.Goals as goal
 
@@ -44,3 +45,7 @@ returns-clause-calls g c = λ told.
     let did = c.in_ok-perform.ensures.done told in
     then_ran g.D.Disk.made g.met.D.Disk.made_more _ _ _ _ _ _ (Barrier ∷ []) (open_calls (g.D.Disk.files c.args.disk.now)) (record { each = c.perform.ensures.calls; fuse = c.perform.ensures.counted })
     (subst (λ (files : Files). Ran g.D.Disk.made c.perform.new.disk c.open.new.disk c.perform.new.fuse c.open.new.fuse (open_calls files)) did.reads (c.open.ensures.calls told))
+
+pub returns-clause-not_cut : goal.returns-clause-not_cut
+returns-clause-not_cut g c = λ told.
+    not_reached c.args.fuse.now c.perform.new.fuse c.open.new.fuse (same_call (c.in_ok-open.ensures.all told)) c.in_ok-perform.ensures.not_cut c.in_ok-open.ensures.not_cut
