@@ -1,11 +1,15 @@
 -- How acts follow each other, and what holds along them.
-use Rattle.std.proofs.Common.{◌≡◌, ◌≤◌, ◌+◌, ◌⊎◌, inl, inr, ℕ, zero, suc, List, [], ◌∷◌, ◌++◌, length, refl, sym, ◌∙◌, ap, subst, arith}
+use Rattle.std.proofs.Common.{◌≡◌, ◌≤◌, ◌+◌, ◌⊎◌, inl, inr, ℕ, zero, suc, List, [], ◌∷◌, ◌++◌, length, Option, refl, sym, ◌∙◌, ap, subst, arith}
 use Rattle.std.proofs.lemmas.List.{length-append}
 use Rattle.dkg_journal.specs.Burn.{Burn}
 use Rattle.dkg_journal.specs.Fuse.{spent_once, burned}
+use Rattle.std.specs.FinMap.{get}
 use Rattle.dkg_journal.specs.Names.{Files}
+use Rattle.dkg_journal.specs.Records.{Entry, entries}
+use Rattle.dkg_values.specs.declared.name.Name.TheVariants.{Plan}
 use Rattle.dkg_types.specs.declared.entry.Entry.{Entry as Line}
-use Rattle.dkg_store.specs.Acts.{Acts, Say, Do, Ask, Goes, Stops, bind, World, says, does, Tears, IsTorn, Completes, Faults, Breaks, Ended, went, stopped, broken, Runs, IfWent, Stands, Moment, at, MadeAt, GoesOn, Along, Operation, Bars, Opens, Appends, Changes, Held, burnt, device_calls, after}
+use Rattle.dkg_store.specs.Acts.{Acts, Say, Do, Ask, Goes, Stops, bind, World, says, does, Tears, IsTorn, Completes, Faults, Breaks, Ended, went, stopped, broken, Runs, IfWent, Stands, Moment, moment, world, held_in, at, MadeAt, GoesOn, Along, Operation, Bars, Opens, Appends, Changes, Held, burnt, device_calls, after}
+use Rattle.dkg_store.specs.Secrets.{Secrets}
 use Rattle.dkg_store.proofs.Tried.{nothing_done}
 
 -- ONE AFTER ANOTHER
@@ -97,6 +101,42 @@ module _ {F S T : Type 0} {acts : Acts F S} {files : Files} {image : Files → T
       stood_again (went last) then = λ stands. then (first.stands stands)
       stood_again (stopped fault) then = tt
       stood_again broken then = tt
+
+-- NOTHING, OR A LINE
+
+same_place : (files : Files) (image : Files → Type 0) (m : Moment) → Stands files image → (c : Files) → image c → at m c ≡ at m files
+same_place files image m stands c here = ap (at m) (stands.lands.only c here)
+
+module _ {F S : Type 0} (files : Files) (image : Files → Type 0) where
+  pub made_nothing : {end its : S} (m : Moment) → end ≡ its → MadeAt {F = F} (Goes its) (went end) files image files image m m
+  made_nothing m is = record { made = λ stands c here. (same_place files image m stands c here, is); stands = λ stands. stands }
+
+  pub made_none : (acts : Acts F S) {how : Ended F S} (m : Moment) → how ≡ broken → MadeAt acts how files image files image m m
+  made_none acts m is = subst (λ (x : Ended F S). MadeAt acts x files image files image m m) (sym is) (record {
+    made = λ stands c here. subst (λ (w : World). Breaks acts (at m files) w) (sym (same_place files image m stands c here)) (breaks_none acts (at m files));
+    stands = tt;
+  })
+
+  pub made_none_said : (acts : Acts F S) {how : Ended F S} {out now : List Line} {s : Secrets} {f : Burn} → now ≡ out → how ≡ broken → MadeAt acts how files image files image (moment out s f) (moment now s f)
+  made_none_said acts {how} {out} {now} {s} {f} same is = subst (λ (l : List Line). MadeAt acts how files image files image (moment out s f) (moment l s f)) (sym same) (made_none acts (moment out s f) is)
+
+  -- acts on secrets alone
+  pub made_of_secrets : {acts : Acts F S} {how : Ended F S} {out : List Line} {s now : Secrets} {f g : Burn} → ((notes : List Entry) (plan : Option (List ℕ)) → Runs acts how (world out notes plan s f) (world out notes plan now g)) → MadeAt acts how files image files image (moment out s f) (moment out now g)
+  made_of_secrets {acts} {how} {out} {s} {now} {f} {g} runs = record {
+    made = λ stands c here. subst (λ (w : World). Runs acts how (at (moment out s f) files) w) (sym (same_place files image (moment out now g) stands c here)) (runs (entries files) (get files Plan));
+    stands = stood how;
+  }
+    where
+      stood : (ended : Ended F S) → IfWent ended (Stands files image → Stands files image)
+      stood (went end) = λ stands. stands
+      stood (stopped fault) = tt
+      stood broken = tt
+
+  pub made_say : (line : Line) (end : S) (out now : List Line) (s : Secrets) (f : Burn) → now ≡ out ++ line ∷ [] → MadeAt {F = F} (Say line (Goes end)) (went end) files image files image (moment out s f) (moment now s f)
+  made_say line end out now s f is = record {
+    made = λ stands c here. (same_place files image (moment now s f) stands c here ∙ ap (λ (l : List Line). record { out = l; held = held_in files s; fuse = f }) is, refl);
+    stands = λ stands. stands;
+  }
 
 -- a loop that has begun, one turn more, and its end
 pub goes_on_first : {F S : Type 0} (acts : Acts F S) (files : Files) (image : Files → Type 0) (old : Moment) → GoesOn acts acts files image files image old old

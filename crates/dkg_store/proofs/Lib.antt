@@ -1,5 +1,8 @@
+pub mod Acting
 pub mod Acts
+pub mod Answering
 pub mod Both
+pub mod Changing
 pub mod Events
 pub mod Map
 pub mod Opened

@@ -91,6 +91,9 @@ says w line = record w { out = w.out ++ line ∷ [] }
 abbrev pub does : World → Operation → World
 does w op = record w { held = after op w.held; fuse = burnt (device_calls op) w.fuse }
 
+abbrev pub world : List Line → List Entry → Option (List ℕ) → Secrets → Burn → World
+world out notes plan s fuse = record { out = out; held = record { notes = notes; secrets = s; plan = plan }; fuse = fuse }
+
 -- within an operation
 pub record Tears (op : Operation) (w new : World) : Type 0 where
   pub same : new.out ≡ w.out

@@ -47,14 +47,14 @@ abbrev pub recording : (known there : Bool) → (epoch dealer : ℕ) → List �
 recording known there epoch dealer public private = if known then Goes false else put_and_appended (PutDealing epoch dealer private) there (epoch, event_spelling dealer public) true
 
 -- a new dealing is recorded, told, and acknowledged
-abbrev pub keeping : {S : Type 0} → (there : Bool) → (epoch dealer : ℕ) → List ℕ → ℕ → S → Acts StoreError S
-keeping there epoch dealer public private end =
-    Do (Changes (PutDealing epoch dealer private)) (Do (Appends there (epoch, event_spelling dealer public)) (Say (Recorded epoch dealer public private) (Goes end)))
+abbrev pub keeping : {S : Type 0} → (there : Bool) → (epoch dealer : ℕ) → (public told : List ℕ) → ℕ → S → Acts StoreError S
+keeping there epoch dealer public told private end =
+    Do (Changes (PutDealing epoch dealer private)) (Do (Appends there (epoch, event_spelling dealer public)) (Say (Recorded epoch dealer told private) (Goes end)))
 
 -- A new dealing is checked first.
 abbrev pub accepting : (check : Result (Unit {0}) DealingError) → (there : Bool) → (epoch dealer : ℕ) → List ℕ → ℕ → (ack : List ℕ) → Acts StoreError (Result (List ℕ) DealingError)
 accepting (Err error) there epoch dealer public private ack = Goes (Err error)
-accepting (Ok done) there epoch dealer public private ack = keeping there epoch dealer public private (Ok ack)
+accepting (Ok done) there epoch dealer public private ack = keeping there epoch dealer public public private (Ok ack)
 
 -- To a dealer whose dealing is recorded the answer is the acknowledgement of that.
 abbrev pub answering : (ack_of : List ℕ → List ℕ) → Option (List ℕ × ℕ) → (check : Result (Unit {0}) DealingError) → (there : Bool) → (epoch dealer : ℕ) → List ℕ → ℕ → Acts StoreError (Result (List ℕ) DealingError)

@@ -15,6 +15,17 @@ IsOfSecrets (LocalState cause) = ⊥
 IsOfSecrets (StateSyncEpochs info floor) = ⊥
 IsOfSecrets StateSyncMaterial = ⊥
 
+-- the errors that calls of both devices may give
+abbrev pub IsOfDevices : StoreError → Type 0
+IsOfDevices Disk = Unit {0}
+IsOfDevices Secrets = Unit {0}
+IsOfDevices Cut = Unit {0}
+IsOfDevices NoMemory = Unit {0}
+IsOfDevices (Corrupt name place) = ⊥
+IsOfDevices (LocalState cause) = ⊥
+IsOfDevices (StateSyncEpochs info floor) = ⊥
+IsOfDevices StateSyncMaterial = ⊥
+
 -- the errors that taking up an entry may give
 abbrev pub IsOfRestoring : StoreError → Type 0
 IsOfRestoring Secrets = Unit {0}

@@ -1,22 +1,25 @@
 //! What a node has recorded, in memory and on both devices.
 //!
 //! A reshare actor opens a store at the start of a life, asks it what is there, and records each dealing before it acknowledges it.
-ghost use Rattle.std.specs.Prelude.{◌≡◌, ◌⊎◌, ◌≤◌, ◌<◌, ◌+◌, ◌^◌, ◌∷◌, [], ℕ, length, OnOk, OnErr, IfOk, IfErr, IfSome, IsSome, IsErrOf, IsTrue, Some, None, not, nat_le, Contains, if◌then◌else◌};
+ghost use Rattle.std.specs.Prelude.{◌≡◌, ◌⊎◌, ◌≤◌, ◌<◌, ◌+◌, ◌^◌, ◌∷◌, [], ℕ, List, length, OnOk, OnErr, IfOk, IfErr, IfSome, IsSome, is_some, IsErrOf, IsTrue, Option, Some, None, not, nat_le, Contains, if◌then◌else◌};
 ghost use Rattle.std.specs.Option.{option_copied};
 ghost use Rattle.std.specs.FinMap as map;
 ghost use Rattle.std.specs.Int.NonZero.{non_zero_u32_get};
 ghost use Rattle.dkg_values.specs.declared.name.Name.{Name};
 ghost use Rattle.dkg_values.specs.declared.name.Name.TheVariants.{Flat};
+ghost use Rattle.dkg_types.specs.declared.entry.Entry.{Entry as Line};
 ghost use Rattle.dkg_journal.specs.Names.{Files};
-ghost use Rattle.dkg_journal.specs.Records.{entries};
+ghost use Rattle.dkg_journal.specs.Records.{Entry, entries};
 ghost use Rattle.dkg_journal.specs.Views.{views};
 ghost use Rattle.dkg_journal.specs.Disk.{Rose, Follows, SameElse};
 ghost use Rattle.dkg_journal.specs.Fuse.{Reached, Ran, RanAll};
 ghost use Rattle.dkg_journal.specs.Steps.{IsOpenAt, Keeps};
 ghost use Rattle.dkg_journal.specs.Opening.{IsFormOfToday, broken, open_calls};
+ghost use Rattle.dkg_store.specs.Acts.{MadeAt, Runs, moment, world};
+ghost use Rattle.dkg_store.specs.Calls.{put_and_appended, recording, sharing, seeding, committing, pruning, ended};
 ghost use Rattle.dkg_store.specs.Commits.{commit_calls, committed};
 ghost use Rattle.dkg_store.specs.Corrupt.{IsCorruptAt, AreEvents};
-ghost use Rattle.dkg_store.specs.Errors.{IsOfOpening, IsOfSecrets};
+ghost use Rattle.dkg_store.specs.Errors.{IsOfDevices, IsOfOpening, IsOfSecrets};
 ghost use Rattle.dkg_store.specs.Secrets.{Tries, after};
 ghost use Rattle.dkg_store.specs.Events.{event_spelling, IsPublic};
 ghost use Rattle.dkg_store.specs.Pairs.{Pairs, IsWhole, Holds, HoldsEither, recovered};
@@ -158,6 +161,7 @@ fn put_both<X: SecretStore>(
     share: Option<Share>,
 ) -> Result<(), StoreError>
     ensures done { OnOk result (IsTrue X.tells → X.held secrets.new ≡ committed epoch seed share (X.held secrets.old)) }
+    ensures acts { IsTrue X.tells → (out : List Line) (notes : List Entry) (plan : Option (List ℕ)) → Runs (committing epoch seed share) (ended result) (world out notes plan (X.held secrets.old) fuse.old) (world out notes plan (X.held secrets.new) fuse.new) }
     ensures later { X.faults secrets.old ≤ X.faults secrets.new }
     ensures wanted { IsErrOf result StoreError.NoMemory → Rose (X.wants secrets.old) (X.wants secrets.new) }
     ensures secrets { IsErrOf result StoreError.Secrets → Rose (X.faults secrets.old) (X.faults secrets.new) }
@@ -197,6 +201,8 @@ fn record_dealing<D: Disk, X: SecretStore>(
     ensures kept { OnErr result (dealings.new ≡ dealings.old) }
     ensures holds { OnOk result (IsPublic public → IsTrue D.tells → IsTrue X.tells → Holds dealings.old (D.image devices.old.disk.now) (X.held devices.old.secrets.now) → Holds (map.insert dealings.old (epoch, dealer) (public, private)) (D.image devices.new.disk.now) (X.held devices.new.secrets.now)) }
     ensures images { IsPublic public → IsTrue D.tells → IsTrue X.tells → Holds dealings.old (D.image devices.old.disk.now) (X.held devices.old.secrets.now) → HoldsEither dealings.old (map.insert dealings.old (epoch, dealer) (public, private)) (D.image devices.new.disk.now) (X.held devices.new.secrets.now) }
+    ensures acts { IsTrue D.tells → IsTrue X.tells → (out : List Line) → MadeAt (put_and_appended (SecretOp.PutDealing epoch dealer private) (is_some journal.old.place) (epoch, event_spelling dealer public) tt) (ended result) (D.files devices.old.disk.now) (D.image devices.old.disk.now) (D.files devices.new.disk.now) (D.image devices.new.disk.now) (moment out (X.held devices.old.secrets.now) devices.old.fuse) (moment out (X.held devices.new.secrets.now) devices.new.fuse) }
+    ensures kinds { IfErr result IsOfDevices }
     ensures all { OnOk result (RanAll (MadeBoth D.made X.made) (devices.old.disk.now, devices.old.secrets.now) (devices.new.disk.now, devices.new.secrets.now) devices.old.fuse devices.new.fuse (put_then_append (SecretOp.PutDealing epoch dealer private) journal.old.place (epoch, event_spelling dealer public))) }
     ensures calls { Ran (MadeBoth D.made X.made) (devices.old.disk.now, devices.old.secrets.now) (devices.new.disk.now, devices.new.secrets.now) devices.old.fuse devices.new.fuse (put_then_append (SecretOp.PutDealing epoch dealer private) journal.old.place (epoch, event_spelling dealer public)) }
     ensures memory { IsErrOf result StoreError.NoMemory → IsWant ((dealings.new ≡ dealings.old) × (journal.new ≡ journal.old) × (devices.new ≡ devices.old)) (D.wants devices.old.disk.now) (D.wants devices.new.disk.now) (X.wants devices.old.secrets.now) (X.wants devices.new.secrets.now) }
@@ -337,6 +343,7 @@ impl<Dir: Drop> Store<Dir> {
         ensures fuse { devices.new.fuse ≡ devices.old.fuse }
         ensures wanted { IsErrOf result StoreError.NoMemory → Rose (X.wants devices.old.secrets.now) (X.wants devices.new.secrets.now) }
         ensures secrets { IsErrOf result StoreError.Secrets → Rose (X.faults devices.old.secrets.now) (X.faults devices.new.secrets.now) }
+        ensures acts { IsTrue D.tells → IsTrue X.tells → (out : List Line) → MadeAt (sharing epoch) (ended result) (D.files devices.old.disk.now) (D.image devices.old.disk.now) (D.files devices.new.disk.now) (D.image devices.new.disk.now) (moment out (X.held devices.old.secrets.now) devices.old.fuse) (moment out (X.held devices.new.secrets.now) devices.new.fuse) }
         ensures calls { X.made devices.old.secrets.now devices.new.secrets.now [] }
         ensures same_disk { devices.new.disk.ghost_name ≡ devices.old.disk.ghost_name }
         ensures same_secrets { devices.new.secrets.ghost_name ≡ devices.old.secrets.ghost_name }
@@ -362,6 +369,7 @@ impl<Dir: Drop> Store<Dir> {
         ensures fuse { devices.new.fuse ≡ devices.old.fuse }
         ensures wanted { IsErrOf result StoreError.NoMemory → Rose (X.wants devices.old.secrets.now) (X.wants devices.new.secrets.now) }
         ensures secrets { IsErrOf result StoreError.Secrets → Rose (X.faults devices.old.secrets.now) (X.faults devices.new.secrets.now) }
+        ensures acts { IsTrue D.tells → IsTrue X.tells → (out : List Line) → MadeAt (seeding epoch) (ended result) (D.files devices.old.disk.now) (D.image devices.old.disk.now) (D.files devices.new.disk.now) (D.image devices.new.disk.now) (moment out (X.held devices.old.secrets.now) devices.old.fuse) (moment out (X.held devices.new.secrets.now) devices.new.fuse) }
         ensures calls { X.made devices.old.secrets.now devices.new.secrets.now [] }
         ensures same_disk { devices.new.disk.ghost_name ≡ devices.old.disk.ghost_name }
         ensures same_secrets { devices.new.secrets.ghost_name ≡ devices.old.secrets.ghost_name }
@@ -391,6 +399,7 @@ impl<Dir: Drop> Store<Dir> {
         ensures wanted { IsErrOf result StoreError.NoMemory → Rose (X.wants devices.old.secrets.now) (X.wants devices.new.secrets.now) }
         ensures secrets { IsErrOf result StoreError.Secrets → Rose (X.faults devices.old.secrets.now) (X.faults devices.new.secrets.now) }
         ensures kinds { IfErr result IsOfSecrets }
+        ensures acts { IsTrue D.tells → IsTrue X.tells → (out : List Line) → MadeAt (committing info.epoch seed share) (ended result) (D.files devices.old.disk.now) (D.image devices.old.disk.now) (D.files devices.new.disk.now) (D.image devices.new.disk.now) (moment out (X.held devices.old.secrets.now) devices.old.fuse) (moment out (X.held devices.new.secrets.now) devices.new.fuse) }
         ensures cut { IsErrOf result StoreError.Cut → Reached devices.old.fuse devices.new.fuse }
         ensures not_cut { OnOk result (Reached devices.old.fuse devices.new.fuse → ⊥) }
         ensures all { OnOk result (RanAll X.made devices.old.secrets.now devices.new.secrets.now devices.old.fuse devices.new.fuse (commit_calls info.epoch seed share)) }
@@ -426,6 +435,7 @@ impl<Dir: Drop> Store<Dir> {
         ensures wanted { IsErrOf result StoreError.NoMemory → Rose (X.wants devices.old.secrets.now) (X.wants devices.new.secrets.now) }
         ensures secrets { IsErrOf result StoreError.Secrets → Rose (X.faults devices.old.secrets.now) (X.faults devices.new.secrets.now) }
         ensures kinds { IfErr result IsOfSecrets }
+        ensures acts { IsTrue D.tells → IsTrue X.tells → (out : List Line) → MadeAt (pruning min) (ended result) (D.files devices.old.disk.now) (D.image devices.old.disk.now) (D.files devices.new.disk.now) (D.image devices.new.disk.now) (moment out (X.held devices.old.secrets.now) devices.old.fuse) (moment out (X.held devices.new.secrets.now) devices.new.fuse) }
         ensures cut { IsErrOf result StoreError.Cut → Reached devices.old.fuse devices.new.fuse }
         ensures not_cut { OnOk result (Reached devices.old.fuse devices.new.fuse → ⊥) }
         ensures calls { X.made devices.old.secrets.now devices.new.secrets.now (SecretOp.Prune min ∷ []) }
@@ -460,6 +470,9 @@ impl<Dir: Drop> Store<Dir> {
         ensures holds { OnOk result (IsPublic public → IsTrue D.tells → IsTrue X.tells → Holds self.old.dealings (D.image devices.old.disk.now) (X.held devices.old.secrets.now) → Holds self.new.dealings (D.image devices.new.disk.now) (X.held devices.new.secrets.now)) }
         // Each image, with the secrets then held, gives the dealings from before, with the new one or without.
         ensures images { IsPublic public → IsTrue D.tells → IsTrue X.tells → Holds self.old.dealings (D.image devices.old.disk.now) (X.held devices.old.secrets.now) → HoldsEither self.old.dealings (map.insert self.old.dealings (epoch, dealer) (public, private)) (D.image devices.new.disk.now) (X.held devices.new.secrets.now) }
+        // The put, and then the append, where it was not recorded: both at Ok, and at any other exit a part, whatever image is left.
+        ensures acts { IsTrue D.tells → IsTrue X.tells → (out : List Line) → MadeAt (recording (map.contains_key self.old.dealings (epoch, dealer)) (is_some self.old.journal.place) epoch dealer public private) (ended result) (D.files devices.old.disk.now) (D.image devices.old.disk.now) (D.files devices.new.disk.now) (D.image devices.new.disk.now) (moment out (X.held devices.old.secrets.now) devices.old.fuse) (moment out (X.held devices.new.secrets.now) devices.new.fuse) }
+        ensures kinds { IfErr result IsOfDevices }
         ensures all { IfOk result (λ new. RanAll (MadeBoth D.made X.made) (devices.old.disk.now, devices.old.secrets.now) (devices.new.disk.now, devices.new.secrets.now) devices.old.fuse devices.new.fuse (if new then put_then_append (SecretOp.PutDealing epoch dealer private) self.old.journal.place (epoch, event_spelling dealer public) else [])) }
         ensures calls { Ran (MadeBoth D.made X.made) (devices.old.disk.now, devices.old.secrets.now) (devices.new.disk.now, devices.new.secrets.now) devices.old.fuse devices.new.fuse (put_then_append (SecretOp.PutDealing epoch dealer private) self.old.journal.place (epoch, event_spelling dealer public)) }
         ensures memory { IsErrOf result StoreError.NoMemory → IsWant ((self.new ≡ self.old) × (devices.new ≡ devices.old)) (D.wants devices.old.disk.now) (D.wants devices.new.disk.now) (X.wants devices.old.secrets.now) (X.wants devices.new.secrets.now) }
