@@ -1,5 +1,5 @@
 -- A fuse counts calls, and gives its pick at one of them.
-use Rattle.std.specs.Prelude.{◌≡◌, ◌<◌, ◌≤◌, ◌^◌, ℕ, ◌+◌, ◌==◌, nat_lt, if◌then◌else◌, List, [], ◌∷◌, ◌++◌, Option, Some, None}
+use Rattle.std.specs.Prelude.{◌≡◌, ◌⊎◌, ◌<◌, ◌≤◌, ◌^◌, ℕ, zero, suc, ◌+◌, ◌==◌, nat_lt, if◌then◌else◌, List, [], ◌∷◌, ◌++◌, Option, Some, None, Result, Ok, IsErrOf}
 use Rattle.dkg_journal.specs.Burn.{Burn}
 
 -- the count stands still at its last value
@@ -24,6 +24,28 @@ pub record Reached (before now : Burn) : Type 0 where
 abbrev pub burned : {O : Type 0} → List O → Burn → Burn
 burned [] f = f
 burned (op ∷ ops) f = burned ops (spent_once f)
+
+-- .. after so many calls
+abbrev pub burnt : ℕ → Burn → Burn
+burnt zero f = f
+burnt (suc n) f = burnt n (spent_once f)
+
+-- at most so many calls were counted
+pub record SpentUpTo (n : ℕ) (before now : Burn) : Type 0 where
+  pub calls : ℕ
+  pub few : calls ≤ n
+  pub is : now ≡ burnt calls before
+
+-- How calls that ended with this answer have spent their fuse: the one that is cut is the last, and it answers so, or that it found no
+-- memory.
+pub record Fused {T E : Type 0} (cut want : E) (result : Result T E) (before now : Burn) : Type 0 where
+  pub call : now.call ≡ before.call
+  pub pick : now.pick ≡ before.pick
+  pub later : before.spent ≤ now.spent
+  pub whole : (x : T) → result ≡ Ok x → before.spent < before.call → now.spent < before.call
+  pub at_most : before.spent < before.call → now.spent ≤ before.call
+  pub cut_there : IsErrOf result cut → (before.spent < before.call) × (now.spent ≡ before.call)
+  pub reached : Reached before now → IsErrOf result cut ⊎ IsErrOf result want
 
 -- These calls were made and counted, and no others.
 pub record RanAll {D O : Type 0} (made : D → D → List O → Type 0) (old new : D) (before now : Burn) (calls : List O) : Type 0 where

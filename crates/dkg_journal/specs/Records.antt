@@ -1,5 +1,5 @@
 -- What the bytes of a journal's file stand for.
-use Rattle.std.specs.Prelude.{◌≡◌, ◌≢◌, ℕ, zero, suc, ◌+◌, ◌-◌, ◌<◌, ◌≤◌, ◌^◌, ◌==◌, ◌&&◌, nat_le, nat_lt, List, [], ◌∷◌, ◌++◌, map, fold, flat_map, length, take, drop, if◌then◌else◌, Bool, false, Option, Some, None}
+use Rattle.std.specs.Prelude.{◌≡◌, ◌≢◌, ℕ, zero, suc, ◌+◌, ◌-◌, ◌<◌, ◌≤◌, ◌^◌, ◌==◌, ◌&&◌, nat_le, nat_lt, List, [], ◌∷◌, ◌++◌, map, filter, fold, flat_map, length, take, drop, if◌then◌else◌, Bool, false, Option, Some, None}
 use Rattle.std.specs.Int.{w32, w64, to_be_bytes, from_be_bytes}
 use Rattle.std.specs.List.{AllByRecursion}
 use Rattle.std.specs.FinMap as map_of
@@ -51,6 +51,10 @@ placed (x ∷ xs) e = if nat_lt e.0 x.0 then e ∷ x ∷ xs else x ∷ placed xs
 -- sections rising, each in its order
 abbrev pub in_order : List Entry → List Entry
 in_order es = fold placed [] es
+
+-- the entries of sections at or above a minimum
+abbrev pub from_section : ℕ → List Entry → List Entry
+from_section min es = filter (λ e. nat_le min e.0) es
 
 abbrev pub in_sections : List (List ℕ) → List Entry
 in_sections bs = in_order (map entry_of bs)

@@ -3,7 +3,7 @@
 //! The journal makes all its changing calls through `perform`, and so do the crates above it.
 ghost use Rattle.std.specs.Prelude.{◌≡◌, ◌⊎◌, ◌≤◌, [], ◌∷◌, OnOk, IsErrOf, IsTrue, IfErr, ◌+◌, None};
 ghost use Rattle.dkg_journal.specs.Disk.{Inside, Follows, Allowed, Did, Lands, IsUnchanged, HasCause, HasWant, Rose};
-ghost use Rattle.dkg_journal.specs.Fuse.{spent_once, Reached};
+ghost use Rattle.dkg_journal.specs.Fuse.{spent_once, Reached, RanAll, Fused};
 ghost use Rattle.dkg_journal.specs.Errors.{IsOfDevice};
 ghost use Rattle.dkg_journal.specs.declared.call.JournalError.TheVariants.{NoMemory as WantOfMemory};
 
@@ -95,6 +95,7 @@ pub fn perform<D: Disk>(
     ensures lands { IsErrOf result JournalError.Cut → IsTrue D.tells → Lands (D.files disk.new) (D.image disk.new) }
     ensures reached { Reached fuse.old fuse.new → IsErrOf result JournalError.Cut ⊎ IsErrOf result JournalError.NoMemory }
     ensures kinds { IfErr result IsOfDevice }
+    ensures fused { Fused JournalError.Cut JournalError.NoMemory result fuse.old fuse.new }
 {
     if let Some(pick) = fuse.spend() {
         return match disk.cut(alloc, op, pick) {
@@ -107,4 +108,25 @@ pub fn perform<D: Disk>(
         Err(DiskError::Failed) => Err(JournalError::Disk),
         Err(DiskError::NoMemory) => Err(JournalError::NoMemory),
     }
+}
+
+/// Makes a call whose bytes are its own, as `perform` does.
+pub(crate) fn perform_own<D: Disk>(
+    alloc: Global,
+    disk: &mut D,
+    fuse: &mut Fuse,
+    op: Op,
+) -> Result<(), JournalError>
+    requires { IsTrue D.tells → Allowed (D.files disk.old) op }
+    ensures done { OnOk result (IsTrue D.tells → Did op (D.files disk.old) (D.files disk.new) (D.image disk.new)) }
+    ensures crash { Follows (Inside op) (D.image disk.old) (D.image disk.new) }
+    ensures later { D.faults disk.old ≤ D.faults disk.new }
+    ensures later_wants { D.wants disk.old ≤ D.wants disk.new }
+    ensures wanted { IsErrOf result JournalError.NoMemory → Rose (D.wants disk.old) (D.wants disk.new) }
+    ensures disk { IsErrOf result JournalError.Disk → Rose (D.faults disk.old) (D.faults disk.new) }
+    ensures all { RanAll D.made disk.old disk.new fuse.old fuse.new (op ∷ []) }
+    ensures kinds { IfErr result IsOfDevice }
+    ensures fused { Fused JournalError.Cut JournalError.NoMemory result fuse.old fuse.new }
+{
+    perform(alloc, disk, fuse, &op)
 }

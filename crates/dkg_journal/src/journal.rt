@@ -4,8 +4,9 @@
 ghost use Rattle.std.specs.Prelude.{◌≡◌, ◌≢◌, ◌⊎◌, ◌↔◌, ◌<◌, ◌≤◌, ◌^◌, ◌+◌, ◌++◌, [], ◌∷◌, List, ℕ, Option, Some, None, length, OnOk, IfOk, IfErr, IsErrOf, IsTrue};
 ghost use Rattle.dkg_journal.specs.Errors.{IsOfDevice};
 ghost use Rattle.dkg_journal.specs.Names.{Files};
-ghost use Rattle.dkg_journal.specs.Disk.{Follows, Allowed, Torn, Rose, written};
-ghost use Rattle.dkg_journal.specs.Fuse.{Reached, Ran, RanAll};
+ghost use Rattle.dkg_journal.specs.Disk.{Follows, Allowed, Lands, Torn, Rose, written};
+ghost use Rattle.dkg_journal.specs.Fuse.{Reached, Ran, RanAll, Fused};
+ghost use Rattle.dkg_journal.specs.Operations.{Tried, Finished, Appends};
 ghost use Rattle.dkg_journal.specs.Ready.{IsReady};
 ghost use Rattle.dkg_journal.specs.Records.{behind, number64};
 ghost use Rattle.dkg_journal.specs.Steps.{Firm, IsOpenAt, Into, Keeps, Adds, MayAdd, FlatAt, start, make_flat, make_calls, record_calls, append_calls, body_of};
@@ -41,6 +42,7 @@ fn write_flat<D: Disk>(
     ensures wanted { IsErrOf result JournalError.NoMemory → Rose (D.wants disk.old) (D.wants disk.new) }
     ensures disk { IsErrOf result JournalError.Disk → Rose (D.faults disk.old) (D.faults disk.new) }
     ensures kinds { IfErr result IsOfDevice }
+    ensures fused { Fused JournalError.Cut JournalError.NoMemory result fuse.old fuse.new }
     ensures cut { IsErrOf result JournalError.Cut → Reached fuse.old fuse.new }
     ensures not_cut { OnOk result (Reached fuse.old fuse.new → ⊥) }
     ensures all { OnOk result (RanAll D.made disk.old disk.new fuse.old fuse.new (write.now ∷ Op.Sync Name.Flat ∷ [])) }
@@ -62,11 +64,13 @@ fn make_file<D: Disk>(
     requires { make.now ≡ make_flat }
     ensures open { OnOk result (IsTrue D.tells → IsOpenAt place (D.files disk.old) (D.image disk.old) → FlatAt (start place) (D.files disk.new) (D.image disk.new)) }
     ensures images { IsOpenAt place (D.files disk.old) (D.image disk.old) → Follows Keeps (D.image disk.old) (D.image disk.new) }
+    ensures same { (p : ℕ) → place ≡ Some p → disk.new ≡ disk.old }
     ensures later { D.faults disk.old ≤ D.faults disk.new }
     ensures later_wants { D.wants disk.old ≤ D.wants disk.new }
     ensures wanted { IsErrOf result JournalError.NoMemory → Rose (D.wants disk.old) (D.wants disk.new) }
     ensures disk { IsErrOf result JournalError.Disk → Rose (D.faults disk.old) (D.faults disk.new) }
     ensures kinds { IfErr result IsOfDevice }
+    ensures fused { Fused JournalError.Cut JournalError.NoMemory result fuse.old fuse.new }
     ensures cut { IsErrOf result JournalError.Cut → Reached fuse.old fuse.new }
     ensures not_cut { OnOk result (Reached fuse.old fuse.new → ⊥) }
     ensures all { OnOk result (RanAll D.made disk.old disk.new fuse.old fuse.new (make_calls place)) }
@@ -150,11 +154,14 @@ fn append_prepared<D: Disk>(
     ensures open { OnOk result (IsTrue D.tells → IsOpenAt (Some (start place + 13 + length body.now)) (D.files disk.new) (D.image disk.new)) }
     ensures added { OnOk result (IsTrue D.tells → Follows (Adds (section, body.now)) (D.image disk.old) (D.image disk.new)) }
     ensures images { IsTrue D.tells → Follows (MayAdd (section, body.now)) (D.image disk.old) (D.image disk.new) }
+    ensures done { OnOk result (IsTrue D.tells → Lands (D.files disk.old) (D.image disk.old) → Finished (Appends (section, body.now)) (D.files disk.old) (D.files disk.new) (D.image disk.new) fuse.old fuse.new) }
+    ensures tried { IsTrue D.tells → Lands (D.files disk.old) (D.image disk.old) → Tried (Appends (section, body.now)) (D.files disk.old) (D.image disk.new) fuse.old fuse.new }
     ensures later { D.faults disk.old ≤ D.faults disk.new }
     ensures later_wants { D.wants disk.old ≤ D.wants disk.new }
     ensures wanted { IsErrOf result JournalError.NoMemory → Rose (D.wants disk.old) (D.wants disk.new) }
     ensures disk { IsErrOf result JournalError.Disk → Rose (D.faults disk.old) (D.faults disk.new) }
     ensures kinds { IfErr result IsOfDevice }
+    ensures fused { Fused JournalError.Cut JournalError.NoMemory result fuse.old fuse.new }
     ensures cut { IsErrOf result JournalError.Cut → Reached fuse.old fuse.new }
     ensures not_cut { OnOk result (Reached fuse.old fuse.new → ⊥) }
     ensures all { OnOk result (RanAll D.made disk.old disk.new fuse.old fuse.new (append_calls place (section, body.now))) }
@@ -199,11 +206,14 @@ impl Journal {
         ensures open { OnOk result (IsTrue D.tells → IsOpenAt self.new.place (D.files disk.new) (D.image disk.new)) }
         ensures added { OnOk result (IsTrue D.tells → Follows (Adds (section, body.now)) (D.image disk.old) (D.image disk.new)) }
         ensures images { IsTrue D.tells → Follows (MayAdd (section, body.now)) (D.image disk.old) (D.image disk.new) }
+        ensures done { OnOk result (IsTrue D.tells → Lands (D.files disk.old) (D.image disk.old) → Finished (Appends (section, body.now)) (D.files disk.old) (D.files disk.new) (D.image disk.new) fuse.old fuse.new) }
+        ensures tried { IsTrue D.tells → Lands (D.files disk.old) (D.image disk.old) → Tried (Appends (section, body.now)) (D.files disk.old) (D.image disk.new) fuse.old fuse.new }
         ensures later { D.faults disk.old ≤ D.faults disk.new }
         ensures later_wants { D.wants disk.old ≤ D.wants disk.new }
         ensures wanted { IsErrOf result JournalError.NoMemory → Rose (D.wants disk.old) (D.wants disk.new) }
         ensures disk { IsErrOf result JournalError.Disk → Rose (D.faults disk.old) (D.faults disk.new) }
         ensures kinds { IfErr result IsOfDevice }
+        ensures fused { Fused JournalError.Cut JournalError.NoMemory result fuse.old fuse.new }
         ensures cut { IsErrOf result JournalError.Cut → Reached fuse.old fuse.new }
         ensures not_cut { OnOk result (Reached fuse.old fuse.new → ⊥) }
         ensures all { OnOk result (RanAll D.made disk.old disk.new fuse.old fuse.new (append_calls self.old.place (section, body.now))) }
@@ -228,11 +238,15 @@ impl Journal {
         ensures added { OnOk result (IsTrue D.tells → Follows (Adds (section, body.now)) (D.image disk.old) (D.image disk.new)) }
         // Each image has the entries from before, with the new one or without.
         ensures images { IsTrue D.tells → Follows (MayAdd (section, body.now)) (D.image disk.old) (D.image disk.new) }
+        // What the files stand for, where nothing of the disk was loose: with the entry, and nothing is loose.
+        ensures done { OnOk result (IsTrue D.tells → Lands (D.files disk.old) (D.image disk.old) → Finished (Appends (section, body.now)) (D.files disk.old) (D.files disk.new) (D.image disk.new) fuse.old fuse.new) }
+        ensures tried { IsTrue D.tells → Lands (D.files disk.old) (D.image disk.old) → Tried (Appends (section, body.now)) (D.files disk.old) (D.image disk.new) fuse.old fuse.new }
         ensures too_long { IsErrOf result JournalError.TooLong ↔ 2 ^ 32 ≤ 8 + length body.now }
         ensures later { D.faults disk.old ≤ D.faults disk.new }
         ensures later_wants { D.wants disk.old ≤ D.wants disk.new }
         ensures memory { IsErrOf result JournalError.NoMemory → ((self.new ≡ self.old) × (disk.new ≡ disk.old) × (fuse.new ≡ fuse.old)) ⊎ Rose (D.wants disk.old) (D.wants disk.new) }
         ensures disk { IsErrOf result JournalError.Disk → Rose (D.faults disk.old) (D.faults disk.new) }
+        ensures fused { Fused JournalError.Cut JournalError.NoMemory result fuse.old fuse.new }
         ensures not_corrupt { (name : Name) (place : ℕ) → IsErrOf result (JournalError.Corrupt name place) → ⊥ }
         ensures cut { IsErrOf result JournalError.Cut → Reached fuse.old fuse.new }
         ensures not_cut { OnOk result (Reached fuse.old fuse.new → ⊥) }

@@ -12,6 +12,8 @@ mod journal;
 mod memory;
 mod open;
 mod opening;
+mod pruning;
+mod record;
 mod sure;
 mod table;
 #[cfg(test)]
@@ -23,4 +25,5 @@ pub use fuse::Fuse;
 pub use journal::{Journal, Prepared};
 pub use memory::MemoryDisk;
 pub use opening::JournalEntry;
+pub use record::Record;
 pub use sure::SureDisk;

@@ -6,7 +6,8 @@ ghost use Rattle.std.specs.FinMap.{get};
 ghost use Rattle.dkg_journal.specs.Errors.{IsOfDevice, IsOfDisk};
 ghost use Rattle.dkg_journal.specs.Names.{Files};
 ghost use Rattle.dkg_journal.specs.Disk.{Follows, Rose, IsUnchanged, Lands};
-ghost use Rattle.dkg_journal.specs.Fuse.{Reached, Ran, RanAll};
+ghost use Rattle.dkg_journal.specs.Fuse.{Reached, Ran, RanAll, Fused};
+ghost use Rattle.dkg_journal.specs.Operations.{Tried, Finished, Opens, journaled};
 ghost use Rattle.dkg_journal.specs.Opening.{IsFormOfToday, broken, mend_of, open_calls};
 ghost use Rattle.dkg_journal.specs.Records.{Entry, Whole, entries};
 ghost use Rattle.dkg_journal.specs.Views.{views};
@@ -30,11 +31,14 @@ fn mend<D: Disk>(
 ) -> Result<(), JournalError>
     ensures open { (out : List Entry) → Whole bytes.items out place → Firm bytes.items (D.files disk.old) (D.image disk.old) → IsTrue D.tells → OnOk result (FlatAt place (D.files disk.new) (D.image disk.new)) }
     ensures images { (out : List Entry) → Whole bytes.items out place → Firm bytes.items (D.files disk.old) (D.image disk.old) → Follows Keeps (D.image disk.old) (D.image disk.new) }
+    ensures kept { (out : List Entry) → Whole bytes.items out place → Firm bytes.items (D.files disk.old) (D.image disk.old) → Lands (D.files disk.old) (D.image disk.old) → (c : Files) → D.image disk.new c → journaled c ≡ journaled (D.files disk.old) }
+    ensures settled { OnOk result ((out : List Entry) → Whole bytes.items out place → Firm bytes.items (D.files disk.old) (D.image disk.old) → IsTrue D.tells → Lands (D.files disk.old) (D.image disk.old) → Lands (D.files disk.new) (D.image disk.new)) }
     ensures later { D.faults disk.old ≤ D.faults disk.new }
     ensures later_wants { D.wants disk.old ≤ D.wants disk.new }
     ensures memory { IsErrOf result JournalError.NoMemory → ((disk.new ≡ disk.old) × (fuse.new ≡ fuse.old)) ⊎ Rose (D.wants disk.old) (D.wants disk.new) }
     ensures disk { IsErrOf result JournalError.Disk → Rose (D.faults disk.old) (D.faults disk.new) }
     ensures kinds { IfErr result IsOfDevice }
+    ensures fused { Fused JournalError.Cut JournalError.NoMemory result fuse.old fuse.new }
     ensures cut { IsErrOf result JournalError.Cut → Reached fuse.old fuse.new }
     ensures not_cut { OnOk result (Reached fuse.old fuse.new → ⊥) }
     ensures all { (out : List Entry) → Whole bytes.items out place → OnOk result (RanAll D.made disk.old disk.new fuse.old fuse.new (mend_of (Some bytes.items))) }
@@ -54,7 +58,7 @@ fn mend<D: Disk>(
 }
 
 /// The bytes of the flat file, if it is there.
-fn read_flat<D: Disk>(alloc: Global, disk: &mut D) -> Result<Option<Vec<u8>>, JournalError>
+pub fn read_flat<D: Disk>(alloc: Global, disk: &mut D) -> Result<Option<Vec<u8>>, JournalError>
     ensures bytes { IfOk result (λ bytes. IsTrue D.tells → option_map (λ v. v.items) bytes ≡ get (D.files disk.old) Flat) }
     ensures same { IsUnchanged D.files D.image disk.old disk.new }
     ensures later { D.faults disk.old ≤ D.faults disk.new }
@@ -83,13 +87,18 @@ impl Journal {
         // What it read is what the files stand for.
         ensures listed { IfOk result (λ j. IsTrue D.tells → IsFormOfToday (D.files disk.old) → views j.waiting.items ≡ entries (D.files disk.old)) }
         ensures images { IsTrue D.tells → Lands (D.files disk.old) (D.image disk.old) → Follows Keeps (D.image disk.old) (D.image disk.new) }
+        // What the files stand for, where nothing of the disk was loose: the same, and nothing is loose.
+        ensures done { OnOk result (IsTrue D.tells → Lands (D.files disk.old) (D.image disk.old) → Finished Opens (D.files disk.old) (D.files disk.new) (D.image disk.new) fuse.old fuse.new) }
+        ensures tried { IsTrue D.tells → Lands (D.files disk.old) (D.image disk.old) → Tried Opens (D.files disk.old) (D.image disk.new) fuse.old fuse.new }
         // A record that is not whole is the one cause of Corrupt, and no Ok passes over one.
         ensures broken { (name : Name) (place : ℕ) → IsErrOf result (JournalError.Corrupt name place) → IsTrue D.tells → (name ≡ Flat) × (broken (D.files disk.old) ≡ Some place) }
         ensures whole { OnOk result (IsTrue D.tells → broken (D.files disk.old) ≡ None) }
+        ensures corrupt { (place : ℕ) → IsTrue D.tells → broken (D.files disk.old) ≡ Some place → IsErrOf result (JournalError.Corrupt Flat place) ⊎ (IsErrOf result JournalError.Disk ⊎ IsErrOf result JournalError.NoMemory) }
         ensures later { D.faults disk.old ≤ D.faults disk.new }
         ensures later_wants { D.wants disk.old ≤ D.wants disk.new }
         ensures memory { IsErrOf result JournalError.NoMemory → (D.made disk.old disk.new [] × IsUnchanged D.files D.image disk.old disk.new × (fuse.new ≡ fuse.old)) ⊎ Rose (D.wants disk.old) (D.wants disk.new) }
         ensures disk { IsErrOf result JournalError.Disk → Rose (D.faults disk.old) (D.faults disk.new) }
+        ensures fused { Fused JournalError.Cut JournalError.NoMemory result fuse.old fuse.new }
         ensures cut { IsErrOf result JournalError.Cut → Reached fuse.old fuse.new }
         ensures not_cut { OnOk result (Reached fuse.old fuse.new → ⊥) }
         ensures not_long { IsErrOf result JournalError.TooLong → ⊥ }

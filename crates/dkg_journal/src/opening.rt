@@ -34,7 +34,7 @@ fn u32_at(bytes: &[u8]) -> Option<(u32, &[u8])>
 }
 
 #[tactic(auto, unfolding(crate::specs::Records::read64))]
-fn u64_at(bytes: &[u8]) -> Option<(u64, &[u8])>
+pub fn u64_at(bytes: &[u8]) -> Option<(u64, &[u8])>
     ensures found { IfSome result (λ x. (8 ≤ length bytes.now) × (x.0 ≡ read64 bytes.now) × (x.1.now ≡ drop 8 bytes.now)) }
     ensures none { IfNone result (length bytes.now < 8) }
 {
@@ -49,7 +49,7 @@ fn u64_at(bytes: &[u8]) -> Option<(u64, &[u8])>
 }
 
 /// The body behind an open gate, and the bytes behind it.
-fn split_record(after: &[u8]) -> Option<(&[u8], &[u8])>
+pub fn split_record(after: &[u8]) -> Option<(&[u8], &[u8])>
     ensures found { IfSome result (λ x. (after.now ≡ number32 (length x.0.now) ++ (x.0.now ++ x.1.now)) × (length x.0.now < 2 ^ 32)) }
     ensures none { IfNone result (length after.now < 4 + read32 after.now) }
 {
@@ -62,7 +62,7 @@ fn split_record(after: &[u8]) -> Option<(&[u8], &[u8])>
 }
 
 /// What stands behind an open gate.
-fn behind_gate(rest: &[u8]) -> Option<&[u8]>
+pub fn behind_gate(rest: &[u8]) -> Option<&[u8]>
     ensures open { IfSome result (λ after. rest.now ≡ 1 ∷ after.now) }
     ensures shut { IfNone result (Ends rest.now) }
 {
@@ -73,7 +73,7 @@ fn behind_gate(rest: &[u8]) -> Option<&[u8]>
 }
 
 /// The error of a record that is not whole.
-fn corrupt(place: u64) -> JournalError
+pub fn corrupt(place: u64) -> JournalError
     ensures { result ≡ JournalError.Corrupt Name.Flat place }
 {
     JournalError::Corrupt {

@@ -1,4 +1,4 @@
-use Rattle.std.proofs.Common.{◌≡◌, ◌+◌, List, [], ◌∷◌, sym, ap, subst, arith}
+use Rattle.std.proofs.Common.{◌≡◌, ◌+◌, List, [], ◌∷◌, length, sym, ap, subst, arith}
 use Rattle.dkg_journal.specs.Disk.{Allowed}
 use Rattle.dkg_journal.specs.Steps.{start, body_of, make_calls, record_calls}
 use Rattle.dkg_journal.specs.declared.disk.Op.{Op}
@@ -7,6 +7,7 @@ use Rattle.dkg_values.specs.declared.name.Name.TheVariants.{Flat}
 use Rattle.dkg_journal.proofs.Flat.{written_behind}
 use Rattle.dkg_journal.proofs.Steps.{then_all, then_ran, ran_all, ran_more, ran_same, all_same}
 use Rattle.dkg_journal.proofs.Append.{allowed, room, staged_flat, keeps_behind, keeps_may_add, keeps_keeps, short_body, gate_images, gate_adds, gate_open}
+use Rattle.dkg_journal.proofs.Standing.{into_has, tries_append, tries_make, tried_append, finished_append}
 use Rattle.dkg_journal.proofs.journal.append_prepared.Goals as goal
 
 pub write_flat-requires : goal.write_flat-requires
@@ -91,3 +92,37 @@ returns-clause-all g c =
 
 pub returns-clause-calls : goal.returns-clause-calls
 returns-clause-calls g c = ran_all g.D.Disk.made _ _ _ _ _ (returns-clause-all g c)
+
+pub returns-in_err-make_file-clause-tried : goal.returns-in_err-make_file-clause-tried
+returns-in_err-make_file-clause-tried g c = λ tells lands.
+    let open_at = c.requires.open tells in
+    tried_append g.D.Disk.made _ _ _ _ c.args.place (c.args.section, c.args.body.now) _ _ _ open_at (returns-in_err-make_file-clause-calls g c)
+    (tries_make (c.args.section, c.args.body.now) c.args.place _ _ _ open_at lands (c.make_file.ensures.images open_at) (λ p is f now. subst (λ d. g.D.Disk.image d f) (c.make_file.ensures.same p is) now))
+
+pub returns-in_err-write_flat-clause-tried : goal.returns-in_err-write_flat-clause-tried
+returns-in_err-write_flat-clause-tried g c = λ tells lands.
+    let open_at = c.requires.open tells in
+    let flat = c.in_ok-make_file.ensures.open tells open_at in
+    let torn = c.write_flat.ensures.images flat.bytes _ _ c.requires.write flat.firm in
+    tried_append g.D.Disk.made _ _ _ _ c.args.place (c.args.section, c.args.body.now) _ _ _ open_at (returns-in_err-write_flat-clause-calls g c)
+    (tries_append (c.args.section, c.args.body.now) _ _ _ lands (returns-in_err-write_flat-clause-images g c tells) (into_has _ _ _ torn))
+
+pub returns-in_err-write_flat-2-clause-tried : goal.returns-in_err-write_flat-2-clause-tried
+returns-in_err-write_flat-2-clause-tried g c = λ tells lands.
+    let open_at = c.requires.open tells in
+    let flat = c.in_ok-make_file.ensures.open tells open_at in
+    let firm = c.in_ok-write_flat.ensures.done tells flat.bytes _ _ c.requires.write flat.firm in
+    tried_append g.D.Disk.made _ _ _ _ c.args.place (c.args.section, c.args.body.now) _ _ _ open_at (returns-in_err-write_flat-2-clause-calls g c)
+    (tries_append (c.args.section, c.args.body.now) _ _ _ lands (returns-in_err-write_flat-2-clause-images g c tells) (into_has _ _ _ (c.write_flat-2.ensures.images _ _ _ c.requires.gate firm)))
+
+pub returns-clause-tried : goal.returns-clause-tried
+returns-clause-tried g c = λ tells lands.
+    let open_at = c.requires.open tells in
+    let flat = c.in_ok-make_file.ensures.open tells open_at in
+    let firm = c.in_ok-write_flat.ensures.done tells flat.bytes _ _ c.requires.write flat.firm in
+    tried_append g.D.Disk.made _ _ _ _ c.args.place (c.args.section, c.args.body.now) _ _ _ open_at (returns-clause-calls g c)
+    (tries_append (c.args.section, c.args.body.now) _ _ _ lands (returns-clause-images g c tells) (into_has _ _ _ (c.write_flat-2.ensures.images _ _ _ c.requires.gate firm)))
+
+pub returns-clause-done : goal.returns-clause-done
+returns-clause-done g c = λ tells lands.
+    finished_append g.D.Disk.made _ _ _ _ c.args.place (start c.args.place + 13 + length c.args.body.now) (c.args.section, c.args.body.now) _ _ _ _ (c.requires.open tells) lands (returns-clause-open g c tells) (returns-clause-added g c tells) (g.met.D.Disk.reads _ tells) (returns-clause-all g c)

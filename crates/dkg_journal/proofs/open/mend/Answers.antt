@@ -5,6 +5,7 @@ use Rattle.dkg_values.specs.declared.name.Name.TheVariants.{Flat}
 use Rattle.dkg_journal.proofs.Steps.{ran_all, all_same}
 use Rattle.dkg_journal.proofs.Mending.{mend_some, mend_none, firm_install, mended_keeps}
 use Rattle.dkg_journal.proofs.Reading.{mended_flat}
+use Rattle.dkg_journal.proofs.Standing.{mended_standing, settled_flat, keeps_else}
 use Rattle.dkg_journal.proofs.open.mend.Goals as goal
 
 -- the call that was made is the one of the definition
@@ -44,3 +45,14 @@ returns-clause-open g c = λ out whole firm tells. record {
   firm = firm_install _ _ c.args.bytes.items _ _ _ _ (c.new.ensures ∙ c.in_ok-push.ensures.items) firm (c.in_ok-perform.ensures.done tells);
   flat = mended_flat c.args.bytes.items out c.args.place whole (omega arith);
 }
+
+pub returns-in_err-perform-clause-kept : goal.returns-in_err-perform-clause-kept
+returns-in_err-perform-clause-kept g c = λ out whole firm lands. mended_standing _ c.args.bytes.items _ _ _ firm lands c.perform.ensures.crash (returns-in_err-perform-clause-images g c out whole firm)
+
+pub returns-clause-kept : goal.returns-clause-kept
+returns-clause-kept g c = λ out whole firm lands. mended_standing _ c.args.bytes.items _ _ _ firm lands c.perform.ensures.crash (returns-clause-images g c out whole firm)
+
+pub returns-clause-settled : goal.returns-clause-settled
+returns-clause-settled g c = λ out whole firm tells lands.
+    let flat = returns-clause-open g c out whole firm tells in
+    settled_flat flat.bytes _ _ _ _ lands flat.firm (keeps_else _ _ (returns-clause-images g c out whole firm)) (g.met.D.Disk.reads _ tells)

@@ -1,4 +1,5 @@
-use Rattle.std.proofs.Common.{List, ℕ, Option, [], refl, sym, ◌∙◌, ap}
+use Rattle.std.proofs.Common.{List, ℕ, Option, [], inl, refl, sym, ◌∙◌, ap}
+use Rattle.std.proofs.lemmas.Option.{none-some}
 use Rattle.std.specs.Prelude.{option_map}
 use Rattle.dkg_journal.specs.Opening.{mend_of, broken_of}
 use Rattle.dkg_journal.proofs.Append.{keeps_keeps}
@@ -7,6 +8,8 @@ use Rattle.dkg_journal.proofs.Reading.{whole_entries, whole_unbroken}
 use Rattle.dkg_journal.specs.Views.{views}
 use Rattle.dkg_journal.specs.Records.{entries_with}
 use Rattle.dkg_journal.proofs.Mending.{unchanged_keeps, firm_read, bare_read, bare_entries, whole_at}
+use Rattle.dkg_journal.specs.Operations.{journaled}
+use Rattle.dkg_journal.proofs.Standing.{unchanged_lands, tried_open}
 use Rattle.dkg_journal.proofs.journal.Journal.open.Goals as goal
 
 pub returns-in_err-bytes-clause-images : goal.returns-in_err-bytes-clause-images
@@ -81,3 +84,35 @@ returns-clause-listed g c = λ tells form.
     let is = ap (λ o. option_map (λ v. v.items) o) (sym c.in-Some.is) ∙ c.in_ok-bytes.ensures.bytes tells in
     let whole = whole_at _ _ _ _ c.deref.ensures.value c.in_ok-entries.ensures.whole in
     c.in_ok-waiting.ensures ∙ whole_entries c.in-Some.bytes.items _ _ whole ∙ ap (λ (o : Option (List ℕ)). entries_with o (g.D.Disk.files c.args.disk.now)) is
+
+pub returns-in_err-mend-clause-tried : goal.returns-in_err-mend-clause-tried
+returns-in_err-mend-clause-tried g c = λ tells lands.
+    let same = c.read_flat.ensures.same in
+    let is = ap (λ o. option_map (λ v. v.items) o) (sym c.in-Some.is) ∙ c.in_ok-bytes.ensures.bytes tells in
+    let firm = firm_read g.D.Disk.files g.D.Disk.image _ _ c.in-Some.bytes.items lands same is in
+    let whole = whole_at _ _ _ _ c.deref.ensures.value c.in_ok-entries.ensures.whole in
+    let after = unchanged_lands g.D.Disk.files g.D.Disk.image _ _ lands same in
+    tried_open g.D.Disk.made _ _ _ _ _ _ (returns-in_err-mend-clause-calls g c tells) (λ f now. inl (c.mend.ensures.kept _ whole firm after f now ∙ ap journaled same.same_files))
+
+-- what was read whole isn't broken
+pub returns-in_err-mend-clause-corrupt : goal.returns-in_err-mend-clause-corrupt
+returns-in_err-mend-clause-corrupt g c = λ place tells broken.
+    let is = ap (λ o. option_map (λ v. v.items) o) (sym c.in-Some.is) ∙ c.in_ok-bytes.ensures.bytes tells in
+    let whole = whole_at _ _ _ _ c.deref.ensures.value c.in_ok-entries.ensures.whole in
+    absurd (none-some place (sym (sym (ap broken_of is) ∙ whole_unbroken c.in-Some.bytes.items _ _ whole) ∙ broken))
+
+pub returns-clause-tried : goal.returns-clause-tried
+returns-clause-tried g c = λ tells lands.
+    let same = c.read_flat.ensures.same in
+    let is = ap (λ o. option_map (λ v. v.items) o) (sym c.in-Some.is) ∙ c.in_ok-bytes.ensures.bytes tells in
+    let firm = firm_read g.D.Disk.files g.D.Disk.image _ _ c.in-Some.bytes.items lands same is in
+    let whole = whole_at _ _ _ _ c.deref.ensures.value c.in_ok-entries.ensures.whole in
+    let after = unchanged_lands g.D.Disk.files g.D.Disk.image _ _ lands same in
+    tried_open g.D.Disk.made _ _ _ _ _ _ (returns-clause-calls g c tells) (λ f now. inl (c.mend.ensures.kept _ whole firm after f now ∙ ap journaled same.same_files))
+
+-- what was read whole isn't broken
+pub returns-clause-corrupt : goal.returns-clause-corrupt
+returns-clause-corrupt g c = λ place tells broken.
+    let is = ap (λ o. option_map (λ v. v.items) o) (sym c.in-Some.is) ∙ c.in_ok-bytes.ensures.bytes tells in
+    let whole = whole_at _ _ _ _ c.deref.ensures.value c.in_ok-entries.ensures.whole in
+    absurd (none-some place (sym (sym (ap broken_of is) ∙ whole_unbroken c.in-Some.bytes.items _ _ whole) ∙ broken))
