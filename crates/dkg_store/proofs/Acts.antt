@@ -2,13 +2,13 @@
 use Rattle.std.proofs.Common.{◌≡◌, ◌≤◌, ◌+◌, ◌⊎◌, inl, inr, ℕ, zero, suc, List, [], ◌∷◌, ◌++◌, length, Option, refl, sym, ◌∙◌, ap, subst, arith}
 use Rattle.std.proofs.lemmas.List.{length-append}
 use Rattle.dkg_journal.specs.Burn.{Burn}
-use Rattle.dkg_journal.specs.Fuse.{spent_once, burned}
+use Rattle.dkg_journal.specs.Fuse.{spent_once, burned, burnt}
 use Rattle.std.specs.FinMap.{get}
 use Rattle.dkg_journal.specs.Names.{Files}
 use Rattle.dkg_journal.specs.Records.{Entry, entries}
 use Rattle.dkg_values.specs.declared.name.Name.TheVariants.{Plan}
 use Rattle.dkg_types.specs.declared.entry.Entry.{Entry as Line}
-use Rattle.dkg_store.specs.Acts.{Acts, Say, Do, Ask, Goes, Stops, bind, World, says, does, Tears, IsTorn, Completes, Faults, Breaks, Ended, went, stopped, broken, Runs, IfWent, Stands, Moment, moment, world, held_in, at, MadeAt, GoesOn, Along, Operation, Bars, Opens, Appends, Changes, Held, burnt, device_calls, after}
+use Rattle.dkg_store.specs.Acts.{Acts, Say, Do, Ask, Goes, Stops, bind, World, says, does, Tears, IsTorn, Completes, Faults, Breaks, Ended, went, stopped, broken, Runs, IfWent, Stands, Moment, moment, world, held_in, at, MadeAt, GoesOn, Along, Operation, Bars, Opens, Appends, Changes, Held, device_calls, after}
 use Rattle.dkg_store.specs.Secrets.{Secrets}
 use Rattle.dkg_store.proofs.Tried.{nothing_done}
 
@@ -119,6 +119,16 @@ module _ {F S : Type 0} (files : Files) (image : Files → Type 0) where
 
   pub made_none_said : (acts : Acts F S) {how : Ended F S} {out now : List Line} {s : Secrets} {f : Burn} → now ≡ out → how ≡ broken → MadeAt acts how files image files image (moment out s f) (moment now s f)
   made_none_said acts {how} {out} {now} {s} {f} same is = subst (λ (l : List Line). MadeAt acts how files image files image (moment out s f) (moment l s f)) (sym same) (made_none acts (moment out s f) is)
+
+  pub made_none_held : (acts : Acts F S) {how : Ended F S} {out : List Line} {s now : Secrets} {f : Burn} → now ≡ s → how ≡ broken → MadeAt acts how files image files image (moment out s f) (moment out now f)
+  made_none_held acts {how} {out} {s} {now} {f} same is = subst (λ (t : Secrets). MadeAt acts how files image files image (moment out s f) (moment out t f)) (sym same) (made_none acts (moment out s f) is)
+
+  -- the devices were read
+  pub made_read : (view : Held → S) {end : S} {out : List Line} {s now : Secrets} {f : Burn} → now ≡ s → end ≡ view (held_in files s) → MadeAt {F = F} (Ask (λ h. Goes (view h))) (went end) files image files image (moment out s f) (moment out now f)
+  made_read view {end} {out} {s} {now} {f} same is = subst (λ (t : Secrets). MadeAt {F = F} (Ask (λ h. Goes (view h))) (went end) files image files image (moment out s f) (moment out t f)) (sym same) (record {
+    made = λ stands c here. (same_place files image (moment out s f) stands c here, is);
+    stands = λ stands. stands;
+  })
 
   -- acts on secrets alone
   pub made_of_secrets : {acts : Acts F S} {how : Ended F S} {out : List Line} {s now : Secrets} {f g : Burn} → ((notes : List Entry) (plan : Option (List ℕ)) → Runs acts how (world out notes plan s f) (world out notes plan now g)) → MadeAt acts how files image files image (moment out s f) (moment out now g)

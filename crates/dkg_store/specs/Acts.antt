@@ -1,8 +1,8 @@
 -- What a call does, as acts in their order: lines that it says, operations that it does on the devices, reads that it asks for, and how it ends.
-use Rattle.std.specs.Prelude.{◌≡◌, ◌⊎◌, ◌≤◌, ℕ, zero, suc, ◌∷◌, [], ◌++◌, List, Bool, Option, Some, None, if◌then◌else◌}
+use Rattle.std.specs.Prelude.{◌≡◌, ◌⊎◌, ◌≤◌, ℕ, ◌∷◌, [], ◌++◌, List, Bool, Option, Some, None, if◌then◌else◌}
 use Rattle.std.specs.FinMap.{get}
 use Rattle.dkg_journal.specs.Burn.{Burn}
-use Rattle.dkg_journal.specs.Fuse.{spent_once}
+use Rattle.dkg_journal.specs.Fuse.{burnt}
 use Rattle.dkg_journal.specs.Names.{Files}
 use Rattle.dkg_journal.specs.Disk.{Lands}
 use Rattle.dkg_journal.specs.Records.{Entry, entries, placed}
@@ -73,11 +73,6 @@ under name (Do op acts) = Do op (under name acts)
 under name (Ask f) = Ask (λ h. under name (f h))
 under name (Goes end) = Goes end
 under name (Stops fault) = Stops (name fault)
-
--- a fuse after so many calls
-abbrev pub burnt : ℕ → Burn → Burn
-burnt zero f = f
-burnt (suc n) f = burnt n (spent_once f)
 
 -- what is seen of acts: the transcript, what the devices hold, and the calls that were counted
 pub record World : Type 0 where

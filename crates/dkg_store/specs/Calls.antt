@@ -61,6 +61,13 @@ abbrev pub answering : (ack_of : List ℕ → List ℕ) → Option (List ℕ × 
 answering ack_of (Some pair) check there epoch dealer public private = Goes (Ok (ack_of pair.0))
 answering ack_of None check there epoch dealer public private = accepting check there epoch dealer public private (ack_of public)
 
+-- The barrier and the journal's opening.
+abbrev pub opens : (calls : ℕ) → Acts StoreError (Unit {0})
+opens calls = Do Bars (Do (Opens calls) (Goes tt))
+
+abbrev pub opened : {T : Type 0} → Result T StoreError → Ended StoreError (Unit {0})
+opened result = ended_as (λ journal. tt) result
+
 -- An opening, over devices whose records are whole and whose bodies are events: what is restored.
 abbrev pub opening : (calls : ℕ) → Acts StoreError Pairs
 opening calls = Do Bars (Do (Opens calls) (Ask (λ h. Goes (recovered h.notes h.secrets))))

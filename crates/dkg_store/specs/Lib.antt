@@ -5,6 +5,7 @@ pub mod Commits
 pub mod Corrupt
 pub mod Errors
 pub mod Events
+pub mod Formed
 pub mod Keys
 pub mod On
 pub mod Pairs

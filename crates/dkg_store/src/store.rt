@@ -16,11 +16,11 @@ ghost use Rattle.dkg_journal.specs.Fuse.{Reached, Ran, RanAll};
 ghost use Rattle.dkg_journal.specs.Steps.{IsOpenAt, Keeps};
 ghost use Rattle.dkg_journal.specs.Opening.{IsFormOfToday, broken, open_calls};
 ghost use Rattle.dkg_store.specs.Acts.{MadeAt, Runs, moment, world};
-ghost use Rattle.dkg_store.specs.Calls.{put_and_appended, recording, sharing, seeding, committing, pruning, ended};
+ghost use Rattle.dkg_store.specs.Calls.{put_and_appended, recording, sharing, seeding, committing, pruning, opens, opened, opening, ended, ended_as};
 ghost use Rattle.dkg_store.specs.Commits.{commit_calls, committed};
 ghost use Rattle.dkg_store.specs.Corrupt.{IsCorruptAt, AreEvents};
 ghost use Rattle.dkg_store.specs.Errors.{IsOfDevices, IsOfOpening, IsOfSecrets};
-ghost use Rattle.dkg_store.specs.Secrets.{Tries, after};
+ghost use Rattle.dkg_store.specs.Secrets.{Secrets, Tries, after};
 ghost use Rattle.dkg_store.specs.Events.{event_spelling, IsPublic};
 ghost use Rattle.dkg_store.specs.Pairs.{Pairs, IsWhole, Holds, HoldsEither, recovered};
 ghost use Rattle.dkg_store.specs.Recorded.{restored_list, of_epoch, first_refused};
@@ -97,6 +97,7 @@ fn open_journal<D: Disk>(
     // What it read is what the files stand for, and after it a crash leaves no other entries.
     ensures listed { IfOk result (λ journal. IsTrue D.tells → IsFormOfToday (D.files disk.old) → views journal.waiting.items ≡ entries (D.files disk.old)) }
     ensures settled { OnOk result (IsTrue D.tells → (c : Files) → D.image disk.new c → entries c ≡ entries (D.files disk.old)) }
+    ensures acts { IsTrue D.tells → broken (D.files disk.old) ≡ None → (out : List Line) (s : Secrets) → MadeAt (opens (length (open_calls (D.files disk.old)))) (opened result) (D.files disk.old) (D.image disk.old) (D.files disk.new) (D.image disk.new) (moment out s fuse.old) (moment out s fuse.new) }
     ensures corrupt { (name : Name) (place : ℕ) → IsErrOf result (StoreError.Corrupt name place) → IsTrue D.tells → (name ≡ Flat) × (broken (D.files disk.old) ≡ Some place) }
     ensures whole { OnOk result (IsTrue D.tells → broken (D.files disk.old) ≡ None) }
     ensures later { D.faults disk.old ≤ D.faults disk.new }
@@ -165,6 +166,7 @@ fn put_both<X: SecretStore>(
     ensures later { X.faults secrets.old ≤ X.faults secrets.new }
     ensures wanted { IsErrOf result StoreError.NoMemory → Rose (X.wants secrets.old) (X.wants secrets.new) }
     ensures secrets { IsErrOf result StoreError.Secrets → Rose (X.faults secrets.old) (X.faults secrets.new) }
+    ensures privates { (X.held secrets.new).privates ≡ (X.held secrets.old).privates }
     ensures kinds { IfErr result IsOfSecrets }
     ensures cut { IsErrOf result StoreError.Cut → Reached fuse.old fuse.new }
     ensures not_cut { OnOk result (Reached fuse.old fuse.new → ⊥) }
@@ -252,6 +254,8 @@ impl<Dir: Drop> Store<Dir> {
         ensures settled { IfOk result (λ store. IsTrue D.tells → IsTrue X.tells → IsFormOfToday (D.files devices.old.disk.now) → IsWhole (entries (D.files devices.old.disk.now)) (X.held devices.old.secrets.now) → Holds store.dealings (D.image devices.new.disk.now) (X.held devices.new.secrets.now)) }
         // Wherever it stops, each image with the secrets is whole as before, and gives the same dealings.
         ensures holds { IsTrue D.tells → (pairs : Pairs) → Holds pairs (D.image devices.old.disk.now) (X.held devices.old.secrets.now) → Holds pairs (D.image devices.new.disk.now) (X.held devices.new.secrets.now) }
+        // The barrier, the journal's opening, and what is read then: all at Ok, and at any other exit a part, whatever image is left.
+        ensures acts { IsTrue D.tells → IsTrue X.tells → IsFormOfToday (D.files devices.old.disk.now) → broken (D.files devices.old.disk.now) ≡ None → AreEvents (non_zero_u32_get limit) (entries (D.files devices.old.disk.now)) → (out : List Line) → MadeAt (opening (length (open_calls (D.files devices.old.disk.now)))) (ended_as (λ store. store.dealings) result) (D.files devices.old.disk.now) (D.image devices.old.disk.now) (D.files devices.new.disk.now) (D.image devices.new.disk.now) (moment out (X.held devices.old.secrets.now) devices.old.fuse) (moment out (X.held devices.new.secrets.now) devices.new.fuse) }
         // Corrupt comes exactly of a record that is not whole, or, where all are, of the first whose body is no event within the limit.
         ensures corrupt { (name : Name) (place : ℕ) → IsErrOf result (StoreError.Corrupt name place) → IsTrue D.tells → IsFormOfToday (D.files devices.old.disk.now) → (name ≡ Flat) × IsCorruptAt (non_zero_u32_get limit) (D.files devices.old.disk.now) place }
         ensures sound { OnOk result (IsTrue D.tells → IsFormOfToday (D.files devices.old.disk.now) → (broken (D.files devices.old.disk.now) ≡ None) × AreEvents (non_zero_u32_get limit) (entries (D.files devices.old.disk.now))) }
@@ -399,6 +403,8 @@ impl<Dir: Drop> Store<Dir> {
         ensures wanted { IsErrOf result StoreError.NoMemory → Rose (X.wants devices.old.secrets.now) (X.wants devices.new.secrets.now) }
         ensures secrets { IsErrOf result StoreError.Secrets → Rose (X.faults devices.old.secrets.now) (X.faults devices.new.secrets.now) }
         ensures kinds { IfErr result IsOfSecrets }
+        // Wherever it stops, each image with the secrets is whole as before, and gives the same dealings.
+        ensures holds { (pairs : Pairs) → Holds pairs (D.image devices.old.disk.now) (X.held devices.old.secrets.now) → Holds pairs (D.image devices.new.disk.now) (X.held devices.new.secrets.now) }
         ensures acts { IsTrue D.tells → IsTrue X.tells → (out : List Line) → MadeAt (committing info.epoch seed share) (ended result) (D.files devices.old.disk.now) (D.image devices.old.disk.now) (D.files devices.new.disk.now) (D.image devices.new.disk.now) (moment out (X.held devices.old.secrets.now) devices.old.fuse) (moment out (X.held devices.new.secrets.now) devices.new.fuse) }
         ensures cut { IsErrOf result StoreError.Cut → Reached devices.old.fuse devices.new.fuse }
         ensures not_cut { OnOk result (Reached devices.old.fuse devices.new.fuse → ⊥) }
@@ -435,6 +441,8 @@ impl<Dir: Drop> Store<Dir> {
         ensures wanted { IsErrOf result StoreError.NoMemory → Rose (X.wants devices.old.secrets.now) (X.wants devices.new.secrets.now) }
         ensures secrets { IsErrOf result StoreError.Secrets → Rose (X.faults devices.old.secrets.now) (X.faults devices.new.secrets.now) }
         ensures kinds { IfErr result IsOfSecrets }
+        // Wherever it stops, each image with the secrets gives the same dealings at and above the minimum.
+        ensures recovers { (c : Files) → D.image devices.new.disk.now c → (key : ℕ × ℕ) → min ≤ key.0 → map.get (recovered (entries c) (X.held devices.new.secrets.now)) key ≡ map.get (recovered (entries c) (X.held devices.old.secrets.now)) key }
         ensures acts { IsTrue D.tells → IsTrue X.tells → (out : List Line) → MadeAt (pruning min) (ended result) (D.files devices.old.disk.now) (D.image devices.old.disk.now) (D.files devices.new.disk.now) (D.image devices.new.disk.now) (moment out (X.held devices.old.secrets.now) devices.old.fuse) (moment out (X.held devices.new.secrets.now) devices.new.fuse) }
         ensures cut { IsErrOf result StoreError.Cut → Reached devices.old.fuse devices.new.fuse }
         ensures not_cut { OnOk result (Reached devices.old.fuse devices.new.fuse → ⊥) }
