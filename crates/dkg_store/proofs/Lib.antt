@@ -1,9 +1,17 @@
+pub mod Acting
+pub mod Acts
+pub mod Answering
 pub mod Both
+pub mod Changing
 pub mod Events
+pub mod Formed
+pub mod Halves
 pub mod Map
 pub mod Opened
+pub mod OpeningActs
 pub mod Others
 pub mod Pairs
 pub mod Playing
 pub mod Replayed
+pub mod Recorded
 pub mod Tried

@@ -1,9 +1,13 @@
 -- A tree map, seen as a finite map.
-use Rattle.std.proofs.Common.{◌≡◌, ◌≢◌, ◌⊎◌, inl, inr, ℕ, ◌<◌, ◌≤◌, ◌-◌, nat_le, arith, Bool, true, false, cond, List, [], ◌∷◌, length, Option, Some, None, is_some, IsSome, refl, sym, ◌∙◌, ap, subst}
-use Rattle.std.specs.FinMap.{FinMap, IsAntisymmetric, nat_cmp-IsAntisymmetric, find, get, insert, remove, empty, from_entries, get-from_entries, get-insert, get-remove, retain_keys, get-retain_keys, same_map, len, len-remove, empty_of_len, get-empty}
+use Rattle.std.proofs.Common.{◌≡◌, ◌≢◌, ◌⊎◌, inl, inr, ℕ, ◌<◌, ◌≤◌, ◌-◌, nat_le, arith, Bool, true, false, cond, List, [], ◌∷◌, map, length, Option, Some, None, is_some, IsSome, refl, sym, ◌∙◌, ap, subst}
+use Rattle.std.specs.Prelude.{T, ◌&&◌}
+use Rattle.std.specs.List.{AllByRecursion}
+use Rattle.std.specs.List.Sorted.{IsStrictlySortedBy}
+use Rattle.std.specs.FinMap.Entries.{is_sorted, below_all}
+use Rattle.std.specs.FinMap.{entries, from_sorted, entries-from_sorted, get-from_sorted, FinMap, IsAntisymmetric, nat_cmp-IsAntisymmetric, find, get, insert, remove, empty, from_entries, get-from_entries, get-insert, get-remove, retain_keys, get-retain_keys, same_map, len, len-remove, empty_of_len, get-empty}
 use Rattle.std.specs.Map.{lookup}
 use Rattle.std.specs.BTreeMap as tree
-use Rattle.std.specs.Ordering.{is_eq, is_gt, eq_by_cmp, nat_cmp, ordering_then}
+use Rattle.std.specs.Ordering.{is_eq, is_lt, is_gt, eq_by_cmp, nat_cmp, ordering_then}
 use Rattle.dkg_store.specs.Keys.{key_cmp}
 use Rattle.std.specs.Cmp.{IsTotalOrder, nat_cmp_total}
 use Rattle.std.specs.declared.cmp.Ordering.{Ordering}
@@ -151,3 +155,19 @@ module _ {K : Type 0} {R : K → K → Ordering} (total : IsTotalOrder R) (exact
       let at : len n ≡ len m - 1 = ap (len {X = X} {R = R}) is ∙ shorter ∙ ap (λ b. cond b (len m - 1) (len m)) some in
       let full : len m ≢ 0 = λ none. some_of_empty m k some (empty_of_len m none) in
       omega arith
+
+  below_all_true : {X : Type 0} (k : K) (es : List (K × X)) → AllByRecursion (λ y. R k y ≡ Less) (map (λ e. e.0) es) → below_all R k es ≡ true
+  below_all_true k [] all = refl
+  below_all_true k (e ∷ es) all = ap (λ r. is_lt r && below_all R k es) all.0 ∙ below_all_true k es all.1
+
+  is_sorted_true : {X : Type 0} (es : List (K × X)) → IsStrictlySortedBy R (map (λ e. e.0) es) → is_sorted R es ≡ true
+  unfolding IsStrictlySortedBy
+  is_sorted_true [] rising = refl
+  is_sorted_true (e ∷ es) rising = ap (λ b. b && is_sorted R es) (below_all_true e.0 es rising.0) ∙ is_sorted_true es rising.1
+
+  -- the entries of a tree, whose keys ascend
+  pub view_entries : {X : Type 0} (es : List (K × X)) → IsStrictlySortedBy R (map (λ e. e.0) es) → entries (from_entries {R = R} es) ≡ es
+  view_entries {X} es rising =
+      let sorted : T (is_sorted R es) = subst T (sym (is_sorted_true es rising)) tt in
+      let same : from_entries {R = R} es ≡ from_sorted {R = R} es = same_map total exact _ _ (λ q. get-from_entries total es q ∙ sym (get-from_sorted R es q sorted)) in
+      ap (entries {K = K} {X = X} {R = R}) same ∙ entries-from_sorted R es sorted

@@ -1,9 +1,13 @@
 -- What opening keeps, step by step.
-use Rattle.std.proofs.Common.{ap, ◌∙◌}
+use Rattle.std.proofs.Common.{◌≡◌, List, [], ◌∷◌, ap, sym, subst, ◌∙◌, refl}
+use Rattle.dkg_journal.specs.Burn.{Burn}
+use Rattle.dkg_journal.specs.Fuse.{RanAll, burned, spent_once}
 use Rattle.std.specs.FinMap.{get}
 use Rattle.dkg_journal.specs.Names.{Files}
 use Rattle.dkg_journal.specs.Disk.{Follows, Inside}
-use Rattle.dkg_journal.specs.Records.{entries}
+use Rattle.dkg_journal.specs.Records.{Entry, entries}
+use Rattle.dkg_store.specs.Secrets.{Secrets}
+use Rattle.dkg_store.specs.Pairs.{Pairs, Holds, IsWhole, recovered}
 use Rattle.dkg_journal.specs.Steps.{Keeps}
 use Rattle.dkg_journal.specs.declared.disk.Op.TheVariants.{Barrier}
 use Rattle.dkg_journal.proofs.Steps.{compose, weaken}
@@ -14,3 +18,25 @@ barred a b follows = weaken (Inside Barrier) Keeps a b (λ x y in_image same. re
 
 pub kept_on : (a b c : Files → Type 0) → Follows Keeps a b → Follows Keeps b c → Follows Keeps a c
 kept_on a b c first second = compose Keeps Keeps Keeps a b c (λ x y z one two. record { others = λ q apart. two.others q apart ∙ one.others q apart; same = two.same ∙ one.same }) first second
+
+burned_call : {O : Type 0} (ops : List O) (f : Burn) → (burned ops f).call ≡ f.call
+burned_call [] f = refl
+burned_call (op ∷ ops) f = burned_call ops (spent_once f)
+
+-- the call that is cut stays the same
+pub same_call : {D O : Type 0} {made : D → D → List O → Type 0} {old new : D} {f g : Burn} {ops : List O} → RanAll made old new f g ops → f.call ≡ g.call
+same_call {f = f} {ops = ops} ran = sym (ap (λ (b : Burn). b.call) ran.fuse ∙ burned_call ops f)
+
+-- Where no entry is lost or added, and the secrets are as they were, what was whole is whole and gives the same.
+pub kept_holds : (pairs : Pairs) (image next : Files → Type 0) (held now : Secrets) → Follows Keeps image next → now ≡ held → Holds pairs image held → Holds pairs next now
+kept_holds pairs image next held now keeps same holds = subst (Holds pairs next) (sym same) (record {
+  whole = λ c here. let from = keeps.each c here in subst (λ (es : List Entry). IsWhole es held) (sym from.2.same) (holds.whole from.0 from.1);
+  gives = λ c here. let from = keeps.each c here in ap (λ (es : List Entry). recovered es held) from.2.same ∙ holds.gives from.0 from.1;
+})
+
+-- Where all images stand for the same entries, these are what is held.
+pub settled_holds : (es : List Entry) (pairs : Pairs) (next : Files → Type 0) (held now : Secrets) → ((c : Files) → next c → entries c ≡ es) → now ≡ held → pairs ≡ recovered es held → IsWhole es held → Holds pairs next now
+settled_holds es pairs next held now only same is whole = subst (Holds pairs next) (sym same) (record {
+  whole = λ c here. subst (λ (l : List Entry). IsWhole l held) (sym (only c here)) whole;
+  gives = λ c here. ap (λ (l : List Entry). recovered l held) (only c here) ∙ sym is;
+})

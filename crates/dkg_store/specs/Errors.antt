@@ -15,6 +15,17 @@ IsOfSecrets (LocalState cause) = ⊥
 IsOfSecrets (StateSyncEpochs info floor) = ⊥
 IsOfSecrets StateSyncMaterial = ⊥
 
+-- the errors that calls of both devices may give
+abbrev pub IsOfDevices : StoreError → Type 0
+IsOfDevices Disk = Unit {0}
+IsOfDevices Secrets = Unit {0}
+IsOfDevices Cut = Unit {0}
+IsOfDevices NoMemory = Unit {0}
+IsOfDevices (Corrupt name place) = ⊥
+IsOfDevices (LocalState cause) = ⊥
+IsOfDevices (StateSyncEpochs info floor) = ⊥
+IsOfDevices StateSyncMaterial = ⊥
+
 -- the errors that taking up an entry may give
 abbrev pub IsOfRestoring : StoreError → Type 0
 IsOfRestoring Secrets = Unit {0}
@@ -25,6 +36,17 @@ IsOfRestoring Disk = ⊥
 IsOfRestoring (LocalState cause) = ⊥
 IsOfRestoring (StateSyncEpochs info floor) = ⊥
 IsOfRestoring StateSyncMaterial = ⊥
+
+-- the errors that opening a store may give
+abbrev pub IsOfOpening : StoreError → Type 0
+IsOfOpening Disk = Unit {0}
+IsOfOpening Secrets = Unit {0}
+IsOfOpening Cut = Unit {0}
+IsOfOpening NoMemory = Unit {0}
+IsOfOpening (Corrupt name place) = Unit {0}
+IsOfOpening (LocalState cause) = ⊥
+IsOfOpening (StateSyncEpochs info floor) = ⊥
+IsOfOpening StateSyncMaterial = ⊥
 
 -- No call of a store meets a body that is too long.
 abbrev pub store_error_of : JournalError → StoreError

@@ -1,10 +1,15 @@
+pub mod Acts
 pub mod Both
+pub mod Calls
 pub mod Commits
+pub mod Corrupt
 pub mod Errors
 pub mod Events
+pub mod Formed
 pub mod Keys
 pub mod On
 pub mod Pairs
 pub mod Player
 pub mod Ready
+pub mod Recorded
 pub mod Secrets

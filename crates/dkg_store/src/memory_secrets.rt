@@ -1,7 +1,9 @@
 //! A secret store in memory, whose calls fail where it is told.
 //!
 //! Runs and tests use it in place of a node's own secret store.
-ghost use Rattle.std.specs.Prelude.{◌≡◌, ◌∷◌, [], OnOk, OnErr, IsErrOf};
+ghost use Rattle.std.specs.Prelude.{◌≡◌, ◌∷◌, [], OnOk, OnErr, IsErrOf, Contains};
+ghost use Rattle.std.specs.List.Sorted.{IsPermutation};
+ghost use Rattle.dkg_journal.specs.Fuse.{counted};
 ghost use Rattle.std.specs.FinMap as map;
 ghost use Rattle.dkg_store.specs.Secrets.{HasCause, HasWant, Tries, TriesAll, after};
 
@@ -15,7 +17,9 @@ use std::alloc::Global;
 #[derive(Drop)]
 pub struct MemorySecrets {
     held: Held,
+    /// The numbers, from 1, of the calls that fail, rising.
     failing: Vec<u64>,
+    /// How many calls were made that may fail: all but `cut` and `crash`.
     calls: u64,
     faults: u64,
     wants: u64,
@@ -31,11 +35,16 @@ impl MemorySecrets {
 
     /// A store that holds nothing and fails at these of its calls, numbered from 1. `cut` and `crash` don't count.
     pub fn failing(alloc: Global, calls: Vec<u64>) -> MemorySecrets
-        ensures { result.held ≡ record { shares = map.empty; seeds = map.empty; privates = map.empty } }
+        ensures held { result.held ≡ record { shares = map.empty; seeds = map.empty; privates = map.empty } }
+        ensures failing { IsPermutation calls.items result.failing.items }
+        ensures calls { result.calls ≡ 0 }
+        ensures faults { result.faults ≡ 0 }
     {
+        let mut failing = calls;
+        failing.sort_unstable();
         MemorySecrets {
             held: Held::new(alloc),
-            failing: calls,
+            failing,
             calls: 0,
             faults: 0,
             wants: 0,
@@ -46,11 +55,14 @@ impl MemorySecrets {
     fn begin(&mut self) -> Result<(), SecretError>
         ensures held { self.new.held ≡ self.old.held }
         ensures wants { self.new.wants ≡ self.old.wants }
+        ensures failing { self.new.failing ≡ self.old.failing }
+        ensures counted { self.new.calls ≡ counted self.old.calls }
+        ensures told { IsErrOf result SecretError.Failed → Contains self.old.failing.items self.new.calls }
         ensures cause { HasCause self.old.faults self.new.faults result }
         ensures kinds { IsErrOf result SecretError.NoMemory → ⊥ }
     {
         self.calls = self.calls.saturating_add(1);
-        if self.failing.contains(&self.calls) {
+        if self.failing.binary_search(&self.calls).is_ok() {
             self.faults = self.faults.saturating_add(1);
             return Err(SecretError::Failed);
         }

@@ -1,5 +1,5 @@
 //! Values by an epoch and a dealer: the private halves of a secret store, and the recorded dealings of a store.
-ghost use Rattle.std.specs.Prelude.{◌≡◌, ℕ, ◌<◌, ◌^◌, nat_le, OnOk, OnErr, IfOk, IfSome, IfNone, IsSome, None};
+ghost use Rattle.std.specs.Prelude.{◌≡◌, ℕ, ◌<◌, ◌^◌, ◌==◌, ◌&&◌, filter, nat_lt, nat_le, OnOk, OnErr, IfOk, IfSome, IfNone, IsSome, None};
 ghost use Rattle.std.specs.Option.{option_copied};
 ghost use Rattle.std.specs.List.{All};
 ghost use Rattle.std.specs.FinMap as map;
@@ -45,12 +45,16 @@ impl<V: Drop> PairMap<V> {
     }
 
     /// The values, by epoch and dealer, rising.
-    pub fn iter(&self) -> Iter<'_, (u64, u32), V> {
+    pub fn iter(&self) -> Iter<'_, (u64, u32), V>
+        ensures { result ≡ map.entries self.now }
+    {
         self.values.iter()
     }
 
     /// The values of one epoch, by dealer, rising.
-    pub fn of_epoch(&self, epoch: u64) -> Range<'_, (u64, u32), V> {
+    pub fn of_epoch(&self, epoch: u64) -> Range<'_, (u64, u32), V>
+        ensures { result ≡ filter (λ e. (e.0.0 == epoch) && nat_lt e.0.1 (2 ^ 32)) (map.entries self.now) }
+    {
         self.values.range((epoch, 0)..=(epoch, u32::MAX))
     }
 

@@ -7,6 +7,9 @@ ghost use Rattle.dkg_values.specs.declared.name.Name.TheVariants.{Flat};
 ghost use Rattle.dkg_journal.specs.Disk.{Follows, SameElse};
 ghost use Rattle.dkg_journal.specs.Fuse.{Reached, Ran, RanAll};
 ghost use Rattle.dkg_journal.specs.Steps.{IsOpenAt};
+ghost use Rattle.dkg_store.specs.Acts.{MadeAt, moment};
+ghost use Rattle.dkg_store.specs.Calls.{keeping, accepting, answering, answered, ended};
+ghost use Rattle.dkg_store.specs.Errors.{IsOfDevices};
 ghost use Rattle.dkg_store.specs.Events.{event_spelling, IsPublic};
 ghost use Rattle.dkg_store.specs.Pairs.{Holds, HoldsEither};
 ghost use Rattle.dkg_store.specs.Player.{IsPlayerOf, Acknowledges};
@@ -103,6 +106,8 @@ fn keep_dealing<D: Disk, X: SecretStore, Dir: Drop>(
     ensures open { OnOk result (IsTrue D.tells → IsOpenAt store.new.journal.place (D.files devices.new.disk.now) (D.image devices.new.disk.now)) }
     ensures holds { OnOk result (IsPublic public → IsTrue D.tells → IsTrue X.tells → Holds store.old.dealings (D.image devices.old.disk.now) (X.held devices.old.secrets.now) → Holds store.new.dealings (D.image devices.new.disk.now) (X.held devices.new.secrets.now)) }
     ensures images { IsPublic public → IsTrue D.tells → IsTrue X.tells → Holds store.old.dealings (D.image devices.old.disk.now) (X.held devices.old.secrets.now) → HoldsEither store.old.dealings (map.insert store.old.dealings (epoch, dealer) (public, private)) (D.image devices.new.disk.now) (X.held devices.new.secrets.now) }
+    ensures acts { IsTrue D.tells → IsTrue X.tells → MadeAt (keeping (is_some store.old.journal.place) epoch dealer public told private tt) (ended result) (D.files devices.old.disk.now) (D.image devices.old.disk.now) (D.files devices.new.disk.now) (D.image devices.new.disk.now) (moment out.old.entries (X.held devices.old.secrets.now) devices.old.fuse) (moment out.new.entries (X.held devices.new.secrets.now) devices.new.fuse) }
+    ensures kinds { IfErr result IsOfDevices }
     ensures all { OnOk result (RanAll (MadeBoth D.made X.made) (devices.old.disk.now, devices.old.secrets.now) (devices.new.disk.now, devices.new.secrets.now) devices.old.fuse devices.new.fuse (put_then_append (SecretOp.PutDealing epoch dealer private) store.old.journal.place (epoch, event_spelling dealer public))) }
     ensures calls { Ran (MadeBoth D.made X.made) (devices.old.disk.now, devices.old.secrets.now) (devices.new.disk.now, devices.new.secrets.now) devices.old.fuse devices.new.fuse (put_then_append (SecretOp.PutDealing epoch dealer private) store.old.journal.place (epoch, event_spelling dealer public)) }
     ensures memory { IsErrOf result StoreError.NoMemory → IsWant ((acks.new ≡ acks.old) × (store.new ≡ store.old) × (devices.new ≡ devices.old)) (D.wants devices.old.disk.now) (D.wants devices.new.disk.now) (X.wants devices.old.secrets.now) (X.wants devices.new.secrets.now) }
@@ -147,6 +152,7 @@ fn ready_answer<C: Ceremony>(
     ensures told { IfOk result (λ r. r.1 ≡ public.now) }
     ensures room { OnOk result (0 < out.new.spare) }
     ensures same { out.new.entries ≡ out.old.entries }
+    ensures memory { IfErr result (λ e. e ≡ StoreError.NoMemory) }
 {
     let ack = ceremony.ack(alloc, signer, round, dealer, public)?;
     let told = public.copy(alloc)?;
@@ -224,6 +230,7 @@ impl Player {
         ensures open { OnOk result (IsTrue D.tells → IsOpenAt store.new.journal.place (D.files devices.new.disk.now) (D.image devices.new.disk.now)) }
         ensures holds { OnOk result (IsPublic public → IsTrue D.tells → IsTrue X.tells → Holds store.old.dealings (D.image devices.old.disk.now) (X.held devices.old.secrets.now) → Holds store.new.dealings (D.image devices.new.disk.now) (X.held devices.new.secrets.now)) }
         ensures images { IsPublic public → IsTrue D.tells → IsTrue X.tells → Holds store.old.dealings (D.image devices.old.disk.now) (X.held devices.old.secrets.now) → HoldsEither store.old.dealings (map.insert store.old.dealings (epoch, dealer) (public, private)) (D.image devices.new.disk.now) (X.held devices.new.secrets.now) }
+        ensures acts { IsTrue D.tells → IsTrue X.tells → MadeAt (accepting (C.dealing_of self.old.round self.old.me dealer public private) (is_some store.old.journal.place) epoch dealer public private (C.ack_of self.old.me self.old.round dealer public)) (answered result) (D.files devices.old.disk.now) (D.image devices.old.disk.now) (D.files devices.new.disk.now) (D.image devices.new.disk.now) (moment out.old.entries (X.held devices.old.secrets.now) devices.old.fuse) (moment out.new.entries (X.held devices.new.secrets.now) devices.new.fuse) }
         ensures calls { Ran (MadeBoth D.made X.made) (devices.old.disk.now, devices.old.secrets.now) (devices.new.disk.now, devices.new.secrets.now) devices.old.fuse devices.new.fuse (put_then_append (SecretOp.PutDealing epoch dealer private) store.old.journal.place (epoch, event_spelling dealer public)) }
         ensures memory { IsErrOf result (DealingHandleError.Store StoreError.NoMemory) → IsWant ((self.new ≡ self.old) × (store.new ≡ store.old) × (devices.new ≡ devices.old)) (D.wants devices.old.disk.now) (D.wants devices.new.disk.now) (X.wants devices.old.secrets.now) (X.wants devices.new.secrets.now) }
         // A crash leaves every file but the journal's as it was.
@@ -297,6 +304,9 @@ impl Player {
         ensures open { OnOk result (IsTrue D.tells → IsOpenAt store.new.journal.place (D.files devices.new.disk.now) (D.image devices.new.disk.now)) }
         ensures holds { OnOk result (IsPublic public → IsTrue D.tells → IsTrue X.tells → Holds store.old.dealings (D.image devices.old.disk.now) (X.held devices.old.secrets.now) → Holds store.new.dealings (D.image devices.new.disk.now) (X.held devices.new.secrets.now)) }
         ensures images { IsPublic public → IsTrue D.tells → IsTrue X.tells → Holds store.old.dealings (D.image devices.old.disk.now) (X.held devices.old.secrets.now) → HoldsEither store.old.dealings (map.insert store.old.dealings (epoch, dealer) (public, private)) (D.image devices.new.disk.now) (X.held devices.new.secrets.now) }
+        // A dealer whose dealing is recorded is answered by the acknowledgement of that. Else the check, the put, the append and the
+        // line: all of them at Ok, and at any other exit a part, whatever image is left.
+        ensures acts { IsTrue D.tells → IsTrue X.tells → IsPlayerOf C.ack_of self.old.me self.old.round self.old.acks store.old.dealings epoch → MadeAt (answering (C.ack_of self.old.me self.old.round dealer) (map.get store.old.dealings (epoch, dealer)) (C.dealing_of self.old.round self.old.me dealer public private) (is_some store.old.journal.place) epoch dealer public private) (answered result) (D.files devices.old.disk.now) (D.image devices.old.disk.now) (D.files devices.new.disk.now) (D.image devices.new.disk.now) (moment out.old.entries (X.held devices.old.secrets.now) devices.old.fuse) (moment out.new.entries (X.held devices.new.secrets.now) devices.new.fuse) }
         ensures calls { Ran (MadeBoth D.made X.made) (devices.old.disk.now, devices.old.secrets.now) (devices.new.disk.now, devices.new.secrets.now) devices.old.fuse devices.new.fuse (put_then_append (SecretOp.PutDealing epoch dealer private) store.old.journal.place (epoch, event_spelling dealer public)) }
         ensures memory { IsErrOf result (DealingHandleError.Store StoreError.NoMemory) → IsWant ((self.new ≡ self.old) × (store.new ≡ store.old) × (devices.new ≡ devices.old)) (D.wants devices.old.disk.now) (D.wants devices.new.disk.now) (X.wants devices.old.secrets.now) (X.wants devices.new.secrets.now) }
         // A crash leaves every file but the journal's as it was.

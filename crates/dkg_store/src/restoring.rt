@@ -1,5 +1,8 @@
 //! What a journal's entries and a secret store give back when a store is opened.
-ghost use Rattle.std.specs.Prelude.{◌≡◌, ◌≤◌, [], ℕ, IfOk, OnOk, IsTrue, IsErrOf, IfErr};
+ghost use Rattle.std.specs.Prelude.{◌≡◌, ◌≤◌, [], ℕ, IfOk, OnOk, IsTrue, IsErrOf, IfErr, Some, None, true, false};
+ghost use Rattle.dkg_values.specs.declared.name.Name.{Name};
+ghost use Rattle.dkg_values.specs.declared.name.Name.TheVariants.{Flat};
+ghost use Rattle.dkg_store.specs.Events.{is_event, no_event_at};
 ghost use Rattle.std.specs.FinMap as map;
 ghost use Rattle.dkg_journal.specs.Disk.{Rose};
 ghost use Rattle.dkg_journal.specs.Views.{view, views};
@@ -28,6 +31,7 @@ fn restore_dealing<X: SecretStore>(
     ensures same { X.held secrets.new ≡ X.held secrets.old }
     ensures later { X.faults secrets.old ≤ X.faults secrets.new }
     ensures secrets { IsErrOf result StoreError.Secrets → Rose (X.faults secrets.old) (X.faults secrets.new) }
+    ensures not_corrupt { (name : Name) (place : ℕ) → IsErrOf result (StoreError.Corrupt name place) → ⊥ }
     ensures kinds { IfErr result IsOfRestoring }
     ensures calls { X.made secrets.old secrets.new [] }
 {
@@ -55,6 +59,9 @@ fn restore_one<X: SecretStore>(
     ensures same { X.held secrets.new ≡ X.held secrets.old }
     ensures later { X.faults secrets.old ≤ X.faults secrets.new }
     ensures secrets { IsErrOf result StoreError.Secrets → Rose (X.faults secrets.old) (X.faults secrets.new) }
+    ensures event { OnOk result (is_event limit entry.now.body ≡ true) }
+    // A body that is no event is the one cause of Corrupt.
+    ensures corrupt { (name : Name) (place : ℕ) → IsErrOf result (StoreError.Corrupt name place) → (name ≡ Flat) × (place ≡ entry.now.place) × (is_event limit entry.now.body ≡ false) }
     ensures kinds { IfErr result IsOfRestoring }
     ensures calls { X.made secrets.old secrets.new [] }
 {
@@ -86,6 +93,9 @@ pub(crate) fn restore<X: SecretStore>(
     ensures same { X.held secrets.new ≡ X.held secrets.old }
     ensures later { X.faults secrets.old ≤ X.faults secrets.new }
     ensures secrets { IsErrOf result StoreError.Secrets → Rose (X.faults secrets.old) (X.faults secrets.new) }
+    ensures events { OnOk result (no_event_at limit entries.now ≡ None) }
+    // The first body that is no event is the one cause of Corrupt.
+    ensures corrupt { (name : Name) (place : ℕ) → IsErrOf result (StoreError.Corrupt name place) → (name ≡ Flat) × (no_event_at limit entries.now ≡ Some place) }
     ensures kinds { IfErr result IsOfRestoring }
     ensures calls { X.made secrets.old secrets.new [] }
 {

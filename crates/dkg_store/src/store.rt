@@ -1,19 +1,29 @@
 //! What a node has recorded, in memory and on both devices.
 //!
 //! A reshare actor opens a store at the start of a life, asks it what is there, and records each dealing before it acknowledges it.
-ghost use Rattle.std.specs.Prelude.{◌≡◌, ◌≤◌, ◌<◌, ◌+◌, ◌^◌, ◌∷◌, [], length, OnOk, OnErr, IfOk, IfErr, IfSome, IsSome, IsErrOf, IsTrue, Some, None, not, nat_le, Contains, if◌then◌else◌};
+ghost use Rattle.std.specs.Prelude.{◌≡◌, ◌⊎◌, ◌≤◌, ◌<◌, ◌+◌, ◌^◌, ◌∷◌, [], ℕ, List, length, OnOk, OnErr, IfOk, IfErr, IfSome, IsSome, is_some, IsErrOf, IsTrue, Option, Some, None, not, nat_le, Contains, if◌then◌else◌};
 ghost use Rattle.std.specs.Option.{option_copied};
 ghost use Rattle.std.specs.FinMap as map;
+ghost use Rattle.std.specs.Int.NonZero.{non_zero_u32_get};
+ghost use Rattle.dkg_values.specs.declared.name.Name.{Name};
 ghost use Rattle.dkg_values.specs.declared.name.Name.TheVariants.{Flat};
+ghost use Rattle.dkg_types.specs.declared.entry.Entry.{Entry as Line};
+ghost use Rattle.dkg_journal.specs.Names.{Files};
+ghost use Rattle.dkg_journal.specs.Records.{Entry, entries};
+ghost use Rattle.dkg_journal.specs.Views.{views};
 ghost use Rattle.dkg_journal.specs.Disk.{Rose, Follows, SameElse};
 ghost use Rattle.dkg_journal.specs.Fuse.{Reached, Ran, RanAll};
 ghost use Rattle.dkg_journal.specs.Steps.{IsOpenAt, Keeps};
-ghost use Rattle.dkg_journal.specs.Opening.{IsFormOfToday, open_calls};
+ghost use Rattle.dkg_journal.specs.Opening.{IsFormOfToday, broken, open_calls};
+ghost use Rattle.dkg_store.specs.Acts.{MadeAt, Runs, moment, world};
+ghost use Rattle.dkg_store.specs.Calls.{put_and_appended, recording, sharing, seeding, committing, pruning, opens, opened, opening, ended, ended_as};
 ghost use Rattle.dkg_store.specs.Commits.{commit_calls, committed};
-ghost use Rattle.dkg_store.specs.Errors.{IsOfSecrets};
-ghost use Rattle.dkg_store.specs.Secrets.{Tries, after};
+ghost use Rattle.dkg_store.specs.Corrupt.{IsCorruptAt, AreEvents};
+ghost use Rattle.dkg_store.specs.Errors.{IsOfDevices, IsOfOpening, IsOfSecrets};
+ghost use Rattle.dkg_store.specs.Secrets.{Secrets, Tries, after};
 ghost use Rattle.dkg_store.specs.Events.{event_spelling, IsPublic};
-ghost use Rattle.dkg_store.specs.Pairs.{Holds, HoldsEither};
+ghost use Rattle.dkg_store.specs.Pairs.{Pairs, IsWhole, Holds, HoldsEither, recovered};
+ghost use Rattle.dkg_store.specs.Recorded.{restored_list, of_epoch, first_refused};
 ghost use Rattle.dkg_store.specs.Both.{MadeBoth, IsWant, put_then_append};
 ghost use Rattle.dkg_store.specs.Ready.{IsReadyDealing};
 
@@ -84,10 +94,18 @@ fn open_journal<D: Disk>(
 ) -> Result<Journal, StoreError>
     ensures open { IfOk result (λ journal. IsTrue D.tells → IsFormOfToday (D.files disk.old) → IsOpenAt journal.place (D.files disk.new) (D.image disk.new)) }
     ensures images { IsTrue D.tells → Follows Keeps (D.image disk.old) (D.image disk.new) }
+    // What it read is what the files stand for, and after it a crash leaves no other entries.
+    ensures listed { IfOk result (λ journal. IsTrue D.tells → IsFormOfToday (D.files disk.old) → views journal.waiting.items ≡ entries (D.files disk.old)) }
+    ensures settled { OnOk result (IsTrue D.tells → (c : Files) → D.image disk.new c → entries c ≡ entries (D.files disk.old)) }
+    ensures acts { IsTrue D.tells → broken (D.files disk.old) ≡ None → (out : List Line) (s : Secrets) → MadeAt (opens (length (open_calls (D.files disk.old)))) (opened result) (D.files disk.old) (D.image disk.old) (D.files disk.new) (D.image disk.new) (moment out s fuse.old) (moment out s fuse.new) }
+    ensures corrupt { (name : Name) (place : ℕ) → IsErrOf result (StoreError.Corrupt name place) → IsTrue D.tells → (name ≡ Flat) × (broken (D.files disk.old) ≡ Some place) }
+    ensures whole { OnOk result (IsTrue D.tells → broken (D.files disk.old) ≡ None) }
     ensures later { D.faults disk.old ≤ D.faults disk.new }
     ensures disk { IsErrOf result StoreError.Disk → Rose (D.faults disk.old) (D.faults disk.new) }
     ensures not_secrets { IsErrOf result StoreError.Secrets → ⊥ }
+    ensures kinds { IfErr result IsOfOpening }
     ensures cut { IsErrOf result StoreError.Cut → Reached fuse.old fuse.new }
+    ensures not_cut { OnOk result (IsTrue D.tells → Reached fuse.old fuse.new → ⊥) }
     ensures all { OnOk result (IsTrue D.tells → RanAll D.made disk.old disk.new fuse.old fuse.new (Op.Barrier ∷ open_calls (D.files disk.old))) }
     ensures calls { IsTrue D.tells → Ran D.made disk.old disk.new fuse.old fuse.new (Op.Barrier ∷ open_calls (D.files disk.old)) }
 {
@@ -96,7 +114,9 @@ fn open_journal<D: Disk>(
 }
 
 /// The restored dealings as a list, by epoch and dealer, rising.
-fn listed(alloc: Global, dealings: &PairMap<(Public, Private)>) -> Mem<Vec<Restored>> {
+fn listed(alloc: Global, dealings: &PairMap<(Public, Private)>) -> Mem<Vec<Restored>>
+    ensures { IfOk result (λ restored. restored.items ≡ restored_list dealings.now) }
+{
     let mut restored = Vec::new(alloc);
     for ((epoch, dealer), (public, private)) in dealings.iter() {
         restored.push(Restored {
@@ -118,6 +138,7 @@ fn first_refused<C: Ceremony>(
     round: &Round,
 ) -> Option<Key>
     requires { Contains round.now.players me }
+    ensures { result ≡ first_refused (C.dealing_of round.now me) (of_epoch epoch dealings.now) }
 {
     for ((_, dealer), (public, private)) in dealings.of_epoch(epoch.0) {
         let dealer = Key(*dealer);
@@ -141,9 +162,11 @@ fn put_both<X: SecretStore>(
     share: Option<Share>,
 ) -> Result<(), StoreError>
     ensures done { OnOk result (IsTrue X.tells → X.held secrets.new ≡ committed epoch seed share (X.held secrets.old)) }
+    ensures acts { IsTrue X.tells → (out : List Line) (notes : List Entry) (plan : Option (List ℕ)) → Runs (committing epoch seed share) (ended result) (world out notes plan (X.held secrets.old) fuse.old) (world out notes plan (X.held secrets.new) fuse.new) }
     ensures later { X.faults secrets.old ≤ X.faults secrets.new }
     ensures wanted { IsErrOf result StoreError.NoMemory → Rose (X.wants secrets.old) (X.wants secrets.new) }
     ensures secrets { IsErrOf result StoreError.Secrets → Rose (X.faults secrets.old) (X.faults secrets.new) }
+    ensures privates { (X.held secrets.new).privates ≡ (X.held secrets.old).privates }
     ensures kinds { IfErr result IsOfSecrets }
     ensures cut { IsErrOf result StoreError.Cut → Reached fuse.old fuse.new }
     ensures not_cut { OnOk result (Reached fuse.old fuse.new → ⊥) }
@@ -180,6 +203,8 @@ fn record_dealing<D: Disk, X: SecretStore>(
     ensures kept { OnErr result (dealings.new ≡ dealings.old) }
     ensures holds { OnOk result (IsPublic public → IsTrue D.tells → IsTrue X.tells → Holds dealings.old (D.image devices.old.disk.now) (X.held devices.old.secrets.now) → Holds (map.insert dealings.old (epoch, dealer) (public, private)) (D.image devices.new.disk.now) (X.held devices.new.secrets.now)) }
     ensures images { IsPublic public → IsTrue D.tells → IsTrue X.tells → Holds dealings.old (D.image devices.old.disk.now) (X.held devices.old.secrets.now) → HoldsEither dealings.old (map.insert dealings.old (epoch, dealer) (public, private)) (D.image devices.new.disk.now) (X.held devices.new.secrets.now) }
+    ensures acts { IsTrue D.tells → IsTrue X.tells → (out : List Line) → MadeAt (put_and_appended (SecretOp.PutDealing epoch dealer private) (is_some journal.old.place) (epoch, event_spelling dealer public) tt) (ended result) (D.files devices.old.disk.now) (D.image devices.old.disk.now) (D.files devices.new.disk.now) (D.image devices.new.disk.now) (moment out (X.held devices.old.secrets.now) devices.old.fuse) (moment out (X.held devices.new.secrets.now) devices.new.fuse) }
+    ensures kinds { IfErr result IsOfDevices }
     ensures all { OnOk result (RanAll (MadeBoth D.made X.made) (devices.old.disk.now, devices.old.secrets.now) (devices.new.disk.now, devices.new.secrets.now) devices.old.fuse devices.new.fuse (put_then_append (SecretOp.PutDealing epoch dealer private) journal.old.place (epoch, event_spelling dealer public))) }
     ensures calls { Ran (MadeBoth D.made X.made) (devices.old.disk.now, devices.old.secrets.now) (devices.new.disk.now, devices.new.secrets.now) devices.old.fuse devices.new.fuse (put_then_append (SecretOp.PutDealing epoch dealer private) journal.old.place (epoch, event_spelling dealer public)) }
     ensures memory { IsErrOf result StoreError.NoMemory → IsWant ((dealings.new ≡ dealings.old) × (journal.new ≡ journal.old) × (devices.new ≡ devices.old)) (D.wants devices.old.disk.now) (D.wants devices.new.disk.now) (X.wants devices.old.secrets.now) (X.wants devices.new.secrets.now) }
@@ -222,12 +247,28 @@ impl<Dir: Drop> Store<Dir> {
     ) -> Result<Store<Dir>, StoreError>
         ensures open { IfOk result (λ store. IsTrue D.tells → IsFormOfToday (D.files devices.old.disk.now) → IsOpenAt store.journal.place (D.files devices.new.disk.now) (D.image devices.new.disk.now)) }
         ensures current { IfOk result (λ store. store.current ≡ None) }
+        // A dealing is restored exactly where its record and its private half are there, a later record of a key in place of an earlier one.
+        ensures recovered { IfOk result (λ store. IsTrue D.tells → IsTrue X.tells → IsFormOfToday (D.files devices.old.disk.now) → store.dealings ≡ recovered (entries (D.files devices.old.disk.now)) (X.held devices.old.secrets.now)) }
+        ensures restored { IfOk result (λ store. store.restored.items ≡ restored_list store.dealings) }
+        // From then on a crash leaves just that.
+        ensures settled { IfOk result (λ store. IsTrue D.tells → IsTrue X.tells → IsFormOfToday (D.files devices.old.disk.now) → IsWhole (entries (D.files devices.old.disk.now)) (X.held devices.old.secrets.now) → Holds store.dealings (D.image devices.new.disk.now) (X.held devices.new.secrets.now)) }
+        // Wherever it stops, each image with the secrets is whole as before, and gives the same dealings.
+        ensures holds { IsTrue D.tells → (pairs : Pairs) → Holds pairs (D.image devices.old.disk.now) (X.held devices.old.secrets.now) → Holds pairs (D.image devices.new.disk.now) (X.held devices.new.secrets.now) }
+        // The barrier, the journal's opening, and what is read then: all at Ok, and at any other exit a part, whatever image is left.
+        ensures acts { IsTrue D.tells → IsTrue X.tells → IsFormOfToday (D.files devices.old.disk.now) → broken (D.files devices.old.disk.now) ≡ None → AreEvents (non_zero_u32_get limit) (entries (D.files devices.old.disk.now)) → (out : List Line) → MadeAt (opening (length (open_calls (D.files devices.old.disk.now)))) (ended_as (λ store. store.dealings) result) (D.files devices.old.disk.now) (D.image devices.old.disk.now) (D.files devices.new.disk.now) (D.image devices.new.disk.now) (moment out (X.held devices.old.secrets.now) devices.old.fuse) (moment out (X.held devices.new.secrets.now) devices.new.fuse) }
+        // Corrupt comes exactly of a record that is not whole, or, where all are, of the first whose body is no event within the limit.
+        ensures corrupt { (name : Name) (place : ℕ) → IsErrOf result (StoreError.Corrupt name place) → IsTrue D.tells → IsFormOfToday (D.files devices.old.disk.now) → (name ≡ Flat) × IsCorruptAt (non_zero_u32_get limit) (D.files devices.old.disk.now) place }
+        ensures sound { OnOk result (IsTrue D.tells → IsFormOfToday (D.files devices.old.disk.now) → (broken (D.files devices.old.disk.now) ≡ None) × AreEvents (non_zero_u32_get limit) (entries (D.files devices.old.disk.now))) }
         // No entry is lost, wherever it stops, and the secrets are as they were.
         ensures images { IsTrue D.tells → Follows Keeps (D.image devices.old.disk.now) (D.image devices.new.disk.now) }
         ensures same { X.held devices.new.secrets.now ≡ X.held devices.old.secrets.now }
         ensures disk { IsErrOf result StoreError.Disk → Rose (D.faults devices.old.disk.now) (D.faults devices.new.disk.now) }
         ensures secrets { IsErrOf result StoreError.Secrets → Rose (X.faults devices.old.secrets.now) (X.faults devices.new.secrets.now) }
+        ensures later_disk { D.faults devices.old.disk.now ≤ D.faults devices.new.disk.now }
+        ensures later_secrets { X.faults devices.old.secrets.now ≤ X.faults devices.new.secrets.now }
+        ensures kinds { IfErr result IsOfOpening }
         ensures cut { IsErrOf result StoreError.Cut → Reached devices.old.fuse devices.new.fuse }
+        ensures not_cut { OnOk result (IsTrue D.tells → Reached devices.old.fuse devices.new.fuse → ⊥) }
         ensures all { OnOk result (IsTrue D.tells → RanAll D.made devices.old.disk.now devices.new.disk.now devices.old.fuse devices.new.fuse (Op.Barrier ∷ open_calls (D.files devices.old.disk.now))) }
         ensures calls { IsTrue D.tells → Ran D.made devices.old.disk.now devices.new.disk.now devices.old.fuse devices.new.fuse (Op.Barrier ∷ open_calls (D.files devices.old.disk.now)) }
         ensures secret_calls { X.made devices.old.secrets.now devices.new.secrets.now [] }
@@ -276,6 +317,8 @@ impl<Dir: Drop> Store<Dir> {
         ensures round { IfOk result (λ made. IfSome made (λ player. player.round ≡ round.now)) }
         ensures acks { IfOk result (λ made. IfSome made (λ player. player.acks ≡ map.empty)) }
         ensures some { IfOk result IsSome }
+        ensures passes { OnOk result (first_refused (C.dealing_of round.now me) (of_epoch epoch self.now.dealings) ≡ None) }
+        ensures stored { IfErr result (λ e. (e ≡ StoreError.NoMemory) ⊎ ((dealer : ℕ) × (e ≡ StoreError.LocalState (LocalCause.StoredDealing epoch dealer)) × (first_refused (C.dealing_of round.now me) (of_epoch epoch self.now.dealings) ≡ Some dealer))) }
     {
         if let Some(dealer) = first_refused(ceremony, &self.dealings, epoch, me, round) {
             return Err(StoreError::LocalState(LocalCause::StoredDealing { epoch, dealer }));
@@ -304,6 +347,7 @@ impl<Dir: Drop> Store<Dir> {
         ensures fuse { devices.new.fuse ≡ devices.old.fuse }
         ensures wanted { IsErrOf result StoreError.NoMemory → Rose (X.wants devices.old.secrets.now) (X.wants devices.new.secrets.now) }
         ensures secrets { IsErrOf result StoreError.Secrets → Rose (X.faults devices.old.secrets.now) (X.faults devices.new.secrets.now) }
+        ensures acts { IsTrue D.tells → IsTrue X.tells → (out : List Line) → MadeAt (sharing epoch) (ended result) (D.files devices.old.disk.now) (D.image devices.old.disk.now) (D.files devices.new.disk.now) (D.image devices.new.disk.now) (moment out (X.held devices.old.secrets.now) devices.old.fuse) (moment out (X.held devices.new.secrets.now) devices.new.fuse) }
         ensures calls { X.made devices.old.secrets.now devices.new.secrets.now [] }
         ensures same_disk { devices.new.disk.ghost_name ≡ devices.old.disk.ghost_name }
         ensures same_secrets { devices.new.secrets.ghost_name ≡ devices.old.secrets.ghost_name }
@@ -329,6 +373,7 @@ impl<Dir: Drop> Store<Dir> {
         ensures fuse { devices.new.fuse ≡ devices.old.fuse }
         ensures wanted { IsErrOf result StoreError.NoMemory → Rose (X.wants devices.old.secrets.now) (X.wants devices.new.secrets.now) }
         ensures secrets { IsErrOf result StoreError.Secrets → Rose (X.faults devices.old.secrets.now) (X.faults devices.new.secrets.now) }
+        ensures acts { IsTrue D.tells → IsTrue X.tells → (out : List Line) → MadeAt (seeding epoch) (ended result) (D.files devices.old.disk.now) (D.image devices.old.disk.now) (D.files devices.new.disk.now) (D.image devices.new.disk.now) (moment out (X.held devices.old.secrets.now) devices.old.fuse) (moment out (X.held devices.new.secrets.now) devices.new.fuse) }
         ensures calls { X.made devices.old.secrets.now devices.new.secrets.now [] }
         ensures same_disk { devices.new.disk.ghost_name ≡ devices.old.disk.ghost_name }
         ensures same_secrets { devices.new.secrets.ghost_name ≡ devices.old.secrets.ghost_name }
@@ -358,6 +403,9 @@ impl<Dir: Drop> Store<Dir> {
         ensures wanted { IsErrOf result StoreError.NoMemory → Rose (X.wants devices.old.secrets.now) (X.wants devices.new.secrets.now) }
         ensures secrets { IsErrOf result StoreError.Secrets → Rose (X.faults devices.old.secrets.now) (X.faults devices.new.secrets.now) }
         ensures kinds { IfErr result IsOfSecrets }
+        // Wherever it stops, each image with the secrets is whole as before, and gives the same dealings.
+        ensures holds { (pairs : Pairs) → Holds pairs (D.image devices.old.disk.now) (X.held devices.old.secrets.now) → Holds pairs (D.image devices.new.disk.now) (X.held devices.new.secrets.now) }
+        ensures acts { IsTrue D.tells → IsTrue X.tells → (out : List Line) → MadeAt (committing info.epoch seed share) (ended result) (D.files devices.old.disk.now) (D.image devices.old.disk.now) (D.files devices.new.disk.now) (D.image devices.new.disk.now) (moment out (X.held devices.old.secrets.now) devices.old.fuse) (moment out (X.held devices.new.secrets.now) devices.new.fuse) }
         ensures cut { IsErrOf result StoreError.Cut → Reached devices.old.fuse devices.new.fuse }
         ensures not_cut { OnOk result (Reached devices.old.fuse devices.new.fuse → ⊥) }
         ensures all { OnOk result (RanAll X.made devices.old.secrets.now devices.new.secrets.now devices.old.fuse devices.new.fuse (commit_calls info.epoch seed share)) }
@@ -393,6 +441,9 @@ impl<Dir: Drop> Store<Dir> {
         ensures wanted { IsErrOf result StoreError.NoMemory → Rose (X.wants devices.old.secrets.now) (X.wants devices.new.secrets.now) }
         ensures secrets { IsErrOf result StoreError.Secrets → Rose (X.faults devices.old.secrets.now) (X.faults devices.new.secrets.now) }
         ensures kinds { IfErr result IsOfSecrets }
+        // Wherever it stops, each image with the secrets gives the same dealings at and above the minimum.
+        ensures recovers { (c : Files) → D.image devices.new.disk.now c → (key : ℕ × ℕ) → min ≤ key.0 → map.get (recovered (entries c) (X.held devices.new.secrets.now)) key ≡ map.get (recovered (entries c) (X.held devices.old.secrets.now)) key }
+        ensures acts { IsTrue D.tells → IsTrue X.tells → (out : List Line) → MadeAt (pruning min) (ended result) (D.files devices.old.disk.now) (D.image devices.old.disk.now) (D.files devices.new.disk.now) (D.image devices.new.disk.now) (moment out (X.held devices.old.secrets.now) devices.old.fuse) (moment out (X.held devices.new.secrets.now) devices.new.fuse) }
         ensures cut { IsErrOf result StoreError.Cut → Reached devices.old.fuse devices.new.fuse }
         ensures not_cut { OnOk result (Reached devices.old.fuse devices.new.fuse → ⊥) }
         ensures calls { X.made devices.old.secrets.now devices.new.secrets.now (SecretOp.Prune min ∷ []) }
@@ -427,6 +478,9 @@ impl<Dir: Drop> Store<Dir> {
         ensures holds { OnOk result (IsPublic public → IsTrue D.tells → IsTrue X.tells → Holds self.old.dealings (D.image devices.old.disk.now) (X.held devices.old.secrets.now) → Holds self.new.dealings (D.image devices.new.disk.now) (X.held devices.new.secrets.now)) }
         // Each image, with the secrets then held, gives the dealings from before, with the new one or without.
         ensures images { IsPublic public → IsTrue D.tells → IsTrue X.tells → Holds self.old.dealings (D.image devices.old.disk.now) (X.held devices.old.secrets.now) → HoldsEither self.old.dealings (map.insert self.old.dealings (epoch, dealer) (public, private)) (D.image devices.new.disk.now) (X.held devices.new.secrets.now) }
+        // The put, and then the append, where it was not recorded: both at Ok, and at any other exit a part, whatever image is left.
+        ensures acts { IsTrue D.tells → IsTrue X.tells → (out : List Line) → MadeAt (recording (map.contains_key self.old.dealings (epoch, dealer)) (is_some self.old.journal.place) epoch dealer public private) (ended result) (D.files devices.old.disk.now) (D.image devices.old.disk.now) (D.files devices.new.disk.now) (D.image devices.new.disk.now) (moment out (X.held devices.old.secrets.now) devices.old.fuse) (moment out (X.held devices.new.secrets.now) devices.new.fuse) }
+        ensures kinds { IfErr result IsOfDevices }
         ensures all { IfOk result (λ new. RanAll (MadeBoth D.made X.made) (devices.old.disk.now, devices.old.secrets.now) (devices.new.disk.now, devices.new.secrets.now) devices.old.fuse devices.new.fuse (if new then put_then_append (SecretOp.PutDealing epoch dealer private) self.old.journal.place (epoch, event_spelling dealer public) else [])) }
         ensures calls { Ran (MadeBoth D.made X.made) (devices.old.disk.now, devices.old.secrets.now) (devices.new.disk.now, devices.new.secrets.now) devices.old.fuse devices.new.fuse (put_then_append (SecretOp.PutDealing epoch dealer private) self.old.journal.place (epoch, event_spelling dealer public)) }
         ensures memory { IsErrOf result StoreError.NoMemory → IsWant ((self.new ≡ self.old) × (devices.new ≡ devices.old)) (D.wants devices.old.disk.now) (D.wants devices.new.disk.now) (X.wants devices.old.secrets.now) (X.wants devices.new.secrets.now) }

@@ -1,8 +1,16 @@
-use Rattle.std.proofs.Common.{◌≡◌, List, ℕ, ap, ◌∙◌, inl, inr, ⊎_elim, IsErrOf, Err, Result, Bool}
+use Rattle.std.proofs.Common.{◌≡◌, List, ℕ, ap, ◌∙◌, inl, inr, ⊎_elim, IsErrOf, Ok, Err, Result, OnOk, is_ok, Bool, true, false, is_some, Option, sym, subst, refl, ◌++◌, ◌∷◌, []}
 use Rattle.std.specs.Ordering.{nat_cmp}
 use Rattle.std.specs.FinMap as map
 use Rattle.std.specs.Cmp.{nat_cmp_total}
 use Rattle.dkg_store.specs.declared.call.StoreError.TheVariants.{NoMemory}
+use Rattle.std.proofs.lemmas.Result.{err_from_is_err_and}
+use Rattle.dkg_types.specs.declared.entry.Entry.{Entry as Line}
+use Rattle.dkg_types.specs.declared.entry.Entry.TheVariants.{Recorded}
+use Rattle.dkg_store.specs.Acts.{Say, Goes}
+use Rattle.dkg_store.specs.Errors.{IsOfDevices}
+use Rattle.dkg_store.proofs.Acts.{made_next, made_none, made_say}
+use Rattle.dkg_store.proofs.Acting.{then_broken, ended_broken, breaks_off}
+use Rattle.dkg_store.proofs.Answering.{recorded_new}
 use Rattle.dkg_store.proofs.Map.{remove_insert}
 use Rattle.dkg_store.proofs.Both.{none_ran}
 use Rattle.dkg_store.proofs.player.keep_dealing.Goals as goal
@@ -23,3 +31,26 @@ returns-in-Err-clause-memory g c = λ wants.
 
 pub returns-in_err-keep_ack-clause-calls : goal.returns-in_err-keep_ack-clause-calls
 returns-in_err-keep_ack-clause-calls g c = none_ran g.D.Disk.made g.X.SecretStore.made _ _ _ _ (g.met.D.Disk.made_none _) (g.met.X.SecretStore.made_none _)
+
+pub returns-in_err-keep_ack-clause-acts : goal.returns-in_err-keep_ack-clause-acts
+returns-in_err-keep_ack-clause-acts g c = λ told_disk told_secrets.
+    let p = err_from_is_err_and c.from_residual.result c.from_residual.ensures.1 in
+    made_none _ _ _ _ (ended_broken (λ u. u) c.from_residual.result p.0 p.1 (subst IsOfDevices (sym (p.2 ∙ c.in_err-keep_ack.ensures.memory)) tt))
+
+pub returns-in-Err-clause-acts : goal.returns-in-Err-clause-acts
+returns-in-Err-clause-acts g c = λ told_disk told_secrets.
+    then_broken (λ (b : Bool). Say (Recorded c.args.epoch c.args.dealer c.args.told c.args.private) (Goes tt)) c.in-Err.error c.in-Err.ensures.kinds (breaks_off c.in-Err.error c.in-Err.ensures.kinds)
+    (recorded_new (map.contains_key c.args.store.now.dealings (c.args.epoch, c.args.dealer)) (is_some c.args.store.now.journal.place) c.args.epoch c.args.dealer c.args.public c.args.private (ap is_some c.requires.unrecorded)
+    (c.in-Err.ensures.acts told_disk told_secrets c.args.out.now.entries))
+
+when_ok : {T E P : Type 0} (r : Result T E) → is_ok r ≡ true → OnOk r P → P
+when_ok (Ok x) e p = p
+when_ok (Err x) e p = absurd (let h : ◌≡◌ {A = Bool} false true = e in cc)
+
+pub returns-in-Ok-clause-acts : goal.returns-in-Ok-clause-acts
+returns-in-Ok-clause-acts g c = λ told_disk told_secrets.
+    let said : c.push-pushed.new.self.entries ≡ c.args.out.now.entries ++ Recorded c.args.epoch c.args.dealer c.args.told c.args.private ∷ [] = when_ok c.push-pushed.result (sym c.if-prove.ensures.value) c.push-pushed.ensures.ok in
+    made_next (λ (b : Bool). Say (Recorded c.args.epoch c.args.dealer c.args.told c.args.private) (Goes tt))
+    (recorded_new (map.contains_key c.args.store.now.dealings (c.args.epoch, c.args.dealer)) (is_some c.args.store.now.journal.place) c.args.epoch c.args.dealer c.args.public c.args.private (ap is_some c.requires.unrecorded)
+    (c.in-Ok.ensures.acts told_disk told_secrets c.args.out.now.entries))
+    (made_say _ _ _ tt _ _ _ _ said)

@@ -1,5 +1,6 @@
-use Rattle.std.proofs.Common.{◌≡◌, ◌≤◌, [], take, map}
+use Rattle.std.proofs.Common.{◌≡◌, ◌≤◌, [], take, drop, map}
 use Rattle.dkg_journal.specs.Records.{Entry}
+use Rattle.dkg_store.specs.Events.{no_event_at}
 use Rattle.dkg_store.specs.Pairs.{Pairs, recovered}
 use Rattle.dkg_journal.specs.Views.{view}
 use Rattle.std.specs.Bool.{IsTrue}
@@ -10,5 +11,6 @@ invariant-loop-entry g l = record {
   given : IsTrue g.X.SecretStore.tells → l.dealings ≡ recovered (map view (take l.entry-index l.entries)) (g.X.SecretStore.held l.initial.secrets);
   same : g.X.SecretStore.held l.secrets ≡ g.X.SecretStore.held l.initial.secrets;
   later : g.X.SecretStore.faults l.initial.secrets ≤ g.X.SecretStore.faults l.secrets;
+  events : no_event_at l.limit (drop l.entry-index l.entries) ≡ no_event_at l.limit l.entries;
   calls : g.X.SecretStore.made l.initial.secrets l.secrets [];
 }

@@ -6,6 +6,7 @@ use Rattle.dkg_store.specs.declared.secrets.SecretOp.{SecretOp}
 use Rattle.dkg_store.specs.Secrets.{after}
 use Rattle.dkg_store.specs.Pairs.{Pairs, PutsFirst}
 use Rattle.dkg_store.specs.Events.{event_spelling}
+use Rattle.dkg_store.proofs.Acting.{made_alike}
 use Rattle.dkg_store.proofs.Pairs.{puts_hold, done_holds}
 use Rattle.dkg_store.proofs.Map.{remove_insert, keys_total, exact_keys}
 use Rattle.dkg_store.proofs.store.record_dealing.Goals as goal
@@ -32,3 +33,11 @@ returns-clause-holds g c = λ is_public told_disk told_secrets holds.
     done_holds c.args.epoch c.args.dealer c.args.private c.args.public c.insert.ensures.fits is_public c.args.dealings.now c.requires.new _ _ _ _ holds
     (c.in_default.ensures.done told_secrets ∙ ap (λ (op : SecretOp). after op (g.X.SecretStore.held c.args.devices.now.secrets.now)) c.requires.ready.puts)
     (subst (λ (b : List ℕ). Follows (Adds (c.args.epoch, b)) (g.D.Disk.image c.args.devices.now.disk.now) (g.D.Disk.image c.put_and_append.new.devices.disk.now)) (c.deref.ensures.value ∙ c.requires.ready.body) (subst (λ (n : ℕ). Follows (Adds (n, c.deref.result.now)) (g.D.Disk.image c.args.devices.now.disk.now) (g.D.Disk.image c.put_and_append.new.devices.disk.now)) c.epoch.view_is (c.in_default.ensures.added told_disk)))
+
+pub returns-in-Err-clause-acts : goal.returns-in-Err-clause-acts
+returns-in-Err-clause-acts g c = λ told_disk told_secrets out.
+    made_alike c.requires.ready.puts c.epoch.view_is (c.deref.ensures.value ∙ c.requires.ready.body) (c.in-Err.ensures.acts told_disk told_secrets out)
+
+pub returns-clause-acts : goal.returns-clause-acts
+returns-clause-acts g c = λ told_disk told_secrets out.
+    made_alike c.requires.ready.puts c.epoch.view_is (c.deref.ensures.value ∙ c.requires.ready.body) (c.in_default.ensures.acts told_disk told_secrets out)

@@ -3,6 +3,10 @@ use Rattle.std.specs.Ordering.{nat_cmp}
 use Rattle.std.specs.FinMap as map
 use Rattle.dkg_store.specs.Pairs.{Pairs}
 use Rattle.dkg_store.specs.Player.{IsPlayerOf, Acknowledges}
+use Rattle.std.proofs.lemmas.Result.{err_from_is_err_and}
+use Rattle.dkg_store.specs.Errors.{IsOfDevices}
+use Rattle.dkg_store.proofs.Acts.{made_none_said}
+use Rattle.dkg_store.proofs.Answering.{answered_broken}
 use Rattle.dkg_store.proofs.Both.{none_ran}
 use Rattle.dkg_store.proofs.Playing.{new, one_more, dealt}
 use Rattle.dkg_store.proofs.player.Player.accept.Goals as goal
@@ -28,3 +32,8 @@ returns-clause-player g c = λ is.
     let next = one_more g.C.Ceremony.ack_of c.args.self.now.me c.args.self.now.round pairs c.args.epoch c.args.dealer (c.args.public, c.args.private) c.args.self.now.acks c.in_ok-ack.ack was here in
     subst (λ (m : Pairs). IsPlayerOf g.C.Ceremony.ack_of c.args.self.now.me c.args.self.now.round c.keep_dealing.new.acks m c.args.epoch) (sym c.in_ok-keep_dealing.ensures.pairs)
     (subst (λ (a : map.FinMap nat_cmp (List ℕ)). IsPlayerOf g.C.Ceremony.ack_of c.args.self.now.me c.args.self.now.round a pairs c.args.epoch) (sym c.in_ok-keep_dealing.ensures.acks) next)
+
+pub returns-in_err-ack-clause-acts : goal.returns-in_err-ack-clause-acts
+returns-in_err-ack-clause-acts g c = λ told_disk told_secrets.
+    let p = err_from_is_err_and c.from_residual.result c.from_residual.ensures.1 in
+    made_none_said _ _ _ c.ready_answer.ensures.same (answered_broken c.from_residual.result p.0 c.in_err-ack.field-0.0 p.1 p.2 (subst IsOfDevices (sym c.in_err-ack.ensures.memory) tt))

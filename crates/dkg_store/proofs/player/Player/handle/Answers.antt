@@ -1,7 +1,8 @@
-use Rattle.std.proofs.Common.{◌≡◌, ℕ, List, ap, sym, subst, ◌∙◌}
+use Rattle.std.proofs.Common.{◌≡◌, ℕ, List, is_some, ap, sym, subst, ◌∙◌}
 use Rattle.std.specs.Ordering.{nat_cmp}
 use Rattle.std.specs.FinMap as map
 use Rattle.dkg_store.specs.Player.{IsPlayerOf}
+use Rattle.dkg_store.proofs.Answering.{answered_known}
 use Rattle.dkg_store.proofs.Both.{none_ran}
 use Rattle.dkg_store.proofs.Playing.{known, where_some, not_none, stored, one_more}
 use Rattle.dkg_store.proofs.player.Player.handle.Goals as goal
@@ -30,3 +31,8 @@ returns-in-Some-dealing-clause-player g c = λ is.
     (one_more g.C.Ceremony.ack_of c.args.self.now.me c.args.self.now.round c.args.store.now.dealings c.args.epoch c.args.dealer c.in-Some-dealing.field-0.now c.args.self.now.acks c.in_ok-acknowledge.field-0 is
     (stored g.C.Ceremony.ack_of c.args.self.now.me c.args.self.now.round c.args.store.now.dealings c.args.epoch c.args.dealer c.in-Some-dealing.field-0.now c.in_ok-acknowledge.field-0 (sym c.in-Some-dealing.ensures)
     (c.in_ok-acknowledge.ensures.ack ∙ ap (λ (k : ℕ). g.C.Ceremony.ack_of k c.args.self.now.round c.args.dealer c.in-Some-dealing.field-0.now.0) c.requires.signer)))
+
+pub returns-in-Some-clause-acts : goal.returns-in-Some-clause-acts
+returns-in-Some-clause-acts g c = λ told_disk told_secrets is.
+    let was = is.kept c.args.dealer c.in-Some.ack (sym c.in-Some.ensures) in
+    answered_known (g.C.Ceremony.ack_of c.args.self.now.me c.args.self.now.round c.args.dealer) (map.get c.args.store.now.dealings (c.args.epoch, c.args.dealer)) was.pair (g.C.Ceremony.dealing_of c.args.self.now.round c.args.self.now.me c.args.dealer c.args.public c.args.private) (is_some c.args.store.now.journal.place) c.args.epoch c.args.dealer c.args.public c.args.private c.in-Some.ack was.recorded was.is

@@ -1,0 +1,214 @@
+-- How acts follow each other, and what holds along them.
+use Rattle.std.proofs.Common.{◌≡◌, ◌≤◌, ◌+◌, ◌⊎◌, inl, inr, ℕ, zero, suc, List, [], ◌∷◌, ◌++◌, length, Option, refl, sym, ◌∙◌, ap, subst, arith}
+use Rattle.std.proofs.lemmas.List.{length-append}
+use Rattle.dkg_journal.specs.Burn.{Burn}
+use Rattle.dkg_journal.specs.Fuse.{spent_once, burned, burnt}
+use Rattle.std.specs.FinMap.{get}
+use Rattle.dkg_journal.specs.Names.{Files}
+use Rattle.dkg_journal.specs.Records.{Entry, entries}
+use Rattle.dkg_values.specs.declared.name.Name.TheVariants.{Plan}
+use Rattle.dkg_types.specs.declared.entry.Entry.{Entry as Line}
+use Rattle.dkg_store.specs.Acts.{Acts, Say, Do, Ask, Goes, Stops, bind, World, says, does, Tears, IsTorn, Completes, Faults, Breaks, Ended, went, stopped, broken, Runs, IfWent, Stands, Moment, moment, world, held_in, at, MadeAt, GoesOn, Along, Operation, Bars, Opens, Appends, Changes, Held, device_calls, after}
+use Rattle.dkg_store.specs.Secrets.{Secrets}
+use Rattle.dkg_store.proofs.Tried.{nothing_done}
+
+-- ONE AFTER ANOTHER
+
+module _ {F S T : Type 0} (next : S → Acts F T) where
+  completes_next : (acts : Acts F S) (w mid new : World) (end : S) (last : T) → Completes acts end w mid → Completes (next end) last mid new → Completes (bind acts next) last w new
+  completes_next (Say line acts) w mid new end last a b = completes_next acts (says w line) mid new end last a b
+  completes_next (Do op acts) w mid new end last a b = completes_next acts (does w op) mid new end last a b
+  completes_next (Ask f) w mid new end last a b = completes_next (f w.held) w mid new end last a b
+  completes_next (Goes its) w mid new end last a b = subst (λ (x : World). Completes (next its) last x new) a.0 (subst (λ (s : S). Completes (next s) last mid new) a.1 b)
+  completes_next (Stops fault) w mid new end last a b = absurd a
+
+  faults_next : (acts : Acts F S) (w mid new : World) (end : S) (fault : F) → Completes acts end w mid → Faults (next end) fault mid new → Faults (bind acts next) fault w new
+  faults_next (Say line acts) w mid new end fault a b = faults_next acts (says w line) mid new end fault a b
+  faults_next (Do op acts) w mid new end fault a b = faults_next acts (does w op) mid new end fault a b
+  faults_next (Ask f) w mid new end fault a b = faults_next (f w.held) w mid new end fault a b
+  faults_next (Goes its) w mid new end fault a b = subst (λ (x : World). Faults (next its) fault x new) a.0 (subst (λ (s : S). Faults (next s) fault mid new) a.1 b)
+  faults_next (Stops its) w mid new end fault a b = absurd a
+
+  breaks_next : (acts : Acts F S) (w mid new : World) (end : S) → Completes acts end w mid → Breaks (next end) mid new → Breaks (bind acts next) w new
+  breaks_next (Say line acts) w mid new end a b = inr (breaks_next acts (says w line) mid new end a b)
+  breaks_next (Do op acts) w mid new end a b = inr (breaks_next acts (does w op) mid new end a b)
+  breaks_next (Ask f) w mid new end a b = breaks_next (f w.held) w mid new end a b
+  breaks_next (Goes its) w mid new end a b = subst (λ (x : World). Breaks (next its) x new) a.0 (subst (λ (s : S). Breaks (next s) mid new) a.1 b)
+  breaks_next (Stops fault) w mid new end a b = absurd a
+
+  faults_first : (acts : Acts F S) (w new : World) (fault : F) → Faults acts fault w new → Faults (bind acts next) fault w new
+  faults_first (Say line acts) w new fault a = faults_first acts (says w line) new fault a
+  faults_first (Do op acts) w new fault a = faults_first acts (does w op) new fault a
+  faults_first (Ask f) w new fault a = faults_first (f w.held) w new fault a
+  faults_first (Goes end) w new fault a = absurd a
+  faults_first (Stops its) w new fault a = a
+
+  runs_next : (acts : Acts F S) (ended : Ended F T) (w mid new : World) (end : S) → Completes acts end w mid → Runs (next end) ended mid new → Runs (bind acts next) ended w new
+  runs_next acts (went last) w mid new end a b = completes_next acts w mid new end last a b
+  runs_next acts (stopped fault) w mid new end a b = faults_next acts w mid new end fault a b
+  runs_next acts broken w mid new end a b = breaks_next acts w mid new end a b
+
+untorn : (op : Operation) (h : Held) → IsTorn op h h
+untorn Bars h = refl
+untorn (Opens calls) h = refl
+untorn (Appends there e) h = inl refl
+untorn (Changes op) h = (refl, nothing_done op h.secrets h.secrets refl)
+
+-- nothing was run
+pub breaks_none : {F S : Type 0} (acts : Acts F S) (w : World) → Breaks acts w w
+breaks_none (Say line acts) w = inl refl
+breaks_none (Do op acts) w = inl (record { same = refl; torn = untorn op w.held; calls = 0; most = omega arith; fuse = refl })
+breaks_none (Ask f) w = breaks_none (f w.held) w
+breaks_none (Goes end) w = refl
+breaks_none (Stops fault) w = refl
+
+module _ {F S T : Type 0} (next : S → Acts F T) where
+  breaks_first : (acts : Acts F S) (w new : World) → Breaks acts w new → Breaks (bind acts next) w new
+  breaks_first (Say line acts) w new (inl none) = inl none
+  breaks_first (Say line acts) w new (inr more) = inr (breaks_first acts (says w line) new more)
+  breaks_first (Do op acts) w new (inl torn) = inl torn
+  breaks_first (Do op acts) w new (inr more) = inr (breaks_first acts (does w op) new more)
+  breaks_first (Ask f) w new b = breaks_first (f w.held) w new b
+  breaks_first (Goes end) w new none = subst (λ (x : World). Breaks (next end) w x) (sym none) (breaks_none (next end) w)
+  breaks_first (Stops fault) w new none = none
+
+module _ {F S T : Type 0} {acts : Acts F S} {files : Files} {image : Files → Type 0} {old : Moment} (next : S → Acts F T) where
+  -- the first acts were broken off
+  pub made_broken : {files_now : Files} {now : Files → Type 0} {new : Moment} → MadeAt acts broken files image files_now now old new → MadeAt (bind acts next) broken files image files_now now old new
+  made_broken {new = new} first = record {
+    made = λ stands c here. breaks_first next acts (at old files) (at new c) (first.made stands c here);
+    stands = tt;
+  }
+
+  -- .. or stopped
+  pub made_stopped : {files_now : Files} {now : Files → Type 0} {new : Moment} {fault : F} → MadeAt acts (stopped fault) files image files_now now old new → MadeAt (bind acts next) (stopped fault) files image files_now now old new
+  made_stopped {new = new} {fault = fault} first = record {
+    made = λ stands c here. faults_first next acts (at old files) (at new c) fault (first.made stands c here);
+    stands = tt;
+  }
+
+  -- .. or they went to their end, and the next were run
+  pub made_next : {files_mid files_now : Files} {between now : Files → Type 0} {mid new : Moment} {end : S} {ended : Ended F T}
+      → MadeAt acts (went end) files image files_mid between old mid → MadeAt (next end) ended files_mid between files_now now mid new → MadeAt (bind acts next) ended files image files_now now old new
+  made_next {files_mid = files_mid} {files_now = files_now} {between = between} {now = now} {mid = mid} {new = new} {end = end} {ended = ended} first second = record {
+    made = λ stands c here.
+        let stood = first.stands stands in
+        runs_next next acts ended (at old files) (at mid files_mid) (at new c) end (first.made stands files_mid stood.itself) (second.made stood c here);
+    stands = stood_again ended second.stands;
+  }
+    where
+      stood_again : (how : Ended F T) → IfWent how (Stands files_mid between → Stands files_now now) → IfWent how (Stands files image → Stands files_now now)
+      stood_again (went last) then = λ stands. then (first.stands stands)
+      stood_again (stopped fault) then = tt
+      stood_again broken then = tt
+
+-- NOTHING, OR A LINE
+
+same_place : (files : Files) (image : Files → Type 0) (m : Moment) → Stands files image → (c : Files) → image c → at m c ≡ at m files
+same_place files image m stands c here = ap (at m) (stands.lands.only c here)
+
+module _ {F S : Type 0} (files : Files) (image : Files → Type 0) where
+  pub made_nothing : {end its : S} (m : Moment) → end ≡ its → MadeAt {F = F} (Goes its) (went end) files image files image m m
+  made_nothing m is = record { made = λ stands c here. (same_place files image m stands c here, is); stands = λ stands. stands }
+
+  pub made_none : (acts : Acts F S) {how : Ended F S} (m : Moment) → how ≡ broken → MadeAt acts how files image files image m m
+  made_none acts m is = subst (λ (x : Ended F S). MadeAt acts x files image files image m m) (sym is) (record {
+    made = λ stands c here. subst (λ (w : World). Breaks acts (at m files) w) (sym (same_place files image m stands c here)) (breaks_none acts (at m files));
+    stands = tt;
+  })
+
+  pub made_none_said : (acts : Acts F S) {how : Ended F S} {out now : List Line} {s : Secrets} {f : Burn} → now ≡ out → how ≡ broken → MadeAt acts how files image files image (moment out s f) (moment now s f)
+  made_none_said acts {how} {out} {now} {s} {f} same is = subst (λ (l : List Line). MadeAt acts how files image files image (moment out s f) (moment l s f)) (sym same) (made_none acts (moment out s f) is)
+
+  pub made_none_held : (acts : Acts F S) {how : Ended F S} {out : List Line} {s now : Secrets} {f : Burn} → now ≡ s → how ≡ broken → MadeAt acts how files image files image (moment out s f) (moment out now f)
+  made_none_held acts {how} {out} {s} {now} {f} same is = subst (λ (t : Secrets). MadeAt acts how files image files image (moment out s f) (moment out t f)) (sym same) (made_none acts (moment out s f) is)
+
+  -- the devices were read
+  pub made_read : (view : Held → S) {end : S} {out : List Line} {s now : Secrets} {f : Burn} → now ≡ s → end ≡ view (held_in files s) → MadeAt {F = F} (Ask (λ h. Goes (view h))) (went end) files image files image (moment out s f) (moment out now f)
+  made_read view {end} {out} {s} {now} {f} same is = subst (λ (t : Secrets). MadeAt {F = F} (Ask (λ h. Goes (view h))) (went end) files image files image (moment out s f) (moment out t f)) (sym same) (record {
+    made = λ stands c here. (same_place files image (moment out s f) stands c here, is);
+    stands = λ stands. stands;
+  })
+
+  -- acts on secrets alone
+  pub made_of_secrets : {acts : Acts F S} {how : Ended F S} {out : List Line} {s now : Secrets} {f g : Burn} → ((notes : List Entry) (plan : Option (List ℕ)) → Runs acts how (world out notes plan s f) (world out notes plan now g)) → MadeAt acts how files image files image (moment out s f) (moment out now g)
+  made_of_secrets {acts} {how} {out} {s} {now} {f} {g} runs = record {
+    made = λ stands c here. subst (λ (w : World). Runs acts how (at (moment out s f) files) w) (sym (same_place files image (moment out now g) stands c here)) (runs (entries files) (get files Plan));
+    stands = stood how;
+  }
+    where
+      stood : (ended : Ended F S) → IfWent ended (Stands files image → Stands files image)
+      stood (went end) = λ stands. stands
+      stood (stopped fault) = tt
+      stood broken = tt
+
+  pub made_say : (line : Line) (end : S) (out now : List Line) (s : Secrets) (f : Burn) → now ≡ out ++ line ∷ [] → MadeAt {F = F} (Say line (Goes end)) (went end) files image files image (moment out s f) (moment now s f)
+  made_say line end out now s f is = record {
+    made = λ stands c here. (same_place files image (moment now s f) stands c here ∙ ap (λ (l : List Line). record { out = l; held = held_in files s; fuse = f }) is, refl);
+    stands = λ stands. stands;
+  }
+
+-- a loop that has begun, one turn more, and its end
+pub goes_on_first : {F S : Type 0} (acts : Acts F S) (files : Files) (image : Files → Type 0) (old : Moment) → GoesOn acts acts files image files image old old
+goes_on_first acts files image old = record { stood = λ stands. stands; on = λ stands ended new runs. runs }
+
+pub goes_on_next : {F R S : Type 0} {whole : Acts F R} {first : Acts F S} (next : S → Acts F R) {files files_here files_mid : Files} {image here between : Files → Type 0} {old mid new : Moment} {end : S}
+    → GoesOn whole (bind first next) files image files_here here old mid → MadeAt first (went end) files_here here files_mid between mid new → GoesOn whole (next end) files image files_mid between old new
+goes_on_next {first = first} next {files_here = files_here} {files_mid = files_mid} {mid = mid} {new = new} {end = end} goes made = record {
+  stood = λ stands. made.stands (goes.stood stands);
+  on = λ stands ended last runs.
+      let here = goes.stood stands in
+      goes.on stands ended last (runs_next next first ended (at mid files_here) (at new files_mid) last end (made.made here files_mid (made.stands here).itself) runs);
+}
+
+pub goes_on_last : {F S : Type 0} {whole rest : Acts F S} {files files_here files_now : Files} {image here now : Files → Type 0} {old mid new : Moment} {ended : Ended F S}
+    → GoesOn whole rest files image files_here here old mid → MadeAt rest ended files_here here files_now now mid new → MadeAt whole ended files image files_now now old new
+goes_on_last {F = F} {S = S} {files = files} {files_here = files_here} {files_now = files_now} {image = image} {here = here} {now = now} {new = new} {ended = ended} goes made = record {
+  made = λ stands c left. goes.on stands ended (at new c) (made.made (goes.stood stands) c left);
+  stands = stood ended made.stands;
+}
+  where
+    stood : (how : Ended F S) → IfWent how (Stands files_here here → Stands files_now now) → IfWent how (Stands files image → Stands files_now now)
+    stood (went end) then = λ stands. then (goes.stood stands)
+    stood (stopped fault) then = tt
+    stood broken then = tt
+
+-- ALONG THEM
+
+module _ {F S : Type 0} (P : World → Type 0) where
+  pub along_breaks : (acts : Acts F S) (w new : World) → Along P acts w → Breaks acts w new → P new
+  along_breaks (Say line acts) w new (here, later) (inl none) = subst P (sym none) here
+  along_breaks (Say line acts) w new (here, later) (inr more) = along_breaks acts (says w line) new later more
+  along_breaks (Do op acts) w new (torn, later) (inl tears) = torn new tears
+  along_breaks (Do op acts) w new (torn, later) (inr more) = along_breaks acts (does w op) new later more
+  along_breaks (Ask f) w new along b = along_breaks (f w.held) w new along b
+  along_breaks (Goes end) w new here none = subst P (sym none) here
+  along_breaks (Stops fault) w new here none = subst P (sym none) here
+
+  pub along_completes : (acts : Acts F S) (w new : World) (end : S) → Along P acts w → Completes acts end w new → P new
+  along_completes (Say line acts) w new end (here, later) all = along_completes acts (says w line) new end later all
+  along_completes (Do op acts) w new end (torn, later) all = along_completes acts (does w op) new end later all
+  along_completes (Ask f) w new end along all = along_completes (f w.held) w new end along all
+  along_completes (Goes its) w new end here all = subst P (sym all.0) here
+  along_completes (Stops fault) w new end here all = absurd all
+
+  pub along_faults : (acts : Acts F S) (w new : World) (fault : F) → Along P acts w → Faults acts fault w new → P new
+  along_faults (Say line acts) w new fault (here, later) all = along_faults acts (says w line) new fault later all
+  along_faults (Do op acts) w new fault (torn, later) all = along_faults acts (does w op) new fault later all
+  along_faults (Ask f) w new fault along all = along_faults (f w.held) w new fault along all
+  along_faults (Goes end) w new fault here all = absurd all
+  along_faults (Stops its) w new fault here all = subst P (sym all.0) here
+
+  -- wherever they ended
+  pub along_runs : (acts : Acts F S) (ended : Ended F S) (w new : World) → Along P acts w → Runs acts ended w new → P new
+  along_runs acts (went end) w new along all = along_completes acts w new end along all
+  along_runs acts (stopped fault) w new along all = along_faults acts w new fault along all
+  along_runs acts broken w new along all = along_breaks acts w new along all
+
+-- a fuse counts each call
+pub burnt-burned : {O : Type 0} (ops : List O) (f : Burn) → burned ops f ≡ burnt (length ops) f
+burnt-burned [] f = refl
+burnt-burned (op ∷ ops) f = burnt-burned ops (spent_once f)
+
+pub no_more : {O : Type 0} (first rest calls : List O) → calls ≡ first ++ rest → length first ≤ length calls
+no_more first rest calls is = let n : length calls ≡ length (first ++ rest) = ap length is in let m = length-append first rest in omega arith

@@ -1,0 +1,6 @@
+use Rattle.dkg_journal.specs.Records.{entries}
+use Rattle.dkg_store.proofs.Halves.{recovered_at, prune_halves}
+use Rattle.dkg_store.proofs.store.Store.prune.Goals as goal
+
+pub returns-clause-recovers : goal.returns-clause-recovers
+returns-clause-recovers g c = λ image here key above. recovered_at (g.X.SecretStore.held c.args.devices.now.secrets.now) (g.X.SecretStore.held c.perform_secret.new.secrets) key (entries image) (prune_halves c.args.min (g.X.SecretStore.held c.args.devices.now.secrets.now) (g.X.SecretStore.held c.perform_secret.new.secrets) key c.perform_secret.ensures.crash above)

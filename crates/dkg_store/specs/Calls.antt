@@ -1,0 +1,87 @@
+-- What the calls of a store and of a player mean, as acts.
+use Rattle.std.specs.Prelude.{ℕ, List, Bool, true, false, Option, Some, None, Result, Ok, Err, if◌then◌else◌}
+use Rattle.std.specs.FinMap.{get}
+use Rattle.dkg_ceremony.specs.declared.ceremony.DealingError.{DealingError}
+use Rattle.dkg_journal.specs.Records.{Entry}
+use Rattle.dkg_types.specs.declared.entry.Entry.TheVariants.{Recorded}
+use Rattle.dkg_store.specs.Acts.{Acts, Say, Do, Ask, Goes, Stops, bind, Bars, Opens, Appends, Changes, Ended, went, stopped, broken}
+use Rattle.dkg_store.specs.Events.{event_spelling}
+use Rattle.dkg_store.specs.Pairs.{Pairs, recovered}
+use Rattle.dkg_store.specs.declared.call.StoreError.{StoreError}
+use Rattle.dkg_store.specs.declared.call.StoreError.TheVariants.{Disk, Secrets, Corrupt, LocalState, StateSyncEpochs, StateSyncMaterial, Cut, NoMemory}
+use Rattle.dkg_store.specs.declared.player.DealingHandleError.{DealingHandleError}
+use Rattle.dkg_store.specs.declared.player.DealingHandleError.TheVariants.{Refused, Store as OfStore}
+use Rattle.dkg_store.specs.declared.secrets.SecretOp.{SecretOp}
+use Rattle.dkg_store.specs.declared.secrets.SecretOp.TheVariants.{PutShare, PutSeed, PutDealing, Prune}
+
+-- A device, a cut and want of memory end acts anywhere. Any other error is one that acts stop by.
+abbrev pub by_error : {S : Type 0} → StoreError → Ended StoreError S
+by_error Disk = broken
+by_error Secrets = broken
+by_error Cut = broken
+by_error NoMemory = broken
+by_error (Corrupt name place) = stopped (Corrupt name place)
+by_error (LocalState cause) = stopped (LocalState cause)
+by_error (StateSyncEpochs info floor) = stopped (StateSyncEpochs info floor)
+by_error StateSyncMaterial = stopped StateSyncMaterial
+
+abbrev pub ended_as : {T S : Type 0} → (T → S) → Result T StoreError → Ended StoreError S
+ended_as view (Ok end) = went (view end)
+ended_as view (Err error) = by_error error
+
+abbrev pub ended : {S : Type 0} → Result S StoreError → Ended StoreError S
+ended result = ended_as (λ end. end) result
+
+-- a player's refusal is an answer
+abbrev pub answered : {A : Type 0} → Result A DealingHandleError → Ended StoreError (Result A DealingError)
+answered (Ok ack) = went (Ok ack)
+answered (Err (Refused error)) = went (Err error)
+answered (Err (OfStore error)) = by_error error
+
+-- a put, and then an append
+abbrev pub put_and_appended : {S : Type 0} → SecretOp → (there : Bool) → Entry → S → Acts StoreError S
+put_and_appended op there e end = Do (Changes op) (Do (Appends there e) (Goes end))
+
+-- The record of a dealing: nothing where it is recorded already.
+abbrev pub recording : (known there : Bool) → (epoch dealer : ℕ) → List ℕ → ℕ → Acts StoreError Bool
+recording known there epoch dealer public private = if known then Goes false else put_and_appended (PutDealing epoch dealer private) there (epoch, event_spelling dealer public) true
+
+-- a new dealing is recorded, told, and acknowledged
+abbrev pub keeping : {S : Type 0} → (there : Bool) → (epoch dealer : ℕ) → (public told : List ℕ) → ℕ → S → Acts StoreError S
+keeping there epoch dealer public told private end =
+    Do (Changes (PutDealing epoch dealer private)) (Do (Appends there (epoch, event_spelling dealer public)) (Say (Recorded epoch dealer told private) (Goes end)))
+
+-- A new dealing is checked first.
+abbrev pub accepting : (check : Result (Unit {0}) DealingError) → (there : Bool) → (epoch dealer : ℕ) → List ℕ → ℕ → (ack : List ℕ) → Acts StoreError (Result (List ℕ) DealingError)
+accepting (Err error) there epoch dealer public private ack = Goes (Err error)
+accepting (Ok done) there epoch dealer public private ack = keeping there epoch dealer public public private (Ok ack)
+
+-- To a dealer whose dealing is recorded the answer is the acknowledgement of that.
+abbrev pub answering : (ack_of : List ℕ → List ℕ) → Option (List ℕ × ℕ) → (check : Result (Unit {0}) DealingError) → (there : Bool) → (epoch dealer : ℕ) → List ℕ → ℕ → Acts StoreError (Result (List ℕ) DealingError)
+answering ack_of (Some pair) check there epoch dealer public private = Goes (Ok (ack_of pair.0))
+answering ack_of None check there epoch dealer public private = accepting check there epoch dealer public private (ack_of public)
+
+-- The barrier and the journal's opening.
+abbrev pub opens : (calls : ℕ) → Acts StoreError (Unit {0})
+opens calls = Do Bars (Do (Opens calls) (Goes tt))
+
+abbrev pub opened : {T : Type 0} → Result T StoreError → Ended StoreError (Unit {0})
+opened result = ended_as (λ journal. tt) result
+
+-- An opening, over devices whose records are whole and whose bodies are events: what is restored.
+abbrev pub opening : (calls : ℕ) → Acts StoreError Pairs
+opening calls = Do Bars (Do (Opens calls) (Ask (λ h. Goes (recovered h.notes h.secrets))))
+
+abbrev pub sharing : ℕ → Acts StoreError (Option ℕ)
+sharing epoch = Ask (λ h. Goes (get h.secrets.shares epoch))
+
+abbrev pub seeding : ℕ → Acts StoreError (Option (List ℕ))
+seeding epoch = Ask (λ h. Goes (get h.secrets.seeds epoch))
+
+-- the share, if there is one, and then the seed
+abbrev pub committing : ℕ → List ℕ → Option ℕ → Acts StoreError (Unit {0})
+committing epoch seed None = Do (Changes (PutSeed epoch seed)) (Goes tt)
+committing epoch seed (Some share) = Do (Changes (PutShare epoch share)) (Do (Changes (PutSeed epoch seed)) (Goes tt))
+
+abbrev pub pruning : ℕ → Acts StoreError (Unit {0})
+pruning min = Do (Changes (Prune min)) (Goes tt)

@@ -1,0 +1,23 @@
+-- The records for which a store is not opened.
+use Rattle.std.specs.Prelude.{◌≡◌, ◌⊎◌, ℕ, List, Option, Some, None, true}
+use Rattle.std.specs.List.{AllByRecursion}
+use Rattle.dkg_journal.specs.Names.{Files}
+use Rattle.dkg_journal.specs.Opening.{broken}
+use Rattle.dkg_journal.specs.Records.{Entry, entries}
+use Rattle.dkg_journal.specs.Views.{views}
+use Rattle.dkg_journal.specs.declared.opening.JournalEntry.{JournalEntry}
+use Rattle.dkg_store.specs.Events.{is_event, no_event_at}
+
+-- the body of each entry is an event within the limit
+abbrev pub AreEvents : ℕ → List Entry → Type 0
+AreEvents limit es = AllByRecursion (λ e. is_event limit e.1 ≡ true) es
+
+-- These are the entries of the files, each with its place, and the one at this place is the first that is no event.
+pub record HasNoEvent (limit : ℕ) (files : Files) (place : ℕ) : Type 0 where
+  pub read : List JournalEntry
+  pub are : views read ≡ entries files
+  pub first : no_event_at limit read ≡ Some place
+
+-- A record that is not whole stands there. Or all are whole, and a body is no event within the limit.
+pub record IsCorruptAt (limit : ℕ) (files : Files) (place : ℕ) : Type 0 where
+  pub so : (broken files ≡ Some place) ⊎ ((broken files ≡ None) × HasNoEvent limit files place)

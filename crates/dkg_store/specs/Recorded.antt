@@ -1,0 +1,28 @@
+-- What an opening restored, and the dealings of one epoch.
+use Rattle.std.specs.Prelude.{ℕ, ◌^◌, ◌&&◌, ◌==◌, nat_lt, List, [], ◌∷◌, map, Option, Some, None, Result, Ok, Err, filter}
+use Rattle.std.specs.FinMap as map_of
+use Rattle.dkg_types.specs.declared.entry.Restored.{Restored}
+use Rattle.dkg_store.specs.Pairs.{Pairs}
+
+abbrev pub Pair : Type 0
+Pair = (ℕ × ℕ) × (List ℕ × ℕ)
+
+abbrev pub restored_of : Pair → Restored
+restored_of p = record { epoch = p.0.0; dealer = p.0.1; public = p.1.0; private = p.1.1 }
+
+-- the dealings by epoch and dealer, rising
+abbrev pub restored_list : Pairs → List Restored
+restored_list pairs = map restored_of (map_of.entries pairs)
+
+-- the dealings of an epoch by dealer, rising (a dealer is below 2^32)
+abbrev pub of_epoch : ℕ → Pairs → List Pair
+of_epoch epoch pairs = filter (λ p. (p.0.0 == epoch) && nat_lt p.0.1 (2 ^ 32)) (map_of.entries pairs)
+
+abbrev pub refused_or : {E : Type 0} → Result (Unit {0}) E → ℕ → Option ℕ → Option ℕ
+refused_or (Ok u) dealer later = later
+refused_or (Err e) dealer later = Some dealer
+
+-- the first dealer whose dealing the check refuses
+abbrev pub first_refused : {E : Type 0} → (ℕ → List ℕ → ℕ → Result (Unit {0}) E) → List Pair → Option ℕ
+first_refused check [] = None
+first_refused check (p ∷ ps) = refused_or (check p.0.1 p.1.0 p.1.1) p.0.1 (first_refused check ps)
