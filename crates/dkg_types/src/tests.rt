@@ -124,6 +124,20 @@ fn edited_payloads_are_refused(rt: HostRuntime) -> Result<(), Fail> {
 }
 
 #[test]
+fn an_info_is_spelled_as_it_was_read(rt: HostRuntime) -> Result<(), Fail> {
+    let alloc = rt.alloc();
+    let value = info(alloc)?;
+    assert_eq!(rt; value.epoch, Epoch(0));
+    let copy = value.copy(alloc)?;
+    assert!(rt; copy.same(&value));
+    let bytes = encode(alloc, &copy)?;
+    assert_eq!(rt; bytes.as_slice(), INFO.as_slice());
+    let payload = encode(alloc, &Payload::EpochInfo(copy))?;
+    assert_eq!(rt; payload.as_slice(), PAYLOAD.as_slice());
+    Ok(())
+}
+
+#[test]
 fn bounds_are_those_of_four_participants(rt: HostRuntime) -> Result<(), Fail> {
     let max = four()?;
     assert_eq!(rt; EpochInfo::<Unit>::max_encode_size(max), 143);
