@@ -56,6 +56,87 @@ fn fault_at<T: Read + Drop>(
     Ok(fault_of(decode_cfg::<T>(alloc, &bytes[..len], cfg)))
 }
 
+fn fault_of_info(alloc: Global, at: (usize, u8, usize)) -> Result<Option<CodecError>, Fail> {
+    let limits = (four()?, ModeVersion(0));
+    fault_at::<EpochInfo<Unit>>(alloc, &INFO, at, &limits)
+}
+
+#[test]
+fn edited_infos_are_refused(rt: HostRuntime) -> Result<(), Fail> {
+    let rows: [(usize, u8, usize, Option<CodecError>); 10] = [
+        (0, 1, 88, None),
+        (0, 2, 88, Some(CodecError::InvalidEnum(2))),
+        (1, 0x80, 88, Some(CodecError::InvalidVarint)),
+        (10, 1, 88, Some(CodecError::InvalidEnum(1))),
+        (11, 3, 88, Some(CodecError::Invalid(What::Output))),
+        (
+            54,
+            5,
+            88,
+            Some(CodecError::InvalidLength { got: 5, max: 4 }),
+        ),
+        (58, 2, 88, Some(CodecError::Invalid(What::Set))),
+        (71, 3, 88, Some(CodecError::ExtraData)),
+        (87, 9, 87, Some(CodecError::EndOfBuffer)),
+        (12, 0x80, 88, Some(CodecError::InvalidVarint)),
+    ];
+    for (place, byte, len, want) in rows {
+        let fault = fault_of_info(rt.alloc(), (place, byte, len))?;
+        assert_eq!(rt; fault, want, "{byte} at {place} of {len}");
+    }
+    Ok(())
+}
+
+/// The worked info as a payload.
+const PAYLOAD: [u8; 89] = [
+    1, 0, 0, 0, 0, 0, 0, 0, 0, 0, 0, 0, 4, 3, 0, 5, 0, 1, 0, 2, 4, 0, 0, 0, 1, 0, 0, 0, 2, 0, 0, 0,
+    3, 0, 0, 0, 4, 4, 0, 0, 0, 1, 0, 0, 0, 2, 0, 0, 0, 3, 0, 0, 0, 4, 0, 4, 0, 0, 0, 1, 0, 0, 0, 2,
+    0, 0, 0, 3, 0, 0, 0, 4, 4, 0, 0, 0, 1, 0, 0, 0, 2, 0, 0, 0, 3, 0, 0, 0, 4,
+];
+
+fn fault_of_payload(alloc: Global, at: (usize, u8, usize)) -> Result<Option<CodecError>, Fail> {
+    let limits = (four()?, ModeVersion(0));
+    fault_at::<Payload<Unit>>(alloc, &PAYLOAD, at, &limits)
+}
+
+#[test]
+fn edited_payloads_are_refused(rt: HostRuntime) -> Result<(), Fail> {
+    let rows: [(usize, u8, usize, Option<CodecError>); 8] = [
+        (0, 1, 89, None),
+        (0, 2, 89, Some(CodecError::InvalidEnum(2))),
+        (0, 1, 0, Some(CodecError::EndOfBuffer)),
+        (1, 2, 89, Some(CodecError::InvalidEnum(2))),
+        (2, 0x80, 89, Some(CodecError::InvalidVarint)),
+        (
+            55,
+            5,
+            89,
+            Some(CodecError::InvalidLength { got: 5, max: 4 }),
+        ),
+        (12, 3, 89, Some(CodecError::Invalid(What::Output))),
+        (72, 3, 89, Some(CodecError::ExtraData)),
+    ];
+    for (place, byte, len, want) in rows {
+        let fault = fault_of_payload(rt.alloc(), (place, byte, len))?;
+        assert_eq!(rt; fault, want, "{byte} at {place} of {len}");
+    }
+    Ok(())
+}
+
+#[test]
+fn an_info_is_spelled_as_it_was_read(rt: HostRuntime) -> Result<(), Fail> {
+    let alloc = rt.alloc();
+    let value = info(alloc)?;
+    assert_eq!(rt; value.epoch, Epoch(0));
+    let copy = value.copy(alloc)?;
+    assert!(rt; copy.same(&value));
+    let bytes = encode(alloc, &copy)?;
+    assert_eq!(rt; bytes.as_slice(), INFO.as_slice());
+    let payload = encode(alloc, &Payload::EpochInfo(copy))?;
+    assert_eq!(rt; payload.as_slice(), PAYLOAD.as_slice());
+    Ok(())
+}
+
 #[test]
 fn bounds_are_those_of_four_participants(rt: HostRuntime) -> Result<(), Fail> {
     let max = four()?;
@@ -64,6 +145,65 @@ fn bounds_are_those_of_four_participants(rt: HostRuntime) -> Result<(), Fail> {
     assert_eq!(rt; Block::<Unit>::max_encode_size(max), 253);
     assert_eq!(rt; Message::max_encode_size(max), 16);
     assert_eq!(rt; max_payload_size(max), 26);
+    Ok(())
+}
+
+fn participants(
+    alloc: Global,
+    (dealers, players, next_players): (u32, u32, u32),
+) -> Result<Participants, Fail> {
+    Ok(Participants {
+        dealers: keys(alloc, dealers)?,
+        players: keys(alloc, players)?,
+        next_players: keys(alloc, next_players)?,
+    })
+}
+
+fn validated(
+    alloc: Global,
+    sizes: (u32, u32, u32),
+    max: u32,
+    round: Option<u64>,
+) -> Result<Result<(), ParticipantsError>, Fail> {
+    let participants = participants(alloc, sizes)?;
+    let max = NonZeroU32::new(max).ok_or("a limit is not zero")?;
+    let info = info(alloc)?;
+    match round {
+        None => Ok(participants.validate(max, None, 0)),
+        Some(round) => Ok(participants.validate(max, Some(&info.output), round)),
+    }
+}
+
+#[test]
+fn participants_are_validated_in_order(rt: HostRuntime) -> Result<(), Fail> {
+    let above = |actual, max| Err(ParticipantsError::TooManyParticipants { actual, max });
+    let rows = [
+        ((1, 4, 0), 3, None, above(4, 3)),
+        ((0, 0, 9), 3, None, Err(ParticipantsError::EmptyDealers)),
+        ((9, 0, 9), 3, None, Err(ParticipantsError::EmptyPlayers)),
+        ((5, 6, 7), 4, None, above(5, 4)),
+        ((4, 6, 7), 4, None, above(6, 4)),
+        ((4, 4, 7), 4, Some(0), above(7, 4)),
+        (
+            (3, 4, 4),
+            4,
+            Some(0),
+            Err(ParticipantsError::InitialReshareDealers),
+        ),
+        ((3, 4, 4), 4, Some(1), Ok(())),
+        (
+            (5, 4, 4),
+            5,
+            Some(1),
+            Err(ParticipantsError::UnknownReshareDealer),
+        ),
+        ((4, 4, 0), 4, Some(0), Ok(())),
+        ((5, 5, 5), 5, None, Ok(())),
+    ];
+    for (sizes, max, round, want) in rows {
+        let answer = validated(rt.alloc(), sizes, max, round)?;
+        assert_eq!(rt; answer, want, "of {sizes:?} under {max}");
+    }
     Ok(())
 }
 
@@ -102,6 +242,44 @@ fn messages_are_spelled_as_they_were_read(rt: HostRuntime) -> Result<(), Fail> {
     assert_eq!(rt; fault, Some(CodecError::InvalidEnum(2)));
     let fault = fault_of(decode_cfg::<Message>(alloc, &dealing[..9], &4));
     assert_eq!(rt; fault, Some(CodecError::EndOfBuffer));
+    Ok(())
+}
+
+#[test]
+fn participants_are_spelled_as_they_were_read(rt: HostRuntime) -> Result<(), Fail> {
+    let alloc = rt.alloc();
+    let value = participants(alloc, (2, 3, 1))?;
+    let copy = value.copy(alloc)?;
+    let bytes = encode(alloc, &copy)?;
+    let again = decode_cfg::<Participants>(alloc, bytes.as_slice(), &3)?;
+    assert!(rt; again.same(&value));
+    Ok(())
+}
+
+/// The peers of two dealers, three players, and the next players 9 and 2.
+fn tracked(alloc: Global) -> Result<TrackedPeers, Fail> {
+    let dealers = keys(alloc, 2)?;
+    let players = keys(alloc, 3)?;
+    let next_players = Set::from_any(alloc, &[Key(9), Key(2)])?;
+    if players.len() > 9 || next_players.len() > 9 {
+        return Err(Fail::from("too many keys"));
+    }
+    let participants = Participants {
+        dealers,
+        players,
+        next_players,
+    };
+    Ok(participants.tracked_peers(alloc)?)
+}
+
+#[test]
+fn players_are_tracked_beside_dealers(rt: HostRuntime) -> Result<(), Fail> {
+    let alloc = rt.alloc();
+    let peers = tracked(alloc)?.copy(alloc)?;
+    assert_eq!(rt; peers.primary.len(), 2);
+    let want = [Key(1), Key(2), Key(3), Key(9)];
+    assert_eq!(rt; peers.secondary.as_slice(), want.as_slice());
+    assert_eq!(rt; info(alloc)?.participants(alloc)?.players.len(), 4);
     Ok(())
 }
 
@@ -365,6 +543,35 @@ fn addresses(alloc: Global, both: bool) -> Mem<Addresses> {
         return Err(NoMemory);
     }
     Addresses::from_pairs(alloc, pairs)
+}
+
+#[test]
+fn a_directory_matches_its_keys_alone(rt: HostRuntime) -> Result<(), Fail> {
+    let alloc = rt.alloc();
+    let directory = addresses(alloc, true)?;
+    let rows = [(2, true), (3, false), (1, false)];
+    for (count, want) in rows {
+        assert_eq!(rt; directory.matches(&keys(alloc, count)?), want, "of {count}");
+    }
+    assert_eq!(rt; directory.get(Key(2)), Some(&TWO));
+    assert_eq!(rt; directory.get(Key(3)), None);
+    Ok(())
+}
+
+#[test]
+fn a_directory_is_spelled_as_a_map(rt: HostRuntime) -> Result<(), Fail> {
+    let alloc = rt.alloc();
+    let directory = addresses(alloc, true)?;
+    let copy = directory.copy(alloc)?;
+    assert!(rt; copy.same(&directory));
+    let again = Addresses::from_map(copy.into_inner());
+    let bytes = encode(alloc, &again)?;
+    let want = [
+        2, 0, 0, 0, 1, 0, 0, 0, 2, 2, 0, 0, 0, 0, 1, 0, 1, 1, 0, 0, 0, 2, 0, 2, 0, 0, 0, 3, 0, 3,
+    ];
+    assert_eq!(rt; bytes.as_slice(), want.as_slice());
+    assert_eq!(rt; again.size(), 30);
+    Ok(())
 }
 
 /// A manager of peers that keeps the last set that it was handed.
