@@ -1,6 +1,16 @@
+pub mod CutWrites
 pub mod EachEntry
 pub mod Hex
 pub mod Numbers
 pub mod OneAck
+pub mod OneDealing
+pub mod Rounds
+pub mod SentAgain
 pub mod Starting
+pub mod Steps
+pub mod Stores
 pub mod Survives
+pub mod Trials
+pub mod TwoEpochs
+pub mod Worked
+pub mod WrongBodies
