@@ -1,10 +1,15 @@
+pub mod AnyDevices
+pub mod Beginning
 pub mod CutWrites
 pub mod EachEntry
 pub mod Hex
+pub mod Honest
 pub mod Numbers
 pub mod OneAck
 pub mod OneDealing
+pub mod Plain
 pub mod Rounds
+pub mod ScriptedCuts
 pub mod SentAgain
 pub mod Starting
 pub mod Steps
