@@ -2,6 +2,7 @@ pub mod AnyDevices
 pub mod Beginning
 pub mod CutWrites
 pub mod EachEntry
+pub mod Edges
 pub mod Hex
 pub mod Honest
 pub mod Numbers
@@ -9,6 +10,7 @@ pub mod OneAck
 pub mod OneDealing
 pub mod Plain
 pub mod Rounds
+pub mod RunsPastACut
 pub mod ScriptedCuts
 pub mod SentAgain
 pub mod Starting

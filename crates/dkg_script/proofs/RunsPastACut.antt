@@ -1,0 +1,147 @@
+-- A body that runs past a cut at call 0, and so brings its own run outside what is presumed of a script: it is refused all the
+-- same. And the run that heeds the cut.
+use Rattle.std.proofs.Common.{ℕ, ◌+◌, ◌<◌, ◌≤◌, List, [], ◌∷◌, ◌++◌, ◌≡◌, refl, Option, Some, None, lit<, lit≤, arith, subst, ap, length}
+use Rattle.dkg_types.specs.declared.entry.Entry.{Entry}
+use Rattle.dkg_types.specs.declared.entry.Entry.TheVariants.{Opened, Committed, Registered, Setup, Entered, Acked, Ack, Cut, Step}
+use Rattle.dkg_types.specs.declared.entry.Part.TheVariants.{Player}
+use Rattle.dkg_types.specs.declared.entry.Role.TheVariants.{Member}
+use Rattle.dkg_ceremony.specs.declared.phase.Phase.TheVariants.{Early}
+use Rattle.dkg_journal.specs.Names.{Files}
+use Rattle.dkg_script.specs.declared.script.BlockLine.{BlockLine}
+use Rattle.dkg_script.specs.declared.script.Event.TheVariants.{Peer, Final}
+use Rattle.dkg_script.specs.declared.script.Life.{Life}
+use Rattle.dkg_script.specs.declared.script.Script.{Script}
+use Rattle.dkg_script.specs.Setting.{CutAt}
+use Rattle.dkg_script.specs.Blocks.{used}
+use Rattle.dkg_script.specs.Position.{awaited_height}
+use Rattle.dkg_script.specs.Progress.{Progress}
+use Rattle.dkg_script.specs.Order.{IsInOrder, InOrder}
+use Rattle.dkg_script.specs.Consistent.{IsConsistentScript}
+use Rattle.dkg_script.specs.Promise.{InEachCase, IsHonestRun, cuts_in}
+use Rattle.dkg_script.proofs.OneDealing.{recorded}
+use Rattle.dkg_script.proofs.Trials.{from_start, progress_is, no_plan}
+use Rattle.dkg_script.proofs.Worked.{script_of, setting, genesis, line, payload, life_of, cut_at, dealt, ack_of_dealt}
+
+abbrev first : Life
+first = life_of (Final 0 ∷ Final 1 ∷ Final 2 ∷ Final 3 ∷ []) (cut_at 1 0 0)
+
+abbrev second : Life
+second = life_of (Peer 2 dealt ∷ []) None
+
+abbrev blocks : List BlockLine
+blocks = genesis ∷ line 1 (Some 0) (Some (payload 1 1)) ∷ line 2 (Some 1) None ∷ line 3 (Some 2) (Some (payload 1 2)) ∷ []
+
+abbrev pub script : Script
+script = script_of 2 (lit< tt) blocks (first ∷ second ∷ [])
+
+abbrev enters : ℕ → List Entry
+enters epoch = Committed epoch None ∷ Registered epoch Member ∷ Setup epoch Early Player ∷ Entered epoch ∷ []
+
+-- THE CHEAT goes on to the last event, and begins three epochs
+abbrev pub cheat : List Entry
+cheat = Opened 0 [] ∷ enters 0 ++ Step 0 ∷ Acked 0 ∷ Step 1 ∷ []
+    ++ enters 1 ++ Acked 1 ∷ Step 2 ∷ Acked 2 ∷ Step 3 ∷ []
+    ++ enters 2 ++ Acked 3 ∷ Step 4 ∷ Opened 1 [] ∷ []
+    ++ enters 0 ++ Step 0 ∷ Step 1 ∷ []
+
+not_below : 1 < 1 → ⊥
+not_below below = omega arith
+
+abbrev before_step : List Entry
+before_step = Opened 0 [] ∷ enters 0 ++ Step 0 ∷ Acked 0 ∷ []
+
+abbrev after_step : List Entry
+after_step = enters 1 ++ Acked 1 ∷ Step 2 ∷ Acked 2 ∷ Step 3 ∷ [] ++ enters 2 ++ Acked 3 ∷ Step 4 ∷ Opened 1 [] ∷ [] ++ enters 0 ++ Step 0 ∷ Step 1 ∷ []
+
+-- its step 1 is refused
+pub cheat_is_not_in_order : InOrder (setting script) cheat → ⊥
+unfolding InOrder
+cheat_is_not_in_order ordered = not_below ((subst (λ p. IsInOrder (setting script) p (Step 1)) (progress_is script before_step) (ordered before_step (Step 1) after_step refl)).begins refl)
+
+-- and so is what it writes before
+abbrev before_line : List Entry
+before_line = Opened 0 [] ∷ enters 0 ++ Step 0 ∷ []
+
+pub cheat_writes_too_much : InOrder (setting script) before_step → ⊥
+unfolding InOrder
+cheat_writes_too_much ordered = not_below (subst (λ p. IsInOrder (setting script) p (Acked 0)) (progress_is script before_line) (ordered before_line (Acked 0) [] refl) refl)
+
+-- though what is presumed of the whole promise is false of its transcript: life 1 starts two epochs below
+too_far_back : 2 ≤ 0 + 1 → ⊥
+too_far_back h = omega arith
+
+cheat_cuts : cuts_in (setting script) cheat ≡ None ∷ None ∷ []
+cheat_cuts = ap (λ (p : Progress). p.cuts) (progress_is script cheat)
+
+falls_back : IsConsistentScript (setting script) (None ∷ None ∷ []) → ⊥
+unfolding awaited_height
+falls_back consistent = too_far_back (consistent.never_back 1 (lit< tt) (lit≤ tt))
+
+pub cheat_breaks_the_premise : (image : Files → Type 0) → IsHonestRun (setting script) image cheat → ⊥
+cheat_breaks_the_premise image honest =
+    falls_back (subst (λ (cuts : List (Option CutAt)). InEachCase (setting script) cuts (λ case. IsConsistentScript case cuts)) cheat_cuts honest.source []
+    (no_plan script (None ∷ None ∷ []) refl (refl, (refl, tt))))
+
+-- THE HONEST RUN ends life 0 before its step 1
+abbrev pub honest : List Entry
+honest = Opened 0 [] ∷ enters 0 ++ Step 0 ∷ Cut 1 0 ∷ Opened 1 [] ∷ enters 0 ++ Step 0 ∷ recorded ∷ Ack 0 2 ack_of_dealt ∷ Step 1 ∷ []
+
+one_not_zero : ◌≡◌ {A = ℕ} 1 0 → ⊥
+one_not_zero e = omega arith
+
+pub honest_is_in_order : InOrder (setting script) honest
+unfolding InOrder
+honest_is_in_order = from_start script (IsInOrder (setting script)) honest (
+  record { in_life = (refl, λ is. lit< tt); at_opening = refl; once = refl },
+  (
+    (λ is. lit< tt),
+    (
+      (λ is. lit< tt),
+      (
+        (λ is. lit< tt),
+        (
+          (λ is. lit< tt),
+          (
+            record { in_hand = refl; begins = λ is. lit< tt; has_opened = λ is. refl },
+            (
+              record { in_hand = refl; of_script = (refl, refl); before_step = λ is. refl },
+              (
+                record { in_life = (refl, tt); at_opening = refl; once = refl },
+                (
+                  tt,
+                  (
+                    tt,
+                    (
+                      tt,
+                      (
+                        tt,
+                        (
+                          record { in_hand = refl; begins = tt; has_opened = λ is. refl },
+                          (
+                            tt,
+                            (
+                              tt,
+                              (record { in_hand = refl; begins = tt; has_opened = λ is. absurd (one_not_zero is) }, tt),
+                            ),
+                          ),
+                        ),
+                      ),
+                    ),
+                  ),
+                ),
+              ),
+            ),
+          ),
+        ),
+      ),
+    ),
+  ),
+)
+
+pub honest_is_all_run : length (cuts_in (setting script) honest) ≡ 2
+honest_is_all_run = ap (λ (p : Progress). length p.cuts) (progress_is script honest)
+
+-- whose blocks are block 0 in both lives, and no other
+pub uses_no_more : length (used (setting script)) ≡ 2
+unfolding used
+uses_no_more = refl
