@@ -11,11 +11,13 @@ use Rattle.std.specs.declared.cmp.Ordering.TheVariants.{Less, Equal, Greater}
 use Rattle.std.proofs.lemmas.Bool.{and_parts, eqb-true}
 use Rattle.std.proofs.lemmas.Bool.Decides.{nat_tests}
 use Rattle.std.proofs.lemmas.Cmp.{tied_itself}
+use Rattle.std.proofs.lemmas.List.{append-nil}
 use Rattle.dkg_journal.specs.Names.{Files}
 use Rattle.dkg_journal.specs.Records as journal
 use Rattle.dkg_store.specs.Keys.{key_cmp}
 use Rattle.dkg_store.specs.Pairs.{Pairs, IsWhole}
 use Rattle.dkg_store.proofs.Map.{keys_total}
+use Rattle.dkg_types.specs.declared.entry.Entry.{Entry}
 use Rattle.dkg_types.specs.declared.entry.Restored.{Restored}
 use Rattle.dkg_script.specs.declared.script.Script.{Script}
 use Rattle.dkg_script.specs.Setting.{Setting, setting_of, listed, recovered_from}
@@ -24,7 +26,7 @@ use Rattle.dkg_script.specs.Position.{begun}
 use Rattle.dkg_script.specs.Progress.{at_start, progress, pair_of}
 use Rattle.dkg_script.specs.Order.{InOrder, IsInOrder}
 use Rattle.dkg_script.specs.Kept.{IsSound, IsDurable, AllCurrent, Gives}
-use Rattle.dkg_script.specs.Promise.{AreHonestStores, KeepsDealings, RunsInOrder, with_plans}
+use Rattle.dkg_script.specs.Promise.{Adds, AreHonestStores, KeepsDealings, RunsInOrder, with_plans}
 use Rattle.dkg_script.proofs.EachEntry.{at_each}
 
 -- WHAT A MAP LISTS, IT GIVES
@@ -121,3 +123,6 @@ keeps_nothing s image built honest = (
 pub orders_nothing : (script : Script) → RunsInOrder script []
 unfolding InOrder
 orders_nothing script files secrets = at_each (setting_of script files secrets) (IsInOrder (setting_of script files secrets)) [] tt
+
+pub adds_nothing : (out : List Entry) (P : List Entry → Type 0) → P [] → Adds out out P
+adds_nothing out P of_none = ([], sym (append-nil out), of_none)
