@@ -55,7 +55,7 @@ module _ {K X : Type 0} {R : K → K → Ordering} (o : IsTotalOrder R) where
       let parts = split (below_all R e.0 es) (is_sorted R es) sorted in
       (ap (λ r. cond (is_eq r) (Some e.1) (find R e.0 es)) (tied_itself o e.0), behind e es es parts.0 (each_found es parts.1))
 
-abbrev restored_of : (ℕ × ℕ) × (List ℕ × ℕ) → Restored
+abbrev pub restored_of : (ℕ × ℕ) × (List ℕ × ℕ) → Restored
 restored_of p = record { epoch = p.0.0; dealer = p.0.1; public = p.1.0; private = p.1.1 }
 
 all_given : (m : Pairs) (es : List ((ℕ × ℕ) × (List ℕ × ℕ))) → AllByRecursion (λ e. find key_cmp e.0 (pairs_in m) ≡ Some e.1) es → AllByRecursion (Gives m) (map restored_of es)

@@ -1,6 +1,7 @@
 pub mod AnyDevices
 pub mod Beginning
 pub mod CutWrites
+pub mod Durable
 pub mod EachEntry
 pub mod Edges
 pub mod Hex
@@ -8,6 +9,7 @@ pub mod Honest
 pub mod Numbers
 pub mod OneAck
 pub mod OneDealing
+pub mod Openings
 pub mod Plain
 pub mod Rounds
 pub mod RunsPastACut

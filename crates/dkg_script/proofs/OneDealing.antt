@@ -292,3 +292,20 @@ two_is_consistent = record {
   never_back = never_back;
   others = ((other_key, tt), (tt, tt));
 }
+
+no_life : (l : ℕ) → suc l < 1 → ⊥
+no_life l below = omega arith
+
+first_alone : (l : ℕ) → l < 1 → awaited_before (setting one) (None ∷ []) l ≤ awaited_epoch_in (setting one) l 0 + 1
+first_alone zero below = omega arith
+first_alone (suc l) below = absurd (no_life l below)
+
+pub one_is_consistent : IsConsistentScript (setting one) (None ∷ [])
+unfolding used info_in payload_after carried_at parts_at held_at outcome_after mode_at byte_at many_at keys_at groups_at
+one_is_consistent = record {
+  one_chain = (refl, tt);
+  linked = (tt, tt);
+  one_info = rw (get-empty name_cmp Plan) (refl, tt);
+  never_back = λ l below began. first_alone l below;
+  others = ((other_key, tt), tt);
+}
