@@ -1,5 +1,6 @@
 pub mod AnyDevices
 pub mod Beginning
+pub mod Bridges
 pub mod CutWrites
 pub mod Durable
 pub mod EachEntry
@@ -19,6 +20,7 @@ pub mod Starting
 pub mod Steps
 pub mod Stores
 pub mod Survives
+pub mod Today
 pub mod Trials
 pub mod TwoEpochs
 pub mod Worked
