@@ -2,7 +2,7 @@
 use Rattle.std.proofs.Common.{ℕ, suc, List, [], ◌∷◌, ◌≡◌, refl, sym, subst, Option, Some, None, Bool, true, false, length}
 use Rattle.std.specs.Prelude.{fold, cond, slice_get, IsSomeAnd}
 use Rattle.dkg_types.specs.declared.entry.Entry.{Entry}
-use Rattle.dkg_types.specs.declared.entry.Entry.TheVariants.{Opened, Recorded, Cut, Step, Fault}
+use Rattle.dkg_types.specs.declared.entry.Entry.TheVariants.{Opened, Recorded, Cut, Step}
 use Rattle.dkg_script.specs.declared.script.Life.{Life}
 use Rattle.dkg_types.specs.declared.entry.Restored.{Restored}
 use Rattle.dkg_script.specs.declared.script.Script.{Script}
@@ -56,7 +56,6 @@ module _ (script : Script) (files files' : Files) (secrets secrets' : Secrets) w
   in_order_like p other (Opened life restored) h = record { in_life = h.in_life; at_opening = h.at_opening; once = h.once }
   in_order_like p other (Step step) h = step_like p other step (slice_get script.lives (length p.cuts)) h
   in_order_like p other (Cut step call) h = cut_like p other step call (slice_get script.lives (length p.cuts)) h
-  in_order_like p other (Fault x) h = tt
   in_order_like p other entry h = h
 
 pub any_devices : (script : Script) (files : Files) (secrets : Secrets) (out : List Entry) → InOrder (setting_of script files secrets) out → RunsInOrder script out

@@ -10,7 +10,7 @@ use Rattle.dkg_types.specs.declared.entry.Restored.{Restored}
 use Rattle.dkg_script.specs.declared.script.Event.{Event}
 use Rattle.dkg_script.specs.declared.script.Life.{Life}
 use Rattle.dkg_script.specs.Setting.{Setting, CutAt, blocks_per_epoch, is_oneshot, life_at, recovered_from}
-use Rattle.dkg_script.specs.Blocks.{Block, block_at, delivered_number}
+use Rattle.dkg_script.specs.Blocks.{Block, block_at, delivered_number, events_come_to}
 use Rattle.dkg_script.specs.Position.{awaited_height, awaited_epoch, awaited_epoch_in, awaited_before, begun, start_height, last_awaited, greatest_below, events_taken}
 use Rattle.dkg_script.specs.Progress.{Progress}
 use Rattle.dkg_script.specs.Kept.{IsDurable, AllCurrent, Gives}
@@ -63,7 +63,7 @@ one_more s (event ∷ events) (suc n) height = with_event s event (take n events
 
 height_grows : (s : Setting) (l : ℕ) (life : Life) (n : ℕ) → awaited_height s l life n ≤ awaited_height s l life (suc n)
 unfolding awaited_height
-height_grows s l life n = one_more s life.events n (start_height s l life)
+height_grows s l life n = one_more s (events_come_to life.cut life.events) n (start_height s l life)
 
 parts_grow : (a b k : ℕ) → 0 < k → a ≤ b → a / k ≤ b / k
 parts_grow a b k some le = (le-div_iff_mul-le {k = k} {x = a / k} {y = b} some).1 (omega (arith, le, div-mul-le_self a k))

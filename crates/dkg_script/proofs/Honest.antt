@@ -29,8 +29,10 @@ use Rattle.dkg_script.proofs.Worked.{setting, files_of, secrets_of, flat, OnlyTh
 pub two_is_built : IsBuilt (setting two)
 two_is_built = record {
   form = record {
+    plain = refl;
     reshares = refl;
     few = lit≤ tt;
+    first = refl;
     lives = (record { no_anchor = refl; holds = refl; no_sync = refl; events = (tt, tt) }, (record { no_anchor = refl; holds = refl; no_sync = refl; events = tt }, tt));
   };
   no_plan = get-empty name_cmp Plan;

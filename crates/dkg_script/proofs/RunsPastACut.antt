@@ -1,26 +1,25 @@
--- A body that runs past a cut at call 0, and so brings its own run outside what is presumed of a script: it is refused all the
--- same. And the run that heeds the cut.
-use Rattle.std.proofs.Common.{ℕ, ◌+◌, ◌<◌, ◌≤◌, List, [], ◌∷◌, ◌++◌, ◌≡◌, refl, Option, Some, None, lit<, lit≤, arith, subst, ap, length}
+-- A body that runs past a cut at call 0: it is refused, and what is presumed of the script doesn't depend on it. And the run that
+-- heeds the cut.
+use Rattle.std.proofs.Common.{ℕ, ◌+◌, ◌<◌, ◌≤◌, List, [], ◌∷◌, ◌++◌, ◌≡◌, refl, Option, Some, None, inl, inr, lit<, lit≤, arith, subst, ap, length}
+use Rattle.std.specs.Prelude.{fold}
 use Rattle.dkg_types.specs.declared.entry.Entry.{Entry}
-use Rattle.dkg_types.specs.declared.entry.Entry.TheVariants.{Opened, Committed, Registered, Setup, Entered, Acked, Ack, Cut, Step}
+use Rattle.dkg_types.specs.declared.entry.Entry.TheVariants.{Opened, Committed, Registered, Setup, Entered, Acked, Ack, Cut, Step, Fault}
+use Rattle.dkg_types.specs.declared.fault.Fault as fault
 use Rattle.dkg_types.specs.declared.entry.Part.TheVariants.{Player}
 use Rattle.dkg_types.specs.declared.entry.Role.TheVariants.{Member}
 use Rattle.dkg_ceremony.specs.declared.phase.Phase.TheVariants.{Early}
-use Rattle.dkg_journal.specs.Names.{Files}
 use Rattle.dkg_script.specs.declared.script.BlockLine.{BlockLine}
 use Rattle.dkg_script.specs.declared.script.Event.TheVariants.{Peer, Final}
 use Rattle.dkg_script.specs.declared.script.Life.{Life}
 use Rattle.dkg_script.specs.declared.script.Script.{Script}
-use Rattle.dkg_script.specs.Setting.{CutAt}
 use Rattle.dkg_script.specs.Blocks.{used}
-use Rattle.dkg_script.specs.Position.{awaited_height}
-use Rattle.dkg_script.specs.Progress.{Progress}
+use Rattle.dkg_script.specs.Position.{awaited_height, awaited_before}
+use Rattle.dkg_script.specs.Progress.{Progress, progress, read}
 use Rattle.dkg_script.specs.Order.{IsInOrder, InOrder}
-use Rattle.dkg_script.specs.Consistent.{IsConsistentScript}
-use Rattle.dkg_script.specs.Promise.{InEachCase, IsHonestRun, cuts_in}
+use Rattle.dkg_script.specs.Promise.{cuts_in}
 use Rattle.dkg_script.proofs.OneDealing.{recorded}
-use Rattle.dkg_script.proofs.Trials.{from_start, progress_is, no_plan}
-use Rattle.dkg_script.proofs.Worked.{script_of, setting, genesis, line, payload, life_of, cut_at, dealt, ack_of_dealt}
+use Rattle.dkg_script.proofs.Trials.{from_start, progress_is}
+use Rattle.dkg_script.proofs.Worked.{script_of, setting, genesis, line, payload, life_of, cut_at, dealt, ack_of_dealt, start}
 
 abbrev first : Life
 first = life_of (Final 0 ∷ Final 1 ∷ Final 2 ∷ Final 3 ∷ []) (cut_at 1 0 0)
@@ -44,6 +43,9 @@ cheat = Opened 0 [] ∷ enters 0 ++ Step 0 ∷ Acked 0 ∷ Step 1 ∷ []
     ++ enters 2 ++ Acked 3 ∷ Step 4 ∷ Opened 1 [] ∷ []
     ++ enters 0 ++ Step 0 ∷ Step 1 ∷ []
 
+one_not_zero : ◌≡◌ {A = ℕ} 1 0 → ⊥
+one_not_zero e = omega arith
+
 not_below : 1 < 1 → ⊥
 not_below below = omega arith
 
@@ -66,28 +68,24 @@ pub cheat_writes_too_much : InOrder (setting script) before_step → ⊥
 unfolding InOrder
 cheat_writes_too_much ordered = not_below (subst (λ p. IsInOrder (setting script) p (Acked 0)) (progress_is script before_line) (ordered before_line (Acked 0) [] refl) refl)
 
--- though what is presumed of the whole promise is false of its transcript: life 1 starts two epochs below
-too_far_back : 2 ≤ 0 + 1 → ⊥
-too_far_back h = omega arith
+-- nor may a fault end the run there
+pub cheat_ends_in_no_fault : (why : fault.Fault) → IsInOrder (setting script) (progress (setting script) before_line) (Fault why) → ⊥
+cheat_ends_in_no_fault why ordered =
+    by_case (subst (λ p. IsInOrder (setting script) p (Fault why)) (progress_is script before_line) ordered)
+  where
+    by_case : IsInOrder (setting script) (fold (read (setting script)) start before_line) (Fault why) → ⊥
+    by_case (inl at_start) = one_not_zero at_start.1
+    by_case (inr begins) = not_below (begins refl)
 
-cheat_cuts : cuts_in (setting script) cheat ≡ None ∷ None ∷ []
-cheat_cuts = ap (λ (p : Progress). p.cuts) (progress_is script cheat)
-
-falls_back : IsConsistentScript (setting script) (None ∷ None ∷ []) → ⊥
+-- What is presumed of scripts is judged without it: from the step of the cut on nothing is delivered, so that life 1 starts no
+-- epoch below one that was awaited.
+pub awaits_no_more : awaited_before (setting script) (None ∷ []) 1 ≡ 0
 unfolding awaited_height
-falls_back consistent = too_far_back (consistent.never_back 1 (lit< tt) (lit≤ tt))
-
-pub cheat_breaks_the_premise : (image : Files → Type 0) → IsHonestRun (setting script) image cheat → ⊥
-cheat_breaks_the_premise image honest =
-    falls_back (subst (λ (cuts : List (Option CutAt)). InEachCase (setting script) cuts (λ case. IsConsistentScript case cuts)) cheat_cuts honest.source []
-    (no_plan script (None ∷ None ∷ []) refl (refl, (refl, tt))))
+awaits_no_more = refl
 
 -- THE HONEST RUN ends life 0 before its step 1
 abbrev pub honest : List Entry
 honest = Opened 0 [] ∷ enters 0 ++ Step 0 ∷ Cut 1 0 ∷ Opened 1 [] ∷ enters 0 ++ Step 0 ∷ recorded ∷ Ack 0 2 ack_of_dealt ∷ Step 1 ∷ []
-
-one_not_zero : ◌≡◌ {A = ℕ} 1 0 → ⊥
-one_not_zero e = omega arith
 
 pub honest_is_in_order : InOrder (setting script) honest
 unfolding InOrder

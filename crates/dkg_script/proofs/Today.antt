@@ -1,7 +1,7 @@
 -- Scripts of the form of today: no life leaves height 0 or epoch 0, none follows or is finished, and the round is that of the one
 -- block's info.
 use Rattle.std.proofs.Common.{◌≡◌, ℕ, zero, suc, ◌<◌, ◌≤◌, ◌/◌, List, [], ◌∷◌, Option, Some, None, Bool, true, false, cond, refl, ap, subst, ◌∙◌, arith, length, take}
-use Rattle.std.specs.Prelude.{filter_map, fold, max, slice_get, option_and_then, unwrap_or}
+use Rattle.std.specs.Prelude.{filter_map, fold, max, slice_get, option_and_then, unwrap_or, ◌-◌, ◌==◌}
 use Rattle.std.specs.List.{AllByRecursion}
 use Rattle.std.specs.Int.NonZero.{non_zero_u32_get}
 use Rattle.std.specs.Option.{option_map_or, option_or}
@@ -10,6 +10,7 @@ use Rattle.std.proofs.Math.Nat.{div-le_self}
 use Rattle.dkg_ceremony.specs.Rounds.{round_of}
 use Rattle.dkg_ceremony.specs.declared.mode.Reveal.TheVariants.{V1}
 use Rattle.dkg_script.specs.declared.script.BlockLine.{BlockLine}
+use Rattle.dkg_script.specs.declared.script.Cut.{Cut}
 use Rattle.dkg_script.specs.declared.script.Event.{Event}
 use Rattle.dkg_script.specs.declared.script.Event.TheVariants.{Peer}
 use Rattle.dkg_script.specs.declared.script.Life.{Life}
@@ -17,7 +18,7 @@ use Rattle.dkg_script.specs.Form.{IsLifeOfToday, IsPeer}
 use Rattle.dkg_script.specs.Promise.{IsBuilt}
 use Rattle.dkg_script.specs.Readings.{Info, Material, info_in, material_in}
 use Rattle.dkg_script.specs.Setting.{Setting, CutAt, limits, blocks_per_epoch, is_oneshot, life_at, found}
-use Rattle.dkg_script.specs.Blocks.{delivered_number, block_at, round_at, used, provided}
+use Rattle.dkg_script.specs.Blocks.{delivered_number, events_come_to, block_at, round_at, used, provided}
 use Rattle.dkg_script.specs.Position.{IsPlanHistory, awaited_height, awaited_epoch, awaited_before, awaited_epoch_in, begun, start_height, last_awaited, greatest_below, material, unless_outdated, height_after_anchor, height_of_floor, cut_of, events_taken}
 use Rattle.dkg_script.proofs.Plain.{IsPlain, finds_none}
 
@@ -29,6 +30,21 @@ no_deliveries [] peers (suc n) = refl
 no_deliveries (event ∷ events) peers zero = refl
 no_deliveries (Peer from bytes ∷ events) peers (suc n) = no_deliveries events peers.1 n
 no_deliveries (event ∷ events) peers (suc n) = absurd peers.0
+
+-- .. also among those that the life comes to
+peers_taken : (n : ℕ) (events : List Event) → AllByRecursion IsPeer events → AllByRecursion IsPeer (take n events)
+peers_taken zero [] peers = tt
+peers_taken (suc n) [] peers = tt
+peers_taken zero (event ∷ events) peers = tt
+peers_taken (suc n) (event ∷ events) peers = (peers.0, peers_taken n events peers.1)
+
+peers_come_to : (cut : Option Cut) (events : List Event) → AllByRecursion IsPeer events → AllByRecursion IsPeer (events_come_to cut events)
+peers_come_to None events peers = peers
+peers_come_to (Some cut) events peers = by_call (cut.call == 0)
+  where
+    by_call : (b : Bool) → AllByRecursion IsPeer (cond b (take (cut.step - 1) events) events)
+    by_call true = peers_taken (cut.step - 1) events peers
+    by_call false = peers
 
 no_material : (s : Setting) (l : ℕ) (life : Life) → IsLifeOfToday life → found s l ≡ None → material s l life ≡ None
 no_material s l life today none = by_mode (is_oneshot s)
@@ -45,7 +61,7 @@ starts_at_zero s l life today none =
 pub awaits_zero : (s : Setting) (l : ℕ) (life : Life) (n : ℕ) → IsLifeOfToday life → found s l ≡ None → awaited_height s l life n ≡ 0
 unfolding awaited_height
 awaits_zero s l life n today none =
-    ap (λ (numbers : List ℕ). fold (λ height b. max height (suc b.height)) (start_height s l life) (filter_map (block_at s) numbers)) (no_deliveries life.events today.events n)
+    ap (λ (numbers : List ℕ). fold (λ height b. max height (suc b.height)) (start_height s l life) (filter_map (block_at s) numbers)) (no_deliveries (events_come_to life.cut life.events) (peers_come_to life.cut life.events today.events) n)
     ∙ starts_at_zero s l life today none
 
 no_part : (k n : ℕ) → k ≡ 0 → k / n ≡ 0

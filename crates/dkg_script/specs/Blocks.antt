@@ -88,9 +88,13 @@ used_in s life =
 unfoldable pub used : Setting → List Block
 used s = flat_map (used_in s) s.script.lives
 
+-- the first of some blocks at a height
+abbrev pub chain_in : List Block → ℕ → Option Block
+chain_in bs height = find (λ b. b.height == height) bs
+
 -- the one chain: the block that is used at a height
 abbrev pub chain : Setting → ℕ → Option Block
-chain s height = find (λ b. b.height == height) (used s)
+chain s height = chain_in (used s) height
 
 -- the chain's block below this one
 abbrev pub chain_below : Setting → ℕ → Option Block
@@ -124,11 +128,11 @@ carried_infos s =
 abbrev pub known_info : Setting → ℕ → Option Info
 known_info s epoch = find (λ info. info.epoch == epoch) (carried_infos s)
 
--- The info of an epoch. In one-shot mode it is the one in the chain's block that ends epoch 0.
+-- The info of an epoch. In one-shot mode there is epoch 0 alone, and its info is the one in the chain's block that ends it.
 abbrev pub info_at : Setting → ℕ → Option Info
 info_at s epoch =
     if is_oneshot s
-    then option_and_then (λ b. b.info) (chain s (last (blocks_per_epoch s) 0))
+    then (if epoch == 0 then option_and_then (λ b. b.info) (chain s (last (blocks_per_epoch s) 0)) else None)
     else known_info s epoch
 
 -- the round of a one-shot ceremony: its participants deal to each other
@@ -139,8 +143,8 @@ oneshot_round s participants = result_ok (round_of s.script.config.namespace 0 N
 abbrev pub reshare_round : Setting → ℕ → Info → Option Round
 reshare_round s epoch info = result_ok (round_of s.script.config.namespace epoch (Some info.output) s.script.config.mode V1 info.output.players info.players)
 
--- the ceremony's round of an epoch, where its info is known and gives one
+-- the ceremony's round of an epoch, where its info is known and gives one (in one-shot mode, of epoch 0 alone)
 unfoldable pub round_at : Setting → ℕ → Option Round
 round_at s epoch =
-    if is_oneshot s then option_and_then (oneshot_round s) s.script.config.oneshot
+    if is_oneshot s then (if epoch == 0 then option_and_then (oneshot_round s) s.script.config.oneshot else None)
     else option_and_then (reshare_round s epoch) (info_at s epoch)

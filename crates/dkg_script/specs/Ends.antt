@@ -23,10 +23,11 @@ pub record EndsInFault (entries : List Entry) (fault : Fault) : Type 0 where
   pub last : entries ≡ before ++ entry.Fault fault ∷ []
   pub only : IsFalse (has_fault before)
 
--- Where a device is blamed, its count rose. (Each count's rise is handed in as a fact.)
+-- Where a device is blamed, its count rose, and want of memory is never told. (Each count's rise is handed in as a fact.)
 abbrev pub HasRisen : Fault → (disk_rose secrets_rose : Type 0) → Type 0
 HasRisen Disk disk_rose secrets_rose = disk_rose
 HasRisen Secrets disk_rose secrets_rose = secrets_rose
+HasRisen NoMemory disk_rose secrets_rose = ⊥
 HasRisen _ disk_rose secrets_rose = ⊤
 
 -- the entries have no fault, or end in one that has its cause
@@ -34,9 +35,9 @@ abbrev pub EndsByCause : List Entry → (disk_rose secrets_rose : Type 0) → Ty
 EndsByCause entries disk_rose secrets_rose =
     EndsWell entries ⊎ ((fault : Fault) × EndsInFault entries fault × HasRisen fault disk_rose secrets_rose)
 
--- The entries of lives that this fault ended. (Want of memory may come without its entry.)
+-- The entries of lives that this fault ended. (Want of memory has no entry.)
 abbrev pub EndsFaulted : Fault → List Entry → (disk_rose secrets_rose : Type 0) → Type 0
-EndsFaulted NoMemory entries disk_rose secrets_rose = EndsWell entries ⊎ EndsInFault entries NoMemory
+EndsFaulted NoMemory entries disk_rose secrets_rose = EndsWell entries
 EndsFaulted fault entries disk_rose secrets_rose = EndsInFault entries fault × HasRisen fault disk_rose secrets_rose
 
 -- the entries of the lives of a script, by what running them answered

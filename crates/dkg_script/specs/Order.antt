@@ -1,6 +1,6 @@
 -- The order of a transcript by the script's lives and cuts, of which nothing is presumed: each entry stands in its life
 -- and step, no step goes unopened or uncounted, and a life that is cut before a step ends there.
-use Rattle.std.specs.Prelude.{ℕ, List, [], ◌≡◌, ◌<◌, Bool, true, false, IsTrue, IsFalse, IfSome, IsSomeAnd, length}
+use Rattle.std.specs.Prelude.{ℕ, List, [], ◌≡◌, ◌<◌, ◌⊎◌, Bool, true, false, IsTrue, IsFalse, IfSome, IsSomeAnd, length}
 use Rattle.std.specs.List.{list_any}
 use Rattle.dkg_types.specs.declared.entry.Entry.{Entry}
 use Rattle.dkg_types.specs.declared.entry.Entry.TheVariants.{Opened, Cut, Step, Fault}
@@ -38,12 +38,12 @@ pub record IsOrderedCut (p : Progress) (step call : ℕ) (life : Life) : Type 0 
   pub of_script : IsSomeAnd life.cut (λ cut. (cut.step ≡ step) × (cut.call ≡ call))
   pub before_step : call ≡ 0 → p.written ≡ []
 
--- where an entry may stand after what was written before it
+-- Where an entry may stand after what was written before it. A fault stands at the very start, or in a life that begins.
 abbrev pub IsInOrder : Setting → Progress → Entry → Type 0
 IsInOrder s p (Opened life restored) = IsOrderedOpening s p life
 IsInOrder s p (Step step) = InLife s p (IsOrderedStep p step)
 IsInOrder s p (Cut step call) = InLife s p (IsOrderedCut p step call)
-IsInOrder s p (Fault fault) = Unit {0}
+IsInOrder s p (Fault fault) = ((p.cuts ≡ []) × (p.step ≡ 0) × (p.written ≡ [])) ⊎ InLife s p (Begins p)
 IsInOrder s p other = InLife s p (Begins p)
 
 unfoldable pub InOrder : Setting → List Entry → Type 0

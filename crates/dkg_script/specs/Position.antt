@@ -12,7 +12,7 @@ use Rattle.dkg_script.specs.declared.script.Life.{Life}
 use Rattle.dkg_script.specs.Schedule.{epoch_of, boundary, midpoint, last}
 use Rattle.dkg_script.specs.Readings.{Material}
 use Rattle.dkg_script.specs.Setting.{Setting, CutAt, blocks_per_epoch, is_oneshot, life_at, found}
-use Rattle.dkg_script.specs.Blocks.{Block, block_at, used, delivered_number, held_at_opening, provided, handed_in}
+use Rattle.dkg_script.specs.Blocks.{Block, block_at, used, delivered_number, events_come_to, held_at_opening, provided, handed_in}
 
 -- STEPS. The opening is step 0, and event number j, from 1, is step j.
 
@@ -29,9 +29,9 @@ events_taken life (Some cut) = if cut.call == 0 then cut.step - 1 else cut.step
 abbrev pub cut_of : List (Option CutAt) → ℕ → Option CutAt
 cut_of cuts l = option_flatten (slice_get cuts l)
 
--- the blocks delivered by the first n events
+-- the blocks delivered by the first n events, without those from a step on before which the script cuts the life
 abbrev pub delivered : Setting → Life → ℕ → List Block
-delivered s life n = filter_map (block_at s) (filter_map delivered_number (take n life.events))
+delivered s life n = filter_map (block_at s) (filter_map delivered_number (take n (events_come_to life.cut life.events)))
 
 -- START MATERIAL
 
