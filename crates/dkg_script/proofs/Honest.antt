@@ -1,6 +1,6 @@
 -- The premises of the promise hold of the stored run, in each case of what the plan may have held: so what the calls promise of
 -- it stands.
-use Rattle.std.proofs.Common.{ℕ, zero, suc, ◌+◌, ◌<◌, ◌≤◌, List, [], ◌∷◌, ◌≡◌, refl, Option, Some, None, lit≤, arith, ◌∙◌, sym, ap, subst}
+use Rattle.std.proofs.Common.{ℕ, ◌+◌, ◌≤◌, List, [], ◌∷◌, ◌≡◌, refl, Option, Some, None, lit≤, arith, sym, subst, length}
 use Rattle.std.specs.FinMap.{get-empty}
 use Rattle.dkg_values.specs.Bytes.{byte_at}
 use Rattle.dkg_values.specs.Codec.{many_at}
@@ -17,12 +17,12 @@ use Rattle.dkg_store.specs.Pairs.{IsWhole}
 use Rattle.dkg_script.specs.Readings.{Material, info_in}
 use Rattle.dkg_script.specs.Setting.{CutAt}
 use Rattle.dkg_script.specs.Blocks.{used}
-use Rattle.dkg_script.specs.Position.{IsPlanHistory, awaited_before, awaited_epoch_in, awaited_height}
-use Rattle.dkg_script.specs.Progress.{Progress}
-use Rattle.dkg_script.specs.Promise.{IsBuilt, IsHonestRun, KeepsDealings, AnswersDealings, InEachCase, with_plans, cuts_in}
+use Rattle.dkg_script.specs.Position.{IsPlanHistory, awaited_before, awaited_epoch_in}
+use Rattle.dkg_script.specs.Promise.{IsBuilt, IsHonestRun, KeepsDealings, AnswersDealings, with_plans, cuts_in}
 use Rattle.dkg_script.specs.Consistent.{IsConsistentScript}
 use Rattle.dkg_script.proofs.OneDealing.{two, out_two, two_is_kept, two_is_complete, other_key}
-use Rattle.dkg_script.proofs.Trials.{progress_is, no_plan, nothing_handed_in}
+use Rattle.dkg_script.proofs.Trials.{no_plan}
+use Rattle.dkg_script.proofs.Today.{before_zero}
 use Rattle.dkg_script.proofs.Worked.{setting, files_of, secrets_of, flat, OnlyThese, nothing_there}
 
 -- what is built today reads it
@@ -39,39 +39,29 @@ two_is_built = record {
   no_segment = record { no_segment = λ section. get-empty name_cmp (Segment section) };
 }
 
--- THE SOURCE, in each case of the plan
-not_below : (l : ℕ) → suc (suc l) < 2 → ⊥
-not_below l below = omega arith
+-- THE SOURCE, in each case of the plan, however its lives end
+built_in : (plans : List (Option Material)) → IsBuilt (with_plans (setting two) plans)
+built_in plans = record { form = two_is_built.form; no_plan = two_is_built.no_plan; no_segment = two_is_built.no_segment }
 
-some_is_not_none : (m : Material) → Some m ≡ None → ⊥
-some_is_not_none m e = cc
+never_back : (plans : List (Option Material)) (ends : List (Option CutAt)) → IsPlanHistory (with_plans (setting two) plans) ends
+    → (l : ℕ) → l ≤ length ends → awaited_before (with_plans (setting two) plans) ends l ≤ awaited_epoch_in (with_plans (setting two) plans) l 0 + 1
+never_back plans ends history l began =
+    let none : awaited_before (with_plans (setting two) plans) ends l ≡ 0 = before_zero (with_plans (setting two) plans) ends (built_in plans) history l began in omega arith
 
-never_back : (plans : List (Option Material)) → IsPlanHistory (with_plans (setting two) plans) (None ∷ None ∷ [])
-    → (l : ℕ) → l < 2 → awaited_before (with_plans (setting two) plans) (None ∷ None ∷ []) l ≤ awaited_epoch_in (with_plans (setting two) plans) l 0 + 1
-unfolding awaited_height
-never_back plans history zero below = omega arith
-never_back [] history (suc zero) below = omega arith
-never_back (None ∷ plans) history (suc zero) below = omega arith
-never_back (Some m ∷ plans) history (suc zero) below = absurd (some_is_not_none m (history.first ∙ nothing_handed_in two))
-never_back plans history (suc (suc l)) below = absurd (not_below l below)
-
-consistent_in : (plans : List (Option Material)) → IsPlanHistory (with_plans (setting two) plans) (None ∷ None ∷ []) → IsConsistentScript (with_plans (setting two) plans) (None ∷ None ∷ [])
+consistent_in : (plans : List (Option Material)) (ends : List (Option CutAt)) → IsPlanHistory (with_plans (setting two) plans) ends → IsConsistentScript (with_plans (setting two) plans) ends
 unfolding used info_in payload_after carried_at parts_at held_at outcome_after mode_at byte_at many_at keys_at groups_at
-consistent_in plans history = record {
+consistent_in plans ends history = record {
   one_chain = (refl, (refl, tt));
   linked = (tt, (tt, tt));
   one_info = rw (get-empty name_cmp Plan) (refl, (refl, tt));
-  never_back = λ l below began. never_back plans history l below;
+  never_back = λ l below began. never_back plans ends history l began;
   others = ((other_key, tt), (tt, tt));
 }
 
-cuts_are : cuts_in (setting two) out_two ≡ None ∷ None ∷ []
-cuts_are = ap (λ (p : Progress). p.cuts) (progress_is two out_two)
-
-pub two_is_honest : IsHonestRun (setting two) (OnlyThese (files_of None)) out_two
+pub two_is_honest : IsHonestRun (setting two) (OnlyThese (files_of None))
 two_is_honest = record {
   stores = record { whole = subst (λ (es : List Entry). IsWhole es (secrets_of [])) (sym nothing_there) tt; nothing_loose = record { only = λ c is. is } };
-  source = subst (λ (cuts : List (Option CutAt)). InEachCase (setting two) cuts (λ case. IsConsistentScript case cuts)) (sym cuts_are) consistent_in;
+  source = λ ends so plans history. consistent_in plans ends history;
 }
 
 -- WHAT THE CALLS PROMISE of it

@@ -114,7 +114,7 @@ module _ (s : Setting) (cuts : List (Option CutAt)) (built : IsBuilt s) (history
       by_life None is = refl
       by_life (Some life) is = let t = life_today l life begun is in awaits_epoch_zero s l life (events_taken life (cut_of cuts l)) t.0 t.1
 
-  before_zero : (l : ℕ) → l ≤ length cuts → awaited_before s cuts l ≡ 0
+  pub before_zero : (l : ℕ) → l ≤ length cuts → awaited_before s cuts l ≡ 0
   before_zero zero begun = refl
   before_zero (suc l) begun =
       let rest : greatest_below (last_awaited s cuts) l ≡ 0 = before_zero l (omega arith) in

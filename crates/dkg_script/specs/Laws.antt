@@ -12,6 +12,7 @@ use Rattle.dkg_script.specs.Blocks.{round_at}
 use Rattle.dkg_script.specs.Position.{begun}
 use Rattle.dkg_script.specs.Progress.{Progress, progress, read, pair_of}
 use Rattle.dkg_script.specs.Kept.{Kept, IsSound, IsDurable, Gives}
+use Rattle.dkg_script.specs.Consistent.{MayEndSo}
 use Rattle.dkg_script.specs.Order.{InOrder, IsInOrder}
 use Rattle.dkg_script.specs.OwnMarks.{OwnMarks}
 
@@ -58,3 +59,8 @@ StaysInOrder = (s : Setting) (out : List Entry) (entry : Entry) → InOrder s ou
 -- presumed of what comes after a step.
 abbrev pub OwnMarksStandBefore : Type 0
 OwnMarksStandBefore = (s : Setting) (first more : List Entry) → OwnMarks s (first ++ more) → OwnMarks s first
+
+-- The lives of a transcript in order ended as the script lets them: so what is presumed of a script is presumed of each of its
+-- runs, and no run can bring it to be false.
+abbrev pub EndsAsScripted : Type 0
+EndsAsScripted = (s : Setting) (out : List Entry) → InOrder s out → MayEndSo s.script.lives (progress s out).cuts

@@ -16,7 +16,7 @@ use Rattle.dkg_script.specs.Form.{IsFormOfToday}
 use Rattle.dkg_script.specs.Setting.{Setting, CutAt, setting_of}
 use Rattle.dkg_script.specs.Position.{IsPlanHistory}
 use Rattle.dkg_script.specs.Progress.{progress}
-use Rattle.dkg_script.specs.Consistent.{IsConsistentScript}
+use Rattle.dkg_script.specs.Consistent.{IsConsistentScript, MayEndSo}
 use Rattle.dkg_script.specs.Due.{IsDue, WroteAck}
 use Rattle.dkg_script.specs.Order.{InOrder}
 use Rattle.dkg_script.specs.Kept.{Kept}
@@ -51,10 +51,10 @@ pub record IsBuilt (s : Setting) : Type 0 where
   pub no_plan : get s.files Plan ≡ None
   pub no_segment : opening.IsFormOfToday s.files
 
--- the premise of the whole promise
-pub record IsHonestRun (s : Setting) (image : Files → Type 0) (out : List Entry) : Type 0 where
+-- The premise of the whole promise, of the stores and the script alone: the script is consistent wherever its cuts fall.
+pub record IsHonestRun (s : Setting) (image : Files → Type 0) : Type 0 where
   pub stores : AreHonestStores s image
-  pub source : InEachCase s (cuts_in s out) (λ case. IsConsistentScript case (cuts_in s out))
+  pub source : (ends : List (Option CutAt)) → MayEndSo s.script.lives ends → InEachCase s ends (λ case. IsConsistentScript case ends)
 
 -- COMPLETENESS
 
@@ -88,11 +88,11 @@ RunsAll script out = (files : Files) (secrets : Secrets) → length (cuts_in (se
 -- leave before and after, and `secrets` what the secret store holds after.)
 abbrev pub KeepsDealings : Setting → (image now : Files → Type 0) → Secrets → List Entry → Type 0
 KeepsDealings s image now secrets out =
-    IsBuilt s → IsHonestRun s image out → InACase s (cuts_in s out) (λ case. Kept case out now secrets)
+    IsBuilt s → IsHonestRun s image → InACase s (cuts_in s out) (λ case. Kept case out now secrets)
 
 -- On success: every life was run, and each dealing that was due was acknowledged.
 abbrev pub AnswersDealings : Setting → (image : Files → Type 0) → List Entry → Type 0
-AnswersDealings s image out = IsBuilt s → IsHonestRun s image out → IsComplete s out
+AnswersDealings s image out = IsBuilt s → IsHonestRun s image → IsComplete s out
 
 -- THE CLAUSES OF THE TOP CALL
 

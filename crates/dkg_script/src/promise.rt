@@ -1,7 +1,7 @@
 //! What the promise of a run means, over every script, every transcript and every crash.
 //!
 //! Each law is a call without a body, whose contract is the law. Whoever relies on the promise cites them.
-ghost use Rattle.dkg_script.specs.Laws.{AcknowledgesOnce, AcknowledgedSurvives, OwnMarksStandBefore, StaysInOrder, StaysKept};
+ghost use Rattle.dkg_script.specs.Laws.{AcknowledgesOnce, AcknowledgedSurvives, EndsAsScripted, OwnMarksStandBefore, StaysInOrder, StaysKept};
 
 use dkg_journal::Disk;
 
@@ -28,4 +28,9 @@ pub fn stays_in_order()
 /// What is presumed of logs holds of the first entries of a transcript too.
 pub fn own_marks_stand_before()
     ensures { OwnMarksStandBefore }
+{}
+
+/// The lives of a transcript in order ended as their script lets them.
+pub fn ends_as_scripted()
+    ensures { EndsAsScripted }
 {}
