@@ -1,3 +1,4 @@
 pub mod Command
 pub mod Devices
 pub mod Outside
+pub mod Reports

@@ -1,5 +1,5 @@
 -- From the info that was judged to the payload that carries it.
-use Rattle.std.proofs.Common.{◌≡◌, ℕ, Bool, true, false, List, Option, Some, None, Result, Ok, Err, refl, sym, subst}
+use Rattle.std.proofs.Common.{◌≡◌, ℕ, Bool, true, false, List, Option, Some, Result, Ok, Err, refl, subst}
 use Rattle.std.specs.Prelude.{IfOk, IfSome, IsTrue, ◌↔◌}
 use Rattle.std.specs.Bool.{OnTrue}
 use Rattle.dkg_types.specs.declared.directory.Unit as directory

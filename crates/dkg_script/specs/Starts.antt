@@ -1,5 +1,5 @@
 -- The block that a script begins with: an info of epoch 0 whose players have this node.
-use Rattle.std.specs.Prelude.{◌≡◌, ⊤, ℕ, true, List, [], ◌∷◌, Option, Some, None, Ok, IsOk, IsSomeAnd, Contains}
+use Rattle.std.specs.Prelude.{◌≡◌, ⊤, ℕ, true, List, [], ◌∷◌, Some, None, Ok, IsOk, IsSomeAnd, Contains}
 use Rattle.std.specs.Int.NonZero.{non_zero_u32_get}
 use Rattle.dkg_ceremony.specs.declared.mode.Mode.TheVariants.{NonZeroCounter}
 use Rattle.dkg_ceremony.specs.declared.mode.Reveal.TheVariants.{V1}

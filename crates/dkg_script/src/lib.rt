@@ -6,6 +6,7 @@ mod fault;
 mod fields;
 mod lines;
 mod print;
+mod promise;
 mod read;
 mod script;
 mod start;
@@ -16,6 +17,9 @@ mod words;
 
 pub use error::ScriptError;
 pub use print::print_of;
+pub use promise::{
+    acknowledged_survives, acknowledges_once, own_marks_stand_before, stays_in_order, stays_kept,
+};
 pub use read::read_script;
 pub use script::{
     Anchor, BlockLine, BlockLines, Cut, Event, Events, Indexes, Life, Lives, PlayerLine,

@@ -1,4 +1,4 @@
-use Rattle.std.proofs.Common.{◌≡◌, true, sym, ◌∙◌, ap, Some}
+use Rattle.std.proofs.Common.{sym, ◌∙◌, ap, Some}
 use Rattle.dkg_script.proofs.Hex.{dash, digits, never, found_in, only_in}
 use Rattle.dkg_script.proofs.fields.bytes.Goals as goal
 

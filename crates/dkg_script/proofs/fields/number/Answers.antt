@@ -1,4 +1,3 @@
-use Rattle.std.proofs.Common.{◌≡◌, true, sym, ◌∙◌}
 use Rattle.dkg_script.proofs.Numbers.{found, only, plain}
 use Rattle.dkg_script.proofs.fields.number.Goals as goal
 

@@ -1,0 +1,57 @@
+-- How the entries of a run end, by what ended it.
+use Rattle.std.specs.Prelude.{List, [], ◌∷◌, ◌++◌, ◌≡◌, ◌⊎◌, Bool, true, false, ⊤, IsFalse, Result, Ok, Err}
+use Rattle.std.specs.List.{list_any}
+use Rattle.dkg_types.specs.declared.entry.Entry.{Entry}
+use Rattle.dkg_types.specs.declared.entry.Entry.TheVariants as entry
+use Rattle.dkg_types.specs.declared.fault.Fault.{Fault}
+use Rattle.dkg_types.specs.declared.fault.Fault.TheVariants.{NoMemory, Disk, Secrets}
+
+abbrev pub is_fault : Entry → Bool
+is_fault (entry.Fault fault) = true
+is_fault _ = false
+
+abbrev pub has_fault : List Entry → Bool
+has_fault entries = list_any is_fault entries
+
+-- no entry is a fault
+abbrev pub EndsWell : List Entry → Type 0
+EndsWell entries = IsFalse (has_fault entries)
+
+-- the fault is the last entry, and the only one that is a fault
+pub record EndsInFault (entries : List Entry) (fault : Fault) : Type 0 where
+  pub before : List Entry
+  pub last : entries ≡ before ++ entry.Fault fault ∷ []
+  pub only : IsFalse (has_fault before)
+
+-- Where a device is blamed, its count rose, and want of memory is never told. (Each count's rise is handed in as a fact.)
+abbrev pub HasRisen : Fault → (disk_rose secrets_rose : Type 0) → Type 0
+HasRisen Disk disk_rose secrets_rose = disk_rose
+HasRisen Secrets disk_rose secrets_rose = secrets_rose
+HasRisen NoMemory disk_rose secrets_rose = ⊥
+HasRisen _ disk_rose secrets_rose = ⊤
+
+-- the entries have no fault, or end in one that has its cause
+abbrev pub EndsByCause : List Entry → (disk_rose secrets_rose : Type 0) → Type 0
+EndsByCause entries disk_rose secrets_rose =
+    EndsWell entries ⊎ ((fault : Fault) × EndsInFault entries fault × HasRisen fault disk_rose secrets_rose)
+
+-- The entries of lives that this fault ended. (Want of memory has no entry.)
+abbrev pub EndsFaulted : Fault → List Entry → (disk_rose secrets_rose : Type 0) → Type 0
+EndsFaulted NoMemory entries disk_rose secrets_rose = EndsWell entries
+EndsFaulted fault entries disk_rose secrets_rose = EndsInFault entries fault × HasRisen fault disk_rose secrets_rose
+
+-- the entries of the lives of a script, by what running them answered
+abbrev pub EndsRun : Result (Unit {0}) Fault → List Entry → (disk_rose secrets_rose : Type 0) → Type 0
+EndsRun (Ok u) entries disk_rose secrets_rose = EndsWell entries
+EndsRun (Err fault) entries disk_rose secrets_rose = EndsFaulted fault entries disk_rose secrets_rose
+
+-- a fault that is no status of its own
+abbrev pub IsNodeFault : Fault → Type 0
+IsNodeFault NoMemory = ⊥
+IsNodeFault Disk = ⊥
+IsNodeFault Secrets = ⊥
+IsNodeFault _ = ⊤
+
+-- the entries of a run that a device ended
+abbrev pub EndsByDevice : List Entry → (disk_rose secrets_rose : Type 0) → Type 0
+EndsByDevice entries disk_rose secrets_rose = (EndsInFault entries Disk × disk_rose) ⊎ (EndsInFault entries Secrets × secrets_rose)

@@ -1,0 +1,123 @@
+-- What running a script promises, and on what premises.
+use Rattle.std.specs.Prelude.{ℕ, List, [], ◌∷◌, ◌++◌, ◌≡◌, ◌≤◌, Option, None, length}
+use Rattle.std.specs.FinMap.{get}
+use Rattle.dkg_values.specs.declared.name.Name.TheVariants.{Plan}
+use Rattle.dkg_journal.specs.Disk.{Lands}
+use Rattle.dkg_journal.specs.Names.{Files}
+use Rattle.dkg_journal.specs.Opening as opening
+use Rattle.dkg_journal.specs.Records.{entries}
+use Rattle.dkg_store.specs.Pairs.{IsWhole}
+use Rattle.dkg_store.specs.Secrets.{Secrets}
+use Rattle.dkg_types.specs.declared.entry.Entry.{Entry}
+use Rattle.dkg_types.specs.declared.entry.Entry.TheVariants.{Step}
+use Rattle.dkg_script.specs.declared.script.Script.{Script}
+use Rattle.dkg_script.specs.Readings.{Material}
+use Rattle.dkg_script.specs.Form.{IsFormOfToday}
+use Rattle.dkg_script.specs.Setting.{Setting, CutAt, setting_of}
+use Rattle.dkg_script.specs.Position.{IsPlanHistory}
+use Rattle.dkg_script.specs.Progress.{progress}
+use Rattle.dkg_script.specs.Consistent.{IsConsistentScript, MayEndSo}
+use Rattle.dkg_script.specs.Due.{IsDue, WroteAck}
+use Rattle.dkg_script.specs.Order.{InOrder}
+use Rattle.dkg_script.specs.Kept.{Kept}
+use Rattle.dkg_script.specs.OwnMarks.{OwnMarks}
+
+-- THE CASES OF THE PLAN
+
+abbrev pub with_plans : Setting → List (Option Material) → Setting
+with_plans s plans = record s { plans = plans }
+
+abbrev pub cuts_in : Setting → List Entry → List (Option CutAt)
+cuts_in s out = (progress s out).cuts
+
+-- P in each case of what the plan may have held as the lives up to the one in hand opened
+abbrev pub InEachCase : Setting → List (Option CutAt) → (Setting → Type 0) → Type 0
+InEachCase s cuts P = (plans : List (Option Material)) → IsPlanHistory (with_plans s plans) cuts → P (with_plans s plans)
+
+-- P in the case that it was
+abbrev pub InACase : Setting → List (Option CutAt) → (Setting → Type 0) → Type 0
+InACase s cuts P = (plans : List (Option Material)) × IsPlanHistory (with_plans s plans) cuts × P (with_plans s plans)
+
+-- PREMISES
+
+-- The devices handed in are whole, with nothing loose: a crash as the call begins leaves what a read gives.
+pub record AreHonestStores (s : Setting) (image : Files → Type 0) : Type 0 where
+  pub whole : IsWhole (entries s.files) s.secrets
+  pub nothing_loose : Lands s.files image
+
+-- What is built today: the form of script that is read, no plan, and the flat journal alone.
+pub record IsBuilt (s : Setting) : Type 0 where
+  pub form : IsFormOfToday s.script
+  pub no_plan : get s.files Plan ≡ None
+  pub no_segment : opening.IsFormOfToday s.files
+
+-- The premise of the whole promise, of the stores and the script alone: the script is consistent wherever its cuts fall.
+pub record IsHonestRun (s : Setting) (image : Files → Type 0) : Type 0 where
+  pub stores : AreHonestStores s image
+  pub source : (ends : List (Option CutAt)) → MayEndSo s.script.lives ends → InEachCase s ends (λ case. IsConsistentScript case ends)
+
+-- COMPLETENESS
+
+-- Where no log up to here bears an acknowledgement that this node never gave, an acknowledgement that is owed at the end
+-- of the step in hand was written in it.
+abbrev pub IsAnswered : Setting → (before : List Entry) → Type 0
+IsAnswered s before =
+    OwnMarks s before → InEachCase s (cuts_in s before) (λ case. IsDue case (progress s before)) → WroteAck (progress s before).written
+
+-- every life was run to its cut or its end, and each completed step is so answered
+pub record IsComplete (s : Setting) (out : List Entry) : Type 0 where
+  pub all_run : length (cuts_in s out) ≡ length s.script.lives
+  pub answered : (before after : List Entry) (step : ℕ) → out ≡ before ++ Step step ∷ after → IsAnswered s before
+
+-- THE CLAUSES OF `run_lives`, over the entries that it adds
+
+-- P of what was added to a list
+abbrev pub Adds : List Entry → List Entry → (List Entry → Type 0) → Type 0
+Adds old new P = (added : List Entry) × (new ≡ old ++ added) × P added
+
+-- Whatever ends the run, and whatever the script and the devices are: the transcript is in order. (Of the devices it
+-- says nothing, so that it stands for any.)
+abbrev pub RunsInOrder : Script → List Entry → Type 0
+RunsInOrder script out = (files : Files) (secrets : Secrets) → InOrder (setting_of script files secrets) out
+
+-- On success, too: every life was run.
+abbrev pub RunsAll : Script → List Entry → Type 0
+RunsAll script out = (files : Files) (secrets : Secrets) → length (cuts_in (setting_of script files secrets) out) ≡ length script.lives
+
+-- Whatever ends the run: the transcript and the devices keep each recorded dealing. (`image` and `now` are what a crash may
+-- leave before and after, and `secrets` what the secret store holds after.)
+abbrev pub KeepsDealings : Setting → (image now : Files → Type 0) → Secrets → List Entry → Type 0
+KeepsDealings s image now secrets out =
+    IsBuilt s → IsHonestRun s image → InACase s (cuts_in s out) (λ case. Kept case out now secrets)
+
+-- On success: every life was run, and each dealing that was due was acknowledged.
+abbrev pub AnswersDealings : Setting → (image : Files → Type 0) → List Entry → Type 0
+AnswersDealings s image out = IsBuilt s → IsHonestRun s image → IsComplete s out
+
+-- THE CLAUSES OF THE TOP CALL
+
+-- The source had a script to its end, and it was run. `bytes` and `rest` are what the source had and has left; `Keeps` says
+-- that the dealings are kept where the devices tell what they hold, and `Answers` that the due ones are answered.
+pub record Ran (bytes rest : List ℕ) (Keeps : Script → Type 0) (out : List Entry) (script : Script) : Type 0 where
+  pub to_its_end : rest ≡ []
+  pub not_too_long : length bytes ≤ 16777216
+  pub in_order : RunsInOrder script out
+  pub kept : Keeps script
+
+-- .. and every life was run
+pub record RanAll (bytes rest : List ℕ) (Keeps Answers : Script → Type 0) (out : List Entry) (script : Script) : Type 0 where
+  pub ran : Ran bytes rest Keeps out script
+  pub all : RunsAll script out
+  pub answered : Answers script
+
+-- nothing was written to the transcript, and no device was called
+pub record RanNothing (Untouched : Type 0) (out : List Entry) : Type 0 where
+  pub no_entry : out ≡ []
+  pub untouched : Untouched
+
+-- The source had something else, to its end.
+pub record Refused (script : Option Script) (bytes rest : List ℕ) (Untouched : Type 0) (out : List Entry) : Type 0 where
+  pub no_script : script ≡ None
+  pub to_its_end : rest ≡ []
+  pub not_too_long : length bytes ≤ 16777216
+  pub nothing : RanNothing Untouched out
