@@ -14,6 +14,8 @@ mod pair_map;
 mod player;
 mod restoring;
 mod secrets;
+#[cfg(test)]
+mod stops;
 mod store;
 mod sure_secrets;
 #[cfg(test)]
