@@ -15,7 +15,7 @@ use Rattle.dkg_script.specs.Schedule.{epoch_of}
 use Rattle.dkg_script.specs.Readings.{Log, log_in_entry}
 use Rattle.dkg_script.specs.Setting.{Setting, me, limits, blocks_per_epoch, life_at, listed, recovered_from}
 use Rattle.dkg_script.specs.Blocks.{Block, block_at, round_at}
-use Rattle.dkg_script.specs.Position.{event_at}
+use Rattle.dkg_script.specs.Position.{event_of_step}
 use Rattle.dkg_script.specs.Progress.{Progress, AtEachEntry, pair_of}
 
 -- what stands in a log at the place of a player, where it is an acknowledgement
@@ -41,7 +41,7 @@ IsKnownInEvent s pairs _ = Unit {0}
 
 abbrev pub IsKnownInStep : Setting → Progress → Type 0
 IsKnownInStep s p =
-    IfSome (life_at s (length p.cuts)) (λ life. IfSome (event_at life p.step) (IsKnownInEvent s p.recorded))
+    IfSome (life_at s (length p.cuts)) (λ life. IfSome (event_of_step life p.step) (IsKnownInEvent s p.recorded))
 
 -- at the end of each step that began
 abbrev pub IsKnownAt : Setting → Progress → Entry → Type 0
