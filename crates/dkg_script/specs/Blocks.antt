@@ -19,7 +19,7 @@ use Rattle.dkg_script.specs.declared.script.Event.TheVariants.{Final}
 use Rattle.dkg_script.specs.declared.script.Life.{Life}
 use Rattle.dkg_script.specs.declared.script.SyncLine.{SyncLine}
 use Rattle.dkg_script.specs.Schedule.{epoch_of, boundary, last}
-use Rattle.dkg_script.specs.Readings.{Info, Log, Material, info_in, log_in, material_in}
+use Rattle.dkg_script.specs.Readings.{Info, SignedLog, Material, info_in, log_in, material_in}
 use Rattle.dkg_script.specs.Setting.{Setting, blocks_per_epoch, limits, is_oneshot}
 
 -- A block: what names it, where it stands, and what it carries.
@@ -27,8 +27,11 @@ pub record Block : Type 0 where
   pub height : ℕ
   pub digest : List ℕ
   pub parent : List ℕ
+  pub view : ℕ
+  pub payload : Option (List ℕ)
+  -- what the payload is under the node's limits
   pub info : Option Info
-  pub log : Option Log
+  pub log : Option SignedLog
 
 -- the digest of a block without a parent's
 abbrev pub zeros : List ℕ
@@ -52,6 +55,8 @@ block_of s before line =
       height = line.height;
       digest = digest_of (epoch_of (blocks_per_epoch s) line.height) line.height line.view parent line.payload;
       parent = parent;
+      view = line.view;
+      payload = line.payload;
       info = option_and_then (info_in (limits s)) line.payload;
       log = option_and_then (log_in (limits s)) line.payload;
     }
