@@ -1,5 +1,5 @@
 -- The rarer rules of position: state sync, following, one-shot mode, and a plan that may hold a record or none.
-use Rattle.std.proofs.Common.{ℕ, ◌<◌, List, [], ◌∷◌, ◌≡◌, refl, Option, Some, None, Err, inl, inr, true, false, arith, lit<}
+use Rattle.std.proofs.Common.{ℕ, suc, ◌<◌, List, [], ◌∷◌, ◌≡◌, refl, Option, Some, None, Err, inl, inr, true, false, arith, lit<}
 use Rattle.dkg_ceremony.specs.Dealings.{dealing_of}
 use Rattle.dkg_ceremony.specs.Polynomials.{value_at}
 use Rattle.dkg_ceremony.specs.declared.ceremony.DealingError.TheVariants.{UnexpectedDealer, InvalidCommitmentDegree, MismatchedReshareCommitment, InvalidDealerShare}
@@ -13,6 +13,9 @@ use Rattle.dkg_script.specs.declared.script.Script.{Script}
 use Rattle.dkg_script.specs.declared.script.SyncLine.{SyncLine}
 use Rattle.dkg_script.specs.Readings.{Material}
 use Rattle.dkg_script.specs.Setting.{Setting, CutAt}
+use Rattle.std.specs.Prelude.{◌==◌}
+use Rattle.std.proofs.lemmas.Bool.Decides.{nat_tests}
+use Rattle.dkg_script.specs.Blocks.{round_at}
 use Rattle.dkg_script.specs.Position.{awaited_height, follows, is_finished, begun, begun_before, IsLeft}
 use Rattle.dkg_script.specs.Due.{IsDue}
 use Rattle.dkg_script.specs.Promise.{with_plans}
@@ -120,6 +123,14 @@ never_follows = refl
 
 pub shot_begun : begun_before (setting (oneshot two_blocks (shot ∷ shot ∷ []))) (None ∷ []) 1 ≡ 0
 shot_begun = refl
+
+-- in which there is no round past epoch 0
+pub no_later_round : (epoch : ℕ) → round_at (setting (oneshot two_blocks (shot ∷ []))) (suc epoch) ≡ None
+unfolding round_at
+no_later_round epoch = rw (later (suc epoch) (omega arith)) refl
+  where
+    later : (n : ℕ) → 0 < n → (n == 0) ≡ false
+    later n above = grind (arith, nat_tests)
 
 -- WHAT THE CHECKS OF A ROUND REFUSE: another player's value, another dealer, another degree, another constant
 pub other_share : dealing_of (round 0) 1 2 (15 ∷ 7 ∷ 1 ∷ []) 45 ≡ Err InvalidDealerShare

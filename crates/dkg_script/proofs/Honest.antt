@@ -1,6 +1,6 @@
 -- The premises of the promise hold of the stored run, in each case of what the plan may have held: so what the calls promise of
--- it stands.
-use Rattle.std.proofs.Common.{ℕ, ◌+◌, ◌≤◌, List, [], ◌∷◌, ◌≡◌, refl, Option, Some, None, lit≤, arith, sym, subst, length}
+-- it stands. And they hold of the scripts whose writes are cut, wherever the cuts fall.
+use Rattle.std.proofs.Common.{List, [], ◌∷◌, ◌≡◌, refl, Option, Some, None, lit≤, sym, subst}
 use Rattle.std.specs.FinMap.{get-empty}
 use Rattle.dkg_values.specs.Bytes.{byte_at}
 use Rattle.dkg_values.specs.Codec.{many_at}
@@ -14,15 +14,17 @@ use Rattle.dkg_types.specs.InfoCodes.{held_at, parts_at}
 use Rattle.dkg_types.specs.OutcomeCodes.{outcome_after}
 use Rattle.dkg_types.specs.PayloadCodes.{carried_at, payload_after}
 use Rattle.dkg_store.specs.Pairs.{IsWhole}
+use Rattle.dkg_script.specs.declared.script.Script.{Script}
 use Rattle.dkg_script.specs.Readings.{Material, info_in}
 use Rattle.dkg_script.specs.Setting.{CutAt}
 use Rattle.dkg_script.specs.Blocks.{used}
-use Rattle.dkg_script.specs.Position.{IsPlanHistory, awaited_before, awaited_epoch_in}
-use Rattle.dkg_script.specs.Promise.{IsBuilt, IsHonestRun, KeepsDealings, AnswersDealings, with_plans, cuts_in}
+use Rattle.dkg_script.specs.Position.{IsPlanHistory}
+use Rattle.dkg_script.specs.Promise.{AreHonestStores, IsBuilt, IsHonestRun, KeepsDealings, AnswersDealings, with_plans, cuts_in}
 use Rattle.dkg_script.specs.Consistent.{IsConsistentScript}
 use Rattle.dkg_script.proofs.OneDealing.{two, out_two, two_is_kept, two_is_complete, other_key}
 use Rattle.dkg_script.proofs.Trials.{no_plan}
-use Rattle.dkg_script.proofs.Today.{before_zero}
+use Rattle.dkg_script.proofs.Today.{never_back}
+use Rattle.dkg_script.proofs.CutWrites.{at_install, at_gate}
 use Rattle.dkg_script.proofs.Worked.{setting, files_of, secrets_of, flat, OnlyThese, nothing_there}
 
 -- what is built today reads it
@@ -43,26 +45,80 @@ two_is_built = record {
 built_in : (plans : List (Option Material)) → IsBuilt (with_plans (setting two) plans)
 built_in plans = record { form = two_is_built.form; no_plan = two_is_built.no_plan; no_segment = two_is_built.no_segment }
 
-never_back : (plans : List (Option Material)) (ends : List (Option CutAt)) → IsPlanHistory (with_plans (setting two) plans) ends
-    → (l : ℕ) → l ≤ length ends → awaited_before (with_plans (setting two) plans) ends l ≤ awaited_epoch_in (with_plans (setting two) plans) l 0 + 1
-never_back plans ends history l began =
-    let none : awaited_before (with_plans (setting two) plans) ends l ≡ 0 = before_zero (with_plans (setting two) plans) ends (built_in plans) history l began in omega arith
-
 consistent_in : (plans : List (Option Material)) (ends : List (Option CutAt)) → IsPlanHistory (with_plans (setting two) plans) ends → IsConsistentScript (with_plans (setting two) plans) ends
 unfolding used info_in payload_after carried_at parts_at held_at outcome_after mode_at byte_at many_at keys_at groups_at
 consistent_in plans ends history = record {
   one_chain = (refl, (refl, tt));
   linked = (tt, (tt, tt));
   one_info = rw (get-empty name_cmp Plan) (refl, (refl, tt));
-  never_back = λ l below began. never_back plans ends history l began;
+  never_back = λ l below began. never_back (with_plans (setting two) plans) ends (built_in plans) history l began;
   others = ((other_key, tt), (tt, tt));
+}
+
+empty_stores : (script : Script) → AreHonestStores (setting script) (OnlyThese (files_of None))
+empty_stores script = record {
+  whole = subst (λ (es : List Entry). IsWhole es (secrets_of [])) (sym nothing_there) tt;
+  nothing_loose = record { only = λ c is. is };
 }
 
 pub two_is_honest : IsHonestRun (setting two) (OnlyThese (files_of None))
 two_is_honest = record {
-  stores = record { whole = subst (λ (es : List Entry). IsWhole es (secrets_of [])) (sym nothing_there) tt; nothing_loose = record { only = λ c is. is } };
+  stores = empty_stores two;
   source = λ ends so plans history. consistent_in plans ends history;
 }
+
+-- OF CUTS WITHIN A STEP too, whether their call comes or not
+install_is_built : (plans : List (Option Material)) → IsBuilt (with_plans (setting at_install) plans)
+install_is_built plans = record {
+  form = record {
+    plain = refl;
+    reshares = refl;
+    few = lit≤ tt;
+    first = refl;
+    lives = (record { no_anchor = refl; holds = refl; no_sync = refl; events = (tt, tt) }, (record { no_anchor = refl; holds = refl; no_sync = refl; events = (tt, tt) }, (record { no_anchor = refl; holds = refl; no_sync = refl; events = tt }, tt)));
+  };
+  no_plan = get-empty name_cmp Plan;
+  no_segment = record { no_segment = λ section. get-empty name_cmp (Segment section) };
+}
+
+install_in : (plans : List (Option Material)) (ends : List (Option CutAt)) → IsPlanHistory (with_plans (setting at_install) plans) ends → IsConsistentScript (with_plans (setting at_install) plans) ends
+unfolding used info_in payload_after carried_at parts_at held_at outcome_after mode_at byte_at many_at keys_at groups_at
+install_in plans ends history = record {
+  one_chain = (refl, (refl, (refl, tt)));
+  linked = (tt, (tt, (tt, tt)));
+  one_info = rw (get-empty name_cmp Plan) (refl, (refl, (refl, tt)));
+  never_back = λ l below began. never_back (with_plans (setting at_install) plans) ends (install_is_built plans) history l began;
+  others = ((other_key, tt), ((other_key, tt), (tt, tt)));
+}
+
+pub install_is_honest : IsHonestRun (setting at_install) (OnlyThese (files_of None))
+install_is_honest = record { stores = empty_stores at_install; source = λ ends so plans history. install_in plans ends history }
+
+gate_is_built : (plans : List (Option Material)) → IsBuilt (with_plans (setting at_gate) plans)
+gate_is_built plans = record {
+  form = record {
+    plain = refl;
+    reshares = refl;
+    few = lit≤ tt;
+    first = refl;
+    lives = (record { no_anchor = refl; holds = refl; no_sync = refl; events = (tt, tt) }, (record { no_anchor = refl; holds = refl; no_sync = refl; events = tt }, tt));
+  };
+  no_plan = get-empty name_cmp Plan;
+  no_segment = record { no_segment = λ section. get-empty name_cmp (Segment section) };
+}
+
+gate_in : (plans : List (Option Material)) (ends : List (Option CutAt)) → IsPlanHistory (with_plans (setting at_gate) plans) ends → IsConsistentScript (with_plans (setting at_gate) plans) ends
+unfolding used info_in payload_after carried_at parts_at held_at outcome_after mode_at byte_at many_at keys_at groups_at
+gate_in plans ends history = record {
+  one_chain = (refl, (refl, tt));
+  linked = (tt, (tt, tt));
+  one_info = rw (get-empty name_cmp Plan) (refl, (refl, tt));
+  never_back = λ l below began. never_back (with_plans (setting at_gate) plans) ends (gate_is_built plans) history l began;
+  others = ((other_key, tt), (tt, tt));
+}
+
+pub gate_is_honest : IsHonestRun (setting at_gate) (OnlyThese (files_of None))
+gate_is_honest = record { stores = empty_stores at_gate; source = λ ends so plans history. gate_in plans ends history }
 
 -- WHAT THE CALLS PROMISE of it
 pub two_keeps : KeepsDealings (setting two) (OnlyThese (files_of None)) (OnlyThese (files_of (Some (flat 1 0 7)))) (secrets_of (((0, 2), 23) ∷ [])) out_two

@@ -16,9 +16,11 @@ use Rattle.dkg_script.specs.Blocks.{used}
 use Rattle.dkg_script.specs.Position.{awaited_height, awaited_before}
 use Rattle.dkg_script.specs.Progress.{Progress, progress, read}
 use Rattle.dkg_script.specs.Order.{IsInOrder, InOrder}
-use Rattle.dkg_script.specs.Promise.{cuts_in}
+use Rattle.dkg_script.specs.Promise.{IsHonestRun, cuts_in}
+use Rattle.dkg_script.specs.Consistent.{IsConsistentScript}
+use Rattle.dkg_journal.specs.Names.{Files}
 use Rattle.dkg_script.proofs.OneDealing.{recorded}
-use Rattle.dkg_script.proofs.Trials.{from_start, progress_is}
+use Rattle.dkg_script.proofs.Trials.{from_start, progress_is, no_plan}
 use Rattle.dkg_script.proofs.Worked.{script_of, setting, genesis, line, payload, life_of, cut_at, dealt, ack_of_dealt, start}
 
 abbrev first : Life
@@ -82,6 +84,21 @@ cheat_ends_in_no_fault why ordered =
 pub awaits_no_more : awaited_before (setting script) (None ∷ []) 1 ≡ 0
 unfolding awaited_height
 awaits_no_more = refl
+
+-- Of a cut at call 1 the call may never come: so where life 1 would start two epochs below, nothing is presumed of the script's runs.
+abbrev may_miss : Script
+may_miss = script_of 2 (lit< tt) blocks (record first { cut = cut_at 1 1 0 } ∷ second ∷ [])
+
+too_far_back : 2 ≤ 0 + 1 → ⊥
+too_far_back h = omega arith
+
+missed_falls_back : IsConsistentScript (setting may_miss) (None ∷ []) → ⊥
+unfolding awaited_height
+missed_falls_back consistent = too_far_back (consistent.never_back 1 (lit< tt) (lit≤ tt))
+
+pub missed_is_not_presumed : (image : Files → Type 0) → IsHonestRun (setting may_miss) image → ⊥
+missed_is_not_presumed image honest =
+    missed_falls_back (honest.source (None ∷ []) (inr (inl (lit< tt), refl), tt) [] (no_plan may_miss (None ∷ []) refl (refl, (refl, tt))))
 
 -- THE HONEST RUN ends life 0 before its step 1
 abbrev pub honest : List Entry

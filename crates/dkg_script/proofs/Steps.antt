@@ -14,7 +14,7 @@ use Rattle.dkg_script.specs.declared.script.Life.{Life}
 use Rattle.dkg_script.specs.Readings.{Halves, dealing_in}
 use Rattle.dkg_script.specs.Setting.{Setting, me, limits, life_at}
 use Rattle.dkg_script.specs.Blocks.{round_at}
-use Rattle.dkg_script.specs.Position.{event_at, awaited_epoch}
+use Rattle.dkg_script.specs.Position.{event_of_step, awaited_epoch}
 use Rattle.dkg_script.specs.Progress.{Progress, pair_of, has_pair_key, with_pair, IsValid, Brings}
 use Rattle.dkg_script.specs.Kept.{IsSound, IsSoundAck}
 use Rattle.std.specs.List.{list_any}
@@ -29,7 +29,7 @@ ack_entry pair ack = Ack pair.epoch pair.dealer ack
 -- the step in hand is that of a message of the pair's dealer, in the pair's epoch, and its round accepts the pair
 pub record InDealingStep (s : Setting) (p : Progress) (life : Life) (round : Round) (pair : Restored) (bytes : List ℕ) : Type 0 where
   pub life_is : life_at s (length p.cuts) ≡ Some life
-  pub event_is : event_at life p.step ≡ Some (Peer pair.dealer bytes)
+  pub event_is : event_of_step life p.step ≡ Some (Peer pair.dealer bytes)
   pub awaited : pair.epoch ≡ awaited_epoch s (length p.cuts) life (p.step - 1)
   pub round_is : round_at s pair.epoch ≡ Some round
   pub valid : dealing_of round (me s) pair.dealer pair.public pair.private ≡ Ok tt
@@ -38,7 +38,7 @@ module _ (s : Setting) (p : Progress) (life : Life) (round : Round) (pair : Rest
   pub is_valid : IsValid s pair
   is_valid = rw h.round_is h.valid
 
-  brings : dealing_in (limits s) bytes ≡ Some (record { public = pair.public; private = pair.private }) → IsSomeAnd (event_at life p.step) (λ event. Brings s event pair)
+  brings : dealing_in (limits s) bytes ≡ Some (record { public = pair.public; private = pair.private }) → IsSomeAnd (event_of_step life p.step) (λ event. Brings s event pair)
   brings decodes = rw h.event_is (refl, decodes)
 
   -- a new dealing's record

@@ -1,6 +1,6 @@
 -- Scripts of the form of today: no life leaves height 0 or epoch 0, none follows or is finished, and the round is that of the one
 -- block's info.
-use Rattle.std.proofs.Common.{◌≡◌, ℕ, zero, suc, ◌<◌, ◌≤◌, ◌/◌, List, [], ◌∷◌, Option, Some, None, Bool, true, false, cond, refl, ap, subst, ◌∙◌, arith, length, take}
+use Rattle.std.proofs.Common.{◌≡◌, ℕ, zero, suc, ◌+◌, ◌<◌, ◌≤◌, ◌/◌, List, [], ◌∷◌, Option, Some, None, Bool, true, false, cond, refl, ap, subst, ◌∙◌, arith, length, take}
 use Rattle.std.specs.Prelude.{filter_map, fold, max, slice_get, option_and_then, unwrap_or, ◌-◌, ◌==◌}
 use Rattle.std.specs.List.{AllByRecursion}
 use Rattle.std.specs.Int.NonZero.{non_zero_u32_get}
@@ -114,11 +114,15 @@ module _ (s : Setting) (cuts : List (Option CutAt)) (built : IsBuilt s) (history
       by_life None is = refl
       by_life (Some life) is = let t = life_today l life begun is in awaits_epoch_zero s l life (events_taken life (cut_of cuts l)) t.0 t.1
 
-  pub before_zero : (l : ℕ) → l ≤ length cuts → awaited_before s cuts l ≡ 0
+  before_zero : (l : ℕ) → l ≤ length cuts → awaited_before s cuts l ≡ 0
   before_zero zero begun = refl
   before_zero (suc l) begun =
       let rest : greatest_below (last_awaited s cuts) l ≡ 0 = before_zero l (omega arith) in
       let its : last_awaited s cuts l ≡ 0 = last_zero l (omega arith) in omega arith
+
+  -- so no life starts below what was awaited
+  pub never_back : (l : ℕ) → l ≤ length cuts → awaited_before s cuts l ≤ awaited_epoch_in s l 0 + 1
+  never_back l begun = let none : awaited_before s cuts l ≡ 0 = before_zero l begun in omega arith
 
   pub begun_zero : (l j : ℕ) → l ≤ length cuts → begun s cuts l j ≡ 0
   begun_zero l j lives = by_mode (is_oneshot s) (awaited_before s cuts l) (awaited_epoch_in s l j) (before_zero l lives) (epoch_zero l j lives)

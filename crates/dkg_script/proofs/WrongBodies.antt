@@ -1,7 +1,7 @@
 -- Transcripts that wrong nodes would write for the script of one dealing, and devices that they would leave: each breaks the
 -- promise.
 use Rattle.std.proofs.Common.{ℕ, ◌<◌, List, [], ◌∷◌, ◌++◌, ◌≡◌, ◌≢◌, refl, Option, Some, None, lit<, lit≤, inl, true, false, arith, ap, subst, sym, ◌∙◌}
-use Rattle.std.specs.Prelude.{Contains, is_some, take, fold, length, Ok}
+use Rattle.std.specs.Prelude.{Contains, is_some, take, fold, length, Ok, Err}
 use Rattle.std.specs.FinMap.{get, empty, get-empty, get-from_entries, get-insert}
 use Rattle.std.specs.List.{AllByRecursion}
 use Rattle.std.specs.Ordering.{eq_by_cmp}
@@ -25,7 +25,7 @@ use Rattle.dkg_store.proofs.Map.{keys_total}
 use Rattle.dkg_types.specs.declared.entry.Entry.{Entry}
 use Rattle.dkg_types.specs.declared.entry.Entry.TheVariants.{Opened, Ack, Step, Fault}
 use Rattle.dkg_types.specs.declared.entry.Restored.{Restored}
-use Rattle.dkg_types.specs.declared.fault.Fault.TheVariants.{Disk}
+use Rattle.dkg_types.specs.declared.fault.Fault.TheVariants.{Disk, HeightRange, NoMemory}
 use Rattle.dkg_script.specs.declared.script.Event.TheVariants.{Peer}
 use Rattle.dkg_script.specs.Readings.{Material}
 use Rattle.dkg_script.specs.Setting.{recovered_from, listed}
@@ -238,3 +238,11 @@ stopped_is_not_complete complete = one_not_two (sym (ap (λ (p : Progress). leng
 -- TELLS A FAULT and answers success
 pub fault_is_no_success : EndsRun (Ok tt) (opening ++ Fault Disk ∷ []) (Unit {0}) (Unit {0}) → ⊥
 fault_is_no_success ends = true_not_false ends
+
+-- A FAULT that no run of today's form can meet
+pub invented_fault_is_no_end : EndsRun (Err HeightRange) (opening ++ Fault HeightRange ∷ []) (Unit {0}) (Unit {0}) → ⊥
+invented_fault_is_no_end ends = ends.1
+
+-- and want of memory that is told
+pub want_is_not_told : EndsRun (Err NoMemory) (opening ++ Fault NoMemory ∷ []) (Unit {0}) (Unit {0}) → ⊥
+want_is_not_told ends = true_not_false ends

@@ -19,7 +19,7 @@ use Rattle.dkg_script.specs.declared.script.Event.TheVariants.{Final}
 use Rattle.dkg_script.specs.declared.script.Life.{Life}
 use Rattle.dkg_script.specs.declared.script.SyncLine.{SyncLine}
 use Rattle.dkg_script.specs.Schedule.{epoch_of, boundary, last}
-use Rattle.dkg_script.specs.Readings.{Info, Log, Material, info_in, log_in, material_in}
+use Rattle.dkg_script.specs.Readings.{Info, SignedLog, Material, info_in, log_in, material_in}
 use Rattle.dkg_script.specs.Setting.{Setting, blocks_per_epoch, limits, is_oneshot}
 
 -- A block: what names it, where it stands, and what it carries.
@@ -27,8 +27,11 @@ pub record Block : Type 0 where
   pub height : ℕ
   pub digest : List ℕ
   pub parent : List ℕ
+  pub view : ℕ
+  pub payload : Option (List ℕ)
+  -- what the payload is under the node's limits
   pub info : Option Info
-  pub log : Option Log
+  pub log : Option SignedLog
 
 -- the digest of a block without a parent's
 abbrev pub zeros : List ℕ
@@ -52,6 +55,8 @@ block_of s before line =
       height = line.height;
       digest = digest_of (epoch_of (blocks_per_epoch s) line.height) line.height line.view parent line.payload;
       parent = parent;
+      view = line.view;
+      payload = line.payload;
       info = option_and_then (info_in (limits s)) line.payload;
       log = option_and_then (log_in (limits s)) line.payload;
     }
@@ -124,13 +129,17 @@ carried_infos s =
     filter_map (info_at_boundary s) (used s)
     ++ map (λ m. m.info) (filter_map (provided s) s.script.lives ++ option_to_list (handed_in s))
 
--- the first of them of this epoch
+-- the first of some infos of an epoch
+abbrev pub known_in : List Info → ℕ → Option Info
+known_in infos epoch = find (λ info. info.epoch == epoch) infos
+
+-- the info that is carried of an epoch
 abbrev pub known_info : Setting → ℕ → Option Info
-known_info s epoch = find (λ info. info.epoch == epoch) (carried_infos s)
+known_info s epoch = known_in (carried_infos s) epoch
 
 -- The info of an epoch. In one-shot mode there is epoch 0 alone, and its info is the one in the chain's block that ends it.
-abbrev pub info_at : Setting → ℕ → Option Info
-info_at s epoch =
+abbrev pub info_of_epoch : Setting → ℕ → Option Info
+info_of_epoch s epoch =
     if is_oneshot s
     then (if epoch == 0 then option_and_then (λ b. b.info) (chain s (last (blocks_per_epoch s) 0)) else None)
     else known_info s epoch
@@ -147,4 +156,4 @@ reshare_round s epoch info = result_ok (round_of s.script.config.namespace epoch
 unfoldable pub round_at : Setting → ℕ → Option Round
 round_at s epoch =
     if is_oneshot s then (if epoch == 0 then option_and_then (oneshot_round s) s.script.config.oneshot else None)
-    else option_and_then (reshare_round s epoch) (info_at s epoch)
+    else option_and_then (reshare_round s epoch) (info_of_epoch s epoch)

@@ -13,7 +13,7 @@ use Rattle.dkg_script.specs.Schedule.{midpoint}
 use Rattle.dkg_script.specs.Readings.{Halves, dealing_in}
 use Rattle.dkg_script.specs.Setting.{Setting, me, limits, is_oneshot, blocks_per_epoch, life_at}
 use Rattle.dkg_script.specs.Blocks.{round_at}
-use Rattle.dkg_script.specs.Position.{event_at, awaited_height, awaited_epoch, follows, is_finished}
+use Rattle.dkg_script.specs.Position.{event_of_step, awaited_height, awaited_epoch, follows, is_finished}
 use Rattle.dkg_script.specs.Progress.{Progress, pair_of}
 
 abbrev pub is_ack : Entry → Bool
@@ -42,7 +42,7 @@ pub record IsDueIn (s : Setting) (p : Progress) (life : Life) : Type 0 where
   pub oneshot : IsTrue (is_oneshot s) → awaited_epoch s (length p.cuts) life (p.step - 1) ≡ 0
   pub early : awaited_height s (length p.cuts) life (p.step - 1)
       < midpoint (blocks_per_epoch s) (awaited_epoch s (length p.cuts) life (p.step - 1))
-  pub dealing : IsSomeAnd (event_at life p.step) (IsDueEvent s p (awaited_epoch s (length p.cuts) life (p.step - 1)))
+  pub dealing : IsSomeAnd (event_of_step life p.step) (IsDueEvent s p (awaited_epoch s (length p.cuts) life (p.step - 1)))
 
 abbrev pub IsDue : Setting → Progress → Type 0
 IsDue s p = IsSomeAnd (life_at s (length p.cuts)) (IsDueIn s p)

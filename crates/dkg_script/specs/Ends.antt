@@ -1,10 +1,14 @@
 -- How the entries of a run end, by what ended it.
-use Rattle.std.specs.Prelude.{List, [], ◌∷◌, ◌++◌, ◌≡◌, ◌⊎◌, Bool, true, false, ⊤, IsFalse, Result, Ok, Err}
+use Rattle.std.specs.Prelude.{List, [], ◌∷◌, ◌++◌, ◌≡◌, ◌≢◌, ◌⊎◌, Bool, true, false, ⊤, IsFalse, Result, Ok, Err}
 use Rattle.std.specs.List.{list_any}
 use Rattle.dkg_types.specs.declared.entry.Entry.{Entry}
 use Rattle.dkg_types.specs.declared.entry.Entry.TheVariants as entry
 use Rattle.dkg_types.specs.declared.fault.Fault.{Fault}
-use Rattle.dkg_types.specs.declared.fault.Fault.TheVariants.{NoMemory, Disk, Secrets}
+use Rattle.dkg_types.specs.declared.fault.Fault.TheVariants.{NoMemory, Disk, Secrets, Corrupt, MissingEpochInfo, WrongEpoch, InvalidParticipants, LocalState}
+use Rattle.dkg_types.specs.declared.fault.LocalCause.{LocalCause}
+use Rattle.dkg_types.specs.declared.fault.LocalCause.TheVariants.{StoredDealing}
+use Rattle.dkg_types.specs.declared.fault.ParticipantsCause.{ParticipantsCause}
+use Rattle.dkg_types.specs.declared.fault.ParticipantsCause.TheVariants.{Refused, Round}
 
 abbrev pub is_fault : Entry → Bool
 is_fault (entry.Fault fault) = true
@@ -23,12 +27,35 @@ pub record EndsInFault (entries : List Entry) (fault : Fault) : Type 0 where
   pub last : entries ≡ before ++ entry.Fault fault ∷ []
   pub only : IsFalse (has_fault before)
 
--- Where a device is blamed, its count rose, and want of memory is never told. (Each count's rise is handed in as a fact.)
+-- What a node's own state can contradict in a script of today's form: a stored dealing is refused.
+abbrev pub IsLocalOfToday : LocalCause → Type 0
+IsLocalOfToday (StoredDealing epoch dealer) = ⊤
+IsLocalOfToday _ = ⊥
+
+-- what refuses participants there: the info's sets, or the round
+abbrev pub IsRefusalOfToday : ParticipantsCause → Type 0
+IsRefusalOfToday (Refused why) = ⊤
+IsRefusalOfToday (Round why) = ⊤
+IsRefusalOfToday _ = ⊥
+
+-- The faults that a run of a script of today's form (see Form) can tell: those of a device, a record that is none, an info of
+-- block 0 that is missing, is of another epoch or is refused, and a stored dealing that is refused. Want of memory is never told.
+abbrev pub IsFaultOfToday : Fault → Type 0
+IsFaultOfToday Disk = ⊤
+IsFaultOfToday Secrets = ⊤
+IsFaultOfToday (Corrupt name place) = ⊤
+IsFaultOfToday (MissingEpochInfo height) = height ≡ 0
+IsFaultOfToday (WrongEpoch expected got) = (expected ≡ 0) × (got ≢ 0)
+IsFaultOfToday (InvalidParticipants cause) = IsRefusalOfToday cause
+IsFaultOfToday (LocalState cause) = IsLocalOfToday cause
+IsFaultOfToday _ = ⊥
+
+-- The fault is one that can be told and, where it blames a device, that device's count rose. (Each count's rise is handed in as a
+-- fact.)
 abbrev pub HasRisen : Fault → (disk_rose secrets_rose : Type 0) → Type 0
 HasRisen Disk disk_rose secrets_rose = disk_rose
 HasRisen Secrets disk_rose secrets_rose = secrets_rose
-HasRisen NoMemory disk_rose secrets_rose = ⊥
-HasRisen _ disk_rose secrets_rose = ⊤
+HasRisen fault disk_rose secrets_rose = IsFaultOfToday fault
 
 -- the entries have no fault, or end in one that has its cause
 abbrev pub EndsByCause : List Entry → (disk_rose secrets_rose : Type 0) → Type 0
@@ -45,12 +72,12 @@ abbrev pub EndsRun : Result (Unit {0}) Fault → List Entry → (disk_rose secre
 EndsRun (Ok u) entries disk_rose secrets_rose = EndsWell entries
 EndsRun (Err fault) entries disk_rose secrets_rose = EndsFaulted fault entries disk_rose secrets_rose
 
--- a fault that is no status of its own
+-- a fault that can be told and is no status of its own
 abbrev pub IsNodeFault : Fault → Type 0
 IsNodeFault NoMemory = ⊥
 IsNodeFault Disk = ⊥
 IsNodeFault Secrets = ⊥
-IsNodeFault _ = ⊤
+IsNodeFault fault = IsFaultOfToday fault
 
 -- the entries of a run that a device ended
 abbrev pub EndsByDevice : List Entry → (disk_rose secrets_rose : Type 0) → Type 0

@@ -18,7 +18,7 @@ use Rattle.dkg_script.specs.declared.script.Life.{Life}
 use Rattle.dkg_script.specs.Readings.{dealing_in}
 use Rattle.dkg_script.specs.Setting.{Setting, me, limits, life_at, listed, recovered_from}
 use Rattle.dkg_script.specs.Blocks.{round_at}
-use Rattle.dkg_script.specs.Position.{event_at, awaited_epoch, begun, begun_before, cut_of}
+use Rattle.dkg_script.specs.Position.{event_of_step, awaited_epoch, begun, begun_before, cut_of}
 use Rattle.dkg_script.specs.Progress.{Progress, progress, AtEachEntry, pair_of, with_pair, IsValid, IsBrought}
 use Rattle.dkg_script.specs.Order.{InLife}
 use Rattle.dkg_script.specs.Due.{is_ack}
@@ -72,7 +72,7 @@ IsDealingFrom s dealer _ = ⊥
 -- The acknowledgement of the one valid dealing recorded for its dealer and epoch, in a step that brings a dealing of
 -- this dealer.
 pub record IsSoundAck (s : Setting) (p : Progress) (epoch dealer : ℕ) (ack : List ℕ) (life : Life) : Type 0 where
-  pub event : IsSomeAnd (event_at life p.step) (IsDealingFrom s dealer)
+  pub event : IsSomeAnd (event_of_step life p.step) (IsDealingFrom s dealer)
   pub awaited : epoch ≡ awaited_epoch s (length p.cuts) life (p.step - 1)
   pub of_recorded : IsSomeAnd (pair_of p.recorded epoch dealer) (λ pair. IsValid s pair
       × IsSomeAnd (round_at s epoch) (λ round. ack ≡ ack_of (me s) round dealer pair.public))

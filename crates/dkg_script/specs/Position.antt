@@ -17,9 +17,9 @@ use Rattle.dkg_script.specs.Blocks.{Block, block_at, used, delivered_number, eve
 -- STEPS. The opening is step 0, and event number j, from 1, is step j.
 
 -- the event of a step
-abbrev pub event_at : Life → ℕ → Option Event
-event_at life zero = None
-event_at life (suc j) = slice_get life.events j
+abbrev pub event_of_step : Life → ℕ → Option Event
+event_of_step life zero = None
+event_of_step life (suc j) = slice_get life.events j
 
 -- How many events a life took, by where it was cut. A step cut at call 0 did not begin.
 abbrev pub events_taken : Life → Option CutAt → ℕ

@@ -11,7 +11,7 @@ use Rattle.dkg_script.specs.declared.script.Life.{Life}
 use Rattle.dkg_script.specs.Readings.{dealing_in}
 use Rattle.dkg_script.specs.Setting.{Setting, CutAt, me, limits, life_at, listed, recovered_from}
 use Rattle.dkg_script.specs.Blocks.{round_at}
-use Rattle.dkg_script.specs.Position.{awaited_epoch, event_at}
+use Rattle.dkg_script.specs.Position.{awaited_epoch, event_of_step}
 
 pub record Progress : Type 0 where
   -- of each life that has ended, where it was cut; so the life in hand has the number of these
@@ -83,5 +83,5 @@ Brings s _ pair = ⊥
 -- A step of a life accounts for a dealing that is new.
 pub record IsBrought (s : Setting) (l : ℕ) (life : Life) (j : ℕ) (pair : Restored) : Type 0 where
   pub epoch : pair.epoch ≡ awaited_epoch s l life (j - 1)
-  pub event : IsSomeAnd (event_at life j) (λ event. Brings s event pair)
+  pub event : IsSomeAnd (event_of_step life j) (λ event. Brings s event pair)
   pub valid : IsValid s pair

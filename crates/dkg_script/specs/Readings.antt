@@ -54,18 +54,27 @@ with_spelled spelling i = record {
   directory = spelling i.directory;
 }
 
--- A dealer's log: its public half, and for each player in order the acknowledgement, or none where the private half is
--- revealed.
+-- what a log has for a player: its acknowledgement, or its private half revealed
+pub data LogEntry : Type 0 where
+  acked : List ℕ → LogEntry
+  revealed : ℕ → LogEntry
+
+-- A dealer's log: its public half, and an entry for each player in order.
 pub record Log : Type 0 where
   pub dealer : ℕ
   pub public : List ℕ
-  pub acks : List (Option (List ℕ))
+  pub entries : List LogEntry
+
+-- a log with its dealer's mark
+pub record SignedLog : Type 0 where
+  pub log : Log
+  pub mark : List ℕ
 
 abbrev pub carried_info : {Dir : Type 0} → (Dir → List ℕ) → Payload Dir → Option Info
 carried_info spelling (payload.EpochInfo i) = Some (with_spelled spelling i)
 
 -- No payload is a log yet.
-abbrev pub carried_log : {Dir : Type 0} → Payload Dir → Option Log
+abbrev pub carried_log : {Dir : Type 0} → Payload Dir → Option SignedLog
 carried_log (payload.EpochInfo i) = None
 
 abbrev pub unit_payload : Limits → List ℕ → Option (Payload directory.Unit)
@@ -76,7 +85,7 @@ unfoldable pub info_in : Limits → List ℕ → Option Info
 info_in limits bytes = if limits.addressed then None else option_and_then (carried_info unit_spelling) (unit_payload limits bytes)
 
 -- the log that a block's payload is
-unfoldable pub log_in : Limits → List ℕ → Option Log
+unfoldable pub log_in : Limits → List ℕ → Option SignedLog
 log_in limits bytes = if limits.addressed then None else option_and_then (carried_log {Dir = directory.Unit}) (unit_payload limits bytes)
 
 -- the log that an entry of the journal records, beside its epoch (no entry records one yet)
