@@ -1,8 +1,9 @@
-//! Worked examples of whole runs: what the command writes for a script, row by row.
+//! What crosses crates: worked examples of whole runs, row by row, and two appends composed through the journal's clauses.
 //!
-//! The crate has tests alone. A row's transcript was made apart from this program.
+//! A row's transcript was made apart from this program.
 #![tactic(auto)]
 
+mod appends;
 #[cfg(test)]
 mod misses;
 #[cfg(test)]
@@ -11,3 +12,5 @@ mod rows;
 mod runs;
 #[cfg(test)]
 mod statuses;
+
+pub use appends::append_two;
