@@ -7,7 +7,6 @@ use Rattle.std.proofs.lemmas.List.{append-nil}
 use Rattle.std.proofs.lemmas.Bool.{cases_eq, cases_lt}
 use Rattle.std.proofs.lemmas.Bool.Decides.{nat_tests}
 use Rattle.dkg_journal.specs.Records.{Entry, placed, in_order}
-use Rattle.dkg_journal.specs.Views.{view, views}
 use Rattle.dkg_journal.specs.declared.opening.JournalEntry.{JournalEntry}
 
 abbrev of_section : ℕ → List Entry → List Entry
@@ -110,24 +109,29 @@ fold_section k (e ∷ es) acc above =
     ∙ of_both k (placed acc e) es ∙ ap (λ (l : List Entry). l ++ of_section k es) (placed_section k acc e 0 above)
     ∙ sym (of_both k (acc ++ e ∷ []) es) ∙ ap (of_section k) (append_assoc acc (e ∷ []) es)
 
--- from the clauses of the sort
-above_from : (xs : List JournalEntry) (n : ℕ) → IsNonDecreasingBy (λ x. x.section) xs → ((d : JournalEntry) → 0 < length xs → n ≤ (get_or xs 0 d).section) → Above n (views xs)
-above_from [] n up low = tt
-above_from (x ∷ xs) n up low = (low x (omega arith), above_from xs x.section (λ i j d le lt. up (suc i) (suc j) d (omega (arith, le)) (omega (arith, lt))) (λ d lt. up 0 1 d (omega arith) (omega (arith, lt))))
+-- an entry's section, beside what is seen of the rest
+abbrev see : (JournalEntry → List ℕ) → JournalEntry → Entry
+see seen e = (e.section, seen e)
 
 ties_is : (a b : ℕ) → (not (is_lt (nat_cmp a b)) && not (is_lt (nat_cmp b a))) ≡ (b == a)
 ties_is a b = grind (arith, nat_tests)
 
-section_views : (x : JournalEntry) (xs : List JournalEntry) → map view (filter (ties (λ a b. is_lt (nat_cmp a.section b.section)) x) xs) ≡ of_section x.section (views xs)
-section_views x [] = refl
-section_views x (y ∷ ys) =
-    ap (λ (b : Bool). map view (cond b (y ∷ filter (ties (λ a b. is_lt (nat_cmp a.section b.section)) x) ys) (filter (ties (λ a b. is_lt (nat_cmp a.section b.section)) x) ys))) (ties_is x.section y.section)
-    ∙ elim (y.section == x.section) as (λ (b : Bool). map view (cond b (y ∷ filter (ties (λ a b. is_lt (nat_cmp a.section b.section)) x) ys) (filter (ties (λ a b. is_lt (nat_cmp a.section b.section)) x) ys)) ≡ cond b (view y ∷ of_section x.section (views ys)) (of_section x.section (views ys))) [
-      | true ↦ ap (λ (l : List Entry). view y ∷ l) (section_views x ys)
-      | false ↦ section_views x ys
-    ]
+-- from the clauses of the sort
+module _ (seen : JournalEntry → List ℕ) where
+  above_from : (xs : List JournalEntry) (n : ℕ) → IsNonDecreasingBy (λ x. x.section) xs → ((d : JournalEntry) → 0 < length xs → n ≤ (get_or xs 0 d).section) → Above n (map (see seen) xs)
+  above_from [] n up low = tt
+  above_from (x ∷ xs) n up low = (low x (omega arith), above_from xs x.section (λ i j d le lt. up (suc i) (suc j) d (omega (arith, le)) (omega (arith, lt))) (λ d lt. up 0 1 d (omega arith) (omega (arith, lt))))
 
-pub sorted_in_order : (xs ys : List JournalEntry) → IsNonDecreasingBy (λ x. x.section) ys → IsStableByKey (λ x. x.section) nat_cmp xs ys → views ys ≡ in_order (views xs)
-sorted_in_order xs ys up stable = unique (views ys) (in_order (views xs)) 0 0 (above_from ys 0 up (λ d lt. omega arith)) (fold_above (views xs) [] tt) (λ k.
-    let one : JournalEntry = record { section = k; place = 0; body = [] } in
-    sym (section_views one ys) ∙ ap (map view) (stable one) ∙ section_views one xs ∙ sym (fold_section k (views xs) [] tt))
+  section_views : (x : JournalEntry) (xs : List JournalEntry) → map (see seen) (filter (ties (λ a b. is_lt (nat_cmp a.section b.section)) x) xs) ≡ of_section x.section (map (see seen) xs)
+  section_views x [] = refl
+  section_views x (y ∷ ys) =
+      ap (λ (b : Bool). map (see seen) (cond b (y ∷ filter (ties (λ a b. is_lt (nat_cmp a.section b.section)) x) ys) (filter (ties (λ a b. is_lt (nat_cmp a.section b.section)) x) ys))) (ties_is x.section y.section)
+      ∙ elim (y.section == x.section) as (λ (b : Bool). map (see seen) (cond b (y ∷ filter (ties (λ a b. is_lt (nat_cmp a.section b.section)) x) ys) (filter (ties (λ a b. is_lt (nat_cmp a.section b.section)) x) ys)) ≡ cond b (see seen y ∷ of_section x.section (map (see seen) ys)) (of_section x.section (map (see seen) ys))) [
+        | true ↦ ap (λ (l : List Entry). see seen y ∷ l) (section_views x ys)
+        | false ↦ section_views x ys
+      ]
+
+  pub sorted_in_order : (xs ys : List JournalEntry) → IsNonDecreasingBy (λ x. x.section) ys → IsStableByKey (λ x. x.section) nat_cmp xs ys → map (λ (e : JournalEntry). (e.section, seen e)) ys ≡ in_order (map (λ (e : JournalEntry). (e.section, seen e)) xs)
+  sorted_in_order xs ys up stable = unique (map (see seen) ys) (in_order (map (see seen) xs)) 0 0 (above_from ys 0 up (λ d lt. omega arith)) (fold_above (map (see seen) xs) [] tt) (λ k.
+      let one : JournalEntry = record { section = k; place = 0; body = [] } in
+      sym (section_views one ys) ∙ ap (map (see seen)) (stable one) ∙ section_views one xs ∙ sym (fold_section k (map (see seen) xs) [] tt))

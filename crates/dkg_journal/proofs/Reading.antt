@@ -1,11 +1,14 @@
 -- Reading a file, record by record.
-use Rattle.std.proofs.Common.{◌≡◌, ◌≢◌, inl, inr, ℕ, suc, ◌+◌, ◌<◌, ◌≤◌, ◌^◌, Some, None, List, [], ◌∷◌, ◌++◌, length, take, drop, get_or, refl, sym, ◌∙◌, ap, subst, arith, append_assoc, length-append, take-append-drop}
+use Rattle.std.proofs.Common.{◌≡◌, ◌≢◌, inl, inr, ℕ, suc, ◌+◌, ◌<◌, ◌≤◌, ◌^◌, Some, None, List, [], ◌∷◌, ◌++◌, length, map, take, drop, get_or, refl, sym, ◌∙◌, ap, subst, arith, append_assoc, length-append, take-append-drop}
 use Rattle.std.specs.Int.{w32, from_be_bytes, to_be_bytes}
 use Rattle.std.proofs.lemmas.List.{get_or_past, length-take-le, get_or-take, append-nil, map-append, nil_from_length}
 use Rattle.std.proofs.lemmas.Nat.{be_bytes_4}
 use Rattle.std.proofs.lemmas.Bool.{cases_lt}
 use Rattle.std.proofs.lemmas.Bool.Decides.{nat_tests}
 use Rattle.dkg_journal.specs.Records.{Entry, number32, read32, record_of, spelled, in_sections, in_order, IsFlatBody, Ends, Stops, Front, Whole, bodies, left_over, open_gate, broken_at, flat_entries, entry_of, IsFlat}
+use Rattle.dkg_journal.specs.Gated.{gated, gated_body, gated_from, FrontGated}
+use Rattle.dkg_journal.specs.Views.{view, views}
+use Rattle.dkg_journal.specs.declared.opening.JournalEntry.{JournalEntry}
 use Rattle.dkg_journal.proofs.Bytes.{spelled-push, short-push, read_spelled, shut_stops, length-number32, read32-number32}
 
 -- the four bytes of a length, and the body behind them
@@ -34,6 +37,32 @@ front_more bytes rest after out out' e place body next front is_open is short is
       stands_for = pushed ∙ (λ i. front.stands_for i ++ is_entry i ∷ []) ∙ sym (map-append entry_of front.bs (body ∷ []));
       size = ap length (spelled-push front.bs body) ∙ omega (arith, front.size, length-append (spelled front.bs) (record_of body), length-append (number32 (length body)) body, length-number32 (length body));
       short = short-push front.bs body front.short short;
+    }
+
+-- before the first record
+pub front_none : (bytes : List ℕ) (es : List JournalEntry) → es ≡ [] → FrontGated bytes bytes es 0
+front_none bytes es none = record { front = record { bs = []; split = refl; stands_for = ap views none; size = refl; short = tt }; gates = ap (map gated) none }
+
+pub record_size : (body : List ℕ) → length (record_of body) ≡ 5 + length body
+record_size body = omega (arith, length-append (number32 (length body)) body, length-number32 (length body))
+
+gated_push : (place : ℕ) (bs : List (List ℕ)) (b : List ℕ) → gated_from place (bs ++ b ∷ []) ≡ gated_from place bs ++ gated_body (place + length (spelled bs)) b ∷ []
+gated_push place [] b = ap (λ (n : ℕ). gated_body n b ∷ []) (omega arith)
+gated_push place (x ∷ xs) b =
+    ap (λ (l : List Entry). gated_body place x ∷ l) (gated_push (place + (5 + length x)) xs b
+    ∙ ap (λ (n : ℕ). gated_from (place + (5 + length x)) xs ++ gated_body n b ∷ []) (omega (arith, record_size x, length-append (record_of x) (spelled xs))))
+
+-- .. each with the place of its gate
+pub front_gated : (bytes rest after : List ℕ) (es es' : List JournalEntry) (e : JournalEntry) (place : ℕ) (body next : List ℕ) → FrontGated bytes rest es place → rest ≡ 1 ∷ after → after ≡ number32 (length body) ++ (body ++ next) → IsFlatBody body
+    → view e ≡ entry_of body → e.place ≡ place → es' ≡ es ++ e ∷ [] → FrontGated bytes next es' (place + (5 + length body))
+unfolding front_more
+front_gated bytes rest after es es' e place body next front is_open is short is_entry stands pushed =
+    let from : e.place ≡ 0 + length (spelled front.front.bs) = stands ∙ sym front.front.size ∙ omega arith in
+    record {
+      front = front_more bytes rest after (views es) (views es') (view e) place body next front.front is_open is short is_entry (ap views pushed ∙ map-append view es (e ∷ []));
+      gates = ap (map gated) pushed ∙ map-append gated es (e ∷ [])
+          ∙ (λ i. front.gates i ++ ((is_entry i).0, from i ∷ (is_entry i).1) ∷ [])
+          ∙ sym (gated_push 0 front.front.bs body);
     }
 
 -- where a gate that isn't open stands, it is a flat file
@@ -76,6 +105,10 @@ pub whole_entries : (bytes : List ℕ) (out : List Entry) (place : ℕ) → Whol
 whole_entries bytes out place whole =
     let read = read_front bytes whole.rest out place whole.front (ends_stops whole.rest whole.ends) in
     ap in_order whole.front.stands_for ∙ ap in_sections (sym read.0)
+
+-- what was read, with the places
+pub whole_gated : (bytes rest : List ℕ) (es : List JournalEntry) (place : ℕ) → FrontGated bytes rest es place → Ends rest → map gated es ≡ gated_from 0 (bodies 8 (length bytes) bytes)
+whole_gated bytes rest es place front ends = front.gates ∙ ap (gated_from 0) (sym (read_front bytes rest (views es) place front.front (ends_stops rest ends)).0)
 
 no_gate : (n : ℕ) (rest : List ℕ) → Ends rest → open_gate n rest ≡ None
 no_gate n [] ends = refl

@@ -13,7 +13,7 @@ use Rattle.dkg_journal.specs.Names.{Files, name_cmp, name_number, name_at, name_
 use Rattle.dkg_journal.specs.Disk.{SameElse, HasFile, Follows, Inside, Lands, IsUnchanged}
 use Rattle.dkg_journal.specs.Fuse.{Ran, RanAll}
 use Rattle.dkg_journal.specs.Records.{Entry, entries, placed}
-use Rattle.dkg_journal.specs.Steps.{Firm, IsOpenAt, FlatAt, Keeps, Adds, MayAdd, Into, append_calls}
+use Rattle.dkg_journal.specs.Steps.{Firm, IsOpenAt, FlatAt, Keeps, Adds, MayAdd, Into, append_calls_at}
 use Rattle.dkg_journal.specs.Operations.{Journaled, journaled, with_name, Operation, Opens, Appends, after_operation, calls_of, InPart, Tries, Tried, Finished}
 use Rattle.dkg_journal.specs.Opening.{open_calls}
 use Rattle.dkg_journal.specs.declared.disk.Op.{Op}
@@ -121,21 +121,21 @@ adds_else : (e : Entry) (a b : Files → Type 0) → Follows (Adds e) a b → Fo
 adds_else e a b step = weaken (Adds e) (SameElse Flat) a b (λ x y now k. k.others) step
 
 -- the calls of an append, of what the files are
-pub append_size : (place : Option ℕ) (e : Entry) (old : Files) (image : Files → Type 0) → IsOpenAt place old image → length (append_calls place e) ≡ calls_of (Appends e) old
+pub append_size : (place : Option ℕ) (e : Entry) (old : Files) (image : Files → Type 0) → IsOpenAt place old image → length (append_calls_at place e) ≡ calls_of (Appends e) old
 append_size (Some p) e old image open_at = sym (ap (λ (o : Option (List ℕ)). cond (is_some o) 4 5) open_at.firm.there)
 append_size None e old image open_at = sym (ap (λ (o : Option (List ℕ)). cond (is_some o) 4 5) open_at.none)
 
-pub tried_append : {D : Type 0} (made : D → D → List Op → Type 0) (a b : D) (f g : Burn) (place : Option ℕ) (e : Entry) (old : Files) (image next : Files → Type 0) → IsOpenAt place old image → Ran made a b f g (append_calls place e) → ((c : Files) → next c → Tries (Appends e) old c) → Tried (Appends e) old next f g
-tried_append made a b f g place e old image next open_at ran each = record { each = each; spent = ran_spent made a b f g (append_calls place e) (calls_of (Appends e) old) (append_size place e old image open_at) ran }
+pub tried_append : {D : Type 0} (made : D → D → List Op → Type 0) (a b : D) (f g : Burn) (place : Option ℕ) (e : Entry) (old : Files) (image next : Files → Type 0) → IsOpenAt place old image → Ran made a b f g (append_calls_at place e) → ((c : Files) → next c → Tries (Appends e) old c) → Tried (Appends e) old next f g
+tried_append made a b f g place e old image next open_at ran each = record { each = each; spent = ran_spent made a b f g (append_calls_at place e) (calls_of (Appends e) old) (append_size place e old image open_at) ran }
 
-pub finished_append : {D : Type 0} (made : D → D → List Op → Type 0) (a b : D) (f g : Burn) (place : Option ℕ) (at : ℕ) (e : Entry) (old new : Files) (image next : Files → Type 0) → IsOpenAt place old image → Lands old image → FlatAt at new next → Follows (Adds e) image next → next new → RanAll made a b f g (append_calls place e) → Finished (Appends e) old new next f g
+pub finished_append : {D : Type 0} (made : D → D → List Op → Type 0) (a b : D) (f g : Burn) (place : Option ℕ) (at : ℕ) (e : Entry) (old new : Files) (image next : Files → Type 0) → IsOpenAt place old image → Lands old image → FlatAt at new next → Follows (Adds e) image next → next new → RanAll made a b f g (append_calls_at place e) → Finished (Appends e) old new next f g
 finished_append made a b f g place at e old new image next open_at lands flat step now all =
     let from = step.each new now in
     let adds : Adds e old new = subst (λ (d : Files). Adds e d new) (lands.only from.0 from.1) from.2 in
     record {
       after = appended e old new adds.others (record { bytes = flat.bytes; there = flat.firm.there; so = tt }) adds.added;
       settled = settled_flat flat.bytes old new image next lands flat.firm (adds_else e image next step) now;
-      spent = all_burnt made a b f g (append_calls place e) (calls_of (Appends e) old) (append_size place e old image open_at) all;
+      spent = all_burnt made a b f g (append_calls_at place e) (calls_of (Appends e) old) (append_size place e old image open_at) all;
     }
 
 -- a file put in place of one that is there, with the same entries

@@ -67,5 +67,5 @@ abbrev pub make_calls : Option ℕ → List Op
 make_calls (Some place) = []
 make_calls None = make_flat ∷ []
 
-abbrev pub append_calls : Option ℕ → Entry → List Op
-append_calls place e = make_calls place ++ record_calls (start place) e
+abbrev pub append_calls_at : Option ℕ → Entry → List Op
+append_calls_at place e = make_calls place ++ record_calls (start place) e

@@ -9,7 +9,7 @@ use Rattle.dkg_values.specs.declared.name.Name.{Name}
 use Rattle.dkg_journal.specs.Names.{Files, name_cmp, name_number}
 use Rattle.dkg_journal.specs.declared.disk.Op.{Op}
 use Rattle.dkg_journal.specs.declared.disk.Op.TheVariants.{WriteAt, Sync, Barrier, Install, Remove}
-use Rattle.dkg_journal.specs.Kept.{Kept, FileImage, settled, wrote, Picked, LeftOver}
+use Rattle.dkg_journal.specs.Kept.{Kept, FileImage, settled, wrote, kept_to, Picked, LeftOver}
 
 -- names rising, each with its file
 abbrev pub Rows : Type 0
@@ -93,6 +93,18 @@ row_bytes row = (row.0, row.1.bytes)
 
 abbrev pub contents : Rows → Files
 contents rows = from_entries {R = name_cmp} (map row_bytes rows)
+
+-- what the last sync left of a file, if it is there
+abbrev pub synced_of : Option Kept → Option (List ℕ)
+synced_of None = None
+synced_of (Some f) = Some (kept_to 0 f)
+
+abbrev pub synced_at : Name → Rows → Option (List ℕ)
+synced_at name rows = synced_of (file_at name rows)
+
+-- what the last sync left is the same
+pub record KeepsSynced (old new : Rows) : Type 0 where
+  pub each : (q : Name) → synced_at q new ≡ synced_at q old
 
 -- a file and what a crash leaves of it are both there or neither is
 abbrev pub MatchFile : Option Kept → Option (List ℕ) → Type 0

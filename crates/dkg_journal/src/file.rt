@@ -182,6 +182,7 @@ impl File {
         ensures done { OnOk result (self.new ≡ wrote place bytes.now self.old) }
         ensures kept { OnErr result (self.new ≡ self.old) }
         ensures sound { self.old.synced ≤ length self.old.bytes }
+        ensures within { AreWithin self.old.undo (length self.old.bytes) }
     {
         let old = overwritten(alloc, &self.bytes, place, bytes.len())?;
         self.undo.reserve(1)?;

@@ -4,12 +4,13 @@
 ghost use Rattle.std.specs.Prelude.{◌≡◌, ◌≢◌, ◌⊎◌, ◌↔◌, ◌<◌, ◌≤◌, ◌^◌, ◌+◌, ◌++◌, [], ◌∷◌, List, ℕ, Option, Some, None, length, OnOk, IfOk, IfErr, IsErrOf, IsTrue};
 ghost use Rattle.dkg_journal.specs.Errors.{IsOfDevice};
 ghost use Rattle.dkg_journal.specs.Names.{Files};
+ghost use Rattle.dkg_journal.specs.Journals.{IsOpen, append_calls};
 ghost use Rattle.dkg_journal.specs.Disk.{Follows, Allowed, Lands, Torn, Rose, written};
 ghost use Rattle.dkg_journal.specs.Fuse.{Reached, Ran, RanAll, Fused};
 ghost use Rattle.dkg_journal.specs.Operations.{Tried, Finished, Appends};
 ghost use Rattle.dkg_journal.specs.Ready.{IsReady};
 ghost use Rattle.dkg_journal.specs.Records.{behind, number64};
-ghost use Rattle.dkg_journal.specs.Steps.{Firm, IsOpenAt, Into, Keeps, Adds, MayAdd, FlatAt, start, make_flat, make_calls, record_calls, append_calls, body_of};
+ghost use Rattle.dkg_journal.specs.Steps.{Firm, IsOpenAt, Into, Keeps, Adds, MayAdd, FlatAt, start, make_flat, make_calls, record_calls, append_calls_at, body_of};
 ghost use Rattle.dkg_values.specs.declared.name.Name.{Name};
 
 use crate::{Disk, Fuse, JournalEntry, JournalError, Op, perform};
@@ -164,8 +165,8 @@ fn append_prepared<D: Disk>(
     ensures fused { Fused JournalError.Cut JournalError.NoMemory result fuse.old fuse.new }
     ensures cut { IsErrOf result JournalError.Cut → Reached fuse.old fuse.new }
     ensures not_cut { OnOk result (Reached fuse.old fuse.new → ⊥) }
-    ensures all { OnOk result (RanAll D.made disk.old disk.new fuse.old fuse.new (append_calls place (section, body.now))) }
-    ensures calls { Ran D.made disk.old disk.new fuse.old fuse.new (append_calls place (section, body.now)) }
+    ensures all { OnOk result (RanAll D.made disk.old disk.new fuse.old fuse.new (append_calls_at place (section, body.now))) }
+    ensures calls { Ran D.made disk.old disk.new fuse.old fuse.new (append_calls_at place (section, body.now)) }
 {
     make_file(alloc, disk, fuse, place, &calls.make)?;
     write_flat(alloc, disk, fuse, &calls.write)?;
@@ -176,7 +177,7 @@ fn append_prepared<D: Disk>(
 impl Journal {
     /// What an append will write, with all the memory that it takes.
     pub fn ready(&self, alloc: Global, section: u64, body: &[u8]) -> Result<Prepared, JournalError>
-        ensures calls { IfOk result (λ calls. IsReady calls self.now.place (section, body.now)) }
+        ensures calls { IfOk result (λ calls. IsReady calls self.now (section, body.now)) }
         ensures too_long { IsErrOf result JournalError.TooLong ↔ 2 ^ 32 ≤ 8 + length body.now }
         ensures kinds { IfErr result (λ e. (e ≡ JournalError.TooLong) ⊎ (e ≡ JournalError.NoMemory)) }
     {
@@ -201,9 +202,9 @@ impl Journal {
         section: u64,
         body: &[u8],
     ) -> Result<(), JournalError>
-        requires ready { IsReady calls.now self.old.place (section, body.now) }
-        requires open { IsTrue D.tells → IsOpenAt self.old.place (D.files disk.old) (D.image disk.old) }
-        ensures open { OnOk result (IsTrue D.tells → IsOpenAt self.new.place (D.files disk.new) (D.image disk.new)) }
+        requires ready { IsReady calls.now self.old (section, body.now) }
+        requires open { IsTrue D.tells → IsOpen self.old (D.files disk.old) (D.image disk.old) }
+        ensures open { OnOk result (IsTrue D.tells → IsOpen self.new (D.files disk.new) (D.image disk.new)) }
         ensures added { OnOk result (IsTrue D.tells → Follows (Adds (section, body.now)) (D.image disk.old) (D.image disk.new)) }
         ensures images { IsTrue D.tells → Follows (MayAdd (section, body.now)) (D.image disk.old) (D.image disk.new) }
         ensures done { OnOk result (IsTrue D.tells → Lands (D.files disk.old) (D.image disk.old) → Finished (Appends (section, body.now)) (D.files disk.old) (D.files disk.new) (D.image disk.new) fuse.old fuse.new) }
@@ -216,8 +217,8 @@ impl Journal {
         ensures fused { Fused JournalError.Cut JournalError.NoMemory result fuse.old fuse.new }
         ensures cut { IsErrOf result JournalError.Cut → Reached fuse.old fuse.new }
         ensures not_cut { OnOk result (Reached fuse.old fuse.new → ⊥) }
-        ensures all { OnOk result (RanAll D.made disk.old disk.new fuse.old fuse.new (append_calls self.old.place (section, body.now))) }
-        ensures calls { Ran D.made disk.old disk.new fuse.old fuse.new (append_calls self.old.place (section, body.now)) }
+        ensures all { OnOk result (RanAll D.made disk.old disk.new fuse.old fuse.new (append_calls self.old (section, body.now))) }
+        ensures calls { Ran D.made disk.old disk.new fuse.old fuse.new (append_calls self.old (section, body.now)) }
     {
         append_prepared(alloc, disk, fuse, self.place, calls, section, body)?;
         self.place = Some(self.place.unwrap_or(0) + 13 + body.len() as u64);
@@ -233,8 +234,8 @@ impl Journal {
         section: u64,
         body: &[u8],
     ) -> Result<(), JournalError>
-        requires { IsTrue D.tells → IsOpenAt self.old.place (D.files disk.old) (D.image disk.old) }
-        ensures open { OnOk result (IsTrue D.tells → IsOpenAt self.new.place (D.files disk.new) (D.image disk.new)) }
+        requires { IsTrue D.tells → IsOpen self.old (D.files disk.old) (D.image disk.old) }
+        ensures open { OnOk result (IsTrue D.tells → IsOpen self.new (D.files disk.new) (D.image disk.new)) }
         ensures added { OnOk result (IsTrue D.tells → Follows (Adds (section, body.now)) (D.image disk.old) (D.image disk.new)) }
         // Each image has the entries from before, with the new one or without.
         ensures images { IsTrue D.tells → Follows (MayAdd (section, body.now)) (D.image disk.old) (D.image disk.new) }
@@ -250,8 +251,8 @@ impl Journal {
         ensures not_corrupt { (name : Name) (place : ℕ) → IsErrOf result (JournalError.Corrupt name place) → ⊥ }
         ensures cut { IsErrOf result JournalError.Cut → Reached fuse.old fuse.new }
         ensures not_cut { OnOk result (Reached fuse.old fuse.new → ⊥) }
-        ensures all { OnOk result (RanAll D.made disk.old disk.new fuse.old fuse.new (append_calls self.old.place (section, body.now))) }
-        ensures calls { Ran D.made disk.old disk.new fuse.old fuse.new (append_calls self.old.place (section, body.now)) }
+        ensures all { OnOk result (RanAll D.made disk.old disk.new fuse.old fuse.new (append_calls self.old (section, body.now))) }
+        ensures calls { Ran D.made disk.old disk.new fuse.old fuse.new (append_calls self.old (section, body.now)) }
     {
         let calls = self.ready(alloc, section, body)?;
         self.append_ready(alloc, disk, fuse, &calls, section, body)

@@ -1,13 +1,15 @@
 //! A disk in memory whose calls fail by number.
 //!
 //! Runs and tests stand on it. What it holds, and what a crash leaves, is the affair of the sure disk inside.
-ghost use Rattle.std.specs.Prelude.{◌≡◌, ◌≤◌, ◌↔◌, [], ◌∷◌, None, OnOk, OnErr, IsTrue, Contains};
+ghost use Rattle.std.specs.Prelude.{◌≡◌, ◌≤◌, ◌%◌, ◌↔◌, [], ◌∷◌, None, OnOk, OnErr, IfOk, IsErrOf, IsTrue, Contains, option_map};
+ghost use Rattle.std.specs.FinMap as map;
 ghost use Rattle.dkg_journal.specs.Fuse.{counted};
-ghost use Rattle.dkg_journal.specs.declared.memory.MemoryDisk.{MemoryDisk};
-ghost use Rattle.dkg_journal.specs.Disk.{Allowed, Rose, Lands, Follows, Inside, IsUnchanged};
+ghost use Rattle.dkg_journal.specs.Failing.{files_of, images_of, FailsByNumber};
+ghost use Rattle.dkg_journal.specs.Disk.{Allowed, Did, Rose, Lands, Follows, Inside, IsUnchanged, HasCause, HasWant};
 ghost use Rattle.dkg_journal.specs.Made.{Made};
 ghost use Rattle.dkg_journal.specs.Names.{Files};
-ghost use Rattle.dkg_journal.specs.Table.{contents, RowsImage, CrashedBy, CutBy};
+ghost use Rattle.dkg_journal.specs.Table.{CrashedBy, CutBy, KeepsSynced, synced_at};
+ghost use Rattle.dkg_values.specs.declared.name.Name.{Name};
 
 use crate::{Disk, DiskError, Op, SureDisk};
 use dkg_values::{Mem, Name};
@@ -30,6 +32,7 @@ impl MemoryDisk {
     pub fn new(alloc: Global) -> MemoryDisk
         ensures files { result.disk.files ≡ [] }
         ensures faults { result.faults ≡ 0 }
+        ensures failing { result.failing.items ≡ [] }
     {
         MemoryDisk::failing(alloc, Vec::new(alloc))
     }
@@ -91,14 +94,32 @@ impl Disk for MemoryDisk {
 
     ghost made_more = { λ a b c xs ys p q. made_both xs ys a.disk.changes b.disk.changes c.disk.changes (RowsImage a.disk.files) (RowsImage b.disk.files) (RowsImage c.disk.files) p q };
 
-    fn list(&mut self, alloc: Global) -> Result<Vec<Name>, DiskError> {
+    fn list(&mut self, alloc: Global) -> Result<Vec<Name>, DiskError>
+        ensures names { IfOk result (λ names. names.items ≡ map.keys (files_of self.old)) }
+        ensures same { IsUnchanged files_of images_of self.old self.new }
+        ensures cause { HasCause self.old.faults self.new.faults result }
+        ensures want { HasWant self.old.disk.wants self.new.disk.wants result }
+        ensures calls { Made [] self.old.disk.changes self.new.disk.changes (images_of self.old) (images_of self.new) }
+        // Exactly the calls of these numbers fail.
+        ensures number { FailsByNumber DiskError.Failed self.old.failing.items self.old.calls self.new.calls result }
+        ensures numbers { self.new.failing ≡ self.old.failing }
+    {
         if self.fails() {
             return Err(DiskError::Failed);
         }
         self.disk.list(alloc)
     }
 
-    fn read(&mut self, alloc: Global, name: Name) -> Result<Option<Vec<u8>>, DiskError> {
+    fn read(&mut self, alloc: Global, name: Name) -> Result<Option<Vec<u8>>, DiskError>
+        ensures bytes { IfOk result (λ bytes. option_map (λ v. v.items) bytes ≡ map.get (files_of self.old) name) }
+        ensures same { IsUnchanged files_of images_of self.old self.new }
+        ensures cause { HasCause self.old.faults self.new.faults result }
+        ensures want { HasWant self.old.disk.wants self.new.disk.wants result }
+        ensures calls { Made [] self.old.disk.changes self.new.disk.changes (images_of self.old) (images_of self.new) }
+        // Exactly the calls of these numbers fail.
+        ensures number { FailsByNumber DiskError.Failed self.old.failing.items self.old.calls self.new.calls result }
+        ensures numbers { self.new.failing ≡ self.old.failing }
+    {
         if self.fails() {
             return Err(DiskError::Failed);
         }
@@ -111,7 +132,20 @@ impl Disk for MemoryDisk {
         name: Name,
         place: u64,
         bytes: &[u8],
-    ) -> Result<(), DiskError> {
+    ) -> Result<(), DiskError>
+        requires { Allowed (files_of self.old) (Op.WriteAt name place bytes.now) }
+        ensures done { OnOk result (Did (Op.WriteAt name place bytes.now) (files_of self.old) (files_of self.new) (images_of self.new)) }
+        ensures crash { Follows (Inside (Op.WriteAt name place bytes.now)) (images_of self.old) (images_of self.new) }
+        ensures memory { IsErrOf result DiskError.NoMemory → IsUnchanged files_of images_of self.old self.new }
+        ensures cause { HasCause self.old.faults self.new.faults result }
+        ensures want { HasWant self.old.disk.wants self.new.disk.wants result }
+        ensures calls { Made (Op.WriteAt name place bytes.now ∷ []) self.old.disk.changes self.new.disk.changes (images_of self.old) (images_of self.new) }
+        // What the last sync left is not touched.
+        ensures synced { KeepsSynced self.old.disk.files self.new.disk.files }
+        // Exactly the calls of these numbers fail.
+        ensures number { FailsByNumber DiskError.Failed self.old.failing.items self.old.calls self.new.calls result }
+        ensures numbers { self.new.failing ≡ self.old.failing }
+    {
         if self.fails() {
             self.disk.count_change();
             return Err(DiskError::Failed);
@@ -119,7 +153,18 @@ impl Disk for MemoryDisk {
         self.disk.write_at(alloc, name, place, bytes)
     }
 
-    fn sync(&mut self, alloc: Global, name: Name) -> Result<(), DiskError> {
+    fn sync(&mut self, alloc: Global, name: Name) -> Result<(), DiskError>
+        ensures done { OnOk result (Did (Op.Sync name) (files_of self.old) (files_of self.new) (images_of self.new)) }
+        ensures failed { files_of self.new ≡ files_of self.old }
+        ensures crash { Follows (Inside (Op.Sync name)) (images_of self.old) (images_of self.new) }
+        ensures memory { IsErrOf result DiskError.NoMemory → IsUnchanged files_of images_of self.old self.new }
+        ensures cause { HasCause self.old.faults self.new.faults result }
+        ensures want { HasWant self.old.disk.wants self.new.disk.wants result }
+        ensures calls { Made (Op.Sync name ∷ []) self.old.disk.changes self.new.disk.changes (images_of self.old) (images_of self.new) }
+        // Exactly the calls of these numbers fail.
+        ensures number { FailsByNumber DiskError.Failed self.old.failing.items self.old.calls self.new.calls result }
+        ensures numbers { self.new.failing ≡ self.old.failing }
+    {
         if self.fails() {
             self.disk.count_change();
             return Err(DiskError::Failed);
@@ -127,7 +172,18 @@ impl Disk for MemoryDisk {
         self.disk.sync(alloc, name)
     }
 
-    fn barrier(&mut self, alloc: Global) -> Result<(), DiskError> {
+    fn barrier(&mut self, alloc: Global) -> Result<(), DiskError>
+        ensures done { OnOk result (Did Op.Barrier (files_of self.old) (files_of self.new) (images_of self.new)) }
+        ensures failed { files_of self.new ≡ files_of self.old }
+        ensures crash { Follows (Inside Op.Barrier) (images_of self.old) (images_of self.new) }
+        ensures memory { IsErrOf result DiskError.NoMemory → IsUnchanged files_of images_of self.old self.new }
+        ensures cause { HasCause self.old.faults self.new.faults result }
+        ensures want { HasWant self.old.disk.wants self.new.disk.wants result }
+        ensures calls { Made (Op.Barrier ∷ []) self.old.disk.changes self.new.disk.changes (images_of self.old) (images_of self.new) }
+        // Exactly the calls of these numbers fail.
+        ensures number { FailsByNumber DiskError.Failed self.old.failing.items self.old.calls self.new.calls result }
+        ensures numbers { self.new.failing ≡ self.old.failing }
+    {
         if self.fails() {
             self.disk.count_change();
             return Err(DiskError::Failed);
@@ -135,7 +191,17 @@ impl Disk for MemoryDisk {
         self.disk.barrier(alloc)
     }
 
-    fn install(&mut self, alloc: Global, name: Name, bytes: &[u8]) -> Result<(), DiskError> {
+    fn install(&mut self, alloc: Global, name: Name, bytes: &[u8]) -> Result<(), DiskError>
+        ensures done { OnOk result (Did (Op.Install name bytes.now) (files_of self.old) (files_of self.new) (images_of self.new)) }
+        ensures crash { Follows (Inside (Op.Install name bytes.now)) (images_of self.old) (images_of self.new) }
+        ensures memory { IsErrOf result DiskError.NoMemory → IsUnchanged files_of images_of self.old self.new }
+        ensures cause { HasCause self.old.faults self.new.faults result }
+        ensures want { HasWant self.old.disk.wants self.new.disk.wants result }
+        ensures calls { Made (Op.Install name bytes.now ∷ []) self.old.disk.changes self.new.disk.changes (images_of self.old) (images_of self.new) }
+        // Exactly the calls of these numbers fail.
+        ensures number { FailsByNumber DiskError.Failed self.old.failing.items self.old.calls self.new.calls result }
+        ensures numbers { self.new.failing ≡ self.old.failing }
+    {
         if self.fails() {
             self.disk.count_change();
             return Err(DiskError::Failed);
@@ -143,7 +209,17 @@ impl Disk for MemoryDisk {
         self.disk.install(alloc, name, bytes)
     }
 
-    fn remove(&mut self, alloc: Global, name: Name) -> Result<(), DiskError> {
+    fn remove(&mut self, alloc: Global, name: Name) -> Result<(), DiskError>
+        ensures done { OnOk result (Did (Op.Remove name) (files_of self.old) (files_of self.new) (images_of self.new)) }
+        ensures crash { Follows (Inside (Op.Remove name)) (images_of self.old) (images_of self.new) }
+        ensures memory { IsErrOf result DiskError.NoMemory → IsUnchanged files_of images_of self.old self.new }
+        ensures cause { HasCause self.old.faults self.new.faults result }
+        ensures want { HasWant self.old.disk.wants self.new.disk.wants result }
+        ensures calls { Made (Op.Remove name ∷ []) self.old.disk.changes self.new.disk.changes (images_of self.old) (images_of self.new) }
+        // Exactly the calls of these numbers fail.
+        ensures number { FailsByNumber DiskError.Failed self.old.failing.items self.old.calls self.new.calls result }
+        ensures numbers { self.new.failing ≡ self.old.failing }
+    {
         if self.fails() {
             self.disk.count_change();
             return Err(DiskError::Failed);
@@ -152,14 +228,16 @@ impl Disk for MemoryDisk {
     }
 
     fn cut(&mut self, alloc: Global, op: &Op, pick: u64) -> Mem<()>
-        requires { Allowed (contents self.old.disk.files) op.now }
-        ensures cut { OnOk result (Lands (contents self.new.disk.files) (RowsImage self.new.disk.files)) }
-        ensures crash { Follows (Inside op.now) (RowsImage self.old.disk.files) (RowsImage self.new.disk.files) }
-        ensures memory { OnErr result (IsUnchanged (λ (d : MemoryDisk). contents d.disk.files) (λ (d : MemoryDisk). RowsImage d.disk.files) self.old self.new) }
+        requires { Allowed (files_of self.old) op.now }
+        ensures cut { OnOk result (Lands (files_of self.new) (images_of self.new)) }
+        ensures crash { Follows (Inside op.now) (images_of self.old) (images_of self.new) }
+        ensures memory { OnErr result (IsUnchanged files_of images_of self.old self.new) }
         ensures cause { self.new.faults ≡ self.old.faults }
         ensures later { self.old.disk.wants ≤ self.new.disk.wants }
         ensures wanted { OnErr result (Rose self.old.disk.wants self.new.disk.wants) }
-        ensures calls { Made (op.now ∷ []) self.old.disk.changes self.new.disk.changes (RowsImage self.old.disk.files) (RowsImage self.new.disk.files) }
+        ensures calls { Made (op.now ∷ []) self.old.disk.changes self.new.disk.changes (images_of self.old) (images_of self.new) }
+        ensures uncounted { self.new.calls ≡ self.old.calls }
+        ensures numbers { self.new.failing ≡ self.old.failing }
         // It has done what the pick says.
         ensures picked { OnOk result (CutBy op.now pick self.old.disk.files self.new.disk.files) }
     {
@@ -167,9 +245,13 @@ impl Disk for MemoryDisk {
     }
 
     fn crash(&mut self, pick: u64)
-        ensures lands { Lands (contents self.new.disk.files) (RowsImage self.new.disk.files) }
-        ensures crash { (c : Files) → RowsImage self.new.disk.files c → RowsImage self.old.disk.files c }
+        ensures lands { Lands (files_of self.new) (images_of self.new) }
+        ensures crash { (c : Files) → images_of self.new c → images_of self.old c }
         ensures cause { self.new.faults ≡ self.old.faults }
+        ensures uncounted { self.new.calls ≡ self.old.calls }
+        ensures numbers { self.new.failing ≡ self.old.failing }
+        // Where the pick says so it has left what the last sync left.
+        ensures synced { pick % 4 ≡ 1 → (name : Name) → map.get (files_of self.new) name ≡ synced_at name self.old.disk.files }
         // It has left what the pick says.
         ensures picked { CrashedBy pick None self.old.disk.files self.new.disk.files }
     {

@@ -1,7 +1,7 @@
 //! Opening a journal on a disk that a crash may have left.
 //!
 //! The store calls it once a life, after a barrier.
-ghost use Rattle.std.specs.Prelude.{◌≡◌, ◌≢◌, ◌⊎◌, ◌<◌, ◌≤◌, ◌^◌, ◌+◌, ◌++◌, [], ◌∷◌, List, ℕ, Option, Some, None, length, OnOk, IfOk, IfErr, IsErrOf, IsTrue, option_map};
+ghost use Rattle.std.specs.Prelude.{◌≡◌, ◌≢◌, ◌⊎◌, ◌<◌, ◌≤◌, ◌^◌, ◌+◌, ◌++◌, [], ◌∷◌, List, ℕ, Option, Some, None, length, map, OnOk, IfOk, IfErr, IsErrOf, IsTrue, option_map};
 ghost use Rattle.std.specs.FinMap.{get};
 ghost use Rattle.dkg_journal.specs.Errors.{IsOfDevice, IsOfDisk};
 ghost use Rattle.dkg_journal.specs.Names.{Files};
@@ -10,8 +10,10 @@ ghost use Rattle.dkg_journal.specs.Fuse.{Reached, Ran, RanAll, Fused};
 ghost use Rattle.dkg_journal.specs.Operations.{Tried, Finished, Opens, journaled};
 ghost use Rattle.dkg_journal.specs.Opening.{IsFormOfToday, broken, mend_of, open_calls};
 ghost use Rattle.dkg_journal.specs.Records.{Entry, Whole, entries};
+ghost use Rattle.dkg_journal.specs.Gated.{gated, gated_entries};
 ghost use Rattle.dkg_journal.specs.Views.{views};
-ghost use Rattle.dkg_journal.specs.Steps.{Firm, FlatAt, IsOpenAt, Keeps};
+ghost use Rattle.dkg_journal.specs.Journals.{IsOpen};
+ghost use Rattle.dkg_journal.specs.Steps.{Firm, FlatAt, Keeps};
 ghost use Rattle.dkg_values.specs.declared.name.Name.{Name};
 ghost use Rattle.dkg_values.specs.declared.name.Name.TheVariants.{Flat};
 
@@ -83,9 +85,11 @@ impl Journal {
         disk: &mut D,
         fuse: &mut Fuse,
     ) -> Result<Journal, JournalError>
-        ensures open { IfOk result (λ j. IsTrue D.tells → Lands (D.files disk.old) (D.image disk.old) → IsFormOfToday (D.files disk.old) → IsOpenAt j.place (D.files disk.new) (D.image disk.new)) }
+        ensures open { IfOk result (λ j. IsTrue D.tells → Lands (D.files disk.old) (D.image disk.old) → IsFormOfToday (D.files disk.old) → IsOpen j (D.files disk.new) (D.image disk.new)) }
         // What it read is what the files stand for.
         ensures listed { IfOk result (λ j. IsTrue D.tells → IsFormOfToday (D.files disk.old) → views j.waiting.items ≡ entries (D.files disk.old)) }
+        // .. each with the place of its gate.
+        ensures gated { IfOk result (λ j. IsTrue D.tells → map gated j.waiting.items ≡ gated_entries (D.files disk.old)) }
         ensures images { IsTrue D.tells → Lands (D.files disk.old) (D.image disk.old) → Follows Keeps (D.image disk.old) (D.image disk.new) }
         // What the files stand for, where nothing of the disk was loose: the same, and nothing is loose.
         ensures done { OnOk result (IsTrue D.tells → Lands (D.files disk.old) (D.image disk.old) → Finished Opens (D.files disk.old) (D.files disk.new) (D.image disk.new) fuse.old fuse.new) }

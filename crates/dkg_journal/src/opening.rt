@@ -1,9 +1,10 @@
 //! Reading a journal's file: its entries, and the place of the gate behind them.
 //!
 //! Opening a journal calls this on what the disk read.
-ghost use Rattle.std.specs.Prelude.{◌≡◌, ◌≢◌, ◌⊎◌, ◌<◌, ◌≤◌, ◌^◌, ◌+◌, ◌++◌, [], ◌∷◌, List, ℕ, Option, Some, None, length, drop, take, OnOk, IfOk, IfSome, IfNone, IfErr, IsErrOf, MatchResult};
+ghost use Rattle.std.specs.Prelude.{◌≡◌, ◌≢◌, ◌⊎◌, ◌<◌, ◌≤◌, ◌^◌, ◌+◌, ◌++◌, [], ◌∷◌, List, ℕ, Option, Some, None, length, drop, map, take, OnOk, IfOk, IfSome, IfNone, IfErr, IsErrOf, MatchResult};
 ghost use Rattle.dkg_values.specs.declared.name.Name.{Name};
-ghost use Rattle.dkg_journal.specs.Records.{Entry, Ends, Front, Whole, number32, read32, read64, entry_of, broken_at, in_order};
+ghost use Rattle.dkg_journal.specs.Records.{Entry, Ends, Front, Whole, number32, read32, read64, entry_of, bodies, broken_at, in_order};
+ghost use Rattle.dkg_journal.specs.Gated.{gated, gated_from};
 ghost use Rattle.dkg_journal.specs.Views.{view, views};
 ghost use Rattle.dkg_journal.specs.Errors.{IsOfReading};
 
@@ -85,6 +86,7 @@ pub fn corrupt(place: u64) -> JournalError
 /// The entry of a flat body, which begins with its section.
 fn entry_at(alloc: Global, place: u64, body: &[u8]) -> Result<JournalEntry, JournalError>
     ensures entry { IfOk result (λ e. (view e ≡ entry_of body.now) × (8 ≤ length body.now)) }
+    ensures place { IfOk result (λ e. e.place ≡ place) }
     ensures kinds { IfErr result (λ e. (e ≡ JournalError.NoMemory) ⊎ ((e ≡ JournalError.Corrupt Name.Flat place) × (length body.now < 8))) }
 {
     let Some((section, content)) = u64_at(body) else {
@@ -107,6 +109,8 @@ pub struct Parsed {
 /// Reads the records of a flat file up to the first gate that is not open, or to its end.
 pub fn parse(alloc: Global, bytes: &[u8]) -> Result<Parsed, JournalError>
     ensures whole { IfOk result (λ p. Whole bytes.now (views p.entries.items) p.place) }
+    // Each entry has the place of its gate.
+    ensures gated { IfOk result (λ p. map gated p.entries.items ≡ gated_from 0 (bodies 8 (length bytes.now) bytes.now)) }
     ensures broken { IfErr result (λ e. (e ≡ JournalError.NoMemory) ⊎ ((place : ℕ) × (e ≡ JournalError.Corrupt Name.Flat place) × (broken_at bytes.now ≡ Some place))) }
 {
     let mut entries = Vec::new(alloc);
@@ -126,7 +130,8 @@ pub fn parse(alloc: Global, bytes: &[u8]) -> Result<Parsed, JournalError>
 
 /// The entries with sections rising, each section in its order.
 pub fn in_sections(entries: Vec<JournalEntry>) -> Result<Vec<JournalEntry>, AllocError>
-    ensures { IfOk result (λ v. views v.items ≡ in_order (views entries.items)) }
+    ensures listed { IfOk result (λ v. views v.items ≡ in_order (views entries.items)) }
+    ensures gated { IfOk result (λ v. map gated v.items ≡ in_order (map gated entries.items)) }
 {
     let mut sorted = entries;
     sorted.sort_by_key(|entry| entry.section)?;

@@ -11,7 +11,7 @@ ghost use Rattle.dkg_journal.specs.Operations.{Tried, Finished, Prunes};
 ghost use Rattle.dkg_journal.specs.Records.{broken_at};
 ghost use Rattle.dkg_journal.specs.Opening.{broken};
 ghost use Rattle.dkg_journal.specs.Pruning.{Pruned, left_of, left_of_file, prune_calls, Leaves, MayLeave};
-ghost use Rattle.dkg_journal.specs.Steps.{IsOpenAt};
+ghost use Rattle.dkg_journal.specs.Journals.{IsOpen};
 
 use crate::call::perform_own;
 use crate::open::read_flat;
@@ -99,8 +99,8 @@ impl Journal {
         fuse: &mut Fuse,
         min: u64,
     ) -> Result<(), JournalError>
-        requires { IsTrue D.tells → IsOpenAt self.old.place (D.files disk.old) (D.image disk.old) }
-        ensures open { OnOk result (IsTrue D.tells → IsOpenAt self.new.place (D.files disk.new) (D.image disk.new)) }
+        requires { IsTrue D.tells → IsOpen self.old (D.files disk.old) (D.image disk.old) }
+        ensures open { OnOk result (IsTrue D.tells → IsOpen self.new (D.files disk.new) (D.image disk.new)) }
         ensures left { OnOk result (IsTrue D.tells → Follows (Leaves min) (D.image disk.old) (D.image disk.new)) }
         // Each image has the entries at or above the minimum, and all the others or none.
         ensures images { IsTrue D.tells → Follows (MayLeave min) (D.image disk.old) (D.image disk.new) }

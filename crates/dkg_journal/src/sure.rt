@@ -1,13 +1,13 @@
 //! A disk in memory that never fails, and whose crashes are picked.
 //!
 //! The memory disk that may fail stands on it.
-ghost use Rattle.std.specs.Prelude.{◌≡◌, ◌≤◌, ℕ, [], ◌∷◌, None, OnOk, OnErr};
+ghost use Rattle.std.specs.Prelude.{◌≡◌, ◌≤◌, ℕ, [], ◌∷◌, None, OnOk, OnErr, IsErrOf};
 ghost use Rattle.dkg_journal.specs.declared.sure.SureDisk.{SureDisk};
-ghost use Rattle.dkg_journal.specs.Disk.{Allowed, Rose, Lands, Follows, Inside, IsUnchanged};
+ghost use Rattle.dkg_journal.specs.Disk.{Allowed, Did, Rose, Lands, Follows, Inside, IsUnchanged, HasCause, HasWant};
 ghost use Rattle.dkg_journal.specs.Fuse.{counted};
 ghost use Rattle.dkg_journal.specs.Made.{Made};
 ghost use Rattle.dkg_journal.specs.Names.{Files};
-ghost use Rattle.dkg_journal.specs.Table.{contents, RowsImage, CrashedBy, CutBy, spared_by};
+ghost use Rattle.dkg_journal.specs.Table.{contents, RowsImage, CrashedBy, CutBy, spared_by, KeepsSynced};
 
 use crate::table::Table;
 use crate::{Disk, DiskError, Op};
@@ -118,7 +118,17 @@ impl Disk for SureDisk {
         name: Name,
         place: u64,
         bytes: &[u8],
-    ) -> Result<(), DiskError> {
+    ) -> Result<(), DiskError>
+        requires { Allowed (contents self.old.files) (Op.WriteAt name place bytes.now) }
+        ensures done { OnOk result (Did (Op.WriteAt name place bytes.now) (contents self.old.files) (contents self.new.files) (RowsImage self.new.files)) }
+        ensures crash { Follows (Inside (Op.WriteAt name place bytes.now)) (RowsImage self.old.files) (RowsImage self.new.files) }
+        ensures memory { IsErrOf result DiskError.NoMemory → IsUnchanged (λ (d : SureDisk). contents d.files) (λ (d : SureDisk). RowsImage d.files) self.old self.new }
+        ensures cause { HasCause 0 0 result }
+        ensures want { HasWant self.old.wants self.new.wants result }
+        ensures calls { Made (Op.WriteAt name place bytes.now ∷ []) self.old.changes self.new.changes (RowsImage self.old.files) (RowsImage self.new.files) }
+        // What the last sync left is not touched.
+        ensures synced { KeepsSynced self.old.files self.new.files }
+    {
         self.changes = one_more(self.changes);
         match self.files.write(alloc, name, place as usize, bytes) {
             Ok(()) => Ok(()),

@@ -9,7 +9,7 @@ ghost use Rattle.std.specs.FinMap.{find};
 ghost use Rattle.std.specs.FinMap.Entries.{is_sorted};
 ghost use Rattle.dkg_journal.specs.Names.{name_cmp};
 ghost use Rattle.dkg_journal.specs.Kept.{Kept, FileImage, settled, wrote};
-ghost use Rattle.dkg_journal.specs.Table.{Rows, RowsImage, bytes_of, contents, file_at, IsUpdate, made_sure, Lands, PickedRow, CrashedBy, Begun};
+ghost use Rattle.dkg_journal.specs.Table.{Rows, RowsImage, bytes_of, contents, file_at, IsUpdate, made_sure, Lands, PickedRow, CrashedBy, Begun, KeepsSynced};
 ghost use Rattle.dkg_values.specs.declared.name.Name.{Name};
 
 use crate::Op;
@@ -204,6 +204,7 @@ impl Table {
         requires { (f : Kept) × (file_at name self.old ≡ Some f) × (place ≤ length f.bytes) }
         ensures done { OnOk result ((f : Kept) → file_at name self.old ≡ Some f → (f.synced ≤ length f.bytes) × IsUpdate name (Some (wrote place bytes.now f)) self.old self.new) }
         ensures kept { OnErr result (self.new ≡ self.old) }
+        ensures synced { KeepsSynced self.old self.new }
     {
         match place_of(&self.held, name) {
             Some(at) => {

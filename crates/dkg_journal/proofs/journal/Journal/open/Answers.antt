@@ -1,4 +1,4 @@
-use Rattle.std.proofs.Common.{List, ℕ, Option, [], inl, refl, sym, ◌∙◌, ap}
+use Rattle.std.proofs.Common.{List, ℕ, Option, Some, map, [], inl, refl, sym, ◌∙◌, ap}
 use Rattle.std.proofs.lemmas.Option.{none-some}
 use Rattle.std.specs.Prelude.{option_map}
 use Rattle.dkg_journal.specs.Opening.{mend_of, broken_of}
@@ -6,7 +6,8 @@ use Rattle.dkg_journal.proofs.Append.{keeps_keeps}
 use Rattle.dkg_journal.proofs.Steps.{then_all, then_ran, ran_same, all_same}
 use Rattle.dkg_journal.proofs.Reading.{whole_entries, whole_unbroken}
 use Rattle.dkg_journal.specs.Views.{views}
-use Rattle.dkg_journal.specs.Records.{entries_with}
+use Rattle.dkg_journal.specs.Records.{entries_with, in_order}
+use Rattle.dkg_journal.specs.Gated.{gated, gated_in}
 use Rattle.dkg_journal.proofs.Mending.{unchanged_keeps, firm_read, bare_read, bare_entries, whole_at}
 use Rattle.dkg_journal.specs.Operations.{journaled}
 use Rattle.dkg_journal.proofs.Standing.{unchanged_lands, tried_open}
@@ -83,7 +84,17 @@ pub returns-clause-listed : goal.returns-clause-listed
 returns-clause-listed g c = λ tells form.
     let is = ap (λ o. option_map (λ v. v.items) o) (sym c.in-Some.is) ∙ c.in_ok-bytes.ensures.bytes tells in
     let whole = whole_at _ _ _ _ c.deref.ensures.value c.in_ok-entries.ensures.whole in
-    c.in_ok-waiting.ensures ∙ whole_entries c.in-Some.bytes.items _ _ whole ∙ ap (λ (o : Option (List ℕ)). entries_with o (g.D.Disk.files c.args.disk.now)) is
+    c.in_ok-waiting.ensures.listed ∙ whole_entries c.in-Some.bytes.items _ _ whole ∙ ap (λ (o : Option (List ℕ)). entries_with o (g.D.Disk.files c.args.disk.now)) is
+
+pub returns-in-None-clause-gated : goal.returns-in-None-clause-gated
+returns-in-None-clause-gated g c = λ tells.
+    let is = ap (λ o. option_map (λ v. v.items) o) (sym c.in-None.is) ∙ c.in_ok-bytes.ensures.bytes tells in
+    ap (map gated) c.new.ensures.items ∙ ap gated_in is
+
+pub returns-clause-gated : goal.returns-clause-gated
+returns-clause-gated g c = λ tells.
+    let is = ap (λ o. option_map (λ v. v.items) o) (sym c.in-Some.is) ∙ c.in_ok-bytes.ensures.bytes tells in
+    c.in_ok-waiting.ensures.gated ∙ ap in_order c.in_ok-entries.ensures.gated ∙ ap (λ (b : List ℕ). gated_in (Some b)) c.deref.ensures.value ∙ ap gated_in is
 
 pub returns-in_err-mend-clause-tried : goal.returns-in_err-mend-clause-tried
 returns-in_err-mend-clause-tried g c = λ tells lands.
