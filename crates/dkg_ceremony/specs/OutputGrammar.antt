@@ -27,7 +27,7 @@ output_of_parts p h false e =
     absurd cc
 
 -- the parts of an output that was made
-parts_of_output : (p : OutputParts) (b : Bool) (e : do_parts_agree p ≡ b) (o : Output) → output_where p b e ≡ Ok o → output_parts o ≡ p
+pub parts_of_output : (p : OutputParts) (b : Bool) (e : do_parts_agree p ≡ b) (o : Output) → output_where p b e ≡ Ok o → output_parts o ≡ p
 parts_of_output p true e o is =
     sym (ap output_parts (ok_is (record { summary = p.0; sharing = p.1.0; dealers = p.1.1.0; players = p.1.1.1.0; revealed = p.1.1.1.1; agree = agreed p.1.0.total p.1.0.poly p.1.1.1.0 p.1.1.1.1 e }) o is))
 parts_of_output p false e o is = absurd cc

@@ -5,6 +5,7 @@ use Rattle.std.specs.List.{AllByRecursion}
 use Rattle.dkg_values.specs.Lists.{PublicFits}
 
 pub record IsPublic (elements : List ℕ) : Type 0 where
+  pub some : 1 ≤ length elements
   pub few : length elements < 2 ^ 32
   pub small : (i : ℕ) → slice_index elements i < 65521
 
@@ -12,5 +13,5 @@ all_small : (elements : List ℕ) → ((i : ℕ) → slice_index elements i < 65
 all_small [] small = tt
 all_small (e ∷ es) small = (small 0, all_small es (λ i. small (suc i)))
 
-pub public_fits : (most : ℕ) (elements : List ℕ) → IsPublic elements → 1 ≤ length elements → length elements ≤ most → PublicFits most elements
-public_fits most elements kept some le = record { some = some; few = le; small = kept.few; elements = all_small elements kept.small }
+pub public_fits : (most : ℕ) (elements : List ℕ) → IsPublic elements → length elements ≤ most → PublicFits most elements
+public_fits most elements kept le = record { some = kept.some; few = le; small = kept.few; elements = all_small elements kept.small }

@@ -12,7 +12,7 @@ use dkg_values::{Element, Key, Set};
 
 /// A polynomial's value, modulo 65,521, at the point of a place.
 #[tactic(auto, using(crate::specs::PolynomialLaws::value_step, crate::specs::PolynomialLaws::value_end))]
-fn value_of(poly: &Public, place: u32) -> u32
+pub(crate) fn value_of(poly: &Public, place: u32) -> u32
     ensures value { result ≡ value_at poly.now (place + 1) }
     ensures below { result < 65521 }
 {

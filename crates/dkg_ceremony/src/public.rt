@@ -13,7 +13,7 @@ use dkg_values::{
 use std::alloc::Global;
 use std::marker::Model;
 
-/// The coefficients of a polynomial, from the constant one on: fewer than 2^32, which contracts see as a list.
+/// The coefficients of a polynomial, from the constant one on: at least one and fewer than 2^32, which contracts see as a list.
 #[derive(Debug, Drop)]
 pub struct Public(pub Vec<Element>);
 
@@ -40,7 +40,8 @@ fn known(elements: &[Element])
 impl Public {
     /// The polynomial of these coefficients.
     pub fn new(elements: Vec<Element>) -> Public
-        requires { vec_len elements < 2 ^ 32 }
+        requires some { 1 ≤ vec_len elements }
+        requires few { vec_len elements < 2 ^ 32 }
         ensures { result ≡ elements.items }
     {
         known(&elements);
@@ -55,10 +56,10 @@ impl Public {
         &self.0
     }
 
-    /// A polynomial with a coefficient may be read under each limit that is no less than its length.
+    /// A polynomial may be read under each limit that is no less than its length.
     #[tactic(auto, using(crate::specs::Publics::public_fits))]
     pub fn fits_limits(&self)
-        ensures { (most : ℕ) → 1 ≤ length self.now → length self.now ≤ most → PublicFits most self.now }
+        ensures { (most : ℕ) → length self.now ≤ most → PublicFits most self.now }
     {
         let _elements = self.as_slice();
     }

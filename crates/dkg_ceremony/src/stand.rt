@@ -7,16 +7,23 @@ ghost use Rattle.dkg_ceremony.specs.Acks.{ack_content};
 ghost use Rattle.dkg_ceremony.specs.Rounds.{Draws, has_too_many, are_previous};
 
 use crate::ceremony::{AckError, Ceremony, DealingError};
-use crate::evaluate::{fits, is_reshare};
+use crate::combine::observe;
+use crate::deal::{DealError, deal, element_of};
+use crate::dealer_log::DealerLog;
+use crate::evaluate::{fits, is_reshare, value_of};
+use crate::finish::{FinishError, finish};
+use crate::log_mark::{check_log, sign_log};
 use crate::mode::{Mode, Reveal};
 use crate::output::{Output, are_all_in};
-use crate::private::{Ack, Private};
+use crate::private::{Ack, Private, Share};
 use crate::public::Public;
 use crate::round::{Round, RoundError, copy_of_previous, write_round};
 use crate::sign::{Domain, Signer, StandSigner, mark_of};
+use crate::signed_log::SignedDealerLog;
 use crate::threshold::quorum;
+use crate::valid_log::bears_ack;
 use bytes::{BufMut, BytesMut};
-use dkg_values::{Blob, Key, Mem, Set, Value, Write};
+use dkg_values::{Blob, Element, Key, Map, Mem, Seed, Set, Value, Write};
 use std::alloc::Global;
 
 /// How many points there are: every element but 0.
@@ -48,7 +55,12 @@ fn come_from(dealers: &Set, previous: &Option<&Output>) -> bool
 
 /// What an acknowledgement is a mark on: the round, the dealer and the public half.
 #[tactic(auto, unfolding(crate::specs::Acks::ack_content))]
-fn content_of(alloc: Global, round: &Round, dealer: Key, public: &Public) -> Mem<BytesMut>
+pub(crate) fn content_of(
+    alloc: Global,
+    round: &Round,
+    dealer: Key,
+    public: &Public,
+) -> Mem<BytesMut>
     ensures { IfOk result (λ content. content.items ≡ ack_content round.now dealer public.now) }
 {
     let mut content = BytesMut::new(alloc);
@@ -66,8 +78,18 @@ impl Ceremony for StandCeremony {
     ghost use Rattle.dkg_ceremony.specs.Dealings.{dealing_of as dealing_from};
     ghost use Rattle.dkg_ceremony.specs.Acks.{ack_of as ack_from, check_ack_of as check_ack_from};
     ghost use Rattle.dkg_ceremony.specs.AckLaws.{ack_passes};
+    ghost use Rattle.dkg_ceremony.specs.Deals.{deal_of as deal_from};
+    ghost use Rattle.dkg_ceremony.specs.DealLaws.{deals_pass as all_deals_pass, shares_are_dealt as held_are_dealt};
+    ghost use Rattle.dkg_ceremony.specs.ValidLogs.{bears_ack_of as bears_from, check_log_of as check_log_from, sign_log_of as signed_from};
+    ghost use Rattle.dkg_ceremony.specs.LogMarkLaws.{signed_passes};
+    ghost use Rattle.dkg_ceremony.specs.Outcomes.{outcome_of as outcome_from};
+    ghost use Rattle.dkg_ceremony.specs.Finishes.{finish_of as finish_from};
+    ghost use Rattle.dkg_ceremony.specs.PartialPublics.{partial_public_of as partial_public_from, share_public_of as share_public_from};
+    ghost use Rattle.dkg_ceremony.specs.ShareLaws.{finish_agrees as all_finish_agree, shares_fit as all_shares_fit};
 
     ghost round_of = { round_from };
+
+    ghost deal_of = { deal_from };
 
     ghost dealing_of = { dealing_from };
 
@@ -78,6 +100,30 @@ impl Ceremony for StandCeremony {
     ghost round_has = { round_has_parts };
 
     ghost acks_pass = { ack_passes };
+
+    ghost sign_log_of = { signed_from };
+
+    ghost check_log_of = { check_log_from };
+
+    ghost bears_ack_of = { bears_from };
+
+    ghost outcome_of = { outcome_from };
+
+    ghost finish_of = { finish_from };
+
+    ghost share_public_of = { share_public_from };
+
+    ghost partial_public_of = { partial_public_from };
+
+    ghost shares_are_dealt = { held_are_dealt };
+
+    ghost deals_pass = { all_deals_pass };
+
+    ghost signed_pass = { signed_passes };
+
+    ghost finish_agrees = { all_finish_agree };
+
+    ghost shares_fit = { all_shares_fit };
 
     #[tactic(auto, unfolding(crate::specs::Rounds::round_of))]
     fn round(
@@ -168,5 +214,68 @@ impl Ceremony for StandCeremony {
             return Err(AckError::InvalidAck);
         }
         Ok(())
+    }
+
+    fn deal(
+        &self,
+        alloc: Global,
+        round: &Round,
+        signer: &StandSigner,
+        share: Option<&Share>,
+        seed: &Seed,
+    ) -> Result<(Public, Map<Private>), DealError> {
+        deal(alloc, round, signer.public_key(), share, seed)
+    }
+
+    fn sign_log(
+        &self,
+        alloc: Global,
+        signer: &StandSigner,
+        round: &Round,
+        public: &Public,
+        privates: &Map<Private>,
+        acks: &Map<Ack>,
+    ) -> Mem<SignedDealerLog> {
+        sign_log(alloc, signer, round, public, privates, acks)
+    }
+
+    fn check_log(&self, alloc: Global, round: &Round, log: &SignedDealerLog) -> Mem<bool> {
+        check_log(alloc, round, log)
+    }
+
+    fn bears_ack(
+        &self,
+        alloc: Global,
+        round: &Round,
+        dealer: Key,
+        log: &DealerLog,
+        player: Key,
+    ) -> Mem<bool> {
+        bears_ack(alloc, round, dealer, log, player)
+    }
+
+    fn observe(&self, alloc: Global, round: &Round, logs: &Map<DealerLog>) -> Mem<Option<Output>> {
+        observe(alloc, round, logs)
+    }
+
+    fn finish(
+        &self,
+        alloc: Global,
+        round: &Round,
+        me: Key,
+        dealings: &Map<(Public, Private)>,
+        logs: &Map<DealerLog>,
+    ) -> Result<Option<(Output, Share)>, FinishError> {
+        finish(alloc, round, me, dealings, logs)
+    }
+
+    fn share_public(&self, share: &Share) -> Element {
+        share.0
+    }
+
+    #[tactic(auto, unfolding(crate::specs::PartialPublics::partial_public_of))]
+    fn partial_public(&self, output: &Output, player: Key) -> Option<Element> {
+        let place = output.players.position(player)?;
+        Some(element_of(value_of(&output.sharing.poly, place)))
     }
 }

@@ -114,7 +114,7 @@ fn outputs_whose_parts_differ_are_refused(rt: HostRuntime) -> Result<(), Fail> {
     Ok(())
 }
 
-fn output(alloc: Global) -> Result<Output, CodecError> {
+pub(crate) fn output(alloc: Global) -> Result<Output, CodecError> {
     decode_cfg::<Output>(alloc, &OUTPUT, &(4, ModeVersion(0)))
 }
 
@@ -122,7 +122,7 @@ fn public(alloc: Global, bytes: &[u8]) -> Result<Public, CodecError> {
     decode_cfg::<Public>(alloc, bytes, &4)
 }
 
-fn first_keys(alloc: Global, count: u32) -> Result<Set, Fail> {
+pub(crate) fn first_keys(alloc: Global, count: u32) -> Result<Set, Fail> {
     let mut keys = Vec::new(alloc);
     for number in 0..count {
         keys.push(Key(number + 1))?;
@@ -134,7 +134,7 @@ fn first_keys(alloc: Global, count: u32) -> Result<Set, Fail> {
 }
 
 /// Round 0 of a chain without a name, by any ceremony.
-fn draw<C: Ceremony>(
+pub(crate) fn draw<C: Ceremony>(
     ceremony: &C,
     alloc: Global,
     previous: Option<&Output>,
@@ -197,7 +197,7 @@ fn check<C: Ceremony>(
         .err()
 }
 
-fn worked_round(alloc: Global, previous: Option<&Output>) -> Result<Round, Fail> {
+pub(crate) fn worked_round(alloc: Global, previous: Option<&Output>) -> Result<Round, Fail> {
     let keys = first_keys(alloc, 4)?;
     Ok(draw(&StandCeremony, alloc, previous, &keys, &keys)?)
 }

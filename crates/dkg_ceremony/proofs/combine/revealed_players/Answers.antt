@@ -1,0 +1,23 @@
+use Rattle.std.proofs.Common.{◌<◌, length, ap, ◌∙◌, arith}
+use Rattle.std.proofs.lemmas.List.{take_all}
+use Rattle.dkg_ceremony.specs.Outcomes.{revealed_from}
+use Rattle.dkg_ceremony.specs.OutcomeLaws.{revealed_yes, revealed_no, revealed_few}
+use Rattle.dkg_ceremony.proofs.combine.revealed_players.Goals as goal
+use Rattle.dkg_ceremony.proofs.combine.revealed_players.Goals.{then-is_revealed+in_ok-push, else-is_revealed}
+
+pub loop-place-preserved : goal.loop-place-preserved
+loop-place-preserved c =
+    let few : c.loop-place.place < length c.as_slice-keys.result.now = omega (arith, ap length c.as_slice-keys.ensures.items) in
+    elim c.if-is_revealed.branch [
+      | then-is_revealed+in_ok-push w ↦
+          let more = revealed_yes c.args.logs.now c.args.selected.now c.as_slice-keys.result.now c.loop-place.place w.index-keys-place.result few (let t = w.if-is_revealed.true in let e = c.is_revealed.ensures in cc) w.index-keys-place.is in
+          cc (more, w.in_ok-push.ensures.items)
+      | else-is_revealed w ↦
+          let same = revealed_no c.args.logs.now c.args.selected.now c.as_slice-keys.result.now c.loop-place.place few (let t = w.if-is_revealed.false in let e = c.is_revealed.ensures in cc) in
+          cc (same)
+    ]
+
+pub returns-clause-few : goal.returns-clause-few
+returns-clause-few c =
+    let all = ap length (c.loop-place.invariant ∙ ap (revealed_from c.args.logs.now c.args.selected.now 0) (take_all c.loop-place.place c.as_slice-keys.result.now (omega (arith, ap length c.as_slice-keys.ensures.items)))) in
+    omega (arith, all, revealed_few c.args.logs.now c.args.selected.now 0 c.as_slice-keys.result.now, c.as_slice-keys.ensures.kept.few, ap length c.as_slice-keys.ensures.items, c.loop-place.revealed.ok)
