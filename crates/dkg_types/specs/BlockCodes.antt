@@ -1,6 +1,7 @@
 -- Blocks as bytes, which their digests are of.
 use Rattle.std.proofs.Common.{◌≡◌, ℕ, zero, suc, ◌-◌, ◌<◌, ◌^◌, Bool, List, [], ◌∷◌, ◌++◌, length, replicate, Option, Some, None, Err, refl, sym, ap, append_assoc}
 use Rattle.std.specs.Int.{w32, to_be_bytes}
+use Rattle.std.specs.Prelude.{option_and_then}
 use Rattle.sha2.specs.Sha256.{sha256}
 use Rattle.dkg_values.specs.declared.codec.CodecError.TheVariants.{InvalidEnum}
 use Rattle.dkg_values.specs.Bytes.{bytes_at, bytes_grammar, HasTag, tagged, tagged_at, tagged_grammar}
@@ -13,8 +14,7 @@ use Rattle.dkg_types.specs.declared.block.Context.{Context}
 use Rattle.dkg_types.specs.declared.block.Block.{Block}
 use Rattle.dkg_types.specs.declared.info.EpochInfo as info
 use Rattle.dkg_types.specs.declared.payload.Payload.{Payload}
-use Rattle.dkg_types.specs.declared.payload.Payload.TheVariants.{EpochInfo}
-use Rattle.dkg_types.specs.PayloadCodes.{payload_at, payload_grammar, PayloadFits, payload_spelling}
+use Rattle.dkg_types.specs.PayloadCodes.{payload_at, payload_grammar, PayloadFits, payload_spelling, its_info}
 use Rattle.dkg_types.specs.Variants.{Always, no_bytes, nothing_at, nothing_grammar, MadeOf, variant_grammar, none_grammar, made_grammar}
 
 abbrev pub context_bytes : Context → List ℕ
@@ -43,10 +43,9 @@ zero_digest = replicate 32 0
 abbrev pub genesis_context : ℕ → Context
 genesis_context leader = record { epoch = 0; view = 0; leader = leader; parent_view = 0; parent = zero_digest }
 
--- the info that a payload is
+-- the info that a block carries
 abbrev pub info_of : {Dir : Type 0} → Option (Payload Dir) → Option (info.EpochInfo Dir)
-info_of None = None
-info_of (Some (EpochInfo i)) = Some i
+info_of payload = option_and_then its_info payload
 
 -- ---- contexts
 

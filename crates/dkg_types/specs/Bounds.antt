@@ -1,6 +1,8 @@
 -- How long spellings are at most.
-use Rattle.std.proofs.Common.{◌≡◌, ℕ, ◌+◌, ◌*◌, ◌^◌, ◌<◌, ◌≤◌, Bool, true, false, cond, ltb, eqb, Option, Some, None, List, [], ◌∷◌, ◌++◌, length, refl, arith, length-append}
+use Rattle.std.proofs.Common.{◌≡◌, ℕ, ◌+◌, ◌*◌, ◌^◌, ◌<◌, ◌≤◌, Bool, true, false, cond, ltb, eqb, Option, Some, None, List, [], ◌∷◌, ◌++◌, length, refl, ap, arith, length-append}
 use Rattle.std.specs.Int.{w16, w32, to_be_bytes}
+use Rattle.std.specs.List.{flat_map, AllByRecursion}
+use Rattle.std.proofs.lemmas.List.Concat.{flat_map-cons}
 use Rattle.dkg_values.specs.Uint.{uint}
 use Rattle.dkg_values.specs.UintGrammar.{uint_narrow, uint_short}
 use Rattle.dkg_values.specs.Joined.{BothFit, both_spelled}
@@ -13,11 +15,17 @@ use Rattle.dkg_ceremony.specs.Sharings.{sharing_bytes, SharingFits}
 use Rattle.dkg_ceremony.specs.Modes.{mode_byte}
 use Rattle.dkg_ceremony.specs.Outputs.{output_bytes, OutputFits}
 use Rattle.dkg_ceremony.specs.OutputGrammar.{length_output}
+use Rattle.dkg_ceremony.specs.declared.log_entry.LogEntry.{LogEntry}
+use Rattle.dkg_ceremony.specs.declared.log_entry.LogEntry.TheVariants as log_entry
+use Rattle.dkg_ceremony.specs.declared.dealer_log.DealerLog as log
+use Rattle.dkg_ceremony.specs.declared.signed_log.SignedDealerLog.{SignedDealerLog}
+use Rattle.dkg_ceremony.specs.LogEntries.{EntryFits, entry_spelling, EntriesFit, entries_spelling}
+use Rattle.dkg_ceremony.specs.Logs.{LogFits, log_spelling, SignedFits, signed_spelling}
 use Rattle.dkg_types.specs.declared.message.Message.{Message}
 use Rattle.dkg_types.specs.declared.message.Message.TheVariants.{Dealer, Ack}
 use Rattle.dkg_types.specs.declared.outcome.EpochOutcome.{EpochOutcome}
 use Rattle.dkg_types.specs.declared.payload.Payload.{Payload}
-use Rattle.dkg_types.specs.declared.payload.Payload.TheVariants.{EpochInfo}
+use Rattle.dkg_types.specs.declared.payload.Payload.TheVariants.{DealerLog, EpochInfo}
 use Rattle.dkg_types.specs.BlockCodes.{BlockFits, block_bytes, block_spelling, ContextFits, context_bytes, FlaggedFits, flagged_bytes}
 use Rattle.dkg_types.specs.FinalizationCodes.{FinalizationFits, finalization_spelling}
 use Rattle.dkg_types.specs.InfoCodes.{InfoFits, info_spelling, peers_of}
@@ -69,6 +77,25 @@ pub output_bound : (most version : ℕ) (o : Output) → OutputFits most version
 output_bound most version o fit =
     omega (arith, length_output o, fit.one, sharing_bound most version o.sharing fit.other.one, set_bound most o.dealers fit.other.other.one, set_bound most o.players fit.other.other.other.one, set_bound most o.revealed fit.other.other.other.other)
 
+-- ---- logs
+
+entry_bound : (e : LogEntry) → EntryFits e → length (entry_spelling e) ≤ 9
+entry_bound (log_entry.Ack ack) fit = omega (arith, fit)
+entry_bound (log_entry.Reveal private) fit = omega arith
+
+each_bound : (es : List LogEntry) → AllByRecursion EntryFits es → length (flat_map entry_spelling es) ≤ 9 * length es
+each_bound [] all = omega arith
+each_bound (e ∷ es) all = omega (arith, ap length (flat_map-cons entry_spelling e es), length-append (entry_spelling e) (flat_map entry_spelling es), entry_bound e all.0, each_bound es all.1)
+
+entries_bound : (most : ℕ) (es : List LogEntry) → EntriesFit most es → length (entries_spelling es) ≤ 5 + 9 * most
+entries_bound most es fit = omega (arith, fit.few, length-append (uint (length es)) (flat_map entry_spelling es), uint_narrow (length es) fit.small, each_bound es fit.each)
+
+log_bound : (most : ℕ) (log : log.DealerLog) → LogFits most log → length (log_spelling log) ≤ 10 + 11 * most
+log_bound most log fit = omega (arith, length-append (public_spelling log.public) (entries_spelling log.entries), public_bound most log.public fit.one, entries_bound most log.entries fit.other)
+
+pub signed_bound : (most : ℕ) (s : SignedDealerLog) → SignedFits most s → length (signed_spelling s) ≤ 22 + 11 * most
+signed_bound most s fit = omega (arith, length_three (to_be_bytes w32 s.dealer) (log_spelling s.log) s.mark, log_bound most s.log fit.other.one, fit.other.other)
+
 -- ---- what stands on these
 
 pub participants_bound : (most : ℕ) → IsBound (ParticipantsFit most) participants_spelling (15 + 12 * most)
@@ -104,11 +131,12 @@ info_bound fits spelling matches bound within rising most version = record {
       );
 }
 
-payload_within : {Dir : Type 0} (fits : List ℕ → Dir → Type 0) (spelling : Dir → List ℕ) (matches : Dir → List ℕ → Bool) (most version bound : ℕ) → IsBound (InfoFits fits matches most version) (info_spelling spelling) bound → (p : Payload Dir) → PayloadFits fits matches most version p → length (payload_spelling spelling p) ≤ 1 + bound
-payload_within fits spelling matches most version bound b (EpochInfo i) fit = omega (arith, b.within i fit)
+payload_within : {Dir : Type 0} (fits : List ℕ → Dir → Type 0) (spelling : Dir → List ℕ) (matches : Dir → List ℕ → Bool) (most version bound : ℕ) → 22 + 11 * most ≤ bound → IsBound (InfoFits fits matches most version) (info_spelling spelling) bound → (p : Payload Dir) → PayloadFits fits matches most version p → length (payload_spelling spelling p) ≤ 1 + bound
+payload_within fits spelling matches most version bound enough b (DealerLog s) fit = omega (arith, enough, signed_bound most s fit)
+payload_within fits spelling matches most version bound enough b (EpochInfo i) fit = omega (arith, b.within i fit)
 
-pub payload_bound : {Dir : Type 0} (fits : List ℕ → Dir → Type 0) (spelling : Dir → List ℕ) (matches : Dir → List ℕ → Bool) (most version bound : ℕ) → IsBound (InfoFits fits matches most version) (info_spelling spelling) bound → IsBound (PayloadFits fits matches most version) (payload_spelling spelling) (1 + bound)
-payload_bound fits spelling matches most version bound b = record { within = λ p fit. payload_within fits spelling matches most version bound b p fit }
+pub payload_bound : {Dir : Type 0} (fits : List ℕ → Dir → Type 0) (spelling : Dir → List ℕ) (matches : Dir → List ℕ → Bool) (most version bound : ℕ) → 22 + 11 * most ≤ bound → IsBound (InfoFits fits matches most version) (info_spelling spelling) bound → IsBound (PayloadFits fits matches most version) (payload_spelling spelling) (1 + bound)
+payload_bound fits spelling matches most version bound enough b = record { within = λ p fit. payload_within fits spelling matches most version bound enough b p fit }
 
 message_within : (most : ℕ) → 1 ≤ most → (m : Message) → MessageFits most m → length (message_spelling m) ≤ 8 + 2 * most
 message_within most some (Dealer public private) fit = omega (arith, length-append (public_spelling public) (to_be_bytes w16 private), public_bound most public fit.one)

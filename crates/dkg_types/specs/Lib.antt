@@ -5,12 +5,14 @@ pub mod Faults
 pub mod FinalizationCodes
 pub mod InfoCodes
 pub mod MessageCodes
+pub mod NextInfos
 pub mod OutcomeCodes
 pub mod ParticipantsCodes
+pub mod Paths
 pub mod PayloadCodes
 pub mod Schemes
 pub mod Told
 pub mod Tracking
 pub mod Units
 pub mod Validation
-pub mod Variants
+pub use Rattle.dkg_ceremony.specs.Variants

@@ -267,8 +267,8 @@ impl<Dir> Block<Dir> {
         ensures { option_copied result ≡ info_of self.now.payload }
     {
         match &self.payload {
-            None => None,
             Some(Payload::EpochInfo(info)) => Some(info),
+            Some(Payload::DealerLog(_)) | None => None,
         }
     }
 }

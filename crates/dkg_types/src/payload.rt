@@ -4,13 +4,14 @@ ghost use Rattle.std.specs.Prelude.{◌≡◌, ℕ, ◌+◌, ◌*◌, ◌^◌, �
 ghost use Rattle.std.specs.Int.NonZero.{non_zero_u32_get};
 ghost use Rattle.dkg_values.specs.Codec.{Reads};
 ghost use Rattle.dkg_types.specs.Bounds.{IsBound};
-ghost use Rattle.dkg_types.specs.PayloadCodes.{PayloadFits, carried_at, payload_spelling};
+ghost use Rattle.dkg_types.specs.PayloadCodes.{PayloadFits, carried_at, logged_at, payload_spelling};
 
 use crate::directory::Directory;
 use crate::info::EpochInfo;
 use bytes::{BufMut, BytesMut};
 use dkg_ceremony::{
-    CodecError, EncodeSize, Mem, ModeVersion, Read, Reader, Spelled, Value, Write, read_byte,
+    CodecError, EncodeSize, Mem, ModeVersion, Read, Reader, SignedDealerLog, Spelled, Value, Write,
+    read_byte,
 };
 use std::alloc::Global;
 use std::num::NonZeroU32;
@@ -18,6 +19,8 @@ use std::num::NonZeroU32;
 /// What a block carries for the ceremony.
 #[derive(Drop)]
 pub enum Payload<Dir> {
+    /// A dealer's signed log, in the second half of an epoch.
+    DealerLog(SignedDealerLog),
     /// The description of the next epoch, in the last block of an epoch.
     EpochInfo(EpochInfo<Dir>),
 }
@@ -25,15 +28,29 @@ pub enum Payload<Dir> {
 impl<Dir: Directory + Drop> Value for Payload<Dir> {
     fn copy(&self, alloc: Global) -> Mem<Payload<Dir>> {
         match self {
+            Payload::DealerLog(signed) => Ok(Payload::DealerLog(signed.copy(alloc)?)),
             Payload::EpochInfo(info) => Ok(Payload::EpochInfo(info.copy(alloc)?)),
         }
     }
 
     fn same(&self, other: &Payload<Dir>) -> bool {
         match (self, other) {
+            (Payload::DealerLog(one), Payload::DealerLog(two)) => one.same(two),
             (Payload::EpochInfo(one), Payload::EpochInfo(two)) => one.same(two),
+            _ => false,
         }
     }
+}
+
+#[tactic(auto, unfolding(crate::specs::PayloadCodes::logged_at))]
+fn read_log(
+    alloc: Global,
+    input: &mut Reader<'_>,
+    cfg: &(NonZeroU32, ModeVersion),
+) -> Result<SignedDealerLog, CodecError>
+    ensures { Reads (logged_at (non_zero_u32_get cfg.now.0) input.old) result input.new }
+{
+    SignedDealerLog::read_cfg(alloc, input, &cfg.0.get())
 }
 
 #[tactic(auto, unfolding(crate::specs::PayloadCodes::carried_at))]
@@ -72,6 +89,7 @@ impl<Dir: Directory> EncodeSize for Payload<Dir> {
         ensures bound { result ≤ 2 ^ 62 + 1 }
     {
         match self {
+            Payload::DealerLog(signed) => 1 + signed.encode_size(),
             Payload::EpochInfo(info) => 1 + info.encode_size(),
         }
     }
@@ -80,6 +98,10 @@ impl<Dir: Directory> EncodeSize for Payload<Dir> {
 impl<Dir: Directory> Write for Payload<Dir> {
     fn put(&self, out: &mut BytesMut) -> Mem<()> {
         match self {
+            Payload::DealerLog(signed) => {
+                out.put_u8(0)?;
+                signed.put(out)
+            }
             Payload::EpochInfo(info) => {
                 out.put_u8(1)?;
                 info.put(out)
@@ -111,11 +133,14 @@ where
         cfg: &(NonZeroU32, ModeVersion),
     ) -> Result<Payload<Dir>, CodecError> {
         match read_byte(input)? {
+            0 => {
+                let signed = read_log(alloc, input, cfg)?;
+                Ok(Payload::DealerLog(signed))
+            }
             1 => {
                 let info = read_info(alloc, input, cfg)?;
                 Ok(Payload::EpochInfo(info))
             }
-            // No payload begins with 0 until logs are carried.
             other => Err(CodecError::InvalidEnum(other)),
         }
     }

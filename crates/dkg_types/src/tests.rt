@@ -94,9 +94,20 @@ const PAYLOAD: [u8; 89] = [
     0, 0, 0, 3, 0, 0, 0, 4, 4, 0, 0, 0, 1, 0, 0, 0, 2, 0, 0, 0, 3, 0, 0, 0, 4,
 ];
 
-fn fault_of_payload(alloc: Global, at: (usize, u8, usize)) -> Result<Option<CodecError>, Fail> {
+/// A payload that is a log: dealer 2's of 15 + 7x + x², acknowledged by all four players.
+const LOG: [u8; 57] = [
+    0, 0, 0, 0, 2, 3, 0, 15, 0, 7, 0, 1, 4, 0, 19, 72, 132, 72, 111, 147, 125, 53, 0, 60, 186, 180,
+    173, 37, 5, 89, 187, 0, 98, 236, 155, 100, 172, 158, 60, 96, 0, 53, 210, 90, 111, 49, 249, 160,
+    0, 128, 143, 198, 40, 248, 59, 24, 184,
+];
+
+fn fault_of_payload(
+    alloc: Global,
+    bytes: &[u8],
+    at: (usize, u8, usize),
+) -> Result<Option<CodecError>, Fail> {
     let limits = (four()?, ModeVersion(0));
-    fault_at::<Payload<Unit>>(alloc, &PAYLOAD, at, &limits)
+    fault_at::<Payload<Unit>>(alloc, bytes, at, &limits)
 }
 
 #[test]
@@ -117,9 +128,61 @@ fn edited_payloads_are_refused(rt: HostRuntime) -> Result<(), Fail> {
         (72, 3, 89, Some(CodecError::ExtraData)),
     ];
     for (place, byte, len, want) in rows {
-        let fault = fault_of_payload(rt.alloc(), (place, byte, len))?;
+        let fault = fault_of_payload(rt.alloc(), &PAYLOAD, (place, byte, len))?;
         assert_eq!(rt; fault, want, "{byte} at {place} of {len}");
     }
+    Ok(())
+}
+
+#[test]
+fn edited_logs_are_refused(rt: HostRuntime) -> Result<(), Fail> {
+    let length = |got| Some(CodecError::InvalidLength { got, max: 4 });
+    let rows: [(usize, u8, usize, Option<CodecError>); 9] = [
+        (4, 9, 57, None),
+        (0, 1, 57, Some(CodecError::InvalidEnum(1))),
+        (5, 0, 57, length(0)),
+        (5, 5, 57, length(5)),
+        (12, 5, 57, length(5)),
+        (12, 3, 57, Some(CodecError::ExtraData)),
+        (13, 2, 57, Some(CodecError::InvalidEnum(2))),
+        (13, 1, 57, Some(CodecError::InvalidEnum(132))),
+        (55, 0, 56, Some(CodecError::EndOfBuffer)),
+    ];
+    for (place, byte, len, want) in rows {
+        let fault = fault_of_payload(rt.alloc(), &LOG, (place, byte, len))?;
+        assert_eq!(rt; fault, want, "{byte} at {place} of {len}");
+    }
+    Ok(())
+}
+
+fn payload_of(alloc: Global, bytes: &[u8]) -> Result<Payload<Unit>, Fail> {
+    let limits = (four()?, ModeVersion(0));
+    Ok(decode_cfg::<Payload<Unit>>(alloc, bytes, &limits)?)
+}
+
+/// Whether the bytes are a payload that is spelled so again.
+fn is_payload(alloc: Global, bytes: &[u8]) -> Result<bool, Fail> {
+    let payload = payload_of(alloc, bytes)?;
+    let copy = payload.copy(alloc)?;
+    Ok(copy.same(&payload) && encode(alloc, &copy)?.as_slice() == bytes)
+}
+
+#[test]
+fn payloads_are_spelled_as_they_were_read(rt: HostRuntime) -> Result<(), Fail> {
+    let alloc = rt.alloc();
+    assert!(rt; is_payload(alloc, &LOG)?);
+    assert!(rt; is_payload(alloc, &PAYLOAD)?);
+    Ok(())
+}
+
+#[test]
+fn a_log_is_no_info(rt: HostRuntime) -> Result<(), Fail> {
+    let alloc = rt.alloc();
+    let log = payload_of(alloc, &LOG)?;
+    assert!(rt; !log.same(&payload_of(alloc, &PAYLOAD)?));
+    let block = block_of(alloc, log)?;
+    assert!(rt; block.payload().is_some());
+    assert!(rt; block.epoch_info().is_none());
     Ok(())
 }
 
@@ -314,7 +377,7 @@ fn a_share_makes_a_signer(rt: HostRuntime) -> Result<(), Fail> {
     Ok(())
 }
 
-fn later_block(alloc: Global) -> Result<Block<Unit>, Fail> {
+fn block_of(alloc: Global, payload: Payload<Unit>) -> Result<Block<Unit>, Fail> {
     let mut parent = [0; 32];
     for i in 0..32 {
         parent[i] = i as u8;
@@ -326,9 +389,12 @@ fn later_block(alloc: Global) -> Result<Block<Unit>, Fail> {
         parent_view: 2,
         parent: Digest(parent),
     };
-    let payload = Payload::EpochInfo(info(alloc)?);
     let below = Digest([9; 32]);
     Ok(Block::new(alloc, context, below, Height(15), Some(payload))?)
+}
+
+fn later_block(alloc: Global) -> Result<Block<Unit>, Fail> {
+    block_of(alloc, Payload::EpochInfo(info(alloc)?))
 }
 
 #[test]
