@@ -6,11 +6,14 @@ use Rattle.dkg_journal.specs.Fuse.{spent_once, burned, burnt, Ran, RanAll}
 use Rattle.dkg_journal.specs.Names.{Files}
 use Rattle.dkg_journal.specs.Disk.{Follows, SameElse, Lands}
 use Rattle.dkg_journal.specs.Records.{Entry, entries, placed}
-use Rattle.dkg_journal.specs.Steps.{Adds, MayAdd, IsOpenAt, FlatAt, Bare, append_calls}
+use Rattle.dkg_journal.specs.Journals.{IsOpen, has_file, append_calls}
+use Rattle.dkg_journal.specs.Steps.{Adds, MayAdd}
 use Rattle.dkg_journal.specs.Errors.{IsOfDevice}
 use Rattle.dkg_journal.specs.declared.disk.Op.{Op}
+use Rattle.dkg_journal.specs.declared.journal.Journal.{Journal}
 use Rattle.dkg_journal.specs.declared.call.JournalError.{JournalError}
 use Rattle.dkg_journal.specs.declared.call.JournalError.TheVariants as of_journal
+use Rattle.dkg_journal.proofs.Journals.{flat_stays, append_size}
 use Rattle.dkg_journal.proofs.Steps.{names_total, exact_names}
 use Rattle.dkg_types.specs.declared.entry.Entry.{Entry as Line}
 use Rattle.dkg_values.specs.declared.name.Name.{Name}
@@ -68,34 +71,26 @@ segment_apart section e = let h : ◌≡◌ {A = Name} (Segment section) Flat = 
 pub held_is : (c : Files) (s t : Secrets) (notes : List Entry) (plan : Option (List ℕ)) → entries c ≡ notes → s ≡ t → get c Plan ≡ plan → held_in c s ≡ record { notes = notes; secrets = t; plan = plan }
 held_is c s t notes plan a b p = λ i. record { notes = a i; secrets = b i; plan = p i }
 
-flat_of : (place : Option ℕ) (files : Files) (image : Files → Type 0) → IsOpenAt place files image → (c : Files) → image c → get c Flat ≡ get files Flat
-flat_of None files image firm c here = firm.only c here ∙ sym firm.none
-flat_of (Some place) files image firm c here = firm.firm.only c here ∙ sym firm.firm.there
-
 -- where nothing but the journal's file changed, and that is firm
-pub stands_again : (place : Option ℕ) (files files_now : Files) (next : Files → Type 0) → ((c : Files) → next c → SameElse Flat files c) → IsOpenAt place files_now next → next files_now → Stands files_now next
-stands_again place files files_now next others firm itself = record {
+pub stands_again : (journal : Journal) (files files_now : Files) (next : Files → Type 0) → ((c : Files) → next c → SameElse Flat files c) → IsOpen journal files_now next → next files_now → Stands files_now next
+stands_again journal files files_now next others firm itself = record {
   lands = record { only = λ c here. same_map names_total exact_names c files_now (at_name c here) };
   itself = itself;
 }
   where
     at_name : (c : Files) → next c → (q : Name) → get c q ≡ get files_now q
     at_name c here Plan = others c here Plan plan_apart ∙ sym (others files_now itself Plan plan_apart)
-    at_name c here Flat = flat_of place files_now next firm c here
+    at_name c here Flat = flat_stays journal files_now next firm c here
     at_name c here (Segment section) = others c here (Segment section) (segment_apart section) ∙ sym (others files_now itself (Segment section) (segment_apart section))
 
 pub world_is : {h k : Held} {f g : Burn} (out : List Line) → h ≡ k → f ≡ g → ◌≡◌ {A = World} (record { out = out; held = h; fuse = f }) (record { out = out; held = k; fuse = g })
 world_is out a b = λ i. record { out = out; held = a i; fuse = b i }
 
-calls_of : (place : Option ℕ) (e : Entry) → length (append_calls place e) ≡ (if is_some place then 4 else 5)
-calls_of None e = refl
-calls_of (Some place) e = refl
-
-module _ {S : Type 0} (op : SecretOp) (place : Option ℕ) (e : Entry) (end : S) (files : Files) (image : Files → Type 0) (out : List Line) (held : Secrets) (fuse : Burn) where
+module _ {S : Type 0} (op : SecretOp) (journal : Journal) (e : Entry) (end : S) (files : Files) (image : Files → Type 0) (out : List Line) (held : Secrets) (fuse : Burn) where
   -- the put was ended within
   pub put_torn : {how : Ended StoreError S} (now : Secrets) (fuse_now : Burn) → how ≡ broken → Tries op held now → fuse_now ≡ spent_once fuse
-      → MadeAt (put_and_appended op (is_some place) e end) how files image files image (moment out held fuse) (moment out now fuse_now)
-  put_torn now fuse_now is tries once = subst (λ (x : Ended StoreError S). MadeAt (put_and_appended op (is_some place) e end) x files image files image (moment out held fuse) (moment out now fuse_now)) (sym is) (record {
+      → MadeAt (put_and_appended op (has_file journal) e end) how files image files image (moment out held fuse) (moment out now fuse_now)
+  put_torn now fuse_now is tries once = subst (λ (x : Ended StoreError S). MadeAt (put_and_appended op (has_file journal) e end) x files image files image (moment out held fuse) (moment out now fuse_now)) (sym is) (record {
     made = λ stands c here. let same = stands.lands.only c here in inl (record {
       same = refl;
       torn = (ap (λ (f : Files). held_in f now) same, tries);
@@ -115,31 +110,31 @@ module _ {S : Type 0} (op : SecretOp) (place : Option ℕ) (e : Entry) (end : S)
 
   -- the put is done, and the append was ended within
   pub append_torn : {how : Ended StoreError S} {D : Type 0} {made : D → D → List Op → Type 0} {disk disk_now : D} (files_now : Files) (next : Files → Type 0) (now : Secrets) (mid fuse_now : Burn) → how ≡ broken → now ≡ of_secrets.after op held → mid ≡ spent_once fuse
-      → Follows (MayAdd e) image next → Ran made disk disk_now mid fuse_now (append_calls place e)
-      → MadeAt (put_and_appended op (is_some place) e end) how files image files_now next (moment out held fuse) (moment out now fuse_now)
-  append_torn files_now next now mid fuse_now is done once follows ran = subst (λ (x : Ended StoreError S). MadeAt (put_and_appended op (is_some place) e end) x files image files_now next (moment out held fuse) (moment out now fuse_now)) (sym is) (record {
+      → Follows (MayAdd e) image next → Ran made disk disk_now mid fuse_now (append_calls journal e)
+      → MadeAt (put_and_appended op (has_file journal) e end) how files image files_now next (moment out held fuse) (moment out now fuse_now)
+  append_torn files_now next now mid fuse_now is done once follows ran = subst (λ (x : Ended StoreError S). MadeAt (put_and_appended op (has_file journal) e end) x files image files_now next (moment out held fuse) (moment out now fuse_now)) (sym is) (record {
     made = λ stands c here. let from = follows.each c here in inr (inl (record {
       same = refl;
       torn = torn_notes c from.0 now (stands.lands.only from.0 from.1) done from.2;
       calls = length ran.first;
-      most = subst (λ (n : ℕ). length ran.first ≤ n) (calls_of place e) (no_more ran.first ran.rest (append_calls place e) ran.whole);
+      most = subst (λ (n : ℕ). length ran.first ≤ n) (append_size journal e) (no_more ran.first ran.rest (append_calls journal e) ran.whole);
       fuse = ran.all.fuse ∙ burnt-burned ran.first mid ∙ ap (burnt (length ran.first)) once;
     }));
     stands = tt;
   })
 
   -- both are done
-  pub both_done : {how : Ended StoreError S} {D : Type 0} {made : D → D → List Op → Type 0} {disk disk_now : D} (place_now : Option ℕ) (files_now : Files) (next : Files → Type 0) (now : Secrets) (mid fuse_now : Burn) → how ≡ went end → now ≡ of_secrets.after op held → mid ≡ spent_once fuse
-      → Follows (Adds e) image next → RanAll made disk disk_now mid fuse_now (append_calls place e) → IsOpenAt place_now files_now next → next files_now
-      → MadeAt (put_and_appended op (is_some place) e end) how files image files_now next (moment out held fuse) (moment out now fuse_now)
-  both_done place_now files_now next now mid fuse_now is done once follows ran firm itself = subst (λ (x : Ended StoreError S). MadeAt (put_and_appended op (is_some place) e end) x files image files_now next (moment out held fuse) (moment out now fuse_now)) (sym is) (record {
+  pub both_done : {how : Ended StoreError S} {D : Type 0} {made : D → D → List Op → Type 0} {disk disk_now : D} (journal_now : Journal) (files_now : Files) (next : Files → Type 0) (now : Secrets) (mid fuse_now : Burn) → how ≡ went end → now ≡ of_secrets.after op held → mid ≡ spent_once fuse
+      → Follows (Adds e) image next → RanAll made disk disk_now mid fuse_now (append_calls journal e) → IsOpen journal_now files_now next → next files_now
+      → MadeAt (put_and_appended op (has_file journal) e end) how files image files_now next (moment out held fuse) (moment out now fuse_now)
+  both_done journal_now files_now next now mid fuse_now is done once follows ran firm itself = subst (λ (x : Ended StoreError S). MadeAt (put_and_appended op (has_file journal) e end) x files image files_now next (moment out held fuse) (moment out now fuse_now)) (sym is) (record {
     made = λ stands c here. let from = follows.each c here in let same = stands.lands.only from.0 from.1 in (
       world_is out
           (held_is c now (of_secrets.after op held) (placed (entries files) e) (get files Plan) (from.2.added ∙ ap (λ (f : Files). placed (entries f) e) same) done (from.2.others Plan plan_apart ∙ ap (λ (f : Files). get f Plan) same))
-          (ran.fuse ∙ burnt-burned (append_calls place e) mid ∙ ap (λ (n : ℕ). burnt n mid) (calls_of place e) ∙ ap (burnt (if is_some place then 4 else 5)) once),
+          (ran.fuse ∙ burnt-burned (append_calls journal e) mid ∙ ap (λ (n : ℕ). burnt n mid) (append_size journal e) ∙ ap (burnt (if has_file journal then 4 else 5)) once),
       refl,
     );
-    stands = λ stands. stands_again place_now files files_now next (λ c here. let from = follows.each c here in subst (λ (f : Files). SameElse Flat f c) (stands.lands.only from.0 from.1) from.2.others) firm itself;
+    stands = λ stands. stands_again journal_now files files_now next (λ c here. let from = follows.each c here in subst (λ (f : Files). SameElse Flat f c) (stands.lands.only from.0 from.1) from.2.others) firm itself;
   })
 
 -- the same put and the same entry

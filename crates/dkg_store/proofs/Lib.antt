@@ -1,8 +1,11 @@
+pub mod Above
 pub mod Acting
 pub mod Acts
 pub mod Answering
 pub mod Both
 pub mod Changing
+pub mod Corrupt
+pub mod Cuts
 pub mod Events
 pub mod Formed
 pub mod Halves
@@ -12,6 +15,7 @@ pub mod OpeningActs
 pub mod Others
 pub mod Pairs
 pub mod Playing
-pub mod Replayed
+pub mod Ranges
 pub mod Recorded
+pub mod Replayed
 pub mod Tried

@@ -111,7 +111,7 @@ stays : (s : Secrets) (m : Pairs) (o : Option Dealing) (k : ℕ × ℕ) → IsSo
 stays s m None k some = some
 stays s m (Some d) k some = stays_half m d (get s.privates d.key) k some
 
-fold_stays : (s : Secrets) (k : ℕ × ℕ) (es : List Entry) (m : Pairs) → IsSome (get m k) → IsSome (get (fold (step s) m es) k)
+pub fold_stays : (s : Secrets) (k : ℕ × ℕ) (es : List Entry) (m : Pairs) → IsSome (get m k) → IsSome (get (fold (step s) m es) k)
 fold_stays s k [] m some = some
 fold_stays s k (e ∷ es) m some = fold_stays s k es (step s m e) (stays s m (dealing_of e) k some)
 
@@ -125,7 +125,7 @@ none_before s k es m none = elim (none_or (get m k)) [
   | inr some ↦ absurd (not_none _ (fold_stays s k es m some) none)
 ]
 
-half_there : (m : Pairs) (d : Dealing) (h : Option ℕ) → IsSome h → IsSome (get (with_half m d h) d.key)
+pub half_there : (m : Pairs) (d : Dealing) (h : Option ℕ) → IsSome h → IsSome (get (with_half m d h) d.key)
 half_there m d None some = absurd (not_none {A = ℕ} None some refl)
 half_there m d (Some p) some = is_some_at _ (d.public, p) (get_here m d.key (d.public, p))
 

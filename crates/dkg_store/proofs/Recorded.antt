@@ -1,10 +1,9 @@
 -- Dealings restored, listed and checked one by one.
-use Rattle.std.proofs.Common.{◌≡◌, ℕ, ◌+◌, ◌<◌, Bool, true, false, List, [], ◌∷◌, ◌++◌, map, drop, length, get_or, Option, Some, None, refl, sym, ap, ◌∙◌, arith, cond}
+use Rattle.std.proofs.Common.{◌≡◌, ℕ, zero, suc, ◌+◌, ◌<◌, true, false, List, [], ◌∷◌, drop, length, get_or, Option, Some, None, refl, sym, ap, ◌∙◌, arith, cond}
 use Rattle.std.proofs.lemmas.List.{drop_more}
 use Rattle.dkg_journal.specs.declared.opening.JournalEntry.{JournalEntry}
-use Rattle.dkg_journal.specs.Records.{Entry}
 use Rattle.dkg_journal.specs.Views.{views}
-use Rattle.dkg_store.specs.Corrupt.{AreEvents}
+use Rattle.dkg_store.specs.Corrupt.{AreEvents, BeginsWithEvent}
 use Rattle.dkg_store.specs.Events.{is_event, no_event_at}
 
 -- from a place on
@@ -17,6 +16,12 @@ event_passes limit es i e below is event = more_events limit es i e below is ∙
 
 pub event_stops : (limit : ℕ) (es : List JournalEntry) (i : ℕ) (e : JournalEntry) → i < length es → e ≡ get_or es i e → is_event limit e.body ≡ false → no_event_at limit (drop i es) ≡ Some e.place
 event_stops limit es i e below is event = more_events limit es i e below is ∙ ap (λ b. cond b (no_event_at limit (drop (i + 1) es)) (Some e.place)) event
+
+-- the first of them is the one at this index, or it was passed
+pub begins : (limit : ℕ) (es : List JournalEntry) (i : ℕ) (e : JournalEntry) → i < length es → e ≡ get_or es i e → (0 < i → BeginsWithEvent limit (views es)) → is_event limit e.body ≡ true → BeginsWithEvent limit (views es)
+begins limit [] i e below is passed event = absurd (omega (arith, below))
+begins limit (x ∷ es) zero e below is passed event = ap (λ (y : JournalEntry). is_event limit y.body) (sym is) ∙ event
+begins limit (x ∷ es) (suc i) e below is passed event = passed (omega arith)
 
 all_or : (limit : ℕ) (e : JournalEntry) (es : List JournalEntry) → no_event_at limit (e ∷ es) ≡ None → (is_event limit e.body ≡ true) × (no_event_at limit es ≡ None)
 all_or limit e es none = elim (is_event limit e.body) as (λ b. cond b (no_event_at limit es) (Some e.place) ≡ None → (b ≡ true) × (no_event_at limit es ≡ None)) [

@@ -4,8 +4,9 @@ use Rattle.dkg_journal.specs.Burn.{Burn}
 use Rattle.dkg_journal.specs.Fuse.{Ran, RanAll}
 use Rattle.dkg_journal.specs.Disk.{Rose}
 use Rattle.dkg_journal.specs.Records.{Entry}
-use Rattle.dkg_journal.specs.Steps.{append_calls}
+use Rattle.dkg_journal.specs.Journals.{append_calls}
 use Rattle.dkg_journal.specs.declared.disk.Op.{Op}
+use Rattle.dkg_journal.specs.declared.journal.Journal.{Journal}
 use Rattle.dkg_store.specs.declared.secrets.SecretOp.{SecretOp}
 
 pub data Call : Type 0 where
@@ -28,8 +29,8 @@ pub record MadeBoth {D X : Type 0} (disk : D → D → List Op → Type 0) (secr
   pub on_the_secrets : secrets old.1 new.1 (secret_ops calls)
 
 -- the calls of a put and of an append behind it
-abbrev pub put_then_append : SecretOp → Option ℕ → Entry → List Call
-put_then_append op place e = on_secrets op ∷ map on_disk (append_calls place e)
+abbrev pub put_then_append : SecretOp → Journal → Entry → List Call
+put_then_append op journal e = on_secrets op ∷ map on_disk (append_calls journal e)
 
 -- one of the devices wanted memory itself
 pub record IsWanted (disk disk_now secrets secrets_now : ℕ) : Type 0 where

@@ -1,10 +1,10 @@
 -- The records for which a store is not opened.
-use Rattle.std.specs.Prelude.{◌≡◌, ◌⊎◌, ℕ, List, Option, Some, None, true}
+use Rattle.std.specs.Prelude.{◌≡◌, ◌⊎◌, ℕ, List, [], ◌∷◌, map, Some, None, true}
 use Rattle.std.specs.List.{AllByRecursion}
 use Rattle.dkg_journal.specs.Names.{Files}
 use Rattle.dkg_journal.specs.Opening.{broken}
-use Rattle.dkg_journal.specs.Records.{Entry, entries}
-use Rattle.dkg_journal.specs.Views.{views}
+use Rattle.dkg_journal.specs.Gated.{gated, gated_entries}
+use Rattle.dkg_journal.specs.Records.{Entry}
 use Rattle.dkg_journal.specs.declared.opening.JournalEntry.{JournalEntry}
 use Rattle.dkg_store.specs.Events.{is_event, no_event_at}
 
@@ -12,10 +12,15 @@ use Rattle.dkg_store.specs.Events.{is_event, no_event_at}
 abbrev pub AreEvents : ℕ → List Entry → Type 0
 AreEvents limit es = AllByRecursion (λ e. is_event limit e.1 ≡ true) es
 
--- These are the entries of the files, each with its place, and the one at this place is the first that is no event.
+-- there is an entry, and the first is an event
+abbrev pub BeginsWithEvent : ℕ → List Entry → Type 0
+BeginsWithEvent limit [] = ⊥
+BeginsWithEvent limit (e ∷ es) = is_event limit e.1 ≡ true
+
+-- These are the entries of the files, each with the place of its gate, and the one at this place is the first that is no event.
 pub record HasNoEvent (limit : ℕ) (files : Files) (place : ℕ) : Type 0 where
   pub read : List JournalEntry
-  pub are : views read ≡ entries files
+  pub are : map gated read ≡ gated_entries files
   pub first : no_event_at limit read ≡ Some place
 
 -- A record that is not whole stands there. Or all are whole, and a body is no event within the limit.

@@ -1,10 +1,15 @@
--- The errors that a call of a secret store may give.
+-- Which errors each call may give.
 use Rattle.dkg_journal.specs.declared.call.JournalError.{JournalError}
 use Rattle.dkg_journal.specs.declared.call.JournalError.TheVariants as of_journal
 use Rattle.dkg_values.specs.declared.name.Name.TheVariants.{Flat}
+use Rattle.dkg_types.specs.declared.fault.LocalCause.{LocalCause}
+use Rattle.dkg_types.specs.declared.fault.LocalCause.TheVariants.{StoredDealing, ShareRefused, OwnDealing, NoShare, OutcomeOmitted}
 use Rattle.dkg_store.specs.declared.call.StoreError.{StoreError}
 use Rattle.dkg_store.specs.declared.call.StoreError.TheVariants.{Disk, Secrets, Corrupt, LocalState, StateSyncEpochs, StateSyncMaterial, Cut, NoMemory}
+use Rattle.dkg_store.specs.declared.player.DealingHandleError.{DealingHandleError}
+use Rattle.dkg_store.specs.declared.player.DealingHandleError.TheVariants.{Refused, Store as OfStore}
 
+-- the errors that a call of a secret store may give
 abbrev pub IsOfSecrets : StoreError → Type 0
 IsOfSecrets Secrets = Unit {0}
 IsOfSecrets Cut = Unit {0}
@@ -25,6 +30,29 @@ IsOfDevices (Corrupt name place) = ⊥
 IsOfDevices (LocalState cause) = ⊥
 IsOfDevices (StateSyncEpochs info floor) = ⊥
 IsOfDevices StateSyncMaterial = ⊥
+
+-- a refusal of the player, or an error of a call of both devices
+abbrev pub IsOfHandling : DealingHandleError → Type 0
+IsOfHandling (Refused error) = Unit {0}
+IsOfHandling (OfStore error) = IsOfDevices error
+
+abbrev pub IsStoredDealing : LocalCause → Type 0
+IsStoredDealing (StoredDealing epoch dealer) = Unit {0}
+IsStoredDealing (ShareRefused epoch) = ⊥
+IsStoredDealing (OwnDealing epoch kept dealt) = ⊥
+IsStoredDealing NoShare = ⊥
+IsStoredDealing OutcomeOmitted = ⊥
+
+-- the errors that setting a player up may give
+abbrev pub IsOfPlaying : StoreError → Type 0
+IsOfPlaying NoMemory = Unit {0}
+IsOfPlaying (LocalState cause) = IsStoredDealing cause
+IsOfPlaying Disk = ⊥
+IsOfPlaying Secrets = ⊥
+IsOfPlaying Cut = ⊥
+IsOfPlaying (Corrupt name place) = ⊥
+IsOfPlaying (StateSyncEpochs info floor) = ⊥
+IsOfPlaying StateSyncMaterial = ⊥
 
 -- the errors that taking up an entry may give
 abbrev pub IsOfRestoring : StoreError → Type 0

@@ -3,6 +3,7 @@ pub mod Both
 pub mod Calls
 pub mod Commits
 pub mod Corrupt
+pub mod Cuts
 pub mod Errors
 pub mod Events
 pub mod Formed

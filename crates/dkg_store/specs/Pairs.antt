@@ -1,5 +1,5 @@
 -- The dealings that the entries of a journal and a secret store stand for together.
-use Rattle.std.specs.Prelude.{◌≡◌, ◌⊎◌, ℕ, List, fold, Option, Some, None, IsSome, Result, Ok, Err}
+use Rattle.std.specs.Prelude.{◌≡◌, ◌⊎◌, ◌≤◌, ℕ, List, fold, Option, Some, None, IsSome, Result, Ok, Err}
 use Rattle.std.specs.List.{AllByRecursion}
 use Rattle.std.specs.FinMap.{FinMap, get, insert, empty}
 use Rattle.dkg_journal.specs.Names.{Files}
@@ -49,6 +49,10 @@ HasHalf s (Some d) = IsSome (get s.privates d.key)
 -- each recorded dealing has its private half
 abbrev pub IsWhole : List Entry → Secrets → Type 0
 IsWhole es s = AllByRecursion (λ e. HasHalf s (dealing_of e)) es
+
+-- no dealing is of an epoch below the minimum
+abbrev pub AreAtOrAbove : ℕ → Pairs → Type 0
+AreAtOrAbove min pairs = (key : ℕ × ℕ) → IsSome (get pairs key) → min ≤ key.0
 
 -- whatever a crash now leaves is whole, and gives these dealings back
 pub record Holds (pairs : Pairs) (image : Files → Type 0) (held : Secrets) : Type 0 where

@@ -1,11 +1,12 @@
 //! Both devices of a step, and the calls that change them, in one order.
-ghost use Rattle.std.specs.Prelude.{◌≡◌, ◌≤◌, ◌^◌, ◌∷◌, [], List, OnOk, IfErr, IsErrOf, IsTrue, is_some};
+ghost use Rattle.std.specs.Prelude.{◌≡◌, ◌≤◌, ◌^◌, ◌∷◌, [], List, OnOk, IfErr, IsErrOf, IsTrue};
 ghost use Rattle.dkg_types.specs.declared.entry.Entry.{Entry as Line};
 ghost use Rattle.dkg_values.specs.declared.name.Name.TheVariants.{Flat};
 ghost use Rattle.dkg_journal.specs.Disk.{Follows, Rose, SameElse};
 ghost use Rattle.dkg_journal.specs.Fuse.{Reached, Ran, RanAll};
+ghost use Rattle.dkg_journal.specs.Journals.{IsOpen, has_file};
 ghost use Rattle.dkg_journal.specs.Ready.{IsReady};
-ghost use Rattle.dkg_journal.specs.Steps.{IsOpenAt, Adds};
+ghost use Rattle.dkg_journal.specs.Steps.{Adds};
 ghost use Rattle.dkg_store.specs.Acts.{MadeAt, moment};
 ghost use Rattle.dkg_store.specs.Calls.{put_and_appended, ended};
 ghost use Rattle.dkg_store.specs.Errors.{IsOfDevices};
@@ -36,9 +37,9 @@ pub fn put_and_append<D: Disk, X: SecretStore>(
     section: u64,
     body: &[u8],
 ) -> Result<(), StoreError>
-    requires ready { IsReady calls.now journal.old.place (section, body.now) }
-    requires open { IsTrue D.tells → IsOpenAt journal.old.place (D.files devices.old.disk.now) (D.image devices.old.disk.now) }
-    ensures open { OnOk result (IsTrue D.tells → IsOpenAt journal.new.place (D.files devices.new.disk.now) (D.image devices.new.disk.now)) }
+    requires ready { IsReady calls.now journal.old (section, body.now) }
+    requires open { IsTrue D.tells → IsOpen journal.old (D.files devices.old.disk.now) (D.image devices.old.disk.now) }
+    ensures open { OnOk result (IsTrue D.tells → IsOpen journal.new (D.files devices.new.disk.now) (D.image devices.new.disk.now)) }
     ensures done { OnOk result (IsTrue X.tells → X.held devices.new.secrets.now ≡ after put.now (X.held devices.old.secrets.now)) }
     ensures added { OnOk result (IsTrue D.tells → Follows (Adds (section, body.now)) (D.image devices.old.disk.now) (D.image devices.new.disk.now)) }
     ensures steps { IsTrue D.tells → IsTrue X.tells → PutsFirst put.now (section, body.now) (D.image devices.old.disk.now) (D.image devices.new.disk.now) (X.held devices.old.secrets.now) (X.held devices.new.secrets.now) }
@@ -48,12 +49,12 @@ pub fn put_and_append<D: Disk, X: SecretStore>(
     ensures secrets { IsErrOf result StoreError.Secrets → Rose (X.faults devices.old.secrets.now) (X.faults devices.new.secrets.now) }
     ensures memory { IsErrOf result StoreError.NoMemory → IsWanted (D.wants devices.old.disk.now) (D.wants devices.new.disk.now) (X.wants devices.old.secrets.now) (X.wants devices.new.secrets.now) }
     // The put, and then the append: both at Ok, and at any other exit a part, whatever image is left.
-    ensures acts { IsTrue D.tells → IsTrue X.tells → (out : List Line) → MadeAt (put_and_appended put.now (is_some journal.old.place) (section, body.now) tt) (ended result) (D.files devices.old.disk.now) (D.image devices.old.disk.now) (D.files devices.new.disk.now) (D.image devices.new.disk.now) (moment out (X.held devices.old.secrets.now) devices.old.fuse) (moment out (X.held devices.new.secrets.now) devices.new.fuse) }
+    ensures acts { IsTrue D.tells → IsTrue X.tells → (out : List Line) → MadeAt (put_and_appended put.now (has_file journal.old) (section, body.now) tt) (ended result) (D.files devices.old.disk.now) (D.image devices.old.disk.now) (D.files devices.new.disk.now) (D.image devices.new.disk.now) (moment out (X.held devices.old.secrets.now) devices.old.fuse) (moment out (X.held devices.new.secrets.now) devices.new.fuse) }
     ensures kinds { IfErr result IsOfDevices }
     ensures cut { IsErrOf result StoreError.Cut → Reached devices.old.fuse devices.new.fuse }
     ensures not_cut { OnOk result (Reached devices.old.fuse devices.new.fuse → ⊥) }
-    ensures all { OnOk result (RanAll (MadeBoth D.made X.made) (devices.old.disk.now, devices.old.secrets.now) (devices.new.disk.now, devices.new.secrets.now) devices.old.fuse devices.new.fuse (put_then_append put.now journal.old.place (section, body.now))) }
-    ensures calls { Ran (MadeBoth D.made X.made) (devices.old.disk.now, devices.old.secrets.now) (devices.new.disk.now, devices.new.secrets.now) devices.old.fuse devices.new.fuse (put_then_append put.now journal.old.place (section, body.now)) }
+    ensures all { OnOk result (RanAll (MadeBoth D.made X.made) (devices.old.disk.now, devices.old.secrets.now) (devices.new.disk.now, devices.new.secrets.now) devices.old.fuse devices.new.fuse (put_then_append put.now journal.old (section, body.now))) }
+    ensures calls { Ran (MadeBoth D.made X.made) (devices.old.disk.now, devices.old.secrets.now) (devices.new.disk.now, devices.new.secrets.now) devices.old.fuse devices.new.fuse (put_then_append put.now journal.old (section, body.now)) }
     // A crash leaves every file but the journal's as it was.
     ensures others { IsTrue D.tells → Follows (SameElse Flat) (D.image devices.old.disk.now) (D.image devices.new.disk.now) }
     ensures same_disk { devices.new.disk.ghost_name ≡ devices.old.disk.ghost_name }

@@ -3,6 +3,7 @@
 //! The memory stores of runs and tests hold their content so.
 ghost use Rattle.std.specs.Prelude.{◌≡◌, OnOk, OnErr, IsSome};
 ghost use Rattle.std.specs.FinMap as map;
+ghost use Rattle.dkg_store.specs.Cuts.{pruned_by, after_cut};
 ghost use Rattle.dkg_store.specs.Secrets.{Secrets, Tries, after, IsTornPrune};
 
 use crate::number_map::NumberMap;
@@ -91,21 +92,23 @@ impl Held {
     /// Takes some of what is below the minimum away. Of the keys below it (of shares, of seeds, of private halves, each rising) the
     /// one at place i goes where bit i mod 64 of the pick is 0.
     fn prune_some(&mut self, alloc: Global, min: Epoch, pick: u64) -> Mem<()>
+        ensures done { OnOk result (self.new ≡ pruned_by min pick self.old) }
         ensures torn { OnOk result (IsTornPrune min self.old self.new) }
         ensures kept { OnErr result (self.new ≡ self.old) }
     {
         let shares = self.shares.keys_below(alloc, min.0)?;
         let seeds = self.seeds.keys_below(alloc, min.0)?;
         let privates = self.privates.keys_below(alloc, min.0)?;
-        let pick = self.shares.remove_some(&shares, pick);
-        let pick = self.seeds.remove_some(&seeds, pick);
-        let _pick = self.privates.remove_some(&privates, pick);
+        let place = self.shares.remove_some(&shares, pick, 0);
+        let place = self.seeds.remove_some(&seeds, pick, place);
+        let _place = self.privates.remove_some(&privates, pick, place);
         Ok(())
     }
 
     /// Begins the call and stops in it. A put is done where the pick is even.
     pub(crate) fn cut(&mut self, alloc: Global, op: &SecretOp, pick: u64) -> Mem<()>
         ensures tried { Tries op.now self.old self.new }
+        ensures done { OnOk result (self.new ≡ after_cut op.now pick self.old) }
         ensures kept { OnErr result (self.new ≡ self.old) }
     {
         if let SecretOp::Prune { min } = *op {

@@ -1,12 +1,12 @@
 //! Values by one number, an epoch or a key: what a secret store keeps by epoch, and what a player keeps by dealer.
-ghost use Rattle.std.specs.Prelude.{◌≡◌, ℕ, ◌<◌, nat_le, OnOk, OnErr, IfOk, IfSome, IfNone, IsSome, None};
+ghost use Rattle.std.specs.Prelude.{◌≡◌, ℕ, ◌+◌, ◌%◌, ◌<◌, nat_lt, nat_le, filter, length, OnOk, OnErr, IfOk, IfSome, IfNone, IsSome, None};
 ghost use Rattle.std.specs.Option.{option_copied};
-ghost use Rattle.std.specs.List.{All};
 ghost use Rattle.std.specs.FinMap as map;
-ghost use Rattle.dkg_store.specs.Keys.{StaysOrGoes};
+ghost use Rattle.dkg_store.specs.Cuts.{cleared, keys_below};
 
 use std::alloc::{AllocError, AllocFailed, Global};
 use std::collections::BTreeMap;
+use std::collections::btree_map::Range;
 use std::marker::Model;
 
 /// Values by one number, seen as a finite map.
@@ -76,31 +76,38 @@ impl<V: Drop> NumberMap<V> {
         }
     }
 
+    /// What is below the minimum, keys rising.
+    fn below(&self, min: u64) -> Range<'_, u64, V>
+        ensures { result ≡ filter (λ e. nat_lt e.0 min) (map.entries self.now) }
+    {
+        self.values.range(..min)
+    }
+
     /// The keys below the minimum, rising.
     pub fn keys_below(&self, alloc: Global, min: u64) -> Result<Vec<u64>, AllocError>
-        ensures { IfOk result (λ keys. All (λ key. key < min) keys.items) }
+        ensures { IfOk result (λ keys. keys.items ≡ keys_below (λ key. key) min self.now) }
     {
         let mut keys = Vec::new(alloc);
-        for (key, _) in &self.values {
-            if *key >= min {
-                break;
-            }
+        for (key, _) in self.below(min) {
             keys.push(*key)?;
         }
         Ok(keys)
     }
 
-    /// Takes of these keys those away at which the pick's bits, from the lowest on, are 0, and gives the pick turned on.
-    pub fn remove_some(&mut self, keys: &[u64], pick: u64) -> u64
-        ensures { (min : ℕ) → All (λ key. key < min) keys.now → (q : ℕ) → StaysOrGoes min q (map.get self.old q) (map.get self.new q) }
+    /// Takes of these keys those away at whose places the pick's bits are 0. The first key has the first place; what is given is the
+    /// place behind the last. Places turn at 64.
+    pub fn remove_some(&mut self, keys: &[u64], pick: u64, first: u32) -> u32
+        requires { first < 64 }
+        ensures cleared { self.new ≡ cleared pick first keys.now self.old }
+        ensures behind { result ≡ (first + length keys.now) % 64 }
     {
-        let mut pick = pick;
+        let mut place = first;
         for key in keys {
-            if pick & 1 == 0 {
+            if (pick >> place) % 2 == 0 {
                 self.remove(*key);
             }
-            pick = pick.rotate_right(1);
+            place = (place + 1) % 64;
         }
-        pick
+        place
     }
 }

@@ -1,9 +1,8 @@
 //! Values by an epoch and a dealer: the private halves of a secret store, and the recorded dealings of a store.
-ghost use Rattle.std.specs.Prelude.{◌≡◌, ℕ, ◌<◌, ◌^◌, ◌==◌, ◌&&◌, filter, nat_lt, nat_le, OnOk, OnErr, IfOk, IfSome, IfNone, IsSome, None};
+ghost use Rattle.std.specs.Prelude.{◌≡◌, ℕ, ◌+◌, ◌%◌, ◌<◌, ◌^◌, ◌==◌, ◌&&◌, filter, length, nat_lt, nat_le, OnOk, OnErr, IfOk, IfSome, IfNone, IsSome, None};
 ghost use Rattle.std.specs.Option.{option_copied};
-ghost use Rattle.std.specs.List.{All};
 ghost use Rattle.std.specs.FinMap as map;
-ghost use Rattle.dkg_store.specs.Keys.{StaysOrGoes};
+ghost use Rattle.dkg_store.specs.Cuts.{cleared, keys_below};
 
 use dkg_values::{Epoch, Key};
 use std::alloc::{AllocError, AllocFailed, Global};
@@ -124,31 +123,38 @@ impl<V: Drop> PairMap<V> {
         }
     }
 
-    /// The keys below the minimum, rising.
+    /// What is of epochs below the minimum, keys rising.
+    fn below(&self, min: u64) -> Range<'_, (u64, u32), V>
+        ensures { result ≡ filter (λ e. nat_lt e.0.0 min) (map.entries self.now) }
+    {
+        self.values.range(..(min, 0))
+    }
+
+    /// The keys of epochs below the minimum, rising.
     pub fn keys_below(&self, alloc: Global, min: u64) -> Result<Vec<(u64, u32)>, AllocError>
-        ensures { IfOk result (λ keys. All (λ key. key.0 < min) keys.items) }
+        ensures { IfOk result (λ keys. keys.items ≡ keys_below (λ key. key.0) min self.now) }
     {
         let mut keys = Vec::new(alloc);
-        for (key, _) in &self.values {
-            if key.0 >= min {
-                break;
-            }
+        for (key, _) in self.below(min) {
             keys.push(*key)?;
         }
         Ok(keys)
     }
 
-    /// Takes of these keys those away at which the pick's bits, from the lowest on, are 0, and gives the pick turned on.
-    pub fn remove_some(&mut self, keys: &[(u64, u32)], pick: u64) -> u64
-        ensures { (min : ℕ) → All (λ key. key.0 < min) keys.now → (q : ℕ × ℕ) → StaysOrGoes min q.0 (map.get self.old q) (map.get self.new q) }
+    /// Takes of these keys those away at whose places the pick's bits are 0. The first key has the first place; what is given is the
+    /// place behind the last. Places turn at 64.
+    pub fn remove_some(&mut self, keys: &[(u64, u32)], pick: u64, first: u32) -> u32
+        requires { first < 64 }
+        ensures cleared { self.new ≡ cleared pick first keys.now self.old }
+        ensures behind { result ≡ (first + length keys.now) % 64 }
     {
-        let mut pick = pick;
+        let mut place = first;
         for key in keys {
-            if pick & 1 == 0 {
+            if (pick >> place) % 2 == 0 {
                 self.remove_at(key.0, key.1);
             }
-            pick = pick.rotate_right(1);
+            place = (place + 1) % 64;
         }
-        pick
+        place
     }
 }

@@ -1,18 +1,18 @@
 //! A player of a round: it acknowledges each dealer once, for the dealing that is recorded.
 //!
 //! A reshare actor hands it each dealing that comes in.
-ghost use Rattle.std.specs.Prelude.{◌≡◌, ◌<◌, ◌+◌, ◌^◌, ◌++◌, ◌∷◌, [], length, OnOk, OnErr, IfOk, IfErr, IsErrOf, IsTrue, IsSome, IsOk, is_some, None, Ok, Err, Contains, if◌then◌else◌};
+ghost use Rattle.std.specs.Prelude.{◌≡◌, ◌≤◌, ◌<◌, ◌+◌, ◌^◌, ◌++◌, ◌∷◌, [], length, OnOk, OnErr, IfOk, IfErr, IsErrOf, IsTrue, IsSome, IsOk, is_some, None, Ok, Err, Contains, if◌then◌else◌};
 ghost use Rattle.std.specs.FinMap as map;
 ghost use Rattle.dkg_values.specs.declared.name.Name.TheVariants.{Flat};
-ghost use Rattle.dkg_journal.specs.Disk.{Follows, SameElse};
+ghost use Rattle.dkg_journal.specs.Disk.{Follows, Rose, SameElse};
 ghost use Rattle.dkg_journal.specs.Fuse.{Reached, Ran, RanAll};
-ghost use Rattle.dkg_journal.specs.Steps.{IsOpenAt};
+ghost use Rattle.dkg_journal.specs.Journals.{IsOpen, has_file};
 ghost use Rattle.dkg_store.specs.Acts.{MadeAt, moment};
 ghost use Rattle.dkg_store.specs.Calls.{keeping, accepting, answering, answered, ended};
-ghost use Rattle.dkg_store.specs.Errors.{IsOfDevices};
-ghost use Rattle.dkg_store.specs.Events.{event_spelling, IsPublic};
+ghost use Rattle.dkg_store.specs.Errors.{IsOfDevices, IsOfHandling};
+ghost use Rattle.dkg_store.specs.Events.{event_spelling};
 ghost use Rattle.dkg_store.specs.Pairs.{Holds, HoldsEither};
-ghost use Rattle.dkg_store.specs.Player.{IsPlayerOf, Acknowledges};
+ghost use Rattle.dkg_store.specs.Player.{IsPlayerOf, Acknowledges, MayKeep};
 ghost use Rattle.dkg_store.specs.Both.{MadeBoth, IsWant, put_then_append};
 ghost use Rattle.dkg_store.specs.declared.player.DealingHandleError.TheVariants.{Store as OfStore};
 ghost use Rattle.dkg_ceremony.specs.declared.ceremony.DealingError.{DealingError};
@@ -96,21 +96,25 @@ fn keep_dealing<D: Disk, X: SecretStore, Dir: Drop>(
     requires room { 0 < out.old.spare }
     requires new { map.get acks.old dealer ≡ None }
     requires unrecorded { map.get store.old.dealings (epoch, dealer) ≡ None }
-    requires open { IsTrue D.tells → IsOpenAt store.old.journal.place (D.files devices.old.disk.now) (D.image devices.old.disk.now) }
+    requires open { IsTrue D.tells → IsOpen store.old.journal (D.files devices.old.disk.now) (D.image devices.old.disk.now) }
     ensures acks { OnOk result (acks.new ≡ map.insert acks.old dealer ack) }
     ensures no_ack { OnErr result (acks.new ≡ acks.old) }
     ensures pairs { OnOk result (store.new.dealings ≡ map.insert store.old.dealings (epoch, dealer) (public, private)) }
     ensures no_pair { OnErr result (store.new.dealings ≡ store.old.dealings) }
     ensures told { OnOk result (out.new.entries ≡ out.old.entries ++ Entry.Recorded epoch dealer told private ∷ []) }
     ensures untold { OnErr result (out.new.entries ≡ out.old.entries) }
-    ensures open { OnOk result (IsTrue D.tells → IsOpenAt store.new.journal.place (D.files devices.new.disk.now) (D.image devices.new.disk.now)) }
-    ensures holds { OnOk result (IsPublic public → IsTrue D.tells → IsTrue X.tells → Holds store.old.dealings (D.image devices.old.disk.now) (X.held devices.old.secrets.now) → Holds store.new.dealings (D.image devices.new.disk.now) (X.held devices.new.secrets.now)) }
-    ensures images { IsPublic public → IsTrue D.tells → IsTrue X.tells → Holds store.old.dealings (D.image devices.old.disk.now) (X.held devices.old.secrets.now) → HoldsEither store.old.dealings (map.insert store.old.dealings (epoch, dealer) (public, private)) (D.image devices.new.disk.now) (X.held devices.new.secrets.now) }
-    ensures acts { IsTrue D.tells → IsTrue X.tells → MadeAt (keeping (is_some store.old.journal.place) epoch dealer public told private tt) (ended result) (D.files devices.old.disk.now) (D.image devices.old.disk.now) (D.files devices.new.disk.now) (D.image devices.new.disk.now) (moment out.old.entries (X.held devices.old.secrets.now) devices.old.fuse) (moment out.new.entries (X.held devices.new.secrets.now) devices.new.fuse) }
+    ensures open { OnOk result (IsTrue D.tells → IsOpen store.new.journal (D.files devices.new.disk.now) (D.image devices.new.disk.now)) }
+    ensures holds { OnOk result (IsTrue D.tells → IsTrue X.tells → Holds store.old.dealings (D.image devices.old.disk.now) (X.held devices.old.secrets.now) → Holds store.new.dealings (D.image devices.new.disk.now) (X.held devices.new.secrets.now)) }
+    ensures images { IsTrue D.tells → IsTrue X.tells → Holds store.old.dealings (D.image devices.old.disk.now) (X.held devices.old.secrets.now) → HoldsEither store.old.dealings (map.insert store.old.dealings (epoch, dealer) (public, private)) (D.image devices.new.disk.now) (X.held devices.new.secrets.now) }
+    ensures acts { IsTrue D.tells → IsTrue X.tells → MadeAt (keeping (has_file store.old.journal) epoch dealer public told private tt) (ended result) (D.files devices.old.disk.now) (D.image devices.old.disk.now) (D.files devices.new.disk.now) (D.image devices.new.disk.now) (moment out.old.entries (X.held devices.old.secrets.now) devices.old.fuse) (moment out.new.entries (X.held devices.new.secrets.now) devices.new.fuse) }
     ensures kinds { IfErr result IsOfDevices }
-    ensures all { OnOk result (RanAll (MadeBoth D.made X.made) (devices.old.disk.now, devices.old.secrets.now) (devices.new.disk.now, devices.new.secrets.now) devices.old.fuse devices.new.fuse (put_then_append (SecretOp.PutDealing epoch dealer private) store.old.journal.place (epoch, event_spelling dealer public))) }
-    ensures calls { Ran (MadeBoth D.made X.made) (devices.old.disk.now, devices.old.secrets.now) (devices.new.disk.now, devices.new.secrets.now) devices.old.fuse devices.new.fuse (put_then_append (SecretOp.PutDealing epoch dealer private) store.old.journal.place (epoch, event_spelling dealer public)) }
+    ensures all { OnOk result (RanAll (MadeBoth D.made X.made) (devices.old.disk.now, devices.old.secrets.now) (devices.new.disk.now, devices.new.secrets.now) devices.old.fuse devices.new.fuse (put_then_append (SecretOp.PutDealing epoch dealer private) store.old.journal (epoch, event_spelling dealer public))) }
+    ensures calls { Ran (MadeBoth D.made X.made) (devices.old.disk.now, devices.old.secrets.now) (devices.new.disk.now, devices.new.secrets.now) devices.old.fuse devices.new.fuse (put_then_append (SecretOp.PutDealing epoch dealer private) store.old.journal (epoch, event_spelling dealer public)) }
     ensures memory { IsErrOf result StoreError.NoMemory → IsWant ((acks.new ≡ acks.old) × (store.new ≡ store.old) × (devices.new ≡ devices.old)) (D.wants devices.old.disk.now) (D.wants devices.new.disk.now) (X.wants devices.old.secrets.now) (X.wants devices.new.secrets.now) }
+    ensures later_disk { D.faults devices.old.disk.now ≤ D.faults devices.new.disk.now }
+    ensures later_secrets { X.faults devices.old.secrets.now ≤ X.faults devices.new.secrets.now }
+    ensures disk { IsErrOf result StoreError.Disk → Rose (D.faults devices.old.disk.now) (D.faults devices.new.disk.now) }
+    ensures secrets { IsErrOf result StoreError.Secrets → Rose (X.faults devices.old.secrets.now) (X.faults devices.new.secrets.now) }
     ensures cut { IsErrOf result StoreError.Cut → Reached devices.old.fuse devices.new.fuse }
     ensures not_cut { OnOk result (Reached devices.old.fuse devices.new.fuse → ⊥) }
     // A crash leaves every file but the journal's as it was.
@@ -214,7 +218,7 @@ impl Player {
         requires signer { C.Signer.key_of signer.now ≡ self.old.me }
         requires unrecorded { map.get store.old.dealings (epoch, dealer) ≡ None }
         requires unkept { map.get self.old.acks dealer ≡ None }
-        requires open { IsTrue D.tells → IsOpenAt store.old.journal.place (D.files devices.old.disk.now) (D.image devices.old.disk.now) }
+        requires open { IsTrue D.tells → IsOpen store.old.journal (D.files devices.old.disk.now) (D.image devices.old.disk.now) }
         ensures me { self.new.me ≡ self.old.me }
         ensures round { self.new.round ≡ self.old.round }
         ensures answer { IfOk result (λ ack. IsPlayerOf C.ack_of self.old.me self.old.round self.old.acks store.old.dealings epoch → Acknowledges C.ack_of self.old.me self.old.round store.new.dealings epoch dealer ack) }
@@ -227,12 +231,21 @@ impl Player {
         ensures no_pair { OnErr result (store.new.dealings ≡ store.old.dealings) }
         ensures told { OnOk result (out.new.entries ≡ out.old.entries ++ Entry.Recorded epoch dealer public private ∷ []) }
         ensures untold { OnErr result (out.new.entries ≡ out.old.entries) }
-        ensures open { OnOk result (IsTrue D.tells → IsOpenAt store.new.journal.place (D.files devices.new.disk.now) (D.image devices.new.disk.now)) }
-        ensures holds { OnOk result (IsPublic public → IsTrue D.tells → IsTrue X.tells → Holds store.old.dealings (D.image devices.old.disk.now) (X.held devices.old.secrets.now) → Holds store.new.dealings (D.image devices.new.disk.now) (X.held devices.new.secrets.now)) }
-        ensures images { IsPublic public → IsTrue D.tells → IsTrue X.tells → Holds store.old.dealings (D.image devices.old.disk.now) (X.held devices.old.secrets.now) → HoldsEither store.old.dealings (map.insert store.old.dealings (epoch, dealer) (public, private)) (D.image devices.new.disk.now) (X.held devices.new.secrets.now) }
-        ensures acts { IsTrue D.tells → IsTrue X.tells → MadeAt (accepting (C.dealing_of self.old.round self.old.me dealer public private) (is_some store.old.journal.place) epoch dealer public private (C.ack_of self.old.me self.old.round dealer public)) (answered result) (D.files devices.old.disk.now) (D.image devices.old.disk.now) (D.files devices.new.disk.now) (D.image devices.new.disk.now) (moment out.old.entries (X.held devices.old.secrets.now) devices.old.fuse) (moment out.new.entries (X.held devices.new.secrets.now) devices.new.fuse) }
-        ensures calls { Ran (MadeBoth D.made X.made) (devices.old.disk.now, devices.old.secrets.now) (devices.new.disk.now, devices.new.secrets.now) devices.old.fuse devices.new.fuse (put_then_append (SecretOp.PutDealing epoch dealer private) store.old.journal.place (epoch, event_spelling dealer public)) }
+        ensures open { OnOk result (IsTrue D.tells → IsOpen store.new.journal (D.files devices.new.disk.now) (D.image devices.new.disk.now)) }
+        ensures holds { OnOk result (IsTrue D.tells → IsTrue X.tells → Holds store.old.dealings (D.image devices.old.disk.now) (X.held devices.old.secrets.now) → Holds store.new.dealings (D.image devices.new.disk.now) (X.held devices.new.secrets.now)) }
+        // Each image, with the secrets then held, gives the dealings from before; or, where the dealing is new and passed the check, these or
+        // those with the new one.
+        ensures images { IsTrue D.tells → IsTrue X.tells → Holds store.old.dealings (D.image devices.old.disk.now) (X.held devices.old.secrets.now) → MayKeep (C.dealing_of self.old.round self.old.me dealer public private) store.old.dealings (epoch, dealer) (public, private) (D.image devices.new.disk.now) (X.held devices.new.secrets.now) }
+        ensures acts { IsTrue D.tells → IsTrue X.tells → MadeAt (accepting (C.dealing_of self.old.round self.old.me dealer public private) (has_file store.old.journal) epoch dealer public private (C.ack_of self.old.me self.old.round dealer public)) (answered result) (D.files devices.old.disk.now) (D.image devices.old.disk.now) (D.files devices.new.disk.now) (D.image devices.new.disk.now) (moment out.old.entries (X.held devices.old.secrets.now) devices.old.fuse) (moment out.new.entries (X.held devices.new.secrets.now) devices.new.fuse) }
+        ensures kinds { IfErr result IsOfHandling }
+        ensures calls { Ran (MadeBoth D.made X.made) (devices.old.disk.now, devices.old.secrets.now) (devices.new.disk.now, devices.new.secrets.now) devices.old.fuse devices.new.fuse (put_then_append (SecretOp.PutDealing epoch dealer private) store.old.journal (epoch, event_spelling dealer public)) }
         ensures memory { IsErrOf result (DealingHandleError.Store StoreError.NoMemory) → IsWant ((self.new ≡ self.old) × (store.new ≡ store.old) × (devices.new ≡ devices.old)) (D.wants devices.old.disk.now) (D.wants devices.new.disk.now) (X.wants devices.old.secrets.now) (X.wants devices.new.secrets.now) }
+        ensures later_disk { D.faults devices.old.disk.now ≤ D.faults devices.new.disk.now }
+        ensures later_secrets { X.faults devices.old.secrets.now ≤ X.faults devices.new.secrets.now }
+        ensures disk { IsErrOf result (DealingHandleError.Store StoreError.Disk) → Rose (D.faults devices.old.disk.now) (D.faults devices.new.disk.now) }
+        ensures secrets { IsErrOf result (DealingHandleError.Store StoreError.Secrets) → Rose (X.faults devices.old.secrets.now) (X.faults devices.new.secrets.now) }
+        ensures cut { IsErrOf result (DealingHandleError.Store StoreError.Cut) → Reached devices.old.fuse devices.new.fuse }
+        ensures not_cut { OnOk result (Reached devices.old.fuse devices.new.fuse → ⊥) }
         // A crash leaves every file but the journal's as it was.
         ensures others { IsTrue D.tells → Follows (SameElse Flat) (D.image devices.old.disk.now) (D.image devices.new.disk.now) }
         ensures same_disk { devices.new.disk.ghost_name ≡ devices.old.disk.ghost_name }
@@ -268,6 +281,9 @@ impl Player {
     /// check, the record, and the acknowledgement.
     ///
     /// Refused: what the check answers. Want of memory leaves all as before, but where a device itself wanted it.
+    ///
+    /// A dealer that was answered before costs a look-up among the acknowledgements, and one whose dealing is recorded a look-up among
+    /// the dealings too, and its acknowledgement: both are logarithmic in how many are recorded.
     pub fn handle<C: Ceremony, D: Disk, X: SecretStore, Dir: Drop>(
         &mut self,
         alloc: Global,
@@ -284,13 +300,14 @@ impl Player {
         requires short { 8 + length (event_spelling dealer public) < 2 ^ 32 }
         requires playing { Contains self.old.round.players self.old.me }
         requires signer { C.Signer.key_of signer.now ≡ self.old.me }
-        requires open { IsTrue D.tells → IsOpenAt store.old.journal.place (D.files devices.old.disk.now) (D.image devices.old.disk.now) }
+        requires open { IsTrue D.tells → IsOpen store.old.journal (D.files devices.old.disk.now) (D.image devices.old.disk.now) }
         ensures me { self.new.me ≡ self.old.me }
         ensures round { self.new.round ≡ self.old.round }
         // The acknowledgement is that of the dealing that is recorded.
         ensures answer { IfOk result (λ ack. IsPlayerOf C.ack_of self.old.me self.old.round self.old.acks store.old.dealings epoch → Acknowledges C.ack_of self.old.me self.old.round store.new.dealings epoch dealer ack) }
         ensures player { IsPlayerOf C.ack_of self.old.me self.old.round self.old.acks store.old.dealings epoch → IsPlayerOf C.ack_of self.new.me self.new.round self.new.acks store.new.dealings epoch }
         ensures refused { (e : DealingError) → IsErrOf result (DealingHandleError.Refused e) → C.dealing_of self.old.round self.old.me dealer public private ≡ Err e }
+        ensures refused_new { (e : DealingError) → IsErrOf result (DealingHandleError.Refused e) → map.get store.old.dealings (epoch, dealer) ≡ None }
         // A refusal touches nothing.
         ensures untouched { (e : DealingError) → IsErrOf result (DealingHandleError.Refused e) → (self.new ≡ self.old) × (store.new ≡ store.old) × (out.new ≡ out.old) × (devices.new ≡ devices.old) }
         ensures checked { OnOk result (IsPlayerOf C.ack_of self.old.me self.old.round self.old.acks store.old.dealings epoch → map.get store.old.dealings (epoch, dealer) ≡ None → C.dealing_of self.old.round self.old.me dealer public private ≡ Ok tt) }
@@ -301,14 +318,23 @@ impl Player {
         ensures no_pair { OnErr result (store.new.dealings ≡ store.old.dealings) }
         ensures told { OnOk result (IsPlayerOf C.ack_of self.old.me self.old.round self.old.acks store.old.dealings epoch → out.new.entries ≡ (if is_some (map.get store.old.dealings (epoch, dealer)) then out.old.entries else out.old.entries ++ Entry.Recorded epoch dealer public private ∷ [])) }
         ensures untold { OnErr result (out.new.entries ≡ out.old.entries) }
-        ensures open { OnOk result (IsTrue D.tells → IsOpenAt store.new.journal.place (D.files devices.new.disk.now) (D.image devices.new.disk.now)) }
-        ensures holds { OnOk result (IsPublic public → IsTrue D.tells → IsTrue X.tells → Holds store.old.dealings (D.image devices.old.disk.now) (X.held devices.old.secrets.now) → Holds store.new.dealings (D.image devices.new.disk.now) (X.held devices.new.secrets.now)) }
-        ensures images { IsPublic public → IsTrue D.tells → IsTrue X.tells → Holds store.old.dealings (D.image devices.old.disk.now) (X.held devices.old.secrets.now) → HoldsEither store.old.dealings (map.insert store.old.dealings (epoch, dealer) (public, private)) (D.image devices.new.disk.now) (X.held devices.new.secrets.now) }
+        ensures open { OnOk result (IsTrue D.tells → IsOpen store.new.journal (D.files devices.new.disk.now) (D.image devices.new.disk.now)) }
+        ensures holds { OnOk result (IsTrue D.tells → IsTrue X.tells → Holds store.old.dealings (D.image devices.old.disk.now) (X.held devices.old.secrets.now) → Holds store.new.dealings (D.image devices.new.disk.now) (X.held devices.new.secrets.now)) }
+        // Each image, with the secrets then held, gives the dealings from before; or, where the dealing is new and passed the check, these or
+        // those with the new one.
+        ensures images { IsTrue D.tells → IsTrue X.tells → Holds store.old.dealings (D.image devices.old.disk.now) (X.held devices.old.secrets.now) → MayKeep (C.dealing_of self.old.round self.old.me dealer public private) store.old.dealings (epoch, dealer) (public, private) (D.image devices.new.disk.now) (X.held devices.new.secrets.now) }
         // A dealer whose dealing is recorded is answered by the acknowledgement of that. Else the check, the put, the append and the
         // line: all of them at Ok, and at any other exit a part, whatever image is left.
-        ensures acts { IsTrue D.tells → IsTrue X.tells → IsPlayerOf C.ack_of self.old.me self.old.round self.old.acks store.old.dealings epoch → MadeAt (answering (C.ack_of self.old.me self.old.round dealer) (map.get store.old.dealings (epoch, dealer)) (C.dealing_of self.old.round self.old.me dealer public private) (is_some store.old.journal.place) epoch dealer public private) (answered result) (D.files devices.old.disk.now) (D.image devices.old.disk.now) (D.files devices.new.disk.now) (D.image devices.new.disk.now) (moment out.old.entries (X.held devices.old.secrets.now) devices.old.fuse) (moment out.new.entries (X.held devices.new.secrets.now) devices.new.fuse) }
-        ensures calls { Ran (MadeBoth D.made X.made) (devices.old.disk.now, devices.old.secrets.now) (devices.new.disk.now, devices.new.secrets.now) devices.old.fuse devices.new.fuse (put_then_append (SecretOp.PutDealing epoch dealer private) store.old.journal.place (epoch, event_spelling dealer public)) }
+        ensures acts { IsTrue D.tells → IsTrue X.tells → IsPlayerOf C.ack_of self.old.me self.old.round self.old.acks store.old.dealings epoch → MadeAt (answering (C.ack_of self.old.me self.old.round dealer) (map.get store.old.dealings (epoch, dealer)) (C.dealing_of self.old.round self.old.me dealer public private) (has_file store.old.journal) epoch dealer public private) (answered result) (D.files devices.old.disk.now) (D.image devices.old.disk.now) (D.files devices.new.disk.now) (D.image devices.new.disk.now) (moment out.old.entries (X.held devices.old.secrets.now) devices.old.fuse) (moment out.new.entries (X.held devices.new.secrets.now) devices.new.fuse) }
+        ensures kinds { IfErr result IsOfHandling }
+        ensures calls { Ran (MadeBoth D.made X.made) (devices.old.disk.now, devices.old.secrets.now) (devices.new.disk.now, devices.new.secrets.now) devices.old.fuse devices.new.fuse (put_then_append (SecretOp.PutDealing epoch dealer private) store.old.journal (epoch, event_spelling dealer public)) }
         ensures memory { IsErrOf result (DealingHandleError.Store StoreError.NoMemory) → IsWant ((self.new ≡ self.old) × (store.new ≡ store.old) × (devices.new ≡ devices.old)) (D.wants devices.old.disk.now) (D.wants devices.new.disk.now) (X.wants devices.old.secrets.now) (X.wants devices.new.secrets.now) }
+        ensures later_disk { D.faults devices.old.disk.now ≤ D.faults devices.new.disk.now }
+        ensures later_secrets { X.faults devices.old.secrets.now ≤ X.faults devices.new.secrets.now }
+        ensures disk { IsErrOf result (DealingHandleError.Store StoreError.Disk) → Rose (D.faults devices.old.disk.now) (D.faults devices.new.disk.now) }
+        ensures secrets { IsErrOf result (DealingHandleError.Store StoreError.Secrets) → Rose (X.faults devices.old.secrets.now) (X.faults devices.new.secrets.now) }
+        ensures cut { IsErrOf result (DealingHandleError.Store StoreError.Cut) → Reached devices.old.fuse devices.new.fuse }
+        ensures not_cut { OnOk result (Reached devices.old.fuse devices.new.fuse → ⊥) }
         // A crash leaves every file but the journal's as it was.
         ensures others { IsTrue D.tells → Follows (SameElse Flat) (D.image devices.old.disk.now) (D.image devices.new.disk.now) }
         ensures same_disk { devices.new.disk.ghost_name ≡ devices.old.disk.ghost_name }

@@ -2,6 +2,7 @@
 ghost use Rattle.std.specs.Prelude.{◌≡◌, ◌≤◌, [], ℕ, IfOk, OnOk, IsTrue, IsErrOf, IfErr, Some, None, true, false};
 ghost use Rattle.dkg_values.specs.declared.name.Name.{Name};
 ghost use Rattle.dkg_values.specs.declared.name.Name.TheVariants.{Flat};
+ghost use Rattle.dkg_store.specs.Corrupt.{BeginsWithEvent};
 ghost use Rattle.dkg_store.specs.Events.{is_event, no_event_at};
 ghost use Rattle.std.specs.FinMap as map;
 ghost use Rattle.dkg_journal.specs.Disk.{Rose};
@@ -60,6 +61,7 @@ fn restore_one<X: SecretStore>(
     ensures later { X.faults secrets.old ≤ X.faults secrets.new }
     ensures secrets { IsErrOf result StoreError.Secrets → Rose (X.faults secrets.old) (X.faults secrets.new) }
     ensures event { OnOk result (is_event limit entry.now.body ≡ true) }
+    ensures half { IsErrOf result StoreError.Secrets → is_event limit entry.now.body ≡ true }
     // A body that is no event is the one cause of Corrupt.
     ensures corrupt { (name : Name) (place : ℕ) → IsErrOf result (StoreError.Corrupt name place) → (name ≡ Flat) × (place ≡ entry.now.place) × (is_event limit entry.now.body ≡ false) }
     ensures kinds { IfErr result IsOfRestoring }
@@ -94,6 +96,8 @@ pub(crate) fn restore<X: SecretStore>(
     ensures later { X.faults secrets.old ≤ X.faults secrets.new }
     ensures secrets { IsErrOf result StoreError.Secrets → Rose (X.faults secrets.old) (X.faults secrets.new) }
     ensures events { OnOk result (no_event_at limit entries.now ≡ None) }
+    // A private half is read only of an event before which all are events.
+    ensures half { IsErrOf result StoreError.Secrets → BeginsWithEvent limit (views entries.now) }
     // The first body that is no event is the one cause of Corrupt.
     ensures corrupt { (name : Name) (place : ℕ) → IsErrOf result (StoreError.Corrupt name place) → (name ≡ Flat) × (no_event_at limit entries.now ≡ Some place) }
     ensures kinds { IfErr result IsOfRestoring }

@@ -1,7 +1,8 @@
 //! What a node has recorded, in memory and on both devices.
 //!
 //! A reshare actor opens a store at the start of a life, asks it what is there, and records each dealing before it acknowledges it.
-ghost use Rattle.std.specs.Prelude.{◌≡◌, ◌⊎◌, ◌≤◌, ◌<◌, ◌+◌, ◌^◌, ◌∷◌, [], ℕ, List, length, OnOk, OnErr, IfOk, IfErr, IfSome, IsSome, is_some, IsErrOf, IsTrue, Option, Some, None, not, nat_le, Contains, if◌then◌else◌};
+ghost use Rattle.std.specs.Prelude.{◌≡◌, ◌⊎◌, ◌≤◌, ◌<◌, ◌+◌, ◌^◌, ◌∷◌, [], ℕ, List, length, OnOk, OnErr, IfOk, IfErr, IfSome, IsSome, is_some, IsErrOf, IsTrue, MatchResult, Option, Some, None, not, nat_le, Contains, if◌then◌else◌};
+ghost use Rattle.std.specs.Prelude.{map as list_map};
 ghost use Rattle.std.specs.Option.{option_copied};
 ghost use Rattle.std.specs.FinMap as map;
 ghost use Rattle.std.specs.Int.NonZero.{non_zero_u32_get};
@@ -10,19 +11,21 @@ ghost use Rattle.dkg_values.specs.declared.name.Name.TheVariants.{Flat};
 ghost use Rattle.dkg_types.specs.declared.entry.Entry.{Entry as Line};
 ghost use Rattle.dkg_journal.specs.Names.{Files};
 ghost use Rattle.dkg_journal.specs.Records.{Entry, entries};
+ghost use Rattle.dkg_journal.specs.Gated.{gated, gated_entries};
 ghost use Rattle.dkg_journal.specs.Views.{views};
 ghost use Rattle.dkg_journal.specs.Disk.{Rose, Follows, SameElse};
 ghost use Rattle.dkg_journal.specs.Fuse.{Reached, Ran, RanAll};
-ghost use Rattle.dkg_journal.specs.Steps.{IsOpenAt, Keeps};
+ghost use Rattle.dkg_journal.specs.Journals.{IsOpen, has_file};
+ghost use Rattle.dkg_journal.specs.Steps.{Keeps};
 ghost use Rattle.dkg_journal.specs.Opening.{IsFormOfToday, broken, open_calls};
 ghost use Rattle.dkg_store.specs.Acts.{MadeAt, Runs, moment, world};
 ghost use Rattle.dkg_store.specs.Calls.{put_and_appended, recording, sharing, seeding, committing, pruning, opens, opened, opening, ended, ended_as};
 ghost use Rattle.dkg_store.specs.Commits.{commit_calls, committed};
-ghost use Rattle.dkg_store.specs.Corrupt.{IsCorruptAt, AreEvents};
-ghost use Rattle.dkg_store.specs.Errors.{IsOfDevices, IsOfOpening, IsOfSecrets};
+ghost use Rattle.dkg_store.specs.Corrupt.{IsCorruptAt, AreEvents, BeginsWithEvent};
+ghost use Rattle.dkg_store.specs.Errors.{IsOfDevices, IsOfOpening, IsOfPlaying, IsOfSecrets};
 ghost use Rattle.dkg_store.specs.Secrets.{Secrets, Tries, after};
 ghost use Rattle.dkg_store.specs.Events.{event_spelling, IsPublic};
-ghost use Rattle.dkg_store.specs.Pairs.{Pairs, IsWhole, Holds, HoldsEither, recovered};
+ghost use Rattle.dkg_store.specs.Pairs.{Pairs, IsWhole, AreAtOrAbove, Holds, HoldsEither, recovered};
 ghost use Rattle.dkg_store.specs.Recorded.{restored_list, of_epoch, first_refused};
 ghost use Rattle.dkg_store.specs.Both.{MadeBoth, IsWant, put_then_append};
 ghost use Rattle.dkg_store.specs.Ready.{IsReadyDealing};
@@ -58,6 +61,14 @@ struct ReadyDealing {
     calls: Prepared,
 }
 
+/// Each public half is one that an event can hold.
+#[tactic(auto, using(dkg_ceremony::specs::Publics::public_fits))]
+fn fits_event(public: &Public)
+    ensures { IsPublic public.now }
+{
+    let _elements = public.as_slice();
+}
+
 /// Takes the memory of a new dealing.
 fn ready_dealing(
     alloc: Global,
@@ -68,9 +79,10 @@ fn ready_dealing(
     private: Private,
 ) -> Result<ReadyDealing, StoreError>
     requires { 8 + length (event_spelling dealer public.now) < 2 ^ 32 }
-    ensures ready { IfOk result (λ r. IsReadyDealing r journal.now.place epoch dealer public.now private) }
+    ensures ready { IfOk result (λ r. IsReadyDealing r journal.now epoch dealer public.now private) }
     ensures memory { IfErr result (λ e. e ≡ StoreError.NoMemory) }
 {
+    fits_event(public);
     let body = write_event(alloc, dealer, public)?;
     let Ok(calls) = journal.ready(alloc, epoch.0, &body) else {
         return Err(StoreError::NoMemory);
@@ -92,10 +104,11 @@ fn open_journal<D: Disk>(
     disk: &mut D,
     fuse: &mut Fuse,
 ) -> Result<Journal, StoreError>
-    ensures open { IfOk result (λ journal. IsTrue D.tells → IsFormOfToday (D.files disk.old) → IsOpenAt journal.place (D.files disk.new) (D.image disk.new)) }
+    ensures open { IfOk result (λ journal. IsTrue D.tells → IsFormOfToday (D.files disk.old) → IsOpen journal (D.files disk.new) (D.image disk.new)) }
     ensures images { IsTrue D.tells → Follows Keeps (D.image disk.old) (D.image disk.new) }
     // What it read is what the files stand for, and after it a crash leaves no other entries.
     ensures listed { IfOk result (λ journal. IsTrue D.tells → IsFormOfToday (D.files disk.old) → views journal.waiting.items ≡ entries (D.files disk.old)) }
+    ensures gated { IfOk result (λ journal. IsTrue D.tells → list_map gated journal.waiting.items ≡ gated_entries (D.files disk.old)) }
     ensures settled { OnOk result (IsTrue D.tells → (c : Files) → D.image disk.new c → entries c ≡ entries (D.files disk.old)) }
     ensures acts { IsTrue D.tells → broken (D.files disk.old) ≡ None → (out : List Line) (s : Secrets) → MadeAt (opens (length (open_calls (D.files disk.old)))) (opened result) (D.files disk.old) (D.image disk.old) (D.files disk.new) (D.image disk.new) (moment out s fuse.old) (moment out s fuse.new) }
     ensures corrupt { (name : Name) (place : ℕ) → IsErrOf result (StoreError.Corrupt name place) → IsTrue D.tells → (name ≡ Flat) × (broken (D.files disk.old) ≡ Some place) }
@@ -195,18 +208,18 @@ fn record_dealing<D: Disk, X: SecretStore>(
     public: Public,
     private: Private,
 ) -> Result<(), StoreError>
-    requires ready { IsReadyDealing ready.now journal.old.place epoch dealer public private }
+    requires ready { IsReadyDealing ready.now journal.old epoch dealer public private }
     requires new { map.get dealings.old (epoch, dealer) ≡ None }
-    requires open { IsTrue D.tells → IsOpenAt journal.old.place (D.files devices.old.disk.now) (D.image devices.old.disk.now) }
-    ensures open { OnOk result (IsTrue D.tells → IsOpenAt journal.new.place (D.files devices.new.disk.now) (D.image devices.new.disk.now)) }
+    requires open { IsTrue D.tells → IsOpen journal.old (D.files devices.old.disk.now) (D.image devices.old.disk.now) }
+    ensures open { OnOk result (IsTrue D.tells → IsOpen journal.new (D.files devices.new.disk.now) (D.image devices.new.disk.now)) }
     ensures dealings { OnOk result (dealings.new ≡ map.insert dealings.old (epoch, dealer) (public, private)) }
     ensures kept { OnErr result (dealings.new ≡ dealings.old) }
-    ensures holds { OnOk result (IsPublic public → IsTrue D.tells → IsTrue X.tells → Holds dealings.old (D.image devices.old.disk.now) (X.held devices.old.secrets.now) → Holds (map.insert dealings.old (epoch, dealer) (public, private)) (D.image devices.new.disk.now) (X.held devices.new.secrets.now)) }
-    ensures images { IsPublic public → IsTrue D.tells → IsTrue X.tells → Holds dealings.old (D.image devices.old.disk.now) (X.held devices.old.secrets.now) → HoldsEither dealings.old (map.insert dealings.old (epoch, dealer) (public, private)) (D.image devices.new.disk.now) (X.held devices.new.secrets.now) }
-    ensures acts { IsTrue D.tells → IsTrue X.tells → (out : List Line) → MadeAt (put_and_appended (SecretOp.PutDealing epoch dealer private) (is_some journal.old.place) (epoch, event_spelling dealer public) tt) (ended result) (D.files devices.old.disk.now) (D.image devices.old.disk.now) (D.files devices.new.disk.now) (D.image devices.new.disk.now) (moment out (X.held devices.old.secrets.now) devices.old.fuse) (moment out (X.held devices.new.secrets.now) devices.new.fuse) }
+    ensures holds { OnOk result (IsTrue D.tells → IsTrue X.tells → Holds dealings.old (D.image devices.old.disk.now) (X.held devices.old.secrets.now) → Holds (map.insert dealings.old (epoch, dealer) (public, private)) (D.image devices.new.disk.now) (X.held devices.new.secrets.now)) }
+    ensures images { IsTrue D.tells → IsTrue X.tells → Holds dealings.old (D.image devices.old.disk.now) (X.held devices.old.secrets.now) → HoldsEither dealings.old (map.insert dealings.old (epoch, dealer) (public, private)) (D.image devices.new.disk.now) (X.held devices.new.secrets.now) }
+    ensures acts { IsTrue D.tells → IsTrue X.tells → (out : List Line) → MadeAt (put_and_appended (SecretOp.PutDealing epoch dealer private) (has_file journal.old) (epoch, event_spelling dealer public) tt) (ended result) (D.files devices.old.disk.now) (D.image devices.old.disk.now) (D.files devices.new.disk.now) (D.image devices.new.disk.now) (moment out (X.held devices.old.secrets.now) devices.old.fuse) (moment out (X.held devices.new.secrets.now) devices.new.fuse) }
     ensures kinds { IfErr result IsOfDevices }
-    ensures all { OnOk result (RanAll (MadeBoth D.made X.made) (devices.old.disk.now, devices.old.secrets.now) (devices.new.disk.now, devices.new.secrets.now) devices.old.fuse devices.new.fuse (put_then_append (SecretOp.PutDealing epoch dealer private) journal.old.place (epoch, event_spelling dealer public))) }
-    ensures calls { Ran (MadeBoth D.made X.made) (devices.old.disk.now, devices.old.secrets.now) (devices.new.disk.now, devices.new.secrets.now) devices.old.fuse devices.new.fuse (put_then_append (SecretOp.PutDealing epoch dealer private) journal.old.place (epoch, event_spelling dealer public)) }
+    ensures all { OnOk result (RanAll (MadeBoth D.made X.made) (devices.old.disk.now, devices.old.secrets.now) (devices.new.disk.now, devices.new.secrets.now) devices.old.fuse devices.new.fuse (put_then_append (SecretOp.PutDealing epoch dealer private) journal.old (epoch, event_spelling dealer public))) }
+    ensures calls { Ran (MadeBoth D.made X.made) (devices.old.disk.now, devices.old.secrets.now) (devices.new.disk.now, devices.new.secrets.now) devices.old.fuse devices.new.fuse (put_then_append (SecretOp.PutDealing epoch dealer private) journal.old (epoch, event_spelling dealer public)) }
     ensures memory { IsErrOf result StoreError.NoMemory → IsWant ((dealings.new ≡ dealings.old) × (journal.new ≡ journal.old) × (devices.new ≡ devices.old)) (D.wants devices.old.disk.now) (D.wants devices.new.disk.now) (X.wants devices.old.secrets.now) (X.wants devices.new.secrets.now) }
     ensures later_disk { D.faults devices.old.disk.now ≤ D.faults devices.new.disk.now }
     ensures later_secrets { X.faults devices.old.secrets.now ≤ X.faults devices.new.secrets.now }
@@ -240,12 +253,15 @@ impl<Dir: Drop> Store<Dir> {
     /// restored.
     ///
     /// Corrupt: a record that is not whole, or whose body is no event within the limit, at the place of its gate.
+    ///
+    /// The time and the memory grow linearly with the journal's file, but that each record takes a look-up of its private half and one
+    /// among the dealings, which are logarithmic.
     pub fn init<D: Disk, X: SecretStore>(
         alloc: Global,
         devices: &mut Devices<'_, D, X>,
         limit: NonZeroU32,
     ) -> Result<Store<Dir>, StoreError>
-        ensures open { IfOk result (λ store. IsTrue D.tells → IsFormOfToday (D.files devices.old.disk.now) → IsOpenAt store.journal.place (D.files devices.new.disk.now) (D.image devices.new.disk.now)) }
+        ensures open { IfOk result (λ store. IsTrue D.tells → IsFormOfToday (D.files devices.old.disk.now) → IsOpen store.journal (D.files devices.new.disk.now) (D.image devices.new.disk.now)) }
         ensures current { IfOk result (λ store. store.current ≡ None) }
         // A dealing is restored exactly where its record and its private half are there, a later record of a key in place of an earlier one.
         ensures recovered { IfOk result (λ store. IsTrue D.tells → IsTrue X.tells → IsFormOfToday (D.files devices.old.disk.now) → store.dealings ≡ recovered (entries (D.files devices.old.disk.now)) (X.held devices.old.secrets.now)) }
@@ -258,6 +274,10 @@ impl<Dir: Drop> Store<Dir> {
         ensures acts { IsTrue D.tells → IsTrue X.tells → IsFormOfToday (D.files devices.old.disk.now) → broken (D.files devices.old.disk.now) ≡ None → AreEvents (non_zero_u32_get limit) (entries (D.files devices.old.disk.now)) → (out : List Line) → MadeAt (opening (length (open_calls (D.files devices.old.disk.now)))) (ended_as (λ store. store.dealings) result) (D.files devices.old.disk.now) (D.image devices.old.disk.now) (D.files devices.new.disk.now) (D.image devices.new.disk.now) (moment out (X.held devices.old.secrets.now) devices.old.fuse) (moment out (X.held devices.new.secrets.now) devices.new.fuse) }
         // Corrupt comes exactly of a record that is not whole, or, where all are, of the first whose body is no event within the limit.
         ensures corrupt { (name : Name) (place : ℕ) → IsErrOf result (StoreError.Corrupt name place) → IsTrue D.tells → IsFormOfToday (D.files devices.old.disk.now) → (name ≡ Flat) × IsCorruptAt (non_zero_u32_get limit) (D.files devices.old.disk.now) place }
+        // .. and where there is such a record, the answer is Corrupt at its gate, but where a device, a cut or want of memory ended it before.
+        ensures answer { (place : ℕ) → IsTrue D.tells → IsFormOfToday (D.files devices.old.disk.now) → IsCorruptAt (non_zero_u32_get limit) (D.files devices.old.disk.now) place → MatchResult result (λ store. ⊥) (λ e. (e ≡ StoreError.Corrupt Flat place) ⊎ IsOfDevices e) }
+        // A private half is read once the journal is open, and of an event before which all are events.
+        ensures half { IsErrOf result StoreError.Secrets → IsTrue D.tells → IsFormOfToday (D.files devices.old.disk.now) → (broken (D.files devices.old.disk.now) ≡ None) × BeginsWithEvent (non_zero_u32_get limit) (entries (D.files devices.old.disk.now)) }
         ensures sound { OnOk result (IsTrue D.tells → IsFormOfToday (D.files devices.old.disk.now) → (broken (D.files devices.old.disk.now) ≡ None) × AreEvents (non_zero_u32_get limit) (entries (D.files devices.old.disk.now))) }
         // No entry is lost, wherever it stops, and the secrets are as they were.
         ensures images { IsTrue D.tells → Follows Keeps (D.image devices.old.disk.now) (D.image devices.new.disk.now) }
@@ -294,7 +314,7 @@ impl<Dir: Drop> Store<Dir> {
         &self.restored
     }
 
-    /// A recorded dealing, restored or new.
+    /// A recorded dealing, restored or new. The time is logarithmic in how many are recorded.
     pub(crate) fn dealing(&self, epoch: Epoch, dealer: Key) -> Option<&(Public, Private)>
         ensures { option_copied result ≡ map.get self.now.dealings (epoch, dealer) }
     {
@@ -318,6 +338,7 @@ impl<Dir: Drop> Store<Dir> {
         ensures acks { IfOk result (λ made. IfSome made (λ player. player.acks ≡ map.empty)) }
         ensures some { IfOk result IsSome }
         ensures passes { OnOk result (first_refused (C.dealing_of round.now me) (of_epoch epoch self.now.dealings) ≡ None) }
+        ensures kinds { IfErr result IsOfPlaying }
         ensures stored { IfErr result (λ e. (e ≡ StoreError.NoMemory) ⊎ ((dealer : ℕ) × (e ≡ StoreError.LocalState (LocalCause.StoredDealing epoch dealer)) × (first_refused (C.dealing_of round.now me) (of_epoch epoch self.now.dealings) ≡ Some dealer))) }
     {
         if let Some(dealer) = first_refused(ceremony, &self.dealings, epoch, me, round) {
@@ -347,6 +368,10 @@ impl<Dir: Drop> Store<Dir> {
         ensures fuse { devices.new.fuse ≡ devices.old.fuse }
         ensures wanted { IsErrOf result StoreError.NoMemory → Rose (X.wants devices.old.secrets.now) (X.wants devices.new.secrets.now) }
         ensures secrets { IsErrOf result StoreError.Secrets → Rose (X.faults devices.old.secrets.now) (X.faults devices.new.secrets.now) }
+        ensures kinds { IfErr result IsOfSecrets }
+        ensures later_secrets { X.faults devices.old.secrets.now ≤ X.faults devices.new.secrets.now }
+        // Each image with the secrets is whole as before, and gives the same dealings.
+        ensures holds { (pairs : Pairs) → Holds pairs (D.image devices.old.disk.now) (X.held devices.old.secrets.now) → Holds pairs (D.image devices.new.disk.now) (X.held devices.new.secrets.now) }
         ensures acts { IsTrue D.tells → IsTrue X.tells → (out : List Line) → MadeAt (sharing epoch) (ended result) (D.files devices.old.disk.now) (D.image devices.old.disk.now) (D.files devices.new.disk.now) (D.image devices.new.disk.now) (moment out (X.held devices.old.secrets.now) devices.old.fuse) (moment out (X.held devices.new.secrets.now) devices.new.fuse) }
         ensures calls { X.made devices.old.secrets.now devices.new.secrets.now [] }
         ensures same_disk { devices.new.disk.ghost_name ≡ devices.old.disk.ghost_name }
@@ -373,6 +398,10 @@ impl<Dir: Drop> Store<Dir> {
         ensures fuse { devices.new.fuse ≡ devices.old.fuse }
         ensures wanted { IsErrOf result StoreError.NoMemory → Rose (X.wants devices.old.secrets.now) (X.wants devices.new.secrets.now) }
         ensures secrets { IsErrOf result StoreError.Secrets → Rose (X.faults devices.old.secrets.now) (X.faults devices.new.secrets.now) }
+        ensures kinds { IfErr result IsOfSecrets }
+        ensures later_secrets { X.faults devices.old.secrets.now ≤ X.faults devices.new.secrets.now }
+        // Each image with the secrets is whole as before, and gives the same dealings.
+        ensures holds { (pairs : Pairs) → Holds pairs (D.image devices.old.disk.now) (X.held devices.old.secrets.now) → Holds pairs (D.image devices.new.disk.now) (X.held devices.new.secrets.now) }
         ensures acts { IsTrue D.tells → IsTrue X.tells → (out : List Line) → MadeAt (seeding epoch) (ended result) (D.files devices.old.disk.now) (D.image devices.old.disk.now) (D.files devices.new.disk.now) (D.image devices.new.disk.now) (moment out (X.held devices.old.secrets.now) devices.old.fuse) (moment out (X.held devices.new.secrets.now) devices.new.fuse) }
         ensures calls { X.made devices.old.secrets.now devices.new.secrets.now [] }
         ensures same_disk { devices.new.disk.ghost_name ≡ devices.old.disk.ghost_name }
@@ -402,6 +431,7 @@ impl<Dir: Drop> Store<Dir> {
         ensures disk { devices.new.disk.now ≡ devices.old.disk.now }
         ensures wanted { IsErrOf result StoreError.NoMemory → Rose (X.wants devices.old.secrets.now) (X.wants devices.new.secrets.now) }
         ensures secrets { IsErrOf result StoreError.Secrets → Rose (X.faults devices.old.secrets.now) (X.faults devices.new.secrets.now) }
+        ensures later_secrets { X.faults devices.old.secrets.now ≤ X.faults devices.new.secrets.now }
         ensures kinds { IfErr result IsOfSecrets }
         // Wherever it stops, each image with the secrets is whole as before, and gives the same dealings.
         ensures holds { (pairs : Pairs) → Holds pairs (D.image devices.old.disk.now) (X.held devices.old.secrets.now) → Holds pairs (D.image devices.new.disk.now) (X.held devices.new.secrets.now) }
@@ -440,9 +470,12 @@ impl<Dir: Drop> Store<Dir> {
         ensures disk { devices.new.disk.now ≡ devices.old.disk.now }
         ensures wanted { IsErrOf result StoreError.NoMemory → Rose (X.wants devices.old.secrets.now) (X.wants devices.new.secrets.now) }
         ensures secrets { IsErrOf result StoreError.Secrets → Rose (X.faults devices.old.secrets.now) (X.faults devices.new.secrets.now) }
+        ensures later_secrets { X.faults devices.old.secrets.now ≤ X.faults devices.new.secrets.now }
         ensures kinds { IfErr result IsOfSecrets }
         // Wherever it stops, each image with the secrets gives the same dealings at and above the minimum.
         ensures recovers { (c : Files) → D.image devices.new.disk.now c → (key : ℕ × ℕ) → min ≤ key.0 → map.get (recovered (entries c) (X.held devices.new.secrets.now)) key ≡ map.get (recovered (entries c) (X.held devices.old.secrets.now)) key }
+        // .. and where none of what was whole is below the minimum, all is whole as before.
+        ensures holds { (pairs : Pairs) → AreAtOrAbove min pairs → Holds pairs (D.image devices.old.disk.now) (X.held devices.old.secrets.now) → Holds pairs (D.image devices.new.disk.now) (X.held devices.new.secrets.now) }
         ensures acts { IsTrue D.tells → IsTrue X.tells → (out : List Line) → MadeAt (pruning min) (ended result) (D.files devices.old.disk.now) (D.image devices.old.disk.now) (D.files devices.new.disk.now) (D.image devices.new.disk.now) (moment out (X.held devices.old.secrets.now) devices.old.fuse) (moment out (X.held devices.new.secrets.now) devices.new.fuse) }
         ensures cut { IsErrOf result StoreError.Cut → Reached devices.old.fuse devices.new.fuse }
         ensures not_cut { OnOk result (Reached devices.old.fuse devices.new.fuse → ⊥) }
@@ -470,19 +503,19 @@ impl<Dir: Drop> Store<Dir> {
         private: Private,
     ) -> Result<bool, StoreError>
         requires short { 8 + length (event_spelling dealer public) < 2 ^ 32 }
-        requires open { IsTrue D.tells → IsOpenAt self.old.journal.place (D.files devices.old.disk.now) (D.image devices.old.disk.now) }
-        ensures open { OnOk result (IsTrue D.tells → IsOpenAt self.new.journal.place (D.files devices.new.disk.now) (D.image devices.new.disk.now)) }
+        requires open { IsTrue D.tells → IsOpen self.old.journal (D.files devices.old.disk.now) (D.image devices.old.disk.now) }
+        ensures open { OnOk result (IsTrue D.tells → IsOpen self.new.journal (D.files devices.new.disk.now) (D.image devices.new.disk.now)) }
         ensures known { IfOk result (λ new. new ≡ not (map.contains_key self.old.dealings (epoch, dealer))) }
         ensures kept { IfOk result (λ new. self.new.dealings ≡ (if new then map.insert self.old.dealings (epoch, dealer) (public, private) else self.old.dealings)) }
         ensures same { OnErr result (self.new.dealings ≡ self.old.dealings) }
-        ensures holds { OnOk result (IsPublic public → IsTrue D.tells → IsTrue X.tells → Holds self.old.dealings (D.image devices.old.disk.now) (X.held devices.old.secrets.now) → Holds self.new.dealings (D.image devices.new.disk.now) (X.held devices.new.secrets.now)) }
+        ensures holds { OnOk result (IsTrue D.tells → IsTrue X.tells → Holds self.old.dealings (D.image devices.old.disk.now) (X.held devices.old.secrets.now) → Holds self.new.dealings (D.image devices.new.disk.now) (X.held devices.new.secrets.now)) }
         // Each image, with the secrets then held, gives the dealings from before, with the new one or without.
-        ensures images { IsPublic public → IsTrue D.tells → IsTrue X.tells → Holds self.old.dealings (D.image devices.old.disk.now) (X.held devices.old.secrets.now) → HoldsEither self.old.dealings (map.insert self.old.dealings (epoch, dealer) (public, private)) (D.image devices.new.disk.now) (X.held devices.new.secrets.now) }
+        ensures images { IsTrue D.tells → IsTrue X.tells → Holds self.old.dealings (D.image devices.old.disk.now) (X.held devices.old.secrets.now) → HoldsEither self.old.dealings (map.insert self.old.dealings (epoch, dealer) (public, private)) (D.image devices.new.disk.now) (X.held devices.new.secrets.now) }
         // The put, and then the append, where it was not recorded: both at Ok, and at any other exit a part, whatever image is left.
-        ensures acts { IsTrue D.tells → IsTrue X.tells → (out : List Line) → MadeAt (recording (map.contains_key self.old.dealings (epoch, dealer)) (is_some self.old.journal.place) epoch dealer public private) (ended result) (D.files devices.old.disk.now) (D.image devices.old.disk.now) (D.files devices.new.disk.now) (D.image devices.new.disk.now) (moment out (X.held devices.old.secrets.now) devices.old.fuse) (moment out (X.held devices.new.secrets.now) devices.new.fuse) }
+        ensures acts { IsTrue D.tells → IsTrue X.tells → (out : List Line) → MadeAt (recording (map.contains_key self.old.dealings (epoch, dealer)) (has_file self.old.journal) epoch dealer public private) (ended result) (D.files devices.old.disk.now) (D.image devices.old.disk.now) (D.files devices.new.disk.now) (D.image devices.new.disk.now) (moment out (X.held devices.old.secrets.now) devices.old.fuse) (moment out (X.held devices.new.secrets.now) devices.new.fuse) }
         ensures kinds { IfErr result IsOfDevices }
-        ensures all { IfOk result (λ new. RanAll (MadeBoth D.made X.made) (devices.old.disk.now, devices.old.secrets.now) (devices.new.disk.now, devices.new.secrets.now) devices.old.fuse devices.new.fuse (if new then put_then_append (SecretOp.PutDealing epoch dealer private) self.old.journal.place (epoch, event_spelling dealer public) else [])) }
-        ensures calls { Ran (MadeBoth D.made X.made) (devices.old.disk.now, devices.old.secrets.now) (devices.new.disk.now, devices.new.secrets.now) devices.old.fuse devices.new.fuse (put_then_append (SecretOp.PutDealing epoch dealer private) self.old.journal.place (epoch, event_spelling dealer public)) }
+        ensures all { IfOk result (λ new. RanAll (MadeBoth D.made X.made) (devices.old.disk.now, devices.old.secrets.now) (devices.new.disk.now, devices.new.secrets.now) devices.old.fuse devices.new.fuse (if new then put_then_append (SecretOp.PutDealing epoch dealer private) self.old.journal (epoch, event_spelling dealer public) else [])) }
+        ensures calls { Ran (MadeBoth D.made X.made) (devices.old.disk.now, devices.old.secrets.now) (devices.new.disk.now, devices.new.secrets.now) devices.old.fuse devices.new.fuse (put_then_append (SecretOp.PutDealing epoch dealer private) self.old.journal (epoch, event_spelling dealer public)) }
         ensures memory { IsErrOf result StoreError.NoMemory → IsWant ((self.new ≡ self.old) × (devices.new ≡ devices.old)) (D.wants devices.old.disk.now) (D.wants devices.new.disk.now) (X.wants devices.old.secrets.now) (X.wants devices.new.secrets.now) }
         ensures later_disk { D.faults devices.old.disk.now ≤ D.faults devices.new.disk.now }
         ensures later_secrets { X.faults devices.old.secrets.now ≤ X.faults devices.new.secrets.now }

@@ -1,10 +1,10 @@
-use Rattle.std.proofs.Common.{◌≡◌, List, ℕ, ap, ◌∙◌, inl, inr, ⊎_elim, IsErrOf, Ok, Err, Result, OnOk, is_ok, Bool, true, false, is_some, Option, sym, subst, refl, ◌++◌, ◌∷◌, []}
+use Rattle.std.proofs.Common.{◌≡◌, List, ℕ, ap, ◌∙◌, inl, inr, ⊎_elim, IsErrOf, Ok, Err, Result, OnOk, is_ok, Bool, true, false, is_some, sym, subst, ◌++◌, ◌∷◌, []}
 use Rattle.std.specs.Ordering.{nat_cmp}
 use Rattle.std.specs.FinMap as map
 use Rattle.std.specs.Cmp.{nat_cmp_total}
+use Rattle.dkg_journal.specs.Journals.{has_file}
 use Rattle.dkg_store.specs.declared.call.StoreError.TheVariants.{NoMemory}
 use Rattle.std.proofs.lemmas.Result.{err_from_is_err_and}
-use Rattle.dkg_types.specs.declared.entry.Entry.{Entry as Line}
 use Rattle.dkg_types.specs.declared.entry.Entry.TheVariants.{Recorded}
 use Rattle.dkg_store.specs.Acts.{Say, Goes}
 use Rattle.dkg_store.specs.Errors.{IsOfDevices}
@@ -40,7 +40,7 @@ returns-in_err-keep_ack-clause-acts g c = λ told_disk told_secrets.
 pub returns-in-Err-clause-acts : goal.returns-in-Err-clause-acts
 returns-in-Err-clause-acts g c = λ told_disk told_secrets.
     then_broken (λ (b : Bool). Say (Recorded c.args.epoch c.args.dealer c.args.told c.args.private) (Goes tt)) c.in-Err.error c.in-Err.ensures.kinds (breaks_off c.in-Err.error c.in-Err.ensures.kinds)
-    (recorded_new (map.contains_key c.args.store.now.dealings (c.args.epoch, c.args.dealer)) (is_some c.args.store.now.journal.place) c.args.epoch c.args.dealer c.args.public c.args.private (ap is_some c.requires.unrecorded)
+    (recorded_new (map.contains_key c.args.store.now.dealings (c.args.epoch, c.args.dealer)) (has_file c.args.store.now.journal) c.args.epoch c.args.dealer c.args.public c.args.private (ap is_some c.requires.unrecorded)
     (c.in-Err.ensures.acts told_disk told_secrets c.args.out.now.entries))
 
 when_ok : {T E P : Type 0} (r : Result T E) → is_ok r ≡ true → OnOk r P → P
@@ -51,6 +51,6 @@ pub returns-in-Ok-clause-acts : goal.returns-in-Ok-clause-acts
 returns-in-Ok-clause-acts g c = λ told_disk told_secrets.
     let said : c.push-pushed.new.self.entries ≡ c.args.out.now.entries ++ Recorded c.args.epoch c.args.dealer c.args.told c.args.private ∷ [] = when_ok c.push-pushed.result (sym c.if-prove.ensures.value) c.push-pushed.ensures.ok in
     made_next (λ (b : Bool). Say (Recorded c.args.epoch c.args.dealer c.args.told c.args.private) (Goes tt))
-    (recorded_new (map.contains_key c.args.store.now.dealings (c.args.epoch, c.args.dealer)) (is_some c.args.store.now.journal.place) c.args.epoch c.args.dealer c.args.public c.args.private (ap is_some c.requires.unrecorded)
+    (recorded_new (map.contains_key c.args.store.now.dealings (c.args.epoch, c.args.dealer)) (has_file c.args.store.now.journal) c.args.epoch c.args.dealer c.args.public c.args.private (ap is_some c.requires.unrecorded)
     (c.in-Ok.ensures.acts told_disk told_secrets c.args.out.now.entries))
     (made_say _ _ _ tt _ _ _ _ said)

@@ -1,18 +1,16 @@
-use Rattle.std.proofs.Common.{◌≡◌, ap, sym, ◌∙◌, [], ◌∷◌, List, ℕ, map, take, arith, Some, Err, Result}
+use Rattle.std.proofs.Common.{◌≡◌, ap, sym, ◌∙◌, [], ℕ, arith, Some, Err}
 use Rattle.std.proofs.lemmas.Result.{err_from_is_err_and}
 use Rattle.std.proofs.lemmas.List.{at_drop_all}
 use Rattle.dkg_store.specs.Events.{no_event_at}
 use Rattle.dkg_store.specs.declared.call.StoreError.{StoreError}
-use Rattle.dkg_store.specs.declared.call.StoreError.TheVariants.{Corrupt}
+use Rattle.dkg_store.specs.declared.call.StoreError.TheVariants.{Corrupt, Secrets as OfSecrets}
 use Rattle.dkg_store.specs.Secrets.{Secrets}
-use Rattle.dkg_store.specs.Pairs.{Pairs, with_dealing, dealing_of, recovered}
+use Rattle.dkg_store.specs.Pairs.{Pairs, with_dealing, dealing_of}
 use Rattle.dkg_journal.specs.Views.{view}
+use Rattle.dkg_store.proofs.Corrupt.{same_error}
 use Rattle.dkg_store.proofs.Replayed.{one_more}
-use Rattle.dkg_store.proofs.Recorded.{event_passes, event_stops}
+use Rattle.dkg_store.proofs.Recorded.{begins, event_passes, event_stops}
 use Rattle.dkg_store.proofs.restoring.restore.Goals as goal
-
-same_error : {T : Type 0} (r : Result T StoreError) (e f : StoreError) → r ≡ Err e → r ≡ Err f → e ≡ f
-same_error {T = T} r e f is other = let h : ◌≡◌ {A = Result T StoreError} (Err e) (Err f) = sym is ∙ other in cc
 
 pub returns-in_err-restore_one-clause-calls : goal.returns-in_err-restore_one-clause-calls
 returns-in_err-restore_one-clause-calls g c = g.met.X.SecretStore.made_more _ _ _ [] [] c.loop-entry.invariant.calls c.restore_one.ensures.calls
@@ -27,8 +25,15 @@ loop-entry-preserved g c = record {
   same = c.restore_one.ensures.same ∙ c.loop-entry.invariant.same;
   later = omega (arith, c.loop-entry.invariant.later, c.restore_one.ensures.later);
   events = sym (event_passes c.args.limit c.args.entries.now c.loop-entry.entry-index c.entry-item.result c.loop-entry-test.true c.entry-item.is c.in_ok-restore_one.ensures.event) ∙ c.loop-entry.invariant.events;
+  first = λ some. begins c.args.limit c.args.entries.now c.loop-entry.entry-index c.entry-item.result c.loop-entry-test.true c.entry-item.is c.loop-entry.invariant.first c.in_ok-restore_one.ensures.event;
   calls = g.met.X.SecretStore.made_more _ _ _ [] [] c.loop-entry.invariant.calls c.restore_one.ensures.calls;
 }
+
+pub returns-in_err-restore_one-clause-half : goal.returns-in_err-restore_one-clause-half
+returns-in_err-restore_one-clause-half g c = λ is.
+    let p = err_from_is_err_and c.from_residual.result c.from_residual.ensures.1 in
+    let here : c.in_err-restore_one.field-0.0 ≡ OfSecrets = sym p.2 ∙ same_error c.from_residual.result _ _ p.1 is in
+    begins c.args.limit c.args.entries.now c.loop-entry.entry-index c.entry-item.result c.loop-entry-test.true c.entry-item.is c.loop-entry.invariant.first (c.in_err-restore_one.ensures.half (ap (λ (e : StoreError). Err e) here))
 
 pub returns-in_err-restore_one-clause-corrupt : goal.returns-in_err-restore_one-clause-corrupt
 returns-in_err-restore_one-clause-corrupt g c = λ name place is.

@@ -1,8 +1,8 @@
-use Rattle.std.proofs.Common.{◌≡◌, ◌≤◌, [], take, drop, map}
-use Rattle.dkg_journal.specs.Records.{Entry}
+use Rattle.std.proofs.Common.{◌≡◌, ◌<◌, ◌≤◌, [], take, drop, map}
+use Rattle.dkg_store.specs.Corrupt.{BeginsWithEvent}
 use Rattle.dkg_store.specs.Events.{no_event_at}
-use Rattle.dkg_store.specs.Pairs.{Pairs, recovered}
-use Rattle.dkg_journal.specs.Views.{view}
+use Rattle.dkg_store.specs.Pairs.{recovered}
+use Rattle.dkg_journal.specs.Views.{view, views}
 use Rattle.std.specs.Bool.{IsTrue}
 use Rattle.dkg_store.proofs.restoring.restore.Given as goal
 
@@ -12,5 +12,6 @@ invariant-loop-entry g l = record {
   same : g.X.SecretStore.held l.secrets ≡ g.X.SecretStore.held l.initial.secrets;
   later : g.X.SecretStore.faults l.initial.secrets ≤ g.X.SecretStore.faults l.secrets;
   events : no_event_at l.limit (drop l.entry-index l.entries) ≡ no_event_at l.limit l.entries;
+  first : 0 < l.entry-index → BeginsWithEvent l.limit (views l.entries);
   calls : g.X.SecretStore.made l.initial.secrets l.secrets [];
 }

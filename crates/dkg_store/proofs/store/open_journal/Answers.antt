@@ -1,10 +1,9 @@
-use Rattle.std.proofs.Common.{[], ◌∷◌, List, Err, refl, sym, subst, ap, ◌∙◌}
-use Rattle.std.specs.FinMap.{get}
+use Rattle.std.proofs.Common.{[], ◌∷◌, Err, refl, sym, subst, ap, ◌∙◌}
 use Rattle.dkg_journal.specs.Names.{Files}
+use Rattle.dkg_journal.specs.Gated.{gated_entries}
 use Rattle.dkg_journal.specs.Opening.{IsFormOfToday, broken, open_calls}
 use Rattle.dkg_journal.specs.declared.call.JournalError.{JournalError}
 use Rattle.dkg_journal.specs.Fuse.{Ran, RanAll}
-use Rattle.dkg_journal.specs.declared.disk.Op.{Op}
 use Rattle.dkg_journal.specs.declared.disk.Op.TheVariants.{Barrier}
 use Rattle.dkg_journal.proofs.Steps.{then_all, then_ran, not_reached}
 use Rattle.std.proofs.lemmas.Result.{err_from_is_err_and}
@@ -33,6 +32,11 @@ pub returns-clause-open : goal.returns-clause-open
 returns-clause-open g c = λ told form.
     let did = c.in_ok-perform.ensures.done told in
     c.in_ok-open.ensures.open told (record { only = λ f in_image. did.durable f in_image ∙ sym did.reads }) (subst IsFormOfToday (sym did.reads) form)
+
+pub returns-clause-gated : goal.returns-clause-gated
+returns-clause-gated g c = λ told.
+    let did = c.in_ok-perform.ensures.done told in
+    c.in_ok-open.ensures.gated told ∙ ap gated_entries did.reads
 
 pub returns-clause-images : goal.returns-clause-images
 returns-clause-images g c = λ told.

@@ -1,4 +1,4 @@
-use Rattle.std.proofs.Common.{◌≡◌, ℕ, List, subst, sym, ap, ◌∙◌}
+use Rattle.std.proofs.Common.{ℕ, List, subst, ap, ◌∙◌}
 use Rattle.std.specs.FinMap as map
 use Rattle.dkg_journal.specs.Disk.{Follows}
 use Rattle.dkg_journal.specs.Steps.{Adds}
@@ -17,20 +17,20 @@ returns-in-Err-clause-kept g c =
     ∙ remove_insert keys_total exact_keys c.args.dealings.now (c.args.epoch, c.args.dealer) (c.args.public, c.args.private) c.requires.new
 
 pub returns-in-Err-clause-images : goal.returns-in-Err-clause-images
-returns-in-Err-clause-images g c = λ is_public told_disk told_secrets holds.
-    puts_hold c.args.epoch c.args.dealer c.args.private c.args.public c.insert.ensures.fits is_public c.args.dealings.now c.requires.new _ _ _ _ holds
+returns-in-Err-clause-images g c = λ told_disk told_secrets holds.
+    puts_hold c.args.epoch c.args.dealer c.args.private c.args.public c.insert.ensures.fits c.requires.ready.fits c.args.dealings.now c.requires.new _ _ _ _ holds
     (subst (λ (op : SecretOp). PutsFirst op (c.args.epoch, event_spelling c.args.dealer c.args.public) (g.D.Disk.image c.args.devices.now.disk.now) (g.D.Disk.image c.put_and_append.new.devices.disk.now) (g.X.SecretStore.held c.args.devices.now.secrets.now) (g.X.SecretStore.held c.put_and_append.new.devices.secrets.now)) c.requires.ready.puts
     (subst (λ (b : List ℕ). PutsFirst c.args.ready.now.put (c.args.epoch, b) (g.D.Disk.image c.args.devices.now.disk.now) (g.D.Disk.image c.put_and_append.new.devices.disk.now) (g.X.SecretStore.held c.args.devices.now.secrets.now) (g.X.SecretStore.held c.put_and_append.new.devices.secrets.now)) (c.deref.ensures.value ∙ c.requires.ready.body) (subst (λ (n : ℕ). PutsFirst c.args.ready.now.put (n, c.deref.result.now) (g.D.Disk.image c.args.devices.now.disk.now) (g.D.Disk.image c.put_and_append.new.devices.disk.now) (g.X.SecretStore.held c.args.devices.now.secrets.now) (g.X.SecretStore.held c.put_and_append.new.devices.secrets.now)) c.epoch.view_is (c.put_and_append.ensures.steps told_disk told_secrets))))
 
 pub returns-clause-images : goal.returns-clause-images
-returns-clause-images g c = λ is_public told_disk told_secrets holds.
-    puts_hold c.args.epoch c.args.dealer c.args.private c.args.public c.insert.ensures.fits is_public c.args.dealings.now c.requires.new _ _ _ _ holds
+returns-clause-images g c = λ told_disk told_secrets holds.
+    puts_hold c.args.epoch c.args.dealer c.args.private c.args.public c.insert.ensures.fits c.requires.ready.fits c.args.dealings.now c.requires.new _ _ _ _ holds
     (subst (λ (op : SecretOp). PutsFirst op (c.args.epoch, event_spelling c.args.dealer c.args.public) (g.D.Disk.image c.args.devices.now.disk.now) (g.D.Disk.image c.put_and_append.new.devices.disk.now) (g.X.SecretStore.held c.args.devices.now.secrets.now) (g.X.SecretStore.held c.put_and_append.new.devices.secrets.now)) c.requires.ready.puts
     (subst (λ (b : List ℕ). PutsFirst c.args.ready.now.put (c.args.epoch, b) (g.D.Disk.image c.args.devices.now.disk.now) (g.D.Disk.image c.put_and_append.new.devices.disk.now) (g.X.SecretStore.held c.args.devices.now.secrets.now) (g.X.SecretStore.held c.put_and_append.new.devices.secrets.now)) (c.deref.ensures.value ∙ c.requires.ready.body) (subst (λ (n : ℕ). PutsFirst c.args.ready.now.put (n, c.deref.result.now) (g.D.Disk.image c.args.devices.now.disk.now) (g.D.Disk.image c.put_and_append.new.devices.disk.now) (g.X.SecretStore.held c.args.devices.now.secrets.now) (g.X.SecretStore.held c.put_and_append.new.devices.secrets.now)) c.epoch.view_is (c.put_and_append.ensures.steps told_disk told_secrets))))
 
 pub returns-clause-holds : goal.returns-clause-holds
-returns-clause-holds g c = λ is_public told_disk told_secrets holds.
-    done_holds c.args.epoch c.args.dealer c.args.private c.args.public c.insert.ensures.fits is_public c.args.dealings.now c.requires.new _ _ _ _ holds
+returns-clause-holds g c = λ told_disk told_secrets holds.
+    done_holds c.args.epoch c.args.dealer c.args.private c.args.public c.insert.ensures.fits c.requires.ready.fits c.args.dealings.now c.requires.new _ _ _ _ holds
     (c.in_default.ensures.done told_secrets ∙ ap (λ (op : SecretOp). after op (g.X.SecretStore.held c.args.devices.now.secrets.now)) c.requires.ready.puts)
     (subst (λ (b : List ℕ). Follows (Adds (c.args.epoch, b)) (g.D.Disk.image c.args.devices.now.disk.now) (g.D.Disk.image c.put_and_append.new.devices.disk.now)) (c.deref.ensures.value ∙ c.requires.ready.body) (subst (λ (n : ℕ). Follows (Adds (n, c.deref.result.now)) (g.D.Disk.image c.args.devices.now.disk.now) (g.D.Disk.image c.put_and_append.new.devices.disk.now)) c.epoch.view_is (c.in_default.ensures.added told_disk)))
 

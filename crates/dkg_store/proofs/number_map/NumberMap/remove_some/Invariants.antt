@@ -1,8 +1,10 @@
-use Rattle.std.proofs.Common.{ℕ, ◌<◌}
-use Rattle.std.specs.List.{All}
-use Rattle.std.specs.FinMap as map
-use Rattle.dkg_store.specs.Keys.{StaysOrGoes}
+use Rattle.std.proofs.Common.{◌≡◌, ◌<◌, ◌+◌, ◌%◌, drop}
+use Rattle.dkg_store.specs.Cuts.{cleared}
 use Rattle.dkg_store.proofs.number_map.NumberMap.remove_some.Given as goal
 
 abbrev pub invariant-loop-key : goal.invariant-loop-key
-invariant-loop-key g l = (min : ℕ) → All (λ key. key < min) l.keys → (q : ℕ) → StaysOrGoes min q (map.get l.initial.self q) (map.get l.self q)
+invariant-loop-key g l = record {
+  rest : cleared l.pick l.place (drop l.key-index l.keys) l.self ≡ cleared l.pick l.first l.keys l.initial.self;
+  below : l.place < 64;
+  turned : l.place ≡ (l.first + l.key-index) % 64;
+}

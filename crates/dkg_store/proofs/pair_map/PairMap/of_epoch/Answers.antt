@@ -1,21 +1,13 @@
-use Rattle.std.proofs.Common.{◌≡◌, ℕ, ◌<◌, ◌≤◌, ◌^◌, ◌+◌, ◌-◌, ◌==◌, nat_lt, Bool, true, false, not, List, [], ◌∷◌, cond, refl, sym, ap, subst, ◌∙◌, arith}
+use Rattle.std.proofs.Common.{ℕ, ◌^◌, ◌-◌, ◌==◌, nat_lt, List, refl, sym, ap, ◌∙◌}
 use Rattle.std.specs.Prelude.{◌&&◌, filter}
 use Rattle.std.specs.FinMap as map
-use Rattle.std.specs.Ordering.{nat_cmp, is_lt, is_gt}
 use Rattle.std.specs.BTreeMap.Range.{range_contains}
 use Rattle.std.specs.Range.{range_inclusive_end}
 use Rattle.std.specs.declared.ops.Bound.TheVariants.{Included}
-use Rattle.std.proofs.lemmas.Bool.Decides.{nat_tests}
 use Rattle.dkg_store.specs.Keys.{key_cmp}
 use Rattle.dkg_store.proofs.Map.{view_entries, keys_total, exact_keys}
+use Rattle.dkg_store.proofs.Ranges.{filter_alike, in_epoch_below}
 use Rattle.dkg_store.proofs.pair_map.PairMap.of_epoch.Goals as goal
-
-filter_alike : {X : Type 0} (p q : X → Bool) → ((x : X) → p x ≡ q x) → (xs : List X) → filter p xs ≡ filter q xs
-filter_alike p q same [] = refl
-filter_alike p q same (x ∷ xs) = ap (λ b. cond b (x ∷ filter p xs) (filter p xs)) (same x) ∙ ap (λ ys. cond (q x) (x ∷ ys) ys) (filter_alike p q same xs)
-
-in_epoch_below : (top all epoch : ℕ) (k : ℕ × ℕ) → all ≡ top + 1 → range_contains key_cmp (Included (epoch, 0)) (Included (epoch, top)) k ≡ ((k.0 == epoch) && nat_lt k.1 all)
-in_epoch_below top all epoch k is = grind (arith, nat_tests)
 
 pub returns : goal.returns
 returns g c =

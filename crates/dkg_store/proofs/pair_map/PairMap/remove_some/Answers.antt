@@ -1,16 +1,14 @@
-use Rattle.std.proofs.Common.{◌≡◌, ℕ, ◌<◌, subst, sym}
-use Rattle.dkg_store.specs.Keys.{key_cmp}
-use Rattle.std.specs.FinMap as map
-use Rattle.dkg_store.specs.Keys.{StaysOrGoes}
-use Rattle.dkg_store.proofs.Map.{gone_at, keys_total, exact_keys}
+use Rattle.std.proofs.Common.{◌∙◌, arith}
+use Rattle.dkg_store.proofs.Cuts.{cleared_gone, cleared_kept}
 use Rattle.dkg_store.proofs.pair_map.PairMap.remove_some.Goals as goal
-use Rattle.dkg_store.proofs.pair_map.PairMap.remove_some.Goals.{then-pick-eq0, else-pick-eq0}
+use Rattle.dkg_store.proofs.pair_map.PairMap.remove_some.Goals.{then-pick-place-eq0, else-pick-place-eq0}
 
 pub loop-key-preserved : goal.loop-key-preserved
-loop-key-preserved g c = λ min all q.
-    elim c.if-pick-eq0.branch [
-      | then-pick-eq0 w ↦ subst (λ (m : map.FinMap key_cmp g.row.V.Denot). StaysOrGoes min q.0 (map.get c.args.self.now q) (map.get m q)) (sym w.self-is)
-          (subst (λ (m : map.FinMap key_cmp g.row.V.Denot). StaysOrGoes min q.0 (map.get c.args.self.now q) (map.get m q)) (sym w.remove_at.ensures)
-          (gone_at keys_total exact_keys (λ k. k.0) min c.args.self.now c.loop-key.self _ (all c.loop-key.key-index (0, 0) c.loop-key-test.true) (c.loop-key.invariant min all) q))
-      | else-pick-eq0 w ↦ subst (λ (m : map.FinMap key_cmp g.row.V.Denot). StaysOrGoes min q.0 (map.get c.args.self.now q) (map.get m q)) (sym w.self-is) (c.loop-key.invariant min all q)
-    ]
+loop-key-preserved g c = record {
+  rest = elim c.if-pick-place-eq0.branch [
+    | then-pick-place-eq0 w ↦ cleared_gone c.args.pick c.loop-key.place c.loop-key.key-index c.args.keys.now (0, 0) _ _ c.loop-key-test.true c.loop-key.invariant.below w.if-pick-place-eq0.true (w.self-is ∙ w.remove_at.ensures) ∙ c.loop-key.invariant.rest
+    | else-pick-place-eq0 w ↦ cleared_kept c.args.pick c.loop-key.place c.loop-key.key-index c.args.keys.now (0, 0) _ _ c.loop-key-test.true c.loop-key.invariant.below w.if-pick-place-eq0.false w.self-is ∙ c.loop-key.invariant.rest
+  ];
+  below = omega arith;
+  turned = omega (arith, c.loop-key.invariant.turned);
+}

@@ -1,19 +1,21 @@
-use Rattle.std.proofs.Common.{◌≡◌, ℕ, List, None, Err, ap, sym, subst, ◌∙◌}
+use Rattle.std.proofs.Common.{◌≡◌, inl, ℕ, List, None, Err, ap, sym, subst, ◌∙◌}
 use Rattle.std.specs.Int.NonZero.{non_zero_u32_get}
-use Rattle.dkg_journal.specs.Records.{Entry}
+use Rattle.dkg_journal.specs.Records.{Entry, entries}
 use Rattle.dkg_journal.specs.declared.opening.JournalEntry.{JournalEntry}
-use Rattle.dkg_store.specs.Corrupt.{AreEvents}
+use Rattle.dkg_store.specs.Corrupt.{AreEvents, BeginsWithEvent}
 use Rattle.dkg_store.specs.Events.{no_event_at}
 use Rattle.std.proofs.lemmas.Result.{err_from_is_err_and}
 use Rattle.dkg_journal.specs.Opening.{broken}
 use Rattle.dkg_journal.specs.Views.{views}
 use Rattle.dkg_store.specs.Acts.{Ask, Goes, Held}
-use Rattle.dkg_store.specs.Errors.{IsOfDevices}
+use Rattle.dkg_store.specs.Errors.{IsOfDevices, IsOfOpening}
 use Rattle.dkg_store.specs.Pairs.{recovered}
 use Rattle.dkg_store.specs.declared.call.StoreError.{StoreError}
+use Rattle.dkg_store.specs.declared.call.StoreError.TheVariants.{Corrupt, NoMemory, Secrets as OfSecrets}
 use Rattle.dkg_store.specs.declared.store.Store.{Store}
 use Rattle.dkg_store.proofs.Acts.{made_next, made_none_held, made_read}
 use Rattle.dkg_store.proofs.Acting.{then_broken, ended_broken}
+use Rattle.dkg_store.proofs.Corrupt.{answered, corrupt_at, none_corrupt, same_error}
 use Rattle.dkg_store.proofs.OpeningActs.{not_corrupt, of_restoring_too, no_place, no_other}
 use Rattle.dkg_store.proofs.Recorded.{all_events}
 use Rattle.dkg_store.proofs.store.Store.init.Goals as goal
@@ -62,3 +64,49 @@ returns-clause-acts g c = λ told_disk told_secrets form whole events out.
     (c.in_ok-dealings.ensures.given told_secrets
     ∙ ap (λ (es : List JournalEntry). recovered (views es) (g.X.SecretStore.held c.args.devices.now.secrets.now)) (c.deref.ensures.value ∙ c.replay-entries.ensures.listed)
     ∙ ap (λ (es : List Entry). recovered es (g.X.SecretStore.held c.args.devices.now.secrets.now)) (c.in_ok-journal.ensures.listed told_disk form ∙ sym (c.in_ok-journal.ensures.settled told_disk (g.D.Disk.files c.open_journal.new.disk) (g.met.D.Disk.reads _ told_disk)))))
+
+pub returns-in_err-journal-clause-answer : goal.returns-in_err-journal-clause-answer
+returns-in_err-journal-clause-answer g c = λ place told form at.
+    let p = err_from_is_err_and c.from_residual.result c.from_residual.ensures.1 in
+    answered (non_zero_u32_get c.args.limit) (g.D.Disk.files c.args.devices.now.disk.now) c.from_residual.result p.0 p.1 (subst IsOfOpening (sym p.2) c.in_err-journal.ensures.kinds)
+    (λ name q is.
+    let torn = c.in_err-journal.ensures.corrupt name q (ap (λ (e : StoreError). Err e) (sym p.2 ∙ is)) told in
+    (torn.0, record { so = inl torn.1 })) place at
+
+-- what was read, and the first of it that is no event
+first_there : {n limit : ℕ} {read given waiting : List JournalEntry} → n ≡ limit → read ≡ given → given ≡ waiting → no_event_at n read ≡ no_event_at limit waiting
+first_there {n} {limit} {read} {given} {waiting} same was is = ap (λ (m : ℕ). no_event_at m read) same ∙ ap (no_event_at limit) (was ∙ is)
+
+pub returns-in_err-dealings-clause-corrupt : goal.returns-in_err-dealings-clause-corrupt
+returns-in_err-dealings-clause-corrupt g c = λ name q is told form.
+    let p = err_from_is_err_and c.from_residual-in_err-dealings.result c.from_residual-in_err-dealings.ensures.1 in
+    let here = c.in_err-dealings.ensures.corrupt name q (ap (λ (e : StoreError). Err e) (sym p.2 ∙ same_error c.from_residual-in_err-dealings.result p.0 (Corrupt name q) p.1 is)) in (
+      here.0,
+      corrupt_at (non_zero_u32_get c.args.limit) (g.D.Disk.files c.args.devices.now.disk.now) c.in_ok-journal.journal.waiting.items q (c.in_ok-journal.ensures.whole told) (c.in_ok-journal.ensures.gated told)
+          (sym (first_there c.get.ensures.value c.deref.ensures.value c.replay-entries.ensures.listed) ∙ here.1),
+    )
+
+pub returns-in_err-dealings-clause-answer : goal.returns-in_err-dealings-clause-answer
+returns-in_err-dealings-clause-answer g c = λ place told form at.
+    let p = err_from_is_err_and c.from_residual-in_err-dealings.result c.from_residual-in_err-dealings.ensures.1 in
+    answered (non_zero_u32_get c.args.limit) (g.D.Disk.files c.args.devices.now.disk.now) c.from_residual-in_err-dealings.result p.0 p.1
+    (subst IsOfOpening (sym p.2) (of_restoring_too c.in_err-dealings.field-0.0 c.in_err-dealings.ensures.kinds))
+    (λ name q is. returns-in_err-dealings-clause-corrupt g c name q (p.1 ∙ ap (λ (e : StoreError). Err e) is) told form) place at
+
+pub returns-in_err-restored-clause-answer : goal.returns-in_err-restored-clause-answer
+returns-in_err-restored-clause-answer g c = λ place told form at.
+    let p = err_from_is_err_and c.from_residual-in_err-restored.result c.from_residual-in_err-restored.ensures.1 in
+    answered (non_zero_u32_get c.args.limit) (g.D.Disk.files c.args.devices.now.disk.now) c.from_residual-in_err-restored.result p.0 p.1 (subst IsOfOpening (sym p.2) tt)
+    (λ name q is. absurd (let h : ◌≡◌ {A = StoreError} NoMemory (Corrupt name q) = sym p.2 ∙ is in cc)) place at
+
+pub returns-clause-answer : goal.returns-clause-answer
+returns-clause-answer g c = λ place told form at.
+    none_corrupt (non_zero_u32_get c.args.limit) (g.D.Disk.files c.args.devices.now.disk.now) c.in_ok-journal.journal.waiting.items place (c.in_ok-journal.ensures.whole told) (c.in_ok-journal.ensures.gated told)
+    (sym (first_there c.get.ensures.value c.deref.ensures.value c.replay-entries.ensures.listed) ∙ c.in_ok-dealings.ensures.events) at
+
+pub returns-in_err-dealings-clause-half : goal.returns-in_err-dealings-clause-half
+returns-in_err-dealings-clause-half g c = λ is told form.
+    let p = err_from_is_err_and c.from_residual-in_err-dealings.result c.from_residual-in_err-dealings.ensures.1 in
+    let begins = c.in_err-dealings.ensures.half (ap (λ (e : StoreError). Err e) (sym p.2 ∙ same_error c.from_residual-in_err-dealings.result p.0 OfSecrets p.1 is)) in
+    let read : views c.deref.result.now ≡ entries (g.D.Disk.files c.args.devices.now.disk.now) = ap views (c.deref.ensures.value ∙ c.replay-entries.ensures.listed) ∙ c.in_ok-journal.ensures.listed told form in
+    (c.in_ok-journal.ensures.whole told, subst (λ (es : List Entry). BeginsWithEvent (non_zero_u32_get c.args.limit) es) read (subst (λ (n : ℕ). BeginsWithEvent n (views c.deref.result.now)) c.get.ensures.value begins))

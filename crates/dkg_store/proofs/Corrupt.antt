@@ -1,0 +1,73 @@
+-- There is one place for which a store is not opened, and one answer.
+use Rattle.std.proofs.Common.{◌≡◌, ◌⊎◌, inl, inr, ℕ, List, [], ◌∷◌, map, Option, Some, None, Result, Err, sym, ◌∙◌, refl, ap, subst}
+use Rattle.std.specs.Prelude.{MatchResult}
+use Rattle.dkg_values.specs.declared.name.Name.{Name}
+use Rattle.dkg_values.specs.declared.name.Name.TheVariants.{Flat}
+use Rattle.dkg_journal.specs.Names.{Files}
+use Rattle.dkg_journal.specs.Gated.{gated, gated_entries}
+use Rattle.dkg_journal.specs.Opening.{broken}
+use Rattle.dkg_journal.specs.Records.{Entry}
+use Rattle.dkg_journal.specs.declared.opening.JournalEntry.{JournalEntry}
+use Rattle.dkg_store.specs.Corrupt.{IsCorruptAt}
+use Rattle.dkg_store.specs.Errors.{IsOfDevices, IsOfOpening}
+use Rattle.dkg_store.specs.Events.{no_event_at}
+use Rattle.dkg_store.specs.declared.call.StoreError.{StoreError}
+use Rattle.dkg_store.specs.declared.call.StoreError.TheVariants.{Disk, Secrets, Corrupt, LocalState, StateSyncEpochs, StateSyncMaterial, Cut, NoMemory}
+use Rattle.dkg_store.proofs.OpeningActs.{no_place}
+
+-- the entry again, from what is seen of it with its place
+abbrev ungated : Entry → JournalEntry
+ungated (section, []) = record { section = section; place = 0; body = [] }
+ungated (section, place ∷ body) = record { section = section; place = place; body = body }
+
+ungated_all : (es : List JournalEntry) → map ungated (map gated es) ≡ es
+ungated_all [] = refl
+ungated_all (e ∷ es) = ap (λ (l : List JournalEntry). e ∷ l) (ungated_all es)
+
+one_reading : (xs ys : List JournalEntry) → map gated xs ≡ map gated ys → xs ≡ ys
+one_reading xs ys same = sym (ungated_all xs) ∙ ap (map ungated) same ∙ ungated_all ys
+
+some_is : (p q : ℕ) (o : Option ℕ) → o ≡ Some p → o ≡ Some q → p ≡ q
+some_is p q o one other = let h : ◌≡◌ {A = Option ℕ} (Some p) (Some q) = sym one ∙ other in cc
+
+module _ (limit : ℕ) (files : Files) where
+  pub one_place : (p q : ℕ) → IsCorruptAt limit files p → IsCorruptAt limit files q → p ≡ q
+  one_place p q one other = elim one.so [
+    | inl torn ↦ elim other.so [
+      | inl torn_too ↦ some_is p q (broken files) torn torn_too
+      | inr whole ↦ absurd (no_place (broken files) p torn whole.0)
+    ]
+    | inr whole ↦ elim other.so [
+      | inl torn ↦ absurd (no_place (broken files) q torn whole.0)
+      | inr whole_too ↦ some_is p q (no_event_at limit whole.1.read) whole.1.first (ap (no_event_at limit) (one_reading whole.1.read whole_too.1.read (whole.1.are ∙ sym whole_too.1.are)) ∙ whole_too.1.first)
+    ]
+  ]
+
+  -- the first of these entries that is no event
+  pub corrupt_at : (es : List JournalEntry) (place : ℕ) → broken files ≡ None → map gated es ≡ gated_entries files → no_event_at limit es ≡ Some place → IsCorruptAt limit files place
+  corrupt_at es place whole are first = record { so = inr (whole, record { read = es; are = are; first = first }) }
+
+  -- where all are events, there is none
+  pub none_corrupt : (es : List JournalEntry) (place : ℕ) → broken files ≡ None → map gated es ≡ gated_entries files → no_event_at limit es ≡ None → IsCorruptAt limit files place → ⊥
+  none_corrupt es place whole are none at = elim at.so [
+    | inl torn ↦ no_place (broken files) place torn whole
+    | inr other ↦ no_place (no_event_at limit other.1.read) place other.1.first (ap (no_event_at limit) (one_reading other.1.read es (other.1.are ∙ sym are)) ∙ none)
+  ]
+
+  -- an error of opening is Corrupt there, or of a device
+  answer : (e : StoreError) → IsOfOpening e → ((name : Name) (place : ℕ) → e ≡ Corrupt name place → (name ≡ Flat) × IsCorruptAt limit files place) → (place : ℕ) → IsCorruptAt limit files place → (e ≡ Corrupt Flat place) ⊎ IsOfDevices e
+  answer Disk kinds told place at = inr tt
+  answer Secrets kinds told place at = inr tt
+  answer Cut kinds told place at = inr tt
+  answer NoMemory kinds told place at = inr tt
+  answer (Corrupt name q) kinds told place at = let is = told name q refl in inl (λ i. Corrupt (is.0 i) (one_place q place is.1 at i))
+  answer (LocalState cause) kinds told place at = absurd kinds
+  answer (StateSyncEpochs info floor) kinds told place at = absurd kinds
+  answer StateSyncMaterial kinds told place at = absurd kinds
+
+  pub answered : {T : Type 0} (r : Result T StoreError) (e : StoreError) → r ≡ Err e → IsOfOpening e → ((name : Name) (place : ℕ) → e ≡ Corrupt name place → (name ≡ Flat) × IsCorruptAt limit files place) → (place : ℕ) → IsCorruptAt limit files place
+      → MatchResult r (λ x. ⊥) (λ x. (x ≡ Corrupt Flat place) ⊎ IsOfDevices x)
+  answered {T} r e is kinds told place at = subst (λ (x : Result T StoreError). MatchResult x (λ y. ⊥) (λ y. (y ≡ Corrupt Flat place) ⊎ IsOfDevices y)) (sym is) (answer e kinds told place at)
+
+pub same_error : {T : Type 0} (r : Result T StoreError) (e f : StoreError) → r ≡ Err e → r ≡ Err f → e ≡ f
+same_error {T} r e f is other = let h : ◌≡◌ {A = Result T StoreError} (Err e) (Err f) = sym is ∙ other in cc
