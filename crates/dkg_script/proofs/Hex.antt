@@ -102,7 +102,7 @@ digits text (b ∷ bs) fit other spelled =
 abbrev pub Decoded : List ℕ → Option (List ℕ) → Type 0
 Decoded text made = MatchOption made (IsErr (decode_of text)) (λ bytes. decode_of text ≡ Ok bytes)
 
-text_back : (text bytes : List ℕ) → 0 < length text → IsLower text → decode_of text ≡ Ok bytes → text ≡ hex_text bytes
+pub text_back : (text bytes : List ℕ) → 0 < length text → IsLower text → decode_of text ≡ Ok bytes → text ≡ hex_text bytes
 text_back text [] some lower h =
     let parts = decode_of-ok text [] h in
     absurd (omega (arith, some, parts.2))

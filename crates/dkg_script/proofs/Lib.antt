@@ -7,6 +7,7 @@ pub mod EachEntry
 pub mod Edges
 pub mod Hex
 pub mod Honest
+pub mod NonZeros
 pub mod Numbers
 pub mod OneAck
 pub mod OneDealing
@@ -16,6 +17,8 @@ pub mod Rounds
 pub mod RunsPastACut
 pub mod ScriptedCuts
 pub mod SentAgain
+pub mod ReadOn
+pub mod Spelled
 pub mod Starting
 pub mod Steps
 pub mod Stores

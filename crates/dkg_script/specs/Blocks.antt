@@ -8,6 +8,7 @@ use Rattle.dkg_values.specs.Uint.{uint}
 use Rattle.dkg_values.specs.declared.name.Name.TheVariants.{Plan}
 use Rattle.dkg_ceremony.specs.declared.mode.Reveal.TheVariants.{V1}
 use Rattle.dkg_ceremony.specs.declared.round.Round.{Round}
+use Rattle.dkg_ceremony.specs.declared.signed_log.SignedDealerLog.{SignedDealerLog}
 use Rattle.dkg_ceremony.specs.Rounds.{round_of}
 use Rattle.dkg_types.specs.BlockCodes.{context_bytes}
 use Rattle.dkg_script.specs.declared.script.Anchor.{Anchor}
@@ -19,7 +20,7 @@ use Rattle.dkg_script.specs.declared.script.Event.TheVariants.{Final}
 use Rattle.dkg_script.specs.declared.script.Life.{Life}
 use Rattle.dkg_script.specs.declared.script.SyncLine.{SyncLine}
 use Rattle.dkg_script.specs.Schedule.{epoch_of, boundary, last}
-use Rattle.dkg_script.specs.Readings.{Info, SignedLog, Material, info_in, log_in, material_in}
+use Rattle.dkg_script.specs.Readings.{Info, Material, info_in, log_in, material_in}
 use Rattle.dkg_script.specs.Setting.{Setting, blocks_per_epoch, limits, is_oneshot}
 
 -- A block: what names it, where it stands, and what it carries.
@@ -31,7 +32,7 @@ pub record Block : Type 0 where
   pub payload : Option (List ℕ)
   -- what the payload is under the node's limits
   pub info : Option Info
-  pub log : Option SignedLog
+  pub log : Option SignedDealerLog
 
 -- the digest of a block without a parent's
 abbrev pub zeros : List ℕ

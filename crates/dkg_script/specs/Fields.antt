@@ -1,5 +1,5 @@
 -- How the fields of a line are spelled.
-use Rattle.std.specs.Prelude.{◌≡◌, ◌≢◌, ℕ, ◌<◌, ◌≤◌, ◌^◌, ◌⊎◌, List, [], ◌∷◌, ◌++◌, All, length, slice_index}
+use Rattle.std.specs.Prelude.{◌≡◌, ◌≢◌, ℕ, ◌<◌, ◌≤◌, ◌^◌, ◌⊎◌, List, [], ◌∷◌, ◌++◌, All, decimal, length, slice_index}
 use Rattle.std.specs.Str.Parse.{IsNumeral, digits_value}
 use Rattle.hex.specs.Hex.{encode_lower}
 
@@ -26,3 +26,13 @@ IsLower text = All IsLowerDigit text
 abbrev pub hex_text : List ℕ → List ℕ
 hex_text [] = 45 ∷ []
 hex_text (b ∷ bs) = encode_lower (b ∷ bs)
+
+-- a field that is a word, a number or bytes, behind one space
+abbrev pub word_field : List ℕ → List ℕ
+word_field word = 32 ∷ word
+
+abbrev pub number_field : ℕ → List ℕ
+number_field n = 32 ∷ decimal n
+
+abbrev pub bytes_field : List ℕ → List ℕ
+bytes_field bytes = 32 ∷ hex_text bytes

@@ -2,6 +2,7 @@ pub mod Blocks
 pub mod Consistent
 pub mod Due
 pub mod Ends
+pub mod FaultLines
 pub mod Fields
 pub mod Form
 pub mod Kept
@@ -10,9 +11,12 @@ pub mod Order
 pub mod OwnMarks
 pub mod Places
 pub mod Position
+pub mod Printing
 pub mod Progress
 pub mod Promise
 pub mod Readings
 pub mod Schedule
+pub mod Scripts
 pub mod Setting
 pub mod Starts
+pub mod Words

@@ -1,5 +1,5 @@
 -- What running a script promises, and on what premises.
-use Rattle.std.specs.Prelude.{ℕ, List, [], ◌∷◌, ◌++◌, ◌≡◌, ◌≤◌, Option, None, length}
+use Rattle.std.specs.Prelude.{ℕ, List, ◌∷◌, ◌++◌, ◌≡◌, Option, None, length}
 use Rattle.std.specs.FinMap.{get}
 use Rattle.dkg_values.specs.declared.name.Name.TheVariants.{Plan}
 use Rattle.dkg_journal.specs.Disk.{Lands}
@@ -93,31 +93,3 @@ KeepsDealings s image now secrets out =
 -- On success: every life was run, and each dealing that was due was acknowledged.
 abbrev pub AnswersDealings : Setting → (image : Files → Type 0) → List Entry → Type 0
 AnswersDealings s image out = IsBuilt s → IsHonestRun s image → IsComplete s out
-
--- THE CLAUSES OF THE TOP CALL
-
--- The source had a script to its end, and it was run. `bytes` and `rest` are what the source had and has left; `Keeps` says
--- that the dealings are kept where the devices tell what they hold, and `Answers` that the due ones are answered.
-pub record Ran (bytes rest : List ℕ) (Keeps : Script → Type 0) (out : List Entry) (script : Script) : Type 0 where
-  pub to_its_end : rest ≡ []
-  pub not_too_long : length bytes ≤ 16777216
-  pub in_order : RunsInOrder script out
-  pub kept : Keeps script
-
--- .. and every life was run
-pub record RanAll (bytes rest : List ℕ) (Keeps Answers : Script → Type 0) (out : List Entry) (script : Script) : Type 0 where
-  pub ran : Ran bytes rest Keeps out script
-  pub all : RunsAll script out
-  pub answered : Answers script
-
--- nothing was written to the transcript, and no device was called
-pub record RanNothing (Untouched : Type 0) (out : List Entry) : Type 0 where
-  pub no_entry : out ≡ []
-  pub untouched : Untouched
-
--- The source had something else, to its end.
-pub record Refused (script : Option Script) (bytes rest : List ℕ) (Untouched : Type 0) (out : List Entry) : Type 0 where
-  pub no_script : script ≡ None
-  pub to_its_end : rest ≡ []
-  pub not_too_long : length bytes ≤ 16777216
-  pub nothing : RanNothing Untouched out

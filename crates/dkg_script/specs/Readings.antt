@@ -5,15 +5,16 @@ use Rattle.dkg_values.specs.Codec.{Reading, whole}
 use Rattle.dkg_values.specs.Bytes.{bytes_at}
 use Rattle.dkg_values.specs.Joined.{beside_at}
 use Rattle.dkg_values.specs.Uint.{uint_at}
+use Rattle.dkg_ceremony.specs.declared.dealer_log.DealerLog.{DealerLog}
+use Rattle.dkg_ceremony.specs.declared.signed_log.SignedDealerLog.{SignedDealerLog}
 use Rattle.dkg_types.specs.declared.directory.Unit as directory
 use Rattle.dkg_types.specs.declared.info.EpochInfo.{EpochInfo}
 use Rattle.dkg_types.specs.declared.message.Message.{Message}
 use Rattle.dkg_types.specs.declared.message.Message.TheVariants.{Dealer, Ack}
 use Rattle.dkg_types.specs.declared.payload.Payload.{Payload}
-use Rattle.dkg_types.specs.declared.payload.Payload.TheVariants as payload
 use Rattle.dkg_types.specs.MessageCodes.{message_at}
 use Rattle.dkg_types.specs.InfoCodes.{info_at}
-use Rattle.dkg_types.specs.PayloadCodes.{payload_at}
+use Rattle.dkg_types.specs.PayloadCodes.{payload_at, its_info, its_log}
 use Rattle.dkg_types.specs.Units.{unit_at, unit_spelling}
 use Rattle.dkg_journal.specs.Records.{Entry}
 
@@ -54,28 +55,8 @@ with_spelled spelling i = record {
   directory = spelling i.directory;
 }
 
--- what a log has for a player: its acknowledgement, or its private half revealed
-pub data LogEntry : Type 0 where
-  acked : List ℕ → LogEntry
-  revealed : ℕ → LogEntry
-
--- A dealer's log: its public half, and an entry for each player in order.
-pub record Log : Type 0 where
-  pub dealer : ℕ
-  pub public : List ℕ
-  pub entries : List LogEntry
-
--- a log with its dealer's mark
-pub record SignedLog : Type 0 where
-  pub log : Log
-  pub mark : List ℕ
-
 abbrev pub carried_info : {Dir : Type 0} → (Dir → List ℕ) → Payload Dir → Option Info
-carried_info spelling (payload.EpochInfo i) = Some (with_spelled spelling i)
-
--- No payload is a log yet.
-abbrev pub carried_log : {Dir : Type 0} → Payload Dir → Option SignedLog
-carried_log (payload.EpochInfo i) = None
+carried_info spelling payload = option_map (with_spelled spelling) (its_info payload)
 
 abbrev pub unit_payload : Limits → List ℕ → Option (Payload directory.Unit)
 unit_payload limits bytes = result_ok (whole (payload_at (λ _. unit_at) (λ _ _. true) limits.most limits.version bytes))
@@ -85,11 +66,11 @@ unfoldable pub info_in : Limits → List ℕ → Option Info
 info_in limits bytes = if limits.addressed then None else option_and_then (carried_info unit_spelling) (unit_payload limits bytes)
 
 -- the log that a block's payload is
-unfoldable pub log_in : Limits → List ℕ → Option SignedLog
-log_in limits bytes = if limits.addressed then None else option_and_then (carried_log {Dir = directory.Unit}) (unit_payload limits bytes)
+unfoldable pub log_in : Limits → List ℕ → Option SignedDealerLog
+log_in limits bytes = if limits.addressed then None else option_and_then its_log (unit_payload limits bytes)
 
--- the log that an entry of the journal records, beside its epoch (no entry records one yet)
-unfoldable pub log_in_entry : Limits → Entry → Option Log
+-- the dealer and the log that an entry of the journal records, beside its epoch (no entry records one yet)
+unfoldable pub log_in_entry : Limits → Entry → Option (ℕ × DealerLog)
 log_in_entry limits entry = None
 
 -- START MATERIAL

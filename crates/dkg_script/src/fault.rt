@@ -1,10 +1,15 @@
 //! The line of a fault: its number, then its fields, a cause's number first among them.
+ghost use Rattle.std.specs.Prelude.{◌≡◌, ◌++◌, OnOk};
+ghost use Rattle.dkg_script.specs.FaultLines.{config_number_of, fault_fields, fault_line, local_fields, participants_fields, place_fields, refused_fields, round_number_of};
+ghost use Rattle.dkg_script.specs.Fields.{number_field};
 
 use crate::text::Text;
 use dkg_ceremony::{Epoch, Key, Mem, Name, Public, RoundError};
 use dkg_types::{ConfigCause, Fault, LocalCause, ParticipantsCause, ParticipantsError};
 
-fn put_place(text: &mut Text, name: Name, place: u64) -> Mem<()> {
+fn put_place(text: &mut Text, name: Name, place: u64) -> Mem<()>
+    ensures { OnOk result (text.new ≡ text.old ++ place_fields name place) }
+{
     match name {
         Name::Plan => text.word(b"plan")?,
         Name::Flat => text.word(b"flat")?,
@@ -16,7 +21,9 @@ fn put_place(text: &mut Text, name: Name, place: u64) -> Mem<()> {
     text.number(place)
 }
 
-fn config_number(cause: ConfigCause) -> u64 {
+fn config_number(cause: ConfigCause) -> u64
+    ensures { result ≡ config_number_of cause }
+{
     match cause {
         ConfigCause::Mode => 1,
         ConfigCause::OneBlock => 2,
@@ -25,13 +32,17 @@ fn config_number(cause: ConfigCause) -> u64 {
     }
 }
 
-fn put_above(text: &mut Text, cause: u64, actual: u32, max: u32) -> Mem<()> {
+fn put_above(text: &mut Text, cause: u64, actual: u32, max: u32) -> Mem<()>
+    ensures { OnOk result (text.new ≡ text.old ++ (number_field cause ++ number_field actual ++ number_field max)) }
+{
     text.number(cause)?;
     text.number(u64::from(actual))?;
     text.number(u64::from(max))
 }
 
-fn put_refused(text: &mut Text, refused: ParticipantsError) -> Mem<()> {
+fn put_refused(text: &mut Text, refused: ParticipantsError) -> Mem<()>
+    ensures { OnOk result (text.new ≡ text.old ++ refused_fields refused) }
+{
     match refused {
         ParticipantsError::EmptyDealers => text.number(1),
         ParticipantsError::EmptyPlayers => text.number(2),
@@ -42,7 +53,9 @@ fn put_refused(text: &mut Text, refused: ParticipantsError) -> Mem<()> {
 }
 
 /// The number of a round's refusal, in the order in which the reasons are looked for.
-fn round_number(refused: RoundError) -> u64 {
+fn round_number(refused: RoundError) -> u64
+    ensures { result ≡ round_number_of refused }
+{
     match refused {
         RoundError::NoDealers => 1,
         RoundError::NoPlayers => 2,
@@ -52,7 +65,9 @@ fn round_number(refused: RoundError) -> u64 {
     }
 }
 
-fn put_participants(text: &mut Text, cause: ParticipantsCause) -> Mem<()> {
+fn put_participants(text: &mut Text, cause: ParticipantsCause) -> Mem<()>
+    ensures { OnOk result (text.new ≡ text.old ++ participants_fields cause) }
+{
     match cause {
         ParticipantsCause::Refused(refused) => put_refused(text, refused),
         ParticipantsCause::ProviderEmpty => text.number(6),
@@ -64,20 +79,26 @@ fn put_participants(text: &mut Text, cause: ParticipantsCause) -> Mem<()> {
     }
 }
 
-fn put_stored(text: &mut Text, epoch: Epoch, dealer: Key) -> Mem<()> {
+fn put_stored(text: &mut Text, epoch: Epoch, dealer: Key) -> Mem<()>
+    ensures { OnOk result (text.new ≡ text.old ++ local_fields (LocalCause.StoredDealing epoch dealer)) }
+{
     text.number(1)?;
     text.number(epoch.0)?;
     text.number(u64::from(dealer.0))
 }
 
-fn put_own(text: &mut Text, epoch: Epoch, kept: &Public, dealt: &Public) -> Mem<()> {
+fn put_own(text: &mut Text, epoch: Epoch, kept: &Public, dealt: &Public) -> Mem<()>
+    ensures { OnOk result (text.new ≡ text.old ++ local_fields (LocalCause.OwnDealing epoch kept.now dealt.now)) }
+{
     text.number(3)?;
     text.number(epoch.0)?;
     text.value(kept)?;
     text.value(dealt)
 }
 
-fn put_local(text: &mut Text, cause: &LocalCause) -> Mem<()> {
+fn put_local(text: &mut Text, cause: &LocalCause) -> Mem<()>
+    ensures { OnOk result (text.new ≡ text.old ++ local_fields cause.now) }
+{
     match cause {
         LocalCause::StoredDealing { epoch, dealer } => put_stored(text, *epoch, *dealer),
         LocalCause::ShareRefused { epoch } => {
@@ -90,12 +111,16 @@ fn put_local(text: &mut Text, cause: &LocalCause) -> Mem<()> {
     }
 }
 
-fn put_two(text: &mut Text, one: u64, other: u64) -> Mem<()> {
+fn put_two(text: &mut Text, one: u64, other: u64) -> Mem<()>
+    ensures { OnOk result (text.new ≡ text.old ++ (number_field one ++ number_field other)) }
+{
     text.number(one)?;
     text.number(other)
 }
 
-fn put_fields(text: &mut Text, fault: &Fault) -> Mem<()> {
+fn put_fields(text: &mut Text, fault: &Fault) -> Mem<()>
+    ensures { OnOk result (text.new ≡ text.old ++ fault_fields fault.now) }
+{
     match fault {
         Fault::NoMemory
         | Fault::Disk
@@ -120,7 +145,9 @@ fn put_fields(text: &mut Text, fault: &Fault) -> Mem<()> {
 }
 
 /// A fault's line, without its line feed.
-pub(crate) fn put_fault(text: &mut Text, fault: &Fault) -> Mem<()> {
+pub(crate) fn put_fault(text: &mut Text, fault: &Fault) -> Mem<()>
+    ensures { OnOk result (text.new ≡ text.old ++ fault_line fault.now) }
+{
     text.put(b"fault")?;
     text.number(u64::from(fault.number()))?;
     put_fields(text, fault)

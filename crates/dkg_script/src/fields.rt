@@ -5,6 +5,7 @@ ghost use Rattle.std.specs.Prelude.{◌≡◌, ◌≢◌, ℕ, ◌+◌, ◌<◌,
 ghost use Rattle.std.specs.Str.Parse.{IsNumeral, digits_value};
 ghost use Rattle.hex.specs.Hex.{IsBytes, decode_of};
 ghost use Rattle.dkg_script.specs.Fields.{hex_text, IsPlain, IsLower, SpellsNumber, IsCutAt};
+ghost use Rattle.dkg_script.specs.Scripts.{bytes_of, cut_of, number32_of, number_of};
 
 use dkg_ceremony::{Blob, Mem, NoMemory};
 use hex::FromHexError;
@@ -35,24 +36,39 @@ fn parsed(text: &[u8]) -> Option<u64>
 pub(crate) fn number(text: &[u8]) -> Option<u64>
     ensures found { IfSome result (λ n. text.now ≡ decimal n) }
     ensures only { (n : ℕ) → n < 2 ^ 64 → text.now ≡ decimal n → result ≡ Some n }
+    ensures value { result ≡ number_of text.now }
 {
     if is_plain(text) { parsed(text) } else { None }
 }
 
 /// The same below 2^32.
+#[tactic(auto, unfolding(crate::specs::Scripts::number32_of))]
 pub(crate) fn number32(text: &[u8]) -> Option<u32>
     ensures found { IfSome result (λ n. text.now ≡ decimal n) }
     ensures only { (n : ℕ) → n < 2 ^ 32 → text.now ≡ decimal n → result ≡ Some n }
+    ensures value { result ≡ number32_of text.now }
 {
-    u32::try_from(number(text)?).ok()
+    let value = number(text)?;
+    if value < 1 << 32 {
+        Some(value as u32)
+    } else {
+        None
+    }
 }
 
-/// What stands before and after the first such byte.
-pub(crate) fn cut(text: &[u8], at: u8) -> Option<(&[u8], &[u8])>
+fn parted(text: &[u8], at: u8) -> Option<(&[u8], &[u8])>
     ensures { MatchOption result (All (λ b. b ≢ at) text.now) (λ parts. IsCutAt at text.now parts.0.now parts.1.now) }
 {
     let place = memchr(at, text)?;
     Some((&text[..place], &text[place + 1..]))
+}
+
+/// What stands before and after the first such byte.
+pub(crate) fn cut(text: &[u8], at: u8) -> Option<(&[u8], &[u8])>
+    ensures value { MatchOption result (cut_of at text.now ≡ None) (λ parts. cut_of at text.now ≡ Some (parts.0.now, parts.1.now)) }
+    ensures shorter { IfSome result (λ parts. length parts.1.now < length text.now) }
+{
+    parted(text, at)
 }
 
 fn is_lower(text: &[u8]) -> bool
@@ -88,6 +104,7 @@ fn is_dash(text: &[u8]) -> bool
 pub(crate) fn bytes(alloc: Global, text: &[u8]) -> Mem<Option<Blob>>
     ensures found { IfOk result (λ made. IfSome made (λ blob. text.now ≡ hex_text blob)) }
     ensures only { (bytes : List ℕ) → IsBytes bytes → text.now ≡ hex_text bytes → IfOk result (λ made. made ≡ Some bytes) }
+    ensures value { IfOk result (λ made. made ≡ bytes_of text.now) }
 {
     if is_dash(text) {
         return Ok(Some(Blob::new(Vec::new(alloc))));

@@ -1,140 +1,126 @@
 //! The lines of a text, one after another, each ended by a line feed.
 //!
 //! The reader of scripts looks at the line that is in front, and moves past it once it is read.
-ghost use Rattle.std.specs.Prelude.{◌≡◌, ℕ, ◌+◌, ◌<◌, ◌≤◌, ◌^◌, IfOk, IfErr, IfSome, OnOk, length};
+ghost use Rattle.std.specs.Prelude.{◌≡◌, ℕ, ◌+◌, ◌-◌, ◌<◌, ◌≤◌, ◌^◌, IfOk, IfErr, IfSome, MatchOption, None, OnOk, Some, codes, length};
 ghost use Rattle.dkg_script.specs.Places.{IsPlaceIn};
+ghost use Rattle.dkg_script.specs.Scripts.{Gives, Reads, end_at, form_at, line_at, number_after, number_at};
 
 use crate::error::ScriptError;
-use crate::fields::number;
-use memchr::memchr;
+use crate::fields::{cut, number};
 
-/// A text, and the line in front: it begins at `place` and its line feed is at `stop`. Where no line feed
-/// is left, `stop` is the text's length.
+/// The part of a text that is not read yet, and the size of the whole text.
 #[derive(Drop)]
 pub(crate) struct Lines<'a> {
-    pub(crate) text: &'a [u8],
-    pub(crate) place: usize,
-    pub(crate) stop: usize,
-    ghost in_order: { place ≤ stop },
-    ghost in_text: { stop ≤ length text.now },
+    pub(crate) size: usize,
+    pub(crate) rest: &'a [u8],
+    ghost in_text: { length rest.now ≤ size },
 }
 
-/// The place of the first line feed from a place on, or the text's length.
-fn next_feed(text: &[u8], place: usize) -> usize
-    requires { place ≤ length text.now }
-    ensures after { place ≤ result }
-    ensures within { result ≤ length text.now }
+/// The number behind a word.
+#[tactic(auto, unfolding(crate::specs::Scripts::number_after, crate::specs::Scripts::after_word))]
+fn number_behind(word: &[u8], line: &[u8]) -> Option<u64>
+    ensures { result ≡ number_after word.now line.now }
 {
-    match memchr(b'\n', &text[place..]) {
-        Some(i) => place + i,
-        None => text.len(),
-    }
+    number(line.strip_prefix(word)?)
 }
 
 impl<'a> Lines<'a> {
     ghost use Rattle.dkg_script.specs.Places.{IsPlaceIn};
 
     pub(crate) fn new(text: &'a [u8]) -> Lines<'a>
-        ensures text { result.text.now ≡ text.now }
+        ensures rest { result.rest.now ≡ text.now }
+        ensures size { result.size ≡ length text.now }
     {
-        let stop = next_feed(text, 0);
         Lines {
-            text,
-            place: 0,
-            stop,
+            size: text.len(),
+            rest: text,
         }
     }
 
     /// That the line in front is not allowed.
     pub(crate) fn bad(&self) -> ScriptError
-        ensures { IsPlaceIn (length self.now.text.now) result }
+        ensures { result ≡ ScriptError.Bad (self.now.size - length self.now.rest.now) }
     {
         ScriptError::Bad {
-            place: self.place as u64,
+            place: (self.size - self.rest.len()) as u64,
         }
     }
 
-    /// The line in front without its line feed, if it has one.
-    pub(crate) fn line(&self) -> Option<&'a [u8]>
-        ensures { IfSome result (λ _. self.now.stop < length self.now.text.now) }
+    /// The line in front without its line feed, and what stands behind that, if there is a line feed.
+    pub(crate) fn front(&self) -> Option<(&'a [u8], &'a [u8])>
+        ensures value { MatchOption result (line_at self.now.rest.now ≡ None) (λ parts. line_at self.now.rest.now ≡ Some (parts.0.now, parts.1.now)) }
+        ensures shorter { IfSome result (λ parts. length parts.1.now < length self.now.rest.now) }
     {
-        if self.stop < self.text.len() {
-            Some(&self.text[self.place..self.stop])
-        } else {
-            None
-        }
+        cut(self.rest, b'\n')
     }
 
-    /// Moves past the line in front, where there is one.
-    pub(crate) fn advance(&mut self)
-        ensures text { self.new.text.now ≡ self.old.text.now }
-        ensures on { self.old.place ≤ self.new.place }
-        ensures moves { self.old.stop < length self.old.text.now → self.old.place < self.new.place }
+    /// Moves on to what stands behind the line in front.
+    pub(crate) fn pass(&mut self, rest: &'a [u8])
+        requires { length rest.now < length self.old.rest.now }
+        ensures rest { self.new.rest.now ≡ rest.now }
+        ensures size { self.new.size ≡ self.old.size }
     {
-        if self.stop < self.text.len() {
-            self.place = self.stop + 1;
-            self.stop = next_feed(self.text, self.place);
-        }
-    }
-
-    /// Whether the line in front begins so.
-    pub(crate) fn begins(&self, form: &[u8]) -> bool {
-        self.line().is_some_and(|line| line.starts_with(form))
-    }
-
-    /// What stands after a word in the line in front.
-    pub(crate) fn after(&self, word: &[u8]) -> Result<&'a [u8], ScriptError>
-        ensures some { OnOk result (self.now.stop < length self.now.text.now) }
-        ensures err { IfErr result (λ e. IsPlaceIn (length self.now.text.now) e) }
-    {
-        match self.line().and_then(|line| line.strip_prefix(word)) {
-            Some(rest) => Ok(rest),
-            None => Err(self.bad()),
-        }
+        self.rest = rest;
     }
 
     /// Reads a line that has one form.
+    #[tactic(auto, unfolding(crate::specs::Scripts::form_at))]
     pub(crate) fn take_line(&mut self, form: &[u8]) -> Result<(), ScriptError>
-        ensures text { self.new.text.now ≡ self.old.text.now }
-        ensures on { OnOk result (self.old.place < self.new.place) }
-        ensures err { IfErr result (λ e. IsPlaceIn (length self.old.text.now) e) }
+        ensures reads { Reads (form_at form.now self.old.rest.now) result self.new.rest.now }
+        ensures size { self.new.size ≡ self.old.size }
+        ensures on { OnOk result (length self.new.rest.now < length self.old.rest.now) }
+        ensures err { IfErr result (λ e. IsPlaceIn self.old.size e) }
     {
-        if self.line() == Some(form) {
-            self.advance();
-            return Ok(());
+        let Some((line, rest)) = self.front() else {
+            return Err(self.bad());
+        };
+        if line != form {
+            return Err(self.bad());
         }
-        Err(self.bad())
+        self.pass(rest);
+        Ok(())
     }
 
     /// Reads a line of a word and a number within a range.
+    #[tactic(auto, unfolding(crate::specs::Scripts::number_at))]
     pub(crate) fn take_number(
         &mut self,
         word: &[u8],
         least: u64,
         most: u64,
     ) -> Result<u64, ScriptError>
-        ensures text { self.new.text.now ≡ self.old.text.now }
-        ensures on { OnOk result (self.old.place < self.new.place) }
+        ensures reads { Reads (number_at word.now least most self.old.rest.now) result self.new.rest.now }
+        ensures size { self.new.size ≡ self.old.size }
+        ensures on { OnOk result (length self.new.rest.now < length self.old.rest.now) }
         ensures ok { IfOk result (λ n. (least ≤ n) × (n ≤ most)) }
-        ensures err { IfErr result (λ e. IsPlaceIn (length self.old.text.now) e) }
+        ensures err { IfErr result (λ e. IsPlaceIn self.old.size e) }
     {
-        match number(self.after(word)?) {
-            Some(n) if least <= n && n <= most => {
-                self.advance();
-                Ok(n)
-            }
-            _ => Err(self.bad()),
+        let Some((line, rest)) = self.front() else {
+            return Err(self.bad());
+        };
+        let Some(n) = number_behind(word, line) else {
+            return Err(self.bad());
+        };
+        if n < least {
+            return Err(self.bad());
         }
+        if most < n {
+            return Err(self.bad());
+        }
+        self.pass(rest);
+        Ok(n)
     }
 
     /// Reads the last line, after which no byte is left.
+    #[tactic(auto, unfolding(crate::specs::Scripts::end_at))]
     pub(crate) fn take_end(&mut self) -> Result<(), ScriptError>
-        ensures { IfErr result (λ e. IsPlaceIn (length self.old.text.now) e) }
+        ensures reads { Gives (end_at self.old.rest.now) result }
+        ensures err { IfErr result (λ e. IsPlaceIn self.old.size e) }
     {
         self.take_line(b"end")?;
-        if self.place < self.text.len() {
-            return Err(self.bad());
+        match self.rest {
+            [] => Ok(()),
+            [_, ..] => Err(self.bad()),
         }
-        Ok(())
     }
 }

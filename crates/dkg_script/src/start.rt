@@ -9,6 +9,7 @@ ghost use Rattle.dkg_ceremony.specs.Rounds.{round_of};
 ghost use Rattle.dkg_ceremony.specs.declared.mode.Mode.TheVariants.{NonZeroCounter};
 ghost use Rattle.dkg_ceremony.specs.declared.mode.Reveal.TheVariants.{V1};
 ghost use Rattle.dkg_types.specs.Validation.{validation};
+ghost use Rattle.dkg_script.specs.Scripts.{carried, is_start_of};
 ghost use Rattle.dkg_script.specs.Starts.{Carries, IsStart, Starts, participants_of};
 ghost use Rattle.dkg_types.specs.declared.info.EpochInfo.{EpochInfo};
 ghost use Rattle.dkg_types.specs.declared.directory.Unit.{Unit};
@@ -22,13 +23,15 @@ use std::alloc::Global;
 use std::num::NonZeroU32;
 
 /// The info that a payload carries.
+#[tactic(auto, unfolding(crate::specs::Scripts::carried))]
 fn info_of(alloc: Global, config: &ScriptConfig, payload: &[u8]) -> Mem<Option<EpochInfo<Unit>>>
-    ensures { IfOk result (λ made. IfSome made (λ info. Carries (non_zero_u32_get config.now.limit) config.now.max_mode.0 payload.now info)) }
+    ensures value { IfOk result (λ made. made ≡ carried (non_zero_u32_get config.now.limit) config.now.max_mode.0 payload.now) }
+    ensures carries { IfOk result (λ made. IfSome made (λ info. Carries (non_zero_u32_get config.now.limit) config.now.max_mode.0 payload.now info)) }
 {
     match decode_cfg::<Payload<Unit>>(alloc, payload, &(config.limit, config.max_mode)) {
         Ok(Payload::EpochInfo(info)) => Ok(Some(info)),
         Err(CodecError::NoMemory) => Err(NoMemory),
-        Err(_) => Ok(None),
+        Ok(Payload::DealerLog(_)) | Err(_) => Ok(None),
     }
 }
 
@@ -73,7 +76,8 @@ fn is_start(alloc: Global, config: &ScriptConfig, info: &EpochInfo<Unit>) -> Mem
 
 /// Whether the encoded payload starts the lives.
 pub(crate) fn starts(alloc: Global, config: &ScriptConfig, payload: &[u8]) -> Mem<bool>
-    ensures { IfOk result (λ yes. OnTrue yes (IsStart (non_zero_u32_get config.now.limit) config.now.max_mode.0 config.now.me payload.now)) }
+    ensures value { IfOk result (λ yes. yes ≡ is_start_of (non_zero_u32_get config.now.limit) config.now.max_mode.0 config.now.me payload.now) }
+    ensures start { IfOk result (λ yes. OnTrue yes (IsStart (non_zero_u32_get config.now.limit) config.now.max_mode.0 config.now.me payload.now)) }
 {
     match info_of(alloc, config, payload)? {
         Some(info) => is_start(alloc, config, &info),

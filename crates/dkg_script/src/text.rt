@@ -3,7 +3,7 @@
 //! The printer of a transcript stands on it.
 ghost use Rattle.std.specs.Prelude.{◌≡◌, ℕ, ◌++◌, ◌∷◌, [], ◌<◌, ◌/◌, ◌%◌, List, OnOk, decimal, slice_index};
 ghost use Rattle.hex.specs.Hex.{encode_lower, lower_digits};
-ghost use Rattle.dkg_script.specs.Fields.{hex_text};
+ghost use Rattle.dkg_script.specs.Fields.{bytes_field, hex_text, number_field, word_field};
 
 use bytes::BytesMut;
 use dkg_ceremony::{Mem, Write};
@@ -53,7 +53,7 @@ fn put_digits(written: &mut Vec<u8>, bytes: &[u8]) -> Mem<()>
 
 /// Writes a field that is bytes: a dash, or pairs of lower-case digits.
 fn put_bytes(written: &mut Vec<u8>, bytes: &[u8]) -> Mem<()>
-    ensures { OnOk result (written.new.items ≡ written.old.items ++ 32 ∷ hex_text bytes.now) }
+    ensures { OnOk result (written.new.items ≡ written.old.items ++ bytes_field bytes.now) }
 {
     written.push(b' ')?;
     if bytes.is_empty() {
@@ -87,7 +87,7 @@ impl Text {
 
     /// Writes a field that is a word.
     pub(crate) fn word(&mut self, text: &[u8]) -> Mem<()>
-        ensures { OnOk result (self.new ≡ self.old ++ 32 ∷ text.now) }
+        ensures { OnOk result (self.new ≡ self.old ++ word_field text.now) }
     {
         self.written.push(b' ')?;
         Ok(self.written.extend_from_slice(text)?)
@@ -95,7 +95,7 @@ impl Text {
 
     /// Writes a field that is a number.
     pub(crate) fn number(&mut self, number: u64) -> Mem<()>
-        ensures { OnOk result (self.new ≡ self.old ++ 32 ∷ decimal number) }
+        ensures { OnOk result (self.new ≡ self.old ++ number_field number) }
     {
         let mut buffer = Buffer::new();
         self.written.push(b' ')?;
@@ -107,14 +107,14 @@ impl Text {
 
     /// Writes a field that is bytes: a dash, or pairs of lower-case digits.
     pub(crate) fn bytes(&mut self, bytes: &[u8]) -> Mem<()>
-        ensures { OnOk result (self.new ≡ self.old ++ 32 ∷ hex_text bytes.now) }
+        ensures { OnOk result (self.new ≡ self.old ++ bytes_field bytes.now) }
     {
         put_bytes(&mut self.written, bytes)
     }
 
     /// Writes a field that is a value's spelling.
     pub(crate) fn value<T: Write>(&mut self, value: &T) -> Mem<()>
-        ensures { OnOk result (self.new ≡ self.old ++ 32 ∷ hex_text (T.spelling value.now)) }
+        ensures { OnOk result (self.new ≡ self.old ++ bytes_field (T.spelling value.now)) }
     {
         self.spelled.clear();
         value.put(&mut self.spelled)?;

@@ -1,9 +1,13 @@
 //! The words that stand for what has no fields.
+ghost use Rattle.std.specs.Prelude.{◌≡◌};
+ghost use Rattle.dkg_script.specs.Words.{blocked_text, part_text, phase_text, role_text, verdict_text};
 
 use dkg_ceremony::Phase;
 use dkg_types::{BlockedWhy, Part, Role, Verdict};
 
-pub(crate) fn phase_word(phase: Phase) -> &'static [u8] {
+pub(crate) fn phase_word(phase: Phase) -> &'static [u8]
+    ensures { result.now ≡ phase_text phase }
+{
     match phase {
         Phase::Early => b"early",
         Phase::Midpoint => b"midpoint",
@@ -11,7 +15,9 @@ pub(crate) fn phase_word(phase: Phase) -> &'static [u8] {
     }
 }
 
-pub(crate) fn part_word(part: Part) -> &'static [u8] {
+pub(crate) fn part_word(part: Part) -> &'static [u8]
+    ensures { result.now ≡ part_text part }
+{
     match part {
         Part::Follow => b"follow",
         Part::Player => b"player",
@@ -21,7 +27,9 @@ pub(crate) fn part_word(part: Part) -> &'static [u8] {
     }
 }
 
-pub(crate) fn role_word(role: Role) -> &'static [u8] {
+pub(crate) fn role_word(role: Role) -> &'static [u8]
+    ensures { result.now ≡ role_text role }
+{
     match role {
         Role::Signer => b"signer",
         Role::Member => b"member",
@@ -29,7 +37,9 @@ pub(crate) fn role_word(role: Role) -> &'static [u8] {
     }
 }
 
-pub(crate) fn blocked_word(why: BlockedWhy) -> &'static [u8] {
+pub(crate) fn blocked_word(why: BlockedWhy) -> &'static [u8]
+    ensures { result.now ≡ blocked_text why }
+{
     match why {
         BlockedWhy::Decode => b"decode",
         BlockedWhy::Nonplayer => b"nonplayer",
@@ -48,11 +58,12 @@ pub(crate) fn blocked_word(why: BlockedWhy) -> &'static [u8] {
     }
 }
 
-/// The whole line of a verdict.
-pub(crate) fn verdict_word(verdict: Verdict) -> &'static [u8] {
+pub(crate) fn verdict_word(verdict: Verdict) -> &'static [u8]
+    ensures { result.now ≡ verdict_text verdict }
+{
     match verdict {
-        Verdict::Accept => b"verdict accept",
-        Verdict::Reject => b"verdict reject",
-        Verdict::Unresolved => b"verdict unresolved",
+        Verdict::Accept => b"accept",
+        Verdict::Reject => b"reject",
+        Verdict::Unresolved => b"unresolved",
     }
 }

@@ -1,10 +1,16 @@
-use Rattle.std.proofs.Common.{◌≡◌, ◌-◌, ◌≤◌, length}
+use Rattle.std.proofs.Common.{◌≡◌, ℕ, ◌≤◌, length}
 use Rattle.std.specs.List.{AllByRecursion}
 use Rattle.dkg_script.specs.Form.{IsPeer}
+use Rattle.dkg_script.specs.Scripts.{behind, events_at, events_of}
 use Rattle.dkg_script.proofs.read.read_events.Given as goal
 
 abbrev pub invariant-events : goal.invariant-events
-invariant-events l = (l.lines.text.now ≡ l.initial.lines.text.now) × (l.initial.lines.place ≤ l.lines.place) × AllByRecursion IsPeer l.events.items
+invariant-events l = record {
+  at : (most : ℕ) × (length l.lines.rest.now ≤ most) × (behind l.events.items (events_at most l.lines.rest.now) ≡ events_of l.initial.lines.rest.now);
+  on : length l.lines.rest.now ≤ length l.initial.lines.rest.now;
+  size : l.lines.size ≡ l.initial.lines.size;
+  peers : AllByRecursion IsPeer l.events.items;
+}
 
 abbrev pub decreases-events : goal.decreases-events
-decreases-events l = length l.lines.text.now - l.lines.place
+decreases-events l = length l.lines.rest.now
