@@ -3,9 +3,7 @@
 //! Its exit status is the number of the command's status.
 #![tactic(auto)]
 
-use dkg_journal::MemoryDisk;
-use dkg_run::{Status, StdSink, StdSource, run_command};
-use dkg_store::MemorySecrets;
+use dkg_run::{Status, StdSink, StdSource, fresh_devices, run_command};
 use dkg_types::Transcript;
 use dkg_values::{Mem, NoMemory};
 use std::process::ExitCode;
@@ -24,7 +22,6 @@ fn words<R: env::Env + AllocGlobal>(rt: &R) -> Mem<Vec<String>> {
     }
 }
 
-#[tactic(auto, using(dkg_run::proofs::Today::empty_today))]
 fn main(rt: HostRuntime) -> ExitCode {
     let alloc = rt.alloc();
     let Ok(words) = words(&rt) else {
@@ -32,8 +29,7 @@ fn main(rt: HostRuntime) -> ExitCode {
     };
     let mut source = StdSource::new(rt.reader());
     let mut sink = StdSink::new(io::writer(&rt));
-    let mut disk = MemoryDisk::new(alloc);
-    let mut secrets = MemorySecrets::new(alloc);
+    let (mut disk, mut secrets) = fresh_devices(alloc);
     let mut out = Transcript::new(alloc);
     let status = run_command(
         alloc,

@@ -2,7 +2,7 @@
 ghost use Rattle.std.specs.Prelude.{◌≡◌, OnOk, IsTrue};
 ghost use Rattle.dkg_journal.specs.Disk.{Lands};
 ghost use Rattle.dkg_journal.specs.Operations.{journaled, after_operation, Appends};
-ghost use Rattle.dkg_journal.specs.Steps.{IsOpenAt};
+ghost use Rattle.dkg_journal.specs.Journals.{IsOpen};
 
 use dkg_journal::{Disk, Fuse, Journal, JournalError};
 use std::alloc::Global;
@@ -17,7 +17,7 @@ pub fn append_two<D: Disk>(
     first: &[u8],
     second: &[u8],
 ) -> Result<(), JournalError>
-    requires open { IsTrue D.tells → IsOpenAt journal.old.place (D.files disk.old) (D.image disk.old) }
+    requires open { IsTrue D.tells → IsOpen journal.old (D.files disk.old) (D.image disk.old) }
     requires settled { IsTrue D.tells → Lands (D.files disk.old) (D.image disk.old) }
     ensures both { OnOk result (IsTrue D.tells → journaled (D.files disk.new) ≡ after_operation (Appends (section, second.now)) (after_operation (Appends (section, first.now)) (journaled (D.files disk.old)))) }
     ensures settled { OnOk result (IsTrue D.tells → Lands (D.files disk.new) (D.image disk.new)) }

@@ -1,5 +1,5 @@
 -- What leaves every file but the journal's alone makes no segment.
-use Rattle.std.proofs.Common.{◌≡◌, ◌≢◌, ℕ, List, [], Option, Some, None, refl, sym, subst, ◌∙◌}
+use Rattle.std.proofs.Common.{◌≡◌, ℕ, List, [], Option, Some, None, refl, sym, subst, ◌∙◌}
 use Rattle.std.specs.FinMap.{get}
 use Rattle.dkg_values.specs.declared.name.Name.TheVariants.{Flat, Segment}
 use Rattle.dkg_journal.specs.Names.{Files}
@@ -18,7 +18,7 @@ keeps_today old new follows is = record { each = λ c here. let from = follows.e
 pub others_today : (old new : Files → Type 0) → Follows (SameElse Flat) old new → IsToday old → IsToday new
 others_today old new follows is = record { each = λ c here. let from = follows.each c here in form_kept from.0 c from.2 (is.each from.0 from.1) }
 
-none_there : (file : Option (List ℕ)) → MatchFile None file → file ≡ None
+pub none_there : (file : Option (List ℕ)) → MatchFile None file → file ≡ None
 none_there None here = refl
 none_there (Some bytes) here = absurd here
 

@@ -1,8 +1,12 @@
--- What a command's words name, and how its statuses come.
-use Rattle.std.specs.Prelude.{◌≡◌, ◌⊎◌}
+-- How a status is told: its text is written, and the command answers it.
+use Rattle.std.specs.Prelude.{ℕ, List, ◌≡◌, ◌<◌, ◌++◌, ◌⊎◌, length}
+use Rattle.dkg_run.specs.Outside.{HoldsFront}
 use Rattle.dkg_run.specs.declared.command.Status.{Status}
 use Rattle.dkg_run.specs.declared.command.Status.TheVariants.{WriteFault, NoMemory}
 
--- the status itself, or that of a write that failed or found no memory
-abbrev pub IsToldAs : Status → Status → Type 0
-IsToldAs status result = (result ≡ status) ⊎ ((result ≡ WriteFault) ⊎ (result ≡ NoMemory))
+-- The status is answered, and all its text was written; or a write failed, and a front of it was; or there was no memory for the
+-- text, and nothing was. (`old` and `new` are what the sink held and holds, where it tells.)
+abbrev pub IsTold : (status result : Status) (text : List ℕ) (Tells : Type 0) (old new : List ℕ) → Type 0
+IsTold status result text Tells old new =
+    ((result ≡ status) × (Tells → new ≡ old ++ text))
+    ⊎ (((result ≡ WriteFault) × (0 < length text) × (Tells → HoldsFront text old new)) ⊎ ((result ≡ NoMemory) × (Tells → new ≡ old)))

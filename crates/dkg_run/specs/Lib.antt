@@ -1,4 +1,10 @@
+pub mod Carried
 pub mod Command
 pub mod Devices
+pub mod Fresh
+pub mod Opened
 pub mod Outside
 pub mod Reports
+pub mod Standing
+pub mod Stops
+pub mod Told

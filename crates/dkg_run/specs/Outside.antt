@@ -1,5 +1,5 @@
 -- What reads of a source take, and what writes to a sink leave there.
-use Rattle.std.specs.Prelude.{◌≡◌, ◌<◌, ◌++◌, ℕ, List, [], length, take}
+use Rattle.std.specs.Prelude.{◌≡◌, ◌<◌, ◌≤◌, ◌++◌, ℕ, List, [], length, take}
 
 -- these bytes were taken from the front of what was left
 pub record Took (bytes old new : List ℕ) : Type 0 where
@@ -27,6 +27,12 @@ pub record HoldsFront (bytes old new : List ℕ) : Type 0 where
   pub rest : List ℕ
   pub parts : bytes ≡ front ++ rest
   pub held : new ≡ old ++ front
+
+-- at most this many bytes were taken
+pub record TookFew (most : ℕ) (old new : List ℕ) : Type 0 where
+  pub bytes : List ℕ
+  pub parts : old ≡ bytes ++ new
+  pub few : length bytes ≤ most
 
 -- a front of these bytes stands behind what was held, and the others are the rest
 pub record Rest (bytes rest old new : List ℕ) : Type 0 where

@@ -1,11 +1,35 @@
--- How a command ends, by the status that it reports: how the entries end, what was read and run, and what was written.
-use Rattle.std.specs.Prelude.{ℕ, List, [], ◌++◌, ◌≡◌, ◌⊎◌, ⊤, Option, IsSomeAnd}
+-- How a command ends, by its status: how the entries end, what was read and run, and what there is to write.
+use Rattle.std.specs.Prelude.{ℕ, List, [], ◌∷◌, ◌++◌, ◌≡◌, ◌≤◌, ◌⊎◌, Some, None, codes, length}
+use Rattle.dkg_journal.specs.Names.{Files}
+use Rattle.dkg_store.specs.Secrets.{Secrets}
 use Rattle.dkg_types.specs.declared.entry.Entry.{Entry}
+use Rattle.dkg_types.specs.declared.fault.Fault.{Fault}
+use Rattle.dkg_types.specs.declared.fault.Fault.TheVariants as fault
 use Rattle.dkg_script.specs.declared.script.Script.{Script}
 use Rattle.dkg_script.specs.Ends.{EndsWell, EndsInFault, EndsByCause, EndsByDevice, IsNodeFault}
-use Rattle.dkg_script.specs.Promise.{Ran, RanAll, RanNothing, Refused}
+use Rattle.dkg_script.specs.Form.{IsFormOfToday}
+use Rattle.dkg_script.specs.Promise.{RunsInOrder, RunsAll, KeepsDealings, AnswersDealings}
+use Rattle.dkg_script.specs.Scripts.{script_of}
+use Rattle.dkg_script.specs.Setting.{setting_of}
+use Rattle.dkg_run.specs.Outside.{TookAll}
 use Rattle.dkg_run.specs.declared.command.Status.{Status}
 use Rattle.dkg_run.specs.declared.command.Status.TheVariants as status
+
+-- the status of a run that a fault ended
+abbrev pub fault_status : Fault → Status
+fault_status fault.NoMemory = status.NoMemory
+fault_status fault.Disk = status.Device
+fault_status fault.Secrets = status.Device
+fault_status other = status.Fault other
+
+-- the last line that is written for a status, where it has one
+abbrev pub last_of : Status → List ℕ
+last_of status.Done = codes "done" ++ 10 ∷ []
+last_of status.Usage = codes "usage" ++ 10 ∷ []
+last_of status.Unsupported = codes "unsupported" ++ 10 ∷ []
+last_of _ = []
+
+-- HOW THE ENTRIES END
 
 -- the entries by the status, whatever the source and the devices tell (each count's rise is handed in as a fact)
 abbrev pub Ends : Status → List Entry → (disk_rose secrets_rose : Type 0) → Type 0
@@ -19,41 +43,62 @@ Ends status.TooLong entries disk_rose secrets_rose = entries ≡ []
 Ends status.Usage entries disk_rose secrets_rose = ⊥
 Ends status.WriteFault entries disk_rose secrets_rose = ⊥
 
--- a status of which something is written
-abbrev pub IsWritten : Status → Type 0
-IsWritten status.ReadFault = ⊥
-IsWritten status.TooLong = ⊥
-IsWritten _ = ⊤
+-- WHAT WAS READ AND RUN
 
--- P of the status that the call answers or, where the writing failed, of the one that it was to answer
-abbrev pub Reports : Status → (Status → Type 0) → Type 0
-Reports result P = (reported : Status) × ((result ≡ reported) ⊎ ((result ≡ status.WriteFault) × IsWritten reported)) × P reported
+-- The source was read to its end, and a script may be so long. (Where the source tells, these bytes are what it had left.)
+pub record Reads (Tells : Type 0) (old new bytes : List ℕ) : Type 0 where
+  pub all : Tells → TookAll bytes old new
+  pub not_too_long : length bytes ≤ 16777216
 
--- What the words `run` did, by the status that is reported. `script` is the one that the bytes spell; `Keeps` and `Answers` say
--- what a run keeps and answers where the devices tell what they hold, and `Untouched` that no device was called.
-abbrev pub Runs : Status → (script : Option Script) → (bytes rest : List ℕ) → (Untouched : Type 0) → (Keeps Answers : Script → Type 0) → List Entry → Type 0
-Runs status.Done script bytes rest Untouched Keeps Answers entries = IsSomeAnd script (RanAll bytes rest Keeps Answers entries)
-Runs (status.Fault fault) script bytes rest Untouched Keeps Answers entries = IsSomeAnd script (Ran bytes rest Keeps entries)
-Runs status.Device script bytes rest Untouched Keeps Answers entries = IsSomeAnd script (Ran bytes rest Keeps entries)
-Runs status.Unsupported script bytes rest Untouched Keeps Answers entries = Refused script bytes rest Untouched entries
-Runs status.NoMemory script bytes rest Untouched Keeps Answers entries = RanNothing Untouched entries ⊎ IsSomeAnd script (Ran bytes rest Keeps entries)
-Runs status.ReadFault script bytes rest Untouched Keeps Answers entries = RanNothing Untouched entries
-Runs status.TooLong script bytes rest Untouched Keeps Answers entries = RanNothing Untouched entries
-Runs status.Usage script bytes rest Untouched Keeps Answers entries = ⊥
-Runs status.WriteFault script bytes rest Untouched Keeps Answers entries = ⊥
+-- where the devices tell: the transcript and the devices keep each recorded dealing
+abbrev pub Keeps : (Tells : Type 0) → Files → Secrets → (image now : Files → Type 0) → (held : Secrets) → Script → List Entry → Type 0
+Keeps Tells files secrets image now held script entries = Tells → KeepsDealings (setting_of script files secrets) image now held entries
 
--- All that is to be written: the lines of the entries, and the status's last line where it has one.
-abbrev pub text_of : Status → (lines last : List ℕ) → List ℕ
-text_of status.Done lines last = lines ++ last
-text_of (status.Fault fault) lines last = lines
-text_of status.Device lines last = lines
-text_of status.NoMemory lines last = lines
-text_of status.Unsupported lines last = last
-text_of status.Usage lines last = last
-text_of _ lines last = []
+-- .. and each dealing that was due was acknowledged
+abbrev pub Answers : (Tells : Type 0) → Files → Secrets → (image : Files → Type 0) → Script → List Entry → Type 0
+Answers Tells files secrets image script entries = Tells → AnswersDealings (setting_of script files secrets) image entries
 
--- What the sink took of it, by what the call answers: all, or a front of it where the writing failed or memory ran out.
-abbrev pub Writes : Status → (all written : List ℕ) → Type 0
-Writes status.NoMemory all written = (more : List ℕ) × (all ≡ written ++ more)
-Writes status.WriteFault all written = (more : List ℕ) × (all ≡ written ++ more)
-Writes _ all written = written ≡ all
+-- A script was read, and it was run. (`Gave` says that the source gave these bytes to its end; `Kept` says what a run keeps.)
+pub record Ran (Gave : List ℕ → Type 0) (Kept : Script → List Entry → Type 0) (entries : List Entry) : Type 0 where
+  pub bytes : List ℕ
+  pub gave : Gave bytes
+  pub script : Script
+  pub spells : script_of bytes ≡ Some script
+  pub form : IsFormOfToday script
+  pub in_order : RunsInOrder script entries
+  pub kept : Kept script entries
+
+-- .. and every life was run
+pub record RanAll (Gave : List ℕ → Type 0) (Kept Answered : Script → List Entry → Type 0) (entries : List Entry) : Type 0 where
+  pub ran : Ran Gave Kept entries
+  pub all : RunsAll ran.script entries
+  pub answered : Answered ran.script entries
+
+-- no entry was written, and no device was called
+pub record RanNothing (Untouched : Type 0) (entries : List Entry) : Type 0 where
+  pub no_entry : entries ≡ []
+  pub untouched : Untouched
+
+-- Something else was read.
+pub record Refused (Gave : List ℕ → Type 0) (Untouched : Type 0) (entries : List Entry) : Type 0 where
+  pub bytes : List ℕ
+  pub gave : Gave bytes
+  pub no_script : script_of bytes ≡ None
+  pub nothing : RanNothing Untouched entries
+
+-- by the status (`Untouched` says that no device was called)
+abbrev pub Runs : Status → (Gave : List ℕ → Type 0) → (Untouched : Type 0) → (Kept Answered : Script → List Entry → Type 0) → List Entry → Type 0
+Runs status.Done Gave Untouched Kept Answered entries = RanAll Gave Kept Answered entries
+Runs (status.Fault fault) Gave Untouched Kept Answered entries = Ran Gave Kept entries
+Runs status.Device Gave Untouched Kept Answered entries = Ran Gave Kept entries
+Runs status.NoMemory Gave Untouched Kept Answered entries = RanNothing Untouched entries ⊎ Ran Gave Kept entries
+Runs status.Unsupported Gave Untouched Kept Answered entries = Refused Gave Untouched entries
+Runs status.ReadFault Gave Untouched Kept Answered entries = RanNothing Untouched entries
+Runs status.TooLong Gave Untouched Kept Answered entries = RanNothing Untouched entries
+Runs status.Usage Gave Untouched Kept Answered entries = ⊥
+Runs status.WriteFault Gave Untouched Kept Answered entries = ⊥
+
+-- how the words `run` ended, with these new entries
+pub record EndsAs (disk_rose secrets_rose : Type 0) (Gave : List ℕ → Type 0) (Untouched : Type 0) (Kept Answered : Script → List Entry → Type 0) (status : Status) (entries : List Entry) : Type 0 where
+  pub ends : Ends status entries disk_rose secrets_rose
+  pub runs : Runs status Gave Untouched Kept Answered entries

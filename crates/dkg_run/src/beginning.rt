@@ -1,9 +1,12 @@
 //! What all lives of a script begin with: who the node is, and the info that the first epoch's boundary block carries.
 
-ghost use Rattle.std.specs.Prelude.{◌≤◌, ◌^◌};
+ghost use Rattle.std.specs.Prelude.{◌≡◌, ◌≤◌, ◌^◌, IfOk, option_and_then, slice_get, false};
 ghost use Rattle.std.specs.Int.NonZero.{non_zero_u32_get};
+ghost use Rattle.dkg_types.specs.PayloadCodes.{its_info};
+ghost use Rattle.dkg_run.specs.Opened.{AreOfScript, unit_info_in, unit_info_of, unit_payload_in};
 
-use dkg_ceremony::{Blob, CodecError, Key, Mem, Mode, NoMemory, Value, decode_cfg};
+use crate::decoded::decoded;
+use dkg_ceremony::{Blob, Key, Mem, Mode, Value, decode_cfg};
 use dkg_script::{BlockLine, Script, ScriptConfig};
 use dkg_types::{EpochInfo, Payload, Unit};
 use std::alloc::Global;
@@ -20,16 +23,51 @@ pub struct Beginning {
     ghost few: { non_zero_u32_get limit ≤ 2 ^ 30 },
 }
 
-/// The info that a block line carries.
-fn info_of(alloc: Global, config: &ScriptConfig, line: &BlockLine) -> Mem<Option<EpochInfo<Unit>>> {
-    let Some(payload) = &line.payload else {
-        return Ok(None);
-    };
+/// The payload that bytes spell, if they spell one.
+fn payload_in(alloc: Global, config: &ScriptConfig, bytes: &[u8]) -> Mem<Option<Payload<Unit>>>
+    ensures { IfOk result (λ payload. payload ≡ unit_payload_in (record { most = non_zero_u32_get config.now.limit; version = config.now.max_mode.0; addressed = false }) bytes.now) }
+{
     let limits = (config.limit, config.max_mode);
-    match decode_cfg::<Payload<Unit>>(alloc, payload.as_slice(), &limits) {
-        Ok(Payload::EpochInfo(info)) => Ok(Some(info)),
-        Err(CodecError::NoMemory) => Err(NoMemory),
-        Err(_) => Ok(None),
+    decoded(decode_cfg::<Payload<Unit>>(alloc, bytes, &limits))
+}
+
+/// The info that a payload is, unless it is a log.
+fn info_from(payload: Payload<Unit>) -> Option<EpochInfo<Unit>>
+    ensures { result ≡ its_info payload }
+{
+    match payload {
+        Payload::DealerLog(_) => None,
+        Payload::EpochInfo(info) => Some(info),
+    }
+}
+
+/// The info that bytes spell.
+fn info_in(alloc: Global, config: &ScriptConfig, bytes: &[u8]) -> Mem<Option<EpochInfo<Unit>>>
+    ensures { IfOk result (λ info. info ≡ unit_info_in (record { most = non_zero_u32_get config.now.limit; version = config.now.max_mode.0; addressed = false }) bytes.now) }
+{
+    match payload_in(alloc, config, bytes)? {
+        Some(payload) => Ok(info_from(payload)),
+        None => Ok(None),
+    }
+}
+
+/// The info that a block line carries.
+fn info_of(alloc: Global, config: &ScriptConfig, line: &BlockLine) -> Mem<Option<EpochInfo<Unit>>>
+    ensures { IfOk result (λ info. info ≡ unit_info_of (record { most = non_zero_u32_get config.now.limit; version = config.now.max_mode.0; addressed = false }) line.now) }
+{
+    match &line.payload {
+        None => Ok(None),
+        Some(payload) => info_in(alloc, config, payload.as_slice()),
+    }
+}
+
+/// The info that the first block line carries.
+fn first_info(alloc: Global, script: &Script) -> Mem<Option<EpochInfo<Unit>>>
+    ensures { IfOk result (λ info. info ≡ option_and_then (unit_info_of (record { most = non_zero_u32_get script.now.config.limit; version = script.now.config.max_mode.0; addressed = false })) (slice_get script.now.blocks 0)) }
+{
+    match script.blocks.as_slice().first() {
+        Some(line) => info_of(alloc, &script.config, line),
+        None => Ok(None),
     }
 }
 
@@ -37,12 +75,10 @@ impl Beginning {
     /// Reads what a script's lives begin with.
     pub fn of(alloc: Global, script: &Script) -> Mem<Beginning>
         requires { non_zero_u32_get script.now.config.limit ≤ 2 ^ 30 }
+        ensures { IfOk result (λ b. AreOfScript script.now b.me (non_zero_u32_get b.limit) b.mode b.namespace b.info) }
     {
         let config = &script.config;
-        let info = match script.blocks.as_slice() {
-            [] => None,
-            [first, ..] => info_of(alloc, config, first)?,
-        };
+        let info = first_info(alloc, script)?;
         Ok(Beginning {
             me: config.me,
             limit: config.limit,

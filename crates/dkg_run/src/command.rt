@@ -1,9 +1,12 @@
 //! The top call: it reads a script, runs its lives, and writes their transcript.
-ghost use Rattle.std.specs.Prelude.{◌≡◌, ◌≢◌, ◌≤◌, ◌↔◌, [], ◌∷◌, map, codes, string_bytes, IsTrue};
+ghost use Rattle.std.specs.Prelude.{◌≡◌, ◌≢◌, ◌↔◌, ◌⊎◌, ◌++◌, [], ◌∷◌, map, codes, string_bytes, IsTrue, IfOk, drop};
 ghost use Rattle.dkg_journal.specs.Disk.{Rose};
-ghost use Rattle.dkg_run.specs.Command.{IsToldAs};
+ghost use Rattle.dkg_script.specs.Printing.{lines_of};
+ghost use Rattle.dkg_script.specs.Promise.{Adds};
+ghost use Rattle.dkg_run.specs.Command.{IsTold};
 ghost use Rattle.dkg_run.specs.Devices.{IsToday};
-ghost use Rattle.dkg_run.specs.Outside.{TookMore, HoldsFront};
+ghost use Rattle.dkg_run.specs.Outside.{TookFew, TookMore};
+ghost use Rattle.dkg_run.specs.Reports.{Answers, EndsAs, Keeps, Reads, fault_status, last_of};
 
 use crate::lives::run_lives;
 use crate::sink::Sink;
@@ -56,7 +59,9 @@ impl Status {
     }
 
     /// The last line that is written for the status, where it has one.
-    fn last_line(&self) -> &'static str {
+    fn last_line(&self) -> &'static str
+        ensures { result.now ≡ last_of self.now }
+    {
         match self {
             Status::Done => "done\n",
             Status::Usage => "usage\n",
@@ -84,10 +89,7 @@ fn is_run(words: &[String]) -> bool
 
 /// The status of a run that a fault ended.
 fn status_of(fault: Fault) -> Status
-    ensures not_usage { result ≢ Status.Usage }
-    ensures not_read { result ≢ Status.ReadFault }
-    ensures not_long { result ≢ Status.TooLong }
-    ensures not_write { result ≢ Status.WriteFault }
+    ensures { result ≡ fault_status fault }
 {
     match fault {
         Fault::NoMemory => Status::NoMemory,
@@ -108,8 +110,8 @@ fn run<S: Source, D: Disk, X: SecretStore>(
     ensures today { IsTrue D.tells → IsToday (D.image disk.new) }
     ensures read_fault { result ≡ Status.ReadFault → Rose (S.faults source.old) (S.faults source.new) }
     ensures too_long { result ≡ Status.TooLong → IsTrue S.tells → TookMore 16777216 (S.left source.old) (S.left source.new) }
-    ensures not_usage { result ≢ Status.Usage }
-    ensures not_write { result ≢ Status.WriteFault }
+    ensures few { result ≡ Status.ReadFault → IsTrue S.tells → TookFew 16777216 (S.left source.old) (S.left source.new) }
+    ensures ends { Adds out.old.entries out.new.entries (EndsAs (Rose (D.faults disk.old) (D.faults disk.new)) (Rose (X.faults secrets.old) (X.faults secrets.new)) (Reads (IsTrue S.tells) (S.left source.old) (S.left source.new)) ((disk.new ≡ disk.old) × (secrets.new ≡ secrets.old)) (Keeps (IsTrue D.tells × IsTrue X.tells) (D.files disk.old) (X.held secrets.old) (D.image disk.old) (D.image disk.new) (X.held secrets.new)) (Answers (IsTrue D.tells × IsTrue X.tells) (D.files disk.old) (X.held secrets.old) (D.image disk.old)) result) }
 {
     let bytes = match read_all(alloc, source) {
         Ok(bytes) => bytes,
@@ -130,7 +132,9 @@ fn run<S: Source, D: Disk, X: SecretStore>(
 }
 
 /// The lines of the new entries, and the status's last line.
-fn text_of(alloc: Global, entries: &[Entry], status: &Status) -> Mem<Vec<u8>> {
+fn text_of(alloc: Global, entries: &[Entry], status: &Status) -> Mem<Vec<u8>>
+    ensures { IfOk result (λ text. text.items ≡ lines_of entries.now ++ last_of status.now) }
+{
     let mut text = print_of(alloc, entries)?;
     text.extend_from_slice(status.last_line().as_bytes())?;
     Ok(text)
@@ -138,9 +142,9 @@ fn text_of(alloc: Global, entries: &[Entry], status: &Status) -> Mem<Vec<u8>> {
 
 /// Writes what a status has to say: the new entries' lines, and its last line.
 fn report<K: Sink>(alloc: Global, sink: &mut K, entries: &[Entry], status: Status) -> Status
-    requires { status ≢ Status.WriteFault }
-    ensures told { IsToldAs status result }
-    ensures write_fault { result ≡ Status.WriteFault → Rose (K.faults sink.old) (K.faults sink.new) }
+    ensures told { IsTold status result (lines_of entries.now ++ last_of status) (IsTrue K.tells) (K.held sink.old) (K.held sink.new) }
+    ensures none { (lines_of entries.now ++ last_of status ≡ []) → sink.new ≡ sink.old }
+    ensures write_fault { status ≢ Status.WriteFault → result ≡ Status.WriteFault → Rose (K.faults sink.old) (K.faults sink.new) }
 {
     let Ok(text) = text_of(alloc, entries, &status) else {
         return Status::NoMemory;
@@ -152,7 +156,9 @@ fn report<K: Sink>(alloc: Global, sink: &mut K, entries: &[Entry], status: Statu
 }
 
 /// The entries of a transcript from a place on.
-fn entries_from(out: &Transcript, place: usize) -> &[Entry] {
+fn entries_from(out: &Transcript, place: usize) -> &[Entry]
+    ensures { result.now ≡ drop place out.now.entries }
+{
     out.entries().get(place..).unwrap_or(&[])
 }
 
@@ -170,18 +176,23 @@ pub fn run_command<S: Source, K: Sink, D: Disk, X: SecretStore>(
     requires { IsTrue D.tells → IsToday (D.image disk.old) }
     ensures today { IsTrue D.tells → IsToday (D.image disk.new) }
     // Other words read and run nothing.
-    ensures usage { (map string_bytes words.now ≢ codes "run" ∷ []) → IsToldAs Status.Usage result × (source.new ≡ source.old) × (disk.new ≡ disk.old) × (secrets.new ≡ secrets.old) × (out.new ≡ out.old) }
+    ensures usage { (map string_bytes words.now ≢ codes "run" ∷ []) → IsTold Status.Usage result (last_of Status.Usage) (IsTrue K.tells) (K.held sink.old) (K.held sink.new) × (source.new ≡ source.old) × (disk.new ≡ disk.old) × (secrets.new ≡ secrets.old) × (out.new ≡ out.old) }
     ensures only_usage { result ≡ Status.Usage → map string_bytes words.now ≢ codes "run" ∷ [] }
+    // However the words `run` end, the new entries, the devices and what was read are as the status says, and the sink took the lines
+    // of the entries and the status's last line: all, or a front where a write failed, or nothing where there was no memory for them.
+    ensures run { (map string_bytes words.now ≡ codes "run" ∷ []) → Adds out.old.entries out.new.entries (λ entries. (status : Status) × EndsAs (Rose (D.faults disk.old) (D.faults disk.new)) (Rose (X.faults secrets.old) (X.faults secrets.new)) (Reads (IsTrue S.tells) (S.left source.old) (S.left source.new)) ((disk.new ≡ disk.old) × (secrets.new ≡ secrets.old)) (Keeps (IsTrue D.tells × IsTrue X.tells) (D.files disk.old) (X.held secrets.old) (D.image disk.old) (D.image disk.new) (X.held secrets.new)) (Answers (IsTrue D.tells × IsTrue X.tells) (D.files disk.old) (X.held secrets.old) (D.image disk.old)) status entries × IsTold status result (lines_of entries ++ last_of status) (IsTrue K.tells) (K.held sink.old) (K.held sink.new)) }
+    ensures silent { (result ≡ Status.ReadFault) ⊎ (result ≡ Status.TooLong) → sink.new ≡ sink.old }
     // The causes of what the outside's statuses tell.
     ensures read_fault { result ≡ Status.ReadFault → Rose (S.faults source.old) (S.faults source.new) }
+    ensures device { result ≡ Status.Device → Rose (D.faults disk.old) (D.faults disk.new) ⊎ Rose (X.faults secrets.old) (X.faults secrets.new) }
     ensures write_fault { result ≡ Status.WriteFault → Rose (K.faults sink.old) (K.faults sink.new) }
     ensures too_long { result ≡ Status.TooLong → IsTrue S.tells → TookMore 16777216 (S.left source.old) (S.left source.new) }
+    ensures few { result ≡ Status.ReadFault → IsTrue S.tells → TookFew 16777216 (S.left source.old) (S.left source.new) }
 {
+    if !is_run(words) {
+        return report(alloc, sink, &[], Status::Usage);
+    }
     let before = out.entries().len();
-    let status = if is_run(words) {
-        run(alloc, source, disk, secrets, out)
-    } else {
-        Status::Usage
-    };
+    let status = run(alloc, source, disk, secrets, out);
     report(alloc, sink, entries_from(out, before), status)
 }

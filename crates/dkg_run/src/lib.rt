@@ -6,7 +6,9 @@
 mod beginning;
 mod calls;
 mod command;
+mod decoded;
 mod lives;
+mod memory;
 mod node;
 mod sink;
 mod source;
@@ -16,6 +18,7 @@ mod transfer;
 
 pub use command::{Status, run_command};
 pub use lives::run_lives;
+pub use memory::fresh_devices;
 pub use sink::{MemorySink, Sink, SureSink};
 pub use source::{Failed, MemorySource, Source, SureSource};
 pub use standard::{StdSink, StdSource};

@@ -2,10 +2,25 @@
 //!
 //! A life's opening is its step 0, and each event is one step more. A step that the script cuts ends its life, and any
 //! other life ends by its stop. Either way both devices crash.
-ghost use Rattle.std.specs.Prelude.{◌≡◌, OnOk, IfOk, IfSome, Contains, IsTrue};
+ghost use Rattle.std.specs.Prelude.{◌≡◌, ◌⊎◌, ◌<◌, ◌≤◌, ◌+◌, ◌++◌, ◌∷◌, [], ℕ, OnOk, OnErr, IfOk, IfErr, IfSome, IfNone, IsSome, IsErrOf, Contains, IsTrue, length, Some, None, ⊤};
 ghost use Rattle.std.specs.List.{AllByRecursion};
+ghost use Rattle.dkg_ceremony.specs.Acks.{ack_of};
+ghost use Rattle.dkg_store.specs.Player.{IsPlayerOf};
+ghost use Rattle.dkg_journal.specs.Disk.{Rose};
+ghost use Rattle.dkg_journal.specs.Names.{Files};
+ghost use Rattle.dkg_store.specs.Pairs.{Holds};
+ghost use Rattle.dkg_script.specs.Ends.{EndsRun};
 ghost use Rattle.dkg_script.specs.Form.{IsPeer, IsLifeOfToday, IsFormOfToday};
+ghost use Rattle.dkg_script.specs.Order.{IsInOrder};
+ghost use Rattle.dkg_script.specs.Position.{event_of_step};
+ghost use Rattle.dkg_script.specs.Promise.{Adds, RunsInOrder, RunsAll, KeepsDealings, AnswersDealings};
+ghost use Rattle.dkg_script.specs.Setting.{setting_of};
+ghost use Rattle.dkg_run.specs.Carried.{CarriesIn, IsCrash, IsDurableAt, IsKeptEntry, IsSaved, OfPeer, Rests, RestsFor};
 ghost use Rattle.dkg_run.specs.Devices.{IsToday, IsReady};
+ghost use Rattle.dkg_run.specs.Stops.{IsCaused};
+ghost use Rattle.dkg_run.specs.Told.{Answers, AreValid, HoldsAtMost, brought_in, seat_in};
+ghost use Rattle.dkg_run.specs.Standing.{AddsQuiet, AddsOpening, IsCutBefore, IsCutWithin, Moves, MayTell, TellsFault, IsBetween, IsBetweenOf, IsBefore, IsStopped, IsBehind, Both};
+ghost use Rattle.dkg_run.specs.declared.stop.Stop.TheVariants.{Cut as AtCut};
 
 use crate::beginning::Beginning;
 use crate::node::Node;
@@ -18,7 +33,10 @@ use dkg_types::{Entry, Fault, Transcript};
 use std::alloc::Global;
 
 /// The fuse of a step, or none where the life ends before it.
-fn fuse_of(cut: &Option<Cut>, step: u64) -> Option<Fuse> {
+fn fuse_of(cut: &Option<Cut>, step: u64) -> Option<Fuse>
+    ensures some { IfSome result (λ _. IsCutBefore cut.now step → ⊥) }
+    ensures none { IfNone result (IsCutBefore cut.now step) }
+{
     match cut {
         Some(cut) if cut.step == step => {
             if cut.call == 0 {
@@ -38,8 +56,11 @@ fn begin_step<D: Disk, X: SecretStore>(
     step: u64,
 ) -> Result<(), Stop>
     ensures disk { devices.new.disk.now ≡ devices.old.disk.now }
+    ensures secrets { devices.new.secrets.now ≡ devices.old.secrets.now }
     ensures same_disk { devices.new.disk.ghost_name ≡ devices.old.disk.ghost_name }
     ensures same_secrets { devices.new.secrets.ghost_name ≡ devices.old.secrets.ghost_name }
+    ensures begins { OnOk result (IsCutBefore cut.now step → ⊥) }
+    ensures ends { IfErr result (λ stop. (stop ≡ AtCut) × IsCutBefore cut.now step) }
 {
     match fuse_of(cut, step) {
         Some(fuse) => {
@@ -60,17 +81,100 @@ fn step<D: Disk, X: SecretStore>(
 ) -> Result<(), Stop>
     requires peer { IsPeer event.now }
     requires plays { IfSome node.old.player (λ p. Contains p.round.players p.me) }
+    requires answers { IfSome node.old.player (λ p. IsPlayerOf ack_of p.me p.round p.acks node.old.store.dealings 0) }
+    requires valid { IfSome (seat_in node.old.player) (λ seat. AreValid seat node.old.store.dealings) }
     requires ready { IsTrue D.tells → IsReady node.old.store.journal.place (D.files devices.old.disk.now) (D.image devices.old.disk.now) }
     ensures plays { IfSome node.new.player (λ p. Contains p.round.players p.me) }
+    ensures answers { IfSome node.new.player (λ p. IsPlayerOf ack_of p.me p.round p.acks node.new.store.dealings 0) }
+    ensures valid { IfSome (seat_in node.new.player) (λ seat. AreValid seat node.new.store.dealings) }
+    ensures seat { seat_in node.new.player ≡ seat_in node.old.player }
+    ensures limit { node.new.limit ≡ node.old.limit }
     ensures ready { OnOk result (IsTrue D.tells → IsReady node.new.store.journal.place (D.files devices.new.disk.now) (D.image devices.new.disk.now)) }
     ensures today { IsTrue D.tells → IsToday (D.image devices.new.disk.now) }
     ensures same_disk { devices.new.disk.ghost_name ≡ devices.old.disk.ghost_name }
     ensures same_secrets { devices.new.secrets.ghost_name ≡ devices.old.secrets.ghost_name }
+    ensures quiet { AddsQuiet out.old.entries out.new.entries }
+    ensures told { OfPeer event.now (λ from bytes. Answers result (seat_in node.old.player) (brought_in node.old.limit bytes) from out.old.entries out.new.entries node.old.store.dealings node.new.store.dealings) }
+    ensures holds { OnOk result (IsTrue D.tells → IsTrue X.tells → Holds node.old.store.dealings (D.image devices.old.disk.now) (X.held devices.old.secrets.now) → Holds node.new.store.dealings (D.image devices.new.disk.now) (X.held devices.new.secrets.now)) }
+    ensures images { IsTrue D.tells → IsTrue X.tells → Holds node.old.store.dealings (D.image devices.old.disk.now) (X.held devices.old.secrets.now) → OfPeer event.now (λ from bytes. HoldsAtMost (seat_in node.old.player) (brought_in node.old.limit bytes) from node.new.store.dealings (D.image devices.new.disk.now) (X.held devices.new.secrets.now)) }
+    ensures causes { IfErr result (λ stop. IsCaused stop (Rose (D.faults devices.old.disk.now) (D.faults devices.new.disk.now)) (Rose (X.faults devices.old.secrets.now) (X.faults devices.new.secrets.now))) }
+    ensures later_disk { D.faults devices.old.disk.now ≤ D.faults devices.new.disk.now }
+    ensures later_secrets { X.faults devices.old.secrets.now ≤ X.faults devices.new.secrets.now }
 {
     match event {
         Event::Peer { from, bytes } => node.peer(alloc, devices, *from, bytes.as_slice(), out),
         _ => unreachable!(),
     }
+}
+
+/// Whether the script cuts the life within the step.
+fn is_cut_within(cut: &Option<Cut>, step: u64) -> bool
+    ensures { IsTrue result → IsCutWithin cut.now step }
+{
+    match cut {
+        Some(cut) => cut.step == step && cut.call != 0,
+        None => false,
+    }
+}
+
+/// What the stop of a step means to its life: a cut is the script's own, within this step. (A store is cut only by the
+/// fuse that this step was given, so that no other comes; one that came would be told as want of memory.)
+fn stop_of(cut: &Option<Cut>, step: u64, stop: Stop) -> Stop
+    ensures cut { result ≡ AtCut → IsCutWithin cut.now step }
+    ensures same { (result ≡ stop) ⊎ (result ≡ Stop.Faulted Fault.NoMemory) }
+{
+    if is_cut_within(cut, step) {
+        return stop;
+    }
+    match stop {
+        Stop::Cut => Stop::Faulted(Fault::NoMemory),
+        Stop::Faulted(fault) => Stop::Faulted(fault),
+    }
+}
+
+/// Takes the step of an event, where the life is not cut before it, and tells its end.
+fn take_step<D: Disk, X: SecretStore>(
+    alloc: Global,
+    node: &mut Node,
+    life: &Life,
+    number: u64,
+    event: &Event,
+    devices: &mut Devices<'_, D, X>,
+    out: &mut Transcript,
+) -> Result<(), Stop>
+    requires peer { IsPeer event.now }
+    requires later { 0 < number }
+    requires event { event_of_step life.now number ≡ Some event.now }
+    requires plays { IfSome node.old.player (λ p. Contains p.round.players p.me) }
+    requires answers { IfSome node.old.player (λ p. IsPlayerOf ack_of p.me p.round p.acks node.old.store.dealings 0) }
+    requires valid { IfSome (seat_in node.old.player) (λ seat. AreValid seat node.old.store.dealings) }
+    requires ready { IsTrue D.tells → IsReady node.old.store.journal.place (D.files devices.old.disk.now) (D.image devices.old.disk.now) }
+    ensures plays { IfSome node.new.player (λ p. Contains p.round.players p.me) }
+    ensures answers { IfSome node.new.player (λ p. IsPlayerOf ack_of p.me p.round p.acks node.new.store.dealings 0) }
+    ensures valid { IfSome (seat_in node.new.player) (λ seat. AreValid seat node.new.store.dealings) }
+    ensures seat { seat_in node.new.player ≡ seat_in node.old.player }
+    ensures limit { node.new.limit ≡ node.old.limit }
+    ensures ready { OnOk result (IsTrue D.tells → IsReady node.new.store.journal.place (D.files devices.new.disk.now) (D.image devices.new.disk.now)) }
+    ensures today { IsTrue D.tells → IsToday (D.image devices.new.disk.now) }
+    ensures same_disk { devices.new.disk.ghost_name ≡ devices.old.disk.ghost_name }
+    ensures same_secrets { devices.new.secrets.ghost_name ≡ devices.old.secrets.ghost_name }
+    // Where the entries stand, as the l-th life of any script.
+    ensures done { OnOk result ((l : ℕ) → Moves IsInOrder (IsBefore life.now l number) (IsBehind life.now l number) out.old.entries out.new.entries) }
+    ensures stopped { IfErr result (λ stop. (l : ℕ) → Moves IsInOrder (IsBefore life.now l number) (IsStopped life.now l stop) out.old.entries out.new.entries) }
+    // What was recorded is carried, what the entries say holds, and an acknowledgement that was due was written.
+    ensures kept { OnOk result (IsTrue D.tells → IsTrue X.tells → (l : ℕ) → Moves IsKeptEntry (Both (IsBefore life.now l number) (CarriesIn l node.old (D.image devices.old.disk.now) (X.held devices.old.secrets.now))) (CarriesIn l node.new (D.image devices.new.disk.now) (X.held devices.new.secrets.now)) out.old.entries out.new.entries) }
+    ensures saved { IfErr result (λ stop. IsTrue D.tells → IsTrue X.tells → (l : ℕ) → Moves IsKeptEntry (Both (IsBefore life.now l number) (CarriesIn l node.old (D.image devices.old.disk.now) (X.held devices.old.secrets.now))) (IsSaved life.now stop (D.image devices.new.disk.now) (X.held devices.new.secrets.now)) out.old.entries out.new.entries) }
+    ensures causes { IfErr result (λ stop. IsCaused stop (Rose (D.faults devices.old.disk.now) (D.faults devices.new.disk.now)) (Rose (X.faults devices.old.secrets.now) (X.faults devices.new.secrets.now))) }
+    ensures later_disk { D.faults devices.old.disk.now ≤ D.faults devices.new.disk.now }
+    ensures later_secrets { X.faults devices.old.secrets.now ≤ X.faults devices.new.secrets.now }
+{
+    begin_step(devices, &life.cut, number)?;
+    match step(alloc, node, event, devices, out) {
+        Ok(()) => {}
+        Err(stop) => return Err(stop_of(&life.cut, number, stop)),
+    }
+    out.push(Entry::Step { step: number })?;
+    Ok(())
 }
 
 /// Takes the steps of a life's events.
@@ -83,18 +187,58 @@ fn take_steps<D: Disk, X: SecretStore>(
 ) -> Result<(), Stop>
     requires peers { AllByRecursion IsPeer life.now.events }
     requires plays { IfSome node.old.player (λ p. Contains p.round.players p.me) }
+    requires answers { IfSome node.old.player (λ p. IsPlayerOf ack_of p.me p.round p.acks node.old.store.dealings 0) }
+    requires valid { IfSome (seat_in node.old.player) (λ seat. AreValid seat node.old.store.dealings) }
     requires ready { IsTrue D.tells → IsReady node.old.store.journal.place (D.files devices.old.disk.now) (D.image devices.old.disk.now) }
     ensures today { IsTrue D.tells → IsToday (D.image devices.new.disk.now) }
     ensures same_disk { devices.new.disk.ghost_name ≡ devices.old.disk.ghost_name }
     ensures same_secrets { devices.new.secrets.ghost_name ≡ devices.old.secrets.ghost_name }
+    ensures done { OnOk result ((l : ℕ) → Moves IsInOrder (IsBehind life.now l 0) (IsBetween (l + 1)) out.old.entries out.new.entries) }
+    ensures stopped { IfErr result (λ stop. (l : ℕ) → Moves IsInOrder (IsBehind life.now l 0) (IsStopped life.now l stop) out.old.entries out.new.entries) }
+    ensures kept { OnOk result (IsTrue D.tells → IsTrue X.tells → (l : ℕ) → Moves IsKeptEntry (Both (IsBehind life.now l 0) (CarriesIn l node.old (D.image devices.old.disk.now) (X.held devices.old.secrets.now))) (Rests (D.image devices.new.disk.now) (X.held devices.new.secrets.now)) out.old.entries out.new.entries) }
+    ensures saved { IfErr result (λ stop. IsTrue D.tells → IsTrue X.tells → (l : ℕ) → Moves IsKeptEntry (Both (IsBehind life.now l 0) (CarriesIn l node.old (D.image devices.old.disk.now) (X.held devices.old.secrets.now))) (IsSaved life.now stop (D.image devices.new.disk.now) (X.held devices.new.secrets.now)) out.old.entries out.new.entries) }
+    ensures causes { IfErr result (λ stop. IsCaused stop (Rose (D.faults devices.old.disk.now) (D.faults devices.new.disk.now)) (Rose (X.faults devices.old.secrets.now) (X.faults devices.new.secrets.now))) }
+    ensures later_disk { D.faults devices.old.disk.now ≤ D.faults devices.new.disk.now }
+    ensures later_secrets { X.faults devices.old.secrets.now ≤ X.faults devices.new.secrets.now }
 {
     for (i, event) in life.events.as_slice().iter().enumerate() {
-        let number = i as u64 + 1;
-        begin_step(devices, &life.cut, number)?;
-        step(alloc, node, event, devices, out)?;
-        out.push(Entry::Step { step: number })?;
+        take_step(alloc, node, life, i as u64 + 1, event, devices, out)?;
     }
     Ok(())
+}
+
+/// Opens a node, where the life is not cut before it, and tells the end of its opening.
+fn open<D: Disk, X: SecretStore>(
+    alloc: Global,
+    beginning: &Beginning,
+    number: u64,
+    life: &Life,
+    devices: &mut Devices<'_, D, X>,
+    out: &mut Transcript,
+) -> Result<Node, Stop>
+    requires today { IsTrue D.tells → IsToday (D.image devices.old.disk.now) }
+    ensures plays { IfOk result (λ node. IfSome node.player (λ p. Contains p.round.players p.me)) }
+    ensures answers { IfOk result (λ node. IfSome node.player (λ p. IsPlayerOf ack_of p.me p.round p.acks node.store.dealings 0)) }
+    ensures ready { IfOk result (λ node. IsTrue D.tells → IsReady node.store.journal.place (D.files devices.new.disk.now) (D.image devices.new.disk.now)) }
+    ensures today { IsTrue D.tells → IsToday (D.image devices.new.disk.now) }
+    ensures same_disk { devices.new.disk.ghost_name ≡ devices.old.disk.ghost_name }
+    ensures same_secrets { devices.new.secrets.ghost_name ≡ devices.old.secrets.ghost_name }
+    ensures done { OnOk result (Moves IsInOrder (IsBefore life.now number 0) (IsBehind life.now number 0) out.old.entries out.new.entries) }
+    ensures stopped { IfErr result (λ stop. Moves IsInOrder (IsBefore life.now number 0) (IsStopped life.now number stop) out.old.entries out.new.entries) }
+    ensures valid { IfOk result (λ node. IfSome (seat_in node.player) (λ seat. AreValid seat node.store.dealings)) }
+    ensures kept { IfOk result (λ node. IsTrue D.tells → IsTrue X.tells → Moves IsKeptEntry (Both (IsBefore life.now number 0) (RestsFor beginning.now (D.image devices.old.disk.now) (X.held devices.old.secrets.now))) (CarriesIn number node (D.image devices.new.disk.now) (X.held devices.new.secrets.now)) out.old.entries out.new.entries) }
+    ensures saved { IfErr result (λ stop. IsTrue D.tells → IsTrue X.tells → Moves IsKeptEntry (Both (IsBefore life.now number 0) (RestsFor beginning.now (D.image devices.old.disk.now) (X.held devices.old.secrets.now))) (IsSaved life.now stop (D.image devices.new.disk.now) (X.held devices.new.secrets.now)) out.old.entries out.new.entries) }
+    ensures causes { IfErr result (λ stop. IsCaused stop (Rose (D.faults devices.old.disk.now) (D.faults devices.new.disk.now)) (Rose (X.faults devices.old.secrets.now) (X.faults devices.new.secrets.now))) }
+    ensures later_disk { D.faults devices.old.disk.now ≤ D.faults devices.new.disk.now }
+    ensures later_secrets { X.faults devices.old.secrets.now ≤ X.faults devices.new.secrets.now }
+{
+    begin_step(devices, &life.cut, 0)?;
+    let node = match Node::open(alloc, beginning, number, life.word, devices, out) {
+        Ok(node) => node,
+        Err(stop) => return Err(stop_of(&life.cut, 0, stop)),
+    };
+    out.push(Entry::Step { step: 0 })?;
+    Ok(node)
 }
 
 /// Opens a node, and takes the steps of its life.
@@ -111,11 +255,17 @@ fn live<D: Disk, X: SecretStore>(
     ensures today { IsTrue D.tells → IsToday (D.image devices.new.disk.now) }
     ensures same_disk { devices.new.disk.ghost_name ≡ devices.old.disk.ghost_name }
     ensures same_secrets { devices.new.secrets.ghost_name ≡ devices.old.secrets.ghost_name }
+    ensures done { OnOk result (Moves IsInOrder (IsBefore life.now number 0) (IsBetween (number + 1)) out.old.entries out.new.entries) }
+    ensures stopped { IfErr result (λ stop. Moves IsInOrder (IsBefore life.now number 0) (IsStopped life.now number stop) out.old.entries out.new.entries) }
+    ensures kept { OnOk result (IsTrue D.tells → IsTrue X.tells → Moves IsKeptEntry (Both (IsBefore life.now number 0) (RestsFor beginning.now (D.image devices.old.disk.now) (X.held devices.old.secrets.now))) (Rests (D.image devices.new.disk.now) (X.held devices.new.secrets.now)) out.old.entries out.new.entries) }
+    ensures saved { IfErr result (λ stop. IsTrue D.tells → IsTrue X.tells → Moves IsKeptEntry (Both (IsBefore life.now number 0) (RestsFor beginning.now (D.image devices.old.disk.now) (X.held devices.old.secrets.now))) (IsSaved life.now stop (D.image devices.new.disk.now) (X.held devices.new.secrets.now)) out.old.entries out.new.entries) }
+    ensures causes { IfErr result (λ stop. IsCaused stop (Rose (D.faults devices.old.disk.now) (D.faults devices.new.disk.now)) (Rose (X.faults devices.old.secrets.now) (X.faults devices.new.secrets.now))) }
+    ensures later_disk { D.faults devices.old.disk.now ≤ D.faults devices.new.disk.now }
+    ensures later_secrets { X.faults devices.old.secrets.now ≤ X.faults devices.new.secrets.now }
 {
-    begin_step(devices, &life.cut, 0)?;
-    let mut node = Node::open(alloc, beginning, number, life.word, devices, out)?;
-    out.push(Entry::Step { step: 0 })?;
-    take_steps(alloc, &mut node, life, devices, out)
+    let mut node = open(alloc, beginning, number, life, devices, out)?;
+    take_steps(alloc, &mut node, life, devices, out)?;
+    Ok(())
 }
 
 /// Tells the cut that ended a life, and stops both devices with its pick.
@@ -128,6 +278,16 @@ fn end_cut<D: Disk, X: SecretStore>(
     ensures today { IsTrue D.tells → IsToday (D.image devices.new.disk.now) }
     ensures same_disk { devices.new.disk.ghost_name ≡ devices.old.disk.ghost_name }
     ensures same_secrets { devices.new.secrets.ghost_name ≡ devices.old.secrets.ghost_name }
+    ensures told { OnOk result (IfSome cut.now (λ its. out.new.entries ≡ out.old.entries ++ Entry.Cut its.step its.call ∷ [])) }
+    ensures none { cut.now ≡ None → out.new.entries ≡ out.old.entries }
+    ensures untold { OnErr result (out.new.entries ≡ out.old.entries) }
+    ensures memory { IfErr result (λ fault. fault ≡ Fault.NoMemory) }
+    // The devices stop, and hold what one of the images from before gives.
+    ensures crash { IfSome cut.now (λ _. IsTrue D.tells → IsCrash (D.files devices.new.disk.now) (D.image devices.old.disk.now) (D.image devices.new.disk.now)) }
+    ensures narrows { (c : Files) → D.image devices.new.disk.now c → D.image devices.old.disk.now c }
+    ensures held { X.held devices.new.secrets.now ≡ X.held devices.old.secrets.now }
+    ensures disk_count { D.faults devices.new.disk.now ≡ D.faults devices.old.disk.now }
+    ensures secrets_count { X.faults devices.new.secrets.now ≡ X.faults devices.old.secrets.now }
 {
     if let Some(cut) = cut {
         devices.disk.crash(cut.pick);
@@ -155,6 +315,13 @@ fn run_life<D: Disk, X: SecretStore>(
     ensures today { IsTrue D.tells → IsToday (D.image devices.new.disk.now) }
     ensures same_disk { devices.new.disk.ghost_name ≡ devices.old.disk.ghost_name }
     ensures same_secrets { devices.new.secrets.ghost_name ≡ devices.old.secrets.ghost_name }
+    ensures done { OnOk result (Moves IsInOrder (IsBefore life.now number 0) (IsBetween (number + 1)) out.old.entries out.new.entries) }
+    ensures stopped { IfErr result (λ fault. Moves IsInOrder (IsBefore life.now number 0) (MayTell fault) out.old.entries out.new.entries) }
+    ensures kept { OnOk result (IsTrue D.tells → IsTrue X.tells → Moves IsKeptEntry (Both (IsBefore life.now number 0) (RestsFor beginning.now (D.image devices.old.disk.now) (X.held devices.old.secrets.now))) (Rests (D.image devices.new.disk.now) (X.held devices.new.secrets.now)) out.old.entries out.new.entries) }
+    ensures saved { OnErr result (IsTrue D.tells → IsTrue X.tells → Moves IsKeptEntry (Both (IsBefore life.now number 0) (RestsFor beginning.now (D.image devices.old.disk.now) (X.held devices.old.secrets.now))) (IsDurableAt (D.image devices.new.disk.now) (X.held devices.new.secrets.now)) out.old.entries out.new.entries) }
+    ensures causes { IfErr result (λ fault. IsCaused (Stop.Faulted fault) (Rose (D.faults devices.old.disk.now) (D.faults devices.new.disk.now)) (Rose (X.faults devices.old.secrets.now) (X.faults devices.new.secrets.now))) }
+    ensures later_disk { D.faults devices.old.disk.now ≤ D.faults devices.new.disk.now }
+    ensures later_secrets { X.faults devices.old.secrets.now ≤ X.faults devices.new.secrets.now }
 {
     match live(alloc, beginning, number, life, devices, out) {
         Ok(()) => {
@@ -162,7 +329,10 @@ fn run_life<D: Disk, X: SecretStore>(
             devices.secrets.crash(life.pick);
             Ok(())
         }
-        Err(Stop::Cut) => end_cut(&life.cut, devices, out),
+        Err(Stop::Cut) => {
+            end_cut(&life.cut, devices, out)?;
+            Ok(())
+        }
         Err(Stop::Faulted(fault)) => Err(fault),
     }
 }
@@ -179,6 +349,13 @@ fn run_all<D: Disk, X: SecretStore>(
     ensures today { IsTrue D.tells → IsToday (D.image devices.new.disk.now) }
     ensures same_disk { devices.new.disk.ghost_name ≡ devices.old.disk.ghost_name }
     ensures same_secrets { devices.new.secrets.ghost_name ≡ devices.old.secrets.ghost_name }
+    ensures done { OnOk result (Moves IsInOrder (IsBetweenOf script.now 0) (IsBetweenOf script.now (length script.now.lives)) out.old.entries out.new.entries) }
+    ensures stopped { IfErr result (λ fault. Moves IsInOrder (IsBetweenOf script.now 0) (MayTell fault) out.old.entries out.new.entries) }
+    ensures kept { OnOk result (IsTrue D.tells → IsTrue X.tells → Moves IsKeptEntry (Both (IsBetweenOf script.now 0) (Rests (D.image devices.old.disk.now) (X.held devices.old.secrets.now))) (Both (IsBetweenOf script.now (length script.now.lives)) (Rests (D.image devices.new.disk.now) (X.held devices.new.secrets.now))) out.old.entries out.new.entries) }
+    ensures saved { OnErr result (IsTrue D.tells → IsTrue X.tells → Moves IsKeptEntry (Both (IsBetweenOf script.now 0) (Rests (D.image devices.old.disk.now) (X.held devices.old.secrets.now))) (IsDurableAt (D.image devices.new.disk.now) (X.held devices.new.secrets.now)) out.old.entries out.new.entries) }
+    ensures causes { IfErr result (λ fault. IsCaused (Stop.Faulted fault) (Rose (D.faults devices.old.disk.now) (D.faults devices.new.disk.now)) (Rose (X.faults devices.old.secrets.now) (X.faults devices.new.secrets.now))) }
+    ensures later_disk { D.faults devices.old.disk.now ≤ D.faults devices.new.disk.now }
+    ensures later_secrets { X.faults devices.old.secrets.now ≤ X.faults devices.new.secrets.now }
 {
     let beginning = Beginning::of(alloc, script)?;
     for (i, life) in script.lives.as_slice().iter().enumerate() {
@@ -188,7 +365,9 @@ fn run_all<D: Disk, X: SecretStore>(
 }
 
 /// Tells the fault that ends a run, unless it is want of memory.
-fn tell(alloc: Global, fault: Fault, out: &mut Transcript) -> Fault {
+fn tell(alloc: Global, fault: Fault, out: &mut Transcript) -> Fault
+    ensures { TellsFault fault result out.old.entries out.new.entries }
+{
     if let Fault::NoMemory = fault {
         return fault;
     }
@@ -212,7 +391,16 @@ pub fn run_lives<D: Disk, X: SecretStore>(
 ) -> Result<(), Fault>
     requires form { IsFormOfToday script.now }
     requires today { IsTrue D.tells → IsToday (D.image disk.old) }
-    ensures { IsTrue D.tells → IsToday (D.image disk.new) }
+    ensures today { IsTrue D.tells → IsToday (D.image disk.new) }
+    // Whatever ends the run, the new entries are in order, and at Ok every life was run.
+    ensures in_order { Adds out.old.entries out.new.entries (RunsInOrder script.now) }
+    ensures all { OnOk result (Adds out.old.entries out.new.entries (RunsAll script.now)) }
+    // A fault is the last of them, the only one, and one that has its cause.
+    ensures ends { Adds out.old.entries out.new.entries (λ added. EndsRun result added (Rose (D.faults disk.old) (D.faults disk.new)) (Rose (X.faults secrets.old) (X.faults secrets.new))) }
+    // Whatever ends the run, the transcript and the devices keep each recorded dealing; and at Ok each dealing that was due was
+    // acknowledged.
+    ensures kept { IsTrue D.tells → IsTrue X.tells → Adds out.old.entries out.new.entries (KeepsDealings (setting_of script.now (D.files disk.old) (X.held secrets.old)) (D.image disk.old) (D.image disk.new) (X.held secrets.new)) }
+    ensures answered { OnOk result (IsTrue D.tells → IsTrue X.tells → Adds out.old.entries out.new.entries (AnswersDealings (setting_of script.now (D.files disk.old) (X.held secrets.old)) (D.image disk.old))) }
 {
     let mut devices = Devices {
         disk,

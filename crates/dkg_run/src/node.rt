@@ -3,15 +3,30 @@
 //! The rules are those of the upstream's `reshare::actor`: its `setup` commits and registers before a player is made,
 //! and its `dkg` answers a peer's dealing with an acknowledgement, or blocks the peer.
 
-ghost use Rattle.std.specs.Prelude.{◌≡◌, ◌≤◌, ◌^◌, length, Contains, OnOk, IfOk, IfSome, IsTrue};
+ghost use Rattle.std.specs.Prelude.{◌≡◌, ◌≤◌, ◌^◌, ◌⊎◌, ◌++◌, ◌∷◌, [], length, Contains, OnOk, OnErr, IfOk, IfErr, IfSome, IsSomeAnd, IsTrue, Some};
 ghost use Rattle.std.specs.Option.{ForSome};
+ghost use Rattle.dkg_ceremony.specs.Acks.{ack_of};
+ghost use Rattle.std.specs.Int.NonZero.{non_zero_u32_get};
+ghost use Rattle.dkg_journal.specs.Disk.{Rose};
+ghost use Rattle.dkg_journal.specs.Records.{entries};
+ghost use Rattle.dkg_store.specs.Pairs.{Pairs, Holds, IsWhole};
+ghost use Rattle.dkg_store.specs.Player.{IsPlayerOf};
+ghost use Rattle.dkg_script.specs.Setting.{listed, recovered_from};
 ghost use Rattle.dkg_run.specs.Devices.{IsToday, IsReady};
+ghost use Rattle.dkg_run.specs.Standing.{AddsQuiet, AddsOpening};
+ghost use Rattle.dkg_run.specs.Opened.{AddsSetUp, TellsOpening, round_by, round_in, seat_at};
+ghost use Rattle.dkg_run.specs.Stops.{IsByDevice, IsCaused};
+ghost use Rattle.dkg_run.specs.Told.{Answers, AreValid, Hands, HoldsAtMost, brought_in, message_in, seat_in, told_by, why_of};
+ghost use Rattle.dkg_types.specs.MessageCodes.{MessageFits};
+ghost use Rattle.dkg_run.specs.declared.stop.Stop.TheVariants.{Faulted};
+ghost use Rattle.dkg_types.specs.declared.fault.Fault.TheVariants.{NoMemory as OutOfMemory};
 
 use crate::beginning::Beginning;
+use crate::decoded::decoded;
 use crate::stop::Stop;
 use dkg_ceremony::{
-    Ack, Ceremony, CodecError, DealingError, Epoch, Height, Key, Mem, NoMemory, Phase, Private,
-    Public, Reveal, Round, RoundError, Seed, StandCeremony, StandSigner, Value, decode_cfg,
+    Ack, Ceremony, DealingError, Epoch, Height, Key, Mem, NoMemory, Phase, Private, Public, Reveal,
+    Round, RoundError, Seed, StandCeremony, StandSigner, Value, decode_cfg,
 };
 use dkg_journal::Disk;
 use dkg_store::{DealingHandleError, Devices, Player, SecretStore, Store};
@@ -45,7 +60,9 @@ fn fresh_seed(word: u64, epoch: Epoch) -> Seed {
 }
 
 /// A list of the restored dealings, for the transcript.
-fn list_of(alloc: Global, restored: &[Restored]) -> Mem<RestoredList> {
+fn list_of(alloc: Global, restored: &[Restored]) -> Mem<RestoredList>
+    ensures { IfOk result (λ list. list ≡ restored.now) }
+{
     let mut list = Vec::with_capacity(alloc, restored.len())?;
     for one in restored {
         list.push(Restored {
@@ -71,6 +88,17 @@ fn open_store<D: Disk, X: SecretStore>(
     ensures today { IsTrue D.tells → IsToday (D.image devices.new.disk.now) }
     ensures same_disk { devices.new.disk.ghost_name ≡ devices.old.disk.ghost_name }
     ensures same_secrets { devices.new.secrets.ghost_name ≡ devices.old.secrets.ghost_name }
+    ensures opened { OnOk result (AddsOpening life out.old.entries out.new.entries) }
+    ensures untold { OnErr result (out.new.entries ≡ out.old.entries) }
+    // What is recorded is what the devices gave back, and from then on a crash leaves just that.
+    ensures recovered { IfOk result (λ store. IsTrue D.tells → IsTrue X.tells → store.dealings ≡ recovered_from (D.files devices.old.disk.now) (X.held devices.old.secrets.now)) }
+    ensures settled { IfOk result (λ store. IsTrue D.tells → IsTrue X.tells → IsWhole (entries (D.files devices.old.disk.now)) (X.held devices.old.secrets.now) → Holds store.dealings (D.image devices.new.disk.now) (X.held devices.new.secrets.now)) }
+    // Wherever it stops, what held before holds.
+    ensures holds { IsTrue D.tells → (pairs : Pairs) → Holds pairs (D.image devices.old.disk.now) (X.held devices.old.secrets.now) → Holds pairs (D.image devices.new.disk.now) (X.held devices.new.secrets.now) }
+    ensures lists { IfOk result (λ store. out.new.entries ≡ out.old.entries ++ Entry.Opened life (listed store.dealings) ∷ []) }
+    ensures causes { IfErr result (λ stop. IsCaused stop (Rose (D.faults devices.old.disk.now) (D.faults devices.new.disk.now)) (Rose (X.faults devices.old.secrets.now) (X.faults devices.new.secrets.now))) }
+    ensures later_disk { D.faults devices.old.disk.now ≤ D.faults devices.new.disk.now }
+    ensures later_secrets { X.faults devices.old.secrets.now ≤ X.faults devices.new.secrets.now }
 {
     let store = Store::init(alloc, devices, beginning.limit)?;
     let restored = list_of(alloc, store.restored())?;
@@ -79,7 +107,11 @@ fn open_store<D: Disk, X: SecretStore>(
 }
 
 /// The first epoch's info, if the boundary block carries it and it is valid.
-fn checked_info<'a>(alloc: Global, beginning: &'a Beginning) -> Result<&'a EpochInfo<Unit>, Stop> {
+fn checked_info<'a>(alloc: Global, beginning: &'a Beginning) -> Result<&'a EpochInfo<Unit>, Stop>
+    ensures info { IfOk result (λ info. beginning.now.info ≡ Some info.now) }
+    ensures first { IfOk result (λ info. info.now.epoch ≡ 0) }
+    ensures causes { IfErr result (λ stop. IsCaused stop ⊥ ⊥) }
+{
     let Some(info) = &beginning.info else {
         return Err(Stop::Faulted(Fault::MissingEpochInfo { height: Height(0) }));
     };
@@ -107,6 +139,21 @@ fn role_of(alloc: Global, me: Key, info: &EpochInfo<Unit>) -> Mem<Role> {
     }
 }
 
+/// Tells the first epoch's commit and its registration.
+fn tell_commit(role: Role, out: &mut Transcript) -> Mem<()>
+    ensures quiet { AddsQuiet out.old.entries out.new.entries }
+    ensures set_up { AddsSetUp out.old.entries out.new.entries }
+{
+    out.push(Entry::Committed {
+        epoch: FIRST_EPOCH,
+        share: None,
+    })?;
+    out.push(Entry::Registered {
+        epoch: FIRST_EPOCH,
+        role,
+    })
+}
+
 /// Commits the first epoch's info with the seed that is stored, or with a fresh one, and registers it.
 fn commit<D: Disk, X: SecretStore>(
     alloc: Global,
@@ -121,6 +168,12 @@ fn commit<D: Disk, X: SecretStore>(
     ensures disk { devices.new.disk.now ≡ devices.old.disk.now }
     ensures same_disk { devices.new.disk.ghost_name ≡ devices.old.disk.ghost_name }
     ensures same_secrets { devices.new.secrets.ghost_name ≡ devices.old.secrets.ghost_name }
+    ensures quiet { AddsQuiet out.old.entries out.new.entries }
+    ensures dealings { store.new.dealings ≡ store.old.dealings }
+    ensures holds { (pairs : Pairs) → Holds pairs (D.image devices.old.disk.now) (X.held devices.old.secrets.now) → Holds pairs (D.image devices.new.disk.now) (X.held devices.new.secrets.now) }
+    ensures set_up { AddsSetUp out.old.entries out.new.entries }
+    ensures causes { IfErr result (λ stop. IsByDevice stop (Rose (D.faults devices.old.disk.now) (D.faults devices.new.disk.now)) (Rose (X.faults devices.old.secrets.now) (X.faults devices.new.secrets.now))) }
+    ensures later_secrets { X.faults devices.old.secrets.now ≤ X.faults devices.new.secrets.now }
 {
     let role = role_of(alloc, me, info)?;
     let committed = info.copy(alloc)?;
@@ -129,19 +182,14 @@ fn commit<D: Disk, X: SecretStore>(
         None => fresh_seed(word, FIRST_EPOCH),
     };
     store.commit_epoch(alloc, devices, committed, seed, None)?;
-    out.push(Entry::Committed {
-        epoch: FIRST_EPOCH,
-        share: None,
-    })?;
-    out.push(Entry::Registered {
-        epoch: FIRST_EPOCH,
-        role,
-    })?;
-    Ok(())
+    Ok(tell_commit(role, out)?)
 }
 
 /// The round of the first epoch.
-fn round_of(alloc: Global, beginning: &Beginning, info: &EpochInfo<Unit>) -> Result<Round, Stop> {
+fn round_of(alloc: Global, beginning: &Beginning, info: &EpochInfo<Unit>) -> Result<Round, Stop>
+    ensures round { IfOk result (λ round. round_by beginning.now.namespace beginning.now.mode info.now ≡ Some round) }
+    ensures causes { IfErr result (λ stop. IsCaused stop ⊥ ⊥) }
+{
     let namespace = beginning.namespace.as_slice();
     let dealers = &info.output.players;
     match StandCeremony.round(
@@ -169,12 +217,113 @@ fn player_of(
 ) -> Result<Option<Player>, Stop>
     ensures me { IfOk result (λ player. IfSome player (λ p. p.me ≡ me)) }
     ensures plays { IfOk result (λ player. IfSome player (λ p. Contains p.round.players p.me)) }
+    ensures answers { IfOk result (λ player. IfSome player (λ p. IsPlayerOf ack_of p.me p.round p.acks store.now.dealings 0)) }
+    ensures seat { IfOk result (λ player. seat_in player ≡ seat_at me round.now) }
+    ensures valid { IfOk result (λ player. IfSome (seat_in player) (λ seat. AreValid seat store.now.dealings)) }
+    ensures causes { IfErr result (λ stop. IsCaused stop ⊥ ⊥) }
 {
     if !round.players.has(me) {
         return Ok(None);
     }
     let player = store.create_player(alloc, &StandCeremony, FIRST_EPOCH, me, round)?;
     Ok(player)
+}
+
+/// The node's part in the ceremony.
+fn part_of(player: &Option<Player>) -> Part {
+    match player {
+        Some(_) => Part::Player,
+        None => Part::Observer,
+    }
+}
+
+/// Tells the first epoch's setup, and that it is entered.
+fn tell_setup(part: Part, out: &mut Transcript) -> Mem<()>
+    ensures quiet { AddsQuiet out.old.entries out.new.entries }
+    ensures set_up { AddsSetUp out.old.entries out.new.entries }
+{
+    out.push(Entry::Setup {
+        epoch: FIRST_EPOCH,
+        phase: Phase::Early,
+        part,
+    })?;
+    out.push(Entry::Entered { epoch: FIRST_EPOCH })
+}
+
+/// Prunes the store, and enters the round of the first epoch.
+fn enter<D: Disk, X: SecretStore>(
+    alloc: Global,
+    beginning: &Beginning,
+    info: &EpochInfo<Unit>,
+    mut store: Store<Unit>,
+    devices: &mut Devices<'_, D, X>,
+    out: &mut Transcript,
+) -> Result<Node, Stop>
+    ensures plays { IfOk result (λ node. IfSome node.player (λ p. Contains p.round.players p.me)) }
+    ensures answers { IfOk result (λ node. IfSome node.player (λ p. IsPlayerOf ack_of p.me p.round p.acks node.store.dealings 0)) }
+    ensures journal { IfOk result (λ node. node.store.journal ≡ store.journal) }
+    ensures disk { devices.new.disk.now ≡ devices.old.disk.now }
+    ensures same_disk { devices.new.disk.ghost_name ≡ devices.old.disk.ghost_name }
+    ensures same_secrets { devices.new.secrets.ghost_name ≡ devices.old.secrets.ghost_name }
+    ensures quiet { AddsQuiet out.old.entries out.new.entries }
+    ensures seat { IfOk result (λ node. IsSomeAnd (round_by beginning.now.namespace beginning.now.mode info.now) (λ round. seat_in node.player ≡ seat_at beginning.now.me round)) }
+    ensures limit { IfOk result (λ node. node.limit ≡ non_zero_u32_get beginning.now.limit) }
+    ensures valid { IfOk result (λ node. IfSome (seat_in node.player) (λ seat. AreValid seat node.store.dealings)) }
+    ensures dealings { IfOk result (λ node. node.store.dealings ≡ store.dealings) }
+    ensures holds { (pairs : Pairs) → Holds pairs (D.image devices.old.disk.now) (X.held devices.old.secrets.now) → Holds pairs (D.image devices.new.disk.now) (X.held devices.new.secrets.now) }
+    ensures set_up { AddsSetUp out.old.entries out.new.entries }
+    ensures causes { IfErr result (λ stop. IsCaused stop (Rose (D.faults devices.old.disk.now) (D.faults devices.new.disk.now)) (Rose (X.faults devices.old.secrets.now) (X.faults devices.new.secrets.now))) }
+    ensures later_secrets { X.faults devices.old.secrets.now ≤ X.faults devices.new.secrets.now }
+{
+    store.prune(alloc, devices, FIRST_EPOCH)?;
+    let round = round_of(alloc, beginning, info)?;
+    let player = player_of(alloc, beginning.me, &store, &round)?;
+    tell_setup(part_of(&player), out)?;
+    Ok(Node {
+        signer: StandSigner::new(beginning.me),
+        limit: beginning.limit.get(),
+        store,
+        player,
+    })
+}
+
+/// Commits and enters the first epoch, over an open store.
+fn set_up<D: Disk, X: SecretStore>(
+    alloc: Global,
+    beginning: &Beginning,
+    word: u64,
+    mut store: Store<Unit>,
+    devices: &mut Devices<'_, D, X>,
+    out: &mut Transcript,
+) -> Result<Node, Stop>
+    ensures plays { IfOk result (λ node. IfSome node.player (λ p. Contains p.round.players p.me)) }
+    ensures answers { IfOk result (λ node. IfSome node.player (λ p. IsPlayerOf ack_of p.me p.round p.acks node.store.dealings 0)) }
+    ensures journal { IfOk result (λ node. node.store.journal ≡ store.journal) }
+    ensures disk { devices.new.disk.now ≡ devices.old.disk.now }
+    ensures same_disk { devices.new.disk.ghost_name ≡ devices.old.disk.ghost_name }
+    ensures same_secrets { devices.new.secrets.ghost_name ≡ devices.old.secrets.ghost_name }
+    ensures quiet { AddsQuiet out.old.entries out.new.entries }
+    ensures seat { IfOk result (λ node. IsSomeAnd (round_in beginning.now.namespace beginning.now.mode beginning.now.info) (λ round. seat_in node.player ≡ seat_at beginning.now.me round)) }
+    ensures limit { IfOk result (λ node. node.limit ≡ non_zero_u32_get beginning.now.limit) }
+    ensures valid { IfOk result (λ node. IfSome (seat_in node.player) (λ seat. AreValid seat node.store.dealings)) }
+    ensures dealings { IfOk result (λ node. node.store.dealings ≡ store.dealings) }
+    ensures holds { (pairs : Pairs) → Holds pairs (D.image devices.old.disk.now) (X.held devices.old.secrets.now) → Holds pairs (D.image devices.new.disk.now) (X.held devices.new.secrets.now) }
+    ensures set_up { AddsSetUp out.old.entries out.new.entries }
+    ensures causes { IfErr result (λ stop. IsCaused stop (Rose (D.faults devices.old.disk.now) (D.faults devices.new.disk.now)) (Rose (X.faults devices.old.secrets.now) (X.faults devices.new.secrets.now))) }
+    ensures later_secrets { X.faults devices.old.secrets.now ≤ X.faults devices.new.secrets.now }
+{
+    let info = checked_info(alloc, beginning)?;
+    commit(alloc, beginning.me, word, info, &mut store, devices, out)?;
+    let node = enter(alloc, beginning, info, store, devices, out)?;
+    Ok(node)
+}
+
+/// The message that the bytes spell, if they spell one.
+fn message_in(alloc: Global, limit: u32, bytes: &[u8]) -> Mem<Option<Message>>
+    ensures read { IfOk result (λ message. message ≡ message_in limit bytes.now) }
+    ensures fits { IfOk result (λ message. IfSome message (MessageFits limit)) }
+{
+    decoded(decode_cfg::<Message>(alloc, bytes, &limit))
 }
 
 impl Node {
@@ -190,32 +339,32 @@ impl Node {
         requires today { IsTrue D.tells → IsToday (D.image devices.old.disk.now) }
         ensures plays { IfOk result (λ node. IfSome node.player (λ p. Contains p.round.players p.me)) }
         ensures ready { IfOk result (λ node. IsTrue D.tells → IsReady node.store.journal.place (D.files devices.new.disk.now) (D.image devices.new.disk.now)) }
+        ensures answers { IfOk result (λ node. IfSome node.player (λ p. IsPlayerOf ack_of p.me p.round p.acks node.store.dealings 0)) }
         ensures today { IsTrue D.tells → IsToday (D.image devices.new.disk.now) }
         ensures same_disk { devices.new.disk.ghost_name ≡ devices.old.disk.ghost_name }
         ensures same_secrets { devices.new.secrets.ghost_name ≡ devices.old.secrets.ghost_name }
+        // The life's Opened entry comes first. An opening that fails before it tells nothing.
+        ensures opened { OnOk result (AddsOpening life out.old.entries out.new.entries) }
+        ensures failed { OnErr result ((out.new.entries ≡ out.old.entries) ⊎ AddsOpening life out.old.entries out.new.entries) }
+        // The node plays the first epoch's round where it is one of its players.
+        ensures seat { IfOk result (λ node. IsSomeAnd (round_in beginning.now.namespace beginning.now.mode beginning.now.info) (λ round. seat_in node.player ≡ seat_at beginning.now.me round)) }
+        ensures limit { IfOk result (λ node. node.limit ≡ non_zero_u32_get beginning.now.limit) }
+        ensures valid { IfOk result (λ node. IfSome (seat_in node.player) (λ seat. AreValid seat node.store.dealings)) }
+        // What is recorded is what the devices gave back, and from then on a crash leaves just that.
+        ensures recovered { IfOk result (λ node. IsTrue D.tells → IsTrue X.tells → node.store.dealings ≡ recovered_from (D.files devices.old.disk.now) (X.held devices.old.secrets.now)) }
+        ensures settled { IfOk result (λ node. IsTrue D.tells → IsTrue X.tells → IsWhole (entries (D.files devices.old.disk.now)) (X.held devices.old.secrets.now) → Holds node.store.dealings (D.image devices.new.disk.now) (X.held devices.new.secrets.now)) }
+        // Wherever it stops, what held before holds.
+        ensures holds { IsTrue D.tells → (pairs : Pairs) → Holds pairs (D.image devices.old.disk.now) (X.held devices.old.secrets.now) → Holds pairs (D.image devices.new.disk.now) (X.held devices.new.secrets.now) }
+        // The life's Opened entry lists that.
+        ensures lists { OnOk result (IsTrue D.tells → IsTrue X.tells → TellsOpening life (recovered_from (D.files devices.old.disk.now) (X.held devices.old.secrets.now)) out.old.entries out.new.entries) }
+        ensures may_list { OnErr result (IsTrue D.tells → IsTrue X.tells → (out.new.entries ≡ out.old.entries) ⊎ TellsOpening life (recovered_from (D.files devices.old.disk.now) (X.held devices.old.secrets.now)) out.old.entries out.new.entries) }
+        ensures causes { IfErr result (λ stop. IsCaused stop (Rose (D.faults devices.old.disk.now) (D.faults devices.new.disk.now)) (Rose (X.faults devices.old.secrets.now) (X.faults devices.new.secrets.now))) }
+        ensures later_disk { D.faults devices.old.disk.now ≤ D.faults devices.new.disk.now }
+        ensures later_secrets { X.faults devices.old.secrets.now ≤ X.faults devices.new.secrets.now }
     {
-        let mut store = open_store(alloc, beginning, life, devices, out)?;
-        let info = checked_info(alloc, beginning)?;
-        commit(alloc, beginning.me, word, info, &mut store, devices, out)?;
-        store.prune(alloc, devices, FIRST_EPOCH)?;
-        let round = round_of(alloc, beginning, info)?;
-        let player = player_of(alloc, beginning.me, &store, &round)?;
-        let part = match &player {
-            Some(_) => Part::Player,
-            None => Part::Observer,
-        };
-        out.push(Entry::Setup {
-            epoch: FIRST_EPOCH,
-            phase: Phase::Early,
-            part,
-        })?;
-        out.push(Entry::Entered { epoch: FIRST_EPOCH })?;
-        Ok(Node {
-            signer: StandSigner::new(beginning.me),
-            limit: beginning.limit.get(),
-            store,
-            player,
-        })
+        let store = open_store(alloc, beginning, life, devices, out)?;
+        let node = set_up(alloc, beginning, word, store, devices, out)?;
+        Ok(node)
     }
 
     /// Answers a message of a peer.
@@ -228,20 +377,35 @@ impl Node {
         out: &mut Transcript,
     ) -> Result<(), Stop>
         requires plays { IfSome self.old.player (λ p. Contains p.round.players p.me) }
+        requires answers { IfSome self.old.player (λ p. IsPlayerOf ack_of p.me p.round p.acks self.old.store.dealings 0) }
+        requires valid { IfSome (seat_in self.old.player) (λ seat. AreValid seat self.old.store.dealings) }
         requires ready { IsTrue D.tells → IsReady self.old.store.journal.place (D.files devices.old.disk.now) (D.image devices.old.disk.now) }
         ensures plays { IfSome self.new.player (λ p. Contains p.round.players p.me) }
+        ensures answers { IfSome self.new.player (λ p. IsPlayerOf ack_of p.me p.round p.acks self.new.store.dealings 0) }
         ensures ready { OnOk result (IsTrue D.tells → IsReady self.new.store.journal.place (D.files devices.new.disk.now) (D.image devices.new.disk.now)) }
         ensures today { IsTrue D.tells → IsToday (D.image devices.new.disk.now) }
         ensures same_disk { devices.new.disk.ghost_name ≡ devices.old.disk.ghost_name }
         ensures same_secrets { devices.new.secrets.ghost_name ≡ devices.old.secrets.ghost_name }
+        ensures quiet { AddsQuiet out.old.entries out.new.entries }
+        ensures valid { IfSome (seat_in self.new.player) (λ seat. AreValid seat self.new.store.dealings) }
+        ensures seat { seat_in self.new.player ≡ seat_in self.old.player }
+        ensures signer { self.new.signer ≡ self.old.signer }
+        ensures limit { self.new.limit ≡ self.old.limit }
+        // Just what is told and recorded. (At an error nothing, or a new dealing whose acknowledgement found no memory.)
+        ensures told { Answers result (seat_in self.old.player) (brought_in self.old.limit bytes.now) from out.old.entries out.new.entries self.old.store.dealings self.new.store.dealings }
+        ensures holds { OnOk result (IsTrue D.tells → IsTrue X.tells → Holds self.old.store.dealings (D.image devices.old.disk.now) (X.held devices.old.secrets.now) → Holds self.new.store.dealings (D.image devices.new.disk.now) (X.held devices.new.secrets.now)) }
+        // Wherever it stops, a crash leaves what is recorded, or beside that at most the one valid new dealing.
+        ensures images { IsTrue D.tells → IsTrue X.tells → Holds self.old.store.dealings (D.image devices.old.disk.now) (X.held devices.old.secrets.now) → HoldsAtMost (seat_in self.old.player) (brought_in self.old.limit bytes.now) from self.new.store.dealings (D.image devices.new.disk.now) (X.held devices.new.secrets.now) }
+        ensures causes { IfErr result (λ stop. IsByDevice stop (Rose (D.faults devices.old.disk.now) (D.faults devices.new.disk.now)) (Rose (X.faults devices.old.secrets.now) (X.faults devices.new.secrets.now))) }
+        ensures later_disk { D.faults devices.old.disk.now ≤ D.faults devices.new.disk.now }
+        ensures later_secrets { X.faults devices.old.secrets.now ≤ X.faults devices.new.secrets.now }
     {
-        match decode_cfg::<Message>(alloc, bytes, &self.limit) {
-            Ok(Message::Dealer(public, private)) => {
+        match message_in(alloc, self.limit, bytes)? {
+            Some(Message::Dealer(public, private)) => {
                 self.dealing(alloc, devices, from, public, private, out)
             }
-            Ok(Message::Ack(_)) => block(out, from, BlockedWhy::Nondealer),
-            Err(CodecError::NoMemory) => Err(Stop::Faulted(Fault::NoMemory)),
-            Err(_) => block(out, from, BlockedWhy::Decode),
+            Some(Message::Ack(_)) => block(out, from, BlockedWhy::Nondealer),
+            None => block(out, from, BlockedWhy::Decode),
         }
     }
 
@@ -257,12 +421,28 @@ impl Node {
     ) -> Result<(), Stop>
         requires few { length public ≤ 2 ^ 30 }
         requires plays { IfSome self.old.player (λ p. Contains p.round.players p.me) }
+        requires answers { IfSome self.old.player (λ p. IsPlayerOf ack_of p.me p.round p.acks self.old.store.dealings 0) }
+        requires valid { IfSome (seat_in self.old.player) (λ seat. AreValid seat self.old.store.dealings) }
         requires ready { IsTrue D.tells → IsReady self.old.store.journal.place (D.files devices.old.disk.now) (D.image devices.old.disk.now) }
         ensures plays { IfSome self.new.player (λ p. Contains p.round.players p.me) }
+        ensures answers { IfSome self.new.player (λ p. IsPlayerOf ack_of p.me p.round p.acks self.new.store.dealings 0) }
         ensures ready { OnOk result (IsTrue D.tells → IsReady self.new.store.journal.place (D.files devices.new.disk.now) (D.image devices.new.disk.now)) }
         ensures today { IsTrue D.tells → IsToday (D.image devices.new.disk.now) }
         ensures same_disk { devices.new.disk.ghost_name ≡ devices.old.disk.ghost_name }
         ensures same_secrets { devices.new.secrets.ghost_name ≡ devices.old.secrets.ghost_name }
+        ensures quiet { AddsQuiet out.old.entries out.new.entries }
+        ensures valid { IfSome (seat_in self.new.player) (λ seat. AreValid seat self.new.store.dealings) }
+        ensures seat { seat_in self.new.player ≡ seat_in self.old.player }
+        ensures signer { self.new.signer ≡ self.old.signer }
+        ensures limit { self.new.limit ≡ self.old.limit }
+        // Just what is told and recorded. (At an error nothing, or a new dealing whose acknowledgement found no memory.)
+        ensures told { Answers result (seat_in self.old.player) (Some (record { public = public; private = private })) from out.old.entries out.new.entries self.old.store.dealings self.new.store.dealings }
+        ensures holds { OnOk result (IsTrue D.tells → IsTrue X.tells → Holds self.old.store.dealings (D.image devices.old.disk.now) (X.held devices.old.secrets.now) → Holds self.new.store.dealings (D.image devices.new.disk.now) (X.held devices.new.secrets.now)) }
+        // Wherever it stops, a crash leaves what is recorded, or beside that at most the one valid new dealing.
+        ensures images { IsTrue D.tells → IsTrue X.tells → Holds self.old.store.dealings (D.image devices.old.disk.now) (X.held devices.old.secrets.now) → HoldsAtMost (seat_in self.old.player) (Some (record { public = public; private = private })) from self.new.store.dealings (D.image devices.new.disk.now) (X.held devices.new.secrets.now) }
+        ensures causes { IfErr result (λ stop. IsByDevice stop (Rose (D.faults devices.old.disk.now) (D.faults devices.new.disk.now)) (Rose (X.faults devices.old.secrets.now) (X.faults devices.new.secrets.now))) }
+        ensures later_disk { D.faults devices.old.disk.now ≤ D.faults devices.new.disk.now }
+        ensures later_secrets { X.faults devices.old.secrets.now ≤ X.faults devices.new.secrets.now }
     {
         let answer = match &mut self.player {
             None => return block(out, from, BlockedWhy::Nonplayer),
@@ -278,14 +458,7 @@ impl Node {
                 private,
             )?,
         };
-        match answer {
-            Ok(ack) => Ok(out.push(Entry::Ack {
-                epoch: FIRST_EPOCH,
-                dealer: from,
-                ack,
-            })?),
-            Err(why) => block(out, from, blocked_by(why)),
-        }
+        tell_answer(out, from, answer)
     }
 }
 
@@ -304,13 +477,23 @@ fn handle<D: Disk, X: SecretStore>(
     requires few { length public ≤ 2 ^ 30 }
     requires plays { Contains player.old.round.players player.old.me }
     requires signs { signer.now ≡ player.old.me }
+    requires answers { IsPlayerOf ack_of player.old.me player.old.round player.old.acks store.old.dealings 0 }
     requires ready { IsTrue D.tells → IsReady store.old.journal.place (D.files devices.old.disk.now) (D.image devices.old.disk.now) }
     ensures me { player.new.me ≡ player.old.me }
     ensures round { player.new.round ≡ player.old.round }
+    ensures answers { IsPlayerOf ack_of player.new.me player.new.round player.new.acks store.new.dealings 0 }
     ensures ready { OnOk result (IsTrue D.tells → IsReady store.new.journal.place (D.files devices.new.disk.now) (D.image devices.new.disk.now)) }
     ensures today { IsTrue D.tells → IsToday (D.image devices.new.disk.now) }
     ensures same_disk { devices.new.disk.ghost_name ≡ devices.old.disk.ghost_name }
     ensures same_secrets { devices.new.secrets.ghost_name ≡ devices.old.secrets.ghost_name }
+    ensures quiet { AddsQuiet out.old.entries out.new.entries }
+    // Just what is told and recorded: at an error, and where the dealing is refused, nothing.
+    ensures told { Hands result (record { me = player.old.me; round = player.old.round }) (record { public = public; private = private }) from out.old.entries out.new.entries store.old.dealings store.new.dealings }
+    ensures holds { OnOk result (IsTrue D.tells → IsTrue X.tells → Holds store.old.dealings (D.image devices.old.disk.now) (X.held devices.old.secrets.now) → Holds store.new.dealings (D.image devices.new.disk.now) (X.held devices.new.secrets.now)) }
+    ensures images { IsTrue D.tells → IsTrue X.tells → Holds store.old.dealings (D.image devices.old.disk.now) (X.held devices.old.secrets.now) → HoldsAtMost (Some (record { me = player.old.me; round = player.old.round })) (Some (record { public = public; private = private })) from store.new.dealings (D.image devices.new.disk.now) (X.held devices.new.secrets.now) }
+    ensures causes { IfErr result (λ stop. IsByDevice stop (Rose (D.faults devices.old.disk.now) (D.faults devices.new.disk.now)) (Rose (X.faults devices.old.secrets.now) (X.faults devices.new.secrets.now))) }
+    ensures later_disk { D.faults devices.old.disk.now ≤ D.faults devices.new.disk.now }
+    ensures later_secrets { X.faults devices.old.secrets.now ≤ X.faults devices.new.secrets.now }
 {
     match player.handle(
         alloc,
@@ -330,8 +513,41 @@ fn handle<D: Disk, X: SecretStore>(
     }
 }
 
+/// Tells the acknowledgement of a dealing.
+fn acknowledge(out: &mut Transcript, dealer: Key, ack: Ack) -> Result<(), Stop>
+    ensures quiet { AddsQuiet out.old.entries out.new.entries }
+    ensures told { OnOk result (out.new.entries ≡ out.old.entries ++ Entry.Ack 0 dealer ack ∷ []) }
+    ensures untold { OnErr result (out.new.entries ≡ out.old.entries) }
+    ensures memory { IfErr result (λ stop. stop ≡ Faulted OutOfMemory) }
+{
+    Ok(out.push(Entry::Ack {
+        epoch: FIRST_EPOCH,
+        dealer,
+        ack,
+    })?)
+}
+
+/// Tells a dealing's acknowledgement, or that its sender is blocked.
+fn tell_answer(
+    out: &mut Transcript,
+    dealer: Key,
+    answer: Result<Ack, DealingError>,
+) -> Result<(), Stop>
+    ensures quiet { AddsQuiet out.old.entries out.new.entries }
+    ensures told { OnOk result (out.new.entries ≡ out.old.entries ++ told_by dealer answer ∷ []) }
+    ensures untold { OnErr result (out.new.entries ≡ out.old.entries) }
+    ensures memory { IfErr result (λ stop. stop ≡ Faulted OutOfMemory) }
+{
+    match answer {
+        Ok(ack) => acknowledge(out, dealer, ack),
+        Err(why) => block(out, dealer, blocked_by(why)),
+    }
+}
+
 /// Why the sender of a refused dealing is blocked.
-fn blocked_by(why: DealingError) -> BlockedWhy {
+fn blocked_by(why: DealingError) -> BlockedWhy
+    ensures { result ≡ why_of why }
+{
     match why {
         DealingError::UnexpectedDealer => BlockedWhy::Dealer,
         DealingError::InvalidCommitmentDegree => BlockedWhy::Degree,
@@ -341,6 +557,11 @@ fn blocked_by(why: DealingError) -> BlockedWhy {
 }
 
 /// Tells that a peer is blocked.
-fn block(out: &mut Transcript, peer: Key, why: BlockedWhy) -> Result<(), Stop> {
+fn block(out: &mut Transcript, peer: Key, why: BlockedWhy) -> Result<(), Stop>
+    ensures quiet { AddsQuiet out.old.entries out.new.entries }
+    ensures told { OnOk result (out.new.entries ≡ out.old.entries ++ Entry.Blocked peer why ∷ []) }
+    ensures untold { OnErr result (out.new.entries ≡ out.old.entries) }
+    ensures memory { IfErr result (λ stop. stop ≡ Faulted OutOfMemory) }
+{
     Ok(out.push(Entry::Blocked { peer, why })?)
 }

@@ -1,5 +1,6 @@
 //! Why a step did not end: a fault, or a cut inside a device call.
 ghost use Rattle.std.specs.Prelude.{◌≡◌};
+ghost use Rattle.dkg_run.specs.Stops.{stop_of};
 ghost use Rattle.dkg_run.specs.declared.stop.Stop.TheVariants.{Faulted};
 ghost use Rattle.dkg_types.specs.declared.fault.Fault.TheVariants.{NoMemory as OutOfMemory};
 
@@ -15,6 +16,8 @@ pub enum Stop {
 }
 
 impl From<StoreError> for Stop {
+    ghost from_gives = { λ error stop. stop ≡ stop_of error };
+
     fn from(error: StoreError) -> Stop {
         match error {
             StoreError::Disk => Stop::Faulted(Fault::Disk),

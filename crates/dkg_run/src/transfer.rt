@@ -1,7 +1,7 @@
 //! All of a source read, and a text written whole, in pieces.
 ghost use Rattle.std.specs.Prelude.{◌≡◌, ◌≢◌, ◌<◌, ◌≤◌, ◌+◌, ◌^◌, ◌++◌, ◌⊎◌, List, [], ℕ, IsTrue, IfOk, OnOk, OnErr, IsErrOf, IfErr, length, take, drop};
 ghost use Rattle.dkg_journal.specs.Disk.{Rose};
-ghost use Rattle.dkg_run.specs.Outside.{TookAll, TookMore, HoldsFront};
+ghost use Rattle.dkg_run.specs.Outside.{TookAll, TookFew, TookMore, HoldsFront};
 ghost use Rattle.dkg_run.specs.declared.transfer.ReadError.TheVariants.{NoMemory as OutOfMemory};
 
 use crate::sink::Sink;
@@ -63,6 +63,7 @@ fn read_up_to<S: Source>(
     ensures whole { IfOk result (λ bytes. IsTrue S.tells → TookAll bytes.items (S.left source.old) (S.left source.new)) }
     ensures short { IfOk result (λ bytes. length bytes.items ≤ most) }
     ensures too_long { IsErrOf result ReadError.TooLong → IsTrue S.tells → TookMore most (S.left source.old) (S.left source.new) }
+    ensures few { IsErrOf result ReadError.Failed → IsTrue S.tells → TookFew most (S.left source.old) (S.left source.new) }
     ensures failed { IsErrOf result ReadError.Failed → Rose (S.faults source.old) (S.faults source.new) }
     ensures later { S.faults source.old ≤ S.faults source.new }
 {
@@ -85,6 +86,7 @@ pub fn read_all<S: Source>(alloc: Global, source: &mut S) -> Result<Vec<u8>, Rea
     ensures whole { IfOk result (λ bytes. IsTrue S.tells → TookAll bytes.items (S.left source.old) (S.left source.new)) }
     ensures short { IfOk result (λ bytes. length bytes.items ≤ 16777216) }
     ensures too_long { IsErrOf result ReadError.TooLong → IsTrue S.tells → TookMore 16777216 (S.left source.old) (S.left source.new) }
+    ensures few { IsErrOf result ReadError.Failed → IsTrue S.tells → TookFew 16777216 (S.left source.old) (S.left source.new) }
     ensures failed { IsErrOf result ReadError.Failed → Rose (S.faults source.old) (S.faults source.new) }
     ensures later { S.faults source.old ≤ S.faults source.new }
 {
@@ -97,6 +99,8 @@ pub fn write_all<K: Sink>(sink: &mut K, bytes: &[u8]) -> Result<(), Failed>
     ensures whole { OnOk result (IsTrue K.tells → K.held sink.new ≡ K.held sink.old ++ bytes.now) }
     ensures front { IsTrue K.tells → HoldsFront bytes.now (K.held sink.old) (K.held sink.new) }
     ensures failed { OnErr result (Rose (K.faults sink.old) (K.faults sink.new)) }
+    ensures some { OnErr result (0 < length bytes.now) }
+    ensures none { bytes.now ≡ [] → sink.new ≡ sink.old }
     ensures later { K.faults sink.old ≤ K.faults sink.new }
 {
     let mut rest = bytes;

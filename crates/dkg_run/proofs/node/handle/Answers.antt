@@ -1,5 +1,17 @@
+use Rattle.dkg_run.proofs.Places.{quiet_unless}
 use Rattle.dkg_run.proofs.Short.{event_short}
+use Rattle.dkg_run.proofs.Told.{handed}
 use Rattle.dkg_run.proofs.node.handle.Goals as goal
 
 pub handle-requires-clause-short : goal.handle-requires-clause-short
 handle-requires-clause-short g c = event_short c.args.from c.args.public c.requires.few
+
+pub returns-in-Ok-clause-quiet : goal.returns-in-Ok-clause-quiet
+returns-in-Ok-clause-quiet g c = quiet_unless _ _ _ _ (c.in-Ok.ensures.told c.requires.answers) tt
+
+pub returns-in-Ok-clause-told : goal.returns-in-Ok-clause-told
+returns-in-Ok-clause-told g c =
+    let is = c.requires.answers in
+    handed (record { me = c.args.player.now.me; round = c.args.player.now.round }) (record { public = c.args.public; private = c.args.private }) c.args.from c.in-Ok.ack
+    c.args.out.now.entries c.handle.new.out.entries c.args.store.now.dealings c.handle.new.store.dealings
+    (c.in-Ok.ensures.answer is) (c.in-Ok.ensures.checked is) (c.in-Ok.ensures.pairs is) (c.in-Ok.ensures.told is)

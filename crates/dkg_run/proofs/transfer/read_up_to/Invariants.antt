@@ -1,5 +1,5 @@
 -- Each turn has taken at least a byte from the front of what was left.
-use Rattle.std.proofs.Common.{◌≡◌, ◌≤◌, ◌<◌, ℕ, List, length, IsTrue}
+use Rattle.std.proofs.Common.{◌≤◌, ◌<◌, length, IsTrue}
 use Rattle.dkg_run.specs.Outside.{Took}
 use Rattle.dkg_run.proofs.transfer.read_up_to.Given as goal
 

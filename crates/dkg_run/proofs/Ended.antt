@@ -1,0 +1,42 @@
+-- How the entries of a whole run end: without a fault, or in the one that ended it.
+use Rattle.std.proofs.Common.{List, [], ◌∷◌, ◌++◌, ◌≢◌, refl, ap, ◌∙◌, append_assoc, inl, inr}
+use Rattle.dkg_types.specs.declared.entry.Entry.{Entry}
+use Rattle.dkg_types.specs.declared.entry.Entry.TheVariants as entry
+use Rattle.dkg_types.specs.declared.fault.Fault.{Fault}
+use Rattle.dkg_types.specs.declared.fault.Fault.TheVariants.{NoMemory}
+use Rattle.dkg_script.specs.declared.script.Script.{Script}
+use Rattle.dkg_script.specs.Ends.{EndsWell, EndsInFault, EndsFaulted, HasRisen}
+use Rattle.dkg_script.specs.Order.{IsInOrder}
+use Rattle.dkg_script.specs.Progress.{Progress}
+use Rattle.dkg_script.specs.Promise.{Adds, RunsInOrder}
+use Rattle.dkg_script.specs.Setting.{Setting}
+use Rattle.dkg_run.specs.Standing.{Moves, MayTell, IsBetweenOf, TellsFault}
+use Rattle.dkg_run.proofs.Runs.{runs_in_order, faulted_in_order}
+use Rattle.dkg_run.proofs.Places.{moves_then, moves_none}
+
+pub told_in_order : (script : Script) (fault answered : Fault) (old mid new : List Entry) → Moves IsInOrder (IsBetweenOf script 0) (MayTell fault) old mid
+    → TellsFault fault answered mid new → Adds old new (RunsInOrder script)
+told_in_order script fault answered old mid new a (inl none) = runs_in_order script (MayTell fault) old new
+    (moves_then IsInOrder (IsBetweenOf script 0) (MayTell fault) (MayTell fault) old mid new a
+    (moves_none IsInOrder (MayTell fault) (MayTell fault) mid new none.1 (λ s p is. is)))
+told_in_order script fault answered old mid new a (inr told) = faulted_in_order script fault old mid new told.1 a told.2
+
+pub ends_well : (script : Script) (Q : Setting → Progress → Type 0) (old new : List Entry) → Moves IsInOrder (IsBetweenOf script 0) Q old new → Adds old new EndsWell
+ends_well script Q old new a = (a.added, a.parts, a.no_fault)
+
+-- a fault that is told, by its cause
+faulted : (fault : Fault) (entries : List Entry) (disk_rose secrets_rose : Type 0) → fault ≢ NoMemory → EndsInFault entries fault → HasRisen fault disk_rose secrets_rose
+    → EndsFaulted fault entries disk_rose secrets_rose
+faulted NoMemory entries disk_rose secrets_rose not ends cause = absurd (not refl)
+faulted _ entries disk_rose secrets_rose not ends cause = (ends, cause)
+
+pub told_ends : (P Q : Setting → Progress → Type 0) (fault answered : Fault) (old mid new : List Entry) (disk_rose secrets_rose : Type 0) → Moves IsInOrder P Q old mid
+    → TellsFault fault answered mid new → (fault ≢ NoMemory → HasRisen fault disk_rose secrets_rose)
+    → Adds old new (λ added. EndsFaulted answered added disk_rose secrets_rose)
+told_ends P Q fault answered old mid new disk_rose secrets_rose a (inl none) cause = (a.added, none.1 ∙ a.parts, rw none.0 a.no_fault)
+told_ends P Q fault answered old mid new disk_rose secrets_rose a (inr told) cause = (
+  a.added ++ entry.Fault fault ∷ [],
+  told.2 ∙ ap (λ xs. xs ++ entry.Fault fault ∷ []) a.parts ∙ append_assoc old a.added (entry.Fault fault ∷ []),
+  rw told.0 (faulted fault (a.added ++ entry.Fault fault ∷ []) disk_rose secrets_rose told.1
+      (record { before = a.added; last = refl; only = a.no_fault }) (cause told.1)),
+)

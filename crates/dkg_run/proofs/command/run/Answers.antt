@@ -1,0 +1,76 @@
+use Rattle.std.proofs.Common.{[], ◌∙◌, ap, inl, refl, sym}
+use Rattle.std.proofs.lemmas.List.{append-nil}
+use Rattle.dkg_script.specs.Scripts.{script_of}
+use Rattle.dkg_run.proofs.Reported.{at_added, ends_faulted, runs_faulted}
+use Rattle.dkg_run.proofs.command.run.Goals as goal
+
+pub returns-in-Err-Failed-clause-ends : goal.returns-in-Err-Failed-clause-ends
+returns-in-Err-Failed-clause-ends g c =
+    ([], sym (append-nil _), record { ends = refl; runs = record { no_entry = refl; untouched = (refl, refl) } })
+
+pub returns-in-Err-TooLong-clause-ends : goal.returns-in-Err-TooLong-clause-ends
+returns-in-Err-TooLong-clause-ends g c =
+    ([], sym (append-nil _), record { ends = refl; runs = record { no_entry = refl; untouched = (refl, refl) } })
+
+pub returns-in-Err-NoMemory-clause-ends : goal.returns-in-Err-NoMemory-clause-ends
+returns-in-Err-NoMemory-clause-ends g c =
+    ([], sym (append-nil _), record { ends = inl refl; runs = inl (record { no_entry = refl; untouched = (refl, refl) }) })
+
+pub returns-in-Err-NoMemory-read_script-clause-ends : goal.returns-in-Err-NoMemory-read_script-clause-ends
+returns-in-Err-NoMemory-read_script-clause-ends g c =
+    ([], sym (append-nil _), record { ends = inl refl; runs = inl (record { no_entry = refl; untouched = (refl, refl) }) })
+
+pub returns-in-Err-Bad-clause-ends : goal.returns-in-Err-Bad-clause-ends
+returns-in-Err-Bad-clause-ends g c = let refused = rw c.in-Err-Bad.field-0-is at (c.in-Err-Bad.ensures.reads refl) in (
+  [],
+  sym (append-nil _),
+  record {
+    ends = refl;
+    runs = record {
+      bytes = c.in-Ok.bytes.items;
+      gave = record { all = c.in-Ok.ensures.whole; not_too_long = c.in-Ok.ensures.short };
+      no_script = ap script_of (sym c.deref.ensures.value) ∙ refused;
+      nothing = record { no_entry = refl; untouched = (refl, refl) };
+    };
+  },
+)
+
+pub returns-in-Ok-run_lives-clause-ends : goal.returns-in-Ok-run_lives-clause-ends
+returns-in-Ok-run_lives-clause-ends g c = let told = c.in-Ok-run_lives.ensures in (
+  told.ends.0,
+  told.ends.1,
+  record {
+    ends = told.ends.2;
+    runs = record {
+      ran = record {
+        bytes = c.in-Ok.bytes.items;
+        gave = record { all = c.in-Ok.ensures.whole; not_too_long = c.in-Ok.ensures.short };
+        script = c.in-Ok-read_script.script;
+        spells = ap script_of (sym c.deref.ensures.value) ∙ c.in-Ok-read_script.ensures.reads refl;
+        form = c.in-Ok-read_script.ensures.form;
+        in_order = at_added _ _ _ _ told.ends.1 told.in_order;
+        kept = λ tells. at_added _ _ _ _ told.ends.1 (told.kept tells.0 tells.1);
+      };
+      all = at_added _ _ _ _ told.ends.1 told.all;
+      answered = λ tells. at_added _ _ _ _ told.ends.1 (told.answered tells.0 tells.1);
+    };
+  },
+)
+
+pub returns-clause-ends : goal.returns-clause-ends
+returns-clause-ends g c = let told = c.in-Err.ensures in (
+  told.ends.0,
+  told.ends.1,
+  rw c.status_of.ensures (record {
+    ends = ends_faulted c.in-Err.fault _ _ _ told.ends.2;
+    runs = runs_faulted c.in-Err.fault _ _ _ _ _ (record {
+      bytes = c.in-Ok.bytes.items;
+      gave = record { all = c.in-Ok.ensures.whole; not_too_long = c.in-Ok.ensures.short };
+      script = c.in-Ok-read_script.script;
+      spells = ap script_of (sym c.deref.ensures.value) ∙ c.in-Ok-read_script.ensures.reads refl;
+      form = c.in-Ok-read_script.ensures.form;
+      in_order = at_added _ _ _ _ told.ends.1 told.in_order;
+      kept = λ tells. at_added _ _ _ _ told.ends.1 (told.kept tells.0 tells.1);
+    });
+  }),
+)

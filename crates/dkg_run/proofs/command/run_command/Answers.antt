@@ -1,0 +1,37 @@
+use Rattle.std.proofs.Common.{◌∙◌, ap, length}
+use Rattle.dkg_run.proofs.Reported.{device_rose, from_place, is_silent, status_told}
+use Rattle.dkg_run.proofs.command.run_command.Goals as goal
+
+pub returns-clause-run : goal.returns-clause-run
+returns-clause-run g c is =
+    let its = c.run-status.ensures.ends in
+    let new_ones = c.entries_from.ensures ∙ from_place _ _ its.0 _ (ap length c.entries-before.ensures) its.1 in
+    (its.0, its.1, (c.run-status.result, its.2, rw new_ones at c.report-2.ensures.told))
+
+pub returns-clause-silent : goal.returns-clause-silent
+returns-clause-silent g c is =
+    let its = c.run-status.ensures.ends in
+    let new_ones = c.entries_from.ensures ∙ from_place _ _ its.0 _ (ap length c.entries-before.ensures) its.1 in
+    c.report-2.ensures.none (rw new_ones (is_silent _ _ its.0 _ _ _ _ _ _ _ _ is c.report-2.ensures.told its.2.runs))
+
+pub returns-clause-only_usage : goal.returns-clause-only_usage
+returns-clause-only_usage g c is _ =
+    let told = status_told _ _ _ _ _ _ _ is (λ e. cc) (λ e. cc) c.report-2.ensures.told in
+    rw told at c.run-status.ensures.ends.2.runs
+
+pub returns-clause-read_fault : goal.returns-clause-read_fault
+returns-clause-read_fault g c is = c.run-status.ensures.read_fault (status_told _ _ _ _ _ _ _ is (λ e. cc) (λ e. cc) c.report-2.ensures.told)
+
+pub returns-clause-too_long : goal.returns-clause-too_long
+returns-clause-too_long g c is = c.run-status.ensures.too_long (status_told _ _ _ _ _ _ _ is (λ e. cc) (λ e. cc) c.report-2.ensures.told)
+
+pub returns-clause-few : goal.returns-clause-few
+returns-clause-few g c is = c.run-status.ensures.few (status_told _ _ _ _ _ _ _ is (λ e. cc) (λ e. cc) c.report-2.ensures.told)
+
+pub returns-clause-write_fault : goal.returns-clause-write_fault
+returns-clause-write_fault g c is = c.report-2.ensures.write_fault (λ same. rw same at c.run-status.ensures.ends.2.runs) is
+
+pub returns-clause-device : goal.returns-clause-device
+returns-clause-device g c is =
+    let its = c.run-status.ensures.ends in
+    device_rose _ its.0 _ _ (status_told _ _ _ _ _ _ _ is (λ e. cc) (λ e. cc) c.report-2.ensures.told) its.2.ends

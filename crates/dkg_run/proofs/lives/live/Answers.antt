@@ -1,0 +1,27 @@
+use Rattle.std.proofs.lemmas.Result.{err_from_is_err_and}
+use Rattle.dkg_script.specs.Order.{IsInOrder}
+use Rattle.dkg_run.specs.Carried.{IsKeptEntry}
+use Rattle.dkg_run.proofs.Life.{moves_both}
+use Rattle.dkg_run.proofs.Places.{moves_then}
+use Rattle.dkg_run.proofs.Stops.{caused_later}
+use Rattle.dkg_run.proofs.lives.live.Goals as goal
+
+pub returns-in_err-take_steps-clause-stopped : goal.returns-in_err-take_steps-clause-stopped
+returns-in_err-take_steps-clause-stopped g c = let p = err_from_is_err_and c.from_residual-in_err-take_steps.result c.from_residual-in_err-take_steps.ensures.1 in
+    rw (p.1, p.2) (moves_then _ _ _ _ _ _ _ c.in_ok-node.ensures.done (c.in_err-take_steps.ensures.stopped c.args.number))
+
+pub returns-in_err-take_steps-clause-saved : goal.returns-in_err-take_steps-clause-saved
+returns-in_err-take_steps-clause-saved g c = let p = err_from_is_err_and c.from_residual-in_err-take_steps.result c.from_residual-in_err-take_steps.ensures.1 in
+    rw (p.1, p.2) (λ disk secrets. moves_then _ _ _ _ _ _ _ (moves_both IsInOrder IsKeptEntry _ _ _ _ _ _ c.in_ok-node.ensures.done (c.in_ok-node.ensures.kept disk secrets))
+    (c.in_err-take_steps.ensures.saved disk secrets c.args.number))
+
+pub returns-in_err-take_steps-clause-causes : goal.returns-in_err-take_steps-clause-causes
+returns-in_err-take_steps-clause-causes g c = let p = err_from_is_err_and c.from_residual-in_err-take_steps.result c.from_residual-in_err-take_steps.ensures.1 in
+    rw (p.1, p.2) (caused_later _ _ _ _ _ _ _ c.open.ensures.later_disk c.take_steps.ensures.later_disk c.open.ensures.later_secrets c.take_steps.ensures.later_secrets c.in_err-take_steps.ensures.causes)
+
+pub returns-clause-done : goal.returns-clause-done
+returns-clause-done g c = moves_then _ _ _ _ _ _ _ c.in_ok-node.ensures.done (c.in_ok-take_steps.ensures.done c.args.number)
+
+pub returns-clause-kept : goal.returns-clause-kept
+returns-clause-kept g c = λ disk secrets. moves_then _ _ _ _ _ _ _ (moves_both IsInOrder IsKeptEntry _ _ _ _ _ _ c.in_ok-node.ensures.done (c.in_ok-node.ensures.kept disk secrets))
+    (c.in_ok-take_steps.ensures.kept disk secrets c.args.number)

@@ -1,0 +1,56 @@
+use Rattle.std.proofs.lemmas.Result.{err_from_is_err_and}
+use Rattle.std.proofs.Common.{refl, inl}
+use Rattle.dkg_types.specs.declared.fault.Fault.TheVariants.{NoMemory}
+use Rattle.dkg_run.specs.declared.stop.Stop.TheVariants.{Faulted}
+use Rattle.dkg_run.proofs.Places.{quiet_then, quiet_none}
+use Rattle.dkg_run.proofs.Stepped.{step_kept, step_untold, step_saved, stays_saved}
+use Rattle.dkg_run.proofs.Steps.{faulted_not_cut, stops_before, quiet_stops, quiet_step}
+use Rattle.dkg_run.proofs.Stops.{cut_caused, same_caused}
+use Rattle.dkg_run.proofs.lives.take_step.Goals as goal
+
+-- THE LIFE IS CUT BEFORE THE STEP
+
+pub returns-in_err-begin_step-clause-stopped : goal.returns-in_err-begin_step-clause-stopped
+returns-in_err-begin_step-clause-stopped g c = let p = err_from_is_err_and c.from_residual.result c.from_residual.ensures.1 in rw (p.1, p.2) (λ l. stops_before _ l _ _ _ _ refl c.in_err-begin_step.ensures.ends)
+
+pub returns-in_err-begin_step-clause-saved : goal.returns-in_err-begin_step-clause-saved
+returns-in_err-begin_step-clause-saved g c = let p = err_from_is_err_and c.from_residual.result c.from_residual.ensures.1 in
+    rw (p.1, c.begin_step.ensures.disk, c.begin_step.ensures.secrets) (λ disk secrets l. stays_saved _ l _ _ _ _ _ _ _ _ refl)
+
+pub returns-in_err-begin_step-clause-causes : goal.returns-in_err-begin_step-clause-causes
+returns-in_err-begin_step-clause-causes g c = let p = err_from_is_err_and c.from_residual.result c.from_residual.ensures.1 in rw (p.1, p.2) (cut_caused _ _ _ c.in_err-begin_step.ensures.ends.0)
+
+-- THE STEP STOPS
+
+pub returns-in-Err-clause-stopped : goal.returns-in-Err-clause-stopped
+returns-in-Err-clause-stopped g c = λ l. quiet_stops _ l _ _ _ _ c.in_ok-begin_step.ensures.begins c.step.ensures.quiet c.stop_of.ensures.cut
+
+pub returns-in-Err-clause-saved : goal.returns-in-Err-clause-saved
+returns-in-Err-clause-saved g c = rw (← c.begin_step.ensures.disk, ← c.begin_step.ensures.secrets) (λ disk secrets l.
+    step_saved c.args.life.now l c.args.number _ _ _ _ _ _ _ _ c.args.event.now c.requires.event c.in-Err.stop c.stop_of.result c.stop_of.ensures.cut (c.step.ensures.images disk secrets) _ _ c.in-Err.ensures.told)
+
+pub returns-in-Err-clause-causes : goal.returns-in-Err-clause-causes
+returns-in-Err-clause-causes g c = rw (← c.begin_step.ensures.disk, ← c.begin_step.ensures.secrets) (same_caused _ _ _ _ c.stop_of.ensures.same c.in-Err.ensures.causes)
+
+-- ITS END IS NOT TOLD
+
+pub returns-in_err-push-clause-stopped : goal.returns-in_err-push-clause-stopped
+returns-in_err-push-clause-stopped g c = let p = err_from_is_err_and c.from_residual-in_err-push.result c.from_residual-in_err-push.ensures.1 in rw (p.1, p.2) (λ l. quiet_stops _ l _ (Faulted NoMemory) _ _ c.in_ok-begin_step.ensures.begins
+    (quiet_then _ _ _ c.step.ensures.quiet (quiet_none _ _ c.in_err-push.ensures.err)) (faulted_not_cut NoMemory _))
+
+pub returns-in_err-push-clause-saved : goal.returns-in_err-push-clause-saved
+returns-in_err-push-clause-saved g c = let p = err_from_is_err_and c.from_residual-in_err-push.result c.from_residual-in_err-push.ensures.1 in
+    rw (p.1, ← c.begin_step.ensures.disk, ← c.begin_step.ensures.secrets) (λ disk secrets l.
+    step_untold c.args.life.now l c.args.number _ _ _ _ _ _ _ _ c.args.event.now c.requires.event _ (c.in-Ok.ensures.holds disk secrets) _ _ _ c.in-Ok.ensures.told c.in_err-push.ensures.err)
+
+pub returns-in_err-push-clause-causes : goal.returns-in_err-push-clause-causes
+returns-in_err-push-clause-causes g c = let p = err_from_is_err_and c.from_residual-in_err-push.result c.from_residual-in_err-push.ensures.1 in rw (p.1, p.2) (inl refl)
+
+-- IT ENDS
+
+pub returns-clause-done : goal.returns-clause-done
+returns-clause-done g c = λ l. quiet_step _ l _ _ _ _ c.requires.later c.in_ok-begin_step.ensures.begins c.step.ensures.quiet c.in_ok-push.ensures.ok
+
+pub returns-clause-kept : goal.returns-clause-kept
+returns-clause-kept g c = rw (← c.begin_step.ensures.disk, ← c.begin_step.ensures.secrets, c.step.ensures.seat, c.step.ensures.limit) (λ disk secrets l.
+    step_kept c.args.life.now l c.args.number _ _ _ _ _ _ _ _ c.args.event.now c.requires.event (c.in-Ok.ensures.holds disk secrets) _ _ _ c.in-Ok.ensures.told c.in_ok-push.ensures.ok)

@@ -1,0 +1,17 @@
+use Rattle.std.proofs.Common.{inl, inr}
+use Rattle.dkg_run.proofs.Places.{at_err, opening_then}
+use Rattle.dkg_run.proofs.SetUp.{may_tell}
+use Rattle.dkg_run.proofs.node.Node.open.Goals as goal
+
+pub returns-in_err-store-clause-failed : goal.returns-in_err-store-clause-failed
+returns-in_err-store-clause-failed g c = at_err _ _ (inl c.in_err-store.ensures.untold)
+
+pub returns-in_err-node-clause-failed : goal.returns-in_err-node-clause-failed
+returns-in_err-node-clause-failed g c = at_err _ _ (inr (opening_then _ _ _ _ c.in_ok-store.ensures.opened c.set_up.ensures.quiet))
+
+pub returns-in_err-node-clause-may_list : goal.returns-in_err-node-clause-may_list
+returns-in_err-node-clause-may_list g c = may_tell _ _ _ c.args.life _ c.in_ok-store.store.dealings c.args.out.now.entries c.open_store.new.out.entries c.set_up.new.out.entries
+    c.in_ok-store.ensures.recovered c.in_ok-store.ensures.lists c.set_up.ensures.set_up
+
+pub returns-clause-opened : goal.returns-clause-opened
+returns-clause-opened g c = opening_then _ _ _ _ c.in_ok-store.ensures.opened c.set_up.ensures.quiet

@@ -1,0 +1,17 @@
+-- What the devices of a program that begins with nothing are, for any script.
+use Rattle.std.specs.Prelude.{◌≡◌, None}
+use Rattle.std.specs.FinMap.{get}
+use Rattle.dkg_values.specs.declared.name.Name.TheVariants.{Plan}
+use Rattle.dkg_journal.specs.Names.{Files}
+use Rattle.dkg_journal.specs.Opening.{IsFormOfToday}
+use Rattle.dkg_store.specs.Secrets.{Secrets}
+use Rattle.dkg_script.specs.declared.script.Script.{Script}
+use Rattle.dkg_script.specs.Promise.{AreHonestStores}
+use Rattle.dkg_script.specs.Setting.{setting_of}
+
+-- The premise of the promise on devices holds, whatever the script: they are whole with nothing loose, and there is no plan and no
+-- segment.
+pub record AreFresh (files : Files) (image : Files → Type 0) (held : Secrets) : Type 0 where
+  pub honest : (script : Script) → AreHonestStores (setting_of script files held) image
+  pub no_plan : get files Plan ≡ None
+  pub no_segment : IsFormOfToday files
