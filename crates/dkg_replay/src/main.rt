@@ -1,0 +1,56 @@
+//! Replays scripts whose transcripts an independent model wrote, and tells each difference.
+//!
+//! Beside the program lie a file a form, and one of encoded values; `tools/replay-data` makes them. It prints a line a file and a total,
+//! and ends with status 1 where something differs or a file can't be read.
+#![tactic(auto)]
+
+mod cases;
+mod replay;
+mod told;
+mod values;
+
+use std::process::ExitCode;
+use std::{fs, io};
+use told::Count;
+
+/// The forms of script of which there are cases.
+const FORMS: [&str; 1] = ["first"];
+
+/// Replays the cases of a form, and tells how many there are and how many differ.
+fn replay_form(rt: &HostRuntime, form: &str) -> io::Result<Count> {
+    let alloc = rt.alloc();
+    let name = format!(in alloc; "{form}.cases")?;
+    let bytes = fs::read(rt, name.as_str())?;
+    let mut sink = io::writer(rt);
+    let count = replay::all(alloc, form, bytes.as_slice(), &mut sink)?;
+    told::tell_count(alloc, form, &count, &mut sink)?;
+    Ok(count)
+}
+
+/// Reads the values, and writes them again.
+fn read_values(rt: &HostRuntime) -> io::Result<Count> {
+    let alloc = rt.alloc();
+    let bytes = fs::read(rt, "values.cases")?;
+    let mut sink = io::writer(rt);
+    let count = values::all(alloc, bytes.as_slice(), &mut sink)?;
+    told::tell_count(alloc, "values", &count, &mut sink)?;
+    Ok(count)
+}
+
+/// Replays all forms, and reads all values.
+fn replay_all(rt: &HostRuntime) -> io::Result<Count> {
+    let mut total = Count::new();
+    for form in FORMS.iter() {
+        total.add(&replay_form(rt, form)?);
+    }
+    total.add(&read_values(rt)?);
+    told::tell_count(rt.alloc(), "all", &total, &mut io::writer(rt))?;
+    Ok(total)
+}
+
+fn main(rt: HostRuntime) -> ExitCode {
+    match replay_all(&rt) {
+        Ok(total) if total.is_clean() => ExitCode::SUCCESS,
+        _ => ExitCode::FAILURE,
+    }
+}

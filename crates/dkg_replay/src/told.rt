@@ -1,0 +1,87 @@
+//! What is printed: a line a form, and each difference.
+
+use crate::cases::Case;
+use crate::replay::Run;
+use std::alloc::Global;
+use std::io::{self, Write};
+
+/// How many cases were replayed, and how many differ.
+#[derive(Drop)]
+pub struct Count {
+    cases: u64,
+    differ: u64,
+}
+
+impl Count {
+    pub fn new() -> Count {
+        Count {
+            cases: 0,
+            differ: 0,
+        }
+    }
+
+    /// Counts a case. (A count at its last value stays there.)
+    pub fn take(&mut self, agrees: bool) {
+        self.cases = self.cases.saturating_add(1);
+        if !agrees {
+            self.differ = self.differ.saturating_add(1);
+        }
+    }
+
+    /// Adds another count.
+    pub fn add(&mut self, other: &Count) {
+        self.cases = self.cases.saturating_add(other.cases);
+        self.differ = self.differ.saturating_add(other.differ);
+    }
+
+    /// Whether there were cases, and none differs.
+    pub fn is_clean(&self) -> bool {
+        self.cases != 0 && self.differ == 0
+    }
+}
+
+/// Tells a count.
+pub fn tell_count<W: Write>(
+    alloc: Global,
+    form: &str,
+    count: &Count,
+    sink: &mut W,
+) -> io::Result<()> {
+    let line = format!(in alloc; "{form}: {} cases, {} differ\n", count.cases, count.differ)?;
+    sink.write_all(line.as_bytes())
+}
+
+/// The number of the first line in which two texts differ, from 1, and both lines.
+fn first_difference<'a>(wanted: &'a [u8], got: &'a [u8]) -> (u64, &'a [u8], &'a [u8]) {
+    let none: &[u8] = &[];
+    let mut number = 1u64;
+    let mut others = got.split(|byte| *byte == b'\n');
+    for line in wanted.split(|byte| *byte == b'\n') {
+        let other = others.next().unwrap_or(none);
+        if line != other {
+            return (number, line, other);
+        }
+        number = number.saturating_add(1);
+    }
+    (number, none, others.next().unwrap_or(none))
+}
+
+/// Tells a case that differs: its line, what is wanted there, and what was written.
+pub fn tell_difference<W: Write>(
+    alloc: Global,
+    form: &str,
+    case: &Case<'_>,
+    run: &Run,
+    sink: &mut W,
+) -> io::Result<()> {
+    let (number, wanted, got) = first_difference(case.transcript, run.sink.bytes());
+    let line = format!(in alloc;
+        "{form} {}: status {} for {}, line {number}: wanted ",
+        case.name, run.status, case.status
+    )?;
+    sink.write_all(line.as_bytes())?;
+    sink.write_all(wanted)?;
+    sink.write_all(b", got ")?;
+    sink.write_all(got)?;
+    sink.write_all(b"\n")
+}
