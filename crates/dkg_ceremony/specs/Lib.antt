@@ -28,6 +28,7 @@ pub mod Polynomials
 pub mod Publics
 pub mod RoundLaws
 pub mod Rounds
+pub mod Schedule
 pub mod SelectionLaws
 pub mod ShareLaws
 pub mod SharingGrammar

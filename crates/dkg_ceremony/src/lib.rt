@@ -8,6 +8,9 @@ mod ceremony;
 mod combine;
 mod deal;
 mod dealer_log;
+mod epocher;
+#[cfg(test)]
+mod epocher_tests;
 mod evaluate;
 mod finish;
 mod limits;
@@ -44,6 +47,7 @@ pub use dkg_values::{
     decode_cfg, encode, no_prefix, numbers_compare, read_array, read_be16, read_be32, read_byte,
     read_count, read_keys, read_many, read_u32, read_u64, round_trip, uint_size, write_uint,
 };
+pub use epocher::{Bounds, Epocher};
 pub use finish::FinishError;
 pub use log_entries::LogEntries;
 pub use log_entry::LogEntry;
