@@ -5,18 +5,20 @@ use Rattle.std.proofs.lemmas.List.{nil_from_length}
 use Rattle.std.proofs.lemmas.Cmp.{tied_itself}
 use Rattle.std.specs.Ordering.{eq_by_cmp, is_eq}
 use Rattle.std.specs.FinMap as map_of
-use Rattle.std.specs.FinMap.{get, find, get-entries}
+use Rattle.std.specs.FinMap.{get, insert, find, get-entries}
 use Rattle.dkg_journal.specs.Names.{Files, name_cmp}
 use Rattle.dkg_journal.specs.Disk.{Follows, Inside, Did, IsUnchanged, Lands}
 use Rattle.dkg_journal.specs.Steps.{Firm, Bare, Keeps}
 use Rattle.dkg_journal.specs.Records.{Entry, Whole, spelled, entries, entries_with, segment_entries, in_order}
-use Rattle.dkg_journal.specs.Opening.{IsFormOfToday, mend_at, mend_of}
+use Rattle.dkg_journal.specs.Gated.{OpensAlike, gated_entries, gated_from, gated_in}
+use Rattle.dkg_journal.specs.Opening.{IsFormOfToday, broken, broken_of, mend_at, mend_of}
 use Rattle.dkg_values.specs.declared.name.Name.{Name}
 use Rattle.dkg_values.specs.declared.name.Name.TheVariants.{Plan, Flat, Segment}
 use Rattle.dkg_journal.specs.declared.disk.Op.TheVariants.{Install}
 use Rattle.dkg_journal.proofs.Steps.{names_total, get_here, weaken}
 use Rattle.dkg_journal.proofs.Append.{same_files, entries_flat}
-use Rattle.dkg_journal.proofs.Reading.{read_front, ends_stops, mended_flat, whole_entries}
+use Rattle.dkg_journal.proofs.Flat.{flat_bodies}
+use Rattle.dkg_journal.proofs.Reading.{read_front, ends_stops, mended_flat, whole_entries, whole_unbroken}
 
 -- a file that ends without a gate
 pub mend_some : (bytes : List ℕ) (out : List Entry) (place : ℕ) → Whole bytes out place → length bytes ≤ place → mend_of (Some bytes) ≡ Install Flat (bytes ++ 0 ∷ []) ∷ []
@@ -40,6 +42,34 @@ firm_install x y bytes files last image next same firm did = subst (λ (z : List
   there = ap (λ (m : Files). get m Flat) did.reads ∙ get_here files Flat x;
   only = did.durable;
 })
+
+-- the same records, and behind them the closed gate that was missing
+mended_whole : (bytes : List ℕ) (out : List Entry) (place : ℕ) → Whole bytes out place → length bytes ≤ place → Whole (bytes ++ 0 ∷ []) out place
+mended_whole bytes out place whole ended =
+    let flat = mended_flat bytes out place whole ended in
+    record {
+      rest = flat.gate ∷ flat.junk;
+      front = record { bs = whole.front.bs; split = flat.is; stands_for = whole.front.stands_for; size = whole.front.size; short = whole.front.short };
+      ends = flat.shut;
+    }
+
+pub mended_alike : (x bytes : List ℕ) (out : List Entry) (place : ℕ) (files new : Files) → x ≡ bytes ++ 0 ∷ [] → length bytes ≤ place → Whole bytes out place → get files Flat ≡ Some bytes → new ≡ insert files Flat x → OpensAlike files new
+mended_alike x bytes out place files new same ended whole was installed =
+    let now : get new Flat ≡ Some (bytes ++ 0 ∷ []) = ap (λ (m : Files). get m Flat) installed ∙ get_here files Flat x ∙ ap (λ (z : List ℕ). Some z) same in
+    let read = read_front bytes whole.rest out place whole.front (ends_stops whole.rest whole.ends) in
+    record {
+      same_broken = ap broken_of now ∙ whole_unbroken (bytes ++ 0 ∷ []) out place (mended_whole bytes out place whole ended)
+          ∙ sym (ap broken_of was ∙ whole_unbroken bytes out place whole);
+      same_entries = ap gated_in now
+          ∙ ap (λ (bs : List (List ℕ)). in_order (gated_from 0 bs)) (flat_bodies whole.front.bs place (bytes ++ 0 ∷ []) (mended_flat bytes out place whole ended) ∙ sym read.0)
+          ∙ sym (ap gated_in was);
+    }
+
+pub unchanged_alike : {D : Type 0} (files : D → Files) (image : D → Files → Type 0) (a b : D) → IsUnchanged files image a b → OpensAlike (files a) (files b)
+unchanged_alike files image a b same = record { same_broken = ap broken same.same_files; same_entries = ap gated_entries same.same_files }
+
+pub alike_on : (a b c : Files) → OpensAlike a b → OpensAlike b c → OpensAlike a c
+alike_on a b c first second = record { same_broken = second.same_broken ∙ first.same_broken; same_entries = second.same_entries ∙ first.same_entries }
 
 -- the entries of an image of a firm file
 pub firm_entries : (bytes : List ℕ) (out : List Entry) (place : ℕ) (files : Files) (image : Files → Type 0) (d : Files) → Whole bytes out place → Firm bytes files image → image d → entries d ≡ in_order out

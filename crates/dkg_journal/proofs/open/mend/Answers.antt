@@ -3,7 +3,7 @@ use Rattle.dkg_journal.specs.declared.disk.Op.{Op}
 use Rattle.dkg_journal.specs.declared.disk.Op.TheVariants.{Install}
 use Rattle.dkg_values.specs.declared.name.Name.TheVariants.{Flat}
 use Rattle.dkg_journal.proofs.Steps.{ran_all, all_same}
-use Rattle.dkg_journal.proofs.Mending.{mend_some, mend_none, firm_install, mended_keeps}
+use Rattle.dkg_journal.proofs.Mending.{mend_some, mend_none, firm_install, mended_alike, mended_keeps}
 use Rattle.dkg_journal.proofs.Reading.{mended_flat}
 use Rattle.dkg_journal.proofs.Standing.{mended_standing, settled_flat, keeps_else}
 use Rattle.dkg_journal.proofs.open.mend.Goals as goal
@@ -56,3 +56,6 @@ pub returns-clause-settled : goal.returns-clause-settled
 returns-clause-settled g c = λ out whole firm tells lands.
     let flat = returns-clause-open g c out whole firm tells in
     settled_flat flat.bytes _ _ _ _ lands flat.firm (keeps_else _ _ (returns-clause-images g c out whole firm)) (g.met.D.Disk.reads _ tells)
+
+pub returns-clause-alike : goal.returns-clause-alike
+returns-clause-alike g c = λ tells out whole was. mended_alike _ c.args.bytes.items out c.args.place _ _ (c.new.ensures ∙ c.in_ok-push.ensures.items) (omega arith) whole was (c.in_ok-perform.ensures.done tells).reads

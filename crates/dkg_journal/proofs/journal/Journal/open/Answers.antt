@@ -1,6 +1,9 @@
 use Rattle.std.proofs.Common.{List, ℕ, Option, Some, map, [], inl, refl, sym, ◌∙◌, ap}
 use Rattle.std.proofs.lemmas.Option.{none-some}
 use Rattle.std.specs.Prelude.{option_map}
+use Rattle.std.specs.FinMap.{get}
+use Rattle.dkg_journal.specs.Names.{Files}
+use Rattle.dkg_values.specs.declared.name.Name.TheVariants.{Flat}
 use Rattle.dkg_journal.specs.Opening.{mend_of, broken_of}
 use Rattle.dkg_journal.proofs.Append.{keeps_keeps}
 use Rattle.dkg_journal.proofs.Steps.{then_all, then_ran, ran_same, all_same}
@@ -8,7 +11,7 @@ use Rattle.dkg_journal.proofs.Reading.{whole_entries, whole_unbroken}
 use Rattle.dkg_journal.specs.Views.{views}
 use Rattle.dkg_journal.specs.Records.{entries_with, in_order}
 use Rattle.dkg_journal.specs.Gated.{gated, gated_in}
-use Rattle.dkg_journal.proofs.Mending.{unchanged_keeps, firm_read, bare_read, bare_entries, whole_at}
+use Rattle.dkg_journal.proofs.Mending.{alike_on, unchanged_alike, unchanged_keeps, firm_read, bare_read, bare_entries, whole_at}
 use Rattle.dkg_journal.specs.Operations.{journaled}
 use Rattle.dkg_journal.proofs.Standing.{unchanged_lands, tried_open}
 use Rattle.dkg_journal.proofs.journal.Journal.open.Goals as goal
@@ -127,3 +130,13 @@ returns-clause-corrupt g c = λ place tells broken.
     let is = ap (λ o. option_map (λ v. v.items) o) (sym c.in-Some.is) ∙ c.in_ok-bytes.ensures.bytes tells in
     let whole = whole_at _ _ _ _ c.deref.ensures.value c.in_ok-entries.ensures.whole in
     absurd (none-some place (sym (sym (ap broken_of is) ∙ whole_unbroken c.in-Some.bytes.items _ _ whole) ∙ broken))
+
+pub returns-in-None-clause-alike : goal.returns-in-None-clause-alike
+returns-in-None-clause-alike g c = λ tells. unchanged_alike g.D.Disk.files g.D.Disk.image _ _ c.read_flat.ensures.same
+
+pub returns-clause-alike : goal.returns-clause-alike
+returns-clause-alike g c = λ tells.
+    let same = c.read_flat.ensures.same in
+    let is = ap (λ o. option_map (λ v. v.items) o) (sym c.in-Some.is) ∙ c.in_ok-bytes.ensures.bytes tells in
+    let whole = whole_at _ _ _ _ c.deref.ensures.value c.in_ok-entries.ensures.whole in
+    alike_on _ _ _ (unchanged_alike g.D.Disk.files g.D.Disk.image _ _ same) (c.in_ok-mend.ensures.alike tells _ whole (ap (λ (m : Files). get m Flat) same.same_files ∙ sym is))
