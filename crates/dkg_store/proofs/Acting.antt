@@ -21,7 +21,7 @@ use Rattle.dkg_values.specs.declared.name.Name.TheVariants.{Plan, Flat, Segment}
 use Rattle.dkg_store.specs.Secrets.{Secrets, Tries}
 use Rattle.dkg_store.specs.Secrets as of_secrets
 use Rattle.dkg_store.specs.Acts.{Acts, bind, Ended, broken, went, Stands, Moment, moment, MadeAt, Held, held_in, World, device_calls, Appends}
-use Rattle.dkg_store.specs.Calls.{put_and_appended, ended_as, by_error}
+use Rattle.dkg_store.specs.Calls.{appended, put_and_appended, ended_as, by_error}
 use Rattle.dkg_store.specs.Errors.{IsOfDevices, IsOfSecrets, store_error_of}
 use Rattle.dkg_store.specs.declared.call.StoreError.{StoreError}
 use Rattle.dkg_store.specs.declared.call.StoreError.TheVariants.{Disk, Secrets as OfSecrets, Corrupt, LocalState, StateSyncEpochs, StateSyncMaterial, Cut, NoMemory}
@@ -136,6 +136,47 @@ module _ {S : Type 0} (op : SecretOp) (journal : Journal) (e : Entry) (end : S) 
     );
     stands = λ stands. stands_again journal_now files files_now next (λ c here. let from = follows.each c here in subst (λ (f : Files). SameElse Flat f c) (stands.lands.only from.0 from.1) from.2.others) firm itself;
   })
+
+-- an append alone
+module _ {S : Type 0} (journal : Journal) (e : Entry) (end : S) (files : Files) (image : Files → Type 0) (out : List Line) (held : Secrets) (fuse : Burn) where
+  left_notes : (c d : Files) → d ≡ files → MayAdd e d c → (held_in c held ≡ held_in files held) ⊎ (held_in c held ≡ record { notes = placed (entries files) e; secrets = held; plan = get files Plan })
+  left_notes c d same may = elim may.either [
+    | inl is ↦ inl (held_is c held held (entries files) (get files Plan) (is ∙ ap entries same) refl (may.others Plan plan_apart ∙ ap (λ (f : Files). get f Plan) same))
+    | inr is ↦ inr (held_is c held held (placed (entries files) e) (get files Plan) (is ∙ ap (λ (f : Files). placed (entries f) e) same) refl (may.others Plan plan_apart ∙ ap (λ (f : Files). get f Plan) same))
+  ]
+
+  pub alone_torn : {how : Ended StoreError S} {D : Type 0} {made : D → D → List Op → Type 0} {disk disk_now : D} (files_now : Files) (next : Files → Type 0) (fuse_now : Burn) → how ≡ broken
+      → Follows (MayAdd e) image next → Ran made disk disk_now fuse fuse_now (append_calls journal e)
+      → MadeAt (appended (has_file journal) e end) how files image files_now next (moment out held fuse) (moment out held fuse_now)
+  alone_torn files_now next fuse_now is follows ran = subst (λ (x : Ended StoreError S). MadeAt (appended (has_file journal) e end) x files image files_now next (moment out held fuse) (moment out held fuse_now)) (sym is) (record {
+    made = λ stands c here. let from = follows.each c here in inl (record {
+      same = refl;
+      torn = left_notes c from.0 (stands.lands.only from.0 from.1) from.2;
+      calls = length ran.first;
+      most = subst (λ (n : ℕ). length ran.first ≤ n) (append_size journal e) (no_more ran.first ran.rest (append_calls journal e) ran.whole);
+      fuse = ran.all.fuse ∙ burnt-burned ran.first fuse;
+    });
+    stands = tt;
+  })
+
+  pub alone_done : {how : Ended StoreError S} {D : Type 0} {made : D → D → List Op → Type 0} {disk disk_now : D} (journal_now : Journal) (files_now : Files) (next : Files → Type 0) (fuse_now : Burn) → how ≡ went end
+      → Follows (Adds e) image next → RanAll made disk disk_now fuse fuse_now (append_calls journal e) → IsOpen journal_now files_now next → next files_now
+      → MadeAt (appended (has_file journal) e end) how files image files_now next (moment out held fuse) (moment out held fuse_now)
+  alone_done journal_now files_now next fuse_now is follows ran firm itself = subst (λ (x : Ended StoreError S). MadeAt (appended (has_file journal) e end) x files image files_now next (moment out held fuse) (moment out held fuse_now)) (sym is) (record {
+    made = λ stands c here. let from = follows.each c here in let same = stands.lands.only from.0 from.1 in (
+      world_is out
+          (held_is c held held (placed (entries files) e) (get files Plan) (from.2.added ∙ ap (λ (f : Files). placed (entries f) e) same) refl (from.2.others Plan plan_apart ∙ ap (λ (f : Files). get f Plan) same))
+          (ran.fuse ∙ burnt-burned (append_calls journal e) fuse ∙ ap (λ (n : ℕ). burnt n fuse) (append_size journal e)),
+      refl,
+    );
+    stands = λ stands. stands_again journal_now files files_now next (λ c here. let from = follows.each c here in subst (λ (f : Files). SameElse Flat f c) (stands.lands.only from.0 from.1) from.2.others) firm itself;
+  })
+
+-- the same entry
+pub alone_alike : {S : Type 0} {section section_too : ℕ} {body body_too : List ℕ} {there : Bool} {end : S} {how : Ended StoreError S} {files files_now : Files} {image next : Files → Type 0} {old new : Moment} → section ≡ section_too → body ≡ body_too
+    → MadeAt (appended there (section, body) end) how files image files_now next old new → MadeAt (appended there (section_too, body_too) end) how files image files_now next old new
+alone_alike {S = S} {there = there} {end = end} {how = how} {files = files} {files_now = files_now} {image = image} {next = next} {old = old} {new = new} a b made =
+    subst (λ (acts : Acts StoreError S). MadeAt acts how files image files_now next old new) (λ i. appended there (a i, b i) end) made
 
 -- the same put and the same entry
 pub made_alike : {S : Type 0} {op op_too : SecretOp} {section section_too : ℕ} {body body_too : List ℕ} {there : Bool} {end : S} {how : Ended StoreError S} {files files_now : Files} {image next : Files → Type 0} {old new : Moment} → op ≡ op_too → section ≡ section_too → body ≡ body_too

@@ -8,7 +8,7 @@ use Rattle.dkg_journal.specs.Names.{Files}
 use Rattle.dkg_journal.specs.Records.{Entry, entries}
 use Rattle.dkg_values.specs.declared.name.Name.TheVariants.{Plan}
 use Rattle.dkg_types.specs.declared.entry.Entry.{Entry as Line}
-use Rattle.dkg_store.specs.Acts.{Acts, Say, Do, Ask, Goes, Stops, bind, World, says, does, Tears, IsTorn, Completes, Faults, Breaks, Ended, went, stopped, broken, Runs, IfWent, Stands, Moment, moment, world, held_in, at, MadeAt, GoesOn, Along, Operation, Bars, Opens, Appends, Changes, Held, device_calls, after}
+use Rattle.dkg_store.specs.Acts.{Acts, Say, Do, Ask, Goes, Stops, bind, World, says, does, Tears, IsTorn, Completes, Faults, Breaks, Ended, went, stopped, broken, Runs, IfWent, Stands, Moment, moment, world, held_in, at, MadeAt, GoesOn, Along, Operation, Bars, Opens, Appends, Prunes, Changes, Held, device_calls, after}
 use Rattle.dkg_store.specs.Secrets.{Secrets}
 use Rattle.dkg_store.proofs.Tried.{nothing_done}
 
@@ -52,6 +52,7 @@ untorn : (op : Operation) (h : Held) → IsTorn op h h
 untorn Bars h = refl
 untorn (Opens calls) h = refl
 untorn (Appends there e) h = inl refl
+untorn (Prunes calls min) h = inl refl
 untorn (Changes op) h = (refl, nothing_done op h.secrets h.secrets refl)
 
 -- nothing was run

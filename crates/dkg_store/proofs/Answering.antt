@@ -6,6 +6,7 @@ use Rattle.dkg_store.specs.Acts.{Ended, broken, went, Moment, MadeAt}
 use Rattle.dkg_store.specs.Calls.{put_and_appended, recording, answering, answered}
 use Rattle.dkg_store.specs.Errors.{IsOfDevices}
 use Rattle.dkg_store.specs.Events.{event_spelling}
+use Rattle.dkg_store.specs.declared.event.Event.TheVariants as events
 use Rattle.dkg_store.specs.declared.call.StoreError.{StoreError}
 use Rattle.dkg_store.specs.declared.player.DealingHandleError.{DealingHandleError}
 use Rattle.dkg_store.specs.declared.player.DealingHandleError.TheVariants.{Store as OfStore}
@@ -15,7 +16,7 @@ use Rattle.dkg_store.proofs.Acting.{breaks_off}
 
 -- a dealing that was not recorded
 pub recorded_new : (known there : Bool) (epoch dealer : ℕ) (public : List ℕ) (private : ℕ) {how : Ended StoreError Bool} {files files_now : Files} {image next : Files → Type 0} {old new : Moment} → known ≡ false
-    → MadeAt (recording known there epoch dealer public private) how files image files_now next old new → MadeAt (put_and_appended (PutDealing epoch dealer private) there (epoch, event_spelling dealer public) true) how files image files_now next old new
+    → MadeAt (recording known there epoch dealer public private) how files image files_now next old new → MadeAt (put_and_appended (PutDealing epoch dealer private) there (epoch, event_spelling (events.Dealing dealer public)) true) how files image files_now next old new
 recorded_new known there epoch dealer public private {how} {files} {files_now} {image} {next} {old} {new} is made =
     subst (λ (k : Bool). MadeAt (recording k there epoch dealer public private) how files image files_now next old new) is made
 

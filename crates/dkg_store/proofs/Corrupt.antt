@@ -4,12 +4,14 @@ use Rattle.std.specs.Prelude.{MatchResult}
 use Rattle.dkg_values.specs.declared.name.Name.{Name}
 use Rattle.dkg_values.specs.declared.name.Name.TheVariants.{Flat}
 use Rattle.dkg_journal.specs.Names.{Files}
-use Rattle.dkg_journal.specs.Gated.{gated, gated_entries}
+use Rattle.dkg_journal.specs.Gated.{OpensAlike, gated, gated_entries}
 use Rattle.dkg_journal.specs.Opening.{broken}
 use Rattle.dkg_journal.specs.Records.{Entry}
 use Rattle.dkg_journal.specs.declared.opening.JournalEntry.{JournalEntry}
 use Rattle.dkg_store.specs.Corrupt.{IsCorruptAt}
-use Rattle.dkg_store.specs.Errors.{IsOfDevices, IsOfOpening}
+use Rattle.dkg_journal.specs.declared.call.JournalError.{JournalError}
+use Rattle.dkg_journal.specs.declared.call.JournalError.TheVariants as of_journal
+use Rattle.dkg_store.specs.Errors.{IsOfDevices, IsOfOpening, store_error_of}
 use Rattle.dkg_store.specs.Events.{no_event_at}
 use Rattle.dkg_store.specs.declared.call.StoreError.{StoreError}
 use Rattle.dkg_store.specs.declared.call.StoreError.TheVariants.{Disk, Secrets, Corrupt, LocalState, StateSyncEpochs, StateSyncMaterial, Cut, NoMemory}
@@ -71,3 +73,18 @@ module _ (limit : ℕ) (files : Files) where
 
 pub same_error : {T : Type 0} (r : Result T StoreError) (e f : StoreError) → r ≡ Err e → r ≡ Err f → e ≡ f
 same_error {T} r e f is other = let h : ◌≡◌ {A = Result T StoreError} (Err e) (Err f) = sym is ∙ other in cc
+
+-- what was found of the journal is told under the same name and place
+pub journal_corrupt : (e : JournalError) (name : Name) (place : ℕ) → (e ≡ of_journal.TooLong → ⊥) → store_error_of e ≡ Corrupt name place → e ≡ of_journal.Corrupt name place
+journal_corrupt of_journal.Disk name place short is = absurd (let h : ◌≡◌ {A = StoreError} Disk (Corrupt name place) = is in cc)
+journal_corrupt of_journal.Cut name place short is = absurd (let h : ◌≡◌ {A = StoreError} Cut (Corrupt name place) = is in cc)
+journal_corrupt of_journal.NoMemory name place short is = absurd (let h : ◌≡◌ {A = StoreError} NoMemory (Corrupt name place) = is in cc)
+journal_corrupt of_journal.TooLong name place short is = absurd (short refl)
+journal_corrupt (of_journal.Corrupt its at) name place short is = let h : ◌≡◌ {A = StoreError} (Corrupt its at) (Corrupt name place) = is in cc
+
+-- what another opening finds is the same
+pub corrupt_alike : (limit place : ℕ) (old new : Files) → OpensAlike old new → IsCorruptAt limit old place → IsCorruptAt limit new place
+corrupt_alike limit place old new alike at = elim at.so [
+  | inl torn ↦ record { so = inl (alike.same_broken ∙ torn) }
+  | inr whole ↦ record { so = inr (alike.same_broken ∙ whole.0, record { read = whole.1.read; are = whole.1.are ∙ sym alike.same_entries; first = whole.1.first }) }
+]

@@ -12,7 +12,10 @@ use Rattle.dkg_journal.specs.Disk.{Follows, SameElse}
 use Rattle.dkg_journal.specs.Opening.{IsFormOfToday}
 use Rattle.dkg_journal.specs.Steps.{Keeps}
 use Rattle.dkg_journal.specs.Table.{Rows, RowsImage, MatchFile}
+use Rattle.dkg_ceremony.specs.Logs.{log_spelling}
+use Rattle.dkg_ceremony.specs.declared.dealer_log.DealerLog.{DealerLog}
 use Rattle.dkg_store.specs.Events.{event_spelling}
+use Rattle.dkg_store.specs.declared.event.Event.TheVariants as events
 use Rattle.dkg_store.specs.Formed.{IsFormed}
 
 form_kept : (old new : Files) → SameElse Flat old new → IsFormOfToday old → IsFormOfToday new
@@ -35,5 +38,9 @@ empty_formed rows is =
     subst P (sym is) (record { each = λ c here. record { no_segment = λ section. none_there (get c (Segment section)) (here.each (Segment section)) } })
 
 -- a public half of three elements makes an event that a record can hold
-pub event_short : (dealer : ℕ) (public : List ℕ) → length public ≡ 3 → 8 + length (event_spelling dealer public) < 2 ^ 32
+pub event_short : (dealer : ℕ) (public : List ℕ) → length public ≡ 3 → 8 + length (event_spelling (events.Dealing dealer public)) < 2 ^ 32
 event_short dealer public few = omega (arith, uint_short (length public), public_size public (length (uint (length public))) (length public) refl refl, length-append (to_be_bytes w32 dealer) (public_spelling public))
+
+-- .. and a log of at most 1,000 bytes
+pub log_short : (dealer : ℕ) (log : DealerLog) → length (log_spelling log) ≤ 1000 → 8 + length (event_spelling (events.Log dealer log)) < 2 ^ 32
+log_short dealer log few = omega (arith, length-append (to_be_bytes w32 dealer) (log_spelling log))

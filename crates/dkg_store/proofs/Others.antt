@@ -1,5 +1,5 @@
 -- What an append does to the other files.
-use Rattle.std.proofs.Common.{◌≡◌}
+use Rattle.std.proofs.Common.{◌≡◌, inl, refl}
 use Rattle.dkg_values.specs.declared.name.Name.TheVariants.{Flat}
 use Rattle.dkg_journal.specs.Names.{Files}
 use Rattle.dkg_journal.specs.Disk.{Follows, SameElse}
@@ -9,3 +9,7 @@ use Rattle.dkg_journal.specs.Steps.{MayAdd}
 -- it leaves them as they were
 pub others_of : (e : Entry) (image next : Files → Type 0) → Follows (MayAdd e) image next → Follows (SameElse Flat) image next
 others_of e image next follows = record { each = λ c here. let from = follows.each c here in (from.0, from.1, from.2.others) }
+
+-- nothing was called
+pub not_added : (e : Entry) (image : Files → Type 0) → Follows (MayAdd e) image image
+not_added e image = record { each = λ c here. (c, here, record { others = λ name apart. refl; either = inl refl }) }

@@ -8,7 +8,9 @@ use Rattle.dkg_journal.specs.Records.{Entry, entries, placed}
 use Rattle.dkg_journal.specs.Steps.{Adds, MayAdd}
 use Rattle.dkg_values.specs.Codec.{Reading, whole}
 use Rattle.dkg_store.specs.Keys.{key_cmp}
-use Rattle.dkg_store.specs.Events.{event_spelling, no_limit, IsPublic}
+use Rattle.dkg_store.specs.Events.{event_spelling, no_limit, IsEvent}
+use Rattle.dkg_store.specs.declared.event.Event.{Event}
+use Rattle.dkg_store.specs.declared.event.Event.TheVariants as events
 use Rattle.dkg_store.specs.Secrets.{Secrets, after}
 use Rattle.dkg_store.specs.declared.secrets.SecretOp.TheVariants.{PutDealing}
 use Rattle.dkg_store.specs.Pairs.{Pairs, Dealing, dealing_in, dealing_of, with_half, with_dealing, recovered, HasHalf, IsWhole, Holds, HoldsEither, PutsFirst}
@@ -139,11 +141,11 @@ apart_all s k [] m whole none = tt
 apart_all s k (e ∷ es) m whole none = (apart_one s m k (dealing_of e) whole.0 (none_before s k es (step s m e) none), apart_all s k es (step s m e) whole.1 none)
 
 -- the record of a dealing is read as such
-pub dealing_of_event : (epoch dealer : ℕ) (public : List ℕ) → dealer < 2 ^ 32 → IsPublic public → dealing_of (epoch, event_spelling dealer public) ≡ Some (record { key = (epoch, dealer); public = public })
-dealing_of_event epoch dealer public fits is =
-    ap (λ (r : Reading (ℕ × List ℕ)). dealing_in epoch (whole r)) (read_again no_limit dealer public fits is)
+pub dealing_of_event : (epoch dealer : ℕ) (public : List ℕ) → IsEvent (events.Dealing dealer public) → dealing_of (epoch, event_spelling (events.Dealing dealer public)) ≡ Some (record { key = (epoch, dealer); public = public })
+dealing_of_event epoch dealer public is =
+    ap (λ (r : Reading Event). dealing_in epoch (whole r)) (read_again no_limit (events.Dealing dealer public) is)
 
-module _ (epoch dealer private : ℕ) (public : List ℕ) (fits : dealer < 2 ^ 32) (is_public : IsPublic public) (pairs : Pairs) (new : get pairs (epoch, dealer) ≡ None) (held : Secrets) where
+module _ (epoch dealer private : ℕ) (public : List ℕ) (is_event : IsEvent (events.Dealing dealer public)) (pairs : Pairs) (new : get pairs (epoch, dealer) ≡ None) (held : Secrets) where
   private_put : Secrets
   private_put = put held (epoch, dealer) private
 
@@ -154,17 +156,17 @@ module _ (epoch dealer private : ℕ) (public : List ℕ) (fits : dealer < 2 ^ 3
       (whole_put held (epoch, dealer) private es whole, fold_same held (epoch, dealer) private es empty apart ∙ gives)
 
   pub record_one : (es : List Entry) → IsWhole es held → recovered es held ≡ pairs →
-      IsWhole (placed es (epoch, event_spelling dealer public)) (put held (epoch, dealer) private)
-      × (recovered (placed es (epoch, event_spelling dealer public)) (put held (epoch, dealer) private) ≡ insert pairs (epoch, dealer) (public, private))
+      IsWhole (placed es (epoch, event_spelling (events.Dealing dealer public))) (put held (epoch, dealer) private)
+      × (recovered (placed es (epoch, event_spelling (events.Dealing dealer public))) (put held (epoch, dealer) private) ≡ insert pairs (epoch, dealer) (public, private))
   record_one es whole gives =
       let now : Secrets = put held (epoch, dealer) private in
-      let is : dealing_of (epoch, event_spelling dealer public) ≡ Some (record { key = (epoch, dealer); public = public }) = dealing_of_event epoch dealer public fits is_public in
+      let is : dealing_of (epoch, event_spelling (events.Dealing dealer public)) ≡ Some (record { key = (epoch, dealer); public = public }) = dealing_of_event epoch dealer public is_event in
       let there : get now.privates (epoch, dealer) ≡ Some private = get_here held.privates (epoch, dealer) private in
       let apart = apart_all held (epoch, dealer) es empty whole (ap (λ (m : Pairs). get m (epoch, dealer)) gives ∙ new) in
-      let puts : (m : Pairs) → step now m (epoch, event_spelling dealer public) ≡ insert m (epoch, dealer) (public, private) =
+      let puts : (m : Pairs) → step now m (epoch, event_spelling (events.Dealing dealer public)) ≡ insert m (epoch, dealer) (public, private) =
       λ m. ap (with_dealing now m) is ∙ ap (with_half m (record { key = (epoch, dealer); public = public })) there in (
-        whole_placed now (epoch, event_spelling dealer public) (subst (HasHalf now) (sym is) (is_some_at _ private there)) es (whole_put held (epoch, dealer) private es whole),
-        fold_placed now (epoch, dealer) (public, private) (epoch, event_spelling dealer public) puts es empty apart
+        whole_placed now (epoch, event_spelling (events.Dealing dealer public)) (subst (HasHalf now) (sym is) (is_some_at _ private there)) es (whole_put held (epoch, dealer) private es whole),
+        fold_placed now (epoch, dealer) (public, private) (epoch, event_spelling (events.Dealing dealer public)) puts es empty apart
             ∙ ap (λ (m : Pairs). insert m (epoch, dealer) (public, private)) (fold_same held (epoch, dealer) private es empty apart ∙ gives),
       )
 
@@ -177,7 +179,7 @@ module _ (epoch dealer private : ℕ) (public : List ℕ) (fits : dealer < 2 ^ 3
     })
   ]
 
-  pub adds_holds : (image next : Files → Type 0) → Holds pairs image held → Follows (Adds (epoch, event_spelling dealer public)) image next → Holds (insert pairs (epoch, dealer) (public, private)) next (put held (epoch, dealer) private)
+  pub adds_holds : (image next : Files → Type 0) → Holds pairs image held → Follows (Adds (epoch, event_spelling (events.Dealing dealer public))) image next → Holds (insert pairs (epoch, dealer) (public, private)) next (put held (epoch, dealer) private)
   adds_holds image next holds follows = record {
     whole = λ c n. let from = follows.each c n in
         subst (λ (es : List Entry). IsWhole es (put held (epoch, dealer) private)) (sym from.2.added) (record_one (entries from.0) (holds.whole from.0 from.1) (holds.gives from.0 from.1)).0;
@@ -186,7 +188,7 @@ module _ (epoch dealer private : ℕ) (public : List ℕ) (fits : dealer < 2 ^ 3
   }
 
   -- with the record or without
-  either_one : (d es : List Entry) → IsWhole d held → recovered d held ≡ pairs → (es ≡ d) ⊎ (es ≡ placed d (epoch, event_spelling dealer public)) →
+  either_one : (d es : List Entry) → IsWhole d held → recovered d held ≡ pairs → (es ≡ d) ⊎ (es ≡ placed d (epoch, event_spelling (events.Dealing dealer public))) →
       IsWhole es (put held (epoch, dealer) private) × ((recovered es (put held (epoch, dealer) private) ≡ pairs) ⊎ (recovered es (put held (epoch, dealer) private) ≡ insert pairs (epoch, dealer) (public, private)))
   either_one d es whole gives either = elim either [
     | inl is ↦ (
@@ -199,7 +201,7 @@ module _ (epoch dealer private : ℕ) (public : List ℕ) (fits : dealer < 2 ^ 3
     )
   ]
 
-  pub may_add_holds : (image next : Files → Type 0) → Holds pairs image held → Follows (MayAdd (epoch, event_spelling dealer public)) image next → HoldsEither pairs (insert pairs (epoch, dealer) (public, private)) next (put held (epoch, dealer) private)
+  pub may_add_holds : (image next : Files → Type 0) → Holds pairs image held → Follows (MayAdd (epoch, event_spelling (events.Dealing dealer public))) image next → HoldsEither pairs (insert pairs (epoch, dealer) (public, private)) next (put held (epoch, dealer) private)
   may_add_holds image next holds follows = record {
     whole = λ c n. let from = follows.each c n in (either_one (entries from.0) (entries c) (holds.whole from.0 from.1) (holds.gives from.0 from.1) from.2.either).0;
     gives = λ c n. let from = follows.each c n in (either_one (entries from.0) (entries c) (holds.whole from.0 from.1) (holds.gives from.0 from.1) from.2.either).1;
@@ -209,15 +211,15 @@ pub holds_either : (pairs more : Pairs) (image : Files → Type 0) (held : Secre
 holds_either pairs more image held holds = record { whole = holds.whole; gives = λ c n. inl (holds.gives c n) }
 
 -- the calls of a new dealing, wherever they stopped
-pub puts_hold : (epoch dealer private : ℕ) (public : List ℕ) → dealer < 2 ^ 32 → IsPublic public → (pairs : Pairs) → get pairs (epoch, dealer) ≡ None → (held now : Secrets) (image next : Files → Type 0) → Holds pairs image held
-    → PutsFirst (PutDealing epoch dealer private) (epoch, event_spelling dealer public) image next held now → HoldsEither pairs (insert pairs (epoch, dealer) (public, private)) next now
-puts_hold epoch dealer private public fits is_public pairs new held now image next holds steps = elim steps.so [
-  | inl tried ↦ holds_either pairs _ next now (put_holds epoch dealer private public fits is_public pairs new held image next now holds tried.0.so tried.1)
-  | inr done ↦ subst (HoldsEither pairs (insert pairs (epoch, dealer) (public, private)) next) (sym done.0) (may_add_holds epoch dealer private public fits is_public pairs new held image next holds done.1)
+pub puts_hold : (epoch dealer private : ℕ) (public : List ℕ) → IsEvent (events.Dealing dealer public) → (pairs : Pairs) → get pairs (epoch, dealer) ≡ None → (held now : Secrets) (image next : Files → Type 0) → Holds pairs image held
+    → PutsFirst (PutDealing epoch dealer private) (epoch, event_spelling (events.Dealing dealer public)) image next held now → HoldsEither pairs (insert pairs (epoch, dealer) (public, private)) next now
+puts_hold epoch dealer private public is_event pairs new held now image next holds steps = elim steps.so [
+  | inl tried ↦ holds_either pairs _ next now (put_holds epoch dealer private public is_event pairs new held image next now holds tried.0.so tried.1)
+  | inr done ↦ subst (HoldsEither pairs (insert pairs (epoch, dealer) (public, private)) next) (sym done.0) (may_add_holds epoch dealer private public is_event pairs new held image next holds done.1)
 ]
 
 -- .. and where they returned
-pub done_holds : (epoch dealer private : ℕ) (public : List ℕ) → dealer < 2 ^ 32 → IsPublic public → (pairs : Pairs) → get pairs (epoch, dealer) ≡ None → (held now : Secrets) (image next : Files → Type 0) → Holds pairs image held
-    → now ≡ after (PutDealing epoch dealer private) held → Follows (Adds (epoch, event_spelling dealer public)) image next → Holds (insert pairs (epoch, dealer) (public, private)) next now
-done_holds epoch dealer private public fits is_public pairs new held now image next holds done adds =
-    subst (Holds (insert pairs (epoch, dealer) (public, private)) next) (sym done) (adds_holds epoch dealer private public fits is_public pairs new held image next holds adds)
+pub done_holds : (epoch dealer private : ℕ) (public : List ℕ) → IsEvent (events.Dealing dealer public) → (pairs : Pairs) → get pairs (epoch, dealer) ≡ None → (held now : Secrets) (image next : Files → Type 0) → Holds pairs image held
+    → now ≡ after (PutDealing epoch dealer private) held → Follows (Adds (epoch, event_spelling (events.Dealing dealer public))) image next → Holds (insert pairs (epoch, dealer) (public, private)) next now
+done_holds epoch dealer private public is_event pairs new held now image next holds done adds =
+    subst (Holds (insert pairs (epoch, dealer) (public, private)) next) (sym done) (adds_holds epoch dealer private public is_event pairs new held image next holds adds)

@@ -5,7 +5,7 @@ use Rattle.dkg_journal.specs.Burn.{Burn}
 use Rattle.dkg_journal.specs.Fuse.{burnt}
 use Rattle.dkg_journal.specs.Names.{Files}
 use Rattle.dkg_journal.specs.Disk.{Lands}
-use Rattle.dkg_journal.specs.Records.{Entry, entries, placed}
+use Rattle.dkg_journal.specs.Records.{Entry, entries, placed, from_section}
 use Rattle.dkg_types.specs.declared.entry.Entry.{Entry as Line}
 use Rattle.dkg_values.specs.declared.name.Name.TheVariants.{Plan}
 use Rattle.dkg_store.specs.Secrets.{Secrets, Tries}
@@ -21,11 +21,13 @@ pub record Held : Type 0 where
 abbrev pub held_in : Files → Secrets → Held
 held_in files s = record { notes = entries files; secrets = s; plan = get files Plan }
 
--- An opening of the journal has the number of its calls with it, and an append whether the journal's file is there already.
+-- An opening of the journal and a prune of it have the number of their calls with them, and an append whether the journal's file is
+-- there already.
 pub data Operation : Type 0 where
   Bars : Operation
   Opens : (calls : ℕ) → Operation
   Appends : (there : Bool) → Entry → Operation
+  Prunes : (calls min : ℕ) → Operation
   Changes : SecretOp → Operation
 
 -- the changing calls of an operation
@@ -33,6 +35,7 @@ abbrev pub device_calls : Operation → ℕ
 device_calls Bars = 1
 device_calls (Opens calls) = calls
 device_calls (Appends there e) = if there then 4 else 5
+device_calls (Prunes calls min) = calls
 device_calls (Changes op) = 1
 
 -- what an operation leaves that is done
@@ -40,6 +43,7 @@ abbrev pub after : Operation → Held → Held
 after Bars h = h
 after (Opens calls) h = h
 after (Appends there e) h = record h { notes = placed h.notes e }
+after (Prunes calls min) h = record h { notes = from_section min h.notes }
 after (Changes op) h = record h { secrets = of_secrets.after op h.secrets }
 
 -- .. and one that a device, a cut or want of memory ended
@@ -47,6 +51,7 @@ abbrev pub IsTorn : Operation → Held → Held → Type 0
 IsTorn Bars h new = new ≡ h
 IsTorn (Opens calls) h new = new ≡ h
 IsTorn (Appends there e) h new = (new ≡ h) ⊎ (new ≡ record h { notes = placed h.notes e })
+IsTorn (Prunes calls min) h new = (new ≡ h) ⊎ (new ≡ record h { notes = from_section min h.notes })
 IsTorn (Changes op) h new = (new ≡ record h { secrets = new.secrets }) × Tries op h.secrets new.secrets
 
 pub data Acts (F S : Type 0) : Type 0 where

@@ -3,11 +3,14 @@ use Rattle.std.specs.Prelude.{◌≡◌, ℕ, List, [], ◌∷◌, ◌++◌, map
 use Rattle.dkg_journal.specs.Burn.{Burn}
 use Rattle.dkg_journal.specs.Fuse.{Ran, RanAll}
 use Rattle.dkg_journal.specs.Disk.{Rose}
+use Rattle.dkg_journal.specs.Names.{Files}
+use Rattle.dkg_journal.specs.Pruning.{prune_calls}
 use Rattle.dkg_journal.specs.Records.{Entry}
 use Rattle.dkg_journal.specs.Journals.{append_calls}
 use Rattle.dkg_journal.specs.declared.disk.Op.{Op}
 use Rattle.dkg_journal.specs.declared.journal.Journal.{Journal}
 use Rattle.dkg_store.specs.declared.secrets.SecretOp.{SecretOp}
+use Rattle.dkg_store.specs.declared.secrets.SecretOp.TheVariants.{Prune}
 
 pub data Call : Type 0 where
   on_disk : Op → Call
@@ -31,6 +34,10 @@ pub record MadeBoth {D X : Type 0} (disk : D → D → List Op → Type 0) (secr
 -- the calls of a put and of an append behind it
 abbrev pub put_then_append : SecretOp → Journal → Entry → List Call
 put_then_append op journal e = on_secrets op ∷ map on_disk (append_calls journal e)
+
+-- the calls of a prune: of the journal, and then of the secrets
+abbrev pub prune_both : ℕ → Files → List Call
+prune_both min files = map on_disk (prune_calls min files) ++ on_secrets (Prune min) ∷ []
 
 -- one of the devices wanted memory itself
 pub record IsWanted (disk disk_now secrets secrets_now : ℕ) : Type 0 where

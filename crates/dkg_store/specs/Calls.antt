@@ -1,14 +1,22 @@
 -- What the calls of a store and of a player mean, as acts.
-use Rattle.std.specs.Prelude.{ℕ, List, Bool, true, false, Option, Some, None, Result, Ok, Err, if◌then◌else◌}
+use Rattle.std.specs.Prelude.{◌||◌, ℕ, List, Bool, true, false, Option, Some, None, Result, Ok, Err, if◌then◌else◌}
 use Rattle.std.specs.FinMap.{get}
+use Rattle.dkg_ceremony.specs.declared.ceremony.AckError.{AckError}
 use Rattle.dkg_ceremony.specs.declared.ceremony.DealingError.{DealingError}
+use Rattle.dkg_ceremony.specs.declared.dealer_log.DealerLog.{DealerLog}
 use Rattle.dkg_journal.specs.Records.{Entry}
 use Rattle.dkg_types.specs.declared.entry.Entry.TheVariants.{Recorded}
-use Rattle.dkg_store.specs.Acts.{Acts, Say, Do, Ask, Goes, Stops, bind, Bars, Opens, Appends, Changes, Ended, went, stopped, broken}
+use Rattle.dkg_store.specs.Acts.{Held, Acts, Say, Do, Ask, Goes, Stops, bind, Bars, Opens, Appends, Prunes, Changes, Ended, went, stopped, broken}
 use Rattle.dkg_store.specs.Events.{event_spelling}
+use Rattle.dkg_store.specs.declared.event.Event.TheVariants as events
+use Rattle.dkg_store.specs.Noted.{Notes, acks_in, logs_in}
 use Rattle.dkg_store.specs.Pairs.{Pairs, recovered}
 use Rattle.dkg_store.specs.declared.call.StoreError.{StoreError}
 use Rattle.dkg_store.specs.declared.call.StoreError.TheVariants.{Disk, Secrets, Corrupt, LocalState, StateSyncEpochs, StateSyncMaterial, Cut, NoMemory}
+use Rattle.dkg_store.specs.declared.dealer.AckHandleError.{AckHandleError}
+use Rattle.dkg_store.specs.declared.dealer.AckHandleError.TheVariants.{Refused as AckRefused, Store as AckOfStore}
+use Rattle.dkg_store.specs.declared.dealer.AckOutcome.{AckOutcome}
+use Rattle.dkg_store.specs.declared.dealer.AckOutcome.TheVariants.{Recorded as NewlyRecorded, Duplicate}
 use Rattle.dkg_store.specs.declared.player.DealingHandleError.{DealingHandleError}
 use Rattle.dkg_store.specs.declared.player.DealingHandleError.TheVariants.{Refused, Store as OfStore}
 use Rattle.dkg_store.specs.declared.secrets.SecretOp.{SecretOp}
@@ -42,14 +50,22 @@ answered (Err (OfStore error)) = by_error error
 abbrev pub put_and_appended : {S : Type 0} → SecretOp → (there : Bool) → Entry → S → Acts StoreError S
 put_and_appended op there e end = Do (Changes op) (Do (Appends there e) (Goes end))
 
+-- an append alone
+abbrev pub appended : {S : Type 0} → (there : Bool) → Entry → S → Acts StoreError S
+appended there e end = Do (Appends there e) (Goes end)
+
+-- The record of an acknowledgement or a log: nothing where one of its key is recorded already.
+abbrev pub noting : (known there : Bool) → Entry → Acts StoreError Bool
+noting known there e = if known then Goes false else appended there e true
+
 -- The record of a dealing: nothing where it is recorded already.
 abbrev pub recording : (known there : Bool) → (epoch dealer : ℕ) → List ℕ → ℕ → Acts StoreError Bool
-recording known there epoch dealer public private = if known then Goes false else put_and_appended (PutDealing epoch dealer private) there (epoch, event_spelling dealer public) true
+recording known there epoch dealer public private = if known then Goes false else put_and_appended (PutDealing epoch dealer private) there (epoch, event_spelling (events.Dealing dealer public)) true
 
 -- a new dealing is recorded, told, and acknowledged
 abbrev pub keeping : {S : Type 0} → (there : Bool) → (epoch dealer : ℕ) → (public told : List ℕ) → ℕ → S → Acts StoreError S
 keeping there epoch dealer public told private end =
-    Do (Changes (PutDealing epoch dealer private)) (Do (Appends there (epoch, event_spelling dealer public)) (Say (Recorded epoch dealer told private) (Goes end)))
+    Do (Changes (PutDealing epoch dealer private)) (Do (Appends there (epoch, event_spelling (events.Dealing dealer public))) (Say (Recorded epoch dealer told private) (Goes end)))
 
 -- A new dealing is checked first.
 abbrev pub accepting : (check : Result (Unit {0}) DealingError) → (there : Bool) → (epoch dealer : ℕ) → List ℕ → ℕ → (ack : List ℕ) → Acts StoreError (Result (List ℕ) DealingError)
@@ -61,6 +77,17 @@ abbrev pub answering : (ack_of : List ℕ → List ℕ) → Option (List ℕ × 
 answering ack_of (Some pair) check there epoch dealer public private = Goes (Ok (ack_of pair.0))
 answering ack_of None check there epoch dealer public private = accepting check there epoch dealer public private (ack_of public)
 
+-- An acknowledgement is checked first, and recorded where that player's neither came in nor was recorded before.
+abbrev pub acking : (check : Result (Unit {0}) AckError) → (counted recorded there : Bool) → Entry → Acts StoreError (Result AckOutcome AckError)
+acking (Err error) counted recorded there e = Goes (Err error)
+acking (Ok passed) counted recorded there e = if (counted || recorded) then Goes (Ok Duplicate) else appended there e (Ok NewlyRecorded)
+
+-- a dealer's refusal is an answer
+abbrev pub acked : {A : Type 0} → Result A AckHandleError → Ended StoreError (Result A AckError)
+acked (Ok outcome) = went (Ok outcome)
+acked (Err (AckRefused error)) = went (Err error)
+acked (Err (AckOfStore error)) = by_error error
+
 -- The barrier and the journal's opening.
 abbrev pub opens : (calls : ℕ) → Acts StoreError (Unit {0})
 opens calls = Do Bars (Do (Opens calls) (Goes tt))
@@ -68,9 +95,13 @@ opens calls = Do Bars (Do (Opens calls) (Goes tt))
 abbrev pub opened : {T : Type 0} → Result T StoreError → Ended StoreError (Unit {0})
 opened result = ended_as (λ journal. tt) result
 
+-- what both devices give back: dealings, acknowledgements and logs
+abbrev pub given_back : Held → Pairs × Notes (List ℕ) × Notes DealerLog
+given_back h = (recovered h.notes h.secrets, acks_in h.notes, logs_in h.notes)
+
 -- An opening, over devices whose records are whole and whose bodies are events: what is restored.
-abbrev pub opening : (calls : ℕ) → Acts StoreError Pairs
-opening calls = Do Bars (Do (Opens calls) (Ask (λ h. Goes (recovered h.notes h.secrets))))
+abbrev pub opening : (calls : ℕ) → Acts StoreError (Pairs × Notes (List ℕ) × Notes DealerLog)
+opening calls = Do Bars (Do (Opens calls) (Ask (λ h. Goes (given_back h))))
 
 abbrev pub sharing : ℕ → Acts StoreError (Option ℕ)
 sharing epoch = Ask (λ h. Goes (get h.secrets.shares epoch))
@@ -83,5 +114,6 @@ abbrev pub committing : ℕ → List ℕ → Option ℕ → Acts StoreError (Uni
 committing epoch seed None = Do (Changes (PutSeed epoch seed)) (Goes tt)
 committing epoch seed (Some share) = Do (Changes (PutShare epoch share)) (Do (Changes (PutSeed epoch seed)) (Goes tt))
 
-abbrev pub pruning : ℕ → Acts StoreError (Unit {0})
-pruning min = Do (Changes (Prune min)) (Goes tt)
+-- the journal, and then the secrets
+abbrev pub pruning : (calls min : ℕ) → Acts StoreError (Unit {0})
+pruning calls min = Do (Prunes calls min) (Do (Changes (Prune min)) (Goes tt))

@@ -4,13 +4,16 @@ pub mod Calls
 pub mod Commits
 pub mod Corrupt
 pub mod Cuts
+pub mod Dealer
 pub mod Errors
 pub mod Events
 pub mod Formed
 pub mod Keys
+pub mod Noted
 pub mod On
 pub mod Pairs
 pub mod Player
 pub mod Ready
 pub mod Recorded
+pub mod Rest
 pub mod Secrets

@@ -10,6 +10,8 @@ use Rattle.dkg_values.specs.Codec.{whole}
 use Rattle.dkg_values.specs.declared.codec.CodecError.{CodecError}
 use Rattle.dkg_store.specs.Keys.{key_cmp}
 use Rattle.dkg_store.specs.Events.{event_at, no_limit}
+use Rattle.dkg_store.specs.declared.event.Event.{Event}
+use Rattle.dkg_store.specs.declared.event.Event.TheVariants as events
 use Rattle.dkg_store.specs.Secrets.{Secrets, Tries, after}
 use Rattle.dkg_store.specs.declared.secrets.SecretOp.{SecretOp}
 
@@ -22,8 +24,10 @@ pub record Dealing : Type 0 where
   pub key : ℕ × ℕ
   pub public : List ℕ
 
-abbrev pub dealing_in : ℕ → Result (ℕ × List ℕ) CodecError → Option Dealing
-dealing_in epoch (Ok d) = Some (record { key = (epoch, d.0); public = d.1 })
+abbrev pub dealing_in : ℕ → Result Event CodecError → Option Dealing
+dealing_in epoch (Ok (events.Dealing dealer public)) = Some (record { key = (epoch, dealer); public = public })
+dealing_in epoch (Ok (events.Ack player ack)) = None
+dealing_in epoch (Ok (events.Log dealer log)) = None
 dealing_in epoch (Err e) = None
 
 -- the dealing of which an entry is the record

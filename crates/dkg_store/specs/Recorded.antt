@@ -2,6 +2,7 @@
 use Rattle.std.specs.Prelude.{ℕ, ◌^◌, ◌&&◌, ◌==◌, nat_lt, List, [], ◌∷◌, map, Option, Some, None, Result, Ok, Err, filter}
 use Rattle.std.specs.FinMap as map_of
 use Rattle.dkg_types.specs.declared.entry.Restored.{Restored}
+use Rattle.dkg_store.specs.Keys.{key_cmp}
 use Rattle.dkg_store.specs.Pairs.{Pairs}
 
 abbrev pub Pair : Type 0
@@ -17,6 +18,10 @@ restored_list pairs = map restored_of (map_of.entries pairs)
 -- the dealings of an epoch by dealer, rising (a dealer is below 2^32)
 abbrev pub of_epoch : ℕ → Pairs → List Pair
 of_epoch epoch pairs = filter (λ p. (p.0.0 == epoch) && nat_lt p.0.1 (2 ^ 32)) (map_of.entries pairs)
+
+-- .. and whatever else is recorded by epoch and key
+abbrev pub at_epoch : {V : Type 0} → ℕ → map_of.FinMap key_cmp V → List (ℕ × V)
+at_epoch epoch m = map (λ p. (p.0.1, p.1)) (filter (λ p. (p.0.0 == epoch) && nat_lt p.0.1 (2 ^ 32)) (map_of.entries m))
 
 abbrev pub refused_or : {E : Type 0} → Result (Unit {0}) E → ℕ → Option ℕ → Option ℕ
 refused_or (Ok u) dealer later = later

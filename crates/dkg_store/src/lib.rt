@@ -4,7 +4,11 @@
 //! over both at the start of a life. A `Player` records each dealing there before it acknowledges it.
 #![tactic(auto)]
 
+mod appending;
 mod call;
+mod dealer;
+#[cfg(test)]
+mod dealing_tests;
 mod devices;
 mod event;
 mod held;
@@ -22,8 +26,10 @@ mod sure_secrets;
 mod tests;
 
 pub use call::{StoreError, perform_secret};
+pub use dealer::{AckHandleError, AckOutcome, Dealer, Unsent};
 pub use devices::Devices;
 pub use dkg_types::Restored;
+pub use event::Event;
 pub use memory_secrets::MemorySecrets;
 pub use player::{DealingHandleError, Player};
 pub use secrets::{SecretError, SecretOp, SecretStore};

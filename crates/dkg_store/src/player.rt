@@ -11,9 +11,14 @@ ghost use Rattle.dkg_store.specs.Acts.{MadeAt, moment};
 ghost use Rattle.dkg_store.specs.Calls.{keeping, accepting, answering, answered, ended};
 ghost use Rattle.dkg_store.specs.Errors.{IsOfDevices, IsOfHandling};
 ghost use Rattle.dkg_store.specs.Events.{event_spelling};
+ghost use Rattle.dkg_store.specs.declared.event.Event.TheVariants as events;
+ghost use Rattle.dkg_store.specs.Noted.{SameNotes};
 ghost use Rattle.dkg_store.specs.Pairs.{Holds, HoldsEither};
 ghost use Rattle.dkg_store.specs.Player.{IsPlayerOf, Acknowledges, MayKeep};
 ghost use Rattle.dkg_store.specs.Both.{MadeBoth, IsWant, put_then_append};
+ghost use Rattle.dkg_store.specs.Recorded.{at_epoch, first_refused, of_epoch};
+ghost use Rattle.dkg_store.specs.Rest.{SameRest};
+ghost use Rattle.dkg_ceremony.specs.Finishes.{Finishes};
 ghost use Rattle.dkg_store.specs.declared.player.DealingHandleError.TheVariants.{Store as OfStore};
 ghost use Rattle.dkg_ceremony.specs.declared.ceremony.DealingError.{DealingError};
 
@@ -22,10 +27,13 @@ use crate::devices::Devices;
 use crate::number_map::NumberMap;
 use crate::secrets::{SecretOp, SecretStore};
 use crate::store::Store;
-use dkg_ceremony::{Ack, Ceremony, DealingError, Private, Public, Round, Value};
+use dkg_ceremony::{
+    Ack, Ceremony, DealerLog, DealingError, FinishError, Output, Private, Public, Round, Share,
+    Value,
+};
 use dkg_journal::Disk;
 use dkg_types::{Entry, Transcript};
-use dkg_values::{Epoch, Key, Mem};
+use dkg_values::{Epoch, Key, Map, Mem};
 use std::alloc::Global;
 use thiserror::Error;
 
@@ -57,13 +65,13 @@ pub struct Player {
     acks: NumberMap<Ack>,
 }
 
-fn kept_ack(acks: &NumberMap<Ack>, dealer: Key) -> Option<Ack>
+pub(crate) fn kept_ack(acks: &NumberMap<Ack>, dealer: Key) -> Option<Ack>
     ensures { result ≡ map.get acks.now dealer }
 {
     acks.get(u64::from(dealer.0)).copied()
 }
 
-fn keep_ack(acks: &mut NumberMap<Ack>, dealer: Key, ack: Ack) -> Result<(), StoreError>
+pub(crate) fn keep_ack(acks: &mut NumberMap<Ack>, dealer: Key, ack: Ack) -> Result<(), StoreError>
     ensures done { OnOk result (acks.new ≡ map.insert acks.old dealer ack) }
     ensures kept { OnErr result (acks.new ≡ acks.old) }
     ensures memory { IfErr result (λ e. e ≡ StoreError.NoMemory) }
@@ -72,7 +80,7 @@ fn keep_ack(acks: &mut NumberMap<Ack>, dealer: Key, ack: Ack) -> Result<(), Stor
     Ok(())
 }
 
-fn forget_ack(acks: &mut NumberMap<Ack>, dealer: Key)
+pub(crate) fn forget_ack(acks: &mut NumberMap<Ack>, dealer: Key)
     ensures { acks.new ≡ map.remove acks.old dealer }
 {
     acks.remove(u64::from(dealer.0));
@@ -92,7 +100,7 @@ fn keep_dealing<D: Disk, X: SecretStore, Dir: Drop>(
     public: Public,
     private: Private,
 ) -> Result<(), StoreError>
-    requires short { 8 + length (event_spelling dealer public) < 2 ^ 32 }
+    requires short { 8 + length (event_spelling (events.Dealing dealer public)) < 2 ^ 32 }
     requires room { 0 < out.old.spare }
     requires new { map.get acks.old dealer ≡ None }
     requires unrecorded { map.get store.old.dealings (epoch, dealer) ≡ None }
@@ -101,6 +109,8 @@ fn keep_dealing<D: Disk, X: SecretStore, Dir: Drop>(
     ensures no_ack { OnErr result (acks.new ≡ acks.old) }
     ensures pairs { OnOk result (store.new.dealings ≡ map.insert store.old.dealings (epoch, dealer) (public, private)) }
     ensures no_pair { OnErr result (store.new.dealings ≡ store.old.dealings) }
+    ensures rest { SameRest store.old store.new }
+    ensures notes { IsTrue D.tells → Follows SameNotes (D.image devices.old.disk.now) (D.image devices.new.disk.now) }
     ensures told { OnOk result (out.new.entries ≡ out.old.entries ++ Entry.Recorded epoch dealer told private ∷ []) }
     ensures untold { OnErr result (out.new.entries ≡ out.old.entries) }
     ensures open { OnOk result (IsTrue D.tells → IsOpen store.new.journal (D.files devices.new.disk.now) (D.image devices.new.disk.now)) }
@@ -108,8 +118,8 @@ fn keep_dealing<D: Disk, X: SecretStore, Dir: Drop>(
     ensures images { IsTrue D.tells → IsTrue X.tells → Holds store.old.dealings (D.image devices.old.disk.now) (X.held devices.old.secrets.now) → HoldsEither store.old.dealings (map.insert store.old.dealings (epoch, dealer) (public, private)) (D.image devices.new.disk.now) (X.held devices.new.secrets.now) }
     ensures acts { IsTrue D.tells → IsTrue X.tells → MadeAt (keeping (has_file store.old.journal) epoch dealer public told private tt) (ended result) (D.files devices.old.disk.now) (D.image devices.old.disk.now) (D.files devices.new.disk.now) (D.image devices.new.disk.now) (moment out.old.entries (X.held devices.old.secrets.now) devices.old.fuse) (moment out.new.entries (X.held devices.new.secrets.now) devices.new.fuse) }
     ensures kinds { IfErr result IsOfDevices }
-    ensures all { OnOk result (RanAll (MadeBoth D.made X.made) (devices.old.disk.now, devices.old.secrets.now) (devices.new.disk.now, devices.new.secrets.now) devices.old.fuse devices.new.fuse (put_then_append (SecretOp.PutDealing epoch dealer private) store.old.journal (epoch, event_spelling dealer public))) }
-    ensures calls { Ran (MadeBoth D.made X.made) (devices.old.disk.now, devices.old.secrets.now) (devices.new.disk.now, devices.new.secrets.now) devices.old.fuse devices.new.fuse (put_then_append (SecretOp.PutDealing epoch dealer private) store.old.journal (epoch, event_spelling dealer public)) }
+    ensures all { OnOk result (RanAll (MadeBoth D.made X.made) (devices.old.disk.now, devices.old.secrets.now) (devices.new.disk.now, devices.new.secrets.now) devices.old.fuse devices.new.fuse (put_then_append (SecretOp.PutDealing epoch dealer private) store.old.journal (epoch, event_spelling (events.Dealing dealer public)))) }
+    ensures calls { Ran (MadeBoth D.made X.made) (devices.old.disk.now, devices.old.secrets.now) (devices.new.disk.now, devices.new.secrets.now) devices.old.fuse devices.new.fuse (put_then_append (SecretOp.PutDealing epoch dealer private) store.old.journal (epoch, event_spelling (events.Dealing dealer public))) }
     ensures memory { IsErrOf result StoreError.NoMemory → IsWant ((acks.new ≡ acks.old) × (store.new ≡ store.old) × (devices.new ≡ devices.old)) (D.wants devices.old.disk.now) (D.wants devices.new.disk.now) (X.wants devices.old.secrets.now) (X.wants devices.new.secrets.now) }
     ensures later_disk { D.faults devices.old.disk.now ≤ D.faults devices.new.disk.now }
     ensures later_secrets { X.faults devices.old.secrets.now ≤ X.faults devices.new.secrets.now }
@@ -213,7 +223,7 @@ impl Player {
         public: Public,
         private: Private,
     ) -> Result<Ack, DealingHandleError>
-        requires short { 8 + length (event_spelling dealer public) < 2 ^ 32 }
+        requires short { 8 + length (event_spelling (events.Dealing dealer public)) < 2 ^ 32 }
         requires playing { Contains self.old.round.players self.old.me }
         requires signer { C.Signer.key_of signer.now ≡ self.old.me }
         requires unrecorded { map.get store.old.dealings (epoch, dealer) ≡ None }
@@ -227,7 +237,12 @@ impl Player {
         // A refusal touches nothing.
         ensures untouched { (e : DealingError) → IsErrOf result (DealingHandleError.Refused e) → (self.new ≡ self.old) × (store.new ≡ store.old) × (out.new ≡ out.old) × (devices.new ≡ devices.old) }
         ensures checked { OnOk result (C.dealing_of self.old.round self.old.me dealer public private ≡ Ok tt) }
+        ensures kept { IfOk result (λ ack. self.new.acks ≡ map.insert self.old.acks dealer ack) }
+        ensures unkept { OnErr result (self.new.acks ≡ self.old.acks) }
         ensures pairs { OnOk result (store.new.dealings ≡ map.insert store.old.dealings (epoch, dealer) (public, private)) }
+        ensures rest { SameRest store.old store.new }
+        ensures notes { IsTrue D.tells → Follows SameNotes (D.image devices.old.disk.now) (D.image devices.new.disk.now) }
+        ensures passes { first_refused (C.dealing_of self.old.round self.old.me) (of_epoch epoch store.old.dealings) ≡ None → first_refused (C.dealing_of self.old.round self.old.me) (of_epoch epoch store.new.dealings) ≡ None }
         ensures no_pair { OnErr result (store.new.dealings ≡ store.old.dealings) }
         ensures told { OnOk result (out.new.entries ≡ out.old.entries ++ Entry.Recorded epoch dealer public private ∷ []) }
         ensures untold { OnErr result (out.new.entries ≡ out.old.entries) }
@@ -238,7 +253,7 @@ impl Player {
         ensures images { IsTrue D.tells → IsTrue X.tells → Holds store.old.dealings (D.image devices.old.disk.now) (X.held devices.old.secrets.now) → MayKeep (C.dealing_of self.old.round self.old.me dealer public private) store.old.dealings (epoch, dealer) (public, private) (D.image devices.new.disk.now) (X.held devices.new.secrets.now) }
         ensures acts { IsTrue D.tells → IsTrue X.tells → MadeAt (accepting (C.dealing_of self.old.round self.old.me dealer public private) (has_file store.old.journal) epoch dealer public private (C.ack_of self.old.me self.old.round dealer public)) (answered result) (D.files devices.old.disk.now) (D.image devices.old.disk.now) (D.files devices.new.disk.now) (D.image devices.new.disk.now) (moment out.old.entries (X.held devices.old.secrets.now) devices.old.fuse) (moment out.new.entries (X.held devices.new.secrets.now) devices.new.fuse) }
         ensures kinds { IfErr result IsOfHandling }
-        ensures calls { Ran (MadeBoth D.made X.made) (devices.old.disk.now, devices.old.secrets.now) (devices.new.disk.now, devices.new.secrets.now) devices.old.fuse devices.new.fuse (put_then_append (SecretOp.PutDealing epoch dealer private) store.old.journal (epoch, event_spelling dealer public)) }
+        ensures calls { Ran (MadeBoth D.made X.made) (devices.old.disk.now, devices.old.secrets.now) (devices.new.disk.now, devices.new.secrets.now) devices.old.fuse devices.new.fuse (put_then_append (SecretOp.PutDealing epoch dealer private) store.old.journal (epoch, event_spelling (events.Dealing dealer public))) }
         ensures memory { IsErrOf result (DealingHandleError.Store StoreError.NoMemory) → IsWant ((self.new ≡ self.old) × (store.new ≡ store.old) × (devices.new ≡ devices.old)) (D.wants devices.old.disk.now) (D.wants devices.new.disk.now) (X.wants devices.old.secrets.now) (X.wants devices.new.secrets.now) }
         ensures later_disk { D.faults devices.old.disk.now ≤ D.faults devices.new.disk.now }
         ensures later_secrets { X.faults devices.old.secrets.now ≤ X.faults devices.new.secrets.now }
@@ -297,7 +312,7 @@ impl Player {
         public: Public,
         private: Private,
     ) -> Result<Ack, DealingHandleError>
-        requires short { 8 + length (event_spelling dealer public) < 2 ^ 32 }
+        requires short { 8 + length (event_spelling (events.Dealing dealer public)) < 2 ^ 32 }
         requires playing { Contains self.old.round.players self.old.me }
         requires signer { C.Signer.key_of signer.now ≡ self.old.me }
         requires open { IsTrue D.tells → IsOpen store.old.journal (D.files devices.old.disk.now) (D.image devices.old.disk.now) }
@@ -314,8 +329,16 @@ impl Player {
         // A recorded dealer touches nothing, and no memory is taken where it was answered before.
         ensures recorded { IsSome (map.get store.old.dealings (epoch, dealer)) → (store.new ≡ store.old) × (out.new ≡ out.old) × (devices.new ≡ devices.old) }
         ensures cached { IsSome (map.get self.old.acks dealer) → (self.new ≡ self.old) × (store.new ≡ store.old) × (out.new ≡ out.old) × (devices.new ≡ devices.old) × IsOk result }
+        // The acknowledgement is kept, and a dealer's first one stays.
+        ensures kept { IfOk result (λ ack. self.new.acks ≡ (if is_some (map.get self.old.acks dealer) then self.old.acks else map.insert self.old.acks dealer ack)) }
+        ensures unkept { OnErr result (self.new.acks ≡ self.old.acks) }
         ensures pairs { OnOk result (IsPlayerOf C.ack_of self.old.me self.old.round self.old.acks store.old.dealings epoch → store.new.dealings ≡ (if is_some (map.get store.old.dealings (epoch, dealer)) then store.old.dealings else map.insert store.old.dealings (epoch, dealer) (public, private))) }
         ensures no_pair { OnErr result (store.new.dealings ≡ store.old.dealings) }
+        // Of the epoch's recorded dealings none is refused, where none was before.
+        ensures passes { first_refused (C.dealing_of self.old.round self.old.me) (of_epoch epoch store.old.dealings) ≡ None → first_refused (C.dealing_of self.old.round self.old.me) (of_epoch epoch store.new.dealings) ≡ None }
+        ensures rest { SameRest store.old store.new }
+        // Each image gives the acknowledgements and the logs from before.
+        ensures notes { IsTrue D.tells → Follows SameNotes (D.image devices.old.disk.now) (D.image devices.new.disk.now) }
         ensures told { OnOk result (IsPlayerOf C.ack_of self.old.me self.old.round self.old.acks store.old.dealings epoch → out.new.entries ≡ (if is_some (map.get store.old.dealings (epoch, dealer)) then out.old.entries else out.old.entries ++ Entry.Recorded epoch dealer public private ∷ [])) }
         ensures untold { OnErr result (out.new.entries ≡ out.old.entries) }
         ensures open { OnOk result (IsTrue D.tells → IsOpen store.new.journal (D.files devices.new.disk.now) (D.image devices.new.disk.now)) }
@@ -327,7 +350,7 @@ impl Player {
         // line: all of them at Ok, and at any other exit a part, whatever image is left.
         ensures acts { IsTrue D.tells → IsTrue X.tells → IsPlayerOf C.ack_of self.old.me self.old.round self.old.acks store.old.dealings epoch → MadeAt (answering (C.ack_of self.old.me self.old.round dealer) (map.get store.old.dealings (epoch, dealer)) (C.dealing_of self.old.round self.old.me dealer public private) (has_file store.old.journal) epoch dealer public private) (answered result) (D.files devices.old.disk.now) (D.image devices.old.disk.now) (D.files devices.new.disk.now) (D.image devices.new.disk.now) (moment out.old.entries (X.held devices.old.secrets.now) devices.old.fuse) (moment out.new.entries (X.held devices.new.secrets.now) devices.new.fuse) }
         ensures kinds { IfErr result IsOfHandling }
-        ensures calls { Ran (MadeBoth D.made X.made) (devices.old.disk.now, devices.old.secrets.now) (devices.new.disk.now, devices.new.secrets.now) devices.old.fuse devices.new.fuse (put_then_append (SecretOp.PutDealing epoch dealer private) store.old.journal (epoch, event_spelling dealer public)) }
+        ensures calls { Ran (MadeBoth D.made X.made) (devices.old.disk.now, devices.old.secrets.now) (devices.new.disk.now, devices.new.secrets.now) devices.old.fuse devices.new.fuse (put_then_append (SecretOp.PutDealing epoch dealer private) store.old.journal (epoch, event_spelling (events.Dealing dealer public))) }
         ensures memory { IsErrOf result (DealingHandleError.Store StoreError.NoMemory) → IsWant ((self.new ≡ self.old) × (store.new ≡ store.old) × (devices.new ≡ devices.old)) (D.wants devices.old.disk.now) (D.wants devices.new.disk.now) (X.wants devices.old.secrets.now) (X.wants devices.new.secrets.now) }
         ensures later_disk { D.faults devices.old.disk.now ≤ D.faults devices.new.disk.now }
         ensures later_secrets { X.faults devices.old.secrets.now ≤ X.faults devices.new.secrets.now }
@@ -357,5 +380,26 @@ impl Player {
         self.accept(
             alloc, ceremony, signer, devices, store, out, epoch, dealer, public, private,
         )
+    }
+
+    /// The outcome of the dealers' logs, and this player's share, from the dealings that are recorded. It gives the player up; the store
+    /// keeps the dealings.
+    ///
+    /// MissingDealing: a log of which the outcome is made bears this player's acknowledgement, and no recorded dealing of that dealer has
+    /// the log's public half.
+    pub fn finalize<C: Ceremony, Dir: Drop>(
+        self,
+        alloc: Global,
+        ceremony: &C,
+        store: &Store<Dir>,
+        epoch: Epoch,
+        logs: &Map<DealerLog>,
+    ) -> Result<Option<(Output, Share)>, FinishError>
+        requires playing { Contains self.round.players self.me }
+        requires passes { first_refused (C.dealing_of self.round self.me) (of_epoch epoch store.now.dealings) ≡ None }
+        ensures { Finishes (C.finish_of self.round self.me (at_epoch epoch store.now.dealings) logs.now) result }
+    {
+        let dealings = store.dealings(alloc, epoch)?;
+        ceremony.finish(alloc, &self.round, self.me, &dealings, logs)
     }
 }

@@ -1,5 +1,5 @@
 //! What a journal's entries and a secret store give back when a store is opened.
-ghost use Rattle.std.specs.Prelude.{◌≡◌, ◌≤◌, [], ℕ, IfOk, OnOk, IsTrue, IsErrOf, IfErr, Some, None, true, false};
+ghost use Rattle.std.specs.Prelude.{◌≡◌, ◌≤◌, [], ℕ, IfOk, OnOk, IsTrue, IsErrOf, IfErr, Some, None, Ok, true, false};
 ghost use Rattle.dkg_values.specs.declared.name.Name.{Name};
 ghost use Rattle.dkg_values.specs.declared.name.Name.TheVariants.{Flat};
 ghost use Rattle.dkg_store.specs.Corrupt.{BeginsWithEvent};
@@ -8,16 +8,25 @@ ghost use Rattle.std.specs.FinMap as map;
 ghost use Rattle.dkg_journal.specs.Disk.{Rose};
 ghost use Rattle.dkg_journal.specs.Views.{view, views};
 ghost use Rattle.dkg_store.specs.Errors.{IsOfRestoring};
-ghost use Rattle.dkg_store.specs.Pairs.{with_half, with_dealing, dealing_of, recovered};
+ghost use Rattle.dkg_store.specs.Noted.{with_note, ack_in, log_in, noted_ack, noted_log, acks_in, logs_in};
+ghost use Rattle.dkg_store.specs.Pairs.{with_half, with_dealing, dealing_in, dealing_of, recovered};
 
 use crate::call::StoreError;
-use crate::event::read_event;
+use crate::event::{Event, read_event};
 use crate::pair_map::PairMap;
 use crate::secrets::{SecretError, SecretStore};
-use dkg_ceremony::{Private, Public};
+use dkg_ceremony::{Ack, DealerLog, Private, Public};
 use dkg_journal::JournalEntry;
 use dkg_values::{CodecError, Epoch, Key, Name};
 use std::alloc::Global;
+
+/// What is recorded of all epochs: dealings and logs by epoch and dealer, acknowledgements by epoch and player.
+#[derive(Drop)]
+pub(crate) struct Recorded {
+    pub(crate) dealings: PairMap<(Public, Private)>,
+    pub(crate) acks: PairMap<Ack>,
+    pub(crate) logs: PairMap<DealerLog>,
+}
 
 /// Takes a recorded dealing up, if its private half is there.
 fn restore_dealing<X: SecretStore>(
@@ -47,16 +56,55 @@ fn restore_dealing<X: SecretStore>(
     }
 }
 
-/// Takes an entry up. It is to be an event whose public half has at most `limit` elements.
-#[tactic(auto, using(crate::proofs::Replayed::is_dealing))]
+/// Takes an event up.
+fn restore_event<X: SecretStore>(
+    alloc: Global,
+    secrets: &mut X,
+    recorded: &mut Recorded,
+    epoch: Epoch,
+    event: Event,
+) -> Result<(), StoreError>
+    ensures given { OnOk result (IsTrue X.tells → recorded.new.dealings ≡ with_dealing (X.held secrets.old) recorded.old.dealings (dealing_in epoch (Ok event))) }
+    ensures acks { OnOk result (recorded.new.acks ≡ with_note recorded.old.acks (ack_in epoch (Ok event))) }
+    ensures logs { OnOk result (recorded.new.logs ≡ with_note recorded.old.logs (log_in epoch (Ok event))) }
+    ensures same { X.held secrets.new ≡ X.held secrets.old }
+    ensures later { X.faults secrets.old ≤ X.faults secrets.new }
+    ensures secrets { IsErrOf result StoreError.Secrets → Rose (X.faults secrets.old) (X.faults secrets.new) }
+    ensures not_corrupt { (name : Name) (place : ℕ) → IsErrOf result (StoreError.Corrupt name place) → ⊥ }
+    ensures kinds { IfErr result IsOfRestoring }
+    ensures calls { X.made secrets.old secrets.new [] }
+{
+    match event {
+        Event::Dealing(dealer, public) => restore_dealing(
+            alloc,
+            secrets,
+            &mut recorded.dealings,
+            epoch,
+            dealer,
+            public,
+        ),
+        Event::Ack(player, ack) => {
+            recorded.acks.insert(epoch, player, ack)?;
+            Ok(())
+        }
+        Event::Log(dealer, log) => {
+            recorded.logs.insert(epoch, dealer, log)?;
+            Ok(())
+        }
+    }
+}
+
+/// Takes an entry up. It is to be an event within the limit.
 fn restore_one<X: SecretStore>(
     alloc: Global,
     secrets: &mut X,
-    dealings: &mut PairMap<(Public, Private)>,
+    recorded: &mut Recorded,
     limit: u32,
     entry: &JournalEntry,
 ) -> Result<(), StoreError>
-    ensures given { OnOk result (IsTrue X.tells → dealings.new ≡ with_dealing (X.held secrets.old) dealings.old (dealing_of (view entry.now))) }
+    ensures given { OnOk result (IsTrue X.tells → recorded.new.dealings ≡ with_dealing (X.held secrets.old) recorded.old.dealings (dealing_of (view entry.now))) }
+    ensures acks { OnOk result (recorded.new.acks ≡ with_note recorded.old.acks (noted_ack (view entry.now))) }
+    ensures logs { OnOk result (recorded.new.logs ≡ with_note recorded.old.logs (noted_log (view entry.now))) }
     ensures same { X.held secrets.new ≡ X.held secrets.old }
     ensures later { X.faults secrets.old ≤ X.faults secrets.new }
     ensures secrets { IsErrOf result StoreError.Secrets → Rose (X.faults secrets.old) (X.faults secrets.new) }
@@ -73,25 +121,21 @@ fn restore_one<X: SecretStore>(
             name: Name::Flat,
             place: entry.place,
         }),
-        Ok((dealer, public)) => restore_dealing(
-            alloc,
-            secrets,
-            dealings,
-            Epoch(entry.section),
-            dealer,
-            public,
-        ),
+        Ok(event) => restore_event(alloc, secrets, recorded, Epoch(entry.section), event),
     }
 }
 
-/// The dealings of which both halves are there. A later record of a dealer replaces an earlier one of its epoch.
+/// What the entries give back, dealings only of which both halves are there. A later record replaces an earlier one of its epoch, kind
+/// and key.
 pub(crate) fn restore<X: SecretStore>(
     alloc: Global,
     secrets: &mut X,
     limit: u32,
     entries: &[JournalEntry],
-) -> Result<PairMap<(Public, Private)>, StoreError>
-    ensures given { IfOk result (λ dealings. IsTrue X.tells → dealings ≡ recovered (views entries.now) (X.held secrets.old)) }
+) -> Result<Recorded, StoreError>
+    ensures given { IfOk result (λ recorded. IsTrue X.tells → recorded.dealings ≡ recovered (views entries.now) (X.held secrets.old)) }
+    ensures acks { IfOk result (λ recorded. recorded.acks ≡ acks_in (views entries.now)) }
+    ensures logs { IfOk result (λ recorded. recorded.logs ≡ logs_in (views entries.now)) }
     ensures same { X.held secrets.new ≡ X.held secrets.old }
     ensures later { X.faults secrets.old ≤ X.faults secrets.new }
     ensures secrets { IsErrOf result StoreError.Secrets → Rose (X.faults secrets.old) (X.faults secrets.new) }
@@ -103,9 +147,13 @@ pub(crate) fn restore<X: SecretStore>(
     ensures kinds { IfErr result IsOfRestoring }
     ensures calls { X.made secrets.old secrets.new [] }
 {
-    let mut dealings = PairMap::new(alloc);
+    let mut recorded = Recorded {
+        dealings: PairMap::new(alloc),
+        acks: PairMap::new(alloc),
+        logs: PairMap::new(alloc),
+    };
     for entry in entries {
-        restore_one(alloc, secrets, &mut dealings, limit, entry)?;
+        restore_one(alloc, secrets, &mut recorded, limit, entry)?;
     }
-    Ok(dealings)
+    Ok(recorded)
 }

@@ -1,46 +1,60 @@
 //! What a node has recorded, in memory and on both devices.
 //!
 //! A reshare actor opens a store at the start of a life, asks it what is there, and records each dealing before it acknowledges it.
-ghost use Rattle.std.specs.Prelude.{◌≡◌, ◌⊎◌, ◌≤◌, ◌<◌, ◌+◌, ◌^◌, ◌∷◌, [], ℕ, List, length, OnOk, OnErr, IfOk, IfErr, IfSome, IsSome, is_some, IsErrOf, IsTrue, MatchResult, Option, Some, None, not, nat_le, Contains, if◌then◌else◌};
+ghost use Rattle.std.specs.Prelude.{◌≡◌, ◌⊎◌, ◌≤◌, ◌<◌, ◌+◌, ◌^◌, ◌∷◌, [], ℕ, List, length, OnOk, OnErr, IfOk, IfErr, IfSome, IsSome, is_some, IsErrOf, IsTrue, MatchResult, Option, Some, None, Ok, Err, not, true, false, nat_le, Contains, if◌then◌else◌};
 ghost use Rattle.std.specs.Prelude.{map as list_map};
 ghost use Rattle.std.specs.Option.{option_copied};
 ghost use Rattle.std.specs.FinMap as map;
 ghost use Rattle.std.specs.Int.NonZero.{non_zero_u32_get};
+ghost use Rattle.std.specs.List.Sorted.{IsStrictlyIncreasing};
+ghost use Rattle.dkg_ceremony.specs.Finishes.{has_public};
+ghost use Rattle.dkg_ceremony.specs.declared.dealer_log.DealerLog.{DealerLog as Log};
+ghost use Rattle.dkg_values.specs.Rising.{keys_of};
 ghost use Rattle.dkg_values.specs.declared.name.Name.{Name};
 ghost use Rattle.dkg_values.specs.declared.name.Name.TheVariants.{Flat};
 ghost use Rattle.dkg_types.specs.declared.entry.Entry.{Entry as Line};
 ghost use Rattle.dkg_journal.specs.Names.{Files};
 ghost use Rattle.dkg_journal.specs.Records.{Entry, entries};
-ghost use Rattle.dkg_journal.specs.Gated.{gated, gated_entries};
+ghost use Rattle.dkg_journal.specs.Gated.{OpensAlike, gated, gated_entries};
 ghost use Rattle.dkg_journal.specs.Views.{views};
-ghost use Rattle.dkg_journal.specs.Disk.{Rose, Follows, SameElse};
+ghost use Rattle.dkg_journal.specs.Disk.{IsUnchanged, Rose, Follows, SameElse};
 ghost use Rattle.dkg_journal.specs.Fuse.{Reached, Ran, RanAll};
-ghost use Rattle.dkg_journal.specs.Journals.{IsOpen, has_file};
+ghost use Rattle.dkg_journal.specs.Journals.{IsOpen, append_calls, has_file};
+ghost use Rattle.dkg_journal.specs.Operations.{Prunes, calls_of};
+ghost use Rattle.dkg_journal.specs.Pruning.{Leaves};
 ghost use Rattle.dkg_journal.specs.Steps.{Keeps};
 ghost use Rattle.dkg_journal.specs.Opening.{IsFormOfToday, broken, open_calls};
 ghost use Rattle.dkg_store.specs.Acts.{MadeAt, Runs, moment, world};
-ghost use Rattle.dkg_store.specs.Calls.{put_and_appended, recording, sharing, seeding, committing, pruning, opens, opened, opening, ended, ended_as};
+ghost use Rattle.dkg_store.specs.Calls.{put_and_appended, noting, recording, sharing, seeding, committing, pruning, opens, opened, opening, ended, ended_as};
 ghost use Rattle.dkg_store.specs.Commits.{commit_calls, committed};
 ghost use Rattle.dkg_store.specs.Corrupt.{IsCorruptAt, AreEvents, BeginsWithEvent};
-ghost use Rattle.dkg_store.specs.Errors.{IsOfDevices, IsOfOpening, IsOfPlaying, IsOfSecrets};
+ghost use Rattle.dkg_store.specs.Errors.{IsOfDealing, IsOfDevices, IsOfOpening, IsOfPlaying, IsOfPruning, IsOfSecrets};
 ghost use Rattle.dkg_store.specs.Secrets.{Secrets, Tries, after};
-ghost use Rattle.dkg_store.specs.Events.{event_spelling, IsPublic};
+ghost use Rattle.dkg_store.specs.Events.{event_spelling};
+ghost use Rattle.dkg_store.specs.declared.event.Event.TheVariants as events;
 ghost use Rattle.dkg_store.specs.Pairs.{Pairs, IsWhole, AreAtOrAbove, Holds, HoldsEither, recovered};
-ghost use Rattle.dkg_store.specs.Recorded.{restored_list, of_epoch, first_refused};
-ghost use Rattle.dkg_store.specs.Both.{MadeBoth, IsWant, put_then_append};
+ghost use Rattle.dkg_store.specs.Recorded.{at_epoch, restored_list, of_epoch, first_refused};
+ghost use Rattle.dkg_store.specs.Both.{MadeBoth, IsWant, prune_both, put_then_append};
+ghost use Rattle.dkg_store.specs.Noted.{Gives, GivesEither, Notes, SameNotes, acks_in, logs_in};
+ghost use Rattle.dkg_store.specs.Dealer.{IsDealerOf, passing};
+ghost use Rattle.dkg_store.specs.Player.{has_orphan};
 ghost use Rattle.dkg_store.specs.Ready.{IsReadyDealing};
 
+use crate::appending::append_event;
 use crate::call::{StoreError, perform_secret};
-use crate::devices::{Devices, put_and_append};
-use crate::event::write_event;
+use crate::dealer::{Dealer, replayed};
+use crate::devices::{Devices, prune_devices, put_and_append};
+use crate::event::{ack_body, ack_fits, dealing_body, dealing_fits, log_body, log_fits};
 use crate::pair_map::PairMap;
 use crate::player::Player;
-use crate::restoring::restore;
+use crate::restoring::{Recorded, restore};
 use crate::secrets::{SecretError, SecretOp, SecretStore};
-use dkg_ceremony::{Ceremony, Private, Public, Round, Share, Value};
+use dkg_ceremony::{
+    Ack, Ceremony, DealError, DealerLog, Private, Public, Round, Share, Signer, Value,
+};
 use dkg_journal::{Disk, Fuse, Journal, Op, Prepared, perform};
 use dkg_types::{EpochInfo, LocalCause, Restored};
-use dkg_values::{Epoch, Key, Mem, Seed};
+use dkg_values::{Epoch, Key, Map, Mem, NoMemory, NotRising, Seed};
 use std::alloc::Global;
 use std::num::NonZeroU32;
 
@@ -49,6 +63,8 @@ use std::num::NonZeroU32;
 pub struct Store<Dir> {
     journal: Journal,
     dealings: PairMap<(Public, Private)>,
+    acks: PairMap<Ack>,
+    logs: PairMap<DealerLog>,
     restored: Vec<Restored>,
     current: Option<EpochInfo<Dir>>,
 }
@@ -61,14 +77,6 @@ struct ReadyDealing {
     calls: Prepared,
 }
 
-/// Each public half is one that an event can hold.
-#[tactic(auto, using(dkg_ceremony::specs::Publics::public_fits))]
-fn fits_event(public: &Public)
-    ensures { IsPublic public.now }
-{
-    let _elements = public.as_slice();
-}
-
 /// Takes the memory of a new dealing.
 fn ready_dealing(
     alloc: Global,
@@ -78,12 +86,12 @@ fn ready_dealing(
     public: &Public,
     private: Private,
 ) -> Result<ReadyDealing, StoreError>
-    requires { 8 + length (event_spelling dealer public.now) < 2 ^ 32 }
+    requires { 8 + length (event_spelling (events.Dealing dealer public.now)) < 2 ^ 32 }
     ensures ready { IfOk result (λ r. IsReadyDealing r journal.now epoch dealer public.now private) }
     ensures memory { IfErr result (λ e. e ≡ StoreError.NoMemory) }
 {
-    fits_event(public);
-    let body = write_event(alloc, dealer, public)?;
+    dealing_fits(dealer, public);
+    let body = dealing_body(alloc, dealer, public)?;
     let Ok(calls) = journal.ready(alloc, epoch.0, &body) else {
         return Err(StoreError::NoMemory);
     };
@@ -113,6 +121,9 @@ fn open_journal<D: Disk>(
     ensures acts { IsTrue D.tells → broken (D.files disk.old) ≡ None → (out : List Line) (s : Secrets) → MadeAt (opens (length (open_calls (D.files disk.old)))) (opened result) (D.files disk.old) (D.image disk.old) (D.files disk.new) (D.image disk.new) (moment out s fuse.old) (moment out s fuse.new) }
     ensures corrupt { (name : Name) (place : ℕ) → IsErrOf result (StoreError.Corrupt name place) → IsTrue D.tells → (name ≡ Flat) × (broken (D.files disk.old) ≡ Some place) }
     ensures whole { OnOk result (IsTrue D.tells → broken (D.files disk.old) ≡ None) }
+    // Another opening finds the same, at Ok and at Corrupt.
+    ensures alike { OnOk result (IsTrue D.tells → OpensAlike (D.files disk.old) (D.files disk.new)) }
+    ensures unread { (name : Name) (place : ℕ) → IsErrOf result (StoreError.Corrupt name place) → IsTrue D.tells → OpensAlike (D.files disk.old) (D.files disk.new) }
     ensures later { D.faults disk.old ≤ D.faults disk.new }
     ensures disk { IsErrOf result StoreError.Disk → Rose (D.faults disk.old) (D.faults disk.new) }
     ensures not_secrets { IsErrOf result StoreError.Secrets → ⊥ }
@@ -163,6 +174,81 @@ fn first_refused<C: Ceremony>(
         }
     }
     None
+}
+
+/// Pairs whose keys rise, as a map.
+pub(crate) fn in_order<V: Drop>(pairs: Vec<(Key, V)>) -> Mem<Map<V>>
+    requires { IsStrictlyIncreasing (keys_of pairs.items) }
+    ensures { IfOk result (λ made. made ≡ pairs.items) }
+{
+    if pairs.len() > u32::MAX as usize {
+        return Err(NoMemory);
+    }
+    match Map::from_sorted(pairs) {
+        Ok(made) => Ok(made),
+        Err(NotRising) => unreachable!(),
+    }
+}
+
+/// What is recorded of one epoch, keys rising.
+fn pairs_of_epoch<V: Value + Drop>(
+    alloc: Global,
+    values: &PairMap<V>,
+    epoch: Epoch,
+) -> Mem<Vec<(Key, V)>>
+    ensures { IfOk result (λ pairs. pairs.items ≡ at_epoch epoch values.now) }
+{
+    let mut pairs = Vec::new(alloc);
+    for ((_, key), value) in values.of_epoch(epoch.0) {
+        pairs.push((Key(*key), value.copy(alloc)?))?;
+    }
+    Ok(pairs)
+}
+
+/// What is recorded of one epoch, by key.
+#[tactic(auto, using(crate::proofs::Epochs::rising))]
+fn map_of_epoch<V: Value + Drop>(alloc: Global, values: &PairMap<V>, epoch: Epoch) -> Mem<Map<V>>
+    ensures { IfOk result (λ made. made ≡ at_epoch epoch values.now) }
+{
+    let pairs = pairs_of_epoch(alloc, values, epoch)?;
+    in_order(pairs)
+}
+
+/// Whether the dealing that is recorded of a dealer has this public half.
+fn has_half(
+    dealings: &PairMap<(Public, Private)>,
+    epoch: Epoch,
+    dealer: Key,
+    public: &Public,
+) -> bool
+    ensures { result ≡ has_public public.now (map.get dealings.now (epoch, dealer)) }
+{
+    match dealings.get(epoch, dealer) {
+        None => false,
+        Some((recorded, _)) => recorded.same(public),
+    }
+}
+
+/// Whether a log bears the player's acknowledgement, and no recorded dealing of its dealer has the log's public half.
+fn has_orphan<C: Ceremony>(
+    alloc: Global,
+    ceremony: &C,
+    dealings: &PairMap<(Public, Private)>,
+    epoch: Epoch,
+    me: Key,
+    round: &Round,
+    logs: &Map<DealerLog>,
+) -> Mem<bool>
+    ensures { IfOk result (λ found. found ≡ has_orphan (λ dealer log. C.bears_ack_of round.now dealer log me) epoch dealings.now logs.now) }
+{
+    for (dealer, log) in logs.iter() {
+        if ceremony.bears_ack(alloc, round, dealer, log, me)?
+            && !has_half(dealings, epoch, dealer, &log.public)
+        {
+            return Ok(true);
+        }
+    }
+    Ok(false)
 }
 
 /// Puts the share of an epoch, if there is one, and then its seed.
@@ -216,10 +302,11 @@ fn record_dealing<D: Disk, X: SecretStore>(
     ensures kept { OnErr result (dealings.new ≡ dealings.old) }
     ensures holds { OnOk result (IsTrue D.tells → IsTrue X.tells → Holds dealings.old (D.image devices.old.disk.now) (X.held devices.old.secrets.now) → Holds (map.insert dealings.old (epoch, dealer) (public, private)) (D.image devices.new.disk.now) (X.held devices.new.secrets.now)) }
     ensures images { IsTrue D.tells → IsTrue X.tells → Holds dealings.old (D.image devices.old.disk.now) (X.held devices.old.secrets.now) → HoldsEither dealings.old (map.insert dealings.old (epoch, dealer) (public, private)) (D.image devices.new.disk.now) (X.held devices.new.secrets.now) }
-    ensures acts { IsTrue D.tells → IsTrue X.tells → (out : List Line) → MadeAt (put_and_appended (SecretOp.PutDealing epoch dealer private) (has_file journal.old) (epoch, event_spelling dealer public) tt) (ended result) (D.files devices.old.disk.now) (D.image devices.old.disk.now) (D.files devices.new.disk.now) (D.image devices.new.disk.now) (moment out (X.held devices.old.secrets.now) devices.old.fuse) (moment out (X.held devices.new.secrets.now) devices.new.fuse) }
+    ensures notes { IsTrue D.tells → Follows SameNotes (D.image devices.old.disk.now) (D.image devices.new.disk.now) }
+    ensures acts { IsTrue D.tells → IsTrue X.tells → (out : List Line) → MadeAt (put_and_appended (SecretOp.PutDealing epoch dealer private) (has_file journal.old) (epoch, event_spelling (events.Dealing dealer public)) tt) (ended result) (D.files devices.old.disk.now) (D.image devices.old.disk.now) (D.files devices.new.disk.now) (D.image devices.new.disk.now) (moment out (X.held devices.old.secrets.now) devices.old.fuse) (moment out (X.held devices.new.secrets.now) devices.new.fuse) }
     ensures kinds { IfErr result IsOfDevices }
-    ensures all { OnOk result (RanAll (MadeBoth D.made X.made) (devices.old.disk.now, devices.old.secrets.now) (devices.new.disk.now, devices.new.secrets.now) devices.old.fuse devices.new.fuse (put_then_append (SecretOp.PutDealing epoch dealer private) journal.old (epoch, event_spelling dealer public))) }
-    ensures calls { Ran (MadeBoth D.made X.made) (devices.old.disk.now, devices.old.secrets.now) (devices.new.disk.now, devices.new.secrets.now) devices.old.fuse devices.new.fuse (put_then_append (SecretOp.PutDealing epoch dealer private) journal.old (epoch, event_spelling dealer public)) }
+    ensures all { OnOk result (RanAll (MadeBoth D.made X.made) (devices.old.disk.now, devices.old.secrets.now) (devices.new.disk.now, devices.new.secrets.now) devices.old.fuse devices.new.fuse (put_then_append (SecretOp.PutDealing epoch dealer private) journal.old (epoch, event_spelling (events.Dealing dealer public)))) }
+    ensures calls { Ran (MadeBoth D.made X.made) (devices.old.disk.now, devices.old.secrets.now) (devices.new.disk.now, devices.new.secrets.now) devices.old.fuse devices.new.fuse (put_then_append (SecretOp.PutDealing epoch dealer private) journal.old (epoch, event_spelling (events.Dealing dealer public))) }
     ensures memory { IsErrOf result StoreError.NoMemory → IsWant ((dealings.new ≡ dealings.old) × (journal.new ≡ journal.old) × (devices.new ≡ devices.old)) (D.wants devices.old.disk.now) (D.wants devices.new.disk.now) (X.wants devices.old.secrets.now) (X.wants devices.new.secrets.now) }
     ensures later_disk { D.faults devices.old.disk.now ≤ D.faults devices.new.disk.now }
     ensures later_secrets { X.faults devices.old.secrets.now ≤ X.faults devices.new.secrets.now }
@@ -265,17 +352,24 @@ impl<Dir: Drop> Store<Dir> {
         ensures current { IfOk result (λ store. store.current ≡ None) }
         // A dealing is restored exactly where its record and its private half are there, a later record of a key in place of an earlier one.
         ensures recovered { IfOk result (λ store. IsTrue D.tells → IsTrue X.tells → IsFormOfToday (D.files devices.old.disk.now) → store.dealings ≡ recovered (entries (D.files devices.old.disk.now)) (X.held devices.old.secrets.now)) }
+        ensures acks { IfOk result (λ store. IsTrue D.tells → IsFormOfToday (D.files devices.old.disk.now) → store.acks ≡ acks_in (entries (D.files devices.old.disk.now))) }
+        ensures logs { IfOk result (λ store. IsTrue D.tells → IsFormOfToday (D.files devices.old.disk.now) → store.logs ≡ logs_in (entries (D.files devices.old.disk.now))) }
         ensures restored { IfOk result (λ store. store.restored.items ≡ restored_list store.dealings) }
         // From then on a crash leaves just that.
         ensures settled { IfOk result (λ store. IsTrue D.tells → IsTrue X.tells → IsFormOfToday (D.files devices.old.disk.now) → IsWhole (entries (D.files devices.old.disk.now)) (X.held devices.old.secrets.now) → Holds store.dealings (D.image devices.new.disk.now) (X.held devices.new.secrets.now)) }
+        ensures settled_acks { IfOk result (λ store. IsTrue D.tells → IsFormOfToday (D.files devices.old.disk.now) → Gives acks_in store.acks (D.image devices.new.disk.now)) }
+        ensures settled_logs { IfOk result (λ store. IsTrue D.tells → IsFormOfToday (D.files devices.old.disk.now) → Gives logs_in store.logs (D.image devices.new.disk.now)) }
+        ensures settled_entries { OnOk result (IsTrue D.tells → (c : Files) → D.image devices.new.disk.now c → entries c ≡ entries (D.files devices.old.disk.now)) }
         // Wherever it stops, each image with the secrets is whole as before, and gives the same dealings.
         ensures holds { IsTrue D.tells → (pairs : Pairs) → Holds pairs (D.image devices.old.disk.now) (X.held devices.old.secrets.now) → Holds pairs (D.image devices.new.disk.now) (X.held devices.new.secrets.now) }
         // The barrier, the journal's opening, and what is read then: all at Ok, and at any other exit a part, whatever image is left.
-        ensures acts { IsTrue D.tells → IsTrue X.tells → IsFormOfToday (D.files devices.old.disk.now) → broken (D.files devices.old.disk.now) ≡ None → AreEvents (non_zero_u32_get limit) (entries (D.files devices.old.disk.now)) → (out : List Line) → MadeAt (opening (length (open_calls (D.files devices.old.disk.now)))) (ended_as (λ store. store.dealings) result) (D.files devices.old.disk.now) (D.image devices.old.disk.now) (D.files devices.new.disk.now) (D.image devices.new.disk.now) (moment out (X.held devices.old.secrets.now) devices.old.fuse) (moment out (X.held devices.new.secrets.now) devices.new.fuse) }
+        ensures acts { IsTrue D.tells → IsTrue X.tells → IsFormOfToday (D.files devices.old.disk.now) → broken (D.files devices.old.disk.now) ≡ None → AreEvents (non_zero_u32_get limit) (entries (D.files devices.old.disk.now)) → (out : List Line) → MadeAt (opening (length (open_calls (D.files devices.old.disk.now)))) (ended_as (λ store. (store.dealings, store.acks, store.logs)) result) (D.files devices.old.disk.now) (D.image devices.old.disk.now) (D.files devices.new.disk.now) (D.image devices.new.disk.now) (moment out (X.held devices.old.secrets.now) devices.old.fuse) (moment out (X.held devices.new.secrets.now) devices.new.fuse) }
         // Corrupt comes exactly of a record that is not whole, or, where all are, of the first whose body is no event within the limit.
         ensures corrupt { (name : Name) (place : ℕ) → IsErrOf result (StoreError.Corrupt name place) → IsTrue D.tells → IsFormOfToday (D.files devices.old.disk.now) → (name ≡ Flat) × IsCorruptAt (non_zero_u32_get limit) (D.files devices.old.disk.now) place }
         // .. and where there is such a record, the answer is Corrupt at its gate, but where a device, a cut or want of memory ended it before.
         ensures answer { (place : ℕ) → IsTrue D.tells → IsFormOfToday (D.files devices.old.disk.now) → IsCorruptAt (non_zero_u32_get limit) (D.files devices.old.disk.now) place → MatchResult result (λ store. ⊥) (λ e. (e ≡ StoreError.Corrupt Flat place) ⊎ IsOfDevices e) }
+        // The disk as the call leaves it has that record at that place.
+        ensures found { (name : Name) (place : ℕ) → IsErrOf result (StoreError.Corrupt name place) → IsTrue D.tells → IsCorruptAt (non_zero_u32_get limit) (D.files devices.new.disk.now) place }
         // A private half is read once the journal is open, and of an event before which all are events.
         ensures half { IsErrOf result StoreError.Secrets → IsTrue D.tells → IsFormOfToday (D.files devices.old.disk.now) → (broken (D.files devices.old.disk.now) ≡ None) × BeginsWithEvent (non_zero_u32_get limit) (entries (D.files devices.old.disk.now)) }
         ensures sound { OnOk result (IsTrue D.tells → IsFormOfToday (D.files devices.old.disk.now) → (broken (D.files devices.old.disk.now) ≡ None) × AreEvents (non_zero_u32_get limit) (entries (D.files devices.old.disk.now))) }
@@ -297,11 +391,18 @@ impl<Dir: Drop> Store<Dir> {
     {
         let mut journal = open_journal(alloc, devices.disk, &mut devices.fuse)?;
         let entries = journal.replay(alloc);
-        let dealings = restore(alloc, devices.secrets, limit.get(), &entries)?;
-        let restored = listed(alloc, &dealings)?;
+        let recorded = restore(alloc, devices.secrets, limit.get(), &entries)?;
+        let restored = listed(alloc, &recorded.dealings)?;
+        let Recorded {
+            dealings,
+            acks,
+            logs,
+        } = recorded;
         Ok(Store {
             journal,
             dealings,
+            acks,
+            logs,
             restored,
             current: None,
         })
@@ -321,9 +422,9 @@ impl<Dir: Drop> Store<Dir> {
         self.dealings.get(epoch, dealer)
     }
 
-    /// This node as a player of an epoch's round, over the recorded dealings.
+    /// This node as a player of an epoch's round, over the recorded dealings and logs.
     ///
-    /// LocalState: StoredDealing of the first recorded dealing of the epoch, by dealer, that the check refuses.
+    /// It answers as `create_player_with_logs` does of the recorded logs.
     pub fn create_player<C: Ceremony>(
         &self,
         alloc: Global,
@@ -336,15 +437,88 @@ impl<Dir: Drop> Store<Dir> {
         ensures me { IfOk result (λ made. IfSome made (λ player. player.me ≡ me)) }
         ensures round { IfOk result (λ made. IfSome made (λ player. player.round ≡ round.now)) }
         ensures acks { IfOk result (λ made. IfSome made (λ player. player.acks ≡ map.empty)) }
-        ensures some { IfOk result IsSome }
-        ensures passes { OnOk result (first_refused (C.dealing_of round.now me) (of_epoch epoch self.now.dealings) ≡ None) }
+        ensures some { IfOk result (λ made. is_some made ≡ not (has_orphan (λ dealer log. C.bears_ack_of round.now dealer log me) epoch self.now.dealings (at_epoch epoch self.now.logs))) }
+        ensures passes { IfOk result (λ made. IfSome made (λ player. first_refused (C.dealing_of round.now me) (of_epoch epoch self.now.dealings) ≡ None)) }
         ensures kinds { IfErr result IsOfPlaying }
-        ensures stored { IfErr result (λ e. (e ≡ StoreError.NoMemory) ⊎ ((dealer : ℕ) × (e ≡ StoreError.LocalState (LocalCause.StoredDealing epoch dealer)) × (first_refused (C.dealing_of round.now me) (of_epoch epoch self.now.dealings) ≡ Some dealer))) }
+        ensures stored { IfErr result (λ e. (e ≡ StoreError.NoMemory) ⊎ ((dealer : ℕ) × (e ≡ StoreError.LocalState (LocalCause.StoredDealing epoch dealer)) × (first_refused (C.dealing_of round.now me) (of_epoch epoch self.now.dealings) ≡ Some dealer) × (has_orphan (λ dealer log. C.bears_ack_of round.now dealer log me) epoch self.now.dealings (at_epoch epoch self.now.logs) ≡ false))) }
     {
+        let logs = self.logs(alloc, epoch)?;
+        self.create_player_with_logs(alloc, ceremony, epoch, me, round, &logs)
+    }
+
+    /// This node as a player of an epoch's round, over the recorded dealings and these logs by dealer.
+    ///
+    /// None: a log bears this node's acknowledgement, and no recorded dealing of that dealer has the log's public half.
+    ///
+    /// LocalState: else StoredDealing of the first recorded dealing of the epoch, by dealer, that the check refuses.
+    pub fn create_player_with_logs<C: Ceremony>(
+        &self,
+        alloc: Global,
+        ceremony: &C,
+        epoch: Epoch,
+        me: Key,
+        round: &Round,
+        logs: &Map<DealerLog>,
+    ) -> Result<Option<Player>, StoreError>
+        requires { Contains round.now.players me }
+        ensures me { IfOk result (λ made. IfSome made (λ player. player.me ≡ me)) }
+        ensures round { IfOk result (λ made. IfSome made (λ player. player.round ≡ round.now)) }
+        ensures acks { IfOk result (λ made. IfSome made (λ player. player.acks ≡ map.empty)) }
+        ensures some { IfOk result (λ made. is_some made ≡ not (has_orphan (λ dealer log. C.bears_ack_of round.now dealer log me) epoch self.now.dealings logs.now)) }
+        ensures passes { IfOk result (λ made. IfSome made (λ player. first_refused (C.dealing_of round.now me) (of_epoch epoch self.now.dealings) ≡ None)) }
+        ensures kinds { IfErr result IsOfPlaying }
+        ensures stored { IfErr result (λ e. (e ≡ StoreError.NoMemory) ⊎ ((dealer : ℕ) × (e ≡ StoreError.LocalState (LocalCause.StoredDealing epoch dealer)) × (first_refused (C.dealing_of round.now me) (of_epoch epoch self.now.dealings) ≡ Some dealer) × (has_orphan (λ dealer log. C.bears_ack_of round.now dealer log me) epoch self.now.dealings logs.now ≡ false))) }
+    {
+        if has_orphan(alloc, ceremony, &self.dealings, epoch, me, round, logs)? {
+            return Ok(None);
+        }
         if let Some(dealer) = first_refused(ceremony, &self.dealings, epoch, me, round) {
             return Err(StoreError::LocalState(LocalCause::StoredDealing { epoch, dealer }));
         }
         Ok(Some(Player::new(alloc, me, round)?))
+    }
+
+    /// This node as a dealer of an epoch's round: its dealing from its share and a seed, and the recorded acknowledgements that pass the
+    /// check of it. The same share and seed give the same dealing.
+    ///
+    /// None: this node's log is recorded. LocalState: else ShareRefused, where the ceremony refuses the share.
+    pub fn create_dealer<C: Ceremony>(
+        &self,
+        alloc: Global,
+        ceremony: &C,
+        epoch: Epoch,
+        signer: &C::Signer,
+        round: &Round,
+        share: Option<&Share>,
+        seed: &Seed,
+    ) -> Result<Option<Dealer>, StoreError>
+        requires { Contains round.now.dealers (C.Signer.key_of signer.now) }
+        ensures some { IfOk result (λ made. is_some made ≡ not (map.contains_key self.now.logs (epoch, C.Signer.key_of signer.now))) }
+        ensures me { IfOk result (λ made. IfSome made (λ dealer. dealer.me ≡ C.Signer.key_of signer.now)) }
+        ensures round { IfOk result (λ made. IfSome made (λ dealer. dealer.round ≡ round.now)) }
+        ensures dealt { IfOk result (λ made. IfSome made (λ dealer. C.deal_of round.now (C.Signer.key_of signer.now) (option_copied share.entry) seed.now ≡ Ok (dealer.public, dealer.privates))) }
+        ensures acks { IfOk result (λ made. IfSome made (λ dealer. dealer.acks ≡ passing (C.check_ack_of round.now (C.Signer.key_of signer.now) dealer.public) (at_epoch epoch self.now.acks))) }
+        ensures open { IfOk result (λ made. IfSome made (λ dealer. dealer.is_open ≡ true)) }
+        ensures finalized { IfOk result (λ made. IfSome made (λ dealer. dealer.finalized ≡ None)) }
+        ensures dealer { IfOk result (λ made. IfSome made (λ dealer. IsDealerOf C.deal_of C.check_ack_of dealer)) }
+        ensures kinds { IfErr result IsOfDealing }
+        ensures refused { IfErr result (λ e. (e ≡ StoreError.NoMemory) ⊎ ((e ≡ StoreError.LocalState (LocalCause.ShareRefused epoch)) × (C.deal_of round.now (C.Signer.key_of signer.now) (option_copied share.entry) seed.now ≡ Err DealError.ShareRefused) × (map.contains_key self.now.logs (epoch, C.Signer.key_of signer.now) ≡ false))) }
+    {
+        let me = signer.public_key();
+        if self.has_log(epoch, me) {
+            return Ok(None);
+        }
+        match ceremony.deal(alloc, round, signer, share, seed) {
+            Err(DealError::NoMemory) => Err(StoreError::NoMemory),
+            Err(DealError::ShareRefused) => {
+                Err(StoreError::LocalState(LocalCause::ShareRefused { epoch }))
+            }
+            Ok((public, privates)) => {
+                let acks = replayed(alloc, ceremony, &self.acks, epoch, round, me, &public)?;
+                let dealer = Dealer::new(alloc, me, round, public, privates, acks)?;
+                Ok(Some(dealer))
+            }
+        }
     }
 
     /// The info of the epoch that was committed last in this life.
@@ -369,6 +543,7 @@ impl<Dir: Drop> Store<Dir> {
         ensures wanted { IsErrOf result StoreError.NoMemory → Rose (X.wants devices.old.secrets.now) (X.wants devices.new.secrets.now) }
         ensures secrets { IsErrOf result StoreError.Secrets → Rose (X.faults devices.old.secrets.now) (X.faults devices.new.secrets.now) }
         ensures kinds { IfErr result IsOfSecrets }
+        ensures no_cut { IsErrOf result StoreError.Cut → ⊥ }
         ensures later_secrets { X.faults devices.old.secrets.now ≤ X.faults devices.new.secrets.now }
         // Each image with the secrets is whole as before, and gives the same dealings.
         ensures holds { (pairs : Pairs) → Holds pairs (D.image devices.old.disk.now) (X.held devices.old.secrets.now) → Holds pairs (D.image devices.new.disk.now) (X.held devices.new.secrets.now) }
@@ -399,6 +574,7 @@ impl<Dir: Drop> Store<Dir> {
         ensures wanted { IsErrOf result StoreError.NoMemory → Rose (X.wants devices.old.secrets.now) (X.wants devices.new.secrets.now) }
         ensures secrets { IsErrOf result StoreError.Secrets → Rose (X.faults devices.old.secrets.now) (X.faults devices.new.secrets.now) }
         ensures kinds { IfErr result IsOfSecrets }
+        ensures no_cut { IsErrOf result StoreError.Cut → ⊥ }
         ensures later_secrets { X.faults devices.old.secrets.now ≤ X.faults devices.new.secrets.now }
         // Each image with the secrets is whole as before, and gives the same dealings.
         ensures holds { (pairs : Pairs) → Holds pairs (D.image devices.old.disk.now) (X.held devices.old.secrets.now) → Holds pairs (D.image devices.new.disk.now) (X.held devices.new.secrets.now) }
@@ -426,6 +602,9 @@ impl<Dir: Drop> Store<Dir> {
         ensures current { OnOk result (self.new.current ≡ Some info) }
         ensures err { OnErr result (self.new ≡ self.old) }
         ensures dealings { self.new.dealings ≡ self.old.dealings }
+        ensures acks { self.new.acks ≡ self.old.acks }
+        ensures logs { self.new.logs ≡ self.old.logs }
+        ensures restored { self.new.restored ≡ self.old.restored }
         ensures done { OnOk result (IsTrue X.tells → X.held devices.new.secrets.now ≡ committed info.epoch seed share (X.held devices.old.secrets.now)) }
         ensures journal { self.new.journal ≡ self.old.journal }
         ensures disk { devices.new.disk.now ≡ devices.old.disk.now }
@@ -455,41 +634,55 @@ impl<Dir: Drop> Store<Dir> {
         Ok(())
     }
 
-    /// Forgets the dealings below the minimum, and takes what is below it out of the secrets. Records below it stay in the journal, and
-    /// are not restored without their private halves.
+    /// Forgets what is below the minimum: it prunes the journal, and then the secrets.
+    ///
+    /// The time is linear in the journal's file, and in what goes of the secrets.
     pub fn prune<D: Disk, X: SecretStore>(
         &mut self,
         alloc: Global,
         devices: &mut Devices<'_, D, X>,
         min: Epoch,
     ) -> Result<(), StoreError>
+        requires { IsTrue D.tells → IsOpen self.old.journal (D.files devices.old.disk.now) (D.image devices.old.disk.now) }
+        ensures open { OnOk result (IsTrue D.tells → IsOpen self.new.journal (D.files devices.new.disk.now) (D.image devices.new.disk.now)) }
         ensures dealings { self.new.dealings ≡ map.retain_keys self.old.dealings (λ key. nat_le min key.0) }
+        ensures acks { self.new.acks ≡ map.retain_keys self.old.acks (λ key. nat_le min key.0) }
+        ensures logs { self.new.logs ≡ map.retain_keys self.old.logs (λ key. nat_le min key.0) }
+        ensures current { self.new.current ≡ self.old.current }
+        ensures restored { self.new.restored ≡ self.old.restored }
         ensures done { OnOk result (IsTrue X.tells → X.held devices.new.secrets.now ≡ after (SecretOp.Prune min) (X.held devices.old.secrets.now)) }
         ensures crash { Tries (SecretOp.Prune min) (X.held devices.old.secrets.now) (X.held devices.new.secrets.now) }
-        ensures journal { self.new.journal ≡ self.old.journal }
-        ensures disk { devices.new.disk.now ≡ devices.old.disk.now }
-        ensures wanted { IsErrOf result StoreError.NoMemory → Rose (X.wants devices.old.secrets.now) (X.wants devices.new.secrets.now) }
-        ensures secrets { IsErrOf result StoreError.Secrets → Rose (X.faults devices.old.secrets.now) (X.faults devices.new.secrets.now) }
+        ensures left { OnOk result (IsTrue D.tells → Follows (Leaves min) (D.image devices.old.disk.now) (D.image devices.new.disk.now)) }
+        // Each image with the secrets then held is whole as before, and gives all dealings from before, or those at or above the minimum.
+        ensures images { IsTrue D.tells → (pairs : Pairs) → Holds pairs (D.image devices.old.disk.now) (X.held devices.old.secrets.now) → HoldsEither pairs (map.retain_keys pairs (λ key. nat_le min key.0)) (D.image devices.new.disk.now) (X.held devices.new.secrets.now) }
+        ensures images_acks { IsTrue D.tells → (acks : Notes (List ℕ)) → Gives acks_in acks (D.image devices.old.disk.now) → GivesEither acks_in acks (map.retain_keys acks (λ key. nat_le min key.0)) (D.image devices.new.disk.now) }
+        ensures images_logs { IsTrue D.tells → (logs : Notes Log) → Gives logs_in logs (D.image devices.old.disk.now) → GivesEither logs_in logs (map.retain_keys logs (λ key. nat_le min key.0)) (D.image devices.new.disk.now) }
+        // At Ok it is those at or above the minimum.
+        ensures holds { OnOk result (IsTrue D.tells → (pairs : Pairs) → Holds pairs (D.image devices.old.disk.now) (X.held devices.old.secrets.now) → Holds (map.retain_keys pairs (λ key. nat_le min key.0)) (D.image devices.new.disk.now) (X.held devices.new.secrets.now)) }
+        ensures gives_acks { OnOk result (IsTrue D.tells → (acks : Notes (List ℕ)) → Gives acks_in acks (D.image devices.old.disk.now) → Gives acks_in (map.retain_keys acks (λ key. nat_le min key.0)) (D.image devices.new.disk.now)) }
+        ensures gives_logs { OnOk result (IsTrue D.tells → (logs : Notes Log) → Gives logs_in logs (D.image devices.old.disk.now) → Gives logs_in (map.retain_keys logs (λ key. nat_le min key.0)) (D.image devices.new.disk.now)) }
+        // The journal, and then the secrets: both at Ok, and at any other exit a part, whatever image is left.
+        ensures acts { IsTrue D.tells → IsTrue X.tells → (out : List Line) → MadeAt (pruning (calls_of (Prunes min) (D.files devices.old.disk.now)) min) (ended result) (D.files devices.old.disk.now) (D.image devices.old.disk.now) (D.files devices.new.disk.now) (D.image devices.new.disk.now) (moment out (X.held devices.old.secrets.now) devices.old.fuse) (moment out (X.held devices.new.secrets.now) devices.new.fuse) }
+        ensures kinds { IfErr result IsOfPruning }
+        ensures of_devices { IsTrue D.tells → IfErr result IsOfDevices }
+        ensures all { OnOk result (IsTrue D.tells → RanAll (MadeBoth D.made X.made) (devices.old.disk.now, devices.old.secrets.now) (devices.new.disk.now, devices.new.secrets.now) devices.old.fuse devices.new.fuse (prune_both min (D.files devices.old.disk.now))) }
+        ensures calls { IsTrue D.tells → Ran (MadeBoth D.made X.made) (devices.old.disk.now, devices.old.secrets.now) (devices.new.disk.now, devices.new.secrets.now) devices.old.fuse devices.new.fuse (prune_both min (D.files devices.old.disk.now)) }
+        ensures memory { IsErrOf result StoreError.NoMemory → IsWant ((self.new.journal ≡ self.old.journal) × D.made devices.old.disk.now devices.new.disk.now [] × IsUnchanged D.files D.image devices.old.disk.now devices.new.disk.now × (devices.new.secrets.now ≡ devices.old.secrets.now) × (devices.new.fuse ≡ devices.old.fuse)) (D.wants devices.old.disk.now) (D.wants devices.new.disk.now) (X.wants devices.old.secrets.now) (X.wants devices.new.secrets.now) }
+        ensures later_disk { D.faults devices.old.disk.now ≤ D.faults devices.new.disk.now }
         ensures later_secrets { X.faults devices.old.secrets.now ≤ X.faults devices.new.secrets.now }
-        ensures kinds { IfErr result IsOfSecrets }
-        // Wherever it stops, each image with the secrets gives the same dealings at and above the minimum.
-        ensures recovers { (c : Files) → D.image devices.new.disk.now c → (key : ℕ × ℕ) → min ≤ key.0 → map.get (recovered (entries c) (X.held devices.new.secrets.now)) key ≡ map.get (recovered (entries c) (X.held devices.old.secrets.now)) key }
-        // .. and where none of what was whole is below the minimum, all is whole as before.
-        ensures holds { (pairs : Pairs) → AreAtOrAbove min pairs → Holds pairs (D.image devices.old.disk.now) (X.held devices.old.secrets.now) → Holds pairs (D.image devices.new.disk.now) (X.held devices.new.secrets.now) }
-        ensures acts { IsTrue D.tells → IsTrue X.tells → (out : List Line) → MadeAt (pruning min) (ended result) (D.files devices.old.disk.now) (D.image devices.old.disk.now) (D.files devices.new.disk.now) (D.image devices.new.disk.now) (moment out (X.held devices.old.secrets.now) devices.old.fuse) (moment out (X.held devices.new.secrets.now) devices.new.fuse) }
+        ensures disk { IsErrOf result StoreError.Disk → Rose (D.faults devices.old.disk.now) (D.faults devices.new.disk.now) }
+        ensures secrets { IsErrOf result StoreError.Secrets → Rose (X.faults devices.old.secrets.now) (X.faults devices.new.secrets.now) }
         ensures cut { IsErrOf result StoreError.Cut → Reached devices.old.fuse devices.new.fuse }
         ensures not_cut { OnOk result (Reached devices.old.fuse devices.new.fuse → ⊥) }
-        ensures calls { X.made devices.old.secrets.now devices.new.secrets.now (SecretOp.Prune min ∷ []) }
+        // A crash leaves every file but the journal's as it was.
+        ensures others { IsTrue D.tells → Follows (SameElse Flat) (D.image devices.old.disk.now) (D.image devices.new.disk.now) }
         ensures same_disk { devices.new.disk.ghost_name ≡ devices.old.disk.ghost_name }
         ensures same_secrets { devices.new.secrets.ghost_name ≡ devices.old.secrets.ghost_name }
     {
         self.dealings.prune(min.0);
-        perform_secret(
-            alloc,
-            devices.secrets,
-            &mut devices.fuse,
-            &SecretOp::Prune { min },
-        )
+        self.acks.prune(min.0);
+        self.logs.prune(min.0);
+        prune_devices(alloc, devices, &mut self.journal, min)
     }
 
     /// Puts the private half, and then appends the record. It answers false where the dealer's is recorded already.
@@ -502,20 +695,28 @@ impl<Dir: Drop> Store<Dir> {
         public: Public,
         private: Private,
     ) -> Result<bool, StoreError>
-        requires short { 8 + length (event_spelling dealer public) < 2 ^ 32 }
+        requires short { 8 + length (event_spelling (events.Dealing dealer public)) < 2 ^ 32 }
         requires open { IsTrue D.tells → IsOpen self.old.journal (D.files devices.old.disk.now) (D.image devices.old.disk.now) }
         ensures open { OnOk result (IsTrue D.tells → IsOpen self.new.journal (D.files devices.new.disk.now) (D.image devices.new.disk.now)) }
         ensures known { IfOk result (λ new. new ≡ not (map.contains_key self.old.dealings (epoch, dealer))) }
         ensures kept { IfOk result (λ new. self.new.dealings ≡ (if new then map.insert self.old.dealings (epoch, dealer) (public, private) else self.old.dealings)) }
         ensures same { OnErr result (self.new.dealings ≡ self.old.dealings) }
+        // What is recorded already touches nothing.
+        ensures untouched { IfOk result (λ new. new ≡ false → (self.new ≡ self.old) × (devices.new ≡ devices.old)) }
+        ensures acks { self.new.acks ≡ self.old.acks }
+        ensures logs { self.new.logs ≡ self.old.logs }
+        ensures current { self.new.current ≡ self.old.current }
+        ensures restored { self.new.restored ≡ self.old.restored }
         ensures holds { OnOk result (IsTrue D.tells → IsTrue X.tells → Holds self.old.dealings (D.image devices.old.disk.now) (X.held devices.old.secrets.now) → Holds self.new.dealings (D.image devices.new.disk.now) (X.held devices.new.secrets.now)) }
         // Each image, with the secrets then held, gives the dealings from before, with the new one or without.
         ensures images { IsTrue D.tells → IsTrue X.tells → Holds self.old.dealings (D.image devices.old.disk.now) (X.held devices.old.secrets.now) → HoldsEither self.old.dealings (map.insert self.old.dealings (epoch, dealer) (public, private)) (D.image devices.new.disk.now) (X.held devices.new.secrets.now) }
+        // Each image gives the acknowledgements and the logs from before.
+        ensures notes { IsTrue D.tells → Follows SameNotes (D.image devices.old.disk.now) (D.image devices.new.disk.now) }
         // The put, and then the append, where it was not recorded: both at Ok, and at any other exit a part, whatever image is left.
         ensures acts { IsTrue D.tells → IsTrue X.tells → (out : List Line) → MadeAt (recording (map.contains_key self.old.dealings (epoch, dealer)) (has_file self.old.journal) epoch dealer public private) (ended result) (D.files devices.old.disk.now) (D.image devices.old.disk.now) (D.files devices.new.disk.now) (D.image devices.new.disk.now) (moment out (X.held devices.old.secrets.now) devices.old.fuse) (moment out (X.held devices.new.secrets.now) devices.new.fuse) }
         ensures kinds { IfErr result IsOfDevices }
-        ensures all { IfOk result (λ new. RanAll (MadeBoth D.made X.made) (devices.old.disk.now, devices.old.secrets.now) (devices.new.disk.now, devices.new.secrets.now) devices.old.fuse devices.new.fuse (if new then put_then_append (SecretOp.PutDealing epoch dealer private) self.old.journal (epoch, event_spelling dealer public) else [])) }
-        ensures calls { Ran (MadeBoth D.made X.made) (devices.old.disk.now, devices.old.secrets.now) (devices.new.disk.now, devices.new.secrets.now) devices.old.fuse devices.new.fuse (put_then_append (SecretOp.PutDealing epoch dealer private) self.old.journal (epoch, event_spelling dealer public)) }
+        ensures all { IfOk result (λ new. RanAll (MadeBoth D.made X.made) (devices.old.disk.now, devices.old.secrets.now) (devices.new.disk.now, devices.new.secrets.now) devices.old.fuse devices.new.fuse (if new then put_then_append (SecretOp.PutDealing epoch dealer private) self.old.journal (epoch, event_spelling (events.Dealing dealer public)) else [])) }
+        ensures calls { Ran (MadeBoth D.made X.made) (devices.old.disk.now, devices.old.secrets.now) (devices.new.disk.now, devices.new.secrets.now) devices.old.fuse devices.new.fuse (put_then_append (SecretOp.PutDealing epoch dealer private) self.old.journal (epoch, event_spelling (events.Dealing dealer public))) }
         ensures memory { IsErrOf result StoreError.NoMemory → IsWant ((self.new ≡ self.old) × (devices.new ≡ devices.old)) (D.wants devices.old.disk.now) (D.wants devices.new.disk.now) (X.wants devices.old.secrets.now) (X.wants devices.new.secrets.now) }
         ensures later_disk { D.faults devices.old.disk.now ≤ D.faults devices.new.disk.now }
         ensures later_secrets { X.faults devices.old.secrets.now ≤ X.faults devices.new.secrets.now }
@@ -544,5 +745,155 @@ impl<Dir: Drop> Store<Dir> {
             private,
         )?;
         Ok(true)
+    }
+
+    /// Appends the record of a player's acknowledgement of this node's dealing. It answers false where the player's is recorded already.
+    pub fn append_ack<D: Disk, X: SecretStore>(
+        &mut self,
+        alloc: Global,
+        devices: &mut Devices<'_, D, X>,
+        epoch: Epoch,
+        player: Key,
+        ack: Ack,
+    ) -> Result<bool, StoreError>
+        requires open { IsTrue D.tells → IsOpen self.old.journal (D.files devices.old.disk.now) (D.image devices.old.disk.now) }
+        ensures open { OnOk result (IsTrue D.tells → IsOpen self.new.journal (D.files devices.new.disk.now) (D.image devices.new.disk.now)) }
+        ensures known { IfOk result (λ new. new ≡ not (map.contains_key self.old.acks (epoch, player))) }
+        // The first record stays.
+        ensures kept { IfOk result (λ new. self.new.acks ≡ (if new then map.insert self.old.acks (epoch, player) ack else self.old.acks)) }
+        ensures same { OnErr result (self.new.acks ≡ self.old.acks) }
+        // What is recorded already touches nothing.
+        ensures untouched { IfOk result (λ new. new ≡ false → (self.new ≡ self.old) × (devices.new ≡ devices.old)) }
+        ensures logs { self.new.logs ≡ self.old.logs }
+        ensures dealings { self.new.dealings ≡ self.old.dealings }
+        ensures current { self.new.current ≡ self.old.current }
+        ensures restored { self.new.restored ≡ self.old.restored }
+        ensures gives { OnOk result (IsTrue D.tells → Gives acks_in self.old.acks (D.image devices.old.disk.now) → Gives acks_in self.new.acks (D.image devices.new.disk.now)) }
+        // Each image gives what was recorded before, with the new record or without.
+        ensures images { IsTrue D.tells → Gives acks_in self.old.acks (D.image devices.old.disk.now) → GivesEither acks_in self.old.acks (map.insert self.old.acks (epoch, player) ack) (D.image devices.new.disk.now) }
+        ensures others { IsTrue D.tells → Gives logs_in self.old.logs (D.image devices.old.disk.now) → Gives logs_in self.old.logs (D.image devices.new.disk.now) }
+        // Wherever it stops, each image with the secrets is whole as before, and gives the same dealings.
+        ensures holds { IsTrue D.tells → (pairs : Pairs) → Holds pairs (D.image devices.old.disk.now) (X.held devices.old.secrets.now) → Holds pairs (D.image devices.new.disk.now) (X.held devices.new.secrets.now) }
+        // The append, where it was not recorded: all of it at Ok, and at any other exit a part, whatever image is left.
+        ensures acts { IsTrue D.tells → (out : List Line) → MadeAt (noting (map.contains_key self.old.acks (epoch, player)) (has_file self.old.journal) (epoch, event_spelling (events.Ack player ack))) (ended result) (D.files devices.old.disk.now) (D.image devices.old.disk.now) (D.files devices.new.disk.now) (D.image devices.new.disk.now) (moment out (X.held devices.old.secrets.now) devices.old.fuse) (moment out (X.held devices.new.secrets.now) devices.new.fuse) }
+        ensures kinds { IfErr result IsOfDevices }
+        ensures not_secrets { IsErrOf result StoreError.Secrets → ⊥ }
+        ensures all { IfOk result (λ new. RanAll D.made devices.old.disk.now devices.new.disk.now devices.old.fuse devices.new.fuse (if new then append_calls self.old.journal (epoch, event_spelling (events.Ack player ack)) else [])) }
+        ensures calls { Ran D.made devices.old.disk.now devices.new.disk.now devices.old.fuse devices.new.fuse (append_calls self.old.journal (epoch, event_spelling (events.Ack player ack))) }
+        ensures secrets { devices.new.secrets.now ≡ devices.old.secrets.now }
+        ensures memory { IsErrOf result StoreError.NoMemory → ((self.new ≡ self.old) × (devices.new ≡ devices.old)) ⊎ Rose (D.wants devices.old.disk.now) (D.wants devices.new.disk.now) }
+        ensures later_disk { D.faults devices.old.disk.now ≤ D.faults devices.new.disk.now }
+        ensures disk { IsErrOf result StoreError.Disk → Rose (D.faults devices.old.disk.now) (D.faults devices.new.disk.now) }
+        ensures cut { IsErrOf result StoreError.Cut → Reached devices.old.fuse devices.new.fuse }
+        ensures not_cut { OnOk result (Reached devices.old.fuse devices.new.fuse → ⊥) }
+        // A crash leaves every file but the journal's as it was.
+        ensures files { IsTrue D.tells → Follows (SameElse Flat) (D.image devices.old.disk.now) (D.image devices.new.disk.now) }
+        ensures same_disk { devices.new.disk.ghost_name ≡ devices.old.disk.ghost_name }
+        ensures same_secrets { devices.new.secrets.ghost_name ≡ devices.old.secrets.ghost_name }
+    {
+        if self.acks.get(epoch, player).is_some() {
+            return Ok(false);
+        }
+        ack_fits(player, &ack);
+        let body = ack_body(alloc, player, &ack)?;
+        append_event(
+            alloc,
+            &mut self.acks,
+            &mut self.journal,
+            devices.disk,
+            &mut devices.fuse,
+            epoch,
+            player,
+            ack,
+            &body,
+        )?;
+        Ok(true)
+    }
+
+    /// Appends the record of a dealer's log. It answers false where the dealer's is recorded already.
+    pub fn append_log<D: Disk, X: SecretStore>(
+        &mut self,
+        alloc: Global,
+        devices: &mut Devices<'_, D, X>,
+        epoch: Epoch,
+        dealer: Key,
+        log: DealerLog,
+    ) -> Result<bool, StoreError>
+        requires short { 8 + length (event_spelling (events.Log dealer log)) < 2 ^ 32 }
+        requires open { IsTrue D.tells → IsOpen self.old.journal (D.files devices.old.disk.now) (D.image devices.old.disk.now) }
+        ensures open { OnOk result (IsTrue D.tells → IsOpen self.new.journal (D.files devices.new.disk.now) (D.image devices.new.disk.now)) }
+        ensures known { IfOk result (λ new. new ≡ not (map.contains_key self.old.logs (epoch, dealer))) }
+        // The first record stays.
+        ensures kept { IfOk result (λ new. self.new.logs ≡ (if new then map.insert self.old.logs (epoch, dealer) log else self.old.logs)) }
+        ensures same { OnErr result (self.new.logs ≡ self.old.logs) }
+        // What is recorded already touches nothing.
+        ensures untouched { IfOk result (λ new. new ≡ false → (self.new ≡ self.old) × (devices.new ≡ devices.old)) }
+        ensures acks { self.new.acks ≡ self.old.acks }
+        ensures dealings { self.new.dealings ≡ self.old.dealings }
+        ensures current { self.new.current ≡ self.old.current }
+        ensures restored { self.new.restored ≡ self.old.restored }
+        ensures gives { OnOk result (IsTrue D.tells → Gives logs_in self.old.logs (D.image devices.old.disk.now) → Gives logs_in self.new.logs (D.image devices.new.disk.now)) }
+        // Each image gives what was recorded before, with the new record or without.
+        ensures images { IsTrue D.tells → Gives logs_in self.old.logs (D.image devices.old.disk.now) → GivesEither logs_in self.old.logs (map.insert self.old.logs (epoch, dealer) log) (D.image devices.new.disk.now) }
+        ensures others { IsTrue D.tells → Gives acks_in self.old.acks (D.image devices.old.disk.now) → Gives acks_in self.old.acks (D.image devices.new.disk.now) }
+        // Wherever it stops, each image with the secrets is whole as before, and gives the same dealings.
+        ensures holds { IsTrue D.tells → (pairs : Pairs) → Holds pairs (D.image devices.old.disk.now) (X.held devices.old.secrets.now) → Holds pairs (D.image devices.new.disk.now) (X.held devices.new.secrets.now) }
+        // The append, where it was not recorded: all of it at Ok, and at any other exit a part, whatever image is left.
+        ensures acts { IsTrue D.tells → (out : List Line) → MadeAt (noting (map.contains_key self.old.logs (epoch, dealer)) (has_file self.old.journal) (epoch, event_spelling (events.Log dealer log))) (ended result) (D.files devices.old.disk.now) (D.image devices.old.disk.now) (D.files devices.new.disk.now) (D.image devices.new.disk.now) (moment out (X.held devices.old.secrets.now) devices.old.fuse) (moment out (X.held devices.new.secrets.now) devices.new.fuse) }
+        ensures kinds { IfErr result IsOfDevices }
+        ensures not_secrets { IsErrOf result StoreError.Secrets → ⊥ }
+        ensures all { IfOk result (λ new. RanAll D.made devices.old.disk.now devices.new.disk.now devices.old.fuse devices.new.fuse (if new then append_calls self.old.journal (epoch, event_spelling (events.Log dealer log)) else [])) }
+        ensures calls { Ran D.made devices.old.disk.now devices.new.disk.now devices.old.fuse devices.new.fuse (append_calls self.old.journal (epoch, event_spelling (events.Log dealer log))) }
+        ensures secrets { devices.new.secrets.now ≡ devices.old.secrets.now }
+        ensures memory { IsErrOf result StoreError.NoMemory → ((self.new ≡ self.old) × (devices.new ≡ devices.old)) ⊎ Rose (D.wants devices.old.disk.now) (D.wants devices.new.disk.now) }
+        ensures later_disk { D.faults devices.old.disk.now ≤ D.faults devices.new.disk.now }
+        ensures disk { IsErrOf result StoreError.Disk → Rose (D.faults devices.old.disk.now) (D.faults devices.new.disk.now) }
+        ensures cut { IsErrOf result StoreError.Cut → Reached devices.old.fuse devices.new.fuse }
+        ensures not_cut { OnOk result (Reached devices.old.fuse devices.new.fuse → ⊥) }
+        // A crash leaves every file but the journal's as it was.
+        ensures files { IsTrue D.tells → Follows (SameElse Flat) (D.image devices.old.disk.now) (D.image devices.new.disk.now) }
+        ensures same_disk { devices.new.disk.ghost_name ≡ devices.old.disk.ghost_name }
+        ensures same_secrets { devices.new.secrets.ghost_name ≡ devices.old.secrets.ghost_name }
+    {
+        if self.logs.get(epoch, dealer).is_some() {
+            return Ok(false);
+        }
+        log_fits(dealer, &log);
+        let body = log_body(alloc, dealer, &log)?;
+        append_event(
+            alloc,
+            &mut self.logs,
+            &mut self.journal,
+            devices.disk,
+            &mut devices.fuse,
+            epoch,
+            dealer,
+            log,
+            &body,
+        )?;
+        Ok(true)
+    }
+
+    /// The recorded dealings of an epoch by dealer, restored ones and new ones alike.
+    ///
+    /// The time is linear in them, but for one look-up among all that are recorded.
+    pub fn dealings(&self, alloc: Global, epoch: Epoch) -> Mem<Map<(Public, Private)>>
+        ensures { IfOk result (λ dealings. dealings ≡ at_epoch epoch self.now.dealings) }
+    {
+        map_of_epoch(alloc, &self.dealings, epoch)
+    }
+
+    /// The recorded logs of an epoch by dealer.
+    pub fn logs(&self, alloc: Global, epoch: Epoch) -> Mem<Map<DealerLog>>
+        ensures { IfOk result (λ logs. logs ≡ at_epoch epoch self.now.logs) }
+    {
+        map_of_epoch(alloc, &self.logs, epoch)
+    }
+
+    /// Whether a dealer's log is recorded. The time is logarithmic in how many are recorded.
+    pub fn has_log(&self, epoch: Epoch, dealer: Key) -> bool
+        ensures { result ≡ map.contains_key self.now.logs (epoch, dealer) }
+    {
+        self.logs.get(epoch, dealer).is_some()
     }
 }

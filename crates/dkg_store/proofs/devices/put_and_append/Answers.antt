@@ -7,13 +7,16 @@ use Rattle.dkg_journal.specs.Journals.{append_calls}
 use Rattle.dkg_journal.proofs.Steps.{then_all, then_ran, ran_all, ran_first}
 use Rattle.dkg_store.specs.Both.{MadeBoth, on_disk, on_secrets}
 use Rattle.dkg_store.proofs.Both.{both_more, disk_all, disk_ran, secret_one}
-use Rattle.dkg_store.proofs.Others.{others_of}
+use Rattle.dkg_store.proofs.Others.{not_added, others_of}
 use Rattle.dkg_store.proofs.devices.put_and_append.Goals as goal
 
 pub returns-in_err-perform_secret-clause-calls : goal.returns-in_err-perform_secret-clause-calls
 returns-in_err-perform_secret-clause-calls g c =
     ran_first _ _ _ _ _ (on_secrets c.args.put.now ∷ []) (map on_disk (append_calls c.args.journal.now (c.args.section, c.args.body.now))) (
     secret_one g.D.Disk.made g.X.SecretStore.made _ _ _ _ _ c.args.put.now (g.met.D.Disk.made_none _) c.perform_secret.ensures.calls c.perform_secret.ensures.counted)
+
+pub returns-in_err-perform_secret-clause-images : goal.returns-in_err-perform_secret-clause-images
+returns-in_err-perform_secret-clause-images g c told = not_added (c.args.section, c.args.body.now) _
 
 pub returns-in_err-append_ready-clause-calls : goal.returns-in_err-append_ready-clause-calls
 returns-in_err-append_ready-clause-calls g c =

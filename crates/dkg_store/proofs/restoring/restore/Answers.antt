@@ -1,4 +1,4 @@
-use Rattle.std.proofs.Common.{◌≡◌, ap, sym, ◌∙◌, [], ℕ, arith, Some, Err}
+use Rattle.std.proofs.Common.{◌≡◌, ap, sym, ◌∙◌, List, [], ℕ, arith, Some, Err}
 use Rattle.std.proofs.lemmas.Result.{err_from_is_err_and}
 use Rattle.std.proofs.lemmas.List.{at_drop_all}
 use Rattle.dkg_store.specs.Events.{no_event_at}
@@ -8,7 +8,9 @@ use Rattle.dkg_store.specs.Secrets.{Secrets}
 use Rattle.dkg_store.specs.Pairs.{Pairs, with_dealing, dealing_of}
 use Rattle.dkg_journal.specs.Views.{view}
 use Rattle.dkg_store.proofs.Corrupt.{same_error}
-use Rattle.dkg_store.proofs.Replayed.{one_more}
+use Rattle.dkg_store.specs.Noted.{Notes, with_note, noted_ack, noted_log}
+use Rattle.dkg_ceremony.specs.declared.dealer_log.DealerLog.{DealerLog}
+use Rattle.dkg_store.proofs.Replayed.{one_more, one_note}
 use Rattle.dkg_store.proofs.Recorded.{begins, event_passes, event_stops}
 use Rattle.dkg_store.proofs.restoring.restore.Goals as goal
 
@@ -19,9 +21,15 @@ pub loop-entry-preserved : goal.loop-entry-preserved
 loop-entry-preserved g c = record {
   given = λ told.
       c.in_ok-restore_one.ensures.given told
-      ∙ ap (λ (s : Secrets). with_dealing s c.loop-entry.dealings (dealing_of (view c.entry-item.result))) c.loop-entry.invariant.same
+      ∙ ap (λ (s : Secrets). with_dealing s c.loop-entry.recorded.dealings (dealing_of (view c.entry-item.result))) c.loop-entry.invariant.same
       ∙ ap (λ (m : Pairs). with_dealing (g.X.SecretStore.held c.args.secrets.now) m (dealing_of (view c.entry-item.result))) (c.loop-entry.invariant.given told)
       ∙ sym (one_more c.args.entries.now c.loop-entry.entry-index c.entry-item.result (g.X.SecretStore.held c.args.secrets.now) c.loop-entry-test.true c.entry-item.is);
+  acks = c.in_ok-restore_one.ensures.acks
+      ∙ ap (λ (m : Notes (List ℕ)). with_note m (noted_ack (view c.entry-item.result))) c.loop-entry.invariant.acks
+      ∙ sym (one_note noted_ack c.args.entries.now c.loop-entry.entry-index c.entry-item.result c.loop-entry-test.true c.entry-item.is);
+  logs = c.in_ok-restore_one.ensures.logs
+      ∙ ap (λ (m : Notes DealerLog). with_note m (noted_log (view c.entry-item.result))) c.loop-entry.invariant.logs
+      ∙ sym (one_note noted_log c.args.entries.now c.loop-entry.entry-index c.entry-item.result c.loop-entry-test.true c.entry-item.is);
   same = c.restore_one.ensures.same ∙ c.loop-entry.invariant.same;
   later = omega (arith, c.loop-entry.invariant.later, c.restore_one.ensures.later);
   events = sym (event_passes c.args.limit c.args.entries.now c.loop-entry.entry-index c.entry-item.result c.loop-entry-test.true c.entry-item.is c.in_ok-restore_one.ensures.event) ∙ c.loop-entry.invariant.events;

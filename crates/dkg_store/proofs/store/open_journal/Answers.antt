@@ -1,10 +1,11 @@
 use Rattle.std.proofs.Common.{[], ◌∷◌, Err, refl, sym, subst, ap, ◌∙◌}
 use Rattle.dkg_journal.specs.Names.{Files}
-use Rattle.dkg_journal.specs.Gated.{gated_entries}
+use Rattle.dkg_journal.specs.Gated.{OpensAlike, gated_entries}
 use Rattle.dkg_journal.specs.Opening.{IsFormOfToday, broken, open_calls}
 use Rattle.dkg_journal.specs.declared.call.JournalError.{JournalError}
 use Rattle.dkg_journal.specs.Fuse.{Ran, RanAll}
 use Rattle.dkg_journal.specs.declared.disk.Op.TheVariants.{Barrier}
+use Rattle.dkg_journal.proofs.Mending.{unchanged_alike}
 use Rattle.dkg_journal.proofs.Steps.{then_all, then_ran, not_reached}
 use Rattle.std.proofs.lemmas.Result.{err_from_is_err_and}
 use Rattle.dkg_store.specs.Errors.{IsOfDevices, store_error_of}
@@ -12,6 +13,8 @@ use Rattle.dkg_store.proofs.Acting.{ended_broken, of_journal_too}
 use Rattle.dkg_store.proofs.OpeningActs.{bar_torn, open_torn, open_done, journal_devices, no_place}
 use Rattle.dkg_store.proofs.Opened.{same_call}
 use Rattle.dkg_store.proofs.Opened.{barred, kept_on}
+use Rattle.dkg_store.specs.declared.call.StoreError.TheVariants.{Corrupt}
+use Rattle.dkg_store.proofs.Corrupt.{journal_corrupt, same_error}
 use Rattle.dkg_store.proofs.store.open_journal.Goals as goal
 
 pub returns-in_err-perform-clause-images : goal.returns-in_err-perform-clause-images
@@ -81,3 +84,16 @@ returns-clause-acts g c = λ told whole out s.
     let did = c.in_ok-perform.ensures.done told in
     open_done (g.D.Disk.files c.args.disk.now) (g.D.Disk.image c.args.disk.now) out s c.args.fuse.now (g.D.Disk.files c.perform.new.disk) _ _ c.perform.new.fuse _
     refl did.reads c.perform.ensures.counted (c.in_ok-open.ensures.done told (record { only = λ f in_image. did.durable f in_image ∙ sym did.reads })) (g.met.D.Disk.reads _ told)
+
+pub returns-in_err-open-clause-unread : goal.returns-in_err-open-clause-unread
+returns-in_err-open-clause-unread g c = λ name place is told.
+    let did = c.in_ok-perform.ensures.done told in
+    let p = err_from_is_err_and c.from_residual-in_err-open.result c.from_residual-in_err-open.ensures.1 in
+    let its = journal_corrupt c.in_err-open.field-0.0 name place (λ long. c.in_err-open.ensures.not_long (ap (λ (e : JournalError). Err e) long)) (sym p.2 ∙ same_error c.from_residual-in_err-open.result p.0 (Corrupt name place) p.1 is) in
+    let same = c.in_err-open.ensures.unread name place (ap (λ (e : JournalError). Err e) its) in
+    subst (λ (files : Files). OpensAlike files (g.D.Disk.files c.open.new.disk)) did.reads (unchanged_alike g.D.Disk.files g.D.Disk.image _ _ same)
+
+pub returns-clause-alike : goal.returns-clause-alike
+returns-clause-alike g c = λ told.
+    let did = c.in_ok-perform.ensures.done told in
+    subst (λ (files : Files). OpensAlike files (g.D.Disk.files c.open.new.disk)) did.reads (c.in_ok-open.ensures.alike told)

@@ -6,7 +6,9 @@ use Rattle.dkg_store.specs.declared.secrets.SecretOp.{SecretOp}
 use Rattle.dkg_store.specs.Secrets.{after}
 use Rattle.dkg_store.specs.Pairs.{Pairs, PutsFirst}
 use Rattle.dkg_store.specs.Events.{event_spelling}
+use Rattle.dkg_store.specs.declared.event.Event.TheVariants as events
 use Rattle.dkg_store.proofs.Acting.{made_alike}
+use Rattle.dkg_store.proofs.Noted.{dealing_notes}
 use Rattle.dkg_store.proofs.Pairs.{puts_hold, done_holds}
 use Rattle.dkg_store.proofs.Map.{remove_insert, keys_total, exact_keys}
 use Rattle.dkg_store.proofs.store.record_dealing.Goals as goal
@@ -18,19 +20,19 @@ returns-in-Err-clause-kept g c =
 
 pub returns-in-Err-clause-images : goal.returns-in-Err-clause-images
 returns-in-Err-clause-images g c = λ told_disk told_secrets holds.
-    puts_hold c.args.epoch c.args.dealer c.args.private c.args.public c.insert.ensures.fits c.requires.ready.fits c.args.dealings.now c.requires.new _ _ _ _ holds
-    (subst (λ (op : SecretOp). PutsFirst op (c.args.epoch, event_spelling c.args.dealer c.args.public) (g.D.Disk.image c.args.devices.now.disk.now) (g.D.Disk.image c.put_and_append.new.devices.disk.now) (g.X.SecretStore.held c.args.devices.now.secrets.now) (g.X.SecretStore.held c.put_and_append.new.devices.secrets.now)) c.requires.ready.puts
+    puts_hold c.args.epoch c.args.dealer c.args.private c.args.public c.requires.ready.fits c.args.dealings.now c.requires.new _ _ _ _ holds
+    (subst (λ (op : SecretOp). PutsFirst op (c.args.epoch, event_spelling (events.Dealing c.args.dealer c.args.public)) (g.D.Disk.image c.args.devices.now.disk.now) (g.D.Disk.image c.put_and_append.new.devices.disk.now) (g.X.SecretStore.held c.args.devices.now.secrets.now) (g.X.SecretStore.held c.put_and_append.new.devices.secrets.now)) c.requires.ready.puts
     (subst (λ (b : List ℕ). PutsFirst c.args.ready.now.put (c.args.epoch, b) (g.D.Disk.image c.args.devices.now.disk.now) (g.D.Disk.image c.put_and_append.new.devices.disk.now) (g.X.SecretStore.held c.args.devices.now.secrets.now) (g.X.SecretStore.held c.put_and_append.new.devices.secrets.now)) (c.deref.ensures.value ∙ c.requires.ready.body) (subst (λ (n : ℕ). PutsFirst c.args.ready.now.put (n, c.deref.result.now) (g.D.Disk.image c.args.devices.now.disk.now) (g.D.Disk.image c.put_and_append.new.devices.disk.now) (g.X.SecretStore.held c.args.devices.now.secrets.now) (g.X.SecretStore.held c.put_and_append.new.devices.secrets.now)) c.epoch.view_is (c.put_and_append.ensures.steps told_disk told_secrets))))
 
 pub returns-clause-images : goal.returns-clause-images
 returns-clause-images g c = λ told_disk told_secrets holds.
-    puts_hold c.args.epoch c.args.dealer c.args.private c.args.public c.insert.ensures.fits c.requires.ready.fits c.args.dealings.now c.requires.new _ _ _ _ holds
-    (subst (λ (op : SecretOp). PutsFirst op (c.args.epoch, event_spelling c.args.dealer c.args.public) (g.D.Disk.image c.args.devices.now.disk.now) (g.D.Disk.image c.put_and_append.new.devices.disk.now) (g.X.SecretStore.held c.args.devices.now.secrets.now) (g.X.SecretStore.held c.put_and_append.new.devices.secrets.now)) c.requires.ready.puts
+    puts_hold c.args.epoch c.args.dealer c.args.private c.args.public c.requires.ready.fits c.args.dealings.now c.requires.new _ _ _ _ holds
+    (subst (λ (op : SecretOp). PutsFirst op (c.args.epoch, event_spelling (events.Dealing c.args.dealer c.args.public)) (g.D.Disk.image c.args.devices.now.disk.now) (g.D.Disk.image c.put_and_append.new.devices.disk.now) (g.X.SecretStore.held c.args.devices.now.secrets.now) (g.X.SecretStore.held c.put_and_append.new.devices.secrets.now)) c.requires.ready.puts
     (subst (λ (b : List ℕ). PutsFirst c.args.ready.now.put (c.args.epoch, b) (g.D.Disk.image c.args.devices.now.disk.now) (g.D.Disk.image c.put_and_append.new.devices.disk.now) (g.X.SecretStore.held c.args.devices.now.secrets.now) (g.X.SecretStore.held c.put_and_append.new.devices.secrets.now)) (c.deref.ensures.value ∙ c.requires.ready.body) (subst (λ (n : ℕ). PutsFirst c.args.ready.now.put (n, c.deref.result.now) (g.D.Disk.image c.args.devices.now.disk.now) (g.D.Disk.image c.put_and_append.new.devices.disk.now) (g.X.SecretStore.held c.args.devices.now.secrets.now) (g.X.SecretStore.held c.put_and_append.new.devices.secrets.now)) c.epoch.view_is (c.put_and_append.ensures.steps told_disk told_secrets))))
 
 pub returns-clause-holds : goal.returns-clause-holds
 returns-clause-holds g c = λ told_disk told_secrets holds.
-    done_holds c.args.epoch c.args.dealer c.args.private c.args.public c.insert.ensures.fits c.requires.ready.fits c.args.dealings.now c.requires.new _ _ _ _ holds
+    done_holds c.args.epoch c.args.dealer c.args.private c.args.public c.requires.ready.fits c.args.dealings.now c.requires.new _ _ _ _ holds
     (c.in_default.ensures.done told_secrets ∙ ap (λ (op : SecretOp). after op (g.X.SecretStore.held c.args.devices.now.secrets.now)) c.requires.ready.puts)
     (subst (λ (b : List ℕ). Follows (Adds (c.args.epoch, b)) (g.D.Disk.image c.args.devices.now.disk.now) (g.D.Disk.image c.put_and_append.new.devices.disk.now)) (c.deref.ensures.value ∙ c.requires.ready.body) (subst (λ (n : ℕ). Follows (Adds (n, c.deref.result.now)) (g.D.Disk.image c.args.devices.now.disk.now) (g.D.Disk.image c.put_and_append.new.devices.disk.now)) c.epoch.view_is (c.in_default.ensures.added told_disk)))
 
@@ -41,3 +43,11 @@ returns-in-Err-clause-acts g c = λ told_disk told_secrets out.
 pub returns-clause-acts : goal.returns-clause-acts
 returns-clause-acts g c = λ told_disk told_secrets out.
     made_alike c.requires.ready.puts c.epoch.view_is (c.deref.ensures.value ∙ c.requires.ready.body) (c.in_default.ensures.acts told_disk told_secrets out)
+
+pub returns-in-Err-clause-notes : goal.returns-in-Err-clause-notes
+returns-in-Err-clause-notes g c = λ told.
+    dealing_notes _ c.args.epoch c.args.dealer c.deref.result.now c.args.public _ _ c.epoch.view_is (c.deref.ensures.value ∙ c.requires.ready.body) c.requires.ready.fits (c.put_and_append.ensures.images told)
+
+pub returns-clause-notes : goal.returns-clause-notes
+returns-clause-notes g c = λ told.
+    dealing_notes _ c.args.epoch c.args.dealer c.deref.result.now c.args.public _ _ c.epoch.view_is (c.deref.ensures.value ∙ c.requires.ready.body) c.requires.ready.fits (c.put_and_append.ensures.images told)

@@ -1,13 +1,15 @@
-use Rattle.std.proofs.Common.{◌≡◌, ℕ, List, ap, sym, subst, ◌∙◌}
+use Rattle.std.proofs.Common.{◌≡◌, ℕ, List, None, ap, sym, subst, ◌∙◌}
 use Rattle.std.specs.Ordering.{nat_cmp}
 use Rattle.std.specs.FinMap as map
 use Rattle.dkg_store.specs.Pairs.{Pairs}
+use Rattle.dkg_store.specs.Recorded.{first_refused, of_epoch}
 use Rattle.dkg_store.specs.Player.{IsPlayerOf, Acknowledges}
 use Rattle.std.proofs.lemmas.Result.{err_from_is_err_and}
 use Rattle.dkg_store.specs.Errors.{IsOfDevices}
 use Rattle.dkg_store.proofs.Acts.{made_none_said}
 use Rattle.dkg_store.proofs.Answering.{answered_broken}
 use Rattle.dkg_store.proofs.Both.{none_ran}
+use Rattle.dkg_store.proofs.Passing.{one_more_passes}
 use Rattle.dkg_store.proofs.Playing.{new, one_more, dealt}
 use Rattle.dkg_store.proofs.player.Player.accept.Goals as goal
 
@@ -37,3 +39,9 @@ pub returns-in_err-ack-clause-acts : goal.returns-in_err-ack-clause-acts
 returns-in_err-ack-clause-acts g c = λ told_disk told_secrets.
     let p = err_from_is_err_and c.from_residual.result c.from_residual.ensures.1 in
     made_none_said _ _ _ c.ready_answer.ensures.same (answered_broken c.from_residual.result p.0 c.in_err-ack.field-0.0 p.1 p.2 (subst IsOfDevices (sym c.in_err-ack.ensures.memory) tt))
+
+pub returns-clause-passes : goal.returns-clause-passes
+returns-clause-passes g c = λ none.
+    let check = g.C.Ceremony.dealing_of c.args.self.now.round c.args.self.now.me in
+    ap (λ (m : Pairs). first_refused check (of_epoch c.args.epoch m)) c.in_ok-keep_dealing.ensures.pairs
+    ∙ one_more_passes check c.args.epoch (c.args.epoch, c.args.dealer) (c.args.public, c.args.private) c.args.store.now.dealings (sym c.in_default.ensures) none

@@ -7,15 +7,17 @@ use Rattle.dkg_store.specs.Events.{no_event_at}
 use Rattle.std.proofs.lemmas.Result.{err_from_is_err_and}
 use Rattle.dkg_journal.specs.Opening.{broken}
 use Rattle.dkg_journal.specs.Views.{views}
-use Rattle.dkg_store.specs.Acts.{Ask, Goes, Held}
+use Rattle.dkg_store.specs.Acts.{Ask, Goes}
+use Rattle.dkg_store.specs.Calls.{given_back}
 use Rattle.dkg_store.specs.Errors.{IsOfDevices, IsOfOpening}
+use Rattle.dkg_store.specs.Noted.{acks_in, logs_in}
 use Rattle.dkg_store.specs.Pairs.{recovered}
 use Rattle.dkg_store.specs.declared.call.StoreError.{StoreError}
 use Rattle.dkg_store.specs.declared.call.StoreError.TheVariants.{Corrupt, NoMemory, Secrets as OfSecrets}
 use Rattle.dkg_store.specs.declared.store.Store.{Store}
 use Rattle.dkg_store.proofs.Acts.{made_next, made_none_held, made_read}
 use Rattle.dkg_store.proofs.Acting.{then_broken, ended_broken}
-use Rattle.dkg_store.proofs.Corrupt.{answered, corrupt_at, none_corrupt, same_error}
+use Rattle.dkg_store.proofs.Corrupt.{answered, corrupt_alike, corrupt_at, none_corrupt, same_error}
 use Rattle.dkg_store.proofs.OpeningActs.{not_corrupt, of_restoring_too, no_place, no_other}
 use Rattle.dkg_store.proofs.Recorded.{all_events}
 use Rattle.dkg_store.proofs.store.Store.init.Goals as goal
@@ -25,7 +27,7 @@ returns-clause-sound g c = λ told form.
     let none : no_event_at (non_zero_u32_get c.args.limit) c.in_ok-journal.journal.waiting.items ≡ None =
     ap (λ (n : ℕ). no_event_at n c.in_ok-journal.journal.waiting.items) (sym c.get.ensures.value)
     ∙ ap (λ (es : List JournalEntry). no_event_at c.get.result es) (sym c.replay-entries.ensures.listed ∙ sym c.deref.ensures.value)
-    ∙ c.in_ok-dealings.ensures.events in (
+    ∙ c.in_ok-recorded.ensures.events in (
       c.in_ok-journal.ensures.whole told,
       subst (λ (es : List Entry). AreEvents (non_zero_u32_get c.args.limit) es) (c.in_ok-journal.ensures.listed told form) (all_events (non_zero_u32_get c.args.limit) c.in_ok-journal.journal.waiting.items none),
     )
@@ -35,35 +37,39 @@ returns-in_err-journal-clause-acts g c = λ told_disk told_secrets form whole ev
     let p = err_from_is_err_and c.from_residual.result c.from_residual.ensures.1 in
     let of_devices : IsOfDevices c.in_err-journal.field-0.0 = not_corrupt c.in_err-journal.field-0.0 c.in_err-journal.ensures.kinds
     (λ name place is. no_place (broken (g.D.Disk.files c.args.devices.now.disk.now)) place (c.in_err-journal.ensures.corrupt name place (ap (λ (e : StoreError). Err e) is) told_disk).1 whole) in
-    then_broken (λ (u : Unit {0}). Ask (λ h. Goes (recovered h.notes h.secrets))) c.in_err-journal.field-0.0 of_devices
-    (ended_broken (λ (store : Store g.row.Dir.Denot). store.dealings) c.from_residual.result p.0 p.1 (subst IsOfDevices (sym p.2) of_devices))
+    then_broken (λ (u : Unit {0}). Ask (λ h. Goes (given_back h))) c.in_err-journal.field-0.0 of_devices
+    (ended_broken (λ (store : Store g.row.Dir.Denot). (store.dealings, store.acks, store.logs)) c.from_residual.result p.0 p.1 (subst IsOfDevices (sym p.2) of_devices))
     (c.in_err-journal.ensures.acts told_disk whole out (g.X.SecretStore.held c.args.devices.now.secrets.now))
 
-pub returns-in_err-dealings-clause-acts : goal.returns-in_err-dealings-clause-acts
-returns-in_err-dealings-clause-acts g c = λ told_disk told_secrets form whole events out.
-    let p = err_from_is_err_and c.from_residual-in_err-dealings.result c.from_residual-in_err-dealings.ensures.1 in
+pub returns-in_err-recorded-clause-acts : goal.returns-in_err-recorded-clause-acts
+returns-in_err-recorded-clause-acts g c = λ told_disk told_secrets form whole events out.
+    let p = err_from_is_err_and c.from_residual-in_err-recorded.result c.from_residual-in_err-recorded.ensures.1 in
     let none : no_event_at c.get.result c.deref.result.now ≡ None =
     ap (λ (n : ℕ). no_event_at n c.deref.result.now) c.get.ensures.value
     ∙ ap (λ (es : List JournalEntry). no_event_at (non_zero_u32_get c.args.limit) es) (c.deref.ensures.value ∙ c.replay-entries.ensures.listed)
     ∙ no_other (non_zero_u32_get c.args.limit) c.in_ok-journal.journal.waiting.items (subst (λ (es : List Entry). AreEvents (non_zero_u32_get c.args.limit) es) (sym (c.in_ok-journal.ensures.listed told_disk form)) events) in
-    let of_devices : IsOfDevices c.in_err-dealings.field-0.0 = not_corrupt c.in_err-dealings.field-0.0 (of_restoring_too c.in_err-dealings.field-0.0 c.in_err-dealings.ensures.kinds)
-    (λ name place is. no_place (no_event_at c.get.result c.deref.result.now) place (c.in_err-dealings.ensures.corrupt name place (ap (λ (e : StoreError). Err e) is)).1 none) in
-    made_next (λ (u : Unit {0}). Ask (λ h. Goes (recovered h.notes h.secrets))) (c.in_ok-journal.ensures.acts told_disk whole out (g.X.SecretStore.held c.args.devices.now.secrets.now))
-    (made_none_held _ _ _ c.restore.ensures.same (ended_broken (λ (store : Store g.row.Dir.Denot). store.dealings) c.from_residual-in_err-dealings.result p.0 p.1 (subst IsOfDevices (sym p.2) of_devices)))
+    let of_devices : IsOfDevices c.in_err-recorded.field-0.0 = not_corrupt c.in_err-recorded.field-0.0 (of_restoring_too c.in_err-recorded.field-0.0 c.in_err-recorded.ensures.kinds)
+    (λ name place is. no_place (no_event_at c.get.result c.deref.result.now) place (c.in_err-recorded.ensures.corrupt name place (ap (λ (e : StoreError). Err e) is)).1 none) in
+    made_next (λ (u : Unit {0}). Ask (λ h. Goes (given_back h))) (c.in_ok-journal.ensures.acts told_disk whole out (g.X.SecretStore.held c.args.devices.now.secrets.now))
+    (made_none_held _ _ _ c.restore.ensures.same (ended_broken (λ (store : Store g.row.Dir.Denot). (store.dealings, store.acks, store.logs)) c.from_residual-in_err-recorded.result p.0 p.1 (subst IsOfDevices (sym p.2) of_devices)))
 
 pub returns-in_err-restored-clause-acts : goal.returns-in_err-restored-clause-acts
 returns-in_err-restored-clause-acts g c = λ told_disk told_secrets form whole events out.
     let p = err_from_is_err_and c.from_residual-in_err-restored.result c.from_residual-in_err-restored.ensures.1 in
-    made_next (λ (u : Unit {0}). Ask (λ h. Goes (recovered h.notes h.secrets))) (c.in_ok-journal.ensures.acts told_disk whole out (g.X.SecretStore.held c.args.devices.now.secrets.now))
-    (made_none_held _ _ _ c.restore.ensures.same (ended_broken (λ (store : Store g.row.Dir.Denot). store.dealings) c.from_residual-in_err-restored.result p.0 p.1 (subst IsOfDevices (sym p.2) tt)))
+    made_next (λ (u : Unit {0}). Ask (λ h. Goes (given_back h))) (c.in_ok-journal.ensures.acts told_disk whole out (g.X.SecretStore.held c.args.devices.now.secrets.now))
+    (made_none_held _ _ _ c.restore.ensures.same (ended_broken (λ (store : Store g.row.Dir.Denot). (store.dealings, store.acks, store.logs)) c.from_residual-in_err-restored.result p.0 p.1 (subst IsOfDevices (sym p.2) tt)))
 
 pub returns-clause-acts : goal.returns-clause-acts
 returns-clause-acts g c = λ told_disk told_secrets form whole events out.
-    made_next (λ (u : Unit {0}). Ask (λ h. Goes (recovered h.notes h.secrets))) (c.in_ok-journal.ensures.acts told_disk whole out (g.X.SecretStore.held c.args.devices.now.secrets.now))
-    (made_read _ _ (λ (h : Held). recovered h.notes h.secrets) c.restore.ensures.same
-    (c.in_ok-dealings.ensures.given told_secrets
-    ∙ ap (λ (es : List JournalEntry). recovered (views es) (g.X.SecretStore.held c.args.devices.now.secrets.now)) (c.deref.ensures.value ∙ c.replay-entries.ensures.listed)
-    ∙ ap (λ (es : List Entry). recovered es (g.X.SecretStore.held c.args.devices.now.secrets.now)) (c.in_ok-journal.ensures.listed told_disk form ∙ sym (c.in_ok-journal.ensures.settled told_disk (g.D.Disk.files c.open_journal.new.disk) (g.met.D.Disk.reads _ told_disk)))))
+    made_next (λ (u : Unit {0}). Ask (λ h. Goes (given_back h))) (c.in_ok-journal.ensures.acts told_disk whole out (g.X.SecretStore.held c.args.devices.now.secrets.now))
+    (made_read _ _ given_back c.restore.ensures.same (
+    let read : c.deref.result.now ≡ c.in_ok-journal.journal.waiting.items = c.deref.ensures.value ∙ c.replay-entries.ensures.listed in
+    let stands : views c.in_ok-journal.journal.waiting.items ≡ entries (g.D.Disk.files c.open_journal.new.disk) = c.in_ok-journal.ensures.listed told_disk form ∙ sym (c.in_ok-journal.ensures.settled told_disk (g.D.Disk.files c.open_journal.new.disk) (g.met.D.Disk.reads _ told_disk)) in
+    let es : views c.deref.result.now ≡ entries (g.D.Disk.files c.open_journal.new.disk) = ap views read ∙ stands in
+    let dealings = c.in_ok-recorded.ensures.given told_secrets ∙ ap (λ (l : List Entry). recovered l (g.X.SecretStore.held c.args.devices.now.secrets.now)) es in
+    let acks = c.in_ok-recorded.ensures.acks ∙ ap acks_in es in
+    let logs = c.in_ok-recorded.ensures.logs ∙ ap logs_in es in
+    λ i. (dealings i, acks i, logs i)))
 
 pub returns-in_err-journal-clause-answer : goal.returns-in_err-journal-clause-answer
 returns-in_err-journal-clause-answer g c = λ place told form at.
@@ -77,21 +83,35 @@ returns-in_err-journal-clause-answer g c = λ place told form at.
 first_there : {n limit : ℕ} {read given waiting : List JournalEntry} → n ≡ limit → read ≡ given → given ≡ waiting → no_event_at n read ≡ no_event_at limit waiting
 first_there {n} {limit} {read} {given} {waiting} same was is = ap (λ (m : ℕ). no_event_at m read) same ∙ ap (no_event_at limit) (was ∙ is)
 
-pub returns-in_err-dealings-clause-corrupt : goal.returns-in_err-dealings-clause-corrupt
-returns-in_err-dealings-clause-corrupt g c = λ name q is told form.
-    let p = err_from_is_err_and c.from_residual-in_err-dealings.result c.from_residual-in_err-dealings.ensures.1 in
-    let here = c.in_err-dealings.ensures.corrupt name q (ap (λ (e : StoreError). Err e) (sym p.2 ∙ same_error c.from_residual-in_err-dealings.result p.0 (Corrupt name q) p.1 is)) in (
+pub returns-in_err-recorded-clause-corrupt : goal.returns-in_err-recorded-clause-corrupt
+returns-in_err-recorded-clause-corrupt g c = λ name q is told form.
+    let p = err_from_is_err_and c.from_residual-in_err-recorded.result c.from_residual-in_err-recorded.ensures.1 in
+    let here = c.in_err-recorded.ensures.corrupt name q (ap (λ (e : StoreError). Err e) (sym p.2 ∙ same_error c.from_residual-in_err-recorded.result p.0 (Corrupt name q) p.1 is)) in (
       here.0,
       corrupt_at (non_zero_u32_get c.args.limit) (g.D.Disk.files c.args.devices.now.disk.now) c.in_ok-journal.journal.waiting.items q (c.in_ok-journal.ensures.whole told) (c.in_ok-journal.ensures.gated told)
           (sym (first_there c.get.ensures.value c.deref.ensures.value c.replay-entries.ensures.listed) ∙ here.1),
     )
 
-pub returns-in_err-dealings-clause-answer : goal.returns-in_err-dealings-clause-answer
-returns-in_err-dealings-clause-answer g c = λ place told form at.
-    let p = err_from_is_err_and c.from_residual-in_err-dealings.result c.from_residual-in_err-dealings.ensures.1 in
-    answered (non_zero_u32_get c.args.limit) (g.D.Disk.files c.args.devices.now.disk.now) c.from_residual-in_err-dealings.result p.0 p.1
-    (subst IsOfOpening (sym p.2) (of_restoring_too c.in_err-dealings.field-0.0 c.in_err-dealings.ensures.kinds))
-    (λ name q is. returns-in_err-dealings-clause-corrupt g c name q (p.1 ∙ ap (λ (e : StoreError). Err e) is) told form) place at
+pub returns-in_err-recorded-clause-answer : goal.returns-in_err-recorded-clause-answer
+returns-in_err-recorded-clause-answer g c = λ place told form at.
+    let p = err_from_is_err_and c.from_residual-in_err-recorded.result c.from_residual-in_err-recorded.ensures.1 in
+    answered (non_zero_u32_get c.args.limit) (g.D.Disk.files c.args.devices.now.disk.now) c.from_residual-in_err-recorded.result p.0 p.1
+    (subst IsOfOpening (sym p.2) (of_restoring_too c.in_err-recorded.field-0.0 c.in_err-recorded.ensures.kinds))
+    (λ name q is. returns-in_err-recorded-clause-corrupt g c name q (p.1 ∙ ap (λ (e : StoreError). Err e) is) told form) place at
+
+pub returns-in_err-journal-clause-found : goal.returns-in_err-journal-clause-found
+returns-in_err-journal-clause-found g c = λ name q is told.
+    let p = err_from_is_err_and c.from_residual.result c.from_residual.ensures.1 in
+    let here = ap (λ (e : StoreError). Err e) (sym p.2 ∙ same_error c.from_residual.result p.0 (Corrupt name q) p.1 is) in
+    corrupt_alike (non_zero_u32_get c.args.limit) q _ _ (c.in_err-journal.ensures.unread name q here told) (record { so = inl (c.in_err-journal.ensures.corrupt name q here told).1 })
+
+pub returns-in_err-recorded-clause-found : goal.returns-in_err-recorded-clause-found
+returns-in_err-recorded-clause-found g c = λ name q is told.
+    let p = err_from_is_err_and c.from_residual-in_err-recorded.result c.from_residual-in_err-recorded.ensures.1 in
+    let here = c.in_err-recorded.ensures.corrupt name q (ap (λ (e : StoreError). Err e) (sym p.2 ∙ same_error c.from_residual-in_err-recorded.result p.0 (Corrupt name q) p.1 is)) in
+    corrupt_alike (non_zero_u32_get c.args.limit) q _ _ (c.in_ok-journal.ensures.alike told)
+    (corrupt_at (non_zero_u32_get c.args.limit) (g.D.Disk.files c.args.devices.now.disk.now) c.in_ok-journal.journal.waiting.items q (c.in_ok-journal.ensures.whole told) (c.in_ok-journal.ensures.gated told)
+    (sym (first_there c.get.ensures.value c.deref.ensures.value c.replay-entries.ensures.listed) ∙ here.1))
 
 pub returns-in_err-restored-clause-answer : goal.returns-in_err-restored-clause-answer
 returns-in_err-restored-clause-answer g c = λ place told form at.
@@ -102,11 +122,25 @@ returns-in_err-restored-clause-answer g c = λ place told form at.
 pub returns-clause-answer : goal.returns-clause-answer
 returns-clause-answer g c = λ place told form at.
     none_corrupt (non_zero_u32_get c.args.limit) (g.D.Disk.files c.args.devices.now.disk.now) c.in_ok-journal.journal.waiting.items place (c.in_ok-journal.ensures.whole told) (c.in_ok-journal.ensures.gated told)
-    (sym (first_there c.get.ensures.value c.deref.ensures.value c.replay-entries.ensures.listed) ∙ c.in_ok-dealings.ensures.events) at
+    (sym (first_there c.get.ensures.value c.deref.ensures.value c.replay-entries.ensures.listed) ∙ c.in_ok-recorded.ensures.events) at
 
-pub returns-in_err-dealings-clause-half : goal.returns-in_err-dealings-clause-half
-returns-in_err-dealings-clause-half g c = λ is told form.
-    let p = err_from_is_err_and c.from_residual-in_err-dealings.result c.from_residual-in_err-dealings.ensures.1 in
-    let begins = c.in_err-dealings.ensures.half (ap (λ (e : StoreError). Err e) (sym p.2 ∙ same_error c.from_residual-in_err-dealings.result p.0 OfSecrets p.1 is)) in
+pub returns-in_err-recorded-clause-half : goal.returns-in_err-recorded-clause-half
+returns-in_err-recorded-clause-half g c = λ is told form.
+    let p = err_from_is_err_and c.from_residual-in_err-recorded.result c.from_residual-in_err-recorded.ensures.1 in
+    let begins = c.in_err-recorded.ensures.half (ap (λ (e : StoreError). Err e) (sym p.2 ∙ same_error c.from_residual-in_err-recorded.result p.0 OfSecrets p.1 is)) in
     let read : views c.deref.result.now ≡ entries (g.D.Disk.files c.args.devices.now.disk.now) = ap views (c.deref.ensures.value ∙ c.replay-entries.ensures.listed) ∙ c.in_ok-journal.ensures.listed told form in
     (c.in_ok-journal.ensures.whole told, subst (λ (es : List Entry). BeginsWithEvent (non_zero_u32_get c.args.limit) es) read (subst (λ (n : ℕ). BeginsWithEvent n (views c.deref.result.now)) c.get.ensures.value begins))
+
+pub returns-clause-settled_acks : goal.returns-clause-settled_acks
+returns-clause-settled_acks g c = λ told form. record {
+  each = λ files here.
+      ap acks_in (c.in_ok-journal.ensures.settled told files here)
+      ∙ sym (c.in_ok-recorded.ensures.acks ∙ ap (λ (es : List JournalEntry). acks_in (views es)) (c.deref.ensures.value ∙ c.replay-entries.ensures.listed) ∙ ap acks_in (c.in_ok-journal.ensures.listed told form));
+}
+
+pub returns-clause-settled_logs : goal.returns-clause-settled_logs
+returns-clause-settled_logs g c = λ told form. record {
+  each = λ files here.
+      ap logs_in (c.in_ok-journal.ensures.settled told files here)
+      ∙ sym (c.in_ok-recorded.ensures.logs ∙ ap (λ (es : List JournalEntry). logs_in (views es)) (c.deref.ensures.value ∙ c.replay-entries.ensures.listed) ∙ ap logs_in (c.in_ok-journal.ensures.listed told form));
+}

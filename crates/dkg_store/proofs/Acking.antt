@@ -1,0 +1,69 @@
+-- An acknowledgement that a dealer handles, as acts.
+use Rattle.std.proofs.Common.{◌≡◌, Bool, true, false, Result, Ok, Err, if◌then◌else◌, refl, sym, ap, subst, ◌∙◌}
+use Rattle.dkg_ceremony.specs.declared.ceremony.AckError.{AckError}
+use Rattle.dkg_journal.specs.Names.{Files}
+use Rattle.dkg_journal.specs.Records.{Entry}
+use Rattle.dkg_store.specs.Acts.{Acts, Goes, bind, Ended, went, broken, Moment, MadeAt}
+use Rattle.dkg_store.specs.Calls.{acking, acked, noting, by_error}
+use Rattle.dkg_store.specs.Errors.{IsOfDevices}
+use Rattle.dkg_store.specs.declared.call.StoreError.{StoreError}
+use Rattle.dkg_store.specs.declared.call.StoreError.TheVariants.{NoMemory}
+use Rattle.dkg_store.specs.declared.dealer.AckHandleError.{AckHandleError}
+use Rattle.dkg_store.specs.declared.dealer.AckHandleError.TheVariants.{Refused, Store as OfStore}
+use Rattle.dkg_store.specs.declared.dealer.AckOutcome.{AckOutcome}
+use Rattle.dkg_store.specs.declared.dealer.AckOutcome.TheVariants.{Recorded, Duplicate}
+use Rattle.dkg_store.proofs.Acts.{made_next, made_none, made_nothing}
+use Rattle.dkg_store.proofs.Acting.{then_broken}
+
+abbrev pub outcome : Bool → AckOutcome
+outcome new = if new then Recorded else Duplicate
+
+abbrev told : Bool → Acts StoreError (Result AckOutcome AckError)
+told new = Goes (Ok (outcome new))
+
+-- what a dealer does where the check passes and none came in: it records, and tells what came of it
+as_noting : (recorded there : Bool) (e : Entry) → bind (noting recorded there e) told ≡ acking (Ok tt) false recorded there e
+as_noting true there e = refl
+as_noting false there e = refl
+
+module _ (check : Result (Unit {0}) AckError) (counted recorded there : Bool) (e : Entry) (passed : check ≡ Ok tt) (first : counted ≡ false) where
+  same : bind (noting recorded there e) told ≡ acking check counted recorded there e
+  same =
+      as_noting recorded there e
+      ∙ ap (λ (c : Bool). acking (Ok tt) c recorded there e) (sym first)
+      ∙ ap (λ (r : Result (Unit {0}) AckError). acking r counted recorded there e) (sym passed)
+
+  -- it is recorded, or was before
+  pub acking_done : {files files_now : Files} {image next : Files → Type 0} {old new : Moment} (fresh is : Bool) → fresh ≡ is → MadeAt (noting recorded there e) (went fresh) files image files_now next old new
+      → MadeAt (acking check counted recorded there e) (went (Ok (outcome is))) files image files_now next old new
+  acking_done {files} {files_now} {image} {next} {old} {new} fresh is which made =
+      subst (λ (acts : Acts StoreError (Result AckOutcome AckError)). MadeAt acts (went (Ok (outcome is))) files image files_now next old new) same
+      (made_next told (subst (λ (b : Bool). MadeAt (noting recorded there e) (went b) files image files_now next old new) which made) (made_nothing _ _ _ refl))
+
+  -- .. or the append was broken off
+  pub acking_broken : {files files_now : Files} {image next : Files → Type 0} {old new : Moment} {how : Ended StoreError (Result AckOutcome AckError)} (error : StoreError) → IsOfDevices error → how ≡ broken → MadeAt (noting recorded there e) (by_error error) files image files_now next old new
+      → MadeAt (acking check counted recorded there e) how files image files_now next old new
+  acking_broken {files} {files_now} {image} {next} {old} {new} {how} error of_devices is made =
+      subst (λ (acts : Acts StoreError (Result AckOutcome AckError)). MadeAt acts how files image files_now next old new) same
+      (then_broken told error of_devices is made)
+
+-- a refusal, and an acknowledgement of a player whose came in before
+pub acking_refused : (check : Result (Unit {0}) AckError) (counted recorded there : Bool) (e : Entry) (error : AckError) (files : Files) (image : Files → Type 0) (m : Moment) → check ≡ Err error → MadeAt (acking check counted recorded there e) (went (Err error)) files image files image m m
+acking_refused check counted recorded there e error files image m refused =
+    subst (λ (r : Result (Unit {0}) AckError). MadeAt (acking r counted recorded there e) (went (Err error)) files image files image m m) (sym refused) (made_nothing files image m refl)
+
+pub acking_again : (check : Result (Unit {0}) AckError) (counted recorded there : Bool) (e : Entry) (files : Files) (image : Files → Type 0) (m : Moment) → check ≡ Ok tt → counted ≡ true → MadeAt (acking check counted recorded there e) (went (Ok Duplicate)) files image files image m m
+acking_again check counted recorded there e files image m passed before =
+    subst (λ (r : Result (Unit {0}) AckError). MadeAt (acking r counted recorded there e) (went (Ok Duplicate)) files image files image m m) (sym passed)
+    (subst (λ (b : Bool). MadeAt (acking (Ok tt) b recorded there e) (went (Ok Duplicate)) files image files image m m) (sym before) (made_nothing files image m refl))
+
+-- the check was refused, or it wanted memory
+pub acking_unchecked : (check : Result (Unit {0}) AckError) (counted recorded there : Bool) (entry : Entry) (files : Files) (image : Files → Type 0) (m : Moment) (r : Result AckOutcome AckHandleError) (e : AckHandleError) → r ≡ Err e
+    → ((a : AckError) → e ≡ Refused a → check ≡ Err a) → ((s : StoreError) → e ≡ OfStore s → s ≡ NoMemory) → MadeAt (acking check counted recorded there entry) (acked r) files image files image m m
+acking_unchecked check counted recorded there entry files image m r (Refused a) is refused wanted =
+    subst (λ (x : Result AckOutcome AckHandleError). MadeAt (acking check counted recorded there entry) (acked x) files image files image m m) (sym is) (acking_refused check counted recorded there entry a files image m (refused a refl))
+acking_unchecked check counted recorded there entry files image m r (OfStore s) is refused wanted =
+    made_none files image (acking check counted recorded there entry) m (ap acked is ∙ ap by_error (wanted s refl))
+
+pub same_store : (e f : StoreError) → ◌≡◌ {A = Result AckOutcome AckHandleError} (Err (OfStore e)) (Err (OfStore f)) → e ≡ f
+same_store e f is = cc

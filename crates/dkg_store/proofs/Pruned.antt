@@ -1,0 +1,293 @@
+-- What a prune leaves: of the journal, and then of the secrets.
+use Rattle.std.proofs.Common.{◌≡◌, ◌⊎◌, inl, inr, ℕ, ◌≤◌, arith, cond, Bool, nat_le, List, [], ◌∷◌, fold, filter, Option, Some, None, IsSome, Result, Ok, Err, refl, sym, ◌∙◌, ap, subst}
+use Rattle.std.specs.FinMap.{get, empty, retain_keys}
+use Rattle.dkg_values.specs.Codec.{whole}
+use Rattle.dkg_values.specs.declared.codec.CodecError.{CodecError}
+use Rattle.dkg_ceremony.specs.declared.dealer_log.DealerLog.{DealerLog}
+use Rattle.dkg_journal.specs.Burn.{Burn}
+use Rattle.dkg_journal.specs.Fuse.{spent_once, burnt}
+use Rattle.dkg_journal.specs.Names.{Files}
+use Rattle.dkg_journal.specs.Disk.{Follows, SameElse}
+use Rattle.dkg_journal.specs.Operations.{Journaled, journaled, Tries as JournalTries, Tried, Finished, Prunes as PrunesJournal, after_operation, calls_of}
+use Rattle.dkg_journal.specs.Pruning.{Leaves, MayLeave}
+use Rattle.dkg_journal.specs.Records.{Entry, entries, from_section}
+use Rattle.dkg_types.specs.declared.entry.Entry.{Entry as Line}
+use Rattle.dkg_values.specs.declared.name.Name.TheVariants.{Flat}
+use Rattle.dkg_store.specs.Acts.{Ended, broken, went, moment, MadeAt, held_in, Held, Stands}
+use Rattle.dkg_store.specs.Calls.{pruning}
+use Rattle.dkg_store.specs.Events.{event_at, no_limit}
+use Rattle.dkg_store.specs.declared.event.Event.{Event}
+use Rattle.dkg_store.specs.declared.event.Event.TheVariants as events
+use Rattle.dkg_store.specs.Noted.{Note, Notes, with_note, noted, noted_ack, noted_log, ack_in, log_in, Gives, GivesEither}
+use Rattle.dkg_store.specs.Secrets.{Secrets, Tries}
+use Rattle.dkg_store.specs.Secrets as of_secrets
+use Rattle.dkg_store.specs.Pairs.{Pairs, Dealing, dealing_in, dealing_of, with_half, with_dealing, recovered, HasHalf, IsWhole, Holds, HoldsEither}
+use Rattle.dkg_journal.specs.declared.call.JournalError.{JournalError}
+use Rattle.dkg_journal.specs.declared.call.JournalError.TheVariants as of_journal
+use Rattle.dkg_store.specs.Errors.{IsOfPruning, IsOfSecrets, store_error_of}
+use Rattle.dkg_store.specs.declared.call.StoreError.{StoreError}
+use Rattle.dkg_store.specs.declared.call.StoreError.TheVariants.{Disk, Secrets as OfSecrets, Corrupt, LocalState, StateSyncEpochs, StateSyncMaterial, Cut, NoMemory}
+use Rattle.dkg_store.specs.declared.secrets.SecretOp.TheVariants.{Prune}
+use Rattle.dkg_store.proofs.Acting.{world_is}
+use Rattle.dkg_store.proofs.Map.{below_or}
+use Rattle.dkg_store.proofs.Noted.{IsUnder, noted_from}
+
+-- THE SECTION OF A RECORD IS ITS EPOCH
+
+ack_under : (epoch : ℕ) (r : Result Event CodecError) → IsUnder noted_ack epoch (ack_in epoch r)
+ack_under epoch (Ok (events.Dealing dealer public)) = tt
+ack_under epoch (Ok (events.Ack player ack)) = refl
+ack_under epoch (Ok (events.Log dealer log)) = tt
+ack_under epoch (Err e) = tt
+
+log_under : (epoch : ℕ) (r : Result Event CodecError) → IsUnder noted_log epoch (log_in epoch r)
+log_under epoch (Ok (events.Dealing dealer public)) = tt
+log_under epoch (Ok (events.Ack player ack)) = tt
+log_under epoch (Ok (events.Log dealer log)) = refl
+log_under epoch (Err e) = tt
+
+abbrev IsOf : ℕ → Option Dealing → Type 0
+IsOf section None = Unit {0}
+IsOf section (Some d) = d.key.0 ≡ section
+
+dealing_under : (epoch : ℕ) (r : Result Event CodecError) → IsOf epoch (dealing_in epoch r)
+dealing_under epoch (Ok (events.Dealing dealer public)) = refl
+dealing_under epoch (Ok (events.Ack player ack)) = tt
+dealing_under epoch (Ok (events.Log dealer log)) = tt
+dealing_under epoch (Err e) = tt
+
+pub acks_from : (min : ℕ) (es : List Entry) → noted noted_ack (from_section min es) ≡ retain_keys (noted noted_ack es) (λ k. nat_le min k.0)
+acks_from min es = noted_from noted_ack min (λ e. ack_under e.0 (whole (event_at no_limit e.1))) es
+
+pub logs_from : (min : ℕ) (es : List Entry) → noted noted_log (from_section min es) ≡ retain_keys (noted noted_log es) (λ k. nat_le min k.0)
+logs_from min es = noted_from noted_log min (λ e. log_under e.0 (whole (event_at no_limit e.1))) es
+
+-- ACKNOWLEDGEMENTS AND LOGS
+
+module _ {V : Type 0} (note_of : Entry → Option (Note V)) (min : ℕ) (from : (es : List Entry) → noted note_of (from_section min es) ≡ retain_keys (noted note_of es) (λ k. nat_le min k.0)) where
+  abbrev above : Notes V → Notes V
+  above m = retain_keys m (λ k. nat_le min k.0)
+
+  left_of : (m : Notes V) (d es : List Entry) → noted note_of d ≡ m → es ≡ from_section min d → noted note_of es ≡ above m
+  left_of m d es was is = ap (noted note_of) is ∙ from d ∙ ap (λ (n : Notes V). above n) was
+
+  pub gives_left : (m : Notes V) (image next : Files → Type 0) → Follows (Leaves min) image next → Gives (noted note_of) m image → Gives (noted note_of) (above m) next
+  gives_left m image next follows gives = record {
+    each = λ c here. let d = follows.each c here in left_of m (entries d.0) (entries c) (gives.each d.0 d.1) d.2.left;
+  }
+
+  either_left : (m : Notes V) (d es : List Entry) → noted note_of d ≡ m → (es ≡ d) ⊎ (es ≡ from_section min d) → (noted note_of es ≡ m) ⊎ (noted note_of es ≡ above m)
+  either_left m d es was either = elim either [
+    | inl is ↦ inl (ap (noted note_of) is ∙ was)
+    | inr is ↦ inr (left_of m d es was is)
+  ]
+
+  pub gives_may_leave : (m : Notes V) (image next : Files → Type 0) → Follows (MayLeave min) image next → Gives (noted note_of) m image → GivesEither (noted note_of) m (above m) next
+  gives_may_leave m image next follows gives = record {
+    each = λ c here. let d = follows.each c here in either_left m (entries d.0) (entries c) (gives.each d.0 d.1) d.2.either;
+  }
+
+-- DEALINGS
+
+abbrev with_private : Dealing → Option ℕ → Option (Note (List ℕ × ℕ))
+with_private d None = None
+with_private d (Some private) = Some (d.key, (d.public, private))
+
+abbrev paired : Secrets → Option Dealing → Option (Note (List ℕ × ℕ))
+paired s None = None
+paired s (Some d) = with_private d (get s.privates d.key)
+
+abbrev noted_pair : Secrets → Entry → Option (Note (List ℕ × ℕ))
+noted_pair s e = paired s (dealing_of e)
+
+half_same : (m : Pairs) (d : Dealing) (h : Option ℕ) → with_half m d h ≡ with_note m (with_private d h)
+half_same m d None = refl
+half_same m d (Some private) = refl
+
+step_same : (s : Secrets) (m : Pairs) (o : Option Dealing) → with_dealing s m o ≡ with_note m (paired s o)
+step_same s m None = refl
+step_same s m (Some d) = half_same m d (get s.privates d.key)
+
+fold_noted : (s : Secrets) (es : List Entry) (m : Pairs) → fold (λ n e. with_dealing s n (dealing_of e)) m es ≡ fold (λ n e. with_note n (noted_pair s e)) m es
+fold_noted s [] m = refl
+fold_noted s (e ∷ es) m = ap (λ (n : Pairs). fold (λ x y. with_dealing s x (dealing_of y)) n es) (step_same s m (dealing_of e)) ∙ fold_noted s es (with_note m (noted_pair s e))
+
+-- dealings are what records say with the private halves
+pub recovered_noted : (es : List Entry) (s : Secrets) → recovered es s ≡ noted (noted_pair s) es
+recovered_noted es s = fold_noted s es empty
+
+private_under : (s : Secrets) (section : ℕ) (d : Dealing) (h : Option ℕ) → d.key.0 ≡ section → IsUnder (noted_pair s) section (with_private d h)
+private_under s section d None is = tt
+private_under s section d (Some private) is = is
+
+pair_under : (s : Secrets) (section : ℕ) (o : Option Dealing) → IsOf section o → IsUnder (noted_pair s) section (paired s o)
+pair_under s section None is = tt
+pair_under s section (Some d) is = private_under s section d (get s.privates d.key) is
+
+pub recovered_from : (min : ℕ) (es : List Entry) (s : Secrets) → recovered (from_section min es) s ≡ retain_keys (recovered es s) (λ k. nat_le min k.0)
+recovered_from min es s =
+    recovered_noted (from_section min es) s
+    ∙ noted_from (noted_pair s) min (λ e. pair_under s e.0 (dealing_of e) (dealing_under e.0 (whole (event_at no_limit e.1)))) es
+    ∙ ap (λ (m : Pairs). retain_keys m (λ k. nat_le min k.0)) (sym (recovered_noted es s))
+
+module _ (min : ℕ) (s t : Secrets) (halves : (k : ℕ × ℕ) → min ≤ k.0 → get t.privates k ≡ get s.privates k) where
+  half_above : (section : ℕ) (o : Option Dealing) → IsOf section o → min ≤ section → HasHalf s o → HasHalf t o
+  half_above section None is above has = tt
+  half_above section (Some d) is above has = subst IsSome (sym (halves d.key (subst (λ (n : ℕ). min ≤ n) (sym is) above))) has
+
+  whole_from : (es : List Entry) → IsWhole es s → IsWhole (from_section min es) t
+  whole_from [] whole = tt
+  whole_from (e ∷ es) all = elim (below_or min e.0) [
+    | inl below ↦ subst (λ (b : Bool). IsWhole (cond b (e ∷ from_section min es) (from_section min es)) t) (sym below.1) (whole_from es all.1)
+    | inr above ↦ subst (λ (b : Bool). IsWhole (cond b (e ∷ from_section min es) (from_section min es)) t) (sym above.1)
+        (half_above e.0 (dealing_of e) (dealing_under e.0 (whole (event_at no_limit e.1))) above.0 all.0, whole_from es all.1)
+  ]
+
+  step_above : (section : ℕ) (m : Pairs) (o : Option Dealing) → IsOf section o → min ≤ section → with_dealing t m o ≡ with_dealing s m o
+  step_above section m None is above = refl
+  step_above section m (Some d) is above = ap (with_half m d) (halves d.key (subst (λ (n : ℕ). min ≤ n) (sym is) above))
+
+  fold_above : (es : List Entry) (m : Pairs) → fold (λ n e. with_dealing t n (dealing_of e)) m (from_section min es) ≡ fold (λ n e. with_dealing s n (dealing_of e)) m (from_section min es)
+  fold_above [] m = refl
+  fold_above (e ∷ es) m = elim (below_or min e.0) [
+    | inl below ↦ subst (λ (b : Bool). fold (λ n x. with_dealing t n (dealing_of x)) m (cond b (e ∷ from_section min es) (from_section min es)) ≡ fold (λ n x. with_dealing s n (dealing_of x)) m (cond b (e ∷ from_section min es) (from_section min es))) (sym below.1) (fold_above es m)
+    | inr above ↦ subst (λ (b : Bool). fold (λ n x. with_dealing t n (dealing_of x)) m (cond b (e ∷ from_section min es) (from_section min es)) ≡ fold (λ n x. with_dealing s n (dealing_of x)) m (cond b (e ∷ from_section min es) (from_section min es))) (sym above.1)
+        (ap (λ (n : Pairs). fold (λ x y. with_dealing t x (dealing_of y)) n (from_section min es)) (step_above e.0 m (dealing_of e) (dealing_under e.0 (whole (event_at no_limit e.1))) above.0) ∙ fold_above es (with_dealing s m (dealing_of e)))
+  ]
+
+  -- The journal is pruned, and the secrets at or above the minimum are there.
+  pub left_holds : (pairs : Pairs) (image next : Files → Type 0) → Follows (Leaves min) image next → Holds pairs image s → Holds (retain_keys pairs (λ k. nat_le min k.0)) next t
+  left_holds pairs image next follows holds = record {
+    whole = λ c here. let d = follows.each c here in subst (λ (es : List Entry). IsWhole es t) (sym d.2.left) (whole_from (entries d.0) (holds.whole d.0 d.1));
+    gives = λ c here. let d = follows.each c here in
+        ap (λ (es : List Entry). recovered es t) d.2.left
+        ∙ fold_above (entries d.0) empty
+        ∙ recovered_from min (entries d.0) s
+        ∙ ap (λ (m : Pairs). retain_keys m (λ k. nat_le min k.0)) (holds.gives d.0 d.1);
+  }
+
+-- The journal's prune was ended within, and the secrets are as they were.
+pub may_leave_holds : (min : ℕ) (s : Secrets) (pairs : Pairs) (image next : Files → Type 0) → Follows (MayLeave min) image next → Holds pairs image s → HoldsEither pairs (retain_keys pairs (λ k. nat_le min k.0)) next s
+may_leave_holds min s pairs image next follows holds = record {
+  whole = λ c here. let d = follows.each c here in elim d.2.either [
+    | inl is ↦ subst (λ (es : List Entry). IsWhole es s) (sym is) (holds.whole d.0 d.1)
+    | inr is ↦ subst (λ (es : List Entry). IsWhole es s) (sym is) (whole_from min s s (λ k above. refl) (entries d.0) (holds.whole d.0 d.1))
+  ];
+  gives = λ c here. let d = follows.each c here in elim d.2.either [
+    | inl is ↦ inl (ap (λ (es : List Entry). recovered es s) is ∙ holds.gives d.0 d.1)
+    | inr is ↦ inr (ap (λ (es : List Entry). recovered es s) is ∙ recovered_from min (entries d.0) s ∙ ap (λ (m : Pairs). retain_keys m (λ k. nat_le min k.0)) (holds.gives d.0 d.1))
+  ];
+}
+
+-- those at or above a minimum, or all of them
+pub one_of_either : (pairs more : Pairs) (image : Files → Type 0) (held : Secrets) → Holds more image held → HoldsEither pairs more image held
+one_of_either pairs more image held holds = record { whole = holds.whole; gives = λ c here. inr (holds.gives c here) }
+
+-- AS ACTS
+
+kept_or_left : (min : ℕ) (files c : Files) (s : Secrets) → JournalTries (PrunesJournal min) files c → (held_in c s ≡ held_in files s) ⊎ (held_in c s ≡ record { notes = from_section min (entries files); secrets = s; plan = (held_in files s).plan })
+kept_or_left min files c s tries = elim tries [
+  | inl same ↦ inl (λ i. record { notes = (same i).entries; secrets = s; plan = (same i).plan })
+  | inr others ↦ elim others [
+    | inl after ↦ inr (λ i. record { notes = (after i).entries; secrets = s; plan = (after i).plan })
+    | inr part ↦ absurd part
+  ]
+]
+
+module _ (min : ℕ) (files : Files) (image : Files → Type 0) (out : List Line) (s : Secrets) (f : Burn) where
+  -- the journal's prune was ended within
+  pub journal_torn : {how : Ended StoreError (Unit {0})} (files_now : Files) (next : Files → Type 0) (g : Burn) → how ≡ broken → (Stands files image → Tried (PrunesJournal min) files next f g)
+      → MadeAt (pruning (calls_of (PrunesJournal min) files) min) how files image files_now next (moment out s f) (moment out s g)
+  journal_torn files_now next g is tried = subst (λ (x : Ended StoreError (Unit {0})). MadeAt (pruning (calls_of (PrunesJournal min) files) min) x files image files_now next (moment out s f) (moment out s g)) (sym is) (record {
+    made = λ stands c here. let t = tried stands in inl (record {
+      same = refl;
+      torn = kept_or_left min files c s (t.each c here);
+      calls = t.spent.calls;
+      most = t.spent.few;
+      fuse = t.spent.is;
+    });
+    stands = tt;
+  })
+
+  left_held : (files_now : Files) (next : Files → Type 0) (g : Burn) (t : Secrets) (c : Files) → Finished (PrunesJournal min) files files_now next f g → next c → held_in c t ≡ record { notes = from_section min (entries files); secrets = t; plan = (held_in files t).plan }
+  left_held files_now next g t c done here =
+      let same : journaled c ≡ after_operation (PrunesJournal min) (journaled files) = ap journaled (done.settled.only c here) ∙ done.after in
+      λ i. record { notes = (same i).entries; secrets = t; plan = (same i).plan }
+
+  -- the journal is pruned, and the secrets' prune was ended within
+  pub secrets_torn : {how : Ended StoreError (Unit {0})} (files_now : Files) (next : Files → Type 0) (t : Secrets) (g h : Burn) → how ≡ broken → (Stands files image → Finished (PrunesJournal min) files files_now next f g) → Tries (Prune min) s t → h ≡ spent_once g
+      → MadeAt (pruning (calls_of (PrunesJournal min) files) min) how files image files_now next (moment out s f) (moment out t h)
+  secrets_torn files_now next t g h is finished tries once = subst (λ (x : Ended StoreError (Unit {0})). MadeAt (pruning (calls_of (PrunesJournal min) files) min) x files image files_now next (moment out s f) (moment out t h)) (sym is) (record {
+    made = λ stands c here. let done = finished stands in inr (inl (record {
+      same = refl;
+      torn = (left_held files_now next g t c done here, tries);
+      calls = 1;
+      most = omega arith;
+      fuse = once ∙ ap spent_once done.spent;
+    }));
+    stands = tt;
+  })
+
+  -- both are pruned
+  pub both_pruned : {how : Ended StoreError (Unit {0})} (files_now : Files) (next : Files → Type 0) (t : Secrets) (g h : Burn) → how ≡ went tt → (Stands files image → Finished (PrunesJournal min) files files_now next f g) → t ≡ of_secrets.after (Prune min) s → h ≡ spent_once g → next files_now
+      → MadeAt (pruning (calls_of (PrunesJournal min) files) min) how files image files_now next (moment out s f) (moment out t h)
+  both_pruned files_now next t g h is finished done once itself = subst (λ (x : Ended StoreError (Unit {0})). MadeAt (pruning (calls_of (PrunesJournal min) files) min) x files image files_now next (moment out s f) (moment out t h)) (sym is) (record {
+    made = λ stands c here. let left = finished stands in (
+      world_is out
+          (left_held files_now next g t c left here ∙ ap (λ (x : Secrets). record { notes = from_section min (entries files); secrets = x; plan = (held_in files s).plan }) done)
+          (once ∙ ap spent_once left.spent),
+      refl,
+    );
+    stands = λ stands. record { lands = (finished stands).settled; itself = itself };
+  })
+
+-- THE SAME MINIMUM
+
+module _ {m n : ℕ} {image next : Files → Type 0} (same : m ≡ n) where
+  pub same_left : Follows (Leaves m) image next → Follows (Leaves n) image next
+  same_left follows = subst (λ (k : ℕ). Follows (Leaves k) image next) same follows
+
+  pub same_may : Follows (MayLeave m) image next → Follows (MayLeave n) image next
+  same_may follows = subst (λ (k : ℕ). Follows (MayLeave k) image next) same follows
+
+pub same_tried : {m n : ℕ} {files : Files} {next : Files → Type 0} {f g : Burn} → m ≡ n → Tried (PrunesJournal m) files next f g → Tried (PrunesJournal n) files next f g
+same_tried {files = files} {next = next} {f = f} {g = g} same tried = subst (λ (k : ℕ). Tried (PrunesJournal k) files next f g) same tried
+
+pub same_finished : {m n : ℕ} {files files_now : Files} {next : Files → Type 0} {f g : Burn} → m ≡ n → Finished (PrunesJournal m) files files_now next f g → Finished (PrunesJournal n) files files_now next f g
+same_finished {files = files} {files_now = files_now} {next = next} {f = f} {g = g} same done = subst (λ (k : ℕ). Finished (PrunesJournal k) files files_now next f g) same done
+
+-- only the journal's file may change
+pub may_others : (min : ℕ) (image next : Files → Type 0) → Follows (MayLeave min) image next → Follows (SameElse Flat) image next
+may_others min image next follows = record { each = λ c here. let from = follows.each c here in (from.0, from.1, from.2.others) }
+
+pub left_others : (min : ℕ) (image next : Files → Type 0) → Follows (Leaves min) image next → Follows (SameElse Flat) image next
+left_others min image next follows = record { each = λ c here. let from = follows.each c here in (from.0, from.1, from.2.others) }
+
+-- those at or above the minimum
+pub gives_one : {M : Type 0} (given : List Entry → M) (one other : M) (image : Files → Type 0) → Gives given other image → GivesEither given one other image
+gives_one given one other image gives = record { each = λ c here. inr (gives.each c here) }
+
+-- WHICH ERRORS
+
+pub of_pruning : (e : JournalError) → IsOfPruning (store_error_of e)
+of_pruning of_journal.Disk = tt
+of_pruning of_journal.Cut = tt
+of_pruning of_journal.NoMemory = tt
+of_pruning (of_journal.Corrupt name place) = tt
+of_pruning of_journal.TooLong = tt
+
+pub secrets_pruning : (e : StoreError) → IsOfSecrets e → IsOfPruning e
+secrets_pruning OfSecrets is = tt
+secrets_pruning Cut is = tt
+secrets_pruning NoMemory is = tt
+secrets_pruning Disk is = absurd is
+secrets_pruning (Corrupt name place) is = absurd is
+secrets_pruning (LocalState cause) is = absurd is
+secrets_pruning (StateSyncEpochs info floor) is = absurd is
+secrets_pruning StateSyncMaterial is = absurd is
+
+nothing_torn : (min : ℕ) (s : Secrets) → Tries (Prune min) s s
+nothing_torn min s = record { so = record { shares = λ epoch. inl refl; seeds = λ epoch. inl refl; privates = λ k. inl refl } }
+
+pub untouched : (min : ℕ) (s t : Secrets) → t ≡ s → Tries (Prune min) s t
+untouched min s t same = subst (λ (x : Secrets). Tries (Prune min) s x) (sym same) (nothing_torn min s)

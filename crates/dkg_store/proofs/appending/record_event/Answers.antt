@@ -1,0 +1,28 @@
+use Rattle.std.proofs.Common.{ℕ, List, refl, sym, subst, ap, ◌∙◌}
+use Rattle.std.specs.FinMap as map
+use Rattle.dkg_store.specs.Errors.{IsOfDevices}
+use Rattle.dkg_store.specs.Noted.{Notes}
+use Rattle.dkg_store.proofs.Acting.{alone_torn, alone_alike, breaks_off, of_journal_too}
+use Rattle.dkg_store.proofs.Map.{remove_insert, keys_total, exact_keys}
+use Rattle.dkg_store.proofs.Others.{others_of, not_added}
+use Rattle.dkg_store.proofs.appending.record_event.Goals as goal
+
+pub returns-in_err-insert-clause-images : goal.returns-in_err-insert-clause-images
+returns-in_err-insert-clause-images g c = λ told. not_added _ _
+
+pub returns-in-Err-clause-kept : goal.returns-in-Err-clause-kept
+returns-in-Err-clause-kept g c =
+    c.remove.ensures ∙ ap (λ (m : Notes g.row.V.Denot). map.remove m (c.args.epoch, c.args.key)) c.in_ok-insert.ensures.done
+    ∙ remove_insert keys_total exact_keys c.args.notes.now (c.args.epoch, c.args.key) c.args.value c.requires.new
+
+pub returns-in-Err-clause-acts : goal.returns-in-Err-clause-acts
+returns-in-Err-clause-acts g c = λ told out s.
+    alone_alike c.epoch.view_is refl
+    (alone_torn c.args.journal.now _ tt (g.D.Disk.files c.args.disk.now) (g.D.Disk.image c.args.disk.now) out s c.args.fuse.now _ _ _
+    (breaks_off c.from.result (subst IsOfDevices (sym c.from.ensures) (of_journal_too c.in-Err.error c.in-Err.ensures.kinds))) (c.append_ready.ensures.images told) c.append_ready.ensures.calls)
+
+pub returns-in-Err-clause-others : goal.returns-in-Err-clause-others
+returns-in-Err-clause-others g c told = others_of _ _ _ (c.append_ready.ensures.images told)
+
+pub returns-clause-others : goal.returns-clause-others
+returns-clause-others g c told = others_of _ _ _ (c.append_ready.ensures.images told)

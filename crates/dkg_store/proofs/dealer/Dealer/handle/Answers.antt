@@ -1,0 +1,57 @@
+use Rattle.std.proofs.Common.{◌≡◌, inl, inr, true, false, is_some, Err, sym, ap, subst, ◌∙◌}
+use Rattle.std.specs.Cmp.{nat_cmp_total}
+use Rattle.std.specs.FinMap as map
+use Rattle.dkg_store.specs.Dealer.{AckMap, IsDealerOf}
+use Rattle.dkg_journal.specs.Journals.{has_file}
+use Rattle.dkg_store.specs.Events.{event_spelling}
+use Rattle.dkg_store.specs.declared.event.Event.TheVariants as events
+use Rattle.dkg_store.specs.declared.call.StoreError.{StoreError}
+use Rattle.dkg_store.specs.declared.call.StoreError.TheVariants.{NoMemory}
+use Rattle.dkg_store.proofs.Acking.{acking_done, acking_broken, same_store}
+use Rattle.dkg_store.proofs.Acting.{breaks_off}
+use Rattle.dkg_store.proofs.Appended.{is_none}
+use Rattle.dkg_store.proofs.Dealing.{counts_one}
+use Rattle.dkg_store.proofs.Map.{remove_insert}
+use Rattle.dkg_store.proofs.dealer.Dealer.handle.Goals as goal
+
+pub returns-in-Ok-true-clause-dealer : goal.returns-in-Ok-true-clause-dealer
+returns-in-Ok-true-clause-dealer g c = λ is.
+    subst (λ (m : AckMap). IsDealerOf g.C.Ceremony.deal_of g.C.Ceremony.check_ack_of (record c.args.self.now { acks = m })) (sym c.in_ok-keep_ack.ensures.done)
+    (counts_one g.C.Ceremony.deal_of g.C.Ceremony.check_ack_of c.args.self.now c.args.player c.args.ack c.in_ok-check.ensures.passed is)
+
+pub returns-in-Ok-false-clause-dealer : goal.returns-in-Ok-false-clause-dealer
+returns-in-Ok-false-clause-dealer g c = λ is.
+    subst (λ (m : AckMap). IsDealerOf g.C.Ceremony.deal_of g.C.Ceremony.check_ack_of (record c.args.self.now { acks = m })) (sym c.in_ok-keep_ack.ensures.done)
+    (counts_one g.C.Ceremony.deal_of g.C.Ceremony.check_ack_of c.args.self.now c.args.player c.args.ack c.in_ok-check.ensures.passed is)
+
+pub returns-in-Ok-true-clause-acts : goal.returns-in-Ok-true-clause-acts
+returns-in-Ok-true-clause-acts g c = λ told out.
+    acking_done (g.C.Ceremony.check_ack_of c.args.self.now.round c.args.self.now.me c.args.self.now.public c.args.player c.args.ack) (is_some (map.get c.args.self.now.acks c.args.player)) (map.contains_key c.args.store.now.acks (c.args.epoch, c.args.player)) (has_file c.args.store.now.journal) (c.args.epoch, event_spelling (events.Ack c.args.player c.args.ack))
+    c.in_ok-check.ensures.passed (ap is_some (sym c.kept_ack.ensures) ∙ sym c.is_some.ensures ∙ c.if-is_some.false) c.in-Ok-true.field-0 true c.in-Ok-true.field-0-test (c.in-Ok-true.ensures.acts told out)
+
+pub returns-in-Ok-false-clause-acts : goal.returns-in-Ok-false-clause-acts
+returns-in-Ok-false-clause-acts g c = λ told out.
+    acking_done (g.C.Ceremony.check_ack_of c.args.self.now.round c.args.self.now.me c.args.self.now.public c.args.player c.args.ack) (is_some (map.get c.args.self.now.acks c.args.player)) (map.contains_key c.args.store.now.acks (c.args.epoch, c.args.player)) (has_file c.args.store.now.journal) (c.args.epoch, event_spelling (events.Ack c.args.player c.args.ack))
+    c.in_ok-check.ensures.passed (ap is_some (sym c.kept_ack.ensures) ∙ sym c.is_some.ensures ∙ c.if-is_some.false) c.in-Ok-false.field-0 false c.in-Ok-false.field-0-test (c.in-Ok-false.ensures.acts told out)
+
+pub returns-in-Err-clause-uncounted : goal.returns-in-Err-clause-uncounted
+returns-in-Err-clause-uncounted g c =
+    c.forget_ack.ensures ∙ ap (λ (m : AckMap). map.remove m c.args.player) c.in_ok-keep_ack.ensures.done
+    ∙ remove_insert nat_cmp_total map.nat_cmp-IsAntisymmetric c.args.self.now.acks c.args.player c.args.ack
+    (is_none (map.get c.args.self.now.acks c.args.player) (ap is_some (sym c.kept_ack.ensures) ∙ sym c.is_some.ensures ∙ c.if-is_some.false))
+
+pub returns-in-Err-clause-dealer : goal.returns-in-Err-clause-dealer
+returns-in-Err-clause-dealer g c = λ is.
+    subst (λ (m : AckMap). IsDealerOf g.C.Ceremony.deal_of g.C.Ceremony.check_ack_of (record c.args.self.now { acks = m })) (sym (returns-in-Err-clause-uncounted g c)) is
+
+pub returns-in-Err-clause-acts : goal.returns-in-Err-clause-acts
+returns-in-Err-clause-acts g c = λ told out.
+    acking_broken (g.C.Ceremony.check_ack_of c.args.self.now.round c.args.self.now.me c.args.self.now.public c.args.player c.args.ack) (is_some (map.get c.args.self.now.acks c.args.player)) (map.contains_key c.args.store.now.acks (c.args.epoch, c.args.player)) (has_file c.args.store.now.journal) (c.args.epoch, event_spelling (events.Ack c.args.player c.args.ack))
+    c.in_ok-check.ensures.passed (ap is_some (sym c.kept_ack.ensures) ∙ sym c.is_some.ensures ∙ c.if-is_some.false) c.in-Err.error c.in-Err.ensures.kinds (breaks_off c.in-Err.error c.in-Err.ensures.kinds) (c.in-Err.ensures.acts told out)
+
+pub returns-in-Err-clause-memory : goal.returns-in-Err-clause-memory
+returns-in-Err-clause-memory g c = λ is.
+    elim (c.in-Err.ensures.memory (ap (λ (e : StoreError). Err e) (same_store c.in-Err.error NoMemory is))) [
+      | inl same ↦ inl (ap (λ (m : AckMap). record c.args.self.now { acks = m }) (returns-in-Err-clause-uncounted g c), same.0, same.1)
+      | inr rose ↦ inr rose
+    ]

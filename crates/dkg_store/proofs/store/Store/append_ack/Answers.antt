@@ -1,0 +1,72 @@
+use Rattle.std.proofs.Common.{◌≡◌, Bool, false, ℕ, List, Option, sym, ap, subst, ◌∙◌}
+use Rattle.std.specs.FinMap as map
+use Rattle.std.proofs.lemmas.Result.{err_from_is_err_and}
+use Rattle.dkg_ceremony.specs.declared.dealer_log.DealerLog.{DealerLog}
+use Rattle.dkg_store.specs.declared.event.Event.TheVariants as events
+use Rattle.dkg_store.specs.Errors.{IsOfDevices}
+use Rattle.dkg_store.specs.Noted.{Note, Notes, Gives, noted, noted_ack, noted_log}
+use Rattle.dkg_store.specs.Pairs.{Dealing, dealing_of}
+use Rattle.dkg_store.proofs.Acting.{ended_broken}
+use Rattle.dkg_store.proofs.Appended.{unknown, none_there, noting_broken, noting_done}
+use Rattle.dkg_store.proofs.Noted.{says_ack, says_log, gives_added, gives_either, gives_still}
+use Rattle.dkg_store.proofs.Silent.{says_dealing, silent_holds}
+use Rattle.dkg_store.proofs.store.Store.append_ack.Goals as goal
+
+pub returns-in_err-append_event-clause-images : goal.returns-in_err-append_event-clause-images
+returns-in_err-append_event-clause-images g c = λ told gives.
+    let fresh = unknown c.args.self.now.acks (c.args.epoch, c.args.player) c.get.result c.is_some.result c.get.ensures c.is_some.ensures c.if-is_some.false in
+    gives_either noted_ack c.args.self.now.acks (c.args.epoch, c.args.player) c.args.ack (c.args.epoch, c.deref.result.now) _ _
+    (ap (λ (b : List ℕ). noted_ack (c.args.epoch, b)) (c.deref.ensures.value ∙ c.in_ok-body.ensures) ∙ says_ack c.args.epoch (events.Ack c.args.player c.args.ack) c.ack_fits.ensures)
+    (none_there c.args.self.now.acks (c.args.epoch, c.args.player) fresh) (c.append_event.ensures.images told) gives
+
+pub returns-in_err-append_event-clause-others : goal.returns-in_err-append_event-clause-others
+returns-in_err-append_event-clause-others g c = λ told gives.
+    gives_still noted_log c.args.self.now.logs (c.args.epoch, c.deref.result.now) _ _
+    (ap (λ (b : List ℕ). noted_log (c.args.epoch, b)) (c.deref.ensures.value ∙ c.in_ok-body.ensures) ∙ says_log c.args.epoch (events.Ack c.args.player c.args.ack) c.ack_fits.ensures)
+    (c.append_event.ensures.images told) gives
+
+pub returns-in_err-append_event-clause-holds : goal.returns-in_err-append_event-clause-holds
+returns-in_err-append_event-clause-holds g c = λ told pairs holds.
+    silent_holds _ (c.args.epoch, c.deref.result.now)
+    (ap (λ (b : List ℕ). dealing_of (c.args.epoch, b)) (c.deref.ensures.value ∙ c.in_ok-body.ensures) ∙ says_dealing c.args.epoch (events.Ack c.args.player c.args.ack) c.ack_fits.ensures)
+    pairs _ _ (c.append_event.ensures.images told) holds
+
+pub returns-in_err-append_event-clause-acts : goal.returns-in_err-append_event-clause-acts
+returns-in_err-append_event-clause-acts g c = λ told out.
+    let fresh = unknown c.args.self.now.acks (c.args.epoch, c.args.player) c.get.result c.is_some.result c.get.ensures c.is_some.ensures c.if-is_some.false in
+    let p = err_from_is_err_and c.from_residual-in_err-append_event.result c.from_residual-in_err-append_event.ensures.1 in
+    noting_broken fresh (c.deref.ensures.value ∙ c.in_ok-body.ensures) c.in_err-append_event.field-0.0 c.in_err-append_event.ensures.kinds
+    (ended_broken (λ (b : Bool). b) c.from_residual-in_err-append_event.result p.0 p.1 (subst IsOfDevices (sym p.2) c.in_err-append_event.ensures.kinds))
+    (c.in_err-append_event.ensures.acts told out (g.X.SecretStore.held c.args.devices.now.secrets.now))
+
+pub returns-clause-gives : goal.returns-clause-gives
+returns-clause-gives g c = λ told gives.
+    let fresh = unknown c.args.self.now.acks (c.args.epoch, c.args.player) c.get.result c.is_some.result c.get.ensures c.is_some.ensures c.if-is_some.false in
+    subst (λ (m : _). Gives (noted noted_ack) m (g.D.Disk.image c.append_event.new.disk)) (sym c.in_ok-append_event.ensures.noted)
+    (gives_added noted_ack c.args.self.now.acks (c.args.epoch, c.args.player) c.args.ack (c.args.epoch, c.deref.result.now) _ _
+    (ap (λ (b : List ℕ). noted_ack (c.args.epoch, b)) (c.deref.ensures.value ∙ c.in_ok-body.ensures) ∙ says_ack c.args.epoch (events.Ack c.args.player c.args.ack) c.ack_fits.ensures)
+    (none_there c.args.self.now.acks (c.args.epoch, c.args.player) fresh) (c.in_ok-append_event.ensures.added told) gives)
+
+pub returns-clause-images : goal.returns-clause-images
+returns-clause-images g c = λ told gives.
+    let fresh = unknown c.args.self.now.acks (c.args.epoch, c.args.player) c.get.result c.is_some.result c.get.ensures c.is_some.ensures c.if-is_some.false in
+    gives_either noted_ack c.args.self.now.acks (c.args.epoch, c.args.player) c.args.ack (c.args.epoch, c.deref.result.now) _ _
+    (ap (λ (b : List ℕ). noted_ack (c.args.epoch, b)) (c.deref.ensures.value ∙ c.in_ok-body.ensures) ∙ says_ack c.args.epoch (events.Ack c.args.player c.args.ack) c.ack_fits.ensures)
+    (none_there c.args.self.now.acks (c.args.epoch, c.args.player) fresh) (c.append_event.ensures.images told) gives
+
+pub returns-clause-others : goal.returns-clause-others
+returns-clause-others g c = λ told gives.
+    gives_still noted_log c.args.self.now.logs (c.args.epoch, c.deref.result.now) _ _
+    (ap (λ (b : List ℕ). noted_log (c.args.epoch, b)) (c.deref.ensures.value ∙ c.in_ok-body.ensures) ∙ says_log c.args.epoch (events.Ack c.args.player c.args.ack) c.ack_fits.ensures)
+    (c.append_event.ensures.images told) gives
+
+pub returns-clause-holds : goal.returns-clause-holds
+returns-clause-holds g c = λ told pairs holds.
+    silent_holds _ (c.args.epoch, c.deref.result.now)
+    (ap (λ (b : List ℕ). dealing_of (c.args.epoch, b)) (c.deref.ensures.value ∙ c.in_ok-body.ensures) ∙ says_dealing c.args.epoch (events.Ack c.args.player c.args.ack) c.ack_fits.ensures)
+    pairs _ _ (c.append_event.ensures.images told) holds
+
+pub returns-clause-acts : goal.returns-clause-acts
+returns-clause-acts g c = λ told out.
+    let fresh = unknown c.args.self.now.acks (c.args.epoch, c.args.player) c.get.result c.is_some.result c.get.ensures c.is_some.ensures c.if-is_some.false in
+    noting_done fresh (c.deref.ensures.value ∙ c.in_ok-body.ensures) (c.in_ok-append_event.ensures.acts told out (g.X.SecretStore.held c.args.devices.now.secrets.now))

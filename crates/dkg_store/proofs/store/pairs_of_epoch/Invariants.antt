@@ -1,0 +1,6 @@
+use Rattle.std.proofs.Common.{◌≡◌, ◌++◌, map}
+use Rattle.dkg_store.specs.Recorded.{at_epoch}
+use Rattle.dkg_store.proofs.store.pairs_of_epoch.Given as goal
+
+abbrev pub invariant-loop-key : goal.invariant-loop-key
+invariant-loop-key g l = l.pairs.items ++ map (λ p. (p.0.1, p.1)) l.key-iterator ≡ at_epoch l.fn.epoch l.values

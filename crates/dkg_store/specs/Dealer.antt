@@ -1,0 +1,54 @@
+-- What a dealer keeps of its dealing, whom it still waits for, and what it answers.
+use Rattle.std.specs.Prelude.{◌≡◌, ◌||◌, ℕ, Bool, true, false, List, [], ◌∷◌, fold, Option, Some, None, is_some, Result, Ok, Err, Contains, if◌then◌else◌}
+use Rattle.std.specs.Ordering.{nat_cmp}
+use Rattle.std.specs.FinMap.{FinMap, get, insert, empty}
+use Rattle.dkg_values.specs.Rising.{lookup}
+use Rattle.dkg_ceremony.specs.declared.ceremony.AckError.{AckError}
+use Rattle.dkg_ceremony.specs.declared.deal.DealError.{DealError}
+use Rattle.dkg_ceremony.specs.declared.round.Round.{Round}
+use Rattle.dkg_store.specs.declared.dealer.AckOutcome.{AckOutcome}
+use Rattle.dkg_store.specs.declared.dealer.AckOutcome.TheVariants.{Recorded, Duplicate}
+use Rattle.dkg_store.specs.declared.dealer.Dealer.{Dealer}
+
+-- acknowledgements by player
+abbrev pub AckMap : Type 0
+AckMap = FinMap nat_cmp (List ℕ)
+
+abbrev pub with_passed : AckMap → ℕ × List ℕ → Result (Unit {0}) AckError → AckMap
+with_passed m a (Ok passed) = insert m a.0 a.1
+with_passed m a (Err error) = m
+
+-- of these acknowledgements by player, those that pass the check
+abbrev pub passing : (check : ℕ → List ℕ → Result (Unit {0}) AckError) → List (ℕ × List ℕ) → AckMap
+passing check acks = fold (λ m a. with_passed m a (check a.0 a.1)) empty acks
+
+abbrev pub with_held : ℕ → Option (List ℕ) → List (ℕ × List ℕ) → List (ℕ × List ℕ)
+with_held player None later = later
+with_held player (Some ack) later = (player, ack) ∷ later
+
+-- the acknowledgements of these players that came in, in the order of the players
+abbrev pub held_acks : AckMap → List ℕ → List (ℕ × List ℕ)
+held_acks acks [] = []
+held_acks acks (player ∷ players) = with_held player (get acks player) (held_acks acks players)
+
+abbrev pub with_unsent : ℕ → Option (List ℕ) → Option ℕ → List (ℕ × ℕ) → List (ℕ × ℕ)
+with_unsent player (Some ack) private later = later
+with_unsent player None None later = later
+with_unsent player None (Some private) later = (player, private) ∷ later
+
+-- the players without an acknowledgement, in their order, each with its private half
+abbrev pub unsent : AckMap → List (ℕ × ℕ) → List ℕ → List (ℕ × ℕ)
+unsent acks privates [] = []
+unsent acks privates (player ∷ players) = with_unsent player (get acks player) (lookup player privates) (unsent acks privates players)
+
+-- The dealing is what the ceremony deals from some share and seed, and each acknowledgement that came in passes the check.
+pub record IsDealerOf (deal_of : Round → ℕ → Option ℕ → List ℕ → Result (List ℕ × List (ℕ × ℕ)) DealError) (check_of : Round → ℕ → List ℕ → ℕ → List ℕ → Result (Unit {0}) AckError) (dealer : Dealer) : Type 0 where
+  pub among : Contains dealer.round.dealers dealer.me
+  pub share : Option ℕ
+  pub seed : List ℕ
+  pub dealt : deal_of dealer.round dealer.me share seed ≡ Ok (dealer.public, dealer.privates)
+  pub passed : (player : ℕ) (ack : List ℕ) → get dealer.acks player ≡ Some ack → check_of dealer.round dealer.me dealer.public player ack ≡ Ok tt
+
+-- An acknowledgement that passes is a duplicate where that player's came in, or was recorded, before.
+abbrev pub outcome_of : (counted recorded : Bool) → AckOutcome
+outcome_of counted recorded = if (counted || recorded) then Duplicate else Recorded

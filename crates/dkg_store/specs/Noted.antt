@@ -1,0 +1,68 @@
+-- The acknowledgements and the logs that the entries of a journal stand for.
+use Rattle.std.specs.Prelude.{◌≡◌, ◌⊎◌, ℕ, List, fold, Option, Some, None, Result, Ok, Err}
+use Rattle.std.specs.FinMap.{FinMap, insert, empty}
+use Rattle.dkg_values.specs.Codec.{whole}
+use Rattle.dkg_values.specs.declared.codec.CodecError.{CodecError}
+use Rattle.dkg_ceremony.specs.declared.dealer_log.DealerLog.{DealerLog}
+use Rattle.dkg_journal.specs.Names.{Files}
+use Rattle.dkg_journal.specs.Records.{Entry, entries}
+use Rattle.dkg_store.specs.Keys.{key_cmp}
+use Rattle.dkg_store.specs.Events.{event_at, no_limit}
+use Rattle.dkg_store.specs.declared.event.Event.{Event}
+use Rattle.dkg_store.specs.declared.event.Event.TheVariants.{Dealing, Ack, Log}
+
+-- what one record says, under its epoch and a key
+abbrev pub Note : Type 0 → Type 0
+Note V = (ℕ × ℕ) × V
+
+-- .. what all of them say
+abbrev pub Notes : Type 0 → Type 0
+Notes V = FinMap key_cmp V
+
+abbrev pub with_note : {V : Type 0} → Notes V → Option (Note V) → Notes V
+with_note m None = m
+with_note m (Some note) = insert m note.0 note.1
+
+-- A later record of a key replaces an earlier one.
+abbrev pub noted : {V : Type 0} → (Entry → Option (Note V)) → List Entry → Notes V
+noted note_of es = fold (λ m e. with_note m (note_of e)) empty es
+
+abbrev pub ack_in : ℕ → Result Event CodecError → Option (Note (List ℕ))
+ack_in epoch (Ok (Dealing dealer public)) = None
+ack_in epoch (Ok (Ack player ack)) = Some ((epoch, player), ack)
+ack_in epoch (Ok (Log dealer log)) = None
+ack_in epoch (Err e) = None
+
+abbrev pub log_in : ℕ → Result Event CodecError → Option (Note DealerLog)
+log_in epoch (Ok (Dealing dealer public)) = None
+log_in epoch (Ok (Ack player ack)) = None
+log_in epoch (Ok (Log dealer log)) = Some ((epoch, dealer), log)
+log_in epoch (Err e) = None
+
+-- the acknowledgement, or the log, of which an entry is the record
+abbrev pub noted_ack : Entry → Option (Note (List ℕ))
+noted_ack e = ack_in e.0 (whole (event_at no_limit e.1))
+
+abbrev pub noted_log : Entry → Option (Note DealerLog)
+noted_log e = log_in e.0 (whole (event_at no_limit e.1))
+
+-- acknowledgements by epoch and player
+abbrev pub acks_in : List Entry → Notes (List ℕ)
+acks_in es = noted noted_ack es
+
+-- logs by epoch and dealer
+abbrev pub logs_in : List Entry → Notes DealerLog
+logs_in es = noted noted_log es
+
+-- whatever a crash now leaves gives this back
+pub record Gives {M : Type 0} (given : List Entry → M) (is : M) (image : Files → Type 0) : Type 0 where
+  pub each : (c : Files) → image c → given (entries c) ≡ is
+
+-- .. this, or that
+pub record GivesEither {M : Type 0} (given : List Entry → M) (one other : M) (image : Files → Type 0) : Type 0 where
+  pub each : (c : Files) → image c → (given (entries c) ≡ one) ⊎ (given (entries c) ≡ other)
+
+-- the acknowledgements and the logs are the same
+pub record SameNotes (old new : Files) : Type 0 where
+  pub acks : acks_in (entries new) ≡ acks_in (entries old)
+  pub logs : logs_in (entries new) ≡ logs_in (entries old)
