@@ -49,7 +49,7 @@ module _ {K X : Type 0} {R : K → K → Ordering} (o : IsTotalOrder R) where
       let above : R f.0 e.0 ≡ Greater = o.antisymm f.0 e.0 ∙ ap ordering_reverse (less (R e.0 f.0) parts.0) in
       (ap (λ r. cond (is_eq r) (Some e.1) (find R f.0 whole)) above ∙ all.0, behind e whole es parts.1 all.1)
 
-  each_found : (es : List (K × X)) → T (is_sorted R es) → AllByRecursion (λ e. find R e.0 es ≡ Some e.1) es
+  pub each_found : (es : List (K × X)) → T (is_sorted R es) → AllByRecursion (λ e. find R e.0 es ≡ Some e.1) es
   each_found [] sorted = tt
   each_found (e ∷ es) sorted =
       let parts = split (below_all R e.0 es) (is_sorted R es) sorted in

@@ -1,6 +1,6 @@
 -- The premises of the promise hold of the stored run, in each case of what the plan may have held: so what the calls promise of
 -- it stands. And they hold of the scripts whose writes are cut, wherever the cuts fall.
-use Rattle.std.proofs.Common.{List, [], ◌∷◌, ◌≡◌, refl, Option, Some, None, lit≤, sym, subst}
+use Rattle.std.proofs.Common.{List, [], ◌∷◌, ◌≡◌, refl, Option, Some, None, lit<, lit≤, sym, subst}
 use Rattle.std.specs.FinMap.{get-empty}
 use Rattle.dkg_values.specs.Bytes.{byte_at}
 use Rattle.dkg_values.specs.Codec.{many_at}
@@ -14,7 +14,9 @@ use Rattle.dkg_types.specs.InfoCodes.{held_at, parts_at}
 use Rattle.dkg_types.specs.OutcomeCodes.{outcome_after}
 use Rattle.dkg_types.specs.PayloadCodes.{carried_at, payload_after}
 use Rattle.dkg_store.specs.Pairs.{IsWhole}
+use Rattle.dkg_script.specs.declared.script.Life.{Life}
 use Rattle.dkg_script.specs.declared.script.Script.{Script}
+use Rattle.dkg_script.specs.Form.{IsBlockOfToday}
 use Rattle.dkg_script.specs.Readings.{Material, info_in}
 use Rattle.dkg_script.specs.Setting.{CutAt}
 use Rattle.dkg_script.specs.Blocks.{used}
@@ -25,17 +27,23 @@ use Rattle.dkg_script.proofs.OneDealing.{two, out_two, two_is_kept, two_is_compl
 use Rattle.dkg_script.proofs.Trials.{no_plan}
 use Rattle.dkg_script.proofs.Today.{never_back}
 use Rattle.dkg_script.proofs.CutWrites.{at_install, at_gate}
-use Rattle.dkg_script.proofs.Worked.{setting, files_of, secrets_of, flat, OnlyThese, nothing_there}
+use Rattle.dkg_script.proofs.Worked.{script_of, genesis, setting, files_of, secrets_of, flat, OnlyThese, nothing_there}
 
--- what is built today reads it
+-- BLOCK 0 is of today's form
+genesis_of_today : (lives : List Life) → IsBlockOfToday (script_of 8 (lit< tt) (genesis ∷ []) lives) genesis
+unfolding payload_after carried_at parts_at held_at outcome_after mode_at byte_at many_at keys_at groups_at
+genesis_of_today lives = (lit< tt, refl)
+
+-- what is built today reads the stored run
 pub two_is_built : IsBuilt (setting two)
 two_is_built = record {
   form = record {
     plain = refl;
     reshares = refl;
     few = lit≤ tt;
+    blocks = (genesis_of_today two.lives, tt);
     first = refl;
-    lives = (record { no_anchor = refl; holds = refl; no_sync = refl; events = (tt, tt) }, (record { no_anchor = refl; holds = refl; no_sync = refl; events = tt }, tt));
+    lives = (record { anchor = tt; holds = refl; no_sync = refl; events = (tt, tt) }, (record { anchor = tt; holds = refl; no_sync = refl; events = tt }, tt));
   };
   no_plan = get-empty name_cmp Plan;
   no_segment = record { no_segment = λ section. get-empty name_cmp (Segment section) };
@@ -74,8 +82,9 @@ install_is_built plans = record {
     plain = refl;
     reshares = refl;
     few = lit≤ tt;
+    blocks = (genesis_of_today at_install.lives, tt);
     first = refl;
-    lives = (record { no_anchor = refl; holds = refl; no_sync = refl; events = (tt, tt) }, (record { no_anchor = refl; holds = refl; no_sync = refl; events = (tt, tt) }, (record { no_anchor = refl; holds = refl; no_sync = refl; events = tt }, tt)));
+    lives = (record { anchor = tt; holds = refl; no_sync = refl; events = (tt, tt) }, (record { anchor = tt; holds = refl; no_sync = refl; events = (tt, tt) }, (record { anchor = tt; holds = refl; no_sync = refl; events = tt }, tt)));
   };
   no_plan = get-empty name_cmp Plan;
   no_segment = record { no_segment = λ section. get-empty name_cmp (Segment section) };
@@ -100,8 +109,9 @@ gate_is_built plans = record {
     plain = refl;
     reshares = refl;
     few = lit≤ tt;
+    blocks = (genesis_of_today at_gate.lives, tt);
     first = refl;
-    lives = (record { no_anchor = refl; holds = refl; no_sync = refl; events = (tt, tt) }, (record { no_anchor = refl; holds = refl; no_sync = refl; events = tt }, tt));
+    lives = (record { anchor = tt; holds = refl; no_sync = refl; events = (tt, tt) }, (record { anchor = tt; holds = refl; no_sync = refl; events = tt }, tt));
   };
   no_plan = get-empty name_cmp Plan;
   no_segment = record { no_segment = λ section. get-empty name_cmp (Segment section) };

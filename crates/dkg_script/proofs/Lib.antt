@@ -5,8 +5,10 @@ pub mod CutWrites
 pub mod Durable
 pub mod EachEntry
 pub mod Edges
+pub mod Formed
 pub mod Hex
 pub mod Honest
+pub mod LineBlocks
 pub mod NonZeros
 pub mod Numbers
 pub mod OneAck

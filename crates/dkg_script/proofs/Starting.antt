@@ -1,12 +1,9 @@
 -- From the info that was judged to the payload that carries it.
-use Rattle.std.proofs.Common.{◌≡◌, ℕ, ◌==◌, ◌&&◌, Bool, true, false, List, [], Option, Some, None, Result, Ok, Err, refl, sym, ap, subst, ◌∙◌, nat_eq}
+use Rattle.std.proofs.Common.{◌≡◌, ℕ, ◌==◌, ◌&&◌, Bool, true, false, List, [], Option, Some, None, Result, Ok, Err, refl, sym, ap, subst, ◌∙◌}
 use Rattle.std.specs.Prelude.{IfOk, IfSome, IsTrue, ◌↔◌}
 use Rattle.std.specs.Bool.{Decides, OnTrue, one_answer}
-use Rattle.std.specs.Cmp.{nat_eq_equiv}
-use Rattle.std.specs.List.{list_any}
 use Rattle.std.specs.Result.{is_ok}
 use Rattle.std.proofs.lemmas.Bool.{and_parts, eq-eqb, eqb-true}
-use Rattle.std.proofs.lemmas.Map.Views.{Contains-from_any, list_any-from_Contains}
 use Rattle.dkg_ceremony.specs.declared.mode.Mode.TheVariants.{NonZeroCounter}
 use Rattle.dkg_ceremony.specs.declared.mode.Reveal.TheVariants.{V1}
 use Rattle.dkg_ceremony.specs.Rounds.{round_of}
@@ -17,43 +14,39 @@ use Rattle.dkg_types.specs.Validation.{validation}
 use Rattle.dkg_script.specs.Scripts.{is_start_of, starts_it, carried as read_info}
 use Rattle.dkg_script.specs.Starts.{Carries, IsStart, Starts, participants_of}
 
-pub begins : {E : Type 0} (limit version me : ℕ) (bytes : List ℕ) (made : Option (EpochInfo directory.Unit)) (info : EpochInfo directory.Unit) (r : Result Bool E) → made ≡ Some info → IfSome made (λ i. Carries limit version bytes i) → IfOk r (λ yes. IsTrue yes ↔ Starts limit me info) → IfOk r (λ yes. OnTrue yes (IsStart limit version me bytes))
-begins limit version me bytes made info (Ok true) is carries starts =
+pub begins : {E : Type 0} (limit version : ℕ) (bytes : List ℕ) (made : Option (EpochInfo directory.Unit)) (info : EpochInfo directory.Unit) (r : Result Bool E) → made ≡ Some info → IfSome made (λ i. Carries limit version bytes i) → IfOk r (λ yes. IsTrue yes ↔ Starts limit info) → IfOk r (λ yes. OnTrue yes (IsStart limit version bytes))
+begins limit version bytes made info (Ok true) is carries starts =
     let P : Option (EpochInfo directory.Unit) → Type 0 = λ m. IfSome m (λ i. Carries limit version bytes i) in
     (info, subst P is carries, starts.0 refl)
-begins limit version me bytes made info (Ok false) is carries starts = tt
-begins limit version me bytes made info (Err e) is carries starts = tt
+begins limit version bytes made info (Ok false) is carries starts = tt
+begins limit version bytes made info (Err e) is carries starts = tt
 
 -- the test spoke of the payload that the block carries
-pub carried : (limit version me : ℕ) (tested bytes : List ℕ) (b : Bool) → tested ≡ bytes → b ≡ true → OnTrue b (IsStart limit version me tested) → IsStart limit version me bytes
-carried limit version me tested bytes true same is holds =
-    let P : List ℕ → Type 0 = λ t. IsStart limit version me t in
+pub carried : (limit version : ℕ) (tested bytes : List ℕ) (b : Bool) → tested ≡ bytes → b ≡ true → OnTrue b (IsStart limit version tested) → IsStart limit version bytes
+carried limit version tested bytes true same is holds =
+    let P : List ℕ → Type 0 = λ t. IsStart limit version t in
     subst P same holds
-carried limit version me tested bytes false same is holds = cc is
+carried limit version tested bytes false same is holds = cc is
 
 -- the test of an info is whether it starts
-starts_tells : (limit me : ℕ) (i : EpochInfo directory.Unit) → Decides (starts_it limit me i) (Starts limit me i)
+starts_tells : (limit : ℕ) (i : EpochInfo directory.Unit) → Decides (starts_it limit i) (Starts limit i)
 unfolding starts_it
-starts_tells limit me i =
+starts_tells limit i =
     let first = i.epoch == 0 in
-    let player = list_any (nat_eq me) i.players in
     let valid = is_ok (validation (participants_of i) limit (Some i.output) 0) in
     let round = is_ok (round_of [] 0 (Some i.output) NonZeroCounter V1 i.output.players i.players) in (
       λ is.
-          let with_round = and_parts (first && player && valid) round is in
-          let with_valid = and_parts (first && player) valid with_round.0 in
-          let with_player = and_parts first player with_valid.0 in
+          let with_round = and_parts (first && valid) round is in
+          let with_valid = and_parts first valid with_round.0 in
           record {
-            first = eqb-true i.epoch 0 with_player.0;
-            player = Contains-from_any eqb-true me i.players with_player.1;
+            first = eqb-true i.epoch 0 with_valid.0;
             valid = ok_unit (validation (participants_of i) limit (Some i.output) 0) with_valid.1;
             round = with_round.1;
           },
       λ starts.
           let is_first : first ≡ true = eq-eqb i.epoch 0 starts.first in
-          let is_player : player ≡ true = list_any-from_Contains nat_eq_equiv me i.players starts.player in
           let is_valid : valid ≡ true = ap (is_ok {T = Unit {0}} {E = ParticipantsError}) starts.valid in
-          and_true (first && player && valid) round (and_true (first && player) valid (and_true first player is_first is_player) is_valid) starts.round,
+          and_true (first && valid) round (and_true first valid is_first is_valid) starts.round,
     )
   where
     ok_unit : {E : Type 0} (r : Result (Unit {0}) E) → is_ok r ≡ true → r ≡ Ok tt
@@ -63,15 +56,15 @@ starts_tells limit me i =
     and_true : (a b : Bool) → a ≡ true → b ≡ true → (a && b) ≡ true
     and_true a b is_a is_b = rw (is_a, is_b) refl
 
-pub start_value : {E : Type 0} (limit version me : ℕ) (bytes : List ℕ) (made : Option (EpochInfo directory.Unit)) (info : EpochInfo directory.Unit) (r : Result Bool E) → made ≡ Some info → made ≡ read_info limit version bytes → IfOk r (λ yes. IsTrue yes ↔ Starts limit me info) → IfOk r (λ yes. yes ≡ is_start_of limit version me bytes)
+pub start_value : {E : Type 0} (limit version : ℕ) (bytes : List ℕ) (made : Option (EpochInfo directory.Unit)) (info : EpochInfo directory.Unit) (r : Result Bool E) → made ≡ Some info → made ≡ read_info limit version bytes → IfOk r (λ yes. IsTrue yes ↔ Starts limit info) → IfOk r (λ yes. yes ≡ is_start_of limit version bytes)
 unfolding is_start_of
-start_value limit version me bytes made info (Ok b) is carries starts =
+start_value limit version bytes made info (Ok b) is carries starts =
     let same : read_info limit version bytes ≡ Some info = sym carries ∙ is in
-    rw same (one_answer b (starts_it limit me info) starts (starts_tells limit me info))
-start_value limit version me bytes made info (Err e) is carries starts = tt
+    rw same (one_answer b (starts_it limit info) starts (starts_tells limit info))
+start_value limit version bytes made info (Err e) is carries starts = tt
 
-pub no_start : (limit version me : ℕ) (bytes : List ℕ) (made : Option (EpochInfo directory.Unit)) → made ≡ None → made ≡ read_info limit version bytes → false ≡ is_start_of limit version me bytes
+pub no_start : (limit version : ℕ) (bytes : List ℕ) (made : Option (EpochInfo directory.Unit)) → made ≡ None → made ≡ read_info limit version bytes → false ≡ is_start_of limit version bytes
 unfolding is_start_of
-no_start limit version me bytes made is carries =
+no_start limit version bytes made is carries =
     let same : read_info limit version bytes ≡ None = sym carries ∙ is in
     rw same refl

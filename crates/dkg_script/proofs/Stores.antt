@@ -2,10 +2,12 @@
 use Rattle.std.proofs.Common.{◌≡◌, ℕ, List, [], ◌∷◌, Some, refl, sym, subst}
 use Rattle.std.specs.Prelude.{length}
 use Rattle.std.specs.FinMap.{get, empty, get-from_entries}
+use Rattle.dkg_values.specs.Bytes.{byte_at}
 use Rattle.dkg_values.specs.Codec.{many_at}
 use Rattle.dkg_values.specs.Uint.{groups_at}
 use Rattle.dkg_journal.specs.Names.{Files}
 use Rattle.dkg_journal.specs.Records.{entries, read32, read64}
+use Rattle.dkg_store.specs.Events.{event_after}
 use Rattle.dkg_store.specs.Pairs.{IsWhole, dealing_of}
 use Rattle.dkg_store.specs.Secrets.{Secrets}
 use Rattle.dkg_store.proofs.Map.{keys_total}
@@ -44,13 +46,13 @@ module _ (files : Files) (secrets : Secrets) (pair : Restored) (h : Stored files
 
 -- the bytes of each
 pub stored_seven : Stored (files_of (Some (flat 1 0 7))) (secrets_of (((0, 2), 23) ∷ [])) (pair_in 0 7 23)
-unfolding read32 read64 many_at groups_at
+unfolding read32 read64 many_at groups_at byte_at event_after
 stored_seven = record { body = body 7; entry = entries_are (flat 1 0 7); dealing = refl; half = get-from_entries keys_total (((0, 2), 23) ∷ []) (0, 2) }
 
 pub stored_nine : Stored (files_of (Some (flat 1 0 9))) (secrets_of (((0, 2), 25) ∷ [])) (pair_in 0 9 25)
-unfolding read32 read64 many_at groups_at
+unfolding read32 read64 many_at groups_at byte_at event_after
 stored_nine = record { body = body 9; entry = entries_are (flat 1 0 9); dealing = refl; half = get-from_entries keys_total (((0, 2), 25) ∷ []) (0, 2) }
 
 pub stored_next : Stored (files_of (Some (flat 1 1 7))) (secrets_of (((1, 2), 23) ∷ [])) (pair_in 1 7 23)
-unfolding read32 read64 many_at groups_at
+unfolding read32 read64 many_at groups_at byte_at event_after
 stored_next = record { body = body 7; entry = entries_are (flat 1 1 7); dealing = refl; half = get-from_entries keys_total (((1, 2), 23) ∷ []) (1, 2) }

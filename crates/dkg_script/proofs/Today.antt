@@ -1,102 +1,154 @@
--- Scripts of the form of today: no life leaves height 0 or epoch 0, none follows or is finished, and the round is that of the one
--- block's info.
-use Rattle.std.proofs.Common.{◌≡◌, ℕ, zero, suc, ◌+◌, ◌<◌, ◌≤◌, ◌/◌, List, [], ◌∷◌, Option, Some, None, Bool, true, false, cond, refl, ap, subst, ◌∙◌, arith, length, take}
-use Rattle.std.specs.Prelude.{filter_map, fold, max, slice_get, option_and_then, unwrap_or, ◌-◌, ◌==◌}
-use Rattle.std.specs.List.{AllByRecursion}
-use Rattle.std.specs.Int.NonZero.{non_zero_u32_get}
+-- Scripts of the form of today: no life leaves epoch 0 or awaits a block above its midpoint.
+use Rattle.std.proofs.Common.{◌≡◌, ℕ, zero, suc, ◌+◌, ◌<◌, ◌≤◌, ◌/◌, List, [], ◌∷◌, ◌++◌, Option, Some, None, Bool, true, false, cond, refl, ap, subst, sym, ◌∙◌, arith, length, take, lit<}
+use Rattle.std.specs.Prelude.{filter_map, fold, max, slice_get, option_and_then, unwrap_or, ◌-◌, ◌==◌, IfSome, IsSomeAnd}
+use Rattle.std.specs.List.{AllByRecursion, cons_option}
 use Rattle.std.specs.Option.{option_map_or, option_or}
-use Rattle.std.specs.Result.{result_ok}
-use Rattle.std.proofs.Math.Nat.{div-le_self}
-use Rattle.dkg_ceremony.specs.Rounds.{round_of}
-use Rattle.dkg_ceremony.specs.declared.mode.Reveal.TheVariants.{V1}
+use Rattle.std.proofs.Math.Nat.{div-eq_of_lt, div-lt_self, div-zero}
+use Rattle.dkg_script.specs.declared.script.Anchor.{Anchor}
+use Rattle.dkg_script.specs.declared.script.Anchor.TheVariants.{Processed, Absent}
 use Rattle.dkg_script.specs.declared.script.BlockLine.{BlockLine}
 use Rattle.dkg_script.specs.declared.script.Cut.{Cut}
 use Rattle.dkg_script.specs.declared.script.Event.{Event}
-use Rattle.dkg_script.specs.declared.script.Event.TheVariants.{Peer}
+use Rattle.dkg_script.specs.declared.script.Event.TheVariants.{Peer, Final}
 use Rattle.dkg_script.specs.declared.script.Life.{Life}
-use Rattle.dkg_script.specs.Form.{IsLifeOfToday, IsPeer}
+use Rattle.dkg_script.specs.Form.{IsAnchorOfToday, IsEarly, IsEventOfToday, IsLifeOfToday, midpoint_of}
 use Rattle.dkg_script.specs.Promise.{IsBuilt}
-use Rattle.dkg_script.specs.Readings.{Info, Material, info_in, material_in}
+use Rattle.dkg_script.specs.Readings.{Material, material_in}
 use Rattle.dkg_script.specs.Setting.{Setting, CutAt, limits, blocks_per_epoch, is_oneshot, life_at, found}
-use Rattle.dkg_script.specs.Blocks.{delivered_number, events_come_to, block_at, round_at, used, provided}
-use Rattle.dkg_script.specs.Position.{IsPlanHistory, awaited_height, awaited_epoch, awaited_before, awaited_epoch_in, begun, start_height, last_awaited, greatest_below, material, unless_outdated, height_after_anchor, height_of_floor, cut_of, events_taken}
+use Rattle.dkg_script.specs.Blocks.{Block, block_at, block_of, delivered_number, events_come_to, provided}
+use Rattle.dkg_script.specs.Position.{IsPlanHistory, awaited_height, awaited_epoch, awaited_before, awaited_epoch_in, begun, delivered, start_height, last_awaited, greatest_below, material, unless_outdated, height_after_anchor, height_of_floor, cut_of, events_taken}
+use Rattle.dkg_script.proofs.LineBlocks.{of_line}
 use Rattle.dkg_script.proofs.Plain.{IsPlain, finds_none}
 
--- NOTHING IS DELIVERED, so height 0 is awaited
+-- WHAT IS DELIVERED lies below the midpoint
 
-no_deliveries : (events : List Event) → AllByRecursion IsPeer events → (n : ℕ) → filter_map delivered_number (take n events) ≡ []
-no_deliveries [] peers zero = refl
-no_deliveries [] peers (suc n) = refl
-no_deliveries (event ∷ events) peers zero = refl
-no_deliveries (Peer from bytes ∷ events) peers (suc n) = no_deliveries events peers.1 n
-no_deliveries (event ∷ events) peers (suc n) = absurd peers.0
+all_taken : {A : Type 0} (P : A → Type 0) (n : ℕ) (xs : List A) → AllByRecursion P xs → AllByRecursion P (take n xs)
+all_taken P zero [] all = tt
+all_taken P (suc n) [] all = tt
+all_taken P zero (x ∷ xs) all = tt
+all_taken P (suc n) (x ∷ xs) all = (all.0, all_taken P n xs all.1)
 
--- .. also among those that the life comes to
-peers_taken : (n : ℕ) (events : List Event) → AllByRecursion IsPeer events → AllByRecursion IsPeer (take n events)
-peers_taken zero [] peers = tt
-peers_taken (suc n) [] peers = tt
-peers_taken zero (event ∷ events) peers = tt
-peers_taken (suc n) (event ∷ events) peers = (peers.0, peers_taken n events peers.1)
-
-peers_come_to : (cut : Option Cut) (events : List Event) → AllByRecursion IsPeer events → AllByRecursion IsPeer (events_come_to cut events)
-peers_come_to None events peers = peers
-peers_come_to (Some cut) events peers = by_call (cut.call == 0)
+-- .. also of those that the life comes to
+pub all_come_to : (P : Event → Type 0) (cut : Option Cut) (events : List Event) → AllByRecursion P events → AllByRecursion P (events_come_to cut events)
+all_come_to P None events all = all
+all_come_to P (Some cut) events all = by_call (cut.call == 0)
   where
-    by_call : (b : Bool) → AllByRecursion IsPeer (cond b (take (cut.step - 1) events) events)
-    by_call true = peers_taken (cut.step - 1) events peers
-    by_call false = peers
+    by_call : (b : Bool) → AllByRecursion P (cond b (take (cut.step - 1) events) events)
+    by_call true = all_taken P (cut.step - 1) events all
+    by_call false = all
 
-no_material : (s : Setting) (l : ℕ) (life : Life) → IsLifeOfToday life → found s l ≡ None → material s l life ≡ None
-no_material s l life today none = by_mode (is_oneshot s)
+module _ (s : Setting) where
+  abbrev middle : ℕ
+  middle = midpoint_of s.script
+
+  -- the block of a number whose line lies below the midpoint
+  pub early_block : (number : ℕ) → IsEarly (midpoint_of s.script) s.script.blocks number → IsSomeAnd (block_at s number) (λ b. b.height < midpoint_of s.script)
+  early_block number early = by_line (slice_get s.script.blocks number) refl early
+    where
+      by_line : (o : Option BlockLine) → slice_get s.script.blocks number ≡ o → IsSomeAnd o (λ line. line.height < middle) → IsSomeAnd (block_at s number) (λ b. b.height < middle)
+      by_line None is early = absurd early
+      by_line (Some line) is early = rw (of_line s number line is) early
+
+  deliver_early : (events : List Event) → AllByRecursion (IsEventOfToday (midpoint_of s.script) s.script.blocks) events
+      → AllByRecursion (λ b. b.height < midpoint_of s.script) (filter_map (block_at s) (filter_map delivered_number events))
+  deliver_early [] today = tt
+  deliver_early (Peer from bytes ∷ events) today = deliver_early events today.1
+  deliver_early (Final number ∷ events) today = by_block (block_at s number) (early_block number today.0) (deliver_early events today.1)
+    where
+      by_block : (o : Option Block) → IsSomeAnd o (λ b. b.height < middle) → AllByRecursion (λ b. b.height < middle) (filter_map (block_at s) (filter_map delivered_number events))
+          → AllByRecursion (λ b. b.height < middle) (cons_option o (filter_map (block_at s) (filter_map delivered_number events)))
+      by_block None early rest = absurd early
+      by_block (Some b) early rest = (early, rest)
+  deliver_early (event ∷ events) today = absurd today.0
+
+no_material : (s : Setting) (l : ℕ) (life : Life) → life.sync ≡ None → found s l ≡ None → material s l life ≡ None
+no_material s l life no_sync none = by_mode (is_oneshot s)
   where
     by_mode : (oneshot : Bool) → cond oneshot None (unless_outdated s life (option_or (provided s life) (found s l))) ≡ None
     by_mode true = refl
-    by_mode false = rw (today.no_sync, none) refl
+    by_mode false = rw (no_sync, none) refl
 
-starts_at_zero : (s : Setting) (l : ℕ) (life : Life) → IsLifeOfToday life → found s l ≡ None → start_height s l life ≡ 0
-starts_at_zero s l life today none =
-    ap (λ (m : Option Material). max (height_after_anchor s life.anchor) (height_of_floor s life m)) (no_material s l life today none)
-    ∙ ap (λ anchor. max (height_after_anchor s anchor) 0) today.no_anchor
+-- A POSITION OF TODAY is one from which a block below the midpoint is awaited
 
-pub awaits_zero : (s : Setting) (l : ℕ) (life : Life) (n : ℕ) → IsLifeOfToday life → found s l ≡ None → awaited_height s l life n ≡ 0
-unfolding awaited_height
-awaits_zero s l life n today none =
-    ap (λ (numbers : List ℕ). fold (λ height b. max height (suc b.height)) (start_height s l life) (filter_map (block_at s) numbers)) (no_deliveries (events_come_to life.cut life.events) (peers_come_to life.cut life.events today.events) n)
-    ∙ starts_at_zero s l life today none
+module _ (s : Setting) where
+  abbrev m : ℕ
+  m = midpoint_of s.script
 
-no_part : (k n : ℕ) → k ≡ 0 → k / n ≡ 0
-no_part k n e = let le : k / n ≤ k = div-le_self k n in omega arith
+  after_anchor : (anchor : Option Anchor) → IfSome anchor (IsAnchorOfToday m s.script.blocks) → height_after_anchor s anchor ≤ m
+  after_anchor None today = omega arith
+  after_anchor (Some (Processed number)) today = by_line (slice_get s.script.blocks number) refl today
+    where
+      by_line : (o : Option BlockLine) → slice_get s.script.blocks number ≡ o → IsSomeAnd o (λ line. line.height + 1 < m) → option_map_or (λ b. suc b.height) (block_at s number) 0 ≤ m
+      by_line None is early = absurd early
+      by_line (Some line) is early = rw (of_line s number line is) (omega (arith, early))
+  after_anchor (Some (Absent number)) today = by_line (slice_get s.script.blocks number) refl today
+    where
+      by_line : (o : Option BlockLine) → slice_get s.script.blocks number ≡ o → IsSomeAnd o (λ line. (0 < line.height) × (line.height < m)) → option_map_or (λ b. b.height) (block_at s number) 0 ≤ m
+      by_line None is early = absurd early
+      by_line (Some line) is early = rw (of_line s number line is) (omega (arith, early.1))
 
-pub awaits_epoch_zero : (s : Setting) (l : ℕ) (life : Life) (n : ℕ) → IsLifeOfToday life → found s l ≡ None → awaited_epoch s l life n ≡ 0
-awaits_epoch_zero s l life n today none = no_part (awaited_height s l life n) (blocks_per_epoch s) (awaits_zero s l life n today none)
+  pub start_is : (l : ℕ) (life : Life) → life.sync ≡ None → found s l ≡ None → start_height s l life ≡ height_after_anchor s life.anchor
+  start_is l life no_sync none =
+      let plain = ap (λ (x : Option Material). max (height_after_anchor s life.anchor) (height_of_floor s life x)) (no_material s l life no_sync none) in
+      plain ∙ no_more (height_after_anchor s life.anchor)
+    where
+      no_more : (n : ℕ) → max n 0 ≡ n
+      no_more n = omega arith
+
+  starts_early : (l : ℕ) (life : Life) → IsLifeOfToday m s.script.blocks life → found s l ≡ None → start_height s l life ≤ m
+  starts_early l life today none = rw (start_is l life today.no_sync none) (after_anchor life.anchor today.anchor)
+
+  stays_early : (bs : List Block) (n : ℕ) → n ≤ m → AllByRecursion (λ b. b.height < m) bs → fold (λ height b. max height (suc b.height)) n bs ≤ m
+  stays_early [] n low early = low
+  stays_early (b ∷ bs) n low early = stays_early bs (max n (suc b.height)) (below early.0) early.1
+    where
+      below : b.height < m → max n (suc b.height) ≤ m
+      below its = omega arith
+
+  deliver_first : (n : ℕ) (life : Life) → IsLifeOfToday m s.script.blocks life → AllByRecursion (λ b. b.height < m) (delivered s life n)
+  deliver_first n life today = deliver_early s (take n (events_come_to life.cut life.events))
+      (all_taken (IsEventOfToday m s.script.blocks) n (events_come_to life.cut life.events) (all_come_to (IsEventOfToday m s.script.blocks) life.cut life.events today.events))
+
+  -- the midpoint at the most is awaited
+  pub awaits_early : (l : ℕ) (life : Life) (n : ℕ) → IsLifeOfToday (midpoint_of s.script) s.script.blocks life → found s l ≡ None → awaited_height s l life n ≤ midpoint_of s.script
+  unfolding awaited_height
+  awaits_early l life n today none = stays_early (delivered s life n) (start_height s l life) (starts_early l life today none) (deliver_first n life today)
+
+-- .. so epoch 0
+no_part : (k n : ℕ) → k ≤ n / 2 → k / n ≡ 0
+no_part k zero low = div-zero k
+no_part k (suc n) low = let half : suc n / 2 < suc n = div-lt_self {n = suc n} {k = 2} (omega arith) (lit< tt) in div-eq_of_lt (omega (arith, half, low))
+
+pub awaits_epoch_zero : (s : Setting) (l : ℕ) (life : Life) (n : ℕ) → IsLifeOfToday (midpoint_of s.script) s.script.blocks life → found s l ≡ None → awaited_epoch s l life n ≡ 0
+awaits_epoch_zero s l life n today none = no_part (awaited_height s l life n) (blocks_per_epoch s) (awaits_early s l life n today none)
 
 -- WHAT IS BUILT TODAY has no start material, so no life finds any
 
-no_syncs : (lives : List Life) → AllByRecursion IsLifeOfToday lives → AllByRecursion (λ life. life.sync ≡ None) lives
-no_syncs [] today = tt
-no_syncs (life ∷ lives) today = (today.0.no_sync, no_syncs lives today.1)
+no_syncs : (early : ℕ) (lines : List BlockLine) (lives : List Life) → AllByRecursion (IsLifeOfToday early lines) lives → AllByRecursion (λ life. life.sync ≡ None) lives
+no_syncs early lines [] today = tt
+no_syncs early lines (life ∷ lives) today = (today.0.no_sync, no_syncs early lines lives today.1)
 
 pub plain_of : (s : Setting) → IsBuilt s → IsPlain s
 plain_of s built = record {
   no_record = ap (λ o. option_and_then (material_in (limits s)) o) built.no_plan;
-  no_sync = no_syncs s.script.lives built.form.lives;
+  no_sync = no_syncs (midpoint_of s.script) s.script.blocks s.script.lives built.form.lives;
 }
 
 none_there : {X : Type 0} (x : X) → None ≡ Some x → ⊥
 none_there x e = cc
 
-its_form : (lives : List Life) (l : ℕ) (life : Life) → AllByRecursion IsLifeOfToday lives → slice_get lives l ≡ Some life → (l < length lives) × IsLifeOfToday life
-its_form [] l life today is = absurd (none_there life is)
-its_form (first ∷ lives) zero life today is = (omega arith, subst IsLifeOfToday (same first life is) today.0)
+its_form : (P : Life → Type 0) (lives : List Life) (l : ℕ) (life : Life) → AllByRecursion P lives → slice_get lives l ≡ Some life → (l < length lives) × P life
+its_form P [] l life today is = absurd (none_there life is)
+its_form P (first ∷ lives) zero life today is = (omega arith, subst P (same first life is) today.0)
   where
     same : (first life : Life) → Some first ≡ Some life → first ≡ life
     same first life e = ap (λ (o : Option Life). unwrap_or o first) e
-its_form (first ∷ lives) (suc l) life today is = let rest = its_form lives l life today.1 is in (let below : l < length lives = rest.0 in omega arith, rest.1)
+its_form P (first ∷ lives) (suc l) life today is = let rest = its_form P lives l life today.1 is in (let below : l < length lives = rest.0 in omega arith, rest.1)
 
 module _ (s : Setting) (cuts : List (Option CutAt)) (built : IsBuilt s) (history : IsPlanHistory s cuts) where
-  pub life_today : (l : ℕ) (life : Life) → l ≤ length cuts → life_at s l ≡ Some life → IsLifeOfToday life × (found s l ≡ None)
+  pub life_today : (l : ℕ) (life : Life) → l ≤ length cuts → life_at s l ≡ Some life → IsLifeOfToday (midpoint_of s.script) s.script.blocks life × (found s l ≡ None)
   life_today l life begun is =
-      let form = its_form s.script.lives l life built.form.lives is in
+      let form = its_form (IsLifeOfToday (midpoint_of s.script) s.script.blocks) s.script.lives l life built.form.lives is in
       (form.1, finds_none s cuts (plain_of s built) history l begun form.0)
 
   -- in any life so far, after any number of its events
@@ -130,18 +182,3 @@ module _ (s : Setting) (cuts : List (Option CutAt)) (built : IsBuilt s) (history
       by_mode : (oneshot : Bool) (a b : ℕ) → a ≡ 0 → b ≡ 0 → cond oneshot 0 (max a b) ≡ 0
       by_mode true a b e f = refl
       by_mode false a b e f = omega arith
-
--- THE ROUND, from the one block's info
-
-pub record IsFirstInfo (s : Setting) (line : BlockLine) (bytes : List ℕ) (i : Info) : Type 0 where
-  pub alone : s.script.blocks ≡ line ∷ []
-  pub height : line.height ≡ 0
-  pub payload : line.payload ≡ Some bytes
-  pub info : info_in (record { most = non_zero_u32_get s.script.config.limit; version = s.script.config.max_mode.0; addressed = s.script.addressed }) bytes ≡ Some i
-  pub epoch : i.epoch ≡ 0
-
-pub round_today : (s : Setting) (line : BlockLine) (bytes : List ℕ) (i : Info) (life : Life) (lives : List Life)
-    → IsFirstInfo s line bytes i → s.script.config.oneshot ≡ None → s.script.lives ≡ life ∷ lives → IsLifeOfToday life
-    → round_at s 0 ≡ result_ok (round_of s.script.config.namespace 0 (Some i.output) s.script.config.mode V1 i.output.players i.players)
-unfolding round_at used
-round_today s line bytes i life lives first reshares are today = rw (reshares, are, today.no_anchor, today.holds, first.alone, first.payload, first.height, first.info, first.epoch) refl

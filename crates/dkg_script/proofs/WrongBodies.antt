@@ -7,6 +7,7 @@ use Rattle.std.specs.List.{AllByRecursion}
 use Rattle.std.specs.Ordering.{eq_by_cmp}
 use Rattle.std.proofs.lemmas.Bool.Decides.{nat_tests}
 use Rattle.dkg_ceremony.specs.Acks.{ack_of}
+use Rattle.dkg_values.specs.Bytes.{byte_at}
 use Rattle.dkg_values.specs.Codec.{many_at}
 use Rattle.dkg_values.specs.Uint.{groups_at}
 use Rattle.dkg_values.specs.declared.name.Name.{Name}
@@ -18,6 +19,7 @@ use Rattle.dkg_journal.specs.Records as journal
 use Rattle.dkg_journal.specs.Table.{Rows, RowsImage, MatchFile, file_at}
 use Rattle.dkg_journal.proofs.Steps.{names_total}
 use Rattle.dkg_journal.proofs.AtOnce.{get_other}
+use Rattle.dkg_store.specs.Events.{event_after}
 use Rattle.dkg_store.specs.Keys.{key_cmp}
 use Rattle.dkg_store.specs.Pairs.{IsWhole, recovered}
 use Rattle.dkg_store.specs.Secrets.{Secrets}
@@ -113,7 +115,7 @@ unfolding read32 read64
 opened_file = entries_are (flat 1 0 7)
 
 no_half : IsWhole (entries (files_of (Some (flat 1 0 7)))) (secrets_of []) → ⊥
-unfolding many_at groups_at
+unfolding many_at groups_at byte_at event_after
 no_half whole =
     let half : is_some (get (secrets_of []).privates (0, 2)) ≡ true = (subst (λ (es : List journal.Entry). IsWhole es (secrets_of [])) opened_file whole).0 in
     false_not_true (ap is_some (sym (get-from_entries keys_total [] (0, 2))) ∙ half)

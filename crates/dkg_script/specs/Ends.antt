@@ -1,10 +1,10 @@
 -- How the entries of a run end, by what ended it.
-use Rattle.std.specs.Prelude.{List, [], ◌∷◌, ◌++◌, ◌≡◌, ◌≢◌, ◌⊎◌, Bool, true, false, ⊤, IsFalse, Result, Ok, Err}
+use Rattle.std.specs.Prelude.{List, [], ◌∷◌, ◌++◌, ◌≡◌, ◌≢◌, ◌<◌, ◌⊎◌, Bool, true, false, ⊤, IsFalse, Result, Ok, Err}
 use Rattle.std.specs.List.{list_any}
 use Rattle.dkg_types.specs.declared.entry.Entry.{Entry}
 use Rattle.dkg_types.specs.declared.entry.Entry.TheVariants as entry
 use Rattle.dkg_types.specs.declared.fault.Fault.{Fault}
-use Rattle.dkg_types.specs.declared.fault.Fault.TheVariants.{NoMemory, Disk, Secrets, Corrupt, MissingEpochInfo, WrongEpoch, InvalidParticipants, LocalState}
+use Rattle.dkg_types.specs.declared.fault.Fault.TheVariants.{NoMemory, Disk, Secrets, Corrupt, ConflictingBlock, DetachedBlock, SkippedHeight, MissingEpochInfo, WrongEpoch, InvalidParticipants, LocalState}
 use Rattle.dkg_types.specs.declared.fault.LocalCause.{LocalCause}
 use Rattle.dkg_types.specs.declared.fault.LocalCause.TheVariants.{StoredDealing}
 use Rattle.dkg_types.specs.declared.fault.ParticipantsCause.{ParticipantsCause}
@@ -39,7 +39,8 @@ IsRefusalOfToday (Round why) = ⊤
 IsRefusalOfToday _ = ⊥
 
 -- The faults that a run of a script of today's form (see Form) can tell: those of a device, a record that is none, an info of
--- block 0 that is missing, is of another epoch or is refused, and a stored dealing that is refused. Want of memory is never told.
+-- block 0 that is missing, is of another epoch or is refused, a stored dealing that is refused, and a delivered block that does not
+-- belong to the chain. Want of memory is never told.
 abbrev pub IsFaultOfToday : Fault → Type 0
 IsFaultOfToday Disk = ⊤
 IsFaultOfToday Secrets = ⊤
@@ -48,6 +49,9 @@ IsFaultOfToday (MissingEpochInfo height) = height ≡ 0
 IsFaultOfToday (WrongEpoch expected got) = (expected ≡ 0) × (got ≢ 0)
 IsFaultOfToday (InvalidParticipants cause) = IsRefusalOfToday cause
 IsFaultOfToday (LocalState cause) = IsLocalOfToday cause
+IsFaultOfToday (ConflictingBlock height) = ⊤
+IsFaultOfToday (DetachedBlock height) = ⊤
+IsFaultOfToday (SkippedHeight awaited got) = awaited < got
 IsFaultOfToday _ = ⊥
 
 -- The fault is one that can be told and, where it blames a device, that device's count rose. (Each count's rise is handed in as a

@@ -1,29 +1,54 @@
--- The one form of script that is read and run so far: nothing happens but messages of the dealing channel.
-use Rattle.std.specs.Prelude.{◌≡◌, ◌≤◌, ◌^◌, [], ◌∷◌, None, false, IfSome, slice_get}
-use Rattle.std.specs.Int.NonZero.{non_zero_u32_get}
+-- The one form of script that is read and run so far: within epoch 0 and below its midpoint, nothing happens but messages of the
+-- dealing channel and finalized blocks.
+use Rattle.std.specs.Prelude.{ℕ, ◌+◌, ◌<◌, ◌≡◌, ◌≤◌, ◌^◌, ◌/◌, List, None, Some, false, IfSome, IsSome, IsSomeAnd, slice_get}
+use Rattle.std.specs.Int.NonZero.{non_zero_u32_get, non_zero_u64_get}
 use Rattle.std.specs.List.{AllByRecursion}
+use Rattle.dkg_script.specs.declared.script.Anchor.{Anchor}
+use Rattle.dkg_script.specs.declared.script.Anchor.TheVariants.{Processed, Absent}
+use Rattle.dkg_script.specs.declared.script.BlockLine.{BlockLine}
 use Rattle.dkg_script.specs.declared.script.Event.{Event}
-use Rattle.dkg_script.specs.declared.script.Event.TheVariants.{Peer}
+use Rattle.dkg_script.specs.declared.script.Event.TheVariants.{Peer, Final}
 use Rattle.dkg_script.specs.declared.script.Life.{Life}
 use Rattle.dkg_script.specs.declared.script.Script.{Script}
+use Rattle.dkg_script.specs.Readings.{unit_payload}
 
--- a message of the dealing channel
-abbrev pub IsPeer : Event → Type 0
-IsPeer (Peer from bytes) = Unit {0}
-IsPeer _ = ⊥
+-- the number of a block below the midpoint
+abbrev pub IsEarly : (midpoint : ℕ) → List BlockLine → ℕ → Type 0
+IsEarly midpoint blocks number = IsSomeAnd (slice_get blocks number) (λ block. block.height < midpoint)
 
--- A life begins with nothing processed and without material, and holds block 0.
-pub record IsLifeOfToday (life : Life) : Type 0 where
-  pub no_anchor : life.anchor ≡ None
-  pub holds : life.held ≡ 0 ∷ []
+-- a message of the dealing channel, or a block below the midpoint
+abbrev pub IsEventOfToday : (midpoint : ℕ) → List BlockLine → Event → Type 0
+IsEventOfToday midpoint blocks (Peer from bytes) = Unit {0}
+IsEventOfToday midpoint blocks (Final number) = IsEarly midpoint blocks number
+IsEventOfToday midpoint blocks _ = ⊥
+
+-- a position from which a block below the midpoint is awaited
+abbrev pub IsAnchorOfToday : (midpoint : ℕ) → List BlockLine → Anchor → Type 0
+IsAnchorOfToday midpoint blocks (Processed number) = IsSomeAnd (slice_get blocks number) (λ block. block.height + 1 < midpoint)
+IsAnchorOfToday midpoint blocks (Absent number) = IsSomeAnd (slice_get blocks number) (λ block. (0 < block.height) × (block.height < midpoint))
+
+-- A life begins without material, holds block 0 before others, and awaits a block below the midpoint.
+pub record IsLifeOfToday (midpoint : ℕ) (blocks : List BlockLine) (life : Life) : Type 0 where
+  pub anchor : IfSome life.anchor (IsAnchorOfToday midpoint blocks)
+  pub holds : slice_get life.held 0 ≡ Some 0
   pub no_sync : life.sync ≡ None
-  pub events : AllByRecursion IsPeer life.events
+  pub events : AllByRecursion (IsEventOfToday midpoint blocks) life.events
 
--- The script is of a reshare without directories of addresses, its limit is one that a script may have, its first block stands
--- at height 0, and each of its lives is of the form.
+abbrev pub midpoint_of : Script → ℕ
+midpoint_of script = non_zero_u64_get script.config.blocks_per_epoch / 2
+
+-- what a block's payload is, if it has one, is read under the script's limits
+abbrev pub IsBlockOfToday : Script → BlockLine → Type 0
+IsBlockOfToday script block =
+    (block.height < non_zero_u64_get script.config.blocks_per_epoch)
+    × IfSome block.payload (λ bytes. IsSome (unit_payload (record { most = non_zero_u32_get script.config.limit; version = script.config.max_mode.0; addressed = script.addressed }) bytes))
+
+-- The script is of a reshare without directories of addresses, its limit is one that a script may have, its blocks are of epoch 0
+-- and their payloads are read, its first block stands at height 0, and each of its lives is of the form.
 pub record IsFormOfToday (script : Script) : Type 0 where
   pub plain : script.addressed ≡ false
   pub reshares : script.config.oneshot ≡ None
   pub few : non_zero_u32_get script.config.limit ≤ 2 ^ 30
+  pub blocks : AllByRecursion (IsBlockOfToday script) script.blocks
   pub first : IfSome (slice_get script.blocks 0) (λ block. block.height ≡ 0)
-  pub lives : AllByRecursion IsLifeOfToday script.lives
+  pub lives : AllByRecursion (IsLifeOfToday (midpoint_of script) script.blocks) script.lives

@@ -15,8 +15,8 @@ pub mod Printing
 pub mod Progress
 pub mod Promise
 pub mod Readings
-pub mod Schedule
 pub mod Scripts
 pub mod Setting
 pub mod Starts
 pub mod Words
+pub use Rattle.dkg_ceremony.specs.Schedule

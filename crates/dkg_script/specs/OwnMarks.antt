@@ -4,14 +4,14 @@ use Rattle.std.specs.List.{AllByRecursion}
 use Rattle.dkg_ceremony.specs.declared.dealer_log.DealerLog.{DealerLog}
 use Rattle.dkg_ceremony.specs.ValidLogs.{bears_ack_of}
 use Rattle.dkg_journal.specs.Records as journal
+use Rattle.dkg_store.specs.Noted.{noted_log}
 use Rattle.dkg_types.specs.declared.entry.Entry.{Entry}
 use Rattle.dkg_types.specs.declared.entry.Entry.TheVariants.{Step, Cut}
 use Rattle.dkg_types.specs.declared.entry.Restored.{Restored}
 use Rattle.dkg_script.specs.declared.script.Event.{Event}
 use Rattle.dkg_script.specs.declared.script.Event.TheVariants.{Final}
 use Rattle.dkg_script.specs.Schedule.{epoch_of}
-use Rattle.dkg_script.specs.Readings.{log_in_entry}
-use Rattle.dkg_script.specs.Setting.{Setting, me, limits, blocks_per_epoch, life_at, listed, recovered_from}
+use Rattle.dkg_script.specs.Setting.{Setting, me, blocks_per_epoch, life_at, listed, recovered_from}
 use Rattle.dkg_script.specs.Blocks.{Block, block_at, round_at}
 use Rattle.dkg_script.specs.Position.{event_of_step}
 use Rattle.dkg_script.specs.Progress.{Progress, AtEachEntry, pair_of}
@@ -39,10 +39,14 @@ IsKnownAt s p (Step step) = IsKnownInStep s p
 IsKnownAt s p (Cut step call) = 0 < call → IsKnownInStep s p
 IsKnownAt s p _ = Unit {0}
 
--- an entry of the journal that is a log
+-- an entry of the journal that records a log
 abbrev pub IsKnownInEntry : Setting → List Restored → journal.Entry → Type 0
-IsKnownInEntry s pairs entry = IfSome (log_in_entry (limits s) entry) (λ p. IsOwnMarkKnown s pairs entry.0 p.0 p.1)
+IsKnownInEntry s pairs entry = IfSome (noted_log entry) (λ note. IsOwnMarkKnown s pairs note.0.0 note.0.1 note.1)
+
+-- each log that the devices handed in record
+abbrev pub AreKnownHandedIn : Setting → Type 0
+AreKnownHandedIn s = AllByRecursion (IsKnownInEntry s (listed (recovered_from s.files s.secrets))) (journal.entries s.files)
 
 pub record OwnMarks (s : Setting) (out : List Entry) : Type 0 where
   pub delivered : AtEachEntry s (IsKnownAt s) out
-  pub handed_in : AllByRecursion (IsKnownInEntry s (listed (recovered_from s.files s.secrets))) (journal.entries s.files)
+  pub handed_in : AreKnownHandedIn s

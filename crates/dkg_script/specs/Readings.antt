@@ -5,7 +5,6 @@ use Rattle.dkg_values.specs.Codec.{Reading, whole}
 use Rattle.dkg_values.specs.Bytes.{bytes_at}
 use Rattle.dkg_values.specs.Joined.{beside_at}
 use Rattle.dkg_values.specs.Uint.{uint_at}
-use Rattle.dkg_ceremony.specs.declared.dealer_log.DealerLog.{DealerLog}
 use Rattle.dkg_ceremony.specs.declared.signed_log.SignedDealerLog.{SignedDealerLog}
 use Rattle.dkg_types.specs.declared.directory.Unit as directory
 use Rattle.dkg_types.specs.declared.info.EpochInfo.{EpochInfo}
@@ -16,7 +15,6 @@ use Rattle.dkg_types.specs.MessageCodes.{message_at}
 use Rattle.dkg_types.specs.InfoCodes.{info_at}
 use Rattle.dkg_types.specs.PayloadCodes.{payload_at, its_info, its_log}
 use Rattle.dkg_types.specs.Units.{unit_at, unit_spelling}
-use Rattle.dkg_journal.specs.Records.{Entry}
 
 -- what a reader is told: the participant limit, the newest mode of a sharing, and whether directories hold addresses
 pub record Limits : Type 0 where
@@ -68,10 +66,6 @@ info_in limits bytes = if limits.addressed then None else option_and_then (carri
 -- the log that a block's payload is
 unfoldable pub log_in : Limits → List ℕ → Option SignedDealerLog
 log_in limits bytes = if limits.addressed then None else option_and_then its_log (unit_payload limits bytes)
-
--- the dealer and the log that an entry of the journal records, beside its epoch (no entry records one yet)
-unfoldable pub log_in_entry : Limits → Entry → Option (ℕ × DealerLog)
-log_in_entry limits entry = None
 
 -- START MATERIAL
 

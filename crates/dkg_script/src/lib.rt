@@ -1,10 +1,13 @@
 //! Scripts of a node's lives and the text of scripts and transcripts.
 #![tactic(auto)]
 
+mod block_lines;
 mod error;
 mod fault;
 mod fields;
+mod life_lines;
 mod lines;
+mod named;
 mod print;
 mod promise;
 mod read;

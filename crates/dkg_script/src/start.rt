@@ -1,9 +1,8 @@
-//! Whether a block's payload starts the lives of a script: an info of epoch 0 under the script's limits,
-//! with this node among its players.
+//! Whether a block's payload starts the lives of a script: an info of epoch 0 under the script's limits.
 //!
-//! The reader of scripts asks it of the one block that there is yet.
+//! The reader of scripts asks it of the first block.
 ghost use Rattle.std.specs.Bool.{OnTrue};
-ghost use Rattle.std.specs.Prelude.{◌≡◌, ◌↔◌, IfOk, IfSome, IsOk, IsTrue, Ok, Some, [], Contains};
+ghost use Rattle.std.specs.Prelude.{◌≡◌, ◌↔◌, IfOk, IfSome, IsOk, IsTrue, Ok, Some, []};
 ghost use Rattle.std.specs.Int.NonZero.{non_zero_u32_get};
 ghost use Rattle.dkg_ceremony.specs.Rounds.{round_of};
 ghost use Rattle.dkg_ceremony.specs.declared.mode.Mode.TheVariants.{NonZeroCounter};
@@ -66,9 +65,9 @@ fn has_round(alloc: Global, info: &EpochInfo<Unit>) -> Mem<bool>
 }
 
 fn is_start(alloc: Global, config: &ScriptConfig, info: &EpochInfo<Unit>) -> Mem<bool>
-    ensures { IfOk result (λ yes. IsTrue yes ↔ Starts (non_zero_u32_get config.now.limit) config.now.me info.now) }
+    ensures { IfOk result (λ yes. IsTrue yes ↔ Starts (non_zero_u32_get config.now.limit) info.now) }
 {
-    if info.epoch != Epoch(0) || !info.players.has(config.me) {
+    if info.epoch != Epoch(0) {
         return Ok(false);
     }
     Ok(are_valid(alloc, config.limit, info)? && has_round(alloc, info)?)
@@ -76,8 +75,8 @@ fn is_start(alloc: Global, config: &ScriptConfig, info: &EpochInfo<Unit>) -> Mem
 
 /// Whether the encoded payload starts the lives.
 pub(crate) fn starts(alloc: Global, config: &ScriptConfig, payload: &[u8]) -> Mem<bool>
-    ensures value { IfOk result (λ yes. yes ≡ is_start_of (non_zero_u32_get config.now.limit) config.now.max_mode.0 config.now.me payload.now) }
-    ensures start { IfOk result (λ yes. OnTrue yes (IsStart (non_zero_u32_get config.now.limit) config.now.max_mode.0 config.now.me payload.now)) }
+    ensures value { IfOk result (λ yes. yes ≡ is_start_of (non_zero_u32_get config.now.limit) config.now.max_mode.0 payload.now) }
+    ensures start { IfOk result (λ yes. OnTrue yes (IsStart (non_zero_u32_get config.now.limit) config.now.max_mode.0 payload.now)) }
 {
     match info_of(alloc, config, payload)? {
         Some(info) => is_start(alloc, config, &info),

@@ -2,8 +2,8 @@
 
 use crate::error::ScriptError;
 use crate::read::read_script;
-use crate::script::{Event, Script};
-use dkg_ceremony::Key;
+use crate::script::{Anchor, Cut, Event, Script};
+use dkg_ceremony::{Height, Key};
 use std::alloc::Global;
 use std::process::Abort;
 use std::test::Fail;
@@ -11,6 +11,10 @@ use std::test::Fail;
 /// One dealing to a node of four: 289 bytes.
 const ONE_DEALING: &str =
     "dkg 1\nme 1\nblocks 8\nlimit 4\nmode 0 0\nspace -\nblock 0 - 0 0100000000000000000000000403000500010002040000000100000002000000030000000404000000010000000200000003000000040004000000010000000200000003000000040400000001000000020000000300000004\nlife 9\nheld 0\npeer 2 0003000f000700010017\nstop 0\nend\n";
+
+/// More blocks, a life that is cut before its second event, and the begin of a life.
+const WIDER: &str =
+    "block 1 0 5 -\nblock 3 1 0 -\nblock 7 - 0 -\nlife 1\nprocessed 1\nheld 0 2 3\nfinal 2\nfinal 0\ncut 1 0 6\nstop 2\nlife 9\nabsent 2\nheld 0\n";
 
 /// The script with the first such part replaced.
 fn changed(alloc: Global, part: &str, by: &str) -> Result<String, Fail> {
@@ -67,6 +71,48 @@ fn lives_and_messages_repeat(rt: HostRuntime) -> Result<(), Fail> {
 }
 
 #[test]
+fn blocks_positions_deliveries_and_cuts_are_read(rt: HostRuntime) -> Result<(), Fail> {
+    let script = read(rt.alloc(), "life 9\nheld 0\n", WIDER)?;
+    assert_eq!(rt; script.blocks.as_slice().len(), 4);
+    let block = &script.blocks.as_slice()[2];
+    assert_eq!(rt; block.height, Height(3));
+    assert_eq!(rt; block.parent, Some(1));
+    assert_eq!(rt; script.lives.as_slice().len(), 2);
+    let life = &script.lives.as_slice()[0];
+    assert_eq!(rt; life.anchor, Some(Anchor::Processed(1)));
+    assert_eq!(rt; life.held.as_slice(), [0u32, 2, 3].as_slice());
+    assert_eq!(rt; life.events.as_slice().len(), 2);
+    let cut = Cut {
+        step: 1,
+        call: 0,
+        pick: 6,
+    };
+    assert_eq!(rt; life.cut, Some(cut));
+    let anchor = script.lives.as_slice()[1].anchor;
+    assert_eq!(rt; anchor, Some(Anchor::Absent(2)));
+    Ok(())
+}
+
+#[test]
+fn a_script_may_have_no_block_and_no_life(rt: HostRuntime) -> Result<(), Fail> {
+    let text = "dkg 1\nme 1\nblocks 8\nlimit 4\nmode 0 0\nspace -\nend\n";
+    let script = read_script(rt.alloc(), text.as_bytes(), false)?;
+    assert_eq!(rt; script.blocks.as_slice().len(), 0);
+    assert_eq!(rt; script.lives.as_slice().len(), 0);
+    let lives = "life 9\nheld 0\npeer 2 0003000f000700010017\nstop 0\n";
+    let script = read(rt.alloc(), lives, "")?;
+    assert_eq!(rt; script.lives.as_slice().len(), 0);
+    Ok(())
+}
+
+#[test]
+fn the_node_may_be_no_player(rt: HostRuntime) -> Result<(), Fail> {
+    let script = read(rt.alloc(), "me 1", "me 9")?;
+    assert_eq!(rt; script.config.me, Key(9));
+    Ok(())
+}
+
+#[test]
 fn the_first_lines_have_one_form(rt: HostRuntime) -> Result<(), Fail> {
     for (part, by, place) in [
         ("dkg 1\n", "", 0),
@@ -93,7 +139,6 @@ fn the_first_lines_have_one_form(rt: HostRuntime) -> Result<(), Fail> {
 #[test]
 fn the_block_carries_an_info_that_starts(rt: HostRuntime) -> Result<(), Fail> {
     for (part, by, place) in [
-        ("me 1", "me 9", 45),
         ("limit 4", "limit 3", 45),
         ("block 0 - 0 0100", "block 0 0 0 0100", 45),
         (
@@ -130,13 +175,38 @@ fn a_life_has_one_form(rt: HostRuntime) -> Result<(), Fail> {
         ("000f", "000F", 250),
         ("peer 2 0003", "peer 2 0003é", 250),
         ("peer 2 ", "poor 2 ", 250),
-        (
-            "life 9\nheld 0\npeer 2 0003000f000700010017\nstop 0\n",
-            "",
-            236,
-        ),
     ] {
         misses(&rt, part, by, place)?;
+    }
+    Ok(())
+}
+
+#[test]
+fn later_blocks_and_what_names_them_have_one_form(rt: HostRuntime) -> Result<(), Fail> {
+    for (by, place) in [
+        ("block 8 0 0 -\nlife 9\nheld 0\n", 236),
+        ("block 1 1 0 -\nlife 9\nheld 0\n", 236),
+        ("block 1 0 0 00\nlife 9\nheld 0\n", 236),
+        ("block 1 0 0\nlife 9\nheld 0\n", 236),
+        ("block 1 0 0 -\nlife 9\nheld 1\n", 257),
+        ("block 1 0 0 -\nlife 9\nheld 0 0\n", 257),
+        ("block 1 0 0 -\nlife 9\nheld 0 2\n", 257),
+        ("block 1 0 0 -\nlife 9\nheld 0  1\n", 257),
+        ("block 3 0 0 -\nlife 9\nprocessed 1\nheld 0\n", 257),
+        ("block 4 0 0 -\nlife 9\nabsent 1\nheld 0\n", 257),
+        ("life 9\nabsent 0\nheld 0\n", 243),
+        ("block 4 0 0 -\nlife 9\nheld 0\nfinal 1\n", 264),
+        ("life 9\nheld 0\nfinal 1\n", 250),
+    ] {
+        misses(&rt, "life 9\nheld 0\n", by, place)?;
+    }
+    Ok(())
+}
+
+#[test]
+fn a_cut_is_before_a_step(rt: HostRuntime) -> Result<(), Fail> {
+    for by in ["cut 2 0 0\nstop 0", "cut 1 1 0\nstop 0", "cut 1 0\nstop 0"] {
+        misses(&rt, "stop 0", by, 278)?;
     }
     Ok(())
 }
