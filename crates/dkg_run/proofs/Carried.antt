@@ -6,17 +6,19 @@ use Rattle.std.specs.Option.{option_or}
 use Rattle.dkg_journal.specs.Disk.{Lands}
 use Rattle.dkg_journal.specs.Names.{Files}
 use Rattle.dkg_journal.specs.Records.{entries}
+use Rattle.dkg_store.specs.Noted.{logs_in}
 use Rattle.dkg_store.specs.Pairs.{Pairs, Holds, HoldsEither, IsWhole, recovered}
 use Rattle.dkg_store.specs.Secrets.{Secrets}
+use Rattle.dkg_types.specs.declared.entry.Entry.{Entry}
 use Rattle.dkg_types.specs.declared.entry.Entry.TheVariants as entry
 use Rattle.dkg_types.specs.declared.entry.Restored.{Restored}
 use Rattle.dkg_script.specs.declared.script.Cut as cut
 use Rattle.dkg_script.specs.declared.script.Life.{Life}
-use Rattle.dkg_script.specs.Form.{IsLifeOfToday}
+use Rattle.dkg_script.specs.Form.{IsLifeOfToday, midpoint_of}
 use Rattle.dkg_script.specs.Kept.{IsSoundOpening, IsDurable, IsRecordedAs, IsBroughtAtCut, IsLaterOpening, Gives}
 use Rattle.dkg_script.specs.Position.{IsPlanHistory, IsLeft, awaited_epoch, begun, begun_before, cut_of, material, unless_outdated}
 use Rattle.dkg_script.specs.Blocks.{provided}
-use Rattle.dkg_script.specs.Progress.{Progress, read, at_start, pair_of, with_pair, IsBrought}
+use Rattle.dkg_script.specs.Progress.{Progress, read, at_start, is_last_step, pair_of, with_life_ended, with_pair, IsBrought}
 use Rattle.dkg_script.specs.Promise.{AreHonestStores}
 use Rattle.dkg_script.specs.Setting.{Setting, CutAt, is_oneshot, found, life_at, listed, recovered_from}
 use Rattle.dkg_script.proofs.Beginning.{gives_all, pair_of-listed}
@@ -24,8 +26,10 @@ use Rattle.dkg_script.proofs.Openings.{lists_them}
 use Rattle.dkg_script.proofs.Today.{plain_of, awaits_epoch_zero}
 use Rattle.dkg_run.specs.declared.stop.Stop.{Stop}
 use Rattle.dkg_run.specs.declared.stop.Stop.TheVariants.{Cut as AtCut}
-use Rattle.dkg_run.specs.Carried.{IsTodays, IsKeptEntry, AreRecorded, MayBeRecorded, Rests, Carries, IsSaved}
-use Rattle.dkg_run.proofs.Recorded.{all_current, with_all_finds, all_with_all}
+use Rattle.dkg_run.specs.Carried.{IsTodays, IsKeptEntry, AreRecorded, KeepsHandedIn, MayBeRecorded, Rests, Carries, IsSaved}
+use Rattle.dkg_run.specs.Devices.{KeepsLogs}
+use Rattle.dkg_run.proofs.Logs.{fewer_logs}
+use Rattle.dkg_run.proofs.Recorded.{all_current, with_all_finds, with_pair_finds, all_with_all}
 
 -- WHAT IS BUILT TODAY: no life finds or has material, and epoch 0 is awaited
 
@@ -43,8 +47,8 @@ form_at P (y ∷ xs) (suc i) x all e = form_at P xs i x all.1 e
 pub finds_none : (s : Setting) (l : ℕ) → IsTodays s → found s l ≡ None
 finds_none s l today = rw today.no_plans refl
 
-pub life_today : (s : Setting) (l : ℕ) (life : Life) → IsTodays s → life_at s l ≡ Some life → IsLifeOfToday life
-life_today s l life today is = form_at IsLifeOfToday s.script.lives l life today.built.form.lives is
+pub life_today : (s : Setting) (l : ℕ) (life : Life) → IsTodays s → life_at s l ≡ Some life → IsLifeOfToday (midpoint_of s.script) s.script.blocks life
+life_today s l life today is = form_at (IsLifeOfToday (midpoint_of s.script) s.script.blocks) s.script.lives l life today.built.form.lives is
 
 pub awaits_zero : (s : Setting) (l : ℕ) (life : Life) (n : ℕ) → IsTodays s → life_at s l ≡ Some life → awaited_epoch s l life n ≡ 0
 awaits_zero s l life n today is = awaits_epoch_zero s l life n (life_today s l life today is) (finds_none s l today)
@@ -99,6 +103,29 @@ durable_at s p q image held cuts step recorded durable = record {
   gives = λ c is. rw (cuts, step, recorded) (durable.gives c is);
 }
 
+-- WHAT WAS HANDED IN STAYS
+
+-- no entry takes a recorded dealing away
+grown : (s : Setting) (p : Progress) (one : Entry) (pair : Restored) → pair_of p.recorded pair.epoch pair.dealer ≡ Some pair → pair_of (read s p one).recorded pair.epoch pair.dealer ≡ Some pair
+grown s p (entry.Opened life restored) pair there = with_all_finds restored p.recorded pair.epoch pair.dealer ∙ (rw there refl)
+grown s p (entry.Recorded epoch dealer public private) pair there =
+    with_pair_finds p.recorded (record { epoch = epoch; dealer = dealer; public = public; private = private }) pair.epoch pair.dealer ∙ (rw there refl)
+grown s p (entry.Step step) pair there = by_last (is_last_step s p)
+  where
+    by_last : (last : Bool) → pair_of (cond last (with_life_ended p None) (record p { step = suc p.step; written = [] })).recorded pair.epoch pair.dealer ≡ Some pair
+    by_last true = there
+    by_last false = there
+grown s p _ pair there = there
+
+pub handed_on : (s : Setting) (p : Progress) (image now : Files → Type 0) → KeepsLogs image now → KeepsHandedIn s p image → KeepsHandedIn s p now
+handed_on s p image now stay handed = record { dealings = handed.dealings; logs = stay.stay (logs_in (entries s.files)) handed.logs }
+
+pub handed_read : (s : Setting) (p : Progress) (one : Entry) (image now : Files → Type 0) → KeepsLogs image now → KeepsHandedIn s p image → KeepsHandedIn s (read s p one) now
+handed_read s p one image now stay handed = record {
+  dealings = λ pair given. grown s p one pair (handed.dealings pair given);
+  logs = stay.stay (logs_in (entries s.files)) handed.logs;
+}
+
 -- THE FIRST LIFE IS STILL TO COME
 
 pub rests_at_start : (s : Setting) (image : Files → Type 0) → IsTodays s → AreHonestStores s image → Rests image s.secrets s (at_start s)
@@ -113,6 +140,10 @@ rests_at_start s image today honest = record {
     given = gives_all (recovered_from s.files s.secrets);
     known = λ pair given. inl (known pair given);
     first = λ none. refl;
+  };
+  handed = record {
+    dealings = known;
+    logs = record { each = λ c is. ap (λ (f : Files). logs_in (entries f)) (honest.nothing_loose.only c is) };
   };
 }
   where
@@ -157,13 +188,14 @@ module _ (s : Setting) (p : Progress) (m : Pairs) (may : MayBeRecorded s p m) wh
   keeps_opening l = (opens_soundly, tt)
 
   pub carries_opened : (l : ℕ) (Knows : Setting → Type 0) (image : Files → Type 0) (held : Secrets) → IsTodays s → Knows s → length p.cuts ≡ l → Holds m image held
-      → Carries l Knows image held m s (read s p (entry.Opened l (listed m)))
-  carries_opened l Knows image held today knows lives holds = record {
+      → KeepsHandedIn s (read s p (entry.Opened l (listed m))) image → Carries l Knows image held m s (read s p (entry.Opened l (listed m)))
+  carries_opened l Knows image held today knows lives holds handed = record {
     today = today;
     knows = knows;
     opened = ap (λ (n : ℕ). Some n) lives;
     holds = holds;
     are = record { given = all_with_all (Gives m) (listed m) p.recorded may.given (gives_all m); known = found_then };
+    handed = handed;
   }
 
 -- .. OR NOT
@@ -206,12 +238,13 @@ may_still s p q cut m opened recorded cuts may = record {
 
 -- an opening that stopped before its entry
 pub saved_unopened : (life : Life) (stop : Stop) (image : Files → Type 0) (held : Secrets) (s : Setting) (p : Progress) (m : Pairs) → IsTodays s → MayBeRecorded s p m → Holds m image held
-    → IsSaved life stop image held s p
-saved_unopened life stop image held s p m today may holds = record {
+    → KeepsHandedIn s p image → IsSaved life stop image held s p
+saved_unopened life stop image held s p m today may holds handed = record {
   today = today;
   durable = durable_of s p m image held holds may.given;
   at_cut = λ is its its_is c here. rw (holds.gives c here)
       (may_still s p (read s p (entry.Cut its.step its.call)) (Some (record { step = its.step; call = its.call })) m refl refl refl may);
+  handed = handed;
 }
 
 -- A LIFE THAT HAS OPENED STOPS, with nothing new
@@ -224,8 +257,8 @@ may_of s p l m opened are = record {
 }
 
 pub saved_opened : (life : Life) (stop : Stop) (l : ℕ) (image : Files → Type 0) (held : Secrets) (m : Pairs) (s : Setting) (p : Progress)
-    → IsTodays s → p.opened ≡ Some l → AreRecorded m p.recorded → Holds m image held → IsSaved life stop image held s p
-saved_opened life stop l image held m s p today opened are holds = saved_unopened life stop image held s p m today (may_of s p l m opened are) holds
+    → IsTodays s → p.opened ≡ Some l → AreRecorded m p.recorded → Holds m image held → KeepsHandedIn s p image → IsSaved life stop image held s p
+saved_opened life stop l image held m s p today opened are holds handed = saved_unopened life stop image held s p m today (may_of s p l m opened are) holds handed
 
 -- THE DEVICES CRASH
 
@@ -240,6 +273,7 @@ rests_at_end l Knows image now held m s p narrows carries = record {
   pairs = m;
   holds = fewer_holds m image now held narrows carries.holds;
   may = may_of s p l m carries.opened carries.are;
+  handed = handed_on s p image now (fewer_logs image now narrows) carries.handed;
 }
 
 -- at a cut
@@ -254,6 +288,7 @@ rests_at_cut life its image now files held s p its_is reads lands narrows saved 
     gives = λ c is. ap (λ (f : Files). recovered (entries f) held) (lands.only c is);
   };
   may = saved.at_cut refl its its_is files (narrows files reads);
+  handed = handed_read s p (entry.Cut its.step its.call) image now (fewer_logs image now narrows) saved.handed;
 }
 
 -- .. whose entry found no memory

@@ -1,6 +1,6 @@
 -- An empty disk and an empty secret store are fresh.
 use Rattle.std.proofs.Common.{◌≡◌, List, [], sym, subst, ◌∙◌}
-use Rattle.std.specs.FinMap.{get, empty, get-empty, same_map}
+use Rattle.std.specs.FinMap.{get, get-empty, same_map}
 use Rattle.dkg_values.specs.declared.name.Name.TheVariants.{Plan, Segment}
 use Rattle.dkg_journal.specs.Names.{Files, name_cmp}
 use Rattle.dkg_journal.specs.Records.{Entry}

@@ -1,5 +1,5 @@
 -- What a whole run keeps and answers, from the places that its entries move through.
-use Rattle.std.proofs.Common.{List, [], ◌∷◌, ◌++◌, ◌≡◌, refl, ap, ◌∙◌, append_assoc, length, inl, inr}
+use Rattle.std.proofs.Common.{ℕ, ◌<◌, List, [], ◌∷◌, ◌++◌, ◌≡◌, refl, ap, sym, ◌∙◌, append_assoc, length, inl, inr, arith}
 use Rattle.std.specs.Prelude.{fold}
 use Rattle.std.proofs.lemmas.List.Sums.{fold-append}
 use Rattle.dkg_journal.specs.Names.{Files}
@@ -13,23 +13,32 @@ use Rattle.dkg_script.specs.Progress.{Progress, read, at_start, progress}
 use Rattle.dkg_script.specs.Promise.{Adds, IsBuilt, IsHonestRun, KeepsDealings, AnswersDealings, cuts_in}
 use Rattle.dkg_script.specs.Setting.{Setting, setting_of}
 use Rattle.dkg_script.proofs.EachEntry.{at_each}
+use Rattle.dkg_script.proofs.Today.{plain_of}
 use Rattle.dkg_run.specs.Carried.{IsTodays, IsKeptEntry, IsAnsweredStep, IsDurableAt, Rests}
 use Rattle.dkg_run.specs.Standing.{Each, Moves, Both, IsBetweenOf, TellsFault}
 use Rattle.dkg_run.proofs.Carried.{is_history, rests_at_start, durable_of, durable_at}
 use Rattle.dkg_run.proofs.Places.{each_of_both, moves_within}
 use Rattle.dkg_run.proofs.Runs.{each_after, starts}
 
+none_below : (n : ℕ) → n < 0 → ⊥
+none_below n below = omega arith
+
 each_map : (s : Setting) (E F : Progress → Entry → Type 0) (xs : List Entry) (p : Progress) → ((q : Progress) (one : Entry) → E q one → F q one) → Each s E p xs → Each s F p xs
 each_map s E F [] p leads each = tt
 each_map s E F (x ∷ xs) p leads each = (leads p x each.0, each_map s E F xs (read s p x) leads each.1)
 
 module _ (script : Script) (files : Files) (held_old : Secrets) (image : Files → Type 0) (old new : List Entry) where
-  today : IsBuilt (setting_of script files held_old) → IsTodays (setting_of script files held_old)
-  today built = record { built = built; no_plans = refl }
+  -- (the script is consistent where none of its lives has ended)
+  today : IsBuilt (setting_of script files held_old) → IsHonestRun (setting_of script files held_old) image → IsTodays (setting_of script files held_old)
+  today built honest = record {
+    built = built;
+    no_plans = refl;
+    consistent = honest.source [] tt [] (record { first = sym (plain_of (setting_of script files held_old) built).no_record; next = λ l below. absurd (none_below l below) });
+  }
 
-  from : IsBuilt (setting_of script files held_old) → IsHonestRun (setting_of script files held_old) image
+  pub from : IsBuilt (setting_of script files held_old) → IsHonestRun (setting_of script files held_old) image
       → Both (IsBetweenOf script 0) (Rests image held_old) (setting_of script files held_old) (at_start (setting_of script files held_old))
-  from built honest = (starts script files held_old, rests_at_start (setting_of script files held_old) image (today built) honest.stores)
+  from built honest = (starts script files held_old, rests_at_start (setting_of script files held_old) image (today built honest) honest.stores)
 
   keeps_of : (now : Files → Type 0) (held : Secrets) (added : List Entry) → new ≡ old ++ added
       → (let s = setting_of script files held_old in IsBuilt s → IsHonestRun s image → Each s (IsKeptEntry s) (at_start s) added × IsDurable s (fold (read s) (at_start s) added) now held)
@@ -41,7 +50,7 @@ module _ (script : Script) (files : Files) (held_old : Secrets) (image : Files �
     λ built honest.
         let s = setting_of script files held_old in (
           [],
-          is_history s (cuts_in s added) (today built),
+          is_history s (cuts_in s added) (today built honest),
           record {
             each = at_each s (IsSound s) added (each_after s (IsSound s) added (at_start s)
                 (each_map s (IsKeptEntry s) (IsSound s) added (at_start s) (λ q one is. is.0) (all built honest).0));
@@ -84,7 +93,7 @@ module _ (script : Script) (files : Files) (held_old : Secrets) (image : Files �
           answered = λ before after step is own case.
               at_each s (IsAnsweredStep s) a.added (each_after s (IsAnsweredStep s) a.added (at_start s)
               (each_map s (IsKeptEntry s) (IsAnsweredStep s) a.added (at_start s) (λ q one each. each.1) (a.each s (at_start s) (from built honest))))
-              before (entry.Step step) after is (case [] (is_history s (cuts_in s before) (today built)));
+              before (entry.Step step) after is own.handed_in (case [] (is_history s (cuts_in s before) (today built honest)));
         },
   )
 

@@ -1,9 +1,11 @@
 -- How what the devices carry goes together with where a run stands, over one life and over all.
-use Rattle.std.proofs.Common.{ℕ, ◌+◌, ◌<◌, length, List, [], ◌∷◌, ◌++◌, ◌≡◌, refl, sym, ap, subst, ◌∙◌, Option, Some, None, false, inl, inr}
+use Rattle.std.proofs.Common.{ℕ, ◌+◌, ◌<◌, arith, length, List, [], ◌∷◌, ◌++◌, ◌≡◌, refl, sym, ap, subst, ◌∙◌, Option, Some, None, false, inl, inr}
 use Rattle.std.specs.Prelude.{fold, slice_get, IfSome, IsSomeAnd, ◌-◌, ◌⊎◌}
 use Rattle.std.proofs.lemmas.List.{append_cancel_left}
 use Rattle.std.specs.List.{AllByRecursion}
+use Rattle.dkg_ceremony.specs.declared.dealer_log.DealerLog.{DealerLog}
 use Rattle.dkg_journal.specs.Names.{Files}
+use Rattle.dkg_store.specs.Noted.{Notes, logs_in}
 use Rattle.dkg_store.specs.Pairs.{Pairs, Holds, recovered}
 use Rattle.dkg_journal.specs.Records.{entries}
 use Rattle.dkg_store.specs.Secrets.{Secrets}
@@ -14,6 +16,7 @@ use Rattle.dkg_script.specs.declared.script.Life.{Life}
 use Rattle.dkg_script.specs.declared.script.Script.{Script}
 use Rattle.dkg_script.specs.Due.{IsDueIn, IsDueEvent}
 use Rattle.dkg_script.specs.Ends.{EndsWell, is_fault}
+use Rattle.dkg_script.specs.Kept.{Gives}
 use Rattle.dkg_script.specs.Order.{IsInOrder}
 use Rattle.dkg_script.specs.Position.{awaited_epoch, event_of_step}
 use Rattle.dkg_script.specs.Progress.{Progress, read}
@@ -21,13 +24,15 @@ use Rattle.dkg_script.specs.Setting.{Setting, life_at, listed}
 use Rattle.dkg_run.specs.declared.stop.Stop.{Stop}
 use Rattle.dkg_run.specs.declared.stop.Stop.TheVariants.{Cut as AtCut}
 use Rattle.dkg_run.specs.Carried.{IsKeptEntry, MayBeRecorded, Rests, RestsFor, IsBeginningOf, Carries, IsSaved, IsDurableAt, IsCrash}
+use Rattle.dkg_run.specs.Devices.{KeepsLogs}
 use Rattle.dkg_run.specs.declared.beginning.Beginning.{Beginning}
 use Rattle.dkg_run.specs.Standing.{Each, Moves, Both, IsBetween, IsBetweenOf, IsBefore, IsAtCut, IsBehind}
 use Rattle.dkg_run.specs.Opened.{IsOfSetUp, TellsOpening}
-use Rattle.dkg_run.proofs.Carried.{carries_opened, keeps_opening, saved_unopened, fewer_holds, rests_at_end, rests_at_cut, durable_of, durable_then}
+use Rattle.dkg_run.proofs.Carried.{carries_opened, handed_on, handed_read, keeps_opening, saved_unopened, fewer_holds, rests_at_end, rests_at_cut, durable_of, durable_then}
 use Rattle.dkg_run.proofs.InPlace.{life_begins}
 use Rattle.dkg_run.proofs.Runs.{moves_life}
 use Rattle.dkg_run.proofs.Stepped.{IsSettled, carried_saved, carries_on, moves_settled}
+use Rattle.dkg_run.proofs.Logs.{fewer_logs, same_logs}
 use Rattle.dkg_run.proofs.Places.{moves_then, moves_within, moves_none, moves_one}
 
 -- TWO PLACES AT ONCE
@@ -47,6 +52,9 @@ moves_both E F P C Q D old new a b = record {
     same = append_cancel_left old a.added b.added (sym a.parts ∙ b.parts)
 
 -- A LIFE'S STEPS
+
+pub back_one : (i : ℕ) → i + 1 - 1 ≡ i
+back_one i = omega arith
 
 pub next_kept : (life : Life) (l j : ℕ) (P C D : Setting → Progress → Type 0) (old mid new : List Entry) → j < length life.events
     → Moves IsKeptEntry P (Both (IsBehind life l j) C) old mid → Moves IsKeptEntry (Both (IsBefore life l (j + 1)) C) D mid new → Moves IsKeptEntry P D old new
@@ -75,7 +83,7 @@ pub record IsAtOpening (life : Life) (s : Setting) (p : Progress) : Type 0 where
   pub step : p.step ≡ 0
 
 none_due : (life : Life) (s : Setting) (p : Progress) → IsAtOpening life s p → IsSettled s p
-none_due life s p at due =
+none_due life s p at known due =
     let of_life : IsDueIn s p life = rw at.life_is at due in
     let event : IsSomeAnd (event_of_step life p.step) (IsDueEvent s p (awaited_epoch s (length p.cuts) life (p.step - 1))) = of_life.dealing in
     absurd (rw at.step at event)
@@ -90,7 +98,7 @@ module _ (life : Life) (l : ℕ) (Knows : Setting → Type 0) (image : Files →
       let kept = set_up_kept s p one set_up.0 in
       let same = kept.1 in
       let rest = all_set_up s more (read s p one) set_up.1 (
-        carries_on l Knows image image held held m m s p (read s p one) same.opened (λ holds. holds) (rw same.recorded at.0.are) at.0,
+        carries_on l Knows image image held held m m (same_logs image) s p one same.opened (λ holds. holds) (rw same.recorded at.0.are) at.0,
         record { life_is = rw same.cuts at.1.life_is; step = same.step ∙ at.1.step },
       ) in ((kept.0, rest.0), rest.1)
 
@@ -103,7 +111,15 @@ set_up_well (one ∷ more) set_up = rw (no_fault one set_up.0) (set_up_well more
     no_fault (entry.Fault fault) set_up = absurd set_up
     no_fault _ set_up = refl
 
-module _ (life : Life) (l : ℕ) (B : Setting → Type 0) (files : Files) (image now : Files → Type 0) (held held_now : Secrets) (reads : image files) (holds : (pairs : Pairs) → Holds pairs image held → Holds pairs now held_now) where
+-- between two lives a read gives what is recorded, and the logs that were handed in
+module _ (files : Files) (image : Files → Type 0) (held : Secrets) where
+  pub given_there : (m : Pairs) (s : Setting) (p : Progress) → image files → m ≡ recovered (entries files) held → Rests image held s p → AllByRecursion (Gives m) p.recorded
+  given_there m s p reads is rests = rw (is ∙ rests.holds.gives files reads) rests.may.given
+
+  pub logs_there : (logs : Notes DealerLog) (s : Setting) (p : Progress) → image files → logs ≡ logs_in (entries files) → Rests image held s p → logs ≡ logs_in (entries s.files)
+  logs_there logs s p reads is rests = is ∙ rests.handed.logs.each files reads
+
+module _ (life : Life) (l : ℕ) (B : Setting → Type 0) (files : Files) (image now : Files → Type 0) (held held_now : Secrets) (reads : image files) (holds : (pairs : Pairs) → Holds pairs image held → Holds pairs now held_now) (stay : KeepsLogs image now) where
   abbrev Begins : Setting → Progress → Type 0
   Begins = Both (IsBefore life l 0) (Both (λ s p. B s) (Rests image held))
 
@@ -126,7 +142,8 @@ module _ (life : Life) (l : ℕ) (B : Setting → Type 0) (files : Files) (image
 
       opened : (s : Setting) (p : Progress) → Begins s p → Opened life l Knows now held_now m s (read s p (entry.Opened l (listed m)))
       opened s p at = (
-        carries_opened s p m (may s p at) l Knows now held_now at.1.1.today (knows s p at) at.0.lives (rw (given_back m s p is at.1.1) (holds at.1.1.pairs at.1.1.holds)),
+        carries_opened s p m (may s p at) l Knows now held_now at.1.1.today (knows s p at) at.0.lives (rw (given_back m s p is at.1.1) (holds at.1.1.pairs at.1.1.holds))
+            (handed_read s p (entry.Opened l (listed m)) image now stay at.1.1.handed),
         record { life_is = rw at.0.lives at.0.life_is; step = at.0.step },
       )
 
@@ -142,7 +159,7 @@ module _ (life : Life) (l : ℕ) (B : Setting → Type 0) (files : Files) (image
   -- the opening stopped before it was told
   pub unopened_saved : (stop : Stop) (old new : List Entry) → new ≡ old → Moves IsKeptEntry Begins (IsSaved life stop now held_now) old new
   unopened_saved stop old new same = moves_none IsKeptEntry Begins (IsSaved life stop now held_now) old new same
-      (λ s p at. saved_unopened life stop now held_now s p at.1.1.pairs at.1.1.today at.1.1.may (holds at.1.1.pairs at.1.1.holds))
+      (λ s p at. saved_unopened life stop now held_now s p at.1.1.pairs at.1.1.today at.1.1.may (holds at.1.1.pairs at.1.1.holds) (handed_on s p image now stay at.1.1.handed))
 
   -- .. or behind it
   pub opened_saved : (stop : Stop) (m : Pairs) (old new : List Entry) → m ≡ recovered (entries files) held → TellsOpening l m old new → Moves IsKeptEntry Begins (IsSaved life stop now held_now) old new
@@ -168,7 +185,7 @@ carried_rests l Knows image held m P B old new a = moves_within IsKeptEntry P P 
     (λ s p at. rests_at_end l Knows image image held m s p (λ c is. is) at.1) a
 
 still_rests : (image now : Files → Type 0) (held : Secrets) (s : Setting) (p : Progress) → ((c : Files) → now c → image c) → Rests image held s p → Rests now held s p
-still_rests image now held s p narrows rests = record { today = rests.today; pairs = rests.pairs; holds = fewer_holds rests.pairs image now held narrows rests.holds; may = rests.may }
+still_rests image now held s p narrows rests = record { today = rests.today; pairs = rests.pairs; holds = fewer_holds rests.pairs image now held narrows rests.holds; may = rests.may; handed = handed_on s p image now (fewer_logs image now narrows) rests.handed }
 
 -- the devices stop between two lives
 pub moves_at_rest : (P : Setting → Progress → Type 0) (image now : Files → Type 0) (held held_now : Secrets) (old new : List Entry) → ((c : Files) → now c → image c) → held_now ≡ held
@@ -218,7 +235,7 @@ fault_durable life stop P image held old new a = moves_within IsKeptEntry P P (I
 
 module _ (script : Script) (life : Life) (l : ℕ) (beginning : Beginning) (life_is : slice_get script.lives l ≡ Some life) (begins : IsBeginningOf script beginning)
     (image now : Files → Type 0) (held held_now : Secrets) (old new : List Entry) where
-  life_from : (s : Setting) (p : Progress) → Both (IsBetweenOf script l) (Rests image held) s p → Both (IsBefore life l 0) (RestsFor beginning image held) s p
+  pub life_from : (s : Setting) (p : Progress) → Both (IsBetweenOf script l) (Rests image held) s p → Both (IsBefore life l 0) (RestsFor beginning image held) s p
   life_from s p at = (
     life_begins life l s p (ap (λ (x : Script). slice_get x.lives l) at.0.of_script ∙ life_is) at.0.between,
     (subst (λ (x : Script). IsBeginningOf x beginning) (sym at.0.of_script) begins, at.1),

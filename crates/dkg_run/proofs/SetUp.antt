@@ -1,24 +1,29 @@
 -- What setting a node up tells, and what it leaves of the recorded dealings.
-use Rattle.std.proofs.Common.{◌≡◌, ◌⊎◌, inr, ℕ, ◌<◌, ◌^◌, Bool, true, false, cond, List, [], ◌∷◌, ◌++◌, Option, Some, None, Result, Ok, Err, refl, sym, ap, subst, ◌∙◌, append_assoc, append-nil, nat_le, nat_lt, ◌&&◌, ◌==◌, filter, arith, IsTrue, ◌↔◌, Contains}
-use Rattle.std.specs.Prelude.{OnOk, OnErr, IfSome, if◌then◌else◌}
+use Rattle.std.proofs.Common.{◌≡◌, ◌⊎◌, inl, inr, ℕ, ◌<◌, ◌^◌, Bool, true, false, cond, List, [], ◌∷◌, ◌++◌, Option, Some, None, Result, Ok, Err, refl, sym, ap, subst, ◌∙◌, append_assoc, append-nil, nat_le, nat_lt, ◌&&◌, ◌==◌, filter, arith, IsTrue, ◌↔◌, Contains}
+use Rattle.std.specs.Prelude.{OnOk, OnErr, IfSome, if◌then◌else◌, is_some, not}
 use Rattle.dkg_values.specs.Rising.{has_key}
-use Rattle.dkg_values.specs.RisingLaws.{has_key-to}
+use Rattle.dkg_values.specs.RisingLaws.{has_key-from, has_key-to}
+use Rattle.dkg_ceremony.specs.declared.dealer_log.DealerLog.{DealerLog}
 use Rattle.dkg_ceremony.specs.declared.round.Round.{Round}
+use Rattle.dkg_journal.specs.Names.{Files}
 use Rattle.dkg_store.specs.declared.player.Player.{Player}
 use Rattle.std.specs.Ordering.{eq_by_cmp, is_eq}
 use Rattle.std.specs.declared.cmp.Ordering.{Ordering}
 use Rattle.std.specs.declared.cmp.Ordering.TheVariants.{Less, Equal, Greater}
-use Rattle.std.specs.FinMap.{find, get, get-entries, get-retain_keys, entries, retain_keys, same_map}
+use Rattle.std.specs.FinMap.{FinMap, find, get, get-entries, get-retain_keys, entries, retain_keys, same_map}
 use Rattle.std.proofs.lemmas.Bool.Decides.{nat_tests}
 use Rattle.dkg_store.specs.Keys.{key_cmp}
-use Rattle.dkg_store.specs.Pairs.{Pairs}
+use Rattle.dkg_store.specs.Noted.{Gives, GivesEither, Notes, logs_in}
+use Rattle.dkg_store.specs.Pairs.{Holds, HoldsEither, Pairs}
 use Rattle.dkg_store.specs.Recorded.{Pair, first_refused, of_epoch, refused_or}
+use Rattle.dkg_store.specs.Secrets.{Secrets}
 use Rattle.dkg_store.proofs.Map.{exact_keys, keys_total}
 use Rattle.dkg_ceremony.specs.Dealings.{dealing_of}
 use Rattle.dkg_ceremony.specs.declared.ceremony.DealingError.{DealingError}
 use Rattle.dkg_types.specs.declared.entry.Entry.{Entry}
 use Rattle.dkg_types.specs.declared.entry.Entry.TheVariants as entry
-use Rattle.dkg_run.specs.Opened.{AddsSetUp, IsOfSetUp, TellsOpening, seat_at}
+use Rattle.dkg_run.specs.Devices.{KeepsLogs}
+use Rattle.dkg_run.specs.Opened.{AddsSetUp, IsOfSetUp, TellsOpening, lacks_dealing, seat_at}
 use Rattle.dkg_run.specs.Told.{AreValid, Seat, seat_in}
 use Rattle.dkg_run.proofs.Places.{all_of_both}
 use Rattle.dkg_script.specs.Setting.{listed}
@@ -54,12 +59,22 @@ may_tell (Err e) Disk Secrets life pairs listing old mid new same told a = λ di
 
 -- NOTHING IS BELOW EPOCH 0
 
-none_below : (n : ℕ) → nat_le 0 n ≡ true
+pub none_below : (n : ℕ) → nat_le 0 n ≡ true
 none_below n = grind (arith, nat_tests)
 
-pub keeps_all : (m : Pairs) → retain_keys m (λ key. nat_le 0 key.0) ≡ m
+pub keeps_all : {V : Type 0} (m : FinMap key_cmp V) → retain_keys m (λ key. nat_le 0 key.0) ≡ m
 keeps_all m = same_map keys_total exact_keys _ _ (λ q. get-retain_keys m (λ key. nat_le 0 key.0) q (λ x tied. ap (λ (y : ℕ × ℕ). nat_le 0 y.0) (sym (exact_keys q x tied)))
     ∙ ap (λ b. cond b (get m q) None) (none_below q.0))
+
+-- so a prune leaves all that was recorded
+pub holds_pruned : (pairs : Pairs) (image : Files → Type 0) (held : Secrets) → HoldsEither pairs (retain_keys pairs (λ key. nat_le 0 key.0)) image held → Holds pairs image held
+holds_pruned pairs image held either = record { whole = either.whole; gives = λ c here. elim (either.gives c here) [ inl is ↦ is | inr is ↦ is ∙ keeps_all pairs ] }
+
+pub logs_pruned : (image next : Files → Type 0) → ((logs : Notes DealerLog) → Gives logs_in logs image → GivesEither logs_in logs (retain_keys logs (λ key. nat_le 0 key.0)) next)
+    → KeepsLogs image next
+logs_pruned image next stays = record {
+  stay = λ logs gives. record { each = λ c here. elim ((stays logs gives).each c here) [ inl is ↦ is | inr is ↦ is ∙ keeps_all logs ] };
+}
 
 -- WHAT PASSED THE CHECKS
 
@@ -114,16 +129,30 @@ pub all_valid : (seat : Seat) (pairs : Pairs) → first_refused (dealing_of seat
 all_valid seat pairs none = record { each = λ dealer pair small is. passes_in (dealing_of seat.round seat.me) dealer pair (entries pairs) small (sym (get-entries pairs (0, dealer)) ∙ is) none }
 
 pub valid_player : (player : Option Player) (me : ℕ) (round : Round) (pairs : Pairs) → IfSome player (λ p. p.me ≡ me) → IfSome player (λ p. p.round ≡ round)
-    → first_refused (dealing_of round me) (of_epoch 0 pairs) ≡ None → IfSome (seat_in player) (λ seat. AreValid seat pairs)
+    → IfSome player (λ _. first_refused (dealing_of round me) (of_epoch 0 pairs) ≡ None) → IfSome (seat_in player) (λ seat. AreValid seat pairs)
 valid_player None me round pairs its its_round none = tt
 valid_player (Some p) me round pairs its its_round none = all_valid (record { me = p.me; round = p.round }) pairs (rw (its, its_round) none)
 
 -- WHO PLAYS
 
-pub no_seat : (b : Bool) (me : ℕ) (round : Round) → (IsTrue b ↔ Contains round.players me) → b ≡ false → None ≡ seat_at me round
-no_seat true me round there is = absurd (let h : true ≡ false = is in cc)
-no_seat false me round there is = by_key (has_key me round.players) refl
-  where
-    by_key : (k : Bool) → has_key me round.players ≡ k → ◌≡◌ {A = Option Seat} None (if k then Some (record { me = me; round = round }) else None)
-    by_key true is = absurd (let h : false ≡ true = there.1 (has_key-to round.players me is) in cc)
-    by_key false is = refl
+module _ (b : Bool) (me : ℕ) (pairs : Pairs) (logs : Notes DealerLog) (round : Round) (there : IsTrue b ↔ Contains round.players me) where
+  abbrev At : Bool → Bool → Option Seat
+  At key lacks = if key && not lacks then Some (record { me = me; round = round }) else None
+
+  pub no_seat : b ≡ false → None ≡ seat_at me pairs logs round
+  no_seat is = by_key (has_key me round.players) refl
+    where
+      by_key : (k : Bool) → has_key me round.players ≡ k → None ≡ At k (lacks_dealing me pairs logs round)
+      by_key true key = absurd (let h : true ≡ false = sym (there.1 (has_key-to round.players me key)) ∙ is in cc)
+      by_key false key = refl
+
+  -- one of the players plays unless it lacks a dealing
+  pub player_seat : (player : Option Player) → b ≡ true → is_some player ≡ not (lacks_dealing me pairs logs round) → IfSome player (λ p. p.me ≡ me) → IfSome player (λ p. p.round ≡ round)
+      → seat_in player ≡ seat_at me pairs logs round
+  player_seat player is some its its_round = rw (has_key-from round.players me (there.0 is)) (by_player player (lacks_dealing me pairs logs round) some its its_round)
+    where
+      by_player : (o : Option Player) (lacks : Bool) → is_some o ≡ not lacks → IfSome o (λ p. p.me ≡ me) → IfSome o (λ p. p.round ≡ round) → seat_in o ≡ At true lacks
+      by_player None true some its its_round = refl
+      by_player None false some its its_round = absurd (let h : false ≡ true = some in cc)
+      by_player (Some p) true some its its_round = absurd (let h : true ≡ false = some in cc)
+      by_player (Some p) false some its its_round = rw (its, its_round) refl

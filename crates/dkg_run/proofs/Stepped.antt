@@ -1,6 +1,6 @@
 -- What the devices carry through the step of a message, by how the node answers it.
-use Rattle.std.proofs.Common.{ℕ, zero, suc, ◌<◌, ◌-◌, List, [], ◌∷◌, ◌++◌, ◌≡◌, ◌≢◌, refl, sym, ap, subst, ◌∙◌, ◌⊎◌, inl, inr, Option, Some, None, Result, Ok, Err, Bool, true, false, cond, length, arith, append_assoc}
-use Rattle.std.specs.Prelude.{fold, IfSome, IsSomeAnd, IsSome, IsFalse, ◌==◌, ◌&&◌, ◌||◌}
+use Rattle.std.proofs.Common.{ℕ, zero, suc, ◌<◌, ◌≤◌, ◌-◌, List, [], ◌∷◌, ◌++◌, ◌≡◌, ◌≢◌, refl, sym, ap, subst, ◌∙◌, ◌⊎◌, inl, inr, Option, Some, None, Result, Ok, Err, Bool, true, false, cond, length, arith, append_assoc}
+use Rattle.std.specs.Prelude.{fold, nat_lt, slice_get, IfSome, IsOkAnd, ⊤, IsSomeAnd, IsSome, IsFalse, ◌==◌, ◌&&◌, ◌||◌}
 use Rattle.std.specs.FinMap.{get, insert}
 use Rattle.std.specs.List.{AllByRecursion, list_any}
 use Rattle.std.proofs.lemmas.Bool.Decides.{nat_tests}
@@ -14,27 +14,37 @@ use Rattle.dkg_store.specs.Pairs.{Pairs, Holds, HoldsEither, recovered}
 use Rattle.dkg_store.specs.Player.{MayKeep}
 use Rattle.dkg_store.specs.Secrets.{Secrets}
 use Rattle.dkg_store.proofs.Pairs.{same_key, get_at, get_other}
+use Rattle.dkg_types.specs.declared.block.Block.{Block}
+use Rattle.dkg_types.specs.declared.directory.Unit as directory
 use Rattle.dkg_types.specs.declared.entry.Entry.{Entry}
 use Rattle.dkg_types.specs.declared.entry.Entry.TheVariants as entry
 use Rattle.dkg_types.specs.declared.entry.Restored.{Restored}
 use Rattle.dkg_script.specs.declared.script.Cut as cut
 use Rattle.dkg_script.specs.declared.script.Event.{Event}
-use Rattle.dkg_script.specs.declared.script.Event.TheVariants.{Peer}
+use Rattle.dkg_script.specs.declared.script.Event.TheVariants.{Peer, Final}
 use Rattle.dkg_script.specs.declared.script.Life.{Life}
 use Rattle.dkg_script.specs.Blocks.{round_at}
 use Rattle.dkg_script.specs.Due.{IsDue, IsDueIn, IsDueEvent, IsDueDealing, WroteAck, is_ack}
 use Rattle.dkg_script.specs.Kept.{IsBroughtAtCut, Gives}
-use Rattle.dkg_script.specs.Position.{awaited_epoch, cut_of, event_of_step}
+use Rattle.dkg_script.specs.OwnMarks.{AreKnownHandedIn}
+use Rattle.dkg_script.specs.Position.{awaited_epoch, awaited_height, cut_of, event_of_step}
+use Rattle.dkg_script.specs.Schedule.{midpoint}
 use Rattle.dkg_script.specs.Progress.{Progress, read, pair_of, with_pair, is_last_step}
 use Rattle.dkg_script.specs.Readings.{Halves, dealing_in}
-use Rattle.dkg_script.specs.Setting.{Setting, CutAt, me, limits, life_at}
+use Rattle.dkg_script.specs.Setting.{Setting, CutAt, me, limits, life_at, blocks_per_epoch}
 use Rattle.dkg_script.proofs.Steps.{InDealingStep, records, acknowledges}
 use Rattle.dkg_run.specs.declared.stop.Stop.{Stop}
 use Rattle.dkg_run.specs.declared.stop.Stop.TheVariants.{Cut as AtCut}
-use Rattle.dkg_run.specs.Carried.{IsTodays, IsKeptEntry, AreRecorded, MayBeRecorded, IsSeated, Carries, IsSaved, OfPeer}
-use Rattle.dkg_run.specs.Standing.{Moves, Both, IsBefore, IsCutWithin}
-use Rattle.dkg_run.specs.Told.{Seat, Answers, IsSilent, IsBlocked, IsAcknowledged, IsAccepted, IsCutShort, IsTaken, IsRefused, Deserves, OfBoth, HoldsAtMost, message_in, brought_in, check_of, with_brought}
-use Rattle.dkg_run.proofs.Carried.{awaits_zero, either_durable, saved_opened, may_still, may_of}
+use Rattle.dkg_run.specs.Carried.{IsTodays, IsKeptEntry, AreRecorded, KeepsHandedIn, MayBeRecorded, IsSeated, IsAwaiting, Carries, CarriesIn, IsSaved, OfEvent, TakesBlock}
+use Rattle.dkg_run.specs.Chain.{WhileDealing, awaited, deals_in, judge_of, tip_after}
+use Rattle.dkg_run.specs.Devices.{KeepsLogs}
+use Rattle.dkg_run.specs.Standing.{Moves, Both, IsBefore, IsCutBefore, IsCutWithin}
+use Rattle.dkg_run.specs.declared.tip.Tip.{Tip}
+use Rattle.dkg_run.specs.Told.{Seat, Answers, IsSilent, IsBlocked, IsAcknowledged, IsAccepted, IsCutShort, IsTaken, IsRefused, Deserves, OfBoth, HoldsAtMost, message_in, brought_in, check_of, seat_in, with_brought}
+use Rattle.dkg_run.specs.declared.node.Node.{Node}
+use Rattle.dkg_run.proofs.Awaiting.{Follows, awaits_behind, reached_by}
+use Rattle.dkg_run.proofs.Carried.{awaits_zero, either_durable, handed_on, handed_read, saved_opened, may_still, may_of}
+use Rattle.dkg_run.proofs.Logs.{same_logs}
 use Rattle.dkg_run.proofs.Places.{moves_none, moves_one, moves_then, moves_within}
 use Rattle.dkg_run.proofs.Recorded.{restored_at, not_recorded, gives_one, with_pair_finds, all_with_pair}
 
@@ -137,7 +147,7 @@ module _ (life : Life) (l j from most : ℕ) (bytes : List ℕ) (s : Setting) (t
       subst (λ (e : Option Event). IsSomeAnd e (IsDueEvent s q 0)) (ap (event_of_step life) at.step ∙ at.event_is)
       (subst (λ (n : ℕ). IsSomeAnd (event_of_step life q.step) (IsDueEvent s q n)) (awaits_zero s (length q.cuts) life (q.step - 1) today (rw at.lives at.life_is)) event)
 
-  module _ (q : Progress) (pairs : Pairs) (at : At q) (are : AreRecorded pairs q.recorded) where
+  module _ (q : Progress) (pairs : Pairs) (at : At q) (are : AreRecorded pairs q.recorded) (known : AreKnownHandedIn s) where
     abbrev Due : Round → Halves → Type 0
     Due round d = IsDueDealing s q 0 from round d
 
@@ -161,7 +171,7 @@ module _ (life : Life) (l j from most : ℕ) (bytes : List ℕ) (s : Setting) (t
     not_due : (seat : Option Seat) (brought : Option Halves) (why : _) → IsSeated most seat s → brought_in most bytes ≡ brought → Deserves seat brought from pairs why → IsDue s q → ⊥
     not_due seat None why seated reads deserves due =
         no_dealing (round_at s 0) (subst (λ (o : Option Halves). IsSomeAnd (round_at s 0) (λ round. IsSomeAnd o (Due round))) (same_reading s most bytes seated.most_is ∙ reads) (due_event q at due))
-    not_due None (Some d) why seated reads deserves due = no_player (round_at s 0) (dealing_in (limits s) bytes) seated.seat_is (due_event q at due)
+    not_due None (Some d) why seated reads deserves due = no_player (round_at s 0) (dealing_in (limits s) bytes) (seated.seat_is known) (due_event q at due)
     not_due (Some its) (Some d) why seated reads deserves due =
         let of_round : IsSomeAnd (dealing_in (limits s) bytes) (Due its.round) =
         subst (λ (o : Option Round). IsSomeAnd o (λ round. IsSomeAnd (dealing_in (limits s) bytes) (Due round))) seated.seat_is.1 (due_event q at due) in
@@ -170,24 +180,25 @@ module _ (life : Life) (l j from most : ℕ) (bytes : List ℕ) (s : Setting) (t
 -- WHAT IS CARRIED
 
 -- a setting's dealings as the devices' map changes, at a step's progress
-module _ (l : ℕ) (Knows : Setting → Type 0) (image now : Files → Type 0) (held held_now : Secrets) (m n : Pairs) (s : Setting) (p q : Progress) where
-  pub carries_on : q.opened ≡ p.opened → (Holds m image held → Holds n now held_now) → AreRecorded n q.recorded → Carries l Knows image held m s p → Carries l Knows now held_now n s q
+module _ (l : ℕ) (Knows : Setting → Type 0) (image now : Files → Type 0) (held held_now : Secrets) (m n : Pairs) (stay : KeepsLogs image now) (s : Setting) (p : Progress) (one : Entry) where
+  pub carries_on : (read s p one).opened ≡ p.opened → (Holds m image held → Holds n now held_now) → AreRecorded n (read s p one).recorded → Carries l Knows image held m s p → Carries l Knows now held_now n s (read s p one)
   carries_on opened holds are carries = record {
     today = carries.today;
     knows = carries.knows;
     opened = opened ∙ carries.opened;
     holds = holds carries.holds;
     are = are;
+    handed = handed_read s p one image now stay carries.handed;
   }
 
 -- .. and is saved, with nothing new
 pub carried_saved : (life : Life) (stop : Stop) (l : ℕ) (Knows : Setting → Type 0) (image : Files → Type 0) (held : Secrets) (m : Pairs) (s : Setting) (p : Progress) → Carries l Knows image held m s p
     → IsSaved life stop image held s p
-carried_saved life stop l Knows image held m s p carries = saved_opened life stop l image held m s p carries.today carries.opened carries.are carries.holds
+carried_saved life stop l Knows image held m s p carries = saved_opened life stop l image held m s p carries.today carries.opened carries.are carries.holds carries.handed
 
--- the acknowledgement that was due is written
+-- the acknowledgement that was due is written, if no log that was handed in bears one that this node never gave
 abbrev pub IsSettled : Setting → Progress → Type 0
-IsSettled s p = IsDue s p → WroteAck p.written
+IsSettled s p = AreKnownHandedIn s → IsDue s p → WroteAck p.written
 
 or_true : (b : Bool) → (b || true) ≡ true
 or_true true = refl
@@ -205,12 +216,12 @@ moves_settled l j Knows image held m old new is =
     (λ s p at. (tt, at.1)) (λ s p at. ended s p at.0 (is_last_step s p) refl) refl
   where
     ended : (s : Setting) (p : Progress) → Carries l Knows image held m s p → (b : Bool) → is_last_step s p ≡ b → Carries l Knows image held m s (read s p (entry.Step j))
-    ended s p carries true last = carries_on l Knows image image held held m m s p (read s p (entry.Step j)) (rw last refl) (λ holds. holds) (rw last carries.are) carries
-    ended s p carries false last = carries_on l Knows image image held held m m s p (read s p (entry.Step j)) (rw last refl) (λ holds. holds) (rw last carries.are) carries
+    ended s p carries true last = carries_on l Knows image image held held m m (same_logs image) s p (entry.Step j) (rw last refl) (λ holds. holds) (rw last carries.are) carries
+    ended s p carries false last = carries_on l Knows image image held held m m (same_logs image) s p (entry.Step j) (rw last refl) (λ holds. holds) (rw last carries.are) carries
 
 -- HOW A MESSAGE IS ANSWERED
 
-module _ (life : Life) (l j from most : ℕ) (bytes : List ℕ) (seat : Option Seat) (image now : Files → Type 0) (held held_now : Secrets) (m n : Pairs) (old new : List Entry) (event_is : event_of_step life j ≡ Some (Peer from bytes)) where
+module _ (life : Life) (l j from most : ℕ) (bytes : List ℕ) (seat : Option Seat) (image now : Files → Type 0) (held held_now : Secrets) (m n : Pairs) (stay : KeepsLogs image now) (old new : List Entry) (event_is : event_of_step life j ≡ Some (Peer from bytes)) where
   abbrev Before : Setting → Progress → Type 0
   Before = Both (IsBefore life l j) (Carries l (IsSeated most seat) image held m)
 
@@ -231,8 +242,8 @@ module _ (life : Life) (l j from most : ℕ) (bytes : List ℕ) (seat : Option S
       after s p at =
           let q = read s p (entry.Blocked from is.why) in
           let still : IsAtMessage life l j from bytes s q = still_at s p q refl refl (at_message s p at.0) in (
-            carries_on l (IsSeated most seat) image now held held_now m n s p q refl holds (rw is.same at.1.are) at.1,
-            λ due. absurd (not_due life l j from most bytes s at.1.today q m still at.1.are seat (brought_in most bytes) is.why at.1.knows refl is.cause due),
+            carries_on l (IsSeated most seat) image now held held_now m n stay s p (entry.Blocked from is.why) refl holds (rw is.same at.1.are) at.1,
+            λ known due. absurd (not_due life l j from most bytes s at.1.today q m still at.1.are known seat (brought_in most bytes) is.why at.1.knows refl is.cause due),
           )
 
   acknowledged : (its : Seat) (brought : Halves) → seat ≡ Some its → brought_in most bytes ≡ Some brought → (holds : Holds m image held → Holds n now held_now)
@@ -248,8 +259,8 @@ module _ (life : Life) (l j from most : ℕ) (bytes : List ℕ) (seat : Option S
 
       after : (s : Setting) (p : Progress) → Before s p → After s (read s p ack)
       after s p at = (
-        carries_on l (IsSeated most seat) image now held held_now m n s p (read s p ack) refl holds (rw is.same at.1.are) at.1,
-        λ due. rw at.0.nothing refl,
+        carries_on l (IsSeated most seat) image now held held_now m n stay s p ack refl holds (rw is.same at.1.are) at.1,
+        λ known due. rw at.0.nothing refl,
       )
 
   -- a new dealing is recorded
@@ -269,7 +280,7 @@ module _ (life : Life) (l j from most : ℕ) (bytes : List ℕ) (seat : Option S
       after : (s : Setting) (p : Progress) → Before s p → Taken its d s (read s p (entry.Recorded 0 from d.public d.private))
       after s p at = let q = read s p (entry.Recorded 0 from d.public d.private) in (
         still_at s p q refl refl (at_message s p at.0),
-        carries_on l (IsSeated most seat) image now held held_now m n s p q refl holds (rw taken.with_it (are_with m p.recorded 0 from (d.public, d.private) taken.unrecorded at.1.are)) at.1,
+        carries_on l (IsSeated most seat) image now held held_now m n stay s p (entry.Recorded 0 from d.public d.private) refl holds (rw taken.with_it (are_with m p.recorded 0 from (d.public, d.private) taken.unrecorded at.1.are)) at.1,
         rw at.0.nothing refl,
       )
 
@@ -293,19 +304,19 @@ module _ (life : Life) (l j from most : ℕ) (bytes : List ℕ) (seat : Option S
 
       after : (s : Setting) (p : Progress) → Taken its d s p → After s (read s p ack)
       after s p at = (
-        carries_on l (IsSeated most seat) now now held_now held_now n n s p (read s p ack) refl (λ holds. holds) at.1.are at.1,
-        λ due. wrote_ack p.written ack refl,
+        carries_on l (IsSeated most seat) now now held_now held_now n n (same_logs now) s p ack refl (λ holds. holds) at.1.are at.1,
+        λ known due. wrote_ack p.written ack refl,
       )
 
   -- HOW IT STOPS
 
   -- nothing more was told than is recorded
   abbrev Stopped : Setting → Progress → Type 0
-  Stopped s p = IsAtMessage life l j from bytes s p × IsTodays s × IsSeated most seat s × (p.opened ≡ Some l) × AreRecorded n p.recorded
+  Stopped s p = IsAtMessage life l j from bytes s p × IsTodays s × IsSeated most seat s × (p.opened ≡ Some l) × AreRecorded n p.recorded × KeepsHandedIn s p now
 
   silent : IsSilent old new m n → Moves IsKeptEntry Before Stopped old new
   silent is = moves_none IsKeptEntry Before Stopped old new is.told
-      (λ s p at. (at_message s p at.0, at.1.today, at.1.knows, at.1.opened, rw is.same at.1.are))
+      (λ s p at. (at_message s p at.0, at.1.today, at.1.knows, at.1.opened, rw is.same at.1.are, handed_on s p image now stay at.1.handed))
 
   cut_short : (its : Seat) (d : Halves) → seat ≡ Some its → brought_in most bytes ≡ Some d → IsCutShort its d from old new m n → Moves IsKeptEntry Before Stopped old new
   cut_short its d seat_is reads is = moves_one IsKeptEntry Before Stopped old new (entry.Recorded 0 from d.public d.private) is.told
@@ -316,12 +327,13 @@ module _ (life : Life) (l j from most : ℕ) (bytes : List ℕ) (seat : Option S
         at.1.knows,
         at.1.opened,
         rw is.taken.with_it (are_with m p.recorded 0 from (d.public, d.private) is.taken.unrecorded at.1.are),
+        handed_read s p (entry.Recorded 0 from d.public d.private) image now stay at.1.handed,
       )) refl
 
   -- what a crash then leaves may be recorded
   module _ (stop : Stop) (its_cut : stop ≡ AtCut → IsCutWithin life.cut j) (s : Setting) (p : Progress) (at : Stopped s p) where
     as_recorded : Holds n now held_now → IsSaved life stop now held_now s p
-    as_recorded holds = saved_opened life stop l now held_now n s p at.1 at.3 at.4 holds
+    as_recorded holds = saved_opened life stop l now held_now n s p at.1 at.3 at.4 holds at.5
 
     abbrev pair : Halves → Restored
     pair d = restored_at 0 from (d.public, d.private)
@@ -350,6 +362,7 @@ module _ (life : Life) (l j from most : ℕ) (bytes : List ℕ) (seat : Option S
       today = at.1;
       durable = either_durable s p n now held_now (with_brought from d n) either at.4.given given;
       at_cut = λ is c c_is f here. by_image c c_is (its_cut is) f (either.gives f here);
+      handed = at.5;
     }
       where
         given : AllByRecursion (Gives (with_brought from d n)) p.recorded
@@ -421,44 +434,176 @@ module _ (life : Life) (l j from most : ℕ) (bytes : List ℕ) (seat : Option S
 
 -- THE STEP OF AN EVENT
 
-module _ (life : Life) (l j most : ℕ) (seat : Option Seat) (image now : Files → Type 0) (held held_now : Secrets) (m n : Pairs) (event : Event) (event_is : event_of_step life j ≡ Some event) where
+-- what is known of the setting may be more, where that follows from where the step began
+moves_knowing : (A Q : Setting → Progress → Type 0) (l : ℕ) (Known Then : Setting → Type 0) (image : Files → Type 0) (held : Secrets) (m : Pairs) (old new : List Entry) → ((s : Setting) (p : Progress) → A s p → Then s)
+    → Moves IsKeptEntry A (Both (Carries l Known image held m) Q) old new → Moves IsKeptEntry A (Both (Carries l Then image held m) Q) old new
+moves_knowing A Q l Known Then image held m old new knows a = record {
+  added = a.added;
+  parts = a.parts;
+  each = a.each;
+  to = λ s p at. let its = a.to s p at in (record { today = its.0.today; knows = knows s p at; opened = its.0.opened; holds = its.0.holds; are = its.0.are; handed = its.0.handed }, its.1);
+  no_fault = a.no_fault;
+}
+
+-- no dealing is due at the event of a block, nor where the node deals no longer
+no_peer : (life : Life) (j number : ℕ) (s : Setting) (q : Progress) → life_at s (length q.cuts) ≡ Some life → q.step ≡ j → event_of_step life j ≡ Some (Final number) → IsDue s q → ⊥
+no_peer life j number s q life_is step is due =
+    let of_life : IsDueIn s q life = rw life_is at due in
+    let event : IsSomeAnd (event_of_step life q.step) (IsDueEvent s q (awaited_epoch s (length q.cuts) life (q.step - 1))) = of_life.dealing in
+    subst (λ (e : Option Event). IsSomeAnd e (IsDueEvent s q (awaited_epoch s (length q.cuts) life (q.step - 1)))) (ap (event_of_step life) step ∙ is) event
+
+too_late : (life : Life) (l j : ℕ) (blocks : List (Block directory.Unit)) (tip : Option Tip) (middle : ℕ) (s : Setting) (q : Progress) → IsTodays s → life_at s l ≡ Some life → length q.cuts ≡ l → q.step ≡ j
+    → IsAwaiting l (j - 1) blocks tip middle s → deals_in tip middle ≡ false → IsDue s q → ⊥
+too_late life l j blocks tip middle s q today life_is lives step awaits ended due =
+    let of_life : IsDueIn s q life = rw (lives, life_is) at due in
+    let zero_is : awaited_epoch s l life (j - 1) ≡ 0 = awaits_zero s l life (j - 1) today life_is in
+    let early : awaited_height s l life (j - 1) < midpoint (blocks_per_epoch s) (awaited_epoch s l life (j - 1)) = rw (lives, step) at of_life.early in
+    let height : awaited tip ≡ awaited_height s l life (j - 1) = rw life_is at awaits.height in
+    let deals : awaited tip < middle = rw (height, awaits.middle_is) (rw zero_is at early) in
+    not_both (awaited tip) middle deals ended
+  where
+    not_both : (a b : ℕ) → a < b → nat_lt a b ≡ false → ⊥
+    not_both a b below not = grind (arith, nat_tests)
+
+module _ (life : Life) (l j most : ℕ) (seat : Option Seat) (blocks : List (Block directory.Unit)) (tip after : Option Tip) (middle : ℕ) (image now : Files → Type 0) (held held_now : Secrets) (m n : Pairs) (stay : KeepsLogs image now)
+    (event : Event) (event_is : event_of_step life j ≡ Some event) (begins : IsCutBefore life.cut j → ⊥) where
+  abbrev Known : ℕ → Option Tip → Setting → Type 0
+  Known events its s = IsSeated most seat s × IsAwaiting l events blocks its middle s
+
   abbrev Begun : Setting → Progress → Type 0
-  Begun = Both (IsBefore life l j) (Carries l (IsSeated most seat) image held m)
+  Begun = Both (IsBefore life l j) (Carries l (Known (j - 1) tip) image held m)
 
-  abbrev Answered : Result (Unit {0}) Stop → List Entry → List Entry → Type 0
-  Answered result old new = OfPeer event (λ from bytes. Answers result seat (brought_in most bytes) from old new m n)
+  abbrev Seated : Setting → Progress → Type 0
+  Seated = Both (IsBefore life l j) (Carries l (IsSeated most seat) image held m)
 
-  answered : (its : Event) → event ≡ its → (holds : Holds m image held → Holds n now held_now) → (old new : List Entry)
-      → OfPeer its (λ from bytes. Answers (Ok tt) seat (brought_in most bytes) from old new m n) → Moves IsKeptEntry Begun (Both (Carries l (IsSeated most seat) now held_now n) IsSettled) old new
-  answered (Peer from bytes) its_is holds old new answers =
-      moves_answered life l j from most bytes seat image now held held_now m n old new (event_is ∙ ap (λ (e : Event). Some e) its_is) holds answers
-  answered _ its_is holds old new answers = absurd answers
+  abbrev Settled : Setting → Progress → Type 0
+  Settled = Both (Carries l (IsSeated most seat) now held_now n) IsSettled
+
+  abbrev ToldAs : Result (Unit {0}) Stop → Event → List Entry → List Entry → Type 0
+  ToldAs result its old new = OfEvent its (λ from bytes. WhileDealing (deals_in tip middle) (Answers result seat (brought_in most bytes) from old new m n) (IsSilent old new m n))
+      (λ number. IsSomeAnd (slice_get blocks number) (λ block. TakesBlock result tip after block old new m n))
+
+  less : (s : Setting) (p : Progress) → Begun s p → Seated s p
+  less s p at = (at.0, record { today = at.1.today; knows = at.1.knows.0; opened = at.1.opened; holds = at.1.holds; are = at.1.are; handed = at.1.handed })
+
+  from_seated : (Q : Setting → Progress → Type 0) (old new : List Entry) → Moves IsKeptEntry Seated Q old new → Moves IsKeptEntry Begun Q old new
+  from_seated Q old new a = moves_within IsKeptEntry Seated Begun Q Q old new less (λ s p at. at) a
+
+  -- the message is not read
+  unread : (holds : Holds m image held → Holds n now held_now) → (old new : List Entry) → deals_in tip middle ≡ false → IsSilent old new m n → Moves IsKeptEntry Begun Settled old new
+  unread holds old new ended is = moves_none IsKeptEntry Begun Settled old new is.told
+      (λ s p at. (
+        record { today = at.1.today; knows = at.1.knows.0; opened = at.1.opened; holds = holds at.1.holds; are = rw is.same at.1.are; handed = handed_on s p image now stay at.1.handed },
+        λ known due. absurd (too_late life l j blocks tip middle s p at.1.today at.0.life_is at.0.lives at.0.step at.1.knows.1 ended due),
+      ))
+
+  -- the block is told
+  taken : (number : ℕ) (height : ℕ) → event ≡ Final number → (holds : Holds m image held → Holds n now held_now) → (old new : List Entry) → new ≡ old ++ entry.Acked height ∷ [] → n ≡ m → Moves IsKeptEntry Begun Settled old new
+  taken number height is holds old new told same = moves_one IsKeptEntry Begun Settled old new (entry.Acked height) told (λ s p at. (tt, tt)) after_it refl
+    where
+      after_it : (s : Setting) (p : Progress) → Begun s p → Settled s (read s p (entry.Acked height))
+      after_it s p at = (
+        carries_on l (IsSeated most seat) image now held held_now m n stay s p (entry.Acked height) refl holds (rw same at.1.are) (less s p at).1,
+        λ known due. absurd (no_peer life j number s (read s p (entry.Acked height)) (rw at.0.lives at.0.life_is) at.0.step (event_is ∙ ap (λ (e : Event). Some e) is) due),
+      )
+
+  settles : (its : Event) → event ≡ its → (holds : Holds m image held → Holds n now held_now) → (old new : List Entry) → ToldAs (Ok tt) its old new → Moves IsKeptEntry Begun Settled old new
+  settles (Peer from bytes) is holds old new told = by_deals (deals_in tip middle) refl told
+    where
+      by_deals : (b : Bool) → deals_in tip middle ≡ b → WhileDealing b (Answers (Ok tt) seat (brought_in most bytes) from old new m n) (IsSilent old new m n) → Moves IsKeptEntry Begun Settled old new
+      by_deals true deals answers = from_seated Settled old new
+          (moves_answered life l j from most bytes seat image now held held_now m n stay old new (event_is ∙ ap (λ (e : Event). Some e) is) holds answers)
+      by_deals false deals silent = unread holds old new deals silent
+  settles (Final number) is holds old new told = by_block (slice_get blocks number) told
+    where
+      by_block : (o : Option (Block directory.Unit)) → IsSomeAnd o (λ block. TakesBlock (Ok tt) tip after block old new m n) → Moves IsKeptEntry Begun Settled old new
+      by_block None takes = absurd takes
+      by_block (Some block) takes = taken number block.height is holds old new takes.1 takes.2
+  settles its is holds old new told = absurd told
+
+  -- the new tip behind the event
+  abbrev Placed : Type 0
+  Placed = OfEvent event (λ from bytes. after ≡ tip) (λ number. ⊤)
+
+  follows_of : (its : Event) (old new : List Entry) → ToldAs (Ok tt) its old new → OfEvent its (λ from bytes. after ≡ tip) (λ number. ⊤) → Follows its blocks tip after
+  follows_of (Peer from bytes) old new told placed = placed
+  follows_of (Final number) old new told placed = by_block (slice_get blocks number) told
+    where
+      by_block : (o : Option (Block directory.Unit)) → IsSomeAnd o (λ block. TakesBlock (Ok tt) tip after block old new m n)
+          → IsSomeAnd o (λ block. IsOkAnd (judge_of tip block.height block.digest block.parent) (λ judged. after ≡ tip_after tip judged block.height block.digest))
+      by_block None takes = absurd takes
+      by_block (Some block) takes = takes.0
+  follows_of its old new told placed = absurd told
+
+  known_then : (old new : List Entry) → ToldAs (Ok tt) event old new → Placed → (s : Setting) (p : Progress) → Begun s p → Known j after s
+  known_then old new told placed s p at = (
+    at.1.knows.0,
+    awaits_behind s l life blocks tip after middle at.1.today at.0.life_is j event event_is (reached_by life.cut j at.0.reached begins) (follows_of event old new told placed) at.1.knows.1,
+  )
+
+  abbrev Behind : Setting → Progress → Type 0
+  Behind = Both (Carries l (Known j after) now held_now n) IsSettled
+
+  behind : (holds : Holds m image held → Holds n now held_now) → (old new : List Entry) → ToldAs (Ok tt) event old new → Placed → Moves IsKeptEntry Begun Behind old new
+  behind holds old new told placed = moves_knowing Begun IsSettled l (IsSeated most seat) (Known j after) now held_now n old new (known_then old new told placed) (settles event refl holds old new told)
 
   -- it ended
-  pub step_kept : (holds : Holds m image held → Holds n now held_now) → (old mid new : List Entry) → Answered (Ok tt) old mid → new ≡ mid ++ entry.Step j ∷ []
-      → Moves IsKeptEntry Begun (Carries l (IsSeated most seat) now held_now n) old new
-  step_kept holds old mid new answers is = moves_then IsKeptEntry Begun (Both (Carries l (IsSeated most seat) now held_now n) IsSettled) (Carries l (IsSeated most seat) now held_now n) old mid new
-      (answered event refl holds old mid answers) (moves_settled l j (IsSeated most seat) now held_now n mid new is)
+  pub step_kept : (holds : Holds m image held → Holds n now held_now) → (old mid new : List Entry) → ToldAs (Ok tt) event old mid → Placed → new ≡ mid ++ entry.Step j ∷ []
+      → Moves IsKeptEntry Begun (Carries l (Known j after) now held_now n) old new
+  step_kept holds old mid new told placed is = moves_then IsKeptEntry Begun Behind (Carries l (Known j after) now held_now n) old mid new
+      (behind holds old mid told placed) (moves_settled l j (Known j after) now held_now n mid new is)
 
   -- .. but its end was not told
-  pub step_untold : (stop : Stop) → (holds : Holds m image held → Holds n now held_now) → (old mid new : List Entry) → Answered (Ok tt) old mid → new ≡ mid
+  pub step_untold : (stop : Stop) → (holds : Holds m image held → Holds n now held_now) → (old mid new : List Entry) → ToldAs (Ok tt) event old mid → new ≡ mid
       → Moves IsKeptEntry Begun (IsSaved life stop now held_now) old new
-  step_untold stop holds old mid new answers same = rw same (moves_within IsKeptEntry Begun Begun (Both (Carries l (IsSeated most seat) now held_now n) IsSettled) (IsSaved life stop now held_now) old mid
-      (λ s p at. at) (λ s p at. carried_saved life stop l (IsSeated most seat) now held_now n s p at.0) (answered event refl holds old mid answers))
+  step_untold stop holds old mid new told same = rw same (moves_within IsKeptEntry Begun Begun Settled (IsSaved life stop now held_now) old mid
+      (λ s p at. at) (λ s p at. carried_saved life stop l (IsSeated most seat) now held_now n s p at.0) (settles event refl holds old mid told))
 
   -- it stopped
-  pub step_saved : (error stop : Stop) → (stop ≡ AtCut → IsCutWithin life.cut j) → (Holds m image held → OfPeer event (λ from bytes. HoldsAtMost seat (brought_in most bytes) from n now held_now))
-      → (old new : List Entry) → Answered (Err error) old new → Moves IsKeptEntry Begun (IsSaved life stop now held_now) old new
-  step_saved error stop its_cut holds old new answers = by_event event refl holds answers
+  abbrev HoldsSo : Event → Type 0
+  HoldsSo its = OfEvent its (λ from bytes. HoldsAtMost seat (brought_in most bytes) from n now held_now) (λ number. Holds n now held_now)
+
+  silent_saved : (stop : Stop) → (Holds m image held → Holds n now held_now) → (old new : List Entry) → IsSilent old new m n → Moves IsKeptEntry Begun (IsSaved life stop now held_now) old new
+  silent_saved stop holds old new is = moves_none IsKeptEntry Begun (IsSaved life stop now held_now) old new is.told
+      (λ s p at. saved_opened life stop l now held_now n s p at.1.today at.1.opened (rw is.same at.1.are) (holds at.1.holds) (handed_on s p image now stay at.1.handed))
+
+  pub step_saved : (error stop : Stop) → (stop ≡ AtCut → IsCutWithin life.cut j) → (Holds m image held → HoldsSo event)
+      → (old new : List Entry) → ToldAs (Err error) event old new → Moves IsKeptEntry Begun (IsSaved life stop now held_now) old new
+  step_saved error stop its_cut holds old new told = by_event event refl holds told
     where
-      by_event : (its : Event) → event ≡ its → (Holds m image held → OfPeer its (λ from bytes. HoldsAtMost seat (brought_in most bytes) from n now held_now))
-          → OfPeer its (λ from bytes. Answers (Err error) seat (brought_in most bytes) from old new m n) → Moves IsKeptEntry Begun (IsSaved life stop now held_now) old new
-      by_event (Peer from bytes) its_is holds answers =
-          moves_stopped life l j from most bytes seat image now held held_now m n old new (event_is ∙ ap (λ (e : Event). Some e) its_is) error stop its_cut holds answers
-      by_event _ its_is holds answers = absurd answers
+      by_event : (its : Event) → event ≡ its → (Holds m image held → HoldsSo its) → ToldAs (Err error) its old new → Moves IsKeptEntry Begun (IsSaved life stop now held_now) old new
+      by_event (Peer from bytes) is holds told = from_seated (IsSaved life stop now held_now) old new
+          (moves_stopped life l j from most bytes seat image now held held_now m n stay old new (event_is ∙ ap (λ (e : Event). Some e) is) error stop its_cut holds (by_deals (deals_in tip middle) told))
+        where
+          by_deals : (b : Bool) → WhileDealing b (Answers (Err error) seat (brought_in most bytes) from old new m n) (IsSilent old new m n) → Answers (Err error) seat (brought_in most bytes) from old new m n
+          by_deals true answers = answers
+          by_deals false silent = inl silent
+      by_event (Final number) is holds told = by_block (slice_get blocks number) told
+        where
+          by_block : (o : Option (Block directory.Unit)) → IsSomeAnd o (λ block. TakesBlock (Err error) tip after block old new m n) → Moves IsKeptEntry Begun (IsSaved life stop now held_now) old new
+          by_block None takes = absurd takes
+          by_block (Some block) silent = silent_saved stop holds old new silent
+      by_event its is holds told = absurd told
 
 -- the life stopped before the step
 pub stays_saved : (life : Life) (l j : ℕ) (stop : Stop) (Knows : Setting → Type 0) (image : Files → Type 0) (held : Secrets) (m : Pairs) (old new : List Entry) → new ≡ old
     → Moves IsKeptEntry (Both (IsBefore life l j) (Carries l Knows image held m)) (IsSaved life stop image held) old new
 stays_saved life l j stop Knows image held m old new same = moves_none IsKeptEntry (Both (IsBefore life l j) (Carries l Knows image held m)) (IsSaved life stop image held) old new same
     (λ s p at. carried_saved life stop l Knows image held m s p at.1)
+
+-- .. as the node has it behind the step
+pub carries_so : (life : Life) (l j : ℕ) (blocks : List (Block directory.Unit)) (old_node node : Node) (P : Setting → Progress → Type 0) (now : Files → Type 0) (held_now : Secrets) (old new : List Entry)
+    → seat_in node.player ≡ seat_in old_node.player → node.limit ≡ old_node.limit → node.midpoint ≡ old_node.midpoint
+    → Moves IsKeptEntry P (Carries l (λ s. IsSeated old_node.limit (seat_in old_node.player) s × IsAwaiting l j blocks node.place.tip old_node.midpoint s) now held_now node.store.dealings) old new
+    → Moves IsKeptEntry P (CarriesIn l j blocks node now held_now) old new
+carries_so life l j blocks old_node node P now held_now old new seat limit midpoint a = record {
+  added = a.added;
+  parts = a.parts;
+  each = a.each;
+  to = λ s p at.
+      let its = a.to s p at in
+      let seated : IsSeated node.limit (seat_in node.player) s = rw (seat, limit) its.knows.0 in
+      let awaits : IsAwaiting l j blocks node.place.tip node.midpoint s = rw midpoint its.knows.1 in
+      record { today = its.today; knows = (seated, awaits); opened = its.opened; holds = its.holds; are = its.are; handed = its.handed };
+  no_fault = a.no_fault;
+}

@@ -1,9 +1,13 @@
 pub mod Carried
+pub mod Chain
 pub mod Command
 pub mod Devices
+pub mod Firsts
+pub mod Found
 pub mod Fresh
 pub mod Opened
 pub mod Outside
+pub mod Refusals
 pub mod Reports
 pub mod Standing
 pub mod Stops

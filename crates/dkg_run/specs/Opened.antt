@@ -1,14 +1,19 @@
 -- What a life begins with, and what opening its node tells.
-use Rattle.std.specs.Prelude.{ℕ, List, ◌∷◌, ◌++◌, ◌≡◌, ◌==◌, false, Option, Some, None, option_and_then, option_map, slice_get, if◌then◌else◌}
+use Rattle.std.specs.Prelude.{ℕ, List, ◌∷◌, ◌++◌, ◌≡◌, ◌==◌, ◌&&◌, not, Bool, false, Option, Some, None, option_and_then, option_map, slice_get, if◌then◌else◌, IfSome, IsSome}
 use Rattle.std.specs.Int.NonZero.{non_zero_u32_get}
 use Rattle.std.specs.List.{AllByRecursion}
 use Rattle.std.specs.Result.{result_ok}
 use Rattle.dkg_values.specs.Rising.{has_key}
 use Rattle.dkg_ceremony.specs.Rounds.{round_of}
+use Rattle.dkg_ceremony.specs.ValidLogs.{bears_ack_of}
+use Rattle.dkg_ceremony.specs.declared.dealer_log.DealerLog.{DealerLog}
 use Rattle.dkg_ceremony.specs.declared.mode.Mode.{Mode}
 use Rattle.dkg_ceremony.specs.declared.mode.Reveal.TheVariants.{V1}
 use Rattle.dkg_ceremony.specs.declared.round.Round.{Round}
+use Rattle.dkg_store.specs.Noted.{Notes}
 use Rattle.dkg_store.specs.Pairs.{Pairs}
+use Rattle.dkg_store.specs.Player.{has_orphan}
+use Rattle.dkg_store.specs.Recorded.{at_epoch}
 use Rattle.dkg_types.specs.Units.{unit_spelling}
 use Rattle.dkg_types.specs.declared.directory.Unit as directory
 use Rattle.dkg_types.specs.declared.entry.Entry.{Entry}
@@ -30,6 +35,10 @@ limits_of script = record { most = non_zero_u32_get script.config.limit; version
 -- the payload that bytes spell, and the info that it is, of a node whose directories say nothing
 unfoldable pub unit_payload_in : Limits → List ℕ → Option (Payload directory.Unit)
 unit_payload_in limits bytes = unit_payload limits bytes
+
+-- what a line's payload spells, if it has one, is one
+abbrev pub IsRead : (most version : ℕ) → Option (List ℕ) → Type 0
+IsRead most version payload = IfSome payload (λ bytes. IsSome (unit_payload_in (record { most = most; version = version; addressed = false }) bytes))
 
 abbrev pub unit_info_in : Limits → List ℕ → Option (EpochInfo directory.Unit)
 unit_info_in limits bytes = option_and_then its_info (unit_payload_in limits bytes)
@@ -65,9 +74,13 @@ round_by namespace mode i = result_ok (round_of namespace 0 (Some i.output) mode
 abbrev pub round_in : List ℕ → Mode → Option (EpochInfo directory.Unit) → Option Round
 round_in namespace mode info = option_and_then (λ i. if i.epoch == 0 then round_by namespace mode i else None) info
 
--- a node plays where it is one of the players
-abbrev pub seat_at : ℕ → Round → Option Seat
-seat_at me round = if has_key me round.players then Some (record { me = me; round = round }) else None
+-- of a log that bears the node's acknowledgement no dealing is recorded with the log's public half
+abbrev pub lacks_dealing : (me : ℕ) → Pairs → Notes DealerLog → Round → Bool
+lacks_dealing me pairs logs round = has_orphan (λ dealer log. bears_ack_of round dealer log me) 0 pairs (at_epoch 0 logs)
+
+-- a node plays where it is one of the players and lacks no dealing that it acknowledged
+abbrev pub seat_at : (me : ℕ) → Pairs → Notes DealerLog → Round → Option Seat
+seat_at me pairs logs round = if has_key me round.players && not (lacks_dealing me pairs logs round) then Some (record { me = me; round = round }) else None
 
 -- THE ENTRIES
 

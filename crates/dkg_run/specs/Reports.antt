@@ -11,6 +11,7 @@ use Rattle.dkg_script.specs.Form.{IsFormOfToday}
 use Rattle.dkg_script.specs.Promise.{RunsInOrder, RunsAll, KeepsDealings, AnswersDealings}
 use Rattle.dkg_script.specs.Scripts.{script_of}
 use Rattle.dkg_script.specs.Setting.{setting_of}
+use Rattle.dkg_run.specs.Found.{AreFound, reader_in}
 use Rattle.dkg_run.specs.Outside.{TookAll}
 use Rattle.dkg_run.specs.declared.command.Status.{Status}
 use Rattle.dkg_run.specs.declared.command.Status.TheVariants as status
@@ -21,6 +22,18 @@ fault_status fault.NoMemory = status.NoMemory
 fault_status fault.Disk = status.Device
 fault_status fault.Secrets = status.Device
 fault_status other = status.Fault other
+
+-- the number of a status, which is the program's exit status
+abbrev pub number_of : Status → ℕ
+number_of status.Done = 0
+number_of status.Usage = 2
+number_of (status.Fault fault) = 4
+number_of status.Device = 5
+number_of status.NoMemory = 6
+number_of status.ReadFault = 7
+number_of status.WriteFault = 8
+number_of status.TooLong = 9
+number_of status.Unsupported = 10
 
 -- the last line that is written for a status, where it has one
 abbrev pub last_of : Status → List ℕ
@@ -57,6 +70,14 @@ Keeps Tells files secrets image now held script entries = Tells → KeepsDealing
 -- .. and each dealing that was due was acknowledged
 abbrev pub Answers : (Tells : Type 0) → Files → Secrets → (image : Files → Type 0) → Script → List Entry → Type 0
 Answers Tells files secrets image script entries = Tells → AnswersDealings (setting_of script files secrets) image entries
+
+-- .. and what each fault that is told blames is found on the devices as they stand
+abbrev pub Finds : (Tells : Type 0) → Files → Secrets → Script → List Entry → Type 0
+Finds Tells files held script entries = Tells → AreFound (reader_in script) files held entries
+
+abbrev pub KeepsAndFinds : (Tells : Type 0) → Files → Secrets → (image : Files → Type 0) → (files_now : Files) → (now : Files → Type 0) → (held : Secrets) → Script → List Entry → Type 0
+KeepsAndFinds Tells files secrets image files_now now held script entries =
+    Keeps Tells files secrets image now held script entries × Finds Tells files_now held script entries
 
 -- A script was read, and it was run. (`Gave` says that the source gave these bytes to its end; `Kept` says what a run keeps.)
 pub record Ran (Gave : List ℕ → Type 0) (Kept : Script → List Entry → Type 0) (entries : List Entry) : Type 0 where

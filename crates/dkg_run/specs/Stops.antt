@@ -1,5 +1,6 @@
 -- What a step may be stopped by.
-use Rattle.std.specs.Prelude.{◌≡◌, ◌⊎◌, ⊤}
+use Rattle.std.specs.Prelude.{◌≡◌, ◌⊎◌, ⊤, Option, Some, None}
+use Rattle.dkg_types.specs.declared.fault.Fault.{Fault}
 use Rattle.dkg_types.specs.declared.fault.Fault.TheVariants as fault
 use Rattle.dkg_store.specs.declared.call.StoreError.{StoreError}
 use Rattle.dkg_store.specs.declared.call.StoreError.TheVariants as store
@@ -30,3 +31,8 @@ stop_of (store.StateSyncEpochs info floor) = Faulted (fault.StateSyncEpochs info
 stop_of store.StateSyncMaterial = Faulted fault.StateSyncMaterial
 stop_of store.Cut = Cut
 stop_of store.NoMemory = Faulted fault.NoMemory
+
+-- the fault that a stop is
+abbrev pub fault_in : Stop → Option Fault
+fault_in Cut = None
+fault_in (Faulted its) = Some its

@@ -4,16 +4,20 @@
 #![tactic(auto)]
 
 mod beginning;
+mod blocks;
 mod calls;
 mod command;
 mod decoded;
+mod index;
 mod lives;
 mod memory;
 mod node;
+mod place;
 mod sink;
 mod source;
 mod standard;
 mod stop;
+mod tip;
 mod transfer;
 
 pub use command::{Status, run_command};

@@ -2,7 +2,7 @@
 //!
 //! A life's opening is its step 0, and each event is one step more. A step that the script cuts ends its life, and any
 //! other life ends by its stop. Either way both devices crash.
-ghost use Rattle.std.specs.Prelude.{◌≡◌, ◌⊎◌, ◌<◌, ◌≤◌, ◌+◌, ◌++◌, ◌∷◌, [], ℕ, OnOk, OnErr, IfOk, IfErr, IfSome, IfNone, IsSome, IsErrOf, Contains, IsTrue, length, Some, None, ⊤};
+ghost use Rattle.std.specs.Prelude.{◌≡◌, ◌⊎◌, ◌<◌, ◌≤◌, ◌+◌, ◌-◌, ◌++◌, ◌∷◌, [], ℕ, OnOk, OnErr, IfOk, IfErr, IfSome, IfNone, IsSome, IsSomeAnd, IsErrOf, Contains, IsTrue, length, max, slice_get, Some, None, ⊤};
 ghost use Rattle.std.specs.List.{AllByRecursion};
 ghost use Rattle.dkg_ceremony.specs.Acks.{ack_of};
 ghost use Rattle.dkg_store.specs.Player.{IsPlayerOf};
@@ -10,26 +10,30 @@ ghost use Rattle.dkg_journal.specs.Disk.{Rose};
 ghost use Rattle.dkg_journal.specs.Names.{Files};
 ghost use Rattle.dkg_store.specs.Pairs.{Holds};
 ghost use Rattle.dkg_script.specs.Ends.{EndsRun};
-ghost use Rattle.dkg_script.specs.Form.{IsPeer, IsLifeOfToday, IsFormOfToday};
+ghost use Rattle.dkg_script.specs.Form.{IsFormOfToday};
+ghost use Rattle.dkg_run.specs.Chain.{IsEventHere, WhileDealing, awaited, deals_in};
 ghost use Rattle.dkg_script.specs.Order.{IsInOrder};
 ghost use Rattle.dkg_script.specs.Position.{event_of_step};
 ghost use Rattle.dkg_script.specs.Promise.{Adds, RunsInOrder, RunsAll, KeepsDealings, AnswersDealings};
 ghost use Rattle.dkg_script.specs.Setting.{setting_of};
-ghost use Rattle.dkg_run.specs.Carried.{CarriesIn, IsCrash, IsDurableAt, IsKeptEntry, IsSaved, OfPeer, Rests, RestsFor};
-ghost use Rattle.dkg_run.specs.Devices.{IsToday, IsReady};
+ghost use Rattle.dkg_run.specs.Carried.{CarriesIn, IsCrash, IsDurableAt, IsKeptEntry, IsRefusedBy, IsSaved, OfEvent, Rests, RestsFor, TakesBlock};
+ghost use Rattle.dkg_run.specs.Devices.{IsToday, IsReady, KeepsLogs};
+ghost use Rattle.dkg_run.specs.Found.{AreFound, BlamesNoRecord, IsFound, reader_in, reader_of};
+ghost use Rattle.dkg_run.specs.Refusals.{BlamesOnlySkips, IsRefusal, RefusesOnlySkips, RunRefusesOnlySkips};
 ghost use Rattle.dkg_run.specs.Stops.{IsCaused};
-ghost use Rattle.dkg_run.specs.Told.{Answers, AreValid, HoldsAtMost, brought_in, seat_in};
+ghost use Rattle.dkg_run.specs.Told.{Answers, AreValid, HoldsAtMost, IsSilent, brought_in, seat_in};
 ghost use Rattle.dkg_run.specs.Standing.{AddsQuiet, AddsOpening, IsCutBefore, IsCutWithin, Moves, MayTell, TellsFault, IsBetween, IsBetweenOf, IsBefore, IsStopped, IsBehind, Both};
 ghost use Rattle.dkg_run.specs.declared.stop.Stop.TheVariants.{Cut as AtCut};
 
 use crate::beginning::Beginning;
 use crate::node::Node;
+use crate::place::Place;
 use crate::stop::Stop;
 use dkg_ceremony::Value;
 use dkg_journal::{Disk, Fuse};
 use dkg_script::{Cut, Event, Life, Script};
 use dkg_store::{Devices, SecretStore};
-use dkg_types::{Entry, Fault, Transcript};
+use dkg_types::{Block, Entry, Fault, Transcript, Unit};
 use std::alloc::Global;
 
 /// The fuse of a step, or none where the life ends before it.
@@ -71,15 +75,42 @@ fn begin_step<D: Disk, X: SecretStore>(
     }
 }
 
+/// Delivers the block of a number.
+fn deliver(
+    node: &mut Node,
+    blocks: &[Block<Unit>],
+    number: u32,
+    out: &mut Transcript,
+) -> Result<(), Stop>
+    requires { number < length blocks.now }
+    ensures player { node.new.player ≡ node.old.player }
+    ensures store { node.new.store ≡ node.old.store }
+    ensures limit { node.new.limit ≡ node.old.limit }
+    ensures midpoint { node.new.midpoint ≡ node.old.midpoint }
+    ensures quiet { AddsQuiet out.old.entries out.new.entries }
+    // The block is judged, and told unless it is refused.
+    ensures told { IsSomeAnd (slice_get blocks.now number) (λ block. TakesBlock result node.old.place.tip node.new.place.tip block out.old.entries out.new.entries node.old.store.dealings node.new.store.dealings) }
+    // It is refused by the fault that its judgement is.
+    ensures refused { IfErr result (λ stop. (stop ≡ Stop.Faulted Fault.NoMemory) ⊎ IsSomeAnd (slice_get blocks.now number) (IsRefusedBy node.old.place.tip stop)) }
+    ensures no_record { IfErr result BlamesNoRecord }
+    ensures causes { IfErr result (λ stop. IsCaused stop ⊥ ⊥) }
+{
+    match blocks.get(number as usize) {
+        Some(block) => node.finalized(number, block, out),
+        None => unreachable!(),
+    }
+}
+
 /// Makes the step of an event.
 fn step<D: Disk, X: SecretStore>(
     alloc: Global,
     node: &mut Node,
+    blocks: &[Block<Unit>],
     event: &Event,
     devices: &mut Devices<'_, D, X>,
     out: &mut Transcript,
 ) -> Result<(), Stop>
-    requires peer { IsPeer event.now }
+    requires event { IsEventHere blocks.now event.now }
     requires plays { IfSome node.old.player (λ p. Contains p.round.players p.me) }
     requires answers { IfSome node.old.player (λ p. IsPlayerOf ack_of p.me p.round p.acks node.old.store.dealings 0) }
     requires valid { IfSome (seat_in node.old.player) (λ seat. AreValid seat node.old.store.dealings) }
@@ -94,15 +125,23 @@ fn step<D: Disk, X: SecretStore>(
     ensures same_disk { devices.new.disk.ghost_name ≡ devices.old.disk.ghost_name }
     ensures same_secrets { devices.new.secrets.ghost_name ≡ devices.old.secrets.ghost_name }
     ensures quiet { AddsQuiet out.old.entries out.new.entries }
-    ensures told { OfPeer event.now (λ from bytes. Answers result (seat_in node.old.player) (brought_in node.old.limit bytes) from out.old.entries out.new.entries node.old.store.dealings node.new.store.dealings) }
+    ensures midpoint { node.new.midpoint ≡ node.old.midpoint }
+    // Just what is told and recorded: while the node deals a message is answered, and each block is judged.
+    ensures told { OfEvent event.now (λ from bytes. WhileDealing (deals_in node.old.place.tip node.old.midpoint) (Answers result (seat_in node.old.player) (brought_in node.old.limit bytes) from out.old.entries out.new.entries node.old.store.dealings node.new.store.dealings) (IsSilent out.old.entries out.new.entries node.old.store.dealings node.new.store.dealings)) (λ number. IsSomeAnd (slice_get blocks.now number) (λ block. TakesBlock result node.old.place.tip node.new.place.tip block out.old.entries out.new.entries node.old.store.dealings node.new.store.dealings)) }
+    // A block that is refused is refused by the fault that its judgement is.
+    ensures refused { OfEvent event.now (λ from bytes. IfErr result (λ stop. IsRefusal stop → ⊥)) (λ number. IfErr result (λ stop. (stop ≡ Stop.Faulted Fault.NoMemory) ⊎ IsSomeAnd (slice_get blocks.now number) (IsRefusedBy node.old.place.tip stop))) }
+    ensures place { OfEvent event.now (λ from bytes. node.new.place.tip ≡ node.old.place.tip) (λ number. ⊤) }
     ensures holds { OnOk result (IsTrue D.tells → IsTrue X.tells → Holds node.old.store.dealings (D.image devices.old.disk.now) (X.held devices.old.secrets.now) → Holds node.new.store.dealings (D.image devices.new.disk.now) (X.held devices.new.secrets.now)) }
-    ensures images { IsTrue D.tells → IsTrue X.tells → Holds node.old.store.dealings (D.image devices.old.disk.now) (X.held devices.old.secrets.now) → OfPeer event.now (λ from bytes. HoldsAtMost (seat_in node.old.player) (brought_in node.old.limit bytes) from node.new.store.dealings (D.image devices.new.disk.now) (X.held devices.new.secrets.now)) }
+    ensures images { IsTrue D.tells → IsTrue X.tells → Holds node.old.store.dealings (D.image devices.old.disk.now) (X.held devices.old.secrets.now) → OfEvent event.now (λ from bytes. HoldsAtMost (seat_in node.old.player) (brought_in node.old.limit bytes) from node.new.store.dealings (D.image devices.new.disk.now) (X.held devices.new.secrets.now)) (λ number. Holds node.new.store.dealings (D.image devices.new.disk.now) (X.held devices.new.secrets.now)) }
+    ensures keeps_logs { IsTrue D.tells → KeepsLogs (D.image devices.old.disk.now) (D.image devices.new.disk.now) }
+    ensures no_record { IfErr result BlamesNoRecord }
     ensures causes { IfErr result (λ stop. IsCaused stop (Rose (D.faults devices.old.disk.now) (D.faults devices.new.disk.now)) (Rose (X.faults devices.old.secrets.now) (X.faults devices.new.secrets.now))) }
     ensures later_disk { D.faults devices.old.disk.now ≤ D.faults devices.new.disk.now }
     ensures later_secrets { X.faults devices.old.secrets.now ≤ X.faults devices.new.secrets.now }
 {
     match event {
         Event::Peer { from, bytes } => node.peer(alloc, devices, *from, bytes.as_slice(), out),
+        Event::Final { block } => deliver(node, blocks, *block, out),
         _ => unreachable!(),
     }
 }
@@ -132,17 +171,42 @@ fn stop_of(cut: &Option<Cut>, step: u64, stop: Stop) -> Stop
     }
 }
 
+/// The stop of an opening. (An opening judges no block, so that none is refused; a refusal that came would be told as want of memory.)
+fn accepting(stop: Stop) -> Stop
+    ensures accepts { IsRefusal result → ⊥ }
+    ensures same { (result ≡ stop) ⊎ (result ≡ Stop.Faulted Fault.NoMemory) }
+{
+    match stop {
+        Stop::Faulted(
+            Fault::ConflictingBlock { .. }
+            | Fault::DetachedBlock { .. }
+            | Fault::SkippedHeight { .. },
+        ) => Stop::Faulted(Fault::NoMemory),
+        other => other,
+    }
+}
+
+/// What the stop of an opening means to its life.
+fn opening_stop(cut: &Option<Cut>, stop: Stop) -> Stop
+    ensures cut { result ≡ AtCut → IsCutWithin cut.now 0 }
+    ensures same { (result ≡ stop) ⊎ (result ≡ Stop.Faulted Fault.NoMemory) }
+    ensures accepts { IsRefusal result → ⊥ }
+{
+    stop_of(cut, 0, accepting(stop))
+}
+
 /// Takes the step of an event, where the life is not cut before it, and tells its end.
 fn take_step<D: Disk, X: SecretStore>(
     alloc: Global,
     node: &mut Node,
+    blocks: &[Block<Unit>],
     life: &Life,
     number: u64,
     event: &Event,
     devices: &mut Devices<'_, D, X>,
     out: &mut Transcript,
 ) -> Result<(), Stop>
-    requires peer { IsPeer event.now }
+    requires here { IsEventHere blocks.now event.now }
     requires later { 0 < number }
     requires event { event_of_step life.now number ≡ Some event.now }
     requires plays { IfSome node.old.player (λ p. Contains p.round.players p.me) }
@@ -162,14 +226,17 @@ fn take_step<D: Disk, X: SecretStore>(
     ensures done { OnOk result ((l : ℕ) → Moves IsInOrder (IsBefore life.now l number) (IsBehind life.now l number) out.old.entries out.new.entries) }
     ensures stopped { IfErr result (λ stop. (l : ℕ) → Moves IsInOrder (IsBefore life.now l number) (IsStopped life.now l stop) out.old.entries out.new.entries) }
     // What was recorded is carried, what the entries say holds, and an acknowledgement that was due was written.
-    ensures kept { OnOk result (IsTrue D.tells → IsTrue X.tells → (l : ℕ) → Moves IsKeptEntry (Both (IsBefore life.now l number) (CarriesIn l node.old (D.image devices.old.disk.now) (X.held devices.old.secrets.now))) (CarriesIn l node.new (D.image devices.new.disk.now) (X.held devices.new.secrets.now)) out.old.entries out.new.entries) }
-    ensures saved { IfErr result (λ stop. IsTrue D.tells → IsTrue X.tells → (l : ℕ) → Moves IsKeptEntry (Both (IsBefore life.now l number) (CarriesIn l node.old (D.image devices.old.disk.now) (X.held devices.old.secrets.now))) (IsSaved life.now stop (D.image devices.new.disk.now) (X.held devices.new.secrets.now)) out.old.entries out.new.entries) }
+    ensures kept { OnOk result (IsTrue D.tells → IsTrue X.tells → (l : ℕ) → Moves IsKeptEntry (Both (IsBefore life.now l number) (CarriesIn l (number - 1) blocks.now node.old (D.image devices.old.disk.now) (X.held devices.old.secrets.now))) (CarriesIn l number blocks.now node.new (D.image devices.new.disk.now) (X.held devices.new.secrets.now)) out.old.entries out.new.entries) }
+    ensures saved { IfErr result (λ stop. IsTrue D.tells → IsTrue X.tells → (l : ℕ) → Moves IsKeptEntry (Both (IsBefore life.now l number) (CarriesIn l (number - 1) blocks.now node.old (D.image devices.old.disk.now) (X.held devices.old.secrets.now))) (IsSaved life.now stop (D.image devices.new.disk.now) (X.held devices.new.secrets.now)) out.old.entries out.new.entries) }
+    ensures no_record { IfErr result BlamesNoRecord }
+    // In a consistent script a block is refused only where it skips a height.
+    ensures skips { IfErr result (λ stop. IsTrue D.tells → IsTrue X.tells → (l : ℕ) → RefusesOnlySkips (Both (IsBefore life.now l number) (CarriesIn l (number - 1) blocks.now node.old (D.image devices.old.disk.now) (X.held devices.old.secrets.now))) l life.now stop) }
     ensures causes { IfErr result (λ stop. IsCaused stop (Rose (D.faults devices.old.disk.now) (D.faults devices.new.disk.now)) (Rose (X.faults devices.old.secrets.now) (X.faults devices.new.secrets.now))) }
     ensures later_disk { D.faults devices.old.disk.now ≤ D.faults devices.new.disk.now }
     ensures later_secrets { X.faults devices.old.secrets.now ≤ X.faults devices.new.secrets.now }
 {
     begin_step(devices, &life.cut, number)?;
-    match step(alloc, node, event, devices, out) {
+    match step(alloc, node, blocks, event, devices, out) {
         Ok(()) => {}
         Err(stop) => return Err(stop_of(&life.cut, number, stop)),
     }
@@ -181,11 +248,12 @@ fn take_step<D: Disk, X: SecretStore>(
 fn take_steps<D: Disk, X: SecretStore>(
     alloc: Global,
     node: &mut Node,
+    blocks: &[Block<Unit>],
     life: &Life,
     devices: &mut Devices<'_, D, X>,
     out: &mut Transcript,
 ) -> Result<(), Stop>
-    requires peers { AllByRecursion IsPeer life.now.events }
+    requires events { AllByRecursion (IsEventHere blocks.now) life.now.events }
     requires plays { IfSome node.old.player (λ p. Contains p.round.players p.me) }
     requires answers { IfSome node.old.player (λ p. IsPlayerOf ack_of p.me p.round p.acks node.old.store.dealings 0) }
     requires valid { IfSome (seat_in node.old.player) (λ seat. AreValid seat node.old.store.dealings) }
@@ -195,14 +263,17 @@ fn take_steps<D: Disk, X: SecretStore>(
     ensures same_secrets { devices.new.secrets.ghost_name ≡ devices.old.secrets.ghost_name }
     ensures done { OnOk result ((l : ℕ) → Moves IsInOrder (IsBehind life.now l 0) (IsBetween (l + 1)) out.old.entries out.new.entries) }
     ensures stopped { IfErr result (λ stop. (l : ℕ) → Moves IsInOrder (IsBehind life.now l 0) (IsStopped life.now l stop) out.old.entries out.new.entries) }
-    ensures kept { OnOk result (IsTrue D.tells → IsTrue X.tells → (l : ℕ) → Moves IsKeptEntry (Both (IsBehind life.now l 0) (CarriesIn l node.old (D.image devices.old.disk.now) (X.held devices.old.secrets.now))) (Rests (D.image devices.new.disk.now) (X.held devices.new.secrets.now)) out.old.entries out.new.entries) }
-    ensures saved { IfErr result (λ stop. IsTrue D.tells → IsTrue X.tells → (l : ℕ) → Moves IsKeptEntry (Both (IsBehind life.now l 0) (CarriesIn l node.old (D.image devices.old.disk.now) (X.held devices.old.secrets.now))) (IsSaved life.now stop (D.image devices.new.disk.now) (X.held devices.new.secrets.now)) out.old.entries out.new.entries) }
+    ensures kept { OnOk result (IsTrue D.tells → IsTrue X.tells → (l : ℕ) → Moves IsKeptEntry (Both (IsBehind life.now l 0) (CarriesIn l 0 blocks.now node.old (D.image devices.old.disk.now) (X.held devices.old.secrets.now))) (Rests (D.image devices.new.disk.now) (X.held devices.new.secrets.now)) out.old.entries out.new.entries) }
+    ensures saved { IfErr result (λ stop. IsTrue D.tells → IsTrue X.tells → (l : ℕ) → Moves IsKeptEntry (Both (IsBehind life.now l 0) (CarriesIn l 0 blocks.now node.old (D.image devices.old.disk.now) (X.held devices.old.secrets.now))) (IsSaved life.now stop (D.image devices.new.disk.now) (X.held devices.new.secrets.now)) out.old.entries out.new.entries) }
+    ensures no_record { IfErr result BlamesNoRecord }
+    // In a consistent script a block is refused only where it skips a height.
+    ensures skips { IfErr result (λ stop. IsTrue D.tells → IsTrue X.tells → (l : ℕ) → RefusesOnlySkips (Both (IsBehind life.now l 0) (CarriesIn l 0 blocks.now node.old (D.image devices.old.disk.now) (X.held devices.old.secrets.now))) l life.now stop) }
     ensures causes { IfErr result (λ stop. IsCaused stop (Rose (D.faults devices.old.disk.now) (D.faults devices.new.disk.now)) (Rose (X.faults devices.old.secrets.now) (X.faults devices.new.secrets.now))) }
     ensures later_disk { D.faults devices.old.disk.now ≤ D.faults devices.new.disk.now }
     ensures later_secrets { X.faults devices.old.secrets.now ≤ X.faults devices.new.secrets.now }
 {
     for (i, event) in life.events.as_slice().iter().enumerate() {
-        take_step(alloc, node, life, i as u64 + 1, event, devices, out)?;
+        take_step(alloc, node, blocks, life, i as u64 + 1, event, devices, out)?;
     }
     Ok(())
 }
@@ -226,16 +297,19 @@ fn open<D: Disk, X: SecretStore>(
     ensures done { OnOk result (Moves IsInOrder (IsBefore life.now number 0) (IsBehind life.now number 0) out.old.entries out.new.entries) }
     ensures stopped { IfErr result (λ stop. Moves IsInOrder (IsBefore life.now number 0) (IsStopped life.now number stop) out.old.entries out.new.entries) }
     ensures valid { IfOk result (λ node. IfSome (seat_in node.player) (λ seat. AreValid seat node.store.dealings)) }
-    ensures kept { IfOk result (λ node. IsTrue D.tells → IsTrue X.tells → Moves IsKeptEntry (Both (IsBefore life.now number 0) (RestsFor beginning.now (D.image devices.old.disk.now) (X.held devices.old.secrets.now))) (CarriesIn number node (D.image devices.new.disk.now) (X.held devices.new.secrets.now)) out.old.entries out.new.entries) }
+    ensures kept { IfOk result (λ node. IsTrue D.tells → IsTrue X.tells → Moves IsKeptEntry (Both (IsBefore life.now number 0) (RestsFor beginning.now (D.image devices.old.disk.now) (X.held devices.old.secrets.now))) (CarriesIn number 0 beginning.now.blocks.items node (D.image devices.new.disk.now) (X.held devices.new.secrets.now)) out.old.entries out.new.entries) }
     ensures saved { IfErr result (λ stop. IsTrue D.tells → IsTrue X.tells → Moves IsKeptEntry (Both (IsBefore life.now number 0) (RestsFor beginning.now (D.image devices.old.disk.now) (X.held devices.old.secrets.now))) (IsSaved life.now stop (D.image devices.new.disk.now) (X.held devices.new.secrets.now)) out.old.entries out.new.entries) }
+    ensures found { IfErr result (λ stop. IsTrue D.tells → IsTrue X.tells → IsFound (reader_of beginning.now) (D.files devices.new.disk.now) (X.held devices.new.secrets.now) stop) }
+    ensures accepts { IfErr result (λ stop. IsRefusal stop → ⊥) }
     ensures causes { IfErr result (λ stop. IsCaused stop (Rose (D.faults devices.old.disk.now) (D.faults devices.new.disk.now)) (Rose (X.faults devices.old.secrets.now) (X.faults devices.new.secrets.now))) }
     ensures later_disk { D.faults devices.old.disk.now ≤ D.faults devices.new.disk.now }
     ensures later_secrets { X.faults devices.old.secrets.now ≤ X.faults devices.new.secrets.now }
 {
     begin_step(devices, &life.cut, 0)?;
-    let node = match Node::open(alloc, beginning, number, life.word, devices, out) {
+    let place = Place::of(alloc, beginning.blocks.as_slice(), life)?;
+    let node = match Node::open(alloc, beginning, place, number, life.word, devices, out) {
         Ok(node) => node,
-        Err(stop) => return Err(stop_of(&life.cut, 0, stop)),
+        Err(stop) => return Err(opening_stop(&life.cut, stop)),
     };
     out.push(Entry::Step { step: 0 })?;
     Ok(node)
@@ -250,7 +324,7 @@ fn live<D: Disk, X: SecretStore>(
     devices: &mut Devices<'_, D, X>,
     out: &mut Transcript,
 ) -> Result<(), Stop>
-    requires form { IsLifeOfToday life.now }
+    requires events { AllByRecursion (IsEventHere beginning.now.blocks.items) life.now.events }
     requires today { IsTrue D.tells → IsToday (D.image devices.old.disk.now) }
     ensures today { IsTrue D.tells → IsToday (D.image devices.new.disk.now) }
     ensures same_disk { devices.new.disk.ghost_name ≡ devices.old.disk.ghost_name }
@@ -259,12 +333,15 @@ fn live<D: Disk, X: SecretStore>(
     ensures stopped { IfErr result (λ stop. Moves IsInOrder (IsBefore life.now number 0) (IsStopped life.now number stop) out.old.entries out.new.entries) }
     ensures kept { OnOk result (IsTrue D.tells → IsTrue X.tells → Moves IsKeptEntry (Both (IsBefore life.now number 0) (RestsFor beginning.now (D.image devices.old.disk.now) (X.held devices.old.secrets.now))) (Rests (D.image devices.new.disk.now) (X.held devices.new.secrets.now)) out.old.entries out.new.entries) }
     ensures saved { IfErr result (λ stop. IsTrue D.tells → IsTrue X.tells → Moves IsKeptEntry (Both (IsBefore life.now number 0) (RestsFor beginning.now (D.image devices.old.disk.now) (X.held devices.old.secrets.now))) (IsSaved life.now stop (D.image devices.new.disk.now) (X.held devices.new.secrets.now)) out.old.entries out.new.entries) }
+    ensures found { IfErr result (λ stop. IsTrue D.tells → IsTrue X.tells → IsFound (reader_of beginning.now) (D.files devices.new.disk.now) (X.held devices.new.secrets.now) stop) }
+    ensures skips { IfErr result (λ stop. IsTrue D.tells → IsTrue X.tells → RefusesOnlySkips (Both (IsBefore life.now number 0) (RestsFor beginning.now (D.image devices.old.disk.now) (X.held devices.old.secrets.now))) number life.now stop) }
     ensures causes { IfErr result (λ stop. IsCaused stop (Rose (D.faults devices.old.disk.now) (D.faults devices.new.disk.now)) (Rose (X.faults devices.old.secrets.now) (X.faults devices.new.secrets.now))) }
     ensures later_disk { D.faults devices.old.disk.now ≤ D.faults devices.new.disk.now }
     ensures later_secrets { X.faults devices.old.secrets.now ≤ X.faults devices.new.secrets.now }
 {
     let mut node = open(alloc, beginning, number, life, devices, out)?;
-    take_steps(alloc, &mut node, life, devices, out)?;
+    let blocks = beginning.blocks.as_slice();
+    take_steps(alloc, &mut node, blocks, life, devices, out)?;
     Ok(())
 }
 
@@ -310,7 +387,7 @@ fn run_life<D: Disk, X: SecretStore>(
     devices: &mut Devices<'_, D, X>,
     out: &mut Transcript,
 ) -> Result<(), Fault>
-    requires form { IsLifeOfToday life.now }
+    requires events { AllByRecursion (IsEventHere beginning.now.blocks.items) life.now.events }
     requires today { IsTrue D.tells → IsToday (D.image devices.old.disk.now) }
     ensures today { IsTrue D.tells → IsToday (D.image devices.new.disk.now) }
     ensures same_disk { devices.new.disk.ghost_name ≡ devices.old.disk.ghost_name }
@@ -319,6 +396,8 @@ fn run_life<D: Disk, X: SecretStore>(
     ensures stopped { IfErr result (λ fault. Moves IsInOrder (IsBefore life.now number 0) (MayTell fault) out.old.entries out.new.entries) }
     ensures kept { OnOk result (IsTrue D.tells → IsTrue X.tells → Moves IsKeptEntry (Both (IsBefore life.now number 0) (RestsFor beginning.now (D.image devices.old.disk.now) (X.held devices.old.secrets.now))) (Rests (D.image devices.new.disk.now) (X.held devices.new.secrets.now)) out.old.entries out.new.entries) }
     ensures saved { OnErr result (IsTrue D.tells → IsTrue X.tells → Moves IsKeptEntry (Both (IsBefore life.now number 0) (RestsFor beginning.now (D.image devices.old.disk.now) (X.held devices.old.secrets.now))) (IsDurableAt (D.image devices.new.disk.now) (X.held devices.new.secrets.now)) out.old.entries out.new.entries) }
+    ensures found { IfErr result (λ fault. IsTrue D.tells → IsTrue X.tells → IsFound (reader_of beginning.now) (D.files devices.new.disk.now) (X.held devices.new.secrets.now) (Stop.Faulted fault)) }
+    ensures skips { IfErr result (λ fault. IsTrue D.tells → IsTrue X.tells → RefusesOnlySkips (Both (IsBefore life.now number 0) (RestsFor beginning.now (D.image devices.old.disk.now) (X.held devices.old.secrets.now))) number life.now (Stop.Faulted fault)) }
     ensures causes { IfErr result (λ fault. IsCaused (Stop.Faulted fault) (Rose (D.faults devices.old.disk.now) (D.faults devices.new.disk.now)) (Rose (X.faults devices.old.secrets.now) (X.faults devices.new.secrets.now))) }
     ensures later_disk { D.faults devices.old.disk.now ≤ D.faults devices.new.disk.now }
     ensures later_secrets { X.faults devices.old.secrets.now ≤ X.faults devices.new.secrets.now }
@@ -353,6 +432,8 @@ fn run_all<D: Disk, X: SecretStore>(
     ensures stopped { IfErr result (λ fault. Moves IsInOrder (IsBetweenOf script.now 0) (MayTell fault) out.old.entries out.new.entries) }
     ensures kept { OnOk result (IsTrue D.tells → IsTrue X.tells → Moves IsKeptEntry (Both (IsBetweenOf script.now 0) (Rests (D.image devices.old.disk.now) (X.held devices.old.secrets.now))) (Both (IsBetweenOf script.now (length script.now.lives)) (Rests (D.image devices.new.disk.now) (X.held devices.new.secrets.now))) out.old.entries out.new.entries) }
     ensures saved { OnErr result (IsTrue D.tells → IsTrue X.tells → Moves IsKeptEntry (Both (IsBetweenOf script.now 0) (Rests (D.image devices.old.disk.now) (X.held devices.old.secrets.now))) (IsDurableAt (D.image devices.new.disk.now) (X.held devices.new.secrets.now)) out.old.entries out.new.entries) }
+    ensures found { IfErr result (λ fault. IsTrue D.tells → IsTrue X.tells → IsFound (reader_in script.now) (D.files devices.new.disk.now) (X.held devices.new.secrets.now) (Stop.Faulted fault)) }
+    ensures skips { IfErr result (λ fault. IsTrue D.tells → IsTrue X.tells → RunRefusesOnlySkips (Both (IsBetweenOf script.now 0) (Rests (D.image devices.old.disk.now) (X.held devices.old.secrets.now))) (Stop.Faulted fault)) }
     ensures causes { IfErr result (λ fault. IsCaused (Stop.Faulted fault) (Rose (D.faults devices.old.disk.now) (D.faults devices.new.disk.now)) (Rose (X.faults devices.old.secrets.now) (X.faults devices.new.secrets.now))) }
     ensures later_disk { D.faults devices.old.disk.now ≤ D.faults devices.new.disk.now }
     ensures later_secrets { X.faults devices.old.secrets.now ≤ X.faults devices.new.secrets.now }
@@ -397,6 +478,10 @@ pub fn run_lives<D: Disk, X: SecretStore>(
     ensures all { OnOk result (Adds out.old.entries out.new.entries (RunsAll script.now)) }
     // A fault is the last of them, the only one, and one that has its cause.
     ensures ends { Adds out.old.entries out.new.entries (λ added. EndsRun result added (Rose (D.faults disk.old) (D.faults disk.new)) (Rose (X.faults secrets.old) (X.faults secrets.new))) }
+    // A corrupt record or a refused dealing that it blames is found on the devices as the call leaves them.
+    ensures found { IsTrue D.tells → IsTrue X.tells → Adds out.old.entries out.new.entries (AreFound (reader_in script.now) (D.files disk.new) (X.held secrets.new)) }
+    // In a consistent script no block is refused but one that skips a height.
+    ensures skips { IfErr result (λ fault. IsTrue D.tells → IsTrue X.tells → BlamesOnlySkips (setting_of script.now (D.files disk.old) (X.held secrets.old)) (D.image disk.old) fault) }
     // Whatever ends the run, the transcript and the devices keep each recorded dealing; and at Ok each dealing that was due was
     // acknowledged.
     ensures kept { IsTrue D.tells → IsTrue X.tells → Adds out.old.entries out.new.entries (KeepsDealings (setting_of script.now (D.files disk.old) (X.held secrets.old)) (D.image disk.old) (D.image disk.new) (X.held secrets.new)) }

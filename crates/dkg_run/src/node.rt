@@ -1,28 +1,36 @@
 //! A node in one life: it opens its store, sets the first epoch up, and answers the dealings that reach it.
 //!
 //! The rules are those of the upstream's `reshare::actor`: its `setup` commits and registers before a player is made,
-//! and its `dkg` answers a peer's dealing with an acknowledgement, or blocks the peer.
+//! and its `dkg` answers a peer's dealing with an acknowledgement, or blocks the peer. Dealing ends with the block before the
+//! midpoint.
 
-ghost use Rattle.std.specs.Prelude.{◌≡◌, ◌≤◌, ◌^◌, ◌⊎◌, ◌++◌, ◌∷◌, [], length, Contains, OnOk, OnErr, IfOk, IfErr, IfSome, IsSomeAnd, IsTrue, Some};
+ghost use Rattle.std.specs.Prelude.{ℕ, ◌≡◌, ◌≤◌, ◌^◌, ◌⊎◌, ◌++◌, ◌∷◌, [], length, Contains, OnOk, OnErr, IfOk, IfErr, IfSome, IsSomeAnd, IsTrue, Some, Err, Ok};
 ghost use Rattle.std.specs.Option.{ForSome};
 ghost use Rattle.dkg_ceremony.specs.Acks.{ack_of};
 ghost use Rattle.std.specs.Int.NonZero.{non_zero_u32_get};
 ghost use Rattle.dkg_journal.specs.Disk.{Rose};
+ghost use Rattle.dkg_journal.specs.Names.{Files};
 ghost use Rattle.dkg_journal.specs.Records.{entries};
+ghost use Rattle.dkg_store.specs.Noted.{logs_in};
 ghost use Rattle.dkg_store.specs.Pairs.{Pairs, Holds, IsWhole};
 ghost use Rattle.dkg_store.specs.Player.{IsPlayerOf};
+ghost use Rattle.dkg_store.specs.Secrets.{Secrets};
 ghost use Rattle.dkg_script.specs.Setting.{listed, recovered_from};
-ghost use Rattle.dkg_run.specs.Devices.{IsToday, IsReady};
+ghost use Rattle.dkg_run.specs.Devices.{IsToday, IsReady, KeepsLogs};
+ghost use Rattle.dkg_run.specs.Found.{BlamesNoRecord, GiveBack, IsFound, Reader, made_by, reader_of};
 ghost use Rattle.dkg_run.specs.Standing.{AddsQuiet, AddsOpening};
+ghost use Rattle.dkg_run.specs.Chain.{WhileDealing, deals_in, judge_of, tip_after};
+ghost use Rattle.std.specs.Result.{IsOkAnd};
 ghost use Rattle.dkg_run.specs.Opened.{AddsSetUp, TellsOpening, round_by, round_in, seat_at};
-ghost use Rattle.dkg_run.specs.Stops.{IsByDevice, IsCaused};
-ghost use Rattle.dkg_run.specs.Told.{Answers, AreValid, Hands, HoldsAtMost, brought_in, message_in, seat_in, told_by, why_of};
+ghost use Rattle.dkg_run.specs.Stops.{IsByDevice, IsCaused, fault_in};
+ghost use Rattle.dkg_run.specs.Told.{Answers, AreValid, Hands, HoldsAtMost, IsSilent, brought_in, message_in, seat_in, told_by, why_of};
 ghost use Rattle.dkg_types.specs.MessageCodes.{MessageFits};
 ghost use Rattle.dkg_run.specs.declared.stop.Stop.TheVariants.{Faulted};
 ghost use Rattle.dkg_types.specs.declared.fault.Fault.TheVariants.{NoMemory as OutOfMemory};
 
 use crate::beginning::Beginning;
 use crate::decoded::decoded;
+use crate::place::Place;
 use crate::stop::Stop;
 use dkg_ceremony::{
     Ack, Ceremony, DealingError, Epoch, Height, Key, Mem, NoMemory, Phase, Private, Public, Reveal,
@@ -31,8 +39,8 @@ use dkg_ceremony::{
 use dkg_journal::Disk;
 use dkg_store::{DealingHandleError, Devices, Player, SecretStore, Store};
 use dkg_types::{
-    BlockedWhy, Entry, EpochInfo, Fault, Message, Part, ParticipantsCause, Restored, RestoredList,
-    Role, SchemeInfo, Transcript, Unit,
+    Block, BlockedWhy, Entry, EpochInfo, Fault, Message, Part, ParticipantsCause, Restored,
+    RestoredList, Role, SchemeInfo, Transcript, Unit,
 };
 use sha2::{Digest, Sha256};
 use std::alloc::Global;
@@ -47,6 +55,9 @@ pub struct Node {
     pub limit: u32,
     pub store: Store<Unit>,
     pub player: Option<Player>,
+    pub place: Place,
+    /// The height from which on nothing is dealt.
+    pub midpoint: Height,
     ghost few: { limit ≤ 2 ^ 30 },
     ghost signs: { ForSome player (λ p. signer ≡ p.me) },
 }
@@ -95,6 +106,12 @@ fn open_store<D: Disk, X: SecretStore>(
     ensures settled { IfOk result (λ store. IsTrue D.tells → IsTrue X.tells → IsWhole (entries (D.files devices.old.disk.now)) (X.held devices.old.secrets.now) → Holds store.dealings (D.image devices.new.disk.now) (X.held devices.new.secrets.now)) }
     // Wherever it stops, what held before holds.
     ensures holds { IsTrue D.tells → (pairs : Pairs) → Holds pairs (D.image devices.old.disk.now) (X.held devices.old.secrets.now) → Holds pairs (D.image devices.new.disk.now) (X.held devices.new.secrets.now) }
+    // .. and a crash then leaves what gives it back.
+    ensures gives { IfOk result (λ store. IsTrue D.tells → IsTrue X.tells → GiveBack store.dealings (D.image devices.new.disk.now) (X.held devices.new.secrets.now)) }
+    ensures found { IfErr result (λ stop. IsTrue D.tells → IsTrue X.tells → IsFound (reader_of beginning.now) (D.files devices.new.disk.now) (X.held devices.new.secrets.now) stop) }
+    // So are the logs, and no crash leaves others.
+    ensures logs { IfOk result (λ store. IsTrue D.tells → store.logs ≡ logs_in (entries (D.files devices.old.disk.now))) }
+    ensures keeps_logs { IsTrue D.tells → KeepsLogs (D.image devices.old.disk.now) (D.image devices.new.disk.now) }
     ensures lists { IfOk result (λ store. out.new.entries ≡ out.old.entries ++ Entry.Opened life (listed store.dealings) ∷ []) }
     ensures causes { IfErr result (λ stop. IsCaused stop (Rose (D.faults devices.old.disk.now) (D.faults devices.new.disk.now)) (Rose (X.faults devices.old.secrets.now) (X.faults devices.new.secrets.now))) }
     ensures later_disk { D.faults devices.old.disk.now ≤ D.faults devices.new.disk.now }
@@ -111,6 +128,8 @@ fn checked_info<'a>(alloc: Global, beginning: &'a Beginning) -> Result<&'a Epoch
     ensures info { IfOk result (λ info. beginning.now.info ≡ Some info.now) }
     ensures first { IfOk result (λ info. info.now.epoch ≡ 0) }
     ensures causes { IfErr result (λ stop. IsCaused stop ⊥ ⊥) }
+    // What is wrong with the info, the script shows.
+    ensures found { IfErr result (λ stop. (files : Files) (held : Secrets) → IsFound (reader_of beginning.now) files held stop) }
 {
     let Some(info) = &beginning.info else {
         return Err(Stop::Faulted(Fault::MissingEpochInfo { height: Height(0) }));
@@ -170,6 +189,8 @@ fn commit<D: Disk, X: SecretStore>(
     ensures same_secrets { devices.new.secrets.ghost_name ≡ devices.old.secrets.ghost_name }
     ensures quiet { AddsQuiet out.old.entries out.new.entries }
     ensures dealings { store.new.dealings ≡ store.old.dealings }
+    ensures gives { OnOk result (IsTrue X.tells → (files : Files) → recovered_from files (X.held devices.new.secrets.now) ≡ recovered_from files (X.held devices.old.secrets.now)) }
+    ensures logs { store.new.logs ≡ store.old.logs }
     ensures holds { (pairs : Pairs) → Holds pairs (D.image devices.old.disk.now) (X.held devices.old.secrets.now) → Holds pairs (D.image devices.new.disk.now) (X.held devices.new.secrets.now) }
     ensures set_up { AddsSetUp out.old.entries out.new.entries }
     ensures causes { IfErr result (λ stop. IsByDevice stop (Rose (D.faults devices.old.disk.now) (D.faults devices.new.disk.now)) (Rose (X.faults devices.old.secrets.now) (X.faults devices.new.secrets.now))) }
@@ -189,6 +210,7 @@ fn commit<D: Disk, X: SecretStore>(
 fn round_of(alloc: Global, beginning: &Beginning, info: &EpochInfo<Unit>) -> Result<Round, Stop>
     ensures round { IfOk result (λ round. round_by beginning.now.namespace beginning.now.mode info.now ≡ Some round) }
     ensures causes { IfErr result (λ stop. IsCaused stop ⊥ ⊥) }
+    ensures found { IfErr result (λ stop. (reader : Reader) (files : Files) (held : Secrets) → reader.tried ≡ Some (made_by beginning.now.namespace beginning.now.mode info.now) → IsFound reader files held stop) }
 {
     let namespace = beginning.namespace.as_slice();
     let dealers = &info.output.players;
@@ -208,7 +230,7 @@ fn round_of(alloc: Global, beginning: &Beginning, info: &EpochInfo<Unit>) -> Res
     }
 }
 
-/// The node's player, where it is one of the round's.
+/// The node's player, where it is one of the round's and lacks no dealing that it acknowledged.
 fn player_of(
     alloc: Global,
     me: Key,
@@ -218,9 +240,11 @@ fn player_of(
     ensures me { IfOk result (λ player. IfSome player (λ p. p.me ≡ me)) }
     ensures plays { IfOk result (λ player. IfSome player (λ p. Contains p.round.players p.me)) }
     ensures answers { IfOk result (λ player. IfSome player (λ p. IsPlayerOf ack_of p.me p.round p.acks store.now.dealings 0)) }
-    ensures seat { IfOk result (λ player. seat_in player ≡ seat_at me round.now) }
+    ensures seat { IfOk result (λ player. seat_in player ≡ seat_at me store.now.dealings store.now.logs round.now) }
     ensures valid { IfOk result (λ player. IfSome (seat_in player) (λ seat. AreValid seat store.now.dealings)) }
     ensures causes { IfErr result (λ stop. IsCaused stop ⊥ ⊥) }
+    // A recorded dealing that is refused is found on devices that give back what is recorded.
+    ensures found { IfErr result (λ stop. (reader : Reader) (files : Files) (held : Secrets) → reader.me ≡ me → reader.tried ≡ Some (Ok round.now) → recovered_from files held ≡ store.now.dealings → IsFound reader files held stop) }
 {
     if !round.players.has(me) {
         return Ok(None);
@@ -250,32 +274,64 @@ fn tell_setup(part: Part, out: &mut Transcript) -> Mem<()>
     out.push(Entry::Entered { epoch: FIRST_EPOCH })
 }
 
+/// Prunes the store below the first epoch, where nothing is recorded.
+fn prune<D: Disk, X: SecretStore>(
+    alloc: Global,
+    store: &mut Store<Unit>,
+    devices: &mut Devices<'_, D, X>,
+) -> Result<(), Stop>
+    requires ready { IsTrue D.tells → IsReady store.old.journal.place (D.files devices.old.disk.now) (D.image devices.old.disk.now) }
+    ensures ready { OnOk result (IsTrue D.tells → IsReady store.new.journal.place (D.files devices.new.disk.now) (D.image devices.new.disk.now)) }
+    ensures today { IsTrue D.tells → IsToday (D.image devices.new.disk.now) }
+    ensures same_disk { devices.new.disk.ghost_name ≡ devices.old.disk.ghost_name }
+    ensures same_secrets { devices.new.secrets.ghost_name ≡ devices.old.secrets.ghost_name }
+    ensures dealings { store.new.dealings ≡ store.old.dealings }
+    ensures logs { store.new.logs ≡ store.old.logs }
+    ensures holds { IsTrue D.tells → (pairs : Pairs) → Holds pairs (D.image devices.old.disk.now) (X.held devices.old.secrets.now) → Holds pairs (D.image devices.new.disk.now) (X.held devices.new.secrets.now) }
+    ensures keeps_logs { IsTrue D.tells → KeepsLogs (D.image devices.old.disk.now) (D.image devices.new.disk.now) }
+    ensures gives { OnOk result (IsTrue D.tells → (pairs : Pairs) → GiveBack pairs (D.image devices.old.disk.now) (X.held devices.old.secrets.now) → GiveBack pairs (D.image devices.new.disk.now) (X.held devices.new.secrets.now)) }
+    ensures no_record { IfErr result (λ stop. IsTrue D.tells → BlamesNoRecord stop) }
+    ensures causes { IfErr result (λ stop. IsCaused stop (Rose (D.faults devices.old.disk.now) (D.faults devices.new.disk.now)) (Rose (X.faults devices.old.secrets.now) (X.faults devices.new.secrets.now))) }
+    ensures later_disk { D.faults devices.old.disk.now ≤ D.faults devices.new.disk.now }
+    ensures later_secrets { X.faults devices.old.secrets.now ≤ X.faults devices.new.secrets.now }
+{
+    Ok(store.prune(alloc, devices, FIRST_EPOCH)?)
+}
+
 /// Prunes the store, and enters the round of the first epoch.
 fn enter<D: Disk, X: SecretStore>(
     alloc: Global,
     beginning: &Beginning,
+    place: Place,
     info: &EpochInfo<Unit>,
     mut store: Store<Unit>,
     devices: &mut Devices<'_, D, X>,
     out: &mut Transcript,
 ) -> Result<Node, Stop>
+    requires ready { IsTrue D.tells → IsReady store.journal.place (D.files devices.old.disk.now) (D.image devices.old.disk.now) }
     ensures plays { IfOk result (λ node. IfSome node.player (λ p. Contains p.round.players p.me)) }
     ensures answers { IfOk result (λ node. IfSome node.player (λ p. IsPlayerOf ack_of p.me p.round p.acks node.store.dealings 0)) }
-    ensures journal { IfOk result (λ node. node.store.journal ≡ store.journal) }
-    ensures disk { devices.new.disk.now ≡ devices.old.disk.now }
+    ensures ready { IfOk result (λ node. IsTrue D.tells → IsReady node.store.journal.place (D.files devices.new.disk.now) (D.image devices.new.disk.now)) }
+    ensures today { IsTrue D.tells → IsToday (D.image devices.new.disk.now) }
     ensures same_disk { devices.new.disk.ghost_name ≡ devices.old.disk.ghost_name }
     ensures same_secrets { devices.new.secrets.ghost_name ≡ devices.old.secrets.ghost_name }
     ensures quiet { AddsQuiet out.old.entries out.new.entries }
-    ensures seat { IfOk result (λ node. IsSomeAnd (round_by beginning.now.namespace beginning.now.mode info.now) (λ round. seat_in node.player ≡ seat_at beginning.now.me round)) }
+    ensures seat { IfOk result (λ node. IsSomeAnd (round_by beginning.now.namespace beginning.now.mode info.now) (λ round. seat_in node.player ≡ seat_at beginning.now.me node.store.dealings node.store.logs round)) }
     ensures limit { IfOk result (λ node. node.limit ≡ non_zero_u32_get beginning.now.limit) }
+    ensures tip { IfOk result (λ node. node.place.tip ≡ place.tip) }
+    ensures midpoint { IfOk result (λ node. node.midpoint ≡ beginning.now.midpoint) }
     ensures valid { IfOk result (λ node. IfSome (seat_in node.player) (λ seat. AreValid seat node.store.dealings)) }
     ensures dealings { IfOk result (λ node. node.store.dealings ≡ store.dealings) }
-    ensures holds { (pairs : Pairs) → Holds pairs (D.image devices.old.disk.now) (X.held devices.old.secrets.now) → Holds pairs (D.image devices.new.disk.now) (X.held devices.new.secrets.now) }
+    ensures logs { IfOk result (λ node. node.store.logs ≡ store.logs) }
+    ensures keeps_logs { IsTrue D.tells → KeepsLogs (D.image devices.old.disk.now) (D.image devices.new.disk.now) }
+    ensures holds { IsTrue D.tells → (pairs : Pairs) → Holds pairs (D.image devices.old.disk.now) (X.held devices.old.secrets.now) → Holds pairs (D.image devices.new.disk.now) (X.held devices.new.secrets.now) }
     ensures set_up { AddsSetUp out.old.entries out.new.entries }
+    ensures found { IfErr result (λ stop. IsTrue D.tells → IsTrue X.tells → GiveBack store.dealings (D.image devices.old.disk.now) (X.held devices.old.secrets.now) → (reader : Reader) → reader.me ≡ beginning.now.me → reader.tried ≡ Some (made_by beginning.now.namespace beginning.now.mode info.now) → IsFound reader (D.files devices.new.disk.now) (X.held devices.new.secrets.now) stop) }
     ensures causes { IfErr result (λ stop. IsCaused stop (Rose (D.faults devices.old.disk.now) (D.faults devices.new.disk.now)) (Rose (X.faults devices.old.secrets.now) (X.faults devices.new.secrets.now))) }
+    ensures later_disk { D.faults devices.old.disk.now ≤ D.faults devices.new.disk.now }
     ensures later_secrets { X.faults devices.old.secrets.now ≤ X.faults devices.new.secrets.now }
 {
-    store.prune(alloc, devices, FIRST_EPOCH)?;
+    prune(alloc, &mut store, devices)?;
     let round = round_of(alloc, beginning, info)?;
     let player = player_of(alloc, beginning.me, &store, &round)?;
     tell_setup(part_of(&player), out)?;
@@ -284,6 +340,8 @@ fn enter<D: Disk, X: SecretStore>(
         limit: beginning.limit.get(),
         store,
         player,
+        place,
+        midpoint: beginning.midpoint,
     })
 }
 
@@ -291,30 +349,38 @@ fn enter<D: Disk, X: SecretStore>(
 fn set_up<D: Disk, X: SecretStore>(
     alloc: Global,
     beginning: &Beginning,
+    place: Place,
     word: u64,
     mut store: Store<Unit>,
     devices: &mut Devices<'_, D, X>,
     out: &mut Transcript,
 ) -> Result<Node, Stop>
+    requires ready { IsTrue D.tells → IsReady store.journal.place (D.files devices.old.disk.now) (D.image devices.old.disk.now) }
     ensures plays { IfOk result (λ node. IfSome node.player (λ p. Contains p.round.players p.me)) }
     ensures answers { IfOk result (λ node. IfSome node.player (λ p. IsPlayerOf ack_of p.me p.round p.acks node.store.dealings 0)) }
-    ensures journal { IfOk result (λ node. node.store.journal ≡ store.journal) }
-    ensures disk { devices.new.disk.now ≡ devices.old.disk.now }
+    ensures ready { IfOk result (λ node. IsTrue D.tells → IsReady node.store.journal.place (D.files devices.new.disk.now) (D.image devices.new.disk.now)) }
+    ensures today { IsTrue D.tells → IsToday (D.image devices.new.disk.now) }
     ensures same_disk { devices.new.disk.ghost_name ≡ devices.old.disk.ghost_name }
     ensures same_secrets { devices.new.secrets.ghost_name ≡ devices.old.secrets.ghost_name }
     ensures quiet { AddsQuiet out.old.entries out.new.entries }
-    ensures seat { IfOk result (λ node. IsSomeAnd (round_in beginning.now.namespace beginning.now.mode beginning.now.info) (λ round. seat_in node.player ≡ seat_at beginning.now.me round)) }
+    ensures seat { IfOk result (λ node. IsSomeAnd (round_in beginning.now.namespace beginning.now.mode beginning.now.info) (λ round. seat_in node.player ≡ seat_at beginning.now.me node.store.dealings node.store.logs round)) }
     ensures limit { IfOk result (λ node. node.limit ≡ non_zero_u32_get beginning.now.limit) }
+    ensures tip { IfOk result (λ node. node.place.tip ≡ place.tip) }
+    ensures midpoint { IfOk result (λ node. node.midpoint ≡ beginning.now.midpoint) }
     ensures valid { IfOk result (λ node. IfSome (seat_in node.player) (λ seat. AreValid seat node.store.dealings)) }
     ensures dealings { IfOk result (λ node. node.store.dealings ≡ store.dealings) }
-    ensures holds { (pairs : Pairs) → Holds pairs (D.image devices.old.disk.now) (X.held devices.old.secrets.now) → Holds pairs (D.image devices.new.disk.now) (X.held devices.new.secrets.now) }
+    ensures logs { IfOk result (λ node. node.store.logs ≡ store.logs) }
+    ensures keeps_logs { IsTrue D.tells → KeepsLogs (D.image devices.old.disk.now) (D.image devices.new.disk.now) }
+    ensures holds { IsTrue D.tells → (pairs : Pairs) → Holds pairs (D.image devices.old.disk.now) (X.held devices.old.secrets.now) → Holds pairs (D.image devices.new.disk.now) (X.held devices.new.secrets.now) }
     ensures set_up { AddsSetUp out.old.entries out.new.entries }
+    ensures found { IfErr result (λ stop. IsTrue D.tells → IsTrue X.tells → GiveBack store.dealings (D.image devices.old.disk.now) (X.held devices.old.secrets.now) → IsFound (reader_of beginning.now) (D.files devices.new.disk.now) (X.held devices.new.secrets.now) stop) }
     ensures causes { IfErr result (λ stop. IsCaused stop (Rose (D.faults devices.old.disk.now) (D.faults devices.new.disk.now)) (Rose (X.faults devices.old.secrets.now) (X.faults devices.new.secrets.now))) }
+    ensures later_disk { D.faults devices.old.disk.now ≤ D.faults devices.new.disk.now }
     ensures later_secrets { X.faults devices.old.secrets.now ≤ X.faults devices.new.secrets.now }
 {
     let info = checked_info(alloc, beginning)?;
     commit(alloc, beginning.me, word, info, &mut store, devices, out)?;
-    let node = enter(alloc, beginning, info, store, devices, out)?;
+    let node = enter(alloc, beginning, place, info, store, devices, out)?;
     Ok(node)
 }
 
@@ -331,6 +397,7 @@ impl Node {
     pub fn open<D: Disk, X: SecretStore>(
         alloc: Global,
         beginning: &Beginning,
+        place: Place,
         life: u64,
         word: u64,
         devices: &mut Devices<'_, D, X>,
@@ -346,24 +413,31 @@ impl Node {
         // The life's Opened entry comes first. An opening that fails before it tells nothing.
         ensures opened { OnOk result (AddsOpening life out.old.entries out.new.entries) }
         ensures failed { OnErr result ((out.new.entries ≡ out.old.entries) ⊎ AddsOpening life out.old.entries out.new.entries) }
-        // The node plays the first epoch's round where it is one of its players.
-        ensures seat { IfOk result (λ node. IsSomeAnd (round_in beginning.now.namespace beginning.now.mode beginning.now.info) (λ round. seat_in node.player ≡ seat_at beginning.now.me round)) }
+        // The node plays the first epoch's round where it is one of its players and lacks no dealing that it acknowledged.
+        ensures seat { IfOk result (λ node. IsSomeAnd (round_in beginning.now.namespace beginning.now.mode beginning.now.info) (λ round. seat_in node.player ≡ seat_at beginning.now.me node.store.dealings node.store.logs round)) }
         ensures limit { IfOk result (λ node. node.limit ≡ non_zero_u32_get beginning.now.limit) }
+        ensures tip { IfOk result (λ node. node.place.tip ≡ place.tip) }
+        ensures midpoint { IfOk result (λ node. node.midpoint ≡ beginning.now.midpoint) }
         ensures valid { IfOk result (λ node. IfSome (seat_in node.player) (λ seat. AreValid seat node.store.dealings)) }
         // What is recorded is what the devices gave back, and from then on a crash leaves just that.
         ensures recovered { IfOk result (λ node. IsTrue D.tells → IsTrue X.tells → node.store.dealings ≡ recovered_from (D.files devices.old.disk.now) (X.held devices.old.secrets.now)) }
         ensures settled { IfOk result (λ node. IsTrue D.tells → IsTrue X.tells → IsWhole (entries (D.files devices.old.disk.now)) (X.held devices.old.secrets.now) → Holds node.store.dealings (D.image devices.new.disk.now) (X.held devices.new.secrets.now)) }
         // Wherever it stops, what held before holds.
         ensures holds { IsTrue D.tells → (pairs : Pairs) → Holds pairs (D.image devices.old.disk.now) (X.held devices.old.secrets.now) → Holds pairs (D.image devices.new.disk.now) (X.held devices.new.secrets.now) }
+        // So are the logs, and no crash leaves others.
+        ensures logs { IfOk result (λ node. IsTrue D.tells → node.store.logs ≡ logs_in (entries (D.files devices.old.disk.now))) }
+        ensures keeps_logs { IsTrue D.tells → KeepsLogs (D.image devices.old.disk.now) (D.image devices.new.disk.now) }
         // The life's Opened entry lists that.
         ensures lists { OnOk result (IsTrue D.tells → IsTrue X.tells → TellsOpening life (recovered_from (D.files devices.old.disk.now) (X.held devices.old.secrets.now)) out.old.entries out.new.entries) }
+        // What a fault blames is found on the devices as the call leaves them.
+        ensures found { IfErr result (λ stop. IsTrue D.tells → IsTrue X.tells → IsFound (reader_of beginning.now) (D.files devices.new.disk.now) (X.held devices.new.secrets.now) stop) }
         ensures may_list { OnErr result (IsTrue D.tells → IsTrue X.tells → (out.new.entries ≡ out.old.entries) ⊎ TellsOpening life (recovered_from (D.files devices.old.disk.now) (X.held devices.old.secrets.now)) out.old.entries out.new.entries) }
         ensures causes { IfErr result (λ stop. IsCaused stop (Rose (D.faults devices.old.disk.now) (D.faults devices.new.disk.now)) (Rose (X.faults devices.old.secrets.now) (X.faults devices.new.secrets.now))) }
         ensures later_disk { D.faults devices.old.disk.now ≤ D.faults devices.new.disk.now }
         ensures later_secrets { X.faults devices.old.secrets.now ≤ X.faults devices.new.secrets.now }
     {
         let store = open_store(alloc, beginning, life, devices, out)?;
-        let node = set_up(alloc, beginning, word, store, devices, out)?;
+        let node = set_up(alloc, beginning, place, word, store, devices, out)?;
         Ok(node)
     }
 
@@ -391,8 +465,12 @@ impl Node {
         ensures seat { seat_in self.new.player ≡ seat_in self.old.player }
         ensures signer { self.new.signer ≡ self.old.signer }
         ensures limit { self.new.limit ≡ self.old.limit }
-        // Just what is told and recorded. (At an error nothing, or a new dealing whose acknowledgement found no memory.)
-        ensures told { Answers result (seat_in self.old.player) (brought_in self.old.limit bytes.now) from out.old.entries out.new.entries self.old.store.dealings self.new.store.dealings }
+        ensures place { self.new.place ≡ self.old.place }
+        ensures midpoint { self.new.midpoint ≡ self.old.midpoint }
+        // Just what is told and recorded. (At an error nothing, or a new dealing whose acknowledgement found no memory.) Once dealing
+        // has ended no message is read.
+        ensures told { WhileDealing (deals_in self.old.place.tip self.old.midpoint) (Answers result (seat_in self.old.player) (brought_in self.old.limit bytes.now) from out.old.entries out.new.entries self.old.store.dealings self.new.store.dealings) (IsSilent out.old.entries out.new.entries self.old.store.dealings self.new.store.dealings) }
+        ensures keeps_logs { IsTrue D.tells → KeepsLogs (D.image devices.old.disk.now) (D.image devices.new.disk.now) }
         ensures holds { OnOk result (IsTrue D.tells → IsTrue X.tells → Holds self.old.store.dealings (D.image devices.old.disk.now) (X.held devices.old.secrets.now) → Holds self.new.store.dealings (D.image devices.new.disk.now) (X.held devices.new.secrets.now)) }
         // Wherever it stops, a crash leaves what is recorded, or beside that at most the one valid new dealing.
         ensures images { IsTrue D.tells → IsTrue X.tells → Holds self.old.store.dealings (D.image devices.old.disk.now) (X.held devices.old.secrets.now) → HoldsAtMost (seat_in self.old.player) (brought_in self.old.limit bytes.now) from self.new.store.dealings (D.image devices.new.disk.now) (X.held devices.new.secrets.now) }
@@ -400,6 +478,9 @@ impl Node {
         ensures later_disk { D.faults devices.old.disk.now ≤ D.faults devices.new.disk.now }
         ensures later_secrets { X.faults devices.old.secrets.now ≤ X.faults devices.new.secrets.now }
     {
+        if !self.place.deals(self.midpoint) {
+            return Ok(());
+        }
         match message_in(alloc, self.limit, bytes)? {
             Some(Message::Dealer(public, private)) => {
                 self.dealing(alloc, devices, from, public, private, out)
@@ -407,6 +488,33 @@ impl Node {
             Some(Message::Ack(_)) => block(out, from, BlockedWhy::Nondealer),
             None => block(out, from, BlockedWhy::Decode),
         }
+    }
+
+    /// Takes a finalized block, and acknowledges it.
+    pub fn finalized(
+        &mut self,
+        number: u32,
+        block: &Block<Unit>,
+        out: &mut Transcript,
+    ) -> Result<(), Stop>
+        ensures player { self.new.player ≡ self.old.player }
+        ensures store { self.new.store ≡ self.old.store }
+        ensures signer { self.new.signer ≡ self.old.signer }
+        ensures limit { self.new.limit ≡ self.old.limit }
+        ensures midpoint { self.new.midpoint ≡ self.old.midpoint }
+        ensures quiet { AddsQuiet out.old.entries out.new.entries }
+        // The block is judged, and where it belongs to the chain it is acknowledged and, if it was awaited, the new tip.
+        ensures taken { OnOk result (IsOkAnd (judge_of self.old.place.tip block.now.height block.now.digest block.now.parent) (λ judged. self.new.place.tip ≡ tip_after self.old.place.tip judged block.now.height block.now.digest)) }
+        ensures told { OnOk result (out.new.entries ≡ out.old.entries ++ Entry.Acked block.now.height ∷ []) }
+        ensures untold { OnErr result (out.new.entries ≡ out.old.entries) }
+        ensures refused { IfErr result (λ stop. (stop ≡ Faulted OutOfMemory) ⊎ IsSomeAnd (fault_in stop) (λ fault. judge_of self.old.place.tip block.now.height block.now.digest block.now.parent ≡ Err fault)) }
+        ensures no_record { IfErr result BlamesNoRecord }
+        ensures causes { IfErr result (λ stop. IsCaused stop ⊥ ⊥) }
+    {
+        self.place.take(number, block)?;
+        Ok(out.push(Entry::Acked {
+            height: block.height(),
+        })?)
     }
 
     /// Acknowledges a dealing, or blocks its sender.
@@ -435,8 +543,11 @@ impl Node {
         ensures seat { seat_in self.new.player ≡ seat_in self.old.player }
         ensures signer { self.new.signer ≡ self.old.signer }
         ensures limit { self.new.limit ≡ self.old.limit }
+        ensures place { self.new.place ≡ self.old.place }
+        ensures midpoint { self.new.midpoint ≡ self.old.midpoint }
         // Just what is told and recorded. (At an error nothing, or a new dealing whose acknowledgement found no memory.)
         ensures told { Answers result (seat_in self.old.player) (Some (record { public = public; private = private })) from out.old.entries out.new.entries self.old.store.dealings self.new.store.dealings }
+        ensures keeps_logs { IsTrue D.tells → KeepsLogs (D.image devices.old.disk.now) (D.image devices.new.disk.now) }
         ensures holds { OnOk result (IsTrue D.tells → IsTrue X.tells → Holds self.old.store.dealings (D.image devices.old.disk.now) (X.held devices.old.secrets.now) → Holds self.new.store.dealings (D.image devices.new.disk.now) (X.held devices.new.secrets.now)) }
         // Wherever it stops, a crash leaves what is recorded, or beside that at most the one valid new dealing.
         ensures images { IsTrue D.tells → IsTrue X.tells → Holds self.old.store.dealings (D.image devices.old.disk.now) (X.held devices.old.secrets.now) → HoldsAtMost (seat_in self.old.player) (Some (record { public = public; private = private })) from self.new.store.dealings (D.image devices.new.disk.now) (X.held devices.new.secrets.now) }
@@ -489,6 +600,7 @@ fn handle<D: Disk, X: SecretStore>(
     ensures quiet { AddsQuiet out.old.entries out.new.entries }
     // Just what is told and recorded: at an error, and where the dealing is refused, nothing.
     ensures told { Hands result (record { me = player.old.me; round = player.old.round }) (record { public = public; private = private }) from out.old.entries out.new.entries store.old.dealings store.new.dealings }
+    ensures keeps_logs { IsTrue D.tells → KeepsLogs (D.image devices.old.disk.now) (D.image devices.new.disk.now) }
     ensures holds { OnOk result (IsTrue D.tells → IsTrue X.tells → Holds store.old.dealings (D.image devices.old.disk.now) (X.held devices.old.secrets.now) → Holds store.new.dealings (D.image devices.new.disk.now) (X.held devices.new.secrets.now)) }
     ensures images { IsTrue D.tells → IsTrue X.tells → Holds store.old.dealings (D.image devices.old.disk.now) (X.held devices.old.secrets.now) → HoldsAtMost (Some (record { me = player.old.me; round = player.old.round })) (Some (record { public = public; private = private })) from store.new.dealings (D.image devices.new.disk.now) (X.held devices.new.secrets.now) }
     ensures causes { IfErr result (λ stop. IsByDevice stop (Rose (D.faults devices.old.disk.now) (D.faults devices.new.disk.now)) (Rose (X.faults devices.old.secrets.now) (X.faults devices.new.secrets.now))) }

@@ -41,3 +41,11 @@ impl From<NoMemory> for Stop {
         Stop::Faulted(Fault::NoMemory)
     }
 }
+
+impl From<Fault> for Stop {
+    ghost from_gives = { λ fault stop. stop ≡ Faulted fault };
+
+    fn from(fault: Fault) -> Stop {
+        Stop::Faulted(fault)
+    }
+}

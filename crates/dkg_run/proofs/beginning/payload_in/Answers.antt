@@ -5,9 +5,10 @@ use Rattle.dkg_types.specs.PayloadCodes.{payload_at}
 use Rattle.dkg_types.specs.Units.{unit_at}
 use Rattle.dkg_run.specs.Opened.{unit_payload_in}
 use Rattle.dkg_run.proofs.Spelled.{decodes_as}
+use Rattle.dkg_run.proofs.MadeBlocks.{spelled_back}
 use Rattle.dkg_run.proofs.beginning.payload_in.Goals as goal
 
-pub returns : goal.returns
+pub returns-clause-value : goal.returns-clause-value
 unfolding unit_payload_in
-returns c = decodes_as (whole (payload_at (λ _. unit_at) (λ _ _. true) (non_zero_u32_get c.args.config.now.limit) c.args.config.now.max_mode.0 c.args.bytes.now))
+returns-clause-value c = decodes_as (whole (payload_at (λ _. unit_at) (λ _ _. true) (non_zero_u32_get c.args.config.now.limit) c.args.config.now.max_mode.0 c.args.bytes.now))
     c.decode_cfg.result c.decoded.result c.decode_cfg.ensures.exact c.decoded.ensures.value c.decoded.ensures.known

@@ -49,7 +49,7 @@ returns-in-Ok-run_lives-clause-ends g c = let told = c.in-Ok-run_lives.ensures i
         spells = ap script_of (sym c.deref.ensures.value) ∙ c.in-Ok-read_script.ensures.reads refl;
         form = c.in-Ok-read_script.ensures.form;
         in_order = at_added _ _ _ _ told.ends.1 told.in_order;
-        kept = λ tells. at_added _ _ _ _ told.ends.1 (told.kept tells.0 tells.1);
+        kept = (λ tells. at_added _ _ _ _ told.ends.1 (told.kept tells.0 tells.1), λ tells. at_added _ _ _ _ told.ends.1 (told.found tells.0 tells.1));
       };
       all = at_added _ _ _ _ told.ends.1 told.all;
       answered = λ tells. at_added _ _ _ _ told.ends.1 (told.answered tells.0 tells.1);
@@ -70,7 +70,7 @@ returns-clause-ends g c = let told = c.in-Err.ensures in (
       spells = ap script_of (sym c.deref.ensures.value) ∙ c.in-Ok-read_script.ensures.reads refl;
       form = c.in-Ok-read_script.ensures.form;
       in_order = at_added _ _ _ _ told.ends.1 told.in_order;
-      kept = λ tells. at_added _ _ _ _ told.ends.1 (told.kept tells.0 tells.1);
+      kept = (λ tells. at_added _ _ _ _ told.ends.1 (told.kept tells.0 tells.1), λ tells. at_added _ _ _ _ told.ends.1 (told.found tells.0 tells.1));
     });
   }),
 )

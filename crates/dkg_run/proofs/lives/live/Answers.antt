@@ -3,7 +3,9 @@ use Rattle.dkg_script.specs.Order.{IsInOrder}
 use Rattle.dkg_run.specs.Carried.{IsKeptEntry}
 use Rattle.dkg_run.proofs.Life.{moves_both}
 use Rattle.dkg_run.proofs.Places.{moves_then}
+use Rattle.dkg_run.proofs.Refused.{none_refused, skips_behind}
 use Rattle.dkg_run.proofs.Stops.{caused_later}
+use Rattle.dkg_run.proofs.Found.{blames_found}
 use Rattle.dkg_run.proofs.lives.live.Goals as goal
 
 pub returns-in_err-take_steps-clause-stopped : goal.returns-in_err-take_steps-clause-stopped
@@ -13,7 +15,7 @@ returns-in_err-take_steps-clause-stopped g c = let p = err_from_is_err_and c.fro
 pub returns-in_err-take_steps-clause-saved : goal.returns-in_err-take_steps-clause-saved
 returns-in_err-take_steps-clause-saved g c = let p = err_from_is_err_and c.from_residual-in_err-take_steps.result c.from_residual-in_err-take_steps.ensures.1 in
     rw (p.1, p.2) (λ disk secrets. moves_then _ _ _ _ _ _ _ (moves_both IsInOrder IsKeptEntry _ _ _ _ _ _ c.in_ok-node.ensures.done (c.in_ok-node.ensures.kept disk secrets))
-    (c.in_err-take_steps.ensures.saved disk secrets c.args.number))
+    (rw c.as_slice-blocks.ensures.value at (c.in_err-take_steps.ensures.saved disk secrets c.args.number)))
 
 pub returns-in_err-take_steps-clause-causes : goal.returns-in_err-take_steps-clause-causes
 returns-in_err-take_steps-clause-causes g c = let p = err_from_is_err_and c.from_residual-in_err-take_steps.result c.from_residual-in_err-take_steps.ensures.1 in
@@ -24,4 +26,16 @@ returns-clause-done g c = moves_then _ _ _ _ _ _ _ c.in_ok-node.ensures.done (c.
 
 pub returns-clause-kept : goal.returns-clause-kept
 returns-clause-kept g c = λ disk secrets. moves_then _ _ _ _ _ _ _ (moves_both IsInOrder IsKeptEntry _ _ _ _ _ _ c.in_ok-node.ensures.done (c.in_ok-node.ensures.kept disk secrets))
-    (c.in_ok-take_steps.ensures.kept disk secrets c.args.number)
+    (rw c.as_slice-blocks.ensures.value at (c.in_ok-take_steps.ensures.kept disk secrets c.args.number))
+
+pub returns-in_err-take_steps-clause-found : goal.returns-in_err-take_steps-clause-found
+returns-in_err-take_steps-clause-found g c = let p = err_from_is_err_and c.from_residual-in_err-take_steps.result c.from_residual-in_err-take_steps.ensures.1 in
+    rw (p.1, p.2) (λ disk secrets. blames_found _ _ _ _ c.in_err-take_steps.ensures.no_record)
+
+pub returns-in_err-node-clause-skips : goal.returns-in_err-node-clause-skips
+returns-in_err-node-clause-skips g c = let p = err_from_is_err_and c.from_residual.result c.from_residual.ensures.1 in rw (p.1, p.2) (λ disk secrets. none_refused _ _ _ _ c.in_err-node.ensures.accepts)
+
+pub returns-in_err-take_steps-clause-skips : goal.returns-in_err-take_steps-clause-skips
+returns-in_err-take_steps-clause-skips g c = let p = err_from_is_err_and c.from_residual-in_err-take_steps.result c.from_residual-in_err-take_steps.ensures.1 in
+    rw (p.1, p.2) (λ disk secrets. skips_behind _ _ _ _ _ _ _ (moves_both IsInOrder IsKeptEntry _ _ _ _ _ _ c.in_ok-node.ensures.done (c.in_ok-node.ensures.kept disk secrets))
+    (rw c.as_slice-blocks.ensures.value at (c.in_err-take_steps.ensures.skips disk secrets c.args.number)))

@@ -2,10 +2,13 @@ use Rattle.std.proofs.Common.{◌≡◌, Some, refl, inl, arith}
 use Rattle.std.proofs.lemmas.Result.{err_from_is_err_and}
 use Rattle.std.specs.Prelude.{slice_get}
 use Rattle.dkg_run.specs.declared.stop.Stop.TheVariants.{Faulted}
+use Rattle.dkg_run.proofs.MadeBlocks.{events_here}
 use Rattle.dkg_run.proofs.Life.{life_kept, life_durable, untouched_durable}
 use Rattle.dkg_run.proofs.Places.{moves_none, moves_then}
+use Rattle.dkg_run.proofs.Refused.{none_run, run_skips}
 use Rattle.dkg_run.proofs.Runs.{moves_life, moves_in_life, untouched, at_item}
 use Rattle.dkg_run.proofs.Stops.{caused_later}
+use Rattle.dkg_run.proofs.Found.{script_found}
 use Rattle.dkg_run.proofs.lives.run_all.Goals as goal
 
 -- MEMORY RUNS OUT BEFORE THE FIRST LIFE
@@ -30,6 +33,11 @@ loop-i-init g c = record {
   later_secrets = omega arith;
 }
 
+pub run_life-requires-clause-events : goal.run_life-requires-clause-events
+run_life-requires-clause-events g c =
+    let life_is : slice_get c.args.script.now.lives c.loop-i.i ≡ Some c.life-item.result = rw (← c.as_slice-life-items.ensures) (at_item _ _ _ c.loop-i-test.true c.life-item.is) in
+    events_here c.args.script.now c.life-item.result c.loop-i.i c.in_ok-beginning.beginning.blocks.items c.requires.form life_is c.in_ok-beginning.ensures.all
+
 -- A FAULT ENDS A LIFE
 
 pub returns-in_err-run_life-clause-stopped : goal.returns-in_err-run_life-clause-stopped
@@ -42,7 +50,7 @@ returns-in_err-run_life-clause-saved g c =
     let life_is : slice_get c.args.script.now.lives c.loop-i.i ≡ Some c.life-item.result = rw (← c.as_slice-life-items.ensures) (at_item _ _ _ c.loop-i-test.true c.life-item.is) in
     let p = err_from_is_err_and c.from_residual-in_err-run_life.result c.from_residual-in_err-run_life.ensures.1 in
     rw p.1 (λ disk secrets. moves_then _ _ _ _ _ _ _ (c.loop-i.invariant.kept disk secrets)
-    (life_durable c.args.script.now c.life-item.result c.loop-i.i c.in_ok-beginning.beginning life_is c.in_ok-beginning.ensures _ _ _ _ _ _ (c.in_err-run_life.ensures.saved disk secrets)))
+    (life_durable c.args.script.now c.life-item.result c.loop-i.i c.in_ok-beginning.beginning life_is (record { of_script = c.in_ok-beginning.ensures.script; blocks = c.in_ok-beginning.ensures.blocks; middle = c.in_ok-beginning.ensures.midpoint }) _ _ _ _ _ _ (c.in_err-run_life.ensures.saved disk secrets)))
 
 pub returns-in_err-run_life-clause-causes : goal.returns-in_err-run_life-clause-causes
 returns-in_err-run_life-clause-causes g c = let p = err_from_is_err_and c.from_residual-in_err-run_life.result c.from_residual-in_err-run_life.ensures.1 in
@@ -59,7 +67,24 @@ loop-i-preserved g c =
       same_secrets = cc;
       moves = moves_then _ _ _ _ _ _ _ c.loop-i.invariant.moves (moves_life c.args.script.now c.life-item.result c.loop-i.i _ _ life_is c.in_ok-run_life.ensures.done);
       kept = λ disk secrets. moves_then _ _ _ _ _ _ _ (c.loop-i.invariant.kept disk secrets)
-          (life_kept c.args.script.now c.life-item.result c.loop-i.i c.in_ok-beginning.beginning life_is c.in_ok-beginning.ensures _ _ _ _ _ _ c.in_ok-run_life.ensures.done (c.in_ok-run_life.ensures.kept disk secrets));
+          (life_kept c.args.script.now c.life-item.result c.loop-i.i c.in_ok-beginning.beginning life_is (record { of_script = c.in_ok-beginning.ensures.script; blocks = c.in_ok-beginning.ensures.blocks; middle = c.in_ok-beginning.ensures.midpoint }) _ _ _ _ _ _ c.in_ok-run_life.ensures.done (c.in_ok-run_life.ensures.kept disk secrets));
       later_disk = omega (arith, c.loop-i.invariant.later_disk, c.run_life.ensures.later_disk);
       later_secrets = omega (arith, c.loop-i.invariant.later_secrets, c.run_life.ensures.later_secrets);
     }
+
+pub returns-in_err-beginning-clause-found : goal.returns-in_err-beginning-clause-found
+returns-in_err-beginning-clause-found g c = let p = err_from_is_err_and c.from_residual.result c.from_residual.ensures.1 in rw (p.1, p.2) (λ disk secrets. record { so = tt })
+
+pub returns-in_err-run_life-clause-found : goal.returns-in_err-run_life-clause-found
+returns-in_err-run_life-clause-found g c = let p = err_from_is_err_and c.from_residual-in_err-run_life.result c.from_residual-in_err-run_life.ensures.1 in
+    rw (p.1, p.2) (λ disk secrets. script_found c.args.script.now c.in_ok-beginning.beginning c.in_ok-beginning.ensures.script c.requires.form.plain _ _ _ (c.in_err-run_life.ensures.found disk secrets))
+
+pub returns-in_err-beginning-clause-skips : goal.returns-in_err-beginning-clause-skips
+returns-in_err-beginning-clause-skips g c = let p = err_from_is_err_and c.from_residual.result c.from_residual.ensures.1 in rw (p.1, p.2) (λ disk secrets. none_run _ _ (λ refusal. refusal))
+
+pub returns-in_err-run_life-clause-skips : goal.returns-in_err-run_life-clause-skips
+returns-in_err-run_life-clause-skips g c =
+    let life_is : slice_get c.args.script.now.lives c.loop-i.i ≡ Some c.life-item.result = rw (← c.as_slice-life-items.ensures) (at_item _ _ _ c.loop-i-test.true c.life-item.is) in
+    let p = err_from_is_err_and c.from_residual-in_err-run_life.result c.from_residual-in_err-run_life.ensures.1 in
+    rw (p.1, p.2) (λ disk secrets. run_skips c.args.script.now c.life-item.result c.loop-i.i c.in_ok-beginning.beginning life_is
+    (record { of_script = c.in_ok-beginning.ensures.script; blocks = c.in_ok-beginning.ensures.blocks; middle = c.in_ok-beginning.ensures.midpoint }) _ _ _ _ _ _ (c.loop-i.invariant.kept disk secrets) (c.in_err-run_life.ensures.skips disk secrets))

@@ -1,6 +1,8 @@
 use Rattle.std.proofs.lemmas.Result.{err_from_is_err_and}
 use Rattle.dkg_run.proofs.Life.{moves_at_rest, cut_kept, cut_durable, crash_of, fault_durable}
+use Rattle.dkg_run.proofs.Refused.{memory_blames_none, none_refused}
 use Rattle.dkg_run.proofs.Steps.{cut_told, cut_untold}
+use Rattle.dkg_run.proofs.Found.{memory_found}
 use Rattle.dkg_run.proofs.lives.run_life.Goals as goal
 
 -- THE LIFE ENDS
@@ -30,3 +32,14 @@ returns-in_err-end_cut-in-Err-Cut-clause-saved g c = let p = err_from_is_err_and
 
 pub returns-in-Err-Faulted-clause-saved : goal.returns-in-Err-Faulted-clause-saved
 returns-in-Err-Faulted-clause-saved g c = λ disk secrets. fault_durable _ _ _ _ _ _ _ (c.in-Err-Faulted.ensures.saved disk secrets)
+
+pub returns-in_err-end_cut-in-Err-Cut-clause-found : goal.returns-in_err-end_cut-in-Err-Cut-clause-found
+returns-in_err-end_cut-in-Err-Cut-clause-found g c = let p = err_from_is_err_and c.from_residual.result c.from_residual.ensures.1 in
+    rw (p.1, p.2) (λ disk secrets. memory_found _ _ _ _ c.in_err-end_cut-in-Err-Cut.ensures.memory)
+
+pub returns-in_err-end_cut-in-Err-Cut-clause-skips : goal.returns-in_err-end_cut-in-Err-Cut-clause-skips
+returns-in_err-end_cut-in-Err-Cut-clause-skips g c = let p = err_from_is_err_and c.from_residual.result c.from_residual.ensures.1 in
+    rw (p.1, p.2) (λ disk secrets. none_refused _ _ _ _ (memory_blames_none _ c.in_err-end_cut-in-Err-Cut.ensures.memory))
+
+pub returns-in-Err-Faulted-clause-skips : goal.returns-in-Err-Faulted-clause-skips
+returns-in-Err-Faulted-clause-skips g c = rw c.in-Err-Faulted.field-0-is at c.in-Err-Faulted.ensures.skips

@@ -5,8 +5,11 @@ use Rattle.dkg_script.specs.Promise.{Adds, KeepsDealings}
 use Rattle.dkg_script.specs.Setting.{setting_of}
 use Rattle.dkg_run.proofs.Ended.{told_in_order, told_ends, ends_well}
 use Rattle.dkg_run.proofs.Keeping.{told_keeps, answers, run_keeps}
+use Rattle.dkg_run.proofs.Refused.{told_skips}
 use Rattle.dkg_run.proofs.Runs.{runs_in_order, runs_all}
 use Rattle.dkg_run.proofs.Stops.{told_cause}
+use Rattle.dkg_run.specs.Found.{reader_in}
+use Rattle.dkg_run.proofs.Found.{moved_found, none_blamed, told_found}
 use Rattle.dkg_run.proofs.lives.run_lives.Goals as goal
 
 -- EVERY LIFE WAS RUN
@@ -52,3 +55,16 @@ returns-in-Err-clause-kept g c =
     (g.D.Disk.image c.run_all.new.devices.disk.now) (g.X.SecretStore.held c.run_all.new.devices.secrets.now))
     = λ disk secrets. told_keeps _ _ _ _ _ _ _ _ _ _ _ (c.in-Err.ensures.saved disk secrets) c.tell.ensures
     in search rules
+
+pub returns-in-Ok-clause-found : goal.returns-in-Ok-clause-found
+returns-in-Ok-clause-found g c = λ disk secrets.
+    let its = none_blamed (reader_in c.args.script.now) (g.D.Disk.files c.run_all.new.devices.disk.now) (g.X.SecretStore.held c.run_all.new.devices.secrets.now) _ _ _ _ _ c.in-Ok.ensures.done in
+    (its.0, its.1, moved_found _ _ _ _ _ _ (search rules) (search rules) its.2)
+
+pub returns-in-Err-clause-found : goal.returns-in-Err-clause-found
+returns-in-Err-clause-found g c = λ disk secrets.
+    let its = told_found (reader_in c.args.script.now) (g.D.Disk.files c.run_all.new.devices.disk.now) (g.X.SecretStore.held c.run_all.new.devices.secrets.now) _ _ _ _ c.tell.result _ _ _ c.in-Err.ensures.stopped c.tell.ensures (c.in-Err.ensures.found disk secrets) in
+    (its.0, its.1, moved_found _ _ _ _ _ _ (search rules) (search rules) its.2)
+
+pub returns-in-Err-clause-skips : goal.returns-in-Err-clause-skips
+returns-in-Err-clause-skips g c = λ disk secrets. told_skips c.args.script.now (g.D.Disk.files c.args.disk.now) (g.X.SecretStore.held c.args.secrets.now) (g.D.Disk.image c.args.disk.now) _ _ _ c.tell.result (c.in-Err.ensures.skips disk secrets) c.tell.ensures

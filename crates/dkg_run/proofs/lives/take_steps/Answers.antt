@@ -2,8 +2,11 @@ use Rattle.std.proofs.Common.{◌<◌, length, refl, arith}
 use Rattle.std.proofs.lemmas.Result.{err_from_is_err_and}
 use Rattle.dkg_script.specs.Order.{IsInOrder}
 use Rattle.dkg_run.specs.Carried.{IsKeptEntry}
-use Rattle.dkg_run.proofs.Life.{carried_rests, moves_both, next_kept}
+use Rattle.dkg_run.specs.Chain.{IsEventHere}
+use Rattle.dkg_run.proofs.Carried.{form_at}
+use Rattle.dkg_run.proofs.Life.{back_one, carried_rests, moves_both, next_kept}
 use Rattle.dkg_run.proofs.Places.{moves_none}
+use Rattle.dkg_run.proofs.Refused.{skips_later}
 use Rattle.dkg_run.proofs.Steps.{next_step}
 use Rattle.dkg_run.proofs.Runs.{at_item, at_event}
 use Rattle.dkg_run.proofs.Stops.{caused_later}
@@ -23,6 +26,9 @@ loop-i-init g c = record {
   later_secrets = omega arith;
 }
 
+pub take_step-requires-clause-here : goal.take_step-requires-clause-here
+take_step-requires-clause-here g c = form_at (IsEventHere c.args.blocks.now) c.args.life.now.events c.loop-i.i _ c.requires.events (rw c.as_slice-event-items.ensures at (at_item _ _ _ c.loop-i-test.true c.event-item.is))
+
 pub take_step-requires-clause-event : goal.take_step-requires-clause-event
 take_step-requires-clause-event g c = at_event c.args.life.now c.loop-i.i _ (rw c.as_slice-event-items.ensures at (at_item _ _ _ c.loop-i-test.true c.event-item.is))
 
@@ -34,7 +40,7 @@ returns-in_err-take_step-clause-stopped g c = let p = err_from_is_err_and c.from
 pub returns-in_err-take_step-clause-saved : goal.returns-in_err-take_step-clause-saved
 returns-in_err-take_step-clause-saved g c = let p = err_from_is_err_and c.from_residual.result c.from_residual.ensures.1 in
     let below : c.loop-i.i < length c.args.life.now.events = rw c.as_slice-event-items.ensures at c.loop-i-test.true in
-    rw (p.1, p.2) (λ disk secrets l. next_kept c.args.life.now l _ _ _ _ _ _ _ below (c.loop-i.invariant.kept disk secrets l) (c.in_err-take_step.ensures.saved disk secrets l))
+    rw (p.1, p.2) (λ disk secrets l. next_kept c.args.life.now l _ _ _ _ _ _ _ below (c.loop-i.invariant.kept disk secrets l) (rw (back_one c.loop-i.i) at (c.in_err-take_step.ensures.saved disk secrets l)))
 
 pub returns-in_err-take_step-clause-causes : goal.returns-in_err-take_step-clause-causes
 returns-in_err-take_step-clause-causes g c = let p = err_from_is_err_and c.from_residual.result c.from_residual.ensures.1 in
@@ -50,10 +56,18 @@ loop-i-preserved g c = let below : c.loop-i.i < length c.args.life.now.events = 
   same_secrets = cc;
   moves = λ l. next_step c.args.life.now l _ _ _ _ _ _ below (c.loop-i.invariant.moves l) (c.in_ok-take_step.ensures.done l);
   kept = λ disk secrets l. next_kept c.args.life.now l _ _ _ _ _ _ _ below (c.loop-i.invariant.kept disk secrets l)
-      (moves_both IsInOrder IsKeptEntry _ _ _ _ _ _ (c.in_ok-take_step.ensures.done l) (c.in_ok-take_step.ensures.kept disk secrets l));
+      (moves_both IsInOrder IsKeptEntry _ _ _ _ _ _ (c.in_ok-take_step.ensures.done l) (rw (back_one c.loop-i.i) at (c.in_ok-take_step.ensures.kept disk secrets l)));
   later_disk = omega (arith, c.loop-i.invariant.later_disk, c.take_step.ensures.later_disk);
   later_secrets = omega (arith, c.loop-i.invariant.later_secrets, c.take_step.ensures.later_secrets);
 }
 
 pub returns-clause-kept : goal.returns-clause-kept
 returns-clause-kept g c = λ disk secrets l. carried_rests l _ _ _ _ _ _ _ _ (c.loop-i.invariant.kept disk secrets l)
+
+pub returns-in_err-take_step-clause-no_record : goal.returns-in_err-take_step-clause-no_record
+returns-in_err-take_step-clause-no_record g c = let p = err_from_is_err_and c.from_residual.result c.from_residual.ensures.1 in rw (p.1, p.2) c.in_err-take_step.ensures.no_record
+
+pub returns-in_err-take_step-clause-skips : goal.returns-in_err-take_step-clause-skips
+returns-in_err-take_step-clause-skips g c = let p = err_from_is_err_and c.from_residual.result c.from_residual.ensures.1 in
+    let below : c.loop-i.i < length c.args.life.now.events = rw c.as_slice-event-items.ensures at c.loop-i-test.true in
+    rw (p.1, p.2) (λ disk secrets l. skips_later c.args.life.now l c.loop-i.i _ _ _ _ _ below (c.loop-i.invariant.kept disk secrets l) (rw (back_one c.loop-i.i) at (c.in_err-take_step.ensures.skips disk secrets l)))

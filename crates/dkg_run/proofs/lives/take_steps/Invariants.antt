@@ -21,8 +21,8 @@ invariant-loop-i g l = record {
   same_secrets : l.devices.secrets.ghost_name ≡ l.initial.devices.secrets.ghost_name;
   moves : (number : ℕ) → Moves IsInOrder (IsBehind l.life number 0) (IsBehind l.life number l.i) l.initial.out.entries l.out.entries;
   kept : IsTrue g.D.Disk.tells → IsTrue g.X.SecretStore.tells → (number : ℕ)
-      → Moves IsKeptEntry (Both (IsBehind l.life number 0) (CarriesIn number l.initial.node (g.D.Disk.image l.initial.devices.disk.now) (g.X.SecretStore.held l.initial.devices.secrets.now)))
-      (Both (IsBehind l.life number l.i) (CarriesIn number l.node (g.D.Disk.image l.devices.disk.now) (g.X.SecretStore.held l.devices.secrets.now))) l.initial.out.entries l.out.entries;
+      → Moves IsKeptEntry (Both (IsBehind l.life number 0) (CarriesIn number 0 l.blocks l.initial.node (g.D.Disk.image l.initial.devices.disk.now) (g.X.SecretStore.held l.initial.devices.secrets.now)))
+      (Both (IsBehind l.life number l.i) (CarriesIn number l.i l.blocks l.node (g.D.Disk.image l.devices.disk.now) (g.X.SecretStore.held l.devices.secrets.now))) l.initial.out.entries l.out.entries;
   later_disk : g.D.Disk.faults l.initial.devices.disk.now ≤ g.D.Disk.faults l.devices.disk.now;
   later_secrets : g.X.SecretStore.faults l.initial.devices.secrets.now ≤ g.X.SecretStore.faults l.devices.secrets.now;
 }

@@ -1,3 +1,4 @@
+use Rattle.dkg_run.proofs.Logs.{logs_noted}
 use Rattle.dkg_run.proofs.Places.{quiet_unless}
 use Rattle.dkg_run.proofs.Short.{event_short}
 use Rattle.dkg_run.proofs.Told.{handed}
@@ -15,3 +16,12 @@ returns-in-Ok-clause-told g c =
     handed (record { me = c.args.player.now.me; round = c.args.player.now.round }) (record { public = c.args.public; private = c.args.private }) c.args.from c.in-Ok.ack
     c.args.out.now.entries c.handle.new.out.entries c.args.store.now.dealings c.handle.new.store.dealings
     (c.in-Ok.ensures.answer is) (c.in-Ok.ensures.checked is) (c.in-Ok.ensures.pairs is) (c.in-Ok.ensures.told is)
+
+pub returns-in-Ok-clause-keeps_logs : goal.returns-in-Ok-clause-keeps_logs
+returns-in-Ok-clause-keeps_logs g c = λ told. logs_noted _ _ (c.handle.ensures.notes told)
+
+pub returns-in-Err-Refused-clause-keeps_logs : goal.returns-in-Err-Refused-clause-keeps_logs
+returns-in-Err-Refused-clause-keeps_logs g c = λ told. logs_noted _ _ (c.handle.ensures.notes told)
+
+pub returns-in-Err-Store-clause-keeps_logs : goal.returns-in-Err-Store-clause-keeps_logs
+returns-in-Err-Store-clause-keeps_logs g c = λ told. logs_noted _ _ (c.handle.ensures.notes told)

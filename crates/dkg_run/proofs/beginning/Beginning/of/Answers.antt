@@ -2,8 +2,8 @@ use Rattle.std.proofs.Common.{refl}
 use Rattle.dkg_run.proofs.Began.{first_is}
 use Rattle.dkg_run.proofs.beginning.Beginning.of.Goals as goal
 
-pub returns : goal.returns
-returns c = record {
+pub returns-clause-script : goal.returns-clause-script
+returns-clause-script c = record {
   me_is = refl;
   limit_is = refl;
   mode_is = refl;

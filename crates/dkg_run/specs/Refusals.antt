@@ -1,0 +1,50 @@
+-- Where a life stops at a block that is refused.
+use Rattle.std.specs.Prelude.{ℕ, ◌-◌, ◌<◌, ◌≡◌, ⊤, Some}
+use Rattle.dkg_journal.specs.Names.{Files}
+use Rattle.dkg_types.specs.declared.fault.Fault.{Fault}
+use Rattle.dkg_types.specs.declared.fault.Fault.TheVariants.{ConflictingBlock, DetachedBlock, SkippedHeight}
+use Rattle.dkg_script.specs.declared.script.Event.TheVariants.{Final}
+use Rattle.dkg_script.specs.declared.script.Life.{Life}
+use Rattle.dkg_script.specs.Blocks.{Block, block_at}
+use Rattle.dkg_script.specs.Position.{awaited_height, event_of_step}
+use Rattle.dkg_script.specs.Progress.{Progress}
+use Rattle.dkg_script.specs.Promise.{IsBuilt, IsHonestRun}
+use Rattle.dkg_script.specs.Setting.{Setting, life_at}
+use Rattle.dkg_run.specs.declared.stop.Stop.{Stop}
+use Rattle.dkg_run.specs.declared.stop.Stop.TheVariants.{Cut, Faulted}
+
+-- the stop blames a delivered block
+abbrev pub IsRefusal : Stop → Type 0
+IsRefusal (Faulted (ConflictingBlock height)) = ⊤
+IsRefusal (Faulted (DetachedBlock height)) = ⊤
+IsRefusal (Faulted (SkippedHeight awaited got)) = ⊤
+IsRefusal _ = ⊥
+
+-- The block that a step of the life delivers stands above the height that is awaited before that step, and the stop says so.
+pub record SkipsIn (s : Setting) (l : ℕ) (life : Life) (stop : Stop) : Type 0 where
+  pub step : ℕ
+  pub number : ℕ
+  pub block : Block
+  pub event_is : event_of_step life step ≡ Some (Final number)
+  pub block_is : block_at s number ≡ Some block
+  pub stop_is : stop ≡ Faulted (SkippedHeight (awaited_height s l life (step - 1)) block.height)
+  pub above : awaited_height s l life (step - 1) < block.height
+
+-- As the l-th life of a script that is consistent, from any such place, the life stops at a block only where that skips a height. (So a
+-- block is never told to conflict with the chain or to be detached from it.)
+abbrev pub RefusesOnlySkips : (Setting → Progress → Type 0) → ℕ → Life → Stop → Type 0
+RefusesOnlySkips P l life stop = (s : Setting) (p : Progress) → P s p → IsRefusal stop → SkipsIn s l life stop
+
+-- .. in one of the script's lives
+pub record SkipsSomewhere (s : Setting) (stop : Stop) : Type 0 where
+  pub number : ℕ
+  pub life : Life
+  pub life_is : life_at s number ≡ Some life
+  pub skips : SkipsIn s number life stop
+
+abbrev pub RunRefusesOnlySkips : (Setting → Progress → Type 0) → Stop → Type 0
+RunRefusesOnlySkips P stop = (s : Setting) (p : Progress) → P s p → IsRefusal stop → SkipsSomewhere s stop
+
+-- where the premises of the promise hold
+abbrev pub BlamesOnlySkips : Setting → (image : Files → Type 0) → Fault → Type 0
+BlamesOnlySkips s image fault = IsBuilt s → IsHonestRun s image → IsRefusal (Faulted fault) → SkipsSomewhere s (Faulted fault)
