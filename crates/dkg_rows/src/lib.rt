@@ -5,7 +5,11 @@
 
 mod appends;
 #[cfg(test)]
+mod block_rows;
+#[cfg(test)]
 mod misses;
+#[cfg(test)]
+mod observer;
 #[cfg(test)]
 mod rows;
 #[cfg(test)]
