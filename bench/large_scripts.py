@@ -86,12 +86,29 @@ def restarts(size):
     return text(header(many, 8) + first + life([]) * size)
 
 
+def early_blocks(size):
+    """So many blocks after block 0, each with the one before as its parent, all below the midpoint."""
+    return header(FEW, 2 * size + 4) + [f"block {i} {i - 1} 0 -" for i in range(1, size + 1)]
+
+
+def blocks(size):
+    return text(early_blocks(size) + life([f"final {i}" for i in range(size + 1)]))
+
+
+def mixed(size):
+    message = f"peer 2 {dealing(2, 1, 0)}"
+    events = [line for i in range(1, size + 1) for line in (f"final {i}", message)]
+    return text(early_blocks(size) + life(["final 0", message, *events]))
+
+
 # Its name, how a script of a size is made, the least of the four sizes, and the exponent of growth that is still well.
 KINDS = [
     ("repeats", repeats, 8_000, 1.1),
     ("refusals", refusals, 8_000, 1.1),
     ("dealers", dealers, 30, 2.1),
     ("restarts", restarts, 10, 1.1),
+    ("blocks", blocks, 4_000, 1.1),
+    ("mixed", mixed, 3_000, 1.1),
 ]
 
 

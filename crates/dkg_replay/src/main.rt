@@ -1,7 +1,7 @@
 //! Replays scripts whose transcripts an independent model wrote, and tells each difference.
 //!
-//! Beside the program lie a file a form, and one of encoded values; `tools/replay-data` makes them. It prints a line a file and a total,
-//! and ends with status 1 where something differs or a file can't be read.
+//! Beside the program lie a file of the forms' names, a file a form, and one of encoded values; `tools/replay-data` makes them. It
+//! prints a line a form, one of the values, and a total, and ends with status 1 where something differs or a file can't be read.
 #![tactic(auto)]
 
 mod cases;
@@ -12,9 +12,6 @@ mod values;
 use std::process::ExitCode;
 use std::{fs, io};
 use told::Count;
-
-/// The forms of script of which there are cases.
-const FORMS: [&str; 1] = ["first"];
 
 /// Replays the cases of a form, and tells how many there are and how many differ.
 fn replay_form(rt: &HostRuntime, form: &str) -> io::Result<Count> {
@@ -40,7 +37,8 @@ fn read_values(rt: &HostRuntime) -> io::Result<Count> {
 /// Replays all forms, and reads all values.
 fn replay_all(rt: &HostRuntime) -> io::Result<Count> {
     let mut total = Count::new();
-    for form in FORMS.iter() {
+    let forms = fs::read_to_string(rt, "forms")?;
+    for form in forms.lines() {
         total.add(&replay_form(rt, form)?);
     }
     total.add(&read_values(rt)?);
