@@ -24,6 +24,7 @@ use Rattle.dkg_journal.proofs.Bytes.{read_spelled, spelled-push, short-push, len
 use Rattle.dkg_journal.proofs.Flat.{flat_bodies}
 use Rattle.dkg_journal.proofs.Reading.{read_front, ends_stops, whole_unbroken}
 use Rattle.dkg_journal.proofs.Append.{same_files, entries_flat}
+use Rattle.dkg_journal.proofs.Unbroken.{flat_whole}
 use Rattle.dkg_journal.proofs.Steps.{get_here, weaken, then_all, ran_all, all_same}
 use Rattle.dkg_journal.proofs.Fuses.{all_burnt, ran_spent, none_spent}
 use Rattle.dkg_journal.proofs.Standing.{stands_for, plan_apart, named_same, settled_flat, unchanged_lands, unchanged_tries}
@@ -285,6 +286,10 @@ module _ (min : ℕ) (files : Files) (image : Files → Type 0) where
 -- the new file
 new_flat : (min : ℕ) (bs : List (List ℕ)) → AreFlat bs → IsFlat (stays min bs) (length (spelled (stays min bs))) (closed (stays min bs))
 new_flat min bs short = record { gate = 0; junk = []; is = refl; shut = omega arith; size = refl; short = flat_stays min bs short }
+
+-- .. in which each record is whole
+pub going_whole : (min : ℕ) (files : Files) (image : Files → Type 0) (bytes : List ℕ) → Going min files image bytes → broken_at bytes ≡ None
+going_whole min files image bytes g = ap broken_at g.is ∙ flat_whole (stays min g.bs) (length (spelled (stays min g.bs))) (closed (stays min g.bs)) (new_flat min g.bs g.flat.short)
 
 new_entries : (min : ℕ) (files : Files) (image : Files → Type 0) (bytes : List ℕ) (g : Going min files image bytes) (c d : Files) → image d → get c Flat ≡ Some bytes → entries c ≡ from_section min (entries d)
 new_entries min files image bytes g c d now here =

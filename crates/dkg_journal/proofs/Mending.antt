@@ -44,7 +44,7 @@ firm_install x y bytes files last image next same firm did = subst (λ (z : List
 })
 
 -- the same records, and behind them the closed gate that was missing
-mended_whole : (bytes : List ℕ) (out : List Entry) (place : ℕ) → Whole bytes out place → length bytes ≤ place → Whole (bytes ++ 0 ∷ []) out place
+pub mended_whole : (bytes : List ℕ) (out : List Entry) (place : ℕ) → Whole bytes out place → length bytes ≤ place → Whole (bytes ++ 0 ∷ []) out place
 mended_whole bytes out place whole ended =
     let flat = mended_flat bytes out place whole ended in
     record {

@@ -19,6 +19,10 @@ broken_of (Some file) = broken_at file
 abbrev pub broken : Files → Option ℕ
 broken files = broken_of (get files Flat)
 
+-- in whatever a crash now leaves, each record is whole
+pub record AreUnbroken (image : Files → Type 0) : Type 0 where
+  pub each : (c : Files) → image c → broken c ≡ None
+
 -- a file that ends without a gate gets a closed one
 abbrev pub mend_at : List ℕ → List ℕ → List Op
 mend_at file [] = Install Flat (file ++ 0 ∷ []) ∷ []

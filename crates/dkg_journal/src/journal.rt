@@ -4,6 +4,7 @@
 ghost use Rattle.std.specs.Prelude.{◌≡◌, ◌≢◌, ◌⊎◌, ◌↔◌, ◌<◌, ◌≤◌, ◌^◌, ◌+◌, ◌++◌, [], ◌∷◌, List, ℕ, Option, Some, None, length, OnOk, IfOk, IfErr, IsErrOf, IsTrue};
 ghost use Rattle.dkg_journal.specs.Errors.{IsOfDevice};
 ghost use Rattle.dkg_journal.specs.Names.{Files};
+ghost use Rattle.dkg_journal.specs.Opening.{AreUnbroken};
 ghost use Rattle.dkg_journal.specs.Journals.{IsOpen, append_calls};
 ghost use Rattle.dkg_journal.specs.Disk.{Follows, Allowed, Lands, Torn, Rose, written};
 ghost use Rattle.dkg_journal.specs.Fuse.{Reached, Ran, RanAll, Fused};
@@ -65,6 +66,7 @@ fn make_file<D: Disk>(
     requires { make.now ≡ make_flat }
     ensures open { OnOk result (IsTrue D.tells → IsOpenAt place (D.files disk.old) (D.image disk.old) → FlatAt (start place) (D.files disk.new) (D.image disk.new)) }
     ensures images { IsOpenAt place (D.files disk.old) (D.image disk.old) → Follows Keeps (D.image disk.old) (D.image disk.new) }
+    ensures sound { IsOpenAt place (D.files disk.old) (D.image disk.old) → AreUnbroken (D.image disk.new) }
     ensures same { (p : ℕ) → place ≡ Some p → disk.new ≡ disk.old }
     ensures later { D.faults disk.old ≤ D.faults disk.new }
     ensures later_wants { D.wants disk.old ≤ D.wants disk.new }
@@ -155,6 +157,7 @@ fn append_prepared<D: Disk>(
     ensures open { OnOk result (IsTrue D.tells → IsOpenAt (Some (start place + 13 + length body.now)) (D.files disk.new) (D.image disk.new)) }
     ensures added { OnOk result (IsTrue D.tells → Follows (Adds (section, body.now)) (D.image disk.old) (D.image disk.new)) }
     ensures images { IsTrue D.tells → Follows (MayAdd (section, body.now)) (D.image disk.old) (D.image disk.new) }
+    ensures sound { IsTrue D.tells → AreUnbroken (D.image disk.new) }
     ensures done { OnOk result (IsTrue D.tells → Lands (D.files disk.old) (D.image disk.old) → Finished (Appends (section, body.now)) (D.files disk.old) (D.files disk.new) (D.image disk.new) fuse.old fuse.new) }
     ensures tried { IsTrue D.tells → Lands (D.files disk.old) (D.image disk.old) → Tried (Appends (section, body.now)) (D.files disk.old) (D.image disk.new) fuse.old fuse.new }
     ensures later { D.faults disk.old ≤ D.faults disk.new }
@@ -207,6 +210,8 @@ impl Journal {
         ensures open { OnOk result (IsTrue D.tells → IsOpen self.new (D.files disk.new) (D.image disk.new)) }
         ensures added { OnOk result (IsTrue D.tells → Follows (Adds (section, body.now)) (D.image disk.old) (D.image disk.new)) }
         ensures images { IsTrue D.tells → Follows (MayAdd (section, body.now)) (D.image disk.old) (D.image disk.new) }
+        // .. and each record in it is whole.
+        ensures sound { IsTrue D.tells → AreUnbroken (D.image disk.new) }
         ensures done { OnOk result (IsTrue D.tells → Lands (D.files disk.old) (D.image disk.old) → Finished (Appends (section, body.now)) (D.files disk.old) (D.files disk.new) (D.image disk.new) fuse.old fuse.new) }
         ensures tried { IsTrue D.tells → Lands (D.files disk.old) (D.image disk.old) → Tried (Appends (section, body.now)) (D.files disk.old) (D.image disk.new) fuse.old fuse.new }
         ensures later { D.faults disk.old ≤ D.faults disk.new }
@@ -239,6 +244,8 @@ impl Journal {
         ensures added { OnOk result (IsTrue D.tells → Follows (Adds (section, body.now)) (D.image disk.old) (D.image disk.new)) }
         // Each image has the entries from before, with the new one or without.
         ensures images { IsTrue D.tells → Follows (MayAdd (section, body.now)) (D.image disk.old) (D.image disk.new) }
+        // .. and each record in it is whole.
+        ensures sound { IsTrue D.tells → AreUnbroken (D.image disk.new) }
         // What the files stand for, where nothing of the disk was loose: with the entry, and nothing is loose.
         ensures done { OnOk result (IsTrue D.tells → Lands (D.files disk.old) (D.image disk.old) → Finished (Appends (section, body.now)) (D.files disk.old) (D.files disk.new) (D.image disk.new) fuse.old fuse.new) }
         ensures tried { IsTrue D.tells → Lands (D.files disk.old) (D.image disk.old) → Tried (Appends (section, body.now)) (D.files disk.old) (D.image disk.new) fuse.old fuse.new }

@@ -8,7 +8,7 @@ ghost use Rattle.dkg_journal.specs.Names.{Files};
 ghost use Rattle.dkg_journal.specs.Disk.{Follows, Rose, IsUnchanged, Lands};
 ghost use Rattle.dkg_journal.specs.Fuse.{Reached, Ran, RanAll, Fused};
 ghost use Rattle.dkg_journal.specs.Operations.{Tried, Finished, Opens, journaled};
-ghost use Rattle.dkg_journal.specs.Opening.{IsFormOfToday, broken, mend_of, open_calls};
+ghost use Rattle.dkg_journal.specs.Opening.{AreUnbroken, IsFormOfToday, broken, mend_of, open_calls};
 ghost use Rattle.dkg_journal.specs.Records.{Entry, Whole, entries};
 ghost use Rattle.dkg_journal.specs.Gated.{OpensAlike, gated, gated_entries};
 ghost use Rattle.dkg_journal.specs.Views.{views};
@@ -34,6 +34,7 @@ fn mend<D: Disk>(
     ensures open { (out : List Entry) → Whole bytes.items out place → Firm bytes.items (D.files disk.old) (D.image disk.old) → IsTrue D.tells → OnOk result (FlatAt place (D.files disk.new) (D.image disk.new)) }
     ensures images { (out : List Entry) → Whole bytes.items out place → Firm bytes.items (D.files disk.old) (D.image disk.old) → Follows Keeps (D.image disk.old) (D.image disk.new) }
     ensures kept { (out : List Entry) → Whole bytes.items out place → Firm bytes.items (D.files disk.old) (D.image disk.old) → Lands (D.files disk.old) (D.image disk.old) → (c : Files) → D.image disk.new c → journaled c ≡ journaled (D.files disk.old) }
+    ensures sound { (out : List Entry) → Whole bytes.items out place → AreUnbroken (D.image disk.old) → AreUnbroken (D.image disk.new) }
     ensures alike { OnOk result (IsTrue D.tells → (out : List Entry) → Whole bytes.items out place → get (D.files disk.old) Flat ≡ Some bytes.items → OpensAlike (D.files disk.old) (D.files disk.new)) }
     ensures settled { OnOk result ((out : List Entry) → Whole bytes.items out place → Firm bytes.items (D.files disk.old) (D.image disk.old) → IsTrue D.tells → Lands (D.files disk.old) (D.image disk.old) → Lands (D.files disk.new) (D.image disk.new)) }
     ensures later { D.faults disk.old ≤ D.faults disk.new }
@@ -99,6 +100,8 @@ impl Journal {
         ensures broken { (name : Name) (place : ℕ) → IsErrOf result (JournalError.Corrupt name place) → IsTrue D.tells → (name ≡ Flat) × (broken (D.files disk.old) ≡ Some place) }
         ensures whole { OnOk result (IsTrue D.tells → broken (D.files disk.old) ≡ None) }
         ensures corrupt { (place : ℕ) → IsTrue D.tells → broken (D.files disk.old) ≡ Some place → IsErrOf result (JournalError.Corrupt Flat place) ⊎ (IsErrOf result JournalError.Disk ⊎ IsErrOf result JournalError.NoMemory) }
+        // Where each record was whole in whatever a crash left, each is.
+        ensures sound { AreUnbroken (D.image disk.old) → AreUnbroken (D.image disk.new) }
         // Another opening finds the same: at Ok, and at Corrupt, which comes before any change.
         ensures alike { OnOk result (IsTrue D.tells → OpensAlike (D.files disk.old) (D.files disk.new)) }
         ensures unread { (name : Name) (place : ℕ) → IsErrOf result (JournalError.Corrupt name place) → IsUnchanged D.files D.image disk.old disk.new }

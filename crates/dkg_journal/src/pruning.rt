@@ -9,7 +9,7 @@ ghost use Rattle.dkg_journal.specs.Disk.{Follows, IsUnchanged, Lands, Rose};
 ghost use Rattle.dkg_journal.specs.Fuse.{Fused, Ran, RanAll, Reached};
 ghost use Rattle.dkg_journal.specs.Operations.{Tried, Finished, Prunes};
 ghost use Rattle.dkg_journal.specs.Records.{broken_at};
-ghost use Rattle.dkg_journal.specs.Opening.{broken};
+ghost use Rattle.dkg_journal.specs.Opening.{AreUnbroken, broken};
 ghost use Rattle.dkg_journal.specs.Pruning.{Pruned, left_of, left_of_file, prune_calls, Leaves, MayLeave};
 ghost use Rattle.dkg_journal.specs.Journals.{IsOpen};
 
@@ -104,6 +104,8 @@ impl Journal {
         ensures left { OnOk result (IsTrue D.tells → Follows (Leaves min) (D.image disk.old) (D.image disk.new)) }
         // Each image has the entries at or above the minimum, and all the others or none.
         ensures images { IsTrue D.tells → Follows (MayLeave min) (D.image disk.old) (D.image disk.new) }
+        // .. and each record in it is whole.
+        ensures sound { IsTrue D.tells → AreUnbroken (D.image disk.new) }
         ensures done { OnOk result (IsTrue D.tells → Lands (D.files disk.old) (D.image disk.old) → Finished (Prunes min) (D.files disk.old) (D.files disk.new) (D.image disk.new) fuse.old fuse.new) }
         ensures tried { IsTrue D.tells → Lands (D.files disk.old) (D.image disk.old) → Tried (Prunes min) (D.files disk.old) (D.image disk.new) fuse.old fuse.new }
         ensures later { D.faults disk.old ≤ D.faults disk.new }

@@ -4,6 +4,7 @@ pub mod Carried
 pub mod Empty
 pub mod Ended
 pub mod FirstRound
+pub mod Fitting
 pub mod Found
 pub mod Fresh
 pub mod InPlace

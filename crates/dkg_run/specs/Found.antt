@@ -12,6 +12,7 @@ use Rattle.dkg_ceremony.specs.declared.round.RoundError.{RoundError}
 use Rattle.dkg_types.specs.Validation.{validation}
 use Rattle.dkg_types.specs.declared.entry.Entry.{Entry}
 use Rattle.dkg_types.specs.declared.entry.Entry.TheVariants as entry
+use Rattle.dkg_types.specs.declared.fault.Fault.{Fault}
 use Rattle.dkg_types.specs.declared.fault.Fault.TheVariants.{Corrupt, LocalState, MissingEpochInfo, WrongEpoch, InvalidParticipants}
 use Rattle.dkg_types.specs.declared.fault.LocalCause.{LocalCause}
 use Rattle.dkg_types.specs.declared.fault.LocalCause.TheVariants.{StoredDealing}
@@ -121,3 +122,8 @@ BlamesNoRecord (Faulted (MissingEpochInfo height)) = ⊥
 BlamesNoRecord (Faulted (WrongEpoch expected got)) = ⊥
 BlamesNoRecord (Faulted (InvalidParticipants cause)) = ⊥
 BlamesNoRecord (Faulted its) = ⊤
+
+-- a fault that names no corrupt record
+abbrev pub NamesNoRecord : Fault → Type 0
+NamesNoRecord (Corrupt name place) = ⊥
+NamesNoRecord _ = ⊤

@@ -5,6 +5,8 @@
 ghost use Rattle.std.specs.Prelude.{◌≡◌, ◌⊎◌, ◌<◌, ◌≤◌, ◌+◌, ◌-◌, ◌++◌, ◌∷◌, [], ℕ, OnOk, OnErr, IfOk, IfErr, IfSome, IfNone, IsSome, IsSomeAnd, IsErrOf, Contains, IsTrue, length, max, slice_get, Some, None, ⊤};
 ghost use Rattle.std.specs.List.{AllByRecursion};
 ghost use Rattle.dkg_ceremony.specs.Acks.{ack_of};
+ghost use Rattle.std.specs.Int.NonZero.{non_zero_u32_get};
+ghost use Rattle.dkg_store.specs.Corrupt.{AreFit};
 ghost use Rattle.dkg_store.specs.Player.{IsPlayerOf};
 ghost use Rattle.dkg_journal.specs.Disk.{Rose};
 ghost use Rattle.dkg_journal.specs.Names.{Files};
@@ -18,7 +20,7 @@ ghost use Rattle.dkg_script.specs.Promise.{Adds, RunsInOrder, RunsAll, KeepsDeal
 ghost use Rattle.dkg_script.specs.Setting.{setting_of};
 ghost use Rattle.dkg_run.specs.Carried.{CarriesIn, IsCrash, IsDurableAt, IsKeptEntry, IsRefusedBy, IsSaved, OfEvent, Rests, RestsFor, TakesBlock};
 ghost use Rattle.dkg_run.specs.Devices.{IsToday, IsReady, KeepsLogs};
-ghost use Rattle.dkg_run.specs.Found.{AreFound, BlamesNoRecord, IsFound, reader_in, reader_of};
+ghost use Rattle.dkg_run.specs.Found.{AreFound, BlamesNoRecord, IsFound, NamesNoRecord, reader_in, reader_of};
 ghost use Rattle.dkg_run.specs.Refusals.{BlamesOnlySkips, IsRefusal, RefusesOnlySkips, RunRefusesOnlySkips};
 ghost use Rattle.dkg_run.specs.Stops.{IsCaused};
 ghost use Rattle.dkg_run.specs.Told.{Answers, AreValid, HoldsAtMost, IsSilent, brought_in, seat_in};
@@ -135,6 +137,7 @@ fn step<D: Disk, X: SecretStore>(
     ensures images { IsTrue D.tells → IsTrue X.tells → Holds node.old.store.dealings (D.image devices.old.disk.now) (X.held devices.old.secrets.now) → OfEvent event.now (λ from bytes. HoldsAtMost (seat_in node.old.player) (brought_in node.old.limit bytes) from node.new.store.dealings (D.image devices.new.disk.now) (X.held devices.new.secrets.now)) (λ number. Holds node.new.store.dealings (D.image devices.new.disk.now) (X.held devices.new.secrets.now)) }
     ensures keeps_logs { IsTrue D.tells → KeepsLogs (D.image devices.old.disk.now) (D.image devices.new.disk.now) }
     ensures no_record { IfErr result BlamesNoRecord }
+    ensures fit { IsTrue D.tells → AreFit node.old.limit (D.image devices.old.disk.now) → AreFit node.old.limit (D.image devices.new.disk.now) }
     ensures causes { IfErr result (λ stop. IsCaused stop (Rose (D.faults devices.old.disk.now) (D.faults devices.new.disk.now)) (Rose (X.faults devices.old.secrets.now) (X.faults devices.new.secrets.now))) }
     ensures later_disk { D.faults devices.old.disk.now ≤ D.faults devices.new.disk.now }
     ensures later_secrets { X.faults devices.old.secrets.now ≤ X.faults devices.new.secrets.now }
@@ -231,6 +234,7 @@ fn take_step<D: Disk, X: SecretStore>(
     ensures no_record { IfErr result BlamesNoRecord }
     // In a consistent script a block is refused only where it skips a height.
     ensures skips { IfErr result (λ stop. IsTrue D.tells → IsTrue X.tells → (l : ℕ) → RefusesOnlySkips (Both (IsBefore life.now l number) (CarriesIn l (number - 1) blocks.now node.old (D.image devices.old.disk.now) (X.held devices.old.secrets.now))) l life.now stop) }
+    ensures fit { IsTrue D.tells → AreFit node.old.limit (D.image devices.old.disk.now) → AreFit node.old.limit (D.image devices.new.disk.now) }
     ensures causes { IfErr result (λ stop. IsCaused stop (Rose (D.faults devices.old.disk.now) (D.faults devices.new.disk.now)) (Rose (X.faults devices.old.secrets.now) (X.faults devices.new.secrets.now))) }
     ensures later_disk { D.faults devices.old.disk.now ≤ D.faults devices.new.disk.now }
     ensures later_secrets { X.faults devices.old.secrets.now ≤ X.faults devices.new.secrets.now }
@@ -268,6 +272,7 @@ fn take_steps<D: Disk, X: SecretStore>(
     ensures no_record { IfErr result BlamesNoRecord }
     // In a consistent script a block is refused only where it skips a height.
     ensures skips { IfErr result (λ stop. IsTrue D.tells → IsTrue X.tells → (l : ℕ) → RefusesOnlySkips (Both (IsBehind life.now l 0) (CarriesIn l 0 blocks.now node.old (D.image devices.old.disk.now) (X.held devices.old.secrets.now))) l life.now stop) }
+    ensures fit { IsTrue D.tells → AreFit node.old.limit (D.image devices.old.disk.now) → AreFit node.old.limit (D.image devices.new.disk.now) }
     ensures causes { IfErr result (λ stop. IsCaused stop (Rose (D.faults devices.old.disk.now) (D.faults devices.new.disk.now)) (Rose (X.faults devices.old.secrets.now) (X.faults devices.new.secrets.now))) }
     ensures later_disk { D.faults devices.old.disk.now ≤ D.faults devices.new.disk.now }
     ensures later_secrets { X.faults devices.old.secrets.now ≤ X.faults devices.new.secrets.now }
@@ -301,6 +306,8 @@ fn open<D: Disk, X: SecretStore>(
     ensures saved { IfErr result (λ stop. IsTrue D.tells → IsTrue X.tells → Moves IsKeptEntry (Both (IsBefore life.now number 0) (RestsFor beginning.now (D.image devices.old.disk.now) (X.held devices.old.secrets.now))) (IsSaved life.now stop (D.image devices.new.disk.now) (X.held devices.new.secrets.now)) out.old.entries out.new.entries) }
     ensures found { IfErr result (λ stop. IsTrue D.tells → IsTrue X.tells → IsFound (reader_of beginning.now) (D.files devices.new.disk.now) (X.held devices.new.secrets.now) stop) }
     ensures accepts { IfErr result (λ stop. IsRefusal stop → ⊥) }
+    ensures limit { IfOk result (λ node. node.limit ≡ non_zero_u32_get beginning.now.limit) }
+    ensures fit { IsTrue D.tells → (most : ℕ) → AreFit most (D.image devices.old.disk.now) → AreFit most (D.image devices.new.disk.now) }
     ensures causes { IfErr result (λ stop. IsCaused stop (Rose (D.faults devices.old.disk.now) (D.faults devices.new.disk.now)) (Rose (X.faults devices.old.secrets.now) (X.faults devices.new.secrets.now))) }
     ensures later_disk { D.faults devices.old.disk.now ≤ D.faults devices.new.disk.now }
     ensures later_secrets { X.faults devices.old.secrets.now ≤ X.faults devices.new.secrets.now }
@@ -335,6 +342,7 @@ fn live<D: Disk, X: SecretStore>(
     ensures saved { IfErr result (λ stop. IsTrue D.tells → IsTrue X.tells → Moves IsKeptEntry (Both (IsBefore life.now number 0) (RestsFor beginning.now (D.image devices.old.disk.now) (X.held devices.old.secrets.now))) (IsSaved life.now stop (D.image devices.new.disk.now) (X.held devices.new.secrets.now)) out.old.entries out.new.entries) }
     ensures found { IfErr result (λ stop. IsTrue D.tells → IsTrue X.tells → IsFound (reader_of beginning.now) (D.files devices.new.disk.now) (X.held devices.new.secrets.now) stop) }
     ensures skips { IfErr result (λ stop. IsTrue D.tells → IsTrue X.tells → RefusesOnlySkips (Both (IsBefore life.now number 0) (RestsFor beginning.now (D.image devices.old.disk.now) (X.held devices.old.secrets.now))) number life.now stop) }
+    ensures fit { IsTrue D.tells → AreFit (non_zero_u32_get beginning.now.limit) (D.image devices.old.disk.now) → AreFit (non_zero_u32_get beginning.now.limit) (D.image devices.new.disk.now) }
     ensures causes { IfErr result (λ stop. IsCaused stop (Rose (D.faults devices.old.disk.now) (D.faults devices.new.disk.now)) (Rose (X.faults devices.old.secrets.now) (X.faults devices.new.secrets.now))) }
     ensures later_disk { D.faults devices.old.disk.now ≤ D.faults devices.new.disk.now }
     ensures later_secrets { X.faults devices.old.secrets.now ≤ X.faults devices.new.secrets.now }
@@ -398,6 +406,7 @@ fn run_life<D: Disk, X: SecretStore>(
     ensures saved { OnErr result (IsTrue D.tells → IsTrue X.tells → Moves IsKeptEntry (Both (IsBefore life.now number 0) (RestsFor beginning.now (D.image devices.old.disk.now) (X.held devices.old.secrets.now))) (IsDurableAt (D.image devices.new.disk.now) (X.held devices.new.secrets.now)) out.old.entries out.new.entries) }
     ensures found { IfErr result (λ fault. IsTrue D.tells → IsTrue X.tells → IsFound (reader_of beginning.now) (D.files devices.new.disk.now) (X.held devices.new.secrets.now) (Stop.Faulted fault)) }
     ensures skips { IfErr result (λ fault. IsTrue D.tells → IsTrue X.tells → RefusesOnlySkips (Both (IsBefore life.now number 0) (RestsFor beginning.now (D.image devices.old.disk.now) (X.held devices.old.secrets.now))) number life.now (Stop.Faulted fault)) }
+    ensures fit { IsTrue D.tells → AreFit (non_zero_u32_get beginning.now.limit) (D.image devices.old.disk.now) → AreFit (non_zero_u32_get beginning.now.limit) (D.image devices.new.disk.now) }
     ensures causes { IfErr result (λ fault. IsCaused (Stop.Faulted fault) (Rose (D.faults devices.old.disk.now) (D.faults devices.new.disk.now)) (Rose (X.faults devices.old.secrets.now) (X.faults devices.new.secrets.now))) }
     ensures later_disk { D.faults devices.old.disk.now ≤ D.faults devices.new.disk.now }
     ensures later_secrets { X.faults devices.old.secrets.now ≤ X.faults devices.new.secrets.now }
@@ -434,6 +443,7 @@ fn run_all<D: Disk, X: SecretStore>(
     ensures saved { OnErr result (IsTrue D.tells → IsTrue X.tells → Moves IsKeptEntry (Both (IsBetweenOf script.now 0) (Rests (D.image devices.old.disk.now) (X.held devices.old.secrets.now))) (IsDurableAt (D.image devices.new.disk.now) (X.held devices.new.secrets.now)) out.old.entries out.new.entries) }
     ensures found { IfErr result (λ fault. IsTrue D.tells → IsTrue X.tells → IsFound (reader_in script.now) (D.files devices.new.disk.now) (X.held devices.new.secrets.now) (Stop.Faulted fault)) }
     ensures skips { IfErr result (λ fault. IsTrue D.tells → IsTrue X.tells → RunRefusesOnlySkips (Both (IsBetweenOf script.now 0) (Rests (D.image devices.old.disk.now) (X.held devices.old.secrets.now))) (Stop.Faulted fault)) }
+    ensures fit { IsTrue D.tells → AreFit (non_zero_u32_get script.now.config.limit) (D.image devices.old.disk.now) → AreFit (non_zero_u32_get script.now.config.limit) (D.image devices.new.disk.now) }
     ensures causes { IfErr result (λ fault. IsCaused (Stop.Faulted fault) (Rose (D.faults devices.old.disk.now) (D.faults devices.new.disk.now)) (Rose (X.faults devices.old.secrets.now) (X.faults devices.new.secrets.now))) }
     ensures later_disk { D.faults devices.old.disk.now ≤ D.faults devices.new.disk.now }
     ensures later_secrets { X.faults devices.old.secrets.now ≤ X.faults devices.new.secrets.now }
@@ -482,6 +492,10 @@ pub fn run_lives<D: Disk, X: SecretStore>(
     ensures found { IsTrue D.tells → IsTrue X.tells → Adds out.old.entries out.new.entries (AreFound (reader_in script.now) (D.files disk.new) (X.held secrets.new)) }
     // In a consistent script no block is refused but one that skips a height.
     ensures skips { IfErr result (λ fault. IsTrue D.tells → IsTrue X.tells → BlamesOnlySkips (setting_of script.now (D.files disk.old) (X.held secrets.old)) (D.image disk.old) fault) }
+    // Each record that a crash leaves is whole, and an event within the script's limit, where it was before.
+    ensures fit { IsTrue D.tells → AreFit (non_zero_u32_get script.now.config.limit) (D.image disk.old) → AreFit (non_zero_u32_get script.now.config.limit) (D.image disk.new) }
+    // .. and then no fault names a corrupt record.
+    ensures whole { IfErr result (λ fault. IsTrue D.tells → IsTrue X.tells → AreFit (non_zero_u32_get script.now.config.limit) (D.image disk.old) → NamesNoRecord fault) }
     // Whatever ends the run, the transcript and the devices keep each recorded dealing; and at Ok each dealing that was due was
     // acknowledged.
     ensures kept { IsTrue D.tells → IsTrue X.tells → Adds out.old.entries out.new.entries (KeepsDealings (setting_of script.now (D.files disk.old) (X.held secrets.old)) (D.image disk.old) (D.image disk.new) (X.held secrets.new)) }

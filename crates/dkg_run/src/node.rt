@@ -11,6 +11,9 @@ ghost use Rattle.std.specs.Int.NonZero.{non_zero_u32_get};
 ghost use Rattle.dkg_journal.specs.Disk.{Rose};
 ghost use Rattle.dkg_journal.specs.Names.{Files};
 ghost use Rattle.dkg_journal.specs.Records.{entries};
+ghost use Rattle.dkg_store.specs.Corrupt.{AreFit};
+ghost use Rattle.dkg_store.specs.Events.{EventFits};
+ghost use Rattle.dkg_store.specs.declared.event.Event.TheVariants as events;
 ghost use Rattle.dkg_store.specs.Noted.{logs_in};
 ghost use Rattle.dkg_store.specs.Pairs.{Pairs, Holds, IsWhole};
 ghost use Rattle.dkg_store.specs.Player.{IsPlayerOf};
@@ -113,6 +116,7 @@ fn open_store<D: Disk, X: SecretStore>(
     ensures logs { IfOk result (λ store. IsTrue D.tells → store.logs ≡ logs_in (entries (D.files devices.old.disk.now))) }
     ensures keeps_logs { IsTrue D.tells → KeepsLogs (D.image devices.old.disk.now) (D.image devices.new.disk.now) }
     ensures lists { IfOk result (λ store. out.new.entries ≡ out.old.entries ++ Entry.Opened life (listed store.dealings) ∷ []) }
+    ensures fit { IsTrue D.tells → (most : ℕ) → AreFit most (D.image devices.old.disk.now) → AreFit most (D.image devices.new.disk.now) }
     ensures causes { IfErr result (λ stop. IsCaused stop (Rose (D.faults devices.old.disk.now) (D.faults devices.new.disk.now)) (Rose (X.faults devices.old.secrets.now) (X.faults devices.new.secrets.now))) }
     ensures later_disk { D.faults devices.old.disk.now ≤ D.faults devices.new.disk.now }
     ensures later_secrets { X.faults devices.old.secrets.now ≤ X.faults devices.new.secrets.now }
@@ -291,6 +295,7 @@ fn prune<D: Disk, X: SecretStore>(
     ensures keeps_logs { IsTrue D.tells → KeepsLogs (D.image devices.old.disk.now) (D.image devices.new.disk.now) }
     ensures gives { OnOk result (IsTrue D.tells → (pairs : Pairs) → GiveBack pairs (D.image devices.old.disk.now) (X.held devices.old.secrets.now) → GiveBack pairs (D.image devices.new.disk.now) (X.held devices.new.secrets.now)) }
     ensures no_record { IfErr result (λ stop. IsTrue D.tells → BlamesNoRecord stop) }
+    ensures fit { IsTrue D.tells → (most : ℕ) → AreFit most (D.image devices.old.disk.now) → AreFit most (D.image devices.new.disk.now) }
     ensures causes { IfErr result (λ stop. IsCaused stop (Rose (D.faults devices.old.disk.now) (D.faults devices.new.disk.now)) (Rose (X.faults devices.old.secrets.now) (X.faults devices.new.secrets.now))) }
     ensures later_disk { D.faults devices.old.disk.now ≤ D.faults devices.new.disk.now }
     ensures later_secrets { X.faults devices.old.secrets.now ≤ X.faults devices.new.secrets.now }
@@ -327,6 +332,7 @@ fn enter<D: Disk, X: SecretStore>(
     ensures holds { IsTrue D.tells → (pairs : Pairs) → Holds pairs (D.image devices.old.disk.now) (X.held devices.old.secrets.now) → Holds pairs (D.image devices.new.disk.now) (X.held devices.new.secrets.now) }
     ensures set_up { AddsSetUp out.old.entries out.new.entries }
     ensures found { IfErr result (λ stop. IsTrue D.tells → IsTrue X.tells → GiveBack store.dealings (D.image devices.old.disk.now) (X.held devices.old.secrets.now) → (reader : Reader) → reader.me ≡ beginning.now.me → reader.tried ≡ Some (made_by beginning.now.namespace beginning.now.mode info.now) → IsFound reader (D.files devices.new.disk.now) (X.held devices.new.secrets.now) stop) }
+    ensures fit { IsTrue D.tells → (most : ℕ) → AreFit most (D.image devices.old.disk.now) → AreFit most (D.image devices.new.disk.now) }
     ensures causes { IfErr result (λ stop. IsCaused stop (Rose (D.faults devices.old.disk.now) (D.faults devices.new.disk.now)) (Rose (X.faults devices.old.secrets.now) (X.faults devices.new.secrets.now))) }
     ensures later_disk { D.faults devices.old.disk.now ≤ D.faults devices.new.disk.now }
     ensures later_secrets { X.faults devices.old.secrets.now ≤ X.faults devices.new.secrets.now }
@@ -374,6 +380,7 @@ fn set_up<D: Disk, X: SecretStore>(
     ensures holds { IsTrue D.tells → (pairs : Pairs) → Holds pairs (D.image devices.old.disk.now) (X.held devices.old.secrets.now) → Holds pairs (D.image devices.new.disk.now) (X.held devices.new.secrets.now) }
     ensures set_up { AddsSetUp out.old.entries out.new.entries }
     ensures found { IfErr result (λ stop. IsTrue D.tells → IsTrue X.tells → GiveBack store.dealings (D.image devices.old.disk.now) (X.held devices.old.secrets.now) → IsFound (reader_of beginning.now) (D.files devices.new.disk.now) (X.held devices.new.secrets.now) stop) }
+    ensures fit { IsTrue D.tells → (most : ℕ) → AreFit most (D.image devices.old.disk.now) → AreFit most (D.image devices.new.disk.now) }
     ensures causes { IfErr result (λ stop. IsCaused stop (Rose (D.faults devices.old.disk.now) (D.faults devices.new.disk.now)) (Rose (X.faults devices.old.secrets.now) (X.faults devices.new.secrets.now))) }
     ensures later_disk { D.faults devices.old.disk.now ≤ D.faults devices.new.disk.now }
     ensures later_secrets { X.faults devices.old.secrets.now ≤ X.faults devices.new.secrets.now }
@@ -432,6 +439,7 @@ impl Node {
         // What a fault blames is found on the devices as the call leaves them.
         ensures found { IfErr result (λ stop. IsTrue D.tells → IsTrue X.tells → IsFound (reader_of beginning.now) (D.files devices.new.disk.now) (X.held devices.new.secrets.now) stop) }
         ensures may_list { OnErr result (IsTrue D.tells → IsTrue X.tells → (out.new.entries ≡ out.old.entries) ⊎ TellsOpening life (recovered_from (D.files devices.old.disk.now) (X.held devices.old.secrets.now)) out.old.entries out.new.entries) }
+        ensures fit { IsTrue D.tells → (most : ℕ) → AreFit most (D.image devices.old.disk.now) → AreFit most (D.image devices.new.disk.now) }
         ensures causes { IfErr result (λ stop. IsCaused stop (Rose (D.faults devices.old.disk.now) (D.faults devices.new.disk.now)) (Rose (X.faults devices.old.secrets.now) (X.faults devices.new.secrets.now))) }
         ensures later_disk { D.faults devices.old.disk.now ≤ D.faults devices.new.disk.now }
         ensures later_secrets { X.faults devices.old.secrets.now ≤ X.faults devices.new.secrets.now }
@@ -474,6 +482,8 @@ impl Node {
         ensures holds { OnOk result (IsTrue D.tells → IsTrue X.tells → Holds self.old.store.dealings (D.image devices.old.disk.now) (X.held devices.old.secrets.now) → Holds self.new.store.dealings (D.image devices.new.disk.now) (X.held devices.new.secrets.now)) }
         // Wherever it stops, a crash leaves what is recorded, or beside that at most the one valid new dealing.
         ensures images { IsTrue D.tells → IsTrue X.tells → Holds self.old.store.dealings (D.image devices.old.disk.now) (X.held devices.old.secrets.now) → HoldsAtMost (seat_in self.old.player) (brought_in self.old.limit bytes.now) from self.new.store.dealings (D.image devices.new.disk.now) (X.held devices.new.secrets.now) }
+        // Each record that a crash leaves is whole, and an event within the limit, where it was before.
+        ensures fit { IsTrue D.tells → AreFit self.old.limit (D.image devices.old.disk.now) → AreFit self.old.limit (D.image devices.new.disk.now) }
         ensures causes { IfErr result (λ stop. IsByDevice stop (Rose (D.faults devices.old.disk.now) (D.faults devices.new.disk.now)) (Rose (X.faults devices.old.secrets.now) (X.faults devices.new.secrets.now))) }
         ensures later_disk { D.faults devices.old.disk.now ≤ D.faults devices.new.disk.now }
         ensures later_secrets { X.faults devices.old.secrets.now ≤ X.faults devices.new.secrets.now }
@@ -551,6 +561,7 @@ impl Node {
         ensures holds { OnOk result (IsTrue D.tells → IsTrue X.tells → Holds self.old.store.dealings (D.image devices.old.disk.now) (X.held devices.old.secrets.now) → Holds self.new.store.dealings (D.image devices.new.disk.now) (X.held devices.new.secrets.now)) }
         // Wherever it stops, a crash leaves what is recorded, or beside that at most the one valid new dealing.
         ensures images { IsTrue D.tells → IsTrue X.tells → Holds self.old.store.dealings (D.image devices.old.disk.now) (X.held devices.old.secrets.now) → HoldsAtMost (seat_in self.old.player) (Some (record { public = public; private = private })) from self.new.store.dealings (D.image devices.new.disk.now) (X.held devices.new.secrets.now) }
+        ensures fit { IsTrue D.tells → (most : ℕ) → EventFits most (events.Dealing from public) → AreFit most (D.image devices.old.disk.now) → AreFit most (D.image devices.new.disk.now) }
         ensures causes { IfErr result (λ stop. IsByDevice stop (Rose (D.faults devices.old.disk.now) (D.faults devices.new.disk.now)) (Rose (X.faults devices.old.secrets.now) (X.faults devices.new.secrets.now))) }
         ensures later_disk { D.faults devices.old.disk.now ≤ D.faults devices.new.disk.now }
         ensures later_secrets { X.faults devices.old.secrets.now ≤ X.faults devices.new.secrets.now }
@@ -603,6 +614,7 @@ fn handle<D: Disk, X: SecretStore>(
     ensures keeps_logs { IsTrue D.tells → KeepsLogs (D.image devices.old.disk.now) (D.image devices.new.disk.now) }
     ensures holds { OnOk result (IsTrue D.tells → IsTrue X.tells → Holds store.old.dealings (D.image devices.old.disk.now) (X.held devices.old.secrets.now) → Holds store.new.dealings (D.image devices.new.disk.now) (X.held devices.new.secrets.now)) }
     ensures images { IsTrue D.tells → IsTrue X.tells → Holds store.old.dealings (D.image devices.old.disk.now) (X.held devices.old.secrets.now) → HoldsAtMost (Some (record { me = player.old.me; round = player.old.round })) (Some (record { public = public; private = private })) from store.new.dealings (D.image devices.new.disk.now) (X.held devices.new.secrets.now) }
+    ensures fit { IsTrue D.tells → (most : ℕ) → EventFits most (events.Dealing from public) → AreFit most (D.image devices.old.disk.now) → AreFit most (D.image devices.new.disk.now) }
     ensures causes { IfErr result (λ stop. IsByDevice stop (Rose (D.faults devices.old.disk.now) (D.faults devices.new.disk.now)) (Rose (X.faults devices.old.secrets.now) (X.faults devices.new.secrets.now))) }
     ensures later_disk { D.faults devices.old.disk.now ≤ D.faults devices.new.disk.now }
     ensures later_secrets { X.faults devices.old.secrets.now ≤ X.faults devices.new.secrets.now }

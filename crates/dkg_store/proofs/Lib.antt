@@ -11,6 +11,7 @@ pub mod Cuts
 pub mod Dealing
 pub mod Epochs
 pub mod Events
+pub mod Fit
 pub mod Formed
 pub mod Halves
 pub mod Map

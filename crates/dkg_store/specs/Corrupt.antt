@@ -2,9 +2,9 @@
 use Rattle.std.specs.Prelude.{◌≡◌, ◌⊎◌, ℕ, List, [], ◌∷◌, map, Some, None, true}
 use Rattle.std.specs.List.{AllByRecursion}
 use Rattle.dkg_journal.specs.Names.{Files}
-use Rattle.dkg_journal.specs.Opening.{broken}
+use Rattle.dkg_journal.specs.Opening.{AreUnbroken, broken}
 use Rattle.dkg_journal.specs.Gated.{gated, gated_entries}
-use Rattle.dkg_journal.specs.Records.{Entry}
+use Rattle.dkg_journal.specs.Records.{Entry, entries}
 use Rattle.dkg_journal.specs.declared.opening.JournalEntry.{JournalEntry}
 use Rattle.dkg_store.specs.Events.{is_event, no_event_at}
 
@@ -26,3 +26,8 @@ pub record HasNoEvent (limit : ℕ) (files : Files) (place : ℕ) : Type 0 where
 -- A record that is not whole stands there. Or all are whole, and a body is no event within the limit.
 pub record IsCorruptAt (limit : ℕ) (files : Files) (place : ℕ) : Type 0 where
   pub so : (broken files ≡ Some place) ⊎ ((broken files ≡ None) × HasNoEvent limit files place)
+
+-- In whatever a crash now leaves, each record is whole, and its body is an event within the limit.
+pub record AreFit (limit : ℕ) (image : Files → Type 0) : Type 0 where
+  pub whole : AreUnbroken image
+  pub events : (c : Files) → image c → AreEvents limit (entries c)

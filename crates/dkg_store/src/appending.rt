@@ -1,5 +1,5 @@
 //! Appends of events: what is recorded is kept in memory, and its record is appended to the journal.
-ghost use Rattle.std.specs.Prelude.{◌≡◌, ◌⊎◌, ◌≤◌, ◌<◌, ◌+◌, ◌^◌, List, length, OnOk, OnErr, IfErr, IsErrOf, IsTrue, None};
+ghost use Rattle.std.specs.Prelude.{◌≡◌, ◌⊎◌, ◌≤◌, ◌<◌, ◌+◌, ◌^◌, List, length, OnOk, OnErr, IfErr, IsErrOf, IsTrue, None, true, ℕ};
 ghost use Rattle.std.specs.FinMap as map;
 ghost use Rattle.dkg_types.specs.declared.entry.Entry.{Entry as Line};
 ghost use Rattle.dkg_values.specs.declared.name.Name.TheVariants.{Flat};
@@ -8,6 +8,8 @@ ghost use Rattle.dkg_journal.specs.Fuse.{Reached, Ran, RanAll};
 ghost use Rattle.dkg_journal.specs.Journals.{IsOpen, append_calls, has_file};
 ghost use Rattle.dkg_journal.specs.Ready.{IsReady};
 ghost use Rattle.dkg_journal.specs.Steps.{Adds, MayAdd};
+ghost use Rattle.dkg_store.specs.Events.{is_event};
+ghost use Rattle.dkg_store.specs.Corrupt.{AreFit};
 ghost use Rattle.dkg_store.specs.Acts.{MadeAt, moment};
 ghost use Rattle.dkg_store.specs.Calls.{appended, ended};
 ghost use Rattle.dkg_store.specs.Errors.{IsOfDevices};
@@ -52,6 +54,7 @@ fn record_event<V: Drop, D: Disk>(
     ensures not_cut { OnOk result (Reached fuse.old fuse.new → ⊥) }
     ensures all { OnOk result (RanAll D.made disk.old disk.new fuse.old fuse.new (append_calls journal.old (epoch, body.now))) }
     ensures calls { Ran D.made disk.old disk.new fuse.old fuse.new (append_calls journal.old (epoch, body.now)) }
+    ensures fit { IsTrue D.tells → (limit : ℕ) → is_event limit body.now ≡ true → AreFit limit (D.image disk.old) → AreFit limit (D.image disk.new) }
     // A crash leaves every file but the journal's as it was.
     ensures others { IsTrue D.tells → Follows (SameElse Flat) (D.image disk.old) (D.image disk.new) }
 {
@@ -95,6 +98,7 @@ pub(crate) fn append_event<V: Drop, D: Disk>(
     ensures not_cut { OnOk result (Reached fuse.old fuse.new → ⊥) }
     ensures all { OnOk result (RanAll D.made disk.old disk.new fuse.old fuse.new (append_calls journal.old (epoch, body.now))) }
     ensures calls { Ran D.made disk.old disk.new fuse.old fuse.new (append_calls journal.old (epoch, body.now)) }
+    ensures fit { IsTrue D.tells → (limit : ℕ) → is_event limit body.now ≡ true → AreFit limit (D.image disk.old) → AreFit limit (D.image disk.new) }
     // A crash leaves every file but the journal's as it was.
     ensures others { IsTrue D.tells → Follows (SameElse Flat) (D.image disk.old) (D.image disk.new) }
 {

@@ -16,7 +16,8 @@ ghost use Rattle.dkg_store.specs.Acts.{MadeAt, moment};
 ghost use Rattle.dkg_store.specs.Calls.{acking, acked};
 ghost use Rattle.dkg_store.specs.Dealer.{IsDealerOf, held_acks, outcome_of, passing, unsent};
 ghost use Rattle.dkg_store.specs.Errors.{IsOfAcking};
-ghost use Rattle.dkg_store.specs.Events.{event_spelling};
+ghost use Rattle.dkg_store.specs.Corrupt.{AreFit};
+ghost use Rattle.dkg_store.specs.Events.{event_spelling, is_event};
 ghost use Rattle.dkg_store.specs.Noted.{Gives, GivesEither, acks_in, logs_in};
 ghost use Rattle.dkg_store.specs.Pairs.{Pairs, Holds};
 ghost use Rattle.dkg_store.specs.Recorded.{at_epoch};
@@ -227,6 +228,7 @@ impl Dealer {
         ensures disk { IsErrOf result (AckHandleError.Store StoreError.Disk) → Rose (D.faults devices.old.disk.now) (D.faults devices.new.disk.now) }
         ensures cut { IsErrOf result (AckHandleError.Store StoreError.Cut) → Reached devices.old.fuse devices.new.fuse }
         ensures not_cut { OnOk result (Reached devices.old.fuse devices.new.fuse → ⊥) }
+        ensures fit { IsTrue D.tells → (limit : ℕ) → is_event limit (event_spelling (events.Ack player ack)) ≡ true → AreFit limit (D.image devices.old.disk.now) → AreFit limit (D.image devices.new.disk.now) }
         // A crash leaves every file but the journal's as it was.
         ensures files { IsTrue D.tells → Follows (SameElse Flat) (D.image devices.old.disk.now) (D.image devices.new.disk.now) }
         ensures same_disk { devices.new.disk.ghost_name ≡ devices.old.disk.ghost_name }

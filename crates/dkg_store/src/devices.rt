@@ -1,5 +1,5 @@
 //! Both devices of a step, and the calls that change them, in one order.
-ghost use Rattle.std.specs.Prelude.{◌≡◌, ◌≤◌, ◌^◌, ◌∷◌, [], ℕ, List, nat_le, OnOk, IfErr, IsErrOf, IsTrue};
+ghost use Rattle.std.specs.Prelude.{◌≡◌, ◌≤◌, ◌^◌, ◌∷◌, [], ℕ, List, nat_le, OnOk, IfErr, IsErrOf, IsTrue, true};
 ghost use Rattle.std.specs.FinMap as map;
 ghost use Rattle.dkg_ceremony.specs.declared.dealer_log.DealerLog.{DealerLog as Log};
 ghost use Rattle.dkg_types.specs.declared.entry.Entry.{Entry as Line};
@@ -11,6 +11,8 @@ ghost use Rattle.dkg_journal.specs.Operations.{Prunes, calls_of};
 ghost use Rattle.dkg_journal.specs.Pruning.{Leaves};
 ghost use Rattle.dkg_journal.specs.Ready.{IsReady};
 ghost use Rattle.dkg_journal.specs.Steps.{Adds, MayAdd};
+ghost use Rattle.dkg_store.specs.Events.{is_event};
+ghost use Rattle.dkg_store.specs.Corrupt.{AreFit};
 ghost use Rattle.dkg_store.specs.Acts.{MadeAt, moment};
 ghost use Rattle.dkg_store.specs.Calls.{put_and_appended, pruning, ended};
 ghost use Rattle.dkg_store.specs.Errors.{IsOfDevices, IsOfPruning};
@@ -63,6 +65,7 @@ pub fn put_and_append<D: Disk, X: SecretStore>(
     ensures not_cut { OnOk result (Reached devices.old.fuse devices.new.fuse → ⊥) }
     ensures all { OnOk result (RanAll (MadeBoth D.made X.made) (devices.old.disk.now, devices.old.secrets.now) (devices.new.disk.now, devices.new.secrets.now) devices.old.fuse devices.new.fuse (put_then_append put.now journal.old (section, body.now))) }
     ensures calls { Ran (MadeBoth D.made X.made) (devices.old.disk.now, devices.old.secrets.now) (devices.new.disk.now, devices.new.secrets.now) devices.old.fuse devices.new.fuse (put_then_append put.now journal.old (section, body.now)) }
+    ensures fit { IsTrue D.tells → (limit : ℕ) → is_event limit body.now ≡ true → AreFit limit (D.image devices.old.disk.now) → AreFit limit (D.image devices.new.disk.now) }
     // A crash leaves every file but the journal's as it was.
     ensures others { IsTrue D.tells → Follows (SameElse Flat) (D.image devices.old.disk.now) (D.image devices.new.disk.now) }
     ensures same_disk { devices.new.disk.ghost_name ≡ devices.old.disk.ghost_name }
@@ -106,6 +109,7 @@ pub(crate) fn prune_devices<D: Disk, X: SecretStore>(
     ensures secrets { IsErrOf result StoreError.Secrets → Rose (X.faults devices.old.secrets.now) (X.faults devices.new.secrets.now) }
     ensures cut { IsErrOf result StoreError.Cut → Reached devices.old.fuse devices.new.fuse }
     ensures not_cut { OnOk result (Reached devices.old.fuse devices.new.fuse → ⊥) }
+    ensures fit { IsTrue D.tells → (limit : ℕ) → AreFit limit (D.image devices.old.disk.now) → AreFit limit (D.image devices.new.disk.now) }
     // A crash leaves every file but the journal's as it was.
     ensures others { IsTrue D.tells → Follows (SameElse Flat) (D.image devices.old.disk.now) (D.image devices.new.disk.now) }
     ensures same_disk { devices.new.disk.ghost_name ≡ devices.old.disk.ghost_name }

@@ -1,16 +1,17 @@
 //! A player of a round: it acknowledges each dealer once, for the dealing that is recorded.
 //!
 //! A reshare actor hands it each dealing that comes in.
-ghost use Rattle.std.specs.Prelude.{◌≡◌, ◌≤◌, ◌<◌, ◌+◌, ◌^◌, ◌++◌, ◌∷◌, [], length, OnOk, OnErr, IfOk, IfErr, IsErrOf, IsTrue, IsSome, IsOk, is_some, None, Ok, Err, Contains, if◌then◌else◌};
+ghost use Rattle.std.specs.Prelude.{◌≡◌, ◌≤◌, ◌<◌, ◌+◌, ◌^◌, ◌++◌, ◌∷◌, [], length, OnOk, OnErr, IfOk, IfErr, IsErrOf, IsTrue, IsSome, IsOk, is_some, None, Ok, Err, Contains, if◌then◌else◌, true, ℕ};
 ghost use Rattle.std.specs.FinMap as map;
 ghost use Rattle.dkg_values.specs.declared.name.Name.TheVariants.{Flat};
 ghost use Rattle.dkg_journal.specs.Disk.{Follows, Rose, SameElse};
 ghost use Rattle.dkg_journal.specs.Fuse.{Reached, Ran, RanAll};
 ghost use Rattle.dkg_journal.specs.Journals.{IsOpen, has_file};
+ghost use Rattle.dkg_store.specs.Corrupt.{AreFit};
 ghost use Rattle.dkg_store.specs.Acts.{MadeAt, moment};
 ghost use Rattle.dkg_store.specs.Calls.{keeping, accepting, answering, answered, ended};
 ghost use Rattle.dkg_store.specs.Errors.{IsOfDevices, IsOfHandling};
-ghost use Rattle.dkg_store.specs.Events.{event_spelling};
+ghost use Rattle.dkg_store.specs.Events.{event_spelling, is_event};
 ghost use Rattle.dkg_store.specs.declared.event.Event.TheVariants as events;
 ghost use Rattle.dkg_store.specs.Noted.{SameNotes};
 ghost use Rattle.dkg_store.specs.Pairs.{Holds, HoldsEither};
@@ -127,6 +128,7 @@ fn keep_dealing<D: Disk, X: SecretStore, Dir: Drop>(
     ensures secrets { IsErrOf result StoreError.Secrets → Rose (X.faults devices.old.secrets.now) (X.faults devices.new.secrets.now) }
     ensures cut { IsErrOf result StoreError.Cut → Reached devices.old.fuse devices.new.fuse }
     ensures not_cut { OnOk result (Reached devices.old.fuse devices.new.fuse → ⊥) }
+    ensures fit { IsTrue D.tells → (limit : ℕ) → is_event limit (event_spelling (events.Dealing dealer public)) ≡ true → AreFit limit (D.image devices.old.disk.now) → AreFit limit (D.image devices.new.disk.now) }
     // A crash leaves every file but the journal's as it was.
     ensures others { IsTrue D.tells → Follows (SameElse Flat) (D.image devices.old.disk.now) (D.image devices.new.disk.now) }
     ensures same_disk { devices.new.disk.ghost_name ≡ devices.old.disk.ghost_name }
@@ -261,6 +263,7 @@ impl Player {
         ensures secrets { IsErrOf result (DealingHandleError.Store StoreError.Secrets) → Rose (X.faults devices.old.secrets.now) (X.faults devices.new.secrets.now) }
         ensures cut { IsErrOf result (DealingHandleError.Store StoreError.Cut) → Reached devices.old.fuse devices.new.fuse }
         ensures not_cut { OnOk result (Reached devices.old.fuse devices.new.fuse → ⊥) }
+        ensures fit { IsTrue D.tells → (limit : ℕ) → is_event limit (event_spelling (events.Dealing dealer public)) ≡ true → AreFit limit (D.image devices.old.disk.now) → AreFit limit (D.image devices.new.disk.now) }
         // A crash leaves every file but the journal's as it was.
         ensures others { IsTrue D.tells → Follows (SameElse Flat) (D.image devices.old.disk.now) (D.image devices.new.disk.now) }
         ensures same_disk { devices.new.disk.ghost_name ≡ devices.old.disk.ghost_name }
@@ -358,6 +361,7 @@ impl Player {
         ensures secrets { IsErrOf result (DealingHandleError.Store StoreError.Secrets) → Rose (X.faults devices.old.secrets.now) (X.faults devices.new.secrets.now) }
         ensures cut { IsErrOf result (DealingHandleError.Store StoreError.Cut) → Reached devices.old.fuse devices.new.fuse }
         ensures not_cut { OnOk result (Reached devices.old.fuse devices.new.fuse → ⊥) }
+        ensures fit { IsTrue D.tells → (limit : ℕ) → is_event limit (event_spelling (events.Dealing dealer public)) ≡ true → AreFit limit (D.image devices.old.disk.now) → AreFit limit (D.image devices.new.disk.now) }
         // A crash leaves every file but the journal's as it was.
         ensures others { IsTrue D.tells → Follows (SameElse Flat) (D.image devices.old.disk.now) (D.image devices.new.disk.now) }
         ensures same_disk { devices.new.disk.ghost_name ≡ devices.old.disk.ghost_name }

@@ -23,14 +23,14 @@ ghost use Rattle.dkg_journal.specs.Journals.{IsOpen, append_calls, has_file};
 ghost use Rattle.dkg_journal.specs.Operations.{Prunes, calls_of};
 ghost use Rattle.dkg_journal.specs.Pruning.{Leaves};
 ghost use Rattle.dkg_journal.specs.Steps.{Keeps};
-ghost use Rattle.dkg_journal.specs.Opening.{IsFormOfToday, broken, open_calls};
+ghost use Rattle.dkg_journal.specs.Opening.{AreUnbroken, IsFormOfToday, broken, open_calls};
 ghost use Rattle.dkg_store.specs.Acts.{MadeAt, Runs, moment, world};
 ghost use Rattle.dkg_store.specs.Calls.{put_and_appended, noting, recording, sharing, seeding, committing, pruning, opens, opened, opening, ended, ended_as};
 ghost use Rattle.dkg_store.specs.Commits.{commit_calls, committed};
-ghost use Rattle.dkg_store.specs.Corrupt.{IsCorruptAt, AreEvents, BeginsWithEvent};
+ghost use Rattle.dkg_store.specs.Corrupt.{IsCorruptAt, AreEvents, AreFit, BeginsWithEvent};
 ghost use Rattle.dkg_store.specs.Errors.{IsOfDealing, IsOfDevices, IsOfOpening, IsOfPlaying, IsOfPruning, IsOfSecrets};
 ghost use Rattle.dkg_store.specs.Secrets.{Secrets, Tries, after};
-ghost use Rattle.dkg_store.specs.Events.{event_spelling};
+ghost use Rattle.dkg_store.specs.Events.{event_spelling, is_event};
 ghost use Rattle.dkg_store.specs.declared.event.Event.TheVariants as events;
 ghost use Rattle.dkg_store.specs.Pairs.{Pairs, IsWhole, AreAtOrAbove, Holds, HoldsEither, recovered};
 ghost use Rattle.dkg_store.specs.Recorded.{at_epoch, restored_list, of_epoch, first_refused};
@@ -124,6 +124,7 @@ fn open_journal<D: Disk>(
     // Another opening finds the same, at Ok and at Corrupt.
     ensures alike { OnOk result (IsTrue D.tells → OpensAlike (D.files disk.old) (D.files disk.new)) }
     ensures unread { (name : Name) (place : ℕ) → IsErrOf result (StoreError.Corrupt name place) → IsTrue D.tells → OpensAlike (D.files disk.old) (D.files disk.new) }
+    ensures sound { AreUnbroken (D.image disk.old) → AreUnbroken (D.image disk.new) }
     ensures later { D.faults disk.old ≤ D.faults disk.new }
     ensures disk { IsErrOf result StoreError.Disk → Rose (D.faults disk.old) (D.faults disk.new) }
     ensures not_secrets { IsErrOf result StoreError.Secrets → ⊥ }
@@ -314,6 +315,7 @@ fn record_dealing<D: Disk, X: SecretStore>(
     ensures secrets { IsErrOf result StoreError.Secrets → Rose (X.faults devices.old.secrets.now) (X.faults devices.new.secrets.now) }
     ensures cut { IsErrOf result StoreError.Cut → Reached devices.old.fuse devices.new.fuse }
     ensures not_cut { OnOk result (Reached devices.old.fuse devices.new.fuse → ⊥) }
+    ensures fit { IsTrue D.tells → (limit : ℕ) → is_event limit (event_spelling (events.Dealing dealer public)) ≡ true → AreFit limit (D.image devices.old.disk.now) → AreFit limit (D.image devices.new.disk.now) }
     // A crash leaves every file but the journal's as it was.
     ensures others { IsTrue D.tells → Follows (SameElse Flat) (D.image devices.old.disk.now) (D.image devices.new.disk.now) }
     ensures same_disk { devices.new.disk.ghost_name ≡ devices.old.disk.ghost_name }
@@ -368,11 +370,14 @@ impl<Dir: Drop> Store<Dir> {
         ensures corrupt { (name : Name) (place : ℕ) → IsErrOf result (StoreError.Corrupt name place) → IsTrue D.tells → IsFormOfToday (D.files devices.old.disk.now) → (name ≡ Flat) × IsCorruptAt (non_zero_u32_get limit) (D.files devices.old.disk.now) place }
         // .. and where there is such a record, the answer is Corrupt at its gate, but where a device, a cut or want of memory ended it before.
         ensures answer { (place : ℕ) → IsTrue D.tells → IsFormOfToday (D.files devices.old.disk.now) → IsCorruptAt (non_zero_u32_get limit) (D.files devices.old.disk.now) place → MatchResult result (λ store. ⊥) (λ e. (e ≡ StoreError.Corrupt Flat place) ⊎ IsOfDevices e) }
+        // Where a crash left no such record as the call began, only a device, a cut or want of memory ends it.
+        ensures opens { IsTrue D.tells → IsFormOfToday (D.files devices.old.disk.now) → AreFit (non_zero_u32_get limit) (D.image devices.old.disk.now) → IfErr result IsOfDevices }
         // The disk as the call leaves it has that record at that place.
         ensures found { (name : Name) (place : ℕ) → IsErrOf result (StoreError.Corrupt name place) → IsTrue D.tells → IsCorruptAt (non_zero_u32_get limit) (D.files devices.new.disk.now) place }
         // A private half is read once the journal is open, and of an event before which all are events.
         ensures half { IsErrOf result StoreError.Secrets → IsTrue D.tells → IsFormOfToday (D.files devices.old.disk.now) → (broken (D.files devices.old.disk.now) ≡ None) × BeginsWithEvent (non_zero_u32_get limit) (entries (D.files devices.old.disk.now)) }
         ensures sound { OnOk result (IsTrue D.tells → IsFormOfToday (D.files devices.old.disk.now) → (broken (D.files devices.old.disk.now) ≡ None) × AreEvents (non_zero_u32_get limit) (entries (D.files devices.old.disk.now))) }
+        ensures fit { IsTrue D.tells → (most : ℕ) → AreFit most (D.image devices.old.disk.now) → AreFit most (D.image devices.new.disk.now) }
         // No entry is lost, wherever it stops, and the secrets are as they were.
         ensures images { IsTrue D.tells → Follows Keeps (D.image devices.old.disk.now) (D.image devices.new.disk.now) }
         ensures same { X.held devices.new.secrets.now ≡ X.held devices.old.secrets.now }
@@ -674,6 +679,7 @@ impl<Dir: Drop> Store<Dir> {
         ensures secrets { IsErrOf result StoreError.Secrets → Rose (X.faults devices.old.secrets.now) (X.faults devices.new.secrets.now) }
         ensures cut { IsErrOf result StoreError.Cut → Reached devices.old.fuse devices.new.fuse }
         ensures not_cut { OnOk result (Reached devices.old.fuse devices.new.fuse → ⊥) }
+        ensures fit { IsTrue D.tells → (limit : ℕ) → AreFit limit (D.image devices.old.disk.now) → AreFit limit (D.image devices.new.disk.now) }
         // A crash leaves every file but the journal's as it was.
         ensures others { IsTrue D.tells → Follows (SameElse Flat) (D.image devices.old.disk.now) (D.image devices.new.disk.now) }
         ensures same_disk { devices.new.disk.ghost_name ≡ devices.old.disk.ghost_name }
@@ -724,6 +730,7 @@ impl<Dir: Drop> Store<Dir> {
         ensures secrets { IsErrOf result StoreError.Secrets → Rose (X.faults devices.old.secrets.now) (X.faults devices.new.secrets.now) }
         ensures cut { IsErrOf result StoreError.Cut → Reached devices.old.fuse devices.new.fuse }
         ensures not_cut { OnOk result (Reached devices.old.fuse devices.new.fuse → ⊥) }
+        ensures fit { IsTrue D.tells → (limit : ℕ) → is_event limit (event_spelling (events.Dealing dealer public)) ≡ true → AreFit limit (D.image devices.old.disk.now) → AreFit limit (D.image devices.new.disk.now) }
         // A crash leaves every file but the journal's as it was.
         ensures others { IsTrue D.tells → Follows (SameElse Flat) (D.image devices.old.disk.now) (D.image devices.new.disk.now) }
         ensures same_disk { devices.new.disk.ghost_name ≡ devices.old.disk.ghost_name }
@@ -786,6 +793,7 @@ impl<Dir: Drop> Store<Dir> {
         ensures disk { IsErrOf result StoreError.Disk → Rose (D.faults devices.old.disk.now) (D.faults devices.new.disk.now) }
         ensures cut { IsErrOf result StoreError.Cut → Reached devices.old.fuse devices.new.fuse }
         ensures not_cut { OnOk result (Reached devices.old.fuse devices.new.fuse → ⊥) }
+        ensures fit { IsTrue D.tells → (limit : ℕ) → is_event limit (event_spelling (events.Ack player ack)) ≡ true → AreFit limit (D.image devices.old.disk.now) → AreFit limit (D.image devices.new.disk.now) }
         // A crash leaves every file but the journal's as it was.
         ensures files { IsTrue D.tells → Follows (SameElse Flat) (D.image devices.old.disk.now) (D.image devices.new.disk.now) }
         ensures same_disk { devices.new.disk.ghost_name ≡ devices.old.disk.ghost_name }
@@ -850,6 +858,7 @@ impl<Dir: Drop> Store<Dir> {
         ensures disk { IsErrOf result StoreError.Disk → Rose (D.faults devices.old.disk.now) (D.faults devices.new.disk.now) }
         ensures cut { IsErrOf result StoreError.Cut → Reached devices.old.fuse devices.new.fuse }
         ensures not_cut { OnOk result (Reached devices.old.fuse devices.new.fuse → ⊥) }
+        ensures fit { IsTrue D.tells → (limit : ℕ) → is_event limit (event_spelling (events.Log dealer log)) ≡ true → AreFit limit (D.image devices.old.disk.now) → AreFit limit (D.image devices.new.disk.now) }
         // A crash leaves every file but the journal's as it was.
         ensures files { IsTrue D.tells → Follows (SameElse Flat) (D.image devices.old.disk.now) (D.image devices.new.disk.now) }
         ensures same_disk { devices.new.disk.ghost_name ≡ devices.old.disk.ghost_name }

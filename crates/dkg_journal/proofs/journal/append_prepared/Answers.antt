@@ -8,6 +8,7 @@ use Rattle.dkg_journal.proofs.Flat.{written_behind}
 use Rattle.dkg_journal.proofs.Steps.{then_all, then_ran, ran_all, ran_more, ran_same, all_same}
 use Rattle.dkg_journal.proofs.Append.{allowed, room, staged_flat, keeps_behind, keeps_may_add, keeps_keeps, short_body, gate_images, gate_adds, gate_open}
 use Rattle.dkg_journal.proofs.Standing.{into_has, tries_append, tries_make, tried_append, finished_append}
+use Rattle.dkg_journal.proofs.Unbroken.{behind_unbroken, gate_unbroken}
 use Rattle.dkg_journal.proofs.journal.append_prepared.Goals as goal
 
 pub write_flat-requires : goal.write_flat-requires
@@ -126,3 +127,25 @@ returns-clause-tried g c = λ tells lands.
 pub returns-clause-done : goal.returns-clause-done
 returns-clause-done g c = λ tells lands.
     finished_append g.D.Disk.made _ _ _ _ c.args.place (start c.args.place + 13 + length c.args.body.now) (c.args.section, c.args.body.now) _ _ _ _ (c.requires.open tells) lands (returns-clause-open g c tells) (returns-clause-added g c tells) (g.met.D.Disk.reads _ tells) (returns-clause-all g c)
+
+pub returns-in_err-make_file-clause-sound : goal.returns-in_err-make_file-clause-sound
+returns-in_err-make_file-clause-sound g c = λ tells. c.make_file.ensures.sound (c.requires.open tells)
+
+pub returns-in_err-write_flat-clause-sound : goal.returns-in_err-write_flat-clause-sound
+returns-in_err-write_flat-clause-sound g c = λ tells.
+    let flat = c.in_ok-make_file.ensures.open tells (c.requires.open tells) in
+    behind_unbroken _ _ _ _ _ flat (c.write_flat.ensures.images flat.bytes _ _ c.requires.write flat.firm)
+
+pub returns-in_err-write_flat-2-clause-sound : goal.returns-in_err-write_flat-2-clause-sound
+returns-in_err-write_flat-2-clause-sound g c = λ tells.
+    let flat = c.in_ok-make_file.ensures.open tells (c.requires.open tells) in
+    let firm = c.in_ok-write_flat.ensures.done tells flat.bytes _ _ c.requires.write flat.firm in
+    let staged = written_behind flat.bs (body_of (c.args.section, c.args.body.now)) (start c.args.place) flat.bytes flat.flat (short_body c.args.section c.args.body.now c.requires.short) in
+    gate_unbroken flat.bs (body_of (c.args.section, c.args.body.now)) _ (start c.args.place) _ _ staged (c.write_flat-2.ensures.images _ _ _ c.requires.gate firm)
+
+pub returns-clause-sound : goal.returns-clause-sound
+returns-clause-sound g c = λ tells.
+    let flat = c.in_ok-make_file.ensures.open tells (c.requires.open tells) in
+    let firm = c.in_ok-write_flat.ensures.done tells flat.bytes _ _ c.requires.write flat.firm in
+    let staged = written_behind flat.bs (body_of (c.args.section, c.args.body.now)) (start c.args.place) flat.bytes flat.flat (short_body c.args.section c.args.body.now c.requires.short) in
+    gate_unbroken flat.bs (body_of (c.args.section, c.args.body.now)) _ (start c.args.place) _ _ staged (c.write_flat-2.ensures.images _ _ _ c.requires.gate firm)

@@ -6,6 +6,7 @@ use Rattle.dkg_journal.proofs.Steps.{ran_all, all_same}
 use Rattle.dkg_journal.proofs.Mending.{mend_some, mend_none, firm_install, mended_alike, mended_keeps}
 use Rattle.dkg_journal.proofs.Reading.{mended_flat}
 use Rattle.dkg_journal.proofs.Standing.{mended_standing, settled_flat, keeps_else}
+use Rattle.dkg_journal.proofs.Unbroken.{mended_unbroken}
 use Rattle.dkg_journal.proofs.open.mend.Goals as goal
 
 -- the call that was made is the one of the definition
@@ -59,3 +60,9 @@ returns-clause-settled g c = λ out whole firm tells lands.
 
 pub returns-clause-alike : goal.returns-clause-alike
 returns-clause-alike g c = λ tells out whole was. mended_alike _ c.args.bytes.items out c.args.place _ _ (c.new.ensures ∙ c.in_ok-push.ensures.items) (omega arith) whole was (c.in_ok-perform.ensures.done tells).reads
+
+pub returns-in_err-perform-clause-sound : goal.returns-in_err-perform-clause-sound
+returns-in_err-perform-clause-sound g c = λ out whole sound. mended_unbroken _ c.args.bytes.items out c.args.place _ _ (c.new.ensures ∙ c.in_ok-push.ensures.items) (omega arith) whole sound c.perform.ensures.crash
+
+pub returns-clause-sound : goal.returns-clause-sound
+returns-clause-sound g c = λ out whole sound. mended_unbroken _ c.args.bytes.items out c.args.place _ _ (c.new.ensures ∙ c.in_ok-push.ensures.items) (omega arith) whole sound c.perform.ensures.crash

@@ -6,6 +6,7 @@ use Rattle.dkg_run.proofs.Places.{moves_then}
 use Rattle.dkg_run.proofs.Refused.{none_refused, skips_behind}
 use Rattle.dkg_run.proofs.Stops.{caused_later}
 use Rattle.dkg_run.proofs.Found.{blames_found}
+use Rattle.dkg_run.proofs.Fitting.{fit_at}
 use Rattle.dkg_run.proofs.lives.live.Goals as goal
 
 pub returns-in_err-take_steps-clause-stopped : goal.returns-in_err-take_steps-clause-stopped
@@ -39,3 +40,12 @@ pub returns-in_err-take_steps-clause-skips : goal.returns-in_err-take_steps-clau
 returns-in_err-take_steps-clause-skips g c = let p = err_from_is_err_and c.from_residual-in_err-take_steps.result c.from_residual-in_err-take_steps.ensures.1 in
     rw (p.1, p.2) (λ disk secrets. skips_behind _ _ _ _ _ _ _ (moves_both IsInOrder IsKeptEntry _ _ _ _ _ _ c.in_ok-node.ensures.done (c.in_ok-node.ensures.kept disk secrets))
     (rw c.as_slice-blocks.ensures.value at (c.in_err-take_steps.ensures.skips disk secrets c.args.number)))
+
+pub returns-in_err-node-clause-fit : goal.returns-in_err-node-clause-fit
+returns-in_err-node-clause-fit g c = λ told fit. c.open.ensures.fit told _ fit
+
+pub returns-in_err-take_steps-clause-fit : goal.returns-in_err-take_steps-clause-fit
+returns-in_err-take_steps-clause-fit g c = λ told fit. fit_at _ _ _ _ c.in_ok-node.ensures.limit (c.take_steps.ensures.fit told) (c.open.ensures.fit told _ fit)
+
+pub returns-clause-fit : goal.returns-clause-fit
+returns-clause-fit g c = λ told fit. fit_at _ _ _ _ c.in_ok-node.ensures.limit (c.take_steps.ensures.fit told) (c.open.ensures.fit told _ fit)

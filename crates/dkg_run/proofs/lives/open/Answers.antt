@@ -110,3 +110,15 @@ returns-in_err-place-clause-accepts g c = let p = err_from_is_err_and c.from_res
 
 pub returns-in_err-push-clause-accepts : goal.returns-in_err-push-clause-accepts
 returns-in_err-push-clause-accepts g c = let p = err_from_is_err_and c.from_residual-in_err-push.result c.from_residual-in_err-push.ensures.1 in rw (p.1, p.2) (λ refusal. refusal)
+
+pub returns-in_err-begin_step-clause-fit : goal.returns-in_err-begin_step-clause-fit
+returns-in_err-begin_step-clause-fit g c = rw c.begin_step.ensures.disk (λ told most fit. fit)
+
+pub returns-in-Err-clause-fit : goal.returns-in-Err-clause-fit
+returns-in-Err-clause-fit g c = rw (← c.begin_step.ensures.disk) c.open.ensures.fit
+
+pub returns-in_err-push-clause-fit : goal.returns-in_err-push-clause-fit
+returns-in_err-push-clause-fit g c = rw (← c.begin_step.ensures.disk) c.open.ensures.fit
+
+pub returns-clause-fit : goal.returns-clause-fit
+returns-clause-fit g c = rw (← c.begin_step.ensures.disk) c.open.ensures.fit

@@ -9,6 +9,7 @@ use Rattle.dkg_run.proofs.Refused.{none_run, run_skips}
 use Rattle.dkg_run.proofs.Runs.{moves_life, moves_in_life, untouched, at_item}
 use Rattle.dkg_run.proofs.Stops.{caused_later}
 use Rattle.dkg_run.proofs.Found.{script_found}
+use Rattle.dkg_run.proofs.Fitting.{fit_at}
 use Rattle.dkg_run.proofs.lives.run_all.Goals as goal
 
 -- MEMORY RUNS OUT BEFORE THE FIRST LIFE
@@ -25,6 +26,7 @@ returns-in_err-beginning-clause-causes g c = let p = err_from_is_err_and c.from_
 pub loop-i-init : goal.loop-i-init
 loop-i-init g c = record {
   today = c.requires.today;
+  fit = λ told fit. fit;
   same_disk = refl;
   same_secrets = refl;
   moves = moves_none _ _ _ _ _ refl (λ s p is. is);
@@ -63,6 +65,7 @@ loop-i-preserved g c =
     let life_is : slice_get c.args.script.now.lives c.loop-i.i ≡ Some c.life-item.result = rw (← c.as_slice-life-items.ensures) (at_item _ _ _ c.loop-i-test.true c.life-item.is) in
     record {
       today = c.run_life.ensures.today;
+      fit = λ told fit. fit_at _ _ _ _ c.in_ok-beginning.ensures.script.limit_is (c.run_life.ensures.fit told) (c.loop-i.invariant.fit told fit);
       same_disk = cc;
       same_secrets = cc;
       moves = moves_then _ _ _ _ _ _ _ c.loop-i.invariant.moves (moves_life c.args.script.now c.life-item.result c.loop-i.i _ _ life_is c.in_ok-run_life.ensures.done);
@@ -88,3 +91,9 @@ returns-in_err-run_life-clause-skips g c =
     let p = err_from_is_err_and c.from_residual-in_err-run_life.result c.from_residual-in_err-run_life.ensures.1 in
     rw (p.1, p.2) (λ disk secrets. run_skips c.args.script.now c.life-item.result c.loop-i.i c.in_ok-beginning.beginning life_is
     (record { of_script = c.in_ok-beginning.ensures.script; blocks = c.in_ok-beginning.ensures.blocks; middle = c.in_ok-beginning.ensures.midpoint }) _ _ _ _ _ _ (c.loop-i.invariant.kept disk secrets) (c.in_err-run_life.ensures.skips disk secrets))
+
+pub returns-in_err-run_life-clause-fit : goal.returns-in_err-run_life-clause-fit
+returns-in_err-run_life-clause-fit g c = λ told fit. fit_at _ _ _ _ c.in_ok-beginning.ensures.script.limit_is (c.run_life.ensures.fit told) (c.loop-i.invariant.fit told fit)
+
+pub returns-clause-fit : goal.returns-clause-fit
+returns-clause-fit g c = c.loop-i.invariant.fit

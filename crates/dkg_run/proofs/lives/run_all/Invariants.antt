@@ -2,6 +2,8 @@
 -- recorded.
 use Rattle.std.proofs.Common.{◌≡◌, ◌≤◌}
 use Rattle.std.specs.Prelude.{IsTrue}
+use Rattle.std.specs.Int.NonZero.{non_zero_u32_get}
+use Rattle.dkg_store.specs.Corrupt.{AreFit}
 use Rattle.dkg_script.specs.Order.{IsInOrder}
 use Rattle.dkg_run.specs.Carried.{IsKeptEntry, Rests}
 use Rattle.dkg_run.specs.Devices.{IsToday}
@@ -11,6 +13,7 @@ use Rattle.dkg_run.proofs.lives.run_all.Given as goal
 abbrev pub invariant-loop-i : goal.invariant-loop-i
 invariant-loop-i g l = record {
   today : IsTrue g.D.Disk.tells → IsToday (g.D.Disk.image l.devices.disk.now);
+  fit : IsTrue g.D.Disk.tells → AreFit (non_zero_u32_get l.fn.script.config.limit) (g.D.Disk.image l.initial.devices.disk.now) → AreFit (non_zero_u32_get l.fn.script.config.limit) (g.D.Disk.image l.devices.disk.now);
   same_disk : l.devices.disk.ghost_name ≡ l.initial.devices.disk.ghost_name;
   same_secrets : l.devices.secrets.ghost_name ≡ l.initial.devices.secrets.ghost_name;
   moves : Moves IsInOrder (IsBetweenOf l.fn.script 0) (IsBetweenOf l.fn.script l.i) l.initial.out.entries l.out.entries;

@@ -3,6 +3,7 @@ use Rattle.dkg_run.proofs.Life.{moves_at_rest, cut_kept, cut_durable, crash_of, 
 use Rattle.dkg_run.proofs.Refused.{memory_blames_none, none_refused}
 use Rattle.dkg_run.proofs.Steps.{cut_told, cut_untold}
 use Rattle.dkg_run.proofs.Found.{memory_found}
+use Rattle.dkg_run.proofs.Fitting.{narrowed_fit}
 use Rattle.dkg_run.proofs.lives.run_life.Goals as goal
 
 -- THE LIFE ENDS
@@ -43,3 +44,12 @@ returns-in_err-end_cut-in-Err-Cut-clause-skips g c = let p = err_from_is_err_and
 
 pub returns-in-Err-Faulted-clause-skips : goal.returns-in-Err-Faulted-clause-skips
 returns-in-Err-Faulted-clause-skips g c = rw c.in-Err-Faulted.field-0-is at c.in-Err-Faulted.ensures.skips
+
+pub returns-in-Ok-clause-fit : goal.returns-in-Ok-clause-fit
+returns-in-Ok-clause-fit g c = λ told fit. narrowed_fit _ _ _ c.crash.ensures.crash (c.live.ensures.fit told fit)
+
+pub returns-in_ok-end_cut-in-Err-Cut-clause-fit : goal.returns-in_ok-end_cut-in-Err-Cut-clause-fit
+returns-in_ok-end_cut-in-Err-Cut-clause-fit g c = λ told fit. narrowed_fit _ _ _ c.end_cut.ensures.narrows (c.live.ensures.fit told fit)
+
+pub returns-in_err-end_cut-in-Err-Cut-clause-fit : goal.returns-in_err-end_cut-in-Err-Cut-clause-fit
+returns-in_err-end_cut-in-Err-Cut-clause-fit g c = λ told fit. narrowed_fit _ _ _ c.end_cut.ensures.narrows (c.live.ensures.fit told fit)

@@ -10,6 +10,7 @@ use Rattle.dkg_run.proofs.Runs.{runs_in_order, runs_all}
 use Rattle.dkg_run.proofs.Stops.{told_cause}
 use Rattle.dkg_run.specs.Found.{reader_in}
 use Rattle.dkg_run.proofs.Found.{moved_found, none_blamed, told_found}
+use Rattle.dkg_run.proofs.Fitting.{names_none}
 use Rattle.dkg_run.proofs.lives.run_lives.Goals as goal
 
 -- EVERY LIFE WAS RUN
@@ -68,3 +69,7 @@ returns-in-Err-clause-found g c = λ disk secrets.
 
 pub returns-in-Err-clause-skips : goal.returns-in-Err-clause-skips
 returns-in-Err-clause-skips g c = λ disk secrets. told_skips c.args.script.now (g.D.Disk.files c.args.disk.now) (g.X.SecretStore.held c.args.secrets.now) (g.D.Disk.image c.args.disk.now) _ _ _ c.tell.result (c.in-Err.ensures.skips disk secrets) c.tell.ensures
+
+pub returns-in-Err-clause-whole : goal.returns-in-Err-clause-whole
+returns-in-Err-clause-whole g c = λ disk secrets fit.
+    names_none (reader_in c.args.script.now) _ _ _ _ c.tell.result _ _ c.tell.ensures (c.in-Err.ensures.found disk secrets) (c.run_all.ensures.fit disk fit) (g.met.D.Disk.reads c.run_all.new.devices.disk.now disk)

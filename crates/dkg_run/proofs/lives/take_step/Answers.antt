@@ -81,3 +81,15 @@ returns-in-Err-clause-skips g c = λ disk secrets l s q at refusal. step_skips s
 pub returns-in_err-push-clause-skips : goal.returns-in_err-push-clause-skips
 returns-in_err-push-clause-skips g c = let p = err_from_is_err_and c.from_residual-in_err-push.result c.from_residual-in_err-push.ensures.1 in
     rw (p.1, p.2) (λ disk secrets l s q at refusal. absurd refusal)
+
+pub returns-in_err-begin_step-clause-fit : goal.returns-in_err-begin_step-clause-fit
+returns-in_err-begin_step-clause-fit g c = rw c.begin_step.ensures.disk (λ told fit. fit)
+
+pub returns-in-Err-clause-fit : goal.returns-in-Err-clause-fit
+returns-in-Err-clause-fit g c = rw (← c.begin_step.ensures.disk) c.step.ensures.fit
+
+pub returns-in_err-push-clause-fit : goal.returns-in_err-push-clause-fit
+returns-in_err-push-clause-fit g c = rw (← c.begin_step.ensures.disk) c.step.ensures.fit
+
+pub returns-clause-fit : goal.returns-clause-fit
+returns-clause-fit g c = rw (← c.begin_step.ensures.disk) c.step.ensures.fit

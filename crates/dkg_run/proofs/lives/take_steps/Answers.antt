@@ -1,4 +1,4 @@
-use Rattle.std.proofs.Common.{◌<◌, length, refl, arith}
+use Rattle.std.proofs.Common.{◌<◌, length, refl, arith, ◌∙◌}
 use Rattle.std.proofs.lemmas.Result.{err_from_is_err_and}
 use Rattle.dkg_script.specs.Order.{IsInOrder}
 use Rattle.dkg_run.specs.Carried.{IsKeptEntry}
@@ -10,6 +10,7 @@ use Rattle.dkg_run.proofs.Refused.{skips_later}
 use Rattle.dkg_run.proofs.Steps.{next_step}
 use Rattle.dkg_run.proofs.Runs.{at_item, at_event}
 use Rattle.dkg_run.proofs.Stops.{caused_later}
+use Rattle.dkg_run.proofs.Fitting.{fit_at}
 use Rattle.dkg_run.proofs.lives.take_steps.Goals as goal
 
 pub loop-i-init : goal.loop-i-init
@@ -18,6 +19,8 @@ loop-i-init g c = record {
   answers = c.requires.answers;
   valid = c.requires.valid;
   ready = c.requires.ready;
+  limit = refl;
+  fit = λ told fit. fit;
   same_disk = refl;
   same_secrets = refl;
   moves = λ l. moves_none _ _ _ _ _ refl (λ s p is. is);
@@ -52,6 +55,8 @@ loop-i-preserved g c = let below : c.loop-i.i < length c.args.life.now.events = 
   answers = c.take_step.ensures.answers;
   valid = c.take_step.ensures.valid;
   ready = c.in_ok-take_step.ensures.ready;
+  limit = c.take_step.ensures.limit ∙ c.loop-i.invariant.limit;
+  fit = λ told fit. fit_at _ _ _ _ c.loop-i.invariant.limit (c.take_step.ensures.fit told) (c.loop-i.invariant.fit told fit);
   same_disk = cc;
   same_secrets = cc;
   moves = λ l. next_step c.args.life.now l _ _ _ _ _ _ below (c.loop-i.invariant.moves l) (c.in_ok-take_step.ensures.done l);
@@ -71,3 +76,9 @@ pub returns-in_err-take_step-clause-skips : goal.returns-in_err-take_step-clause
 returns-in_err-take_step-clause-skips g c = let p = err_from_is_err_and c.from_residual.result c.from_residual.ensures.1 in
     let below : c.loop-i.i < length c.args.life.now.events = rw c.as_slice-event-items.ensures at c.loop-i-test.true in
     rw (p.1, p.2) (λ disk secrets l. skips_later c.args.life.now l c.loop-i.i _ _ _ _ _ below (c.loop-i.invariant.kept disk secrets l) (rw (back_one c.loop-i.i) at (c.in_err-take_step.ensures.skips disk secrets l)))
+
+pub returns-in_err-take_step-clause-fit : goal.returns-in_err-take_step-clause-fit
+returns-in_err-take_step-clause-fit g c = λ told fit. fit_at _ _ _ _ c.loop-i.invariant.limit (c.take_step.ensures.fit told) (c.loop-i.invariant.fit told fit)
+
+pub returns-clause-fit : goal.returns-clause-fit
+returns-clause-fit g c = c.loop-i.invariant.fit

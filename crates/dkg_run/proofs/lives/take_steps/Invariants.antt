@@ -3,6 +3,7 @@
 use Rattle.std.proofs.Common.{◌≡◌, ◌≤◌, ℕ}
 use Rattle.std.specs.Prelude.{IsTrue, IfSome, Contains}
 use Rattle.dkg_ceremony.specs.Acks.{ack_of}
+use Rattle.dkg_store.specs.Corrupt.{AreFit}
 use Rattle.dkg_store.specs.Player.{IsPlayerOf}
 use Rattle.dkg_script.specs.Order.{IsInOrder}
 use Rattle.dkg_run.specs.Carried.{CarriesIn, IsKeptEntry}
@@ -17,6 +18,8 @@ invariant-loop-i g l = record {
   answers : IfSome l.node.player (λ p. IsPlayerOf ack_of p.me p.round p.acks l.node.store.dealings 0);
   valid : IfSome (seat_in l.node.player) (λ seat. AreValid seat l.node.store.dealings);
   ready : IsTrue g.D.Disk.tells → IsReady l.node.store.journal.place (g.D.Disk.files l.devices.disk.now) (g.D.Disk.image l.devices.disk.now);
+  limit : l.node.limit ≡ l.initial.node.limit;
+  fit : IsTrue g.D.Disk.tells → AreFit l.initial.node.limit (g.D.Disk.image l.initial.devices.disk.now) → AreFit l.initial.node.limit (g.D.Disk.image l.devices.disk.now);
   same_disk : l.devices.disk.ghost_name ≡ l.initial.devices.disk.ghost_name;
   same_secrets : l.devices.secrets.ghost_name ≡ l.initial.devices.secrets.ghost_name;
   moves : (number : ℕ) → Moves IsInOrder (IsBehind l.life number 0) (IsBehind l.life number l.i) l.initial.out.entries l.out.entries;

@@ -2,6 +2,8 @@ use Rattle.dkg_run.proofs.Logs.{logs_noted}
 use Rattle.dkg_run.proofs.Places.{quiet_unless}
 use Rattle.dkg_run.proofs.Short.{event_short}
 use Rattle.dkg_run.proofs.Told.{handed}
+use Rattle.dkg_store.specs.declared.event.Event.TheVariants as events
+use Rattle.dkg_store.proofs.Fit.{fits_event}
 use Rattle.dkg_run.proofs.node.handle.Goals as goal
 
 pub handle-requires-clause-short : goal.handle-requires-clause-short
@@ -25,3 +27,12 @@ returns-in-Err-Refused-clause-keeps_logs g c = λ told. logs_noted _ _ (c.handle
 
 pub returns-in-Err-Store-clause-keeps_logs : goal.returns-in-Err-Store-clause-keeps_logs
 returns-in-Err-Store-clause-keeps_logs g c = λ told. logs_noted _ _ (c.handle.ensures.notes told)
+
+pub returns-in-Ok-clause-fit : goal.returns-in-Ok-clause-fit
+returns-in-Ok-clause-fit g c = λ told most fits fit. c.handle.ensures.fit told most (fits_event most (events.Dealing c.args.from c.args.public) fits) fit
+
+pub returns-in-Err-Refused-clause-fit : goal.returns-in-Err-Refused-clause-fit
+returns-in-Err-Refused-clause-fit g c = λ told most fits fit. c.handle.ensures.fit told most (fits_event most (events.Dealing c.args.from c.args.public) fits) fit
+
+pub returns-in-Err-Store-clause-fit : goal.returns-in-Err-Store-clause-fit
+returns-in-Err-Store-clause-fit g c = λ told most fits fit. c.handle.ensures.fit told most (fits_event most (events.Dealing c.args.from c.args.public) fits) fit

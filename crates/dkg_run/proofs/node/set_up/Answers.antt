@@ -22,3 +22,12 @@ returns-in_err-node-clause-found g c = let p = err_from_is_err_and c.from_residu
     rw (p.1, p.2) (λ disk secrets gives. c.in_err-node.ensures.found disk secrets
     (committed_back _ _ (g.X.SecretStore.held c.args.devices.now.secrets.now) (g.X.SecretStore.held c.commit.new.devices.secrets.now) _ _ (λ f here. rw c.commit.ensures.disk at here) (c.in_ok-commit.ensures.gives secrets) c.commit.ensures.dealings gives)
     (reader_of c.args.beginning.now) refl (tried_first c.args.beginning.now.namespace c.args.beginning.now.mode _ _ c.in_ok-info.ensures.info c.in_ok-info.ensures.first))
+
+pub returns-in_err-commit-clause-fit : goal.returns-in_err-commit-clause-fit
+returns-in_err-commit-clause-fit g c = rw c.commit.ensures.disk (λ told most fit. fit)
+
+pub returns-in_err-node-clause-fit : goal.returns-in_err-node-clause-fit
+returns-in_err-node-clause-fit g c = rw (← c.commit.ensures.disk) c.enter.ensures.fit
+
+pub returns-clause-fit : goal.returns-clause-fit
+returns-clause-fit g c = rw (← c.commit.ensures.disk) c.enter.ensures.fit

@@ -5,6 +5,7 @@ use Rattle.dkg_store.specs.Noted.{Notes}
 use Rattle.dkg_store.proofs.Acting.{alone_torn, alone_alike, breaks_off, of_journal_too}
 use Rattle.dkg_store.proofs.Map.{remove_insert, keys_total, exact_keys}
 use Rattle.dkg_store.proofs.Others.{others_of, not_added}
+use Rattle.dkg_store.proofs.Fit.{may_add_fit}
 use Rattle.dkg_store.proofs.appending.record_event.Goals as goal
 
 pub returns-in_err-insert-clause-images : goal.returns-in_err-insert-clause-images
@@ -26,3 +27,9 @@ returns-in-Err-clause-others g c told = others_of _ _ _ (c.append_ready.ensures.
 
 pub returns-clause-others : goal.returns-clause-others
 returns-clause-others g c told = others_of _ _ _ (c.append_ready.ensures.images told)
+
+pub returns-in-Err-clause-fit : goal.returns-in-Err-clause-fit
+returns-in-Err-clause-fit g c = λ told limit is fit. may_add_fit limit _ _ _ is (c.append_ready.ensures.images told) (c.append_ready.ensures.sound told) fit
+
+pub returns-clause-fit : goal.returns-clause-fit
+returns-clause-fit g c = λ told limit is fit. may_add_fit limit _ _ _ is (c.append_ready.ensures.images told) (c.append_ready.ensures.sound told) fit

@@ -13,6 +13,7 @@ use Rattle.dkg_store.proofs.Both.{both_more, disk_all, disk_ran, secret_one}
 use Rattle.dkg_store.proofs.Halves.{prune_halves}
 use Rattle.dkg_store.proofs.OpeningActs.{journal_devices}
 use Rattle.dkg_store.proofs.Pruned.{same_left, same_may, same_tried, same_finished, may_leave_holds, left_holds, one_of_either, gives_may_leave, gives_left, gives_one, acks_from, logs_from, may_others, left_others, journal_torn, secrets_torn, both_pruned, of_pruning, secrets_pruning}
+use Rattle.dkg_store.proofs.Fit.{may_leave_fit}
 use Rattle.dkg_store.proofs.devices.prune_devices.Goals as goal
 
 -- THE JOURNAL'S PRUNE WAS ENDED WITHIN
@@ -112,3 +113,12 @@ returns-clause-calls g c = λ told.
     (disk_all g.D.Disk.made g.X.SecretStore.made _ _ _ _ _ _ (g.met.X.SecretStore.made_none _)
     (subst (λ (n : ℕ). RanAll g.D.Disk.made c.args.devices.now.disk.now c.prune.new.disk c.args.devices.now.fuse c.prune.new.fuse (prune_calls n (g.D.Disk.files c.args.devices.now.disk.now))) c.min.view_is (c.in_ok-prune.ensures.all told)))
     (secret_one g.D.Disk.made g.X.SecretStore.made _ _ _ _ _ (Prune c.args.min) (g.met.D.Disk.made_none _) c.perform_secret.ensures.calls c.perform_secret.ensures.counted))
+
+pub returns-in_err-prune-clause-fit : goal.returns-in_err-prune-clause-fit
+returns-in_err-prune-clause-fit g c = λ told limit fit. may_leave_fit limit _ _ _ (c.prune.ensures.images told) (c.prune.ensures.sound told) fit
+
+pub returns-in_err-perform_secret-clause-fit : goal.returns-in_err-perform_secret-clause-fit
+returns-in_err-perform_secret-clause-fit g c = λ told limit fit. may_leave_fit limit _ _ _ (c.prune.ensures.images told) (c.prune.ensures.sound told) fit
+
+pub returns-clause-fit : goal.returns-clause-fit
+returns-clause-fit g c = λ told limit fit. may_leave_fit limit _ _ _ (c.prune.ensures.images told) (c.prune.ensures.sound told) fit

@@ -8,6 +8,7 @@ use Rattle.dkg_journal.proofs.Steps.{then_all, then_ran, ran_all, ran_first}
 use Rattle.dkg_store.specs.Both.{MadeBoth, on_disk, on_secrets}
 use Rattle.dkg_store.proofs.Both.{both_more, disk_all, disk_ran, secret_one}
 use Rattle.dkg_store.proofs.Others.{not_added, others_of}
+use Rattle.dkg_store.proofs.Fit.{may_add_fit}
 use Rattle.dkg_store.proofs.devices.put_and_append.Goals as goal
 
 pub returns-in_err-perform_secret-clause-calls : goal.returns-in_err-perform_secret-clause-calls
@@ -49,3 +50,9 @@ pub returns-clause-acts : goal.returns-clause-acts
 returns-clause-acts g c = λ told_disk told_secrets out.
     both_done c.args.put.now c.args.journal.now (c.args.section, c.args.body.now) tt (g.D.Disk.files c.args.devices.now.disk.now) (g.D.Disk.image c.args.devices.now.disk.now) out (g.X.SecretStore.held c.args.devices.now.secrets.now) c.args.devices.now.fuse
     c.append_ready.new.self _ _ _ _ _ refl (c.in_ok-perform_secret.ensures.done told_secrets) c.perform_secret.ensures.counted (c.in_ok-append_ready.ensures.added told_disk) c.in_ok-append_ready.ensures.all (c.in_ok-append_ready.ensures.open told_disk) (g.met.D.Disk.reads _ told_disk)
+
+pub returns-in_err-append_ready-clause-fit : goal.returns-in_err-append_ready-clause-fit
+returns-in_err-append_ready-clause-fit g c = λ told limit is fit. may_add_fit limit _ _ _ is (c.append_ready.ensures.images told) (c.append_ready.ensures.sound told) fit
+
+pub returns-clause-fit : goal.returns-clause-fit
+returns-clause-fit g c = λ told limit is fit. may_add_fit limit _ _ _ is (c.append_ready.ensures.images told) (c.append_ready.ensures.sound told) fit

@@ -15,6 +15,7 @@ use Rattle.dkg_store.proofs.Opened.{same_call}
 use Rattle.dkg_store.proofs.Opened.{barred, kept_on}
 use Rattle.dkg_store.specs.declared.call.StoreError.TheVariants.{Corrupt}
 use Rattle.dkg_store.proofs.Corrupt.{journal_corrupt, same_error}
+use Rattle.dkg_store.proofs.Fit.{barred_unbroken}
 use Rattle.dkg_store.proofs.store.open_journal.Goals as goal
 
 pub returns-in_err-perform-clause-images : goal.returns-in_err-perform-clause-images
@@ -97,3 +98,12 @@ pub returns-clause-alike : goal.returns-clause-alike
 returns-clause-alike g c = λ told.
     let did = c.in_ok-perform.ensures.done told in
     subst (λ (files : Files). OpensAlike files (g.D.Disk.files c.open.new.disk)) did.reads (c.in_ok-open.ensures.alike told)
+
+pub returns-in_err-perform-clause-sound : goal.returns-in_err-perform-clause-sound
+returns-in_err-perform-clause-sound g c = λ whole. barred_unbroken _ _ c.perform.ensures.crash whole
+
+pub returns-in_err-open-clause-sound : goal.returns-in_err-open-clause-sound
+returns-in_err-open-clause-sound g c = λ whole. c.open.ensures.sound (barred_unbroken _ _ c.perform.ensures.crash whole)
+
+pub returns-clause-sound : goal.returns-clause-sound
+returns-clause-sound g c = λ whole. c.open.ensures.sound (barred_unbroken _ _ c.perform.ensures.crash whole)

@@ -5,7 +5,7 @@ use Rattle.dkg_journal.specs.Steps.{Adds}
 use Rattle.dkg_store.specs.declared.secrets.SecretOp.{SecretOp}
 use Rattle.dkg_store.specs.Secrets.{after}
 use Rattle.dkg_store.specs.Pairs.{Pairs, PutsFirst}
-use Rattle.dkg_store.specs.Events.{event_spelling}
+use Rattle.dkg_store.specs.Events.{event_spelling, is_event}
 use Rattle.dkg_store.specs.declared.event.Event.TheVariants as events
 use Rattle.dkg_store.proofs.Acting.{made_alike}
 use Rattle.dkg_store.proofs.Noted.{dealing_notes}
@@ -51,3 +51,9 @@ returns-in-Err-clause-notes g c = λ told.
 pub returns-clause-notes : goal.returns-clause-notes
 returns-clause-notes g c = λ told.
     dealing_notes _ c.args.epoch c.args.dealer c.deref.result.now c.args.public _ _ c.epoch.view_is (c.deref.ensures.value ∙ c.requires.ready.body) c.requires.ready.fits (c.put_and_append.ensures.images told)
+
+pub returns-in-Err-clause-fit : goal.returns-in-Err-clause-fit
+returns-in-Err-clause-fit g c = λ told limit is fit. c.put_and_append.ensures.fit told limit (ap (is_event limit) (c.deref.ensures.value ∙ c.requires.ready.body) ∙ is) fit
+
+pub returns-clause-fit : goal.returns-clause-fit
+returns-clause-fit g c = λ told limit is fit. c.put_and_append.ensures.fit told limit (ap (is_event limit) (c.deref.ensures.value ∙ c.requires.ready.body) ∙ is) fit

@@ -14,6 +14,7 @@ use Rattle.dkg_journal.specs.Gated.{gated, gated_in}
 use Rattle.dkg_journal.proofs.Mending.{alike_on, unchanged_alike, unchanged_keeps, firm_read, bare_read, bare_entries, whole_at}
 use Rattle.dkg_journal.specs.Operations.{journaled}
 use Rattle.dkg_journal.proofs.Standing.{unchanged_lands, tried_open}
+use Rattle.dkg_journal.proofs.Unbroken.{unchanged_unbroken}
 use Rattle.dkg_journal.proofs.journal.Journal.open.Goals as goal
 
 pub returns-in_err-bytes-clause-images : goal.returns-in_err-bytes-clause-images
@@ -140,3 +141,25 @@ returns-clause-alike g c = λ tells.
     let is = ap (λ o. option_map (λ v. v.items) o) (sym c.in-Some.is) ∙ c.in_ok-bytes.ensures.bytes tells in
     let whole = whole_at _ _ _ _ c.deref.ensures.value c.in_ok-entries.ensures.whole in
     alike_on _ _ _ (unchanged_alike g.D.Disk.files g.D.Disk.image _ _ same) (c.in_ok-mend.ensures.alike tells _ whole (ap (λ (m : Files). get m Flat) same.same_files ∙ sym is))
+
+pub returns-in_err-bytes-clause-sound : goal.returns-in_err-bytes-clause-sound
+returns-in_err-bytes-clause-sound g c = λ sound. unchanged_unbroken g.D.Disk.files g.D.Disk.image _ _ c.read_flat.ensures.same sound
+
+pub returns-in-None-clause-sound : goal.returns-in-None-clause-sound
+returns-in-None-clause-sound g c = λ sound. unchanged_unbroken g.D.Disk.files g.D.Disk.image _ _ c.read_flat.ensures.same sound
+
+pub returns-in_err-entries-clause-sound : goal.returns-in_err-entries-clause-sound
+returns-in_err-entries-clause-sound g c = λ sound. unchanged_unbroken g.D.Disk.files g.D.Disk.image _ _ c.read_flat.ensures.same sound
+
+pub returns-in_err-waiting-clause-sound : goal.returns-in_err-waiting-clause-sound
+returns-in_err-waiting-clause-sound g c = λ sound. unchanged_unbroken g.D.Disk.files g.D.Disk.image _ _ c.read_flat.ensures.same sound
+
+pub returns-in_err-mend-clause-sound : goal.returns-in_err-mend-clause-sound
+returns-in_err-mend-clause-sound g c = λ sound.
+    let whole = whole_at _ _ _ _ c.deref.ensures.value c.in_ok-entries.ensures.whole in
+    c.mend.ensures.sound _ whole (unchanged_unbroken g.D.Disk.files g.D.Disk.image _ _ c.read_flat.ensures.same sound)
+
+pub returns-clause-sound : goal.returns-clause-sound
+returns-clause-sound g c = λ sound.
+    let whole = whole_at _ _ _ _ c.deref.ensures.value c.in_ok-entries.ensures.whole in
+    c.mend.ensures.sound _ whole (unchanged_unbroken g.D.Disk.files g.D.Disk.image _ _ c.read_flat.ensures.same sound)

@@ -4,7 +4,8 @@ use Rattle.dkg_journal.proofs.Fuses.{err_as}
 use Rattle.std.proofs.lemmas.Option.{none-some}
 use Rattle.std.specs.Prelude.{option_map}
 use Rattle.dkg_journal.proofs.Steps.{then_all, ran_all, all_same}
-use Rattle.dkg_journal.proofs.Leaving.{going, none_goes, open_unbroken, widen, unchanged_may, unchanged_leaves, unchanged_finished, may_leave, leaves, leaves_open, prune_tried, prune_finished, did_from, going_calls}
+use Rattle.dkg_journal.proofs.Leaving.{going, going_whole, none_goes, open_unbroken, widen, unchanged_may, unchanged_leaves, unchanged_finished, may_leave, leaves, leaves_open, prune_tried, prune_finished, did_from, going_calls}
+use Rattle.dkg_journal.proofs.Unbroken.{installed_unbroken, open_unbroken_images, unchanged_unbroken}
 use Rattle.dkg_journal.proofs.journal.Journal.prune.Goals as goal
 
 pub returns-in_err-read_left-clause-images : goal.returns-in_err-read_left-clause-images
@@ -101,3 +102,23 @@ returns-in_ok-perform_own-in-Some-clause-done g c = λ tells lands.
     let did = did_from _ _ _ _ _ c.read_left.ensures.same.same_files (c.in_ok-perform_own-in-Some.ensures.done tells) in
     let all = then_all g.D.Disk.made g.met.D.Disk.made_more _ _ _ _ _ _ [] _ (record { each = c.read_left.ensures.calls; fuse = refl }) c.perform_own.ensures.all in
     prune_finished c.args.min _ _ _ _ goes step lands g.D.Disk.made _ _ _ _ all (g.met.D.Disk.reads _ tells) _ did (g.met.D.Disk.reads _ tells)
+
+pub returns-in_err-read_left-clause-sound : goal.returns-in_err-read_left-clause-sound
+returns-in_err-read_left-clause-sound g c = λ tells. unchanged_unbroken g.D.Disk.files g.D.Disk.image _ _ c.read_left.ensures.same (open_unbroken_images c.args.self.now.place (g.D.Disk.files c.args.disk.now) (g.D.Disk.image c.args.disk.now) (c.requires tells))
+
+pub returns-in-None-clause-sound : goal.returns-in-None-clause-sound
+returns-in-None-clause-sound g c = λ tells. unchanged_unbroken g.D.Disk.files g.D.Disk.image _ _ c.read_left.ensures.same (open_unbroken_images c.args.self.now.place (g.D.Disk.files c.args.disk.now) (g.D.Disk.image c.args.disk.now) (c.requires tells))
+
+pub returns-in_err-perform_own-in-Some-clause-sound : goal.returns-in_err-perform_own-in-Some-clause-sound
+returns-in_err-perform_own-in-Some-clause-sound g c = λ tells.
+    let is = ap (λ (l : List ℕ). Some l) c.new.ensures ∙ ap (λ o. option_map (λ v. v.items) o) (sym c.in-Some.is) ∙ c.in_ok-read_left.ensures.left tells in
+    let goes = going c.args.min _ _ c.args.self.now.place _ (c.requires tells) is in
+    let step = widen _ _ _ _ c.read_left.ensures.same.same_images c.perform_own.ensures.crash in
+    installed_unbroken _ _ _ (going_whole _ _ _ _ goes) (open_unbroken_images c.args.self.now.place (g.D.Disk.files c.args.disk.now) (g.D.Disk.image c.args.disk.now) (c.requires tells)) step
+
+pub returns-in_ok-perform_own-in-Some-clause-sound : goal.returns-in_ok-perform_own-in-Some-clause-sound
+returns-in_ok-perform_own-in-Some-clause-sound g c = λ tells.
+    let is = ap (λ (l : List ℕ). Some l) c.new.ensures ∙ ap (λ o. option_map (λ v. v.items) o) (sym c.in-Some.is) ∙ c.in_ok-read_left.ensures.left tells in
+    let goes = going c.args.min _ _ c.args.self.now.place _ (c.requires tells) is in
+    let step = widen _ _ _ _ c.read_left.ensures.same.same_images c.perform_own.ensures.crash in
+    installed_unbroken _ _ _ (going_whole _ _ _ _ goes) (open_unbroken_images c.args.self.now.place (g.D.Disk.files c.args.disk.now) (g.D.Disk.image c.args.disk.now) (c.requires tells)) step

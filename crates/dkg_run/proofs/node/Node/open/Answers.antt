@@ -29,3 +29,9 @@ returns-in_err-node-clause-keeps_logs g c = λ told. logs_then _ _ _ (c.open_sto
 
 pub returns-clause-keeps_logs : goal.returns-clause-keeps_logs
 returns-clause-keeps_logs g c = λ told. logs_then _ _ _ (c.open_store.ensures.keeps_logs told) (c.set_up.ensures.keeps_logs told)
+
+pub returns-in_err-node-clause-fit : goal.returns-in_err-node-clause-fit
+returns-in_err-node-clause-fit g c = λ told most fit. c.set_up.ensures.fit told most (c.open_store.ensures.fit told most fit)
+
+pub returns-clause-fit : goal.returns-clause-fit
+returns-clause-fit g c = λ told most fit. c.set_up.ensures.fit told most (c.open_store.ensures.fit told most fit)

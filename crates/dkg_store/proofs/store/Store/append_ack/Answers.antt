@@ -10,6 +10,7 @@ use Rattle.dkg_store.proofs.Acting.{ended_broken}
 use Rattle.dkg_store.proofs.Appended.{unknown, none_there, noting_broken, noting_done}
 use Rattle.dkg_store.proofs.Noted.{says_ack, says_log, gives_added, gives_either, gives_still}
 use Rattle.dkg_store.proofs.Silent.{says_dealing, silent_holds}
+use Rattle.dkg_store.specs.Events.{is_event}
 use Rattle.dkg_store.proofs.store.Store.append_ack.Goals as goal
 
 pub returns-in_err-append_event-clause-images : goal.returns-in_err-append_event-clause-images
@@ -70,3 +71,9 @@ pub returns-clause-acts : goal.returns-clause-acts
 returns-clause-acts g c = λ told out.
     let fresh = unknown c.args.self.now.acks (c.args.epoch, c.args.player) c.get.result c.is_some.result c.get.ensures c.is_some.ensures c.if-is_some.false in
     noting_done fresh (c.deref.ensures.value ∙ c.in_ok-body.ensures) (c.in_ok-append_event.ensures.acts told out (g.X.SecretStore.held c.args.devices.now.secrets.now))
+
+pub returns-in_err-append_event-clause-fit : goal.returns-in_err-append_event-clause-fit
+returns-in_err-append_event-clause-fit g c = λ told limit is fit. c.append_event.ensures.fit told limit (ap (is_event limit) (c.deref.ensures.value ∙ c.in_ok-body.ensures) ∙ is) fit
+
+pub returns-clause-fit : goal.returns-clause-fit
+returns-clause-fit g c = λ told limit is fit. c.append_event.ensures.fit told limit (ap (is_event limit) (c.deref.ensures.value ∙ c.in_ok-body.ensures) ∙ is) fit

@@ -11,6 +11,7 @@ use Rattle.dkg_store.proofs.Acting.{ended_broken}
 use Rattle.dkg_store.proofs.Appended.{unknown, none_there, noting_broken, noting_done}
 use Rattle.dkg_store.proofs.Noted.{says_ack, says_log, gives_added, gives_either, gives_still}
 use Rattle.dkg_store.proofs.Silent.{says_dealing, silent_holds}
+use Rattle.dkg_store.specs.Events.{is_event}
 use Rattle.dkg_store.proofs.store.Store.append_log.Goals as goal
 
 pub returns-in_err-append_event-clause-images : goal.returns-in_err-append_event-clause-images
@@ -76,3 +77,9 @@ pub returns-in_err-body-clause-acts : goal.returns-in_err-body-clause-acts
 returns-in_err-body-clause-acts g c = λ told out.
     let p = err_from_is_err_and c.from_residual.result c.from_residual.ensures.1 in
     made_none _ _ _ _ (ended_broken (λ (b : Bool). b) c.from_residual.result p.0 p.1 (subst IsOfDevices (sym p.2) tt))
+
+pub returns-in_err-append_event-clause-fit : goal.returns-in_err-append_event-clause-fit
+returns-in_err-append_event-clause-fit g c = λ told limit is fit. c.append_event.ensures.fit told limit (ap (is_event limit) (c.deref.ensures.value ∙ c.in_ok-body.ensures) ∙ is) fit
+
+pub returns-clause-fit : goal.returns-clause-fit
+returns-clause-fit g c = λ told limit is fit. c.append_event.ensures.fit told limit (ap (is_event limit) (c.deref.ensures.value ∙ c.in_ok-body.ensures) ∙ is) fit

@@ -20,6 +20,7 @@ use Rattle.dkg_store.proofs.Acting.{then_broken, ended_broken}
 use Rattle.dkg_store.proofs.Corrupt.{answered, corrupt_alike, corrupt_at, none_corrupt, same_error}
 use Rattle.dkg_store.proofs.OpeningActs.{not_corrupt, of_restoring_too, no_place, no_other}
 use Rattle.dkg_store.proofs.Recorded.{all_events}
+use Rattle.dkg_store.proofs.Fit.{kept_fit}
 use Rattle.dkg_store.proofs.store.Store.init.Goals as goal
 
 pub returns-clause-sound : goal.returns-clause-sound
@@ -144,3 +145,39 @@ returns-clause-settled_logs g c = λ told form. record {
       ap logs_in (c.in_ok-journal.ensures.settled told files here)
       ∙ sym (c.in_ok-recorded.ensures.logs ∙ ap (λ (es : List JournalEntry). logs_in (views es)) (c.deref.ensures.value ∙ c.replay-entries.ensures.listed) ∙ ap logs_in (c.in_ok-journal.ensures.listed told form));
 }
+
+pub returns-in_err-journal-clause-fit : goal.returns-in_err-journal-clause-fit
+returns-in_err-journal-clause-fit g c = λ told limit fit. kept_fit limit _ _ (c.open_journal.ensures.images told) (c.open_journal.ensures.sound fit.whole) fit
+
+pub returns-in_err-recorded-clause-fit : goal.returns-in_err-recorded-clause-fit
+returns-in_err-recorded-clause-fit g c = λ told limit fit. kept_fit limit _ _ (c.open_journal.ensures.images told) (c.open_journal.ensures.sound fit.whole) fit
+
+pub returns-in_err-restored-clause-fit : goal.returns-in_err-restored-clause-fit
+returns-in_err-restored-clause-fit g c = λ told limit fit. kept_fit limit _ _ (c.open_journal.ensures.images told) (c.open_journal.ensures.sound fit.whole) fit
+
+pub returns-clause-fit : goal.returns-clause-fit
+returns-clause-fit g c = λ told limit fit. kept_fit limit _ _ (c.open_journal.ensures.images told) (c.open_journal.ensures.sound fit.whole) fit
+
+pub returns-in_err-journal-clause-opens : goal.returns-in_err-journal-clause-opens
+returns-in_err-journal-clause-opens g c = λ told form fit.
+    let p = err_from_is_err_and c.from_residual.result c.from_residual.ensures.1 in
+    let whole = fit.whole.each (g.D.Disk.files c.args.devices.now.disk.now) (g.met.D.Disk.reads c.args.devices.now.disk.now told) in
+    let of_devices : IsOfDevices c.in_err-journal.field-0.0 = not_corrupt c.in_err-journal.field-0.0 c.in_err-journal.ensures.kinds
+    (λ name place is. no_place (broken (g.D.Disk.files c.args.devices.now.disk.now)) place (c.in_err-journal.ensures.corrupt name place (ap (λ (e : StoreError). Err e) is) told).1 whole) in
+    rw p.1 (subst IsOfDevices (sym p.2) of_devices)
+
+pub returns-in_err-recorded-clause-opens : goal.returns-in_err-recorded-clause-opens
+returns-in_err-recorded-clause-opens g c = λ told form fit.
+    let p = err_from_is_err_and c.from_residual-in_err-recorded.result c.from_residual-in_err-recorded.ensures.1 in
+    let events = fit.events (g.D.Disk.files c.args.devices.now.disk.now) (g.met.D.Disk.reads c.args.devices.now.disk.now told) in
+    let none : no_event_at c.get.result c.deref.result.now ≡ None =
+    ap (λ (n : ℕ). no_event_at n c.deref.result.now) c.get.ensures.value
+    ∙ ap (λ (es : List JournalEntry). no_event_at (non_zero_u32_get c.args.limit) es) (c.deref.ensures.value ∙ c.replay-entries.ensures.listed)
+    ∙ no_other (non_zero_u32_get c.args.limit) c.in_ok-journal.journal.waiting.items (subst (λ (es : List Entry). AreEvents (non_zero_u32_get c.args.limit) es) (sym (c.in_ok-journal.ensures.listed told form)) events) in
+    let of_devices : IsOfDevices c.in_err-recorded.field-0.0 = not_corrupt c.in_err-recorded.field-0.0 (of_restoring_too c.in_err-recorded.field-0.0 c.in_err-recorded.ensures.kinds)
+    (λ name place is. no_place (no_event_at c.get.result c.deref.result.now) place (c.in_err-recorded.ensures.corrupt name place (ap (λ (e : StoreError). Err e) is)).1 none) in
+    rw p.1 (subst IsOfDevices (sym p.2) of_devices)
+
+pub returns-in_err-restored-clause-opens : goal.returns-in_err-restored-clause-opens
+returns-in_err-restored-clause-opens g c = λ told form fit.
+    let p = err_from_is_err_and c.from_residual-in_err-restored.result c.from_residual-in_err-restored.ensures.1 in rw p.1 (subst IsOfDevices (sym p.2) tt)
