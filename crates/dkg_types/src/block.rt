@@ -8,6 +8,7 @@ ghost use Rattle.dkg_types.specs.Bounds.{IsBound};
 ghost use Rattle.dkg_types.specs.PayloadCodes.{PayloadFits};
 ghost use Rattle.dkg_types.specs.BlockCodes.{BlockFits, IsBlock, block_bytes, block_spelling, flagged_at, flagged_bytes, genesis_context, head_at, held_at, info_of, zero_digest};
 
+use crate::apart::Apart;
 use crate::directory::Directory;
 use crate::info::EpochInfo;
 use crate::payload::Payload;
@@ -19,6 +20,9 @@ use dkg_ceremony::{
 use sha2::{Digest as Hashes, Sha256};
 use std::alloc::Global;
 use std::num::NonZeroU32;
+
+/// The most bytes of the encoding of a block that carries nothing: room for nearly every block's.
+const BARE: usize = 109;
 
 /// Where a block was proposed.
 #[derive(Clone, Copy, Debug, PartialEq, Eq)]
@@ -49,7 +53,7 @@ pub struct Block<Dir> {
     context: Context,
     parent: Digest,
     height: Height,
-    payload: Option<Payload<Dir>>,
+    payload: Apart<Dir>,
     digest: Digest,
 }
 
@@ -121,11 +125,11 @@ impl Read for Context {
     }
 }
 
-fn put_flagged<Dir: Directory>(payload: &Option<Payload<Dir>>, out: &mut BytesMut) -> Mem<()>
+fn put_flagged<Dir: Directory>(payload: &Apart<Dir>, out: &mut BytesMut) -> Mem<()>
     ensures ok { OnOk result (out.new.items ≡ out.old.items ++ flagged_bytes Dir.spelling payload.now) }
     ensures err { OnErr result (StandsInFront out.old.items out.new.items) }
 {
-    match payload {
+    match payload.get() {
         None => Ok(out.put_u8(0)?),
         Some(payload) => {
             out.put_u8(1)?;
@@ -134,25 +138,19 @@ fn put_flagged<Dir: Directory>(payload: &Option<Payload<Dir>>, out: &mut BytesMu
     }
 }
 
-fn copy_payload<Dir: Directory + Drop>(
-    alloc: Global,
-    payload: &Option<Payload<Dir>>,
-) -> Mem<Option<Payload<Dir>>>
+fn copy_payload<Dir: Directory + Drop>(alloc: Global, payload: &Apart<Dir>) -> Mem<Apart<Dir>>
     ensures { IfOk result (λ made. made ≡ payload.now) }
 {
-    match payload {
-        None => Ok(None),
-        Some(payload) => Ok(Some(payload.copy(alloc)?)),
+    match payload.get() {
+        None => Apart::of(alloc, None),
+        Some(payload) => Apart::of(alloc, Some(payload.copy(alloc)?)),
     }
 }
 
-fn is_same_payload<Dir: Directory + Drop>(
-    one: &Option<Payload<Dir>>,
-    other: &Option<Payload<Dir>>,
-) -> bool
+fn is_same_payload<Dir: Directory + Drop>(one: &Apart<Dir>, other: &Apart<Dir>) -> bool
     ensures { IsTrue result ↔ (one.now ≡ other.now) }
 {
-    match (one, other) {
+    match (one.get(), other.get()) {
         (None, None) => true,
         (Some(one), Some(other)) => one.same(other),
         _ => false,
@@ -175,11 +173,11 @@ fn block_digest<Dir: Directory>(
     context: &Context,
     parent: &Digest,
     height: Height,
-    payload: &Option<Payload<Dir>>,
+    payload: &Apart<Dir>,
 ) -> Mem<Digest>
     ensures { IfOk result (λ digest. digest ≡ sha256 (block_bytes Dir.spelling context.now parent.now height payload.now)) }
 {
-    let mut out = BytesMut::new(alloc);
+    let mut out = BytesMut::with_capacity(alloc, BARE)?;
     context.put(&mut out)?;
     parent.put(&mut out)?;
     height.put(&mut out)?;
@@ -197,6 +195,7 @@ impl<Dir: Directory + Drop> Block<Dir> {
     ) -> Mem<Block<Dir>>
         ensures { IfOk result (IsBlock Dir.spelling context parent height payload) }
     {
+        let payload = Apart::of(alloc, payload)?;
         let digest = block_digest(alloc, &context, &parent, height, &payload)?;
         Ok(Block {
             context,
@@ -266,7 +265,7 @@ impl<Dir> Block<Dir> {
     pub fn epoch_info(&self) -> Option<&EpochInfo<Dir>>
         ensures { option_copied result ≡ info_of self.now.payload }
     {
-        match &self.payload {
+        match self.payload.get() {
             Some(Payload::EpochInfo(info)) => Some(info),
             Some(Payload::DealerLog(_)) | None => None,
         }
@@ -279,7 +278,7 @@ impl<Dir> ReshareBlock<Dir> for Block<Dir> {
     fn payload(&self) -> Option<&Payload<Dir>>
         ensures { option_copied result ≡ self.now.payload }
     {
-        self.payload.as_ref()
+        self.payload.get()
     }
 }
 
@@ -310,11 +309,11 @@ impl<Dir: Directory> Spelled for Block<Dir> {
 }
 
 /// How many bytes a flag takes and the payload behind it.
-fn size_of_flagged<Dir: Directory>(payload: &Option<Payload<Dir>>) -> usize
+fn size_of_flagged<Dir: Directory>(payload: &Apart<Dir>) -> usize
     ensures size { result ≡ length (flagged_bytes Dir.spelling payload.now) }
     ensures bound { result ≤ 2 ^ 62 + 2 }
 {
-    match payload {
+    match payload.get() {
         None => 1,
         Some(payload) => 1 + payload.encode_size(),
     }

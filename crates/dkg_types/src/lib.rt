@@ -4,6 +4,7 @@
 #![tactic(auto)]
 
 mod addresses;
+mod apart;
 mod block;
 mod directory;
 mod entry;
