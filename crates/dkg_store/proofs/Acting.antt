@@ -1,10 +1,10 @@
 -- The calls of a put and of an append, as acts.
-use Rattle.std.proofs.Common.{◌≡◌, ◌≢◌, ◌≤◌, ◌+◌, ◌⊎◌, inl, inr, ⊎_elim, ℕ, List, [], ◌∷◌, ◌++◌, length, Option, Some, None, is_some, Bool, Result, Ok, Err, if◌then◌else◌, refl, sym, ◌∙◌, ap, subst, arith}
+use Rattle.std.proofs.Common.{◌≡◌, ◌≢◌, ◌≤◌, ◌⊎◌, inl, inr, ℕ, List, length, Option, Bool, Result, Err, if◌then◌else◌, refl, sym, ◌∙◌, ap, subst, arith}
 use Rattle.std.specs.FinMap.{get, same_map}
 use Rattle.dkg_journal.specs.Burn.{Burn}
-use Rattle.dkg_journal.specs.Fuse.{spent_once, burned, burnt, Ran, RanAll}
+use Rattle.dkg_journal.specs.Fuse.{spent_once, burnt, Ran, RanAll}
 use Rattle.dkg_journal.specs.Names.{Files}
-use Rattle.dkg_journal.specs.Disk.{Follows, SameElse, Lands}
+use Rattle.dkg_journal.specs.Disk.{Follows, SameElse}
 use Rattle.dkg_journal.specs.Records.{Entry, entries, placed}
 use Rattle.dkg_journal.specs.Journals.{IsOpen, has_file, append_calls}
 use Rattle.dkg_journal.specs.Steps.{Adds, MayAdd}
@@ -20,7 +20,7 @@ use Rattle.dkg_values.specs.declared.name.Name.{Name}
 use Rattle.dkg_values.specs.declared.name.Name.TheVariants.{Plan, Flat, Segment}
 use Rattle.dkg_store.specs.Secrets.{Secrets, Tries}
 use Rattle.dkg_store.specs.Secrets as of_secrets
-use Rattle.dkg_store.specs.Acts.{Acts, bind, Ended, broken, went, Stands, Moment, moment, MadeAt, Held, held_in, World, device_calls, Appends}
+use Rattle.dkg_store.specs.Acts.{Acts, bind, Ended, broken, went, Stands, Moment, moment, MadeAt, Held, held_in, World}
 use Rattle.dkg_store.specs.Calls.{appended, put_and_appended, ended_as, by_error}
 use Rattle.dkg_store.specs.Errors.{IsOfDevices, IsOfSecrets, store_error_of}
 use Rattle.dkg_store.specs.declared.call.StoreError.{StoreError}

@@ -3,7 +3,7 @@ use Rattle.std.proofs.Common.{◌≡◌, Bool, true, false, ℕ, List, Option, S
 use Rattle.std.specs.Option.{option_copied}
 use Rattle.std.specs.FinMap.{get, contains_key}
 use Rattle.dkg_journal.specs.Names.{Files}
-use Rattle.dkg_store.specs.Acts.{MadeAt, Goes, went, Ended, broken, Moment, moment}
+use Rattle.dkg_store.specs.Acts.{MadeAt, Goes, went, Ended, broken, Moment}
 use Rattle.dkg_store.specs.Calls.{appended, noting, by_error}
 use Rattle.dkg_store.specs.Errors.{IsOfDevices}
 use Rattle.dkg_store.specs.Noted.{Notes}

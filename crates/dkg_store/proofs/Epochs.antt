@@ -1,5 +1,5 @@
 -- What is recorded of one epoch has its keys rising.
-use Rattle.std.proofs.Common.{◌≡◌, ℕ, ◌<◌, ◌^◌, ◌==◌, nat_lt, arith, Bool, true, false, cond, List, [], ◌∷◌, map, filter, refl, sym, ◌∙◌, ap, subst}
+use Rattle.std.proofs.Common.{◌≡◌, ℕ, ◌^◌, ◌==◌, nat_lt, arith, Bool, true, false, cond, List, [], ◌∷◌, map, filter, refl, sym, ◌∙◌, ap, subst}
 use Rattle.std.specs.Prelude.{T, ◌&&◌}
 use Rattle.std.specs.List.{AllByRecursion}
 use Rattle.std.specs.List.Sorted.{IsStrictlySortedBy, IsStrictlyIncreasing}
@@ -69,6 +69,8 @@ module _ {V : Type 0} (epoch : ℕ) where
     | false ↦ λ t. all_of xs
   ] refl
 
+  pub sorted_epoch : (m : Notes V) → IsStrictlySortedBy nat_cmp (keys_of (at_epoch epoch m))
+  sorted_epoch m = sorted (filter (λ e. within epoch e.0) (entries m)) (all_of (entries m)) (is_true _ (is_sorted-where_key key_cmp (within epoch) (entries m) (entries_sorted m)))
+
   pub rising : (m : Notes V) → IsStrictlyIncreasing (keys_of (at_epoch epoch m))
-  rising m = IsStrictlyIncreasing-from_sorted (keys_of (at_epoch epoch m))
-      (sorted (filter (λ e. within epoch e.0) (entries m)) (all_of (entries m)) (is_true _ (is_sorted-where_key key_cmp (within epoch) (entries m) (entries_sorted m))))
+  rising m = IsStrictlyIncreasing-from_sorted (keys_of (at_epoch epoch m)) (sorted_epoch m)

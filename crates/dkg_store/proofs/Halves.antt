@@ -1,9 +1,9 @@
 -- What is recovered depends on the private halves alone.
-use Rattle.std.proofs.Common.{◌≡◌, ◌≢◌, ◌⊎◌, inl, inr, ℕ, ◌<◌, ◌≤◌, List, [], ◌∷◌, fold, Option, Some, None, IsSome, refl, sym, ◌∙◌, ap, subst, arith}
-use Rattle.std.specs.FinMap.{get, insert, empty, same_map}
+use Rattle.std.proofs.Common.{◌≡◌, ◌≢◌, inl, inr, ℕ, ◌<◌, ◌≤◌, List, [], ◌∷◌, fold, Option, Some, None, IsSome, refl, sym, ◌∙◌, ap, subst, arith}
+use Rattle.std.specs.FinMap.{get, empty, same_map}
 use Rattle.dkg_journal.specs.Names.{Files}
 use Rattle.dkg_journal.specs.Records.{Entry, entries}
-use Rattle.dkg_store.specs.Secrets.{Secrets, Tries, after}
+use Rattle.dkg_store.specs.Secrets.{Secrets, Tries}
 use Rattle.dkg_store.specs.declared.secrets.SecretOp.TheVariants.{PutShare, PutSeed, Prune}
 use Rattle.dkg_store.specs.Pairs.{Pairs, Dealing, dealing_of, with_half, with_dealing, recovered, HasHalf, IsWhole, Holds}
 use Rattle.dkg_store.proofs.Map.{keys_total, exact_keys}

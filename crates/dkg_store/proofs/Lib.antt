@@ -15,10 +15,12 @@ pub mod Fit
 pub mod Formed
 pub mod Halves
 pub mod Map
+pub mod Named
 pub mod Noted
 pub mod Opened
 pub mod OpeningActs
 pub mod Others
+pub mod Own
 pub mod Pairs
 pub mod Passing
 pub mod Playing

@@ -160,7 +160,7 @@ module _ {K : Type 0} {R : K → K → Ordering} (total : IsTotalOrder R) (exact
   below_all_true k [] all = refl
   below_all_true k (e ∷ es) all = ap (λ r. is_lt r && below_all R k es) all.0 ∙ below_all_true k es all.1
 
-  is_sorted_true : {X : Type 0} (es : List (K × X)) → IsStrictlySortedBy R (map (λ e. e.0) es) → is_sorted R es ≡ true
+  pub is_sorted_true : {X : Type 0} (es : List (K × X)) → IsStrictlySortedBy R (map (λ e. e.0) es) → is_sorted R es ≡ true
   unfolding IsStrictlySortedBy
   is_sorted_true [] rising = refl
   is_sorted_true (e ∷ es) rising = ap (λ b. b && is_sorted R es) (below_all_true e.0 es rising.0) ∙ is_sorted_true es rising.1

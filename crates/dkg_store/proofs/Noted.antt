@@ -1,5 +1,5 @@
 -- Acknowledgements and logs after a record more, and after a prune.
-use Rattle.std.proofs.Common.{◌≡◌, ◌≢◌, ◌⊎◌, inl, inr, ℕ, ◌<◌, ◌≤◌, cond, Bool, true, false, nat_lt, nat_le, List, [], ◌∷◌, fold, filter, Option, Some, None, IsSome, Ok, refl, sym, ◌∙◌, ap, subst, arith}
+use Rattle.std.proofs.Common.{◌≡◌, ◌≢◌, ◌⊎◌, inl, inr, ℕ, ◌<◌, ◌≤◌, cond, Bool, true, false, nat_lt, nat_le, List, [], ◌∷◌, fold, Option, Some, None, IsSome, Ok, refl, sym, ◌∙◌, ap, subst, arith}
 use Rattle.std.specs.List.{AllByRecursion}
 use Rattle.std.specs.FinMap.{get, insert, empty, get-empty, retain_keys, get-retain_keys, same_map}
 use Rattle.dkg_values.specs.Codec.{Reading, whole}
@@ -14,7 +14,7 @@ use Rattle.dkg_store.specs.declared.event.Event.TheVariants.{Dealing}
 use Rattle.dkg_store.specs.Noted.{Note, Notes, with_note, noted, noted_ack, noted_log, ack_in, log_in, Gives, GivesEither, SameNotes}
 use Rattle.dkg_store.proofs.Events.{read_again}
 use Rattle.dkg_store.proofs.Map.{below_or, keys_total, exact_keys}
-use Rattle.dkg_store.proofs.Pairs.{same_key, get_at, get_here, get_other, insert_swap}
+use Rattle.dkg_store.proofs.Pairs.{same_key, get_at, get_other, insert_swap}
 
 -- what an event's record says
 pub says_ack : (epoch : ℕ) (event : Event) → IsEvent event → noted_ack (epoch, event_spelling event) ≡ ack_in epoch (Ok event)
@@ -170,10 +170,6 @@ module _ {V : Type 0} (note_of : Entry → Option (Note V)) where
           | inl below ↦ below_at k below.0 es empty (get-empty key_cmp k) ∙ sym (kept ∙ ap (λ b. cond b (get (noted note_of es) k) None) below.1)
           | inr above ↦ above_at k above.0 es empty empty refl ∙ sym (kept ∙ ap (λ b. cond b (get (noted note_of es) k) None) above.1)
         ])
-
--- no call was made
-pub same_notes : (image : Files → Type 0) → Follows SameNotes image image
-same_notes image = record { each = λ c here. (c, here, record { acks = refl; logs = refl }) }
 
 -- the record of a dealing says nothing of them, whether it is there or not
 pub dealing_notes : (section epoch dealer : ℕ) (body public : List ℕ) (image next : Files → Type 0) → section ≡ epoch → body ≡ event_spelling (Dealing dealer public) → IsEvent (Dealing dealer public)

@@ -1,25 +1,24 @@
 -- Opening a store, as acts.
-use Rattle.std.proofs.Common.{◌≡◌, ◌≤◌, ◌⊎◌, inl, inr, ℕ, List, [], ◌∷◌, length, Option, Some, None, Result, Ok, Err, true, false, Bool, if◌then◌else◌, cond, refl, sym, ◌∙◌, ap, subst, arith}
+use Rattle.std.proofs.Common.{◌≡◌, ◌≤◌, inl, inr, ℕ, List, [], ◌∷◌, length, Option, Some, None, cond, refl, sym, ◌∙◌, ap, subst, arith}
 use Rattle.dkg_journal.specs.Burn.{Burn}
 use Rattle.dkg_journal.specs.Fuse.{spent_once, burnt}
 use Rattle.dkg_journal.specs.Names.{Files}
-use Rattle.dkg_journal.specs.Disk.{Follows, Inside, Lands}
-use Rattle.dkg_journal.specs.Records.{Entry, entries}
+use Rattle.dkg_journal.specs.Disk.{Follows, Inside}
 use Rattle.dkg_journal.specs.Views.{views}
 use Rattle.dkg_journal.specs.Opening.{open_calls}
-use Rattle.dkg_journal.specs.Operations.{Journaled, journaled, Tries, Tried, Finished, Opens as OpensJournal}
+use Rattle.dkg_journal.specs.Operations.{journaled, Tries, Tried, Finished, Opens as OpensJournal}
 use Rattle.dkg_journal.specs.declared.disk.Op.TheVariants.{Barrier}
 use Rattle.dkg_journal.specs.declared.opening.JournalEntry.{JournalEntry}
 use Rattle.dkg_types.specs.declared.entry.Entry.{Entry as Line}
 use Rattle.dkg_values.specs.declared.name.Name.{Name}
-use Rattle.dkg_store.specs.Acts.{Acts, Do, Goes, Bars, Opens, Ended, broken, went, Moment, moment, MadeAt, held_in, Stands}
+use Rattle.dkg_store.specs.Acts.{Ended, broken, went, moment, MadeAt, held_in}
 use Rattle.dkg_store.specs.Calls.{opens}
 use Rattle.dkg_store.specs.Secrets.{Secrets}
 use Rattle.dkg_store.specs.Corrupt.{AreEvents}
 use Rattle.dkg_journal.specs.declared.call.JournalError.{JournalError}
 use Rattle.dkg_journal.specs.declared.call.JournalError.TheVariants as of_journal
 use Rattle.dkg_store.specs.Errors.{IsOfDevices, IsOfOpening, IsOfRestoring, store_error_of}
-use Rattle.dkg_store.specs.Events.{is_event, no_event_at}
+use Rattle.dkg_store.specs.Events.{no_event_at}
 use Rattle.dkg_store.specs.declared.call.StoreError.{StoreError}
 use Rattle.dkg_store.specs.declared.call.StoreError.TheVariants.{Disk, Secrets as OfSecrets, Corrupt, LocalState, StateSyncEpochs, StateSyncMaterial, Cut, NoMemory}
 use Rattle.dkg_store.proofs.Acting.{world_is}

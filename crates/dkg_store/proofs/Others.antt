@@ -1,5 +1,5 @@
 -- What an append does to the other files.
-use Rattle.std.proofs.Common.{◌≡◌, inl, refl}
+use Rattle.std.proofs.Common.{inl, refl}
 use Rattle.dkg_values.specs.declared.name.Name.TheVariants.{Flat}
 use Rattle.dkg_journal.specs.Names.{Files}
 use Rattle.dkg_journal.specs.Disk.{Follows, SameElse}

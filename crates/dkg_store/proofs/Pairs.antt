@@ -1,5 +1,5 @@
 -- The recovered dealings after a put of a private half, and after its record.
-use Rattle.std.proofs.Common.{◌≡◌, ◌≢◌, ◌⊎◌, inl, inr, ℕ, ◌<◌, ◌^◌, cond, Bool, true, false, nat_lt, List, [], ◌∷◌, fold, Option, Some, None, IsSome, refl, sym, ◌∙◌, ap, subst}
+use Rattle.std.proofs.Common.{◌≡◌, ◌≢◌, ◌⊎◌, inl, inr, ℕ, cond, Bool, true, false, nat_lt, List, [], ◌∷◌, fold, Option, Some, None, IsSome, refl, sym, ◌∙◌, ap, subst}
 use Rattle.std.specs.List.{AllByRecursion}
 use Rattle.std.specs.FinMap.{FinMap, get, insert, empty, same_map}
 use Rattle.dkg_journal.specs.Names.{Files}

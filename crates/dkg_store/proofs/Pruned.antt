@@ -1,19 +1,18 @@
 -- What a prune leaves: of the journal, and then of the secrets.
-use Rattle.std.proofs.Common.{◌≡◌, ◌⊎◌, inl, inr, ℕ, ◌≤◌, arith, cond, Bool, nat_le, List, [], ◌∷◌, fold, filter, Option, Some, None, IsSome, Result, Ok, Err, refl, sym, ◌∙◌, ap, subst}
+use Rattle.std.proofs.Common.{◌≡◌, ◌⊎◌, inl, inr, ℕ, ◌≤◌, arith, cond, Bool, nat_le, List, [], ◌∷◌, fold, Option, Some, None, IsSome, Result, Ok, Err, refl, sym, ◌∙◌, ap, subst}
 use Rattle.std.specs.FinMap.{get, empty, retain_keys}
 use Rattle.dkg_values.specs.Codec.{whole}
 use Rattle.dkg_values.specs.declared.codec.CodecError.{CodecError}
-use Rattle.dkg_ceremony.specs.declared.dealer_log.DealerLog.{DealerLog}
 use Rattle.dkg_journal.specs.Burn.{Burn}
-use Rattle.dkg_journal.specs.Fuse.{spent_once, burnt}
+use Rattle.dkg_journal.specs.Fuse.{spent_once}
 use Rattle.dkg_journal.specs.Names.{Files}
 use Rattle.dkg_journal.specs.Disk.{Follows, SameElse}
-use Rattle.dkg_journal.specs.Operations.{Journaled, journaled, Tries as JournalTries, Tried, Finished, Prunes as PrunesJournal, after_operation, calls_of}
+use Rattle.dkg_journal.specs.Operations.{journaled, Tries as JournalTries, Tried, Finished, Prunes as PrunesJournal, after_operation, calls_of}
 use Rattle.dkg_journal.specs.Pruning.{Leaves, MayLeave}
 use Rattle.dkg_journal.specs.Records.{Entry, entries, from_section}
 use Rattle.dkg_types.specs.declared.entry.Entry.{Entry as Line}
 use Rattle.dkg_values.specs.declared.name.Name.TheVariants.{Flat}
-use Rattle.dkg_store.specs.Acts.{Ended, broken, went, moment, MadeAt, held_in, Held, Stands}
+use Rattle.dkg_store.specs.Acts.{Ended, broken, went, moment, MadeAt, held_in, Stands}
 use Rattle.dkg_store.specs.Calls.{pruning}
 use Rattle.dkg_store.specs.Events.{event_at, no_limit}
 use Rattle.dkg_store.specs.declared.event.Event.{Event}

@@ -7,7 +7,7 @@ use Rattle.dkg_journal.specs.Records.{Entry}
 use Rattle.dkg_store.specs.Secrets.{Secrets}
 use Rattle.dkg_values.specs.Codec.{whole}
 use Rattle.dkg_store.specs.Events.{event_at, no_limit}
-use Rattle.dkg_store.specs.Noted.{Note, Notes, with_note, noted, noted_ack, noted_log, ack_in, log_in}
+use Rattle.dkg_store.specs.Noted.{Note, with_note, noted, noted_ack, noted_log, ack_in, log_in}
 use Rattle.dkg_store.specs.declared.event.Event.{Event}
 use Rattle.dkg_store.specs.Pairs.{with_dealing, dealing_in, dealing_of, recovered}
 use Rattle.dkg_store.proofs.Events.{wider}

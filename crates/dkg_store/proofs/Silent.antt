@@ -1,5 +1,5 @@
 -- A record that is not of a dealing changes nothing of the dealings.
-use Rattle.std.proofs.Common.{◌≡◌, ◌⊎◌, inl, inr, ℕ, cond, true, false, nat_lt, List, [], ◌∷◌, fold, None, Ok, refl, sym, ◌∙◌, ap, subst}
+use Rattle.std.proofs.Common.{◌≡◌, ◌⊎◌, inl, inr, ℕ, cond, true, false, nat_lt, List, [], ◌∷◌, fold, None, Ok, sym, ◌∙◌, ap, subst}
 use Rattle.std.specs.FinMap.{empty}
 use Rattle.dkg_values.specs.Codec.{Reading, whole}
 use Rattle.dkg_journal.specs.Names.{Files}

@@ -1,10 +1,8 @@
 -- What the calls of a secret store may do, from what they did.
-use Rattle.std.proofs.Common.{◌≡◌, inl, inr, ℕ, ◌<◌, nat_le, [], ◌∷◌, cond, Option, None, refl, sym, subst, ◌∙◌, ap}
-use Rattle.std.specs.Ordering.{nat_cmp}
-use Rattle.std.specs.Cmp.{IsTotalOrder, nat_cmp_total}
-use Rattle.std.specs.FinMap.{FinMap, get, retain_keys, get-retain_keys, nat_cmp-IsAntisymmetric}
-use Rattle.dkg_store.specs.Keys.{key_cmp, StaysOrGoes}
-use Rattle.dkg_store.specs.Secrets.{Secrets, Tries, TriesAll, MayDo, after}
+use Rattle.std.proofs.Common.{◌≡◌, inl, inr, ℕ, nat_le, [], ◌∷◌, cond, Option, None, refl, sym, subst, ◌∙◌, ap}
+use Rattle.std.specs.FinMap.{get, get-retain_keys, nat_cmp-IsAntisymmetric}
+use Rattle.dkg_store.specs.Keys.{StaysOrGoes}
+use Rattle.dkg_store.specs.Secrets.{Secrets, Tries, TriesAll, after}
 use Rattle.dkg_store.specs.declared.secrets.SecretOp.{SecretOp}
 use Rattle.dkg_store.specs.declared.secrets.SecretOp.TheVariants.{PutShare, PutSeed, PutDealing, Prune}
 use Rattle.dkg_store.proofs.Map.{below_or, exact_keys}

@@ -1,5 +1,5 @@
 -- What a call does, as acts in their order: lines that it says, operations that it does on the devices, reads that it asks for, and how it ends.
-use Rattle.std.specs.Prelude.{◌≡◌, ◌⊎◌, ◌≤◌, ℕ, ◌∷◌, [], ◌++◌, List, Bool, Option, Some, None, if◌then◌else◌}
+use Rattle.std.specs.Prelude.{◌≡◌, ◌⊎◌, ◌≤◌, ℕ, ◌∷◌, [], ◌++◌, List, Bool, Option, if◌then◌else◌}
 use Rattle.std.specs.FinMap.{get}
 use Rattle.dkg_journal.specs.Burn.{Burn}
 use Rattle.dkg_journal.specs.Fuse.{burnt}

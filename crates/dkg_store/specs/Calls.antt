@@ -6,7 +6,7 @@ use Rattle.dkg_ceremony.specs.declared.ceremony.DealingError.{DealingError}
 use Rattle.dkg_ceremony.specs.declared.dealer_log.DealerLog.{DealerLog}
 use Rattle.dkg_journal.specs.Records.{Entry}
 use Rattle.dkg_types.specs.declared.entry.Entry.TheVariants.{Recorded}
-use Rattle.dkg_store.specs.Acts.{Held, Acts, Say, Do, Ask, Goes, Stops, bind, Bars, Opens, Appends, Prunes, Changes, Ended, went, stopped, broken}
+use Rattle.dkg_store.specs.Acts.{Held, Acts, Say, Do, Ask, Goes, Bars, Opens, Appends, Prunes, Changes, Ended, went, stopped, broken}
 use Rattle.dkg_store.specs.Events.{event_spelling}
 use Rattle.dkg_store.specs.declared.event.Event.TheVariants as events
 use Rattle.dkg_store.specs.Noted.{Notes, acks_in, logs_in}

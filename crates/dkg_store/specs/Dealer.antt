@@ -1,5 +1,5 @@
 -- What a dealer keeps of its dealing, whom it still waits for, and what it answers.
-use Rattle.std.specs.Prelude.{◌≡◌, ◌||◌, ℕ, Bool, true, false, List, [], ◌∷◌, fold, Option, Some, None, is_some, Result, Ok, Err, Contains, if◌then◌else◌}
+use Rattle.std.specs.Prelude.{◌≡◌, ◌||◌, ℕ, Bool, List, [], ◌∷◌, fold, Option, Some, None, Result, Ok, Err, Contains, if◌then◌else◌}
 use Rattle.std.specs.Ordering.{nat_cmp}
 use Rattle.std.specs.FinMap.{FinMap, get, insert, empty}
 use Rattle.dkg_values.specs.Rising.{lookup}

@@ -9,6 +9,7 @@ pub mod Errors
 pub mod Events
 pub mod Formed
 pub mod Keys
+pub mod Named
 pub mod Noted
 pub mod On
 pub mod Pairs

@@ -1,6 +1,6 @@
 -- What a call did to both devices.
-use Rattle.std.specs.Prelude.{◌≡◌, ℕ, List}
-use Rattle.dkg_journal.specs.Fuse.{Ran, RanAll}
+use Rattle.std.specs.Prelude.{◌≡◌, List}
+use Rattle.dkg_journal.specs.Fuse.{Ran}
 use Rattle.dkg_journal.specs.declared.disk.Op.{Op}
 use Rattle.dkg_store.specs.Both.{Call, MadeBoth}
 use Rattle.dkg_store.specs.declared.secrets.SecretOp.{SecretOp}

@@ -1,5 +1,6 @@
 -- What an opening restored, and the dealings of one epoch.
-use Rattle.std.specs.Prelude.{ℕ, ◌^◌, ◌&&◌, ◌==◌, nat_lt, List, [], ◌∷◌, map, Option, Some, None, Result, Ok, Err, filter}
+use Rattle.std.specs.Prelude.{◌≡◌, ℕ, ◌^◌, ◌&&◌, ◌==◌, nat_lt, List, [], ◌∷◌, map, Option, Some, None, IfSome, Result, Ok, Err, filter, if◌then◌else◌}
+use Rattle.std.specs.Ordering.{nat_cmp}
 use Rattle.std.specs.FinMap as map_of
 use Rattle.dkg_types.specs.declared.entry.Restored.{Restored}
 use Rattle.dkg_store.specs.Keys.{key_cmp}
@@ -31,3 +32,11 @@ refused_or (Err e) dealer later = Some dealer
 abbrev pub first_refused : {E : Type 0} → (ℕ → List ℕ → ℕ → Result (Unit {0}) E) → List Pair → Option ℕ
 first_refused check [] = None
 first_refused check (p ∷ ps) = refused_or (check p.0.1 p.1.0 p.1.1) p.0.1 (first_refused check ps)
+
+-- Each dealing passes the check.
+pub record AreChecked {E : Type 0} (check : ℕ → List ℕ → ℕ → Result (Unit {0}) E) (dealings : map_of.FinMap nat_cmp (List ℕ × ℕ)) : Type 0 where
+  pub each : (dealer : ℕ) → IfSome (map_of.get dealings dealer) (λ d. check dealer d.0 d.1 ≡ Ok tt)
+
+-- a key's first value stays
+abbrev pub with_first : {V : Type 0} → map_of.FinMap nat_cmp V → (key : ℕ) → V → map_of.FinMap nat_cmp V
+with_first m key value = if map_of.contains_key m key then m else map_of.insert m key value

@@ -3,7 +3,7 @@ ghost use Rattle.std.specs.Prelude.{◌≡◌, ◌⊎◌, ◌≤◌, ◌<◌, �
 ghost use Rattle.std.specs.FinMap as map;
 ghost use Rattle.dkg_types.specs.declared.entry.Entry.{Entry as Line};
 ghost use Rattle.dkg_values.specs.declared.name.Name.TheVariants.{Flat};
-ghost use Rattle.dkg_journal.specs.Disk.{Follows, Rose, SameElse};
+ghost use Rattle.dkg_journal.specs.Disk.{Follows, Lands, Rose, SameElse};
 ghost use Rattle.dkg_journal.specs.Fuse.{Reached, Ran, RanAll};
 ghost use Rattle.dkg_journal.specs.Journals.{IsOpen, append_calls, has_file};
 ghost use Rattle.dkg_journal.specs.Ready.{IsReady};
@@ -13,6 +13,7 @@ ghost use Rattle.dkg_store.specs.Corrupt.{AreFit};
 ghost use Rattle.dkg_store.specs.Acts.{MadeAt, moment};
 ghost use Rattle.dkg_store.specs.Calls.{appended, ended};
 ghost use Rattle.dkg_store.specs.Errors.{IsOfDevices};
+ghost use Rattle.dkg_store.specs.Named.{Named, MayBeNamed};
 ghost use Rattle.dkg_store.specs.Secrets.{Secrets};
 
 use crate::call::StoreError;
@@ -57,6 +58,11 @@ fn record_event<V: Drop, D: Disk>(
     ensures fit { IsTrue D.tells → (limit : ℕ) → is_event limit body.now ≡ true → AreFit limit (D.image disk.old) → AreFit limit (D.image disk.new) }
     // A crash leaves every file but the journal's as it was.
     ensures others { IsTrue D.tells → Follows (SameElse Flat) (D.image disk.old) (D.image disk.new) }
+    // Where nothing of the disk was loose, each image has the names from before, or the journal's own with them. At Ok it has it.
+    ensures names { IsTrue D.tells → Lands (D.files disk.old) (D.image disk.old) → Follows MayBeNamed (D.image disk.old) (D.image disk.new) }
+    ensures named { OnOk result (IsTrue D.tells → Follows (Named true) (D.image disk.old) (D.image disk.new)) }
+    // At Ok nothing of the disk is loose, where nothing was.
+    ensures lands { OnOk result (IsTrue D.tells → Lands (D.files disk.old) (D.image disk.old) → Lands (D.files disk.new) (D.image disk.new)) }
 {
     notes.insert(epoch, key, value)?;
     if let Err(error) = journal.append_ready(alloc, disk, fuse, calls, epoch.0, body) {
@@ -101,6 +107,11 @@ pub(crate) fn append_event<V: Drop, D: Disk>(
     ensures fit { IsTrue D.tells → (limit : ℕ) → is_event limit body.now ≡ true → AreFit limit (D.image disk.old) → AreFit limit (D.image disk.new) }
     // A crash leaves every file but the journal's as it was.
     ensures others { IsTrue D.tells → Follows (SameElse Flat) (D.image disk.old) (D.image disk.new) }
+    // Where nothing of the disk was loose, each image has the names from before, or the journal's own with them. At Ok it has it.
+    ensures names { IsTrue D.tells → Lands (D.files disk.old) (D.image disk.old) → Follows MayBeNamed (D.image disk.old) (D.image disk.new) }
+    ensures named { OnOk result (IsTrue D.tells → Follows (Named true) (D.image disk.old) (D.image disk.new)) }
+    // At Ok nothing of the disk is loose, where nothing was.
+    ensures lands { OnOk result (IsTrue D.tells → Lands (D.files disk.old) (D.image disk.old) → Lands (D.files disk.new) (D.image disk.new)) }
 {
     let Ok(calls) = journal.ready(alloc, epoch.0, body) else {
         return Err(StoreError::NoMemory);

@@ -1,7 +1,7 @@
 //! A dealer of a round: it counts the acknowledgements that come in, and makes its log of them.
 //!
 //! A reshare actor sends its dealing to the players that have not acknowledged it, and hands it each acknowledgement that comes back.
-ghost use Rattle.std.specs.Prelude.{◌≡◌, ◌⊎◌, ◌≤◌, ◌||◌, ◌↔◌, [], ◌∷◌, ℕ, List, length, OnOk, OnErr, IfOk, IfErr, IfSome, IsErrOf, IsTrue, IsSome, is_some, Option, Some, None, Ok, Err, Contains, true, false, if◌then◌else◌};
+ghost use Rattle.std.specs.Prelude.{◌≡◌, ◌⊎◌, ◌≤◌, ◌||◌, ◌↔◌, [], ◌∷◌, ℕ, List, length, OnOk, OnErr, IfOk, IfErr, IfSome, IsErrOf, IsTrue, IsSome, is_some, Option, Some, None, Ok, Err, Contains, not, true, false, if◌then◌else◌};
 ghost use Rattle.std.specs.FinMap as map;
 ghost use Rattle.std.specs.Option.{option_copied};
 ghost use Rattle.std.specs.Iterator.{YieldsFirstBy, item_count};
@@ -9,7 +9,7 @@ ghost use Rattle.dkg_values.specs.declared.name.Name.TheVariants.{Flat};
 ghost use Rattle.dkg_values.specs.Rising.{lookup};
 ghost use Rattle.dkg_ceremony.specs.Thresholds.{max_faults_of};
 ghost use Rattle.dkg_ceremony.specs.declared.ceremony.AckError.{AckError};
-ghost use Rattle.dkg_journal.specs.Disk.{Follows, Rose, SameElse};
+ghost use Rattle.dkg_journal.specs.Disk.{Follows, Lands, Rose, SameElse};
 ghost use Rattle.dkg_journal.specs.Fuse.{Reached, Ran};
 ghost use Rattle.dkg_journal.specs.Journals.{IsOpen, append_calls, has_file};
 ghost use Rattle.dkg_store.specs.Acts.{MadeAt, moment};
@@ -18,6 +18,7 @@ ghost use Rattle.dkg_store.specs.Dealer.{IsDealerOf, held_acks, outcome_of, pass
 ghost use Rattle.dkg_store.specs.Errors.{IsOfAcking};
 ghost use Rattle.dkg_store.specs.Corrupt.{AreFit};
 ghost use Rattle.dkg_store.specs.Events.{event_spelling, is_event};
+ghost use Rattle.dkg_store.specs.Named.{Named, MayBeNamed};
 ghost use Rattle.dkg_store.specs.Noted.{Gives, GivesEither, acks_in, logs_in};
 ghost use Rattle.dkg_store.specs.Pairs.{Pairs, Holds};
 ghost use Rattle.dkg_store.specs.Recorded.{at_epoch};
@@ -231,6 +232,12 @@ impl Dealer {
         ensures fit { IsTrue D.tells → (limit : ℕ) → is_event limit (event_spelling (events.Ack player ack)) ≡ true → AreFit limit (D.image devices.old.disk.now) → AreFit limit (D.image devices.new.disk.now) }
         // A crash leaves every file but the journal's as it was.
         ensures files { IsTrue D.tells → Follows (SameElse Flat) (D.image devices.old.disk.now) (D.image devices.new.disk.now) }
+        // Where nothing of the disk was loose, each image has the names from before, or the journal's own with them. At Ok it has it, if the
+        // record is new, and else just those from before.
+        ensures names { IsTrue D.tells → Lands (D.files devices.old.disk.now) (D.image devices.old.disk.now) → Follows MayBeNamed (D.image devices.old.disk.now) (D.image devices.new.disk.now) }
+        ensures named { OnOk result (IsTrue D.tells → Follows (Named (not (is_some (map.get self.old.acks player) || map.contains_key store.old.acks (epoch, player)))) (D.image devices.old.disk.now) (D.image devices.new.disk.now)) }
+        // At Ok nothing of the disk is loose, where nothing was.
+        ensures lands { OnOk result (IsTrue D.tells → Lands (D.files devices.old.disk.now) (D.image devices.old.disk.now) → Lands (D.files devices.new.disk.now) (D.image devices.new.disk.now)) }
         ensures same_disk { devices.new.disk.ghost_name ≡ devices.old.disk.ghost_name }
         ensures same_secrets { devices.new.secrets.ghost_name ≡ devices.old.secrets.ghost_name }
     {

@@ -17,15 +17,15 @@ use std::alloc::Global;
 use std::num::NonZeroU32;
 use std::test::Fail;
 
-const ME: Key = Key(1);
+pub(crate) const ME: Key = Key(1);
 
 const PLAYER: Key = Key(3);
 
 const KEYS: [Key; 4] = [Key(1), Key(2), Key(3), Key(4)];
 
-const SEED: Seed = Seed([7; 32]);
+pub(crate) const SEED: Seed = Seed([7; 32]);
 
-fn round_of(alloc: Global) -> Result<Round, Fail> {
+pub(crate) fn round_of(alloc: Global) -> Result<Round, Fail> {
     let keys = Set::from_any(alloc, &KEYS)?;
     let mode = Mode::NonZeroCounter;
     Ok(StandCeremony.round(alloc, b"", 0, None, mode, Reveal::V1, &keys, &keys)?)
@@ -256,7 +256,7 @@ fn noted<D: Disk, X: SecretStore>(
 }
 
 /// Deals as this signer, and records the log. Whether there was a quorum before and behind the acknowledgements.
-fn dealt<C: Ceremony, D: Disk, X: SecretStore>(
+pub(crate) fn dealt<C: Ceremony, D: Disk, X: SecretStore>(
     alloc: Global,
     ceremony: &C,
     signer: &C::Signer,
@@ -323,12 +323,12 @@ fn finished(
     }
     let player = store.create_player_with_logs(alloc, &StandCeremony, Epoch(0), ME, round, logs)?;
     let player = player.ok_or("no player")?;
-    let found = player.finalize(alloc, &StandCeremony, store, Epoch(0), logs)?;
+    let found = player.finalize(alloc, &StandCeremony, logs)?;
     Ok(found.ok_or("no outcome")?)
 }
 
 /// Whether a share fits its output.
-fn fits(output: &Output, share: &Share) -> bool {
+pub(crate) fn fits(output: &Output, share: &Share) -> bool {
     StandCeremony.partial_public(output, ME) == Some(StandCeremony.share_public(share))
 }
 

@@ -1,10 +1,10 @@
 //! Both devices of a step, and the calls that change them, in one order.
-ghost use Rattle.std.specs.Prelude.{◌≡◌, ◌≤◌, ◌^◌, ◌∷◌, [], ℕ, List, nat_le, OnOk, IfErr, IsErrOf, IsTrue, true};
+ghost use Rattle.std.specs.Prelude.{◌≡◌, ◌≤◌, ◌^◌, ◌∷◌, [], ℕ, List, nat_le, OnOk, IfErr, IsErrOf, IsTrue, true, false};
 ghost use Rattle.std.specs.FinMap as map;
 ghost use Rattle.dkg_ceremony.specs.declared.dealer_log.DealerLog.{DealerLog as Log};
 ghost use Rattle.dkg_types.specs.declared.entry.Entry.{Entry as Line};
 ghost use Rattle.dkg_values.specs.declared.name.Name.TheVariants.{Flat};
-ghost use Rattle.dkg_journal.specs.Disk.{Follows, IsUnchanged, Rose, SameElse};
+ghost use Rattle.dkg_journal.specs.Disk.{Follows, IsUnchanged, Lands, Rose, SameElse};
 ghost use Rattle.dkg_journal.specs.Fuse.{Reached, Ran, RanAll};
 ghost use Rattle.dkg_journal.specs.Journals.{IsOpen, has_file};
 ghost use Rattle.dkg_journal.specs.Operations.{Prunes, calls_of};
@@ -16,6 +16,7 @@ ghost use Rattle.dkg_store.specs.Corrupt.{AreFit};
 ghost use Rattle.dkg_store.specs.Acts.{MadeAt, moment};
 ghost use Rattle.dkg_store.specs.Calls.{put_and_appended, pruning, ended};
 ghost use Rattle.dkg_store.specs.Errors.{IsOfDevices, IsOfPruning};
+ghost use Rattle.dkg_store.specs.Named.{Named, MayBeNamed};
 ghost use Rattle.dkg_store.specs.Noted.{Gives, GivesEither, Notes, acks_in, logs_in};
 ghost use Rattle.dkg_store.specs.Secrets.{Tries, after};
 ghost use Rattle.dkg_store.specs.Pairs.{Holds, HoldsEither, Pairs, PutsFirst};
@@ -68,6 +69,13 @@ pub fn put_and_append<D: Disk, X: SecretStore>(
     ensures fit { IsTrue D.tells → (limit : ℕ) → is_event limit body.now ≡ true → AreFit limit (D.image devices.old.disk.now) → AreFit limit (D.image devices.new.disk.now) }
     // A crash leaves every file but the journal's as it was.
     ensures others { IsTrue D.tells → Follows (SameElse Flat) (D.image devices.old.disk.now) (D.image devices.new.disk.now) }
+    // Where nothing of the disk was loose, each image has the names from before, or the journal's own with them. At Ok it has it.
+    ensures names { IsTrue D.tells → Lands (D.files devices.old.disk.now) (D.image devices.old.disk.now) → Follows MayBeNamed (D.image devices.old.disk.now) (D.image devices.new.disk.now) }
+    ensures named { OnOk result (IsTrue D.tells → Follows (Named true) (D.image devices.old.disk.now) (D.image devices.new.disk.now)) }
+    // At Ok nothing of the disk is loose, where nothing was.
+    ensures lands { OnOk result (IsTrue D.tells → Lands (D.files devices.old.disk.now) (D.image devices.old.disk.now) → Lands (D.files devices.new.disk.now) (D.image devices.new.disk.now)) }
+    // The secret store comes first: where it failed, the disk is as it was.
+    ensures unreached { IsErrOf result StoreError.Secrets → devices.new.disk.now ≡ devices.old.disk.now }
     ensures same_disk { devices.new.disk.ghost_name ≡ devices.old.disk.ghost_name }
     ensures same_secrets { devices.new.secrets.ghost_name ≡ devices.old.secrets.ghost_name }
 {
@@ -112,6 +120,12 @@ pub(crate) fn prune_devices<D: Disk, X: SecretStore>(
     ensures fit { IsTrue D.tells → (limit : ℕ) → AreFit limit (D.image devices.old.disk.now) → AreFit limit (D.image devices.new.disk.now) }
     // A crash leaves every file but the journal's as it was.
     ensures others { IsTrue D.tells → Follows (SameElse Flat) (D.image devices.old.disk.now) (D.image devices.new.disk.now) }
+    // Wherever it stops, each image has the names from before: the journal's own is there exactly where it was, where nothing was loose.
+    ensures names { IsTrue D.tells → Lands (D.files devices.old.disk.now) (D.image devices.old.disk.now) → Follows (Named false) (D.image devices.old.disk.now) (D.image devices.new.disk.now) }
+    // At Ok nothing of the disk is loose, where nothing was.
+    ensures lands { OnOk result (IsTrue D.tells → Lands (D.files devices.old.disk.now) (D.image devices.old.disk.now) → Lands (D.files devices.new.disk.now) (D.image devices.new.disk.now)) }
+    // The disk comes first: where it failed, the secrets are as they were.
+    ensures unreached { IsErrOf result StoreError.Disk → devices.new.secrets.now ≡ devices.old.secrets.now }
     ensures same_disk { devices.new.disk.ghost_name ≡ devices.old.disk.ghost_name }
     ensures same_secrets { devices.new.secrets.ghost_name ≡ devices.old.secrets.ghost_name }
 {

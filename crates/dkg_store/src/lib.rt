@@ -2,6 +2,8 @@
 //!
 //! A disk has the journal of what was recorded, a secret store the private halves, the seeds and the shares. A `Store` is opened
 //! over both at the start of a life. A `Player` records each dealing there before it acknowledges it.
+//!
+//! Of the disk's files the store makes one, by its first record, and takes none away.
 #![tactic(auto)]
 
 mod appending;
@@ -12,10 +14,13 @@ mod dealing_tests;
 mod devices;
 mod event;
 mod held;
+mod key_map;
 mod memory_secrets;
 mod number_map;
 mod pair_map;
 mod player;
+#[cfg(test)]
+mod playing_tests;
 mod restoring;
 mod secrets;
 #[cfg(test)]

@@ -1,10 +1,10 @@
 //! A player of a round: it acknowledges each dealer once, for the dealing that is recorded.
 //!
 //! A reshare actor hands it each dealing that comes in.
-ghost use Rattle.std.specs.Prelude.{◌≡◌, ◌≤◌, ◌<◌, ◌+◌, ◌^◌, ◌++◌, ◌∷◌, [], length, OnOk, OnErr, IfOk, IfErr, IsErrOf, IsTrue, IsSome, IsOk, is_some, None, Ok, Err, Contains, if◌then◌else◌, true, ℕ};
+ghost use Rattle.std.specs.Prelude.{◌≡◌, ◌≤◌, ◌<◌, ◌+◌, ◌^◌, ◌++◌, ◌∷◌, [], length, OnOk, OnErr, IfOk, IfErr, IsErrOf, IsTrue, IsSome, IsOk, is_some, None, Ok, Err, Contains, if◌then◌else◌, not, true, ℕ};
 ghost use Rattle.std.specs.FinMap as map;
 ghost use Rattle.dkg_values.specs.declared.name.Name.TheVariants.{Flat};
-ghost use Rattle.dkg_journal.specs.Disk.{Follows, Rose, SameElse};
+ghost use Rattle.dkg_journal.specs.Disk.{Follows, Lands, Rose, SameElse};
 ghost use Rattle.dkg_journal.specs.Fuse.{Reached, Ran, RanAll};
 ghost use Rattle.dkg_journal.specs.Journals.{IsOpen, has_file};
 ghost use Rattle.dkg_store.specs.Corrupt.{AreFit};
@@ -13,11 +13,12 @@ ghost use Rattle.dkg_store.specs.Calls.{keeping, accepting, answering, answered,
 ghost use Rattle.dkg_store.specs.Errors.{IsOfDevices, IsOfHandling};
 ghost use Rattle.dkg_store.specs.Events.{event_spelling, is_event};
 ghost use Rattle.dkg_store.specs.declared.event.Event.TheVariants as events;
+ghost use Rattle.dkg_store.specs.Named.{Named, MayBeNamed};
 ghost use Rattle.dkg_store.specs.Noted.{SameNotes};
 ghost use Rattle.dkg_store.specs.Pairs.{Holds, HoldsEither};
 ghost use Rattle.dkg_store.specs.Player.{IsPlayerOf, Acknowledges, MayKeep};
 ghost use Rattle.dkg_store.specs.Both.{MadeBoth, IsWant, put_then_append};
-ghost use Rattle.dkg_store.specs.Recorded.{at_epoch, first_refused, of_epoch};
+ghost use Rattle.dkg_store.specs.Recorded.{AreChecked, at_epoch, first_refused, of_epoch, with_first};
 ghost use Rattle.dkg_store.specs.Rest.{SameRest};
 ghost use Rattle.dkg_ceremony.specs.Finishes.{Finishes};
 ghost use Rattle.dkg_store.specs.declared.player.DealingHandleError.TheVariants.{Store as OfStore};
@@ -25,6 +26,7 @@ ghost use Rattle.dkg_ceremony.specs.declared.ceremony.DealingError.{DealingError
 
 use crate::call::StoreError;
 use crate::devices::Devices;
+use crate::key_map::KeyMap;
 use crate::number_map::NumberMap;
 use crate::secrets::{SecretOp, SecretStore};
 use crate::store::Store;
@@ -64,6 +66,8 @@ pub struct Player {
     round: Round,
     /// The acknowledgements that were asked for, by dealer.
     acks: NumberMap<Ack>,
+    /// Both halves of what was recorded when it was made, and of what it recorded since, by dealer.
+    dealings: KeyMap<(Public, Private)>,
 }
 
 pub(crate) fn kept_ack(acks: &NumberMap<Ack>, dealer: Key) -> Option<Ack>
@@ -76,6 +80,7 @@ pub(crate) fn keep_ack(acks: &mut NumberMap<Ack>, dealer: Key, ack: Ack) -> Resu
     ensures done { OnOk result (acks.new ≡ map.insert acks.old dealer ack) }
     ensures kept { OnErr result (acks.new ≡ acks.old) }
     ensures memory { IfErr result (λ e. e ≡ StoreError.NoMemory) }
+    ensures fits { dealer < 2 ^ 32 }
 {
     acks.insert(u64::from(dealer.0), ack)?;
     Ok(())
@@ -87,10 +92,80 @@ pub(crate) fn forget_ack(acks: &mut NumberMap<Ack>, dealer: Key)
     acks.remove(u64::from(dealer.0));
 }
 
-/// Records a new dealing, tells it, and keeps its acknowledgement.
+/// Keeps both halves of a dealing, where none of its dealer's are kept. Whether they are new.
+fn keep_halves(
+    alloc: Global,
+    dealings: &mut KeyMap<(Public, Private)>,
+    dealer: Key,
+    public: &Public,
+    private: Private,
+) -> Result<bool, StoreError>
+    ensures done { OnOk result (dealings.new ≡ with_first dealings.old dealer (public.now, private)) }
+    ensures new { IfOk result (λ new. new ≡ not (map.contains_key dealings.old dealer)) }
+    ensures same { OnErr result (dealings.new ≡ dealings.old) }
+    ensures memory { IfErr result (λ e. e ≡ StoreError.NoMemory) }
+{
+    if dealings.get(dealer).is_some() {
+        return Ok(false);
+    }
+    dealings.insert(dealer, (public.copy(alloc)?, private))?;
+    Ok(true)
+}
+
+/// Takes both halves back, where they were new.
+fn forget_halves(dealings: &mut KeyMap<(Public, Private)>, dealer: Key, new: bool)
+    ensures { dealings.new ≡ (if new then map.remove dealings.old dealer else dealings.old) }
+{
+    if new {
+        dealings.remove(dealer);
+    }
+}
+
+/// Keeps a dealing and its acknowledgement, or, where memory runs out, neither. Whether the dealing is new.
+fn keep_both(
+    alloc: Global,
+    acks: &mut NumberMap<Ack>,
+    dealings: &mut KeyMap<(Public, Private)>,
+    dealer: Key,
+    ack: Ack,
+    public: &Public,
+    private: Private,
+) -> Result<bool, StoreError>
+    ensures ack { OnOk result (acks.new ≡ map.insert acks.old dealer ack) }
+    ensures dealing { OnOk result (dealings.new ≡ with_first dealings.old dealer (public.now, private)) }
+    ensures new { IfOk result (λ new. new ≡ not (map.contains_key dealings.old dealer)) }
+    ensures no_ack { OnErr result (acks.new ≡ acks.old) }
+    ensures no_dealing { OnErr result (dealings.new ≡ dealings.old) }
+    ensures memory { IfErr result (λ e. e ≡ StoreError.NoMemory) }
+    ensures fits { OnOk result (dealer < 2 ^ 32) }
+{
+    let new = keep_halves(alloc, dealings, dealer, public, private)?;
+    if let Err(error) = keep_ack(acks, dealer, ack) {
+        forget_halves(dealings, dealer, new);
+        return Err(error);
+    }
+    Ok(new)
+}
+
+/// Takes both back: the acknowledgement, and the dealing where it was new.
+fn forget_both(
+    acks: &mut NumberMap<Ack>,
+    dealings: &mut KeyMap<(Public, Private)>,
+    dealer: Key,
+    new: bool,
+)
+    ensures ack { acks.new ≡ map.remove acks.old dealer }
+    ensures dealing { dealings.new ≡ (if new then map.remove dealings.old dealer else dealings.old) }
+{
+    forget_ack(acks, dealer);
+    forget_halves(dealings, dealer, new);
+}
+
+/// Records a new dealing, tells it, and keeps it with its acknowledgement.
 fn keep_dealing<D: Disk, X: SecretStore, Dir: Drop>(
     alloc: Global,
     acks: &mut NumberMap<Ack>,
+    dealings: &mut KeyMap<(Public, Private)>,
     devices: &mut Devices<'_, D, X>,
     store: &mut Store<Dir>,
     out: &mut Transcript,
@@ -108,6 +183,8 @@ fn keep_dealing<D: Disk, X: SecretStore, Dir: Drop>(
     requires open { IsTrue D.tells → IsOpen store.old.journal (D.files devices.old.disk.now) (D.image devices.old.disk.now) }
     ensures acks { OnOk result (acks.new ≡ map.insert acks.old dealer ack) }
     ensures no_ack { OnErr result (acks.new ≡ acks.old) }
+    ensures kept { OnOk result (dealings.new ≡ with_first dealings.old dealer (public, private)) }
+    ensures unkept { OnErr result (dealings.new ≡ dealings.old) }
     ensures pairs { OnOk result (store.new.dealings ≡ map.insert store.old.dealings (epoch, dealer) (public, private)) }
     ensures no_pair { OnErr result (store.new.dealings ≡ store.old.dealings) }
     ensures rest { SameRest store.old store.new }
@@ -121,7 +198,7 @@ fn keep_dealing<D: Disk, X: SecretStore, Dir: Drop>(
     ensures kinds { IfErr result IsOfDevices }
     ensures all { OnOk result (RanAll (MadeBoth D.made X.made) (devices.old.disk.now, devices.old.secrets.now) (devices.new.disk.now, devices.new.secrets.now) devices.old.fuse devices.new.fuse (put_then_append (SecretOp.PutDealing epoch dealer private) store.old.journal (epoch, event_spelling (events.Dealing dealer public)))) }
     ensures calls { Ran (MadeBoth D.made X.made) (devices.old.disk.now, devices.old.secrets.now) (devices.new.disk.now, devices.new.secrets.now) devices.old.fuse devices.new.fuse (put_then_append (SecretOp.PutDealing epoch dealer private) store.old.journal (epoch, event_spelling (events.Dealing dealer public))) }
-    ensures memory { IsErrOf result StoreError.NoMemory → IsWant ((acks.new ≡ acks.old) × (store.new ≡ store.old) × (devices.new ≡ devices.old)) (D.wants devices.old.disk.now) (D.wants devices.new.disk.now) (X.wants devices.old.secrets.now) (X.wants devices.new.secrets.now) }
+    ensures memory { IsErrOf result StoreError.NoMemory → IsWant ((acks.new ≡ acks.old) × (dealings.new ≡ dealings.old) × (store.new ≡ store.old) × (devices.new ≡ devices.old)) (D.wants devices.old.disk.now) (D.wants devices.new.disk.now) (X.wants devices.old.secrets.now) (X.wants devices.new.secrets.now) }
     ensures later_disk { D.faults devices.old.disk.now ≤ D.faults devices.new.disk.now }
     ensures later_secrets { X.faults devices.old.secrets.now ≤ X.faults devices.new.secrets.now }
     ensures disk { IsErrOf result StoreError.Disk → Rose (D.faults devices.old.disk.now) (D.faults devices.new.disk.now) }
@@ -131,13 +208,21 @@ fn keep_dealing<D: Disk, X: SecretStore, Dir: Drop>(
     ensures fit { IsTrue D.tells → (limit : ℕ) → is_event limit (event_spelling (events.Dealing dealer public)) ≡ true → AreFit limit (D.image devices.old.disk.now) → AreFit limit (D.image devices.new.disk.now) }
     // A crash leaves every file but the journal's as it was.
     ensures others { IsTrue D.tells → Follows (SameElse Flat) (D.image devices.old.disk.now) (D.image devices.new.disk.now) }
+    // Where nothing of the disk was loose, each image has the names from before, or the journal's own with them. At Ok it has it.
+    ensures names { IsTrue D.tells → Lands (D.files devices.old.disk.now) (D.image devices.old.disk.now) → Follows MayBeNamed (D.image devices.old.disk.now) (D.image devices.new.disk.now) }
+    ensures named { OnOk result (IsTrue D.tells → Follows (Named true) (D.image devices.old.disk.now) (D.image devices.new.disk.now)) }
+    // At Ok nothing of the disk is loose, where nothing was.
+    ensures lands { OnOk result (IsTrue D.tells → Lands (D.files devices.old.disk.now) (D.image devices.old.disk.now) → Lands (D.files devices.new.disk.now) (D.image devices.new.disk.now)) }
+    // The secret store comes first: where it failed, the disk is as it was.
+    ensures unreached { IsErrOf result StoreError.Secrets → devices.new.disk.now ≡ devices.old.disk.now }
     ensures same_disk { devices.new.disk.ghost_name ≡ devices.old.disk.ghost_name }
     ensures same_secrets { devices.new.secrets.ghost_name ≡ devices.old.secrets.ghost_name }
+    ensures fits { OnOk result (dealer < 2 ^ 32) }
 {
-    keep_ack(acks, dealer, ack)?;
+    let new = keep_both(alloc, acks, dealings, dealer, ack, &public, private)?;
     match store.append_dealing(alloc, devices, epoch, dealer, public, private) {
         Err(error) => {
-            forget_ack(acks, dealer);
+            forget_both(acks, dealings, dealer, new);
             Err(error)
         }
         Ok(_) => {
@@ -198,16 +283,23 @@ fn acknowledge<C: Ceremony>(
 }
 
 impl Player {
-    /// A player that has not been asked for an acknowledgement in this life. It keeps the round.
-    pub(crate) fn new(alloc: Global, me: Key, round: &Round) -> Mem<Player>
+    /// A player that has not been asked for an acknowledgement in this life, with these dealings. It keeps the round.
+    pub(crate) fn new(
+        alloc: Global,
+        me: Key,
+        round: &Round,
+        dealings: KeyMap<(Public, Private)>,
+    ) -> Mem<Player>
         ensures me { IfOk result (λ player. player.me ≡ me) }
         ensures round { IfOk result (λ player. player.round ≡ round.now) }
         ensures acks { IfOk result (λ player. player.acks ≡ map.empty) }
+        ensures dealings { IfOk result (λ player. player.dealings ≡ dealings) }
     {
         Ok(Player {
             me,
             round: round.copy(alloc)?,
             acks: NumberMap::new(alloc),
+            dealings,
         })
     }
 
@@ -241,6 +333,9 @@ impl Player {
         ensures checked { OnOk result (C.dealing_of self.old.round self.old.me dealer public private ≡ Ok tt) }
         ensures kept { IfOk result (λ ack. self.new.acks ≡ map.insert self.old.acks dealer ack) }
         ensures unkept { OnErr result (self.new.acks ≡ self.old.acks) }
+        ensures own { OnErr result (self.new.dealings ≡ self.old.dealings) }
+        ensures mirrors { map.entries self.old.dealings ≡ at_epoch epoch store.old.dealings → map.entries self.new.dealings ≡ at_epoch epoch store.new.dealings }
+        ensures own_passes { AreChecked (C.dealing_of self.old.round self.old.me) self.old.dealings → AreChecked (C.dealing_of self.old.round self.old.me) self.new.dealings }
         ensures pairs { OnOk result (store.new.dealings ≡ map.insert store.old.dealings (epoch, dealer) (public, private)) }
         ensures rest { SameRest store.old store.new }
         ensures notes { IsTrue D.tells → Follows SameNotes (D.image devices.old.disk.now) (D.image devices.new.disk.now) }
@@ -266,6 +361,13 @@ impl Player {
         ensures fit { IsTrue D.tells → (limit : ℕ) → is_event limit (event_spelling (events.Dealing dealer public)) ≡ true → AreFit limit (D.image devices.old.disk.now) → AreFit limit (D.image devices.new.disk.now) }
         // A crash leaves every file but the journal's as it was.
         ensures others { IsTrue D.tells → Follows (SameElse Flat) (D.image devices.old.disk.now) (D.image devices.new.disk.now) }
+        // Where nothing of the disk was loose, each image has the names from before, or the journal's own with them. At Ok it has it.
+        ensures names { IsTrue D.tells → Lands (D.files devices.old.disk.now) (D.image devices.old.disk.now) → Follows MayBeNamed (D.image devices.old.disk.now) (D.image devices.new.disk.now) }
+        ensures named { OnOk result (IsTrue D.tells → Follows (Named true) (D.image devices.old.disk.now) (D.image devices.new.disk.now)) }
+        // At Ok nothing of the disk is loose, where nothing was.
+        ensures lands { OnOk result (IsTrue D.tells → Lands (D.files devices.old.disk.now) (D.image devices.old.disk.now) → Lands (D.files devices.new.disk.now) (D.image devices.new.disk.now)) }
+        // The secret store comes first: where it failed, the disk is as it was.
+        ensures unreached { IsErrOf result (DealingHandleError.Store StoreError.Secrets) → devices.new.disk.now ≡ devices.old.disk.now }
         ensures same_disk { devices.new.disk.ghost_name ≡ devices.old.disk.ghost_name }
         ensures same_secrets { devices.new.secrets.ghost_name ≡ devices.old.secrets.ghost_name }
     {
@@ -282,6 +384,7 @@ impl Player {
         keep_dealing(
             alloc,
             &mut self.acks,
+            &mut self.dealings,
             devices,
             store,
             out,
@@ -296,7 +399,7 @@ impl Player {
     }
 
     /// Answers a dealing: to a dealer whose dealing is recorded by the acknowledgement of that, whatever comes now; else by the
-    /// check, the record, and the acknowledgement.
+    /// check, the record, and the acknowledgement. It keeps a copy of what it records.
     ///
     /// Refused: what the check answers. Want of memory leaves all as before, but where a device itself wanted it.
     ///
@@ -337,6 +440,10 @@ impl Player {
         ensures unkept { OnErr result (self.new.acks ≡ self.old.acks) }
         ensures pairs { OnOk result (IsPlayerOf C.ack_of self.old.me self.old.round self.old.acks store.old.dealings epoch → store.new.dealings ≡ (if is_some (map.get store.old.dealings (epoch, dealer)) then store.old.dealings else map.insert store.old.dealings (epoch, dealer) (public, private))) }
         ensures no_pair { OnErr result (store.new.dealings ≡ store.old.dealings) }
+        // Where the player's own dealings were those that are recorded of the epoch, they still are; and they pass the check, where they did.
+        ensures own { OnErr result (self.new.dealings ≡ self.old.dealings) }
+        ensures mirrors { map.entries self.old.dealings ≡ at_epoch epoch store.old.dealings → map.entries self.new.dealings ≡ at_epoch epoch store.new.dealings }
+        ensures own_passes { AreChecked (C.dealing_of self.old.round self.old.me) self.old.dealings → AreChecked (C.dealing_of self.old.round self.old.me) self.new.dealings }
         // Of the epoch's recorded dealings none is refused, where none was before.
         ensures passes { first_refused (C.dealing_of self.old.round self.old.me) (of_epoch epoch store.old.dealings) ≡ None → first_refused (C.dealing_of self.old.round self.old.me) (of_epoch epoch store.new.dealings) ≡ None }
         ensures rest { SameRest store.old store.new }
@@ -364,6 +471,14 @@ impl Player {
         ensures fit { IsTrue D.tells → (limit : ℕ) → is_event limit (event_spelling (events.Dealing dealer public)) ≡ true → AreFit limit (D.image devices.old.disk.now) → AreFit limit (D.image devices.new.disk.now) }
         // A crash leaves every file but the journal's as it was.
         ensures others { IsTrue D.tells → Follows (SameElse Flat) (D.image devices.old.disk.now) (D.image devices.new.disk.now) }
+        // Where nothing of the disk was loose, each image has the names from before, or the journal's own with them. At Ok it has it, if the
+        // record is new, and else just those from before.
+        ensures names { IsTrue D.tells → Lands (D.files devices.old.disk.now) (D.image devices.old.disk.now) → Follows MayBeNamed (D.image devices.old.disk.now) (D.image devices.new.disk.now) }
+        ensures named { OnOk result (IsTrue D.tells → IsPlayerOf C.ack_of self.old.me self.old.round self.old.acks store.old.dealings epoch → Follows (Named (not (is_some (map.get store.old.dealings (epoch, dealer))))) (D.image devices.old.disk.now) (D.image devices.new.disk.now)) }
+        // At Ok nothing of the disk is loose, where nothing was.
+        ensures lands { OnOk result (IsTrue D.tells → Lands (D.files devices.old.disk.now) (D.image devices.old.disk.now) → Lands (D.files devices.new.disk.now) (D.image devices.new.disk.now)) }
+        // The secret store comes first: where it failed, the disk is as it was.
+        ensures unreached { IsErrOf result (DealingHandleError.Store StoreError.Secrets) → devices.new.disk.now ≡ devices.old.disk.now }
         ensures same_disk { devices.new.disk.ghost_name ≡ devices.old.disk.ghost_name }
         ensures same_secrets { devices.new.secrets.ghost_name ≡ devices.old.secrets.ghost_name }
     {
@@ -386,24 +501,28 @@ impl Player {
         )
     }
 
-    /// The outcome of the dealers' logs, and this player's share, from the dealings that are recorded. It gives the player up; the store
-    /// keeps the dealings.
+    /// The outcome of the dealers' logs, and this player's share, from its own dealings. It gives the player up; the store keeps the
+    /// dealings.
     ///
-    /// MissingDealing: a log of which the outcome is made bears this player's acknowledgement, and no recorded dealing of that dealer has
-    /// the log's public half.
-    pub fn finalize<C: Ceremony, Dir: Drop>(
+    /// MissingDealing: a log of which the outcome is made bears this player's acknowledgement, and no dealing of its own from that dealer
+    /// has the log's public half.
+    pub fn finalize<C: Ceremony>(
         self,
         alloc: Global,
         ceremony: &C,
-        store: &Store<Dir>,
-        epoch: Epoch,
         logs: &Map<DealerLog>,
     ) -> Result<Option<(Output, Share)>, FinishError>
         requires playing { Contains self.round.players self.me }
-        requires passes { first_refused (C.dealing_of self.round self.me) (of_epoch epoch store.now.dealings) ≡ None }
-        ensures { Finishes (C.finish_of self.round self.me (at_epoch epoch store.now.dealings) logs.now) result }
+        requires passes { AreChecked (C.dealing_of self.round self.me) self.dealings }
+        ensures { Finishes (C.finish_of self.round self.me (map.entries self.dealings) logs.now) result }
     {
-        let dealings = store.dealings(alloc, epoch)?;
-        ceremony.finish(alloc, &self.round, self.me, &dealings, logs)
+        let Player {
+            me,
+            round,
+            acks: _,
+            dealings,
+        } = self;
+        let dealings = dealings.into_map(alloc)?;
+        ceremony.finish(alloc, &round, me, &dealings, logs)
     }
 }

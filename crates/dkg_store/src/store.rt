@@ -17,7 +17,7 @@ ghost use Rattle.dkg_journal.specs.Names.{Files};
 ghost use Rattle.dkg_journal.specs.Records.{Entry, entries};
 ghost use Rattle.dkg_journal.specs.Gated.{OpensAlike, gated, gated_entries};
 ghost use Rattle.dkg_journal.specs.Views.{views};
-ghost use Rattle.dkg_journal.specs.Disk.{IsUnchanged, Rose, Follows, SameElse};
+ghost use Rattle.dkg_journal.specs.Disk.{IsUnchanged, Rose, Follows, Lands, SameElse};
 ghost use Rattle.dkg_journal.specs.Fuse.{Reached, Ran, RanAll};
 ghost use Rattle.dkg_journal.specs.Journals.{IsOpen, append_calls, has_file};
 ghost use Rattle.dkg_journal.specs.Operations.{Prunes, calls_of};
@@ -33,8 +33,9 @@ ghost use Rattle.dkg_store.specs.Secrets.{Secrets, Tries, after};
 ghost use Rattle.dkg_store.specs.Events.{event_spelling, is_event};
 ghost use Rattle.dkg_store.specs.declared.event.Event.TheVariants as events;
 ghost use Rattle.dkg_store.specs.Pairs.{Pairs, IsWhole, AreAtOrAbove, Holds, HoldsEither, recovered};
-ghost use Rattle.dkg_store.specs.Recorded.{at_epoch, restored_list, of_epoch, first_refused};
+ghost use Rattle.dkg_store.specs.Recorded.{AreChecked, at_epoch, restored_list, of_epoch, first_refused};
 ghost use Rattle.dkg_store.specs.Both.{MadeBoth, IsWant, prune_both, put_then_append};
+ghost use Rattle.dkg_store.specs.Named.{Named, MayBeNamed};
 ghost use Rattle.dkg_store.specs.Noted.{Gives, GivesEither, Notes, SameNotes, acks_in, logs_in};
 ghost use Rattle.dkg_store.specs.Dealer.{IsDealerOf, passing};
 ghost use Rattle.dkg_store.specs.Player.{has_orphan};
@@ -45,6 +46,7 @@ use crate::call::{StoreError, perform_secret};
 use crate::dealer::{Dealer, replayed};
 use crate::devices::{Devices, prune_devices, put_and_append};
 use crate::event::{ack_body, ack_fits, dealing_body, dealing_fits, log_body, log_fits};
+use crate::key_map::KeyMap;
 use crate::pair_map::PairMap;
 use crate::player::Player;
 use crate::restoring::{Recorded, restore};
@@ -125,6 +127,10 @@ fn open_journal<D: Disk>(
     ensures alike { OnOk result (IsTrue D.tells → OpensAlike (D.files disk.old) (D.files disk.new)) }
     ensures unread { (name : Name) (place : ℕ) → IsErrOf result (StoreError.Corrupt name place) → IsTrue D.tells → OpensAlike (D.files disk.old) (D.files disk.new) }
     ensures sound { AreUnbroken (D.image disk.old) → AreUnbroken (D.image disk.new) }
+    // Wherever it stops, each image has the names from before: the end of a file is mended in place of it, and one that is absent stays so.
+    ensures names { IsTrue D.tells → Follows (Named false) (D.image disk.old) (D.image disk.new) }
+    ensures settled_names { OnOk result (IsTrue D.tells → (c : Files) → D.image disk.new c → Named false (D.files disk.old) c) }
+    ensures lands { OnOk result (IsTrue D.tells → Lands (D.files disk.new) (D.image disk.new)) }
     ensures later { D.faults disk.old ≤ D.faults disk.new }
     ensures disk { IsErrOf result StoreError.Disk → Rose (D.faults disk.old) (D.faults disk.new) }
     ensures not_secrets { IsErrOf result StoreError.Secrets → ⊥ }
@@ -213,6 +219,21 @@ fn map_of_epoch<V: Value + Drop>(alloc: Global, values: &PairMap<V>, epoch: Epoc
 {
     let pairs = pairs_of_epoch(alloc, values, epoch)?;
     in_order(pairs)
+}
+
+/// A player's own copy of what is recorded of one epoch.
+fn copy_of_epoch<V: Value + Drop>(
+    alloc: Global,
+    values: &PairMap<V>,
+    epoch: Epoch,
+) -> Mem<KeyMap<V>>
+    ensures { IfOk result (λ made. map.entries made ≡ at_epoch epoch values.now) }
+{
+    let mut kept = KeyMap::new(alloc);
+    for ((_, key), value) in values.of_epoch(epoch.0) {
+        kept.insert(Key(*key), value.copy(alloc)?)?;
+    }
+    Ok(kept)
 }
 
 /// Whether the dealing that is recorded of a dealer has this public half.
@@ -318,6 +339,13 @@ fn record_dealing<D: Disk, X: SecretStore>(
     ensures fit { IsTrue D.tells → (limit : ℕ) → is_event limit (event_spelling (events.Dealing dealer public)) ≡ true → AreFit limit (D.image devices.old.disk.now) → AreFit limit (D.image devices.new.disk.now) }
     // A crash leaves every file but the journal's as it was.
     ensures others { IsTrue D.tells → Follows (SameElse Flat) (D.image devices.old.disk.now) (D.image devices.new.disk.now) }
+    // Where nothing of the disk was loose, each image has the names from before, or the journal's own with them. At Ok it has it.
+    ensures names { IsTrue D.tells → Lands (D.files devices.old.disk.now) (D.image devices.old.disk.now) → Follows MayBeNamed (D.image devices.old.disk.now) (D.image devices.new.disk.now) }
+    ensures named { OnOk result (IsTrue D.tells → Follows (Named true) (D.image devices.old.disk.now) (D.image devices.new.disk.now)) }
+    // At Ok nothing of the disk is loose, where nothing was.
+    ensures lands { OnOk result (IsTrue D.tells → Lands (D.files devices.old.disk.now) (D.image devices.old.disk.now) → Lands (D.files devices.new.disk.now) (D.image devices.new.disk.now)) }
+    // The secret store comes first: where it failed, the disk is as it was.
+    ensures unreached { IsErrOf result StoreError.Secrets → devices.new.disk.now ≡ devices.old.disk.now }
     ensures same_disk { devices.new.disk.ghost_name ≡ devices.old.disk.ghost_name }
     ensures same_secrets { devices.new.secrets.ghost_name ≡ devices.old.secrets.ghost_name }
 {
@@ -342,6 +370,8 @@ impl<Dir: Drop> Store<Dir> {
     /// restored.
     ///
     /// Corrupt: a record that is not whole, or whose body is no event within the limit, at the place of its gate.
+    ///
+    /// No file comes or goes, wherever it stops: one whose end is mended is replaced whole, and one that is absent stays so.
     ///
     /// The time and the memory grow linearly with the journal's file, but that each record takes a look-up of its private half and one
     /// among the dealings, which are logarithmic.
@@ -380,6 +410,11 @@ impl<Dir: Drop> Store<Dir> {
         ensures fit { IsTrue D.tells → (most : ℕ) → AreFit most (D.image devices.old.disk.now) → AreFit most (D.image devices.new.disk.now) }
         // No entry is lost, wherever it stops, and the secrets are as they were.
         ensures images { IsTrue D.tells → Follows Keeps (D.image devices.old.disk.now) (D.image devices.new.disk.now) }
+        // Wherever it stops, each image has the names from before: the end of a file is mended in place of it, and one that is absent stays so.
+        ensures names { IsTrue D.tells → Follows (Named false) (D.image devices.old.disk.now) (D.image devices.new.disk.now) }
+        ensures settled_names { OnOk result (IsTrue D.tells → (c : Files) → D.image devices.new.disk.now c → Named false (D.files devices.old.disk.now) c) }
+        // From then on nothing of the disk is loose.
+        ensures lands { OnOk result (IsTrue D.tells → Lands (D.files devices.new.disk.now) (D.image devices.new.disk.now)) }
         ensures same { X.held devices.new.secrets.now ≡ X.held devices.old.secrets.now }
         ensures disk { IsErrOf result StoreError.Disk → Rose (D.faults devices.old.disk.now) (D.faults devices.new.disk.now) }
         ensures secrets { IsErrOf result StoreError.Secrets → Rose (X.faults devices.old.secrets.now) (X.faults devices.new.secrets.now) }
@@ -443,6 +478,9 @@ impl<Dir: Drop> Store<Dir> {
         ensures round { IfOk result (λ made. IfSome made (λ player. player.round ≡ round.now)) }
         ensures acks { IfOk result (λ made. IfSome made (λ player. player.acks ≡ map.empty)) }
         ensures some { IfOk result (λ made. is_some made ≡ not (has_orphan (λ dealer log. C.bears_ack_of round.now dealer log me) epoch self.now.dealings (at_epoch epoch self.now.logs))) }
+        // It has its own copy of what is recorded of the epoch, and each of that passes the check.
+        ensures dealings { IfOk result (λ made. IfSome made (λ player. map.entries player.dealings ≡ at_epoch epoch self.now.dealings)) }
+        ensures checked { IfOk result (λ made. IfSome made (λ player. AreChecked (C.dealing_of round.now me) player.dealings)) }
         ensures passes { IfOk result (λ made. IfSome made (λ player. first_refused (C.dealing_of round.now me) (of_epoch epoch self.now.dealings) ≡ None)) }
         ensures kinds { IfErr result IsOfPlaying }
         ensures stored { IfErr result (λ e. (e ≡ StoreError.NoMemory) ⊎ ((dealer : ℕ) × (e ≡ StoreError.LocalState (LocalCause.StoredDealing epoch dealer)) × (first_refused (C.dealing_of round.now me) (of_epoch epoch self.now.dealings) ≡ Some dealer) × (has_orphan (λ dealer log. C.bears_ack_of round.now dealer log me) epoch self.now.dealings (at_epoch epoch self.now.logs) ≡ false))) }
@@ -470,6 +508,9 @@ impl<Dir: Drop> Store<Dir> {
         ensures round { IfOk result (λ made. IfSome made (λ player. player.round ≡ round.now)) }
         ensures acks { IfOk result (λ made. IfSome made (λ player. player.acks ≡ map.empty)) }
         ensures some { IfOk result (λ made. is_some made ≡ not (has_orphan (λ dealer log. C.bears_ack_of round.now dealer log me) epoch self.now.dealings logs.now)) }
+        // It has its own copy of what is recorded of the epoch, and each of that passes the check.
+        ensures dealings { IfOk result (λ made. IfSome made (λ player. map.entries player.dealings ≡ at_epoch epoch self.now.dealings)) }
+        ensures checked { IfOk result (λ made. IfSome made (λ player. AreChecked (C.dealing_of round.now me) player.dealings)) }
         ensures passes { IfOk result (λ made. IfSome made (λ player. first_refused (C.dealing_of round.now me) (of_epoch epoch self.now.dealings) ≡ None)) }
         ensures kinds { IfErr result IsOfPlaying }
         ensures stored { IfErr result (λ e. (e ≡ StoreError.NoMemory) ⊎ ((dealer : ℕ) × (e ≡ StoreError.LocalState (LocalCause.StoredDealing epoch dealer)) × (first_refused (C.dealing_of round.now me) (of_epoch epoch self.now.dealings) ≡ Some dealer) × (has_orphan (λ dealer log. C.bears_ack_of round.now dealer log me) epoch self.now.dealings logs.now ≡ false))) }
@@ -480,7 +521,8 @@ impl<Dir: Drop> Store<Dir> {
         if let Some(dealer) = first_refused(ceremony, &self.dealings, epoch, me, round) {
             return Err(StoreError::LocalState(LocalCause::StoredDealing { epoch, dealer }));
         }
-        Ok(Some(Player::new(alloc, me, round)?))
+        let dealings = copy_of_epoch(alloc, &self.dealings, epoch)?;
+        Ok(Some(Player::new(alloc, me, round, dealings)?))
     }
 
     /// This node as a dealer of an epoch's round: its dealing from its share and a seed, and the recorded acknowledgements that pass the
@@ -639,7 +681,8 @@ impl<Dir: Drop> Store<Dir> {
         Ok(())
     }
 
-    /// Forgets what is below the minimum: it prunes the journal, and then the secrets.
+    /// Forgets what is below the minimum: it prunes the journal, and then the secrets. No file comes or goes, wherever it stops, also where
+    /// nothing is left of the journal.
     ///
     /// The time is linear in the journal's file, and in what goes of the secrets.
     pub fn prune<D: Disk, X: SecretStore>(
@@ -682,6 +725,12 @@ impl<Dir: Drop> Store<Dir> {
         ensures fit { IsTrue D.tells → (limit : ℕ) → AreFit limit (D.image devices.old.disk.now) → AreFit limit (D.image devices.new.disk.now) }
         // A crash leaves every file but the journal's as it was.
         ensures others { IsTrue D.tells → Follows (SameElse Flat) (D.image devices.old.disk.now) (D.image devices.new.disk.now) }
+        // Wherever it stops, each image has the names from before: the journal's own is there exactly where it was, where nothing was loose.
+        ensures names { IsTrue D.tells → Lands (D.files devices.old.disk.now) (D.image devices.old.disk.now) → Follows (Named false) (D.image devices.old.disk.now) (D.image devices.new.disk.now) }
+        // At Ok nothing of the disk is loose, where nothing was.
+        ensures lands { OnOk result (IsTrue D.tells → Lands (D.files devices.old.disk.now) (D.image devices.old.disk.now) → Lands (D.files devices.new.disk.now) (D.image devices.new.disk.now)) }
+        // The disk comes first: where it failed, the secrets are as they were.
+        ensures unreached { IsErrOf result StoreError.Disk → devices.new.secrets.now ≡ devices.old.secrets.now }
         ensures same_disk { devices.new.disk.ghost_name ≡ devices.old.disk.ghost_name }
         ensures same_secrets { devices.new.secrets.ghost_name ≡ devices.old.secrets.ghost_name }
     {
@@ -691,7 +740,8 @@ impl<Dir: Drop> Store<Dir> {
         prune_devices(alloc, devices, &mut self.journal, min)
     }
 
-    /// Puts the private half, and then appends the record. It answers false where the dealer's is recorded already.
+    /// Puts the private half, and then appends the record. It answers false where the dealer's is recorded already. The first record of
+    /// all makes the journal's file, and no other file comes or goes.
     pub fn append_dealing<D: Disk, X: SecretStore>(
         &mut self,
         alloc: Global,
@@ -733,6 +783,14 @@ impl<Dir: Drop> Store<Dir> {
         ensures fit { IsTrue D.tells → (limit : ℕ) → is_event limit (event_spelling (events.Dealing dealer public)) ≡ true → AreFit limit (D.image devices.old.disk.now) → AreFit limit (D.image devices.new.disk.now) }
         // A crash leaves every file but the journal's as it was.
         ensures others { IsTrue D.tells → Follows (SameElse Flat) (D.image devices.old.disk.now) (D.image devices.new.disk.now) }
+        // Where nothing of the disk was loose, each image has the names from before, or the journal's own with them. At Ok it has it, if the
+        // record is new, and else just those from before.
+        ensures names { IsTrue D.tells → Lands (D.files devices.old.disk.now) (D.image devices.old.disk.now) → Follows MayBeNamed (D.image devices.old.disk.now) (D.image devices.new.disk.now) }
+        ensures named { IfOk result (λ new. IsTrue D.tells → Follows (Named new) (D.image devices.old.disk.now) (D.image devices.new.disk.now)) }
+        // At Ok nothing of the disk is loose, where nothing was.
+        ensures lands { OnOk result (IsTrue D.tells → Lands (D.files devices.old.disk.now) (D.image devices.old.disk.now) → Lands (D.files devices.new.disk.now) (D.image devices.new.disk.now)) }
+        // The secret store comes first: where it failed, the disk is as it was.
+        ensures unreached { IsErrOf result StoreError.Secrets → devices.new.disk.now ≡ devices.old.disk.now }
         ensures same_disk { devices.new.disk.ghost_name ≡ devices.old.disk.ghost_name }
         ensures same_secrets { devices.new.secrets.ghost_name ≡ devices.old.secrets.ghost_name }
     {
@@ -755,6 +813,7 @@ impl<Dir: Drop> Store<Dir> {
     }
 
     /// Appends the record of a player's acknowledgement of this node's dealing. It answers false where the player's is recorded already.
+    /// The first record of all makes the journal's file, and no other file comes or goes.
     pub fn append_ack<D: Disk, X: SecretStore>(
         &mut self,
         alloc: Global,
@@ -796,6 +855,12 @@ impl<Dir: Drop> Store<Dir> {
         ensures fit { IsTrue D.tells → (limit : ℕ) → is_event limit (event_spelling (events.Ack player ack)) ≡ true → AreFit limit (D.image devices.old.disk.now) → AreFit limit (D.image devices.new.disk.now) }
         // A crash leaves every file but the journal's as it was.
         ensures files { IsTrue D.tells → Follows (SameElse Flat) (D.image devices.old.disk.now) (D.image devices.new.disk.now) }
+        // Where nothing of the disk was loose, each image has the names from before, or the journal's own with them. At Ok it has it, if the
+        // record is new, and else just those from before.
+        ensures names { IsTrue D.tells → Lands (D.files devices.old.disk.now) (D.image devices.old.disk.now) → Follows MayBeNamed (D.image devices.old.disk.now) (D.image devices.new.disk.now) }
+        ensures named { IfOk result (λ new. IsTrue D.tells → Follows (Named new) (D.image devices.old.disk.now) (D.image devices.new.disk.now)) }
+        // At Ok nothing of the disk is loose, where nothing was.
+        ensures lands { OnOk result (IsTrue D.tells → Lands (D.files devices.old.disk.now) (D.image devices.old.disk.now) → Lands (D.files devices.new.disk.now) (D.image devices.new.disk.now)) }
         ensures same_disk { devices.new.disk.ghost_name ≡ devices.old.disk.ghost_name }
         ensures same_secrets { devices.new.secrets.ghost_name ≡ devices.old.secrets.ghost_name }
     {
@@ -818,7 +883,8 @@ impl<Dir: Drop> Store<Dir> {
         Ok(true)
     }
 
-    /// Appends the record of a dealer's log. It answers false where the dealer's is recorded already.
+    /// Appends the record of a dealer's log. It answers false where the dealer's is recorded already. The first record of all makes the
+    /// journal's file, and no other file comes or goes.
     pub fn append_log<D: Disk, X: SecretStore>(
         &mut self,
         alloc: Global,
@@ -861,6 +927,12 @@ impl<Dir: Drop> Store<Dir> {
         ensures fit { IsTrue D.tells → (limit : ℕ) → is_event limit (event_spelling (events.Log dealer log)) ≡ true → AreFit limit (D.image devices.old.disk.now) → AreFit limit (D.image devices.new.disk.now) }
         // A crash leaves every file but the journal's as it was.
         ensures files { IsTrue D.tells → Follows (SameElse Flat) (D.image devices.old.disk.now) (D.image devices.new.disk.now) }
+        // Where nothing of the disk was loose, each image has the names from before, or the journal's own with them. At Ok it has it, if the
+        // record is new, and else just those from before.
+        ensures names { IsTrue D.tells → Lands (D.files devices.old.disk.now) (D.image devices.old.disk.now) → Follows MayBeNamed (D.image devices.old.disk.now) (D.image devices.new.disk.now) }
+        ensures named { IfOk result (λ new. IsTrue D.tells → Follows (Named new) (D.image devices.old.disk.now) (D.image devices.new.disk.now)) }
+        // At Ok nothing of the disk is loose, where nothing was.
+        ensures lands { OnOk result (IsTrue D.tells → Lands (D.files devices.old.disk.now) (D.image devices.old.disk.now) → Lands (D.files devices.new.disk.now) (D.image devices.new.disk.now)) }
         ensures same_disk { devices.new.disk.ghost_name ≡ devices.old.disk.ghost_name }
         ensures same_secrets { devices.new.secrets.ghost_name ≡ devices.old.secrets.ghost_name }
     {

@@ -1,4 +1,4 @@
-use Rattle.std.proofs.Common.{ℕ, List, refl, sym, subst, ap, ◌∙◌}
+use Rattle.std.proofs.Common.{refl, sym, subst, ap, ◌∙◌}
 use Rattle.std.specs.FinMap as map
 use Rattle.dkg_store.specs.Errors.{IsOfDevices}
 use Rattle.dkg_store.specs.Noted.{Notes}
@@ -6,6 +6,7 @@ use Rattle.dkg_store.proofs.Acting.{alone_torn, alone_alike, breaks_off, of_jour
 use Rattle.dkg_store.proofs.Map.{remove_insert, keys_total, exact_keys}
 use Rattle.dkg_store.proofs.Others.{others_of, not_added}
 use Rattle.dkg_store.proofs.Fit.{may_add_fit}
+use Rattle.dkg_store.proofs.Named.{may_same, append_names, made_name}
 use Rattle.dkg_store.proofs.appending.record_event.Goals as goal
 
 pub returns-in_err-insert-clause-images : goal.returns-in_err-insert-clause-images
@@ -33,3 +34,18 @@ returns-in-Err-clause-fit g c = λ told limit is fit. may_add_fit limit _ _ _ is
 
 pub returns-clause-fit : goal.returns-clause-fit
 returns-clause-fit g c = λ told limit is fit. may_add_fit limit _ _ _ is (c.append_ready.ensures.images told) (c.append_ready.ensures.sound told) fit
+
+pub returns-in_err-insert-clause-names : goal.returns-in_err-insert-clause-names
+returns-in_err-insert-clause-names g c = λ told lands. may_same _
+
+pub returns-in-Err-clause-names : goal.returns-in-Err-clause-names
+returns-in-Err-clause-names g c = λ told lands. append_names _ _ _ _ _ _ (g.met.D.Disk.reads _ told) (c.append_ready.ensures.tried told lands)
+
+pub returns-clause-names : goal.returns-clause-names
+returns-clause-names g c = λ told lands. append_names _ _ _ _ _ _ (g.met.D.Disk.reads _ told) (c.append_ready.ensures.tried told lands)
+
+pub returns-clause-named : goal.returns-clause-named
+returns-clause-named g c = λ told. made_name c.append_ready.new.self.place _ _ _ _ (c.in_default.ensures.open told) (c.in_default.ensures.added told)
+
+pub returns-clause-lands : goal.returns-clause-lands
+returns-clause-lands g c = λ told lands. (c.in_default.ensures.done told lands).settled

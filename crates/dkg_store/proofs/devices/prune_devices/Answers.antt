@@ -1,19 +1,20 @@
-use Rattle.std.proofs.Common.{◌≡◌, ℕ, List, [], ◌∷◌, map, Result, Err, inl, inr, refl, sym, ap, subst, ◌∙◌}
+use Rattle.std.proofs.Common.{ℕ, [], ◌∷◌, map, Err, refl, sym, ap, subst}
 use Rattle.std.proofs.lemmas.Result.{err_from_is_err_and}
-use Rattle.dkg_journal.specs.Fuse.{Ran, RanAll}
+use Rattle.dkg_journal.specs.Fuse.{RanAll}
 use Rattle.dkg_journal.specs.Pruning.{prune_calls}
 use Rattle.dkg_journal.specs.declared.call.JournalError.{JournalError}
-use Rattle.dkg_journal.proofs.Steps.{then_all, then_ran, ran_all, ran_more}
+use Rattle.dkg_journal.proofs.Steps.{then_all, ran_all}
 use Rattle.dkg_store.specs.Both.{MadeBoth, on_disk, on_secrets}
 use Rattle.dkg_store.specs.Errors.{IsOfDevices, store_error_of}
 use Rattle.dkg_store.specs.Noted.{acks_in, logs_in, noted_ack, noted_log}
 use Rattle.dkg_store.specs.declared.secrets.SecretOp.TheVariants.{Prune}
 use Rattle.dkg_store.proofs.Acting.{ended_broken, of_secrets_too}
-use Rattle.dkg_store.proofs.Both.{both_more, disk_all, disk_ran, secret_one}
+use Rattle.dkg_store.proofs.Both.{both_more, disk_all, secret_one}
 use Rattle.dkg_store.proofs.Halves.{prune_halves}
 use Rattle.dkg_store.proofs.OpeningActs.{journal_devices}
-use Rattle.dkg_store.proofs.Pruned.{same_left, same_may, same_tried, same_finished, may_leave_holds, left_holds, one_of_either, gives_may_leave, gives_left, gives_one, acks_from, logs_from, may_others, left_others, journal_torn, secrets_torn, both_pruned, of_pruning, secrets_pruning}
+use Rattle.dkg_store.proofs.Pruned.{same_left, same_may, same_tried, same_finished, may_leave_holds, left_holds, one_of_either, gives_may_leave, gives_left, gives_one, acks_from, logs_from, may_others, left_others, journal_torn, secrets_torn, both_pruned}
 use Rattle.dkg_store.proofs.Fit.{may_leave_fit}
+use Rattle.dkg_store.proofs.Named.{prune_names}
 use Rattle.dkg_store.proofs.devices.prune_devices.Goals as goal
 
 -- THE JOURNAL'S PRUNE WAS ENDED WITHIN
@@ -122,3 +123,17 @@ returns-in_err-perform_secret-clause-fit g c = λ told limit fit. may_leave_fit 
 
 pub returns-clause-fit : goal.returns-clause-fit
 returns-clause-fit g c = λ told limit fit. may_leave_fit limit _ _ _ (c.prune.ensures.images told) (c.prune.ensures.sound told) fit
+
+-- THE NAMES
+
+pub returns-in_err-prune-clause-names : goal.returns-in_err-prune-clause-names
+returns-in_err-prune-clause-names g c = λ told lands. prune_names _ _ _ _ _ _ (g.met.D.Disk.reads _ told) (c.prune.ensures.tried told lands)
+
+pub returns-in_err-perform_secret-clause-names : goal.returns-in_err-perform_secret-clause-names
+returns-in_err-perform_secret-clause-names g c = λ told lands. prune_names _ _ _ _ _ _ (g.met.D.Disk.reads _ told) (c.prune.ensures.tried told lands)
+
+pub returns-clause-names : goal.returns-clause-names
+returns-clause-names g c = λ told lands. prune_names _ _ _ _ _ _ (g.met.D.Disk.reads _ told) (c.prune.ensures.tried told lands)
+
+pub returns-clause-lands : goal.returns-clause-lands
+returns-clause-lands g c = λ told lands. (c.in_ok-prune.ensures.done told lands).settled

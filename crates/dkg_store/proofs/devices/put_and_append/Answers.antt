@@ -1,14 +1,14 @@
-use Rattle.std.proofs.Common.{◌≡◌, List, [], ◌∷◌, ◌++◌, map, refl, sym, subst}
+use Rattle.std.proofs.Common.{[], ◌∷◌, map, refl, sym, subst}
 use Rattle.std.proofs.lemmas.Result.{err_from_is_err_and}
 use Rattle.dkg_store.specs.Errors.{IsOfDevices}
 use Rattle.dkg_store.proofs.Acting.{append_torn, both_done, ended_broken, of_journal_too}
-use Rattle.dkg_journal.specs.Fuse.{Ran, RanAll}
 use Rattle.dkg_journal.specs.Journals.{append_calls}
 use Rattle.dkg_journal.proofs.Steps.{then_all, then_ran, ran_all, ran_first}
 use Rattle.dkg_store.specs.Both.{MadeBoth, on_disk, on_secrets}
 use Rattle.dkg_store.proofs.Both.{both_more, disk_all, disk_ran, secret_one}
 use Rattle.dkg_store.proofs.Others.{not_added, others_of}
 use Rattle.dkg_store.proofs.Fit.{may_add_fit}
+use Rattle.dkg_store.proofs.Named.{may_same, append_names, made_name}
 use Rattle.dkg_store.proofs.devices.put_and_append.Goals as goal
 
 pub returns-in_err-perform_secret-clause-calls : goal.returns-in_err-perform_secret-clause-calls
@@ -56,3 +56,18 @@ returns-in_err-append_ready-clause-fit g c = λ told limit is fit. may_add_fit l
 
 pub returns-clause-fit : goal.returns-clause-fit
 returns-clause-fit g c = λ told limit is fit. may_add_fit limit _ _ _ is (c.append_ready.ensures.images told) (c.append_ready.ensures.sound told) fit
+
+pub returns-in_err-perform_secret-clause-names : goal.returns-in_err-perform_secret-clause-names
+returns-in_err-perform_secret-clause-names g c = λ told lands. may_same _
+
+pub returns-in_err-append_ready-clause-names : goal.returns-in_err-append_ready-clause-names
+returns-in_err-append_ready-clause-names g c = λ told lands. append_names _ _ _ _ _ _ (g.met.D.Disk.reads _ told) (c.append_ready.ensures.tried told lands)
+
+pub returns-clause-names : goal.returns-clause-names
+returns-clause-names g c = λ told lands. append_names _ _ _ _ _ _ (g.met.D.Disk.reads _ told) (c.append_ready.ensures.tried told lands)
+
+pub returns-clause-named : goal.returns-clause-named
+returns-clause-named g c = λ told. made_name c.append_ready.new.self.place _ _ _ _ (c.in_ok-append_ready.ensures.open told) (c.in_ok-append_ready.ensures.added told)
+
+pub returns-clause-lands : goal.returns-clause-lands
+returns-clause-lands g c = λ told lands. (c.in_ok-append_ready.ensures.done told lands).settled

@@ -13,12 +13,17 @@ use Rattle.dkg_store.proofs.Acting.{then_broken, ended_broken, breaks_off}
 use Rattle.dkg_store.proofs.Answering.{recorded_new}
 use Rattle.dkg_store.proofs.Map.{remove_insert}
 use Rattle.dkg_store.proofs.Both.{none_ran}
+use Rattle.dkg_store.proofs.Named.{may_same}
+use Rattle.dkg_store.proofs.Own.{took_back}
 use Rattle.dkg_store.proofs.player.keep_dealing.Goals as goal
 
 pub returns-in-Err-clause-no_ack : goal.returns-in-Err-clause-no_ack
 returns-in-Err-clause-no_ack g c =
-    c.forget_ack.ensures ∙ ap (λ (m : map.FinMap nat_cmp (List ℕ)). map.remove m c.args.dealer) c.in_ok-keep_ack.ensures.done
+    c.forget_both.ensures.ack ∙ ap (λ (m : map.FinMap nat_cmp (List ℕ)). map.remove m c.args.dealer) c.in_ok-new.ensures.ack
     ∙ remove_insert nat_cmp_total map.nat_cmp-IsAntisymmetric c.args.acks.now c.args.dealer c.args.ack c.requires.new
+
+pub returns-in-Err-clause-unkept : goal.returns-in-Err-clause-unkept
+returns-in-Err-clause-unkept g c = took_back c.args.dealings.now _ _ c.args.dealer (c.args.public, c.args.private) c.in_ok-new.new c.in_ok-new.ensures.new c.in_ok-new.ensures.dealing c.forget_both.ensures.dealing
 
 -- which error it is, whatever the value at Ok would be
 is_err : {T U E : Type 0} (e f : E) → IsErrOf {T = T} (Err e) f → IsErrOf {T = U} (Err e) f
@@ -27,15 +32,15 @@ is_err {T = T} {E = E} e f is = let h : ◌≡◌ {A = Result T E} (Err e) (Err 
 pub returns-in-Err-clause-memory : goal.returns-in-Err-clause-memory
 returns-in-Err-clause-memory g c = λ wants.
     let w = c.in-Err.ensures.memory (is_err {T = Unit {0}} {U = Bool} c.in-Err.error NoMemory wants) in
-    record { so = ⊎_elim (λ same. inl (returns-in-Err-clause-no_ack g c, same.0, same.1)) (λ d. inr d) w.so }
+    record { so = ⊎_elim (λ same. inl (returns-in-Err-clause-no_ack g c, returns-in-Err-clause-unkept g c, same.0, same.1)) (λ d. inr d) w.so }
 
-pub returns-in_err-keep_ack-clause-calls : goal.returns-in_err-keep_ack-clause-calls
-returns-in_err-keep_ack-clause-calls g c = none_ran g.D.Disk.made g.X.SecretStore.made _ _ _ _ (g.met.D.Disk.made_none _) (g.met.X.SecretStore.made_none _)
+pub returns-in_err-new-clause-calls : goal.returns-in_err-new-clause-calls
+returns-in_err-new-clause-calls g c = none_ran g.D.Disk.made g.X.SecretStore.made _ _ _ _ (g.met.D.Disk.made_none _) (g.met.X.SecretStore.made_none _)
 
-pub returns-in_err-keep_ack-clause-acts : goal.returns-in_err-keep_ack-clause-acts
-returns-in_err-keep_ack-clause-acts g c = λ told_disk told_secrets.
+pub returns-in_err-new-clause-acts : goal.returns-in_err-new-clause-acts
+returns-in_err-new-clause-acts g c = λ told_disk told_secrets.
     let p = err_from_is_err_and c.from_residual.result c.from_residual.ensures.1 in
-    made_none _ _ _ _ (ended_broken (λ u. u) c.from_residual.result p.0 p.1 (subst IsOfDevices (sym (p.2 ∙ c.in_err-keep_ack.ensures.memory)) tt))
+    made_none _ _ _ _ (ended_broken (λ u. u) c.from_residual.result p.0 p.1 (subst IsOfDevices (sym (p.2 ∙ c.in_err-new.ensures.memory)) tt))
 
 pub returns-in-Err-clause-acts : goal.returns-in-Err-clause-acts
 returns-in-Err-clause-acts g c = λ told_disk told_secrets.
@@ -54,3 +59,6 @@ returns-in-Ok-clause-acts g c = λ told_disk told_secrets.
     (recorded_new (map.contains_key c.args.store.now.dealings (c.args.epoch, c.args.dealer)) (has_file c.args.store.now.journal) c.args.epoch c.args.dealer c.args.public c.args.private (ap is_some c.requires.unrecorded)
     (c.in-Ok.ensures.acts told_disk told_secrets c.args.out.now.entries))
     (made_say _ _ _ tt _ _ _ _ said)
+
+pub returns-in_err-new-clause-names : goal.returns-in_err-new-clause-names
+returns-in_err-new-clause-names g c = λ told lands. may_same _

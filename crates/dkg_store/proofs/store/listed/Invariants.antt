@@ -1,5 +1,4 @@
 use Rattle.std.proofs.Common.{◌≡◌, ◌++◌, map}
-use Rattle.std.specs.FinMap as map_of
 use Rattle.dkg_store.specs.Recorded.{restored_of, restored_list}
 use Rattle.dkg_store.proofs.store.listed.Given as goal
 

@@ -16,6 +16,7 @@ use Rattle.dkg_store.proofs.Opened.{barred, kept_on}
 use Rattle.dkg_store.specs.declared.call.StoreError.TheVariants.{Corrupt}
 use Rattle.dkg_store.proofs.Corrupt.{journal_corrupt, same_error}
 use Rattle.dkg_store.proofs.Fit.{barred_unbroken}
+use Rattle.dkg_store.proofs.Named.{bar_names, open_names, opened_names}
 use Rattle.dkg_store.proofs.store.open_journal.Goals as goal
 
 pub returns-in_err-perform-clause-images : goal.returns-in_err-perform-clause-images
@@ -107,3 +108,26 @@ returns-in_err-open-clause-sound g c = λ whole. c.open.ensures.sound (barred_un
 
 pub returns-clause-sound : goal.returns-clause-sound
 returns-clause-sound g c = λ whole. c.open.ensures.sound (barred_unbroken _ _ c.perform.ensures.crash whole)
+
+pub returns-in_err-perform-clause-names : goal.returns-in_err-perform-clause-names
+returns-in_err-perform-clause-names g c = λ told. bar_names _ _ c.perform.ensures.crash
+
+pub returns-in_err-open-clause-names : goal.returns-in_err-open-clause-names
+returns-in_err-open-clause-names g c = λ told.
+    let did = c.in_ok-perform.ensures.done told in
+    open_names _ _ _ _ _ _ (g.met.D.Disk.reads _ told) c.perform.ensures.crash (c.open.ensures.tried told (record { only = λ f in_image. did.durable f in_image ∙ sym did.reads }))
+
+pub returns-clause-names : goal.returns-clause-names
+returns-clause-names g c = λ told.
+    let did = c.in_ok-perform.ensures.done told in
+    open_names _ _ _ _ _ _ (g.met.D.Disk.reads _ told) c.perform.ensures.crash (c.open.ensures.tried told (record { only = λ f in_image. did.durable f in_image ∙ sym did.reads }))
+
+pub returns-clause-settled_names : goal.returns-clause-settled_names
+returns-clause-settled_names g c = λ told.
+    let did = c.in_ok-perform.ensures.done told in
+    opened_names _ _ _ _ _ _ did.reads (c.in_ok-open.ensures.done told (record { only = λ f in_image. did.durable f in_image ∙ sym did.reads }))
+
+pub returns-clause-lands : goal.returns-clause-lands
+returns-clause-lands g c = λ told.
+    let did = c.in_ok-perform.ensures.done told in
+    (c.in_ok-open.ensures.done told (record { only = λ f in_image. did.durable f in_image ∙ sym did.reads })).settled

@@ -11,6 +11,7 @@ use Rattle.dkg_store.proofs.Acting.{made_alike}
 use Rattle.dkg_store.proofs.Noted.{dealing_notes}
 use Rattle.dkg_store.proofs.Pairs.{puts_hold, done_holds}
 use Rattle.dkg_store.proofs.Map.{remove_insert, keys_total, exact_keys}
+use Rattle.dkg_store.proofs.Named.{may_same}
 use Rattle.dkg_store.proofs.store.record_dealing.Goals as goal
 
 pub returns-in-Err-clause-kept : goal.returns-in-Err-clause-kept
@@ -57,3 +58,6 @@ returns-in-Err-clause-fit g c = λ told limit is fit. c.put_and_append.ensures.f
 
 pub returns-clause-fit : goal.returns-clause-fit
 returns-clause-fit g c = λ told limit is fit. c.put_and_append.ensures.fit told limit (ap (is_event limit) (c.deref.ensures.value ∙ c.requires.ready.body) ∙ is) fit
+
+pub returns-in_err-insert-clause-names : goal.returns-in_err-insert-clause-names
+returns-in_err-insert-clause-names g c = λ told lands. may_same _

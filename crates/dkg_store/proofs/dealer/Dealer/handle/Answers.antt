@@ -1,4 +1,4 @@
-use Rattle.std.proofs.Common.{◌≡◌, inl, inr, true, false, is_some, Err, sym, ap, subst, ◌∙◌}
+use Rattle.std.proofs.Common.{inl, inr, ◌||◌, Bool, not, true, false, is_some, Err, sym, ap, subst, ◌∙◌}
 use Rattle.std.specs.Cmp.{nat_cmp_total}
 use Rattle.std.specs.FinMap as map
 use Rattle.dkg_store.specs.Dealer.{AckMap, IsDealerOf}
@@ -12,6 +12,9 @@ use Rattle.dkg_store.proofs.Acting.{breaks_off}
 use Rattle.dkg_store.proofs.Appended.{is_none}
 use Rattle.dkg_store.proofs.Dealing.{counts_one}
 use Rattle.dkg_store.proofs.Map.{remove_insert}
+use Rattle.dkg_journal.specs.Disk.{Follows}
+use Rattle.dkg_store.specs.Named.{Named}
+use Rattle.dkg_store.proofs.Named.{may_same, known_names}
 use Rattle.dkg_store.proofs.dealer.Dealer.handle.Goals as goal
 
 pub returns-in-Ok-true-clause-dealer : goal.returns-in-Ok-true-clause-dealer
@@ -55,3 +58,29 @@ returns-in-Err-clause-memory g c = λ is.
       | inl same ↦ inl (ap (λ (m : AckMap). record c.args.self.now { acks = m }) (returns-in-Err-clause-uncounted g c), same.0, same.1)
       | inr rose ↦ inr rose
     ]
+
+pub returns-in_err-check-clause-names : goal.returns-in_err-check-clause-names
+returns-in_err-check-clause-names g c = λ told lands. may_same _
+
+pub returns-then-is_some-clause-names : goal.returns-then-is_some-clause-names
+returns-then-is_some-clause-names g c = λ told lands. may_same _
+
+pub returns-then-is_some-clause-named : goal.returns-then-is_some-clause-named
+returns-then-is_some-clause-named g c = λ told.
+    known_names (is_some (map.get c.args.self.now.acks c.args.player) || map.contains_key c.args.store.now.acks (c.args.epoch, c.args.player)) _
+    (ap (λ (b : Bool). b || map.contains_key c.args.store.now.acks (c.args.epoch, c.args.player)) (ap is_some (sym c.kept_ack.ensures) ∙ sym c.is_some.ensures ∙ c.if-is_some.true))
+
+pub returns-in_err-keep_ack-clause-names : goal.returns-in_err-keep_ack-clause-names
+returns-in_err-keep_ack-clause-names g c = λ told lands. may_same _
+
+pub returns-in-Ok-true-clause-named : goal.returns-in-Ok-true-clause-named
+returns-in-Ok-true-clause-named g c = λ told.
+    subst (λ (b : Bool). Follows (Named b) (g.D.Disk.image c.args.devices.now.disk.now) (g.D.Disk.image c.append_ack.new.devices.disk.now))
+    (c.in-Ok-true.ensures.known ∙ ap (λ (b : Bool). not (b || map.contains_key c.args.store.now.acks (c.args.epoch, c.args.player))) (sym (ap is_some (sym c.kept_ack.ensures) ∙ sym c.is_some.ensures ∙ c.if-is_some.false)))
+    (c.in-Ok-true.ensures.named told)
+
+pub returns-in-Ok-false-clause-named : goal.returns-in-Ok-false-clause-named
+returns-in-Ok-false-clause-named g c = λ told.
+    subst (λ (b : Bool). Follows (Named b) (g.D.Disk.image c.args.devices.now.disk.now) (g.D.Disk.image c.append_ack.new.devices.disk.now))
+    (c.in-Ok-false.ensures.known ∙ ap (λ (b : Bool). not (b || map.contains_key c.args.store.now.acks (c.args.epoch, c.args.player))) (sym (ap is_some (sym c.kept_ack.ensures) ∙ sym c.is_some.ensures ∙ c.if-is_some.false)))
+    (c.in-Ok-false.ensures.named told)

@@ -1,5 +1,4 @@
-use Rattle.std.proofs.Common.{◌≡◌, ℕ, Bool, true, false, IsSome, subst, sym, refl, ◌∙◌}
-use Rattle.std.specs.FinMap as map
+use Rattle.std.proofs.Common.{◌≡◌, Bool, true, false, IsSome, subst, sym, refl, ◌∙◌}
 use Rattle.dkg_store.proofs.Map.{view_get, none_below, none_there, pair_orders, keys_total, exact_keys}
 use Rattle.dkg_store.proofs.pair_map.PairMap.first_below.Goals as goal
 

@@ -1,4 +1,4 @@
-use Rattle.std.proofs.Common.{◌≡◌, ap, sym, ◌∙◌}
+use Rattle.std.proofs.Common.{ap, ◌∙◌}
 use Rattle.std.specs.FinMap as map
 use Rattle.dkg_store.specs.Keys.{key_cmp}
 use Rattle.dkg_store.proofs.Map.{view_insert, keys_total, exact_keys}

@@ -1,16 +1,18 @@
-use Rattle.std.proofs.Common.{◌≡◌, ℕ, List, None, ap, sym, subst, ◌∙◌}
+use Rattle.std.proofs.Common.{◌≡◌, ℕ, List, ap, sym, subst, ◌∙◌}
 use Rattle.std.specs.Ordering.{nat_cmp}
 use Rattle.std.specs.FinMap as map
 use Rattle.dkg_store.specs.Pairs.{Pairs}
-use Rattle.dkg_store.specs.Recorded.{first_refused, of_epoch}
+use Rattle.dkg_store.specs.Recorded.{AreChecked, at_epoch, first_refused, of_epoch}
 use Rattle.dkg_store.specs.Player.{IsPlayerOf, Acknowledges}
 use Rattle.std.proofs.lemmas.Result.{err_from_is_err_and}
 use Rattle.dkg_store.specs.Errors.{IsOfDevices}
 use Rattle.dkg_store.proofs.Acts.{made_none_said}
 use Rattle.dkg_store.proofs.Answering.{answered_broken}
 use Rattle.dkg_store.proofs.Both.{none_ran}
+use Rattle.dkg_store.proofs.Own.{new_kept, first_checked}
 use Rattle.dkg_store.proofs.Passing.{one_more_passes}
 use Rattle.dkg_store.proofs.Playing.{new, one_more, dealt}
+use Rattle.dkg_store.proofs.Named.{may_same}
 use Rattle.dkg_store.proofs.player.Player.accept.Goals as goal
 
 pub returns-in-Err-clause-calls : goal.returns-in-Err-clause-calls
@@ -45,3 +47,21 @@ returns-clause-passes g c = λ none.
     let check = g.C.Ceremony.dealing_of c.args.self.now.round c.args.self.now.me in
     ap (λ (m : Pairs). first_refused check (of_epoch c.args.epoch m)) c.in_ok-keep_dealing.ensures.pairs
     ∙ one_more_passes check c.args.epoch (c.args.epoch, c.args.dealer) (c.args.public, c.args.private) c.args.store.now.dealings (sym c.in_default.ensures) none
+
+pub returns-in-Err-clause-names : goal.returns-in-Err-clause-names
+returns-in-Err-clause-names g c = λ told lands. may_same _
+
+pub returns-in_err-ack-clause-names : goal.returns-in_err-ack-clause-names
+returns-in_err-ack-clause-names g c = λ told lands. may_same _
+
+pub returns-clause-mirrors : goal.returns-clause-mirrors
+returns-clause-mirrors g c = λ e.
+    ap (λ (m : map.FinMap nat_cmp (List ℕ × ℕ)). map.entries m) c.in_ok-keep_dealing.ensures.kept
+    ∙ new_kept c.args.epoch c.args.store.now.dealings c.args.self.now.dealings c.args.dealer (c.args.public, c.args.private) c.in_ok-keep_dealing.ensures.fits c.requires.unrecorded e
+    ∙ sym (ap (λ (m : Pairs). at_epoch c.args.epoch m) c.in_ok-keep_dealing.ensures.pairs)
+
+pub returns-clause-own_passes : goal.returns-clause-own_passes
+returns-clause-own_passes g c = λ all.
+    let check = g.C.Ceremony.dealing_of c.args.self.now.round c.args.self.now.me in
+    subst (λ (m : map.FinMap nat_cmp (List ℕ × ℕ)). AreChecked check m) (sym c.in_ok-keep_dealing.ensures.kept)
+    (first_checked check c.args.self.now.dealings c.args.dealer (c.args.public, c.args.private) (sym c.in_default.ensures) all)

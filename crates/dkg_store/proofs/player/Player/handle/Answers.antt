@@ -1,4 +1,4 @@
-use Rattle.std.proofs.Common.{ℕ, List, ap, sym, subst, ◌∙◌}
+use Rattle.std.proofs.Common.{ℕ, List, is_some, ap, sym, subst, ◌∙◌}
 use Rattle.std.specs.Ordering.{nat_cmp}
 use Rattle.std.specs.FinMap as map
 use Rattle.dkg_journal.specs.Journals.{has_file}
@@ -6,6 +6,7 @@ use Rattle.dkg_store.specs.Player.{IsPlayerOf}
 use Rattle.dkg_store.proofs.Answering.{answered_known}
 use Rattle.dkg_store.proofs.Both.{none_ran}
 use Rattle.dkg_store.proofs.Playing.{known, where_some, not_none, stored, one_more}
+use Rattle.dkg_store.proofs.Named.{may_same, known_names}
 use Rattle.dkg_store.proofs.player.Player.handle.Goals as goal
 
 pub returns-in-Some-clause-checked : goal.returns-in-Some-clause-checked
@@ -37,3 +38,18 @@ pub returns-in-Some-clause-acts : goal.returns-in-Some-clause-acts
 returns-in-Some-clause-acts g c = λ told_disk told_secrets is.
     let was = is.kept c.args.dealer c.in-Some.ack (sym c.in-Some.ensures) in
     answered_known (g.C.Ceremony.ack_of c.args.self.now.me c.args.self.now.round c.args.dealer) (map.get c.args.store.now.dealings (c.args.epoch, c.args.dealer)) was.pair (g.C.Ceremony.dealing_of c.args.self.now.round c.args.self.now.me c.args.dealer c.args.public c.args.private) (has_file c.args.store.now.journal) c.args.epoch c.args.dealer c.args.public c.args.private c.in-Some.ack was.recorded was.is
+
+pub returns-in-Some-clause-names : goal.returns-in-Some-clause-names
+returns-in-Some-clause-names g c = λ told lands. may_same _
+
+pub returns-in-Some-clause-named : goal.returns-in-Some-clause-named
+returns-in-Some-clause-named g c = λ told is. known_names (is_some (map.get c.args.store.now.dealings (c.args.epoch, c.args.dealer))) _ (known g.C.Ceremony.ack_of c.args.self.now.me c.args.self.now.round c.args.self.now.acks c.args.store.now.dealings c.args.epoch c.args.dealer c.in-Some.ack is (sym c.in-Some.ensures))
+
+pub returns-in_err-acknowledge-clause-names : goal.returns-in_err-acknowledge-clause-names
+returns-in_err-acknowledge-clause-names g c = λ told lands. may_same _
+
+pub returns-in-Some-dealing-clause-names : goal.returns-in-Some-dealing-clause-names
+returns-in-Some-dealing-clause-names g c = λ told lands. may_same _
+
+pub returns-in-Some-dealing-clause-named : goal.returns-in-Some-dealing-clause-named
+returns-in-Some-dealing-clause-named g c = λ told is. known_names (is_some (map.get c.args.store.now.dealings (c.args.epoch, c.args.dealer))) _ (ap is_some (sym c.in-Some-dealing.ensures))

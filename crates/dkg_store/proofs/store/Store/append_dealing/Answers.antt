@@ -9,6 +9,7 @@ use Rattle.dkg_store.specs.Errors.{IsOfDevices}
 use Rattle.dkg_store.proofs.Acts.{made_next, made_nothing}
 use Rattle.dkg_store.proofs.Acting.{then_broken, ended_broken}
 use Rattle.dkg_store.proofs.Both.{none_ran}
+use Rattle.dkg_store.proofs.Named.{may_same}
 use Rattle.dkg_store.proofs.store.Store.append_dealing.Goals as goal
 
 pub returns-in_err-ready-clause-calls : goal.returns-in_err-ready-clause-calls
@@ -32,3 +33,9 @@ returns-clause-acts g c = λ told_disk told_secrets out.
     let unknown : map.contains_key c.args.self.now.dealings (c.args.epoch, c.args.dealer) ≡ false = ap is_some (sym c.get.ensures) ∙ not_copied c.get.result (sym c.is_some.ensures ∙ c.if-is_some.false) in
     subst (λ (known : Bool). MadeAt (recording known (has_file c.args.self.now.journal) c.args.epoch c.args.dealer c.args.public c.args.private) (went true) (g.D.Disk.files c.args.devices.now.disk.now) (g.D.Disk.image c.args.devices.now.disk.now) (g.D.Disk.files c.record_dealing.new.devices.disk.now) (g.D.Disk.image c.record_dealing.new.devices.disk.now) (moment out (g.X.SecretStore.held c.args.devices.now.secrets.now) c.args.devices.now.fuse) (moment out (g.X.SecretStore.held c.record_dealing.new.devices.secrets.now) c.record_dealing.new.devices.fuse)) (sym unknown)
     (made_next (λ u. Goes true) (c.in_ok-record_dealing.ensures.acts told_disk told_secrets out) (made_nothing _ _ _ refl))
+
+pub returns-then-is_some-clause-names : goal.returns-then-is_some-clause-names
+returns-then-is_some-clause-names g c = λ told lands. may_same _
+
+pub returns-in_err-ready-clause-names : goal.returns-in_err-ready-clause-names
+returns-in_err-ready-clause-names g c = λ told lands. may_same _

@@ -1,17 +1,16 @@
-use Rattle.std.proofs.Common.{◌≡◌, Bool, false, ℕ, List, Option, sym, ap, subst, ◌∙◌}
-use Rattle.std.specs.FinMap as map
+use Rattle.std.proofs.Common.{Bool, ℕ, List, sym, ap, subst, ◌∙◌}
 use Rattle.std.proofs.lemmas.Result.{err_from_is_err_and}
-use Rattle.dkg_ceremony.specs.declared.dealer_log.DealerLog.{DealerLog}
 use Rattle.dkg_store.specs.declared.event.Event.TheVariants as events
 use Rattle.dkg_store.specs.Errors.{IsOfDevices}
-use Rattle.dkg_store.specs.Noted.{Note, Notes, Gives, noted, noted_ack, noted_log}
-use Rattle.dkg_store.specs.Pairs.{Dealing, dealing_of}
+use Rattle.dkg_store.specs.Noted.{Gives, noted, noted_ack, noted_log}
+use Rattle.dkg_store.specs.Pairs.{dealing_of}
 use Rattle.dkg_store.proofs.Acts.{made_none}
 use Rattle.dkg_store.proofs.Acting.{ended_broken}
 use Rattle.dkg_store.proofs.Appended.{unknown, none_there, noting_broken, noting_done}
 use Rattle.dkg_store.proofs.Noted.{says_ack, says_log, gives_added, gives_either, gives_still}
 use Rattle.dkg_store.proofs.Silent.{says_dealing, silent_holds}
 use Rattle.dkg_store.specs.Events.{is_event}
+use Rattle.dkg_store.proofs.Named.{may_same}
 use Rattle.dkg_store.proofs.store.Store.append_log.Goals as goal
 
 pub returns-in_err-append_event-clause-images : goal.returns-in_err-append_event-clause-images
@@ -83,3 +82,9 @@ returns-in_err-append_event-clause-fit g c = λ told limit is fit. c.append_even
 
 pub returns-clause-fit : goal.returns-clause-fit
 returns-clause-fit g c = λ told limit is fit. c.append_event.ensures.fit told limit (ap (is_event limit) (c.deref.ensures.value ∙ c.in_ok-body.ensures) ∙ is) fit
+
+pub returns-then-is_some-clause-names : goal.returns-then-is_some-clause-names
+returns-then-is_some-clause-names g c = λ told lands. may_same _
+
+pub returns-in_err-body-clause-names : goal.returns-in_err-body-clause-names
+returns-in_err-body-clause-names g c = λ told lands. may_same _
