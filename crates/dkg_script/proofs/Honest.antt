@@ -1,6 +1,6 @@
 -- The premises of the promise hold of the stored run, in each case of what the plan may have held: so what the calls promise of
 -- it stands. And they hold of the scripts whose writes are cut, wherever the cuts fall.
-use Rattle.std.proofs.Common.{List, [], ◌∷◌, ◌≡◌, refl, Option, Some, None, lit<, lit≤, sym, subst}
+use Rattle.std.proofs.Common.{List, [], ◌∷◌, refl, Option, Some, None, lit<, lit≤, sym, subst}
 use Rattle.std.specs.FinMap.{get-empty}
 use Rattle.dkg_values.specs.Bytes.{byte_at}
 use Rattle.dkg_values.specs.Codec.{many_at}
@@ -30,7 +30,7 @@ use Rattle.dkg_script.proofs.CutWrites.{at_install, at_gate}
 use Rattle.dkg_script.proofs.Worked.{script_of, genesis, setting, files_of, secrets_of, flat, OnlyThese, nothing_there}
 
 -- BLOCK 0 is of today's form
-genesis_of_today : (lives : List Life) → IsBlockOfToday (script_of 8 (lit< tt) (genesis ∷ []) lives) genesis
+pub genesis_of_today : (lives : List Life) → IsBlockOfToday (script_of 8 (lit< tt) (genesis ∷ []) lives) genesis
 unfolding payload_after carried_at parts_at held_at outcome_after mode_at byte_at many_at keys_at groups_at
 genesis_of_today lives = (lit< tt, refl)
 
@@ -53,7 +53,7 @@ two_is_built = record {
 built_in : (plans : List (Option Material)) → IsBuilt (with_plans (setting two) plans)
 built_in plans = record { form = two_is_built.form; no_plan = two_is_built.no_plan; no_segment = two_is_built.no_segment }
 
-consistent_in : (plans : List (Option Material)) (ends : List (Option CutAt)) → IsPlanHistory (with_plans (setting two) plans) ends → IsConsistentScript (with_plans (setting two) plans) ends
+pub consistent_in : (plans : List (Option Material)) (ends : List (Option CutAt)) → IsPlanHistory (with_plans (setting two) plans) ends → IsConsistentScript (with_plans (setting two) plans) ends
 unfolding used info_in payload_after carried_at parts_at held_at outcome_after mode_at byte_at many_at keys_at groups_at
 consistent_in plans ends history = record {
   one_chain = (refl, (refl, tt));

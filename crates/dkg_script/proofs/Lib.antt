@@ -28,5 +28,6 @@ pub mod Survives
 pub mod Today
 pub mod Trials
 pub mod TwoEpochs
+pub mod ValidScripts
 pub mod Worked
 pub mod WrongBodies

@@ -1,6 +1,6 @@
 -- A body that runs past a cut at call 0: it is refused, and what is presumed of the script doesn't depend on it. And the run that
 -- heeds the cut.
-use Rattle.std.proofs.Common.{ℕ, ◌+◌, ◌<◌, ◌≤◌, List, [], ◌∷◌, ◌++◌, ◌≡◌, refl, Option, Some, None, inl, inr, lit<, lit≤, arith, subst, ap, length}
+use Rattle.std.proofs.Common.{ℕ, ◌+◌, ◌<◌, ◌≤◌, List, [], ◌∷◌, ◌++◌, ◌≡◌, refl, Some, None, inl, inr, lit<, lit≤, arith, subst, ap, length}
 use Rattle.std.specs.Prelude.{fold}
 use Rattle.dkg_types.specs.declared.entry.Entry.{Entry}
 use Rattle.dkg_types.specs.declared.entry.Entry.TheVariants.{Opened, Committed, Registered, Setup, Entered, Acked, Ack, Cut, Step, Fault}

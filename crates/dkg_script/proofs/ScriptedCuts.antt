@@ -1,6 +1,6 @@
 -- A transcript in order tells no ends of lives but those that the script lets them have. So what is presumed of a script holds of
 -- the ends that any transcript in order tells.
-use Rattle.std.proofs.Common.{ℕ, zero, suc, ◌<◌, ◌≤◌, ◌⊎◌, inl, inr, List, [], ◌∷◌, ◌++◌, ◌≡◌, refl, Option, Some, None, Bool, true, false, length, arith}
+use Rattle.std.proofs.Common.{ℕ, zero, suc, ◌<◌, ◌⊎◌, inl, inr, List, [], ◌∷◌, ◌++◌, ◌≡◌, refl, Option, Some, None, Bool, true, false, length, arith}
 use Rattle.std.specs.Prelude.{fold, cond, slice_get, IsSomeAnd, IfSome, ◌==◌}
 use Rattle.std.specs.Option.{option_map_or}
 use Rattle.std.proofs.lemmas.Bool.{eqb-true}
@@ -11,7 +11,7 @@ use Rattle.dkg_journal.specs.Names.{Files}
 use Rattle.dkg_script.specs.declared.script.Life.{Life}
 use Rattle.dkg_script.specs.Setting.{Setting, CutAt, life_at}
 use Rattle.dkg_script.specs.Progress.{Progress, read, at_start, progress, is_last_step, with_life_ended}
-use Rattle.dkg_script.specs.Consistent.{IsConsistentScript, MayEnd, MayEndSo, MayMiss}
+use Rattle.dkg_script.specs.Consistent.{IsConsistentScript, MayEnd, MayEndSo}
 use Rattle.dkg_script.specs.Order.{IsInOrder, InOrder, IsOrderedStep, IsOrderedCut}
 use Rattle.dkg_script.specs.Laws.{EndsAsScripted}
 use Rattle.dkg_script.specs.Promise.{IsHonestRun, InEachCase, cuts_in}

@@ -1,5 +1,5 @@
 -- Scripts of the form of today: no life leaves epoch 0 or awaits a block above its midpoint.
-use Rattle.std.proofs.Common.{◌≡◌, ℕ, zero, suc, ◌+◌, ◌<◌, ◌≤◌, ◌/◌, List, [], ◌∷◌, ◌++◌, Option, Some, None, Bool, true, false, cond, refl, ap, subst, sym, ◌∙◌, arith, length, take, lit<}
+use Rattle.std.proofs.Common.{◌≡◌, ℕ, zero, suc, ◌+◌, ◌<◌, ◌≤◌, ◌/◌, List, [], ◌∷◌, Option, Some, None, Bool, true, false, cond, refl, ap, subst, ◌∙◌, arith, length, take, lit<}
 use Rattle.std.specs.Prelude.{filter_map, fold, max, slice_get, option_and_then, unwrap_or, ◌-◌, ◌==◌, IfSome, IsSomeAnd}
 use Rattle.std.specs.List.{AllByRecursion, cons_option}
 use Rattle.std.specs.Option.{option_map_or, option_or}
@@ -15,7 +15,7 @@ use Rattle.dkg_script.specs.Form.{IsAnchorOfToday, IsEarly, IsEventOfToday, IsLi
 use Rattle.dkg_script.specs.Promise.{IsBuilt}
 use Rattle.dkg_script.specs.Readings.{Material, material_in}
 use Rattle.dkg_script.specs.Setting.{Setting, CutAt, limits, blocks_per_epoch, is_oneshot, life_at, found}
-use Rattle.dkg_script.specs.Blocks.{Block, block_at, block_of, delivered_number, events_come_to, provided}
+use Rattle.dkg_script.specs.Blocks.{Block, block_at, delivered_number, events_come_to, provided}
 use Rattle.dkg_script.specs.Position.{IsPlanHistory, awaited_height, awaited_epoch, awaited_before, awaited_epoch_in, begun, delivered, start_height, last_awaited, greatest_below, material, unless_outdated, height_after_anchor, height_of_floor, cut_of, events_taken}
 use Rattle.dkg_script.proofs.LineBlocks.{of_line}
 use Rattle.dkg_script.proofs.Plain.{IsPlain, finds_none}

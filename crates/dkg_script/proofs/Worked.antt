@@ -123,7 +123,7 @@ pub entries_are : (bytes : List ℕ) → entries (files_of (Some bytes)) ≡ ent
 entries_are bytes = ap (λ o. entries_with o (files_of (Some bytes))) (flat_in bytes)
 
 -- nothing is there at first
-no_pairs : {K X : Type 0} (R : K → K → Ordering) → pairs_in (empty {X = X} {R = R}) ≡ []
+pub no_pairs : {K X : Type 0} (R : K → K → Ordering) → pairs_in (empty {X = X} {R = R}) ≡ []
 no_pairs {K} {X} R =
     let none : pairs_in (from_sorted {X = X} {R = R} []) ≡ [] = entries-from_sorted R [] tt in
     let same : from_sorted {X = X} {R = R} [] ≡ empty = empty_of_len (from_sorted []) (len-entries (from_sorted []) ∙ ap length none) in

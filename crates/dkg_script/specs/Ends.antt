@@ -61,11 +61,6 @@ HasRisen Disk disk_rose secrets_rose = disk_rose
 HasRisen Secrets disk_rose secrets_rose = secrets_rose
 HasRisen fault disk_rose secrets_rose = IsFaultOfToday fault
 
--- the entries have no fault, or end in one that has its cause
-abbrev pub EndsByCause : List Entry → (disk_rose secrets_rose : Type 0) → Type 0
-EndsByCause entries disk_rose secrets_rose =
-    EndsWell entries ⊎ ((fault : Fault) × EndsInFault entries fault × HasRisen fault disk_rose secrets_rose)
-
 -- The entries of lives that this fault ended. (Want of memory has no entry.)
 abbrev pub EndsFaulted : Fault → List Entry → (disk_rose secrets_rose : Type 0) → Type 0
 EndsFaulted NoMemory entries disk_rose secrets_rose = EndsWell entries

@@ -18,5 +18,6 @@ pub mod Readings
 pub mod Scripts
 pub mod Setting
 pub mod Starts
+pub mod Valid
 pub mod Words
 pub use Rattle.dkg_ceremony.specs.Schedule
