@@ -1,6 +1,6 @@
 -- The round of epoch 0 in a script of today's form, of which a life has begun: that of block 0's info.
 use Rattle.std.proofs.Common.{◌≡◌, ℕ, List, ◌==◌, Option, Some, None, Bool, true, false, cond, arith, refl, sym, ap, subst, ◌∙◌, take, filter_map}
-use Rattle.std.specs.Prelude.{option_and_then, option_map, slice_get, IfSome}
+use Rattle.std.specs.Prelude.{option_and_then, slice_get, IfSome}
 use Rattle.std.specs.List.{AllByRecursion}
 use Rattle.std.proofs.lemmas.Bool.Decides.{nat_tests}
 use Rattle.dkg_ceremony.specs.declared.mode.Mode.{Mode}
@@ -10,9 +10,8 @@ use Rattle.dkg_types.specs.declared.info.EpochInfo.{EpochInfo}
 use Rattle.dkg_script.specs.declared.script.BlockLine.{BlockLine}
 use Rattle.dkg_script.specs.declared.script.Life.{Life}
 use Rattle.dkg_script.specs.Readings.{Info, Limits, info_in}
-use Rattle.dkg_script.specs.Schedule.{boundary}
-use Rattle.dkg_script.specs.Setting.{Setting, blocks_per_epoch, life_at, limits}
-use Rattle.dkg_script.specs.Blocks.{Block, block_at, block_of, blocks, carried_infos, info_at_boundary, known_info, reshare_round, round_at, used}
+use Rattle.dkg_script.specs.Setting.{Setting, life_at, limits}
+use Rattle.dkg_script.specs.Blocks.{Block, block_at, block_of, blocks, info_at_boundary, known_info, reshare_round, round_at, used}
 use Rattle.dkg_script.proofs.LineBlocks.{of_line}
 use Rattle.dkg_run.specs.Carried.{IsTodays}
 use Rattle.dkg_run.specs.Opened.{AreOfScript, info_of, limits_of, round_by, round_in, spelled_info}

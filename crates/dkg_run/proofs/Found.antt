@@ -42,8 +42,9 @@ use Rattle.dkg_script.specs.Ends.{EndsWell}
 use Rattle.dkg_script.specs.Progress.{Progress}
 use Rattle.dkg_script.specs.Promise.{Adds}
 use Rattle.dkg_script.specs.Setting.{Setting, recovered_from}
+use Rattle.dkg_script.specs.Valid.{participants_in}
 use Rattle.dkg_script.specs.declared.script.Script.{Script}
-use Rattle.dkg_run.specs.Found.{AreFound, BlamesNoRecord, GiveBack, IsFound, IsFoundEntry, Reader, Shows, made_by, participants_in, reader, reader_in, reader_of, tried_by}
+use Rattle.dkg_run.specs.Found.{AreFound, BlamesNoRecord, GiveBack, IsFound, IsFoundEntry, Reader, Shows, made_by, reader, reader_in, reader_of, tried_by}
 use Rattle.dkg_run.specs.Opened.{AreOfScript, spelled_info}
 use Rattle.dkg_run.specs.Standing.{Moves, TellsFault}
 use Rattle.dkg_run.specs.Stops.{IsByDevice, stop_of}
@@ -207,7 +208,7 @@ tried_first namespace mode info i is first = rw (is, first) refl
 -- BY THE SCRIPT
 
 module _ (script : Script) (b : Beginning) (of_script : AreOfScript script b.me (non_zero_u32_get b.limit) b.mode b.namespace b.info) (plain : script.addressed ≡ false) where
-  same_reader : reader_of b ≡ reader_in script
+  pub same_reader : reader_of b ≡ reader_in script
   same_reader = λ j. reader (of_script.limit_is j) (of_script.me_is j) (of_script.namespace_is j) (of_script.mode_is j) (of_script.info_is plain j)
 
   pub script_found : (files : Files) (held : Secrets) (stop : Stop) → IsFound (reader_of b) files held stop → IsFound (reader_in script) files held stop

@@ -29,7 +29,7 @@ each_map s E F (x ∷ xs) p leads each = (leads p x each.0, each_map s E F xs (r
 
 module _ (script : Script) (files : Files) (held_old : Secrets) (image : Files → Type 0) (old new : List Entry) where
   -- (the script is consistent where none of its lives has ended)
-  today : IsBuilt (setting_of script files held_old) → IsHonestRun (setting_of script files held_old) image → IsTodays (setting_of script files held_old)
+  pub today : IsBuilt (setting_of script files held_old) → IsHonestRun (setting_of script files held_old) image → IsTodays (setting_of script files held_old)
   today built honest = record {
     built = built;
     no_plans = refl;

@@ -1,6 +1,7 @@
 pub mod Awaiting
 pub mod Began
 pub mod Carried
+pub mod Completed
 pub mod Empty
 pub mod Ended
 pub mod FirstRound
@@ -8,12 +9,14 @@ pub mod Fitting
 pub mod Found
 pub mod Fresh
 pub mod InPlace
+pub mod Indexed
 pub mod Judged
 pub mod Keeping
 pub mod Life
 pub mod Logs
 pub mod MadeBlocks
 pub mod Marks
+pub mod Passing
 pub mod Places
 pub mod Recorded
 pub mod Refused

@@ -14,7 +14,6 @@ use Rattle.dkg_types.specs.BlockCodes.{IsBlock, block_bytes, context_bytes, flag
 use Rattle.dkg_types.specs.PayloadCodes.{payload_spelling}
 use Rattle.dkg_types.specs.Units.{unit_spelling}
 use Rattle.dkg_types.specs.declared.block.Block as made
-use Rattle.dkg_types.specs.declared.block.Context.{Context}
 use Rattle.dkg_types.specs.declared.directory.Unit as directory
 use Rattle.dkg_types.specs.declared.payload.Payload.{Payload}
 use Rattle.dkg_script.specs.declared.script.BlockLine.{BlockLine}

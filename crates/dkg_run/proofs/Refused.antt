@@ -33,6 +33,7 @@ use Rattle.dkg_run.specs.declared.tip.Tip.{Tip}
 use Rattle.dkg_run.proofs.Awaiting.{IsReached, comes_to}
 use Rattle.dkg_run.proofs.Keeping.{from}
 use Rattle.dkg_run.proofs.Life.{life_from}
+use Rattle.dkg_run.proofs.Stops.{device_refuses}
 use Rattle.dkg_run.proofs.Used.{of_delivered}
 
 -- A BLOCK OF THE CHAIN is refused by a tip of it only for its height
@@ -110,13 +111,6 @@ only_skips s (Some tip) b fault on_chain there is = by_conflict s tip b on_chain
 memory_refuses : (stop : Stop) → stop ≡ Faulted NoMemory → IsRefusal stop → ⊥
 memory_refuses stop is refusal = rw is at refusal
 
-pub device_refuses : (stop : Stop) (disk_rose secrets_rose : Type 0) → IsByDevice stop disk_rose secrets_rose → IsRefusal stop → ⊥
-device_refuses Cut disk_rose secrets_rose is refusal = refusal
-device_refuses (Faulted (ConflictingBlock height)) disk_rose secrets_rose is refusal = is
-device_refuses (Faulted (DetachedBlock height)) disk_rose secrets_rose is refusal = is
-device_refuses (Faulted (SkippedHeight low got)) disk_rose secrets_rose is refusal = is
-device_refuses (Faulted _) disk_rose secrets_rose is refusal = refusal
-
 -- how an event's step refuses
 abbrev pub RefusedSo : Event → List (made.Block directory.Unit) → Option Tip → Stop → Type 0
 RefusedSo event blocks tip stop =
@@ -144,6 +138,7 @@ module _ (s : Setting) (l : ℕ) (life : Life) (blocks : List (made.Block direct
         number = number;
         block = b;
         event_is = is;
+        reached = reached;
         block_is = there;
         stop_is = rw (back, ← height) (ap (λ (f : Fault). Faulted f) skips.0);
         above = rw (back, ← height) skips.1;
@@ -195,11 +190,6 @@ memory_blames_none fault is refusal = memory_refuses (Faulted fault) (ap (λ (f 
 pub same_accepts : (stop other : Stop) → (other ≡ stop) ⊎ (other ≡ Faulted NoMemory) → (IsRefusal stop → ⊥) → IsRefusal other → ⊥
 same_accepts stop other (inl same) accepts refusal = accepts (rw same at refusal)
 same_accepts stop other (inr memory) accepts refusal = memory_refuses other memory refusal
-
-pub same_then : (stop mid other : Stop) → (mid ≡ stop) ⊎ (mid ≡ Faulted NoMemory) → (other ≡ mid) ⊎ (other ≡ Faulted NoMemory) → (other ≡ stop) ⊎ (other ≡ Faulted NoMemory)
-same_then stop mid other (inl a) (inl b) = inl (b ∙ a)
-same_then stop mid other (inr a) (inl b) = inr (b ∙ a)
-same_then stop mid other a (inr b) = inr b
 
 -- a life of the script
 pub run_skips : (script : Script) (life : Life) (l : ℕ) (beginning : Beginning) (life_is : slice_get script.lives l ≡ Some life) (begins : IsBeginningOf script beginning) (image : Files → Type 0) (held : Secrets)

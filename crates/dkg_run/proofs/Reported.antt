@@ -1,18 +1,26 @@
 -- How a run ends as its status says, by what running its lives answered, and how that status is told.
-use Rattle.std.proofs.Common.{ℕ, List, [], ◌++◌, ◌≡◌, ◌≢◌, ◌⊎◌, ◌∙◌, refl, sym, subst, inl, inr, length, drop}
-use Rattle.std.proofs.lemmas.List.{append_cancel_left}
+use Rattle.std.proofs.Common.{ℕ, List, [], ◌∷◌, ◌++◌, ◌+◌, ◌<◌, ◌≤◌, ◌≡◌, ◌≢◌, ◌⊎◌, ◌∙◌, Bool, true, false, ◌||◌, Option, Some, None, refl, sym, ap, subst, inl, inr, length, drop, arith}
+use Rattle.std.proofs.lemmas.List.{append_cancel_left, length-append}
 use Rattle.std.proofs.Math.Seq.{drop-append_seam}
 use Rattle.dkg_types.specs.declared.entry.Entry.{Entry}
 use Rattle.dkg_types.specs.declared.fault.Fault.{Fault}
 use Rattle.dkg_types.specs.declared.fault.Fault.TheVariants.{NoMemory, Disk, Secrets}
 use Rattle.dkg_script.specs.declared.script.Script.{Script}
-use Rattle.dkg_script.specs.Ends.{EndsByDevice, EndsFaulted}
+use Rattle.dkg_script.specs.Ends.{EndsByDevice, EndsFaulted, EndsInFault, EndsWell, has_fault, is_fault}
 use Rattle.dkg_script.specs.Promise.{Adds}
 use Rattle.dkg_script.specs.Printing.{lines_of}
+use Rattle.dkg_script.specs.Scripts.{script_of}
 use Rattle.dkg_run.specs.Command.{IsTold}
-use Rattle.dkg_run.specs.Reports.{Ends, Ran, RanNothing, Runs, fault_status, last_of}
+use Rattle.dkg_run.specs.Outside.{TookMore}
+use Rattle.dkg_run.specs.Reports.{Ends, EndsAs, Ran, RanNothing, Runs, fault_status, last_of}
+use Rattle.std.specs.List.{AllByRecursion}
+use Rattle.dkg_types.specs.declared.entry.Entry.TheVariants as entry
+use Rattle.dkg_script.specs.Setting.{Setting}
+use Rattle.dkg_journal.specs.Names.{Files}
+use Rattle.dkg_run.specs.Refusals.{BlamesOnlySkips, IsSkipEntry, TellOnlySkips}
 use Rattle.dkg_run.specs.declared.command.Status.{Status}
 use Rattle.dkg_run.specs.declared.command.Status.TheVariants as status
+use Rattle.dkg_run.proofs.Places.{all_of_both}
 
 -- what was added to a list is the one thing
 pub at_added : (old new added : List Entry) (P : List Entry → Type 0) → new ≡ old ++ added → Adds old new P → P added
@@ -26,7 +34,7 @@ from_place old new added place at is = rw (at, is) (drop-append_seam old added)
 
 pub ends_faulted : (fault : Fault) (entries : List Entry) (disk_rose secrets_rose : Type 0) → EndsFaulted fault entries disk_rose secrets_rose
     → Ends (fault_status fault) entries disk_rose secrets_rose
-ends_faulted NoMemory entries disk_rose secrets_rose ends = inl ends
+ends_faulted NoMemory entries disk_rose secrets_rose ends = ends
 ends_faulted Disk entries disk_rose secrets_rose ends = inl ends
 ends_faulted Secrets entries disk_rose secrets_rose ends = inr ends
 ends_faulted _ entries disk_rose secrets_rose ends = (ends.1, ends.0)
@@ -35,6 +43,23 @@ pub runs_faulted : (fault : Fault) (entries : List Entry) (Gave : List ℕ → T
     → Runs (fault_status fault) Gave Untouched Kept Answered entries
 runs_faulted NoMemory entries Gave Untouched Kept Answered ran = inr ran
 runs_faulted _ entries Gave Untouched Kept Answered ran = ran
+
+-- WHAT IT TELLS OF BLOCKS
+
+module _ (s : Setting) (image : Files → Type 0) where
+  well_skips : (es : List Entry) → EndsWell es → AllByRecursion (IsSkipEntry s image) es
+  well_skips [] well = tt
+  well_skips (entry.Fault its ∷ es) well = absurd (let h : true ≡ false = well in cc)
+  well_skips (_ ∷ es) well = (tt, well_skips es well)
+
+  pub none_skips : (entries : List Entry) → EndsWell entries → TellOnlySkips s image entries
+  none_skips entries well = record { each = well_skips entries well }
+
+  -- the fault that is told is the one that ended the run
+  pub fault_skips : (fault : Fault) (entries : List Entry) (disk_rose secrets_rose : Type 0) → EndsFaulted fault entries disk_rose secrets_rose → BlamesOnlySkips s image fault → TellOnlySkips s image entries
+  fault_skips NoMemory entries disk_rose secrets_rose ends blames = none_skips entries ends
+  fault_skips fault entries disk_rose secrets_rose ends blames =
+      rw ends.0.last (record { each = all_of_both (IsSkipEntry s image) ends.0.before (entry.Fault fault ∷ []) (well_skips ends.0.before ends.0.only) (blames, tt) })
 
 -- HOW A STATUS IS TOLD
 
@@ -65,3 +90,61 @@ device_rose ended entries disk_rose secrets_rose is ends = rose (subst (λ (x : 
     rose : EndsByDevice entries disk_rose secrets_rose → disk_rose ⊎ secrets_rose
     rose (inl its) = inl its.1
     rose (inr its) = inr its.1
+
+-- A SOUND RUN
+
+-- want of memory is no entry
+pub ends_in_none : (fault : Fault) (entries : List Entry) (disk_rose secrets_rose : Type 0) → EndsFaulted fault entries disk_rose secrets_rose → fault ≡ NoMemory → EndsWell entries
+ends_in_none fault entries disk_rose secrets_rose ends is = subst (λ (its : Fault). EndsFaulted its entries disk_rose secrets_rose) is ends
+
+one_fault : (before : List Entry) (fault : Fault) → has_fault (before ++ entry.Fault fault ∷ []) ≡ true
+one_fault [] fault = refl
+one_fault (x ∷ before) fault = rw (one_fault before fault) (either (is_fault x))
+  where
+    either : (b : Bool) → (b || true) ≡ true
+    either true = refl
+    either false = refl
+
+not_well : (entries : List Entry) (fault : Fault) → EndsInFault entries fault → EndsWell entries → ⊥
+not_well entries fault ends well = let told : has_fault entries ≡ true = ap (λ (es : List Entry). has_fault es) ends.last ∙ one_fault ends.before fault in let e : true ≡ false = sym told ∙ well in cc
+
+some_same : {A : Type 0} (x y : A) (o : Option A) → o ≡ Some x → o ≡ Some y → x ≡ y
+some_same x y o one other = let e : Some x ≡ Some y = sym one ∙ other in cc
+
+some_none : {A : Type 0} (x : A) (o : Option A) → o ≡ Some x → o ≡ None → ⊥
+some_none x o some none = let e : Some x ≡ None = sym some ∙ none in cc
+
+module _ (script : Script) (entries : List Entry) (disk_rose secrets_rose : Type 0) (Gave : List ℕ → Type 0) (Untouched : Type 0) (Kept Answered : Script → List Entry → Type 0)
+    (spells : (bytes : List ℕ) → Gave bytes → script_of bytes ≡ Some script) (ends_well : Kept script entries → EndsWell entries) where
+  ran_well : Ran Gave Kept entries → EndsWell entries
+  ran_well ran = ends_well (subst (λ (its : Script). Kept its entries) (some_same ran.script script (script_of ran.bytes) ran.spells (spells ran.bytes ran.gave)) ran.kept)
+
+  by_status : (ended : Status) → EndsAs disk_rose secrets_rose Gave Untouched Kept Answered ended entries → (ended ≡ status.ReadFault → ⊥) → (ended ≡ status.TooLong → ⊥) → (ended ≡ status.Done) ⊎ (ended ≡ status.NoMemory)
+  by_status status.Done its not_failed not_long = inl refl
+  by_status status.NoMemory its not_failed not_long = inr refl
+  by_status status.Usage its not_failed not_long = absurd its.ends
+  by_status status.WriteFault its not_failed not_long = absurd its.ends
+  by_status status.ReadFault its not_failed not_long = absurd (not_failed refl)
+  by_status status.TooLong its not_failed not_long = absurd (not_long refl)
+  by_status status.Unsupported its not_failed not_long = absurd (some_none script (script_of its.runs.bytes) (spells its.runs.bytes its.runs.gave) its.runs.no_script)
+  by_status (status.Fault fault) its not_failed not_long = absurd (not_well entries fault its.ends.1 (ran_well its.runs))
+  by_status status.Device its not_failed not_long = absurd (by_device its.ends (ran_well its.runs))
+    where
+      by_device : EndsByDevice entries disk_rose secrets_rose → EndsWell entries → ⊥
+      by_device (inl disk) well = not_well entries Disk disk.0 well
+      by_device (inr secrets) well = not_well entries Secrets secrets.0 well
+
+  -- Where the source gave the text of a script whose entries end in no fault, and no outside failed, every life was run, or memory ran out.
+  pub done_or_memory : (ended result : Status) (text : List ℕ) (Tells : Type 0) (old new : List ℕ) → EndsAs disk_rose secrets_rose Gave Untouched Kept Answered ended entries → IsTold ended result text Tells old new
+      → (result ≡ status.ReadFault → ⊥) → (result ≡ status.TooLong → ⊥) → (result ≡ status.WriteFault → ⊥) → (result ≡ status.Done) ⊎ (result ≡ status.NoMemory)
+  done_or_memory ended result text Tells old new its (inl told) not_failed not_long not_write =
+      let by : (ended ≡ status.Done) ⊎ (ended ≡ status.NoMemory) = by_status ended its (λ e. not_failed (told.0 ∙ e)) (λ e. not_long (told.0 ∙ e)) in rw told.0 by
+  done_or_memory ended result text Tells old new its (inr (inl told)) not_failed not_long not_write = absurd (not_write told.0)
+  done_or_memory ended result text Tells old new its (inr (inr told)) not_failed not_long not_write = inr told.0
+
+-- what has so many bytes at most gives no more
+pub not_more : (most : ℕ) (old new : List ℕ) → TookMore most old new → length old ≤ most → ⊥
+not_more most old new took short = apart (length old) (length took.bytes) (length new) (ap length took.parts ∙ length-append took.bytes new) took.more short
+  where
+    apart : (all front rest : ℕ) → all ≡ front + rest → most < front → all ≤ most → ⊥
+    apart all front rest parts more short = omega arith

@@ -1,5 +1,5 @@
 -- What the devices carry through the step of a message, by how the node answers it.
-use Rattle.std.proofs.Common.{ℕ, zero, suc, ◌<◌, ◌≤◌, ◌-◌, List, [], ◌∷◌, ◌++◌, ◌≡◌, ◌≢◌, refl, sym, ap, subst, ◌∙◌, ◌⊎◌, inl, inr, Option, Some, None, Result, Ok, Err, Bool, true, false, cond, length, arith, append_assoc}
+use Rattle.std.proofs.Common.{ℕ, zero, suc, ◌<◌, ◌-◌, List, [], ◌∷◌, ◌++◌, ◌≡◌, ◌≢◌, refl, sym, ap, subst, ◌∙◌, ◌⊎◌, inl, inr, Option, Some, None, Result, Ok, Err, Bool, true, false, cond, length, arith, append_assoc}
 use Rattle.std.specs.Prelude.{fold, nat_lt, slice_get, IfSome, IsOkAnd, ⊤, IsSomeAnd, IsSome, IsFalse, ◌==◌, ◌&&◌, ◌||◌}
 use Rattle.std.specs.FinMap.{get, insert}
 use Rattle.std.specs.List.{AllByRecursion, list_any}

@@ -1,11 +1,14 @@
--- The causes of stops.
+-- The causes of stops, and those that blame no block.
 use Rattle.std.proofs.Common.{ℕ, ◌<◌, ◌≤◌, ◌≡◌, ◌⊎◌, Bool, true, false, inl, inr, refl, arith, nat_lt}
 use Rattle.std.proofs.lemmas.Bool.Decides.{nat_tests}
 use Rattle.dkg_journal.specs.Disk.{Rose}
 use Rattle.dkg_types.specs.declared.fault.Fault.{Fault}
-use Rattle.dkg_types.specs.declared.fault.Fault.TheVariants.{NoMemory, Disk, Secrets}
+use Rattle.dkg_types.specs.declared.fault.Fault.TheVariants.{ConflictingBlock, DetachedBlock, NoMemory, Disk, Secrets, SkippedHeight}
+use Rattle.dkg_store.specs.declared.call.StoreError.{StoreError}
+use Rattle.dkg_store.specs.declared.call.StoreError.TheVariants as store
 use Rattle.dkg_script.specs.Ends.{HasRisen}
-use Rattle.dkg_run.specs.Stops.{IsCaused}
+use Rattle.dkg_run.specs.Refusals.{IsRefusal}
+use Rattle.dkg_run.specs.Stops.{IsByDevice, IsCaused, stop_of}
 use Rattle.dkg_run.specs.declared.stop.Stop.{Stop}
 use Rattle.dkg_run.specs.declared.stop.Stop.TheVariants.{Cut, Faulted}
 
@@ -52,3 +55,23 @@ caused_later stop a b c x y z ab bc xy yz caused = caused_wider stop (Rose b c) 
 pub told_cause : (its : Fault) (P Q : Type 0) → IsCaused (Faulted its) P Q → (its ≡ NoMemory → ⊥) → HasRisen its P Q
 told_cause its P Q (inl is) not = absurd (not is)
 told_cause its P Q (inr risen) not = risen
+
+-- STOPS THAT BLAME NO BLOCK
+
+pub device_refuses : (stop : Stop) (disk_rose secrets_rose : Type 0) → IsByDevice stop disk_rose secrets_rose → IsRefusal stop → ⊥
+device_refuses Cut disk_rose secrets_rose is refusal = refusal
+device_refuses (Faulted (ConflictingBlock height)) disk_rose secrets_rose is refusal = is
+device_refuses (Faulted (DetachedBlock height)) disk_rose secrets_rose is refusal = is
+device_refuses (Faulted (SkippedHeight low got)) disk_rose secrets_rose is refusal = is
+device_refuses (Faulted _) disk_rose secrets_rose is refusal = refusal
+
+-- an error of a store
+pub store_accepts : (e : StoreError) → IsRefusal (stop_of e) → ⊥
+store_accepts store.Disk refusal = refusal
+store_accepts store.Secrets refusal = refusal
+store_accepts (store.Corrupt name place) refusal = refusal
+store_accepts (store.LocalState cause) refusal = refusal
+store_accepts (store.StateSyncEpochs info floor) refusal = refusal
+store_accepts store.StateSyncMaterial refusal = refusal
+store_accepts store.Cut refusal = refusal
+store_accepts store.NoMemory refusal = refusal

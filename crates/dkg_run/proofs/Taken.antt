@@ -1,5 +1,5 @@
 -- A delivered block in the terms of its step.
-use Rattle.std.proofs.Common.{◌≡◌, ℕ, ◌⊎◌, List, [], ◌∷◌, ◌++◌, Option, Result, Ok, Err, inl, inr}
+use Rattle.std.proofs.Common.{◌≡◌, List, [], ◌∷◌, ◌++◌, Option, Result, Ok, Err}
 use Rattle.std.specs.Prelude.{IsOkAnd, OnErr, OnOk}
 use Rattle.dkg_store.specs.Pairs.{Pairs}
 use Rattle.dkg_types.specs.declared.block.Block.{Block}

@@ -1,10 +1,9 @@
 -- The blocks that the lives of a script use: block 0, those of anchors and those that are delivered.
-use Rattle.std.proofs.Common.{◌≡◌, ℕ, zero, suc, ◌==◌, List, [], ◌∷◌, ◌++◌, Option, Some, None, Bool, true, false, cond, arith, refl, sym, ap, subst, ◌∙◌, filter_map, find, flat_map}
+use Rattle.std.proofs.Common.{◌≡◌, ℕ, ◌==◌, List, [], ◌∷◌, ◌++◌, Option, Some, None, Bool, true, false, cond, arith, refl, subst, filter_map, flat_map}
 use Rattle.std.specs.Prelude.{option_map, option_to_list, slice_get, IfSome}
 use Rattle.std.specs.List.{AllByRecursion, cons_option}
 use Rattle.std.proofs.lemmas.Bool.Decides.{nat_tests}
 use Rattle.dkg_script.specs.declared.script.Anchor.{Anchor}
-use Rattle.dkg_script.specs.declared.script.Event.{Event}
 use Rattle.dkg_script.specs.declared.script.Event.TheVariants.{Final}
 use Rattle.dkg_script.specs.declared.script.Life.{Life}
 use Rattle.dkg_script.specs.Blocks.{Block, anchor_number, block_at, chain, chain_in, delivered_number, events_come_to, held_at_opening, used, used_in}

@@ -1,5 +1,5 @@
 -- What the devices carry of the recorded dealings: between two lives, within a life, and where a life stops.
-use Rattle.std.specs.Prelude.{ℕ, suc, ◌-◌, ◌≡◌, ◌⊎◌, List, [], ◌∷◌, ◌++◌, Option, Some, None, Result, Ok, Err, MatchOption, IfSome, IsFalse, IsSomeAnd}
+use Rattle.std.specs.Prelude.{ℕ, suc, ◌≡◌, ◌⊎◌, List, [], ◌∷◌, ◌++◌, Option, Some, None, Result, Ok, Err, MatchOption, IfSome, IsFalse, IsSomeAnd}
 use Rattle.std.specs.List.{AllByRecursion}
 use Rattle.dkg_journal.specs.Disk.{Lands}
 use Rattle.dkg_journal.specs.Names.{Files}

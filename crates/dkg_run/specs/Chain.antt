@@ -1,6 +1,5 @@
 -- The blocks that a script's lines name, the blocks that a life's source holds, and where a node stands among them.
-use Rattle.std.specs.Prelude.{ℕ, suc, ◌+◌, ◌-◌, ◌<◌, ◌≡◌, ◌⊎◌, List, [], ◌∷◌, ◌++◌, Option, Some, None, option_map, option_and_then, slice_get, length, filter_map, IfSome, IsSomeAnd, Bool, true, false, not, ◌&&◌, ◌==◌, nat_lt, if◌then◌else◌, Result, Ok, Err}
-use Rattle.std.specs.FinMap.{FinMap, get}
+use Rattle.std.specs.Prelude.{ℕ, ◌+◌, ◌-◌, ◌<◌, ◌≡◌, List, [], ◌∷◌, ◌++◌, Option, Some, None, option_and_then, slice_get, length, IfSome, IsSomeAnd, Bool, true, false, not, ◌&&◌, ◌==◌, nat_lt, if◌then◌else◌, Result, Ok, Err}
 use Rattle.std.specs.Str.{bytes_eq}
 use Rattle.dkg_types.specs.declared.block.Block as made
 use Rattle.dkg_types.specs.declared.directory.Unit as directory
@@ -14,7 +13,7 @@ use Rattle.dkg_script.specs.declared.script.Event.{Event}
 use Rattle.dkg_script.specs.declared.script.Event.TheVariants.{Peer, Final}
 use Rattle.dkg_script.specs.declared.script.Life.{Life}
 use Rattle.dkg_script.specs.declared.script.Script.{Script}
-use Rattle.dkg_script.specs.Blocks.{Block, anchor_number, block_at, chain_in, digest_of, zeros}
+use Rattle.dkg_script.specs.Blocks.{Block, anchor_number, block_at, digest_of, zeros}
 use Rattle.dkg_script.specs.Schedule.{epoch_of}
 use Rattle.dkg_script.specs.Setting.{Setting}
 use Rattle.dkg_run.specs.declared.tip.Judged.{Judged}

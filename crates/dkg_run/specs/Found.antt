@@ -20,7 +20,6 @@ use Rattle.dkg_types.specs.declared.fault.ParticipantsCause.{ParticipantsCause}
 use Rattle.dkg_types.specs.declared.fault.ParticipantsCause.TheVariants as cause
 use Rattle.dkg_types.specs.declared.fault.ParticipantsCause.TheVariants.{Refused}
 use Rattle.dkg_types.specs.declared.info.EpochInfo.{EpochInfo}
-use Rattle.dkg_types.specs.declared.participants.Participants.{Participants}
 use Rattle.dkg_journal.specs.Names.{Files}
 use Rattle.dkg_store.specs.Corrupt.{IsCorruptAt}
 use Rattle.dkg_store.specs.Pairs.{Pairs}
@@ -29,6 +28,7 @@ use Rattle.dkg_store.specs.Secrets.{Secrets}
 use Rattle.dkg_script.specs.declared.script.Script.{Script}
 use Rattle.dkg_script.specs.Readings.{Info}
 use Rattle.dkg_script.specs.Setting.{recovered_from}
+use Rattle.dkg_script.specs.Valid.{participants_in}
 use Rattle.dkg_run.specs.Opened.{first_info, spelled_info}
 use Rattle.dkg_run.specs.declared.beginning.Beginning.{Beginning}
 use Rattle.dkg_run.specs.declared.stop.Stop.{Stop}
@@ -78,9 +78,6 @@ pub record IsFirstRefused (reader : Reader) (pairs : Pairs) (epoch dealer : ℕ)
 abbrev pub IsLocalFound : Reader → Pairs → LocalCause → Type 0
 IsLocalFound reader pairs (StoredDealing epoch dealer) = IsFirstRefused reader pairs epoch dealer
 IsLocalFound reader pairs _ = ⊤
-
-abbrev pub participants_in : Info → Participants
-participants_in i = record { dealers = i.output.players; players = i.players; next_players = i.next_players }
 
 -- The info of the first epoch is refused as its participants are judged, or makes no round, for this reason.
 abbrev pub IsRefusal : Reader → ParticipantsCause → Type 0

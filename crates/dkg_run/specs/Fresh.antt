@@ -8,10 +8,11 @@ use Rattle.dkg_store.specs.Secrets.{Secrets}
 use Rattle.dkg_script.specs.declared.script.Script.{Script}
 use Rattle.dkg_script.specs.Promise.{AreHonestStores}
 use Rattle.dkg_script.specs.Setting.{setting_of}
+use Rattle.dkg_run.specs.Complete.{AreValidDevices}
 
--- The premise of the promise on devices holds, whatever the script: they are whole with nothing loose, and there is no plan and no
--- segment.
+-- The premises on devices hold, whatever the script: they are whole with nothing loose and valid, and there is no plan and no segment.
 pub record AreFresh (files : Files) (image : Files → Type 0) (held : Secrets) : Type 0 where
   pub honest : (script : Script) → AreHonestStores (setting_of script files held) image
+  pub valid : (script : Script) → AreValidDevices (setting_of script files held) image
   pub no_plan : get files Plan ≡ None
   pub no_segment : IsFormOfToday files

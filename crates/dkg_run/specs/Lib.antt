@@ -1,12 +1,14 @@
 pub mod Carried
 pub mod Chain
 pub mod Command
+pub mod Complete
 pub mod Devices
 pub mod Firsts
 pub mod Found
 pub mod Fresh
 pub mod Opened
 pub mod Outside
+pub mod Passing
 pub mod Refusals
 pub mod Reports
 pub mod Standing

@@ -1,6 +1,9 @@
 -- Where a life stops at a block that is refused.
-use Rattle.std.specs.Prelude.{ℕ, ◌-◌, ◌<◌, ◌≡◌, ⊤, Some}
+use Rattle.std.specs.Prelude.{ℕ, ◌-◌, ◌<◌, ◌≡◌, ⊤, List, Some}
+use Rattle.std.specs.List.{AllByRecursion}
 use Rattle.dkg_journal.specs.Names.{Files}
+use Rattle.dkg_types.specs.declared.entry.Entry.{Entry}
+use Rattle.dkg_types.specs.declared.entry.Entry.TheVariants as entry
 use Rattle.dkg_types.specs.declared.fault.Fault.{Fault}
 use Rattle.dkg_types.specs.declared.fault.Fault.TheVariants.{ConflictingBlock, DetachedBlock, SkippedHeight}
 use Rattle.dkg_script.specs.declared.script.Event.TheVariants.{Final}
@@ -10,8 +13,9 @@ use Rattle.dkg_script.specs.Position.{awaited_height, event_of_step}
 use Rattle.dkg_script.specs.Progress.{Progress}
 use Rattle.dkg_script.specs.Promise.{IsBuilt, IsHonestRun}
 use Rattle.dkg_script.specs.Setting.{Setting, life_at}
+use Rattle.dkg_script.specs.Valid.{IsReached}
 use Rattle.dkg_run.specs.declared.stop.Stop.{Stop}
-use Rattle.dkg_run.specs.declared.stop.Stop.TheVariants.{Cut, Faulted}
+use Rattle.dkg_run.specs.declared.stop.Stop.TheVariants.{Faulted}
 
 -- the stop blames a delivered block
 abbrev pub IsRefusal : Stop → Type 0
@@ -20,12 +24,13 @@ IsRefusal (Faulted (DetachedBlock height)) = ⊤
 IsRefusal (Faulted (SkippedHeight awaited got)) = ⊤
 IsRefusal _ = ⊥
 
--- The block that a step of the life delivers stands above the height that is awaited before that step, and the stop says so.
+-- The block that a step delivers to which the life comes stands above the height that is awaited before that step, and the stop says so.
 pub record SkipsIn (s : Setting) (l : ℕ) (life : Life) (stop : Stop) : Type 0 where
   pub step : ℕ
   pub number : ℕ
   pub block : Block
   pub event_is : event_of_step life step ≡ Some (Final number)
+  pub reached : IsReached life.cut step
   pub block_is : block_at s number ≡ Some block
   pub stop_is : stop ≡ Faulted (SkippedHeight (awaited_height s l life (step - 1)) block.height)
   pub above : awaited_height s l life (step - 1) < block.height
@@ -48,3 +53,12 @@ RunRefusesOnlySkips P stop = (s : Setting) (p : Progress) → P s p → IsRefusa
 -- where the premises of the promise hold
 abbrev pub BlamesOnlySkips : Setting → (image : Files → Type 0) → Fault → Type 0
 BlamesOnlySkips s image fault = IsBuilt s → IsHonestRun s image → IsRefusal (Faulted fault) → SkipsSomewhere s (Faulted fault)
+
+-- .. where a fault is told
+abbrev pub IsSkipEntry : Setting → (image : Files → Type 0) → Entry → Type 0
+IsSkipEntry s image (entry.Fault its) = BlamesOnlySkips s image its
+IsSkipEntry s image _ = ⊤
+
+-- .. each fault that these entries tell
+pub record TellOnlySkips (s : Setting) (image : Files → Type 0) (entries : List Entry) : Type 0 where
+  pub each : AllByRecursion (IsSkipEntry s image) entries

@@ -6,13 +6,15 @@ use Rattle.dkg_types.specs.declared.entry.Entry.{Entry}
 use Rattle.dkg_types.specs.declared.fault.Fault.{Fault}
 use Rattle.dkg_types.specs.declared.fault.Fault.TheVariants as fault
 use Rattle.dkg_script.specs.declared.script.Script.{Script}
-use Rattle.dkg_script.specs.Ends.{EndsWell, EndsInFault, EndsByCause, EndsByDevice, IsNodeFault}
+use Rattle.dkg_script.specs.Ends.{EndsWell, EndsInFault, EndsByDevice, IsNodeFault}
 use Rattle.dkg_script.specs.Form.{IsFormOfToday}
 use Rattle.dkg_script.specs.Promise.{RunsInOrder, RunsAll, KeepsDealings, AnswersDealings}
 use Rattle.dkg_script.specs.Scripts.{script_of}
 use Rattle.dkg_script.specs.Setting.{setting_of}
+use Rattle.dkg_run.specs.Complete.{Completes}
 use Rattle.dkg_run.specs.Found.{AreFound, reader_in}
 use Rattle.dkg_run.specs.Outside.{TookAll}
+use Rattle.dkg_run.specs.Refusals.{TellOnlySkips}
 use Rattle.dkg_run.specs.declared.command.Status.{Status}
 use Rattle.dkg_run.specs.declared.command.Status.TheVariants as status
 
@@ -49,7 +51,7 @@ abbrev pub Ends : Status → List Entry → (disk_rose secrets_rose : Type 0) �
 Ends status.Done entries disk_rose secrets_rose = EndsWell entries
 Ends (status.Fault fault) entries disk_rose secrets_rose = IsNodeFault fault × EndsInFault entries fault
 Ends status.Device entries disk_rose secrets_rose = EndsByDevice entries disk_rose secrets_rose
-Ends status.NoMemory entries disk_rose secrets_rose = EndsByCause entries disk_rose secrets_rose
+Ends status.NoMemory entries disk_rose secrets_rose = EndsWell entries
 Ends status.Unsupported entries disk_rose secrets_rose = entries ≡ []
 Ends status.ReadFault entries disk_rose secrets_rose = entries ≡ []
 Ends status.TooLong entries disk_rose secrets_rose = entries ≡ []
@@ -75,9 +77,18 @@ Answers Tells files secrets image script entries = Tells → AnswersDealings (se
 abbrev pub Finds : (Tells : Type 0) → Files → Secrets → Script → List Entry → Type 0
 Finds Tells files held script entries = Tells → AreFound (reader_in script) files held entries
 
+-- .. and a block that it blames skips a height, where the stores are honest and the script is consistent
+abbrev pub Skips : (Tells : Type 0) → Files → Secrets → (image : Files → Type 0) → Script → List Entry → Type 0
+Skips Tells files secrets image script entries = Tells → TellOnlySkips (setting_of script files secrets) image entries
+
 abbrev pub KeepsAndFinds : (Tells : Type 0) → Files → Secrets → (image : Files → Type 0) → (files_now : Files) → (now : Files → Type 0) → (held : Secrets) → Script → List Entry → Type 0
 KeepsAndFinds Tells files secrets image files_now now held script entries =
-    Keeps Tells files secrets image now held script entries × Finds Tells files_now held script entries
+    Keeps Tells files secrets image now held script entries × Finds Tells files_now held script entries × Skips Tells files secrets image script entries
+
+-- .. and no fault ends the entries of a valid script over valid devices
+abbrev pub KeepsAndCompletes : (Tells : Type 0) → Files → Secrets → (image : Files → Type 0) → (files_now : Files) → (now : Files → Type 0) → (held : Secrets) → (disk_rose secrets_rose : Type 0) → Script → List Entry → Type 0
+KeepsAndCompletes Tells files secrets image files_now now held disk_rose secrets_rose script entries =
+    KeepsAndFinds Tells files secrets image files_now now held script entries × Completes Tells files secrets image disk_rose secrets_rose script entries
 
 -- A script was read, and it was run. (`Gave` says that the source gave these bytes to its end; `Kept` says what a run keeps.)
 pub record Ran (Gave : List ℕ → Type 0) (Kept : Script → List Entry → Type 0) (entries : List Entry) : Type 0 where

@@ -1,12 +1,15 @@
 //! The top call: it reads a script, runs its lives, and writes their transcript.
-ghost use Rattle.std.specs.Prelude.{◌≡◌, ◌≢◌, ◌↔◌, ◌⊎◌, ◌++◌, [], ◌∷◌, map, codes, string_bytes, IsTrue, IfOk, drop};
+ghost use Rattle.std.specs.Prelude.{◌≡◌, ◌≢◌, ◌↔◌, ◌⊎◌, ◌≤◌, ◌++◌, [], ◌∷◌, map, codes, string_bytes, length, Some, IsTrue, IfOk, drop};
 ghost use Rattle.dkg_journal.specs.Disk.{Rose};
 ghost use Rattle.dkg_script.specs.Printing.{lines_of};
 ghost use Rattle.dkg_script.specs.Promise.{Adds};
+ghost use Rattle.dkg_script.specs.Scripts.{script_of};
+ghost use Rattle.dkg_script.specs.declared.script.Script.{Script};
 ghost use Rattle.dkg_run.specs.Command.{IsTold};
+ghost use Rattle.dkg_run.specs.Complete.{IsSoundRun};
 ghost use Rattle.dkg_run.specs.Devices.{IsToday};
 ghost use Rattle.dkg_run.specs.Outside.{TookFew, TookMore};
-ghost use Rattle.dkg_run.specs.Reports.{Answers, EndsAs, KeepsAndFinds, Reads, fault_status, last_of, number_of};
+ghost use Rattle.dkg_run.specs.Reports.{Answers, EndsAs, KeepsAndCompletes, Reads, fault_status, last_of, number_of};
 
 use crate::lives::run_lives;
 use crate::sink::Sink;
@@ -113,7 +116,7 @@ fn run<S: Source, D: Disk, X: SecretStore>(
     ensures read_fault { result ≡ Status.ReadFault → Rose (S.faults source.old) (S.faults source.new) }
     ensures too_long { result ≡ Status.TooLong → IsTrue S.tells → TookMore 16777216 (S.left source.old) (S.left source.new) }
     ensures few { result ≡ Status.ReadFault → IsTrue S.tells → TookFew 16777216 (S.left source.old) (S.left source.new) }
-    ensures ends { Adds out.old.entries out.new.entries (EndsAs (Rose (D.faults disk.old) (D.faults disk.new)) (Rose (X.faults secrets.old) (X.faults secrets.new)) (Reads (IsTrue S.tells) (S.left source.old) (S.left source.new)) ((disk.new ≡ disk.old) × (secrets.new ≡ secrets.old)) (KeepsAndFinds (IsTrue D.tells × IsTrue X.tells) (D.files disk.old) (X.held secrets.old) (D.image disk.old) (D.files disk.new) (D.image disk.new) (X.held secrets.new)) (Answers (IsTrue D.tells × IsTrue X.tells) (D.files disk.old) (X.held secrets.old) (D.image disk.old)) result) }
+    ensures ends { Adds out.old.entries out.new.entries (EndsAs (Rose (D.faults disk.old) (D.faults disk.new)) (Rose (X.faults secrets.old) (X.faults secrets.new)) (Reads (IsTrue S.tells) (S.left source.old) (S.left source.new)) ((disk.new ≡ disk.old) × (secrets.new ≡ secrets.old)) (KeepsAndCompletes (IsTrue D.tells × IsTrue X.tells) (D.files disk.old) (X.held secrets.old) (D.image disk.old) (D.files disk.new) (D.image disk.new) (X.held secrets.new) (Rose (D.faults disk.old) (D.faults disk.new)) (Rose (X.faults secrets.old) (X.faults secrets.new))) (Answers (IsTrue D.tells × IsTrue X.tells) (D.files disk.old) (X.held secrets.old) (D.image disk.old)) result) }
 {
     let bytes = match read_all(alloc, source) {
         Ok(bytes) => bytes,
@@ -182,7 +185,7 @@ pub fn run_command<S: Source, K: Sink, D: Disk, X: SecretStore>(
     ensures only_usage { result ≡ Status.Usage → map string_bytes words.now ≢ codes "run" ∷ [] }
     // However the words `run` end, the new entries, the devices and what was read are as the status says, and the sink took the lines
     // of the entries and the status's last line: all, or a front where a write failed, or nothing where there was no memory for them.
-    ensures run { (map string_bytes words.now ≡ codes "run" ∷ []) → Adds out.old.entries out.new.entries (λ entries. (status : Status) × EndsAs (Rose (D.faults disk.old) (D.faults disk.new)) (Rose (X.faults secrets.old) (X.faults secrets.new)) (Reads (IsTrue S.tells) (S.left source.old) (S.left source.new)) ((disk.new ≡ disk.old) × (secrets.new ≡ secrets.old)) (KeepsAndFinds (IsTrue D.tells × IsTrue X.tells) (D.files disk.old) (X.held secrets.old) (D.image disk.old) (D.files disk.new) (D.image disk.new) (X.held secrets.new)) (Answers (IsTrue D.tells × IsTrue X.tells) (D.files disk.old) (X.held secrets.old) (D.image disk.old)) status entries × IsTold status result (lines_of entries ++ last_of status) (IsTrue K.tells) (K.held sink.old) (K.held sink.new)) }
+    ensures run { (map string_bytes words.now ≡ codes "run" ∷ []) → Adds out.old.entries out.new.entries (λ entries. (status : Status) × EndsAs (Rose (D.faults disk.old) (D.faults disk.new)) (Rose (X.faults secrets.old) (X.faults secrets.new)) (Reads (IsTrue S.tells) (S.left source.old) (S.left source.new)) ((disk.new ≡ disk.old) × (secrets.new ≡ secrets.old)) (KeepsAndCompletes (IsTrue D.tells × IsTrue X.tells) (D.files disk.old) (X.held secrets.old) (D.image disk.old) (D.files disk.new) (D.image disk.new) (X.held secrets.new) (Rose (D.faults disk.old) (D.faults disk.new)) (Rose (X.faults secrets.old) (X.faults secrets.new))) (Answers (IsTrue D.tells × IsTrue X.tells) (D.files disk.old) (X.held secrets.old) (D.image disk.old)) status entries × IsTold status result (lines_of entries ++ last_of status) (IsTrue K.tells) (K.held sink.old) (K.held sink.new)) }
     ensures silent { (result ≡ Status.ReadFault) ⊎ (result ≡ Status.TooLong) → sink.new ≡ sink.old }
     // The causes of what the outside's statuses tell.
     ensures read_fault { result ≡ Status.ReadFault → Rose (S.faults source.old) (S.faults source.new) }
@@ -190,6 +193,9 @@ pub fn run_command<S: Source, K: Sink, D: Disk, X: SecretStore>(
     ensures write_fault { result ≡ Status.WriteFault → Rose (K.faults sink.old) (K.faults sink.new) }
     ensures too_long { result ≡ Status.TooLong → IsTrue S.tells → TookMore 16777216 (S.left source.old) (S.left source.new) }
     ensures few { result ≡ Status.ReadFault → IsTrue S.tells → TookFew 16777216 (S.left source.old) (S.left source.new) }
+    // Where the source holds the text of a valid script, the devices are valid, and no count rises, every life is run, unless memory
+    // runs out.
+    ensures complete { (map string_bytes words.now ≡ codes "run" ∷ []) → IsTrue S.tells → (script : Script) → script_of (S.left source.old) ≡ Some script → length (S.left source.old) ≤ 16777216 → IsSoundRun (IsTrue D.tells × IsTrue X.tells) (D.files disk.old) (X.held secrets.old) (D.image disk.old) (Rose (D.faults disk.old) (D.faults disk.new)) (Rose (X.faults secrets.old) (X.faults secrets.new)) script → (Rose (S.faults source.old) (S.faults source.new) → ⊥) → (Rose (K.faults sink.old) (K.faults sink.new) → ⊥) → (result ≡ Status.Done) ⊎ (result ≡ Status.NoMemory) }
 {
     if !is_run(words) {
         return report(alloc, sink, &[], Status::Usage);

@@ -1,8 +1,8 @@
-//! The numbers of blocks, found by height and by digest.
+//! The numbers of blocks, found by height and by digest in logarithmic time.
 //!
 //! A life's source holds blocks, and asks these for the one at a boundary or of a floor. Of two at one height, or of one digest, the
-//! first that came is found.
-ghost use Rattle.std.specs.Prelude.{◌≡◌, OnOk, OnErr};
+//! first that came is found. Two such blocks are rare, so a number is put in at once, and where there was another, that one is put back.
+ghost use Rattle.std.specs.Prelude.{◌≡◌, IfOk, OnOk, OnErr, None};
 ghost use Rattle.std.specs.FinMap as map;
 ghost use Rattle.dkg_run.specs.Firsts.{with_first};
 
@@ -45,12 +45,14 @@ impl Heights {
         self.numbers.get(&height).copied()
     }
 
-    fn insert(&mut self, height: u64, number: u32) -> Mem<()>
+    /// Puts a number in, and gives back the one that was there.
+    fn insert(&mut self, height: u64, number: u32) -> Mem<Option<u32>>
+        ensures before { IfOk result (λ first. first ≡ map.get self.old height) }
         ensures done { OnOk result (self.new ≡ map.insert self.old height number) }
         ensures kept { OnErr result (self.new ≡ self.old) }
+        ensures absent { OnErr result (map.get self.old height ≡ None) }
     {
-        self.numbers.insert(height, number)?;
-        Ok(())
+        Ok(self.numbers.insert(height, number)?)
     }
 
     /// Keeps a number, unless the height has one.
@@ -58,10 +60,10 @@ impl Heights {
         ensures done { OnOk result (self.new ≡ with_first self.old height number) }
         ensures kept { OnErr result (self.new ≡ self.old) }
     {
-        match self.get(height) {
-            Some(_) => Ok(()),
-            None => self.insert(height, number),
+        if let Some(first) = self.insert(height, number)? {
+            self.insert(height, first)?;
         }
+        Ok(())
     }
 }
 
@@ -100,12 +102,14 @@ impl Digests {
         self.numbers.get(digest).copied()
     }
 
-    fn insert(&mut self, digest: [u8; 32], number: u32) -> Mem<()>
+    /// Puts a number in, and gives back the one that was there.
+    fn insert(&mut self, digest: [u8; 32], number: u32) -> Mem<Option<u32>>
+        ensures before { IfOk result (λ first. first ≡ map.get self.old digest) }
         ensures done { OnOk result (self.new ≡ map.insert self.old digest number) }
         ensures kept { OnErr result (self.new ≡ self.old) }
+        ensures absent { OnErr result (map.get self.old digest ≡ None) }
     {
-        self.numbers.insert(digest, number)?;
-        Ok(())
+        Ok(self.numbers.insert(digest, number)?)
     }
 
     /// Keeps a number, unless the digest has one.
@@ -113,9 +117,9 @@ impl Digests {
         ensures done { OnOk result (self.new ≡ with_first self.old digest number) }
         ensures kept { OnErr result (self.new ≡ self.old) }
     {
-        match self.get(&digest) {
-            Some(_) => Ok(()),
-            None => self.insert(digest, number),
+        if let Some(first) = self.insert(digest, number)? {
+            self.insert(digest, first)?;
         }
+        Ok(())
     }
 }

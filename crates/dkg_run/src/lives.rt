@@ -18,9 +18,11 @@ ghost use Rattle.dkg_script.specs.Order.{IsInOrder};
 ghost use Rattle.dkg_script.specs.Position.{event_of_step};
 ghost use Rattle.dkg_script.specs.Promise.{Adds, RunsInOrder, RunsAll, KeepsDealings, AnswersDealings};
 ghost use Rattle.dkg_script.specs.Setting.{setting_of};
+ghost use Rattle.dkg_run.specs.Complete.{IsValidRun};
 ghost use Rattle.dkg_run.specs.Carried.{CarriesIn, IsCrash, IsDurableAt, IsKeptEntry, IsRefusedBy, IsSaved, OfEvent, Rests, RestsFor, TakesBlock};
 ghost use Rattle.dkg_run.specs.Devices.{IsToday, IsReady, KeepsLogs};
-ghost use Rattle.dkg_run.specs.Found.{AreFound, BlamesNoRecord, IsFound, NamesNoRecord, reader_in, reader_of};
+ghost use Rattle.dkg_run.specs.Found.{AreFound, BlamesNoRecord, IsFound, NamesNoRecord, Reader, reader_in, reader_of};
+ghost use Rattle.dkg_run.specs.Passing.{ArePassing, HoldsPassing};
 ghost use Rattle.dkg_run.specs.Refusals.{BlamesOnlySkips, IsRefusal, RefusesOnlySkips, RunRefusesOnlySkips};
 ghost use Rattle.dkg_run.specs.Stops.{IsCaused};
 ghost use Rattle.dkg_run.specs.Told.{Answers, AreValid, HoldsAtMost, IsSilent, brought_in, seat_in};
@@ -174,30 +176,6 @@ fn stop_of(cut: &Option<Cut>, step: u64, stop: Stop) -> Stop
     }
 }
 
-/// The stop of an opening. (An opening judges no block, so that none is refused; a refusal that came would be told as want of memory.)
-fn accepting(stop: Stop) -> Stop
-    ensures accepts { IsRefusal result → ⊥ }
-    ensures same { (result ≡ stop) ⊎ (result ≡ Stop.Faulted Fault.NoMemory) }
-{
-    match stop {
-        Stop::Faulted(
-            Fault::ConflictingBlock { .. }
-            | Fault::DetachedBlock { .. }
-            | Fault::SkippedHeight { .. },
-        ) => Stop::Faulted(Fault::NoMemory),
-        other => other,
-    }
-}
-
-/// What the stop of an opening means to its life.
-fn opening_stop(cut: &Option<Cut>, stop: Stop) -> Stop
-    ensures cut { result ≡ AtCut → IsCutWithin cut.now 0 }
-    ensures same { (result ≡ stop) ⊎ (result ≡ Stop.Faulted Fault.NoMemory) }
-    ensures accepts { IsRefusal result → ⊥ }
-{
-    stop_of(cut, 0, accepting(stop))
-}
-
 /// Takes the step of an event, where the life is not cut before it, and tells its end.
 fn take_step<D: Disk, X: SecretStore>(
     alloc: Global,
@@ -235,6 +213,8 @@ fn take_step<D: Disk, X: SecretStore>(
     // In a consistent script a block is refused only where it skips a height.
     ensures skips { IfErr result (λ stop. IsTrue D.tells → IsTrue X.tells → (l : ℕ) → RefusesOnlySkips (Both (IsBefore life.now l number) (CarriesIn l (number - 1) blocks.now node.old (D.image devices.old.disk.now) (X.held devices.old.secrets.now))) l life.now stop) }
     ensures fit { IsTrue D.tells → AreFit node.old.limit (D.image devices.old.disk.now) → AreFit node.old.limit (D.image devices.new.disk.now) }
+    ensures passing { IsTrue D.tells → IsTrue X.tells → (reader : Reader) → HoldsPassing reader (seat_in node.old.player) node.old.store.dealings (D.image devices.old.disk.now) (X.held devices.old.secrets.now) → ArePassing reader (D.image devices.new.disk.now) (X.held devices.new.secrets.now) }
+    ensures passes { OnOk result (IsTrue D.tells → IsTrue X.tells → (reader : Reader) → HoldsPassing reader (seat_in node.old.player) node.old.store.dealings (D.image devices.old.disk.now) (X.held devices.old.secrets.now) → HoldsPassing reader (seat_in node.new.player) node.new.store.dealings (D.image devices.new.disk.now) (X.held devices.new.secrets.now)) }
     ensures causes { IfErr result (λ stop. IsCaused stop (Rose (D.faults devices.old.disk.now) (D.faults devices.new.disk.now)) (Rose (X.faults devices.old.secrets.now) (X.faults devices.new.secrets.now))) }
     ensures later_disk { D.faults devices.old.disk.now ≤ D.faults devices.new.disk.now }
     ensures later_secrets { X.faults devices.old.secrets.now ≤ X.faults devices.new.secrets.now }
@@ -273,6 +253,7 @@ fn take_steps<D: Disk, X: SecretStore>(
     // In a consistent script a block is refused only where it skips a height.
     ensures skips { IfErr result (λ stop. IsTrue D.tells → IsTrue X.tells → (l : ℕ) → RefusesOnlySkips (Both (IsBehind life.now l 0) (CarriesIn l 0 blocks.now node.old (D.image devices.old.disk.now) (X.held devices.old.secrets.now))) l life.now stop) }
     ensures fit { IsTrue D.tells → AreFit node.old.limit (D.image devices.old.disk.now) → AreFit node.old.limit (D.image devices.new.disk.now) }
+    ensures passing { IsTrue D.tells → IsTrue X.tells → (reader : Reader) → HoldsPassing reader (seat_in node.old.player) node.old.store.dealings (D.image devices.old.disk.now) (X.held devices.old.secrets.now) → ArePassing reader (D.image devices.new.disk.now) (X.held devices.new.secrets.now) }
     ensures causes { IfErr result (λ stop. IsCaused stop (Rose (D.faults devices.old.disk.now) (D.faults devices.new.disk.now)) (Rose (X.faults devices.old.secrets.now) (X.faults devices.new.secrets.now))) }
     ensures later_disk { D.faults devices.old.disk.now ≤ D.faults devices.new.disk.now }
     ensures later_secrets { X.faults devices.old.secrets.now ≤ X.faults devices.new.secrets.now }
@@ -308,6 +289,8 @@ fn open<D: Disk, X: SecretStore>(
     ensures accepts { IfErr result (λ stop. IsRefusal stop → ⊥) }
     ensures limit { IfOk result (λ node. node.limit ≡ non_zero_u32_get beginning.now.limit) }
     ensures fit { IsTrue D.tells → (most : ℕ) → AreFit most (D.image devices.old.disk.now) → AreFit most (D.image devices.new.disk.now) }
+    ensures passing { IsTrue D.tells → IsTrue X.tells → ArePassing (reader_of beginning.now) (D.image devices.old.disk.now) (X.held devices.old.secrets.now) → ArePassing (reader_of beginning.now) (D.image devices.new.disk.now) (X.held devices.new.secrets.now) }
+    ensures passes { IfOk result (λ node. IsTrue D.tells → IsTrue X.tells → ArePassing (reader_of beginning.now) (D.image devices.old.disk.now) (X.held devices.old.secrets.now) → HoldsPassing (reader_of beginning.now) (seat_in node.player) node.store.dealings (D.image devices.new.disk.now) (X.held devices.new.secrets.now)) }
     ensures causes { IfErr result (λ stop. IsCaused stop (Rose (D.faults devices.old.disk.now) (D.faults devices.new.disk.now)) (Rose (X.faults devices.old.secrets.now) (X.faults devices.new.secrets.now))) }
     ensures later_disk { D.faults devices.old.disk.now ≤ D.faults devices.new.disk.now }
     ensures later_secrets { X.faults devices.old.secrets.now ≤ X.faults devices.new.secrets.now }
@@ -316,7 +299,7 @@ fn open<D: Disk, X: SecretStore>(
     let place = Place::of(alloc, beginning.blocks.as_slice(), life)?;
     let node = match Node::open(alloc, beginning, place, number, life.word, devices, out) {
         Ok(node) => node,
-        Err(stop) => return Err(opening_stop(&life.cut, stop)),
+        Err(stop) => return Err(stop_of(&life.cut, 0, stop)),
     };
     out.push(Entry::Step { step: 0 })?;
     Ok(node)
@@ -343,6 +326,7 @@ fn live<D: Disk, X: SecretStore>(
     ensures found { IfErr result (λ stop. IsTrue D.tells → IsTrue X.tells → IsFound (reader_of beginning.now) (D.files devices.new.disk.now) (X.held devices.new.secrets.now) stop) }
     ensures skips { IfErr result (λ stop. IsTrue D.tells → IsTrue X.tells → RefusesOnlySkips (Both (IsBefore life.now number 0) (RestsFor beginning.now (D.image devices.old.disk.now) (X.held devices.old.secrets.now))) number life.now stop) }
     ensures fit { IsTrue D.tells → AreFit (non_zero_u32_get beginning.now.limit) (D.image devices.old.disk.now) → AreFit (non_zero_u32_get beginning.now.limit) (D.image devices.new.disk.now) }
+    ensures passing { IsTrue D.tells → IsTrue X.tells → ArePassing (reader_of beginning.now) (D.image devices.old.disk.now) (X.held devices.old.secrets.now) → ArePassing (reader_of beginning.now) (D.image devices.new.disk.now) (X.held devices.new.secrets.now) }
     ensures causes { IfErr result (λ stop. IsCaused stop (Rose (D.faults devices.old.disk.now) (D.faults devices.new.disk.now)) (Rose (X.faults devices.old.secrets.now) (X.faults devices.new.secrets.now))) }
     ensures later_disk { D.faults devices.old.disk.now ≤ D.faults devices.new.disk.now }
     ensures later_secrets { X.faults devices.old.secrets.now ≤ X.faults devices.new.secrets.now }
@@ -407,6 +391,7 @@ fn run_life<D: Disk, X: SecretStore>(
     ensures found { IfErr result (λ fault. IsTrue D.tells → IsTrue X.tells → IsFound (reader_of beginning.now) (D.files devices.new.disk.now) (X.held devices.new.secrets.now) (Stop.Faulted fault)) }
     ensures skips { IfErr result (λ fault. IsTrue D.tells → IsTrue X.tells → RefusesOnlySkips (Both (IsBefore life.now number 0) (RestsFor beginning.now (D.image devices.old.disk.now) (X.held devices.old.secrets.now))) number life.now (Stop.Faulted fault)) }
     ensures fit { IsTrue D.tells → AreFit (non_zero_u32_get beginning.now.limit) (D.image devices.old.disk.now) → AreFit (non_zero_u32_get beginning.now.limit) (D.image devices.new.disk.now) }
+    ensures passing { IsTrue D.tells → IsTrue X.tells → ArePassing (reader_of beginning.now) (D.image devices.old.disk.now) (X.held devices.old.secrets.now) → ArePassing (reader_of beginning.now) (D.image devices.new.disk.now) (X.held devices.new.secrets.now) }
     ensures causes { IfErr result (λ fault. IsCaused (Stop.Faulted fault) (Rose (D.faults devices.old.disk.now) (D.faults devices.new.disk.now)) (Rose (X.faults devices.old.secrets.now) (X.faults devices.new.secrets.now))) }
     ensures later_disk { D.faults devices.old.disk.now ≤ D.faults devices.new.disk.now }
     ensures later_secrets { X.faults devices.old.secrets.now ≤ X.faults devices.new.secrets.now }
@@ -444,9 +429,12 @@ fn run_all<D: Disk, X: SecretStore>(
     ensures found { IfErr result (λ fault. IsTrue D.tells → IsTrue X.tells → IsFound (reader_in script.now) (D.files devices.new.disk.now) (X.held devices.new.secrets.now) (Stop.Faulted fault)) }
     ensures skips { IfErr result (λ fault. IsTrue D.tells → IsTrue X.tells → RunRefusesOnlySkips (Both (IsBetweenOf script.now 0) (Rests (D.image devices.old.disk.now) (X.held devices.old.secrets.now))) (Stop.Faulted fault)) }
     ensures fit { IsTrue D.tells → AreFit (non_zero_u32_get script.now.config.limit) (D.image devices.old.disk.now) → AreFit (non_zero_u32_get script.now.config.limit) (D.image devices.new.disk.now) }
+    ensures passing { IsTrue D.tells → IsTrue X.tells → ArePassing (reader_in script.now) (D.image devices.old.disk.now) (X.held devices.old.secrets.now) → ArePassing (reader_in script.now) (D.image devices.new.disk.now) (X.held devices.new.secrets.now) }
     ensures causes { IfErr result (λ fault. IsCaused (Stop.Faulted fault) (Rose (D.faults devices.old.disk.now) (D.faults devices.new.disk.now)) (Rose (X.faults devices.old.secrets.now) (X.faults devices.new.secrets.now))) }
     ensures later_disk { D.faults devices.old.disk.now ≤ D.faults devices.new.disk.now }
     ensures later_secrets { X.faults devices.old.secrets.now ≤ X.faults devices.new.secrets.now }
+    // Without a life nothing but want of memory ends the run.
+    ensures lived { IfErr result (λ fault. (fault ≡ Fault.NoMemory) ⊎ (0 < length script.now.lives)) }
 {
     let beginning = Beginning::of(alloc, script)?;
     for (i, life) in script.lives.as_slice().iter().enumerate() {
@@ -496,10 +484,14 @@ pub fn run_lives<D: Disk, X: SecretStore>(
     ensures fit { IsTrue D.tells → AreFit (non_zero_u32_get script.now.config.limit) (D.image disk.old) → AreFit (non_zero_u32_get script.now.config.limit) (D.image disk.new) }
     // .. and then no fault names a corrupt record.
     ensures whole { IfErr result (λ fault. IsTrue D.tells → IsTrue X.tells → AreFit (non_zero_u32_get script.now.config.limit) (D.image disk.old) → NamesNoRecord fault) }
+    // Whatever a crash leaves gives back dealings that the round's check passes, where it did before.
+    ensures passing { IsTrue D.tells → IsTrue X.tells → ArePassing (reader_in script.now) (D.image disk.old) (X.held secrets.old) → ArePassing (reader_in script.now) (D.image disk.new) (X.held secrets.new) }
     // Whatever ends the run, the transcript and the devices keep each recorded dealing; and at Ok each dealing that was due was
     // acknowledged.
     ensures kept { IsTrue D.tells → IsTrue X.tells → Adds out.old.entries out.new.entries (KeepsDealings (setting_of script.now (D.files disk.old) (X.held secrets.old)) (D.image disk.old) (D.image disk.new) (X.held secrets.new)) }
     ensures answered { OnOk result (IsTrue D.tells → IsTrue X.tells → Adds out.old.entries out.new.entries (AnswersDealings (setting_of script.now (D.files disk.old) (X.held secrets.old)) (D.image disk.old))) }
+    // A valid script over valid devices, of which no count rises, is run to its end, unless memory runs out.
+    ensures complete { IfErr result (λ fault. IsTrue D.tells → IsTrue X.tells → IsValidRun (setting_of script.now (D.files disk.old) (X.held secrets.old)) (D.image disk.old) → (Rose (D.faults disk.old) (D.faults disk.new) → ⊥) → (Rose (X.faults secrets.old) (X.faults secrets.new) → ⊥) → fault ≡ Fault.NoMemory) }
 {
     let mut devices = Devices {
         disk,

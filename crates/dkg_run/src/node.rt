@@ -21,6 +21,8 @@ ghost use Rattle.dkg_store.specs.Secrets.{Secrets};
 ghost use Rattle.dkg_script.specs.Setting.{listed, recovered_from};
 ghost use Rattle.dkg_run.specs.Devices.{IsToday, IsReady, KeepsLogs};
 ghost use Rattle.dkg_run.specs.Found.{BlamesNoRecord, GiveBack, IsFound, Reader, made_by, reader_of};
+ghost use Rattle.dkg_run.specs.Passing.{ArePassing, HoldsPassing};
+ghost use Rattle.dkg_run.specs.Refusals.{IsRefusal};
 ghost use Rattle.dkg_run.specs.Standing.{AddsQuiet, AddsOpening};
 ghost use Rattle.dkg_run.specs.Chain.{WhileDealing, deals_in, judge_of, tip_after};
 ghost use Rattle.std.specs.Result.{IsOkAnd};
@@ -117,6 +119,9 @@ fn open_store<D: Disk, X: SecretStore>(
     ensures keeps_logs { IsTrue D.tells → KeepsLogs (D.image devices.old.disk.now) (D.image devices.new.disk.now) }
     ensures lists { IfOk result (λ store. out.new.entries ≡ out.old.entries ++ Entry.Opened life (listed store.dealings) ∷ []) }
     ensures fit { IsTrue D.tells → (most : ℕ) → AreFit most (D.image devices.old.disk.now) → AreFit most (D.image devices.new.disk.now) }
+    // Dealings that pass the round's check do so wherever it stops.
+    ensures passing { IsTrue D.tells → (reader : Reader) → ArePassing reader (D.image devices.old.disk.now) (X.held devices.old.secrets.now) → ArePassing reader (D.image devices.new.disk.now) (X.held devices.new.secrets.now) }
+    ensures accepts { IfErr result (λ stop. IsRefusal stop → ⊥) }
     ensures causes { IfErr result (λ stop. IsCaused stop (Rose (D.faults devices.old.disk.now) (D.faults devices.new.disk.now)) (Rose (X.faults devices.old.secrets.now) (X.faults devices.new.secrets.now))) }
     ensures later_disk { D.faults devices.old.disk.now ≤ D.faults devices.new.disk.now }
     ensures later_secrets { X.faults devices.old.secrets.now ≤ X.faults devices.new.secrets.now }
@@ -131,6 +136,7 @@ fn open_store<D: Disk, X: SecretStore>(
 fn checked_info<'a>(alloc: Global, beginning: &'a Beginning) -> Result<&'a EpochInfo<Unit>, Stop>
     ensures info { IfOk result (λ info. beginning.now.info ≡ Some info.now) }
     ensures first { IfOk result (λ info. info.now.epoch ≡ 0) }
+    ensures accepts { IfErr result (λ stop. IsRefusal stop → ⊥) }
     ensures causes { IfErr result (λ stop. IsCaused stop ⊥ ⊥) }
     // What is wrong with the info, the script shows.
     ensures found { IfErr result (λ stop. (files : Files) (held : Secrets) → IsFound (reader_of beginning.now) files held stop) }
@@ -213,6 +219,7 @@ fn commit<D: Disk, X: SecretStore>(
 /// The round of the first epoch.
 fn round_of(alloc: Global, beginning: &Beginning, info: &EpochInfo<Unit>) -> Result<Round, Stop>
     ensures round { IfOk result (λ round. round_by beginning.now.namespace beginning.now.mode info.now ≡ Some round) }
+    ensures accepts { IfErr result (λ stop. IsRefusal stop → ⊥) }
     ensures causes { IfErr result (λ stop. IsCaused stop ⊥ ⊥) }
     ensures found { IfErr result (λ stop. (reader : Reader) (files : Files) (held : Secrets) → reader.tried ≡ Some (made_by beginning.now.namespace beginning.now.mode info.now) → IsFound reader files held stop) }
 {
@@ -246,6 +253,7 @@ fn player_of(
     ensures answers { IfOk result (λ player. IfSome player (λ p. IsPlayerOf ack_of p.me p.round p.acks store.now.dealings 0)) }
     ensures seat { IfOk result (λ player. seat_in player ≡ seat_at me store.now.dealings store.now.logs round.now) }
     ensures valid { IfOk result (λ player. IfSome (seat_in player) (λ seat. AreValid seat store.now.dealings)) }
+    ensures accepts { IfErr result (λ stop. IsRefusal stop → ⊥) }
     ensures causes { IfErr result (λ stop. IsCaused stop ⊥ ⊥) }
     // A recorded dealing that is refused is found on devices that give back what is recorded.
     ensures found { IfErr result (λ stop. (reader : Reader) (files : Files) (held : Secrets) → reader.me ≡ me → reader.tried ≡ Some (Ok round.now) → recovered_from files held ≡ store.now.dealings → IsFound reader files held stop) }
@@ -296,6 +304,7 @@ fn prune<D: Disk, X: SecretStore>(
     ensures gives { OnOk result (IsTrue D.tells → (pairs : Pairs) → GiveBack pairs (D.image devices.old.disk.now) (X.held devices.old.secrets.now) → GiveBack pairs (D.image devices.new.disk.now) (X.held devices.new.secrets.now)) }
     ensures no_record { IfErr result (λ stop. IsTrue D.tells → BlamesNoRecord stop) }
     ensures fit { IsTrue D.tells → (most : ℕ) → AreFit most (D.image devices.old.disk.now) → AreFit most (D.image devices.new.disk.now) }
+    ensures accepts { IfErr result (λ stop. IsRefusal stop → ⊥) }
     ensures causes { IfErr result (λ stop. IsCaused stop (Rose (D.faults devices.old.disk.now) (D.faults devices.new.disk.now)) (Rose (X.faults devices.old.secrets.now) (X.faults devices.new.secrets.now))) }
     ensures later_disk { D.faults devices.old.disk.now ≤ D.faults devices.new.disk.now }
     ensures later_secrets { X.faults devices.old.secrets.now ≤ X.faults devices.new.secrets.now }
@@ -333,6 +342,7 @@ fn enter<D: Disk, X: SecretStore>(
     ensures set_up { AddsSetUp out.old.entries out.new.entries }
     ensures found { IfErr result (λ stop. IsTrue D.tells → IsTrue X.tells → GiveBack store.dealings (D.image devices.old.disk.now) (X.held devices.old.secrets.now) → (reader : Reader) → reader.me ≡ beginning.now.me → reader.tried ≡ Some (made_by beginning.now.namespace beginning.now.mode info.now) → IsFound reader (D.files devices.new.disk.now) (X.held devices.new.secrets.now) stop) }
     ensures fit { IsTrue D.tells → (most : ℕ) → AreFit most (D.image devices.old.disk.now) → AreFit most (D.image devices.new.disk.now) }
+    ensures accepts { IfErr result (λ stop. IsRefusal stop → ⊥) }
     ensures causes { IfErr result (λ stop. IsCaused stop (Rose (D.faults devices.old.disk.now) (D.faults devices.new.disk.now)) (Rose (X.faults devices.old.secrets.now) (X.faults devices.new.secrets.now))) }
     ensures later_disk { D.faults devices.old.disk.now ≤ D.faults devices.new.disk.now }
     ensures later_secrets { X.faults devices.old.secrets.now ≤ X.faults devices.new.secrets.now }
@@ -381,6 +391,7 @@ fn set_up<D: Disk, X: SecretStore>(
     ensures set_up { AddsSetUp out.old.entries out.new.entries }
     ensures found { IfErr result (λ stop. IsTrue D.tells → IsTrue X.tells → GiveBack store.dealings (D.image devices.old.disk.now) (X.held devices.old.secrets.now) → IsFound (reader_of beginning.now) (D.files devices.new.disk.now) (X.held devices.new.secrets.now) stop) }
     ensures fit { IsTrue D.tells → (most : ℕ) → AreFit most (D.image devices.old.disk.now) → AreFit most (D.image devices.new.disk.now) }
+    ensures accepts { IfErr result (λ stop. IsRefusal stop → ⊥) }
     ensures causes { IfErr result (λ stop. IsCaused stop (Rose (D.faults devices.old.disk.now) (D.faults devices.new.disk.now)) (Rose (X.faults devices.old.secrets.now) (X.faults devices.new.secrets.now))) }
     ensures later_disk { D.faults devices.old.disk.now ≤ D.faults devices.new.disk.now }
     ensures later_secrets { X.faults devices.old.secrets.now ≤ X.faults devices.new.secrets.now }
@@ -440,6 +451,11 @@ impl Node {
         ensures found { IfErr result (λ stop. IsTrue D.tells → IsTrue X.tells → IsFound (reader_of beginning.now) (D.files devices.new.disk.now) (X.held devices.new.secrets.now) stop) }
         ensures may_list { OnErr result (IsTrue D.tells → IsTrue X.tells → (out.new.entries ≡ out.old.entries) ⊎ TellsOpening life (recovered_from (D.files devices.old.disk.now) (X.held devices.old.secrets.now)) out.old.entries out.new.entries) }
         ensures fit { IsTrue D.tells → (most : ℕ) → AreFit most (D.image devices.old.disk.now) → AreFit most (D.image devices.new.disk.now) }
+        // Where the recorded dealings pass the round's check, they do so wherever it stops; and at Ok it is the round that the node plays.
+        ensures passing { IsTrue D.tells → IsTrue X.tells → ArePassing (reader_of beginning.now) (D.image devices.old.disk.now) (X.held devices.old.secrets.now) → ArePassing (reader_of beginning.now) (D.image devices.new.disk.now) (X.held devices.new.secrets.now) }
+        ensures passes { IfOk result (λ node. IsTrue D.tells → IsTrue X.tells → ArePassing (reader_of beginning.now) (D.image devices.old.disk.now) (X.held devices.old.secrets.now) → HoldsPassing (reader_of beginning.now) (seat_in node.player) node.store.dealings (D.image devices.new.disk.now) (X.held devices.new.secrets.now)) }
+        // An opening judges no block.
+        ensures accepts { IfErr result (λ stop. IsRefusal stop → ⊥) }
         ensures causes { IfErr result (λ stop. IsCaused stop (Rose (D.faults devices.old.disk.now) (D.faults devices.new.disk.now)) (Rose (X.faults devices.old.secrets.now) (X.faults devices.new.secrets.now))) }
         ensures later_disk { D.faults devices.old.disk.now ≤ D.faults devices.new.disk.now }
         ensures later_secrets { X.faults devices.old.secrets.now ≤ X.faults devices.new.secrets.now }

@@ -5,7 +5,6 @@ use Rattle.dkg_types.specs.PayloadCodes.{payload_at}
 use Rattle.dkg_types.specs.Units.{unit_at}
 use Rattle.dkg_run.specs.Opened.{unit_payload_in}
 use Rattle.dkg_run.proofs.Spelled.{decodes_as}
-use Rattle.dkg_run.proofs.MadeBlocks.{spelled_back}
 use Rattle.dkg_run.proofs.beginning.payload_in.Goals as goal
 
 pub returns-clause-value : goal.returns-clause-value

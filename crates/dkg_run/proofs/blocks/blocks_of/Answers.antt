@@ -1,6 +1,5 @@
-use Rattle.std.proofs.Common.{◌≡◌, Some, arith, length}
+use Rattle.std.proofs.Common.{◌≡◌, Some}
 use Rattle.std.specs.Prelude.{slice_get}
-use Rattle.std.proofs.lemmas.List.{length-append}
 use Rattle.dkg_run.proofs.MadeBlocks.{next_made, read_at}
 use Rattle.dkg_run.proofs.Runs.{at_item}
 use Rattle.dkg_run.proofs.blocks.blocks_of.Goals as goal

@@ -1,7 +1,7 @@
 use Rattle.std.proofs.Common.{[], ◌∙◌, ap, inl, refl, sym}
 use Rattle.std.proofs.lemmas.List.{append-nil}
 use Rattle.dkg_script.specs.Scripts.{script_of}
-use Rattle.dkg_run.proofs.Reported.{at_added, ends_faulted, runs_faulted}
+use Rattle.dkg_run.proofs.Reported.{at_added, ends_faulted, ends_in_none, runs_faulted, fault_skips, none_skips}
 use Rattle.dkg_run.proofs.command.run.Goals as goal
 
 pub returns-in-Err-Failed-clause-ends : goal.returns-in-Err-Failed-clause-ends
@@ -14,11 +14,11 @@ returns-in-Err-TooLong-clause-ends g c =
 
 pub returns-in-Err-NoMemory-clause-ends : goal.returns-in-Err-NoMemory-clause-ends
 returns-in-Err-NoMemory-clause-ends g c =
-    ([], sym (append-nil _), record { ends = inl refl; runs = inl (record { no_entry = refl; untouched = (refl, refl) }) })
+    ([], sym (append-nil _), record { ends = refl; runs = inl (record { no_entry = refl; untouched = (refl, refl) }) })
 
 pub returns-in-Err-NoMemory-read_script-clause-ends : goal.returns-in-Err-NoMemory-read_script-clause-ends
 returns-in-Err-NoMemory-read_script-clause-ends g c =
-    ([], sym (append-nil _), record { ends = inl refl; runs = inl (record { no_entry = refl; untouched = (refl, refl) }) })
+    ([], sym (append-nil _), record { ends = refl; runs = inl (record { no_entry = refl; untouched = (refl, refl) }) })
 
 pub returns-in-Err-Bad-clause-ends : goal.returns-in-Err-Bad-clause-ends
 returns-in-Err-Bad-clause-ends g c = let refused = rw c.in-Err-Bad.field-0-is at (c.in-Err-Bad.ensures.reads refl) in (
@@ -49,7 +49,10 @@ returns-in-Ok-run_lives-clause-ends g c = let told = c.in-Ok-run_lives.ensures i
         spells = ap script_of (sym c.deref.ensures.value) ∙ c.in-Ok-read_script.ensures.reads refl;
         form = c.in-Ok-read_script.ensures.form;
         in_order = at_added _ _ _ _ told.ends.1 told.in_order;
-        kept = (λ tells. at_added _ _ _ _ told.ends.1 (told.kept tells.0 tells.1), λ tells. at_added _ _ _ _ told.ends.1 (told.found tells.0 tells.1));
+        kept = (
+          (λ tells. at_added _ _ _ _ told.ends.1 (told.kept tells.0 tells.1), λ tells. at_added _ _ _ _ told.ends.1 (told.found tells.0 tells.1), λ tells. none_skips _ _ _ told.ends.2),
+          λ sound. told.ends.2,
+        );
       };
       all = at_added _ _ _ _ told.ends.1 told.all;
       answered = λ tells. at_added _ _ _ _ told.ends.1 (told.answered tells.0 tells.1);
@@ -70,7 +73,10 @@ returns-clause-ends g c = let told = c.in-Err.ensures in (
       spells = ap script_of (sym c.deref.ensures.value) ∙ c.in-Ok-read_script.ensures.reads refl;
       form = c.in-Ok-read_script.ensures.form;
       in_order = at_added _ _ _ _ told.ends.1 told.in_order;
-      kept = (λ tells. at_added _ _ _ _ told.ends.1 (told.kept tells.0 tells.1), λ tells. at_added _ _ _ _ told.ends.1 (told.found tells.0 tells.1));
+      kept = (
+        (λ tells. at_added _ _ _ _ told.ends.1 (told.kept tells.0 tells.1), λ tells. at_added _ _ _ _ told.ends.1 (told.found tells.0 tells.1), λ tells. fault_skips _ _ c.in-Err.fault _ _ _ told.ends.2 (told.skips tells.0 tells.1)),
+        λ sound. ends_in_none c.in-Err.fault _ _ _ told.ends.2 (told.complete sound.tells.0 sound.tells.1 sound.valid sound.no_disk_rose sound.no_secrets_rose),
+      );
     });
   }),
 )

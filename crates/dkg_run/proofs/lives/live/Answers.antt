@@ -7,6 +7,7 @@ use Rattle.dkg_run.proofs.Refused.{none_refused, skips_behind}
 use Rattle.dkg_run.proofs.Stops.{caused_later}
 use Rattle.dkg_run.proofs.Found.{blames_found}
 use Rattle.dkg_run.proofs.Fitting.{fit_at}
+use Rattle.dkg_run.specs.Found.{reader_of}
 use Rattle.dkg_run.proofs.lives.live.Goals as goal
 
 pub returns-in_err-take_steps-clause-stopped : goal.returns-in_err-take_steps-clause-stopped
@@ -49,3 +50,12 @@ returns-in_err-take_steps-clause-fit g c = λ told fit. fit_at _ _ _ _ c.in_ok-n
 
 pub returns-clause-fit : goal.returns-clause-fit
 returns-clause-fit g c = λ told fit. fit_at _ _ _ _ c.in_ok-node.ensures.limit (c.take_steps.ensures.fit told) (c.open.ensures.fit told _ fit)
+
+pub returns-in_err-node-clause-passing : goal.returns-in_err-node-clause-passing
+returns-in_err-node-clause-passing g c = c.open.ensures.passing
+
+pub returns-in_err-take_steps-clause-passing : goal.returns-in_err-take_steps-clause-passing
+returns-in_err-take_steps-clause-passing g c = λ disk secrets are. c.take_steps.ensures.passing disk secrets (reader_of c.args.beginning.now) (c.in_ok-node.ensures.passes disk secrets are)
+
+pub returns-clause-passing : goal.returns-clause-passing
+returns-clause-passing g c = λ disk secrets are. c.take_steps.ensures.passing disk secrets (reader_of c.args.beginning.now) (c.in_ok-node.ensures.passes disk secrets are)

@@ -9,7 +9,7 @@ use Rattle.dkg_run.proofs.FirstRound.{round_begun}
 use Rattle.dkg_run.proofs.Life.{given_there, logs_there, unopened_saved, opening_saved, opened_untold, opened_settled}
 use Rattle.dkg_run.proofs.Logs.{same_logs}
 use Rattle.dkg_run.proofs.Places.{quiet_none, opening_then}
-use Rattle.dkg_run.proofs.Refused.{cut_refuses}
+use Rattle.dkg_run.proofs.Refused.{cut_refuses, same_accepts}
 use Rattle.dkg_run.proofs.Seated.{seated}
 use Rattle.dkg_run.proofs.Steps.{faulted_not_cut, stops_before, opening_stops, opening_step}
 use Rattle.dkg_run.proofs.Stops.{cut_caused, same_caused}
@@ -46,7 +46,7 @@ returns-in_err-place-clause-causes g c = let p = err_from_is_err_and c.from_resi
 -- THE OPENING STOPS
 
 pub returns-in-Err-clause-stopped : goal.returns-in-Err-clause-stopped
-returns-in-Err-clause-stopped g c = opening_stops _ c.args.number _ _ _ c.in_ok-begin_step.ensures.begins c.in-Err.ensures.failed c.opening_stop.ensures.cut
+returns-in-Err-clause-stopped g c = opening_stops _ c.args.number _ _ _ c.in_ok-begin_step.ensures.begins c.in-Err.ensures.failed c.stop_of.ensures.cut
 
 pub returns-in-Err-clause-saved : goal.returns-in-Err-clause-saved
 returns-in-Err-clause-saved g c = rw (← c.begin_step.ensures.disk, ← c.begin_step.ensures.secrets) (λ disk secrets.
@@ -54,7 +54,7 @@ returns-in-Err-clause-saved g c = rw (← c.begin_step.ensures.disk, ← c.begin
     (c.open.ensures.keeps_logs disk) _ _ _ _ refl (c.in-Err.ensures.may_list disk secrets))
 
 pub returns-in-Err-clause-causes : goal.returns-in-Err-clause-causes
-returns-in-Err-clause-causes g c = rw (← c.begin_step.ensures.disk, ← c.begin_step.ensures.secrets) (same_caused _ _ _ _ c.opening_stop.ensures.same c.in-Err.ensures.causes)
+returns-in-Err-clause-causes g c = rw (← c.begin_step.ensures.disk, ← c.begin_step.ensures.secrets) (same_caused _ _ _ _ c.stop_of.ensures.same c.in-Err.ensures.causes)
 
 -- ITS END IS NOT TOLD
 
@@ -94,7 +94,7 @@ pub returns-in_err-begin_step-clause-found : goal.returns-in_err-begin_step-clau
 returns-in_err-begin_step-clause-found g c = let p = err_from_is_err_and c.from_residual.result c.from_residual.ensures.1 in rw (p.1, p.2) (λ disk secrets. cut_found _ _ _ _ c.in_err-begin_step.ensures.ends.0)
 
 pub returns-in-Err-clause-found : goal.returns-in-Err-clause-found
-returns-in-Err-clause-found g c = λ disk secrets. same_found _ _ _ _ _ c.opening_stop.ensures.same (c.in-Err.ensures.found disk secrets)
+returns-in-Err-clause-found g c = λ disk secrets. same_found _ _ _ _ _ c.stop_of.ensures.same (c.in-Err.ensures.found disk secrets)
 
 pub returns-in_err-push-clause-found : goal.returns-in_err-push-clause-found
 returns-in_err-push-clause-found g c = let p = err_from_is_err_and c.from_residual-in_err-push.result c.from_residual-in_err-push.ensures.1 in rw (p.1, p.2) (λ disk secrets. record { so = tt })
@@ -122,3 +122,24 @@ returns-in_err-push-clause-fit g c = rw (← c.begin_step.ensures.disk) c.open.e
 
 pub returns-clause-fit : goal.returns-clause-fit
 returns-clause-fit g c = rw (← c.begin_step.ensures.disk) c.open.ensures.fit
+
+pub returns-in_err-begin_step-clause-passing : goal.returns-in_err-begin_step-clause-passing
+returns-in_err-begin_step-clause-passing g c = rw (c.begin_step.ensures.disk, c.begin_step.ensures.secrets) (λ disk secrets are. are)
+
+pub returns-in_err-place-clause-passing : goal.returns-in_err-place-clause-passing
+returns-in_err-place-clause-passing g c = rw (c.begin_step.ensures.disk, c.begin_step.ensures.secrets) (λ disk secrets are. are)
+
+pub returns-in-Err-clause-passing : goal.returns-in-Err-clause-passing
+returns-in-Err-clause-passing g c = rw (← c.begin_step.ensures.disk, ← c.begin_step.ensures.secrets) c.open.ensures.passing
+
+pub returns-in_err-push-clause-passing : goal.returns-in_err-push-clause-passing
+returns-in_err-push-clause-passing g c = rw (← c.begin_step.ensures.disk, ← c.begin_step.ensures.secrets) c.open.ensures.passing
+
+pub returns-clause-passing : goal.returns-clause-passing
+returns-clause-passing g c = rw (← c.begin_step.ensures.disk, ← c.begin_step.ensures.secrets) c.open.ensures.passing
+
+pub returns-clause-passes : goal.returns-clause-passes
+returns-clause-passes g c = rw (← c.begin_step.ensures.disk, ← c.begin_step.ensures.secrets) c.in-Ok.ensures.passes
+
+pub returns-in-Err-clause-accepts : goal.returns-in-Err-clause-accepts
+returns-in-Err-clause-accepts g c = same_accepts _ _ c.stop_of.ensures.same c.in-Err.ensures.accepts

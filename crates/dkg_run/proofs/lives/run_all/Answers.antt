@@ -1,15 +1,17 @@
-use Rattle.std.proofs.Common.{◌≡◌, Some, refl, inl, arith}
+use Rattle.std.proofs.Common.{◌≡◌, Some, refl, inl, inr, arith}
 use Rattle.std.proofs.lemmas.Result.{err_from_is_err_and}
 use Rattle.std.specs.Prelude.{slice_get}
 use Rattle.dkg_run.specs.declared.stop.Stop.TheVariants.{Faulted}
+use Rattle.dkg_run.proofs.Completed.{one_there}
 use Rattle.dkg_run.proofs.MadeBlocks.{events_here}
 use Rattle.dkg_run.proofs.Life.{life_kept, life_durable, untouched_durable}
 use Rattle.dkg_run.proofs.Places.{moves_none, moves_then}
 use Rattle.dkg_run.proofs.Refused.{none_run, run_skips}
 use Rattle.dkg_run.proofs.Runs.{moves_life, moves_in_life, untouched, at_item}
 use Rattle.dkg_run.proofs.Stops.{caused_later}
-use Rattle.dkg_run.proofs.Found.{script_found}
+use Rattle.dkg_run.proofs.Found.{same_reader, script_found}
 use Rattle.dkg_run.proofs.Fitting.{fit_at}
+use Rattle.dkg_run.proofs.Passing.{passing_by}
 use Rattle.dkg_run.proofs.lives.run_all.Goals as goal
 
 -- MEMORY RUNS OUT BEFORE THE FIRST LIFE
@@ -27,6 +29,7 @@ pub loop-i-init : goal.loop-i-init
 loop-i-init g c = record {
   today = c.requires.today;
   fit = λ told fit. fit;
+  passing = λ disk secrets are. are;
   same_disk = refl;
   same_secrets = refl;
   moves = moves_none _ _ _ _ _ refl (λ s p is. is);
@@ -66,6 +69,7 @@ loop-i-preserved g c =
     record {
       today = c.run_life.ensures.today;
       fit = λ told fit. fit_at _ _ _ _ c.in_ok-beginning.ensures.script.limit_is (c.run_life.ensures.fit told) (c.loop-i.invariant.fit told fit);
+      passing = λ disk secrets are. passing_by _ _ _ _ _ _ (same_reader c.args.script.now c.in_ok-beginning.beginning c.in_ok-beginning.ensures.script c.requires.form.plain) (c.run_life.ensures.passing disk secrets) (c.loop-i.invariant.passing disk secrets are);
       same_disk = cc;
       same_secrets = cc;
       moves = moves_then _ _ _ _ _ _ _ c.loop-i.invariant.moves (moves_life c.args.script.now c.life-item.result c.loop-i.i _ _ life_is c.in_ok-run_life.ensures.done);
@@ -97,3 +101,17 @@ returns-in_err-run_life-clause-fit g c = λ told fit. fit_at _ _ _ _ c.in_ok-beg
 
 pub returns-clause-fit : goal.returns-clause-fit
 returns-clause-fit g c = c.loop-i.invariant.fit
+
+pub returns-in_err-beginning-clause-lived : goal.returns-in_err-beginning-clause-lived
+returns-in_err-beginning-clause-lived g c = let p = err_from_is_err_and c.from_residual.result c.from_residual.ensures.1 in rw (p.1, p.2) (inl refl)
+
+pub returns-in_err-run_life-clause-lived : goal.returns-in_err-run_life-clause-lived
+returns-in_err-run_life-clause-lived g c =
+    let life_is : slice_get c.args.script.now.lives c.loop-i.i ≡ Some c.life-item.result = rw (← c.as_slice-life-items.ensures) (at_item _ _ _ c.loop-i-test.true c.life-item.is) in
+    let p = err_from_is_err_and c.from_residual-in_err-run_life.result c.from_residual-in_err-run_life.ensures.1 in rw p.1 (inr (one_there _ _ _ life_is))
+
+pub returns-in_err-run_life-clause-passing : goal.returns-in_err-run_life-clause-passing
+returns-in_err-run_life-clause-passing g c = λ disk secrets are. passing_by _ _ _ _ _ _ (same_reader c.args.script.now c.in_ok-beginning.beginning c.in_ok-beginning.ensures.script c.requires.form.plain) (c.run_life.ensures.passing disk secrets) (c.loop-i.invariant.passing disk secrets are)
+
+pub returns-clause-passing : goal.returns-clause-passing
+returns-clause-passing g c = c.loop-i.invariant.passing

@@ -7,6 +7,8 @@ use Rattle.dkg_store.specs.Corrupt.{AreFit}
 use Rattle.dkg_script.specs.Order.{IsInOrder}
 use Rattle.dkg_run.specs.Carried.{IsKeptEntry, Rests}
 use Rattle.dkg_run.specs.Devices.{IsToday}
+use Rattle.dkg_run.specs.Found.{reader_in}
+use Rattle.dkg_run.specs.Passing.{ArePassing}
 use Rattle.dkg_run.specs.Standing.{Moves, Both, IsBetweenOf}
 use Rattle.dkg_run.proofs.lives.run_all.Given as goal
 
@@ -14,6 +16,8 @@ abbrev pub invariant-loop-i : goal.invariant-loop-i
 invariant-loop-i g l = record {
   today : IsTrue g.D.Disk.tells → IsToday (g.D.Disk.image l.devices.disk.now);
   fit : IsTrue g.D.Disk.tells → AreFit (non_zero_u32_get l.fn.script.config.limit) (g.D.Disk.image l.initial.devices.disk.now) → AreFit (non_zero_u32_get l.fn.script.config.limit) (g.D.Disk.image l.devices.disk.now);
+  passing : IsTrue g.D.Disk.tells → IsTrue g.X.SecretStore.tells → ArePassing (reader_in l.fn.script) (g.D.Disk.image l.initial.devices.disk.now) (g.X.SecretStore.held l.initial.devices.secrets.now)
+      → ArePassing (reader_in l.fn.script) (g.D.Disk.image l.devices.disk.now) (g.X.SecretStore.held l.devices.secrets.now);
   same_disk : l.devices.disk.ghost_name ≡ l.initial.devices.disk.ghost_name;
   same_secrets : l.devices.secrets.ghost_name ≡ l.initial.devices.secrets.ghost_name;
   moves : Moves IsInOrder (IsBetweenOf l.fn.script 0) (IsBetweenOf l.fn.script l.i) l.initial.out.entries l.out.entries;

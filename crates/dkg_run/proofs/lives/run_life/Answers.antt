@@ -4,6 +4,7 @@ use Rattle.dkg_run.proofs.Refused.{memory_blames_none, none_refused}
 use Rattle.dkg_run.proofs.Steps.{cut_told, cut_untold}
 use Rattle.dkg_run.proofs.Found.{memory_found}
 use Rattle.dkg_run.proofs.Fitting.{narrowed_fit}
+use Rattle.dkg_run.proofs.Passing.{narrowed_passing}
 use Rattle.dkg_run.proofs.lives.run_life.Goals as goal
 
 -- THE LIFE ENDS
@@ -53,3 +54,12 @@ returns-in_ok-end_cut-in-Err-Cut-clause-fit g c = λ told fit. narrowed_fit _ _ 
 
 pub returns-in_err-end_cut-in-Err-Cut-clause-fit : goal.returns-in_err-end_cut-in-Err-Cut-clause-fit
 returns-in_err-end_cut-in-Err-Cut-clause-fit g c = λ told fit. narrowed_fit _ _ _ c.end_cut.ensures.narrows (c.live.ensures.fit told fit)
+
+pub returns-in-Ok-clause-passing : goal.returns-in-Ok-clause-passing
+returns-in-Ok-clause-passing g c = λ disk secrets are. narrowed_passing _ _ _ _ _ c.crash.ensures.crash c.crash-in-Ok.ensures.same (c.live.ensures.passing disk secrets are)
+
+pub returns-in_ok-end_cut-in-Err-Cut-clause-passing : goal.returns-in_ok-end_cut-in-Err-Cut-clause-passing
+returns-in_ok-end_cut-in-Err-Cut-clause-passing g c = λ disk secrets are. narrowed_passing _ _ _ _ _ c.end_cut.ensures.narrows c.end_cut.ensures.held (c.live.ensures.passing disk secrets are)
+
+pub returns-in_err-end_cut-in-Err-Cut-clause-passing : goal.returns-in_err-end_cut-in-Err-Cut-clause-passing
+returns-in_err-end_cut-in-Err-Cut-clause-passing g c = λ disk secrets are. narrowed_passing _ _ _ _ _ c.end_cut.ensures.narrows c.end_cut.ensures.held (c.live.ensures.passing disk secrets are)

@@ -1,8 +1,12 @@
-use Rattle.std.proofs.Common.{IsTrue, rules}
+use Rattle.std.proofs.Common.{List, ◌≡◌, rules}
 use Rattle.dkg_journal.specs.Disk.{Rose}
+use Rattle.dkg_journal.specs.Names.{Files}
+use Rattle.dkg_store.specs.Secrets.{Secrets}
+use Rattle.dkg_types.specs.declared.entry.Entry.{Entry}
 use Rattle.dkg_script.specs.Ends.{EndsFaulted}
 use Rattle.dkg_script.specs.Promise.{Adds, KeepsDealings}
-use Rattle.dkg_script.specs.Setting.{setting_of}
+use Rattle.dkg_script.specs.Setting.{Setting}
+use Rattle.dkg_run.proofs.Completed.{ends_in_memory, not_risen}
 use Rattle.dkg_run.proofs.Ended.{told_in_order, told_ends, ends_well}
 use Rattle.dkg_run.proofs.Keeping.{told_keeps, answers, run_keeps}
 use Rattle.dkg_run.proofs.Refused.{told_skips}
@@ -12,6 +16,11 @@ use Rattle.dkg_run.specs.Found.{reader_in}
 use Rattle.dkg_run.proofs.Found.{moved_found, none_blamed, told_found}
 use Rattle.dkg_run.proofs.Fitting.{names_none}
 use Rattle.dkg_run.proofs.lives.run_lives.Goals as goal
+
+-- on the same devices, also after their loan has ended
+moved_keeps : {D X : Type 0} (image_of : D → Files → Type 0) (held_of : X → Secrets) (s : Setting) (image : Files → Type 0) (disk now : D) (secrets then : X) (old new : List Entry) → disk ≡ now → secrets ≡ then
+    → Adds old new (KeepsDealings s image (image_of disk) (held_of secrets)) → Adds old new (KeepsDealings s image (image_of now) (held_of then))
+moved_keeps image_of held_of s image disk now secrets then old new same_disk same keeps = rw (← same_disk, ← same) keeps
 
 -- EVERY LIFE WAS RUN
 
@@ -25,13 +34,8 @@ pub returns-in-Ok-clause-ends : goal.returns-in-Ok-clause-ends
 returns-in-Ok-clause-ends g c = ends_well _ _ _ _ c.in-Ok.ensures.done
 
 pub returns-in-Ok-clause-kept : goal.returns-in-Ok-clause-kept
-returns-in-Ok-clause-kept g c =
-    let all : IsTrue g.D.Disk.tells → IsTrue g.X.SecretStore.tells
-    → Adds c.args.out.now.entries c.run_all.new.out.entries
-    (KeepsDealings (setting_of c.args.script.now (g.D.Disk.files c.args.disk.now) (g.X.SecretStore.held c.args.secrets.now)) (g.D.Disk.image c.args.disk.now)
-    (g.D.Disk.image c.run_all.new.devices.disk.now) (g.X.SecretStore.held c.run_all.new.devices.secrets.now))
-    = λ disk secrets. run_keeps _ _ _ _ _ _ _ _ (c.in-Ok.ensures.kept disk secrets)
-    in search rules
+returns-in-Ok-clause-kept g c = λ disk secrets. moved_keeps g.D.Disk.image g.X.SecretStore.held _ _ c.run_all.new.devices.disk.now _ c.run_all.new.devices.secrets.now _ _ _ (search rules) (search rules)
+    (run_keeps _ _ _ _ _ _ _ _ (c.in-Ok.ensures.kept disk secrets))
 
 pub returns-in-Ok-clause-answered : goal.returns-in-Ok-clause-answered
 returns-in-Ok-clause-answered g c = λ disk secrets. answers _ _ _ _ _ _ _ (c.in-Ok.ensures.kept disk secrets)
@@ -49,13 +53,8 @@ returns-in-Err-clause-ends g c =
     in search rules
 
 pub returns-in-Err-clause-kept : goal.returns-in-Err-clause-kept
-returns-in-Err-clause-kept g c =
-    let all : IsTrue g.D.Disk.tells → IsTrue g.X.SecretStore.tells
-    → Adds c.args.out.now.entries c.tell.new.out.entries
-    (KeepsDealings (setting_of c.args.script.now (g.D.Disk.files c.args.disk.now) (g.X.SecretStore.held c.args.secrets.now)) (g.D.Disk.image c.args.disk.now)
-    (g.D.Disk.image c.run_all.new.devices.disk.now) (g.X.SecretStore.held c.run_all.new.devices.secrets.now))
-    = λ disk secrets. told_keeps _ _ _ _ _ _ _ _ _ _ _ (c.in-Err.ensures.saved disk secrets) c.tell.ensures
-    in search rules
+returns-in-Err-clause-kept g c = λ disk secrets. moved_keeps g.D.Disk.image g.X.SecretStore.held _ _ c.run_all.new.devices.disk.now _ c.run_all.new.devices.secrets.now _ _ _ (search rules) (search rules)
+    (told_keeps _ _ _ _ _ _ _ _ _ _ _ (c.in-Err.ensures.saved disk secrets) c.tell.ensures)
 
 pub returns-in-Ok-clause-found : goal.returns-in-Ok-clause-found
 returns-in-Ok-clause-found g c = λ disk secrets.
@@ -73,3 +72,13 @@ returns-in-Err-clause-skips g c = λ disk secrets. told_skips c.args.script.now 
 pub returns-in-Err-clause-whole : goal.returns-in-Err-clause-whole
 returns-in-Err-clause-whole g c = λ disk secrets fit.
     names_none (reader_in c.args.script.now) _ _ _ _ c.tell.result _ _ c.tell.ensures (c.in-Err.ensures.found disk secrets) (c.run_all.ensures.fit disk fit) (g.met.D.Disk.reads c.run_all.new.devices.disk.now disk)
+
+pub returns-in-Err-clause-complete : goal.returns-in-Err-clause-complete
+returns-in-Err-clause-complete g c = λ disk secrets valid no_disk no_secrets.
+    let now = c.run_all.new.devices in
+    ends_in_memory c.args.script.now (g.D.Disk.files c.args.disk.now) (g.X.SecretStore.held c.args.secrets.now) (g.D.Disk.image c.args.disk.now) valid c.in-Err.fault c.tell.result c.run_all.new.out.entries c.tell.new.out.entries
+    (Rose (g.D.Disk.faults c.args.disk.now) (g.D.Disk.faults now.disk.now)) (Rose (g.X.SecretStore.faults c.args.secrets.now) (g.X.SecretStore.faults now.secrets.now))
+    (g.D.Disk.image now.disk.now) (g.D.Disk.files now.disk.now) (g.X.SecretStore.held now.secrets.now) c.tell.ensures
+    (g.met.D.Disk.reads now.disk.now disk) (c.run_all.ensures.fit disk valid.devices.fit) (c.run_all.ensures.passing disk secrets valid.devices.passing)
+    (not_risen _ _ _ no_disk (search rules)) (not_risen _ _ _ no_secrets (search rules))
+    c.in-Err.ensures.causes (c.in-Err.ensures.found disk secrets) (c.in-Err.ensures.skips disk secrets) c.in-Err.ensures.lived

@@ -9,6 +9,9 @@ use Rattle.dkg_run.proofs.Stepped.{carries_so, step_kept, step_untold, step_save
 use Rattle.dkg_run.proofs.Steps.{faulted_not_cut, stops_before, quiet_stops, quiet_step}
 use Rattle.dkg_run.proofs.Stops.{cut_caused, same_caused}
 use Rattle.dkg_run.proofs.Found.{cut_blames, same_blames}
+use Rattle.dkg_run.specs.Chain.{deals_in}
+use Rattle.dkg_run.specs.Told.{seat_in}
+use Rattle.dkg_run.proofs.Passing.{event_holds, event_passing, passes_on}
 use Rattle.dkg_run.proofs.lives.take_step.Goals as goal
 
 -- THE LIFE IS CUT BEFORE THE STEP
@@ -93,3 +96,22 @@ returns-in_err-push-clause-fit g c = rw (← c.begin_step.ensures.disk) c.step.e
 
 pub returns-clause-fit : goal.returns-clause-fit
 returns-clause-fit g c = rw (← c.begin_step.ensures.disk) c.step.ensures.fit
+
+pub returns-in_err-begin_step-clause-passing : goal.returns-in_err-begin_step-clause-passing
+returns-in_err-begin_step-clause-passing g c = rw (c.begin_step.ensures.disk, c.begin_step.ensures.secrets) (λ disk secrets reader its. passes_on reader _ _ _ _ its)
+
+pub returns-in-Err-clause-passing : goal.returns-in-Err-clause-passing
+returns-in-Err-clause-passing g c = rw (← c.begin_step.ensures.disk, ← c.begin_step.ensures.secrets) (λ disk secrets reader. event_passing reader c.step.result c.args.blocks.now c.args.node.now.place.tip c.step.new.node.place.tip (deals_in c.args.node.now.place.tip c.args.node.now.midpoint) c.args.node.now.limit (seat_in c.args.node.now.player)
+    c.args.out.now.entries c.step.new.out.entries c.args.node.now.store.dealings c.step.new.node.store.dealings c.args.event.now _ _ _ _ c.step.ensures.told (c.step.ensures.images disk secrets))
+
+pub returns-in_err-push-clause-passing : goal.returns-in_err-push-clause-passing
+returns-in_err-push-clause-passing g c = rw (← c.begin_step.ensures.disk, ← c.begin_step.ensures.secrets) (λ disk secrets reader. event_passing reader c.step.result c.args.blocks.now c.args.node.now.place.tip c.step.new.node.place.tip (deals_in c.args.node.now.place.tip c.args.node.now.midpoint) c.args.node.now.limit (seat_in c.args.node.now.player)
+    c.args.out.now.entries c.step.new.out.entries c.args.node.now.store.dealings c.step.new.node.store.dealings c.args.event.now _ _ _ _ c.step.ensures.told (c.step.ensures.images disk secrets))
+
+pub returns-clause-passing : goal.returns-clause-passing
+returns-clause-passing g c = rw (← c.begin_step.ensures.disk, ← c.begin_step.ensures.secrets) (λ disk secrets reader. event_passing reader c.step.result c.args.blocks.now c.args.node.now.place.tip c.step.new.node.place.tip (deals_in c.args.node.now.place.tip c.args.node.now.midpoint) c.args.node.now.limit (seat_in c.args.node.now.player)
+    c.args.out.now.entries c.step.new.out.entries c.args.node.now.store.dealings c.step.new.node.store.dealings c.args.event.now _ _ _ _ c.step.ensures.told (c.step.ensures.images disk secrets))
+
+pub returns-clause-passes : goal.returns-clause-passes
+returns-clause-passes g c = rw (← c.begin_step.ensures.disk, ← c.begin_step.ensures.secrets) (λ disk secrets reader. event_holds reader c.step.result c.args.blocks.now c.args.node.now.place.tip c.step.new.node.place.tip (deals_in c.args.node.now.place.tip c.args.node.now.midpoint) c.args.node.now.limit (seat_in c.args.node.now.player)
+    c.args.out.now.entries c.step.new.out.entries c.args.node.now.store.dealings c.step.new.node.store.dealings c.args.event.now _ _ _ _ _ c.step.ensures.told (c.in-Ok.ensures.holds disk secrets) c.step.ensures.seat)

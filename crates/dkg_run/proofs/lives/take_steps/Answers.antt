@@ -11,6 +11,7 @@ use Rattle.dkg_run.proofs.Steps.{next_step}
 use Rattle.dkg_run.proofs.Runs.{at_item, at_event}
 use Rattle.dkg_run.proofs.Stops.{caused_later}
 use Rattle.dkg_run.proofs.Fitting.{fit_at}
+use Rattle.dkg_run.proofs.Passing.{passes_on}
 use Rattle.dkg_run.proofs.lives.take_steps.Goals as goal
 
 pub loop-i-init : goal.loop-i-init
@@ -21,6 +22,7 @@ loop-i-init g c = record {
   ready = c.requires.ready;
   limit = refl;
   fit = λ told fit. fit;
+  passes = λ disk secrets reader its. its;
   same_disk = refl;
   same_secrets = refl;
   moves = λ l. moves_none _ _ _ _ _ refl (λ s p is. is);
@@ -57,6 +59,7 @@ loop-i-preserved g c = let below : c.loop-i.i < length c.args.life.now.events = 
   ready = c.in_ok-take_step.ensures.ready;
   limit = c.take_step.ensures.limit ∙ c.loop-i.invariant.limit;
   fit = λ told fit. fit_at _ _ _ _ c.loop-i.invariant.limit (c.take_step.ensures.fit told) (c.loop-i.invariant.fit told fit);
+  passes = λ disk secrets reader its. c.in_ok-take_step.ensures.passes disk secrets reader (c.loop-i.invariant.passes disk secrets reader its);
   same_disk = cc;
   same_secrets = cc;
   moves = λ l. next_step c.args.life.now l _ _ _ _ _ _ below (c.loop-i.invariant.moves l) (c.in_ok-take_step.ensures.done l);
@@ -82,3 +85,9 @@ returns-in_err-take_step-clause-fit g c = λ told fit. fit_at _ _ _ _ c.loop-i.i
 
 pub returns-clause-fit : goal.returns-clause-fit
 returns-clause-fit g c = c.loop-i.invariant.fit
+
+pub returns-in_err-take_step-clause-passing : goal.returns-in_err-take_step-clause-passing
+returns-in_err-take_step-clause-passing g c = λ disk secrets reader its. c.take_step.ensures.passing disk secrets reader (c.loop-i.invariant.passes disk secrets reader its)
+
+pub returns-clause-passing : goal.returns-clause-passing
+returns-clause-passing g c = λ disk secrets reader its. passes_on reader _ _ _ _ (c.loop-i.invariant.passes disk secrets reader its)

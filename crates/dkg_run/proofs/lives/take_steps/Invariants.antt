@@ -8,6 +8,8 @@ use Rattle.dkg_store.specs.Player.{IsPlayerOf}
 use Rattle.dkg_script.specs.Order.{IsInOrder}
 use Rattle.dkg_run.specs.Carried.{CarriesIn, IsKeptEntry}
 use Rattle.dkg_run.specs.Devices.{IsReady}
+use Rattle.dkg_run.specs.Found.{Reader}
+use Rattle.dkg_run.specs.Passing.{HoldsPassing}
 use Rattle.dkg_run.specs.Standing.{Moves, Both, IsBehind}
 use Rattle.dkg_run.specs.Told.{AreValid, seat_in}
 use Rattle.dkg_run.proofs.lives.take_steps.Given as goal
@@ -20,6 +22,9 @@ invariant-loop-i g l = record {
   ready : IsTrue g.D.Disk.tells → IsReady l.node.store.journal.place (g.D.Disk.files l.devices.disk.now) (g.D.Disk.image l.devices.disk.now);
   limit : l.node.limit ≡ l.initial.node.limit;
   fit : IsTrue g.D.Disk.tells → AreFit l.initial.node.limit (g.D.Disk.image l.initial.devices.disk.now) → AreFit l.initial.node.limit (g.D.Disk.image l.devices.disk.now);
+  passes : IsTrue g.D.Disk.tells → IsTrue g.X.SecretStore.tells → (reader : Reader)
+      → HoldsPassing reader (seat_in l.initial.node.player) l.initial.node.store.dealings (g.D.Disk.image l.initial.devices.disk.now) (g.X.SecretStore.held l.initial.devices.secrets.now)
+      → HoldsPassing reader (seat_in l.node.player) l.node.store.dealings (g.D.Disk.image l.devices.disk.now) (g.X.SecretStore.held l.devices.secrets.now);
   same_disk : l.devices.disk.ghost_name ≡ l.initial.devices.disk.ghost_name;
   same_secrets : l.devices.secrets.ghost_name ≡ l.initial.devices.secrets.ghost_name;
   moves : (number : ℕ) → Moves IsInOrder (IsBehind l.life number 0) (IsBehind l.life number l.i) l.initial.out.entries l.out.entries;

@@ -19,3 +19,15 @@ returns-in_err-player-clause-found g c = let p = err_from_is_err_and c.from_resi
 
 pub returns-in_err-tell_setup-clause-found : goal.returns-in_err-tell_setup-clause-found
 returns-in_err-tell_setup-clause-found g c = let p = err_from_is_err_and c.from_residual-in_err-tell_setup.result c.from_residual-in_err-tell_setup.ensures.1 in rw (p.1, p.2) (λ disk secrets gives reader me_is tried. record { so = tt })
+
+pub returns-in_err-prune-clause-accepts : goal.returns-in_err-prune-clause-accepts
+returns-in_err-prune-clause-accepts g c = let p = err_from_is_err_and c.from_residual.result c.from_residual.ensures.1 in rw (p.1, p.2) (c.in_err-prune.ensures.accepts)
+
+pub returns-in_err-round-clause-accepts : goal.returns-in_err-round-clause-accepts
+returns-in_err-round-clause-accepts g c = let p = err_from_is_err_and c.from_residual-in_err-round.result c.from_residual-in_err-round.ensures.1 in rw (p.1, p.2) (c.in_err-round.ensures.accepts)
+
+pub returns-in_err-player-clause-accepts : goal.returns-in_err-player-clause-accepts
+returns-in_err-player-clause-accepts g c = let p = err_from_is_err_and c.from_residual-in_err-player.result c.from_residual-in_err-player.ensures.1 in rw (p.1, p.2) (c.in_err-player.ensures.accepts)
+
+pub returns-in_err-tell_setup-clause-accepts : goal.returns-in_err-tell_setup-clause-accepts
+returns-in_err-tell_setup-clause-accepts g c = let p = err_from_is_err_and c.from_residual-in_err-tell_setup.result c.from_residual-in_err-tell_setup.ensures.1 in rw (p.1, p.2) (λ refusal. refusal)

@@ -4,6 +4,8 @@ use Rattle.dkg_store.specs.declared.call.StoreError.{StoreError}
 use Rattle.dkg_run.specs.Found.{reader_of}
 use Rattle.dkg_run.proofs.Found.{opened_back, opening_found}
 use Rattle.dkg_run.proofs.Logs.{logs_opened}
+use Rattle.dkg_run.proofs.Passing.{opened_passing}
+use Rattle.dkg_run.proofs.Stops.{store_accepts}
 use Rattle.dkg_run.proofs.node.open_store.Goals as goal
 
 pub returns-in_err-store-clause-found : goal.returns-in_err-store-clause-found
@@ -28,3 +30,24 @@ returns-in_err-push-clause-keeps_logs g c = λ told. logs_opened _ _ (c.init.ens
 
 pub returns-clause-keeps_logs : goal.returns-clause-keeps_logs
 returns-clause-keeps_logs g c = λ told. logs_opened _ _ (c.init.ensures.images told)
+
+pub returns-in_err-store-clause-passing : goal.returns-in_err-store-clause-passing
+returns-in_err-store-clause-passing g c = λ told reader. opened_passing reader _ _ _ _ (c.init.ensures.images told) c.init.ensures.same
+
+pub returns-in_err-restored-clause-passing : goal.returns-in_err-restored-clause-passing
+returns-in_err-restored-clause-passing g c = λ told reader. opened_passing reader _ _ _ _ (c.init.ensures.images told) c.init.ensures.same
+
+pub returns-in_err-push-clause-passing : goal.returns-in_err-push-clause-passing
+returns-in_err-push-clause-passing g c = λ told reader. opened_passing reader _ _ _ _ (c.init.ensures.images told) c.init.ensures.same
+
+pub returns-clause-passing : goal.returns-clause-passing
+returns-clause-passing g c = λ told reader. opened_passing reader _ _ _ _ (c.init.ensures.images told) c.init.ensures.same
+
+pub returns-in_err-store-clause-accepts : goal.returns-in_err-store-clause-accepts
+returns-in_err-store-clause-accepts g c = let p = err_from_is_err_and c.from_residual.result c.from_residual.ensures.1 in rw (p.1, p.2) (store_accepts c.in_err-store.field-0.0)
+
+pub returns-in_err-restored-clause-accepts : goal.returns-in_err-restored-clause-accepts
+returns-in_err-restored-clause-accepts g c = let p = err_from_is_err_and c.from_residual-in_err-restored.result c.from_residual-in_err-restored.ensures.1 in rw (p.1, p.2) (λ refusal. refusal)
+
+pub returns-in_err-push-clause-accepts : goal.returns-in_err-push-clause-accepts
+returns-in_err-push-clause-accepts g c = let p = err_from_is_err_and c.from_residual-in_err-push.result c.from_residual-in_err-push.ensures.1 in rw (p.1, p.2) (λ refusal. refusal)

@@ -3,6 +3,7 @@ use Rattle.dkg_run.proofs.SetUp.{holds_pruned, keeps_all, logs_pruned}
 use Rattle.dkg_run.proofs.Today.{others_today}
 use Rattle.std.proofs.lemmas.Result.{err_from_is_err_and}
 use Rattle.dkg_run.proofs.Found.{devices_blame, pruned_back}
+use Rattle.dkg_run.proofs.Stops.{store_accepts}
 use Rattle.dkg_run.proofs.node.prune.Goals as goal
 
 pub returns-clause-dealings : goal.returns-clause-dealings
@@ -40,3 +41,6 @@ returns-in_err-prune-clause-no_record g c = let p = err_from_is_err_and c.from_r
 
 pub returns-clause-gives : goal.returns-clause-gives
 returns-clause-gives g c = λ told pairs gives. pruned_back pairs _ _ _ _ (c.in_ok-prune.ensures.left told) c.prune.ensures.crash gives
+
+pub returns-in_err-prune-clause-accepts : goal.returns-in_err-prune-clause-accepts
+returns-in_err-prune-clause-accepts g c = let p = err_from_is_err_and c.from_residual.result c.from_residual.ensures.1 in rw (p.1, p.2) (store_accepts c.in_err-prune.field-0.0)

@@ -3,6 +3,7 @@ use Rattle.dkg_run.specs.Found.{reader_of}
 use Rattle.dkg_run.proofs.Places.{quiet_then}
 use Rattle.std.proofs.lemmas.Result.{err_from_is_err_and}
 use Rattle.dkg_run.proofs.Found.{blames_found, by_device_blames, committed_back, tried_first}
+use Rattle.dkg_run.proofs.Stops.{device_refuses}
 use Rattle.dkg_run.proofs.node.set_up.Goals as goal
 
 pub returns-in_err-node-clause-quiet : goal.returns-in_err-node-clause-quiet
@@ -31,3 +32,12 @@ returns-in_err-node-clause-fit g c = rw (← c.commit.ensures.disk) c.enter.ensu
 
 pub returns-clause-fit : goal.returns-clause-fit
 returns-clause-fit g c = rw (← c.commit.ensures.disk) c.enter.ensures.fit
+
+pub returns-in_err-info-clause-accepts : goal.returns-in_err-info-clause-accepts
+returns-in_err-info-clause-accepts g c = let p = err_from_is_err_and c.from_residual.result c.from_residual.ensures.1 in rw (p.1, p.2) (c.in_err-info.ensures.accepts)
+
+pub returns-in_err-commit-clause-accepts : goal.returns-in_err-commit-clause-accepts
+returns-in_err-commit-clause-accepts g c = let p = err_from_is_err_and c.from_residual-in_err-commit.result c.from_residual-in_err-commit.ensures.1 in rw (p.1, p.2) (device_refuses _ _ _ c.in_err-commit.ensures.causes)
+
+pub returns-in_err-node-clause-accepts : goal.returns-in_err-node-clause-accepts
+returns-in_err-node-clause-accepts g c = let p = err_from_is_err_and c.from_residual-in_err-node.result c.from_residual-in_err-node.ensures.1 in rw (p.1, p.2) (c.in_err-node.ensures.accepts)

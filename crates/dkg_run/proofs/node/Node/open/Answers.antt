@@ -1,8 +1,11 @@
-use Rattle.std.proofs.Common.{inl, inr}
+use Rattle.std.proofs.Common.{inl, inr, refl}
 use Rattle.dkg_run.proofs.Logs.{logs_then}
 use Rattle.dkg_run.proofs.Places.{at_err, opening_then}
 use Rattle.dkg_run.proofs.SetUp.{may_tell}
 use Rattle.std.proofs.lemmas.Result.{err_from_is_err_and}
+use Rattle.dkg_run.specs.Found.{reader_of}
+use Rattle.dkg_run.specs.Told.{seat_in}
+use Rattle.dkg_run.proofs.Passing.{held_passing, opened_pass, seated_holds, sits}
 use Rattle.dkg_run.proofs.node.Node.open.Goals as goal
 
 pub returns-in_err-store-clause-failed : goal.returns-in_err-store-clause-failed
@@ -35,3 +38,28 @@ returns-in_err-node-clause-fit g c = λ told most fit. c.set_up.ensures.fit told
 
 pub returns-clause-fit : goal.returns-clause-fit
 returns-clause-fit g c = λ told most fit. c.set_up.ensures.fit told most (c.open_store.ensures.fit told most fit)
+
+pub returns-in_err-store-clause-passing : goal.returns-in_err-store-clause-passing
+returns-in_err-store-clause-passing g c = λ disk secrets. c.open_store.ensures.passing disk (reader_of c.args.beginning.now)
+
+pub returns-in_err-node-clause-passing : goal.returns-in_err-node-clause-passing
+returns-in_err-node-clause-passing g c = λ disk secrets are.
+    let its = opened_pass (reader_of c.args.beginning.now) _ _ _ _ _ _ _ c.in_ok-store.store.dealings (g.met.D.Disk.reads c.args.devices.now.disk.now disk) (c.in_ok-store.ensures.recovered disk secrets) (c.in_ok-store.ensures.settled disk secrets) (c.set_up.ensures.holds disk) are in
+    held_passing (reader_of c.args.beginning.now) _ _ _ its.0 its.1
+
+pub returns-clause-passing : goal.returns-clause-passing
+returns-clause-passing g c = λ disk secrets are.
+    let its = opened_pass (reader_of c.args.beginning.now) _ _ _ _ _ _ _ c.in_ok-store.store.dealings (g.met.D.Disk.reads c.args.devices.now.disk.now disk) (c.in_ok-store.ensures.recovered disk secrets) (c.in_ok-store.ensures.settled disk secrets) (c.set_up.ensures.holds disk) are in
+    held_passing (reader_of c.args.beginning.now) _ _ _ its.0 its.1
+
+pub returns-clause-passes : goal.returns-clause-passes
+returns-clause-passes g c = λ disk secrets are. seated_holds (reader_of c.args.beginning.now) _ _ _ _ _ c.in_ok-node.ensures.dealings
+    (sits (reader_of c.args.beginning.now) c.args.beginning.now.namespace c.args.beginning.now.mode c.args.beginning.now.info c.args.beginning.now.me c.in_ok-node.node.store.dealings c.in_ok-node.node.store.logs
+    (seat_in c.in_ok-node.node.player) refl refl c.in_ok-node.ensures.seat)
+    (opened_pass (reader_of c.args.beginning.now) _ _ _ _ _ _ _ c.in_ok-store.store.dealings (g.met.D.Disk.reads c.args.devices.now.disk.now disk) (c.in_ok-store.ensures.recovered disk secrets) (c.in_ok-store.ensures.settled disk secrets) (c.set_up.ensures.holds disk) are)
+
+pub returns-in_err-store-clause-accepts : goal.returns-in_err-store-clause-accepts
+returns-in_err-store-clause-accepts g c = let p = err_from_is_err_and c.from_residual.result c.from_residual.ensures.1 in rw (p.1, p.2) (c.in_err-store.ensures.accepts)
+
+pub returns-in_err-node-clause-accepts : goal.returns-in_err-node-clause-accepts
+returns-in_err-node-clause-accepts g c = let p = err_from_is_err_and c.from_residual-in_err-node.result c.from_residual-in_err-node.ensures.1 in rw (p.1, p.2) (c.in_err-node.ensures.accepts)
