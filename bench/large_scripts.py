@@ -4,11 +4,13 @@
 
 writes one to standard output.
 """
+import hashlib
 import sys
 
 FIELD = 65_521
 FEW = (1, 2, 3, 4)
 ME = 1
+SEVEN = (1, 2, 3, 4, 5, 6, 7)
 
 
 def uint(number):
@@ -39,24 +41,35 @@ def set_bytes(keys):
     return uint(len(keys)) + b"".join(k.to_bytes(4, "big") for k in keys)
 
 
-def info(dealers):
-    """The payload of block 0: an info of epoch 0 whose output these dealers share, by the polynomial 5 + x."""
-    polynomial = [5, 1] + [0] * (quorum(len(dealers)) - 2)
+def info_of(dealers, players, polynomial):
+    """The payload of block 0: an info of epoch 0 whose output these dealers share by the polynomial."""
     sharing = b"\x00" + uint(len(dealers)) + polynomial_bytes(polynomial)
     output = bytes(8) + sharing + set_bytes(dealers) + set_bytes(dealers) + set_bytes(())
-    return (b"\x01\x00" + uint(0) + output + set_bytes(FEW) + set_bytes(FEW)).hex()
+    return (b"\x01\x00" + uint(0) + output + set_bytes(players) + set_bytes(players)).hex()
+
+
+def info(dealers):
+    """The same for few players, by the polynomial 5 + x."""
+    return info_of(dealers, FEW, [5, 1] + [0] * (quorum(len(dealers)) - 2))
 
 
 def dealing(point, salt, wrong):
     """A dealing of the dealer at this point to the player at point 1, whose private half is off by `wrong`."""
     polynomial = [(5 + point) % FIELD] + [(salt * 7919 + i * 104_729 + point) % FIELD for i in (1, 2)]
+    return dealing_of(polynomial, wrong)
+
+
+def dealing_of(polynomial, wrong):
     private = (value(polynomial, 1) + wrong) % FIELD
     return (b"\x00" + polynomial_bytes(polynomial) + private.to_bytes(2, "big")).hex()
 
 
+def config(limit, blocks):
+    return ["dkg 1", f"me {ME}", f"blocks {blocks}", f"limit {limit}", "mode 0 0", "space -"]
+
+
 def header(dealers, blocks):
-    limit = max(4, len(dealers))
-    return ["dkg 1", f"me {ME}", f"blocks {blocks}", f"limit {limit}", "mode 0 0", "space -", f"block 0 - 0 {info(dealers)}"]
+    return [*config(max(4, len(dealers)), blocks), f"block 0 - 0 {info(dealers)}"]
 
 
 def text(lines):
@@ -101,6 +114,32 @@ def mixed(size):
     return text(early_blocks(size) + life(["final 0", message, *events]))
 
 
+def element(*parts):
+    """An element of the field, drawn from bytes."""
+    return int.from_bytes(hashlib.sha256(b"".join(parts)).digest()[:2], "big") % FIELD
+
+
+def made_dealing(number, output, dealer):
+    """The dealing to key 1 that dealer makes in the generated script of this number: its share of the output, by a seed."""
+    seed = hashlib.sha256(number.to_bytes(8, "big") + dealer.to_bytes(4, "big") + bytes(8)).digest()
+    return dealing_of([value(output, dealer)] + [element(seed, i.to_bytes(4, "big")) for i in range(1, 5)], 0)
+
+
+def made(size):
+    """What the generated script of number 2 has of epoch 0 below its midpoint, in two lives, so many times.
+
+    The first life is delivered the blocks 0 to 15, and behind block 1 the dealings of keys 2 to 7. The second goes on to block 31, and behind
+    block 16 key 2 sends its dealing again. From the second time on, the dealings are restored.
+    """
+    output = [element((2).to_bytes(8, "big"), b"\x01", i.to_bytes(4, "big")) for i in range(5)]
+    peers = [f"peer {k} {made_dealing(2, output, k)}" for k in SEVEN if k != ME]
+    finals = [f"final {i}" for i in range(32)]
+    first = ["life 2", "held 0", *finals[:2], *peers, *finals[2:16], "stop 0"]
+    second = ["life 2", "processed 15", "held 0 15", finals[16], peers[0], *finals[17:], "stop 0"]
+    lines = [*config(7, 64), f"block 0 - 0 {info_of(SEVEN, SEVEN, output)}", *(f"block {i} {i - 1} 0 -" for i in range(1, 32))]
+    return text(lines + (first + second) * size)
+
+
 # Its name, how a script of a size is made, the least of the four sizes, and the exponent of growth that is still well.
 KINDS = [
     ("repeats", repeats, 8_000, 1.1),
@@ -109,6 +148,7 @@ KINDS = [
     ("restarts", restarts, 10, 1.1),
     ("blocks", blocks, 4_000, 1.1),
     ("mixed", mixed, 3_000, 1.1),
+    ("make", made, 50, 1.1),
 ]
 
 
