@@ -1,5 +1,5 @@
 -- What a player takes from a round: the outcome, and its share.
-use Rattle.std.specs.Prelude.{◌≡◌, ℕ, ◌+◌, ◌*◌, ◌%◌, ◌&&◌, not, Bool, false, List, [], ◌∷◌, map, Option, Some, None, option_and_then, option_map, unwrap_or, is_some, Result, Ok, Err, if◌then◌else◌}
+use Rattle.std.specs.Prelude.{◌≡◌, ℕ, ◌+◌, ◌*◌, ◌%◌, ◌&&◌, not, Bool, true, false, Contains, IsSomeAnd, List, [], ◌∷◌, map, Option, Some, None, option_and_then, option_map, unwrap_or, is_some, Result, Ok, Err, if◌then◌else◌}
 use Rattle.std.specs.List.{zip}
 use Rattle.std.specs.Option.{option_map_or}
 use Rattle.std.specs.Str.{bytes_eq}
@@ -41,9 +41,19 @@ abbrev pub has_public : List ℕ → Option (List ℕ × ℕ) → Bool
 has_public public None = false
 has_public public (Some dealing) = bytes_eq dealing.0 public
 
--- whether a dealer's log bears a player's acknowledgement, and the player has no dealing with the log's public half
+-- whether a dealer's log bears the player's acknowledgement, and the player has no dealing with the log's public half
+abbrev pub lacks_by : (bears : (dealer : ℕ) → DealerLog → Bool) → DealingMap → LogMap → (dealer : ℕ) → Bool
+lacks_by bears dealings logs dealer = option_map_or (λ log. bears dealer log && not (has_public log.public (lookup dealer dealings))) (lookup dealer logs) false
+
 unfoldable pub lacks_dealing : Round → (me : ℕ) → DealingMap → LogMap → (dealer : ℕ) → Bool
-lacks_dealing round me dealings logs dealer = option_map_or (λ log. bears_ack_of round dealer log me && not (has_public log.public (lookup dealer dealings))) (lookup dealer logs) false
+lacks_dealing round me dealings logs dealer = lacks_by (λ dealer log. bears_ack_of round dealer log me) dealings logs dealer
+
+-- A dealing is missing: that of a selected dealer, whose log lacks it.
+pub record IsMissing (bears : (dealer : ℕ) → DealerLog → Bool) (dealings : DealingMap) (logs : LogMap) (selected : Option (List ℕ)) (e : FinishError) : Type 0 where
+  pub dealer : ℕ
+  pub is : e ≡ MissingDealing dealer
+  pub chosen : IsSomeAnd selected (λ dealers. Contains dealers dealer)
+  pub lacks : lacks_by bears dealings logs dealer ≡ true
 
 -- the first dealer that passes a test
 abbrev pub first_that : (ℕ → Bool) → List ℕ → Option ℕ

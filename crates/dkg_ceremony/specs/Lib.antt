@@ -9,6 +9,7 @@ pub mod Entries
 pub mod FewParts
 pub mod FinishLaws
 pub mod Finishes
+pub mod InverseLaws
 pub mod LogEntries
 pub mod LogMarkLaws
 pub mod Logs

@@ -1,6 +1,6 @@
 -- A player's share is the outcome's polynomial at the player's point, and all see the same outcome.
 use Rattle.std.proofs.Common.{◌≡◌, ℕ, suc, ◌+◌, ◌*◌, ◌%◌, Bool, true, false, cond, eqb, List, [], ◌∷◌, length, map, Option, Some, None, is_some, Result, Ok, Err, inl, inr, refl, sym, ap, ◌∙◌, arith}
-use Rattle.std.specs.Prelude.{Contains, IfOk, IfSome, option_and_then, option_map, is_ok, unwrap_or, not, ◌==◌, ◌&&◌}
+use Rattle.std.specs.Prelude.{Contains, IfErr, IfOk, IfSome, option_and_then, option_map, is_ok, unwrap_or, not, ◌==◌, ◌&&◌}
 use Rattle.std.specs.Option.{option_map_or}
 use Rattle.std.specs.List.{AllByRecursion, position_from, slice_get, zip}
 use Rattle.std.specs.Result.{result_ok}
@@ -27,7 +27,7 @@ use Rattle.dkg_ceremony.specs.Thresholds.{quorum_of}
 use Rattle.dkg_ceremony.specs.ValidLogs.{ack_at, ack_in, bears_ack_of, entry_passes, entries_pass, entry_of, is_valid}
 use Rattle.dkg_ceremony.specs.Weights.{weights_of}
 use Rattle.dkg_ceremony.specs.Outcomes.{LogMap, has_valid, selected_of, public_in, sum_of, keeps_key, outcome_parts, output_with, output_for, revealed_of, combined_of, outcome_of}
-use Rattle.dkg_ceremony.specs.Finishes.{DealingMap, private_with, private_from, private_by, private_in, first_missing, first_that, has_public, lacks_dealing, weighted_total, share_of, finish_where, finish_with, finish_from, finish_of}
+use Rattle.dkg_ceremony.specs.Finishes.{DealingMap, IsMissing, private_with, private_from, private_by, private_in, first_missing, first_that, has_public, lacks_dealing, weighted_total, share_of, finish_where, finish_with, finish_from, finish_of}
 use Rattle.dkg_ceremony.specs.PartialPublics.{partial_public_of, share_public_of}
 use Rattle.dkg_ceremony.specs.SelectionLaws.{AreValid, has_log, selected_valid, public_length}
 use Rattle.dkg_ceremony.specs.SumLaws.{all_long}
@@ -307,3 +307,44 @@ same_from round me dealings logs (Some selected) = same_where (first_that (lacks
 pub finish_agrees : (round : Round) (me : ℕ) (dealings : DealingMap) (logs : LogMap) → IfOk (finish_of round me dealings logs) (λ found. option_map (λ f. f.0) found ≡ outcome_of round logs)
 unfolding finish_of outcome_of
 finish_agrees round me dealings logs = same_from round me dealings logs (selected_of round logs)
+
+-- ---- which dealing is missing
+
+-- the first that passes a test is one of them, and passes it
+pub record IsFirst (test : ℕ → Bool) (dealers : List ℕ) (dealer : ℕ) : Type 0 where
+  pub one_of : Contains dealers dealer
+  pub passes : test dealer ≡ true
+
+one_behind : (test : ℕ → Bool) (d : ℕ) (ds : List ℕ) (dealer : ℕ) → IsFirst test ds dealer → IsFirst test (d ∷ ds) dealer
+one_behind test d ds dealer f = record { one_of = (suc f.one_of.0, omega (arith, f.one_of.1), f.one_of.2); passes = f.passes }
+
+first_found : (test : ℕ → Bool) (dealers : List ℕ) (dealer : ℕ) → first_that test dealers ≡ Some dealer → IsFirst test dealers dealer
+first_found test [] dealer e = absurd cc
+first_found test (d ∷ ds) dealer e =
+    elim (cases_Bool (test d)) [
+      | inl passes ↦
+          let some : Some d ≡ Some dealer = rw passes at e in
+          let same : d ≡ dealer = cc in
+          record { one_of = (0, omega arith, same); passes = ap test (sym same) ∙ passes }
+      | inr other ↦ one_behind test d ds dealer (first_found test ds dealer (rw other at e))
+    ]
+
+missing_where : (round : Round) (me : ℕ) (dealings : DealingMap) (logs : LogMap) (selected : List ℕ) (missing : Option ℕ) (output : Option Output) (share : ℕ) → first_that (lacks_dealing round me dealings logs) selected ≡ missing
+    → IfErr (finish_where missing output share) (IsMissing (λ dealer log. bears_ack_of round dealer log me) dealings logs (Some selected))
+unfolding lacks_dealing
+missing_where round me dealings logs selected None output share e = tt
+missing_where round me dealings logs selected (Some dealer) output share e =
+    let first = first_found (lacks_dealing round me dealings logs) selected dealer e in
+    record { dealer = dealer; is = refl; chosen = first.one_of; lacks = first.passes }
+
+missing_from : (round : Round) (me : ℕ) (dealings : DealingMap) (logs : LogMap) (selected : Option (List ℕ))
+    → IfErr (finish_from round me dealings logs selected) (IsMissing (λ dealer log. bears_ack_of round dealer log me) dealings logs selected)
+unfolding finish_with
+missing_from round me dealings logs None = tt
+missing_from round me dealings logs (Some selected) =
+    missing_where round me dealings logs selected (first_that (lacks_dealing round me dealings logs) selected) (combined_of round logs selected) (share_of round selected (private_in round.players me dealings logs)) refl
+
+-- A round isn't finished only where the dealing of a selected log is missing.
+pub missing_lacks : (round : Round) (me : ℕ) (dealings : DealingMap) (logs : LogMap) → IfErr (finish_of round me dealings logs) (IsMissing (λ dealer log. bears_ack_of round dealer log me) dealings logs (selected_of round logs))
+unfolding finish_of
+missing_lacks round me dealings logs = missing_from round me dealings logs (selected_of round logs)

@@ -6,7 +6,7 @@ use Rattle.dkg_ceremony.specs.Polynomials.{prime}
 use Rattle.dkg_ceremony.specs.declared.output.Output.{Output}
 use Rattle.dkg_ceremony.specs.Weights.{inverse_of, point_in, weight_at, weights_of}
 
-square : (a k : ℕ) → (a * a) ^ k ≡ a ^ (2 * k)
+pub square : (a k : ℕ) → (a * a) ^ k ≡ a ^ (2 * k)
 square a k = mul-pow a a k ∙ sym (pow-add a k k) ∙ ap (λ (n : ℕ). a ^ n) (omega arith)
 
 -- a factor that is a power of a square

@@ -1,11 +1,12 @@
 //! What a node asks of a key ceremony.
 //!
 //! Each answer is a function of the arguments, the same at every node: the ghost members say which.
-ghost use Rattle.std.specs.Prelude.{◌≡◌, ◌↔◌, ℕ, true, List, Option, option_map, Ok, Err, Some, Contains, IfOk, IfSome, IsSomeAnd};
+ghost use Rattle.std.specs.Prelude.{◌≡◌, ◌↔◌, ℕ, true, List, Option, option_map, Ok, Err, Some, Contains, IfErr, IfOk, IfSome, IsSomeAnd};
 ghost use Rattle.dkg_values.specs.Rising.{lookup};
 ghost use Rattle.dkg_ceremony.specs.declared.ceremony.AckError.TheVariants.{NoMemory as NoMemoryLeft};
 ghost use Rattle.dkg_ceremony.specs.declared.dealer_log.DealerLog.{DealerLog};
 ghost use Rattle.dkg_ceremony.specs.declared.round.Round.{Round};
+ghost use Rattle.dkg_ceremony.specs.Finishes.{IsMissing};
 
 use crate::deal::DealError;
 use crate::dealer_log::DealerLog;
@@ -71,7 +72,7 @@ impl<T: Drop> From<AllocFailed<T>> for AckError {
 
 /// The calls of a ceremony.
 pub trait Ceremony {
-    ghost use Rattle.std.specs.Prelude.{◌≡◌, ◌↔◌, ℕ, Bool, true, List, Option, Some, option_map, Result, Ok, Err, IfOk, IfSome, IsSomeAnd, IsTrue, Contains};
+    ghost use Rattle.std.specs.Prelude.{◌≡◌, ◌↔◌, ℕ, Bool, true, List, Option, Some, option_map, Result, Ok, Err, IfErr, IfOk, IfSome, IsSomeAnd, IsTrue, Contains};
     ghost use Rattle.std.specs.Option.{option_copied};
     ghost use Rattle.dkg_values.specs.Rising.{lookup};
     ghost use Rattle.dkg_ceremony.specs.declared.round.Round.{Round};
@@ -90,7 +91,7 @@ pub trait Ceremony {
     ghost use Rattle.dkg_ceremony.specs.Deals.{Deals};
     ghost use Rattle.dkg_ceremony.specs.Acks.{Checks};
     ghost use Rattle.dkg_ceremony.specs.ValidLogs.{has_entry};
-    ghost use Rattle.dkg_ceremony.specs.Finishes.{Finishes};
+    ghost use Rattle.dkg_ceremony.specs.Finishes.{Finishes, IsMissing};
 
     type Signer: Signer;
 
@@ -117,6 +118,9 @@ pub trait Ceremony {
 
     /// Whether a dealer's log holds a valid acknowledgement of a player.
     ghost bears_ack_of: { Round → (dealer : ℕ) → DealerLog → (player : ℕ) → Bool };
+
+    /// The dealers whose logs the outcome is made of, or none.
+    ghost selected_of: { Round → List (ℕ × DealerLog) → Option (List ℕ) };
 
     /// The outcome of the dealers' logs, or none.
     ghost outcome_of: { Round → List (ℕ × DealerLog) → Option Output };
@@ -276,6 +280,9 @@ pub trait Ceremony {
     /// Who finishes a round has the outcome that all see, or none as they do.
     ghost finish_agrees: { (round : Round) (me : ℕ) (dealings : List (ℕ × (List ℕ × ℕ))) (logs : List (ℕ × DealerLog)) → IfOk (finish_of round me dealings logs) (λ found. option_map (λ f. f.0) found ≡ outcome_of round logs) };
 
+    /// A round isn't finished only where a selected log bears the player's acknowledgement and its dealing is missing.
+    ghost missing_lacks: { (round : Round) (me : ℕ) (dealings : List (ℕ × (List ℕ × ℕ))) (logs : List (ℕ × DealerLog)) → IfErr (finish_of round me dealings logs) (IsMissing (λ dealer log. bears_ack_of round dealer log me) dealings logs (selected_of round logs)) };
+
     /// A finished share's public element is the one that the output has for the player.
     ghost shares_fit: { (round : Round) (me : ℕ) (dealings : List (ℕ × (List ℕ × ℕ))) (logs : List (ℕ × DealerLog)) → Contains round.players me
         → ((dealer : ℕ) → IfSome (lookup dealer dealings) (λ d. dealing_of round me dealer d.0 d.1 ≡ Ok tt))
@@ -296,9 +303,10 @@ pub fn dealers_pass<C: Ceremony>()
     ensures signed { (round : Round) (signer : ℕ) (public : List ℕ) (privates : List (ℕ × ℕ)) (acks : List (ℕ × List ℕ)) → Contains round.dealers signer → C.check_log_of round (C.sign_log_of signer round public privates acks) ≡ true }
 {}
 
-/// Who finishes a round has the outcome that all see, and a share that fits it, of every ceremony.
+/// Who finishes a round has the outcome that all see, and a share that fits it, of every ceremony. Who doesn't lacks a dealing.
 pub fn finishes_agree<C: Ceremony>()
     ensures same { (round : Round) (me : ℕ) (dealings : List (ℕ × (List ℕ × ℕ))) (logs : List (ℕ × DealerLog)) → IfOk (C.finish_of round me dealings logs) (λ found. option_map (λ f. f.0) found ≡ C.outcome_of round logs) }
+    ensures missing { (round : Round) (me : ℕ) (dealings : List (ℕ × (List ℕ × ℕ))) (logs : List (ℕ × DealerLog)) → IfErr (C.finish_of round me dealings logs) (IsMissing (λ dealer log. C.bears_ack_of round dealer log me) dealings logs (C.selected_of round logs)) }
     ensures fits { (round : Round) (me : ℕ) (dealings : List (ℕ × (List ℕ × ℕ))) (logs : List (ℕ × DealerLog)) → Contains round.players me
         → ((dealer : ℕ) → IfSome (lookup dealer dealings) (λ d. C.dealing_of round me dealer d.0 d.1 ≡ Ok tt))
         → IfOk (C.finish_of round me dealings logs) (λ found. IfSome found (λ f. C.partial_public_of f.0 me ≡ Some (C.share_public_of f.1))) }

@@ -11,7 +11,7 @@ use dkg_values::{CodecError, EncodeSize, Mem, Read, Reader, Spelled, Value, Writ
 use std::alloc::Global;
 
 /// The public half of a dealing, and an entry for each player of the round in the order of their keys.
-#[derive(Debug, Drop)]
+#[derive(Drop)]
 pub struct DealerLog {
     pub public: Public,
     pub entries: LogEntries,

@@ -1,6 +1,6 @@
 //! Polynomials at the points of participants.
 //!
-//! The stand-in ceremony checks dealings with them. A participant's point is its place, from 0, and one.
+//! The stand-in ceremony checks dealings with them, and a signing desk partials. A participant's point is its place, from 0, and one.
 ghost use Rattle.std.specs.Prelude.{◌≡◌, ◌+◌, ◌<◌};
 ghost use Rattle.dkg_ceremony.specs.Polynomials.{value_at};
 ghost use Rattle.dkg_ceremony.specs.Dealings.{fits_at, reshares};
@@ -10,9 +10,9 @@ use crate::output::Output;
 use crate::public::Public;
 use dkg_values::{Element, Key, Set};
 
-/// A polynomial's value, modulo 65,521, at the point of a place.
+/// A polynomial's value, modulo 65,521, at the point of a place, from 0, among participants.
 #[tactic(auto, using(crate::specs::PolynomialLaws::value_step, crate::specs::PolynomialLaws::value_end))]
-pub(crate) fn value_of(poly: &Public, place: u32) -> u32
+pub fn value_of(poly: &Public, place: u32) -> u32
     ensures value { result ≡ value_at poly.now (place + 1) }
     ensures below { result < 65521 }
 {

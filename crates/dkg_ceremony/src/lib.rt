@@ -48,6 +48,7 @@ pub use dkg_values::{
     read_count, read_keys, read_many, read_u32, read_u64, round_trip, uint_size, write_uint,
 };
 pub use epocher::{Bounds, Epocher};
+pub use evaluate::value_of;
 pub use finish::FinishError;
 pub use log_entries::LogEntries;
 pub use log_entry::LogEntry;

@@ -14,7 +14,7 @@ use std::alloc::Global;
 use std::marker::Model;
 
 /// The entries of a log, fewer than 2^32, which contracts see as a list.
-#[derive(Debug, Drop)]
+#[derive(Drop)]
 pub struct LogEntries(pub Vec<LogEntry>);
 
 impl Model for LogEntries {

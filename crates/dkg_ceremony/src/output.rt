@@ -18,7 +18,7 @@ use std::alloc::Global;
 ///
 /// There is a player at least, the sharing's total is their number, its polynomial has as many coefficients as a
 /// quorum of them, and each revealed key is a player.
-#[derive(Debug, Drop)]
+#[derive(Drop)]
 pub struct Output {
     /// What the round was.
     pub summary: Mark,

@@ -14,7 +14,7 @@ use std::alloc::{AllocError, AllocFailed, Global};
 use thiserror::Error;
 
 /// Who deals to whom, after which output, under which name and number.
-#[derive(Debug, Drop)]
+#[derive(Drop)]
 pub struct Round {
     /// What keeps the marks of two chains apart.
     pub namespace: Blob,

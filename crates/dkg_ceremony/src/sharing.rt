@@ -15,7 +15,7 @@ use dkg_values::{
 use std::alloc::Global;
 
 /// A key that is shared among `total` holders, by a polynomial whose constant coefficient is the key.
-#[derive(Debug, Drop)]
+#[derive(Drop)]
 pub struct Sharing {
     pub mode: Mode,
     pub total: u32,

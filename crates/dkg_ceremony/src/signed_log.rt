@@ -8,7 +8,7 @@ use dkg_values::{CodecError, EncodeSize, Key, Mark, Mem, Read, Reader, Spelled, 
 use std::alloc::Global;
 
 /// A log and its dealer's mark on the round and the log.
-#[derive(Debug, Drop)]
+#[derive(Drop)]
 pub struct SignedDealerLog {
     pub dealer: Key,
     pub log: DealerLog,

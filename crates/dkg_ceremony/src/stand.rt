@@ -82,10 +82,10 @@ impl Ceremony for StandCeremony {
     ghost use Rattle.dkg_ceremony.specs.DealLaws.{deals_pass as all_deals_pass, shares_are_dealt as held_are_dealt};
     ghost use Rattle.dkg_ceremony.specs.ValidLogs.{bears_ack_of as bears_from, check_log_of as check_log_from, sign_log_of as signed_from};
     ghost use Rattle.dkg_ceremony.specs.LogMarkLaws.{signed_passes};
-    ghost use Rattle.dkg_ceremony.specs.Outcomes.{outcome_of as outcome_from};
+    ghost use Rattle.dkg_ceremony.specs.Outcomes.{outcome_of as outcome_from, selected_of as selected_from};
     ghost use Rattle.dkg_ceremony.specs.Finishes.{finish_of as finish_from};
     ghost use Rattle.dkg_ceremony.specs.PartialPublics.{partial_public_of as partial_public_from, share_public_of as share_public_from};
-    ghost use Rattle.dkg_ceremony.specs.ShareLaws.{finish_agrees as all_finish_agree, shares_fit as all_shares_fit};
+    ghost use Rattle.dkg_ceremony.specs.ShareLaws.{finish_agrees as all_finish_agree, missing_lacks as all_missing_lack, shares_fit as all_shares_fit};
 
     ghost round_of = { round_from };
 
@@ -107,6 +107,8 @@ impl Ceremony for StandCeremony {
 
     ghost bears_ack_of = { bears_from };
 
+    ghost selected_of = { selected_from };
+
     ghost outcome_of = { outcome_from };
 
     ghost finish_of = { finish_from };
@@ -122,6 +124,8 @@ impl Ceremony for StandCeremony {
     ghost signed_pass = { signed_passes };
 
     ghost finish_agrees = { all_finish_agree };
+
+    ghost missing_lacks = { all_missing_lack };
 
     ghost shares_fit = { all_shares_fit };
 

@@ -2,7 +2,7 @@
 //!
 //! A new key is the plain sum of what was dealt. A key that is dealt again is the value at zero of the polynomial
 //! through the dealers' shares, so that each of these has its weight of interpolation.
-ghost use Rattle.std.specs.Prelude.{◌≡◌, ℕ, ◌+◌, ◌<◌, IfOk, map};
+ghost use Rattle.std.specs.Prelude.{◌≡◌, ℕ, ◌+◌, ◌*◌, ◌%◌, ◌<◌, IfOk, map};
 ghost use Rattle.dkg_ceremony.specs.Weights.{bottom_of, inverse_of, point_in, top_of, weight_at, weights_of};
 
 use crate::output::Output;
@@ -10,9 +10,10 @@ use dkg_values::{Key, Mem, Set};
 use std::alloc::Global;
 
 /// The inverse modulo 65,521, by squares.
-#[tactic(auto, using(crate::specs::WeightLaws::even_turn, crate::specs::WeightLaws::odd_turn, crate::specs::WeightLaws::at_start, crate::specs::WeightLaws::at_end))]
+#[tactic(auto, using(crate::specs::WeightLaws::even_turn, crate::specs::WeightLaws::odd_turn, crate::specs::WeightLaws::at_start, crate::specs::WeightLaws::at_end, crate::specs::InverseLaws::inverse_is))]
 fn inverse(number: u32) -> u32
-    ensures { result ≡ inverse_of number }
+    ensures exact { result ≡ inverse_of number }
+    ensures one { 0 < number % 65521 → number * result % 65521 ≡ 1 }
 {
     let mut base = u64::from(number) % 65521;
     let mut power = 1u64;
