@@ -46,7 +46,7 @@ block height s = record { context = genesis_context 0; parent = zero_digest; hei
 abbrev path : List (Block directory.Unit)
 path = block 3 (signed 2 5) ∷ block 4 (with_mark_of 2 (signed 1 6)) ∷ block 5 (signed 2 7) ∷ block 6 (signed 2 8) ∷ block 7 (signed 1 9) ∷ []
 
-pub first_counts : logs_of_path 4 7 round path ≡ (2, revealing 7) ∷ []
+pub first_counts : logs_of_path check_log_of 4 7 round path ≡ (2, revealing 7) ∷ []
 unfolding logs_from check_log_of log_content sign_log_of mark_of round_bytes groups first_words schedule rounds compress hash_after digest_bytes sha256
 first_counts = refl
 
@@ -60,12 +60,12 @@ abbrev acknowledged : LogMap
 acknowledged = (1, record { public = 5 ∷ []; entries = Ack (ack_of 1 alone 1 (5 ∷ [])) ∷ [] }) ∷ []
 
 abbrev provided : Provided directory.Unit
-provided = record { participants = λ epoch. (epoch + 1) ∷ []; directory = λ peers. record {} }
+provided = record { participants = λ epoch. (epoch + 1) ∷ []; directory = λ epoch peers. record {} }
 
 abbrev info : Output → EpochInfo directory.Unit
 info output = record { outcome = Success; epoch = 0; output = output; players = 1 ∷ []; next_players = 2 ∷ []; directory = record {} }
 
-pub carried_forward : (output : Output) → next_info provided (info output) alone [] ≡ record { outcome = Failure; epoch = 1; output = output; players = 2 ∷ []; next_players = 3 ∷ []; directory = record {} }
+pub carried_forward : (output : Output) → next_info outcome_of provided (info output) alone [] ≡ record { outcome = Failure; epoch = 1; output = output; players = 2 ∷ []; next_players = 3 ∷ []; directory = record {} }
 unfolding next_info outcome_of selected_of
 carried_forward output = refl
 
@@ -77,13 +77,13 @@ pub record Succeeds (i : EpochInfo directory.Unit) : Type 0 where
   pub players : i.players ≡ 2 ∷ []
   pub next_players : i.next_players ≡ 3 ∷ []
 
-pub has_succeeded : (output : Output) → Succeeds (next_info provided (info output) alone acknowledged)
+pub has_succeeded : (output : Output) → Succeeds (next_info outcome_of provided (info output) alone acknowledged)
 unfolding next_info outcome_of selected_of combined_of sum_of revealed_of output_with summary_of is_valid check_ack_of ack_content round_bytes mark_of value_at groups first_words schedule rounds compress hash_after digest_bytes sha256
 has_succeeded output = record { outcome = refl; epoch = refl; poly = refl; players = refl; next_players = refl }
 
 abbrev nothing : Option (EpochInfo directory.Unit)
 nothing = None
 
-pub nothing_once : oneshot_info (λ peers. record {}) (1 ∷ []) alone [] ≡ nothing
+pub nothing_once : oneshot_info outcome_of (λ peers. record {}) (1 ∷ []) alone [] ≡ nothing
 unfolding oneshot_info outcome_of selected_of
 nothing_once = refl

@@ -1,10 +1,11 @@
 -- Sockets, addresses and directories of addresses as bytes.
-use Rattle.std.proofs.Common.{◌≡◌, ℕ, zero, suc, ◌+◌, ◌*◌, ◌<◌, ◌≤◌, ◌^◌, List, [], ◌∷◌, ◌++◌, length, Err, refl, arith}
+use Rattle.std.proofs.Common.{◌≡◌, ℕ, zero, suc, ◌+◌, ◌*◌, ◌<◌, ◌≤◌, ◌^◌, List, [], ◌∷◌, ◌++◌, length, Err, refl, sym, ap, ◌∙◌, arith}
 use Rattle.std.specs.Int.{w16, w32, to_be_bytes}
 use Rattle.std.specs.List.{AllByRecursion}
 use Rattle.dkg_values.specs.declared.codec.CodecError.TheVariants.{InvalidEnum}
 use Rattle.dkg_values.specs.Bytes.{HasTag, tagged, tagged_at, tagged_grammar}
 use Rattle.dkg_values.specs.Codec.{Reading, IsGrammar, number_at}
+use Rattle.dkg_values.specs.Grammar.{ok_is}
 use Rattle.dkg_values.specs.Joined.{beside_at, beside_grammar, BothFit, both_spelled, seen_at, seen_grammar}
 use Rattle.dkg_values.specs.ListGrammar.{be16_grammar, be32_grammar, map_grammar}
 use Rattle.dkg_values.specs.Lists.{map_at, map_spelling, MapFits, values_of}
@@ -129,6 +130,19 @@ addresses_at count = map_at address_at count count
 
 pub addresses_grammar : (count : ℕ) → IsGrammar (AddressesFit count) addresses_spelling (addresses_at count)
 addresses_grammar count = map_grammar AddressFits address_spelling address_at address_grammar count count
+
+-- a directory of so many peers is a map of at most as many as any more
+widened : (count most : ℕ) (pairs : Pairs) → AddressesFit count pairs → count ≤ most → MapFits AddressFits 0 most pairs
+widened count most pairs fit le = record { many = omega arith; few = omega (arith, fit.few, le); small = fit.small; rising = fit.rising; values = fit.values }
+
+-- No directory's spelling begins another's, of however many peers each is.
+pub addresses_no_prefix : (m n : ℕ) (a b : Pairs) (x y : List ℕ) → AddressesFit m a → AddressesFit n b → addresses_spelling a ++ x ≡ addresses_spelling b ++ y → (a ≡ b) × (x ≡ y)
+addresses_no_prefix m n a b x y fit_a fit_b e =
+    let law = map_grammar AddressFits address_spelling address_at address_grammar 0 (m + n) in
+    let one = law.again a x (widened m (m + n) a fit_a (omega arith)) in
+    let two = law.again b y (widened n (m + n) b fit_b (omega arith)) in
+    let same = ok_is (a, x) (b, y) (sym one ∙ ap (map_at address_at 0 (m + n)) e ∙ two) in
+    (ap (λ (p : Pairs × List ℕ). p.0) same, ap (λ (p : Pairs × List ℕ). p.1) same)
 
 values_short : (pairs : Pairs) → values_size address_spelling pairs ≤ 13 * length pairs
 values_short [] = omega arith

@@ -15,4 +15,5 @@ pub mod Told
 pub mod Tracking
 pub mod Units
 pub mod Validation
+pub mod Within
 pub use Rattle.dkg_ceremony.specs.Variants

@@ -1,11 +1,13 @@
 //! The directory of a network that dials: where each peer is reached.
 //!
 //! An info carries one, and a manager hands the addresses of the tracked peers on.
-ghost use Rattle.std.specs.Prelude.{◌≡◌, ◌^◌, ◌<◌, ◌≤◌, ◌++◌, ℕ, length, vec_len, IfOk, OnOk, OnErr};
+ghost use Rattle.std.specs.Prelude.{◌≡◌, ◌^◌, ◌<◌, ◌≤◌, ◌++◌, ◌+◌, ◌*◌, ℕ, length, vec_len, IfOk, IsErrOf, OnOk, OnErr};
+ghost use Rattle.std.specs.List.{AllByRecursion};
 ghost use Rattle.std.specs.Option.{option_copied};
 ghost use Rattle.dkg_values.specs.Codec.{Reads, StandsInFront};
 ghost use Rattle.dkg_values.specs.Rising.{keys_of, lookup, map_of};
-ghost use Rattle.dkg_types.specs.AddressCodes.{addresses_spelling, end_at, two_spelled};
+ghost use Rattle.dkg_values.specs.Lists.{values_of};
+ghost use Rattle.dkg_types.specs.AddressCodes.{AddressFits, AddressesFit, SocketFits, address_at, addresses_spelling, end_at, socket_at, two_spelled};
 
 use crate::directory::Directory;
 use bytes::{BufMut, BytesMut};
@@ -30,6 +32,16 @@ pub enum Address {
     Symmetric(Socket),
     /// It is dialed at one socket and dials from another.
     Asymmetric { ingress: Socket, egress: Socket },
+}
+
+impl Socket {
+    /// A socket may be read whatever the limits.
+    pub fn fits_limits(&self)
+        ensures { SocketFits self.now }
+    {
+        let _ip = self.ip;
+        let _port = self.port;
+    }
 }
 
 impl Spelled for Socket {
@@ -63,10 +75,28 @@ impl Read for Socket {
 
     ghost grammar = { λ _. socket_grammar };
 
-    fn read_cfg(_alloc: Global, input: &mut Reader<'_>, _cfg: &()) -> Result<Socket, CodecError> {
+    fn read_cfg(_alloc: Global, input: &mut Reader<'_>, _cfg: &()) -> Result<Socket, CodecError>
+        ensures exact { Reads (socket_at input.old) result input.new }
+        ensures sure { IsErrOf result CodecError.NoMemory → ⊥ }
+    {
         let ip = read_be32(input)?;
         let port = read_be16(input)?;
         Ok(Socket { ip, port })
+    }
+}
+
+impl Address {
+    /// An address may be read whatever the limits.
+    pub fn fits_limits(&self)
+        ensures { AddressFits self.now }
+    {
+        match self {
+            Address::Symmetric(socket) => socket.fits_limits(),
+            Address::Asymmetric { ingress, egress } => {
+                ingress.fits_limits();
+                egress.fits_limits();
+            }
+        }
     }
 }
 
@@ -124,7 +154,8 @@ impl Write for Address {
 
 #[tactic(auto, unfolding(crate::specs::AddressCodes::end_at))]
 fn read_end(alloc: Global, input: &mut Reader<'_>) -> Result<Socket, CodecError>
-    ensures { Reads (end_at input.old) result input.new }
+    ensures exact { Reads (end_at input.old) result input.new }
+    ensures sure { IsErrOf result CodecError.NoMemory → ⊥ }
 {
     Socket::read_cfg(alloc, input, &())
 }
@@ -141,7 +172,10 @@ impl Read for Address {
     ghost grammar = { λ _. address_grammar };
 
     #[tactic(auto, unfolding(crate::specs::AddressCodes::address_after))]
-    fn read_cfg(alloc: Global, input: &mut Reader<'_>, _cfg: &()) -> Result<Address, CodecError> {
+    fn read_cfg(alloc: Global, input: &mut Reader<'_>, _cfg: &()) -> Result<Address, CodecError>
+        ensures exact { Reads (address_at input.old) result input.new }
+        ensures sure { IsErrOf result CodecError.NoMemory → ⊥ }
+    {
         match read_byte(input)? {
             0 => {
                 let socket = read_end(alloc, input)?;
@@ -158,7 +192,7 @@ impl Read for Address {
 }
 
 /// The address of each peer, as the upstream's `network` module has it; contracts see the list of the pairs.
-#[derive(Debug, Drop)]
+#[derive(Drop)]
 pub struct Addresses {
     addresses: Map<Address>,
 }
@@ -170,6 +204,16 @@ impl Model for Addresses {
     ghost Value = { List (ℕ × Address) };
 
     ghost view = { λ a. a.addresses };
+}
+
+/// Each address keeps all that its spelling asks: to know it, each is read.
+#[tactic(auto, using(crate::specs::Within::more_fit, crate::specs::Within::all_fit))]
+fn all_known(pairs: &[(Key, Address)])
+    ensures { AllByRecursion AddressFits (values_of pairs.now) }
+{
+    for pair in pairs {
+        pair.1.fits_limits();
+    }
 }
 
 impl Addresses {
@@ -193,6 +237,14 @@ impl Addresses {
         ensures { option_copied result ≡ lookup peer self.now }
     {
         self.addresses.get(peer)
+    }
+
+    /// A directory may be read as one of as many peers as it has addresses. To know it, each is read.
+    pub fn fits_limits(&self)
+        ensures { (count : ℕ) → length self.now ≡ count → AddressesFit count self.now }
+    {
+        all_known(self.addresses.as_slice());
+        self.addresses.fits_limits();
     }
 
     pub fn into_inner(self) -> Map<Address>
@@ -225,6 +277,7 @@ impl EncodeSize for Addresses {
     fn encode_size(&self) -> usize
         ensures size { result ≡ length (addresses_spelling self.now) }
         ensures small { result ≤ 2 ^ 61 }
+        ensures limit { (most : ℕ) → length self.now ≤ most → result ≤ 10 + 17 * most }
     {
         let _kept = self.addresses.as_slice();
         self.addresses.encode_size()
@@ -282,6 +335,11 @@ impl Directory for Addresses {
 
     fn matches(&self, peers: &Set) -> bool {
         self.addresses.has_keys(peers)
+    }
+
+    #[tactic(auto, using(crate::specs::Within::as_many))]
+    fn fits_peers(&self) {
+        self.fits_limits();
     }
 
     fn size(&self) -> usize {

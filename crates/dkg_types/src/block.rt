@@ -1,12 +1,13 @@
 //! Blocks of the chain, as far as the ceremony looks at them. A source holds them and the actors are delivered them.
-ghost use Rattle.std.specs.Prelude.{◌≡◌, ℕ, ◌+◌, ◌*◌, ◌^◌, ◌≤◌, ◌++◌, ◌↔◌, length, IfOk, OnOk, OnErr, IsTrue, None};
+ghost use Rattle.std.specs.Prelude.{◌≡◌, ℕ, ◌+◌, ◌*◌, ◌^◌, ◌≤◌, ◌++◌, ◌↔◌, length, IfOk, IsErrOf, OnOk, OnErr, IsTrue, None};
 ghost use Rattle.std.specs.Int.NonZero.{non_zero_u32_get};
 ghost use Rattle.std.specs.Option.{option_copied};
 ghost use Rattle.sha2.specs.Sha256.{sha256};
 ghost use Rattle.dkg_values.specs.Codec.{Reads, StandsInFront};
 ghost use Rattle.dkg_types.specs.Bounds.{IsBound};
+ghost use Rattle.dkg_types.specs.Within.{BlockWithin, PayloadWithin};
 ghost use Rattle.dkg_types.specs.PayloadCodes.{PayloadFits};
-ghost use Rattle.dkg_types.specs.BlockCodes.{BlockFits, IsBlock, block_bytes, block_spelling, flagged_at, flagged_bytes, genesis_context, head_at, held_at, info_of, zero_digest};
+ghost use Rattle.dkg_types.specs.BlockCodes.{BlockFits, ContextFits, FlaggedFits, IsBlock, context_at as context_from, block_bytes, block_spelling, flagged_at, flagged_bytes, genesis_context, head_at, held_at, info_of, zero_digest};
 
 use crate::apart::Apart;
 use crate::directory::Directory;
@@ -64,12 +65,26 @@ impl Spelled for Context {
 }
 
 /// How many bytes a digest takes.
-fn size_of_digest(digest: &Digest) -> usize
+pub(crate) fn size_of_digest(digest: &Digest) -> usize
     ensures size { result ≡ length digest.now }
     ensures bound { result ≡ 32 }
 {
     let bytes = &digest.0;
     bytes.len()
+}
+
+impl Context {
+    /// A context may be read whatever the limits.
+    #[tactic(auto, using(crate::specs::Within::context_fits))]
+    pub fn fits_limits(&self)
+        ensures { ContextFits self.now }
+    {
+        let _epoch = self.epoch.0;
+        let _view = self.view;
+        let _leader = self.leader.number();
+        let _parent_view = self.parent_view;
+        let _parent = size_of_digest(&self.parent);
+    }
 }
 
 impl EncodeSize for Context {
@@ -109,7 +124,10 @@ impl Read for Context {
 
     ghost grammar = { λ _. context_grammar };
 
-    fn read_cfg(alloc: Global, input: &mut Reader<'_>, _cfg: &()) -> Result<Context, CodecError> {
+    fn read_cfg(alloc: Global, input: &mut Reader<'_>, _cfg: &()) -> Result<Context, CodecError>
+        ensures exact { Reads (context_from input.old) result input.new }
+        ensures sure { IsErrOf result CodecError.NoMemory → ⊥ }
+    {
         let epoch = Epoch::read_cfg(alloc, input, &())?;
         let view = read_u64(input)?;
         let leader = Key::read_cfg(alloc, input, &())?;
@@ -302,6 +320,29 @@ impl<Dir: Directory + Drop> Value for Block<Dir> {
     }
 }
 
+/// What a block carries may be read under the limits that it keeps to.
+fn carried_fits<Dir: Directory>(payload: &Apart<Dir>)
+    ensures { (most version : ℕ) → FlaggedFits (PayloadWithin Dir.matches_of most version) payload.now → FlaggedFits (PayloadFits (λ peers. Dir.fits (Dir.config_of peers)) Dir.matches_of most version) payload.now }
+{
+    match payload.get() {
+        None => {}
+        Some(payload) => payload.fits_limits(),
+    }
+}
+
+impl<Dir: Directory> Block<Dir> {
+    /// A block whose digest is that of its bytes, as each is that was made or read, may be read under the limits that it keeps to.
+    #[tactic(auto, using(crate::specs::Within::block_fits))]
+    pub fn fits_limits(&self)
+        ensures { (most version : ℕ) → BlockWithin Dir.spelling Dir.matches_of most version self.now → BlockFits (PayloadFits (λ peers. Dir.fits (Dir.config_of peers)) Dir.matches_of most version) Dir.spelling self.now }
+    {
+        self.context.fits_limits();
+        let _parent = size_of_digest(&self.parent);
+        let _height = self.height.0;
+        carried_fits(&self.payload);
+    }
+}
+
 impl<Dir: Directory> Spelled for Block<Dir> {
     ghost use Rattle.dkg_types.specs.BlockCodes.{block_spelling};
 
@@ -320,8 +361,14 @@ fn size_of_flagged<Dir: Directory>(payload: &Apart<Dir>) -> usize
 }
 
 impl<Dir: Directory> EncodeSize for Block<Dir> {
+    ghost use Rattle.std.specs.Prelude.{◌≡◌, ◌+◌, ◌^◌, ◌≤◌, length};
+    ghost use Rattle.dkg_types.specs.BlockCodes.{block_spelling};
+
     #[tactic(auto, unfolding(crate::specs::BlockCodes::block_bytes))]
-    fn encode_size(&self) -> usize {
+    fn encode_size(&self) -> usize
+        ensures size { result ≡ length (block_spelling Dir.spelling self.now) }
+        ensures bound { result ≤ 2 ^ 62 + 110 }
+    {
         self.context.encode_size()
             + size_of_digest(&self.parent)
             + uint_size(self.height.0)

@@ -1,5 +1,7 @@
 //! How peers are reached: nothing for a network that finds them by key, or their addresses.
-ghost use Rattle.std.specs.Prelude.{◌≡◌, ℕ, ◌≤◌, ◌^◌, Bool, List, true};
+ghost use Rattle.std.specs.Prelude.{◌≡◌, ℕ, ◌≤◌, ◌^◌, Bool, List, true, IsErrOf};
+ghost use Rattle.dkg_values.specs.Codec.{Reads};
+ghost use Rattle.dkg_types.specs.Units.{unit_at as unit_from};
 
 use bytes::BytesMut;
 use dkg_ceremony::{CodecError, EncodeSize, Mem, Read, Reader, Set, Spelled, Value, Write};
@@ -7,7 +9,7 @@ use std::alloc::Global;
 
 /// What an info says of how its peers are reached, as the upstream's `network` module has it.
 pub trait Directory: Value + Write + EncodeSize + Read {
-    ghost use Rattle.std.specs.Prelude.{◌≡◌, ℕ, ◌≤◌, ◌^◌, Bool, List, length};
+    ghost use Rattle.std.specs.Prelude.{◌≡◌, ℕ, ◌≤◌, ◌^◌, Bool, List, length, true};
 
     /// How a directory of these peers is read.
     ghost config_of: { List ℕ → Self.Cfg };
@@ -30,6 +32,10 @@ pub trait Directory: Value + Write + EncodeSize + Read {
     /// Whether this is a directory of exactly these peers.
     fn matches(&self, peers: &Set) -> bool
         ensures { result ≡ matches_of self.now peers.now };
+
+    /// A directory of just some peers can be read again as one of them.
+    fn fits_peers(&self)
+        ensures { (peers : List ℕ) → matches_of self.now peers ≡ true → Self.fits (config_of peers) self.now };
 
     /// How many bytes its encoding takes: what `encode_size` gives, known to be at most 2^61.
     fn size(&self) -> usize
@@ -87,7 +93,11 @@ impl Read for Unit {
 
     ghost grammar = { λ _. unit_grammar };
 
-    fn read_cfg(_alloc: Global, _input: &mut Reader<'_>, _cfg: &()) -> Result<Unit, CodecError> {
+    fn read_cfg(_alloc: Global, input: &mut Reader<'_>, _cfg: &()) -> Result<Unit, CodecError>
+        ensures exact { Reads (unit_from input.old) result input.new }
+        ensures sure { IsErrOf result CodecError.NoMemory → ⊥ }
+    {
+        let _left = input.left();
         Ok(Unit)
     }
 }
@@ -111,6 +121,8 @@ impl Directory for Unit {
     fn matches(&self, _peers: &Set) -> bool {
         true
     }
+
+    fn fits_peers(&self) {}
 
     fn size(&self) -> usize {
         0

@@ -1,7 +1,10 @@
 //! What a run tells, entry by entry. The parts of a node push these, and the program prints each as a line.
 
+ghost use Rattle.std.specs.Prelude.{◌≡◌, ◌↔◌, IfOk, IsTrue};
+
 use crate::fault::Fault;
-use dkg_ceremony::{Ack, Blob, Epoch, Height, Key, Phase, Private, Public, Share};
+use dkg_ceremony::{Ack, Blob, Epoch, Height, Key, Mem, Phase, Private, Public, Share, Value};
+use std::alloc::Global;
 use std::marker::Model;
 
 /// Why a final-block request has no answer.
@@ -218,4 +221,344 @@ pub enum Entry {
     },
     /// The node stopped.
     Fault(Fault),
+}
+
+impl Value for Restored {
+    fn copy(&self, alloc: Global) -> Mem<Restored> {
+        Ok(Restored {
+            epoch: self.epoch,
+            dealer: self.dealer,
+            public: self.public.copy(alloc)?,
+            private: self.private,
+        })
+    }
+
+    fn same(&self, other: &Restored) -> bool {
+        self.epoch == other.epoch
+            && self.dealer == other.dealer
+            && self.public.same(&other.public)
+            && self.private == other.private
+    }
+}
+
+impl Value for RestoredList {
+    fn copy(&self, alloc: Global) -> Mem<RestoredList> {
+        let mut made = Vec::with_capacity(alloc, self.0.len())?;
+        for restored in &self.0 {
+            made.push(restored.copy(alloc)?)?;
+        }
+        Ok(RestoredList(made))
+    }
+
+    fn same(&self, other: &RestoredList) -> bool {
+        if self.0.len() != other.0.len() {
+            return false;
+        }
+        for i in 0..self.0.len() {
+            if !self.0[i].same(&other.0[i]) {
+                return false;
+            }
+        }
+        true
+    }
+}
+
+fn copy_of(alloc: Global, encoding: &Option<Blob>) -> Mem<Option<Blob>>
+    ensures { IfOk result (λ made. made ≡ encoding.now) }
+{
+    match encoding {
+        None => Ok(None),
+        Some(bytes) => Ok(Some(bytes.copy(alloc)?)),
+    }
+}
+
+fn are_same(one: &Option<Blob>, other: &Option<Blob>) -> bool
+    ensures { IsTrue result ↔ (one.now ≡ other.now) }
+{
+    match (one, other) {
+        (None, None) => true,
+        (Some(bytes), Some(its)) => bytes.same(its),
+        _ => false,
+    }
+}
+
+impl Value for AnswerLine {
+    fn copy(&self, alloc: Global) -> Mem<AnswerLine> {
+        match self {
+            AnswerLine::Available(payload) => Ok(AnswerLine::Available(copy_of(alloc, payload)?)),
+            AnswerLine::Unavailable(why) => Ok(AnswerLine::Unavailable(*why)),
+        }
+    }
+
+    fn same(&self, other: &AnswerLine) -> bool {
+        match (self, other) {
+            (AnswerLine::Available(payload), AnswerLine::Available(its)) => are_same(payload, its),
+            (AnswerLine::Unavailable(why), AnswerLine::Unavailable(its)) => *why == *its,
+            _ => false,
+        }
+    }
+}
+
+impl Value for PreparedLine {
+    fn copy(&self, alloc: Global) -> Mem<PreparedLine> {
+        match self {
+            PreparedLine::Wait => Ok(PreparedLine::Wait),
+            PreparedLine::Ready(block) => Ok(PreparedLine::Ready(copy_of(alloc, block)?)),
+        }
+    }
+
+    fn same(&self, other: &PreparedLine) -> bool {
+        match (self, other) {
+            (PreparedLine::Wait, PreparedLine::Wait) => true,
+            (PreparedLine::Ready(block), PreparedLine::Ready(its)) => are_same(block, its),
+            _ => false,
+        }
+    }
+}
+
+impl Value for Entry {
+    fn copy(&self, alloc: Global) -> Mem<Entry> {
+        let made = match self {
+            Entry::Opened { life, restored } => Entry::Opened {
+                life: *life,
+                restored: restored.copy(alloc)?,
+            },
+            Entry::Committed { epoch, share } => Entry::Committed {
+                epoch: *epoch,
+                share: *share,
+            },
+            Entry::Registered { epoch, role } => Entry::Registered {
+                epoch: *epoch,
+                role: *role,
+            },
+            Entry::Setup { epoch, phase, part } => Entry::Setup {
+                epoch: *epoch,
+                phase: *phase,
+                part: *part,
+            },
+            Entry::Recorded {
+                epoch,
+                dealer,
+                public,
+                private,
+            } => Entry::Recorded {
+                epoch: *epoch,
+                dealer: *dealer,
+                public: public.copy(alloc)?,
+                private: *private,
+            },
+            Entry::Ack { epoch, dealer, ack } => Entry::Ack {
+                epoch: *epoch,
+                dealer: *dealer,
+                ack: *ack,
+            },
+            Entry::Offer {
+                epoch,
+                player,
+                public,
+                private,
+            } => Entry::Offer {
+                epoch: *epoch,
+                player: *player,
+                public: public.copy(alloc)?,
+                private: *private,
+            },
+            Entry::Blocked { peer, why } => Entry::Blocked {
+                peer: *peer,
+                why: *why,
+            },
+            Entry::Log { request, payload } => Entry::Log {
+                request: *request,
+                payload: copy_of(alloc, payload)?,
+            },
+            Entry::Answer { request, answer } => Entry::Answer {
+                request: *request,
+                answer: answer.copy(alloc)?,
+            },
+            Entry::Entered { epoch } => Entry::Entered { epoch: *epoch },
+            Entry::Halted => Entry::Halted,
+            Entry::Hint { height, peer } => Entry::Hint {
+                height: *height,
+                peer: *peer,
+            },
+            Entry::Acked { height } => Entry::Acked { height: *height },
+            Entry::Completed { outcome } => Entry::Completed {
+                outcome: copy_of(alloc, outcome)?,
+            },
+            Entry::Prepared(it) => Entry::Prepared(it.copy(alloc)?),
+            Entry::Proposed { block } => Entry::Proposed {
+                block: copy_of(alloc, block)?,
+            },
+            Entry::Verdict(it) => Entry::Verdict(*it),
+            Entry::Sent { to, bytes } => Entry::Sent {
+                to: *to,
+                bytes: bytes.copy(alloc)?,
+            },
+            Entry::Artifact { info, floor } => Entry::Artifact {
+                info: info.copy(alloc)?,
+                floor: floor.copy(alloc)?,
+            },
+            Entry::Call { caller, line } => Entry::Call {
+                caller: *caller,
+                line: line.copy(alloc)?,
+            },
+            Entry::Cut { step, call } => Entry::Cut {
+                step: *step,
+                call: *call,
+            },
+            Entry::Step { step } => Entry::Step { step: *step },
+            Entry::Fault(it) => Entry::Fault(it.copy(alloc)?),
+        };
+        Ok(made)
+    }
+
+    fn same(&self, other: &Entry) -> bool {
+        match (self, other) {
+            (
+                Entry::Opened { life, restored },
+                Entry::Opened {
+                    life: its_life,
+                    restored: its_restored,
+                },
+            ) => *life == *its_life && restored.same(its_restored),
+            (
+                Entry::Committed { epoch, share },
+                Entry::Committed {
+                    epoch: its_epoch,
+                    share: its_share,
+                },
+            ) => *epoch == *its_epoch && *share == *its_share,
+            (
+                Entry::Registered { epoch, role },
+                Entry::Registered {
+                    epoch: its_epoch,
+                    role: its_role,
+                },
+            ) => *epoch == *its_epoch && *role == *its_role,
+            (
+                Entry::Setup { epoch, phase, part },
+                Entry::Setup {
+                    epoch: its_epoch,
+                    phase: its_phase,
+                    part: its_part,
+                },
+            ) => *epoch == *its_epoch && *phase == *its_phase && *part == *its_part,
+            (
+                Entry::Recorded {
+                    epoch,
+                    dealer,
+                    public,
+                    private,
+                },
+                Entry::Recorded {
+                    epoch: its_epoch,
+                    dealer: its_dealer,
+                    public: its_public,
+                    private: its_private,
+                },
+            ) => *epoch == *its_epoch
+                && *dealer == *its_dealer
+                && public.same(its_public)
+                && *private == *its_private,
+            (
+                Entry::Ack { epoch, dealer, ack },
+                Entry::Ack {
+                    epoch: its_epoch,
+                    dealer: its_dealer,
+                    ack: its_ack,
+                },
+            ) => *epoch == *its_epoch && *dealer == *its_dealer && *ack == *its_ack,
+            (
+                Entry::Offer {
+                    epoch,
+                    player,
+                    public,
+                    private,
+                },
+                Entry::Offer {
+                    epoch: its_epoch,
+                    player: its_player,
+                    public: its_public,
+                    private: its_private,
+                },
+            ) => *epoch == *its_epoch
+                && *player == *its_player
+                && public.same(its_public)
+                && *private == *its_private,
+            (
+                Entry::Blocked { peer, why },
+                Entry::Blocked {
+                    peer: its_peer,
+                    why: its_why,
+                },
+            ) => *peer == *its_peer && *why == *its_why,
+            (
+                Entry::Log { request, payload },
+                Entry::Log {
+                    request: its_request,
+                    payload: its_payload,
+                },
+            ) => *request == *its_request && are_same(payload, its_payload),
+            (
+                Entry::Answer { request, answer },
+                Entry::Answer {
+                    request: its_request,
+                    answer: its_answer,
+                },
+            ) => *request == *its_request && answer.same(its_answer),
+            (Entry::Entered { epoch }, Entry::Entered { epoch: its_epoch }) => *epoch == *its_epoch,
+            (Entry::Halted, Entry::Halted) => true,
+            (
+                Entry::Hint { height, peer },
+                Entry::Hint {
+                    height: its_height,
+                    peer: its_peer,
+                },
+            ) => *height == *its_height && *peer == *its_peer,
+            (Entry::Acked { height }, Entry::Acked { height: its_height }) => *height
+                == *its_height,
+            (
+                Entry::Completed { outcome },
+                Entry::Completed {
+                    outcome: its_outcome,
+                },
+            ) => are_same(outcome, its_outcome),
+            (Entry::Prepared(it), Entry::Prepared(its)) => it.same(its),
+            (Entry::Proposed { block }, Entry::Proposed { block: its_block }) => are_same(
+                block, its_block,
+            ),
+            (Entry::Verdict(it), Entry::Verdict(its)) => *it == *its,
+            (
+                Entry::Sent { to, bytes },
+                Entry::Sent {
+                    to: its_to,
+                    bytes: its_bytes,
+                },
+            ) => *to == *its_to && bytes.same(its_bytes),
+            (
+                Entry::Artifact { info, floor },
+                Entry::Artifact {
+                    info: its_info,
+                    floor: its_floor,
+                },
+            ) => info.same(its_info) && floor.same(its_floor),
+            (
+                Entry::Call { caller, line },
+                Entry::Call {
+                    caller: its_caller,
+                    line: its_line,
+                },
+            ) => *caller == *its_caller && line.same(its_line),
+            (
+                Entry::Cut { step, call },
+                Entry::Cut {
+                    step: its_step,
+                    call: its_call,
+                },
+            ) => *step == *its_step && *call == *its_call,
+            (Entry::Step { step }, Entry::Step { step: its_step }) => *step == *its_step,
+            (Entry::Fault(it), Entry::Fault(its)) => it.same(its),
+            _ => false,
+        }
+    }
 }

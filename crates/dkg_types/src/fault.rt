@@ -1,5 +1,5 @@
 //! Why a node stops. Setup and the steps answer these, and the top call prints them by number.
-ghost use Rattle.std.specs.Prelude.{◌≡◌, IfOk};
+ghost use Rattle.std.specs.Prelude.{◌≡◌};
 ghost use Rattle.dkg_types.specs.Faults.{number_of};
 ghost use Rattle.dkg_types.specs.declared.fault.Fault.TheVariants.{NoMemory as OutOfMemory};
 
@@ -58,11 +58,8 @@ pub enum LocalCause {
     OutcomeOmitted,
 }
 
-impl LocalCause {
-    /// A copy, for the transcript.
-    pub fn copy(&self, alloc: Global) -> Mem<LocalCause>
-        ensures { IfOk result (λ made. made ≡ self.now) }
-    {
+impl Value for LocalCause {
+    fn copy(&self, alloc: Global) -> Mem<LocalCause> {
         match self {
             LocalCause::StoredDealing { epoch, dealer } => Ok(LocalCause::StoredDealing {
                 epoch: *epoch,
@@ -76,6 +73,31 @@ impl LocalCause {
             }),
             LocalCause::NoShare => Ok(LocalCause::NoShare),
             LocalCause::OutcomeOmitted => Ok(LocalCause::OutcomeOmitted),
+        }
+    }
+
+    fn same(&self, other: &LocalCause) -> bool {
+        match (self, other) {
+            (
+                LocalCause::StoredDealing { epoch, dealer },
+                LocalCause::StoredDealing {
+                    epoch: its_epoch,
+                    dealer: its_dealer,
+                },
+            ) => *epoch == *its_epoch && *dealer == *its_dealer,
+            (LocalCause::ShareRefused { epoch }, LocalCause::ShareRefused { epoch: its_epoch }) =>
+                *epoch == *its_epoch,
+            (
+                LocalCause::OwnDealing { epoch, kept, dealt },
+                LocalCause::OwnDealing {
+                    epoch: its_epoch,
+                    kept: its_kept,
+                    dealt: its_dealt,
+                },
+            ) => *epoch == *its_epoch && kept.same(its_kept) && dealt.same(its_dealt),
+            (LocalCause::NoShare, LocalCause::NoShare)
+            | (LocalCause::OutcomeOmitted, LocalCause::OutcomeOmitted) => true,
+            _ => false,
         }
     }
 }
@@ -152,11 +174,8 @@ impl Fault {
     }
 }
 
-impl Fault {
-    /// A copy, for the transcript.
-    pub fn copy(&self, alloc: Global) -> Mem<Fault>
-        ensures { IfOk result (λ made. made ≡ self.now) }
-    {
+impl Value for Fault {
+    fn copy(&self, alloc: Global) -> Mem<Fault> {
         match self {
             Fault::NoMemory => Ok(Fault::NoMemory),
             Fault::Disk => Ok(Fault::Disk),
@@ -189,6 +208,59 @@ impl Fault {
             Fault::LocalState(cause) => Ok(Fault::LocalState(cause.copy(alloc)?)),
             Fault::FinalBlockMissing => Ok(Fault::FinalBlockMissing),
             Fault::FloorBlockMissing => Ok(Fault::FloorBlockMissing),
+        }
+    }
+
+    fn same(&self, other: &Fault) -> bool {
+        match (self, other) {
+            (
+                Fault::Corrupt { name, place },
+                Fault::Corrupt {
+                    name: its_name,
+                    place: its_place,
+                },
+            ) => *name == *its_name && *place == *its_place,
+            (Fault::InvalidConfig(cause), Fault::InvalidConfig(its)) => *cause == *its,
+            (
+                Fault::StateSyncEpochs { info, floor },
+                Fault::StateSyncEpochs {
+                    info: its_info,
+                    floor: its_floor,
+                },
+            ) => *info == *its_info && *floor == *its_floor,
+            (Fault::ConflictingBlock { height }, Fault::ConflictingBlock { height: its })
+            | (Fault::DetachedBlock { height }, Fault::DetachedBlock { height: its })
+            | (Fault::OutOfWindow { height }, Fault::OutOfWindow { height: its })
+            | (Fault::MissingEpochInfo { height }, Fault::MissingEpochInfo { height: its }) => {
+                *height == *its
+            }
+            (
+                Fault::SkippedHeight { awaited, got },
+                Fault::SkippedHeight {
+                    awaited: its_awaited,
+                    got: its_got,
+                },
+            ) => *awaited == *its_awaited && *got == *its_got,
+            (
+                Fault::WrongEpoch { expected, got },
+                Fault::WrongEpoch {
+                    expected: its_expected,
+                    got: its_got,
+                },
+            ) => *expected == *its_expected && *got == *its_got,
+            (Fault::InvalidParticipants(cause), Fault::InvalidParticipants(its)) => *cause == *its,
+            (Fault::DirectoryMismatch { epoch }, Fault::DirectoryMismatch { epoch: its }) => {
+                *epoch == *its
+            }
+            (Fault::LocalState(cause), Fault::LocalState(its)) => cause.same(its),
+            (Fault::NoMemory, Fault::NoMemory)
+            | (Fault::Disk, Fault::Disk)
+            | (Fault::Secrets, Fault::Secrets)
+            | (Fault::StateSyncMaterial, Fault::StateSyncMaterial)
+            | (Fault::HeightRange, Fault::HeightRange)
+            | (Fault::FinalBlockMissing, Fault::FinalBlockMissing)
+            | (Fault::FloorBlockMissing, Fault::FloorBlockMissing) => true,
+            _ => false,
         }
     }
 }

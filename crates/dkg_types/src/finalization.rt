@@ -1,9 +1,11 @@
 //! What consensus says of a block that it has finalized, and who checks it.
 //!
 //! A probe checks the finalizations that peers send, and state sync starts from one.
-ghost use Rattle.std.specs.Prelude.{◌≡◌, ◌++◌, ◌≤◌, IfOk, IsTrue, OnOk, true};
-ghost use Rattle.dkg_types.specs.FinalizationCodes.{certificate_of, is_certified, proposal_bytes};
+ghost use Rattle.std.specs.Prelude.{◌≡◌, ◌++◌, ◌≤◌, length, IfOk, IsErrOf, IsTrue, OnOk, true};
+ghost use Rattle.dkg_values.specs.Codec.{Reads};
+ghost use Rattle.dkg_types.specs.FinalizationCodes.{FinalizationFits, certificate_of, finalization_at as finalization_from, is_certified, proposal_bytes};
 
+use crate::block::size_of_digest;
 use bytes::BytesMut;
 use dkg_ceremony::{
     CodecError, Digest, Domain, EncodeSize, Epoch, Key, Mark, Mem, Read, Reader, Spelled, Value,
@@ -32,6 +34,29 @@ impl Value for Finalization {
     }
 }
 
+/// How many bytes a mark takes.
+fn size_of_mark(mark: &Mark) -> usize
+    ensures size { result ≡ length mark.now }
+    ensures bound { result ≡ 8 }
+{
+    let bytes = &mark.0;
+    bytes.len()
+}
+
+impl Finalization {
+    /// A finalization may be read whatever the limits.
+    #[tactic(auto, using(crate::specs::Within::finalization_fits))]
+    pub fn fits_limits(&self)
+        ensures { FinalizationFits self.now }
+    {
+        let _epoch = self.epoch.0;
+        let _view = self.view;
+        let _parent_view = self.parent_view;
+        let _digest = size_of_digest(&self.payload);
+        let _mark = size_of_mark(&self.certificate);
+    }
+}
+
 impl Spelled for Finalization {
     ghost use Rattle.dkg_types.specs.FinalizationCodes.{finalization_spelling};
 
@@ -46,13 +71,11 @@ impl EncodeSize for Finalization {
         ensures size { result ≡ length (finalization_spelling self.now) }
         ensures bound { result ≤ 70 }
     {
-        let digest = &self.payload.0;
-        let mark = &self.certificate.0;
         uint_size(self.epoch.0)
             + uint_size(self.view)
             + uint_size(self.parent_view)
-            + digest.len()
-            + mark.len()
+            + size_of_digest(&self.payload)
+            + size_of_mark(&self.certificate)
     }
 }
 
@@ -81,7 +104,10 @@ impl Read for Finalization {
         alloc: Global,
         input: &mut Reader<'_>,
         _cfg: &(),
-    ) -> Result<Finalization, CodecError> {
+    ) -> Result<Finalization, CodecError>
+        ensures exact { Reads (finalization_from input.old) result input.new }
+        ensures sure { IsErrOf result CodecError.NoMemory → ⊥ }
+    {
         let epoch = Epoch::read_cfg(alloc, input, &())?;
         let view = read_u64(input)?;
         let parent_view = read_u64(input)?;

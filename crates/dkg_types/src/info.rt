@@ -4,6 +4,7 @@ ghost use Rattle.std.specs.Int.NonZero.{non_zero_u32_get};
 ghost use Rattle.dkg_values.specs.Rising.{set_of};
 ghost use Rattle.dkg_values.specs.Codec.{Reads, StandsInFront};
 ghost use Rattle.dkg_types.specs.Bounds.{IsBound};
+ghost use Rattle.dkg_types.specs.Within.{InfoWithin};
 ghost use Rattle.dkg_types.specs.InfoCodes.{InfoFits, held_at, info_spelling, parts_at, parts_text, peers_of as peers_from};
 
 use crate::directory::Directory;
@@ -142,6 +143,20 @@ impl<Dir: Directory> EpochInfo<Dir> {
     {
         let most = max.get() as usize;
         55 + 22 * most + Dir::max_encode_size(3 * most)
+    }
+}
+
+impl<Dir: Directory> EpochInfo<Dir> {
+    /// An info may be read under the limits that it keeps to.
+    #[tactic(auto, using(crate::specs::Within::info_fits))]
+    pub fn fits_limits(&self)
+        ensures { (most version : ℕ) → InfoWithin Dir.matches_of most version self.now → InfoFits (λ peers. Dir.fits (Dir.config_of peers)) Dir.matches_of most version self.now }
+    {
+        let _epoch = self.epoch.0;
+        self.output.fits_limits();
+        self.players.fits_limits();
+        self.next_players.fits_limits();
+        self.directory.fits_peers();
     }
 }
 

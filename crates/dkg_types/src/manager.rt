@@ -2,7 +2,7 @@
 //!
 //! The orchestrator and the probe hand a manager the peers of an epoch and the directory of its info. A manager of peers
 //! that is reached by keys stands behind a `KeyOnlyManager`, one that dials behind an `AddressableManager`.
-ghost use Rattle.std.specs.Prelude.{◌≡◌, ℕ, [], ◌∷◌, ◌++◌, OnOk, OnErr, IfOk, IsTrue};
+ghost use Rattle.std.specs.Prelude.{◌≡◌, ℕ, [], ◌∷◌, ◌++◌, None, OnOk, OnErr, IfOk, IsTrue};
 ghost use Rattle.dkg_types.specs.Tracking.{IsOf, Names, addresses_of as addresses_from, first_lacking, first_without, with_set};
 ghost use Rattle.dkg_types.specs.declared.manager.TrackError.TheVariants.{NoMemory as OutOfMemory};
 
@@ -48,7 +48,8 @@ pub trait Provider {
 
     fn peer_set(&mut self, alloc: Global, id: u64) -> Mem<Option<TrackedPeers>>
         ensures told { IsTrue tells → IfOk result (λ set. set ≡ sets self.old id) }
-        ensures same { IsTrue tells → (n : ℕ) → sets self.new n ≡ sets self.old n };
+        // The call changes nothing.
+        ensures same { IsTrue tells → self.new ≡ self.old };
 }
 
 /// Who tracks the peers of an epoch, reached as a directory says.
@@ -145,7 +146,12 @@ impl<M: PeerManager> Manager for KeyOnlyManager<M> {
         epoch: Epoch,
         peers: TrackedPeers,
         _directory: &Unit,
-    ) -> Result<(), TrackError> {
+    ) -> Result<(), TrackError>
+        ensures ok { IsTrue M.tells → OnOk result ((n : ℕ) → M.sets self.new.manager n ≡ with_set (M.sets self.old.manager) epoch peers n) }
+        ensures err { IsTrue M.tells → OnErr result ((n : ℕ) → M.sets self.new.manager n ≡ M.sets self.old.manager n) }
+        // Told or not, no address is missing.
+        ensures missing { Names None result }
+    {
         self.manager.track(alloc, epoch.0, peers)?;
         Ok(())
     }
@@ -233,6 +239,8 @@ impl<M: AddressedPeerManager> Manager for AddressableManager<M> {
         ensures err { IsTrue M.tells → OnErr result ((n : ℕ) → M.sets self.new.manager n ≡ M.sets self.old.manager n) }
         // Told or not, whoever has no address is named.
         ensures missing { Names (first_lacking directory.now peers) result }
+        // A refusal keeps what each peer's address was, too.
+        ensures same { IsTrue M.tells → OnErr result ((n : ℕ) → M.reached self.new.manager n ≡ M.reached self.old.manager n) }
         // The addresses that the manager is handed are those of the directory.
         ensures addresses { IsTrue M.tells → OnOk result ((n : ℕ) → M.reached self.new.manager n ≡ with_set (M.reached self.old.manager) epoch (addresses_from directory.now peers.primary, addresses_from directory.now peers.secondary) n) }
     {

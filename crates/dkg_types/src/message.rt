@@ -1,10 +1,11 @@
 //! What participants send each other on the ceremony's channel.
-ghost use Rattle.std.specs.Prelude.{◌≡◌, ◌+◌, ◌*◌, ◌^◌, ◌<◌, length};
+ghost use Rattle.std.specs.Prelude.{◌≡◌, ℕ, ◌+◌, ◌*◌, ◌^◌, ◌<◌, ◌≤◌, length};
 ghost use Rattle.std.specs.Int.NonZero.{non_zero_u32_get};
 ghost use Rattle.dkg_values.specs.Joined.{BothFit, both_spelled};
 ghost use Rattle.dkg_values.specs.Uint.{uint};
 ghost use Rattle.dkg_types.specs.Bounds.{IsBound};
 ghost use Rattle.dkg_types.specs.MessageCodes.{MessageFits, message_spelling};
+ghost use Rattle.dkg_types.specs.Within.{MessageWithin};
 
 use bytes::{BufMut, BytesMut};
 use dkg_ceremony::{
@@ -72,6 +73,23 @@ fn size_of_ack(ack: &Ack) -> usize
     bytes.len()
 }
 
+impl Message {
+    /// A message may be read under each limit that is no less than the length of its public half.
+    pub fn fits_limits(&self)
+        ensures { (most : ℕ) → MessageWithin most self.now → MessageFits most self.now }
+    {
+        match self {
+            Message::Dealer(public, private) => {
+                public.fits_limits();
+                let _number = private.0.get();
+            }
+            Message::Ack(ack) => {
+                let _size = size_of_ack(ack);
+            }
+        }
+    }
+}
+
 impl Spelled for Message {
     ghost use Rattle.dkg_types.specs.MessageCodes.{message_spelling};
 
@@ -79,7 +97,10 @@ impl Spelled for Message {
 }
 
 impl EncodeSize for Message {
-    fn encode_size(&self) -> usize {
+    fn encode_size(&self) -> usize
+        ensures size { result ≡ length (message_spelling self.now) }
+        ensures limit { (most : ℕ) → 1 ≤ most → MessageWithin most self.now → result ≤ 8 + 2 * most }
+    {
         match self {
             Message::Dealer(public, private) => 1 + public.encode_size() + private.encode_size(),
             Message::Ack(ack) => 1 + size_of_ack(ack),

@@ -1,9 +1,11 @@
 //! Who takes part in an epoch. Setup validates them and hands the tracked ones to a manager.
-ghost use Rattle.std.specs.Prelude.{◌≡◌, ℕ, ◌+◌, ◌++◌, ◌<◌, ◌^◌, ◌⊎◌, length, Contains, IfOk};
+ghost use Rattle.std.specs.Prelude.{◌≡◌, ℕ, ◌+◌, ◌++◌, ◌*◌, ◌<◌, ◌≤◌, ◌^◌, ◌⊎◌, length, Contains, IfOk};
 ghost use Rattle.std.specs.Int.NonZero.{non_zero_u32_get};
 ghost use Rattle.std.specs.Option.{option_copied};
 ghost use Rattle.std.specs.Str.{bytes_eq};
 ghost use Rattle.dkg_values.specs.Rising.{IsSetOf, set_of};
+ghost use Rattle.dkg_types.specs.ParticipantsCodes.{ParticipantsFit, participants_spelling as participants_bytes};
+ghost use Rattle.dkg_types.specs.Within.{ParticipantsWithin};
 ghost use Rattle.dkg_types.specs.Validation.{are_among as among, limited, reshare_validation, validation};
 
 use bytes::BytesMut;
@@ -133,6 +135,18 @@ impl Participants {
     }
 }
 
+impl Participants {
+    /// Participants may be read under each limit that is no less than the length of each set.
+    #[tactic(auto, using(crate::specs::Within::participants_fit))]
+    pub fn fits_limits(&self)
+        ensures { (most : ℕ) → ParticipantsWithin most self.now → ParticipantsFit most self.now }
+    {
+        self.dealers.fits_limits();
+        self.players.fits_limits();
+        self.next_players.fits_limits();
+    }
+}
+
 impl Value for Participants {
     fn copy(&self, alloc: Global) -> Mem<Participants> {
         Ok(Participants {
@@ -156,7 +170,10 @@ impl Spelled for Participants {
 }
 
 impl EncodeSize for Participants {
-    fn encode_size(&self) -> usize {
+    fn encode_size(&self) -> usize
+        ensures size { result ≡ length (participants_bytes self.now) }
+        ensures limit { (most : ℕ) → ParticipantsWithin most self.now → result ≤ 15 + 12 * most }
+    {
         self.dealers.encode_size() + self.players.encode_size() + self.next_players.encode_size()
     }
 }

@@ -4,6 +4,7 @@ ghost use Rattle.std.specs.Prelude.{◌≡◌, ℕ, ◌+◌, ◌*◌, ◌^◌, �
 ghost use Rattle.std.specs.Int.NonZero.{non_zero_u32_get};
 ghost use Rattle.dkg_values.specs.Codec.{Reads};
 ghost use Rattle.dkg_types.specs.Bounds.{IsBound};
+ghost use Rattle.dkg_types.specs.Within.{PayloadWithin};
 ghost use Rattle.dkg_types.specs.PayloadCodes.{PayloadFits, carried_at, logged_at, payload_spelling};
 
 use crate::directory::Directory;
@@ -74,6 +75,18 @@ impl<Dir: Directory> Payload<Dir> {
         ensures enough { (version : ℕ) → IsBound (PayloadFits (λ peers. Dir.fits (Dir.config_of peers)) Dir.matches_of (non_zero_u32_get max) version) (payload_spelling Dir.spelling) result }
     {
         1 + EpochInfo::<Dir>::max_encode_size(max)
+    }
+}
+
+impl<Dir: Directory> Payload<Dir> {
+    /// A payload may be read under the limits that it keeps to.
+    pub fn fits_limits(&self)
+        ensures { (most version : ℕ) → PayloadWithin Dir.matches_of most version self.now → PayloadFits (λ peers. Dir.fits (Dir.config_of peers)) Dir.matches_of most version self.now }
+    {
+        match self {
+            Payload::DealerLog(signed) => signed.fits_limits(),
+            Payload::EpochInfo(info) => info.fits_limits(),
+        }
     }
 }
 

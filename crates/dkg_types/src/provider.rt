@@ -17,18 +17,18 @@ pub trait ParticipantsProvider {
     /// The participants of an epoch.
     ghost participants_of: { Self → ℕ → List ℕ };
 
-    /// The directory of a set of peers.
-    ghost directory_of: { Self → List ℕ → Self.Dir };
+    /// The directory of a set of peers in an epoch.
+    ghost directory_of: { Self → (epoch : ℕ) → List ℕ → Self.Dir };
 
     fn participants(&mut self, alloc: Global, epoch: Epoch) -> Mem<Set>
         ensures told { IsTrue tells → IfOk result (λ set. set ≡ participants_of self.old epoch) }
         ensures same_participants { IsTrue tells → (e : ℕ) → participants_of self.new e ≡ participants_of self.old e }
-        ensures same_directory { IsTrue tells → (peers : List ℕ) → directory_of self.new peers ≡ directory_of self.old peers };
+        ensures same_directory { IsTrue tells → (e : ℕ) (peers : List ℕ) → directory_of self.new e peers ≡ directory_of self.old e peers };
 
     fn directory(&mut self, alloc: Global, epoch: Epoch, peers: &Set) -> Mem<Self::Dir>
-        ensures told { IsTrue tells → IfOk result (λ made. made ≡ directory_of self.old peers.now) }
+        ensures told { IsTrue tells → IfOk result (λ made. made ≡ directory_of self.old epoch peers.now) }
         ensures same_participants { IsTrue tells → (e : ℕ) → participants_of self.new e ≡ participants_of self.old e }
-        ensures same_directory { IsTrue tells → (peers : List ℕ) → directory_of self.new peers ≡ directory_of self.old peers };
+        ensures same_directory { IsTrue tells → (e : ℕ) (peers : List ℕ) → directory_of self.new e peers ≡ directory_of self.old e peers };
 }
 
 /// The same participants and the same directory, whatever the epoch and the peers.
@@ -59,7 +59,7 @@ impl<Dir: Directory> ParticipantsProvider for StaticParticipants<Dir> {
 
     ghost participants_of = { λ s _. s.participants };
 
-    ghost directory_of = { λ s _. s.directory };
+    ghost directory_of = { λ s _ _. s.directory };
 
     fn participants(&mut self, alloc: Global, _epoch: Epoch) -> Mem<Set> {
         self.participants.copy(alloc)

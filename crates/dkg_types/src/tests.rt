@@ -1,7 +1,7 @@
 use crate::*;
 use dkg_ceremony::{
-    CodecError, Digest, EncodeSize, Epoch, Height, Key, Map, Mark, Mem, ModeVersion, NoMemory,
-    Read, Set, Share, Value, What, decode_cfg, encode, round_trip,
+    CodecError, Digest, Element, EncodeSize, Epoch, Height, Key, Map, Mark, Mem, ModeVersion,
+    NoMemory, Private, Public, Read, Set, Share, Value, What, decode_cfg, encode, round_trip,
 };
 use std::alloc::Global;
 use std::num::NonZeroU32;
@@ -737,5 +737,67 @@ fn keys_alone_never_miss(rt: HostRuntime) -> Result<(), Fail> {
     let mut manager = KeyOnlyManager::new(empty_manager());
     let answer = tracked_by(&mut manager, rt.alloc(), &Unit)?;
     assert_eq!(rt; answer, (Ok(()), Some(2)));
+    Ok(())
+}
+
+/// Whether a copy is the value, and no other value is.
+fn is_copied<T: Value + Drop>(alloc: Global, value: &T, other: &T) -> Mem<bool> {
+    let copy = value.copy(alloc)?;
+    Ok(copy.same(value) && !copy.same(other))
+}
+
+/// A public half of one coefficient.
+fn constant(alloc: Global, byte: u8) -> Result<Public, Fail> {
+    Ok(decode_cfg::<Public>(alloc, &[1, 0, byte], &4)?)
+}
+
+fn opened(alloc: Global, byte: u8) -> Result<Entry, Fail> {
+    let mut found = Vec::new(alloc);
+    found.push(Restored {
+        epoch: Epoch(0),
+        dealer: Key(2),
+        public: constant(alloc, byte)?,
+        private: Private(Element::new(7).ok_or("an element")?),
+    })?;
+    Ok(Entry::Opened {
+        life: 1,
+        restored: RestoredList(found),
+    })
+}
+
+fn other_dealing(alloc: Global, byte: u8) -> Result<Entry, Fail> {
+    Ok(Entry::Fault(Fault::LocalState(LocalCause::OwnDealing {
+        epoch: Epoch(0),
+        kept: constant(alloc, 5)?,
+        dealt: constant(alloc, byte)?,
+    })))
+}
+
+fn answered(answer: AnswerLine) -> Entry {
+    Entry::Answer { request: 1, answer }
+}
+
+#[test]
+fn entries_are_copied_and_compared(rt: HostRuntime) -> Result<(), Fail> {
+    let alloc = rt.alloc();
+    assert!(rt; is_copied(alloc, &opened(alloc, 5)?, &opened(alloc, 6)?)?);
+    assert!(rt; is_copied(alloc, &other_dealing(alloc, 6)?, &other_dealing(alloc, 7)?)?);
+    let short = answered(AnswerLine::Unavailable(Why::Short));
+    assert!(rt; is_copied(alloc, &answered(AnswerLine::Available(None)), &short)?);
+    let ready = Entry::Prepared(PreparedLine::Ready(None));
+    assert!(rt; is_copied(alloc, &ready, &Entry::Prepared(PreparedLine::Wait))?);
+    Ok(())
+}
+
+#[test]
+fn what_is_held_is_within_its_bound(rt: HostRuntime) -> Result<(), Fail> {
+    let alloc = rt.alloc();
+    let block = block_of(alloc, payload_of(alloc, &PAYLOAD)?)?;
+    block.fits_limits();
+    assert_eq!(rt; block.encode_size(), 163);
+    assert_eq!(rt; Block::<Unit>::max_encode_size(four()?), 253);
+    let directory = addresses(alloc, true)?;
+    directory.fits_peers();
+    assert_eq!(rt; (directory.size(), Addresses::max_encode_size(2)), (30, 44));
     Ok(())
 }

@@ -1,0 +1,133 @@
+-- The limits that a value keeps to, and that what keeps to them can be read again.
+--
+-- A type keeps all that its spelling asks but the limits, the digest of a block and the match of a directory.
+use Rattle.std.proofs.Common.{◌≡◌, ℕ, zero, suc, ◌+◌, ◌^◌, ◌<◌, ◌≤◌, Bool, true, List, [], ◌∷◌, length, get_or, take, Option, Some, None, subst, ap, add-one, arith}
+use Rattle.std.specs.Prelude.{IsTrue}
+use Rattle.std.specs.List.{AllByRecursion}
+use Rattle.std.specs.Str.{bytes_eq}
+use Rattle.std.proofs.lemmas.List.{length-map, take_all}
+use Rattle.std.proofs.lemmas.Slice.Eq.{bytes_eq-Decides}
+use Rattle.sha2.specs.Sha256.{sha256}
+use Rattle.dkg_values.specs.Lists.{SetFits, values_of}
+use Rattle.dkg_values.specs.Rising.{keys_of}
+use Rattle.dkg_ceremony.specs.declared.output.Output.{Output}
+use Rattle.dkg_ceremony.specs.declared.signed_log.SignedDealerLog.{SignedDealerLog}
+use Rattle.dkg_ceremony.specs.declared.round.Round.{Round}
+use Rattle.dkg_ceremony.specs.Outcomes.{LogMap}
+use Rattle.dkg_ceremony.specs.Modes.{supports_of}
+use Rattle.dkg_ceremony.specs.Outputs.{OutputFits}
+use Rattle.dkg_types.specs.declared.addresses.Address.{Address}
+use Rattle.dkg_types.specs.declared.block.Block.{Block}
+use Rattle.dkg_types.specs.declared.block.Context.{Context}
+use Rattle.dkg_types.specs.declared.finalization.Finalization.{Finalization}
+use Rattle.dkg_types.specs.declared.info.EpochInfo.{EpochInfo}
+use Rattle.dkg_types.specs.declared.message.Message.{Message}
+use Rattle.dkg_types.specs.declared.message.Message.TheVariants.{Dealer, Ack}
+use Rattle.dkg_types.specs.declared.participants.Participants.{Participants}
+use Rattle.dkg_types.specs.declared.payload.Payload.{Payload}
+use Rattle.dkg_types.specs.declared.payload.Payload.TheVariants as payload
+use Rattle.dkg_types.specs.AddressCodes.{AddressFits, Pairs}
+use Rattle.dkg_types.specs.BlockCodes.{BlockFits, ContextFits, FlaggedFits, block_bytes}
+use Rattle.dkg_types.specs.FinalizationCodes.{FinalizationFits}
+use Rattle.dkg_types.specs.InfoCodes.{InfoFits, has_peers, peers_of}
+use Rattle.dkg_types.specs.NextInfos.{Provided, info_by, next_info}
+use Rattle.dkg_types.specs.ParticipantsCodes.{ParticipantsFit}
+
+-- ---- participants and messages
+
+-- no set has more keys
+pub record ParticipantsWithin (most : ℕ) (p : Participants) : Type 0 where
+  pub dealers : length p.dealers ≤ most
+  pub players : length p.players ≤ most
+  pub next_players : length p.next_players ≤ most
+
+pub participants_fit : (most : ℕ) (p : Participants) → SetFits most p.dealers → SetFits most p.players → SetFits most p.next_players → ParticipantsFit most p
+participants_fit most p dealers players next_players = record { one = dealers; other = record { one = players; other = next_players } }
+
+-- no public half has more coefficients
+abbrev pub MessageWithin : (most : ℕ) → Message → Type 0
+MessageWithin most (Dealer public private) = length public ≤ most
+MessageWithin most (Ack ack) = Unit {0}
+
+-- ---- directories of addresses
+
+more_step : (pairs : Pairs) (i : ℕ) (d : ℕ × Address) → i < length pairs → AllByRecursion AddressFits (values_of (take i pairs)) → AddressFits (get_or pairs i d).1 → AllByRecursion AddressFits (values_of (take (suc i) pairs))
+more_step [] i d lt all one = absurd (omega arith)
+more_step (p ∷ ps) zero d lt all one = (one, tt)
+more_step (p ∷ ps) (suc i) d lt all one = (all.0, more_step ps i d (omega arith) all.1 one)
+
+-- one address more
+pub more_fit : (pairs : Pairs) (i : ℕ) (d : ℕ × Address) → i < length pairs → AllByRecursion AddressFits (values_of (take i pairs)) → AddressFits (get_or pairs i d).1 → AllByRecursion AddressFits (values_of (take (i + 1) pairs))
+more_fit pairs i d lt all one = rw add-one (more_step pairs i d lt all one)
+
+-- all of them
+pub all_fit : (pairs : Pairs) (i : ℕ) → length pairs ≤ i → AllByRecursion AddressFits (values_of (take i pairs)) → AllByRecursion AddressFits (values_of pairs)
+all_fit pairs i le all = subst (λ (xs : Pairs). AllByRecursion AddressFits (values_of xs)) (take_all i pairs le) all
+
+-- a directory of just some peers has as many addresses
+pub as_many : (pairs : Pairs) (peers : List ℕ) → bytes_eq (keys_of pairs) peers ≡ true → length pairs ≡ length peers
+as_many pairs peers e =
+    let same : keys_of pairs ≡ peers = (bytes_eq-Decides (keys_of pairs) peers).0 e in
+    omega (arith, length-map pairs (λ (p : ℕ × Address). p.0), ap (λ (xs : List ℕ). length xs) same)
+
+-- ---- what blocks carry
+
+-- no more coefficients and no more entries
+pub record LogWithin (most : ℕ) (s : SignedDealerLog) : Type 0 where
+  pub coefficients : length s.log.public ≤ most
+  pub entries : length s.log.entries ≤ most
+
+-- a mode that the version has, and no more dealers and players
+pub record OutputWithin (most version : ℕ) (o : Output) : Type 0 where
+  pub mode : IsTrue (supports_of version o.sharing.mode)
+  pub dealers : length o.dealers ≤ most
+  pub players : length o.players ≤ most
+
+-- .. of the output, no more players and next players, and a directory of just the peers
+pub record InfoWithin {Dir : Type 0} (matches : Dir → List ℕ → Bool) (most version : ℕ) (i : EpochInfo Dir) : Type 0 where
+  pub output : OutputWithin most version i.output
+  pub players : length i.players ≤ most
+  pub next_players : length i.next_players ≤ most
+  pub peers : has_peers matches i ≡ true
+
+abbrev pub PayloadWithin : {Dir : Type 0} → (Dir → List ℕ → Bool) → (most version : ℕ) → Payload Dir → Type 0
+PayloadWithin matches most version (payload.DealerLog s) = LogWithin most s
+PayloadWithin matches most version (payload.EpochInfo i) = InfoWithin matches most version i
+
+pub info_fits : {Dir : Type 0} (fits : List ℕ → Dir → Type 0) (matches : Dir → List ℕ → Bool) (most version : ℕ) (i : EpochInfo Dir) → i.epoch < 2 ^ 64 → OutputFits most version i.output → SetFits most i.players → SetFits most i.next_players
+    → fits (peers_of i.output.players i.players i.next_players) i.directory → has_peers matches i ≡ true → InfoFits fits matches most version i
+info_fits fits matches most version i epoch output players next_players directory peers = record {
+  fit = record { one = record { one = tt; other = record { one = epoch; other = record { one = output; other = record { one = players; other = next_players } } } }; other = directory };
+  passes = peers;
+}
+
+-- ---- blocks
+
+-- what is carried, if anything, keeps to the limits, and the digest is that of the bytes
+pub record BlockWithin {Dir : Type 0} (spelling : Dir → List ℕ) (matches : Dir → List ℕ → Bool) (most version : ℕ) (b : Block Dir) : Type 0 where
+  pub payload : FlaggedFits (PayloadWithin matches most version) b.payload
+  pub sealed : b.digest ≡ sha256 (block_bytes spelling b.context b.parent b.height b.payload)
+
+pub context_fits : (c : Context) → c.epoch < 2 ^ 64 → c.view < 2 ^ 64 → c.leader < 2 ^ 32 → c.parent_view < 2 ^ 64 → length c.parent ≡ 32 → ContextFits c
+context_fits c epoch view leader parent_view parent = record { one = epoch; other = record { one = view; other = record { one = leader; other = record { one = parent_view; other = parent } } } }
+
+pub block_fits : {Dir : Type 0} (fits : Payload Dir → Type 0) (spelling : Dir → List ℕ) (b : Block Dir) → ContextFits b.context → length b.parent ≡ 32 → b.height < 2 ^ 64 → FlaggedFits fits b.payload
+    → b.digest ≡ sha256 (block_bytes spelling b.context b.parent b.height b.payload) → BlockFits fits spelling b
+block_fits fits spelling b context parent height carried sealed = record { parts = record { one = record { one = context; other = record { one = parent; other = height } }; other = carried }; sealed = sealed }
+
+-- ---- what a node derives
+
+within_by : {Dir : Type 0} (matches : Dir → List ℕ → Bool) (most version : ℕ) (provided : Provided Dir) (i : EpochInfo Dir) (output : Option Output) → OutputWithin most version i.output → FlaggedFits (OutputWithin most version) output → length i.next_players ≤ most
+    → length (provided.participants (i.epoch + 2)) ≤ most → ((peers : List ℕ) → matches (provided.directory (i.epoch + 1) peers) peers ≡ true) → InfoWithin matches most version (info_by provided i output)
+within_by matches most version provided i None old new players next_players peers = record { output = old; players = players; next_players = next_players; peers = peers (peers_of i.output.players i.next_players (provided.participants (i.epoch + 2))) }
+within_by matches most version provided i (Some o) old new players next_players peers = record { output = new; players = players; next_players = next_players; peers = peers (peers_of o.players i.next_players (provided.participants (i.epoch + 2))) }
+
+-- The next info keeps to the limits, where the outcome, the next players and the provider's set do, and the provider's directory is one of its peers.
+pub next_within : {Dir : Type 0} (matches : Dir → List ℕ → Bool) (most version : ℕ) (outcome_of : Round → LogMap → Option Output) (provided : Provided Dir) (i : EpochInfo Dir) (round : Round) (logs : LogMap) → OutputWithin most version i.output
+    → FlaggedFits (OutputWithin most version) (outcome_of round logs) → length i.next_players ≤ most → length (provided.participants (i.epoch + 2)) ≤ most → ((peers : List ℕ) → matches (provided.directory (i.epoch + 1) peers) peers ≡ true)
+    → InfoWithin matches most version (next_info outcome_of provided i round logs)
+unfolding next_info
+next_within matches most version outcome_of provided i round logs old new players next_players peers = within_by matches most version provided i (outcome_of round logs) old new players next_players peers
+
+pub finalization_fits : (f : Finalization) → f.epoch < 2 ^ 64 → f.view < 2 ^ 64 → f.parent_view < 2 ^ 64 → length f.payload ≡ 32 → length f.certificate ≡ 8 → FinalizationFits f
+finalization_fits f epoch view parent_view payload certificate = record { one = epoch; other = record { one = view; other = record { one = parent_view; other = record { one = payload; other = certificate } } } }
