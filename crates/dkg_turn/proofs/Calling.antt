@@ -1,5 +1,5 @@
 -- What a call of a pass learns from its steps.
-use Rattle.std.proofs.Common.{◌≡◌, ◌↔◌, IsTrue, IsNone, ℕ, ◌+◌, ◌^◌, ◌<◌, Bool, true, List, [], ◌∷◌, ◌++◌, Option, Some, refl, sym, ap, ◌∙◌, subst, inl, inr, append-nil}
+use Rattle.std.proofs.Common.{◌≡◌, ◌↔◌, IsNone, ℕ, ◌+◌, ◌^◌, ◌<◌, true, List, [], ◌∷◌, ◌++◌, Option, Some, refl, sym, ap, ◌∙◌, subst, inl, inr, append-nil}
 use Rattle.atomic_table.specs.Seated.{TableId}
 use Rattle.dkg_turn.specs.declared.turn.HistoryEntry.{HistoryEntry}
 use Rattle.dkg_turn.specs.declared.view.Node.{Node}
@@ -7,6 +7,7 @@ use Rattle.dkg_turn.specs.declared.view.View.{View}
 use Rattle.dkg_turn.specs.History.{has, calls_of, IsStamped, IsRun, RunOf}
 use Rattle.dkg_turn.specs.Known.{Lock, Known}
 use Rattle.dkg_turn.specs.Passes.{IsPassOf, after_stay, Finds, Called, Posted}
+use Rattle.dkg_turn.specs.Stops.{HasStopped}
 use Rattle.dkg_turn.specs.Rules.{ticket_in, drawn, holding, rested, Took, MayGive, known_of}
 use Rattle.dkg_turn.proofs.Histories.{not_true, run_snoc, run_of_snoc, stamped_one, own_calls}
 
@@ -45,6 +46,7 @@ module _ {T C R : Type 0} (turns : T → C → R → T → Type 0) (lock : Lock 
     begins = took.begins;
     run = subst (λ (z : Option T). RunOf turns z node.history.items node.value) (ap (λ (z : Known T C R). z.start) is ∙ own.1) took.run;
     stamped = took.stamped;
+    above = took.above;
     later = took.later;
     left = left;
     not_told = not_true v.exhausted not_told;
@@ -80,15 +82,19 @@ module _ {T C R : Type 0} (turns : T → C → R → T → Type 0) (lock : Lock 
         stamped = subst (λ (z : Known T C R). IsStamped 0 z.next z.seen) (sym now) (stamped_one t node.history.items e stamp found.stamped);
       }
 
-module _ {T C R M A : Type 0} (turns : T → C → R → T → Type 0) (start : T) (alike : R → R → Type 0) (posted : M → C) (answered : R → Option A) (stopped : R → Bool) (meets : T → M → A → Type 0) where
-  -- a message that was posted as a call, by the law of the relation
+module _ {T C R M A : Type 0} (turns : T → C → R → T → Type 0) (start : T) (alike : R → R → Type 0) (told : T → ℕ → Option R) (posted : M → C) (answered : R → Option A) (stopped : T → C → R → T → Type 0) (meets : T → M → A → Type 0) where
+  -- a message that was posted as a call, by the laws of the relations
   pub posts : ((before : T) (message : M) (reply : R) (after : T) (answer : A) → turns before (posted message) reply after → answered reply ≡ Some answer → meets after message answer)
-      → (v w : Known T C R) (message : M) (call : C) (reply : R) (answer : Option A) → call ≡ posted message → Called turns start alike call reply v w → answer ≡ answered reply → IsNone answer ↔ IsTrue (stopped reply)
-      → Posted turns start alike (posted message) answered stopped meets message answer v w
-  posts carried v w message call reply answer is made said stop = let made' : Called turns start alike (posted message) reply v w = subst (λ (x : C). Called turns start alike x reply v w) is made in record {
-    reply = reply;
-    called = made';
-    answer_is = said;
-    stop = stop;
-    met = λ a some. carried made'.before message reply made'.after a made'.given (sym said ∙ some);
-  }
+      → ((before : T) (message : M) (reply : R) (after : T) → turns before (posted message) reply after → IsNone (answered reply) ↔ stopped before (posted message) reply after)
+      → ((before : T) (call : C) (reply : R) (after : T) → turns before call reply after → stopped before call reply after → HasStopped turns stopped told answered after)
+      → (v w : Known T C R) (message : M) (call : C) (reply : R) (answer : Option A) → call ≡ posted message → Called turns start alike call reply v w → answer ≡ answered reply
+      → Posted turns start alike told (posted message) answered stopped meets message answer v w
+  posts carried answerless ends v w message call reply answer is made said = let made' : Called turns start alike (posted message) reply v w = subst (λ (x : C). Called turns start alike x reply v w) is made in
+      let stop : IsNone answer ↔ stopped made'.before (posted message) reply made'.after = subst (λ (x : Option A). IsNone x ↔ stopped made'.before (posted message) reply made'.after) (sym said) (answerless made'.before message reply made'.after made'.given) in record {
+        reply = reply;
+        called = made';
+        answer_is = said;
+        stop = stop;
+        ended = λ none. ends made'.before (posted message) reply made'.after made'.given (stop.0 none);
+        met = λ a some. carried made'.before message reply made'.after a made'.given (sym said ∙ some);
+      }

@@ -1,5 +1,5 @@
 -- Each step keeps the rule of the lock.
-use Rattle.std.proofs.Common.{◌≡◌, ◌≢◌, ◌⊎◌, ℕ, zero, suc, ◌+◌, ◌%◌, ◌^◌, ◌<◌, ◌≤◌, eqb, ◌==◌, ◌||◌, Bool, true, false, true≢false, List, [], ◌∷◌, ◌++◌, length, get_or, set, Option, Some, refl, sym, ap, ◌∙◌, subst, inl, inr, ⊎_elim, arith, MatchBool, append-nil, append_assoc, eq-eqb, ne_eqb}
+use Rattle.std.proofs.Common.{◌≡◌, ◌≢◌, ◌⊎◌, ℕ, zero, suc, ◌+◌, ◌-◌, ◌%◌, ◌^◌, ◌<◌, ◌≤◌, eqb, ◌==◌, ◌||◌, Bool, true, false, true≢false, List, [], ◌∷◌, ◌++◌, length, get_or, set, Option, Some, refl, sym, ap, ◌∙◌, subst, inl, inr, ⊎_elim, arith, MatchBool, append-nil, append_assoc, eq-eqb, ne_eqb}
 use mathlib.Core.Logic.{dite}
 use mathlib.Core.Option.{none, some, some-injective, some-ne-none}
 use mathlib.Core.Option as maybe
@@ -15,10 +15,11 @@ use Rattle.dkg_turn.specs.declared.view.View.{View}
 use Rattle.dkg_turn.specs.declared.view.Stage.{Stage}
 use Rattle.dkg_turn.specs.declared.view.Stage.TheVariants.{Idle, Waits, Holds}
 use Rattle.dkg_turn.specs.History.{has, calls_of, HasSeen, IsStamped, RunOf}
-use Rattle.dkg_turn.specs.Rules.{HasTicket, ticket_in, AddsOne, InTurn, first_view, drawn, holding, rested, Fits, tickets_of, parts_of, Apart, AtHome, IsOut, Kept, looked, drew_one, Took, came, passed_on}
+use Rattle.dkg_turn.specs.Rules.{HasTicket, ticket_in, AddsOne, InTurn, first_view, drawn, holding, rested, Fits, tickets_of, parts_of, Apart, tickets_in, holders_of, AtHome, IsOut, Kept, looked, drew_one, Took, came, passed_on}
 use Rattle.dkg_turn.specs.Rules.{MayGive, numbered, passed_named, spent, PartOf, settled}
 use Rattle.dkg_turn.proofs.Histories.{calls_of-append, no_call, fewer, empty_part, nil_left, stamped_adds}
-use Rattle.dkg_turn.proofs.Whole.{whole_knows}
+use Rattle.dkg_turn.specs.Known.{AreDrawn}
+use Rattle.dkg_turn.proofs.Whole.{whole_knows, its_tickets, none_above}
 
 pub set_at : {A : Type 0} (l : List A) (i : ℕ) (a b : A) → get_elem? l i ≡ some a → get_elem? (set l i b) i ≡ some b
 set_at [] i a b e = absurd (some-ne-none a (sym e))
@@ -107,6 +108,11 @@ module _ {T C R : Type 0} where
   parts_of-set (x ∷ xs) zero v w e = let is : x.parts ≡ v.parts = ap (λ (m : View T C R). m.parts) (some-injective x v e) in omega arith
   parts_of-set (x ∷ xs) (suc i) v w e = let r = parts_of-set xs i v w e in omega arith
 
+  pub holders_of-set : (l : List (View T C R)) (i : ℕ) (v w : View T C R) → get_elem? l i ≡ some v → holders_of (set l i w) + tickets_in v.stage ≡ holders_of l + tickets_in w.stage
+  holders_of-set [] i v w e = absurd (some-ne-none v (sym e))
+  holders_of-set (x ∷ xs) zero v w e = let is : tickets_in x.stage ≡ tickets_in v.stage = ap (λ (m : View T C R). tickets_in m.stage) (some-injective x v e) in omega arith
+  holders_of-set (x ∷ xs) (suc i) v w e = let r = holders_of-set xs i v w e in omega arith
+
   pub still_out : (serving id : ℕ) (homes : List (maybe.Option (Option (Node T C R)))) (views : List (View T C R)) (v w : View T C R) → get_elem? views id ≡ some v → ¬ (v.stage ≡ Holds serving)
       → IsOut serving homes views → IsOut serving homes (set views id w)
   still_out serving id homes views v w at not out = let x = out.1 in dite (ℕ_discrete x.0 id)
@@ -155,7 +161,7 @@ module _ {T C R : Type 0} (turns : T → C → R → T → Type 0) (start : T) w
   -- the pass at id goes from v to w
   moved : (s : S) (r : Rule s) (id : ℕ) (v w : View T C R) (tickets serving : ℕ) (log : List (HistoryEntry C R)) (words : List ℕ) (homes : List (maybe.Option (Option (Node T C R))))
       → get_elem? s.views id ≡ some v → words ≡ tickets ∷ serving ∷ [] → tickets < 2 ^ 64 → serving ≤ tickets → IsStamped 0 serving log
-      → tickets + v.drew ≡ r.tickets + w.drew → w.parts ≡ v.parts
+      → tickets + v.drew ≡ r.tickets + w.drew → tickets + tickets_in v.stage + r.serving ≡ r.tickets + tickets_in w.stage + serving → w.parts ≡ v.parts
       → AtHome turns start log homes ⊎ IsOut serving homes (set s.views id w)
       → ((j : ℕ) (u : View T C R) → j ≢ id → get_elem? s.views j ≡ some u → Fits start r.tickets r.serving r.log u → Fits start tickets serving log u)
       → Fits start tickets serving log w
@@ -163,7 +169,7 @@ module _ {T C R : Type 0} (turns : T → C → R → T → Type 0) (start : T) w
       → ((n : ℕ) → has v.numbers n ≡ true → has w.numbers n ≡ true)
       → ((n : ℕ) → calls_of (n ∷ []) log ≢ [] → (calls_of (n ∷ []) r.log ≢ []) ⊎ (has w.numbers n ≡ true))
       → Rule record { words = words; homes = homes; views = set s.views id w }
-  moved s r id v w tickets serving log words homes at ws narrow below stamped drew parts node others mine alone numbers kept = record {
+  moved s r id v w tickets serving log words homes at ws narrow below stamped drew held parts node others mine alone numbers kept = record {
     tickets = tickets;
     serving = serving;
     log = log;
@@ -172,6 +178,7 @@ module _ {T C R : Type 0} (turns : T → C → R → T → Type 0) (start : T) w
     below = below;
     stamped = stamped;
     drawn_by_all = let a = tickets_of-set s.views id v w at in let b = r.drawn_by_all in omega arith;
+    held_by_all = let a = holders_of-set s.views id v w at in let b = r.held_by_all in omega arith;
     parts_of_all = let a = parts_of-set s.views id v w at in let b = r.parts_of_all in omega arith;
     node = node;
     each = λ j u e. ⊎_elim (λ (t : (j ≡ id) × (w ≡ u)). subst (Fits start tickets serving log) t.1 mine)
@@ -193,13 +200,13 @@ module _ {T C R : Type 0} (turns : T → C → R → T → Type 0) (start : T) w
   looks slots id me s r _ at _ = let x : ℕ = get_or s.words 0 0 in let v : View T C R = me.0 in let w : View T C R = spent v in let is : x ≡ r.tickets = ap (λ (ws : List ℕ). get_or ws 0 0) r.words in let F = r.each id v at in
       let after : M = (w, me.1) in
       let known : v.exhausted ≡ true → x + 1 ≡ 2 ^ 64 = λ d. let q = F.told d in omega arith in
-      let all : v.parts ≡ 2 ^ 64 → v.drew ≡ x = λ p. sym ((whole_knows turns start s r id v at p).0) ∙ sym is in
+      let all : AreDrawn x v.drew v.parts = subst (λ (n : ℕ). AreDrawn n v.drew v.parts) (sym is) (its_tickets turns start s r id v at) in
       dite (ℕ_discrete x 18446744073709551615)
       (λ hit. (
         w,
         keeps,
         tt,
-        moved s r id v w r.tickets r.serving r.log (set s.words 0 x) s.homes at (set-get_or s.words 0 0 ∙ r.words) r.narrow r.below r.stamped refl refl
+        moved s r id v w r.tickets r.serving r.log (set s.words 0 x) s.homes at (set-get_or s.words 0 0 ∙ r.words) r.narrow r.below r.stamped refl refl refl
             (⊎_elim (λ h. inl h) (λ out. inr (same_out r.serving id s.homes s.views v w at (λ h. h) out)) r.node)
             (λ j u ne e f. f)
             record { starts = F.starts; begins = F.begins; turn = F.turn; named = F.named; nothing = F.nothing; told = λ d. omega arith; passed = F.passed; theirs = F.theirs; ours = F.ours }
@@ -211,7 +218,7 @@ module _ {T C R : Type 0} (turns : T → C → R → T → Type 0) (start : T) w
       (λ miss. (v, keeps, tt, unmoved s r 0 id me at, (subst (λ b. MatchBool b (me ≡ after) (me ≡ me)) (sym (ne_eqb x 18446744073709551615 miss)) refl, known, all)))
 
   pub settles : (slots id : ℕ) (me : M) → Allows Rule slots id me 0 (λ x. x) (settled (step slots 0 0 0 none) me)
-  settles slots id me s r _ at _ = let F = r.each id me.0 at in (me.0, keeps, tt, unmoved s r 0 id me at, (refl, (λ short. within me.0.also_of me.0.also me.0.seen r.log F.begins.0 F.theirs.1 F.begins.1 short), (λ short. within me.0.ours_of me.0.ours me.0.seen r.log F.begins.0 F.ours.1 F.begins.1 short)))
+  settles slots id me s r _ at _ = let F = r.each id me.0 at in (me.0, keeps, tt, unmoved s r 0 id me at, (refl, (λ short. within me.0.also_of me.0.also me.0.seen r.log F.begins.0 F.theirs.1 F.begins.1 short), (λ short. within me.0.ours_of me.0.ours me.0.seen r.log F.begins.0 F.ours.1 F.begins.1 short), λ told. let all : r.tickets + 1 ≡ 2 ^ 64 = F.told told in let all' : r.tickets ≡ 2 ^ 64 - 1 = omega arith in subst (λ (n : ℕ). AreDrawn n me.0.drew me.0.parts) all' (its_tickets turns start s r id me.0 at)))
 
   abbrev serving_of : S → ℕ
   serving_of s = get_or s.words 1 0
@@ -243,7 +250,7 @@ module _ {T C R : Type 0} (turns : T → C → R → T → Type 0) (start : T) w
         keeps,
         tt,
         subst (λ b. Rule (stepped s 0 (either b new x) id me.1 w keeps)) (sym (eq-eqb x old hit))
-            (moved s r id v w new r.serving r.log (set s.words 0 new) s.homes at (ap (λ (ws : List ℕ). set ws 0 new) r.words) small (let b = r.below in omega arith) r.stamped (omega arith) refl
+            (moved s r id v w new r.serving r.log (set s.words 0 new) s.homes at (ap (λ (ws : List ℕ). set ws 0 new) r.words) small (let b = r.below in omega arith) r.stamped (omega arith) (let e : tickets_in v.stage ≡ 0 = ap tickets_in idle in omega arith) refl
             (⊎_elim (λ h. inl h) (λ out. inr (still_out r.serving id s.homes s.views v w at (λ h. true≢false (sym (ap is_idle idle) ∙ ap is_idle h)) out)) r.node)
             (λ j u ne e f. record { starts = f.starts; begins = f.begins; turn = more_tickets r.tickets new r.serving r.log u.seen u.stage (omega arith) f.turn; named = f.named; nothing = f.nothing; told = λ d. let q = f.told d in absurd (omega arith); passed = f.passed; theirs = f.theirs; ours = f.ours })
             record { starts = F.starts; begins = F.begins; turn = (let b = r.below in omega arith, omega arith); named = F.named; nothing = λ z. absurd (omega arith); told = λ d. let q = F.told d in absurd (omega arith); passed = F.passed; theirs = F.theirs; ours = F.ours }
@@ -271,7 +278,7 @@ module _ {T C R : Type 0} (turns : T → C → R → T → Type 0) (start : T) w
         w,
         takes 0 (Some node),
         ap (λ (hs : List (maybe.Option (Option (Node T C R)))). get_elem? hs 0) home.1,
-        moved s r id v w r.tickets r.serving r.log (set s.words 1 x) (set s.homes 0 none) at (set-get_or s.words 1 0 ∙ r.words) r.narrow r.below r.stamped refl refl
+        moved s r id v w r.tickets r.serving r.log (set s.words 1 x) (set s.homes 0 none) at (set-get_or s.words 1 0 ∙ r.words) r.narrow r.below r.stamped refl (let e : tickets_in v.stage ≡ 1 = ap tickets_in waits in omega arith) refl
             (inr (ap (λ (hs : List (maybe.Option (Option (Node T C R)))). set hs 0 none) home.1, (id, w, set_at s.views id v w at, ap Holds (sym hit ∙ is))))
             (λ j u ne e f. f)
             record {
@@ -296,6 +303,7 @@ module _ {T C R : Type 0} (turns : T → C → R → T → Type 0) (start : T) w
             begins = subst (HasSeen v.numbers v.seen) (sym home.2) F.begins;
             run = subst (λ (z : Option T × List (HistoryEntry C R)). RunOf turns z.0 z.1 node.value) (λ i. (sym (F.starts whole) i, sym home.2 i)) home.3;
             stamped = subst (λ (z : ℕ × List (HistoryEntry C R)). IsStamped 0 z.0 z.1) (λ i. ((sym is ∙ hit) i, sym home.2 i)) r.stamped;
+            above = λ n lt. let q : r.serving ≡ ticket_in v.stage = sym is ∙ hit in subst (λ (l : List (HistoryEntry C R)). calls_of (n ∷ []) l ≡ []) (sym home.2) (none_above turns start s r n (omega arith));
             later = let a = F.passed in omega arith;
             whole = λ p. subst (λ (l : List (HistoryEntry C R)). calls_of v.numbers l ≡ l) (sym home.2) ((whole_knows turns start s r id v at p).1);
           },
@@ -328,7 +336,7 @@ module _ {T C R : Type 0} (turns : T → C → R → T → Type 0) (start : T) w
         w,
         gives,
         tt,
-        moved s r id v w r.tickets (r.serving + 1) log (set s.words 1 ((x + 1) % 2 ^ 64)) (back s.homes) at (λ i. set (r.words i) 1 (up i)) r.narrow (omega arith) (subst (λ (z : ℕ × List (HistoryEntry C R)). IsStamped 0 (z.0 + 1) z.1) (λ i. (sym a i, longer i)) (stamped_adds t v.numbers r.log ext adds (subst (λ (n : ℕ). IsStamped 0 n r.log) a r.stamped))) refl refl
+        moved s r id v w r.tickets (r.serving + 1) log (set s.words 1 ((x + 1) % 2 ^ 64)) (back s.homes) at (λ i. set (r.words i) 1 (up i)) r.narrow (omega arith) (subst (λ (z : ℕ × List (HistoryEntry C R)). IsStamped 0 (z.0 + 1) z.1) (λ i. (sym a i, longer i)) (stamped_adds t v.numbers r.log ext adds (subst (λ (n : ℕ). IsStamped 0 n r.log) a r.stamped))) refl (let e : tickets_in v.stage ≡ 1 = ap tickets_in holds in omega arith) refl
             (inl (node, (⊎_elim (λ (h : AtHome turns start r.log s.homes). ap back h.1) (λ (o : IsOut r.serving s.homes s.views). ap back o.0) r.node), refl, subst (λ (z : Option T). RunOf turns z log node.value) (F.starts whole) run))
             (λ j u ne e f. let ap_ = r.apart id j v u at e (λ q. ne (sym q)) in let theirs = not_theirs t v.numbers u.numbers ext adds ap_.1 in record {
               starts = f.starts;
@@ -391,6 +399,7 @@ module _ {T C R : Type 0} (turns : T → C → R → T → Type 0) (start : T) w
     below = omega arith;
     stamped = omega arith;
     drawn_by_all = refl;
+    held_by_all = refl;
     parts_of_all = omega arith;
     node = inl (node, refl, fresh, same);
     each = one;

@@ -11,9 +11,9 @@ use Rattle.dkg_turn.specs.declared.view.Node.{Node}
 use Rattle.dkg_turn.specs.declared.view.View.{View}
 use Rattle.dkg_turn.specs.declared.view.Stage.TheVariants.{Idle, Holds}
 use Rattle.dkg_turn.specs.History.{has, put_if, calls_of, HasSeen, longer}
-use Rattle.dkg_turn.specs.Rules.{head_of, tail_of, IsNewlyNamed, kept_part, given_part, both_views, nobody, Fits, tickets_of, parts_of, Apart, IsOut, Kept}
+use Rattle.dkg_turn.specs.Rules.{head_of, tail_of, IsNewlyNamed, kept_part, given_part, both_views, nobody, Fits, tickets_in, tickets_of, holders_of, parts_of, Apart, IsOut, Kept}
 use Rattle.dkg_turn.proofs.Histories.{not_true, calls_of-append, bool_is, fewer, none_of, empty_part}
-use Rattle.dkg_turn.proofs.Keeps.{set_at, has_later, has_cons, is_idle, tickets_of-set, parts_of-set, Between, apart_set, still_out}
+use Rattle.dkg_turn.proofs.Keeps.{set_at, has_later, has_cons, is_idle, tickets_of-set, holders_of-set, parts_of-set, Between, apart_set, still_out}
 
 or_is : (a b : Bool) → (a || b) ≡ true → (a ≡ true) ⊎ (b ≡ true)
 or_is true b h = inl refl
@@ -102,6 +102,10 @@ module _ {T C R : Type 0} where
   tickets_of-snoc [] w = omega arith
   tickets_of-snoc (x ∷ xs) w = let r = tickets_of-snoc xs w in omega arith
 
+  holders_of-snoc : (l : List (View T C R)) (w : View T C R) → holders_of (l ++ w ∷ []) ≡ holders_of l + tickets_in w.stage
+  holders_of-snoc [] w = omega arith
+  holders_of-snoc (x ∷ xs) w = let r = holders_of-snoc xs w in omega arith
+
   parts_of-snoc : (l : List (View T C R)) (w : View T C R) → parts_of (l ++ w ∷ []) ≡ parts_of l + w.parts
   parts_of-snoc [] w = omega arith
   parts_of-snoc (x ∷ xs) w = let r = parts_of-snoc xs w in omega arith
@@ -139,6 +143,7 @@ module _ {T C R : Type 0} (turns : T → C → R → T → Type 0) (start : T) w
         below = r.below;
         stamped = r.stamped;
         drawn_by_all = let a = tickets_of-snoc vs G in let b = tickets_of-set s.views id v L at in let c = r.drawn_by_all in omega arith;
+        held_by_all = let a = holders_of-snoc vs G in let b = holders_of-set s.views id v L at in let c = r.held_by_all in let e : tickets_in v.stage ≡ 0 = ap tickets_in idle in omega arith;
         parts_of_all = let a = parts_of-snoc vs G in let b = parts_of-set s.views id v L at in let c = r.parts_of_all in omega arith;
         node = ⊎_elim (λ h. inl h) (λ (o : IsOut r.serving s.homes s.views). let x = still_out r.serving id s.homes s.views v L at (not_holding v r.serving idle) o in inr (x.0, (x.1.0, x.1.1, at_longer vs (G ∷ []) x.1.0 x.1.1 x.1.2, x.1.3))) r.node;
         each = λ j u e. ⊎_elim
@@ -180,6 +185,7 @@ module _ {T C R : Type 0} (turns : T → C → R → T → Type 0) (start : T) w
         below = r.below;
         stamped = r.stamped;
         drawn_by_all = let a = tickets_of-set s.views id v B at in let b = tickets_of-set vs other w N there in let c = r.drawn_by_all in omega arith;
+        held_by_all = let a = holders_of-set s.views id v B at in let b = holders_of-set vs other w N there in let c = r.held_by_all in let e : tickets_in v.stage ≡ 0 = ap tickets_in idle in let f : tickets_in w.stage ≡ 0 = ap tickets_in idle' in omega arith;
         parts_of_all = let a = parts_of-set s.views id v B at in let b = parts_of-set vs other w N there in let c = r.parts_of_all in omega arith;
         node = ⊎_elim (λ h. inl h) (λ (o : IsOut r.serving s.homes s.views). inr (still_out r.serving other s.homes vs w N there (not_holding w r.serving idle') (still_out r.serving id s.homes s.views v B at (not_holding v r.serving idle) o))) r.node;
         each = λ j u e. ⊎_elim

@@ -1,5 +1,5 @@
 -- The pass that has all parts is the only one that drew tickets or made calls.
-use Rattle.std.proofs.Common.{◌≡◌, ◌≢◌, ℕ, zero, suc, ◌+◌, ◌^◌, ◌≤◌, ◌||◌, Bool, true, false, true≢false, List, [], ◌∷◌, Option, refl, sym, ap, ◌∙◌, subst, arith, eq-eqb}
+use Rattle.std.proofs.Common.{◌≡◌, ◌≢◌, ℕ, zero, suc, ◌+◌, ◌-◌, ◌^◌, ◌≤◌, ◌||◌, Bool, true, false, true≢false, List, [], ◌∷◌, Option, refl, sym, ap, ◌∙◌, subst, arith, eq-eqb}
 use mathlib.Core.Logic.{dite}
 use mathlib.Core.Option.{some, some-injective, some-ne-none}
 use native.Mathlib.Decide.{ℕ_discrete}
@@ -8,7 +8,8 @@ use Rattle.atomic_table.specs.Table.{State}
 use Rattle.dkg_turn.specs.declared.turn.HistoryEntry.{HistoryEntry}
 use Rattle.dkg_turn.specs.declared.view.Node.{Node}
 use Rattle.dkg_turn.specs.declared.view.View.{View}
-use Rattle.dkg_turn.specs.History.{has, put_if, calls_of}
+use Rattle.dkg_turn.specs.History.{has, put_if, calls_of, HasNoneAbove}
+use Rattle.dkg_turn.specs.Known.{AreDrawn}
 use Rattle.dkg_turn.specs.Rules.{tickets_of, parts_of, Kept}
 
 module _ {C R : Type 0} where
@@ -23,7 +24,17 @@ module _ {C R : Type 0} where
       let mine : has ns x.caller ≡ true = own x.caller (λ z. let h : x ∷ calls_of (x.caller ∷ []) xs ≡ [] = subst (λ b. put_if b x (calls_of (x.caller ∷ []) xs) ≡ []) there z in absurd (cc)) in
       ap (λ b. put_if b x (calls_of ns xs)) mine ∙ ap (λ l. x ∷ l) (all_own ns xs (λ n h. own n (λ z. h (no_longer (has (n ∷ []) x.caller) x (calls_of (n ∷ []) xs) z))))
 
+module _ {A : Type 0} where
+  must_be_empty : (l : List A) → ¬ (l ≢ []) → l ≡ []
+  must_be_empty [] h = refl
+  must_be_empty (x ∷ xs) h = absurd (h (λ e. absurd (cc)))
+
 module _ {T C R : Type 0} where
+  drew_le : (l : List (View T C R)) (i : ℕ) (v : View T C R) → get_elem? l i ≡ some v → v.drew ≤ tickets_of l
+  drew_le [] i v e = absurd (some-ne-none v (sym e))
+  drew_le (x ∷ xs) zero v e = let is : x.drew ≡ v.drew = ap (λ (m : View T C R). m.drew) (some-injective x v e) in omega arith
+  drew_le (x ∷ xs) (suc i) v e = let r = drew_le xs i v e in omega arith
+
   parts_le : (l : List (View T C R)) (i : ℕ) (v : View T C R) → get_elem? l i ≡ some v → v.parts ≤ parts_of l
   parts_le [] i v e = absurd (some-ne-none v (sym e))
   parts_le (x ∷ xs) zero v e = let is : x.parts ≡ v.parts = ap (λ (m : View T C R). m.parts) (some-injective x v e) in omega arith
@@ -54,3 +65,12 @@ module _ {T C R : Type 0} (turns : T → C → R → T → Type 0) (start : T) w
             (λ same. subst (λ (u : View T C R). has u.numbers n ≡ true) (some-injective k.1 v (sym (subst (λ (i : ℕ). get_elem? s.views i ≡ some k.1) same k.2) ∙ at)) k.3)
             (λ other. absurd (true≢false (sym (subst (λ (l : List ℕ). has l n ≡ true) (((r.each k.0 k.1 k.2).nothing (others k.0 k.1 other k.2)).1) k.3))))),
       )
+
+  -- of all tickets, a pass drew its own
+  pub its_tickets : (s : State (Option (Node T C R)) (View T C R)) (r : Kept turns start s) (id : ℕ) (v : View T C R) → get_elem? s.views id ≡ some v → AreDrawn r.tickets v.drew v.parts
+  its_tickets s r id v at = let le = drew_le s.views id v at in let all = r.drawn_by_all in
+      (r.tickets - v.drew, omega arith, λ p. let k = (whole_knows s r id v at p).0 in omega arith)
+
+  -- a number above the serving word is no pass's, so no entry's either
+  pub none_above : (s : State (Option (Node T C R)) (View T C R)) (r : Kept turns start s) → HasNoneAbove r.serving r.log
+  none_above s r n above = must_be_empty (calls_of (n ∷ []) r.log) (λ some_call. let k = r.kept_by_one n some_call in let low = (r.each k.0 k.1 k.2).named n k.3 in absurd (omega arith))

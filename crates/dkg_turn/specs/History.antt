@@ -1,5 +1,5 @@
 -- Histories of calls, and their run.
-use Rattle.std.specs.Prelude.{◌≡◌, ℕ, ◌+◌, ◌==◌, ◌||◌, ◌≤◌, Bool, true, false, List, [], ◌∷◌, ◌++◌, Option, Some, None}
+use Rattle.std.specs.Prelude.{◌≡◌, ℕ, ◌+◌, ◌==◌, ◌||◌, ◌<◌, ◌≤◌, Bool, true, false, List, [], ◌∷◌, ◌++◌, Option, Some, None}
 use Rattle.dkg_turn.specs.declared.turn.HistoryEntry.{HistoryEntry}
 
 -- the number is among these
@@ -20,6 +20,10 @@ module _ {C R : Type 0} where
   -- the log begins with what was seen, and after that has no call of these callers
   abbrev pub HasSeen : List ℕ → List (HistoryEntry C R) → List (HistoryEntry C R) → Type 0
   HasSeen numbers seen log = (rest : List (HistoryEntry C R)) × (log ≡ seen ++ rest) × (calls_of numbers rest ≡ [])
+
+  -- it has no call of a caller whose number is above this ticket
+  abbrev pub HasNoneAbove : ℕ → List (HistoryEntry C R) → Type 0
+  HasNoneAbove ticket log = (n : ℕ) → ticket < n → calls_of (n ∷ []) log ≡ []
 
   -- tickets rise along the history, from this one on, and stay below the limit
   abbrev pub IsStamped : ℕ → ℕ → List (HistoryEntry C R) → Type 0

@@ -1,5 +1,5 @@
 -- What contracts see of a lock and of a pass.
-use Rattle.std.specs.Prelude.{ℕ, Bool, List, Option}
+use Rattle.std.specs.Prelude.{◌≡◌, ℕ, ◌+◌, ◌^◌, Bool, List, Option}
 use Rattle.atomic_table.specs.Seated.{TableId}
 use Rattle.dkg_turn.specs.declared.turn.HistoryEntry.{HistoryEntry}
 
@@ -27,3 +27,7 @@ pub record Known (T C R : Type 0) : Type 0 where
   pub parts : ℕ
   -- it was told that no ticket is left
   pub exhausted : Bool
+
+-- Of the tickets drawn, a pass that drew so many and has so many parts drew its own, and others the rest. Where it has all parts there are no others
+abbrev pub AreDrawn : ℕ → ℕ → ℕ → Type 0
+AreDrawn tickets drew parts = (others : ℕ) × (drew + others ≡ tickets) × (parts ≡ 2 ^ 64 → others ≡ 0)

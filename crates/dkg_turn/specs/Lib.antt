@@ -4,3 +4,4 @@ pub mod Passes
 pub mod Refusals
 pub mod Replies
 pub mod Rules
+pub mod Stops

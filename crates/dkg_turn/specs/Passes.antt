@@ -1,8 +1,9 @@
 -- What the calls of a pass tell.
-use Rattle.std.specs.Prelude.{◌≡◌, ◌↔◌, IsTrue, IsNone, Bool, ℕ, ◌+◌, ◌-◌, ◌/◌, ◌<◌, ◌≤◌, ◌^◌, ◌||◌, max, true, false, List, [], ◌∷◌, ◌++◌, Option, Some, None}
+use Rattle.std.specs.Prelude.{◌≡◌, ◌↔◌, IsNone, ℕ, ◌+◌, ◌-◌, ◌/◌, ◌<◌, ◌≤◌, ◌^◌, ◌||◌, max, true, false, List, [], ◌∷◌, ◌++◌, Option, Some, None}
 use Rattle.dkg_turn.specs.declared.turn.HistoryEntry.{HistoryEntry}
-use Rattle.dkg_turn.specs.History.{has, calls_of, HasSeen, IsStamped, longer, IsRun}
-use Rattle.dkg_turn.specs.Known.{Lock, Known}
+use Rattle.dkg_turn.specs.History.{has, calls_of, HasSeen, HasNoneAbove, IsStamped, longer, IsRun}
+use Rattle.dkg_turn.specs.Known.{Lock, Known, AreDrawn}
+use Rattle.dkg_turn.specs.Stops.{HasStopped}
 
 module _ {T C R : Type 0} where
   -- a pass of this lock
@@ -41,6 +42,8 @@ module _ {T C R : Type 0} where
       pub run : IsRun turns start log value
       -- entries stand in the order of their tickets, which are below this one
       pub stamped : IsStamped 0 ticket log
+      -- no entry is of a number above this ticket, so a pass that is numbered by it has no call yet
+      pub above : HasNoneAbove ticket log
       -- this stay is later than all that the pass knew of
       pub later : v.next ≤ ticket
       -- fewer than 2 ^ 64 - 1 tickets were drawn before, and the pass was not told otherwise
@@ -115,14 +118,16 @@ module _ {T C R : Type 0} where
 
   module _ {M A : Type 0} (turns : T → C → R → T → Type 0) (start : T) where
     -- a message was posted as a call, and the answer in its reply meets the relation of core, message and answer after that turn
-    pub record Posted (same : R → R → Type 0) (call : C) (answered : R → Option A) (stopped : R → Bool) (meets : T → M → A → Type 0) (message : M) (answer : Option A) (v w : Known T C R) : Type 0 where
+    pub record Posted (same : R → R → Type 0) (told : T → ℕ → Option R) (call : C) (answered : R → Option A) (stopped : T → C → R → T → Type 0) (meets : T → M → A → Type 0) (message : M) (answer : Option A) (v w : Known T C R) : Type 0 where
       pub reply : R
       pub called : Called turns start same call reply v w
       pub answer_is : answer ≡ answered reply
-      pub stop : IsNone answer ↔ IsTrue (stopped reply)
+      -- no answer comes exactly where that turn ended by a stop
+      pub stop : IsNone answer ↔ stopped called.before call reply called.after
+      pub ended : IsNone answer → HasStopped turns stopped told answered called.after
       pub met : (a : A) → answer ≡ Some a → meets called.after message a
 
-  -- no ticket is left: 2 ^ 64 - 1 were drawn, and a pass with all parts drew them
+  -- no ticket is left: 2 ^ 64 - 1 were drawn, by this pass and by others
   pub record IsExhausted (v w : Known T C R) : Type 0 where
     pub after : w ≡ told_exhausted v
-    pub whole : v.parts ≡ 2 ^ 64 → v.drew + 1 ≡ 2 ^ 64
+    pub drawn : AreDrawn (2 ^ 64 - 1) v.drew v.parts

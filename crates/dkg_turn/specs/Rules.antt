@@ -11,8 +11,8 @@ use Rattle.dkg_turn.specs.declared.view.Node.{Node}
 use Rattle.dkg_turn.specs.declared.view.View.{View}
 use Rattle.dkg_turn.specs.declared.view.Stage.{Stage}
 use Rattle.dkg_turn.specs.declared.view.Stage.TheVariants.{Idle, Waits, Holds}
-use Rattle.dkg_turn.specs.History.{has, calls_of, HasSeen, IsStamped, longer, IsRun, RunOf}
-use Rattle.dkg_turn.specs.Known.{Known}
+use Rattle.dkg_turn.specs.History.{has, calls_of, HasSeen, HasNoneAbove, IsStamped, longer, IsRun, RunOf}
+use Rattle.dkg_turn.specs.Known.{Known, AreDrawn}
 
 -- the ticket is drawn, and its turn is not passed on
 abbrev pub HasTicket : Stage → ℕ → Type 0
@@ -24,6 +24,11 @@ abbrev pub ticket_in : Stage → ℕ
 ticket_in Idle = 0
 ticket_in (Waits t) = t
 ticket_in (Holds t) = t
+
+abbrev pub tickets_in : Stage → ℕ
+tickets_in Idle = 0
+tickets_in (Waits t) = 1
+tickets_in (Holds t) = 1
 
 abbrev pub head_of : List ℕ → ℕ
 head_of [] = 0
@@ -103,6 +108,11 @@ module _ {T C R : Type 0} where
   parts_of [] = 0
   parts_of (v ∷ vs) = v.parts + parts_of vs
 
+  -- how many passes have a ticket
+  abbrev pub holders_of : List (View T C R) → ℕ
+  holders_of [] = 0
+  holders_of (v ∷ vs) = tickets_in v.stage + holders_of vs
+
   -- two passes have no ticket and no number in common
   abbrev pub Apart : List (View T C R) → Type 0
   Apart views =
@@ -119,7 +129,7 @@ module _ {T C R : Type 0} where
     AtHome start log homes = (node : Node T C R) × (homes ≡ some (Some node) ∷ []) × (node.history.items ≡ log) × IsRun turns start log node.value
 
     -- The rule: there is one history, in the order of tickets, and the node has it with the value that it leads to.
-    -- The tickets are the sum of those that the passes drew, and each call was made under a number that one pass has
+    -- The tickets are the sum of those that the passes drew, those not passed on are as many as the passes that have one, and each call was made under a number that one pass has
     pub record Kept (start : T) (s : State (Option (Node T C R)) (View T C R)) : Type 0 where
       pub tickets : ℕ
       pub serving : ℕ
@@ -128,6 +138,7 @@ module _ {T C R : Type 0} where
       pub narrow : tickets < 2 ^ 64
       pub below : serving ≤ tickets
       pub drawn_by_all : tickets_of s.views ≡ tickets
+      pub held_by_all : serving + holders_of s.views ≡ tickets
       pub parts_of_all : parts_of s.views ≡ 2 ^ 64
       pub stamped : IsStamped 0 serving log
       pub node : AtHome start log s.homes ⊎ IsOut serving s.homes s.views
@@ -137,11 +148,11 @@ module _ {T C R : Type 0} where
 
   -- a look at the ticket word
   abbrev pub looked : Step (Option (Node T C R)) → Me (Option (Node T C R)) (View T C R) → ℕ → Me (Option (Node T C R)) (View T C R) → Type 0
-  looked st m r m' = MatchBool (r == 18446744073709551615) (m' ≡ (spent m.0, m.1)) (m' ≡ m) × (m.0.exhausted ≡ true → r + 1 ≡ 2 ^ 64) × (m.0.parts ≡ 2 ^ 64 → m.0.drew ≡ r)
+  looked st m r m' = MatchBool (r == 18446744073709551615) (m' ≡ (spent m.0, m.1)) (m' ≡ m) × (m.0.exhausted ≡ true → r + 1 ≡ 2 ^ 64) × AreDrawn r m.0.drew m.0.parts
 
-  -- what the joined pass had seen begins what this one has
+  -- what the joined pass had seen begins what this one has, and where one was told that no ticket is left, all were drawn
   abbrev pub settled : Step (Option (Node T C R)) → Me (Option (Node T C R)) (View T C R) → ℕ → Me (Option (Node T C R)) (View T C R) → Type 0
-  settled st m r m' = (m' ≡ m) × (length m.0.also ≤ length m.0.seen → HasSeen m.0.also_of m.0.also m.0.seen) × (length m.0.ours ≤ length m.0.seen → HasSeen m.0.ours_of m.0.ours m.0.seen)
+  settled st m r m' = (m' ≡ m) × (length m.0.also ≤ length m.0.seen → HasSeen m.0.also_of m.0.also m.0.seen) × (length m.0.ours ≤ length m.0.seen → HasSeen m.0.ours_of m.0.ours m.0.seen) × (m.0.exhausted ≡ true → AreDrawn (2 ^ 64 - 1) m.0.drew m.0.parts)
 
   -- the ticket was drawn where the word was the number seen
   abbrev pub drew_one : Step (Option (Node T C R)) → Me (Option (Node T C R)) (View T C R) → ℕ → Me (Option (Node T C R)) (View T C R) → Type 0
@@ -154,6 +165,7 @@ module _ {T C R : Type 0} where
       pub begins : HasSeen v.numbers v.seen node.history.items
       pub run : RunOf turns v.start node.history.items node.value
       pub stamped : IsStamped 0 t node.history.items
+      pub above : HasNoneAbove t node.history.items
       pub later : v.next ≤ t
       pub whole : v.parts ≡ 2 ^ 64 → calls_of v.numbers node.history.items ≡ node.history.items
 

@@ -1,7 +1,8 @@
 //! How a mailbox posts its own messages through a lock.
-ghost use Rattle.std.specs.Prelude.{◌≡◌, ◌↔◌, Option, Some, Bool, true, IsTrue, IsNone, IfOk, IfErr};
+ghost use Rattle.std.specs.Prelude.{◌≡◌, ◌↔◌, Option, Some, true, IsNone, IfOk, IfErr};
 ghost use Rattle.dkg_turn.specs.Passes.{IsPassOf, Posted};
 ghost use Rattle.dkg_turn.specs.Refusals.{CallRefused};
+ghost use Rattle.dkg_turn.specs.Stops.{HasStopped};
 
 use crate::lock::TurnLock;
 use crate::pass::{Pass, TurnError};
@@ -11,7 +12,7 @@ use std::sync::Wait;
 
 /// A core to which a mailbox posts messages of the type `M`, and which answers by values of the type `A`.
 ///
-/// An answer is none exactly where the turn ended by a stop.
+/// An answer is none exactly where the turn ended by a stop. From then on each turn ends by a stop and leaves the core as it is.
 pub trait Carries<M, A>: Turn {
     // The call that a message is posted as.
     ghost posted: { M → Self.Call };
@@ -19,8 +20,8 @@ pub trait Carries<M, A>: Turn {
     // The answer in a reply.
     ghost answered: { Self.Reply → Option A };
 
-    // The turn that gave the reply ended by a stop.
-    ghost stopped: { Self.Reply → Bool };
+    // The turn that led from the first value, by this call and with this reply, to the second one ended by a stop.
+    ghost stopped: { Self → Self.Call → Self.Reply → Self → Type 0 };
 
     // What an answer to a message says of the core after its turn.
     ghost meets: { Self → M → A → Type 0 };
@@ -31,11 +32,16 @@ pub trait Carries<M, A>: Turn {
 
     /// The answer in a reply, unless the turn ended by a stop.
     fn answer_of(reply: Self::Reply) -> Option<A>
-        ensures answer { result ≡ answered reply }
-        ensures stop { IsNone result ↔ IsTrue (stopped reply) };
+        ensures { result ≡ answered reply };
 
     // Each answer meets the relation after its turn.
     ghost carried: { (before : Self) (message : M) (reply : Self.Reply) (after : Self) (answer : A) → Self.turns before (posted message) reply after → answered reply ≡ Some answer → meets after message answer };
+
+    // A reply to a message has no answer exactly where its turn ended by a stop.
+    ghost answerless: { (before : Self) (message : M) (reply : Self.Reply) (after : Self) → Self.turns before (posted message) reply after → IsNone (answered reply) ↔ stopped before (posted message) reply after };
+
+    // A stop is for good.
+    ghost ends: { (before : Self) (call : Self.Call) (reply : Self.Reply) (after : Self) → Self.turns before call reply after → stopped before call reply after → HasStopped Self.turns stopped Self.told answered after };
 }
 
 impl<T: Turn> Pass<T> {
@@ -51,7 +57,8 @@ impl<T: Turn> Pass<T> {
         T: Carries<M, A>,
         requires own { IsPassOf lock.now self.old }
         ensures own { IsPassOf lock.now self.new }
-        ensures posted { IfOk result (λ answer. Posted T.Turn.turns lock.now.start T.Turn.same (T.posted message) T.answered T.stopped T.meets message answer self.old self.new) }
+        ensures posted { IfOk result (λ answer. Posted T.Turn.turns lock.now.start T.Turn.same T.Turn.told (T.posted message) T.answered T.stopped T.meets
+            message answer self.old self.new) }
         ensures refused { IfErr result (λ e. CallRefused T.Turn.turns lock.now.start e self.old self.new) }
         ensures stays { self.old.exhausted ≡ true → result ≡ Err TurnError.Exhausted }
     {

@@ -5,6 +5,7 @@
 //! The mailboxes of the actors post their messages through it, by `Carries`.
 #![tactic(auto)]
 
+mod bells;
 mod carries;
 mod lock;
 mod pass;

@@ -2,20 +2,21 @@
 //! its history.
 //!
 //! A pass draws a ticket by the one `compare_exchange` that succeeds, waits until the turns passed on are its ticket, takes the node
-//! out of the slot, puts it back, and passes the turn on by one `fetch_add`. Whoever waits sleeps on the serving word, and is woken
-//! by who passes the turn on.
-ghost use Rattle.std.specs.Prelude.{◌≡◌, ◌+◌, ◌^◌, ◌≤◌, ◌∷◌, ◌<◌, [], true, None, IfOk, IfSome, IfNone};
+//! out of the slot, puts it back, and passes the turn on by one `fetch_add`. Whoever waits sleeps at its ticket's bell, and is woken
+//! by who passes the turn on to it (`bells`).
+ghost use Rattle.std.specs.Prelude.{◌≡◌, ◌+◌, ◌-◌, ◌^◌, ◌≤◌, ◌∷◌, ◌<◌, [], true, None, IfOk, IfErr, IfSome, IfNone};
 ghost use Rattle.dkg_turn.specs.History.{has, HasSeen};
+ghost use Rattle.dkg_turn.specs.Known.{AreDrawn};
 ghost use Rattle.dkg_turn.specs.Passes.{first_pass};
 ghost use Rattle.dkg_turn.specs.Rules.{drawn, Took, rested, MayGive, after_naming, ticket_in, spent, IsNewlyNamed, head_of, tail_of, kept_part, given_part, both_views};
 ghost use Rattle.dkg_turn.specs.declared.view.Stage.TheVariants.{Idle, Waits};
 
+use crate::bells::Bells;
 use crate::pass::Pass;
 use crate::play::{Come, Draw, Halves, Look, Named, PassOn, Settle};
 use crate::turn::Turn;
 use crate::view::{Law, Node, View};
-use atomic_table::{Seat, Table};
-use dkg_values::{Mem, NoMemory};
+use atomic_table::{Refused, Seat, Table};
 use std::alloc::Global;
 use std::marker::Model;
 use std::snapshot::Snapshot;
@@ -33,15 +34,13 @@ const TICKETS: usize = 0;
 // The word that counts the turns passed on. It is the ticket whose turn it is.
 const SERVING: usize = 1;
 
-// A sleep looks at the low half of a word.
-const LOW_HALF: u64 = 1 << 32;
-
 /// A value that callers change in turns, with the history of their calls.
 ///
 /// Contracts see which lock it is, and the value that it began with. Threads share it by reference.
 #[derive(Drop)]
 pub struct TurnLock<T: Turn> {
     table: Table<Slot<T>, Knows<T>, Snapshot<T>, Law<T>, Global>,
+    bells: Bells,
 }
 
 impl<T: Turn> Model for TurnLock<T> {
@@ -56,23 +55,31 @@ impl<T: Turn> Model for TurnLock<T> {
 }
 
 impl<T: Turn> TurnLock<T> {
-    /// A lock round a value, with an empty history, and the first pass, whose number is 0.
-    pub fn new(alloc: Global, value: T) -> Mem<(TurnLock<T>, Pass<T>)>
+    /// A lock round a value, with an empty history, and the first pass, whose number is 0. Where memory runs out, the value comes back.
+    pub fn new(alloc: Global, value: T) -> Result<(TurnLock<T>, Pass<T>), T>
         ensures start { IfOk result (λ made. made.0.start ≡ value) }
         ensures pass { IfOk result (λ made. made.1 ≡ first_pass made.0) }
+        ensures back { IfErr result (λ refused. refused ≡ value) }
     {
+        let Ok(mut slots) = Vec::with_capacity(alloc, 1) else {
+            return Err(value);
+        };
         let about = Snapshot::of(&value);
-        let node = Node {
+        slots.push_reserved(Some(Node {
             value,
             history: Vec::new(alloc),
-        };
-        let mut slots = Vec::new(alloc);
-        if slots.push(Some(node)).is_err() {
-            return Err(NoMemory);
-        }
+        }));
         match Table::new(alloc, &[0, 0], slots, &about) {
-            Ok((table, seat)) => Ok((TurnLock { table }, Pass::first(seat, &about))),
-            Err(_) => Err(NoMemory),
+            Ok((table, seat)) => {
+                let bells = Bells::new();
+                Ok((TurnLock { table, bells }, Pass::first(seat, &about)))
+            }
+            Err(Refused { mut slots }) => {
+                let Some(Some(node)) = slots.pop() else {
+                    unreachable!()
+                };
+                Err(node.value)
+            }
         }
     }
 
@@ -83,7 +90,7 @@ impl<T: Turn> TurnLock<T> {
         ensures own { (seat.new.table_id ≡ seat.old.table_id) × (seat.new.id ≡ seat.old.id) }
         ensures drawn { IfSome result (λ t. seat.new.me ≡ (drawn t seat.old.me.0, seat.old.me.1)) }
         ensures small { IfSome result (λ t. t + 1 < 2 ^ 64) }
-        ensures none { IfNone result ((seat.new.me ≡ (spent seat.old.me.0, seat.old.me.1)) × (seat.old.me.0.parts ≡ 2 ^ 64 → seat.old.me.0.drew + 1 ≡ 2 ^ 64)) }
+        ensures none { IfNone result ((seat.new.me ≡ (spent seat.old.me.0, seat.old.me.1)) × AreDrawn (2 ^ 64 - 1) seat.old.me.0.drew seat.old.me.0.parts) }
         ensures left { IfSome result (λ t. ¬ (seat.old.me.0.exhausted ≡ true)) }
         ensures whole { IfSome result (λ t. seat.old.me.0.parts ≡ 2 ^ 64 → seat.old.me.0.drew ≡ t) }
     {
@@ -124,11 +131,19 @@ impl<T: Turn> TurnLock<T> {
                 };
                 return node;
             }
-            self.table
-                .shared
-                .park(rt, SERVING, (serving % LOW_HALF) as u32);
+            self.sleep(rt, ticket);
         }
         unreachable!()
+    }
+
+    // Sleeps at the ticket's bell, unless its turn has come. It may also return for no reason.
+    fn sleep<R: Wait>(&self, rt: &R, ticket: u64) {
+        let bell = self.bells.of(ticket);
+        let rings = bell.enter();
+        if self.table.shared.peek(SERVING) != ticket {
+            bell.sleep(rt, rings);
+        }
+        bell.leave();
     }
 
     // Puts the node back, and passes the turn on.
@@ -160,11 +175,9 @@ impl<T: Turn> TurnLock<T> {
         self.wake(served);
     }
 
-    // Wakes those who wait, where a ticket behind the one served was drawn. Who draws one later finds the serving word moved on.
+    // Wakes the caller of the ticket behind the one served, if it sleeps.
     fn wake(&self, served: u64) {
-        if self.table.shared.peek(TICKETS) > served.wrapping_add(1) {
-            self.table.shared.wake_all(SERVING);
-        }
+        self.bells.of(served.wrapping_add(1)).ring();
     }
 
     // Cuts the view of a pass that was newly named in two.
@@ -190,6 +203,7 @@ impl<T: Turn> TurnLock<T> {
         ensures both { seat.new.me ≡ (both_views seat.old.me.0 other.me.0, []) }
         ensures seen { HasSeen seat.old.me.0.numbers seat.old.me.0.seen seat.new.me.0.seen }
         ensures theirs { HasSeen other.me.0.numbers other.me.0.seen seat.new.me.0.seen }
+        ensures told { seat.new.me.0.exhausted ≡ true → AreDrawn (2 ^ 64 - 1) seat.new.me.0.drew seat.new.me.0.parts }
     {
         self.table.shared.join_seat::<Halves>(seat, other);
         self.table.shared.load::<Settle>(seat, TICKETS);

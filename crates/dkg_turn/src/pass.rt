@@ -1,6 +1,7 @@
 //! What a caller takes turns with.
-ghost use Rattle.std.specs.Prelude.{◌≡◌, ◌≤◌, [], true, IfOk, IfErr, IsErr};
-ghost use Rattle.dkg_turn.specs.History.{HasSeen};
+ghost use Rattle.std.specs.Prelude.{◌≡◌, ◌-◌, ◌^◌, ◌≤◌, [], true, IfOk, IfErr, IsErr};
+ghost use Rattle.dkg_turn.specs.History.{calls_of, HasSeen};
+ghost use Rattle.dkg_turn.specs.Known.{AreDrawn};
 ghost use Rattle.dkg_turn.specs.Passes.{IsPassOf, Called, Reads, SplitOff, Ends, IsExhausted, joined};
 ghost use Rattle.dkg_turn.specs.Refusals.{CallRefused, TakeRefused, SplitRefused};
 ghost use Rattle.dkg_turn.specs.Rules.{known_of, first_view};
@@ -131,12 +132,13 @@ impl<T: Turn> Pass<T> {
     /// Gives half of the parts, rounded down, to a new pass, for another caller.
     ///
     /// It makes one stay behind the lock, without an entry, and waits for its turn. The new pass's number is the ticket of that
-    /// stay plus one, so no two passes of a lock have one number. It takes no memory.
+    /// stay plus one, so no two passes of a lock have one number, and the history has no call of that number yet. It takes no memory.
     pub fn split<R: Wait>(&mut self, rt: &R, lock: &TurnLock<T>) -> Result<Pass<T>, TurnError>
         requires own { IsPassOf lock.now self.old }
         requires two { 2 ≤ self.old.parts }
         ensures own { IsPassOf lock.now self.new }
         ensures new { IfOk result (λ p. IsPassOf lock.now p × SplitOff T.turns lock.now.start self.old self.new p) }
+        ensures no_calls { IfOk result (λ p. calls_of p.numbers p.seen ≡ []) }
         ensures refused { IfErr result (λ e. SplitRefused e self.old self.new) }
         ensures stays { self.old.exhausted ≡ true → IsErr result }
     {
@@ -160,6 +162,7 @@ impl<T: Turn> Pass<T> {
         ensures joined { self.new ≡ joined self.old other }
         ensures seen { HasSeen self.old.numbers self.old.seen self.new.seen }
         ensures theirs { HasSeen other.numbers other.seen self.new.seen }
+        ensures told { self.new.exhausted ≡ true → AreDrawn (2 ^ 64 - 1) self.new.drew self.new.parts }
     {
         let Pass { seat, number: _ } = other;
         lock.merge(&mut self.seat, seat);

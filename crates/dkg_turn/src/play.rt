@@ -70,7 +70,8 @@ impl<T, C, R> Join<View<T, C, R>> for Halves {
     ghost spent = { nobody };
 }
 
-/// A look after a join: what both had seen begins what the pass has seen.
+/// A look after a join, at the ticket word. Joining changes views and looks at nothing, so this tells the pass what the rule knows of the
+/// joined view: what both had seen begins what it has seen, and all tickets were drawn where one of the two was told so.
 pub(crate) struct Settle;
 
 impl<T, C, R> Play<Option<Node<T, C, R>>, View<T, C, R>> for Settle {

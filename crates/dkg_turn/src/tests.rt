@@ -1,18 +1,23 @@
-ghost use Rattle.std.specs.Prelude.{◌≡◌, ◌≤◌};
+ghost use Rattle.std.specs.Prelude.{◌≡◌, ◌≤◌, false};
 ghost use Rattle.dkg_turn.specs.Passes.{IsPassOf};
 
 use super::*;
 use dkg_values::Mem;
 use std::alloc::Global;
+use std::process::Abort;
+use std::rt::Clock;
 use std::sync::Wait;
+use std::sync::atomic::{AtomicU64, Ordering};
 use std::test::Fail;
 use std::thread;
 use std::thread::Threads;
+use std::time::Duration;
 
-/// A sum to which callers add. A call without a number is a stop, which changes nothing.
-#[derive(Drop)]
+/// A sum to which callers add. A call without a number is a stop: from then on nothing changes.
+#[derive(Debug, Drop)]
 struct Till {
     sum: u64,
+    closed: bool,
 }
 
 impl Turn for Till {
@@ -20,26 +25,39 @@ impl Turn for Till {
 
     type Reply = Option<u64>;
 
-    ghost use Rattle.std.specs.Prelude.{◌≡◌, ◌+◌, ◌%◌, ◌^◌, nat_le, if◌then◌else◌, Some, None, MatchOption};
+    ghost use Rattle.std.specs.Prelude.{◌≡◌, ◌↔◌, ◌+◌, ◌%◌, ◌^◌, ℕ, nat_le, if◌then◌else◌, Some, None, IsNone, true, false};
 
-    ghost turns = { λ before call reply after. MatchOption call ((reply ≡ None) × (after.sum ≡ before.sum)) (λ more. (reply ≡ Some after.sum) × (after.sum ≡ (before.sum + more) % 2 ^ 64)) };
+    ghost turns = { λ before call reply after.
+        ((sum : ℕ) → reply ≡ Some sum → sum ≡ after.sum)
+        × (IsNone reply ↔ (after.closed ≡ true))
+        × (before.closed ≡ true → after ≡ before)
+        × (call ≡ None → after.closed ≡ true)
+        × ((more : ℕ) → before.closed ≡ false → call ≡ Some more → (after.closed ≡ false) × (after.sum ≡ (before.sum + more) % 2 ^ 64)) };
 
     ghost same = { λ one other. one ≡ other };
 
-    ghost told = { λ till number. if nat_le number till.sum then Some (Some till.sum) else None };
+    ghost told = { λ till number. if till.closed then Some None else if nat_le number till.sum then Some (Some till.sum) else None };
 
     fn turn(&mut self, _alloc: Global, call: &Option<u64>) -> (Option<u64>, Option<u64>) {
+        if self.closed {
+            return (None, None);
+        }
         match *call {
             Some(more) => {
                 self.sum = self.sum.wrapping_add(more);
                 (Some(self.sum), Some(self.sum))
             }
-            None => (None, None),
+            None => {
+                self.closed = true;
+                (None, None)
+            }
         }
     }
 
     fn reply(&self, _alloc: Global, number: u64) -> Mem<Option<Option<u64>>> {
-        if number <= self.sum {
+        if self.closed {
+            Ok(Some(None))
+        } else if number <= self.sum {
             Ok(Some(Some(self.sum)))
         } else {
             Ok(None)
@@ -48,18 +66,22 @@ impl Turn for Till {
 }
 
 impl Carries<u64, u64> for Till {
-    ghost use Rattle.std.specs.Prelude.{◌≡◌, Some, is_none};
+    ghost use Rattle.std.specs.Prelude.{◌≡◌, Some, None, true};
     ghost use Rattle.std.proofs.Common.{rules};
 
     ghost posted = { λ message. Some message };
 
     ghost answered = { λ reply. reply };
 
-    ghost stopped = { λ reply. is_none reply };
+    ghost stopped = { λ before call reply after. after.closed ≡ true };
 
     ghost meets = { λ till message answer. answer ≡ till.sum };
 
-    ghost carried = { λ before message reply after answer turned said. Prim.search rules };
+    ghost carried = { λ before message reply after answer turned said. turned.0 answer said };
+
+    ghost answerless = { λ before message reply after turned. turned.1 };
+
+    ghost ends = { λ before call reply after turned stop. Prim.search rules };
 
     fn call_of(message: u64) -> Option<u64> {
         Some(message)
@@ -67,6 +89,16 @@ impl Carries<u64, u64> for Till {
 
     fn answer_of(reply: Option<u64>) -> Option<u64> {
         reply
+    }
+}
+
+// A till with nothing in it.
+fn empty_till() -> Till
+    ensures { (result.sum ≡ 0) × (result.closed ≡ false) }
+{
+    Till {
+        sum: 0,
+        closed: false,
     }
 }
 
@@ -199,7 +231,7 @@ fn add_by_eight<T: Carries<u64, u64>, R: Threads + Wait + Sync>(
 
 // Whether each reply is what a new till gives, one call after the other.
 fn is_replayed(alloc: Global, history: &[Turned<Till>]) -> bool {
-    let mut till = Till { sum: 0 };
+    let mut till = empty_till();
     history
         .iter()
         .all(|entry| till.turn(alloc, &entry.call).1 == entry.reply)
@@ -219,7 +251,7 @@ fn has_each(alloc: Global, history: &[Turned<Till>], count: usize) -> Result<boo
 
 #[test]
 fn each_call_answers(rt: HostRuntime) -> Result<(), Fail> {
-    let (lock, mut one) = TurnLock::new(rt.alloc(), Till { sum: 0 })?;
+    let (lock, mut one) = TurnLock::new(rt.alloc(), empty_till())?;
     let alloc = rt.alloc();
     assert!(rt;
         one.call(&rt, alloc, &lock, Some(3))
@@ -238,13 +270,13 @@ fn each_call_answers(rt: HostRuntime) -> Result<(), Fail> {
             .is_ok_and(|answer| answer == Some(7))
     );
     assert!(rt;
+        one.take_reply(&rt, alloc, &lock, 7)
+            .is_ok_and(|reply| reply == Some(7))
+    );
+    assert!(rt;
         other
             .call(&rt, alloc, &lock, None)
             .is_ok_and(|reply| reply.is_none())
-    );
-    assert!(rt;
-        one.take_reply(&rt, alloc, &lock, 7)
-            .is_ok_and(|reply| reply == Some(7))
     );
     one.join(&lock, other);
     let (till, history) = one.close(&rt, lock).ok().ok_or("no ticket is left")?;
@@ -261,8 +293,67 @@ fn each_call_answers(rt: HostRuntime) -> Result<(), Fail> {
 }
 
 #[test]
+fn a_stop_is_for_good(rt: HostRuntime) -> Result<(), Fail> {
+    let alloc = rt.alloc();
+    let (lock, mut pass) = TurnLock::new(alloc, empty_till())?;
+    assert!(rt;
+        pass.post(&rt, alloc, &lock, 3)
+            .is_ok_and(|answer| answer == Some(3))
+    );
+    assert!(rt;
+        pass.call(&rt, alloc, &lock, None)
+            .is_ok_and(|reply| reply.is_none())
+    );
+    assert!(rt;
+        pass.post(&rt, alloc, &lock, 4)
+            .is_ok_and(|answer| answer.is_none())
+    );
+    assert!(rt;
+        pass.take_reply(&rt, alloc, &lock, 9)
+            .is_ok_and(|reply| reply.is_none())
+    );
+    let (till, history) = pass.close(&rt, lock).ok().ok_or("no ticket is left")?;
+    assert!(rt; till.closed);
+    assert_eq!(rt; till.sum, 3);
+    assert_eq!(rt; history.len(), 3);
+    Ok(())
+}
+
+// Ends the test where the word is still 0 after thirty seconds.
+fn watch<R: Abort + Clock>(rt: &R, done: &AtomicU64) {
+    for _ in 0..1500 {
+        if done.load(Ordering::SeqCst) > 0 {
+            return;
+        }
+        let _ = thread::sleep(rt, Duration::from_millis(20));
+    }
+    assert!(rt;
+        done.load(Ordering::SeqCst) > 0,
+        "a caller that sleeps was not woken"
+    );
+}
+
+#[test]
+fn who_sleeps_is_woken(rt: HostRuntime) -> Result<(), Fail> {
+    let alloc = rt.alloc();
+    let (lock, pass) = TurnLock::new(alloc, empty_till())?;
+    let done = AtomicU64::new(0);
+    let (pass, ()) = thread::join(
+        &rt,
+        || {
+            let pass = add_by_eight(&rt, alloc, &lock, pass, 0, 250);
+            done.store(1, Ordering::SeqCst);
+            pass
+        },
+        || watch(&rt, &done),
+    );
+    drop(pass);
+    Ok(())
+}
+
+#[test]
 fn two_threads_are_answered_as_one(rt: HostRuntime) -> Result<(), Fail> {
-    let (lock, pass) = TurnLock::new(rt.alloc(), Till { sum: 0 })?;
+    let (lock, pass) = TurnLock::new(rt.alloc(), empty_till())?;
     let pass = add_by_two(&rt, rt.alloc(), &lock, pass, 0, 500);
     let (till, history) = pass.close(&rt, lock).ok().ok_or("no ticket is left")?;
     assert!(rt; has_each(rt.alloc(), history.as_slice(), 1000)?);
@@ -273,7 +364,7 @@ fn two_threads_are_answered_as_one(rt: HostRuntime) -> Result<(), Fail> {
 
 #[test]
 fn eight_threads_end(rt: HostRuntime) -> Result<(), Fail> {
-    let (lock, pass) = TurnLock::new(rt.alloc(), Till { sum: 0 })?;
+    let (lock, pass) = TurnLock::new(rt.alloc(), empty_till())?;
     let pass = add_by_eight(&rt, rt.alloc(), &lock, pass, 0, 1250);
     let (till, history) = pass.close(&rt, lock).ok().ok_or("no ticket is left")?;
     assert!(rt; has_each(rt.alloc(), history.as_slice(), 10000)?);
