@@ -120,6 +120,7 @@ pub(crate) fn perform_own<D: Disk>(
     requires { IsTrue D.tells → Allowed (D.files disk.old) op }
     ensures done { OnOk result (IsTrue D.tells → Did op (D.files disk.old) (D.files disk.new) (D.image disk.new)) }
     ensures crash { Follows (Inside op) (D.image disk.old) (D.image disk.new) }
+    ensures memory { IsErrOf result JournalError.NoMemory → IsUnchanged D.files D.image disk.old disk.new }
     ensures later { D.faults disk.old ≤ D.faults disk.new }
     ensures later_wants { D.wants disk.old ≤ D.wants disk.new }
     ensures wanted { IsErrOf result JournalError.NoMemory → Rose (D.wants disk.old) (D.wants disk.new) }

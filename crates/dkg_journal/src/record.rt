@@ -31,6 +31,7 @@ impl Record {
         ensures tried { Lands (D.files disk.old) (D.image disk.old) → Tried (PutsPlan bytes.now) (D.files disk.old) (D.image disk.new) fuse.old fuse.new }
         ensures later { D.faults disk.old ≤ D.faults disk.new }
         ensures later_wants { D.wants disk.old ≤ D.wants disk.new }
+        ensures kept { IsErrOf result JournalError.NoMemory → IsUnchanged D.files D.image disk.old disk.new }
         ensures memory { IsErrOf result JournalError.NoMemory → ((disk.new ≡ disk.old) × (fuse.new ≡ fuse.old)) ⊎ Rose (D.wants disk.old) (D.wants disk.new) }
         ensures disk { IsErrOf result JournalError.Disk → Rose (D.faults disk.old) (D.faults disk.new) }
         ensures kinds { IfErr result IsOfDevice }

@@ -7,7 +7,7 @@ use dkg_ceremony::{DealerLog, EncodeSize, decode_cfg};
 use dkg_journal::{Disk, Fuse, MemoryDisk};
 use dkg_store::{Devices, MemorySecrets, SecretStore, Store};
 use dkg_types::Unit;
-use dkg_values::{Epoch, Key};
+use dkg_values::{Epoch, Height, Key};
 use std::alloc::Global;
 use std::num::NonZeroU32;
 use std::test::Fail;
@@ -19,6 +19,7 @@ const LOG: [u8; 26] = [
 ];
 
 /// Records key 2's log, and none of its dealings.
+#[tactic(auto, using(dkg_store::proofs::Formed::log_short))]
 fn record_log<D: Disk, X: SecretStore>(
     alloc: Global,
     disk: &mut D,
@@ -38,7 +39,7 @@ fn record_log<D: Disk, X: SecretStore>(
         fuse: Fuse::never(),
     };
     let mut store: Store<Unit> = Store::init(alloc, &mut devices, limit)?;
-    store.append_log(alloc, &mut devices, Epoch(0), Key(2), log)?;
+    store.append_log(alloc, &mut devices, Epoch(0), Key(2), Height(4), log)?;
     Ok(())
 }
 

@@ -3,7 +3,7 @@ use Rattle.std.proofs.Common.{ℕ, ◌+◌, ◌<◌, arith, length, List, [], �
 use Rattle.std.specs.Prelude.{fold, slice_get, IfSome, IsSomeAnd, ◌-◌, ◌⊎◌}
 use Rattle.std.proofs.lemmas.List.{append_cancel_left}
 use Rattle.std.specs.List.{AllByRecursion}
-use Rattle.dkg_ceremony.specs.declared.dealer_log.DealerLog.{DealerLog}
+use Rattle.dkg_store.specs.declared.recorded_log.RecordedLog.{RecordedLog}
 use Rattle.dkg_journal.specs.Names.{Files}
 use Rattle.dkg_store.specs.Noted.{Notes, logs_in}
 use Rattle.dkg_store.specs.Pairs.{Pairs, Holds, recovered}
@@ -116,7 +116,7 @@ module _ (files : Files) (image : Files → Type 0) (held : Secrets) where
   pub given_there : (m : Pairs) (s : Setting) (p : Progress) → image files → m ≡ recovered (entries files) held → Rests image held s p → AllByRecursion (Gives m) p.recorded
   given_there m s p reads is rests = rw (is ∙ rests.holds.gives files reads) rests.may.given
 
-  pub logs_there : (logs : Notes DealerLog) (s : Setting) (p : Progress) → image files → logs ≡ logs_in (entries files) → Rests image held s p → logs ≡ logs_in (entries s.files)
+  pub logs_there : (logs : Notes RecordedLog) (s : Setting) (p : Progress) → image files → logs ≡ logs_in (entries files) → Rests image held s p → logs ≡ logs_in (entries s.files)
   logs_there logs s p reads is rests = is ∙ rests.handed.logs.each files reads
 
 module _ (life : Life) (l : ℕ) (B : Setting → Type 0) (files : Files) (image now : Files → Type 0) (held held_now : Secrets) (reads : image files) (holds : (pairs : Pairs) → Holds pairs image held → Holds pairs now held_now) (stay : KeepsLogs image now) where

@@ -1,9 +1,10 @@
 -- Where no log that was handed in bears an acknowledgement that this node never gave, the node lacks no dealing that it acknowledged.
-use Rattle.std.proofs.Common.{◌≡◌, ℕ, ◌^◌, List, [], ◌∷◌, Option, Some, None, Bool, true, false, cond, refl, sym, subst, ◌∙◌, inl, inr, nat_lt, ◌&&◌, ◌==◌, filter, map, fold, IsTrue}
+use Rattle.std.proofs.Common.{◌≡◌, ℕ, ◌^◌, List, [], ◌∷◌, Option, Some, None, Bool, true, false, cond, refl, sym, ap, subst, ◌∙◌, inl, inr, nat_lt, ◌&&◌, ◌==◌, filter, map, fold, IsTrue, arith, ◌<◌}
 use Rattle.std.specs.Prelude.{IfSome, IsSomeAnd, not}
 use Rattle.std.specs.List.{AllByRecursion, list_any}
 use Rattle.std.specs.FinMap.{empty, get, get-empty, get-entries, entries as listing, entries_sorted, find}
 use Rattle.std.proofs.lemmas.Bool.{and_parts, eqb-true}
+use Rattle.std.proofs.lemmas.Bool.Decides.{nat_tests}
 use Rattle.std.proofs.lemmas.Slice.Eq.{bytes_eq-Decides}
 use Rattle.dkg_ceremony.specs.Finishes.{has_public}
 use Rattle.dkg_ceremony.specs.ValidLogs.{bears_ack_of}
@@ -15,7 +16,10 @@ use Rattle.dkg_store.specs.Keys.{key_cmp}
 use Rattle.dkg_store.specs.Noted.{Note, Notes, logs_in, noted_log, with_note}
 use Rattle.dkg_store.specs.Pairs.{Pairs}
 use Rattle.dkg_store.specs.Player.{is_orphan}
+use Rattle.dkg_store.specs.Recorded.{at_epoch, bare_logs}
+use Rattle.dkg_store.specs.declared.recorded_log.RecordedLog.{RecordedLog}
 use Rattle.dkg_store.proofs.Map.{keys_total}
+use Rattle.dkg_store.proofs.Own.{lookup_at}
 use Rattle.dkg_store.proofs.Pairs.{same_key, get_at, get_other}
 use Rattle.dkg_types.specs.declared.entry.Restored.{Restored}
 use Rattle.dkg_script.specs.Blocks.{round_at}
@@ -62,9 +66,16 @@ module _ {X Y : Type 0} (f : Y → Bool) (g : X → Y) (h : X → Bool) where
       by_test rest true is = rw (all.0 is) rest
       by_test rest false is = rest
 
+once_mapped : {X Y Z : Type 0} (g : X → Y) (h : Y → Z) (xs : List X) → map h (map g xs) ≡ map (λ x. h (g x)) xs
+once_mapped g h [] = refl
+once_mapped g h (x ∷ xs) = ap (λ (zs : _). h (g x) ∷ zs) (once_mapped g h xs)
+
 all_map : {X : Type 0} (P Q : X → Type 0) (xs : List X) → ((x : X) → P x → Q x) → AllByRecursion P xs → AllByRecursion Q xs
 all_map P Q [] leads all = tt
 all_map P Q (x ∷ xs) leads all = (leads x all.0, all_map P Q xs leads all.1)
+
+is_low : (q : ℕ) → nat_lt q (2 ^ 32) ≡ true → q < 2 ^ 32
+is_low q e = grind (arith, nat_tests)
 
 -- THE LOGS
 
@@ -92,18 +103,23 @@ module _ (s : Setting) (p : Progress) (image : Files → Type 0) (pairs : Pairs)
       by_pair None there is = absurd is
       by_pair (Some x) there is = rw (has_it dealer log x there is) refl
 
-  abbrev Logs : Notes DealerLog
+  abbrev Logs : Notes RecordedLog
   Logs = logs_in (entries s.files)
 
   -- no log of the first epoch is without its dealing
-  each_has : (x : (ℕ × ℕ) × DealerLog) → find key_cmp x.0 (listing Logs) ≡ Some x.1 → ((x.0.0 == 0) && nat_lt x.0.1 (2 ^ 32)) ≡ true
-      → is_orphan (λ dealer log. bears_ack_of round dealer log (me s)) 0 pairs (x.0.1, x.1) ≡ false
+  each_has : (x : (ℕ × ℕ) × RecordedLog) → find key_cmp x.0 (listing Logs) ≡ Some x.1 → ((x.0.0 == 0) && nat_lt x.0.1 (2 ^ 32)) ≡ true
+      → is_orphan (λ dealer log. bears_ack_of round dealer log (me s)) (at_epoch 0 pairs) (x.0.1, x.1.log) ≡ false
   each_has x found is =
       let first : x.0.0 ≡ 0 = eqb-true x.0.0 0 (and_parts (x.0.0 == 0) (nat_lt x.0.1 (2 ^ 32)) is).0 in
-      let own : IsOwnMarkKnown s handed_in x.0.0 x.0.1 x.1 =
-      all_found noted_log (λ key log. IsOwnMarkKnown s handed_in key.0 key.1 log) (entries s.files) empty known (λ key v none. absurd (none_found key v none)) x.0 x.1 (get-entries Logs x.0 ∙ found) in
-      by_mark x.0.1 x.1 (bears_ack_of round x.0.1 x.1 (me s)) refl (rw first at own)
+      let own : IsOwnMarkKnown s handed_in x.0.0 x.0.1 x.1.log =
+      all_found noted_log (λ key r. IsOwnMarkKnown s handed_in key.0 key.1 r.log) (entries s.files) empty known (λ key v none. absurd (none_found key v none)) x.0 x.1 (get-entries Logs x.0 ∙ found) in
+      let low : x.0.1 < 2 ^ 32 = is_low x.0.1 (and_parts (x.0.0 == 0) (nat_lt x.0.1 (2 ^ 32)) is).1 in
+      rw (lookup_at 0 x.0.1 pairs low) (by_mark x.0.1 x.1.log (bears_ack_of round x.0.1 x.1.log (me s)) refl (rw first at own))
 
   pub lacks_none : lacks_dealing (me s) pairs (logs_in (entries s.files)) round ≡ false
-  lacks_none = any_none (is_orphan (λ dealer log. bears_ack_of round dealer log (me s)) 0 pairs) (λ x. (x.0.1, x.1)) (λ x. (x.0.0 == 0) && nat_lt x.0.1 (2 ^ 32)) (listing Logs)
+  lacks_none =
+      let orphan : ℕ × DealerLog → Bool = is_orphan (λ dealer log. bears_ack_of round dealer log (me s)) (at_epoch 0 pairs) in
+      let here : (ℕ × ℕ) × RecordedLog → Bool = λ x. (x.0.0 == 0) && nat_lt x.0.1 (2 ^ 32) in
+      ap (list_any orphan) (once_mapped (λ (x : (ℕ × ℕ) × RecordedLog). (x.0.1, x.1)) (λ (p : ℕ × RecordedLog). (p.0, p.1.log)) (filter here (listing Logs)))
+      ∙ any_none orphan (λ x. (x.0.1, x.1.log)) here (listing Logs)
       (all_map (λ x. find key_cmp x.0 (listing Logs) ≡ Some x.1) _ (listing Logs) each_has (each_found keys_total (listing Logs) (entries_sorted Logs)))

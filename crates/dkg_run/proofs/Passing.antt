@@ -22,7 +22,7 @@ use Rattle.dkg_script.specs.declared.script.Event.{Event}
 use Rattle.dkg_script.specs.declared.script.Event.TheVariants.{Peer, Final}
 use Rattle.dkg_script.specs.Readings.{Halves}
 use Rattle.dkg_script.specs.Setting.{recovered_from}
-use Rattle.dkg_ceremony.specs.declared.dealer_log.DealerLog.{DealerLog}
+use Rattle.dkg_store.specs.declared.recorded_log.RecordedLog.{RecordedLog}
 use Rattle.dkg_store.specs.Noted.{Notes}
 use Rattle.dkg_run.specs.Carried.{OfEvent, TakesBlock}
 use Rattle.dkg_run.specs.Chain.{WhileDealing}
@@ -49,7 +49,7 @@ tried_in namespace mode (Some i) round is = by_epoch (i.epoch == 0) is
     by_epoch true is = ap (λ (r : Result Round RoundError). Some r) (made_ok (made_by namespace mode i) round is)
     by_epoch false is = absurd (not_there round is)
 
-pub sits : (reader : Reader) (namespace : List ℕ) (mode : Mode) (info : Option (EpochInfo directory.Unit)) (me : ℕ) (pairs : Pairs) (logs : Notes DealerLog) (seat : Option Seat)
+pub sits : (reader : Reader) (namespace : List ℕ) (mode : Mode) (info : Option (EpochInfo directory.Unit)) (me : ℕ) (pairs : Pairs) (logs : Notes RecordedLog) (seat : Option Seat)
     → reader.me ≡ me → reader.tried ≡ tried_by namespace mode (option_map spelled_info info) → IsSomeAnd (round_in namespace mode info) (λ round. seat ≡ seat_at me pairs logs round)
     → IfSome seat (SitsAs reader)
 sits reader namespace mode info me pairs logs seat me_is tried is = by_round (round_in namespace mode info) refl is

@@ -4,7 +4,7 @@ use Rattle.std.specs.Prelude.{IsSomeAnd, not}
 use Rattle.std.specs.List.{AllByRecursion}
 use Rattle.std.specs.Int.NonZero.{non_zero_u32_get}
 use Rattle.dkg_values.specs.Rising.{has_key}
-use Rattle.dkg_ceremony.specs.declared.dealer_log.DealerLog.{DealerLog}
+use Rattle.dkg_store.specs.declared.recorded_log.RecordedLog.{RecordedLog}
 use Rattle.dkg_ceremony.specs.declared.round.Round.{Round}
 use Rattle.dkg_journal.specs.Names.{Files}
 use Rattle.dkg_journal.specs.Records.{entries}
@@ -21,7 +21,7 @@ use Rattle.dkg_run.specs.Told.{Seat}
 use Rattle.dkg_run.specs.declared.beginning.Beginning.{Beginning}
 use Rattle.dkg_run.proofs.Marks.{lacks_none}
 
-module _ (s : Setting) (p : Progress) (image : Files → Type 0) (pairs : Pairs) (logs : Notes DealerLog) (b : Beginning) (today : IsTodays s) (begins : IsBeginningOf s.script b) (limit : ℕ)
+module _ (s : Setting) (p : Progress) (image : Files → Type 0) (pairs : Pairs) (logs : Notes RecordedLog) (b : Beginning) (today : IsTodays s) (begins : IsBeginningOf s.script b) (limit : ℕ)
     (limit_is : limit ≡ non_zero_u32_get b.limit) (handed : KeepsHandedIn s p image) (given : AllByRecursion (Gives pairs) p.recorded) (logs_are : logs ≡ logs_in (entries s.files)) where
   most_is : (limits s).most ≡ limit
   most_is = rw today.built.form.reshares (sym (limit_is ∙ begins.of_script.limit_is))

@@ -3,7 +3,7 @@ use Rattle.std.proofs.Common.{◌≡◌, ◌⊎◌, inl, inr, ℕ, ◌<◌, ◌^
 use Rattle.std.specs.Prelude.{OnOk, OnErr, IfSome, if◌then◌else◌, is_some, not}
 use Rattle.dkg_values.specs.Rising.{has_key}
 use Rattle.dkg_values.specs.RisingLaws.{has_key-from, has_key-to}
-use Rattle.dkg_ceremony.specs.declared.dealer_log.DealerLog.{DealerLog}
+use Rattle.dkg_store.specs.declared.recorded_log.RecordedLog.{RecordedLog}
 use Rattle.dkg_ceremony.specs.declared.round.Round.{Round}
 use Rattle.dkg_journal.specs.Names.{Files}
 use Rattle.dkg_store.specs.declared.player.Player.{Player}
@@ -70,7 +70,7 @@ keeps_all m = same_map keys_total exact_keys _ _ (λ q. get-retain_keys m (λ ke
 pub holds_pruned : (pairs : Pairs) (image : Files → Type 0) (held : Secrets) → HoldsEither pairs (retain_keys pairs (λ key. nat_le 0 key.0)) image held → Holds pairs image held
 holds_pruned pairs image held either = record { whole = either.whole; gives = λ c here. elim (either.gives c here) [ inl is ↦ is | inr is ↦ is ∙ keeps_all pairs ] }
 
-pub logs_pruned : (image next : Files → Type 0) → ((logs : Notes DealerLog) → Gives logs_in logs image → GivesEither logs_in logs (retain_keys logs (λ key. nat_le 0 key.0)) next)
+pub logs_pruned : (image next : Files → Type 0) → ((logs : Notes RecordedLog) → Gives logs_in logs image → GivesEither logs_in logs (retain_keys logs (λ key. nat_le 0 key.0)) next)
     → KeepsLogs image next
 logs_pruned image next stays = record {
   stay = λ logs gives. record { each = λ c here. elim ((stays logs gives).each c here) [ inl is ↦ is | inr is ↦ is ∙ keeps_all logs ] };
@@ -135,7 +135,7 @@ valid_player (Some p) me round pairs its its_round none = all_valid (record { me
 
 -- WHO PLAYS
 
-module _ (b : Bool) (me : ℕ) (pairs : Pairs) (logs : Notes DealerLog) (round : Round) (there : IsTrue b ↔ Contains round.players me) where
+module _ (b : Bool) (me : ℕ) (pairs : Pairs) (logs : Notes RecordedLog) (round : Round) (there : IsTrue b ↔ Contains round.players me) where
   abbrev At : Bool → Bool → Option Seat
   At key lacks = if key && not lacks then Some (record { me = me; round = round }) else None
 

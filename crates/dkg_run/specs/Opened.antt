@@ -6,14 +6,14 @@ use Rattle.std.specs.Result.{result_ok}
 use Rattle.dkg_values.specs.Rising.{has_key}
 use Rattle.dkg_ceremony.specs.Rounds.{round_of}
 use Rattle.dkg_ceremony.specs.ValidLogs.{bears_ack_of}
-use Rattle.dkg_ceremony.specs.declared.dealer_log.DealerLog.{DealerLog}
 use Rattle.dkg_ceremony.specs.declared.mode.Mode.{Mode}
 use Rattle.dkg_ceremony.specs.declared.mode.Reveal.TheVariants.{V1}
 use Rattle.dkg_ceremony.specs.declared.round.Round.{Round}
 use Rattle.dkg_store.specs.Noted.{Notes}
 use Rattle.dkg_store.specs.Pairs.{Pairs}
 use Rattle.dkg_store.specs.Player.{has_orphan}
-use Rattle.dkg_store.specs.Recorded.{at_epoch}
+use Rattle.dkg_store.specs.Recorded.{at_epoch, bare_logs}
+use Rattle.dkg_store.specs.declared.recorded_log.RecordedLog.{RecordedLog}
 use Rattle.dkg_types.specs.Units.{unit_spelling}
 use Rattle.dkg_types.specs.declared.directory.Unit as directory
 use Rattle.dkg_types.specs.declared.entry.Entry.{Entry}
@@ -75,11 +75,11 @@ abbrev pub round_in : List ℕ → Mode → Option (EpochInfo directory.Unit) �
 round_in namespace mode info = option_and_then (λ i. if i.epoch == 0 then round_by namespace mode i else None) info
 
 -- of a log that bears the node's acknowledgement no dealing is recorded with the log's public half
-abbrev pub lacks_dealing : (me : ℕ) → Pairs → Notes DealerLog → Round → Bool
-lacks_dealing me pairs logs round = has_orphan (λ dealer log. bears_ack_of round dealer log me) 0 pairs (at_epoch 0 logs)
+abbrev pub lacks_dealing : (me : ℕ) → Pairs → Notes RecordedLog → Round → Bool
+lacks_dealing me pairs logs round = has_orphan (λ dealer log. bears_ack_of round dealer log me) (at_epoch 0 pairs) (bare_logs (at_epoch 0 logs))
 
 -- a node plays where it is one of the players and lacks no dealing that it acknowledged
-abbrev pub seat_at : (me : ℕ) → Pairs → Notes DealerLog → Round → Option Seat
+abbrev pub seat_at : (me : ℕ) → Pairs → Notes RecordedLog → Round → Option Seat
 seat_at me pairs logs round = if has_key me round.players && not (lacks_dealing me pairs logs round) then Some (record { me = me; round = round }) else None
 
 -- THE ENTRIES

@@ -29,5 +29,6 @@ pub mod Today
 pub mod Trials
 pub mod TwoEpochs
 pub mod ValidScripts
+pub mod Views
 pub mod Worked
 pub mod WrongBodies

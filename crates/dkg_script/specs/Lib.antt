@@ -19,5 +19,6 @@ pub mod Scripts
 pub mod Setting
 pub mod Starts
 pub mod Valid
+pub mod Views
 pub mod Words
 pub use Rattle.dkg_ceremony.specs.Schedule

@@ -21,7 +21,8 @@ mod words;
 pub use error::ScriptError;
 pub use print::print_of;
 pub use promise::{
-    acknowledged_survives, acknowledges_once, own_marks_stand_before, stays_in_order, stays_kept,
+    acknowledged_survives, acknowledges_once, ends_as_scripted, own_marks_stand_before,
+    stays_in_order, stays_kept,
 };
 pub use read::read_script;
 pub use script::{

@@ -3,8 +3,8 @@ use Rattle.std.proofs.Common.{◌≡◌, Bool, true, false, Result, Ok, Err, if�
 use Rattle.dkg_ceremony.specs.declared.ceremony.AckError.{AckError}
 use Rattle.dkg_journal.specs.Names.{Files}
 use Rattle.dkg_journal.specs.Records.{Entry}
-use Rattle.dkg_store.specs.Acts.{Acts, Goes, bind, Ended, went, broken, Moment, MadeAt}
-use Rattle.dkg_store.specs.Calls.{acking, acked, noting, by_error}
+use Rattle.dkg_store.specs.Acts.{Acts, Goes, bind, by_want, Ended, went, broken, Moment, MadeAt}
+use Rattle.dkg_store.specs.Calls.{acking, acked, noting, by_error, cause_of}
 use Rattle.dkg_store.specs.Errors.{IsOfDevices}
 use Rattle.dkg_store.specs.declared.call.StoreError.{StoreError}
 use Rattle.dkg_store.specs.declared.call.StoreError.TheVariants.{NoMemory}
@@ -22,48 +22,48 @@ abbrev told : Bool → Acts StoreError (Result AckOutcome AckError)
 told new = Goes (Ok (outcome new))
 
 -- what a dealer does where the check passes and none came in: it records, and tells what came of it
-as_noting : (recorded there : Bool) (e : Entry) → bind (noting recorded there e) told ≡ acking (Ok tt) false recorded there e
-as_noting true there e = refl
-as_noting false there e = refl
+as_noting : (recorded : Bool) (e : Entry) → bind (noting recorded e) told ≡ acking (Ok tt) false recorded e
+as_noting true e = refl
+as_noting false e = refl
 
-module _ (check : Result (Unit {0}) AckError) (counted recorded there : Bool) (e : Entry) (passed : check ≡ Ok tt) (first : counted ≡ false) where
-  same : bind (noting recorded there e) told ≡ acking check counted recorded there e
+module _ (check : Result (Unit {0}) AckError) (counted recorded : Bool) (e : Entry) (passed : check ≡ Ok tt) (first : counted ≡ false) where
+  same : bind (noting recorded e) told ≡ acking check counted recorded e
   same =
-      as_noting recorded there e
-      ∙ ap (λ (c : Bool). acking (Ok tt) c recorded there e) (sym first)
-      ∙ ap (λ (r : Result (Unit {0}) AckError). acking r counted recorded there e) (sym passed)
+      as_noting recorded e
+      ∙ ap (λ (c : Bool). acking (Ok tt) c recorded e) (sym first)
+      ∙ ap (λ (r : Result (Unit {0}) AckError). acking r counted recorded e) (sym passed)
 
   -- it is recorded, or was before
-  pub acking_done : {files files_now : Files} {image next : Files → Type 0} {old new : Moment} (fresh is : Bool) → fresh ≡ is → MadeAt (noting recorded there e) (went fresh) files image files_now next old new
-      → MadeAt (acking check counted recorded there e) (went (Ok (outcome is))) files image files_now next old new
+  pub acking_done : {files files_now : Files} {image next : Files → Type 0} {old new : Moment} (fresh is : Bool) → fresh ≡ is → MadeAt (noting recorded e) (went fresh) files image files_now next old new
+      → MadeAt (acking check counted recorded e) (went (Ok (outcome is))) files image files_now next old new
   acking_done {files} {files_now} {image} {next} {old} {new} fresh is which made =
       subst (λ (acts : Acts StoreError (Result AckOutcome AckError)). MadeAt acts (went (Ok (outcome is))) files image files_now next old new) same
-      (made_next told (subst (λ (b : Bool). MadeAt (noting recorded there e) (went b) files image files_now next old new) which made) (made_nothing _ _ _ refl))
+      (made_next told (subst (λ (b : Bool). MadeAt (noting recorded e) (went b) files image files_now next old new) which made) (made_nothing _ _ _ refl))
 
   -- .. or the append was broken off
-  pub acking_broken : {files files_now : Files} {image next : Files → Type 0} {old new : Moment} {how : Ended StoreError (Result AckOutcome AckError)} (error : StoreError) → IsOfDevices error → how ≡ broken → MadeAt (noting recorded there e) (by_error error) files image files_now next old new
-      → MadeAt (acking check counted recorded there e) how files image files_now next old new
+  pub acking_broken : {files files_now : Files} {image next : Files → Type 0} {old new : Moment} {how : Ended StoreError (Result AckOutcome AckError)} (error : StoreError) → IsOfDevices error → how ≡ broken (cause_of error) → MadeAt (noting recorded e) (by_error error) files image files_now next old new
+      → MadeAt (acking check counted recorded e) how files image files_now next old new
   acking_broken {files} {files_now} {image} {next} {old} {new} {how} error of_devices is made =
       subst (λ (acts : Acts StoreError (Result AckOutcome AckError)). MadeAt acts how files image files_now next old new) same
       (then_broken told error of_devices is made)
 
 -- a refusal, and an acknowledgement of a player whose came in before
-pub acking_refused : (check : Result (Unit {0}) AckError) (counted recorded there : Bool) (e : Entry) (error : AckError) (files : Files) (image : Files → Type 0) (m : Moment) → check ≡ Err error → MadeAt (acking check counted recorded there e) (went (Err error)) files image files image m m
-acking_refused check counted recorded there e error files image m refused =
-    subst (λ (r : Result (Unit {0}) AckError). MadeAt (acking r counted recorded there e) (went (Err error)) files image files image m m) (sym refused) (made_nothing files image m refl)
+pub acking_refused : (check : Result (Unit {0}) AckError) (counted recorded : Bool) (e : Entry) (error : AckError) (files : Files) (image : Files → Type 0) (m : Moment) → check ≡ Err error → MadeAt (acking check counted recorded e) (went (Err error)) files image files image m m
+acking_refused check counted recorded e error files image m refused =
+    subst (λ (r : Result (Unit {0}) AckError). MadeAt (acking r counted recorded e) (went (Err error)) files image files image m m) (sym refused) (made_nothing files image m refl)
 
-pub acking_again : (check : Result (Unit {0}) AckError) (counted recorded there : Bool) (e : Entry) (files : Files) (image : Files → Type 0) (m : Moment) → check ≡ Ok tt → counted ≡ true → MadeAt (acking check counted recorded there e) (went (Ok Duplicate)) files image files image m m
-acking_again check counted recorded there e files image m passed before =
-    subst (λ (r : Result (Unit {0}) AckError). MadeAt (acking r counted recorded there e) (went (Ok Duplicate)) files image files image m m) (sym passed)
-    (subst (λ (b : Bool). MadeAt (acking (Ok tt) b recorded there e) (went (Ok Duplicate)) files image files image m m) (sym before) (made_nothing files image m refl))
+pub acking_again : (check : Result (Unit {0}) AckError) (counted recorded : Bool) (e : Entry) (files : Files) (image : Files → Type 0) (m : Moment) → check ≡ Ok tt → counted ≡ true → MadeAt (acking check counted recorded e) (went (Ok Duplicate)) files image files image m m
+acking_again check counted recorded e files image m passed before =
+    subst (λ (r : Result (Unit {0}) AckError). MadeAt (acking r counted recorded e) (went (Ok Duplicate)) files image files image m m) (sym passed)
+    (subst (λ (b : Bool). MadeAt (acking (Ok tt) b recorded e) (went (Ok Duplicate)) files image files image m m) (sym before) (made_nothing files image m refl))
 
 -- the check was refused, or it wanted memory
-pub acking_unchecked : (check : Result (Unit {0}) AckError) (counted recorded there : Bool) (entry : Entry) (files : Files) (image : Files → Type 0) (m : Moment) (r : Result AckOutcome AckHandleError) (e : AckHandleError) → r ≡ Err e
-    → ((a : AckError) → e ≡ Refused a → check ≡ Err a) → ((s : StoreError) → e ≡ OfStore s → s ≡ NoMemory) → MadeAt (acking check counted recorded there entry) (acked r) files image files image m m
-acking_unchecked check counted recorded there entry files image m r (Refused a) is refused wanted =
-    subst (λ (x : Result AckOutcome AckHandleError). MadeAt (acking check counted recorded there entry) (acked x) files image files image m m) (sym is) (acking_refused check counted recorded there entry a files image m (refused a refl))
-acking_unchecked check counted recorded there entry files image m r (OfStore s) is refused wanted =
-    made_none files image (acking check counted recorded there entry) m (ap acked is ∙ ap by_error (wanted s refl))
+pub acking_unchecked : (check : Result (Unit {0}) AckError) (counted recorded : Bool) (entry : Entry) (files : Files) (image : Files → Type 0) (m : Moment) (r : Result AckOutcome AckHandleError) (e : AckHandleError) → r ≡ Err e
+    → ((a : AckError) → e ≡ Refused a → check ≡ Err a) → ((s : StoreError) → e ≡ OfStore s → s ≡ NoMemory) → MadeAt (acking check counted recorded entry) (acked r) files image files image m m
+acking_unchecked check counted recorded entry files image m r (Refused a) is refused wanted =
+    subst (λ (x : Result AckOutcome AckHandleError). MadeAt (acking check counted recorded entry) (acked x) files image files image m m) (sym is) (acking_refused check counted recorded entry a files image m (refused a refl))
+acking_unchecked check counted recorded entry files image m r (OfStore s) is refused wanted =
+    made_none files image (acking check counted recorded entry) m by_want tt (ap acked is ∙ ap by_error (wanted s refl))
 
 pub same_store : (e f : StoreError) → ◌≡◌ {A = Result AckOutcome AckHandleError} (Err (OfStore e)) (Err (OfStore f)) → e ≡ f
 same_store e f is = cc

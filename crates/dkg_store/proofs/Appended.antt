@@ -4,7 +4,7 @@ use Rattle.std.specs.Option.{option_copied}
 use Rattle.std.specs.FinMap.{get, contains_key}
 use Rattle.dkg_journal.specs.Names.{Files}
 use Rattle.dkg_store.specs.Acts.{MadeAt, Goes, went, Ended, broken, Moment}
-use Rattle.dkg_store.specs.Calls.{appended, noting, by_error}
+use Rattle.dkg_store.specs.Calls.{appended, noting, by_error, cause_of}
 use Rattle.dkg_store.specs.Errors.{IsOfDevices}
 use Rattle.dkg_store.specs.Noted.{Notes}
 use Rattle.dkg_store.specs.declared.call.StoreError.{StoreError}
@@ -26,15 +26,15 @@ unknown notes key found some is tests fresh = ap is_some (sym is) ∙ not_copied
 pub none_there : {V : Type 0} (notes : Notes V) (key : ℕ × ℕ) → contains_key notes key ≡ false → get notes key ≡ None
 none_there notes key fresh = is_none (get notes key) fresh
 
-module _ {known there : Bool} {section : ℕ} {body body_too : List ℕ} {files files_now : Files} {image next : Files → Type 0} {old new : Moment} (fresh : known ≡ false) (same : body ≡ body_too) where
+module _ {known : Bool} {section : ℕ} {body body_too : List ℕ} {files files_now : Files} {image next : Files → Type 0} {old new : Moment} (fresh : known ≡ false) (same : body ≡ body_too) where
   -- the append was broken off
-  pub noting_broken : {how : Ended StoreError Bool} (e : StoreError) → IsOfDevices e → how ≡ broken → MadeAt (appended {S = Unit {0}} there (section, body) tt) (by_error e) files image files_now next old new → MadeAt (noting known there (section, body_too)) how files image files_now next old new
+  pub noting_broken : {how : Ended StoreError Bool} (e : StoreError) → IsOfDevices e → how ≡ broken (cause_of e) → MadeAt (appended {S = Unit {0}} (section, body) tt) (by_error e) files image files_now next old new → MadeAt (noting known (section, body_too)) how files image files_now next old new
   noting_broken {how} e of_devices is made =
-      subst (λ (k : Bool). MadeAt (noting k there (section, body_too)) how files image files_now next old new) (sym fresh)
+      subst (λ (k : Bool). MadeAt (noting k (section, body_too)) how files image files_now next old new) (sym fresh)
       (then_broken (λ u. Goes true) e of_devices is (alone_alike refl same made))
 
   -- .. or it is done
-  pub noting_done : MadeAt (appended {S = Unit {0}} there (section, body) tt) (went tt) files image files_now next old new → MadeAt (noting known there (section, body_too)) (went true) files image files_now next old new
+  pub noting_done : MadeAt (appended {S = Unit {0}} (section, body) tt) (went tt) files image files_now next old new → MadeAt (noting known (section, body_too)) (went true) files image files_now next old new
   noting_done made =
-      subst (λ (k : Bool). MadeAt (noting k there (section, body_too)) (went true) files image files_now next old new) (sym fresh)
+      subst (λ (k : Bool). MadeAt (noting k (section, body_too)) (went true) files image files_now next old new) (sym fresh)
       (made_next (λ u. Goes true) (alone_alike refl same made) (made_nothing _ _ _ refl))

@@ -8,14 +8,24 @@ use Rattle.dkg_journal.specs.Gated.{OpensAlike, gated, gated_entries}
 use Rattle.dkg_journal.specs.Opening.{broken}
 use Rattle.dkg_journal.specs.Records.{Entry}
 use Rattle.dkg_journal.specs.declared.opening.JournalEntry.{JournalEntry}
-use Rattle.dkg_store.specs.Corrupt.{IsCorruptAt}
+use Rattle.dkg_journal.specs.Burn.{Burn}
+use Rattle.dkg_journal.specs.Records.{entries}
+use Rattle.dkg_types.specs.declared.entry.Entry.{Entry as Line}
+use Rattle.dkg_store.specs.Acts.{Cause, by_secrets, by_want, Ended, broken as broken_by, went, moment, held_in, MadeAt}
+use Rattle.dkg_store.specs.Calls.{by_error, given_back, reading}
+use Rattle.dkg_store.specs.Corrupt.{AreEvents, IsAlien, IsCorruptAt}
+use Rattle.dkg_store.specs.Noted.{Notes}
+use Rattle.dkg_store.specs.Pairs.{Pairs}
+use Rattle.dkg_store.specs.Secrets.{Secrets}
+use Rattle.dkg_store.specs.declared.recorded_log.RecordedLog.{RecordedLog}
 use Rattle.dkg_journal.specs.declared.call.JournalError.{JournalError}
 use Rattle.dkg_journal.specs.declared.call.JournalError.TheVariants as of_journal
-use Rattle.dkg_store.specs.Errors.{IsOfDevices, IsOfOpening, store_error_of}
+use Rattle.dkg_store.specs.Errors.{IsOfDevices, IsOfOpening, IsOfRestoring, store_error_of}
 use Rattle.dkg_store.specs.Events.{no_event_at}
 use Rattle.dkg_store.specs.declared.call.StoreError.{StoreError}
-use Rattle.dkg_store.specs.declared.call.StoreError.TheVariants.{Disk, Secrets, Corrupt, LocalState, StateSyncEpochs, StateSyncMaterial, Cut, NoMemory}
-use Rattle.dkg_store.proofs.OpeningActs.{no_place}
+use Rattle.dkg_store.specs.declared.call.StoreError.TheVariants.{Disk, Secrets as OfSecrets, Corrupt, LocalState, StateSyncEpochs, StateSyncMaterial, Cut, NoMemory}
+use Rattle.dkg_store.proofs.Acts.{made_none_held, made_read}
+use Rattle.dkg_store.proofs.OpeningActs.{alien_stops, no_place}
 
 -- the entry again, from what is seen of it with its place
 abbrev ungated : Entry → JournalEntry
@@ -59,7 +69,7 @@ module _ (limit : ℕ) (files : Files) where
   -- an error of opening is Corrupt there, or of a device
   answer : (e : StoreError) → IsOfOpening e → ((name : Name) (place : ℕ) → e ≡ Corrupt name place → (name ≡ Flat) × IsCorruptAt limit files place) → (place : ℕ) → IsCorruptAt limit files place → (e ≡ Corrupt Flat place) ⊎ IsOfDevices e
   answer Disk kinds told place at = inr tt
-  answer Secrets kinds told place at = inr tt
+  answer OfSecrets kinds told place at = inr tt
   answer Cut kinds told place at = inr tt
   answer NoMemory kinds told place at = inr tt
   answer (Corrupt name q) kinds told place at = let is = told name q refl in inl (λ i. Corrupt (is.0 i) (one_place q place is.1 at i))
@@ -88,3 +98,33 @@ corrupt_alike limit place old new alike at = elim at.so [
   | inl torn ↦ record { so = inl (alike.same_broken ∙ torn) }
   | inr whole ↦ record { so = inr (alike.same_broken ∙ whole.0, record { read = whole.1.read; are = whole.1.are ∙ sym alike.same_entries; first = whole.1.first }) }
 ]
+
+-- HOW READING AN OPEN JOURNAL ENDS
+
+abbrev Given : Type 0
+Given = Pairs × Notes (List ℕ) × Notes RecordedLog
+
+-- An error: at the first body that is no event, or before it.
+pub read_ends : (limit : ℕ) (files : Files) (alien : Option (Name × ℕ)) (e : StoreError) → IsOfRestoring e → ((name : Name) (place : ℕ) → e ≡ Corrupt name place → (name ≡ Flat) × IsCorruptAt limit files place)
+    → (AreEvents limit (entries files) → (name : Name) (place : ℕ) → e ≡ Corrupt name place → ⊥) → IsAlien limit files alien
+    → {fs : Files} {image : Files → Type 0} {how : Ended StoreError Given} {out : List Line} {s now : Secrets} {f : Burn} → how ≡ by_error e → now ≡ s → MadeAt (reading alien) how fs image fs image (moment out s f) (moment out now f)
+read_ends limit files alien OfSecrets kinds told none is ends same = made_none_held _ _ (reading alien) by_secrets tt same ends
+read_ends limit files alien NoMemory kinds told none is ends same = made_none_held _ _ (reading alien) by_want tt same ends
+read_ends limit files None (Corrupt name place) kinds told none is ends same = absurd (none is name place refl)
+read_ends limit files (Some at) (Corrupt name place) kinds told none is ends same =
+    let here = told name place refl in
+    alien_stops (Some at) name place _ _ (λ i. Some ((is.0 ∙ sym here.0) i, one_place limit files at.1 place is.1 here.1 i)) ends same
+read_ends limit files alien Disk kinds told none is ends same = absurd kinds
+read_ends limit files alien Cut kinds told none is ends same = absurd kinds
+read_ends limit files alien (LocalState cause) kinds told none is ends same = absurd kinds
+read_ends limit files alien (StateSyncEpochs info floor) kinds told none is ends same = absurd kinds
+read_ends limit files alien StateSyncMaterial kinds told none is ends same = absurd kinds
+
+-- .. or all of it
+pub read_all : {alien : Option (Name × ℕ)} → alien ≡ None → {fs : Files} {image : Files → Type 0} {end : Given} {out : List Line} {s now : Secrets} {f : Burn} → now ≡ s → end ≡ given_back (held_in fs s)
+    → MadeAt (reading alien) (went end) fs image fs image (moment out s f) (moment out now f)
+read_all is {fs} {image} {end} {out} {s} {now} {f} same given =
+    subst (λ (a : Option (Name × ℕ)). MadeAt (reading a) (went end) fs image fs image (moment out s f) (moment out now f)) (sym is) (made_read fs image given_back same given)
+
+abbrev pub ended_by : Cause → Ended StoreError Given
+ended_by cause = broken_by cause

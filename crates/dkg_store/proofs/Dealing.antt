@@ -5,13 +5,14 @@ use Rattle.std.specs.Ordering.{nat_cmp}
 use Rattle.std.specs.Cmp.{nat_cmp_total}
 use Rattle.std.specs.FinMap.{get, insert, empty, get-empty, nat_cmp-IsAntisymmetric}
 use Rattle.std.specs.List.Sorted.{IsStrictlyIncreasing}
+use Rattle.std.proofs.lemmas.List.{length-map}
 use Rattle.std.proofs.lemmas.List.Kept.{IsStrictlyIncreasing-filter}
 use Rattle.dkg_values.specs.Rising.{IsSet, keys_of, lookup}
 use Rattle.dkg_ceremony.specs.ValidLogs.{has_entry}
 use Rattle.dkg_ceremony.specs.declared.ceremony.AckError.{AckError}
 use Rattle.dkg_ceremony.specs.declared.deal.DealError.{DealError}
 use Rattle.dkg_ceremony.specs.declared.round.Round.{Round}
-use Rattle.dkg_store.specs.Dealer.{AckMap, held_acks, with_held, passing, with_passed, unsent, with_unsent, IsDealerOf}
+use Rattle.dkg_store.specs.Dealer.{AckMap, held_acks, with_held, passing, with_passed, unsent, with_unsent, to_send, IsDealerOf}
 use Rattle.dkg_store.specs.declared.dealer.Dealer.{Dealer}
 use Rattle.dkg_store.proofs.Map as map
 
@@ -100,3 +101,6 @@ one_unsent player None (Some private) later n le = omega arith
 pub unsent_few : (acks : AckMap) (privates : List (ℕ × ℕ)) (players : List ℕ) → length (unsent acks privates players) ≤ length players
 unsent_few acks privates [] = omega arith
 unsent_few acks privates (player ∷ players) = one_unsent player (get acks player) (lookup player privates) (unsent acks privates players) (length players) (unsent_few acks privates players)
+
+pub sent_few : (public : List ℕ) (players : List (ℕ × ℕ)) → length (to_send public players) ≡ length players
+sent_few public players = length-map players (λ (p : ℕ × ℕ). (p.0, (public, p.1)))

@@ -14,7 +14,7 @@ use Rattle.dkg_values.specs.declared.codec.CodecError.TheVariants.{InvalidLength
 use Rattle.dkg_ceremony.specs.LogEntries.{entry_at, entries_at}
 use Rattle.dkg_ceremony.specs.Logs.{log_at, log_from}
 use Rattle.dkg_store.specs.declared.event.Event.{Event}
-use Rattle.dkg_store.specs.Events.{event_after, event_at, event_spelling, EventFits, event_grammar, dealing_event, ack_event, log_event}
+use Rattle.dkg_store.specs.Events.{event_after, event_at, event_spelling, EventFits, event_grammar, dealing_event, ack_event, log_event, log_at_event, placed_log_at}
 
 pub read_again : (most : ℕ) (e : Event) → EventFits most e → event_at most (event_spelling e) ≡ Ok (e, [])
 read_again most e fits = ap (event_at most) (sym (append-nil (event_spelling e))) ∙ (event_grammar most).again e [] fits
@@ -75,7 +75,11 @@ after_within m n (suc zero) le = itself (seen_at ack_event (beside_at (number_at
 after_within m n (suc (suc zero)) le =
     seen_within log_event (beside_at (number_at w32) (log_at m)) (beside_at (number_at w32) (log_at n))
     (beside_within (number_at w32) (number_at w32) (log_at m) (log_at n) (itself (number_at w32)) (log_within m n le))
-after_within m n (suc (suc (suc kind))) le = λ bytes v e. absurd cc
+after_within m n (suc (suc (suc zero))) le =
+    seen_within log_at_event (beside_at (number_at w32) (placed_log_at m)) (beside_at (number_at w32) (placed_log_at n))
+    (beside_within (number_at w32) (number_at w32) (placed_log_at m) (placed_log_at n) (itself (number_at w32))
+    (beside_within (uint_at (2 ^ 64 - 1)) (uint_at (2 ^ 64 - 1)) (log_at m) (log_at n) (itself (uint_at (2 ^ 64 - 1))) (log_within m n le)))
+after_within m n (suc (suc (suc (suc kind)))) le = λ bytes v e. absurd cc
 
 event_within : (m n : ℕ) → m ≤ n → Within (event_at m) (event_at n)
 event_within m n le bytes v e =

@@ -1,5 +1,5 @@
 -- What leaves every file but the journal's alone keeps the form of today.
-use Rattle.std.proofs.Common.{◌≡◌, ◌≤◌, ◌<◌, ◌+◌, ◌^◌, ℕ, List, [], length, Option, Some, None, refl, sym, subst, ◌∙◌, arith, length-append}
+use Rattle.std.proofs.Common.{◌≡◌, ◌≤◌, ◌<◌, ◌+◌, ◌^◌, ℕ, List, [], ◌++◌, length, Option, Some, None, refl, sym, subst, ◌∙◌, arith, length-append}
 use Rattle.std.specs.FinMap.{get}
 use Rattle.std.specs.Int.{w32, to_be_bytes}
 use Rattle.dkg_values.specs.Uint.{uint}
@@ -8,7 +8,8 @@ use Rattle.dkg_values.specs.Lists.{public_spelling}
 use Rattle.dkg_values.specs.ListGrammar.{public_size}
 use Rattle.dkg_values.specs.declared.name.Name.TheVariants.{Flat, Segment}
 use Rattle.dkg_journal.specs.Names.{Files}
-use Rattle.dkg_journal.specs.Disk.{Follows, SameElse}
+use Rattle.dkg_journal.specs.Disk.{Follows, Inside, SameElse}
+use Rattle.dkg_journal.specs.declared.disk.Op.TheVariants.{Install}
 use Rattle.dkg_journal.specs.Opening.{IsFormOfToday}
 use Rattle.dkg_journal.specs.Steps.{Keeps}
 use Rattle.dkg_journal.specs.Table.{Rows, RowsImage, MatchFile}
@@ -27,6 +28,10 @@ keeps_formed old new follows is = record { each = λ c here. let from = follows.
 pub others_formed : (old new : Files → Type 0) → Follows (SameElse Flat) old new → IsFormed old → IsFormed new
 others_formed old new follows is = record { each = λ c here. let from = follows.each c here in form_kept from.0 c from.2 (is.each from.0 from.1) }
 
+-- .. so does a new journal's file
+pub installed_formed : (bytes : List ℕ) (old new : Files → Type 0) → Follows (Inside (Install Flat bytes)) old new → IsFormed old → IsFormed new
+installed_formed bytes old new follows is = record { each = λ c here. let from = follows.each c here in form_kept from.0 c from.2.0 (is.each from.0 from.1) }
+
 none_there : (file : Option (List ℕ)) → MatchFile None file → file ≡ None
 none_there None here = refl
 none_there (Some bytes) here = absurd here
@@ -42,5 +47,5 @@ pub event_short : (dealer : ℕ) (public : List ℕ) → length public ≡ 3 →
 event_short dealer public few = omega (arith, uint_short (length public), public_size public (length (uint (length public))) (length public) refl refl, length-append (to_be_bytes w32 dealer) (public_spelling public))
 
 -- .. and a log of at most 1,000 bytes
-pub log_short : (dealer : ℕ) (log : DealerLog) → length (log_spelling log) ≤ 1000 → 8 + length (event_spelling (events.Log dealer log)) < 2 ^ 32
-log_short dealer log few = omega (arith, length-append (to_be_bytes w32 dealer) (log_spelling log))
+pub log_short : (dealer height : ℕ) (log : DealerLog) → length (log_spelling log) ≤ 1000 → 8 + length (event_spelling (events.LogAt dealer height log)) < 2 ^ 32
+log_short dealer height log few = omega (arith, uint_short height, length-append (to_be_bytes w32 dealer) (uint height ++ log_spelling log), length-append (uint height) (log_spelling log))

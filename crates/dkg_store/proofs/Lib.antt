@@ -5,7 +5,6 @@ pub mod Acts
 pub mod Answering
 pub mod Appended
 pub mod Both
-pub mod Changing
 pub mod Corrupt
 pub mod Cuts
 pub mod Dealing
@@ -14,6 +13,9 @@ pub mod Events
 pub mod Fit
 pub mod Formed
 pub mod Halves
+pub mod Listed
+pub mod Logs
+pub mod Making
 pub mod Map
 pub mod Named
 pub mod Noted

@@ -1,18 +1,22 @@
 -- Opening a store, as acts.
 use Rattle.std.proofs.Common.{◌≡◌, ◌≤◌, inl, inr, ℕ, List, [], ◌∷◌, length, Option, Some, None, cond, refl, sym, ◌∙◌, ap, subst, arith}
 use Rattle.dkg_journal.specs.Burn.{Burn}
-use Rattle.dkg_journal.specs.Fuse.{spent_once, burnt}
+use Rattle.dkg_journal.specs.Fuse.{spent_once}
 use Rattle.dkg_journal.specs.Names.{Files}
-use Rattle.dkg_journal.specs.Disk.{Follows, Inside}
+use Rattle.dkg_journal.specs.Disk.{Did, Follows, Inside}
 use Rattle.dkg_journal.specs.Views.{views}
 use Rattle.dkg_journal.specs.Opening.{open_calls}
-use Rattle.dkg_journal.specs.Operations.{journaled, Tries, Tried, Finished, Opens as OpensJournal}
+use Rattle.dkg_journal.specs.Operations as today
 use Rattle.dkg_journal.specs.declared.disk.Op.TheVariants.{Barrier}
 use Rattle.dkg_journal.specs.declared.opening.JournalEntry.{JournalEntry}
 use Rattle.dkg_types.specs.declared.entry.Entry.{Entry as Line}
 use Rattle.dkg_values.specs.declared.name.Name.{Name}
-use Rattle.dkg_store.specs.Acts.{Ended, broken, went, moment, MadeAt, held_in}
-use Rattle.dkg_store.specs.Calls.{opens}
+use Rattle.dkg_store.specs.DiskOps.{Bars, Opens}
+use Rattle.dkg_store.specs.Acts.{Acts, Stops, Cause, EndsBy, Ended, broken, went, stopped, moment, at, MadeAt}
+use Rattle.dkg_store.specs.Calls.{opens, opens_then, reading}
+use Rattle.dkg_store.specs.Noted.{Notes}
+use Rattle.dkg_store.specs.Pairs.{Pairs}
+use Rattle.dkg_store.specs.declared.recorded_log.RecordedLog.{RecordedLog}
 use Rattle.dkg_store.specs.Secrets.{Secrets}
 use Rattle.dkg_store.specs.Corrupt.{AreEvents}
 use Rattle.dkg_journal.specs.declared.call.JournalError.{JournalError}
@@ -21,7 +25,9 @@ use Rattle.dkg_store.specs.Errors.{IsOfDevices, IsOfOpening, IsOfRestoring, stor
 use Rattle.dkg_store.specs.Events.{no_event_at}
 use Rattle.dkg_store.specs.declared.call.StoreError.{StoreError}
 use Rattle.dkg_store.specs.declared.call.StoreError.TheVariants.{Disk, Secrets as OfSecrets, Corrupt, LocalState, StateSyncEpochs, StateSyncMaterial, Cut, NoMemory}
-use Rattle.dkg_store.proofs.Acting.{world_is}
+use Rattle.dkg_store.proofs.Acts.{made_next}
+use Rattle.dkg_store.proofs.Acting.{first_broken}
+use Rattle.dkg_store.proofs.Making.{disk_done, disk_torn, bar_tried, bar_finished, open_tried, open_finished}
 
 -- WHICH ERRORS BREAK AN OPENING OFF
 
@@ -62,53 +68,41 @@ no_other limit (e ∷ es) all = ap (λ b. cond b (no_event_at limit es) (Some e.
 
 -- WHAT IS LEFT
 
-kept_held : (c files : Files) (s : Secrets) → journaled c ≡ journaled files → held_in c s ≡ held_in files s
-kept_held c files s same = λ i. record { notes = (same i).entries; secrets = s; plan = (same i).plan }
+abbrev openings : Option (Name × ℕ) → ℕ → Unit {0} → Acts StoreError (Unit {0})
+openings torn calls u = opens_then torn calls
 
-kept : (old c : Files) → Tries OpensJournal old c → journaled c ≡ journaled old
-kept old c tries = elim tries [
-  | inl same ↦ same
-  | inr others ↦ elim others [ inl same ↦ same | inr part ↦ absurd part ]
-]
-
-module _ (files : Files) (image : Files → Type 0) (out : List Line) (s : Secrets) (f : Burn) where
+module _ (torn : Option (Name × ℕ)) (calls : ℕ) {files files_now : Files} {image next : Files → Type 0} {out : List Line} {s : Secrets} {f g : Burn} where
   -- the barrier was ended within
-  pub bar_torn : {how : Ended StoreError (Unit {0})} (files_now : Files) (next : Files → Type 0) (g : Burn) → how ≡ broken → Follows (Inside Barrier) image next → g ≡ spent_once f
-      → MadeAt (opens (length (open_calls files))) how files image files_now next (moment out s f) (moment out s g)
-  bar_torn files_now next g is follows once = subst (λ (x : Ended StoreError (Unit {0})). MadeAt (opens (length (open_calls files))) x files image files_now next (moment out s f) (moment out s g)) (sym is) (record {
-    made = λ stands c here. let from = follows.each c here in inl (record {
-      same = refl;
-      torn = ap (λ (x : Files). held_in x s) (from.2 ∙ stands.lands.only from.0 from.1);
-      calls = 1;
-      most = omega arith;
-      fuse = once;
-    });
-    stands = tt;
-  })
+  pub bar_torn : {how : Ended StoreError (Unit {0})} (cause : Cause) → how ≡ broken cause → Follows (Inside Barrier) image next → g ≡ spent_once f → EndsBy cause f g
+      → MadeAt (opens torn calls) how files image files_now next (moment out s f) (moment out s g)
+  bar_torn cause is follows once ends = first_broken (openings torn calls) is (disk_torn Bars tt cause refl (bar_tried once follows) ends)
 
-  -- the journal's opening was
-  pub open_torn : {how : Ended StoreError (Unit {0})} (mid files_now : Files) (next : Files → Type 0) (g h : Burn) → how ≡ broken → mid ≡ files → g ≡ spent_once f → Tried OpensJournal mid next g h
-      → MadeAt (opens (length (open_calls files))) how files image files_now next (moment out s f) (moment out s h)
-  open_torn mid files_now next g h is same once tried = subst (λ (x : Ended StoreError (Unit {0})). MadeAt (opens (length (open_calls files))) x files image files_now next (moment out s f) (moment out s h)) (sym is) (record {
-    made = λ stands c here. inr (inl (record {
-      same = refl;
-      torn = kept_held c files s (kept mid c (tried.each c here) ∙ ap journaled same);
-      calls = tried.spent.calls;
-      most = subst (λ (x : Files). tried.spent.calls ≤ length (open_calls x)) same tried.spent.few;
-      fuse = tried.spent.is ∙ ap (burnt tried.spent.calls) once;
-    }));
-    stands = tt;
-  })
+  -- it is done, and what follows was made
+  pub bar_done : {mid : Files} {between : Files → Type 0} {h : Burn} {how : Ended StoreError (Unit {0})} → Did Barrier files mid between → g ≡ spent_once f → between mid → MadeAt (opens_then torn calls) how mid between files_now next (moment out s g) (moment out s h)
+      → MadeAt (opens torn calls) how files image files_now next (moment out s f) (moment out s h)
+  bar_done did once itself then = made_next (openings torn calls) (disk_done Bars tt refl (λ stands. bar_finished once did) itself) then
 
-  -- both are done
-  pub open_done : {how : Ended StoreError (Unit {0})} (mid files_now : Files) (next : Files → Type 0) (g h : Burn) → how ≡ went tt → mid ≡ files → g ≡ spent_once f → Finished OpensJournal mid files_now next g h → next files_now
-      → MadeAt (opens (length (open_calls files))) how files image files_now next (moment out s f) (moment out s h)
-  open_done mid files_now next g h is same once finished itself = subst (λ (x : Ended StoreError (Unit {0})). MadeAt (opens (length (open_calls files))) x files image files_now next (moment out s f) (moment out s h)) (sym is) (record {
-    made = λ stands c here. (
-      world_is out
-          (kept_held c files s (ap journaled (finished.settled.only c here) ∙ finished.after ∙ ap journaled same))
-          (finished.spent ∙ ap (λ (x : Files). burnt (length (open_calls x)) g) same ∙ ap (burnt (length (open_calls files))) once),
-      refl,
-    );
-    stands = λ stands. record { lands = finished.settled; itself = itself };
-  })
+-- the journal's opening was ended within, or is done
+module _ {files mid files_now : Files} {between next : Files → Type 0} {out : List Line} {s : Secrets} {g h : Burn} (same : mid ≡ files) where
+  pub open_torn : {how : Ended StoreError (Unit {0})} (cause : Cause) → how ≡ broken cause → today.Tried today.Opens mid next g h → EndsBy cause g h
+      → MadeAt (opens_then None (length (open_calls files))) how mid between files_now next (moment out s g) (moment out s h)
+  open_torn {how} cause is tried ends =
+      subst (λ (x : Files). MadeAt (opens_then None (length (open_calls x))) how mid between files_now next (moment out s g) (moment out s h)) same
+      (disk_torn (Opens (length (open_calls mid))) tt cause is (λ stands. open_tried tried) ends)
+
+  pub open_done : {how : Ended StoreError (Unit {0})} → how ≡ went tt → today.Finished today.Opens mid files_now next g h → next files_now
+      → MadeAt (opens_then None (length (open_calls files))) how mid between files_now next (moment out s g) (moment out s h)
+  open_done {how} is finished itself =
+      subst (λ (x : Files). MadeAt (opens_then None (length (open_calls x))) how mid between files_now next (moment out s g) (moment out s h)) same
+      (disk_done (Opens (length (open_calls mid))) tt is (λ stands. open_finished finished) itself)
+
+-- a body that is no event, of an open journal
+pub alien_stops : (alien : Option (Name × ℕ)) (name : Name) (place : ℕ) (files : Files) (image : Files → Type 0) {how : Ended StoreError (Pairs × Notes (List ℕ) × Notes RecordedLog)} {out : List Line} {s now : Secrets} {f : Burn}
+    → alien ≡ Some (name, place) → how ≡ stopped (Corrupt name place) → now ≡ s → MadeAt (reading alien) how files image files image (moment out s f) (moment out now f)
+alien_stops alien name place files image {how} {out} {s} {now} {f} is ends same =
+    subst (λ (a : Option (Name × ℕ)). MadeAt (reading a) how files image files image (moment out s f) (moment out now f)) (sym is)
+    (subst (λ (x : Ended StoreError (Pairs × Notes (List ℕ) × Notes RecordedLog)). MadeAt (Stops (Corrupt name place)) x files image files image (moment out s f) (moment out now f)) (sym ends)
+    (subst (λ (t : Secrets). MadeAt {S = Pairs × Notes (List ℕ) × Notes RecordedLog} (Stops (Corrupt name place)) (stopped (Corrupt name place)) files image files image (moment out s f) (moment out t f)) (sym same) (record {
+      made = λ stands c here. (ap (λ (x : Files). at (moment out s f) x) (stands.lands.only c here), refl);
+      stands = tt;
+    })))

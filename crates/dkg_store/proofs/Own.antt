@@ -60,14 +60,14 @@ module _ {V : Type 0} where
   last_is_above j k v (x ∷ es) rest e = last_is_above j k v es rest (both_true (is_lt (nat_cmp j x.0)) (below_all nat_cmp j (es ++ (k, v) ∷ rest)) e).1
 
   -- a key above all goes to the end
-  put_last : (k : ℕ) (v : V) (es rest : List (ℕ × V)) → is_sorted nat_cmp (es ++ (k, v) ∷ rest) ≡ true → put nat_cmp k v es ≡ es ++ (k, v) ∷ []
+  pub put_last : (k : ℕ) (v : V) (es rest : List (ℕ × V)) → is_sorted nat_cmp (es ++ (k, v) ∷ rest) ≡ true → put nat_cmp k v es ≡ es ++ (k, v) ∷ []
   put_last k v [] rest e = refl
   put_last k v (x ∷ es) rest e =
       let parts = both_true (below_all nat_cmp x.0 (es ++ (k, v) ∷ rest)) (is_sorted nat_cmp (es ++ (k, v) ∷ rest)) e in
       ap (λ (o : Ordering). by_order o ((k, v) ∷ x ∷ es) ((x.0, v) ∷ es) (x ∷ put nat_cmp k v es)) (greater x.0 k (last_is_above x.0 k v es rest parts.0))
       ∙ ap (λ (l : List (ℕ × V)). x ∷ l) (put_last k v es rest parts.1)
 
-  one_by_one : (es rest : List (ℕ × V)) (x : ℕ × V) → (es ++ x ∷ []) ++ rest ≡ es ++ x ∷ rest
+  pub one_by_one : (es rest : List (ℕ × V)) (x : ℕ × V) → (es ++ x ∷ []) ++ rest ≡ es ++ x ∷ rest
   one_by_one [] rest x = refl
   one_by_one (e ∷ es) rest x = ap (λ (l : List (ℕ × V)). e ∷ l) (one_by_one es rest x)
 
@@ -109,6 +109,16 @@ module _ {V : Type 0} where
         | false ↦ λ is. find_none epoch q (entries pairs) is
       ] refl
 
+  -- a dealer's dealing is looked up among those of its epoch
+  find_is_lookup : (q : ℕ) (es : List (ℕ × V)) → find nat_cmp q es ≡ lookup q es
+  find_is_lookup q [] = refl
+  find_is_lookup q (e ∷ es) =
+      ap (λ (b : Bool). cond b (Some e.1) (find nat_cmp q es)) (equal_alike q e.0)
+      ∙ ap (λ (o : Option V). cond (e.0 == q) (Some e.1) o) (find_is_lookup q es)
+
+  pub lookup_at : (epoch q : ℕ) (m : Notes V) → q < 2 ^ 32 → lookup q (at_epoch epoch m) ≡ get m (epoch, q)
+  lookup_at epoch q m below = sym (find_is_lookup q (at_epoch epoch m)) ∙ find_at epoch q (entries m) below ∙ sym (get-entries m (epoch, q))
+
   -- One more is recorded, and kept beside.
   pub one_more_kept : (epoch : ℕ) (pairs : Notes V) (m : FinMap nat_cmp V) (k : ℕ) (v : V) → k < 2 ^ 32 → entries m ≡ at_epoch epoch pairs → entries (insert m k v) ≡ at_epoch epoch (insert pairs (epoch, k) v)
   one_more_kept epoch pairs m k v below e =
@@ -142,12 +152,6 @@ module _ {V : Type 0} where
   took_back m mid last k v new is_new was is =
       is ∙ ap (λ (n : FinMap nat_cmp V). if new then remove n k else n) was
       ∙ ap (λ (b : Bool). if b then remove (with_first m k v) k else with_first m k v) is_new ∙ taken_back m k v
-
-  find_is_lookup : (q : ℕ) (es : List (ℕ × V)) → find nat_cmp q es ≡ lookup q es
-  find_is_lookup q [] = refl
-  find_is_lookup q (e ∷ es) =
-      ap (λ (b : Bool). cond b (Some e.1) (find nat_cmp q es)) (equal_alike q e.0)
-      ∙ ap (λ (o : Option V). cond (e.0 == q) (Some e.1) o) (find_is_lookup q es)
 
   get_is_lookup : (m : FinMap nat_cmp V) (q : ℕ) → get m q ≡ lookup q (entries m)
   get_is_lookup m q = get-entries m q ∙ find_is_lookup q (entries m)

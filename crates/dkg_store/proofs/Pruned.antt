@@ -7,12 +7,13 @@ use Rattle.dkg_journal.specs.Burn.{Burn}
 use Rattle.dkg_journal.specs.Fuse.{spent_once}
 use Rattle.dkg_journal.specs.Names.{Files}
 use Rattle.dkg_journal.specs.Disk.{Follows, SameElse}
-use Rattle.dkg_journal.specs.Operations.{journaled, Tries as JournalTries, Tried, Finished, Prunes as PrunesJournal, after_operation, calls_of}
+use Rattle.dkg_journal.specs.Operations.{Tried, Finished, Prunes as PrunesJournal}
 use Rattle.dkg_journal.specs.Pruning.{Leaves, MayLeave}
 use Rattle.dkg_journal.specs.Records.{Entry, entries, from_section}
 use Rattle.dkg_types.specs.declared.entry.Entry.{Entry as Line}
 use Rattle.dkg_values.specs.declared.name.Name.TheVariants.{Flat}
-use Rattle.dkg_store.specs.Acts.{Ended, broken, went, moment, MadeAt, held_in, Stands}
+use Rattle.dkg_store.specs.DiskOps.{Prunes}
+use Rattle.dkg_store.specs.Acts.{Acts, Changes, Cause, EndsBy, Ended, broken, went, moment, MadeAt, Stands}
 use Rattle.dkg_store.specs.Calls.{pruning}
 use Rattle.dkg_store.specs.Events.{event_at, no_limit}
 use Rattle.dkg_store.specs.declared.event.Event.{Event}
@@ -27,7 +28,9 @@ use Rattle.dkg_store.specs.Errors.{IsOfPruning, IsOfSecrets, store_error_of}
 use Rattle.dkg_store.specs.declared.call.StoreError.{StoreError}
 use Rattle.dkg_store.specs.declared.call.StoreError.TheVariants.{Disk, Secrets as OfSecrets, Corrupt, LocalState, StateSyncEpochs, StateSyncMaterial, Cut, NoMemory}
 use Rattle.dkg_store.specs.declared.secrets.SecretOp.TheVariants.{Prune}
-use Rattle.dkg_store.proofs.Acting.{world_is}
+use Rattle.dkg_store.proofs.Acting.{first_broken}
+use Rattle.dkg_store.proofs.Acts.{made_next}
+use Rattle.dkg_store.proofs.Making.{one, disk_done, disk_torn, secret_done, secret_torn, prune_tried, prune_finished}
 use Rattle.dkg_store.proofs.Map.{below_or}
 use Rattle.dkg_store.proofs.Noted.{IsUnder, noted_from}
 
@@ -37,12 +40,14 @@ ack_under : (epoch : ℕ) (r : Result Event CodecError) → IsUnder noted_ack ep
 ack_under epoch (Ok (events.Dealing dealer public)) = tt
 ack_under epoch (Ok (events.Ack player ack)) = refl
 ack_under epoch (Ok (events.Log dealer log)) = tt
+ack_under epoch (Ok (events.LogAt dealer height log)) = tt
 ack_under epoch (Err e) = tt
 
 log_under : (epoch : ℕ) (r : Result Event CodecError) → IsUnder noted_log epoch (log_in epoch r)
 log_under epoch (Ok (events.Dealing dealer public)) = tt
 log_under epoch (Ok (events.Ack player ack)) = tt
 log_under epoch (Ok (events.Log dealer log)) = refl
+log_under epoch (Ok (events.LogAt dealer height log)) = refl
 log_under epoch (Err e) = tt
 
 abbrev IsOf : ℕ → Option Dealing → Type 0
@@ -53,6 +58,7 @@ dealing_under : (epoch : ℕ) (r : Result Event CodecError) → IsOf epoch (deal
 dealing_under epoch (Ok (events.Dealing dealer public)) = refl
 dealing_under epoch (Ok (events.Ack player ack)) = tt
 dealing_under epoch (Ok (events.Log dealer log)) = tt
+dealing_under epoch (Ok (events.LogAt dealer height log)) = tt
 dealing_under epoch (Err e) = tt
 
 pub acks_from : (min : ℕ) (es : List Entry) → noted noted_ack (from_section min es) ≡ retain_keys (noted noted_ack es) (λ k. nat_le min k.0)
@@ -184,61 +190,24 @@ one_of_either pairs more image held holds = record { whole = holds.whole; gives 
 
 -- AS ACTS
 
-kept_or_left : (min : ℕ) (files c : Files) (s : Secrets) → JournalTries (PrunesJournal min) files c → (held_in c s ≡ held_in files s) ⊎ (held_in c s ≡ record { notes = from_section min (entries files); secrets = s; plan = (held_in files s).plan })
-kept_or_left min files c s tries = elim tries [
-  | inl same ↦ inl (λ i. record { notes = (same i).entries; secrets = s; plan = (same i).plan })
-  | inr others ↦ elim others [
-    | inl after ↦ inr (λ i. record { notes = (after i).entries; secrets = s; plan = (after i).plan })
-    | inr part ↦ absurd part
-  ]
-]
+abbrev secrets_then : ℕ → Unit {0} → Acts StoreError (Unit {0})
+secrets_then min u = one (Changes (Prune min)) tt
 
-module _ (min : ℕ) (files : Files) (image : Files → Type 0) (out : List Line) (s : Secrets) (f : Burn) where
+module _ (min : ℕ) {files files_now : Files} {image next : Files → Type 0} {out : List Line} {s : Secrets} {f g : Burn} where
   -- the journal's prune was ended within
-  pub journal_torn : {how : Ended StoreError (Unit {0})} (files_now : Files) (next : Files → Type 0) (g : Burn) → how ≡ broken → (Stands files image → Tried (PrunesJournal min) files next f g)
-      → MadeAt (pruning (calls_of (PrunesJournal min) files) min) how files image files_now next (moment out s f) (moment out s g)
-  journal_torn files_now next g is tried = subst (λ (x : Ended StoreError (Unit {0})). MadeAt (pruning (calls_of (PrunesJournal min) files) min) x files image files_now next (moment out s f) (moment out s g)) (sym is) (record {
-    made = λ stands c here. let t = tried stands in inl (record {
-      same = refl;
-      torn = kept_or_left min files c s (t.each c here);
-      calls = t.spent.calls;
-      most = t.spent.few;
-      fuse = t.spent.is;
-    });
-    stands = tt;
-  })
-
-  left_held : (files_now : Files) (next : Files → Type 0) (g : Burn) (t : Secrets) (c : Files) → Finished (PrunesJournal min) files files_now next f g → next c → held_in c t ≡ record { notes = from_section min (entries files); secrets = t; plan = (held_in files t).plan }
-  left_held files_now next g t c done here =
-      let same : journaled c ≡ after_operation (PrunesJournal min) (journaled files) = ap journaled (done.settled.only c here) ∙ done.after in
-      λ i. record { notes = (same i).entries; secrets = t; plan = (same i).plan }
+  pub journal_torn : {how : Ended StoreError (Unit {0})} (cause : Cause) → how ≡ broken cause → (Stands files image → Tried (PrunesJournal min) files next f g) → EndsBy cause f g
+      → MadeAt (pruning min) how files image files_now next (moment out s f) (moment out s g)
+  journal_torn cause is tried ends = first_broken (secrets_then min) is (disk_torn (Prunes min) tt cause refl (λ stands. prune_tried min (tried stands)) ends)
 
   -- the journal is pruned, and the secrets' prune was ended within
-  pub secrets_torn : {how : Ended StoreError (Unit {0})} (files_now : Files) (next : Files → Type 0) (t : Secrets) (g h : Burn) → how ≡ broken → (Stands files image → Finished (PrunesJournal min) files files_now next f g) → Tries (Prune min) s t → h ≡ spent_once g
-      → MadeAt (pruning (calls_of (PrunesJournal min) files) min) how files image files_now next (moment out s f) (moment out t h)
-  secrets_torn files_now next t g h is finished tries once = subst (λ (x : Ended StoreError (Unit {0})). MadeAt (pruning (calls_of (PrunesJournal min) files) min) x files image files_now next (moment out s f) (moment out t h)) (sym is) (record {
-    made = λ stands c here. let done = finished stands in inr (inl (record {
-      same = refl;
-      torn = (left_held files_now next g t c done here, tries);
-      calls = 1;
-      most = omega arith;
-      fuse = once ∙ ap spent_once done.spent;
-    }));
-    stands = tt;
-  })
+  pub secrets_torn : {now : Secrets} {h : Burn} {how : Ended StoreError (Unit {0})} (cause : Cause) → how ≡ broken cause → (Stands files image → Finished (PrunesJournal min) files files_now next f g) → next files_now → Tries (Prune min) s now → h ≡ spent_once g → EndsBy cause g h
+      → MadeAt (pruning min) how files image files_now next (moment out s f) (moment out now h)
+  secrets_torn cause is finished itself tries once ends = made_next (secrets_then min) (disk_done (Prunes min) tt refl (λ stands. prune_finished min (finished stands)) itself) (secret_torn (Prune min) tt cause is tries once ends)
 
   -- both are pruned
-  pub both_pruned : {how : Ended StoreError (Unit {0})} (files_now : Files) (next : Files → Type 0) (t : Secrets) (g h : Burn) → how ≡ went tt → (Stands files image → Finished (PrunesJournal min) files files_now next f g) → t ≡ of_secrets.after (Prune min) s → h ≡ spent_once g → next files_now
-      → MadeAt (pruning (calls_of (PrunesJournal min) files) min) how files image files_now next (moment out s f) (moment out t h)
-  both_pruned files_now next t g h is finished done once itself = subst (λ (x : Ended StoreError (Unit {0})). MadeAt (pruning (calls_of (PrunesJournal min) files) min) x files image files_now next (moment out s f) (moment out t h)) (sym is) (record {
-    made = λ stands c here. let left = finished stands in (
-      world_is out
-          (left_held files_now next g t c left here ∙ ap (λ (x : Secrets). record { notes = from_section min (entries files); secrets = x; plan = (held_in files s).plan }) done)
-          (once ∙ ap spent_once left.spent),
-      refl,
-    );
-    stands = λ stands. record { lands = (finished stands).settled; itself = itself };
-  })
+  pub both_pruned : {now : Secrets} {h : Burn} {how : Ended StoreError (Unit {0})} → how ≡ went tt → (Stands files image → Finished (PrunesJournal min) files files_now next f g) → next files_now → now ≡ of_secrets.after (Prune min) s → h ≡ spent_once g
+      → MadeAt (pruning min) how files image files_now next (moment out s f) (moment out now h)
+  both_pruned is finished itself done once = made_next (secrets_then min) (disk_done (Prunes min) tt refl (λ stands. prune_finished min (finished stands)) itself) (secret_done (Prune min) tt is done once)
 
 -- THE SAME MINIMUM
 

@@ -1,58 +1,57 @@
 -- What a call does, as acts in their order: lines that it says, operations that it does on the devices, reads that it asks for, and how it ends.
-use Rattle.std.specs.Prelude.{◌≡◌, ◌⊎◌, ◌≤◌, ℕ, ◌∷◌, [], ◌++◌, List, Bool, Option, if◌then◌else◌}
-use Rattle.std.specs.FinMap.{get}
+use Rattle.std.specs.Prelude.{◌≡◌, ◌⊎◌, ◌≤◌, ℕ, ◌∷◌, [], ◌++◌, List, Option}
 use Rattle.dkg_journal.specs.Burn.{Burn}
-use Rattle.dkg_journal.specs.Fuse.{burnt}
+use Rattle.dkg_journal.specs.Fuse.{burnt, Reached}
 use Rattle.dkg_journal.specs.Names.{Files}
 use Rattle.dkg_journal.specs.Disk.{Lands}
-use Rattle.dkg_journal.specs.Records.{Entry, entries, placed, from_section}
+use Rattle.dkg_journal.specs.Records.{Entry}
+use Rattle.dkg_store.specs.DiskOps as of_journal
+use Rattle.dkg_store.specs.DiskOps.{InPart}
+use Rattle.dkg_journal.specs.Operations.{Journaled, journaled}
 use Rattle.dkg_types.specs.declared.entry.Entry.{Entry as Line}
-use Rattle.dkg_values.specs.declared.name.Name.TheVariants.{Plan}
 use Rattle.dkg_store.specs.Secrets.{Secrets, Tries}
 use Rattle.dkg_store.specs.Secrets as of_secrets
 use Rattle.dkg_store.specs.declared.secrets.SecretOp.{SecretOp}
+use Rattle.dkg_store.specs.declared.devices.Devices.{Devices}
 
--- What both devices hold: the entries of the journal, the secrets, and the bytes of the plan.
+-- What both devices hold: what the disk's files stand for (the journal's entries, the plan's bytes, the names), and the secrets.
 pub record Held : Type 0 where
-  pub notes : List Entry
+  pub journaled : Journaled
   pub secrets : Secrets
-  pub plan : Option (List ℕ)
 
 abbrev pub held_in : Files → Secrets → Held
-held_in files s = record { notes = entries files; secrets = s; plan = get files Plan }
+held_in files s = record { journaled = journaled files; secrets = s }
 
--- An opening of the journal and a prune of it have the number of their calls with them, and an append whether the journal's file is
--- there already.
+-- the entries of the journal
+abbrev pub notes : Held → List Entry
+notes h = h.journaled.entries
+
+abbrev pub plan : Held → Option (List ℕ)
+plan h = h.journaled.plan
+
+-- An operation is one of the disk, or a changing call of the secret store.
 pub data Operation : Type 0 where
-  Bars : Operation
-  Opens : (calls : ℕ) → Operation
-  Appends : (there : Bool) → Entry → Operation
-  Prunes : (calls min : ℕ) → Operation
+  OnDisk : of_journal.Operation → Operation
   Changes : SecretOp → Operation
 
--- the changing calls of an operation
-abbrev pub device_calls : Operation → ℕ
-device_calls Bars = 1
-device_calls (Opens calls) = calls
-device_calls (Appends there e) = if there then 4 else 5
-device_calls (Prunes calls min) = calls
-device_calls (Changes op) = 1
+-- its changing calls, which follow from what is held (an opening of the journal has their number with it)
+abbrev pub device_calls : Operation → Held → ℕ
+device_calls (OnDisk op) h = of_journal.calls_of op h.journaled
+device_calls (Changes op) h = 1
 
 -- what an operation leaves that is done
 abbrev pub after : Operation → Held → Held
-after Bars h = h
-after (Opens calls) h = h
-after (Appends there e) h = record h { notes = placed h.notes e }
-after (Prunes calls min) h = record h { notes = from_section min h.notes }
-after (Changes op) h = record h { secrets = of_secrets.after op h.secrets }
+after (OnDisk op) h = record { journaled = of_journal.after_operation op h.journaled; secrets = h.secrets }
+after (Changes op) h = record { journaled = h.journaled; secrets = of_secrets.after op h.secrets }
 
--- .. and one that a device, a cut or want of memory ended
+-- .. and one of the disk that was ended within: what was before it, or behind it; a prune up to a lower minimum; an append or an
+-- opening with names alone changed
+abbrev pub IsLeft : of_journal.Operation → Journaled → Journaled → Type 0
+IsLeft op j new = (new ≡ j) ⊎ ((new ≡ of_journal.after_operation op j) ⊎ InPart op j new)
+
 abbrev pub IsTorn : Operation → Held → Held → Type 0
-IsTorn Bars h new = new ≡ h
-IsTorn (Opens calls) h new = new ≡ h
-IsTorn (Appends there e) h new = (new ≡ h) ⊎ (new ≡ record h { notes = placed h.notes e })
-IsTorn (Prunes calls min) h new = (new ≡ h) ⊎ (new ≡ record h { notes = from_section min h.notes })
-IsTorn (Changes op) h new = (new ≡ record h { secrets = new.secrets }) × Tries op h.secrets new.secrets
+IsTorn (OnDisk op) h new = (new.secrets ≡ h.secrets) × IsLeft op h.journaled new.journaled
+IsTorn (Changes op) h new = (new.journaled ≡ h.journaled) × Tries op h.secrets new.secrets
 
 pub data Acts (F S : Type 0) : Type 0 where
   Say : Line → Acts F S → Acts F S
@@ -89,18 +88,41 @@ abbrev pub says : World → Line → World
 says w line = record w { out = w.out ++ line ∷ [] }
 
 abbrev pub does : World → Operation → World
-does w op = record w { held = after op w.held; fuse = burnt (device_calls op) w.fuse }
+does w op = record w { held = after op w.held; fuse = burnt (device_calls op w.held) w.fuse }
 
-abbrev pub world : List Line → List Entry → Option (List ℕ) → Secrets → Burn → World
-world out notes plan s fuse = record { out = out; held = record { notes = notes; secrets = s; plan = plan }; fuse = fuse }
+abbrev pub world : List Line → Journaled → Secrets → Burn → World
+world out j s fuse = record { out = out; held = record { journaled = j; secrets = s }; fuse = fuse }
+
+-- What ends acts from outside: the cut of a call, the failure of a device, or want of memory.
+pub data Cause : Type 0 where
+  by_cut : Cause
+  by_disk : Cause
+  by_secrets : Cause
+  by_want : Cause
+
+-- What the fuse says then. A cut is where its call lies within the operation in hand, and where a device failed that call was not
+-- reached; nor was it where memory was wanting, but where the cut itself found none.
+abbrev pub EndsBy : Cause → Burn → Burn → Type 0
+EndsBy by_cut before now = Reached before now
+EndsBy by_disk before now = Reached before now → ⊥
+EndsBy by_secrets before now = Reached before now → ⊥
+EndsBy by_want before now = Unit {0}
+
+-- between two operations nothing is cut
+abbrev pub IsBetween : Cause → Type 0
+IsBetween by_cut = ⊥
+IsBetween by_disk = Unit {0}
+IsBetween by_secrets = Unit {0}
+IsBetween by_want = Unit {0}
 
 -- within an operation
-pub record Tears (op : Operation) (w new : World) : Type 0 where
+pub record Tears (cause : Cause) (op : Operation) (w new : World) : Type 0 where
   pub same : new.out ≡ w.out
   pub torn : IsTorn op w.held new.held
   pub calls : ℕ
-  pub most : calls ≤ device_calls op
+  pub most : calls ≤ device_calls op w.held
   pub fuse : new.fuse ≡ burnt calls w.fuse
+  pub ends : EndsBy cause w.fuse new.fuse
 
 -- All were run.
 abbrev pub Completes : {F S : Type 0} → Acts F S → S → World → World → Type 0
@@ -119,28 +141,28 @@ Faults (Goes end) fault w new = ⊥
 Faults (Stops its) fault w new = (new ≡ w) × (fault ≡ its)
 
 -- The first of them were run, and perhaps a part of the operation after these.
-abbrev pub Breaks : {F S : Type 0} → Acts F S → World → World → Type 0
-Breaks (Say line acts) w new = (new ≡ w) ⊎ Breaks acts (says w line) new
-Breaks (Do op acts) w new = Tears op w new ⊎ Breaks acts (does w op) new
-Breaks (Ask f) w new = Breaks (f w.held) w new
-Breaks (Goes end) w new = new ≡ w
-Breaks (Stops fault) w new = new ≡ w
+abbrev pub Breaks : {F S : Type 0} → Cause → Acts F S → World → World → Type 0
+Breaks cause (Say line acts) w new = (IsBetween cause × (new ≡ w)) ⊎ Breaks cause acts (says w line) new
+Breaks cause (Do op acts) w new = Tears cause op w new ⊎ Breaks cause acts (does w op) new
+Breaks cause (Ask f) w new = Breaks cause (f w.held) w new
+Breaks cause (Goes end) w new = IsBetween cause × (new ≡ w)
+Breaks cause (Stops fault) w new = IsBetween cause × (new ≡ w)
 
--- How acts ended: in this, by a fault of their own, or anywhere, by a device, a cut or want of memory.
+-- How acts ended: in this, by a fault of their own, or anywhere, from outside.
 pub data Ended (F S : Type 0) : Type 0 where
   went : S → Ended F S
   stopped : F → Ended F S
-  broken : Ended F S
+  broken : Cause → Ended F S
 
 abbrev pub Runs : {F S : Type 0} → Acts F S → Ended F S → World → World → Type 0
 Runs acts (went end) w new = Completes acts end w new
 Runs acts (stopped fault) w new = Faults acts fault w new
-Runs acts broken w new = Breaks acts w new
+Runs acts (broken cause) w new = Breaks cause acts w new
 
 abbrev pub IfWent : {F S : Type 0} → Ended F S → Type 0 → Type 0
 IfWent (went end) P = P
 IfWent (stopped fault) P = Unit {0}
-IfWent broken P = Unit {0}
+IfWent (broken cause) P = Unit {0}
 
 -- nothing is loose: a crash leaves what a read gives
 pub record Stands (files : Files) (image : Files → Type 0) : Type 0 where
@@ -172,7 +194,12 @@ pub record GoesOn {F S : Type 0} (whole rest : Acts F S) (files : Files) (image 
 -- P before and after each act, and of whatever an operation leaves that is ended within it
 abbrev pub Along : {F S : Type 0} → (World → Type 0) → Acts F S → World → Type 0
 Along P (Say line acts) w = P w × Along P acts (says w line)
-Along P (Do op acts) w = ((new : World) → Tears op w new → P new) × Along P acts (does w op)
+Along P (Do op acts) w = ((cause : Cause) (new : World) → Tears cause op w new → P new) × Along P acts (does w op)
 Along P (Ask f) w = Along P (f w.held) w
 Along P (Goes end) w = P w
 Along P (Stops fault) w = P w
+
+-- The same of devices: the transcript was `out`, and is `now`.
+abbrev pub MadeOn : {D X F S : Type 0} → (D → Files) → (D → Files → Type 0) → (X → Secrets) → Acts F S → Ended F S → Devices D X → Devices D X → (out now : List Line) → Type 0
+MadeOn files image held acts ended old new out now =
+    MadeAt acts ended (files old.disk.now) (image old.disk.now) (files new.disk.now) (image new.disk.now) (moment out (held old.secrets.now) old.fuse) (moment now (held new.secrets.now) new.fuse)

@@ -1,5 +1,5 @@
 -- What a dealer keeps of its dealing, whom it still waits for, and what it answers.
-use Rattle.std.specs.Prelude.{◌≡◌, ◌||◌, ℕ, Bool, List, [], ◌∷◌, fold, Option, Some, None, Result, Ok, Err, Contains, if◌then◌else◌}
+use Rattle.std.specs.Prelude.{◌≡◌, ◌||◌, ℕ, Bool, List, [], ◌∷◌, map, filter, fold, Option, Some, None, Result, Ok, Err, is_ok, Contains, if◌then◌else◌}
 use Rattle.std.specs.Ordering.{nat_cmp}
 use Rattle.std.specs.FinMap.{FinMap, get, insert, empty}
 use Rattle.dkg_values.specs.Rising.{lookup}
@@ -22,6 +22,10 @@ with_passed m a (Err error) = m
 abbrev pub passing : (check : ℕ → List ℕ → Result (Unit {0}) AckError) → List (ℕ × List ℕ) → AckMap
 passing check acks = fold (λ m a. with_passed m a (check a.0 a.1)) empty acks
 
+-- .. as a list, in the order of these
+abbrev pub passing_acks : (check : ℕ → List ℕ → Result (Unit {0}) AckError) → List (ℕ × List ℕ) → List (ℕ × List ℕ)
+passing_acks check acks = filter (λ a. is_ok (check a.0 a.1)) acks
+
 abbrev pub with_held : ℕ → Option (List ℕ) → List (ℕ × List ℕ) → List (ℕ × List ℕ)
 with_held player None later = later
 with_held player (Some ack) later = (player, ack) ∷ later
@@ -40,6 +44,10 @@ with_unsent player None (Some private) later = (player, private) ∷ later
 abbrev pub unsent : AckMap → List (ℕ × ℕ) → List ℕ → List (ℕ × ℕ)
 unsent acks privates [] = []
 unsent acks privates (player ∷ players) = with_unsent player (get acks player) (lookup player privates) (unsent acks privates players)
+
+-- .. and with the public half
+abbrev pub to_send : List ℕ → List (ℕ × ℕ) → List (ℕ × (List ℕ × ℕ))
+to_send public players = map (λ p. (p.0, (public, p.1))) players
 
 -- The dealing is what the ceremony deals from some share and seed, and each acknowledgement that came in passes the check.
 pub record IsDealerOf (deal_of : Round → ℕ → Option ℕ → List ℕ → Result (List ℕ × List (ℕ × ℕ)) DealError) (check_of : Round → ℕ → List ℕ → ℕ → List ℕ → Result (Unit {0}) AckError) (dealer : Dealer) : Type 0 where

@@ -5,6 +5,7 @@ pub mod Commits
 pub mod Corrupt
 pub mod Cuts
 pub mod Dealer
+pub mod DiskOps
 pub mod Errors
 pub mod Events
 pub mod Formed

@@ -3,13 +3,13 @@ use Rattle.std.specs.Prelude.{◌≡◌, ◌⊎◌, ℕ, List, fold, Option, Som
 use Rattle.std.specs.FinMap.{FinMap, insert, empty}
 use Rattle.dkg_values.specs.Codec.{whole}
 use Rattle.dkg_values.specs.declared.codec.CodecError.{CodecError}
-use Rattle.dkg_ceremony.specs.declared.dealer_log.DealerLog.{DealerLog}
 use Rattle.dkg_journal.specs.Names.{Files}
 use Rattle.dkg_journal.specs.Records.{Entry, entries}
 use Rattle.dkg_store.specs.Keys.{key_cmp}
 use Rattle.dkg_store.specs.Events.{event_at, no_limit}
 use Rattle.dkg_store.specs.declared.event.Event.{Event}
-use Rattle.dkg_store.specs.declared.event.Event.TheVariants.{Dealing, Ack, Log}
+use Rattle.dkg_store.specs.declared.event.Event.TheVariants.{Dealing, Ack, Log, LogAt}
+use Rattle.dkg_store.specs.declared.recorded_log.RecordedLog.{RecordedLog}
 
 -- what one record says, under its epoch and a key
 abbrev pub Note : Type 0 → Type 0
@@ -31,19 +31,22 @@ abbrev pub ack_in : ℕ → Result Event CodecError → Option (Note (List ℕ))
 ack_in epoch (Ok (Dealing dealer public)) = None
 ack_in epoch (Ok (Ack player ack)) = Some ((epoch, player), ack)
 ack_in epoch (Ok (Log dealer log)) = None
+ack_in epoch (Ok (LogAt dealer height log)) = None
 ack_in epoch (Err e) = None
 
-abbrev pub log_in : ℕ → Result Event CodecError → Option (Note DealerLog)
+-- a log is noted with the height of its block, where it was recorded with one
+abbrev pub log_in : ℕ → Result Event CodecError → Option (Note RecordedLog)
 log_in epoch (Ok (Dealing dealer public)) = None
 log_in epoch (Ok (Ack player ack)) = None
-log_in epoch (Ok (Log dealer log)) = Some ((epoch, dealer), log)
+log_in epoch (Ok (Log dealer log)) = Some ((epoch, dealer), record { height = None; log = log })
+log_in epoch (Ok (LogAt dealer height log)) = Some ((epoch, dealer), record { height = Some height; log = log })
 log_in epoch (Err e) = None
 
 -- the acknowledgement, or the log, of which an entry is the record
 abbrev pub noted_ack : Entry → Option (Note (List ℕ))
 noted_ack e = ack_in e.0 (whole (event_at no_limit e.1))
 
-abbrev pub noted_log : Entry → Option (Note DealerLog)
+abbrev pub noted_log : Entry → Option (Note RecordedLog)
 noted_log e = log_in e.0 (whole (event_at no_limit e.1))
 
 -- acknowledgements by epoch and player
@@ -51,7 +54,7 @@ abbrev pub acks_in : List Entry → Notes (List ℕ)
 acks_in es = noted noted_ack es
 
 -- logs by epoch and dealer
-abbrev pub logs_in : List Entry → Notes DealerLog
+abbrev pub logs_in : List Entry → Notes RecordedLog
 logs_in es = noted noted_log es
 
 -- whatever a crash now leaves gives this back

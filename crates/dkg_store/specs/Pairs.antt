@@ -28,6 +28,7 @@ abbrev pub dealing_in : ℕ → Result Event CodecError → Option Dealing
 dealing_in epoch (Ok (events.Dealing dealer public)) = Some (record { key = (epoch, dealer); public = public })
 dealing_in epoch (Ok (events.Ack player ack)) = None
 dealing_in epoch (Ok (events.Log dealer log)) = None
+dealing_in epoch (Ok (events.LogAt dealer height log)) = None
 dealing_in epoch (Err e) = None
 
 -- the dealing of which an entry is the record

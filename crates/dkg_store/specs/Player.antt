@@ -3,6 +3,7 @@ use Rattle.std.specs.Prelude.{◌≡◌, ◌⊎◌, ◌&&◌, not, ℕ, Bool, Li
 use Rattle.std.specs.List.{list_any}
 use Rattle.std.specs.Ordering.{nat_cmp}
 use Rattle.std.specs.FinMap.{FinMap, get, insert}
+use Rattle.dkg_values.specs.Rising.{lookup}
 use Rattle.dkg_ceremony.specs.Finishes.{has_public}
 use Rattle.dkg_ceremony.specs.declared.dealer_log.DealerLog.{DealerLog}
 use Rattle.dkg_ceremony.specs.declared.round.Round.{Round}
@@ -26,9 +27,9 @@ pub record MayKeep (check : Result (Unit {0}) DealingError) (pairs : Pairs) (key
   pub so : Holds pairs image held ⊎ ((check ≡ Ok tt) × (get pairs key ≡ None) × HoldsEither pairs (insert pairs key pair) image held)
 
 -- A dealer's log bears this player's acknowledgement, and no recorded dealing of the dealer has the log's public half.
-abbrev pub is_orphan : (bears : ℕ → DealerLog → Bool) → (epoch : ℕ) → Pairs → ℕ × DealerLog → Bool
-is_orphan bears epoch pairs p = bears p.0 p.1 && not (has_public p.1.public (get pairs (epoch, p.0)))
+abbrev pub is_orphan : (bears : ℕ → DealerLog → Bool) → (dealings : List (ℕ × (List ℕ × ℕ))) → ℕ × DealerLog → Bool
+is_orphan bears dealings p = bears p.0 p.1 && not (has_public p.1.public (lookup p.0 dealings))
 
 -- there is one such log
-abbrev pub has_orphan : (bears : ℕ → DealerLog → Bool) → (epoch : ℕ) → Pairs → List (ℕ × DealerLog) → Bool
-has_orphan bears epoch pairs logs = list_any (is_orphan bears epoch pairs) logs
+abbrev pub has_orphan : (bears : ℕ → DealerLog → Bool) → (dealings : List (ℕ × (List ℕ × ℕ))) → List (ℕ × DealerLog) → Bool
+has_orphan bears dealings logs = list_any (is_orphan bears dealings) logs

@@ -1,10 +1,12 @@
 -- What an opening restored, and the dealings of one epoch.
-use Rattle.std.specs.Prelude.{◌≡◌, ℕ, ◌^◌, ◌&&◌, ◌==◌, nat_lt, List, [], ◌∷◌, map, Option, Some, None, IfSome, Result, Ok, Err, filter, if◌then◌else◌}
+use Rattle.std.specs.Prelude.{◌≡◌, ℕ, ◌^◌, ◌&&◌, ◌==◌, nat_lt, nat_le, Bool, false, List, [], ◌∷◌, map, Option, Some, None, IfSome, Result, Ok, Err, filter, if◌then◌else◌}
 use Rattle.std.specs.Ordering.{nat_cmp}
 use Rattle.std.specs.FinMap as map_of
+use Rattle.dkg_ceremony.specs.declared.dealer_log.DealerLog.{DealerLog}
 use Rattle.dkg_types.specs.declared.entry.Restored.{Restored}
 use Rattle.dkg_store.specs.Keys.{key_cmp}
 use Rattle.dkg_store.specs.Pairs.{Pairs}
+use Rattle.dkg_store.specs.declared.recorded_log.RecordedLog.{RecordedLog}
 
 abbrev pub Pair : Type 0
 Pair = (ℕ × ℕ) × (List ℕ × ℕ)
@@ -23,6 +25,24 @@ of_epoch epoch pairs = filter (λ p. (p.0.0 == epoch) && nat_lt p.0.1 (2 ^ 32)) 
 -- .. and whatever else is recorded by epoch and key
 abbrev pub at_epoch : {V : Type 0} → ℕ → map_of.FinMap key_cmp V → List (ℕ × V)
 at_epoch epoch m = map (λ p. (p.0.1, p.1)) (filter (λ p. (p.0.0 == epoch) && nat_lt p.0.1 (2 ^ 32)) (map_of.entries m))
+
+-- what is recorded without a height stands at this one
+abbrev pub height_or : ℕ → Option ℕ → ℕ
+height_or midpoint None = midpoint
+height_or midpoint (Some height) = height
+
+-- a recorded log counts where its height is at most the tip's, and none does without a tip
+abbrev pub is_reached : (midpoint : ℕ) → Option ℕ → RecordedLog → Bool
+is_reached midpoint None r = false
+is_reached midpoint (Some tip) r = nat_le (height_or midpoint r.height) tip
+
+-- recorded logs by dealer, without their heights
+abbrev pub bare_logs : List (ℕ × RecordedLog) → List (ℕ × DealerLog)
+bare_logs rs = map (λ p. (p.0, p.1.log)) rs
+
+-- .. those that are reached
+abbrev pub reached_logs : (midpoint : ℕ) → Option ℕ → List (ℕ × RecordedLog) → List (ℕ × DealerLog)
+reached_logs midpoint tip rs = bare_logs (filter (λ p. is_reached midpoint tip p.1) rs)
 
 abbrev pub refused_or : {E : Type 0} → Result (Unit {0}) E → ℕ → Option ℕ → Option ℕ
 refused_or (Ok u) dealer later = later

@@ -5,7 +5,7 @@ ghost use Rattle.dkg_types.specs.declared.entry.Entry.{Entry as Line};
 ghost use Rattle.dkg_values.specs.declared.name.Name.TheVariants.{Flat};
 ghost use Rattle.dkg_journal.specs.Disk.{Follows, Lands, Rose, SameElse};
 ghost use Rattle.dkg_journal.specs.Fuse.{Reached, Ran, RanAll};
-ghost use Rattle.dkg_journal.specs.Journals.{IsOpen, append_calls, has_file};
+ghost use Rattle.dkg_journal.specs.Journals.{IsOpen, append_calls};
 ghost use Rattle.dkg_journal.specs.Ready.{IsReady};
 ghost use Rattle.dkg_journal.specs.Steps.{Adds, MayAdd};
 ghost use Rattle.dkg_store.specs.Events.{is_event};
@@ -16,7 +16,7 @@ ghost use Rattle.dkg_store.specs.Errors.{IsOfDevices};
 ghost use Rattle.dkg_store.specs.Named.{Named, MayBeNamed};
 ghost use Rattle.dkg_store.specs.Secrets.{Secrets};
 
-use crate::call::StoreError;
+use crate::call::{StoreError, of_journal};
 use crate::pair_map::PairMap;
 use dkg_journal::{Disk, Fuse, Journal, Prepared};
 use dkg_values::{Epoch, Key};
@@ -45,7 +45,7 @@ fn record_event<V: Drop, D: Disk>(
     // Each image has the entries from before, with the new one or without.
     ensures images { IsTrue D.tells → Follows (MayAdd (epoch, body.now)) (D.image disk.old) (D.image disk.new) }
     // The append: all of it at Ok, and at any other exit a part, whatever image is left.
-    ensures acts { IsTrue D.tells → (out : List Line) (s : Secrets) → MadeAt (appended (has_file journal.old) (epoch, body.now) tt) (ended result) (D.files disk.old) (D.image disk.old) (D.files disk.new) (D.image disk.new) (moment out s fuse.old) (moment out s fuse.new) }
+    ensures acts { IsTrue D.tells → (out : List Line) (s : Secrets) → MadeAt (appended (epoch, body.now) tt) (ended result) (D.files disk.old) (D.image disk.old) (D.files disk.new) (D.image disk.new) (moment out s fuse.old) (moment out s fuse.new) }
     ensures kinds { IfErr result IsOfDevices }
     ensures not_secrets { IsErrOf result StoreError.Secrets → ⊥ }
     ensures memory { IsErrOf result StoreError.NoMemory → ((notes.new ≡ notes.old) × (journal.new ≡ journal.old) × (disk.new ≡ disk.old) × (fuse.new ≡ fuse.old)) ⊎ Rose (D.wants disk.old) (D.wants disk.new) }
@@ -67,7 +67,7 @@ fn record_event<V: Drop, D: Disk>(
     notes.insert(epoch, key, value)?;
     if let Err(error) = journal.append_ready(alloc, disk, fuse, calls, epoch.0, body) {
         notes.remove(epoch, key);
-        return Err(StoreError::from(error));
+        return Err(of_journal(error));
     }
     Ok(())
 }
@@ -94,7 +94,7 @@ pub(crate) fn append_event<V: Drop, D: Disk>(
     // Each image has the entries from before, with the new one or without.
     ensures images { IsTrue D.tells → Follows (MayAdd (epoch, body.now)) (D.image disk.old) (D.image disk.new) }
     // The append: all of it at Ok, and at any other exit a part, whatever image is left.
-    ensures acts { IsTrue D.tells → (out : List Line) (s : Secrets) → MadeAt (appended (has_file journal.old) (epoch, body.now) tt) (ended result) (D.files disk.old) (D.image disk.old) (D.files disk.new) (D.image disk.new) (moment out s fuse.old) (moment out s fuse.new) }
+    ensures acts { IsTrue D.tells → (out : List Line) (s : Secrets) → MadeAt (appended (epoch, body.now) tt) (ended result) (D.files disk.old) (D.image disk.old) (D.files disk.new) (D.image disk.new) (moment out s fuse.old) (moment out s fuse.new) }
     ensures kinds { IfErr result IsOfDevices }
     ensures not_secrets { IsErrOf result StoreError.Secrets → ⊥ }
     ensures memory { IsErrOf result StoreError.NoMemory → ((notes.new ≡ notes.old) × (journal.new ≡ journal.old) × (disk.new ≡ disk.old) × (fuse.new ≡ fuse.old)) ⊎ Rose (D.wants disk.old) (D.wants disk.new) }

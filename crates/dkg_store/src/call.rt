@@ -4,6 +4,8 @@
 ghost use Rattle.std.specs.Prelude.{◌≡◌, ◌⊎◌, ◌≤◌, [], ◌∷◌, OnOk, IsErrOf, IsTrue, IfErr};
 ghost use Rattle.dkg_journal.specs.Disk.{Rose};
 ghost use Rattle.dkg_journal.specs.Fuse.{spent_once, Reached};
+ghost use Rattle.dkg_store.specs.Acts.{EndsBy};
+ghost use Rattle.dkg_store.specs.Calls.{cause_of};
 ghost use Rattle.dkg_store.specs.Errors.{IsOfSecrets, store_error_of};
 ghost use Rattle.dkg_store.specs.declared.call.StoreError.TheVariants.{NoMemory as WantOfMemory};
 ghost use Rattle.dkg_store.specs.Secrets.{Tries, HasCause, HasWant, after};
@@ -43,20 +45,17 @@ pub enum StoreError {
     NoMemory,
 }
 
-impl From<JournalError> for StoreError {
-    ghost from_gives = { λ of_journal of_store. of_store ≡ store_error_of of_journal };
-
-    fn from(error: JournalError) -> StoreError {
-        match error {
-            JournalError::Disk => StoreError::Disk,
-            JournalError::Corrupt { name, place } => StoreError::Corrupt { name, place },
-            JournalError::TooLong => StoreError::Corrupt {
-                name: Name::Flat,
-                place: 0,
-            },
-            JournalError::Cut => StoreError::Cut,
-            JournalError::NoMemory => StoreError::NoMemory,
-        }
+/// What an error of the journal is to the store, whose bodies are never too long.
+pub(crate) fn of_journal(error: JournalError) -> StoreError
+    requires { error ≡ JournalError.TooLong → ⊥ }
+    ensures { result ≡ store_error_of error }
+{
+    match error {
+        JournalError::Disk => StoreError::Disk,
+        JournalError::Corrupt { name, place } => StoreError::Corrupt { name, place },
+        JournalError::TooLong => unreachable!(),
+        JournalError::Cut => StoreError::Cut,
+        JournalError::NoMemory => StoreError::NoMemory,
     }
 }
 
@@ -127,6 +126,8 @@ pub fn perform_secret<X: SecretStore>(
     ensures not_cut { OnOk result (Reached fuse.old fuse.new → ⊥) }
     ensures cut { IsErrOf result StoreError.Cut → Reached fuse.old fuse.new }
     ensures reached { Reached fuse.old fuse.new → IsErrOf result StoreError.Cut ⊎ IsErrOf result StoreError.NoMemory }
+    // A cut is where the fuse says, and no failure is.
+    ensures ends { IfErr result (λ e. EndsBy (cause_of e) fuse.old fuse.new) }
     ensures kinds { IfErr result IsOfSecrets }
 {
     if let Some(pick) = fuse.spend() {

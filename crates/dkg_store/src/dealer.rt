@@ -11,10 +11,10 @@ ghost use Rattle.dkg_ceremony.specs.Thresholds.{max_faults_of};
 ghost use Rattle.dkg_ceremony.specs.declared.ceremony.AckError.{AckError};
 ghost use Rattle.dkg_journal.specs.Disk.{Follows, Lands, Rose, SameElse};
 ghost use Rattle.dkg_journal.specs.Fuse.{Reached, Ran};
-ghost use Rattle.dkg_journal.specs.Journals.{IsOpen, append_calls, has_file};
-ghost use Rattle.dkg_store.specs.Acts.{MadeAt, moment};
+ghost use Rattle.dkg_journal.specs.Journals.{IsOpen, append_calls};
+ghost use Rattle.dkg_store.specs.Acts.{MadeOn};
 ghost use Rattle.dkg_store.specs.Calls.{acking, acked};
-ghost use Rattle.dkg_store.specs.Dealer.{IsDealerOf, held_acks, outcome_of, passing, unsent};
+ghost use Rattle.dkg_store.specs.Dealer.{IsDealerOf, held_acks, outcome_of, passing, to_send, unsent};
 ghost use Rattle.dkg_store.specs.Errors.{IsOfAcking};
 ghost use Rattle.dkg_store.specs.Corrupt.{AreFit};
 ghost use Rattle.dkg_store.specs.Events.{event_spelling, is_event};
@@ -219,7 +219,7 @@ impl Dealer {
         ensures others { IsTrue D.tells → Gives logs_in store.old.logs (D.image devices.old.disk.now) → Gives logs_in store.old.logs (D.image devices.new.disk.now) }
         ensures holds { IsTrue D.tells → (pairs : Pairs) → Holds pairs (D.image devices.old.disk.now) (X.held devices.old.secrets.now) → Holds pairs (D.image devices.new.disk.now) (X.held devices.new.secrets.now) }
         // The check, and then the append: all of it at Ok, and at any other exit a part, whatever image is left.
-        ensures acts { IsTrue D.tells → (out : List Line) → MadeAt (acking (C.check_ack_of self.old.round self.old.me self.old.public player ack) (is_some (map.get self.old.acks player)) (map.contains_key store.old.acks (epoch, player)) (has_file store.old.journal) (epoch, event_spelling (events.Ack player ack))) (acked result) (D.files devices.old.disk.now) (D.image devices.old.disk.now) (D.files devices.new.disk.now) (D.image devices.new.disk.now) (moment out (X.held devices.old.secrets.now) devices.old.fuse) (moment out (X.held devices.new.secrets.now) devices.new.fuse) }
+        ensures acts { IsTrue D.tells → (out : List Line) → MadeOn D.files D.image X.held (acking (C.check_ack_of self.old.round self.old.me self.old.public player ack) (is_some (map.get self.old.acks player)) (map.contains_key store.old.acks (epoch, player)) (epoch, event_spelling (events.Ack player ack))) (acked result) devices.old devices.new out out }
         ensures kinds { IfErr result IsOfAcking }
         ensures not_secrets { IsErrOf result (AckHandleError.Store StoreError.Secrets) → ⊥ }
         ensures calls { Ran D.made devices.old.disk.now devices.new.disk.now devices.old.fuse devices.new.fuse (append_calls store.old.journal (epoch, event_spelling (events.Ack player ack))) }
@@ -265,7 +265,7 @@ impl Dealer {
 
     /// The dealing of each player that has not acknowledged it, keys rising.
     pub fn shares_to_distribute(&self) -> Unsent<'_>
-        ensures { result ≡ (self.now.public, unsent self.now.acks self.now.privates self.now.round.players) }
+        ensures { result ≡ to_send self.now.public (unsent self.now.acks self.now.privates self.now.round.players) }
     {
         Unsent {
             public: &self.public,
@@ -278,7 +278,7 @@ impl Dealer {
     /// Whether the players that have not acknowledged the dealing are no more than the faults among so many players.
     ///
     /// The time is linear in the round's players, with a look-up for each.
-    #[tactic(auto, using(crate::proofs::Dealing::unsent_few))]
+    #[tactic(auto, using(crate::proofs::Dealing::unsent_few, crate::proofs::Dealing::sent_few))]
     pub fn has_acknowledgement_quorum(&self, players: u32) -> bool
         ensures { IsTrue result ↔ (length (unsent self.now.acks self.now.privates self.now.round.players) ≤ max_faults_of players) }
     {
@@ -343,8 +343,7 @@ impl Dealer {
     }
 }
 
-/// The dealing of each player that has not acknowledged it, keys rising; contracts see the public half and a list of players and private
-/// halves.
+/// The dealing of each player that has not acknowledged it, keys rising; contracts see a list of players, each with both halves.
 #[derive(Drop)]
 pub struct Unsent<'a> {
     public: &'a Public,
@@ -355,19 +354,19 @@ pub struct Unsent<'a> {
 
 impl<'a> Model for Unsent<'a> {
     ghost use Rattle.std.specs.Prelude.{List, ℕ};
-    ghost use Rattle.dkg_store.specs.Dealer.{unsent};
+    ghost use Rattle.dkg_store.specs.Dealer.{to_send, unsent};
 
-    ghost Value = { List ℕ × List (ℕ × ℕ) };
+    ghost Value = { List (ℕ × (List ℕ × ℕ)) };
 
-    ghost view = { λ u. (u.public.now, unsent u.acks.now u.privates.now u.rest.now) };
+    ghost view = { λ u. to_send u.public.now (unsent u.acks.now u.privates.now u.rest.now) };
 }
 
 impl<'a> Iterator for Unsent<'a> {
     type Item = (Key, &'a Public, &'a Private);
 
-    ghost next_gives = { YieldsFirstBy (λ item. (item.0, item.2.now)) (λ u. u.1) };
+    ghost next_gives = { YieldsFirstBy (λ item. (item.0, (item.1.now, item.2.now))) (λ u. u) };
 
-    ghost remaining = { item_count (λ u. u.1) };
+    ghost remaining = { item_count (λ u. u) };
 
     fn next(&mut self) -> Option<(Key, &'a Public, &'a Private)> {
         while let Some((player, rest)) = self.rest.split_first() {

@@ -12,7 +12,7 @@ use dkg_ceremony::{
 };
 use dkg_journal::{Disk, Fuse, MemoryDisk};
 use dkg_types::{EpochInfo, EpochOutcome, Unit};
-use dkg_values::{Epoch, Key, Map, Seed, Set};
+use dkg_values::{Epoch, Height, Key, Map, Seed, Set};
 use std::alloc::Global;
 use std::num::NonZeroU32;
 use std::test::Fail;
@@ -249,7 +249,7 @@ fn noted<D: Disk, X: SecretStore>(
     if store.has_log(Epoch(0), dealer) || log.encode_size() > 1000 {
         return Err(Fail::from("the log is there, or too long"));
     }
-    if !store.append_log(alloc, devices, Epoch(0), dealer, log)? {
+    if !store.append_log(alloc, devices, Epoch(0), dealer, Height(4), log)? {
         return Err(Fail::from("the log isn't new"));
     }
     Ok(())
@@ -372,7 +372,7 @@ fn forgotten<D: Disk, X: SecretStore>(
     ensures same_secrets { devices.new.secrets.ghost_name ≡ devices.old.secrets.ghost_name }
 {
     store.prune(alloc, devices, Epoch(1))?;
-    let logs = store.logs(alloc, Epoch(0))?;
+    let logs = store.logs(alloc, Epoch(0), Height(4), Some(Height(4)))?;
     let dealings = store.dealings(alloc, Epoch(0))?;
     Ok((logs.len(), dealings.len()))
 }
@@ -398,7 +398,7 @@ fn taken_on<D: Disk, X: SecretStore>(
     ensures same_disk { devices.new.disk.ghost_name ≡ devices.old.disk.ghost_name }
     ensures same_secrets { devices.new.secrets.ghost_name ≡ devices.old.secrets.ghost_name }
 {
-    let logs = store.logs(alloc, Epoch(0))?;
+    let logs = store.logs(alloc, Epoch(0), Height(4), Some(Height(4)))?;
     let (output, share) = finished(alloc, store, round, &logs)?;
     let fits = fits(&output, &share);
     let kept = committed(alloc, devices, store, output, share)?;

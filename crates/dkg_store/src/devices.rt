@@ -1,28 +1,27 @@
 //! Both devices of a step, and the calls that change them, in one order.
 ghost use Rattle.std.specs.Prelude.{◌≡◌, ◌≤◌, ◌^◌, ◌∷◌, [], ℕ, List, nat_le, OnOk, IfErr, IsErrOf, IsTrue, true, false};
 ghost use Rattle.std.specs.FinMap as map;
-ghost use Rattle.dkg_ceremony.specs.declared.dealer_log.DealerLog.{DealerLog as Log};
 ghost use Rattle.dkg_types.specs.declared.entry.Entry.{Entry as Line};
 ghost use Rattle.dkg_values.specs.declared.name.Name.TheVariants.{Flat};
 ghost use Rattle.dkg_journal.specs.Disk.{Follows, IsUnchanged, Lands, Rose, SameElse};
 ghost use Rattle.dkg_journal.specs.Fuse.{Reached, Ran, RanAll};
-ghost use Rattle.dkg_journal.specs.Journals.{IsOpen, has_file};
-ghost use Rattle.dkg_journal.specs.Operations.{Prunes, calls_of};
+ghost use Rattle.dkg_journal.specs.Journals.{IsOpen};
 ghost use Rattle.dkg_journal.specs.Pruning.{Leaves};
 ghost use Rattle.dkg_journal.specs.Ready.{IsReady};
 ghost use Rattle.dkg_journal.specs.Steps.{Adds, MayAdd};
 ghost use Rattle.dkg_store.specs.Events.{is_event};
 ghost use Rattle.dkg_store.specs.Corrupt.{AreFit};
-ghost use Rattle.dkg_store.specs.Acts.{MadeAt, moment};
+ghost use Rattle.dkg_store.specs.Acts.{MadeOn};
 ghost use Rattle.dkg_store.specs.Calls.{put_and_appended, pruning, ended};
 ghost use Rattle.dkg_store.specs.Errors.{IsOfDevices, IsOfPruning};
 ghost use Rattle.dkg_store.specs.Named.{Named, MayBeNamed};
 ghost use Rattle.dkg_store.specs.Noted.{Gives, GivesEither, Notes, acks_in, logs_in};
 ghost use Rattle.dkg_store.specs.Secrets.{Tries, after};
+ghost use Rattle.dkg_store.specs.declared.recorded_log.RecordedLog.{RecordedLog};
 ghost use Rattle.dkg_store.specs.Pairs.{Holds, HoldsEither, Pairs, PutsFirst};
 ghost use Rattle.dkg_store.specs.Both.{IsWant, IsWanted, MadeBoth, prune_both, put_then_append};
 
-use crate::call::{StoreError, perform_secret};
+use crate::call::{StoreError, of_journal, perform_secret};
 use crate::secrets::{SecretOp, SecretStore};
 use dkg_journal::{Disk, Fuse, Journal, Prepared};
 use dkg_values::Epoch;
@@ -60,7 +59,7 @@ pub fn put_and_append<D: Disk, X: SecretStore>(
     ensures secrets { IsErrOf result StoreError.Secrets → Rose (X.faults devices.old.secrets.now) (X.faults devices.new.secrets.now) }
     ensures memory { IsErrOf result StoreError.NoMemory → IsWanted (D.wants devices.old.disk.now) (D.wants devices.new.disk.now) (X.wants devices.old.secrets.now) (X.wants devices.new.secrets.now) }
     // The put, and then the append: both at Ok, and at any other exit a part, whatever image is left.
-    ensures acts { IsTrue D.tells → IsTrue X.tells → (out : List Line) → MadeAt (put_and_appended put.now (has_file journal.old) (section, body.now) tt) (ended result) (D.files devices.old.disk.now) (D.image devices.old.disk.now) (D.files devices.new.disk.now) (D.image devices.new.disk.now) (moment out (X.held devices.old.secrets.now) devices.old.fuse) (moment out (X.held devices.new.secrets.now) devices.new.fuse) }
+    ensures acts { IsTrue D.tells → IsTrue X.tells → (out : List Line) → MadeOn D.files D.image X.held (put_and_appended put.now (section, body.now) tt) (ended result) devices.old devices.new out out }
     ensures kinds { IfErr result IsOfDevices }
     ensures cut { IsErrOf result StoreError.Cut → Reached devices.old.fuse devices.new.fuse }
     ensures not_cut { OnOk result (Reached devices.old.fuse devices.new.fuse → ⊥) }
@@ -80,8 +79,10 @@ pub fn put_and_append<D: Disk, X: SecretStore>(
     ensures same_secrets { devices.new.secrets.ghost_name ≡ devices.old.secrets.ghost_name }
 {
     perform_secret(alloc, devices.secrets, &mut devices.fuse, put)?;
-    journal.append_ready(alloc, devices.disk, &mut devices.fuse, calls, section, body)?;
-    Ok(())
+    match journal.append_ready(alloc, devices.disk, &mut devices.fuse, calls, section, body) {
+        Ok(()) => Ok(()),
+        Err(error) => Err(of_journal(error)),
+    }
 }
 
 /// Prunes the journal, and then the secrets.
@@ -99,13 +100,13 @@ pub(crate) fn prune_devices<D: Disk, X: SecretStore>(
     // Each image with the secrets then held is whole as before, and gives all dealings from before, or those at or above the minimum.
     ensures images { IsTrue D.tells → (pairs : Pairs) → Holds pairs (D.image devices.old.disk.now) (X.held devices.old.secrets.now) → HoldsEither pairs (map.retain_keys pairs (λ key. nat_le min key.0)) (D.image devices.new.disk.now) (X.held devices.new.secrets.now) }
     ensures images_acks { IsTrue D.tells → (acks : Notes (List ℕ)) → Gives acks_in acks (D.image devices.old.disk.now) → GivesEither acks_in acks (map.retain_keys acks (λ key. nat_le min key.0)) (D.image devices.new.disk.now) }
-    ensures images_logs { IsTrue D.tells → (logs : Notes Log) → Gives logs_in logs (D.image devices.old.disk.now) → GivesEither logs_in logs (map.retain_keys logs (λ key. nat_le min key.0)) (D.image devices.new.disk.now) }
+    ensures images_logs { IsTrue D.tells → (logs : Notes RecordedLog) → Gives logs_in logs (D.image devices.old.disk.now) → GivesEither logs_in logs (map.retain_keys logs (λ key. nat_le min key.0)) (D.image devices.new.disk.now) }
     // At Ok it is those at or above the minimum.
     ensures holds { OnOk result (IsTrue D.tells → (pairs : Pairs) → Holds pairs (D.image devices.old.disk.now) (X.held devices.old.secrets.now) → Holds (map.retain_keys pairs (λ key. nat_le min key.0)) (D.image devices.new.disk.now) (X.held devices.new.secrets.now)) }
     ensures gives_acks { OnOk result (IsTrue D.tells → (acks : Notes (List ℕ)) → Gives acks_in acks (D.image devices.old.disk.now) → Gives acks_in (map.retain_keys acks (λ key. nat_le min key.0)) (D.image devices.new.disk.now)) }
-    ensures gives_logs { OnOk result (IsTrue D.tells → (logs : Notes Log) → Gives logs_in logs (D.image devices.old.disk.now) → Gives logs_in (map.retain_keys logs (λ key. nat_le min key.0)) (D.image devices.new.disk.now)) }
+    ensures gives_logs { OnOk result (IsTrue D.tells → (logs : Notes RecordedLog) → Gives logs_in logs (D.image devices.old.disk.now) → Gives logs_in (map.retain_keys logs (λ key. nat_le min key.0)) (D.image devices.new.disk.now)) }
     // The journal, and then the secrets: both at Ok, and at any other exit a part, whatever image is left.
-    ensures acts { IsTrue D.tells → IsTrue X.tells → (out : List Line) → MadeAt (pruning (calls_of (Prunes min) (D.files devices.old.disk.now)) min) (ended result) (D.files devices.old.disk.now) (D.image devices.old.disk.now) (D.files devices.new.disk.now) (D.image devices.new.disk.now) (moment out (X.held devices.old.secrets.now) devices.old.fuse) (moment out (X.held devices.new.secrets.now) devices.new.fuse) }
+    ensures acts { IsTrue D.tells → IsTrue X.tells → (out : List Line) → MadeOn D.files D.image X.held (pruning min) (ended result) devices.old devices.new out out }
     ensures kinds { IfErr result IsOfPruning }
     ensures of_devices { IsTrue D.tells → IfErr result IsOfDevices }
     ensures all { OnOk result (IsTrue D.tells → RanAll (MadeBoth D.made X.made) (devices.old.disk.now, devices.old.secrets.now) (devices.new.disk.now, devices.new.secrets.now) devices.old.fuse devices.new.fuse (prune_both min (D.files devices.old.disk.now))) }
@@ -129,7 +130,9 @@ pub(crate) fn prune_devices<D: Disk, X: SecretStore>(
     ensures same_disk { devices.new.disk.ghost_name ≡ devices.old.disk.ghost_name }
     ensures same_secrets { devices.new.secrets.ghost_name ≡ devices.old.secrets.ghost_name }
 {
-    journal.prune(alloc, devices.disk, &mut devices.fuse, min.0)?;
+    if let Err(error) = journal.prune(alloc, devices.disk, &mut devices.fuse, min.0) {
+        return Err(of_journal(error));
+    }
     perform_secret(
         alloc,
         devices.secrets,

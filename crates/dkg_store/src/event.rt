@@ -9,7 +9,7 @@ ghost use Rattle.dkg_store.specs.declared.event.Event.TheVariants as events;
 use bytes::{BufMut, BytesMut};
 use dkg_ceremony::{Ack, DealerLog, Public};
 use dkg_values::{
-    CodecError, EncodeSize, Key, Mem, Read, Reader, Spelled, Write, decode_cfg, read_byte,
+    CodecError, EncodeSize, Height, Key, Mem, Read, Reader, Spelled, Write, decode_cfg, read_byte,
 };
 use std::alloc::Global;
 
@@ -19,15 +19,19 @@ const ACK: u8 = 1;
 
 const LOG: u8 = 2;
 
+const LOG_AT: u8 = 3;
+
 /// What is recorded of an epoch, as the upstream's reshare store does.
-#[derive(Debug, Drop)]
+#[derive(Drop)]
 pub enum Event {
     /// The public half of a dealing, behind its dealer. The private half lies in the secret store.
     Dealing(Key, Public),
     /// An acknowledgement of this node's dealing, behind its player.
     Ack(Key, Ack),
-    /// A dealer's log, behind the dealer.
+    /// A dealer's log, behind the dealer, as it was recorded before heights were: it is read, and not written any more.
     Log(Key, DealerLog),
+    /// A dealer's log, behind the dealer and the height of the block that carried it.
+    LogAt(Key, Height, DealerLog),
 }
 
 fn put_dealing(out: &mut BytesMut, dealer: Key, public: &Public) -> Mem<()>
@@ -57,6 +61,16 @@ fn put_log(out: &mut BytesMut, dealer: Key, log: &DealerLog) -> Mem<()>
     log.put(out)
 }
 
+fn put_log_at(out: &mut BytesMut, dealer: Key, height: Height, log: &DealerLog) -> Mem<()>
+    ensures ok { OnOk result (out.new.items ≡ out.old.items ++ event_spelling (events.LogAt dealer height log.now)) }
+    ensures err { OnErr result (StandsInFront out.old.items out.new.items) }
+{
+    out.put_u8(LOG_AT)?;
+    dealer.put(out)?;
+    height.put(out)?;
+    log.put(out)
+}
+
 /// The bytes of a dealing's event.
 pub(crate) fn dealing_body(alloc: Global, dealer: Key, public: &Public) -> Mem<Vec<u8>>
     ensures { IfOk result (λ body. body.items ≡ event_spelling (events.Dealing dealer public.now)) }
@@ -75,12 +89,12 @@ pub(crate) fn ack_body(alloc: Global, player: Key, ack: &Ack) -> Mem<Vec<u8>>
     Ok(Vec::from_slice(alloc, &body)?)
 }
 
-/// The bytes of a log's event.
-pub(crate) fn log_body(alloc: Global, dealer: Key, log: &DealerLog) -> Mem<Vec<u8>>
-    ensures { IfOk result (λ body. body.items ≡ event_spelling (events.Log dealer log.now)) }
+/// The bytes of the event of a log at a height.
+pub(crate) fn log_body(alloc: Global, dealer: Key, height: Height, log: &DealerLog) -> Mem<Vec<u8>>
+    ensures { IfOk result (λ body. body.items ≡ event_spelling (events.LogAt dealer height log.now)) }
 {
     let mut body = BytesMut::new(alloc);
-    put_log(&mut body, dealer, log)?;
+    put_log_at(&mut body, dealer, height, log)?;
     Ok(Vec::from_slice(alloc, &body)?)
 }
 
@@ -111,11 +125,19 @@ pub(crate) fn ack_fits(player: Key, ack: &Ack)
     let _size = size_of_ack(ack);
 }
 
-/// A log is one that an event can hold.
-pub(crate) fn log_fits(dealer: Key, log: &DealerLog)
-    ensures { IsEvent (events.Log dealer log.now) }
+/// A height in plain numbers.
+fn number_of(height: Height) -> u64
+    ensures { result ≡ height }
+{
+    height.0
+}
+
+/// A log at a height is one that an event can hold.
+pub(crate) fn log_fits(dealer: Key, height: Height, log: &DealerLog)
+    ensures { IsEvent (events.LogAt dealer height log.now) }
 {
     let _number = dealer.number();
+    let _height = number_of(height);
     let _elements = log.public.as_slice();
     let _entries = log.entries.as_slice();
     log.fits_limits();
@@ -133,6 +155,9 @@ impl EncodeSize for Event {
             Event::Dealing(dealer, public) => 1 + dealer.encode_size() + public.encode_size(),
             Event::Ack(player, ack) => 1 + player.encode_size() + size_of_ack(ack),
             Event::Log(dealer, log) => 1 + dealer.encode_size() + log.encode_size(),
+            Event::LogAt(dealer, height, log) => {
+                1 + dealer.encode_size() + height.encode_size() + log.encode_size()
+            }
         }
     }
 }
@@ -143,6 +168,7 @@ impl Write for Event {
             Event::Dealing(dealer, public) => put_dealing(out, *dealer, public),
             Event::Ack(player, ack) => put_ack(out, *player, ack),
             Event::Log(dealer, log) => put_log(out, *dealer, log),
+            Event::LogAt(dealer, height, log) => put_log_at(out, *dealer, *height, log),
         }
     }
 }
@@ -173,6 +199,11 @@ impl Read for Event {
             LOG => {
                 let dealer = Key::read_cfg(alloc, input, &())?;
                 Ok(Event::Log(dealer, DealerLog::read_cfg(alloc, input, cfg)?))
+            }
+            LOG_AT => {
+                let dealer = Key::read_cfg(alloc, input, &())?;
+                let height = Height::read_cfg(alloc, input, &())?;
+                Ok(Event::LogAt(dealer, height, DealerLog::read_cfg(alloc, input, cfg)?))
             }
             other => Err(CodecError::InvalidEnum(other)),
         }

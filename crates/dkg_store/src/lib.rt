@@ -21,6 +21,7 @@ mod pair_map;
 mod player;
 #[cfg(test)]
 mod playing_tests;
+mod recorded_log;
 mod restoring;
 mod secrets;
 #[cfg(test)]

@@ -112,6 +112,8 @@ impl SecretStore for MemorySecrets {
         ensures cause { HasCause self.old.faults self.new.faults result }
         ensures want { HasWant self.old.wants self.new.wants result }
         ensures calls { TriesAll (SecretOp.PutShare epoch share ∷ []) self.old.held self.new.held }
+        // A failed call changes nothing.
+        ensures kept { OnErr result (self.new.held ≡ self.old.held) }
         ensures number { FailsByNumber SecretError.Failed self.old.failing.items self.old.calls self.new.calls result }
         ensures numbers { self.new.failing ≡ self.old.failing }
     {
@@ -138,6 +140,8 @@ impl SecretStore for MemorySecrets {
         ensures cause { HasCause self.old.faults self.new.faults result }
         ensures want { HasWant self.old.wants self.new.wants result }
         ensures calls { TriesAll (SecretOp.PutSeed epoch seed ∷ []) self.old.held self.new.held }
+        // A failed call changes nothing.
+        ensures kept { OnErr result (self.new.held ≡ self.old.held) }
         ensures number { FailsByNumber SecretError.Failed self.old.failing.items self.old.calls self.new.calls result }
         ensures numbers { self.new.failing ≡ self.old.failing }
     {
@@ -170,6 +174,8 @@ impl SecretStore for MemorySecrets {
         ensures cause { HasCause self.old.faults self.new.faults result }
         ensures want { HasWant self.old.wants self.new.wants result }
         ensures calls { TriesAll (SecretOp.PutDealing epoch dealer private ∷ []) self.old.held self.new.held }
+        // A failed call changes nothing.
+        ensures kept { OnErr result (self.new.held ≡ self.old.held) }
         ensures number { FailsByNumber SecretError.Failed self.old.failing.items self.old.calls self.new.calls result }
         ensures numbers { self.new.failing ≡ self.old.failing }
     {
@@ -205,6 +211,8 @@ impl SecretStore for MemorySecrets {
         ensures cause { HasCause self.old.faults self.new.faults result }
         ensures want { HasWant self.old.wants self.new.wants result }
         ensures calls { TriesAll (SecretOp.Prune min ∷ []) self.old.held self.new.held }
+        // A failed call changes nothing.
+        ensures kept { OnErr result (self.new.held ≡ self.old.held) }
         ensures number { FailsByNumber SecretError.Failed self.old.failing.items self.old.calls self.new.calls result }
         ensures numbers { self.new.failing ≡ self.old.failing }
     {

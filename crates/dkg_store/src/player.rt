@@ -1,14 +1,14 @@
 //! A player of a round: it acknowledges each dealer once, for the dealing that is recorded.
 //!
 //! A reshare actor hands it each dealing that comes in.
-ghost use Rattle.std.specs.Prelude.{◌≡◌, ◌≤◌, ◌<◌, ◌+◌, ◌^◌, ◌++◌, ◌∷◌, [], length, OnOk, OnErr, IfOk, IfErr, IsErrOf, IsTrue, IsSome, IsOk, is_some, None, Ok, Err, Contains, if◌then◌else◌, not, true, ℕ};
+ghost use Rattle.std.specs.Prelude.{◌≡◌, ◌⊎◌, ◌≤◌, ◌<◌, ◌+◌, ◌^◌, ◌++◌, ◌∷◌, [], length, OnOk, OnErr, IfOk, IfErr, IsErrOf, IsTrue, IsSome, IsOk, is_some, None, Ok, Err, Contains, if◌then◌else◌, not, true, ℕ};
 ghost use Rattle.std.specs.FinMap as map;
 ghost use Rattle.dkg_values.specs.declared.name.Name.TheVariants.{Flat};
 ghost use Rattle.dkg_journal.specs.Disk.{Follows, Lands, Rose, SameElse};
 ghost use Rattle.dkg_journal.specs.Fuse.{Reached, Ran, RanAll};
-ghost use Rattle.dkg_journal.specs.Journals.{IsOpen, has_file};
+ghost use Rattle.dkg_journal.specs.Journals.{IsOpen};
 ghost use Rattle.dkg_store.specs.Corrupt.{AreFit};
-ghost use Rattle.dkg_store.specs.Acts.{MadeAt, moment};
+ghost use Rattle.dkg_store.specs.Acts.{MadeOn};
 ghost use Rattle.dkg_store.specs.Calls.{keeping, accepting, answering, answered, ended};
 ghost use Rattle.dkg_store.specs.Errors.{IsOfDevices, IsOfHandling};
 ghost use Rattle.dkg_store.specs.Events.{event_spelling, is_event};
@@ -20,7 +20,7 @@ ghost use Rattle.dkg_store.specs.Player.{IsPlayerOf, Acknowledges, MayKeep};
 ghost use Rattle.dkg_store.specs.Both.{MadeBoth, IsWant, put_then_append};
 ghost use Rattle.dkg_store.specs.Recorded.{AreChecked, at_epoch, first_refused, of_epoch, with_first};
 ghost use Rattle.dkg_store.specs.Rest.{SameRest};
-ghost use Rattle.dkg_ceremony.specs.Finishes.{Finishes};
+ghost use Rattle.dkg_ceremony.specs.Finishes.{Finishes, IsMissing};
 ghost use Rattle.dkg_store.specs.declared.player.DealingHandleError.TheVariants.{Store as OfStore};
 ghost use Rattle.dkg_ceremony.specs.declared.ceremony.DealingError.{DealingError};
 
@@ -194,7 +194,7 @@ fn keep_dealing<D: Disk, X: SecretStore, Dir: Drop>(
     ensures open { OnOk result (IsTrue D.tells → IsOpen store.new.journal (D.files devices.new.disk.now) (D.image devices.new.disk.now)) }
     ensures holds { OnOk result (IsTrue D.tells → IsTrue X.tells → Holds store.old.dealings (D.image devices.old.disk.now) (X.held devices.old.secrets.now) → Holds store.new.dealings (D.image devices.new.disk.now) (X.held devices.new.secrets.now)) }
     ensures images { IsTrue D.tells → IsTrue X.tells → Holds store.old.dealings (D.image devices.old.disk.now) (X.held devices.old.secrets.now) → HoldsEither store.old.dealings (map.insert store.old.dealings (epoch, dealer) (public, private)) (D.image devices.new.disk.now) (X.held devices.new.secrets.now) }
-    ensures acts { IsTrue D.tells → IsTrue X.tells → MadeAt (keeping (has_file store.old.journal) epoch dealer public told private tt) (ended result) (D.files devices.old.disk.now) (D.image devices.old.disk.now) (D.files devices.new.disk.now) (D.image devices.new.disk.now) (moment out.old.entries (X.held devices.old.secrets.now) devices.old.fuse) (moment out.new.entries (X.held devices.new.secrets.now) devices.new.fuse) }
+    ensures acts { IsTrue D.tells → IsTrue X.tells → MadeOn D.files D.image X.held (keeping epoch dealer public told private tt) (ended result) devices.old devices.new out.old.entries out.new.entries }
     ensures kinds { IfErr result IsOfDevices }
     ensures all { OnOk result (RanAll (MadeBoth D.made X.made) (devices.old.disk.now, devices.old.secrets.now) (devices.new.disk.now, devices.new.secrets.now) devices.old.fuse devices.new.fuse (put_then_append (SecretOp.PutDealing epoch dealer private) store.old.journal (epoch, event_spelling (events.Dealing dealer public)))) }
     ensures calls { Ran (MadeBoth D.made X.made) (devices.old.disk.now, devices.old.secrets.now) (devices.new.disk.now, devices.new.secrets.now) devices.old.fuse devices.new.fuse (put_then_append (SecretOp.PutDealing epoch dealer private) store.old.journal (epoch, event_spelling (events.Dealing dealer public))) }
@@ -348,7 +348,7 @@ impl Player {
         // Each image, with the secrets then held, gives the dealings from before; or, where the dealing is new and passed the check, these or
         // those with the new one.
         ensures images { IsTrue D.tells → IsTrue X.tells → Holds store.old.dealings (D.image devices.old.disk.now) (X.held devices.old.secrets.now) → MayKeep (C.dealing_of self.old.round self.old.me dealer public private) store.old.dealings (epoch, dealer) (public, private) (D.image devices.new.disk.now) (X.held devices.new.secrets.now) }
-        ensures acts { IsTrue D.tells → IsTrue X.tells → MadeAt (accepting (C.dealing_of self.old.round self.old.me dealer public private) (has_file store.old.journal) epoch dealer public private (C.ack_of self.old.me self.old.round dealer public)) (answered result) (D.files devices.old.disk.now) (D.image devices.old.disk.now) (D.files devices.new.disk.now) (D.image devices.new.disk.now) (moment out.old.entries (X.held devices.old.secrets.now) devices.old.fuse) (moment out.new.entries (X.held devices.new.secrets.now) devices.new.fuse) }
+        ensures acts { IsTrue D.tells → IsTrue X.tells → MadeOn D.files D.image X.held (accepting (C.dealing_of self.old.round self.old.me dealer public private) epoch dealer public private (C.ack_of self.old.me self.old.round dealer public)) (answered result) devices.old devices.new out.old.entries out.new.entries }
         ensures kinds { IfErr result IsOfHandling }
         ensures calls { Ran (MadeBoth D.made X.made) (devices.old.disk.now, devices.old.secrets.now) (devices.new.disk.now, devices.new.secrets.now) devices.old.fuse devices.new.fuse (put_then_append (SecretOp.PutDealing epoch dealer private) store.old.journal (epoch, event_spelling (events.Dealing dealer public))) }
         ensures memory { IsErrOf result (DealingHandleError.Store StoreError.NoMemory) → IsWant ((self.new ≡ self.old) × (store.new ≡ store.old) × (devices.new ≡ devices.old)) (D.wants devices.old.disk.now) (D.wants devices.new.disk.now) (X.wants devices.old.secrets.now) (X.wants devices.new.secrets.now) }
@@ -458,7 +458,7 @@ impl Player {
         ensures images { IsTrue D.tells → IsTrue X.tells → Holds store.old.dealings (D.image devices.old.disk.now) (X.held devices.old.secrets.now) → MayKeep (C.dealing_of self.old.round self.old.me dealer public private) store.old.dealings (epoch, dealer) (public, private) (D.image devices.new.disk.now) (X.held devices.new.secrets.now) }
         // A dealer whose dealing is recorded is answered by the acknowledgement of that. Else the check, the put, the append and the
         // line: all of them at Ok, and at any other exit a part, whatever image is left.
-        ensures acts { IsTrue D.tells → IsTrue X.tells → IsPlayerOf C.ack_of self.old.me self.old.round self.old.acks store.old.dealings epoch → MadeAt (answering (C.ack_of self.old.me self.old.round dealer) (map.get store.old.dealings (epoch, dealer)) (C.dealing_of self.old.round self.old.me dealer public private) (has_file store.old.journal) epoch dealer public private) (answered result) (D.files devices.old.disk.now) (D.image devices.old.disk.now) (D.files devices.new.disk.now) (D.image devices.new.disk.now) (moment out.old.entries (X.held devices.old.secrets.now) devices.old.fuse) (moment out.new.entries (X.held devices.new.secrets.now) devices.new.fuse) }
+        ensures acts { IsTrue D.tells → IsTrue X.tells → IsPlayerOf C.ack_of self.old.me self.old.round self.old.acks store.old.dealings epoch → MadeOn D.files D.image X.held (answering (C.ack_of self.old.me self.old.round dealer) (map.get store.old.dealings (epoch, dealer)) (C.dealing_of self.old.round self.old.me dealer public private) epoch dealer public private) (answered result) devices.old devices.new out.old.entries out.new.entries }
         ensures kinds { IfErr result IsOfHandling }
         ensures calls { Ran (MadeBoth D.made X.made) (devices.old.disk.now, devices.old.secrets.now) (devices.new.disk.now, devices.new.secrets.now) devices.old.fuse devices.new.fuse (put_then_append (SecretOp.PutDealing epoch dealer private) store.old.journal (epoch, event_spelling (events.Dealing dealer public))) }
         ensures memory { IsErrOf result (DealingHandleError.Store StoreError.NoMemory) → IsWant ((self.new ≡ self.old) × (store.new ≡ store.old) × (devices.new ≡ devices.old)) (D.wants devices.old.disk.now) (D.wants devices.new.disk.now) (X.wants devices.old.secrets.now) (X.wants devices.new.secrets.now) }
@@ -514,7 +514,9 @@ impl Player {
     ) -> Result<Option<(Output, Share)>, FinishError>
         requires playing { Contains self.round.players self.me }
         requires passes { AreChecked (C.dealing_of self.round self.me) self.dealings }
-        ensures { Finishes (C.finish_of self.round self.me (map.entries self.dealings) logs.now) result }
+        ensures finishes { Finishes (C.finish_of self.round self.me (map.entries self.dealings) logs.now) result }
+        // So there is a share wherever there is an outcome, and no selected log lacks its dealing.
+        ensures missing { IfErr result (λ e. (e ≡ FinishError.NoMemory) ⊎ IsMissing (λ dealer log. C.bears_ack_of self.round dealer log self.me) (map.entries self.dealings) logs.now (C.selected_of self.round logs.now) e) }
     {
         let Player {
             me,

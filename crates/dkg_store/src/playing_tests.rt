@@ -14,7 +14,7 @@ use dkg_ceremony::{
 };
 use dkg_journal::{Disk, Fuse, MemoryDisk};
 use dkg_types::{Transcript, Unit};
-use dkg_values::{Epoch, Key, Map};
+use dkg_values::{Epoch, Height, Key, Map};
 use std::alloc::Global;
 use std::num::NonZeroU32;
 use std::test::Fail;
@@ -176,7 +176,7 @@ fn logs_in<D: Disk, X: SecretStore>(
         &mut store,
         round,
     )?;
-    Ok(store.logs(alloc, Epoch(0))?)
+    Ok(store.logs(alloc, Epoch(0), Height(4), Some(Height(4)))?)
 }
 
 /// Those, made over an empty disk.

@@ -14,8 +14,9 @@ ghost use Rattle.dkg_store.specs.Pairs.{with_half, with_dealing, dealing_in, dea
 use crate::call::StoreError;
 use crate::event::{Event, read_event};
 use crate::pair_map::PairMap;
+use crate::recorded_log::RecordedLog;
 use crate::secrets::{SecretError, SecretStore};
-use dkg_ceremony::{Ack, DealerLog, Private, Public};
+use dkg_ceremony::{Ack, Private, Public};
 use dkg_journal::JournalEntry;
 use dkg_values::{CodecError, Epoch, Key, Name};
 use std::alloc::Global;
@@ -25,7 +26,7 @@ use std::alloc::Global;
 pub(crate) struct Recorded {
     pub(crate) dealings: PairMap<(Public, Private)>,
     pub(crate) acks: PairMap<Ack>,
-    pub(crate) logs: PairMap<DealerLog>,
+    pub(crate) logs: PairMap<RecordedLog>,
 }
 
 /// Takes a recorded dealing up, if its private half is there.
@@ -88,7 +89,17 @@ fn restore_event<X: SecretStore>(
             Ok(())
         }
         Event::Log(dealer, log) => {
-            recorded.logs.insert(epoch, dealer, log)?;
+            let height = None;
+            recorded
+                .logs
+                .insert(epoch, dealer, RecordedLog { height, log })?;
+            Ok(())
+        }
+        Event::LogAt(dealer, height, log) => {
+            let height = Some(height);
+            recorded
+                .logs
+                .insert(epoch, dealer, RecordedLog { height, log })?;
             Ok(())
         }
     }

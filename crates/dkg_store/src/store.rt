@@ -8,8 +8,7 @@ ghost use Rattle.std.specs.FinMap as map;
 ghost use Rattle.std.specs.Int.NonZero.{non_zero_u32_get};
 ghost use Rattle.std.specs.List.Sorted.{IsStrictlyIncreasing};
 ghost use Rattle.dkg_ceremony.specs.Finishes.{has_public};
-ghost use Rattle.dkg_ceremony.specs.declared.dealer_log.DealerLog.{DealerLog as Log};
-ghost use Rattle.dkg_values.specs.Rising.{keys_of};
+ghost use Rattle.dkg_values.specs.Rising.{keys_of, lookup};
 ghost use Rattle.dkg_values.specs.declared.name.Name.{Name};
 ghost use Rattle.dkg_values.specs.declared.name.Name.TheVariants.{Flat};
 ghost use Rattle.dkg_types.specs.declared.entry.Entry.{Entry as Line};
@@ -19,36 +18,38 @@ ghost use Rattle.dkg_journal.specs.Gated.{OpensAlike, gated, gated_entries};
 ghost use Rattle.dkg_journal.specs.Views.{views};
 ghost use Rattle.dkg_journal.specs.Disk.{IsUnchanged, Rose, Follows, Lands, SameElse};
 ghost use Rattle.dkg_journal.specs.Fuse.{Reached, Ran, RanAll};
-ghost use Rattle.dkg_journal.specs.Journals.{IsOpen, append_calls, has_file};
-ghost use Rattle.dkg_journal.specs.Operations.{Prunes, calls_of};
+ghost use Rattle.dkg_journal.specs.Journals.{IsOpen, append_calls};
+ghost use Rattle.dkg_journal.specs.Operations.{Journaled};
 ghost use Rattle.dkg_journal.specs.Pruning.{Leaves};
 ghost use Rattle.dkg_journal.specs.Steps.{Keeps};
 ghost use Rattle.dkg_journal.specs.Opening.{AreUnbroken, IsFormOfToday, broken, open_calls};
-ghost use Rattle.dkg_store.specs.Acts.{MadeAt, Runs, moment, world};
+ghost use Rattle.dkg_store.specs.Acts.{MadeAt, MadeOn, Runs, moment, world};
 ghost use Rattle.dkg_store.specs.Calls.{put_and_appended, noting, recording, sharing, seeding, committing, pruning, opens, opened, opening, ended, ended_as};
 ghost use Rattle.dkg_store.specs.Commits.{commit_calls, committed};
-ghost use Rattle.dkg_store.specs.Corrupt.{IsCorruptAt, AreEvents, AreFit, BeginsWithEvent};
+ghost use Rattle.dkg_store.specs.Corrupt.{IsAlien, IsCorruptAt, AreEvents, AreFit, BeginsWithEvent};
 ghost use Rattle.dkg_store.specs.Errors.{IsOfDealing, IsOfDevices, IsOfOpening, IsOfPlaying, IsOfPruning, IsOfSecrets};
 ghost use Rattle.dkg_store.specs.Secrets.{Secrets, Tries, after};
 ghost use Rattle.dkg_store.specs.Events.{event_spelling, is_event};
 ghost use Rattle.dkg_store.specs.declared.event.Event.TheVariants as events;
 ghost use Rattle.dkg_store.specs.Pairs.{Pairs, IsWhole, AreAtOrAbove, Holds, HoldsEither, recovered};
-ghost use Rattle.dkg_store.specs.Recorded.{AreChecked, at_epoch, restored_list, of_epoch, first_refused};
+ghost use Rattle.dkg_store.specs.declared.recorded_log.RecordedLog.{RecordedLog};
+ghost use Rattle.dkg_store.specs.Recorded.{AreChecked, is_reached, at_epoch, restored_list, of_epoch, first_refused, bare_logs, reached_logs};
 ghost use Rattle.dkg_store.specs.Both.{MadeBoth, IsWant, prune_both, put_then_append};
 ghost use Rattle.dkg_store.specs.Named.{Named, MayBeNamed};
 ghost use Rattle.dkg_store.specs.Noted.{Gives, GivesEither, Notes, SameNotes, acks_in, logs_in};
-ghost use Rattle.dkg_store.specs.Dealer.{IsDealerOf, passing};
+ghost use Rattle.dkg_store.specs.Dealer.{IsDealerOf, passing, passing_acks};
 ghost use Rattle.dkg_store.specs.Player.{has_orphan};
 ghost use Rattle.dkg_store.specs.Ready.{IsReadyDealing};
 
 use crate::appending::append_event;
-use crate::call::{StoreError, perform_secret};
+use crate::call::{StoreError, of_journal, perform_secret};
 use crate::dealer::{Dealer, replayed};
 use crate::devices::{Devices, prune_devices, put_and_append};
 use crate::event::{ack_body, ack_fits, dealing_body, dealing_fits, log_body, log_fits};
 use crate::key_map::KeyMap;
 use crate::pair_map::PairMap;
 use crate::player::Player;
+use crate::recorded_log::RecordedLog;
 use crate::restoring::{Recorded, restore};
 use crate::secrets::{SecretError, SecretOp, SecretStore};
 use dkg_ceremony::{
@@ -56,7 +57,7 @@ use dkg_ceremony::{
 };
 use dkg_journal::{Disk, Fuse, Journal, Op, Prepared, perform};
 use dkg_types::{EpochInfo, LocalCause, Restored};
-use dkg_values::{Epoch, Key, Map, Mem, NoMemory, NotRising, Seed};
+use dkg_values::{Epoch, Height, Key, Map, Mem, NoMemory, NotRising, Seed};
 use std::alloc::Global;
 use std::num::NonZeroU32;
 
@@ -66,7 +67,7 @@ pub struct Store<Dir> {
     journal: Journal,
     dealings: PairMap<(Public, Private)>,
     acks: PairMap<Ack>,
-    logs: PairMap<DealerLog>,
+    logs: PairMap<RecordedLog>,
     restored: Vec<Restored>,
     current: Option<EpochInfo<Dir>>,
 }
@@ -120,7 +121,7 @@ fn open_journal<D: Disk>(
     ensures listed { IfOk result (λ journal. IsTrue D.tells → IsFormOfToday (D.files disk.old) → views journal.waiting.items ≡ entries (D.files disk.old)) }
     ensures gated { IfOk result (λ journal. IsTrue D.tells → list_map gated journal.waiting.items ≡ gated_entries (D.files disk.old)) }
     ensures settled { OnOk result (IsTrue D.tells → (c : Files) → D.image disk.new c → entries c ≡ entries (D.files disk.old)) }
-    ensures acts { IsTrue D.tells → broken (D.files disk.old) ≡ None → (out : List Line) (s : Secrets) → MadeAt (opens (length (open_calls (D.files disk.old)))) (opened result) (D.files disk.old) (D.image disk.old) (D.files disk.new) (D.image disk.new) (moment out s fuse.old) (moment out s fuse.new) }
+    ensures acts { IsTrue D.tells → broken (D.files disk.old) ≡ None → (out : List Line) (s : Secrets) → MadeAt (opens None (length (open_calls (D.files disk.old)))) (opened result) (D.files disk.old) (D.image disk.old) (D.files disk.new) (D.image disk.new) (moment out s fuse.old) (moment out s fuse.new) }
     ensures corrupt { (name : Name) (place : ℕ) → IsErrOf result (StoreError.Corrupt name place) → IsTrue D.tells → (name ≡ Flat) × (broken (D.files disk.old) ≡ Some place) }
     ensures whole { OnOk result (IsTrue D.tells → broken (D.files disk.old) ≡ None) }
     // Another opening finds the same, at Ok and at Corrupt.
@@ -140,8 +141,13 @@ fn open_journal<D: Disk>(
     ensures all { OnOk result (IsTrue D.tells → RanAll D.made disk.old disk.new fuse.old fuse.new (Op.Barrier ∷ open_calls (D.files disk.old))) }
     ensures calls { IsTrue D.tells → Ran D.made disk.old disk.new fuse.old fuse.new (Op.Barrier ∷ open_calls (D.files disk.old)) }
 {
-    perform(alloc, disk, fuse, &Op::Barrier)?;
-    Ok(Journal::open(alloc, disk, fuse)?)
+    if let Err(error) = perform(alloc, disk, fuse, &Op::Barrier) {
+        return Err(of_journal(error));
+    }
+    match Journal::open(alloc, disk, fuse) {
+        Ok(journal) => Ok(journal),
+        Err(error) => Err(of_journal(error)),
+    }
 }
 
 /// The restored dealings as a list, by epoch and dealer, rising.
@@ -221,6 +227,78 @@ fn map_of_epoch<V: Value + Drop>(alloc: Global, values: &PairMap<V>, epoch: Epoc
     in_order(pairs)
 }
 
+/// The logs that are recorded of one epoch, keys rising, whatever their heights.
+fn pairs_of_logs(
+    alloc: Global,
+    logs: &PairMap<RecordedLog>,
+    epoch: Epoch,
+) -> Mem<Vec<(Key, DealerLog)>>
+    ensures { IfOk result (λ pairs. pairs.items ≡ bare_logs (at_epoch epoch logs.now)) }
+{
+    let mut pairs = Vec::new(alloc);
+    for ((_, dealer), recorded) in logs.of_epoch(epoch.0) {
+        pairs.push((Key(*dealer), recorded.log.copy(alloc)?))?;
+    }
+    Ok(pairs)
+}
+
+/// The logs that are recorded of one epoch, by dealer, whatever their heights.
+#[tactic(auto, using(crate::proofs::Logs::bare_rising))]
+fn bare_logs(alloc: Global, logs: &PairMap<RecordedLog>, epoch: Epoch) -> Mem<Map<DealerLog>>
+    ensures { IfOk result (λ made. made ≡ bare_logs (at_epoch epoch logs.now)) }
+{
+    let pairs = pairs_of_logs(alloc, logs, epoch)?;
+    in_order(pairs)
+}
+
+/// Whether a log is of a block at or below the tip. One that was recorded without a height stands at the midpoint.
+fn is_reached(recorded: &RecordedLog, midpoint: Height, tip: Option<Height>) -> bool
+    ensures { result ≡ is_reached midpoint tip recorded.now }
+{
+    let height = match recorded.height {
+        None => midpoint,
+        Some(height) => height,
+    };
+    match tip {
+        None => false,
+        Some(tip) => height <= tip,
+    }
+}
+
+/// The logs that are recorded of one epoch, keys rising, of blocks at or below the tip.
+fn pairs_of_reached(
+    alloc: Global,
+    logs: &PairMap<RecordedLog>,
+    epoch: Epoch,
+    midpoint: Height,
+    tip: Option<Height>,
+) -> Mem<Vec<(Key, DealerLog)>>
+    ensures { IfOk result (λ pairs. pairs.items ≡ reached_logs midpoint tip (at_epoch epoch logs.now)) }
+{
+    let mut pairs = Vec::new(alloc);
+    for ((_, dealer), recorded) in logs.of_epoch(epoch.0) {
+        if is_reached(recorded, midpoint, tip) {
+            pairs.push((Key(*dealer), recorded.log.copy(alloc)?))?;
+        }
+    }
+    Ok(pairs)
+}
+
+/// The logs that are recorded of one epoch, by dealer, of blocks at or below the tip.
+#[tactic(auto, using(crate::proofs::Logs::reached_rising))]
+fn reached_logs(
+    alloc: Global,
+    logs: &PairMap<RecordedLog>,
+    epoch: Epoch,
+    midpoint: Height,
+    tip: Option<Height>,
+) -> Mem<Map<DealerLog>>
+    ensures { IfOk result (λ made. made ≡ reached_logs midpoint tip (at_epoch epoch logs.now)) }
+{
+    let pairs = pairs_of_reached(alloc, logs, epoch, midpoint, tip)?;
+    in_order(pairs)
+}
+
 /// A player's own copy of what is recorded of one epoch.
 fn copy_of_epoch<V: Value + Drop>(
     alloc: Global,
@@ -236,8 +314,8 @@ fn copy_of_epoch<V: Value + Drop>(
     Ok(kept)
 }
 
-/// Whether the dealing that is recorded of a dealer has this public half.
-fn has_half(
+/// Whether what is recorded at a key has this public half.
+fn is_half_at(
     dealings: &PairMap<(Public, Private)>,
     epoch: Epoch,
     dealer: Key,
@@ -251,6 +329,19 @@ fn has_half(
     }
 }
 
+/// Whether the dealing that is recorded of a dealer has this public half.
+fn has_half(
+    dealings: &PairMap<(Public, Private)>,
+    epoch: Epoch,
+    dealer: Key,
+    public: &Public,
+) -> bool
+    ensures { result ≡ has_public public.now (lookup dealer (at_epoch epoch dealings.now)) }
+{
+    let _number = dealer.number();
+    is_half_at(dealings, epoch, dealer, public)
+}
+
 /// Whether a log bears the player's acknowledgement, and no recorded dealing of its dealer has the log's public half.
 fn has_orphan<C: Ceremony>(
     alloc: Global,
@@ -261,7 +352,7 @@ fn has_orphan<C: Ceremony>(
     round: &Round,
     logs: &Map<DealerLog>,
 ) -> Mem<bool>
-    ensures { IfOk result (λ found. found ≡ has_orphan (λ dealer log. C.bears_ack_of round.now dealer log me) epoch dealings.now logs.now) }
+    ensures { IfOk result (λ found. found ≡ has_orphan (λ dealer log. C.bears_ack_of round.now dealer log me) (at_epoch epoch dealings.now) logs.now) }
 {
     for (dealer, log) in logs.iter() {
         if ceremony.bears_ack(alloc, round, dealer, log, me)?
@@ -283,7 +374,7 @@ fn put_both<X: SecretStore>(
     share: Option<Share>,
 ) -> Result<(), StoreError>
     ensures done { OnOk result (IsTrue X.tells → X.held secrets.new ≡ committed epoch seed share (X.held secrets.old)) }
-    ensures acts { IsTrue X.tells → (out : List Line) (notes : List Entry) (plan : Option (List ℕ)) → Runs (committing epoch seed share) (ended result) (world out notes plan (X.held secrets.old) fuse.old) (world out notes plan (X.held secrets.new) fuse.new) }
+    ensures acts { IsTrue X.tells → (out : List Line) (j : Journaled) → Runs (committing epoch seed share) (ended result) (world out j (X.held secrets.old) fuse.old) (world out j (X.held secrets.new) fuse.new) }
     ensures later { X.faults secrets.old ≤ X.faults secrets.new }
     ensures wanted { IsErrOf result StoreError.NoMemory → Rose (X.wants secrets.old) (X.wants secrets.new) }
     ensures secrets { IsErrOf result StoreError.Secrets → Rose (X.faults secrets.old) (X.faults secrets.new) }
@@ -325,7 +416,7 @@ fn record_dealing<D: Disk, X: SecretStore>(
     ensures holds { OnOk result (IsTrue D.tells → IsTrue X.tells → Holds dealings.old (D.image devices.old.disk.now) (X.held devices.old.secrets.now) → Holds (map.insert dealings.old (epoch, dealer) (public, private)) (D.image devices.new.disk.now) (X.held devices.new.secrets.now)) }
     ensures images { IsTrue D.tells → IsTrue X.tells → Holds dealings.old (D.image devices.old.disk.now) (X.held devices.old.secrets.now) → HoldsEither dealings.old (map.insert dealings.old (epoch, dealer) (public, private)) (D.image devices.new.disk.now) (X.held devices.new.secrets.now) }
     ensures notes { IsTrue D.tells → Follows SameNotes (D.image devices.old.disk.now) (D.image devices.new.disk.now) }
-    ensures acts { IsTrue D.tells → IsTrue X.tells → (out : List Line) → MadeAt (put_and_appended (SecretOp.PutDealing epoch dealer private) (has_file journal.old) (epoch, event_spelling (events.Dealing dealer public)) tt) (ended result) (D.files devices.old.disk.now) (D.image devices.old.disk.now) (D.files devices.new.disk.now) (D.image devices.new.disk.now) (moment out (X.held devices.old.secrets.now) devices.old.fuse) (moment out (X.held devices.new.secrets.now) devices.new.fuse) }
+    ensures acts { IsTrue D.tells → IsTrue X.tells → (out : List Line) → MadeOn D.files D.image X.held (put_and_appended (SecretOp.PutDealing epoch dealer private) (epoch, event_spelling (events.Dealing dealer public)) tt) (ended result) devices.old devices.new out out }
     ensures kinds { IfErr result IsOfDevices }
     ensures all { OnOk result (RanAll (MadeBoth D.made X.made) (devices.old.disk.now, devices.old.secrets.now) (devices.new.disk.now, devices.new.secrets.now) devices.old.fuse devices.new.fuse (put_then_append (SecretOp.PutDealing epoch dealer private) journal.old (epoch, event_spelling (events.Dealing dealer public)))) }
     ensures calls { Ran (MadeBoth D.made X.made) (devices.old.disk.now, devices.old.secrets.now) (devices.new.disk.now, devices.new.secrets.now) devices.old.fuse devices.new.fuse (put_then_append (SecretOp.PutDealing epoch dealer private) journal.old (epoch, event_spelling (events.Dealing dealer public))) }
@@ -394,8 +485,9 @@ impl<Dir: Drop> Store<Dir> {
         ensures settled_entries { OnOk result (IsTrue D.tells → (c : Files) → D.image devices.new.disk.now c → entries c ≡ entries (D.files devices.old.disk.now)) }
         // Wherever it stops, each image with the secrets is whole as before, and gives the same dealings.
         ensures holds { IsTrue D.tells → (pairs : Pairs) → Holds pairs (D.image devices.old.disk.now) (X.held devices.old.secrets.now) → Holds pairs (D.image devices.new.disk.now) (X.held devices.new.secrets.now) }
-        // The barrier, the journal's opening, and what is read then: all at Ok, and at any other exit a part, whatever image is left.
-        ensures acts { IsTrue D.tells → IsTrue X.tells → IsFormOfToday (D.files devices.old.disk.now) → broken (D.files devices.old.disk.now) ≡ None → AreEvents (non_zero_u32_get limit) (entries (D.files devices.old.disk.now)) → (out : List Line) → MadeAt (opening (length (open_calls (D.files devices.old.disk.now)))) (ended_as (λ store. (store.dealings, store.acks, store.logs)) result) (D.files devices.old.disk.now) (D.image devices.old.disk.now) (D.files devices.new.disk.now) (D.image devices.new.disk.now) (moment out (X.held devices.old.secrets.now) devices.old.fuse) (moment out (X.held devices.new.secrets.now) devices.new.fuse) }
+        // The barrier, the journal's opening, and what is read then, or the first body that is no event: all at Ok and at Corrupt, and at any
+        // other exit a part, whatever image is left.
+        ensures acts { IsTrue D.tells → IsTrue X.tells → IsFormOfToday (D.files devices.old.disk.now) → broken (D.files devices.old.disk.now) ≡ None → (alien : Option (Name × ℕ)) → IsAlien (non_zero_u32_get limit) (D.files devices.old.disk.now) alien → (out : List Line) → MadeOn D.files D.image X.held (opening None (length (open_calls (D.files devices.old.disk.now))) alien) (ended_as (λ store. (store.dealings, store.acks, store.logs)) result) devices.old devices.new out out }
         // Corrupt comes exactly of a record that is not whole, or, where all are, of the first whose body is no event within the limit.
         ensures corrupt { (name : Name) (place : ℕ) → IsErrOf result (StoreError.Corrupt name place) → IsTrue D.tells → IsFormOfToday (D.files devices.old.disk.now) → (name ≡ Flat) × IsCorruptAt (non_zero_u32_get limit) (D.files devices.old.disk.now) place }
         // .. and where there is such a record, the answer is Corrupt at its gate, but where a device, a cut or want of memory ended it before.
@@ -462,7 +554,7 @@ impl<Dir: Drop> Store<Dir> {
         self.dealings.get(epoch, dealer)
     }
 
-    /// This node as a player of an epoch's round, over the recorded dealings and logs.
+    /// This node as a player of an epoch's round, over the recorded dealings and logs, whatever the logs' heights.
     ///
     /// It answers as `create_player_with_logs` does of the recorded logs.
     pub fn create_player<C: Ceremony>(
@@ -477,15 +569,15 @@ impl<Dir: Drop> Store<Dir> {
         ensures me { IfOk result (λ made. IfSome made (λ player. player.me ≡ me)) }
         ensures round { IfOk result (λ made. IfSome made (λ player. player.round ≡ round.now)) }
         ensures acks { IfOk result (λ made. IfSome made (λ player. player.acks ≡ map.empty)) }
-        ensures some { IfOk result (λ made. is_some made ≡ not (has_orphan (λ dealer log. C.bears_ack_of round.now dealer log me) epoch self.now.dealings (at_epoch epoch self.now.logs))) }
+        ensures some { IfOk result (λ made. is_some made ≡ not (has_orphan (λ dealer log. C.bears_ack_of round.now dealer log me) (at_epoch epoch self.now.dealings) (bare_logs (at_epoch epoch self.now.logs)))) }
         // It has its own copy of what is recorded of the epoch, and each of that passes the check.
         ensures dealings { IfOk result (λ made. IfSome made (λ player. map.entries player.dealings ≡ at_epoch epoch self.now.dealings)) }
         ensures checked { IfOk result (λ made. IfSome made (λ player. AreChecked (C.dealing_of round.now me) player.dealings)) }
         ensures passes { IfOk result (λ made. IfSome made (λ player. first_refused (C.dealing_of round.now me) (of_epoch epoch self.now.dealings) ≡ None)) }
         ensures kinds { IfErr result IsOfPlaying }
-        ensures stored { IfErr result (λ e. (e ≡ StoreError.NoMemory) ⊎ ((dealer : ℕ) × (e ≡ StoreError.LocalState (LocalCause.StoredDealing epoch dealer)) × (first_refused (C.dealing_of round.now me) (of_epoch epoch self.now.dealings) ≡ Some dealer) × (has_orphan (λ dealer log. C.bears_ack_of round.now dealer log me) epoch self.now.dealings (at_epoch epoch self.now.logs) ≡ false))) }
+        ensures stored { IfErr result (λ e. (e ≡ StoreError.NoMemory) ⊎ ((dealer : ℕ) × (e ≡ StoreError.LocalState (LocalCause.StoredDealing epoch dealer)) × (first_refused (C.dealing_of round.now me) (of_epoch epoch self.now.dealings) ≡ Some dealer) × (has_orphan (λ dealer log. C.bears_ack_of round.now dealer log me) (at_epoch epoch self.now.dealings) (bare_logs (at_epoch epoch self.now.logs)) ≡ false))) }
     {
-        let logs = self.logs(alloc, epoch)?;
+        let logs = bare_logs(alloc, &self.logs, epoch)?;
         self.create_player_with_logs(alloc, ceremony, epoch, me, round, &logs)
     }
 
@@ -507,13 +599,13 @@ impl<Dir: Drop> Store<Dir> {
         ensures me { IfOk result (λ made. IfSome made (λ player. player.me ≡ me)) }
         ensures round { IfOk result (λ made. IfSome made (λ player. player.round ≡ round.now)) }
         ensures acks { IfOk result (λ made. IfSome made (λ player. player.acks ≡ map.empty)) }
-        ensures some { IfOk result (λ made. is_some made ≡ not (has_orphan (λ dealer log. C.bears_ack_of round.now dealer log me) epoch self.now.dealings logs.now)) }
+        ensures some { IfOk result (λ made. is_some made ≡ not (has_orphan (λ dealer log. C.bears_ack_of round.now dealer log me) (at_epoch epoch self.now.dealings) logs.now)) }
         // It has its own copy of what is recorded of the epoch, and each of that passes the check.
         ensures dealings { IfOk result (λ made. IfSome made (λ player. map.entries player.dealings ≡ at_epoch epoch self.now.dealings)) }
         ensures checked { IfOk result (λ made. IfSome made (λ player. AreChecked (C.dealing_of round.now me) player.dealings)) }
         ensures passes { IfOk result (λ made. IfSome made (λ player. first_refused (C.dealing_of round.now me) (of_epoch epoch self.now.dealings) ≡ None)) }
         ensures kinds { IfErr result IsOfPlaying }
-        ensures stored { IfErr result (λ e. (e ≡ StoreError.NoMemory) ⊎ ((dealer : ℕ) × (e ≡ StoreError.LocalState (LocalCause.StoredDealing epoch dealer)) × (first_refused (C.dealing_of round.now me) (of_epoch epoch self.now.dealings) ≡ Some dealer) × (has_orphan (λ dealer log. C.bears_ack_of round.now dealer log me) epoch self.now.dealings logs.now ≡ false))) }
+        ensures stored { IfErr result (λ e. (e ≡ StoreError.NoMemory) ⊎ ((dealer : ℕ) × (e ≡ StoreError.LocalState (LocalCause.StoredDealing epoch dealer)) × (first_refused (C.dealing_of round.now me) (of_epoch epoch self.now.dealings) ≡ Some dealer) × (has_orphan (λ dealer log. C.bears_ack_of round.now dealer log me) (at_epoch epoch self.now.dealings) logs.now ≡ false))) }
     {
         if has_orphan(alloc, ceremony, &self.dealings, epoch, me, round, logs)? {
             return Ok(None);
@@ -529,6 +621,7 @@ impl<Dir: Drop> Store<Dir> {
     /// check of it. The same share and seed give the same dealing.
     ///
     /// None: this node's log is recorded. LocalState: else ShareRefused, where the ceremony refuses the share.
+    #[tactic(auto, using(crate::proofs::Listed::passing_listed))]
     pub fn create_dealer<C: Ceremony>(
         &self,
         alloc: Global,
@@ -544,7 +637,7 @@ impl<Dir: Drop> Store<Dir> {
         ensures me { IfOk result (λ made. IfSome made (λ dealer. dealer.me ≡ C.Signer.key_of signer.now)) }
         ensures round { IfOk result (λ made. IfSome made (λ dealer. dealer.round ≡ round.now)) }
         ensures dealt { IfOk result (λ made. IfSome made (λ dealer. C.deal_of round.now (C.Signer.key_of signer.now) (option_copied share.entry) seed.now ≡ Ok (dealer.public, dealer.privates))) }
-        ensures acks { IfOk result (λ made. IfSome made (λ dealer. dealer.acks ≡ passing (C.check_ack_of round.now (C.Signer.key_of signer.now) dealer.public) (at_epoch epoch self.now.acks))) }
+        ensures acks { IfOk result (λ made. IfSome made (λ dealer. map.entries dealer.acks ≡ passing_acks (C.check_ack_of round.now (C.Signer.key_of signer.now) dealer.public) (at_epoch epoch self.now.acks))) }
         ensures open { IfOk result (λ made. IfSome made (λ dealer. dealer.is_open ≡ true)) }
         ensures finalized { IfOk result (λ made. IfSome made (λ dealer. dealer.finalized ≡ None)) }
         ensures dealer { IfOk result (λ made. IfSome made (λ dealer. IsDealerOf C.deal_of C.check_ack_of dealer)) }
@@ -594,7 +687,7 @@ impl<Dir: Drop> Store<Dir> {
         ensures later_secrets { X.faults devices.old.secrets.now ≤ X.faults devices.new.secrets.now }
         // Each image with the secrets is whole as before, and gives the same dealings.
         ensures holds { (pairs : Pairs) → Holds pairs (D.image devices.old.disk.now) (X.held devices.old.secrets.now) → Holds pairs (D.image devices.new.disk.now) (X.held devices.new.secrets.now) }
-        ensures acts { IsTrue D.tells → IsTrue X.tells → (out : List Line) → MadeAt (sharing epoch) (ended result) (D.files devices.old.disk.now) (D.image devices.old.disk.now) (D.files devices.new.disk.now) (D.image devices.new.disk.now) (moment out (X.held devices.old.secrets.now) devices.old.fuse) (moment out (X.held devices.new.secrets.now) devices.new.fuse) }
+        ensures acts { IsTrue D.tells → IsTrue X.tells → (out : List Line) → MadeOn D.files D.image X.held (sharing epoch) (ended result) devices.old devices.new out out }
         ensures calls { X.made devices.old.secrets.now devices.new.secrets.now [] }
         ensures same_disk { devices.new.disk.ghost_name ≡ devices.old.disk.ghost_name }
         ensures same_secrets { devices.new.secrets.ghost_name ≡ devices.old.secrets.ghost_name }
@@ -625,7 +718,7 @@ impl<Dir: Drop> Store<Dir> {
         ensures later_secrets { X.faults devices.old.secrets.now ≤ X.faults devices.new.secrets.now }
         // Each image with the secrets is whole as before, and gives the same dealings.
         ensures holds { (pairs : Pairs) → Holds pairs (D.image devices.old.disk.now) (X.held devices.old.secrets.now) → Holds pairs (D.image devices.new.disk.now) (X.held devices.new.secrets.now) }
-        ensures acts { IsTrue D.tells → IsTrue X.tells → (out : List Line) → MadeAt (seeding epoch) (ended result) (D.files devices.old.disk.now) (D.image devices.old.disk.now) (D.files devices.new.disk.now) (D.image devices.new.disk.now) (moment out (X.held devices.old.secrets.now) devices.old.fuse) (moment out (X.held devices.new.secrets.now) devices.new.fuse) }
+        ensures acts { IsTrue D.tells → IsTrue X.tells → (out : List Line) → MadeOn D.files D.image X.held (seeding epoch) (ended result) devices.old devices.new out out }
         ensures calls { X.made devices.old.secrets.now devices.new.secrets.now [] }
         ensures same_disk { devices.new.disk.ghost_name ≡ devices.old.disk.ghost_name }
         ensures same_secrets { devices.new.secrets.ghost_name ≡ devices.old.secrets.ghost_name }
@@ -661,7 +754,7 @@ impl<Dir: Drop> Store<Dir> {
         ensures kinds { IfErr result IsOfSecrets }
         // Wherever it stops, each image with the secrets is whole as before, and gives the same dealings.
         ensures holds { (pairs : Pairs) → Holds pairs (D.image devices.old.disk.now) (X.held devices.old.secrets.now) → Holds pairs (D.image devices.new.disk.now) (X.held devices.new.secrets.now) }
-        ensures acts { IsTrue D.tells → IsTrue X.tells → (out : List Line) → MadeAt (committing info.epoch seed share) (ended result) (D.files devices.old.disk.now) (D.image devices.old.disk.now) (D.files devices.new.disk.now) (D.image devices.new.disk.now) (moment out (X.held devices.old.secrets.now) devices.old.fuse) (moment out (X.held devices.new.secrets.now) devices.new.fuse) }
+        ensures acts { IsTrue D.tells → IsTrue X.tells → (out : List Line) → MadeOn D.files D.image X.held (committing info.epoch seed share) (ended result) devices.old devices.new out out }
         ensures cut { IsErrOf result StoreError.Cut → Reached devices.old.fuse devices.new.fuse }
         ensures not_cut { OnOk result (Reached devices.old.fuse devices.new.fuse → ⊥) }
         ensures all { OnOk result (RanAll X.made devices.old.secrets.now devices.new.secrets.now devices.old.fuse devices.new.fuse (commit_calls info.epoch seed share)) }
@@ -684,6 +777,8 @@ impl<Dir: Drop> Store<Dir> {
     /// Forgets what is below the minimum: it prunes the journal, and then the secrets. No file comes or goes, wherever it stops, also where
     /// nothing is left of the journal.
     ///
+    /// After an error all is kept in memory as it was. Want of memory leaves all as before, but where a device itself wanted it.
+    ///
     /// The time is linear in the journal's file, and in what goes of the secrets.
     pub fn prune<D: Disk, X: SecretStore>(
         &mut self,
@@ -693,9 +788,11 @@ impl<Dir: Drop> Store<Dir> {
     ) -> Result<(), StoreError>
         requires { IsTrue D.tells → IsOpen self.old.journal (D.files devices.old.disk.now) (D.image devices.old.disk.now) }
         ensures open { OnOk result (IsTrue D.tells → IsOpen self.new.journal (D.files devices.new.disk.now) (D.image devices.new.disk.now)) }
-        ensures dealings { self.new.dealings ≡ map.retain_keys self.old.dealings (λ key. nat_le min key.0) }
-        ensures acks { self.new.acks ≡ map.retain_keys self.old.acks (λ key. nat_le min key.0) }
-        ensures logs { self.new.logs ≡ map.retain_keys self.old.logs (λ key. nat_le min key.0) }
+        ensures dealings { OnOk result (self.new.dealings ≡ map.retain_keys self.old.dealings (λ key. nat_le min key.0)) }
+        ensures acks { OnOk result (self.new.acks ≡ map.retain_keys self.old.acks (λ key. nat_le min key.0)) }
+        ensures logs { OnOk result (self.new.logs ≡ map.retain_keys self.old.logs (λ key. nat_le min key.0)) }
+        // Nothing is forgotten that the devices may still hold.
+        ensures kept { OnErr result ((self.new.dealings ≡ self.old.dealings) × (self.new.acks ≡ self.old.acks) × (self.new.logs ≡ self.old.logs)) }
         ensures current { self.new.current ≡ self.old.current }
         ensures restored { self.new.restored ≡ self.old.restored }
         ensures done { OnOk result (IsTrue X.tells → X.held devices.new.secrets.now ≡ after (SecretOp.Prune min) (X.held devices.old.secrets.now)) }
@@ -704,18 +801,18 @@ impl<Dir: Drop> Store<Dir> {
         // Each image with the secrets then held is whole as before, and gives all dealings from before, or those at or above the minimum.
         ensures images { IsTrue D.tells → (pairs : Pairs) → Holds pairs (D.image devices.old.disk.now) (X.held devices.old.secrets.now) → HoldsEither pairs (map.retain_keys pairs (λ key. nat_le min key.0)) (D.image devices.new.disk.now) (X.held devices.new.secrets.now) }
         ensures images_acks { IsTrue D.tells → (acks : Notes (List ℕ)) → Gives acks_in acks (D.image devices.old.disk.now) → GivesEither acks_in acks (map.retain_keys acks (λ key. nat_le min key.0)) (D.image devices.new.disk.now) }
-        ensures images_logs { IsTrue D.tells → (logs : Notes Log) → Gives logs_in logs (D.image devices.old.disk.now) → GivesEither logs_in logs (map.retain_keys logs (λ key. nat_le min key.0)) (D.image devices.new.disk.now) }
+        ensures images_logs { IsTrue D.tells → (logs : Notes RecordedLog) → Gives logs_in logs (D.image devices.old.disk.now) → GivesEither logs_in logs (map.retain_keys logs (λ key. nat_le min key.0)) (D.image devices.new.disk.now) }
         // At Ok it is those at or above the minimum.
         ensures holds { OnOk result (IsTrue D.tells → (pairs : Pairs) → Holds pairs (D.image devices.old.disk.now) (X.held devices.old.secrets.now) → Holds (map.retain_keys pairs (λ key. nat_le min key.0)) (D.image devices.new.disk.now) (X.held devices.new.secrets.now)) }
         ensures gives_acks { OnOk result (IsTrue D.tells → (acks : Notes (List ℕ)) → Gives acks_in acks (D.image devices.old.disk.now) → Gives acks_in (map.retain_keys acks (λ key. nat_le min key.0)) (D.image devices.new.disk.now)) }
-        ensures gives_logs { OnOk result (IsTrue D.tells → (logs : Notes Log) → Gives logs_in logs (D.image devices.old.disk.now) → Gives logs_in (map.retain_keys logs (λ key. nat_le min key.0)) (D.image devices.new.disk.now)) }
+        ensures gives_logs { OnOk result (IsTrue D.tells → (logs : Notes RecordedLog) → Gives logs_in logs (D.image devices.old.disk.now) → Gives logs_in (map.retain_keys logs (λ key. nat_le min key.0)) (D.image devices.new.disk.now)) }
         // The journal, and then the secrets: both at Ok, and at any other exit a part, whatever image is left.
-        ensures acts { IsTrue D.tells → IsTrue X.tells → (out : List Line) → MadeAt (pruning (calls_of (Prunes min) (D.files devices.old.disk.now)) min) (ended result) (D.files devices.old.disk.now) (D.image devices.old.disk.now) (D.files devices.new.disk.now) (D.image devices.new.disk.now) (moment out (X.held devices.old.secrets.now) devices.old.fuse) (moment out (X.held devices.new.secrets.now) devices.new.fuse) }
+        ensures acts { IsTrue D.tells → IsTrue X.tells → (out : List Line) → MadeOn D.files D.image X.held (pruning min) (ended result) devices.old devices.new out out }
         ensures kinds { IfErr result IsOfPruning }
         ensures of_devices { IsTrue D.tells → IfErr result IsOfDevices }
         ensures all { OnOk result (IsTrue D.tells → RanAll (MadeBoth D.made X.made) (devices.old.disk.now, devices.old.secrets.now) (devices.new.disk.now, devices.new.secrets.now) devices.old.fuse devices.new.fuse (prune_both min (D.files devices.old.disk.now))) }
         ensures calls { IsTrue D.tells → Ran (MadeBoth D.made X.made) (devices.old.disk.now, devices.old.secrets.now) (devices.new.disk.now, devices.new.secrets.now) devices.old.fuse devices.new.fuse (prune_both min (D.files devices.old.disk.now)) }
-        ensures memory { IsErrOf result StoreError.NoMemory → IsWant ((self.new.journal ≡ self.old.journal) × D.made devices.old.disk.now devices.new.disk.now [] × IsUnchanged D.files D.image devices.old.disk.now devices.new.disk.now × (devices.new.secrets.now ≡ devices.old.secrets.now) × (devices.new.fuse ≡ devices.old.fuse)) (D.wants devices.old.disk.now) (D.wants devices.new.disk.now) (X.wants devices.old.secrets.now) (X.wants devices.new.secrets.now) }
+        ensures memory { IsErrOf result StoreError.NoMemory → IsWant ((self.new ≡ self.old) × D.made devices.old.disk.now devices.new.disk.now [] × IsUnchanged D.files D.image devices.old.disk.now devices.new.disk.now × (devices.new.secrets.now ≡ devices.old.secrets.now) × (devices.new.fuse ≡ devices.old.fuse)) (D.wants devices.old.disk.now) (D.wants devices.new.disk.now) (X.wants devices.old.secrets.now) (X.wants devices.new.secrets.now) }
         ensures later_disk { D.faults devices.old.disk.now ≤ D.faults devices.new.disk.now }
         ensures later_secrets { X.faults devices.old.secrets.now ≤ X.faults devices.new.secrets.now }
         ensures disk { IsErrOf result StoreError.Disk → Rose (D.faults devices.old.disk.now) (D.faults devices.new.disk.now) }
@@ -734,10 +831,11 @@ impl<Dir: Drop> Store<Dir> {
         ensures same_disk { devices.new.disk.ghost_name ≡ devices.old.disk.ghost_name }
         ensures same_secrets { devices.new.secrets.ghost_name ≡ devices.old.secrets.ghost_name }
     {
+        prune_devices(alloc, devices, &mut self.journal, min)?;
         self.dealings.prune(min.0);
         self.acks.prune(min.0);
         self.logs.prune(min.0);
-        prune_devices(alloc, devices, &mut self.journal, min)
+        Ok(())
     }
 
     /// Puts the private half, and then appends the record. It answers false where the dealer's is recorded already. The first record of
@@ -769,7 +867,7 @@ impl<Dir: Drop> Store<Dir> {
         // Each image gives the acknowledgements and the logs from before.
         ensures notes { IsTrue D.tells → Follows SameNotes (D.image devices.old.disk.now) (D.image devices.new.disk.now) }
         // The put, and then the append, where it was not recorded: both at Ok, and at any other exit a part, whatever image is left.
-        ensures acts { IsTrue D.tells → IsTrue X.tells → (out : List Line) → MadeAt (recording (map.contains_key self.old.dealings (epoch, dealer)) (has_file self.old.journal) epoch dealer public private) (ended result) (D.files devices.old.disk.now) (D.image devices.old.disk.now) (D.files devices.new.disk.now) (D.image devices.new.disk.now) (moment out (X.held devices.old.secrets.now) devices.old.fuse) (moment out (X.held devices.new.secrets.now) devices.new.fuse) }
+        ensures acts { IsTrue D.tells → IsTrue X.tells → (out : List Line) → MadeOn D.files D.image X.held (recording (map.contains_key self.old.dealings (epoch, dealer)) epoch dealer public private) (ended result) devices.old devices.new out out }
         ensures kinds { IfErr result IsOfDevices }
         ensures all { IfOk result (λ new. RanAll (MadeBoth D.made X.made) (devices.old.disk.now, devices.old.secrets.now) (devices.new.disk.now, devices.new.secrets.now) devices.old.fuse devices.new.fuse (if new then put_then_append (SecretOp.PutDealing epoch dealer private) self.old.journal (epoch, event_spelling (events.Dealing dealer public)) else [])) }
         ensures calls { Ran (MadeBoth D.made X.made) (devices.old.disk.now, devices.old.secrets.now) (devices.new.disk.now, devices.new.secrets.now) devices.old.fuse devices.new.fuse (put_then_append (SecretOp.PutDealing epoch dealer private) self.old.journal (epoch, event_spelling (events.Dealing dealer public))) }
@@ -841,7 +939,7 @@ impl<Dir: Drop> Store<Dir> {
         // Wherever it stops, each image with the secrets is whole as before, and gives the same dealings.
         ensures holds { IsTrue D.tells → (pairs : Pairs) → Holds pairs (D.image devices.old.disk.now) (X.held devices.old.secrets.now) → Holds pairs (D.image devices.new.disk.now) (X.held devices.new.secrets.now) }
         // The append, where it was not recorded: all of it at Ok, and at any other exit a part, whatever image is left.
-        ensures acts { IsTrue D.tells → (out : List Line) → MadeAt (noting (map.contains_key self.old.acks (epoch, player)) (has_file self.old.journal) (epoch, event_spelling (events.Ack player ack))) (ended result) (D.files devices.old.disk.now) (D.image devices.old.disk.now) (D.files devices.new.disk.now) (D.image devices.new.disk.now) (moment out (X.held devices.old.secrets.now) devices.old.fuse) (moment out (X.held devices.new.secrets.now) devices.new.fuse) }
+        ensures acts { IsTrue D.tells → (out : List Line) → MadeOn D.files D.image X.held (noting (map.contains_key self.old.acks (epoch, player)) (epoch, event_spelling (events.Ack player ack))) (ended result) devices.old devices.new out out }
         ensures kinds { IfErr result IsOfDevices }
         ensures not_secrets { IsErrOf result StoreError.Secrets → ⊥ }
         ensures all { IfOk result (λ new. RanAll D.made devices.old.disk.now devices.new.disk.now devices.old.fuse devices.new.fuse (if new then append_calls self.old.journal (epoch, event_spelling (events.Ack player ack)) else [])) }
@@ -883,22 +981,23 @@ impl<Dir: Drop> Store<Dir> {
         Ok(true)
     }
 
-    /// Appends the record of a dealer's log. It answers false where the dealer's is recorded already. The first record of all makes the
-    /// journal's file, and no other file comes or goes.
+    /// Appends the record of a dealer's log at the height of the block that carried it. It answers false where a log of the dealer is
+    /// recorded already, with a height or without. The first record of all makes the journal's file, and no other file comes or goes.
     pub fn append_log<D: Disk, X: SecretStore>(
         &mut self,
         alloc: Global,
         devices: &mut Devices<'_, D, X>,
         epoch: Epoch,
         dealer: Key,
+        height: Height,
         log: DealerLog,
     ) -> Result<bool, StoreError>
-        requires short { 8 + length (event_spelling (events.Log dealer log)) < 2 ^ 32 }
+        requires short { 8 + length (event_spelling (events.LogAt dealer height log)) < 2 ^ 32 }
         requires open { IsTrue D.tells → IsOpen self.old.journal (D.files devices.old.disk.now) (D.image devices.old.disk.now) }
         ensures open { OnOk result (IsTrue D.tells → IsOpen self.new.journal (D.files devices.new.disk.now) (D.image devices.new.disk.now)) }
         ensures known { IfOk result (λ new. new ≡ not (map.contains_key self.old.logs (epoch, dealer))) }
         // The first record stays.
-        ensures kept { IfOk result (λ new. self.new.logs ≡ (if new then map.insert self.old.logs (epoch, dealer) log else self.old.logs)) }
+        ensures kept { IfOk result (λ new. self.new.logs ≡ (if new then map.insert self.old.logs (epoch, dealer) (record { height = Some height; log = log }) else self.old.logs)) }
         ensures same { OnErr result (self.new.logs ≡ self.old.logs) }
         // What is recorded already touches nothing.
         ensures untouched { IfOk result (λ new. new ≡ false → (self.new ≡ self.old) × (devices.new ≡ devices.old)) }
@@ -908,23 +1007,23 @@ impl<Dir: Drop> Store<Dir> {
         ensures restored { self.new.restored ≡ self.old.restored }
         ensures gives { OnOk result (IsTrue D.tells → Gives logs_in self.old.logs (D.image devices.old.disk.now) → Gives logs_in self.new.logs (D.image devices.new.disk.now)) }
         // Each image gives what was recorded before, with the new record or without.
-        ensures images { IsTrue D.tells → Gives logs_in self.old.logs (D.image devices.old.disk.now) → GivesEither logs_in self.old.logs (map.insert self.old.logs (epoch, dealer) log) (D.image devices.new.disk.now) }
+        ensures images { IsTrue D.tells → Gives logs_in self.old.logs (D.image devices.old.disk.now) → GivesEither logs_in self.old.logs (map.insert self.old.logs (epoch, dealer) (record { height = Some height; log = log })) (D.image devices.new.disk.now) }
         ensures others { IsTrue D.tells → Gives acks_in self.old.acks (D.image devices.old.disk.now) → Gives acks_in self.old.acks (D.image devices.new.disk.now) }
         // Wherever it stops, each image with the secrets is whole as before, and gives the same dealings.
         ensures holds { IsTrue D.tells → (pairs : Pairs) → Holds pairs (D.image devices.old.disk.now) (X.held devices.old.secrets.now) → Holds pairs (D.image devices.new.disk.now) (X.held devices.new.secrets.now) }
         // The append, where it was not recorded: all of it at Ok, and at any other exit a part, whatever image is left.
-        ensures acts { IsTrue D.tells → (out : List Line) → MadeAt (noting (map.contains_key self.old.logs (epoch, dealer)) (has_file self.old.journal) (epoch, event_spelling (events.Log dealer log))) (ended result) (D.files devices.old.disk.now) (D.image devices.old.disk.now) (D.files devices.new.disk.now) (D.image devices.new.disk.now) (moment out (X.held devices.old.secrets.now) devices.old.fuse) (moment out (X.held devices.new.secrets.now) devices.new.fuse) }
+        ensures acts { IsTrue D.tells → (out : List Line) → MadeOn D.files D.image X.held (noting (map.contains_key self.old.logs (epoch, dealer)) (epoch, event_spelling (events.LogAt dealer height log))) (ended result) devices.old devices.new out out }
         ensures kinds { IfErr result IsOfDevices }
         ensures not_secrets { IsErrOf result StoreError.Secrets → ⊥ }
-        ensures all { IfOk result (λ new. RanAll D.made devices.old.disk.now devices.new.disk.now devices.old.fuse devices.new.fuse (if new then append_calls self.old.journal (epoch, event_spelling (events.Log dealer log)) else [])) }
-        ensures calls { Ran D.made devices.old.disk.now devices.new.disk.now devices.old.fuse devices.new.fuse (append_calls self.old.journal (epoch, event_spelling (events.Log dealer log))) }
+        ensures all { IfOk result (λ new. RanAll D.made devices.old.disk.now devices.new.disk.now devices.old.fuse devices.new.fuse (if new then append_calls self.old.journal (epoch, event_spelling (events.LogAt dealer height log)) else [])) }
+        ensures calls { Ran D.made devices.old.disk.now devices.new.disk.now devices.old.fuse devices.new.fuse (append_calls self.old.journal (epoch, event_spelling (events.LogAt dealer height log))) }
         ensures secrets { devices.new.secrets.now ≡ devices.old.secrets.now }
         ensures memory { IsErrOf result StoreError.NoMemory → ((self.new ≡ self.old) × (devices.new ≡ devices.old)) ⊎ Rose (D.wants devices.old.disk.now) (D.wants devices.new.disk.now) }
         ensures later_disk { D.faults devices.old.disk.now ≤ D.faults devices.new.disk.now }
         ensures disk { IsErrOf result StoreError.Disk → Rose (D.faults devices.old.disk.now) (D.faults devices.new.disk.now) }
         ensures cut { IsErrOf result StoreError.Cut → Reached devices.old.fuse devices.new.fuse }
         ensures not_cut { OnOk result (Reached devices.old.fuse devices.new.fuse → ⊥) }
-        ensures fit { IsTrue D.tells → (limit : ℕ) → is_event limit (event_spelling (events.Log dealer log)) ≡ true → AreFit limit (D.image devices.old.disk.now) → AreFit limit (D.image devices.new.disk.now) }
+        ensures fit { IsTrue D.tells → (limit : ℕ) → is_event limit (event_spelling (events.LogAt dealer height log)) ≡ true → AreFit limit (D.image devices.old.disk.now) → AreFit limit (D.image devices.new.disk.now) }
         // A crash leaves every file but the journal's as it was.
         ensures files { IsTrue D.tells → Follows (SameElse Flat) (D.image devices.old.disk.now) (D.image devices.new.disk.now) }
         // Where nothing of the disk was loose, each image has the names from before, or the journal's own with them. At Ok it has it, if the
@@ -939,8 +1038,12 @@ impl<Dir: Drop> Store<Dir> {
         if self.logs.get(epoch, dealer).is_some() {
             return Ok(false);
         }
-        log_fits(dealer, &log);
-        let body = log_body(alloc, dealer, &log)?;
+        log_fits(dealer, height, &log);
+        let body = log_body(alloc, dealer, height, &log)?;
+        let recorded = RecordedLog {
+            height: Some(height),
+            log,
+        };
         append_event(
             alloc,
             &mut self.logs,
@@ -949,7 +1052,7 @@ impl<Dir: Drop> Store<Dir> {
             &mut devices.fuse,
             epoch,
             dealer,
-            log,
+            recorded,
             &body,
         )?;
         Ok(true)
@@ -964,14 +1067,23 @@ impl<Dir: Drop> Store<Dir> {
         map_of_epoch(alloc, &self.dealings, epoch)
     }
 
-    /// The recorded logs of an epoch by dealer.
-    pub fn logs(&self, alloc: Global, epoch: Epoch) -> Mem<Map<DealerLog>>
-        ensures { IfOk result (λ logs. logs ≡ at_epoch epoch self.now.logs) }
+    /// The recorded logs of an epoch by dealer, of blocks at or below the tip; without a tip there are none. A log that was recorded
+    /// without a height stands at the midpoint of its epoch.
+    ///
+    /// The time is linear in the epoch's logs, but for one look-up among all that are recorded.
+    pub fn logs(
+        &self,
+        alloc: Global,
+        epoch: Epoch,
+        midpoint: Height,
+        tip: Option<Height>,
+    ) -> Mem<Map<DealerLog>>
+        ensures { IfOk result (λ logs. logs ≡ reached_logs midpoint tip (at_epoch epoch self.now.logs)) }
     {
-        map_of_epoch(alloc, &self.logs, epoch)
+        reached_logs(alloc, &self.logs, epoch, midpoint, tip)
     }
 
-    /// Whether a dealer's log is recorded. The time is logarithmic in how many are recorded.
+    /// Whether a dealer's log is recorded, at whatever height. The time is logarithmic in how many are recorded.
     pub fn has_log(&self, epoch: Epoch, dealer: Key) -> bool
         ensures { result ≡ map.contains_key self.now.logs (epoch, dealer) }
     {

@@ -7,10 +7,10 @@ use Rattle.dkg_run.proofs.Stops.{store_accepts}
 use Rattle.dkg_run.proofs.node.prune.Goals as goal
 
 pub returns-clause-dealings : goal.returns-clause-dealings
-returns-clause-dealings g c = c.prune.ensures.dealings ∙ keeps_all _
+returns-clause-dealings g c = c.in_ok-prune.ensures.dealings ∙ keeps_all _
 
 pub returns-clause-logs : goal.returns-clause-logs
-returns-clause-logs g c = c.prune.ensures.logs ∙ keeps_all _
+returns-clause-logs g c = c.in_ok-prune.ensures.logs ∙ keeps_all _
 
 pub returns-clause-today : goal.returns-clause-today
 returns-clause-today g c = λ told. others_today _ _ (c.prune.ensures.others told) (c.requires.ready told).today
@@ -22,10 +22,10 @@ pub returns-clause-keeps_logs : goal.returns-clause-keeps_logs
 returns-clause-keeps_logs g c = λ told. logs_pruned _ _ (c.prune.ensures.images_logs told)
 
 pub returns-in_err-prune-clause-dealings : goal.returns-in_err-prune-clause-dealings
-returns-in_err-prune-clause-dealings g c = c.prune.ensures.dealings ∙ keeps_all _
+returns-in_err-prune-clause-dealings g c = c.in_err-prune.ensures.kept.0
 
 pub returns-in_err-prune-clause-logs : goal.returns-in_err-prune-clause-logs
-returns-in_err-prune-clause-logs g c = c.prune.ensures.logs ∙ keeps_all _
+returns-in_err-prune-clause-logs g c = c.in_err-prune.ensures.kept.2
 
 pub returns-in_err-prune-clause-today : goal.returns-in_err-prune-clause-today
 returns-in_err-prune-clause-today g c = λ told. others_today _ _ (c.prune.ensures.others told) (c.requires.ready told).today

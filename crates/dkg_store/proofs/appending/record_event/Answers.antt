@@ -2,7 +2,11 @@ use Rattle.std.proofs.Common.{refl, sym, subst, ap, ◌∙◌}
 use Rattle.std.specs.FinMap as map
 use Rattle.dkg_store.specs.Errors.{IsOfDevices}
 use Rattle.dkg_store.specs.Noted.{Notes}
-use Rattle.dkg_store.proofs.Acting.{alone_torn, alone_alike, breaks_off, of_journal_too}
+use Rattle.dkg_store.specs.Acts.{EndsBy}
+use Rattle.dkg_store.specs.Calls.{cause_of}
+use Rattle.dkg_store.specs.declared.call.StoreError.{StoreError}
+use Rattle.dkg_store.proofs.Acting.{alone_torn, alone_done, alone_alike, breaks_off, of_journal_too}
+use Rattle.dkg_store.proofs.Making.{journal_end}
 use Rattle.dkg_store.proofs.Map.{remove_insert, keys_total, exact_keys}
 use Rattle.dkg_store.proofs.Others.{others_of, not_added}
 use Rattle.dkg_store.proofs.Fit.{may_add_fit}
@@ -20,8 +24,14 @@ returns-in-Err-clause-kept g c =
 pub returns-in-Err-clause-acts : goal.returns-in-Err-clause-acts
 returns-in-Err-clause-acts g c = λ told out s.
     alone_alike c.epoch.view_is refl
-    (alone_torn c.args.journal.now _ tt (g.D.Disk.files c.args.disk.now) (g.D.Disk.image c.args.disk.now) out s c.args.fuse.now _ _ _
-    (breaks_off c.from.result (subst IsOfDevices (sym c.from.ensures) (of_journal_too c.in-Err.error c.in-Err.ensures.kinds))) (c.append_ready.ensures.images told) c.append_ready.ensures.calls)
+    (alone_torn (_, c.args.body.now) tt (cause_of c.of_journal.result)
+    (breaks_off c.of_journal.result (subst IsOfDevices (sym c.of_journal.ensures) (of_journal_too c.in-Err.error c.in-Err.ensures.kinds))) (λ stands. c.append_ready.ensures.tried told stands.lands)
+    (subst (λ (e : StoreError). EndsBy (cause_of e) c.args.fuse.now c.append_ready.new.fuse) (sym c.of_journal.ensures) (journal_end _ c.in-Err.error refl c.in-Err.ensures.fused)))
+
+pub returns-clause-acts : goal.returns-clause-acts
+returns-clause-acts g c = λ told out s.
+    alone_alike c.epoch.view_is refl
+    (alone_done (_, c.args.body.now) tt refl (λ stands. c.in_default.ensures.done told stands.lands) (g.met.D.Disk.reads _ told))
 
 pub returns-in-Err-clause-others : goal.returns-in-Err-clause-others
 returns-in-Err-clause-others g c told = others_of _ _ _ (c.append_ready.ensures.images told)

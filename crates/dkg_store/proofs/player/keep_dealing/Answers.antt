@@ -2,11 +2,12 @@ use Rattle.std.proofs.Common.{◌≡◌, List, ℕ, ap, ◌∙◌, inl, inr, ⊎
 use Rattle.std.specs.Ordering.{nat_cmp}
 use Rattle.std.specs.FinMap as map
 use Rattle.std.specs.Cmp.{nat_cmp_total}
-use Rattle.dkg_journal.specs.Journals.{has_file}
 use Rattle.dkg_store.specs.declared.call.StoreError.TheVariants.{NoMemory}
 use Rattle.std.proofs.lemmas.Result.{err_from_is_err_and}
 use Rattle.dkg_types.specs.declared.entry.Entry.TheVariants.{Recorded}
-use Rattle.dkg_store.specs.Acts.{Say, Goes}
+use Rattle.dkg_store.specs.Acts.{Say, Goes, broken, by_want}
+use Rattle.dkg_store.specs.Calls.{cause_of}
+use Rattle.dkg_store.specs.declared.call.StoreError.{StoreError}
 use Rattle.dkg_store.specs.Errors.{IsOfDevices}
 use Rattle.dkg_store.proofs.Acts.{made_next, made_none, made_say}
 use Rattle.dkg_store.proofs.Acting.{then_broken, ended_broken, breaks_off}
@@ -40,12 +41,12 @@ returns-in_err-new-clause-calls g c = none_ran g.D.Disk.made g.X.SecretStore.mad
 pub returns-in_err-new-clause-acts : goal.returns-in_err-new-clause-acts
 returns-in_err-new-clause-acts g c = λ told_disk told_secrets.
     let p = err_from_is_err_and c.from_residual.result c.from_residual.ensures.1 in
-    made_none _ _ _ _ (ended_broken (λ u. u) c.from_residual.result p.0 p.1 (subst IsOfDevices (sym (p.2 ∙ c.in_err-new.ensures.memory)) tt))
+    made_none _ _ _ _ by_want tt (ended_broken (λ u. u) c.from_residual.result p.0 p.1 (subst IsOfDevices (sym (p.2 ∙ c.in_err-new.ensures.memory)) tt) ∙ ap (λ (e : StoreError). broken (cause_of e)) (p.2 ∙ c.in_err-new.ensures.memory))
 
 pub returns-in-Err-clause-acts : goal.returns-in-Err-clause-acts
 returns-in-Err-clause-acts g c = λ told_disk told_secrets.
     then_broken (λ (b : Bool). Say (Recorded c.args.epoch c.args.dealer c.args.told c.args.private) (Goes tt)) c.in-Err.error c.in-Err.ensures.kinds (breaks_off c.in-Err.error c.in-Err.ensures.kinds)
-    (recorded_new (map.contains_key c.args.store.now.dealings (c.args.epoch, c.args.dealer)) (has_file c.args.store.now.journal) c.args.epoch c.args.dealer c.args.public c.args.private (ap is_some c.requires.unrecorded)
+    (recorded_new (map.contains_key c.args.store.now.dealings (c.args.epoch, c.args.dealer)) c.args.epoch c.args.dealer c.args.public c.args.private (ap is_some c.requires.unrecorded)
     (c.in-Err.ensures.acts told_disk told_secrets c.args.out.now.entries))
 
 when_ok : {T E P : Type 0} (r : Result T E) → is_ok r ≡ true → OnOk r P → P
@@ -56,7 +57,7 @@ pub returns-in-Ok-clause-acts : goal.returns-in-Ok-clause-acts
 returns-in-Ok-clause-acts g c = λ told_disk told_secrets.
     let said : c.push-pushed.new.self.entries ≡ c.args.out.now.entries ++ Recorded c.args.epoch c.args.dealer c.args.told c.args.private ∷ [] = when_ok c.push-pushed.result (sym c.if-prove.ensures.value) c.push-pushed.ensures.ok in
     made_next (λ (b : Bool). Say (Recorded c.args.epoch c.args.dealer c.args.told c.args.private) (Goes tt))
-    (recorded_new (map.contains_key c.args.store.now.dealings (c.args.epoch, c.args.dealer)) (has_file c.args.store.now.journal) c.args.epoch c.args.dealer c.args.public c.args.private (ap is_some c.requires.unrecorded)
+    (recorded_new (map.contains_key c.args.store.now.dealings (c.args.epoch, c.args.dealer)) c.args.epoch c.args.dealer c.args.public c.args.private (ap is_some c.requires.unrecorded)
     (c.in-Ok.ensures.acts told_disk told_secrets c.args.out.now.entries))
     (made_say _ _ _ tt _ _ _ _ said)
 

@@ -9,7 +9,7 @@ use Rattle.dkg_store.specs.Pairs.{Pairs, with_dealing, dealing_of}
 use Rattle.dkg_journal.specs.Views.{view}
 use Rattle.dkg_store.proofs.Corrupt.{same_error}
 use Rattle.dkg_store.specs.Noted.{Notes, with_note, noted_ack, noted_log}
-use Rattle.dkg_ceremony.specs.declared.dealer_log.DealerLog.{DealerLog}
+use Rattle.dkg_store.specs.declared.recorded_log.RecordedLog.{RecordedLog}
 use Rattle.dkg_store.proofs.Replayed.{one_more, one_note}
 use Rattle.dkg_store.proofs.Recorded.{begins, event_passes, event_stops}
 use Rattle.dkg_store.proofs.restoring.restore.Goals as goal
@@ -28,7 +28,7 @@ loop-entry-preserved g c = record {
       ∙ ap (λ (m : Notes (List ℕ)). with_note m (noted_ack (view c.entry-item.result))) c.loop-entry.invariant.acks
       ∙ sym (one_note noted_ack c.args.entries.now c.loop-entry.entry-index c.entry-item.result c.loop-entry-test.true c.entry-item.is);
   logs = c.in_ok-restore_one.ensures.logs
-      ∙ ap (λ (m : Notes DealerLog). with_note m (noted_log (view c.entry-item.result))) c.loop-entry.invariant.logs
+      ∙ ap (λ (m : Notes RecordedLog). with_note m (noted_log (view c.entry-item.result))) c.loop-entry.invariant.logs
       ∙ sym (one_note noted_log c.args.entries.now c.loop-entry.entry-index c.entry-item.result c.loop-entry-test.true c.entry-item.is);
   same = c.restore_one.ensures.same ∙ c.loop-entry.invariant.same;
   later = omega (arith, c.loop-entry.invariant.later, c.restore_one.ensures.later);

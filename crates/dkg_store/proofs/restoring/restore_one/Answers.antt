@@ -1,5 +1,5 @@
 use Rattle.std.proofs.Common.{◌≡◌, List, ℕ, Option, OnOk, IsTrue, sym, ap, subst, ◌∙◌}
-use Rattle.dkg_ceremony.specs.declared.dealer_log.DealerLog.{DealerLog}
+use Rattle.dkg_store.specs.declared.recorded_log.RecordedLog.{RecordedLog}
 use Rattle.dkg_values.specs.Codec.{whole}
 use Rattle.dkg_journal.specs.Views.{view}
 use Rattle.dkg_store.specs.Events.{event_at}
@@ -20,5 +20,5 @@ returns-in-Ok-clause-acks g c =
 
 pub returns-in-Ok-clause-logs : goal.returns-in-Ok-clause-logs
 returns-in-Ok-clause-logs g c =
-    subst (λ (o : Option (Note DealerLog)). OnOk c.restore_event.result (c.restore_event.new.recorded.logs ≡ with_note c.args.recorded.now.logs o))
+    subst (λ (o : Option (Note RecordedLog)). OnOk c.restore_event.result (c.restore_event.new.recorded.logs ≡ with_note c.args.recorded.now.logs o))
     (sym (is_log c.args.limit (view c.args.entry.now) c.in-Ok.event c.ranges.limit.fits (ap (λ (b : List ℕ). whole (event_at c.args.limit b)) (sym c.as_slice.ensures) ∙ c.in-Ok.ensures))) c.restore_event.ensures.logs

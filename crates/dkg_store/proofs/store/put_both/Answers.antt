@@ -4,11 +4,12 @@ use Rattle.dkg_journal.proofs.Steps.{then_all, ran_all}
 use Rattle.dkg_store.specs.Commits.{commit_calls}
 use Rattle.dkg_store.specs.declared.secrets.SecretOp.TheVariants.{PutShare, PutSeed}
 use Rattle.std.proofs.lemmas.Result.{err_from_is_err_and}
-use Rattle.dkg_store.specs.Acts.{Runs, world}
-use Rattle.dkg_store.specs.Calls.{committing, ended}
+use Rattle.dkg_store.specs.Acts.{EndsBy, Runs, world}
+use Rattle.dkg_store.specs.Calls.{cause_of, committing, ended}
+use Rattle.dkg_store.specs.declared.call.StoreError.{StoreError}
 use Rattle.dkg_store.specs.Errors.{IsOfDevices}
 use Rattle.dkg_store.proofs.Acting.{ended_broken, of_secrets_too}
-use Rattle.dkg_store.proofs.Changing.{seed_torn}
+use Rattle.dkg_store.proofs.Making.{run_second}
 use Rattle.dkg_store.proofs.Both.{one_call}
 use Rattle.dkg_store.proofs.store.put_both.Goals as goal
 
@@ -30,9 +31,10 @@ pub returns-in_ok-perform_secret-in-Some-2-clause-calls : goal.returns-in_ok-per
 returns-in_ok-perform_secret-in-Some-2-clause-calls g c = ran_all _ _ _ _ _ _ (returns-in_ok-perform_secret-in-Some-2-clause-all g c)
 
 pub returns-in_err-perform_secret-in-Some-2-clause-acts : goal.returns-in_err-perform_secret-in-Some-2-clause-acts
-returns-in_err-perform_secret-in-Some-2-clause-acts g c = λ told out notes plan.
+returns-in_err-perform_secret-in-Some-2-clause-acts g c = λ told out j.
     let p = err_from_is_err_and c.from_residual-in_err-perform_secret-in-Some-2.result c.from_residual-in_err-perform_secret-in-Some-2.ensures.1 in
-    subst (λ (o : Option ℕ). Runs (committing c.args.epoch c.args.seed o) (ended c.from_residual-in_err-perform_secret-in-Some-2.result) (world out notes plan (g.X.SecretStore.held c.args.secrets.now) c.args.fuse.now) (world out notes plan (g.X.SecretStore.held c.perform_secret-in-Some-2.new.secrets) c.perform_secret-in-Some-2.new.fuse)) (sym c.in-Some.is)
-    (seed_torn c.args.epoch c.args.seed c.in-Some.share out notes plan _ _ (g.X.SecretStore.held c.perform_secret-in-Some.new.secrets) _ _ c.perform_secret-in-Some.new.fuse _
+    subst (λ (o : Option ℕ). Runs (committing c.args.epoch c.args.seed o) (ended c.from_residual-in_err-perform_secret-in-Some-2.result) (world out j (g.X.SecretStore.held c.args.secrets.now) c.args.fuse.now) (world out j (g.X.SecretStore.held c.perform_secret-in-Some-2.new.secrets) c.perform_secret-in-Some-2.new.fuse)) (sym c.in-Some.is)
+    (run_second out j (g.X.SecretStore.held c.args.secrets.now) c.args.fuse.now (PutShare c.args.epoch c.in-Some.share) (PutSeed c.args.epoch c.args.seed) tt _ (g.X.SecretStore.held c.perform_secret-in-Some.new.secrets) _ c.perform_secret-in-Some.new.fuse _ (cause_of p.0)
     (ended_broken (λ u. u) c.from_residual-in_err-perform_secret-in-Some-2.result p.0 p.1 (subst IsOfDevices (sym p.2) (of_secrets_too c.in_err-perform_secret-in-Some-2.field-0.0 c.in_err-perform_secret-in-Some-2.ensures.kinds)))
-    (c.in_ok-perform_secret-in-Some.ensures.done told) c.perform_secret-in-Some.ensures.counted c.perform_secret-in-Some-2.ensures.crash c.perform_secret-in-Some-2.ensures.counted)
+    (c.in_ok-perform_secret-in-Some.ensures.done told) c.perform_secret-in-Some.ensures.counted c.perform_secret-in-Some-2.ensures.crash c.perform_secret-in-Some-2.ensures.counted
+    (subst (λ (e : StoreError). EndsBy (cause_of e) c.perform_secret-in-Some.new.fuse c.perform_secret-in-Some-2.new.fuse) (sym p.2) c.in_err-perform_secret-in-Some-2.ensures.ends))

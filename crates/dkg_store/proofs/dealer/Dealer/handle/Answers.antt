@@ -2,7 +2,6 @@ use Rattle.std.proofs.Common.{inl, inr, ◌||◌, Bool, not, true, false, is_som
 use Rattle.std.specs.Cmp.{nat_cmp_total}
 use Rattle.std.specs.FinMap as map
 use Rattle.dkg_store.specs.Dealer.{AckMap, IsDealerOf}
-use Rattle.dkg_journal.specs.Journals.{has_file}
 use Rattle.dkg_store.specs.Events.{event_spelling}
 use Rattle.dkg_store.specs.declared.event.Event.TheVariants as events
 use Rattle.dkg_store.specs.declared.call.StoreError.{StoreError}
@@ -29,12 +28,12 @@ returns-in-Ok-false-clause-dealer g c = λ is.
 
 pub returns-in-Ok-true-clause-acts : goal.returns-in-Ok-true-clause-acts
 returns-in-Ok-true-clause-acts g c = λ told out.
-    acking_done (g.C.Ceremony.check_ack_of c.args.self.now.round c.args.self.now.me c.args.self.now.public c.args.player c.args.ack) (is_some (map.get c.args.self.now.acks c.args.player)) (map.contains_key c.args.store.now.acks (c.args.epoch, c.args.player)) (has_file c.args.store.now.journal) (c.args.epoch, event_spelling (events.Ack c.args.player c.args.ack))
+    acking_done (g.C.Ceremony.check_ack_of c.args.self.now.round c.args.self.now.me c.args.self.now.public c.args.player c.args.ack) (is_some (map.get c.args.self.now.acks c.args.player)) (map.contains_key c.args.store.now.acks (c.args.epoch, c.args.player)) (c.args.epoch, event_spelling (events.Ack c.args.player c.args.ack))
     c.in_ok-check.ensures.passed (ap is_some (sym c.kept_ack.ensures) ∙ sym c.is_some.ensures ∙ c.if-is_some.false) c.in-Ok-true.field-0 true c.in-Ok-true.field-0-test (c.in-Ok-true.ensures.acts told out)
 
 pub returns-in-Ok-false-clause-acts : goal.returns-in-Ok-false-clause-acts
 returns-in-Ok-false-clause-acts g c = λ told out.
-    acking_done (g.C.Ceremony.check_ack_of c.args.self.now.round c.args.self.now.me c.args.self.now.public c.args.player c.args.ack) (is_some (map.get c.args.self.now.acks c.args.player)) (map.contains_key c.args.store.now.acks (c.args.epoch, c.args.player)) (has_file c.args.store.now.journal) (c.args.epoch, event_spelling (events.Ack c.args.player c.args.ack))
+    acking_done (g.C.Ceremony.check_ack_of c.args.self.now.round c.args.self.now.me c.args.self.now.public c.args.player c.args.ack) (is_some (map.get c.args.self.now.acks c.args.player)) (map.contains_key c.args.store.now.acks (c.args.epoch, c.args.player)) (c.args.epoch, event_spelling (events.Ack c.args.player c.args.ack))
     c.in_ok-check.ensures.passed (ap is_some (sym c.kept_ack.ensures) ∙ sym c.is_some.ensures ∙ c.if-is_some.false) c.in-Ok-false.field-0 false c.in-Ok-false.field-0-test (c.in-Ok-false.ensures.acts told out)
 
 pub returns-in-Err-clause-uncounted : goal.returns-in-Err-clause-uncounted
@@ -49,7 +48,7 @@ returns-in-Err-clause-dealer g c = λ is.
 
 pub returns-in-Err-clause-acts : goal.returns-in-Err-clause-acts
 returns-in-Err-clause-acts g c = λ told out.
-    acking_broken (g.C.Ceremony.check_ack_of c.args.self.now.round c.args.self.now.me c.args.self.now.public c.args.player c.args.ack) (is_some (map.get c.args.self.now.acks c.args.player)) (map.contains_key c.args.store.now.acks (c.args.epoch, c.args.player)) (has_file c.args.store.now.journal) (c.args.epoch, event_spelling (events.Ack c.args.player c.args.ack))
+    acking_broken (g.C.Ceremony.check_ack_of c.args.self.now.round c.args.self.now.me c.args.self.now.public c.args.player c.args.ack) (is_some (map.get c.args.self.now.acks c.args.player)) (map.contains_key c.args.store.now.acks (c.args.epoch, c.args.player)) (c.args.epoch, event_spelling (events.Ack c.args.player c.args.ack))
     c.in_ok-check.ensures.passed (ap is_some (sym c.kept_ack.ensures) ∙ sym c.is_some.ensures ∙ c.if-is_some.false) c.in-Err.error c.in-Err.ensures.kinds (breaks_off c.in-Err.error c.in-Err.ensures.kinds) (c.in-Err.ensures.acts told out)
 
 pub returns-in-Err-clause-memory : goal.returns-in-Err-clause-memory

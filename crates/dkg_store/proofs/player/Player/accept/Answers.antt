@@ -5,9 +5,13 @@ use Rattle.dkg_store.specs.Pairs.{Pairs}
 use Rattle.dkg_store.specs.Recorded.{AreChecked, at_epoch, first_refused, of_epoch}
 use Rattle.dkg_store.specs.Player.{IsPlayerOf, Acknowledges}
 use Rattle.std.proofs.lemmas.Result.{err_from_is_err_and}
+use Rattle.dkg_types.specs.declared.entry.Entry.{Entry as Line}
+use Rattle.dkg_store.specs.Acts.{MadeAt, broken, by_want, moment}
+use Rattle.dkg_store.specs.Calls.{accepting, answered, cause_of}
 use Rattle.dkg_store.specs.Errors.{IsOfDevices}
+use Rattle.dkg_store.specs.declared.call.StoreError.{StoreError}
 use Rattle.dkg_store.proofs.Acts.{made_none_said}
-use Rattle.dkg_store.proofs.Answering.{answered_broken}
+use Rattle.dkg_store.proofs.Answering.{accepting_broken, answered_broken}
 use Rattle.dkg_store.proofs.Both.{none_ran}
 use Rattle.dkg_store.proofs.Own.{new_kept, first_checked}
 use Rattle.dkg_store.proofs.Passing.{one_more_passes}
@@ -40,7 +44,15 @@ returns-clause-player g c = λ is.
 pub returns-in_err-ack-clause-acts : goal.returns-in_err-ack-clause-acts
 returns-in_err-ack-clause-acts g c = λ told_disk told_secrets.
     let p = err_from_is_err_and c.from_residual.result c.from_residual.ensures.1 in
-    made_none_said _ _ _ c.ready_answer.ensures.same (answered_broken c.from_residual.result p.0 c.in_err-ack.field-0.0 p.1 p.2 (subst IsOfDevices (sym c.in_err-ack.ensures.memory) tt))
+    made_none_said _ _ _ by_want tt c.ready_answer.ensures.same (answered_broken c.from_residual.result p.0 c.in_err-ack.field-0.0 p.1 p.2 (subst IsOfDevices (sym c.in_err-ack.ensures.memory) tt) ∙ ap (λ (e : StoreError). broken (cause_of e)) c.in_err-ack.ensures.memory)
+
+pub returns-in_err-keep_dealing-clause-acts : goal.returns-in_err-keep_dealing-clause-acts
+returns-in_err-keep_dealing-clause-acts g c = λ told_disk told_secrets.
+    let p = err_from_is_err_and c.from_residual-in_err-keep_dealing.result c.from_residual-in_err-keep_dealing.ensures.1 in
+    subst (λ (l : List Line). MadeAt (accepting (g.C.Ceremony.dealing_of c.args.self.now.round c.args.self.now.me c.args.dealer c.args.public c.args.private) c.args.epoch c.args.dealer c.args.public c.args.private (g.C.Ceremony.ack_of c.args.self.now.me c.args.self.now.round c.args.dealer c.args.public)) (answered c.from_residual-in_err-keep_dealing.result) (g.D.Disk.files c.args.devices.now.disk.now) (g.D.Disk.image c.args.devices.now.disk.now) (g.D.Disk.files c.keep_dealing.new.devices.disk.now) (g.D.Disk.image c.keep_dealing.new.devices.disk.now) (moment l (g.X.SecretStore.held c.args.devices.now.secrets.now) c.args.devices.now.fuse) (moment c.keep_dealing.new.out.entries (g.X.SecretStore.held c.keep_dealing.new.devices.secrets.now) c.keep_dealing.new.devices.fuse)) c.ready_answer.ensures.same
+    (accepting_broken _ c.args.epoch c.args.dealer c.args.public _ c.args.private _ c.in_err-keep_dealing.field-0.0 c.in_err-keep_dealing.ensures.kinds (sym c.in_default.ensures) c.in_ok-ack.ensures.told
+    (answered_broken c.from_residual-in_err-keep_dealing.result p.0 c.in_err-keep_dealing.field-0.0 p.1 p.2 c.in_err-keep_dealing.ensures.kinds)
+    (c.in_err-keep_dealing.ensures.acts told_disk told_secrets))
 
 pub returns-clause-passes : goal.returns-clause-passes
 returns-clause-passes g c = λ none.

@@ -1,7 +1,6 @@
 use Rattle.std.proofs.Common.{ℕ, List, is_some, ap, sym, subst, ◌∙◌}
 use Rattle.std.specs.Ordering.{nat_cmp}
 use Rattle.std.specs.FinMap as map
-use Rattle.dkg_journal.specs.Journals.{has_file}
 use Rattle.dkg_store.specs.Player.{IsPlayerOf}
 use Rattle.dkg_store.proofs.Answering.{answered_known}
 use Rattle.dkg_store.proofs.Both.{none_ran}
@@ -37,7 +36,7 @@ returns-in-Some-dealing-clause-player g c = λ is.
 pub returns-in-Some-clause-acts : goal.returns-in-Some-clause-acts
 returns-in-Some-clause-acts g c = λ told_disk told_secrets is.
     let was = is.kept c.args.dealer c.in-Some.ack (sym c.in-Some.ensures) in
-    answered_known (g.C.Ceremony.ack_of c.args.self.now.me c.args.self.now.round c.args.dealer) (map.get c.args.store.now.dealings (c.args.epoch, c.args.dealer)) was.pair (g.C.Ceremony.dealing_of c.args.self.now.round c.args.self.now.me c.args.dealer c.args.public c.args.private) (has_file c.args.store.now.journal) c.args.epoch c.args.dealer c.args.public c.args.private c.in-Some.ack was.recorded was.is
+    answered_known (g.C.Ceremony.ack_of c.args.self.now.me c.args.self.now.round c.args.dealer) (map.get c.args.store.now.dealings (c.args.epoch, c.args.dealer)) was.pair (g.C.Ceremony.dealing_of c.args.self.now.round c.args.self.now.me c.args.dealer c.args.public c.args.private) c.args.epoch c.args.dealer c.args.public c.args.private c.in-Some.ack was.recorded was.is
 
 pub returns-in-Some-clause-names : goal.returns-in-Some-clause-names
 returns-in-Some-clause-names g c = λ told lands. may_same _

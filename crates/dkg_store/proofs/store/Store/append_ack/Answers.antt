@@ -4,6 +4,9 @@ use Rattle.dkg_store.specs.declared.event.Event.TheVariants as events
 use Rattle.dkg_store.specs.Errors.{IsOfDevices}
 use Rattle.dkg_store.specs.Noted.{Gives, noted, noted_ack, noted_log}
 use Rattle.dkg_store.specs.Pairs.{dealing_of}
+use Rattle.dkg_store.specs.Acts.{broken}
+use Rattle.dkg_store.specs.Calls.{cause_of}
+use Rattle.dkg_store.specs.declared.call.StoreError.{StoreError}
 use Rattle.dkg_store.proofs.Acting.{ended_broken}
 use Rattle.dkg_store.proofs.Appended.{unknown, none_there, noting_broken, noting_done}
 use Rattle.dkg_store.proofs.Noted.{says_ack, says_log, gives_added, gives_either, gives_still}
@@ -36,7 +39,7 @@ returns-in_err-append_event-clause-acts g c = λ told out.
     let fresh = unknown c.args.self.now.acks (c.args.epoch, c.args.player) c.get.result c.is_some.result c.get.ensures c.is_some.ensures c.if-is_some.false in
     let p = err_from_is_err_and c.from_residual-in_err-append_event.result c.from_residual-in_err-append_event.ensures.1 in
     noting_broken fresh (c.deref.ensures.value ∙ c.in_ok-body.ensures) c.in_err-append_event.field-0.0 c.in_err-append_event.ensures.kinds
-    (ended_broken (λ (b : Bool). b) c.from_residual-in_err-append_event.result p.0 p.1 (subst IsOfDevices (sym p.2) c.in_err-append_event.ensures.kinds))
+    (ended_broken (λ (b : Bool). b) c.from_residual-in_err-append_event.result p.0 p.1 (subst IsOfDevices (sym p.2) c.in_err-append_event.ensures.kinds) ∙ ap (λ (e : StoreError). broken (cause_of e)) p.2)
     (c.in_err-append_event.ensures.acts told out (g.X.SecretStore.held c.args.devices.now.secrets.now))
 
 pub returns-clause-gives : goal.returns-clause-gives

@@ -2,9 +2,9 @@ use Rattle.std.proofs.Common.{◌≡◌, Bool, true, false, Option, Some, None, 
 use Rattle.std.specs.Option.{option_copied}
 use Rattle.std.specs.FinMap as map
 use Rattle.std.proofs.lemmas.Result.{err_from_is_err_and}
-use Rattle.dkg_journal.specs.Journals.{has_file}
-use Rattle.dkg_store.specs.Acts.{MadeAt, Goes, went, moment}
-use Rattle.dkg_store.specs.Calls.{recording, ended}
+use Rattle.dkg_store.specs.Acts.{MadeAt, Goes, broken, went, moment}
+use Rattle.dkg_store.specs.Calls.{cause_of, recording, ended}
+use Rattle.dkg_store.specs.declared.call.StoreError.{StoreError}
 use Rattle.dkg_store.specs.Errors.{IsOfDevices}
 use Rattle.dkg_store.proofs.Acts.{made_next, made_nothing}
 use Rattle.dkg_store.proofs.Acting.{then_broken, ended_broken}
@@ -23,15 +23,15 @@ pub returns-in_err-record_dealing-clause-acts : goal.returns-in_err-record_deali
 returns-in_err-record_dealing-clause-acts g c = λ told_disk told_secrets out.
     let unknown : map.contains_key c.args.self.now.dealings (c.args.epoch, c.args.dealer) ≡ false = ap is_some (sym c.get.ensures) ∙ not_copied c.get.result (sym c.is_some.ensures ∙ c.if-is_some.false) in
     let p = err_from_is_err_and c.from_residual-in_err-record_dealing.result c.from_residual-in_err-record_dealing.ensures.1 in
-    subst (λ (known : Bool). MadeAt (recording known (has_file c.args.self.now.journal) c.args.epoch c.args.dealer c.args.public c.args.private) (ended c.from_residual-in_err-record_dealing.result) (g.D.Disk.files c.args.devices.now.disk.now) (g.D.Disk.image c.args.devices.now.disk.now) (g.D.Disk.files c.record_dealing.new.devices.disk.now) (g.D.Disk.image c.record_dealing.new.devices.disk.now) (moment out (g.X.SecretStore.held c.args.devices.now.secrets.now) c.args.devices.now.fuse) (moment out (g.X.SecretStore.held c.record_dealing.new.devices.secrets.now) c.record_dealing.new.devices.fuse)) (sym unknown)
+    subst (λ (known : Bool). MadeAt (recording known c.args.epoch c.args.dealer c.args.public c.args.private) (ended c.from_residual-in_err-record_dealing.result) (g.D.Disk.files c.args.devices.now.disk.now) (g.D.Disk.image c.args.devices.now.disk.now) (g.D.Disk.files c.record_dealing.new.devices.disk.now) (g.D.Disk.image c.record_dealing.new.devices.disk.now) (moment out (g.X.SecretStore.held c.args.devices.now.secrets.now) c.args.devices.now.fuse) (moment out (g.X.SecretStore.held c.record_dealing.new.devices.secrets.now) c.record_dealing.new.devices.fuse)) (sym unknown)
     (then_broken (λ u. Goes true) c.in_err-record_dealing.field-0.0 c.in_err-record_dealing.ensures.kinds
-    (ended_broken (λ (b : Bool). b) c.from_residual-in_err-record_dealing.result p.0 p.1 (subst IsOfDevices (sym p.2) c.in_err-record_dealing.ensures.kinds))
+    (ended_broken (λ (b : Bool). b) c.from_residual-in_err-record_dealing.result p.0 p.1 (subst IsOfDevices (sym p.2) c.in_err-record_dealing.ensures.kinds) ∙ ap (λ (e : StoreError). broken (cause_of e)) p.2)
     (c.in_err-record_dealing.ensures.acts told_disk told_secrets out))
 
 pub returns-clause-acts : goal.returns-clause-acts
 returns-clause-acts g c = λ told_disk told_secrets out.
     let unknown : map.contains_key c.args.self.now.dealings (c.args.epoch, c.args.dealer) ≡ false = ap is_some (sym c.get.ensures) ∙ not_copied c.get.result (sym c.is_some.ensures ∙ c.if-is_some.false) in
-    subst (λ (known : Bool). MadeAt (recording known (has_file c.args.self.now.journal) c.args.epoch c.args.dealer c.args.public c.args.private) (went true) (g.D.Disk.files c.args.devices.now.disk.now) (g.D.Disk.image c.args.devices.now.disk.now) (g.D.Disk.files c.record_dealing.new.devices.disk.now) (g.D.Disk.image c.record_dealing.new.devices.disk.now) (moment out (g.X.SecretStore.held c.args.devices.now.secrets.now) c.args.devices.now.fuse) (moment out (g.X.SecretStore.held c.record_dealing.new.devices.secrets.now) c.record_dealing.new.devices.fuse)) (sym unknown)
+    subst (λ (known : Bool). MadeAt (recording known c.args.epoch c.args.dealer c.args.public c.args.private) (went true) (g.D.Disk.files c.args.devices.now.disk.now) (g.D.Disk.image c.args.devices.now.disk.now) (g.D.Disk.files c.record_dealing.new.devices.disk.now) (g.D.Disk.image c.record_dealing.new.devices.disk.now) (moment out (g.X.SecretStore.held c.args.devices.now.secrets.now) c.args.devices.now.fuse) (moment out (g.X.SecretStore.held c.record_dealing.new.devices.secrets.now) c.record_dealing.new.devices.fuse)) (sym unknown)
     (made_next (λ u. Goes true) (c.in_ok-record_dealing.ensures.acts told_disk told_secrets out) (made_nothing _ _ _ refl))
 
 pub returns-then-is_some-clause-names : goal.returns-then-is_some-clause-names

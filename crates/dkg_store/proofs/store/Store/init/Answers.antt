@@ -1,23 +1,26 @@
-use Rattle.std.proofs.Common.{◌≡◌, inl, ℕ, List, None, Err, ap, sym, subst, ◌∙◌}
+use Rattle.std.proofs.Common.{◌≡◌, inl, ℕ, List, map, Option, Some, None, Result, Err, refl, ap, sym, subst, ◌∙◌}
 use Rattle.std.specs.Int.NonZero.{non_zero_u32_get}
 use Rattle.dkg_journal.specs.Records.{Entry, entries}
 use Rattle.dkg_journal.specs.declared.opening.JournalEntry.{JournalEntry}
-use Rattle.dkg_store.specs.Corrupt.{AreEvents, BeginsWithEvent}
+use Rattle.dkg_values.specs.declared.name.Name.{Name}
+use Rattle.dkg_journal.specs.Names.{Files}
+use Rattle.dkg_journal.specs.Gated.{gated, gated_entries}
+use Rattle.dkg_store.specs.Corrupt.{AreEvents, BeginsWithEvent, IsAlien}
 use Rattle.dkg_store.specs.Events.{no_event_at}
 use Rattle.std.proofs.lemmas.Result.{err_from_is_err_and}
 use Rattle.dkg_journal.specs.Opening.{broken}
 use Rattle.dkg_journal.specs.Views.{views}
-use Rattle.dkg_store.specs.Acts.{Ask, Goes}
-use Rattle.dkg_store.specs.Calls.{given_back}
+use Rattle.dkg_store.specs.Acts.{by_want}
+use Rattle.dkg_store.specs.Calls.{cause_of, ended_as, reading}
 use Rattle.dkg_store.specs.Errors.{IsOfDevices, IsOfOpening}
 use Rattle.dkg_store.specs.Noted.{acks_in, logs_in}
 use Rattle.dkg_store.specs.Pairs.{recovered}
 use Rattle.dkg_store.specs.declared.call.StoreError.{StoreError}
 use Rattle.dkg_store.specs.declared.call.StoreError.TheVariants.{Corrupt, NoMemory, Secrets as OfSecrets}
 use Rattle.dkg_store.specs.declared.store.Store.{Store}
-use Rattle.dkg_store.proofs.Acts.{made_next, made_none_held, made_read}
+use Rattle.dkg_store.proofs.Acts.{made_next, made_none_held}
 use Rattle.dkg_store.proofs.Acting.{then_broken, ended_broken}
-use Rattle.dkg_store.proofs.Corrupt.{answered, corrupt_alike, corrupt_at, none_corrupt, same_error}
+use Rattle.dkg_store.proofs.Corrupt.{answered, corrupt_alike, corrupt_at, ended_by, none_corrupt, read_all, read_ends, same_error}
 use Rattle.dkg_store.proofs.OpeningActs.{not_corrupt, of_restoring_too, no_place, no_other}
 use Rattle.dkg_store.proofs.Recorded.{all_events}
 use Rattle.dkg_store.proofs.Fit.{kept_fit}
@@ -33,37 +36,55 @@ returns-clause-sound g c = λ told form.
       subst (λ (es : List Entry). AreEvents (non_zero_u32_get c.args.limit) es) (c.in_ok-journal.ensures.listed told form) (all_events (non_zero_u32_get c.args.limit) c.in_ok-journal.journal.waiting.items none),
     )
 
+-- what was read, and the first of it that is no event
+first_there : {n limit : ℕ} {read given waiting : List JournalEntry} → n ≡ limit → read ≡ given → given ≡ waiting → no_event_at n read ≡ no_event_at limit waiting
+first_there {n} {limit} {read} {given} {waiting} same was is = ap (λ (m : ℕ). no_event_at m read) same ∙ ap (no_event_at limit) (was ∙ is)
+
 pub returns-in_err-journal-clause-acts : goal.returns-in_err-journal-clause-acts
-returns-in_err-journal-clause-acts g c = λ told_disk told_secrets form whole events out.
+returns-in_err-journal-clause-acts g c = λ told_disk told_secrets form whole alien is_alien out.
     let p = err_from_is_err_and c.from_residual.result c.from_residual.ensures.1 in
     let of_devices : IsOfDevices c.in_err-journal.field-0.0 = not_corrupt c.in_err-journal.field-0.0 c.in_err-journal.ensures.kinds
     (λ name place is. no_place (broken (g.D.Disk.files c.args.devices.now.disk.now)) place (c.in_err-journal.ensures.corrupt name place (ap (λ (e : StoreError). Err e) is) told_disk).1 whole) in
-    then_broken (λ (u : Unit {0}). Ask (λ h. Goes (given_back h))) c.in_err-journal.field-0.0 of_devices
-    (ended_broken (λ (store : Store g.row.Dir.Denot). (store.dealings, store.acks, store.logs)) c.from_residual.result p.0 p.1 (subst IsOfDevices (sym p.2) of_devices))
+    then_broken (λ (u : Unit {0}). reading alien) c.in_err-journal.field-0.0 of_devices
+    (ended_broken (λ (store : Store g.row.Dir.Denot). (store.dealings, store.acks, store.logs)) c.from_residual.result p.0 p.1 (subst IsOfDevices (sym p.2) of_devices) ∙ ap (λ (e : StoreError). ended_by (cause_of e)) p.2)
     (c.in_err-journal.ensures.acts told_disk whole out (g.X.SecretStore.held c.args.devices.now.secrets.now))
 
+-- where the bodies read are events, there is no alien
+events_read : (limit n : ℕ) (files : Files) (es waiting : List JournalEntry) → broken files ≡ None → n ≡ limit → es ≡ waiting → map gated waiting ≡ gated_entries files → no_event_at n es ≡ None
+    → (alien : Option (Name × ℕ)) → IsAlien limit files alien → alien ≡ None
+events_read limit n files es waiting whole same was are none None is = refl
+events_read limit n files es waiting whole same was are none (Some at) is =
+    absurd (none_corrupt limit files waiting at.1 whole are (sym (ap (λ (m : ℕ). no_event_at m es) same ∙ ap (no_event_at limit) was) ∙ none) is.1)
+
 pub returns-in_err-recorded-clause-acts : goal.returns-in_err-recorded-clause-acts
-returns-in_err-recorded-clause-acts g c = λ told_disk told_secrets form whole events out.
+returns-in_err-recorded-clause-acts g c = λ told_disk told_secrets form whole alien is_alien out.
     let p = err_from_is_err_and c.from_residual-in_err-recorded.result c.from_residual-in_err-recorded.ensures.1 in
-    let none : no_event_at c.get.result c.deref.result.now ≡ None =
-    ap (λ (n : ℕ). no_event_at n c.deref.result.now) c.get.ensures.value
-    ∙ ap (λ (es : List JournalEntry). no_event_at (non_zero_u32_get c.args.limit) es) (c.deref.ensures.value ∙ c.replay-entries.ensures.listed)
-    ∙ no_other (non_zero_u32_get c.args.limit) c.in_ok-journal.journal.waiting.items (subst (λ (es : List Entry). AreEvents (non_zero_u32_get c.args.limit) es) (sym (c.in_ok-journal.ensures.listed told_disk form)) events) in
-    let of_devices : IsOfDevices c.in_err-recorded.field-0.0 = not_corrupt c.in_err-recorded.field-0.0 (of_restoring_too c.in_err-recorded.field-0.0 c.in_err-recorded.ensures.kinds)
-    (λ name place is. no_place (no_event_at c.get.result c.deref.result.now) place (c.in_err-recorded.ensures.corrupt name place (ap (λ (e : StoreError). Err e) is)).1 none) in
-    made_next (λ (u : Unit {0}). Ask (λ h. Goes (given_back h))) (c.in_ok-journal.ensures.acts told_disk whole out (g.X.SecretStore.held c.args.devices.now.secrets.now))
-    (made_none_held _ _ _ c.restore.ensures.same (ended_broken (λ (store : Store g.row.Dir.Denot). (store.dealings, store.acks, store.logs)) c.from_residual-in_err-recorded.result p.0 p.1 (subst IsOfDevices (sym p.2) of_devices)))
+    let ends = ap (λ (r : Result (Store g.row.Dir.Denot) StoreError). ended_as (λ (store : Store g.row.Dir.Denot). (store.dealings, store.acks, store.logs)) r) (p.1 ∙ ap (λ (e : StoreError). Err e) p.2) in
+    made_next (λ (u : Unit {0}). reading alien) (c.in_ok-journal.ensures.acts told_disk whole out (g.X.SecretStore.held c.args.devices.now.secrets.now))
+    (read_ends (non_zero_u32_get c.args.limit) (g.D.Disk.files c.args.devices.now.disk.now) alien c.in_err-recorded.field-0.0 c.in_err-recorded.ensures.kinds
+    (λ name q is.
+    let here = c.in_err-recorded.ensures.corrupt name q (ap (λ (e : StoreError). Err e) is) in (
+      here.0,
+      corrupt_at (non_zero_u32_get c.args.limit) (g.D.Disk.files c.args.devices.now.disk.now) c.in_ok-journal.journal.waiting.items q whole (c.in_ok-journal.ensures.gated told_disk)
+          (sym (first_there c.get.ensures.value c.deref.ensures.value c.replay-entries.ensures.listed) ∙ here.1),
+    ))
+    (λ events name q is.
+    let here = c.in_err-recorded.ensures.corrupt name q (ap (λ (e : StoreError). Err e) is) in
+    no_place (no_event_at (non_zero_u32_get c.args.limit) c.in_ok-journal.journal.waiting.items) q (sym (first_there c.get.ensures.value c.deref.ensures.value c.replay-entries.ensures.listed) ∙ here.1)
+    (no_other (non_zero_u32_get c.args.limit) c.in_ok-journal.journal.waiting.items (subst (λ (es : List Entry). AreEvents (non_zero_u32_get c.args.limit) es) (sym (c.in_ok-journal.ensures.listed told_disk form)) events)))
+    is_alien ends c.restore.ensures.same)
 
 pub returns-in_err-restored-clause-acts : goal.returns-in_err-restored-clause-acts
-returns-in_err-restored-clause-acts g c = λ told_disk told_secrets form whole events out.
+returns-in_err-restored-clause-acts g c = λ told_disk told_secrets form whole alien is_alien out.
     let p = err_from_is_err_and c.from_residual-in_err-restored.result c.from_residual-in_err-restored.ensures.1 in
-    made_next (λ (u : Unit {0}). Ask (λ h. Goes (given_back h))) (c.in_ok-journal.ensures.acts told_disk whole out (g.X.SecretStore.held c.args.devices.now.secrets.now))
-    (made_none_held _ _ _ c.restore.ensures.same (ended_broken (λ (store : Store g.row.Dir.Denot). (store.dealings, store.acks, store.logs)) c.from_residual-in_err-restored.result p.0 p.1 (subst IsOfDevices (sym p.2) tt)))
+    made_next (λ (u : Unit {0}). reading alien) (c.in_ok-journal.ensures.acts told_disk whole out (g.X.SecretStore.held c.args.devices.now.secrets.now))
+    (made_none_held _ _ _ by_want tt c.restore.ensures.same (ended_broken (λ (store : Store g.row.Dir.Denot). (store.dealings, store.acks, store.logs)) c.from_residual-in_err-restored.result p.0 p.1 (subst IsOfDevices (sym p.2) tt) ∙ ap (λ (e : StoreError). ended_by (cause_of e)) p.2))
 
 pub returns-clause-acts : goal.returns-clause-acts
-returns-clause-acts g c = λ told_disk told_secrets form whole events out.
-    made_next (λ (u : Unit {0}). Ask (λ h. Goes (given_back h))) (c.in_ok-journal.ensures.acts told_disk whole out (g.X.SecretStore.held c.args.devices.now.secrets.now))
-    (made_read _ _ given_back c.restore.ensures.same (
+returns-clause-acts g c = λ told_disk told_secrets form whole alien is_alien out.
+    let none = events_read (non_zero_u32_get c.args.limit) c.get.result (g.D.Disk.files c.args.devices.now.disk.now) c.deref.result.now c.in_ok-journal.journal.waiting.items whole c.get.ensures.value (c.deref.ensures.value ∙ c.replay-entries.ensures.listed) (c.in_ok-journal.ensures.gated told_disk) c.in_ok-recorded.ensures.events alien is_alien in
+    made_next (λ (u : Unit {0}). reading alien) (c.in_ok-journal.ensures.acts told_disk whole out (g.X.SecretStore.held c.args.devices.now.secrets.now))
+    (read_all none c.restore.ensures.same (
     let read : c.deref.result.now ≡ c.in_ok-journal.journal.waiting.items = c.deref.ensures.value ∙ c.replay-entries.ensures.listed in
     let stands : views c.in_ok-journal.journal.waiting.items ≡ entries (g.D.Disk.files c.open_journal.new.disk) = c.in_ok-journal.ensures.listed told_disk form ∙ sym (c.in_ok-journal.ensures.settled told_disk (g.D.Disk.files c.open_journal.new.disk) (g.met.D.Disk.reads _ told_disk)) in
     let es : views c.deref.result.now ≡ entries (g.D.Disk.files c.open_journal.new.disk) = ap views read ∙ stands in
@@ -79,10 +100,6 @@ returns-in_err-journal-clause-answer g c = λ place told form at.
     (λ name q is.
     let torn = c.in_err-journal.ensures.corrupt name q (ap (λ (e : StoreError). Err e) (sym p.2 ∙ is)) told in
     (torn.0, record { so = inl torn.1 })) place at
-
--- what was read, and the first of it that is no event
-first_there : {n limit : ℕ} {read given waiting : List JournalEntry} → n ≡ limit → read ≡ given → given ≡ waiting → no_event_at n read ≡ no_event_at limit waiting
-first_there {n} {limit} {read} {given} {waiting} same was is = ap (λ (m : ℕ). no_event_at m read) same ∙ ap (no_event_at limit) (was ∙ is)
 
 pub returns-in_err-recorded-clause-corrupt : goal.returns-in_err-recorded-clause-corrupt
 returns-in_err-recorded-clause-corrupt g c = λ name q is told form.
