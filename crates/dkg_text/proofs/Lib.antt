@@ -1,0 +1,17 @@
+pub mod ConfigLaws
+pub mod Counted
+pub mod EventLaws
+pub mod FieldLaws
+pub mod Guards
+pub mod Hex
+pub mod LifeLaws
+pub mod LineLaws
+pub mod NonZeros
+pub mod Numbered
+pub mod Numbers
+pub mod ReadOn
+pub mod Rise
+pub mod RowLaws
+pub mod ScriptLaws
+pub mod Spelled
+pub mod Split

@@ -1,0 +1,16 @@
+use Rattle.std.proofs.Common.{◌≡◌, ◌<◌, ◌≤◌, ◌^◌, ℕ, List, length}
+use Rattle.dkg_text.specs.Grammar.{is_eventful, event_at}
+use Rattle.dkg_text.specs.Lines.{begins, many_at}
+use Rattle.dkg_text.proofs.ReadOn.{IsLeft}
+use Rattle.dkg_text.specs.Asked.{AreAsked}
+use Rattle.dkg_text.proofs.event_lines.read_events.Given as goal
+
+abbrev pub invariant-events : goal.invariant-events
+invariant-events l = record {
+  at : IsLeft (is_eventful) (event_at l.around.blocks l.around.probe) l.events.items l.lines.rest.now (many_at (is_eventful) (event_at l.around.blocks l.around.probe) l.initial.lines.rest.now);
+  asked : AreAsked l.events.items l.asked.numbers;
+  on : length l.lines.rest.now ≤ length l.initial.lines.rest.now;
+}
+
+abbrev pub decreases-events : goal.decreases-events
+decreases-events l = length l.lines.rest.now

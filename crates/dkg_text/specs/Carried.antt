@@ -1,0 +1,36 @@
+-- What a payload is: a log or an info, under limits.
+use Rattle.std.specs.Prelude.{ℕ, ◌^◌, Bool, true, false, if◌then◌else◌, List, length, Option, Some, None, option_map}
+use Rattle.std.specs.Result.{result_ok}
+use Rattle.std.specs.Str.{bytes_eq}
+use Rattle.dkg_values.specs.Codec.{whole}
+use Rattle.dkg_values.specs.Rising.{keys_of}
+use Rattle.dkg_types.specs.declared.payload.Payload.{Payload}
+use Rattle.dkg_types.specs.declared.payload.Payload.TheVariants.{DealerLog, EpochInfo}
+use Rattle.dkg_types.specs.AddressCodes.{addresses_at}
+use Rattle.dkg_types.specs.PayloadCodes.{payload_at}
+use Rattle.dkg_types.specs.Units.{unit_at}
+use Rattle.dkg_text.specs.declared.payload.Carried.{Carried}
+use Rattle.dkg_text.specs.declared.payload.Carried.TheVariants.{Log, Info}
+
+abbrev pub kind_of : {Dir : Type 0} → Payload Dir → Carried
+kind_of (DealerLog log) = Log
+kind_of (EpochInfo info) = Info
+
+-- what the bytes spell where directories say nothing, and where they hold addresses
+unfoldable pub unit_kind : (limit version : ℕ) → List ℕ → Option Carried
+unit_kind limit version bytes = option_map kind_of (result_ok (whole (payload_at (λ _. unit_at) (λ _ _. true) limit version bytes)))
+
+unfoldable pub addressed_kind : (limit version : ℕ) → List ℕ → Option Carried
+addressed_kind limit version bytes =
+    option_map kind_of (result_ok (whole (payload_at (λ peers. addresses_at (length peers)) (λ a peers. bytes_eq (keys_of a) peers) limit version bytes)))
+
+unfoldable pub carried : (addressed : Bool) (limit version : ℕ) → List ℕ → Option Carried
+carried addressed limit version bytes = if addressed then addressed_kind limit version bytes else unit_kind limit version bytes
+
+abbrev pub is_info_kind : Option Carried → Bool
+is_info_kind (Some Info) = true
+is_info_kind _ = false
+
+-- an info under the widest limits
+unfoldable pub is_info : (addressed : Bool) → List ℕ → Bool
+is_info addressed bytes = is_info_kind (carried addressed (2 ^ 30) 1 bytes)

@@ -1,0 +1,15 @@
+pub mod Allowed
+pub mod Asked
+pub mod Carried
+pub mod FaultLines
+pub mod Fields
+pub mod Grammar
+pub mod Laws
+pub mod Lines
+pub mod Positive
+pub mod Printing
+pub mod Rows
+pub mod Spells
+pub mod Summary
+pub mod Words
+pub mod Writing

@@ -1,0 +1,96 @@
+//! The lines of a script's blocks: each names an earlier one as its parent, or none, and may carry a payload.
+ghost use Rattle.std.specs.Prelude.{◌≡◌, ◌<◌, OnOk, IfOk, length};
+ghost use Rattle.std.specs.Int.NonZero.{non_zero_u32_get};
+ghost use Rattle.dkg_text.specs.Grammar.{block_at, blocks_at, is_parent as is_parent_of, is_payload as is_payload_of, limit_of};
+ghost use Rattle.dkg_text.specs.Lines.{Reads};
+
+use crate::lines::Lines;
+use crate::payload::carried_by;
+use crate::script::{BlockLine, BlockLines, ScriptConfig};
+use crate::stop::Stop;
+use dkg_ceremony::{Blob, Height, Mem};
+use std::alloc::Global;
+use std::num::NonZeroU32;
+
+/// The limit under which blocks are read: in one-shot mode the number of participants, and at least 1.
+fn limit(config: &ScriptConfig) -> NonZeroU32
+    ensures { non_zero_u32_get result ≡ limit_of config.now }
+{
+    match &config.oneshot {
+        Some(participants) => NonZeroU32::new(participants.len().max(1)).unwrap(),
+        None => config.limit,
+    }
+}
+
+/// Whether a parent is one of the blocks before.
+fn is_parent(before: usize, parent: Option<u32>) -> bool
+    ensures { result ≡ is_parent_of before parent }
+{
+    match parent {
+        Some(number) => (number as usize) < before,
+        None => true,
+    }
+}
+
+/// Whether what a block carries is read under the limits.
+fn is_payload(
+    alloc: Global,
+    addressed: bool,
+    config: &ScriptConfig,
+    payload: &Option<Blob>,
+) -> Mem<bool>
+    ensures { IfOk result (λ yes. yes ≡ is_payload_of addressed (limit_of config.now) config.now.max_mode.0 payload.now) }
+{
+    match payload {
+        Some(bytes) => {
+            let limits = (limit(config), config.max_mode);
+            Ok(carried_by(alloc, addressed, limits, bytes.as_slice())?.is_some())
+        }
+        None => Ok(true),
+    }
+}
+
+/// `block H P V PAYLOAD`: a block after others; its parent P and its payload may be dashes.
+#[tactic(auto, unfolding(crate::specs::Grammar::block_at))]
+fn read_block_after(
+    alloc: Global,
+    addressed: bool,
+    config: &ScriptConfig,
+    done: &[BlockLine],
+    lines: &mut Lines<'_>,
+) -> Result<BlockLine, Stop>
+    ensures reads { Reads (block_at addressed config.now done.now lines.old.rest.now) result lines.new.rest.now }
+    ensures on { OnOk result (length lines.new.rest.now < length lines.old.rest.now) }
+{
+    let (height, parent, view, payload): (Height, Option<u32>, u64, Option<Blob>) = lines.take(
+        alloc, b"block",
+    )?;
+    if is_parent(done.len(), parent) && is_payload(alloc, addressed, config, &payload)? {
+        Ok(BlockLine {
+            height,
+            parent,
+            view,
+            payload,
+        })
+    } else {
+        Err(lines.refused())
+    }
+}
+
+/// The lines of blocks, if there are any.
+#[tactic(auto, unfolding(crate::specs::Grammar::blocks_at))]
+pub(crate) fn read_blocks(
+    alloc: Global,
+    addressed: bool,
+    config: &ScriptConfig,
+    lines: &mut Lines<'_>,
+) -> Result<BlockLines, Stop>
+    ensures { Reads (blocks_at addressed config.now lines.old.rest.now) result lines.new.rest.now }
+{
+    let mut blocks = Vec::new(alloc);
+    'more: while lines.is_at(b"block") {
+        let block = read_block_after(alloc, addressed, config, &blocks, lines)?;
+        blocks.push(block)?;
+    }
+    Ok(BlockLines::new(blocks))
+}
