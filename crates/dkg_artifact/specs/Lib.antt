@@ -1,0 +1,6 @@
+pub mod Found
+pub mod Kept
+pub mod KeptLaws
+pub mod Results
+pub mod ScanLaws
+pub mod Scans

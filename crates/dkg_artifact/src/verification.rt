@@ -1,0 +1,80 @@
+//! The running verification, and the result that is kept.
+ghost use Rattle.std.specs.Prelude.{◌≡◌, None, Some, is_some};
+ghost use Rattle.std.specs.Option.{option_copied};
+ghost use Rattle.dkg_artifact.specs.Kept.{kept_for, retained};
+
+use crate::job::Job;
+use crate::kept::are_same;
+use crate::verified::VerifiedLogs;
+use dkg_ceremony::{Ceremony, DealerLog};
+use dkg_values::Map;
+
+/// One job at a time, and the result that was kept last.
+#[derive(Drop)]
+pub struct Verification<C: Ceremony> {
+    running: Option<Job>,
+    kept: Option<VerifiedLogs<C>>,
+}
+
+/// Whether a result that is kept is one for these logs.
+fn is_kept_for<C: Ceremony>(kept: &Option<VerifiedLogs<C>>, logs: &Map<DealerLog>) -> bool
+    ensures { result ≡ is_some (kept_for (λ r. r.logs) kept.now logs.now) }
+{
+    match kept {
+        Some(kept) => are_same(&kept.logs, logs),
+        None => false,
+    }
+}
+
+impl<C: Ceremony> Verification<C> {
+    /// Nothing runs, and nothing is kept.
+    pub fn new() -> Verification<C>
+        ensures running { result.running ≡ None }
+        ensures kept { result.kept ≡ None }
+    {
+        Verification {
+            running: None,
+            kept: None,
+        }
+    }
+
+    /// The job that runs, if one does.
+    pub fn running(&self) -> Option<&Job>
+        ensures { option_copied result ≡ self.now.running }
+    {
+        self.running.as_ref()
+    }
+
+    /// The kept result, where it is one for these logs.
+    pub fn ready(&self, logs: &Map<DealerLog>) -> Option<&VerifiedLogs<C>>
+        ensures { option_copied result ≡ kept_for (λ r. r.logs) self.now.kept logs.now }
+    {
+        match &self.kept {
+            Some(kept) if are_same(&kept.logs, logs) => Some(kept),
+            _ => None,
+        }
+    }
+}
+
+impl<C: Ceremony + Drop> Verification<C> {
+    /// Runs a job, where none runs.
+    pub fn start(&mut self, job: Job)
+        requires { self.old.running ≡ None }
+        ensures running { self.new.running ≡ Some job }
+        ensures kept { self.new.kept ≡ self.old.kept }
+    {
+        self.running = Some(job);
+    }
+
+    /// Ends the running job, and keeps the result, unless it is for other logs than the canonical ones and the kept result is for
+    /// these. Results may come in any order.
+    pub fn retain(&mut self, verified: VerifiedLogs<C>, canonical: &Map<DealerLog>)
+        ensures running { self.new.running ≡ None }
+        ensures kept { self.new.kept ≡ retained (λ r. r.logs) self.old.kept verified canonical.now }
+    {
+        self.running = None;
+        if !is_kept_for(&self.kept, canonical) || are_same(&verified.logs, canonical) {
+            self.kept = Some(verified);
+        }
+    }
+}
