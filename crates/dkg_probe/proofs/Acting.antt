@@ -1,0 +1,57 @@
+-- How acts are run in parts.
+use Rattle.std.proofs.Common.{◌≡◌, ◌⊎◌, inl, inr, ℕ, zero, suc, List, [], ◌∷◌, ◌++◌, take, Option, refl, sym, ap, subst, ◌∙◌, append_assoc}
+use Rattle.std.proofs.lemmas.List.{append-nil}
+use Rattle.dkg_types.specs.declared.entry.Entry.{Entry as Line}
+use Rattle.dkg_types.specs.declared.participants.TrackedPeers.{TrackedPeers}
+use Rattle.dkg_types.specs.Tracking.{with_set}
+use Rattle.dkg_probe.specs.Acts.{Acts, Say, Track, Goes, Stops, bind, says_all, Completes, Faults, Breaks, IsFront, tracked_after}
+
+module _ {F S : Type 0} where
+  -- nothing was run yet
+  pub breaks_at_once : (acts : Acts F S) (out : List Line) → Breaks acts out out
+  breaks_at_once (Say line acts) out = inl refl
+  breaks_at_once (Track epoch peers acts) out = breaks_at_once acts out
+  breaks_at_once (Goes end) out = refl
+  breaks_at_once (Stops fault) out = refl
+
+  pub breaks_same : (acts : Acts F S) (out new : List Line) → new ≡ out → Breaks acts out new
+  breaks_same acts out new same = subst (λ (x : List Line). Breaks acts out x) (sym same) (breaks_at_once acts out)
+
+  pub breaks_later : (line : Line) (acts : Acts F S) (out mid new : List Line) → mid ≡ out ++ line ∷ [] → Breaks acts mid new → Breaks (Say line acts) out new
+  breaks_later line acts out mid new is broken = inr (subst (λ (x : List Line). Breaks acts x new) is broken)
+
+  pub all_said : (lines : List Line) (acts : Acts F S) (end : S) (out new : List Line) → Completes acts end (out ++ lines) new → Completes (says_all lines acts) end out new
+  all_said [] acts end out new done = subst (λ (x : List Line). Completes acts end x new) (append-nil out) done
+  all_said (line ∷ lines) acts end out new done =
+      all_said lines acts end (out ++ line ∷ []) new (subst (λ (x : List Line). Completes acts end x new) (sym (append_assoc out (line ∷ []) lines)) done)
+
+  pub some_said : (lines : List Line) (acts : Acts F S) (out new : List Line) → IsFront lines out new → Breaks (says_all lines acts) out new
+  some_said [] acts out new (zero, e) = breaks_same acts out new (e ∙ append-nil out)
+  some_said [] acts out new (suc count, e) = breaks_same acts out new (e ∙ append-nil out)
+  some_said (line ∷ lines) acts out new (zero, e) = inl (e ∙ append-nil out)
+  some_said (line ∷ lines) acts out new (suc count, e) = inr (some_said lines acts (out ++ line ∷ []) new (count, e ∙ sym (append_assoc out (line ∷ []) (take count lines))))
+
+  module _ {T : Type 0} (g : S → T) where
+    pub then_completes : (acts : Acts F S) (end : S) (out new : List Line) → Completes acts end out new → Completes (bind acts (λ s. Goes (g s))) (g end) out new
+    then_completes (Say line acts) end out new done = then_completes acts end (out ++ line ∷ []) new done
+    then_completes (Track epoch peers acts) end out new done = then_completes acts end out new done
+    then_completes (Goes its) end out new done = (done.0, ap g done.1)
+    then_completes (Stops fault) end out new done = done
+
+    pub then_faults : (acts : Acts F S) (fault : F) (out new : List Line) → Faults acts fault out new → Faults (bind acts (λ s. Goes (g s))) fault out new
+    then_faults (Say line acts) fault out new done = then_faults acts fault (out ++ line ∷ []) new done
+    then_faults (Track epoch peers acts) fault out new done = then_faults acts fault out new done
+    then_faults (Goes its) fault out new done = absurd done
+    then_faults (Stops its) fault out new done = done
+
+    pub then_breaks : (acts : Acts F S) (out new : List Line) → Breaks acts out new → Breaks (bind acts (λ s. Goes (g s))) out new
+    then_breaks (Say line acts) out new done = elim done [ inl e ↦ inl e | inr more ↦ inr (then_breaks acts (out ++ line ∷ []) new more) ]
+    then_breaks (Track epoch peers acts) out new done = then_breaks acts out new done
+    then_breaks (Goes its) out new done = done
+    then_breaks (Stops its) out new done = done
+
+    pub then_tracked : (acts : Acts F S) (sets : ℕ → Option TrackedPeers) (n : ℕ) → tracked_after (bind acts (λ s. Goes (g s))) sets n ≡ tracked_after acts sets n
+    then_tracked (Say line acts) sets n = then_tracked acts sets n
+    then_tracked (Track epoch peers acts) sets n = then_tracked acts (with_set sets epoch peers) n
+    then_tracked (Goes its) sets n = refl
+    then_tracked (Stops its) sets n = refl

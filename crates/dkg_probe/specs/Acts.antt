@@ -1,0 +1,76 @@
+-- What a step does, as acts in their order: lines that it says, peers that it has tracked, and how it ends. A node's step is made of the same acts
+-- and of those on its devices, of which a probe has none.
+use Rattle.std.specs.Prelude.{◌≡◌, ◌⊎◌, ℕ, [], ◌∷◌, ◌++◌, take, List, Option}
+use Rattle.dkg_types.specs.declared.entry.Entry.{Entry as Line}
+use Rattle.dkg_types.specs.declared.participants.TrackedPeers.{TrackedPeers}
+use Rattle.dkg_types.specs.Tracking.{with_set}
+
+pub data Acts (F S : Type 0) : Type 0 where
+  Say : Line → Acts F S → Acts F S
+  -- a manager tracks these peers from now on
+  Track : (epoch : ℕ) → TrackedPeers → Acts F S → Acts F S
+  Goes : S → Acts F S
+  -- it ends by a fault of its own
+  Stops : F → Acts F S
+
+-- these acts, and from what they end in others
+abbrev pub bind : {F S T : Type 0} → Acts F S → (S → Acts F T) → Acts F T
+bind (Say line acts) next = Say line (bind acts next)
+bind (Track epoch peers acts) next = Track epoch peers (bind acts next)
+bind (Goes end) next = next end
+bind (Stops fault) next = Stops fault
+
+-- these lines, and then the acts
+abbrev pub says_all : {F S : Type 0} → List Line → Acts F S → Acts F S
+says_all [] acts = acts
+says_all (line ∷ lines) acts = Say line (says_all lines acts)
+
+-- All were run, from a transcript to another.
+abbrev pub Completes : {F S : Type 0} → Acts F S → S → List Line → List Line → Type 0
+Completes (Say line acts) end out new = Completes acts end (out ++ line ∷ []) new
+Completes (Track epoch peers acts) end out new = Completes acts end out new
+Completes (Goes its) end out new = (new ≡ out) × (end ≡ its)
+Completes (Stops fault) end out new = ⊥
+
+-- All were run, up to the fault.
+abbrev pub Faults : {F S : Type 0} → Acts F S → F → List Line → List Line → Type 0
+Faults (Say line acts) fault out new = Faults acts fault (out ++ line ∷ []) new
+Faults (Track epoch peers acts) fault out new = Faults acts fault out new
+Faults (Goes end) fault out new = ⊥
+Faults (Stops its) fault out new = (new ≡ out) × (fault ≡ its)
+
+-- The first of them were run.
+abbrev pub Breaks : {F S : Type 0} → Acts F S → List Line → List Line → Type 0
+Breaks (Say line acts) out new = (new ≡ out) ⊎ Breaks acts (out ++ line ∷ []) new
+Breaks (Track epoch peers acts) out new = Breaks acts out new
+Breaks (Goes end) out new = new ≡ out
+Breaks (Stops fault) out new = new ≡ out
+
+-- some of the first lines were said
+abbrev pub IsFront : List Line → List Line → List Line → Type 0
+IsFront lines out new = (count : ℕ) × (new ≡ out ++ take count lines)
+
+-- How acts ended: in this, by a fault of their own, or anywhere, by want of memory.
+pub data Ended (F S : Type 0) : Type 0 where
+  went : S → Ended F S
+  stopped : F → Ended F S
+  broken : Ended F S
+
+abbrev pub Runs : {F S : Type 0} → Acts F S → Ended F S → List Line → List Line → Type 0
+Runs acts (went end) out new = Completes acts end out new
+Runs acts (stopped fault) out new = Faults acts fault out new
+Runs acts broken out new = Breaks acts out new
+
+-- the sets that a manager tracks behind all of them, by number
+abbrev pub tracked_after : {F S : Type 0} → Acts F S → (ℕ → Option TrackedPeers) → ℕ → Option TrackedPeers
+tracked_after (Say line acts) sets = tracked_after acts sets
+tracked_after (Track epoch peers acts) sets = tracked_after acts (with_set sets epoch peers)
+tracked_after (Goes end) sets = sets
+tracked_after (Stops fault) sets = sets
+
+-- P of each line that is said, and Q where peers are tracked
+abbrev pub Each : {F S : Type 0} → (Line → Type 0) → (Q : Type 0) → Acts F S → Type 0
+Each P Q (Say line acts) = P line × Each P Q acts
+Each P Q (Track epoch peers acts) = Q × Each P Q acts
+Each P Q (Goes end) = Unit {0}
+Each P Q (Stops fault) = Unit {0}

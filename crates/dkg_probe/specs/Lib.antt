@@ -1,0 +1,9 @@
+pub mod Acts
+pub mod Candidates
+pub mod Mailboxes
+pub mod OneEpoch
+pub mod Probing
+pub mod Sampling
+pub mod Sources
+pub mod Wire
+pub mod WireLaws

@@ -1,0 +1,169 @@
+-- Messages of the probe as bytes.
+use Rattle.std.proofs.Common.{◌≡◌, ℕ, zero, suc, ◌+◌, ◌-◌, ◌<◌, ◌≤◌, ◌^◌, List, [], ◌∷◌, ◌++◌, length, max, Option, Some, None, Result, Ok, Err, refl, arith, length-append}
+use Rattle.std.specs.Prelude.{if◌then◌else◌}
+use Rattle.std.specs.Str.{bytes_eq}
+use Rattle.dkg_values.specs.declared.codec.CodecError.{CodecError}
+use Rattle.dkg_values.specs.declared.codec.CodecError.TheVariants.{InvalidEnum, Invalid}
+use Rattle.dkg_values.specs.declared.codec.What.TheVariants as what
+use Rattle.dkg_values.specs.Bytes.{HasTag, tagged, tagged_at, tagged_grammar}
+use Rattle.dkg_values.specs.Codec.{Reading, IsGrammar, Fails, whole, ◌>>=◌}
+use Rattle.dkg_values.specs.Joined.{seen_at}
+use Rattle.dkg_values.specs.Uint.{uint, uint_at}
+use Rattle.dkg_values.specs.UintGrammar.{uint_short}
+use Rattle.dkg_types.specs.Variants.{Always, no_bytes, nothing_at, nothing_grammar, MadeOf, variant_grammar, none_grammar}
+use Rattle.dkg_types.specs.Bounds.{IsBound, finalization_bound}
+use Rattle.dkg_types.specs.BlockCodes.{block_spelling}
+use Rattle.dkg_types.specs.FinalizationCodes.{finalization_at, finalization_spelling, FinalizationFits}
+use Rattle.dkg_types.specs.declared.block.Block.{Block}
+use Rattle.dkg_types.specs.declared.finalization.Finalization.{Finalization}
+use Rattle.dkg_probe.specs.declared.wire.Tag.{Tag}
+use Rattle.dkg_probe.specs.declared.wire.Tag.TheVariants as tag
+use Rattle.dkg_probe.specs.declared.wire.Request.{Request}
+use Rattle.dkg_probe.specs.declared.wire.Request.TheVariants as request
+use Rattle.dkg_probe.specs.declared.wire.Response.{Response}
+use Rattle.dkg_probe.specs.declared.wire.Response.TheVariants as response
+use Rattle.dkg_probe.specs.declared.wire.Message.{Message}
+use Rattle.dkg_probe.specs.declared.wire.Message.TheVariants.{BoundaryRequest, BoundaryResponse, BlockRequest, BlockResponse, LatestRequest, LatestResponse}
+
+-- ---- the first byte
+
+abbrev pub tag_byte : Tag → ℕ
+tag_byte tag.BoundaryRequest = 0
+tag_byte tag.BoundaryResponse = 1
+tag_byte tag.BlockRequest = 2
+tag_byte tag.BlockResponse = 3
+tag_byte tag.LatestRequest = 4
+tag_byte tag.LatestResponse = 5
+
+abbrev pub tag_spelling : Tag → List ℕ
+tag_spelling = tagged tag_byte no_bytes
+
+unfoldable pub tag_after : ℕ → List ℕ → Reading Tag
+tag_after zero = seen_at (λ _. tag.BoundaryRequest) nothing_at
+tag_after (suc zero) = seen_at (λ _. tag.BoundaryResponse) nothing_at
+tag_after (suc (suc zero)) = seen_at (λ _. tag.BlockRequest) nothing_at
+tag_after (suc (suc (suc zero))) = seen_at (λ _. tag.BlockResponse) nothing_at
+tag_after (suc (suc (suc (suc zero)))) = seen_at (λ _. tag.LatestRequest) nothing_at
+tag_after (suc (suc (suc (suc (suc zero))))) = seen_at (λ _. tag.LatestResponse) nothing_at
+tag_after (suc (suc (suc (suc (suc (suc n)))))) = λ _. Err (InvalidEnum (suc (suc (suc (suc (suc (suc n)))))))
+
+abbrev pub tag_at : List ℕ → Reading Tag
+tag_at = tagged_at tag_after
+
+-- ---- what is read
+
+abbrev pub number_at : List ℕ → Reading ℕ
+number_at = uint_at (2 ^ 64 - 1)
+
+-- a value that was read, as one of those that are looked for
+abbrev pub found_as : {A B : Type 0} → (A → B) → Result A CodecError → Result (Option B) CodecError
+found_as f (Ok a) = Ok (Some (f a))
+found_as f (Err e) = Err e
+
+abbrev pub request_after : Tag → List ℕ → Result (Option Request) CodecError
+request_after tag.BoundaryRequest rest = found_as request.Boundary (whole (number_at rest))
+request_after tag.BoundaryResponse rest = Ok None
+request_after tag.BlockRequest rest = found_as request.Block (whole (number_at rest))
+request_after tag.BlockResponse rest = Ok None
+request_after tag.LatestRequest rest = Ok (Some request.Latest)
+request_after tag.LatestResponse rest = Ok None
+
+-- what some bytes ask for; none where they are a response's
+abbrev pub request_of : List ℕ → Result (Option Request) CodecError
+request_of bytes = tag_at bytes >>= λ t. request_after t.0 t.1
+
+-- what a response says, as lists
+pub data Reply : Type 0 where
+  IsBoundary : Finalization → Reply
+  IsBlock : (epoch : ℕ) → (body : List ℕ) → Reply
+  IsLatest : Finalization → Reply
+
+abbrev pub block_reply : ℕ × List ℕ → Reply
+block_reply p = IsBlock p.0 p.1
+
+abbrev pub reply_after : Tag → List ℕ → Result (Option Reply) CodecError
+reply_after tag.BoundaryRequest rest = Ok None
+reply_after tag.BoundaryResponse rest = found_as IsBoundary (whole (finalization_at rest))
+reply_after tag.BlockRequest rest = Ok None
+reply_after tag.BlockResponse rest = found_as block_reply (number_at rest)
+reply_after tag.LatestRequest rest = Ok None
+reply_after tag.LatestResponse rest = found_as IsLatest (whole (finalization_at rest))
+
+-- what some bytes answer; none where they are a request's
+abbrev pub reply_of : List ℕ → Result (Option Reply) CodecError
+reply_of bytes = tag_at bytes >>= λ t. reply_after t.0 t.1
+
+-- a block of this digest
+abbrev pub committed : {Dir : Type 0} → (commitment : List ℕ) → Result (Block Dir) CodecError → Result (Block Dir) CodecError
+committed commitment (Ok b) = if bytes_eq b.digest commitment then Ok b else Err (Invalid what.Commitment)
+committed commitment (Err e) = Err e
+
+abbrev pub said_by : Response → Reply
+said_by (response.Boundary f) = IsBoundary f
+said_by (response.Block epoch body) = IsBlock epoch body.now
+said_by (response.Latest f) = IsLatest f
+
+-- what a call answered is what reading gives, unless memory ran out
+abbrev pub Answers : Result (Option Reply) CodecError → Result (Option Response) CodecError → Type 0
+Answers reading (Ok None) = reading ≡ Ok None
+Answers reading (Ok (Some r)) = reading ≡ Ok (Some (said_by r))
+Answers reading (Err e) = Fails e reading
+
+-- ---- what is written
+
+abbrev pub message_tag : {Dir : Type 0} → Message Dir → ℕ
+message_tag (BoundaryRequest epoch) = 0
+message_tag (BoundaryResponse f) = 1
+message_tag (BlockRequest epoch) = 2
+message_tag (BlockResponse epoch block) = 3
+message_tag LatestRequest = 4
+message_tag (LatestResponse f) = 5
+
+abbrev pub message_body : {Dir : Type 0} → (Dir → List ℕ) → Message Dir → List ℕ
+message_body spelling (BoundaryRequest epoch) = uint epoch
+message_body spelling (BoundaryResponse f) = finalization_spelling f
+message_body spelling (BlockRequest epoch) = uint epoch
+message_body spelling (BlockResponse epoch block) = uint epoch ++ block_spelling spelling block
+message_body spelling LatestRequest = []
+message_body spelling (LatestResponse f) = finalization_spelling f
+
+abbrev pub message_spelling : {Dir : Type 0} → (Dir → List ℕ) → Message Dir → List ℕ
+message_spelling spelling = tagged message_tag (message_body spelling)
+
+-- what it carries fits
+abbrev pub MessageFits : {Dir : Type 0} → (Block Dir → Type 0) → Message Dir → Type 0
+MessageFits block_fits (BoundaryRequest epoch) = epoch < 2 ^ 64
+MessageFits block_fits (BoundaryResponse f) = FinalizationFits f
+MessageFits block_fits (BlockRequest epoch) = epoch < 2 ^ 64
+MessageFits block_fits (BlockResponse epoch block) = (epoch < 2 ^ 64) × block_fits block
+MessageFits block_fits LatestRequest = Unit {0}
+MessageFits block_fits (LatestResponse f) = FinalizationFits f
+
+message_within : {Dir : Type 0} (block_fits : Block Dir → Type 0) (spelling : Dir → List ℕ) (bound most : ℕ) → 71 ≤ most → 11 + bound ≤ most → IsBound block_fits (block_spelling spelling) bound → (m : Message Dir) → MessageFits block_fits m → length (message_spelling spelling m) ≤ most
+message_within block_fits spelling bound most long wide b (BoundaryRequest epoch) fit = omega (arith, uint_short epoch)
+message_within block_fits spelling bound most long wide b (BoundaryResponse f) fit = omega (arith, finalization_bound.within f fit)
+message_within block_fits spelling bound most long wide b (BlockRequest epoch) fit = omega (arith, uint_short epoch)
+message_within block_fits spelling bound most long wide b (BlockResponse epoch block) fit = omega (arith, length-append (uint epoch) (block_spelling spelling block), uint_short epoch, b.within block fit.1)
+message_within block_fits spelling bound most long wide b LatestRequest fit = omega arith
+message_within block_fits spelling bound most long wide b (LatestResponse f) fit = omega (arith, finalization_bound.within f fit)
+
+-- no message is longer than a finalization's, or a block's, with what stands before
+pub message_bound : {Dir : Type 0} (block_fits : Block Dir → Type 0) (spelling : Dir → List ℕ) (bound most : ℕ) → 71 ≤ most → 11 + bound ≤ most → IsBound block_fits (block_spelling spelling) bound → IsBound (MessageFits block_fits) (message_spelling spelling) most
+message_bound block_fits spelling bound most long wide b = record { within = message_within block_fits spelling bound most long wide b }
+
+-- a message that was written is read as what it asks or answers
+abbrev pub asked_by : {Dir : Type 0} → Message Dir → Option Request
+asked_by (BoundaryRequest epoch) = Some (request.Boundary epoch)
+asked_by (BoundaryResponse f) = None
+asked_by (BlockRequest epoch) = Some (request.Block epoch)
+asked_by (BlockResponse epoch block) = None
+asked_by LatestRequest = Some request.Latest
+asked_by (LatestResponse f) = None
+
+abbrev pub answered_by : {Dir : Type 0} → (Dir → List ℕ) → Message Dir → Option Reply
+answered_by spelling (BoundaryRequest epoch) = None
+answered_by spelling (BoundaryResponse f) = Some (IsBoundary f)
+answered_by spelling (BlockRequest epoch) = None
+answered_by spelling (BlockResponse epoch block) = Some (IsBlock epoch (block_spelling spelling block))
+answered_by spelling LatestRequest = None
+answered_by spelling (LatestResponse f) = Some (IsLatest f)

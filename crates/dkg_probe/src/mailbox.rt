@@ -1,0 +1,69 @@
+//! How others ask a probe behind a lock: the joining node subscribes, and attaches its source of blocks once it has one.
+ghost use Rattle.std.specs.Prelude.{◌≡◌, Option, IfOk, IfErr, true};
+ghost use Rattle.dkg_turn.specs.Passes.{IsPassOf, Posted};
+ghost use Rattle.dkg_turn.specs.Refusals.{CallRefused};
+ghost use Rattle.dkg_probe.specs.Mailboxes.{joined};
+ghost use Rattle.dkg_probe.specs.declared.artifact.Artifact.{Artifact as Found};
+
+use crate::artifact::Artifact;
+use crate::event::Event;
+use dkg_turn::{Carries, Pass, Turn, TurnError, TurnLock};
+use std::alloc::Global;
+use std::sync::Wait;
+
+/// A mailbox of a probe, or of a node that has one, behind a lock. Its calls wait for their turn.
+#[derive(Clone, Copy)]
+pub struct Mailbox<'a, T: Turn> {
+    lock: &'a TurnLock<T>,
+}
+
+impl<'a, T: Turn> Mailbox<'a, T> {
+    pub fn new(lock: &'a TurnLock<T>) -> Mailbox<'a, T>
+        ensures { result.lock.now ≡ lock.now }
+    {
+        Mailbox { lock }
+    }
+
+    /// Subscribes, and gives the artifact if it is known behind that turn. There is none either once the node has stopped.
+    pub fn subscribe<Dir, R: Wait>(
+        &self,
+        rt: &R,
+        alloc: Global,
+        pass: &mut Pass<T>,
+    ) -> Result<Option<Artifact<Dir>>, TurnError>
+    where
+        T: Carries<Event, Option<Artifact<Dir>>>,
+        requires own { IsPassOf self.now.lock.now pass.old }
+        ensures own { IsPassOf self.now.lock.now pass.new }
+        ensures posted { IfOk result (λ answer. (told : Option (Option (Found Dir))) × (answer ≡ joined told)
+            × Posted T.Turn.turns self.now.lock.now.start T.Turn.same T.Turn.told (T.posted Event.Subscribe)
+            T.answered T.stopped T.meets Event.Subscribe told pass.old pass.new) }
+        ensures refused { IfErr result (λ e. CallRefused T.Turn.turns self.now.lock.now.start e pass.old pass.new) }
+        ensures stays { pass.old.exhausted ≡ true → result ≡ Err TurnError.Exhausted }
+    {
+        match pass.post(rt, alloc, self.lock, Event::Subscribe)? {
+            None => Ok(None),
+            Some(answer) => Ok(answer),
+        }
+    }
+
+    /// Says that a source of blocks is there. Once the node has stopped it stays as it is.
+    pub fn attach<Dir: Drop, R: Wait>(
+        &self,
+        rt: &R,
+        alloc: Global,
+        pass: &mut Pass<T>,
+    ) -> Result<(), TurnError>
+    where
+        T: Carries<Event, Option<Artifact<Dir>>>,
+        requires own { IsPassOf self.now.lock.now pass.old }
+        ensures own { IsPassOf self.now.lock.now pass.new }
+        ensures posted { IfOk result (λ _. (told : Option (Option (Found Dir))) × Posted T.Turn.turns self.now.lock.now.start T.Turn.same T.Turn.told
+            (T.posted Event.Attach) T.answered T.stopped T.meets Event.Attach told pass.old pass.new) }
+        ensures refused { IfErr result (λ e. CallRefused T.Turn.turns self.now.lock.now.start e pass.old pass.new) }
+        ensures stays { pass.old.exhausted ≡ true → result ≡ Err TurnError.Exhausted }
+    {
+        let _answer = pass.post(rt, alloc, self.lock, Event::Attach)?;
+        Ok(())
+    }
+}
