@@ -1,0 +1,6 @@
+pub mod Deeds
+pub mod Fuses
+pub mod Keys
+pub mod OnRecord
+pub mod Playing
+pub mod Signers

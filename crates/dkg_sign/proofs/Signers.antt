@@ -1,0 +1,115 @@
+-- Which participants were met among the signers of partials.
+use Rattle.std.proofs.Common.{◌≡◌, ◌≢◌, ◌⊎◌, inl, inr, ⊎_elim, ℕ, zero, suc, ◌+◌, ◌<◌, ◌≤◌, ◌||◌, Bool, true, false, cond, not, eqb, List, [], ◌∷◌, length, get_or, drop, Option, Some, None, is_some, replicate, refl, sym, ◌∙◌, ap, subst, add-one, arith}
+use Rattle.std.proofs.Math.ListN.{set}
+use Rattle.std.proofs.Math.Seq.{drop-cons, drop-length}
+use Rattle.std.specs.Bool.{OnTrue}
+use Rattle.std.proofs.lemmas.Bool.{cases_Bool, cases_eq, eq-eqb, eqb-true, ne_eqb}
+use Rattle.std.proofs.lemmas.List.{get_or-set_same, get_or-set_other}
+use Rattle.std.specs.List.{position_from, list_any}
+use Rattle.dkg_values.specs.Rising.{place_of, has_key}
+use Rattle.dkg_types.specs.declared.scheme.SchemeInfo.{SchemeInfo}
+use Rattle.dkg_sign.specs.Materials.{participants_of}
+use Rattle.dkg_sign.specs.Signs.{AreMet, fault_from, is_valid}
+use Rattle.dkg_sign.specs.declared.error.CombineError.{CombineError}
+use Rattle.dkg_sign.specs.declared.error.CombineError.TheVariants.{Invalid, Doubled}
+use Rattle.dkg_sign.specs.declared.partial.Partial.{Partial}
+
+-- ---- a key's place
+
+-- a key stands at its place
+placed_from : (key i : ℕ) (keys : List ℕ) (place : ℕ) → position_from (λ x. eqb x key) i keys ≡ Some place → (k : ℕ) × (place ≡ i + k) × ((d : ℕ) → get_or keys k d ≡ key)
+placed_from key i [] place is = absurd cc
+placed_from key i (x ∷ xs) place is = elim (cases_Bool (eqb x key)) [
+  | inl e ↦ let here : Some i ≡ Some place = rw e at is in let at : i ≡ place = cc in (0, omega arith, λ d. eqb-true x key e)
+  | inr e ↦ let r = placed_from key (i + 1) xs place (rw e at is) in (suc r.0, omega (arith, r.1), r.2)
+]
+
+placed : (key : ℕ) (keys : List ℕ) (place d : ℕ) → place_of key keys ≡ Some place → get_or keys place d ≡ key
+placed key keys place d is =
+    let r = placed_from key 0 keys place is in
+    let at : place ≡ r.0 = omega (arith, r.1) in
+    ap (λ (k : ℕ). get_or keys k d) at ∙ r.2 d
+
+-- two keys at one place are one
+one_key : (a b : ℕ) (keys : List ℕ) (place : ℕ) → place_of a keys ≡ Some place → place_of b keys ≡ Some place → a ≡ b
+one_key a b keys place at_a at_b = sym (placed a keys place 0 at_a) ∙ placed b keys place 0 at_b
+
+some_is : (a b : ℕ) → Some a ≡ Some b → a ≡ b
+some_is a b e = cc
+
+-- ---- the flags
+
+none_at : (n i : ℕ) → get_or (replicate n false) i false ≡ false
+none_at zero i = refl
+none_at (suc n) zero = refl
+none_at (suc n) (suc i) = none_at n i
+
+pub none_met : (participants : List ℕ) (n : ℕ) → AreMet participants [] (replicate n false)
+none_met participants n = record { each = λ key place is. none_at n place }
+
+met_more : (participants met : List ℕ) (flags : List Bool) (key place : ℕ) → place_of key participants ≡ Some place → place < length flags → AreMet participants met flags → AreMet participants (key ∷ met) (set flags place true)
+met_more participants met flags key place is lt are = record { each = λ k p at. here k p at (cases_eq p place) }
+  where
+    here : (k p : ℕ) → place_of k participants ≡ Some p → (p ≡ place) ⊎ (p ≡ place → ⊥) → get_or (set flags place true) p false ≡ has_key k (key ∷ met)
+    here k p at (inl same) =
+        let one : k ≡ key = one_key k key participants place (at ∙ ap (λ (n : ℕ). Some n) same) is in
+        ap (λ (n : ℕ). get_or (set flags place true) n false) same ∙ get_or-set_same flags place true false lt ∙ sym (ap (λ (b : Bool). b || has_key k met) (eq-eqb k key one))
+    here k p at (inr other) =
+        let two : eqb k key ≡ false = ne_eqb k key (λ e. other (some_is p place (sym at ∙ ap (λ (n : ℕ). place_of n participants) e ∙ is))) in
+        get_or-set_other flags place p true false other ∙ are.each k p at ∙ sym (ap (λ (b : Bool). b || has_key k met) two)
+
+on_true : (b : Bool) (P : Type 0) → P → OnTrue b P
+on_true true P p = p
+on_true false P p = tt
+
+-- a participant is met: whether it was before, and the flags then
+pub meets : (participants met : List ℕ) (flags : List Bool) (key place : ℕ) → place_of key participants ≡ Some place → place < length flags → AreMet participants met flags
+    → (not (get_or flags place false) ≡ not (has_key key met)) × OnTrue (not (get_or flags place false)) (AreMet participants (key ∷ met) (set flags place true))
+meets participants met flags key place is lt are = (
+  ap not (are.each key place is),
+  on_true (not (get_or flags place false)) (AreMet participants (key ∷ met) (set flags place true)) (met_more participants met flags key place is lt are),
+)
+
+-- ---- the partials so far
+
+-- they had no fault, and their signers were met
+pub record IsChecked (info : SchemeInfo) (epoch hash : ℕ) (partials : List Partial) (flags : List Bool) (index : ℕ) : Type 0 where
+  pub met : List ℕ
+  pub flagged : AreMet (participants_of info) met flags
+  pub rest : fault_from info epoch hash [] 0 partials ≡ fault_from info epoch hash met index (drop index partials)
+
+pub none_checked : (info : SchemeInfo) (epoch hash : ℕ) (partials : List Partial) (n : ℕ) → IsChecked info epoch hash partials (replicate n false) 0
+none_checked info epoch hash partials n = record { met = []; flagged = none_met (participants_of info) n; rest = refl }
+
+here_is : (info : SchemeInfo) (epoch hash : ℕ) (partials : List Partial) (met : List ℕ) (index : ℕ) (p : Partial) → index < length partials → p ≡ get_or partials index p
+    → fault_from info epoch hash met index (drop index partials) ≡ fault_from info epoch hash met index (p ∷ drop (suc index) partials)
+here_is info epoch hash partials met index p lt is =
+    ap (λ (ps : List Partial). fault_from info epoch hash met index ps) (drop-cons partials index p lt ∙ ap (λ (q : Partial). q ∷ drop (suc index) partials) (sym is))
+
+-- .. one that is not valid
+pub one_invalid : (info : SchemeInfo) (epoch hash : ℕ) (partials : List Partial) (flags : List Bool) (index : ℕ) (p : Partial) → index < length partials → p ≡ get_or partials index p
+    → IsChecked info epoch hash partials flags index → is_valid info epoch hash p ≡ false → fault_from info epoch hash [] 0 partials ≡ Some (Invalid index)
+one_invalid info epoch hash partials flags index p lt is so invalid =
+    so.rest ∙ here_is info epoch hash partials so.met index p lt is ∙ rw invalid refl
+
+-- .. one whose signer was met
+pub one_doubled : (info : SchemeInfo) (epoch hash : ℕ) (partials : List Partial) (flags : List Bool) (index : ℕ) (p : Partial) → index < length partials → p ≡ get_or partials index p
+    → (so : IsChecked info epoch hash partials flags index) → is_valid info epoch hash p ≡ true → has_key p.signer so.met ≡ true → fault_from info epoch hash [] 0 partials ≡ Some (Doubled index)
+one_doubled info epoch hash partials flags index p lt is so valid met =
+    so.rest ∙ here_is info epoch hash partials so.met index p lt is ∙ rw (valid, met) refl
+
+-- .. one without a fault
+pub one_more : (info : SchemeInfo) (epoch hash : ℕ) (partials : List Partial) (flags next : List Bool) (index : ℕ) (p : Partial) → index < length partials → p ≡ get_or partials index p
+    → (so : IsChecked info epoch hash partials flags index) → is_valid info epoch hash p ≡ true → has_key p.signer so.met ≡ false → AreMet (participants_of info) (p.signer ∷ so.met) next
+    → IsChecked info epoch hash partials next (index + 1)
+one_more info epoch hash partials flags next index p lt is so valid unmet are = record {
+  met = p.signer ∷ so.met;
+  flagged = are;
+  rest = so.rest ∙ here_is info epoch hash partials so.met index p lt is ∙ rw (valid, unmet, add-one) refl;
+}
+
+-- .. all of them
+pub all_checked : (info : SchemeInfo) (epoch hash : ℕ) (partials : List Partial) (flags : List Bool) (index : ℕ) → length partials ≤ index → index ≤ length partials → IsChecked info epoch hash partials flags index → fault_from info epoch hash [] 0 partials ≡ None
+all_checked info epoch hash partials flags index low high so =
+    let end : index ≡ length partials = omega arith in
+    so.rest ∙ ap (λ (n : ℕ). fault_from info epoch hash so.met n (drop n partials)) end ∙ ap (λ (ps : List Partial). fault_from info epoch hash so.met (length partials) ps) (drop-length partials)

@@ -1,0 +1,9 @@
+use Rattle.std.proofs.Common.{◌≡◌, [], drop, length}
+use Rattle.std.specs.Prelude.{List, ℕ}
+use Rattle.dkg_sign.specs.Materials.{participants_of}
+use Rattle.dkg_sign.specs.Signs.{fault_from}
+use Rattle.dkg_sign.proofs.Signers.{IsChecked}
+use Rattle.dkg_sign.proofs.combine.check.Given as goal
+
+abbrev pub invariant-loop-partial : goal.invariant-loop-partial
+invariant-loop-partial l = (l.index ≡ l.partial-index) × (length l.seen.items ≡ length (participants_of l.info)) × IsChecked l.info l.epoch l.hash l.partials l.seen.items l.partial-index

@@ -1,0 +1,8 @@
+use Rattle.dkg_sign.proofs.Keys.{one_value, chain_keeps}
+use Rattle.dkg_sign.proofs.laws.one_signature.Goals as goal
+
+pub returns-clause-quorums : goal.returns-clause-quorums
+returns-clause-quorums c = one_value
+
+pub returns-clause-chain : goal.returns-clause-chain
+returns-clause-chain c = chain_keeps

@@ -1,0 +1,11 @@
+pub mod Chains
+pub mod Desks
+pub mod Errors
+pub mod Lives
+pub mod Materials
+pub mod Played
+pub mod Recorded
+pub mod Registers
+pub mod Registrars
+pub mod Signing
+pub mod Signs

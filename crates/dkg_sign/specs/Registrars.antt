@@ -1,0 +1,54 @@
+-- Where a registrar's desk stands beside its disk, and how a registration went.
+use Rattle.std.specs.Prelude.{◌≡◌, ◌≢◌, ◌⊎◌, ℕ, Bool, true, false, List, [], ◌∷◌, ◌++◌, Option, None, Result, Ok, Err, IsErrAnd}
+use Rattle.dkg_journal.specs.Names.{Files}
+use Rattle.dkg_journal.specs.Disk.{Rose}
+use Rattle.dkg_types.specs.declared.scheme.SchemeInfo.{SchemeInfo}
+use Rattle.dkg_sign.specs.Desks.{Desk}
+use Rattle.dkg_sign.specs.Recorded.{Stands}
+use Rattle.dkg_sign.specs.Registers.{EndsBy, IsOfOpening, Judges, is_below}
+use Rattle.dkg_sign.specs.declared.error.DeskError.{DeskError}
+use Rattle.dkg_sign.specs.declared.error.DeskError.TheVariants.{Replaced, Conflict, Foreign, Disk, Corrupt, Cut, NoMemory}
+
+-- The disk is as the desk's last call left it, where the desk needs not be opened again.
+pub record IsReady (reopen : Bool) (desk : Desk) (files : Files) (image : Files → Type 0) : Type 0 where
+  pub stands : reopen ≡ false → Stands desk files image
+
+-- whether a desk that answered so must be opened again
+abbrev pub is_broken : Result (Unit {0}) DeskError → Bool
+is_broken (Ok done) = false
+is_broken (Err Disk) = true
+is_broken (Err Cut) = true
+is_broken (Err NoMemory) = false
+is_broken (Err (Corrupt place)) = false
+is_broken (Err (Replaced asked current)) = false
+is_broken (Err (Conflict epoch)) = false
+is_broken (Err (Foreign epoch)) = false
+
+-- the desk could not be opened again, and is as it was
+pub record StaysShut (reopen reopen' : Bool) (old new : Desk) (answer : Result (Unit {0}) DeskError) : Type 0 where
+  pub had_to : reopen ≡ true
+  pub has_to : reopen' ≡ true
+  pub same : new ≡ old
+  pub why : IsErrAnd answer IsOfOpening
+
+-- The desk was asked, or the one that was opened again in its place, and answered so.
+pub record Asked (reopen : Bool) (old new : Desk) (epoch : ℕ) (info : SchemeInfo) (answer : Result (Unit {0}) DeskError) : Type 0 where
+  pub desk : Desk
+  pub first : reopen ≡ false → desk ≡ old
+  pub again : reopen ≡ true → (desk.me ≡ old.me) × (desk.held ≡ None)
+  pub verdict : Result Bool DeskError
+  pub judged : Judges desk epoch info verdict
+  pub ended : EndsBy verdict (is_below desk.current epoch) epoch info desk new answer
+
+-- the list of refusals behind an answer
+abbrev pub listed : Result (Unit {0}) DeskError → List DeskError → List DeskError
+listed (Ok done) refused = refused
+listed (Err why) refused = refused ++ why ∷ []
+
+-- A registration that was not answered by want of memory: what the desk answered, and that a refusal is listed.
+pub record Told (reopen reopen' : Bool) (old new : Desk) (epoch : ℕ) (info : SchemeInfo) (refused refused' : List DeskError) (faults faults' : ℕ) : Type 0 where
+  pub answer : Result (Unit {0}) DeskError
+  pub went : StaysShut reopen reopen' old new answer ⊎ (Asked reopen old new epoch info answer × (reopen' ≡ is_broken answer))
+  pub list : refused' ≡ listed answer refused
+  pub not_memory : answer ≢ Err NoMemory
+  pub disk : answer ≡ Err Disk → Rose faults faults'
