@@ -1,74 +1,104 @@
 -- The entries in each step of an append.
-use Rattle.std.proofs.Common.{◌≡◌, inl, inr, ⊎_elim, ℕ, ◌+◌, ◌<◌, ◌≤◌, ◌^◌, List, [], ◌∷◌, ◌++◌, map, fold, length, Option, Some, refl, sym, ◌∙◌, ap, subst, arith, length-append}
-use Rattle.std.proofs.lemmas.List.{drop_at, map-append}
-use Rattle.std.proofs.lemmas.List.Sums.{fold_push}
-use Rattle.std.specs.FinMap.{get, same_map}
-use Rattle.dkg_journal.specs.Names.{Files, name_number, name_at, name_at-name_number}
-use Rattle.dkg_journal.specs.Disk.{Torn, written, SameElse, HasFile, Inside, Follows, Did}
-use Rattle.dkg_journal.specs.Records.{Entry, entries, entries_with, entry_of, placed, in_sections, number64, IsFlat, IsFlatBody, Staged, spelled, behind}
-use Rattle.dkg_journal.specs.Steps.{Firm, Bare, FlatAt, Into, Keeps, Adds, MayAdd, body_of}
+use Rattle.std.proofs.Common.{◌≡◌, ◌≢◌, inl, inr, ⊎_elim, ℕ, suc, ◌+◌, Bool, true, false, cond, ◌<◌, ◌≤◌, ◌^◌, List, [], ◌∷◌, ◌++◌, length, Option, Some, None, refl, sym, ◌∙◌, ap, subst, arith, length-append}
 use Rattle.std.proofs.lemmas.Bool.{cases_eq}
+use Rattle.std.specs.FinMap.{get, insert, get-insert}
+use Rattle.std.specs.Cmp.{nat_cmp_total}
+use Rattle.std.specs.Option.{unwrap_or}
+use Rattle.std.specs.Ordering.{eq_by_cmp, nat_cmp}
+use Rattle.std.proofs.lemmas.Bool.Decides.{nat_tests}
+use Rattle.dkg_journal.specs.Names.{Files, name_number}
+use Rattle.dkg_journal.specs.Disk.{Torn, written, SameElse, HasFile, Inside, Follows, Did}
+use Rattle.dkg_journal.specs.Places.{Places, joined, place_at}
+use Rattle.dkg_journal.specs.Records.{Entry, entries, placed, IsShut, IsBody, Staged, spelled, behind}
+use Rattle.dkg_journal.specs.Steps.{Firm, IsNext, IsOpenAt, IsSegmentAt, SegmentAt, Into, KeepsBut, Adds, MayAdd, start}
 use Rattle.dkg_values.specs.declared.name.Name.{Name}
-use Rattle.dkg_values.specs.declared.name.Name.TheVariants.{Flat}
+use Rattle.dkg_values.specs.declared.name.Name.TheVariants.{Plan, Flat, Segment}
 use Rattle.dkg_journal.specs.declared.disk.Op.TheVariants.{Install}
-use Rattle.dkg_journal.proofs.Bytes.{length-number64, read64-number64}
-use Rattle.dkg_journal.proofs.Flat.{flat_bodies, torn_behind, written_behind, torn_gate, written_gate}
-use Rattle.dkg_journal.proofs.Steps.{compose, weaken, get_here, names_total, exact_names}
+use Rattle.dkg_journal.proofs.Shut.{shut_bodies, torn_behind, written_behind, torn_gate, written_gate}
+use Rattle.dkg_journal.proofs.Sections.{bodies_at, same_entries, one_entry_more}
+use Rattle.dkg_journal.proofs.SameFiles.{same_files, same_name}
+use Rattle.dkg_journal.proofs.Steps.{compose, weaken, get_here}
 
--- files that differ nowhere
-pub same_files : (name : Name) (d c : Files) → SameElse name d c → get c name ≡ get d name → c ≡ d
-same_files name d c others is = same_map names_total exact_names c d (λ q. elim (cases_eq (name_number q) (name_number name)) [
-  | inl same ↦ let at : q ≡ name = sym (name_at-name_number q) ∙ ap name_at same ∙ name_at-name_number name in subst (λ (x : Name). get c x ≡ get d x) (sym at) is
-  | inr apart ↦ others q (λ e. apart (ap name_number e))
-])
+pub flat_apart : (section : ℕ) → Flat ≢ Segment section
+flat_apart section e = absurd (omega (arith, ap name_number e))
 
--- the entries of a file of these records
-pub entries_flat : (f : Files) (bs : List (List ℕ)) (place : ℕ) (x : List ℕ) → get f Flat ≡ Some x → IsFlat bs place x → entries f ≡ in_sections bs
-entries_flat f bs place x there flat = ap (λ (o : Option (List ℕ)). entries_with o f) there ∙ ap in_sections (flat_bodies bs place x flat)
+pub flat_plan : Flat ≢ Plan
+flat_plan e = absurd (omega (arith, ap name_number e))
 
-pub one_more : (bs : List (List ℕ)) (b : List ℕ) → in_sections (bs ++ b ∷ []) ≡ placed (in_sections bs) (entry_of b)
-one_more bs b = ap (fold placed []) (map-append entry_of bs (b ∷ [])) ∙ fold_push placed [] (map entry_of bs) (entry_of b)
+pub segment_plan : (s : ℕ) → Segment s ≢ Plan
+segment_plan s e = absurd (omega (arith, ap name_number e))
 
-pub entry_of_body : (section : ℕ) (body : List ℕ) → section < 2 ^ 64 → entry_of (body_of (section, body)) ≡ (section, body)
-entry_of_body section body fits = λ i. (read64-number64 section body fits i, drop_at (number64 section) body 8 (length-number64 section) i)
+pub segments_apart : (s section : ℕ) → s ≢ section → Segment s ≢ Segment section
+segments_apart s section ne e = ne (omega (arith, ap name_number e))
 
-pub allowed : (x : List ℕ) (place : ℕ) (files : Files) (image : Files → Type 0) → Firm x files image → place ≤ length x → HasFile files Flat (λ file. place ≤ length file)
-allowed x place files image firm le = record { bytes = x; there = firm.there; so = le }
+-- the records of a file that is there
+pub bodies_shut : (bs : List (List ℕ)) (place : ℕ) (x : List ℕ) (o : Option (List ℕ)) → o ≡ Some x → IsShut 0 bs place x → bodies_at o ≡ bs
+bodies_shut bs place x o there shut = ap bodies_at there ∙ shut_bodies 0 bs place x shut
 
-pub room : (bs : List (List ℕ)) (place : ℕ) (x : List ℕ) → IsFlat bs place x → place + 1 ≤ length x
-room bs place x flat = omega (arith, ap length flat.is, length-append (spelled bs) (flat.gate ∷ flat.junk), flat.size)
+other_bodies : (section : ℕ) (d c : Files) → SameElse (Segment section) d c → (s : ℕ) → s ≢ section → bodies_at (get c (Segment s)) ≡ bodies_at (get d (Segment s))
+other_bodies section d c others s ne = ap bodies_at (others (Segment s) (segments_apart s section ne))
 
-pub staged_flat : (bs : List (List ℕ)) (body : List ℕ) (place : ℕ) (x : List ℕ) → Staged bs body place x → IsFlat bs place x
-staged_flat bs body place x staged = record { gate = staged.gate; junk = _; is = staged.is; shut = staged.shut; size = staged.size; short = staged.short }
+same_bodies : (section : ℕ) (d c : Files) → SameElse (Segment section) d c → bodies_at (get c (Segment section)) ≡ bodies_at (get d (Segment section)) → (s : ℕ) → bodies_at (get c (Segment s)) ≡ bodies_at (get d (Segment s))
+same_bodies section d c others same s = elim (cases_eq s section) [
+  | inl is ↦ subst (λ (n : ℕ). bodies_at (get c (Segment n)) ≡ bodies_at (get d (Segment n))) (sym is) same
+  | inr ne ↦ other_bodies section d c others s ne
+]
 
-pub keeps_behind : (place n : ℕ) (files : Files) (image next : Files → Type 0) (flat : FlatAt place files image) → Follows (Into (Torn (place + 1) n flat.bytes)) image next → Follows Keeps image next
-keeps_behind place n files image next flat step = weaken _ _ image next (λ d c now into. record {
+-- one segment has the same records
+pub same_at : (section : ℕ) (d c : Files) → get d Flat ≡ None → SameElse (Segment section) d c → bodies_at (get c (Segment section)) ≡ bodies_at (get d (Segment section)) → entries c ≡ entries d
+same_at section d c no_flat others same = same_entries c d (others Flat (flat_apart section) ∙ no_flat) no_flat (same_bodies section d c others same)
+
+-- .. or one more
+pub more_at : (section : ℕ) (body : List ℕ) (d c : Files) → get d Flat ≡ None → SameElse (Segment section) d c → bodies_at (get c (Segment section)) ≡ bodies_at (get d (Segment section)) ++ body ∷ [] → entries c ≡ placed (entries d) (section, body)
+more_at section body d c no_flat others more = one_entry_more c d section body (others Flat (flat_apart section) ∙ no_flat) no_flat more (other_bodies section d c others)
+
+pub allowed : (name : Name) (x : List ℕ) (place : ℕ) (files : Files) (image : Files → Type 0) → Firm name x files image → place ≤ length x → HasFile files name (λ file. place ≤ length file)
+allowed name x place files image firm le = record { bytes = x; there = firm.there; so = le }
+
+pub room : (bs : List (List ℕ)) (place : ℕ) (x : List ℕ) → IsShut 0 bs place x → place + 1 ≤ length x
+room bs place x shut = omega (arith, ap length shut.is, length-append (spelled bs) (shut.gate ∷ shut.junk), shut.size)
+
+pub staged_shut : (bs : List (List ℕ)) (body : List ℕ) (place : ℕ) (x : List ℕ) → Staged 0 bs body place x → IsShut 0 bs place x
+staged_shut bs body place x staged = record { gate = staged.gate; junk = _; is = staged.is; shut = staged.shut; size = staged.size; short = staged.short }
+
+-- no image has a flat file
+abbrev pub IsParted : (Files → Type 0) → Type 0
+IsParted image = (c : Files) → image c → get c Flat ≡ None
+
+pub keeps_parted : (section : ℕ) (a b : Files → Type 0) → IsParted a → Follows (KeepsBut (Segment section)) a b → IsParted b
+keeps_parted section a b parted step c now = let d = step.each c now in d.2.others Flat (flat_apart section) ∙ parted d.0 d.1
+
+pub into_parted : (section : ℕ) (P : List ℕ → Type 0) (a b : Files → Type 0) → IsParted a → Follows (Into (Segment section) P) a b → IsParted b
+into_parted section P a b parted step c now = let d = step.each c now in d.2.0 Flat (flat_apart section) ∙ parted d.0 d.1
+
+pub keeps_behind : (section place n : ℕ) (files : Files) (image next : Files → Type 0) (at : SegmentAt section place files image) → IsParted image → Follows (Into (Segment section) (Torn (place + 1) n at.bytes)) image next → Follows (KeepsBut (Segment section)) image next
+keeps_behind section place n files image next at parted step = weaken _ _ image next (λ d c now into. record {
   others = into.0;
-  same = entries_flat c flat.bs place into.1.bytes into.1.there (torn_behind flat.bs place n flat.bytes into.1.bytes flat.flat into.1.so)
-      ∙ sym (entries_flat d flat.bs place flat.bytes (flat.firm.only d now) flat.flat);
+  same = same_at section d c (parted d now) into.0 (bodies_shut at.bs place into.1.bytes _ into.1.there (torn_behind 0 at.bs place n at.bytes into.1.bytes at.shut into.1.so)
+      ∙ sym (bodies_shut at.bs place at.bytes _ (at.firm.only d now) at.shut));
 }) step
 
-pub may_add_gate : (bs : List (List ℕ)) (body y : List ℕ) (place : ℕ) (files : Files) (image next : Files → Type 0) → Staged bs body place y → Firm y files image → Follows (Into (Torn place 1 y)) image next → Follows (MayAdd (entry_of body)) image next
-may_add_gate bs body y place files image next staged firm step = weaken _ _ image next (λ d c now into.
-    let before : entries d ≡ in_sections bs = entries_flat d bs place y (firm.only d now) (staged_flat bs body place y staged) in
+pub may_add_gate : (section : ℕ) (bs : List (List ℕ)) (body y : List ℕ) (place : ℕ) (files : Files) (image next : Files → Type 0) → Staged 0 bs body place y → Firm (Segment section) y files image → IsParted image → Follows (Into (Segment section) (Torn place 1 y)) image next → Follows (MayAdd (section, body)) image next
+may_add_gate section bs body y place files image next staged firm parted step = weaken _ _ image next (λ d c now into.
+    let before : bodies_at (get d (Segment section)) ≡ bs = bodies_shut bs place y _ (firm.only d now) (staged_shut bs body place y staged) in
     record {
       others = into.0;
       either = ⊎_elim
-          (λ (f : IsFlat bs place into.1.bytes). inl (entries_flat c bs place into.1.bytes into.1.there f ∙ sym before))
-          (λ (f : IsFlat (bs ++ body ∷ []) (place + 5 + length body) into.1.bytes). inr (entries_flat c (bs ++ body ∷ []) (place + 5 + length body) into.1.bytes into.1.there f ∙ one_more bs body ∙ ap (λ (l : List Entry). placed l (entry_of body)) (sym before)))
-          (torn_gate bs body place y into.1.bytes staged into.1.so);
+          (λ (f : IsShut 0 bs place into.1.bytes). inl (same_at section d c (parted d now) into.0 (bodies_shut bs place into.1.bytes _ into.1.there f ∙ sym before)))
+          (λ (f : IsShut 0 (bs ++ body ∷ []) (place + 5 + length body) into.1.bytes). inr (more_at section body d c (parted d now) into.0 (bodies_shut (bs ++ body ∷ []) (place + 5 + length body) into.1.bytes _ into.1.there f ∙ ap (λ (l : List (List ℕ)). l ++ body ∷ []) (sym before))))
+          (torn_gate 0 bs body place y into.1.bytes staged into.1.so);
     }) step
 
-pub adds_gate : (bs : List (List ℕ)) (body y : List ℕ) (place : ℕ) (files last : Files) (image next : Files → Type 0) → Staged bs body place y → Firm y files image → Firm (written place (1 ∷ []) y) last next → Follows (Into (Torn place 1 y)) image next → Follows (Adds (entry_of body)) image next
-adds_gate bs body y place files last image next staged firm firm_last step = record {
+pub adds_gate : (section : ℕ) (bs : List (List ℕ)) (body y : List ℕ) (place : ℕ) (files last : Files) (image next : Files → Type 0) → Staged 0 bs body place y → Firm (Segment section) y files image → IsParted image → Firm (Segment section) (written place (1 ∷ []) y) last next → Follows (Into (Segment section) (Torn place 1 y)) image next → Follows (Adds (section, body)) image next
+adds_gate section bs body y place files last image next staged firm parted firm_last step = record {
   each = λ c now.
       let from = step.each c now in
-      let before : entries from.0 ≡ in_sections bs = entries_flat from.0 bs place y (firm.only from.0 from.1) (staged_flat bs body place y staged) in (
+      let before : bodies_at (get from.0 (Segment section)) ≡ bs = bodies_shut bs place y _ (firm.only from.0 from.1) (staged_shut bs body place y staged) in (
         from.0,
         from.1,
         record {
           others = from.2.0;
-          added = entries_flat c (bs ++ body ∷ []) (place + 5 + length body) _ (firm_last.only c now) (written_gate bs body place y staged) ∙ one_more bs body ∙ ap (λ (l : List Entry). placed l (entry_of body)) (sym before);
+          added = more_at section body from.0 c (parted from.0 from.1) from.2.0 (bodies_shut (bs ++ body ∷ []) (place + 5 + length body) _ _ (firm_last.only c now) (written_gate 0 bs body place y staged) ∙ ap (λ (l : List (List ℕ)). l ++ body ∷ []) (sym before));
         },
       );
 }
@@ -76,81 +106,134 @@ adds_gate bs body y place files last image next staged firm firm_last step = rec
 pub same_may_add : (e : Entry) (image : Files → Type 0) → Follows (MayAdd e) image image
 same_may_add e image = record { each = λ c now. (c, now, record { others = λ q ne. refl; either = inl refl }) }
 
-pub keeps_none : (image : Files → Type 0) → Follows Keeps image image
-keeps_none image = record { each = λ c now. (c, now, record { others = λ q ne. refl; same = refl }) }
+pub keeps_none : (name : Name) (image : Files → Type 0) → Follows (KeepsBut name) image image
+keeps_none name image = record { each = λ c now. (c, now, record { others = λ q ne. refl; same = refl }) }
 
-pub keeps_keeps : (a b c : Files → Type 0) → Follows Keeps a b → Follows Keeps b c → Follows Keeps a c
-keeps_keeps a b c = compose Keeps Keeps Keeps a b c (λ x y z p q. record { others = λ name ne. q.others name ne ∙ p.others name ne; same = q.same ∙ p.same })
+pub keeps_keeps : (name : Name) (a b c : Files → Type 0) → Follows (KeepsBut name) a b → Follows (KeepsBut name) b c → Follows (KeepsBut name) a c
+keeps_keeps name a b c = compose (KeepsBut name) (KeepsBut name) (KeepsBut name) a b c (λ x y z p q. record { others = λ n ne. q.others n ne ∙ p.others n ne; same = q.same ∙ p.same })
 
-pub keeps_may_add : (e : Entry) (a b : Files → Type 0) → Follows Keeps a b → Follows (MayAdd e) a b
-keeps_may_add e a b step = weaken Keeps (MayAdd e) a b (λ x y now k. record { others = k.others; either = inl k.same }) step
+pub keeps_may_add : (e : Entry) (a b : Files → Type 0) → Follows (KeepsBut (Segment e.0)) a b → Follows (MayAdd e) a b
+keeps_may_add e a b step = weaken (KeepsBut (Segment e.0)) (MayAdd e) a b (λ x y now k. record { others = k.others; either = inl k.same }) step
 
-pub then_may_add : (e : Entry) (a b c : Files → Type 0) → Follows Keeps a b → Follows (MayAdd e) b c → Follows (MayAdd e) a c
-then_may_add e a b c = compose Keeps (MayAdd e) (MayAdd e) a b c (λ x y z p q. record {
+pub then_may_add : (e : Entry) (a b c : Files → Type 0) → Follows (KeepsBut (Segment e.0)) a b → Follows (MayAdd e) b c → Follows (MayAdd e) a c
+then_may_add e a b c = compose (KeepsBut (Segment e.0)) (MayAdd e) (MayAdd e) a b c (λ x y z p q. record {
   others = λ name ne. q.others name ne ∙ p.others name ne;
   either = ⊎_elim (λ s. inl (s ∙ p.same)) (λ s. inr (s ∙ ap (λ (l : List Entry). placed l e) p.same)) q.either;
 })
 
-pub then_adds : (e : Entry) (a b c : Files → Type 0) → Follows Keeps a b → Follows (Adds e) b c → Follows (Adds e) a c
-then_adds e a b c = compose Keeps (Adds e) (Adds e) a b c (λ x y z p q. record {
+pub then_adds : (e : Entry) (a b c : Files → Type 0) → Follows (KeepsBut (Segment e.0)) a b → Follows (Adds e) b c → Follows (Adds e) a c
+then_adds e a b c = compose (KeepsBut (Segment e.0)) (Adds e) (Adds e) a b c (λ x y z p q. record {
   others = λ name ne. q.others name ne ∙ p.others name ne;
   added = q.added ∙ ap (λ (l : List Entry). placed l e) p.same;
 })
 
 -- a new file is one closed gate
-new_flat : IsFlat [] 0 (0 ∷ [])
-new_flat = record { gate = 0; junk = []; is = refl; shut = omega arith; size = refl; short = tt }
+pub new_shut : IsShut 0 [] 0 (0 ∷ [])
+new_shut = record { gate = 0; junk = []; is = refl; shut = omega arith; size = refl; short = tt }
 
-pub made_flat : (files last : Files) (image next : Files → Type 0) → Bare files image → Did (Install Flat (0 ∷ [])) files last next → FlatAt 0 last next
-made_flat files last image next bare did = record {
+pub made_segment : (section : ℕ) (files last : Files) (next : Files → Type 0) → Did (Install (Segment section) (0 ∷ [])) files last next → SegmentAt section 0 last next
+made_segment section files last next did = record {
   bs = [];
   bytes = 0 ∷ [];
   firm = record {
-    there = ap (λ (m : Files). get m Flat) did.reads ∙ get_here files Flat (0 ∷ []);
+    there = ap (λ (m : Files). get m (Segment section)) did.reads ∙ get_here files (Segment section) (0 ∷ []);
     only = did.durable;
   };
-  flat = new_flat;
+  shut = new_shut;
 }
 
-pub made_keeps : (files : Files) (image next : Files → Type 0) → Bare files image → Follows (Inside (Install Flat (0 ∷ []))) image next → Follows Keeps image next
-made_keeps files image next bare step = weaken _ _ image next (λ d c now into. record {
+-- a section that has no file
+pub made_keeps : (section : ℕ) (files : Files) (image next : Files → Type 0) → IsNext section None files image → Follows (Inside (Install (Segment section) (0 ∷ []))) image next → Follows (KeepsBut (Segment section)) image next
+made_keeps section files image next at step = weaken _ _ image next (λ d c now into. record {
   others = into.0;
   same = ⊎_elim
-      (λ (is : get c Flat ≡ get d Flat). none_is d c now into.0 is)
-      (λ (is : get c Flat ≡ Some (0 ∷ [])). entries_flat c [] 0 (0 ∷ []) is new_flat ∙ sym (bare.empty d now))
+      (λ (is : get c (Segment section) ≡ get d (Segment section)). ap entries (same_files (Segment section) d c into.0 is))
+      (λ (is : get c (Segment section) ≡ Some (0 ∷ [])). same_at section d c (at.no_flat d now) into.0 (bodies_shut [] 0 (0 ∷ []) _ is new_shut ∙ sym (ap bodies_at (at.only d now ∙ at.at))))
       into.1;
 }) step
-  where
-    none_is : (d c : Files) → image d → SameElse Flat d c → get c Flat ≡ get d Flat → entries c ≡ entries d
-    none_is d c now others is = ap entries (same_files Flat d c others is)
 
--- the body with its section is short
-pub short_body : (section : ℕ) (body : List ℕ) → 8 + length body < 2 ^ 32 → IsFlatBody (body_of (section, body))
-short_body section body short =
-    let long : length (body_of (section, body)) ≡ 8 + length body = length-append (number64 section) body ∙ ap (λ (n : ℕ). n + length body) (length-number64 section) in
-    (omega (arith, long), omega (arith, long, short))
+-- .. and one that has one
+pub next_segment : (section place : ℕ) (files : Files) (image : Files → Type 0) → IsNext section (Some place) files image → SegmentAt section place files image
+next_segment section place files image at = record {
+  bs = at.at.0;
+  bytes = at.at.1;
+  firm = record { there = at.at.2; only = λ c now. at.only c now ∙ at.at.2 };
+  shut = at.at.3;
+}
 
-module _ (place section : ℕ) (body : List ℕ) (in_range : section < 2 ^ 64) (short : 8 + length body < 2 ^ 32) where
-  pub is_staged : (bs : List (List ℕ)) (x : List ℕ) → IsFlat bs place x → Staged bs (body_of (section, body)) place (written (place + 1) (behind (body_of (section, body))) x)
-  is_staged bs x flat = written_behind bs (body_of (section, body)) place x flat (short_body section body short)
+pub open_next : (section : ℕ) (places : Places) (files : Files) (image : Files → Type 0) → IsOpenAt places files image → IsNext section (place_at places section) files image
+open_next section places files image at = record {
+  no_flat = λ c now. at.only c now Flat (λ e. absurd (omega (arith, ap name_number e))) ∙ at.no_flat;
+  at = at.each section;
+  only = λ c now. at.only c now (Segment section) (λ e. absurd (omega (arith, ap name_number e)));
+}
 
-  module _ (files1 files2 : Files) (image0 image1 image2 image3 : Files → Type 0) (flat : FlatAt place files1 image1) where
-    pub gate_images : Follows Keeps image0 image1 → Follows (Into (Torn (place + 1) (length (behind (body_of (section, body)))) flat.bytes)) image1 image2 → Firm (written (place + 1) (behind (body_of (section, body))) flat.bytes) files2 image2 → Follows (Into (Torn place 1 (written (place + 1) (behind (body_of (section, body))) flat.bytes))) image2 image3 → Follows (MayAdd (section, body)) image0 image3
+module _ (place section : ℕ) (body : List ℕ) (short : length body < 2 ^ 32) where
+  short_body : IsBody 0 body
+  short_body = (omega arith, short)
+
+  pub is_staged : (bs : List (List ℕ)) (x : List ℕ) → IsShut 0 bs place x → Staged 0 bs body place (written (place + 1) (behind body) x)
+  is_staged bs x shut = written_behind 0 bs body place x shut short_body
+
+  module _ (files1 files2 : Files) (image0 image1 image2 image3 : Files → Type 0) (at : SegmentAt section place files1 image1) (parted : IsParted image0) where
+    pub gate_images : Follows (KeepsBut (Segment section)) image0 image1 → Follows (Into (Segment section) (Torn (place + 1) (length (behind body)) at.bytes)) image1 image2 → Firm (Segment section) (written (place + 1) (behind body) at.bytes) files2 image2
+        → Follows (Into (Segment section) (Torn place 1 (written (place + 1) (behind body) at.bytes))) image2 image3 → Follows (MayAdd (section, body)) image0 image3
     gate_images kept torn firm opened =
-        let keeps = keeps_keeps _ _ _ kept (keeps_behind _ _ _ _ _ flat torn) in
-        then_may_add (section, body) _ _ _ keeps (subst (λ (x : Entry). Follows (MayAdd x) image2 image3) (entry_of_body section body in_range) (may_add_gate flat.bs (body_of (section, body)) _ place files2 image2 image3 (is_staged flat.bs flat.bytes flat.flat) firm opened))
+        let parted1 = keeps_parted section image0 image1 parted kept in
+        let keeps = keeps_keeps _ _ _ _ kept (keeps_behind section place _ files1 image1 image2 at parted1 torn) in
+        then_may_add (section, body) _ _ _ keeps (may_add_gate section at.bs body _ place files2 image2 image3 (is_staged at.bs at.bytes at.shut) firm (into_parted section _ image1 image2 parted1 torn) opened)
 
-    pub gate_adds : (last : Files) → Follows Keeps image0 image1 → Follows (Into (Torn (place + 1) (length (behind (body_of (section, body)))) flat.bytes)) image1 image2 → Firm (written (place + 1) (behind (body_of (section, body))) flat.bytes) files2 image2 → Firm (written place (1 ∷ []) (written (place + 1) (behind (body_of (section, body))) flat.bytes)) last image3 → Follows (Into (Torn place 1 (written (place + 1) (behind (body_of (section, body))) flat.bytes))) image2 image3 → Follows (Adds (section, body)) image0 image3
+    pub gate_adds : (last : Files) → Follows (KeepsBut (Segment section)) image0 image1 → Follows (Into (Segment section) (Torn (place + 1) (length (behind body)) at.bytes)) image1 image2 → Firm (Segment section) (written (place + 1) (behind body) at.bytes) files2 image2
+        → Firm (Segment section) (written place (1 ∷ []) (written (place + 1) (behind body) at.bytes)) last image3 → Follows (Into (Segment section) (Torn place 1 (written (place + 1) (behind body) at.bytes))) image2 image3 → Follows (Adds (section, body)) image0 image3
     gate_adds last kept torn firm done opened =
-        let keeps = keeps_keeps _ _ _ kept (keeps_behind _ _ _ _ _ flat torn) in
-        then_adds (section, body) _ _ _ keeps (subst (λ (x : Entry). Follows (Adds x) image2 image3) (entry_of_body section body in_range) (adds_gate flat.bs (body_of (section, body)) _ place files2 last image2 image3 (is_staged flat.bs flat.bytes flat.flat) firm done opened))
+        let parted1 = keeps_parted section image0 image1 parted kept in
+        let keeps = keeps_keeps _ _ _ _ kept (keeps_behind section place _ files1 image1 image2 at parted1 torn) in
+        then_adds (section, body) _ _ _ keeps (adds_gate section at.bs body _ place files2 last image2 image3 (is_staged at.bs at.bytes at.shut) firm (into_parted section _ image1 image2 parted1 torn) done opened)
 
-  pub gate_open : (files1 last : Files) (image1 image3 : Files → Type 0) (flat : FlatAt place files1 image1) → Firm (written place (1 ∷ []) (written (place + 1) (behind (body_of (section, body))) flat.bytes)) last image3 → FlatAt (place + 13 + length body) last image3
-  gate_open files1 last image1 image3 flat done =
-      let size : place + 5 + length (body_of (section, body)) ≡ place + 13 + length body = omega (arith, length-append (number64 section) body, length-number64 section) in
-      record {
-        bs = flat.bs ++ body_of (section, body) ∷ [];
-        bytes = written place (1 ∷ []) (written (place + 1) (behind (body_of (section, body))) flat.bytes);
-        firm = done;
-        flat = subst (λ (p : ℕ). IsFlat (flat.bs ++ body_of (section, body) ∷ []) p (written place (1 ∷ []) (written (place + 1) (behind (body_of (section, body))) flat.bytes))) size (written_gate flat.bs (body_of (section, body)) place _ (is_staged flat.bs flat.bytes flat.flat));
-      }
+  pub gate_open : (files1 last : Files) (image1 image3 : Files → Type 0) (at : SegmentAt section place files1 image1) → Firm (Segment section) (written place (1 ∷ []) (written (place + 1) (behind body) at.bytes)) last image3 → SegmentAt section (place + 5 + length body) last image3
+  gate_open files1 last image1 image3 at done = record {
+    bs = at.bs ++ body ∷ [];
+    bytes = written place (1 ∷ []) (written (place + 1) (behind body) at.bytes);
+    firm = done;
+    shut = written_gate 0 at.bs body place _ (is_staged at.bs at.bytes at.shut);
+  }
+
+-- places that are the same
+pub open_same : (places places' : Places) (files : Files) (image : Files → Type 0) → ((s : ℕ) → place_at places' s ≡ place_at places s) → IsOpenAt places files image → IsOpenAt places' files image
+open_same places places' files image same at = record {
+  no_flat = at.no_flat;
+  each = λ s. subst (λ (o : Option ℕ). IsSegmentAt o (get files (Segment s))) (sym (same s)) (at.each s);
+  only = at.only;
+}
+
+pub start_is : (o : Option ℕ) (n : ℕ) → n ≡ unwrap_or o 0 → n ≡ start o
+start_is None n is = is
+start_is (Some p) n is = is
+
+-- one file has grown
+pub opened_more : (places places' : Places) (section end n : ℕ) (body : List ℕ) (old new : Files) (image next : Files → Type 0) → IsOpenAt places old image → SegmentAt section end new next → Follows (Adds (section, body)) image next → next new → n ≡ end → places' ≡ insert places section (Some n) → IsOpenAt places' new next
+opened_more places places' section end n body old new image next at segment step now count put =
+    let back = step.each new now in
+    let others : SameElse (Segment section) back.0 new = back.2.others in
+    let rest : (q : Name) → q ≢ Plan → q ≢ Segment section → get new q ≡ get old q = λ q no_plan ne. others q ne ∙ at.only back.0 back.1 q no_plan in
+    record {
+      no_flat = rest Flat flat_plan (flat_apart section) ∙ at.no_flat;
+      each = λ s.
+          let there : place_at places' s ≡ joined (cond (eq_by_cmp nat_cmp s section) (Some (Some end)) (get places s)) = ap (λ (m : Places). joined (get m s)) put ∙ ap joined (get-insert nat_cmp_total places section (Some n) s) ∙ ap (λ (k : ℕ). joined (cond (eq_by_cmp nat_cmp s section) (Some (Some k)) (get places s))) count in
+          subst (λ (o : Option ℕ). IsSegmentAt o (get new (Segment s))) (sym there) (elim (cases_eq s section) [
+            | inl is ↦ subst (λ (b : Bool). IsSegmentAt (joined (cond b (Some (Some end)) (get places s))) (get new (Segment s))) (sym (same_number s section is)) (segment.bs, segment.bytes, ap (λ (k : ℕ). get new (Segment k)) is ∙ segment.firm.there, segment.shut)
+            | inr ne ↦ subst (λ (b : Bool). IsSegmentAt (joined (cond b (Some (Some end)) (get places s))) (get new (Segment s))) (sym (other_number s section ne)) (subst (λ (o : Option (List ℕ)). IsSegmentAt (place_at places s) o) (sym (rest (Segment s) (segment_plan s) (segments_apart s section ne))) (at.each s))
+          ]);
+      only = λ c here q no_plan.
+          let from = step.each c here in
+          elim (same_name q (Segment section)) [
+            | inl is ↦ subst (λ (x : Name). get c x ≡ get new x) (sym is) (segment.firm.only c here ∙ sym segment.firm.there)
+            | inr ne ↦ from.2.others q ne ∙ at.only from.0 from.1 q no_plan ∙ sym (rest q no_plan ne)
+          ];
+    }
+  where
+    same_number : (a b : ℕ) → a ≡ b → eq_by_cmp nat_cmp a b ≡ true
+    same_number a b is = grind (arith, nat_tests)
+
+    other_number : (a b : ℕ) → a ≢ b → eq_by_cmp nat_cmp a b ≡ false
+    other_number a b ne = grind (arith, nat_tests)

@@ -14,10 +14,10 @@ counted_high n = grind (arith, nat_tests)
 pub err_as : {T S E : Type 0} (d e : E) → ◌≡◌ {A = Result T E} (Err d) (Err e) → ◌≡◌ {A = Result S E} (Err d) (Err e)
 err_as d e same = cc
 
-not_ok : {T E : Type 0} (e : E) (x : T) → ◌≡◌ {A = Result T E} (Err e) (Ok x) → ⊥
+pub not_ok : {T E : Type 0} (e : E) (x : T) → ◌≡◌ {A = Result T E} (Err e) (Ok x) → ⊥
 not_ok e x same = cc
 
-not_err : {T E : Type 0} (x : T) (e : E) → ◌≡◌ {A = Result T E} (Ok x) (Err e) → ⊥
+pub not_err : {T E : Type 0} (x : T) (e : E) → ◌≡◌ {A = Result T E} (Ok x) (Err e) → ⊥
 not_err x e same = cc
 
 -- no call was counted

@@ -1,399 +1,398 @@
 -- What a prune leaves.
-use Rattle.std.proofs.Common.{◌≡◌, ◌≢◌, ◌⊎◌, inl, inr, ⊎_elim, ℕ, zero, suc, ◌+◌, ◌-◌, ◌<◌, ◌≤◌, ◌||◌, nat_le, nat_lt, Bool, true, false, cond, not, List, [], ◌∷◌, ◌++◌, map, fold, length, take, Option, Some, None, refl, sym, ◌∙◌, ap, subst, arith, append_assoc, length-append}
-use Rattle.std.specs.Prelude.{filter}
+use Rattle.std.proofs.Common.{◌≡◌, ◌≢◌, ◌⊎◌, inl, inr, ⊎_elim, ℕ, zero, suc, ◌+◌, ◌<◌, ◌≤◌, ◌==◌, nat_le, nat_lt, Bool, true, false, cond, not, List, [], ◌∷◌, ◌++◌, map, length, Option, Some, None, is_some, refl, sym, ◌∙◌, ap, subst, arith}
+use Rattle.std.specs.Prelude.{T, ◌&&◌, ◌||◌, filter, flat_map}
 use Rattle.std.specs.List.{list_any}
-use Rattle.std.specs.Option.{is_some}
-use Rattle.std.specs.FinMap.{get}
+use Rattle.std.specs.Ordering.{eq_by_cmp, nat_cmp, is_eq, is_lt}
+use Rattle.std.specs.FinMap as map_of
+use Rattle.std.specs.FinMap.{get, find, keys, remove, retain_keys, get-entries, get-retain_keys, entries_sorted, nat_cmp-IsAntisymmetric}
+use Rattle.std.specs.FinMap.Entries.{is_sorted, below_all}
+use Rattle.std.proofs.lemmas.Bool.{cases_eq, cases_lt}
 use Rattle.std.proofs.lemmas.Bool.Decides.{nat_tests}
-use Rattle.std.proofs.lemmas.List.{append-nil, take_at}
-use Rattle.std.proofs.lemmas.Option.{same_Some, none-some}
-use Rattle.std.proofs.lemmas.List.Elements.{filter-append}
-use Rattle.dkg_values.specs.declared.name.Name.TheVariants.{Plan, Flat}
+use Rattle.std.proofs.lemmas.List.{length-map}
+use Rattle.std.proofs.lemmas.Option.{none-some}
+use Rattle.dkg_values.specs.declared.name.Name.{Name}
+use Rattle.dkg_values.specs.declared.name.Name.TheVariants.{Plan, Flat, Segment}
 use Rattle.dkg_journal.specs.Burn.{Burn}
-use Rattle.dkg_journal.specs.Names.{Files}
-use Rattle.dkg_journal.specs.Disk.{SameElse, HasFile, Follows, Inside, Did, Lands, IsUnchanged}
-use Rattle.dkg_journal.specs.Fuse.{burnt, Ran, RanAll}
-use Rattle.dkg_journal.specs.Records.{Entry, entries, entries_with, entry_of, placed, in_order, in_sections, from_section, bodies, read32, read64, number32, record_of, spelled, AreFlat, IsFlatBody, IsFlat, Ends, Front, Whole, broken_at}
-use Rattle.dkg_journal.specs.Opening.{broken, broken_of}
-use Rattle.dkg_journal.specs.Pruning.{stays, some_go, closed, left_of, left_of_file, install_of, prune_calls, Pruning, Pruned, Leaves, MayLeave}
-use Rattle.dkg_journal.specs.Steps.{Firm, Bare, FlatAt, IsOpenAt}
-use Rattle.dkg_journal.specs.Operations.{journaled, Prunes, after_operation, calls_of, Tries, Tried, Finished}
+use Rattle.dkg_journal.specs.Names.{Files, name_cmp}
+use Rattle.dkg_journal.specs.Disk.{Follows, Lands}
+use Rattle.dkg_journal.specs.Fuse.{Ran, RanAll}
+use Rattle.dkg_journal.specs.Records.{entries, from_section}
+use Rattle.dkg_journal.specs.Opening.{AreUnbroken, removes}
+use Rattle.dkg_journal.specs.Operations.{Prunes, Tries, Tried, Finished, after_operation, calls_of, journaled}
+use Rattle.dkg_journal.specs.Places.{Places, joined, place_at, remove_of, removes_below}
+use Rattle.dkg_journal.specs.Pruning.{Leaves, MayLeave, is_below, prune_calls}
+use Rattle.dkg_journal.specs.Segments.{segment_rows}
+use Rattle.dkg_journal.specs.Steps.{IsOpenAt, IsSegmentAt}
+use Rattle.dkg_journal.specs.Wholes.{Amid, AreOfWhole, Becomes, after_all}
 use Rattle.dkg_journal.specs.declared.disk.Op.{Op}
-use Rattle.dkg_journal.specs.declared.disk.Op.TheVariants.{Install}
-use Rattle.dkg_journal.proofs.Bytes.{read_spelled, spelled-push, short-push, length-number32}
-use Rattle.dkg_journal.proofs.Flat.{flat_bodies}
-use Rattle.dkg_journal.proofs.Reading.{read_front, ends_stops, whole_unbroken}
-use Rattle.dkg_journal.proofs.Append.{same_files, entries_flat}
-use Rattle.dkg_journal.proofs.Unbroken.{flat_whole}
-use Rattle.dkg_journal.proofs.Steps.{get_here, weaken, then_all, ran_all, all_same}
-use Rattle.dkg_journal.proofs.Fuses.{all_burnt, ran_spent, none_spent}
-use Rattle.dkg_journal.proofs.Standing.{stands_for, plan_apart, named_same, settled_flat, unchanged_lands, unchanged_tries}
+use Rattle.dkg_journal.specs.declared.disk.Op.TheVariants.{Remove}
+use Rattle.dkg_journal.proofs.Amid.{becomes_lands}
+use Rattle.dkg_journal.proofs.Append.{flat_plan, segment_plan, segments_apart}
+use Rattle.dkg_journal.proofs.AtOnce.{get_gone, gone_here}
+use Rattle.dkg_journal.proofs.Fuses.{all_burnt, ran_spent}
+use Rattle.dkg_journal.proofs.Journals.{leaves_names}
+use Rattle.dkg_journal.proofs.OpenNames.{at_some}
+use Rattle.dkg_journal.proofs.Rising.{both_are, both_true}
+use Rattle.dkg_journal.proofs.SameFiles.{same_name}
+use Rattle.dkg_journal.proofs.Sections.{entries_from}
+use Rattle.dkg_journal.proofs.Standing.{stands_for}
+use Rattle.dkg_journal.proofs.Unbroken.{file_rows_sorted, open_unbroken_images, rows_find, unbroken_by, whole_at}
 
--- AN ENTRY PUT IN ITS PLACE, AND A FILTER BY SECTION
+-- THE CALLS
 
-below_stays : (min : ℕ) (x e : Entry) → nat_lt e.0 x.0 ≡ true → nat_le min e.0 ≡ true → nat_le min x.0 ≡ true
-below_stays min x e before stay = grind (arith, nat_tests)
+-- the removes of so many sections from one on that pass a test
+abbrev removes_from : ℕ → ℕ → (ℕ → Bool) → List Op
+removes_from lo zero test = []
+removes_from lo (suc n) test = cond (test lo) (Remove (Segment lo) ∷ removes_from (suc lo) n test) (removes_from (suc lo) n test)
 
-module _ (min : ℕ) (x e : Entry) (G : List Entry) where
-  -- in front of the first
-  in_front : nat_lt e.0 x.0 ≡ true → cond (nat_le min e.0) (e ∷ cond (nat_le min x.0) (x ∷ G) G) (cond (nat_le min x.0) (x ∷ G) G) ≡ cond (nat_le min e.0) (placed (cond (nat_le min x.0) (x ∷ G) G) e) (cond (nat_le min x.0) (x ∷ G) G)
-  in_front before = elim (nat_le min e.0) as (λ (q : Bool). nat_le min e.0 ≡ q → cond q (e ∷ cond (nat_le min x.0) (x ∷ G) G) (cond (nat_le min x.0) (x ∷ G) G) ≡ cond q (placed (cond (nat_le min x.0) (x ∷ G) G) e) (cond (nat_le min x.0) (x ∷ G) G)) [
-    | true ↦ λ is.
-        let stay : nat_le min x.0 ≡ true = below_stays min x e before is in
-        let both : cond (nat_le min x.0) (x ∷ G) G ≡ x ∷ G = ap (λ (p : Bool). cond p (x ∷ G) G) stay in
-        ap (λ (l : List Entry). e ∷ l) both ∙ sym (ap (λ (l : List Entry). placed l e) both ∙ ap (λ (t : Bool). cond t (e ∷ x ∷ G) (x ∷ placed G e)) before)
-    | false ↦ λ is. refl
-  ] refl
+same_calls : (n lo : ℕ) (p q : ℕ → Bool) → ((t : ℕ) → lo ≤ t → p t ≡ q t) → removes_from lo n p ≡ removes_from lo n q
+same_calls zero lo p q same = refl
+same_calls (suc n) lo p q same = λ i. cond (same lo (omega arith) i) (Remove (Segment lo) ∷ same_calls n (suc lo) p q (λ t low. same t (omega (arith, low))) i) (same_calls n (suc lo) p q (λ t low. same t (omega (arith, low))) i)
 
-  -- behind the first
-  behind_first : nat_lt e.0 x.0 ≡ false → cond (nat_le min x.0) (x ∷ cond (nat_le min e.0) (placed G e) G) (cond (nat_le min e.0) (placed G e) G) ≡ cond (nat_le min e.0) (placed (cond (nat_le min x.0) (x ∷ G) G) e) (cond (nat_le min x.0) (x ∷ G) G)
-  behind_first behind = elim (nat_le min x.0) as (λ (p : Bool). cond p (x ∷ cond (nat_le min e.0) (placed G e) G) (cond (nat_le min e.0) (placed G e) G) ≡ cond (nat_le min e.0) (placed (cond p (x ∷ G) G) e) (cond p (x ∷ G) G)) [
-    | true ↦ elim (nat_le min e.0) as (λ (q : Bool). x ∷ cond q (placed G e) G ≡ cond q (placed (x ∷ G) e) (x ∷ G)) [
-      | true ↦ sym (ap (λ (t : Bool). cond t (e ∷ x ∷ G) (x ∷ placed G e)) behind)
-      | false ↦ refl
-    ]
-    | false ↦ refl
-  ]
+abbrev rm : List ℕ → List Op
+rm ks = map (λ k. Remove (Segment k)) ks
 
-placed_from : (min : ℕ) (es : List Entry) (e : Entry) → from_section min (placed es e) ≡ cond (nat_le min e.0) (placed (from_section min es) e) (from_section min es)
-placed_from min [] e = refl
-placed_from min (x ∷ xs) e = elim (nat_lt e.0 x.0) as (λ (t : Bool). nat_lt e.0 x.0 ≡ t → from_section min (cond t (e ∷ x ∷ xs) (x ∷ placed xs e)) ≡ cond (nat_le min e.0) (placed (from_section min (x ∷ xs)) e) (from_section min (x ∷ xs))) [
-  | true ↦ λ before. in_front min x e (from_section min xs) before
-  | false ↦ λ behind. ap (λ (l : List Entry). cond (nat_le min x.0) (x ∷ l) l) (placed_from min xs e) ∙ behind_first min x e (from_section min xs) behind
-] refl
+-- numbers that rise from one on
+abbrev Rises : ℕ → List ℕ → Type 0
+Rises lo [] = Unit {0}
+Rises lo (k ∷ ks) = (lo ≤ k) × Rises (suc k) ks
 
-fold_from : (min : ℕ) (es acc : List Entry) → from_section min (fold placed acc es) ≡ fold placed (from_section min acc) (from_section min es)
-fold_from min [] acc = refl
-fold_from min (e ∷ es) acc =
-    fold_from min es (placed acc e) ∙ ap (λ (l : List Entry). fold placed l (from_section min es)) (placed_from min acc e)
-    ∙ elim (nat_le min e.0) as (λ (q : Bool). fold placed (cond q (placed (from_section min acc) e) (from_section min acc)) (from_section min es) ≡ fold placed (from_section min acc) (cond q (e ∷ from_section min es) (from_section min es))) [
-      | true ↦ refl
-      | false ↦ refl
-    ]
+abbrev is_in : ℕ → List ℕ → Bool
+is_in t ks = list_any (λ k. k == t) ks
 
-map_from : (min : ℕ) (bs : List (List ℕ)) → from_section min (map entry_of bs) ≡ map entry_of (stays min bs)
-map_from min [] = refl
-map_from min (b ∷ bs) =
-    ap (λ (l : List Entry). cond (nat_le min (read64 b)) (entry_of b ∷ l) l) (map_from min bs)
-    ∙ elim (nat_le min (read64 b)) as (λ (q : Bool). cond q (entry_of b ∷ map entry_of (stays min bs)) (map entry_of (stays min bs)) ≡ map entry_of (cond q (b ∷ stays min bs) (stays min bs))) [
-      | true ↦ refl
-      | false ↦ refl
-    ]
+lower : (a b : ℕ) (ks : List ℕ) → a ≤ b → Rises b ks → Rises a ks
+lower a b [] low rises = tt
+lower a b (k ∷ ks) low rises = (omega (arith, low, rises.0), rises.1)
 
--- the entries of the records that stay
-pub sections_from : (min : ℕ) (bs : List (List ℕ)) → in_sections (stays min bs) ≡ from_section min (in_sections bs)
-sections_from min bs = ap in_order (sym (map_from min bs)) ∙ sym (fold_from min (map entry_of bs) [])
+is_less : (a b : ℕ) → a < b → nat_lt a b ≡ true
+is_less a b low = grind (arith, nat_tests)
 
--- WHETHER ONE GOES
+not_less : (a b : ℕ) → b ≤ a → nat_lt a b ≡ false
+not_less a b high = grind (arith, nat_tests)
 
-abbrev any_below : ℕ → List Entry → Bool
-any_below min es = list_any (λ e. nat_lt e.0 min) es
+is_same : (a b : ℕ) → a ≡ b → (a == b) ≡ true
+is_same a b same = grind (arith, nat_tests)
 
-or_swap : (a b c : Bool) → (a || (b || c)) ≡ (b || (a || c))
-or_swap true true c = refl
-or_swap true false c = refl
-or_swap false true c = refl
-or_swap false false c = refl
+is_other : (a b : ℕ) → a ≢ b → (a == b) ≡ false
+is_other a b ne = grind (arith, nat_tests)
 
-or_join : (a b c : Bool) → ((a || b) || c) ≡ (b || (a || c))
-or_join true true c = refl
-or_join true false c = refl
-or_join false true c = refl
-or_join false false c = refl
+none_low : (m lo : ℕ) (ks : List ℕ) → m ≤ lo → Rises lo ks → filter (λ k. nat_lt k m) ks ≡ []
+none_low m lo [] low rises = refl
+none_low m lo (k ∷ ks) low rises = ap (λ (b : Bool). cond b (k ∷ filter (λ (j : ℕ). nat_lt j m) ks) (filter (λ (j : ℕ). nat_lt j m) ks)) (not_less k m (omega (arith, low, rises.0))) ∙ none_low m (suc k) ks (omega (arith, low, rises.0)) rises.1
 
-or_false : (a : Bool) → (a || false) ≡ a
-or_false true = refl
-or_false false = refl
+not_in : (t m : ℕ) (ks : List ℕ) → t < m → Rises m ks → is_in t ks ≡ false
+not_in t m [] low rises = refl
+not_in t m (k ∷ ks) low rises = ap (λ (b : Bool). b || is_in t ks) (is_other k t (λ e. absurd (omega (arith, e, low, rises.0)))) ∙ not_in t (suc k) ks (omega (arith, low, rises.0)) rises.1
 
-placed_any : (min : ℕ) (es : List Entry) (e : Entry) → any_below min (placed es e) ≡ (nat_lt e.0 min || any_below min es)
-placed_any min [] e = refl
-placed_any min (x ∷ xs) e = elim (nat_lt e.0 x.0) as (λ (t : Bool). any_below min (cond t (e ∷ x ∷ xs) (x ∷ placed xs e)) ≡ (nat_lt e.0 min || any_below min (x ∷ xs))) [
+no_calls : (n lo : ℕ) → removes_from lo n (λ t. false) ≡ []
+no_calls zero lo = refl
+no_calls (suc n) lo = no_calls n (suc lo)
+
+counted_calls : (n lo : ℕ) (ks : List ℕ) → Rises lo ks → rm (filter (λ k. nat_lt k (lo + n)) ks) ≡ removes_from lo n (λ t. is_in t ks)
+counted_calls zero lo ks rises = ap rm (none_low (lo + 0) lo ks (omega arith) rises)
+counted_calls (suc n) lo [] rises = sym (no_calls (suc n) lo)
+counted_calls (suc n) lo (k ∷ ks) rises = elim (cases_eq k lo) [
+  | inl is ↦
+      let low : nat_lt k (lo + suc n) ≡ true = is_less k (lo + suc n) (omega (arith, is)) in
+      let up : Rises (suc lo) ks = subst (λ (m : ℕ). Rises (suc m) ks) is rises.1 in
+      ap (λ (b : Bool). rm (cond b (k ∷ filter (λ (j : ℕ). nat_lt j (lo + suc n)) ks) (filter (λ (j : ℕ). nat_lt j (lo + suc n)) ks))) low
+      ∙ ap (λ (l : List Op). Remove (Segment k) ∷ l) (ap (λ (m : ℕ). rm (filter (λ (j : ℕ). nat_lt j m) ks)) (omega arith) ∙ counted_calls n (suc lo) ks up ∙ same_calls n (suc lo) (λ t. is_in t ks) (λ t. is_in t (k ∷ ks)) (λ t above. sym (ap (λ (b : Bool). b || is_in t ks) (is_other k t (λ e. absurd (omega (arith, e, is, above)))))))
+      ∙ ap (λ (m : ℕ). Remove (Segment m) ∷ removes_from (suc lo) n (λ t. is_in t (k ∷ ks))) is
+      ∙ sym (ap (λ (b : Bool). cond b (Remove (Segment lo) ∷ removes_from (suc lo) n (λ t. is_in t (k ∷ ks))) (removes_from (suc lo) n (λ t. is_in t (k ∷ ks)))) (ap (λ (b : Bool). b || is_in lo ks) (is_same k lo is)))
+  | inr ne ↦
+      let high : suc lo ≤ k = omega (arith, rises.0, ne) in
+      let out : is_in lo (k ∷ ks) ≡ false = ap (λ (b : Bool). b || is_in lo ks) (is_other k lo ne) ∙ not_in lo (suc k) ks (omega (arith, high)) rises.1 in
+      ap (λ (m : ℕ). rm (filter (λ (j : ℕ). nat_lt j m) (k ∷ ks))) (omega arith) ∙ counted_calls n (suc lo) (k ∷ ks) (high, rises.1)
+      ∙ sym (ap (λ (b : Bool). cond b (Remove (Segment lo) ∷ removes_from (suc lo) n (λ t. is_in t (k ∷ ks))) (removes_from (suc lo) n (λ t. is_in t (k ∷ ks)))) out)
+]
+
+counted_all : (n : ℕ) (ks : List ℕ) → Rises 0 ks → rm (filter (λ k. nat_lt k n) ks) ≡ removes_from 0 n (λ t. is_in t ks)
+counted_all n ks rises = ap (λ (m : ℕ). rm (filter (λ (k : ℕ). nat_lt k m) ks)) (omega arith) ∙ counted_calls n 0 ks rises
+
+-- keys in their order
+module _ {X : Type 0} where
+  abbrev firsts : List (ℕ × X) → List ℕ
+  firsts rows = map (λ r. r.0) rows
+
+  abbrev FromOn : ℕ → List (ℕ × X) → Type 0
+  FromOn lo [] = Unit {0}
+  FromOn lo (r ∷ rows) = (lo ≤ r.0) × FromOn lo rows
+
+  from_below : (s : ℕ) (rows : List (ℕ × X)) → below_all nat_cmp s rows ≡ true → FromOn (suc s) rows
+  from_below s [] is = tt
+  from_below s (r ∷ rows) is = let parts = both_are (is_lt (nat_cmp s r.0)) (below_all nat_cmp s rows) is in (less s r.0 parts.0, from_below s rows parts.1)
+    where
+      less : (a b : ℕ) → is_lt (nat_cmp a b) ≡ true → suc a ≤ b
+      less a b is = grind (arith, nat_tests)
+
+  from_zero : (rows : List (ℕ × X)) → FromOn 0 rows
+  from_zero [] = tt
+  from_zero (r ∷ rows) = (omega arith, from_zero rows)
+
+  firsts_rise : (lo : ℕ) (rows : List (ℕ × X)) → T (is_sorted nat_cmp rows) → FromOn lo rows → Rises lo (firsts rows)
+  firsts_rise lo [] sorted from = tt
+  firsts_rise lo (r ∷ rows) sorted from = let parts = both_true (below_all nat_cmp r.0 rows) (is_sorted nat_cmp rows) sorted in (from.0, firsts_rise (suc r.0) rows parts.1 (from_below r.0 rows parts.0))
+
+  firsts_in : (t : ℕ) (rows : List (ℕ × X)) → is_in t (firsts rows) ≡ is_some (find nat_cmp t rows)
+  firsts_in t [] = refl
+  firsts_in t (r ∷ rows) =
+      ap (λ (b : Bool). b || is_in t (firsts rows)) (turned t r.0)
+      ∙ elim (eq_by_cmp nat_cmp t r.0) as (λ (b : Bool). (b || is_in t (firsts rows)) ≡ is_some (cond b (Some r.1) (find nat_cmp t rows))) [ true ↦ refl | false ↦ firsts_in t rows ]
+    where
+      turned : (a b : ℕ) → (b == a) ≡ is_eq (nat_cmp a b)
+      turned a b = grind (arith, nat_tests)
+
+-- of places those that are there
+abbrev there_of : List (ℕ × Option ℕ) → List (ℕ × ℕ)
+there_of [] = []
+there_of ((s, None) ∷ rows) = there_of rows
+there_of ((s, Some p) ∷ rows) = (s, p) ∷ there_of rows
+
+there_below : (s : ℕ) (rows : List (ℕ × Option ℕ)) → below_all nat_cmp s rows ≡ true → below_all nat_cmp s (there_of rows) ≡ true
+there_below s [] is = refl
+there_below s ((t, None) ∷ rows) is = there_below s rows (both_are (is_lt (nat_cmp s t)) (below_all nat_cmp s rows) is).1
+there_below s ((t, Some p) ∷ rows) is = let parts = both_are (is_lt (nat_cmp s t)) (below_all nat_cmp s rows) is in λ i. parts.0 i && there_below s rows parts.1 i
+
+there_sorted : (rows : List (ℕ × Option ℕ)) → T (is_sorted nat_cmp rows) → T (is_sorted nat_cmp (there_of rows))
+there_sorted [] sorted = tt
+there_sorted ((t, None) ∷ rows) sorted = there_sorted rows (both_true (below_all nat_cmp t rows) (is_sorted nat_cmp rows) sorted).1
+there_sorted ((t, Some p) ∷ rows) sorted =
+    let parts = both_true (below_all nat_cmp t rows) (is_sorted nat_cmp rows) sorted in
+    both (below_all nat_cmp t (there_of rows)) (is_sorted nat_cmp (there_of rows)) (there_below t rows parts.0) (there_sorted rows parts.1)
+  where
+    both : (a b : Bool) → a ≡ true → T b → T (a && b)
+    both a b is h = subst (λ (x : Bool). T (x && b)) (sym is) h
+
+itself : (n : ℕ) → is_eq (nat_cmp n n) ≡ true
+itself n = grind (arith, nat_tests)
+
+differ : (a b : ℕ) → a ≢ b → is_eq (nat_cmp a b) ≡ false
+differ a b ne = grind (arith, nat_tests)
+
+there_find : (t : ℕ) (rows : List (ℕ × Option ℕ)) → T (is_sorted nat_cmp rows) → is_some (find nat_cmp t (there_of rows)) ≡ is_some (joined (find nat_cmp t rows))
+there_find t [] sorted = refl
+there_find t ((s, Some p) ∷ rows) sorted = elim (eq_by_cmp nat_cmp t s) as (λ (b : Bool). is_some (cond b (Some p) (find nat_cmp t (there_of rows))) ≡ is_some (joined (cond b (Some (Some p)) (find nat_cmp t rows)))) [
   | true ↦ refl
-  | false ↦ ap (λ (b : Bool). nat_lt x.0 min || b) (placed_any min xs e) ∙ or_swap (nat_lt x.0 min) (nat_lt e.0 min) (any_below min xs)
+  | false ↦ there_find t rows (both_true (below_all nat_cmp s rows) (is_sorted nat_cmp rows) sorted).1
+]
+there_find t ((s, None) ∷ rows) sorted =
+    let parts = both_true (below_all nat_cmp s rows) (is_sorted nat_cmp rows) sorted in
+    elim (cases_eq t s) [
+      | inl is ↦
+          let out : is_some (find nat_cmp t (there_of rows)) ≡ false = sym (firsts_in t (there_of rows)) ∙ not_in t (suc s) (firsts (there_of rows)) (omega (arith, is)) (firsts_rise (suc s) (there_of rows) (there_sorted rows parts.1) (from_below s (there_of rows) (there_below s rows parts.0))) in
+          out ∙ sym (ap (λ (b : Bool). is_some (joined (cond b (Some None) (find nat_cmp t rows)))) (ap (λ (n : ℕ). is_eq (nat_cmp t n)) (sym is) ∙ itself t))
+      | inr ne ↦ there_find t rows parts.1 ∙ sym (ap (λ (b : Bool). is_some (joined (cond b (Some None) (find nat_cmp t rows)))) (differ t s ne))
+    ]
+
+places_calls : (min : ℕ) (rows : List (ℕ × Option ℕ)) → flat_map remove_of (filter (λ e. nat_lt e.0 min) rows) ≡ rm (filter (λ k. nat_lt k min) (firsts (there_of rows)))
+places_calls min [] = refl
+places_calls min ((s, None) ∷ rows) = elim (nat_lt s min) as (λ (b : Bool). flat_map remove_of (cond b ((s, None) ∷ filter (λ (e : ℕ × Option ℕ). nat_lt e.0 min) rows) (filter (λ (e : ℕ × Option ℕ). nat_lt e.0 min) rows)) ≡ rm (filter (λ (k : ℕ). nat_lt k min) (firsts (there_of rows)))) [
+  | true ↦ places_calls min rows
+  | false ↦ places_calls min rows
+]
+places_calls min ((s, Some p) ∷ rows) = elim (nat_lt s min) as (λ (b : Bool). flat_map remove_of (cond b ((s, Some p) ∷ filter (λ (e : ℕ × Option ℕ). nat_lt e.0 min) rows) (filter (λ (e : ℕ × Option ℕ). nat_lt e.0 min) rows)) ≡ rm (cond b (s ∷ filter (λ (k : ℕ). nat_lt k min) (firsts (there_of rows))) (filter (λ (k : ℕ). nat_lt k min) (firsts (there_of rows))))) [
+  | true ↦ ap (λ (l : List Op). Remove (Segment s) ∷ l) (places_calls min rows)
+  | false ↦ places_calls min rows
 ]
 
-fold_any : (min : ℕ) (es acc : List Entry) → any_below min (fold placed acc es) ≡ (any_below min acc || any_below min es)
-fold_any min [] acc = sym (or_false (any_below min acc))
-fold_any min (e ∷ es) acc =
-    fold_any min es (placed acc e) ∙ ap (λ (b : Bool). b || any_below min es) (placed_any min acc e)
-    ∙ or_join (nat_lt e.0 min) (any_below min acc) (any_below min es)
-
-map_any : (min : ℕ) (bs : List (List ℕ)) → any_below min (map entry_of bs) ≡ some_go min bs
-map_any min [] = refl
-map_any min (b ∷ bs) = ap (λ (t : Bool). nat_lt (read64 b) min || t) (map_any min bs)
-
-pub sections_any : (min : ℕ) (bs : List (List ℕ)) → any_below min (in_sections bs) ≡ some_go min bs
-sections_any min bs = fold_any min (map entry_of bs) [] ∙ map_any min bs
-
--- where none goes, all stay
-head_stays : (a min : ℕ) (rest : Bool) → (nat_lt a min || rest) ≡ false → (nat_le min a ≡ true) × (rest ≡ false)
-head_stays a min rest none = elim (nat_lt a min) as (λ (t : Bool). nat_lt a min ≡ t → (t || rest) ≡ false → (nat_le min a ≡ true) × (rest ≡ false)) [
-  | true ↦ λ is no. absurd (cc)
-  | false ↦ λ is no. (up is, no)
-] refl none
-  where
-    up : nat_lt a min ≡ false → nat_le min a ≡ true
-    up is = grind (arith, nat_tests)
-
-pub all_stay : (min : ℕ) (es : List Entry) → any_below min es ≡ false → from_section min es ≡ es
-all_stay min [] none = refl
-all_stay min (e ∷ es) none =
-    let parts = head_stays e.0 min (any_below min es) none in
-    ap (λ (q : Bool). cond q (e ∷ from_section min es) (from_section min es)) parts.0 ∙ ap (λ (l : List Entry). e ∷ l) (all_stay min es parts.1)
-
--- THE LOOP OVER THE RECORDS
-
-flat_stays : (min : ℕ) (bs : List (List ℕ)) → AreFlat bs → AreFlat (stays min bs)
-flat_stays min [] short = tt
-flat_stays min (b ∷ bs) short = elim (nat_le min (read64 b)) as (λ (q : Bool). AreFlat (cond q (b ∷ stays min bs) (stays min bs))) [
-  | true ↦ (short.0, flat_stays min bs short.1)
-  | false ↦ flat_stays min bs short.1
+names_calls : (min : ℕ) (rows : List (Name × List ℕ)) → removes (filter (is_below min) (map (λ e. e.0) rows)) ≡ rm (filter (λ k. nat_lt k min) (firsts (segment_rows rows)))
+names_calls min [] = refl
+names_calls min ((Plan, v) ∷ rows) = names_calls min rows
+names_calls min ((Flat, v) ∷ rows) = names_calls min rows
+names_calls min ((Segment s, v) ∷ rows) = elim (nat_lt s min) as (λ (b : Bool). removes (cond b (Segment s ∷ filter (is_below min) (map (λ (e : Name × List ℕ). e.0) rows)) (filter (is_below min) (map (λ (e : Name × List ℕ). e.0) rows))) ≡ rm (cond b (s ∷ filter (λ (k : ℕ). nat_lt k min) (firsts (segment_rows rows))) (filter (λ (k : ℕ). nat_lt k min) (firsts (segment_rows rows))))) [
+  | true ↦ ap (λ (l : List Op). Remove (Segment s) ∷ l) (names_calls min rows)
+  | false ↦ names_calls min rows
 ]
 
-pub pruning_none : (min : ℕ) (bytes : List ℕ) → Pruning min bytes bytes [] false 0
-pruning_none min bytes = record { bs = []; split = refl; size = refl; short = tt; stay = refl; go = refl }
+-- the calls of a prune by the files that are there
+pub file_calls : (min : ℕ) (f : Files) → prune_calls min (keys f) ≡ removes_from 0 min (λ t. is_some (get f (Segment t)))
+file_calls min f =
+    names_calls min (map_of.entries f) ∙ counted_all min (firsts (segment_rows (map_of.entries f))) (firsts_rise 0 (segment_rows (map_of.entries f)) (file_rows_sorted f) (from_zero (segment_rows (map_of.entries f))))
+    ∙ same_calls min 0 _ _ (λ t low. firsts_in t (segment_rows (map_of.entries f)) ∙ ap is_some (rows_find t (map_of.entries f) ∙ sym (get-entries f (Segment t))))
 
-pub pruning_front : (min : ℕ) (bytes rest kept : List ℕ) (gone : Bool) (place : ℕ) (p : Pruning min bytes rest kept gone place) → Front bytes rest (map entry_of p.bs) place
-pruning_front min bytes rest kept gone place p = record { bs = p.bs; split = p.split; stands_for = refl; size = p.size; short = p.short }
+-- .. and by the places that are known
+pub place_calls : (min : ℕ) (places : Places) (f : Files) (image : Files → Type 0) → IsOpenAt places f image → removes_below min places ≡ prune_calls min (keys f)
+place_calls min places f image at =
+    let rows = map_of.entries places in
+    places_calls min rows ∙ counted_all min (firsts (there_of rows)) (firsts_rise 0 (there_of rows) (there_sorted rows (entries_sorted places)) (from_zero (there_of rows)))
+    ∙ same_calls min 0 _ _ (λ t low. firsts_in t (there_of rows) ∙ there_find t rows (entries_sorted places) ∙ ap (λ (o : Option (Option ℕ)). is_some (joined o)) (sym (get-entries places t)) ∙ sym (at_some (place_at places t) (get f (Segment t)) (at.each t)))
+    ∙ sym (file_calls min f)
 
-some_more : (min : ℕ) (bs : List (List ℕ)) (b : List ℕ) → some_go min (bs ++ b ∷ []) ≡ (some_go min bs || nat_lt (read64 b) min)
-some_more min [] b = or_false (nat_lt (read64 b) min)
-some_more min (x ∷ bs) b = ap (λ (t : Bool). nat_lt (read64 x) min || t) (some_more min bs b) ∙ or_assoc (nat_lt (read64 x) min) (some_go min bs) (nat_lt (read64 b) min)
+-- WHAT THEY LEAVE
+
+-- sections below this one are gone, and the rest is the same
+pub record Gone (least : ℕ) (old c : Files) : Type 0 where
+  pub others : (q : Name) → is_below least q ≡ false → get c q ≡ get old q
+  pub gone : (section : ℕ) → section < least → get c (Segment section) ≡ None
+
+below_more : (lo : ℕ) (q : Name) → is_below (suc lo) q ≡ false → is_below lo q ≡ false
+below_more lo Plan is = refl
+below_more lo Flat is = refl
+below_more lo (Segment s) is = grind (arith, nat_tests)
+
+not_that : (lo : ℕ) (q : Name) → is_below (suc lo) q ≡ false → q ≢ Segment lo
+not_that lo q is e = absurd (let h : ◌≡◌ {A = Bool} true false = sym (is_less lo (suc lo) (omega arith)) ∙ ap (λ (n : Name). is_below (suc lo) n) (sym e) ∙ is in cc)
+
+gone_more : (lo : ℕ) (old d : Files) → Gone lo old d → Gone (suc lo) old (remove d (Segment lo))
+gone_more lo old d g = record {
+  others = λ q is. get_gone d (Segment lo) q (not_that lo q is) ∙ g.others q (below_more lo q is);
+  gone = λ s low. elim (cases_eq s lo) [
+    | inl is ↦ ap (λ (n : ℕ). get (remove d (Segment lo)) (Segment n)) is ∙ gone_here d (Segment lo)
+    | inr ne ↦ get_gone d (Segment lo) (Segment s) (segments_apart s lo ne) ∙ g.gone s (omega (arith, low, ne))
+  ];
+}
+
+gone_none : (lo : ℕ) (old d : Files) → Gone lo old d → get old (Segment lo) ≡ None → Gone (suc lo) old d
+gone_none lo old d g none = record {
+  others = λ q is. g.others q (below_more lo q is);
+  gone = λ s low. elim (cases_eq s lo) [
+    | inl is ↦ ap (λ (n : ℕ). get d (Segment n)) is ∙ g.others (Segment lo) (not_less lo lo (omega arith)) ∙ none
+    | inr ne ↦ g.gone s (omega (arith, low, ne))
+  ];
+}
+
+absent : (o : Option (List ℕ)) → is_some o ≡ false → o ≡ None
+absent None is = refl
+absent (Some x) is = absurd (let h : ◌≡◌ {A = Bool} true false = is in cc)
+
+abbrev GoneUpTo : ℕ → Files → Files → Type 0
+GoneUpTo most old c = (least : ℕ) × (least ≤ most) × Gone least old c
+
+up_to : (a b : ℕ) (old c : Files) → a ≡ b → GoneUpTo a old c → GoneUpTo b old c
+up_to a b old c same g = (g.0, omega (arith, same, g.1), g.2)
+
+amid_gone : (n lo : ℕ) (old d c : Files) (test : ℕ → Bool) → ((t : ℕ) → test t ≡ is_some (get old (Segment t))) → Gone lo old d → Amid (removes_from lo n test) d c → GoneUpTo (lo + n) old c
+amid_gone zero lo old d c test are g is = (lo, omega arith, subst (λ (f : Files). Gone lo old f) (sym is) g)
+amid_gone (suc n) lo old d c test are g amid = by_test (test lo) refl amid (λ f more later. up_to (suc lo + n) (lo + suc n) old c (omega arith) (amid_gone n (suc lo) old f c test are more later))
   where
-    or_assoc : (a b c : Bool) → (a || (b || c)) ≡ ((a || b) || c)
-    or_assoc true b c = refl
-    or_assoc false b c = refl
+    by_test : (b : Bool) → test lo ≡ b → Amid (cond b (Remove (Segment lo) ∷ removes_from (suc lo) n test) (removes_from (suc lo) n test)) d c → ((f : Files) → Gone (suc lo) old f → Amid (removes_from (suc lo) n test) f c → GoneUpTo (lo + suc n) old c) → GoneUpTo (lo + suc n) old c
+    by_test true is amid ih = ⊎_elim (λ (same : c ≡ d). (lo, omega arith, subst (λ (f : Files). Gone lo old f) (sym same) g)) (λ later. ih (remove d (Segment lo)) (gone_more lo old d g) later) amid
+    by_test false is amid ih = ih d (gone_none lo old d g (absent (get old (Segment lo)) (sym (are lo) ∙ is))) amid
 
--- one record more
-module _ (min : ℕ) (bytes rest after kept : List ℕ) (gone : Bool) (place : ℕ) (body next : List ℕ) (p : Pruning min bytes rest kept gone place) (is_open : rest ≡ 1 ∷ after) (is : after ≡ number32 (length body) ++ (body ++ next)) (short : IsFlatBody body) where
-  pub next_record : rest ≡ record_of body ++ next
-  next_record = is_open ∙ ap (λ (l : List ℕ). 1 ∷ l) (is ∙ sym (append_assoc (number32 (length body)) body next))
+all_gone : (n lo : ℕ) (old d : Files) (test : ℕ → Bool) → ((t : ℕ) → test t ≡ is_some (get old (Segment t))) → Gone lo old d → Gone (lo + n) old (after_all (removes_from lo n test) d)
+all_gone zero lo old d test are g = subst (λ (m : ℕ). Gone m old d) (omega arith) g
+all_gone (suc n) lo old d test are g = by_test (test lo) refl (λ f more. subst (λ (m : ℕ). Gone m old (after_all (removes_from (suc lo) n test) f)) (omega arith) (all_gone n (suc lo) old f test are more))
+  where
+    by_test : (b : Bool) → test lo ≡ b → ((f : Files) → Gone (suc lo) old f → Gone (lo + suc n) old (after_all (removes_from (suc lo) n test) f)) → Gone (lo + suc n) old (after_all (cond b (Remove (Segment lo) ∷ removes_from (suc lo) n test) (removes_from (suc lo) n test)) d)
+    by_test true is ih = ih (remove d (Segment lo)) (gone_more lo old d g)
+    by_test false is ih = ih d (gone_none lo old d g (absent (get old (Segment lo)) (sym (are lo) ∙ is)))
 
-  record_size : length (record_of body) ≡ 5 + length body
-  record_size = omega (arith, length-append (number32 (length body)) body, length-number32 (length body))
+gone_start : (old : Files) → Gone 0 old old
+gone_start old = record { others = λ q is. refl; gone = λ s low. absurd (omega (arith, low)) }
 
-  pub room : 5 + length body ≤ length rest
-  room = omega (arith, ap length next_record, length-append (record_of body) next, record_size)
-
-  pub copied : take (5 + length body) rest ≡ record_of body
-  copied = ap (take (5 + length body)) next_record ∙ take_at (record_of body) next (5 + length body) record_size
-
-  split_more : bytes ≡ spelled (p.bs ++ body ∷ []) ++ next
-  split_more = p.split ∙ ap (λ (l : List ℕ). spelled p.bs ++ l) next_record ∙ sym (append_assoc (spelled p.bs) (record_of body) next) ∙ ap (λ (l : List ℕ). l ++ next) (sym (spelled-push p.bs body))
-
-  size_more : length (spelled (p.bs ++ body ∷ [])) ≡ place + (5 + length body)
-  size_more = ap length (spelled-push p.bs body) ∙ omega (arith, p.size, length-append (spelled p.bs) (record_of body), record_size)
-
-  pub more_goes : read64 body < min → (kept' : List ℕ) (gone' : Bool) → kept' ≡ kept → gone' ≡ true → Pruning min bytes next kept' gone' (place + (5 + length body))
-  more_goes low kept' gone' same one = record {
-    bs = p.bs ++ body ∷ [];
-    split = split_more;
-    size = size_more;
-    short = short-push p.bs body p.short short;
-    stay = same ∙ p.stay ∙ ap spelled (sym (filter-append (λ (b : List ℕ). nat_le min (read64 b)) p.bs (body ∷ []) ∙ ap (λ (q : Bool). stays min p.bs ++ cond q (body ∷ []) []) (below low) ∙ append-nil (stays min p.bs)));
-    go = one ∙ sym (some_more min p.bs body ∙ ap (λ (b : Bool). some_go min p.bs || b) (goes low) ∙ or_true (some_go min p.bs));
-  }
-    where
-      below : read64 body < min → nat_le min (read64 body) ≡ false
-      below low = grind (arith, nat_tests)
-
-      goes : read64 body < min → nat_lt (read64 body) min ≡ true
-      goes low = grind (arith, nat_tests)
-
-      or_true : (a : Bool) → (a || true) ≡ true
-      or_true true = refl
-      or_true false = refl
-
-  pub more_stays : min ≤ read64 body → (kept' : List ℕ) (gone' : Bool) → kept' ≡ kept ++ take (5 + length body) rest → gone' ≡ gone → Pruning min bytes next kept' gone' (place + (5 + length body))
-  more_stays high kept' gone' pushed same = record {
-    bs = p.bs ++ body ∷ [];
-    split = split_more;
-    size = size_more;
-    short = short-push p.bs body p.short short;
-    stay = pushed ∙ (λ i. p.stay i ++ copied i) ∙ sym (spelled-push (stays min p.bs) body) ∙ ap spelled (sym (filter-append (λ (b : List ℕ). nat_le min (read64 b)) p.bs (body ∷ []) ∙ ap (λ (q : Bool). stays min p.bs ++ cond q (body ∷ []) []) (above high)));
-    go = same ∙ p.go ∙ sym (some_more min p.bs body ∙ ap (λ (b : Bool). some_go min p.bs || b) (stay high) ∙ or_false (some_go min p.bs));
-  }
-    where
-      above : min ≤ read64 body → nat_le min (read64 body) ≡ true
-      above high = grind (arith, nat_tests)
-
-      stay : min ≤ read64 body → nat_lt (read64 body) min ≡ false
-      stay high = grind (arith, nat_tests)
-
--- what was read is what the definition says
-pruned_bodies : (min : ℕ) (bytes kept : List ℕ) (gone : Bool) (p : Pruned min bytes kept gone) → bodies 8 (length bytes) bytes ≡ p.pruning.bs
-unfolding pruning_front
-pruned_bodies min bytes kept gone p = (read_front bytes p.rest (map entry_of p.pruning.bs) p.place (pruning_front min bytes p.rest kept gone p.place p.pruning) (ends_stops p.rest p.ends)).0
-
-pub left_none : (min : ℕ) (bytes kept : List ℕ) (gone : Bool) → Pruned min bytes kept gone → gone ≡ false → None ≡ left_of min bytes
-left_none min bytes kept gone p none =
-    sym (ap (λ (bs : List (List ℕ)). cond (some_go min bs) (Some (closed (stays min bs))) None) (pruned_bodies min bytes kept gone p) ∙ ap (λ (b : Bool). cond b (Some (closed (stays min p.pruning.bs))) None) (sym p.pruning.go ∙ none))
-
-pub left_some : (min : ℕ) (bytes kept all : List ℕ) (gone : Bool) → Pruned min bytes kept gone → gone ≡ true → all ≡ kept ++ 0 ∷ [] → Some all ≡ left_of min bytes
-left_some min bytes kept all gone p some pushed =
-    ap (λ (l : List ℕ). Some l) (pushed ∙ ap (λ (l : List ℕ). l ++ 0 ∷ []) p.pruning.stay)
-    ∙ sym (ap (λ (bs : List (List ℕ)). cond (some_go min bs) (Some (closed (stays min bs))) None) (pruned_bodies min bytes kept gone p) ∙ ap (λ (b : Bool). cond b (Some (closed (stays min p.pruning.bs))) None) (sym p.pruning.go ∙ some))
-
--- THE JOURNAL'S FILE
-
--- a file of which a record goes, and the one that is put in its place
-pub record Going (min : ℕ) (files : Files) (image : Files → Type 0) (bytes : List ℕ) : Type 0 where
-  pub x : List ℕ
-  pub bs : List (List ℕ)
-  pub place : ℕ
-  pub firm : Firm x files image
-  pub flat : IsFlat bs place x
-  pub is : bytes ≡ closed (stays min bs)
-  pub go : some_go min bs ≡ true
-
-left_flat : (min : ℕ) (bs : List (List ℕ)) (place : ℕ) (x : List ℕ) → IsFlat bs place x → left_of min x ≡ cond (some_go min bs) (Some (closed (stays min bs))) None
-left_flat min bs place x flat = ap (λ (l : List (List ℕ)). cond (some_go min l) (Some (closed (stays min l))) None) (flat_bodies bs place x flat)
-
-chosen : (b : Bool) (all bytes : List ℕ) → Some bytes ≡ cond b (Some all) None → (b ≡ true) × (bytes ≡ all)
-chosen true all bytes is = (refl, same_Some bytes all is)
-chosen false all bytes is = absurd (none-some bytes (sym is))
-
-unchosen : (b : Bool) (all : List ℕ) → None ≡ cond b (Some all) None → b ≡ false
-unchosen true all is = absurd (none-some all is)
-unchosen false all is = refl
-
-module _ (min : ℕ) (files : Files) (image : Files → Type 0) where
-  pub going : (place : Option ℕ) (bytes : List ℕ) → IsOpenAt place files image → Some bytes ≡ left_of_file min (get files Flat) → Going min files image bytes
-  going (Some p) bytes open_at is =
-      let found = chosen (some_go min open_at.bs) (closed (stays min open_at.bs)) bytes (is ∙ ap (left_of_file min) open_at.firm.there ∙ left_flat min open_at.bs p open_at.bytes open_at.flat) in
-      record { x = open_at.bytes; bs = open_at.bs; place = p; firm = open_at.firm; flat = open_at.flat; is = found.1; go = found.0 }
-  going None bytes open_at is = absurd (none-some bytes (sym (is ∙ ap (left_of_file min) open_at.none)))
-
-  -- where none goes
-  pub none_goes : (place : Option ℕ) → IsOpenAt place files image → None ≡ left_of_file min (get files Flat) → (d : Files) → image d → any_below min (entries d) ≡ false
-  none_goes (Some p) open_at is d now =
-      ap (any_below min) (entries_flat d open_at.bs p open_at.bytes (open_at.firm.only d now) open_at.flat) ∙ sections_any min open_at.bs
-      ∙ unchosen (some_go min open_at.bs) (closed (stays min open_at.bs)) (is ∙ ap (left_of_file min) open_at.firm.there ∙ left_flat min open_at.bs p open_at.bytes open_at.flat)
-  none_goes None open_at is d now = ap (any_below min) (open_at.empty d now)
-
-  -- no record of the journal's file is broken
-  pub open_unbroken : (place : Option ℕ) → IsOpenAt place files image → broken files ≡ None
-  open_unbroken (Some p) open_at =
-      let flat = open_at.flat in
-      let whole : Whole open_at.bytes (map entry_of open_at.bs) p = record {
-        rest = flat.gate ∷ flat.junk;
-        front = record { bs = open_at.bs; split = flat.is; stands_for = refl; size = flat.size; short = flat.short };
-        ends = flat.shut;
-      } in
-      ap broken_of open_at.firm.there ∙ whole_unbroken open_at.bytes (map entry_of open_at.bs) p whole
-  open_unbroken None open_at = ap broken_of open_at.none
-
--- the new file
-new_flat : (min : ℕ) (bs : List (List ℕ)) → AreFlat bs → IsFlat (stays min bs) (length (spelled (stays min bs))) (closed (stays min bs))
-new_flat min bs short = record { gate = 0; junk = []; is = refl; shut = omega arith; size = refl; short = flat_stays min bs short }
-
--- .. in which each record is whole
-pub going_whole : (min : ℕ) (files : Files) (image : Files → Type 0) (bytes : List ℕ) → Going min files image bytes → broken_at bytes ≡ None
-going_whole min files image bytes g = ap broken_at g.is ∙ flat_whole (stays min g.bs) (length (spelled (stays min g.bs))) (closed (stays min g.bs)) (new_flat min g.bs g.flat.short)
-
-new_entries : (min : ℕ) (files : Files) (image : Files → Type 0) (bytes : List ℕ) (g : Going min files image bytes) (c d : Files) → image d → get c Flat ≡ Some bytes → entries c ≡ from_section min (entries d)
-new_entries min files image bytes g c d now here =
-    entries_flat c (stays min g.bs) (length (spelled (stays min g.bs))) (closed (stays min g.bs)) (here ∙ ap (λ (l : List ℕ). Some l) g.is) (new_flat min g.bs g.flat.short)
-    ∙ sections_from min g.bs ∙ ap (from_section min) (sym (entries_flat d g.bs g.place g.x (g.firm.only d now) g.flat))
-
--- images that were images before
-pub widen : (P : Files → Files → Type 0) (a b c : Files → Type 0) → ((f : Files) → b f → a f) → Follows P b c → Follows P a c
-widen P a b c wide step = record { each = λ f now. let from = step.each f now in (from.0, wide from.0 from.1, from.2) }
-
-pub unchanged_may : {D : Type 0} (files : D → Files) (image : D → Files → Type 0) (a b : D) (min : ℕ) → IsUnchanged files image a b → Follows (MayLeave min) (image a) (image b)
-unchanged_may files image a b min same = record { each = λ c now. (c, same.same_images c now, record { others = λ q ne. refl; either = inl refl }) }
-
-pub unchanged_leaves : {D : Type 0} (files : D → Files) (image : D → Files → Type 0) (a b : D) (min : ℕ) → IsUnchanged files image a b → ((d : Files) → image a d → any_below min (entries d) ≡ false) → Follows (Leaves min) (image a) (image b)
-unchanged_leaves files image a b min same none = record { each = λ c now. let was = same.same_images c now in (c, was, record { others = λ q ne. refl; left = sym (all_stay min (entries c) (none c was)) }) }
-
-pub unchanged_open : {D : Type 0} (files : D → Files) (image : D → Files → Type 0) (a b : D) (place : Option ℕ) → IsUnchanged files image a b → IsOpenAt place (files a) (image a) → IsOpenAt place (files b) (image b)
-unchanged_open files image a b (Some p) same open_at = record {
-  bs = open_at.bs;
-  bytes = open_at.bytes;
-  firm = record { there = ap (λ (f : Files). get f Flat) same.same_files ∙ open_at.firm.there; only = λ c now. open_at.firm.only c (same.same_images c now) };
-  flat = open_at.flat;
-}
-unchanged_open files image a b None same open_at = record {
-  none = ap (λ (f : Files). get f Flat) same.same_files ∙ open_at.none;
-  only = λ c now. open_at.only c (same.same_images c now);
-  empty = λ c now. open_at.empty c (same.same_images c now);
+gone_leaves : (least : ℕ) (old c : Files) → get old Flat ≡ None → Gone least old c → Leaves least old c
+gone_leaves least old c no_flat g = record {
+  others = g.others;
+  gone = g.gone;
+  left = entries_from least c old (g.others Flat refl ∙ no_flat) no_flat g.gone (λ s high. g.others (Segment s) (not_less s least high));
 }
 
-pub unchanged_tried : {D : Type 0} (files : D → Files) (image : D → Files → Type 0) (a b : D) (min : ℕ) (f : Burn) → Lands (files a) (image a) → IsUnchanged files image a b → Tried (Prunes min) (files a) (image b) f f
-unchanged_tried files image a b min f lands same = record { each = unchanged_tries files image a b (Prunes min) lands same; spent = none_spent (calls_of (Prunes min) (files a)) f }
+pub remove_whole : (names : List Name) → AreOfWhole (removes names)
+remove_whole [] = tt
+remove_whole (n ∷ names) = (tt, remove_whole names)
 
-pub unchanged_finished : {D : Type 0} (files : D → Files) (image : D → Files → Type 0) (a b : D) (min : ℕ) (f : Burn) → Lands (files a) (image a) → IsUnchanged files image a b → any_below min (entries (files a)) ≡ false → Finished (Prunes min) (files a) (files b) (image b) f f
-unchanged_finished files image a b min f lands same none = record {
-  after = ap journaled same.same_files ∙ stands_for (files a) (after_operation (Prunes min) (journaled (files a))) (sym (all_stay min (entries (files a)) none)) refl (λ q. refl);
-  settled = unchanged_lands files image a b lands same;
-  spent = sym (ap (λ (b : Bool). burnt (cond b 1 0) f) none);
-}
+-- A PRUNE
 
--- the install of what stays
-module _ (min : ℕ) (files : Files) (image next : Files → Type 0) (bytes : List ℕ) (g : Going min files image bytes) (step : Follows (Inside (Install Flat bytes)) image next) where
-  pub may_leave : Follows (MayLeave min) image next
-  may_leave = record {
-    each = λ c now.
-        let from = step.each c now in (
-          from.0,
-          from.1,
-          record {
-            others = from.2.0;
-            either = ⊎_elim
-                (λ (same : get c Flat ≡ get from.0 Flat). inl (ap entries (same_files Flat from.0 c from.2.0 same)))
-                (λ (new : get c Flat ≡ Some bytes). inr (new_entries min files image bytes g c from.0 from.1 new))
-                from.2.1;
-          },
-        );
-  }
+module _ (min : ℕ) (places : Places) (files : Files) (image : Files → Type 0) (at : IsOpenAt places files image) where
+  same_test : (d : Files) → image d → (t : ℕ) → is_some (get files (Segment t)) ≡ is_some (get d (Segment t))
+  same_test d now t = ap is_some (sym (at.only d now (Segment t) (segment_plan t)))
 
-  pub leaves : ((c : Files) → next c → get c Flat ≡ Some bytes) → Follows (Leaves min) image next
-  leaves here = record { each = λ c now. let from = step.each c now in (from.0, from.1, record { others = from.2.0; left = new_entries min files image bytes g c from.0 from.1 (here c now) }) }
+  no_flat : (d : Files) → image d → get d Flat ≡ None
+  no_flat d now = at.only d now Flat flat_plan ∙ at.no_flat
 
-  pub leaves_open : (last : Files) → Did (Install Flat bytes) files last next → (place : ℕ) → place ≡ length bytes - 1 → FlatAt place last next
-  leaves_open last did place is = record {
-    bs = stays min g.bs;
-    bytes = closed (stays min g.bs);
-    firm = subst (λ (l : List ℕ). Firm l last next) g.is (record { there = ap (λ (m : Files). get m Flat) did.reads ∙ get_here files Flat bytes; only = did.durable });
-    flat = subst (λ (p : ℕ). IsFlat (stays min g.bs) p (closed (stays min g.bs))) (sym (is ∙ omega (arith, ap length g.is, length-append (spelled (stays min g.bs)) (0 ∷ [])))) (new_flat min g.bs g.flat.short);
-  }
+  may : (d c : Files) → image d → Amid (prune_calls min (keys files)) d c → MayLeave min d c
+  may d c now amid =
+      let g = amid_gone min 0 d d c (λ t. is_some (get files (Segment t))) (same_test d now) (gone_start d) (subst (λ (l : List Op). Amid l d c) (file_calls min files) amid) in
+      record { least = g.0; low = omega (arith, g.1); leaves = gone_leaves g.0 d c (no_flat d now) g.2 }
 
-  module _ (lands : Lands files image) where
-    -- whatever is left stands for what was there, or for what stays
-    standing : (c : Files) → image files → next c → get c Flat ≡ Some bytes → journaled c ≡ after_operation (Prunes min) (journaled files)
-    standing c here now new =
-        let from = step.each c now in
-        let others : SameElse Flat files c = subst (λ (d : Files). SameElse Flat d c) (lands.only from.0 from.1) from.2.0 in
-        stands_for c (after_operation (Prunes min) (journaled files)) (new_entries min files image bytes g c files here new) (others Plan plan_apart) (named_same Flat files c others (ap is_some new ∙ sym (ap is_some g.firm.there)))
+  pub may_none : Follows (MayLeave min) image image
+  may_none = record { each = λ c now. (c, now, record { least = 0; low = omega arith; leaves = gone_leaves 0 c c (no_flat c now) (gone_start c) }) }
 
-    one_goes : image files → calls_of (Prunes min) files ≡ 1
-    one_goes here = ap (λ (b : Bool). cond b 1 0) (ap (any_below min) (entries_flat files g.bs g.place g.x (g.firm.only files here) g.flat) ∙ sections_any min g.bs ∙ g.go)
+  zero_and : 0 + min ≡ min
+  zero_and = omega arith
 
-    module _ {D : Type 0} (made : D → D → List Op → Type 0) (a b : D) (f h : Burn) (all : RanAll made a b f h (Install Flat bytes ∷ [])) (here : image files) where
-      pub prune_tried : Tried (Prunes min) files next f h
-      prune_tried = record {
+  does : (d c : Files) → image d → c ≡ after_all (prune_calls min (keys files)) d → Leaves min d c
+  does d c now is =
+      let g = subst (λ (m : ℕ). Gone m d (after_all (removes_from 0 min (λ t. is_some (get files (Segment t)))) d)) zero_and (all_gone min 0 d d (λ t. is_some (get files (Segment t))) (same_test d now) (gone_start d)) in
+      gone_leaves min d c (no_flat d now) (subst (λ (f : Files). Gone min d f) (sym (is ∙ ap (λ (l : List Op). after_all l d) (file_calls min files))) g)
+
+  module _ (next : Files → Type 0) where
+    pub prune_may : Follows (Amid (prune_calls min (keys files))) image next → Follows (MayLeave min) image next
+    prune_may step = record { each = λ c now. let from = step.each c now in (from.0, from.1, may from.0 c from.1 from.2) }
+
+    pub prune_leaves : Follows (Becomes (prune_calls min (keys files))) image next → Follows (Leaves min) image next
+    prune_leaves step = record { each = λ c now. let from = step.each c now in (from.0, from.1, does from.0 c from.1 from.2) }
+
+    pub prune_unbroken : Follows (Amid (prune_calls min (keys files))) image next → AreUnbroken next
+    prune_unbroken step = record {
+      each = λ c now.
+          let from = step.each c now in
+          let left = may from.0 c from.1 from.2 in
+          let sound = (open_unbroken_images places files image at).each from.0 from.1 in
+          unbroken_by c (left.leaves.others Flat refl ∙ no_flat from.0 from.1) (λ s x is. elim (cases_lt s left.least) [
+            | inl low ↦ absurd (none-some x (sym (left.leaves.gone s low) ∙ is))
+            | inr high ↦ whole_at from.0 (no_flat from.0 from.1) sound s x (sym (left.leaves.others (Segment s) (not_less s left.least high)) ∙ is)
+          ]);
+    }
+
+    -- the journal is open behind it
+    pub prune_open : (new : Files) (places' : Places) → Follows (Becomes (prune_calls min (keys files))) image next → next new → places' ≡ retain_keys places (nat_le min) → IsOpenAt places' new next
+    prune_open new places' step now pruned =
+        let back = step.each new now in
+        let left = does back.0 new back.1 back.2 in
+        let rest : (q : Name) → q ≢ Plan → is_below min q ≡ false → get new q ≡ get files q = λ q ne is. left.others q is ∙ at.only back.0 back.1 q ne in
+        record {
+          no_flat = left.others Flat refl ∙ no_flat back.0 back.1;
+          each = λ s.
+              let there : place_at places' s ≡ joined (cond (nat_le min s) (get places s) None) = ap (λ (m : Places). joined (get m s)) pruned ∙ ap joined (get-retain_keys places (nat_le min) s (λ x tied. ap (nat_le min) (sym (nat_cmp-IsAntisymmetric s x tied)))) in
+              subst (λ (o : Option ℕ). IsSegmentAt o (get new (Segment s))) (sym there) (elim (cases_lt s min) [
+                | inl low ↦ subst (λ (b : Bool). IsSegmentAt (joined (cond b (get places s) None)) (get new (Segment s))) (sym (is_low s low)) (left.gone s low)
+                | inr high ↦ subst (λ (b : Bool). IsSegmentAt (joined (cond b (get places s) None)) (get new (Segment s))) (sym (is_high s high)) (subst (λ (o : Option (List ℕ)). IsSegmentAt (place_at places s) o) (sym (rest (Segment s) (segment_plan s) (not_less s min high))) (at.each s))
+              ]);
+          only = λ c here q ne.
+              let from = step.each c here in
+              let leaves = does from.0 c from.1 from.2 in
+              by_below c q (is_below min q) refl leaves.gone left.gone (λ is. leaves.others q is ∙ at.only from.0 from.1 q ne ∙ sym (rest q ne is));
+        }
+      where
+        is_low : (s : ℕ) → s < min → nat_le min s ≡ false
+        is_low s low = grind (arith, nat_tests)
+
+        is_high : (s : ℕ) → min ≤ s → nat_le min s ≡ true
+        is_high s high = grind (arith, nat_tests)
+
+        by_name : (c : Files) (q : Name) → is_below min q ≡ true → ((s : ℕ) → s < min → get c (Segment s) ≡ None) → ((s : ℕ) → s < min → get new (Segment s) ≡ None) → get c q ≡ get new q
+        by_name c Plan is a b = absurd (let h : ◌≡◌ {A = Bool} false true = is in cc)
+        by_name c Flat is a b = absurd (let h : ◌≡◌ {A = Bool} false true = is in cc)
+        by_name c (Segment s) is a b = a s (under s is) ∙ sym (b s (under s is))
+          where
+            under : (s : ℕ) → nat_lt s min ≡ true → s < min
+            under s is = grind (arith, nat_tests)
+
+        by_below : (c : Files) (q : Name) (b : Bool) → is_below min q ≡ b → ((s : ℕ) → s < min → get c (Segment s) ≡ None) → ((s : ℕ) → s < min → get new (Segment s) ≡ None) → (is_below min q ≡ false → get c q ≡ get new q) → get c q ≡ get new q
+        by_below c q true is a b same = by_name c q is a b
+        by_below c q false is a b same = same is
+
+    module _ (lands : Lands files image) where
+      -- what the files stand for then
+      standing : (least : ℕ) (c : Files) → Leaves least files c → journaled c ≡ after_operation (Prunes least) (journaled files)
+      standing least c left = stands_for c (after_operation (Prunes least) (journaled files)) left.left (left.others Plan refl) (leaves_names least files c left)
+
+      size : length (prune_calls min (keys files)) ≡ calls_of (Prunes min) (journaled files)
+      size = length-map (filter (is_below min) (keys files)) (λ name. Remove name)
+
+      pub prune_tried : {D : Type 0} (made : D → D → List Op → Type 0) (a b : D) (f h : Burn) → Follows (Amid (prune_calls min (keys files))) image next → Ran made a b f h (prune_calls min (keys files)) → Tried (Prunes min) files next f h
+      prune_tried made a b f h step ran = record {
         each = λ c now.
             let from = step.each c now in
-            let is : from.0 ≡ files = lands.only from.0 from.1 in
-            ⊎_elim
-            (λ (same : get c Flat ≡ get from.0 Flat). inl (ap journaled (same_files Flat from.0 c from.2.0 same ∙ is)))
-            (λ (new : get c Flat ≡ Some bytes). inr (inl (standing c here now new)))
-            from.2.1;
-        spent = ran_spent made a b f h (Install Flat bytes ∷ []) (calls_of (Prunes min) files) (sym (one_goes here)) (ran_all made a b f h (Install Flat bytes ∷ []) all);
+            let left : MayLeave min files c = subst (λ (d : Files). MayLeave min d c) (lands.only from.0 from.1) (may from.0 c from.1 from.2) in
+            inr (inr (left.least, left.low, standing left.least c left.leaves));
+        spent = ran_spent made a b f h (prune_calls min (keys files)) (calls_of (Prunes min) (journaled files)) size ran;
       }
 
-      pub prune_finished : (last : Files) → Did (Install Flat bytes) files last next → next last → Finished (Prunes min) files last next f h
-      prune_finished last did now =
-          let firm : Firm bytes last next = record { there = ap (λ (m : Files). get m Flat) did.reads ∙ get_here files Flat bytes; only = did.durable } in
-          record {
-            after = standing last here now firm.there;
-            settled = settled_flat bytes files last image next lands firm (weaken (Inside (Install Flat bytes)) (SameElse Flat) image next (λ x y is k. k.0) step) now;
-            spent = all_burnt made a b f h (Install Flat bytes ∷ []) (calls_of (Prunes min) files) (sym (one_goes here)) all;
-          }
-
-pub did_from : (op : Op) (old mid last : Files) (next : Files → Type 0) → mid ≡ old → Did op mid last next → Did op old last next
-did_from op old mid last next same did = subst (λ (f : Files). Did op f last next) same did
-
--- the calls of a prune where one goes
-pub going_calls : (min : ℕ) (files : Files) (bytes : List ℕ) → Some bytes ≡ left_of_file min (get files Flat) → ◌≡◌ {A = List Op} (Install Flat bytes ∷ []) (prune_calls min files)
-going_calls min files bytes is = ap install_of is
+      pub prune_finished : {D : Type 0} (made : D → D → List Op → Type 0) (a b : D) (f h : Burn) (new : Files) → image files → Follows (Becomes (prune_calls min (keys files))) image next → new ≡ after_all (prune_calls min (keys files)) files → RanAll made a b f h (prune_calls min (keys files)) → Finished (Prunes min) files new next f h
+      prune_finished made a b f h new here step is all = record {
+        after = standing min new (does files new here is);
+        settled = becomes_lands (prune_calls min (keys files)) files new image next lands step is;
+        spent = all_burnt made a b f h (prune_calls min (keys files)) (calls_of (Prunes min) (journaled files)) size all;
+      }

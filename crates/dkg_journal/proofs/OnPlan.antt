@@ -19,9 +19,9 @@ use Rattle.dkg_journal.specs.declared.disk.Op.{Op}
 use Rattle.dkg_journal.specs.declared.disk.Op.TheVariants.{Install, Remove}
 use Rattle.dkg_journal.proofs.Steps.{names_total, exact_names, get_here, weaken, ran_all}
 use Rattle.dkg_journal.proofs.AtOnce.{gone_here}
-use Rattle.dkg_journal.proofs.Append.{same_files}
 use Rattle.dkg_journal.proofs.Fuses.{all_burnt, ran_spent}
-use Rattle.dkg_journal.proofs.Standing.{same_name, name_itself, name_apart, is_there, named, stands_for}
+use Rattle.dkg_journal.proofs.SameFiles.{same_files, same_name, name_itself, name_apart, named, unnamed}
+use Rattle.dkg_journal.proofs.Standing.{is_there, stands_for}
 
 flat_not_plan : Flat ≢ Plan
 flat_not_plan e = absurd (omega (arith, ap name_number e))
@@ -68,13 +68,6 @@ plan_entries old new others =
     by_flat None same = same
     by_flat (Some file) same = refl
 
--- the names without one
-unnamed : (name : Name) (old c : Files) → SameElse name old c → get c name ≡ None → (q : Name) → is_some (get c q) ≡ without_name name (λ n. is_some (get old n)) q
-unnamed name old c others gone q = ⊎_elim
-    (λ (at : q ≡ name). ap (λ (n : Name). is_some (get c n)) at ∙ ap is_some gone ∙ sym (ap (λ (b : Bool). not b && is_some (get old q)) (ap (λ (n : Name). eq_by_cmp name_cmp n name) at ∙ name_itself name)))
-    (λ (ne : q ≢ name). ap is_some (others q ne) ∙ sym (ap (λ (b : Bool). not b && is_some (get old q)) (name_apart q name ne)))
-    (same_name q name)
-
 pub put_standing : (bytes : List ℕ) (old c : Files) → SameElse Plan old c → get c Plan ≡ Some bytes → journaled c ≡ after_operation (PutsPlan bytes) (journaled old)
 put_standing bytes old c others is = stands_for c (after_operation (PutsPlan bytes) (journaled old)) (plan_entries old c others) is (named Plan old c others (ap is_some is))
 
@@ -92,7 +85,7 @@ tried_put made a b f g bytes old image next lands step all = record {
       (λ (same : get c Plan ≡ get old Plan). inl (ap journaled (same_files Plan old c inside.0 same)))
       (λ (new : get c Plan ≡ Some bytes). inr (inl (put_standing bytes old c inside.0 new)))
       inside.1;
-  spent = ran_spent made a b f g (Install Plan bytes ∷ []) (calls_of (PutsPlan bytes) old) refl (ran_all made a b f g (Install Plan bytes ∷ []) all);
+  spent = ran_spent made a b f g (Install Plan bytes ∷ []) (calls_of (PutsPlan bytes) (journaled old)) refl (ran_all made a b f g (Install Plan bytes ∷ []) all);
 }
 
 pub tried_clear : {D : Type 0} (made : D → D → List Op → Type 0) (a b : D) (f g : Burn) (old : Files) (image next : Files → Type 0) → Lands old image → Follows (Inside (Remove Plan)) image next → RanAll made a b f g (Remove Plan ∷ []) → Tried ClearsPlan old next f g
@@ -105,7 +98,7 @@ tried_clear made a b f g old image next lands step all = record {
       (λ (same : get c Plan ≡ get old Plan). inl (ap journaled (same_files Plan old c inside.0 same)))
       (λ (new : get c Plan ≡ None). inr (inl (cleared_standing old c inside.0 new)))
       inside.1;
-  spent = ran_spent made a b f g (Remove Plan ∷ []) (calls_of ClearsPlan old) refl (ran_all made a b f g (Remove Plan ∷ []) all);
+  spent = ran_spent made a b f g (Remove Plan ∷ []) (calls_of ClearsPlan (journaled old)) refl (ran_all made a b f g (Remove Plan ∷ []) all);
 }
 
 pub put_others : (bytes : List ℕ) (a b : Files → Type 0) → Follows (Inside (Install Plan bytes)) a b → Follows (SameElse Plan) a b
@@ -142,7 +135,7 @@ finished_put made a b f g bytes old new image next lands step did now all =
     record {
       after = put_standing bytes old new rest here;
       settled = one_file_lands Plan old new image next lands (put_others bytes image next step) now (λ c is. did.durable c is ∙ sym here);
-      spent = all_burnt made a b f g (Install Plan bytes ∷ []) (calls_of (PutsPlan bytes) old) refl all;
+      spent = all_burnt made a b f g (Install Plan bytes ∷ []) (calls_of (PutsPlan bytes) (journaled old)) refl all;
     }
 
 pub finished_clear : {D : Type 0} (made : D → D → List Op → Type 0) (a b : D) (f g : Burn) (old new : Files) (image next : Files → Type 0) → Lands old image → Follows (Inside (Remove Plan)) image next → Did (Remove Plan) old new next → next new → RanAll made a b f g (Remove Plan ∷ []) → Finished ClearsPlan old new next f g
@@ -153,9 +146,5 @@ finished_clear made a b f g old new image next lands step did now all =
     record {
       after = cleared_standing old new rest here;
       settled = one_file_lands Plan old new image next lands (clear_others image next step) now (λ c is. did.durable c is ∙ sym here);
-      spent = all_burnt made a b f g (Remove Plan ∷ []) (calls_of ClearsPlan old) refl all;
+      spent = all_burnt made a b f g (Remove Plan ∷ []) (calls_of ClearsPlan (journaled old)) refl all;
     }
-
-pub on_ok : {T E P Q : Type 0} (r : Result T E) → (P → Q) → OnOk r P → OnOk r Q
-on_ok (Ok x) f p = f p
-on_ok (Err e) f p = tt

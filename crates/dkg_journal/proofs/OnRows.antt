@@ -13,7 +13,6 @@ use Rattle.dkg_journal.specs.Names.{Files, name_cmp, name_number, name_at, name_
 use Rattle.dkg_journal.specs.Disk.{Inside, Follows, Did, HasFile, Torn, Lands as Left, after_write}
 use Rattle.dkg_journal.specs.Kept.{Kept, FileImage, settled, wrote}
 use Rattle.dkg_journal.specs.Table.{Rows, file_at, IsUpdate, made_sure, Lands, row_bytes, contents, bytes_of, get_contents, matches, MatchFile, RowsImage, reads_image}
-use Rattle.dkg_journal.specs.Opening.{IsFormOfToday}
 use Rattle.dkg_values.specs.declared.name.Name.TheVariants.{Segment}
 use Rattle.dkg_journal.specs.Fuse.{counted}
 use Rattle.dkg_journal.specs.Made.{Made, made_one, made_nothing}
@@ -283,6 +282,3 @@ bare_lands rows bare = record {
     none_there None None is image = refl
     none_there None (Some c) is image = absurd image
     none_there (Some f) c is image = absurd (none-some f (sym is))
-
-pub bare_form : (rows : Rows) → rows ≡ [] → IsFormOfToday (contents rows)
-bare_form rows bare = record { no_segment = λ section. get_contents rows (Segment section) ∙ ap (λ (r : Rows). bytes_of (file_at (Segment section) r)) bare }

@@ -1,4 +1,4 @@
--- A stable sort by sections gives the order of the definition.
+-- Entries whose sections rise: what they are follows from those of each section.
 use Rattle.std.proofs.Common.{◌≡◌, ◌≢◌, inl, inr, ℕ, suc, ◌<◌, ◌≤◌, ◌==◌, ◌&&◌, Bool, true, false, cond, not, nat_lt, List, [], ◌∷◌, ◌++◌, map, fold, length, drop, get_or, refl, sym, ◌∙◌, ap, arith, append_assoc}
 use Rattle.std.specs.Prelude.{filter}
 use Rattle.std.specs.Ordering.{nat_cmp, is_lt}
@@ -9,27 +9,27 @@ use Rattle.std.proofs.lemmas.Bool.Decides.{nat_tests}
 use Rattle.dkg_journal.specs.Records.{Entry, placed, in_order}
 use Rattle.dkg_journal.specs.declared.opening.JournalEntry.{JournalEntry}
 
-abbrev of_section : ℕ → List Entry → List Entry
+abbrev pub of_section : ℕ → List Entry → List Entry
 of_section k es = filter (λ e. e.0 == k) es
 
 -- sections rise, from this one on
-abbrev Above : ℕ → List Entry → Type 0
+abbrev pub Above : ℕ → List Entry → Type 0
 Above n [] = Unit {0}
 Above n (e ∷ es) = (n ≤ e.0) × Above e.0 es
 
-same_section : (k : ℕ) → (k == k) ≡ true
+pub same_section : (k : ℕ) → (k == k) ≡ true
 same_section k = grind (arith, nat_tests)
 
-other_section : (a k : ℕ) → a ≢ k → (a == k) ≡ false
+pub other_section : (a k : ℕ) → a ≢ k → (a == k) ≡ false
 other_section a k ne = grind (arith, nat_tests)
 
-none_of : (k n : ℕ) (es : List Entry) → Above n es → k < n → of_section k es ≡ []
+pub none_of : (k n : ℕ) (es : List Entry) → Above n es → k < n → of_section k es ≡ []
 none_of k n [] above low = refl
 none_of k n (e ∷ es) above low =
     let apart : (e.0 == k) ≡ false = other_section e.0 k (λ is. absurd (omega (arith, is, above.0, low))) in
     ap (λ (b : Bool). cond b (e ∷ of_section k es) (of_section k es)) apart ∙ none_of k e.0 es above.1 (omega (arith, above.0, low))
 
-head_of : (k : ℕ) (e : Entry) (es : List Entry) → e.0 ≡ k → of_section k (e ∷ es) ≡ e ∷ of_section k es
+pub head_of : (k : ℕ) (e : Entry) (es : List Entry) → e.0 ≡ k → of_section k (e ∷ es) ≡ e ∷ of_section k es
 head_of k e es is = ap (λ (b : Bool). cond b (e ∷ of_section k es) (of_section k es)) (ap (λ (n : ℕ). n == k) is ∙ same_section k)
 
 no_head : (e : Entry) (es : List Entry) → e ∷ es ≢ []
@@ -61,7 +61,7 @@ unique (y ∷ ys) (z ∷ zs) m n up vp same = elim (cases_lt y.0 z.0) [
     rest : y ≡ z → (k : ℕ) → of_section k ys ≡ of_section k zs
     rest first k = tails y z ys zs k first (same k)
 
-placed_above : (es : List Entry) (e : Entry) (n : ℕ) → Above n es → n ≤ e.0 → Above n (placed es e)
+pub placed_above : (es : List Entry) (e : Entry) (n : ℕ) → Above n es → n ≤ e.0 → Above n (placed es e)
 placed_above [] e n above low = (low, tt)
 placed_above (x ∷ xs) e n above low = elim (nat_lt e.0 x.0) as (λ (b : Bool). nat_lt e.0 x.0 ≡ b → Above n (cond b (e ∷ x ∷ xs) (x ∷ placed xs e))) [
   | true ↦ λ t. (low, (under e.0 x.0 t, above.1))
@@ -74,14 +74,14 @@ placed_above (x ∷ xs) e n above low = elim (nat_lt e.0 x.0) as (λ (b : Bool).
     over : (a b : ℕ) → nat_lt a b ≡ false → b ≤ a
     over a b t = grind (arith, nat_tests)
 
-of_both : (k : ℕ) (xs ys : List Entry) → of_section k (xs ++ ys) ≡ of_section k xs ++ of_section k ys
+pub of_both : (k : ℕ) (xs ys : List Entry) → of_section k (xs ++ ys) ≡ of_section k xs ++ of_section k ys
 of_both k [] ys = refl
 of_both k (x ∷ xs) ys = elim (x.0 == k) as (λ (b : Bool). cond b (x ∷ of_section k (xs ++ ys)) (of_section k (xs ++ ys)) ≡ cond b (x ∷ of_section k xs) (of_section k xs) ++ of_section k ys) [
   | true ↦ ap (λ (l : List Entry). x ∷ l) (of_both k xs ys)
   | false ↦ of_both k xs ys
 ]
 
-placed_section : (k : ℕ) (es : List Entry) (e : Entry) (n : ℕ) → Above n es → of_section k (placed es e) ≡ of_section k (es ++ e ∷ [])
+pub placed_section : (k : ℕ) (es : List Entry) (e : Entry) (n : ℕ) → Above n es → of_section k (placed es e) ≡ of_section k (es ++ e ∷ [])
 placed_section k [] e n above = refl
 placed_section k (x ∷ xs) e n above = elim (nat_lt e.0 x.0) as (λ (b : Bool). nat_lt e.0 x.0 ≡ b → of_section k (cond b (e ∷ x ∷ xs) (x ∷ placed xs e)) ≡ of_section k ((x ∷ xs) ++ e ∷ [])) [
   | true ↦ λ t. elim (cases_eq e.0 k) [
@@ -98,40 +98,13 @@ placed_section k (x ∷ xs) e n above = elim (nat_lt e.0 x.0) as (λ (b : Bool).
     under : (a b k : ℕ) → nat_lt a b ≡ true → a ≡ k → k < b
     under a b k t is = grind (arith, nat_tests)
 
-fold_above : (es acc : List Entry) → Above 0 acc → Above 0 (fold placed acc es)
+pub fold_above : (es acc : List Entry) → Above 0 acc → Above 0 (fold placed acc es)
 fold_above [] acc above = above
 fold_above (e ∷ es) acc above = fold_above es (placed acc e) (placed_above acc e 0 above (omega arith))
 
-fold_section : (k : ℕ) (es acc : List Entry) → Above 0 acc → of_section k (fold placed acc es) ≡ of_section k (acc ++ es)
+pub fold_section : (k : ℕ) (es acc : List Entry) → Above 0 acc → of_section k (fold placed acc es) ≡ of_section k (acc ++ es)
 fold_section k [] acc above = ap (of_section k) (sym (append-nil acc))
 fold_section k (e ∷ es) acc above =
     fold_section k es (placed acc e) (placed_above acc e 0 above (omega arith))
     ∙ of_both k (placed acc e) es ∙ ap (λ (l : List Entry). l ++ of_section k es) (placed_section k acc e 0 above)
     ∙ sym (of_both k (acc ++ e ∷ []) es) ∙ ap (of_section k) (append_assoc acc (e ∷ []) es)
-
--- an entry's section, beside what is seen of the rest
-abbrev see : (JournalEntry → List ℕ) → JournalEntry → Entry
-see seen e = (e.section, seen e)
-
-ties_is : (a b : ℕ) → (not (is_lt (nat_cmp a b)) && not (is_lt (nat_cmp b a))) ≡ (b == a)
-ties_is a b = grind (arith, nat_tests)
-
--- from the clauses of the sort
-module _ (seen : JournalEntry → List ℕ) where
-  above_from : (xs : List JournalEntry) (n : ℕ) → IsNonDecreasingBy (λ x. x.section) xs → ((d : JournalEntry) → 0 < length xs → n ≤ (get_or xs 0 d).section) → Above n (map (see seen) xs)
-  above_from [] n up low = tt
-  above_from (x ∷ xs) n up low = (low x (omega arith), above_from xs x.section (λ i j d le lt. up (suc i) (suc j) d (omega (arith, le)) (omega (arith, lt))) (λ d lt. up 0 1 d (omega arith) (omega (arith, lt))))
-
-  section_views : (x : JournalEntry) (xs : List JournalEntry) → map (see seen) (filter (ties (λ a b. is_lt (nat_cmp a.section b.section)) x) xs) ≡ of_section x.section (map (see seen) xs)
-  section_views x [] = refl
-  section_views x (y ∷ ys) =
-      ap (λ (b : Bool). map (see seen) (cond b (y ∷ filter (ties (λ a b. is_lt (nat_cmp a.section b.section)) x) ys) (filter (ties (λ a b. is_lt (nat_cmp a.section b.section)) x) ys))) (ties_is x.section y.section)
-      ∙ elim (y.section == x.section) as (λ (b : Bool). map (see seen) (cond b (y ∷ filter (ties (λ a b. is_lt (nat_cmp a.section b.section)) x) ys) (filter (ties (λ a b. is_lt (nat_cmp a.section b.section)) x) ys)) ≡ cond b (see seen y ∷ of_section x.section (map (see seen) ys)) (of_section x.section (map (see seen) ys))) [
-        | true ↦ ap (λ (l : List Entry). see seen y ∷ l) (section_views x ys)
-        | false ↦ section_views x ys
-      ]
-
-  pub sorted_in_order : (xs ys : List JournalEntry) → IsNonDecreasingBy (λ x. x.section) ys → IsStableByKey (λ x. x.section) nat_cmp xs ys → map (λ (e : JournalEntry). (e.section, seen e)) ys ≡ in_order (map (λ (e : JournalEntry). (e.section, seen e)) xs)
-  sorted_in_order xs ys up stable = unique (map (see seen) ys) (in_order (map (see seen) xs)) 0 0 (above_from ys 0 up (λ d lt. omega arith)) (fold_above (map (see seen) xs) [] tt) (λ k.
-      let one : JournalEntry = record { section = k; place = 0; body = [] } in
-      sym (section_views one ys) ∙ ap (map (see seen)) (stable one) ∙ section_views one xs ∙ sym (fold_section k (map (see seen) xs) [] tt))

@@ -13,7 +13,6 @@ use Rattle.dkg_journal.specs.Steps.{Firm, Into}
 use Rattle.dkg_journal.specs.Burn.{Burn}
 use Rattle.dkg_journal.specs.Fuse.{spent_once, burned, Reached, Ran, RanAll}
 use Rattle.dkg_values.specs.declared.name.Name.{Name}
-use Rattle.dkg_values.specs.declared.name.Name.TheVariants.{Flat}
 use Rattle.dkg_journal.specs.declared.disk.Op.TheVariants.{WriteAt, Sync}
 
 pub names_total : IsTotalOrder name_cmp
@@ -37,18 +36,18 @@ pub weaken : (P Q : Files → Files → Type 0) (a b : Files → Type 0) → ((x
 weaken P Q a b so step = record { each = λ y now. let x = step.each y now in (x.0, x.1, so x.0 y x.1 x.2) }
 
 -- a write to a firm file
-pub torn_into : (x bytes : List ℕ) (place : ℕ) (files : Files) (image next : Files → Type 0) → Firm x files image → Follows (Inside (WriteAt Flat place bytes)) image next → Follows (Into (Torn place (length bytes) x)) image next
-torn_into x bytes place files image next firm step = weaken _ _ image next (λ d c now into. (into.0, into.1 x (firm.only d now))) step
+pub torn_into : (name : Name) (x bytes : List ℕ) (place : ℕ) (files : Files) (image next : Files → Type 0) → Firm name x files image → Follows (Inside (WriteAt name place bytes)) image next → Follows (Into name (Torn place (length bytes) x)) image next
+torn_into name x bytes place files image next firm step = weaken _ _ image next (λ d c now into. (into.0, into.1 x (firm.only d now))) step
 
-pub synced_into : (P : List ℕ → Type 0) (a b c : Files → Type 0) → Follows (Into P) a b → Follows (Inside (Sync Flat)) b c → Follows (Into P) a c
-synced_into P a b c first second = compose _ _ _ a b c (λ x y z into same. subst (λ (f : Files). Into P x f) (sym same) into) first second
+pub synced_into : (name : Name) (P : List ℕ → Type 0) (a b c : Files → Type 0) → Follows (Into name P) a b → Follows (Inside (Sync name)) b c → Follows (Into name P) a c
+synced_into name P a b c first second = compose _ _ _ a b c (λ x y z into same. subst (λ (f : Files). Into name P x f) (sym same) into) first second
 
-pub firm_write : (x bytes : List ℕ) (place : ℕ) (files mid last : Files) (image between next : Files → Type 0) → Firm x files image → Did (WriteAt Flat place bytes) files mid between → Did (Sync Flat) mid last next → Firm (written place bytes x) last next
-firm_write x bytes place files mid last image between next firm wrote synced =
-    let is_mid : mid ≡ insert files Flat (written place bytes x) = wrote.reads ∙ ap (λ (o : Option (List ℕ)). after_write o Flat place bytes files) firm.there in
-    let here : get mid Flat ≡ Some (written place bytes x) = ap (λ (m : Files). get m Flat) is_mid ∙ get_here files Flat (written place bytes x) in
+pub firm_write : (name : Name) (x bytes : List ℕ) (place : ℕ) (files mid last : Files) (image between next : Files → Type 0) → Firm name x files image → Did (WriteAt name place bytes) files mid between → Did (Sync name) mid last next → Firm name (written place bytes x) last next
+firm_write name x bytes place files mid last image between next firm wrote synced =
+    let is_mid : mid ≡ insert files name (written place bytes x) = wrote.reads ∙ ap (λ (o : Option (List ℕ)). after_write o name place bytes files) firm.there in
+    let here : get mid name ≡ Some (written place bytes x) = ap (λ (m : Files). get m name) is_mid ∙ get_here files name (written place bytes x) in
     record {
-      there = ap (λ (m : Files). get m Flat) synced.reads ∙ here;
+      there = ap (λ (m : Files). get m name) synced.reads ∙ here;
       only = λ c now. synced.durable c now ∙ here;
     }
 

@@ -11,7 +11,7 @@ use Rattle.dkg_journal.specs.Table.{Rows, file_at, IsUpdate, bytes_of, synced_of
 use Rattle.dkg_journal.proofs.AtOnce.{torn_written}
 use Rattle.dkg_journal.proofs.Loose.{rolled-push, length-rolled}
 use Rattle.dkg_journal.proofs.OnRows.{update_here, update_other}
-use Rattle.dkg_journal.proofs.Standing.{same_name}
+use Rattle.dkg_journal.proofs.SameFiles.{same_name}
 
 -- bytes behind those that are written over stay behind
 written-behind : (place : ℕ) (new old more : List ℕ) → place + length new ≤ length old → written place new (old ++ more) ≡ written place new old ++ more

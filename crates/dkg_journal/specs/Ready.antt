@@ -1,15 +1,17 @@
 -- The calls of an append, made up before the first of them.
-use Rattle.std.specs.Prelude.{◌≡◌, ℕ, ◌+◌, ◌<◌, ◌≤◌, ◌^◌, [], ◌∷◌, length}
+use Rattle.std.specs.Prelude.{◌≡◌, ℕ, ◌+◌, ◌<◌, ◌≤◌, ◌^◌, [], ◌∷◌, length, IsTrue}
 use Rattle.dkg_journal.specs.Records.{Entry, behind}
-use Rattle.dkg_journal.specs.Steps.{start, make_flat, body_of}
-use Rattle.dkg_values.specs.declared.name.Name.TheVariants.{Flat}
+use Rattle.dkg_journal.specs.Places.{place_at, has_room}
+use Rattle.dkg_journal.specs.Steps.{start, make_segment}
+use Rattle.dkg_values.specs.declared.name.Name.TheVariants.{Segment}
 use Rattle.dkg_journal.specs.declared.disk.Op.TheVariants.{WriteAt}
 use Rattle.dkg_journal.specs.declared.journal.Journal.{Journal}
 use Rattle.dkg_journal.specs.declared.journal.Prepared.{Prepared}
 
 pub record IsReady (calls : Prepared) (journal : Journal) (e : Entry) : Type 0 where
-  pub make : calls.make ≡ make_flat
-  pub write : calls.write ≡ WriteAt Flat (start journal.place + 1) (behind (body_of e))
-  pub gate : calls.gate ≡ WriteAt Flat (start journal.place) (1 ∷ [])
-  pub low : start journal.place ≤ 2 ^ 62
-  pub short : 8 + length e.1 < 2 ^ 32
+  pub make : calls.make ≡ make_segment e.0
+  pub write : calls.write ≡ WriteAt (Segment e.0) (start (place_at journal.places e.0) + 1) (behind e.1)
+  pub gate : calls.gate ≡ WriteAt (Segment e.0) (start (place_at journal.places e.0)) (1 ∷ [])
+  pub low : start (place_at journal.places e.0) ≤ 2 ^ 62
+  pub short : length e.1 < 2 ^ 32
+  pub room : IsTrue (has_room journal.places e.0)

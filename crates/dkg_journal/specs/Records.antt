@@ -83,58 +83,56 @@ abbrev pub spelled : List (List ℕ) → List ℕ
 spelled [] = []
 spelled (b ∷ bs) = record_of b ++ spelled bs
 
--- the body of a record of the flat file
-abbrev pub IsFlatBody : List ℕ → Type 0
-IsFlatBody b = (8 ≤ length b) × (length b < 2 ^ 32)
+-- a body that a record may have: of so many bytes at least
+abbrev pub IsBody : ℕ → List ℕ → Type 0
+IsBody least b = (least ≤ length b) × (length b < 2 ^ 32)
 
-abbrev pub AreFlat : List (List ℕ) → Type 0
-AreFlat bs = AllByRecursion IsFlatBody bs
+abbrev pub AreBodies : ℕ → List (List ℕ) → Type 0
+AreBodies least bs = AllByRecursion (IsBody least) bs
 
 -- Records of these bodies, and at this place a gate that isn't open. Anything may stand behind it.
-pub record IsFlat (bs : List (List ℕ)) (place : ℕ) (file : List ℕ) : Type 0 where
+pub record IsShut (least : ℕ) (bs : List (List ℕ)) (place : ℕ) (file : List ℕ) : Type 0 where
   pub gate : ℕ
   pub junk : List ℕ
   pub is : file ≡ spelled bs ++ gate ∷ junk
   pub shut : gate ≢ 1
   pub size : length (spelled bs) ≡ place
-  pub short : AreFlat bs
+  pub short : AreBodies least bs
 
 -- what is written behind the closed gate: a record but for its gate, and the next gate
 abbrev pub behind : List ℕ → List ℕ
 behind body = (number32 (length body) ++ body) ++ 0 ∷ []
 
 -- the same file with one more record, whose gate isn't open
-pub record Staged (bs : List (List ℕ)) (body : List ℕ) (place : ℕ) (file : List ℕ) : Type 0 where
+pub record Staged (least : ℕ) (bs : List (List ℕ)) (body : List ℕ) (place : ℕ) (file : List ℕ) : Type 0 where
   pub gate : ℕ
   pub junk : List ℕ
   pub is : file ≡ spelled bs ++ gate ∷ ((number32 (length body) ++ body) ++ 0 ∷ junk)
   pub shut : gate ≢ 1
   pub size : length (spelled bs) ≡ place
-  pub short : AreFlat bs
-  pub short_body : IsFlatBody body
+  pub short : AreBodies least bs
+  pub short_body : IsBody least body
 
 -- no whole record stands in front
-abbrev pub Stops : List ℕ → Type 0
-Stops [] = Unit {0}
-Stops (gate ∷ rest) = ((gate == 1) && is_whole 8 rest) ≡ false
+abbrev pub Stops : ℕ → List ℕ → Type 0
+Stops least [] = Unit {0}
+Stops least (gate ∷ rest) = ((gate == 1) && is_whole least rest) ≡ false
 
 -- no open gate stands in front
 abbrev pub Ends : List ℕ → Type 0
 Ends [] = Unit {0}
 Ends (gate ∷ rest) = gate ≢ 1
 
--- the bytes are whole records with these entries, in the order of the file, up to this place, and a rest
-pub record Front (bytes rest : List ℕ) (out : List Entry) (place : ℕ) : Type 0 where
-  pub bs : List (List ℕ)
+-- the bytes are records of these bodies up to this place, and a rest
+pub record Front (least : ℕ) (bs : List (List ℕ)) (place : ℕ) (bytes rest : List ℕ) : Type 0 where
   pub split : bytes ≡ spelled bs ++ rest
-  pub stands_for : out ≡ map entry_of bs
   pub size : length (spelled bs) ≡ place
-  pub short : AreFlat bs
+  pub short : AreBodies least bs
 
--- whole records with these entries up to this place, where no open gate stands
-pub record Whole (bytes : List ℕ) (out : List Entry) (place : ℕ) : Type 0 where
+-- records of these bodies up to this place, where no open gate stands
+pub record Whole (least : ℕ) (bs : List (List ℕ)) (place : ℕ) (bytes : List ℕ) : Type 0 where
   pub rest : List ℕ
-  pub front : Front bytes rest out place
+  pub front : Front least bs place bytes rest
   pub ends : Ends rest
 
 -- the place of an open gate, where one stands in front of these last bytes of n
@@ -142,6 +140,6 @@ abbrev pub open_gate : ℕ → List ℕ → Option ℕ
 open_gate n [] = None
 open_gate n (gate ∷ rest) = if gate == 1 then Some (n - suc (length rest)) else None
 
--- the place of the first record of the flat file that isn't whole
-abbrev pub broken_at : List ℕ → Option ℕ
-broken_at file = open_gate (length file) (left_over 8 (length file) file)
+-- the place of the first record of a file that isn't whole
+abbrev pub broken_at : ℕ → List ℕ → Option ℕ
+broken_at least file = open_gate (length file) (left_over least (length file) file)

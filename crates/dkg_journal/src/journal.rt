@@ -1,7 +1,7 @@
-//! An append-only journal in one flat file.
+//! An append-only journal, with one file for each section.
 //!
 //! The store above opens it once a life, replays its entries, and appends an entry for each event.
-ghost use Rattle.std.specs.Prelude.{◌≡◌, ◌≢◌, ◌⊎◌, ◌↔◌, ◌<◌, ◌≤◌, ◌^◌, ◌+◌, ◌++◌, [], ◌∷◌, List, ℕ, Option, Some, None, length, OnOk, IfOk, IfErr, IsErrOf, IsTrue};
+ghost use Rattle.std.specs.Prelude.{◌≡◌, ◌≢◌, ◌⊎◌, ◌↔◌, ◌<◌, ◌≤◌, ◌^◌, ◌+◌, ◌++◌, [], ◌∷◌, List, ℕ, Option, Some, None, length, OnOk, OnErr, IfOk, IfErr, IsErrOf, IsTrue};
 ghost use Rattle.dkg_journal.specs.Errors.{IsOfDevice};
 ghost use Rattle.dkg_journal.specs.Names.{Files};
 ghost use Rattle.dkg_journal.specs.Opening.{AreUnbroken};
@@ -9,36 +9,40 @@ ghost use Rattle.dkg_journal.specs.Journals.{IsOpen, append_calls};
 ghost use Rattle.dkg_journal.specs.Disk.{Follows, Allowed, Lands, Torn, Rose, written};
 ghost use Rattle.dkg_journal.specs.Fuse.{Reached, Ran, RanAll, Fused};
 ghost use Rattle.dkg_journal.specs.Operations.{Tried, Finished, Appends};
+ghost use Rattle.dkg_journal.specs.Places.{has_room, place_at};
 ghost use Rattle.dkg_journal.specs.Ready.{IsReady};
-ghost use Rattle.dkg_journal.specs.Records.{behind, number64};
-ghost use Rattle.dkg_journal.specs.Steps.{Firm, IsOpenAt, Into, Keeps, Adds, MayAdd, FlatAt, start, make_flat, make_calls, record_calls, append_calls_at, body_of};
+ghost use Rattle.dkg_journal.specs.Records.{behind};
+ghost use Rattle.dkg_journal.specs.Steps.{Firm, IsOpenAt, IsNext, IsSegmentAt, Into, KeepsBut, Adds, MayAdd, SegmentAt, start, make_segment, make_calls, record_calls, append_calls_at};
 ghost use Rattle.dkg_values.specs.declared.name.Name.{Name};
 
+use crate::by_section::BySection;
 use crate::{Disk, Fuse, JournalEntry, JournalError, Op, perform};
-use dkg_values::{Blob, Name};
+use dkg_values::{Blob, Mem, Name};
 use std::alloc::{AllocError, Global};
 
 const MAX_PLACE: u64 = 1 << 62;
 
-/// A journal over one flat file: the place of its closed gate, if the file is there, and the entries that are still to be replayed.
+/// A journal over one segment a section: the place of the closed gate of each file that is there, and the entries that are still to be
+/// replayed.
 #[derive(Drop)]
 pub struct Journal {
-    pub(crate) place: Option<u64>,
+    pub(crate) places: BySection<Option<u64>>,
     pub(crate) waiting: Vec<JournalEntry>,
 }
 
-/// Makes one write to the flat file, and syncs it.
-fn write_flat<D: Disk>(
+/// Makes one write to a segment, and syncs it.
+fn write_segment<D: Disk>(
     alloc: Global,
     disk: &mut D,
     fuse: &mut Fuse,
+    section: u64,
     write: &Op,
 ) -> Result<(), JournalError>
     requires { IsTrue D.tells → Allowed (D.files disk.old) write.now }
-    ensures done { OnOk result (IsTrue D.tells → (x bytes : List ℕ) (place : ℕ) → write.now ≡ Op.WriteAt Name.Flat place bytes → Firm x (D.files disk.old) (D.image disk.old)
-        → Firm (written place bytes x) (D.files disk.new) (D.image disk.new)) }
-    ensures images { (x bytes : List ℕ) (place : ℕ) → write.now ≡ Op.WriteAt Name.Flat place bytes → Firm x (D.files disk.old) (D.image disk.old)
-        → Follows (Into (Torn place (length bytes) x)) (D.image disk.old) (D.image disk.new) }
+    ensures done { OnOk result (IsTrue D.tells → (x bytes : List ℕ) (place : ℕ) → write.now ≡ Op.WriteAt (Name.Segment section) place bytes → Firm (Name.Segment section) x (D.files disk.old) (D.image disk.old)
+        → Firm (Name.Segment section) (written place bytes x) (D.files disk.new) (D.image disk.new)) }
+    ensures images { (x bytes : List ℕ) (place : ℕ) → write.now ≡ Op.WriteAt (Name.Segment section) place bytes → Firm (Name.Segment section) x (D.files disk.old) (D.image disk.old)
+        → Follows (Into (Name.Segment section) (Torn place (length bytes) x)) (D.image disk.old) (D.image disk.new) }
     ensures later { D.faults disk.old ≤ D.faults disk.new }
     ensures later_wants { D.wants disk.old ≤ D.wants disk.new }
     ensures wanted { IsErrOf result JournalError.NoMemory → Rose (D.wants disk.old) (D.wants disk.new) }
@@ -47,26 +51,34 @@ fn write_flat<D: Disk>(
     ensures fused { Fused JournalError.Cut JournalError.NoMemory result fuse.old fuse.new }
     ensures cut { IsErrOf result JournalError.Cut → Reached fuse.old fuse.new }
     ensures not_cut { OnOk result (Reached fuse.old fuse.new → ⊥) }
-    ensures all { OnOk result (RanAll D.made disk.old disk.new fuse.old fuse.new (write.now ∷ Op.Sync Name.Flat ∷ [])) }
-    ensures calls { Ran D.made disk.old disk.new fuse.old fuse.new (write.now ∷ Op.Sync Name.Flat ∷ []) }
+    ensures all { OnOk result (RanAll D.made disk.old disk.new fuse.old fuse.new (write.now ∷ Op.Sync (Name.Segment section) ∷ [])) }
+    ensures calls { Ran D.made disk.old disk.new fuse.old fuse.new (write.now ∷ Op.Sync (Name.Segment section) ∷ []) }
 {
     perform(alloc, disk, fuse, write)?;
-    perform(alloc, disk, fuse, &Op::Sync { name: Name::Flat })?;
+    perform(
+        alloc,
+        disk,
+        fuse,
+        &Op::Sync {
+            name: Name::Segment(section),
+        },
+    )?;
     Ok(())
 }
 
-/// Makes the file with a closed gate, if there is none.
+/// Makes the file of a section with a closed gate, if there is none.
 fn make_file<D: Disk>(
     alloc: Global,
     disk: &mut D,
     fuse: &mut Fuse,
+    section: u64,
     place: Option<u64>,
     make: &Op,
 ) -> Result<(), JournalError>
-    requires { make.now ≡ make_flat }
-    ensures open { OnOk result (IsTrue D.tells → IsOpenAt place (D.files disk.old) (D.image disk.old) → FlatAt (start place) (D.files disk.new) (D.image disk.new)) }
-    ensures images { IsOpenAt place (D.files disk.old) (D.image disk.old) → Follows Keeps (D.image disk.old) (D.image disk.new) }
-    ensures sound { IsOpenAt place (D.files disk.old) (D.image disk.old) → AreUnbroken (D.image disk.new) }
+    requires { make.now ≡ make_segment section }
+    ensures open { OnOk result (IsTrue D.tells → IsNext section place (D.files disk.old) (D.image disk.old) → SegmentAt section (start place) (D.files disk.new) (D.image disk.new)) }
+    ensures images { IsNext section place (D.files disk.old) (D.image disk.old) → Follows (KeepsBut (Name.Segment section)) (D.image disk.old) (D.image disk.new) }
+    ensures sound { IsNext section place (D.files disk.old) (D.image disk.old) → AreUnbroken (D.image disk.old) → AreUnbroken (D.image disk.new) }
     ensures same { (p : ℕ) → place ≡ Some p → disk.new ≡ disk.old }
     ensures later { D.faults disk.old ≤ D.faults disk.new }
     ensures later_wants { D.wants disk.old ≤ D.wants disk.new }
@@ -76,8 +88,8 @@ fn make_file<D: Disk>(
     ensures fused { Fused JournalError.Cut JournalError.NoMemory result fuse.old fuse.new }
     ensures cut { IsErrOf result JournalError.Cut → Reached fuse.old fuse.new }
     ensures not_cut { OnOk result (Reached fuse.old fuse.new → ⊥) }
-    ensures all { OnOk result (RanAll D.made disk.old disk.new fuse.old fuse.new (make_calls place)) }
-    ensures calls { Ran D.made disk.old disk.new fuse.old fuse.new (make_calls place) }
+    ensures all { OnOk result (RanAll D.made disk.old disk.new fuse.old fuse.new (make_calls section place)) }
+    ensures calls { Ran D.made disk.old disk.new fuse.old fuse.new (make_calls section place) }
 {
     match place {
         Some(_) => Ok(()),
@@ -89,15 +101,14 @@ fn make_file<D: Disk>(
 }
 
 /// What is written behind the closed gate.
-#[tactic(auto, unfolding(crate::specs::Records::number32, crate::specs::Records::number64))]
-fn bytes_behind(alloc: Global, section: u64, body: &[u8]) -> Result<Vec<u8>, AllocError>
-    requires { 8 + length body.now < 2 ^ 32 }
-    ensures { IfOk result (λ v. v.items ≡ behind (number64 section ++ body.now)) }
+#[tactic(auto, unfolding(crate::specs::Records::number32))]
+fn bytes_behind(alloc: Global, body: &[u8]) -> Result<Vec<u8>, AllocError>
+    requires { length body.now < 2 ^ 32 }
+    ensures { IfOk result (λ v. v.items ≡ behind body.now) }
 {
-    let len = (8 + body.len()) as u32;
+    let len = body.len() as u32;
     let mut bytes = Vec::new(alloc);
     bytes.extend_from_slice(&len.to_be_bytes())?;
-    bytes.extend_from_slice(&section.to_be_bytes())?;
     bytes.extend_from_slice(body)?;
     bytes.push(0)?;
     Ok(bytes)
@@ -112,27 +123,28 @@ pub struct Prepared {
 }
 
 fn prepare(alloc: Global, place: u64, section: u64, body: &[u8]) -> Result<Prepared, AllocError>
-    requires short { 8 + length body.now < 2 ^ 32 }
+    requires short { length body.now < 2 ^ 32 }
     requires low { place < 2 ^ 63 }
-    ensures make { IfOk result (λ p. p.make ≡ make_flat) }
-    ensures write { IfOk result (λ p. p.write ≡ Op.WriteAt Name.Flat (place + 1) (behind (body_of (section, body.now)))) }
-    ensures gate { IfOk result (λ p. p.gate ≡ Op.WriteAt Name.Flat place (1 ∷ [])) }
+    ensures make { IfOk result (λ p. p.make ≡ make_segment section) }
+    ensures write { IfOk result (λ p. p.write ≡ Op.WriteAt (Name.Segment section) (place + 1) (behind body.now)) }
+    ensures gate { IfOk result (λ p. p.gate ≡ Op.WriteAt (Name.Segment section) place (1 ∷ [])) }
 {
-    let behind = bytes_behind(alloc, section, body)?;
+    let behind = bytes_behind(alloc, body)?;
     let open = vec![in alloc; 1]?;
     let closed = vec![in alloc; 0]?;
+    let name = Name::Segment(section);
     Ok(Prepared {
         make: Op::Install {
-            name: Name::Flat,
+            name,
             bytes: Blob::new(closed),
         },
         write: Op::WriteAt {
-            name: Name::Flat,
+            name,
             place: place + 1,
             bytes: Blob::new(behind),
         },
         gate: Op::WriteAt {
-            name: Name::Flat,
+            name,
             place,
             bytes: Blob::new(open),
         },
@@ -149,15 +161,15 @@ fn append_prepared<D: Disk>(
     section: u64,
     body: &[u8],
 ) -> Result<(), JournalError>
-    requires make { calls.now.make ≡ make_flat }
-    requires write { calls.now.write ≡ Op.WriteAt Name.Flat (start place + 1) (behind (body_of (section, body.now))) }
-    requires gate { calls.now.gate ≡ Op.WriteAt Name.Flat (start place) (1 ∷ []) }
-    requires short { 8 + length body.now < 2 ^ 32 }
-    requires open { IsTrue D.tells → IsOpenAt place (D.files disk.old) (D.image disk.old) }
-    ensures open { OnOk result (IsTrue D.tells → IsOpenAt (Some (start place + 13 + length body.now)) (D.files disk.new) (D.image disk.new)) }
+    requires make { calls.now.make ≡ make_segment section }
+    requires write { calls.now.write ≡ Op.WriteAt (Name.Segment section) (start place + 1) (behind body.now) }
+    requires gate { calls.now.gate ≡ Op.WriteAt (Name.Segment section) (start place) (1 ∷ []) }
+    requires short { length body.now < 2 ^ 32 }
+    requires next { IsTrue D.tells → IsNext section place (D.files disk.old) (D.image disk.old) }
+    ensures open { OnOk result (IsTrue D.tells → SegmentAt section (start place + 5 + length body.now) (D.files disk.new) (D.image disk.new)) }
     ensures added { OnOk result (IsTrue D.tells → Follows (Adds (section, body.now)) (D.image disk.old) (D.image disk.new)) }
     ensures images { IsTrue D.tells → Follows (MayAdd (section, body.now)) (D.image disk.old) (D.image disk.new) }
-    ensures sound { IsTrue D.tells → AreUnbroken (D.image disk.new) }
+    ensures sound { IsTrue D.tells → AreUnbroken (D.image disk.old) → AreUnbroken (D.image disk.new) }
     ensures done { OnOk result (IsTrue D.tells → Lands (D.files disk.old) (D.image disk.old) → Finished (Appends (section, body.now)) (D.files disk.old) (D.files disk.new) (D.image disk.new) fuse.old fuse.new) }
     ensures tried { IsTrue D.tells → Lands (D.files disk.old) (D.image disk.old) → Tried (Appends (section, body.now)) (D.files disk.old) (D.image disk.new) fuse.old fuse.new }
     ensures later { D.faults disk.old ≤ D.faults disk.new }
@@ -171,27 +183,59 @@ fn append_prepared<D: Disk>(
     ensures all { OnOk result (RanAll D.made disk.old disk.new fuse.old fuse.new (append_calls_at place (section, body.now))) }
     ensures calls { Ran D.made disk.old disk.new fuse.old fuse.new (append_calls_at place (section, body.now)) }
 {
-    make_file(alloc, disk, fuse, place, &calls.make)?;
-    write_flat(alloc, disk, fuse, &calls.write)?;
-    write_flat(alloc, disk, fuse, &calls.gate)?;
+    make_file(alloc, disk, fuse, section, place, &calls.make)?;
+    write_segment(alloc, disk, fuse, section, &calls.write)?;
+    write_segment(alloc, disk, fuse, section, &calls.gate)?;
     Ok(())
 }
 
 impl Journal {
+    /// Where the file of a section ends, if it is there.
+    fn place_of(&self, section: u64) -> Option<u64>
+        ensures { result ≡ place_at self.now.places section }
+    {
+        match self.places.get(section) {
+            Some(place) => *place,
+            None => None,
+        }
+    }
+
+    /// Makes room for the place of a section.
+    fn make_room(&mut self, section: u64) -> Mem<()>
+        ensures room { OnOk result (IsTrue (has_room self.new.places section)) }
+        ensures places { (s : ℕ) → place_at self.new.places s ≡ place_at self.old.places s }
+        ensures waiting { self.new.waiting ≡ self.old.waiting }
+        ensures kept { OnErr result (self.new ≡ self.old) }
+    {
+        match self.places.get(section) {
+            Some(_) => Ok(()),
+            None => self.places.insert(section, None),
+        }
+    }
+
     /// What an append will write, with all the memory that it takes.
-    pub fn ready(&self, alloc: Global, section: u64, body: &[u8]) -> Result<Prepared, JournalError>
-        ensures calls { IfOk result (λ calls. IsReady calls self.now (section, body.now)) }
-        ensures too_long { IsErrOf result JournalError.TooLong ↔ 2 ^ 32 ≤ 8 + length body.now }
+    pub fn ready(
+        &mut self,
+        alloc: Global,
+        section: u64,
+        body: &[u8],
+    ) -> Result<Prepared, JournalError>
+        ensures calls { IfOk result (λ calls. IsReady calls self.new (section, body.now)) }
+        ensures places { (s : ℕ) → place_at self.new.places s ≡ place_at self.old.places s }
+        ensures waiting { self.new.waiting ≡ self.old.waiting }
+        ensures kept { OnErr result (self.new ≡ self.old) }
+        ensures too_long { IsErrOf result JournalError.TooLong ↔ 2 ^ 32 ≤ length body.now }
         ensures kinds { IfErr result (λ e. (e ≡ JournalError.TooLong) ⊎ (e ≡ JournalError.NoMemory)) }
     {
-        if body.len() >= (1 << 32) - 8 {
+        if body.len() >= 1 << 32 {
             return Err(JournalError::TooLong);
         }
-        let place = self.place.unwrap_or(0);
+        let place = self.place_of(section).unwrap_or(0);
         if place > MAX_PLACE {
             return Err(JournalError::NoMemory);
         }
         let calls = prepare(alloc, place, section, body)?;
+        self.make_room(section)?;
         Ok(calls)
     }
 
@@ -225,8 +269,10 @@ impl Journal {
         ensures all { OnOk result (RanAll D.made disk.old disk.new fuse.old fuse.new (append_calls self.old (section, body.now))) }
         ensures calls { Ran D.made disk.old disk.new fuse.old fuse.new (append_calls self.old (section, body.now)) }
     {
-        append_prepared(alloc, disk, fuse, self.place, calls, section, body)?;
-        self.place = Some(self.place.unwrap_or(0) + 13 + body.len() as u64);
+        let place = self.place_of(section);
+        append_prepared(alloc, disk, fuse, place, calls, section, body)?;
+        let end = place.unwrap_or(0) + 5 + body.len() as u64;
+        self.places.set(section, Some(end));
         Ok(())
     }
 
@@ -249,7 +295,7 @@ impl Journal {
         // What the files stand for, where nothing of the disk was loose: with the entry, and nothing is loose.
         ensures done { OnOk result (IsTrue D.tells → Lands (D.files disk.old) (D.image disk.old) → Finished (Appends (section, body.now)) (D.files disk.old) (D.files disk.new) (D.image disk.new) fuse.old fuse.new) }
         ensures tried { IsTrue D.tells → Lands (D.files disk.old) (D.image disk.old) → Tried (Appends (section, body.now)) (D.files disk.old) (D.image disk.new) fuse.old fuse.new }
-        ensures too_long { IsErrOf result JournalError.TooLong ↔ 2 ^ 32 ≤ 8 + length body.now }
+        ensures too_long { IsErrOf result JournalError.TooLong ↔ 2 ^ 32 ≤ length body.now }
         ensures later { D.faults disk.old ≤ D.faults disk.new }
         ensures later_wants { D.wants disk.old ≤ D.wants disk.new }
         ensures memory { IsErrOf result JournalError.NoMemory → ((self.new ≡ self.old) × (disk.new ≡ disk.old) × (fuse.new ≡ fuse.old)) ⊎ Rose (D.wants disk.old) (D.wants disk.new) }

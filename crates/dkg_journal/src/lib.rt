@@ -1,9 +1,10 @@
 //! Disks, and an append-only journal that every crash leaves readable.
 //!
 //! A `Disk` is the trait of the outside; `perform` makes its changing calls, counted by a `Fuse` that may cut one. The journal
-//! keeps one list of entries in one file, and the store above keeps its events in it.
+//! keeps entries by section, a file for each, and the store above keeps its events in it.
 #![tactic(auto)]
 
+mod by_section;
 mod call;
 mod disk;
 mod file;
@@ -12,12 +13,14 @@ mod journal;
 mod memory;
 mod open;
 mod opening;
+mod parting;
 mod pruning;
 mod record;
 mod sure;
 mod table;
 #[cfg(test)]
 mod tests;
+mod wholes;
 
 pub use call::{JournalError, perform};
 pub use disk::{Disk, DiskError, Op};

@@ -1,69 +1,82 @@
 //! Opening a journal on a disk that a crash may have left.
 //!
 //! The store calls it once a life, after a barrier.
-ghost use Rattle.std.specs.Prelude.{◌≡◌, ◌≢◌, ◌⊎◌, ◌<◌, ◌≤◌, ◌^◌, ◌+◌, ◌++◌, [], ◌∷◌, List, ℕ, Option, Some, None, length, map, OnOk, IfOk, IfErr, IsErrOf, IsTrue, option_map};
-ghost use Rattle.std.specs.FinMap.{get};
-ghost use Rattle.dkg_journal.specs.Errors.{IsOfDevice, IsOfDisk};
+ghost use Rattle.std.specs.Prelude.{◌≡◌, ◌⊎◌, ◌≤◌, ◌++◌, [], ◌∷◌, List, ℕ, Option, Some, None, filter, length, map as list_map, OnOk, IfOk, IfErr, IsErrOf, IsTrue, option_map};
+ghost use Rattle.std.specs.Ordering.{nat_cmp};
+ghost use Rattle.std.specs.FinMap as map;
+ghost use Rattle.std.specs.FinMap.{find, get, keys};
+ghost use Rattle.dkg_journal.specs.Errors.{IsOfDisk, IsOfReading};
 ghost use Rattle.dkg_journal.specs.Names.{Files};
 ghost use Rattle.dkg_journal.specs.Disk.{Follows, Rose, IsUnchanged, Lands};
+ghost use Rattle.dkg_journal.specs.Found.{Takes, Finds};
 ghost use Rattle.dkg_journal.specs.Fuse.{Reached, Ran, RanAll, Fused};
-ghost use Rattle.dkg_journal.specs.Operations.{Tried, Finished, Opens, journaled};
-ghost use Rattle.dkg_journal.specs.Opening.{AreUnbroken, IsFormOfToday, broken, mend_of, open_calls};
-ghost use Rattle.dkg_journal.specs.Records.{Entry, Whole, entries};
+ghost use Rattle.dkg_journal.specs.Operations.{Tried, Finished, Opens};
+ghost use Rattle.dkg_journal.specs.Opening.{AreUnbroken, broken, broken_rows, is_unnamed, mend_of, open_calls, removes};
+ghost use Rattle.dkg_journal.specs.Records.{Entry, Whole, broken_at, entries};
 ghost use Rattle.dkg_journal.specs.Gated.{OpensAlike, gated, gated_entries};
+ghost use Rattle.dkg_journal.specs.Segments.{Segments, parted, segment_rows, segments};
 ghost use Rattle.dkg_journal.specs.Views.{views};
 ghost use Rattle.dkg_journal.specs.Journals.{IsOpen};
-ghost use Rattle.dkg_journal.specs.Steps.{Firm, FlatAt, Keeps};
+ghost use Rattle.dkg_journal.specs.Steps.{Keeps};
+ghost use Rattle.dkg_journal.specs.Wholes.{AreOfWhole};
+ghost use Rattle.dkg_journal.specs.declared.disk.Op.TheVariants.{Install, Remove};
 ghost use Rattle.dkg_values.specs.declared.name.Name.{Name};
-ghost use Rattle.dkg_values.specs.declared.name.Name.TheVariants.{Flat};
+ghost use Rattle.dkg_values.specs.declared.name.Name.TheVariants.{Flat, Segment};
 
-use crate::opening::{Parsed, in_sections, parse};
-use crate::{Disk, DiskError, Fuse, Journal, JournalEntry, JournalError, Op, perform};
+use crate::by_section::BySection;
+use crate::opening::parse;
+use crate::parting::{Piece, part};
+use crate::wholes::perform_all;
+use crate::{Disk, DiskError, Fuse, Journal, JournalEntry, JournalError, Op};
 use dkg_values::{Blob, Name};
-use std::alloc::Global;
+use std::alloc::{AllocError, Global};
 use std::mem;
 
-/// Adds a gate to a file that ends without one.
-fn mend<D: Disk>(
-    alloc: Global,
-    disk: &mut D,
-    fuse: &mut Fuse,
-    bytes: Vec<u8>,
-    place: u64,
-) -> Result<(), JournalError>
-    ensures open { (out : List Entry) → Whole bytes.items out place → Firm bytes.items (D.files disk.old) (D.image disk.old) → IsTrue D.tells → OnOk result (FlatAt place (D.files disk.new) (D.image disk.new)) }
-    ensures images { (out : List Entry) → Whole bytes.items out place → Firm bytes.items (D.files disk.old) (D.image disk.old) → Follows Keeps (D.image disk.old) (D.image disk.new) }
-    ensures kept { (out : List Entry) → Whole bytes.items out place → Firm bytes.items (D.files disk.old) (D.image disk.old) → Lands (D.files disk.old) (D.image disk.old) → (c : Files) → D.image disk.new c → journaled c ≡ journaled (D.files disk.old) }
-    ensures sound { (out : List Entry) → Whole bytes.items out place → AreUnbroken (D.image disk.old) → AreUnbroken (D.image disk.new) }
-    ensures alike { OnOk result (IsTrue D.tells → (out : List Entry) → Whole bytes.items out place → get (D.files disk.old) Flat ≡ Some bytes.items → OpensAlike (D.files disk.old) (D.files disk.new)) }
-    ensures settled { OnOk result ((out : List Entry) → Whole bytes.items out place → Firm bytes.items (D.files disk.old) (D.image disk.old) → IsTrue D.tells → Lands (D.files disk.old) (D.image disk.old) → Lands (D.files disk.new) (D.image disk.new)) }
-    ensures later { D.faults disk.old ≤ D.faults disk.new }
-    ensures later_wants { D.wants disk.old ≤ D.wants disk.new }
-    ensures memory { IsErrOf result JournalError.NoMemory → ((disk.new ≡ disk.old) × (fuse.new ≡ fuse.old)) ⊎ Rose (D.wants disk.old) (D.wants disk.new) }
-    ensures disk { IsErrOf result JournalError.Disk → Rose (D.faults disk.old) (D.faults disk.new) }
-    ensures kinds { IfErr result IsOfDevice }
-    ensures fused { Fused JournalError.Cut JournalError.NoMemory result fuse.old fuse.new }
-    ensures cut { IsErrOf result JournalError.Cut → Reached fuse.old fuse.new }
-    ensures not_cut { OnOk result (Reached fuse.old fuse.new → ⊥) }
-    ensures all { (out : List Entry) → Whole bytes.items out place → OnOk result (RanAll D.made disk.old disk.new fuse.old fuse.new (mend_of (Some bytes.items))) }
-    ensures calls { (out : List Entry) → Whole bytes.items out place → Ran D.made disk.old disk.new fuse.old fuse.new (mend_of (Some bytes.items)) }
-{
-    if place < bytes.len() as u64 {
-        return Ok(());
-    }
-    let mut mended = bytes;
-    mended.push(0)?;
-    let install = Op::Install {
-        name: Name::Flat,
-        bytes: Blob::new(mended),
-    };
-    perform(alloc, disk, fuse, &install)?;
-    Ok(())
+/// What a journal's files hold, and the calls that mend them.
+#[derive(Drop)]
+struct Found {
+    waiting: Vec<JournalEntry>,
+    places: BySection<Option<u64>>,
+    mending: Vec<Op>,
 }
 
-/// The bytes of the flat file, if it is there.
-pub fn read_flat<D: Disk>(alloc: Global, disk: &mut D) -> Result<Option<Vec<u8>>, JournalError>
-    ensures bytes { IfOk result (λ bytes. IsTrue D.tells → option_map (λ v. v.items) bytes ≡ get (D.files disk.old) Flat) }
+impl Found {
+    fn new(alloc: Global) -> Found
+        ensures waiting { result.waiting.items ≡ [] }
+        ensures places { result.places ≡ map.empty }
+        ensures mending { result.mending.items ≡ [] }
+    {
+        Found {
+            waiting: Vec::new(alloc),
+            places: BySection::new(alloc),
+            mending: Vec::new(alloc),
+        }
+    }
+
+    /// Takes a segment in: its entries, the place behind its last record, and where it ends there, the call that adds a closed gate.
+    fn take_in(&mut self, alloc: Global, section: u64, bytes: Vec<u8>) -> Result<(), JournalError>
+        ensures taken { OnOk result ((before : List Op) (rows : List (ℕ × List ℕ)) → find nat_cmp section rows ≡ None → Takes before rows self.old.waiting.items self.old.places self.old.mending.items
+            → Takes before (rows ++ (section, bytes.items) ∷ []) self.new.waiting.items self.new.places self.new.mending.items) }
+        ensures broken { IfErr result (λ e. (e ≡ JournalError.NoMemory) ⊎ ((place : ℕ) × (e ≡ JournalError.Corrupt (Segment section) place) × (broken_at 0 bytes.items ≡ Some place))) }
+    {
+        let place = parse(alloc, section, &bytes, &mut self.waiting)?;
+        self.places.insert(section, Some(place))?;
+        if place < bytes.len() as u64 {
+            return Ok(());
+        }
+        let mut mended = bytes;
+        mended.push(0)?;
+        self.mending.push(Op::Install {
+            name: Name::Segment(section),
+            bytes: Blob::new(mended),
+        })?;
+        Ok(())
+    }
+}
+
+/// The names of a disk's files, in their order.
+fn list<D: Disk>(alloc: Global, disk: &mut D) -> Result<Vec<Name>, JournalError>
+    ensures names { IfOk result (λ names. IsTrue D.tells → names.items ≡ keys (D.files disk.old)) }
     ensures same { IsUnchanged D.files D.image disk.old disk.new }
     ensures later { D.faults disk.old ≤ D.faults disk.new }
     ensures later_wants { D.wants disk.old ≤ D.wants disk.new }
@@ -72,36 +85,159 @@ pub fn read_flat<D: Disk>(alloc: Global, disk: &mut D) -> Result<Option<Vec<u8>>
     ensures kinds { IfErr result IsOfDisk }
     ensures calls { D.made disk.old disk.new [] }
 {
-    match disk.read(alloc, Name::Flat) {
+    match disk.list(alloc) {
+        Ok(names) => Ok(names),
+        Err(DiskError::Failed) => Err(JournalError::Disk),
+        Err(DiskError::NoMemory) => Err(JournalError::NoMemory),
+    }
+}
+
+/// The bytes of a file, if it is there.
+fn read<D: Disk>(alloc: Global, disk: &mut D, name: Name) -> Result<Option<Vec<u8>>, JournalError>
+    ensures bytes { IfOk result (λ bytes. IsTrue D.tells → option_map (λ v. v.items) bytes ≡ get (D.files disk.old) name) }
+    ensures same { IsUnchanged D.files D.image disk.old disk.new }
+    ensures later { D.faults disk.old ≤ D.faults disk.new }
+    ensures later_wants { D.wants disk.old ≤ D.wants disk.new }
+    ensures wanted { IsErrOf result JournalError.NoMemory → Rose (D.wants disk.old) (D.wants disk.new) }
+    ensures disk { IsErrOf result JournalError.Disk → Rose (D.faults disk.old) (D.faults disk.new) }
+    ensures kinds { IfErr result IsOfDisk }
+    ensures calls { D.made disk.old disk.new [] }
+{
+    match disk.read(alloc, name) {
         Ok(bytes) => Ok(bytes),
         Err(DiskError::Failed) => Err(JournalError::Disk),
         Err(DiskError::NoMemory) => Err(JournalError::NoMemory),
     }
 }
 
+/// Reads the segments of these names, and judges each.
+fn find_segments<D: Disk>(
+    alloc: Global,
+    disk: &mut D,
+    names: &[Name],
+) -> Result<Found, JournalError>
+    ensures found { IfOk result (λ f. IsTrue D.tells → names.now ≡ keys (D.files disk.old) → Takes [] (segment_rows (map.entries (D.files disk.old))) f.waiting.items f.places f.mending.items) }
+    ensures broken { (name : Name) (place : ℕ) → IsErrOf result (JournalError.Corrupt name place) → IsTrue D.tells → names.now ≡ keys (D.files disk.old) → broken_rows (segment_rows (map.entries (D.files disk.old))) ≡ Some (name, place) }
+    ensures same { IsUnchanged D.files D.image disk.old disk.new }
+    ensures later { D.faults disk.old ≤ D.faults disk.new }
+    ensures later_wants { D.wants disk.old ≤ D.wants disk.new }
+    ensures disk { IsErrOf result JournalError.Disk → Rose (D.faults disk.old) (D.faults disk.new) }
+    ensures not_cut { IsErrOf result JournalError.Cut → ⊥ }
+    ensures not_long { IsErrOf result JournalError.TooLong → ⊥ }
+    ensures calls { D.made disk.old disk.new [] }
+{
+    let mut found = Found::new(alloc);
+    for name in names {
+        if let Name::Segment(section) = *name {
+            if let Some(bytes) = read(alloc, disk, *name)? {
+                found.take_in(alloc, section, bytes)?;
+            }
+        }
+    }
+    Ok(found)
+}
+
+/// Whether a name is that of a segment whose section is not among these.
+fn is_unnamed(segments: &BySection<Piece>, name: Name) -> bool
+    ensures { result ≡ is_unnamed segments.now name }
+{
+    match name {
+        Name::Segment(section) => segments.get(section).is_none(),
+        Name::Plan | Name::Flat => false,
+    }
+}
+
+/// The calls that take away the segments whose sections are not among these.
+fn unnamed(
+    alloc: Global,
+    names: &[Name],
+    segments: &BySection<Piece>,
+) -> Result<Vec<Op>, AllocError>
+    ensures { IfOk result (λ ops. ops.items ≡ removes (filter (is_unnamed segments.now) names.now)) }
+{
+    let mut ops = Vec::new(alloc);
+    for name in names {
+        if is_unnamed(segments, *name) {
+            ops.push(Op::Remove { name: *name })?;
+        }
+    }
+    Ok(ops)
+}
+
+/// Takes in the segments that a flat file was parted into.
+fn take_parted(
+    alloc: Global,
+    mending: Vec<Op>,
+    segments: &BySection<Piece>,
+) -> Result<Found, JournalError>
+    ensures found { IfOk result (λ f. Takes mending.items (map.entries segments.now) f.waiting.items f.places f.mending.items) }
+    ensures broken { (name : Name) (place : ℕ) → IsErrOf result (JournalError.Corrupt name place) → broken_rows (map.entries segments.now) ≡ Some (name, place) }
+    ensures kinds { IfErr result IsOfReading }
+{
+    let mut found = Found::new(alloc);
+    found.mending = mending;
+    for (section, piece) in segments.iter() {
+        let bytes = piece.copy(alloc)?;
+        found.take_in(alloc, *section, bytes)?;
+    }
+    Ok(found)
+}
+
+/// Parts a flat file into segments: first those that it does not name go, then each that it names is put in place, and then it goes.
+fn migrate(alloc: Global, names: &[Name], bytes: &[u8]) -> Result<Found, JournalError>
+    ensures found { IfOk result (λ f. (files : Files) → names.now ≡ keys files → get files Flat ≡ Some bytes.now → Finds files f.waiting.items f.places f.mending.items) }
+    ensures broken { (name : Name) (place : ℕ) → IsErrOf result (JournalError.Corrupt name place) → (name ≡ Flat) × (broken_at 8 bytes.now ≡ Some place) }
+    ensures kinds { IfErr result IsOfReading }
+{
+    let segments = part(alloc, bytes)?;
+    let removed = unnamed(alloc, names, &segments)?;
+    let mut found = take_parted(alloc, removed, &segments)?;
+    found.mending.push(Op::Remove { name: Name::Flat })?;
+    Ok(found)
+}
+
+/// Reads a journal's files, and judges them all.
+fn find<D: Disk>(alloc: Global, disk: &mut D) -> Result<Found, JournalError>
+    ensures found { IfOk result (λ f. IsTrue D.tells → Finds (D.files disk.old) f.waiting.items f.places f.mending.items) }
+    ensures broken { (name : Name) (place : ℕ) → IsErrOf result (JournalError.Corrupt name place) → IsTrue D.tells → broken (D.files disk.old) ≡ Some (name, place) }
+    ensures same { IsUnchanged D.files D.image disk.old disk.new }
+    ensures later { D.faults disk.old ≤ D.faults disk.new }
+    ensures later_wants { D.wants disk.old ≤ D.wants disk.new }
+    ensures disk { IsErrOf result JournalError.Disk → Rose (D.faults disk.old) (D.faults disk.new) }
+    ensures not_cut { IsErrOf result JournalError.Cut → ⊥ }
+    ensures not_long { IsErrOf result JournalError.TooLong → ⊥ }
+    ensures calls { D.made disk.old disk.new [] }
+{
+    let names = list(alloc, disk)?;
+    match read(alloc, disk, Name::Flat)? {
+        None => find_segments(alloc, disk, &names),
+        Some(bytes) => migrate(alloc, &names, &bytes),
+    }
+}
+
 impl Journal {
-    /// Opens the journal of a disk of which nothing is loose, as after a barrier, and mends the end of its file.
-    /// An error leaves every entry as it was.
+    /// Opens the journal of a disk of which nothing is loose, as after a barrier, and mends the ends of its files. A flat file is parted
+    /// into segments. An error leaves every entry as it was.
     pub fn open<D: Disk>(
         alloc: Global,
         disk: &mut D,
         fuse: &mut Fuse,
     ) -> Result<Journal, JournalError>
-        ensures open { IfOk result (λ j. IsTrue D.tells → Lands (D.files disk.old) (D.image disk.old) → IsFormOfToday (D.files disk.old) → IsOpen j (D.files disk.new) (D.image disk.new)) }
+        ensures open { IfOk result (λ j. IsTrue D.tells → Lands (D.files disk.old) (D.image disk.old) → IsOpen j (D.files disk.new) (D.image disk.new)) }
         // What it read is what the files stand for.
-        ensures listed { IfOk result (λ j. IsTrue D.tells → IsFormOfToday (D.files disk.old) → views j.waiting.items ≡ entries (D.files disk.old)) }
+        ensures listed { IfOk result (λ j. IsTrue D.tells → views j.waiting.items ≡ entries (D.files disk.old)) }
         // .. each with the place of its gate.
-        ensures gated { IfOk result (λ j. IsTrue D.tells → map gated j.waiting.items ≡ gated_entries (D.files disk.old)) }
+        ensures gated { IfOk result (λ j. IsTrue D.tells → list_map gated j.waiting.items ≡ gated_entries (D.files disk.old)) }
         ensures images { IsTrue D.tells → Lands (D.files disk.old) (D.image disk.old) → Follows Keeps (D.image disk.old) (D.image disk.new) }
         // What the files stand for, where nothing of the disk was loose: the same, and nothing is loose.
-        ensures done { OnOk result (IsTrue D.tells → Lands (D.files disk.old) (D.image disk.old) → Finished Opens (D.files disk.old) (D.files disk.new) (D.image disk.new) fuse.old fuse.new) }
-        ensures tried { IsTrue D.tells → Lands (D.files disk.old) (D.image disk.old) → Tried Opens (D.files disk.old) (D.image disk.new) fuse.old fuse.new }
+        ensures done { OnOk result (IsTrue D.tells → Lands (D.files disk.old) (D.image disk.old) → Finished (Opens (length (open_calls (D.files disk.old)))) (D.files disk.old) (D.files disk.new) (D.image disk.new) fuse.old fuse.new) }
+        ensures tried { IsTrue D.tells → Lands (D.files disk.old) (D.image disk.old) → Tried (Opens (length (open_calls (D.files disk.old)))) (D.files disk.old) (D.image disk.new) fuse.old fuse.new }
         // A record that is not whole is the one cause of Corrupt, and no Ok passes over one.
-        ensures broken { (name : Name) (place : ℕ) → IsErrOf result (JournalError.Corrupt name place) → IsTrue D.tells → (name ≡ Flat) × (broken (D.files disk.old) ≡ Some place) }
+        ensures broken { (name : Name) (place : ℕ) → IsErrOf result (JournalError.Corrupt name place) → IsTrue D.tells → broken (D.files disk.old) ≡ Some (name, place) }
         ensures whole { OnOk result (IsTrue D.tells → broken (D.files disk.old) ≡ None) }
-        ensures corrupt { (place : ℕ) → IsTrue D.tells → broken (D.files disk.old) ≡ Some place → IsErrOf result (JournalError.Corrupt Flat place) ⊎ (IsErrOf result JournalError.Disk ⊎ IsErrOf result JournalError.NoMemory) }
-        // Where each record was whole in whatever a crash left, each is.
-        ensures sound { AreUnbroken (D.image disk.old) → AreUnbroken (D.image disk.new) }
+        ensures corrupt { (name : Name) (place : ℕ) → IsTrue D.tells → broken (D.files disk.old) ≡ Some (name, place) → IsErrOf result (JournalError.Corrupt name place) ⊎ (IsErrOf result JournalError.Disk ⊎ IsErrOf result JournalError.NoMemory) }
+        // Each record of whatever a crash leaves is whole, but where one of the files was not and nothing was changed.
+        ensures sound { IsTrue D.tells → Lands (D.files disk.old) (D.image disk.old) → AreUnbroken (D.image disk.old) → AreUnbroken (D.image disk.new) }
         // Another opening finds the same: at Ok, and at Corrupt, which comes before any change.
         ensures alike { OnOk result (IsTrue D.tells → OpensAlike (D.files disk.old) (D.files disk.new)) }
         ensures unread { (name : Name) (place : ℕ) → IsErrOf result (JournalError.Corrupt name place) → IsUnchanged D.files D.image disk.old disk.new }
@@ -116,29 +252,20 @@ impl Journal {
         ensures all { OnOk result (IsTrue D.tells → RanAll D.made disk.old disk.new fuse.old fuse.new (open_calls (D.files disk.old))) }
         ensures calls { IsTrue D.tells → Ran D.made disk.old disk.new fuse.old fuse.new (open_calls (D.files disk.old)) }
     {
-        let bytes = match read_flat(alloc, disk)? {
-            Some(bytes) => bytes,
-            None => {
-                return Ok(Journal {
-                    place: None,
-                    waiting: Vec::new(alloc),
-                });
-            }
-        };
-        let Parsed { entries, place } = parse(alloc, &bytes)?;
-        let waiting = in_sections(entries)?;
-        mend(alloc, disk, fuse, bytes, place)?;
-        Ok(Journal {
-            place: Some(place),
+        let Found {
             waiting,
-        })
+            places,
+            mending,
+        } = find(alloc, disk)?;
+        perform_all(alloc, disk, fuse, &mending)?;
+        Ok(Journal { places, waiting })
     }
 
     /// The entries that `open` read, sections rising and each in its order. A second call gives none.
     pub fn replay(&mut self, alloc: Global) -> Vec<JournalEntry>
         ensures listed { result.items ≡ self.old.waiting.items }
         ensures once { self.new.waiting.items ≡ [] }
-        ensures place { self.new.place ≡ self.old.place }
+        ensures places { self.new.places ≡ self.old.places }
     {
         mem::replace(&mut self.waiting, Vec::new(alloc))
     }

@@ -1,18 +1,16 @@
-//! Reading a journal's file: its entries, and the place of the gate behind them.
+//! Reading a segment: its entries, and the place of the gate behind them.
 //!
 //! Opening a journal calls this on what the disk read.
-ghost use Rattle.std.specs.Prelude.{◌≡◌, ◌≢◌, ◌⊎◌, ◌<◌, ◌≤◌, ◌^◌, ◌+◌, ◌++◌, [], ◌∷◌, List, ℕ, Option, Some, None, length, drop, map, take, OnOk, IfOk, IfSome, IfNone, IfErr, IsErrOf, MatchResult};
+ghost use Rattle.std.specs.Prelude.{◌≡◌, ◌⊎◌, ◌<◌, ◌≤◌, ◌^◌, ◌+◌, ◌++◌, ◌∷◌, List, ℕ, Some, length, drop, map, IfOk, IfSome, IfNone, IfErr};
 ghost use Rattle.dkg_values.specs.declared.name.Name.{Name};
-ghost use Rattle.dkg_journal.specs.Records.{Entry, Ends, Front, Whole, number32, read32, read64, entry_of, bodies, broken_at, in_order};
+ghost use Rattle.dkg_journal.specs.Records.{Ends, Whole, number32, read32, read64, broken_at};
 ghost use Rattle.dkg_journal.specs.Gated.{gated, gated_from};
-ghost use Rattle.dkg_journal.specs.Views.{view, views};
-ghost use Rattle.dkg_journal.specs.Errors.{IsOfReading};
 
 use crate::JournalError;
-use dkg_values::{Blob, Mem, Name, NoMemory};
-use std::alloc::{AllocError, Global};
+use dkg_values::{Blob, Name};
+use std::alloc::Global;
 
-/// An entry, and the place of its record's gate in its file.
+/// An entry, and the place of its record's gate in the segment of its section.
 #[derive(Debug, Drop)]
 pub struct JournalEntry {
     pub section: u64,
@@ -74,66 +72,36 @@ pub fn behind_gate(rest: &[u8]) -> Option<&[u8]>
 }
 
 /// The error of a record that is not whole.
-pub fn corrupt(place: u64) -> JournalError
-    ensures { result ≡ JournalError.Corrupt Name.Flat place }
+pub fn corrupt(name: Name, place: u64) -> JournalError
+    ensures { result ≡ JournalError.Corrupt name place }
 {
-    JournalError::Corrupt {
-        name: Name::Flat,
-        place,
-    }
+    JournalError::Corrupt { name, place }
 }
 
-/// The entry of a flat body, which begins with its section.
-fn entry_at(alloc: Global, place: u64, body: &[u8]) -> Result<JournalEntry, JournalError>
-    ensures entry { IfOk result (λ e. (view e ≡ entry_of body.now) × (8 ≤ length body.now)) }
-    ensures place { IfOk result (λ e. e.place ≡ place) }
-    ensures kinds { IfErr result (λ e. (e ≡ JournalError.NoMemory) ⊎ ((e ≡ JournalError.Corrupt Name.Flat place) × (length body.now < 8))) }
+/// Lists the entries of a segment, up to the first gate that is not open or to its end, and gives the place behind its last record.
+pub fn parse(
+    alloc: Global,
+    section: u64,
+    bytes: &[u8],
+    entries: &mut Vec<JournalEntry>,
+) -> Result<u64, JournalError>
+    ensures whole { IfOk result (λ place. (bs : List (List ℕ)) × Whole 0 bs place bytes.now × (map gated entries.new.items ≡ map gated entries.old.items ++ gated_from section 0 bs)) }
+    ensures broken { IfErr result (λ e. (e ≡ JournalError.NoMemory) ⊎ ((place : ℕ) × (e ≡ JournalError.Corrupt (Name.Segment section) place) × (broken_at 0 bytes.now ≡ Some place))) }
 {
-    let Some((section, content)) = u64_at(body) else {
-        return Err(corrupt(place));
-    };
-    Ok(JournalEntry {
-        section,
-        place,
-        body: Blob::new(Vec::from_slice(alloc, content)?),
-    })
-}
-
-/// The entries of a file, in its order, and the place behind its last record.
-#[derive(Drop)]
-pub struct Parsed {
-    pub entries: Vec<JournalEntry>,
-    pub place: u64,
-}
-
-/// Reads the records of a flat file up to the first gate that is not open, or to its end.
-pub fn parse(alloc: Global, bytes: &[u8]) -> Result<Parsed, JournalError>
-    ensures whole { IfOk result (λ p. Whole bytes.now (views p.entries.items) p.place) }
-    // Each entry has the place of its gate.
-    ensures gated { IfOk result (λ p. map gated p.entries.items ≡ gated_from 0 (bodies 8 (length bytes.now) bytes.now)) }
-    ensures broken { IfErr result (λ e. (e ≡ JournalError.NoMemory) ⊎ ((place : ℕ) × (e ≡ JournalError.Corrupt Name.Flat place) × (broken_at bytes.now ≡ Some place))) }
-{
-    let mut entries = Vec::new(alloc);
     let mut place = 0u64;
     let mut rest = bytes;
     while let Some(after) = behind_gate(rest) {
         let Some((body, next)) = split_record(after) else {
-            return Err(corrupt(place));
+            return Err(corrupt(Name::Segment(section), place));
         };
-        let entry = entry_at(alloc, place, body)?;
+        let entry = JournalEntry {
+            section,
+            place,
+            body: Blob::new(Vec::from_slice(alloc, body)?),
+        };
         entries.push(entry)?;
         place += 5 + body.len() as u64;
         rest = next;
     }
-    Ok(Parsed { entries, place })
-}
-
-/// The entries with sections rising, each section in its order.
-pub fn in_sections(entries: Vec<JournalEntry>) -> Result<Vec<JournalEntry>, AllocError>
-    ensures listed { IfOk result (λ v. views v.items ≡ in_order (views entries.items)) }
-    ensures gated { IfOk result (λ v. map gated v.items ≡ in_order (map gated entries.items)) }
-{
-    let mut sorted = entries;
-    sorted.sort_by_key(|entry| entry.section)?;
-    Ok(sorted)
+    Ok(place)
 }

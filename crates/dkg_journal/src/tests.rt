@@ -203,7 +203,7 @@ fn what_was_appended_is_replayed(rt: HostRuntime) -> Result<(), Fail> {
     let mut disk = MemoryDisk::new(rt.alloc());
     let mut fuse = Fuse::never();
     fill(rt.alloc(), &mut disk, &mut fuse)?;
-    assert_eq!(rt; fuse.spent(), 9);
+    assert_eq!(rt; fuse.spent(), 10);
     assert_eq!(rt;
         read_again(rt.alloc(), &mut disk)?.as_slice(),
         [5, 0xaa, 6, 0xbb].as_slice()
@@ -228,15 +228,15 @@ fn a_cut_leaves_whole_entries(rt: HostRuntime) -> Result<(), Fail> {
         (4, 7, one),
         (4, 11, &[]),
         (7, 0, one),
-        (8, 6, both),
-        (9, 1, one),
-        (10, 1, both),
+        (9, 6, both),
+        (10, 1, one),
+        (11, 1, both),
     ];
     for (call, pick, want) in rows {
         let mut disk = MemoryDisk::new(rt.alloc());
         let mut fuse = Fuse::at(call, pick);
         let ended = fill(rt.alloc(), &mut disk, &mut fuse);
-        assert_eq!(rt; ended.is_err(), call < 10, "at {call} {pick}");
+        assert_eq!(rt; ended.is_err(), call < 11, "at {call} {pick}");
         assert_eq!(rt;
             read_again(rt.alloc(), &mut disk)?.as_slice(),
             want,
@@ -250,8 +250,8 @@ fn a_cut_leaves_whole_entries(rt: HostRuntime) -> Result<(), Fail> {
 fn every_cut_of_an_append_leaves_it_or_not(rt: HostRuntime) -> Result<(), Fail> {
     let one: &[u8] = &[6, 0xbb];
     let both: &[u8] = &[5, 0xaa, 6, 0xbb];
-    for call in 1..10u64 {
-        // The first append makes the file too: five calls. The second makes four.
+    for call in 1..11u64 {
+        // Each append makes the file of its section too: five calls.
         let (before, after) = if call <= 5 {
             (&[][..], one)
         } else {
@@ -269,15 +269,30 @@ fn every_cut_of_an_append_leaves_it_or_not(rt: HostRuntime) -> Result<(), Fail> 
     Ok(())
 }
 
+/// A segment that ends without a gate.
+fn open_ended(alloc: Global, disk: &mut MemoryDisk) -> Result<(), DiskError> {
+    disk.install(alloc, Name::Segment(5), &[1, 0, 0, 0, 1, 0xaa])
+}
+
+/// A flat file with entries of sections 7, 5 and 7, a segment that it does not name, and one that it names, with another entry.
+fn flat_disk(alloc: Global, disk: &mut MemoryDisk) -> Result<(), DiskError> {
+    disk.install(
+        alloc,
+        Name::Flat,
+        &[
+            1, 0, 0, 0, 9, 0, 0, 0, 0, 0, 0, 0, 7, 0xcc, 1, 0, 0, 0, 9, 0, 0, 0, 0, 0, 0, 0, 5,
+            0xaa, 1, 0, 0, 0, 9, 0, 0, 0, 0, 0, 0, 0, 7, 0xdd, 0,
+        ],
+    )?;
+    disk.install(alloc, Name::Segment(3), &[1, 0, 0, 0, 1, 0x33, 0])?;
+    disk.install(alloc, Name::Segment(7), &[1, 0, 0, 0, 1, 0x77, 0])
+}
+
 #[test]
 fn every_cut_of_a_mending_keeps_the_entry(rt: HostRuntime) -> Result<(), Fail> {
     for pick in 0..8u64 {
         let mut disk = MemoryDisk::new(rt.alloc());
-        disk.install(
-            rt.alloc(),
-            Name::Flat,
-            &[1, 0, 0, 0, 9, 0, 0, 0, 0, 0, 0, 0, 5, 0xaa],
-        )?;
+        open_ended(rt.alloc(), &mut disk)?;
         let mut fuse = Fuse::at(1, pick);
         let is_cut = matches!(
             &Journal::open(rt.alloc(), &mut disk, &mut fuse),
@@ -290,6 +305,31 @@ fn every_cut_of_a_mending_keeps_the_entry(rt: HostRuntime) -> Result<(), Fail> {
             [5, 0xaa].as_slice(),
             "at {pick}"
         );
+    }
+    Ok(())
+}
+
+#[test]
+fn every_stop_of_a_parting_keeps_the_entries(rt: HostRuntime) -> Result<(), Fail> {
+    // A remove, two installs, and the remove of the flat file. The fifth call is not made.
+    for call in 1..6u64 {
+        for pick in 0..8u64 {
+            let mut disk = MemoryDisk::new(rt.alloc());
+            flat_disk(rt.alloc(), &mut disk)?;
+            let mut fuse = Fuse::at(call, pick);
+            let is_open = Journal::open(rt.alloc(), &mut disk, &mut fuse).is_ok();
+            assert_eq!(rt; is_open, call == 5, "at {call} {pick}");
+            assert_eq!(rt;
+                read_again(rt.alloc(), &mut disk)?.as_slice(),
+                [5, 0xaa, 7, 0xcc, 7, 0xdd].as_slice(),
+                "at {call} {pick}"
+            );
+            assert_eq!(rt;
+                disk.list(rt.alloc())?.as_slice(),
+                [Name::Segment(5), Name::Segment(7)].as_slice(),
+                "at {call} {pick}"
+            );
+        }
     }
     Ok(())
 }
@@ -311,19 +351,19 @@ fn a_prune_leaves_the_sections_from_its_minimum_on(rt: HostRuntime) -> Result<()
     let both: &[u8] = &[5, 0xaa, 6, 0xbb];
     // The call that is cut, the pick, the calls that were made, and what is read again.
     let rows: [(u64, u64, u64, &[u8]); 7] = [
-        (0, 0, 10, left),
-        (11, 0, 10, left),
-        (10, 0, 10, left),
-        (10, 1, 10, both),
-        (10, 6, 10, left),
-        (10, 7, 10, both),
-        (9, 1, 9, &[5, 0xaa]),
+        (0, 0, 11, left),
+        (12, 0, 11, left),
+        (11, 0, 11, left),
+        (11, 1, 11, both),
+        (11, 6, 11, left),
+        (11, 7, 11, both),
+        (10, 1, 10, &[5, 0xaa]),
     ];
     for (call, pick, calls, want) in rows {
         let mut disk = MemoryDisk::new(rt.alloc());
         let mut fuse = Fuse::at(call, pick);
         let ended = fill_and_prune(rt.alloc(), &mut disk, &mut fuse);
-        assert_eq!(rt; ended.is_ok(), call == 0 || call == 11, "at {call} {pick}");
+        assert_eq!(rt; ended.is_ok(), call == 0 || call == 12, "at {call} {pick}");
         assert_eq!(rt; fuse.spent(), calls, "at {call} {pick}");
         assert_eq!(rt;
             read_again(rt.alloc(), &mut disk)?.as_slice(),
@@ -350,39 +390,44 @@ fn a_value_is_put_read_and_cleared(rt: HostRuntime) -> Result<(), Fail> {
 
 #[test]
 fn records_that_are_not_whole(rt: HostRuntime) -> Result<(), Fail> {
-    let rows: [(&[u8], Option<JournalError>, u64); 7] = [
-        (&[], None, 1),
-        (&[0], None, 0),
-        (&[9, 1, 1, 1], None, 0),
-        (&[1, 0, 0, 0, 8, 0, 0, 0, 0, 0, 0, 0, 5], None, 1),
+    let rows: [(Name, &[u8], Option<u64>, u64); 12] = [
+        (Name::Segment(5), &[], None, 1),
+        (Name::Segment(5), &[0], None, 0),
+        (Name::Segment(5), &[9, 1, 1, 1], None, 0),
+        (Name::Segment(5), &[1, 0, 0, 0, 1, 5], None, 1),
+        (Name::Segment(5), &[1, 0, 0, 0, 0, 1, 0, 0], Some(5), 0),
+        (Name::Segment(5), &[1, 0, 0, 0, 9, 5], Some(0), 0),
+        (Name::Flat, &[], None, 1),
+        (Name::Flat, &[7], None, 1),
         (
+            Name::Flat,
+            &[1, 0, 0, 0, 8, 0, 0, 0, 0, 0, 0, 0, 5],
+            None,
+            2,
+        ),
+        (
+            Name::Flat,
             &[1, 0, 0, 0, 8, 0, 0, 0, 0, 0, 0, 0, 5, 1, 0, 0],
-            Some(JournalError::Corrupt {
-                name: Name::Flat,
-                place: 13,
-            }),
+            Some(13),
             0,
         ),
         (
+            Name::Flat,
             &[1, 0, 0, 0, 9, 0, 0, 0, 0, 0, 0, 0, 5],
-            Some(JournalError::Corrupt {
-                name: Name::Flat,
-                place: 0,
-            }),
+            Some(0),
             0,
         ),
         (
+            Name::Flat,
             &[1, 0, 0, 0, 7, 0, 0, 0, 0, 0, 0, 5, 0],
-            Some(JournalError::Corrupt {
-                name: Name::Flat,
-                place: 0,
-            }),
+            Some(0),
             0,
         ),
     ];
-    for (bytes, want, calls) in rows {
+    for (name, bytes, broken, calls) in rows {
         let mut disk = MemoryDisk::new(rt.alloc());
-        disk.install(rt.alloc(), Name::Flat, bytes)?;
+        disk.install(rt.alloc(), name, bytes)?;
+        let want = broken.map(|place| JournalError::Corrupt { name, place });
         let mut fuse = Fuse::never();
         let fault = match Journal::open(rt.alloc(), &mut disk, &mut fuse) {
             Ok(_) => None,

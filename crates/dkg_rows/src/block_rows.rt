@@ -59,7 +59,6 @@ fn text(alloc: Global, blocks: u64, info: &str, chain: &str, lives: &str) -> Res
 }
 
 /// What a script writes over empty devices, beside the number of its status.
-#[tactic(auto, using(dkg_run::proofs::Today::empty_today))]
 fn ran(alloc: Global, script: &str) -> Result<(u8, MemorySink), Fail> {
     let mut disk = MemoryDisk::new(alloc);
     let mut secrets = MemorySecrets::new(alloc);

@@ -107,7 +107,6 @@ fn missing(alloc: Global, place: usize, instead: &str) -> Result<String, Fail> {
 }
 
 #[test]
-#[tactic(auto, using(dkg_run::proofs::Today::empty_today))]
 fn a_script_that_misses_the_form_is_unsupported(rt: HostRuntime) -> Result<(), Fail> {
     let alloc = rt.alloc();
     for (place, instead) in MISSES {

@@ -43,7 +43,6 @@ const ROWS: [(&str, &str); 8] = [
 ];
 
 #[test]
-#[tactic(auto, using(dkg_run::proofs::Today::empty_today))]
 fn a_life_writes_its_row(rt: HostRuntime) -> Result<(), Fail> {
     let alloc = rt.alloc();
     for (events, wanted) in ROWS {
@@ -59,7 +58,6 @@ fn a_life_writes_its_row(rt: HostRuntime) -> Result<(), Fail> {
 }
 
 #[test]
-#[tactic(auto, using(dkg_run::proofs::Today::empty_today))]
 fn a_second_run_over_the_same_devices_restores(rt: HostRuntime) -> Result<(), Fail> {
     let alloc = rt.alloc();
     let mut disk = MemoryDisk::new(alloc);

@@ -1,7 +1,4 @@
 //! What a test runs: a script's text over devices in memory.
-ghost use Rattle.std.specs.Prelude.{OnOk};
-ghost use Rattle.dkg_journal.specs.Table.{RowsImage};
-ghost use Rattle.dkg_run.specs.Devices.{IsToday};
 
 use dkg_journal::MemoryDisk;
 use dkg_run::{MemorySink, MemorySource, run_command};
@@ -34,10 +31,7 @@ pub fn run(
     script: &str,
     disk: &mut MemoryDisk,
     secrets: &mut MemorySecrets,
-) -> Result<(u8, MemorySink), Fail>
-    requires { IsToday (RowsImage disk.old.disk.files) }
-    ensures { OnOk result (IsToday (RowsImage disk.new.disk.files)) }
-{
+) -> Result<(u8, MemorySink), Fail> {
     let mut source = MemorySource::new(alloc, Vec::from_slice(alloc, script.as_bytes())?);
     let mut sink = MemorySink::new(alloc);
     let mut out = Transcript::new(alloc);

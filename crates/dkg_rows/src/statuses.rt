@@ -8,7 +8,6 @@ use dkg_types::Transcript;
 use std::alloc::Global;
 use std::test::Fail;
 
-#[tactic(auto, using(dkg_run::proofs::Today::empty_today))]
 /// The number of the status, for these words, a source, and a sink that is looked at afterwards.
 fn command(
     alloc: Global,
@@ -40,13 +39,12 @@ fn source_of(alloc: Global, text: &str) -> Result<MemorySource, Fail> {
 }
 
 #[test]
-#[tactic(auto, using(dkg_run::proofs::Today::empty_today))]
 fn a_failed_sync_is_a_fault_and_no_acknowledgement(rt: HostRuntime) -> Result<(), Fail> {
     let alloc = rt.alloc();
     let event = format!(in alloc; "peer 2 {DEALING}\n")?;
     let text = script(alloc, event.as_str())?;
-    // An opening calls barrier and read, and the dealing then install, write_at and sync.
-    let mut disk = MemoryDisk::failing(alloc, vec![in alloc; 5]?);
+    // An opening calls barrier, list and read, and the dealing then install, write_at and sync.
+    let mut disk = MemoryDisk::failing(alloc, vec![in alloc; 6]?);
     let mut secrets = MemorySecrets::new(alloc);
     let (status, sink) = run(alloc, text.as_str(), &mut disk, &mut secrets)?;
     let lines = format!(in alloc; "{OPENED}fault 2\n")?;
@@ -56,7 +54,6 @@ fn a_failed_sync_is_a_fault_and_no_acknowledgement(rt: HostRuntime) -> Result<()
 }
 
 #[test]
-#[tactic(auto, using(dkg_run::proofs::Today::empty_today))]
 fn other_words_than_run_are_usage(rt: HostRuntime) -> Result<(), Fail> {
     let alloc = rt.alloc();
     let none: [&str; 0] = [];
@@ -70,7 +67,6 @@ fn other_words_than_run_are_usage(rt: HostRuntime) -> Result<(), Fail> {
 }
 
 #[test]
-#[tactic(auto, using(dkg_run::proofs::Today::empty_today))]
 fn a_source_of_too_many_bytes_is_refused(rt: HostRuntime) -> Result<(), Fail> {
     let alloc = rt.alloc();
     for (size, wanted) in [(16_777_216usize, 10u8), (16_777_217, 9)] {
@@ -83,7 +79,6 @@ fn a_source_of_too_many_bytes_is_refused(rt: HostRuntime) -> Result<(), Fail> {
 }
 
 #[test]
-#[tactic(auto, using(dkg_run::proofs::Today::empty_today))]
 fn a_source_that_fails_writes_nothing(rt: HostRuntime) -> Result<(), Fail> {
     let alloc = rt.alloc();
     let text = script(alloc, "")?;
@@ -99,7 +94,6 @@ fn a_source_that_fails_writes_nothing(rt: HostRuntime) -> Result<(), Fail> {
 }
 
 #[test]
-#[tactic(auto, using(dkg_run::proofs::Today::empty_today))]
 fn a_sink_that_fails_is_a_write_fault(rt: HostRuntime) -> Result<(), Fail> {
     let alloc = rt.alloc();
     let text = script(alloc, "")?;

@@ -1,14 +1,16 @@
 -- An empty disk and an empty secret store are fresh.
-use Rattle.std.proofs.Common.{◌≡◌, List, [], None, ap, sym, subst, ◌∙◌}
+use Rattle.std.proofs.Common.{◌≡◌, ℕ, List, [], Option, Some, None, refl, ap, sym, subst, ◌∙◌}
 use Rattle.std.specs.Prelude.{filter, nat_lt, ◌&&◌, ◌==◌, ◌^◌}
 use Rattle.std.specs.FinMap.{get, get-empty, same_map}
-use Rattle.dkg_values.specs.declared.name.Name.TheVariants.{Flat, Plan, Segment}
+use Rattle.dkg_values.specs.declared.name.Name.{Name}
+use Rattle.dkg_values.specs.declared.name.Name.TheVariants.{Flat, Plan}
 use Rattle.dkg_ceremony.specs.Dealings.{dealing_of}
 use Rattle.dkg_ceremony.specs.declared.round.Round.{Round}
 use Rattle.dkg_journal.specs.Names.{Files, name_cmp}
-use Rattle.dkg_journal.specs.Opening.{broken, broken_of}
+use Rattle.dkg_journal.specs.Opening.{broken, broken_rows, broken_with}
+use Rattle.dkg_journal.specs.Segments.{segment_rows}
 use Rattle.dkg_journal.specs.Records.{Entry, entries}
-use Rattle.dkg_journal.specs.Table.{Rows, RowsImage, contents}
+use Rattle.dkg_journal.specs.Table.{MatchFile, Rows, RowsImage, contents}
 use Rattle.dkg_journal.proofs.Steps.{names_total, exact_names}
 use Rattle.dkg_store.specs.Corrupt.{AreEvents}
 use Rattle.dkg_store.specs.Keys.{key_cmp}
@@ -22,7 +24,10 @@ use Rattle.dkg_script.proofs.Worked.{no_pairs, nothing_there}
 use Rattle.dkg_run.specs.Complete.{AreValidDevices}
 use Rattle.dkg_run.specs.Found.{Reader, reader_in}
 use Rattle.dkg_run.specs.Fresh.{AreFresh}
-use Rattle.dkg_run.proofs.Today.{none_there}
+
+none_there : (file : Option (List ℕ)) → MatchFile None file → file ≡ None
+none_there None here = refl
+none_there (Some bytes) here = absurd here
 
 -- a crash leaves nothing else
 only_these : (c : Files) → RowsImage [] c → c ≡ contents []
@@ -30,6 +35,9 @@ only_these c here = same_map names_total exact_names c (contents []) (λ name. n
 
 honest : (script : Script) (held : Secrets) → AreHonestStores (setting_of script (contents []) held) (RowsImage [])
 honest script held = record { whole = subst (λ (es : List Entry). IsWhole es held) (sym nothing_there) tt; nothing_loose = record { only = only_these } }
+
+nothing_broken : broken (contents []) ≡ None
+nothing_broken = ap (λ (o : Option (List ℕ)). broken_with o (contents [])) (get-empty name_cmp Flat) ∙ ap (λ (xs : List (Name × List ℕ)). broken_rows (segment_rows xs)) (no_pairs name_cmp)
 
 -- a disk of no files has no entry
 none_left : (c : Files) → RowsImage [] c → entries c ≡ []
@@ -44,7 +52,7 @@ valid : (script : Script) (held : Secrets) → AreValidDevices (setting_of scrip
 valid script held = record {
   stores = honest script held;
   fit = record {
-    whole = record { each = λ c here. ap broken (only_these c here) ∙ ap broken_of (get-empty name_cmp Flat) };
+    whole = record { each = λ c here. ap broken (only_these c here) ∙ nothing_broken };
     events = λ c here. subst (AreEvents (reader_in script).limit) (sym (none_left c here)) tt;
   };
   passing = record {
@@ -58,7 +66,6 @@ fresh held = record {
   honest = λ script. honest script held;
   valid = λ script. valid script held;
   no_plan = get-empty name_cmp Plan;
-  no_segment = record { no_segment = λ section. get-empty name_cmp (Segment section) };
 }
 
 pub empty_fresh : (rows : Rows) (held : Secrets) → rows ≡ [] → AreFresh (contents rows) (RowsImage rows) held

@@ -1,14 +1,14 @@
 -- What is fit stays so from step to step.
 use Rattle.std.proofs.Common.{ℕ, ◌+◌, ◌≡◌, ◌∷◌, [], List, map, fold, drop, length, Option, Some, None, Bool, true, false, cond, nat_lt, refl, sym, ap, subst, ◌∙◌, ◌⊎◌, inl, inr}
-use Rattle.std.specs.FinMap.{get}
-use Rattle.dkg_values.specs.declared.name.Name.TheVariants.{Flat}
+use Rattle.std.specs.Prelude.{if◌then◌else◌, ◌==◌}
+use Rattle.dkg_values.specs.declared.name.Name.{Name}
 use Rattle.dkg_types.specs.declared.entry.Entry.{Entry as Line}
 use Rattle.dkg_types.specs.declared.fault.Fault.{Fault}
 use Rattle.dkg_types.specs.declared.fault.Fault.TheVariants.{Corrupt}
 use Rattle.dkg_journal.specs.Names.{Files}
-use Rattle.dkg_journal.specs.Gated.{gated, gated_entries, gated_from, gated_in}
+use Rattle.dkg_journal.specs.Gated.{gated, gated_behind}
 use Rattle.dkg_journal.specs.Opening.{broken}
-use Rattle.dkg_journal.specs.Records.{Entry, bodies, entries, entries_with, entry_of, in_order, placed}
+use Rattle.dkg_journal.specs.Records.{Entry, entries}
 use Rattle.dkg_journal.specs.Views.{views}
 use Rattle.dkg_journal.specs.declared.opening.JournalEntry.{JournalEntry}
 use Rattle.dkg_store.specs.Corrupt.{AreEvents, AreFit, HasNoEvent, IsCorruptAt}
@@ -36,45 +36,23 @@ narrowed_fit most image next narrows fit = record {
 abbrev bare : Entry → Entry
 bare e = (e.0, drop 1 e.1)
 
-bare_placed : (es : List Entry) (e : Entry) → map bare (placed es e) ≡ placed (map bare es) (bare e)
-bare_placed [] e = refl
-bare_placed (x ∷ xs) e = by_place (nat_lt e.0 x.0) (bare_placed xs e)
-  where
-    by_place : (b : Bool) → map bare (placed xs e) ≡ placed (map bare xs) (bare e) → map bare (cond b (e ∷ x ∷ xs) (x ∷ placed xs e)) ≡ cond b (bare e ∷ bare x ∷ map bare xs) (bare x ∷ placed (map bare xs) (bare e))
-    by_place true later = refl
-    by_place false later = ap (λ (l : List Entry). bare x ∷ l) later
-
-bare_fold : (es acc : List Entry) → map bare (fold placed acc es) ≡ fold placed (map bare acc) (map bare es)
-bare_fold [] acc = refl
-bare_fold (x ∷ xs) acc = bare_fold xs (placed acc x) ∙ ap (λ (a : List Entry). fold placed a (map bare xs)) (bare_placed acc x)
-
-bare_gated : (place : ℕ) (bs : List (List ℕ)) → map bare (gated_from place bs) ≡ map entry_of bs
-bare_gated place [] = refl
-bare_gated place (b ∷ bs) = ap (λ (l : List Entry). entry_of b ∷ l) (bare_gated (place + (5 + length b)) bs)
+bare_behind : (section place : ℕ) (es : List Entry) → map bare (gated_behind section place es) ≡ es
+bare_behind section place [] = refl
+bare_behind section place (e ∷ es) = let at = if e.0 == section then place else 0 in ap (λ (l : List Entry). e ∷ l) (bare_behind e.0 (at + (5 + length e.1)) es)
 
 bare_views : (es : List JournalEntry) → map bare (map gated es) ≡ views es
 bare_views [] = refl
 bare_views (e ∷ es) = ap (λ (l : List Entry). (e.section, e.body) ∷ l) (bare_views es)
 
-none_read : (es : List JournalEntry) → map gated es ≡ [] → es ≡ []
-none_read [] none = refl
-none_read (e ∷ es) none = absurd (let h : gated e ∷ map gated es ≡ [] = none in cc)
-
 -- where all are whole, and events, none is corrupt
-uncorrupt : (limit place : ℕ) (files : Files) → broken files ≡ None → AreEvents limit (entries files) → IsCorruptAt limit files place → ⊥
-uncorrupt limit place files whole events at = by_cause at.so
+uncorrupt : (limit : ℕ) (name : Name) (place : ℕ) (files : Files) → broken files ≡ None → AreEvents limit (entries files) → IsCorruptAt limit files name place → ⊥
+uncorrupt limit name place files whole events at = by_cause at.so
   where
-    by_file : (read : List JournalEntry) → map gated read ≡ gated_entries files → no_event_at limit read ≡ Some place → (o : Option (List ℕ)) → get files Flat ≡ o → ⊥
-    by_file read are first None is = no_place (no_event_at limit read) place first (ap (no_event_at limit) (none_read read (are ∙ ap gated_in is)))
-    by_file read are first (Some file) is =
-        let same : views read ≡ entries files =
-        sym (bare_views read) ∙ ap (map bare) (are ∙ ap gated_in is) ∙ bare_fold (gated_from 0 (bodies 8 (length file) file)) []
-        ∙ ap in_order (bare_gated 0 (bodies 8 (length file) file)) ∙ sym (ap (λ (o : Option (List ℕ)). entries_with o files) is) in
-        no_place (no_event_at limit read) place first (no_other limit read (subst (AreEvents limit) (sym same) events))
-
-    by_cause : (broken files ≡ Some place) ⊎ ((broken files ≡ None) × HasNoEvent limit files place) → ⊥
-    by_cause (inl torn) = no_place (broken files) place torn whole
-    by_cause (inr other) = by_file other.1.read other.1.are other.1.first (get files Flat) refl
+    by_cause : (broken files ≡ Some (name, place)) ⊎ ((broken files ≡ None) × HasNoEvent limit files name place) → ⊥
+    by_cause (inl torn) = no_place (broken files) (name, place) torn whole
+    by_cause (inr other) =
+        let same : views other.1.read ≡ entries files = sym (bare_views other.1.read) ∙ ap (map bare) other.1.are ∙ bare_behind 0 0 (entries files) in
+        no_place (no_event_at limit other.1.read) (name, place) other.1.first (no_other limit other.1.read (subst (AreEvents limit) (sym same) events))
 
 -- so no fault that is answered names one
 pub names_none : (reader : Reader) (files : Files) (held : Secrets) (image : Files → Type 0) (its answered : Fault) (old new : List Line) → TellsFault its answered old new
@@ -83,5 +61,5 @@ names_none reader files held image its answered old new (inl none) found fit her
 names_none reader files held image its answered old new (inr told) found fit here = rw told.0 (by_its its found)
   where
     by_its : (f : Fault) → IsFound reader files held (Faulted f) → NamesNoRecord f
-    by_its (Corrupt name place) found = uncorrupt reader.limit place files (fit.whole.each files here) (fit.events files here) found.so.1
+    by_its (Corrupt name place) found = uncorrupt reader.limit name place files (fit.whole.each files here) (fit.events files here) found.so.1
     by_its _ found = tt

@@ -6,7 +6,6 @@ use Rattle.std.specs.Int.NonZero.{non_zero_u32_get}
 use Rattle.std.specs.FinMap.{get, same_map}
 use Rattle.std.specs.List.{AllByRecursion}
 use Rattle.dkg_values.specs.declared.name.Name.{Name}
-use Rattle.dkg_values.specs.declared.name.Name.TheVariants.{Flat}
 use Rattle.dkg_ceremony.specs.Dealings.{dealing_of}
 use Rattle.dkg_ceremony.specs.declared.mode.Mode.{Mode}
 use Rattle.dkg_ceremony.specs.Rounds.{Draws}
@@ -96,7 +95,7 @@ module _ (its_reader : Reader) (files : Files) (held : Secrets) where
   same_found stop other (inr is) found = rw is (record { so = tt })
 
   -- an opening's error
-  pub opening_found : (e : StoreError) → IsOfOpening e → ((name : Name) (place : ℕ) → e ≡ store.Corrupt name place → (name ≡ Flat) × IsCorruptAt its_reader.limit files place)
+  pub opening_found : (e : StoreError) → IsOfOpening e → ((name : Name) (place : ℕ) → e ≡ store.Corrupt name place → IsCorruptAt its_reader.limit files name place)
       → IsFound its_reader files held (stop_of e)
   opening_found store.Disk kinds found = record { so = tt }
   opening_found store.Secrets kinds found = record { so = tt }

@@ -31,6 +31,5 @@ pub mod Stepped
 pub mod Steps
 pub mod Stops
 pub mod Taken
-pub mod Today
 pub mod Told
 pub mod Used

@@ -13,8 +13,8 @@ use Rattle.std.specs.declared.cmp.Ordering.TheVariants.{Less, Equal, Greater}
 use Rattle.std.specs.FinMap.{FinMap, find, get, get-entries, get-retain_keys, entries, retain_keys, same_map}
 use Rattle.std.proofs.lemmas.Bool.Decides.{nat_tests}
 use Rattle.dkg_store.specs.Keys.{key_cmp}
-use Rattle.dkg_store.specs.Noted.{Gives, GivesEither, Notes, logs_in}
-use Rattle.dkg_store.specs.Pairs.{Holds, HoldsEither, Pairs}
+use Rattle.dkg_store.specs.Noted.{Gives, GivesPruned, Notes, logs_in}
+use Rattle.dkg_store.specs.Pairs.{Holds, HoldsPruned, Pairs}
 use Rattle.dkg_store.specs.Recorded.{Pair, first_refused, of_epoch, refused_or}
 use Rattle.dkg_store.specs.Secrets.{Secrets}
 use Rattle.dkg_store.proofs.Map.{exact_keys, keys_total}
@@ -66,14 +66,17 @@ pub keeps_all : {V : Type 0} (m : FinMap key_cmp V) → retain_keys m (λ key. n
 keeps_all m = same_map keys_total exact_keys _ _ (λ q. get-retain_keys m (λ key. nat_le 0 key.0) q (λ x tied. ap (λ (y : ℕ × ℕ). nat_le 0 y.0) (sym (exact_keys q x tied)))
     ∙ ap (λ b. cond b (get m q) None) (none_below q.0))
 
--- so a prune leaves all that was recorded
-pub holds_pruned : (pairs : Pairs) (image : Files → Type 0) (held : Secrets) → HoldsEither pairs (retain_keys pairs (λ key. nat_le 0 key.0)) image held → Holds pairs image held
-holds_pruned pairs image held either = record { whole = either.whole; gives = λ c here. elim (either.gives c here) [ inl is ↦ is | inr is ↦ is ∙ keeps_all pairs ] }
+keeps_least : {V : Type 0} (m : FinMap key_cmp V) (least : ℕ) → least ≤ 0 → retain_keys m (λ key. nat_le least key.0) ≡ m
+keeps_least m least low = let none : least ≡ 0 = omega (arith, low) in ap (λ (n : ℕ). retain_keys m (λ key. nat_le n key.0)) none ∙ keeps_all m
 
-pub logs_pruned : (image next : Files → Type 0) → ((logs : Notes RecordedLog) → Gives logs_in logs image → GivesEither logs_in logs (retain_keys logs (λ key. nat_le 0 key.0)) next)
+-- so a prune leaves all that was recorded
+pub holds_pruned : (pairs : Pairs) (image : Files → Type 0) (held : Secrets) → HoldsPruned 0 pairs image held → Holds pairs image held
+holds_pruned pairs image held either = record { whole = either.whole; gives = λ c here. let its = either.gives c here in its.2.1 ∙ keeps_least pairs its.0 its.2.0 }
+
+pub logs_pruned : (image next : Files → Type 0) → ((logs : Notes RecordedLog) → Gives logs_in logs image → GivesPruned logs_in 0 logs next)
     → KeepsLogs image next
 logs_pruned image next stays = record {
-  stay = λ logs gives. record { each = λ c here. elim ((stays logs gives).each c here) [ inl is ↦ is | inr is ↦ is ∙ keeps_all logs ] };
+  stay = λ logs gives. record { each = λ c here. let its = (stays logs gives).each c here in its.2.1 ∙ keeps_least logs its.0 its.2.0 };
 }
 
 -- WHAT PASSED THE CHECKS

@@ -2,7 +2,6 @@
 use Rattle.std.specs.Prelude.{ℕ, List, ◌≡◌, ◌≢◌, ◌==◌, ⊤, Option, Some, None, option_and_then, option_map, IsSomeAnd, Result, Ok, Err, if◌then◌else◌}
 use Rattle.std.specs.Int.NonZero.{non_zero_u32_get}
 use Rattle.std.specs.List.{AllByRecursion}
-use Rattle.dkg_values.specs.declared.name.Name.TheVariants.{Flat}
 use Rattle.dkg_ceremony.specs.Dealings.{dealing_of}
 use Rattle.dkg_ceremony.specs.Rounds.{round_of}
 use Rattle.dkg_ceremony.specs.declared.mode.Mode.{Mode}
@@ -90,7 +89,7 @@ IsRefusal reader _ = ⊤
 -- cut, nothing is to be found.)
 abbrev pub Shows : Reader → Files → Secrets → Stop → Type 0
 Shows reader files held Cut = ⊤
-Shows reader files held (Faulted (Corrupt name place)) = (name ≡ Flat) × IsCorruptAt reader.limit files place
+Shows reader files held (Faulted (Corrupt name place)) = IsCorruptAt reader.limit files name place
 Shows reader files held (Faulted (LocalState cause)) = IsLocalFound reader (recovered_from files held) cause
 Shows reader files held (Faulted (MissingEpochInfo height)) = (height ≡ 0) × (reader.info ≡ None)
 Shows reader files held (Faulted (WrongEpoch expected got)) = (expected ≡ 0) × IsSomeAnd reader.info (λ i. (i.epoch ≡ got) × (got ≢ 0))

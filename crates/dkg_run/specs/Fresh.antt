@@ -3,16 +3,14 @@ use Rattle.std.specs.Prelude.{◌≡◌, None}
 use Rattle.std.specs.FinMap.{get}
 use Rattle.dkg_values.specs.declared.name.Name.TheVariants.{Plan}
 use Rattle.dkg_journal.specs.Names.{Files}
-use Rattle.dkg_journal.specs.Opening.{IsFormOfToday}
 use Rattle.dkg_store.specs.Secrets.{Secrets}
 use Rattle.dkg_script.specs.declared.script.Script.{Script}
 use Rattle.dkg_script.specs.Promise.{AreHonestStores}
 use Rattle.dkg_script.specs.Setting.{setting_of}
 use Rattle.dkg_run.specs.Complete.{AreValidDevices}
 
--- The premises on devices hold, whatever the script: they are whole with nothing loose and valid, and there is no plan and no segment.
+-- The premises on devices hold, whatever the script: they are whole with nothing loose and valid, and there is no plan.
 pub record AreFresh (files : Files) (image : Files → Type 0) (held : Secrets) : Type 0 where
   pub honest : (script : Script) → AreHonestStores (setting_of script files held) image
   pub valid : (script : Script) → AreValidDevices (setting_of script files held) image
   pub no_plan : get files Plan ≡ None
-  pub no_segment : IsFormOfToday files

@@ -7,7 +7,6 @@ ghost use Rattle.dkg_script.specs.Scripts.{script_of};
 ghost use Rattle.dkg_script.specs.declared.script.Script.{Script};
 ghost use Rattle.dkg_run.specs.Command.{IsTold};
 ghost use Rattle.dkg_run.specs.Complete.{IsSoundRun};
-ghost use Rattle.dkg_run.specs.Devices.{IsToday};
 ghost use Rattle.dkg_run.specs.Outside.{TookFew, TookMore};
 ghost use Rattle.dkg_run.specs.Reports.{Answers, EndsAs, KeepsAndCompletes, Reads, fault_status, last_of, number_of};
 
@@ -111,8 +110,6 @@ fn run<S: Source, D: Disk, X: SecretStore>(
     secrets: &mut X,
     out: &mut Transcript,
 ) -> Status
-    requires { IsTrue D.tells → IsToday (D.image disk.old) }
-    ensures today { IsTrue D.tells → IsToday (D.image disk.new) }
     ensures read_fault { result ≡ Status.ReadFault → Rose (S.faults source.old) (S.faults source.new) }
     ensures too_long { result ≡ Status.TooLong → IsTrue S.tells → TookMore 16777216 (S.left source.old) (S.left source.new) }
     ensures few { result ≡ Status.ReadFault → IsTrue S.tells → TookFew 16777216 (S.left source.old) (S.left source.new) }
@@ -178,8 +175,6 @@ pub fn run_command<S: Source, K: Sink, D: Disk, X: SecretStore>(
     secrets: &mut X,
     out: &mut Transcript,
 ) -> Status
-    requires { IsTrue D.tells → IsToday (D.image disk.old) }
-    ensures today { IsTrue D.tells → IsToday (D.image disk.new) }
     // Other words read and run nothing.
     ensures usage { (map string_bytes words.now ≢ codes "run" ∷ []) → IsTold Status.Usage result (last_of Status.Usage) (IsTrue K.tells) (K.held sink.old) (K.held sink.new) × (source.new ≡ source.old) × (disk.new ≡ disk.old) × (secrets.new ≡ secrets.old) × (out.new ≡ out.old) }
     ensures only_usage { result ≡ Status.Usage → map string_bytes words.now ≢ codes "run" ∷ [] }

@@ -20,7 +20,7 @@ ghost use Rattle.dkg_script.specs.Promise.{Adds, RunsInOrder, RunsAll, KeepsDeal
 ghost use Rattle.dkg_script.specs.Setting.{setting_of};
 ghost use Rattle.dkg_run.specs.Complete.{IsValidRun};
 ghost use Rattle.dkg_run.specs.Carried.{CarriesIn, IsCrash, IsDurableAt, IsKeptEntry, IsRefusedBy, IsSaved, OfEvent, Rests, RestsFor, TakesBlock};
-ghost use Rattle.dkg_run.specs.Devices.{IsToday, IsReady, KeepsLogs};
+ghost use Rattle.dkg_run.specs.Devices.{IsReady, KeepsLogs};
 ghost use Rattle.dkg_run.specs.Found.{AreFound, BlamesNoRecord, IsFound, NamesNoRecord, Reader, reader_in, reader_of};
 ghost use Rattle.dkg_run.specs.Passing.{ArePassing, HoldsPassing};
 ghost use Rattle.dkg_run.specs.Refusals.{BlamesOnlySkips, IsRefusal, RefusesOnlySkips, RunRefusesOnlySkips};
@@ -118,14 +118,13 @@ fn step<D: Disk, X: SecretStore>(
     requires plays { IfSome node.old.player (λ p. Contains p.round.players p.me) }
     requires answers { IfSome node.old.player (λ p. IsPlayerOf ack_of p.me p.round p.acks node.old.store.dealings 0) }
     requires valid { IfSome (seat_in node.old.player) (λ seat. AreValid seat node.old.store.dealings) }
-    requires ready { IsTrue D.tells → IsReady node.old.store.journal.place (D.files devices.old.disk.now) (D.image devices.old.disk.now) }
+    requires ready { IsTrue D.tells → IsReady node.old.store.journal (D.files devices.old.disk.now) (D.image devices.old.disk.now) }
     ensures plays { IfSome node.new.player (λ p. Contains p.round.players p.me) }
     ensures answers { IfSome node.new.player (λ p. IsPlayerOf ack_of p.me p.round p.acks node.new.store.dealings 0) }
     ensures valid { IfSome (seat_in node.new.player) (λ seat. AreValid seat node.new.store.dealings) }
     ensures seat { seat_in node.new.player ≡ seat_in node.old.player }
     ensures limit { node.new.limit ≡ node.old.limit }
-    ensures ready { OnOk result (IsTrue D.tells → IsReady node.new.store.journal.place (D.files devices.new.disk.now) (D.image devices.new.disk.now)) }
-    ensures today { IsTrue D.tells → IsToday (D.image devices.new.disk.now) }
+    ensures ready { OnOk result (IsTrue D.tells → IsReady node.new.store.journal (D.files devices.new.disk.now) (D.image devices.new.disk.now)) }
     ensures same_disk { devices.new.disk.ghost_name ≡ devices.old.disk.ghost_name }
     ensures same_secrets { devices.new.secrets.ghost_name ≡ devices.old.secrets.ghost_name }
     ensures quiet { AddsQuiet out.old.entries out.new.entries }
@@ -193,14 +192,13 @@ fn take_step<D: Disk, X: SecretStore>(
     requires plays { IfSome node.old.player (λ p. Contains p.round.players p.me) }
     requires answers { IfSome node.old.player (λ p. IsPlayerOf ack_of p.me p.round p.acks node.old.store.dealings 0) }
     requires valid { IfSome (seat_in node.old.player) (λ seat. AreValid seat node.old.store.dealings) }
-    requires ready { IsTrue D.tells → IsReady node.old.store.journal.place (D.files devices.old.disk.now) (D.image devices.old.disk.now) }
+    requires ready { IsTrue D.tells → IsReady node.old.store.journal (D.files devices.old.disk.now) (D.image devices.old.disk.now) }
     ensures plays { IfSome node.new.player (λ p. Contains p.round.players p.me) }
     ensures answers { IfSome node.new.player (λ p. IsPlayerOf ack_of p.me p.round p.acks node.new.store.dealings 0) }
     ensures valid { IfSome (seat_in node.new.player) (λ seat. AreValid seat node.new.store.dealings) }
     ensures seat { seat_in node.new.player ≡ seat_in node.old.player }
     ensures limit { node.new.limit ≡ node.old.limit }
-    ensures ready { OnOk result (IsTrue D.tells → IsReady node.new.store.journal.place (D.files devices.new.disk.now) (D.image devices.new.disk.now)) }
-    ensures today { IsTrue D.tells → IsToday (D.image devices.new.disk.now) }
+    ensures ready { OnOk result (IsTrue D.tells → IsReady node.new.store.journal (D.files devices.new.disk.now) (D.image devices.new.disk.now)) }
     ensures same_disk { devices.new.disk.ghost_name ≡ devices.old.disk.ghost_name }
     ensures same_secrets { devices.new.secrets.ghost_name ≡ devices.old.secrets.ghost_name }
     // Where the entries stand, as the l-th life of any script.
@@ -241,8 +239,7 @@ fn take_steps<D: Disk, X: SecretStore>(
     requires plays { IfSome node.old.player (λ p. Contains p.round.players p.me) }
     requires answers { IfSome node.old.player (λ p. IsPlayerOf ack_of p.me p.round p.acks node.old.store.dealings 0) }
     requires valid { IfSome (seat_in node.old.player) (λ seat. AreValid seat node.old.store.dealings) }
-    requires ready { IsTrue D.tells → IsReady node.old.store.journal.place (D.files devices.old.disk.now) (D.image devices.old.disk.now) }
-    ensures today { IsTrue D.tells → IsToday (D.image devices.new.disk.now) }
+    requires ready { IsTrue D.tells → IsReady node.old.store.journal (D.files devices.old.disk.now) (D.image devices.old.disk.now) }
     ensures same_disk { devices.new.disk.ghost_name ≡ devices.old.disk.ghost_name }
     ensures same_secrets { devices.new.secrets.ghost_name ≡ devices.old.secrets.ghost_name }
     ensures done { OnOk result ((l : ℕ) → Moves IsInOrder (IsBehind life.now l 0) (IsBetween (l + 1)) out.old.entries out.new.entries) }
@@ -273,11 +270,9 @@ fn open<D: Disk, X: SecretStore>(
     devices: &mut Devices<'_, D, X>,
     out: &mut Transcript,
 ) -> Result<Node, Stop>
-    requires today { IsTrue D.tells → IsToday (D.image devices.old.disk.now) }
     ensures plays { IfOk result (λ node. IfSome node.player (λ p. Contains p.round.players p.me)) }
     ensures answers { IfOk result (λ node. IfSome node.player (λ p. IsPlayerOf ack_of p.me p.round p.acks node.store.dealings 0)) }
-    ensures ready { IfOk result (λ node. IsTrue D.tells → IsReady node.store.journal.place (D.files devices.new.disk.now) (D.image devices.new.disk.now)) }
-    ensures today { IsTrue D.tells → IsToday (D.image devices.new.disk.now) }
+    ensures ready { IfOk result (λ node. IsTrue D.tells → IsReady node.store.journal (D.files devices.new.disk.now) (D.image devices.new.disk.now)) }
     ensures same_disk { devices.new.disk.ghost_name ≡ devices.old.disk.ghost_name }
     ensures same_secrets { devices.new.secrets.ghost_name ≡ devices.old.secrets.ghost_name }
     ensures done { OnOk result (Moves IsInOrder (IsBefore life.now number 0) (IsBehind life.now number 0) out.old.entries out.new.entries) }
@@ -315,8 +310,6 @@ fn live<D: Disk, X: SecretStore>(
     out: &mut Transcript,
 ) -> Result<(), Stop>
     requires events { AllByRecursion (IsEventHere beginning.now.blocks.items) life.now.events }
-    requires today { IsTrue D.tells → IsToday (D.image devices.old.disk.now) }
-    ensures today { IsTrue D.tells → IsToday (D.image devices.new.disk.now) }
     ensures same_disk { devices.new.disk.ghost_name ≡ devices.old.disk.ghost_name }
     ensures same_secrets { devices.new.secrets.ghost_name ≡ devices.old.secrets.ghost_name }
     ensures done { OnOk result (Moves IsInOrder (IsBefore life.now number 0) (IsBetween (number + 1)) out.old.entries out.new.entries) }
@@ -343,8 +336,6 @@ fn end_cut<D: Disk, X: SecretStore>(
     devices: &mut Devices<'_, D, X>,
     out: &mut Transcript,
 ) -> Result<(), Fault>
-    requires today { IsTrue D.tells → IsToday (D.image devices.old.disk.now) }
-    ensures today { IsTrue D.tells → IsToday (D.image devices.new.disk.now) }
     ensures same_disk { devices.new.disk.ghost_name ≡ devices.old.disk.ghost_name }
     ensures same_secrets { devices.new.secrets.ghost_name ≡ devices.old.secrets.ghost_name }
     ensures told { OnOk result (IfSome cut.now (λ its. out.new.entries ≡ out.old.entries ++ Entry.Cut its.step its.call ∷ [])) }
@@ -380,8 +371,6 @@ fn run_life<D: Disk, X: SecretStore>(
     out: &mut Transcript,
 ) -> Result<(), Fault>
     requires events { AllByRecursion (IsEventHere beginning.now.blocks.items) life.now.events }
-    requires today { IsTrue D.tells → IsToday (D.image devices.old.disk.now) }
-    ensures today { IsTrue D.tells → IsToday (D.image devices.new.disk.now) }
     ensures same_disk { devices.new.disk.ghost_name ≡ devices.old.disk.ghost_name }
     ensures same_secrets { devices.new.secrets.ghost_name ≡ devices.old.secrets.ghost_name }
     ensures done { OnOk result (Moves IsInOrder (IsBefore life.now number 0) (IsBetween (number + 1)) out.old.entries out.new.entries) }
@@ -418,8 +407,6 @@ fn run_all<D: Disk, X: SecretStore>(
     out: &mut Transcript,
 ) -> Result<(), Fault>
     requires form { IsFormOfToday script.now }
-    requires today { IsTrue D.tells → IsToday (D.image devices.old.disk.now) }
-    ensures today { IsTrue D.tells → IsToday (D.image devices.new.disk.now) }
     ensures same_disk { devices.new.disk.ghost_name ≡ devices.old.disk.ghost_name }
     ensures same_secrets { devices.new.secrets.ghost_name ≡ devices.old.secrets.ghost_name }
     ensures done { OnOk result (Moves IsInOrder (IsBetweenOf script.now 0) (IsBetweenOf script.now (length script.now.lives)) out.old.entries out.new.entries) }
@@ -469,8 +456,6 @@ pub fn run_lives<D: Disk, X: SecretStore>(
     out: &mut Transcript,
 ) -> Result<(), Fault>
     requires form { IsFormOfToday script.now }
-    requires today { IsTrue D.tells → IsToday (D.image disk.old) }
-    ensures today { IsTrue D.tells → IsToday (D.image disk.new) }
     // Whatever ends the run, the new entries are in order, and at Ok every life was run.
     ensures in_order { Adds out.old.entries out.new.entries (RunsInOrder script.now) }
     ensures all { OnOk result (Adds out.old.entries out.new.entries (RunsAll script.now)) }

@@ -1,6 +1,5 @@
 //! The devices of a program that begins with nothing.
 ghost use Rattle.dkg_journal.specs.Table.{contents, RowsImage};
-ghost use Rattle.dkg_run.specs.Devices.{IsToday};
 ghost use Rattle.dkg_run.specs.Fresh.{AreFresh};
 
 use dkg_journal::MemoryDisk;
@@ -9,9 +8,7 @@ use std::alloc::Global;
 
 /// An empty disk and an empty secret store in memory, which never fail. They meet what a run asks of its devices, whatever the
 /// script.
-#[tactic(auto, using(crate::proofs::Today::empty_today))]
 pub fn fresh_devices(alloc: Global) -> (MemoryDisk, MemorySecrets)
-    ensures today { IsToday (RowsImage result.0.disk.files) }
     ensures fresh { AreFresh (contents result.0.disk.files) (RowsImage result.0.disk.files) result.1.held }
 {
     (MemoryDisk::new(alloc), MemorySecrets::new(alloc))

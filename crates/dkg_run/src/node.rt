@@ -19,7 +19,7 @@ ghost use Rattle.dkg_store.specs.Pairs.{Pairs, Holds, IsWhole};
 ghost use Rattle.dkg_store.specs.Player.{IsPlayerOf};
 ghost use Rattle.dkg_store.specs.Secrets.{Secrets};
 ghost use Rattle.dkg_script.specs.Setting.{listed, recovered_from};
-ghost use Rattle.dkg_run.specs.Devices.{IsToday, IsReady, KeepsLogs};
+ghost use Rattle.dkg_run.specs.Devices.{IsReady, KeepsLogs};
 ghost use Rattle.dkg_run.specs.Found.{BlamesNoRecord, GiveBack, IsFound, Reader, made_by, reader_of};
 ghost use Rattle.dkg_run.specs.Passing.{ArePassing, HoldsPassing};
 ghost use Rattle.dkg_run.specs.Refusals.{IsRefusal};
@@ -99,9 +99,7 @@ fn open_store<D: Disk, X: SecretStore>(
     devices: &mut Devices<'_, D, X>,
     out: &mut Transcript,
 ) -> Result<Store<Unit>, Stop>
-    requires today { IsTrue D.tells → IsToday (D.image devices.old.disk.now) }
-    ensures ready { IfOk result (λ store. IsTrue D.tells → IsReady store.journal.place (D.files devices.new.disk.now) (D.image devices.new.disk.now)) }
-    ensures today { IsTrue D.tells → IsToday (D.image devices.new.disk.now) }
+    ensures ready { IfOk result (λ store. IsTrue D.tells → IsReady store.journal (D.files devices.new.disk.now) (D.image devices.new.disk.now)) }
     ensures same_disk { devices.new.disk.ghost_name ≡ devices.old.disk.ghost_name }
     ensures same_secrets { devices.new.secrets.ghost_name ≡ devices.old.secrets.ghost_name }
     ensures opened { OnOk result (AddsOpening life out.old.entries out.new.entries) }
@@ -292,9 +290,8 @@ fn prune<D: Disk, X: SecretStore>(
     store: &mut Store<Unit>,
     devices: &mut Devices<'_, D, X>,
 ) -> Result<(), Stop>
-    requires ready { IsTrue D.tells → IsReady store.old.journal.place (D.files devices.old.disk.now) (D.image devices.old.disk.now) }
-    ensures ready { OnOk result (IsTrue D.tells → IsReady store.new.journal.place (D.files devices.new.disk.now) (D.image devices.new.disk.now)) }
-    ensures today { IsTrue D.tells → IsToday (D.image devices.new.disk.now) }
+    requires ready { IsTrue D.tells → IsReady store.old.journal (D.files devices.old.disk.now) (D.image devices.old.disk.now) }
+    ensures ready { OnOk result (IsTrue D.tells → IsReady store.new.journal (D.files devices.new.disk.now) (D.image devices.new.disk.now)) }
     ensures same_disk { devices.new.disk.ghost_name ≡ devices.old.disk.ghost_name }
     ensures same_secrets { devices.new.secrets.ghost_name ≡ devices.old.secrets.ghost_name }
     ensures dealings { store.new.dealings ≡ store.old.dealings }
@@ -322,11 +319,10 @@ fn enter<D: Disk, X: SecretStore>(
     devices: &mut Devices<'_, D, X>,
     out: &mut Transcript,
 ) -> Result<Node, Stop>
-    requires ready { IsTrue D.tells → IsReady store.journal.place (D.files devices.old.disk.now) (D.image devices.old.disk.now) }
+    requires ready { IsTrue D.tells → IsReady store.journal (D.files devices.old.disk.now) (D.image devices.old.disk.now) }
     ensures plays { IfOk result (λ node. IfSome node.player (λ p. Contains p.round.players p.me)) }
     ensures answers { IfOk result (λ node. IfSome node.player (λ p. IsPlayerOf ack_of p.me p.round p.acks node.store.dealings 0)) }
-    ensures ready { IfOk result (λ node. IsTrue D.tells → IsReady node.store.journal.place (D.files devices.new.disk.now) (D.image devices.new.disk.now)) }
-    ensures today { IsTrue D.tells → IsToday (D.image devices.new.disk.now) }
+    ensures ready { IfOk result (λ node. IsTrue D.tells → IsReady node.store.journal (D.files devices.new.disk.now) (D.image devices.new.disk.now)) }
     ensures same_disk { devices.new.disk.ghost_name ≡ devices.old.disk.ghost_name }
     ensures same_secrets { devices.new.secrets.ghost_name ≡ devices.old.secrets.ghost_name }
     ensures quiet { AddsQuiet out.old.entries out.new.entries }
@@ -371,11 +367,10 @@ fn set_up<D: Disk, X: SecretStore>(
     devices: &mut Devices<'_, D, X>,
     out: &mut Transcript,
 ) -> Result<Node, Stop>
-    requires ready { IsTrue D.tells → IsReady store.journal.place (D.files devices.old.disk.now) (D.image devices.old.disk.now) }
+    requires ready { IsTrue D.tells → IsReady store.journal (D.files devices.old.disk.now) (D.image devices.old.disk.now) }
     ensures plays { IfOk result (λ node. IfSome node.player (λ p. Contains p.round.players p.me)) }
     ensures answers { IfOk result (λ node. IfSome node.player (λ p. IsPlayerOf ack_of p.me p.round p.acks node.store.dealings 0)) }
-    ensures ready { IfOk result (λ node. IsTrue D.tells → IsReady node.store.journal.place (D.files devices.new.disk.now) (D.image devices.new.disk.now)) }
-    ensures today { IsTrue D.tells → IsToday (D.image devices.new.disk.now) }
+    ensures ready { IfOk result (λ node. IsTrue D.tells → IsReady node.store.journal (D.files devices.new.disk.now) (D.image devices.new.disk.now)) }
     ensures same_disk { devices.new.disk.ghost_name ≡ devices.old.disk.ghost_name }
     ensures same_secrets { devices.new.secrets.ghost_name ≡ devices.old.secrets.ghost_name }
     ensures quiet { AddsQuiet out.old.entries out.new.entries }
@@ -421,11 +416,9 @@ impl Node {
         devices: &mut Devices<'_, D, X>,
         out: &mut Transcript,
     ) -> Result<Node, Stop>
-        requires today { IsTrue D.tells → IsToday (D.image devices.old.disk.now) }
         ensures plays { IfOk result (λ node. IfSome node.player (λ p. Contains p.round.players p.me)) }
-        ensures ready { IfOk result (λ node. IsTrue D.tells → IsReady node.store.journal.place (D.files devices.new.disk.now) (D.image devices.new.disk.now)) }
+        ensures ready { IfOk result (λ node. IsTrue D.tells → IsReady node.store.journal (D.files devices.new.disk.now) (D.image devices.new.disk.now)) }
         ensures answers { IfOk result (λ node. IfSome node.player (λ p. IsPlayerOf ack_of p.me p.round p.acks node.store.dealings 0)) }
-        ensures today { IsTrue D.tells → IsToday (D.image devices.new.disk.now) }
         ensures same_disk { devices.new.disk.ghost_name ≡ devices.old.disk.ghost_name }
         ensures same_secrets { devices.new.secrets.ghost_name ≡ devices.old.secrets.ghost_name }
         // The life's Opened entry comes first. An opening that fails before it tells nothing.
@@ -477,11 +470,10 @@ impl Node {
         requires plays { IfSome self.old.player (λ p. Contains p.round.players p.me) }
         requires answers { IfSome self.old.player (λ p. IsPlayerOf ack_of p.me p.round p.acks self.old.store.dealings 0) }
         requires valid { IfSome (seat_in self.old.player) (λ seat. AreValid seat self.old.store.dealings) }
-        requires ready { IsTrue D.tells → IsReady self.old.store.journal.place (D.files devices.old.disk.now) (D.image devices.old.disk.now) }
+        requires ready { IsTrue D.tells → IsReady self.old.store.journal (D.files devices.old.disk.now) (D.image devices.old.disk.now) }
         ensures plays { IfSome self.new.player (λ p. Contains p.round.players p.me) }
         ensures answers { IfSome self.new.player (λ p. IsPlayerOf ack_of p.me p.round p.acks self.new.store.dealings 0) }
-        ensures ready { OnOk result (IsTrue D.tells → IsReady self.new.store.journal.place (D.files devices.new.disk.now) (D.image devices.new.disk.now)) }
-        ensures today { IsTrue D.tells → IsToday (D.image devices.new.disk.now) }
+        ensures ready { OnOk result (IsTrue D.tells → IsReady self.new.store.journal (D.files devices.new.disk.now) (D.image devices.new.disk.now)) }
         ensures same_disk { devices.new.disk.ghost_name ≡ devices.old.disk.ghost_name }
         ensures same_secrets { devices.new.secrets.ghost_name ≡ devices.old.secrets.ghost_name }
         ensures quiet { AddsQuiet out.old.entries out.new.entries }
@@ -557,11 +549,10 @@ impl Node {
         requires plays { IfSome self.old.player (λ p. Contains p.round.players p.me) }
         requires answers { IfSome self.old.player (λ p. IsPlayerOf ack_of p.me p.round p.acks self.old.store.dealings 0) }
         requires valid { IfSome (seat_in self.old.player) (λ seat. AreValid seat self.old.store.dealings) }
-        requires ready { IsTrue D.tells → IsReady self.old.store.journal.place (D.files devices.old.disk.now) (D.image devices.old.disk.now) }
+        requires ready { IsTrue D.tells → IsReady self.old.store.journal (D.files devices.old.disk.now) (D.image devices.old.disk.now) }
         ensures plays { IfSome self.new.player (λ p. Contains p.round.players p.me) }
         ensures answers { IfSome self.new.player (λ p. IsPlayerOf ack_of p.me p.round p.acks self.new.store.dealings 0) }
-        ensures ready { OnOk result (IsTrue D.tells → IsReady self.new.store.journal.place (D.files devices.new.disk.now) (D.image devices.new.disk.now)) }
-        ensures today { IsTrue D.tells → IsToday (D.image devices.new.disk.now) }
+        ensures ready { OnOk result (IsTrue D.tells → IsReady self.new.store.journal (D.files devices.new.disk.now) (D.image devices.new.disk.now)) }
         ensures same_disk { devices.new.disk.ghost_name ≡ devices.old.disk.ghost_name }
         ensures same_secrets { devices.new.secrets.ghost_name ≡ devices.old.secrets.ghost_name }
         ensures quiet { AddsQuiet out.old.entries out.new.entries }
@@ -616,12 +607,11 @@ fn handle<D: Disk, X: SecretStore>(
     requires plays { Contains player.old.round.players player.old.me }
     requires signs { signer.now ≡ player.old.me }
     requires answers { IsPlayerOf ack_of player.old.me player.old.round player.old.acks store.old.dealings 0 }
-    requires ready { IsTrue D.tells → IsReady store.old.journal.place (D.files devices.old.disk.now) (D.image devices.old.disk.now) }
+    requires ready { IsTrue D.tells → IsReady store.old.journal (D.files devices.old.disk.now) (D.image devices.old.disk.now) }
     ensures me { player.new.me ≡ player.old.me }
     ensures round { player.new.round ≡ player.old.round }
     ensures answers { IsPlayerOf ack_of player.new.me player.new.round player.new.acks store.new.dealings 0 }
-    ensures ready { OnOk result (IsTrue D.tells → IsReady store.new.journal.place (D.files devices.new.disk.now) (D.image devices.new.disk.now)) }
-    ensures today { IsTrue D.tells → IsToday (D.image devices.new.disk.now) }
+    ensures ready { OnOk result (IsTrue D.tells → IsReady store.new.journal (D.files devices.new.disk.now) (D.image devices.new.disk.now)) }
     ensures same_disk { devices.new.disk.ghost_name ≡ devices.old.disk.ghost_name }
     ensures same_secrets { devices.new.secrets.ghost_name ≡ devices.old.secrets.ghost_name }
     ensures quiet { AddsQuiet out.old.entries out.new.entries }

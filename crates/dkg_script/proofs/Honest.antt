@@ -6,7 +6,7 @@ use Rattle.dkg_values.specs.Bytes.{byte_at}
 use Rattle.dkg_values.specs.Codec.{many_at}
 use Rattle.dkg_values.specs.Lists.{keys_at}
 use Rattle.dkg_values.specs.Uint.{groups_at}
-use Rattle.dkg_values.specs.declared.name.Name.TheVariants.{Plan, Segment}
+use Rattle.dkg_values.specs.declared.name.Name.TheVariants.{Plan}
 use Rattle.dkg_ceremony.specs.Modes.{mode_at}
 use Rattle.dkg_journal.specs.Names.{name_cmp}
 use Rattle.dkg_journal.specs.Records.{Entry}
@@ -46,12 +46,11 @@ two_is_built = record {
     lives = (record { anchor = tt; holds = refl; no_sync = refl; events = (tt, tt) }, (record { anchor = tt; holds = refl; no_sync = refl; events = tt }, tt));
   };
   no_plan = get-empty name_cmp Plan;
-  no_segment = record { no_segment = λ section. get-empty name_cmp (Segment section) };
 }
 
 -- THE SOURCE, in each case of the plan, however its lives end
 built_in : (plans : List (Option Material)) → IsBuilt (with_plans (setting two) plans)
-built_in plans = record { form = two_is_built.form; no_plan = two_is_built.no_plan; no_segment = two_is_built.no_segment }
+built_in plans = record { form = two_is_built.form; no_plan = two_is_built.no_plan }
 
 pub consistent_in : (plans : List (Option Material)) (ends : List (Option CutAt)) → IsPlanHistory (with_plans (setting two) plans) ends → IsConsistentScript (with_plans (setting two) plans) ends
 unfolding used info_in payload_after carried_at parts_at held_at outcome_after mode_at byte_at many_at keys_at groups_at
@@ -87,7 +86,6 @@ install_is_built plans = record {
     lives = (record { anchor = tt; holds = refl; no_sync = refl; events = (tt, tt) }, (record { anchor = tt; holds = refl; no_sync = refl; events = (tt, tt) }, (record { anchor = tt; holds = refl; no_sync = refl; events = tt }, tt)));
   };
   no_plan = get-empty name_cmp Plan;
-  no_segment = record { no_segment = λ section. get-empty name_cmp (Segment section) };
 }
 
 install_in : (plans : List (Option Material)) (ends : List (Option CutAt)) → IsPlanHistory (with_plans (setting at_install) plans) ends → IsConsistentScript (with_plans (setting at_install) plans) ends
@@ -114,7 +112,6 @@ gate_is_built plans = record {
     lives = (record { anchor = tt; holds = refl; no_sync = refl; events = (tt, tt) }, (record { anchor = tt; holds = refl; no_sync = refl; events = tt }, tt));
   };
   no_plan = get-empty name_cmp Plan;
-  no_segment = record { no_segment = λ section. get-empty name_cmp (Segment section) };
 }
 
 gate_in : (plans : List (Option Material)) (ends : List (Option CutAt)) → IsPlanHistory (with_plans (setting at_gate) plans) ends → IsConsistentScript (with_plans (setting at_gate) plans) ends

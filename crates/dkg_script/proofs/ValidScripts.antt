@@ -6,7 +6,7 @@ use Rattle.dkg_values.specs.Bytes.{byte_at}
 use Rattle.dkg_values.specs.Codec.{many_at}
 use Rattle.dkg_values.specs.Lists.{keys_at}
 use Rattle.dkg_values.specs.Uint.{groups_at}
-use Rattle.dkg_values.specs.declared.name.Name.TheVariants.{Plan, Segment}
+use Rattle.dkg_values.specs.declared.name.Name.TheVariants.{Plan}
 use Rattle.dkg_ceremony.specs.Modes.{mode_at}
 use Rattle.dkg_ceremony.specs.Rounds.{round_of}
 use Rattle.dkg_journal.specs.Names.{name_cmp}
@@ -108,7 +108,6 @@ module _ (plans : List (Option Material)) where
       lives = (record { anchor = tt; holds = refl; no_sync = refl; events = (lit< tt, (lit< tt, tt)) }, tt);
     };
     no_plan = get-empty name_cmp Plan;
-    no_segment = record { no_segment = λ section. get-empty name_cmp (Segment section) };
   }
 
   delivering_consistent : (ends : List (Option CutAt)) → IsPlanHistory case ends → IsConsistentScript case ends

@@ -4,7 +4,6 @@ use Rattle.std.specs.FinMap.{get}
 use Rattle.dkg_values.specs.declared.name.Name.TheVariants.{Plan}
 use Rattle.dkg_journal.specs.Disk.{Lands}
 use Rattle.dkg_journal.specs.Names.{Files}
-use Rattle.dkg_journal.specs.Opening as opening
 use Rattle.dkg_journal.specs.Records.{entries}
 use Rattle.dkg_store.specs.Pairs.{IsWhole}
 use Rattle.dkg_store.specs.Secrets.{Secrets}
@@ -45,11 +44,10 @@ pub record AreHonestStores (s : Setting) (image : Files → Type 0) : Type 0 whe
   pub whole : IsWhole (entries s.files) s.secrets
   pub nothing_loose : Lands s.files image
 
--- What is built today: the form of script that is read, no plan, and the flat journal alone.
+-- What is built today: the form of script that is read, and no plan.
 pub record IsBuilt (s : Setting) : Type 0 where
   pub form : IsFormOfToday s.script
   pub no_plan : get s.files Plan ≡ None
-  pub no_segment : opening.IsFormOfToday s.files
 
 -- The premise of the whole promise, of the stores and the script alone: the script is consistent wherever its cuts fall.
 pub record IsHonestRun (s : Setting) (image : Files → Type 0) : Type 0 where

@@ -4,12 +4,12 @@ use Rattle.dkg_journal.specs.Burn.{Burn}
 use Rattle.dkg_journal.specs.Errors.{IsOfDevice}
 use Rattle.dkg_journal.specs.Fuse.{spent_once}
 use Rattle.dkg_journal.specs.Names.{Files}
-use Rattle.dkg_journal.specs.Operations as today
+use Rattle.dkg_journal.specs.Operations as of_disk
 use Rattle.dkg_journal.specs.Records.{Entry}
 use Rattle.dkg_journal.specs.declared.call.JournalError.{JournalError}
 use Rattle.dkg_journal.specs.declared.call.JournalError.TheVariants as of_journal
 use Rattle.dkg_types.specs.declared.entry.Entry.{Entry as Line}
-use Rattle.dkg_store.specs.DiskOps.{Appends}
+use Rattle.dkg_journal.specs.Operations.{Appends}
 use Rattle.dkg_store.specs.Secrets.{Secrets, Tries, after}
 use Rattle.dkg_store.specs.Acts.{Acts, Goes, bind, OnDisk, Changes, Cause, EndsBy, IsBetween, Ended, broken, went, Stands, Moment, moment, MadeAt}
 use Rattle.dkg_store.specs.Calls.{appended, put_and_appended, ended_as, by_error, cause_of}
@@ -18,7 +18,7 @@ use Rattle.dkg_store.specs.declared.call.StoreError.{StoreError}
 use Rattle.dkg_store.specs.declared.call.StoreError.TheVariants.{Disk, Secrets as OfSecrets, Corrupt, LocalState, StateSyncEpochs, StateSyncMaterial, Cut, NoMemory}
 use Rattle.dkg_store.specs.declared.secrets.SecretOp.{SecretOp}
 use Rattle.dkg_store.proofs.Acts.{made_broken, made_next}
-use Rattle.dkg_store.proofs.Making.{one, disk_done, disk_torn, secret_done, secret_torn, append_tried, append_finished}
+use Rattle.dkg_store.proofs.Making.{one, disk_done, disk_torn, secret_done, secret_torn}
 
 -- WHICH ERRORS BREAK ACTS OFF
 
@@ -76,25 +76,25 @@ module _ {S : Type 0} (op : SecretOp) (e : Entry) (end : S) {files : Files} {ima
   put_torn cause is tries once ends = first_broken (appends e end) is (secret_torn op tt cause refl tries once ends)
 
   -- the put is done, and the append was ended within
-  pub append_torn : {files_now : Files} {next : Files → Type 0} {h : Burn} {how : Ended StoreError S} (cause : Cause) → how ≡ broken cause → now ≡ after op s → g ≡ spent_once f → (Stands files image → today.Tried (today.Appends e) files next g h) → EndsBy cause g h
+  pub append_torn : {files_now : Files} {next : Files → Type 0} {h : Burn} {how : Ended StoreError S} (cause : Cause) → how ≡ broken cause → now ≡ after op s → g ≡ spent_once f → (Stands files image → of_disk.Tried (of_disk.Appends e) files next g h) → EndsBy cause g h
       → MadeAt (put_and_appended op e end) how files image files_now next (moment out s f) (moment out now h)
-  append_torn cause is done once tried ends = made_next (appends e end) (secret_done op tt refl done once) (disk_torn (Appends e) end cause is (λ stands. append_tried e (tried stands)) ends)
+  append_torn cause is done once tried ends = made_next (appends e end) (secret_done op tt refl done once) (disk_torn (Appends e) end cause is tried ends)
 
   -- both are done
-  pub both_done : {files_now : Files} {next : Files → Type 0} {h : Burn} {how : Ended StoreError S} → how ≡ went end → now ≡ after op s → g ≡ spent_once f → (Stands files image → today.Finished (today.Appends e) files files_now next g h) → next files_now
+  pub both_done : {files_now : Files} {next : Files → Type 0} {h : Burn} {how : Ended StoreError S} → how ≡ went end → now ≡ after op s → g ≡ spent_once f → (Stands files image → of_disk.Finished (of_disk.Appends e) files files_now next g h) → next files_now
       → MadeAt (put_and_appended op e end) how files image files_now next (moment out s f) (moment out now h)
-  both_done is done once finished itself = made_next (appends e end) (secret_done op tt refl done once) (disk_done (Appends e) end is (λ stands. append_finished e (finished stands)) itself)
+  both_done is done once finished itself = made_next (appends e end) (secret_done op tt refl done once) (disk_done (Appends e) end is finished itself)
 
 -- AN APPEND ALONE
 
 module _ {S : Type 0} (e : Entry) (end : S) {files files_now : Files} {image next : Files → Type 0} {out : List Line} {s : Secrets} {f g : Burn} where
-  pub alone_torn : {how : Ended StoreError S} (cause : Cause) → how ≡ broken cause → (Stands files image → today.Tried (today.Appends e) files next f g) → EndsBy cause f g
+  pub alone_torn : {how : Ended StoreError S} (cause : Cause) → how ≡ broken cause → (Stands files image → of_disk.Tried (of_disk.Appends e) files next f g) → EndsBy cause f g
       → MadeAt (appended e end) how files image files_now next (moment out s f) (moment out s g)
-  alone_torn cause is tried ends = disk_torn (Appends e) end cause is (λ stands. append_tried e (tried stands)) ends
+  alone_torn cause is tried ends = disk_torn (Appends e) end cause is tried ends
 
-  pub alone_done : {how : Ended StoreError S} → how ≡ went end → (Stands files image → today.Finished (today.Appends e) files files_now next f g) → next files_now
+  pub alone_done : {how : Ended StoreError S} → how ≡ went end → (Stands files image → of_disk.Finished (of_disk.Appends e) files files_now next f g) → next files_now
       → MadeAt (appended e end) how files image files_now next (moment out s f) (moment out s g)
-  alone_done is finished itself = disk_done (Appends e) end is (λ stands. append_finished e (finished stands)) itself
+  alone_done is finished itself = disk_done (Appends e) end is finished itself
 
 -- the same entry
 pub alone_alike : {S : Type 0} {section section_too : ℕ} {body body_too : List ℕ} {end : S} {how : Ended StoreError S} {files files_now : Files} {image next : Files → Type 0} {old new : Moment} → section ≡ section_too → body ≡ body_too

@@ -4,7 +4,7 @@ use Rattle.std.specs.Prelude.{MatchResult}
 use Rattle.dkg_values.specs.declared.name.Name.{Name}
 use Rattle.dkg_values.specs.declared.name.Name.TheVariants.{Flat}
 use Rattle.dkg_journal.specs.Names.{Files}
-use Rattle.dkg_journal.specs.Gated.{OpensAlike, gated, gated_entries}
+use Rattle.dkg_journal.specs.Gated.{OpensAlike, gated, gated_entries, gated_of}
 use Rattle.dkg_journal.specs.Opening.{broken}
 use Rattle.dkg_journal.specs.Records.{Entry}
 use Rattle.dkg_journal.specs.declared.opening.JournalEntry.{JournalEntry}
@@ -39,11 +39,11 @@ ungated_all (e ∷ es) = ap (λ (l : List JournalEntry). e ∷ l) (ungated_all e
 one_reading : (xs ys : List JournalEntry) → map gated xs ≡ map gated ys → xs ≡ ys
 one_reading xs ys same = sym (ungated_all xs) ∙ ap (map ungated) same ∙ ungated_all ys
 
-some_is : (p q : ℕ) (o : Option ℕ) → o ≡ Some p → o ≡ Some q → p ≡ q
-some_is p q o one other = let h : ◌≡◌ {A = Option ℕ} (Some p) (Some q) = sym one ∙ other in cc
+some_is : {A : Type 0} (p q : A) (o : Option A) → o ≡ Some p → o ≡ Some q → p ≡ q
+some_is {A} p q o one other = let h : ◌≡◌ {A = Option A} (Some p) (Some q) = sym one ∙ other in cc
 
 module _ (limit : ℕ) (files : Files) where
-  pub one_place : (p q : ℕ) → IsCorruptAt limit files p → IsCorruptAt limit files q → p ≡ q
+  pub one_place : (p q : Name × ℕ) → IsCorruptAt limit files p.0 p.1 → IsCorruptAt limit files q.0 q.1 → p ≡ q
   one_place p q one other = elim one.so [
     | inl torn ↦ elim other.so [
       | inl torn_too ↦ some_is p q (broken files) torn torn_too
@@ -56,30 +56,30 @@ module _ (limit : ℕ) (files : Files) where
   ]
 
   -- the first of these entries that is no event
-  pub corrupt_at : (es : List JournalEntry) (place : ℕ) → broken files ≡ None → map gated es ≡ gated_entries files → no_event_at limit es ≡ Some place → IsCorruptAt limit files place
-  corrupt_at es place whole are first = record { so = inr (whole, record { read = es; are = are; first = first }) }
+  pub corrupt_at : (es : List JournalEntry) (name : Name) (place : ℕ) → broken files ≡ None → map gated es ≡ gated_entries files → no_event_at limit es ≡ Some (name, place) → IsCorruptAt limit files name place
+  corrupt_at es name place whole are first = record { so = inr (whole, record { read = es; are = are; first = first }) }
 
   -- where all are events, there is none
-  pub none_corrupt : (es : List JournalEntry) (place : ℕ) → broken files ≡ None → map gated es ≡ gated_entries files → no_event_at limit es ≡ None → IsCorruptAt limit files place → ⊥
-  none_corrupt es place whole are none at = elim at.so [
-    | inl torn ↦ no_place (broken files) place torn whole
-    | inr other ↦ no_place (no_event_at limit other.1.read) place other.1.first (ap (no_event_at limit) (one_reading other.1.read es (other.1.are ∙ sym are)) ∙ none)
+  pub none_corrupt : (es : List JournalEntry) (name : Name) (place : ℕ) → broken files ≡ None → map gated es ≡ gated_entries files → no_event_at limit es ≡ None → IsCorruptAt limit files name place → ⊥
+  none_corrupt es name place whole are none at = elim at.so [
+    | inl torn ↦ no_place (broken files) (name, place) torn whole
+    | inr other ↦ no_place (no_event_at limit other.1.read) (name, place) other.1.first (ap (no_event_at limit) (one_reading other.1.read es (other.1.are ∙ sym are)) ∙ none)
   ]
 
   -- an error of opening is Corrupt there, or of a device
-  answer : (e : StoreError) → IsOfOpening e → ((name : Name) (place : ℕ) → e ≡ Corrupt name place → (name ≡ Flat) × IsCorruptAt limit files place) → (place : ℕ) → IsCorruptAt limit files place → (e ≡ Corrupt Flat place) ⊎ IsOfDevices e
-  answer Disk kinds told place at = inr tt
-  answer OfSecrets kinds told place at = inr tt
-  answer Cut kinds told place at = inr tt
-  answer NoMemory kinds told place at = inr tt
-  answer (Corrupt name q) kinds told place at = let is = told name q refl in inl (λ i. Corrupt (is.0 i) (one_place q place is.1 at i))
-  answer (LocalState cause) kinds told place at = absurd kinds
-  answer (StateSyncEpochs info floor) kinds told place at = absurd kinds
-  answer StateSyncMaterial kinds told place at = absurd kinds
+  answer : (e : StoreError) → IsOfOpening e → ((name : Name) (place : ℕ) → e ≡ Corrupt name place → IsCorruptAt limit files name place) → (name : Name) (place : ℕ) → IsCorruptAt limit files name place → (e ≡ Corrupt name place) ⊎ IsOfDevices e
+  answer Disk kinds told name place at = inr tt
+  answer OfSecrets kinds told name place at = inr tt
+  answer Cut kinds told name place at = inr tt
+  answer NoMemory kinds told name place at = inr tt
+  answer (Corrupt its q) kinds told name place at = let same = one_place (its, q) (name, place) (told its q refl) at in inl (λ i. Corrupt (same i).0 (same i).1)
+  answer (LocalState cause) kinds told name place at = absurd kinds
+  answer (StateSyncEpochs info floor) kinds told name place at = absurd kinds
+  answer StateSyncMaterial kinds told name place at = absurd kinds
 
-  pub answered : {T : Type 0} (r : Result T StoreError) (e : StoreError) → r ≡ Err e → IsOfOpening e → ((name : Name) (place : ℕ) → e ≡ Corrupt name place → (name ≡ Flat) × IsCorruptAt limit files place) → (place : ℕ) → IsCorruptAt limit files place
-      → MatchResult r (λ x. ⊥) (λ x. (x ≡ Corrupt Flat place) ⊎ IsOfDevices x)
-  answered {T} r e is kinds told place at = subst (λ (x : Result T StoreError). MatchResult x (λ y. ⊥) (λ y. (y ≡ Corrupt Flat place) ⊎ IsOfDevices y)) (sym is) (answer e kinds told place at)
+  pub answered : {T : Type 0} (r : Result T StoreError) (e : StoreError) → r ≡ Err e → IsOfOpening e → ((name : Name) (place : ℕ) → e ≡ Corrupt name place → IsCorruptAt limit files name place) → (name : Name) (place : ℕ) → IsCorruptAt limit files name place
+      → MatchResult r (λ x. ⊥) (λ x. (x ≡ Corrupt name place) ⊎ IsOfDevices x)
+  answered {T} r e is kinds told name place at = subst (λ (x : Result T StoreError). MatchResult x (λ y. ⊥) (λ y. (y ≡ Corrupt name place) ⊎ IsOfDevices y)) (sym is) (answer e kinds told name place at)
 
 pub same_error : {T : Type 0} (r : Result T StoreError) (e f : StoreError) → r ≡ Err e → r ≡ Err f → e ≡ f
 same_error {T} r e f is other = let h : ◌≡◌ {A = Result T StoreError} (Err e) (Err f) = sym is ∙ other in cc
@@ -93,10 +93,10 @@ journal_corrupt of_journal.TooLong name place short is = absurd (short refl)
 journal_corrupt (of_journal.Corrupt its at) name place short is = let h : ◌≡◌ {A = StoreError} (Corrupt its at) (Corrupt name place) = is in cc
 
 -- what another opening finds is the same
-pub corrupt_alike : (limit place : ℕ) (old new : Files) → OpensAlike old new → IsCorruptAt limit old place → IsCorruptAt limit new place
-corrupt_alike limit place old new alike at = elim at.so [
+pub corrupt_alike : (limit : ℕ) (name : Name) (place : ℕ) (old new : Files) → OpensAlike old new → IsCorruptAt limit old name place → IsCorruptAt limit new name place
+corrupt_alike limit name place old new alike at = elim at.so [
   | inl torn ↦ record { so = inl (alike.same_broken ∙ torn) }
-  | inr whole ↦ record { so = inr (alike.same_broken ∙ whole.0, record { read = whole.1.read; are = whole.1.are ∙ sym alike.same_entries; first = whole.1.first }) }
+  | inr whole ↦ record { so = inr (alike.same_broken ∙ whole.0, record { read = whole.1.read; are = whole.1.are ∙ sym (ap gated_of alike.same_entries); first = whole.1.first }) }
 ]
 
 -- HOW READING AN OPEN JOURNAL ENDS
@@ -105,7 +105,7 @@ abbrev Given : Type 0
 Given = Pairs × Notes (List ℕ) × Notes RecordedLog
 
 -- An error: at the first body that is no event, or before it.
-pub read_ends : (limit : ℕ) (files : Files) (alien : Option (Name × ℕ)) (e : StoreError) → IsOfRestoring e → ((name : Name) (place : ℕ) → e ≡ Corrupt name place → (name ≡ Flat) × IsCorruptAt limit files place)
+pub read_ends : (limit : ℕ) (files : Files) (alien : Option (Name × ℕ)) (e : StoreError) → IsOfRestoring e → ((name : Name) (place : ℕ) → e ≡ Corrupt name place → IsCorruptAt limit files name place)
     → (AreEvents limit (entries files) → (name : Name) (place : ℕ) → e ≡ Corrupt name place → ⊥) → IsAlien limit files alien
     → {fs : Files} {image : Files → Type 0} {how : Ended StoreError Given} {out : List Line} {s now : Secrets} {f : Burn} → how ≡ by_error e → now ≡ s → MadeAt (reading alien) how fs image fs image (moment out s f) (moment out now f)
 read_ends limit files alien OfSecrets kinds told none is ends same = made_none_held _ _ (reading alien) by_secrets tt same ends
@@ -113,7 +113,7 @@ read_ends limit files alien NoMemory kinds told none is ends same = made_none_he
 read_ends limit files None (Corrupt name place) kinds told none is ends same = absurd (none is name place refl)
 read_ends limit files (Some at) (Corrupt name place) kinds told none is ends same =
     let here = told name place refl in
-    alien_stops (Some at) name place _ _ (λ i. Some ((is.0 ∙ sym here.0) i, one_place limit files at.1 place is.1 here.1 i)) ends same
+    alien_stops (Some at) name place _ _ (ap (λ (p : Name × ℕ). Some p) (one_place limit files at (name, place) is here)) ends same
 read_ends limit files alien Disk kinds told none is ends same = absurd kinds
 read_ends limit files alien Cut kinds told none is ends same = absurd kinds
 read_ends limit files alien (LocalState cause) kinds told none is ends same = absurd kinds

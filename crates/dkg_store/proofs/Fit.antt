@@ -56,11 +56,7 @@ module _ (limit : ℕ) where
     whole = whole;
     events = λ c here.
         let from = follows.each c here in
-        let all = fit.events from.0 from.1 in
-        ⊎_elim
-        (λ same. same_events (entries from.0) (entries c) same all)
-        (λ left. same_events (from_section min (entries from.0)) (entries c) left (from_events min (entries from.0) all))
-        from.2.either;
+        same_events (from_section from.2.least (entries from.0)) (entries c) from.2.leaves.left (from_events from.2.least (entries from.0) (fit.events from.0 from.1));
   }
 
 -- a barrier keeps every image

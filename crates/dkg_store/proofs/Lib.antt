@@ -11,7 +11,6 @@ pub mod Dealing
 pub mod Epochs
 pub mod Events
 pub mod Fit
-pub mod Formed
 pub mod Halves
 pub mod Listed
 pub mod Logs
@@ -30,5 +29,6 @@ pub mod Pruned
 pub mod Ranges
 pub mod Recorded
 pub mod Replayed
+pub mod Short
 pub mod Silent
 pub mod Tried

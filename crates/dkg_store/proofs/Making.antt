@@ -3,14 +3,12 @@ use Rattle.std.proofs.Common.{◌≡◌, ◌⊎◌, ℕ, List, length, Result, E
 use Rattle.dkg_journal.specs.Burn.{Burn}
 use Rattle.dkg_journal.specs.Fuse.{Fused, Reached, burnt, spent_once}
 use Rattle.dkg_journal.specs.Names.{Files}
-use Rattle.dkg_store.specs.DiskOps as of_journal
-use Rattle.dkg_store.specs.DiskOps.{Finished, Tried}
+use Rattle.dkg_journal.specs.Operations as of_journal
+use Rattle.dkg_journal.specs.Operations.{Finished, Tried}
 use Rattle.dkg_journal.specs.Operations.{Journaled, journaled}
 use Rattle.dkg_types.specs.declared.entry.Entry.{Entry as Line}
 use Rattle.dkg_store.specs.Acts.{Acts, Do, Goes, World, world, does, Runs, Cause, EndsBy, Ended, went, broken, Stands, MadeAt, Moment, moment, at, held_in, Held, Operation, OnDisk, Changes}
 use Rattle.dkg_journal.specs.Disk.{Did, Follows, Inside}
-use Rattle.dkg_journal.specs.Opening.{open_calls}
-use Rattle.dkg_journal.specs.Operations as today
 use Rattle.dkg_journal.specs.Records.{Entry}
 use Rattle.dkg_journal.specs.declared.call.JournalError.{JournalError}
 use Rattle.dkg_journal.specs.declared.call.JournalError.TheVariants as journal
@@ -73,27 +71,6 @@ module _ {F S : Type 0} {files : Files} {image : Files → Type 0} {out : List L
     made = λ stands c here. (same_world (λ i. record { journaled = journaled (stands.lands.only c here i); secrets = done i }) once, refl);
     stands = λ stands. stands;
   })
-
--- WHAT THE JOURNAL'S OWN CALLS SAY OF THEIR OPERATIONS
-
-module _ {old : Files} {image : Files → Type 0} {before now : Burn} where
-  pub append_tried : (e : Entry) → today.Tried (today.Appends e) old image before now → Tried (of_journal.Appends e) old image before now
-  append_tried e t = record { each = t.each; spent = t.spent }
-
-  pub append_finished : {new : Files} (e : Entry) → today.Finished (today.Appends e) old new image before now → Finished (of_journal.Appends e) old new image before now
-  append_finished e t = record { after = t.after; settled = t.settled; spent = t.spent }
-
-  pub prune_tried : (min : ℕ) → today.Tried (today.Prunes min) old image before now → Tried (of_journal.Prunes min) old image before now
-  prune_tried min t = record { each = t.each; spent = t.spent }
-
-  pub prune_finished : {new : Files} (min : ℕ) → today.Finished (today.Prunes min) old new image before now → Finished (of_journal.Prunes min) old new image before now
-  prune_finished min t = record { after = t.after; settled = t.settled; spent = t.spent }
-
-  pub open_tried : today.Tried today.Opens old image before now → Tried (of_journal.Opens (length (open_calls old))) old image before now
-  open_tried t = record { each = t.each; spent = t.spent }
-
-  pub open_finished : {new : Files} → today.Finished today.Opens old new image before now → Finished (of_journal.Opens (length (open_calls old))) old new image before now
-  open_finished t = record { after = t.after; settled = t.settled; spent = t.spent }
 
 -- A barrier, of a disk of which nothing is loose.
 module _ {files : Files} {next : Files → Type 0} {before now : Burn} (once : now ≡ spent_once before) where

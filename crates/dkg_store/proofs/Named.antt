@@ -1,30 +1,33 @@
 -- Which names the journal's calls leave.
-use Rattle.std.proofs.Common.{◌≡◌, inl, inr, ⊎_elim, ℕ, Bool, true, false, cond, nat_lt, List, [], ◌∷◌, Option, Some, None, is_some, not, refl, sym, ap, subst, ◌∙◌}
-use Rattle.dkg_values.specs.declared.name.Name.TheVariants.{Flat}
+use Rattle.std.proofs.Common.{◌≡◌, inl, inr, ⊎_elim, ℕ, ◌≤◌, Bool, true, false, List, is_some, not, refl, sym, ap, subst, ◌∙◌, arith}
+use Rattle.std.specs.Prelude.{filter}
+use Rattle.std.specs.FinMap.{get, keys}
+use Rattle.dkg_values.specs.declared.name.Name.{Name}
+use Rattle.dkg_values.specs.declared.name.Name.TheVariants.{Segment}
 use Rattle.dkg_journal.specs.Burn.{Burn}
 use Rattle.dkg_journal.specs.Names.{Files}
-use Rattle.dkg_journal.specs.Disk.{Follows, Inside}
-use Rattle.dkg_journal.specs.Operations.{Journaled, Opens, Appends, Prunes, Tried, Finished}
-use Rattle.dkg_journal.specs.Records.{Entry, placed}
-use Rattle.dkg_journal.specs.Steps.{IsOpenAt, Adds}
-use Rattle.dkg_journal.specs.declared.disk.Op.TheVariants.{Barrier}
-use Rattle.dkg_journal.proofs.Standing.{named}
-use Rattle.dkg_journal.proofs.Steps.{weaken}
-use Rattle.dkg_store.specs.Named.{names_of, Named, MayBeNamed}
+use Rattle.dkg_journal.specs.Disk.{Follows}
+use Rattle.dkg_journal.specs.Operations.{Journaled, Opens, Appends, Prunes, Tried, Finished, journaled, opened_names}
+use Rattle.dkg_journal.specs.Pruning.{MayLeave, is_below}
+use Rattle.dkg_journal.specs.Records.{Entry, entries}
+use Rattle.dkg_journal.specs.Steps.{Adds}
+use Rattle.dkg_journal.proofs.SameFiles.{named}
+use Rattle.dkg_journal.proofs.Journals.{leaves_names}
+use Rattle.dkg_store.specs.Named.{Named, MayBeNamed, NamesOpened, NamesPruned}
 
 -- nothing was called
-pub same_names : (image : Files → Type 0) → Follows (Named false) image image
-same_names image = record { each = λ c here. (c, here, record { names = refl }) }
+pub same_names : (section : ℕ) (image : Files → Type 0) → Follows (Named false section) image image
+same_names section image = record { each = λ c here. (c, here, record { names = refl }) }
 
-pub may_same : (image : Files → Type 0) → Follows MayBeNamed image image
-may_same image = record { each = λ c here. (c, here, record { either = inl refl }) }
+pub may_same : (section : ℕ) (image : Files → Type 0) → Follows (MayBeNamed section) image image
+may_same section image = record { each = λ c here. (c, here, record { either = inl refl }) }
 
 -- .. for what was recorded already is not appended
-pub known_names : (known : Bool) (image : Files → Type 0) → known ≡ true → Follows (Named (not known)) image image
-known_names known image is = subst (λ (b : Bool). Follows (Named (not b)) image image) (sym is) (same_names image)
+pub known_names : (known : Bool) (section : ℕ) (image : Files → Type 0) → known ≡ true → Follows (Named (not known) section) image image
+known_names known section image is = subst (λ (b : Bool). Follows (Named (not b) section) image image) (sym is) (same_names section image)
 
 -- an append, wherever it ended
-pub append_names : (e : Entry) (old : Files) (image next : Files → Type 0) (f g : Burn) → image old → Tried (Appends e) old next f g → Follows MayBeNamed image next
+pub append_names : (e : Entry) (old : Files) (image next : Files → Type 0) (f g : Burn) → image old → Tried (Appends e) old next f g → Follows (MayBeNamed e.0) image next
 append_names e old image next f g itself tried = record {
   each = λ c here. (
     old,
@@ -38,56 +41,20 @@ append_names e old image next f g itself tried = record {
   );
 }
 
-some_placed : (es : List Entry) (e : Entry) → placed es e ≡ [] → ⊥
-some_placed [] e is = cc
-some_placed (x ∷ xs) e is = elim (nat_lt e.0 x.0) as (λ b. cond b (e ∷ x ∷ xs) (x ∷ placed xs e) ≡ [] → ⊥) [ true ↦ λ i. cc | false ↦ λ i. cc ] is
-
 -- .. and one that is done
-pub made_name : (place : Option ℕ) (e : Entry) (files : Files) (image next : Files → Type 0) → IsOpenAt place files next → Follows (Adds e) image next → Follows (Named true) image next
-made_name (Some place) e files image next open_at adds = record {
-  each = λ c here. let from = adds.each c here in (from.0, from.1, record { names = λ i. λ q. named Flat from.0 c from.2.others (ap is_some (open_at.firm.only c here)) q i });
-}
-made_name None e files image next open_at adds = record {
-  each = λ c here. let from = adds.each c here in absurd (some_placed _ e (sym from.2.added ∙ open_at.empty c here));
+pub made_name : (e : Entry) (image next : Files → Type 0) → ((c : Files) → next c → is_some (get c (Segment e.0)) ≡ true) → Follows (Adds e) image next → Follows (Named true e.0) image next
+made_name e image next there adds = record {
+  each = λ c here. let from = adds.each c here in (from.0, from.1, record { names = named (Segment e.0) from.0 c from.2.others (there c here) });
 }
 
 -- a prune, wherever it ended
-pub prune_names : (min : ℕ) (old : Files) (image next : Files → Type 0) (f g : Burn) → image old → Tried (Prunes min) old next f g → Follows (Named false) image next
-prune_names min old image next f g itself tried = record {
-  each = λ c here. (
-    old,
-    itself,
-    record {
-      names = ⊎_elim
-          (λ same. ap (λ (j : Journaled). j.names) same)
-          (λ more. ⊎_elim (λ after. ap (λ (j : Journaled). j.names) after) (λ none. absurd none) more)
-          (tried.each c here);
-    },
-  );
+pub prune_names : (min : ℕ) (image next : Files → Type 0) → Follows (MayLeave min) image next → Follows (NamesPruned min) image next
+prune_names min image next may = record {
+  each = λ c here. let from = may.each c here in (from.0, from.1, record { least = from.2.least; low = from.2.low; names = leaves_names from.2.least from.0 c from.2.leaves });
 }
 
--- an opening's barrier
-pub bar_names : (image next : Files → Type 0) → Follows (Inside Barrier) image next → Follows (Named false) image next
-bar_names image next bars = weaken (Inside Barrier) (Named false) image next (λ d c now same. record { names = ap names_of same }) bars
-
--- .. and what follows it, wherever it ended
-pub open_names : (old : Files) (image between next : Files → Type 0) (f g : Burn) → between old → Follows (Inside Barrier) image between → Tried Opens old next f g → Follows (Named false) image next
-open_names old image between next f g itself bars tried =
-    let bar = (bar_names image between bars).each old itself in
-    record {
-      each = λ c here. (
-        bar.0,
-        bar.1,
-        record {
-          names = ⊎_elim
-              (λ same. ap (λ (j : Journaled). j.names) same)
-              (λ more. ⊎_elim (λ after. ap (λ (j : Journaled). j.names) after) (λ none. absurd none) more)
-              (tried.each c here)
-              ∙ bar.2.names;
-        },
-      );
-    }
-
--- .. all of it
-pub opened_names : (old mid new : Files) (next : Files → Type 0) (f g : Burn) → mid ≡ old → Finished Opens mid new next f g → (c : Files) → next c → Named false old c
-opened_names old mid new next f g same done c here = record { names = ap names_of (done.settled.only c here) ∙ ap (λ (j : Journaled). j.names) done.after ∙ ap names_of same }
+-- all of an opening
+pub opened_too : (n : ℕ) (old mid new : Files) (next : Files → Type 0) (f g : Burn) → mid ≡ old → Finished (Opens n) mid new next f g → (c : Files) → next c → NamesOpened old c
+opened_too n old mid new next f g same done c here = record {
+  names = ap keys (done.settled.only c here) ∙ ap (λ (j : Journaled). j.names) done.after ∙ ap (λ (m : Files). opened_names (entries m) (keys m)) same;
+}

@@ -3,6 +3,7 @@ use Rattle.std.proofs.Common.{◌≡◌, List, [], ◌∷◌, ap, sym, subst, �
 use Rattle.dkg_journal.specs.Burn.{Burn}
 use Rattle.dkg_journal.specs.Fuse.{RanAll, burned, spent_once}
 use Rattle.std.specs.FinMap.{get}
+use Rattle.dkg_values.specs.declared.name.Name.TheVariants.{Plan}
 use Rattle.dkg_journal.specs.Names.{Files}
 use Rattle.dkg_journal.specs.Disk.{Follows, Inside}
 use Rattle.dkg_journal.specs.Records.{Entry, entries}
@@ -14,10 +15,10 @@ use Rattle.dkg_journal.proofs.Steps.{compose, weaken}
 
 -- a barrier keeps every image
 pub barred : (a b : Files → Type 0) → Follows (Inside Barrier) a b → Follows Keeps a b
-barred a b follows = weaken (Inside Barrier) Keeps a b (λ x y in_image same. record { others = λ q apart. ap (λ (f : Files). get f q) same; same = ap entries same }) follows
+barred a b follows = weaken (Inside Barrier) Keeps a b (λ x y in_image same. record { plan = ap (λ (f : Files). get f Plan) same; same = ap entries same }) follows
 
 pub kept_on : (a b c : Files → Type 0) → Follows Keeps a b → Follows Keeps b c → Follows Keeps a c
-kept_on a b c first second = compose Keeps Keeps Keeps a b c (λ x y z one two. record { others = λ q apart. two.others q apart ∙ one.others q apart; same = two.same ∙ one.same }) first second
+kept_on a b c first second = compose Keeps Keeps Keeps a b c (λ x y z one two. record { plan = two.plan ∙ one.plan; same = two.same ∙ one.same }) first second
 
 burned_call : {O : Type 0} (ops : List O) (f : Burn) → (burned ops f).call ≡ f.call
 burned_call [] f = refl

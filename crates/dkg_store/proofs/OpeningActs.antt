@@ -6,12 +6,13 @@ use Rattle.dkg_journal.specs.Names.{Files}
 use Rattle.dkg_journal.specs.Disk.{Did, Follows, Inside}
 use Rattle.dkg_journal.specs.Views.{views}
 use Rattle.dkg_journal.specs.Opening.{open_calls}
-use Rattle.dkg_journal.specs.Operations as today
+use Rattle.dkg_journal.specs.Operations as of_disk
 use Rattle.dkg_journal.specs.declared.disk.Op.TheVariants.{Barrier}
 use Rattle.dkg_journal.specs.declared.opening.JournalEntry.{JournalEntry}
 use Rattle.dkg_types.specs.declared.entry.Entry.{Entry as Line}
+use Rattle.dkg_values.specs.declared.name.Name.TheVariants.{Segment}
 use Rattle.dkg_values.specs.declared.name.Name.{Name}
-use Rattle.dkg_store.specs.DiskOps.{Bars, Opens}
+use Rattle.dkg_journal.specs.Operations.{Bars, Opens}
 use Rattle.dkg_store.specs.Acts.{Acts, Stops, Cause, EndsBy, Ended, broken, went, stopped, moment, at, MadeAt}
 use Rattle.dkg_store.specs.Calls.{opens, opens_then, reading}
 use Rattle.dkg_store.specs.Noted.{Notes}
@@ -27,7 +28,7 @@ use Rattle.dkg_store.specs.declared.call.StoreError.{StoreError}
 use Rattle.dkg_store.specs.declared.call.StoreError.TheVariants.{Disk, Secrets as OfSecrets, Corrupt, LocalState, StateSyncEpochs, StateSyncMaterial, Cut, NoMemory}
 use Rattle.dkg_store.proofs.Acts.{made_next}
 use Rattle.dkg_store.proofs.Acting.{first_broken}
-use Rattle.dkg_store.proofs.Making.{disk_done, disk_torn, bar_tried, bar_finished, open_tried, open_finished}
+use Rattle.dkg_store.proofs.Making.{disk_done, disk_torn, bar_tried, bar_finished}
 
 -- WHICH ERRORS BREAK AN OPENING OFF
 
@@ -51,8 +52,8 @@ of_restoring_too (LocalState cause) is = is
 of_restoring_too (StateSyncEpochs info floor) is = is
 of_restoring_too StateSyncMaterial is = is
 
-pub no_place : (o : Option ℕ) (place : ℕ) → o ≡ Some place → o ≡ None → ⊥
-no_place o place some none = let h : ◌≡◌ {A = Option ℕ} (Some place) None = sym some ∙ none in cc
+pub no_place : {A : Type 0} (o : Option A) (place : A) → o ≡ Some place → o ≡ None → ⊥
+no_place {A} o place some none = let h : ◌≡◌ {A = Option A} (Some place) None = sym some ∙ none in cc
 
 pub journal_devices : (e : JournalError) → ((name : Name) (place : ℕ) → e ≡ of_journal.Corrupt name place → ⊥) → (e ≡ of_journal.TooLong → ⊥) → IsOfDevices (store_error_of e)
 journal_devices of_journal.Disk never short = tt
@@ -64,7 +65,7 @@ journal_devices of_journal.TooLong never short = short refl
 -- where all bodies are events, none fails to be
 pub no_other : (limit : ℕ) (es : List JournalEntry) → AreEvents limit (views es) → no_event_at limit es ≡ None
 no_other limit [] all = refl
-no_other limit (e ∷ es) all = ap (λ b. cond b (no_event_at limit es) (Some e.place)) all.0 ∙ no_other limit es all.1
+no_other limit (e ∷ es) all = ap (λ b. cond b (no_event_at limit es) (Some (Segment e.section, e.place))) all.0 ∙ no_other limit es all.1
 
 -- WHAT IS LEFT
 
@@ -84,17 +85,17 @@ module _ (torn : Option (Name × ℕ)) (calls : ℕ) {files files_now : Files} {
 
 -- the journal's opening was ended within, or is done
 module _ {files mid files_now : Files} {between next : Files → Type 0} {out : List Line} {s : Secrets} {g h : Burn} (same : mid ≡ files) where
-  pub open_torn : {how : Ended StoreError (Unit {0})} (cause : Cause) → how ≡ broken cause → today.Tried today.Opens mid next g h → EndsBy cause g h
+  pub open_torn : {how : Ended StoreError (Unit {0})} (cause : Cause) → how ≡ broken cause → of_disk.Tried (Opens (length (open_calls mid))) mid next g h → EndsBy cause g h
       → MadeAt (opens_then None (length (open_calls files))) how mid between files_now next (moment out s g) (moment out s h)
   open_torn {how} cause is tried ends =
       subst (λ (x : Files). MadeAt (opens_then None (length (open_calls x))) how mid between files_now next (moment out s g) (moment out s h)) same
-      (disk_torn (Opens (length (open_calls mid))) tt cause is (λ stands. open_tried tried) ends)
+      (disk_torn (Opens (length (open_calls mid))) tt cause is (λ stands. tried) ends)
 
-  pub open_done : {how : Ended StoreError (Unit {0})} → how ≡ went tt → today.Finished today.Opens mid files_now next g h → next files_now
+  pub open_done : {how : Ended StoreError (Unit {0})} → how ≡ went tt → of_disk.Finished (Opens (length (open_calls mid))) mid files_now next g h → next files_now
       → MadeAt (opens_then None (length (open_calls files))) how mid between files_now next (moment out s g) (moment out s h)
   open_done {how} is finished itself =
       subst (λ (x : Files). MadeAt (opens_then None (length (open_calls x))) how mid between files_now next (moment out s g) (moment out s h)) same
-      (disk_done (Opens (length (open_calls mid))) tt is (λ stands. open_finished finished) itself)
+      (disk_done (Opens (length (open_calls mid))) tt is (λ stands. finished) itself)
 
 -- a body that is no event, of an open journal
 pub alien_stops : (alien : Option (Name × ℕ)) (name : Name) (place : ℕ) (files : Files) (image : Files → Type 0) {how : Ended StoreError (Pairs × Notes (List ℕ) × Notes RecordedLog)} {out : List Line} {s now : Secrets} {f : Burn}

@@ -11,17 +11,17 @@ use Rattle.dkg_journal.specs.Operations.{Tried, Finished, Prunes as PrunesJourna
 use Rattle.dkg_journal.specs.Pruning.{Leaves, MayLeave}
 use Rattle.dkg_journal.specs.Records.{Entry, entries, from_section}
 use Rattle.dkg_types.specs.declared.entry.Entry.{Entry as Line}
-use Rattle.dkg_values.specs.declared.name.Name.TheVariants.{Flat}
-use Rattle.dkg_store.specs.DiskOps.{Prunes}
+use Rattle.dkg_values.specs.declared.name.Name.TheVariants.{Plan}
 use Rattle.dkg_store.specs.Acts.{Acts, Changes, Cause, EndsBy, Ended, broken, went, moment, MadeAt, Stands}
 use Rattle.dkg_store.specs.Calls.{pruning}
 use Rattle.dkg_store.specs.Events.{event_at, no_limit}
 use Rattle.dkg_store.specs.declared.event.Event.{Event}
 use Rattle.dkg_store.specs.declared.event.Event.TheVariants as events
-use Rattle.dkg_store.specs.Noted.{Note, Notes, with_note, noted, noted_ack, noted_log, ack_in, log_in, Gives, GivesEither}
+use Rattle.dkg_store.specs.Noted.{GivesPruned, Note, Notes, with_note, noted, noted_ack, noted_log, ack_in, log_in, Gives, GivesEither}
+use Rattle.dkg_store.specs.Named.{SamePlan}
 use Rattle.dkg_store.specs.Secrets.{Secrets, Tries}
 use Rattle.dkg_store.specs.Secrets as of_secrets
-use Rattle.dkg_store.specs.Pairs.{Pairs, Dealing, dealing_in, dealing_of, with_half, with_dealing, recovered, HasHalf, IsWhole, Holds, HoldsEither}
+use Rattle.dkg_store.specs.Pairs.{Pairs, Dealing, dealing_in, dealing_of, with_half, with_dealing, recovered, HasHalf, IsWhole, Holds, HoldsEither, HoldsPruned}
 use Rattle.dkg_journal.specs.declared.call.JournalError.{JournalError}
 use Rattle.dkg_journal.specs.declared.call.JournalError.TheVariants as of_journal
 use Rattle.dkg_store.specs.Errors.{IsOfPruning, IsOfSecrets, store_error_of}
@@ -30,7 +30,7 @@ use Rattle.dkg_store.specs.declared.call.StoreError.TheVariants.{Disk, Secrets a
 use Rattle.dkg_store.specs.declared.secrets.SecretOp.TheVariants.{Prune}
 use Rattle.dkg_store.proofs.Acting.{first_broken}
 use Rattle.dkg_store.proofs.Acts.{made_next}
-use Rattle.dkg_store.proofs.Making.{one, disk_done, disk_torn, secret_done, secret_torn, prune_tried, prune_finished}
+use Rattle.dkg_store.proofs.Making.{one, disk_done, disk_torn, secret_done, secret_torn}
 use Rattle.dkg_store.proofs.Map.{below_or}
 use Rattle.dkg_store.proofs.Noted.{IsUnder, noted_from}
 
@@ -81,15 +81,12 @@ module _ {V : Type 0} (note_of : Entry → Option (Note V)) (min : ℕ) (from : 
     each = λ c here. let d = follows.each c here in left_of m (entries d.0) (entries c) (gives.each d.0 d.1) d.2.left;
   }
 
-  either_left : (m : Notes V) (d es : List Entry) → noted note_of d ≡ m → (es ≡ d) ⊎ (es ≡ from_section min d) → (noted note_of es ≡ m) ⊎ (noted note_of es ≡ above m)
-  either_left m d es was either = elim either [
-    | inl is ↦ inl (ap (noted note_of) is ∙ was)
-    | inr is ↦ inr (left_of m d es was is)
-  ]
-
-  pub gives_may_leave : (m : Notes V) (image next : Files → Type 0) → Follows (MayLeave min) image next → Gives (noted note_of) m image → GivesEither (noted note_of) m (above m) next
-  gives_may_leave m image next follows gives = record {
-    each = λ c here. let d = follows.each c here in either_left m (entries d.0) (entries c) (gives.each d.0 d.1) d.2.either;
+module _ {V : Type 0} (note_of : Entry → Option (Note V)) (from : (min : ℕ) (es : List Entry) → noted note_of (from_section min es) ≡ retain_keys (noted note_of es) (λ k. nat_le min k.0)) where
+  pub gives_may_leave : (min : ℕ) (m : Notes V) (image next : Files → Type 0) → Follows (MayLeave min) image next → Gives (noted note_of) m image → GivesPruned (noted note_of) min m next
+  gives_may_leave min m image next follows gives = record {
+    each = λ c here.
+        let d = follows.each c here in
+        (d.2.least, d.2.low, ap (noted note_of) d.2.leaves.left ∙ from d.2.least (entries d.0) ∙ ap (λ (n : Notes V). retain_keys n (λ k. nat_le d.2.least k.0)) (gives.each d.0 d.1));
   }
 
 -- DEALINGS
@@ -172,17 +169,20 @@ module _ (min : ℕ) (s t : Secrets) (halves : (k : ℕ × ℕ) → min ≤ k.0 
   }
 
 -- The journal's prune was ended within, and the secrets are as they were.
-pub may_leave_holds : (min : ℕ) (s : Secrets) (pairs : Pairs) (image next : Files → Type 0) → Follows (MayLeave min) image next → Holds pairs image s → HoldsEither pairs (retain_keys pairs (λ k. nat_le min k.0)) next s
+pub may_leave_holds : (min : ℕ) (s : Secrets) (pairs : Pairs) (image next : Files → Type 0) → Follows (MayLeave min) image next → Holds pairs image s → HoldsPruned min pairs next s
 may_leave_holds min s pairs image next follows holds = record {
-  whole = λ c here. let d = follows.each c here in elim d.2.either [
-    | inl is ↦ subst (λ (es : List Entry). IsWhole es s) (sym is) (holds.whole d.0 d.1)
-    | inr is ↦ subst (λ (es : List Entry). IsWhole es s) (sym is) (whole_from min s s (λ k above. refl) (entries d.0) (holds.whole d.0 d.1))
-  ];
-  gives = λ c here. let d = follows.each c here in elim d.2.either [
-    | inl is ↦ inl (ap (λ (es : List Entry). recovered es s) is ∙ holds.gives d.0 d.1)
-    | inr is ↦ inr (ap (λ (es : List Entry). recovered es s) is ∙ recovered_from min (entries d.0) s ∙ ap (λ (m : Pairs). retain_keys m (λ k. nat_le min k.0)) (holds.gives d.0 d.1))
-  ];
+  whole = λ c here. let d = follows.each c here in subst (λ (es : List Entry). IsWhole es s) (sym d.2.leaves.left) (whole_from d.2.least s s (λ k above. refl) (entries d.0) (holds.whole d.0 d.1));
+  gives = λ c here.
+      let d = follows.each c here in
+      (d.2.least, d.2.low, ap (λ (es : List Entry). recovered es s) d.2.leaves.left ∙ recovered_from d.2.least (entries d.0) s ∙ ap (λ (m : Pairs). retain_keys m (λ k. nat_le d.2.least k.0)) (holds.gives d.0 d.1));
 }
+
+-- those at or above the minimum itself
+pub holds_pruned : (min : ℕ) (pairs : Pairs) (image : Files → Type 0) (held : Secrets) → Holds (retain_keys pairs (λ k. nat_le min k.0)) image held → HoldsPruned min pairs image held
+holds_pruned min pairs image held holds = record { whole = holds.whole; gives = λ c here. (min, omega arith, holds.gives c here) }
+
+pub gives_pruned : {V : Type 0} (given : List Entry → Notes V) (min : ℕ) (m : Notes V) (image : Files → Type 0) → Gives given (retain_keys m (λ k. nat_le min k.0)) image → GivesPruned given min m image
+gives_pruned given min m image gives = record { each = λ c here. (min, omega arith, gives.each c here) }
 
 -- those at or above a minimum, or all of them
 pub one_of_either : (pairs more : Pairs) (image : Files → Type 0) (held : Secrets) → Holds more image held → HoldsEither pairs more image held
@@ -197,17 +197,17 @@ module _ (min : ℕ) {files files_now : Files} {image next : Files → Type 0} {
   -- the journal's prune was ended within
   pub journal_torn : {how : Ended StoreError (Unit {0})} (cause : Cause) → how ≡ broken cause → (Stands files image → Tried (PrunesJournal min) files next f g) → EndsBy cause f g
       → MadeAt (pruning min) how files image files_now next (moment out s f) (moment out s g)
-  journal_torn cause is tried ends = first_broken (secrets_then min) is (disk_torn (Prunes min) tt cause refl (λ stands. prune_tried min (tried stands)) ends)
+  journal_torn cause is tried ends = first_broken (secrets_then min) is (disk_torn (PrunesJournal min) tt cause refl tried ends)
 
   -- the journal is pruned, and the secrets' prune was ended within
   pub secrets_torn : {now : Secrets} {h : Burn} {how : Ended StoreError (Unit {0})} (cause : Cause) → how ≡ broken cause → (Stands files image → Finished (PrunesJournal min) files files_now next f g) → next files_now → Tries (Prune min) s now → h ≡ spent_once g → EndsBy cause g h
       → MadeAt (pruning min) how files image files_now next (moment out s f) (moment out now h)
-  secrets_torn cause is finished itself tries once ends = made_next (secrets_then min) (disk_done (Prunes min) tt refl (λ stands. prune_finished min (finished stands)) itself) (secret_torn (Prune min) tt cause is tries once ends)
+  secrets_torn cause is finished itself tries once ends = made_next (secrets_then min) (disk_done (PrunesJournal min) tt refl finished itself) (secret_torn (Prune min) tt cause is tries once ends)
 
   -- both are pruned
   pub both_pruned : {now : Secrets} {h : Burn} {how : Ended StoreError (Unit {0})} → how ≡ went tt → (Stands files image → Finished (PrunesJournal min) files files_now next f g) → next files_now → now ≡ of_secrets.after (Prune min) s → h ≡ spent_once g
       → MadeAt (pruning min) how files image files_now next (moment out s f) (moment out now h)
-  both_pruned is finished itself done once = made_next (secrets_then min) (disk_done (Prunes min) tt refl (λ stands. prune_finished min (finished stands)) itself) (secret_done (Prune min) tt is done once)
+  both_pruned is finished itself done once = made_next (secrets_then min) (disk_done (PrunesJournal min) tt refl finished itself) (secret_done (Prune min) tt is done once)
 
 -- THE SAME MINIMUM
 
@@ -224,12 +224,12 @@ same_tried {files = files} {next = next} {f = f} {g = g} same tried = subst (λ 
 pub same_finished : {m n : ℕ} {files files_now : Files} {next : Files → Type 0} {f g : Burn} → m ≡ n → Finished (PrunesJournal m) files files_now next f g → Finished (PrunesJournal n) files files_now next f g
 same_finished {files = files} {files_now = files_now} {next = next} {f = f} {g = g} same done = subst (λ (k : ℕ). Finished (PrunesJournal k) files files_now next f g) same done
 
--- only the journal's file may change
-pub may_others : (min : ℕ) (image next : Files → Type 0) → Follows (MayLeave min) image next → Follows (SameElse Flat) image next
-may_others min image next follows = record { each = λ c here. let from = follows.each c here in (from.0, from.1, from.2.others) }
+-- the plan is as it was
+pub may_others : (min : ℕ) (image next : Files → Type 0) → Follows (MayLeave min) image next → Follows SamePlan image next
+may_others min image next follows = record { each = λ c here. let from = follows.each c here in (from.0, from.1, from.2.leaves.others Plan refl) }
 
-pub left_others : (min : ℕ) (image next : Files → Type 0) → Follows (Leaves min) image next → Follows (SameElse Flat) image next
-left_others min image next follows = record { each = λ c here. let from = follows.each c here in (from.0, from.1, from.2.others) }
+pub left_others : (min : ℕ) (image next : Files → Type 0) → Follows (Leaves min) image next → Follows SamePlan image next
+left_others min image next follows = record { each = λ c here. let from = follows.each c here in (from.0, from.1, from.2.others Plan refl) }
 
 -- those at or above the minimum
 pub gives_one : {M : Type 0} (given : List Entry → M) (one other : M) (image : Files → Type 0) → Gives given other image → GivesEither given one other image

@@ -5,8 +5,8 @@ use Rattle.dkg_journal.specs.Fuse.{burnt, Reached}
 use Rattle.dkg_journal.specs.Names.{Files}
 use Rattle.dkg_journal.specs.Disk.{Lands}
 use Rattle.dkg_journal.specs.Records.{Entry}
-use Rattle.dkg_store.specs.DiskOps as of_journal
-use Rattle.dkg_store.specs.DiskOps.{InPart}
+use Rattle.dkg_journal.specs.Operations as of_journal
+use Rattle.dkg_journal.specs.Operations.{InPart}
 use Rattle.dkg_journal.specs.Operations.{Journaled, journaled}
 use Rattle.dkg_types.specs.declared.entry.Entry.{Entry as Line}
 use Rattle.dkg_store.specs.Secrets.{Secrets, Tries}

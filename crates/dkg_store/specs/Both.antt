@@ -1,7 +1,7 @@
 -- The changing calls of both devices, in one order.
 use Rattle.std.specs.Prelude.{ℕ, List, [], ◌∷◌, ◌++◌, map, ◌⊎◌}
 use Rattle.dkg_journal.specs.Disk.{Rose}
-use Rattle.dkg_journal.specs.Names.{Files}
+use Rattle.dkg_values.specs.declared.name.Name.{Name}
 use Rattle.dkg_journal.specs.Pruning.{prune_calls}
 use Rattle.dkg_journal.specs.Records.{Entry}
 use Rattle.dkg_journal.specs.Journals.{append_calls}
@@ -34,8 +34,8 @@ abbrev pub put_then_append : SecretOp → Journal → Entry → List Call
 put_then_append op journal e = on_secrets op ∷ map on_disk (append_calls journal e)
 
 -- the calls of a prune: of the journal, and then of the secrets
-abbrev pub prune_both : ℕ → Files → List Call
-prune_both min files = map on_disk (prune_calls min files) ++ on_secrets (Prune min) ∷ []
+abbrev pub prune_both : ℕ → List Name → List Call
+prune_both min names = map on_disk (prune_calls min names) ++ on_secrets (Prune min) ∷ []
 
 -- one of the devices wanted memory itself
 pub record IsWanted (disk disk_now secrets secrets_now : ℕ) : Type 0 where

@@ -5,7 +5,7 @@ use Rattle.dkg_ceremony.specs.declared.ceremony.AckError.{AckError}
 use Rattle.dkg_ceremony.specs.declared.ceremony.DealingError.{DealingError}
 use Rattle.dkg_journal.specs.Records.{Entry}
 use Rattle.dkg_types.specs.declared.entry.Entry.TheVariants.{Recorded}
-use Rattle.dkg_store.specs.DiskOps.{Bars, Opens, Appends, Prunes}
+use Rattle.dkg_journal.specs.Operations.{Bars, Opens, Appends, Prunes}
 use Rattle.dkg_values.specs.declared.name.Name.{Name}
 use Rattle.dkg_store.specs.Acts.{Held, notes, Acts, Say, Do, Ask, Goes, Stops, bind, OnDisk, Changes, Cause, by_cut, by_disk, by_secrets, by_want, Ended, went, stopped, broken}
 use Rattle.dkg_store.specs.Events.{event_spelling}

@@ -14,6 +14,8 @@ use Rattle.dkg_ceremony.specs.Logs.{log_at, log_spelling, LogFits, log_grammar}
 use Rattle.dkg_ceremony.specs.Variants.{MadeOf, variant_grammar, none_grammar}
 use Rattle.dkg_ceremony.specs.declared.dealer_log.DealerLog.{DealerLog}
 use Rattle.dkg_journal.specs.declared.opening.JournalEntry.{JournalEntry}
+use Rattle.dkg_values.specs.declared.name.Name.{Name}
+use Rattle.dkg_values.specs.declared.name.Name.TheVariants.{Segment}
 use Rattle.dkg_store.specs.declared.event.Event.{Event}
 use Rattle.dkg_store.specs.declared.event.Event.TheVariants.{Dealing, Ack, Log, LogAt}
 
@@ -155,7 +157,7 @@ IsEvent event = EventFits no_limit event
 abbrev pub is_event : ℕ → List ℕ → Bool
 is_event limit body = is_ok (whole (event_at limit body))
 
--- the place of the first of these records whose body is no event
-abbrev pub no_event_at : ℕ → List JournalEntry → Option ℕ
+-- the file and the place of the first of these records whose body is no event
+abbrev pub no_event_at : ℕ → List JournalEntry → Option (Name × ℕ)
 no_event_at limit [] = None
-no_event_at limit (e ∷ es) = if is_event limit e.body then no_event_at limit es else Some e.place
+no_event_at limit (e ∷ es) = if is_event limit e.body then no_event_at limit es else Some (Segment e.section, e.place)

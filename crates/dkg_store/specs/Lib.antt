@@ -5,10 +5,8 @@ pub mod Commits
 pub mod Corrupt
 pub mod Cuts
 pub mod Dealer
-pub mod DiskOps
 pub mod Errors
 pub mod Events
-pub mod Formed
 pub mod Keys
 pub mod Named
 pub mod Noted

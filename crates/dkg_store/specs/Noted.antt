@@ -1,6 +1,6 @@
 -- The acknowledgements and the logs that the entries of a journal stand for.
-use Rattle.std.specs.Prelude.{◌≡◌, ◌⊎◌, ℕ, List, fold, Option, Some, None, Result, Ok, Err}
-use Rattle.std.specs.FinMap.{FinMap, insert, empty}
+use Rattle.std.specs.Prelude.{◌≡◌, ◌⊎◌, ◌≤◌, ℕ, nat_le, List, fold, Option, Some, None, Result, Ok, Err}
+use Rattle.std.specs.FinMap.{FinMap, insert, empty, retain_keys}
 use Rattle.dkg_values.specs.Codec.{whole}
 use Rattle.dkg_values.specs.declared.codec.CodecError.{CodecError}
 use Rattle.dkg_journal.specs.Names.{Files}
@@ -69,3 +69,7 @@ pub record GivesEither {M : Type 0} (given : List Entry → M) (one other : M) (
 pub record SameNotes (old new : Files) : Type 0 where
   pub acks : acks_in (entries new) ≡ acks_in (entries old)
   pub logs : logs_in (entries new) ≡ logs_in (entries old)
+
+-- In each image the notes are those at or above a minimum, at or below this one.
+pub record GivesPruned {V : Type 0} (given : List Entry → Notes V) (min : ℕ) (m : Notes V) (image : Files → Type 0) : Type 0 where
+  pub each : (c : Files) → image c → (least : ℕ) × (least ≤ min) × (given (entries c) ≡ retain_keys m (λ k. nat_le least k.0))

@@ -1,7 +1,7 @@
 -- The dealings that the entries of a journal and a secret store stand for together.
-use Rattle.std.specs.Prelude.{◌≡◌, ◌⊎◌, ◌≤◌, ℕ, List, fold, Option, Some, None, IsSome, Result, Ok, Err}
+use Rattle.std.specs.Prelude.{◌≡◌, ◌⊎◌, ◌≤◌, ℕ, nat_le, List, fold, Option, Some, None, IsSome, Result, Ok, Err}
 use Rattle.std.specs.List.{AllByRecursion}
-use Rattle.std.specs.FinMap.{FinMap, get, insert, empty}
+use Rattle.std.specs.FinMap.{FinMap, get, insert, empty, retain_keys}
 use Rattle.dkg_journal.specs.Names.{Files}
 use Rattle.dkg_journal.specs.Disk.{Follows}
 use Rattle.dkg_journal.specs.Records.{Entry, entries}
@@ -72,3 +72,8 @@ pub record HoldsEither (pairs more : Pairs) (image : Files → Type 0) (held : S
 -- The put was tried and the disk is as it was; or the put is done, and the journal may have the entry.
 pub record PutsFirst (op : SecretOp) (e : Entry) (image next : Files → Type 0) (held now : Secrets) : Type 0 where
   pub so : (Tries op held now × ((c : Files) → next c → image c)) ⊎ ((now ≡ after op held) × Follows (MayAdd e) image next)
+
+-- .. those at or above a minimum, at or below this one
+pub record HoldsPruned (min : ℕ) (pairs : Pairs) (image : Files → Type 0) (held : Secrets) : Type 0 where
+  pub whole : (c : Files) → image c → IsWhole (entries c) held
+  pub gives : (c : Files) → image c → (least : ℕ) × (least ≤ min) × (recovered (entries c) held ≡ retain_keys pairs (λ k. nat_le least k.0))

@@ -5,7 +5,7 @@ ghost use Rattle.std.specs.Prelude.{◌≡◌, ◌⊎◌, ◌≤◌, ◌||◌, �
 ghost use Rattle.std.specs.FinMap as map;
 ghost use Rattle.std.specs.Option.{option_copied};
 ghost use Rattle.std.specs.Iterator.{YieldsFirstBy, item_count};
-ghost use Rattle.dkg_values.specs.declared.name.Name.TheVariants.{Flat};
+ghost use Rattle.dkg_values.specs.declared.name.Name.TheVariants.{Segment};
 ghost use Rattle.dkg_values.specs.Rising.{lookup};
 ghost use Rattle.dkg_ceremony.specs.Thresholds.{max_faults_of};
 ghost use Rattle.dkg_ceremony.specs.declared.ceremony.AckError.{AckError};
@@ -18,7 +18,7 @@ ghost use Rattle.dkg_store.specs.Dealer.{IsDealerOf, held_acks, outcome_of, pass
 ghost use Rattle.dkg_store.specs.Errors.{IsOfAcking};
 ghost use Rattle.dkg_store.specs.Corrupt.{AreFit};
 ghost use Rattle.dkg_store.specs.Events.{event_spelling, is_event};
-ghost use Rattle.dkg_store.specs.Named.{Named, MayBeNamed};
+ghost use Rattle.dkg_store.specs.Named.{Named, MayBeNamed, NamesOpened, NamesPruned, SamePlan};
 ghost use Rattle.dkg_store.specs.Noted.{Gives, GivesEither, acks_in, logs_in};
 ghost use Rattle.dkg_store.specs.Pairs.{Pairs, Holds};
 ghost use Rattle.dkg_store.specs.Recorded.{at_epoch};
@@ -231,11 +231,11 @@ impl Dealer {
         ensures not_cut { OnOk result (Reached devices.old.fuse devices.new.fuse → ⊥) }
         ensures fit { IsTrue D.tells → (limit : ℕ) → is_event limit (event_spelling (events.Ack player ack)) ≡ true → AreFit limit (D.image devices.old.disk.now) → AreFit limit (D.image devices.new.disk.now) }
         // A crash leaves every file but the journal's as it was.
-        ensures files { IsTrue D.tells → Follows (SameElse Flat) (D.image devices.old.disk.now) (D.image devices.new.disk.now) }
+        ensures files { IsTrue D.tells → Follows (SameElse (Segment epoch)) (D.image devices.old.disk.now) (D.image devices.new.disk.now) }
         // Where nothing of the disk was loose, each image has the names from before, or the journal's own with them. At Ok it has it, if the
         // record is new, and else just those from before.
-        ensures names { IsTrue D.tells → Lands (D.files devices.old.disk.now) (D.image devices.old.disk.now) → Follows MayBeNamed (D.image devices.old.disk.now) (D.image devices.new.disk.now) }
-        ensures named { OnOk result (IsTrue D.tells → Follows (Named (not (is_some (map.get self.old.acks player) || map.contains_key store.old.acks (epoch, player)))) (D.image devices.old.disk.now) (D.image devices.new.disk.now)) }
+        ensures names { IsTrue D.tells → Lands (D.files devices.old.disk.now) (D.image devices.old.disk.now) → Follows (MayBeNamed epoch) (D.image devices.old.disk.now) (D.image devices.new.disk.now) }
+        ensures named { OnOk result (IsTrue D.tells → Follows (Named (not (is_some (map.get self.old.acks player) || map.contains_key store.old.acks (epoch, player))) epoch) (D.image devices.old.disk.now) (D.image devices.new.disk.now)) }
         // At Ok nothing of the disk is loose, where nothing was.
         ensures lands { OnOk result (IsTrue D.tells → Lands (D.files devices.old.disk.now) (D.image devices.old.disk.now) → Lands (D.files devices.new.disk.now) (D.image devices.new.disk.now)) }
         ensures same_disk { devices.new.disk.ghost_name ≡ devices.old.disk.ghost_name }

@@ -3,7 +3,6 @@
 ghost use Rattle.std.specs.Prelude.{◌≡◌, OnOk, IfOk, IsTrue, Contains, true};
 ghost use Rattle.dkg_journal.specs.Journals.{IsOpen};
 ghost use Rattle.dkg_store.specs.Dealer.{IsDealerOf};
-ghost use Rattle.dkg_store.specs.Formed.{IsFormed};
 
 use crate::{AckOutcome, Dealer, Devices, MemorySecrets, SecretStore, Store};
 use dkg_ceremony::{
@@ -123,9 +122,7 @@ fn made_once<C: Ceremony, D: Disk, X: SecretStore>(
 fn made_twice<D: Disk, X: SecretStore>(
     alloc: Global,
     devices: &mut Devices<'_, D, X>,
-) -> Result<(Once, Once), Fail>
-    requires formed { IsTrue D.tells → IsFormed (D.image devices.old.disk.now) }
-{
+) -> Result<(Once, Once), Fail> {
     let limit = NonZeroU32::new(4).ok_or("no limit")?;
     let round = round_of(alloc)?;
     let mut store: Store<Unit> = Store::init(alloc, devices, limit)?;
@@ -153,7 +150,6 @@ fn made_twice<D: Disk, X: SecretStore>(
 }
 
 /// That over an empty disk.
-#[tactic(auto, using(crate::proofs::Formed::empty_formed))]
 fn twice_in_memory(alloc: Global) -> Result<(Once, Once), Fail> {
     let mut disk = MemoryDisk::new(alloc);
     let mut secrets = MemorySecrets::new(alloc);
@@ -233,7 +229,7 @@ fn acknowledged_by_three<C: Ceremony, D: Disk, X: SecretStore>(
 }
 
 /// Records a log, and the dealer's again, which is not new.
-#[tactic(auto, using(crate::proofs::Formed::log_short))]
+#[tactic(auto, using(crate::proofs::Short::log_short))]
 fn noted<D: Disk, X: SecretStore>(
     alloc: Global,
     devices: &mut Devices<'_, D, X>,
@@ -415,9 +411,7 @@ fn taken_on<D: Disk, X: SecretStore>(
 fn round_in<D: Disk, X: SecretStore>(
     alloc: Global,
     devices: &mut Devices<'_, D, X>,
-) -> Result<Ended, Fail>
-    requires formed { IsTrue D.tells → IsFormed (D.image devices.old.disk.now) }
-{
+) -> Result<Ended, Fail> {
     let limit = NonZeroU32::new(4).ok_or("no limit")?;
     let round = round_of(alloc)?;
     let mut store: Store<Unit> = Store::init(alloc, devices, limit)?;
@@ -426,7 +420,6 @@ fn round_in<D: Disk, X: SecretStore>(
 }
 
 /// That over an empty disk.
-#[tactic(auto, using(crate::proofs::Formed::empty_formed))]
 fn round_in_memory(alloc: Global) -> Result<Ended, Fail> {
     let mut disk = MemoryDisk::new(alloc);
     let mut secrets = MemorySecrets::new(alloc);

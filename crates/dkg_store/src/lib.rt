@@ -13,6 +13,8 @@ mod dealer;
 mod dealing_tests;
 mod devices;
 mod event;
+#[cfg(test)]
+mod heights_tests;
 mod held;
 mod key_map;
 mod memory_secrets;

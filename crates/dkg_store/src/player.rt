@@ -3,7 +3,7 @@
 //! A reshare actor hands it each dealing that comes in.
 ghost use Rattle.std.specs.Prelude.{◌≡◌, ◌⊎◌, ◌≤◌, ◌<◌, ◌+◌, ◌^◌, ◌++◌, ◌∷◌, [], length, OnOk, OnErr, IfOk, IfErr, IsErrOf, IsTrue, IsSome, IsOk, is_some, None, Ok, Err, Contains, if◌then◌else◌, not, true, ℕ};
 ghost use Rattle.std.specs.FinMap as map;
-ghost use Rattle.dkg_values.specs.declared.name.Name.TheVariants.{Flat};
+ghost use Rattle.dkg_values.specs.declared.name.Name.TheVariants.{Segment};
 ghost use Rattle.dkg_journal.specs.Disk.{Follows, Lands, Rose, SameElse};
 ghost use Rattle.dkg_journal.specs.Fuse.{Reached, Ran, RanAll};
 ghost use Rattle.dkg_journal.specs.Journals.{IsOpen};
@@ -13,7 +13,7 @@ ghost use Rattle.dkg_store.specs.Calls.{keeping, accepting, answering, answered,
 ghost use Rattle.dkg_store.specs.Errors.{IsOfDevices, IsOfHandling};
 ghost use Rattle.dkg_store.specs.Events.{event_spelling, is_event};
 ghost use Rattle.dkg_store.specs.declared.event.Event.TheVariants as events;
-ghost use Rattle.dkg_store.specs.Named.{Named, MayBeNamed};
+ghost use Rattle.dkg_store.specs.Named.{Named, MayBeNamed, NamesOpened, NamesPruned, SamePlan};
 ghost use Rattle.dkg_store.specs.Noted.{SameNotes};
 ghost use Rattle.dkg_store.specs.Pairs.{Holds, HoldsEither};
 ghost use Rattle.dkg_store.specs.Player.{IsPlayerOf, Acknowledges, MayKeep};
@@ -176,7 +176,7 @@ fn keep_dealing<D: Disk, X: SecretStore, Dir: Drop>(
     public: Public,
     private: Private,
 ) -> Result<(), StoreError>
-    requires short { 8 + length (event_spelling (events.Dealing dealer public)) < 2 ^ 32 }
+    requires short { length (event_spelling (events.Dealing dealer public)) < 2 ^ 32 }
     requires room { 0 < out.old.spare }
     requires new { map.get acks.old dealer ≡ None }
     requires unrecorded { map.get store.old.dealings (epoch, dealer) ≡ None }
@@ -207,10 +207,10 @@ fn keep_dealing<D: Disk, X: SecretStore, Dir: Drop>(
     ensures not_cut { OnOk result (Reached devices.old.fuse devices.new.fuse → ⊥) }
     ensures fit { IsTrue D.tells → (limit : ℕ) → is_event limit (event_spelling (events.Dealing dealer public)) ≡ true → AreFit limit (D.image devices.old.disk.now) → AreFit limit (D.image devices.new.disk.now) }
     // A crash leaves every file but the journal's as it was.
-    ensures others { IsTrue D.tells → Follows (SameElse Flat) (D.image devices.old.disk.now) (D.image devices.new.disk.now) }
+    ensures others { IsTrue D.tells → Follows (SameElse (Segment epoch)) (D.image devices.old.disk.now) (D.image devices.new.disk.now) }
     // Where nothing of the disk was loose, each image has the names from before, or the journal's own with them. At Ok it has it.
-    ensures names { IsTrue D.tells → Lands (D.files devices.old.disk.now) (D.image devices.old.disk.now) → Follows MayBeNamed (D.image devices.old.disk.now) (D.image devices.new.disk.now) }
-    ensures named { OnOk result (IsTrue D.tells → Follows (Named true) (D.image devices.old.disk.now) (D.image devices.new.disk.now)) }
+    ensures names { IsTrue D.tells → Lands (D.files devices.old.disk.now) (D.image devices.old.disk.now) → Follows (MayBeNamed epoch) (D.image devices.old.disk.now) (D.image devices.new.disk.now) }
+    ensures named { OnOk result (IsTrue D.tells → Follows (Named true epoch) (D.image devices.old.disk.now) (D.image devices.new.disk.now)) }
     // At Ok nothing of the disk is loose, where nothing was.
     ensures lands { OnOk result (IsTrue D.tells → Lands (D.files devices.old.disk.now) (D.image devices.old.disk.now) → Lands (D.files devices.new.disk.now) (D.image devices.new.disk.now)) }
     // The secret store comes first: where it failed, the disk is as it was.
@@ -317,7 +317,7 @@ impl Player {
         public: Public,
         private: Private,
     ) -> Result<Ack, DealingHandleError>
-        requires short { 8 + length (event_spelling (events.Dealing dealer public)) < 2 ^ 32 }
+        requires short { length (event_spelling (events.Dealing dealer public)) < 2 ^ 32 }
         requires playing { Contains self.old.round.players self.old.me }
         requires signer { C.Signer.key_of signer.now ≡ self.old.me }
         requires unrecorded { map.get store.old.dealings (epoch, dealer) ≡ None }
@@ -360,10 +360,10 @@ impl Player {
         ensures not_cut { OnOk result (Reached devices.old.fuse devices.new.fuse → ⊥) }
         ensures fit { IsTrue D.tells → (limit : ℕ) → is_event limit (event_spelling (events.Dealing dealer public)) ≡ true → AreFit limit (D.image devices.old.disk.now) → AreFit limit (D.image devices.new.disk.now) }
         // A crash leaves every file but the journal's as it was.
-        ensures others { IsTrue D.tells → Follows (SameElse Flat) (D.image devices.old.disk.now) (D.image devices.new.disk.now) }
+        ensures others { IsTrue D.tells → Follows (SameElse (Segment epoch)) (D.image devices.old.disk.now) (D.image devices.new.disk.now) }
         // Where nothing of the disk was loose, each image has the names from before, or the journal's own with them. At Ok it has it.
-        ensures names { IsTrue D.tells → Lands (D.files devices.old.disk.now) (D.image devices.old.disk.now) → Follows MayBeNamed (D.image devices.old.disk.now) (D.image devices.new.disk.now) }
-        ensures named { OnOk result (IsTrue D.tells → Follows (Named true) (D.image devices.old.disk.now) (D.image devices.new.disk.now)) }
+        ensures names { IsTrue D.tells → Lands (D.files devices.old.disk.now) (D.image devices.old.disk.now) → Follows (MayBeNamed epoch) (D.image devices.old.disk.now) (D.image devices.new.disk.now) }
+        ensures named { OnOk result (IsTrue D.tells → Follows (Named true epoch) (D.image devices.old.disk.now) (D.image devices.new.disk.now)) }
         // At Ok nothing of the disk is loose, where nothing was.
         ensures lands { OnOk result (IsTrue D.tells → Lands (D.files devices.old.disk.now) (D.image devices.old.disk.now) → Lands (D.files devices.new.disk.now) (D.image devices.new.disk.now)) }
         // The secret store comes first: where it failed, the disk is as it was.
@@ -418,7 +418,7 @@ impl Player {
         public: Public,
         private: Private,
     ) -> Result<Ack, DealingHandleError>
-        requires short { 8 + length (event_spelling (events.Dealing dealer public)) < 2 ^ 32 }
+        requires short { length (event_spelling (events.Dealing dealer public)) < 2 ^ 32 }
         requires playing { Contains self.old.round.players self.old.me }
         requires signer { C.Signer.key_of signer.now ≡ self.old.me }
         requires open { IsTrue D.tells → IsOpen store.old.journal (D.files devices.old.disk.now) (D.image devices.old.disk.now) }
@@ -470,11 +470,11 @@ impl Player {
         ensures not_cut { OnOk result (Reached devices.old.fuse devices.new.fuse → ⊥) }
         ensures fit { IsTrue D.tells → (limit : ℕ) → is_event limit (event_spelling (events.Dealing dealer public)) ≡ true → AreFit limit (D.image devices.old.disk.now) → AreFit limit (D.image devices.new.disk.now) }
         // A crash leaves every file but the journal's as it was.
-        ensures others { IsTrue D.tells → Follows (SameElse Flat) (D.image devices.old.disk.now) (D.image devices.new.disk.now) }
+        ensures others { IsTrue D.tells → Follows (SameElse (Segment epoch)) (D.image devices.old.disk.now) (D.image devices.new.disk.now) }
         // Where nothing of the disk was loose, each image has the names from before, or the journal's own with them. At Ok it has it, if the
         // record is new, and else just those from before.
-        ensures names { IsTrue D.tells → Lands (D.files devices.old.disk.now) (D.image devices.old.disk.now) → Follows MayBeNamed (D.image devices.old.disk.now) (D.image devices.new.disk.now) }
-        ensures named { OnOk result (IsTrue D.tells → IsPlayerOf C.ack_of self.old.me self.old.round self.old.acks store.old.dealings epoch → Follows (Named (not (is_some (map.get store.old.dealings (epoch, dealer))))) (D.image devices.old.disk.now) (D.image devices.new.disk.now)) }
+        ensures names { IsTrue D.tells → Lands (D.files devices.old.disk.now) (D.image devices.old.disk.now) → Follows (MayBeNamed epoch) (D.image devices.old.disk.now) (D.image devices.new.disk.now) }
+        ensures named { OnOk result (IsTrue D.tells → IsPlayerOf C.ack_of self.old.me self.old.round self.old.acks store.old.dealings epoch → Follows (Named (not (is_some (map.get store.old.dealings (epoch, dealer)))) epoch) (D.image devices.old.disk.now) (D.image devices.new.disk.now)) }
         // At Ok nothing of the disk is loose, where nothing was.
         ensures lands { OnOk result (IsTrue D.tells → Lands (D.files devices.old.disk.now) (D.image devices.old.disk.now) → Lands (D.files devices.new.disk.now) (D.image devices.new.disk.now)) }
         // The secret store comes first: where it failed, the disk is as it was.

@@ -3,7 +3,6 @@ ghost use Rattle.std.specs.Prelude.{◌≡◌, OnOk, IfOk, IsTrue, Contains};
 ghost use Rattle.std.specs.FinMap as map;
 ghost use Rattle.dkg_ceremony.specs.Finishes.{Finishes};
 ghost use Rattle.dkg_journal.specs.Journals.{IsOpen};
-ghost use Rattle.dkg_store.specs.Formed.{IsFormed};
 ghost use Rattle.dkg_store.specs.Recorded.{AreChecked, at_epoch};
 
 use crate::dealing_tests::{ME, SEED, dealt, fits, round_of};
@@ -136,9 +135,7 @@ fn logs_in<D: Disk, X: SecretStore>(
     alloc: Global,
     devices: &mut Devices<'_, D, X>,
     round: &Round,
-) -> Result<Map<DealerLog>, Fail>
-    requires formed { IsTrue D.tells → IsFormed (D.image devices.old.disk.now) }
-{
+) -> Result<Map<DealerLog>, Fail> {
     let limit = NonZeroU32::new(4).ok_or("no limit")?;
     let mut store: Store<Unit> = Store::init(alloc, devices, limit)?;
     let one = StandSigner::new(Key(1));
@@ -180,7 +177,6 @@ fn logs_in<D: Disk, X: SecretStore>(
 }
 
 /// Those, made over an empty disk.
-#[tactic(auto, using(crate::proofs::Formed::empty_formed))]
 fn logs_in_memory(alloc: Global, round: &Round) -> Result<Map<DealerLog>, Fail> {
     let mut disk = MemoryDisk::new(alloc);
     let mut secrets = MemorySecrets::new(alloc);
@@ -214,9 +210,7 @@ fn ended_in<D: Disk, X: SecretStore>(
     round: &Round,
     dealers: &[Key],
     logs: &Map<DealerLog>,
-) -> Result<Result<Option<(Output, Share)>, FinishError>, Fail>
-    requires formed { IsTrue D.tells → IsFormed (D.image devices.old.disk.now) }
-{
+) -> Result<Result<Option<(Output, Share)>, FinishError>, Fail> {
     if !round.players.has(ME) {
         return Err(Fail::from("the key is no player"));
     }
@@ -241,7 +235,6 @@ fn ended_in<D: Disk, X: SecretStore>(
 }
 
 /// That over an empty disk.
-#[tactic(auto, using(crate::proofs::Formed::empty_formed))]
 fn ended_in_memory(
     alloc: Global,
     round: &Round,

@@ -1,7 +1,7 @@
 //! What a journal's entries and a secret store give back when a store is opened.
 ghost use Rattle.std.specs.Prelude.{◌≡◌, ◌≤◌, [], ℕ, IfOk, OnOk, IsTrue, IsErrOf, IfErr, Some, None, Ok, true, false};
 ghost use Rattle.dkg_values.specs.declared.name.Name.{Name};
-ghost use Rattle.dkg_values.specs.declared.name.Name.TheVariants.{Flat};
+ghost use Rattle.dkg_values.specs.declared.name.Name.TheVariants.{Segment};
 ghost use Rattle.dkg_store.specs.Corrupt.{BeginsWithEvent};
 ghost use Rattle.dkg_store.specs.Events.{is_event, no_event_at};
 ghost use Rattle.std.specs.FinMap as map;
@@ -122,14 +122,14 @@ fn restore_one<X: SecretStore>(
     ensures event { OnOk result (is_event limit entry.now.body ≡ true) }
     ensures half { IsErrOf result StoreError.Secrets → is_event limit entry.now.body ≡ true }
     // A body that is no event is the one cause of Corrupt.
-    ensures corrupt { (name : Name) (place : ℕ) → IsErrOf result (StoreError.Corrupt name place) → (name ≡ Flat) × (place ≡ entry.now.place) × (is_event limit entry.now.body ≡ false) }
+    ensures corrupt { (name : Name) (place : ℕ) → IsErrOf result (StoreError.Corrupt name place) → (name ≡ Segment entry.now.section) × (place ≡ entry.now.place) × (is_event limit entry.now.body ≡ false) }
     ensures kinds { IfErr result IsOfRestoring }
     ensures calls { X.made secrets.old secrets.new [] }
 {
     match read_event(alloc, entry.body.as_slice(), limit) {
         Err(CodecError::NoMemory) => Err(StoreError::NoMemory),
         Err(_) => Err(StoreError::Corrupt {
-            name: Name::Flat,
+            name: Name::Segment(entry.section),
             place: entry.place,
         }),
         Ok(event) => restore_event(alloc, secrets, recorded, Epoch(entry.section), event),
@@ -154,7 +154,7 @@ pub(crate) fn restore<X: SecretStore>(
     // A private half is read only of an event before which all are events.
     ensures half { IsErrOf result StoreError.Secrets → BeginsWithEvent limit (views entries.now) }
     // The first body that is no event is the one cause of Corrupt.
-    ensures corrupt { (name : Name) (place : ℕ) → IsErrOf result (StoreError.Corrupt name place) → (name ≡ Flat) × (no_event_at limit entries.now ≡ Some place) }
+    ensures corrupt { (name : Name) (place : ℕ) → IsErrOf result (StoreError.Corrupt name place) → no_event_at limit entries.now ≡ Some (name, place) }
     ensures kinds { IfErr result IsOfRestoring }
     ensures calls { X.made secrets.old secrets.new [] }
 {

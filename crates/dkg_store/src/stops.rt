@@ -1,7 +1,6 @@
 //! Stops at each call of a new dealing, and the openings behind them, against the reference model.
 ghost use Rattle.std.specs.Prelude.{◌≡◌, IfOk, OnOk, IsTrue, length};
 ghost use Rattle.dkg_journal.specs.Table.{RowsImage};
-ghost use Rattle.dkg_store.specs.Formed.{IsFormed};
 
 use crate::{Devices, MemorySecrets, SecretStore, Store, StoreError};
 use dkg_ceremony::{Private, Public};
@@ -35,13 +34,10 @@ fn public_of(alloc: Global, coefficients: [u16; 3]) -> Result<Public, Fail>
 }
 
 /// Opens a store, and gives the dealer and the private half of each dealing that is restored.
-#[tactic(auto, using(crate::proofs::Formed::keeps_formed))]
 fn restored<D: Disk, X: SecretStore>(
     alloc: Global,
     devices: &mut Devices<'_, D, X>,
 ) -> Result<Vec<(Key, u16)>, Fail>
-    requires formed { IsTrue D.tells → IsFormed (D.image devices.old.disk.now) }
-    ensures formed { IsTrue D.tells → IsFormed (D.image devices.new.disk.now) }
     ensures same_disk { devices.new.disk.ghost_name ≡ devices.old.disk.ghost_name }
     ensures same_secrets { devices.new.secrets.ghost_name ≡ devices.old.secrets.ghost_name }
 {
@@ -55,7 +51,7 @@ fn restored<D: Disk, X: SecretStore>(
 }
 
 /// Opens a store, and records a dealing with this fuse.
-#[tactic(auto, using(crate::proofs::Formed::keeps_formed, crate::proofs::Formed::others_formed, crate::proofs::Formed::event_short))]
+#[tactic(auto, using(crate::proofs::Short::event_short))]
 fn recorded<D: Disk, X: SecretStore>(
     alloc: Global,
     devices: &mut Devices<'_, D, X>,
@@ -63,8 +59,6 @@ fn recorded<D: Disk, X: SecretStore>(
     dealer: Key,
     dealing: ([u16; 3], u16),
 ) -> Result<Result<bool, StoreError>, Fail>
-    requires formed { IsTrue D.tells → IsFormed (D.image devices.old.disk.now) }
-    ensures formed { IsTrue D.tells → IsFormed (D.image devices.new.disk.now) }
     ensures same_disk { devices.new.disk.ghost_name ≡ devices.old.disk.ghost_name }
     ensures same_secrets { devices.new.secrets.ghost_name ≡ devices.old.secrets.ghost_name }
 {
@@ -83,8 +77,6 @@ fn earlier<D: Disk, X: SecretStore>(
     devices: &mut Devices<'_, D, X>,
     later: bool,
 ) -> Result<(), Fail>
-    requires formed { IsTrue D.tells → IsFormed (D.image devices.old.disk.now) }
-    ensures formed { IsTrue D.tells → IsFormed (D.image devices.new.disk.now) }
     ensures same_disk { devices.new.disk.ghost_name ≡ devices.old.disk.ghost_name }
     ensures same_secrets { devices.new.secrets.ghost_name ≡ devices.old.secrets.ghost_name }
 {
@@ -104,8 +96,6 @@ fn stop<D: Disk, X: SecretStore>(
     call: u64,
     pick: u64,
 ) -> Result<(), Fail>
-    requires formed { IsTrue D.tells → IsFormed (D.image devices.old.disk.now) }
-    ensures formed { IsTrue D.tells → IsFormed (D.image devices.new.disk.now) }
     ensures same_disk { devices.new.disk.ghost_name ≡ devices.old.disk.ghost_name }
     ensures same_secrets { devices.new.secrets.ghost_name ≡ devices.old.secrets.ghost_name }
 {
@@ -122,8 +112,6 @@ fn second<D: Disk, X: SecretStore>(
     alloc: Global,
     devices: &mut Devices<'_, D, X>,
 ) -> Result<bool, Fail>
-    requires formed { IsTrue D.tells → IsFormed (D.image devices.old.disk.now) }
-    ensures formed { IsTrue D.tells → IsFormed (D.image devices.new.disk.now) }
     ensures same_disk { devices.new.disk.ghost_name ≡ devices.old.disk.ghost_name }
     ensures same_secrets { devices.new.secrets.ghost_name ≡ devices.old.secrets.ghost_name }
 {
@@ -138,9 +126,7 @@ fn lives<D: Disk, X: SecretStore>(
     later: bool,
     call: u64,
     pick: u64,
-) -> Result<(Vec<(Key, u16)>, bool, Vec<(Key, u16)>), Fail>
-    requires { IsTrue D.tells → IsFormed (D.image devices.old.disk.now) }
-{
+) -> Result<(Vec<(Key, u16)>, bool, Vec<(Key, u16)>), Fail> {
     earlier(alloc, devices, later)?;
     stop(alloc, devices, call, pick)?;
     let found = restored(alloc, devices)?;
@@ -150,7 +136,6 @@ fn lives<D: Disk, X: SecretStore>(
 }
 
 /// That over an empty disk.
-#[tactic(auto, using(crate::proofs::Formed::empty_formed))]
 fn stopped(
     alloc: Global,
     later: bool,
@@ -211,5 +196,43 @@ fn a_stopped_dealing_is_whole_or_not_there(rt: HostRuntime) -> Result<(), Fail> 
             }
         }
     }
+    Ok(())
+}
+
+/// Records a dealing, and prunes behind it. Whether the prune failed, and how many dealings are kept.
+#[tactic(auto, using(crate::proofs::Short::event_short))]
+fn pruned<D: Disk, X: SecretStore>(
+    alloc: Global,
+    devices: &mut Devices<'_, D, X>,
+) -> Result<(bool, u32), Fail> {
+    let limit = NonZeroU32::new(4).ok_or("no limit")?;
+    let mut store: Store<Unit> = Store::init(alloc, devices, limit)?;
+    let (coefficients, value) = FIRST;
+    let public = public_of(alloc, coefficients)?;
+    let private = Private(element(value)?);
+    let _new = store.append_dealing(alloc, devices, Epoch(0), DEALER, public, private)?;
+    let failed = store.prune(alloc, devices, Epoch(1)).is_err();
+    let kept = store.dealings(alloc, Epoch(0))?;
+    Ok((failed, kept.len()))
+}
+
+/// That over an empty disk, with secrets of which these calls fail.
+fn pruned_in_memory(alloc: Global, failing: Vec<u64>) -> Result<(bool, u32), Fail> {
+    let mut disk = MemoryDisk::new(alloc);
+    let mut secrets = MemorySecrets::failing(alloc, failing);
+    let mut devices = Devices {
+        disk: &mut disk,
+        secrets: &mut secrets,
+        fuse: Fuse::never(),
+    };
+    pruned(alloc, &mut devices)
+}
+
+#[test]
+fn a_failed_prune_forgets_nothing(rt: HostRuntime) -> Result<(), Fail> {
+    let alloc = rt.alloc();
+    // the dealing's private half is the first call, and the prune the second
+    assert_eq!(rt; pruned_in_memory(alloc, vec![in alloc; 2]?)?, (true, 1));
+    assert_eq!(rt; pruned_in_memory(alloc, Vec::new(alloc))?, (false, 0));
     Ok(())
 }

@@ -5,12 +5,13 @@ ghost use Rattle.std.specs.Prelude.{◌≡◌, ◌⊎◌, ◌≤◌, ◌<◌, �
 ghost use Rattle.std.specs.Prelude.{map as list_map};
 ghost use Rattle.std.specs.Option.{option_copied};
 ghost use Rattle.std.specs.FinMap as map;
+ghost use Rattle.std.specs.FinMap.{keys};
 ghost use Rattle.std.specs.Int.NonZero.{non_zero_u32_get};
 ghost use Rattle.std.specs.List.Sorted.{IsStrictlyIncreasing};
 ghost use Rattle.dkg_ceremony.specs.Finishes.{has_public};
 ghost use Rattle.dkg_values.specs.Rising.{keys_of, lookup};
 ghost use Rattle.dkg_values.specs.declared.name.Name.{Name};
-ghost use Rattle.dkg_values.specs.declared.name.Name.TheVariants.{Flat};
+ghost use Rattle.dkg_values.specs.declared.name.Name.TheVariants.{Segment};
 ghost use Rattle.dkg_types.specs.declared.entry.Entry.{Entry as Line};
 ghost use Rattle.dkg_journal.specs.Names.{Files};
 ghost use Rattle.dkg_journal.specs.Records.{Entry, entries};
@@ -21,8 +22,9 @@ ghost use Rattle.dkg_journal.specs.Fuse.{Reached, Ran, RanAll};
 ghost use Rattle.dkg_journal.specs.Journals.{IsOpen, append_calls};
 ghost use Rattle.dkg_journal.specs.Operations.{Journaled};
 ghost use Rattle.dkg_journal.specs.Pruning.{Leaves};
+ghost use Rattle.dkg_journal.specs.Places.{place_at};
 ghost use Rattle.dkg_journal.specs.Steps.{Keeps};
-ghost use Rattle.dkg_journal.specs.Opening.{AreUnbroken, IsFormOfToday, broken, open_calls};
+ghost use Rattle.dkg_journal.specs.Opening.{AreUnbroken, broken, open_calls};
 ghost use Rattle.dkg_store.specs.Acts.{MadeAt, MadeOn, Runs, moment, world};
 ghost use Rattle.dkg_store.specs.Calls.{put_and_appended, noting, recording, sharing, seeding, committing, pruning, opens, opened, opening, ended, ended_as};
 ghost use Rattle.dkg_store.specs.Commits.{commit_calls, committed};
@@ -31,12 +33,12 @@ ghost use Rattle.dkg_store.specs.Errors.{IsOfDealing, IsOfDevices, IsOfOpening, 
 ghost use Rattle.dkg_store.specs.Secrets.{Secrets, Tries, after};
 ghost use Rattle.dkg_store.specs.Events.{event_spelling, is_event};
 ghost use Rattle.dkg_store.specs.declared.event.Event.TheVariants as events;
-ghost use Rattle.dkg_store.specs.Pairs.{Pairs, IsWhole, AreAtOrAbove, Holds, HoldsEither, recovered};
+ghost use Rattle.dkg_store.specs.Pairs.{Pairs, HoldsPruned, IsWhole, AreAtOrAbove, Holds, HoldsEither, recovered};
 ghost use Rattle.dkg_store.specs.declared.recorded_log.RecordedLog.{RecordedLog};
 ghost use Rattle.dkg_store.specs.Recorded.{AreChecked, is_reached, at_epoch, restored_list, of_epoch, first_refused, bare_logs, reached_logs};
 ghost use Rattle.dkg_store.specs.Both.{MadeBoth, IsWant, prune_both, put_then_append};
-ghost use Rattle.dkg_store.specs.Named.{Named, MayBeNamed};
-ghost use Rattle.dkg_store.specs.Noted.{Gives, GivesEither, Notes, SameNotes, acks_in, logs_in};
+ghost use Rattle.dkg_store.specs.Named.{Named, MayBeNamed, NamesOpened, NamesPruned, SamePlan};
+ghost use Rattle.dkg_store.specs.Noted.{Gives, GivesEither, GivesPruned, Notes, SameNotes, acks_in, logs_in};
 ghost use Rattle.dkg_store.specs.Dealer.{IsDealerOf, passing, passing_acks};
 ghost use Rattle.dkg_store.specs.Player.{has_orphan};
 ghost use Rattle.dkg_store.specs.Ready.{IsReadyDealing};
@@ -55,7 +57,7 @@ use crate::secrets::{SecretError, SecretOp, SecretStore};
 use dkg_ceremony::{
     Ack, Ceremony, DealError, DealerLog, Private, Public, Round, Share, Signer, Value,
 };
-use dkg_journal::{Disk, Fuse, Journal, Op, Prepared, perform};
+use dkg_journal::{Disk, Fuse, Journal, Op, perform};
 use dkg_types::{EpochInfo, LocalCause, Restored};
 use dkg_values::{Epoch, Height, Key, Map, Mem, NoMemory, NotRising, Seed};
 use std::alloc::Global;
@@ -77,27 +79,21 @@ pub struct Store<Dir> {
 struct ReadyDealing {
     put: SecretOp,
     body: Vec<u8>,
-    calls: Prepared,
 }
 
 /// Takes the memory of a new dealing.
 fn ready_dealing(
     alloc: Global,
-    journal: &Journal,
     epoch: Epoch,
     dealer: Key,
     public: &Public,
     private: Private,
 ) -> Result<ReadyDealing, StoreError>
-    requires { 8 + length (event_spelling (events.Dealing dealer public.now)) < 2 ^ 32 }
-    ensures ready { IfOk result (λ r. IsReadyDealing r journal.now epoch dealer public.now private) }
+    ensures ready { IfOk result (λ r. IsReadyDealing r epoch dealer public.now private) }
     ensures memory { IfErr result (λ e. e ≡ StoreError.NoMemory) }
 {
     dealing_fits(dealer, public);
     let body = dealing_body(alloc, dealer, public)?;
-    let Ok(calls) = journal.ready(alloc, epoch.0, &body) else {
-        return Err(StoreError::NoMemory);
-    };
     Ok(ReadyDealing {
         put: SecretOp::PutDealing {
             epoch,
@@ -105,7 +101,6 @@ fn ready_dealing(
             private,
         },
         body,
-        calls,
     })
 }
 
@@ -115,22 +110,20 @@ fn open_journal<D: Disk>(
     disk: &mut D,
     fuse: &mut Fuse,
 ) -> Result<Journal, StoreError>
-    ensures open { IfOk result (λ journal. IsTrue D.tells → IsFormOfToday (D.files disk.old) → IsOpen journal (D.files disk.new) (D.image disk.new)) }
+    ensures open { IfOk result (λ journal. IsTrue D.tells → IsOpen journal (D.files disk.new) (D.image disk.new)) }
     ensures images { IsTrue D.tells → Follows Keeps (D.image disk.old) (D.image disk.new) }
     // What it read is what the files stand for, and after it a crash leaves no other entries.
-    ensures listed { IfOk result (λ journal. IsTrue D.tells → IsFormOfToday (D.files disk.old) → views journal.waiting.items ≡ entries (D.files disk.old)) }
+    ensures listed { IfOk result (λ journal. IsTrue D.tells → views journal.waiting.items ≡ entries (D.files disk.old)) }
     ensures gated { IfOk result (λ journal. IsTrue D.tells → list_map gated journal.waiting.items ≡ gated_entries (D.files disk.old)) }
     ensures settled { OnOk result (IsTrue D.tells → (c : Files) → D.image disk.new c → entries c ≡ entries (D.files disk.old)) }
     ensures acts { IsTrue D.tells → broken (D.files disk.old) ≡ None → (out : List Line) (s : Secrets) → MadeAt (opens None (length (open_calls (D.files disk.old)))) (opened result) (D.files disk.old) (D.image disk.old) (D.files disk.new) (D.image disk.new) (moment out s fuse.old) (moment out s fuse.new) }
-    ensures corrupt { (name : Name) (place : ℕ) → IsErrOf result (StoreError.Corrupt name place) → IsTrue D.tells → (name ≡ Flat) × (broken (D.files disk.old) ≡ Some place) }
+    ensures corrupt { (name : Name) (place : ℕ) → IsErrOf result (StoreError.Corrupt name place) → IsTrue D.tells → broken (D.files disk.old) ≡ Some (name, place) }
     ensures whole { OnOk result (IsTrue D.tells → broken (D.files disk.old) ≡ None) }
     // Another opening finds the same, at Ok and at Corrupt.
     ensures alike { OnOk result (IsTrue D.tells → OpensAlike (D.files disk.old) (D.files disk.new)) }
     ensures unread { (name : Name) (place : ℕ) → IsErrOf result (StoreError.Corrupt name place) → IsTrue D.tells → OpensAlike (D.files disk.old) (D.files disk.new) }
-    ensures sound { AreUnbroken (D.image disk.old) → AreUnbroken (D.image disk.new) }
-    // Wherever it stops, each image has the names from before: the end of a file is mended in place of it, and one that is absent stays so.
-    ensures names { IsTrue D.tells → Follows (Named false) (D.image disk.old) (D.image disk.new) }
-    ensures settled_names { OnOk result (IsTrue D.tells → (c : Files) → D.image disk.new c → Named false (D.files disk.old) c) }
+    ensures sound { IsTrue D.tells → AreUnbroken (D.image disk.old) → AreUnbroken (D.image disk.new) }
+    ensures settled_names { OnOk result (IsTrue D.tells → (c : Files) → D.image disk.new c → NamesOpened (D.files disk.old) c) }
     ensures lands { OnOk result (IsTrue D.tells → Lands (D.files disk.new) (D.image disk.new)) }
     ensures later { D.faults disk.old ≤ D.faults disk.new }
     ensures disk { IsErrOf result StoreError.Disk → Rose (D.faults disk.old) (D.faults disk.new) }
@@ -407,7 +400,8 @@ fn record_dealing<D: Disk, X: SecretStore>(
     public: Public,
     private: Private,
 ) -> Result<(), StoreError>
-    requires ready { IsReadyDealing ready.now journal.old epoch dealer public private }
+    requires ready { IsReadyDealing ready.now epoch dealer public private }
+    requires short { length (event_spelling (events.Dealing dealer public)) < 2 ^ 32 }
     requires new { map.get dealings.old (epoch, dealer) ≡ None }
     requires open { IsTrue D.tells → IsOpen journal.old (D.files devices.old.disk.now) (D.image devices.old.disk.now) }
     ensures open { OnOk result (IsTrue D.tells → IsOpen journal.new (D.files devices.new.disk.now) (D.image devices.new.disk.now)) }
@@ -429,10 +423,10 @@ fn record_dealing<D: Disk, X: SecretStore>(
     ensures not_cut { OnOk result (Reached devices.old.fuse devices.new.fuse → ⊥) }
     ensures fit { IsTrue D.tells → (limit : ℕ) → is_event limit (event_spelling (events.Dealing dealer public)) ≡ true → AreFit limit (D.image devices.old.disk.now) → AreFit limit (D.image devices.new.disk.now) }
     // A crash leaves every file but the journal's as it was.
-    ensures others { IsTrue D.tells → Follows (SameElse Flat) (D.image devices.old.disk.now) (D.image devices.new.disk.now) }
+    ensures others { IsTrue D.tells → Follows (SameElse (Segment epoch)) (D.image devices.old.disk.now) (D.image devices.new.disk.now) }
     // Where nothing of the disk was loose, each image has the names from before, or the journal's own with them. At Ok it has it.
-    ensures names { IsTrue D.tells → Lands (D.files devices.old.disk.now) (D.image devices.old.disk.now) → Follows MayBeNamed (D.image devices.old.disk.now) (D.image devices.new.disk.now) }
-    ensures named { OnOk result (IsTrue D.tells → Follows (Named true) (D.image devices.old.disk.now) (D.image devices.new.disk.now)) }
+    ensures names { IsTrue D.tells → Lands (D.files devices.old.disk.now) (D.image devices.old.disk.now) → Follows (MayBeNamed epoch) (D.image devices.old.disk.now) (D.image devices.new.disk.now) }
+    ensures named { OnOk result (IsTrue D.tells → Follows (Named true epoch) (D.image devices.old.disk.now) (D.image devices.new.disk.now)) }
     // At Ok nothing of the disk is loose, where nothing was.
     ensures lands { OnOk result (IsTrue D.tells → Lands (D.files devices.old.disk.now) (D.image devices.old.disk.now) → Lands (D.files devices.new.disk.now) (D.image devices.new.disk.now)) }
     // The secret store comes first: where it failed, the disk is as it was.
@@ -441,12 +435,16 @@ fn record_dealing<D: Disk, X: SecretStore>(
     ensures same_secrets { devices.new.secrets.ghost_name ≡ devices.old.secrets.ghost_name }
 {
     dealings.insert(epoch, dealer, (public, private))?;
+    let Ok(calls) = journal.ready(alloc, epoch.0, &ready.body) else {
+        dealings.remove(epoch, dealer);
+        return Err(StoreError::NoMemory);
+    };
     if let Err(error) = put_and_append(
         alloc,
         devices,
         journal,
         &ready.put,
-        &ready.calls,
+        &calls,
         epoch.0,
         &ready.body,
     ) {
@@ -471,40 +469,39 @@ impl<Dir: Drop> Store<Dir> {
         devices: &mut Devices<'_, D, X>,
         limit: NonZeroU32,
     ) -> Result<Store<Dir>, StoreError>
-        ensures open { IfOk result (λ store. IsTrue D.tells → IsFormOfToday (D.files devices.old.disk.now) → IsOpen store.journal (D.files devices.new.disk.now) (D.image devices.new.disk.now)) }
+        ensures open { IfOk result (λ store. IsTrue D.tells → IsOpen store.journal (D.files devices.new.disk.now) (D.image devices.new.disk.now)) }
         ensures current { IfOk result (λ store. store.current ≡ None) }
         // A dealing is restored exactly where its record and its private half are there, a later record of a key in place of an earlier one.
-        ensures recovered { IfOk result (λ store. IsTrue D.tells → IsTrue X.tells → IsFormOfToday (D.files devices.old.disk.now) → store.dealings ≡ recovered (entries (D.files devices.old.disk.now)) (X.held devices.old.secrets.now)) }
-        ensures acks { IfOk result (λ store. IsTrue D.tells → IsFormOfToday (D.files devices.old.disk.now) → store.acks ≡ acks_in (entries (D.files devices.old.disk.now))) }
-        ensures logs { IfOk result (λ store. IsTrue D.tells → IsFormOfToday (D.files devices.old.disk.now) → store.logs ≡ logs_in (entries (D.files devices.old.disk.now))) }
+        ensures recovered { IfOk result (λ store. IsTrue D.tells → IsTrue X.tells → store.dealings ≡ recovered (entries (D.files devices.old.disk.now)) (X.held devices.old.secrets.now)) }
+        ensures acks { IfOk result (λ store. IsTrue D.tells → store.acks ≡ acks_in (entries (D.files devices.old.disk.now))) }
+        ensures logs { IfOk result (λ store. IsTrue D.tells → store.logs ≡ logs_in (entries (D.files devices.old.disk.now))) }
         ensures restored { IfOk result (λ store. store.restored.items ≡ restored_list store.dealings) }
         // From then on a crash leaves just that.
-        ensures settled { IfOk result (λ store. IsTrue D.tells → IsTrue X.tells → IsFormOfToday (D.files devices.old.disk.now) → IsWhole (entries (D.files devices.old.disk.now)) (X.held devices.old.secrets.now) → Holds store.dealings (D.image devices.new.disk.now) (X.held devices.new.secrets.now)) }
-        ensures settled_acks { IfOk result (λ store. IsTrue D.tells → IsFormOfToday (D.files devices.old.disk.now) → Gives acks_in store.acks (D.image devices.new.disk.now)) }
-        ensures settled_logs { IfOk result (λ store. IsTrue D.tells → IsFormOfToday (D.files devices.old.disk.now) → Gives logs_in store.logs (D.image devices.new.disk.now)) }
+        ensures settled { IfOk result (λ store. IsTrue D.tells → IsTrue X.tells → IsWhole (entries (D.files devices.old.disk.now)) (X.held devices.old.secrets.now) → Holds store.dealings (D.image devices.new.disk.now) (X.held devices.new.secrets.now)) }
+        ensures settled_acks { IfOk result (λ store. IsTrue D.tells → Gives acks_in store.acks (D.image devices.new.disk.now)) }
+        ensures settled_logs { IfOk result (λ store. IsTrue D.tells → Gives logs_in store.logs (D.image devices.new.disk.now)) }
         ensures settled_entries { OnOk result (IsTrue D.tells → (c : Files) → D.image devices.new.disk.now c → entries c ≡ entries (D.files devices.old.disk.now)) }
         // Wherever it stops, each image with the secrets is whole as before, and gives the same dealings.
         ensures holds { IsTrue D.tells → (pairs : Pairs) → Holds pairs (D.image devices.old.disk.now) (X.held devices.old.secrets.now) → Holds pairs (D.image devices.new.disk.now) (X.held devices.new.secrets.now) }
         // The barrier, the journal's opening, and what is read then, or the first body that is no event: all at Ok and at Corrupt, and at any
         // other exit a part, whatever image is left.
-        ensures acts { IsTrue D.tells → IsTrue X.tells → IsFormOfToday (D.files devices.old.disk.now) → broken (D.files devices.old.disk.now) ≡ None → (alien : Option (Name × ℕ)) → IsAlien (non_zero_u32_get limit) (D.files devices.old.disk.now) alien → (out : List Line) → MadeOn D.files D.image X.held (opening None (length (open_calls (D.files devices.old.disk.now))) alien) (ended_as (λ store. (store.dealings, store.acks, store.logs)) result) devices.old devices.new out out }
+        ensures acts { IsTrue D.tells → IsTrue X.tells → broken (D.files devices.old.disk.now) ≡ None → (alien : Option (Name × ℕ)) → IsAlien (non_zero_u32_get limit) (D.files devices.old.disk.now) alien → (out : List Line) → MadeOn D.files D.image X.held (opening None (length (open_calls (D.files devices.old.disk.now))) alien) (ended_as (λ store. (store.dealings, store.acks, store.logs)) result) devices.old devices.new out out }
         // Corrupt comes exactly of a record that is not whole, or, where all are, of the first whose body is no event within the limit.
-        ensures corrupt { (name : Name) (place : ℕ) → IsErrOf result (StoreError.Corrupt name place) → IsTrue D.tells → IsFormOfToday (D.files devices.old.disk.now) → (name ≡ Flat) × IsCorruptAt (non_zero_u32_get limit) (D.files devices.old.disk.now) place }
+        ensures corrupt { (name : Name) (place : ℕ) → IsErrOf result (StoreError.Corrupt name place) → IsTrue D.tells → IsCorruptAt (non_zero_u32_get limit) (D.files devices.old.disk.now) name place }
         // .. and where there is such a record, the answer is Corrupt at its gate, but where a device, a cut or want of memory ended it before.
-        ensures answer { (place : ℕ) → IsTrue D.tells → IsFormOfToday (D.files devices.old.disk.now) → IsCorruptAt (non_zero_u32_get limit) (D.files devices.old.disk.now) place → MatchResult result (λ store. ⊥) (λ e. (e ≡ StoreError.Corrupt Flat place) ⊎ IsOfDevices e) }
+        ensures answer { (name : Name) (place : ℕ) → IsTrue D.tells → IsCorruptAt (non_zero_u32_get limit) (D.files devices.old.disk.now) name place → MatchResult result (λ store. ⊥) (λ e. (e ≡ StoreError.Corrupt name place) ⊎ IsOfDevices e) }
         // Where a crash left no such record as the call began, only a device, a cut or want of memory ends it.
-        ensures opens { IsTrue D.tells → IsFormOfToday (D.files devices.old.disk.now) → AreFit (non_zero_u32_get limit) (D.image devices.old.disk.now) → IfErr result IsOfDevices }
+        ensures opens { IsTrue D.tells → AreFit (non_zero_u32_get limit) (D.image devices.old.disk.now) → IfErr result IsOfDevices }
         // The disk as the call leaves it has that record at that place.
-        ensures found { (name : Name) (place : ℕ) → IsErrOf result (StoreError.Corrupt name place) → IsTrue D.tells → IsCorruptAt (non_zero_u32_get limit) (D.files devices.new.disk.now) place }
+        ensures found { (name : Name) (place : ℕ) → IsErrOf result (StoreError.Corrupt name place) → IsTrue D.tells → IsCorruptAt (non_zero_u32_get limit) (D.files devices.new.disk.now) name place }
         // A private half is read once the journal is open, and of an event before which all are events.
-        ensures half { IsErrOf result StoreError.Secrets → IsTrue D.tells → IsFormOfToday (D.files devices.old.disk.now) → (broken (D.files devices.old.disk.now) ≡ None) × BeginsWithEvent (non_zero_u32_get limit) (entries (D.files devices.old.disk.now)) }
-        ensures sound { OnOk result (IsTrue D.tells → IsFormOfToday (D.files devices.old.disk.now) → (broken (D.files devices.old.disk.now) ≡ None) × AreEvents (non_zero_u32_get limit) (entries (D.files devices.old.disk.now))) }
+        ensures half { IsErrOf result StoreError.Secrets → IsTrue D.tells → (broken (D.files devices.old.disk.now) ≡ None) × BeginsWithEvent (non_zero_u32_get limit) (entries (D.files devices.old.disk.now)) }
+        ensures sound { OnOk result (IsTrue D.tells → (broken (D.files devices.old.disk.now) ≡ None) × AreEvents (non_zero_u32_get limit) (entries (D.files devices.old.disk.now))) }
         ensures fit { IsTrue D.tells → (most : ℕ) → AreFit most (D.image devices.old.disk.now) → AreFit most (D.image devices.new.disk.now) }
         // No entry is lost, wherever it stops, and the secrets are as they were.
         ensures images { IsTrue D.tells → Follows Keeps (D.image devices.old.disk.now) (D.image devices.new.disk.now) }
         // Wherever it stops, each image has the names from before: the end of a file is mended in place of it, and one that is absent stays so.
-        ensures names { IsTrue D.tells → Follows (Named false) (D.image devices.old.disk.now) (D.image devices.new.disk.now) }
-        ensures settled_names { OnOk result (IsTrue D.tells → (c : Files) → D.image devices.new.disk.now c → Named false (D.files devices.old.disk.now) c) }
+        ensures settled_names { OnOk result (IsTrue D.tells → (c : Files) → D.image devices.new.disk.now c → NamesOpened (D.files devices.old.disk.now) c) }
         // From then on nothing of the disk is loose.
         ensures lands { OnOk result (IsTrue D.tells → Lands (D.files devices.new.disk.now) (D.image devices.new.disk.now)) }
         ensures same { X.held devices.new.secrets.now ≡ X.held devices.old.secrets.now }
@@ -799,9 +796,9 @@ impl<Dir: Drop> Store<Dir> {
         ensures crash { Tries (SecretOp.Prune min) (X.held devices.old.secrets.now) (X.held devices.new.secrets.now) }
         ensures left { OnOk result (IsTrue D.tells → Follows (Leaves min) (D.image devices.old.disk.now) (D.image devices.new.disk.now)) }
         // Each image with the secrets then held is whole as before, and gives all dealings from before, or those at or above the minimum.
-        ensures images { IsTrue D.tells → (pairs : Pairs) → Holds pairs (D.image devices.old.disk.now) (X.held devices.old.secrets.now) → HoldsEither pairs (map.retain_keys pairs (λ key. nat_le min key.0)) (D.image devices.new.disk.now) (X.held devices.new.secrets.now) }
-        ensures images_acks { IsTrue D.tells → (acks : Notes (List ℕ)) → Gives acks_in acks (D.image devices.old.disk.now) → GivesEither acks_in acks (map.retain_keys acks (λ key. nat_le min key.0)) (D.image devices.new.disk.now) }
-        ensures images_logs { IsTrue D.tells → (logs : Notes RecordedLog) → Gives logs_in logs (D.image devices.old.disk.now) → GivesEither logs_in logs (map.retain_keys logs (λ key. nat_le min key.0)) (D.image devices.new.disk.now) }
+        ensures images { IsTrue D.tells → (pairs : Pairs) → Holds pairs (D.image devices.old.disk.now) (X.held devices.old.secrets.now) → HoldsPruned min pairs (D.image devices.new.disk.now) (X.held devices.new.secrets.now) }
+        ensures images_acks { IsTrue D.tells → (acks : Notes (List ℕ)) → Gives acks_in acks (D.image devices.old.disk.now) → GivesPruned acks_in min acks (D.image devices.new.disk.now) }
+        ensures images_logs { IsTrue D.tells → (logs : Notes RecordedLog) → Gives logs_in logs (D.image devices.old.disk.now) → GivesPruned logs_in min logs (D.image devices.new.disk.now) }
         // At Ok it is those at or above the minimum.
         ensures holds { OnOk result (IsTrue D.tells → (pairs : Pairs) → Holds pairs (D.image devices.old.disk.now) (X.held devices.old.secrets.now) → Holds (map.retain_keys pairs (λ key. nat_le min key.0)) (D.image devices.new.disk.now) (X.held devices.new.secrets.now)) }
         ensures gives_acks { OnOk result (IsTrue D.tells → (acks : Notes (List ℕ)) → Gives acks_in acks (D.image devices.old.disk.now) → Gives acks_in (map.retain_keys acks (λ key. nat_le min key.0)) (D.image devices.new.disk.now)) }
@@ -810,8 +807,8 @@ impl<Dir: Drop> Store<Dir> {
         ensures acts { IsTrue D.tells → IsTrue X.tells → (out : List Line) → MadeOn D.files D.image X.held (pruning min) (ended result) devices.old devices.new out out }
         ensures kinds { IfErr result IsOfPruning }
         ensures of_devices { IsTrue D.tells → IfErr result IsOfDevices }
-        ensures all { OnOk result (IsTrue D.tells → RanAll (MadeBoth D.made X.made) (devices.old.disk.now, devices.old.secrets.now) (devices.new.disk.now, devices.new.secrets.now) devices.old.fuse devices.new.fuse (prune_both min (D.files devices.old.disk.now))) }
-        ensures calls { IsTrue D.tells → Ran (MadeBoth D.made X.made) (devices.old.disk.now, devices.old.secrets.now) (devices.new.disk.now, devices.new.secrets.now) devices.old.fuse devices.new.fuse (prune_both min (D.files devices.old.disk.now)) }
+        ensures all { OnOk result (IsTrue D.tells → RanAll (MadeBoth D.made X.made) (devices.old.disk.now, devices.old.secrets.now) (devices.new.disk.now, devices.new.secrets.now) devices.old.fuse devices.new.fuse (prune_both min (keys (D.files devices.old.disk.now)))) }
+        ensures calls { IsTrue D.tells → Ran (MadeBoth D.made X.made) (devices.old.disk.now, devices.old.secrets.now) (devices.new.disk.now, devices.new.secrets.now) devices.old.fuse devices.new.fuse (prune_both min (keys (D.files devices.old.disk.now))) }
         ensures memory { IsErrOf result StoreError.NoMemory → IsWant ((self.new ≡ self.old) × D.made devices.old.disk.now devices.new.disk.now [] × IsUnchanged D.files D.image devices.old.disk.now devices.new.disk.now × (devices.new.secrets.now ≡ devices.old.secrets.now) × (devices.new.fuse ≡ devices.old.fuse)) (D.wants devices.old.disk.now) (D.wants devices.new.disk.now) (X.wants devices.old.secrets.now) (X.wants devices.new.secrets.now) }
         ensures later_disk { D.faults devices.old.disk.now ≤ D.faults devices.new.disk.now }
         ensures later_secrets { X.faults devices.old.secrets.now ≤ X.faults devices.new.secrets.now }
@@ -821,9 +818,9 @@ impl<Dir: Drop> Store<Dir> {
         ensures not_cut { OnOk result (Reached devices.old.fuse devices.new.fuse → ⊥) }
         ensures fit { IsTrue D.tells → (limit : ℕ) → AreFit limit (D.image devices.old.disk.now) → AreFit limit (D.image devices.new.disk.now) }
         // A crash leaves every file but the journal's as it was.
-        ensures others { IsTrue D.tells → Follows (SameElse Flat) (D.image devices.old.disk.now) (D.image devices.new.disk.now) }
+        ensures others { IsTrue D.tells → Follows SamePlan (D.image devices.old.disk.now) (D.image devices.new.disk.now) }
         // Wherever it stops, each image has the names from before: the journal's own is there exactly where it was, where nothing was loose.
-        ensures names { IsTrue D.tells → Lands (D.files devices.old.disk.now) (D.image devices.old.disk.now) → Follows (Named false) (D.image devices.old.disk.now) (D.image devices.new.disk.now) }
+        ensures names { IsTrue D.tells → Follows (NamesPruned min) (D.image devices.old.disk.now) (D.image devices.new.disk.now) }
         // At Ok nothing of the disk is loose, where nothing was.
         ensures lands { OnOk result (IsTrue D.tells → Lands (D.files devices.old.disk.now) (D.image devices.old.disk.now) → Lands (D.files devices.new.disk.now) (D.image devices.new.disk.now)) }
         // The disk comes first: where it failed, the secrets are as they were.
@@ -849,7 +846,7 @@ impl<Dir: Drop> Store<Dir> {
         public: Public,
         private: Private,
     ) -> Result<bool, StoreError>
-        requires short { 8 + length (event_spelling (events.Dealing dealer public)) < 2 ^ 32 }
+        requires short { length (event_spelling (events.Dealing dealer public)) < 2 ^ 32 }
         requires open { IsTrue D.tells → IsOpen self.old.journal (D.files devices.old.disk.now) (D.image devices.old.disk.now) }
         ensures open { OnOk result (IsTrue D.tells → IsOpen self.new.journal (D.files devices.new.disk.now) (D.image devices.new.disk.now)) }
         ensures known { IfOk result (λ new. new ≡ not (map.contains_key self.old.dealings (epoch, dealer))) }
@@ -880,11 +877,11 @@ impl<Dir: Drop> Store<Dir> {
         ensures not_cut { OnOk result (Reached devices.old.fuse devices.new.fuse → ⊥) }
         ensures fit { IsTrue D.tells → (limit : ℕ) → is_event limit (event_spelling (events.Dealing dealer public)) ≡ true → AreFit limit (D.image devices.old.disk.now) → AreFit limit (D.image devices.new.disk.now) }
         // A crash leaves every file but the journal's as it was.
-        ensures others { IsTrue D.tells → Follows (SameElse Flat) (D.image devices.old.disk.now) (D.image devices.new.disk.now) }
+        ensures others { IsTrue D.tells → Follows (SameElse (Segment epoch)) (D.image devices.old.disk.now) (D.image devices.new.disk.now) }
         // Where nothing of the disk was loose, each image has the names from before, or the journal's own with them. At Ok it has it, if the
         // record is new, and else just those from before.
-        ensures names { IsTrue D.tells → Lands (D.files devices.old.disk.now) (D.image devices.old.disk.now) → Follows MayBeNamed (D.image devices.old.disk.now) (D.image devices.new.disk.now) }
-        ensures named { IfOk result (λ new. IsTrue D.tells → Follows (Named new) (D.image devices.old.disk.now) (D.image devices.new.disk.now)) }
+        ensures names { IsTrue D.tells → Lands (D.files devices.old.disk.now) (D.image devices.old.disk.now) → Follows (MayBeNamed epoch) (D.image devices.old.disk.now) (D.image devices.new.disk.now) }
+        ensures named { IfOk result (λ new. IsTrue D.tells → Follows (Named new epoch) (D.image devices.old.disk.now) (D.image devices.new.disk.now)) }
         // At Ok nothing of the disk is loose, where nothing was.
         ensures lands { OnOk result (IsTrue D.tells → Lands (D.files devices.old.disk.now) (D.image devices.old.disk.now) → Lands (D.files devices.new.disk.now) (D.image devices.new.disk.now)) }
         // The secret store comes first: where it failed, the disk is as it was.
@@ -895,7 +892,7 @@ impl<Dir: Drop> Store<Dir> {
         if self.dealings.get(epoch, dealer).is_some() {
             return Ok(false);
         }
-        let ready = ready_dealing(alloc, &self.journal, epoch, dealer, &public, private)?;
+        let ready = ready_dealing(alloc, epoch, dealer, &public, private)?;
         record_dealing(
             alloc,
             &mut self.dealings,
@@ -952,11 +949,11 @@ impl<Dir: Drop> Store<Dir> {
         ensures not_cut { OnOk result (Reached devices.old.fuse devices.new.fuse → ⊥) }
         ensures fit { IsTrue D.tells → (limit : ℕ) → is_event limit (event_spelling (events.Ack player ack)) ≡ true → AreFit limit (D.image devices.old.disk.now) → AreFit limit (D.image devices.new.disk.now) }
         // A crash leaves every file but the journal's as it was.
-        ensures files { IsTrue D.tells → Follows (SameElse Flat) (D.image devices.old.disk.now) (D.image devices.new.disk.now) }
+        ensures files { IsTrue D.tells → Follows (SameElse (Segment epoch)) (D.image devices.old.disk.now) (D.image devices.new.disk.now) }
         // Where nothing of the disk was loose, each image has the names from before, or the journal's own with them. At Ok it has it, if the
         // record is new, and else just those from before.
-        ensures names { IsTrue D.tells → Lands (D.files devices.old.disk.now) (D.image devices.old.disk.now) → Follows MayBeNamed (D.image devices.old.disk.now) (D.image devices.new.disk.now) }
-        ensures named { IfOk result (λ new. IsTrue D.tells → Follows (Named new) (D.image devices.old.disk.now) (D.image devices.new.disk.now)) }
+        ensures names { IsTrue D.tells → Lands (D.files devices.old.disk.now) (D.image devices.old.disk.now) → Follows (MayBeNamed epoch) (D.image devices.old.disk.now) (D.image devices.new.disk.now) }
+        ensures named { IfOk result (λ new. IsTrue D.tells → Follows (Named new epoch) (D.image devices.old.disk.now) (D.image devices.new.disk.now)) }
         // At Ok nothing of the disk is loose, where nothing was.
         ensures lands { OnOk result (IsTrue D.tells → Lands (D.files devices.old.disk.now) (D.image devices.old.disk.now) → Lands (D.files devices.new.disk.now) (D.image devices.new.disk.now)) }
         ensures same_disk { devices.new.disk.ghost_name ≡ devices.old.disk.ghost_name }
@@ -992,7 +989,7 @@ impl<Dir: Drop> Store<Dir> {
         height: Height,
         log: DealerLog,
     ) -> Result<bool, StoreError>
-        requires short { 8 + length (event_spelling (events.LogAt dealer height log)) < 2 ^ 32 }
+        requires short { length (event_spelling (events.LogAt dealer height log)) < 2 ^ 32 }
         requires open { IsTrue D.tells → IsOpen self.old.journal (D.files devices.old.disk.now) (D.image devices.old.disk.now) }
         ensures open { OnOk result (IsTrue D.tells → IsOpen self.new.journal (D.files devices.new.disk.now) (D.image devices.new.disk.now)) }
         ensures known { IfOk result (λ new. new ≡ not (map.contains_key self.old.logs (epoch, dealer))) }
@@ -1025,11 +1022,11 @@ impl<Dir: Drop> Store<Dir> {
         ensures not_cut { OnOk result (Reached devices.old.fuse devices.new.fuse → ⊥) }
         ensures fit { IsTrue D.tells → (limit : ℕ) → is_event limit (event_spelling (events.LogAt dealer height log)) ≡ true → AreFit limit (D.image devices.old.disk.now) → AreFit limit (D.image devices.new.disk.now) }
         // A crash leaves every file but the journal's as it was.
-        ensures files { IsTrue D.tells → Follows (SameElse Flat) (D.image devices.old.disk.now) (D.image devices.new.disk.now) }
+        ensures files { IsTrue D.tells → Follows (SameElse (Segment epoch)) (D.image devices.old.disk.now) (D.image devices.new.disk.now) }
         // Where nothing of the disk was loose, each image has the names from before, or the journal's own with them. At Ok it has it, if the
         // record is new, and else just those from before.
-        ensures names { IsTrue D.tells → Lands (D.files devices.old.disk.now) (D.image devices.old.disk.now) → Follows MayBeNamed (D.image devices.old.disk.now) (D.image devices.new.disk.now) }
-        ensures named { IfOk result (λ new. IsTrue D.tells → Follows (Named new) (D.image devices.old.disk.now) (D.image devices.new.disk.now)) }
+        ensures names { IsTrue D.tells → Lands (D.files devices.old.disk.now) (D.image devices.old.disk.now) → Follows (MayBeNamed epoch) (D.image devices.old.disk.now) (D.image devices.new.disk.now) }
+        ensures named { IfOk result (λ new. IsTrue D.tells → Follows (Named new epoch) (D.image devices.old.disk.now) (D.image devices.new.disk.now)) }
         // At Ok nothing of the disk is loose, where nothing was.
         ensures lands { OnOk result (IsTrue D.tells → Lands (D.files devices.old.disk.now) (D.image devices.old.disk.now) → Lands (D.files devices.new.disk.now) (D.image devices.new.disk.now)) }
         ensures same_disk { devices.new.disk.ghost_name ≡ devices.old.disk.ghost_name }

@@ -1,5 +1,5 @@
-use Rattle.dkg_journal.proofs.OnRows.{bare_lands, bare_form}
+use Rattle.dkg_journal.proofs.OnRows.{bare_lands}
 use Rattle.dkg_journal.proofs.tests.fill_and_prune.Goals as goal
 
 pub append-requires : goal.append-requires
-append-requires c = λ tells. c.in_ok-journal.ensures.open tells (bare_lands _ c.requires) (bare_form _ c.requires)
+append-requires c = λ tells. c.in_ok-journal.ensures.open tells (bare_lands _ c.requires)

@@ -27,7 +27,6 @@ returns-in_err-beginning-clause-causes g c = let p = err_from_is_err_and c.from_
 
 pub loop-i-init : goal.loop-i-init
 loop-i-init g c = record {
-  today = c.requires.today;
   fit = λ told fit. fit;
   passing = λ disk secrets are. are;
   same_disk = refl;
@@ -67,7 +66,6 @@ pub loop-i-preserved : goal.loop-i-preserved
 loop-i-preserved g c =
     let life_is : slice_get c.args.script.now.lives c.loop-i.i ≡ Some c.life-item.result = rw (← c.as_slice-life-items.ensures) (at_item _ _ _ c.loop-i-test.true c.life-item.is) in
     record {
-      today = c.run_life.ensures.today;
       fit = λ told fit. fit_at _ _ _ _ c.in_ok-beginning.ensures.script.limit_is (c.run_life.ensures.fit told) (c.loop-i.invariant.fit told fit);
       passing = λ disk secrets are. passing_by _ _ _ _ _ _ (same_reader c.args.script.now c.in_ok-beginning.beginning c.in_ok-beginning.ensures.script c.requires.form.plain) (c.run_life.ensures.passing disk secrets) (c.loop-i.invariant.passing disk secrets are);
       same_disk = cc;

@@ -19,7 +19,7 @@ invariant-loop-i g l = record {
   plays : IfSome l.node.player (λ p. Contains p.round.players p.me);
   answers : IfSome l.node.player (λ p. IsPlayerOf ack_of p.me p.round p.acks l.node.store.dealings 0);
   valid : IfSome (seat_in l.node.player) (λ seat. AreValid seat l.node.store.dealings);
-  ready : IsTrue g.D.Disk.tells → IsReady l.node.store.journal.place (g.D.Disk.files l.devices.disk.now) (g.D.Disk.image l.devices.disk.now);
+  ready : IsTrue g.D.Disk.tells → IsReady l.node.store.journal (g.D.Disk.files l.devices.disk.now) (g.D.Disk.image l.devices.disk.now);
   limit : l.node.limit ≡ l.initial.node.limit;
   fit : IsTrue g.D.Disk.tells → AreFit l.initial.node.limit (g.D.Disk.image l.initial.devices.disk.now) → AreFit l.initial.node.limit (g.D.Disk.image l.devices.disk.now);
   passes : IsTrue g.D.Disk.tells → IsTrue g.X.SecretStore.tells → (reader : Reader)

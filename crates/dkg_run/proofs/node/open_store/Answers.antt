@@ -12,12 +12,12 @@ pub returns-in_err-store-clause-found : goal.returns-in_err-store-clause-found
 returns-in_err-store-clause-found g c = let p = err_from_is_err_and c.from_residual.result c.from_residual.ensures.1 in
     rw (p.1, p.2) (λ disk secrets. opening_found (reader_of c.args.beginning.now) _ _ c.in_err-store.field-0.0 c.in_err-store.ensures.kinds (λ name place is.
     let here = ap (λ (e : StoreError). Err e) is in
-    ((c.in_err-store.ensures.corrupt name place here disk ((c.requires.today disk).each _ (g.met.D.Disk.reads c.args.devices.now.disk.now disk))).0, c.in_err-store.ensures.found name place here disk)))
+    c.in_err-store.ensures.found name place here disk))
 
 pub returns-clause-gives : goal.returns-clause-gives
 returns-clause-gives g c = λ disk secrets.
     opened_back _ _ _ _ _ (c.in_ok-store.ensures.settled_entries disk) c.init.ensures.same
-    (c.in_ok-store.ensures.recovered disk secrets ((c.requires.today disk).each _ (g.met.D.Disk.reads c.args.devices.now.disk.now disk)))
+    (c.in_ok-store.ensures.recovered disk secrets)
 
 pub returns-in_err-store-clause-keeps_logs : goal.returns-in_err-store-clause-keeps_logs
 returns-in_err-store-clause-keeps_logs g c = λ told. logs_opened _ _ (c.init.ensures.images told)

@@ -1,6 +1,5 @@
 use Rattle.std.proofs.Common.{◌∙◌}
 use Rattle.dkg_run.proofs.SetUp.{holds_pruned, keeps_all, logs_pruned}
-use Rattle.dkg_run.proofs.Today.{others_today}
 use Rattle.std.proofs.lemmas.Result.{err_from_is_err_and}
 use Rattle.dkg_run.proofs.Found.{devices_blame, pruned_back}
 use Rattle.dkg_run.proofs.Stops.{store_accepts}
@@ -11,9 +10,6 @@ returns-clause-dealings g c = c.in_ok-prune.ensures.dealings ∙ keeps_all _
 
 pub returns-clause-logs : goal.returns-clause-logs
 returns-clause-logs g c = c.in_ok-prune.ensures.logs ∙ keeps_all _
-
-pub returns-clause-today : goal.returns-clause-today
-returns-clause-today g c = λ told. others_today _ _ (c.prune.ensures.others told) (c.requires.ready told).today
 
 pub returns-clause-holds : goal.returns-clause-holds
 returns-clause-holds g c = λ told pairs holds. holds_pruned pairs _ _ (c.prune.ensures.images told pairs holds)
@@ -26,9 +22,6 @@ returns-in_err-prune-clause-dealings g c = c.in_err-prune.ensures.kept.0
 
 pub returns-in_err-prune-clause-logs : goal.returns-in_err-prune-clause-logs
 returns-in_err-prune-clause-logs g c = c.in_err-prune.ensures.kept.2
-
-pub returns-in_err-prune-clause-today : goal.returns-in_err-prune-clause-today
-returns-in_err-prune-clause-today g c = λ told. others_today _ _ (c.prune.ensures.others told) (c.requires.ready told).today
 
 pub returns-in_err-prune-clause-holds : goal.returns-in_err-prune-clause-holds
 returns-in_err-prune-clause-holds g c = λ told pairs holds. holds_pruned pairs _ _ (c.prune.ensures.images told pairs holds)

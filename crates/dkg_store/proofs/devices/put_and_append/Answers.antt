@@ -12,6 +12,7 @@ use Rattle.dkg_store.specs.Both.{MadeBoth, on_disk, on_secrets}
 use Rattle.dkg_store.proofs.Both.{both_more, disk_all, disk_ran, secret_one}
 use Rattle.dkg_store.proofs.Others.{not_added, others_of}
 use Rattle.dkg_store.proofs.Fit.{may_add_fit}
+use Rattle.dkg_journal.proofs.Journals.{added_there}
 use Rattle.dkg_store.proofs.Named.{may_same, append_names, made_name}
 use Rattle.dkg_store.proofs.devices.put_and_append.Goals as goal
 
@@ -70,7 +71,7 @@ pub returns-in-Ok-clause-fit : goal.returns-in-Ok-clause-fit
 returns-in-Ok-clause-fit g c = λ told limit is fit. may_add_fit limit _ _ _ is (c.append_ready.ensures.images told) (c.append_ready.ensures.sound told) fit
 
 pub returns-in_err-perform_secret-clause-names : goal.returns-in_err-perform_secret-clause-names
-returns-in_err-perform_secret-clause-names g c = λ told lands. may_same _
+returns-in_err-perform_secret-clause-names g c = λ told lands. may_same _ _
 
 pub returns-in-Err-clause-names : goal.returns-in-Err-clause-names
 returns-in-Err-clause-names g c = λ told lands. append_names _ _ _ _ _ _ (g.met.D.Disk.reads _ told) (c.append_ready.ensures.tried told lands)
@@ -79,7 +80,7 @@ pub returns-in-Ok-clause-names : goal.returns-in-Ok-clause-names
 returns-in-Ok-clause-names g c = λ told lands. append_names _ _ _ _ _ _ (g.met.D.Disk.reads _ told) (c.append_ready.ensures.tried told lands)
 
 pub returns-in-Ok-clause-named : goal.returns-in-Ok-clause-named
-returns-in-Ok-clause-named g c = λ told. made_name c.append_ready.new.self.place _ _ _ _ (c.in-Ok.ensures.open told) (c.in-Ok.ensures.added told)
+returns-in-Ok-clause-named g c = λ told. made_name _ _ _ (added_there c.append_ready.new.self _ _ _ _ (c.in-Ok.ensures.open told) (c.in-Ok.ensures.added told)) (c.in-Ok.ensures.added told)
 
 pub returns-in-Ok-clause-lands : goal.returns-in-Ok-clause-lands
 returns-in-Ok-clause-lands g c = λ told lands. (c.in-Ok.ensures.done told lands).settled

@@ -62,4 +62,4 @@ returns-in-Ok-clause-acts g c = λ told_disk told_secrets.
     (made_say _ _ _ tt _ _ _ _ said)
 
 pub returns-in_err-new-clause-names : goal.returns-in_err-new-clause-names
-returns-in_err-new-clause-names g c = λ told lands. may_same _
+returns-in_err-new-clause-names g c = λ told lands. may_same _ _

@@ -1,5 +1,5 @@
 use Rattle.std.proofs.Common.{ap, sym, ◌∙◌, length, List, ℕ}
-use Rattle.dkg_store.proofs.Formed.{event_short}
+use Rattle.dkg_store.proofs.Short.{event_short}
 use Rattle.dkg_store.proofs.playing_tests.hear.Goals as goal
 
 pub handle-requires-clause-short : goal.handle-requires-clause-short

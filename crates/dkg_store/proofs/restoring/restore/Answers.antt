@@ -1,6 +1,7 @@
 use Rattle.std.proofs.Common.{◌≡◌, ap, sym, ◌∙◌, List, [], ℕ, arith, Some, Err}
 use Rattle.std.proofs.lemmas.Result.{err_from_is_err_and}
 use Rattle.std.proofs.lemmas.List.{at_drop_all}
+use Rattle.dkg_values.specs.declared.name.Name.{Name}
 use Rattle.dkg_store.specs.Events.{no_event_at}
 use Rattle.dkg_store.specs.declared.call.StoreError.{StoreError}
 use Rattle.dkg_store.specs.declared.call.StoreError.TheVariants.{Corrupt, Secrets as OfSecrets}
@@ -47,12 +48,13 @@ pub returns-in_err-restore_one-clause-corrupt : goal.returns-in_err-restore_one-
 returns-in_err-restore_one-clause-corrupt g c = λ name place is.
     let p = err_from_is_err_and c.from_residual.result c.from_residual.ensures.1 in
     let here : c.in_err-restore_one.field-0.0 ≡ Corrupt name place = sym p.2 ∙ same_error c.from_residual.result _ _ p.1 is in
-    let d = c.in_err-restore_one.ensures.corrupt name place (ap (λ (e : StoreError). Err e) here) in (
-      d.0,
-      sym c.loop-entry.invariant.events
-          ∙ event_stops c.args.limit c.args.entries.now c.loop-entry.entry-index c.entry-item.result c.loop-entry-test.true c.entry-item.is d.2
-          ∙ ap (λ (n : ℕ). Some n) (sym d.1),
-    )
+    let d = c.in_err-restore_one.ensures.corrupt name place (ap (λ (e : StoreError). Err e) here) in
+    sym c.loop-entry.invariant.events
+    ∙ event_stops c.args.limit c.args.entries.now c.loop-entry.entry-index c.entry-item.result c.loop-entry-test.true c.entry-item.is d.2
+    ∙ ap (λ (n : Name × ℕ). Some n) (sym (pair_same d.0 d.1))
+  where
+    pair_same : {a b : Name} {m n : ℕ} → a ≡ b → m ≡ n → ◌≡◌ {A = Name × ℕ} (a, m) (b, n)
+    pair_same p q = cc
 
 pub returns-clause-events : goal.returns-clause-events
 returns-clause-events g c =

@@ -1,4 +1,4 @@
-use Rattle.dkg_store.proofs.Formed.{event_short}
+use Rattle.dkg_store.proofs.Short.{event_short}
 use Rattle.dkg_store.proofs.stops.recorded.Goals as goal
 
 pub append_dealing-requires-clause-short : goal.append_dealing-requires-clause-short

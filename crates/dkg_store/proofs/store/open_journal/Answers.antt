@@ -1,11 +1,12 @@
 use Rattle.std.proofs.Common.{[], ◌∷◌, length, None, Err, refl, sym, subst, ap, ◌∙◌}
 use Rattle.dkg_journal.specs.Names.{Files}
+use Rattle.dkg_journal.specs.Records.{entries}
 use Rattle.dkg_journal.specs.Gated.{OpensAlike, gated_entries}
-use Rattle.dkg_journal.specs.Opening.{IsFormOfToday, broken, open_calls}
+use Rattle.dkg_journal.specs.Opening.{broken, open_calls}
 use Rattle.dkg_journal.specs.declared.call.JournalError.{JournalError}
 use Rattle.dkg_journal.specs.Fuse.{Ran, RanAll}
 use Rattle.dkg_journal.specs.declared.disk.Op.TheVariants.{Barrier}
-use Rattle.dkg_journal.proofs.Mending.{unchanged_alike}
+use Rattle.dkg_journal.proofs.Journals.{unchanged_alike}
 use Rattle.dkg_journal.proofs.Steps.{then_all, then_ran, not_reached}
 use Rattle.dkg_store.specs.Errors.{IsOfDevices, store_error_of}
 use Rattle.dkg_store.proofs.Acting.{breaks_off, of_journal_too}
@@ -19,7 +20,7 @@ use Rattle.dkg_store.proofs.Opened.{barred, kept_on}
 use Rattle.dkg_store.specs.declared.call.StoreError.TheVariants.{Corrupt}
 use Rattle.dkg_store.proofs.Corrupt.{journal_corrupt, same_error}
 use Rattle.dkg_store.proofs.Fit.{barred_unbroken}
-use Rattle.dkg_store.proofs.Named.{bar_names, open_names, opened_names}
+use Rattle.dkg_store.proofs.Named.{opened_too}
 use Rattle.dkg_store.proofs.store.open_journal.Goals as goal
 
 pub returns-in-Err-clause-images : goal.returns-in-Err-clause-images
@@ -37,9 +38,9 @@ returns-in-Err-open-clause-calls g c = λ told.
     (subst (λ (files : Files). Ran g.D.Disk.made c.perform.new.disk c.open.new.disk c.perform.new.fuse c.open.new.fuse (open_calls files)) did.reads (c.open.ensures.calls told))
 
 pub returns-in-Ok-clause-open : goal.returns-in-Ok-clause-open
-returns-in-Ok-clause-open g c = λ told form.
+returns-in-Ok-clause-open g c = λ told.
     let did = c.in_default.ensures.done told in
-    c.in-Ok.ensures.open told (record { only = λ f in_image. did.durable f in_image ∙ sym did.reads }) (subst IsFormOfToday (sym did.reads) form)
+    c.in-Ok.ensures.open told (record { only = λ f in_image. did.durable f in_image ∙ sym did.reads })
 
 pub returns-in-Ok-clause-gated : goal.returns-in-Ok-clause-gated
 returns-in-Ok-clause-gated g c = λ told.
@@ -77,7 +78,7 @@ pub returns-in-Err-open-clause-acts : goal.returns-in-Err-open-clause-acts
 returns-in-Err-open-clause-acts g c = λ told whole out s.
     let did = c.in_default.ensures.done told in
     let of_devices : IsOfDevices (store_error_of c.in-Err-open.error) = journal_devices c.in-Err-open.error
-    (λ name place is. no_place (broken (g.D.Disk.files c.perform.new.disk)) place (c.in-Err-open.ensures.broken name place (ap (λ (e : JournalError). Err e) is) told).1 (ap broken did.reads ∙ whole))
+    (λ name place is. no_place (broken (g.D.Disk.files c.perform.new.disk)) (name, place) (c.in-Err-open.ensures.broken name place (ap (λ (e : JournalError). Err e) is) told) (ap broken did.reads ∙ whole))
     (λ is. c.in-Err-open.ensures.not_long (ap (λ (e : JournalError). Err e) is)) in
     bar_done None (length (open_calls (g.D.Disk.files c.args.disk.now))) did c.perform.ensures.counted (g.met.D.Disk.reads _ told)
     (open_torn did.reads (cause_of c.of_journal-in-Err-open.result)
@@ -104,33 +105,35 @@ returns-in-Ok-clause-alike g c = λ told.
     subst (λ (files : Files). OpensAlike files (g.D.Disk.files c.open.new.disk)) did.reads (c.in-Ok.ensures.alike told)
 
 pub returns-in-Err-clause-sound : goal.returns-in-Err-clause-sound
-returns-in-Err-clause-sound g c = λ whole. barred_unbroken _ _ c.perform.ensures.crash whole
+returns-in-Err-clause-sound g c = λ told whole. barred_unbroken _ _ c.perform.ensures.crash whole
 
 pub returns-in-Err-open-clause-sound : goal.returns-in-Err-open-clause-sound
-returns-in-Err-open-clause-sound g c = λ whole. c.open.ensures.sound (barred_unbroken _ _ c.perform.ensures.crash whole)
+returns-in-Err-open-clause-sound g c = λ told whole.
+    let did = c.in_default.ensures.done told in
+    c.open.ensures.sound told (record { only = λ f in_image. did.durable f in_image ∙ sym did.reads }) (barred_unbroken _ _ c.perform.ensures.crash whole)
 
 pub returns-in-Ok-clause-sound : goal.returns-in-Ok-clause-sound
-returns-in-Ok-clause-sound g c = λ whole. c.open.ensures.sound (barred_unbroken _ _ c.perform.ensures.crash whole)
-
-pub returns-in-Err-clause-names : goal.returns-in-Err-clause-names
-returns-in-Err-clause-names g c = λ told. bar_names _ _ c.perform.ensures.crash
-
-pub returns-in-Err-open-clause-names : goal.returns-in-Err-open-clause-names
-returns-in-Err-open-clause-names g c = λ told.
+returns-in-Ok-clause-sound g c = λ told whole.
     let did = c.in_default.ensures.done told in
-    open_names _ _ _ _ _ _ (g.met.D.Disk.reads _ told) c.perform.ensures.crash (c.open.ensures.tried told (record { only = λ f in_image. did.durable f in_image ∙ sym did.reads }))
-
-pub returns-in-Ok-clause-names : goal.returns-in-Ok-clause-names
-returns-in-Ok-clause-names g c = λ told.
-    let did = c.in_default.ensures.done told in
-    open_names _ _ _ _ _ _ (g.met.D.Disk.reads _ told) c.perform.ensures.crash (c.open.ensures.tried told (record { only = λ f in_image. did.durable f in_image ∙ sym did.reads }))
+    c.open.ensures.sound told (record { only = λ f in_image. did.durable f in_image ∙ sym did.reads }) (barred_unbroken _ _ c.perform.ensures.crash whole)
 
 pub returns-in-Ok-clause-settled_names : goal.returns-in-Ok-clause-settled_names
 returns-in-Ok-clause-settled_names g c = λ told.
     let did = c.in_default.ensures.done told in
-    opened_names _ _ _ _ _ _ did.reads (c.in-Ok.ensures.done told (record { only = λ f in_image. did.durable f in_image ∙ sym did.reads }))
+    opened_too _ _ _ _ _ _ _ did.reads (c.in-Ok.ensures.done told (record { only = λ f in_image. did.durable f in_image ∙ sym did.reads }))
 
 pub returns-in-Ok-clause-lands : goal.returns-in-Ok-clause-lands
 returns-in-Ok-clause-lands g c = λ told.
     let did = c.in_default.ensures.done told in
     (c.in-Ok.ensures.done told (record { only = λ f in_image. did.durable f in_image ∙ sym did.reads })).settled
+
+pub returns-in-Ok-clause-listed : goal.returns-in-Ok-clause-listed
+returns-in-Ok-clause-listed g c = λ told.
+    let did = c.in_default.ensures.done told in
+    c.in-Ok.ensures.listed told ∙ ap entries did.reads
+
+pub returns-in-Err-open-clause-corrupt : goal.returns-in-Err-open-clause-corrupt
+returns-in-Err-open-clause-corrupt g c = λ name place is told.
+    let did = c.in_default.ensures.done told in
+    let its = journal_corrupt c.in-Err-open.error name place (λ long. c.in-Err-open.ensures.not_long (ap (λ (e : JournalError). Err e) long)) (sym c.of_journal-in-Err-open.ensures ∙ same_error (Err c.of_journal-in-Err-open.result) c.of_journal-in-Err-open.result (Corrupt name place) refl is) in
+    ap broken (sym did.reads) ∙ c.in-Err-open.ensures.broken name place (ap (λ (e : JournalError). Err e) its) told

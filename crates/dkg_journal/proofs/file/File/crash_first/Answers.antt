@@ -1,5 +1,5 @@
 use Rattle.std.proofs.Common.{◌≡◌, ℕ, Bool, List, length, map, ◌∙◌, ap, subst, arith}
-use Rattle.dkg_journal.specs.Kept.{Kept, kept_to, settled, loose_by, touched, is_loose, IsBehind, KeepsFirst}
+use Rattle.dkg_journal.specs.Kept.{Kept, loose_by, touched, is_loose, IsBehind, KeepsFirst}
 use Rattle.dkg_journal.specs.declared.file.Span.{Span}
 use Rattle.dkg_journal.proofs.Counting.{by_spans}
 use Rattle.dkg_journal.proofs.Undone.{undone}

@@ -6,4 +6,4 @@ pub returns-in_err-calls-clause-images : goal.returns-in_err-calls-clause-images
 returns-in_err-calls-clause-images g c = λ tells. same_may_add _ _
 
 pub returns-in_err-calls-clause-sound : goal.returns-in_err-calls-clause-sound
-returns-in_err-calls-clause-sound g c = λ tells. open_unbroken_images c.args.self.now.place (g.D.Disk.files c.args.disk.now) (g.D.Disk.image c.args.disk.now) (c.requires tells)
+returns-in_err-calls-clause-sound g c = λ tells. open_unbroken_images c.args.self.now.places (g.D.Disk.files c.args.disk.now) (g.D.Disk.image c.args.disk.now) (c.requires tells)

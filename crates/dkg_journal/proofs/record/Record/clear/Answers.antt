@@ -1,4 +1,5 @@
-use Rattle.dkg_journal.proofs.OnPlan.{on_ok, clear_others, tried_clear, finished_clear}
+use Rattle.dkg_journal.proofs.OnResult.{on_ok}
+use Rattle.dkg_journal.proofs.OnPlan.{clear_others, tried_clear, finished_clear}
 use Rattle.dkg_journal.proofs.record.Record.clear.Goals as goal
 
 pub returns-clause-others : goal.returns-clause-others

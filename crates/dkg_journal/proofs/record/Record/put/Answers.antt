@@ -1,8 +1,9 @@
-use Rattle.std.proofs.Common.{◌≡◌, List, ℕ, ◌∙◌, subst}
+use Rattle.std.proofs.Common.{List, ℕ, ◌∙◌, subst}
 use Rattle.std.specs.Prelude.{OnOk, IsTrue}
 use Rattle.dkg_journal.specs.Disk.{Lands}
 use Rattle.dkg_journal.specs.Operations.{PutsPlan, Tried, Finished}
-use Rattle.dkg_journal.proofs.OnPlan.{on_ok, put_others, tried_put, finished_put}
+use Rattle.dkg_journal.proofs.OnResult.{on_ok}
+use Rattle.dkg_journal.proofs.OnPlan.{put_others, tried_put, finished_put}
 use Rattle.dkg_journal.proofs.record.Record.put.Goals as goal
 
 pub returns-clause-others : goal.returns-clause-others

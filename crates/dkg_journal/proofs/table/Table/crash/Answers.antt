@@ -1,4 +1,4 @@
-use Rattle.std.proofs.Common.{◌≡◌, ◌∙◌, arith}
+use Rattle.std.proofs.Common.{◌≡◌, arith}
 use Rattle.std.proofs.lemmas.Grind.{common_steps}
 use Rattle.dkg_journal.specs.Kept.{settled, FileImage}
 use Rattle.dkg_journal.proofs.Rows.{all_sorted, all_find, both_lands, crashed_more, crashed_all}

@@ -1,4 +1,7 @@
-use Rattle.std.proofs.Common.{inl, inr, ◌||◌, Bool, not, true, false, is_some, Err, sym, ap, subst, ◌∙◌}
+use Rattle.std.proofs.Common.{inl, inr, ◌||◌, Bool, not, true, false, List, [], is_some, Err, refl, sym, ap, subst, ◌∙◌}
+use Rattle.dkg_journal.specs.Burn.{Burn}
+use Rattle.dkg_journal.specs.Fuse.{Ran}
+use Rattle.dkg_journal.specs.declared.disk.Op.{Op}
 use Rattle.std.specs.Cmp.{nat_cmp_total}
 use Rattle.std.specs.FinMap as map
 use Rattle.dkg_store.specs.Dealer.{AckMap, IsDealerOf}
@@ -15,6 +18,18 @@ use Rattle.dkg_journal.specs.Disk.{Follows}
 use Rattle.dkg_store.specs.Named.{Named}
 use Rattle.dkg_store.proofs.Named.{may_same, known_names}
 use Rattle.dkg_store.proofs.dealer.Dealer.handle.Goals as goal
+
+nothing_ran : {D : Type 0} (made : D → D → List Op → Type 0) (a : D) (f : Burn) (calls : List Op) → made a a [] → Ran made a a f f calls
+nothing_ran made a f calls none = record { first = []; rest = calls; whole = refl; all = record { each = none; fuse = refl } }
+
+pub returns-in_err-check-clause-calls : goal.returns-in_err-check-clause-calls
+returns-in_err-check-clause-calls g c = nothing_ran g.D.Disk.made _ _ _ (g.met.D.Disk.made_none _)
+
+pub returns-then-is_some-clause-calls : goal.returns-then-is_some-clause-calls
+returns-then-is_some-clause-calls g c = nothing_ran g.D.Disk.made _ _ _ (g.met.D.Disk.made_none _)
+
+pub returns-in_err-keep_ack-clause-calls : goal.returns-in_err-keep_ack-clause-calls
+returns-in_err-keep_ack-clause-calls g c = nothing_ran g.D.Disk.made _ _ _ (g.met.D.Disk.made_none _)
 
 pub returns-in-Ok-true-clause-dealer : goal.returns-in-Ok-true-clause-dealer
 returns-in-Ok-true-clause-dealer g c = λ is.
@@ -59,27 +74,27 @@ returns-in-Err-clause-memory g c = λ is.
     ]
 
 pub returns-in_err-check-clause-names : goal.returns-in_err-check-clause-names
-returns-in_err-check-clause-names g c = λ told lands. may_same _
+returns-in_err-check-clause-names g c = λ told lands. may_same _ _
 
 pub returns-then-is_some-clause-names : goal.returns-then-is_some-clause-names
-returns-then-is_some-clause-names g c = λ told lands. may_same _
+returns-then-is_some-clause-names g c = λ told lands. may_same _ _
 
 pub returns-then-is_some-clause-named : goal.returns-then-is_some-clause-named
 returns-then-is_some-clause-named g c = λ told.
-    known_names (is_some (map.get c.args.self.now.acks c.args.player) || map.contains_key c.args.store.now.acks (c.args.epoch, c.args.player)) _
+    known_names (is_some (map.get c.args.self.now.acks c.args.player) || map.contains_key c.args.store.now.acks (c.args.epoch, c.args.player)) c.args.epoch _
     (ap (λ (b : Bool). b || map.contains_key c.args.store.now.acks (c.args.epoch, c.args.player)) (ap is_some (sym c.kept_ack.ensures) ∙ sym c.is_some.ensures ∙ c.if-is_some.true))
 
 pub returns-in_err-keep_ack-clause-names : goal.returns-in_err-keep_ack-clause-names
-returns-in_err-keep_ack-clause-names g c = λ told lands. may_same _
+returns-in_err-keep_ack-clause-names g c = λ told lands. may_same _ _
 
 pub returns-in-Ok-true-clause-named : goal.returns-in-Ok-true-clause-named
 returns-in-Ok-true-clause-named g c = λ told.
-    subst (λ (b : Bool). Follows (Named b) (g.D.Disk.image c.args.devices.now.disk.now) (g.D.Disk.image c.append_ack.new.devices.disk.now))
+    subst (λ (b : Bool). Follows (Named b c.args.epoch) (g.D.Disk.image c.args.devices.now.disk.now) (g.D.Disk.image c.append_ack.new.devices.disk.now))
     (c.in-Ok-true.ensures.known ∙ ap (λ (b : Bool). not (b || map.contains_key c.args.store.now.acks (c.args.epoch, c.args.player))) (sym (ap is_some (sym c.kept_ack.ensures) ∙ sym c.is_some.ensures ∙ c.if-is_some.false)))
     (c.in-Ok-true.ensures.named told)
 
 pub returns-in-Ok-false-clause-named : goal.returns-in-Ok-false-clause-named
 returns-in-Ok-false-clause-named g c = λ told.
-    subst (λ (b : Bool). Follows (Named b) (g.D.Disk.image c.args.devices.now.disk.now) (g.D.Disk.image c.append_ack.new.devices.disk.now))
+    subst (λ (b : Bool). Follows (Named b c.args.epoch) (g.D.Disk.image c.args.devices.now.disk.now) (g.D.Disk.image c.append_ack.new.devices.disk.now))
     (c.in-Ok-false.ensures.known ∙ ap (λ (b : Bool). not (b || map.contains_key c.args.store.now.acks (c.args.epoch, c.args.player))) (sym (ap is_some (sym c.kept_ack.ensures) ∙ sym c.is_some.ensures ∙ c.if-is_some.false)))
     (c.in-Ok-false.ensures.named told)

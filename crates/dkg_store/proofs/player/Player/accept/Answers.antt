@@ -61,10 +61,10 @@ returns-clause-passes g c = λ none.
     ∙ one_more_passes check c.args.epoch (c.args.epoch, c.args.dealer) (c.args.public, c.args.private) c.args.store.now.dealings (sym c.in_default.ensures) none
 
 pub returns-in-Err-clause-names : goal.returns-in-Err-clause-names
-returns-in-Err-clause-names g c = λ told lands. may_same _
+returns-in-Err-clause-names g c = λ told lands. may_same _ _
 
 pub returns-in_err-ack-clause-names : goal.returns-in_err-ack-clause-names
-returns-in_err-ack-clause-names g c = λ told lands. may_same _
+returns-in_err-ack-clause-names g c = λ told lands. may_same _ _
 
 pub returns-clause-mirrors : goal.returns-clause-mirrors
 returns-clause-mirrors g c = λ e.

@@ -39,16 +39,16 @@ returns-in-Some-clause-acts g c = λ told_disk told_secrets is.
     answered_known (g.C.Ceremony.ack_of c.args.self.now.me c.args.self.now.round c.args.dealer) (map.get c.args.store.now.dealings (c.args.epoch, c.args.dealer)) was.pair (g.C.Ceremony.dealing_of c.args.self.now.round c.args.self.now.me c.args.dealer c.args.public c.args.private) c.args.epoch c.args.dealer c.args.public c.args.private c.in-Some.ack was.recorded was.is
 
 pub returns-in-Some-clause-names : goal.returns-in-Some-clause-names
-returns-in-Some-clause-names g c = λ told lands. may_same _
+returns-in-Some-clause-names g c = λ told lands. may_same _ _
 
 pub returns-in-Some-clause-named : goal.returns-in-Some-clause-named
-returns-in-Some-clause-named g c = λ told is. known_names (is_some (map.get c.args.store.now.dealings (c.args.epoch, c.args.dealer))) _ (known g.C.Ceremony.ack_of c.args.self.now.me c.args.self.now.round c.args.self.now.acks c.args.store.now.dealings c.args.epoch c.args.dealer c.in-Some.ack is (sym c.in-Some.ensures))
+returns-in-Some-clause-named g c = λ told is. known_names (is_some (map.get c.args.store.now.dealings (c.args.epoch, c.args.dealer))) c.args.epoch _ (known g.C.Ceremony.ack_of c.args.self.now.me c.args.self.now.round c.args.self.now.acks c.args.store.now.dealings c.args.epoch c.args.dealer c.in-Some.ack is (sym c.in-Some.ensures))
 
 pub returns-in_err-acknowledge-clause-names : goal.returns-in_err-acknowledge-clause-names
-returns-in_err-acknowledge-clause-names g c = λ told lands. may_same _
+returns-in_err-acknowledge-clause-names g c = λ told lands. may_same _ _
 
 pub returns-in-Some-dealing-clause-names : goal.returns-in-Some-dealing-clause-names
-returns-in-Some-dealing-clause-names g c = λ told lands. may_same _
+returns-in-Some-dealing-clause-names g c = λ told lands. may_same _ _
 
 pub returns-in-Some-dealing-clause-named : goal.returns-in-Some-dealing-clause-named
-returns-in-Some-dealing-clause-named g c = λ told is. known_names (is_some (map.get c.args.store.now.dealings (c.args.epoch, c.args.dealer))) _ (ap is_some (sym c.in-Some-dealing.ensures))
+returns-in-Some-dealing-clause-named g c = λ told is. known_names (is_some (map.get c.args.store.now.dealings (c.args.epoch, c.args.dealer))) c.args.epoch _ (ap is_some (sym c.in-Some-dealing.ensures))

@@ -81,7 +81,7 @@ pub returns-clause-fit : goal.returns-clause-fit
 returns-clause-fit g c = λ told limit is fit. c.append_event.ensures.fit told limit (ap (is_event limit) (c.deref.ensures.value ∙ c.in_ok-body.ensures) ∙ is) fit
 
 pub returns-then-is_some-clause-names : goal.returns-then-is_some-clause-names
-returns-then-is_some-clause-names g c = λ told lands. may_same _
+returns-then-is_some-clause-names g c = λ told lands. may_same _ _
 
 pub returns-in_err-body-clause-names : goal.returns-in_err-body-clause-names
-returns-in_err-body-clause-names g c = λ told lands. may_same _
+returns-in_err-body-clause-names g c = λ told lands. may_same _ _

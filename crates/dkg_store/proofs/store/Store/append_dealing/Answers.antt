@@ -35,7 +35,7 @@ returns-clause-acts g c = λ told_disk told_secrets out.
     (made_next (λ u. Goes true) (c.in_ok-record_dealing.ensures.acts told_disk told_secrets out) (made_nothing _ _ _ refl))
 
 pub returns-then-is_some-clause-names : goal.returns-then-is_some-clause-names
-returns-then-is_some-clause-names g c = λ told lands. may_same _
+returns-then-is_some-clause-names g c = λ told lands. may_same _ _
 
 pub returns-in_err-ready-clause-names : goal.returns-in_err-ready-clause-names
-returns-in_err-ready-clause-names g c = λ told lands. may_same _
+returns-in_err-ready-clause-names g c = λ told lands. may_same _ _
