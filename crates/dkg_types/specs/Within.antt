@@ -17,7 +17,7 @@ use Rattle.dkg_ceremony.specs.Outcomes.{LogMap}
 use Rattle.dkg_ceremony.specs.Modes.{supports_of}
 use Rattle.dkg_ceremony.specs.Outputs.{OutputFits}
 use Rattle.dkg_types.specs.declared.addresses.Address.{Address}
-use Rattle.dkg_types.specs.declared.block.Block.{Block}
+use Rattle.dkg_types.specs.Blocks.{Block}
 use Rattle.dkg_types.specs.declared.block.Context.{Context}
 use Rattle.dkg_types.specs.declared.finalization.Finalization.{Finalization}
 use Rattle.dkg_types.specs.declared.info.EpochInfo.{EpochInfo}
@@ -103,10 +103,9 @@ info_fits fits matches most version i epoch output players next_players director
 
 -- ---- blocks
 
--- what is carried, if anything, keeps to the limits, and the digest is that of the bytes
-pub record BlockWithin {Dir : Type 0} (spelling : Dir → List ℕ) (matches : Dir → List ℕ → Bool) (most version : ℕ) (b : Block Dir) : Type 0 where
-  pub payload : FlaggedFits (PayloadWithin matches most version) b.payload
-  pub sealed : b.digest ≡ sha256 (block_bytes spelling b.context b.parent b.height b.payload)
+-- what is carried, if anything, keeps to the limits
+abbrev pub BlockWithin : {Dir : Type 0} → (Dir → List ℕ → Bool) → (most version : ℕ) → Block Dir → Type 0
+BlockWithin matches most version b = FlaggedFits (PayloadWithin matches most version) b.payload
 
 pub context_fits : (c : Context) → c.epoch < 2 ^ 64 → c.view < 2 ^ 64 → c.leader < 2 ^ 32 → c.parent_view < 2 ^ 64 → length c.parent ≡ 32 → ContextFits c
 context_fits c epoch view leader parent_view parent = record { one = epoch; other = record { one = view; other = record { one = leader; other = record { one = parent_view; other = parent } } } }
