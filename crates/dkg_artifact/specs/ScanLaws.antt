@@ -11,7 +11,7 @@ use Rattle.dkg_ceremony.specs.declared.epocher.Bounds.{Bounds}
 use Rattle.dkg_ceremony.specs.declared.round.Round.{Round}
 use Rattle.dkg_ceremony.specs.declared.signed_log.SignedDealerLog.{SignedDealerLog}
 use Rattle.dkg_ceremony.specs.Outcomes.{LogMap}
-use Rattle.dkg_types.specs.declared.block.Block.{Block}
+use Rattle.dkg_types.specs.Blocks.{Block}
 use Rattle.dkg_types.specs.declared.entry.Why.TheVariants.{Short, WrongHeight, Unlinked, Detached}
 use Rattle.dkg_types.specs.Paths.{counts, logs_from, logs_of_path, log_of_block}
 use Rattle.dkg_types.specs.PayloadCodes.{its_log}

@@ -10,11 +10,11 @@ use std::marker::Model;
 
 /// Blocks in the order in which they were fed, each the parent of the one before.
 #[derive(Drop)]
-pub struct Path<Dir>(pub Vec<Block<Dir>>);
+pub struct Path<Dir: Directory>(pub Vec<Block<Dir>>);
 
-impl<Dir> Model for Path<Dir> {
+impl<Dir: Directory> Model for Path<Dir> {
     ghost use Rattle.std.specs.Prelude.{List};
-    ghost use Rattle.dkg_types.specs.declared.block.Block.{Block};
+    ghost use Rattle.dkg_types.specs.Blocks.{Block};
 
     ghost Value = { List (Block Dir) };
 
@@ -23,7 +23,7 @@ impl<Dir> Model for Path<Dir> {
 
 /// A request, what it was fed of the ancestry so far, and whether that has ended.
 #[derive(Drop)]
-pub struct Request<Dir> {
+pub struct Request<Dir: Directory> {
     pub number: u64,
     pub blocks: Path<Dir>,
     pub ended: bool,
@@ -31,11 +31,11 @@ pub struct Request<Dir> {
 
 /// Requests that wait, the first first.
 #[derive(Drop)]
-pub struct Requests<Dir> {
+pub struct Requests<Dir: Directory> {
     waiting: VecDeque<Request<Dir>>,
 }
 
-impl<Dir> Model for Requests<Dir> {
+impl<Dir: Directory> Model for Requests<Dir> {
     ghost use Rattle.std.specs.Prelude.{List};
     ghost use Rattle.dkg_artifact.specs.declared.requests.Request.{Request};
 
@@ -44,7 +44,7 @@ impl<Dir> Model for Requests<Dir> {
     ghost view = { λ r. r.waiting.items };
 }
 
-impl<Dir> Requests<Dir> {
+impl<Dir: Directory> Requests<Dir> {
     /// No request. It takes no memory.
     pub fn new(alloc: Global) -> Requests<Dir>
         ensures { result ≡ [] }
@@ -63,7 +63,7 @@ impl<Dir> Requests<Dir> {
     }
 }
 
-impl<Dir: Drop> Requests<Dir> {
+impl<Dir: Directory + Drop> Requests<Dir> {
     /// Puts a request last. Where memory runs out all is as before, and the request is given up.
     pub fn push(&mut self, request: Request<Dir>) -> Mem<()>
         ensures ok { OnOk result (self.new ≡ self.old ++ request ∷ []) }

@@ -8,7 +8,7 @@ ghost use Rattle.dkg_artifact.specs.Scans.{added, closes, counted, feeds, first_
 
 use crate::lowest::Lowest;
 use dkg_ceremony::{Bounds, Ceremony, DealerLog, Round, SignedDealerLog};
-use dkg_types::{Block, Payload, ReshareBlock, Why};
+use dkg_types::{Block, Directory, Payload, ReshareBlock, Why};
 use dkg_values::{Digest, Height, Key, Map, Mem, Value};
 use std::alloc::Global;
 
@@ -114,7 +114,7 @@ fn is_other(named: Option<Digest>, digest: Digest) -> bool
 }
 
 /// The digest that the tip has to have: the block's own, where nothing above the tip is needed.
-fn link_of<Dir>(down_to: Height, block: &Block<Dir>) -> Digest
+fn link_of<Dir: Directory>(down_to: Height, block: &Block<Dir>) -> Digest
     ensures { result ≡ link_of down_to block.now }
 {
     if block.height().0 < down_to.0 {
@@ -125,7 +125,7 @@ fn link_of<Dir>(down_to: Height, block: &Block<Dir>) -> Digest
 }
 
 /// The log that a block carries, if it carries one.
-fn log_in<Dir>(block: &Block<Dir>) -> Option<&SignedDealerLog>
+fn log_in<Dir: Directory>(block: &Block<Dir>) -> Option<&SignedDealerLog>
     ensures { option_copied result ≡ option_and_then its_log block.now.payload }
 {
     match block.payload() {
@@ -135,7 +135,7 @@ fn log_in<Dir>(block: &Block<Dir>) -> Option<&SignedDealerLog>
 }
 
 /// A copy of the log that a block carries, where it counts.
-fn counted_log<C: Ceremony, Dir>(
+fn counted_log<C: Ceremony, Dir: Directory>(
     alloc: Global,
     ceremony: &C,
     round: &Round,
@@ -154,7 +154,7 @@ fn counted_log<C: Ceremony, Dir>(
 
 impl Scan {
     /// Starts a scan of the blocks of an epoch above a tip. A final height of 0 needs no block; else the first answer is `Need`.
-    pub fn start<C: Ceremony, Dir>(
+    pub fn start<C: Ceremony, Dir: Directory>(
         alloc: Global,
         _ceremony: &C,
         round: &Round,
@@ -184,7 +184,7 @@ impl Scan {
     }
 
     /// What a block is to the scan.
-    fn stand<Dir>(&self, next: Next, block: &Block<Dir>) -> Stand
+    fn stand<Dir: Directory>(&self, next: Next, block: &Block<Dir>) -> Stand
         ensures { result ≡ stand_of self.now next block.now }
     {
         let height = block.height();
@@ -210,7 +210,7 @@ impl Scan {
     }
 
     /// Goes on below a block.
-    fn pass<Dir>(&mut self, block: &Block<Dir>)
+    fn pass<Dir: Directory>(&mut self, block: &Block<Dir>)
         ensures { self.new ≡ passes self.old block.now self.old.found }
     {
         self.next = Some(Next {
@@ -228,7 +228,7 @@ impl Scan {
     }
 
     /// The log that a needed block adds, if it adds one.
-    fn added<C: Ceremony, Dir>(
+    fn added<C: Ceremony, Dir: Directory>(
         &self,
         alloc: Global,
         ceremony: &C,
@@ -243,7 +243,7 @@ impl Scan {
     }
 
     /// Reads a block above the lowest one.
-    fn read<C: Ceremony, Dir>(
+    fn read<C: Ceremony, Dir: Directory>(
         &mut self,
         alloc: Global,
         ceremony: &C,
@@ -260,7 +260,7 @@ impl Scan {
     }
 
     /// Reads the lowest block.
-    fn finish<C: Ceremony, Dir>(
+    fn finish<C: Ceremony, Dir: Directory>(
         &mut self,
         alloc: Global,
         ceremony: &C,
@@ -277,7 +277,7 @@ impl Scan {
     }
 
     /// Reads a block: the epoch's final one or its parent first, and then each block's parent. Where memory runs out all is as before.
-    pub fn feed<C: Ceremony, Dir>(
+    pub fn feed<C: Ceremony, Dir: Directory>(
         &mut self,
         alloc: Global,
         ceremony: &C,

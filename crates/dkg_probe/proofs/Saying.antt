@@ -4,7 +4,7 @@ use Rattle.std.specs.List.{AllByRecursion}
 use Rattle.dkg_values.specs.Codec.{whole}
 use Rattle.dkg_values.specs.declared.codec.CodecError.{CodecError}
 use Rattle.dkg_types.specs.BlockCodes.{info_of}
-use Rattle.dkg_types.specs.declared.block.Block.{Block}
+use Rattle.dkg_types.specs.Blocks.{Block}
 use Rattle.dkg_types.specs.declared.entry.BlockedWhy.TheVariants as why
 use Rattle.dkg_types.specs.declared.entry.BlockedWhy.{BlockedWhy}
 use Rattle.dkg_types.specs.declared.entry.Entry.{Entry as Line}

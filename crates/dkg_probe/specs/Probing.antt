@@ -9,7 +9,7 @@ use Rattle.dkg_ceremony.specs.Schedule.{in_range, last}
 use Rattle.dkg_types.specs.BlockCodes.{block_spelling, info_of}
 use Rattle.dkg_types.specs.FinalizationCodes.{finalization_spelling}
 use Rattle.dkg_types.specs.PayloadCodes.{payload_spelling, info_payload}
-use Rattle.dkg_types.specs.declared.block.Block.{Block}
+use Rattle.dkg_types.specs.Blocks.{Block}
 use Rattle.dkg_types.specs.declared.entry.BlockedWhy.{BlockedWhy}
 use Rattle.dkg_types.specs.declared.entry.BlockedWhy.TheVariants as why
 use Rattle.dkg_types.specs.declared.entry.Entry.{Entry as Line}

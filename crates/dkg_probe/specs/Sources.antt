@@ -1,6 +1,6 @@
 -- What a source of held blocks has.
 use Rattle.std.specs.Prelude.{ℕ, Option}
-use Rattle.dkg_types.specs.declared.block.Block.{Block}
+use Rattle.dkg_types.specs.Blocks.{Block}
 use Rattle.dkg_types.specs.declared.finalization.Finalization.{Finalization}
 
 -- the block and its finalization at a height, and the latest finalization

@@ -14,7 +14,7 @@ use Rattle.dkg_types.specs.Variants.{Always, no_bytes, nothing_at, nothing_gramm
 use Rattle.dkg_types.specs.Bounds.{IsBound, finalization_bound}
 use Rattle.dkg_types.specs.BlockCodes.{block_spelling}
 use Rattle.dkg_types.specs.FinalizationCodes.{finalization_at, finalization_spelling, FinalizationFits}
-use Rattle.dkg_types.specs.declared.block.Block.{Block}
+use Rattle.dkg_types.specs.Blocks.{Block}
 use Rattle.dkg_types.specs.declared.finalization.Finalization.{Finalization}
 use Rattle.dkg_probe.specs.declared.wire.Tag.{Tag}
 use Rattle.dkg_probe.specs.declared.wire.Tag.TheVariants as tag

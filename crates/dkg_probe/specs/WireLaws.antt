@@ -7,7 +7,7 @@ use Rattle.dkg_values.specs.Uint.{uint}
 use Rattle.dkg_values.specs.UintGrammar.{u64_grammar}
 use Rattle.dkg_types.specs.BlockCodes.{block_spelling}
 use Rattle.dkg_types.specs.FinalizationCodes.{finalization_at, finalization_spelling, FinalizationFits, finalization_grammar}
-use Rattle.dkg_types.specs.declared.block.Block.{Block}
+use Rattle.dkg_types.specs.Blocks.{Block}
 use Rattle.dkg_types.specs.declared.finalization.Finalization.{Finalization}
 use Rattle.dkg_probe.specs.declared.wire.Message.{Message}
 use Rattle.dkg_probe.specs.declared.wire.Message.TheVariants.{BoundaryRequest, BoundaryResponse, BlockRequest, BlockResponse, LatestRequest, LatestResponse}

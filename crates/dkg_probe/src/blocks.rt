@@ -1,11 +1,11 @@
 //! What a probe serves: the blocks that a node holds.
 
 use dkg_ceremony::{Height, Mem};
-use dkg_types::{Block, Finalization};
+use dkg_types::{Block, Directory, Finalization};
 use std::alloc::Global;
 
 /// Who holds finalized blocks, as the upstream's marshal does.
-pub trait Blocks<Dir> {
+pub trait Blocks<Dir: Directory> {
     ghost use Rattle.std.specs.Prelude.{◌≡◌, IfOk};
     ghost use Rattle.std.specs.Option.{option_copied};
     ghost use Rattle.dkg_probe.specs.Sources.{Source};

@@ -52,7 +52,7 @@ pub enum Response<'a> {
 
 /// A message of the probe, as the upstream's `wire` module has it.
 #[derive(Drop)]
-pub enum Message<Dir> {
+pub enum Message<Dir: Directory> {
     BoundaryRequest(Epoch),
     BoundaryResponse(Finalization),
     BlockRequest(Epoch),

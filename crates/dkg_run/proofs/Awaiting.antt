@@ -4,7 +4,7 @@ use Rattle.std.specs.Prelude.{fold, max, slice_get, IfSome, IsSomeAnd, IsOkAnd}
 use Rattle.std.proofs.lemmas.Bool.Decides.{nat_tests}
 use Rattle.std.proofs.lemmas.List.Elements.{filter_map-append}
 use Rattle.std.proofs.lemmas.List.Sums.{fold-append}
-use Rattle.dkg_types.specs.declared.block.Block as made
+use Rattle.dkg_types.specs.Blocks as made
 use Rattle.dkg_types.specs.declared.directory.Unit as directory
 use Rattle.dkg_types.specs.declared.fault.Fault.{Fault}
 use Rattle.dkg_script.specs.declared.script.Anchor.{Anchor}

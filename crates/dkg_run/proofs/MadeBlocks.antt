@@ -13,7 +13,7 @@ use Rattle.dkg_values.specs.Uint.{uint}
 use Rattle.dkg_types.specs.BlockCodes.{IsBlock, block_bytes, context_bytes, flagged_bytes}
 use Rattle.dkg_types.specs.PayloadCodes.{payload_spelling}
 use Rattle.dkg_types.specs.Units.{unit_spelling}
-use Rattle.dkg_types.specs.declared.block.Block as made
+use Rattle.dkg_types.specs.Blocks as made
 use Rattle.dkg_types.specs.declared.directory.Unit as directory
 use Rattle.dkg_types.specs.declared.payload.Payload.{Payload}
 use Rattle.dkg_script.specs.declared.script.BlockLine.{BlockLine}

@@ -4,7 +4,7 @@ use Rattle.std.specs.Prelude.{fold, length, nat_lt, slice_get, IfErr, IfSome, Is
 use Rattle.std.specs.Str.{bytes_eq}
 use Rattle.std.proofs.lemmas.Bool.Decides.{nat_tests}
 use Rattle.std.proofs.lemmas.Slice.Eq.{bytes_eq-Decides}
-use Rattle.dkg_types.specs.declared.block.Block as made
+use Rattle.dkg_types.specs.Blocks as made
 use Rattle.dkg_types.specs.declared.directory.Unit as directory
 use Rattle.dkg_types.specs.declared.entry.Entry.{Entry}
 use Rattle.dkg_types.specs.declared.fault.Fault.{Fault}

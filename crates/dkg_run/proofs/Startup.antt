@@ -1,7 +1,7 @@
 -- The position at which a life starts, from the block of its anchor.
 use Rattle.std.proofs.Common.{◌≡◌, ℕ, zero, suc, ◌-◌, ◌<◌, ◌≤◌, List, [], ◌∷◌, Option, Some, None, arith, length, refl, ◌∙◌}
 use Rattle.std.specs.Prelude.{option_map, slice_get, IfSome, IsSomeAnd}
-use Rattle.dkg_types.specs.declared.block.Block as made
+use Rattle.dkg_types.specs.Blocks as made
 use Rattle.dkg_types.specs.declared.directory.Unit as directory
 use Rattle.dkg_script.specs.declared.script.Anchor.TheVariants.{Processed, Absent}
 use Rattle.dkg_script.specs.Blocks.{Block, block_at}

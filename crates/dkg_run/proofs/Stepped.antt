@@ -14,7 +14,7 @@ use Rattle.dkg_store.specs.Pairs.{Pairs, Holds, HoldsEither, recovered}
 use Rattle.dkg_store.specs.Player.{MayKeep}
 use Rattle.dkg_store.specs.Secrets.{Secrets}
 use Rattle.dkg_store.proofs.Pairs.{same_key, get_at, get_other}
-use Rattle.dkg_types.specs.declared.block.Block.{Block}
+use Rattle.dkg_types.specs.Blocks.{Block}
 use Rattle.dkg_types.specs.declared.directory.Unit as directory
 use Rattle.dkg_types.specs.declared.entry.Entry.{Entry}
 use Rattle.dkg_types.specs.declared.entry.Entry.TheVariants as entry

@@ -27,7 +27,7 @@ use Rattle.dkg_script.specs.Position.{awaited_height}
 use Rattle.dkg_script.specs.Schedule.{midpoint}
 use Rattle.dkg_script.specs.Setting.{Setting, me, limits, recovered_from, life_at, blocks_per_epoch}
 use Rattle.dkg_values.specs.Rising.{has_key}
-use Rattle.dkg_types.specs.declared.block.Block.{Block}
+use Rattle.dkg_types.specs.Blocks.{Block}
 use Rattle.dkg_types.specs.declared.directory.Unit as directory
 use Rattle.std.specs.Result.{IsOkAnd}
 use Rattle.dkg_run.specs.Chain.{AreBlocksOf, AreOf, awaited, judge_of, tip_after}

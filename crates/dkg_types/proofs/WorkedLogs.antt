@@ -15,7 +15,7 @@ use Rattle.dkg_ceremony.specs.Outcomes.{LogMap, outcome_of, selected_of, sum_of,
 use Rattle.dkg_ceremony.specs.Polynomials.{value_at}
 use Rattle.dkg_ceremony.specs.Rounds.{round_bytes}
 use Rattle.dkg_ceremony.specs.ValidLogs.{check_log_of, is_valid, log_content, sign_log_of}
-use Rattle.dkg_types.specs.declared.block.Block.{Block}
+use Rattle.dkg_types.specs.Blocks.{Block}
 use Rattle.dkg_types.specs.declared.directory.Unit as directory
 use Rattle.dkg_types.specs.declared.info.EpochInfo.{EpochInfo}
 use Rattle.dkg_types.specs.declared.outcome.EpochOutcome.TheVariants.{Success, Failure}

@@ -11,7 +11,7 @@ use Rattle.dkg_values.specs.ListGrammar.{be32_grammar}
 use Rattle.dkg_values.specs.Uint.{uint, uint_at}
 use Rattle.dkg_values.specs.UintGrammar.{u64_grammar}
 use Rattle.dkg_types.specs.declared.block.Context.{Context}
-use Rattle.dkg_types.specs.declared.block.Block.{Block}
+use Rattle.dkg_types.specs.Blocks.{Block}
 use Rattle.dkg_types.specs.declared.info.EpochInfo as info
 use Rattle.dkg_types.specs.declared.payload.Payload.{Payload}
 use Rattle.dkg_types.specs.PayloadCodes.{payload_at, payload_grammar, PayloadFits, payload_spelling, its_info}

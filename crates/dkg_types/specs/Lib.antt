@@ -1,5 +1,6 @@
 pub mod AddressCodes
 pub mod BlockCodes
+pub mod Blocks
 pub mod Bounds
 pub mod Faults
 pub mod FinalizationCodes

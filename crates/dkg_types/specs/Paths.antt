@@ -5,7 +5,7 @@ use Rattle.dkg_values.specs.Rising.{map_of, place_of}
 use Rattle.dkg_ceremony.specs.declared.round.Round.{Round}
 use Rattle.dkg_ceremony.specs.declared.signed_log.SignedDealerLog.{SignedDealerLog}
 use Rattle.dkg_ceremony.specs.Outcomes.{LogMap}
-use Rattle.dkg_types.specs.declared.block.Block.{Block}
+use Rattle.dkg_types.specs.Blocks.{Block}
 use Rattle.dkg_types.specs.PayloadCodes.{its_log}
 
 -- Whether a log at a height counts in a round: its height is from the epoch's midpoint on and below the epoch's last, its dealer is one

@@ -20,6 +20,7 @@ use dkg_ceremony::{
 };
 use sha2::{Digest as Hashes, Sha256};
 use std::alloc::Global;
+use std::marker::Model;
 use std::num::NonZeroU32;
 
 /// The most bytes of the encoding of a block that carries nothing: room for nearly every block's.
@@ -48,14 +49,27 @@ pub trait ReshareBlock<Dir> {
         ensures { option_copied result ≡ carried self.now };
 }
 
-/// A block of the chain. Its digest is computed once, when it is made.
+/// A block of the chain. Its digest is computed once, when it is made, and the type keeps that it is that of the block's bytes.
 #[derive(Drop)]
-pub struct Block<Dir> {
+pub struct Block<Dir: Directory> {
     context: Context,
     parent: Digest,
     height: Height,
     payload: Apart<Dir>,
     digest: Digest,
+}
+
+impl<Dir: Directory> Model for Block<Dir> {
+    ghost use Rattle.std.specs.Prelude.{◌≡◌};
+    ghost use Rattle.sha2.specs.Sha256.{sha256};
+    ghost use Rattle.dkg_types.specs.BlockCodes.{block_bytes};
+    ghost use Rattle.dkg_types.specs.Blocks.{Block as Seen};
+
+    ghost Value = { Seen Dir };
+
+    ghost view = { λ b. record { context = b.context; parent = b.parent; height = b.height; payload = b.payload; digest = b.digest } };
+
+    ghost invariant = { λ b. b.digest ≡ sha256 (block_bytes Dir.spelling b.context b.parent b.height b.payload) };
 }
 
 impl Spelled for Context {
@@ -253,7 +267,7 @@ impl<Dir: Directory> Block<Dir> {
     }
 }
 
-impl<Dir> Block<Dir> {
+impl<Dir: Directory> Block<Dir> {
     pub fn context(&self) -> Context
         ensures { result ≡ self.now.context }
     {
@@ -290,7 +304,7 @@ impl<Dir> Block<Dir> {
     }
 }
 
-impl<Dir> ReshareBlock<Dir> for Block<Dir> {
+impl<Dir: Directory> ReshareBlock<Dir> for Block<Dir> {
     ghost carried = { λ block. block.payload };
 
     fn payload(&self) -> Option<&Payload<Dir>>
@@ -331,10 +345,10 @@ fn carried_fits<Dir: Directory>(payload: &Apart<Dir>)
 }
 
 impl<Dir: Directory> Block<Dir> {
-    /// A block whose digest is that of its bytes, as each is that was made or read, may be read under the limits that it keeps to.
+    /// A block may be read under the limits that it keeps to.
     #[tactic(auto, using(crate::specs::Within::block_fits))]
     pub fn fits_limits(&self)
-        ensures { (most version : ℕ) → BlockWithin Dir.spelling Dir.matches_of most version self.now → BlockFits (PayloadFits (λ peers. Dir.fits (Dir.config_of peers)) Dir.matches_of most version) Dir.spelling self.now }
+        ensures { (most version : ℕ) → BlockWithin Dir.matches_of most version self.now → BlockFits (PayloadFits (λ peers. Dir.fits (Dir.config_of peers)) Dir.matches_of most version) Dir.spelling self.now }
     {
         self.context.fits_limits();
         let _parent = size_of_digest(&self.parent);
