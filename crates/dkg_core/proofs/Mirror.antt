@@ -1,4 +1,4 @@
--- Devices that compute: both devices' content as one list, and acts played over it.
+-- Devices that compute: both devices' content as one list, and courses played over it.
 use Rattle.std.proofs.Common.{ℕ, zero, suc, List, [], ◌∷◌, ◌++◌, ◌+◌, Option, Some, None, Bool}
 use Rattle.std.specs.Prelude.{◌==◌, ◌&&◌, ◌||◌, not, nat_le, filter, filter_map, fold, if◌then◌else◌, ◌-◌}
 use Rattle.std.specs.Option.{option_map_or}
@@ -6,9 +6,11 @@ use Rattle.std.specs.FinMap.{put, empty}
 use Rattle.dkg_values.specs.Rising.{with_pair}
 use Rattle.dkg_journal.specs.Records.{Entry, placed}
 use Rattle.dkg_types.specs.declared.entry.Entry.{Entry as Line}
-use Rattle.dkg_store.specs.Acts.{Operation, Changes, Held, device_calls}
-use Rattle.dkg_journal.specs.Operations.{Bars, Opens, Appends, Prunes, PutsPlan, ClearsPlan}
-use Rattle.dkg_core.specs.Courses.{Course, Say, Do, Ask, Goes, Stops}
+use Rattle.dkg_values.specs.declared.name.Name.{Name}
+use Rattle.dkg_values.specs.declared.name.Name.TheVariants.{Plan}
+use Rattle.dkg_journal.specs.Operations.{Opens, Journaled, after_operation, opened_names}
+use Rattle.dkg_store.specs.Acts.{Operation, OnDisk, Changes, Held, device_calls, notes, plan}
+use Rattle.dkg_core.specs.Courses.{Course, Say, Do, Call, Ask, Goes, Stops, Outer}
 use Rattle.dkg_store.specs.Keys.{key_cmp}
 use Rattle.dkg_store.specs.Noted.{Note, noted_ack, noted_log}
 use Rattle.dkg_store.specs.Pairs.{Dealing, dealing_of}
@@ -27,29 +29,26 @@ secret epoch content = (secrets + epoch, content)
 abbrev pub is_secret : Entry → Bool
 is_secret e = nat_le secrets e.0
 
-abbrev pub without : Entry → List Entry → List Entry
-without (section, kind ∷ key ∷ rest) es = filter (λ e. not (e.0 == section)) es
-without e es = es
-
 abbrev pub changed : SecretOp → List Entry → List Entry
 changed (PutShare epoch share) es = es ++ secret epoch (10 ∷ share ∷ []) ∷ []
 changed (PutSeed epoch seed) es = es ++ secret epoch (11 ∷ seed) ∷ []
 changed (PutDealing epoch dealer private) es = es ++ secret epoch (12 ∷ dealer ∷ private ∷ []) ∷ []
 changed (Prune min) es = filter (λ e. not (is_secret e) || nat_le (secrets + min) e.0) es
 
-abbrev pub done : Operation → Held → Held
-done Bars h = h
-done (Opens calls) h = h
-done (Appends there e) h = record h { notes = placed (notes h) e }
-done (Prunes calls min) h = record h { notes = filter (λ (e : Entry). nat_le min e.0) (notes h) }
-done (Changes op) h = record h { notes = changed op (notes h) }
-done (PutsPlan bytes) h = record h { plan = Some bytes }
-done ClearsPlan h = record h { plan = None }
-
--- WHAT IS SEEN
-
 abbrev pub journal_of : Held → List Entry
 journal_of h = filter (λ (e : Entry). not (is_secret e)) (notes h)
+
+abbrev pub with_journaled : Journaled → Held → Held
+with_journaled j h = record { journaled = j; secrets = h.secrets }
+
+-- what an operation leaves that is done
+abbrev pub done : Operation → Held → Held
+done (OnDisk (Opens calls)) h =
+    with_journaled (record { entries = notes h; plan = plan h; names = opened_names (journal_of h) h.journaled.names }) h
+done (OnDisk op) h = with_journaled (after_operation op h.journaled) h
+done (Changes op) h = with_journaled (record { entries = changed op (notes h); plan = plan h; names = h.journaled.names }) h
+
+-- WHAT IS SEEN
 
 abbrev pub share_in : Entry → Option (ℕ × ℕ)
 share_in (section, kind ∷ share ∷ []) = if nat_le secrets section && (kind == 10) then Some (section - secrets, share) else None
@@ -85,68 +84,64 @@ mirrored h = record {
   logs = notes_in noted_log (journal_of h);
   shares = by_epoch (filter_map share_in (notes h));
   seeds = by_epoch (filter_map seed_in (notes h));
-  plan = h.plan;
+  plan = plan h;
 }
 
+-- devices that hold these entries (secrets among them), in files of these names
+abbrev pub holding : List Entry → List Name → Held
+holding es names = record { journaled = record { entries = es; plan = None; names = names }; secrets = record { shares = empty; seeds = empty; privates = empty } }
+
 abbrev pub nothing : Held
-nothing = record { notes = []; secrets = record { shares = empty; seeds = empty; privates = empty }; plan = None }
+nothing = holding [] []
 
--- PLAYING ACTS
+abbrev pub holding_plan : List ℕ → Held
+holding_plan bytes = with_journaled (record { entries = []; plan = Some bytes; names = Plan ∷ [] }) nothing
 
--- what acts told and did, the number of their calls, and what they ended in
-pub record Played (F S : Type 0) : Type 0 where
+-- PLAYING COURSES
+
+-- what a course told and did, the number of its calls, what it asked outside, and what it ended in
+pub record Played (Dir F S : Type 0) : Type 0 where
   pub lines : List Line
   pub operations : List Operation
   pub calls : ℕ
+  pub outer : List (Outer Dir)
   pub end : Option (S × Held)
   pub fault : Option F
 
-abbrev pub played : {F S : Type 0} → Course Dir F S → Held → Played F S
-played (Say line acts) h = let rest = played acts h in record rest { lines = line ∷ rest.lines }
-played (Do op acts) h = let rest = played acts (done op h) in record rest { operations = op ∷ rest.operations; calls = device_calls op + rest.calls }
+abbrev pub played : {Dir F S : Type 0} → Course Dir F S → Held → Played Dir F S
+played (Say line course) h = let rest = played course h in record rest { lines = line ∷ rest.lines }
+played (Do op course) h = let rest = played course (done op h) in record rest { operations = op ∷ rest.operations; calls = device_calls op h + rest.calls }
+played (Call call course) h = let rest = played course h in record rest { outer = call ∷ rest.outer }
 played (Ask f) h = played (f h) h
-played (Goes end) h = record { lines = []; operations = []; calls = 0; end = Some (end, h); fault = None }
-played (Stops fault) h = record { lines = []; operations = []; calls = 0; end = None; fault = Some fault }
+played (Goes end) h = record { lines = []; operations = []; calls = 0; outer = []; end = Some (end, h); fault = None }
+played (Stops fault) h = record { lines = []; operations = []; calls = 0; outer = []; end = None; fault = Some fault }
 
 -- what is compared
-pub record Reply (F : Type 0) : Type 0 where
+pub record Outcome (F : Type 0) : Type 0 where
   pub lines : List Line
   pub operations : List Operation
   pub calls : ℕ
   pub fault : Option F
 
-abbrev pub reply_of : {F S : Type 0} → Played F S → Reply F
-reply_of p = record { lines = p.lines; operations = p.operations; calls = p.calls; fault = p.fault }
+abbrev pub outcome_of : {Dir F S : Type 0} → Played Dir F S → Outcome F
+outcome_of p = record { lines = p.lines; operations = p.operations; calls = p.calls; fault = p.fault }
 
--- where a state came of acts, its step
-abbrev pub after_end : {F S E : Type 0} → F → (S → E → Course Dir F S) → E → Option (S × Held) → Played F S
-after_end none next event None = record { lines = []; operations = []; calls = 0; end = None; fault = Some none }
-after_end none next event (Some p) = played (next p.0 event) p.1
+-- where a state came of a course, its step
+abbrev pub after_end : {Dir F S : Type 0} → F → (S → Course Dir F S) → Option (S × Held) → Played Dir F S
+after_end none next None = record { lines = []; operations = []; calls = 0; outer = []; end = None; fault = Some none }
+after_end none next (Some p) = played (next p.0) p.1
 
--- the replies of acts, and of the events after them
-abbrev pub replies : {F S E : Type 0} → F → (S → E → Course Dir F S) → List E → Played F S → List (Reply F)
-replies none next [] p = reply_of p ∷ []
-replies none next (event ∷ events) p = reply_of p ∷ replies none next events (after_end none next event p.end)
-
--- the devices after the first operations of acts
-abbrev pub held_after : {F S : Type 0} → (operations : ℕ) → Course Dir F S → Held → Held
-held_after n (Say line acts) h = held_after n acts h
-held_after zero (Do op acts) h = h
-held_after (suc n) (Do op acts) h = held_after n acts (done op h)
+-- the devices after the first operations of a course
+abbrev pub held_after : {Dir F S : Type 0} → (operations : ℕ) → Course Dir F S → Held → Held
+held_after n (Say line course) h = held_after n course h
+held_after zero (Do op course) h = h
+held_after (suc n) (Do op course) h = held_after n course (done op h)
+held_after n (Call call course) h = held_after n course h
 held_after n (Ask f) h = held_after n (f h) h
 held_after n (Goes end) h = h
 held_after n (Stops fault) h = h
 
--- what a life's acts ended in after these events
-abbrev pub end_after : {F S E : Type 0} → F → (S → E → Course Dir F S) → List E → Played F S → Option (S × Held)
-end_after none next [] p = p.end
-end_after none next (event ∷ events) p = end_after none next events (after_end none next event p.end)
-
--- what the devices hold then, and within the step of one more event
-abbrev pub held_at_end : {S : Type 0} → Option (S × Held) → Held
-held_at_end None = nothing
-held_at_end (Some p) = p.1
-
-abbrev pub held_within : {F S E : Type 0} → (operations : ℕ) → (S → E → Course Dir F S) → E → Option (S × Held) → Held
-held_within n next event None = nothing
-held_within n next event (Some p) = held_after n (next p.0 event) p.1
+-- what the devices hold within the step of one more event
+abbrev pub held_within : {Dir F S : Type 0} → (operations : ℕ) → (S → Course Dir F S) → Option (S × Held) → Held
+held_within n next None = nothing
+held_within n next (Some p) = held_after n (next p.0) p.1

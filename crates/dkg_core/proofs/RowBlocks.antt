@@ -21,19 +21,19 @@ use Rattle.dkg_types.specs.declared.fault.Fault.TheVariants.{ConflictingBlock, D
 use Rattle.dkg_types.specs.InfoCodes.{held_at, parts_at}
 use Rattle.dkg_types.specs.OutcomeCodes.{outcome_after}
 use Rattle.dkg_types.specs.Validation.{validation}
-use Rattle.dkg_store.specs.Acts.{Changes}
+use Rattle.dkg_store.specs.Acts.{OnDisk, Changes}
 use Rattle.dkg_journal.specs.Operations.{Bars, Opens, PutsPlan, ClearsPlan}
 use Rattle.dkg_store.specs.declared.secrets.SecretOp.TheVariants.{PutSeed}
-use Rattle.dkg_core.specs.Fixed.{Fixed, Material, fresh_seed}
+use Rattle.dkg_core.specs.Fixed.{Material, fresh_seed}
 use Rattle.dkg_core.specs.Live.{Reshare, Delivers, EpochInfoOf, Faulted}
 use Rattle.dkg_core.specs.Plans.{material_bytes}
-use Rattle.dkg_core.proofs.Mirror.{nothing}
-use Rattle.dkg_core.proofs.Worked.{Dir, plays, plays_over, fixed, genesis, plain, block_with, info, of_setup, says, stops, last_of}
+use Rattle.dkg_core.proofs.Mirror.{holding_plan}
+use Rattle.dkg_core.proofs.Worked.{Dir, Life, life_of, above, configured, plays, plays_over, genesis, plain, block_with, info, of_setup, says, stops, last_of}
 
 -- OVER A TIP: the other block of height 2, its child, and what stands above
 
-abbrev pub over_two : Fixed Dir
-over_two = record (fixed 8 0 (genesis ∷ [])) { anchor = Some (record { height = 2; digest = 2 ∷ [] }) }
+abbrev pub over_two : Life
+over_two = above 2 (2 ∷ []) (life_of 8 0 (genesis ∷ []))
 
 pub conflicting : last_of (plays over_two (Delivers (block_with (22 ∷ []) 2 (1 ∷ []) None) ∷ [])) ≡ stops (ConflictingBlock 2)
 unfolding validation round_of
@@ -53,11 +53,11 @@ redelivered = refl
 
 -- ONE-SHOT
 
-abbrev pub once : Fixed Dir
-once = record (fixed 1 0 []) { oneshot = Some (record { participants = 1 ∷ []; directory = record {} }); limit = 1 }
+abbrev pub once : Life
+once = record (life_of 1 0 []) { given = record (configured 1 0) { oneshot = Some (record { participants = 1 ∷ []; directory = record {} }); limit = 1 } }
 
 pub eleven : plays once (Delivers (plain 0 (0 ∷ [])) ∷ [])
-    ≡ record { lines = Opened 0 [] ∷ Setup 0 Midpoint Player ∷ []; operations = Bars ∷ Opens 0 ∷ Changes (PutSeed 0 (fresh_seed 9 0)) ∷ []; calls = 2; fault = None }
+    ≡ record { lines = Opened 0 [] ∷ Setup 0 Midpoint Player ∷ []; operations = OnDisk Bars ∷ OnDisk (Opens 0) ∷ Changes (PutSeed 0 (fresh_seed 9 0)) ∷ []; calls = 2; fault = None }
     ∷ says (Completed None ∷ Acked 0 ∷ []) ∷ []
 unfolding validation round_of finish_of selected_of outcome_of deal_of
 eleven = refl
@@ -73,13 +73,13 @@ floor_at height = record {
 abbrev pub floor_block : ℕ → Block Dir
 floor_block height = block_with (replicate 32 height) height (height ∷ height ∷ []) None
 
-abbrev pub synced : ℕ → List (Block Dir) → Fixed Dir
-synced height held = record (fixed 8 0 held) { material = Some (floor_at height) }
+abbrev pub synced : ℕ → List (Block Dir) → Life
+synced height held = record (life_of 8 0 held) { given = record (configured 8 0) { material = Some (floor_at height) } }
 
 pub sixteen : plays (synced 4 (floor_block 4 ∷ [])) []
     ≡ record {
       lines = Opened 0 [] ∷ Registered 0 Member ∷ Committed 0 None ∷ Registered 0 Member ∷ Setup 0 Midpoint Player ∷ Entered 0 ∷ [];
-      operations = Bars ∷ Opens 0 ∷ PutsPlan (material_bytes (fixed 8 0 []) (floor_at 4)) ∷ of_setup 0 0;
+      operations = OnDisk Bars ∷ OnDisk (Opens 0) ∷ OnDisk (PutsPlan (material_bytes (configured 8 0) (floor_at 4))) ∷ of_setup 0 0;
       calls = 4;
       fault = None;
     } ∷ []
@@ -90,7 +90,7 @@ sixteen = refl
 pub sixteen_late : plays (synced 5 (floor_block 5 ∷ [])) (Reshare (EpochInfoOf 1) ∷ [])
     ≡ record {
       lines = Opened 0 [] ∷ Registered 0 Member ∷ Committed 0 None ∷ Registered 0 Member ∷ Setup 0 Late Follow ∷ Entered 0 ∷ [];
-      operations = Bars ∷ Opens 0 ∷ PutsPlan (material_bytes (fixed 8 0 []) (floor_at 5)) ∷ of_setup 0 0;
+      operations = OnDisk Bars ∷ OnDisk (Opens 0) ∷ OnDisk (PutsPlan (material_bytes (configured 8 0) (floor_at 5))) ∷ of_setup 0 0;
       calls = 4;
       fault = None;
     } ∷ says (Answer 1 (Unavailable Following) ∷ []) ∷ []
@@ -101,7 +101,7 @@ sixteen_late = refl
 pub sixteen_missing : plays (synced 5 []) []
     ≡ record {
       lines = Opened 0 [] ∷ Registered 0 Member ∷ [];
-      operations = Bars ∷ Opens 0 ∷ PutsPlan (material_bytes (fixed 8 0 []) (floor_at 5)) ∷ [];
+      operations = OnDisk Bars ∷ OnDisk (Opens 0) ∷ OnDisk (PutsPlan (material_bytes (configured 8 0) (floor_at 5))) ∷ [];
       calls = 2;
       fault = Some (Faulted FloorBlockMissing);
     } ∷ []
@@ -109,16 +109,16 @@ unfolding validation round_of parts_at held_at outcome_after mode_at byte_at man
 sixteen_missing = refl
 
 -- stored material of an epoch that the source has left is deleted
-pub outdated : last_of (plays_over (record nothing { plan = Some (material_bytes (fixed 8 0 []) (floor_at 4)) }) (record (fixed 8 0 []) { anchor = Some (record { height = 7; digest = 7 ∷ [] }) }) [])
-    ≡ record { lines = Opened 0 [] ∷ Setup 1 Early Follow ∷ Halted ∷ []; operations = Bars ∷ Opens 0 ∷ ClearsPlan ∷ []; calls = 2; fault = None }
+pub outdated : last_of (plays_over (holding_plan (material_bytes (configured 8 0) (floor_at 4))) (above 7 (7 ∷ []) (life_of 8 0 [])) [])
+    ≡ record { lines = Opened 0 [] ∷ Setup 1 Early Follow ∷ Halted ∷ []; operations = OnDisk Bars ∷ OnDisk (Opens 0) ∷ OnDisk ClearsPlan ∷ []; calls = 2; fault = None }
 unfolding validation round_of parts_at held_at outcome_after mode_at byte_at many_at keys_at groups_at groups
 outdated = refl
 
 -- stored material is found again, and gives what provided material gave
-pub stored : plays_over (record nothing { plan = Some (material_bytes (fixed 8 0 []) (floor_at 4)) }) (fixed 8 0 (floor_block 4 ∷ [])) []
+pub stored : plays_over (holding_plan (material_bytes (configured 8 0) (floor_at 4))) (life_of 8 0 (floor_block 4 ∷ [])) []
     ≡ record {
       lines = Opened 0 [] ∷ Registered 0 Member ∷ Committed 0 None ∷ Registered 0 Member ∷ Setup 0 Midpoint Player ∷ Entered 0 ∷ [];
-      operations = Bars ∷ Opens 0 ∷ of_setup 0 0;
+      operations = OnDisk Bars ∷ OnDisk (Opens 0) ∷ of_setup 0 0;
       calls = 3;
       fault = None;
     } ∷ []
@@ -126,7 +126,7 @@ unfolding validation round_of parts_at held_at outcome_after mode_at byte_at man
 stored = refl
 
 -- material that is above the limit is refused before any call for it
-pub refused : plays (record (synced 4 (floor_block 4 ∷ [])) { limit = 3 }) []
-    ≡ record { lines = Opened 0 [] ∷ []; operations = Bars ∷ Opens 0 ∷ []; calls = 1; fault = Some (Faulted StateSyncMaterial) } ∷ []
+pub refused : plays (record (life_of 8 0 (floor_block 4 ∷ [])) { given = record (configured 8 0) { material = Some (floor_at 4); limit = 3 } }) []
+    ≡ record { lines = Opened 0 [] ∷ []; operations = OnDisk Bars ∷ OnDisk (Opens 0) ∷ []; calls = 1; fault = Some (Faulted StateSyncMaterial) } ∷ []
 unfolding validation round_of parts_at held_at outcome_after mode_at byte_at many_at keys_at groups_at groups
 refused = refl

@@ -22,22 +22,22 @@ use Rattle.dkg_types.specs.declared.payload.Payload.TheVariants as payloads
 use Rattle.dkg_types.specs.PayloadCodes.{payload_spelling}
 use Rattle.dkg_types.specs.Units.{unit_spelling}
 use Rattle.dkg_types.specs.Validation.{validation}
-use Rattle.dkg_store.specs.Acts.{Held, Changes}
+use Rattle.dkg_store.specs.Acts.{Held, OnDisk, Changes}
 use Rattle.dkg_journal.specs.Operations.{Bars, Opens, Appends}
 use Rattle.dkg_store.specs.Events.{event_spelling}
 use Rattle.dkg_store.specs.declared.event.Event.TheVariants as events
 use Rattle.dkg_store.specs.declared.secrets.SecretOp.TheVariants.{PutShare, PutDealing}
-use Rattle.dkg_core.specs.Fixed.{Fixed, fresh_seed}
+use Rattle.dkg_core.specs.Fixed.{fresh_seed}
 use Rattle.dkg_core.specs.Live.{Reshare, Delivers, NextLog, ReleaseLog, NodeStop}
-use Rattle.dkg_core.proofs.Mirror.{Reply, nothing, secret}
-use Rattle.dkg_core.proofs.Worked.{Dir, plays_over, fixed, genesis, plain, block, output, keys, of_setup, says}
+use Rattle.dkg_core.proofs.Mirror.{Outcome, holding, secret}
+use Rattle.dkg_core.proofs.Worked.{Dir, Life, life_of, above, plays_over, genesis, plain, block, output, keys, of_setup, says}
 
 -- the share of epoch 0 is stored, and the tip stands at height 2
 abbrev pub holding_share : Held
-holding_share = record nothing { notes = secret 0 (10 ∷ 8 ∷ []) ∷ [] }
+holding_share = holding (secret 0 (10 ∷ 8 ∷ []) ∷ []) []
 
-abbrev pub over_two : Fixed Dir
-over_two = record (fixed 8 0 (genesis ∷ [])) { anchor = Some (record { height = 2; digest = 2 ∷ [] }) }
+abbrev pub over_two : Life
+over_two = above 2 (2 ∷ []) (life_of 8 0 (genesis ∷ []))
 
 abbrev pub round : Round
 round = record { namespace = []; number = 0; previous = Some output; mode = NonZeroCounter; reveal = V1; dealers = keys; players = keys }
@@ -61,28 +61,28 @@ own_log = sign_log_of 1 round public privates ((1, own_ack) ∷ [])
 abbrev pub payload : List ℕ
 payload = payload_spelling {Dir = Dir} unit_spelling (payloads.DealerLog own_log)
 
-abbrev pub opens_with_share : Reply NodeStop
+abbrev pub opens_with_share : Outcome NodeStop
 opens_with_share = record {
   lines = Opened 0 [] ∷ Committed 0 (Some 8) ∷ Registered 0 Signer ∷ Setup 0 Early Both ∷ Entered 0 ∷ [];
-  operations = Bars ∷ Opens 0 ∷ Changes (PutShare 0 8) ∷ of_setup 0 0;
+  operations = OnDisk Bars ∷ OnDisk (Opens 0) ∷ Changes (PutShare 0 8) ∷ of_setup 0 0;
   calls = 4;
   fault = None;
 }
 
 -- the block before the midpoint: it records and acknowledges its own dealing, and offers the others theirs
-abbrev pub offers : Reply NodeStop
+abbrev pub offers : Outcome NodeStop
 offers = record {
   lines = Recorded 0 1 public (private_of 1) ∷ Offer 0 2 public (private_of 2) ∷ Offer 0 3 public (private_of 3) ∷ Offer 0 4 public (private_of 4) ∷ Acked 3 ∷ [];
-  operations = Changes (PutDealing 0 1 (private_of 1)) ∷ Appends false (0, event_spelling (events.Dealing 1 public)) ∷ Appends true (0, event_spelling (events.Ack 1 own_ack)) ∷ [];
+  operations = Changes (PutDealing 0 1 (private_of 1)) ∷ OnDisk (Appends (0, event_spelling (events.Dealing 1 public))) ∷ OnDisk (Appends (0, event_spelling (events.Ack 1 own_ack))) ∷ [];
   calls = 10;
   fault = None;
 }
 
 -- its log in the next block is recorded, and offered no more
-abbrev pub observes : Reply NodeStop
+abbrev pub observes : Outcome NodeStop
 observes = record {
   lines = Acked 4 ∷ [];
-  operations = Appends true (0, event_spelling (events.Log 1 own_log.log)) ∷ [];
+  operations = OnDisk (Appends (0, event_spelling (events.LogAt 1 4 own_log.log))) ∷ [];
   calls = 4;
   fault = None;
 }

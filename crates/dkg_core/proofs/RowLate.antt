@@ -1,5 +1,5 @@
 -- A life that opens late: with the dealing whose acknowledgement a recorded log bears, and without it. And the fence.
-use Rattle.std.proofs.Common.{◌≡◌, List, [], ◌∷◌, ◌++◌, Some, None, refl, false, true}
+use Rattle.std.proofs.Common.{◌≡◌, List, [], ◌∷◌, ◌++◌, Some, None, refl, false}
 use Rattle.sha2.specs.Sha256.{first_words, schedule, rounds, compress, hash_after, digest_bytes, sha256}
 use Rattle.dkg_values.specs.Bytes.{byte_at}
 use Rattle.dkg_values.specs.Codec.{many_at}
@@ -24,14 +24,15 @@ use Rattle.dkg_types.specs.declared.entry.Restored.{Restored}
 use Rattle.dkg_types.specs.declared.entry.Role.TheVariants.{Member}
 use Rattle.dkg_types.specs.Validation.{validation}
 use Rattle.dkg_journal.specs.Records.{Entry}
+use Rattle.dkg_values.specs.declared.name.Name.TheVariants.{Segment}
+use Rattle.dkg_store.specs.Acts.{OnDisk}
 use Rattle.dkg_journal.specs.Operations.{Bars, Opens}
 use Rattle.dkg_store.specs.Events.{event_after, event_spelling}
 use Rattle.dkg_store.specs.declared.event.Event.TheVariants as events
-use Rattle.dkg_core.specs.Fixed.{Fixed}
 use Rattle.dkg_core.specs.Live.{NodeStop}
 use Rattle.dkg_core.specs.Entering.{wait_for}
-use Rattle.dkg_core.proofs.Mirror.{Reply, nothing, secret}
-use Rattle.dkg_core.proofs.Worked.{Dir, plays_over, fixed, genesis, of_setup, body, ack_of_dealt}
+use Rattle.dkg_core.proofs.Mirror.{Outcome, holding, secret}
+use Rattle.dkg_core.proofs.Worked.{Life, life_of, above, plays_over, genesis, of_setup, body, ack_of_dealt}
 
 -- dealer 2's log with this node's acknowledgement
 abbrev pub log : DealerLog
@@ -41,24 +42,24 @@ abbrev pub journal : List Entry
 journal = (0, body) ∷ (0, event_spelling (events.Log 2 log)) ∷ []
 
 -- the tip stands at height 4
-abbrev pub over_four : Fixed Dir
-over_four = record (fixed 8 0 (genesis ∷ [])) { anchor = Some (record { height = 4; digest = 4 ∷ [] }); found = record { calls = 0; has_file = true } }
+abbrev pub over_four : Life
+over_four = above 4 (4 ∷ []) (life_of 8 0 (genesis ∷ []))
 
-abbrev pub opens_as : List Restored → Part → Reply NodeStop
+abbrev pub opens_as : List Restored → Part → Outcome NodeStop
 opens_as restored part = record {
   lines = Opened 0 restored ∷ Committed 0 None ∷ Registered 0 Member ∷ Setup 0 Late part ∷ Entered 0 ∷ [];
-  operations = Bars ∷ Opens 0 ∷ of_setup 0 0;
+  operations = OnDisk Bars ∷ OnDisk (Opens 0) ∷ of_setup 0 0;
   calls = 3;
   fault = None;
 }
 
-pub nine : plays_over (record nothing { notes = journal ++ secret 0 (12 ∷ 2 ∷ 23 ∷ []) ∷ [] }) over_four []
+pub nine : plays_over (holding (journal ++ secret 0 (12 ∷ 2 ∷ 23 ∷ []) ∷ []) (Segment 0 ∷ [])) over_four []
     ≡ opens_as (record { epoch = 0; dealer = 2; public = 15 ∷ 7 ∷ 1 ∷ []; private = 23 } ∷ []) Player ∷ []
 unfolding validation round_of dealing_of value_at event_after entry_after byte_at many_at groups_at groups bears_ack_of check_ack_of ack_content mark_of round_bytes first_words schedule rounds compress hash_after digest_bytes sha256
 nine = refl
 
 -- the secrets were lost
-pub nine_lost : plays_over (record nothing { notes = journal }) over_four [] ≡ opens_as [] Observer ∷ []
+pub nine_lost : plays_over (holding journal (Segment 0 ∷ [])) over_four [] ≡ opens_as [] Observer ∷ []
 unfolding validation round_of dealing_of value_at event_after entry_after byte_at many_at groups_at groups bears_ack_of check_ack_of ack_content mark_of round_bytes first_words schedule rounds compress hash_after digest_bytes sha256
 nine_lost = refl
 

@@ -20,16 +20,13 @@ use Rattle.dkg_types.specs.Blocks.{Block}
 use Rattle.dkg_types.specs.declared.entry.AnswerLine.TheVariants.{Available, Unavailable}
 use Rattle.dkg_types.specs.declared.entry.Entry.TheVariants.{Answer}
 use Rattle.dkg_types.specs.declared.entry.Why.TheVariants as causes
-use Rattle.dkg_types.specs.declared.fault.Fault.TheVariants.{HeightRange}
 use Rattle.dkg_types.specs.declared.payload.Payload.TheVariants as payloads
 use Rattle.dkg_types.specs.Validation.{validation}
 use Rattle.dkg_store.specs.Acts.{Held}
-use Rattle.dkg_core.specs.Fixed.{Fixed}
-use Rattle.dkg_core.specs.Live.{Live, Event, Reshare, EpochInfoOf, Feed, Over, Cancel, Work, NodeStop, Faulted}
+use Rattle.dkg_core.specs.Live.{Live, Event, Reshare, EpochInfoOf, Feed, Over, Cancel, Work, NodeStop}
 use Rattle.dkg_core.specs.Including.{Fed, Need, Found, scan}
-use Rattle.dkg_core.specs.Node.{node_opening, node_step}
-use Rattle.dkg_core.proofs.Mirror.{Reply, played, nothing, end_after}
-use Rattle.dkg_core.proofs.Worked.{Dir, plays, fixed, genesis, info, plain, block, output, keys, says, last_of}
+use Rattle.dkg_core.proofs.Mirror.{Outcome, nothing}
+use Rattle.dkg_core.proofs.Worked.{Dir, Life, life_of, above, at_step, end_after, plays, genesis, info, plain, block, output, keys, says, last_of}
 
 -- THE LOGS OF A PATH. The tip stands at height 3, so inclusion reads heights 4 to 6.
 
@@ -45,16 +42,16 @@ signed_by dealer log = record { dealer = dealer; log = log; mark = mark_of deale
 abbrev pub logged : (height dealer : ℕ) → DealerLog → List ℕ → Block Dir
 logged height dealer log parent = block height parent (Some (payloads.DealerLog (signed_by dealer log)))
 
-abbrev pub over_three : Fixed Dir
-over_three = record (fixed 8 0 (genesis ∷ [])) { anchor = Some (record { height = 3; digest = 3 ∷ [] }) }
+abbrev pub over_three : Life
+over_three = above 3 (3 ∷ []) (life_of 8 0 (genesis ∷ []))
 
 abbrev pub scan_in : Option (Live Dir × Held) → List (Block Dir) → Fed
 scan_in None bs = Need
-scan_in (Some p) bs = scan over_three round p.0 None [] bs true
+scan_in (Some p) bs = scan (at_step over_three []) round p.0 None [] bs true
 
 -- what a scan of these blocks gives, over the life as it opened
 abbrev pub scanned : List (Block Dir) → Fed
-scanned bs = scan_in (end_after (Faulted HeightRange) (node_step over_three) [] (played (node_opening over_three) nothing)) bs
+scanned bs = scan_in (end_after nothing over_three []) bs
 
 -- of key 2 the lower log counts, and of key 3 the one it has
 pub fifteen : scanned (logged 6 2 (log 16) (5 ∷ []) ∷ logged 5 3 (log 26) (4 ∷ []) ∷ logged 4 2 (log 15) (3 ∷ []) ∷ []) ≡ Found ((2, log 15) ∷ (3, log 26) ∷ [])
@@ -66,7 +63,7 @@ pub fifteen_stranger : scanned (logged 6 2 (log 16) (5 ∷ []) ∷ logged 5 9 (l
 unfolding validation round_of check_log_of log_content groups mark_of round_bytes first_words schedule rounds compress hash_after digest_bytes sha256
 fifteen_stranger = refl
 
-abbrev pub first_of : List (Reply NodeStop) → Reply NodeStop
+abbrev pub first_of : List (Outcome NodeStop) → Outcome NodeStop
 first_of [] = says []
 first_of (r ∷ rs) = r
 
@@ -90,16 +87,16 @@ fifteen_height = refl
 abbrev pub path : ℕ → List (Event Dir)
 path request = Reshare (EpochInfoOf request) ∷ Reshare (Feed request (plain 6 (5 ∷ []))) ∷ Reshare (Feed request (plain 5 (4 ∷ []))) ∷ Reshare (Feed request (plain 4 (3 ∷ []))) ∷ []
 
-abbrev pub answered : ℕ → Reply NodeStop
+abbrev pub answered : ℕ → Outcome NodeStop
 answered request = says (Answer request (Available (Some (payload_spelling {Dir = Dir} unit_spelling (payloads.EpochInfo (info 1))))) ∷ [])
 
-pub verifies : plays over_three (path 1 ++ Reshare Work ∷ path 2)
+pub verifies : plays over_three (path 1 ++ Reshare (Work None) ∷ path 2)
     ≡ first_of (plays over_three []) ∷ says [] ∷ says [] ∷ says [] ∷ says [] ∷ answered 1 ∷ says [] ∷ says [] ∷ says [] ∷ answered 2 ∷ []
 unfolding validation round_of finish_of selected_of outcome_of
 verifies = refl
 
 -- a request that is cancelled while it is verified is not answered, and its result serves the next
-pub cancelled : plays over_three (path 1 ++ Reshare (Cancel 1) ∷ Reshare Work ∷ path 2)
+pub cancelled : plays over_three (path 1 ++ Reshare (Cancel 1) ∷ Reshare (Work None) ∷ path 2)
     ≡ first_of (plays over_three []) ∷ says [] ∷ says [] ∷ says [] ∷ says [] ∷ says [] ∷ says [] ∷ says [] ∷ says [] ∷ says [] ∷ answered 2 ∷ []
 unfolding validation round_of finish_of selected_of outcome_of
 cancelled = refl

@@ -18,12 +18,12 @@ use Rattle.dkg_types.specs.declared.entry.Role.TheVariants.{Signer, Member}
 use Rattle.dkg_types.specs.declared.payload.Payload.TheVariants as payloads
 use Rattle.dkg_types.specs.NextInfos.{info_by}
 use Rattle.dkg_types.specs.Validation.{validation}
-use Rattle.dkg_store.specs.Acts.{Changes}
+use Rattle.dkg_store.specs.Acts.{OnDisk, Changes}
 use Rattle.dkg_journal.specs.Operations.{Prunes}
 use Rattle.dkg_store.specs.declared.secrets.SecretOp.TheVariants.{PutShare, PutSeed, Prune}
-use Rattle.dkg_core.specs.Fixed.{Fixed, stand_in, fresh_seed}
+use Rattle.dkg_core.specs.Fixed.{stand_in, fresh_seed}
 use Rattle.dkg_core.specs.Live.{Delivers}
-use Rattle.dkg_core.proofs.Worked.{Dir, plays, fixed, genesis, carrying, block, info, keys, last_of}
+use Rattle.dkg_core.proofs.Worked.{Dir, Life, life_of, above, configured, plays, genesis, carrying, block, info, keys, last_of}
 
 -- the output 5 - 18x - x², whose value at key 1's point is 65507
 abbrev pub next_output : Output
@@ -37,19 +37,20 @@ next_output = record {
 }
 
 -- the tip stands at height 6
-abbrev pub over_six : Fixed Dir
-over_six = record (fixed 8 0 (genesis ∷ [])) {
-  rules = record stand_in { outcome_of = λ round logs. Some next_output; finish_of = λ round me dealings logs. Ok (Some (next_output, 65507)) };
-  anchor = Some (record { height = 6; digest = 6 ∷ [] });
+abbrev pub over_six : Life
+over_six = record (above 6 (6 ∷ []) (life_of 8 0 (genesis ∷ []))) {
+  given = record (configured 8 0) {
+    rules = record stand_in { outcome_of = λ round logs. Some next_output; finish_of = λ round me dealings logs. Ok (Some (next_output, 65507)) };
+  };
 }
 
 abbrev pub final : Block Dir
-final = block 7 (6 ∷ []) (Some (payloads.EpochInfo (info_by over_six.provided (info 0) (Some next_output))))
+final = block 7 (6 ∷ []) (Some (payloads.EpochInfo (info_by over_six.given.provided (info 0) (Some next_output))))
 
 pub succeeds : last_of (plays over_six (Delivers final ∷ []))
     ≡ record {
       lines = Committed 1 (Some 65507) ∷ Registered 1 Signer ∷ Setup 1 Early Both ∷ Entered 1 ∷ Acked 7 ∷ [];
-      operations = Changes (PutShare 1 65507) ∷ Changes (PutSeed 1 (fresh_seed 9 1)) ∷ Prunes 0 0 ∷ Changes (Prune 0) ∷ [];
+      operations = Changes (PutShare 1 65507) ∷ Changes (PutSeed 1 (fresh_seed 9 1)) ∷ OnDisk (Prunes 0) ∷ Changes (Prune 0) ∷ [];
       calls = 3;
       fault = None;
     }
@@ -60,7 +61,7 @@ succeeds = refl
 pub differs : last_of (plays over_six (Delivers (carrying 7 1 (6 ∷ [])) ∷ []))
     ≡ record {
       lines = Committed 1 None ∷ Registered 1 Member ∷ Setup 1 Early Player ∷ Entered 1 ∷ Acked 7 ∷ [];
-      operations = Changes (PutSeed 1 (fresh_seed 9 1)) ∷ Prunes 0 0 ∷ Changes (Prune 0) ∷ [];
+      operations = Changes (PutSeed 1 (fresh_seed 9 1)) ∷ OnDisk (Prunes 0) ∷ Changes (Prune 0) ∷ [];
       calls = 2;
       fault = None;
     }

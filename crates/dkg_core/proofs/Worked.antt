@@ -1,6 +1,6 @@
 -- Worked values: keys 1 to 4, their output, infos, blocks, and this node's configuration.
 use Rattle.std.proofs.Common.{ℕ, zero, suc, List, [], ◌∷◌, Option, Some, None, Bool, true, false, refl}
-use Rattle.std.specs.Prelude.{◌+◌}
+use Rattle.std.specs.Prelude.{◌+◌, ◌++◌}
 use Rattle.dkg_types.specs.FinalizationCodes.{is_certified}
 use Rattle.dkg_ceremony.specs.AgreementTest.{agreed}
 use Rattle.dkg_ceremony.specs.declared.mode.Mode.TheVariants.{NonZeroCounter}
@@ -15,18 +15,20 @@ use Rattle.dkg_types.specs.declared.entry.Part.TheVariants.{Player}
 use Rattle.dkg_types.specs.declared.entry.Role.TheVariants.{Member}
 use Rattle.dkg_types.specs.declared.fault.Fault.{Fault}
 use Rattle.dkg_types.specs.declared.fault.Fault.TheVariants.{HeightRange}
+use Rattle.dkg_types.specs.declared.finalization.Finalization.{Finalization}
 use Rattle.dkg_types.specs.declared.info.EpochInfo.{EpochInfo}
 use Rattle.dkg_types.specs.declared.outcome.EpochOutcome.TheVariants.{Success, Failure}
 use Rattle.dkg_types.specs.declared.payload.Payload.{Payload}
 use Rattle.dkg_types.specs.declared.payload.Payload.TheVariants as payloads
 use Rattle.dkg_types.specs.Units.{unit_at, unit_spelling}
-use Rattle.dkg_store.specs.Acts.{Operation, Changes, Held}
+use Rattle.dkg_store.specs.Acts.{Operation, OnDisk, Changes, Held}
 use Rattle.dkg_journal.specs.Operations.{Bars, Opens, Appends, Prunes}
 use Rattle.dkg_store.specs.declared.secrets.SecretOp.TheVariants.{PutSeed, PutDealing, Prune}
-use Rattle.dkg_core.specs.Fixed.{Fixed, stand_in, fresh_seed}
-use Rattle.dkg_core.specs.Live.{Event, NodeStop, Faulted}
+use Rattle.dkg_core.specs.Sources.{Anchor, Absent, source_of}
+use Rattle.dkg_core.specs.Fixed.{Fixed, stand_in, fresh_seed, lending}
+use Rattle.dkg_core.specs.Live.{Live, Event, Delivers, NodeStop, Faulted}
 use Rattle.dkg_core.specs.Node.{node_opening, node_step}
-use Rattle.dkg_core.proofs.Mirror.{mirrored, nothing, played, replies, Reply}
+use Rattle.dkg_core.proofs.Mirror.{mirrored, nothing, played, Played, Outcome, outcome_of, after_end}
 
 abbrev pub Dir : Type 0
 Dir = directory.Unit
@@ -72,13 +74,17 @@ carrying height epoch parent = block height parent (Some (payloads.EpochInfo (in
 abbrev pub genesis : Block Dir
 genesis = carrying 0 0 (0 ∷ [])
 
+-- no block has a finalization
+abbrev pub unsealed : Block Dir → Option Finalization
+unsealed b = None
+
 -- the inner application builds a block on the parent with the payload
 abbrev pub built : Block Dir → Option (Payload Dir) → Option (Block Dir)
 built parent payload = Some (block (parent.height + 1) parent.digest payload)
 
 -- this node is key 1; the provider's sets are all four keys
-abbrev pub fixed : (blocks : ℕ) → (life : ℕ) → List (Block Dir) → Fixed Dir
-fixed blocks life held = record {
+abbrev pub configured : (blocks : ℕ) → (life : ℕ) → Fixed Dir
+configured blocks life = record {
   me = 1;
   blocks_per_epoch = blocks;
   limit = 4;
@@ -89,33 +95,72 @@ fixed blocks life held = record {
   oneshot = None;
   rules = stand_in;
   directories = record { spelling = unit_spelling; read = λ peers. unit_at; matches = λ d peers. true; lacking = λ d peers. None };
-  provided = record { participants = λ epoch. keys; directory = λ peers. record {} };
+  provided = record { participants = λ epoch. keys; directory = λ epoch peers. record {} };
   seen = mirrored;
   inner = record { prepared = built; proposed = built; accepts = λ ancestry. true };
-  probed = record { snapshot = None; certifies = is_certified 0; finalization_of = λ b. None };
+  probed = record { snapshot = None; certifies = is_certified 0 };
   life = life;
   word = 9;
-  anchor = None;
-  held = held;
   material = None;
-  found = record { calls = 0; has_file = false };
+  opening_calls = 0;
+  source = source_of unsealed None [] [];
 }
 
--- the replies of an opening over empty devices, and of these events
-abbrev pub plays_over : Held → Fixed Dir → List (Event Dir) → List (Reply NodeStop)
-plays_over h c events = replies (Faulted HeightRange) (node_step c) events (played (node_opening c) h)
+-- a life: what its steps are given but for the source, the position that the source tells, and the blocks that it holds
+pub record Life : Type 0 where
+  pub given : Fixed Dir
+  pub anchor : Option (Anchor Dir)
+  pub held : List (Block Dir)
 
-abbrev pub plays : Fixed Dir → List (Event Dir) → List (Reply NodeStop)
-plays c events = plays_over nothing c events
+abbrev pub life_of : (blocks : ℕ) → (life : ℕ) → List (Block Dir) → Life
+life_of blocks life held = record { given = configured blocks life; anchor = None; held = held }
 
-abbrev pub says : List Line → Reply NodeStop
+-- .. whose source tells a position: the block at this height was processed, and only its child is there
+abbrev pub above : (height : ℕ) → (digest : List ℕ) → Life → Life
+above height digest life = record life { anchor = Some (record { processed = Absent height; block = block_with (100 ∷ []) (height + 1) digest None }) }
+
+-- what a step is given, once these blocks were delivered
+abbrev pub at_step : Life → (delivered : List (Block Dir)) → Fixed Dir
+at_step life delivered = lending (source_of unsealed life.anchor life.held delivered) life.given
+
+-- a delivered block is in the source from its step on
+abbrev pub with_event : Event Dir → List (Block Dir) → List (Block Dir)
+with_event (Delivers b) delivered = delivered ++ b ∷ []
+with_event event delivered = delivered
+
+-- the outcomes of a course, and of the events after it
+abbrev pub outcomes : Life → (delivered : List (Block Dir)) → List (Event Dir) → Played Dir NodeStop (Live Dir) → List (Outcome NodeStop)
+outcomes life delivered [] p = outcome_of p ∷ []
+outcomes life delivered (event ∷ events) p =
+    outcome_of p ∷ outcomes life (with_event event delivered) events (after_end (Faulted HeightRange) (node_step (at_step life (with_event event delivered)) event) p.end)
+
+-- what it ended in after these events
+abbrev pub end_from : Life → (delivered : List (Block Dir)) → List (Event Dir) → Played Dir NodeStop (Live Dir) → Option (Live Dir × Held)
+end_from life delivered [] p = p.end
+end_from life delivered (event ∷ events) p =
+    end_from life (with_event event delivered) events (after_end (Faulted HeightRange) (node_step (at_step life (with_event event delivered)) event) p.end)
+
+abbrev pub opened : Life → Held → Played Dir NodeStop (Live Dir)
+opened life h = played (node_opening (at_step life [])) h
+
+-- the outcomes of an opening over these devices, or over empty ones, and of these events
+abbrev pub plays_over : Held → Life → List (Event Dir) → List (Outcome NodeStop)
+plays_over h life events = outcomes life [] events (opened life h)
+
+abbrev pub plays : Life → List (Event Dir) → List (Outcome NodeStop)
+plays life events = plays_over nothing life events
+
+abbrev pub end_after : Held → Life → List (Event Dir) → Option (Live Dir × Held)
+end_after h life events = end_from life [] events (opened life h)
+
+abbrev pub says : List Line → Outcome NodeStop
 says lines = record { lines = lines; operations = []; calls = 0; fault = None }
 
-abbrev pub stops : Fault → Reply NodeStop
+abbrev pub stops : Fault → Outcome NodeStop
 stops fault = record { lines = []; operations = []; calls = 0; fault = Some (Faulted fault) }
 
 -- the last of the replies
-abbrev pub last_of : List (Reply NodeStop) → Reply NodeStop
+abbrev pub last_of : List (Outcome NodeStop) → Outcome NodeStop
 last_of [] = says []
 last_of (r ∷ []) = r
 last_of (r ∷ r' ∷ rs) = last_of (r' ∷ rs)
@@ -125,11 +170,11 @@ abbrev pub set_up : (epoch : ℕ) → List Line
 set_up epoch = Committed epoch None ∷ Registered epoch Member ∷ Setup epoch Early Player ∷ Entered epoch ∷ []
 
 abbrev pub of_setup : (epoch min : ℕ) → List Operation
-of_setup epoch min = Changes (PutSeed epoch (fresh_seed 9 epoch)) ∷ Prunes 0 min ∷ Changes (Prune min) ∷ []
+of_setup epoch min = Changes (PutSeed epoch (fresh_seed 9 epoch)) ∷ OnDisk (Prunes min) ∷ Changes (Prune min) ∷ []
 
 -- the first opening of a member of epoch 0
-abbrev pub opens : Reply NodeStop
-opens = record { lines = Opened 0 [] ∷ set_up 0; operations = Bars ∷ Opens 0 ∷ of_setup 0 0; calls = 3; fault = None }
+abbrev pub opens : Outcome NodeStop
+opens = record { lines = Opened 0 [] ∷ set_up 0; operations = OnDisk Bars ∷ OnDisk (Opens 0) ∷ of_setup 0 0; calls = 3; fault = None }
 
 -- BYTES
 
@@ -152,10 +197,10 @@ abbrev pub body : List ℕ
 body = 0 ∷ 0 ∷ 0 ∷ 0 ∷ 2 ∷ 3 ∷ 0 ∷ 15 ∷ 0 ∷ 7 ∷ 0 ∷ 1 ∷ []
 
 -- the dealing is recorded in an epoch and acknowledged
-abbrev pub records : (epoch : ℕ) → (there : Bool) → (calls : ℕ) → (ack : List ℕ) → Reply NodeStop
-records epoch there calls ack = record {
+abbrev pub records : (epoch : ℕ) → (calls : ℕ) → (ack : List ℕ) → Outcome NodeStop
+records epoch calls ack = record {
   lines = Recorded epoch 2 (15 ∷ 7 ∷ 1 ∷ []) 23 ∷ Ack epoch 2 ack ∷ [];
-  operations = Changes (PutDealing epoch 2 23) ∷ Appends there (epoch, body) ∷ [];
+  operations = Changes (PutDealing epoch 2 23) ∷ OnDisk (Appends (epoch, body)) ∷ [];
   calls = calls;
   fault = None;
 }
