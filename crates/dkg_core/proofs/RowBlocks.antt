@@ -28,11 +28,12 @@ use Rattle.dkg_core.specs.Fixed.{Material, fresh_seed}
 use Rattle.dkg_core.specs.Live.{Reshare, Delivers, EpochInfoOf, Faulted}
 use Rattle.dkg_core.specs.Plans.{material_bytes}
 use Rattle.dkg_core.proofs.Mirror.{holding_plan}
-use Rattle.dkg_core.proofs.Worked.{Dir, Life, life_of, above, configured, plays, plays_over, genesis, plain, block_with, info, of_setup, says, stops, last_of}
+use Rattle.dkg_core.proofs.Lives.{Life, plays, plays_over}
+use Rattle.dkg_core.proofs.Worked.{Dir, life_of, above, configured, genesis, plain, block_with, info, of_setup, says, stops, last_of}
 
 -- OVER A TIP: the other block of height 2, its child, and what stands above
 
-abbrev pub over_two : Life
+abbrev pub over_two : Life Dir
 over_two = above 2 (2 ∷ []) (life_of 8 0 (genesis ∷ []))
 
 pub conflicting : last_of (plays over_two (Delivers (block_with (22 ∷ []) 2 (1 ∷ []) None) ∷ [])) ≡ stops (ConflictingBlock 2)
@@ -53,7 +54,7 @@ redelivered = refl
 
 -- ONE-SHOT
 
-abbrev pub once : Life
+abbrev pub once : Life Dir
 once = record (life_of 1 0 []) { given = record (configured 1 0) { oneshot = Some (record { participants = 1 ∷ []; directory = record {} }); limit = 1 } }
 
 pub eleven : plays once (Delivers (plain 0 (0 ∷ [])) ∷ [])
@@ -73,7 +74,7 @@ floor_at height = record {
 abbrev pub floor_block : ℕ → Block Dir
 floor_block height = block_with (replicate 32 height) height (height ∷ height ∷ []) None
 
-abbrev pub synced : ℕ → List (Block Dir) → Life
+abbrev pub synced : ℕ → List (Block Dir) → Life Dir
 synced height held = record (life_of 8 0 held) { given = record (configured 8 0) { material = Some (floor_at height) } }
 
 pub sixteen : plays (synced 4 (floor_block 4 ∷ [])) []

@@ -30,13 +30,14 @@ use Rattle.dkg_store.specs.declared.secrets.SecretOp.TheVariants.{PutShare, PutD
 use Rattle.dkg_core.specs.Fixed.{fresh_seed}
 use Rattle.dkg_core.specs.Live.{Reshare, Delivers, NextLog, ReleaseLog, NodeStop}
 use Rattle.dkg_core.proofs.Mirror.{Outcome, holding, secret}
-use Rattle.dkg_core.proofs.Worked.{Dir, Life, life_of, above, plays_over, genesis, plain, block, output, keys, of_setup, says}
+use Rattle.dkg_core.proofs.Lives.{Life, plays_over}
+use Rattle.dkg_core.proofs.Worked.{Dir, life_of, above, genesis, plain, block, output, keys, of_setup, says}
 
 -- the share of epoch 0 is stored, and the tip stands at height 2
 abbrev pub holding_share : Held
 holding_share = holding (secret 0 (10 ∷ 8 ∷ []) ∷ []) []
 
-abbrev pub over_two : Life
+abbrev pub over_two : Life Dir
 over_two = above 2 (2 ∷ []) (life_of 8 0 (genesis ∷ []))
 
 abbrev pub round : Round

@@ -32,7 +32,8 @@ use Rattle.dkg_store.specs.declared.event.Event.TheVariants as events
 use Rattle.dkg_core.specs.Live.{NodeStop}
 use Rattle.dkg_core.specs.Entering.{wait_for}
 use Rattle.dkg_core.proofs.Mirror.{Outcome, holding, secret}
-use Rattle.dkg_core.proofs.Worked.{Life, life_of, above, plays_over, genesis, of_setup, body, ack_of_dealt}
+use Rattle.dkg_core.proofs.Lives.{Life, plays_over}
+use Rattle.dkg_core.proofs.Worked.{Dir, life_of, above, genesis, of_setup, body, ack_of_dealt}
 
 -- dealer 2's log with this node's acknowledgement
 abbrev pub log : DealerLog
@@ -42,7 +43,7 @@ abbrev pub journal : List Entry
 journal = (0, body) ∷ (0, event_spelling (events.Log 2 log)) ∷ []
 
 -- the tip stands at height 4
-abbrev pub over_four : Life
+abbrev pub over_four : Life Dir
 over_four = above 4 (4 ∷ []) (life_of 8 0 (genesis ∷ []))
 
 abbrev pub opens_as : List Restored → Part → Outcome NodeStop

@@ -21,7 +21,8 @@ use Rattle.dkg_types.specs.declared.fault.Fault.TheVariants.{OutOfWindow}
 use Rattle.dkg_store.specs.Acts.{OnDisk}
 use Rattle.dkg_journal.specs.Operations.{Bars, Opens}
 use Rattle.dkg_core.specs.Live.{Peer, Event, Reshare, Later, Delivers, NextLog, EpochInfoOf}
-use Rattle.dkg_core.proofs.Worked.{Dir, plays, life_of, genesis, plain, opens, records, says, stops, dealt, dealt_again, ack_of_dealt}
+use Rattle.dkg_core.proofs.Lives.{plays}
+use Rattle.dkg_core.proofs.Worked.{Dir, life_of, genesis, plain, opens, records, says, stops, dealt, dealt_again, ack_of_dealt}
 
 abbrev pub after_opening : {A : Type 0} → List A → List A
 after_opening [] = []

@@ -26,7 +26,8 @@ use Rattle.dkg_store.specs.Acts.{Held}
 use Rattle.dkg_core.specs.Live.{Live, Event, Reshare, EpochInfoOf, Feed, Over, Cancel, Work, NodeStop}
 use Rattle.dkg_core.specs.Including.{Fed, Need, Found, scan}
 use Rattle.dkg_core.proofs.Mirror.{Outcome, nothing}
-use Rattle.dkg_core.proofs.Worked.{Dir, Life, life_of, above, at_step, end_after, plays, genesis, info, plain, block, output, keys, says, last_of}
+use Rattle.dkg_core.proofs.Lives.{Life, at_step, end_after, plays}
+use Rattle.dkg_core.proofs.Worked.{Dir, life_of, above, genesis, info, plain, block, output, keys, says, last_of}
 
 -- THE LOGS OF A PATH. The tip stands at height 3, so inclusion reads heights 4 to 6.
 
@@ -42,7 +43,7 @@ signed_by dealer log = record { dealer = dealer; log = log; mark = mark_of deale
 abbrev pub logged : (height dealer : ℕ) → DealerLog → List ℕ → Block Dir
 logged height dealer log parent = block height parent (Some (payloads.DealerLog (signed_by dealer log)))
 
-abbrev pub over_three : Life
+abbrev pub over_three : Life Dir
 over_three = above 3 (3 ∷ []) (life_of 8 0 (genesis ∷ []))
 
 abbrev pub scan_in : Option (Live Dir × Held) → List (Block Dir) → Fed

@@ -23,7 +23,8 @@ use Rattle.dkg_journal.specs.Operations.{Prunes}
 use Rattle.dkg_store.specs.declared.secrets.SecretOp.TheVariants.{PutShare, PutSeed, Prune}
 use Rattle.dkg_core.specs.Fixed.{stand_in, fresh_seed}
 use Rattle.dkg_core.specs.Live.{Delivers}
-use Rattle.dkg_core.proofs.Worked.{Dir, Life, life_of, above, configured, plays, genesis, carrying, block, info, keys, last_of}
+use Rattle.dkg_core.proofs.Lives.{Life, plays}
+use Rattle.dkg_core.proofs.Worked.{Dir, life_of, above, configured, genesis, carrying, block, info, keys, last_of}
 
 -- the output 5 - 18x - x², whose value at key 1's point is 65507
 abbrev pub next_output : Output
@@ -37,7 +38,7 @@ next_output = record {
 }
 
 -- the tip stands at height 6
-abbrev pub over_six : Life
+abbrev pub over_six : Life Dir
 over_six = record (above 6 (6 ∷ []) (life_of 8 0 (genesis ∷ []))) {
   given = record (configured 8 0) {
     rules = record stand_in { outcome_of = λ round logs. Some next_output; finish_of = λ round me dealings logs. Ok (Some (next_output, 65507)) };

@@ -27,7 +27,8 @@ use Rattle.dkg_core.specs.Fixed.{fresh_seed}
 use Rattle.dkg_core.specs.Live.{Live, Peer, Event, Reshare, Delivers, NodeStop}
 use Rattle.dkg_core.specs.Node.{node_step}
 use Rattle.dkg_core.proofs.Mirror.{Outcome, nothing, held_within}
-use Rattle.dkg_core.proofs.Worked.{Dir, Life, life_of, above, at_step, end_after, plays, plays_over, genesis, plain, carrying, opens, records, set_up, of_setup, says, dealt, ack_of_dealt, ack_of_next}
+use Rattle.dkg_core.proofs.Lives.{Life, at_step, end_after, plays, plays_over}
+use Rattle.dkg_core.proofs.Worked.{Dir, life_of, above, genesis, plain, carrying, opens, records, set_up, of_setup, says, dealt, ack_of_dealt, ack_of_next}
 
 abbrev pub second : Block Dir
 second = carrying 1 1 (0 ∷ [])
@@ -41,7 +42,7 @@ fourth = carrying 3 2 (2 ∷ [])
 abbrev pub events : List (Event Dir)
 events = Reshare (Peer 2 dealt) ∷ Delivers genesis ∷ Delivers second ∷ Reshare (Peer 2 dealt) ∷ Delivers third ∷ []
 
-abbrev pub first_life : Life
+abbrev pub first_life : Life Dir
 first_life = life_of 2 0 (genesis ∷ [])
 
 -- the last block of an epoch: commit, registration, prune, setup and entry, and then its acknowledgement
@@ -64,7 +65,7 @@ left = end_after nothing first_life events
 abbrev pub restored : List Restored
 restored = record { epoch = 1; dealer = 2; public = 15 ∷ 7 ∷ 1 ∷ []; private = 23 } ∷ []
 
-abbrev pub later_life : (height : ℕ) → List (Block Dir) → Life
+abbrev pub later_life : (height : ℕ) → List (Block Dir) → Life Dir
 later_life height held = above height (height ∷ []) (life_of 2 1 held)
 
 -- what the devices hold behind the first operations of its last step

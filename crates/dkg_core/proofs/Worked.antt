@@ -1,6 +1,6 @@
 -- Worked values: keys 1 to 4, their output, infos, blocks, and this node's configuration.
 use Rattle.std.proofs.Common.{ℕ, zero, suc, List, [], ◌∷◌, Option, Some, None, Bool, true, false, refl}
-use Rattle.std.specs.Prelude.{◌+◌, ◌++◌}
+use Rattle.std.specs.Prelude.{◌+◌}
 use Rattle.dkg_types.specs.FinalizationCodes.{is_certified}
 use Rattle.dkg_ceremony.specs.AgreementTest.{agreed}
 use Rattle.dkg_ceremony.specs.declared.mode.Mode.TheVariants.{NonZeroCounter}
@@ -14,7 +14,6 @@ use Rattle.dkg_types.specs.declared.entry.Entry.TheVariants.{Opened, Committed, 
 use Rattle.dkg_types.specs.declared.entry.Part.TheVariants.{Player}
 use Rattle.dkg_types.specs.declared.entry.Role.TheVariants.{Member}
 use Rattle.dkg_types.specs.declared.fault.Fault.{Fault}
-use Rattle.dkg_types.specs.declared.fault.Fault.TheVariants.{HeightRange}
 use Rattle.dkg_types.specs.declared.finalization.Finalization.{Finalization}
 use Rattle.dkg_types.specs.declared.info.EpochInfo.{EpochInfo}
 use Rattle.dkg_types.specs.declared.outcome.EpochOutcome.TheVariants.{Success, Failure}
@@ -24,11 +23,11 @@ use Rattle.dkg_types.specs.Units.{unit_at, unit_spelling}
 use Rattle.dkg_store.specs.Acts.{Operation, OnDisk, Changes, Held}
 use Rattle.dkg_journal.specs.Operations.{Bars, Opens, Appends, Prunes}
 use Rattle.dkg_store.specs.declared.secrets.SecretOp.TheVariants.{PutSeed, PutDealing, Prune}
-use Rattle.dkg_core.specs.Sources.{Anchor, Absent, source_of}
-use Rattle.dkg_core.specs.Fixed.{Fixed, stand_in, fresh_seed, lending}
-use Rattle.dkg_core.specs.Live.{Live, Event, Delivers, NodeStop, Faulted}
-use Rattle.dkg_core.specs.Node.{node_opening, node_step}
-use Rattle.dkg_core.proofs.Mirror.{mirrored, nothing, played, Played, Outcome, outcome_of, after_end}
+use Rattle.dkg_core.specs.Sources.{Absent, source_of}
+use Rattle.dkg_core.specs.Fixed.{Fixed, stand_in, fresh_seed}
+use Rattle.dkg_core.specs.Live.{NodeStop, Faulted}
+use Rattle.dkg_core.proofs.Lives.{Life}
+use Rattle.dkg_core.proofs.Mirror.{mirrored, Outcome}
 
 abbrev pub Dir : Type 0
 Dir = directory.Unit
@@ -106,52 +105,12 @@ configured blocks life = record {
   source = source_of unsealed None [] [];
 }
 
--- a life: what its steps are given but for the source, the position that the source tells, and the blocks that it holds
-pub record Life : Type 0 where
-  pub given : Fixed Dir
-  pub anchor : Option (Anchor Dir)
-  pub held : List (Block Dir)
+abbrev pub life_of : (blocks : ℕ) → (life : ℕ) → List (Block Dir) → Life Dir
+life_of blocks life held = record { given = configured blocks life; sealed = unsealed; anchor = None; held = held }
 
-abbrev pub life_of : (blocks : ℕ) → (life : ℕ) → List (Block Dir) → Life
-life_of blocks life held = record { given = configured blocks life; anchor = None; held = held }
-
--- .. whose source tells a position: the block at this height was processed, and only its child is there
-abbrev pub above : (height : ℕ) → (digest : List ℕ) → Life → Life
+-- a life whose source tells a position: the block at this height was processed, and only its child is there
+abbrev pub above : (height : ℕ) → (digest : List ℕ) → Life Dir → Life Dir
 above height digest life = record life { anchor = Some (record { processed = Absent height; block = block_with (100 ∷ []) (height + 1) digest None }) }
-
--- what a step is given, once these blocks were delivered
-abbrev pub at_step : Life → (delivered : List (Block Dir)) → Fixed Dir
-at_step life delivered = lending (source_of unsealed life.anchor life.held delivered) life.given
-
--- a delivered block is in the source from its step on
-abbrev pub with_event : Event Dir → List (Block Dir) → List (Block Dir)
-with_event (Delivers b) delivered = delivered ++ b ∷ []
-with_event event delivered = delivered
-
--- the outcomes of a course, and of the events after it
-abbrev pub outcomes : Life → (delivered : List (Block Dir)) → List (Event Dir) → Played Dir NodeStop (Live Dir) → List (Outcome NodeStop)
-outcomes life delivered [] p = outcome_of p ∷ []
-outcomes life delivered (event ∷ events) p =
-    outcome_of p ∷ outcomes life (with_event event delivered) events (after_end (Faulted HeightRange) (node_step (at_step life (with_event event delivered)) event) p.end)
-
--- what it ended in after these events
-abbrev pub end_from : Life → (delivered : List (Block Dir)) → List (Event Dir) → Played Dir NodeStop (Live Dir) → Option (Live Dir × Held)
-end_from life delivered [] p = p.end
-end_from life delivered (event ∷ events) p =
-    end_from life (with_event event delivered) events (after_end (Faulted HeightRange) (node_step (at_step life (with_event event delivered)) event) p.end)
-
-abbrev pub opened : Life → Held → Played Dir NodeStop (Live Dir)
-opened life h = played (node_opening (at_step life [])) h
-
--- the outcomes of an opening over these devices, or over empty ones, and of these events
-abbrev pub plays_over : Held → Life → List (Event Dir) → List (Outcome NodeStop)
-plays_over h life events = outcomes life [] events (opened life h)
-
-abbrev pub plays : Life → List (Event Dir) → List (Outcome NodeStop)
-plays life events = plays_over nothing life events
-
-abbrev pub end_after : Held → Life → List (Event Dir) → Option (Live Dir × Held)
-end_after h life events = end_from life [] events (opened life h)
 
 abbrev pub says : List Line → Outcome NodeStop
 says lines = record { lines = lines; operations = []; calls = 0; fault = None }

@@ -20,7 +20,8 @@ use Rattle.dkg_core.specs.Fixed.{Fixed}
 use Rattle.dkg_core.specs.Live.{Live, Sent, Peer, Finalized}
 use Rattle.dkg_core.specs.Core.{opening, step, Core, Reply, State, IsReplyOf}
 use Rattle.dkg_core.proofs.Mirror.{played, nothing}
-use Rattle.dkg_core.proofs.Worked.{Dir, life_of, above, at_step, genesis, carrying, dealt, ack_of_dealt, body}
+use Rattle.dkg_core.proofs.Lives.{at_step}
+use Rattle.dkg_core.proofs.Worked.{Dir, life_of, above, genesis, carrying, dealt, ack_of_dealt, body}
 
 -- row 1's node as it opened
 abbrev pub member : Fixed Dir
