@@ -1,6 +1,6 @@
 -- Lives that are played: an opening and events, one after another, with the source that each step is lent.
 use Rattle.std.proofs.Common.{ℕ, List, [], ◌∷◌, Option, Some, None}
-use Rattle.std.specs.Prelude.{◌++◌}
+use Rattle.std.specs.Prelude.{◌++◌, fold}
 use Rattle.dkg_types.specs.Blocks.{Block}
 use Rattle.dkg_types.specs.declared.fault.Fault.TheVariants.{HeightRange}
 use Rattle.dkg_types.specs.declared.finalization.Finalization.{Finalization}
@@ -26,6 +26,9 @@ at_step life delivered = lending (source_of life.sealed life.anchor life.held de
 abbrev pub with_event : {Dir : Type 0} → Event Dir → List (Block Dir) → List (Block Dir)
 with_event (Delivers b) delivered = delivered ++ b ∷ []
 with_event event delivered = delivered
+
+abbrev pub delivered_by : {Dir : Type 0} → List (Event Dir) → List (Block Dir)
+delivered_by events = fold (λ delivered event. with_event event delivered) [] events
 
 abbrev pub next_played : {Dir : Type 0} → Life Dir → (delivered : List (Block Dir)) → Event Dir → Option (Live Dir × Held) → Played Dir NodeStop (Live Dir)
 next_played life delivered event end = after_end (Faulted HeightRange) (node_step (at_step life delivered) event) end

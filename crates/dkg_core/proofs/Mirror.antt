@@ -21,7 +21,7 @@ use Rattle.dkg_core.specs.Seen.{Seen}
 
 -- secrets stand behind all sections: of a kind, an epoch and what there is
 abbrev pub secrets : ℕ
-secrets = 1000000
+secrets = 1208925819614629174706176
 
 abbrev pub secret : (epoch : ℕ) → List ℕ → Entry
 secret epoch content = (secrets + epoch, content)
