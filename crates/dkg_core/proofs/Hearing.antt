@@ -9,13 +9,12 @@ use Rattle.dkg_ceremony.specs.declared.ceremony.DealingError.{DealingError}
 use Rattle.dkg_ceremony.specs.declared.round.Round.{Round}
 use Rattle.dkg_types.specs.declared.message.Message.{Message as Channel}
 use Rattle.dkg_types.specs.declared.message.Message.TheVariants.{Dealer as ADealing, Ack as AnAck}
-use Rattle.dkg_types.specs.declared.entry.BlockedWhy.TheVariants as why
 use Rattle.dkg_types.specs.MessageCodes.{message_at}
 use Rattle.dkg_core.specs.Courses.{Goes}
 use Rattle.dkg_store.specs.declared.event.Event.TheVariants as events
 use Rattle.dkg_core.specs.Fixed.{Fixed}
-use Rattle.dkg_core.specs.Live.{Live, Dealer, Stage, Deals, Includes, Follows, Ends, recorded_at}
-use Rattle.dkg_core.specs.Dealing.{reads, hears_peer_in, hears_dealing, hears_ack, checked_dealing, checked_ack, takes_ack, acknowledges, appends, counts, with_ack, blocks_sender}
+use Rattle.dkg_core.specs.Live.{Live, Dealer, Seat, Plays, Watches, Stage, Deals, Includes, Follows, Ends, recorded_at}
+use Rattle.dkg_core.specs.Dealing.{reads, hears_peer_in, seats_dealing_in, hears_dealing_in, hears_ack, checked_dealing, checked_ack, takes_ack, appends, counts, with_ack}
 use Rattle.dkg_core.specs.Laws.{Holds, IsAccepted, peer_law, PeersAreHeard}
 use Rattle.dkg_core.proofs.Holding.{holds_if, holds_option}
 
@@ -27,12 +26,14 @@ module _ {Dir : Type 0} (c : Fixed Dir) (st : Live Dir) (from : ℕ) (round : Ro
       let accepted : IsAccepted c st round.number from public private = record { round = round; of_epoch = in_round; number = refl; new = new; valid = is } in
       ((refl, refl, (public, accepted)), (tt, ((refl, accepted, refl), ((refl, record { round = round; of_epoch = in_round; number = refl; pair = (public, private); is = refl; of = inr (accepted, (refl, refl)) }), tt))))
 
-  a_dealing : (public : List ℕ) (private : ℕ) → Holds (peer_law c st from) [] (hears_dealing c round from public private st)
-  a_dealing public private =
-      holds_option (peer_law c st from) [] (recorded_at st.records.dealings round.number from) (λ kept. acknowledges c round from kept.0 st)
-      (checked_dealing c round from public private st (c.rules.dealing_of round c.me from public private))
-      (λ kept is. ((refl, record { round = round; of_epoch = in_round; number = refl; pair = kept; is = refl; of = inl (refl, is) }), tt))
-      (λ new. checked public private (c.rules.dealing_of round c.me from public private) refl new)
+  of_recorded : (public : List ℕ) (private : ℕ) (kept : Option (List ℕ × ℕ)) → recorded_at st.records.dealings round.number from ≡ kept
+      → Holds (peer_law c st from) [] (hears_dealing_in c round from public private st kept)
+  of_recorded public private (Some kept) is = ((refl, record { round = round; of_epoch = in_round; number = refl; pair = kept; is = refl; of = inl (refl, is) }), tt)
+  of_recorded public private None new = checked public private (c.rules.dealing_of round c.me from public private) refl new
+
+  a_dealing : (public : List ℕ) (private : ℕ) (seat : Seat) → Holds (peer_law c st from) [] (seats_dealing_in c round from public private st seat)
+  a_dealing public private Plays = of_recorded public private (recorded_at st.records.dealings round.number from) refl
+  a_dealing public private Watches = (tt, tt)
 
   an_ack_taken : (d : Dealer) (ack : List ℕ) → Holds (peer_law c st from) [] (takes_ack round.number d from ack st)
   an_ack_taken d ack =
@@ -52,8 +53,7 @@ module _ {Dir : Type 0} (c : Fixed Dir) (st : Live Dir) (from : ℕ) (round : Ro
 
   a_message : (message : Result Channel CodecError) → Holds (peer_law c st from) [] (reads c round from st message)
   a_message (Err e) = (tt, tt)
-  a_message (Ok (ADealing public private)) =
-      holds_if (peer_law c st from) [] st.participation.plays (hears_dealing c round from public private st) (blocks_sender from why.Nonplayer st) (λ e. a_dealing public private) (λ e. (tt, tt))
+  a_message (Ok (ADealing public private)) = a_dealing public private st.participation.seat
   a_message (Ok (AnAck ack)) = an_ack st.participation.dealer ack
 
 in_stage : {Dir : Type 0} (c : Fixed Dir) (st : Live Dir) (from : ℕ) (bytes : List ℕ) (stage : Stage) → Holds (peer_law c st from) [] (hears_peer_in c from bytes st stage)

@@ -13,7 +13,6 @@ use Rattle.dkg_ceremony.specs.declared.round.Round.{Round}
 use Rattle.dkg_journal.specs.Records.{Entry, placed}
 use Rattle.dkg_types.specs.declared.entry.Entry.{Entry as Line}
 use Rattle.dkg_types.specs.declared.entry.Entry.TheVariants.{Recorded, Ack}
-use Rattle.dkg_types.specs.declared.entry.BlockedWhy.TheVariants as why
 use Rattle.dkg_types.specs.declared.message.Message.{Message as Channel}
 use Rattle.dkg_types.specs.declared.message.Message.TheVariants.{Dealer as ADealing, Ack as AnAck}
 use Rattle.dkg_types.specs.MessageCodes.{message_at}
@@ -30,8 +29,8 @@ use Rattle.dkg_store.proofs.Pairs.{step as add, whole_placed, put_one, record_on
 use Rattle.dkg_store.proofs.Map.{keys_total}
 use Rattle.dkg_store.proofs.Silent.{says_dealing}
 use Rattle.dkg_core.specs.Fixed.{Fixed}
-use Rattle.dkg_core.specs.Live.{Live, Dealer, Stage, Deals, Includes, Follows, Ends, recorded_at}
-use Rattle.dkg_core.specs.Dealing.{reads, hears_peer_in, hears_dealing, hears_ack, checked_dealing, checked_ack, takes_ack, acknowledges, appends, counts, with_ack, blocks_sender}
+use Rattle.dkg_core.specs.Live.{Live, Dealer, Seat, Plays, Watches, Stage, Deals, Includes, Follows, Ends, recorded_at}
+use Rattle.dkg_core.specs.Dealing.{reads, hears_peer_in, seats_dealing_in, hears_dealing_in, hears_ack, checked_dealing, checked_ack, takes_ack, acknowledges, appends, counts, with_ack}
 use Rattle.dkg_core.specs.Laws.{IsAccepted}
 use Rattle.dkg_core.specs.Heard.{recovered_in, Fits, IsAgreed, PeersAgree, IsSaid, MayHave, IsKeptAt, Agrees, PeersAreKept}
 
@@ -40,11 +39,6 @@ use Rattle.dkg_core.specs.Heard.{recovered_in, Fits, IsAgreed, PeersAgree, IsSai
 along_if : {Dir F S : Type 0} (P : World → Type 0) (w : World) (b : Bool) (x y : Course Dir F S) → (b ≡ true → Throughout P x w) → (b ≡ false → Throughout P y w) → Throughout P (if b then x else y) w
 along_if P w true x y one other = one refl
 along_if P w false x y one other = other refl
-
-along_option : {Dir F S A : Type 0} (P : World → Type 0) (w : World) (o : Option A) (f : A → Course Dir F S) (none : Course Dir F S)
-    → ((a : A) → o ≡ Some a → Throughout P (f a) w) → (o ≡ None → Throughout P none w) → Throughout P (option_map_or f o none) w
-along_option P w None f none some without = without refl
-along_option P w (Some a) f none some without = some a refl
 
 nothing_more : {A : Type 0} (xs : List A) → xs ≡ xs ++ []
 nothing_more [] = refl
@@ -189,11 +183,14 @@ module _ {Dir : Type 0} (c : Fixed Dir) (st : Live Dir) (from : ℕ) (round : Ro
         ),
       )
 
-  a_dealing : (public : List ℕ) (private : ℕ) → IsEvent (events.Dealing from public) → Throughout P (hears_dealing c round from public private st) w
-  a_dealing public private is_event =
-      along_option P w (recorded_at st.records.dealings round.number from) (λ kept. acknowledges c round from kept.0 st)
-      (checked_dealing c round from public private st (c.rules.dealing_of round c.me from public private))
-      again (λ new. checked public private (c.rules.dealing_of round c.me from public private) is_event new refl)
+  of_recorded : (public : List ℕ) (private : ℕ) (kept : Option (List ℕ × ℕ)) → recorded_at st.records.dealings round.number from ≡ kept → IsEvent (events.Dealing from public)
+      → Throughout P (hears_dealing_in c round from public private st kept) w
+  of_recorded public private (Some kept) is is_event = again kept is
+  of_recorded public private None new is_event = checked public private (c.rules.dealing_of round c.me from public private) is_event new refl
+
+  a_dealing : (public : List ℕ) (private : ℕ) (seat : Seat) → IsEvent (events.Dealing from public) → Throughout P (seats_dealing_in c round from public private st seat) w
+  a_dealing public private Plays is_event = of_recorded public private (recorded_at st.records.dealings round.number from) refl is_event
+  a_dealing public private Watches is_event = (begins, tells _ tt)
 
   -- AN ACKNOWLEDGEMENT
 
@@ -234,8 +231,7 @@ module _ {Dir : Type 0} (c : Fixed Dir) (st : Live Dir) (from : ℕ) (round : Ro
   a_message : (message : Result Channel CodecError) → ((public : List ℕ) (private : ℕ) → message ≡ Ok (ADealing public private) → IsEvent (events.Dealing from public))
       → ((ack : List ℕ) → message ≡ Ok (AnAck ack) → IsEvent (events.Ack from ack)) → Throughout P (reads c round from st message) w
   a_message (Err e) fits fits_ack = (begins, tells _ tt)
-  a_message (Ok (ADealing public private)) fits fits_ack =
-      along_if P w st.participation.plays (hears_dealing c round from public private st) (blocks_sender from why.Nonplayer st) (λ e. a_dealing public private (fits public private refl)) (λ e. (begins, tells _ tt))
+  a_message (Ok (ADealing public private)) fits fits_ack = a_dealing public private st.participation.seat (fits public private refl)
   a_message (Ok (AnAck ack)) fits fits_ack = an_ack ack (fits_ack ack refl) st.participation.dealer
 
   in_stage : (bytes : List ℕ) (stage : Stage) → Agrees c st from bytes pairs w → Throughout P (hears_peer_in c from bytes st stage) w
@@ -255,11 +251,6 @@ lands_if : {Dir F S : Type 0} (Q : S → World → Type 0) (w : World) (b : Bool
     → (end : S) (new : World) → Finishes (if b then x else y) end w new → Q end new
 lands_if Q w true x y one other = one
 lands_if Q w false x y one other = other
-
-lands_option : {Dir F S A : Type 0} (Q : S → World → Type 0) (w : World) (o : Option A) (f : A → Course Dir F S) (none : Course Dir F S) → ((a : A) (end : S) (new : World) → o ≡ Some a → Finishes (f a) end w new → Q end new)
-    → ((end : S) (new : World) → o ≡ None → Finishes none end w new → Q end new) → (end : S) (new : World) → Finishes (option_map_or f o none) end w new → Q end new
-lands_option Q w None f none some without = λ end new done. without end new refl done
-lands_option Q w (Some a) f none some without = λ end new done. some a end new refl done
 
 module _ {Dir : Type 0} (c : Fixed Dir) (st : Live Dir) (from : ℕ) (round : Round) (w : World) (is_round : st.participation.round ≡ Some round)
     (is_whole : IsWhole (notes w.held) w.held.secrets) (records : st.records.dealings ≡ maps.entries (recovered_in w.held)) where
@@ -289,12 +280,14 @@ module _ {Dir : Type 0} (c : Fixed Dir) (st : Live Dir) (from : ℕ) (round : Ro
         records = ap (put key_cmp k (public, private)) records ∙ sym (entries-insert keys_total (recovered_in w.held) k (public, private)) ∙ ap maps.entries (sym both.1);
       })
 
-  dealing_lands : (public : List ℕ) (private : ℕ) → IsEvent (events.Dealing from public) → (end : Live Dir) (new : World) → Finishes (hears_dealing c round from public private st) end w new → Q end new
-  dealing_lands public private is_event =
-      lands_option Q w (recorded_at st.records.dealings round.number from) (λ kept. acknowledges c round from kept.0 st)
-      (checked_dealing c round from public private st (c.rules.dealing_of round c.me from public private))
-      (λ kept end new is done. at_end st end _ new done (told_only _))
-      (λ end new none done. checked_lands public private (c.rules.dealing_of round c.me from public private) is_event none end new done)
+  recorded_lands : (public : List ℕ) (private : ℕ) (kept : Option (List ℕ × ℕ)) → recorded_at st.records.dealings round.number from ≡ kept → IsEvent (events.Dealing from public)
+      → (end : Live Dir) (new : World) → Finishes (hears_dealing_in c round from public private st kept) end w new → Q end new
+  recorded_lands public private (Some kept) is is_event end new done = at_end st end _ new done (told_only _)
+  recorded_lands public private None none is_event end new done = checked_lands public private (c.rules.dealing_of round c.me from public private) is_event none end new done
+
+  dealing_lands : (public : List ℕ) (private : ℕ) (seat : Seat) → IsEvent (events.Dealing from public) → (end : Live Dir) (new : World) → Finishes (seats_dealing_in c round from public private st seat) end w new → Q end new
+  dealing_lands public private Plays is_event = recorded_lands public private (recorded_at st.records.dealings round.number from) refl is_event
+  dealing_lands public private Watches is_event end new done = at_end st end _ new done (told_only _)
 
   module _ (ack : List ℕ) (is_event : IsEvent (events.Ack from ack)) where
     abbrev ack_entry : Entry
@@ -329,9 +322,7 @@ module _ {Dir : Type 0} (c : Fixed Dir) (st : Live Dir) (from : ℕ) (round : Ro
   message_lands : (message : Result Channel CodecError) → ((public : List ℕ) (private : ℕ) → message ≡ Ok (ADealing public private) → IsEvent (events.Dealing from public))
       → ((ack : List ℕ) → message ≡ Ok (AnAck ack) → IsEvent (events.Ack from ack)) → (end : Live Dir) (new : World) → Finishes (reads c round from st message) end w new → Q end new
   message_lands (Err e) fits fits_ack end new done = at_end st end _ new done (told_only _)
-  message_lands (Ok (ADealing public private)) fits fits_ack end new done =
-      lands_if Q w st.participation.plays (hears_dealing c round from public private st) (blocks_sender from why.Nonplayer st) (dealing_lands public private (fits public private refl))
-      (λ end new done. at_end st end _ new done (told_only _)) end new done
+  message_lands (Ok (ADealing public private)) fits fits_ack end new done = dealing_lands public private st.participation.seat (fits public private refl) end new done
   message_lands (Ok (AnAck ack)) fits fits_ack end new done = ack_lands ack (fits_ack ack refl) st.participation.dealer end new done
 
   stage_lands : (bytes : List ℕ) (stage : Stage) → Fits c (from, bytes) → (end : Live Dir) (new : World) → Finishes (hears_peer_in c from bytes st stage) end w new → Q end new

@@ -31,7 +31,7 @@ use Rattle.dkg_core.specs.Blocks.{ends_once}
 use Rattle.dkg_core.specs.Core.{opens_in, begun}
 use Rattle.dkg_core.specs.Laws.{Law, Holds, PrunesAtMost, prune_law, OpeningOperation, opening_law, StartsWithin, OpeningsPrune}
 use Rattle.dkg_core.specs.Heard.{OpeningsRestore}
-use Rattle.dkg_core.proofs.Holding.{holds_as, holds_if, holds_option}
+use Rattle.dkg_core.proofs.Holding.{holds_as, holds_if}
 use Rattle.dkg_core.proofs.Pruning.{setups_prune, draws_up}
 
 lower : {Dir : Type 0} (low most : ℕ) → low ≤ most → (past : List (Deed Dir)) (op : Operation) → PrunesAtMost low past op → OpeningOperation most past op
@@ -101,13 +101,15 @@ module _ {Dir : Type 0} (c : Fixed Dir) (most : ℕ) (starts : StartsWithin c mo
   stored past st (Err e) = tt
   stored past st (Ok m) = of_one_epoch past m (next st (Some m)) (goes past st (Some m))
 
+  reads : (past : List (Deed Dir)) (st : Live Dir) (plan : Option (List ℕ)) → Holds law past (p.reads_plan c plan (next st))
+  reads past st (Some bytes) = stored past st (whole (p.material_at c bytes))
+  reads past st None = goes past st None
+
   finds : (past : List (Deed Dir)) (st : Live Dir) (m : Option (Material Dir)) → Holds law past (p.finds_material c m (next st))
   finds past st (Some m) =
       of_one_epoch past m (if is_ok (whole (p.material_at c (p.material_bytes c m))) then Do (OnDisk (PutsPlan (p.material_bytes c m))) (next st (Some m)) else Stops StateSyncMaterial)
       (holds_if law past (is_ok (whole (p.material_at c (p.material_bytes c m)))) (Do (OnDisk (PutsPlan (p.material_bytes c m))) (next st (Some m))) (Stops StateSyncMaterial) (λ e. (tt, goes _ st (Some m))) (λ e. tt))
-  finds past st None = λ h.
-      holds_option law past (c.seen h).plan (λ bytes. p.stored (next st) (whole (p.material_at c bytes))) (next st None)
-      (λ bytes e. stored past st (whole (p.material_at c bytes))) (λ e. goes past st None)
+  finds past st None = λ h. reads past st (c.seen h).plan
 
   -- ONE-SHOT
 

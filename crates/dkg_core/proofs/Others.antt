@@ -20,7 +20,7 @@ use Rattle.dkg_types.specs.declared.entry.Entry.TheVariants as lines
 use Rattle.dkg_types.specs.declared.entry.Why.TheVariants.{Finished}
 use Rattle.dkg_types.specs.declared.fault.Fault.{Fault}
 use Rattle.dkg_types.specs.declared.fault.Fault.TheVariants.{HeightRange, InvalidParticipants, DirectoryMismatch, LocalState, ConflictingBlock, DetachedBlock, SkippedHeight, OutOfWindow, MissingEpochInfo, WrongEpoch}
-use Rattle.dkg_types.specs.declared.fault.LocalCause.TheVariants.{StoredDealing, OwnDealing, OutcomeOmitted}
+use Rattle.dkg_types.specs.declared.fault.LocalCause.TheVariants.{OwnDealing, OutcomeOmitted}
 use Rattle.dkg_types.specs.declared.fault.ParticipantsCause.TheVariants.{ProviderEmpty, ProviderAbove}
 use Rattle.dkg_types.specs.declared.info.EpochInfo.{EpochInfo}
 use Rattle.dkg_types.specs.NextInfos.{info_by}
@@ -28,12 +28,11 @@ use Rattle.dkg_types.specs.PayloadCodes.{its_log}
 use Rattle.dkg_journal.specs.Operations.{Bars, Opens, Appends, Prunes, PutsPlan, ClearsPlan}
 use Rattle.dkg_store.specs.Acts.{Operation, OnDisk, Changes}
 use Rattle.dkg_core.specs.Courses.{Course, Say, Goes, Stops, bind, Deed}
-use Rattle.dkg_store.specs.Recorded.{first_refused}
 use Rattle.dkg_store.specs.declared.event.Event.TheVariants as events
 use Rattle.dkg_store.specs.declared.secrets.SecretOp.TheVariants.{PutShare, PutSeed, PutDealing, Prune}
 use Rattle.dkg_core.specs.Sources.{Tip}
 use Rattle.dkg_core.specs.Fixed.{Fixed, OneShot, has}
-use Rattle.dkg_core.specs.Live.{Live, Dealer, Stage, Deals, Includes, Follows, Ends, Request, Job, Verified, VerifiedLogs, Artifact, Sent, Peer, Finalized, NextLog, ReleaseLog, EpochInfoOf, Feed, Over, Cancel, Work, awaited_height, recorded_at, with_tip, with_inclusion, with_queue, with_used, is_last_height}
+use Rattle.dkg_core.specs.Live.{Live, Dealer, Seat, Plays, Watches, Stage, Deals, Includes, Follows, Ends, Request, Job, Verified, VerifiedLogs, Artifact, Sent, Peer, Finalized, NextLog, ReleaseLog, EpochInfoOf, Feed, Over, Cancel, Work, awaited_height, recorded_at, with_tip, with_inclusion, with_queue, with_used, is_last_height}
 use Rattle.dkg_core.specs.Logs.{canonical, filled_by, is_accepted, log_event}
 use Rattle.dkg_core.specs.Setup as s
 use Rattle.dkg_core.specs.Dealing as d
@@ -107,25 +106,29 @@ module _ {Dir : Type 0} (c : Fixed Dir) (own : OfHalves) (most : ℕ) where
       holds_option law past st.participation.current (λ info. i.derives_next c info r st (i.keeping r.logs next)) (Stops HeightRange)
       (λ info e. derives_next past info r st (i.keeping r.logs next) (λ made st. each made (i.with_cached r.logs made st))) (λ e. tt)
 
+  artifact_by : (past : List (Deed Dir)) (r : VerifiedLogs) (cached : Option (Artifact Dir)) (st : Live Dir) (next : i.Next Dir) → ((made : Artifact Dir) (st : Live Dir) → Holds law past (next made st)) → Holds law past (i.artifact_by c r cached st next)
+  artifact_by past r (Some made) st next each = each made st
+  artifact_by past r None st next each = derives past c.oneshot r st next each
+
   artifact : (past : List (Deed Dir)) (r : VerifiedLogs) (st : Live Dir) (next : i.Next Dir) → ((made : Artifact Dir) (st : Live Dir) → Holds law past (next made st)) → Holds law past (i.artifact c r st next)
-  artifact past r st next each =
-      holds_option law past (i.cached_for st.inclusion.cached r.logs) (λ made. next made st) (i.derives c c.oneshot r st next) (λ made e. each made st) (λ e. derives past c.oneshot r st next each)
+  artifact past r st next each = artifact_by past r (i.cached_for st.inclusion.cached r.logs) st next each
 
   -- ANSWERS
 
+  starts_unless : (past : List (Deed Dir)) (job : Job) (waiter refused : Option ℕ) (st : Live Dir) → Holds law past (i.starts_unless job waiter refused st)
+  starts_unless past job waiter (Some refused) st = tt
+  starts_unless past job waiter None st = tt
+
   starts : (past : List (Deed Dir)) (round : Round) (logs : LogMap) (waiter : Option ℕ) (st : Live Dir) → Holds law past (i.starts_verifying c round logs waiter st)
-  starts past round logs waiter st =
-      let begun : Course Dir Fault (Live Dir) = Goes (i.verifying (i.job_for c round logs st) waiter st) in
-      holds_if law past (not (i.can_finish c round logs st)) begun
-      (option_map_or (λ refused. Stops (LocalState (StoredDealing round.number refused))) (first_refused (λ d. c.rules.dealing_of round c.me d) (s.pairs_of st round.number)) begun)
-      (λ e. tt) (λ e. holds_option law past (first_refused (λ d. c.rules.dealing_of round c.me d) (s.pairs_of st round.number)) (λ refused. Stops (LocalState (StoredDealing round.number refused))) begun (λ a e. tt) (λ e. tt))
+  starts past round logs waiter st = starts_unless past (i.job_for c round logs st) waiter (if i.can_finish c round logs st then s.refused_in c round st else None) st
+
+  asks_for_by : (past : List (Deed Dir)) (round : Round) (request : ℕ) (logs : LogMap) (cached : Option (Artifact Dir)) (retained : Option VerifiedLogs) (st : Live Dir) → Holds law past (i.asks_for_by c round request logs cached retained st)
+  asks_for_by past round request logs (Some made) retained st = (tt, tt)
+  asks_for_by past round request logs None (Some r) st = artifact past r st (i.answers c request) (λ made st. (tt, tt))
+  asks_for_by past round request logs None None st = starts past round logs (Some request) st
 
   asks_for : (past : List (Deed Dir)) (round : Round) (request : ℕ) (logs : LogMap) (st : Live Dir) → Holds law past (i.asks_for c round request logs st)
-  asks_for past round request logs st =
-      holds_option law past (i.cached_for st.inclusion.cached logs) (λ made. i.answers c request made st)
-      (option_map_or (λ r. i.artifact c r st (i.answers c request)) (i.retained_for st.inclusion.retained logs) (i.starts_verifying c round logs (Some request) st))
-      (λ made e. (tt, tt)) (λ e. holds_option law past (i.retained_for st.inclusion.retained logs) (λ r. i.artifact c r st (i.answers c request)) (i.starts_verifying c round logs (Some request) st)
-      (λ r e. artifact past r st (i.answers c request) (λ made st. (tt, tt))) (λ e. starts past round logs (Some request) st))
+  asks_for past round request logs st = asks_for_by past round request logs (i.cached_for st.inclusion.cached logs) (i.retained_for st.inclusion.retained logs) st
 
   fed : (past : List (Deed Dir)) (round : Round) (request : ℕ) (st : Live Dir) (f : i.Fed) → Holds law past (i.fed c round request st f)
   fed past round request st i.Need = tt
@@ -197,13 +200,16 @@ module _ {Dir : Type 0} (c : Fixed Dir) (own : OfHalves) (most : ℕ) where
       holds_option law past st.participation.dealer (λ dealer. d.checked_ack round dealer c.me ack st (c.rules.check_ack_of round c.me dealer.public c.me ack)) (Goes st)
       (λ dealer e. checked_ack past round dealer c.me ack st (c.rules.check_ack_of round c.me dealer.public c.me ack)) (λ e. tt)
 
-  to_itself : (past : List (Deed Dir)) (round : Round) (public : List ℕ) (private : ℕ) (st : Live Dir) → own round.number public private → Holds law past (d.deals_to_itself c round public private st)
-  to_itself past round public private st mine =
-      holds_option law past (recorded_at st.records.dealings round.number c.me)
-      (λ kept. if bytes_eq kept.0 public then d.own_ack c round public st else Stops (LocalState (OwnDealing round.number kept.0 public)))
-      (bind (d.keeps round.number c.me public private st) (λ st. d.own_ack c round public st))
-      (λ kept e. holds_if law past (bytes_eq kept.0 public) (d.own_ack c round public st) (Stops (LocalState (OwnDealing round.number kept.0 public))) (λ e. own_ack past round public st) (λ e. tt))
-      (λ e. both past (d.keeps round.number c.me public private st) (λ st. d.own_ack c round public st) ((refl, (public, mine)), (tt, ((refl, mine), tt))) (λ past st. own_ack past round public st))
+  to_itself_in : (past : List (Deed Dir)) (round : Round) (public : List ℕ) (private : ℕ) (st : Live Dir) (kept : Option (List ℕ × ℕ)) → own round.number public private
+      → Holds law past (d.deals_to_itself_in c round public private st kept)
+  to_itself_in past round public private st (Some kept) mine =
+      holds_if law past (bytes_eq kept.0 public) (d.own_ack c round public st) (Stops (LocalState (OwnDealing round.number kept.0 public))) (λ e. own_ack past round public st) (λ e. tt)
+  to_itself_in past round public private st None mine =
+      both past (d.keeps round.number c.me public private st) (λ st. d.own_ack c round public st) ((refl, (public, mine)), (tt, ((refl, mine), tt))) (λ past st. own_ack past round public st)
+
+  to_itself : (past : List (Deed Dir)) (round : Round) (public : List ℕ) (private : ℕ) (st : Live Dir) (seat : Seat) → own round.number public private → Holds law past (d.offers_to_itself_in c round public private st seat)
+  to_itself past round public private st Plays mine = to_itself_in past round public private st (recorded_at st.records.dealings round.number c.me) mine
+  to_itself past round public private st Watches mine = tt
 
   -- of these halves, this node's own
   abbrev AreOwn : Round → List ℕ → List (ℕ × ℕ) → Type 0
@@ -214,7 +220,7 @@ module _ {Dir : Type 0} (c : Fixed Dir) (own : OfHalves) (most : ℕ) where
   offers round public (p ∷ ps) past st mine =
       holds_if law past (p.0 == c.me) (bind (d.offers_to_itself c round public p.1 st) (λ st. d.offers c round public ps st)) (Say (lines.Offer round.number p.0 public p.1) (d.offers c round public ps st))
       (λ e. both past (d.offers_to_itself c round public p.1 st) (λ st. d.offers c round public ps st)
-      (holds_if law past st.participation.plays (d.deals_to_itself c round public p.1 st) (Goes st) (λ plays. to_itself past round public p.1 st (mine.0 (same_number p.0 c.me e))) (λ e. tt)) (λ past st. offers round public ps past st mine.1))
+      (to_itself past round public p.1 st st.participation.seat (mine.0 (same_number p.0 c.me e))) (λ past st. offers round public ps past st mine.1))
       (λ e. (tt, offers round public ps _ st mine.1))
 
   -- what this node's dealer deals to itself is its own

@@ -1,7 +1,6 @@
 -- What a setup prunes.
 use Rattle.std.proofs.Common.{◌≡◌, ◌≤◌, ℕ, List, Bool, true, false, Option, Some, None, refl, arith}
 use Rattle.std.specs.Prelude.{◌-◌, ◌==◌, ◌||◌, if◌then◌else◌, not, Result, Ok, Err, option_map}
-use Rattle.std.specs.Option.{option_map_or}
 use Rattle.dkg_values.specs.Rising.{lookup}
 use Rattle.dkg_ceremony.specs.declared.deal.DealError.{DealError}
 use Rattle.dkg_ceremony.specs.declared.output.Output.{Output}
@@ -11,16 +10,14 @@ use Rattle.dkg_ceremony.specs.declared.round.RoundError.{RoundError}
 use Rattle.dkg_ceremony.specs.Schedule.{epoch_of, boundary}
 use Rattle.dkg_types.specs.Blocks.{Block}
 use Rattle.dkg_types.specs.BlockCodes.{info_of}
-use Rattle.dkg_types.specs.declared.fault.Fault.TheVariants.{HeightRange, MissingEpochInfo, WrongEpoch, LocalState}
-use Rattle.dkg_types.specs.declared.fault.LocalCause.TheVariants.{StoredDealing}
+use Rattle.dkg_types.specs.declared.fault.Fault.TheVariants.{HeightRange, MissingEpochInfo, WrongEpoch}
 use Rattle.dkg_types.specs.declared.info.EpochInfo.{EpochInfo}
 use Rattle.dkg_types.specs.declared.participants.Participants.{Participants}
 use Rattle.dkg_types.specs.declared.participants.ParticipantsError.{ParticipantsError}
 use Rattle.dkg_types.specs.Validation.{validation}
 use Rattle.dkg_core.specs.Courses.{Stops, bind, Deed}
-use Rattle.dkg_store.specs.Recorded.{first_refused}
 use Rattle.dkg_core.specs.Fixed.{Fixed, has}
-use Rattle.dkg_core.specs.Live.{Live, Dealer, awaited_height, phase_of, of_epoch}
+use Rattle.dkg_core.specs.Live.{Live, Dealer, Watches, awaited_height, phase_of, of_epoch}
 use Rattle.dkg_core.specs.Logs.{logs_of}
 use Rattle.dkg_core.specs.Setup as s
 use Rattle.dkg_core.specs.Laws.{Law, Holds, IsSilent, PrunesAtMost, prune_law, SetupsPrune}
@@ -31,13 +28,15 @@ abbrev at_epoch : {Dir : Type 0} → (epoch : ℕ) → Law Dir (Live Dir)
 at_epoch epoch = record { line = IsSilent; operation = PrunesAtMost (epoch - 1); end = λ past st. st.participation.epoch ≡ epoch }
 
 module _ {Dir : Type 0} (c : Fixed Dir) (epoch : ℕ) (past : List (Deed Dir)) where
+  sits_down : (round : Round) (phase : Phase) (dealer : Option Dealer) (refused : Option ℕ) (st : Live Dir) → Holds (prune_law epoch) past (s.sits_down c round phase dealer refused st)
+  sits_down round phase dealer None st = (tt, tt)
+  sits_down round phase dealer (Some refused) st = tt
+
   makes_player : (round : Round) (phase : Phase) (dealer : Option Dealer) (st : Live Dir) → Holds (prune_law epoch) past (s.makes_player c round phase dealer st)
   makes_player round phase dealer st =
       holds_if (prune_law epoch) past (not (has round.players c.me) || s.is_lost c round (of_epoch round.number st.records.dealings) (logs_of st round.number))
-      (s.takes_part c round phase dealer false st)
-      (option_map_or (λ refused. Stops (LocalState (StoredDealing round.number refused))) (first_refused (λ d. c.rules.dealing_of round c.me d) (s.pairs_of st round.number)) (s.takes_part c round phase dealer true st))
-      (λ e. (tt, tt)) (λ e. holds_option (prune_law epoch) past (first_refused (λ d. c.rules.dealing_of round c.me d) (s.pairs_of st round.number))
-      (λ refused. Stops (LocalState (StoredDealing round.number refused))) (s.takes_part c round phase dealer true st) (λ a e. tt) (λ e. (tt, tt)))
+      (s.takes_part c round phase dealer Watches st) (s.sits_down c round phase dealer (s.refused_in c round st) st)
+      (λ e. (tt, tt)) (λ e. sits_down round phase dealer (s.refused_in c round st) st)
 
   dealt_by : (round : Round) (phase : Phase) (st : Live Dir) (dealt : Result (List ℕ × List (ℕ × ℕ)) DealError) → Holds (prune_law epoch) past (s.dealt_by c round phase st dealt)
   dealt_by round phase st (Ok dealt) = makes_player round phase (s.dealer_for phase round (s.dealer_from c round st dealt)) st
@@ -102,13 +101,11 @@ module _ {Dir : Type 0} (c : Fixed Dir) (epoch : ℕ) where
   from_material past (Some m) st is = with_info past (Some m.1) s.Uncommitted m.0 st is
   from_material past None st is = from_boundary past (c.source.block (boundary c.blocks_per_epoch st.participation.epoch)) st is
 
-  from_any : (past : List (Deed Dir)) (m : Option (EpochInfo Dir × ℕ)) (st : Live Dir) → st.participation.epoch ≡ epoch
-      → Holds (prune_law epoch) past (option_map_or (λ info. s.with_info c (option_map (λ m. m.1) m) s.WasCommitted info st) (s.committed_info st) (s.from_material c m st))
-  from_any past m st is =
-      holds_option (prune_law epoch) past (s.committed_info st) (λ info. s.with_info c (option_map (λ m. m.1) m) s.WasCommitted info st) (s.from_material c m st)
-      (λ info e. with_info past (option_map (λ m. m.1) m) s.WasCommitted info st is) (λ e. from_material past m st is)
+  from_any : (past : List (Deed Dir)) (m : Option (EpochInfo Dir × ℕ)) (committed : Option (EpochInfo Dir)) (st : Live Dir) → st.participation.epoch ≡ epoch → Holds (prune_law epoch) past (s.sets_up_by c m committed st)
+  from_any past m (Some info) st is = with_info past (option_map (λ m. m.1) m) s.WasCommitted info st is
+  from_any past m None st is = from_material past m st is
 
 pub setups_prune : {Dir : Type 0} → SetupsPrune Dir
 setups_prune c material st past =
     holds_if (prune_law (epoch_of c.blocks_per_epoch (awaited_height st))) past (s.is_past_range c (awaited_height st)) (Stops HeightRange) (s.sets_up c material st)
-    (λ e. tt) (λ e. from_any c (epoch_of c.blocks_per_epoch (awaited_height st)) past material (s.anew c st) refl)
+    (λ e. tt) (λ e. from_any c (epoch_of c.blocks_per_epoch (awaited_height st)) past material (s.committed_info (s.anew c st)) (s.anew c st) refl)

@@ -1,7 +1,6 @@
 -- What a setup leaves.
 use Rattle.std.proofs.Common.{◌≡◌, ℕ, List, Bool, true, false, Option, Some, None, refl, sym, ◌∙◌, ap, subst}
 use Rattle.std.specs.Prelude.{◌-◌, ◌==◌, ◌||◌, if◌then◌else◌, not, Result, Ok, Err, option_map, unwrap_or}
-use Rattle.std.specs.Option.{option_map_or}
 use Rattle.dkg_values.specs.Rising.{lookup}
 use Rattle.dkg_ceremony.specs.declared.deal.DealError.{DealError}
 use Rattle.dkg_ceremony.specs.declared.output.Output.{Output}
@@ -12,16 +11,14 @@ use Rattle.dkg_ceremony.specs.declared.round.RoundError.{RoundError}
 use Rattle.dkg_ceremony.specs.Schedule.{epoch_of, boundary}
 use Rattle.dkg_types.specs.Blocks.{Block}
 use Rattle.dkg_types.specs.BlockCodes.{info_of}
-use Rattle.dkg_types.specs.declared.fault.Fault.TheVariants.{HeightRange, MissingEpochInfo, WrongEpoch, LocalState}
-use Rattle.dkg_types.specs.declared.fault.LocalCause.TheVariants.{StoredDealing}
+use Rattle.dkg_types.specs.declared.fault.Fault.TheVariants.{HeightRange, MissingEpochInfo, WrongEpoch}
 use Rattle.dkg_types.specs.declared.info.EpochInfo.{EpochInfo}
 use Rattle.dkg_types.specs.declared.participants.Participants.{Participants}
 use Rattle.dkg_types.specs.declared.participants.ParticipantsError.{ParticipantsError}
 use Rattle.dkg_types.specs.Validation.{validation}
 use Rattle.dkg_core.specs.Courses.{Stops, bind, Deed}
-use Rattle.dkg_store.specs.Recorded.{first_refused}
 use Rattle.dkg_core.specs.Fixed.{Fixed, has}
-use Rattle.dkg_core.specs.Live.{Live, Dealer, awaited_height, phase_of, of_epoch}
+use Rattle.dkg_core.specs.Live.{Live, Dealer, Seat, Plays, Watches, awaited_height, phase_of, of_epoch}
 use Rattle.dkg_core.specs.Logs.{logs_of}
 use Rattle.dkg_core.specs.Setup as s
 use Rattle.dkg_core.specs.Laws.{Law, Holds, Anything, IsAmong, IsCeremony, DealsValidly, IsSetUp, setup_law, SetupsAreSound}
@@ -57,20 +54,23 @@ module _ {Dir : Type 0} (c : Fixed Dir) (epoch : ℕ) (ceremony : IsCeremony c) 
   of_round : (round other : Round) (dealer : Option Dealer) → ◌≡◌ {A = Option Round} (Some round) (Some other) → round.number ≡ epoch → DealsValidly c round dealer → (other.number ≡ epoch) × DealsValidly c other dealer
   of_round round other dealer e number valid = subst (λ (r : Round). (r.number ≡ epoch) × DealsValidly c r dealer) (same_some round other e) (number, valid)
 
-  takes_part : (past : List (Deed Dir)) (round : Round) (phase : Phase) (dealer : Option Dealer) (plays : Bool) (st : Live Dir) → st.participation.epoch ≡ epoch → round.number ≡ epoch → DealsValidly c round dealer
-      → Holds law past (s.takes_part c round phase dealer plays st)
-  takes_part past round Early dealer plays st is number valid = (tt, record { awaits = is; round_is = λ other e. of_round round other dealer e number valid })
-  takes_part past round Midpoint dealer plays st is number valid = (tt, record { awaits = is; round_is = λ other e. of_round round other (option_map (s.signed c round) dealer) e number (signed round dealer valid) })
-  takes_part past round Late dealer plays st is number valid = (tt, record { awaits = is; round_is = λ other e. of_round round other (option_map (s.signed c round) dealer) e number (signed round dealer valid) })
+  takes_part : (past : List (Deed Dir)) (round : Round) (phase : Phase) (dealer : Option Dealer) (seat : Seat) (st : Live Dir) → st.participation.epoch ≡ epoch → round.number ≡ epoch → DealsValidly c round dealer
+      → Holds law past (s.takes_part c round phase dealer seat st)
+  takes_part past round Early dealer seat st is number valid = (tt, record { awaits = is; round_is = λ other e. of_round round other dealer e number valid })
+  takes_part past round Midpoint dealer seat st is number valid = (tt, record { awaits = is; round_is = λ other e. of_round round other (option_map (s.signed c round) dealer) e number (signed round dealer valid) })
+  takes_part past round Late dealer seat st is number valid = (tt, record { awaits = is; round_is = λ other e. of_round round other (option_map (s.signed c round) dealer) e number (signed round dealer valid) })
+
+  sits_down : (past : List (Deed Dir)) (round : Round) (phase : Phase) (dealer : Option Dealer) (refused : Option ℕ) (st : Live Dir) → st.participation.epoch ≡ epoch → round.number ≡ epoch → DealsValidly c round dealer
+      → Holds law past (s.sits_down c round phase dealer refused st)
+  sits_down past round phase dealer None st is number valid = takes_part past round phase dealer Plays st is number valid
+  sits_down past round phase dealer (Some refused) st is number valid = tt
 
   makes_player : (past : List (Deed Dir)) (round : Round) (phase : Phase) (dealer : Option Dealer) (st : Live Dir) → st.participation.epoch ≡ epoch → round.number ≡ epoch → DealsValidly c round dealer
       → Holds law past (s.makes_player c round phase dealer st)
   makes_player past round phase dealer st is number valid =
       holds_if law past (not (has round.players c.me) || s.is_lost c round (of_epoch round.number st.records.dealings) (logs_of st round.number))
-      (s.takes_part c round phase dealer false st)
-      (option_map_or (λ refused. Stops (LocalState (StoredDealing round.number refused))) (first_refused (λ d. c.rules.dealing_of round c.me d) (s.pairs_of st round.number)) (s.takes_part c round phase dealer true st))
-      (λ e. takes_part past round phase dealer false st is number valid) (λ e. holds_option law past (first_refused (λ d. c.rules.dealing_of round c.me d) (s.pairs_of st round.number))
-      (λ refused. Stops (LocalState (StoredDealing round.number refused))) (s.takes_part c round phase dealer true st) (λ a e. tt) (λ e. takes_part past round phase dealer true st is number valid))
+      (s.takes_part c round phase dealer Watches st) (s.sits_down c round phase dealer (s.refused_in c round st) st)
+      (λ e. takes_part past round phase dealer Watches st is number valid) (λ e. sits_down past round phase dealer (s.refused_in c round st) st is number valid)
 
   -- a dealer that is given up deals nothing
   kept : (phase : Phase) (round : Round) (d : Dealer) → DealsValidly c round (Some d) → DealsValidly c round (s.dealer_for phase round d)
@@ -143,14 +143,13 @@ module _ {Dir : Type 0} (c : Fixed Dir) (epoch : ℕ) (ceremony : IsCeremony c) 
   from_material past (Some m) st is = with_info past (Some m.1) s.Uncommitted m.0 st is
   from_material past None st is = from_boundary past (c.source.block (boundary c.blocks_per_epoch st.participation.epoch)) st is
 
-  from_any : (past : List (Deed Dir)) (m : Option (EpochInfo Dir × ℕ)) (st : Live Dir) → (st.participation.epoch ≡ epoch) × (st.participation.round ≡ None)
-      → Holds law past (option_map_or (λ info. s.with_info c (option_map (λ m. m.1) m) s.WasCommitted info st) (s.committed_info st) (s.from_material c m st))
-  from_any past m st is =
-      holds_option law past (s.committed_info st) (λ info. s.with_info c (option_map (λ m. m.1) m) s.WasCommitted info st) (s.from_material c m st)
-      (λ info e. with_info past (option_map (λ m. m.1) m) s.WasCommitted info st is) (λ e. from_material past m st is)
+  from_any : (past : List (Deed Dir)) (m : Option (EpochInfo Dir × ℕ)) (committed : Option (EpochInfo Dir)) (st : Live Dir) → (st.participation.epoch ≡ epoch) × (st.participation.round ≡ None)
+      → Holds law past (s.sets_up_by c m committed st)
+  from_any past m (Some info) st is = with_info past (option_map (λ m. m.1) m) s.WasCommitted info st is
+  from_any past m None st is = from_material past m st is
 
 pub setups_are_sound : {Dir : Type 0} → SetupsAreSound Dir
 setups_are_sound c material st past ceremony =
     let epoch = epoch_of c.blocks_per_epoch (awaited_height st) in
     holds_if (setup_law c epoch) past (s.is_past_range c (awaited_height st)) (Stops HeightRange) (s.sets_up c material st)
-    (λ e. tt) (λ e. from_any c epoch ceremony past material (s.anew c st) (refl, refl))
+    (λ e. tt) (λ e. from_any c epoch ceremony past material (s.committed_info (s.anew c st)) (s.anew c st) (refl, refl))

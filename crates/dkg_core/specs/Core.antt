@@ -9,7 +9,7 @@ use Rattle.dkg_core.specs.Courses.{Course, Say, Do, Goes, Deed, deeds_of, end_of
 use Rattle.dkg_core.specs.Seen.{Seen}
 use Rattle.dkg_core.specs.Sources.{Source}
 use Rattle.dkg_core.specs.Fixed.{Fixed, OneShot, lending}
-use Rattle.dkg_core.specs.Live.{Live, Participation, Inclusion, Orchestrator, Probe, Follows, Mail, Peer, NextLog, ReleaseLog, EpochInfoOf, Feed, Over, Cancel, Work, Message, Sent, Finalized}
+use Rattle.dkg_core.specs.Live.{Live, Participation, Inclusion, Orchestrator, Probe, Follows, Watches, Mail, Peer, NextLog, ReleaseLog, EpochInfoOf, Feed, Over, Cancel, Work, Message, Sent, Finalized}
 use Rattle.dkg_core.specs.Setup.{looks}
 use Rattle.dkg_core.specs.Dealing.{hears_peer}
 use Rattle.dkg_core.specs.Including.{serves_log, releases, asks, feeds, ends, cancels, works}
@@ -20,7 +20,7 @@ use Rattle.dkg_core.specs.OneShots.{opens_once}
 -- AN OPENING
 
 abbrev pub no_participation : {Dir : Type 0} → Participation Dir
-no_participation = record { epoch = 0; stage = Follows; round = None; dealer = None; plays = false; current = None }
+no_participation = record { epoch = 0; stage = Follows; round = None; dealer = None; seat = Watches; current = None }
 
 abbrev pub no_inclusion : {Dir : Type 0} → Inclusion Dir
 no_inclusion = record { served = None; queue = []; running = None; waiter = None; retained = None; cached = None; used = []; told = [] }

@@ -29,7 +29,7 @@ use Rattle.dkg_store.specs.declared.event.Event.{Event}
 use Rattle.dkg_store.specs.declared.event.Event.TheVariants as events
 use Rattle.dkg_store.specs.declared.secrets.SecretOp.TheVariants.{PutDealing}
 use Rattle.dkg_core.specs.Fixed.{Fixed}
-use Rattle.dkg_core.specs.Live.{Live, Dealer, Stage, Deals, Includes, Follows, Ends, recorded_at, with_participation}
+use Rattle.dkg_core.specs.Live.{Live, Dealer, Seat, Plays, Watches, Stage, Deals, Includes, Follows, Ends, recorded_at, with_participation}
 use Rattle.dkg_core.specs.Setup.{unsent}
 
 abbrev pub blocks_sender : {Dir : Type 0} → (from : ℕ) → BlockedWhy → Live Dir → Course Dir Fault (Live Dir)
@@ -67,10 +67,16 @@ checked_dealing c round from public private st (Ok passed) =
     bind (keeps round.number from public private st) (λ st. acknowledges c round from public st)
 
 -- A dealer whose dealing is recorded gets the acknowledgement of that one, whatever the message says.
+abbrev pub hears_dealing_in : {Dir : Type 0} → Fixed Dir → Round → (from : ℕ) → List ℕ → ℕ → Live Dir → Option (List ℕ × ℕ) → Course Dir Fault (Live Dir)
+hears_dealing_in c round from public private st (Some kept) = acknowledges c round from kept.0 st
+hears_dealing_in c round from public private st None = checked_dealing c round from public private st (c.rules.dealing_of round c.me from public private)
+
 abbrev pub hears_dealing : {Dir : Type 0} → Fixed Dir → Round → (from : ℕ) → List ℕ → ℕ → Live Dir → Course Dir Fault (Live Dir)
-hears_dealing c round from public private st =
-    option_map_or (λ kept. acknowledges c round from kept.0 st) (recorded_at st.records.dealings round.number from)
-    (checked_dealing c round from public private st (c.rules.dealing_of round c.me from public private))
+hears_dealing c round from public private st = hears_dealing_in c round from public private st (recorded_at st.records.dealings round.number from)
+
+abbrev pub seats_dealing_in : {Dir : Type 0} → Fixed Dir → Round → (from : ℕ) → List ℕ → ℕ → Live Dir → Seat → Course Dir Fault (Live Dir)
+seats_dealing_in c round from public private st Plays = hears_dealing c round from public private st
+seats_dealing_in c round from public private st Watches = blocks_sender from why.Nonplayer st
 
 -- THE DEALER
 
@@ -106,7 +112,7 @@ hears_ack c round (Some d) from ack st = checked_ack round d from ack st (c.rule
 -- A dealing goes to the player, and an acknowledgement to the dealer; without one the sender is blocked.
 abbrev pub reads : {Dir : Type 0} → Fixed Dir → Round → (from : ℕ) → Live Dir → Result Channel CodecError → Course Dir Fault (Live Dir)
 reads c round from st (Err e) = blocks_sender from why.Decode st
-reads c round from st (Ok (ADealing public private)) = if st.participation.plays then hears_dealing c round from public private st else blocks_sender from why.Nonplayer st
+reads c round from st (Ok (ADealing public private)) = seats_dealing_in c round from public private st st.participation.seat
 reads c round from st (Ok (AnAck ack)) = hears_ack c round st.participation.dealer from ack st
 
 -- the round of an epoch that this node takes part in
@@ -132,15 +138,21 @@ own_ack c round public st =
     st.participation.dealer (Goes st)
 
 -- Its own dealing goes through its own player. Another one that is kept is a fault.
+abbrev pub deals_to_itself_in : {Dir : Type 0} → Fixed Dir → Round → List ℕ → ℕ → Live Dir → Option (List ℕ × ℕ) → Course Dir Fault (Live Dir)
+deals_to_itself_in c round public private st (Some kept) =
+    if bytes_eq kept.0 public then own_ack c round public st else Stops (LocalState (OwnDealing round.number kept.0 public))
+deals_to_itself_in c round public private st None = bind (keeps round.number c.me public private st) (λ st. own_ack c round public st)
+
 abbrev pub deals_to_itself : {Dir : Type 0} → Fixed Dir → Round → List ℕ → ℕ → Live Dir → Course Dir Fault (Live Dir)
-deals_to_itself c round public private st =
-    option_map_or (λ kept. if bytes_eq kept.0 public then own_ack c round public st else Stops (LocalState (OwnDealing round.number kept.0 public)))
-    (recorded_at st.records.dealings round.number c.me)
-    (bind (keeps round.number c.me public private st) (λ st. own_ack c round public st))
+deals_to_itself c round public private st = deals_to_itself_in c round public private st (recorded_at st.records.dealings round.number c.me)
 
 -- It is passed over where this node has no player.
+abbrev pub offers_to_itself_in : {Dir : Type 0} → Fixed Dir → Round → List ℕ → ℕ → Live Dir → Seat → Course Dir Fault (Live Dir)
+offers_to_itself_in c round public private st Plays = deals_to_itself c round public private st
+offers_to_itself_in c round public private st Watches = Goes st
+
 abbrev pub offers_to_itself : {Dir : Type 0} → Fixed Dir → Round → List ℕ → ℕ → Live Dir → Course Dir Fault (Live Dir)
-offers_to_itself c round public private st = if st.participation.plays then deals_to_itself c round public private st else Goes st
+offers_to_itself c round public private st = offers_to_itself_in c round public private st st.participation.seat
 
 -- The dealings of these players are offered, in their order.
 abbrev pub offers : {Dir : Type 0} → Fixed Dir → Round → List ℕ → List (ℕ × ℕ) → Live Dir → Course Dir Fault (Live Dir)

@@ -26,11 +26,10 @@ use Rattle.dkg_types.specs.InfoCodes.{peers_of}
 use Rattle.dkg_types.specs.NextInfos.{info_by, info_with}
 use Rattle.dkg_types.specs.PayloadCodes.{payload_spelling, its_log, log_payload, info_payload}
 use Rattle.dkg_core.specs.Courses.{Course, Say, Goes, Stops, bind}
-use Rattle.dkg_store.specs.Recorded.{first_refused}
 use Rattle.dkg_core.specs.Fixed.{Fixed, OneShot, has}
 use Rattle.dkg_core.specs.Live.{Live, Stage, Deals, Includes, Follows, Ends, Request, Dealings, Job, Verified, VerifiedLogs, Artifact, Cached, GaveLog, GaveInfo, GaveNone, of_epoch, with_inclusion, with_queue, with_used, with_told}
 use Rattle.dkg_core.specs.Logs.{canonical, is_accepted, same_logs, filled_by}
-use Rattle.dkg_core.specs.Setup.{looks, is_lost, pairs_of}
+use Rattle.dkg_core.specs.Setup.{looks, is_lost, refused_in}
 use Rattle.dkg_core.specs.Dealing.{with_round}
 
 -- THE OWN LOG
@@ -234,8 +233,12 @@ derives c (Some o) r st next = derives_once c o r st (keeping r.logs next)
 derives c None r st next = option_map_or (λ info. derives_next c info r st (keeping r.logs next)) st.participation.current (Stops HeightRange)
 
 -- The cached artifact of these logs, or that of this result, which is cached then. (After a setup there is a current info.)
+abbrev pub artifact_by : {Dir : Type 0} → Fixed Dir → VerifiedLogs → (cached : Option (Artifact Dir)) → Live Dir → Next Dir → Course Dir Fault (Live Dir)
+artifact_by c r (Some made) st next = next made st
+artifact_by c r None st next = derives c c.oneshot r st next
+
 abbrev pub artifact : {Dir : Type 0} → Fixed Dir → VerifiedLogs → Live Dir → Next Dir → Course Dir Fault (Live Dir)
-artifact c r st next = option_map_or (λ made. next made st) (cached_for st.inclusion.cached r.logs) (derives c c.oneshot r st next)
+artifact c r st next = artifact_by c r (cached_for st.inclusion.cached r.logs) st next
 
 -- ANSWERS
 
@@ -250,18 +253,23 @@ answers c request made st =
 abbrev pub verifying : {Dir : Type 0} → Job → (waiter : Option ℕ) → Live Dir → Live Dir
 verifying job waiter st = with_inclusion (record st.inclusion { running = Some job; waiter = waiter }) st
 
+abbrev pub starts_unless : {Dir : Type 0} → Job → (waiter refused : Option ℕ) → Live Dir → Course Dir Fault (Live Dir)
+starts_unless job waiter (Some refused) st = Stops (LocalState (StoredDealing job.round.number refused))
+starts_unless job waiter None st = Goes (verifying job waiter st)
+
 -- A verification starts. A recorded dealing of its player that is refused is a fault.
 abbrev pub starts_verifying : {Dir : Type 0} → Fixed Dir → Round → LogMap → (waiter : Option ℕ) → Live Dir → Course Dir Fault (Live Dir)
 starts_verifying c round logs waiter st =
-    if not (can_finish c round logs st) then Goes (verifying (job_for c round logs st) waiter st)
-    else option_map_or (λ refused. Stops (LocalState (StoredDealing round.number refused)))
-    (first_refused (λ d. c.rules.dealing_of round c.me d) (pairs_of st round.number)) (Goes (verifying (job_for c round logs st) waiter st))
+    starts_unless (job_for c round logs st) waiter (if can_finish c round logs st then refused_in c round st else None) st
 
 -- The answer comes from the cache, from the retained result, or from a new verification.
+abbrev pub asks_for_by : {Dir : Type 0} → Fixed Dir → Round → (request : ℕ) → LogMap → (cached : Option (Artifact Dir)) → (retained : Option VerifiedLogs) → Live Dir → Course Dir Fault (Live Dir)
+asks_for_by c round request logs (Some made) retained st = answers c request made st
+asks_for_by c round request logs None (Some r) st = artifact c r st (answers c request)
+asks_for_by c round request logs None None st = starts_verifying c round logs (Some request) st
+
 abbrev pub asks_for : {Dir : Type 0} → Fixed Dir → Round → (request : ℕ) → LogMap → Live Dir → Course Dir Fault (Live Dir)
-asks_for c round request logs st =
-    option_map_or (λ made. answers c request made st) (cached_for st.inclusion.cached logs)
-    (option_map_or (λ r. artifact c r st (answers c request)) (retained_for st.inclusion.retained logs) (starts_verifying c round logs (Some request) st))
+asks_for c round request logs st = asks_for_by c round request logs (cached_for st.inclusion.cached logs) (retained_for st.inclusion.retained logs) st
 
 -- Found logs fill in for dealers that have no recorded log.
 abbrev pub fed : {Dir : Type 0} → Fixed Dir → Round → (request : ℕ) → Live Dir → Fed → Course Dir Fault (Live Dir)

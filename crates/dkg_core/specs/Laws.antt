@@ -1,5 +1,5 @@
 -- Laws of steps: what holds of each line, each operation and the end of acts, whatever the devices hold.
-use Rattle.std.specs.Prelude.{ℕ, true, List, [], ◌∷◌, ◌++◌, IsSome, ◌-◌, ◌+◌, ◌≤◌, ◌≡◌, ◌⊎◌, Option, Some, None, Ok}
+use Rattle.std.specs.Prelude.{ℕ, List, [], ◌∷◌, ◌++◌, IsSome, ◌-◌, ◌+◌, ◌≤◌, ◌≡◌, ◌⊎◌, Option, Some, None, Ok}
 use Rattle.std.specs.Option.{option_map_or}
 use Rattle.dkg_types.specs.Blocks.{Block}
 use Rattle.dkg_ceremony.specs.declared.mode.Mode.{Mode}
@@ -20,7 +20,7 @@ use Rattle.dkg_store.specs.Events.{event_spelling}
 use Rattle.dkg_store.specs.declared.event.Event.TheVariants.{Dealing}
 use Rattle.dkg_store.specs.declared.secrets.SecretOp.TheVariants.{PutShare, PutSeed, PutDealing, Prune}
 use Rattle.dkg_core.specs.Fixed.{Fixed, start}
-use Rattle.dkg_core.specs.Live.{Live, Dealer, Deals, Message, Sent, Peer, Finalized, awaited_height, recorded_at}
+use Rattle.dkg_core.specs.Live.{Live, Dealer, Plays, Deals, Message, Sent, Peer, Finalized, awaited_height, recorded_at}
 use Rattle.dkg_core.specs.Core.{opening, step}
 use Rattle.dkg_core.specs.Setup.{setup}
 
@@ -205,7 +205,7 @@ pub record IsDue {Dir : Type 0} (c : Fixed Dir) (st : Live Dir) (from : ℕ) (by
   pub deals : st.participation.stage ≡ Deals
   pub round : Round
   pub of_epoch : st.participation.round ≡ Some round
-  pub plays : st.participation.plays ≡ true
+  pub plays : st.participation.seat ≡ Plays
   pub public : List ℕ
   pub private : ℕ
   pub brings : whole (message_at c.limit bytes) ≡ Ok (ADealing public private)

@@ -50,13 +50,18 @@ pub data Stage : Type 0 where
   Follows : Stage
   Ends : Stage
 
+-- whether this node has a player in the round
+pub data Seat : Type 0 where
+  Plays : Seat
+  Watches : Seat
+
 -- The awaited epoch, as its setup left it: without a round this node only follows.
 pub record Participation (Dir : Type 0) : Type 0 where
   pub epoch : ℕ
   pub stage : Stage
   pub round : Option Round
   pub dealer : Option Dealer
-  pub plays : Bool
+  pub seat : Seat
   -- the info that was committed last in this life
   pub current : Option (EpochInfo Dir)
 

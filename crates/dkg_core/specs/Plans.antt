@@ -43,11 +43,15 @@ abbrev pub stored : {Dir : Type 0} → OnMaterial Dir → Result (Material Dir) 
 stored next (Err e) = Stops (Corrupt names.Plan 0)
 stored next (Ok m) = of_one_epoch m (next (Some m))
 
+abbrev pub reads_plan : {Dir : Type 0} → Fixed Dir → Option (List ℕ) → OnMaterial Dir → Course Dir Fault (Live Dir)
+reads_plan c (Some bytes) next = stored next (whole (material_at c bytes))
+reads_plan c None next = next None
+
 -- What is provided is judged before any call for it, and replaces what is stored; else the stored material is read.
 abbrev pub finds_material : {Dir : Type 0} → Fixed Dir → Option (Material Dir) → OnMaterial Dir → Course Dir Fault (Live Dir)
 finds_material c (Some m) next =
     of_one_epoch m (if is_ok (whole (material_at c (material_bytes c m))) then Do (OnDisk (PutsPlan (material_bytes c m))) (next (Some m)) else Stops StateSyncMaterial)
-finds_material c None next = looks c (λ s. option_map_or (λ bytes. stored next (whole (material_at c bytes))) s.plan (next None))
+finds_material c None next = looks c (λ s. reads_plan c s.plan next)
 
 -- The source is past the material's epoch already.
 abbrev pub is_outdated : {Dir : Type 0} → Fixed Dir → Material Dir → Bool

@@ -41,7 +41,7 @@ use Rattle.dkg_store.specs.Recorded.{Pair, first_refused}
 use Rattle.dkg_store.specs.declared.secrets.SecretOp.TheVariants.{PutShare, PutSeed, Prune}
 use Rattle.dkg_core.specs.Seen.{Seen}
 use Rattle.dkg_core.specs.Fixed.{Fixed, has, fresh_seed}
-use Rattle.dkg_core.specs.Live.{Live, Records, Dealer, Deals, Includes, Follows, awaited_height, phase_of, of_epoch, with_participation, with_inclusion, with_orchestrator}
+use Rattle.dkg_core.specs.Live.{Live, Records, Dealer, Seat, Plays, Watches, Deals, Includes, Follows, awaited_height, phase_of, of_epoch, with_participation, with_inclusion, with_orchestrator}
 use Rattle.dkg_core.specs.Logs.{logs_of}
 
 -- READS
@@ -158,11 +158,11 @@ is_lost c round dealings logs = list_any (λ log. c.rules.bears_ack_of round log
 abbrev pub pairs_of : {Dir : Type 0} → Live Dir → (epoch : ℕ) → List Pair
 pairs_of st epoch = filter (λ p. p.0.0 == epoch) st.records.dealings
 
-abbrev pub part_of : (deals plays : Bool) → Part
-part_of true true = Both
-part_of true false = Deals_alone
-part_of false true = Player
-part_of false false = Observer
+abbrev pub part_of : Option Dealer → Seat → Part
+part_of (Some dealer) Plays = Both
+part_of (Some dealer) Watches = Deals_alone
+part_of None Plays = Player
+part_of None Watches = Observer
 
 -- As inclusion begins the dealer signs its log.
 abbrev pub signed : {Dir : Type 0} → Fixed Dir → Round → Dealer → Dealer
@@ -180,18 +180,25 @@ in_stage c Early st = with_participation (record st.participation { stage = Deal
 in_stage c Midpoint st = begins_inclusion c st
 in_stage c Late st = begins_inclusion c st
 
-abbrev pub takes_part : {Dir : Type 0} → Fixed Dir → Round → Phase → Option Dealer → (plays : Bool) → Live Dir → Course Dir Fault (Live Dir)
-takes_part c round phase dealer plays st =
-    Say (Setup st.participation.epoch phase (part_of (is_some dealer) plays))
-    (Goes (in_stage c phase (with_participation (record st.participation { round = Some round; dealer = dealer; plays = plays }) st)))
+abbrev pub takes_part : {Dir : Type 0} → Fixed Dir → Round → Phase → Option Dealer → Seat → Live Dir → Course Dir Fault (Live Dir)
+takes_part c round phase dealer seat st =
+    Say (Setup st.participation.epoch phase (part_of dealer seat))
+    (Goes (in_stage c phase (with_participation (record st.participation { round = Some round; dealer = dealer; seat = seat }) st)))
+
+-- the first dealer whose recorded dealing of the round's epoch the check refuses
+abbrev pub refused_in : {Dir : Type 0} → Fixed Dir → Round → Live Dir → Option ℕ
+refused_in c round st = first_refused (λ d. c.rules.dealing_of round c.me d) (pairs_of st round.number)
+
+abbrev pub sits_down : {Dir : Type 0} → Fixed Dir → Round → Phase → Option Dealer → (refused : Option ℕ) → Live Dir → Course Dir Fault (Live Dir)
+sits_down c round phase dealer (Some refused) st = Stops (LocalState (StoredDealing round.number refused))
+sits_down c round phase dealer None st = takes_part c round phase dealer Plays st
 
 -- The player is made after the dealer: none where a dealing is lost, and a stored dealing that is refused is a fault.
 abbrev pub makes_player : {Dir : Type 0} → Fixed Dir → Round → Phase → Option Dealer → Live Dir → Course Dir Fault (Live Dir)
 makes_player c round phase dealer st =
-    let dealings = of_epoch round.number st.records.dealings in
-    if not (has round.players c.me) || is_lost c round dealings (logs_of st round.number) then takes_part c round phase dealer false st
-    else option_map_or (λ refused. Stops (LocalState (StoredDealing round.number refused)))
-    (first_refused (λ d. c.rules.dealing_of round c.me d) (pairs_of st round.number)) (takes_part c round phase dealer true st)
+    if not (has round.players c.me) || is_lost c round (of_epoch round.number st.records.dealings) (logs_of st round.number)
+    then takes_part c round phase dealer Watches st
+    else sits_down c round phase dealer (refused_in c round st) st
 
 abbrev pub dealt_by : {Dir : Type 0} → Fixed Dir → Round → Phase → Live Dir → Result (List ℕ × List (ℕ × ℕ)) DealError → Course Dir Fault (Live Dir)
 dealt_by c round phase st (Ok dealt) = makes_player c round phase (dealer_for phase round (dealer_from c round st dealt)) st
@@ -221,7 +228,7 @@ participants_of info = record { dealers = info.output.players; players = info.pl
 abbrev pub anew : {Dir : Type 0} → Fixed Dir → Live Dir → Live Dir
 anew c st =
     with_inclusion (record st.inclusion { served = None; queue = []; running = None; waiter = None; retained = None; cached = None })
-    (with_participation (record { epoch = epoch_of c.blocks_per_epoch (awaited_height st); stage = Follows; round = None; dealer = None; plays = false; current = st.participation.current }) st)
+    (with_participation (record { epoch = epoch_of c.blocks_per_epoch (awaited_height st); stage = Follows; round = None; dealer = None; seat = Watches; current = st.participation.current }) st)
 
 abbrev pub follows : {Dir : Type 0} → Fixed Dir → Live Dir → Course Dir Fault (Live Dir)
 follows c st = Say (Setup st.participation.epoch (phase_of c (awaited_height st)) Follow) (Goes st)
@@ -272,10 +279,12 @@ abbrev pub is_past_range : {Dir : Type 0} → Fixed Dir → (height : ℕ) → B
 is_past_range c height = nat_le (2 ^ 64) (last c.blocks_per_epoch (epoch_of c.blocks_per_epoch height))
 
 -- The info is the committed one, else the kept material's, else that of the boundary block.
+abbrev pub sets_up_by : {Dir : Type 0} → Fixed Dir → Option (EpochInfo Dir × ℕ) → (committed : Option (EpochInfo Dir)) → Live Dir → Course Dir Fault (Live Dir)
+sets_up_by c material (Some info) st = with_info c (option_map (λ m. m.1) material) WasCommitted info st
+sets_up_by c material None st = from_material c material st
+
 abbrev pub sets_up : {Dir : Type 0} → Fixed Dir → Option (EpochInfo Dir × ℕ) → Live Dir → Course Dir Fault (Live Dir)
-sets_up c material st =
-    let st = anew c st in
-    option_map_or (λ info. with_info c (option_map (λ m. m.1) material) WasCommitted info st) (committed_info st) (from_material c material st)
+sets_up c material st = sets_up_by c material (committed_info (anew c st)) (anew c st)
 
 -- SETUP of the awaited epoch.
 abbrev pub setup : {Dir : Type 0} → Fixed Dir → Option (EpochInfo Dir × ℕ) → Live Dir → Course Dir Fault (Live Dir)
