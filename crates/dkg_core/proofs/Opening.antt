@@ -148,6 +148,6 @@ pub openings_prune : {Dir : Type 0} → OpeningsPrune Dir
 openings_prune c most starts = (tt, (tt, λ h. (tt, opens c most starts _ c.oneshot (begun (c.seen h)))))
 
 pub openings_restore : {Dir : Type 0} → OpeningsRestore Dir
-openings_restore c h is =
+openings_restore c sealed anchor held h meant =
     let rest = deeds_of (opens_in c c.oneshot (begun (c.seen h))) h in
-    (rest, ap (λ (seen : Held → Seen). Did (OnDisk Bars) ∷ Did (OnDisk (Opens c.opening_calls)) ∷ Said (Opened c.life (map restored_of (seen h).dealings)) ∷ rest) is)
+    (rest, ap (λ (seen : Held → Seen). Did (OnDisk Bars) ∷ Did (OnDisk (Opens c.opening_calls)) ∷ Said (Opened c.life (map restored_of (seen h).dealings)) ∷ rest) meant.reads)
