@@ -43,8 +43,8 @@ module _ {Dir : Type 0} (c : Fixed Dir) (st : Live Dir) (w : Waiting Dir) (past 
       said = Say (Entered w.epoch) (leaves (with_entered w.epoch o) Acknowledges st)
 
       stopped : (old : Option ℕ) → Holds (entry_law st w.epoch) (Called (StartsEngine w.epoch w.floor found) ∷ Called (Tracks w.epoch (peers_for w) w.info.directory) ∷ past) (stops_engine old said)
-      stopped None = (record { ready = ready; scheme = found; registered = is; started = (refl, (refl, refl)) }, λ e. refl)
-      stopped (Some old) = (record { ready = ready; scheme = found; registered = is; started = (refl, (refl, refl)) }, λ e. refl)
+      stopped None = (record { ready = ready; scheme = found; registered = is; started = (refl, refl, refl) }, λ e. refl)
+      stopped (Some old) = (record { ready = ready; scheme = found; registered = is; started = (refl, refl, refl) }, λ e. refl)
 
   peers : (o : Orchestrator Dir) (lacking : Option ℕ) → is_ready st.orchestrator.fence.ready w.epoch ≡ true → lookup w.epoch st.orchestrator.schemes ≡ lookup w.epoch o.schemes
       → Holds (entry_law st w.epoch) past (tracks_peers o w lacking st)
@@ -68,7 +68,7 @@ not_below : (a b : ℕ) → a ≡ b → nat_lt a b ≡ true → ⊥
 not_below a b e below = grind (arith, nat_tests)
 
 -- a half that is active waits for nothing
-not_waiting : {Dir : Type 0} (halted : Bool) (entered : Option ℕ) (w : Waiting Dir) (epoch : ℕ) → (if halted || is_some {A = Waiting Dir} (Some w) then None else entered) ≡ Some epoch → ⊥
+not_waiting : {Dir : Type 0} (halted : Bool) (entered : Option ℕ) (w : Waiting Dir) (epoch : ℕ) → (if halted || is_some (Some w) then None else entered) ≡ Some epoch → ⊥
 not_waiting true entered w epoch e = absurd (let f : ◌≡◌ {A = Option ℕ} None (Some epoch) = e in cc)
 not_waiting false entered w epoch e = absurd (let f : ◌≡◌ {A = Option ℕ} None (Some epoch) = e in cc)
 

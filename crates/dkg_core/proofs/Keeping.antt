@@ -286,7 +286,7 @@ module _ {Dir : Type 0} (c : Fixed Dir) (st : Live Dir) (from : ℕ) (round : Ro
   recorded_lands public private None none is_event end new done = checked_lands public private (c.rules.dealing_of round c.me from public private) is_event none end new done
 
   dealing_lands : (public : List ℕ) (private : ℕ) (seat : Seat) → IsEvent (events.Dealing from public) → (end : Live Dir) (new : World) → Finishes (seats_dealing_in c round from public private st seat) end w new → Q end new
-  dealing_lands public private Plays is_event = recorded_lands public private (recorded_at st.records.dealings round.number from) refl is_event
+  dealing_lands public private Plays is_event end new done = recorded_lands public private (recorded_at st.records.dealings round.number from) refl is_event end new done
   dealing_lands public private Watches is_event end new done = at_end st end _ new done (told_only _)
 
   module _ (ack : List ℕ) (is_event : IsEvent (events.Ack from ack)) where

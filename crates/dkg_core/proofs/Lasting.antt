@@ -56,6 +56,13 @@ pruned_part most min s j new k low (inr (inr part)) above =
 by_both : (h k : Held) (key : ℕ × ℕ) → k.secrets ≡ h.secrets → get (recovered (notes k) h.secrets) key ≡ get (recovered (notes h) h.secrets) key → get (recovered_in k) key ≡ get (recovered_in h) key
 by_both h k key same is = ap (λ (s : Secrets). get (recovered (notes k) s) key) same ∙ is
 
+-- an opening changes no entry, wherever it ends
+opened_part : (op : of_journal.Operation) (s : Secrets) (j new : Journaled) (k : ℕ × ℕ) → (of_journal.after_operation op j).entries ≡ j.entries → (InPart op j new → new.entries ≡ j.entries) → IsLeft op j new
+    → get (recovered new.entries s) k ≡ get (recovered j.entries s) k
+opened_part op s j new k kept part (inl is) = ap (λ (x : Journaled). get (recovered x.entries s) k) is
+opened_part op s j new k kept part (inr (inl is)) = ap (λ (x : Journaled). get (recovered x.entries s) k) is ∙ ap (λ (es : List Entry). get (recovered es s) k) kept
+opened_part op s j new k kept part (inr (inr is)) = ap (λ (es : List Entry). get (recovered es s) k) (part is)
+
 module _ {Dir : Type 0} where
   -- an operation that is done
   done_at : (most : ℕ) (op : Operation) (past : List (Deed Dir)) (w : World) (k : ℕ × ℕ) → PrunesAtMost most past op → most ≤ k.0 → get (recovered_in (does w op).held) k ≡ get (recovered_in w.held) k
@@ -81,13 +88,6 @@ module _ {Dir : Type 0} where
   torn_at most (Changes op) past cause w new k law tears above =
       ap (λ (j : Journaled). get (recovered j.entries new.held.secrets) k) tears.torn.0
       ∙ secrets_at most op past (notes w.held) w.held.secrets new.held.secrets k law tears.torn.1 above
-
-  -- an opening changes no entry, wherever it ends
-  opened_part : (op : of_journal.Operation) (s : Secrets) (j new : Journaled) (k : ℕ × ℕ) → (of_journal.after_operation op j).entries ≡ j.entries → (InPart op j new → new.entries ≡ j.entries) → IsLeft op j new
-      → get (recovered new.entries s) k ≡ get (recovered j.entries s) k
-  opened_part op s j new k kept part (inl is) = ap (λ (x : Journaled). get (recovered x.entries s) k) is
-  opened_part op s j new k kept part (inr (inl is)) = ap (λ (x : Journaled). get (recovered x.entries s) k) is ∙ ap (λ (es : List Entry). get (recovered es s) k) kept
-  opened_part op s j new k kept part (inr (inr is)) = ap (λ (es : List Entry). get (recovered es s) k) (part is)
 
   opening_done : (most : ℕ) (op : Operation) (past : List (Deed Dir)) (w : World) (k : ℕ × ℕ) → OpeningOperation most past op → most ≤ k.0 → get (recovered_in (does w op).held) k ≡ get (recovered_in w.held) k
   opening_done most (OnDisk Bars) past w k law above = refl

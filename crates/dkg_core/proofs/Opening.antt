@@ -16,7 +16,7 @@ use Rattle.dkg_types.specs.declared.participants.ParticipantsError.{Participants
 use Rattle.dkg_types.specs.PayloadCodes.{its_log}
 use Rattle.dkg_types.specs.Validation.{validation}
 use Rattle.dkg_journal.specs.Operations.{Bars, Opens, Appends, Prunes, PutsPlan, ClearsPlan}
-use Rattle.dkg_store.specs.Acts.{Held, Operation, OnDisk, Changes}
+use Rattle.dkg_store.specs.Acts.{Held, Operation, OnDisk, Changes, after}
 use Rattle.dkg_core.specs.Courses.{Course, Do, Call, Stops, Tracks, Deed, Said, Did, Called, deeds_of}
 use Rattle.dkg_store.specs.Recorded.{restored_of}
 use Rattle.dkg_store.specs.declared.secrets.SecretOp.TheVariants.{PutShare, PutSeed, PutDealing, Prune}
@@ -149,5 +149,6 @@ openings_prune c most starts = (tt, (tt, λ h. (tt, opens c most starts _ c.ones
 
 pub openings_restore : {Dir : Type 0} → OpeningsRestore Dir
 openings_restore c sealed anchor held h meant =
-    let rest = deeds_of (opens_in c c.oneshot (begun (c.seen h))) h in
-    (rest, ap (λ (seen : Held → Seen). Did (OnDisk Bars) ∷ Did (OnDisk (Opens c.opening_calls)) ∷ Said (Opened c.life (map restored_of (seen h).dealings)) ∷ rest) meant.reads)
+    let opened : Held = after (OnDisk (Opens c.opening_calls)) (after (OnDisk Bars) h) in
+    let rest = deeds_of (opens_in c c.oneshot (begun (c.seen opened))) opened in
+    (rest, ap (λ (seen : Held → Seen). Did (OnDisk Bars) ∷ Did (OnDisk (Opens c.opening_calls)) ∷ Said (Opened c.life (map restored_of (seen opened).dealings)) ∷ rest) meant.reads)

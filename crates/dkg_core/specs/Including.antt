@@ -165,12 +165,12 @@ same_key a b = false
 
 -- A result that is handed in is of a job: of its round, key and logs.
 abbrev pub is_of_job : VerifiedLogs → Job → Bool
-is_of_job done job = bytes_eq (round_bytes done.round) (round_bytes job.round) && same_key done.me (its_key job) && same_logs done.logs job.logs
+is_of_job handed job = bytes_eq (round_bytes handed.round) (round_bytes job.round) && same_key handed.me (its_key job) && same_logs handed.logs job.logs
 
 -- The result of a job: the one that is handed in, where it is of that job, else what this node finds.
 abbrev pub result_of : {Dir : Type 0} → Fixed Dir → Option VerifiedLogs → Job → VerifiedLogs
 result_of c None job = verified c job
-result_of c (Some done) job = if is_of_job done job then done else verified c job
+result_of c (Some handed) job = if is_of_job handed job then handed else verified c job
 
 abbrev pub retained_for : Option VerifiedLogs → LogMap → Option VerifiedLogs
 retained_for retained logs = option_and_then (λ r. if same_logs r.logs logs then Some r else None) retained
@@ -348,12 +348,12 @@ completes c r st = completes_in c r st st.inclusion.waiter
 
 -- The running verification ends, if there is one: by a result that is handed in, or by this node's own.
 abbrev pub ends_verifying_in : {Dir : Type 0} → Fixed Dir → Option VerifiedLogs → Live Dir → Option Job → Course Dir Fault (Live Dir)
-ends_verifying_in c done st None = Goes st
-ends_verifying_in c done st (Some job) = completes c (result_of c done job) st
+ends_verifying_in c handed st None = Goes st
+ends_verifying_in c handed st (Some job) = completes c (result_of c handed job) st
 
 abbrev pub ends_verifying : {Dir : Type 0} → Fixed Dir → Option VerifiedLogs → Live Dir → Course Dir Fault (Live Dir)
-ends_verifying c done st = ends_verifying_in c done st st.inclusion.running
+ends_verifying c handed st = ends_verifying_in c handed st st.inclusion.running
 
 -- Where none runs, what is handed in is dropped.
 abbrev pub works : {Dir : Type 0} → Fixed Dir → Option VerifiedLogs → Live Dir → Course Dir Fault (Live Dir)
-works c done st = if is_some st.inclusion.running then bind (ends_verifying c done st) (λ st. advanced c st) else Goes st
+works c handed st = if is_some st.inclusion.running then bind (ends_verifying c handed st) (λ st. advanced c st) else Goes st

@@ -213,7 +213,7 @@ pub record IsDue {Dir : Type 0} (c : Fixed Dir) (st : Live Dir) (from : ℕ) (by
 
 -- The last thing of these deeds is an acknowledgement to this dealer.
 abbrev pub EndsInAck : {Dir : Type 0} → (epoch dealer : ℕ) → List (Deed Dir) → Type 0
-EndsInAck epoch dealer deeds = (before : List (Deed Dir)) × (ack : List ℕ) × (deeds ≡ before ++ Said (Ack epoch dealer ack) ∷ [])
+EndsInAck {Dir} epoch dealer deeds = (before : List (Deed Dir)) × (ack : List ℕ) × (deeds ≡ before ++ Said (Ack epoch dealer ack) ∷ [])
 
 -- A due message is acknowledged, whatever the devices hold.
 abbrev pub DuesAreAnswered : Type 0 → Type 0

@@ -47,7 +47,7 @@ use Rattle.dkg_core.specs.Logs.{logs_of}
 -- READS
 
 -- The devices are read.
-abbrev pub looks : {Dir S : Type 0} → Fixed Dir → (Seen → Course Dir Fault S) → Course Dir Fault S
+abbrev pub looks : {Dir F S : Type 0} → Fixed Dir → (Seen → Course Dir F S) → Course Dir F S
 looks c f = Ask (λ h. f (c.seen h))
 
 -- the newest share of an epoch below this one
