@@ -1,5 +1,5 @@
 -- Lives that are played: an opening and events, one after another, with the source that each step is lent.
-use Rattle.std.proofs.Common.{ℕ, List, [], ◌∷◌, Option, Some, None}
+use Rattle.std.proofs.Common.{List, [], ◌∷◌, Option}
 use Rattle.std.specs.Prelude.{◌++◌, fold}
 use Rattle.dkg_types.specs.Blocks.{Block}
 use Rattle.dkg_types.specs.declared.fault.Fault.TheVariants.{HeightRange}

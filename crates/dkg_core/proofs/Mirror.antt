@@ -4,7 +4,7 @@ use Rattle.std.specs.Prelude.{◌==◌, ◌&&◌, ◌||◌, not, nat_le, filter,
 use Rattle.std.specs.Option.{option_map_or}
 use Rattle.std.specs.FinMap.{put, empty}
 use Rattle.dkg_values.specs.Rising.{with_pair}
-use Rattle.dkg_journal.specs.Records.{Entry, placed}
+use Rattle.dkg_journal.specs.Records.{Entry}
 use Rattle.dkg_types.specs.declared.entry.Entry.{Entry as Line}
 use Rattle.dkg_values.specs.declared.name.Name.{Name}
 use Rattle.dkg_values.specs.declared.name.Name.TheVariants.{Plan}

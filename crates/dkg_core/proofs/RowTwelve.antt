@@ -1,5 +1,5 @@
 -- The worked row of two epochs, its second life, and the life that a cut within the prune leaves.
-use Rattle.std.proofs.Common.{◌≡◌, ℕ, List, [], ◌∷◌, ◌++◌, ◌+◌, Option, Some, None, refl}
+use Rattle.std.proofs.Common.{◌≡◌, ℕ, List, [], ◌∷◌, ◌++◌, ◌+◌, Option, None, refl}
 use Rattle.sha2.specs.Sha256.{first_words, schedule, rounds, compress, hash_after, digest_bytes, sha256}
 use Rattle.dkg_values.specs.Bytes.{byte_at}
 use Rattle.dkg_values.specs.Codec.{many_at}

@@ -1,5 +1,5 @@
 -- Worked values: keys 1 to 4, their output, infos, blocks, and this node's configuration.
-use Rattle.std.proofs.Common.{ℕ, zero, suc, List, [], ◌∷◌, Option, Some, None, Bool, true, false, refl}
+use Rattle.std.proofs.Common.{ℕ, zero, suc, List, [], ◌∷◌, Option, Some, None, true, refl}
 use Rattle.std.specs.Prelude.{◌+◌}
 use Rattle.dkg_types.specs.FinalizationCodes.{is_certified}
 use Rattle.dkg_ceremony.specs.AgreementTest.{agreed}
@@ -20,7 +20,7 @@ use Rattle.dkg_types.specs.declared.outcome.EpochOutcome.TheVariants.{Success, F
 use Rattle.dkg_types.specs.declared.payload.Payload.{Payload}
 use Rattle.dkg_types.specs.declared.payload.Payload.TheVariants as payloads
 use Rattle.dkg_types.specs.Units.{unit_at, unit_spelling}
-use Rattle.dkg_store.specs.Acts.{Operation, OnDisk, Changes, Held}
+use Rattle.dkg_store.specs.Acts.{Operation, OnDisk, Changes}
 use Rattle.dkg_journal.specs.Operations.{Bars, Opens, Appends, Prunes}
 use Rattle.dkg_store.specs.declared.secrets.SecretOp.TheVariants.{PutSeed, PutDealing, Prune}
 use Rattle.dkg_core.specs.Sources.{Absent, source_of}

@@ -1,5 +1,5 @@
 -- Dealers' logs as they are recorded, and which of them count.
-use Rattle.std.specs.Prelude.{ℕ, Bool, true, false, ◌&&◌, ◌==◌, List, [], ◌∷◌, option_map, Option, Some}
+use Rattle.std.specs.Prelude.{ℕ, Bool, true, false, ◌&&◌, ◌==◌, [], ◌∷◌, option_map, Some}
 use Rattle.std.specs.Str.{bytes_eq}
 use Rattle.dkg_ceremony.specs.declared.dealer_log.DealerLog.{DealerLog}
 use Rattle.dkg_ceremony.specs.declared.round.Round.{Round}

@@ -1,5 +1,5 @@
 -- The node: its halves in their order, the application and the probe, at an opening and in each step.
-use Rattle.std.specs.Prelude.{List, [], ◌∷◌, ◌≡◌, Option, is_some, option_and_then, if◌then◌else◌}
+use Rattle.std.specs.Prelude.{List, [], ◌∷◌, ◌≡◌, is_some, option_and_then, if◌then◌else◌}
 use Rattle.std.specs.Result.{result_ok}
 use Rattle.dkg_values.specs.Codec.{whole}
 use Rattle.dkg_types.specs.Blocks.{Block}
@@ -13,7 +13,7 @@ use Rattle.dkg_core.specs.Live.{Live, NodeStop, Faulted, Sent, Finalized, Event,
 use Rattle.dkg_core.specs.Setup.{looks}
 use Rattle.dkg_core.specs.Plans.{material_at}
 use Rattle.dkg_core.specs.Core.{opening, step, Reply, State, IsReplyOf, Answered}
-use Rattle.dkg_core.specs.Entering.{Half, acked_at, opens_half, asks_again, delivered, hints}
+use Rattle.dkg_core.specs.Entering.{acked_at, opens_half, asks_again, delivered, hints}
 use Rattle.dkg_core.specs.Desk.{prepares, proposes, verifies}
 use Rattle.dkg_core.specs.Probing.{probes}
 
