@@ -53,14 +53,14 @@ left_entries e j new (inr (inr is)) = inl (ap (λ (x : Journaled). x.entries) is
 -- A RECORD OF NO DEALING
 
 module _ (s : Secrets) (e : Entry) (silent : dealing_of e ≡ None) where
-  fold_silent : (es : List Entry) (m : Pairs) → fold (add s) m (placed es e) ≡ fold (add s) m es
+  pub fold_silent : (es : List Entry) (m : Pairs) → fold (add s) m (placed es e) ≡ fold (add s) m es
   fold_silent [] m = ap (with_dealing s m) silent
   fold_silent (x ∷ xs) m = elim (nat_lt e.0 x.0) as (λ b. fold (add s) m (cond b (e ∷ x ∷ xs) (x ∷ placed xs e)) ≡ fold (add s) m (x ∷ xs)) [
     | true ↦ ap (λ (n : Pairs). fold (add s) n (x ∷ xs)) (ap (with_dealing s m) silent)
     | false ↦ fold_silent xs (add s m x)
   ]
 
-  silent_whole : (es : List Entry) → IsWhole es s → IsWhole (placed es e) s
+  pub silent_whole : (es : List Entry) → IsWhole es s → IsWhole (placed es e) s
   silent_whole es whole = whole_placed s e (subst (HasHalf s) (sym silent) tt) es whole
 
 module _ {Dir : Type 0} (c : Fixed Dir) (st : Live Dir) (from : ℕ) (round : Round) (w : World) (pairs : Pairs) (is_round : st.participation.round ≡ Some round)
@@ -282,7 +282,7 @@ module _ {Dir : Type 0} (c : Fixed Dir) (st : Live Dir) (from : ℕ) (round : Ro
 
   recorded_lands : (public : List ℕ) (private : ℕ) (kept : Option (List ℕ × ℕ)) → recorded_at st.records.dealings round.number from ≡ kept → IsEvent (events.Dealing from public)
       → (end : Live Dir) (new : World) → Finishes (hears_dealing_in c round from public private st kept) end w new → Q end new
-  recorded_lands public private (Some kept) is is_event end new done = at_end st end _ new done (told_only _)
+  recorded_lands public private (Some pair) is is_event end new done = at_end st end _ new done (told_only _)
   recorded_lands public private None none is_event end new done = checked_lands public private (c.rules.dealing_of round c.me from public private) is_event none end new done
 
   dealing_lands : (public : List ℕ) (private : ℕ) (seat : Seat) → IsEvent (events.Dealing from public) → (end : Live Dir) (new : World) → Finishes (seats_dealing_in c round from public private st seat) end w new → Q end new

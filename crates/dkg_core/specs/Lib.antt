@@ -1,3 +1,4 @@
+pub mod Agreeing
 pub mod Applying
 pub mod Blocks
 pub mod Core

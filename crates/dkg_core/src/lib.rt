@@ -9,6 +9,7 @@
 //! The functions here are laws of the relation: calls without a body, whose contract is the law.
 #![tactic(auto)]
 
+ghost use Rattle.dkg_core.specs.Agreeing.{OpeningsAgree, StepsAgree};
 ghost use Rattle.dkg_core.specs.Entry.{EntersRegistered, LastBlocksAreEntered};
 ghost use Rattle.dkg_core.specs.Heard.{OpeningsKeep, OpeningsRestore, PeersAgree, PeersAreKept, RunsAreKept, SetupsKeep};
 ghost use Rattle.dkg_core.specs.Laws.{DuesAreAnswered, OpeningsPrune, OthersAcknowledgeNothing, PeersAreHeard, SetupsAreSound, SetupsPrune};
@@ -87,4 +88,15 @@ pub fn runs_are_kept<Dir>()
 /// round, that is the epoch's, and what this node deals to itself there is valid.
 pub fn setups_are_sound<Dir>()
     ensures { SetupsAreSound Dir }
+{}
+
+/// Where the devices are whole and give back what is recorded in memory before a step, they do so behind it, whatever the step
+/// takes, if what it may record fits a record.
+pub fn steps_agree<Dir>()
+    ensures { StepsAgree Dir }
+{}
+
+/// Over whole devices an opening in either mode leaves in memory what the devices give back.
+pub fn openings_agree<Dir>()
+    ensures { OpeningsAgree Dir }
 {}
