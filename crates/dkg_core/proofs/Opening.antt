@@ -1,0 +1,154 @@
+-- What an opening prunes, and what it lists.
+use Rattle.std.proofs.Common.{◌≡◌, ◌≤◌, ℕ, List, ◌∷◌, true, false, Option, Some, None, refl, ap, subst, arith}
+use Rattle.std.specs.Prelude.{◌+◌, ◌-◌, ◌==◌, nat_le, map, if◌then◌else◌, Result, Ok, Err, is_some, is_ok, option_and_then}
+use Rattle.std.specs.Option.{option_map_or}
+use Rattle.std.proofs.lemmas.Bool.Decides.{nat_tests}
+use Rattle.dkg_values.specs.Codec.{whole}
+use Rattle.dkg_values.specs.Rising.{lookup}
+use Rattle.dkg_values.specs.declared.codec.CodecError.{CodecError}
+use Rattle.dkg_ceremony.specs.Schedule.{epoch_of, last}
+use Rattle.dkg_types.specs.Blocks.{Block}
+use Rattle.dkg_types.specs.BlockCodes.{info_of}
+use Rattle.dkg_types.specs.declared.entry.Entry.TheVariants.{Opened}
+use Rattle.dkg_types.specs.declared.fault.Fault.{Fault}
+use Rattle.dkg_types.specs.declared.fault.Fault.TheVariants.{HeightRange, StateSyncEpochs, StateSyncMaterial, MissingEpochInfo}
+use Rattle.dkg_types.specs.declared.participants.ParticipantsError.{ParticipantsError}
+use Rattle.dkg_types.specs.PayloadCodes.{its_log}
+use Rattle.dkg_types.specs.Validation.{validation}
+use Rattle.dkg_journal.specs.Operations.{Bars, Opens, Appends, Prunes, PutsPlan, ClearsPlan}
+use Rattle.dkg_store.specs.Acts.{Held, Operation, OnDisk, Changes, after}
+use Rattle.dkg_core.specs.Courses.{Course, Do, Call, Stops, Tracks, Deed, Said, Did, Called, deeds_of}
+use Rattle.dkg_store.specs.Recorded.{restored_of}
+use Rattle.dkg_store.specs.declared.secrets.SecretOp.TheVariants.{PutShare, PutSeed, PutDealing, Prune}
+use Rattle.dkg_core.specs.Seen.{Seen}
+use Rattle.dkg_core.specs.Sources.{Tip, position, over_floor, startup}
+use Rattle.dkg_core.specs.Fixed.{Fixed, Material, OneShot, start}
+use Rattle.dkg_core.specs.Live.{Live, awaited_height}
+use Rattle.dkg_core.specs.Setup as s
+use Rattle.dkg_core.specs.Plans as p
+use Rattle.dkg_core.specs.OneShots as o
+use Rattle.dkg_core.specs.Blocks.{ends_once}
+use Rattle.dkg_core.specs.Core.{opens_in, begun}
+use Rattle.dkg_core.specs.Laws.{Law, Holds, PrunesAtMost, prune_law, OpeningOperation, opening_law, StartsWithin, OpeningsPrune}
+use Rattle.dkg_core.specs.Heard.{OpeningsRestore}
+use Rattle.dkg_core.proofs.Holding.{holds_as, holds_if}
+use Rattle.dkg_core.proofs.Pruning.{setups_prune, draws_up}
+
+lower : {Dir : Type 0} (low most : ℕ) → low ≤ most → (past : List (Deed Dir)) (op : Operation) → PrunesAtMost low past op → OpeningOperation most past op
+lower low most le past (OnDisk Bars) h = absurd h
+lower low most le past (OnDisk (Opens calls)) h = absurd h
+lower low most le past (OnDisk (Appends e)) h = absurd h
+lower low most le past (OnDisk (Prunes min)) h = omega arith
+lower low most le past (OnDisk (PutsPlan bytes)) h = absurd h
+lower low most le past (OnDisk ClearsPlan) h = absurd h
+lower low most le past (Changes (PutShare epoch share)) h = tt
+lower low most le past (Changes (PutSeed epoch seed)) h = tt
+lower low most le past (Changes (PutDealing epoch dealer private)) h = absurd h
+lower low most le past (Changes (Prune min)) h = omega arith
+
+module _ {Dir : Type 0} (c : Fixed Dir) (most : ℕ) (starts : StartsWithin c most) where
+  abbrev law : Law Dir (Live Dir)
+  law = opening_law most
+
+  sets_up : (past : List (Deed Dir)) (material : _) (st : Live Dir) → epoch_of c.blocks_per_epoch (awaited_height st) - 1 ≤ most → Holds law past (s.setup c material st)
+  sets_up past material st le =
+      holds_as (prune_law (epoch_of c.blocks_per_epoch (awaited_height st))) law past (s.setup c material st) (λ past line h. h)
+      (lower (epoch_of c.blocks_per_epoch (awaited_height st) - 1) most le) (λ past st e. tt) (setups_prune c material st past)
+
+  -- the height that is awaited over a floor: that above the position, or the floor's
+  above_floor : (P : ℕ → Type 0) (tip : Option Tip) (b : Block Dir) → P (option_map_or (λ t. t.height + 1) tip 0) → P b.height → P (option_map_or (λ t. t.height + 1) (over_floor tip b) 0)
+  above_floor P tip b by_anchor by_floor =
+      elim (b.height == 0) as (λ zero. (b.height == 0) ≡ zero → P (option_map_or (λ (t : Tip). t.height + 1)
+      (if zero then tip else if option_map_or (λ (t : Tip). nat_le b.height t.height) tip false then tip else Some (record { height = b.height - 1; digest = b.parent })) 0)) [
+        | true ↦ λ e. by_anchor
+        | false ↦ λ e. elim (option_map_or (λ (t : Tip). nat_le b.height t.height) tip false)
+            as (λ below. P (option_map_or (λ (t : Tip). t.height + 1) (if below then tip else Some (record { height = b.height - 1; digest = b.parent })) 0)) [
+              | true ↦ by_anchor
+              | false ↦ subst P (let one : b.height ≡ b.height - 1 + 1 = grind (arith, nat_tests) in one) by_floor
+            ]
+      ] refl
+
+  starts_at : (past : List (Deed Dir)) (m : Material Dir) (b : Option (Block Dir)) (st : Live Dir) → c.source.by_digest m.floor.payload ≡ b → Holds law past (p.starts_at c m b st)
+  starts_at past m None st is = tt
+  starts_at past m (Some b) st is =
+      sets_up past (Some (m.info, b.height)) (record st { tip = startup c.source.anchor (Some b) })
+      (above_floor (λ height. epoch_of c.blocks_per_epoch height - 1 ≤ most) (position c.source.anchor) b starts.by_anchor (starts.by_floor m.floor.payload b is))
+
+  starts_from : (past : List (Deed Dir)) (st : Live Dir) (m : Option (Material Dir)) → Holds law past (p.starts_from c st m)
+  starts_from past st None = sets_up past None (record st { tip = startup c.source.anchor None }) starts.by_anchor
+  starts_from past st (Some m) = λ h.
+      let registered : Live Dir = s.with_registered m.info.epoch (s.scheme_for c m.info (s.recovered_share c (c.seen h) m.info)) st in
+      (tt, starts_at _ m (c.source.by_digest m.floor.payload) registered refl)
+
+  resolves : (past : List (Deed Dir)) (st : Live Dir) (m : Option (Material Dir)) → Holds law past (p.resolves_plan c (p.starts_from c st) m)
+  resolves past st None = starts_from past st None
+  resolves past st (Some m) =
+      holds_if law past (p.is_outdated c m) (Do (OnDisk ClearsPlan) (p.starts_from c st None)) (p.starts_from c st (Some m)) (λ e. (tt, starts_from _ st None)) (λ e. starts_from past st (Some m))
+
+  abbrev next : Live Dir → Option (Material Dir) → Course Dir Fault (Live Dir)
+  next st found = p.in_range c (p.resolves_plan c (p.starts_from c st) found)
+
+  in_range : (past : List (Deed Dir)) (course : Course Dir Fault (Live Dir)) → Holds law past course → Holds law past (p.in_range c course)
+  in_range past course h = holds_if law past (option_map_or (λ t. s.is_past_range c (t.height + 1)) (start c) false) (Stops HeightRange) course (λ e. tt) (λ e. h)
+
+  goes : (past : List (Deed Dir)) (st : Live Dir) (found : Option (Material Dir)) → Holds law past (next st found)
+  goes past st found = in_range past (p.resolves_plan c (p.starts_from c st) found) (resolves past st found)
+
+  of_one_epoch : (past : List (Deed Dir)) (m : Material Dir) (course : Course Dir Fault (Live Dir)) → Holds law past course → Holds law past (p.of_one_epoch m course)
+  of_one_epoch past m course h = holds_if law past (m.info.epoch == m.floor.epoch) course (Stops (StateSyncEpochs m.info.epoch m.floor.epoch)) (λ e. h) (λ e. tt)
+
+  stored : (past : List (Deed Dir)) (st : Live Dir) (read : Result (Material Dir) CodecError) → Holds law past (p.stored (next st) read)
+  stored past st (Err e) = tt
+  stored past st (Ok m) = of_one_epoch past m (next st (Some m)) (goes past st (Some m))
+
+  reads : (past : List (Deed Dir)) (st : Live Dir) (plan : Option (List ℕ)) → Holds law past (p.reads_plan c plan (next st))
+  reads past st (Some bytes) = stored past st (whole (p.material_at c bytes))
+  reads past st None = goes past st None
+
+  finds : (past : List (Deed Dir)) (st : Live Dir) (m : Option (Material Dir)) → Holds law past (p.finds_material c m (next st))
+  finds past st (Some m) =
+      of_one_epoch past m (if is_ok (whole (p.material_at c (p.material_bytes c m))) then Do (OnDisk (PutsPlan (p.material_bytes c m))) (next st (Some m)) else Stops StateSyncMaterial)
+      (holds_if law past (is_ok (whole (p.material_at c (p.material_bytes c m)))) (Do (OnDisk (PutsPlan (p.material_bytes c m))) (next st (Some m))) (Stops StateSyncMaterial) (λ e. (tt, goes _ st (Some m))) (λ e. tt))
+  finds past st None = λ h. reads past st (c.seen h).plan
+
+  -- ONE-SHOT
+
+  ends_with : (past : List (Deed Dir)) (st : Live Dir) (b : Option (Block Dir)) → Holds law past (o.ends_with c st b)
+  ends_with past st None = tt
+  ends_with past st (Some b) = holds_if law past (is_some (option_and_then its_log b.payload)) (Stops (MissingEpochInfo b.height)) (ends_once c (info_of b.payload) st) (λ e. tt) (λ e. (tt, tt))
+
+  begins_once : (past : List (Deed Dir)) (once : OneShot Dir) (seed : List ℕ) (st : Live Dir) → Holds law past (o.begins_once c once seed st)
+  begins_once past once seed st = (
+    tt,
+    holds_as (prune_law 0) law _ (s.draws_up c (o.participants_in once) None None seed (s.anew c st)) (λ past line h. h)
+        (lower 0 most (omega arith)) (λ past st e. tt) (draws_up c 0 _ (o.participants_in once) None None seed (s.anew c st)),
+  )
+
+  goes_once : (past : List (Deed Dir)) (once : OneShot Dir) (share : Option ℕ) (seed : List ℕ) (st : Live Dir) → Holds law past (o.goes_once c once share seed st)
+  goes_once past once share seed st =
+      holds_if law past (o.is_finished c st.tip share) (o.ends_with c st (c.source.block (last c.blocks_per_epoch 0))) (if o.is_refused c once then ends_once c None st else o.begins_once c once seed st)
+      (λ e. ends_with past st (c.source.block (last c.blocks_per_epoch 0)))
+      (λ e. holds_if law past (o.is_refused c once) (ends_once c None st) (o.begins_once c once seed st) (λ e. (tt, tt)) (λ e. begins_once past once seed st))
+
+  tracks_once : (past : List (Deed Dir)) (once : OneShot Dir) (course : Course Dir Fault (Live Dir)) → ((past : List (Deed Dir)) → Holds law past course) → Holds law past (o.tracks_once c once course)
+  tracks_once past once course each =
+      holds_if law past (o.is_refused c once) course (Call (Tracks 0 (o.peers_in once) once.directory) course) (λ e. each past) (λ e. each (Called (Tracks 0 (o.peers_in once) once.directory) ∷ past))
+
+  valid_once : (past : List (Deed Dir)) (once : OneShot Dir) (st : Live Dir) (valid : Result (Unit {0}) ParticipantsError) → Holds law past (o.valid_once c once st valid)
+  valid_once past once st (Err e) = tt
+  valid_once past once st (Ok passed) =
+      tracks_once past once (s.looks c (λ seen. o.goes_once c once (lookup 0 seen.shares) (s.seed_for c 0 (lookup 0 seen.seeds)) st))
+      (λ past h. goes_once past once (lookup 0 (c.seen h).shares) (s.seed_for c 0 (lookup 0 (c.seen h).seeds)) st)
+
+  opens : (past : List (Deed Dir)) (once : Option (OneShot Dir)) (st : Live Dir) → Holds law past (opens_in c once st)
+  opens past (Some once) st = in_range past (o.opens_once c once st) (valid_once past once (record st { tip = startup c.source.anchor None }) (validation (o.participants_in once) c.limit None 0))
+  opens past None st = finds past st c.material
+
+pub openings_prune : {Dir : Type 0} → OpeningsPrune Dir
+openings_prune c most starts = (tt, (tt, λ h. (tt, opens c most starts _ c.oneshot (begun (c.seen h)))))
+
+pub openings_restore : {Dir : Type 0} → OpeningsRestore Dir
+openings_restore c sealed anchor held h meant =
+    let opened : Held = after (OnDisk (Opens c.opening_calls)) (after (OnDisk Bars) h) in
+    let rest = deeds_of (opens_in c c.oneshot (begun (c.seen opened))) opened in
+    (rest, ap (λ (seen : Held → Seen). Did (OnDisk Bars) ∷ Did (OnDisk (Opens c.opening_calls)) ∷ Said (Opened c.life (map restored_of (seen opened).dealings)) ∷ rest) meant.reads)

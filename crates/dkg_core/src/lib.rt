@@ -1,0 +1,102 @@
+//! What a node does at an opening and in each step, as one relation over plain data.
+//!
+//! `specs/` has the relation, one file a phase. `Fixed` says what a step is given, and `Live` what a node has in memory; `Sources` has the
+//! blocks that a step is lent. `Setup`, `Dealing`, `Including`, `Blocks`, `Plans` and `OneShots` are the reshare actor's phases, which `Core`
+//! puts together; `Entering` is the orchestrator's half, `Applying` the application over any desk's answers, `Desk` the script's desk,
+//! `Probing` the probe, and `Node` joins all of them. Each is a course (`Courses`): the store's acts, and calls of what is outside of the node
+//! among them, in their order. The crates of the actors promise that their calls do these courses, whole or broken off.
+//!
+//! The functions here are laws of the relation: calls without a body, whose contract is the law.
+#![tactic(auto)]
+
+ghost use Rattle.dkg_core.specs.Agreeing.{OpeningsAgree, StepsAgree};
+ghost use Rattle.dkg_core.specs.Entry.{EntersRegistered, LastBlocksAreEntered};
+ghost use Rattle.dkg_core.specs.Heard.{OpeningsKeep, OpeningsRestore, PeersAgree, PeersAreKept, RunsAreKept, SetupsKeep};
+ghost use Rattle.dkg_core.specs.Laws.{DuesAreAnswered, OpeningsPrune, OthersAcknowledgeNothing, PeersAreHeard, SetupsAreSound, SetupsPrune};
+
+/// A peer's message records a valid dealing of its sender under a new key alone, behind its private half, and acknowledges only
+/// the dealing that is recorded by then.
+pub fn peers_are_heard<Dir>()
+    ensures { PeersAreHeard Dir }
+{}
+
+/// At every exit of a peer's message, whatever an operation in hand leaves: the devices are whole and give back the dealings from
+/// before or with the sender's, and an acknowledgement is that of a dealing that they give back.
+pub fn peers_are_kept<Dir>()
+    ensures { PeersAreKept Dir }
+{}
+
+/// A peer's message that is due is acknowledged, whatever the devices hold.
+pub fn dues_are_answered<Dir>()
+    ensures { DuesAreAnswered Dir }
+{}
+
+/// Any other message acknowledges nothing, records this node's own dealing alone, and prunes nothing of the epoch of the next
+/// height, nor of the one before.
+pub fn others_acknowledge_nothing<Dir>()
+    ensures { OthersAcknowledgeNothing Dir }
+{}
+
+/// A setup puts a share and a seed, and prunes nothing of the awaited epoch, nor of the one before.
+pub fn setups_prune<Dir>()
+    ensures { SetupsPrune Dir }
+{}
+
+/// At every exit of a setup the devices give back each dealing of the awaited epoch and of the one before, as they did.
+pub fn setups_keep<Dir>()
+    ensures { SetupsKeep Dir }
+{}
+
+/// An opening prunes nothing of the epoch that it starts in, nor of the one before; it acknowledges nothing.
+pub fn openings_prune<Dir>()
+    ensures { OpeningsPrune Dir }
+{}
+
+/// At every exit of an opening the devices give back each dealing of the epoch that it starts in and of the one before, as they
+/// did.
+pub fn openings_keep<Dir>()
+    ensures { OpeningsKeep Dir }
+{}
+
+/// An opening begins with the barrier and the journal's opening, and then lists exactly what the devices give back.
+pub fn openings_restore<Dir>()
+    ensures { OpeningsRestore Dir }
+{}
+
+/// An epoch is entered where the fence is ready for it and its scheme was registered, and no device is touched.
+pub fn enters_registered<Dir>()
+    ensures { EntersRegistered Dir }
+{}
+
+/// The last block of the entered epoch is acknowledged once the next epoch was entered.
+pub fn last_blocks_are_entered<Dir>()
+    ensures { LastBlocksAreEntered Dir }
+{}
+
+/// Where memory and devices agree on the dealings before a peer's message, they agree behind it.
+pub fn peers_agree<Dir>()
+    ensures { PeersAgree Dir }
+{}
+
+/// At every exit of a run of peers' messages: the devices are whole, and each acknowledgement and each recorded dealing of the run
+/// is that of a dealing that they give back.
+pub fn runs_are_kept<Dir>()
+    ensures { RunsAreKept Dir }
+{}
+
+/// Under what a ceremony promises: a setup leaves the life awaiting the epoch of the next height, and where it takes part in a
+/// round, that is the epoch's, and what this node deals to itself there is valid.
+pub fn setups_are_sound<Dir>()
+    ensures { SetupsAreSound Dir }
+{}
+
+/// Where the devices are whole and give back what is recorded in memory before a step, they do so behind it, whatever the step
+/// takes, if what it may record fits a record.
+pub fn steps_agree<Dir>()
+    ensures { StepsAgree Dir }
+{}
+
+/// Over whole devices an opening in either mode leaves in memory what the devices give back.
+pub fn openings_agree<Dir>()
+    ensures { OpeningsAgree Dir }
+{}
