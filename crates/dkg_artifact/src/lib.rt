@@ -10,6 +10,8 @@ mod kept;
 mod lowest;
 mod requests;
 mod scan;
+#[cfg(test)]
+mod tests;
 mod verification;
 mod verified;
 
