@@ -3,4 +3,5 @@ pub mod Kept
 pub mod KeptLaws
 pub mod Results
 pub mod ScanLaws
+pub mod ScanReads
 pub mod Scans
