@@ -1,6 +1,7 @@
 pub mod Found
 pub mod Kept
 pub mod KeptLaws
+pub mod Requested
 pub mod Results
 pub mod ScanLaws
 pub mod ScanReads

@@ -27,7 +27,23 @@ IsLogs Need = ⊥
 IsLogs (Logs logs) = Unit {0}
 IsLogs (Unavailable why) = ⊥
 
+still_logs : (answer : Fed) (ended : Bool) → IsLogs answer → IsLogs (ending ended answer)
+still_logs Need ended h = absurd h
+still_logs (Logs logs) true h = tt
+still_logs (Logs logs) false h = tt
+still_logs (Unavailable why) ended h = absurd h
+
+module _ (round : Round) (bounds : Bounds) (tip : Option Tip) (some : 0 < bounds.last) where
+  has_blocks : eqb bounds.last 0 ≡ false
+  has_blocks = grind (arith, nat_tests)
+
+  starts_below : (starts round bounds tip).next ≡ Some (record { height = bounds.last - 1; digest = None })
+  starts_below = rw has_blocks refl
+
 module _ {Dir : Type 0} (check : Check) where
+  feeds_as : (s : Scan) (n : Next) (b : Block Dir) (stand : Stand) → stand_of s n b ≡ stand → s.next ≡ Some n → feeds check s b ≡ answers check s b stand
+  feeds_as s n b stand stands is = ap (λ (o : Option Next). option_map_or (λ m. answers check s b (stand_of s m b)) o (Unavailable Short, s)) is ∙ ap (λ (t : Stand). answers check s b t) stands
+
   module _ (s : Scan) (n : Next) (b : Block Dir) (at : b.height ≡ n.height) (named : is_other n.digest b.digest ≡ false) (lower : (is_none n.digest && (n.height == s.last)) ≡ false) where
     not_final : is_final s n b ≡ false
     not_final = ap (λ (h : ℕ). is_none n.digest && (h == s.last)) at ∙ lower
@@ -38,35 +54,35 @@ module _ {Dir : Type 0} (check : Check) where
     stands_lowest : b.height ≤ s.down_to → is_other s.below (link_of s.down_to b) ≡ false → stand_of s n b ≡ Lowest
     stands_lowest le linked = rw (not_final, eq-eqb b.height n.height at, named, le-ltb s.down_to b.height le, linked) refl
 
-    feeds_as : (stand : Stand) → stand_of s n b ≡ stand → s.next ≡ Some n → feeds check s b ≡ answers check s b stand
-    feeds_as stand stands is = ap (λ (o : Option Next). option_map_or (λ m. answers check s b (stand_of s m b)) o (Unavailable Short, s)) is ∙ ap (λ (t : Stand). answers check s b t) stands
-
   reads_down : (upper : List (Block Dir)) (b : Block Dir) (s : Scan) (n : Next) → s.next ≡ Some n → (is_none n.digest && (n.height == s.last)) ≡ false → LeadsDown s.down_to s.below n upper b
       → IsLogs (run check s (upper ++ b ∷ [])).0
   reads_down [] b s n is lower leads =
-      subst (λ (p : Fed × Scan). IsLogs (cond (is_need p.0) (run check p.1 []) p).0)
-      (sym (feeds_as s n b leads.0 leads.1 lower Lowest (stands_lowest s n b leads.0 leads.1 lower leads.2 leads.3) is)) tt
+      subst (λ (p : Fed × Scan). IsLogs (cond (is_need p.0) (run {Dir = Dir} check p.1 []) p).0)
+      (sym (feeds_as s n b Lowest (stands_lowest s n b leads.0 leads.1 lower leads.2 leads.3) is)) tt
   reads_down (a ∷ upper) b s n is lower leads =
       subst (λ (p : Fed × Scan). IsLogs (cond (is_need p.0) (run check p.1 (upper ++ b ∷ [])) p).0)
-      (sym (feeds_as s n a leads.0 leads.1 lower Between (stands_between s n a leads.0 leads.1 lower leads.2) is))
+      (sym (feeds_as s n a Between (stands_between s n a leads.0 leads.1 lower leads.2) is))
       (reads_down upper b (passes s a (with_lower check s a)) (record { height = a.height - 1; digest = Some a.parent }) refl refl leads.3)
 
-  still_logs : (answer : Fed) (ended : Bool) → IsLogs answer → IsLogs (ending ended answer)
-  still_logs Need ended h = absurd h
-  still_logs (Logs logs) true h = tt
-  still_logs (Logs logs) false h = tt
-  still_logs (Unavailable why) ended h = absurd h
+  -- From the final block's parent down, an ancestry is answered by logs.
+  pub reads_ancestry : (round : Round) (bounds : Bounds) (tip : Option Tip) → 0 < bounds.last → (upper : List (Block Dir)) (b : Block Dir) (ended : Bool) → LeadsDown (lowest bounds.midpoint tip) (tip_below bounds.midpoint tip) (record { height = bounds.last - 1; digest = None }) upper b
+      → IsLogs (scan check round bounds tip (upper ++ b ∷ []) ended)
+  reads_ancestry round bounds tip some upper b ended leads =
+      let other : eqb (bounds.last - 1) bounds.last ≡ false = grind (arith, nat_tests) in
+      subst (λ (none : Bool). IsLogs (cond none (Logs []) (ending ended (run check (starts round bounds tip) (upper ++ b ∷ [])).0))) (sym (has_blocks round bounds tip some))
+      (still_logs (run check (starts round bounds tip) (upper ++ b ∷ [])).0 ended (reads_down upper b (starts round bounds tip) (record { height = bounds.last - 1; digest = None }) (starts_below round bounds tip some) other leads))
 
-  module _ (round : Round) (bounds : Bounds) (tip : Option Tip) (some : 0 < bounds.last) where
-    has_blocks : eqb bounds.last 0 ≡ false
-    has_blocks = grind (arith, nat_tests)
-
-    starts_below : (starts round bounds tip).next ≡ Some (record { height = bounds.last - 1; digest = None })
-    starts_below = rw has_blocks refl
-
-    -- From the final block's parent down, an ancestry is answered by logs.
-    pub reads_ancestry : (upper : List (Block Dir)) (b : Block Dir) (ended : Bool) → LeadsDown (lowest bounds.midpoint tip) (tip_below bounds.midpoint tip) (record { height = bounds.last - 1; digest = None }) upper b
-        → IsLogs (scan check round bounds tip (upper ++ b ∷ []) ended)
-    reads_ancestry upper b ended leads =
-        let other : eqb (bounds.last - 1) bounds.last ≡ false = grind (arith, nat_tests) in
-        rw has_blocks (still_logs (run check (starts round bounds tip) (upper ++ b ∷ [])).0 ended (reads_down upper b (starts round bounds tip) (record { height = bounds.last - 1; digest = None }) starts_below other leads))
+  -- The same from the final block down.
+  pub reads_final : (round : Round) (bounds : Bounds) (tip : Option Tip) → 0 < bounds.last → (final : Block Dir) → final.height ≡ bounds.last → (upper : List (Block Dir)) (b : Block Dir) (ended : Bool)
+      → LeadsDown (lowest bounds.midpoint tip) (tip_below bounds.midpoint tip) (record { height = final.height - 1; digest = Some final.parent }) upper b
+      → IsLogs (scan check round bounds tip (final ∷ upper ++ b ∷ []) ended)
+  reads_final round bounds tip some final last upper b ended leads =
+      let first : Next = record { height = bounds.last - 1; digest = None } in
+      let begun : Scan = starts round bounds tip in
+      let stands : stand_of begun first final ≡ Final = rw (eq-eqb final.height bounds.last last) refl in
+      let reads : IsLogs (run check begun (final ∷ upper ++ b ∷ [])).0 =
+      subst (λ (p : Fed × Scan). IsLogs (cond (is_need p.0) (run check p.1 (upper ++ b ∷ [])) p).0)
+      (sym (feeds_as begun first final Final stands (starts_below round bounds tip some)))
+      (reads_down upper b (passes begun final begun.found) (record { height = final.height - 1; digest = Some final.parent }) refl refl leads) in
+      subst (λ (none : Bool). IsLogs (cond none (Logs []) (ending ended (run check begun (final ∷ upper ++ b ∷ [])).0))) (sym (has_blocks round bounds tip some))
+      (still_logs (run check begun (final ∷ upper ++ b ∷ [])).0 ended reads)

@@ -6,7 +6,7 @@ use crate::*;
 use dkg_ceremony::{
     Bounds, Ceremony, DealerLog, Epocher, Mode, ModeVersion, Output, Reveal, Round, StandCeremony,
 };
-use dkg_types::{Block, Unit, Why};
+use dkg_types::{Addresses, Block, Directory, Unit, Why};
 use dkg_values::{Digest, Height, Key, Map, Mem, Set, Value, decode_cfg};
 use std::alloc::Global;
 use std::num::{NonZeroU32, NonZeroU64};
@@ -361,7 +361,7 @@ fn an_artifact_is_for_its_logs(rt: HostRuntime) -> Result<(), Fail> {
     Ok(())
 }
 
-fn request(alloc: Global, number: u64) -> Request<Unit> {
+fn request<Dir: Directory>(alloc: Global, number: u64) -> Request<Dir> {
     Request {
         number,
         blocks: Path(Vec::new(alloc)),
@@ -369,14 +369,14 @@ fn request(alloc: Global, number: u64) -> Request<Unit> {
     }
 }
 
-fn popped(requests: &mut Requests<Unit>) -> Option<u64> {
+fn popped<Dir: Directory + Drop>(requests: &mut Requests<Dir>) -> Option<u64> {
     Some(requests.pop()?.number)
 }
 
 #[test]
 fn requests_wait_in_order(rt: HostRuntime) -> Result<(), Fail> {
     let alloc = rt.alloc();
-    let mut requests = Requests::new(alloc);
+    let mut requests = Requests::<Addresses>::new(alloc);
     requests.push(request(alloc, 1))?;
     requests.push(request(alloc, 2))?;
     requests.push_front(request(alloc, 3))?;
@@ -390,7 +390,7 @@ fn requests_wait_in_order(rt: HostRuntime) -> Result<(), Fail> {
 #[test]
 fn a_request_is_what_it_was_fed(rt: HostRuntime) -> Result<(), Fail> {
     let alloc = rt.alloc();
-    let mut fed = request(alloc, 4);
+    let mut fed = request::<Unit>(alloc, 4);
     fed.blocks.0.push(block(alloc, Worked::Six)?)?;
     assert!(rt; fed.copy(alloc)?.same(&fed));
     assert!(rt; !fed.same(&request(alloc, 4)));
