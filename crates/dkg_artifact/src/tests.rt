@@ -1,6 +1,6 @@
 //! A worked path of an epoch of eight blocks: key 2 signs a log at height 4 and another at 6, key 3 one at 5. Each is acknowledged by
 //! the players 2, 3 and 4, and reveals what it deals to player 1. The bytes, the outcome and the share are an independent program's.
-ghost use Rattle.std.specs.Prelude.{◌≡◌, None, IfOk, IsSome};
+ghost use Rattle.std.specs.Prelude.{◌≡◌, [], None, Contains, IfOk, IfSome, IsOk, IsSome, IsTrue};
 
 use crate::*;
 use dkg_ceremony::{
@@ -79,7 +79,7 @@ const OUTPUT: [u8; 48] = [
 ];
 
 /// A block of the worked path, or of the one with a stranger.
-#[derive(Clone, Copy, Debug, PartialEq, Eq)]
+#[derive(Clone, Copy)]
 enum Worked {
     Four,
     Five,
@@ -128,19 +128,41 @@ fn bounds() -> Result<Bounds, Fail> {
 fn scan<C: Ceremony>(alloc: Global, ceremony: &C, digest: [u8; 32]) -> Result<Scan, Fail>
     ensures { IfOk result (λ scan. IsSome scan.next) }
 {
+    let bounds = bounds()?;
     let tip = Tip {
         height: Height(3),
         digest: Digest(digest),
     };
-    let bounds = bounds()?;
     if bounds.last.0 <= 3 {
         return Err(Fail::from("the tip is no tip of the epoch"));
     }
-    let (scan, first) = Scan::start::<C, Unit>(alloc, ceremony, &round(alloc)?, bounds, Some(tip))?;
-    let Fed::Need = first else {
-        return Err(Fail::from("no block is needed"));
-    };
-    Ok(scan)
+    let round = round(alloc)?;
+    match Scan::start::<C, Unit>(alloc, ceremony, &round, bounds, Some(tip))? {
+        (scan, Fed::Need) => Ok(scan),
+        _ => Err(Fail::from("no block is needed")),
+    }
+}
+
+fn feed<C: Ceremony>(
+    alloc: Global,
+    ceremony: &C,
+    scan: &mut Scan,
+    worked: Worked,
+) -> Result<Fed, Fail>
+    requires { IsSome scan.old.next }
+    ensures { IfOk result (λ fed. fed ≡ Fed.Need → IsSome scan.new.next) }
+{
+    let block = block(alloc, worked)?;
+    Ok(scan.feed(alloc, ceremony, &block)?)
+}
+
+fn is_need(fed: &Fed) -> bool
+    ensures { IsTrue result → fed.now ≡ Fed.Need }
+{
+    match fed {
+        Fed::Need => true,
+        _ => false,
+    }
 }
 
 /// What a scan answers to blocks, of which each but the last is answered by Need, and then to the ancestry's end, where Need is the
@@ -148,30 +170,44 @@ fn scan<C: Ceremony>(alloc: Global, ceremony: &C, digest: [u8; 32]) -> Result<Sc
 fn answer<C: Ceremony>(
     alloc: Global,
     ceremony: &C,
-    digest: [u8; 32],
+    scan: &mut Scan,
     blocks: &[Worked],
-) -> Result<Fed, Fail> {
-    let mut scan = scan(alloc, ceremony, digest)?;
+) -> Result<Fed, Fail>
+    requires { IsSome scan.old.next }
+{
     for worked in blocks {
-        let fed = scan.feed(alloc, ceremony, &block(alloc, *worked)?)?;
-        let Fed::Need = fed else {
+        let fed = feed(alloc, ceremony, scan, *worked)?;
+        if !is_need(&fed) {
             return Ok(fed);
-        };
+        }
     }
     Ok(scan.end())
 }
 
-/// Whether blocks are refused for a cause.
-fn is_refused(alloc: Global, digest: [u8; 32], blocks: &[Worked], why: Why) -> Result<bool, Fail> {
-    let answer = answer(alloc, &StandCeremony, digest, blocks)?;
-    Ok(answer.same(&Fed::Unavailable(why)))
+fn cause(fed: &Fed) -> Option<Why> {
+    match fed {
+        Fed::Unavailable(why) => Some(*why),
+        _ => None,
+    }
 }
 
-fn logs(alloc: Global, blocks: &[Worked]) -> Result<Map<DealerLog>, Fail> {
-    match answer(alloc, &StandCeremony, TIP, blocks)? {
+/// Why blocks are refused, if they are.
+fn refusal(alloc: Global, digest: [u8; 32], blocks: &[Worked]) -> Result<Option<Why>, Fail> {
+    let mut scan = scan(alloc, &StandCeremony, digest)?;
+    let fed = answer(alloc, &StandCeremony, &mut scan, blocks)?;
+    Ok(cause(&fed))
+}
+
+fn logs_in(fed: Fed) -> Result<Map<DealerLog>, Fail> {
+    match fed {
         Fed::Logs(logs) => Ok(logs),
         _ => Err(Fail::from("no logs")),
     }
+}
+
+fn logs(alloc: Global, blocks: &[Worked]) -> Result<Map<DealerLog>, Fail> {
+    let mut scan = scan(alloc, &StandCeremony, TIP)?;
+    logs_in(answer(alloc, &StandCeremony, &mut scan, blocks)?)
 }
 
 /// The logs of the worked path.
@@ -187,79 +223,113 @@ fn one(alloc: Global) -> Result<Map<DealerLog>, Fail> {
     )
 }
 
+/// The constant of a dealer's polynomial in some logs.
+fn constant(logs: &Map<DealerLog>, dealer: u32) -> Option<u16> {
+    let log = logs.get(Key(dealer))?;
+    Some(log.public.as_slice().first()?.get())
+}
+
 #[test]
 fn the_lowest_log_of_each_dealer_counts(rt: HostRuntime) -> Result<(), Fail> {
+    let found = both(rt.alloc())?;
+    assert!(rt; found.len() == 2);
+    assert!(rt; constant(&found, 2) == Some(16236));
+    Ok(())
+}
+
+#[test]
+fn the_final_block_may_come_first(rt: HostRuntime) -> Result<(), Fail> {
     let alloc = rt.alloc();
-    let found = both(alloc)?;
-    assert_eq!(rt; found.len(), 2);
-    let lowest = found.get(Key(2)).ok_or("no log of key 2")?;
-    let constant = lowest.public.as_slice().first().ok_or("no coefficient")?;
-    assert_eq!(rt; constant.get(), 16236);
-    let whole = [Worked::Seven, Worked::Six, Worked::Five, Worked::Four];
-    assert!(rt; logs(alloc, &whole)?.same(&found));
+    let found = logs(
+        alloc,
+        &[Worked::Seven, Worked::Six, Worked::Five, Worked::Four],
+    )?;
+    assert!(rt; both(alloc)?.same(&found));
     Ok(())
 }
 
 #[test]
 fn a_strangers_log_counts_for_nothing(rt: HostRuntime) -> Result<(), Fail> {
     let found = one(rt.alloc())?;
-    assert_eq!(rt; found.len(), 1);
-    assert!(rt; found.get(Key(2)).is_some());
+    assert!(rt; found.len() == 1);
+    assert!(rt; constant(&found, 2) == Some(16236));
     Ok(())
 }
 
 #[test]
 fn an_ancestry_is_short_or_skips(rt: HostRuntime) -> Result<(), Fail> {
-    let alloc = rt.alloc();
     let short = [Worked::Six, Worked::Five];
-    assert!(rt; is_refused(alloc, TIP, &short, Why::Short)?);
-    let why = Why::WrongHeight {
-        awaited: Height(5),
-        got: Height(4),
-    };
+    assert!(rt; refusal(rt.alloc(), TIP, &short)? == Some(Why::Short));
     let skips = [Worked::Six, Worked::Four, Worked::Four];
-    assert!(rt; is_refused(alloc, TIP, &skips, why)?);
+    let (awaited, got) = (Height(5), Height(4));
+    assert!(rt; refusal(rt.alloc(), TIP, &skips)? == Some(Why::WrongHeight { awaited, got }));
     Ok(())
 }
 
 #[test]
 fn a_block_is_unlinked_or_detached(rt: HostRuntime) -> Result<(), Fail> {
-    let alloc = rt.alloc();
-    let unlinked = Why::Unlinked { height: Height(5) };
-    assert!(rt; is_refused(alloc, TIP, &[Worked::Six, Worked::Stranger], unlinked)?);
+    let unlinked = [Worked::Six, Worked::Stranger];
+    let height = Height(5);
+    assert!(rt; refusal(rt.alloc(), TIP, &unlinked)? == Some(Why::Unlinked { height }));
     let path = [Worked::Six, Worked::Five, Worked::Four];
-    let detached = Why::Detached { height: Height(4) };
-    assert!(rt; is_refused(alloc, [0; 32], &path, detached)?);
+    let height = Height(4);
+    assert!(rt; refusal(rt.alloc(), [0; 32], &path)? == Some(Why::Detached { height }));
     Ok(())
+}
+
+/// A player without dealings, where it needs none.
+fn player<C: Ceremony>(
+    alloc: Global,
+    ceremony: &C,
+    round: &Round,
+    logs: &Map<DealerLog>,
+) -> Result<Option<Dealings>, Fail>
+    ensures has_dealings { IfOk result (λ p. IfSome p (λ p. IsOk (C.finish_of round.now p.me p.dealings logs.now))) }
+    ensures plays { IfOk result (λ p. IfSome p (λ p. Contains round.now.players p.me)) }
+    ensures none { IfOk result (λ p. IfSome p (λ p. p.dealings ≡ [])) }
+{
+    let me = Key(1);
+    if !round.players.has(me) {
+        return Err(Fail::from("the key is no player"));
+    }
+    let dealings = Map::from_any(alloc, Vec::new(alloc))?;
+    let Ok(_) = ceremony.finish(alloc, round, me, &dealings, logs) else {
+        return Err(Fail::from("a dealing is missing"));
+    };
+    Ok(Some(Dealings { me, dealings }))
 }
 
 /// The result of logs of the worked round for a player that needs no dealing.
 fn finished<C: Ceremony>(
     alloc: Global,
     ceremony: &C,
-    round: &Round,
-    me: Key,
     logs: Map<DealerLog>,
 ) -> Result<VerifiedLogs<C>, Fail> {
-    if !round.players.has(me) {
-        return Err(Fail::from("the key is no player"));
-    }
-    let dealings = Map::from_any(alloc, Vec::new(alloc))?;
-    let Ok(_) = ceremony.finish(alloc, round, me, &dealings, &logs) else {
-        return Err(Fail::from("a dealing is missing"));
-    };
-    let player = Dealings { me, dealings };
-    Ok(verify_logs(alloc, ceremony, round, Some(player), logs)?)
+    let round = round(alloc)?;
+    let player = player(alloc, ceremony, &round, &logs)?;
+    Ok(verify_logs(alloc, ceremony, &round, player, logs)?)
 }
 
 /// The result of logs of the worked round for an observer.
 fn seen<C: Ceremony>(
     alloc: Global,
     ceremony: &C,
-    logs: &Map<DealerLog>,
+    logs: Map<DealerLog>,
 ) -> Result<VerifiedLogs<C>, Fail> {
     let round = round(alloc)?;
-    Ok(verify_logs(alloc, ceremony, &round, None, logs.copy(alloc)?)?)
+    Ok(verify_logs(alloc, ceremony, &round, None, logs)?)
+}
+
+fn has_output<C: Ceremony>(verified: &VerifiedLogs<C>, output: &Output) -> bool {
+    match &verified.result {
+        Some(result) => result.output.same(output),
+        None => false,
+    }
+}
+
+fn share_in<C: Ceremony>(verified: &VerifiedLogs<C>) -> Option<u16> {
+    let share = verified.result.as_ref()?.share?;
+    Some(share.0.get())
 }
 
 fn output(alloc: Global) -> Result<Output, Fail> {
@@ -268,96 +338,120 @@ fn output(alloc: Global) -> Result<Output, Fail> {
 
 #[test]
 fn an_observer_has_no_share(rt: HostRuntime) -> Result<(), Fail> {
-    let alloc = rt.alloc();
-    let seen = seen(alloc, &StandCeremony, &both(alloc)?)?;
-    let result = seen.result.ok_or("two logs are enough")?;
-    assert!(rt; result.output.same(&output(alloc)?));
-    assert!(rt; result.share.is_none());
+    let seen = seen(rt.alloc(), &StandCeremony, both(rt.alloc())?)?;
+    assert!(rt; has_output(&seen, &output(rt.alloc())?));
+    assert!(rt; share_in(&seen).is_none());
     Ok(())
 }
 
 #[test]
 fn a_player_has_a_share(rt: HostRuntime) -> Result<(), Fail> {
-    let alloc = rt.alloc();
-    let mine = finished(alloc, &StandCeremony, &round(alloc)?, Key(1), both(alloc)?)?;
-    assert!(rt; mine.copy(alloc)?.same(&mine));
-    let result = mine.result.ok_or("two logs are enough")?;
-    assert!(rt; result.output.same(&output(alloc)?));
-    assert_eq!(rt; result.share.ok_or("no share")?.0.get(), 37118);
+    let mine = finished(rt.alloc(), &StandCeremony, both(rt.alloc())?)?;
+    assert!(rt; has_output(&mine, &output(rt.alloc())?));
+    assert!(rt; share_in(&mine) == Some(37118));
     Ok(())
 }
 
 #[test]
 fn one_log_makes_nothing(rt: HostRuntime) -> Result<(), Fail> {
-    let alloc = rt.alloc();
-    let none = finished(alloc, &StandCeremony, &round(alloc)?, Key(1), one(alloc)?)?;
+    let none = finished(rt.alloc(), &StandCeremony, one(rt.alloc())?)?;
     assert!(rt; none.result.is_none());
     Ok(())
 }
 
-fn job(alloc: Global, logs: &Map<DealerLog>) -> Result<Job, Fail> {
+/// Whether a value is equal to a copy of it.
+fn is_copied<T: Value + Drop>(alloc: Global, value: &T) -> Result<bool, Fail> {
+    let copy = value.copy(alloc)?;
+    Ok(copy.same(value))
+}
+
+#[test]
+fn a_result_is_copied(rt: HostRuntime) -> Result<(), Fail> {
+    let mine = finished(rt.alloc(), &StandCeremony, both(rt.alloc())?)?;
+    assert!(rt; is_copied(rt.alloc(), &mine)?);
+    Ok(())
+}
+
+fn job(alloc: Global, logs: Map<DealerLog>) -> Result<Job, Fail> {
     Ok(Job {
         round: round(alloc)?,
         player: None,
-        logs: logs.copy(alloc)?,
+        logs,
     })
 }
 
-/// A job of these logs is run, and its result comes when those are the canonical ones. Whether it runs until then, and is ready.
-fn keeps_first<C: Ceremony + Drop>(
-    alloc: Global,
-    ceremony: &C,
-    verification: &mut Verification<C>,
-    these: &Map<DealerLog>,
-    those: &Map<DealerLog>,
-) -> Result<bool, Fail>
-    requires { verification.old.running ≡ None }
-    ensures { verification.new.running ≡ None }
-{
-    verification.start(job(alloc, these)?);
-    let runs = verification.running().is_some();
-    verification.retain(seen(alloc, ceremony, these)?, those);
-    Ok(runs && verification.running().is_none() && verification.ready(these).is_some())
+#[test]
+fn a_job_is_copied(rt: HostRuntime) -> Result<(), Fail> {
+    let job = job(rt.alloc(), both(rt.alloc())?)?;
+    assert!(rt; is_copied(rt.alloc(), &job)?);
+    Ok(())
 }
 
-/// Then the result for those comes, and after it another for these. Whether just the one for those is ready.
-fn keeps_canonical<C: Ceremony + Drop>(
+fn begin<C: Ceremony + Drop>(
+    alloc: Global,
+    verification: &mut Verification<C>,
+    logs: Map<DealerLog>,
+) -> Result<bool, Fail>
+    requires { verification.old.running ≡ None }
+{
+    let job = job(alloc, logs)?;
+    verification.start(job);
+    Ok(verification.running().is_some())
+}
+
+/// A result of these logs comes, where those are the canonical ones.
+fn retain<C: Ceremony + Drop>(
     alloc: Global,
     ceremony: &C,
     verification: &mut Verification<C>,
-    these: &Map<DealerLog>,
+    these: Map<DealerLog>,
     those: &Map<DealerLog>,
 ) -> Result<bool, Fail> {
-    verification.retain(seen(alloc, ceremony, those)?, those);
-    verification.retain(seen(alloc, ceremony, these)?, those);
-    Ok(verification.ready(those).is_some() && verification.ready(these).is_none())
+    let result = seen(alloc, ceremony, these)?;
+    verification.retain(result, those);
+    Ok(verification.running().is_none())
+}
+
+/// Results of one log, of the canonical two, and of one log again.
+fn retain_each<C: Ceremony + Drop>(
+    alloc: Global,
+    ceremony: &C,
+    verification: &mut Verification<C>,
+    those: &Map<DealerLog>,
+) -> Result<bool, Fail> {
+    let first = retain(alloc, ceremony, verification, one(alloc)?, those)?;
+    let second = retain(alloc, ceremony, verification, both(alloc)?, those)?;
+    let third = retain(alloc, ceremony, verification, one(alloc)?, those)?;
+    Ok(first && second && third)
 }
 
 #[test]
 fn a_canonical_result_stays(rt: HostRuntime) -> Result<(), Fail> {
-    let alloc = rt.alloc();
-    let (one, both) = (one(alloc)?, both(alloc)?);
     let mut verification = Verification::<StandCeremony>::new();
-    assert!(rt; keeps_first(alloc, &StandCeremony, &mut verification, &one, &both)?);
-    assert!(rt; keeps_canonical(alloc, &StandCeremony, &mut verification, &one, &both)?);
-    let job = job(alloc, &one)?;
-    assert!(rt; job.copy(alloc)?.same(&job));
+    let those = both(rt.alloc())?;
+    assert!(rt; begin(rt.alloc(), &mut verification, one(rt.alloc())?)?);
+    assert!(rt; retain_each(rt.alloc(), &StandCeremony, &mut verification, &those)?);
+    assert!(rt; verification.ready(&those).is_some());
+    assert!(rt; verification.ready(&one(rt.alloc())?).is_none());
     Ok(())
+}
+
+fn artifact() -> Artifact<Unit> {
+    Artifact {
+        info: None,
+        share: None,
+    }
 }
 
 #[test]
 fn an_artifact_is_for_its_logs(rt: HostRuntime) -> Result<(), Fail> {
-    let alloc = rt.alloc();
-    let both = both(alloc)?;
     let mut cache = ArtifactCache::<Unit>::new();
-    assert!(rt; cache.get(&both).is_none());
-    let artifact = Artifact {
-        info: None,
-        share: None,
-    };
-    cache.keep(both.copy(alloc)?, artifact.copy(alloc)?);
-    assert!(rt; cache.get(&one(alloc)?).is_none());
-    assert!(rt; cache.get(&both).ok_or("nothing is kept")?.same(&artifact));
+    let those = both(rt.alloc())?;
+    assert!(rt; cache.get(&those).is_none());
+    cache.keep(both(rt.alloc())?, artifact());
+    assert!(rt; cache.get(&those).is_some());
+    assert!(rt; cache.get(&one(rt.alloc())?).is_none());
+    assert!(rt; is_copied(rt.alloc(), &artifact())?);
     Ok(())
 }
 
@@ -370,30 +464,40 @@ fn request<Dir: Directory>(alloc: Global, number: u64) -> Request<Dir> {
 }
 
 fn popped<Dir: Directory + Drop>(requests: &mut Requests<Dir>) -> Option<u64> {
-    Some(requests.pop()?.number)
+    let request = requests.pop()?;
+    Some(request.number)
+}
+
+/// Puts the requests 1 and 2 last, and 3 first.
+fn push_three<Dir: Directory + Drop>(alloc: Global, requests: &mut Requests<Dir>) -> Mem<()> {
+    requests.push(request(alloc, 1))?;
+    requests.push(request(alloc, 2))?;
+    requests.push_front(request(alloc, 3))
 }
 
 #[test]
 fn requests_wait_in_order(rt: HostRuntime) -> Result<(), Fail> {
-    let alloc = rt.alloc();
-    let mut requests = Requests::<Addresses>::new(alloc);
-    requests.push(request(alloc, 1))?;
-    requests.push(request(alloc, 2))?;
-    requests.push_front(request(alloc, 3))?;
-    assert_eq!(rt; popped(&mut requests), Some(3));
-    assert_eq!(rt; popped(&mut requests), Some(1));
-    assert_eq!(rt; popped(&mut requests), Some(2));
-    assert_eq!(rt; popped(&mut requests), None);
+    let mut requests = Requests::<Addresses>::new(rt.alloc());
+    push_three(rt.alloc(), &mut requests)?;
+    assert!(rt; popped(&mut requests) == Some(3));
+    assert!(rt; popped(&mut requests) == Some(1));
+    assert!(rt; popped(&mut requests) == Some(2));
+    assert!(rt; popped(&mut requests).is_none());
     Ok(())
+}
+
+fn fed_request(alloc: Global) -> Result<Request<Unit>, Fail> {
+    let block = block(alloc, Worked::Six)?;
+    let mut request = request::<Unit>(alloc, 4);
+    request.blocks.0.push(block)?;
+    Ok(request)
 }
 
 #[test]
 fn a_request_is_what_it_was_fed(rt: HostRuntime) -> Result<(), Fail> {
-    let alloc = rt.alloc();
-    let mut fed = request::<Unit>(alloc, 4);
-    fed.blocks.0.push(block(alloc, Worked::Six)?)?;
-    assert!(rt; fed.copy(alloc)?.same(&fed));
-    assert!(rt; !fed.same(&request(alloc, 4)));
+    let fed = fed_request(rt.alloc())?;
+    assert!(rt; is_copied(rt.alloc(), &fed)?);
+    assert!(rt; !fed.same(&request(rt.alloc(), 4)));
     Ok(())
 }
 
