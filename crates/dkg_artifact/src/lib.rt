@@ -6,7 +6,7 @@
 
 mod artifact;
 mod job;
-mod kept;
+mod laws;
 mod lowest;
 mod requests;
 mod scan;
@@ -16,7 +16,8 @@ mod verification;
 mod verified;
 
 pub use artifact::{Artifact, ArtifactCache};
-pub use job::{Dealings, Job, WorkGate};
+pub use job::{Dealings, Job, WorkGate, lacks_no_dealing};
+pub use laws::answers_are_apart;
 pub use requests::{Path, Request, Requests};
 pub use scan::{Fed, Scan, Tip};
 pub use verification::Verification;

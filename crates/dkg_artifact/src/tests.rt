@@ -1,6 +1,7 @@
 //! A worked path of an epoch of eight blocks: key 2 signs a log at height 4 and another at 6, key 3 one at 5. Each is acknowledged by
 //! the players 2, 3 and 4, and reveals what it deals to player 1. The bytes, the outcome and the share are an independent program's.
-ghost use Rattle.std.specs.Prelude.{◌≡◌, [], None, Contains, IfOk, IfSome, IsOk, IsSome, IsTrue};
+ghost use Rattle.std.specs.Prelude.{◌≡◌, [], None, Contains, IfOk, IfSome, IsOk, IsTrue};
+ghost use Rattle.dkg_artifact.specs.Scans.{IsAwaiting};
 
 use crate::*;
 use dkg_ceremony::{
@@ -126,7 +127,7 @@ fn bounds() -> Result<Bounds, Fail> {
 
 /// A scan above the block below the midpoint, or above another of its height.
 fn scan<C: Ceremony>(alloc: Global, ceremony: &C, digest: [u8; 32]) -> Result<Scan, Fail>
-    ensures { IfOk result (λ scan. IsSome scan.next) }
+    ensures { IfOk result (λ scan. IsAwaiting scan) }
 {
     let bounds = bounds()?;
     let tip = Tip {
@@ -149,8 +150,8 @@ fn feed<C: Ceremony>(
     scan: &mut Scan,
     worked: Worked,
 ) -> Result<Fed, Fail>
-    requires { IsSome scan.old.next }
-    ensures { IfOk result (λ fed. fed ≡ Fed.Need → IsSome scan.new.next) }
+    requires { IsAwaiting scan.old }
+    ensures { IfOk result (λ fed. fed ≡ Fed.Need → IsAwaiting scan.new) }
 {
     let block = block(alloc, worked)?;
     Ok(scan.feed(alloc, ceremony, &block)?)
@@ -173,7 +174,7 @@ fn answer<C: Ceremony>(
     scan: &mut Scan,
     blocks: &[Worked],
 ) -> Result<Fed, Fail>
-    requires { IsSome scan.old.next }
+    requires { IsAwaiting scan.old }
 {
     for worked in blocks {
         let fed = feed(alloc, ceremony, scan, *worked)?;

@@ -1,5 +1,5 @@
-use Rattle.std.specs.Prelude.{IsSome}
+use Rattle.dkg_artifact.specs.Scans.{IsAwaiting}
 use Rattle.dkg_artifact.proofs.tests.answer.Given as goal
 
-abbrev pub invariant-loop-bytes : goal.invariant-loop-bytes
-invariant-loop-bytes g l = IsSome l.scan.next
+abbrev pub invariant-loop-worked : goal.invariant-loop-worked
+invariant-loop-worked g l = IsAwaiting l.scan
