@@ -1,1 +1,4 @@
+pub mod Lacked
 pub mod Putting
+pub mod ScanLaws
+pub mod Standing

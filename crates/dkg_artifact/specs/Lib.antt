@@ -1,6 +1,6 @@
+pub mod Ancestries
 pub mod Found
-pub mod Kept
-pub mod KeptLaws
+pub mod Lacking
+pub mod Requested
 pub mod Results
-pub mod ScanLaws
 pub mod Scans

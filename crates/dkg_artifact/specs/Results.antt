@@ -16,10 +16,12 @@ pub record Checked : Type 0 where
   pub result : Option Verified
 
 -- What a ceremony says of a result. A share is there exactly where a result and a `me` are, and it is that of `me` by the output.
-pub record IsResult (outcome_of : Round → LogMap → Option Output) (share_public_of : ℕ → ℕ) (partial_public_of : Output → ℕ → Option ℕ) (c : Checked) : Type 0 where
+pub record IsResult (outcome_of : Round → LogMap → Option Output) (share_public_of : ℕ → ℕ) (partial_public_of : Output → ℕ → Option ℕ)
+    (c : Checked) : Type 0 where
   pub outcome : option_map (λ v. v.output) c.result ≡ outcome_of c.round c.logs
   pub shared : option_map (λ v. is_some v.share) c.result ≡ option_map (λ v. is_some c.me) c.result
-  pub fits : option_and_then (λ v. option_map share_public_of v.share) c.result ≡ option_and_then (λ v. option_and_then (partial_public_of v.output) c.me) c.result
+  pub fits : option_and_then (λ v. option_map share_public_of v.share) c.result
+      ≡ option_and_then (λ v. option_and_then (partial_public_of v.output) c.me) c.result
 
 -- WHAT IS VERIFIED
 
@@ -35,11 +37,13 @@ finished_by (Ok found) = option_map finished found
 finished_by (Err e) = None
 
 -- The outcome that all see, or what a player finishes with.
-abbrev pub result_of : (Round → LogMap → Option Output) → (Round → ℕ → DealingMap → LogMap → Result (Option (Output × ℕ)) FinishError) → Round → Option Dealings → LogMap → Option Verified
+abbrev pub result_of : (Round → LogMap → Option Output)
+    → (Round → ℕ → DealingMap → LogMap → Result (Option (Output × ℕ)) FinishError) → Round → Option Dealings → LogMap → Option Verified
 result_of outcome_of finish_of round None logs = option_map observed (outcome_of round logs)
 result_of outcome_of finish_of round (Some player) logs = finished_by (finish_of round player.me player.dealings logs)
 
-abbrev pub checked : (Round → LogMap → Option Output) → (Round → ℕ → DealingMap → LogMap → Result (Option (Output × ℕ)) FinishError) → Round → Option Dealings → LogMap → Checked
+abbrev pub checked : (Round → LogMap → Option Output)
+    → (Round → ℕ → DealingMap → LogMap → Result (Option (Output × ℕ)) FinishError) → Round → Option Dealings → LogMap → Checked
 checked outcome_of finish_of round player logs = record {
   round = round;
   me = option_map (λ p. p.me) player;

@@ -1,5 +1,5 @@
 -- What a scan answers to the blocks of an ancestry, from an epoch's final block or its parent downward.
-use Rattle.std.specs.Prelude.{ℕ, ◌+◌, ◌-◌, ◌==◌, ◌&&◌, nat_lt, not, Bool, true, false, List, [], ◌∷◌, Option, Some, None, is_none, is_some, option_and_then, if◌then◌else◌}
+use Rattle.std.specs.Prelude.{ℕ, ◌+◌, ◌-◌, ◌==◌, ◌&&◌, nat_lt, not, Bool, true, false, List, [], ◌∷◌, Option, Some, None, is_none, is_some, IsSome, option_and_then, if◌then◌else◌}
 use Rattle.std.specs.List.{filter}
 use Rattle.std.specs.Option.{option_map_or}
 use Rattle.std.specs.Str.{bytes_eq}
@@ -110,26 +110,7 @@ answers check s b (Refused why) = (Unavailable why, closes s)
 abbrev pub feeds : {Dir : Type 0} → Check → Scan → Block Dir → Fed × Scan
 feeds check s b = option_map_or (λ n. answers check s b (stand_of s n b)) s.next (Unavailable Short, s)
 
--- A WHOLE ANCESTRY
-
-abbrev pub is_need : Fed → Bool
-is_need Need = true
-is_need (Logs logs) = false
-is_need (Unavailable why) = false
-
--- the last answer to blocks that are fed one after another until one isn't answered by Need, and where the scan stands then
-abbrev pub run : {Dir : Type 0} → Check → Scan → List (Block Dir) → Fed × Scan
-run check s [] = (Need, s)
-run check s (b ∷ bs) = if is_need (feeds check s b).0 then run check (feeds check s b).1 bs else feeds check s b
-
--- An ancestry that has ended has no block more.
-abbrev pub ending : (ended : Bool) → Fed → Fed
-ending ended answer = if ended && is_need answer then Unavailable Short else answer
-
--- What a scan that starts there answers to an ancestry as far as it has come.
-abbrev pub scan : {Dir : Type 0} → Check → Round → Bounds → Option Tip → List (Block Dir) → (ended : Bool) → Fed
-scan check round bounds tip blocks ended =
-    if bounds.last == 0 then Logs [] else ending ended (run check (starts round bounds tip) blocks).0
+-- A PATH ABOVE A TIP
 
 -- the blocks above a tip
 abbrev pub is_above : {Dir : Type 0} → Option Tip → Block Dir → Bool
@@ -137,3 +118,8 @@ is_above tip b = option_map_or (λ t. nat_lt t.height b.height) tip true
 
 abbrev pub above : {Dir : Type 0} → Option Tip → List (Block Dir) → List (Block Dir)
 above tip = filter (is_above tip)
+
+-- WHETHER A SCAN AWAITS A BLOCK
+
+abbrev pub IsAwaiting : Scan → Type 0
+IsAwaiting s = IsSome s.next

@@ -1,9 +1,7 @@
 //! What a final block has to carry, kept for the logs that it was made of.
-ghost use Rattle.std.specs.Prelude.{◌≡◌, ◌↔◌, IfOk, IsTrue, None, Some, option_map};
+ghost use Rattle.std.specs.Prelude.{◌≡◌, ◌↔◌, IfOk, IsSome, IsSomeAnd, IsTrue, None, Some, option_map};
 ghost use Rattle.std.specs.Option.{option_copied};
-ghost use Rattle.dkg_artifact.specs.Kept.{kept_for};
 
-use crate::kept::are_same;
 use dkg_ceremony::{DealerLog, Share};
 use dkg_types::{Directory, EpochInfo};
 use dkg_values::{Map, Mem, Value};
@@ -43,10 +41,11 @@ impl<Dir> ArtifactCache<Dir> {
 
     /// The kept artifact, where it is of these logs.
     pub fn get(&self, logs: &Map<DealerLog>) -> Option<&Artifact<Dir>>
-        ensures { option_copied result ≡ option_map (λ k. k.1) (kept_for (λ k. k.0) self.now logs.now) }
+        ensures exactly { IsSome result ↔ IsSomeAnd self.now (λ k. k.0 ≡ logs.now) }
+        ensures kept { IsSome result → option_copied result ≡ option_map (λ k. k.1) self.now }
     {
         match &self.kept {
-            Some((kept, artifact)) if are_same(kept, logs) => Some(artifact),
+            Some((kept, artifact)) if kept.same(logs) => Some(artifact),
             _ => None,
         }
     }

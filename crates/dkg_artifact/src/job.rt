@@ -1,8 +1,12 @@
 //! What is verified, and by whom: a round, its dealers' logs, and the dealings of a node that is a player.
 
-ghost use Rattle.std.specs.Prelude.{◌≡◌, ◌↔◌, IfOk, IsTrue};
+ghost use Rattle.std.specs.Prelude.{◌≡◌, ◌↔◌, IfOk, IsOk, IsTrue};
+ghost use Rattle.std.specs.Option.{option_copied};
+ghost use Rattle.dkg_values.specs.Rising.{lookup};
+ghost use Rattle.dkg_ceremony.specs.Finishes.{has_public};
+ghost use Rattle.dkg_artifact.specs.Lacking.{lacks};
 
-use dkg_ceremony::{DealerLog, Private, Public, Round};
+use dkg_ceremony::{Ceremony, DealerLog, Private, Public, Round, finishes_agree};
 use dkg_values::{Key, Map, Mem, Value};
 use std::alloc::Global;
 
@@ -41,6 +45,53 @@ impl Value for Dealings {
     fn same(&self, other: &Dealings) -> bool {
         self.me == other.me && self.dealings.same(&other.dealings)
     }
+}
+
+/// Whether a dealing is there and has this public half.
+fn has_public(public: &Public, dealing: Option<&(Public, Private)>) -> bool
+    ensures { IsTrue result ↔ IsTrue (has_public public.now (option_copied dealing.entry)) }
+{
+    match dealing {
+        Some(dealing) => dealing.0.same(public),
+        None => false,
+    }
+}
+
+/// Whether a dealer's log bears the player's acknowledgement of a dealing that the player lacks.
+fn lacks<C: Ceremony>(
+    alloc: Global,
+    ceremony: &C,
+    round: &Round,
+    player: &Dealings,
+    dealer: Key,
+    log: &DealerLog,
+) -> Mem<bool>
+    ensures { IfOk result (λ b. IsTrue b ↔ IsTrue (lacks C.bears_ack_of round.now player.now.me player.now.dealings dealer log.now)) }
+{
+    Ok(
+        ceremony.bears_ack(alloc, round, dealer, log, player.me)?
+            && !has_public(&log.public, player.dealings.get(dealer)),
+    )
+}
+
+/// Whether no log bears the player's acknowledgement of a dealing that the player lacks. Then a verification may take the player's part, as
+/// `verify_logs` asks; else it only observes.
+pub fn lacks_no_dealing<C: Ceremony>(
+    alloc: Global,
+    ceremony: &C,
+    round: &Round,
+    player: &Dealings,
+    logs: &Map<DealerLog>,
+) -> Mem<bool>
+    ensures { IfOk result (λ b. IsTrue b → IsOk (C.finish_of round.now player.now.me player.now.dealings logs.now)) }
+{
+    for (dealer, log) in logs.as_slice() {
+        if lacks(alloc, ceremony, round, player, *dealer, log)? {
+            return Ok(false);
+        }
+    }
+    finishes_agree::<C>();
+    Ok(true)
 }
 
 /// A copy of a player's dealings, if there is one.

@@ -6,15 +6,18 @@
 
 mod artifact;
 mod job;
-mod kept;
+mod laws;
 mod lowest;
 mod requests;
 mod scan;
+#[cfg(test)]
+mod tests;
 mod verification;
 mod verified;
 
 pub use artifact::{Artifact, ArtifactCache};
-pub use job::{Dealings, Job, WorkGate};
+pub use job::{Dealings, Job, WorkGate, lacks_no_dealing};
+pub use laws::answers_are_apart;
 pub use requests::{Path, Request, Requests};
 pub use scan::{Fed, Scan, Tip};
 pub use verification::Verification;

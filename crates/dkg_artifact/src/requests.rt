@@ -29,6 +29,14 @@ pub struct Request<Dir: Directory> {
     pub ended: bool,
 }
 
+impl<Dir: Directory> Model for Request<Dir> {
+    ghost use Rattle.dkg_artifact.specs.Requested.{Request as Seen};
+
+    ghost Value = { Seen Dir };
+
+    ghost view = { λ r. record { number = r.number; blocks = r.blocks; ended = r.ended } };
+}
+
 /// Requests that wait, the first first.
 #[derive(Drop)]
 pub struct Requests<Dir: Directory> {
@@ -37,9 +45,9 @@ pub struct Requests<Dir: Directory> {
 
 impl<Dir: Directory> Model for Requests<Dir> {
     ghost use Rattle.std.specs.Prelude.{List};
-    ghost use Rattle.dkg_artifact.specs.declared.requests.Request.{Request};
+    ghost use Rattle.dkg_artifact.specs.Requested.{Request as Seen};
 
-    ghost Value = { List (Request Dir) };
+    ghost Value = { List (Seen Dir) };
 
     ghost view = { λ r. r.waiting.items };
 }

@@ -1,10 +1,11 @@
 //! Reads the ancestry of a block downward, one block at a time, for the logs of an epoch's dealers above a tip.
 //!
 //! A block is looked at once and not kept; of the logs only the lowest of each dealer is.
-ghost use Rattle.std.specs.Prelude.{◌≡◌, ◌+◌, ◌<◌, ◌^◌, [], IfOk, OnOk, OnErr, IfSome, IsSome, option_and_then};
+ghost use Rattle.std.specs.Prelude.{◌≡◌, ◌↔◌, ◌+◌, ◌<◌, ◌^◌, [], IfOk, OnOk, OnErr, IfSome, IsTrue, option_and_then};
 ghost use Rattle.std.specs.Option.{option_copied};
 ghost use Rattle.dkg_types.specs.PayloadCodes.{its_log};
-ghost use Rattle.dkg_artifact.specs.Scans.{added, closes, counted, feeds, first_answer, first_next, is_other, link_of, lowest, passes, stand_of, starts, tip_below, with_lower};
+ghost use Rattle.dkg_artifact.specs.Ancestries.{SaysOfPath, Stands};
+ghost use Rattle.dkg_artifact.specs.Scans.{IsAwaiting, added, closes, counted, feeds, first_answer, first_next, is_other, link_of, lowest, passes, stand_of, starts, tip_below, with_lower};
 
 use crate::lowest::Lowest;
 use dkg_ceremony::{Bounds, Ceremony, DealerLog, Round, SignedDealerLog};
@@ -153,6 +154,13 @@ fn counted_log<C: Ceremony, Dir: Directory>(
 }
 
 impl Scan {
+    /// Whether the scan awaits a block: its last answer was `Need`.
+    pub fn awaits(&self) -> bool
+        ensures { IsTrue result ↔ IsAwaiting self.now }
+    {
+        self.next.is_some()
+    }
+
     /// Starts a scan of the blocks of an epoch above a tip. A final height of 0 needs no block; else the first answer is `Need`.
     pub fn start<C: Ceremony, Dir: Directory>(
         alloc: Global,
@@ -164,7 +172,8 @@ impl Scan {
         requires { IfSome tip (λ t. t.height < bounds.last) }
         ensures scan { IfOk result (λ r. r.0 ≡ starts round.now bounds tip) }
         ensures answer { IfOk result (λ r. r.1 ≡ first_answer bounds.last) }
-        ensures awaits { IfOk result (λ r. r.1 ≡ Fed.Need → IsSome r.0.next) }
+        ensures awaits { IfOk result (λ r. r.1 ≡ Fed.Need → IsAwaiting r.0) }
+        ensures begins { 0 < bounds.last → IfOk result (λ r. Stands {Dir = Dir} C.check_log_of round.now bounds tip [] r.0) }
     {
         let down_to = lowest_height(bounds.midpoint, tip);
         let scan = Scan {
@@ -276,16 +285,16 @@ impl Scan {
         Ok(Fed::Logs(logs))
     }
 
-    /// Reads a block: the epoch's final one or its parent first, and then each block's parent. Where memory runs out all is as before.
-    pub fn feed<C: Ceremony, Dir: Directory>(
+    /// What a block is answered by.
+    fn answer<C: Ceremony, Dir: Directory>(
         &mut self,
         alloc: Global,
         ceremony: &C,
         block: &Block<Dir>,
     ) -> Mem<Fed>
-        requires { IsSome self.old.next }
+        requires { IsAwaiting self.old }
         ensures ok { IfOk result (λ fed. (fed, self.new) ≡ feeds C.check_log_of self.old block.now) }
-        ensures awaits { IfOk result (λ fed. fed ≡ Fed.Need → IsSome self.new.next) }
+        ensures awaits { IfOk result (λ fed. fed ≡ Fed.Need → IsAwaiting self.new) }
         ensures err { OnErr result (self.new ≡ self.old) }
     {
         let Some(next) = self.next else {
@@ -305,9 +314,25 @@ impl Scan {
         }
     }
 
+    /// Reads a block: the epoch's final one or its parent first, and then each block's parent. Where memory runs out all is as before.
+    pub fn feed<C: Ceremony, Dir: Directory>(
+        &mut self,
+        alloc: Global,
+        ceremony: &C,
+        block: &Block<Dir>,
+    ) -> Mem<Fed>
+        requires { IsAwaiting self.old }
+        ensures ok { IfOk result (λ fed. (fed, self.new) ≡ feeds C.check_log_of self.old block.now) }
+        ensures awaits { IfOk result (λ fed. fed ≡ Fed.Need → IsAwaiting self.new) }
+        ensures says { IfOk result (λ fed. SaysOfPath C.check_log_of self.old block.now fed self.new) }
+        ensures err { OnErr result (self.new ≡ self.old) }
+    {
+        self.answer(alloc, ceremony, block)
+    }
+
     /// The ancestry has ended.
     pub fn end(&mut self) -> Fed
-        requires { IsSome self.old.next }
+        requires { IsAwaiting self.old }
         ensures answer { result ≡ Fed.Unavailable Why.Short }
         ensures closed { self.new ≡ closes self.old }
     {

@@ -1,13 +1,11 @@
 //! The running verification, and the result that is kept.
-ghost use Rattle.std.specs.Prelude.{◌≡◌, None, Some, is_some};
+ghost use Rattle.std.specs.Prelude.{◌≡◌, ◌≢◌, ◌↔◌, None, Some, IsSome, IsSomeAnd, IsTrue};
 ghost use Rattle.std.specs.Option.{option_copied};
-ghost use Rattle.dkg_artifact.specs.Kept.{kept_for, retained};
 
 use crate::job::Job;
-use crate::kept::are_same;
 use crate::verified::VerifiedLogs;
 use dkg_ceremony::{Ceremony, DealerLog};
-use dkg_values::Map;
+use dkg_values::{Map, Value};
 
 /// One job at a time, and the result that was kept last.
 #[derive(Drop)]
@@ -18,10 +16,10 @@ pub struct Verification<C: Ceremony> {
 
 /// Whether a result that is kept is one for these logs.
 fn is_kept_for<C: Ceremony>(kept: &Option<VerifiedLogs<C>>, logs: &Map<DealerLog>) -> bool
-    ensures { result ≡ is_some (kept_for (λ r. r.logs) kept.now logs.now) }
+    ensures { IsTrue result ↔ IsSomeAnd kept.now (λ r. r.logs ≡ logs.now) }
 {
     match kept {
-        Some(kept) => are_same(&kept.logs, logs),
+        Some(kept) => kept.logs.same(logs),
         None => false,
     }
 }
@@ -47,10 +45,11 @@ impl<C: Ceremony> Verification<C> {
 
     /// The kept result, where it is one for these logs.
     pub fn ready(&self, logs: &Map<DealerLog>) -> Option<&VerifiedLogs<C>>
-        ensures { option_copied result ≡ kept_for (λ r. r.logs) self.now.kept logs.now }
+        ensures exactly { IsSome result ↔ IsSomeAnd self.now.kept (λ r. r.logs ≡ logs.now) }
+        ensures kept { IsSome result → option_copied result ≡ self.now.kept }
     {
         match &self.kept {
-            Some(kept) if are_same(&kept.logs, logs) => Some(kept),
+            Some(kept) if kept.logs.same(logs) => Some(kept),
             _ => None,
         }
     }
@@ -70,10 +69,12 @@ impl<C: Ceremony + Drop> Verification<C> {
     /// these. Results may come in any order.
     pub fn retain(&mut self, verified: VerifiedLogs<C>, canonical: &Map<DealerLog>)
         ensures running { self.new.running ≡ None }
-        ensures kept { self.new.kept ≡ retained (λ r. r.logs) self.old.kept verified canonical.now }
+        ensures canonical { verified.logs ≡ canonical.now → self.new.kept ≡ Some verified }
+        ensures stays { IsSomeAnd self.old.kept (λ r. r.logs ≡ canonical.now) → verified.logs ≢ canonical.now → self.new.kept ≡ self.old.kept }
+        ensures replaces { (IsSomeAnd self.old.kept (λ r. r.logs ≡ canonical.now) → ⊥) → self.new.kept ≡ Some verified }
     {
         self.running = None;
-        if !is_kept_for(&self.kept, canonical) || are_same(&verified.logs, canonical) {
+        if !is_kept_for(&self.kept, canonical) || verified.logs.same(canonical) {
             self.kept = Some(verified);
         }
     }

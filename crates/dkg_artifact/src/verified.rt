@@ -35,7 +35,8 @@ impl<C: Ceremony> Model for VerifiedLogs<C> {
 
     ghost view = { λ v. record { round = v.round; me = v.me; logs = v.logs; result = v.result } };
 
-    ghost invariant = { λ v. IsResult C.outcome_of C.share_public_of C.partial_public_of record { round = v.round; me = v.me; logs = v.logs; result = v.result } };
+    ghost invariant = { λ v. IsResult C.outcome_of C.share_public_of C.partial_public_of
+        record { round = v.round; me = v.me; logs = v.logs; result = v.result } };
 }
 
 impl<C: Ceremony> VerifiedLogs<C> {
@@ -99,7 +100,8 @@ fn result_of<C: Ceremony>(
 ) -> Mem<Option<Verified>>
     requires has_dealings { IfSome player.now (λ p. IsOk (C.finish_of round.now p.me p.dealings logs.now)) }
     requires plays { IfSome player.now (λ p. Contains round.now.players p.me) }
-    requires checked { IfSome player.now (λ p. (dealer : ℕ) → IfSome (lookup dealer p.dealings) (λ d. C.dealing_of round.now p.me dealer d.0 d.1 ≡ Ok tt)) }
+    requires checked { IfSome player.now (λ p. (dealer : ℕ) → IfSome (lookup dealer p.dealings)
+        (λ d. C.dealing_of round.now p.me dealer d.0 d.1 ≡ Ok tt)) }
     ensures { IfOk result (λ r. r ≡ result_of C.outcome_of C.finish_of round.now player.now logs.now) }
 {
     match player {
@@ -112,7 +114,8 @@ fn result_of<C: Ceremony>(
 fn results_hold<C: Ceremony>(round: &Round, player: &Option<Dealings>, logs: &Map<DealerLog>)
     requires has_dealings { IfSome player.now (λ p. IsOk (C.finish_of round.now p.me p.dealings logs.now)) }
     requires plays { IfSome player.now (λ p. Contains round.now.players p.me) }
-    requires checked { IfSome player.now (λ p. (dealer : ℕ) → IfSome (lookup dealer p.dealings) (λ d. C.dealing_of round.now p.me dealer d.0 d.1 ≡ Ok tt)) }
+    requires checked { IfSome player.now (λ p. (dealer : ℕ) → IfSome (lookup dealer p.dealings)
+        (λ d. C.dealing_of round.now p.me dealer d.0 d.1 ≡ Ok tt)) }
     ensures { IsResult C.outcome_of C.share_public_of C.partial_public_of (checked C.outcome_of C.finish_of round.now player.now logs.now) }
 {
     finishes_agree::<C>();

@@ -1,10 +1,12 @@
 //! Replays scripts whose transcripts an independent model wrote, and tells each difference.
 //!
-//! Beside the program lie a file of the forms' names, a file a form, and one of encoded values; `tools/replay-data` makes them. It
-//! prints a line a form, one of the values, and a total, and ends with status 1 where something differs or a file can't be read.
+//! Beside the program lie a file of the forms' names, a file a form, one of encoded values and one of scanned ancestries;
+//! `tools/replay-data` makes them. It prints a line a file and a total, and ends with status 1 where something differs or a file
+//! can't be read.
 #![tactic(auto)]
 
 mod cases;
+mod paths;
 mod replay;
 mod told;
 mod values;
@@ -34,7 +36,17 @@ fn read_values(rt: &HostRuntime) -> io::Result<Count> {
     Ok(count)
 }
 
-/// Replays all forms, and reads all values.
+/// Scans the ancestries.
+fn scan_paths(rt: &HostRuntime) -> io::Result<Count> {
+    let alloc = rt.alloc();
+    let bytes = fs::read(rt, "paths.cases")?;
+    let mut sink = io::writer(rt);
+    let count = paths::all(alloc, bytes.as_slice(), &mut sink)?;
+    told::tell_count(alloc, "paths", &count, &mut sink)?;
+    Ok(count)
+}
+
+/// Replays all forms, reads all values, and scans all ancestries.
 fn replay_all(rt: &HostRuntime) -> io::Result<Count> {
     let mut total = Count::new();
     let forms = fs::read_to_string(rt, "forms")?;
@@ -42,6 +54,7 @@ fn replay_all(rt: &HostRuntime) -> io::Result<Count> {
         total.add(&replay_form(rt, form)?);
     }
     total.add(&read_values(rt)?);
+    total.add(&scan_paths(rt)?);
     told::tell_count(rt.alloc(), "all", &total, &mut io::writer(rt))?;
     Ok(total)
 }
