@@ -73,7 +73,8 @@ pub trait Manager: Provider {
     ) -> Result<(), TrackError>
         ensures ok { IsTrue Self.tells → OnOk result ((n : ℕ) → Self.sets self.new n ≡ with_set (Self.sets self.old) epoch peers n) }
         ensures err { IsTrue Self.tells → OnErr result ((n : ℕ) → Self.sets self.new n ≡ Self.sets self.old n) }
-        ensures missing { IsTrue Self.tells → Names (lacks directory.now peers) result };
+        // Told or not, whoever the directory lacks is named.
+        ensures missing { Names (lacks directory.now peers) result };
 }
 
 /// Who tracks peers by their keys alone.
