@@ -17,7 +17,6 @@ const LOG: [u8; 26] = [
 ];
 
 /// Records key 2's log, and none of its dealings.
-#[tactic(auto, using(dkg_store::proofs::Formed::log_short))]
 fn record_log<D: Disk, X: SecretStore>(
     alloc: Global,
     disk: &mut D,

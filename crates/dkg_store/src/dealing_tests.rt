@@ -229,7 +229,6 @@ fn acknowledged_by_three<C: Ceremony, D: Disk, X: SecretStore>(
 }
 
 /// Records a log, and the dealer's again, which is not new.
-#[tactic(auto, using(crate::proofs::Short::log_short))]
 fn noted<D: Disk, X: SecretStore>(
     alloc: Global,
     devices: &mut Devices<'_, D, X>,

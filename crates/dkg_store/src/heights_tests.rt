@@ -46,7 +46,6 @@ fn counts(
 }
 
 /// Records this log of a dealer at height 5. Whether it is new.
-#[tactic(auto, using(crate::proofs::Short::log_short))]
 fn noted<D: Disk, X: SecretStore>(
     alloc: Global,
     devices: &mut Devices<'_, D, X>,

@@ -200,7 +200,6 @@ fn a_stopped_dealing_is_whole_or_not_there(rt: HostRuntime) -> Result<(), Fail> 
 }
 
 /// Records a dealing, and prunes behind it. Whether the prune failed, and how many dealings are kept.
-#[tactic(auto, using(crate::proofs::Short::event_short))]
 fn pruned<D: Disk, X: SecretStore>(
     alloc: Global,
     devices: &mut Devices<'_, D, X>,
