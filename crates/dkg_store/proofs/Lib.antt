@@ -4,6 +4,7 @@ pub mod Acting
 pub mod Acts
 pub mod Answering
 pub mod Appended
+pub mod Chained
 pub mod Both
 pub mod Corrupt
 pub mod Cuts

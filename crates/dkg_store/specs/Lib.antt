@@ -1,6 +1,7 @@
 pub mod Acts
 pub mod Both
 pub mod Calls
+pub mod Chain
 pub mod Commits
 pub mod Corrupt
 pub mod Cuts

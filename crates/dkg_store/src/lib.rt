@@ -8,6 +8,8 @@
 
 mod appending;
 mod call;
+#[cfg(test)]
+mod chain_tests;
 mod dealer;
 #[cfg(test)]
 mod dealing_tests;

@@ -21,11 +21,11 @@ const FIRST: ([u16; 3], u16) = ([15, 7, 1], 23);
 
 const SECOND: ([u16; 3], u16) = ([15, 9, 1], 25);
 
-fn element(value: u16) -> Result<Element, Fail> {
+pub(crate) fn element(value: u16) -> Result<Element, Fail> {
     Ok(Element::new(value).ok_or("no element")?)
 }
 
-fn public_of(alloc: Global, coefficients: [u16; 3]) -> Result<Public, Fail>
+pub(crate) fn public_of(alloc: Global, coefficients: [u16; 3]) -> Result<Public, Fail>
     ensures { IfOk result (λ p. length p ≡ 3) }
 {
     let [a, b, c] = coefficients;
