@@ -1,8 +1,8 @@
 -- The limits that a value keeps to, and that what keeps to them can be read again.
 --
--- A type keeps all that its spelling asks but the limits, the digest of a block and the match of a directory.
+-- A type keeps all that its spelling asks but the limits and the match of a directory.
 use Rattle.std.proofs.Common.{◌≡◌, ℕ, zero, suc, ◌+◌, ◌^◌, ◌<◌, ◌≤◌, Bool, true, List, [], ◌∷◌, length, get_or, take, Option, Some, None, subst, ap, add-one, arith}
-use Rattle.std.specs.Prelude.{IsTrue}
+use Rattle.std.specs.Prelude.{IfSome, IsTrue, option_map}
 use Rattle.std.specs.List.{AllByRecursion}
 use Rattle.std.specs.Str.{bytes_eq}
 use Rattle.std.proofs.lemmas.List.{length-map, take_all}
@@ -23,6 +23,7 @@ use Rattle.dkg_types.specs.declared.finalization.Finalization.{Finalization}
 use Rattle.dkg_types.specs.declared.info.EpochInfo.{EpochInfo}
 use Rattle.dkg_types.specs.declared.message.Message.{Message}
 use Rattle.dkg_types.specs.declared.message.Message.TheVariants.{Dealer, Ack}
+use Rattle.dkg_types.specs.declared.outcome.EpochOutcome.TheVariants.{Success}
 use Rattle.dkg_types.specs.declared.participants.Participants.{Participants}
 use Rattle.dkg_types.specs.declared.payload.Payload.{Payload}
 use Rattle.dkg_types.specs.declared.payload.Payload.TheVariants as payload
@@ -30,7 +31,7 @@ use Rattle.dkg_types.specs.AddressCodes.{AddressFits, Pairs}
 use Rattle.dkg_types.specs.BlockCodes.{BlockFits, ContextFits, FlaggedFits, block_bytes}
 use Rattle.dkg_types.specs.FinalizationCodes.{FinalizationFits}
 use Rattle.dkg_types.specs.InfoCodes.{InfoFits, has_peers, peers_of}
-use Rattle.dkg_types.specs.NextInfos.{Provided, info_by, next_info}
+use Rattle.dkg_types.specs.NextInfos.{Provided, info_by, info_with, next_info, oneshot_info}
 use Rattle.dkg_types.specs.ParticipantsCodes.{ParticipantsFit}
 
 -- ---- participants and messages
@@ -127,6 +128,18 @@ pub next_within : {Dir : Type 0} (matches : Dir → List ℕ → Bool) (most ver
     → InfoWithin matches most version (next_info outcome_of provided i round logs)
 unfolding next_info
 next_within matches most version outcome_of provided i round logs old new players next_players peers = within_by matches most version provided i (outcome_of round logs) old new players next_players peers
+
+oneshot_by : {Dir : Type 0} (matches : Dir → List ℕ → Bool) (most version : ℕ) (directory : List ℕ → Dir) (participants : List ℕ) (output : Option Output) → FlaggedFits (OutputWithin most version) output → length participants ≤ most
+    → ((peers : List ℕ) → matches (directory peers) peers ≡ true) → IfSome (option_map (λ o. info_with directory Success 0 o participants []) output) (InfoWithin matches most version)
+oneshot_by matches most version directory participants None output players peers = tt
+oneshot_by matches most version directory participants (Some o) output players peers = record { output = output; players = players; next_players = omega arith; peers = peers (peers_of o.players participants []) }
+
+-- So does the info that a one-shot ceremony ends in, where the outcome and the participants do.
+pub oneshot_within : {Dir : Type 0} (matches : Dir → List ℕ → Bool) (most version : ℕ) (outcome_of : Round → LogMap → Option Output) (directory : List ℕ → Dir) (participants : List ℕ) (round : Round) (logs : LogMap)
+    → FlaggedFits (OutputWithin most version) (outcome_of round logs) → length participants ≤ most → ((peers : List ℕ) → matches (directory peers) peers ≡ true)
+    → IfSome (oneshot_info outcome_of directory participants round logs) (InfoWithin matches most version)
+unfolding oneshot_info
+oneshot_within matches most version outcome_of directory participants round logs output players peers = oneshot_by matches most version directory participants (outcome_of round logs) output players peers
 
 pub finalization_fits : (f : Finalization) → f.epoch < 2 ^ 64 → f.view < 2 ^ 64 → f.parent_view < 2 ^ 64 → length f.payload ≡ 32 → length f.certificate ≡ 8 → FinalizationFits f
 finalization_fits f epoch view parent_view payload certificate = record { one = epoch; other = record { one = view; other = record { one = parent_view; other = record { one = payload; other = certificate } } } }
