@@ -1,5 +1,5 @@
 -- What the calls of a secret store may do, from what they did.
-use Rattle.std.proofs.Common.{◌≡◌, inl, inr, ℕ, nat_le, [], ◌∷◌, cond, Option, None, refl, sym, subst, ◌∙◌, ap}
+use Rattle.std.proofs.Common.{◌≡◌, inl, inr, ℕ, nat_le, cond, Option, None, sym, subst, ◌∙◌, ap}
 use Rattle.std.specs.FinMap.{get, get-retain_keys, nat_cmp-IsAntisymmetric}
 use Rattle.dkg_store.specs.Keys.{StaysOrGoes}
 use Rattle.dkg_store.specs.Secrets.{Secrets, Tries, after}

@@ -1,6 +1,6 @@
 -- The changing calls, the cuts and the crashes that a secret store in memory has had.
 use Rattle.std.proofs.Common.{subst}
-use Rattle.std.specs.Prelude.{◌≡◌, ◌⊎◌, ℕ, List, [], ◌∷◌, ◌++◌, refl}
+use Rattle.std.specs.Prelude.{◌≡◌, ◌⊎◌, List, [], ◌∷◌, ◌++◌, refl}
 use Rattle.dkg_journal.specs.DeviceCall.{DeviceCall, Makes, CutIn, Crashes}
 use Rattle.dkg_store.specs.Cuts.{after_cut}
 use Rattle.dkg_store.specs.Secrets.{Secrets, Tries}
