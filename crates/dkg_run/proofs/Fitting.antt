@@ -61,5 +61,5 @@ names_none reader files held image its answered old new (inl none) found fit her
 names_none reader files held image its answered old new (inr told) found fit here = rw told.0 (by_its its found)
   where
     by_its : (f : Fault) → IsFound reader files held (Faulted f) → NamesNoRecord f
-    by_its (Corrupt name place) found = uncorrupt reader.limit name place files (fit.whole.each files here) (fit.events files here) found.so.1
+    by_its (Corrupt name place) found = uncorrupt reader.limit name place files (fit.whole.each files here) (fit.events files here) found.so
     by_its _ found = tt

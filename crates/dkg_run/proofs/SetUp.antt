@@ -1,5 +1,5 @@
 -- What setting a node up tells, and what it leaves of the recorded dealings.
-use Rattle.std.proofs.Common.{◌≡◌, ◌⊎◌, inl, inr, ℕ, ◌<◌, ◌^◌, Bool, true, false, cond, List, [], ◌∷◌, ◌++◌, Option, Some, None, Result, Ok, Err, refl, sym, ap, subst, ◌∙◌, append_assoc, append-nil, nat_le, nat_lt, ◌&&◌, ◌==◌, filter, arith, IsTrue, ◌↔◌, Contains}
+use Rattle.std.proofs.Common.{◌≡◌, ◌⊎◌, inl, inr, ℕ, ◌<◌, ◌≤◌, ◌^◌, Bool, true, false, cond, List, [], ◌∷◌, ◌++◌, Option, Some, None, Result, Ok, Err, refl, sym, ap, subst, ◌∙◌, append_assoc, append-nil, nat_le, nat_lt, ◌&&◌, ◌==◌, filter, arith, IsTrue, ◌↔◌, Contains}
 use Rattle.std.specs.Prelude.{OnOk, OnErr, IfSome, if◌then◌else◌, is_some, not}
 use Rattle.dkg_values.specs.Rising.{has_key}
 use Rattle.dkg_values.specs.RisingLaws.{has_key-from, has_key-to}
@@ -71,12 +71,12 @@ keeps_least m least low = let none : least ≡ 0 = omega (arith, low) in ap (λ 
 
 -- so a prune leaves all that was recorded
 pub holds_pruned : (pairs : Pairs) (image : Files → Type 0) (held : Secrets) → HoldsPruned 0 pairs image held → Holds pairs image held
-holds_pruned pairs image held either = record { whole = either.whole; gives = λ c here. let its = either.gives c here in its.2.1 ∙ keeps_least pairs its.0 its.2.0 }
+holds_pruned pairs image held either = record { whole = either.whole; gives = λ c here. let its = either.gives c here in its.2 ∙ keeps_least pairs its.0 its.1 }
 
 pub logs_pruned : (image next : Files → Type 0) → ((logs : Notes RecordedLog) → Gives logs_in logs image → GivesPruned logs_in 0 logs next)
     → KeepsLogs image next
 logs_pruned image next stays = record {
-  stay = λ logs gives. record { each = λ c here. let its = (stays logs gives).each c here in its.2.1 ∙ keeps_least logs its.0 its.2.0 };
+  stay = λ logs gives. record { each = λ c here. let its = (stays logs gives).each c here in its.2 ∙ keeps_least logs its.0 its.1 };
 }
 
 -- WHAT PASSED THE CHECKS

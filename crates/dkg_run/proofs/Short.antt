@@ -13,7 +13,7 @@ use Rattle.dkg_values.specs.ListGrammar.{public_size}
 public_short : (public : List ℕ) → length public ≤ 2 ^ 30 → length (public_spelling public) ≤ 10 + 2 * 2 ^ 30
 public_short public few = omega (arith, uint_short (length public), public_size public (length (uint (length public))) (length public) refl refl)
 
-pub event_short : (dealer : ℕ) (public : List ℕ) → length public ≤ 2 ^ 30 → 8 + length (event_spelling (events.Dealing dealer public)) < 2 ^ 32
+pub event_short : (dealer : ℕ) (public : List ℕ) → length public ≤ 2 ^ 30 → length (event_spelling (events.Dealing dealer public)) < 2 ^ 32
 event_short dealer public few = omega (arith, public_short public few, length-append (to_be_bytes w32 dealer) (public_spelling public))
 
 -- a dealing that was read under a limit is within it as an event

@@ -37,10 +37,10 @@ loop-i-init g c = record {
   later_secrets = omega arith;
 }
 
-pub run_life-requires-clause-events : goal.run_life-requires-clause-events
-run_life-requires-clause-events g c =
+pub run_life-requires : goal.run_life-requires
+run_life-requires g c =
     let life_is : slice_get c.args.script.now.lives c.loop-i.i ≡ Some c.life-item.result = rw (← c.as_slice-life-items.ensures) (at_item _ _ _ c.loop-i-test.true c.life-item.is) in
-    events_here c.args.script.now c.life-item.result c.loop-i.i c.in_ok-beginning.beginning.blocks.items c.requires.form life_is c.in_ok-beginning.ensures.all
+    record { events = events_here c.args.script.now c.life-item.result c.loop-i.i c.in_ok-beginning.beginning.blocks.items c.requires.form life_is c.in_ok-beginning.ensures.all }
 
 -- A FAULT ENDS A LIFE
 

@@ -1,5 +1,5 @@
 use Rattle.dkg_run.proofs.Empty.{empty_fresh}
 use Rattle.dkg_run.proofs.memory.fresh_devices.Goals as goal
 
-pub returns-clause-fresh : goal.returns-clause-fresh
-returns-clause-fresh c = empty_fresh _ _ c.new.ensures.files
+pub returns : goal.returns
+returns c = record { fresh = empty_fresh _ _ c.new.ensures.files }
