@@ -1,11 +1,9 @@
 -- Calls that put or take away whole files, one behind the other.
-use Rattle.std.proofs.Common.{◌≡◌, ◌≢◌, ◌⊎◌, inl, inr, ⊎_elim, ℕ, zero, suc, ◌+◌, ◌<◌, length, take, drop, get_or, arith, take-append-drop, List, [], ◌∷◌, ◌++◌, Option, Some, None, refl, sym, ◌∙◌, ap, subst, append_assoc}
+use Rattle.std.proofs.Common.{◌≡◌, ◌⊎◌, inl, inr, ⊎_elim, ℕ, zero, suc, ◌+◌, ◌<◌, length, take, drop, get_or, arith, take-append-drop, List, [], ◌∷◌, ◌++◌, Some, None, refl, sym, ◌∙◌, ap, subst, append_assoc}
 use Rattle.std.proofs.lemmas.List.{take_more, drop_more}
-use Rattle.std.specs.List.{AllByRecursion}
 use Rattle.std.specs.FinMap.{get, insert, remove}
-use Rattle.dkg_values.specs.declared.name.Name.{Name}
 use Rattle.dkg_journal.specs.Names.{Files}
-use Rattle.dkg_journal.specs.Disk.{Allowed, Did, Follows, Inside, IsUnchanged, Lands, SameElse, after}
+use Rattle.dkg_journal.specs.Disk.{Allowed, Did, Follows, Inside, IsUnchanged, Lands, after}
 use Rattle.dkg_journal.specs.Wholes.{Amid, AreOfWhole, Becomes, IsOfWhole, after_all}
 use Rattle.dkg_journal.specs.declared.disk.Op.{Op}
 use Rattle.dkg_journal.specs.declared.disk.Op.TheVariants.{WriteAt, Sync, Barrier, Install, Remove}

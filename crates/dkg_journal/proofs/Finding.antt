@@ -1,22 +1,22 @@
 -- What is found of a journal's segments, one behind the other.
-use Rattle.std.proofs.Common.{◌≡◌, ◌≢◌, ◌⊎◌, inl, inr, ⊎_elim, ℕ, suc, ◌+◌, ◌<◌, ◌≤◌, Bool, true, false, cond, List, [], ◌∷◌, ◌++◌, map, length, drop, get_or, Option, Some, None, Result, Err, refl, sym, ◌∙◌, ap, subst, arith, append_assoc}
-use Rattle.std.specs.Prelude.{T, flat_map, filter, option_map}
-use Rattle.std.specs.Ordering.{eq_by_cmp, nat_cmp, is_eq}
+use Rattle.std.proofs.Common.{◌≡◌, ◌⊎◌, ⊎_elim, ℕ, ◌<◌, ◌≤◌, Bool, true, false, cond, List, [], ◌∷◌, ◌++◌, map, length, drop, get_or, Option, Some, None, Result, Err, refl, sym, ◌∙◌, ap, subst, arith, append_assoc}
+use Rattle.std.specs.Prelude.{T, flat_map, filter}
+use Rattle.std.specs.Ordering.{eq_by_cmp, nat_cmp}
 use Rattle.std.specs.Cmp.{nat_cmp_total}
 use Rattle.std.specs.FinMap as map_of
 use Rattle.std.specs.FinMap.{get, find, keys, insert, empty, get-entries, get-insert, get-empty, entries_sorted, get-from_entries, from_entries, from_sorted, entries-from_sorted, get-from_sorted, same_map, nat_cmp-IsAntisymmetric}
 use Rattle.std.specs.FinMap.Entries.{is_sorted, find-append}
-use Rattle.std.proofs.lemmas.List.{append-nil, drop_more}
+use Rattle.std.proofs.lemmas.List.{append-nil}
 use Rattle.std.proofs.lemmas.Option.{same_Some, none-some}
 use Rattle.dkg_values.specs.declared.name.Name.{Name}
 use Rattle.dkg_values.specs.declared.name.Name.TheVariants.{Plan, Flat, Segment}
 use Rattle.dkg_journal.specs.Names.{Files, name_cmp, name_number}
 use Rattle.dkg_journal.specs.Disk.{IsUnchanged}
-use Rattle.dkg_journal.specs.Records.{Entry, Ends, Whole, bodies, broken_at, left_over}
+use Rattle.dkg_journal.specs.Records.{Whole, broken_at}
 use Rattle.dkg_journal.specs.Gated.{gated, gated_from}
 use Rattle.dkg_journal.specs.Places.{Places, place_at, joined}
 use Rattle.dkg_journal.specs.Found.{EndsAt, Finds, IsWholeFlat, Takes, gated_row}
-use Rattle.dkg_journal.specs.Opening.{broken, broken_rows, broken_with, first_place, mend_at, mend_of, mends, open_calls, open_calls_with, removes, is_unnamed}
+use Rattle.dkg_journal.specs.Opening.{broken, broken_rows, broken_with, first_place, mend_at, mend_of, mends, open_calls_with, removes, is_unnamed}
 use Rattle.dkg_journal.specs.Segments.{Segments, parted, segment_rows, segments, segments_with}
 use Rattle.dkg_journal.specs.declared.call.JournalError.{JournalError}
 use Rattle.dkg_journal.specs.declared.call.JournalError.TheVariants.{Corrupt, NoMemory}

@@ -3,6 +3,7 @@ use Rattle.std.proofs.Common.{◌≡◌, inl, inr, ⊎_elim, ℕ, zero, suc, ◌
 use Rattle.std.proofs.lemmas.Bool.{cases_lt}
 use Rattle.std.proofs.lemmas.Bool.Decides.{nat_tests}
 use Rattle.dkg_journal.specs.Burn.{Burn}
+use Rattle.dkg_journal.specs.DeviceCall.{DeviceCall}
 use Rattle.dkg_journal.specs.Fuse.{counted, spent_once, burned, burnt, Reached, SpentUpTo, Fused, Ran, RanAll}
 
 counted_low : (n : ℕ) → n ≤ counted n
@@ -133,10 +134,10 @@ pub burned_burnt : {O : Type 0} (calls : List O) (f : Burn) → burned calls f �
 burned_burnt [] f = refl
 burned_burnt (c ∷ cs) f = burned_burnt cs (spent_once f)
 
-pub all_burnt : {D O : Type 0} (made : D → D → List O → Type 0) (a b : D) (f g : Burn) (calls : List O) (n : ℕ) → length calls ≡ n → RanAll made a b f g calls → g ≡ burnt n f
+pub all_burnt : {D O : Type 0} (made : D → D → List (DeviceCall O) → Type 0) (a b : D) (f g : Burn) (calls : List O) (n : ℕ) → length calls ≡ n → RanAll made a b f g calls → g ≡ burnt n f
 all_burnt made a b f g calls n size all = all.fuse ∙ burned_burnt calls f ∙ ap (λ (k : ℕ). burnt k f) size
 
-pub ran_spent : {D O : Type 0} (made : D → D → List O → Type 0) (a b : D) (f g : Burn) (calls : List O) (n : ℕ) → length calls ≡ n → Ran made a b f g calls → SpentUpTo n f g
+pub ran_spent : {D O : Type 0} (made : D → D → List (DeviceCall O) → Type 0) (a b : D) (f g : Burn) (calls : List O) (n : ℕ) → length calls ≡ n → Ran made a b f g calls → SpentUpTo n f g
 ran_spent made a b f g calls n size ran = record {
   calls = length ran.first;
   few = omega (arith, size, ap length ran.whole, length-append ran.first ran.rest);

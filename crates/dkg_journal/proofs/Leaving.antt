@@ -1,5 +1,5 @@
 -- What a prune leaves.
-use Rattle.std.proofs.Common.{◌≡◌, ◌≢◌, ◌⊎◌, inl, inr, ⊎_elim, ℕ, zero, suc, ◌+◌, ◌<◌, ◌≤◌, ◌==◌, nat_le, nat_lt, Bool, true, false, cond, not, List, [], ◌∷◌, ◌++◌, map, length, Option, Some, None, is_some, refl, sym, ◌∙◌, ap, subst, arith}
+use Rattle.std.proofs.Common.{◌≡◌, ◌≢◌, inl, inr, ⊎_elim, ℕ, zero, suc, ◌+◌, ◌<◌, ◌≤◌, ◌==◌, nat_le, nat_lt, Bool, true, false, cond, List, [], ◌∷◌, map, length, Option, Some, None, is_some, refl, sym, ◌∙◌, ap, subst, arith}
 use Rattle.std.specs.Prelude.{T, ◌&&◌, ◌||◌, filter, flat_map}
 use Rattle.std.specs.List.{list_any}
 use Rattle.std.specs.Ordering.{eq_by_cmp, nat_cmp, is_eq, is_lt}
@@ -13,12 +13,12 @@ use Rattle.std.proofs.lemmas.Option.{none-some}
 use Rattle.dkg_values.specs.declared.name.Name.{Name}
 use Rattle.dkg_values.specs.declared.name.Name.TheVariants.{Plan, Flat, Segment}
 use Rattle.dkg_journal.specs.Burn.{Burn}
-use Rattle.dkg_journal.specs.Names.{Files, name_cmp}
+use Rattle.dkg_journal.specs.DeviceCall.{DeviceCall}
+use Rattle.dkg_journal.specs.Names.{Files}
 use Rattle.dkg_journal.specs.Disk.{Follows, Lands}
 use Rattle.dkg_journal.specs.Fuse.{Ran, RanAll}
-use Rattle.dkg_journal.specs.Records.{entries, from_section}
 use Rattle.dkg_journal.specs.Opening.{AreUnbroken, removes}
-use Rattle.dkg_journal.specs.Operations.{Prunes, Tries, Tried, Finished, after_operation, calls_of, journaled}
+use Rattle.dkg_journal.specs.Operations.{Prunes, Tried, Finished, after_operation, calls_of, journaled}
 use Rattle.dkg_journal.specs.Places.{Places, joined, place_at, remove_of, removes_below}
 use Rattle.dkg_journal.specs.Pruning.{Leaves, MayLeave, is_below, prune_calls}
 use Rattle.dkg_journal.specs.Segments.{segment_rows}
@@ -33,7 +33,6 @@ use Rattle.dkg_journal.proofs.Fuses.{all_burnt, ran_spent}
 use Rattle.dkg_journal.proofs.Journals.{leaves_names}
 use Rattle.dkg_journal.proofs.OpenNames.{at_some}
 use Rattle.dkg_journal.proofs.Rising.{both_are, both_true}
-use Rattle.dkg_journal.proofs.SameFiles.{same_name}
 use Rattle.dkg_journal.proofs.Sections.{entries_from}
 use Rattle.dkg_journal.proofs.Standing.{stands_for}
 use Rattle.dkg_journal.proofs.Unbroken.{file_rows_sorted, open_unbroken_images, rows_find, unbroken_by, whole_at}
@@ -381,7 +380,7 @@ module _ (min : ℕ) (places : Places) (files : Files) (image : Files → Type 0
       size : length (prune_calls min (keys files)) ≡ calls_of (Prunes min) (journaled files)
       size = length-map (filter (is_below min) (keys files)) (λ name. Remove name)
 
-      pub prune_tried : {D : Type 0} (made : D → D → List Op → Type 0) (a b : D) (f h : Burn) → Follows (Amid (prune_calls min (keys files))) image next → Ran made a b f h (prune_calls min (keys files)) → Tried (Prunes min) files next f h
+      pub prune_tried : {D : Type 0} (made : D → D → List (DeviceCall Op) → Type 0) (a b : D) (f h : Burn) → Follows (Amid (prune_calls min (keys files))) image next → Ran made a b f h (prune_calls min (keys files)) → Tried (Prunes min) files next f h
       prune_tried made a b f h step ran = record {
         each = λ c now.
             let from = step.each c now in
@@ -390,7 +389,7 @@ module _ (min : ℕ) (places : Places) (files : Files) (image : Files → Type 0
         spent = ran_spent made a b f h (prune_calls min (keys files)) (calls_of (Prunes min) (journaled files)) size ran;
       }
 
-      pub prune_finished : {D : Type 0} (made : D → D → List Op → Type 0) (a b : D) (f h : Burn) (new : Files) → image files → Follows (Becomes (prune_calls min (keys files))) image next → new ≡ after_all (prune_calls min (keys files)) files → RanAll made a b f h (prune_calls min (keys files)) → Finished (Prunes min) files new next f h
+      pub prune_finished : {D : Type 0} (made : D → D → List (DeviceCall Op) → Type 0) (a b : D) (f h : Burn) (new : Files) → image files → Follows (Becomes (prune_calls min (keys files))) image next → new ≡ after_all (prune_calls min (keys files)) files → RanAll made a b f h (prune_calls min (keys files)) → Finished (Prunes min) files new next f h
       prune_finished made a b f h new here step is all = record {
         after = standing min new (does files new here is);
         settled = becomes_lands (prune_calls min (keys files)) files new image next lands step is;

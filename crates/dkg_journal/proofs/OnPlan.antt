@@ -1,6 +1,6 @@
 -- What the calls of the one-key record leave.
-use Rattle.std.proofs.Common.{◌≡◌, ◌≢◌, ◌⊎◌, inl, inr, ⊎_elim, ℕ, ◌&&◌, ◌||◌, Bool, true, false, cond, not, List, [], ◌∷◌, ◌++◌, length, Option, Some, None, Result, Ok, Err, refl, sym, ◌∙◌, ap, subst, arith}
-use Rattle.std.specs.Prelude.{flat_map, OnOk}
+use Rattle.std.proofs.Common.{◌≡◌, ◌≢◌, inl, inr, ⊎_elim, ℕ, Bool, false, cond, not, List, [], ◌∷◌, ◌++◌, Option, Some, None, refl, sym, ◌∙◌, ap, subst, arith}
+use Rattle.std.specs.Prelude.{flat_map}
 use Rattle.std.specs.Option.{is_some}
 use Rattle.std.specs.Ordering.{eq_by_cmp}
 use Rattle.std.specs.declared.cmp.Ordering.TheVariants.{Equal}
@@ -10,18 +10,19 @@ use Rattle.std.specs.FinMap.Entries.{where_key, is_sorted-where_key, find-where_
 use Rattle.dkg_values.specs.declared.name.Name.{Name}
 use Rattle.dkg_values.specs.declared.name.Name.TheVariants.{Plan, Flat, Segment}
 use Rattle.dkg_journal.specs.Burn.{Burn}
+use Rattle.dkg_journal.specs.DeviceCall.{DeviceCall}
 use Rattle.dkg_journal.specs.Names.{Files, name_cmp, name_number}
-use Rattle.dkg_journal.specs.Disk.{SameElse, HasFile, Follows, Inside, Did, Lands}
-use Rattle.dkg_journal.specs.Fuse.{RanAll, Fused}
+use Rattle.dkg_journal.specs.Disk.{SameElse, Follows, Inside, Did, Lands}
+use Rattle.dkg_journal.specs.Fuse.{RanAll}
 use Rattle.dkg_journal.specs.Records.{Entry, entries, entries_with, segment_entries}
-use Rattle.dkg_journal.specs.Operations.{journaled, with_name, without_name, Operation, PutsPlan, ClearsPlan, after_operation, calls_of, Tries, Tried, Finished}
+use Rattle.dkg_journal.specs.Operations.{journaled, PutsPlan, ClearsPlan, after_operation, calls_of, Tried, Finished}
 use Rattle.dkg_journal.specs.declared.disk.Op.{Op}
 use Rattle.dkg_journal.specs.declared.disk.Op.TheVariants.{Install, Remove}
 use Rattle.dkg_journal.proofs.Steps.{names_total, exact_names, get_here, weaken, ran_all}
 use Rattle.dkg_journal.proofs.AtOnce.{gone_here}
 use Rattle.dkg_journal.proofs.Fuses.{all_burnt, ran_spent}
 use Rattle.dkg_journal.proofs.SameFiles.{same_files, same_name, name_itself, name_apart, named, unnamed}
-use Rattle.dkg_journal.proofs.Standing.{is_there, stands_for}
+use Rattle.dkg_journal.proofs.Standing.{stands_for}
 
 flat_not_plan : Flat ≢ Plan
 flat_not_plan e = absurd (omega (arith, ap name_number e))
@@ -75,7 +76,7 @@ pub cleared_standing : (old c : Files) → SameElse Plan old c → get c Plan �
 cleared_standing old c others is = stands_for c (after_operation ClearsPlan (journaled old)) (plan_entries old c others) is (unnamed Plan old c others is)
 
 -- one call, whatever it answered
-pub tried_put : {D : Type 0} (made : D → D → List Op → Type 0) (a b : D) (f g : Burn) (bytes : List ℕ) (old : Files) (image next : Files → Type 0) → Lands old image → Follows (Inside (Install Plan bytes)) image next → RanAll made a b f g (Install Plan bytes ∷ []) → Tried (PutsPlan bytes) old next f g
+pub tried_put : {D : Type 0} (made : D → D → List (DeviceCall Op) → Type 0) (a b : D) (f g : Burn) (bytes : List ℕ) (old : Files) (image next : Files → Type 0) → Lands old image → Follows (Inside (Install Plan bytes)) image next → RanAll made a b f g (Install Plan bytes ∷ []) → Tried (PutsPlan bytes) old next f g
 tried_put made a b f g bytes old image next lands step all = record {
   each = λ c now.
       let from = step.each c now in
@@ -88,7 +89,7 @@ tried_put made a b f g bytes old image next lands step all = record {
   spent = ran_spent made a b f g (Install Plan bytes ∷ []) (calls_of (PutsPlan bytes) (journaled old)) refl (ran_all made a b f g (Install Plan bytes ∷ []) all);
 }
 
-pub tried_clear : {D : Type 0} (made : D → D → List Op → Type 0) (a b : D) (f g : Burn) (old : Files) (image next : Files → Type 0) → Lands old image → Follows (Inside (Remove Plan)) image next → RanAll made a b f g (Remove Plan ∷ []) → Tried ClearsPlan old next f g
+pub tried_clear : {D : Type 0} (made : D → D → List (DeviceCall Op) → Type 0) (a b : D) (f g : Burn) (old : Files) (image next : Files → Type 0) → Lands old image → Follows (Inside (Remove Plan)) image next → RanAll made a b f g (Remove Plan ∷ []) → Tried ClearsPlan old next f g
 tried_clear made a b f g old image next lands step all = record {
   each = λ c now.
       let from = step.each c now in
@@ -127,7 +128,7 @@ put_read bytes old new next did = ap (λ (f : Files). get f Plan) did.reads ∙ 
 pub clear_read : (old new : Files) (next : Files → Type 0) → Did (Remove Plan) old new next → get new Plan ≡ None
 clear_read old new next did = ap (λ (f : Files). get f Plan) did.reads ∙ gone_here old Plan
 
-pub finished_put : {D : Type 0} (made : D → D → List Op → Type 0) (a b : D) (f g : Burn) (bytes : List ℕ) (old new : Files) (image next : Files → Type 0) → Lands old image → Follows (Inside (Install Plan bytes)) image next → Did (Install Plan bytes) old new next → next new → RanAll made a b f g (Install Plan bytes ∷ []) → Finished (PutsPlan bytes) old new next f g
+pub finished_put : {D : Type 0} (made : D → D → List (DeviceCall Op) → Type 0) (a b : D) (f g : Burn) (bytes : List ℕ) (old new : Files) (image next : Files → Type 0) → Lands old image → Follows (Inside (Install Plan bytes)) image next → Did (Install Plan bytes) old new next → next new → RanAll made a b f g (Install Plan bytes ∷ []) → Finished (PutsPlan bytes) old new next f g
 finished_put made a b f g bytes old new image next lands step did now all =
     let back = step.each new now in
     let rest : SameElse Plan old new = subst (λ (d : Files). SameElse Plan d new) (lands.only back.0 back.1) back.2.0 in
@@ -138,7 +139,7 @@ finished_put made a b f g bytes old new image next lands step did now all =
       spent = all_burnt made a b f g (Install Plan bytes ∷ []) (calls_of (PutsPlan bytes) (journaled old)) refl all;
     }
 
-pub finished_clear : {D : Type 0} (made : D → D → List Op → Type 0) (a b : D) (f g : Burn) (old new : Files) (image next : Files → Type 0) → Lands old image → Follows (Inside (Remove Plan)) image next → Did (Remove Plan) old new next → next new → RanAll made a b f g (Remove Plan ∷ []) → Finished ClearsPlan old new next f g
+pub finished_clear : {D : Type 0} (made : D → D → List (DeviceCall Op) → Type 0) (a b : D) (f g : Burn) (old new : Files) (image next : Files → Type 0) → Lands old image → Follows (Inside (Remove Plan)) image next → Did (Remove Plan) old new next → next new → RanAll made a b f g (Remove Plan ∷ []) → Finished ClearsPlan old new next f g
 finished_clear made a b f g old new image next lands step did now all =
     let back = step.each new now in
     let rest : SameElse Plan old new = subst (λ (d : Files). SameElse Plan d new) (lands.only back.0 back.1) back.2.0 in

@@ -13,8 +13,8 @@ use Rattle.dkg_journal.specs.Names.{Files, name_cmp, name_number, name_at, name_
 use Rattle.dkg_journal.specs.Disk.{Inside, Follows, Did, HasFile, Torn, Lands as Left, after_write}
 use Rattle.dkg_journal.specs.Kept.{Kept, FileImage, settled, wrote}
 use Rattle.dkg_journal.specs.Table.{Rows, file_at, IsUpdate, made_sure, Lands, row_bytes, contents, bytes_of, get_contents, matches, MatchFile, RowsImage, reads_image}
-use Rattle.dkg_values.specs.declared.name.Name.TheVariants.{Segment}
 use Rattle.dkg_journal.specs.Fuse.{counted}
+use Rattle.dkg_journal.specs.DeviceCall.{Makes}
 use Rattle.dkg_journal.specs.Made.{Made, made_one, made_nothing}
 use Rattle.dkg_journal.specs.declared.sure.SureDisk.{SureDisk}
 use Rattle.dkg_journal.specs.declared.disk.Op.{Op}
@@ -266,11 +266,11 @@ listed_names rows names sorted is =
 pub failed_inside : (op : Op) (old mid new : SureDisk) → mid ≡ old → new.files ≡ mid.files → Follows (Inside op) (RowsImage old.files) (RowsImage new.files)
 failed_inside op old mid new same kept = same_inside op old.files new.files (kept ∙ ap (λ (d : SureDisk). d.files) same)
 
-pub failed_made : (op : Op) (old mid new : SureDisk) → mid ≡ old → new.files ≡ mid.files → new.changes ≡ counted mid.changes → Made (op ∷ []) old.changes new.changes (RowsImage old.files) (RowsImage new.files)
-failed_made op old mid new same kept count = made_one op old.changes new.changes (RowsImage old.files) (RowsImage new.files) (count ∙ ap (λ (d : SureDisk). counted d.changes) same) (failed_inside op old mid new same kept)
+pub failed_made : (op : Op) (old mid new : SureDisk) → mid ≡ old → new.files ≡ mid.files → new.changes ≡ counted mid.changes → Made (Makes op ∷ []) old.changes new.changes old.files new.files
+failed_made op old mid new same kept count = made_one op old.changes new.changes old.files new.files (count ∙ ap (λ (d : SureDisk). counted d.changes) same) (failed_inside op old mid new same kept)
 
-pub unmade : (old new : SureDisk) → new ≡ old → Made [] old.changes new.changes (RowsImage old.files) (RowsImage new.files)
-unmade old new same = subst (λ (d : SureDisk). Made [] old.changes d.changes (RowsImage old.files) (RowsImage d.files)) (sym same) (made_nothing old.changes (RowsImage old.files))
+pub unmade : (old new : SureDisk) → new ≡ old → Made [] old.changes new.changes old.files new.files
+unmade old new same = subst (λ (d : SureDisk). Made [] old.changes d.changes old.files d.files) (sym same) (made_nothing old.changes old.files)
 
 -- a disk without files
 pub bare_lands : (rows : Rows) → rows ≡ [] → Left (contents rows) (RowsImage rows)

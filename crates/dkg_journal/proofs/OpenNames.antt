@@ -1,18 +1,15 @@
 -- The names of a journal's files behind an opening.
-use Rattle.std.proofs.Common.{◌≡◌, ◌≢◌, ◌⊎◌, inl, inr, ℕ, suc, ◌+◌, ◌<◌, ◌==◌, Bool, true, false, cond, List, [], ◌∷◌, ◌++◌, map, fold, length, Option, Some, None, is_some, refl, sym, ◌∙◌, ap, subst, arith}
+use Rattle.std.proofs.Common.{◌≡◌, ◌≢◌, inl, inr, ℕ, ◌==◌, Bool, true, false, cond, List, [], ◌∷◌, fold, Option, Some, None, is_some, refl, sym, ◌∙◌, ap, arith}
 use Rattle.std.specs.Prelude.{◌||◌, ◌&&◌, filter}
 use Rattle.std.specs.List.{list_any}
 use Rattle.std.specs.FinMap.{get, insert, keys, retain_keys, get-retain_keys}
 use Rattle.std.proofs.lemmas.Bool.{cases_eq}
-use Rattle.std.proofs.lemmas.Bool.Decides.{nat_tests}
-use Rattle.std.proofs.lemmas.Option.{none-some}
 use Rattle.std.specs.declared.cmp.Ordering.TheVariants.{Equal}
 use Rattle.dkg_values.specs.declared.name.Name.{Name}
 use Rattle.dkg_values.specs.declared.name.Name.TheVariants.{Plan, Flat, Segment}
 use Rattle.dkg_journal.specs.Names.{Files, name_cmp, name_number}
-use Rattle.dkg_journal.specs.Disk.{Lands}
 use Rattle.dkg_journal.specs.Found.{EndsAt, Finds, IsWholeFlat}
-use Rattle.dkg_journal.specs.Operations.{has_name, is_plan, opened_names, with_segments}
+use Rattle.dkg_journal.specs.Operations.{is_plan, opened_names, with_segments}
 use Rattle.dkg_journal.specs.Places.{Places, place_at}
 use Rattle.dkg_journal.specs.Records.{Entry, entries}
 use Rattle.dkg_journal.specs.Segments.{Segments, parted, segments}

@@ -1,43 +1,43 @@
 -- What the calls of an opening make of a disk's files.
-use Rattle.std.proofs.Common.{◌≡◌, ◌≢◌, ◌⊎◌, inl, inr, ⊎_elim, ℕ, suc, ◌+◌, ◌<◌, ◌≤◌, Bool, true, false, cond, List, [], ◌∷◌, ◌++◌, map, length, Option, Some, None, is_some, refl, sym, ◌∙◌, ap, subst, arith}
-use Rattle.std.specs.Prelude.{T, ◌&&◌, ◌||◌, filter, flat_map, not}
+use Rattle.std.proofs.Common.{◌≡◌, ◌≢◌, ◌⊎◌, inl, inr, ⊎_elim, ℕ, ◌<◌, ◌≤◌, Bool, true, false, cond, List, [], ◌∷◌, ◌++◌, length, Option, Some, None, is_some, refl, sym, ◌∙◌, ap, subst, arith}
+use Rattle.std.specs.Prelude.{T, ◌||◌, filter, not}
 use Rattle.std.specs.List.{list_any}
 use Rattle.std.specs.Ordering.{eq_by_cmp, nat_cmp, is_eq}
 use Rattle.std.specs.FinMap as map_of
 use Rattle.std.specs.FinMap.{get, find, keys, insert, remove, get-entries, entries_sorted, contains_key-keys, get-from_entries}
 use Rattle.std.specs.FinMap.Entries.{is_sorted, below_all}
 use Rattle.std.specs.Cmp.{nat_cmp_total}
-use Rattle.std.proofs.lemmas.Bool.{cases_eq, cases_lt}
+use Rattle.std.proofs.lemmas.Bool.{cases_eq}
 use Rattle.std.proofs.lemmas.Bool.Decides.{nat_tests}
 use Rattle.std.proofs.lemmas.List.{nil_from_length}
 use Rattle.std.proofs.lemmas.Option.{same_Some, none-some}
 use Rattle.dkg_values.specs.declared.name.Name.{Name}
 use Rattle.dkg_values.specs.declared.name.Name.TheVariants.{Plan, Flat, Segment}
 use Rattle.dkg_journal.specs.Names.{Files, name_cmp, name_number}
-use Rattle.dkg_journal.specs.Disk.{Follows, IsUnchanged, Lands, SameElse, after}
-use Rattle.dkg_journal.specs.Records.{Entry, Whole, IsShut, bodies, broken_at, left_over, entries, entries_with, flat_entries, in_sections}
+use Rattle.dkg_journal.specs.Disk.{Follows, IsUnchanged, Lands, after}
+use Rattle.dkg_journal.specs.Records.{Whole, IsShut, broken_at, left_over, entries, entries_with, in_sections}
 use Rattle.dkg_journal.specs.Places.{Places, place_at}
 use Rattle.dkg_journal.specs.Found.{EndsAt, Finds, IsWholeFlat}
-use Rattle.dkg_journal.specs.Opening.{AreUnbroken, broken, broken_with, first_place, mend_at, mend_of, mends, open_calls, open_calls_with, removes, is_unnamed}
+use Rattle.dkg_journal.specs.Opening.{AreUnbroken, broken, broken_with, mend_at, mend_of, mends, open_calls, open_calls_with, removes, is_unnamed}
 use Rattle.dkg_journal.specs.Segments.{Segments, parted, segment_rows, segments, segments_with}
 use Rattle.dkg_journal.specs.Steps.{IsOpenAt, IsSegmentAt, Keeps}
 use Rattle.dkg_journal.specs.Gated.{OpensAlike}
 use Rattle.dkg_journal.specs.Operations.{Opens, Tries, after_operation, journaled, opened_names}
-use Rattle.dkg_journal.specs.Wholes.{Amid, AreOfWhole, IsOfWhole, after_all}
+use Rattle.dkg_journal.specs.Wholes.{Amid, AreOfWhole, after_all}
 use Rattle.dkg_journal.specs.declared.opening.JournalEntry.{JournalEntry}
 use Rattle.dkg_journal.specs.declared.disk.Op.{Op}
 use Rattle.dkg_journal.specs.declared.disk.Op.TheVariants.{Install, Remove, WriteAt, Sync, Barrier}
 use Rattle.dkg_journal.proofs.Amid.{after_both, amid_all, amid_split, whole_both}
-use Rattle.dkg_journal.proofs.Append.{bodies_shut, flat_apart, segments_apart, segment_plan, flat_plan}
+use Rattle.dkg_journal.proofs.Append.{bodies_shut, flat_apart, segments_apart, flat_plan}
 use Rattle.dkg_journal.proofs.AtOnce.{get_other, get_gone, gone_here}
 use Rattle.dkg_journal.proofs.Order.{unique}
 use Rattle.dkg_journal.proofs.Parted.{IsPart, of_one, parted_at, part_whole, flat_section, flat_above}
 use Rattle.dkg_journal.proofs.Reading.{mended_shut, gated_shut, whole_bodies, whole_rest, whole_unbroken, rest_size}
 use Rattle.dkg_journal.proofs.Rising.{below_none, both_true}
 use Rattle.dkg_journal.proofs.Sections.{bodies_at, same_entries, entries_section, entries_above, with_section}
-use Rattle.dkg_journal.proofs.SameFiles.{same_name, name_apart, name_itself}
+use Rattle.dkg_journal.proofs.SameFiles.{same_name, name_apart}
 use Rattle.dkg_journal.proofs.Standing.{stands_for}
-use Rattle.dkg_journal.proofs.Steps.{get_here, names_total}
+use Rattle.dkg_journal.proofs.Steps.{get_here}
 use Rattle.dkg_journal.proofs.Unbroken.{unbroken_by, shut_unbroken, rows_find}
 
 -- CALLS AT OTHER NAMES

@@ -1,13 +1,10 @@
 -- Entries whose sections rise: what they are follows from those of each section.
-use Rattle.std.proofs.Common.{◌≡◌, ◌≢◌, inl, inr, ℕ, suc, ◌<◌, ◌≤◌, ◌==◌, ◌&&◌, Bool, true, false, cond, not, nat_lt, List, [], ◌∷◌, ◌++◌, map, fold, length, drop, get_or, refl, sym, ◌∙◌, ap, arith, append_assoc}
+use Rattle.std.proofs.Common.{◌≡◌, ◌≢◌, inl, inr, ℕ, ◌<◌, ◌≤◌, ◌==◌, Bool, true, false, cond, nat_lt, List, [], ◌∷◌, ◌++◌, fold, length, drop, get_or, refl, sym, ◌∙◌, ap, arith, append_assoc}
 use Rattle.std.specs.Prelude.{filter}
-use Rattle.std.specs.Ordering.{nat_cmp, is_lt}
-use Rattle.std.specs.List.Sorted.{IsNonDecreasingBy, IsStableByKey, ties}
 use Rattle.std.proofs.lemmas.List.{append-nil}
 use Rattle.std.proofs.lemmas.Bool.{cases_eq, cases_lt}
 use Rattle.std.proofs.lemmas.Bool.Decides.{nat_tests}
-use Rattle.dkg_journal.specs.Records.{Entry, placed, in_order}
-use Rattle.dkg_journal.specs.declared.opening.JournalEntry.{JournalEntry}
+use Rattle.dkg_journal.specs.Records.{Entry, placed}
 
 abbrev pub of_section : ℕ → List Entry → List Entry
 of_section k es = filter (λ e. e.0 == k) es

@@ -1,17 +1,15 @@
 -- The segments that a flat file is parted into.
-use Rattle.std.proofs.Common.{◌≡◌, ◌≢◌, ◌⊎◌, inl, inr, ℕ, ◌+◌, ◌<◌, ◌≤◌, ◌^◌, ◌==◌, Bool, true, false, cond, List, [], ◌∷◌, ◌++◌, map, fold, length, drop, Option, Some, None, is_some, refl, sym, ◌∙◌, ap, subst, arith, append_assoc, length-append}
-use Rattle.std.specs.Prelude.{filter}
-use Rattle.std.specs.Ordering.{eq_by_cmp, nat_cmp, is_eq}
+use Rattle.std.proofs.Common.{◌≡◌, ℕ, ◌<◌, ◌==◌, Bool, true, false, cond, List, [], ◌∷◌, ◌++◌, map, fold, length, drop, Option, Some, None, refl, sym, ◌∙◌, ap, subst, arith, append_assoc, length-append}
+use Rattle.std.specs.Ordering.{nat_cmp, is_eq}
 use Rattle.std.specs.Cmp.{nat_cmp_total}
 use Rattle.std.specs.FinMap.{get, insert, get-insert, get-empty, empty}
 use Rattle.std.proofs.lemmas.Bool.Decides.{nat_tests}
 use Rattle.std.proofs.lemmas.List.{append-nil, length-drop}
 use Rattle.std.proofs.lemmas.List.Sums.{fold_push}
-use Rattle.dkg_journal.specs.Records.{Entry, Ends, Front, Whole, IsBody, AreBodies, bodies, broken_at, entry_of, in_sections, in_order, read64, record_of, spelled}
+use Rattle.dkg_journal.specs.Records.{Whole, AreBodies, entry_of, in_sections, read64, record_of, spelled}
 use Rattle.dkg_journal.specs.Segments.{Segments, piece, parted, with_record}
-use Rattle.dkg_journal.proofs.Bytes.{spelled-push, short-push}
-use Rattle.dkg_journal.proofs.Order.{of_section, same_section, other_section, of_both, fold_section, fold_above, Above}
-use Rattle.dkg_journal.proofs.Reading.{whole_bodies, whole_unbroken}
+use Rattle.dkg_journal.proofs.Bytes.{spelled-push}
+use Rattle.dkg_journal.proofs.Order.{of_section, fold_section, fold_above, Above}
 use Rattle.dkg_journal.proofs.Sections.{with_section}
 
 -- one record more

@@ -5,7 +5,7 @@ use Rattle.std.proofs.lemmas.List.{get_or_past, length-take-le, get_or-take, app
 use Rattle.std.proofs.lemmas.Nat.{be_bytes_4}
 use Rattle.std.proofs.lemmas.Bool.{cases_lt}
 use Rattle.std.proofs.lemmas.Bool.Decides.{nat_tests}
-use Rattle.dkg_journal.specs.Records.{Entry, number32, read32, record_of, spelled, IsBody, AreBodies, Ends, Stops, Front, Whole, bodies, left_over, open_gate, broken_at, IsShut}
+use Rattle.dkg_journal.specs.Records.{Entry, number32, read32, record_of, spelled, IsBody, Ends, Stops, Front, Whole, bodies, left_over, open_gate, broken_at, IsShut}
 use Rattle.dkg_journal.specs.Gated.{gated, gated_from, FrontGated}
 use Rattle.dkg_journal.specs.declared.opening.JournalEntry.{JournalEntry}
 use Rattle.dkg_journal.proofs.Bytes.{spelled-push, short-push, read_spelled, shut_stops, length-number32, read32-number32}

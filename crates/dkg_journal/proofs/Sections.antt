@@ -1,6 +1,6 @@
 -- The entries of files without a flat one, section by section.
-use Rattle.std.proofs.Common.{◌≡◌, ◌≢◌, ◌⊎◌, inl, inr, ℕ, suc, ◌<◌, ◌≤◌, ◌+◌, ◌==◌, Bool, true, false, cond, nat_le, nat_lt, List, [], ◌∷◌, ◌++◌, map, fold, length, Option, Some, None, refl, sym, ◌∙◌, ap, subst, arith}
-use Rattle.std.specs.Prelude.{filter, flat_map, T, ◌&&◌}
+use Rattle.std.proofs.Common.{◌≡◌, ◌≢◌, inl, inr, ℕ, suc, ◌<◌, ◌≤◌, ◌==◌, Bool, true, false, cond, nat_le, List, [], ◌∷◌, ◌++◌, map, length, Option, Some, None, refl, sym, ◌∙◌, ap, subst, arith}
+use Rattle.std.specs.Prelude.{flat_map, T, ◌&&◌}
 use Rattle.std.specs.Ordering.{eq_by_cmp, nat_cmp, is_eq, is_lt}
 use Rattle.std.specs.Cmp.{nat_cmp_total}
 use Rattle.std.specs.FinMap as map_of
@@ -12,9 +12,9 @@ use Rattle.std.proofs.lemmas.Cmp.{tied_itself}
 use Rattle.std.proofs.lemmas.List.{append-nil}
 use Rattle.dkg_values.specs.declared.name.Name.{Name}
 use Rattle.dkg_values.specs.declared.name.Name.TheVariants.{Plan, Flat, Segment}
-use Rattle.dkg_journal.specs.Names.{Files, name_cmp, name_number}
-use Rattle.dkg_journal.specs.Records.{Entry, bodies, entries, entries_with, segment_entries, placed, in_order, from_section}
-use Rattle.dkg_journal.proofs.Order.{of_section, Above, unique, none_of, of_both, placed_above, placed_section, same_section, other_section}
+use Rattle.dkg_journal.specs.Names.{Files, name_cmp}
+use Rattle.dkg_journal.specs.Records.{Entry, bodies, entries, entries_with, segment_entries, placed, from_section}
+use Rattle.dkg_journal.proofs.Order.{of_section, Above, unique, of_both, placed_above, placed_section, same_section, other_section}
 
 -- the bodies of a file
 abbrev pub bodies_at : Option (List ℕ) → List (List ℕ)

@@ -1,18 +1,19 @@
 -- What files stand for, after each step of an operation.
-use Rattle.std.proofs.Common.{◌≡◌, ◌≢◌, ◌⊎◌, inl, inr, ⊎_elim, ℕ, Bool, true, false, cond, List, length, Option, Some, None, is_some, refl, sym, ◌∙◌, ap, subst, arith}
+use Rattle.std.proofs.Common.{◌≡◌, ◌≢◌, inl, inr, ⊎_elim, ℕ, Bool, true, cond, List, length, Option, Some, None, is_some, refl, sym, ◌∙◌, ap, subst, arith}
 use Rattle.std.specs.FinMap.{get, keys}
 use Rattle.dkg_values.specs.declared.name.Name.{Name}
 use Rattle.dkg_values.specs.declared.name.Name.TheVariants.{Plan, Segment}
 use Rattle.dkg_journal.specs.Burn.{Burn}
+use Rattle.dkg_journal.specs.DeviceCall.{DeviceCall}
 use Rattle.dkg_journal.specs.Names.{Files, name_number}
-use Rattle.dkg_journal.specs.Disk.{SameElse, HasFile, Follows, Inside, Lands, IsUnchanged}
+use Rattle.dkg_journal.specs.Disk.{SameElse, HasFile, Follows, Lands, IsUnchanged}
 use Rattle.dkg_journal.specs.Fuse.{Ran, RanAll}
 use Rattle.dkg_journal.specs.Records.{Entry, entries, placed}
 use Rattle.dkg_journal.specs.Steps.{Firm, IsNext, SegmentAt, KeepsBut, Adds, MayAdd, Into, append_calls_at}
-use Rattle.dkg_journal.specs.Operations.{Journaled, journaled, has_name, with_name, Operation, Appends, after_operation, calls_of, InPart, Tries, Tried, Finished}
+use Rattle.dkg_journal.specs.Operations.{Journaled, journaled, with_name, Operation, Appends, after_operation, calls_of, InPart, Tries, Tried, Finished}
 use Rattle.dkg_journal.specs.declared.disk.Op.{Op}
 use Rattle.dkg_journal.proofs.Steps.{weaken}
-use Rattle.dkg_journal.proofs.SameFiles.{same_files, named, named_same, has_key}
+use Rattle.dkg_journal.proofs.SameFiles.{same_files, named, has_key}
 use Rattle.dkg_journal.proofs.Fuses.{all_burnt, ran_spent, none_spent}
 
 pub plan_apart : (section : ℕ) → Plan ≢ Segment section
@@ -83,10 +84,10 @@ pub append_size : (place : Option ℕ) (e : Entry) (old : Files) (image : Files 
 append_size (Some p) e old image at = sym (ap (λ (b : Bool). cond b 4 5) (has_key old (Segment e.0) ∙ ap is_some at.at.2))
 append_size None e old image at = sym (ap (λ (b : Bool). cond b 4 5) (has_key old (Segment e.0) ∙ ap is_some at.at))
 
-pub tried_append : {D : Type 0} (made : D → D → List Op → Type 0) (a b : D) (f g : Burn) (place : Option ℕ) (e : Entry) (old : Files) (image next : Files → Type 0) → IsNext e.0 place old image → Ran made a b f g (append_calls_at place e) → ((c : Files) → next c → Tries (Appends e) old c) → Tried (Appends e) old next f g
+pub tried_append : {D : Type 0} (made : D → D → List (DeviceCall Op) → Type 0) (a b : D) (f g : Burn) (place : Option ℕ) (e : Entry) (old : Files) (image next : Files → Type 0) → IsNext e.0 place old image → Ran made a b f g (append_calls_at place e) → ((c : Files) → next c → Tries (Appends e) old c) → Tried (Appends e) old next f g
 tried_append made a b f g place e old image next at ran each = record { each = each; spent = ran_spent made a b f g (append_calls_at place e) (calls_of (Appends e) (journaled old)) (append_size place e old image at) ran }
 
-pub finished_append : {D : Type 0} (made : D → D → List Op → Type 0) (a b : D) (f g : Burn) (place : Option ℕ) (end : ℕ) (e : Entry) (old new : Files) (image next : Files → Type 0) → IsNext e.0 place old image → Lands old image → SegmentAt e.0 end new next → Follows (Adds e) image next → next new → RanAll made a b f g (append_calls_at place e) → Finished (Appends e) old new next f g
+pub finished_append : {D : Type 0} (made : D → D → List (DeviceCall Op) → Type 0) (a b : D) (f g : Burn) (place : Option ℕ) (end : ℕ) (e : Entry) (old new : Files) (image next : Files → Type 0) → IsNext e.0 place old image → Lands old image → SegmentAt e.0 end new next → Follows (Adds e) image next → next new → RanAll made a b f g (append_calls_at place e) → Finished (Appends e) old new next f g
 finished_append made a b f g place end e old new image next at lands segment step now all =
     let from = step.each new now in
     let adds : Adds e old new = subst (λ (d : Files). Adds e d new) (lands.only from.0 from.1) from.2 in

@@ -11,7 +11,8 @@ use Rattle.dkg_journal.specs.Names.{Files, name_cmp, name_number, name_at, name_
 use Rattle.dkg_journal.specs.Disk.{Torn, written, Inside, Follows, Did, after_write}
 use Rattle.dkg_journal.specs.Steps.{Firm, Into}
 use Rattle.dkg_journal.specs.Burn.{Burn}
-use Rattle.dkg_journal.specs.Fuse.{spent_once, burned, Reached, Ran, RanAll}
+use Rattle.dkg_journal.specs.DeviceCall.{DeviceCall, call_at}
+use Rattle.dkg_journal.specs.Fuse.{spent_once, pick_now, burned, calls_in, Reached, Ran, RanAll}
 use Rattle.dkg_values.specs.declared.name.Name.{Name}
 use Rattle.dkg_journal.specs.declared.disk.Op.TheVariants.{WriteAt, Sync}
 
@@ -61,10 +62,15 @@ pub burned-append : {O : Type 0} (xs ys : List O) (f : Burn) → burned (xs ++ y
 burned-append [] ys f = refl
 burned-append (x ∷ xs) ys f = burned-append xs ys (spent_once f)
 
-module _ {D O : Type 0} (made : D → D → List O → Type 0) (made_more : (a b c : D) (xs ys : List O) → made a b xs → made b c ys → made a c (xs ++ ys)) where
+-- what a device sees of calls one behind the other
+pub calls_append : {O : Type 0} (xs ys : List O) (f : Burn) → calls_in f (xs ++ ys) ≡ calls_in f xs ++ calls_in (burned xs f) ys
+calls_append [] ys f = refl
+calls_append (x ∷ xs) ys f = ap (λ (l : List (DeviceCall _)). call_at (pick_now f) x ∷ l) (calls_append xs ys (spent_once f))
+
+module _ {D O : Type 0} (made : D → D → List (DeviceCall O) → Type 0) (made_more : (a b c : D) (xs ys : List (DeviceCall O)) → made a b xs → made b c ys → made a c (xs ++ ys)) where
   pub then_all : (a b c : D) (f g h : Burn) (xs ys : List O) → RanAll made a b f g xs → RanAll made b c g h ys → RanAll made a c f h (xs ++ ys)
   then_all a b c f g h xs ys first second = record {
-    each = made_more a b c xs ys first.each second.each;
+    each = subst (λ (l : List (DeviceCall O)). made a c l) (sym (calls_append xs ys f)) (made_more a b c (calls_in f xs) (calls_in (burned xs f) ys) first.each (subst (λ (k : Burn). made b c (calls_in k ys)) first.fuse second.each));
     fuse = second.fuse ∙ ap (burned ys) first.fuse ∙ sym (burned-append xs ys f);
   }
 
@@ -76,10 +82,14 @@ module _ {D O : Type 0} (made : D → D → List O → Type 0) (made_more : (a b
     all = then_all a b c f g h xs second.first first second.all;
   }
 
-pub ran_first : {D O : Type 0} (made : D → D → List O → Type 0) (a b : D) (f g : Burn) (xs ys : List O) → RanAll made a b f g xs → Ran made a b f g (xs ++ ys)
+-- one call, by another name
+pub one_call : {D O : Type 0} (made : D → D → List (DeviceCall O) → Type 0) (a b : D) (f g : Burn) (op same : O) → op ≡ same → made a b (calls_in f (op ∷ [])) → g ≡ spent_once f → RanAll made a b f g (same ∷ [])
+one_call made a b f g op same is each once = subst (λ (o : _). RanAll made a b f g (o ∷ [])) is (record { each = each; fuse = once })
+
+pub ran_first : {D O : Type 0} (made : D → D → List (DeviceCall O) → Type 0) (a b : D) (f g : Burn) (xs ys : List O) → RanAll made a b f g xs → Ran made a b f g (xs ++ ys)
 ran_first made a b f g xs ys all = record { first = xs; rest = ys; whole = refl; all = all }
 
-module _ {D O : Type 0} (made : D → D → List O → Type 0) (a b : D) (f g : Burn) where
+module _ {D O : Type 0} (made : D → D → List (DeviceCall O) → Type 0) (a b : D) (f g : Burn) where
   -- the same calls by another name
   pub all_same : (xs ys : List O) → xs ≡ ys → RanAll made a b f g xs → RanAll made a b f g ys
   all_same xs ys same all = subst (λ (l : List O). RanAll made a b f g l) same all
@@ -96,5 +106,5 @@ module _ {D O : Type 0} (made : D → D → List O → Type 0) (a b : D) (f g : 
     all = ran.all;
   }
 
-pub ran_all : {D O : Type 0} (made : D → D → List O → Type 0) (a b : D) (f g : Burn) (xs : List O) → RanAll made a b f g xs → Ran made a b f g xs
+pub ran_all : {D O : Type 0} (made : D → D → List (DeviceCall O) → Type 0) (a b : D) (f g : Burn) (xs : List O) → RanAll made a b f g xs → Ran made a b f g xs
 ran_all made a b f g xs all = record { first = xs; rest = []; whole = sym (append-nil xs); all = all }

@@ -1,12 +1,12 @@
 -- What the last sync left of files in memory.
-use Rattle.std.proofs.Common.{◌≡◌, ◌≢◌, ℕ, ◌+◌, ◌-◌, ◌<◌, ◌≤◌, ◌%◌, min, max, List, [], ◌∷◌, ◌++◌, length, take, drop, Bool, true, false, cond, Option, Some, None, inl, inr, ⊎_elim, refl, sym, ◌∙◌, ap, subst, arith, append_assoc, length-append}
+use Rattle.std.proofs.Common.{◌≡◌, ◌≢◌, ℕ, ◌+◌, ◌-◌, ◌≤◌, ◌%◌, min, max, List, [], ◌∷◌, ◌++◌, length, take, drop, Bool, true, false, cond, Option, Some, None, inl, inr, ⊎_elim, refl, sym, ◌∙◌, ap, subst, arith, append_assoc}
 use Rattle.std.proofs.lemmas.Bool.{cases_lt}
 use Rattle.std.proofs.lemmas.List.{take_all, drop_all, drop_at, drop-drop, take-append-drop, take-append-le, drop-append-le, append-nil, length-take, length-take-le, length-drop}
 use Rattle.std.specs.Ordering.{eq_by_cmp}
 use Rattle.dkg_values.specs.declared.name.Name.{Name}
 use Rattle.dkg_journal.specs.Names.{name_cmp}
 use Rattle.dkg_journal.specs.Disk.{written}
-use Rattle.dkg_journal.specs.Kept.{Kept, Undone, restored, rolled, kept_to, wrote, AreWithin, Picked}
+use Rattle.dkg_journal.specs.Kept.{Kept, Undone, restored, rolled, kept_to, wrote, AreWithin}
 use Rattle.dkg_journal.specs.Table.{Rows, file_at, IsUpdate, bytes_of, synced_of, synced_at, KeepsSynced, Crashed}
 use Rattle.dkg_journal.proofs.AtOnce.{torn_written}
 use Rattle.dkg_journal.proofs.Loose.{rolled-push, length-rolled}

@@ -1,6 +1,7 @@
 -- A fuse counts calls, and gives its pick at one of them.
 use Rattle.std.specs.Prelude.{◌≡◌, ◌⊎◌, ◌<◌, ◌≤◌, ◌^◌, ℕ, zero, suc, ◌+◌, ◌==◌, nat_lt, if◌then◌else◌, List, [], ◌∷◌, ◌++◌, Option, Some, None, Result, Ok, IsErrOf}
 use Rattle.dkg_journal.specs.Burn.{Burn}
+use Rattle.dkg_journal.specs.DeviceCall.{DeviceCall, call_at}
 
 -- the count stands still at its last value
 abbrev pub counted : ℕ → ℕ
@@ -30,6 +31,11 @@ abbrev pub burnt : ℕ → Burn → Burn
 burnt zero f = f
 burnt (suc n) f = burnt n (spent_once f)
 
+-- These calls as a device sees them: the one at which the fuse is reached is cut, with its pick, and the others are made.
+abbrev pub calls_in : {O : Type 0} → Burn → List O → List (DeviceCall O)
+calls_in f [] = []
+calls_in f (op ∷ ops) = call_at (pick_now f) op ∷ calls_in (spent_once f) ops
+
 -- at most so many calls were counted
 pub record SpentUpTo (n : ℕ) (before now : Burn) : Type 0 where
   pub calls : ℕ
@@ -47,13 +53,13 @@ pub record Fused {T E : Type 0} (cut want : E) (result : Result T E) (before now
   pub cut_there : IsErrOf result cut → (before.spent < before.call) × (now.spent ≡ before.call)
   pub reached : Reached before now → IsErrOf result cut ⊎ IsErrOf result want
 
--- These calls were made and counted, and no others.
-pub record RanAll {D O : Type 0} (made : D → D → List O → Type 0) (old new : D) (before now : Burn) (calls : List O) : Type 0 where
-  pub each : made old new calls
+-- These calls were made and counted, and no others. The one at which the fuse was reached was cut.
+pub record RanAll {D O : Type 0} (made : D → D → List (DeviceCall O) → Type 0) (old new : D) (before now : Burn) (calls : List O) : Type 0 where
+  pub each : made old new (calls_in before calls)
   pub fuse : now ≡ burned calls before
 
 -- the first of these calls were made and counted, and no others
-pub record Ran {D O : Type 0} (made : D → D → List O → Type 0) (old new : D) (before now : Burn) (calls : List O) : Type 0 where
+pub record Ran {D O : Type 0} (made : D → D → List (DeviceCall O) → Type 0) (old new : D) (before now : Burn) (calls : List O) : Type 0 where
   pub first : List O
   pub rest : List O
   pub whole : calls ≡ first ++ rest

@@ -1,11 +1,11 @@
 -- What a prune leaves of a journal's files.
 use Rattle.std.specs.Prelude.{◌≡◌, ◌<◌, ◌≤◌, ℕ, nat_lt, List, filter, Bool, false, None}
-use Rattle.std.specs.FinMap.{get, keys}
+use Rattle.std.specs.FinMap.{get}
 use Rattle.dkg_journal.specs.Names.{Files}
 use Rattle.dkg_journal.specs.Opening.{removes}
 use Rattle.dkg_journal.specs.Records.{entries, from_section}
 use Rattle.dkg_values.specs.declared.name.Name.{Name}
-use Rattle.dkg_values.specs.declared.name.Name.TheVariants.{Plan, Flat, Segment}
+use Rattle.dkg_values.specs.declared.name.Name.TheVariants.{Segment}
 use Rattle.dkg_journal.specs.declared.disk.Op.{Op}
 
 -- a segment of a section below a minimum

@@ -1,5 +1,5 @@
 -- The calls of an append, made up before the first of them.
-use Rattle.std.specs.Prelude.{◌≡◌, ℕ, ◌+◌, ◌<◌, ◌≤◌, ◌^◌, [], ◌∷◌, length, IsTrue}
+use Rattle.std.specs.Prelude.{◌≡◌, ◌+◌, ◌<◌, ◌≤◌, ◌^◌, [], ◌∷◌, length, IsTrue}
 use Rattle.dkg_journal.specs.Records.{Entry, behind}
 use Rattle.dkg_journal.specs.Places.{place_at, has_room}
 use Rattle.dkg_journal.specs.Steps.{start, make_segment}

@@ -2,8 +2,9 @@
 //!
 //! The journal makes all its changing calls through `perform`, and so do the crates above it.
 ghost use Rattle.std.specs.Prelude.{◌≡◌, ◌⊎◌, ◌≤◌, [], ◌∷◌, OnOk, IsErrOf, IsTrue, IfErr, ◌+◌, None};
+ghost use Rattle.dkg_journal.specs.DeviceCall.{Makes};
 ghost use Rattle.dkg_journal.specs.Disk.{Inside, Follows, Allowed, Did, Lands, IsUnchanged, HasCause, HasWant, Rose};
-ghost use Rattle.dkg_journal.specs.Fuse.{spent_once, Reached, RanAll, Fused};
+ghost use Rattle.dkg_journal.specs.Fuse.{calls_in, spent_once, Reached, RanAll, Fused};
 ghost use Rattle.dkg_journal.specs.Errors.{IsOfDevice};
 ghost use Rattle.dkg_journal.specs.declared.call.JournalError.TheVariants.{NoMemory as WantOfMemory};
 
@@ -62,7 +63,7 @@ fn made_call<D: Disk>(alloc: Global, disk: &mut D, op: &Op) -> Result<(), DiskEr
     ensures memory { IsErrOf result DiskError.NoMemory → IsUnchanged D.files D.image disk.old disk.new }
     ensures cause { HasCause (D.faults disk.old) (D.faults disk.new) result }
     ensures want { HasWant (D.wants disk.old) (D.wants disk.new) result }
-    ensures calls { D.made disk.old disk.new (op.now ∷ []) }
+    ensures calls { D.made disk.old disk.new (Makes op.now ∷ []) }
 {
     match op {
         Op::WriteAt { name, place, bytes } => disk.write_at(alloc, *name, *place, bytes.as_slice()),
@@ -88,7 +89,8 @@ pub fn perform<D: Disk>(
     ensures later_wants { D.wants disk.old ≤ D.wants disk.new }
     ensures wanted { IsErrOf result JournalError.NoMemory → Rose (D.wants disk.old) (D.wants disk.new) }
     ensures disk { IsErrOf result JournalError.Disk → Rose (D.faults disk.old) (D.faults disk.new) }
-    ensures calls { D.made disk.old disk.new (op.now ∷ []) }
+    // It was made, or cut where the fuse says so.
+    ensures calls { D.made disk.old disk.new (calls_in fuse.old (op.now ∷ [])) }
     ensures counted { fuse.new ≡ spent_once fuse.old }
     ensures not_cut { OnOk result (Reached fuse.old fuse.new → ⊥) }
     ensures cut { IsErrOf result JournalError.Cut → Reached fuse.old fuse.new }
@@ -126,6 +128,7 @@ pub(crate) fn perform_own<D: Disk>(
     ensures wanted { IsErrOf result JournalError.NoMemory → Rose (D.wants disk.old) (D.wants disk.new) }
     ensures disk { IsErrOf result JournalError.Disk → Rose (D.faults disk.old) (D.faults disk.new) }
     ensures all { RanAll D.made disk.old disk.new fuse.old fuse.new (op ∷ []) }
+    ensures lands { IsErrOf result JournalError.Cut → IsTrue D.tells → Lands (D.files disk.new) (D.image disk.new) }
     ensures kinds { IfErr result IsOfDevice }
     ensures fused { Fused JournalError.Cut JournalError.NoMemory result fuse.old fuse.new }
 {

@@ -5,6 +5,7 @@ ghost use Rattle.std.specs.Prelude.{◌≡◌, ◌≤◌, ◌++◌, [], ◌∷�
 ghost use Rattle.std.specs.FinMap as map;
 ghost use Rattle.dkg_journal.specs.Names.{Files};
 ghost use Rattle.dkg_journal.specs.Disk.{Inside, Follows, Allowed, Did, Lands, IsUnchanged, HasCause, HasWant, Rose};
+ghost use Rattle.dkg_journal.specs.DeviceCall.{DeviceCall, Makes, CutIn, Crashes};
 ghost use Rattle.dkg_journal.specs.declared.disk.Op.{Op};
 
 use dkg_values::{Blob, Mem, Name};
@@ -50,8 +51,8 @@ pub trait Disk {
     /// How often the disk itself wanted memory.
     ghost wants: { Self → ℕ };
 
-    /// The second disk is the first after these changing calls, and no others.
-    ghost made: { Self → Self → List Op → Type 0 };
+    /// The second disk is the first after these changing calls, cuts and crashes, and no others.
+    ghost made: { Self → Self → List (DeviceCall Op) → Type 0 };
 
     /// The names that are there, in their order.
     fn list(&mut self, alloc: Global) -> Result<Vec<Name>, DiskError>
@@ -84,7 +85,7 @@ pub trait Disk {
         ensures memory { IsErrOf result DiskError.NoMemory → IsUnchanged files image self.old self.new }
         ensures cause { HasCause (faults self.old) (faults self.new) result }
         ensures want { HasWant (wants self.old) (wants self.new) result }
-        ensures calls { made self.old self.new (Op.WriteAt name place bytes.now ∷ []) };
+        ensures calls { made self.old self.new (Makes (Op.WriteAt name place bytes.now) ∷ []) };
 
     /// After it, a crash leaves of this file what a read gives. An absent name is Ok.
     fn sync(&mut self, alloc: Global, name: Name) -> Result<(), DiskError>
@@ -95,7 +96,7 @@ pub trait Disk {
         ensures memory { IsErrOf result DiskError.NoMemory → IsUnchanged files image self.old self.new }
         ensures cause { HasCause (faults self.old) (faults self.new) result }
         ensures want { HasWant (wants self.old) (wants self.new) result }
-        ensures calls { made self.old self.new (Op.Sync name ∷ []) };
+        ensures calls { made self.old self.new (Makes (Op.Sync name) ∷ []) };
 
     /// That for all files.
     fn barrier(&mut self, alloc: Global) -> Result<(), DiskError>
@@ -105,7 +106,7 @@ pub trait Disk {
         ensures memory { IsErrOf result DiskError.NoMemory → IsUnchanged files image self.old self.new }
         ensures cause { HasCause (faults self.old) (faults self.new) result }
         ensures want { HasWant (wants self.old) (wants self.new) result }
-        ensures calls { made self.old self.new (Op.Barrier ∷ []) };
+        ensures calls { made self.old self.new (Makes Op.Barrier ∷ []) };
 
     /// Makes or replaces a whole file. It is durable at once, and all or nothing at a crash.
     fn install(&mut self, alloc: Global, name: Name, bytes: &[u8]) -> Result<(), DiskError>
@@ -114,7 +115,7 @@ pub trait Disk {
         ensures memory { IsErrOf result DiskError.NoMemory → IsUnchanged files image self.old self.new }
         ensures cause { HasCause (faults self.old) (faults self.new) result }
         ensures want { HasWant (wants self.old) (wants self.new) result }
-        ensures calls { made self.old self.new (Op.Install name bytes.now ∷ []) };
+        ensures calls { made self.old self.new (Makes (Op.Install name bytes.now) ∷ []) };
 
     /// Takes a file away, if it is there. It is durable at once, and all or nothing at a crash.
     fn remove(&mut self, alloc: Global, name: Name) -> Result<(), DiskError>
@@ -123,7 +124,7 @@ pub trait Disk {
         ensures memory { IsErrOf result DiskError.NoMemory → IsUnchanged files image self.old self.new }
         ensures cause { HasCause (faults self.old) (faults self.new) result }
         ensures want { HasWant (wants self.old) (wants self.new) result }
-        ensures calls { made self.old self.new (Op.Remove name ∷ []) };
+        ensures calls { made self.old self.new (Makes (Op.Remove name) ∷ []) };
 
     /// Begins the call and stops in it. Then the disk reads as one of the images of that moment.
     fn cut(&mut self, alloc: Global, op: &Op, pick: u64) -> Mem<()>
@@ -134,13 +135,15 @@ pub trait Disk {
         ensures cause { faults self.new ≡ faults self.old }
         ensures later { wants self.old ≤ wants self.new }
         ensures wanted { OnErr result (Rose (wants self.old) (wants self.new)) }
-        ensures calls { made self.old self.new (op.now ∷ []) };
+        ensures calls { made self.old self.new (CutIn op.now pick ∷ []) };
 
     /// Stops between two calls. Then the disk reads as one of the images of this moment.
     fn crash(&mut self, pick: u64)
         ensures lands { IsTrue tells → Lands (files self.new) (image self.new) }
         ensures crash { (c : Files) → image self.new c → image self.old c }
-        ensures cause { faults self.new ≡ faults self.old };
+        ensures cause { faults self.new ≡ faults self.old }
+        ensures later { wants self.old ≤ wants self.new }
+        ensures calls { made self.old self.new (Crashes pick ∷ []) };
 
     /// A disk as it reads is one of its images.
     ghost reads: { (disk : Self) → IsTrue tells → image disk (files disk) };
@@ -148,5 +151,5 @@ pub trait Disk {
     /// No calls, and some calls after others.
     ghost made_none: { (a : Self) → made a a [] };
 
-    ghost made_more: { (a b c : Self) (xs ys : List Op) → made a b xs → made b c ys → made a c (xs ++ ys) };
+    ghost made_more: { (a b c : Self) (xs ys : List (DeviceCall Op)) → made a b xs → made b c ys → made a c (xs ++ ys) };
 }

@@ -49,6 +49,7 @@ fn write_segment<D: Disk>(
     ensures disk { IsErrOf result JournalError.Disk → Rose (D.faults disk.old) (D.faults disk.new) }
     ensures kinds { IfErr result IsOfDevice }
     ensures fused { Fused JournalError.Cut JournalError.NoMemory result fuse.old fuse.new }
+    ensures lands { IsErrOf result JournalError.Cut → IsTrue D.tells → Lands (D.files disk.new) (D.image disk.new) }
     ensures cut { IsErrOf result JournalError.Cut → Reached fuse.old fuse.new }
     ensures not_cut { OnOk result (Reached fuse.old fuse.new → ⊥) }
     ensures all { OnOk result (RanAll D.made disk.old disk.new fuse.old fuse.new (write.now ∷ Op.Sync (Name.Segment section) ∷ [])) }
@@ -86,6 +87,7 @@ fn make_file<D: Disk>(
     ensures disk { IsErrOf result JournalError.Disk → Rose (D.faults disk.old) (D.faults disk.new) }
     ensures kinds { IfErr result IsOfDevice }
     ensures fused { Fused JournalError.Cut JournalError.NoMemory result fuse.old fuse.new }
+    ensures lands { IsErrOf result JournalError.Cut → IsTrue D.tells → Lands (D.files disk.new) (D.image disk.new) }
     ensures cut { IsErrOf result JournalError.Cut → Reached fuse.old fuse.new }
     ensures not_cut { OnOk result (Reached fuse.old fuse.new → ⊥) }
     ensures all { OnOk result (RanAll D.made disk.old disk.new fuse.old fuse.new (make_calls section place)) }
@@ -178,6 +180,7 @@ fn append_prepared<D: Disk>(
     ensures disk { IsErrOf result JournalError.Disk → Rose (D.faults disk.old) (D.faults disk.new) }
     ensures kinds { IfErr result IsOfDevice }
     ensures fused { Fused JournalError.Cut JournalError.NoMemory result fuse.old fuse.new }
+    ensures lands { IsErrOf result JournalError.Cut → IsTrue D.tells → Lands (D.files disk.new) (D.image disk.new) }
     ensures cut { IsErrOf result JournalError.Cut → Reached fuse.old fuse.new }
     ensures not_cut { OnOk result (Reached fuse.old fuse.new → ⊥) }
     ensures all { OnOk result (RanAll D.made disk.old disk.new fuse.old fuse.new (append_calls_at place (section, body.now))) }
@@ -264,6 +267,7 @@ impl Journal {
         ensures disk { IsErrOf result JournalError.Disk → Rose (D.faults disk.old) (D.faults disk.new) }
         ensures kinds { IfErr result IsOfDevice }
         ensures fused { Fused JournalError.Cut JournalError.NoMemory result fuse.old fuse.new }
+        ensures lands { IsErrOf result JournalError.Cut → IsTrue D.tells → Lands (D.files disk.new) (D.image disk.new) }
         ensures cut { IsErrOf result JournalError.Cut → Reached fuse.old fuse.new }
         ensures not_cut { OnOk result (Reached fuse.old fuse.new → ⊥) }
         ensures all { OnOk result (RanAll D.made disk.old disk.new fuse.old fuse.new (append_calls self.old (section, body.now))) }
@@ -301,6 +305,7 @@ impl Journal {
         ensures memory { IsErrOf result JournalError.NoMemory → ((self.new ≡ self.old) × (disk.new ≡ disk.old) × (fuse.new ≡ fuse.old)) ⊎ Rose (D.wants disk.old) (D.wants disk.new) }
         ensures disk { IsErrOf result JournalError.Disk → Rose (D.faults disk.old) (D.faults disk.new) }
         ensures fused { Fused JournalError.Cut JournalError.NoMemory result fuse.old fuse.new }
+        ensures lands { IsErrOf result JournalError.Cut → IsTrue D.tells → Lands (D.files disk.new) (D.image disk.new) }
         ensures not_corrupt { (name : Name) (place : ℕ) → IsErrOf result (JournalError.Corrupt name place) → ⊥ }
         ensures cut { IsErrOf result JournalError.Cut → Reached fuse.old fuse.new }
         ensures not_cut { OnOk result (Reached fuse.old fuse.new → ⊥) }

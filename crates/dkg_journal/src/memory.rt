@@ -6,6 +6,7 @@ ghost use Rattle.std.specs.FinMap as map;
 ghost use Rattle.dkg_journal.specs.Fuse.{counted};
 ghost use Rattle.dkg_journal.specs.Failing.{files_of, images_of, FailsByNumber};
 ghost use Rattle.dkg_journal.specs.Disk.{Allowed, Did, Rose, Lands, Follows, Inside, IsUnchanged, HasCause, HasWant};
+ghost use Rattle.dkg_journal.specs.DeviceCall.{Makes, CutIn, Crashes};
 ghost use Rattle.dkg_journal.specs.Made.{Made};
 ghost use Rattle.dkg_journal.specs.Names.{Files};
 ghost use Rattle.dkg_journal.specs.Table.{CrashedBy, CutBy, KeepsSynced, synced_at};
@@ -86,20 +87,20 @@ impl Disk for MemoryDisk {
 
     ghost wants = { λ d. d.disk.wants };
 
-    ghost made = { λ a b ops. Made ops a.disk.changes b.disk.changes (RowsImage a.disk.files) (RowsImage b.disk.files) };
+    ghost made = { λ a b calls. Made calls a.disk.changes b.disk.changes a.disk.files b.disk.files };
 
     ghost reads = { λ d tells. reads_image d.disk.files };
 
-    ghost made_none = { λ a. made_nothing a.disk.changes (RowsImage a.disk.files) };
+    ghost made_none = { λ a. made_nothing a.disk.changes a.disk.files };
 
-    ghost made_more = { λ a b c xs ys p q. made_both xs ys a.disk.changes b.disk.changes c.disk.changes (RowsImage a.disk.files) (RowsImage b.disk.files) (RowsImage c.disk.files) p q };
+    ghost made_more = { λ a b c xs ys p q. made_both xs ys a.disk.changes b.disk.changes c.disk.changes a.disk.files b.disk.files c.disk.files p q };
 
     fn list(&mut self, alloc: Global) -> Result<Vec<Name>, DiskError>
         ensures names { IfOk result (λ names. names.items ≡ map.keys (files_of self.old)) }
         ensures same { IsUnchanged files_of images_of self.old self.new }
         ensures cause { HasCause self.old.faults self.new.faults result }
         ensures want { HasWant self.old.disk.wants self.new.disk.wants result }
-        ensures calls { Made [] self.old.disk.changes self.new.disk.changes (images_of self.old) (images_of self.new) }
+        ensures calls { Made [] self.old.disk.changes self.new.disk.changes self.old.disk.files self.new.disk.files }
         // Exactly the calls of these numbers fail.
         ensures number { FailsByNumber DiskError.Failed self.old.failing.items self.old.calls self.new.calls result }
         ensures numbers { self.new.failing ≡ self.old.failing }
@@ -115,7 +116,7 @@ impl Disk for MemoryDisk {
         ensures same { IsUnchanged files_of images_of self.old self.new }
         ensures cause { HasCause self.old.faults self.new.faults result }
         ensures want { HasWant self.old.disk.wants self.new.disk.wants result }
-        ensures calls { Made [] self.old.disk.changes self.new.disk.changes (images_of self.old) (images_of self.new) }
+        ensures calls { Made [] self.old.disk.changes self.new.disk.changes self.old.disk.files self.new.disk.files }
         // Exactly the calls of these numbers fail.
         ensures number { FailsByNumber DiskError.Failed self.old.failing.items self.old.calls self.new.calls result }
         ensures numbers { self.new.failing ≡ self.old.failing }
@@ -139,7 +140,7 @@ impl Disk for MemoryDisk {
         ensures memory { IsErrOf result DiskError.NoMemory → IsUnchanged files_of images_of self.old self.new }
         ensures cause { HasCause self.old.faults self.new.faults result }
         ensures want { HasWant self.old.disk.wants self.new.disk.wants result }
-        ensures calls { Made (Op.WriteAt name place bytes.now ∷ []) self.old.disk.changes self.new.disk.changes (images_of self.old) (images_of self.new) }
+        ensures calls { Made (Makes (Op.WriteAt name place bytes.now) ∷ []) self.old.disk.changes self.new.disk.changes self.old.disk.files self.new.disk.files }
         // What the last sync left is not touched.
         ensures synced { KeepsSynced self.old.disk.files self.new.disk.files }
         // Exactly the calls of these numbers fail.
@@ -160,7 +161,7 @@ impl Disk for MemoryDisk {
         ensures memory { IsErrOf result DiskError.NoMemory → IsUnchanged files_of images_of self.old self.new }
         ensures cause { HasCause self.old.faults self.new.faults result }
         ensures want { HasWant self.old.disk.wants self.new.disk.wants result }
-        ensures calls { Made (Op.Sync name ∷ []) self.old.disk.changes self.new.disk.changes (images_of self.old) (images_of self.new) }
+        ensures calls { Made (Makes (Op.Sync name) ∷ []) self.old.disk.changes self.new.disk.changes self.old.disk.files self.new.disk.files }
         // Exactly the calls of these numbers fail.
         ensures number { FailsByNumber DiskError.Failed self.old.failing.items self.old.calls self.new.calls result }
         ensures numbers { self.new.failing ≡ self.old.failing }
@@ -179,7 +180,7 @@ impl Disk for MemoryDisk {
         ensures memory { IsErrOf result DiskError.NoMemory → IsUnchanged files_of images_of self.old self.new }
         ensures cause { HasCause self.old.faults self.new.faults result }
         ensures want { HasWant self.old.disk.wants self.new.disk.wants result }
-        ensures calls { Made (Op.Barrier ∷ []) self.old.disk.changes self.new.disk.changes (images_of self.old) (images_of self.new) }
+        ensures calls { Made (Makes Op.Barrier ∷ []) self.old.disk.changes self.new.disk.changes self.old.disk.files self.new.disk.files }
         // Exactly the calls of these numbers fail.
         ensures number { FailsByNumber DiskError.Failed self.old.failing.items self.old.calls self.new.calls result }
         ensures numbers { self.new.failing ≡ self.old.failing }
@@ -197,7 +198,7 @@ impl Disk for MemoryDisk {
         ensures memory { IsErrOf result DiskError.NoMemory → IsUnchanged files_of images_of self.old self.new }
         ensures cause { HasCause self.old.faults self.new.faults result }
         ensures want { HasWant self.old.disk.wants self.new.disk.wants result }
-        ensures calls { Made (Op.Install name bytes.now ∷ []) self.old.disk.changes self.new.disk.changes (images_of self.old) (images_of self.new) }
+        ensures calls { Made (Makes (Op.Install name bytes.now) ∷ []) self.old.disk.changes self.new.disk.changes self.old.disk.files self.new.disk.files }
         // Exactly the calls of these numbers fail.
         ensures number { FailsByNumber DiskError.Failed self.old.failing.items self.old.calls self.new.calls result }
         ensures numbers { self.new.failing ≡ self.old.failing }
@@ -215,7 +216,7 @@ impl Disk for MemoryDisk {
         ensures memory { IsErrOf result DiskError.NoMemory → IsUnchanged files_of images_of self.old self.new }
         ensures cause { HasCause self.old.faults self.new.faults result }
         ensures want { HasWant self.old.disk.wants self.new.disk.wants result }
-        ensures calls { Made (Op.Remove name ∷ []) self.old.disk.changes self.new.disk.changes (images_of self.old) (images_of self.new) }
+        ensures calls { Made (Makes (Op.Remove name) ∷ []) self.old.disk.changes self.new.disk.changes self.old.disk.files self.new.disk.files }
         // Exactly the calls of these numbers fail.
         ensures number { FailsByNumber DiskError.Failed self.old.failing.items self.old.calls self.new.calls result }
         ensures numbers { self.new.failing ≡ self.old.failing }
@@ -235,7 +236,7 @@ impl Disk for MemoryDisk {
         ensures cause { self.new.faults ≡ self.old.faults }
         ensures later { self.old.disk.wants ≤ self.new.disk.wants }
         ensures wanted { OnErr result (Rose self.old.disk.wants self.new.disk.wants) }
-        ensures calls { Made (op.now ∷ []) self.old.disk.changes self.new.disk.changes (images_of self.old) (images_of self.new) }
+        ensures calls { Made (CutIn op.now pick ∷ []) self.old.disk.changes self.new.disk.changes self.old.disk.files self.new.disk.files }
         ensures uncounted { self.new.calls ≡ self.old.calls }
         ensures numbers { self.new.failing ≡ self.old.failing }
         // It has done what the pick says.
@@ -248,6 +249,8 @@ impl Disk for MemoryDisk {
         ensures lands { Lands (files_of self.new) (images_of self.new) }
         ensures crash { (c : Files) → images_of self.new c → images_of self.old c }
         ensures cause { self.new.faults ≡ self.old.faults }
+        ensures later { self.old.disk.wants ≤ self.new.disk.wants }
+        ensures calls { Made (Crashes pick ∷ []) self.old.disk.changes self.new.disk.changes self.old.disk.files self.new.disk.files }
         ensures uncounted { self.new.calls ≡ self.old.calls }
         ensures numbers { self.new.failing ≡ self.old.failing }
         // Where the pick says so it has left what the last sync left.

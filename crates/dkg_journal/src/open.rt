@@ -246,6 +246,7 @@ impl Journal {
         ensures memory { IsErrOf result JournalError.NoMemory → (D.made disk.old disk.new [] × IsUnchanged D.files D.image disk.old disk.new × (fuse.new ≡ fuse.old)) ⊎ Rose (D.wants disk.old) (D.wants disk.new) }
         ensures disk { IsErrOf result JournalError.Disk → Rose (D.faults disk.old) (D.faults disk.new) }
         ensures fused { Fused JournalError.Cut JournalError.NoMemory result fuse.old fuse.new }
+        ensures lands { IsErrOf result JournalError.Cut → IsTrue D.tells → Lands (D.files disk.new) (D.image disk.new) }
         ensures cut { IsErrOf result JournalError.Cut → Reached fuse.old fuse.new }
         ensures not_cut { OnOk result (Reached fuse.old fuse.new → ⊥) }
         ensures not_long { IsErrOf result JournalError.TooLong → ⊥ }

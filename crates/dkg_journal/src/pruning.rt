@@ -58,6 +58,7 @@ impl Journal {
         ensures disk { IsErrOf result JournalError.Disk → Rose (D.faults disk.old) (D.faults disk.new) }
         ensures kinds { IfErr result IsOfDevice }
         ensures fused { Fused JournalError.Cut JournalError.NoMemory result fuse.old fuse.new }
+        ensures lands { IsErrOf result JournalError.Cut → IsTrue D.tells → Lands (D.files disk.new) (D.image disk.new) }
         ensures all { OnOk result (IsTrue D.tells → RanAll D.made disk.old disk.new fuse.old fuse.new (prune_calls min (keys (D.files disk.old)))) }
         ensures calls { IsTrue D.tells → Ran D.made disk.old disk.new fuse.old fuse.new (prune_calls min (keys (D.files disk.old))) }
     {

@@ -36,6 +36,7 @@ impl Record {
         ensures disk { IsErrOf result JournalError.Disk → Rose (D.faults disk.old) (D.faults disk.new) }
         ensures kinds { IfErr result IsOfDevice }
         ensures fused { Fused JournalError.Cut JournalError.NoMemory result fuse.old fuse.new }
+        ensures lands { IsErrOf result JournalError.Cut → IsTrue D.tells → Lands (D.files disk.new) (D.image disk.new) }
         ensures all { OnOk result (RanAll D.made disk.old disk.new fuse.old fuse.new (Op.Install Plan bytes.now ∷ [])) }
         ensures calls { Ran D.made disk.old disk.new fuse.old fuse.new (Op.Install Plan bytes.now ∷ []) }
     {
@@ -76,6 +77,7 @@ impl Record {
         ensures disk { IsErrOf result JournalError.Disk → Rose (D.faults disk.old) (D.faults disk.new) }
         ensures kinds { IfErr result IsOfDevice }
         ensures fused { Fused JournalError.Cut JournalError.NoMemory result fuse.old fuse.new }
+        ensures lands { IsErrOf result JournalError.Cut → IsTrue D.tells → Lands (D.files disk.new) (D.image disk.new) }
         ensures all { RanAll D.made disk.old disk.new fuse.old fuse.new (Op.Remove Plan ∷ []) }
     {
         perform_own(alloc, disk, fuse, Op::Remove { name: Name::Plan })

@@ -5,6 +5,7 @@ ghost use Rattle.std.specs.Prelude.{◌≡◌, ◌≤◌, ℕ, [], ◌∷◌, No
 ghost use Rattle.dkg_journal.specs.declared.sure.SureDisk.{SureDisk};
 ghost use Rattle.dkg_journal.specs.Disk.{Allowed, Did, Rose, Lands, Follows, Inside, IsUnchanged, HasCause, HasWant};
 ghost use Rattle.dkg_journal.specs.Fuse.{counted};
+ghost use Rattle.dkg_journal.specs.DeviceCall.{Makes, CutIn, Crashes};
 ghost use Rattle.dkg_journal.specs.Made.{Made};
 ghost use Rattle.dkg_journal.specs.Names.{Files};
 ghost use Rattle.dkg_journal.specs.Table.{contents, RowsImage, CrashedBy, CutBy, spared_by, KeepsSynced};
@@ -84,13 +85,13 @@ impl Disk for SureDisk {
 
     ghost wants = { λ d. d.wants };
 
-    ghost made = { λ a b ops. Made ops a.changes b.changes (RowsImage a.files) (RowsImage b.files) };
+    ghost made = { λ a b calls. Made calls a.changes b.changes a.files b.files };
 
     ghost reads = { λ d tells. reads_image d.files };
 
-    ghost made_none = { λ a. made_nothing a.changes (RowsImage a.files) };
+    ghost made_none = { λ a. made_nothing a.changes a.files };
 
-    ghost made_more = { λ a b c xs ys p q. made_both xs ys a.changes b.changes c.changes (RowsImage a.files) (RowsImage b.files) (RowsImage c.files) p q };
+    ghost made_more = { λ a b c xs ys p q. made_both xs ys a.changes b.changes c.changes a.files b.files c.files p q };
 
     fn list(&mut self, alloc: Global) -> Result<Vec<Name>, DiskError> {
         match self.files.names(alloc) {
@@ -125,7 +126,7 @@ impl Disk for SureDisk {
         ensures memory { IsErrOf result DiskError.NoMemory → IsUnchanged (λ (d : SureDisk). contents d.files) (λ (d : SureDisk). RowsImage d.files) self.old self.new }
         ensures cause { HasCause 0 0 result }
         ensures want { HasWant self.old.wants self.new.wants result }
-        ensures calls { Made (Op.WriteAt name place bytes.now ∷ []) self.old.changes self.new.changes (RowsImage self.old.files) (RowsImage self.new.files) }
+        ensures calls { Made (Makes (Op.WriteAt name place bytes.now) ∷ []) self.old.changes self.new.changes self.old.files self.new.files }
         // What the last sync left is not touched.
         ensures synced { KeepsSynced self.old.files self.new.files }
     {
@@ -176,7 +177,7 @@ impl Disk for SureDisk {
         ensures cause { ◌≡◌ {A = ℕ} 0 0 }
         ensures later { self.old.wants ≤ self.new.wants }
         ensures wanted { OnErr result (Rose self.old.wants self.new.wants) }
-        ensures calls { Made (op.now ∷ []) self.old.changes self.new.changes (RowsImage self.old.files) (RowsImage self.new.files) }
+        ensures calls { Made (CutIn op.now pick ∷ []) self.old.changes self.new.changes self.old.files self.new.files }
         // It has done what the pick says.
         ensures picked { OnOk result (CutBy op.now pick self.old.files self.new.files) }
     {
@@ -197,6 +198,8 @@ impl Disk for SureDisk {
         ensures lands { Lands (contents self.new.files) (RowsImage self.new.files) }
         ensures crash { (c : Files) → RowsImage self.new.files c → RowsImage self.old.files c }
         ensures cause { ◌≡◌ {A = ℕ} 0 0 }
+        ensures later { self.old.wants ≤ self.new.wants }
+        ensures calls { Made (Crashes pick ∷ []) self.old.changes self.new.changes self.old.files self.new.files }
         // It has left what the pick says.
         ensures picked { CrashedBy pick None self.old.files self.new.files }
     {

@@ -2,7 +2,7 @@
 //!
 //! Opening a journal mends its files so, and a prune takes files away so.
 ghost use Rattle.std.specs.Prelude.{◌≡◌, ◌≤◌, OnOk, IsErrOf, IsTrue, IfErr};
-ghost use Rattle.dkg_journal.specs.Disk.{Follows, Rose};
+ghost use Rattle.dkg_journal.specs.Disk.{Follows, Lands, Rose};
 ghost use Rattle.dkg_journal.specs.Errors.{IsOfDevice};
 ghost use Rattle.dkg_journal.specs.Fuse.{Reached, Ran, RanAll, Fused};
 ghost use Rattle.dkg_journal.specs.Wholes.{Amid, AreOfWhole, Becomes, after_all};
@@ -27,6 +27,7 @@ pub fn perform_all<D: Disk>(
     ensures disk { IsErrOf result JournalError.Disk → Rose (D.faults disk.old) (D.faults disk.new) }
     ensures kinds { IfErr result IsOfDevice }
     ensures fused { Fused JournalError.Cut JournalError.NoMemory result fuse.old fuse.new }
+    ensures lands { IsErrOf result JournalError.Cut → IsTrue D.tells → Lands (D.files disk.new) (D.image disk.new) }
     ensures cut { IsErrOf result JournalError.Cut → Reached fuse.old fuse.new }
     ensures not_cut { OnOk result (Reached fuse.old fuse.new → ⊥) }
     ensures all { OnOk result (RanAll D.made disk.old disk.new fuse.old fuse.new ops.now) }

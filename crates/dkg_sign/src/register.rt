@@ -3,7 +3,7 @@
 //! The record is one encoded epoch in the file `Plan` of the desk's own disk. A higher epoch is put there before the desk holds its material.
 ghost use Rattle.std.specs.Prelude.{◌≡◌, ◌≤◌, ◌⊎◌, [], ◌∷◌, List, OnOk, IfOk, IfErr, IsErrOf, IsTrue, None, Some, Ok, option_map};
 ghost use Rattle.dkg_journal.specs.Disk.{Follows, IsUnchanged, Lands, Rose};
-ghost use Rattle.dkg_journal.specs.Fuse.{Fused, Ran};
+ghost use Rattle.dkg_journal.specs.Fuse.{Fused, Ran, calls_in};
 ghost use Rattle.dkg_journal.specs.Names.{Files};
 ghost use Rattle.dkg_sign.specs.Lives.{Deed, Keeps, Covers, with_registered};
 ghost use Rattle.dkg_sign.specs.Recorded.{recorded, epoch_in, Stands};
@@ -71,7 +71,7 @@ impl SigningDesk {
         ensures later { D.faults disk.old ≤ D.faults disk.new }
         ensures disk { IsErrOf result DeskError.Disk → Rose (D.faults disk.old) (D.faults disk.new) }
         ensures fused { Fused DeskError.Cut DeskError.NoMemory result fuse.old fuse.new }
-        ensures calls { D.made disk.old disk.new (Op.Barrier ∷ []) }
+        ensures calls { D.made disk.old disk.new (calls_in fuse.old (Op.Barrier ∷ [])) }
         // The promise over lives: what was registered in earlier lives is known to this one.
         ensures lives { IsTrue D.tells → (deeds : List Deed) → Keeps deeds (D.image disk.old) → Keeps deeds (D.image disk.new) × IfOk result (λ desk. Covers desk.current deeds) }
     {

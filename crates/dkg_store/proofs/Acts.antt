@@ -1,5 +1,5 @@
 -- How acts follow each other, and what holds along them.
-use Rattle.std.proofs.Common.{◌≡◌, ◌≤◌, inl, inr, ℕ, List, [], ◌∷◌, ◌++◌, length, Option, refl, sym, ◌∙◌, ap, subst, arith}
+use Rattle.std.proofs.Common.{◌≡◌, ◌≤◌, inl, inr, List, [], ◌∷◌, ◌++◌, length, refl, sym, ◌∙◌, ap, subst, arith}
 use Rattle.std.proofs.lemmas.List.{length-append}
 use Rattle.dkg_journal.specs.Burn.{Burn}
 use Rattle.dkg_journal.specs.Fuse.{spent_once, burned, burnt}
@@ -7,7 +7,7 @@ use Rattle.dkg_journal.specs.Fuse.{Reached}
 use Rattle.dkg_journal.specs.Names.{Files}
 use Rattle.dkg_journal.specs.Operations.{Journaled, journaled}
 use Rattle.dkg_types.specs.declared.entry.Entry.{Entry as Line}
-use Rattle.dkg_store.specs.Acts.{Acts, Say, Do, Ask, Goes, Stops, bind, World, says, does, IsTorn, IsLeft, Completes, Faults, Breaks, Cause, by_cut, by_disk, by_secrets, by_want, EndsBy, IsBetween, Ended, went, stopped, broken, Runs, IfWent, Stands, Moment, moment, world, held_in, at, MadeAt, GoesOn, Along, Operation, OnDisk, Changes, Held}
+use Rattle.dkg_store.specs.Acts.{Acts, Say, Do, Ask, Goes, Stops, bind, World, says, does, IsTorn, Completes, Faults, Breaks, Cause, by_cut, by_disk, by_secrets, by_want, EndsBy, IsBetween, Ended, went, stopped, broken, Runs, IfWent, Stands, Moment, moment, world, held_in, at, MadeAt, GoesOn, Along, Operation, OnDisk, Changes, Held}
 use Rattle.dkg_store.specs.Secrets.{Secrets}
 use Rattle.dkg_store.proofs.Tried.{nothing_done}
 

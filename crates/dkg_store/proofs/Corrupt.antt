@@ -2,7 +2,6 @@
 use Rattle.std.proofs.Common.{◌≡◌, ◌⊎◌, inl, inr, ℕ, List, [], ◌∷◌, map, Option, Some, None, Result, Err, sym, ◌∙◌, refl, ap, subst}
 use Rattle.std.specs.Prelude.{MatchResult}
 use Rattle.dkg_values.specs.declared.name.Name.{Name}
-use Rattle.dkg_values.specs.declared.name.Name.TheVariants.{Flat}
 use Rattle.dkg_journal.specs.Names.{Files}
 use Rattle.dkg_journal.specs.Gated.{OpensAlike, gated, gated_entries, gated_of}
 use Rattle.dkg_journal.specs.Opening.{broken}

@@ -1,15 +1,14 @@
 -- Operations of the devices as acts: done, or ended within by a cause.
-use Rattle.std.proofs.Common.{◌≡◌, ◌⊎◌, ℕ, List, length, Result, Err, IsErrOf, refl, sym, ◌∙◌, ap, subst, inl, inr, arith}
+use Rattle.std.proofs.Common.{◌≡◌, ◌⊎◌, List, Result, Err, IsErrOf, refl, sym, ◌∙◌, ap, subst, inl, inr, arith}
 use Rattle.dkg_journal.specs.Burn.{Burn}
-use Rattle.dkg_journal.specs.Fuse.{Fused, Reached, burnt, spent_once}
+use Rattle.dkg_journal.specs.Fuse.{Fused, Reached, spent_once}
 use Rattle.dkg_journal.specs.Names.{Files}
 use Rattle.dkg_journal.specs.Operations as of_journal
 use Rattle.dkg_journal.specs.Operations.{Finished, Tried}
 use Rattle.dkg_journal.specs.Operations.{Journaled, journaled}
 use Rattle.dkg_types.specs.declared.entry.Entry.{Entry as Line}
-use Rattle.dkg_store.specs.Acts.{Acts, Do, Goes, World, world, does, Runs, Cause, EndsBy, Ended, went, broken, Stands, MadeAt, Moment, moment, at, held_in, Held, Operation, OnDisk, Changes}
+use Rattle.dkg_store.specs.Acts.{Acts, Do, Goes, World, world, Runs, Cause, EndsBy, Ended, went, broken, Stands, MadeAt, moment, Held, Operation, OnDisk, Changes}
 use Rattle.dkg_journal.specs.Disk.{Did, Follows, Inside}
-use Rattle.dkg_journal.specs.Records.{Entry}
 use Rattle.dkg_journal.specs.declared.call.JournalError.{JournalError}
 use Rattle.dkg_journal.specs.declared.call.JournalError.TheVariants as journal
 use Rattle.dkg_journal.specs.declared.disk.Op.TheVariants.{Barrier}

@@ -1,14 +1,12 @@
 -- Which names the journal's calls leave.
-use Rattle.std.proofs.Common.{◌≡◌, inl, inr, ⊎_elim, ℕ, ◌≤◌, Bool, true, false, List, is_some, not, refl, sym, ap, subst, ◌∙◌, arith}
-use Rattle.std.specs.Prelude.{filter}
+use Rattle.std.proofs.Common.{◌≡◌, inl, inr, ⊎_elim, ℕ, Bool, true, false, is_some, not, refl, sym, ap, subst, ◌∙◌}
 use Rattle.std.specs.FinMap.{get, keys}
-use Rattle.dkg_values.specs.declared.name.Name.{Name}
 use Rattle.dkg_values.specs.declared.name.Name.TheVariants.{Segment}
 use Rattle.dkg_journal.specs.Burn.{Burn}
 use Rattle.dkg_journal.specs.Names.{Files}
 use Rattle.dkg_journal.specs.Disk.{Follows}
-use Rattle.dkg_journal.specs.Operations.{Journaled, Opens, Appends, Prunes, Tried, Finished, journaled, opened_names}
-use Rattle.dkg_journal.specs.Pruning.{MayLeave, is_below}
+use Rattle.dkg_journal.specs.Operations.{Journaled, Opens, Appends, Tried, Finished, opened_names}
+use Rattle.dkg_journal.specs.Pruning.{MayLeave}
 use Rattle.dkg_journal.specs.Records.{Entry, entries}
 use Rattle.dkg_journal.specs.Steps.{Adds}
 use Rattle.dkg_journal.proofs.SameFiles.{named}

@@ -1,6 +1,7 @@
 -- What opening keeps, step by step.
 use Rattle.std.proofs.Common.{◌≡◌, List, [], ◌∷◌, ap, sym, subst, ◌∙◌, refl}
 use Rattle.dkg_journal.specs.Burn.{Burn}
+use Rattle.dkg_journal.specs.DeviceCall.{DeviceCall}
 use Rattle.dkg_journal.specs.Fuse.{RanAll, burned, spent_once}
 use Rattle.std.specs.FinMap.{get}
 use Rattle.dkg_values.specs.declared.name.Name.TheVariants.{Plan}
@@ -25,7 +26,7 @@ burned_call [] f = refl
 burned_call (op ∷ ops) f = burned_call ops (spent_once f)
 
 -- the call that is cut stays the same
-pub same_call : {D O : Type 0} {made : D → D → List O → Type 0} {old new : D} {f g : Burn} {ops : List O} → RanAll made old new f g ops → f.call ≡ g.call
+pub same_call : {D O : Type 0} {made : D → D → List (DeviceCall O) → Type 0} {old new : D} {f g : Burn} {ops : List O} → RanAll made old new f g ops → f.call ≡ g.call
 same_call {f = f} {ops = ops} ran = sym (ap (λ (b : Burn). b.call) ran.fuse ∙ burned_call ops f)
 
 -- Where no entry is lost or added, and the secrets are as they were, what was whole is whole and gives the same.

@@ -1,12 +1,12 @@
 -- What a prune leaves: of the journal, and then of the secrets.
-use Rattle.std.proofs.Common.{◌≡◌, ◌⊎◌, inl, inr, ℕ, ◌≤◌, arith, cond, Bool, nat_le, List, [], ◌∷◌, fold, Option, Some, None, IsSome, Result, Ok, Err, refl, sym, ◌∙◌, ap, subst}
+use Rattle.std.proofs.Common.{◌≡◌, inl, inr, ℕ, ◌≤◌, arith, cond, Bool, nat_le, List, [], ◌∷◌, fold, Option, Some, None, IsSome, Result, Ok, Err, refl, sym, ◌∙◌, ap, subst}
 use Rattle.std.specs.FinMap.{get, empty, retain_keys}
 use Rattle.dkg_values.specs.Codec.{whole}
 use Rattle.dkg_values.specs.declared.codec.CodecError.{CodecError}
 use Rattle.dkg_journal.specs.Burn.{Burn}
 use Rattle.dkg_journal.specs.Fuse.{spent_once}
 use Rattle.dkg_journal.specs.Names.{Files}
-use Rattle.dkg_journal.specs.Disk.{Follows, SameElse}
+use Rattle.dkg_journal.specs.Disk.{Follows}
 use Rattle.dkg_journal.specs.Operations.{Tried, Finished, Prunes as PrunesJournal}
 use Rattle.dkg_journal.specs.Pruning.{Leaves, MayLeave}
 use Rattle.dkg_journal.specs.Records.{Entry, entries, from_section}

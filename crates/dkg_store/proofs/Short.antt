@@ -1,5 +1,5 @@
 -- Events that a record can hold.
-use Rattle.std.proofs.Common.{◌≡◌, ◌≤◌, ◌<◌, ◌+◌, ◌^◌, ℕ, List, ◌++◌, length, refl, arith, length-append}
+use Rattle.std.proofs.Common.{◌≡◌, ◌≤◌, ◌<◌, ◌^◌, ℕ, List, ◌++◌, length, refl, arith, length-append}
 use Rattle.std.specs.Int.{w32, to_be_bytes}
 use Rattle.dkg_values.specs.Uint.{uint}
 use Rattle.dkg_values.specs.UintGrammar.{uint_short}

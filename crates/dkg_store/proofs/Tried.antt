@@ -1,8 +1,8 @@
 -- What the calls of a secret store may do, from what they did.
-use Rattle.std.proofs.Common.{◌≡◌, inl, inr, ℕ, nat_le, [], ◌∷◌, cond, Option, None, refl, sym, subst, ◌∙◌, ap}
+use Rattle.std.proofs.Common.{◌≡◌, inl, inr, ℕ, nat_le, cond, Option, None, sym, subst, ◌∙◌, ap}
 use Rattle.std.specs.FinMap.{get, get-retain_keys, nat_cmp-IsAntisymmetric}
 use Rattle.dkg_store.specs.Keys.{StaysOrGoes}
-use Rattle.dkg_store.specs.Secrets.{Secrets, Tries, TriesAll, after}
+use Rattle.dkg_store.specs.Secrets.{Secrets, Tries, after}
 use Rattle.dkg_store.specs.declared.secrets.SecretOp.{SecretOp}
 use Rattle.dkg_store.specs.declared.secrets.SecretOp.TheVariants.{PutShare, PutSeed, PutDealing, Prune}
 use Rattle.dkg_store.proofs.Map.{below_or, exact_keys}
@@ -36,6 +36,3 @@ all_done (Prune min) s t done = record {
     privates = λ q. subst (StaysOrGoes min q.0 (get s.privates q)) (sym (ap (λ (u : Secrets). get u.privates q) done ∙ get-retain_keys s.privates (λ k. nat_le min k.0) q (λ x tied. ap (λ (y : ℕ × ℕ). nat_le min y.0) (sym (exact_keys q x tied))))) (torn_at min q.0 (get s.privates q));
   };
 }
-
-pub one_call : (op : SecretOp) (s t : Secrets) → Tries op s t → TriesAll (op ∷ []) s t
-one_call op s t tries = (t, tries, refl)

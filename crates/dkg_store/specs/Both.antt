@@ -1,5 +1,6 @@
 -- The changing calls of both devices, in one order.
 use Rattle.std.specs.Prelude.{ℕ, List, [], ◌∷◌, ◌++◌, map, ◌⊎◌}
+use Rattle.dkg_journal.specs.DeviceCall.{DeviceCall, Makes, CutIn, Crashes}
 use Rattle.dkg_journal.specs.Disk.{Rose}
 use Rattle.dkg_values.specs.declared.name.Name.{Name}
 use Rattle.dkg_journal.specs.Pruning.{prune_calls}
@@ -14,20 +15,28 @@ pub data Call : Type 0 where
   on_disk : Op → Call
   on_secrets : SecretOp → Call
 
-abbrev pub disk_ops : List Call → List Op
-disk_ops [] = []
-disk_ops (on_disk op ∷ calls) = op ∷ disk_ops calls
-disk_ops (on_secrets op ∷ calls) = disk_ops calls
+-- what the disk sees of them (a crash is one of both)
+abbrev pub disk_calls : List (DeviceCall Call) → List (DeviceCall Op)
+disk_calls [] = []
+disk_calls (Makes (on_disk op) ∷ calls) = Makes op ∷ disk_calls calls
+disk_calls (Makes (on_secrets op) ∷ calls) = disk_calls calls
+disk_calls (CutIn (on_disk op) pick ∷ calls) = CutIn op pick ∷ disk_calls calls
+disk_calls (CutIn (on_secrets op) pick ∷ calls) = disk_calls calls
+disk_calls (Crashes pick ∷ calls) = Crashes pick ∷ disk_calls calls
 
-abbrev pub secret_ops : List Call → List SecretOp
-secret_ops [] = []
-secret_ops (on_disk op ∷ calls) = secret_ops calls
-secret_ops (on_secrets op ∷ calls) = op ∷ secret_ops calls
+-- .. and the secret store
+abbrev pub secret_calls : List (DeviceCall Call) → List (DeviceCall SecretOp)
+secret_calls [] = []
+secret_calls (Makes (on_disk op) ∷ calls) = secret_calls calls
+secret_calls (Makes (on_secrets op) ∷ calls) = Makes op ∷ secret_calls calls
+secret_calls (CutIn (on_disk op) pick ∷ calls) = secret_calls calls
+secret_calls (CutIn (on_secrets op) pick ∷ calls) = CutIn op pick ∷ secret_calls calls
+secret_calls (Crashes pick ∷ calls) = Crashes pick ∷ secret_calls calls
 
--- each device had its own of these calls, and no others
-pub record MadeBoth {D X : Type 0} (disk : D → D → List Op → Type 0) (secrets : X → X → List SecretOp → Type 0) (old new : D × X) (calls : List Call) : Type 0 where
-  pub on_the_disk : disk old.0 new.0 (disk_ops calls)
-  pub on_the_secrets : secrets old.1 new.1 (secret_ops calls)
+-- each device had its own of these, and no others
+pub record MadeBoth {D X : Type 0} (disk : D → D → List (DeviceCall Op) → Type 0) (secrets : X → X → List (DeviceCall SecretOp) → Type 0) (old new : D × X) (calls : List (DeviceCall Call)) : Type 0 where
+  pub on_the_disk : disk old.0 new.0 (disk_calls calls)
+  pub on_the_secrets : secrets old.1 new.1 (secret_calls calls)
 
 -- the calls of a put and of an append behind it
 abbrev pub put_then_append : SecretOp → Journal → Entry → List Call

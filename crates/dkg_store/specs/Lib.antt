@@ -9,6 +9,7 @@ pub mod Dealer
 pub mod Errors
 pub mod Events
 pub mod Keys
+pub mod Made
 pub mod Named
 pub mod Noted
 pub mod On

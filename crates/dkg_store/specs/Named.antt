@@ -1,7 +1,6 @@
 -- Which names of files a call leaves.
-use Rattle.std.specs.Prelude.{◌≡◌, ◌⊎◌, ◌≤◌, ℕ, List, Bool, not, filter, if◌then◌else◌}
+use Rattle.std.specs.Prelude.{◌≡◌, ◌⊎◌, ◌≤◌, ℕ, Bool, not, filter, if◌then◌else◌}
 use Rattle.std.specs.FinMap.{get, keys}
-use Rattle.dkg_values.specs.declared.name.Name.{Name}
 use Rattle.dkg_values.specs.declared.name.Name.TheVariants.{Plan, Segment}
 use Rattle.dkg_journal.specs.Names.{Files}
 use Rattle.dkg_journal.specs.Operations.{opened_names, with_name}

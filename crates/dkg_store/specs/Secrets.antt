@@ -1,6 +1,5 @@
 -- What a secret store holds, and what its calls do to it.
-use Rattle.std.proofs.Common.{subst}
-use Rattle.std.specs.Prelude.{◌≡◌, ◌⊎◌, ◌≤◌, ℕ, List, [], ◌∷◌, ◌++◌, nat_le, Result, IsErrOf, refl}
+use Rattle.std.specs.Prelude.{◌≡◌, ◌⊎◌, ◌≤◌, ℕ, List, nat_le, Result, IsErrOf, refl}
 use Rattle.std.specs.Ordering.{nat_cmp}
 use Rattle.std.specs.Coded.{Coded, code_by, coded×, coded_ℕ, coded_list}
 use Rattle.std.specs.FinMap.{FinMap, get, insert, retain_keys, code}
@@ -39,15 +38,6 @@ MayDo op old new = (new ≡ old) ⊎ (new ≡ after op old)
 -- The call returned, failed, or was cut: a put is done or not.
 pub record Tries (op : SecretOp) (old new : Secrets) : Type 0 where
   pub so : MayDo op old new
-
--- these calls, one after another, each tried
-abbrev pub TriesAll : List SecretOp → Secrets → Secrets → Type 0
-TriesAll [] old new = new ≡ old
-TriesAll (op ∷ ops) old new = (mid : Secrets) × Tries op old mid × TriesAll ops mid new
-
-pub tries_more : (xs ys : List SecretOp) (a b c : Secrets) → TriesAll xs a b → TriesAll ys b c → TriesAll (xs ++ ys) a c
-tries_more [] ys a b c first second = subst (λ s. TriesAll ys s c) first second
-tries_more (op ∷ xs) ys a b c first second = (first.0, first.1, tries_more xs ys first.0 b c first.2 second)
 
 pub record HasCause {T : Type 0} (before now : ℕ) (result : Result T SecretError) : Type 0 where
   pub later : before ≤ now

@@ -61,6 +61,7 @@ pub(crate) fn append_event<V: Drop, D: Disk>(
     ensures named { OnOk result (IsTrue D.tells → Follows (Named true epoch) (D.image disk.old) (D.image disk.new)) }
     // At Ok nothing of the disk is loose, where nothing was.
     ensures lands { OnOk result (IsTrue D.tells → Lands (D.files disk.old) (D.image disk.old) → Lands (D.files disk.new) (D.image disk.new)) }
+    ensures cut_lands { IsErrOf result StoreError.Cut → IsTrue D.tells → Lands (D.files disk.new) (D.image disk.new) }
 {
     notes.insert(epoch, key, value)?;
     if let Err(error) = journal.append(alloc, disk, fuse, epoch.0, body) {

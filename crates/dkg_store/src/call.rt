@@ -2,8 +2,9 @@
 //!
 //! The store makes all its changing calls of secrets through `perform_secret`.
 ghost use Rattle.std.specs.Prelude.{◌≡◌, ◌⊎◌, ◌≤◌, [], ◌∷◌, OnOk, IsErrOf, IsTrue, IfErr};
+ghost use Rattle.dkg_journal.specs.DeviceCall.{Makes};
 ghost use Rattle.dkg_journal.specs.Disk.{Rose};
-ghost use Rattle.dkg_journal.specs.Fuse.{spent_once, Reached};
+ghost use Rattle.dkg_journal.specs.Fuse.{calls_in, spent_once, Reached};
 ghost use Rattle.dkg_store.specs.Acts.{EndsBy};
 ghost use Rattle.dkg_store.specs.Calls.{cause_of};
 ghost use Rattle.dkg_store.specs.Errors.{IsOfSecrets, store_error_of};
@@ -93,7 +94,7 @@ fn made_call<X: SecretStore>(
     ensures memory { IsErrOf result SecretError.NoMemory → X.held secrets.new ≡ X.held secrets.old }
     ensures cause { HasCause (X.faults secrets.old) (X.faults secrets.new) result }
     ensures want { HasWant (X.wants secrets.old) (X.wants secrets.new) result }
-    ensures calls { X.made secrets.old secrets.new (op.now ∷ []) }
+    ensures calls { X.made secrets.old secrets.new (Makes op.now ∷ []) }
 {
     match *op {
         SecretOp::PutShare { epoch, share } => secrets.put_share(alloc, epoch, share),
@@ -121,7 +122,8 @@ pub fn perform_secret<X: SecretStore>(
     ensures later_wants { X.wants secrets.old ≤ X.wants secrets.new }
     ensures wanted { IsErrOf result StoreError.NoMemory → Rose (X.wants secrets.old) (X.wants secrets.new) }
     ensures secrets { IsErrOf result StoreError.Secrets → Rose (X.faults secrets.old) (X.faults secrets.new) }
-    ensures calls { X.made secrets.old secrets.new (op.now ∷ []) }
+    // It was made, or cut where the fuse says so.
+    ensures calls { X.made secrets.old secrets.new (calls_in fuse.old (op.now ∷ [])) }
     ensures counted { fuse.new ≡ spent_once fuse.old }
     ensures not_cut { OnOk result (Reached fuse.old fuse.new → ⊥) }
     ensures cut { IsErrOf result StoreError.Cut → Reached fuse.old fuse.new }

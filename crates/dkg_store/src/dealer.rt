@@ -238,6 +238,7 @@ impl Dealer {
         ensures named { OnOk result (IsTrue D.tells → Follows (Named (not (is_some (map.get self.old.acks player) || map.contains_key store.old.acks (epoch, player))) epoch) (D.image devices.old.disk.now) (D.image devices.new.disk.now)) }
         // At Ok nothing of the disk is loose, where nothing was.
         ensures lands { OnOk result (IsTrue D.tells → Lands (D.files devices.old.disk.now) (D.image devices.old.disk.now) → Lands (D.files devices.new.disk.now) (D.image devices.new.disk.now)) }
+        ensures cut_lands { IsErrOf result (AckHandleError.Store StoreError.Cut) → IsTrue D.tells → Lands (D.files devices.new.disk.now) (D.image devices.new.disk.now) }
         ensures same_disk { devices.new.disk.ghost_name ≡ devices.old.disk.ghost_name }
         ensures same_secrets { devices.new.secrets.ghost_name ≡ devices.old.secrets.ghost_name }
     {

@@ -15,6 +15,7 @@ ghost use Rattle.dkg_store.specs.Corrupt.{AreFit};
 ghost use Rattle.dkg_store.specs.Acts.{MadeOn};
 ghost use Rattle.dkg_store.specs.Calls.{put_and_appended, pruning, ended};
 ghost use Rattle.dkg_store.specs.Errors.{IsOfDevices, IsOfPruning};
+ghost use Rattle.dkg_store.specs.On.{StaysFirm};
 ghost use Rattle.dkg_store.specs.Named.{Named, MayBeNamed, NamesOpened, NamesPruned, SamePlan};
 ghost use Rattle.dkg_store.specs.Noted.{Gives, GivesPruned, Notes, acks_in, logs_in};
 ghost use Rattle.dkg_store.specs.Secrets.{Tries, after};
@@ -74,6 +75,7 @@ pub fn put_and_append<D: Disk, X: SecretStore>(
     ensures named { OnOk result (IsTrue D.tells → Follows (Named true section) (D.image devices.old.disk.now) (D.image devices.new.disk.now)) }
     // At Ok nothing of the disk is loose, where nothing was.
     ensures lands { OnOk result (IsTrue D.tells → Lands (D.files devices.old.disk.now) (D.image devices.old.disk.now) → Lands (D.files devices.new.disk.now) (D.image devices.new.disk.now)) }
+    ensures cut_lands { IsErrOf result StoreError.Cut → IsTrue D.tells → StaysFirm D.files D.image devices.old.disk.now devices.new.disk.now }
     // The secret store comes first: where it failed, the disk is as it was.
     ensures unreached { IsErrOf result StoreError.Secrets → devices.new.disk.now ≡ devices.old.disk.now }
     ensures same_disk { devices.new.disk.ghost_name ≡ devices.old.disk.ghost_name }
@@ -126,6 +128,7 @@ pub(crate) fn prune_devices<D: Disk, X: SecretStore>(
     ensures names { IsTrue D.tells → Follows (NamesPruned min) (D.image devices.old.disk.now) (D.image devices.new.disk.now) }
     // At Ok nothing of the disk is loose, where nothing was.
     ensures lands { OnOk result (IsTrue D.tells → Lands (D.files devices.old.disk.now) (D.image devices.old.disk.now) → Lands (D.files devices.new.disk.now) (D.image devices.new.disk.now)) }
+    ensures cut_lands { IsErrOf result StoreError.Cut → IsTrue D.tells → StaysFirm D.files D.image devices.old.disk.now devices.new.disk.now }
     // The disk comes first: where it failed, the secrets are as they were.
     ensures unreached { IsErrOf result StoreError.Disk → devices.new.secrets.now ≡ devices.old.secrets.now }
     ensures same_disk { devices.new.disk.ghost_name ≡ devices.old.disk.ghost_name }

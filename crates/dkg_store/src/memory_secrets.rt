@@ -6,7 +6,9 @@ ghost use Rattle.dkg_journal.specs.Disk.{Rose};
 ghost use Rattle.dkg_journal.specs.Failing.{FailsByNumber};
 ghost use Rattle.std.specs.FinMap as map;
 ghost use Rattle.dkg_store.specs.Cuts.{after_cut};
-ghost use Rattle.dkg_store.specs.Secrets.{HasCause, HasWant, Tries, TriesAll, after};
+ghost use Rattle.dkg_journal.specs.DeviceCall.{Makes, CutIn, Crashes};
+ghost use Rattle.dkg_store.specs.Made.{Made};
+ghost use Rattle.dkg_store.specs.Secrets.{HasCause, HasWant, Tries, after};
 
 use crate::held::Held;
 use crate::secrets::{SecretError, SecretOp, SecretStore};
@@ -74,7 +76,7 @@ impl MemorySecrets {
         ensures done { OnOk result (self.new.held ≡ after op.now self.old.held) }
         ensures kept { OnErr result (self.new.held ≡ self.old.held) }
         ensures tried { Tries op.now self.old.held self.new.held }
-        ensures calls { TriesAll (op.now ∷ []) self.old.held self.new.held }
+        ensures calls { Made (Makes op.now ∷ []) self.old.held self.new.held }
         ensures cause { HasCause self.old.faults self.new.faults result }
         ensures want { HasWant self.old.wants self.new.wants result }
         ensures number { FailsByNumber SecretError.Failed self.old.failing.items self.old.calls self.new.calls result }
@@ -93,7 +95,7 @@ impl MemorySecrets {
 
 impl SecretStore for MemorySecrets {
     ghost use Rattle.std.specs.Prelude.{true};
-    ghost use Rattle.dkg_store.specs.Secrets.{TriesAll};
+    ghost use Rattle.dkg_store.specs.Made.{Made, made_both};
 
     ghost tells = { true };
 
@@ -103,7 +105,7 @@ impl SecretStore for MemorySecrets {
 
     ghost wants = { λ s. s.wants };
 
-    ghost made = { λ old new ops. TriesAll ops old.held new.held };
+    ghost made = { λ old new calls. Made calls old.held new.held };
 
     fn put_share(&mut self, _alloc: Global, epoch: Epoch, share: Share) -> Result<(), SecretError>
         ensures done { OnOk result (self.new.held ≡ after (SecretOp.PutShare epoch share) self.old.held) }
@@ -111,7 +113,7 @@ impl SecretStore for MemorySecrets {
         ensures memory { IsErrOf result SecretError.NoMemory → self.new.held ≡ self.old.held }
         ensures cause { HasCause self.old.faults self.new.faults result }
         ensures want { HasWant self.old.wants self.new.wants result }
-        ensures calls { TriesAll (SecretOp.PutShare epoch share ∷ []) self.old.held self.new.held }
+        ensures calls { Made (Makes (SecretOp.PutShare epoch share) ∷ []) self.old.held self.new.held }
         // A failed call changes nothing.
         ensures kept { OnErr result (self.new.held ≡ self.old.held) }
         ensures number { FailsByNumber SecretError.Failed self.old.failing.items self.old.calls self.new.calls result }
@@ -125,7 +127,7 @@ impl SecretStore for MemorySecrets {
         ensures same { self.new.held ≡ self.old.held }
         ensures cause { HasCause self.old.faults self.new.faults result }
         ensures want { HasWant self.old.wants self.new.wants result }
-        ensures calls { TriesAll [] self.old.held self.new.held }
+        ensures calls { Made [] self.old.held self.new.held }
         ensures number { FailsByNumber SecretError.Failed self.old.failing.items self.old.calls self.new.calls result }
         ensures numbers { self.new.failing ≡ self.old.failing }
     {
@@ -139,7 +141,7 @@ impl SecretStore for MemorySecrets {
         ensures memory { IsErrOf result SecretError.NoMemory → self.new.held ≡ self.old.held }
         ensures cause { HasCause self.old.faults self.new.faults result }
         ensures want { HasWant self.old.wants self.new.wants result }
-        ensures calls { TriesAll (SecretOp.PutSeed epoch seed ∷ []) self.old.held self.new.held }
+        ensures calls { Made (Makes (SecretOp.PutSeed epoch seed) ∷ []) self.old.held self.new.held }
         // A failed call changes nothing.
         ensures kept { OnErr result (self.new.held ≡ self.old.held) }
         ensures number { FailsByNumber SecretError.Failed self.old.failing.items self.old.calls self.new.calls result }
@@ -153,7 +155,7 @@ impl SecretStore for MemorySecrets {
         ensures same { self.new.held ≡ self.old.held }
         ensures cause { HasCause self.old.faults self.new.faults result }
         ensures want { HasWant self.old.wants self.new.wants result }
-        ensures calls { TriesAll [] self.old.held self.new.held }
+        ensures calls { Made [] self.old.held self.new.held }
         ensures number { FailsByNumber SecretError.Failed self.old.failing.items self.old.calls self.new.calls result }
         ensures numbers { self.new.failing ≡ self.old.failing }
     {
@@ -173,7 +175,7 @@ impl SecretStore for MemorySecrets {
         ensures memory { IsErrOf result SecretError.NoMemory → self.new.held ≡ self.old.held }
         ensures cause { HasCause self.old.faults self.new.faults result }
         ensures want { HasWant self.old.wants self.new.wants result }
-        ensures calls { TriesAll (SecretOp.PutDealing epoch dealer private ∷ []) self.old.held self.new.held }
+        ensures calls { Made (Makes (SecretOp.PutDealing epoch dealer private) ∷ []) self.old.held self.new.held }
         // A failed call changes nothing.
         ensures kept { OnErr result (self.new.held ≡ self.old.held) }
         ensures number { FailsByNumber SecretError.Failed self.old.failing.items self.old.calls self.new.calls result }
@@ -196,7 +198,7 @@ impl SecretStore for MemorySecrets {
         ensures same { self.new.held ≡ self.old.held }
         ensures cause { HasCause self.old.faults self.new.faults result }
         ensures want { HasWant self.old.wants self.new.wants result }
-        ensures calls { TriesAll [] self.old.held self.new.held }
+        ensures calls { Made [] self.old.held self.new.held }
         ensures number { FailsByNumber SecretError.Failed self.old.failing.items self.old.calls self.new.calls result }
         ensures numbers { self.new.failing ≡ self.old.failing }
     {
@@ -210,7 +212,7 @@ impl SecretStore for MemorySecrets {
         ensures memory { IsErrOf result SecretError.NoMemory → self.new.held ≡ self.old.held }
         ensures cause { HasCause self.old.faults self.new.faults result }
         ensures want { HasWant self.old.wants self.new.wants result }
-        ensures calls { TriesAll (SecretOp.Prune min ∷ []) self.old.held self.new.held }
+        ensures calls { Made (Makes (SecretOp.Prune min) ∷ []) self.old.held self.new.held }
         // A failed call changes nothing.
         ensures kept { OnErr result (self.new.held ≡ self.old.held) }
         ensures number { FailsByNumber SecretError.Failed self.old.failing.items self.old.calls self.new.calls result }
@@ -225,7 +227,7 @@ impl SecretStore for MemorySecrets {
         ensures cause { self.new.faults ≡ self.old.faults }
         ensures later { self.old.wants ≤ self.new.wants }
         ensures wanted { OnErr result (Rose self.old.wants self.new.wants) }
-        ensures calls { TriesAll (op.now ∷ []) self.old.held self.new.held }
+        ensures calls { Made (CutIn op.now pick ∷ []) self.old.held self.new.held }
         // A put is done where the pick is even; of the keys that a prune is to take, those go at whose places the bits are 0.
         ensures picked { OnOk result (self.new.held ≡ after_cut op.now pick self.old.held) }
         ensures uncounted { self.new.calls ≡ self.old.calls }
@@ -238,18 +240,18 @@ impl SecretStore for MemorySecrets {
         Ok(())
     }
 
-    fn crash(&mut self, _pick: u64)
+    fn crash(&mut self, pick: u64)
         ensures same { self.new.held ≡ self.old.held }
         ensures cause { self.new.faults ≡ self.old.faults }
-        ensures calls { TriesAll [] self.old.held self.new.held }
+        ensures later { self.old.wants ≤ self.new.wants }
+        ensures calls { Made (Crashes pick ∷ []) self.old.held self.new.held }
         ensures uncounted { self.new.calls ≡ self.old.calls }
         ensures numbers { self.new.failing ≡ self.old.failing }
     {}
 
     ghost use Rattle.std.proofs.Common.{refl};
-    ghost use Rattle.dkg_store.specs.Secrets.{tries_more};
 
     ghost made_none = { λ _. refl };
 
-    ghost made_more = { λ a b c xs ys. tries_more xs ys a.held b.held c.held };
+    ghost made_more = { λ a b c xs ys. made_both xs ys a.held b.held c.held };
 }

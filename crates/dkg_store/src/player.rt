@@ -13,6 +13,7 @@ ghost use Rattle.dkg_store.specs.Calls.{keeping, accepting, answering, answered,
 ghost use Rattle.dkg_store.specs.Errors.{IsOfDevices, IsOfHandling};
 ghost use Rattle.dkg_store.specs.Events.{event_spelling, is_event};
 ghost use Rattle.dkg_store.specs.declared.event.Event.TheVariants as events;
+ghost use Rattle.dkg_store.specs.On.{StaysFirm};
 ghost use Rattle.dkg_store.specs.Named.{Named, MayBeNamed, NamesOpened, NamesPruned, SamePlan};
 ghost use Rattle.dkg_store.specs.Noted.{SameNotes};
 ghost use Rattle.dkg_store.specs.Pairs.{Holds, HoldsEither};
@@ -213,6 +214,7 @@ fn keep_dealing<D: Disk, X: SecretStore, Dir: Drop>(
     ensures named { OnOk result (IsTrue D.tells → Follows (Named true epoch) (D.image devices.old.disk.now) (D.image devices.new.disk.now)) }
     // At Ok nothing of the disk is loose, where nothing was.
     ensures lands { OnOk result (IsTrue D.tells → Lands (D.files devices.old.disk.now) (D.image devices.old.disk.now) → Lands (D.files devices.new.disk.now) (D.image devices.new.disk.now)) }
+    ensures cut_lands { IsErrOf result StoreError.Cut → IsTrue D.tells → StaysFirm D.files D.image devices.old.disk.now devices.new.disk.now }
     // The secret store comes first: where it failed, the disk is as it was.
     ensures unreached { IsErrOf result StoreError.Secrets → devices.new.disk.now ≡ devices.old.disk.now }
     ensures same_disk { devices.new.disk.ghost_name ≡ devices.old.disk.ghost_name }
@@ -366,6 +368,7 @@ impl Player {
         ensures named { OnOk result (IsTrue D.tells → Follows (Named true epoch) (D.image devices.old.disk.now) (D.image devices.new.disk.now)) }
         // At Ok nothing of the disk is loose, where nothing was.
         ensures lands { OnOk result (IsTrue D.tells → Lands (D.files devices.old.disk.now) (D.image devices.old.disk.now) → Lands (D.files devices.new.disk.now) (D.image devices.new.disk.now)) }
+        ensures cut_lands { IsErrOf result (DealingHandleError.Store StoreError.Cut) → IsTrue D.tells → StaysFirm D.files D.image devices.old.disk.now devices.new.disk.now }
         // The secret store comes first: where it failed, the disk is as it was.
         ensures unreached { IsErrOf result (DealingHandleError.Store StoreError.Secrets) → devices.new.disk.now ≡ devices.old.disk.now }
         ensures same_disk { devices.new.disk.ghost_name ≡ devices.old.disk.ghost_name }
@@ -477,6 +480,7 @@ impl Player {
         ensures named { OnOk result (IsTrue D.tells → IsPlayerOf C.ack_of self.old.me self.old.round self.old.acks store.old.dealings epoch → Follows (Named (not (is_some (map.get store.old.dealings (epoch, dealer)))) epoch) (D.image devices.old.disk.now) (D.image devices.new.disk.now)) }
         // At Ok nothing of the disk is loose, where nothing was.
         ensures lands { OnOk result (IsTrue D.tells → Lands (D.files devices.old.disk.now) (D.image devices.old.disk.now) → Lands (D.files devices.new.disk.now) (D.image devices.new.disk.now)) }
+        ensures cut_lands { IsErrOf result (DealingHandleError.Store StoreError.Cut) → IsTrue D.tells → StaysFirm D.files D.image devices.old.disk.now devices.new.disk.now }
         // The secret store comes first: where it failed, the disk is as it was.
         ensures unreached { IsErrOf result (DealingHandleError.Store StoreError.Secrets) → devices.new.disk.now ≡ devices.old.disk.now }
         ensures same_disk { devices.new.disk.ghost_name ≡ devices.old.disk.ghost_name }

@@ -4,6 +4,7 @@
 //! changing calls through `perform_secret`.
 ghost use Rattle.std.specs.Prelude.{◌≡◌, ◌≤◌, ◌++◌, [], ◌∷◌, List, ℕ, IfOk, OnOk, OnErr, IsErrOf, IsTrue, Bool};
 ghost use Rattle.std.specs.FinMap as map;
+ghost use Rattle.dkg_journal.specs.DeviceCall.{DeviceCall, Makes, CutIn, Crashes};
 ghost use Rattle.dkg_journal.specs.Disk.{Rose};
 ghost use Rattle.dkg_store.specs.Secrets.{Secrets, Tries, HasCause, HasWant, after};
 ghost use Rattle.dkg_store.specs.declared.secrets.SecretOp.{SecretOp};
@@ -61,8 +62,8 @@ pub trait SecretStore {
     /// How often the store itself wanted memory.
     ghost wants: { Self → ℕ };
 
-    /// The second store is the first after these changing calls, and no others.
-    ghost made: { Self → Self → List SecretOp → Type 0 };
+    /// The second store is the first after these changing calls, cuts and crashes, and no others.
+    ghost made: { Self → Self → List (DeviceCall SecretOp) → Type 0 };
 
     fn put_share(&mut self, alloc: Global, epoch: Epoch, share: Share) -> Result<(), SecretError>
         ensures done { OnOk result (IsTrue tells → held self.new ≡ after (SecretOp.PutShare epoch share) (held self.old)) }
@@ -70,7 +71,7 @@ pub trait SecretStore {
         ensures memory { IsErrOf result SecretError.NoMemory → held self.new ≡ held self.old }
         ensures cause { HasCause (faults self.old) (faults self.new) result }
         ensures want { HasWant (wants self.old) (wants self.new) result }
-        ensures calls { made self.old self.new (SecretOp.PutShare epoch share ∷ []) };
+        ensures calls { made self.old self.new (Makes (SecretOp.PutShare epoch share) ∷ []) };
 
     fn get_share(&mut self, alloc: Global, epoch: Epoch) -> Result<Option<Share>, SecretError>
         ensures share { IfOk result (λ share. IsTrue tells → share ≡ map.get (held self.old).shares epoch) }
@@ -85,7 +86,7 @@ pub trait SecretStore {
         ensures memory { IsErrOf result SecretError.NoMemory → held self.new ≡ held self.old }
         ensures cause { HasCause (faults self.old) (faults self.new) result }
         ensures want { HasWant (wants self.old) (wants self.new) result }
-        ensures calls { made self.old self.new (SecretOp.PutSeed epoch seed ∷ []) };
+        ensures calls { made self.old self.new (Makes (SecretOp.PutSeed epoch seed) ∷ []) };
 
     fn get_seed(&mut self, alloc: Global, epoch: Epoch) -> Result<Option<Seed>, SecretError>
         ensures seed { IfOk result (λ seed. IsTrue tells → seed ≡ map.get (held self.old).seeds epoch) }
@@ -106,7 +107,7 @@ pub trait SecretStore {
         ensures memory { IsErrOf result SecretError.NoMemory → held self.new ≡ held self.old }
         ensures cause { HasCause (faults self.old) (faults self.new) result }
         ensures want { HasWant (wants self.old) (wants self.new) result }
-        ensures calls { made self.old self.new (SecretOp.PutDealing epoch dealer private ∷ []) };
+        ensures calls { made self.old self.new (Makes (SecretOp.PutDealing epoch dealer private) ∷ []) };
 
     fn get_dealing(
         &mut self,
@@ -127,7 +128,7 @@ pub trait SecretStore {
         ensures memory { IsErrOf result SecretError.NoMemory → held self.new ≡ held self.old }
         ensures cause { HasCause (faults self.old) (faults self.new) result }
         ensures want { HasWant (wants self.old) (wants self.new) result }
-        ensures calls { made self.old self.new (SecretOp.Prune min ∷ []) };
+        ensures calls { made self.old self.new (Makes (SecretOp.Prune min) ∷ []) };
 
     /// Begins the call and stops in it.
     fn cut(&mut self, alloc: Global, op: &SecretOp, pick: u64) -> Mem<()>
@@ -136,16 +137,17 @@ pub trait SecretStore {
         ensures cause { faults self.new ≡ faults self.old }
         ensures later { wants self.old ≤ wants self.new }
         ensures wanted { OnErr result (Rose (wants self.old) (wants self.new)) }
-        ensures calls { made self.old self.new (op.now ∷ []) };
+        ensures calls { made self.old self.new (CutIn op.now pick ∷ []) };
 
     /// Stops between two calls.
     fn crash(&mut self, pick: u64)
         ensures same { held self.new ≡ held self.old }
         ensures cause { faults self.new ≡ faults self.old }
-        ensures calls { made self.old self.new [] };
+        ensures later { wants self.old ≤ wants self.new }
+        ensures calls { made self.old self.new (Crashes pick ∷ []) };
 
     /// No calls, and some calls after others.
     ghost made_none: { (a : Self) → made a a [] };
 
-    ghost made_more: { (a b c : Self) (xs ys : List SecretOp) → made a b xs → made b c ys → made a c (xs ++ ys) };
+    ghost made_more: { (a b c : Self) (xs ys : List (DeviceCall SecretOp)) → made a b xs → made b c ys → made a c (xs ++ ys) };
 }

@@ -37,6 +37,7 @@ ghost use Rattle.dkg_store.specs.Pairs.{Pairs, HoldsPruned, IsWhole, AreAtOrAbov
 ghost use Rattle.dkg_store.specs.declared.recorded_log.RecordedLog.{RecordedLog};
 ghost use Rattle.dkg_store.specs.Recorded.{AreChecked, is_reached, at_epoch, restored_list, of_epoch, first_refused, bare_logs, reached_logs};
 ghost use Rattle.dkg_store.specs.Both.{MadeBoth, IsWant, prune_both, put_then_append};
+ghost use Rattle.dkg_store.specs.On.{StaysFirm};
 ghost use Rattle.dkg_store.specs.Named.{Named, MayBeNamed, NamesOpened, NamesPruned, SamePlan};
 ghost use Rattle.dkg_store.specs.Noted.{Gives, GivesEither, GivesPruned, Notes, SameNotes, acks_in, logs_in};
 ghost use Rattle.dkg_store.specs.Dealer.{IsDealerOf, passing, passing_acks};
@@ -125,6 +126,7 @@ fn open_journal<D: Disk>(
     ensures sound { IsTrue D.tells → AreUnbroken (D.image disk.old) → AreUnbroken (D.image disk.new) }
     ensures settled_names { OnOk result (IsTrue D.tells → (c : Files) → D.image disk.new c → NamesOpened (D.files disk.old) c) }
     ensures lands { OnOk result (IsTrue D.tells → Lands (D.files disk.new) (D.image disk.new)) }
+    ensures cut_lands { IsErrOf result StoreError.Cut → IsTrue D.tells → Lands (D.files disk.new) (D.image disk.new) }
     ensures later { D.faults disk.old ≤ D.faults disk.new }
     ensures disk { IsErrOf result StoreError.Disk → Rose (D.faults disk.old) (D.faults disk.new) }
     ensures not_secrets { IsErrOf result StoreError.Secrets → ⊥ }
@@ -429,6 +431,7 @@ fn record_dealing<D: Disk, X: SecretStore>(
     ensures named { OnOk result (IsTrue D.tells → Follows (Named true epoch) (D.image devices.old.disk.now) (D.image devices.new.disk.now)) }
     // At Ok nothing of the disk is loose, where nothing was.
     ensures lands { OnOk result (IsTrue D.tells → Lands (D.files devices.old.disk.now) (D.image devices.old.disk.now) → Lands (D.files devices.new.disk.now) (D.image devices.new.disk.now)) }
+    ensures cut_lands { IsErrOf result StoreError.Cut → IsTrue D.tells → StaysFirm D.files D.image devices.old.disk.now devices.new.disk.now }
     // The secret store comes first: where it failed, the disk is as it was.
     ensures unreached { IsErrOf result StoreError.Secrets → devices.new.disk.now ≡ devices.old.disk.now }
     ensures same_disk { devices.new.disk.ghost_name ≡ devices.old.disk.ghost_name }
@@ -504,6 +507,7 @@ impl<Dir: Drop> Store<Dir> {
         ensures settled_names { OnOk result (IsTrue D.tells → (c : Files) → D.image devices.new.disk.now c → NamesOpened (D.files devices.old.disk.now) c) }
         // From then on nothing of the disk is loose.
         ensures lands { OnOk result (IsTrue D.tells → Lands (D.files devices.new.disk.now) (D.image devices.new.disk.now)) }
+        ensures cut_lands { IsErrOf result StoreError.Cut → IsTrue D.tells → Lands (D.files devices.new.disk.now) (D.image devices.new.disk.now) }
         ensures same { X.held devices.new.secrets.now ≡ X.held devices.old.secrets.now }
         ensures disk { IsErrOf result StoreError.Disk → Rose (D.faults devices.old.disk.now) (D.faults devices.new.disk.now) }
         ensures secrets { IsErrOf result StoreError.Secrets → Rose (X.faults devices.old.secrets.now) (X.faults devices.new.secrets.now) }
@@ -823,6 +827,7 @@ impl<Dir: Drop> Store<Dir> {
         ensures names { IsTrue D.tells → Follows (NamesPruned min) (D.image devices.old.disk.now) (D.image devices.new.disk.now) }
         // At Ok nothing of the disk is loose, where nothing was.
         ensures lands { OnOk result (IsTrue D.tells → Lands (D.files devices.old.disk.now) (D.image devices.old.disk.now) → Lands (D.files devices.new.disk.now) (D.image devices.new.disk.now)) }
+        ensures cut_lands { IsErrOf result StoreError.Cut → IsTrue D.tells → StaysFirm D.files D.image devices.old.disk.now devices.new.disk.now }
         // The disk comes first: where it failed, the secrets are as they were.
         ensures unreached { IsErrOf result StoreError.Disk → devices.new.secrets.now ≡ devices.old.secrets.now }
         ensures same_disk { devices.new.disk.ghost_name ≡ devices.old.disk.ghost_name }
@@ -884,6 +889,7 @@ impl<Dir: Drop> Store<Dir> {
         ensures named { IfOk result (λ new. IsTrue D.tells → Follows (Named new epoch) (D.image devices.old.disk.now) (D.image devices.new.disk.now)) }
         // At Ok nothing of the disk is loose, where nothing was.
         ensures lands { OnOk result (IsTrue D.tells → Lands (D.files devices.old.disk.now) (D.image devices.old.disk.now) → Lands (D.files devices.new.disk.now) (D.image devices.new.disk.now)) }
+        ensures cut_lands { IsErrOf result StoreError.Cut → IsTrue D.tells → StaysFirm D.files D.image devices.old.disk.now devices.new.disk.now }
         // The secret store comes first: where it failed, the disk is as it was.
         ensures unreached { IsErrOf result StoreError.Secrets → devices.new.disk.now ≡ devices.old.disk.now }
         ensures same_disk { devices.new.disk.ghost_name ≡ devices.old.disk.ghost_name }
@@ -956,6 +962,7 @@ impl<Dir: Drop> Store<Dir> {
         ensures named { IfOk result (λ new. IsTrue D.tells → Follows (Named new epoch) (D.image devices.old.disk.now) (D.image devices.new.disk.now)) }
         // At Ok nothing of the disk is loose, where nothing was.
         ensures lands { OnOk result (IsTrue D.tells → Lands (D.files devices.old.disk.now) (D.image devices.old.disk.now) → Lands (D.files devices.new.disk.now) (D.image devices.new.disk.now)) }
+        ensures cut_lands { IsErrOf result StoreError.Cut → IsTrue D.tells → Lands (D.files devices.new.disk.now) (D.image devices.new.disk.now) }
         ensures same_disk { devices.new.disk.ghost_name ≡ devices.old.disk.ghost_name }
         ensures same_secrets { devices.new.secrets.ghost_name ≡ devices.old.secrets.ghost_name }
     {
@@ -1029,6 +1036,7 @@ impl<Dir: Drop> Store<Dir> {
         ensures named { IfOk result (λ new. IsTrue D.tells → Follows (Named new epoch) (D.image devices.old.disk.now) (D.image devices.new.disk.now)) }
         // At Ok nothing of the disk is loose, where nothing was.
         ensures lands { OnOk result (IsTrue D.tells → Lands (D.files devices.old.disk.now) (D.image devices.old.disk.now) → Lands (D.files devices.new.disk.now) (D.image devices.new.disk.now)) }
+        ensures cut_lands { IsErrOf result StoreError.Cut → IsTrue D.tells → Lands (D.files devices.new.disk.now) (D.image devices.new.disk.now) }
         ensures same_disk { devices.new.disk.ghost_name ≡ devices.old.disk.ghost_name }
         ensures same_secrets { devices.new.secrets.ghost_name ≡ devices.old.secrets.ghost_name }
     {

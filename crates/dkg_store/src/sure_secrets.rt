@@ -1,7 +1,9 @@
 //! A secret store in memory that never fails.
 ghost use Rattle.std.specs.Prelude.{◌≡◌, ◌∷◌, [], OnOk, OnErr, IsErrOf};
 ghost use Rattle.std.specs.FinMap as map;
-ghost use Rattle.dkg_store.specs.Secrets.{HasWant, Tries, TriesAll, after};
+ghost use Rattle.dkg_journal.specs.DeviceCall.{Makes};
+ghost use Rattle.dkg_store.specs.Made.{Made};
+ghost use Rattle.dkg_store.specs.Secrets.{HasWant, Tries, after};
 
 use crate::held::Held;
 use crate::secrets::{SecretError, SecretOp, SecretStore};
@@ -31,7 +33,7 @@ impl SureSecrets {
         ensures done { OnOk result (self.new.held ≡ after op.now self.old.held) }
         ensures kept { OnErr result (self.new.held ≡ self.old.held) }
         ensures tried { Tries op.now self.old.held self.new.held }
-        ensures calls { TriesAll (op.now ∷ []) self.old.held self.new.held }
+        ensures calls { Made (Makes op.now ∷ []) self.old.held self.new.held }
         ensures sure { IsErrOf result SecretError.Failed → ⊥ }
         ensures want { HasWant self.old.wants self.new.wants result }
     {
@@ -47,7 +49,7 @@ impl SureSecrets {
 
 impl SecretStore for SureSecrets {
     ghost use Rattle.std.specs.Prelude.{true};
-    ghost use Rattle.dkg_store.specs.Secrets.{TriesAll};
+    ghost use Rattle.dkg_store.specs.Made.{Made, made_both};
 
     ghost tells = { true };
 
@@ -57,7 +59,7 @@ impl SecretStore for SureSecrets {
 
     ghost wants = { λ s. s.wants };
 
-    ghost made = { λ old new ops. TriesAll ops old.held new.held };
+    ghost made = { λ old new calls. Made calls old.held new.held };
 
     fn put_share(&mut self, _alloc: Global, epoch: Epoch, share: Share) -> Result<(), SecretError> {
         self.change(&SecretOp::PutShare { epoch, share })
@@ -113,9 +115,8 @@ impl SecretStore for SureSecrets {
     fn crash(&mut self, _pick: u64) {}
 
     ghost use Rattle.std.proofs.Common.{refl};
-    ghost use Rattle.dkg_store.specs.Secrets.{tries_more};
 
     ghost made_none = { λ _. refl };
 
-    ghost made_more = { λ a b c xs ys. tries_more xs ys a.held b.held c.held };
+    ghost made_more = { λ a b c xs ys. made_both xs ys a.held b.held c.held };
 }

@@ -35,3 +35,6 @@ returns-in_err-perform-2-clause-calls g c =
     ran_first g.D.Disk.made _ _ _ _ (c.args.write.now ∷ Sync (Segment c.args.section) ∷ []) [] (
     then_all g.D.Disk.made g.met.D.Disk.made_more _ _ _ _ _ _ (c.args.write.now ∷ []) (Sync (Segment c.args.section) ∷ []) (record { each = c.perform.ensures.calls; fuse = c.perform.ensures.counted }) (record { each = c.perform-2.ensures.calls; fuse = c.perform-2.ensures.counted })
     )
+
+pub returns-in_err-perform-clause-calls : goal.returns-in_err-perform-clause-calls
+returns-in_err-perform-clause-calls g c = ran_first g.D.Disk.made _ _ _ _ (c.args.write.now ∷ []) (Sync (Segment c.args.section) ∷ []) (record { each = c.perform.ensures.calls; fuse = c.perform.ensures.counted })

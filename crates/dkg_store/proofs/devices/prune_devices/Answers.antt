@@ -1,9 +1,8 @@
-use Rattle.std.proofs.Common.{ℕ, [], ◌∷◌, map, Err, refl, sym, ap, subst}
+use Rattle.std.proofs.Common.{ℕ, [], ◌∷◌, map, refl, sym, subst}
 use Rattle.std.specs.FinMap.{keys}
 use Rattle.std.proofs.lemmas.Result.{err_from_is_err_and}
 use Rattle.dkg_journal.specs.Fuse.{Ran, RanAll}
 use Rattle.dkg_journal.specs.Pruning.{prune_calls}
-use Rattle.dkg_journal.specs.declared.call.JournalError.{JournalError}
 use Rattle.dkg_journal.proofs.Steps.{then_all, ran_all, ran_more}
 use Rattle.dkg_store.specs.Both.{MadeBoth, on_disk, on_secrets}
 use Rattle.dkg_store.specs.Errors.{IsOfDevices, store_error_of}

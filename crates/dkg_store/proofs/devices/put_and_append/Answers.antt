@@ -1,4 +1,4 @@
-use Rattle.std.proofs.Common.{[], ◌∷◌, map, Err, refl, sym, subst}
+use Rattle.std.proofs.Common.{[], ◌∷◌, map, refl, sym, subst}
 use Rattle.dkg_store.specs.Errors.{IsOfDevices}
 use Rattle.std.proofs.lemmas.Result.{err_from_is_err_and}
 use Rattle.dkg_store.specs.Acts.{EndsBy}

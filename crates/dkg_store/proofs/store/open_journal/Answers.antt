@@ -7,7 +7,7 @@ use Rattle.dkg_journal.specs.declared.call.JournalError.{JournalError}
 use Rattle.dkg_journal.specs.Fuse.{Ran, RanAll}
 use Rattle.dkg_journal.specs.declared.disk.Op.TheVariants.{Barrier}
 use Rattle.dkg_journal.proofs.Journals.{unchanged_alike}
-use Rattle.dkg_journal.proofs.Steps.{then_all, then_ran, not_reached}
+use Rattle.dkg_journal.proofs.Steps.{then_all, then_ran, not_reached, ran_first}
 use Rattle.dkg_store.specs.Errors.{IsOfDevices, store_error_of}
 use Rattle.dkg_store.proofs.Acting.{breaks_off, of_journal_too}
 use Rattle.dkg_store.specs.Acts.{EndsBy}
@@ -25,6 +25,9 @@ use Rattle.dkg_store.proofs.store.open_journal.Goals as goal
 
 pub returns-in-Err-clause-images : goal.returns-in-Err-clause-images
 returns-in-Err-clause-images g c = λ told. barred _ _ c.perform.ensures.crash
+
+pub returns-in-Err-clause-calls : goal.returns-in-Err-clause-calls
+returns-in-Err-clause-calls g c = λ told. ran_first g.D.Disk.made _ _ _ _ (Barrier ∷ []) (open_calls (g.D.Disk.files c.args.disk.now)) (record { each = c.perform.ensures.calls; fuse = c.perform.ensures.counted })
 
 pub returns-in-Err-open-clause-images : goal.returns-in-Err-open-clause-images
 returns-in-Err-open-clause-images g c = λ told.

@@ -1,6 +1,6 @@
 use Rattle.std.proofs.Common.{ℕ, [], ◌∷◌, Option, subst, sym}
 use Rattle.dkg_journal.specs.Fuse.{Ran, RanAll}
-use Rattle.dkg_journal.proofs.Steps.{then_all, ran_all}
+use Rattle.dkg_journal.proofs.Steps.{then_all, ran_all, ran_first}
 use Rattle.dkg_store.specs.Commits.{commit_calls}
 use Rattle.dkg_store.specs.declared.secrets.SecretOp.TheVariants.{PutShare, PutSeed}
 use Rattle.std.proofs.lemmas.Result.{err_from_is_err_and}
@@ -38,3 +38,14 @@ returns-in_err-perform_secret-in-Some-2-clause-acts g c = λ told out j.
     (ended_broken (λ u. u) c.from_residual-in_err-perform_secret-in-Some-2.result p.0 p.1 (subst IsOfDevices (sym p.2) (of_secrets_too c.in_err-perform_secret-in-Some-2.field-0.0 c.in_err-perform_secret-in-Some-2.ensures.kinds)))
     (c.in_ok-perform_secret-in-Some.ensures.done told) c.perform_secret-in-Some.ensures.counted c.perform_secret-in-Some-2.ensures.crash c.perform_secret-in-Some-2.ensures.counted
     (subst (λ (e : StoreError). EndsBy (cause_of e) c.perform_secret-in-Some.new.fuse c.perform_secret-in-Some-2.new.fuse) (sym p.2) c.in_err-perform_secret-in-Some-2.ensures.ends))
+
+pub returns-in-None-clause-calls : goal.returns-in-None-clause-calls
+returns-in-None-clause-calls g c =
+    subst (λ (o : Option ℕ). Ran g.X.SecretStore.made c.args.secrets.now c.perform_secret.new.secrets c.args.fuse.now c.perform_secret.new.fuse (commit_calls c.args.epoch c.args.seed o)) (sym c.in-None.is)
+    (ran_all _ _ _ _ _ _ (one_call _ _ _ _ _ (PutSeed c.args.epoch c.args.seed) c.perform_secret.ensures.calls c.perform_secret.ensures.counted))
+
+pub returns-in_err-perform_secret-in-Some-clause-calls : goal.returns-in_err-perform_secret-in-Some-clause-calls
+returns-in_err-perform_secret-in-Some-clause-calls g c =
+    subst (λ (o : Option ℕ). Ran g.X.SecretStore.made c.args.secrets.now c.perform_secret-in-Some.new.secrets c.args.fuse.now c.perform_secret-in-Some.new.fuse (commit_calls c.args.epoch c.args.seed o)) (sym c.in-Some.is)
+    (ran_first _ _ _ _ _ (PutShare c.args.epoch c.in-Some.share ∷ []) (PutSeed c.args.epoch c.args.seed ∷ [])
+    (one_call _ _ _ _ _ (PutShare c.args.epoch c.in-Some.share) c.perform_secret-in-Some.ensures.calls c.perform_secret-in-Some.ensures.counted))

@@ -1,5 +1,6 @@
 use Rattle.std.proofs.Common.{inl, inr, ◌||◌, Bool, not, true, false, List, [], is_some, Err, refl, sym, ap, subst, ◌∙◌}
 use Rattle.dkg_journal.specs.Burn.{Burn}
+use Rattle.dkg_journal.specs.DeviceCall.{DeviceCall}
 use Rattle.dkg_journal.specs.Fuse.{Ran}
 use Rattle.dkg_journal.specs.declared.disk.Op.{Op}
 use Rattle.std.specs.Cmp.{nat_cmp_total}
@@ -19,7 +20,7 @@ use Rattle.dkg_store.specs.Named.{Named}
 use Rattle.dkg_store.proofs.Named.{may_same, known_names}
 use Rattle.dkg_store.proofs.dealer.Dealer.handle.Goals as goal
 
-nothing_ran : {D : Type 0} (made : D → D → List Op → Type 0) (a : D) (f : Burn) (calls : List Op) → made a a [] → Ran made a a f f calls
+nothing_ran : {D : Type 0} (made : D → D → List (DeviceCall Op) → Type 0) (a : D) (f : Burn) (calls : List Op) → made a a [] → Ran made a a f f calls
 nothing_ran made a f calls none = record { first = []; rest = calls; whole = refl; all = record { each = none; fuse = refl } }
 
 pub returns-in_err-check-clause-calls : goal.returns-in_err-check-clause-calls
