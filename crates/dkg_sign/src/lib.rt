@@ -45,6 +45,8 @@ mod material;
 mod partial;
 mod register;
 mod registrar;
+#[cfg(test)]
+mod tests;
 
 pub use desk::SigningDesk;
 pub use error::{CombineError, DeskError, SignError};
