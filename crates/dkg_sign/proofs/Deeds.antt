@@ -11,8 +11,8 @@ use Rattle.dkg_journal.proofs.Fuses.{fused_none}
 use Rattle.dkg_types.specs.declared.scheme.SchemeInfo.{SchemeInfo}
 use Rattle.dkg_sign.specs.Desks.{Desk, held_at, material_of, replaced_by}
 use Rattle.dkg_sign.specs.Materials.{is_own}
-use Rattle.dkg_sign.specs.Registers.{Judges, Tests, is_below}
-use Rattle.dkg_sign.specs.Lives.{Deed, Registered, Signed, NoneAbove, NoneRegistered, NeverBack, Covers, RecordCovers, Keeps, with_registered}
+use Rattle.dkg_sign.specs.Registers.{Judges, Verdict, is_below}
+use Rattle.dkg_sign.specs.Lives.{Deed, Registered, Signed, NoneAbove, NoneRegistered, NeverBack, Covers, RecordCovers, Keeps, KeptWith, with_registered}
 use Rattle.dkg_sign.specs.Recorded.{recorded, Stands}
 use Rattle.dkg_sign.specs.declared.error.DeskError.{DeskError}
 use Rattle.dkg_sign.specs.declared.error.DeskError.TheVariants.{Conflict, Cut, NoMemory}
@@ -70,20 +70,9 @@ keeps_tried epoch deeds files old new none reads tried keeps = record {
       (tried c now);
 }
 
--- a partial of an epoch above which none was registered
-pub keeps_signed : (epoch : ℕ) (deeds : List Deed) (image : Files → Type 0) → NoneAbove epoch deeds → Keeps deeds image → Keeps (Signed epoch ∷ deeds) image
-keeps_signed epoch deeds image none keeps = record {
-  never_back = (none, keeps.never_back);
-  recorded = λ c now. still (recorded c) (keeps.recorded c now);
-}
-  where
-    at : (current : Option ℕ) → Covers current deeds → Covers current (Signed epoch ∷ deeds)
-    at None covers = covers
-    at (Some e) covers = covers
-
-    still : (reading : Result (Option ℕ) DeskError) → RecordCovers reading deeds → RecordCovers reading (Signed epoch ∷ deeds)
-    still (Ok current) covers = at current covers
-    still (Err e) covers = tt
+-- one deed more
+pub keeps_with : (deed : Deed) (deeds : List Deed) (current : Option ℕ) (image : Files → Type 0) → Keeps deeds image → KeptWith deed current deeds → Keeps (deed ∷ deeds) image
+keeps_with deed deeds current image keeps more = record { never_back = more.never_back; recorded = λ c now. more.recorded c (keeps.recorded c now) }
 
 -- ---- a registration
 
@@ -117,17 +106,17 @@ ok_not_err : (b : Bool) (e : DeskError) → ◌≡◌ {A = Result Bool DeskError
 ok_not_err b e is = cc
 
 -- which desks are asked to take material
-taken_from : (replaced : Option ℕ) (own : Bool) (held : Option SchemeInfo) (epoch : ℕ) (info : SchemeInfo) → Tests replaced own held epoch info (Ok true) → replaced ≡ None
+taken_from : (replaced : Option ℕ) (own : Bool) (held : Option SchemeInfo) (epoch : ℕ) (info : SchemeInfo) → Verdict replaced own held epoch info (Ok true) → replaced ≡ None
 taken_from (Some c) own held epoch info tests = absurd (ok_not_err _ _ tests)
 taken_from None own held epoch info tests = refl
 
-known_from : (replaced : Option ℕ) (own : Bool) (held : Option SchemeInfo) (epoch : ℕ) (info : SchemeInfo) → Tests replaced own held epoch info (Ok false) → (other : SchemeInfo) × (held ≡ Some other)
+known_from : (replaced : Option ℕ) (own : Bool) (held : Option SchemeInfo) (epoch : ℕ) (info : SchemeInfo) → Verdict replaced own held epoch info (Ok false) → (other : SchemeInfo) × (held ≡ Some other)
 known_from (Some c) own held epoch info tests = absurd (ok_not_err _ _ tests)
 known_from None false held epoch info tests = absurd (ok_not_err _ _ tests)
 known_from None true None epoch info tests = absurd cc
 known_from None true (Some other) epoch info tests = (other, refl)
 
-never_cut : (replaced : Option ℕ) (own : Bool) (held : Option SchemeInfo) (epoch : ℕ) (info : SchemeInfo) (e : DeskError) → Tests replaced own held epoch info (Err e) → e ≡ Cut → ⊥
+never_cut : (replaced : Option ℕ) (own : Bool) (held : Option SchemeInfo) (epoch : ℕ) (info : SchemeInfo) (e : DeskError) → Verdict replaced own held epoch info (Err e) → e ≡ Cut → ⊥
 never_cut (Some c) own held epoch info e tests cut = absurd cc
 never_cut None false held epoch info e tests cut = absurd cc
 never_cut None true None epoch info e tests cut = absurd cc
@@ -198,6 +187,36 @@ unregistered r e P epoch deeds is p = subst (λ (s : Result (Unit {0}) DeskError
 -- what is held is of an epoch above which none was registered
 pub held_covers : (desk : Desk) (epoch : ℕ) (info : SchemeInfo) (deeds : List Deed) → material_of desk epoch ≡ Some info → Covers desk.current deeds → NoneAbove epoch deeds
 held_covers desk epoch info deeds held covers = subst (λ (o : Option ℕ). Covers o deeds) (held_current desk.current desk.held epoch info held) covers
+
+-- a partial of what is held
+pub signed_lives : (desk : Desk) (epoch : ℕ) (info : SchemeInfo) (deeds : List Deed) → material_of desk epoch ≡ Some info → NeverBack deeds → Covers desk.current deeds → KeptWith (Signed epoch) desk.current deeds
+signed_lives desk epoch info deeds held never covers = record {
+  never_back = (held_covers desk epoch info deeds held covers, never);
+  covers = at desk.current covers;
+  recorded = λ c. still (recorded c);
+}
+  where
+    at : (current : Option ℕ) → Covers current deeds → Covers current (Signed epoch ∷ deeds)
+    at None covers = covers
+    at (Some e) covers = covers
+
+    still : (reading : Result (Option ℕ) DeskError) → RecordCovers reading deeds → RecordCovers reading (Signed epoch ∷ deeds)
+    still (Ok current) covers = at current covers
+    still (Err e) covers = tt
+
+-- before anything is done, over any disk
+pub nothing_done : (image : Files → Type 0) → Keeps [] image
+nothing_done image = record { never_back = tt; recorded = λ c now. none (recorded c) }
+  where
+    none : (reading : Result (Option ℕ) DeskError) → RecordCovers reading []
+    none (Ok None) = tt
+    none (Ok (Some epoch)) = tt
+    none (Err e) = tt
+
+-- material that is taken goes into the record, unless its epoch is there
+pub taken_current : (desk : Desk) (epoch : ℕ) (info : SchemeInfo) (b : Bool) → Judges desk epoch info (Ok b) → b ≡ true → is_below desk.current epoch ≡ false → desk.current ≡ Some epoch
+taken_current desk epoch info b judged is below =
+    from_unreplaced desk.current epoch (taken_from (replaced_by desk.current epoch) (is_own desk.me info) (material_of desk epoch) epoch info (subst (λ (v : Bool). Judges desk epoch info (Ok v)) is judged)) below
 
 -- fewer deeds
 pub keeps_before : (deed : Deed) (deeds : List Deed) (image : Files → Type 0) → Keeps (deed ∷ deeds) image → Keeps deeds image

@@ -1,16 +1,17 @@
 -- One key over the epochs of a chain: an outcome keeps the constant coefficient of the output that it was dealt from.
-use Rattle.std.proofs.Common.{◌≡◌, ◌⊎◌, inl, inr, ℕ, Bool, true, false, eqb, List, [], ◌∷◌, Option, Some, None, Result, Ok, Err, refl, sym, ap, ◌∙◌}
+use Rattle.std.proofs.Common.{◌≡◌, inl, inr, ℕ, true, List, [], ◌∷◌, Option, Some, None, Result, Ok, Err, refl, sym, ap, ◌∙◌}
 use Rattle.std.specs.Prelude.{zero, suc, length, nat_lt, option_and_then, slice_get}
 use Rattle.std.specs.Result.{result_ok}
 use Rattle.std.proofs.lemmas.Bool.{cases_Bool, eqb-true}
 use Rattle.dkg_values.specs.declared.codec.CodecError.{CodecError}
 use Rattle.dkg_ceremony.specs.declared.output.Output.{Output}
 use Rattle.dkg_ceremony.specs.declared.round.Round.{Round}
-use Rattle.dkg_ceremony.specs.Outputs.{OutputParts, output_parts, do_parts_agree, output_from}
+use Rattle.dkg_ceremony.specs.Outputs.{OutputParts, do_parts_agree, output_from}
 use Rattle.dkg_ceremony.specs.OutputGrammar.{parts_of_output}
 use Rattle.dkg_ceremony.specs.Outcomes.{LogMap, begin_alike, keeps_key, outcome_parts, output_with, output_for, revealed_of, selected_of, sum_of, combined_of, outcome_of}
 use Rattle.dkg_types.specs.declared.scheme.SchemeInfo.{SchemeInfo}
-use Rattle.dkg_sign.specs.Chains.{Follows, IsChain, ShareOneKey}
+use Rattle.dkg_ceremony.specs.declared.sharing.Sharing.{Sharing}
+use Rattle.dkg_sign.specs.Chains.{HoldsOf, IsNextOutput, IsChain, ShareOneKey}
 use Rattle.dkg_sign.specs.Desks.{Desk, material_of}
 use Rattle.dkg_sign.specs.Materials.{key_of, sharing_of}
 use Rattle.dkg_sign.specs.Signing.{hash_of, signature_of, times}
@@ -56,7 +57,7 @@ pub outcome_keeps : (round : Round) (logs : LogMap) (before o : Output) → roun
 unfolding outcome_of
 outcome_keeps round logs before o was e = kept_by round logs (selected_of round logs) before o was e
 
-step_keeps : (before o : Output) → Follows before o → key_of o.sharing.poly ≡ key_of before.sharing.poly
+step_keeps : (before o : Output) → IsNextOutput before o → key_of o.sharing.poly ≡ key_of before.sharing.poly
 step_keeps before o (inl same) = ap (λ (x : Output). key_of x.sharing.poly) same
 step_keeps before o (inr new) = outcome_keeps new.0 new.1 before o new.2 new.3
 
@@ -89,3 +90,25 @@ combined_value desk message epoch partials s info held e =
 pub one_value : (one other : Desk) (message : List ℕ) (epoch later : ℕ) (partials partials' : List Partial) (s t : Signature) → ShareOneKey one epoch other later → combine_of one message epoch partials ≡ Ok s → combine_of other message later partials' ≡ Ok t → s.value ≡ t.value
 one_value one other message epoch later partials partials' s t key of_one of_other =
     combined_value one message epoch partials s key.info key.held of_one ∙ ap (times (hash_of message)) key.same ∙ sym (combined_value other message later partials' t key.info' key.held' of_other)
+
+-- ---- one signature along a chain
+
+in_chain : (first : Output) (outputs : List Output) → IsChain first outputs → (i : ℕ) (a : Output) → slice_get (first ∷ outputs) i ≡ Some a → key_of a.sharing.poly ≡ key_of first.sharing.poly
+in_chain first outputs chain zero a at = let here : first ≡ a = cc in ap (λ (x : Output). key_of x.sharing.poly) (sym here)
+in_chain first outputs chain (suc i) a at = chain_keeps first outputs chain i a at
+
+share_one : (one : Desk) (epoch : ℕ) (other : Desk) (later : ℕ) (a b : Sharing) → HoldsOf one epoch a → HoldsOf other later b → key_of a.poly ≡ key_of b.poly → ShareOneKey one epoch other later
+share_one one epoch other later a b held held' same = record {
+  info = held.0;
+  info' = held'.0;
+  held = held.1;
+  held' = held'.1;
+  same = ap (λ (s : Sharing). key_of s.poly) held.2 ∙ same ∙ sym (ap (λ (s : Sharing). key_of s.poly) held'.2);
+}
+
+pub chain_value : (first : Output) (outputs : List Output) → IsChain first outputs → (i j : ℕ) (a b : Output) → slice_get (first ∷ outputs) i ≡ Some a → slice_get (first ∷ outputs) j ≡ Some b
+    → (one other : Desk) (epoch later : ℕ) → HoldsOf one epoch a.sharing → HoldsOf other later b.sharing → (message : List ℕ) (partials partials' : List Partial) (s t : Signature)
+    → combine_of one message epoch partials ≡ Ok s → combine_of other message later partials' ≡ Ok t → s.value ≡ t.value
+chain_value first outputs chain i j a b at_a at_b one other epoch later held held' message partials partials' s t of_one of_other =
+    let key : key_of a.sharing.poly ≡ key_of b.sharing.poly = in_chain first outputs chain i a at_a ∙ sym (in_chain first outputs chain j b at_b) in
+    one_value one other message epoch later partials partials' s t (share_one one epoch other later a.sharing b.sharing held held' key) of_one of_other

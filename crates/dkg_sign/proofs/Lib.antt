@@ -2,5 +2,5 @@ pub mod Deeds
 pub mod Fuses
 pub mod Keys
 pub mod OnRecord
-pub mod Playing
+pub mod Registering
 pub mod Signers

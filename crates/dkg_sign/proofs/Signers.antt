@@ -1,16 +1,15 @@
 -- Which participants were met among the signers of partials.
-use Rattle.std.proofs.Common.{◌≡◌, ◌≢◌, ◌⊎◌, inl, inr, ⊎_elim, ℕ, zero, suc, ◌+◌, ◌<◌, ◌≤◌, ◌||◌, Bool, true, false, cond, not, eqb, List, [], ◌∷◌, length, get_or, drop, Option, Some, None, is_some, replicate, refl, sym, ◌∙◌, ap, subst, add-one, arith}
+use Rattle.std.proofs.Common.{◌≡◌, ◌⊎◌, inl, inr, ℕ, zero, suc, ◌+◌, ◌<◌, ◌≤◌, ◌||◌, Bool, true, false, not, eqb, List, [], ◌∷◌, length, get_or, drop, Some, None, replicate, refl, sym, ◌∙◌, ap, add-one, arith}
 use Rattle.std.proofs.Math.ListN.{set}
 use Rattle.std.proofs.Math.Seq.{drop-cons, drop-length}
 use Rattle.std.specs.Bool.{OnTrue}
 use Rattle.std.proofs.lemmas.Bool.{cases_Bool, cases_eq, eq-eqb, eqb-true, ne_eqb}
 use Rattle.std.proofs.lemmas.List.{get_or-set_same, get_or-set_other}
-use Rattle.std.specs.List.{position_from, list_any}
+use Rattle.std.specs.List.{position_from}
 use Rattle.dkg_values.specs.Rising.{place_of, has_key}
 use Rattle.dkg_types.specs.declared.scheme.SchemeInfo.{SchemeInfo}
 use Rattle.dkg_sign.specs.Materials.{participants_of}
 use Rattle.dkg_sign.specs.Signs.{AreMet, fault_from, is_valid}
-use Rattle.dkg_sign.specs.declared.error.CombineError.{CombineError}
 use Rattle.dkg_sign.specs.declared.error.CombineError.TheVariants.{Invalid, Doubled}
 use Rattle.dkg_sign.specs.declared.partial.Partial.{Partial}
 

@@ -1,20 +1,21 @@
 -- The outputs of one chain, and when two materials share one key.
-use Rattle.std.specs.Prelude.{◌≡◌, ◌⊎◌, ℕ, List, [], ◌∷◌, Option, Some}
+use Rattle.std.specs.Prelude.{◌≡◌, ◌⊎◌, ℕ, List, [], ◌∷◌, Some}
 use Rattle.dkg_ceremony.specs.declared.output.Output.{Output}
 use Rattle.dkg_ceremony.specs.declared.round.Round.{Round}
+use Rattle.dkg_ceremony.specs.declared.sharing.Sharing.{Sharing}
 use Rattle.dkg_ceremony.specs.Outcomes.{LogMap, outcome_of}
 use Rattle.dkg_types.specs.declared.scheme.SchemeInfo.{SchemeInfo}
 use Rattle.dkg_sign.specs.Desks.{Desk, material_of}
 use Rattle.dkg_sign.specs.Materials.{key_of, sharing_of}
 
 -- The output of the next epoch: the same after a failed round, or else the outcome of a round that deals this one again.
-abbrev pub Follows : Output → Output → Type 0
-Follows before o = (o ≡ before) ⊎ ((round : Round) × (logs : LogMap) × (round.previous ≡ Some before) × (outcome_of round logs ≡ Some o))
+abbrev pub IsNextOutput : Output → Output → Type 0
+IsNextOutput before o = (o ≡ before) ⊎ ((round : Round) × (logs : LogMap) × (round.previous ≡ Some before) × (outcome_of round logs ≡ Some o))
 
 -- outputs of one epoch after the other
 abbrev pub IsChain : Output → List Output → Type 0
 IsChain first [] = Unit {0}
-IsChain first (o ∷ os) = Follows first o × IsChain o os
+IsChain first (o ∷ os) = IsNextOutput first o × IsChain o os
 
 -- two desks hold material of one key
 pub record ShareOneKey (one : Desk) (epoch : ℕ) (other : Desk) (later : ℕ) : Type 0 where
@@ -23,3 +24,7 @@ pub record ShareOneKey (one : Desk) (epoch : ℕ) (other : Desk) (later : ℕ) :
   pub held : material_of one epoch ≡ Some info
   pub held' : material_of other later ≡ Some info'
   pub same : key_of (sharing_of info).poly ≡ key_of (sharing_of info').poly
+
+-- a desk holds material of this sharing
+abbrev pub HoldsOf : Desk → (epoch : ℕ) → Sharing → Type 0
+HoldsOf desk epoch sharing = (info : SchemeInfo) × (material_of desk epoch ≡ Some info) × (sharing_of info ≡ sharing)

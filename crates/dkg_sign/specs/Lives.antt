@@ -1,5 +1,5 @@
 -- What a desk has done over all its lives, and what a crash may leave of it.
-use Rattle.std.specs.Prelude.{◌≡◌, ◌≤◌, ℕ, List, [], ◌∷◌, Option, Some, None, Result, Ok, Err}
+use Rattle.std.specs.Prelude.{◌≤◌, ℕ, List, [], ◌∷◌, Option, Some, None, Result, Ok, Err}
 use Rattle.dkg_journal.specs.Names.{Files}
 use Rattle.dkg_sign.specs.Recorded.{recorded}
 use Rattle.dkg_sign.specs.declared.error.DeskError.{DeskError}
@@ -41,6 +41,12 @@ RecordCovers (Err e) deeds = Unit {0}
 pub record Keeps (deeds : List Deed) (image : Files → Type 0) : Type 0 where
   pub never_back : NeverBack deeds
   pub recorded : (c : Files) → image c → RecordCovers (recorded c) deeds
+
+-- One deed more: the promise is kept with it too, and what covers those before covers it.
+pub record KeptWith (deed : Deed) (current : Option ℕ) (deeds : List Deed) : Type 0 where
+  pub never_back : NeverBack (deed ∷ deeds)
+  pub covers : Covers current (deed ∷ deeds)
+  pub recorded : (c : Files) → RecordCovers (recorded c) deeds → RecordCovers (recorded c) (deed ∷ deeds)
 
 -- the deeds behind a registration with this answer
 abbrev pub with_registered : Result (Unit {0}) DeskError → (epoch : ℕ) → List Deed → List Deed

@@ -1,5 +1,5 @@
 -- What opening a desk and registering an epoch's material come to.
-use Rattle.std.specs.Prelude.{◌≡◌, ◌≢◌, ◌⊎◌, ℕ, nat_lt, Bool, true, false, List, [], ◌∷◌, Option, Some, None, Result, Ok, Err}
+use Rattle.std.specs.Prelude.{◌≡◌, ◌≢◌, ◌⊎◌, ℕ, nat_lt, Bool, true, false, Option, Some, None, Result, Ok, Err}
 use Rattle.dkg_values.specs.Uint.{uint}
 use Rattle.dkg_values.specs.declared.name.Name.TheVariants.{Plan}
 use Rattle.dkg_journal.specs.Names.{Files}
@@ -59,15 +59,15 @@ IsKept (Err (Replaced asked current)) = Unit {0}
 IsKept (Err (Conflict epoch)) = Unit {0}
 IsKept (Err (Foreign epoch)) = Unit {0}
 
--- The tests of a registration in their order: why it is refused, or whether the material is to be taken. The same material again is not.
-abbrev pub Tests : Option ℕ → Bool → Option SchemeInfo → (epoch : ℕ) → SchemeInfo → Result Bool DeskError → Type 0
-Tests (Some current) own held epoch info verdict = verdict ≡ Err (Replaced epoch current)
-Tests None false held epoch info verdict = verdict ≡ Err (Foreign epoch)
-Tests None true None epoch info verdict = verdict ≡ Ok true
-Tests None true (Some other) epoch info verdict = ((verdict ≡ Ok false) × (other ≡ info)) ⊎ ((verdict ≡ Err (Conflict epoch)) × (other ≢ info))
+-- The verdict of a registration's tests, in their order: why it is refused, or whether the material is to be taken. The same material again is not.
+abbrev pub Verdict : Option ℕ → Bool → Option SchemeInfo → (epoch : ℕ) → SchemeInfo → Result Bool DeskError → Type 0
+Verdict (Some current) own held epoch info verdict = verdict ≡ Err (Replaced epoch current)
+Verdict None false held epoch info verdict = verdict ≡ Err (Foreign epoch)
+Verdict None true None epoch info verdict = verdict ≡ Ok true
+Verdict None true (Some other) epoch info verdict = ((verdict ≡ Ok false) × (other ≡ info)) ⊎ ((verdict ≡ Err (Conflict epoch)) × (other ≢ info))
 
 abbrev pub Judges : Desk → (epoch : ℕ) → SchemeInfo → Result Bool DeskError → Type 0
-Judges desk epoch info verdict = Tests (replaced_by desk.current epoch) (is_own desk.me info) (material_of desk epoch) epoch info verdict
+Judges desk epoch info verdict = Verdict (replaced_by desk.current epoch) (is_own desk.me info) (material_of desk epoch) epoch info verdict
 
 -- whether the record has a lower epoch, or none
 abbrev pub is_below : Option ℕ → (epoch : ℕ) → Bool
@@ -93,7 +93,8 @@ reaches (Ok false) higher = false
 reaches (Err e) higher = false
 
 -- A registration, as it went: the tests, the answer and the desk behind it, and that nothing is done on the disk where it is not reached.
-pub record Registers {D F : Type 0} (old new : Desk) (epoch : ℕ) (info : SchemeInfo) (result : Result (Unit {0}) DeskError) (disk disk' : D) (fuse fuse' : F) : Type 0 where
+pub record Registers {D F : Type 0} (old new : Desk) (epoch : ℕ) (info : SchemeInfo) (result : Result (Unit {0}) DeskError)
+    (disk disk' : D) (fuse fuse' : F) : Type 0 where
   pub verdict : Result Bool DeskError
   pub judged : Judges old epoch info verdict
   pub ended : EndsBy verdict (is_below old.current epoch) epoch info old new result

@@ -1,11 +1,16 @@
 -- Where a registrar's desk stands beside its disk, and how a registration went.
-use Rattle.std.specs.Prelude.{◌≡◌, ◌≢◌, ◌⊎◌, ℕ, Bool, true, false, List, [], ◌∷◌, ◌++◌, Option, None, Result, Ok, Err, IsErrAnd}
+use Rattle.std.specs.Prelude.{◌≡◌, ◌≢◌, ◌⊎◌, ℕ, Bool, true, false, List, [], ◌∷◌, ◌++◌, Option, None, Some, Result, Ok, Err, IsErrAnd, IsTrue}
 use Rattle.dkg_journal.specs.Names.{Files}
+use Rattle.dkg_journal.specs.Burn.{Burn}
+use Rattle.dkg_journal.specs.DeviceCall.{DeviceCall}
 use Rattle.dkg_journal.specs.Disk.{Rose}
+use Rattle.dkg_journal.specs.Fuse.{Ran}
+use Rattle.dkg_journal.specs.declared.disk.Op.{Op}
+use Rattle.dkg_journal.specs.declared.disk.Op.TheVariants.{Barrier}
 use Rattle.dkg_types.specs.declared.scheme.SchemeInfo.{SchemeInfo}
 use Rattle.dkg_sign.specs.Desks.{Desk}
-use Rattle.dkg_sign.specs.Recorded.{Stands}
-use Rattle.dkg_sign.specs.Registers.{EndsBy, IsOfOpening, Judges, is_below}
+use Rattle.dkg_sign.specs.Recorded.{Stands, recorded}
+use Rattle.dkg_sign.specs.Registers.{EndsBy, IsOfOpening, Judges, Opens, is_below}
 use Rattle.dkg_sign.specs.declared.error.DeskError.{DeskError}
 use Rattle.dkg_sign.specs.declared.error.DeskError.TheVariants.{Replaced, Conflict, Foreign, Disk, Corrupt, Cut, NoMemory}
 
@@ -24,18 +29,22 @@ is_broken (Err (Replaced asked current)) = false
 is_broken (Err (Conflict epoch)) = false
 is_broken (Err (Foreign epoch)) = false
 
--- the desk could not be opened again, and is as it was
-pub record StaysShut (reopen reopen' : Bool) (old new : Desk) (answer : Result (Unit {0}) DeskError) : Type 0 where
+-- The desk could not be opened again over a record that reads so, and is as it was.
+pub record StaysShut (tells : Bool) (reading : Result (Option ℕ) DeskError) (reopen reopen' : Bool) (old new : Desk)
+    (answer : Result (Unit {0}) DeskError) : Type 0 where
   pub had_to : reopen ≡ true
   pub has_to : reopen' ≡ true
   pub same : new ≡ old
   pub why : IsErrAnd answer IsOfOpening
+  pub exact : IsTrue tells → IsErrAnd answer (λ e. Opens reading (Err e))
 
--- The desk was asked, or the one that was opened again in its place, and answered so.
-pub record Asked (reopen : Bool) (old new : Desk) (epoch : ℕ) (info : SchemeInfo) (answer : Result (Unit {0}) DeskError) : Type 0 where
+-- The desk was asked, or the one that was opened again in its place over a record that reads so, and answered so.
+pub record Asked (tells : Bool) (reading : Result (Option ℕ) DeskError) (reopen : Bool) (old new : Desk)
+    (epoch : ℕ) (info : SchemeInfo) (answer : Result (Unit {0}) DeskError) : Type 0 where
   pub desk : Desk
   pub first : reopen ≡ false → desk ≡ old
   pub again : reopen ≡ true → (desk.me ≡ old.me) × (desk.held ≡ None)
+  pub reads : IsTrue tells → reopen ≡ true → reading ≡ Ok desk.current
   pub verdict : Result Bool DeskError
   pub judged : Judges desk epoch info verdict
   pub ended : EndsBy verdict (is_below desk.current epoch) epoch info desk new answer
@@ -46,9 +55,33 @@ listed (Ok done) refused = refused
 listed (Err why) refused = refused ++ why ∷ []
 
 -- A registration that was not answered by want of memory: what the desk answered, and that a refusal is listed.
-pub record Told (reopen reopen' : Bool) (old new : Desk) (epoch : ℕ) (info : SchemeInfo) (refused refused' : List DeskError) (faults faults' : ℕ) : Type 0 where
+pub record Attempted (tells : Bool) (reading : Result (Option ℕ) DeskError) (reopen reopen' : Bool) (old new : Desk)
+    (epoch : ℕ) (info : SchemeInfo) (refused refused' : List DeskError) (faults faults' : ℕ) : Type 0 where
   pub answer : Result (Unit {0}) DeskError
-  pub went : StaysShut reopen reopen' old new answer ⊎ (Asked reopen old new epoch info answer × (reopen' ≡ is_broken answer))
+  pub went : StaysShut tells reading reopen reopen' old new answer ⊎ (Asked tells reading reopen old new epoch info answer × (reopen' ≡ is_broken answer))
   pub list : refused' ≡ listed answer refused
   pub not_memory : answer ≢ Err NoMemory
+  -- no fuse cuts a registrar's calls
+  pub not_cut : answer ≢ Err Cut
   pub disk : answer ≡ Err Disk → Rose faults faults'
+
+-- Want of memory leaves all as it was, but that a desk that had to be opened again may have been.
+pub record Wanted (tells : Bool) (reading : Result (Option ℕ) DeskError) (reopen reopen' : Bool) (old new : Desk) : Type 0 where
+  pub desk : ((reopen' ≡ reopen) × (new ≡ old))
+      ⊎ ((reopen ≡ true) × (reopen' ≡ false) × (new.me ≡ old.me) × (new.held ≡ None) × (IsTrue tells → reading ≡ Ok new.current))
+
+-- the record as it was, or with this epoch
+abbrev pub PutsAtMost : (epoch : ℕ) → Files → Files → Type 0
+PutsAtMost epoch old new = (recorded new ≡ recorded old) ⊎ (recorded new ≡ Ok (Some epoch))
+
+-- the calls that open a desk again, where that has to be
+abbrev pub opening_calls : (reopen : Bool) → List Op
+opening_calls true = Barrier ∷ []
+opening_calls false = []
+
+-- The first of these calls were made, and no others, and none of them was cut.
+pub record RanUncut {D O : Type 0} (made : D → D → List (DeviceCall O) → Type 0) (old new : D) (calls : List O) : Type 0 where
+  pub before : Burn
+  pub now : Burn
+  pub never : before.call ≡ 0
+  pub ran : Ran made old new before now calls

@@ -1,5 +1,5 @@
 -- Hashes, partials and signatures as numbers.
-use Rattle.std.specs.Prelude.{ℕ, ◌+◌, ◌*◌, ◌%◌, ◌==◌, List, take, Option, option_map, if◌then◌else◌}
+use Rattle.std.specs.Prelude.{ℕ, ◌*◌, ◌%◌, ◌==◌, List, take, Option, option_map, if◌then◌else◌}
 use Rattle.std.specs.Int.{w16, from_be_bytes}
 use Rattle.sha2.specs.Sha256.{sha256}
 use Rattle.dkg_ceremony.specs.Polynomials.{prime}

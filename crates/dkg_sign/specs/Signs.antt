@@ -1,7 +1,6 @@
 -- What a desk answers who asks it to sign, or to combine partials.
-use Rattle.std.specs.Prelude.{◌≡◌, ℕ, ◌+◌, ◌*◌, ◌%◌, ◌==◌, nat_lt, ◌&&◌, not, Bool, true, false, List, [], ◌∷◌, length, slice_index_or as get_or, Option, Some, None, Result, Ok, Err, if◌then◌else◌}
+use Rattle.std.specs.Prelude.{◌≡◌, ℕ, ◌+◌, ◌==◌, nat_lt, ◌&&◌, not, Bool, false, List, [], ◌∷◌, length, slice_index_or as get_or, Option, Some, None, Result, Ok, Err, if◌then◌else◌}
 use Rattle.dkg_values.specs.Rising.{has_key, place_of}
-use Rattle.dkg_ceremony.specs.Polynomials.{prime}
 use Rattle.dkg_ceremony.specs.Thresholds.{quorum_of}
 use Rattle.dkg_types.specs.declared.scheme.SchemeInfo.{SchemeInfo}
 use Rattle.dkg_sign.specs.Desks.{Desk, replaced_by, material_of}

@@ -32,7 +32,8 @@ fn is_partial(info: &SchemeInfo, epoch: Epoch, hash: u32, partial: &Partial) -> 
 fn is_first(participants: &Set, key: Key, seen: &mut [bool]) -> bool
     requires flags { length seen.old ≡ length participants.now }
     requires member { is_some (place_of key participants.now) ≡ true }
-    ensures { (met : List ℕ) → AreMet participants.now met seen.old → (result ≡ not (has_key key met)) × OnTrue result (AreMet participants.now (key ∷ met) seen.new) }
+    ensures { (met : List ℕ) → AreMet participants.now met seen.old
+        → (result ≡ not (has_key key met)) × OnTrue result (AreMet participants.now (key ∷ met) seen.new) }
 {
     match participants.position(key) {
         Some(place) => {
@@ -72,7 +73,10 @@ fn check(
 }
 
 impl SigningDesk {
-    /// The signature of an epoch on a message, from the partials of a quorum of its participants.
+    /// The signature of an epoch on a message, from the partials of a quorum of its participants, which are fewer than 2^32.
+    ///
+    /// In this order: Unknown, no material of the epoch is held; Invalid or Doubled, of the first partial that is of another epoch, of no
+    /// participant or of another value than its signer's, or else whose signer has one before it; Few, there is no quorum.
     pub fn combine(
         &self,
         alloc: Global,

@@ -2,7 +2,7 @@
 ghost use Rattle.std.specs.Prelude.{◌≡◌, ◌<◌, ◌*◌, ◌%◌, IfOk, List, OnOk};
 ghost use Rattle.std.specs.Option.{option_copied};
 ghost use Rattle.dkg_sign.specs.Desks.{replaced_by, material_of};
-ghost use Rattle.dkg_sign.specs.Lives.{Deed, Covers, NoneAbove};
+ghost use Rattle.dkg_sign.specs.Lives.{Deed, Signed, Covers, KeptWith, NeverBack};
 ghost use Rattle.dkg_sign.specs.Signing.{times};
 ghost use Rattle.dkg_sign.specs.Signs.{sign_of, IsPartialOf};
 
@@ -80,12 +80,13 @@ impl SigningDesk {
     /// This node's part of an epoch's signature on a message. It takes no memory.
     ///
     /// In this order: Replaced, a later epoch was registered; Unknown, no material of the epoch is held; NoShare, it has no share.
-    #[tactic(auto, using(crate::proofs::Deeds::held_covers))]
+    #[tactic(auto, using(crate::proofs::Deeds::signed_lives))]
     pub fn sign(&self, epoch: Epoch, message: &[u8]) -> Result<Partial, SignError>
         ensures exact { result ≡ sign_of self.now epoch message.now }
         ensures own { IfOk result (IsPartialOf self.now epoch message.now) }
-        // The promise over lives: no later epoch was registered.
-        ensures lives { OnOk result ((deeds : List Deed) → Covers self.now.current deeds → NoneAbove epoch deeds) }
+        // The promise over lives: no later epoch was registered, so it is kept with this partial too.
+        ensures lives { OnOk result ((deeds : List Deed) → NeverBack deeds → Covers self.now.current deeds
+            → KeptWith (Signed epoch) self.now.current deeds) }
     {
         if let Some(current) = self.replaced(epoch) {
             return Err(SignError::Replaced {

@@ -24,7 +24,7 @@ pub enum DeskError {
     /// A call of the disk failed.
     #[error("a call of the disk failed")]
     Disk,
-    /// The desk's record is not one whole epoch.
+    /// The desk's record is not one whole epoch. The place is 0, where the record begins.
     #[error("the desk's record is no epoch")]
     Corrupt { place: u64 },
     /// The fuse cut a call of the disk.
@@ -46,6 +46,7 @@ pub enum SignError {
     /// This node is a participant without a share.
     #[error("no share of the epoch {epoch:?} is held")]
     NoShare { epoch: Epoch },
+    /// It never comes: to sign takes no memory.
     #[error("out of memory")]
     NoMemory,
 }

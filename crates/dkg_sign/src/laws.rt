@@ -1,16 +1,39 @@
 //! What the answers of desks mean together.
-ghost use Rattle.std.specs.Prelude.{◌≡◌, ℕ, List, Ok, Some, slice_get};
+ghost use Rattle.std.specs.Prelude.{◌≡◌, ℕ, List, [], ◌∷◌, Option, Ok, Some, slice_get};
 ghost use Rattle.dkg_ceremony.specs.declared.output.Output.{Output};
-ghost use Rattle.dkg_sign.specs.Chains.{IsChain, ShareOneKey};
+ghost use Rattle.dkg_journal.specs.Names.{Files};
+ghost use Rattle.dkg_sign.specs.Chains.{HoldsOf, IsChain, ShareOneKey};
 ghost use Rattle.dkg_sign.specs.Desks.{Desk};
+ghost use Rattle.dkg_sign.specs.Lives.{Deed, Keeps, KeptWith, NeverBack};
 ghost use Rattle.dkg_sign.specs.Materials.{key_of};
 ghost use Rattle.dkg_sign.specs.Signs.{combine_of};
 ghost use Rattle.dkg_sign.specs.declared.partial.Partial.{Partial};
 ghost use Rattle.dkg_sign.specs.declared.partial.Signature.{Signature};
 
-/// Two quorums, also of two epochs that share one key, make one signature on a message; and all epochs of a chain share one key, since
-/// an outcome keeps the key that is dealt again.
+use dkg_journal::Disk;
+
+/// Two quorums, also of two epochs that share one key, make one signature on a message; all epochs of a chain share one key, since an
+/// outcome keeps the key that is dealt again; so one message has one signature in all of them.
 pub fn one_signature()
-    ensures quorums { (one other : Desk) (message : List ℕ) (epoch later : ℕ) (partials partials' : List Partial) (s t : Signature) → ShareOneKey one epoch other later → combine_of one message epoch partials ≡ Ok s → combine_of other message later partials' ≡ Ok t → s.value ≡ t.value }
-    ensures chain { (first : Output) (outputs : List Output) → IsChain first outputs → (i : ℕ) (last : Output) → slice_get outputs i ≡ Some last → key_of last.sharing.poly ≡ key_of first.sharing.poly }
+    ensures quorums { (one other : Desk) (message : List ℕ) (epoch later : ℕ) (partials partials' : List Partial) (s t : Signature)
+        → ShareOneKey one epoch other later → combine_of one message epoch partials ≡ Ok s → combine_of other message later partials' ≡ Ok t
+        → s.value ≡ t.value }
+    ensures chain { (first : Output) (outputs : List Output) → IsChain first outputs → (i : ℕ) (last : Output) → slice_get outputs i ≡ Some last
+        → key_of last.sharing.poly ≡ key_of first.sharing.poly }
+    ensures epochs { (first : Output) (outputs : List Output) → IsChain first outputs → (i j : ℕ) (a b : Output)
+        → slice_get (first ∷ outputs) i ≡ Some a → slice_get (first ∷ outputs) j ≡ Some b
+        → (one other : Desk) (epoch later : ℕ) → HoldsOf one epoch a.sharing → HoldsOf other later b.sharing
+        → (message : List ℕ) (partials partials' : List Partial) (s t : Signature)
+        → combine_of one message epoch partials ≡ Ok s → combine_of other message later partials' ≡ Ok t → s.value ≡ t.value }
+{}
+
+/// Lives, one behind the other: before the first nothing was done; a partial goes on with what is kept; a crash leaves what keeps the promise,
+/// since its images are fewer; and what keeps it never went back.
+pub fn lives_follow<D: Disk>()
+    ensures first { (disk : D) → Keeps [] (D.image disk) }
+    ensures signed { (deed : Deed) (deeds : List Deed) (current : Option ℕ) (disk : D) → Keeps deeds (D.image disk) → KeptWith deed current deeds
+        → Keeps (deed ∷ deeds) (D.image disk) }
+    ensures crash { (deeds : List Deed) (old new : D) → ((c : Files) → D.image new c → D.image old c) → Keeps deeds (D.image old)
+        → Keeps deeds (D.image new) }
+    ensures never_back { (deeds : List Deed) (disk : D) → Keeps deeds (D.image disk) → NeverBack deeds }
 {}

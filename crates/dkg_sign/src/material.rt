@@ -8,7 +8,7 @@ use dkg_ceremony::{Ceremony, Key, Set, Share, Sharing, StandCeremony, quorum, va
 use dkg_types::SchemeInfo;
 
 /// Who takes part.
-pub fn participants(info: &SchemeInfo) -> &Set
+pub(crate) fn participants(info: &SchemeInfo) -> &Set
     ensures { result.now ≡ participants_of info.now }
 {
     match info {
@@ -19,7 +19,7 @@ pub fn participants(info: &SchemeInfo) -> &Set
 }
 
 /// The shared key in public.
-pub fn sharing(info: &SchemeInfo) -> &Sharing
+pub(crate) fn sharing(info: &SchemeInfo) -> &Sharing
     ensures { result.now ≡ sharing_of info.now }
 {
     match info {
@@ -30,7 +30,7 @@ pub fn sharing(info: &SchemeInfo) -> &Sharing
 }
 
 /// This node's share, where it holds one.
-pub fn share(info: &SchemeInfo) -> Option<Share>
+pub(crate) fn share(info: &SchemeInfo) -> Option<Share>
     ensures { result ≡ share_of info.now }
 {
     match info {
@@ -40,7 +40,7 @@ pub fn share(info: &SchemeInfo) -> Option<Share>
 }
 
 /// The sharing's value at the point of a participant.
-pub fn value(info: &SchemeInfo, key: Key) -> Option<u32>
+pub(crate) fn value(info: &SchemeInfo, key: Key) -> Option<u32>
     ensures value { result ≡ value_from info.now key }
     ensures below { IfSome result (λ v. v < 65521) }
 {
@@ -50,7 +50,7 @@ pub fn value(info: &SchemeInfo, key: Key) -> Option<u32>
 
 /// Whether the material is of one output, and this node's: it is a participant, and its share, where it has one, is the sharing's value at
 /// its point.
-pub fn is_own_of(info: &SchemeInfo, me: Key) -> bool
+pub(crate) fn is_own_of(info: &SchemeInfo, me: Key) -> bool
     ensures { result ≡ is_own me info.now }
 {
     let sharing = sharing(info);

@@ -1,9 +1,9 @@
 //! How a desk is opened over its record, and how an epoch's material is registered.
 //!
 //! The record is one encoded epoch in the file `Plan` of the desk's own disk. A higher epoch is put there before the desk holds its material.
-ghost use Rattle.std.specs.Prelude.{◌≡◌, ◌≤◌, ◌⊎◌, [], ◌∷◌, List, OnOk, IfOk, IfErr, IsErrOf, IsTrue, None, Some, Ok, option_map};
+ghost use Rattle.std.specs.Prelude.{◌≡◌, ◌≢◌, ◌≤◌, ◌⊎◌, [], ◌∷◌, List, OnOk, IfOk, IfErr, IsErrOf, IsTrue, None, Some, Ok, option_map};
 ghost use Rattle.dkg_journal.specs.Disk.{Follows, IsUnchanged, Lands, Rose};
-ghost use Rattle.dkg_journal.specs.Fuse.{Fused, Ran, calls_in};
+ghost use Rattle.dkg_journal.specs.Fuse.{Fused, Ran, RanAll};
 ghost use Rattle.dkg_journal.specs.Names.{Files};
 ghost use Rattle.dkg_sign.specs.Lives.{Deed, Keeps, Covers, with_registered};
 ghost use Rattle.dkg_sign.specs.Recorded.{recorded, epoch_in, Stands};
@@ -38,13 +38,16 @@ fn put_epoch<D: Disk>(
     fuse: &mut Fuse,
     epoch: u64,
 ) -> Result<(), DeskError>
-    ensures done { OnOk result (IsTrue D.tells → Lands (D.files disk.old) (D.image disk.old) → (recorded (D.files disk.new) ≡ Ok (Some epoch)) × Lands (D.files disk.new) (D.image disk.new)) }
-    ensures tried { Lands (D.files disk.old) (D.image disk.old) → (c : Files) → D.image disk.new c → (recorded c ≡ recorded (D.files disk.old)) ⊎ (recorded c ≡ Ok (Some epoch)) }
+    ensures done { OnOk result (IsTrue D.tells → Lands (D.files disk.old) (D.image disk.old)
+        → (recorded (D.files disk.new) ≡ Ok (Some epoch)) × Lands (D.files disk.new) (D.image disk.new)) }
+    ensures tried { Lands (D.files disk.old) (D.image disk.old) → (c : Files) → D.image disk.new c
+        → (recorded c ≡ recorded (D.files disk.old)) ⊎ (recorded c ≡ Ok (Some epoch)) }
     ensures memory { IsErrOf result DeskError.NoMemory → IsUnchanged D.files D.image disk.old disk.new }
     ensures later { D.faults disk.old ≤ D.faults disk.new }
     ensures disk { IsErrOf result DeskError.Disk → Rose (D.faults disk.old) (D.faults disk.new) }
     ensures kinds { IfErr result IsOfPut }
     ensures fused { Fused DeskError.Cut DeskError.NoMemory result fuse.old fuse.new }
+    ensures all { OnOk result (RanAll D.made disk.old disk.new fuse.old fuse.new (put_call epoch ∷ [])) }
     ensures calls { Ran D.made disk.old disk.new fuse.old fuse.new (put_call epoch ∷ []) }
 {
     let bytes = encode(alloc, &Epoch(epoch))?;
@@ -71,9 +74,10 @@ impl SigningDesk {
         ensures later { D.faults disk.old ≤ D.faults disk.new }
         ensures disk { IsErrOf result DeskError.Disk → Rose (D.faults disk.old) (D.faults disk.new) }
         ensures fused { Fused DeskError.Cut DeskError.NoMemory result fuse.old fuse.new }
-        ensures calls { D.made disk.old disk.new (calls_in fuse.old (Op.Barrier ∷ [])) }
+        ensures calls { RanAll D.made disk.old disk.new fuse.old fuse.new (Op.Barrier ∷ []) }
         // The promise over lives: what was registered in earlier lives is known to this one.
-        ensures lives { IsTrue D.tells → (deeds : List Deed) → Keeps deeds (D.image disk.old) → Keeps deeds (D.image disk.new) × IfOk result (λ desk. Covers desk.current deeds) }
+        ensures lives { IsTrue D.tells → (deeds : List Deed) → Keeps deeds (D.image disk.old)
+            → Keeps deeds (D.image disk.new) × IfOk result (λ desk. Covers desk.current deeds) }
     {
         perform(alloc, disk, fuse, &Op::Barrier)?;
         let bytes = Record::get(alloc, disk)?;
@@ -130,14 +134,20 @@ impl SigningDesk {
         info: SchemeInfo,
     ) -> Result<(), DeskError>
         ensures exact { Registers self.old self.new epoch info result disk.old disk.new fuse.old fuse.new }
-        ensures stands { IsTrue D.tells → Stands self.old (D.files disk.old) (D.image disk.old) → IsKept result → Stands self.new (D.files disk.new) (D.image disk.new) }
-        ensures tried { IsTrue D.tells → Stands self.old (D.files disk.old) (D.image disk.old) → (c : Files) → D.image disk.new c → (recorded c ≡ Ok self.old.current) ⊎ (recorded c ≡ Ok (Some epoch)) }
+        ensures stands { IsTrue D.tells → Stands self.old (D.files disk.old) (D.image disk.old) → IsKept result
+            → Stands self.new (D.files disk.new) (D.image disk.new) }
+        ensures tried { Stands self.old (D.files disk.old) (D.image disk.old) → (c : Files) → D.image disk.new c
+            → (recorded c ≡ Ok self.old.current) ⊎ (recorded c ≡ Ok (Some epoch)) }
         ensures later { D.faults disk.old ≤ D.faults disk.new }
         ensures disk { IsErrOf result DeskError.Disk → Rose (D.faults disk.old) (D.faults disk.new) }
         ensures fused { Fused DeskError.Cut DeskError.NoMemory result fuse.old fuse.new }
+        ensures memory { IsErrOf result DeskError.NoMemory → IsUnchanged D.files D.image disk.old disk.new }
+        ensures put { OnOk result (self.new.current ≢ self.old.current
+            → RanAll D.made disk.old disk.new fuse.old fuse.new (put_call epoch ∷ [])) }
         ensures calls { Ran D.made disk.old disk.new fuse.old fuse.new (put_call epoch ∷ []) }
         // The promise over lives: an epoch is in the record, whatever a crash leaves, before its registration is answered Ok.
-        ensures lives { IsTrue D.tells → Stands self.old (D.files disk.old) (D.image disk.old) → (deeds : List Deed) → Keeps deeds (D.image disk.old) → Keeps (with_registered result epoch deeds) (D.image disk.new) × Covers self.new.current (with_registered result epoch deeds) }
+        ensures lives { IsTrue D.tells → Stands self.old (D.files disk.old) (D.image disk.old) → (deeds : List Deed) → Keeps deeds (D.image disk.old)
+            → Keeps (with_registered result epoch deeds) (D.image disk.new) × Covers self.new.current (with_registered result epoch deeds) }
     {
         if !self.judge(epoch, &info)? {
             return Ok(());

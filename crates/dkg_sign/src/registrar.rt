@@ -1,12 +1,14 @@
 //! A registrar that hands each registration to a signing desk over a disk of its own.
 //!
 //! A node is given one beside its own registrar. What the desk refuses is kept in a list and does not stop the node.
-ghost use Rattle.std.specs.Prelude.{◌≡◌, ◌≤◌, ◌⊎◌, ◌||◌, ◌++◌, [], ◌∷◌, ℕ, List, None, true, false, OnOk, OnErr, IsErrOf, IsTrue};
+ghost use Rattle.std.specs.Prelude.{◌≡◌, ◌≤◌, ◌⊎◌, ◌||◌, ◌++◌, [], ◌∷◌, ℕ, List, None, Ok, true, false, OnOk, OnErr, IsErrOf, IsTrue};
 ghost use Rattle.dkg_types.specs.declared.scheme.SchemeInfo.{SchemeInfo};
-ghost use Rattle.dkg_journal.specs.Disk.{Rose};
+ghost use Rattle.dkg_journal.specs.Disk.{Follows, Rose};
+ghost use Rattle.dkg_journal.specs.Fuse.{Fused, RanAll};
 ghost use Rattle.dkg_sign.specs.Lives.{Deed, Keeps, Covers, Registered, with_registered};
-ghost use Rattle.dkg_sign.specs.Registrars.{Asked, IsReady, StaysShut, Told, is_broken};
-ghost use Rattle.dkg_sign.specs.Registers.{IsKept};
+ghost use Rattle.dkg_sign.specs.Recorded.{recorded};
+ghost use Rattle.dkg_sign.specs.Registrars.{Asked, Attempted, IsReady, PutsAtMost, RanUncut, StaysShut, Wanted, is_broken, opening_calls};
+ghost use Rattle.dkg_sign.specs.Registers.{IsKept, SameFiles, put_call};
 
 use crate::desk::SigningDesk;
 use crate::error::DeskError;
@@ -63,36 +65,54 @@ impl<D: Disk> DeskRegistrar<D> {
     }
 
     /// Opens the desk again where it has to be.
-    fn ready(&mut self, alloc: Global) -> Result<(), DeskError>
+    fn ready(&mut self, alloc: Global, fuse: &mut Fuse) -> Result<(), DeskError>
         ensures refused { self.new.refused ≡ self.old.refused }
         ensures open { OnOk result (self.new.reopen ≡ false) }
         ensures first { OnOk result (self.old.reopen ≡ false → self.new.desk ≡ self.old.desk) }
         ensures again { OnOk result (self.old.reopen ≡ true → (self.new.desk.me ≡ self.old.desk.me) × (self.new.desk.held ≡ None)) }
-        ensures shut { OnErr result (StaysShut self.old.reopen self.new.reopen self.old.desk self.new.desk result) }
+        ensures reads { IsTrue D.tells → OnOk result (self.old.reopen ≡ true → recorded (D.files self.old.disk) ≡ Ok self.new.desk.current) }
+        ensures shut { OnErr result (StaysShut D.tells (recorded (D.files self.old.disk)) self.old.reopen self.new.reopen self.old.desk self.new.desk result) }
         ensures later { D.faults self.old.disk ≤ D.faults self.new.disk }
         ensures disk { IsErrOf result DeskError.Disk → Rose (D.faults self.old.disk) (D.faults self.new.disk) }
-        ensures stands { IsTrue D.tells → IsReady self.old.reopen self.old.desk (D.files self.old.disk) (D.image self.old.disk) → IsReady self.new.reopen self.new.desk (D.files self.new.disk) (D.image self.new.disk) }
-        ensures lives { IsTrue D.tells → (deeds : List Deed) → Keeps deeds (D.image self.old.disk) → Covers self.old.desk.current deeds → Keeps deeds (D.image self.new.disk) × Covers self.new.desk.current deeds }
+        ensures fused { Fused DeskError.Cut DeskError.NoMemory result fuse.old fuse.new }
+        ensures calls { RanAll D.made self.old.disk self.new.disk fuse.old fuse.new (opening_calls self.old.reopen) }
+        ensures same { Follows SameFiles (D.image self.old.disk) (D.image self.new.disk) }
+        ensures stands { IsTrue D.tells → IsReady self.old.reopen self.old.desk (D.files self.old.disk) (D.image self.old.disk)
+            → IsReady self.new.reopen self.new.desk (D.files self.new.disk) (D.image self.new.disk) }
+        ensures lives { IsTrue D.tells → (deeds : List Deed) → Keeps deeds (D.image self.old.disk) → Covers self.old.desk.current deeds
+            → Keeps deeds (D.image self.new.disk) × Covers self.new.desk.current deeds }
     {
-        if self.reopen {
-            let me = self.desk.me;
-            self.desk = SigningDesk::open(alloc, &mut self.disk, &mut Fuse::never(), me)?;
-            self.reopen = false;
+        if !self.reopen {
+            return Ok(());
         }
+        let me = self.desk.me;
+        self.desk = SigningDesk::open(alloc, &mut self.disk, fuse, me)?;
+        self.reopen = false;
         Ok(())
     }
 
-    /// Registers with the desk.
+    /// Registers with the desk. No fuse cuts its calls.
     fn attempt(&mut self, alloc: Global, epoch: Epoch, info: SchemeInfo) -> Result<(), DeskError>
         ensures refused { self.new.refused ≡ self.old.refused }
-        ensures went { StaysShut self.old.reopen self.new.reopen self.old.desk self.new.desk result ⊎ (Asked self.old.reopen self.old.desk self.new.desk epoch info result × (self.new.reopen ≡ false)) }
+        ensures went { StaysShut D.tells (recorded (D.files self.old.disk)) self.old.reopen self.new.reopen self.old.desk self.new.desk result
+            ⊎ (Asked D.tells (recorded (D.files self.old.disk)) self.old.reopen self.old.desk self.new.desk epoch info result
+            × (self.new.reopen ≡ false)) }
+        ensures not_cut { IsErrOf result DeskError.Cut → ⊥ }
+        ensures later { D.faults self.old.disk ≤ D.faults self.new.disk }
         ensures disk { IsErrOf result DeskError.Disk → Rose (D.faults self.old.disk) (D.faults self.new.disk) }
-        ensures stands { IsTrue D.tells → IsReady self.old.reopen self.old.desk (D.files self.old.disk) (D.image self.old.disk) → IsKept result → IsReady self.new.reopen self.new.desk (D.files self.new.disk) (D.image self.new.disk) }
-        ensures lives { IsTrue D.tells → IsReady self.old.reopen self.old.desk (D.files self.old.disk) (D.image self.old.disk) → (deeds : List Deed) → Keeps deeds (D.image self.old.disk) → Covers self.old.desk.current deeds → Keeps (with_registered result epoch deeds) (D.image self.new.disk) × Covers self.new.desk.current (with_registered result epoch deeds) }
+        ensures calls { RanUncut D.made self.old.disk self.new.disk (opening_calls self.old.reopen ++ put_call epoch ∷ []) }
+        ensures tried { IsTrue D.tells → IsReady self.old.reopen self.old.desk (D.files self.old.disk) (D.image self.old.disk)
+            → Follows (PutsAtMost epoch) (D.image self.old.disk) (D.image self.new.disk) }
+        ensures stands { IsTrue D.tells → IsReady self.old.reopen self.old.desk (D.files self.old.disk) (D.image self.old.disk) → IsKept result
+            → IsReady self.new.reopen self.new.desk (D.files self.new.disk) (D.image self.new.disk) }
+        ensures lives { IsTrue D.tells → IsReady self.old.reopen self.old.desk (D.files self.old.disk) (D.image self.old.disk) → (deeds : List Deed)
+            → Keeps deeds (D.image self.old.disk) → Covers self.old.desk.current deeds
+            → Keeps (with_registered result epoch deeds) (D.image self.new.disk) × Covers self.new.desk.current (with_registered result epoch deeds) }
     {
-        self.ready(alloc)?;
+        let mut fuse = Fuse::never();
+        self.ready(alloc, &mut fuse)?;
         self.desk
-            .register(alloc, &mut self.disk, &mut Fuse::never(), epoch, info)
+            .register(alloc, &mut self.disk, &mut fuse, epoch, info)
     }
 }
 
@@ -108,11 +128,22 @@ impl<D: Disk> Registrar for DeskRegistrar<D> {
         ensures ok { IsTrue false → OnOk result (◌≡◌ {A = List (ℕ × SchemeInfo)} [] ([] ++ (epoch, info) ∷ [])) }
         ensures err { IsTrue false → OnErr result (◌≡◌ {A = List (ℕ × SchemeInfo)} [] []) }
         // What the desk answered, and that a refusal is listed.
-        ensures told { OnOk result (Told self.old.reopen self.new.reopen self.old.desk self.new.desk epoch info self.old.refused.items self.new.refused.items (D.faults self.old.disk) (D.faults self.new.disk)) }
-        ensures wanted { OnErr result (self.new.refused.items ≡ self.old.refused.items) }
-        ensures stands { IsTrue D.tells → IsReady self.old.reopen self.old.desk (D.files self.old.disk) (D.image self.old.disk) → IsReady self.new.reopen self.new.desk (D.files self.new.disk) (D.image self.new.disk) }
+        ensures told { OnOk result (Attempted D.tells (recorded (D.files self.old.disk)) self.old.reopen self.new.reopen self.old.desk self.new.desk epoch info
+            self.old.refused.items self.new.refused.items (D.faults self.old.disk) (D.faults self.new.disk)) }
+        ensures wanted { OnErr result (Wanted D.tells (recorded (D.files self.old.disk)) self.old.reopen self.new.reopen self.old.desk self.new.desk
+            × (self.new.refused.items ≡ self.old.refused.items)) }
+        ensures later { D.faults self.old.disk ≤ D.faults self.new.disk }
+        ensures calls { RanUncut D.made self.old.disk self.new.disk (opening_calls self.old.reopen ++ put_call epoch ∷ []) }
+        ensures tried { IsTrue D.tells → IsReady self.old.reopen self.old.desk (D.files self.old.disk) (D.image self.old.disk)
+            → Follows (PutsAtMost epoch) (D.image self.old.disk) (D.image self.new.disk) }
+        ensures stands { IsTrue D.tells → IsReady self.old.reopen self.old.desk (D.files self.old.disk) (D.image self.old.disk)
+            → IsReady self.new.reopen self.new.desk (D.files self.new.disk) (D.image self.new.disk) }
         // The promise over lives.
-        ensures lives { IsTrue D.tells → IsReady self.old.reopen self.old.desk (D.files self.old.disk) (D.image self.old.disk) → (deeds : List Deed) → Keeps deeds (D.image self.old.disk) → Covers self.old.desk.current deeds → (Keeps deeds (D.image self.new.disk) × Covers self.new.desk.current deeds) × OnOk result (self.new.refused.items ≡ self.old.refused.items → Keeps (Registered epoch ∷ deeds) (D.image self.new.disk) × Covers self.new.desk.current (Registered epoch ∷ deeds)) }
+        ensures lives { IsTrue D.tells → IsReady self.old.reopen self.old.desk (D.files self.old.disk) (D.image self.old.disk) → (deeds : List Deed)
+            → Keeps deeds (D.image self.old.disk) → Covers self.old.desk.current deeds
+            → (Keeps deeds (D.image self.new.disk) × Covers self.new.desk.current deeds)
+            × OnOk result (self.new.refused.items ≡ self.old.refused.items
+            → Keeps (Registered epoch ∷ deeds) (D.image self.new.disk) × Covers self.new.desk.current (Registered epoch ∷ deeds)) }
     {
         self.refused.reserve(1)?;
         match self.attempt(alloc, epoch, info) {

@@ -1,7 +1,5 @@
-use Rattle.std.proofs.Common.{◌≡◌, [], drop, length}
-use Rattle.std.specs.Prelude.{List, ℕ}
+use Rattle.std.proofs.Common.{◌≡◌, length}
 use Rattle.dkg_sign.specs.Materials.{participants_of}
-use Rattle.dkg_sign.specs.Signs.{fault_from}
 use Rattle.dkg_sign.proofs.Signers.{IsChecked}
 use Rattle.dkg_sign.proofs.combine.check.Given as goal
 

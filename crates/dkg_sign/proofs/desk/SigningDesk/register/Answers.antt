@@ -1,10 +1,10 @@
-use Rattle.std.proofs.Common.{ℕ, List, [], ◌∷◌, Some, sym, ◌∙◌, subst}
+use Rattle.std.proofs.Common.{ℕ, List, [], ◌∷◌, Some, refl, sym, ◌∙◌, subst}
 use Rattle.std.proofs.lemmas.Result.{err_from_is_err_and}
 use Rattle.dkg_sign.specs.Lives.{Deed, Keeps, Covers}
-use Rattle.dkg_journal.specs.Fuse.{Ran}
+use Rattle.dkg_journal.specs.Fuse.{Ran, RanAll}
 use Rattle.dkg_sign.specs.Registers.{put_call}
-use Rattle.dkg_sign.proofs.Fuses.{moved, unmoved}
-use Rattle.dkg_sign.proofs.Deeds.{RegisteredIn, refusal_fused, again_lives, failed_lives, put_lives, taken_lives, unregistered}
+use Rattle.dkg_sign.proofs.Fuses.{moved, moved_all, unmoved}
+use Rattle.dkg_sign.proofs.Deeds.{RegisteredIn, refusal_fused, again_lives, failed_lives, put_lives, taken_current, taken_lives, unregistered}
 use Rattle.dkg_sign.proofs.desk.SigningDesk.register.Goals as goal
 use Rattle.dkg_sign.proofs.desk.SigningDesk.register.Goals.{then-is_below+in_ok-put_epoch, else-is_below}
 
@@ -39,4 +39,16 @@ returns-clause-calls g c =
           moved g.D.Disk.made _ _ _ _ _ _ _ w.disk-is w.fuse-is (subst (λ (n : ℕ). Ran g.D.Disk.made c.args.disk.now w.put_epoch.new.disk c.args.fuse.now w.put_epoch.new.fuse (put_call n ∷ [])) c.epoch.view_is w.in_ok-put_epoch.ensures.calls)
       | else-is_below w ↦
           moved g.D.Disk.made _ _ _ _ _ _ _ w.disk-is w.fuse-is (unmoved g.D.Disk.made c.args.disk.now c.args.fuse.now _ (g.met.D.Disk.made_none c.args.disk.now))
+    ]
+
+pub returns-then-not-branch-clause-put : goal.returns-then-not-branch-clause-put
+returns-then-not-branch-clause-put g c = λ other. absurd (other refl)
+
+pub returns-clause-put : goal.returns-clause-put
+returns-clause-put g c = λ other.
+    elim c.if-is_below.branch [
+      | then-is_below+in_ok-put_epoch w ↦
+          moved_all g.D.Disk.made _ _ _ _ _ _ _ w.disk-is w.fuse-is (subst (λ (n : ℕ). RanAll g.D.Disk.made c.args.disk.now w.put_epoch.new.disk c.args.fuse.now w.put_epoch.new.fuse (put_call n ∷ [])) c.epoch.view_is w.in_ok-put_epoch.ensures.all)
+      | else-is_below w ↦
+          absurd (other (sym (taken_current c.args.self.now c.args.epoch c.args.info _ c.in_ok-judge.ensures c.if-not-branch.false (sym c.is_below.ensures ∙ w.if-is_below.false))))
     ]

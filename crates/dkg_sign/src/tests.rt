@@ -1,0 +1,437 @@
+//! What desks give over one output, and what one keeps over several lives.
+ghost use Rattle.std.specs.Prelude.{◌<◌, ◌-◌, ◌^◌, length, IfOk, IsTrue, OnOk};
+ghost use Rattle.dkg_sign.specs.Lives.{Keeps, NeverBack};
+ghost use Rattle.dkg_sign.specs.Played.{IsPlaying, deeds_of};
+
+use crate::{CombineError, DeskError, DeskRegistrar, Partial, SignError, Signature, SigningDesk};
+use dkg_ceremony::{Mode, Public, Set, Share, Sharing};
+use dkg_journal::{Disk, Fuse, MemoryDisk, SureDisk};
+use dkg_types::{Registrar, SchemeInfo};
+use dkg_values::{Element, Epoch, Key, Name};
+use std::alloc::Global;
+use std::test::Fail;
+
+const MESSAGE: &[u8] = b"abc";
+
+fn element(value: u16) -> Result<Element, Fail> {
+    Ok(Element::new(value).ok_or("no element")?)
+}
+
+/// A key that is shared among four by 5 + x + 2x².
+fn sharing(alloc: Global) -> Result<Sharing, Fail> {
+    let elements = vec![in alloc; element(5)?, element(1)?, element(2)?]?;
+    Ok(Sharing {
+        mode: Mode::NonZeroCounter,
+        total: 4,
+        poly: Public::new(elements),
+    })
+}
+
+/// The material of this sharing among the keys 1 to 4, whose own shares are 8, 15, 26 and 41.
+fn material(alloc: Global, me: u32, share: Option<u16>) -> Result<SchemeInfo, Fail> {
+    let share = match share {
+        Some(value) => Some(Share(element(value)?)),
+        None => None,
+    };
+    let participants = Set::from_any(alloc, &[Key(1), Key(2), Key(3), Key(4)])?;
+    Ok(SchemeInfo::new(Key(me), participants, sharing(alloc)?, share))
+}
+
+/// A desk of this key over its disk, in a life that nothing cuts.
+fn opened<D: Disk>(alloc: Global, disk: &mut D, me: u32) -> Result<SigningDesk, DeskError> {
+    SigningDesk::open(alloc, disk, &mut Fuse::never(), Key(me))
+}
+
+/// Registers an epoch's material, in a life that nothing cuts. Why it is refused is returned.
+fn registered<D: Disk>(
+    alloc: Global,
+    disk: &mut D,
+    desk: &mut SigningDesk,
+    epoch: u64,
+    info: SchemeInfo,
+) -> Option<DeskError> {
+    desk.register(alloc, disk, &mut Fuse::never(), Epoch(epoch), info)
+        .err()
+}
+
+/// Why a desk signs nothing.
+fn unsigned(desk: &SigningDesk, epoch: u64) -> Option<SignError> {
+    desk.sign(Epoch(epoch), MESSAGE).err()
+}
+
+/// A desk of this key that holds epoch 0, with this share.
+fn first_desk(alloc: Global, me: u32, share: u16) -> Result<SigningDesk, Fail> {
+    let mut disk = SureDisk::new(alloc);
+    let mut desk = opened(alloc, &mut disk, me)?;
+    let info = material(alloc, me, Some(share))?;
+    match registered(alloc, &mut disk, &mut desk, 0, info) {
+        Some(why) => Err(why.into()),
+        None => Ok(desk),
+    }
+}
+
+/// What the head of the crate shows, line by line.
+fn register_sign_and_combine<D: Disk>(
+    alloc: Global,
+    disk: &mut D,
+    me: Key,
+    epoch: Epoch,
+    info: SchemeInfo,
+    message: &[u8],
+    partials: &mut Vec<Partial>,
+) -> Result<Signature, Fail>
+    requires { length partials.old.items < 2 ^ 32 - 1 }
+{
+    let mut fuse = Fuse::never();
+    let mut desk = SigningDesk::open(alloc, disk, &mut fuse, me)?;
+    desk.register(alloc, disk, &mut fuse, epoch, info)?;
+    let partial = desk.sign(epoch, message)?;
+    partials.push(partial)?;
+    let signature = desk.combine(alloc, message, epoch, partials)?;
+    Ok(signature)
+}
+
+#[test]
+fn a_validator_signs(rt: HostRuntime) -> Result<(), Fail> {
+    let alloc = rt.alloc();
+    let (me, epoch) = (Key(1), Epoch(7));
+    let info = material(alloc, 1, Some(8))?;
+    let two = Partial {
+        epoch,
+        signer: Key(2),
+        value: element(60830)?,
+    };
+    let three = Partial {
+        epoch,
+        signer: Key(3),
+        value: element(61758)?,
+    };
+    let mut partials = vec![in alloc; two, three]?;
+    let mut disk = SureDisk::new(alloc);
+    let signature = register_sign_and_combine(
+        alloc,
+        &mut disk,
+        me,
+        epoch,
+        info,
+        MESSAGE,
+        &mut partials,
+    )?;
+    assert_eq!(rt; signature.value.get(), 42117);
+    Ok(())
+}
+
+#[test]
+fn desks_sign_with_their_shares(rt: HostRuntime) -> Result<(), Fail> {
+    for (me, share, value) in [(1, 8, 54283), (2, 15, 60830), (3, 26, 61758)] {
+        let desk = first_desk(rt.alloc(), me, share)?;
+        let partial = desk.sign(Epoch(0), MESSAGE)?;
+        assert_eq!(rt; partial.value.get(), value, "of {me}");
+    }
+    Ok(())
+}
+
+/// What a desk makes of partials, each a signer, an epoch and a value.
+fn combined(
+    alloc: Global,
+    desk: &SigningDesk,
+    given: &[(u32, u64, u16)],
+) -> Result<Result<u16, CombineError>, Fail> {
+    let mut partials = Vec::new(alloc);
+    for (signer, epoch, value) in given {
+        partials.push(Partial {
+            epoch: Epoch(*epoch),
+            signer: Key(*signer),
+            value: element(*value)?,
+        })?;
+    }
+    if partials.len() > 4 {
+        return Err(Fail::from("more partials than participants"));
+    }
+    let made = desk.combine(alloc, MESSAGE, Epoch(0), &partials);
+    Ok(made.map(|signature| signature.value.get()))
+}
+
+#[test]
+fn a_quorum_of_partials_makes_the_signature(rt: HostRuntime) -> Result<(), Fail> {
+    let (one, two, three) = ((1, 0, 54283), (2, 0, 60830), (3, 0, 61758));
+    let (wrong, later) = ((1, 0, 54284), (2, 1, 60830));
+    let rows: [(&[(u32, u64, u16)], Result<u16, CombineError>); 8] = [
+        (&[one, two, three], Ok(42117)),
+        (&[three, one, two], Ok(42117)),
+        (&[(4, 0, 57067), two, one], Ok(42117)),
+        (&[one, two], Err(CombineError::Few { got: 2, need: 3 })),
+        (
+            &[wrong, two, three],
+            Err(CombineError::Invalid { index: 0 }),
+        ),
+        (
+            &[(5, 0, 1), two, three],
+            Err(CombineError::Invalid { index: 0 }),
+        ),
+        (&[one, later, one], Err(CombineError::Invalid { index: 1 })),
+        (&[one, one, later], Err(CombineError::Doubled { index: 1 })),
+    ];
+    let desk = first_desk(rt.alloc(), 1, 8)?;
+    for (given, want) in rows {
+        assert_eq!(rt; combined(rt.alloc(), &desk, given)?, want, "of {given:?}");
+    }
+    let unknown = desk.combine(rt.alloc(), MESSAGE, Epoch(1), &[]);
+    assert_eq!(rt; unknown, Err(CombineError::Unknown { epoch: Epoch(1) }));
+    Ok(())
+}
+
+#[test]
+fn material_is_refused_by_its_tests_in_order(rt: HostRuntime) -> Result<(), Fail> {
+    let alloc = rt.alloc();
+    let (asked, current) = (Epoch(0), Epoch(1));
+    let rows: [(u64, Option<u16>, Option<DeskError>); 7] = [
+        (0, Some(9), Some(DeskError::Foreign { epoch: Epoch(0) })),
+        (0, Some(8), None),
+        (0, Some(8), None),
+        (0, None, Some(DeskError::Conflict { epoch: Epoch(0) })),
+        (0, Some(9), Some(DeskError::Foreign { epoch: Epoch(0) })),
+        (1, None, None),
+        (0, Some(9), Some(DeskError::Replaced { asked, current })),
+    ];
+    let mut disk = SureDisk::new(alloc);
+    let mut desk = opened(alloc, &mut disk, 1)?;
+    for (epoch, share, want) in rows {
+        let info = material(alloc, 1, share)?;
+        let why = registered(alloc, &mut disk, &mut desk, epoch, info);
+        assert_eq!(rt; why, want, "at {epoch} {share:?}");
+    }
+    assert_eq!(rt;
+        unsigned(&desk, 1),
+        Some(SignError::NoShare { epoch: Epoch(1) })
+    );
+    Ok(())
+}
+
+#[test]
+fn a_later_epoch_replaces_an_earlier_one(rt: HostRuntime) -> Result<(), Fail> {
+    let alloc = rt.alloc();
+    let replaced = Some(SignError::Replaced {
+        asked: Epoch(0),
+        current: Epoch(1),
+    });
+    let mut disk = SureDisk::new(alloc);
+    let mut desk = opened(alloc, &mut disk, 1)?;
+    for epoch in 0..2 {
+        let info = material(alloc, 1, Some(8))?;
+        assert_eq!(rt; registered(alloc, &mut disk, &mut desk, epoch, info), None);
+    }
+    assert_eq!(rt; unsigned(&desk, 0), replaced);
+    let mut desk = opened(alloc, &mut disk, 1)?;
+    assert_eq!(rt; desk.current(), Some(Epoch(1)));
+    assert_eq!(rt; unsigned(&desk, 0), replaced);
+    assert_eq!(rt;
+        unsigned(&desk, 1),
+        Some(SignError::Unknown { epoch: Epoch(1) })
+    );
+    let info = material(alloc, 1, Some(8))?;
+    assert_eq!(rt; registered(alloc, &mut disk, &mut desk, 1, info), None);
+    assert_eq!(rt; desk.sign(Epoch(1), MESSAGE)?.value.get(), 54283);
+    Ok(())
+}
+
+/// Cuts the put of epoch 1 behind that of epoch 0. What the desk then opens with is returned.
+fn left_by_a_cut<D: Disk>(alloc: Global, disk: &mut D, pick: u64) -> Result<Option<Epoch>, Fail> {
+    let mut desk = opened(alloc, disk, 1)?;
+    if let Some(why) = registered(alloc, disk, &mut desk, 0, material(alloc, 1, Some(8))?) {
+        return Err(why.into());
+    }
+    let info = material(alloc, 1, Some(8))?;
+    let cut = desk.register(alloc, disk, &mut Fuse::at(1, pick), Epoch(1), info);
+    if cut != Err(DeskError::Cut) {
+        return Err(Fail::from("the put was not cut"));
+    }
+    Ok(opened(alloc, disk, 1)?.current())
+}
+
+#[test]
+fn a_cut_put_leaves_the_old_epoch_or_the_new_one(rt: HostRuntime) -> Result<(), Fail> {
+    for (pick, current) in [(0, Epoch(1)), (1, Epoch(0))] {
+        let left = left_by_a_cut(rt.alloc(), &mut MemoryDisk::new(rt.alloc()), pick)?;
+        assert_eq!(rt; left, Some(current), "at pick {pick}");
+    }
+    Ok(())
+}
+
+/// What a desk opens with over a record of these bytes.
+fn current_of(alloc: Global, bytes: &[u8]) -> Result<Result<Option<Epoch>, DeskError>, Fail> {
+    let mut disk = SureDisk::new(alloc);
+    disk.install(alloc, Name::Plan, bytes)?;
+    Ok(opened(alloc, &mut disk, 1).map(|desk| desk.current()))
+}
+
+#[test]
+fn a_record_that_is_no_epoch_is_corrupt(rt: HostRuntime) -> Result<(), Fail> {
+    let rows: [(&[u8], Result<Option<Epoch>, DeskError>); 4] = [
+        (&[], Err(DeskError::Corrupt { place: 0 })),
+        (&[128, 0], Err(DeskError::Corrupt { place: 0 })),
+        (&[7, 7], Err(DeskError::Corrupt { place: 0 })),
+        (&[172, 2], Ok(Some(Epoch(300)))),
+    ];
+    for (bytes, want) in rows {
+        assert_eq!(rt; current_of(rt.alloc(), bytes)?, want, "over {bytes:?}");
+    }
+    Ok(())
+}
+
+/// A life of a desk: the call at which its fuse cuts, the pick with which its disk crashes at its end, and what it is asked in turn: to
+/// register this epoch, or to sign for it.
+type Life<'a> = (u64, u64, &'a [(bool, u64)]);
+
+/// Asks a desk once, and lists in front what was done: an epoch was registered, or signed for. Whether the life goes on is returned.
+fn ask<D: Disk>(
+    alloc: Global,
+    disk: &mut D,
+    desk: &mut SigningDesk,
+    fuse: &mut Fuse,
+    request: (bool, u64),
+    deeds: &mut Vec<(bool, u64)>,
+) -> Result<bool, Fail>
+    requires { IsTrue D.tells → IsPlaying (deeds_of deeds.old.items) desk.old (D.files disk.old) (D.image disk.old) }
+    ensures goes_on { IfOk result (λ goes. IsTrue D.tells → IsTrue goes
+        → IsPlaying (deeds_of deeds.new.items) desk.new (D.files disk.new) (D.image disk.new)) }
+    ensures keeps { OnOk result (IsTrue D.tells → Keeps (deeds_of deeds.new.items) (D.image disk.new)) }
+{
+    let (registers, epoch) = request;
+    if !registers {
+        if desk.sign(Epoch(epoch), MESSAGE).is_ok() {
+            deeds.insert(0, (false, epoch))?;
+        }
+        return Ok(true);
+    }
+    let info = material(alloc, 1, Some(8))?;
+    match desk.register(alloc, disk, fuse, Epoch(epoch), info) {
+        Ok(()) => {
+            deeds.insert(0, (true, epoch))?;
+            Ok(true)
+        }
+        Err(DeskError::Disk | DeskError::Cut) => Ok(false),
+        Err(_) => Ok(true),
+    }
+}
+
+/// Plays a life.
+fn live<D: Disk>(
+    alloc: Global,
+    disk: &mut D,
+    life: &Life<'_>,
+    deeds: &mut Vec<(bool, u64)>,
+) -> Result<(), Fail>
+    requires { IsTrue D.tells → Keeps (deeds_of deeds.old.items) (D.image disk.old) }
+    ensures { OnOk result (IsTrue D.tells → Keeps (deeds_of deeds.new.items) (D.image disk.new)) }
+{
+    let (call, pick, requests) = *life;
+    let mut fuse = Fuse::at(call, pick);
+    let Ok(mut desk) = SigningDesk::open(alloc, disk, &mut fuse, Key(1)) else {
+        return Ok(());
+    };
+    for request in requests {
+        if !ask(alloc, disk, &mut desk, &mut fuse, *request, deeds)? {
+            return Ok(());
+        }
+    }
+    disk.crash(pick);
+    Ok(())
+}
+
+/// Plays lives, one behind the other, over one disk: whatever they are, no partial of an epoch is given after a registration of a later
+/// one was answered Ok.
+#[tactic(auto, using(crate::proofs::Deeds::nothing_done))]
+fn live_all<D: Disk>(
+    alloc: Global,
+    disk: &mut D,
+    lives: &[Life<'_>],
+) -> Result<Vec<(bool, u64)>, Fail>
+    ensures { IfOk result (λ deeds. IsTrue D.tells → NeverBack (deeds_of deeds.items)) }
+{
+    let mut deeds = Vec::new(alloc);
+    for life in lives {
+        live(alloc, disk, life, &mut deeds)?;
+    }
+    Ok(deeds)
+}
+
+#[test]
+fn no_life_signs_below_what_was_registered(rt: HostRuntime) -> Result<(), Fail> {
+    let alloc = rt.alloc();
+    // The second life is cut in its second call, the put of epoch 1, which an even pick has done and an odd one has not.
+    let rows: [(u64, &[(bool, u64)]); 2] = [
+        (0, &[(false, 0), (true, 0)]),
+        (1, &[(false, 0), (true, 0), (false, 0), (true, 0)]),
+    ];
+    for (pick, done) in rows {
+        let mut disk = SureDisk::new(alloc);
+        let lives: [Life<'_>; 3] = [
+            (0, 1, &[(false, 0), (true, 0), (false, 0), (false, 1)]),
+            (2, pick, &[(true, 1), (false, 0), (false, 1)]),
+            (0, 0, &[(false, 0), (true, 0), (false, 0)]),
+        ];
+        let deeds = live_all(alloc, &mut disk, &lives)?;
+        assert_eq!(rt; deeds.as_slice(), done, "at pick {pick}");
+    }
+    Ok(())
+}
+
+#[test]
+fn lives_sign_for_the_newest_epoch(rt: HostRuntime) -> Result<(), Fail> {
+    let alloc = rt.alloc();
+    let lives: [Life<'_>; 2] = [
+        (
+            0,
+            1,
+            &[(true, 0), (false, 0), (true, 1), (false, 0), (false, 1)],
+        ),
+        (0, 0, &[(true, 0), (false, 0), (true, 1), (false, 1)]),
+    ];
+    let done: [(bool, u64); 6] = [
+        (false, 1),
+        (true, 1),
+        (false, 1),
+        (true, 1),
+        (false, 0),
+        (true, 0),
+    ];
+    let deeds = live_all(alloc, &mut SureDisk::new(alloc), &lives)?;
+    assert_eq!(rt; deeds.as_slice(), &done[..]);
+    Ok(())
+}
+
+/// Registers epochs with a registrar, each with key 1's own material.
+fn register_each<D: Disk>(
+    alloc: Global,
+    registrar: &mut DeskRegistrar<D>,
+    epochs: &[u64],
+) -> Result<(), Fail> {
+    for epoch in epochs {
+        registrar.register(alloc, Epoch(*epoch), material(alloc, 1, Some(8))?)?;
+    }
+    Ok(())
+}
+
+#[test]
+fn a_registrar_keeps_what_is_refused(rt: HostRuntime) -> Result<(), Fail> {
+    let alloc = rt.alloc();
+    // The calls are a barrier and a read, the put of epoch 0, and that of epoch 1, which fails.
+    let mut disk = MemoryDisk::failing(alloc, vec![in alloc; 4]?);
+    let desk = opened(alloc, &mut disk, 1)?;
+    let mut registrar = DeskRegistrar::new(alloc, desk, disk);
+    register_each(alloc, &mut registrar, &[0, 1])?;
+    assert_eq!(rt; registrar.refused(), &[DeskError::Disk][..]);
+    assert_eq!(rt; registrar.desk().current(), Some(Epoch(0)));
+    register_each(alloc, &mut registrar, &[1, 0])?;
+    let replaced = DeskError::Replaced {
+        asked: Epoch(0),
+        current: Epoch(1),
+    };
+    assert_eq!(rt; registrar.refused(), &[DeskError::Disk, replaced][..]);
+    assert_eq!(rt;
+        registrar.desk().sign(Epoch(1), MESSAGE)?.value.get(),
+        54283
+    );
+    Ok(())
+}
