@@ -369,7 +369,8 @@ fn is_copied<T: Value + Drop>(alloc: Global, value: &T) -> Result<bool, Fail> {
 #[test]
 fn a_result_is_copied(rt: HostRuntime) -> Result<(), Fail> {
     let mine = finished(rt.alloc(), &StandCeremony, both(rt.alloc())?)?;
-    assert!(rt; is_copied(rt.alloc(), &mine)?);
+    let copied = is_copied(rt.alloc(), &mine)?;
+    assert!(rt; copied);
     Ok(())
 }
 
@@ -384,7 +385,8 @@ fn job(alloc: Global, logs: Map<DealerLog>) -> Result<Job, Fail> {
 #[test]
 fn a_job_is_copied(rt: HostRuntime) -> Result<(), Fail> {
     let job = job(rt.alloc(), both(rt.alloc())?)?;
-    assert!(rt; is_copied(rt.alloc(), &job)?);
+    let copied = is_copied(rt.alloc(), &job)?;
+    assert!(rt; copied);
     Ok(())
 }
 
@@ -426,14 +428,32 @@ fn retain_each<C: Ceremony + Drop>(
     Ok(first && second && third)
 }
 
+/// Whether just the result of both logs is ready.
+fn has_both<C: Ceremony>(alloc: Global, verification: &Verification<C>) -> Result<bool, Fail> {
+    let both = both(alloc)?;
+    let one = one(alloc)?;
+    Ok(verification.ready(&both).is_some() && verification.ready(&one).is_none())
+}
+
+/// A job runs, and then results of one log, of the canonical two, and of one log again come.
+fn keeps_both<C: Ceremony + Drop>(
+    alloc: Global,
+    ceremony: &C,
+    verification: &mut Verification<C>,
+) -> Result<bool, Fail>
+    requires { verification.old.running ≡ None }
+{
+    let those = both(alloc)?;
+    let runs = begin(alloc, verification, one(alloc)?)?;
+    let idle = retain_each(alloc, ceremony, verification, &those)?;
+    Ok(runs && idle && has_both(alloc, verification)?)
+}
+
 #[test]
 fn a_canonical_result_stays(rt: HostRuntime) -> Result<(), Fail> {
     let mut verification = Verification::<StandCeremony>::new();
-    let those = both(rt.alloc())?;
-    assert!(rt; begin(rt.alloc(), &mut verification, one(rt.alloc())?)?);
-    assert!(rt; retain_each(rt.alloc(), &StandCeremony, &mut verification, &those)?);
-    assert!(rt; verification.ready(&those).is_some());
-    assert!(rt; verification.ready(&one(rt.alloc())?).is_none());
+    let kept = keeps_both(rt.alloc(), &StandCeremony, &mut verification)?;
+    assert!(rt; kept);
     Ok(())
 }
 
@@ -445,14 +465,29 @@ fn artifact() -> Artifact<Unit> {
 }
 
 #[test]
+fn an_artifact_is_copied(rt: HostRuntime) -> Result<(), Fail> {
+    let copied = is_copied(rt.alloc(), &artifact())?;
+    assert!(rt; copied);
+    Ok(())
+}
+
+fn is_cached(cache: &ArtifactCache<Unit>, logs: &Map<DealerLog>) -> bool {
+    cache.get(logs).is_some()
+}
+
+/// Whether a cache gives the artifact of both logs once it keeps it, and none for one log.
+fn caches_both(alloc: Global, cache: &mut ArtifactCache<Unit>) -> Result<bool, Fail> {
+    cache.keep(both(alloc)?, artifact());
+    let both = both(alloc)?;
+    let one = one(alloc)?;
+    Ok(is_cached(cache, &both) && !is_cached(cache, &one))
+}
+
+#[test]
 fn an_artifact_is_for_its_logs(rt: HostRuntime) -> Result<(), Fail> {
     let mut cache = ArtifactCache::<Unit>::new();
-    let those = both(rt.alloc())?;
-    assert!(rt; cache.get(&those).is_none());
-    cache.keep(both(rt.alloc())?, artifact());
-    assert!(rt; cache.get(&those).is_some());
-    assert!(rt; cache.get(&one(rt.alloc())?).is_none());
-    assert!(rt; is_copied(rt.alloc(), &artifact())?);
+    let kept = caches_both(rt.alloc(), &mut cache)?;
+    assert!(rt; kept);
     Ok(())
 }
 
