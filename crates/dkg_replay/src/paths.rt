@@ -230,9 +230,9 @@ fn output_of<C: Ceremony>(
         return Some(None);
     };
     let verified = verify_logs(alloc, ceremony, round, None, logs).ok()?;
-    match verified.result {
+    match &verified.result {
         None => Some(None),
-        Some(result) => Some(Some(result.output)),
+        Some(result) => Some(Some(result.output.copy(alloc).ok()?)),
     }
 }
 
