@@ -1,10 +1,10 @@
 -- How acts are run in parts.
-use Rattle.std.proofs.Common.{◌≡◌, ◌⊎◌, inl, inr, ℕ, zero, suc, List, [], ◌∷◌, ◌++◌, take, Option, refl, sym, ap, subst, ◌∙◌, append_assoc}
+use Rattle.std.proofs.Common.{◌≡◌, inl, inr, ℕ, zero, suc, List, [], ◌∷◌, ◌++◌, take, Option, Result, Ok, Err, refl, sym, ap, subst, ◌∙◌, append_assoc, arith}
 use Rattle.std.proofs.lemmas.List.{append-nil}
 use Rattle.dkg_types.specs.declared.entry.Entry.{Entry as Line}
 use Rattle.dkg_types.specs.declared.participants.TrackedPeers.{TrackedPeers}
 use Rattle.dkg_types.specs.Tracking.{with_set}
-use Rattle.dkg_probe.specs.Acts.{Acts, Say, Track, Goes, Stops, bind, says_all, Completes, Faults, Breaks, IsFront, tracked_after}
+use Rattle.dkg_probe.specs.Acts.{Acts, Say, Track, Goes, Stops, bind, says_all, Completes, Faults, Speaks, Breaks, IsFront, Tracks, tracked_after}
 
 module _ {F S : Type 0} where
   -- nothing was run yet
@@ -17,19 +17,17 @@ module _ {F S : Type 0} where
   pub breaks_same : (acts : Acts F S) (out new : List Line) → new ≡ out → Breaks acts out new
   breaks_same acts out new same = subst (λ (x : List Line). Breaks acts out x) (sym same) (breaks_at_once acts out)
 
-  pub breaks_later : (line : Line) (acts : Acts F S) (out mid new : List Line) → mid ≡ out ++ line ∷ [] → Breaks acts mid new → Breaks (Say line acts) out new
-  breaks_later line acts out mid new is broken = inr (subst (λ (x : List Line). Breaks acts x new) is broken)
-
   pub all_said : (lines : List Line) (acts : Acts F S) (end : S) (out new : List Line) → Completes acts end (out ++ lines) new → Completes (says_all lines acts) end out new
   all_said [] acts end out new done = subst (λ (x : List Line). Completes acts end x new) (append-nil out) done
   all_said (line ∷ lines) acts end out new done =
       all_said lines acts end (out ++ line ∷ []) new (subst (λ (x : List Line). Completes acts end x new) (sym (append_assoc out (line ∷ []) lines)) done)
 
   pub some_said : (lines : List Line) (acts : Acts F S) (out new : List Line) → IsFront lines out new → Breaks (says_all lines acts) out new
-  some_said [] acts out new (zero, e) = breaks_same acts out new (e ∙ append-nil out)
-  some_said [] acts out new (suc count, e) = breaks_same acts out new (e ∙ append-nil out)
-  some_said (line ∷ lines) acts out new (zero, e) = inl (e ∙ append-nil out)
-  some_said (line ∷ lines) acts out new (suc count, e) = inr (some_said lines acts (out ++ line ∷ []) new (count, e ∙ sym (append_assoc out (line ∷ []) (take count lines))))
+  some_said [] acts out new (count, lt, e) = absurd (omega (arith, lt))
+  some_said (line ∷ lines) acts out new (zero, lt, e) = inl (e ∙ append-nil out)
+  some_said (line ∷ []) acts out new (suc count, lt, e) = absurd (omega (arith, lt))
+  some_said (line ∷ next ∷ lines) acts out new (suc count, lt, e) =
+      inr (tt, some_said (next ∷ lines) acts (out ++ line ∷ []) new (count, omega (arith, lt), e ∙ sym (append_assoc out (line ∷ []) (take count (next ∷ lines)))))
 
   module _ {T : Type 0} (g : S → T) where
     pub then_completes : (acts : Acts F S) (end : S) (out new : List Line) → Completes acts end out new → Completes (bind acts (λ s. Goes (g s))) (g end) out new
@@ -44,8 +42,14 @@ module _ {F S : Type 0} where
     then_faults (Goes its) fault out new done = absurd done
     then_faults (Stops its) fault out new done = done
 
+    then_speaks : (acts : Acts F S) → Speaks acts → Speaks (bind acts (λ s. Goes (g s)))
+    then_speaks (Say line acts) speaks = tt
+    then_speaks (Track epoch peers acts) speaks = then_speaks acts speaks
+    then_speaks (Goes its) speaks = absurd speaks
+    then_speaks (Stops its) speaks = absurd speaks
+
     pub then_breaks : (acts : Acts F S) (out new : List Line) → Breaks acts out new → Breaks (bind acts (λ s. Goes (g s))) out new
-    then_breaks (Say line acts) out new done = elim done [ inl e ↦ inl e | inr more ↦ inr (then_breaks acts (out ++ line ∷ []) new more) ]
+    then_breaks (Say line acts) out new done = elim done [ inl e ↦ inl e | inr more ↦ inr (then_speaks acts more.0, then_breaks acts (out ++ line ∷ []) new more.1) ]
     then_breaks (Track epoch peers acts) out new done = then_breaks acts out new done
     then_breaks (Goes its) out new done = done
     then_breaks (Stops its) out new done = done
@@ -55,3 +59,7 @@ module _ {F S : Type 0} where
     then_tracked (Track epoch peers acts) sets n = then_tracked acts (with_set sets epoch peers) n
     then_tracked (Goes its) sets n = refl
     then_tracked (Stops its) sets n = refl
+
+    pub then_tracks : {E : Type 0} (acts : Acts F S) (result : Result (Unit {0}) E) (sets now : ℕ → Option TrackedPeers) → Tracks acts result sets now → Tracks (bind acts (λ s. Goes (g s))) result sets now
+    then_tracks acts (Ok u) sets now tracks = λ n. tracks n ∙ sym (then_tracked acts sets n)
+    then_tracks acts (Err e) sets now tracks = elim tracks [ inl same ↦ inl same | inr all ↦ inr (λ n. all n ∙ sym (then_tracked acts sets n)) ]

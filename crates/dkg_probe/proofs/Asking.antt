@@ -1,24 +1,27 @@
 -- Each dealer asked in turn.
-use Rattle.std.proofs.Common.{◌≡◌, ℕ, List, [], ◌∷◌, ◌++◌, map, take, true, false, Option, None, Result, Ok, Err, IsErrOf, OnOk, OnErr, refl, sym, ap, ◌∙◌}
-use Rattle.std.proofs.lemmas.List.{take-map}
+use Rattle.std.proofs.Common.{◌≡◌, inr, ℕ, ◌+◌, ◌<◌, List, [], ◌∷◌, ◌++◌, map, length, take, true, false, Option, None, Result, Ok, Err, OnOk, OnErr, refl, sym, ap, subst, ◌∙◌, arith}
+use Rattle.std.proofs.lemmas.List.{take-map, length-map}
 use Rattle.dkg_values.specs.declared.memory.NoMemory.{NoMemory as Want}
 use Rattle.dkg_types.specs.declared.entry.Entry.{Entry as Line}
+use Rattle.dkg_types.specs.declared.manager.TrackError.{TrackError}
+use Rattle.dkg_types.specs.declared.manager.TrackError.TheVariants.{Missing, NoMemory}
 use Rattle.dkg_types.specs.declared.participants.TrackedPeers.{TrackedPeers}
+use Rattle.dkg_types.specs.Tracking.{Names, with_set}
 use Rattle.dkg_probe.specs.declared.event.ProbeStop.{ProbeStop}
-use Rattle.dkg_probe.specs.declared.event.ProbeStop.TheVariants.{PeerSet, NoMemory, Failed}
 use Rattle.dkg_probe.specs.declared.state.State.{State}
-use Rattle.dkg_probe.specs.Acts.{Acts, Say, Goes, says_all, IsFront, Runs, tracked_after}
-use Rattle.dkg_types.specs.Tracking.{with_set}
-use Rattle.dkg_probe.specs.Probing.{Fixed, latest_request, with_sample, one_more, is_done, is_first, tracked_of, asks_dealers, activates, subscribes, ended_in, ended_by, refused_by}
+use Rattle.dkg_probe.specs.Acts.{Acts, Goes, says_all, IsFront, Runs, Tracks, tracked_after}
+use Rattle.dkg_probe.specs.Probing.{Fixed, latest_request, with_sample, one_more, is_done, is_first, tracked_of, activates, subscribes, ended_in, ended_by}
 use Rattle.dkg_probe.specs.Sampling.{forgotten}
+use Rattle.dkg_probe.specs.Stopping.{stop_for}
 use Rattle.dkg_probe.proofs.Acting.{all_said, some_said, breaks_at_once}
 
 pub on_err : {A E : Type 0} (P : Type 0) (r : Result A E) → P → OnErr r P
 on_err P (Ok a) p = tt
 on_err P (Err e) p = p
 
-pub asked_front : (out new mid : List Line) (dealers : List ℕ) (i : ℕ) → new ≡ mid → mid ≡ out ++ map latest_request (take i dealers) → IsFront (map latest_request dealers) out new
-asked_front out new mid dealers i same so_far = (i, same ∙ so_far ∙ ap (λ (lines : List Line). out ++ lines) (sym (take-map latest_request i dealers)))
+pub asked_front : (out new mid : List Line) (dealers : List ℕ) (i : ℕ) → i < length dealers → new ≡ mid → mid ≡ out ++ map latest_request (take i dealers) → IsFront (map latest_request dealers) out new
+asked_front out new mid dealers i lt same so_far =
+    (i, omega (arith, lt, length-map dealers latest_request), same ∙ so_far ∙ ap (λ (lines : List Line). out ++ lines) (sym (take-map latest_request i dealers)))
 
 -- all were asked, or the first of them
 pub asks_run : {Dir : Type 0} (dealers : List ℕ) (end st : State Dir) (result : Result (Unit {0}) Want) (out new : List Line) → end ≡ st → OnOk result (new ≡ out ++ map latest_request dealers)
@@ -26,24 +29,31 @@ pub asks_run : {Dir : Type 0} (dealers : List ℕ) (end st : State Dir) (result 
 asks_run dealers end st (Ok u) out new same said front = all_said (map latest_request dealers) (Goes st) end out new (said, same)
 asks_run dealers end st (Err e) out new same said front = some_said (map latest_request dealers) (Goes st) out new front
 
-abbrev pub stop_of : ProbeStop → Result (Unit {0}) ProbeStop
-stop_of stop = Err stop
-
 -- the checkpoint was not activated
-pub activate_stops : {Dir : Type 0} (c : Fixed Dir) (st left : State Dir) (stop : ProbeStop) (out : List Line) → (IsErrOf (stop_of stop) Failed → ⊥) → Runs (activates c (refused_by (stop_of stop)) st) (ended_by left (stop_of stop)) out out
-activate_stops c st left (PeerSet peer) out known = (refl, refl)
-activate_stops c st left NoMemory out known = breaks_at_once (asks_dealers c st) out
-activate_stops c st left Failed out known = absurd (known refl)
+pub begin_stops : {Dir : Type 0} (c : Fixed Dir) (lack : Option ℕ) (st left : State Dir) (error : TrackError) (out : List Line) → Names {A = Unit {0}} lack (Err error) → Runs (activates c lack st) (ended_by left (Err (stop_for error))) out out
+begin_stops c lack st left (Missing peer) out named = rw named (refl, refl)
+begin_stops c lack st left NoMemory out named = breaks_at_once (activates c lack st) out
 
 -- saying lines has nobody tracked
 asked_tracks : {F S : Type 0} (lines : List Line) (acts : Acts F S) (sets : ℕ → Option TrackedPeers) (n : ℕ) → tracked_after (says_all lines acts) sets n ≡ tracked_after acts sets n
 asked_tracks [] acts sets n = refl
 asked_tracks (line ∷ lines) acts sets n = asked_tracks lines acts sets n
 
--- a first subscriber has the checkpoint's peers tracked
-pub subscribe_tracks : {Dir : Type 0} (c : Fixed Dir) (st : State Dir) (sets now : ℕ → Option TrackedPeers) (result : Result (Unit {0}) ProbeStop) → is_done st ≡ false → is_first st ≡ true
-    → OnOk result ((n : ℕ) → now n ≡ with_set sets c.bootstrap.epoch (tracked_of c.bootstrap.participants) n) → OnOk result ((n : ℕ) → now n ≡ tracked_after (subscribes c None st) sets n)
-subscribe_tracks c st sets now (Ok u) done first said = λ n.
-    let e = asked_tracks (map latest_request c.bootstrap.participants.dealers) (Goes (with_sample (forgotten st.sample) (one_more st))) (with_set sets c.bootstrap.epoch (tracked_of c.bootstrap.participants)) n in
-    rw (done, first) (said n ∙ sym e)
-subscribe_tracks c st sets now (Err stop) done first said = tt
+-- an activation has the checkpoint's peers tracked
+pub begin_tracks : {Dir : Type 0} (c : Fixed Dir) (lack : Option ℕ) (st : State Dir) (sets now : ℕ → Option TrackedPeers) → lack ≡ None
+    → ((n : ℕ) → now n ≡ with_set sets c.bootstrap.epoch (tracked_of c.bootstrap.participants) n) → (n : ℕ) → now n ≡ tracked_after (activates c lack st) sets n
+begin_tracks c lack st sets now none said n =
+    let e = asked_tracks (map latest_request c.bootstrap.participants.dealers) (Goes (with_sample (forgotten st.sample) st)) (with_set sets c.bootstrap.epoch (tracked_of c.bootstrap.participants)) n in
+    rw none (said n ∙ sym e)
+
+-- however the step then ends
+pub tracks_all : {F S E : Type 0} (acts : Acts F S) (result : Result (Unit {0}) E) (sets now : ℕ → Option TrackedPeers) → ((n : ℕ) → now n ≡ tracked_after acts sets n) → Tracks acts result sets now
+tracks_all acts (Ok u) sets now all = all
+tracks_all acts (Err e) sets now all = inr all
+
+-- and so has a first subscriber
+pub subscribe_tracks : {Dir : Type 0} (c : Fixed Dir) (lack : Option ℕ) (st : State Dir) (more : ℕ) (sets now : ℕ → Option TrackedPeers) (result : Result (Unit {0}) ProbeStop) → is_done st ≡ false → is_first st ≡ true → more ≡ st.subscribers + 1
+    → Tracks (activates c lack (record st { subscribers = more })) result sets now → Tracks (subscribes c lack st) result sets now
+subscribe_tracks {Dir} c lack st more sets now result done first is tracks =
+    let one : Tracks (activates c lack (one_more st)) result sets now = subst (λ (k : ℕ). Tracks (activates c lack (record st { subscribers = k })) result sets now) is tracks in
+    rw (done, first) one

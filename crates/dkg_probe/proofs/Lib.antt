@@ -2,6 +2,9 @@ pub mod Acting
 pub mod Apart
 pub mod Asking
 pub mod Highest
+pub mod Knowing
+pub mod Rereading
 pub mod Saying
 pub mod Stepping
+pub mod Subscribing
 pub mod Terms

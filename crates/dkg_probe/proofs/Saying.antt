@@ -1,6 +1,5 @@
 -- What holds of all that a step may say: artifacts are of one epoch, and only a subscriber has peers tracked.
-use Rattle.std.proofs.Common.{◌≡◌, ◌⊎◌, inl, inr, ℕ, Bool, true, false, not, ◌-◌, ◌&&◌, ◌||◌, ◌==◌, nat_lt, List, [], ◌∷◌, ◌++◌, map, Option, Some, None, is_none, is_some, Result, Ok, Err, if◌then◌else◌, refl, sym, ap, subst, ◌∙◌, append_assoc, append-nil, eqb-true}
-use Rattle.std.specs.List.{AllByRecursion}
+use Rattle.std.proofs.Common.{◌≡◌, inl, inr, ℕ, Bool, true, false, not, ◌-◌, ◌&&◌, ◌||◌, ◌==◌, nat_lt, List, [], ◌∷◌, ◌++◌, map, Option, Some, None, is_none, Result, Ok, Err, if◌then◌else◌, refl, sym, subst, ◌∙◌, append_assoc, append-nil, eqb-true}
 use Rattle.dkg_values.specs.Codec.{whole}
 use Rattle.dkg_values.specs.declared.codec.CodecError.{CodecError}
 use Rattle.dkg_types.specs.BlockCodes.{info_of}
@@ -8,11 +7,8 @@ use Rattle.dkg_types.specs.Blocks.{Block}
 use Rattle.dkg_types.specs.declared.entry.BlockedWhy.TheVariants as why
 use Rattle.dkg_types.specs.declared.entry.BlockedWhy.{BlockedWhy}
 use Rattle.dkg_types.specs.declared.entry.Entry.{Entry as Line}
-use Rattle.dkg_types.specs.declared.entry.Entry.TheVariants.{Blocked, Sent, Artifact}
+use Rattle.dkg_types.specs.declared.entry.Entry.TheVariants.{Blocked, Sent}
 use Rattle.dkg_types.specs.declared.participants.TrackedPeers.{TrackedPeers}
-use Rattle.dkg_types.specs.FinalizationCodes.{finalization_spelling}
-use Rattle.dkg_types.specs.PayloadCodes.{payload_spelling, info_payload}
-use Rattle.dkg_types.specs.Tracking.{with_set}
 use Rattle.dkg_values.specs.Uint.{uint}
 use Rattle.dkg_types.specs.declared.finalization.Finalization.{Finalization}
 use Rattle.dkg_types.specs.declared.info.EpochInfo.{EpochInfo}
@@ -22,59 +18,63 @@ use Rattle.dkg_probe.specs.declared.event.Event.TheVariants.{Subscribe, Unsubscr
 use Rattle.dkg_probe.specs.declared.state.State.{State}
 use Rattle.dkg_probe.specs.declared.wire.Request.{Request}
 use Rattle.dkg_probe.specs.Acts.{Acts, Say, Track, Goes, Stops, says_all, Completes, Faults, Breaks, Ended, went, stopped, broken, Runs, Each, tracked_after}
-use Rattle.dkg_probe.specs.Candidates.{Awaiting, Candidate, is_candidate, new_awaiting, with_candidate, first_of, next_asked}
+use Rattle.dkg_probe.specs.Candidates.{Awaiting, Candidate, is_candidate, with_candidate, first_of, next_asked}
 use Rattle.dkg_probe.specs.OneEpoch.{OfOneEpoch, SaidSince}
 use Rattle.dkg_probe.specs.Probing as probing
-use Rattle.dkg_probe.specs.Probing.{Fixed, Probes, latest_request, with_sample, with_awaited, asks_dealers, asks_for, asks_next, one_more, is_done, is_first, activates, subscribes, retries_in, retries, resolves, begins_at, awaits_block, from_floor, dealers_in, samples, chooses, is_dealer, hears_latest, adds, hears_boundary, info_for, info_at, found_in, from_body, hears_body, hears_block, hears_in, discovers, response_to, answers, serves, hears, takes, then_serves, steps}
-use Rattle.dkg_probe.specs.Sampling.{Sampled, awaits, recorded, selected, floor_of, forgotten}
+use Rattle.dkg_probe.specs.Probing.{Fixed, Probes, latest_request, with_sample, with_awaited, asks_dealers, asks_for, asks_next, one_more, is_done, is_first, activates, subscribes, retries_in, retries, with_known, artifact_line, of_genesis, resolves, begins_at, awaits_block, from_floor, dealers_in, samples, chooses, is_dealer, hears_latest, adds, hears_boundary, info_for, info_at, found_in, from_body, hears_body, hears_block, hears_in, discovers, response_to, answers, serves, hears, takes}
+use Rattle.dkg_probe.specs.Sampling.{awaits, recorded, selected, floor_of, forgotten}
 use Rattle.dkg_probe.specs.Sources.{Source}
 use Rattle.dkg_probe.specs.Wire.{Reply, IsBoundary, IsBlock, IsLatest, committed, request_of, reply_of}
 
 -- what was said is of P where all that may be said is
-none_more : (P : Line → Type 0) (out new : List Line) → new ≡ out → SaidSince P out new
+pub none_more : (P : Line → Type 0) (out new : List Line) → new ≡ out → SaidSince P out new
 none_more P out new e = ([], e ∙ sym (append-nil out), tt)
 
-one_more_said : (P : Line → Type 0) (line : Line) (out new : List Line) → P line → SaidSince P (out ++ line ∷ []) new → SaidSince P out new
+pub one_more_said : (P : Line → Type 0) (line : Line) (out new : List Line) → P line → SaidSince P (out ++ line ∷ []) new → SaidSince P out new
 one_more_said P line out new p (more, e, all) = (line ∷ more, e ∙ append_assoc out (line ∷ []) more, (p, all))
 
+-- P of each line, whatever stands behind it
+abbrev Said : {F S : Type 0} → (Line → Type 0) → Line → Acts F S → Type 0
+Said P line acts = P line
+
 module _ {F S : Type 0} (P : Line → Type 0) (Q : Type 0) where
-  said_completing : (acts : Acts F S) (end : S) (out new : List Line) → Each P Q acts → Completes acts end out new → SaidSince P out new
+  said_completing : (acts : Acts F S) (end : S) (out new : List Line) → Each (Said P) Q acts → Completes acts end out new → SaidSince P out new
   said_completing (Say line acts) end out new all done = one_more_said P line out new all.0 (said_completing acts end (out ++ line ∷ []) new all.1 done)
   said_completing (Track epoch peers acts) end out new all done = said_completing acts end out new all.1 done
   said_completing (Goes its) end out new all done = none_more P out new done.0
   said_completing (Stops fault) end out new all done = absurd done
 
-  said_faulting : (acts : Acts F S) (fault : F) (out new : List Line) → Each P Q acts → Faults acts fault out new → SaidSince P out new
+  said_faulting : (acts : Acts F S) (fault : F) (out new : List Line) → Each (Said P) Q acts → Faults acts fault out new → SaidSince P out new
   said_faulting (Say line acts) fault out new all done = one_more_said P line out new all.0 (said_faulting acts fault (out ++ line ∷ []) new all.1 done)
   said_faulting (Track epoch peers acts) fault out new all done = said_faulting acts fault out new all.1 done
   said_faulting (Goes its) fault out new all done = absurd done
   said_faulting (Stops its) fault out new all done = none_more P out new done.0
 
-  said_breaking : (acts : Acts F S) (out new : List Line) → Each P Q acts → Breaks acts out new → SaidSince P out new
-  said_breaking (Say line acts) out new all done = elim done [ inl e ↦ none_more P out new e | inr more ↦ one_more_said P line out new all.0 (said_breaking acts (out ++ line ∷ []) new all.1 more) ]
+  said_breaking : (acts : Acts F S) (out new : List Line) → Each (Said P) Q acts → Breaks acts out new → SaidSince P out new
+  said_breaking (Say line acts) out new all done = elim done [ inl e ↦ none_more P out new e | inr more ↦ one_more_said P line out new all.0 (said_breaking acts (out ++ line ∷ []) new all.1 more.1) ]
   said_breaking (Track epoch peers acts) out new all done = said_breaking acts out new all.1 done
   said_breaking (Goes its) out new all done = none_more P out new done
   said_breaking (Stops its) out new all done = none_more P out new done
 
-  pub said_running : (acts : Acts F S) (ended : Ended F S) (out new : List Line) → Each P Q acts → Runs acts ended out new → SaidSince P out new
+  pub said_running : (acts : Acts F S) (ended : Ended F S) (out new : List Line) → Each (Said P) Q acts → Runs acts ended out new → SaidSince P out new
   said_running acts (went end) out new all done = said_completing acts end out new all done
   said_running acts (stopped fault) out new all done = said_faulting acts fault out new all done
   said_running acts broken out new all done = said_breaking acts out new all done
 
-  pub if_each : (b : Bool) (x y : Acts F S) → (b ≡ true → Each P Q x) → (b ≡ false → Each P Q y) → Each P Q (if b then x else y)
-  if_each true x y p q = p refl
-  if_each false x y p q = q refl
+if_each : {F S : Type 0} (P : Line → Acts F S → Type 0) (Q : Type 0) (b : Bool) (x y : Acts F S) → (b ≡ true → Each P Q x) → (b ≡ false → Each P Q y) → Each P Q (if b then x else y)
+if_each P Q true x y p q = p refl
+if_each P Q false x y p q = q refl
 
 -- where nothing is tracked, the sets stay
-none_tracked : {F S : Type 0} (P : Line → Type 0) (acts : Acts F S) (sets : ℕ → Option TrackedPeers) (n : ℕ) → Each P ⊥ acts → tracked_after acts sets n ≡ sets n
+none_tracked : {F S : Type 0} (P : Line → Acts F S → Type 0) (acts : Acts F S) (sets : ℕ → Option TrackedPeers) (n : ℕ) → Each P ⊥ acts → tracked_after acts sets n ≡ sets n
 none_tracked P (Say line acts) sets n all = none_tracked P acts sets n all.1
 none_tracked P (Track epoch peers acts) sets n all = absurd all.0
 none_tracked P (Goes its) sets n all = refl
 none_tracked P (Stops its) sets n all = refl
 
-module _ {Dir : Type 0} (c : Fixed Dir) (P : Line → Type 0) (Q : Type 0) (sent : (to : Option ℕ) (bytes : List ℕ) → P (Sent to bytes)) (blocked : (peer : ℕ) (reason : BlockedWhy) → P (Blocked peer reason))
-    (found : (known : Known Dir) → known.info.epoch ≡ known.floor.epoch → P (Artifact (payload_spelling c.spelling (info_payload known.info)) (finalization_spelling known.floor)))
-    (genesis : (floor : Finalization) → floor.epoch ≡ 0 → P (Artifact (payload_spelling c.spelling (info_payload c.genesis)) (finalization_spelling floor))) where
+module _ {Dir : Type 0} (c : Fixed Dir) (P : Line → Probes Dir → Type 0) (Q : Type 0) (sent : (to : Option ℕ) (bytes : List ℕ) (acts : Probes Dir) → P (Sent to bytes) acts) (blocked : (peer : ℕ) (reason : BlockedWhy) (acts : Probes Dir) → P (Blocked peer reason) acts)
+    (found : (known : Known Dir) (st : State Dir) → known.info.epoch ≡ known.floor.epoch → P (artifact_line c.spelling known) (Goes (with_known known st)))
+    (genesis : (floor : Finalization) (st : State Dir) → floor.epoch ≡ 0 → P (artifact_line c.spelling (of_genesis c floor)) (Goes (with_known (of_genesis c floor) st))) where
   abbrev Fine : Probes Dir → Type 0
   Fine = Each P Q
 
@@ -83,11 +83,11 @@ module _ {Dir : Type 0} (c : Fixed Dir) (P : Line → Type 0) (Q : Type 0) (sent
 
   each_asked : (dealers : List ℕ) (st : State Dir) → Fine (says_all (map latest_request dealers) (Goes st))
   each_asked [] st = tt
-  each_asked (dealer ∷ dealers) st = (sent (Some dealer) (4 ∷ []), each_asked dealers st)
+  each_asked (dealer ∷ dealers) st = (sent (Some dealer) (4 ∷ []) _, each_asked dealers st)
 
   asked_fine : (candidate : Option Candidate) (epoch : ℕ) (st : State Dir) → Fine (asks_for candidate epoch st)
-  asked_fine None epoch st = (sent None (0 ∷ uint epoch), tt)
-  asked_fine (Some candidate) epoch st = (sent (Some candidate.0) (2 ∷ uint epoch), tt)
+  asked_fine None epoch st = (sent None (0 ∷ uint epoch) _, tt)
+  asked_fine (Some candidate) epoch st = (sent (Some candidate.0) (2 ∷ uint epoch) _, tt)
 
   next_fine : (a : Awaiting) (st : State Dir) → Fine (asks_next a st)
   next_fine a st = asked_fine (first_of a.others) a.floor.epoch (with_awaited (next_asked a) st)
@@ -103,11 +103,11 @@ module _ {Dir : Type 0} (c : Fixed Dir) (P : Line → Type 0) (Q : Type 0) (sent
   retries_fine st = if_fine (is_done st || (st.subscribers == 0)) (Goes st) (retries_in c st st.awaited) (λ e. tt) (λ e. retries_in_fine st st.awaited)
 
   resolves_fine : (known : Known Dir) (st : State Dir) → known.info.epoch ≡ known.floor.epoch → Fine (resolves c.spelling known st)
-  resolves_fine known st e = (found known e, tt)
+  resolves_fine known st e = (found known st e, tt)
 
   awaits_fine : (floor : Finalization) (st : State Dir) (height : Option ℕ) → Fine (awaits_block floor st height)
   awaits_fine floor st None = tt
-  awaits_fine floor st (Some height) = (sent None (0 ∷ uint floor.epoch), tt)
+  awaits_fine floor st (Some height) = (sent None (0 ∷ uint floor.epoch) _, tt)
 
   found_for : (epoch : ℕ) (carried : Option (EpochInfo Dir)) (info : EpochInfo Dir) → info_for epoch carried ≡ Some info → info.epoch ≡ epoch
   found_for epoch None info e = absurd cc
@@ -126,7 +126,7 @@ module _ {Dir : Type 0} (c : Fixed Dir) (P : Line → Type 0) (Q : Type 0) (sent
       tested false s = absurd cc
 
   body_fine : (a : Awaiting) (asked : Candidate) (st : State Dir) (found : Option (EpochInfo Dir)) → ((info : EpochInfo Dir) → found ≡ Some info → info.epoch ≡ a.floor.epoch) → Fine (from_body c a asked st found)
-  body_fine a asked st None same = (blocked asked.0 why.Block, next_fine a st)
+  body_fine a asked st None same = (blocked asked.0 why.Block _, next_fine a st)
   body_fine a asked st (Some info) same = resolves_fine (record { finalization = Some asked.1; info = info; floor = a.floor }) st (same info refl)
 
   block_fine : (a : Awaiting) (asked : Option Candidate) (peer epoch : ℕ) (body : List ℕ) (st : State Dir) → Fine (hears_block c a asked peer epoch body st)
@@ -145,25 +145,24 @@ module _ {Dir : Type 0} (c : Fixed Dir) (P : Line → Type 0) (Q : Type 0) (sent
       let x2 : Probes Dir = if is_candidate a peer then Goes st else x3 in
       let x1 : Probes Dir = if nat_lt (a.floor.epoch - 1) f.epoch then probing.blocks peer why.Boundary st else x2 in
       if_fine (nat_lt f.epoch (a.floor.epoch - 1)) (Goes st) x1 (λ e. tt)
-      (λ e. if_fine (nat_lt (a.floor.epoch - 1) f.epoch) (probing.blocks peer why.Boundary st) x2 (λ e. (blocked peer why.Boundary, tt))
+      (λ e. if_fine (nat_lt (a.floor.epoch - 1) f.epoch) (probing.blocks peer why.Boundary st) x2 (λ e. (blocked peer why.Boundary _, tt))
       (λ e. if_fine (is_candidate a peer) (Goes st) x3 (λ e. tt)
-      (λ e. if_fine (not (c.certifies f)) (probing.blocks peer why.Boundary st) x4 (λ e. (blocked peer why.Boundary, tt)) (λ e. adds_fine (with_candidate a (peer, f)) st))))
+      (λ e. if_fine (not (c.certifies f)) (probing.blocks peer why.Boundary st) x4 (λ e. (blocked peer why.Boundary _, tt)) (λ e. adds_fine (with_candidate a (peer, f)) st))))
 
   answers_fine : (peer : ℕ) (bytes : Option (List ℕ)) (st : State Dir) → Fine (answers peer bytes st)
   answers_fine peer None st = tt
-  answers_fine peer (Some bytes) st = (sent (Some peer) bytes, tt)
+  answers_fine peer (Some bytes) st = (sent (Some peer) bytes _, tt)
 
   serves_fine : (source : Source Dir) (peer : ℕ) (asked : Result (Option Request) CodecError) (st : State Dir) → Fine (serves c source peer asked st)
-  serves_fine source peer (Err e) st = (blocked peer why.Reply, tt)
+  serves_fine source peer (Err e) st = (blocked peer why.Reply _, tt)
   serves_fine source peer (Ok None) st = tt
   serves_fine source peer (Ok (Some request)) st = answers_fine peer (response_to c source request) st
 
   from_fine : (st : State Dir) (floor : Option Finalization) → Fine (from_floor c st floor)
   from_fine st None = tt
   from_fine st (Some floor) =
-      let known : Known Dir = record { finalization = None; info = c.genesis; floor = floor } in
-      if_fine (floor.epoch == 0) (resolves c.spelling known st) (awaits_block floor st (begins_at c.blocks_per_epoch floor.epoch))
-      (λ e. (genesis floor (eqb-true floor.epoch 0 e), tt)) (λ e. awaits_fine floor st (begins_at c.blocks_per_epoch floor.epoch))
+      if_fine (floor.epoch == 0) (resolves c.spelling (of_genesis c floor) st) (awaits_block floor st (begins_at c.blocks_per_epoch floor.epoch))
+      (λ e. (genesis floor st (eqb-true floor.epoch 0 e), tt)) (λ e. awaits_fine floor st (begins_at c.blocks_per_epoch floor.epoch))
 
   samples_fine : (peer : ℕ) (f : Finalization) (st : State Dir) → Fine (samples c peer f st)
   samples_fine peer f st =
@@ -177,9 +176,9 @@ module _ {Dir : Type 0} (c : Fixed Dir) (P : Line → Type 0) (Q : Type 0) (sent
       let x2 : Probes Dir = if nat_lt f.epoch st.sample.minimum then Goes st else x3 in
       let x1 : Probes Dir = if not (is_dealer c peer) then probing.blocks peer why.Member st else x2 in
       if_fine (not (awaits st.sample peer)) (Goes st) x1 (λ e. tt)
-      (λ e. if_fine (not (is_dealer c peer)) (probing.blocks peer why.Member st) x2 (λ e. (blocked peer why.Member, tt))
+      (λ e. if_fine (not (is_dealer c peer)) (probing.blocks peer why.Member st) x2 (λ e. (blocked peer why.Member _, tt))
       (λ e. if_fine (nat_lt f.epoch st.sample.minimum) (Goes st) x3 (λ e. tt)
-      (λ e. if_fine (not (c.certifies f)) (probing.blocks peer why.Invalid st) x4 (λ e. (blocked peer why.Invalid, tt)) (λ e. samples_fine peer f st))))
+      (λ e. if_fine (not (c.certifies f)) (probing.blocks peer why.Invalid st) x4 (λ e. (blocked peer why.Invalid _, tt)) (λ e. samples_fine peer f st))))
 
   hears_in_fine : (awaited : Option Awaiting) (peer : ℕ) (reply : Reply) (st : State Dir) → Fine (hears_in c awaited peer reply st)
   hears_in_fine awaited peer (IsLatest f) st = latest_fine peer f st
@@ -189,7 +188,7 @@ module _ {Dir : Type 0} (c : Fixed Dir) (P : Line → Type 0) (Q : Type 0) (sent
   hears_in_fine (Some a) peer (IsBlock epoch body) st = block_fine a a.asked peer epoch body st
 
   discovers_fine : (peer : ℕ) (reply : Result (Option Reply) CodecError) (st : State Dir) → Fine (discovers c peer reply st)
-  discovers_fine peer (Err e) st = (blocked peer why.Reply, tt)
+  discovers_fine peer (Err e) st = (blocked peer why.Reply _, tt)
   discovers_fine peer (Ok None) st = tt
   discovers_fine peer (Ok (Some reply)) st = hears_in_fine st.awaited peer reply st
 
@@ -198,45 +197,50 @@ module _ {Dir : Type 0} (c : Fixed Dir) (P : Line → Type 0) (Q : Type 0) (sent
       if_fine st.serving (serves c source peer (request_of bytes) st) (discovers c peer (reply_of bytes) st) (λ e. serves_fine source peer (request_of bytes) st) (λ e. discovers_fine peer (reply_of bytes) st)
 
   module _ (q : Q) where
-    activates_fine : (refused : Option ℕ) (st : State Dir) → Fine (activates c refused st)
+    activates_fine : (lack : Option ℕ) (st : State Dir) → Fine (activates c lack st)
     activates_fine None st = (q, dealers_fine st)
     activates_fine (Some peer) st = tt
 
-    subscribes_fine : (refused : Option ℕ) (st : State Dir) → Fine (subscribes c refused st)
-    subscribes_fine refused st =
-        if_fine (is_done st) (Goes st) (if is_first st then activates c refused (one_more st) else Goes (one_more st)) (λ e. tt)
-        (λ e. if_fine (is_first st) (activates c refused (one_more st)) (Goes (one_more st)) (λ f. activates_fine refused (one_more st)) (λ f. tt))
+    subscribes_fine : (lack : Option ℕ) (st : State Dir) → Fine (subscribes c lack st)
+    subscribes_fine lack st =
+        if_fine (is_done st) (Goes st) (if is_first st then activates c lack (one_more st) else Goes (one_more st)) (λ e. tt)
+        (λ e. if_fine (is_first st) (activates c lack (one_more st)) (Goes (one_more st)) (λ f. activates_fine lack (one_more st)) (λ f. tt))
 
-    takes_fine : (refused : Option ℕ) (source : Source Dir) (event : Event) (st : State Dir) → Fine (takes c refused source event st)
-    takes_fine refused source Subscribe st = subscribes_fine refused st
-    takes_fine refused source Unsubscribe st = tt
-    takes_fine refused source Attach st = tt
-    takes_fine refused source (Peer from bytes) st = hears_fine source from bytes st
-    takes_fine refused source Retry st = retries_fine st
+    pub takes_fine : (lack : Option ℕ) (source : Source Dir) (event : Event) (st : State Dir) → Fine (takes c lack source event st)
+    takes_fine lack source Subscribe st = subscribes_fine lack st
+    takes_fine lack source Unsubscribe st = tt
+    takes_fine lack source Attach st = tt
+    takes_fine lack source (Peer from bytes) st = hears_fine source from bytes st
+    takes_fine lack source Retry st = retries_fine st
 
 -- ---- what follows
 
 -- Each artifact that a step tells is of one epoch, where genesis is of epoch zero.
-pub one_epoch_since : {Dir : Type 0} (c : Fixed Dir) (refused : Option ℕ) (source : Source Dir) (event : Event) (st : State Dir) (ended : Ended ℕ (State Dir)) (out new : List Line) → c.genesis.epoch ≡ 0
-    → Runs (takes c refused source event st) ended out new → SaidSince (OfOneEpoch c.spelling) out new
-one_epoch_since {Dir} c refused source event st ended out new genesis ran =
-    let of_genesis : (floor : Finalization) → floor.epoch ≡ 0 → OfOneEpoch c.spelling (Artifact (payload_spelling c.spelling (info_payload c.genesis)) (finalization_spelling floor)) =
-    λ floor e. record { of = c.genesis; at = floor; info_is = refl; floor_is = refl; same = genesis ∙ sym e } in
-    let all = takes_fine c (OfOneEpoch c.spelling) (Unit {0}) (λ to bytes. tt) (λ peer reason. tt) (λ known e. record { of = known.info; at = known.floor; info_is = refl; floor_is = refl; same = e }) of_genesis tt refused source event st in
-    said_running (OfOneEpoch c.spelling) (Unit {0}) (takes c refused source event st) ended out new all ran
+pub one_epoch_since : {Dir : Type 0} (c : Fixed Dir) (lack : Option ℕ) (source : Source Dir) (event : Event) (st : State Dir) (ended : Ended ℕ (State Dir)) (out new : List Line) → c.genesis.epoch ≡ 0
+    → Runs (takes c lack source event st) ended out new → SaidSince (OfOneEpoch c.spelling) out new
+one_epoch_since {Dir} c lack source event st ended out new genesis ran =
+    let P : Line → Probes Dir → Type 0 = Said (OfOneEpoch c.spelling) in
+    let from_genesis : (floor : Finalization) (st : State Dir) → floor.epoch ≡ 0 → P (artifact_line c.spelling (of_genesis c floor)) (Goes (with_known (of_genesis c floor) st)) =
+    λ floor st e. record { of = c.genesis; at = floor; info_is = refl; floor_is = refl; same = genesis ∙ sym e } in
+    let all = takes_fine c P (Unit {0}) (λ to bytes acts. tt) (λ peer reason acts. tt) (λ known st e. record { of = known.info; at = known.floor; info_is = refl; floor_is = refl; same = e }) from_genesis tt lack source event st in
+    said_running (OfOneEpoch c.spelling) (Unit {0}) (takes c lack source event st) ended out new all ran
 
 -- Nothing is tracked by a peer's message, and by a retry.
+abbrev Any : {F S : Type 0} → Line → Acts F S → Type 0
+Any line acts = Unit {0}
+
 pub hearing_tracks : {Dir : Type 0} (c : Fixed Dir) (source : Source Dir) (peer : ℕ) (bytes : List ℕ) (st : State Dir) (sets : ℕ → Option TrackedPeers) (n : ℕ) → sets n ≡ tracked_after (hears c source peer bytes st) sets n
 hearing_tracks c source peer bytes st sets n =
-    sym (none_tracked (λ _. Unit {0}) (hears c source peer bytes st) sets n (hears_fine c (λ _. Unit {0}) ⊥ (λ to bytes. tt) (λ peer reason. tt) (λ known e. tt) (λ floor e. tt) source peer bytes st))
+    sym (none_tracked Any (hears c source peer bytes st) sets n (hears_fine c Any ⊥ (λ to bytes acts. tt) (λ peer reason acts. tt) (λ known st e. tt) (λ floor st e. tt) source peer bytes st))
 
 pub retrying_tracks : {Dir : Type 0} (c : Fixed Dir) (st : State Dir) (sets : ℕ → Option TrackedPeers) (n : ℕ) → sets n ≡ tracked_after (retries c st) sets n
 retrying_tracks c st sets n =
-    sym (none_tracked (λ _. Unit {0}) (retries c st) sets n (retries_fine c (λ _. Unit {0}) ⊥ (λ to bytes. tt) (λ peer reason. tt) (λ known e. tt) (λ floor e. tt) st))
+    sym (none_tracked Any (retries c st) sets n (retries_fine c Any ⊥ (λ to bytes acts. tt) (λ peer reason acts. tt) (λ known st e. tt) (λ floor st e. tt) st))
 
 -- so of events that are one of these
-pub peer_tracks : {Dir : Type 0} (c : Fixed Dir) (source : Source Dir) (event : Event) (peer : ℕ) (bytes : List ℕ) (st : State Dir) (sets : ℕ → Option TrackedPeers) → event ≡ Peer peer bytes → (n : ℕ) → sets n ≡ tracked_after (takes c None source event st) sets n
-peer_tracks c source event peer bytes st sets is n = rw is (hearing_tracks c source peer bytes st sets n)
+pub peer_tracks : {Dir : Type 0} (c : Fixed Dir) (lack : Option ℕ) (source : Source Dir) (event : Event) (peer : ℕ) (bytes : List ℕ) (st : State Dir) (sets : ℕ → Option TrackedPeers) → event ≡ Peer peer bytes → (n : ℕ)
+    → sets n ≡ tracked_after (takes c lack source event st) sets n
+peer_tracks c lack source event peer bytes st sets is n = rw is (hearing_tracks c source peer bytes st sets n)
 
-pub retry_tracks : {Dir : Type 0} (c : Fixed Dir) (source : Source Dir) (event : Event) (st : State Dir) (sets : ℕ → Option TrackedPeers) → event ≡ Retry → (n : ℕ) → sets n ≡ tracked_after (takes c None source event st) sets n
-retry_tracks c source event st sets is n = rw is (retrying_tracks c st sets n)
+pub retry_tracks : {Dir : Type 0} (c : Fixed Dir) (lack : Option ℕ) (source : Source Dir) (event : Event) (st : State Dir) (sets : ℕ → Option TrackedPeers) → event ≡ Retry → (n : ℕ) → sets n ≡ tracked_after (takes c lack source event st) sets n
+retry_tracks c lack source event st sets is n = rw is (retrying_tracks c st sets n)

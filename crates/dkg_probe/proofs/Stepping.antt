@@ -1,13 +1,13 @@
 -- A step: what an event does, and then perhaps the turn to serving.
-use Rattle.std.proofs.Common.{◌≡◌, ℕ, List, Option, Result, Ok, Err, sym, subst, ◌∙◌}
+use Rattle.std.proofs.Common.{◌≡◌, ℕ, List, Option, Result, Err, sym, subst}
 use Rattle.dkg_types.specs.declared.entry.Entry.{Entry as Line}
 use Rattle.dkg_types.specs.declared.participants.TrackedPeers.{TrackedPeers}
 use Rattle.dkg_probe.specs.declared.event.ProbeStop.{ProbeStop}
 use Rattle.dkg_probe.specs.declared.event.ProbeStop.TheVariants.{PeerSet, NoMemory, Failed}
 use Rattle.dkg_probe.specs.declared.state.State.{State}
-use Rattle.dkg_probe.specs.Acts.{Goes, bind, Completes, Runs, went, tracked_after}
+use Rattle.dkg_probe.specs.Acts.{Goes, bind, Completes, Runs, went, Tracks}
 use Rattle.dkg_probe.specs.Probing.{Probes, then_serves, ended_by}
-use Rattle.dkg_probe.proofs.Acting.{then_completes, then_faults, then_breaks, then_tracked}
+use Rattle.dkg_probe.proofs.Acting.{then_completes, then_faults, then_breaks, then_tracks}
 
 pub goes_run : {Dir : Type 0} (acts : Probes Dir) (mid new : State Dir) (out after : List Line) → new ≡ then_serves mid → Runs acts (went mid) out after → Runs (bind acts (λ st. Goes (then_serves st))) (went new) out after
 goes_run {Dir} acts mid new out after e ran = subst (λ (st : State Dir). Completes (bind acts (λ st. Goes (then_serves st))) st out after) (sym e) (then_completes then_serves acts mid out after ran)
@@ -17,5 +17,5 @@ stops_run acts mid new (PeerSet peer) out after ran = then_faults then_serves ac
 stops_run acts mid new NoMemory out after ran = then_breaks then_serves acts out after ran
 stops_run acts mid new Failed out after ran = then_breaks then_serves acts out after ran
 
-pub goes_tracking : {Dir : Type 0} (acts : Probes Dir) (sets now : ℕ → Option TrackedPeers) → ((n : ℕ) → now n ≡ tracked_after acts sets n) → (n : ℕ) → now n ≡ tracked_after (bind acts (λ st. Goes (then_serves st))) sets n
-goes_tracking acts sets now tracks n = tracks n ∙ sym (then_tracked then_serves acts sets n)
+pub step_tracks : {Dir : Type 0} (acts : Probes Dir) (result : Result (Unit {0}) ProbeStop) (sets now : ℕ → Option TrackedPeers) → Tracks acts result sets now → Tracks (bind acts (λ st. Goes (then_serves st))) result sets now
+step_tracks acts result sets now tracks = then_tracks then_serves acts result sets now tracks

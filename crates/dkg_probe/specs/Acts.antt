@@ -1,6 +1,6 @@
--- What a step does, as acts in their order: lines that it says, peers that it has tracked, and how it ends. A node's step is made of the same acts
--- and of those on its devices, of which a probe has none.
-use Rattle.std.specs.Prelude.{◌≡◌, ◌⊎◌, ℕ, [], ◌∷◌, ◌++◌, take, List, Option}
+-- What a step does, as acts in their order: lines that it says, peers that it has tracked, and how it ends. A probe has no devices, so there are no
+-- acts on them; and it has a manager, so there is one for that.
+use Rattle.std.specs.Prelude.{◌≡◌, ◌⊎◌, ℕ, ◌<◌, [], ◌∷◌, ◌++◌, length, take, List, Option, Result, Ok, Err}
 use Rattle.dkg_types.specs.declared.entry.Entry.{Entry as Line}
 use Rattle.dkg_types.specs.declared.participants.TrackedPeers.{TrackedPeers}
 use Rattle.dkg_types.specs.Tracking.{with_set}
@@ -39,16 +39,23 @@ Faults (Track epoch peers acts) fault out new = Faults acts fault out new
 Faults (Goes end) fault out new = ⊥
 Faults (Stops its) fault out new = (new ≡ out) × (fault ≡ its)
 
--- The first of them were run.
+-- something is to be said yet
+abbrev pub Speaks : {F S : Type 0} → Acts F S → Type 0
+Speaks (Say line acts) = Unit {0}
+Speaks (Track epoch peers acts) = Speaks acts
+Speaks (Goes end) = ⊥
+Speaks (Stops fault) = ⊥
+
+-- The first of them were run. The last line is said by nobody who doesn't go through.
 abbrev pub Breaks : {F S : Type 0} → Acts F S → List Line → List Line → Type 0
-Breaks (Say line acts) out new = (new ≡ out) ⊎ Breaks acts (out ++ line ∷ []) new
+Breaks (Say line acts) out new = (new ≡ out) ⊎ (Speaks acts × Breaks acts (out ++ line ∷ []) new)
 Breaks (Track epoch peers acts) out new = Breaks acts out new
 Breaks (Goes end) out new = new ≡ out
 Breaks (Stops fault) out new = new ≡ out
 
--- some of the first lines were said
+-- the first lines were said, but for the last ones
 abbrev pub IsFront : List Line → List Line → List Line → Type 0
-IsFront lines out new = (count : ℕ) × (new ≡ out ++ take count lines)
+IsFront lines out new = (count : ℕ) × (count < length lines) × (new ≡ out ++ take count lines)
 
 -- How acts ended: in this, by a fault of their own, or anywhere, by want of memory.
 pub data Ended (F S : Type 0) : Type 0 where
@@ -68,9 +75,14 @@ tracked_after (Track epoch peers acts) sets = tracked_after acts (with_set sets 
 tracked_after (Goes end) sets = sets
 tracked_after (Stops fault) sets = sets
 
--- P of each line that is said, and Q where peers are tracked
-abbrev pub Each : {F S : Type 0} → (Line → Type 0) → (Q : Type 0) → Acts F S → Type 0
-Each P Q (Say line acts) = P line × Each P Q acts
+-- What a manager tracks behind acts that ended so: what they say, and where they ended early that or what it did before.
+abbrev pub Tracks : {F S E : Type 0} → Acts F S → Result (Unit {0}) E → (old new : ℕ → Option TrackedPeers) → Type 0
+Tracks acts (Ok u) old new = (n : ℕ) → new n ≡ tracked_after acts old n
+Tracks acts (Err e) old new = ((n : ℕ) → new n ≡ old n) ⊎ ((n : ℕ) → new n ≡ tracked_after acts old n)
+
+-- P of each line that is said and of the acts behind it, and Q where peers are tracked
+abbrev pub Each : {F S : Type 0} → (Line → Acts F S → Type 0) → (Q : Type 0) → Acts F S → Type 0
+Each P Q (Say line acts) = P line acts × Each P Q acts
 Each P Q (Track epoch peers acts) = Q × Each P Q acts
 Each P Q (Goes end) = Unit {0}
 Each P Q (Stops fault) = Unit {0}

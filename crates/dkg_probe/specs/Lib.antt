@@ -5,5 +5,6 @@ pub mod OneEpoch
 pub mod Probing
 pub mod Sampling
 pub mod Sources
+pub mod Stopping
 pub mod Wire
 pub mod WireLaws

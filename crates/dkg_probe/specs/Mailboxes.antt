@@ -1,5 +1,5 @@
 -- What a probe behind a lock answers its mailbox.
-use Rattle.std.specs.Prelude.{◌≡◌, Option, Some, None}
+use Rattle.std.specs.Prelude.{◌≡◌, ℕ, Option, Some, None, IfSome}
 use Rattle.dkg_turn.specs.Known.{Known}
 use Rattle.dkg_turn.specs.Passes.{Posted}
 use Rattle.dkg_probe.specs.declared.artifact.Artifact.{Artifact as Found}
@@ -18,3 +18,12 @@ Meets known Retry answer = Unit {0}
 abbrev pub joined : {A : Type 0} → Option (Option A) → Option A
 joined None = None
 joined (Some answer) = answer
+
+-- An answer to a subscriber: none where its turn ended by a stop, else what is known behind that turn.
+module _ {T C R Dir : Type 0} (turns : T → C → R → T → Type 0) (start : T) (same : R → R → Type 0) (told : T → ℕ → Option R) (call : C) (answered : R → Option (Option (Found Dir))) (stopped : T → C → R → T → Type 0)
+    (meets : T → Event → Option (Found Dir) → Type 0) (known : T → Option (Found Dir)) where
+  pub record Subscribed (answer : Option (Found Dir)) (v w : Known T C R) : Type 0 where
+    pub said : Option (Option (Found Dir))
+    pub answer_is : answer ≡ joined said
+    pub posted : Posted turns start same told call answered stopped meets Subscribe said v w
+    pub known_is : IfSome said (λ artifact. artifact ≡ known posted.called.after)

@@ -1,5 +1,5 @@
--- An artifact's info and its floor are of one epoch.
-use Rattle.std.specs.Prelude.{◌≡◌, ℕ, List, ◌++◌}
+-- Of the artifacts that are told: info and floor are of one epoch, and what is told is known.
+use Rattle.std.specs.Prelude.{◌≡◌, ℕ, List, ◌++◌, Option, Some, None}
 use Rattle.std.specs.List.{AllByRecursion}
 use Rattle.dkg_types.specs.FinalizationCodes.{finalization_spelling}
 use Rattle.dkg_types.specs.PayloadCodes.{payload_spelling, info_payload}
@@ -7,6 +7,7 @@ use Rattle.dkg_types.specs.declared.entry.Entry.{Entry as Line}
 use Rattle.dkg_types.specs.declared.entry.Entry.TheVariants.{Artifact}
 use Rattle.dkg_types.specs.declared.finalization.Finalization.{Finalization}
 use Rattle.dkg_types.specs.declared.info.EpochInfo.{EpochInfo}
+use Rattle.dkg_probe.specs.declared.artifact.Artifact.{Artifact as Known}
 
 -- an info and a finalization of one epoch, which are spelled so
 pub record IsOfOneEpoch {Dir : Type 0} (spelling : Dir → List ℕ) (info floor : List ℕ) : Type 0 where
@@ -20,6 +21,12 @@ pub record IsOfOneEpoch {Dir : Type 0} (spelling : Dir → List ℕ) (info floor
 abbrev pub OfOneEpoch : {Dir : Type 0} → (Dir → List ℕ) → Line → Type 0
 OfOneEpoch spelling (Artifact info floor) = IsOfOneEpoch spelling info floor
 OfOneEpoch spelling line = Unit {0}
+
+-- of a line that tells an artifact: it is the one that is known
+abbrev pub TellsKnown : {Dir : Type 0} → (Dir → List ℕ) → Option (Known Dir) → Line → Type 0
+TellsKnown spelling None (Artifact info floor) = ⊥
+TellsKnown spelling (Some known) (Artifact info floor) = (info ≡ payload_spelling spelling (info_payload known.info)) × (floor ≡ finalization_spelling known.floor)
+TellsKnown spelling known line = Unit {0}
 
 -- what was said since is of P
 abbrev pub SaidSince : (Line → Type 0) → List Line → List Line → Type 0

@@ -1,5 +1,5 @@
 -- The probe's half of a step: the floor that dealers' replies select, the block that begins its epoch, and serving both to others.
-use Rattle.std.specs.Prelude.{◌≡◌, ℕ, Bool, true, false, not, List, [], ◌∷◌, ◌++◌, ◌+◌, ◌-◌, ◌==◌, ◌&&◌, ◌||◌, nat_lt, length, map, Option, Some, None, is_some, is_none, option_map, option_and_then, Result, Ok, Err, if◌then◌else◌}
+use Rattle.std.specs.Prelude.{ℕ, Bool, true, false, not, List, [], ◌∷◌, ◌++◌, ◌+◌, ◌-◌, ◌==◌, ◌&&◌, ◌||◌, nat_lt, length, map, Option, Some, None, is_some, is_none, option_map, option_and_then, Result, Ok, Err, if◌then◌else◌}
 use Rattle.dkg_values.specs.Codec.{Reading, whole}
 use Rattle.dkg_values.specs.Rising.{place_of, set_of}
 use Rattle.dkg_values.specs.Uint.{uint}
@@ -90,23 +90,23 @@ asks_next a st = asks_for (first_of a.others) a.floor.epoch (with_awaited (next_
 abbrev pub tracked_of : Participants → TrackedPeers
 tracked_of p = record { primary = p.dealers; secondary = set_of (p.players ++ p.next_players) }
 
--- The checkpoint is activated, which a directory without one of its peers refuses, and its dealers are asked.
-abbrev pub activates : {Dir : Type 0} → Fixed Dir → (refused : Option ℕ) → State Dir → Probes Dir
+-- The checkpoint is activated, which a directory that lacks one of its peers refuses, and its dealers are asked.
+abbrev pub activates : {Dir : Type 0} → Fixed Dir → (lack : Option ℕ) → State Dir → Probes Dir
 activates c (Some peer) st = Stops peer
 activates c None st = Track c.bootstrap.epoch (tracked_of c.bootstrap.participants) (asks_dealers c st)
 
 abbrev pub one_more : {Dir : Type 0} → State Dir → State Dir
 one_more st = record st { subscribers = st.subscribers + 1 }
 
--- nobody waits, no floor is chosen and no artifact is known
+-- nobody waits, and no floor is chosen
 abbrev pub is_first : {Dir : Type 0} → State Dir → Bool
 is_first st = (st.subscribers == 0) && is_none st.sample.chosen
 
 abbrev pub is_done : {Dir : Type 0} → State Dir → Bool
 is_done st = st.serving || is_some st.known
 
-abbrev pub subscribes : {Dir : Type 0} → Fixed Dir → (refused : Option ℕ) → State Dir → Probes Dir
-subscribes c refused st = if is_done st then Goes st else if is_first st then activates c refused (one_more st) else Goes (one_more st)
+abbrev pub subscribes : {Dir : Type 0} → Fixed Dir → (lack : Option ℕ) → State Dir → Probes Dir
+subscribes c lack st = if is_done st then Goes st else if is_first st then activates c lack (one_more st) else Goes (one_more st)
 
 abbrev pub retries_in : {Dir : Type 0} → Fixed Dir → State Dir → Option Awaiting → Probes Dir
 retries_in c st (Some a) = asks_next a st
@@ -119,9 +119,17 @@ retries c st = if is_done st || (st.subscribers == 0) then Goes st else retries_
 -- ---- discovery
 
 -- What was looked for is known, and nobody waits.
+abbrev pub with_known : {Dir : Type 0} → Known Dir → State Dir → State Dir
+with_known known st = record st { subscribers = 0; awaited = None; known = Some known }
+
+abbrev pub artifact_line : {Dir : Type 0} → (Dir → List ℕ) → Known Dir → Line
+artifact_line spelling known = Artifact (payload_spelling spelling (info_payload known.info)) (finalization_spelling known.floor)
+
 abbrev pub resolves : {Dir : Type 0} → (Dir → List ℕ) → Known Dir → State Dir → Probes Dir
-resolves spelling known st =
-    Say (Artifact (payload_spelling spelling (info_payload known.info)) (finalization_spelling known.floor)) (Goes (record st { subscribers = 0; awaited = None; known = Some known }))
+resolves spelling known st = Say (artifact_line spelling known) (Goes (with_known known st))
+
+abbrev pub of_genesis : {Dir : Type 0} → Fixed Dir → Finalization → Known Dir
+of_genesis c floor = record { finalization = None; info = c.genesis; floor = floor }
 
 -- the height of the block that begins an epoch; none for epoch 0, and where no number of 64 bits is
 abbrev pub begins_at : (blocks_per_epoch epoch : ℕ) → Option ℕ
@@ -134,7 +142,7 @@ awaits_block floor st (Some height) = asks_for None floor.epoch (with_awaited (n
 -- A floor of epoch 0 resolves with genesis; any other waits for the block that begins its epoch.
 abbrev pub from_floor : {Dir : Type 0} → Fixed Dir → State Dir → Option Finalization → Probes Dir
 from_floor c st None = Goes st
-from_floor c st (Some floor) = if floor.epoch == 0 then resolves c.spelling (record { finalization = None; info = c.genesis; floor = floor }) st else awaits_block floor st (begins_at c.blocks_per_epoch floor.epoch)
+from_floor c st (Some floor) = if floor.epoch == 0 then resolves c.spelling (of_genesis c floor) st else awaits_block floor st (begins_at c.blocks_per_epoch floor.epoch)
 
 abbrev pub dealers_in : {Dir : Type 0} → Fixed Dir → ℕ
 dealers_in c = length c.bootstrap.participants.dealers
@@ -232,28 +240,20 @@ serves c source peer (Ok (Some request)) st = answers peer (response_to c source
 abbrev pub hears : {Dir : Type 0} → Fixed Dir → Source Dir → (peer : ℕ) → List ℕ → State Dir → Probes Dir
 hears c source peer bytes st = if st.serving then serves c source peer (request_of bytes) st else discovers c peer (reply_of bytes) st
 
-abbrev pub takes : {Dir : Type 0} → Fixed Dir → (refused : Option ℕ) → Source Dir → Event → State Dir → Probes Dir
-takes c refused source Subscribe st = subscribes c refused st
-takes c refused source Unsubscribe st = Goes (record st { subscribers = st.subscribers - 1 })
-takes c refused source Attach st = Goes (record st { attached = true })
-takes c refused source (Peer from bytes) st = hears c source from bytes st
-takes c refused source Retry st = retries c st
+abbrev pub takes : {Dir : Type 0} → Fixed Dir → (lack : Option ℕ) → Source Dir → Event → State Dir → Probes Dir
+takes c lack source Subscribe st = subscribes c lack st
+takes c lack source Unsubscribe st = Goes (record st { subscribers = st.subscribers - 1 })
+takes c lack source Attach st = Goes (record st { attached = true })
+takes c lack source (Peer from bytes) st = hears c source from bytes st
+takes c lack source Retry st = retries c st
 
 -- With a source attached and nobody waiting it serves from then on.
 abbrev pub then_serves : {Dir : Type 0} → State Dir → State Dir
 then_serves st = record st { serving = st.serving || (st.attached && (st.subscribers == 0)) }
 
--- A step. `refused` is the peer that the directory lacks, should the checkpoint be activated.
-abbrev pub steps : {Dir : Type 0} → Fixed Dir → (refused : Option ℕ) → Source Dir → Event → State Dir → Probes Dir
-steps c refused source event st = bind (takes c refused source event st) (λ st. Goes (then_serves st))
-
--- whether a step activates the checkpoint
-abbrev pub does_activate : {Dir : Type 0} → Event → State Dir → Bool
-does_activate Subscribe st = not (is_done st) && is_first st
-does_activate Unsubscribe st = false
-does_activate Attach st = false
-does_activate (Peer from bytes) st = false
-does_activate Retry st = false
+-- A step. `lack` is the first peer that the directory lacks, should the checkpoint be activated.
+abbrev pub steps : {Dir : Type 0} → Fixed Dir → (lack : Option ℕ) → Source Dir → Event → State Dir → Probes Dir
+steps c lack source event st = bind (takes c lack source event st) (λ st. Goes (then_serves st))
 
 -- ---- what calls answer
 
@@ -267,19 +267,6 @@ ended_by new (Ok u) = went new
 ended_by new (Err (PeerSet peer)) = stopped peer.0
 ended_by new (Err NoMemory) = broken
 ended_by new (Err Failed) = broken
-
-abbrev pub refused_by : Result (Unit {0}) ProbeStop → Option ℕ
-refused_by (Ok u) = None
-refused_by (Err (PeerSet peer)) = Some peer.0
-refused_by (Err NoMemory) = None
-refused_by (Err Failed) = None
-
--- what activating the checkpoint must answer, unless memory ran out
-abbrev pub Refuses : Option ℕ → Result (Unit {0}) ProbeStop → Type 0
-Refuses lack (Ok u) = lack ≡ None
-Refuses lack (Err (PeerSet peer)) = lack ≡ Some peer.0
-Refuses lack (Err NoMemory) = Unit {0}
-Refuses lack (Err Failed) = ⊥
 
 -- a probe's terms, as acts see them
 abbrev pub fixed : {S Cfg Dir : Type 0} → (S → Finalization → Bool) → (Dir → List ℕ) → (Cfg → List ℕ → Reading (Block Dir)) → Cfg → Terms S Dir → Fixed Dir

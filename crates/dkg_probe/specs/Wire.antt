@@ -1,16 +1,16 @@
 -- Messages of the probe as bytes.
-use Rattle.std.proofs.Common.{◌≡◌, ℕ, zero, suc, ◌+◌, ◌-◌, ◌<◌, ◌≤◌, ◌^◌, List, [], ◌∷◌, ◌++◌, length, max, Option, Some, None, Result, Ok, Err, refl, arith, length-append}
+use Rattle.std.proofs.Common.{◌≡◌, ℕ, zero, suc, ◌+◌, ◌-◌, ◌<◌, ◌≤◌, ◌^◌, List, [], ◌++◌, length, Option, Some, None, Result, Ok, Err, arith, length-append}
 use Rattle.std.specs.Prelude.{if◌then◌else◌}
 use Rattle.std.specs.Str.{bytes_eq}
 use Rattle.dkg_values.specs.declared.codec.CodecError.{CodecError}
 use Rattle.dkg_values.specs.declared.codec.CodecError.TheVariants.{InvalidEnum, Invalid}
 use Rattle.dkg_values.specs.declared.codec.What.TheVariants as what
-use Rattle.dkg_values.specs.Bytes.{HasTag, tagged, tagged_at, tagged_grammar}
-use Rattle.dkg_values.specs.Codec.{Reading, IsGrammar, Fails, whole, ◌>>=◌}
+use Rattle.dkg_values.specs.Bytes.{tagged, tagged_at}
+use Rattle.dkg_values.specs.Codec.{Reading, Fails, whole, ◌>>=◌}
 use Rattle.dkg_values.specs.Joined.{seen_at}
 use Rattle.dkg_values.specs.Uint.{uint, uint_at}
 use Rattle.dkg_values.specs.UintGrammar.{uint_short}
-use Rattle.dkg_types.specs.Variants.{Always, no_bytes, nothing_at, nothing_grammar, MadeOf, variant_grammar, none_grammar}
+use Rattle.dkg_types.specs.Variants.{no_bytes, nothing_at}
 use Rattle.dkg_types.specs.Bounds.{IsBound, finalization_bound}
 use Rattle.dkg_types.specs.BlockCodes.{block_spelling}
 use Rattle.dkg_types.specs.FinalizationCodes.{finalization_at, finalization_spelling, FinalizationFits}
@@ -111,7 +111,7 @@ Answers reading (Err e) = Fails e reading
 
 -- ---- what is written
 
-abbrev pub message_tag : {Dir : Type 0} → Message Dir → ℕ
+abbrev pub message_tag : {Dir Cfg : Type 0} → Message Dir Cfg → ℕ
 message_tag (BoundaryRequest epoch) = 0
 message_tag (BoundaryResponse f) = 1
 message_tag (BlockRequest epoch) = 2
@@ -119,7 +119,7 @@ message_tag (BlockResponse epoch block) = 3
 message_tag LatestRequest = 4
 message_tag (LatestResponse f) = 5
 
-abbrev pub message_body : {Dir : Type 0} → (Dir → List ℕ) → Message Dir → List ℕ
+abbrev pub message_body : {Dir Cfg : Type 0} → (Dir → List ℕ) → Message Dir Cfg → List ℕ
 message_body spelling (BoundaryRequest epoch) = uint epoch
 message_body spelling (BoundaryResponse f) = finalization_spelling f
 message_body spelling (BlockRequest epoch) = uint epoch
@@ -127,11 +127,11 @@ message_body spelling (BlockResponse epoch block) = uint epoch ++ block_spelling
 message_body spelling LatestRequest = []
 message_body spelling (LatestResponse f) = finalization_spelling f
 
-abbrev pub message_spelling : {Dir : Type 0} → (Dir → List ℕ) → Message Dir → List ℕ
+abbrev pub message_spelling : {Dir Cfg : Type 0} → (Dir → List ℕ) → Message Dir Cfg → List ℕ
 message_spelling spelling = tagged message_tag (message_body spelling)
 
 -- what it carries fits
-abbrev pub MessageFits : {Dir : Type 0} → (Block Dir → Type 0) → Message Dir → Type 0
+abbrev pub MessageFits : {Dir Cfg : Type 0} → (Block Dir → Type 0) → Message Dir Cfg → Type 0
 MessageFits block_fits (BoundaryRequest epoch) = epoch < 2 ^ 64
 MessageFits block_fits (BoundaryResponse f) = FinalizationFits f
 MessageFits block_fits (BlockRequest epoch) = epoch < 2 ^ 64
@@ -139,7 +139,7 @@ MessageFits block_fits (BlockResponse epoch block) = (epoch < 2 ^ 64) × block_f
 MessageFits block_fits LatestRequest = Unit {0}
 MessageFits block_fits (LatestResponse f) = FinalizationFits f
 
-message_within : {Dir : Type 0} (block_fits : Block Dir → Type 0) (spelling : Dir → List ℕ) (bound most : ℕ) → 71 ≤ most → 11 + bound ≤ most → IsBound block_fits (block_spelling spelling) bound → (m : Message Dir) → MessageFits block_fits m → length (message_spelling spelling m) ≤ most
+message_within : {Dir Cfg : Type 0} (block_fits : Block Dir → Type 0) (spelling : Dir → List ℕ) (bound most : ℕ) → 71 ≤ most → 11 + bound ≤ most → IsBound block_fits (block_spelling spelling) bound → (m : Message Dir Cfg) → MessageFits block_fits m → length (message_spelling spelling m) ≤ most
 message_within block_fits spelling bound most long wide b (BoundaryRequest epoch) fit = omega (arith, uint_short epoch)
 message_within block_fits spelling bound most long wide b (BoundaryResponse f) fit = omega (arith, finalization_bound.within f fit)
 message_within block_fits spelling bound most long wide b (BlockRequest epoch) fit = omega (arith, uint_short epoch)
@@ -148,11 +148,11 @@ message_within block_fits spelling bound most long wide b LatestRequest fit = om
 message_within block_fits spelling bound most long wide b (LatestResponse f) fit = omega (arith, finalization_bound.within f fit)
 
 -- no message is longer than a finalization's, or a block's, with what stands before
-pub message_bound : {Dir : Type 0} (block_fits : Block Dir → Type 0) (spelling : Dir → List ℕ) (bound most : ℕ) → 71 ≤ most → 11 + bound ≤ most → IsBound block_fits (block_spelling spelling) bound → IsBound (MessageFits block_fits) (message_spelling spelling) most
+pub message_bound : {Dir Cfg : Type 0} (block_fits : Block Dir → Type 0) (spelling : Dir → List ℕ) (bound most : ℕ) → 71 ≤ most → 11 + bound ≤ most → IsBound block_fits (block_spelling spelling) bound → IsBound (MessageFits {Cfg = Cfg} block_fits) (message_spelling spelling) most
 message_bound block_fits spelling bound most long wide b = record { within = message_within block_fits spelling bound most long wide b }
 
 -- a message that was written is read as what it asks or answers
-abbrev pub asked_by : {Dir : Type 0} → Message Dir → Option Request
+abbrev pub asked_by : {Dir Cfg : Type 0} → Message Dir Cfg → Option Request
 asked_by (BoundaryRequest epoch) = Some (request.Boundary epoch)
 asked_by (BoundaryResponse f) = None
 asked_by (BlockRequest epoch) = Some (request.Block epoch)
@@ -160,7 +160,7 @@ asked_by (BlockResponse epoch block) = None
 asked_by LatestRequest = Some request.Latest
 asked_by (LatestResponse f) = None
 
-abbrev pub answered_by : {Dir : Type 0} → (Dir → List ℕ) → Message Dir → Option Reply
+abbrev pub answered_by : {Dir Cfg : Type 0} → (Dir → List ℕ) → Message Dir Cfg → Option Reply
 answered_by spelling (BoundaryRequest epoch) = None
 answered_by spelling (BoundaryResponse f) = Some (IsBoundary f)
 answered_by spelling (BlockRequest epoch) = None

@@ -1,11 +1,11 @@
 //! The probe itself, one event in each step.
-ghost use Rattle.std.specs.Prelude.{◌≡◌, ℕ, ◌+◌, ◌<◌, ◌^◌, true, false, max, length, None, IfSome, OnOk, OnErr, IsErrOf, IsTrue, is_err};
+ghost use Rattle.std.specs.Prelude.{◌≡◌, ◌+◌, ◌<◌, ◌^◌, true, false, max, length, IfSome, OnOk, OnErr, IsErrOf, IsTrue, is_err};
 ghost use Rattle.std.specs.Option.{option_copied, option_map_or};
 ghost use Rattle.std.specs.Int.NonZero.{non_zero_u64_get};
-ghost use Rattle.dkg_probe.specs.Acts.{Runs, tracked_after};
+ghost use Rattle.dkg_probe.specs.Acts.{Runs, Tracks};
 ghost use Rattle.dkg_probe.specs.Candidates.{are_apart, peers_of};
-ghost use Rattle.dkg_probe.specs.OneEpoch.{OfOneEpoch, SaidSince};
-ghost use Rattle.dkg_probe.specs.Probing.{Refuses, does_activate, ended_by, ended_in, fixed, hears, new_state, refused_by, steps, takes, then_serves, tracked_of};
+ghost use Rattle.dkg_probe.specs.OneEpoch.{OfOneEpoch, SaidSince, TellsKnown};
+ghost use Rattle.dkg_probe.specs.Probing.{ended_by, ended_in, fixed, hears, new_state, steps, takes, then_serves, tracked_of};
 
 use crate::artifact::{Artifact, Bootstrap};
 use crate::blocks::Blocks;
@@ -15,9 +15,7 @@ use crate::sample::Sample;
 use crate::service::serve;
 use crate::state::{State, Terms};
 use dkg_ceremony::{Epoch, Epocher, Key, Mem, ModeVersion, Read};
-use dkg_types::{
-    Block, Directory, EpochInfo, Finalization, Manager, MissingAddress, Scheme, Transcript,
-};
+use dkg_types::{Block, Directory, EpochInfo, Finalization, Manager, Scheme, Transcript};
 use std::alloc::Global;
 use std::num::{NonZeroU32, NonZeroU64};
 
@@ -73,7 +71,8 @@ fn hear<B: Blocks<Dir>, S: Scheme, Dir: Directory + Drop>(
 ) -> Mem<()>
 where
     Dir::Cfg: Drop,
-    ensures acts { Runs (hears (fixed S.verifies Dir.spelling ⟦<Block<Dir> as Read>⟧.read_of terms.now.limits terms.now) (B.source source.now) peer bytes.now state.old) (ended_in state.new result) out.old.entries out.new.entries }
+    ensures acts { Runs (hears (fixed S.verifies Dir.spelling ⟦<Block<Dir> as Read>⟧.read_of terms.now.limits terms.now) (B.source source.now) peer bytes.now state.old)
+        (ended_in state.new result) out.old.entries out.new.entries }
     ensures kept { OnErr result (state.new.known ≡ state.old.known) }
 {
     if state.serving {
@@ -96,10 +95,12 @@ fn take<M: Manager<Dir = Dir>, B: Blocks<Dir>, S: Scheme, Dir: Directory + Drop>
 where
     Dir::Cfg: Drop,
     requires { length terms.now.bootstrap.participants.players + length terms.now.bootstrap.participants.next_players < 2 ^ 32 }
-    ensures acts { Runs (takes (fixed S.verifies Dir.spelling ⟦<Block<Dir> as Read>⟧.read_of terms.now.limits terms.now) (refused_by result) (B.source source.now) event state.old) (ended_by state.new result) out.old.entries out.new.entries }
-    ensures told { IsTrue M.tells → does_activate event state.old ≡ true → Refuses (M.lacks terms.now.bootstrap.directory (tracked_of terms.now.bootstrap.participants)) result }
-    ensures tracked { IsTrue M.tells → OnOk result ((n : ℕ) → M.sets manager.new n ≡ tracked_after (takes (fixed S.verifies Dir.spelling ⟦<Block<Dir> as Read>⟧.read_of terms.now.limits terms.now) None (B.source source.now) event state.old) (M.sets manager.old) n) }
-    ensures untracked { IsTrue M.tells → (peer : MissingAddress) → IsErrOf result (ProbeStop.PeerSet peer) → (n : ℕ) → M.sets manager.new n ≡ M.sets manager.old n }
+    ensures acts { let c = fixed S.verifies Dir.spelling ⟦<Block<Dir> as Read>⟧.read_of terms.now.limits terms.now in
+        let lack = M.lacks terms.now.bootstrap.directory (tracked_of terms.now.bootstrap.participants) in
+        Runs (takes c lack (B.source source.now) event state.old) (ended_by state.new result) out.old.entries out.new.entries }
+    ensures tracked { let c = fixed S.verifies Dir.spelling ⟦<Block<Dir> as Read>⟧.read_of terms.now.limits terms.now in
+        let lack = M.lacks terms.now.bootstrap.directory (tracked_of terms.now.bootstrap.participants) in
+        IsTrue M.tells → Tracks (takes c lack (B.source source.now) event state.old) result (M.sets manager.old) (M.sets manager.new) }
     ensures kinds { IsErrOf result ProbeStop.Failed → ⊥ }
     ensures kept { OnErr result (state.new.known ≡ state.old.known) }
 {
@@ -196,21 +197,20 @@ where
         out: &mut Transcript,
     ) -> Result<(), ProbeStop>
         ensures acts { let c = fixed S.verifies Dir.spelling ⟦<Block<Dir> as Read>⟧.read_of self.old.terms.limits self.old.terms in
+            let lack = M.lacks self.old.terms.bootstrap.directory (tracked_of self.old.terms.bootstrap.participants) in
             self.old.failed ≡ false
-            → Runs (steps c (refused_by result) (B.source source.now) event self.old.state) (ended_by self.new.state result) out.old.entries out.new.entries }
+            → Runs (steps c lack (B.source source.now) event self.old.state) (ended_by self.new.state result) out.old.entries out.new.entries }
         ensures stopped { self.old.failed ≡ true → (result ≡ Err ProbeStop.Failed) × (self.new ≡ self.old) × (out.new.entries ≡ out.old.entries) }
         ensures failed { IsErrOf result ProbeStop.Failed → self.old.failed ≡ true }
         ensures stops { self.new.failed ≡ is_err result }
         ensures terms { self.new.terms ≡ self.old.terms }
-        // Activating the checkpoint is refused exactly where the directory lacks a peer; the manager then tracks what it did before.
-        ensures told { IsTrue M.tells → self.old.failed ≡ false → does_activate event self.old.state ≡ true
-            → Refuses (M.lacks self.old.terms.bootstrap.directory (tracked_of self.old.terms.bootstrap.participants)) result }
-        ensures untracked { IsTrue M.tells → (peer : MissingAddress) → IsErrOf result (ProbeStop.PeerSet peer)
-            → (n : ℕ) → M.sets self.new.manager n ≡ M.sets self.old.manager n }
-        // Where the step went, it tracks what the acts say.
+        // The manager tracks what the acts say, and where the step stopped early that or what it did before.
         ensures tracked { let c = fixed S.verifies Dir.spelling ⟦<Block<Dir> as Read>⟧.read_of self.old.terms.limits self.old.terms in
-            IsTrue M.tells → OnOk result ((n : ℕ)
-            → M.sets self.new.manager n ≡ tracked_after (steps c None (B.source source.now) event self.old.state) (M.sets self.old.manager) n) }
+            let lack = M.lacks self.old.terms.bootstrap.directory (tracked_of self.old.terms.bootstrap.participants) in
+            IsTrue M.tells → self.old.failed ≡ false
+            → Tracks (steps c lack (B.source source.now) event self.old.state) result (M.sets self.old.manager) (M.sets self.new.manager) }
+        // An artifact that is told is the one that is known.
+        ensures artifact { SaidSince (TellsKnown Dir.spelling self.new.state.known) out.old.entries out.new.entries }
         // Info and floor of each artifact told are of one epoch, where genesis is of epoch zero.
         ensures one_epoch { self.old.terms.genesis.epoch ≡ 0 → SaidSince (OfOneEpoch Dir.spelling) out.old.entries out.new.entries }
         // No peer is a candidate twice.

@@ -1,12 +1,12 @@
 //! The search for the artifact: subscribers begin it, and peers' responses carry it on.
-ghost use Rattle.std.specs.Prelude.{◌≡◌, ℕ, ◌+◌, ◌<◌, ◌^◌, ◌∷◌, [], ◌++◌, ◌&&◌, not, true, map, length, IfOk, IfSome, OnOk, OnErr, IsTrue, IsErrOf, ◌↔◌, None, Some};
+ghost use Rattle.std.specs.Prelude.{◌≡◌, ℕ, ◌+◌, ◌<◌, ◌^◌, ◌∷◌, [], ◌++◌, map, length, IfOk, IfSome, OnOk, OnErr, IsTrue, IsErrOf, ◌↔◌, None, Some};
 ghost use Rattle.dkg_values.specs.Codec.{whole};
 ghost use Rattle.dkg_types.specs.FinalizationCodes.{finalization_spelling};
 ghost use Rattle.dkg_types.specs.PayloadCodes.{payload_spelling, info_payload};
-ghost use Rattle.dkg_types.specs.Tracking.{with_set};
-ghost use Rattle.dkg_probe.specs.Acts.{IsFront, Runs, tracked_after};
+ghost use Rattle.dkg_types.specs.Tracking.{Names, with_set};
+ghost use Rattle.dkg_probe.specs.Acts.{IsFront, Runs, Tracks};
 ghost use Rattle.dkg_probe.specs.Candidates.{first_of, next_asked};
-ghost use Rattle.dkg_probe.specs.Probing.{Refuses, activates, asks_dealers, begins_at, discovers, ended_by, ended_in, fixed, from_floor, hears_body, hears_in, hears_latest, info_at, is_done, is_first, latest_request, refused_by, refuses, request_line, resolves, retries, samples, subscribes, tracked_of};
+ghost use Rattle.dkg_probe.specs.Probing.{activates, asks_dealers, begins_at, discovers, ended_by, ended_in, fixed, from_floor, hears_body, hears_in, hears_latest, info_at, is_done, is_first, latest_request, refuses, request_line, resolves, retries, samples, subscribes, tracked_of};
 ghost use Rattle.dkg_probe.specs.Wire.{IsBlock, IsBoundary, committed, reply_of, said_by};
 
 use crate::artifact::Artifact;
@@ -20,8 +20,8 @@ use dkg_ceremony::{
     Read, Value, Write, encode,
 };
 use dkg_types::{
-    Block, BlockedWhy, Directory, Entry, EpochInfo, Finalization, Manager, MissingAddress, Scheme,
-    TrackError, Transcript,
+    Block, BlockedWhy, Directory, Entry, EpochInfo, Finalization, Manager, Scheme, TrackError,
+    Transcript,
 };
 use std::alloc::Global;
 use std::num::NonZeroU32;
@@ -73,7 +73,8 @@ fn ask_dealers<S: Scheme, Dir: Directory + Drop>(
 ) -> Mem<()>
 where
     Dir::Cfg: Drop,
-    ensures acts { Runs (asks_dealers (fixed S.verifies Dir.spelling ⟦<Block<Dir> as Read>⟧.read_of terms.now.limits terms.now) state.old) (ended_in state.new result) out.old.entries out.new.entries }
+    ensures acts { Runs (asks_dealers (fixed S.verifies Dir.spelling ⟦<Block<Dir> as Read>⟧.read_of terms.now.limits terms.now) state.old)
+        (ended_in state.new result) out.old.entries out.new.entries }
     ensures kept { state.new.known ≡ state.old.known }
 {
     state.sample.reset();
@@ -103,29 +104,25 @@ fn ask_next<Dir: Directory + Drop>(
     }
 }
 
-/// Activates the checkpoint.
+/// Activates the checkpoint, which a directory that lacks one of its peers refuses.
 fn activate<M: Manager<Dir = Dir>, S, Dir: Directory>(
     alloc: Global,
     manager: &mut M,
     terms: &Terms<S, Dir>,
-) -> Result<(), ProbeStop>
+) -> Result<(), TrackError>
     requires { length terms.now.bootstrap.participants.players + length terms.now.bootstrap.participants.next_players < 2 ^ 32 }
-    ensures told { IsTrue M.tells → Refuses (M.lacks terms.now.bootstrap.directory (tracked_of terms.now.bootstrap.participants)) result }
-    ensures ok { IsTrue M.tells → OnOk result ((n : ℕ) → M.sets manager.new n ≡ with_set (M.sets manager.old) terms.now.bootstrap.epoch (tracked_of terms.now.bootstrap.participants) n) }
+    ensures missing { Names (M.lacks terms.now.bootstrap.directory (tracked_of terms.now.bootstrap.participants)) result }
+    ensures ok { IsTrue M.tells →
+        OnOk result ((n : ℕ) → M.sets manager.new n ≡ with_set (M.sets manager.old) terms.now.bootstrap.epoch (tracked_of terms.now.bootstrap.participants) n) }
     ensures err { IsTrue M.tells → OnErr result ((n : ℕ) → M.sets manager.new n ≡ M.sets manager.old n) }
-    ensures kinds { IsErrOf result ProbeStop.Failed → ⊥ }
 {
     let peers = terms.bootstrap.participants.tracked_peers(alloc)?;
-    match manager.track(
+    manager.track(
         alloc,
         terms.bootstrap.epoch,
         peers,
         &terms.bootstrap.directory,
-    ) {
-        Ok(()) => Ok(()),
-        Err(TrackError::Missing(peer)) => Err(ProbeStop::PeerSet(peer)),
-        Err(TrackError::NoMemory) => Err(ProbeStop::NoMemory),
-    }
+    )
 }
 
 /// Activates the checkpoint and asks its dealers.
@@ -139,16 +136,16 @@ fn begin<M: Manager<Dir = Dir>, S: Scheme, Dir: Directory + Drop>(
 where
     Dir::Cfg: Drop,
     requires { length terms.now.bootstrap.participants.players + length terms.now.bootstrap.participants.next_players < 2 ^ 32 }
-    ensures acts { Runs (activates (fixed S.verifies Dir.spelling ⟦<Block<Dir> as Read>⟧.read_of terms.now.limits terms.now) (refused_by result) state.old) (ended_by state.new result) out.old.entries out.new.entries }
-    ensures told { IsTrue M.tells → Refuses (M.lacks terms.now.bootstrap.directory (tracked_of terms.now.bootstrap.participants)) result }
-    ensures tracked { IsTrue M.tells → OnOk result ((n : ℕ) → M.sets manager.new n ≡ with_set (M.sets manager.old) terms.now.bootstrap.epoch (tracked_of terms.now.bootstrap.participants) n) }
-    ensures untracked { IsTrue M.tells → (peer : MissingAddress) → IsErrOf result (ProbeStop.PeerSet peer) → (n : ℕ) → M.sets manager.new n ≡ M.sets manager.old n }
+    ensures acts { let c = fixed S.verifies Dir.spelling ⟦<Block<Dir> as Read>⟧.read_of terms.now.limits terms.now in
+        let lack = M.lacks terms.now.bootstrap.directory (tracked_of terms.now.bootstrap.participants) in
+        Runs (activates c lack state.old) (ended_by state.new result) out.old.entries out.new.entries }
+    ensures tracked { let c = fixed S.verifies Dir.spelling ⟦<Block<Dir> as Read>⟧.read_of terms.now.limits terms.now in
+        let lack = M.lacks terms.now.bootstrap.directory (tracked_of terms.now.bootstrap.participants) in
+        IsTrue M.tells → Tracks (activates c lack state.old) result (M.sets manager.old) (M.sets manager.new) }
     ensures kinds { IsErrOf result ProbeStop.Failed → ⊥ }
     ensures kept { state.new.known ≡ state.old.known }
 {
-    if let Err(stop) = activate(alloc, manager, terms) {
-        return Err(stop);
-    }
+    activate(alloc, manager, terms)?;
     ask_dealers(alloc, terms, state, out)?;
     Ok(())
 }
@@ -178,10 +175,12 @@ pub(crate) fn subscribe<M: Manager<Dir = Dir>, S: Scheme, Dir: Directory + Drop>
 where
     Dir::Cfg: Drop,
     requires { length terms.now.bootstrap.participants.players + length terms.now.bootstrap.participants.next_players < 2 ^ 32 }
-    ensures acts { Runs (subscribes (fixed S.verifies Dir.spelling ⟦<Block<Dir> as Read>⟧.read_of terms.now.limits terms.now) (refused_by result) state.old) (ended_by state.new result) out.old.entries out.new.entries }
-    ensures told { IsTrue M.tells → (not (is_done state.old) && is_first state.old) ≡ true → Refuses (M.lacks terms.now.bootstrap.directory (tracked_of terms.now.bootstrap.participants)) result }
-    ensures tracked { IsTrue M.tells → OnOk result ((n : ℕ) → M.sets manager.new n ≡ tracked_after (subscribes (fixed S.verifies Dir.spelling ⟦<Block<Dir> as Read>⟧.read_of terms.now.limits terms.now) None state.old) (M.sets manager.old) n) }
-    ensures untracked { IsTrue M.tells → (peer : MissingAddress) → IsErrOf result (ProbeStop.PeerSet peer) → (n : ℕ) → M.sets manager.new n ≡ M.sets manager.old n }
+    ensures acts { let c = fixed S.verifies Dir.spelling ⟦<Block<Dir> as Read>⟧.read_of terms.now.limits terms.now in
+        let lack = M.lacks terms.now.bootstrap.directory (tracked_of terms.now.bootstrap.participants) in
+        Runs (subscribes c lack state.old) (ended_by state.new result) out.old.entries out.new.entries }
+    ensures tracked { let c = fixed S.verifies Dir.spelling ⟦<Block<Dir> as Read>⟧.read_of terms.now.limits terms.now in
+        let lack = M.lacks terms.now.bootstrap.directory (tracked_of terms.now.bootstrap.participants) in
+        IsTrue M.tells → Tracks (subscribes c lack state.old) result (M.sets manager.old) (M.sets manager.new) }
     ensures kinds { IsErrOf result ProbeStop.Failed → ⊥ }
     ensures kept { OnErr result (state.new.known ≡ state.old.known) }
 {
@@ -208,7 +207,8 @@ pub(crate) fn retry<S: Scheme, Dir: Directory + Drop>(
 ) -> Mem<()>
 where
     Dir::Cfg: Drop,
-    ensures acts { Runs (retries (fixed S.verifies Dir.spelling ⟦<Block<Dir> as Read>⟧.read_of terms.now.limits terms.now) state.old) (ended_in state.new result) out.old.entries out.new.entries }
+    ensures acts { Runs (retries (fixed S.verifies Dir.spelling ⟦<Block<Dir> as Read>⟧.read_of terms.now.limits terms.now) state.old)
+        (ended_in state.new result) out.old.entries out.new.entries }
     ensures kept { state.new.known ≡ state.old.known }
 {
     if looks_no_more(state) || state.subscribers == 0 {
@@ -272,7 +272,8 @@ fn begin_from<S: Scheme, Dir: Directory + Drop>(
 ) -> Mem<()>
 where
     Dir::Cfg: Drop,
-    ensures acts { Runs (from_floor (fixed S.verifies Dir.spelling ⟦<Block<Dir> as Read>⟧.read_of terms.now.limits terms.now) state.old (Some floor)) (ended_in state.new result) out.old.entries out.new.entries }
+    ensures acts { Runs (from_floor (fixed S.verifies Dir.spelling ⟦<Block<Dir> as Read>⟧.read_of terms.now.limits terms.now) state.old (Some floor))
+        (ended_in state.new result) out.old.entries out.new.entries }
     ensures kept { OnErr result (state.new.known ≡ state.old.known) }
 {
     if floor.epoch.0 == 0 {
@@ -307,7 +308,8 @@ fn sample<S: Scheme, Dir: Directory + Drop>(
 ) -> Mem<()>
 where
     Dir::Cfg: Drop,
-    ensures acts { Runs (samples (fixed S.verifies Dir.spelling ⟦<Block<Dir> as Read>⟧.read_of terms.now.limits terms.now) peer finalization state.old) (ended_in state.new result) out.old.entries out.new.entries }
+    ensures acts { Runs (samples (fixed S.verifies Dir.spelling ⟦<Block<Dir> as Read>⟧.read_of terms.now.limits terms.now) peer finalization state.old)
+        (ended_in state.new result) out.old.entries out.new.entries }
     ensures kept { OnErr result (state.new.known ≡ state.old.known) }
 {
     if state.subscribers == 0 {
@@ -335,7 +337,8 @@ fn hear_latest<S: Scheme, Dir: Directory + Drop>(
 ) -> Mem<()>
 where
     Dir::Cfg: Drop,
-    ensures acts { Runs (hears_latest (fixed S.verifies Dir.spelling ⟦<Block<Dir> as Read>⟧.read_of terms.now.limits terms.now) peer finalization state.old) (ended_in state.new result) out.old.entries out.new.entries }
+    ensures acts { Runs (hears_latest (fixed S.verifies Dir.spelling ⟦<Block<Dir> as Read>⟧.read_of terms.now.limits terms.now) peer finalization state.old)
+        (ended_in state.new result) out.old.entries out.new.entries }
     ensures kept { OnErr result (state.new.known ≡ state.old.known) }
 {
     if !state.sample.awaits(peer) {
@@ -364,7 +367,9 @@ fn hear_boundary<S: Scheme, Dir: Directory + Drop>(
 ) -> Mem<()>
 where
     Dir::Cfg: Drop,
-    ensures acts { Runs (hears_in (fixed S.verifies Dir.spelling ⟦<Block<Dir> as Read>⟧.read_of terms.now.limits terms.now) state.old.awaited peer (IsBoundary finalization) state.old) (ended_in state.new result) out.old.entries out.new.entries }
+    ensures acts { Runs (hears_in (fixed S.verifies Dir.spelling ⟦<Block<Dir> as Read>⟧.read_of terms.now.limits terms.now)
+        state.old.awaited peer (IsBoundary finalization) state.old)
+        (ended_in state.new result) out.old.entries out.new.entries }
     ensures kept { state.new.known ≡ state.old.known }
 {
     let Some(awaited) = &mut state.awaited else {
@@ -450,7 +455,9 @@ fn hear_body<S: Scheme, Dir: Directory + Drop>(
 ) -> Mem<()>
 where
     Dir::Cfg: Drop,
-    ensures acts { IfSome state.old.awaited (λ a. Runs (hears_body (fixed S.verifies Dir.spelling ⟦<Block<Dir> as Read>⟧.read_of terms.now.limits terms.now) a (asked, finalization) body.now state.old) (ended_in state.new result) out.old.entries out.new.entries) }
+    ensures acts { IfSome state.old.awaited (λ a.
+        Runs (hears_body (fixed S.verifies Dir.spelling ⟦<Block<Dir> as Read>⟧.read_of terms.now.limits terms.now) a (asked, finalization) body.now state.old)
+        (ended_in state.new result) out.old.entries out.new.entries) }
     ensures kept { OnErr result (state.new.known ≡ state.old.known) }
 {
     let Some(awaited) = &state.awaited else {
@@ -491,7 +498,9 @@ fn hear_block<S: Scheme, Dir: Directory + Drop>(
 ) -> Mem<()>
 where
     Dir::Cfg: Drop,
-    ensures acts { Runs (hears_in (fixed S.verifies Dir.spelling ⟦<Block<Dir> as Read>⟧.read_of terms.now.limits terms.now) state.old.awaited peer (IsBlock epoch body.now) state.old) (ended_in state.new result) out.old.entries out.new.entries }
+    ensures acts { Runs (hears_in (fixed S.verifies Dir.spelling ⟦<Block<Dir> as Read>⟧.read_of terms.now.limits terms.now)
+        state.old.awaited peer (IsBlock epoch body.now) state.old)
+        (ended_in state.new result) out.old.entries out.new.entries }
     ensures kept { OnErr result (state.new.known ≡ state.old.known) }
 {
     let Some(awaited) = &state.awaited else {
@@ -517,7 +526,9 @@ fn hear_response<S: Scheme, Dir: Directory + Drop>(
 ) -> Mem<()>
 where
     Dir::Cfg: Drop,
-    ensures acts { Runs (hears_in (fixed S.verifies Dir.spelling ⟦<Block<Dir> as Read>⟧.read_of terms.now.limits terms.now) state.old.awaited peer (said_by response.now) state.old) (ended_in state.new result) out.old.entries out.new.entries }
+    ensures acts { Runs (hears_in (fixed S.verifies Dir.spelling ⟦<Block<Dir> as Read>⟧.read_of terms.now.limits terms.now)
+        state.old.awaited peer (said_by response.now) state.old)
+        (ended_in state.new result) out.old.entries out.new.entries }
     ensures kept { OnErr result (state.new.known ≡ state.old.known) }
 {
     match response {
@@ -544,7 +555,8 @@ pub(crate) fn discover<S: Scheme, Dir: Directory + Drop>(
 ) -> Mem<()>
 where
     Dir::Cfg: Drop,
-    ensures acts { Runs (discovers (fixed S.verifies Dir.spelling ⟦<Block<Dir> as Read>⟧.read_of terms.now.limits terms.now) peer (reply_of bytes.now) state.old) (ended_in state.new result) out.old.entries out.new.entries }
+    ensures acts { Runs (discovers (fixed S.verifies Dir.spelling ⟦<Block<Dir> as Read>⟧.read_of terms.now.limits terms.now) peer (reply_of bytes.now) state.old)
+        (ended_in state.new result) out.old.entries out.new.entries }
     ensures kept { OnErr result (state.new.known ≡ state.old.known) }
 {
     match read_response(alloc, bytes) {

@@ -1,9 +1,10 @@
 //! What a probe takes, and why it stops.
 ghost use Rattle.std.specs.Prelude.{◌≡◌};
 ghost use Rattle.dkg_probe.specs.declared.event.ProbeStop.TheVariants.{NoMemory as OutOfMemory};
+ghost use Rattle.dkg_probe.specs.Stopping.{stop_for};
 
 use dkg_ceremony::{Blob, Key, Mem, NoMemory, Value};
-use dkg_types::MissingAddress;
+use dkg_types::{MissingAddress, TrackError};
 use std::alloc::Global;
 use thiserror::Error;
 
@@ -72,5 +73,16 @@ impl From<NoMemory> for ProbeStop {
 
     fn from(_e: NoMemory) -> ProbeStop {
         ProbeStop::NoMemory
+    }
+}
+
+impl From<TrackError> for ProbeStop {
+    ghost from_gives = { λ error stop. stop ≡ stop_for error };
+
+    fn from(error: TrackError) -> ProbeStop {
+        match error {
+            TrackError::Missing(peer) => ProbeStop::PeerSet(peer),
+            TrackError::NoMemory => ProbeStop::NoMemory,
+        }
     }
 }

@@ -12,6 +12,7 @@ mod blocks;
 mod candidates;
 mod discovery;
 mod event;
+mod laws;
 mod mailbox;
 mod sample;
 mod service;
@@ -22,7 +23,8 @@ pub use actor::{Actor, Config};
 pub use artifact::{Artifact, Bootstrap};
 pub use blocks::Blocks;
 pub use event::{Event, ProbeStop};
-pub use mailbox::Mailbox;
+pub use laws::{requests_are_as_spelled, responses_are_as_spelled, written_is_read};
+pub use mailbox::{HasProbe, Mailbox};
 pub use sample::Sample;
 pub use wire::{
     Message, Request, Response, Tag, max_payload_size, read_block, read_request, read_response,

@@ -2,7 +2,7 @@
 ghost use Rattle.std.specs.Prelude.{◌≡◌, Option, IfOk, IfErr, true};
 ghost use Rattle.dkg_turn.specs.Passes.{IsPassOf, Posted};
 ghost use Rattle.dkg_turn.specs.Refusals.{CallRefused};
-ghost use Rattle.dkg_probe.specs.Mailboxes.{joined};
+ghost use Rattle.dkg_probe.specs.Mailboxes.{Subscribed};
 ghost use Rattle.dkg_probe.specs.declared.artifact.Artifact.{Artifact as Found};
 
 use crate::artifact::Artifact;
@@ -10,6 +10,25 @@ use crate::event::Event;
 use dkg_turn::{Carries, Pass, Turn, TurnError, TurnLock};
 use std::alloc::Global;
 use std::sync::Wait;
+
+/// A core that has a probe: what it answers to a subscriber is what is known then.
+pub trait HasProbe<Dir>: Carries<Event, Option<Artifact<Dir>>> {
+    ghost use Rattle.std.specs.Prelude.{◌≡◌, Option};
+    ghost use Rattle.std.specs.Option.{option_copied};
+    ghost use Rattle.dkg_probe.specs.Mailboxes.{Meets};
+    ghost use Rattle.dkg_probe.specs.declared.artifact.Artifact.{Artifact as Found};
+    ghost use Rattle.dkg_probe.specs.declared.event.Event.{Event};
+
+    // What is known.
+    ghost known: { Self → Option (Found Dir) };
+
+    /// What was found, if it is known.
+    fn artifact(&self) -> Option<&Artifact<Dir>>
+        ensures { option_copied result ≡ known self.now };
+
+    // Each answer says what is known behind its turn, where somebody subscribed.
+    ghost owes: { (core : Self) (event : Event) (answer : Option (Found Dir)) → Self.meets core event answer → Meets (known core) event answer };
+}
 
 /// A mailbox of a probe, or of a node that has one, behind a lock. Its calls wait for their turn.
 #[derive(Clone, Copy)]
@@ -32,12 +51,12 @@ impl<'a, T: Turn> Mailbox<'a, T> {
         pass: &mut Pass<T>,
     ) -> Result<Option<Artifact<Dir>>, TurnError>
     where
-        T: Carries<Event, Option<Artifact<Dir>>>,
+        T: HasProbe<Dir>,
         requires own { IsPassOf self.now.lock.now pass.old }
         ensures own { IsPassOf self.now.lock.now pass.new }
-        ensures posted { IfOk result (λ answer. (told : Option (Option (Found Dir))) × (answer ≡ joined told)
-            × Posted T.Turn.turns self.now.lock.now.start T.Turn.same T.Turn.told (T.posted Event.Subscribe)
-            T.answered T.stopped T.meets Event.Subscribe told pass.old pass.new) }
+        // With `stop` in it: there is none exactly where the node had stopped, or where nothing is known behind that turn.
+        ensures posted { IfOk result (λ answer. Subscribed T.Turn.turns self.now.lock.now.start T.Turn.same T.Turn.told (T.Carries.posted Event.Subscribe)
+            T.Carries.answered T.Carries.stopped T.Carries.meets T.known answer pass.old pass.new) }
         ensures refused { IfErr result (λ e. CallRefused T.Turn.turns self.now.lock.now.start e pass.old pass.new) }
         ensures stays { pass.old.exhausted ≡ true → result ≡ Err TurnError.Exhausted }
     {

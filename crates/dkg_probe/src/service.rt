@@ -33,7 +33,8 @@ fn respond<B: Blocks<Dir>, S: Scheme, Dir: Directory + Drop>(
 ) -> Mem<Option<Blob>>
 where
     Dir::Cfg: Drop,
-    ensures { IfOk result (λ bytes. bytes ≡ response_to (fixed S.verifies Dir.spelling ⟦<Block<Dir> as Read>⟧.read_of terms.now.limits terms.now) (B.source source.now) request) }
+    ensures { IfOk result (λ bytes. bytes ≡
+        response_to (fixed S.verifies Dir.spelling ⟦<Block<Dir> as Read>⟧.read_of terms.now.limits terms.now) (B.source source.now) request) }
 {
     match request {
         Request::Latest => match source.latest(alloc)? {
@@ -73,7 +74,9 @@ pub(crate) fn serve<B: Blocks<Dir>, S: Scheme, Dir: Directory + Drop>(
 ) -> Mem<()>
 where
     Dir::Cfg: Drop,
-    ensures acts { Runs (serves (fixed S.verifies Dir.spelling ⟦<Block<Dir> as Read>⟧.read_of terms.now.limits terms.now) (B.source source.now) peer (request_of bytes.now) state.now) (ended_in state.now result) out.old.entries out.new.entries }
+    ensures acts { Runs (serves (fixed S.verifies Dir.spelling ⟦<Block<Dir> as Read>⟧.read_of terms.now.limits terms.now)
+        (B.source source.now) peer (request_of bytes.now) state.now)
+        (ended_in state.now result) out.old.entries out.new.entries }
 {
     match read_request(bytes) {
         Err(error) => {

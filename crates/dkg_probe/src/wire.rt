@@ -186,7 +186,7 @@ impl<Dir: Directory> Message<Dir> {
     pub fn max_encode_size(_participants: u32, application: usize) -> usize
         requires { application ≤ 2 ^ 62 }
         ensures bound { result ≡ 1 + max 70 (10 + application) }
-        ensures enough { IsBound (MessageFits (λ b. length (block_spelling Dir.spelling b) ≤ application)) (message_spelling Dir.spelling) result }
+        ensures enough { IsBound (MessageFits {Cfg = Dir.Cfg} (λ b. length (block_spelling Dir.spelling b) ≤ application)) (message_spelling Dir.spelling) result }
     {
         1 + (10 + application).max(70)
     }
@@ -197,7 +197,7 @@ pub fn max_payload_size<Dir: Directory>(participants: NonZeroU32) -> usize
     ensures bound { result ≡ 1 + max 70 (10 + (165 + 22 * non_zero_u32_get participants + Dir.bound_of (3 * non_zero_u32_get participants))) }
     ensures enough { (version : ℕ)
         → let fits = PayloadFits (λ peers. Dir.fits (Dir.config_of peers)) Dir.matches_of (non_zero_u32_get participants) version in
-        IsBound (MessageFits (BlockFits fits Dir.spelling)) (message_spelling Dir.spelling) result }
+        IsBound (MessageFits {Cfg = Dir.Cfg} (BlockFits fits Dir.spelling)) (message_spelling Dir.spelling) result }
 {
     let most = participants.get();
     // A directory takes at most 2^61 bytes, so a block at most 2^62.
