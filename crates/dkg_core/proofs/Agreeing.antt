@@ -105,7 +105,7 @@ lands_option : {Dir A : Type 0} (found : Option A) (f : A → Course Dir Fault (
 lands_option None f none h some without = without refl
 lands_option (Some a) f none h some without = some a refl
 
-lands_at : {Dir : Type 0} (course : Course Dir Fault (Live Dir)) (w new : World) (end : Live Dir) → Lands course w.held → Finishes course end w new → AreAgreed end.records new.held
+pub lands_at : {Dir : Type 0} (course : Course Dir Fault (Live Dir)) (w new : World) (end : Live Dir) → Lands course w.held → Finishes course end w new → AreAgreed end.records new.held
 lands_at (Say line course) w new end l done = lands_at course (says w line) new end l done
 lands_at (Do op course) w new end l done = lands_at course (does w op) new end l done
 lands_at (Call outer course) w new end l done = lands_at course w new end l done
@@ -120,7 +120,7 @@ has_half : (s t : Secrets) (found : Option Dealing) → t.privates ≡ s.private
 has_half s t None same has = tt
 has_half s t (Some d) same has = subst (λ (m : FinMap key_cmp ℕ). IsSome (get m d.key)) (sym same) has
 
-all_whole : (s t : Secrets) (es : List Entry) → t.privates ≡ s.privates → IsWhole es s → IsWhole es t
+pub all_whole : (s t : Secrets) (es : List Entry) → t.privates ≡ s.privates → IsWhole es s → IsWhole es t
 all_whole s t [] same whole = tt
 all_whole s t (e ∷ es) same whole = (has_half s t (dealing_of e) same whole.0, all_whole s t es same whole.1)
 
@@ -185,7 +185,7 @@ module _ (min : ℕ) (s t : Secrets) (halves : (k : ℕ × ℕ) → min ≤ k.0 
   half_above section None is above has = tt
   half_above section (Some d) is above has = subst IsSome (sym (halves d.key (subst (λ (n : ℕ). min ≤ n) (sym is) above))) has
 
-  whole_kept : (es : List Entry) → IsWhole es s → IsWhole (from_section min es) t
+  pub whole_kept : (es : List Entry) → IsWhole es s → IsWhole (from_section min es) t
   whole_kept [] all = tt
   whole_kept (e ∷ es) all =
       elim (nat_le min e.0) as (λ (stays : Bool). nat_le min e.0 ≡ stays → IsWhole (cond stays (e ∷ from_section min es) (from_section min es)) t) [
@@ -531,7 +531,7 @@ module _ {Dir : Type 0} (c : Fixed Dir) where
     to_itself_in round public private st None h is none a =
         lands_bind (d.keeps round.number c.me public private st) (λ st. d.own_ack c round public st) h (dealing_more round.number h st.records c.me public private is none a) (λ st h a. own_ack round public st h a)
 
-    to_itself : (round : Round) (public : List ℕ) (private : ℕ) (st : Live Dir) (seat : Seat) (h : Held) → IsEvent (events.Dealing c.me public) → AreAgreed st.records h
+    pub to_itself : (round : Round) (public : List ℕ) (private : ℕ) (st : Live Dir) (seat : Seat) (h : Held) → IsEvent (events.Dealing c.me public) → AreAgreed st.records h
         → Lands (d.offers_to_itself_in c round public private st seat) h
     to_itself round public private st Plays h is a = to_itself_in round public private st (recorded_at st.records.dealings round.number c.me) h is refl a
     to_itself round public private st Watches h is a = a

@@ -26,7 +26,7 @@ use Rattle.dkg_core.proofs.Holding.{along}
 use Rattle.dkg_core.proofs.Pruning.{setups_prune}
 
 -- the journal's prune
-pruned_at : (min : ℕ) (es : List Entry) (s : Secrets) (k : ℕ × ℕ) → min ≤ k.0 → get (recovered (from_section min es) s) k ≡ get (recovered es s) k
+pub pruned_at : (min : ℕ) (es : List Entry) (s : Secrets) (k : ℕ × ℕ) → min ≤ k.0 → get (recovered (from_section min es) s) k ≡ get (recovered es s) k
 pruned_at min es s k above =
     ap (λ (m : Pairs). get m k) (recovered_from min es s)
     ∙ get-retain_keys (recovered es s) (λ (x : ℕ × ℕ). nat_le min x.0) k (λ x tied. ap (λ (y : ℕ × ℕ). nat_le min y.0) (sym (exact_keys k x tied)))

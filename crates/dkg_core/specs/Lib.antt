@@ -5,6 +5,7 @@ pub mod Core
 pub mod Courses
 pub mod Dealing
 pub mod Desk
+pub mod Enduring
 pub mod Entering
 pub mod Entry
 pub mod Fixed

@@ -10,6 +10,7 @@
 #![tactic(auto)]
 
 ghost use Rattle.dkg_core.specs.Agreeing.{OpeningsAgree, StepsAgree};
+ghost use Rattle.dkg_core.specs.Enduring.{StepsKeep};
 ghost use Rattle.dkg_core.specs.Entry.{EntersRegistered, LastBlocksAreEntered};
 ghost use Rattle.dkg_core.specs.Heard.{OpeningsKeep, OpeningsRestore, PeersAgree, PeersAreKept, RunsAreKept, SetupsKeep};
 ghost use Rattle.dkg_core.specs.Laws.{DuesAreAnswered, OpeningsPrune, OthersAcknowledgeNothing, PeersAreHeard, SetupsAreSound, SetupsPrune};
@@ -99,4 +100,10 @@ pub fn steps_agree<Dir>()
 /// Over whole devices an opening in either mode leaves in memory what the devices give back.
 pub fn openings_agree<Dir>()
     ensures { OpeningsAgree Dir }
+{}
+
+/// At every exit of any step, whatever an operation in hand leaves: the devices are whole, and each acknowledgement and each recorded
+/// dealing that was told, of the epochs that the step prunes nothing of, is that of a dealing that they give back.
+pub fn steps_keep<Dir>()
+    ensures { StepsKeep Dir }
 {}

@@ -1,0 +1,783 @@
+-- Any step keeps what was told of dealings, wherever it ends.
+use Rattle.std.proofs.Common.{◌≡◌, ◌⊎◌, inl, inr, ◌≤◌, ℕ, zero, suc, Bool, true, false, nat_le, List, [], ◌∷◌, ◌++◌, Option, Some, None, refl, sym, ◌∙◌, ap, subst, append_assoc, arith}
+use Rattle.std.specs.Prelude.{◌+◌, ◌-◌, ◌^◌, ◌==◌, ◌&&◌, ◌||◌, nat_lt, length, filter, if◌then◌else◌, not, Result, Ok, Err, is_some, is_none, option_and_then, option_map}
+use Rattle.std.specs.Option.{option_map_or}
+use Rattle.std.specs.Str.{bytes_eq}
+use Rattle.std.specs.FinMap.{FinMap, find, get, empty, get-entries, insert}
+use Rattle.dkg_values.specs.Codec.{whole as all_of}
+use Rattle.dkg_values.specs.Rising.{lookup}
+use Rattle.dkg_values.specs.declared.codec.CodecError.{CodecError}
+use Rattle.dkg_ceremony.specs.declared.ceremony.AckError.{AckError}
+use Rattle.dkg_ceremony.specs.declared.ceremony.DealingError.{DealingError}
+use Rattle.dkg_ceremony.specs.declared.deal.DealError.{DealError}
+use Rattle.dkg_ceremony.specs.declared.output.Output.{Output}
+use Rattle.dkg_ceremony.specs.declared.phase.Phase.{Phase}
+use Rattle.dkg_ceremony.specs.declared.round.Round.{Round}
+use Rattle.dkg_ceremony.specs.declared.round.RoundError.{RoundError}
+use Rattle.dkg_ceremony.specs.declared.signed_log.SignedDealerLog.{SignedDealerLog}
+use Rattle.dkg_ceremony.specs.Outcomes.{LogMap}
+use Rattle.dkg_ceremony.specs.Schedule.{epoch_of, boundary, midpoint}
+use Rattle.dkg_journal.specs.Operations.{Appends, Prunes, Journaled}
+use Rattle.dkg_journal.specs.Records.{Entry, placed, from_section}
+use Rattle.dkg_types.specs.Blocks.{Block}
+use Rattle.dkg_types.specs.BlockCodes.{info_of}
+use Rattle.dkg_types.specs.declared.entry.Why.TheVariants.{Finished}
+use Rattle.dkg_types.specs.declared.fault.Fault.{Fault}
+use Rattle.dkg_types.specs.declared.fault.Fault.TheVariants.{HeightRange, InvalidParticipants, DirectoryMismatch, LocalState, ConflictingBlock, DetachedBlock, SkippedHeight, OutOfWindow, MissingEpochInfo, WrongEpoch}
+use Rattle.dkg_types.specs.declared.fault.LocalCause.TheVariants.{OwnDealing, OutcomeOmitted}
+use Rattle.dkg_types.specs.declared.fault.ParticipantsCause.TheVariants.{ProviderEmpty, ProviderAbove}
+use Rattle.dkg_types.specs.declared.info.EpochInfo.{EpochInfo}
+use Rattle.dkg_types.specs.declared.message.Message.{Message as Channel}
+use Rattle.dkg_types.specs.declared.message.Message.TheVariants.{Dealer as ADealing, Ack as AnAck}
+use Rattle.dkg_types.specs.declared.participants.Participants.{Participants}
+use Rattle.dkg_types.specs.declared.participants.ParticipantsError.{ParticipantsError}
+use Rattle.dkg_types.specs.MessageCodes.{message_at}
+use Rattle.dkg_types.specs.NextInfos.{info_by}
+use Rattle.dkg_types.specs.PayloadCodes.{its_log}
+use Rattle.dkg_types.specs.Validation.{validation}
+use Rattle.dkg_store.specs.Acts.{Held, OnDisk, Changes, World, says, does, notes, Cause, Tears, IsLeft}
+use Rattle.dkg_store.specs.Events.{event_spelling, IsEvent}
+use Rattle.dkg_store.specs.declared.event.Event.{Event}
+use Rattle.dkg_store.specs.declared.event.Event.TheVariants as events
+use Rattle.dkg_store.specs.declared.secrets.SecretOp.TheVariants.{PutShare, PutSeed, PutDealing, Prune}
+use Rattle.dkg_store.specs.Keys.{key_cmp}
+use Rattle.dkg_store.specs.Pairs.{Pairs, IsWhole, recovered, dealing_of, dealing_in}
+use Rattle.dkg_store.specs.Secrets.{Secrets, Tries}
+use Rattle.dkg_store.specs.Secrets as of_secrets
+use Rattle.dkg_store.proofs.Halves.{recovered_at, prune_halves, share_halves, seed_halves}
+use Rattle.dkg_store.proofs.Pairs.{record_one, put_one, same_key, get_here, get_other}
+use Rattle.dkg_store.proofs.Silent.{says_dealing}
+use Rattle.dkg_store.proofs.Tried.{all_done}
+use Rattle.dkg_core.specs.Sources.{Tip}
+use Rattle.dkg_core.specs.Courses.{Course, Say, Goes, Stops, bind, Throughout}
+use Rattle.dkg_core.specs.Fixed.{Fixed, OneShot, has}
+use Rattle.dkg_core.specs.Live.{Live, Dealer, Seat, Plays, Watches, Stage, Deals, Includes, Follows, Ends, Request, Job, Verified, VerifiedLogs, Artifact, Message, Sent, Peer, Finalized, NextLog, ReleaseLog, EpochInfoOf, Feed, Over, Cancel, Work, awaited_height, recorded_at, of_epoch, phase_of, with_tip, with_participation, with_inclusion, with_queue, with_used, is_last_height, GaveNone, with_told}
+use Rattle.dkg_core.specs.Logs.{canonical, filled_by, is_accepted, log_event, logs_of}
+use Rattle.dkg_core.specs.Setup as s
+use Rattle.dkg_core.specs.Dealing as d
+use Rattle.dkg_core.specs.Including as i
+use Rattle.dkg_core.specs.Blocks as b
+use Rattle.dkg_core.specs.Plans as p
+use Rattle.dkg_core.specs.Core.{step}
+use Rattle.dkg_core.specs.Heard.{recovered_in, Fits}
+use Rattle.dkg_core.specs.Agreeing.{AreAgreed, CanRecord, BringsRecords}
+use Rattle.dkg_core.proofs.Keeping.{fold_silent, silent_whole, left_entries}
+use Rattle.std.specs.List.{AllByRecursion}
+use Rattle.dkg_types.specs.declared.entry.Entry.{Entry as Line}
+use Rattle.dkg_types.specs.declared.entry.Entry.TheVariants.{Recorded, Ack, Offer, Committed, Registered, Answer}
+use Rattle.dkg_types.specs.declared.entry.AnswerLine.TheVariants.{Unavailable}
+use Rattle.dkg_store.specs.declared.secrets.SecretOp.{SecretOp}
+use Rattle.dkg_core.specs.Laws.{reach_of}
+use Rattle.dkg_core.specs.Enduring.{AckOf, IsSaidFrom, IsKeptFrom, StepsKeep}
+use Rattle.dkg_core.proofs.Agreeing as ag
+use Rattle.dkg_core.proofs.Agreeing.{all_whole, whole_kept}
+use Rattle.dkg_core.proofs.Lasting.{pruned_at}
+use Rattle.dkg_core.proofs.Running.{along_next, along_end}
+
+-- EITHER WAY
+
+along_if : {Dir F S : Type 0} (P : World → Type 0) (w : World) (t : Bool) (x y : Course Dir F S) → (t ≡ true → Throughout P x w) → (t ≡ false → Throughout P y w) → Throughout P (if t then x else y) w
+along_if P w true x y one other = one refl
+along_if P w false x y one other = other refl
+
+along_option : {Dir F S A : Type 0} (P : World → Type 0) (w : World) (found : Option A) (f : A → Course Dir F S) (none : Course Dir F S)
+    → ((a : A) → found ≡ Some a → Throughout P (f a) w) → (found ≡ None → Throughout P none w) → Throughout P (option_map_or f found none) w
+along_option P w None f none some without = without refl
+along_option P w (Some a) f none some without = some a refl
+
+all_of_both : {A : Type 0} (P : A → Type 0) (xs ys : List A) → AllByRecursion P xs → AllByRecursion P ys → AllByRecursion P (xs ++ ys)
+all_of_both P [] ys all more = more
+all_of_both P (x ∷ xs) ys all more = (all.0, all_of_both P xs ys all.1 more)
+
+all_still : {A : Type 0} (P R : A → Type 0) → ((a : A) → P a → R a) → (xs : List A) → AllByRecursion P xs → AllByRecursion R xs
+all_still P R so [] all = tt
+all_still P R so (x ∷ xs) all = (so x all.0, all_still P R so xs all.1)
+
+not_none : {A : Type 0} (a : A) (found : Option A) → found ≡ Some a → found ≡ None → ⊥
+not_none a found some none = differs (sym some ∙ none)
+  where
+    differs : ◌≡◌ {A = Option _} (Some a) None → ⊥
+    differs e = cc
+
+module _ (ack_of : AckOf) (most : ℕ) (base : List Line) where
+  abbrev Q : World → Type 0
+  Q w = IsKeptFrom ack_of most base w
+
+  -- what was given back from this epoch on is given back
+  abbrev StillGives : Held → Held → Type 0
+  StillGives h k = (key : ℕ × ℕ) (v : List ℕ × ℕ) → most ≤ key.0 → get (recovered_in h) key ≡ Some v → get (recovered_in k) key ≡ Some v
+
+  still : (h k : Held) → StillGives h k → (line : Line) → IsSaidFrom ack_of most h line → IsSaidFrom ack_of most k line
+  still h k gives (Ack epoch dealer ack) said = λ above. let was = said above in (was.0, was.1, gives (epoch, dealer) was.0 above was.2, was.3, was.4)
+  still h k gives (Recorded epoch dealer public private) said = λ above. gives (epoch, dealer) (public, private) above (said above)
+  still h k gives line said = tt
+
+  moves : (w new : World) → new.out ≡ w.out → IsWhole (notes new.held) new.held.secrets → StillGives w.held new.held → Q w → Q new
+  moves w new same whole gives q = record {
+    whole = whole;
+    added = q.added;
+    out = same ∙ q.out;
+    said = all_still (IsSaidFrom ack_of most w.held) (IsSaidFrom ack_of most new.held) (still w.held new.held gives) q.added q.said;
+  }
+
+  tells : (w : World) (line : Line) → IsSaidFrom ack_of most w.held line → Q w → Q (says w line)
+  tells w line sound q = record {
+    whole = q.whole;
+    added = q.added ++ line ∷ [];
+    out = ap (λ (ls : List Line). ls ++ line ∷ []) q.out ∙ append_assoc base q.added (line ∷ []);
+    said = all_of_both (IsSaidFrom ack_of most w.held) q.added (line ∷ []) q.said (sound, tt);
+  }
+
+  -- what stands over the same entries and the same private halves
+  over : (w new : World) (es : List Entry) (t : Secrets) → new.out ≡ w.out → notes new.held ≡ es → new.held.secrets ≡ t → IsWhole es t
+      → ((key : ℕ × ℕ) (v : List ℕ × ℕ) → most ≤ key.0 → get (recovered_in w.held) key ≡ Some v → get (recovered es t) key ≡ Some v) → Q w → Q new
+  over w new es t same is_es is_t whole gives q =
+      moves w new same
+      (subst (λ (x : List Entry). IsWhole x new.held.secrets) (sym is_es) (subst (λ (x : Secrets). IsWhole es x) (sym is_t) whole))
+      (λ key v above got. ap (λ (x : List Entry). get (recovered x new.held.secrets) key) is_es ∙ ap (λ (x : Secrets). get (recovered es x) key) is_t ∙ gives key v above got) q
+
+  -- A SHARE OR A SEED
+
+  put_torn : (op : SecretOp) → ((s t : Secrets) → Tries op s t → t.privates ≡ s.privates) → (w new : World) (cause : Cause) → Tears cause (Changes op) w new → Q w → Q new
+  put_torn op halves w new cause tears q =
+      let same = halves w.held.secrets new.held.secrets tears.torn.1 in
+      over w new (notes w.held) new.held.secrets tears.same (ap (λ (j : Journaled). j.entries) tears.torn.0) refl (all_whole w.held.secrets new.held.secrets (notes w.held) same q.whole)
+      (λ key v above got. recovered_at w.held.secrets new.held.secrets key (notes w.held) (ap (λ (m : FinMap key_cmp ℕ). get m key) same) ∙ got) q
+
+  put_done : (op : SecretOp) → ((s t : Secrets) → Tries op s t → t.privates ≡ s.privates) → (w : World) → Q w → Q (does w (Changes op))
+  put_done op halves w q =
+      let t : Secrets = of_secrets.after op w.held.secrets in
+      let same = halves w.held.secrets t (all_done op w.held.secrets t refl) in
+      over w (does w (Changes op)) (notes w.held) t refl refl refl (all_whole w.held.secrets t (notes w.held) same q.whole)
+      (λ key v above got. recovered_at w.held.secrets t key (notes w.held) (ap (λ (m : FinMap key_cmp ℕ). get m key) same) ∙ got) q
+
+  -- A PRUNE
+
+  pruned_from : (min : ℕ) (es : List Entry) (s : Secrets) (key : ℕ × ℕ) (v : List ℕ × ℕ) → min ≤ most → most ≤ key.0 → get (recovered es s) key ≡ Some v → get (recovered (from_section min es) s) key ≡ Some v
+  pruned_from min es s key v low above got = pruned_at min es s key (omega arith) ∙ got
+
+  -- within the journal's
+  journal_torn : (min : ℕ) → min ≤ most → (w new : World) (cause : Cause) → Tears cause (OnDisk (Prunes min)) w new → Q w → Q new
+  journal_torn min low w new cause tears q = left tears.torn.1
+    where
+      upto : (least : ℕ) → least ≤ most → notes new.held ≡ from_section least (notes w.held) → Q new
+      upto least under_most is =
+          over w new (from_section least (notes w.held)) w.held.secrets tears.same is tears.torn.0 (whole_kept least w.held.secrets w.held.secrets (λ k above. refl) (notes w.held) q.whole)
+          (λ key v above got. pruned_from least (notes w.held) w.held.secrets key v under_most above got) q
+
+      left : IsLeft (Prunes min) w.held.journaled new.held.journaled → Q new
+      left (inl is) = over w new (notes w.held) w.held.secrets tears.same (ap (λ (j : Journaled). j.entries) is) tears.torn.0 q.whole (λ key v above got. got) q
+      left (inr (inl is)) = upto min low (ap (λ (j : Journaled). j.entries) is)
+      left (inr (inr part)) = upto part.0 (let least : part.0 ≤ min = part.1 in omega arith) (ap (λ (j : Journaled). j.entries) part.2)
+
+  -- behind the journal's the secrets' was tried
+  secrets_tried : (min : ℕ) → min ≤ most → (w new : World) (t : Secrets) → Tries (Prune min) w.held.secrets t → new.out ≡ w.out → notes new.held ≡ from_section min (notes w.held) → new.held.secrets ≡ t → Q w → Q new
+  secrets_tried min low w new t tries same is_es is_t q =
+      let halves : (k : ℕ × ℕ) → min ≤ k.0 → get t.privates k ≡ get w.held.secrets.privates k = λ k above. prune_halves min w.held.secrets t k tries above in
+      over w new (from_section min (notes w.held)) t same is_es is_t (whole_kept min w.held.secrets t halves (notes w.held) q.whole)
+      (λ key v above got. recovered_at w.held.secrets t key (from_section min (notes w.held)) (halves key (omega arith)) ∙ pruned_from min (notes w.held) w.held.secrets key v low above got) q
+
+  -- both
+  prunes : {Dir : Type 0} (min : ℕ) → min ≤ most → (st : Live Dir) (w : World) → Q w → Throughout Q (s.prunes min st) w
+  prunes min low st w q =
+      let mid : World = does w (OnDisk (Prunes min)) in
+      let t : Secrets = of_secrets.after (Prune min) w.held.secrets in (
+        λ cause new tears. journal_torn min low w new cause tears q,
+        (
+          λ cause new tears. secrets_tried min low w new new.held.secrets tears.torn.1 tears.same (ap (λ (j : Journaled). j.entries) tears.torn.0) refl q,
+          secrets_tried min low w (does mid (Changes (Prune min))) t (all_done (Prune min) w.held.secrets t refl) refl refl refl q,
+        ),
+      )
+
+  -- A RECORD OF NO DEALING
+
+  module _ (epoch : ℕ) (event : Event) (is_event : IsEvent event) (silent : dealing_in epoch (Ok event) ≡ None) where
+    abbrev entry : Entry
+    entry = (epoch, event_spelling event)
+
+    of_none : dealing_of entry ≡ None
+    of_none = says_dealing epoch event is_event ∙ silent
+
+    silent_done : (w : World) → Q w → Q (does w (OnDisk (Appends entry)))
+    silent_done w q =
+        over w (does w (OnDisk (Appends entry))) (placed (notes w.held) entry) w.held.secrets refl refl refl (silent_whole w.held.secrets entry of_none (notes w.held) q.whole)
+        (λ key v above got. ap (λ (m : Pairs). get m key) (fold_silent w.held.secrets entry of_none (notes w.held) empty) ∙ got) q
+
+    silent_torn : (w new : World) (cause : Cause) → Tears cause (OnDisk (Appends entry)) w new → Q w → Q new
+    silent_torn w new cause tears q = left (left_entries entry w.held.journaled new.held.journaled tears.torn.1)
+      where
+        left : (notes new.held ≡ notes w.held) ⊎ (notes new.held ≡ placed (notes w.held) entry) → Q new
+        left (inl is) = over w new (notes w.held) w.held.secrets tears.same is tears.torn.0 q.whole (λ key v above got. got) q
+        left (inr is) =
+            over w new (placed (notes w.held) entry) w.held.secrets tears.same is tears.torn.0 (silent_whole w.held.secrets entry of_none (notes w.held) q.whole)
+            (λ key v above got. ap (λ (m : Pairs). get m key) (fold_silent w.held.secrets entry of_none (notes w.held) empty) ∙ got) q
+
+  -- A NEW DEALING: its private half, its record, its line
+
+  module _ (epoch dealer : ℕ) (public : List ℕ) (private : ℕ) (is_event : IsEvent (events.Dealing dealer public)) (w : World) (fresh : get (recovered_in w.held) (epoch, dealer) ≡ None) (q : Q w) where
+    abbrev key_of : ℕ × ℕ
+    key_of = (epoch, dealer)
+
+    abbrev its_entry : Entry
+    its_entry = (epoch, event_spelling (events.Dealing dealer public))
+
+    abbrev with_half : Secrets
+    with_half = of_secrets.after (PutDealing epoch dealer private) w.held.secrets
+
+    half : IsWhole (notes w.held) with_half × (recovered (notes w.held) with_half ≡ recovered_in w.held)
+    half = put_one epoch dealer private public is_event (recovered_in w.held) fresh w.held.secrets (notes w.held) q.whole refl
+
+    both : IsWhole (placed (notes w.held) its_entry) with_half × (recovered (placed (notes w.held) its_entry) with_half ≡ insert (recovered_in w.held) key_of (public, private))
+    both = record_one epoch dealer private public is_event (recovered_in w.held) fresh w.held.secrets (notes w.held) q.whole refl
+
+    half_gives : (key : ℕ × ℕ) (v : List ℕ × ℕ) → most ≤ key.0 → get (recovered_in w.held) key ≡ Some v → get (recovered (notes w.held) with_half) key ≡ Some v
+    half_gives key v above got = ap (λ (m : Pairs). get m key) half.1 ∙ got
+
+    both_give : (key : ℕ × ℕ) (v : List ℕ × ℕ) → most ≤ key.0 → get (recovered_in w.held) key ≡ Some v → get (recovered (placed (notes w.held) its_entry) with_half) key ≡ Some v
+    both_give key v above got = elim (same_key key key_of) [
+      | inl is ↦ absurd (not_none v (get (recovered_in w.held) key) got (ap (get (recovered_in w.held)) is ∙ fresh))
+      | inr apart ↦ ap (λ (m : Pairs). get m key) both.1 ∙ get_other (recovered_in w.held) key_of key (public, private) apart ∙ got
+    ]
+
+    abbrev behind : World
+    behind = does (does w (Changes (PutDealing epoch dealer private))) (OnDisk (Appends its_entry))
+
+    there : get (recovered_in behind.held) key_of ≡ Some (public, private)
+    there = ap (λ (m : Pairs). get m key_of) both.1 ∙ get_here (recovered_in w.held) key_of (public, private)
+
+    dealing_done : Q behind
+    dealing_done = over w behind (placed (notes w.held) its_entry) with_half refl refl refl both.0 both_give q
+
+    dealing_told : Q (says behind (Recorded epoch dealer public private))
+    dealing_told = tells behind (Recorded epoch dealer public private) (λ above. there) dealing_done
+
+    half_torn : (cause : Cause) (new : World) → Tears cause (Changes (PutDealing epoch dealer private)) w new → Q new
+    half_torn cause new tears = left (tears.torn.1).so
+      where
+        entries_are : notes new.held ≡ notes w.held
+        entries_are = ap (λ (j : Journaled). j.entries) tears.torn.0
+
+        left : (new.held.secrets ≡ w.held.secrets) ⊎ (new.held.secrets ≡ with_half) → Q new
+        left (inl is) = over w new (notes w.held) w.held.secrets tears.same entries_are is q.whole (λ key v above got. got) q
+        left (inr is) = over w new (notes w.held) with_half tears.same entries_are is half.0 half_gives q
+
+    record_torn : (cause : Cause) (new : World) → Tears cause (OnDisk (Appends its_entry)) (does w (Changes (PutDealing epoch dealer private))) new → Q new
+    record_torn cause new tears = left (left_entries its_entry w.held.journaled new.held.journaled tears.torn.1)
+      where
+        left : (notes new.held ≡ notes w.held) ⊎ (notes new.held ≡ placed (notes w.held) its_entry) → Q new
+        left (inl is) = over w new (notes w.held) with_half tears.same is tears.torn.0 half.0 half_gives q
+        left (inr is) = over w new (placed (notes w.held) its_entry) with_half tears.same is tears.torn.0 both.0 both_give q
+
+-- A STEP
+
+module _ {Dir : Type 0} (c : Fixed Dir) (most : ℕ) (base : List Line) where
+  abbrev ack_of : AckOf
+  ack_of = c.rules.ack_of c.me
+
+  abbrev P : World → Type 0
+  P w = IsKeptFrom ack_of most base w
+
+  tell : (w : World) (line : Line) → IsSaidFrom ack_of most w.held line → P w → P (says w line)
+  tell w line sound q = tells ack_of most base w line sound q
+
+  then_next : (course : Course Dir Fault (Live Dir)) (next : Live Dir → Course Dir Fault (Live Dir)) (w : World) → Throughout P course w → ((st : Live Dir) (mid : World) → P mid → Throughout P (next st) mid)
+      → Throughout P (bind course next) w
+  then_next course next w t more = along_next P course next w t (λ st mid done. more st mid (along_end P course w mid st t done))
+
+  -- SETUP
+
+  registers : (info : EpochInfo Dir) (share : Option ℕ) (st : Live Dir) (w : World) → P w → Throughout P (s.registers c info share st) w
+  registers info share st w q = (q, tell w _ tt q)
+
+  commits : (info : EpochInfo Dir) (seed : List ℕ) (share : Option ℕ) (st : Live Dir) (w : World) → P w → Throughout {Dir = Dir} P (s.commits info seed share st) w
+  commits info seed None st w q =
+      let seeded = put_done ack_of most base (PutSeed info.epoch seed) (seed_halves info.epoch seed) w q in
+      (λ cause new tears. put_torn ack_of most base (PutSeed info.epoch seed) (seed_halves info.epoch seed) w new cause tears q, (seeded, tell (does w (Changes (PutSeed info.epoch seed))) _ tt seeded))
+  commits info seed (Some share) st w q =
+      let mid : World = does w (Changes (PutShare info.epoch share)) in
+      let shared = put_done ack_of most base (PutShare info.epoch share) (share_halves info.epoch share) w q in
+      let seeded = put_done ack_of most base (PutSeed info.epoch seed) (seed_halves info.epoch seed) mid shared in (
+        λ cause new tears. put_torn ack_of most base (PutShare info.epoch share) (share_halves info.epoch share) w new cause tears q,
+        (
+          λ cause new tears. put_torn ack_of most base (PutSeed info.epoch seed) (seed_halves info.epoch seed) mid new cause tears shared,
+          (seeded, tell (does mid (Changes (PutSeed info.epoch seed))) _ tt seeded),
+        ),
+      )
+
+  takes_part : (round : Round) (phase : Phase) (dealer : Option Dealer) (seat : Seat) (st : Live Dir) (w : World) → P w → Throughout P (s.takes_part c round phase dealer seat st) w
+  takes_part round phase dealer seat st w q = (q, tell w _ tt q)
+
+  sits_down : (round : Round) (phase : Phase) (dealer : Option Dealer) (refused : Option ℕ) (st : Live Dir) (w : World) → P w → Throughout P (s.sits_down c round phase dealer refused st) w
+  sits_down round phase dealer (Some refused) st w q = q
+  sits_down round phase dealer None st w q = takes_part round phase dealer Plays st w q
+
+  makes_player : (round : Round) (phase : Phase) (dealer : Option Dealer) (st : Live Dir) (w : World) → P w → Throughout P (s.makes_player c round phase dealer st) w
+  makes_player round phase dealer st w q =
+      along_if P w (not (has round.players c.me) || s.is_lost c round (of_epoch round.number st.records.dealings) (logs_of st round.number))
+      (s.takes_part c round phase dealer Watches st) (s.sits_down c round phase dealer (s.refused_in c round st) st)
+      (λ e. takes_part round phase dealer Watches st w q) (λ e. sits_down round phase dealer (s.refused_in c round st) st w q)
+
+  dealt_by : (round : Round) (phase : Phase) (st : Live Dir) (dealt : Result (List ℕ × List (ℕ × ℕ)) DealError) (w : World) → P w → Throughout P (s.dealt_by c round phase st dealt) w
+  dealt_by round phase st (Ok dealt) w q = makes_player round phase (s.dealer_for phase round (s.dealer_from c round st dealt)) st w q
+  dealt_by round phase st (Err refused) w q = q
+
+  in_round : (phase : Phase) (share : Option ℕ) (seed : List ℕ) (st : Live Dir) (round : Result Round RoundError) (w : World) → P w → Throughout P (s.in_round c phase share seed st round) w
+  in_round phase share seed st (Err e) w q = q
+  in_round phase share seed st (Ok round) w q =
+      along_if P w (s.may_deal c round share st) (s.dealt_by c round phase st (c.rules.deal_of round c.me share seed)) (s.makes_player c round phase None st)
+      (λ e. dealt_by round phase st (c.rules.deal_of round c.me share seed) w q) (λ e. makes_player round phase None st w q)
+
+  draws_up : (p : Participants) (previous : Option Output) (share : Option ℕ) (seed : List ℕ) (st : Live Dir) (w : World) → P w → Throughout P (s.draws_up c p previous share seed st) w
+  draws_up p previous share seed st w q =
+      in_round (phase_of c (awaited_height st)) share seed st (c.rules.round_of c.namespace st.participation.epoch previous c.mode c.reveal p.dealers p.players) w q
+
+  behind_prune : (floor : Option ℕ) (info : EpochInfo Dir) (share : Option ℕ) (seed : List ℕ) (st : Live Dir) (w : World) → P w
+      → Throughout P (if s.is_late_floor c floor then s.follows c st else s.draws_up c (s.participants_of info) (Some info.output) share seed st) w
+  behind_prune floor info share seed st w q =
+      along_if P w (s.is_late_floor c floor) (s.follows c st) (s.draws_up c (s.participants_of info) (Some info.output) share seed st)
+      (λ e. (q, tell w _ tt q)) (λ e. draws_up (s.participants_of info) (Some info.output) share seed st w q)
+
+  module _ (epoch : ℕ) (low : (epoch - 1) ≤ most) where
+    after_commit : (floor : Option ℕ) (info : EpochInfo Dir) (share : Option ℕ) (seed : List ℕ) (st : Live Dir) (w : World) → st.participation.epoch ≡ epoch → P w
+        → Throughout P (bind (s.prunes (st.participation.epoch - 1) st) (λ st. if s.is_late_floor c floor then s.follows c st else s.draws_up c (s.participants_of info) (Some info.output) share seed st)) w
+    after_commit floor info share seed st w is q =
+        let min = st.participation.epoch - 1 in
+        let done = prunes ack_of most base min (subst (λ (n : ℕ). (n - 1) ≤ most) (sym is) low) st w q in (
+          done.0,
+          (
+            done.1.0,
+            behind_prune floor info share seed (record st { records = s.records_from min st.records }) (does (does w (OnDisk (Prunes min))) (Changes (Prune min))) done.1.1,
+          ),
+        )
+
+    with_share_and_seed : (floor : Option ℕ) (standing : s.Standing) (info : EpochInfo Dir) (share : Option ℕ) (seed : List ℕ) (st : Live Dir) (w : World) → st.participation.epoch ≡ epoch → P w
+        → Throughout P (s.with_share_and_seed c floor standing info share seed st) w
+    with_share_and_seed floor s.WasCommitted info share seed st w is q = after_commit floor info share seed st w is q
+    with_share_and_seed floor s.Uncommitted info None seed st w is q =
+        let told = commits info seed None st w q in
+        let committed : World = says (does w (Changes (PutSeed info.epoch seed))) (Committed info.epoch None) in
+        let role = s.role_of (s.scheme_for c info None) in (
+          told.0,
+          (
+            told.1.0,
+            (
+              told.1.1,
+              after_commit floor info None seed (s.with_registered info.epoch (s.scheme_for c info None) (with_participation (record st.participation { current = Some info }) st)) (says committed (Registered info.epoch role)) is
+                  (tell committed (Registered info.epoch role) tt told.1.1),
+            ),
+          ),
+        )
+    with_share_and_seed floor s.Uncommitted info (Some share) seed st w is q =
+        let told = commits info seed (Some share) st w q in
+        let committed : World = says (does (does w (Changes (PutShare info.epoch share))) (Changes (PutSeed info.epoch seed))) (Committed info.epoch (Some share)) in
+        let role = s.role_of (s.scheme_for c info (Some share)) in (
+          told.0,
+          (
+            told.1.0,
+            (
+              told.1.1.0,
+              (
+                told.1.1.1,
+                after_commit floor info (Some share) seed (s.with_registered info.epoch (s.scheme_for c info (Some share)) (with_participation (record st.participation { current = Some info }) st)) (says committed (Registered info.epoch role)) is
+                    (tell committed (Registered info.epoch role) tt told.1.1.1),
+              ),
+            ),
+          ),
+        )
+
+    judged : (floor : Option ℕ) (standing : s.Standing) (info : EpochInfo Dir) (st : Live Dir) (valid : Result (Unit {0}) ParticipantsError) (w : World) → st.participation.epoch ≡ epoch → P w
+        → Throughout P (s.judged c floor standing info st valid) w
+    judged floor standing info st (Err e) w is q = q
+    judged floor standing info st (Ok passed) w is q =
+        with_share_and_seed floor standing info (s.recovered_share c (c.seen w.held) info) (s.seed_for c info.epoch (lookup info.epoch (c.seen w.held).seeds)) st w is q
+
+    with_info : (floor : Option ℕ) (standing : s.Standing) (info : EpochInfo Dir) (st : Live Dir) (w : World) → st.participation.epoch ≡ epoch → P w → Throughout P (s.with_info c floor standing info st) w
+    with_info floor standing info st w is q =
+        along_if P w (info.epoch == st.participation.epoch) (s.judged c floor standing info st (validation (s.participants_of info) c.limit (Some info.output) info.epoch)) (Stops (WrongEpoch st.participation.epoch info.epoch))
+        (λ e. judged floor standing info st (validation (s.participants_of info) c.limit (Some info.output) info.epoch) w is q) (λ e. q)
+
+    from_boundary : (found : Option (Block Dir)) (st : Live Dir) (w : World) → st.participation.epoch ≡ epoch → P w → Throughout P (s.from_boundary c found st) w
+    from_boundary None st w is q = (q, tell w _ tt q)
+    from_boundary (Some block) st w is q =
+        along_option P w (info_of block.payload) (λ info. s.with_info c None s.Uncommitted info st) (Stops (MissingEpochInfo block.height)) (λ info e. with_info None s.Uncommitted info st w is q) (λ e. q)
+
+    from_material : (m : Option (EpochInfo Dir × ℕ)) (st : Live Dir) (w : World) → st.participation.epoch ≡ epoch → P w → Throughout P (s.from_material c m st) w
+    from_material (Some m) st w is q = with_info (Some m.1) s.Uncommitted m.0 st w is q
+    from_material None st w is q = from_boundary (c.source.block (boundary c.blocks_per_epoch st.participation.epoch)) st w is q
+
+    sets_up : (m : Option (EpochInfo Dir × ℕ)) (committed : Option (EpochInfo Dir)) (st : Live Dir) (w : World) → st.participation.epoch ≡ epoch → P w → Throughout P (s.sets_up_by c m committed st) w
+    sets_up m (Some info) st w is q = with_info (option_map (λ m. m.1) m) s.WasCommitted info st w is q
+    sets_up m None st w is q = from_material m st w is q
+
+  setup : (m : Option (EpochInfo Dir × ℕ)) (st : Live Dir) (w : World) → (epoch_of c.blocks_per_epoch (awaited_height st) - 1) ≤ most → P w → Throughout P (s.setup c m st) w
+  setup m st w low q =
+      along_if P w (s.is_past_range c (awaited_height st)) (Stops HeightRange) (s.sets_up c m st) (λ e. q)
+      (λ e. sets_up (epoch_of c.blocks_per_epoch (awaited_height st)) low m (s.committed_info (s.anew c st)) (s.anew c st) w refl q)
+
+  -- REQUESTS AND ARTIFACTS
+
+  rounds : (st : Live Dir) (f : Round → Course Dir Fault (Live Dir)) (w : World) → P w → ((round : Round) → Throughout P (f round) w) → Throughout P (d.with_round st f) w
+  rounds st f w q each = along_option P w st.participation.round f (Goes st) (λ round e. each round) (λ e. q)
+
+  gives : (request height : ℕ) (log : Option SignedDealerLog) (st : Live Dir) (w : World) → P w → Throughout P (i.gives_log c request height log st) w
+  gives request height None st w q = (q, tell w _ tt q)
+  gives request height (Some log) st w q = (q, tell w _ tt q)
+
+  abbrev Each : World → i.Next Dir → Type 0
+  Each w next = (made : Artifact Dir) (st : Live Dir) → Throughout P (next made st) w
+
+  with_directory : (info : EpochInfo Dir) (course : Course Dir Fault (Live Dir)) (w : World) → P w → Throughout P course w → Throughout P (i.with_directory c info course) w
+  with_directory info course w q l = along_if P w (c.directories.matches info.directory (i.info_peers info)) course (Stops (DirectoryMismatch info.epoch)) (λ e. l) (λ e. q)
+
+  share_by : (info : EpochInfo Dir) (result : Option Verified) (f : Option ℕ → Course Dir Fault (Live Dir)) (w : World) → ((share : Option ℕ) → Throughout P (f share) w) → Throughout P (i.share_by c info result f) w
+  share_by info (Some found) f w each = each found.share
+  share_by info None f w each =
+      along_if P w (has info.output.players c.me) (s.looks c (λ seen. f (lookup info.epoch seen.shares))) (f None) (λ e. each (lookup info.epoch (c.seen w.held).shares)) (λ e. each None)
+
+  with_provided : (epoch : ℕ) (course : Course Dir Fault (Live Dir)) (w : World) → P w → Throughout P course w → Throughout P (i.with_provided c epoch course) w
+  with_provided epoch course w q l =
+      let n = length (c.provided.participants epoch) in
+      let above : Course Dir Fault (Live Dir) = Stops (InvalidParticipants (ProviderAbove n c.limit)) in
+      let none : Course Dir Fault (Live Dir) = Stops (InvalidParticipants ProviderEmpty) in
+      along_if P w (nat_le (2 ^ 64) epoch) (Stops HeightRange) (if n == 0 then none else if nat_lt c.limit n then above else course) (λ e. q)
+      (λ e. along_if P w (n == 0) none (if nat_lt c.limit n then above else course) (λ e. q) (λ e. along_if P w (nat_lt c.limit n) above course (λ e. q) (λ e. l)))
+
+  derives_next : (info : EpochInfo Dir) (r : VerifiedLogs) (st : Live Dir) (next : i.Next Dir) (w : World) → P w → Each w next → Throughout P (i.derives_next c info r st next) w
+  derives_next info r st next w q each =
+      let made = info_by c.provided info (option_map (λ found. found.output) r.result) in
+      with_provided (info.epoch + 2) (i.share_by c info r.result (λ share. i.with_directory c made (next (record { info = Some made; share = share }) st))) w q
+      (share_by info r.result (λ share. i.with_directory c made (next (record { info = Some made; share = share }) st)) w
+      (λ share. with_directory made (next (record { info = Some made; share = share }) st) w q (each (record { info = Some made; share = share }) st)))
+
+  once_with : (once : OneShot Dir) (output : Output) (share : Option ℕ) (st : Live Dir) (next : i.Next Dir) (w : World) → P w → Each w next → Throughout P (i.oneshot_with c once output share st next) w
+  once_with once output None st next w q each = q
+  once_with once output (Some share) st next w q each =
+      with_directory (i.oneshot_made once output) (next (record { info = Some (i.oneshot_made once output); share = Some share }) st) w q (each (record { info = Some (i.oneshot_made once output); share = Some share }) st)
+
+  derives : (once : Option (OneShot Dir)) (r : VerifiedLogs) (st : Live Dir) (next : i.Next Dir) (w : World) → P w → Each w next → Throughout P (i.derives c once r st next) w
+  derives (Some once) r st next w q each =
+      along_option P w r.result (λ found. i.oneshot_with c once found.output found.share st (i.keeping r.logs next)) (i.keeping r.logs next (record { info = None; share = None }) st)
+      (λ found e. once_with once found.output found.share st (i.keeping r.logs next) w q (λ made st. each made (i.with_cached r.logs made st)))
+      (λ e. each (record { info = None; share = None }) (i.with_cached r.logs (record { info = None; share = None }) st))
+  derives None r st next w q each =
+      along_option P w st.participation.current (λ info. i.derives_next c info r st (i.keeping r.logs next)) (Stops HeightRange)
+      (λ info e. derives_next info r st (i.keeping r.logs next) w q (λ made st. each made (i.with_cached r.logs made st))) (λ e. q)
+
+  artifact_by : (r : VerifiedLogs) (cached : Option (Artifact Dir)) (st : Live Dir) (next : i.Next Dir) (w : World) → P w → Each w next → Throughout P (i.artifact_by c r cached st next) w
+  artifact_by r (Some made) st next w q each = each made st
+  artifact_by r None st next w q each = derives c.oneshot r st next w q each
+
+  artifact : (r : VerifiedLogs) (st : Live Dir) (next : i.Next Dir) (w : World) → P w → Each w next → Throughout P (i.artifact c r st next) w
+  artifact r st next w q each = artifact_by r (i.cached_for st.inclusion.cached r.logs) st next w q each
+
+  starts_unless : (job : Job) (waiter refused : Option ℕ) (st : Live Dir) (w : World) → P w → Throughout {Dir = Dir} P (i.starts_unless job waiter refused st) w
+  starts_unless job waiter (Some refused) st w q = q
+  starts_unless job waiter None st w q = q
+
+  starts : (round : Round) (logs : LogMap) (waiter : Option ℕ) (st : Live Dir) (w : World) → P w → Throughout P (i.starts_verifying c round logs waiter st) w
+  starts round logs waiter st w q = starts_unless (i.job_for c round logs st) waiter (if i.can_finish c round logs st then s.refused_in c round st else None) st w q
+
+  asks_for : (round : Round) (request : ℕ) (logs : LogMap) (cached : Option (Artifact Dir)) (retained : Option VerifiedLogs) (st : Live Dir) (w : World) → P w
+      → Throughout P (i.asks_for_by c round request logs cached retained st) w
+  asks_for round request logs (Some made) retained st w q = (q, tell w _ tt q)
+  asks_for round request logs None (Some r) st w q = artifact r st (i.answers c request) w q (λ made st. (q, tell w _ tt q))
+  asks_for round request logs None None st w q = starts round logs (Some request) st w q
+
+  fed : (round : Round) (request : ℕ) (st : Live Dir) (f : i.Fed) (w : World) → P w → Throughout P (i.fed c round request st f) w
+  fed round request st i.Need w q = q
+  fed round request st (i.Lacks reason) w q = (q, tell w _ tt q)
+  fed round request st (i.Found logs) w q =
+      let all = filled_by (canonical c st) logs in
+      asks_for round request all (i.cached_for st.inclusion.cached all) (i.retained_for st.inclusion.retained all) st w q
+
+  reads_first : (round : Round) (next : Live Dir → Course Dir Fault (Live Dir)) (st : Live Dir) (stage : Stage) (running : Option Job) (queue : List (Request Dir)) (w : World) → P w
+      → ((st : Live Dir) (w : World) → P w → Throughout P (next st) w) → Throughout P (i.reads_first_in c round next st stage running queue) w
+  reads_first round next st Deals running queue w q each = q
+  reads_first round next st Includes None [] w q each = q
+  reads_first round next st Includes None (r ∷ rs) w q each =
+      along_if P w (i.is_need (i.read_of c round st r)) (Goes st) (bind (i.fed c round r.number (with_queue rs st) (i.read_of c round st r)) next)
+      (λ e. q) (λ e. then_next (i.fed c round r.number (with_queue rs st) (i.read_of c round st r)) next w (fed round r.number (with_queue rs st) (i.read_of c round st r) w q) each)
+  reads_first round next st Includes (Some job) queue w q each = q
+  reads_first round next st Follows running queue w q each = q
+  reads_first round next st Ends running queue w q each = q
+
+  advances : (fuel : ℕ) (st : Live Dir) (w : World) → P w → Throughout P (i.advances c fuel st) w
+  advances zero st w q = q
+  advances (suc fuel) st w q =
+      rounds st (λ round. i.reads_first c round (λ st. i.advances c fuel st) st) w q
+      (λ round. reads_first round (λ st. i.advances c fuel st) st st.participation.stage st.inclusion.running st.inclusion.queue w q (λ st w q. advances fuel st w q))
+
+  advanced : (st : Live Dir) (w : World) → P w → Throughout P (i.advanced c st) w
+  advanced st w q = advances (length st.inclusion.queue) st w q
+
+  asks_in : (request : ℕ) (st : Live Dir) (stage : Stage) (w : World) → P w → Throughout P (i.asks_in c request st stage) w
+  asks_in request st Deals w q = q
+  asks_in request st Includes w q = advanced (i.queued request st) w q
+  asks_in request st Follows w q = (q, tell w _ tt q)
+  asks_in request st Ends w q = (q, tell w _ tt q)
+
+  cancels : (request : ℕ) (st : Live Dir) (w : World) → P w → Throughout P (i.cancels c request st) w
+  cancels request st w q =
+      along_if P w (option_map_or (λ n. n == request) st.inclusion.waiter false) (Goes (with_inclusion (record st.inclusion { waiter = None }) st))
+      (i.advanced c (with_queue (filter (λ r. not (r.number == request)) st.inclusion.queue) st)) (λ e. q) (λ e. advanced (with_queue (filter (λ r. not (r.number == request)) st.inclusion.queue) st) w q)
+
+  completes : (r : VerifiedLogs) (st : Live Dir) (waiter : Option ℕ) (w : World) → P w → Throughout P (i.completes_in c r st waiter) w
+  completes r st None w q = q
+  completes r st (Some request) w q = artifact r st (λ made st. bind (i.answers c request made st) (λ st. Goes (i.retains c r st))) w q (λ made st. (q, tell w _ tt q))
+
+  ends_verifying : (handed : Option VerifiedLogs) (st : Live Dir) (running : Option Job) (w : World) → P w → Throughout P (i.ends_verifying_in c handed st running) w
+  ends_verifying handed st None w q = q
+  ends_verifying handed st (Some job) w q = completes (i.result_of c handed job) st st.inclusion.waiter w q
+
+  works : (handed : Option VerifiedLogs) (st : Live Dir) (w : World) → P w → Throughout P (i.works c handed st) w
+  works handed st w q =
+      along_if P w (is_some st.inclusion.running) (bind (i.ends_verifying c handed st) (λ st. i.advanced c st)) (Goes st)
+      (λ e. then_next (i.ends_verifying c handed st) (λ st. i.advanced c st) w (ends_verifying handed st st.inclusion.running w q) (λ st w q. advanced st w q)) (λ e. q)
+
+  -- MESSAGES OF PEERS, AND OFFERS
+
+  takes_ack : (epoch : ℕ) (dealer : Dealer) (player : ℕ) (ack : List ℕ) (st : Live Dir) (w : World) → IsEvent (events.Ack player ack) → P w → Throughout P (d.takes_ack epoch dealer player ack st) w
+  takes_ack epoch dealer player ack st w is q =
+      along_if P w (is_some (lookup player dealer.acks)) (Goes st)
+      (if is_some (recorded_at st.records.acks epoch player) then Goes (d.counts dealer player ack st)
+      else d.appends epoch (events.Ack player ack) (Goes (d.counts dealer player ack (d.with_ack epoch player ack st))))
+      (λ e. q) (λ e. along_if P w (is_some (recorded_at st.records.acks epoch player)) (Goes (d.counts dealer player ack st))
+      (d.appends epoch (events.Ack player ack) (Goes (d.counts dealer player ack (d.with_ack epoch player ack st))))
+      (λ e. q) (λ e. (λ cause new tears. silent_torn ack_of most base epoch (events.Ack player ack) is refl w new cause tears q, silent_done ack_of most base epoch (events.Ack player ack) is refl w q)))
+
+  checked_ack : (round : Round) (dealer : Dealer) (player : ℕ) (ack : List ℕ) (st : Live Dir) (check : Result (Unit {0}) AckError) (w : World) → IsEvent (events.Ack player ack) → P w
+      → Throughout P (d.checked_ack round dealer player ack st check) w
+  checked_ack round dealer player ack st (Err e) w is q = (q, tell w _ tt q)
+  checked_ack round dealer player ack st (Ok passed) w is q = takes_ack round.number dealer player ack st w is q
+
+  hears_ack : (round : Round) (dealer : Option Dealer) (from : ℕ) (ack : List ℕ) (st : Live Dir) (w : World) → IsEvent (events.Ack from ack) → P w → Throughout P (d.hears_ack c round dealer from ack st) w
+  hears_ack round None from ack st w is q = (q, tell w _ tt q)
+  hears_ack round (Some dealer) from ack st w is q = checked_ack round dealer from ack st (c.rules.check_ack_of round c.me dealer.public from ack) w is q
+
+  -- a key that memory has is given back, and one that it lacks is new
+  given : (st : Live Dir) (w : World) (key : ℕ × ℕ) (found : Option (List ℕ × ℕ)) → AreAgreed st.records w.held → find key_cmp key st.records.dealings ≡ found → get (recovered_in w.held) key ≡ found
+  given st w key found a is = get-entries (recovered_in w.held) key ∙ ap (find key_cmp key) (sym a.dealings) ∙ is
+
+  checked_dealing : (round : Round) (from : ℕ) (public : List ℕ) (private : ℕ) (st : Live Dir) (check : Result (Unit {0}) DealingError) (w : World) → IsEvent (events.Dealing from public)
+      → get (recovered_in w.held) (round.number, from) ≡ None → P w → Throughout P (d.checked_dealing c round from public private st check) w
+  checked_dealing round from public private st (Err e) w is fresh q = (q, tell w _ tt q)
+  checked_dealing round from public private st (Ok passed) w is fresh q =
+      let told = dealing_told ack_of most base round.number from public private is w fresh q in (
+        half_torn ack_of most base round.number from public private is w fresh q,
+        (
+          record_torn ack_of most base round.number from public private is w fresh q,
+          (
+            dealing_done ack_of most base round.number from public private is w fresh q,
+            (
+              told,
+              tell _ (Ack round.number from (ack_of round from public)) (λ above. ((public, private), round, there ack_of most base round.number from public private is w fresh q, refl, refl)) told,
+            ),
+          ),
+        ),
+      )
+
+  of_recorded : (round : Round) (from : ℕ) (public : List ℕ) (private : ℕ) (st : Live Dir) (found : Option (List ℕ × ℕ)) (w : World) → IsEvent (events.Dealing from public)
+      → recorded_at st.records.dealings round.number from ≡ found → AreAgreed st.records w.held → P w → Throughout P (d.hears_dealing_in c round from public private st found) w
+  of_recorded round from public private st (Some pair) w is found a q =
+      (q, tell w (Ack round.number from (ack_of round from pair.0)) (λ above. (pair, round, given st w (round.number, from) (Some pair) a found, refl, refl)) q)
+  of_recorded round from public private st None w is none a q =
+      checked_dealing round from public private st (c.rules.dealing_of round c.me from public private) w is (given st w (round.number, from) None a none) q
+
+  a_dealing : (round : Round) (from : ℕ) (public : List ℕ) (private : ℕ) (st : Live Dir) (seat : Seat) (w : World) → IsEvent (events.Dealing from public) → AreAgreed st.records w.held → P w
+      → Throughout P (d.seats_dealing_in c round from public private st seat) w
+  a_dealing round from public private st Plays w is a q = of_recorded round from public private st (recorded_at st.records.dealings round.number from) w is refl a q
+  a_dealing round from public private st Watches w is a q = (q, tell w _ tt q)
+
+  reads : (round : Round) (from : ℕ) (st : Live Dir) (message : Result Channel CodecError) (w : World) → ((public : List ℕ) (private : ℕ) → message ≡ Ok (ADealing public private) → IsEvent (events.Dealing from public))
+      → ((ack : List ℕ) → message ≡ Ok (AnAck ack) → IsEvent (events.Ack from ack)) → AreAgreed st.records w.held → P w → Throughout P (d.reads c round from st message) w
+  reads round from st (Err e) w fits fits_ack a q = (q, tell w _ tt q)
+  reads round from st (Ok (ADealing public private)) w fits fits_ack a q = a_dealing round from public private st st.participation.seat w (fits public private refl) a q
+  reads round from st (Ok (AnAck ack)) w fits fits_ack a q = hears_ack round st.participation.dealer from ack st w (fits_ack ack refl) q
+
+  hears : (from : ℕ) (bytes : List ℕ) (st : Live Dir) (stage : Stage) (w : World) → Fits c (from, bytes) → AreAgreed st.records w.held → P w → Throughout P (d.hears_peer_in c from bytes st stage) w
+  hears from bytes st Deals w fits a q =
+      rounds st (λ round. d.reads c round from st (all_of (message_at c.limit bytes))) w q (λ round. reads round from st (all_of (message_at c.limit bytes)) w fits.0 fits.1 a q)
+  hears from bytes st Includes w fits a q = q
+  hears from bytes st Follows w fits a q = q
+  hears from bytes st Ends w fits a q = q
+
+  module _ (fits_own : (round : Round) (public : List ℕ) → IsEvent (events.Ack c.me (c.rules.ack_of c.me round c.me public))) where
+    own_ack : (round : Round) (public : List ℕ) (st : Live Dir) (w : World) → P w → Throughout P (d.own_ack c round public st) w
+    own_ack round public st w q =
+        let ack = c.rules.ack_of c.me round c.me public in
+        along_option P w st.participation.dealer (λ dealer. d.checked_ack round dealer c.me ack st (c.rules.check_ack_of round c.me dealer.public c.me ack)) (Goes st)
+        (λ dealer e. checked_ack round dealer c.me ack st (c.rules.check_ack_of round c.me dealer.public c.me ack) w (fits_own round public) q) (λ e. q)
+
+    to_itself_in : (round : Round) (public : List ℕ) (private : ℕ) (st : Live Dir) (found : Option (List ℕ × ℕ)) (w : World) → IsEvent (events.Dealing c.me public)
+        → recorded_at st.records.dealings round.number c.me ≡ found → AreAgreed st.records w.held → P w → Throughout P (d.deals_to_itself_in c round public private st found) w
+    to_itself_in round public private st (Some pair) w is found a q =
+        along_if P w (bytes_eq pair.0 public) (d.own_ack c round public st) (Stops (LocalState (OwnDealing round.number pair.0 public))) (λ e. own_ack round public st w q) (λ e. q)
+    to_itself_in round public private st None w is none a q =
+        let fresh = given st w (round.number, c.me) None a none in (
+          half_torn ack_of most base round.number c.me public private is w fresh q,
+          (
+            record_torn ack_of most base round.number c.me public private is w fresh q,
+            (
+              dealing_done ack_of most base round.number c.me public private is w fresh q,
+              own_ack round public (d.with_dealing_of round.number c.me public private st) _ (dealing_told ack_of most base round.number c.me public private is w fresh q),
+            ),
+          ),
+        )
+
+    to_itself : (round : Round) (public : List ℕ) (private : ℕ) (st : Live Dir) (seat : Seat) (w : World) → IsEvent (events.Dealing c.me public) → AreAgreed st.records w.held → P w
+        → Throughout P (d.offers_to_itself_in c round public private st seat) w
+    to_itself round public private st Plays w is a q = to_itself_in round public private st (recorded_at st.records.dealings round.number c.me) w is refl a q
+    to_itself round public private st Watches w is a q = q
+
+    offers : (round : Round) (public : List ℕ) (ps : List (ℕ × ℕ)) (st : Live Dir) (w : World) → IsEvent (events.Dealing c.me public) → AreAgreed st.records w.held → P w → Throughout P (d.offers c round public ps st) w
+    offers round public [] st w is a q = q
+    offers round public (p ∷ ps) st w is a q =
+        let mine = d.offers_to_itself c round public p.1 st in
+        let goes = to_itself round public p.1 st st.participation.seat w is a q in
+        along_if P w (p.0 == c.me) (bind mine (λ st. d.offers c round public ps st)) (Say (Offer round.number p.0 public p.1) (d.offers c round public ps st))
+        (λ e. along_next P mine (λ st. d.offers c round public ps st) w goes
+        (λ end mid done. offers round public ps end mid is (ag.lands_at mine w mid end (ag.to_itself c fits_own round public p.1 st st.participation.seat w.held is a) done) (along_end P mine w mid end goes done)))
+        (λ e. (q, offers round public ps st (says w (Offer round.number p.0 public p.1)) is a (tell w (Offer round.number p.0 public p.1) tt q)))
+
+    deals : (st : Live Dir) (w : World) → ((dealer : Dealer) → st.participation.dealer ≡ Some dealer → IsEvent (events.Dealing c.me dealer.public)) → AreAgreed st.records w.held → P w → Throughout P (d.deals c st) w
+    deals st w is a q =
+        rounds st (λ round. option_map_or (λ dealer. d.offers c round dealer.public (s.unsent dealer) st) st.participation.dealer (Goes st)) w q
+        (λ round. along_option P w st.participation.dealer (λ dealer. d.offers c round dealer.public (s.unsent dealer) st) (Goes st) (λ dealer e. offers round dealer.public (s.unsent dealer) st w (is dealer e) a q) (λ e. q))
+
+  -- BLOCKS
+
+  module _ (block : Block Dir) (low : (epoch_of c.blocks_per_epoch (block.height + 1) - 1) ≤ most) where
+    records_log : (epoch : ℕ) (log : SignedDealerLog) (st : Live Dir) (w : World) → IsEvent (events.LogAt log.dealer block.height log.log) → P w → Throughout P (b.records_log epoch block.height log st) w
+    records_log epoch log st w is q =
+        along_if P w (is_some (recorded_at st.records.logs epoch log.dealer)) (Goes st)
+        (d.appends epoch (log_event log.dealer block.height log.log) (Goes (b.with_log epoch log.dealer block.height log.log st)))
+        (λ e. q) (λ e. (
+          λ cause new tears. silent_torn ack_of most base epoch (events.LogAt log.dealer block.height log.log) is refl w new cause tears q,
+          silent_done ack_of most base epoch (events.LogAt log.dealer block.height log.log) is refl w q,
+        ))
+
+    observes : (round : Round) (st : Live Dir) (log : Option SignedDealerLog) (w : World) → ((found : SignedDealerLog) → log ≡ Some found → IsEvent (events.LogAt found.dealer block.height found.log))
+        → P w → Throughout P (b.observes c round block st log) w
+    observes round st None w is q = q
+    observes round st (Some log) w is q =
+        along_if P w (is_accepted c round log) (bind (b.records_log round.number block.height log st) (λ st. Goes (b.without_own_log c log.dealer st))) (Goes st)
+        (λ e. then_next (b.records_log round.number block.height log st) (λ st. Goes (b.without_own_log c log.dealer st)) w (records_log round.number log st w (is log refl) q) (λ st w q. q)) (λ e. q)
+
+    includes : (round : Round) (st : Live Dir) (w : World) → BringsRecords c (Finalized block) → P w → Throughout P (b.includes c round block st) w
+    includes round st w is q =
+        then_next (b.observes c round block st (option_and_then its_log block.payload)) (λ st. i.advanced c (with_tip block (b.unserved block.height st))) w
+        (observes round st (option_and_then its_log block.payload) w is q) (λ st w q. advanced (with_tip block (b.unserved block.height st)) w q)
+
+    unanswered : (outcome : Option (EpochInfo Dir)) (requests : List (Request Dir)) (st : Live Dir) (w : World) → awaited_height st ≡ block.height + 1 → P w
+        → Throughout P (bind (b.answers_all requests st) (λ st. if is_some c.oneshot then b.ends_once c outcome st else s.setup c None st)) w
+    unanswered outcome [] st w is q =
+        along_if P w (is_some c.oneshot) (b.ends_once c outcome (with_queue [] st)) (s.setup c None (with_queue [] st)) (λ e. (q, tell w _ tt q))
+        (λ e. setup None (with_queue [] st) w (subst (λ (height : ℕ). (epoch_of c.blocks_per_epoch height - 1) ≤ most) (sym is) low) q)
+    unanswered outcome (r ∷ rs) st w is q =
+        (q, unanswered outcome rs (with_told r.number (GaveNone Finished) st) (says w (Answer r.number (Unavailable Finished))) is (tell w (Answer r.number (Unavailable Finished)) tt q))
+
+    passes_on : (outcome : Option (EpochInfo Dir)) (st : Live Dir) (w : World) → P w → Throughout P (b.passes_on c block outcome st) w
+    passes_on outcome st w q = unanswered outcome st.inclusion.queue (with_tip block st) w refl q
+
+    takes_over : (info : EpochInfo Dir) (share : Option ℕ) (st : Live Dir) (w : World) → P w → Throughout P (b.takes_over c block info share st) w
+    takes_over info share st w q =
+        let seed = s.seed_for c info.epoch (lookup info.epoch (c.seen w.held).seeds) in
+        then_next (s.commits info seed share st) (λ st. bind (if is_some c.oneshot then Goes st else s.registers c info share st) (λ st. b.passes_on c block (Some info) st)) w (commits info seed share st w q)
+        (λ st w q. then_next (if is_some c.oneshot then Goes st else s.registers c info share st) (λ st. b.passes_on c block (Some info) st) w
+        (along_if P w (is_some c.oneshot) (Goes st) (s.registers c info share st) (λ e. q) (λ e. registers info share st w q)) (λ st w q. passes_on (Some info) st w q))
+
+    carried : (f : EpochInfo Dir → Course Dir Fault (Live Dir)) (w : World) → P w → ((info : EpochInfo Dir) → Throughout P (f info) w) → Throughout P (b.carried c block f) w
+    carried f w q each =
+        along_option P w (info_of block.payload) (λ info. if info.epoch == b.expected_epoch c block.height then f info else Stops (WrongEpoch (b.expected_epoch c block.height) info.epoch)) (Stops (MissingEpochInfo block.height))
+        (λ info e. along_if P w (info.epoch == b.expected_epoch c block.height) (f info) (Stops (WrongEpoch (b.expected_epoch c block.height) info.epoch)) (λ e. each info) (λ e. q)) (λ e. q)
+
+    concludes : (made : Artifact Dir) (st : Live Dir) (w : World) → P w → Throughout P (b.concludes c block made st) w
+    concludes made st w q =
+        let omits : Course Dir Fault (Live Dir) = Stops (LocalState OutcomeOmitted) in
+        along_if P w (is_some c.oneshot && is_none block.payload) (if is_some made.info then omits else b.passes_on c block None st) (b.carried c block (λ info. b.takes_over c block info (b.share_for c info made) st))
+        (λ e. along_if P w (is_some made.info) omits (b.passes_on c block None st) (λ e. q) (λ e. passes_on None st w q))
+        (λ e. carried (λ info. b.takes_over c block info (b.share_for c info made) st) w q (λ info. takes_over info (b.share_for c info made) st w q))
+
+    derives_now : (round : Round) (logs : LogMap) (r : Option VerifiedLogs) (st : Live Dir) (w : World) → P w → Throughout P (b.derives_now c round block logs r st) w
+    derives_now round logs (Some r) st w q = artifact r st (b.concludes c block) w q (λ made st. concludes made st w q)
+    derives_now round logs None st w q =
+        let found = i.verified c (i.job_for c round logs st) in
+        then_next (i.starts_verifying c round logs None st) (λ st. i.artifact c found (i.retains c found st) (b.concludes c block)) w (starts round logs None st w q)
+        (λ st w q. artifact found (i.retains c found st) (b.concludes c block) w q (λ made st. concludes made st w q))
+
+    concludes_by : (round : Round) (logs : LogMap) (before now : Option (Artifact Dir)) (st : Live Dir) (w : World) → P w → Throughout P (b.concludes_by c round block logs before now st) w
+    concludes_by round logs (Some made) now st w q = concludes made st w q
+    concludes_by round logs None (Some made) st w q = concludes made st w q
+    concludes_by round logs None None st w q = derives_now round logs (i.retained_for st.inclusion.retained logs) st w q
+
+    final_block : (round : Round) (st : Live Dir) (w : World) → P w → Throughout P (b.final_block c round block st) w
+    final_block round st w q =
+        let logs = canonical c st in
+        let before = i.cached_for st.inclusion.cached logs in
+        then_next (i.ends_verifying c None st) (λ st. b.concludes_by c round block logs before (i.cached_for st.inclusion.cached logs) st) w (ends_verifying None st st.inclusion.running w q)
+        (λ st w q. concludes_by round logs before (i.cached_for st.inclusion.cached logs) st w q)
+
+    follows_into : (info : EpochInfo Dir) (st : Live Dir) (w : World) → P w → Throughout P (b.follows_into c block info st) w
+    follows_into info st w q =
+        let seed = s.seed_for c info.epoch (lookup info.epoch (c.seen w.held).seeds) in
+        let share = s.recovered_share c (c.seen w.held) info in
+        then_next (s.commits info seed share st) (λ st. bind (s.registers c info share st) (λ st. s.setup c None (with_tip block st))) w (commits info seed share st w q)
+        (λ st w q. then_next (s.registers c info share st) (λ st. s.setup c None (with_tip block st)) w (registers info share st w q) (λ st w q. setup None (with_tip block st) w low q))
+
+    follows_at : (st : Live Dir) (w : World) → P w → Throughout P (b.follows_at c block st) w
+    follows_at st w q =
+        along_if P w (is_last_height c block.height) (b.carried c block (λ info. b.follows_into c block info st)) (Goes (with_tip block st))
+        (λ e. carried (λ info. b.follows_into c block info st) w q (λ info. follows_into info st w q)) (λ e. q)
+
+    module _ (fits_own : (round : Round) (public : List ℕ) → IsEvent (events.Ack c.me (c.rules.ack_of c.me round c.me public))) (fits_log : BringsRecords c (Finalized block)) where
+      abbrev Fitting : Live Dir → Type 0
+      Fitting st = (dealer : Dealer) → st.participation.dealer ≡ Some dealer → IsEvent (events.Dealing c.me dealer.public)
+
+      deals_at : (st : Live Dir) (w : World) → Fitting st → AreAgreed st.records w.held → P w → Throughout P (b.deals_at c block st) w
+      deals_at st w is a q =
+          then_next (d.deals c st) (λ st. if block.height + 1 == midpoint c.blocks_per_epoch st.participation.epoch then i.advanced c (s.begins_inclusion c (with_tip block st)) else Goes (with_tip block st)) w
+          (deals fits_own st w is a q) (λ st w q. along_if P w (block.height + 1 == midpoint c.blocks_per_epoch st.participation.epoch) (i.advanced c (s.begins_inclusion c (with_tip block st))) (Goes (with_tip block st))
+          (λ e. advanced (s.begins_inclusion c (with_tip block st)) w q) (λ e. q))
+
+      applies : (st : Live Dir) (stage : Stage) (w : World) → Fitting st → AreAgreed st.records w.held → P w → Throughout P (b.applies_in c block st stage) w
+      applies st Deals w is a q = deals_at st w is a q
+      applies st Includes w is a q =
+          rounds st (λ round. if is_last_height c block.height then b.final_block c round block st else b.includes c round block st) w q
+          (λ round. along_if P w (is_last_height c block.height) (b.final_block c round block st) (b.includes c round block st) (λ e. final_block round st w q) (λ e. includes round st w fits_log q))
+      applies st Follows w is a q = follows_at st w q
+      applies st Ends w is a q = q
+
+      over_tip : (st : Live Dir) (tip : Option Tip) (w : World) → Fitting st → AreAgreed st.records w.held → P w → Throughout P (b.over_tip_in c block st tip) w
+      over_tip st None w is a q =
+          along_if P w (b.is_in_window c block st) (b.applies c block st) (Stops (OutOfWindow block.height)) (λ e. applies st st.participation.stage w is a q) (λ e. q)
+      over_tip st (Some t) w is a q =
+          let low_one : Course Dir Fault (Live Dir) = if nat_le block.height t.height then Goes st else b.applies c block st in
+          let child : Course Dir Fault (Live Dir) = if (block.height == t.height + 1) && not (bytes_eq block.parent t.digest) then Stops (DetachedBlock block.height) else low_one in
+          let next : Course Dir Fault (Live Dir) = if nat_lt (t.height + 1) block.height then Stops (SkippedHeight (t.height + 1) block.height) else child in
+          along_if P w ((block.height == t.height) && not (bytes_eq block.digest t.digest)) (Stops (ConflictingBlock block.height)) next (λ e. q)
+          (λ e. along_if P w (nat_lt (t.height + 1) block.height) (Stops (SkippedHeight (t.height + 1) block.height)) child (λ e. q)
+          (λ e. along_if P w ((block.height == t.height + 1) && not (bytes_eq block.parent t.digest)) (Stops (DetachedBlock block.height)) low_one (λ e. q)
+          (λ e. along_if P w (nat_le block.height t.height) (Goes st) (b.applies c block st) (λ e. q) (λ e. applies st st.participation.stage w is a q))))
+
+      in_reach : (st : Live Dir) (w : World) → Fitting st → AreAgreed st.records w.held → P w → Throughout {Dir = Dir} P (if s.is_past_range c block.height then Stops HeightRange else b.over_tip c block st) w
+      in_reach st w is a q = along_if P w (s.is_past_range c block.height) (Stops HeightRange) (b.over_tip c block st) (λ e. q) (λ e. over_tip st st.tip w is a q)
+
+      delivers : (st : Live Dir) (stage : Stage) (w : World) → Fitting st → AreAgreed st.records w.held → P w → Throughout P (b.delivers_in c block st stage) w
+      delivers st Deals w is a q = in_reach st w is a q
+      delivers st Includes w is a q = in_reach st w is a q
+      delivers st Follows w is a q = in_reach st w is a q
+      delivers st Ends w is a q = q
+
+  steps : (st : Live Dir) (message : Message Dir) (w : World) → reach_of c message ≤ most → CanRecord c st message → AreAgreed st.records w.held → P w → Throughout P (step c message st) w
+  steps st (Finalized block) w low can a q = delivers block low can.acks can.brings st st.participation.stage w can.dealing a q
+  steps st (Sent (Peer from bytes)) w low can a q = hears from bytes st st.participation.stage w can.brings a q
+  steps st (Sent (NextLog request height)) w low can a q = gives request height (i.served_now st) (with_used request st) w q
+  steps st (Sent (ReleaseLog height)) w low can a q = q
+  steps st (Sent (EpochInfoOf request)) w low can a q = asks_in request (with_used request st) st.participation.stage w q
+  steps st (Sent (Feed request block)) w low can a q = advanced (i.changed request (λ r. if r.ended then r else record r { blocks = r.blocks ++ block ∷ [] }) st) w q
+  steps st (Sent (Over request)) w low can a q = advanced (i.changed request (λ r. record r { ended = true }) st) w q
+  steps st (Sent (Cancel request)) w low can a q = cancels request st w q
+  steps st (Sent (Work handed)) w low can a q = works handed st w q
+
+pub steps_keep : {Dir : Type 0} → StepsKeep Dir
+steps_keep c st message most base w low a can q = steps c most base st message w low can a q
