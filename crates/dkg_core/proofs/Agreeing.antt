@@ -60,7 +60,6 @@ use Rattle.dkg_store.proofs.Pairs.{record_one}
 use Rattle.dkg_store.proofs.Pruned.{recovered_from, acks_from, logs_from}
 use Rattle.dkg_store.proofs.Silent.{says_dealing}
 use Rattle.dkg_store.proofs.Tried.{all_done}
-use Rattle.dkg_core.specs.Seen.{Seen, seen_in}
 use Rattle.dkg_core.specs.Sources.{Tip, startup}
 use Rattle.dkg_core.specs.Courses.{Course, Say, Do, Call, Ask, Goes, Stops, Tracks, bind, Finishes}
 use Rattle.dkg_core.specs.Fixed.{Fixed, Material, OneShot, has, start}
@@ -145,7 +144,7 @@ kept min k = nat_le min k.0
 alike : (min : ℕ) (k x : ℕ × ℕ) → key_cmp k x ≡ Equal → kept min x ≡ kept min k
 alike min k x tied = ap (kept min) (sym (exact_keys k x tied))
 
-entries_kept : {V : Type 0} (m : FinMap key_cmp V) (min : ℕ) → maps.entries (retain_keys m (kept min)) ≡ s.kept_from min (maps.entries m)
+pub entries_kept : {V : Type 0} (m : FinMap key_cmp V) (min : ℕ) → maps.entries (retain_keys m (kept min)) ≡ s.kept_from min (maps.entries m)
 entries_kept {V} m min =
     let es : List ((ℕ × ℕ) × V) = where_key key_cmp (kept min) (maps.entries m) in
     let sorted = is_sorted-where_key key_cmp (kept min) (maps.entries m) (entries_sorted m) in
@@ -214,7 +213,7 @@ not_there (Some a) e = absurd (let f : ◌≡◌ {A = Bool} true false = e in cc
 unnoted : {V : Type 0} (m : Notes V) (records : List ((ℕ × ℕ) × V)) (k : ℕ × ℕ) → records ≡ maps.entries m → find key_cmp k records ≡ None → get m k ≡ None
 unnoted m records k same none = get-entries m k ∙ ap (find key_cmp k) (sym same) ∙ none
 
-put_same : {V : Type 0} (m : Notes V) (records : List ((ℕ × ℕ) × V)) (k : ℕ × ℕ) (v : V) → records ≡ maps.entries m → put key_cmp k v records ≡ maps.entries (maps.insert m k v)
+pub put_same : {V : Type 0} (m : Notes V) (records : List ((ℕ × ℕ) × V)) (k : ℕ × ℕ) (v : V) → records ≡ maps.entries m → put key_cmp k v records ≡ maps.entries (maps.insert m k v)
 put_same m records k v same = ap (put key_cmp k v) same ∙ sym (entries-insert keys_total m k v)
 
 module _ (epoch : ℕ) (h : Held) where
@@ -762,7 +761,7 @@ pub steps_agree : {Dir : Type 0} → StepsAgree Dir
 steps_agree c st end message w new a can done = lands_at (step c message st) w new end (steps c st message w.held can a) done
 
 pub openings_agree : {Dir : Type 0} → OpeningsAgree Dir
-openings_agree {Dir} c sealed anchor held end w new meant whole done =
+openings_agree c end w new reads whole done =
     let opened : Held = after (OnDisk (Opens c.opening_calls)) (after (OnDisk Bars) w.held) in
     lands_at (opening c) w new end
-    (opens c c.oneshot (begun (c.seen opened)) opened (subst (λ (seen : Held → Seen). AreAgreed (begun {Dir = Dir} (seen opened)).records opened) (sym meant.reads) (record { whole = whole; dealings = refl; acks = refl; logs = refl }))) done
+    (opens c c.oneshot (begun (c.seen opened)) opened (record { whole = whole; dealings = reads.dealings opened; acks = reads.acks opened; logs = reads.logs opened })) done
