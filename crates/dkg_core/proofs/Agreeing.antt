@@ -1,14 +1,13 @@
 -- Memory and devices agree behind every completed opening and step.
-use Rattle.std.proofs.Common.{◌≡◌, ◌≤◌, ℕ, zero, suc, cond, Bool, true, false, nat_le, List, [], ◌∷◌, ◌++◌, fold, Option, Some, None, IsSome, refl, sym, ◌∙◌, ap, subst, arith}
-use Rattle.std.specs.Prelude.{◌+◌, ◌-◌, ◌^◌, ◌==◌, ◌&&◌, ◌||◌, nat_lt, length, filter, find as first_of, if◌then◌else◌, not, Result, Ok, Err, is_ok, is_some, is_none, option_and_then, option_map}
+use Rattle.std.proofs.Common.{◌≡◌, ◌≤◌, ℕ, zero, suc, cond, Bool, true, false, nat_le, List, [], ◌∷◌, ◌++◌, Option, Some, None, IsSome, refl, sym, ◌∙◌, ap, subst, arith}
+use Rattle.std.specs.Prelude.{◌+◌, ◌-◌, ◌^◌, ◌==◌, ◌&&◌, ◌||◌, nat_lt, length, filter, if◌then◌else◌, not, Result, Ok, Err, is_ok, is_some, is_none, option_and_then, option_map}
 use Rattle.std.proofs.lemmas.Bool.Decides.{nat_tests}
 use Rattle.std.specs.Option.{option_map_or}
 use Rattle.std.specs.Str.{bytes_eq}
-use Rattle.std.specs.Ordering.{eq_by_cmp}
 use Rattle.std.specs.declared.cmp.Ordering.TheVariants.{Equal}
 use Rattle.std.specs.FinMap as maps
 use Rattle.std.specs.FinMap.{FinMap, find, put, get, empty, retain_keys, get-retain_keys, get-entries, entries-insert, from_sorted, entries-from_sorted, get-from_sorted, entries_sorted, same_map}
-use Rattle.std.specs.FinMap.Entries.{where_key, is_sorted, is_sorted-where_key, find-where_key}
+use Rattle.std.specs.FinMap.Entries.{where_key, is_sorted-where_key, find-where_key}
 use Rattle.dkg_values.specs.Codec.{whole as all_of}
 use Rattle.dkg_values.specs.Rising.{lookup}
 use Rattle.dkg_values.specs.declared.codec.CodecError.{CodecError}
@@ -22,9 +21,9 @@ use Rattle.dkg_ceremony.specs.declared.round.Round.{Round}
 use Rattle.dkg_ceremony.specs.declared.round.RoundError.{RoundError}
 use Rattle.dkg_ceremony.specs.declared.signed_log.SignedDealerLog.{SignedDealerLog}
 use Rattle.dkg_ceremony.specs.Outcomes.{LogMap}
-use Rattle.dkg_ceremony.specs.Schedule.{epoch_of, boundary, midpoint, last}
+use Rattle.dkg_ceremony.specs.Schedule.{boundary, midpoint, last}
 use Rattle.dkg_journal.specs.Operations.{Bars, Opens, Appends, Prunes, PutsPlan, ClearsPlan}
-use Rattle.dkg_journal.specs.Records.{Entry, placed, from_section}
+use Rattle.dkg_journal.specs.Records.{Entry, from_section}
 use Rattle.dkg_types.specs.Blocks.{Block}
 use Rattle.dkg_types.specs.BlockCodes.{info_of}
 use Rattle.dkg_types.specs.declared.entry.Entry.TheVariants as lines
@@ -49,12 +48,11 @@ use Rattle.dkg_store.specs.declared.event.Event.TheVariants as events
 use Rattle.dkg_store.specs.declared.secrets.SecretOp.TheVariants.{PutShare, PutSeed, PutDealing, Prune}
 use Rattle.dkg_store.specs.Keys.{key_cmp}
 use Rattle.dkg_store.specs.Noted.{Notes, noted_ack, noted_log, acks_in, logs_in}
-use Rattle.dkg_store.specs.Pairs.{Pairs, Dealing, IsWhole, HasHalf, recovered, dealing_of, dealing_in}
+use Rattle.dkg_store.specs.Pairs.{Dealing, IsWhole, HasHalf, recovered, dealing_of, dealing_in}
 use Rattle.dkg_store.specs.Secrets.{Secrets}
 use Rattle.dkg_store.specs.Secrets as of_secrets
-use Rattle.dkg_store.specs.declared.recorded_log.RecordedLog.{RecordedLog}
 use Rattle.dkg_store.proofs.Halves.{recovered_at, prune_halves}
-use Rattle.dkg_store.proofs.Map.{below_or, keys_total, exact_keys}
+use Rattle.dkg_store.proofs.Map.{keys_total, exact_keys}
 use Rattle.dkg_store.proofs.Noted.{says_ack, says_log, noted_placed, noted_silent}
 use Rattle.dkg_store.proofs.Pairs.{record_one}
 use Rattle.dkg_store.proofs.Pruned.{recovered_from, acks_from, logs_from}
@@ -63,7 +61,7 @@ use Rattle.dkg_store.proofs.Tried.{all_done}
 use Rattle.dkg_core.specs.Sources.{Tip, startup}
 use Rattle.dkg_core.specs.Courses.{Course, Say, Do, Call, Ask, Goes, Stops, Tracks, bind, Finishes}
 use Rattle.dkg_core.specs.Fixed.{Fixed, Material, OneShot, has, start}
-use Rattle.dkg_core.specs.Live.{Live, Records, Dealer, Seat, Plays, Watches, Stage, Deals, Includes, Follows, Ends, Request, Job, Verified, VerifiedLogs, Artifact, Mail, Message, Sent, Peer, Finalized, NextLog, ReleaseLog, EpochInfoOf, Feed, Over, Cancel, Work, awaited_height, recorded_at, of_epoch, phase_of, with_tip, with_participation, with_inclusion, with_queue, with_used, is_last_height}
+use Rattle.dkg_core.specs.Live.{Live, Records, Dealer, Seat, Plays, Watches, Stage, Deals, Includes, Follows, Ends, Request, Job, Verified, VerifiedLogs, Artifact, Message, Sent, Peer, Finalized, NextLog, ReleaseLog, EpochInfoOf, Feed, Over, Cancel, Work, awaited_height, recorded_at, of_epoch, phase_of, with_tip, with_participation, with_inclusion, with_queue, with_used, is_last_height}
 use Rattle.dkg_core.specs.Logs.{canonical, filled_by, is_accepted, log_event, logs_of, recorded_log}
 use Rattle.dkg_core.specs.Setup as s
 use Rattle.dkg_core.specs.Dealing as d

@@ -55,7 +55,7 @@ module _ {Dir : Type 0} (c : Fixed Dir) (most : ℕ) (starts : StartsWithin c mo
       (lower (epoch_of c.blocks_per_epoch (awaited_height st) - 1) most le) (λ past st e. tt) (setups_prune c material st past)
 
   -- the height that is awaited over a floor: that above the position, or the floor's
-  above_floor : (P : ℕ → Type 0) (tip : Option Tip) (b : Block Dir) → P (option_map_or (λ t. t.height + 1) tip 0) → P b.height → P (option_map_or (λ t. t.height + 1) (over_floor tip b) 0)
+  pub above_floor : (P : ℕ → Type 0) (tip : Option Tip) (b : Block Dir) → P (option_map_or (λ t. t.height + 1) tip 0) → P b.height → P (option_map_or (λ t. t.height + 1) (over_floor tip b) 0)
   above_floor P tip b by_anchor by_floor =
       elim (b.height == 0) as (λ zero. (b.height == 0) ≡ zero → P (option_map_or (λ (t : Tip). t.height + 1)
       (if zero then tip else if option_map_or (λ (t : Tip). nat_le b.height t.height) tip false then tip else Some (record { height = b.height - 1; digest = b.parent })) 0)) [

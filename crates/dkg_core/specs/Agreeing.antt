@@ -1,5 +1,5 @@
 -- Memory has what the devices give back, behind every completed opening and step.
-use Rattle.std.specs.Prelude.{ℕ, List, [], ◌≡◌, Some, option_and_then}
+use Rattle.std.specs.Prelude.{ℕ, List, ◌≡◌, Some, option_and_then}
 use Rattle.std.specs.FinMap as maps
 use Rattle.dkg_ceremony.specs.declared.round.Round.{Round}
 use Rattle.dkg_ceremony.specs.declared.signed_log.SignedDealerLog.{SignedDealerLog}
