@@ -1,14 +1,13 @@
 -- Memory and devices agree behind every completed opening and step.
-use Rattle.std.proofs.Common.{◌≡◌, ◌≤◌, ℕ, zero, suc, cond, Bool, true, false, nat_le, List, [], ◌∷◌, ◌++◌, fold, Option, Some, None, IsSome, refl, sym, ◌∙◌, ap, subst, arith}
-use Rattle.std.specs.Prelude.{◌+◌, ◌-◌, ◌^◌, ◌==◌, ◌&&◌, ◌||◌, nat_lt, length, filter, find as first_of, if◌then◌else◌, not, Result, Ok, Err, is_ok, is_some, is_none, option_and_then, option_map}
+use Rattle.std.proofs.Common.{◌≡◌, ◌≤◌, ℕ, zero, suc, cond, Bool, true, false, nat_le, List, [], ◌∷◌, ◌++◌, Option, Some, None, IsSome, refl, sym, ◌∙◌, ap, subst, arith}
+use Rattle.std.specs.Prelude.{◌+◌, ◌-◌, ◌^◌, ◌==◌, ◌&&◌, ◌||◌, nat_lt, length, filter, if◌then◌else◌, not, Result, Ok, Err, is_ok, is_some, is_none, option_and_then, option_map}
 use Rattle.std.proofs.lemmas.Bool.Decides.{nat_tests}
 use Rattle.std.specs.Option.{option_map_or}
 use Rattle.std.specs.Str.{bytes_eq}
-use Rattle.std.specs.Ordering.{eq_by_cmp}
 use Rattle.std.specs.declared.cmp.Ordering.TheVariants.{Equal}
 use Rattle.std.specs.FinMap as maps
 use Rattle.std.specs.FinMap.{FinMap, find, put, get, empty, retain_keys, get-retain_keys, get-entries, entries-insert, from_sorted, entries-from_sorted, get-from_sorted, entries_sorted, same_map}
-use Rattle.std.specs.FinMap.Entries.{where_key, is_sorted, is_sorted-where_key, find-where_key}
+use Rattle.std.specs.FinMap.Entries.{where_key, is_sorted-where_key, find-where_key}
 use Rattle.dkg_values.specs.Codec.{whole as all_of}
 use Rattle.dkg_values.specs.Rising.{lookup}
 use Rattle.dkg_values.specs.declared.codec.CodecError.{CodecError}
@@ -22,9 +21,9 @@ use Rattle.dkg_ceremony.specs.declared.round.Round.{Round}
 use Rattle.dkg_ceremony.specs.declared.round.RoundError.{RoundError}
 use Rattle.dkg_ceremony.specs.declared.signed_log.SignedDealerLog.{SignedDealerLog}
 use Rattle.dkg_ceremony.specs.Outcomes.{LogMap}
-use Rattle.dkg_ceremony.specs.Schedule.{epoch_of, boundary, midpoint, last}
+use Rattle.dkg_ceremony.specs.Schedule.{boundary, midpoint, last}
 use Rattle.dkg_journal.specs.Operations.{Bars, Opens, Appends, Prunes, PutsPlan, ClearsPlan}
-use Rattle.dkg_journal.specs.Records.{Entry, placed, from_section}
+use Rattle.dkg_journal.specs.Records.{Entry, from_section}
 use Rattle.dkg_types.specs.Blocks.{Block}
 use Rattle.dkg_types.specs.BlockCodes.{info_of}
 use Rattle.dkg_types.specs.declared.entry.Entry.TheVariants as lines
@@ -49,22 +48,20 @@ use Rattle.dkg_store.specs.declared.event.Event.TheVariants as events
 use Rattle.dkg_store.specs.declared.secrets.SecretOp.TheVariants.{PutShare, PutSeed, PutDealing, Prune}
 use Rattle.dkg_store.specs.Keys.{key_cmp}
 use Rattle.dkg_store.specs.Noted.{Notes, noted_ack, noted_log, acks_in, logs_in}
-use Rattle.dkg_store.specs.Pairs.{Pairs, Dealing, IsWhole, HasHalf, recovered, dealing_of, dealing_in}
+use Rattle.dkg_store.specs.Pairs.{Dealing, IsWhole, HasHalf, recovered, dealing_of, dealing_in}
 use Rattle.dkg_store.specs.Secrets.{Secrets}
 use Rattle.dkg_store.specs.Secrets as of_secrets
-use Rattle.dkg_store.specs.declared.recorded_log.RecordedLog.{RecordedLog}
 use Rattle.dkg_store.proofs.Halves.{recovered_at, prune_halves}
-use Rattle.dkg_store.proofs.Map.{below_or, keys_total, exact_keys}
+use Rattle.dkg_store.proofs.Map.{keys_total, exact_keys}
 use Rattle.dkg_store.proofs.Noted.{says_ack, says_log, noted_placed, noted_silent}
 use Rattle.dkg_store.proofs.Pairs.{record_one}
 use Rattle.dkg_store.proofs.Pruned.{recovered_from, acks_from, logs_from}
 use Rattle.dkg_store.proofs.Silent.{says_dealing}
 use Rattle.dkg_store.proofs.Tried.{all_done}
-use Rattle.dkg_core.specs.Seen.{Seen, seen_in}
 use Rattle.dkg_core.specs.Sources.{Tip, startup}
 use Rattle.dkg_core.specs.Courses.{Course, Say, Do, Call, Ask, Goes, Stops, Tracks, bind, Finishes}
 use Rattle.dkg_core.specs.Fixed.{Fixed, Material, OneShot, has, start}
-use Rattle.dkg_core.specs.Live.{Live, Records, Dealer, Seat, Plays, Watches, Stage, Deals, Includes, Follows, Ends, Request, Job, Verified, VerifiedLogs, Artifact, Mail, Message, Sent, Peer, Finalized, NextLog, ReleaseLog, EpochInfoOf, Feed, Over, Cancel, Work, awaited_height, recorded_at, of_epoch, phase_of, with_tip, with_participation, with_inclusion, with_queue, with_used, is_last_height}
+use Rattle.dkg_core.specs.Live.{Live, Records, Dealer, Seat, Plays, Watches, Stage, Deals, Includes, Follows, Ends, Request, Job, Verified, VerifiedLogs, Artifact, Message, Sent, Peer, Finalized, NextLog, ReleaseLog, EpochInfoOf, Feed, Over, Cancel, Work, awaited_height, recorded_at, of_epoch, phase_of, with_tip, with_participation, with_inclusion, with_queue, with_used, is_last_height}
 use Rattle.dkg_core.specs.Logs.{canonical, filled_by, is_accepted, log_event, logs_of, recorded_log}
 use Rattle.dkg_core.specs.Setup as s
 use Rattle.dkg_core.specs.Dealing as d
@@ -145,7 +142,7 @@ kept min k = nat_le min k.0
 alike : (min : ℕ) (k x : ℕ × ℕ) → key_cmp k x ≡ Equal → kept min x ≡ kept min k
 alike min k x tied = ap (kept min) (sym (exact_keys k x tied))
 
-entries_kept : {V : Type 0} (m : FinMap key_cmp V) (min : ℕ) → maps.entries (retain_keys m (kept min)) ≡ s.kept_from min (maps.entries m)
+pub entries_kept : {V : Type 0} (m : FinMap key_cmp V) (min : ℕ) → maps.entries (retain_keys m (kept min)) ≡ s.kept_from min (maps.entries m)
 entries_kept {V} m min =
     let es : List ((ℕ × ℕ) × V) = where_key key_cmp (kept min) (maps.entries m) in
     let sorted = is_sorted-where_key key_cmp (kept min) (maps.entries m) (entries_sorted m) in
@@ -214,7 +211,7 @@ not_there (Some a) e = absurd (let f : ◌≡◌ {A = Bool} true false = e in cc
 unnoted : {V : Type 0} (m : Notes V) (records : List ((ℕ × ℕ) × V)) (k : ℕ × ℕ) → records ≡ maps.entries m → find key_cmp k records ≡ None → get m k ≡ None
 unnoted m records k same none = get-entries m k ∙ ap (find key_cmp k) (sym same) ∙ none
 
-put_same : {V : Type 0} (m : Notes V) (records : List ((ℕ × ℕ) × V)) (k : ℕ × ℕ) (v : V) → records ≡ maps.entries m → put key_cmp k v records ≡ maps.entries (maps.insert m k v)
+pub put_same : {V : Type 0} (m : Notes V) (records : List ((ℕ × ℕ) × V)) (k : ℕ × ℕ) (v : V) → records ≡ maps.entries m → put key_cmp k v records ≡ maps.entries (maps.insert m k v)
 put_same m records k v same = ap (put key_cmp k v) same ∙ sym (entries-insert keys_total m k v)
 
 module _ (epoch : ℕ) (h : Held) where
@@ -762,7 +759,7 @@ pub steps_agree : {Dir : Type 0} → StepsAgree Dir
 steps_agree c st end message w new a can done = lands_at (step c message st) w new end (steps c st message w.held can a) done
 
 pub openings_agree : {Dir : Type 0} → OpeningsAgree Dir
-openings_agree {Dir} c sealed anchor held end w new meant whole done =
+openings_agree c end w new reads whole done =
     let opened : Held = after (OnDisk (Opens c.opening_calls)) (after (OnDisk Bars) w.held) in
     lands_at (opening c) w new end
-    (opens c c.oneshot (begun (c.seen opened)) opened (subst (λ (seen : Held → Seen). AreAgreed (begun {Dir = Dir} (seen opened)).records opened) (sym meant.reads) (record { whole = whole; dealings = refl; acks = refl; logs = refl }))) done
+    (opens c c.oneshot (begun (c.seen opened)) opened (record { whole = whole; dealings = reads.dealings opened; acks = reads.acks opened; logs = reads.logs opened })) done

@@ -18,9 +18,8 @@ use Rattle.dkg_types.specs.Validation.{validation}
 use Rattle.dkg_journal.specs.Operations.{Bars, Opens, Appends, Prunes, PutsPlan, ClearsPlan}
 use Rattle.dkg_store.specs.Acts.{Held, Operation, OnDisk, Changes, after}
 use Rattle.dkg_core.specs.Courses.{Course, Do, Call, Stops, Tracks, Deed, Said, Did, Called, deeds_of}
-use Rattle.dkg_store.specs.Recorded.{restored_of}
+use Rattle.dkg_store.specs.Recorded.{Pair, restored_of}
 use Rattle.dkg_store.specs.declared.secrets.SecretOp.TheVariants.{PutShare, PutSeed, PutDealing, Prune}
-use Rattle.dkg_core.specs.Seen.{Seen}
 use Rattle.dkg_core.specs.Sources.{Tip, position, over_floor, startup}
 use Rattle.dkg_core.specs.Fixed.{Fixed, Material, OneShot, start}
 use Rattle.dkg_core.specs.Live.{Live, awaited_height}
@@ -56,7 +55,7 @@ module _ {Dir : Type 0} (c : Fixed Dir) (most : ℕ) (starts : StartsWithin c mo
       (lower (epoch_of c.blocks_per_epoch (awaited_height st) - 1) most le) (λ past st e. tt) (setups_prune c material st past)
 
   -- the height that is awaited over a floor: that above the position, or the floor's
-  above_floor : (P : ℕ → Type 0) (tip : Option Tip) (b : Block Dir) → P (option_map_or (λ t. t.height + 1) tip 0) → P b.height → P (option_map_or (λ t. t.height + 1) (over_floor tip b) 0)
+  pub above_floor : (P : ℕ → Type 0) (tip : Option Tip) (b : Block Dir) → P (option_map_or (λ t. t.height + 1) tip 0) → P b.height → P (option_map_or (λ t. t.height + 1) (over_floor tip b) 0)
   above_floor P tip b by_anchor by_floor =
       elim (b.height == 0) as (λ zero. (b.height == 0) ≡ zero → P (option_map_or (λ (t : Tip). t.height + 1)
       (if zero then tip else if option_map_or (λ (t : Tip). nat_le b.height t.height) tip false then tip else Some (record { height = b.height - 1; digest = b.parent })) 0)) [
@@ -148,7 +147,7 @@ pub openings_prune : {Dir : Type 0} → OpeningsPrune Dir
 openings_prune c most starts = (tt, (tt, λ h. (tt, opens c most starts _ c.oneshot (begun (c.seen h)))))
 
 pub openings_restore : {Dir : Type 0} → OpeningsRestore Dir
-openings_restore c sealed anchor held h meant =
+openings_restore c h reads =
     let opened : Held = after (OnDisk (Opens c.opening_calls)) (after (OnDisk Bars) h) in
     let rest = deeds_of (opens_in c c.oneshot (begun (c.seen opened))) opened in
-    (rest, ap (λ (seen : Held → Seen). Did (OnDisk Bars) ∷ Did (OnDisk (Opens c.opening_calls)) ∷ Said (Opened c.life (map restored_of (seen opened).dealings)) ∷ rest) meant.reads)
+    (rest, ap (λ (dealings : List Pair). Did (OnDisk Bars) ∷ Did (OnDisk (Opens c.opening_calls)) ∷ Said (Opened c.life (map restored_of dealings)) ∷ rest) (reads.dealings opened))

@@ -1,10 +1,8 @@
 -- Memory has what the devices give back, behind every completed opening and step.
-use Rattle.std.specs.Prelude.{ℕ, List, [], ◌≡◌, Option, Some, option_and_then}
+use Rattle.std.specs.Prelude.{ℕ, List, ◌≡◌, Some, option_and_then}
 use Rattle.std.specs.FinMap as maps
 use Rattle.dkg_ceremony.specs.declared.round.Round.{Round}
 use Rattle.dkg_ceremony.specs.declared.signed_log.SignedDealerLog.{SignedDealerLog}
-use Rattle.dkg_types.specs.Blocks.{Block}
-use Rattle.dkg_types.specs.declared.finalization.Finalization.{Finalization}
 use Rattle.dkg_types.specs.PayloadCodes.{its_log}
 use Rattle.dkg_store.specs.Acts.{Held, World, notes}
 use Rattle.dkg_store.specs.Events.{IsEvent}
@@ -12,12 +10,11 @@ use Rattle.dkg_store.specs.declared.event.Event.TheVariants as events
 use Rattle.dkg_store.specs.Noted.{acks_in, logs_in}
 use Rattle.dkg_store.specs.Pairs.{IsWhole}
 use Rattle.dkg_core.specs.Courses.{Finishes}
-use Rattle.dkg_core.specs.Sources.{Anchor}
 use Rattle.dkg_core.specs.Fixed.{Fixed}
 use Rattle.dkg_core.specs.Live.{Live, Records, Dealer, Message, Sent, Peer, Finalized}
 use Rattle.dkg_core.specs.Core.{opening, step}
 use Rattle.dkg_core.specs.Heard.{recovered_in, Fits}
-use Rattle.dkg_core.specs.Meant.{IsMeant}
+use Rattle.dkg_core.specs.Meant.{ReadsRecords}
 
 -- The devices are whole, and give back what is recorded in memory.
 pub record AreAgreed (r : Records) (h : Held) : Type 0 where
@@ -45,5 +42,5 @@ StepsAgree Dir = (c : Fixed Dir) (st end : Live Dir) (message : Message Dir) (w 
 
 -- AN OPENING, in either mode
 abbrev pub OpeningsAgree : Type 0 → Type 0
-OpeningsAgree Dir = (c : Fixed Dir) (sealed : Block Dir → Option Finalization) (anchor : Option (Anchor Dir)) (held : List (Block Dir)) (end : Live Dir) (w new : World)
-    → IsMeant c sealed anchor held [] → IsWhole (notes w.held) w.held.secrets → Finishes (opening c) end w new → AreAgreed end.records new.held
+OpeningsAgree Dir = (c : Fixed Dir) (end : Live Dir) (w new : World)
+    → ReadsRecords c.seen → IsWhole (notes w.held) w.held.secrets → Finishes (opening c) end w new → AreAgreed end.records new.held

@@ -1,18 +1,19 @@
--- What any step keeps, wherever it ends: the devices are whole, and what was told of dealings is given back.
+-- What any step and any opening keeps, wherever it ends: the devices are whole, and what was told of dealings is given back.
 use Rattle.std.specs.Prelude.{ℕ, List, ◌++◌, ◌≤◌, ◌≡◌, Some}
 use Rattle.std.specs.List.{AllByRecursion}
 use Rattle.std.specs.FinMap.{get}
 use Rattle.dkg_ceremony.specs.declared.round.Round.{Round}
 use Rattle.dkg_types.specs.declared.entry.Entry.{Entry as Line}
 use Rattle.dkg_types.specs.declared.entry.Entry.TheVariants.{Recorded, Ack}
-use Rattle.dkg_store.specs.Acts.{Held, World, notes}
+use Rattle.dkg_types.specs.declared.fault.Fault.{Fault}
+use Rattle.dkg_store.specs.Acts.{Held, World, Ended, notes}
 use Rattle.dkg_store.specs.Pairs.{IsWhole}
-use Rattle.dkg_core.specs.Courses.{Throughout}
+use Rattle.dkg_core.specs.Courses.{Throughout, EndsSo}
 use Rattle.dkg_core.specs.Fixed.{Fixed}
 use Rattle.dkg_core.specs.Live.{Live, Message}
-use Rattle.dkg_core.specs.Core.{step}
+use Rattle.dkg_core.specs.Core.{opening, step}
 use Rattle.dkg_core.specs.Heard.{recovered_in}
-use Rattle.dkg_core.specs.Laws.{reach_of}
+use Rattle.dkg_core.specs.Laws.{reach_of, StartsWithin}
 use Rattle.dkg_core.specs.Agreeing.{AreAgreed, CanRecord}
 
 -- this node's acknowledgement of a public half, by round and dealer
@@ -38,3 +39,14 @@ abbrev pub StepsKeep : Type 0 → Type 0
 StepsKeep Dir = (c : Fixed Dir) (st : Live Dir) (message : Message Dir) (most : ℕ) (base : List Line) (w : World) → reach_of c message ≤ most
     → AreAgreed st.records w.held → CanRecord c st message → IsKeptFrom (c.rules.ack_of c.me) most base w
     → Throughout (IsKeptFrom (c.rules.ack_of c.me) most base) (step c message st) w
+
+-- .. and gives back each dealing that was given back before it, of those epochs, whether or not it was told.
+abbrev pub StepsGiveBack : Type 0 → Type 0
+StepsGiveBack Dir = (c : Fixed Dir) (st : Live Dir) (message : Message Dir) (ended : Ended Fault (Live Dir)) (most : ℕ) (w new : World) → reach_of c message ≤ most
+    → AreAgreed st.records w.held → CanRecord c st message → EndsSo (step c message st) ended w new
+    → (key : ℕ × ℕ) (pair : List ℕ × ℕ) → most ≤ key.0 → get (recovered_in w.held) key ≡ Some pair → get (recovered_in new.held) key ≡ Some pair
+
+-- SO DOES AN OPENING, of the epoch that it starts in and of the one before on.
+abbrev pub OpeningsEndure : Type 0 → Type 0
+OpeningsEndure Dir = (c : Fixed Dir) (ack_of : AckOf) (most : ℕ) (base : List Line) (w : World) → StartsWithin c most
+    → IsKeptFrom ack_of most base w → Throughout (IsKeptFrom ack_of most base) (opening c) w

@@ -1,8 +1,6 @@
 -- What a peer's message leaves, at every exit: on the devices, and in the transcript.
 use Rattle.std.specs.Prelude.{ℕ, List, [], ◌∷◌, ◌++◌, ◌-◌, ◌≤◌, ◌≡◌, ◌⊎◌, Option, Some, Ok}
 use Rattle.dkg_ceremony.specs.Schedule.{epoch_of}
-use Rattle.dkg_types.specs.Blocks.{Block}
-use Rattle.dkg_types.specs.declared.finalization.Finalization.{Finalization}
 use Rattle.dkg_types.specs.declared.info.EpochInfo.{EpochInfo}
 use Rattle.std.specs.List.{AllByRecursion}
 use Rattle.std.specs.FinMap as maps
@@ -24,8 +22,7 @@ use Rattle.dkg_store.specs.Pairs.{Pairs, IsWhole, recovered}
 use Rattle.dkg_core.specs.Fixed.{Fixed}
 use Rattle.dkg_core.specs.Live.{Live, Sent, Peer, awaited_height}
 use Rattle.dkg_core.specs.Setup.{setup}
-use Rattle.dkg_core.specs.Sources.{Anchor}
-use Rattle.dkg_core.specs.Meant.{IsMeant}
+use Rattle.dkg_core.specs.Meant.{ReadsRecords}
 use Rattle.dkg_core.specs.Core.{opening, step}
 use Rattle.dkg_core.specs.Laws.{IsAccepted, StartsWithin}
 
@@ -74,7 +71,7 @@ OpeningsKeep Dir = (c : Fixed Dir) (most : ℕ) (w : World) → StartsWithin c m
 
 -- .. and lists what the devices give back.
 abbrev pub OpeningsRestore : Type 0 → Type 0
-OpeningsRestore Dir = (c : Fixed Dir) (sealed : Block Dir → Option Finalization) (anchor : Option (Anchor Dir)) (held : List (Block Dir)) (h : Held) → IsMeant c sealed anchor held []
+OpeningsRestore Dir = (c : Fixed Dir) (h : Held) → ReadsRecords c.seen
     → (rest : List (Deed Dir)) × (deeds_of (opening c) h ≡ Did (OnDisk Bars) ∷ Did (OnDisk (Opens c.opening_calls)) ∷ Said (Opened c.life (restored_list (recovered_in h))) ∷ rest)
 
 -- A PEER'S MESSAGE KEEPS THE PROMISE, wherever the step ends and whatever an operation in hand leaves.

@@ -22,3 +22,4 @@ pub mod Probing
 pub mod Seen
 pub mod Setup
 pub mod Sources
+pub mod Transcripts

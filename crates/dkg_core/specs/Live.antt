@@ -1,5 +1,5 @@
 -- What a node has in memory while it lives, by half, and the events that it takes.
-use Rattle.std.specs.Prelude.{ℕ, Bool, List, ◌∷◌, ◌+◌, ◌==◌, Option, Some, filter, map}
+use Rattle.std.specs.Prelude.{ℕ, Bool, List, ◌∷◌, ◌+◌, ◌^◌, ◌==◌, ◌&&◌, nat_lt, Option, Some, filter, map}
 use Rattle.std.specs.Option.{option_map_or}
 use Rattle.std.specs.FinMap.{find as found_at}
 use Rattle.dkg_ceremony.specs.declared.signed_log.SignedDealerLog.{SignedDealerLog}
@@ -255,4 +255,4 @@ recorded_at records epoch key = found_at key_cmp (epoch, key) records
 
 -- what is recorded of an epoch, by key
 abbrev pub of_epoch : {V : Type 0} → (epoch : ℕ) → List ((ℕ × ℕ) × V) → List (ℕ × V)
-of_epoch epoch records = map (λ r. (r.0.1, r.1)) (filter (λ r. r.0.0 == epoch) records)
+of_epoch epoch records = map (λ r. (r.0.1, r.1)) (filter (λ r. (r.0.0 == epoch) && nat_lt r.0.1 (2 ^ 32)) records)

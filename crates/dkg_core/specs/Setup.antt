@@ -154,9 +154,9 @@ dealer_from c round st dealt =
 abbrev pub is_lost : {Dir : Type 0} → Fixed Dir → Round → List (ℕ × (List ℕ × ℕ)) → LogMap → Bool
 is_lost c round dealings logs = list_any (λ log. c.rules.bears_ack_of round log.0 log.1 c.me && not (has_public log.1.public (lookup log.0 dealings))) logs
 
--- the recorded dealings of an epoch, with their keys
+-- the recorded dealings of an epoch, with their keys (which a key's 32 bits hold)
 abbrev pub pairs_of : {Dir : Type 0} → Live Dir → (epoch : ℕ) → List Pair
-pairs_of st epoch = filter (λ p. p.0.0 == epoch) st.records.dealings
+pairs_of st epoch = filter (λ p. (p.0.0 == epoch) && nat_lt p.0.1 (2 ^ 32)) st.records.dealings
 
 abbrev pub part_of : Option Dealer → Seat → Part
 part_of (Some dealer) Plays = Both

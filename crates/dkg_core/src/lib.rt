@@ -10,10 +10,11 @@
 #![tactic(auto)]
 
 ghost use Rattle.dkg_core.specs.Agreeing.{OpeningsAgree, StepsAgree};
-ghost use Rattle.dkg_core.specs.Enduring.{StepsKeep};
+ghost use Rattle.dkg_core.specs.Enduring.{OpeningsEndure, StepsGiveBack, StepsKeep};
 ghost use Rattle.dkg_core.specs.Entry.{EntersRegistered, LastBlocksAreEntered};
 ghost use Rattle.dkg_core.specs.Heard.{OpeningsKeep, OpeningsRestore, PeersAgree, PeersAreKept, RunsAreKept, SetupsKeep};
 ghost use Rattle.dkg_core.specs.Laws.{DuesAreAnswered, OpeningsPrune, OthersAcknowledgeNothing, PeersAreHeard, SetupsAreSound, SetupsPrune};
+ghost use Rattle.dkg_core.specs.Transcripts.{TranscriptsMove};
 
 /// A peer's message records a valid dealing of its sender under a new key alone, behind its private half, and acknowledges only
 /// the dealing that is recorded by then.
@@ -106,4 +107,21 @@ pub fn openings_agree<Dir>()
 /// dealing that was told, of the epochs that the step prunes nothing of, is that of a dealing that they give back.
 pub fn steps_keep<Dir>()
     ensures { StepsKeep Dir }
+{}
+
+/// A run from another transcript says the same lines, does the same and ends the same.
+pub fn transcripts_move<F, S>()
+    ensures { TranscriptsMove F S }
+{}
+
+/// At every exit of any step the devices give back each dealing that they gave back before it, of the epochs that the step prunes
+/// nothing of.
+pub fn steps_give_back<Dir>()
+    ensures { StepsGiveBack Dir }
+{}
+
+/// At every exit of an opening, whatever an operation in hand leaves: the devices are whole, and each acknowledgement and each recorded
+/// dealing that was told, of the epoch that it starts in and of the one before on, is that of a dealing that they give back.
+pub fn openings_endure<Dir>()
+    ensures { OpeningsEndure Dir }
 {}
