@@ -390,6 +390,21 @@ fn a_job_is_copied(rt: HostRuntime) -> Result<(), Fail> {
     Ok(())
 }
 
+/// Whether a job of an observer is answered by what it sees of the logs, and not by what a player finishes with.
+fn is_answered<C: Ceremony>(alloc: Global, ceremony: &C) -> Result<bool, Fail> {
+    let job = job(alloc, both(alloc)?)?;
+    let seen = seen(alloc, ceremony, both(alloc)?)?;
+    let finished = finished(alloc, ceremony, both(alloc)?)?;
+    Ok(job.is_answered_by(&seen) && !job.is_answered_by(&finished))
+}
+
+#[test]
+fn a_job_is_answered_by_its_own_result(rt: HostRuntime) -> Result<(), Fail> {
+    let answered = is_answered(rt.alloc(), &StandCeremony)?;
+    assert!(rt; answered);
+    Ok(())
+}
+
 fn begin<C: Ceremony + Drop>(
     alloc: Global,
     verification: &mut Verification<C>,
