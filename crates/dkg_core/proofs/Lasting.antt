@@ -16,6 +16,7 @@ use Rattle.dkg_store.proofs.Halves.{recovered_at, share_halves, seed_halves, pru
 use Rattle.dkg_store.proofs.Map.{below_or, exact_keys}
 use Rattle.dkg_store.proofs.Pruned.{recovered_from}
 use Rattle.dkg_store.proofs.Tried.{all_done}
+use Rattle.dkg_core.specs.Fixed.{Fixed}
 use Rattle.dkg_core.specs.Live.{awaited_height}
 use Rattle.dkg_core.specs.Laws.{Keeps, prune_law, PrunesAtMost, OpeningOperation, opening_law}
 use Rattle.dkg_core.specs.Setup.{setup}
@@ -119,8 +120,8 @@ module _ {Dir : Type 0} where
     torn = λ past cause w new op law kept tears key above. torn_at (epoch - 1) op past cause w new key law tears above ∙ kept key above;
   }
 
-  opening_keeps : (most : ℕ) (h : Held) → Keeps (opening_law {Dir = Dir} most) (KeepsFrom most h)
-  opening_keeps most h = record {
+  opening_keeps : (c : Fixed Dir) (most : ℕ) (h : Held) → Keeps (opening_law c most) (KeepsFrom most h)
+  opening_keeps c most h = record {
     said = λ past w line law kept. kept;
     done = λ past w op law kept key above. opening_done most op past w key law above ∙ kept key above;
     torn = λ past cause w new op law kept tears key above. opening_torn most op past cause w new key law tears above ∙ kept key above;
@@ -128,7 +129,7 @@ module _ {Dir : Type 0} where
 
 pub openings_keep : {Dir : Type 0} → OpeningsKeep Dir
 openings_keep {Dir} c most w starts =
-    along (opening_law most) (KeepsFrom most w.held) (opening_keeps most w.held) [] (opening c) w (openings_prune c most starts) (λ key above. refl)
+    along (opening_law c most) (KeepsFrom most w.held) (opening_keeps c most w.held) [] (opening c) w (openings_prune c most starts) (λ key above. refl)
 
 pub setups_keep : {Dir : Type 0} → SetupsKeep Dir
 setups_keep {Dir} c material st w =

@@ -238,7 +238,7 @@ module _ {Dir : Type 0} (c : Fixed Dir) (own : OfHalves) (most : ℕ) where
 quiet : {Dir : Type 0} (c : Fixed Dir) (own : OfHalves) (past : List (Deed Dir)) (line : Line) → IsSilent past line → OtherLine c own past line
 quiet c own past (lines.Recorded epoch dealer public private) h = absurd h
 quiet c own past (lines.Ack epoch dealer ack) h = absurd h
-quiet c own past line h = tt
+quiet c own past line h = h
 
 pruning : {Dir : Type 0} (c : Fixed Dir) (own : OfHalves) (most : ℕ) (past : List (Deed Dir)) (op : Operation) → PrunesAtMost most past op → OtherOperation c own most past op
 pruning c own most past (OnDisk Bars) h = absurd h

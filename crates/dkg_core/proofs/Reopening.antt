@@ -68,7 +68,7 @@ module _ {Dir : Type 0} (c : Fixed Dir) (ack_of : AckOf) (most : ℕ) (base : Li
   starts_at m None st w is q = q
   starts_at m (Some floor) st w is q =
       setup (Some (m.info, floor.height)) (record st { tip = startup c.source.anchor (Some floor) }) w
-      (above_floor c most starts (λ height. epoch_of c.blocks_per_epoch height - 1 ≤ most) (position c.source.anchor) floor starts.by_anchor (starts.by_floor m.floor.payload floor is)) q
+      (above_floor (λ height. epoch_of c.blocks_per_epoch height - 1 ≤ most) (position c.source.anchor) floor starts.by_anchor (starts.by_floor m.floor.payload floor is)) q
 
   starts_from : (st : Live Dir) (m : Option (Material Dir)) (w : World) → P w → Throughout P (p.starts_from c st m) w
   starts_from st None w q = setup None (record st { tip = startup c.source.anchor None }) w starts.by_anchor q

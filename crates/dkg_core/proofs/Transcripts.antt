@@ -1,12 +1,8 @@
 -- Runs and what they add to a transcript.
-use Rattle.std.proofs.Common.{◌≡◌, inl, inr, List, [], ◌∷◌, ◌++◌, refl, sym, ◌∙◌, ap, subst, append_assoc}
+use Rattle.std.proofs.Common.{◌≡◌, inl, inr, List, [], ◌∷◌, ◌++◌, refl, sym, ◌∙◌, ap, subst, append_assoc, append-nil}
 use Rattle.dkg_types.specs.declared.entry.Entry.{Entry as Line}
 use Rattle.dkg_store.specs.Acts.{Acts, Say, Do, Ask, Goes, Stops, Operation, World, says, does, Cause, Tears, went, stopped, broken, Completes, Faults, Breaks}
 use Rattle.dkg_core.specs.Transcripts.{with_out, TranscriptsMove}
-
-pub nothing_more : {A : Type 0} (xs : List A) → xs ≡ xs ++ []
-nothing_more [] = refl
-nothing_more (x ∷ xs) = ap (λ ys. x ∷ ys) (nothing_more xs)
 
 -- P of two moments, and with the same lines behind another transcript
 abbrev Moved : (World → World → Type 0) → World → World → List Line → Type 0
@@ -15,8 +11,8 @@ Moved P w new other = (added : List Line) × (new.out ≡ w.out ++ added) × P (
 stays : (P : World → World → Type 0) (w new : World) (other : List Line) → new ≡ w → P (with_out other w) (with_out other w) → Moved P w new other
 stays P w new other same p = (
   [],
-  ap (λ (x : World). x.out) same ∙ nothing_more w.out,
-  subst (λ (ls : List Line). P (with_out other w) (with_out ls new)) (nothing_more other) (subst (λ (x : World). P (with_out other w) (with_out other x)) (sym same) p),
+  ap (λ (x : World). x.out) same ∙ sym (append-nil w.out),
+  subst (λ (ls : List Line). P (with_out other w) (with_out ls new)) (sym (append-nil other)) (subst (λ (x : World). P (with_out other w) (with_out other x)) (sym same) p),
 )
 
 said : (P Q : World → World → Type 0) (w new : World) (line : Line) (other : List Line) → ((x : World) → P (says (with_out other w) line) x → Q (with_out other w) x)
@@ -33,8 +29,8 @@ as_well P Q w mid new other same so moved = (moved.0, moved.1 ∙ ap (λ (ls : L
 torn : (cause : Cause) (op : Operation) (w new : World) (other : List Line) → Tears cause op w new → Moved (Tears cause op) w new other
 torn cause op w new other tears = (
   [],
-  tears.same ∙ nothing_more w.out,
-  record { same = sym (nothing_more other); torn = tears.torn; calls = tears.calls; most = tears.most; fuse = tears.fuse; ends = tears.ends },
+  tears.same ∙ sym (append-nil w.out),
+  record { same = append-nil other; torn = tears.torn; calls = tears.calls; most = tears.most; fuse = tears.fuse; ends = tears.ends },
 )
 
 module _ {F S : Type 0} where

@@ -8,7 +8,7 @@ use Rattle.dkg_ceremony.specs.declared.output.Output.{Output}
 use Rattle.dkg_ceremony.specs.declared.round.Round.{Round}
 use Rattle.dkg_ceremony.specs.Schedule.{epoch_of}
 use Rattle.dkg_types.specs.declared.entry.Entry.{Entry as Line}
-use Rattle.dkg_types.specs.declared.entry.Entry.TheVariants.{Recorded, Ack}
+use Rattle.dkg_types.specs.declared.entry.Entry.TheVariants.{Opened, Recorded, Ack, Cut, Step, Fault as AFault}
 use Rattle.dkg_types.specs.declared.message.Message.TheVariants.{Dealer as ADealing}
 use Rattle.dkg_types.specs.MessageCodes.{message_at}
 use Rattle.dkg_values.specs.Codec.{whole}
@@ -58,11 +58,19 @@ PrunesAtMost most past (Changes (PutShare epoch share)) = Unit {0}
 PrunesAtMost most past (Changes (PutSeed epoch seed)) = Unit {0}
 PrunesAtMost most past op = ⊥
 
+-- a line of the node's own: not those by which a life is opened, a step is counted or cut, and a fault is told
+abbrev pub IsQuiet : Line → Type 0
+IsQuiet (Opened life restored) = ⊥
+IsQuiet (Cut step call) = ⊥
+IsQuiet (Step step) = ⊥
+IsQuiet (AFault fault) = ⊥
+IsQuiet line = Unit {0}
+
 -- no dealing is told as recorded, and none is acknowledged
 abbrev pub IsSilent : {Dir : Type 0} → List (Deed Dir) → Line → Type 0
 IsSilent past (Recorded epoch dealer public private) = ⊥
 IsSilent past (Ack epoch dealer ack) = ⊥
-IsSilent past line = Unit {0}
+IsSilent past line = IsQuiet line
 
 -- A setup says nothing of dealings, puts a share and a seed, and prunes nothing of the awaited epoch, nor of the one before.
 abbrev pub prune_law : {Dir : Type 0} → (epoch : ℕ) → Law Dir (Live Dir)
@@ -82,8 +90,13 @@ OpeningOperation most past (OnDisk (PutsPlan bytes)) = Unit {0}
 OpeningOperation most past (OnDisk ClearsPlan) = Unit {0}
 OpeningOperation most past op = PrunesAtMost most past op
 
-abbrev pub opening_law : {Dir : Type 0} → (most : ℕ) → Law Dir (Live Dir)
-opening_law most = record { line = IsSilent; operation = OpeningOperation most; end = Anything }
+-- the line with what was restored, as the first thing behind the barrier and the journal's opening
+abbrev pub OpeningLine : {Dir : Type 0} → Fixed Dir → List (Deed Dir) → Line → Type 0
+OpeningLine c past (Opened life restored) = (life ≡ c.life) × (past ≡ Did (OnDisk (Opens c.opening_calls)) ∷ Did (OnDisk Bars) ∷ [])
+OpeningLine c past line = IsSilent past line
+
+abbrev pub opening_law : {Dir : Type 0} → Fixed Dir → (most : ℕ) → Law Dir (Live Dir)
+opening_law c most = record { line = OpeningLine c; operation = OpeningOperation most; end = Anything }
 
 -- the height above the position that the source tells
 abbrev pub start_of : {Dir : Type 0} → Fixed Dir → ℕ
@@ -96,7 +109,7 @@ pub record StartsWithin {Dir : Type 0} (c : Fixed Dir) (most : ℕ) : Type 0 whe
 
 -- An opening prunes nothing of the epoch that it starts in, nor of the one before; it acknowledges nothing, and tells only what was restored.
 abbrev pub OpeningsPrune : Type 0 → Type 0
-OpeningsPrune Dir = (c : Fixed Dir) (most : ℕ) → StartsWithin c most → Holds (opening_law most) [] (opening c)
+OpeningsPrune Dir = (c : Fixed Dir) (most : ℕ) → StartsWithin c most → Holds (opening_law c most) [] (opening c)
 
 -- MESSAGES OF PEERS
 
@@ -132,7 +145,7 @@ pub record IsAcknowledged {Dir : Type 0} (c : Fixed Dir) (st : Live Dir) (past :
 abbrev pub PeerLine : {Dir : Type 0} → Fixed Dir → Live Dir → (from : ℕ) → List (Deed Dir) → Line → Type 0
 PeerLine c st from past (Recorded epoch dealer public private) = (dealer ≡ from) × IsAccepted c st epoch dealer public private × WasPut epoch dealer public private past
 PeerLine c st from past (Ack epoch dealer ack) = (dealer ≡ from) × IsAcknowledged c st past epoch dealer ack
-PeerLine c st from past line = Unit {0}
+PeerLine c st from past line = IsQuiet line
 
 -- .. and do: it prunes nothing, and puts the private half of an accepted dealing alone, before anything else
 abbrev pub PeerOperation : {Dir : Type 0} → Fixed Dir → Live Dir → (from : ℕ) → List (Deed Dir) → Operation → Type 0
@@ -172,7 +185,7 @@ pub record IsOwn {Dir : Type 0} (c : Fixed Dir) (st : Live Dir) (epoch : ℕ) (p
 abbrev pub OtherLine : {Dir : Type 0} → Fixed Dir → OfHalves → List (Deed Dir) → Line → Type 0
 OtherLine c own past (Recorded epoch dealer public private) = (dealer ≡ c.me) × own epoch public private
 OtherLine c own past (Ack epoch dealer ack) = ⊥
-OtherLine c own past line = Unit {0}
+OtherLine c own past line = IsQuiet line
 
 abbrev pub OtherOperation : {Dir : Type 0} → Fixed Dir → OfHalves → (most : ℕ) → List (Deed Dir) → Operation → Type 0
 OtherOperation c own most past (OnDisk (Prunes min)) = min ≤ most

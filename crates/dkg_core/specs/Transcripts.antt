@@ -1,7 +1,16 @@
--- Runs and what they add to a transcript.
-use Rattle.std.specs.Prelude.{List, ◌++◌, ◌≡◌}
+-- What a course adds to a transcript: the lines of its deeds.
+use Rattle.std.specs.Prelude.{◌≡◌, ℕ, List, [], ◌∷◌, ◌++◌, Some}
+use Rattle.std.specs.List.{AllByRecursion}
 use Rattle.dkg_types.specs.declared.entry.Entry.{Entry as Line}
-use Rattle.dkg_store.specs.Acts.{Acts, World, Ended, Runs}
+use Rattle.dkg_types.specs.declared.entry.Entry.TheVariants.{Opened}
+use Rattle.dkg_types.specs.declared.fault.Fault.{Fault}
+use Rattle.dkg_store.specs.Acts.{Acts, Held, World, Ended, went, stopped, broken, Runs}
+use Rattle.dkg_core.specs.Courses.{Course, on_devices, EndsSo, Deed, Said, Did, Called, deeds_of, end_of, fault_of}
+use Rattle.dkg_core.specs.Said.{Said as SaysBy}
+use Rattle.dkg_core.specs.Laws.{Law, Holds, IsQuiet}
+use Rattle.dkg_core.specs.Fixed.{Fixed}
+use Rattle.dkg_core.specs.Live.{Live, Message}
+use Rattle.dkg_core.specs.Core.{opening, step}
 
 -- the same moment behind another transcript
 abbrev pub with_out : List Line → World → World
@@ -11,3 +20,78 @@ with_out out w = record w { out = out }
 abbrev pub TranscriptsMove : Type 0 → Type 0 → Type 0
 TranscriptsMove F S = (acts : Acts F S) (ended : Ended F S) (w new : World) (other : List Line) → Runs acts ended w new
     → (added : List Line) × (new.out ≡ w.out ++ added) × Runs acts ended (with_out other w) (with_out (other ++ added) new)
+
+-- DEEDS AND THEIR LINES
+
+abbrev pub lines_of : {Dir : Type 0} → List (Deed Dir) → List Line
+lines_of [] = []
+lines_of (Said line ∷ deeds) = line ∷ lines_of deeds
+lines_of (Did op ∷ deeds) = lines_of deeds
+lines_of (Called outer ∷ deeds) = lines_of deeds
+
+-- How it ended by itself: with all its lines, in its end, or by its fault.
+abbrev pub IsOwnEnd : {Dir F S : Type 0} → Course Dir F S → Ended F S → (held now : Held) → (rest : List Line) → Type 0
+IsOwnEnd course (went end) held now rest = (rest ≡ []) × (end_of course held ≡ Some (end, now))
+IsOwnEnd course (stopped fault) held now rest = (rest ≡ []) × (fault_of course held ≡ Some fault)
+IsOwnEnd course (broken cause) held now rest = Unit {0}
+
+-- The first of the lines of a course's deeds were added, and all of them where nothing broke it off.
+pub record AddsDeeds {Dir F S : Type 0} (course : Course Dir F S) (ended : Ended F S) (w new : World) : Type 0 where
+  pub added : List Line
+  pub rest : List Line
+  pub out : new.out ≡ w.out ++ added
+  pub of_deeds : lines_of (deeds_of course w.held) ≡ added ++ rest
+  pub own_end : IsOwnEnd course ended w.held new.held rest
+
+-- A RUN OF A COURSE adds the lines of its deeds, in their order.
+abbrev pub RunsAddDeeds : (Dir F S : Type 0) → Type 0
+RunsAddDeeds Dir F S = (course : Course Dir F S) (ended : Ended F S) (w new : World) → EndsSo course ended w new → AddsDeeds course ended w new
+
+-- LAWS AND LINES
+
+-- Deeds, one after another, each of which the law has behind those before it.
+abbrev pub Obeys : {Dir S : Type 0} → Law Dir S → (past deeds : List (Deed Dir)) → Type 0
+Obeys law past [] = Unit {0}
+Obeys law past (Said line ∷ deeds) = law.line past line × Obeys law (Said line ∷ past) deeds
+Obeys law past (Did op ∷ deeds) = law.operation past op × Obeys law (Did op ∷ past) deeds
+Obeys law past (Called outer ∷ deeds) = Obeys law (Called outer ∷ past) deeds
+
+-- all of them, the newest first
+abbrev pub behind : {Dir : Type 0} → (past deeds : List (Deed Dir)) → List (Deed Dir)
+behind past [] = past
+behind past (deed ∷ deeds) = behind (deed ∷ past) deeds
+
+abbrev pub IfWentTo : {F S : Type 0} → Ended F S → (S → Type 0) → Type 0
+IfWentTo (went end) P = P end
+IfWentTo (stopped fault) P = Unit {0}
+IfWentTo (broken cause) P = Unit {0}
+
+-- What was added are the lines of such deeds, and the law has the end behind them.
+pub record Front {Dir F S : Type 0} (law : Law Dir S) (past : List (Deed Dir)) (ended : Ended F S) (old new : List Line) : Type 0 where
+  pub deeds : List (Deed Dir)
+  pub obeys : Obeys law past deeds
+  pub added : new ≡ old ++ lines_of deeds
+  pub end : IfWentTo ended (law.end (behind past deeds))
+
+-- LINES THAT A COURSE SAYS keep its laws, whatever the devices tell.
+abbrev pub LinesObey : (Dir F S : Type 0) → Type 1
+LinesObey Dir F S = (law : Law Dir S) (past : List (Deed Dir)) (course : Course Dir F S) (ended : Ended F S) (old new : List Line)
+    → Holds law past course → SaysBy (on_devices course) ended old new → Front law past ended old new
+
+-- QUIET LINES
+
+-- A STEP says lines of the node's own alone: it neither opens, counts, cuts nor faults.
+abbrev pub StepsAreQuiet : Type 0 → Type 0
+StepsAreQuiet Dir = (c : Fixed Dir) (st : Live Dir) (message : Message Dir) (ended : Ended Fault (Live Dir)) (old new : List Line)
+    → SaysBy (on_devices (step c message st)) ended old new → (added : List Line) × (new ≡ old ++ added) × AllByRecursion IsQuiet added
+
+-- The line of a life's opening stands first, and lines of the node's own behind it; only what was broken off may have said nothing.
+abbrev pub BeginsOpened : {F S : Type 0} → (life : ℕ) → List Line → Ended F S → Type 0
+BeginsOpened life (Opened its restored ∷ lines) ended = (its ≡ life) × AllByRecursion IsQuiet lines
+BeginsOpened life [] (broken cause) = Unit {0}
+BeginsOpened life lines ended = ⊥
+
+-- SO DOES AN OPENING, behind its first line.
+abbrev pub OpeningsAreQuiet : Type 0 → Type 0
+OpeningsAreQuiet Dir = (c : Fixed Dir) (ended : Ended Fault (Live Dir)) (old new : List Line)
+    → SaysBy (on_devices (opening c)) ended old new → (added : List Line) × (new ≡ old ++ added) × BeginsOpened c.life added ended

@@ -14,7 +14,11 @@ ghost use Rattle.dkg_core.specs.Enduring.{OpeningsEndure, StepsGiveBack, StepsKe
 ghost use Rattle.dkg_core.specs.Entry.{EntersRegistered, LastBlocksAreEntered};
 ghost use Rattle.dkg_core.specs.Heard.{OpeningsKeep, OpeningsRestore, PeersAgree, PeersAreKept, RunsAreKept, SetupsKeep};
 ghost use Rattle.dkg_core.specs.Laws.{DuesAreAnswered, OpeningsPrune, OthersAcknowledgeNothing, PeersAreHeard, SetupsAreSound, SetupsPrune};
-ghost use Rattle.dkg_core.specs.Transcripts.{TranscriptsMove};
+ghost use Rattle.dkg_core.specs.Counted.{CutsFall, RunsCount};
+ghost use Rattle.dkg_core.specs.Lives.{LivesKeep};
+ghost use Rattle.dkg_core.specs.Said.{RunsSay};
+ghost use Rattle.dkg_core.specs.Today.{OpeningsComeTo, StepsComeTo};
+ghost use Rattle.dkg_core.specs.Transcripts.{OpeningsAreQuiet, RunsAddDeeds, StepsAreQuiet, TranscriptsMove};
 
 /// A peer's message records a valid dealing of its sender under a new key alone, behind its private half, and acknowledges only
 /// the dealing that is recorded by then.
@@ -124,4 +128,54 @@ pub fn steps_give_back<Dir>()
 /// dealing that was told, of the epoch that it starts in and of the one before on, is that of a dealing that they give back.
 pub fn openings_endure<Dir>()
     ensures { OpeningsEndure Dir }
+{}
+
+/// A run says the lines of its acts.
+pub fn runs_say<F, S>()
+    ensures { RunsSay F S }
+{}
+
+/// A run of a course adds the lines of its deeds, in their order, and all of them where nothing broke it off.
+pub fn runs_add_deeds<Dir, F, S>()
+    ensures { RunsAddDeeds Dir F S }
+{}
+
+/// A step says lines of the node's own alone: it neither opens a life, counts a step, nor tells a cut or a fault.
+pub fn steps_are_quiet<Dir>()
+    ensures { StepsAreQuiet Dir }
+{}
+
+/// An opening says first that the life is opened, and then lines of the node's own alone; where it ended by itself it has said so.
+pub fn openings_are_quiet<Dir>()
+    ensures { OpeningsAreQuiet Dir }
+{}
+
+/// A run counts the calls of its course: all of them where it ended by itself, and no more.
+pub fn runs_count<Dir, F, S>()
+    ensures { RunsCount Dir F S }
+{}
+
+/// Where a cut broke a course off, the call that is cut is one of the course's; where it ended by itself, and no cut was passed over,
+/// that call is none of them.
+pub fn cuts_fall<Dir, F, S>()
+    ensures { CutsFall Dir F S }
+{}
+
+/// In the form that is built an opening stops by faults of its own alone that have their cause in the boundary block, the heights or the
+/// dealings that were read; or it leaves a life that follows, or takes part in the round of the info that the block carries.
+pub fn openings_come_to<Dir>()
+    ensures { OpeningsComeTo Dir }
+{}
+
+/// In the form that is built a step stops by the fault that the block in hand is refused for, by the tip that the life had, and by no
+/// other; or the life goes on in the same round and seat.
+pub fn steps_come_to<Dir>()
+    ensures { StepsComeTo Dir }
+{}
+
+/// At every exit of a life of the form that is built, whatever an operation in hand leaves: the devices are whole, and each
+/// acknowledgement and each recorded dealing that was told, of the epoch that it starts in and of the one before on, is that of a dealing
+/// that they give back.
+pub fn lives_keep<Dir>()
+    ensures { LivesKeep Dir }
 {}

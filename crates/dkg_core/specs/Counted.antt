@@ -1,0 +1,41 @@
+-- How many changing calls of the devices a course makes, and which of them its fuse cuts.
+use Rattle.std.specs.Prelude.{◌≡◌, ◌≤◌, ◌<◌, ◌+◌, ◌^◌, ℕ}
+use Rattle.dkg_journal.specs.Fuse.{burnt, Reached}
+use Rattle.dkg_store.specs.Acts.{Held, World, Ended, went, stopped, broken, by_cut, device_calls, after}
+use Rattle.dkg_core.specs.Courses.{Course, Say, Do, Call, Ask, Goes, Stops, EndsSo}
+
+-- over what the devices hold
+abbrev pub calls_of : {Dir F S : Type 0} → Course Dir F S → Held → ℕ
+calls_of (Say line course) h = calls_of course h
+calls_of (Do op course) h = device_calls op h + calls_of course (after op h)
+calls_of (Call outer course) h = calls_of course h
+calls_of (Ask f) h = calls_of (f h) h
+calls_of (Goes end) h = 0
+calls_of (Stops fault) h = 0
+
+-- All of them are made but where it is broken off.
+abbrev pub HasMade : {F S : Type 0} → Ended F S → (made all : ℕ) → Type 0
+HasMade (went end) made all = made ≡ all
+HasMade (stopped fault) made all = made ≡ all
+HasMade (broken cause) made all = made ≤ all
+
+-- Just these calls were counted.
+pub record Counts {Dir F S : Type 0} (course : Course Dir F S) (ended : Ended F S) (w new : World) : Type 0 where
+  pub made : ℕ
+  pub fuse : new.fuse ≡ burnt made w.fuse
+  pub of_course : HasMade ended made (calls_of course w.held)
+
+-- A RUN COUNTS the calls of its course.
+abbrev pub RunsCount : (Dir F S : Type 0) → Type 0
+RunsCount Dir F S = (course : Course Dir F S) (ended : Ended F S) (w new : World) → EndsSo course ended w new → Counts course ended w new
+
+-- Where a cut broke it off, the call that is cut is one of the course's. Where it ended by itself and that call was not passed over, it is none of them.
+abbrev pub FallsIn : {F S : Type 0} → Ended F S → (calls : ℕ) → (w new : World) → Type 0
+FallsIn (broken by_cut) calls w new = (w.fuse.spent < w.fuse.call) × (w.fuse.call ≤ w.fuse.spent + calls)
+FallsIn (broken cause) calls w new = Unit {0}
+FallsIn (went end) calls w new = w.fuse.spent < w.fuse.call → w.fuse.call < 2 ^ 64 → (Reached w.fuse new.fuse → ⊥) → w.fuse.spent + calls < w.fuse.call
+FallsIn (stopped fault) calls w new = w.fuse.spent < w.fuse.call → w.fuse.call < 2 ^ 64 → (Reached w.fuse new.fuse → ⊥) → w.fuse.spent + calls < w.fuse.call
+
+-- A CUT FALLS exactly where the course makes so many calls.
+abbrev pub CutsFall : (Dir F S : Type 0) → Type 0
+CutsFall Dir F S = (course : Course Dir F S) (ended : Ended F S) (w new : World) → EndsSo course ended w new → FallsIn ended (calls_of course w.held) w new
