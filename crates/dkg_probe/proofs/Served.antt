@@ -1,5 +1,5 @@
 -- A probe that serves says nothing but what is held.
-use Rattle.std.proofs.Common.{◌≡◌, ℕ, Bool, true, false, ◌||◌, ◌==◌, List, [], ◌∷◌, ◌++◌, Option, Some, None, is_some, Result, Ok, Err, if◌then◌else◌, refl, sym, ◌∙◌}
+use Rattle.std.proofs.Common.{◌≡◌, ℕ, Bool, true, false, ◌||◌, ◌==◌, List, ◌∷◌, ◌++◌, Option, Some, None, is_some, Result, Ok, Err, if◌then◌else◌, refl}
 use Rattle.std.specs.Prelude.{option_map, option_and_then}
 use Rattle.dkg_values.specs.Uint.{uint}
 use Rattle.dkg_values.specs.declared.codec.CodecError.{CodecError}
@@ -15,7 +15,7 @@ use Rattle.dkg_probe.specs.declared.wire.Request.{Request}
 use Rattle.dkg_probe.specs.declared.wire.Request.TheVariants as request
 use Rattle.dkg_probe.specs.Acts.{Goes, Ended, Runs, Each}
 use Rattle.dkg_probe.specs.OneEpoch.{SaidSince}
-use Rattle.dkg_probe.specs.Probing.{Fixed, Probes, one_more, is_done, is_first, activates, subscribes, retries_in, retries, begins_at, discovers, response_to, answers, serves, hears, takes}
+use Rattle.dkg_probe.specs.Probing.{Fixed, one_more, is_done, is_first, activates, retries_in, begins_at, discovers, response_to, answers, serves, takes}
 use Rattle.dkg_probe.specs.Serving.{HoldsFor, Answered, Serves}
 use Rattle.dkg_probe.specs.Sources.{Source}
 use Rattle.dkg_probe.specs.Wire.{request_of, reply_of}

@@ -25,7 +25,7 @@ use Rattle.dkg_probe.specs.declared.event.Event.{Event}
 use Rattle.dkg_probe.specs.declared.event.Event.TheVariants.{Subscribe, Unsubscribe, Attach, Peer, Retry}
 use Rattle.dkg_probe.specs.declared.state.State.{State}
 use Rattle.dkg_probe.specs.declared.wire.Request.{Request}
-use Rattle.dkg_probe.specs.Acts.{Acts, Say, Track, Goes, Stops, says_all, Completes}
+use Rattle.dkg_probe.specs.Acts.{Say, Track, Goes, Stops, says_all, Completes}
 use Rattle.dkg_probe.specs.Candidates.{Awaiting, Candidate, all_of, is_candidate, new_awaiting, with_candidate, first_of, later_of, next_asked}
 use Rattle.dkg_probe.specs.Probing as probing
 use Rattle.dkg_probe.specs.Probing.{Fixed, Probes, latest_request, request_line, with_sample, with_awaited, asks_dealers, asks_for, asks_next, one_more, is_done, is_first, activates, subscribes, retries_in, retries, with_known, artifact_line, of_genesis, resolves, begins_at, awaits_block, from_floor, dealers_in, samples, chooses, is_dealer, hears_latest, adds, hears_boundary, info_for, info_at, found_in, refuses, from_body, hears_body, hears_block, hears_in, discovers, response_to, answers, serves, hears, takes, then_serves, new_state}

@@ -1,5 +1,5 @@
 -- What a probe that serves says: what is held, in its bytes, to whoever asked for it.
-use Rattle.std.specs.Prelude.{◌≡◌, ℕ, List, ◌∷◌, ◌++◌, Option, Some, Ok, Err}
+use Rattle.std.specs.Prelude.{◌≡◌, ℕ, List, ◌∷◌, ◌++◌, Some, Ok, Err}
 use Rattle.dkg_values.specs.Uint.{uint}
 use Rattle.dkg_values.specs.declared.codec.CodecError.{CodecError}
 use Rattle.dkg_types.specs.BlockCodes.{block_spelling}

@@ -1,5 +1,5 @@
 -- What a probe's finds rest on, whatever it was told before.
-use Rattle.std.specs.Prelude.{◌≡◌, ◌⊎◌, ℕ, ◌+◌, ◌≤◌, true, List, Option, Some, None, is_some, IfSome, Ok}
+use Rattle.std.specs.Prelude.{◌≡◌, ◌⊎◌, ℕ, ◌+◌, ◌≤◌, true, List, Some, None, is_some, IfSome, Ok}
 use Rattle.std.specs.List.{AllByRecursion}
 use Rattle.dkg_values.specs.Codec.{whole}
 use Rattle.dkg_types.specs.BlockCodes.{info_of}
