@@ -5,6 +5,8 @@ pub mod Highest
 pub mod Knowing
 pub mod Rereading
 pub mod Saying
+pub mod Served
+pub mod Soundness
 pub mod Stepping
 pub mod Subscribing
 pub mod Terms

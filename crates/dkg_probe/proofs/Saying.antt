@@ -34,7 +34,7 @@ pub one_more_said : (P : Line → Type 0) (line : Line) (out new : List Line) �
 one_more_said P line out new p (more, e, all) = (line ∷ more, e ∙ append_assoc out (line ∷ []) more, (p, all))
 
 -- P of each line, whatever stands behind it
-abbrev Said : {F S : Type 0} → (Line → Type 0) → Line → Acts F S → Type 0
+abbrev pub Said : {F S : Type 0} → (Line → Type 0) → Line → Acts F S → Type 0
 Said P line acts = P line
 
 module _ {F S : Type 0} (P : Line → Type 0) (Q : Type 0) where
@@ -61,7 +61,7 @@ module _ {F S : Type 0} (P : Line → Type 0) (Q : Type 0) where
   said_running acts (stopped fault) out new all done = said_faulting acts fault out new all done
   said_running acts broken out new all done = said_breaking acts out new all done
 
-if_each : {F S : Type 0} (P : Line → Acts F S → Type 0) (Q : Type 0) (b : Bool) (x y : Acts F S) → (b ≡ true → Each P Q x) → (b ≡ false → Each P Q y) → Each P Q (if b then x else y)
+pub if_each : {F S : Type 0} (P : Line → Acts F S → Type 0) (Q : Type 0) (b : Bool) (x y : Acts F S) → (b ≡ true → Each P Q x) → (b ≡ false → Each P Q y) → Each P Q (if b then x else y)
 if_each P Q true x y p q = p refl
 if_each P Q false x y p q = q refl
 

@@ -4,6 +4,8 @@ pub mod Mailboxes
 pub mod OneEpoch
 pub mod Probing
 pub mod Sampling
+pub mod Serving
+pub mod Sound
 pub mod Sources
 pub mod Stopping
 pub mod Wire

@@ -6,6 +6,8 @@ ghost use Rattle.dkg_probe.specs.Acts.{Runs, Tracks};
 ghost use Rattle.dkg_probe.specs.Candidates.{are_apart, peers_of};
 ghost use Rattle.dkg_probe.specs.OneEpoch.{OfOneEpoch, SaidSince, TellsKnown};
 ghost use Rattle.dkg_probe.specs.Probing.{ended_by, ended_in, fixed, hears, new_state, steps, takes, then_serves, tracked_of};
+ghost use Rattle.dkg_probe.specs.Serving.{Serves};
+ghost use Rattle.dkg_probe.specs.Sound.{IsSound, Keeps};
 
 use crate::artifact::{Artifact, Bootstrap};
 use crate::blocks::Blocks;
@@ -71,7 +73,8 @@ fn hear<B: Blocks<Dir>, S: Scheme, Dir: Directory + Drop>(
 ) -> Mem<()>
 where
     Dir::Cfg: Drop,
-    ensures acts { Runs (hears (fixed S.verifies Dir.spelling ⟦<Block<Dir> as Read>⟧.read_of terms.now.limits terms.now) (B.source source.now) peer bytes.now state.old)
+    ensures acts { Runs
+        (hears (fixed S.verifies Dir.spelling ⟦<Block<Dir> as Read>⟧.read_of terms.now.limits terms.now) (B.source source.now) peer bytes.now state.old)
         (ended_in state.new result) out.old.entries out.new.entries }
     ensures kept { OnErr result (state.new.known ≡ state.old.known) }
 {
@@ -153,6 +156,7 @@ where
         ensures limits { result.terms.limits ≡ config.limits }
         ensures state { result.state ≡ new_state (option_map_or (λ f. max config.bootstrap.epoch f.epoch) config.floor config.bootstrap.epoch) }
         ensures failed { result.failed ≡ false }
+        ensures sound { IsSound (fixed S.verifies Dir.spelling ⟦<Block<Dir> as Read>⟧.read_of result.terms.limits result.terms) result.state }
     {
         let Config {
             manager,
@@ -211,11 +215,17 @@ where
             → Tracks (steps c lack (B.source source.now) event self.old.state) result (M.sets self.old.manager) (M.sets self.new.manager) }
         // An artifact that is told is the one that is known.
         ensures artifact { SaidSince (TellsKnown Dir.spelling self.new.state.known) out.old.entries out.new.entries }
+        // What is found rests on what it should, and an artifact that is known stays.
+        ensures sound { let c = fixed S.verifies Dir.spelling ⟦<Block<Dir> as Read>⟧.read_of self.old.terms.limits self.old.terms in
+            IsSound c self.old.state → OnOk result (IsSound c self.new.state × Keeps self.old.state self.new.state) }
+        ensures kept { OnErr result (self.new.state.known ≡ self.old.state.known) }
+        // Who serves says nothing but what is held, to who asks for it.
+        ensures held { let c = fixed S.verifies Dir.spelling ⟦<Block<Dir> as Read>⟧.read_of self.old.terms.limits self.old.terms in
+            self.old.state.serving ≡ true → SaidSince (Serves c (B.source source.now) event) out.old.entries out.new.entries }
         // Info and floor of each artifact told are of one epoch, where genesis is of epoch zero.
         ensures one_epoch { self.old.terms.genesis.epoch ≡ 0 → SaidSince (OfOneEpoch Dir.spelling) out.old.entries out.new.entries }
         // No peer is a candidate twice.
         ensures apart { OnOk result (IfSome self.new.state.awaited (λ a. are_apart (peers_of a.asked a.others) ≡ true)) }
-        ensures kept { OnErr result (self.new.state.known ≡ self.old.state.known) }
     {
         if self.failed {
             return Err(ProbeStop::Failed);

@@ -555,7 +555,8 @@ pub(crate) fn discover<S: Scheme, Dir: Directory + Drop>(
 ) -> Mem<()>
 where
     Dir::Cfg: Drop,
-    ensures acts { Runs (discovers (fixed S.verifies Dir.spelling ⟦<Block<Dir> as Read>⟧.read_of terms.now.limits terms.now) peer (reply_of bytes.now) state.old)
+    ensures acts { Runs
+        (discovers (fixed S.verifies Dir.spelling ⟦<Block<Dir> as Read>⟧.read_of terms.now.limits terms.now) peer (reply_of bytes.now) state.old)
         (ended_in state.new result) out.old.entries out.new.entries }
     ensures kept { OnErr result (state.new.known ≡ state.old.known) }
 {

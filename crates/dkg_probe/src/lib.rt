@@ -10,6 +10,8 @@ mod actor;
 mod artifact;
 mod blocks;
 mod candidates;
+#[cfg(test)]
+mod cases;
 mod discovery;
 mod event;
 mod laws;
@@ -17,6 +19,8 @@ mod mailbox;
 mod sample;
 mod service;
 mod state;
+#[cfg(test)]
+mod tests;
 mod wire;
 
 pub use actor::{Actor, Config};

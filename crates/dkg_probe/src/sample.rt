@@ -1,8 +1,9 @@
 //! The sample of dealers' latest finalizations, from which the floor of a joining node is chosen.
 //!
 //! With at most f of 3f + 1 dealers stale or false, of any f + 1 of them one is current: the highest reply is no older than that one's.
-ghost use Rattle.std.specs.Prelude.{◌≡◌, ◌<◌, OnOk, OnErr, IfSome};
+ghost use Rattle.std.specs.Prelude.{◌≡◌, ◌<◌, length, OnOk, OnErr, IfSome};
 ghost use Rattle.std.specs.Option.{option_copied};
+ghost use Rattle.dkg_ceremony.specs.Thresholds.{max_faults_of};
 ghost use Rattle.dkg_probe.specs.Sampling.{IsHighest, awaits, better, highest, floor_of, forgotten, is_enough, is_higher, new_sample, recorded, reply_at, selected};
 
 use dkg_ceremony::{Epoch, Key, Mem, max_faults};
@@ -109,6 +110,7 @@ impl Sample {
     /// Chooses the floor and gives it, where none is chosen yet and one more has replied than may fail of so many dealers.
     pub fn select(&mut self, dealers: u32) -> Option<Finalization>
         ensures floor { result ≡ floor_of self.old dealers }
+        ensures enough { IfSome result (λ _. max_faults_of dealers < length self.old.replies) }
         ensures highest { IfSome result (IsHighest self.old.replies) }
         ensures chosen { self.new ≡ selected self.old dealers }
     {

@@ -3,6 +3,8 @@ use Rattle.dkg_probe.specs.Acts.{went}
 use Rattle.dkg_probe.specs.Probing.{takes, tracked_of, ended_by}
 use Rattle.dkg_probe.proofs.Knowing.{told_is_known, none_is_told}
 use Rattle.dkg_probe.proofs.Saying.{one_epoch_since}
+use Rattle.dkg_probe.proofs.Served.{served_since}
+use Rattle.dkg_probe.proofs.Soundness.{step_sound, step_keeps}
 use Rattle.dkg_probe.proofs.Stepping.{goes_run, stops_run, step_tracks}
 use Rattle.dkg_probe.proofs.Terms.{given}
 use Rattle.dkg_probe.proofs.actor.Actor.step.Goals as goal
@@ -54,3 +56,21 @@ returns-in-Ok-clause-one_epoch g c = λ genesis.
     let terms = given g.S.Scheme.verifies g.Dir.Spelled.spelling g.Dir.Read.read_of g.Dir.Directory.config_of g.Dir.Directory.matches_of c.args.self.now.terms in
     let lack = g.M.Manager.lacks c.args.self.now.terms.bootstrap.directory (tracked_of c.args.self.now.terms.bootstrap.participants) in
     one_epoch_since terms lack (g.B.Blocks.source c.args.source.now) c.args.event c.args.self.now.state (went c.take.new.state) c.args.out.now.entries c.take.new.out.entries genesis c.in-Ok.ensures.acts
+
+pub returns-in-Ok-clause-sound : goal.returns-in-Ok-clause-sound
+returns-in-Ok-clause-sound g c = λ sound.
+    let terms = given g.S.Scheme.verifies g.Dir.Spelled.spelling g.Dir.Read.read_of g.Dir.Directory.config_of g.Dir.Directory.matches_of c.args.self.now.terms in
+    let lack = g.M.Manager.lacks c.args.self.now.terms.bootstrap.directory (tracked_of c.args.self.now.terms.bootstrap.participants) in
+    (step_sound terms lack (g.B.Blocks.source c.args.source.now) c.args.event c.args.self.now.state c.take.new.state c.turn_to_service.new.state c.args.out.now.entries c.take.new.out.entries sound c.turn_to_service.ensures.serves c.in-Ok.ensures.acts, step_keeps terms lack (g.B.Blocks.source c.args.source.now) c.args.event c.args.self.now.state c.take.new.state c.turn_to_service.new.state c.args.out.now.entries c.take.new.out.entries sound c.turn_to_service.ensures.serves c.in-Ok.ensures.acts)
+
+pub returns-in-Ok-clause-held : goal.returns-in-Ok-clause-held
+returns-in-Ok-clause-held g c = λ on.
+    let terms = given g.S.Scheme.verifies g.Dir.Spelled.spelling g.Dir.Read.read_of g.Dir.Directory.config_of g.Dir.Directory.matches_of c.args.self.now.terms in
+    let lack = g.M.Manager.lacks c.args.self.now.terms.bootstrap.directory (tracked_of c.args.self.now.terms.bootstrap.participants) in
+    served_since terms (g.B.Blocks.source c.args.source.now) lack c.args.event c.args.self.now.state (went c.take.new.state) c.args.out.now.entries c.take.new.out.entries on c.in-Ok.ensures.acts
+
+pub returns-in-Err-clause-held : goal.returns-in-Err-clause-held
+returns-in-Err-clause-held g c = λ on.
+    let terms = given g.S.Scheme.verifies g.Dir.Spelled.spelling g.Dir.Read.read_of g.Dir.Directory.config_of g.Dir.Directory.matches_of c.args.self.now.terms in
+    let lack = g.M.Manager.lacks c.args.self.now.terms.bootstrap.directory (tracked_of c.args.self.now.terms.bootstrap.participants) in
+    served_since terms (g.B.Blocks.source c.args.source.now) lack c.args.event c.args.self.now.state (ended_by c.take.new.state (Err c.in-Err.stop)) c.args.out.now.entries c.take.new.out.entries on c.in-Err.ensures.acts
