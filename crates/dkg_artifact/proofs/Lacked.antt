@@ -1,6 +1,6 @@
 -- Where no log lacks a dealing, a player's outcome lacks none.
-use Rattle.std.proofs.Common.{◌≡◌, ℕ, Bool, true, false, cond, eqb, not, ◌&&◌, List, [], ◌∷◌, Option, Some, None, Result, Ok, Err, IsOk, refl, sym, ap, subst, ◌∙◌}
-use Rattle.std.specs.Prelude.{IfErr, IsSomeAnd, Contains}
+use Rattle.std.proofs.Common.{◌≡◌, ℕ, Bool, true, false, cond, eqb, not, ◌&&◌, List, [], ◌∷◌, Option, Some, Result, Ok, Err, IsOk, refl, subst}
+use Rattle.std.specs.Prelude.{IfErr}
 use Rattle.std.specs.List.{AllByRecursion}
 use Rattle.std.specs.Option.{option_map_or}
 use Rattle.std.proofs.lemmas.Bool.{eqb-true}
@@ -8,7 +8,7 @@ use Rattle.dkg_values.specs.Rising.{lookup}
 use Rattle.dkg_ceremony.specs.declared.dealer_log.DealerLog.{DealerLog}
 use Rattle.dkg_ceremony.specs.declared.finish.FinishError.{FinishError}
 use Rattle.dkg_ceremony.specs.declared.output.Output.{Output}
-use Rattle.dkg_ceremony.specs.Finishes.{DealingMap, IsMissing, has_public, lacks_by}
+use Rattle.dkg_ceremony.specs.Finishes.{DealingMap, IsMissing, has_public}
 use Rattle.dkg_ceremony.specs.Outcomes.{LogMap}
 
 -- a dealer's log is one of those that pass a test

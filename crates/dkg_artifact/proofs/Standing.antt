@@ -1,5 +1,5 @@
 -- What a scan's answers say of an ancestry.
-use Rattle.std.proofs.Common.{◌≡◌, ◌≢◌, ◌⊎◌, ℕ, ◌+◌, ◌-◌, ◌<◌, ◌≤◌, Bool, true, false, cond, eqb, ◌&&◌, not, List, [], ◌∷◌, Option, Some, None, Result, Ok, Err, is_none, inl, inr, refl, sym, ap, subst, ◌∙◌, arith}
+use Rattle.std.proofs.Common.{◌≡◌, ◌≢◌, ℕ, ◌-◌, ◌<◌, ◌≤◌, Bool, true, false, cond, eqb, ◌&&◌, not, List, [], ◌∷◌, Option, Some, None, Result, Ok, Err, is_none, inl, inr, refl, sym, ap, subst, ◌∙◌, arith}
 use Rattle.std.specs.Prelude.{nat_lt, ◌==◌, IfSome, IfOk}
 use Rattle.std.specs.Option.{option_map_or}
 use Rattle.std.specs.Str.{bytes_eq}
@@ -16,14 +16,13 @@ use Rattle.dkg_types.specs.declared.entry.Why.{Why}
 use Rattle.dkg_types.specs.declared.entry.Why.TheVariants.{Short, WrongHeight, Unlinked, Detached, Following, Terminal, Finished, Held}
 use Rattle.dkg_artifact.specs.declared.scan.Fed.{Fed}
 use Rattle.dkg_artifact.specs.declared.scan.Fed.TheVariants.{Need, Logs, Unavailable}
-use Rattle.dkg_artifact.specs.declared.scan.Next.{Next}
-use Rattle.dkg_artifact.specs.declared.scan.Scan.{Scan}
+use Rattle.dkg_artifact.specs.Seen.{Next, Scan}
 use Rattle.dkg_artifact.specs.declared.scan.Stand.{Stand}
 use Rattle.dkg_artifact.specs.declared.scan.Stand.TheVariants.{Final, Between, Lowest, Refused}
 use Rattle.dkg_artifact.specs.declared.scan.Tip.{Tip}
 use Rattle.dkg_artifact.specs.Found.{with_log}
-use Rattle.dkg_artifact.specs.Scans.{Check, lowest, tip_below, first_next, is_final, is_other, link_of, stand_of, added, with_lower, passes, closes, answers, feeds, above}
-use Rattle.dkg_artifact.specs.Ancestries.{IsLinked, BeginsBelow, IsHigher, IsUnderWay, awaited, named, IsNamed, IsOnTip, Stands, IsNext, Refuses, Completes, IsLogs, Answers, Says, SaysOfPath}
+use Rattle.dkg_artifact.specs.Scans.{Check, lowest, tip_below, first_next, is_final, is_other, link_of, stand_of, added, with_lower, answers, feeds, above}
+use Rattle.dkg_artifact.specs.Ancestries.{IsLinked, BeginsBelow, IsUnderWay, awaited, named, IsNamed, Stands, IsNext, Completes, IsLogs, Answers, Says, SaysOfPath}
 use Rattle.dkg_artifact.proofs.ScanLaws.{from_none, lower_path, final_path}
 
 -- WHAT A TEST SAYS

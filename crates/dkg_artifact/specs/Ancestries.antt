@@ -2,14 +2,13 @@
 use Rattle.std.specs.Prelude.{◌≡◌, ◌≢◌, ◌⊎◌, ℕ, ◌+◌, ◌-◌, ◌<◌, ◌≤◌, List, [], ◌∷◌, Option, Some, None, IfSome}
 use Rattle.dkg_ceremony.specs.declared.epocher.Bounds.{Bounds}
 use Rattle.dkg_ceremony.specs.declared.round.Round.{Round}
-use Rattle.dkg_ceremony.specs.Outcomes.{LogMap}
 use Rattle.dkg_types.specs.Blocks.{Block}
 use Rattle.dkg_types.specs.Paths.{logs_of_path}
 use Rattle.dkg_types.specs.declared.entry.Why.{Why}
 use Rattle.dkg_types.specs.declared.entry.Why.TheVariants.{Short, WrongHeight, Unlinked, Detached, Following, Terminal, Finished, Held}
 use Rattle.dkg_artifact.specs.declared.scan.Fed.{Fed}
 use Rattle.dkg_artifact.specs.declared.scan.Fed.TheVariants.{Need, Logs, Unavailable}
-use Rattle.dkg_artifact.specs.declared.scan.Scan.{Scan}
+use Rattle.dkg_artifact.specs.Seen.{Scan}
 use Rattle.dkg_artifact.specs.declared.scan.Tip.{Tip}
 use Rattle.dkg_artifact.specs.Scans.{Check, above, link_of, lowest, tip_below}
 

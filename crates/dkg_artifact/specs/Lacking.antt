@@ -1,5 +1,5 @@
 -- Dealings that a player lacks.
-use Rattle.std.specs.Prelude.{ℕ, Bool, not, ◌&&◌, List}
+use Rattle.std.specs.Prelude.{ℕ, Bool, not, ◌&&◌}
 use Rattle.dkg_values.specs.Rising.{lookup}
 use Rattle.dkg_ceremony.specs.declared.dealer_log.DealerLog.{DealerLog}
 use Rattle.dkg_ceremony.specs.declared.round.Round.{Round}

@@ -4,3 +4,4 @@ pub mod Lacking
 pub mod Requested
 pub mod Results
 pub mod Scans
+pub mod Seen

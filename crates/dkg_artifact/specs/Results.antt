@@ -6,6 +6,7 @@ use Rattle.dkg_ceremony.specs.declared.round.Round.{Round}
 use Rattle.dkg_ceremony.specs.Finishes.{DealingMap}
 use Rattle.dkg_ceremony.specs.Outcomes.{LogMap}
 use Rattle.dkg_artifact.specs.declared.job.Dealings.{Dealings}
+use Rattle.dkg_artifact.specs.declared.job.Job.{Job}
 use Rattle.dkg_artifact.specs.declared.verified.Verified.{Verified}
 
 -- what a result was made of, and what it is
@@ -50,3 +51,7 @@ checked outcome_of finish_of round player logs = record {
   logs = logs;
   result = result_of outcome_of finish_of round player logs;
 }
+
+-- A result is a job's: of its round and its logs, and for its player.
+abbrev pub IsAnswered : Job → Checked → Type 0
+IsAnswered job c = (c.round ≡ job.round) × (c.me ≡ option_map (λ p. p.me) job.player) × (c.logs ≡ job.logs)

@@ -1,5 +1,5 @@
 -- What a scan answers to the blocks of an ancestry, from an epoch's final block or its parent downward.
-use Rattle.std.specs.Prelude.{ℕ, ◌+◌, ◌-◌, ◌==◌, ◌&&◌, nat_lt, not, Bool, true, false, List, [], ◌∷◌, Option, Some, None, is_none, is_some, IsSome, option_and_then, if◌then◌else◌}
+use Rattle.std.specs.Prelude.{ℕ, ◌+◌, ◌-◌, ◌==◌, ◌&&◌, nat_lt, not, Bool, true, false, List, [], Option, Some, None, is_none, is_some, IsSome, option_and_then, if◌then◌else◌}
 use Rattle.std.specs.List.{filter}
 use Rattle.std.specs.Option.{option_map_or}
 use Rattle.std.specs.Str.{bytes_eq}
@@ -15,8 +15,7 @@ use Rattle.dkg_types.specs.PayloadCodes.{its_log}
 use Rattle.dkg_artifact.specs.Found.{with_log}
 use Rattle.dkg_artifact.specs.declared.scan.Fed.{Fed}
 use Rattle.dkg_artifact.specs.declared.scan.Fed.TheVariants.{Need, Logs, Unavailable}
-use Rattle.dkg_artifact.specs.declared.scan.Next.{Next}
-use Rattle.dkg_artifact.specs.declared.scan.Scan.{Scan}
+use Rattle.dkg_artifact.specs.Seen.{Next, Scan}
 use Rattle.dkg_artifact.specs.declared.scan.Stand.{Stand}
 use Rattle.dkg_artifact.specs.declared.scan.Stand.TheVariants.{Final, Between, Lowest, Refused}
 use Rattle.dkg_artifact.specs.declared.scan.Tip.{Tip}

@@ -5,7 +5,9 @@ ghost use Rattle.std.specs.Option.{option_copied};
 ghost use Rattle.dkg_values.specs.Rising.{lookup};
 ghost use Rattle.dkg_ceremony.specs.Finishes.{has_public};
 ghost use Rattle.dkg_artifact.specs.Lacking.{lacks};
+ghost use Rattle.dkg_artifact.specs.Results.{IsAnswered};
 
+use crate::verified::{VerifiedLogs, player_of};
 use dkg_ceremony::{Ceremony, DealerLog, Private, Public, Round, finishes_agree};
 use dkg_values::{Key, Map, Mem, Value};
 use std::alloc::Global;
@@ -23,6 +25,17 @@ pub struct Job {
     pub round: Round,
     pub player: Option<Dealings>,
     pub logs: Map<DealerLog>,
+}
+
+impl Job {
+    /// Whether a result is this job's: of its round and its logs, and for its player. A result may come when another job runs.
+    pub fn is_answered_by<C: Ceremony>(&self, verified: &VerifiedLogs<C>) -> bool
+        ensures { IsTrue result ↔ IsAnswered self.now verified.now }
+    {
+        player_of(&self.player) == verified.me
+            && self.round.same(&verified.round)
+            && self.logs.same(&verified.logs)
+    }
 }
 
 /// Holds work back, as a test does that wants callers to be answered first.

@@ -12,6 +12,7 @@ use dkg_ceremony::{Bounds, Ceremony, DealerLog, Round, SignedDealerLog};
 use dkg_types::{Block, Directory, Payload, ReshareBlock, Why};
 use dkg_values::{Digest, Height, Key, Map, Mem, Value};
 use std::alloc::Global;
+use std::marker::Model;
 
 /// The last block that a node has processed: its height, and the digest by which the next one names it.
 #[derive(Clone, Copy, Debug, PartialEq, Eq)]
@@ -32,11 +33,21 @@ pub enum Fed {
 }
 
 /// The block that a scan reads next.
-#[derive(Clone, Copy, Debug, PartialEq, Eq)]
+#[derive(Clone, Copy)]
 struct Next {
     height: Height,
     /// The digest that the block above names, where one was read.
     digest: Option<Digest>,
+}
+
+impl Model for Next {
+    ghost use Rattle.dkg_artifact.specs.Seen.{Next as Seen};
+
+    ghost Value = { Seen };
+
+    ghost view = { λ n. record { height = n.height; digest = n.digest } };
+
+    ghost inverse = { λ n. record { height = n.height; digest = n.digest } };
 }
 
 /// What a block is to a scan.
@@ -52,7 +63,8 @@ enum Stand {
     Refused(Why),
 }
 
-/// A scan of an ancestry, from an epoch's final block or its parent down to the midpoint or the tip's successor.
+/// A scan of an ancestry, from an epoch's final block or its parent down to the midpoint or the tip's successor. Contracts see its bounds, its
+/// round, what it reads next, and the logs that it has found.
 #[derive(Drop)]
 pub struct Scan {
     round: Round,
@@ -65,6 +77,14 @@ pub struct Scan {
     /// What is read next; nothing once the scan has answered.
     next: Option<Next>,
     found: Lowest,
+}
+
+impl Model for Scan {
+    ghost use Rattle.dkg_artifact.specs.Seen.{Scan as Seen};
+
+    ghost Value = { Seen };
+
+    ghost view = { λ s. record { round = s.round; last = s.last; down_to = s.down_to; below = s.below; next = s.next; found = s.found } };
 }
 
 /// The last needed height: the midpoint, or the successor of a tip at or above it.

@@ -390,6 +390,28 @@ fn a_job_is_copied(rt: HostRuntime) -> Result<(), Fail> {
     Ok(())
 }
 
+/// Whether an observer's job is answered by a result.
+fn is_answered<C: Ceremony>(alloc: Global, verified: &VerifiedLogs<C>) -> Result<bool, Fail> {
+    let job = job(alloc, both(alloc)?)?;
+    Ok(job.is_answered_by(verified))
+}
+
+#[test]
+fn a_job_is_answered_by_its_result(rt: HostRuntime) -> Result<(), Fail> {
+    let seen = seen(rt.alloc(), &StandCeremony, both(rt.alloc())?)?;
+    let answered = is_answered(rt.alloc(), &seen)?;
+    assert!(rt; answered);
+    Ok(())
+}
+
+#[test]
+fn a_players_result_is_no_observers(rt: HostRuntime) -> Result<(), Fail> {
+    let mine = finished(rt.alloc(), &StandCeremony, both(rt.alloc())?)?;
+    let answered = is_answered(rt.alloc(), &mine)?;
+    assert!(rt; !answered);
+    Ok(())
+}
+
 fn begin<C: Ceremony + Drop>(
     alloc: Global,
     verification: &mut Verification<C>,

@@ -6,12 +6,21 @@ use crate::job::Job;
 use crate::verified::VerifiedLogs;
 use dkg_ceremony::{Ceremony, DealerLog};
 use dkg_values::{Map, Value};
+use std::marker::Model;
 
-/// One job at a time, and the result that was kept last.
+/// One job at a time, and the result that was kept last. Contracts see both.
 #[derive(Drop)]
 pub struct Verification<C: Ceremony> {
     running: Option<Job>,
     kept: Option<VerifiedLogs<C>>,
+}
+
+impl<C: Ceremony> Model for Verification<C> {
+    ghost use Rattle.dkg_artifact.specs.Seen.{Verification as Seen};
+
+    ghost Value = { Seen };
+
+    ghost view = { λ v. record { running = v.running; kept = v.kept } };
 }
 
 /// Whether a result that is kept is one for these logs.

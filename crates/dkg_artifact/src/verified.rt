@@ -122,7 +122,7 @@ fn results_hold<C: Ceremony>(round: &Round, player: &Option<Dealings>, logs: &Ma
 }
 
 /// Whose share it is.
-fn player_of(player: &Option<Dealings>) -> Option<Key>
+pub(crate) fn player_of(player: &Option<Dealings>) -> Option<Key>
     ensures { result ≡ option_map (λ p. p.me) player.now }
 {
     match player {
