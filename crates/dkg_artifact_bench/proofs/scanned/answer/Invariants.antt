@@ -1,0 +1,5 @@
+use Rattle.dkg_artifact.specs.Scans.{IsAwaiting}
+use Rattle.dkg_artifact_bench.proofs.scanned.answer.Given as goal
+
+abbrev pub invariant-loop-block : goal.invariant-loop-block
+invariant-loop-block g l = IsAwaiting l.scan

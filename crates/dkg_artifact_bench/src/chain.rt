@@ -1,0 +1,58 @@
+//! Blocks of an ancestry, each of which carries a log.
+use dkg_ceremony::{Bounds, Epocher, SignedDealerLog};
+use dkg_types::{Block, Context, Payload, Unit};
+use dkg_values::{Digest, Epoch, Height, Key, Value};
+use std::alloc::Global;
+use std::num::NonZeroU64;
+
+/// The bounds of an epoch that has so many blocks from its midpoint on, besides the final one.
+pub fn bounds(count: u64) -> Option<Bounds> {
+    let blocks = count.checked_add(1)?.checked_mul(2)?;
+    Epocher::new(NonZeroU64::new(blocks)?).containing(Height(0))
+}
+
+fn payload(alloc: Global, signed: &SignedDealerLog) -> Option<Payload<Unit>> {
+    let signed = signed.copy(alloc).ok()?;
+    Some(Payload::DealerLog(signed))
+}
+
+/// A block on another, that carries a log.
+fn block_on(
+    alloc: Global,
+    parent: Digest,
+    height: u64,
+    signed: &SignedDealerLog,
+) -> Option<Block<Unit>> {
+    let context = Context {
+        epoch: Epoch(0),
+        view: height,
+        leader: Key(1),
+        parent_view: 0,
+        parent,
+    };
+    let payload = payload(alloc, signed)?;
+    Block::new(alloc, context, parent, Height(height), Some(payload)).ok()
+}
+
+fn in_turn(logs: &[SignedDealerLog], place: u64) -> Option<&SignedDealerLog> {
+    let place = place.checked_rem(logs.len() as u64)?;
+    logs.get(place as usize)
+}
+
+/// So many blocks from a height on. They carry these logs in turns.
+pub fn blocks(
+    alloc: Global,
+    lowest: Height,
+    count: u64,
+    logs: &[SignedDealerLog],
+) -> Option<Vec<Block<Unit>>> {
+    let mut blocks = Vec::new(alloc);
+    let mut parent = Digest([0; 32]);
+    for place in 0..count {
+        let height = lowest.0.checked_add(place)?;
+        let block = block_on(alloc, parent, height, in_turn(logs, place)?)?;
+        parent = block.digest();
+        blocks.push(block).ok()?;
+    }
+    Some(blocks)
+}
