@@ -390,18 +390,25 @@ fn a_job_is_copied(rt: HostRuntime) -> Result<(), Fail> {
     Ok(())
 }
 
-/// Whether a job of an observer is answered by what it sees of the logs, and not by what a player finishes with.
-fn is_answered<C: Ceremony>(alloc: Global, ceremony: &C) -> Result<bool, Fail> {
+/// Whether an observer's job is answered by a result.
+fn is_answered<C: Ceremony>(alloc: Global, verified: &VerifiedLogs<C>) -> Result<bool, Fail> {
     let job = job(alloc, both(alloc)?)?;
-    let seen = seen(alloc, ceremony, both(alloc)?)?;
-    let finished = finished(alloc, ceremony, both(alloc)?)?;
-    Ok(job.is_answered_by(&seen) && !job.is_answered_by(&finished))
+    Ok(job.is_answered_by(verified))
 }
 
 #[test]
-fn a_job_is_answered_by_its_own_result(rt: HostRuntime) -> Result<(), Fail> {
-    let answered = is_answered(rt.alloc(), &StandCeremony)?;
+fn a_job_is_answered_by_its_result(rt: HostRuntime) -> Result<(), Fail> {
+    let seen = seen(rt.alloc(), &StandCeremony, both(rt.alloc())?)?;
+    let answered = is_answered(rt.alloc(), &seen)?;
     assert!(rt; answered);
+    Ok(())
+}
+
+#[test]
+fn a_players_result_is_no_observers(rt: HostRuntime) -> Result<(), Fail> {
+    let mine = finished(rt.alloc(), &StandCeremony, both(rt.alloc())?)?;
+    let answered = is_answered(rt.alloc(), &mine)?;
+    assert!(rt; !answered);
     Ok(())
 }
 
