@@ -9,9 +9,11 @@ pub mod LineLaws
 pub mod NonZeros
 pub mod Numbered
 pub mod Numbers
+pub mod Places
 pub mod ReadOn
 pub mod Rise
 pub mod RowLaws
 pub mod ScriptLaws
 pub mod Spelled
 pub mod Split
+pub mod WholeLines

@@ -1,8 +1,8 @@
--- The text of a script and the script of a text.
-use Rattle.std.specs.Prelude.{◌≡◌, ℕ, Bool, List, Some}
+-- The text of a script, the script of a text, and the place at which a text stops being one.
+use Rattle.std.specs.Prelude.{◌≡◌, ◌≤◌, ◌⊎◌, ◌==◌, ℕ, Bool, List, [], ◌∷◌, ◌++◌, length, take, drop, Some, None, Err, if◌then◌else◌}
 use Rattle.dkg_text.specs.declared.script.Script.{Script}
 use Rattle.dkg_text.specs.Allowed.{IsScript}
-use Rattle.dkg_text.specs.Grammar.{script_of}
+use Rattle.dkg_text.specs.Grammar.{script_of, script_or_place}
 use Rattle.dkg_text.specs.Writing.{text_of}
 
 -- a script that a text may spell is spelled by its text
@@ -12,3 +12,32 @@ IsReadAgain = (script : Script) → IsScript script → script_of script.address
 -- whatever a text spells has that text, and is a script that a text may spell
 abbrev pub IsWrittenAgain : Type 0
 IsWrittenAgain = (addressed : Bool) (text : List ℕ) (script : Script) → script_of addressed text ≡ Some script → IsScript script × (script.addressed ≡ addressed) × (text ≡ text_of script)
+
+-- THE PLACE
+
+-- the line in front, with its line feed where it has one
+abbrev pub first_line : List ℕ → List ℕ
+first_line [] = []
+first_line (b ∷ bs) = if b == 10 then b ∷ [] else b ∷ first_line bs
+
+-- the text of some script begins so
+pub record Begins (addressed : Bool) (front : List ℕ) : Type 0 where
+  pub script : Script
+  pub allowed : IsScript script
+  pub directories : script.addressed ≡ addressed
+  pub rest : List ℕ
+  pub text : text_of script ≡ front ++ rest
+
+-- a line that is ended, and with which some script's text goes on
+abbrev pub IsAllowed : (addressed : Bool) (before line : List ℕ) → Type 0
+IsAllowed addressed before line = ((body : List ℕ) × (line ≡ body ++ 10 ∷ [])) × Begins addressed (before ++ line)
+
+-- The bytes are no script, and a line begins at the place, or would, with which no script goes on after the lines before it.
+pub record IsPlace (addressed : Bool) (bytes : List ℕ) (place : ℕ) : Type 0 where
+  pub within : place ≤ length bytes
+  pub at_line : (place ≡ 0) ⊎ ((lines : List ℕ) × (take place bytes ≡ lines ++ 10 ∷ []))
+  pub refused : IsAllowed addressed (take place bytes) (first_line (drop place bytes)) → ⊥
+  pub missing : script_of addressed bytes ≡ None
+
+abbrev pub IsPlaceFound : Type 0
+IsPlaceFound = (addressed : Bool) (bytes : List ℕ) (place : ℕ) → script_or_place addressed bytes ≡ Err place → IsPlace addressed bytes place

@@ -1,11 +1,11 @@
 //! Scripts with a line of every kind, and texts that just miss them, with the place that an independent model has for each.
 
+mod lines;
+
 use crate::error::ScriptError;
-use crate::print::print_of;
 use crate::read::read_script;
 use crate::write::{event_bytes, script_text};
 use dkg_ceremony::Key;
-use dkg_types::Entry;
 use std::alloc::Global;
 use std::process::Abort;
 use std::test::Fail;
@@ -17,6 +17,10 @@ const RESHARE: &str =
 /// A one-shot script.
 const ONE_SHOT: &str =
     "dkg 1\nme 1\nblocks 1\nlimit 1073741824\nmode 1 0\nspace -\noneshot\nlife 0\ninfo 1\nstop 0\nlife 0\nnext 1 0\ninfo 2\ncut 0 0 0\nstop 0\nend\n";
+
+/// A script whose directories hold addresses.
+const ADDRESSED: &str =
+    "dkg 1\nme 1\nblocks 8\nlimit 4\nmode 0 0\nspace -\nblock 0 - 0 010000000000000000000000040300050001000204000000010000000200000003000000040400000001000000020000000300000004000400000001000000020000000300000004040000000100000002000000030000000404000000010000000200000003000000040400000000070001010000000e000200000009ffff00000000150003010000001c000400000009ffff\nlife 9\nheld 0\nsync 010000000000000000000000040300050001000204000000010000000200000003000000040400000001000000020000000300000004000400000001000000020000000300000004040000000100000002000000030000000404000000010000000200000003000000040400000000070001010000000e000200000009ffff00000000150003010000001c000400000009ffff 0 4 0\nstop 0\nend\n";
 
 /// A text with the first such part replaced.
 fn changed(alloc: Global, text: &str, part: &str, by: &str) -> Result<String, Fail> {
@@ -62,17 +66,9 @@ fn a_script_is_read_and_written(rt: HostRuntime) -> Result<(), Fail> {
 }
 
 #[test]
-fn entries_are_printed(rt: HostRuntime) -> Result<(), Fail> {
-    let mut entries = Vec::new(rt.alloc());
-    entries.push(Entry::Step { step: 7 })?;
-    entries.push(Entry::Halted)?;
-    let text = print_of(rt.alloc(), entries.as_slice())?;
-    assert_eq!(rt; text.as_slice(), b"step 7\nhalted\n".as_slice());
-    Ok(())
-}
-
-#[test]
 fn directories_are_read_as_they_are_told(rt: HostRuntime) -> Result<(), Fail> {
+    returns(&rt, ADDRESSED, true)?;
+    misses(&rt, ADDRESSED, "dkg 1", "dkg 1", 45)?;
     let error = read_script(rt.alloc(), RESHARE.as_bytes(), true).err();
     assert_eq!(rt; error, Some(ScriptError::Bad { place: 142 }));
     Ok(())
@@ -139,6 +135,8 @@ fn lines_of_blocks_just_miss(rt: HostRuntime) -> Result<(), Fail> {
 fn lines_of_lives_just_miss(rt: HostRuntime) -> Result<(), Fail> {
     for (part, by, place) in [
         ("life 9\n", "", 748),
+        ("life 9\n", "life\n", 748),
+        ("life 9\n", "life 18446744073709551616\n", 748),
         ("life 9\n", "life 9\nlife 9\n", 755),
         ("processed 1", "processed 3", 755),
         ("processed 1", "processed 1\nabsent 1", 767),
@@ -148,6 +146,8 @@ fn lines_of_lives_just_miss(rt: HostRuntime) -> Result<(), Fail> {
         ("held 0 2", "held", 767),
         ("held 0 2\n", "held 0 2\nprocessed 1\n", 776),
         ("sync 01", "sync 00", 776),
+        (" 0 4 1\npeer", " 0 4 3\npeer", 776),
+        (" 0 4 1\npeer", " 0 4\npeer", 776),
     ] {
         misses(&rt, RESHARE, part, by, place)?;
     }
@@ -172,9 +172,23 @@ fn lines_of_events_just_miss(rt: HostRuntime) -> Result<(), Fail> {
         ("prepare 1 0", "prepare 1 3", 1067),
         ("propose\n", "propose \n", 1079),
         ("verify 2 2", "verify 2,2", 1087),
+        ("verify 2 2", "verify 3 2", 1087),
+        ("next 4 5", "next 4", 1011),
+        ("next 4 5", "next 4 5 6", 1011),
+        ("release 5", "release", 1020),
+        ("release 5", "release 05", 1020),
+        ("feed 3 0", "feed 3 3", 1037),
+        ("over 3", "over 3 3", 1046),
+        ("cancel 9", "cancel -", 1053),
+        ("propose\n", "propose 3\n", 1079),
         ("later 3 1", "later 3 18446744073709551616", 1098),
+        ("later 3 1", "later 3", 1098),
+        ("unsubscribe", "unsubscribe 1", 1118),
+        ("attach", "attached", 1130),
+        ("retry\n", "retry 1\n", 1148),
         ("subscribe", "subscribes", 1108),
         ("reply 4 ff", "reply 4 f", 1137),
+        ("reply 4 ff", "reply 4294967296 ff", 1137),
     ] {
         misses(&rt, RESHARE, part, by, place)?;
     }
@@ -186,6 +200,8 @@ fn last_lines_just_miss(rt: HostRuntime) -> Result<(), Fail> {
     for (part, by, place) in [
         ("cut 19 5", "cut 20 5", 1154),
         ("cut 19 5", "cut 19 5 5", 1154),
+        ("cut 19 5 18446744073709551615", "cut 19 5", 1154),
+        ("cut 19 5 1844", "cut 19 5 11844", 1154),
         (
             "cut 19 5 18446744073709551615\n",
             "cut 19 5 0\ncut 19 5 0\n",

@@ -1,0 +1,18 @@
+use Rattle.std.proofs.Common.{◌≡◌, ◌+◌, ◌-◌, refl, arith}
+use Rattle.dkg_generator.specs.Made.{events_at, events_with}
+use Rattle.dkg_generator.proofs.Ranges.{flat_more_after}
+use Rattle.dkg_generator.proofs.life.put_events.Goals as goal
+
+pub loop-place-preserved : goal.loop-place-preserved
+loop-place-preserved c =
+    let plan = c.args.plan.now in
+    let from = c.args.from in
+    let place = c.loop-place.place in
+    let f = events_at plan.dealings.items plan.acks.items c.args.epoch in
+    let more = flat_more_after f c.args.events.now.items _ _ from (place - from) place (omega arith) refl in
+    let size : (place + 1) - from ≡ (place - from) + 1 = omega arith in
+    rw size (cc (more, c.loop-place.invariant, c.in_ok-push.ensures.items, c.in_ok-put_after.ensures))
+
+pub returns : goal.returns
+unfolding events_with
+returns c = let all : c.loop-place.place ≡ c.args.to = omega arith in rw (← all) c.loop-place.invariant

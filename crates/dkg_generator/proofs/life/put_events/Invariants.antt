@@ -1,0 +1,7 @@
+use Rattle.std.proofs.Common.{◌≡◌, ◌-◌, ◌++◌}
+use Rattle.std.specs.List.{flat_map, range_with_len}
+use Rattle.dkg_generator.specs.Made.{events_at}
+use Rattle.dkg_generator.proofs.life.put_events.Given as goal
+
+abbrev pub invariant-loop-place : goal.invariant-loop-place
+invariant-loop-place l = l.events.items ≡ l.initial.events.items ++ flat_map (events_at l.plan.dealings.items l.plan.acks.items l.epoch) (range_with_len l.from (l.place - l.from))
