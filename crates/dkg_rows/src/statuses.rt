@@ -69,7 +69,7 @@ fn other_words_than_run_are_usage(rt: HostRuntime) -> Result<(), Fail> {
 #[test]
 fn a_source_of_too_many_bytes_is_refused(rt: HostRuntime) -> Result<(), Fail> {
     let alloc = rt.alloc();
-    for (size, wanted) in [(16_777_216usize, 10u8), (16_777_217, 9)] {
+    for (size, wanted) in [(16_777_216usize, 3u8), (16_777_217, 9)] {
         let mut sink = MemorySink::new(alloc);
         let bytes = vec![in alloc; b'\n'; size]?;
         let status = command(alloc, &["run"], MemorySource::new(alloc, bytes), &mut sink)?;

@@ -12,8 +12,8 @@ use Rattle.dkg_store.specs.Secrets.{Secrets}
 use Rattle.dkg_types.specs.declared.entry.Entry.{Entry}
 use Rattle.dkg_types.specs.declared.entry.Entry.TheVariants as entry
 use Rattle.dkg_types.specs.declared.entry.Restored.{Restored}
-use Rattle.dkg_script.specs.declared.script.Cut as cut
-use Rattle.dkg_script.specs.declared.script.Life.{Life}
+use Rattle.dkg_text.specs.declared.script.Cut as cut
+use Rattle.dkg_text.specs.declared.script.Life.{Life}
 use Rattle.dkg_script.specs.Form.{IsLifeOfToday, midpoint_of}
 use Rattle.dkg_script.specs.Kept.{IsSoundOpening, IsDurable, IsRecordedAs, IsBroughtAtCut, IsLaterOpening, Gives}
 use Rattle.dkg_script.specs.Position.{IsPlanHistory, IsLeft, awaited_epoch, begun, begun_before, cut_of, material, unless_outdated}

@@ -17,10 +17,10 @@ use Rattle.dkg_journal.specs.Names.{Files}
 use Rattle.dkg_store.specs.Corrupt.{AreFit}
 use Rattle.dkg_store.specs.Recorded.{first_refused, of_epoch}
 use Rattle.dkg_store.specs.Secrets.{Secrets}
-use Rattle.dkg_script.specs.declared.script.BlockLine.{BlockLine}
-use Rattle.dkg_script.specs.declared.script.Cut.{Cut}
-use Rattle.dkg_script.specs.declared.script.Life.{Life}
-use Rattle.dkg_script.specs.declared.script.Script.{Script}
+use Rattle.dkg_text.specs.declared.script.BlockLine.{BlockLine}
+use Rattle.dkg_text.specs.declared.script.Cut.{Cut}
+use Rattle.dkg_text.specs.declared.script.Life.{Life}
+use Rattle.dkg_text.specs.declared.script.Script.{Script}
 use Rattle.dkg_script.specs.Blocks.{block_of, blocks}
 use Rattle.dkg_script.specs.Consistent.{MayEnd, MayEndSo}
 use Rattle.dkg_script.specs.Ends.{HasRisen}

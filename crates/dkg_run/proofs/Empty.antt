@@ -17,7 +17,7 @@ use Rattle.dkg_store.specs.Keys.{key_cmp}
 use Rattle.dkg_store.specs.Pairs.{IsWhole, recovered}
 use Rattle.dkg_store.specs.Recorded.{Pair, first_refused, of_epoch}
 use Rattle.dkg_store.specs.Secrets.{Secrets}
-use Rattle.dkg_script.specs.declared.script.Script.{Script}
+use Rattle.dkg_text.specs.declared.script.Script.{Script}
 use Rattle.dkg_script.specs.Promise.{AreHonestStores}
 use Rattle.dkg_script.specs.Setting.{recovered_from, setting_of}
 use Rattle.dkg_script.proofs.Worked.{no_pairs, nothing_there}

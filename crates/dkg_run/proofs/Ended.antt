@@ -4,7 +4,7 @@ use Rattle.dkg_types.specs.declared.entry.Entry.{Entry}
 use Rattle.dkg_types.specs.declared.entry.Entry.TheVariants as entry
 use Rattle.dkg_types.specs.declared.fault.Fault.{Fault}
 use Rattle.dkg_types.specs.declared.fault.Fault.TheVariants.{NoMemory}
-use Rattle.dkg_script.specs.declared.script.Script.{Script}
+use Rattle.dkg_text.specs.declared.script.Script.{Script}
 use Rattle.dkg_script.specs.Ends.{EndsWell, EndsInFault, EndsFaulted, HasRisen}
 use Rattle.dkg_script.specs.Order.{IsInOrder}
 use Rattle.dkg_script.specs.Progress.{Progress}

@@ -7,8 +7,8 @@ use Rattle.dkg_ceremony.specs.declared.mode.Mode.{Mode}
 use Rattle.dkg_ceremony.specs.declared.round.Round.{Round}
 use Rattle.dkg_types.specs.declared.directory.Unit as directory
 use Rattle.dkg_types.specs.declared.info.EpochInfo.{EpochInfo}
-use Rattle.dkg_script.specs.declared.script.BlockLine.{BlockLine}
-use Rattle.dkg_script.specs.declared.script.Life.{Life}
+use Rattle.dkg_text.specs.declared.script.BlockLine.{BlockLine}
+use Rattle.dkg_text.specs.declared.script.Life.{Life}
 use Rattle.dkg_script.specs.Readings.{Info, Limits, info_in}
 use Rattle.dkg_script.specs.Setting.{Setting, life_at, limits}
 use Rattle.dkg_script.specs.Blocks.{Block, block_at, block_of, blocks, info_at_boundary, known_info, reshare_round, round_at, used}

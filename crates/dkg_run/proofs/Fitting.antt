@@ -1,5 +1,5 @@
 -- What is fit stays so from step to step.
-use Rattle.std.proofs.Common.{ℕ, ◌+◌, ◌≡◌, ◌∷◌, [], List, map, fold, drop, length, Option, Some, None, Bool, true, false, cond, nat_lt, refl, sym, ap, subst, ◌∙◌, ◌⊎◌, inl, inr}
+use Rattle.std.proofs.Common.{ℕ, ◌+◌, ◌≡◌, ◌∷◌, [], List, map, drop, length, Some, None, refl, sym, ap, subst, ◌∙◌, ◌⊎◌, inl, inr}
 use Rattle.std.specs.Prelude.{if◌then◌else◌, ◌==◌}
 use Rattle.dkg_values.specs.declared.name.Name.{Name}
 use Rattle.dkg_types.specs.declared.entry.Entry.{Entry as Line}

@@ -42,7 +42,7 @@ use Rattle.dkg_script.specs.Progress.{Progress}
 use Rattle.dkg_script.specs.Promise.{Adds}
 use Rattle.dkg_script.specs.Setting.{Setting, recovered_from}
 use Rattle.dkg_script.specs.Valid.{participants_in}
-use Rattle.dkg_script.specs.declared.script.Script.{Script}
+use Rattle.dkg_text.specs.declared.script.Script.{Script}
 use Rattle.dkg_run.specs.Found.{AreFound, BlamesNoRecord, GiveBack, IsFound, IsFoundEntry, Reader, Shows, made_by, reader, reader_in, reader_of, tried_by}
 use Rattle.dkg_run.specs.Opened.{AreOfScript, spelled_info}
 use Rattle.dkg_run.specs.Standing.{Moves, TellsFault}

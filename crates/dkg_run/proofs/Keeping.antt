@@ -7,7 +7,7 @@ use Rattle.dkg_store.specs.Secrets.{Secrets}
 use Rattle.dkg_types.specs.declared.entry.Entry.{Entry}
 use Rattle.dkg_types.specs.declared.entry.Entry.TheVariants as entry
 use Rattle.dkg_types.specs.declared.fault.Fault.{Fault}
-use Rattle.dkg_script.specs.declared.script.Script.{Script}
+use Rattle.dkg_text.specs.declared.script.Script.{Script}
 use Rattle.dkg_script.specs.Kept.{IsSound, IsDurable}
 use Rattle.dkg_script.specs.Progress.{Progress, read, at_start, progress}
 use Rattle.dkg_script.specs.Promise.{Adds, IsBuilt, IsHonestRun, KeepsDealings, AnswersDealings, cuts_in}

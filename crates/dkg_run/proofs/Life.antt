@@ -11,9 +11,9 @@ use Rattle.dkg_journal.specs.Records.{entries}
 use Rattle.dkg_store.specs.Secrets.{Secrets}
 use Rattle.dkg_types.specs.declared.entry.Entry.{Entry}
 use Rattle.dkg_types.specs.declared.entry.Entry.TheVariants as entry
-use Rattle.dkg_script.specs.declared.script.Cut as cut
-use Rattle.dkg_script.specs.declared.script.Life.{Life}
-use Rattle.dkg_script.specs.declared.script.Script.{Script}
+use Rattle.dkg_text.specs.declared.script.Cut as cut
+use Rattle.dkg_text.specs.declared.script.Life.{Life}
+use Rattle.dkg_text.specs.declared.script.Script.{Script}
 use Rattle.dkg_script.specs.Due.{IsDueIn, IsDueEvent}
 use Rattle.dkg_script.specs.Ends.{EndsWell, is_fault}
 use Rattle.dkg_script.specs.Kept.{Gives}

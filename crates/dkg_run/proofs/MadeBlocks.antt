@@ -16,11 +16,11 @@ use Rattle.dkg_types.specs.Units.{unit_spelling}
 use Rattle.dkg_types.specs.Blocks as made
 use Rattle.dkg_types.specs.declared.directory.Unit as directory
 use Rattle.dkg_types.specs.declared.payload.Payload.{Payload}
-use Rattle.dkg_script.specs.declared.script.BlockLine.{BlockLine}
-use Rattle.dkg_script.specs.declared.script.Event.{Event}
-use Rattle.dkg_script.specs.declared.script.Event.TheVariants.{Peer, Final}
-use Rattle.dkg_script.specs.declared.script.Life.{Life}
-use Rattle.dkg_script.specs.declared.script.Script.{Script}
+use Rattle.dkg_text.specs.declared.script.BlockLine.{BlockLine}
+use Rattle.dkg_text.specs.declared.script.Event.{Event}
+use Rattle.dkg_text.specs.declared.script.Event.TheVariants.{Peer, Final}
+use Rattle.dkg_text.specs.declared.script.Life.{Life}
+use Rattle.dkg_text.specs.declared.script.Script.{Script}
 use Rattle.dkg_script.specs.Blocks.{Block, block_at, blocks, digest_of, flagged, zeros}
 use Rattle.dkg_script.specs.Form.{IsBlockOfToday, IsEventOfToday, IsFormOfToday, IsLifeOfToday, midpoint_of}
 use Rattle.dkg_script.specs.Readings.{unit_payload}

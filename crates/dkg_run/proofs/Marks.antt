@@ -16,7 +16,7 @@ use Rattle.dkg_store.specs.Keys.{key_cmp}
 use Rattle.dkg_store.specs.Noted.{Note, Notes, logs_in, noted_log, with_note}
 use Rattle.dkg_store.specs.Pairs.{Pairs}
 use Rattle.dkg_store.specs.Player.{is_orphan}
-use Rattle.dkg_store.specs.Recorded.{at_epoch, bare_logs}
+use Rattle.dkg_store.specs.Recorded.{at_epoch}
 use Rattle.dkg_store.specs.declared.recorded_log.RecordedLog.{RecordedLog}
 use Rattle.dkg_store.proofs.Map.{keys_total}
 use Rattle.dkg_store.proofs.Own.{lookup_at}

@@ -18,8 +18,8 @@ use Rattle.dkg_types.specs.Blocks.{Block}
 use Rattle.dkg_types.specs.declared.directory.Unit as directory
 use Rattle.dkg_types.specs.declared.entry.Entry.{Entry}
 use Rattle.dkg_types.specs.declared.info.EpochInfo.{EpochInfo}
-use Rattle.dkg_script.specs.declared.script.Event.{Event}
-use Rattle.dkg_script.specs.declared.script.Event.TheVariants.{Peer, Final}
+use Rattle.dkg_text.specs.declared.script.Event.{Event}
+use Rattle.dkg_text.specs.declared.script.Event.TheVariants.{Peer, Final}
 use Rattle.dkg_script.specs.Readings.{Halves}
 use Rattle.dkg_script.specs.Setting.{recovered_from}
 use Rattle.dkg_store.specs.declared.recorded_log.RecordedLog.{RecordedLog}

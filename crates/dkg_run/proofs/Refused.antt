@@ -9,14 +9,14 @@ use Rattle.dkg_types.specs.declared.directory.Unit as directory
 use Rattle.dkg_types.specs.declared.entry.Entry.{Entry}
 use Rattle.dkg_types.specs.declared.fault.Fault.{Fault}
 use Rattle.dkg_types.specs.declared.fault.Fault.TheVariants.{ConflictingBlock, DetachedBlock, NoMemory, SkippedHeight}
-use Rattle.dkg_script.specs.declared.script.Event.{Event}
-use Rattle.dkg_script.specs.declared.script.Event.TheVariants.{Peer, Final}
-use Rattle.dkg_script.specs.declared.script.Life.{Life}
+use Rattle.dkg_text.specs.declared.script.Event.{Event}
+use Rattle.dkg_text.specs.declared.script.Event.TheVariants.{Peer, Final}
+use Rattle.dkg_text.specs.declared.script.Life.{Life}
 use Rattle.dkg_script.specs.Blocks.{Block, block_at, chain}
 use Rattle.dkg_script.specs.Position.{awaited_height, event_of_step}
 use Rattle.dkg_script.specs.Progress.{Progress, at_start, read}
 use Rattle.dkg_script.specs.Setting.{Setting, life_at, setting_of}
-use Rattle.dkg_script.specs.declared.script.Script.{Script}
+use Rattle.dkg_text.specs.declared.script.Script.{Script}
 use Rattle.dkg_journal.specs.Names.{Files}
 use Rattle.dkg_store.specs.Secrets.{Secrets}
 use Rattle.dkg_run.specs.Carried.{IsAwaiting, IsBeginningOf, Rests, RestsFor, IsKeptEntry, IsOnChain, IsRefusedBy, IsTodays, OfEvent}

@@ -1,15 +1,17 @@
 -- How a run ends as its status says, by what running its lives answered, and how that status is told.
-use Rattle.std.proofs.Common.{ℕ, List, [], ◌∷◌, ◌++◌, ◌+◌, ◌<◌, ◌≤◌, ◌≡◌, ◌≢◌, ◌⊎◌, ◌∙◌, Bool, true, false, ◌||◌, Option, Some, None, refl, sym, ap, subst, inl, inr, length, drop, arith}
+use Rattle.std.proofs.Common.{ℕ, List, [], ◌∷◌, ◌++◌, ◌+◌, ◌-◌, ◌<◌, ◌≤◌, ◌≡◌, ◌≢◌, ◌⊎◌, ◌∙◌, Bool, true, false, ◌||◌, Option, Some, None, Result, Ok, Err, refl, sym, ap, subst, inl, inr, length, drop, arith}
 use Rattle.std.proofs.lemmas.List.{append_cancel_left, length-append}
 use Rattle.std.proofs.Math.Seq.{drop-append_seam}
+use Rattle.std.specs.Result.{result_ok}
 use Rattle.dkg_types.specs.declared.entry.Entry.{Entry}
 use Rattle.dkg_types.specs.declared.fault.Fault.{Fault}
 use Rattle.dkg_types.specs.declared.fault.Fault.TheVariants.{NoMemory, Disk, Secrets}
-use Rattle.dkg_script.specs.declared.script.Script.{Script}
+use Rattle.dkg_text.specs.declared.script.Script.{Script}
 use Rattle.dkg_script.specs.Ends.{EndsByDevice, EndsFaulted, EndsInFault, EndsWell, has_fault, is_fault}
 use Rattle.dkg_script.specs.Promise.{Adds}
-use Rattle.dkg_script.specs.Printing.{lines_of}
-use Rattle.dkg_script.specs.Scripts.{script_of}
+use Rattle.dkg_text.specs.Printing.{lines_of}
+use Rattle.dkg_text.specs.Grammar.{reading_of, script_of, script_or_place, with_place}
+use Rattle.dkg_script.specs.Built.{is_built}
 use Rattle.dkg_run.specs.Command.{IsTold}
 use Rattle.dkg_run.specs.Outside.{TookMore}
 use Rattle.dkg_run.specs.Reports.{Ends, EndsAs, Ran, RanNothing, Runs, fault_status, last_of}
@@ -111,13 +113,32 @@ not_well entries fault ends well = let told : has_fault entries ≡ true = ap (�
 some_same : {A : Type 0} (x y : A) (o : Option A) → o ≡ Some x → o ≡ Some y → x ≡ y
 some_same x y o one other = let e : Some x ≡ Some y = sym one ∙ other in cc
 
-some_none : {A : Type 0} (x : A) (o : Option A) → o ≡ Some x → o ≡ None → ⊥
-some_none x o some none = let e : Some x ≡ None = sym some ∙ none in cc
+true_false : {b : Bool} → b ≡ true → b ≡ false → ⊥
+true_false is other = let e : true ≡ false = sym is ∙ other in cc
+
+-- WHAT THE BYTES SPELL
+
+-- a text that is a script has no place where it is none
+pub is_spelled : (addressed : Bool) (bytes : List ℕ) (script : Script) → script_or_place addressed bytes ≡ Ok script → script_of addressed bytes ≡ Some script
+unfolding script_of script_or_place
+is_spelled addressed bytes script is = by_reading (reading_of addressed bytes) is
+  where
+    by_reading : (r : Result Script ℕ) → with_place (length bytes) r ≡ Ok script → result_ok r ≡ Some script
+    by_reading (Ok x) e = let same : Ok x ≡ Ok script = e in cc
+    by_reading (Err left) e = absurd (let none : Err (length bytes - left) ≡ Ok script = e in cc)
+
+no_place : (addressed : Bool) (bytes : List ℕ) (script : Script) (place : ℕ) → script_of addressed bytes ≡ Some script → script_or_place addressed bytes ≡ Err place → ⊥
+unfolding script_of script_or_place
+no_place addressed bytes script place is = by_reading (reading_of addressed bytes) is
+  where
+    by_reading : (r : Result Script ℕ) → result_ok r ≡ Some script → with_place (length bytes) r ≡ Err place → ⊥
+    by_reading (Ok x) e none = let wrong : Ok x ≡ Err place = none in cc
+    by_reading (Err left) e none = let wrong : None ≡ Some script = e in cc
 
 module _ (script : Script) (entries : List Entry) (disk_rose secrets_rose : Type 0) (Gave : List ℕ → Type 0) (Untouched : Type 0) (Kept Answered : Script → List Entry → Type 0)
-    (spells : (bytes : List ℕ) → Gave bytes → script_of bytes ≡ Some script) (ends_well : Kept script entries → EndsWell entries) where
+    (spells : (bytes : List ℕ) → Gave bytes → script_of false bytes ≡ Some script) (built : is_built script ≡ true) (ends_well : Kept script entries → EndsWell entries) where
   ran_well : Ran Gave Kept entries → EndsWell entries
-  ran_well ran = ends_well (subst (λ (its : Script). Kept its entries) (some_same ran.script script (script_of ran.bytes) ran.spells (spells ran.bytes ran.gave)) ran.kept)
+  ran_well ran = ends_well (subst (λ (its : Script). Kept its entries) (some_same ran.script script (script_of false ran.bytes) ran.spells (spells ran.bytes ran.gave)) ran.kept)
 
   by_status : (ended : Status) → EndsAs disk_rose secrets_rose Gave Untouched Kept Answered ended entries → (ended ≡ status.ReadFault → ⊥) → (ended ≡ status.TooLong → ⊥) → (ended ≡ status.Done) ⊎ (ended ≡ status.NoMemory)
   by_status status.Done its not_failed not_long = inl refl
@@ -126,7 +147,10 @@ module _ (script : Script) (entries : List Entry) (disk_rose secrets_rose : Type
   by_status status.WriteFault its not_failed not_long = absurd its.ends
   by_status status.ReadFault its not_failed not_long = absurd (not_failed refl)
   by_status status.TooLong its not_failed not_long = absurd (not_long refl)
-  by_status status.Unsupported its not_failed not_long = absurd (some_none script (script_of its.runs.bytes) (spells its.runs.bytes its.runs.gave) its.runs.no_script)
+  by_status (status.BadScript place) its not_failed not_long = absurd (no_place false its.runs.bytes script place (spells its.runs.bytes its.runs.gave) its.runs.no_script)
+  by_status status.Unsupported its not_failed not_long =
+      let same : its.runs.script ≡ script = some_same its.runs.script script (script_of false its.runs.bytes) its.runs.spells (spells its.runs.bytes its.runs.gave) in
+      absurd (true_false (ap is_built same ∙ built) its.runs.not_built)
   by_status (status.Fault fault) its not_failed not_long = absurd (not_well entries fault its.ends.1 (ran_well its.runs))
   by_status status.Device its not_failed not_long = absurd (by_device its.ends (ran_well its.runs))
     where

@@ -1,5 +1,5 @@
 -- What setting a node up tells, and what it leaves of the recorded dealings.
-use Rattle.std.proofs.Common.{◌≡◌, ◌⊎◌, inl, inr, ℕ, ◌<◌, ◌≤◌, ◌^◌, Bool, true, false, cond, List, [], ◌∷◌, ◌++◌, Option, Some, None, Result, Ok, Err, refl, sym, ap, subst, ◌∙◌, append_assoc, append-nil, nat_le, nat_lt, ◌&&◌, ◌==◌, filter, arith, IsTrue, ◌↔◌, Contains}
+use Rattle.std.proofs.Common.{◌≡◌, ◌⊎◌, inr, ℕ, ◌<◌, ◌≤◌, ◌^◌, Bool, true, false, cond, List, [], ◌∷◌, ◌++◌, Option, Some, None, Result, Ok, Err, refl, sym, ap, subst, ◌∙◌, append_assoc, append-nil, nat_le, nat_lt, ◌&&◌, ◌==◌, filter, arith, IsTrue, ◌↔◌, Contains}
 use Rattle.std.specs.Prelude.{OnOk, OnErr, IfSome, if◌then◌else◌, is_some, not}
 use Rattle.dkg_values.specs.Rising.{has_key}
 use Rattle.dkg_values.specs.RisingLaws.{has_key-from, has_key-to}

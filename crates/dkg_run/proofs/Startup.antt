@@ -3,7 +3,7 @@ use Rattle.std.proofs.Common.{◌≡◌, ℕ, zero, suc, ◌-◌, ◌<◌, ◌�
 use Rattle.std.specs.Prelude.{option_map, slice_get, IfSome, IsSomeAnd}
 use Rattle.dkg_types.specs.Blocks as made
 use Rattle.dkg_types.specs.declared.directory.Unit as directory
-use Rattle.dkg_script.specs.declared.script.Anchor.TheVariants.{Processed, Absent}
+use Rattle.dkg_text.specs.declared.script.Anchor.TheVariants.{Processed, Absent}
 use Rattle.dkg_script.specs.Blocks.{Block, block_at}
 use Rattle.dkg_script.specs.Setting.{Setting}
 use Rattle.dkg_script.proofs.LineBlocks.{no_line}

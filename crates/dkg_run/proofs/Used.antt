@@ -3,9 +3,9 @@ use Rattle.std.proofs.Common.{◌≡◌, ℕ, ◌==◌, List, [], ◌∷◌, ◌
 use Rattle.std.specs.Prelude.{option_map, option_to_list, slice_get, IfSome}
 use Rattle.std.specs.List.{AllByRecursion, cons_option}
 use Rattle.std.proofs.lemmas.Bool.Decides.{nat_tests}
-use Rattle.dkg_script.specs.declared.script.Anchor.{Anchor}
-use Rattle.dkg_script.specs.declared.script.Event.TheVariants.{Final}
-use Rattle.dkg_script.specs.declared.script.Life.{Life}
+use Rattle.dkg_text.specs.declared.script.Anchor.{Anchor}
+use Rattle.dkg_text.specs.declared.script.Event.TheVariants.{Final}
+use Rattle.dkg_text.specs.declared.script.Life.{Life}
 use Rattle.dkg_script.specs.Blocks.{Block, anchor_number, block_at, chain, chain_in, delivered_number, events_come_to, held_at_opening, used, used_in}
 use Rattle.dkg_script.specs.Setting.{Setting, life_at}
 use Rattle.dkg_run.specs.Carried.{IsTodays}

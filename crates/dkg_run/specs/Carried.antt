@@ -11,10 +11,10 @@ use Rattle.dkg_store.specs.Secrets.{Secrets}
 use Rattle.dkg_types.specs.declared.entry.Entry.{Entry}
 use Rattle.dkg_types.specs.declared.entry.Entry.TheVariants.{Step, Cut, Acked}
 use Rattle.dkg_types.specs.declared.entry.Restored.{Restored}
-use Rattle.dkg_script.specs.declared.script.Cut as cut
-use Rattle.dkg_script.specs.declared.script.Event.{Event}
-use Rattle.dkg_script.specs.declared.script.Event.TheVariants.{Peer, Final}
-use Rattle.dkg_script.specs.declared.script.Life.{Life}
+use Rattle.dkg_text.specs.declared.script.Cut as cut
+use Rattle.dkg_text.specs.declared.script.Event.{Event}
+use Rattle.dkg_text.specs.declared.script.Event.TheVariants.{Peer, Final}
+use Rattle.dkg_text.specs.declared.script.Life.{Life}
 use Rattle.dkg_script.specs.Consistent.{IsConsistentScript}
 use Rattle.dkg_script.specs.Due.{IsDue, WroteAck}
 use Rattle.dkg_script.specs.Form.{midpoint_of}
@@ -36,7 +36,7 @@ use Rattle.dkg_run.specs.Told.{Seat, IsSilent, seat_in}
 use Rattle.dkg_run.specs.declared.tip.Tip.{Tip}
 use Rattle.dkg_run.specs.Opened.{AreOfScript}
 use Rattle.dkg_run.specs.declared.beginning.Beginning.{Beginning}
-use Rattle.dkg_script.specs.declared.script.Script.{Script}
+use Rattle.dkg_text.specs.declared.script.Script.{Script}
 use Rattle.std.specs.Int.NonZero.{non_zero_u32_get}
 use Rattle.dkg_run.specs.declared.node.Node.{Node}
 use Rattle.dkg_run.specs.declared.stop.Stop.{Stop}

@@ -6,13 +6,13 @@ use Rattle.dkg_types.specs.declared.directory.Unit as directory
 use Rattle.dkg_types.specs.declared.fault.Fault.{Fault}
 use Rattle.dkg_types.specs.declared.fault.Fault.TheVariants.{ConflictingBlock, DetachedBlock, SkippedHeight}
 use Rattle.std.specs.Option.{option_map_or}
-use Rattle.dkg_script.specs.declared.script.BlockLine.{BlockLine}
-use Rattle.dkg_script.specs.declared.script.Anchor.{Anchor}
-use Rattle.dkg_script.specs.declared.script.Anchor.TheVariants.{Processed, Absent}
-use Rattle.dkg_script.specs.declared.script.Event.{Event}
-use Rattle.dkg_script.specs.declared.script.Event.TheVariants.{Peer, Final}
-use Rattle.dkg_script.specs.declared.script.Life.{Life}
-use Rattle.dkg_script.specs.declared.script.Script.{Script}
+use Rattle.dkg_text.specs.declared.script.BlockLine.{BlockLine}
+use Rattle.dkg_text.specs.declared.script.Anchor.{Anchor}
+use Rattle.dkg_text.specs.declared.script.Anchor.TheVariants.{Processed, Absent}
+use Rattle.dkg_text.specs.declared.script.Event.{Event}
+use Rattle.dkg_text.specs.declared.script.Event.TheVariants.{Peer, Final}
+use Rattle.dkg_text.specs.declared.script.Life.{Life}
+use Rattle.dkg_text.specs.declared.script.Script.{Script}
 use Rattle.dkg_script.specs.Blocks.{Block, anchor_number, block_at, digest_of, zeros}
 use Rattle.dkg_script.specs.Schedule.{epoch_of}
 use Rattle.dkg_script.specs.Setting.{Setting}

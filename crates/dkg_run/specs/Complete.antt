@@ -4,7 +4,7 @@ use Rattle.dkg_journal.specs.Names.{Files}
 use Rattle.dkg_store.specs.Corrupt.{AreFit}
 use Rattle.dkg_store.specs.Secrets.{Secrets}
 use Rattle.dkg_types.specs.declared.entry.Entry.{Entry}
-use Rattle.dkg_script.specs.declared.script.Script.{Script}
+use Rattle.dkg_text.specs.declared.script.Script.{Script}
 use Rattle.dkg_script.specs.Ends.{EndsWell}
 use Rattle.dkg_script.specs.Promise.{AreHonestStores, IsBuilt}
 use Rattle.dkg_script.specs.Setting.{Setting, setting_of}

@@ -24,7 +24,7 @@ use Rattle.dkg_store.specs.Corrupt.{IsCorruptAt}
 use Rattle.dkg_store.specs.Pairs.{Pairs}
 use Rattle.dkg_store.specs.Recorded.{first_refused, of_epoch}
 use Rattle.dkg_store.specs.Secrets.{Secrets}
-use Rattle.dkg_script.specs.declared.script.Script.{Script}
+use Rattle.dkg_text.specs.declared.script.Script.{Script}
 use Rattle.dkg_script.specs.Readings.{Info}
 use Rattle.dkg_script.specs.Setting.{recovered_from}
 use Rattle.dkg_script.specs.Valid.{participants_in}

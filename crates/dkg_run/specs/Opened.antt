@@ -21,8 +21,8 @@ use Rattle.dkg_types.specs.declared.entry.Entry.TheVariants.{Opened, Committed, 
 use Rattle.dkg_types.specs.declared.info.EpochInfo.{EpochInfo}
 use Rattle.dkg_types.specs.declared.payload.Payload.{Payload}
 use Rattle.dkg_types.specs.PayloadCodes.{its_info}
-use Rattle.dkg_script.specs.declared.script.BlockLine.{BlockLine}
-use Rattle.dkg_script.specs.declared.script.Script.{Script}
+use Rattle.dkg_text.specs.declared.script.BlockLine.{BlockLine}
+use Rattle.dkg_text.specs.declared.script.Script.{Script}
 use Rattle.dkg_script.specs.Readings.{Limits, Info, info_in, unit_payload, with_spelled}
 use Rattle.dkg_script.specs.Setting.{listed}
 use Rattle.dkg_run.specs.Told.{Seat}

@@ -6,8 +6,8 @@ use Rattle.dkg_types.specs.declared.entry.Entry.{Entry}
 use Rattle.dkg_types.specs.declared.entry.Entry.TheVariants as entry
 use Rattle.dkg_types.specs.declared.fault.Fault.{Fault}
 use Rattle.dkg_types.specs.declared.fault.Fault.TheVariants.{ConflictingBlock, DetachedBlock, SkippedHeight}
-use Rattle.dkg_script.specs.declared.script.Event.TheVariants.{Final}
-use Rattle.dkg_script.specs.declared.script.Life.{Life}
+use Rattle.dkg_text.specs.declared.script.Event.TheVariants.{Final}
+use Rattle.dkg_text.specs.declared.script.Life.{Life}
 use Rattle.dkg_script.specs.Blocks.{Block, block_at}
 use Rattle.dkg_script.specs.Position.{awaited_height, event_of_step}
 use Rattle.dkg_script.specs.Progress.{Progress}

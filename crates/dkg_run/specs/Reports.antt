@@ -1,15 +1,17 @@
 -- How a command ends, by its status: how the entries end, what was read and run, and what there is to write.
-use Rattle.std.specs.Prelude.{ℕ, List, [], ◌∷◌, ◌++◌, ◌≡◌, ◌≤◌, ◌⊎◌, Some, None, codes, length}
+use Rattle.std.specs.Prelude.{ℕ, List, [], ◌∷◌, ◌++◌, ◌≡◌, ◌≤◌, ◌⊎◌, true, false, Some, Err, codes, length}
 use Rattle.dkg_journal.specs.Names.{Files}
 use Rattle.dkg_store.specs.Secrets.{Secrets}
 use Rattle.dkg_types.specs.declared.entry.Entry.{Entry}
 use Rattle.dkg_types.specs.declared.fault.Fault.{Fault}
 use Rattle.dkg_types.specs.declared.fault.Fault.TheVariants as fault
-use Rattle.dkg_script.specs.declared.script.Script.{Script}
+use Rattle.dkg_text.specs.declared.script.Script.{Script}
+use Rattle.dkg_text.specs.Fields.{number_field}
+use Rattle.dkg_text.specs.Grammar.{script_of, script_or_place}
+use Rattle.dkg_script.specs.Built.{is_built}
 use Rattle.dkg_script.specs.Ends.{EndsWell, EndsInFault, EndsByDevice, IsNodeFault}
 use Rattle.dkg_script.specs.Form.{IsFormOfToday}
 use Rattle.dkg_script.specs.Promise.{RunsInOrder, RunsAll, KeepsDealings, AnswersDealings}
-use Rattle.dkg_script.specs.Scripts.{script_of}
 use Rattle.dkg_script.specs.Setting.{setting_of}
 use Rattle.dkg_run.specs.Complete.{Completes}
 use Rattle.dkg_run.specs.Found.{AreFound, reader_in}
@@ -29,6 +31,7 @@ fault_status other = status.Fault other
 abbrev pub number_of : Status → ℕ
 number_of status.Done = 0
 number_of status.Usage = 2
+number_of (status.BadScript place) = 3
 number_of (status.Fault fault) = 4
 number_of status.Device = 5
 number_of status.NoMemory = 6
@@ -41,6 +44,7 @@ number_of status.Unsupported = 10
 abbrev pub last_of : Status → List ℕ
 last_of status.Done = codes "done" ++ 10 ∷ []
 last_of status.Usage = codes "usage" ++ 10 ∷ []
+last_of (status.BadScript place) = codes "bad" ++ number_field place ++ 10 ∷ []
 last_of status.Unsupported = codes "unsupported" ++ 10 ∷ []
 last_of _ = []
 
@@ -52,6 +56,7 @@ Ends status.Done entries disk_rose secrets_rose = EndsWell entries
 Ends (status.Fault fault) entries disk_rose secrets_rose = IsNodeFault fault × EndsInFault entries fault
 Ends status.Device entries disk_rose secrets_rose = EndsByDevice entries disk_rose secrets_rose
 Ends status.NoMemory entries disk_rose secrets_rose = EndsWell entries
+Ends (status.BadScript place) entries disk_rose secrets_rose = entries ≡ []
 Ends status.Unsupported entries disk_rose secrets_rose = entries ≡ []
 Ends status.ReadFault entries disk_rose secrets_rose = entries ≡ []
 Ends status.TooLong entries disk_rose secrets_rose = entries ≡ []
@@ -90,12 +95,14 @@ abbrev pub KeepsAndCompletes : (Tells : Type 0) → Files → Secrets → (image
 KeepsAndCompletes Tells files secrets image files_now now held disk_rose secrets_rose script entries =
     KeepsAndFinds Tells files secrets image files_now now held script entries × Completes Tells files secrets image disk_rose secrets_rose script entries
 
--- A script was read, and it was run. (`Gave` says that the source gave these bytes to its end; `Kept` says what a run keeps.)
+-- A script was read, of a form that is run, and it was run. (`Gave` says that the source gave these bytes to its end; `Kept` says what a
+-- run keeps.)
 pub record Ran (Gave : List ℕ → Type 0) (Kept : Script → List Entry → Type 0) (entries : List Entry) : Type 0 where
   pub bytes : List ℕ
   pub gave : Gave bytes
   pub script : Script
-  pub spells : script_of bytes ≡ Some script
+  pub spells : script_of false bytes ≡ Some script
+  pub built : is_built script ≡ true
   pub form : IsFormOfToday script
   pub in_order : RunsInOrder script entries
   pub kept : Kept script entries
@@ -111,11 +118,20 @@ pub record RanNothing (Untouched : Type 0) (entries : List Entry) : Type 0 where
   pub no_entry : entries ≡ []
   pub untouched : Untouched
 
--- Something else was read.
-pub record Refused (Gave : List ℕ → Type 0) (Untouched : Type 0) (entries : List Entry) : Type 0 where
+-- The bytes are no script: from this place on stands the first line that no script has after the lines before it.
+pub record NoScript (Gave : List ℕ → Type 0) (Untouched : Type 0) (place : ℕ) (entries : List Entry) : Type 0 where
   pub bytes : List ℕ
   pub gave : Gave bytes
-  pub no_script : script_of bytes ≡ None
+  pub no_script : script_or_place false bytes ≡ Err place
+  pub nothing : RanNothing Untouched entries
+
+-- The bytes are a script, of a form that is not run yet.
+pub record NotBuilt (Gave : List ℕ → Type 0) (Untouched : Type 0) (entries : List Entry) : Type 0 where
+  pub bytes : List ℕ
+  pub gave : Gave bytes
+  pub script : Script
+  pub spells : script_of false bytes ≡ Some script
+  pub not_built : is_built script ≡ false
   pub nothing : RanNothing Untouched entries
 
 -- by the status (`Untouched` says that no device was called)
@@ -124,7 +140,8 @@ Runs status.Done Gave Untouched Kept Answered entries = RanAll Gave Kept Answere
 Runs (status.Fault fault) Gave Untouched Kept Answered entries = Ran Gave Kept entries
 Runs status.Device Gave Untouched Kept Answered entries = Ran Gave Kept entries
 Runs status.NoMemory Gave Untouched Kept Answered entries = RanNothing Untouched entries ⊎ Ran Gave Kept entries
-Runs status.Unsupported Gave Untouched Kept Answered entries = Refused Gave Untouched entries
+Runs (status.BadScript place) Gave Untouched Kept Answered entries = NoScript Gave Untouched place entries
+Runs status.Unsupported Gave Untouched Kept Answered entries = NotBuilt Gave Untouched entries
 Runs status.ReadFault Gave Untouched Kept Answered entries = RanNothing Untouched entries
 Runs status.TooLong Gave Untouched Kept Answered entries = RanNothing Untouched entries
 Runs status.Usage Gave Untouched Kept Answered entries = ⊥

@@ -6,9 +6,9 @@ use Rattle.dkg_types.specs.declared.entry.Entry.TheVariants.{Opened, Cut, Step, 
 use Rattle.dkg_types.specs.declared.entry.Restored.{Restored}
 use Rattle.dkg_types.specs.declared.fault.Fault as fault
 use Rattle.dkg_types.specs.declared.fault.Fault.TheVariants.{NoMemory}
-use Rattle.dkg_script.specs.declared.script.Cut as cut
-use Rattle.dkg_script.specs.declared.script.Life.{Life}
-use Rattle.dkg_script.specs.declared.script.Script.{Script}
+use Rattle.dkg_text.specs.declared.script.Cut as cut
+use Rattle.dkg_text.specs.declared.script.Life.{Life}
+use Rattle.dkg_text.specs.declared.script.Script.{Script}
 use Rattle.dkg_script.specs.Ends.{EndsWell}
 use Rattle.dkg_script.specs.Order.{IsInOrder, is_opened}
 use Rattle.dkg_script.specs.Progress.{Progress, read}

@@ -1,10 +1,12 @@
 //! The top call: it reads a script, runs its lives, and writes their transcript.
-ghost use Rattle.std.specs.Prelude.{◌≡◌, ◌≢◌, ◌↔◌, ◌⊎◌, ◌≤◌, ◌++◌, [], ◌∷◌, map, codes, string_bytes, length, Some, IsTrue, IfOk, drop};
+ghost use Rattle.std.specs.Prelude.{◌≡◌, ◌≢◌, ◌↔◌, ◌⊎◌, ◌≤◌, ◌++◌, [], ◌∷◌, map, codes, string_bytes, length, Some, IsTrue, IfOk, OnOk, drop, true, false};
 ghost use Rattle.dkg_journal.specs.Disk.{Rose};
-ghost use Rattle.dkg_script.specs.Printing.{lines_of};
+ghost use Rattle.dkg_text.specs.Fields.{number_field};
+ghost use Rattle.dkg_text.specs.Grammar.{script_of};
+ghost use Rattle.dkg_text.specs.Printing.{lines_of};
+ghost use Rattle.dkg_text.specs.declared.script.Script.{Script};
+ghost use Rattle.dkg_script.specs.Built.{is_built};
 ghost use Rattle.dkg_script.specs.Promise.{Adds};
-ghost use Rattle.dkg_script.specs.Scripts.{script_of};
-ghost use Rattle.dkg_script.specs.declared.script.Script.{Script};
 ghost use Rattle.dkg_run.specs.Command.{IsTold};
 ghost use Rattle.dkg_run.specs.Complete.{IsSoundRun};
 ghost use Rattle.dkg_run.specs.Outside.{TookFew, TookMore};
@@ -16,9 +18,10 @@ use crate::source::Source;
 use crate::transfer::{ReadError, read_all, write_all};
 use dkg_ceremony::Mem;
 use dkg_journal::Disk;
-use dkg_script::{ScriptError, print_of, read_script};
+use dkg_script::{ReadError as BuiltError, print_of, read_built};
 use dkg_store::SecretStore;
 use dkg_types::{Entry, Fault, Transcript};
+use itoa::Buffer;
 use std::alloc::Global;
 
 /// How a command ended. The program's exit status is its number.
@@ -28,7 +31,10 @@ pub enum Status {
     Done,
     /// The words name no command.
     Usage,
-    /// The bytes are no script of the form that is built so far.
+    /// The bytes are no script. The place is the offset of the first line that no script has after the lines before it; the length,
+    /// where only the last line is missing.
+    BadScript { place: u64 },
+    /// The bytes are a script of a form that isn't run yet.
     Unsupported,
     /// The node ended with a fault that is neither want of memory nor a device's.
     Fault(Fault),
@@ -52,6 +58,7 @@ impl Status {
         match self {
             Status::Done => 0,
             Status::Usage => 2,
+            Status::BadScript { .. } => 3,
             Status::Fault(_) => 4,
             Status::Device => 5,
             Status::NoMemory => 6,
@@ -59,18 +66,6 @@ impl Status {
             Status::WriteFault => 8,
             Status::TooLong => 9,
             Status::Unsupported => 10,
-        }
-    }
-
-    /// The last line that is written for the status, where it has one.
-    fn last_line(&self) -> &'static str
-        ensures { result.now ≡ last_of self.now }
-    {
-        match self {
-            Status::Done => "done\n",
-            Status::Usage => "usage\n",
-            Status::Unsupported => "unsupported\n",
-            _ => "",
         }
     }
 }
@@ -121,10 +116,11 @@ fn run<S: Source, D: Disk, X: SecretStore>(
         Err(ReadError::TooLong) => return Status::TooLong,
         Err(ReadError::NoMemory) => return Status::NoMemory,
     };
-    let script = match read_script(alloc, &bytes, false) {
+    let script = match read_built(alloc, &bytes, false) {
         Ok(script) => script,
-        Err(ScriptError::Bad { place: _ }) => return Status::Unsupported,
-        Err(ScriptError::NoMemory) => return Status::NoMemory,
+        Err(BuiltError::Bad { place }) => return Status::BadScript { place },
+        Err(BuiltError::Unsupported) => return Status::Unsupported,
+        Err(BuiltError::NoMemory) => return Status::NoMemory,
     };
     drop(bytes);
     match run_lives(alloc, &script, disk, secrets, out) {
@@ -133,12 +129,41 @@ fn run<S: Source, D: Disk, X: SecretStore>(
     }
 }
 
+fn put(text: &mut Vec<u8>, more: &[u8]) -> Mem<()>
+    ensures { OnOk result (text.new.items ≡ text.old.items ++ more.now) }
+{
+    Ok(text.extend_from_slice(more)?)
+}
+
+/// The line of a place from which on there is no script.
+fn put_bad(text: &mut Vec<u8>, place: u64) -> Mem<()>
+    ensures { OnOk result (text.new.items ≡ text.old.items ++ (codes "bad" ++ number_field place ++ 10 ∷ [])) }
+{
+    let mut buffer = Buffer::new();
+    put(text, b"bad ")?;
+    put(text, buffer.format(place).as_bytes())?;
+    put(text, b"\n")
+}
+
+/// The last line of a status, where it has one.
+fn put_last(text: &mut Vec<u8>, status: &Status) -> Mem<()>
+    ensures { OnOk result (text.new.items ≡ text.old.items ++ last_of status.now) }
+{
+    match status {
+        Status::Done => put(text, b"done\n"),
+        Status::Usage => put(text, b"usage\n"),
+        Status::BadScript { place } => put_bad(text, *place),
+        Status::Unsupported => put(text, b"unsupported\n"),
+        _ => Ok(()),
+    }
+}
+
 /// The lines of the new entries, and the status's last line.
 fn text_of(alloc: Global, entries: &[Entry], status: &Status) -> Mem<Vec<u8>>
     ensures { IfOk result (λ text. text.items ≡ lines_of entries.now ++ last_of status.now) }
 {
     let mut text = print_of(alloc, entries)?;
-    text.extend_from_slice(status.last_line().as_bytes())?;
+    put_last(&mut text, status)?;
     Ok(text)
 }
 
@@ -188,9 +213,9 @@ pub fn run_command<S: Source, K: Sink, D: Disk, X: SecretStore>(
     ensures write_fault { result ≡ Status.WriteFault → Rose (K.faults sink.old) (K.faults sink.new) }
     ensures too_long { result ≡ Status.TooLong → IsTrue S.tells → TookMore 16777216 (S.left source.old) (S.left source.new) }
     ensures few { result ≡ Status.ReadFault → IsTrue S.tells → TookFew 16777216 (S.left source.old) (S.left source.new) }
-    // Where the source holds the text of a valid script, the devices are valid, and no count rises, every life is run, unless memory
+    // Where the source holds the text of a valid script of a form that is run, the devices are valid, and no count rises, every life is run, unless memory
     // runs out.
-    ensures complete { (map string_bytes words.now ≡ codes "run" ∷ []) → IsTrue S.tells → (script : Script) → script_of (S.left source.old) ≡ Some script → length (S.left source.old) ≤ 16777216 → IsSoundRun (IsTrue D.tells × IsTrue X.tells) (D.files disk.old) (X.held secrets.old) (D.image disk.old) (Rose (D.faults disk.old) (D.faults disk.new)) (Rose (X.faults secrets.old) (X.faults secrets.new)) script → (Rose (S.faults source.old) (S.faults source.new) → ⊥) → (Rose (K.faults sink.old) (K.faults sink.new) → ⊥) → (result ≡ Status.Done) ⊎ (result ≡ Status.NoMemory) }
+    ensures complete { (map string_bytes words.now ≡ codes "run" ∷ []) → IsTrue S.tells → (script : Script) → script_of false (S.left source.old) ≡ Some script → is_built script ≡ true → length (S.left source.old) ≤ 16777216 → IsSoundRun (IsTrue D.tells × IsTrue X.tells) (D.files disk.old) (X.held secrets.old) (D.image disk.old) (Rose (D.faults disk.old) (D.faults disk.new)) (Rose (X.faults secrets.old) (X.faults secrets.new)) script → (Rose (S.faults source.old) (S.faults source.new) → ⊥) → (Rose (K.faults sink.old) (K.faults sink.new) → ⊥) → (result ≡ Status.Done) ⊎ (result ≡ Status.NoMemory) }
 {
     if !is_run(words) {
         return report(alloc, sink, &[], Status::Usage);

@@ -3,9 +3,9 @@ use Rattle.std.proofs.Common.{ℕ, suc, List, [], ◌∷◌, ◌≡◌, refl, sy
 use Rattle.std.specs.Prelude.{fold, cond, slice_get, IsSomeAnd}
 use Rattle.dkg_types.specs.declared.entry.Entry.{Entry}
 use Rattle.dkg_types.specs.declared.entry.Entry.TheVariants.{Opened, Recorded, Cut, Step}
-use Rattle.dkg_script.specs.declared.script.Life.{Life}
+use Rattle.dkg_text.specs.declared.script.Life.{Life}
 use Rattle.dkg_types.specs.declared.entry.Restored.{Restored}
-use Rattle.dkg_script.specs.declared.script.Script.{Script}
+use Rattle.dkg_text.specs.declared.script.Script.{Script}
 use Rattle.dkg_journal.specs.Names.{Files}
 use Rattle.dkg_store.specs.Secrets.{Secrets}
 use Rattle.dkg_script.specs.Setting.{Setting, setting_of}

@@ -19,7 +19,7 @@ use Rattle.dkg_store.specs.Pairs.{Pairs, IsWhole}
 use Rattle.dkg_store.proofs.Map.{keys_total}
 use Rattle.dkg_types.specs.declared.entry.Entry.{Entry}
 use Rattle.dkg_types.specs.declared.entry.Restored.{Restored}
-use Rattle.dkg_script.specs.declared.script.Script.{Script}
+use Rattle.dkg_text.specs.declared.script.Script.{Script}
 use Rattle.dkg_script.specs.Setting.{Setting, setting_of, listed, recovered_from}
 use Rattle.dkg_script.specs.Blocks.{handed_in}
 use Rattle.dkg_script.specs.Position.{begun}

@@ -18,9 +18,9 @@ use Rattle.dkg_types.specs.PayloadCodes.{carried_at, payload_after}
 use Rattle.dkg_types.specs.declared.entry.Entry.{Entry}
 use Rattle.dkg_types.specs.declared.entry.Entry.TheVariants.{Opened, Ack, Cut, Step}
 use Rattle.dkg_types.specs.declared.entry.Restored.{Restored}
-use Rattle.dkg_script.specs.declared.script.Event.TheVariants.{Peer}
-use Rattle.dkg_script.specs.declared.script.Life.{Life}
-use Rattle.dkg_script.specs.declared.script.Script.{Script}
+use Rattle.dkg_text.specs.declared.script.Event.TheVariants.{Peer}
+use Rattle.dkg_text.specs.declared.script.Life.{Life}
+use Rattle.dkg_text.specs.declared.script.Script.{Script}
 use Rattle.dkg_script.specs.Readings.{info_in}
 use Rattle.dkg_script.specs.Setting.{CutAt}
 use Rattle.dkg_script.specs.Blocks.{used}

@@ -7,8 +7,8 @@ use Rattle.std.proofs.Math.Nat.{div-mul-le_self, le-div_iff_mul-le}
 use Rattle.dkg_journal.specs.Names.{Files}
 use Rattle.dkg_store.specs.Secrets.{Secrets}
 use Rattle.dkg_types.specs.declared.entry.Restored.{Restored}
-use Rattle.dkg_script.specs.declared.script.Event.{Event}
-use Rattle.dkg_script.specs.declared.script.Life.{Life}
+use Rattle.dkg_text.specs.declared.script.Event.{Event}
+use Rattle.dkg_text.specs.declared.script.Life.{Life}
 use Rattle.dkg_script.specs.Setting.{Setting, CutAt, blocks_per_epoch, is_oneshot, life_at, recovered_from}
 use Rattle.dkg_script.specs.Blocks.{Block, block_at, delivered_number, events_come_to}
 use Rattle.dkg_script.specs.Position.{awaited_height, awaited_epoch, awaited_epoch_in, awaited_before, begun, start_height, last_awaited, greatest_below, events_taken}

@@ -3,14 +3,14 @@ use Rattle.std.proofs.Common.{ℕ, suc, ◌<◌, List, [], ◌∷◌, ◌≡◌,
 use Rattle.dkg_ceremony.specs.Dealings.{dealing_of}
 use Rattle.dkg_ceremony.specs.Polynomials.{value_at}
 use Rattle.dkg_ceremony.specs.declared.ceremony.DealingError.TheVariants.{UnexpectedDealer, InvalidCommitmentDegree, MismatchedReshareCommitment, InvalidDealerShare}
-use Rattle.dkg_script.specs.declared.script.Anchor.{Anchor}
-use Rattle.dkg_script.specs.declared.script.Anchor.TheVariants.{Absent}
-use Rattle.dkg_script.specs.declared.script.BlockLine.{BlockLine}
-use Rattle.dkg_script.specs.declared.script.Event.{Event}
-use Rattle.dkg_script.specs.declared.script.Event.TheVariants.{Peer, Final}
-use Rattle.dkg_script.specs.declared.script.Life.{Life}
-use Rattle.dkg_script.specs.declared.script.Script.{Script}
-use Rattle.dkg_script.specs.declared.script.SyncLine.{SyncLine}
+use Rattle.dkg_text.specs.declared.script.Anchor.{Anchor}
+use Rattle.dkg_text.specs.declared.script.Anchor.TheVariants.{Absent}
+use Rattle.dkg_text.specs.declared.script.BlockLine.{BlockLine}
+use Rattle.dkg_text.specs.declared.script.Event.{Event}
+use Rattle.dkg_text.specs.declared.script.Event.TheVariants.{Peer, Final}
+use Rattle.dkg_text.specs.declared.script.Life.{Life}
+use Rattle.dkg_text.specs.declared.script.Script.{Script}
+use Rattle.dkg_text.specs.declared.script.SyncLine.{SyncLine}
 use Rattle.dkg_script.specs.Readings.{Material}
 use Rattle.dkg_script.specs.Setting.{Setting, CutAt}
 use Rattle.std.specs.Prelude.{◌==◌}

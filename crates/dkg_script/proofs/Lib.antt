@@ -6,11 +6,8 @@ pub mod Durable
 pub mod EachEntry
 pub mod Edges
 pub mod Formed
-pub mod Hex
 pub mod Honest
 pub mod LineBlocks
-pub mod NonZeros
-pub mod Numbers
 pub mod OneAck
 pub mod OneDealing
 pub mod Openings
@@ -19,8 +16,6 @@ pub mod Rounds
 pub mod RunsPastACut
 pub mod ScriptedCuts
 pub mod SentAgain
-pub mod ReadOn
-pub mod Spelled
 pub mod Starting
 pub mod Steps
 pub mod Stores

@@ -4,7 +4,7 @@ use Rattle.std.specs.Prelude.{fold, slice_get}
 use Rattle.std.proofs.Math.Seq.{take-append_seam}
 use Rattle.std.proofs.lemmas.List.{length-append}
 use Rattle.std.proofs.lemmas.Option.{slice_get_past}
-use Rattle.dkg_script.specs.declared.script.BlockLine.{BlockLine}
+use Rattle.dkg_text.specs.declared.script.BlockLine.{BlockLine}
 use Rattle.dkg_script.specs.Blocks.{Block, block_at, block_of, blocks}
 use Rattle.dkg_script.specs.Setting.{Setting}
 

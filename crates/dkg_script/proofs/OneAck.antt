@@ -10,7 +10,7 @@ use Rattle.dkg_journal.specs.Names.{Files}
 use Rattle.dkg_types.specs.declared.entry.Entry.{Entry}
 use Rattle.dkg_types.specs.declared.entry.Entry.TheVariants as entry
 use Rattle.dkg_types.specs.declared.entry.Restored.{Restored}
-use Rattle.dkg_script.specs.declared.script.Life.{Life}
+use Rattle.dkg_text.specs.declared.script.Life.{Life}
 use Rattle.dkg_script.specs.Setting.{Setting, me, life_at}
 use Rattle.dkg_script.specs.Blocks.{round_at}
 use Rattle.dkg_script.specs.Progress.{Progress, read, at_start, progress, pair_of, with_pair, with_life_ended, is_last_step, IsValid}

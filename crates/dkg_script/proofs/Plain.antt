@@ -3,7 +3,7 @@ use Rattle.std.proofs.Common.{ℕ, zero, suc, ◌<◌, ◌≤◌, List, [], ◌�
 use Rattle.std.specs.Prelude.{slice_get, cond, IfSome}
 use Rattle.std.specs.List.{AllByRecursion}
 use Rattle.std.specs.Option.{option_or}
-use Rattle.dkg_script.specs.declared.script.Life.{Life}
+use Rattle.dkg_text.specs.declared.script.Life.{Life}
 use Rattle.dkg_script.specs.Setting.{Setting, CutAt, is_oneshot, life_at, found}
 use Rattle.dkg_script.specs.Blocks.{handed_in, provided}
 use Rattle.dkg_script.specs.Position.{IsPlanHistory, IsLeft, cut_of, material, unless_outdated}

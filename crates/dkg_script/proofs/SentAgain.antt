@@ -16,9 +16,9 @@ use Rattle.dkg_types.specs.declared.entry.Entry.{Entry}
 use Rattle.dkg_types.specs.declared.entry.Entry.TheVariants.{Opened, Ack, Blocked, Step}
 use Rattle.dkg_types.specs.declared.entry.BlockedWhy.TheVariants.{Decode}
 use Rattle.dkg_types.specs.declared.entry.Restored.{Restored}
-use Rattle.dkg_script.specs.declared.script.Event.TheVariants.{Peer}
-use Rattle.dkg_script.specs.declared.script.Life.{Life}
-use Rattle.dkg_script.specs.declared.script.Script.{Script}
+use Rattle.dkg_text.specs.declared.script.Event.TheVariants.{Peer}
+use Rattle.dkg_text.specs.declared.script.Life.{Life}
+use Rattle.dkg_text.specs.declared.script.Script.{Script}
 use Rattle.dkg_script.specs.Readings.{Halves, info_in}
 use Rattle.dkg_script.specs.Blocks.{used, round_at}
 use Rattle.dkg_script.specs.Position.{awaited_before, awaited_epoch_in, awaited_height}

@@ -11,7 +11,7 @@ use Rattle.dkg_types.specs.declared.directory.Unit as directory
 use Rattle.dkg_types.specs.declared.info.EpochInfo.{EpochInfo}
 use Rattle.dkg_types.specs.declared.participants.ParticipantsError.{ParticipantsError}
 use Rattle.dkg_types.specs.Validation.{validation}
-use Rattle.dkg_script.specs.Scripts.{is_start_of, starts_it, carried as read_info}
+use Rattle.dkg_script.specs.Starts.{info_under as read_info, is_start_of, starts_it}
 use Rattle.dkg_script.specs.Starts.{Carries, IsStart, Starts, participants_of}
 
 pub begins : {E : Type 0} (limit version : ℕ) (bytes : List ℕ) (made : Option (EpochInfo directory.Unit)) (info : EpochInfo directory.Unit) (r : Result Bool E) → made ≡ Some info → IfSome made (λ i. Carries limit version bytes i) → IfOk r (λ yes. IsTrue yes ↔ Starts limit info) → IfOk r (λ yes. OnTrue yes (IsStart limit version bytes))
@@ -20,13 +20,6 @@ begins limit version bytes made info (Ok true) is carries starts =
     (info, subst P is carries, starts.0 refl)
 begins limit version bytes made info (Ok false) is carries starts = tt
 begins limit version bytes made info (Err e) is carries starts = tt
-
--- the test spoke of the payload that the block carries
-pub carried : (limit version : ℕ) (tested bytes : List ℕ) (b : Bool) → tested ≡ bytes → b ≡ true → OnTrue b (IsStart limit version tested) → IsStart limit version bytes
-carried limit version tested bytes true same is holds =
-    let P : List ℕ → Type 0 = λ t. IsStart limit version t in
-    subst P same holds
-carried limit version tested bytes false same is holds = cc is
 
 -- the test of an info is whether it starts
 starts_tells : (limit : ℕ) (i : EpochInfo directory.Unit) → Decides (starts_it limit i) (Starts limit i)

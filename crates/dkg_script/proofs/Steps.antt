@@ -9,8 +9,8 @@ use Rattle.dkg_ceremony.specs.Dealings.{dealing_of}
 use Rattle.dkg_types.specs.declared.entry.Entry.{Entry}
 use Rattle.dkg_types.specs.declared.entry.Entry.TheVariants.{Recorded, Ack}
 use Rattle.dkg_types.specs.declared.entry.Restored.{Restored}
-use Rattle.dkg_script.specs.declared.script.Event.TheVariants.{Peer}
-use Rattle.dkg_script.specs.declared.script.Life.{Life}
+use Rattle.dkg_text.specs.declared.script.Event.TheVariants.{Peer}
+use Rattle.dkg_text.specs.declared.script.Life.{Life}
 use Rattle.dkg_script.specs.Readings.{Halves, dealing_in}
 use Rattle.dkg_script.specs.Setting.{Setting, me, limits, life_at}
 use Rattle.dkg_script.specs.Blocks.{round_at}

@@ -4,13 +4,13 @@ use Rattle.std.specs.Prelude.{filter_map, fold, max, slice_get, option_and_then,
 use Rattle.std.specs.List.{AllByRecursion, cons_option}
 use Rattle.std.specs.Option.{option_map_or, option_or}
 use Rattle.std.proofs.Math.Nat.{div-eq_of_lt, div-lt_self, div-zero}
-use Rattle.dkg_script.specs.declared.script.Anchor.{Anchor}
-use Rattle.dkg_script.specs.declared.script.Anchor.TheVariants.{Processed, Absent}
-use Rattle.dkg_script.specs.declared.script.BlockLine.{BlockLine}
-use Rattle.dkg_script.specs.declared.script.Cut.{Cut}
-use Rattle.dkg_script.specs.declared.script.Event.{Event}
-use Rattle.dkg_script.specs.declared.script.Event.TheVariants.{Peer, Final}
-use Rattle.dkg_script.specs.declared.script.Life.{Life}
+use Rattle.dkg_text.specs.declared.script.Anchor.{Anchor}
+use Rattle.dkg_text.specs.declared.script.Anchor.TheVariants.{Processed, Absent}
+use Rattle.dkg_text.specs.declared.script.BlockLine.{BlockLine}
+use Rattle.dkg_text.specs.declared.script.Cut.{Cut}
+use Rattle.dkg_text.specs.declared.script.Event.{Event}
+use Rattle.dkg_text.specs.declared.script.Event.TheVariants.{Peer, Final}
+use Rattle.dkg_text.specs.declared.script.Life.{Life}
 use Rattle.dkg_script.specs.Form.{IsAnchorOfToday, IsEarly, IsEventOfToday, IsLifeOfToday, midpoint_of}
 use Rattle.dkg_script.specs.Promise.{IsBuilt}
 use Rattle.dkg_script.specs.Readings.{Material, material_in}

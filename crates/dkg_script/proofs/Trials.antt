@@ -19,10 +19,10 @@ use Rattle.dkg_values.specs.Lists.{keys_at}
 use Rattle.dkg_values.specs.Uint.{groups_at}
 use Rattle.dkg_values.specs.declared.name.Name.TheVariants.{Plan}
 use Rattle.dkg_journal.specs.Names.{name_cmp}
-use Rattle.dkg_script.specs.declared.script.Cut.{Cut}
-use Rattle.dkg_script.specs.declared.script.Event.{Event}
-use Rattle.dkg_script.specs.declared.script.Life.{Life}
-use Rattle.dkg_script.specs.declared.script.Script.{Script}
+use Rattle.dkg_text.specs.declared.script.Cut.{Cut}
+use Rattle.dkg_text.specs.declared.script.Event.{Event}
+use Rattle.dkg_text.specs.declared.script.Life.{Life}
+use Rattle.dkg_text.specs.declared.script.Script.{Script}
 use Rattle.dkg_script.specs.Readings.{Material, info_in, material_in}
 use Rattle.dkg_script.specs.Setting.{Setting, CutAt, limits}
 use Rattle.dkg_script.specs.Blocks.{round_at, used, handed_in}

@@ -19,11 +19,11 @@ use Rattle.dkg_types.specs.declared.entry.Part.TheVariants.{Player}
 use Rattle.dkg_types.specs.declared.entry.Role.TheVariants.{Member}
 use Rattle.dkg_types.specs.declared.entry.Restored.{Restored}
 use Rattle.dkg_ceremony.specs.declared.phase.Phase.TheVariants.{Early}
-use Rattle.dkg_script.specs.declared.script.Anchor.TheVariants.{Processed}
-use Rattle.dkg_script.specs.declared.script.Event.TheVariants.{Peer, Final}
-use Rattle.dkg_script.specs.declared.script.BlockLine.{BlockLine}
-use Rattle.dkg_script.specs.declared.script.Life.{Life}
-use Rattle.dkg_script.specs.declared.script.Script.{Script}
+use Rattle.dkg_text.specs.declared.script.Anchor.TheVariants.{Processed}
+use Rattle.dkg_text.specs.declared.script.Event.TheVariants.{Peer, Final}
+use Rattle.dkg_text.specs.declared.script.BlockLine.{BlockLine}
+use Rattle.dkg_text.specs.declared.script.Life.{Life}
+use Rattle.dkg_text.specs.declared.script.Script.{Script}
 use Rattle.dkg_script.specs.Readings.{info_in}
 use Rattle.dkg_script.specs.Blocks.{used, round_at}
 use Rattle.dkg_script.specs.Position.{awaited_before, awaited_epoch_in, awaited_height}

@@ -14,9 +14,9 @@ use Rattle.dkg_types.specs.InfoCodes.{held_at, parts_at}
 use Rattle.dkg_types.specs.OutcomeCodes.{outcome_after}
 use Rattle.dkg_types.specs.PayloadCodes.{carried_at, payload_after}
 use Rattle.dkg_types.specs.Validation.{validation}
-use Rattle.dkg_script.specs.declared.script.Event.TheVariants.{Peer, Final}
-use Rattle.dkg_script.specs.declared.script.Life.{Life}
-use Rattle.dkg_script.specs.declared.script.Script.{Script}
+use Rattle.dkg_text.specs.declared.script.Event.TheVariants.{Peer, Final}
+use Rattle.dkg_text.specs.declared.script.Life.{Life}
+use Rattle.dkg_text.specs.declared.script.Script.{Script}
 use Rattle.dkg_script.specs.Readings.{Material, info_in}
 use Rattle.dkg_script.specs.Setting.{Setting, CutAt, life_at}
 use Rattle.dkg_script.specs.Blocks.{Block, block_at, used}

@@ -17,7 +17,7 @@ use Rattle.dkg_types.specs.NextInfos.{Provided, info_by, info_with, next_info, o
 use Rattle.dkg_types.specs.Paths.{log_of_block, logs_from, logs_of_path}
 use Rattle.dkg_types.specs.PayloadCodes.{payload_spelling}
 use Rattle.dkg_types.specs.Units.{unit_spelling}
-use Rattle.dkg_script.specs.declared.script.BlockLine.{BlockLine}
+use Rattle.dkg_text.specs.declared.script.BlockLine.{BlockLine}
 use Rattle.dkg_script.specs.Blocks.{Block, block_of, digest_of}
 use Rattle.dkg_script.specs.Readings.{Limits, info_in, log_in, with_spelled}
 use Rattle.dkg_script.specs.Schedule.{epoch_of}

@@ -28,7 +28,7 @@ use Rattle.dkg_types.specs.declared.entry.Entry.{Entry}
 use Rattle.dkg_types.specs.declared.entry.Entry.TheVariants.{Opened, Ack, Step, Fault}
 use Rattle.dkg_types.specs.declared.entry.Restored.{Restored}
 use Rattle.dkg_types.specs.declared.fault.Fault.TheVariants.{Disk, HeightRange, NoMemory}
-use Rattle.dkg_script.specs.declared.script.Event.TheVariants.{Peer}
+use Rattle.dkg_text.specs.declared.script.Event.TheVariants.{Peer}
 use Rattle.dkg_script.specs.Readings.{Material}
 use Rattle.dkg_script.specs.Setting.{recovered_from, listed}
 use Rattle.dkg_script.specs.Position.{IsPlanHistory, awaited_height}

@@ -1,10 +1,10 @@
 -- What is presumed of a script: one chain, one info for each epoch, no way back, no message from this node itself.
 use Rattle.std.specs.Prelude.{ℕ, List, [], ◌∷◌, ◌≡◌, ◌<◌, ◌≤◌, ◌+◌, ◌⊎◌, Option, Some, None, IfSome, length}
 use Rattle.std.specs.List.{AllByRecursion}
-use Rattle.dkg_script.specs.declared.script.Cut.{Cut}
-use Rattle.dkg_script.specs.declared.script.Event.{Event}
-use Rattle.dkg_script.specs.declared.script.Event.TheVariants.{Peer}
-use Rattle.dkg_script.specs.declared.script.Life.{Life}
+use Rattle.dkg_text.specs.declared.script.Cut.{Cut}
+use Rattle.dkg_text.specs.declared.script.Event.{Event}
+use Rattle.dkg_text.specs.declared.script.Event.TheVariants.{Peer}
+use Rattle.dkg_text.specs.declared.script.Life.{Life}
 use Rattle.dkg_script.specs.Setting.{Setting, CutAt, me}
 use Rattle.dkg_script.specs.Blocks.{used, chain, chain_below, carried_infos, known_info}
 use Rattle.dkg_script.specs.Position.{awaited_before, awaited_epoch_in}

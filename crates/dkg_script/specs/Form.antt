@@ -3,13 +3,13 @@
 use Rattle.std.specs.Prelude.{ℕ, ◌+◌, ◌<◌, ◌≡◌, ◌≤◌, ◌^◌, ◌/◌, List, None, Some, false, IfSome, IsSome, IsSomeAnd, slice_get}
 use Rattle.std.specs.Int.NonZero.{non_zero_u32_get, non_zero_u64_get}
 use Rattle.std.specs.List.{AllByRecursion}
-use Rattle.dkg_script.specs.declared.script.Anchor.{Anchor}
-use Rattle.dkg_script.specs.declared.script.Anchor.TheVariants.{Processed, Absent}
-use Rattle.dkg_script.specs.declared.script.BlockLine.{BlockLine}
-use Rattle.dkg_script.specs.declared.script.Event.{Event}
-use Rattle.dkg_script.specs.declared.script.Event.TheVariants.{Peer, Final}
-use Rattle.dkg_script.specs.declared.script.Life.{Life}
-use Rattle.dkg_script.specs.declared.script.Script.{Script}
+use Rattle.dkg_text.specs.declared.script.Anchor.{Anchor}
+use Rattle.dkg_text.specs.declared.script.Anchor.TheVariants.{Processed, Absent}
+use Rattle.dkg_text.specs.declared.script.BlockLine.{BlockLine}
+use Rattle.dkg_text.specs.declared.script.Event.{Event}
+use Rattle.dkg_text.specs.declared.script.Event.TheVariants.{Peer, Final}
+use Rattle.dkg_text.specs.declared.script.Life.{Life}
+use Rattle.dkg_text.specs.declared.script.Script.{Script}
 use Rattle.dkg_script.specs.Readings.{unit_payload}
 
 -- the number of a block below the midpoint

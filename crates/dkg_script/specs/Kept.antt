@@ -12,9 +12,9 @@ use Rattle.dkg_store.specs.Secrets.{Secrets}
 use Rattle.dkg_types.specs.declared.entry.Entry.{Entry}
 use Rattle.dkg_types.specs.declared.entry.Entry.TheVariants.{Opened, Recorded, Ack}
 use Rattle.dkg_types.specs.declared.entry.Restored.{Restored}
-use Rattle.dkg_script.specs.declared.script.Event.{Event}
-use Rattle.dkg_script.specs.declared.script.Event.TheVariants.{Peer}
-use Rattle.dkg_script.specs.declared.script.Life.{Life}
+use Rattle.dkg_text.specs.declared.script.Event.{Event}
+use Rattle.dkg_text.specs.declared.script.Event.TheVariants.{Peer}
+use Rattle.dkg_text.specs.declared.script.Life.{Life}
 use Rattle.dkg_script.specs.Readings.{dealing_in}
 use Rattle.dkg_script.specs.Setting.{Setting, me, limits, life_at, listed, recovered_from}
 use Rattle.dkg_script.specs.Blocks.{round_at}

@@ -8,8 +8,8 @@ use Rattle.dkg_store.specs.Noted.{noted_log}
 use Rattle.dkg_types.specs.declared.entry.Entry.{Entry}
 use Rattle.dkg_types.specs.declared.entry.Entry.TheVariants.{Step, Cut}
 use Rattle.dkg_types.specs.declared.entry.Restored.{Restored}
-use Rattle.dkg_script.specs.declared.script.Event.{Event}
-use Rattle.dkg_script.specs.declared.script.Event.TheVariants.{Final}
+use Rattle.dkg_text.specs.declared.script.Event.{Event}
+use Rattle.dkg_text.specs.declared.script.Event.TheVariants.{Final}
 use Rattle.dkg_script.specs.Schedule.{epoch_of}
 use Rattle.dkg_script.specs.Setting.{Setting, me, blocks_per_epoch, life_at, listed, recovered_from}
 use Rattle.dkg_script.specs.Blocks.{Block, block_at, round_at}

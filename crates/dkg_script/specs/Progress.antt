@@ -5,9 +5,9 @@ use Rattle.dkg_ceremony.specs.Dealings.{dealing_of}
 use Rattle.dkg_types.specs.declared.entry.Entry.{Entry}
 use Rattle.dkg_types.specs.declared.entry.Entry.TheVariants.{Opened, Recorded, Cut, Step}
 use Rattle.dkg_types.specs.declared.entry.Restored.{Restored}
-use Rattle.dkg_script.specs.declared.script.Event.{Event}
-use Rattle.dkg_script.specs.declared.script.Event.TheVariants.{Peer, Final}
-use Rattle.dkg_script.specs.declared.script.Life.{Life}
+use Rattle.dkg_text.specs.declared.script.Event.{Event}
+use Rattle.dkg_text.specs.declared.script.Event.TheVariants.{Peer, Final}
+use Rattle.dkg_text.specs.declared.script.Life.{Life}
 use Rattle.dkg_script.specs.Readings.{dealing_in}
 use Rattle.dkg_script.specs.Setting.{Setting, CutAt, me, limits, life_at, listed, recovered_from}
 use Rattle.dkg_script.specs.Blocks.{round_at}

@@ -9,7 +9,7 @@ use Rattle.dkg_store.specs.Pairs.{IsWhole}
 use Rattle.dkg_store.specs.Secrets.{Secrets}
 use Rattle.dkg_types.specs.declared.entry.Entry.{Entry}
 use Rattle.dkg_types.specs.declared.entry.Entry.TheVariants.{Step}
-use Rattle.dkg_script.specs.declared.script.Script.{Script}
+use Rattle.dkg_text.specs.declared.script.Script.{Script}
 use Rattle.dkg_script.specs.Readings.{Material}
 use Rattle.dkg_script.specs.Form.{IsFormOfToday}
 use Rattle.dkg_script.specs.Setting.{Setting, CutAt, setting_of}

@@ -1,7 +1,9 @@
 -- The blocks of a script: an info of epoch 0 in the first one, and nothing in the others.
-use Rattle.std.specs.Prelude.{◌≡◌, ◌<◌, ⊤, ℕ, true, List, [], ◌∷◌, Some, None, Ok, IsOk, IsSomeAnd}
+use Rattle.std.specs.Prelude.{◌≡◌, ◌<◌, ◌==◌, ◌&&◌, ⊤, ℕ, Bool, true, false, List, [], ◌∷◌, Option, Some, None, option_and_then, Ok, IsOk, IsSomeAnd}
 use Rattle.std.specs.Int.NonZero.{non_zero_u32_get, non_zero_u64_get}
 use Rattle.std.specs.List.{AllByRecursion}
+use Rattle.std.specs.Option.{option_map_or}
+use Rattle.std.specs.Result.{is_ok}
 use Rattle.dkg_ceremony.specs.declared.mode.Mode.TheVariants.{NonZeroCounter}
 use Rattle.dkg_ceremony.specs.declared.mode.Reveal.TheVariants.{V1}
 use Rattle.dkg_ceremony.specs.Rounds.{round_of}
@@ -9,11 +11,12 @@ use Rattle.dkg_types.specs.declared.directory.Unit as directory
 use Rattle.dkg_types.specs.declared.info.EpochInfo.{EpochInfo}
 use Rattle.dkg_types.specs.declared.participants.Participants.{Participants}
 use Rattle.dkg_types.specs.declared.payload.Payload.TheVariants as payload
-use Rattle.dkg_types.specs.PayloadCodes.{payload_spelling, PayloadFits}
+use Rattle.dkg_types.specs.PayloadCodes.{its_info, payload_spelling, PayloadFits}
 use Rattle.dkg_types.specs.Units.{unit_spelling}
 use Rattle.dkg_types.specs.Validation.{validation}
-use Rattle.dkg_script.specs.declared.script.BlockLine.{BlockLine}
-use Rattle.dkg_script.specs.declared.script.ScriptConfig.{ScriptConfig}
+use Rattle.dkg_text.specs.declared.script.BlockLine.{BlockLine}
+use Rattle.dkg_text.specs.declared.script.ScriptConfig.{ScriptConfig}
+use Rattle.dkg_script.specs.Readings.{unit_payload}
 
 -- the participants of an info, the output's players as dealers
 abbrev pub participants_of : EpochInfo directory.Unit → Participants
@@ -49,3 +52,17 @@ abbrev pub AreFirst : ScriptConfig → List BlockLine → Type 0
 AreFirst config [] = ⊤
 AreFirst config (block ∷ blocks) =
     IsFirstBlock (non_zero_u32_get config.limit) config.max_mode.0 block × AllByRecursion (IsLaterBlock (non_zero_u64_get config.blocks_per_epoch)) blocks
+
+-- THE SAME, AS TESTS
+
+-- the info that a payload spells under the limits
+unfoldable pub info_under : (limit version : ℕ) → List ℕ → Option (EpochInfo directory.Unit)
+info_under limit version bytes = option_and_then its_info (unit_payload (record { most = limit; version = version; addressed = false }) bytes)
+
+unfoldable pub starts_it : (limit : ℕ) → EpochInfo directory.Unit → Bool
+starts_it limit i =
+    i.epoch == 0 && is_ok (validation (participants_of i) limit (Some i.output) 0)
+    && is_ok (round_of [] 0 (Some i.output) NonZeroCounter V1 i.output.players i.players)
+
+unfoldable pub is_start_of : (limit version : ℕ) → List ℕ → Bool
+is_start_of limit version bytes = option_map_or (starts_it limit) (info_under limit version bytes) false

@@ -7,9 +7,9 @@
 use Rattle.std.specs.Prelude.{ℕ, ◌-◌, ◌<◌, ◌≤◌, ◌≡◌, List, Option, Some, Ok, IfSome, IsSome, IsSomeAnd, length}
 use Rattle.dkg_types.specs.Validation.{validation}
 use Rattle.dkg_types.specs.declared.participants.Participants.{Participants}
-use Rattle.dkg_script.specs.declared.script.Cut.{Cut}
-use Rattle.dkg_script.specs.declared.script.Event.TheVariants.{Final}
-use Rattle.dkg_script.specs.declared.script.Life.{Life}
+use Rattle.dkg_text.specs.declared.script.Cut.{Cut}
+use Rattle.dkg_text.specs.declared.script.Event.TheVariants.{Final}
+use Rattle.dkg_text.specs.declared.script.Life.{Life}
 use Rattle.dkg_script.specs.Readings.{Info}
 use Rattle.dkg_script.specs.Setting.{Setting, CutAt, life_at, limits}
 use Rattle.dkg_script.specs.Blocks.{Block, block_at, reshare_round}

@@ -10,7 +10,7 @@ use Rattle.dkg_types.specs.BlockCodes.{info_of}
 use Rattle.dkg_types.specs.NextInfos.{Provided}
 use Rattle.dkg_types.specs.PayloadCodes.{its_log, payload_spelling}
 use Rattle.dkg_types.specs.Units.{unit_spelling}
-use Rattle.dkg_script.specs.declared.script.BlockLine.{BlockLine}
+use Rattle.dkg_text.specs.declared.script.BlockLine.{BlockLine}
 use Rattle.dkg_script.specs.Blocks.{Block, zeros}
 use Rattle.dkg_script.specs.Readings.{Limits, unit_payload, with_spelled}
 use Rattle.dkg_script.specs.Schedule.{epoch_of}

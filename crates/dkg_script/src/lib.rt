@@ -1,31 +1,28 @@
-//! Scripts of a node's lives and the text of scripts and transcripts.
+//! What a run of a node's lives promises, and which scripts are run so far. The scripts and their text are those of `dkg_text`.
+//!
+//! A reader of the promise begins with three files. `specs/Promise.antt` has what a run of a script promises and its premises:
+//! `RunsInOrder`, `RunsAll`, `KeepsDealings` and `AnswersDealings` are the clauses of the call that runs the lives, and `IsBuilt` and
+//! `IsHonestRun` are what they presume. `specs/Kept.antt` has what it is that a transcript and the devices keep (`Kept`), entry by entry.
+//! `specs/Laws.antt` has what follows for a dealer and for the node; the calls below prove it. From there one goes down as far as one
+//! wants: `Order` (where an entry may stand), `Due` (when an acknowledgement is owed), `Consistent`, `OwnMarks` and `Valid` (what is
+//! presumed of a script), `Ends` (how entries end), and below these `Progress`, `Position`, `Blocks`, `Setting` and `Readings`. Which
+//! scripts are run so far is `Form`, which the promise presumes, and `Built`, by which `read_built` answers.
 #![tactic(auto)]
 
-mod block_lines;
-mod error;
-mod fault;
-mod fields;
-mod life_lines;
-mod lines;
-mod named;
-mod print;
+mod built;
 mod promise;
 mod read;
-mod script;
 mod start;
 #[cfg(test)]
 mod tests;
-mod text;
-mod words;
 
-pub use error::ScriptError;
-pub use print::print_of;
+pub use built::is_built;
+pub use dkg_text::{
+    Anchor, BlockLine, BlockLines, Cut, Event, Events, Indexes, Life, Lives, PlayerLine,
+    PlayerLines, ProbeLine, Script, ScriptConfig, SyncLine, print_of,
+};
 pub use promise::{
     acknowledged_survives, acknowledges_once, ends_as_scripted, own_marks_stand_before,
     stays_in_order, stays_kept,
 };
-pub use read::read_script;
-pub use script::{
-    Anchor, BlockLine, BlockLines, Cut, Event, Events, Indexes, Life, Lives, PlayerLine,
-    PlayerLines, ProbeLine, Script, ScriptConfig, SyncLine,
-};
+pub use read::{ReadError, read_built};

@@ -1,6 +1,6 @@
 //! Whether a block's payload starts the lives of a script: an info of epoch 0 under the script's limits.
 //!
-//! The reader of scripts asks it of the first block.
+//! Whether a script is of the form that is run asks it of the first block.
 ghost use Rattle.std.specs.Bool.{OnTrue};
 ghost use Rattle.std.specs.Prelude.{◌≡◌, ◌↔◌, IfOk, IfSome, IsOk, IsTrue, Ok, Some, []};
 ghost use Rattle.std.specs.Int.NonZero.{non_zero_u32_get};
@@ -8,23 +8,22 @@ ghost use Rattle.dkg_ceremony.specs.Rounds.{round_of};
 ghost use Rattle.dkg_ceremony.specs.declared.mode.Mode.TheVariants.{NonZeroCounter};
 ghost use Rattle.dkg_ceremony.specs.declared.mode.Reveal.TheVariants.{V1};
 ghost use Rattle.dkg_types.specs.Validation.{validation};
-ghost use Rattle.dkg_script.specs.Scripts.{carried, is_start_of};
-ghost use Rattle.dkg_script.specs.Starts.{Carries, IsStart, Starts, participants_of};
+ghost use Rattle.dkg_script.specs.Starts.{Carries, IsStart, Starts, info_under, is_start_of, participants_of};
 ghost use Rattle.dkg_types.specs.declared.info.EpochInfo.{EpochInfo};
 ghost use Rattle.dkg_types.specs.declared.directory.Unit.{Unit};
 
-use crate::script::ScriptConfig;
 use dkg_ceremony::{
     Ceremony, CodecError, Epoch, Mem, Mode, NoMemory, Reveal, RoundError, StandCeremony, decode_cfg,
 };
+use dkg_text::ScriptConfig;
 use dkg_types::{EpochInfo, Payload, Unit};
 use std::alloc::Global;
 use std::num::NonZeroU32;
 
 /// The info that a payload carries.
-#[tactic(auto, unfolding(crate::specs::Scripts::carried))]
+#[tactic(auto, unfolding(crate::specs::Starts::info_under))]
 fn info_of(alloc: Global, config: &ScriptConfig, payload: &[u8]) -> Mem<Option<EpochInfo<Unit>>>
-    ensures value { IfOk result (λ made. made ≡ carried (non_zero_u32_get config.now.limit) config.now.max_mode.0 payload.now) }
+    ensures value { IfOk result (λ made. made ≡ info_under (non_zero_u32_get config.now.limit) config.now.max_mode.0 payload.now) }
     ensures carries { IfOk result (λ made. IfSome made (λ info. Carries (non_zero_u32_get config.now.limit) config.now.max_mode.0 payload.now info)) }
 {
     match decode_cfg::<Payload<Unit>>(alloc, payload, &(config.limit, config.max_mode)) {

@@ -1,7 +1,7 @@
-use Rattle.std.proofs.Common.{[], ◌∙◌, ap, inl, refl, sym}
+use Rattle.std.proofs.Common.{[], ◌∙◌, ap, false, inl, refl, sym}
 use Rattle.std.proofs.lemmas.List.{append-nil}
-use Rattle.dkg_script.specs.Scripts.{script_of}
-use Rattle.dkg_run.proofs.Reported.{at_added, ends_faulted, ends_in_none, runs_faulted, fault_skips, none_skips}
+use Rattle.dkg_text.specs.Grammar.{script_or_place}
+use Rattle.dkg_run.proofs.Reported.{at_added, is_spelled, ends_faulted, ends_in_none, runs_faulted, fault_skips, none_skips}
 use Rattle.dkg_run.proofs.command.run.Goals as goal
 
 pub returns-in-Err-Failed-clause-ends : goal.returns-in-Err-Failed-clause-ends
@@ -16,12 +16,12 @@ pub returns-in-Err-NoMemory-clause-ends : goal.returns-in-Err-NoMemory-clause-en
 returns-in-Err-NoMemory-clause-ends g c =
     ([], sym (append-nil _), record { ends = refl; runs = inl (record { no_entry = refl; untouched = (refl, refl) }) })
 
-pub returns-in-Err-NoMemory-read_script-clause-ends : goal.returns-in-Err-NoMemory-read_script-clause-ends
-returns-in-Err-NoMemory-read_script-clause-ends g c =
+pub returns-in-Err-NoMemory-read_built-clause-ends : goal.returns-in-Err-NoMemory-read_built-clause-ends
+returns-in-Err-NoMemory-read_built-clause-ends g c =
     ([], sym (append-nil _), record { ends = refl; runs = inl (record { no_entry = refl; untouched = (refl, refl) }) })
 
 pub returns-in-Err-Bad-clause-ends : goal.returns-in-Err-Bad-clause-ends
-returns-in-Err-Bad-clause-ends g c = let refused = rw c.in-Err-Bad.field-0-is at (c.in-Err-Bad.ensures.reads refl) in (
+returns-in-Err-Bad-clause-ends g c = let refused = rw c.in-Err-Bad.field-0-is at c.in-Err-Bad.ensures.reads in (
   [],
   sym (append-nil _),
   record {
@@ -29,7 +29,24 @@ returns-in-Err-Bad-clause-ends g c = let refused = rw c.in-Err-Bad.field-0-is at
     runs = record {
       bytes = c.in-Ok.bytes.items;
       gave = record { all = c.in-Ok.ensures.whole; not_too_long = c.in-Ok.ensures.short };
-      no_script = ap script_of (sym c.deref.ensures.value) ∙ refused;
+      no_script = rw c.in-Err-Bad.field-0-is (ap (script_or_place false) (sym c.deref.ensures.value) ∙ refused);
+      nothing = record { no_entry = refl; untouched = (refl, refl) };
+    };
+  },
+)
+
+pub returns-in-Err-Unsupported-clause-ends : goal.returns-in-Err-Unsupported-clause-ends
+returns-in-Err-Unsupported-clause-ends g c = let refused = rw c.in-Err-Unsupported.field-0-is at c.in-Err-Unsupported.ensures.reads in (
+  [],
+  sym (append-nil _),
+  record {
+    ends = refl;
+    runs = record {
+      bytes = c.in-Ok.bytes.items;
+      gave = record { all = c.in-Ok.ensures.whole; not_too_long = c.in-Ok.ensures.short };
+      script = refused.0;
+      spells = is_spelled _ _ _ (ap (script_or_place false) (sym c.deref.ensures.value) ∙ refused.1);
+      not_built = refused.2;
       nothing = record { no_entry = refl; untouched = (refl, refl) };
     };
   },
@@ -45,9 +62,10 @@ returns-in-Ok-run_lives-clause-ends g c = let told = c.in-Ok-run_lives.ensures i
       ran = record {
         bytes = c.in-Ok.bytes.items;
         gave = record { all = c.in-Ok.ensures.whole; not_too_long = c.in-Ok.ensures.short };
-        script = c.in-Ok-read_script.script;
-        spells = ap script_of (sym c.deref.ensures.value) ∙ c.in-Ok-read_script.ensures.reads refl;
-        form = c.in-Ok-read_script.ensures.form;
+        script = c.in-Ok-read_built.script;
+        spells = is_spelled _ _ _ (ap (script_or_place false) (sym c.deref.ensures.value) ∙ c.in-Ok-read_built.ensures.reads.0);
+        built = c.in-Ok-read_built.ensures.reads.1;
+        form = c.in-Ok-read_built.ensures.form;
         in_order = at_added _ _ _ _ told.ends.1 told.in_order;
         kept = (
           (λ tells. at_added _ _ _ _ told.ends.1 (told.kept tells.0 tells.1), λ tells. at_added _ _ _ _ told.ends.1 (told.found tells.0 tells.1), λ tells. none_skips _ _ _ told.ends.2),
@@ -69,9 +87,10 @@ returns-clause-ends g c = let told = c.in-Err.ensures in (
     runs = runs_faulted c.in-Err.fault _ _ _ _ _ (record {
       bytes = c.in-Ok.bytes.items;
       gave = record { all = c.in-Ok.ensures.whole; not_too_long = c.in-Ok.ensures.short };
-      script = c.in-Ok-read_script.script;
-      spells = ap script_of (sym c.deref.ensures.value) ∙ c.in-Ok-read_script.ensures.reads refl;
-      form = c.in-Ok-read_script.ensures.form;
+      script = c.in-Ok-read_built.script;
+      spells = is_spelled _ _ _ (ap (script_or_place false) (sym c.deref.ensures.value) ∙ c.in-Ok-read_built.ensures.reads.0);
+      built = c.in-Ok-read_built.ensures.reads.1;
+      form = c.in-Ok-read_built.ensures.form;
       in_order = at_added _ _ _ _ told.ends.1 told.in_order;
       kept = (
         (λ tells. at_added _ _ _ _ told.ends.1 (told.kept tells.0 tells.1), λ tells. at_added _ _ _ _ told.ends.1 (told.found tells.0 tells.1), λ tells. fault_skips _ _ c.in-Err.fault _ _ _ told.ends.2 (told.skips tells.0 tells.1)),

@@ -1,5 +1,5 @@
-use Rattle.std.proofs.Common.{◌∙◌, ap, length, sym}
-use Rattle.dkg_script.specs.Scripts.{script_of}
+use Rattle.std.proofs.Common.{◌∙◌, ap, false, length, sym}
+use Rattle.dkg_text.specs.Grammar.{script_of}
 use Rattle.dkg_run.proofs.Reported.{device_rose, done_or_memory, from_place, is_silent, not_more, status_told}
 use Rattle.dkg_run.proofs.command.run_command.Goals as goal
 
@@ -38,9 +38,9 @@ returns-clause-device g c is =
     device_rose _ its.0 _ _ (status_told _ _ _ _ _ _ _ is (λ e. cc) (λ e. cc) c.report-2.ensures.told) its.2.ends
 
 pub returns-clause-complete : goal.returns-clause-complete
-returns-clause-complete g c is tells script spelled short sound no_read no_write =
+returns-clause-complete g c is tells script spelled built short sound no_read no_write =
     let its = c.run-status.ensures.ends in
-    done_or_memory script its.0 _ _ _ _ _ _ (λ bytes gave. ap script_of (sym (gave.all tells).all) ∙ spelled) (λ kept. kept.1 sound) c.run-status.result c.report-2.result _ _ _ _ its.2 c.report-2.ensures.told
+    done_or_memory script its.0 _ _ _ _ _ _ (λ bytes gave. ap (script_of false) (sym (gave.all tells).all) ∙ spelled) built (λ kept. kept.1 sound) c.run-status.result c.report-2.result _ _ _ _ its.2 c.report-2.ensures.told
     (λ e. no_read (c.run-status.ensures.read_fault (status_told _ _ _ _ _ _ _ e (λ d. cc) (λ d. cc) c.report-2.ensures.told)))
     (λ e. not_more _ _ _ (c.run-status.ensures.too_long (status_told _ _ _ _ _ _ _ e (λ d. cc) (λ d. cc) c.report-2.ensures.told) tells) short)
     (λ e. no_write (c.report-2.ensures.write_fault (λ same. rw same at c.run-status.ensures.ends.2.runs) e))

@@ -1,7 +1,0 @@
-use Rattle.std.proofs.lemmas.Fmt.{IsAscii-from_digits}
-use Rattle.std.proofs.lemmas.Str.{IsUtf8-from_ascii}
-use Rattle.dkg_script.proofs.fields.parsed.Goals as goal
-
-pub returns-in-Err : goal.returns-in-Err
-returns-in-Err c = λ number.
-    c.in-Err.ensures.cases.0 (IsUtf8-from_ascii c.args.text.now (IsAscii-from_digits c.args.text.now number.0.1))
