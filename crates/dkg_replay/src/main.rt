@@ -1,11 +1,12 @@
 //! Replays scripts whose transcripts an independent model wrote, and tells each difference.
 //!
-//! Beside the program lie a file of the forms' names, a file a form, one of encoded values and one of scanned ancestries;
-//! `tools/replay-data` makes them. It prints a line a file and a total, and ends with status 1 where something differs or a file
-//! can't be read.
+//! Beside the program lie a file of the forms' names, a file a form, one of encoded values and one of scanned ancestries, which
+//! `tools/replay-data` makes, and the examples, whose transcripts it makes. It prints a line a file, one for the examples and a total,
+//! and ends with status 1 where something differs or a file can't be read.
 #![tactic(auto)]
 
 mod cases;
+mod examples;
 mod paths;
 mod replay;
 mod told;
@@ -46,9 +47,9 @@ fn scan_paths(rt: &HostRuntime) -> io::Result<Count> {
     Ok(count)
 }
 
-/// Replays all forms, reads all values, and scans all ancestries.
+/// Runs the examples, replays all forms, reads all values, and scans all ancestries.
 fn replay_all(rt: &HostRuntime) -> io::Result<Count> {
-    let mut total = Count::new();
+    let mut total = examples::all(rt, &mut io::writer(rt))?;
     let forms = fs::read_to_string(rt, "forms")?;
     for form in forms.lines() {
         total.add(&replay_form(rt, form)?);

@@ -42,7 +42,7 @@ fn agrees(case: &Case<'_>, run: &Run) -> bool {
 }
 
 /// Replays one case, and tells where it differs.
-fn one<W: Write>(
+pub fn one<W: Write>(
     alloc: Global,
     form: &str,
     case: &Case<'_>,
