@@ -54,10 +54,21 @@ fn a_failed_sync_is_a_fault_and_no_acknowledgement(rt: HostRuntime) -> Result<()
 }
 
 #[test]
-fn other_words_than_run_are_usage(rt: HostRuntime) -> Result<(), Fail> {
+fn words_that_name_no_command_are_usage(rt: HostRuntime) -> Result<(), Fail> {
     let alloc = rt.alloc();
     let none: [&str; 0] = [];
-    for words in [&none[..], &["run", "x"][..], &["Run"][..], &["run "][..]] {
+    for words in [
+        &none[..],
+        &["run", "x"][..],
+        &["Run"][..],
+        &["run "][..],
+        &["make", "7"][..],
+        &["make", "07", "script"][..],
+        &["make", "-", "script"][..],
+        &["make", "18446744073709551616", "script"][..],
+        &["make", "7", "scripts"][..],
+        &["make", "7", "script", "x"][..],
+    ] {
         let mut sink = MemorySink::new(alloc);
         let status = command(alloc, words, source_of(alloc, "")?, &mut sink)?;
         assert_eq!(rt; sink.bytes(), b"usage\n".as_slice());
@@ -103,5 +114,27 @@ fn a_sink_that_fails_is_a_write_fault(rt: HostRuntime) -> Result<(), Fail> {
         assert_eq!(rt; sink.bytes(), b"".as_slice());
         assert_eq!(rt; status, 8);
     }
+    Ok(())
+}
+
+/// The first lines of the script of number 18446744073709551615, and how long it is.
+const MADE: (&str, usize) = (
+    "dkg 1\nme 1\nblocks 64\nlimit 7\nmode 0 0\nspace -\nplayers 2 1 2 3 4 5 6 7\nplayers 3 1 2 3 4 5 6 7\nplayers 4 1 2 3 4 5 6 7\nplayers 5 1 2 3 4 5 6 7\nplayers 6 1 2 3 4 5 6 7\nblock 0 - 0 01000000000000000000000007052382636780a0bf12b4870700000001000000020000000300000004000000050000000600000007070000000100000002000000030000000400000005000000060000000700070000000100000002000000030000000400000005000",
+    17263,
+);
+
+#[test]
+fn a_made_script_is_written(rt: HostRuntime) -> Result<(), Fail> {
+    let alloc = rt.alloc();
+    let words = &["make", "18446744073709551615", "script"][..];
+    let mut sink = MemorySink::new(alloc);
+    let status = command(alloc, words, source_of(alloc, "")?, &mut sink)?;
+    assert_eq!(rt; status, 0);
+    assert_eq!(rt; sink.bytes().len(), MADE.1);
+    assert_eq!(rt; sink.bytes().starts_with(MADE.0.as_bytes()), true);
+    let mut sink = MemorySink::failing(alloc, vec![in alloc; 1]?);
+    let status = command(alloc, words, source_of(alloc, "")?, &mut sink)?;
+    assert_eq!(rt; sink.bytes(), b"".as_slice());
+    assert_eq!(rt; status, 8);
     Ok(())
 }

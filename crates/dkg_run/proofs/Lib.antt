@@ -1,3 +1,4 @@
+pub mod Asked
 pub mod Awaiting
 pub mod Began
 pub mod Carried

@@ -1,8 +1,13 @@
--- How a status is told: its text is written, and the command answers it.
-use Rattle.std.specs.Prelude.{ℕ, List, ◌≡◌, ◌<◌, ◌++◌, ◌⊎◌, length}
+-- What the words of a command ask for, and how a status is told: its text is written, and the command answers it.
+use Rattle.std.specs.Prelude.{ℕ, List, [], ◌∷◌, ◌≡◌, ◌<◌, ◌^◌, ◌++◌, ◌⊎◌, codes, decimal, length}
 use Rattle.dkg_run.specs.Outside.{HoldsFront}
 use Rattle.dkg_run.specs.declared.command.Status.{Status}
 use Rattle.dkg_run.specs.declared.command.Status.TheVariants.{WriteFault, NoMemory}
+
+-- the words ask for the made script of this number
+pub record IsMake (number : ℕ) (words : List (List ℕ)) : Type 0 where
+  pub below : number < 2 ^ 64
+  pub words_are : words ≡ codes "make" ∷ decimal number ∷ codes "script" ∷ []
 
 -- The status is answered, and all its text was written; or a write failed, and a front of it was; or there was no memory for the
 -- text, and nothing was. (`old` and `new` are what the sink held and holds, where it tells.)

@@ -1,13 +1,15 @@
 //! The top call: it reads a script, runs its lives, and writes their transcript.
-ghost use Rattle.std.specs.Prelude.{◌≡◌, ◌≢◌, ◌↔◌, ◌⊎◌, ◌≤◌, ◌++◌, [], ◌∷◌, map, codes, string_bytes, length, Some, IsTrue, IfOk, OnOk, drop, true, false};
+ghost use Rattle.std.specs.Prelude.{◌≡◌, ◌≢◌, ◌↔◌, ◌⊎◌, ◌≤◌, ◌++◌, [], ◌∷◌, map, codes, string_bytes, length, Some, IsTrue, IfOk, IfNone, IfSome, OnOk, ℕ, drop, true, false};
 ghost use Rattle.dkg_journal.specs.Disk.{Rose};
+ghost use Rattle.dkg_generator.specs.Made.{made_script};
 ghost use Rattle.dkg_text.specs.Fields.{number_field};
 ghost use Rattle.dkg_text.specs.Grammar.{script_of};
 ghost use Rattle.dkg_text.specs.Printing.{lines_of};
+ghost use Rattle.dkg_text.specs.Writing.{text_of as script_text_of};
 ghost use Rattle.dkg_text.specs.declared.script.Script.{Script};
 ghost use Rattle.dkg_script.specs.Built.{is_built};
 ghost use Rattle.dkg_script.specs.Promise.{Adds};
-ghost use Rattle.dkg_run.specs.Command.{IsTold};
+ghost use Rattle.dkg_run.specs.Command.{IsMake, IsTold};
 ghost use Rattle.dkg_run.specs.Complete.{IsSoundRun};
 ghost use Rattle.dkg_run.specs.Outside.{TookFew, TookMore};
 ghost use Rattle.dkg_run.specs.Reports.{Answers, EndsAs, KeepsAndCompletes, Reads, fault_status, last_of, number_of};
@@ -17,9 +19,11 @@ use crate::sink::Sink;
 use crate::source::Source;
 use crate::transfer::{ReadError, read_all, write_all};
 use dkg_ceremony::Mem;
+use dkg_generator::make_script;
 use dkg_journal::Disk;
 use dkg_script::{ReadError as BuiltError, print_of, read_built};
 use dkg_store::SecretStore;
+use dkg_text::{number, script_text};
 use dkg_types::{Entry, Fault, Transcript};
 use itoa::Buffer;
 use std::alloc::Global;
@@ -76,13 +80,44 @@ fn is_run_word(word: &str) -> bool
     word == "run"
 }
 
-/// Whether the words are those of the one command.
+/// Whether the words are those that run a script.
 fn is_run(words: &[String]) -> bool
     ensures { IsTrue result ↔ (map string_bytes words.now ≡ codes "run" ∷ []) }
 {
     match words {
         [word] => is_run_word(word.as_str()),
         _ => false,
+    }
+}
+
+fn is_make_word(word: &str) -> bool
+    ensures { IsTrue result ↔ (word.now ≡ codes "make") }
+{
+    word == "make"
+}
+
+fn is_script_word(word: &str) -> bool
+    ensures { IsTrue result ↔ (word.now ≡ codes "script") }
+{
+    word == "script"
+}
+
+/// The number whose script is to be written, where the words are those that ask for one.
+fn made_number(words: &[String]) -> Option<u64>
+    ensures some { IfSome result (λ n. IsMake n (map string_bytes words.now)) }
+    ensures none { IfNone result ((n : ℕ) → IsMake n (map string_bytes words.now) → ⊥) }
+{
+    match words {
+        [verb, name, what] => {
+            if !is_make_word(verb.as_str()) {
+                return None;
+            }
+            if !is_script_word(what.as_str()) {
+                return None;
+            }
+            number(name.as_str().as_bytes())
+        }
+        _ => None,
     }
 }
 
@@ -182,6 +217,28 @@ fn report<K: Sink>(alloc: Global, sink: &mut K, entries: &[Entry], status: Statu
     }
 }
 
+/// The text of the made script of a number.
+fn made_text(alloc: Global, number: u64) -> Mem<Vec<u8>>
+    ensures { IfOk result (λ text. text.items ≡ script_text_of (made_script number)) }
+{
+    let script = make_script(alloc, number)?;
+    script_text(alloc, &script)
+}
+
+/// Writes the made script of a number.
+fn make<K: Sink>(alloc: Global, sink: &mut K, number: u64) -> Status
+    ensures told { IsTold Status.Done result (script_text_of (made_script number)) (IsTrue K.tells) (K.held sink.old) (K.held sink.new) }
+    ensures write_fault { result ≡ Status.WriteFault → Rose (K.faults sink.old) (K.faults sink.new) }
+{
+    let Ok(text) = made_text(alloc, number) else {
+        return Status::NoMemory;
+    };
+    match write_all(sink, &text) {
+        Ok(()) => Status::Done,
+        Err(_) => Status::WriteFault,
+    }
+}
+
 /// The entries of a transcript from a place on.
 fn entries_from(out: &Transcript, place: usize) -> &[Entry]
     ensures { result.now ≡ drop place out.now.entries }
@@ -190,7 +247,8 @@ fn entries_from(out: &Transcript, place: usize) -> &[Entry]
 }
 
 /// Does what the words say. `run` reads a script from the source, runs its lives over the devices, and writes the
-/// lines of the new entries and the status's last line to the sink. Any other words are Usage.
+/// lines of the new entries and the status's last line to the sink. `make N script` writes the text of the made script of the number N.
+/// Any other words are Usage.
 pub fn run_command<S: Source, K: Sink, D: Disk, X: SecretStore>(
     alloc: Global,
     words: &[String],
@@ -201,8 +259,10 @@ pub fn run_command<S: Source, K: Sink, D: Disk, X: SecretStore>(
     out: &mut Transcript,
 ) -> Status
     // Other words read and run nothing.
-    ensures usage { (map string_bytes words.now ≢ codes "run" ∷ []) → IsTold Status.Usage result (last_of Status.Usage) (IsTrue K.tells) (K.held sink.old) (K.held sink.new) × (source.new ≡ source.old) × (disk.new ≡ disk.old) × (secrets.new ≡ secrets.old) × (out.new ≡ out.old) }
-    ensures only_usage { result ≡ Status.Usage → map string_bytes words.now ≢ codes "run" ∷ [] }
+    ensures usage { (map string_bytes words.now ≢ codes "run" ∷ []) → ((n : ℕ) → IsMake n (map string_bytes words.now) → ⊥) → IsTold Status.Usage result (last_of Status.Usage) (IsTrue K.tells) (K.held sink.old) (K.held sink.new) × (source.new ≡ source.old) × (disk.new ≡ disk.old) × (secrets.new ≡ secrets.old) × (out.new ≡ out.old) }
+    ensures only_usage { result ≡ Status.Usage → (map string_bytes words.now ≢ codes "run" ∷ []) × ((n : ℕ) → IsMake n (map string_bytes words.now) → ⊥) }
+    // `make N script` writes that script's text, and touches nothing but the sink.
+    ensures make { (n : ℕ) → IsMake n (map string_bytes words.now) → IsTold Status.Done result (script_text_of (made_script n)) (IsTrue K.tells) (K.held sink.old) (K.held sink.new) × (source.new ≡ source.old) × (disk.new ≡ disk.old) × (secrets.new ≡ secrets.old) × (out.new ≡ out.old) }
     // However the words `run` end, the new entries, the devices and what was read are as the status says, and the sink took the lines
     // of the entries and the status's last line: all, or a front where a write failed, or nothing where there was no memory for them.
     ensures run { (map string_bytes words.now ≡ codes "run" ∷ []) → Adds out.old.entries out.new.entries (λ entries. (status : Status) × EndsAs (Rose (D.faults disk.old) (D.faults disk.new)) (Rose (X.faults secrets.old) (X.faults secrets.new)) (Reads (IsTrue S.tells) (S.left source.old) (S.left source.new)) ((disk.new ≡ disk.old) × (secrets.new ≡ secrets.old)) (KeepsAndCompletes (IsTrue D.tells × IsTrue X.tells) (D.files disk.old) (X.held secrets.old) (D.image disk.old) (D.files disk.new) (D.image disk.new) (X.held secrets.new) (Rose (D.faults disk.old) (D.faults disk.new)) (Rose (X.faults secrets.old) (X.faults secrets.new))) (Answers (IsTrue D.tells × IsTrue X.tells) (D.files disk.old) (X.held secrets.old) (D.image disk.old)) status entries × IsTold status result (lines_of entries ++ last_of status) (IsTrue K.tells) (K.held sink.old) (K.held sink.new)) }
@@ -217,6 +277,9 @@ pub fn run_command<S: Source, K: Sink, D: Disk, X: SecretStore>(
     // runs out.
     ensures complete { (map string_bytes words.now ≡ codes "run" ∷ []) → IsTrue S.tells → (script : Script) → script_of false (S.left source.old) ≡ Some script → is_built script ≡ true → length (S.left source.old) ≤ 16777216 → IsSoundRun (IsTrue D.tells × IsTrue X.tells) (D.files disk.old) (X.held secrets.old) (D.image disk.old) (Rose (D.faults disk.old) (D.faults disk.new)) (Rose (X.faults secrets.old) (X.faults secrets.new)) script → (Rose (S.faults source.old) (S.faults source.new) → ⊥) → (Rose (K.faults sink.old) (K.faults sink.new) → ⊥) → (result ≡ Status.Done) ⊎ (result ≡ Status.NoMemory) }
 {
+    if let Some(number) = made_number(words) {
+        return make(alloc, sink, number);
+    }
     if !is_run(words) {
         return report(alloc, sink, &[], Status::Usage);
     }

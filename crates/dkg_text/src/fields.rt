@@ -36,7 +36,7 @@ fn parsed(text: &[u8]) -> Option<u64>
 }
 
 /// The number that a field spells: decimal, without leading zeros, below 2^64.
-fn number(text: &[u8]) -> Option<u64>
+pub fn number(text: &[u8]) -> Option<u64>
     ensures found { IfSome result (λ n. text.now ≡ decimal n) }
     ensures only { (n : ℕ) → n < 2 ^ 64 → text.now ≡ decimal n → result ≡ Some n }
     ensures value { result ≡ number_of text.now }

@@ -27,6 +27,7 @@ mod words;
 mod write;
 
 pub use error::ScriptError;
+pub use fields::number;
 pub use laws::{place_is_first, read_is_written, written_is_read};
 pub use print::print_of;
 pub use read::read_script;

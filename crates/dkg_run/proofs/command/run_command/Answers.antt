@@ -1,5 +1,6 @@
-use Rattle.std.proofs.Common.{◌∙◌, ap, false, length, sym}
+use Rattle.std.proofs.Common.{◌∙◌, ap, false, length, refl, sym}
 use Rattle.dkg_text.specs.Grammar.{script_of}
+use Rattle.dkg_run.proofs.Asked.{same_number}
 use Rattle.dkg_run.proofs.Reported.{device_rose, done_or_memory, from_place, is_silent, not_more, status_told}
 use Rattle.dkg_run.proofs.command.run_command.Goals as goal
 
@@ -15,10 +16,15 @@ returns-clause-silent g c is =
     let new_ones = c.entries_from.ensures ∙ from_place _ _ its.0 _ (ap length c.entries-before.ensures) its.1 in
     c.report-2.ensures.none (rw new_ones (is_silent _ _ its.0 _ _ _ _ _ _ _ _ is c.report-2.ensures.told its.2.runs))
 
+pub returns-in-Some-clause-make : goal.returns-in-Some-clause-make
+returns-in-Some-clause-make g c n make =
+    let same = same_number _ n c.in-Some.number make (rw c.in-Some.is at c.made_number.ensures.some) in
+    rw same (c.make.ensures.told, refl, refl, refl, refl)
+
 pub returns-clause-only_usage : goal.returns-clause-only_usage
-returns-clause-only_usage g c is _ =
+returns-clause-only_usage g c is =
     let told = status_told _ _ _ _ _ _ _ is (λ e. cc) (λ e. cc) c.report-2.ensures.told in
-    rw told at c.run-status.ensures.ends.2.runs
+    absurd (rw told at c.run-status.ensures.ends.2.runs)
 
 pub returns-clause-read_fault : goal.returns-clause-read_fault
 returns-clause-read_fault g c is = c.run-status.ensures.read_fault (status_told _ _ _ _ _ _ _ is (λ e. cc) (λ e. cc) c.report-2.ensures.told)
