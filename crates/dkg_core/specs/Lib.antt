@@ -13,6 +13,7 @@ pub mod Fixed
 pub mod Heard
 pub mod Imaged
 pub mod Including
+pub mod Joining
 pub mod Laws
 pub mod Live
 pub mod Lives
@@ -21,6 +22,7 @@ pub mod Meant
 pub mod Node
 pub mod OneShots
 pub mod Plans
+pub mod Probes
 pub mod Probing
 pub mod Said
 pub mod Seen

@@ -3,8 +3,9 @@
 //! `specs/` has the relation, one file a phase. `Fixed` says what a step is given, and `Live` what a node has in memory; `Sources` has the
 //! blocks that a step is lent. `Setup`, `Dealing`, `Including`, `Blocks`, `Plans` and `OneShots` are the reshare actor's phases, which `Core`
 //! puts together; `Entering` is the orchestrator's half, `Applying` the application over any desk's answers, `Desk` the script's desk,
-//! `Probing` the probe, and `Node` joins all of them. Each is a course (`Courses`): the store's acts, and calls of what is outside of the node
-//! among them, in their order. The crates of the actors promise that their calls do these courses, whole or broken off.
+//! `Probing` the probe, whose step `dkg_probe` defines (`Joining`), and `Node` joins all of them. Each is a course (`Courses`): the store's
+//! acts, and calls of what is outside of the node among them, in their order. The crates of the actors promise that their calls do these
+//! courses, whole or broken off.
 //!
 //! The functions here are laws of the relation: calls without a body, whose contract is the law.
 #![tactic(auto)]
@@ -13,9 +14,11 @@ ghost use Rattle.dkg_core.specs.Agreeing.{OpeningsAgree, StepsAgree};
 ghost use Rattle.dkg_core.specs.Enduring.{OpeningsEndure, StepsGiveBack, StepsKeep};
 ghost use Rattle.dkg_core.specs.Entry.{EntersRegistered, LastBlocksAreEntered};
 ghost use Rattle.dkg_core.specs.Heard.{OpeningsKeep, OpeningsRestore, PeersAgree, PeersAreKept, RunsAreKept, SetupsKeep};
+ghost use Rattle.dkg_core.specs.Joining.{JoinsTrack, ProbesJoin};
 ghost use Rattle.dkg_core.specs.Laws.{DuesAreAnswered, OpeningsPrune, OthersAcknowledgeNothing, PeersAreHeard, SetupsAreSound, SetupsPrune};
 ghost use Rattle.dkg_core.specs.Counted.{CutsFall, RunsCount};
 ghost use Rattle.dkg_core.specs.Lives.{LivesKeep};
+ghost use Rattle.dkg_core.specs.Probes.{ProbesStep};
 ghost use Rattle.dkg_core.specs.Said.{RunsSay};
 ghost use Rattle.dkg_core.specs.Today.{HalvesDeliver, HalvesOpen, OpeningsComeTo, StepsComeTo};
 ghost use Rattle.dkg_core.specs.Transcripts.{OpeningsAreQuiet, RunsAddDeeds, StepsAreQuiet, TranscriptsMove};
@@ -190,4 +193,21 @@ pub fn halves_deliver<Dir>()
 /// that they give back.
 pub fn lives_keep<Dir>()
     ensures { LivesKeep Dir }
+{}
+
+/// Whatever runs as a probe's acts runs as the course that joins them to a node's, over any devices, which it leaves as they were, and with
+/// the same lines. What broke a probe off is want of memory.
+pub fn probes_join<Dir, F, G, S, T>()
+    ensures { ProbesJoin Dir F G S T }
+{}
+
+/// A manager that does the calls of the course that joins a probe's acts tracks what these say.
+pub fn joins_track<Dir, F, G, S, T>()
+    ensures { JoinsTrack Dir F G S T }
+{}
+
+/// What runs as a probe's own step, from the state that the life has of it, runs as the node's half of the step: over any devices, which it
+/// leaves as they were, with the same lines, and to the same end or fault. The life has the state that it went to.
+pub fn probes_step<Dir>()
+    ensures { ProbesStep Dir }
 {}
