@@ -25,6 +25,7 @@ IfWentTo broken P = Unit {0}
 -- WHAT RUNS AS A PROBE'S STEP, from the state that the life has, runs as the node's half: over any devices, with the same lines, to the same end,
 -- of which the life has the state again.
 abbrev pub ProbesStep : Type 0 → Type 0
-ProbesStep Dir = (c : Fixed Dir) (s : Snapshot Dir) (event : Event Dir) (its : ProbeEvent) (st : Live Dir) (state : State Dir) (ended : Ended ℕ (State Dir)) (w : World) (new : List Line)
+ProbesStep Dir = (c : Fixed Dir) (s : Snapshot Dir) (event : Event Dir) (its : ProbeEvent) (st : Live Dir) (state : State Dir)
+    → (ended : Ended ℕ (State Dir)) (w : World) (new : List Line)
     → c.probed.snapshot ≡ Some s → probe_event event ≡ Some its → HasState s st state → Runs (steps_from c s its state) ended w.out new
     → EndsSo (probes c event st) (ended_as PeerSet (with_probe st) ended) w (with_out new w) × IfWentTo ended (λ end. HasState s (with_probe st end) end)
