@@ -1,0 +1,37 @@
+-- A player that has acknowledged nothing, and what a recording leaves.
+use Rattle.std.proofs.Common.{◌≡◌, ℕ, List, Option, Some, None, IfSome, IsSome, is_some, if◌then◌else◌, refl, ap, subst, ◌∙◌}
+use Rattle.std.specs.FinMap.{FinMap, get, insert, empty, get-empty}
+use Rattle.std.specs.Ordering.{nat_cmp}
+use Rattle.dkg_ceremony.specs.declared.round.Round.{Round}
+use Rattle.dkg_store.specs.Pairs.{Pairs}
+use Rattle.dkg_store.specs.Player.{IsPlayerOf}
+use Rattle.dkg_store.specs.declared.player.Player.{Player}
+use Rattle.dkg_store.proofs.Pairs.{get_other}
+use Rattle.dkg_store.proofs.Playing.{not_none}
+use Rattle.dkg_example.specs.Sent.{Stays}
+
+none_kept : (acks : FinMap nat_cmp (List ℕ)) (dealer : ℕ) → acks ≡ empty → get acks dealer ≡ None
+none_kept acks dealer none = ap (λ (m : FinMap nat_cmp (List ℕ)). get m dealer) none ∙ get-empty nat_cmp dealer
+
+fresh : (ack_of : ℕ → Round → ℕ → List ℕ → List ℕ) (me : ℕ) (round : Round) (acks : FinMap nat_cmp (List ℕ)) (pairs : Pairs) (epoch : ℕ) → acks ≡ empty → IsPlayerOf ack_of me round acks pairs epoch
+fresh ack_of me round acks pairs epoch none = record { kept = λ dealer ack is. let not : get acks dealer ≡ None = none_kept acks dealer none in cc }
+
+-- a player that has acknowledged nothing is one of any recorded dealings
+pub fresh_player : (ack_of : ℕ → Round → ℕ → List ℕ → List ℕ) (me : ℕ) (round : Round) (made : Option Player) (player : Player) (pairs : Pairs) (epoch : ℕ)
+    → made ≡ Some player → IfSome made (λ p. p.acks ≡ empty) → IsPlayerOf ack_of me round player.acks pairs epoch
+fresh_player ack_of me round made player pairs epoch is none =
+    fresh ack_of me round player.acks pairs epoch (subst (λ (m : Option Player). IfSome m (λ p. p.acks ≡ empty)) is none)
+
+added : (pairs : Pairs) (key : ℕ × ℕ) (pair : List ℕ × ℕ) (epoch dealer : ℕ) → get pairs key ≡ None → IsSome (get pairs (epoch, dealer)) → get (insert pairs key pair) (epoch, dealer) ≡ get pairs (epoch, dealer)
+added pairs key pair epoch dealer none there =
+    get_other pairs key (epoch, dealer) pair (λ e. not_none (get pairs (epoch, dealer)) there (ap (λ (k : ℕ × ℕ). get pairs k) e ∙ none))
+
+kept_at : (found : Option (List ℕ × ℕ)) (pairs : Pairs) (key : ℕ × ℕ) (pair : List ℕ × ℕ) (epoch dealer : ℕ) → get pairs key ≡ found → IsSome (get pairs (epoch, dealer))
+    → get (if is_some found then pairs else insert pairs key pair) (epoch, dealer) ≡ get pairs (epoch, dealer)
+kept_at None pairs key pair epoch dealer none there = added pairs key pair epoch dealer none there
+kept_at (Some p) pairs key pair epoch dealer some there = refl
+
+-- what is recorded stays where a dealing is recorded, if it is new
+pub recorded_stays : (pairs later : Pairs) (key : ℕ × ℕ) (pair : List ℕ × ℕ) → later ≡ (if is_some (get pairs key) then pairs else insert pairs key pair) → Stays pairs later
+recorded_stays pairs later key pair is = λ epoch dealer there.
+    ap (λ (m : Pairs). get m (epoch, dealer)) is ∙ kept_at (get pairs key) pairs key pair epoch dealer refl there

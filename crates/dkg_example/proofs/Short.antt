@@ -1,0 +1,12 @@
+-- A polynomial that a round may ask for makes an event that a record can hold.
+use Rattle.std.proofs.Common.{◌≤◌, ◌<◌, ◌^◌, ℕ, List, length, refl, arith, length-append}
+use Rattle.std.specs.Int.{w32, to_be_bytes}
+use Rattle.dkg_values.specs.Uint.{uint}
+use Rattle.dkg_values.specs.UintGrammar.{uint_short}
+use Rattle.dkg_values.specs.Lists.{public_spelling}
+use Rattle.dkg_values.specs.ListGrammar.{public_size}
+use Rattle.dkg_store.specs.Events.{event_spelling}
+use Rattle.dkg_store.specs.declared.event.Event.TheVariants as events
+
+pub event_short : (dealer : ℕ) (public : List ℕ) → length public ≤ 65520 → length (event_spelling (events.Dealing dealer public)) < 2 ^ 32
+event_short dealer public few = omega (arith, uint_short (length public), public_size public (length (uint (length public))) (length public) refl refl, length-append (to_be_bytes w32 dealer) (public_spelling public))

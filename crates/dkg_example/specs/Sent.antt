@@ -1,0 +1,23 @@
+-- What a node answers, beside what it has recorded.
+use Rattle.std.specs.Prelude.{◌≡◌, ◌<◌, ◌⊎◌, ℕ, List, length, IsErr, IsSome, None, Result}
+use Rattle.std.specs.FinMap.{get}
+use Rattle.dkg_ceremony.specs.declared.ceremony.DealingError.{DealingError}
+use Rattle.dkg_ceremony.specs.declared.round.Round.{Round}
+use Rattle.dkg_store.specs.Pairs.{Pairs}
+use Rattle.dkg_store.specs.Player.{Acknowledges}
+use Rattle.dkg_example.specs.declared.Answer.{Answer}
+use Rattle.dkg_example.specs.declared.Answer.TheVariants.{Send, Block}
+
+-- An acknowledgement is sent of the dealing that is recorded, and of no other.
+abbrev pub IsSound : (ack_of : ℕ → Round → ℕ → List ℕ → List ℕ) (me : ℕ) (round : Round) (pairs : Pairs) (epoch dealer : ℕ) → Answer → Type 0
+IsSound ack_of me round pairs epoch dealer (Send ack) = Acknowledges ack_of me round pairs epoch dealer ack
+IsSound ack_of me round pairs epoch dealer Block = Unit {0}
+
+-- A dealer is blocked of whom nothing is recorded, and whose dealing the round refuses; or whose polynomial is longer than any round's.
+abbrev pub IsFair : (check : Result (Unit {0}) DealingError) (public : List ℕ) (pairs : Pairs) (epoch dealer : ℕ) → Answer → Type 0
+IsFair check public pairs epoch dealer (Send ack) = Unit {0}
+IsFair check public pairs epoch dealer Block = (65520 < length public) ⊎ (IsErr check × (get pairs (epoch, dealer) ≡ None))
+
+-- What is recorded of a dealer stays.
+abbrev pub Stays : Pairs → Pairs → Type 0
+Stays pairs later = (epoch dealer : ℕ) → IsSome (get pairs (epoch, dealer)) → get later (epoch, dealer) ≡ get pairs (epoch, dealer)

@@ -1,0 +1,168 @@
+//! A node's dealing path on `dkg_store`, as whoever embeds it writes it: a life opens over two devices, hears messages, and answers them.
+//!
+//! `docs/EMBEDDING.md` goes through it.
+#![tactic(auto)]
+
+ghost use Rattle.std.specs.Prelude.{◌≡◌, ◌-◌, nat_le, Contains, IfOk, IfSome, IsTrue, OnOk};
+ghost use Rattle.std.specs.FinMap as map;
+ghost use Rattle.dkg_journal.specs.Journals.{IsOpen};
+ghost use Rattle.dkg_journal.specs.Records.{entries};
+ghost use Rattle.dkg_store.specs.Pairs.{recovered};
+ghost use Rattle.dkg_store.specs.Player.{IsPlayerOf};
+ghost use Rattle.dkg_example.specs.Sent.{IsFair, IsSound, Stays};
+
+#[cfg(test)]
+mod tests;
+
+use dkg_ceremony::{Ack, Ceremony, CodecError, Private, Public, Round, decode_cfg};
+use dkg_journal::Disk;
+use dkg_store::{DealingHandleError, Devices, Player, SecretStore, Store, StoreError};
+use dkg_types::{Message, Transcript, Unit};
+use dkg_values::{Epoch, Key};
+use std::alloc::Global;
+use std::num::NonZeroU32;
+
+/// The longest polynomial that a round asks for: it has no more players than there are points.
+const MOST_COEFFICIENTS: usize = 65_520;
+
+/// What a message comes to.
+#[derive(Debug, Drop)]
+pub enum Answer {
+    /// The dealer is sent this acknowledgement.
+    Send(Ack),
+    /// The peer is blocked: what it sent is no dealing, or none of the round's.
+    Block,
+}
+
+/// A node between two messages of an epoch: what it has recorded, and the player that it is in the epoch's round.
+#[derive(Drop)]
+pub struct Node {
+    store: Store<Unit>,
+    player: Player,
+    epoch: Epoch,
+    limit: NonZeroU32,
+}
+
+impl Node {
+    /// Begins a life: what was recorded is there again, and what is two epochs old is forgotten.
+    ///
+    /// None: a log bears this node's acknowledgement of a dealing that isn't there any more. It must not play in this epoch.
+    pub fn open<C: Ceremony, D: Disk, X: SecretStore>(
+        alloc: Global,
+        ceremony: &C,
+        devices: &mut Devices<'_, D, X>,
+        limit: NonZeroU32,
+        epoch: Epoch,
+        me: Key,
+        round: &Round,
+    ) -> Result<Option<Node>, StoreError>
+        requires playing { Contains round.now.players me }
+        ensures me { IfOk result (λ made. IfSome made (λ node. node.player.me ≡ me)) }
+        ensures round { IfOk result (λ made. IfSome made (λ node. node.player.round ≡ round.now)) }
+        ensures open { IfOk result (λ made. IfSome made (λ node. IsTrue D.tells → IsOpen node.store.journal (D.files devices.new.disk.now) (D.image devices.new.disk.now))) }
+        ensures answers { IfOk result (λ made. IfSome made (λ node. IsPlayerOf C.ack_of me round.now node.player.acks node.store.dealings node.epoch)) }
+        // What the devices give of this epoch and the one below.
+        ensures restored { IfOk result (λ made. IfSome made (λ node. IsTrue D.tells → IsTrue X.tells → node.store.dealings ≡ map.retain_keys (recovered (entries (D.files devices.old.disk.now)) (X.held devices.old.secrets.now)) (λ key. nat_le (epoch - 1) key.0))) }
+        ensures same_disk { devices.new.disk.ghost_name ≡ devices.old.disk.ghost_name }
+        ensures same_secrets { devices.new.secrets.ghost_name ≡ devices.old.secrets.ghost_name }
+    {
+        let mut store = Store::init(alloc, devices, limit)?;
+        let below = Epoch(epoch.0.saturating_sub(1));
+        store.prune(alloc, devices, below)?;
+        let Some(player) = store.create_player(alloc, ceremony, epoch, me, round)? else {
+            return Ok(None);
+        };
+        Ok(Some(Node {
+            store,
+            player,
+            epoch,
+            limit,
+        }))
+    }
+
+    /// Records a dealing, if it is its dealer's first and passes, and answers it.
+    fn answer<C: Ceremony, D: Disk, X: SecretStore>(
+        &mut self,
+        alloc: Global,
+        ceremony: &C,
+        signer: &C::Signer,
+        devices: &mut Devices<'_, D, X>,
+        out: &mut Transcript,
+        from: Key,
+        public: Public,
+        private: Private,
+    ) -> Result<Answer, StoreError>
+        requires playing { Contains self.old.player.round.players self.old.player.me }
+        requires signer { C.Signer.key_of signer.now ≡ self.old.player.me }
+        requires open { IsTrue D.tells → IsOpen self.old.store.journal (D.files devices.old.disk.now) (D.image devices.old.disk.now) }
+        requires answers { IsPlayerOf C.ack_of self.old.player.me self.old.player.round self.old.player.acks self.old.store.dealings self.old.epoch }
+        ensures me { self.new.player.me ≡ self.old.player.me }
+        ensures round { self.new.player.round ≡ self.old.player.round }
+        ensures epoch { self.new.epoch ≡ self.old.epoch }
+        ensures open { OnOk result (IsTrue D.tells → IsOpen self.new.store.journal (D.files devices.new.disk.now) (D.image devices.new.disk.now)) }
+        ensures answers { IsPlayerOf C.ack_of self.new.player.me self.new.player.round self.new.player.acks self.new.store.dealings self.new.epoch }
+        ensures sound { IfOk result (IsSound C.ack_of self.new.player.me self.new.player.round self.new.store.dealings self.new.epoch from) }
+        ensures fair { IfOk result (IsFair (C.dealing_of self.old.player.round self.old.player.me from public private) public self.old.store.dealings self.old.epoch from) }
+        ensures stays { Stays self.old.store.dealings self.new.store.dealings }
+        ensures same_disk { devices.new.disk.ghost_name ≡ devices.old.disk.ghost_name }
+        ensures same_secrets { devices.new.secrets.ghost_name ≡ devices.old.secrets.ghost_name }
+    {
+        if public.as_slice().len() > MOST_COEFFICIENTS {
+            return Ok(Answer::Block);
+        }
+        let epoch = self.epoch;
+        let handled = self.player.handle(
+            alloc,
+            ceremony,
+            signer,
+            devices,
+            &mut self.store,
+            out,
+            epoch,
+            from,
+            public,
+            private,
+        );
+        match handled {
+            Ok(ack) => Ok(Answer::Send(ack)),
+            Err(DealingHandleError::Refused(_)) => Ok(Answer::Block),
+            Err(DealingHandleError::Store(error)) => Err(error),
+        }
+    }
+
+    /// Hears a message of the dealing channel. After an error the node is done with: it opens its devices anew.
+    pub fn hear<C: Ceremony, D: Disk, X: SecretStore>(
+        &mut self,
+        alloc: Global,
+        ceremony: &C,
+        signer: &C::Signer,
+        devices: &mut Devices<'_, D, X>,
+        out: &mut Transcript,
+        from: Key,
+        bytes: &[u8],
+    ) -> Result<Answer, StoreError>
+        requires playing { Contains self.old.player.round.players self.old.player.me }
+        requires signer { C.Signer.key_of signer.now ≡ self.old.player.me }
+        requires open { IsTrue D.tells → IsOpen self.old.store.journal (D.files devices.old.disk.now) (D.image devices.old.disk.now) }
+        requires answers { IsPlayerOf C.ack_of self.old.player.me self.old.player.round self.old.player.acks self.old.store.dealings self.old.epoch }
+        ensures me { self.new.player.me ≡ self.old.player.me }
+        ensures round { self.new.player.round ≡ self.old.player.round }
+        ensures epoch { self.new.epoch ≡ self.old.epoch }
+        ensures open { OnOk result (IsTrue D.tells → IsOpen self.new.store.journal (D.files devices.new.disk.now) (D.image devices.new.disk.now)) }
+        ensures answers { IsPlayerOf C.ack_of self.new.player.me self.new.player.round self.new.player.acks self.new.store.dealings self.new.epoch }
+        // What is sent is the acknowledgement of the dealing that is recorded, and what is recorded stays.
+        ensures sound { IfOk result (IsSound C.ack_of self.new.player.me self.new.player.round self.new.store.dealings self.new.epoch from) }
+        ensures stays { Stays self.old.store.dealings self.new.store.dealings }
+        ensures same_disk { devices.new.disk.ghost_name ≡ devices.old.disk.ghost_name }
+        ensures same_secrets { devices.new.secrets.ghost_name ≡ devices.old.secrets.ghost_name }
+    {
+        let limit = self.limit.get();
+        match decode_cfg::<Message>(alloc, bytes, &limit) {
+            Ok(Message::Dealer(public, private)) => {
+                self.answer(alloc, ceremony, signer, devices, out, from, public, private)
+            }
+            Err(CodecError::NoMemory) => Err(StoreError::NoMemory),
+            Ok(Message::Ack(_)) | Err(_) => Ok(Answer::Block),
+        }
+    }
+}
