@@ -1,6 +1,6 @@
 -- How openings and steps of the form that is built end.
 use Rattle.std.proofs.Common.{◌≡◌, ◌≤◌, ◌<◌, inl, inr, ℕ, zero, suc, Bool, true, false, cond, nat_le, List, [], ◌∷◌, Option, Some, None, refl, sym, ◌∙◌, ap, subst, arith, lit<}
-use Rattle.std.specs.Prelude.{◌+◌, ◌-◌, ◌*◌, ◌/◌, ◌^◌, ◌==◌, ◌&&◌, ◌||◌, nat_lt, nat_eq, length, filter, if◌then◌else◌, not, IsSomeAnd, Result, Ok, Err, is_none, option_and_then, option_map}
+use Rattle.std.specs.Prelude.{◌+◌, ◌-◌, ◌*◌, ◌/◌, ◌^◌, ◌==◌, ◌&&◌, ◌||◌, nat_lt, nat_eq, length, filter, if◌then◌else◌, not, IsSomeAnd, Result, Ok, Err, is_none, option_and_then, option_map, is_some}
 use Rattle.std.specs.Option.{option_map_or, option_or}
 use Rattle.std.specs.Str.{bytes_eq}
 use Rattle.std.proofs.lemmas.Bool.{cases_lt}
@@ -14,7 +14,7 @@ use Rattle.dkg_ceremony.specs.declared.phase.Phase.{Phase}
 use Rattle.dkg_ceremony.specs.declared.phase.Phase.TheVariants.{Early, Midpoint, Late}
 use Rattle.dkg_ceremony.specs.declared.round.Round.{Round}
 use Rattle.dkg_ceremony.specs.declared.round.RoundError.{RoundError}
-use Rattle.dkg_ceremony.specs.Schedule.{epoch_of, midpoint, phase_at}
+use Rattle.dkg_ceremony.specs.Schedule.{epoch_of, midpoint, last, phase_at}
 use Rattle.dkg_types.specs.Blocks.{Block}
 use Rattle.dkg_types.specs.BlockCodes.{info_of}
 use Rattle.dkg_types.specs.declared.entry.Entry.{Entry as Line}
@@ -26,24 +26,32 @@ use Rattle.dkg_types.specs.declared.message.Message.TheVariants.{Dealer as ADeal
 use Rattle.dkg_types.specs.declared.outcome.EpochOutcome.{EpochOutcome}
 use Rattle.dkg_types.specs.declared.outcome.EpochOutcome.TheVariants.{Success, Failure}
 use Rattle.dkg_types.specs.declared.participants.ParticipantsError.{ParticipantsError}
+use Rattle.dkg_types.specs.declared.entry.Entry.TheVariants as lines
+use Rattle.dkg_types.specs.declared.participants.TrackedPeers.{TrackedPeers}
+use Rattle.dkg_types.specs.declared.scheme.SchemeInfo.{SchemeInfo}
 use Rattle.dkg_types.specs.MessageCodes.{message_at}
+use Rattle.dkg_fence.specs.declared.fence.Waited.{Waited}
+use Rattle.dkg_fence.specs.declared.fence.Waited.TheVariants as waits
+use Rattle.dkg_fence.specs.Fence.{waited}
 use Rattle.dkg_store.specs.Acts.{Held, went, stopped, broken}
 use Rattle.dkg_store.specs.Recorded.{Pair, first_refused}
-use Rattle.dkg_core.specs.Courses.{Course, Say, Do, Call, Ask, Goes, Stops, bind, on_devices}
+use Rattle.dkg_core.specs.Courses.{Course, Say, Do, Call, Ask, Goes, Stops, bind, on_devices, Genesis}
 use Rattle.dkg_core.specs.Said.{SaysAll, SaysUpTo}
 use Rattle.dkg_core.specs.Seen.{Seen}
 use Rattle.dkg_core.specs.Sources.{Tip, startup}
 use Rattle.dkg_core.specs.Fixed.{Fixed, Material, has, start}
-use Rattle.dkg_core.specs.Live.{Live, Dealer, Stage, Deals, Includes, Follows, Ends, Seat, Plays, Watches, Request, Message, Sent, Peer, Finalized, NextLog, ReleaseLog, EpochInfoOf, Feed, Over, Cancel, Work, awaited_height, phase_of, is_last_height, of_epoch, with_tip, with_participation}
+use Rattle.dkg_core.specs.Live.{Live, Dealer, Orchestrator, Waiting, NodeStop, Faulted, Stage, Deals, Includes, Follows, Ends, Seat, Plays, Watches, Request, Message, Sent, Peer, Finalized, NextLog, ReleaseLog, EpochInfoOf, Feed, Over, Cancel, Work, awaited_height, phase_of, is_last_height, of_epoch, with_tip, with_participation, with_orchestrator}
 use Rattle.dkg_core.specs.Logs.{logs_of}
 use Rattle.dkg_core.specs.Setup as s
 use Rattle.dkg_core.specs.Dealing as d
 use Rattle.dkg_core.specs.Including as i
 use Rattle.dkg_core.specs.Blocks as b
 use Rattle.dkg_core.specs.Plans as p
+use Rattle.dkg_core.specs.Entering as half
+use Rattle.dkg_core.specs.Entering.{Half}
 use Rattle.dkg_core.specs.Core.{opening, step, opens_in, begun}
 use Rattle.dkg_core.specs.Laws.{start_of}
-use Rattle.dkg_core.specs.Today.{ComesTo, IsFormOfToday, stage_in, IsLiveToday, first_epoch, first_block, round_by, validity, OnInfo, OnValid, IsOpeningFault, seat_in, IsSeatedBy, IsSetUpBy, IsOpenedToday, OpeningsComeTo, IsTakenToday, refusal_over, refusal_of, tip_behind, IsNextToday, StepsComeTo}
+use Rattle.dkg_core.specs.Today.{ComesTo, IsFormOfToday, stage_in, IsLiveToday, first_epoch, first_block, round_by, validity, OnInfo, OnValid, IsOpeningFault, seat_in, IsSeatedBy, IsSetUpBy, IsOpenedToday, OpeningsComeTo, HasEntered, HalvesOpen, answer_in, HalvesDeliver, IsTakenToday, refusal_over, refusal_of, tip_behind, IsNextToday, StepsComeTo}
 
 -- WHERE A COURSE COMES TO
 
@@ -161,7 +169,7 @@ module _ {Dir : Type 0} (c : Fixed Dir) (form : IsFormOfToday c) where
   past_range None e = absurd (let t : ◌≡◌ {A = Bool} false true = e in cc)
   past_range (Some t) e = e
 
-  module _ (h : Held) where
+  module _ (h : Held) (reached : s.is_past_range c (start_of c) ≡ false) where
     abbrev seen : Seen
     seen = c.seen h
 
@@ -194,10 +202,11 @@ module _ {Dir : Type 0} (c : Fixed Dir) (form : IsFormOfToday c) where
           refused_is = ap (first_refused (λ dealer. c.rules.dealing_of round c.me dealer)) (pairs_kept (first_epoch c - 1) round.number (omega (arith, number)) seen.dealings)
 
           module _ (seat : Seat) (seat_is : seat ≡ seat_in c round ready) (passing : seat ≡ Plays → s.refused_in c round (begun seen) ≡ None) where
-            seated : (st : Live Dir) → st.tip ≡ ready.tip → st.records ≡ ready.records → st.participation.round ≡ Some round → st.participation.current ≡ Some info → st.participation.seat ≡ seat → IsLiveToday c st → G st
-            seated st same_tip same_records in_round current at_seat live = (
+            seated : (st : Live Dir) → st.tip ≡ ready.tip → st.records ≡ ready.records → st.participation.round ≡ Some round → st.participation.current ≡ Some info → st.participation.seat ≡ seat → st.orchestrator ≡ ready.orchestrator → IsLiveToday c st → G st
+            seated st same_tip same_records in_round current at_seat same_half live = (
               h,
               record {
+                in_range = reached;
                 tip = same_tip;
                 live = live;
                 set_up = subst (IsSetUpBy c seen st) (sym is) (on_valid (IsSeatedBy c seen st) (record {
@@ -207,19 +216,20 @@ module _ {Dir : Type 0} (c : Fixed Dir) (form : IsFormOfToday c) where
                   current = current;
                   seat = at_seat ∙ seat_is ∙ ap (λ (r : _). seat_in c round (record st { records = r })) (sym same_records);
                   passing = λ plays. passing (sym at_seat ∙ plays);
+                  orchestrator = same_half;
                 }));
               },
             )
 
             parts : (phase : Phase) → phase ≡ phase_of c (start_of c) → ComesTo F G (s.takes_part c round phase None seat ready)
             parts Early is_phase =
-                seated (s.in_stage c Early (with_participation (record ready.participation { round = Some round; dealer = None; seat = seat }) ready)) refl refl refl refl refl
+                seated (s.in_stage c Early (with_participation (record ready.participation { round = Some round; dealer = None; seat = seat }) ready)) refl refl refl refl refl refl
                 (record { awaits = refl; undealt = refl; idle = refl; in_round = λ r e. ap stage_in is_phase; without = λ e. absurd (none_apart round (sym e)) })
             parts Midpoint is_phase =
-                seated (s.in_stage c Midpoint (with_participation (record ready.participation { round = Some round; dealer = None; seat = seat }) ready)) refl refl refl refl refl
+                seated (s.in_stage c Midpoint (with_participation (record ready.participation { round = Some round; dealer = None; seat = seat }) ready)) refl refl refl refl refl refl
                 (record { awaits = refl; undealt = refl; idle = refl; in_round = λ r e. ap stage_in is_phase; without = λ e. absurd (none_apart round (sym e)) })
             parts Late is_phase =
-                seated (s.in_stage c Late (with_participation (record ready.participation { round = Some round; dealer = None; seat = seat }) ready)) refl refl refl refl refl
+                seated (s.in_stage c Late (with_participation (record ready.participation { round = Some round; dealer = None; seat = seat }) ready)) refl refl refl refl refl refl
                 (record { awaits = refl; undealt = refl; idle = refl; in_round = λ r e. ap stage_in is_phase; without = λ e. absurd (none_apart round (sym e)) })
 
           abbrev stands_aside : Bool
@@ -267,23 +277,27 @@ module _ {Dir : Type 0} (c : Fixed Dir) (form : IsFormOfToday c) where
     from_info block is (Some info) carries = with_info block is info carries
 
     from_boundary : (found : Option (Block Dir)) → first_block c ≡ found → ComesTo F G (s.from_boundary c found fresh)
-    from_boundary None is = (h, record { tip = refl; live = follower; set_up = subst (IsSetUpBy c seen fresh) (sym is) refl })
+    from_boundary None is = (h, record { in_range = reached; tip = refl; live = follower; set_up = subst (IsSetUpBy c seen fresh) (sym is) (refl, refl) })
     from_boundary (Some block) is = from_info block is (info_of block.payload) refl
 
-    abbrev next : Option (Material Dir) → Course Dir Fault (Live Dir)
-    next found = p.in_range c (p.resolves_plan c (p.starts_from c (begun seen)) found)
+  module _ (h : Held) where
+    abbrev start_of_life : Live Dir
+    start_of_life = begun (c.seen h)
 
-    starts : ComesTo F G (p.starts_from c (begun seen) None)
+    abbrev next : Option (Material Dir) → Course Dir Fault (Live Dir)
+    next found = p.in_range c (p.resolves_plan c (p.starts_from c start_of_life) found)
+
+    starts : ComesTo F G (p.starts_from c start_of_life None)
     starts =
-        let from : Live Dir = record (begun seen) { tip = startup c.source.anchor None } in
-        comes_if F G (s.is_past_range c (start_of c)) (Stops HeightRange) (s.sets_up c None from) (λ e. (h, e)) (λ e. from_boundary (first_block c) refl)
+        comes_if F G (s.is_past_range c (start_of c)) (Stops HeightRange) (s.sets_up c None (record start_of_life { tip = startup c.source.anchor None }))
+        (λ e. (h, e)) (λ e. from_boundary h e (first_block c) refl)
 
     goes : ComesTo F G (next None)
     goes =
-        comes_if F G (option_map_or (λ t. s.is_past_range c (t.height + 1)) (start c) false) (Stops HeightRange) (p.starts_from c (begun seen) None) (λ e. (h, past_range (start c) e)) (λ e. starts)
+        comes_if F G (option_map_or (λ t. s.is_past_range c (t.height + 1)) (start c) false) (Stops HeightRange) (p.starts_from c start_of_life None) (λ e. (h, past_range (start c) e)) (λ e. starts)
 
-    opens : ComesTo F G (opens_in c c.oneshot (begun seen))
-    opens = subst (λ (o : _). ComesTo F G (opens_in c o (begun seen))) (sym form.reshare)
+    opens : ComesTo F G (opens_in c c.oneshot start_of_life)
+    opens = subst (λ (o : _). ComesTo F G (opens_in c o start_of_life)) (sym form.reshare)
         (subst (λ (m : Option (Material Dir)). ComesTo F G (p.finds_material c m next)) (sym form.bare)
         (λ k. subst (λ (plan : Option (List ℕ)). ComesTo F G (p.reads_plan c plan next)) (sym (form.unplanned k)) goes))
 
@@ -294,6 +308,78 @@ pub openings_come_to : {Dir : Type 0} → OpeningsComeTo Dir
 openings_come_to c (went end) old new form said = came_all (F c form) (G c form) (opening c) end said.lines (comes c form) said.by
 openings_come_to c (stopped fault) old new form said = came_up_to (F c form) (G c form) (opening c) fault said.lines (comes c form) said.by
 openings_come_to c (broken cause) old new form said = tt
+
+-- THE ORCHESTRATOR'S HALF
+
+module _ {Dir : Type 0} (c : Fixed Dir) (st : Live Dir) (seen : Seen) (opened : IsOpenedToday c seen st) (full : (directory : Dir) (peers : TrackedPeers) → c.directories.lacking directory peers ≡ None) where
+  abbrev NoStop : NodeStop → Type 0
+  NoStop stop = ⊥
+
+  abbrev Entered : Half Dir → Type 0
+  Entered half = HasEntered c half (first_block c)
+
+  module _ (block : Block Dir) (is : first_block c ≡ Some block) (info : EpochInfo Dir) (same : info.epoch ≡ first_epoch c) (seated : IsSeatedBy c seen st info) where
+    abbrev waiting : Waiting Dir
+    waiting = record { epoch = first_epoch c; info = info; floor = Genesis block.digest; block = None }
+
+    entered : (half : Half Dir) → half.live.orchestrator.entered ≡ Some (first_epoch c) → Entered half
+    entered half e = subst (HasEntered c half) (sym is) e
+
+    starts_engine : (o : Orchestrator Dir) (found : Option SchemeInfo) → is_some found ≡ true → ComesTo NoStop Entered (half.starts_engine o waiting found st)
+    starts_engine o None e = let t : ◌≡◌ {A = Bool} false true = e in cc
+    starts_engine o (Some scheme) e = stopped o.entered
+      where
+        stopped : (old : Option ℕ) → ComesTo NoStop Entered (half.stops_engine old (Say (lines.Entered (first_epoch c)) (half.leaves (half.with_entered (first_epoch c) o) half.Acknowledges st)))
+        stopped None = entered (record { live = with_orchestrator (half.with_entered (first_epoch c) o) st; answer = half.Acknowledges }) refl
+        stopped (Some epoch) = entered (record { live = with_orchestrator (half.with_entered (first_epoch c) o) st; answer = half.Acknowledges }) refl
+
+    tracks : (o : Orchestrator Dir) (lacking : Option ℕ) → lacking ≡ None → is_some (lookup (first_epoch c) o.schemes) ≡ true → ComesTo NoStop Entered (half.tracks_peers o waiting lacking st)
+    tracks o None none e = starts_engine o (lookup (first_epoch c) o.schemes) e
+    tracks o (Some peer) none e = absurd (none_apart peer (sym none))
+
+    registered : is_some (lookup (first_epoch c) st.orchestrator.schemes) ≡ true
+    registered = subst (λ (o : Orchestrator Dir). is_some (lookup (first_epoch c) o.schemes) ≡ true) (sym seated.orchestrator) (found (info.epoch == first_epoch c) (equal info.epoch (first_epoch c) same))
+      where
+        equal : (n m : ℕ) → n ≡ m → (n == m) ≡ true
+        equal n m e = grind (arith, nat_tests)
+
+        found : (t : Bool) → t ≡ true → is_some (if t then Some (s.scheme_for c info None) else None) ≡ true
+        found true e = refl
+        found false e = e
+
+    answered : half.wait_for st.orchestrator.fence (first_epoch c) ≡ waits.Ready
+    answered = subst (λ (o : Orchestrator Dir). half.wait_for o.fence (first_epoch c) ≡ waits.Ready) (sym seated.orchestrator)
+        (ap (λ (t : Bool). if t then waits.Ready else if false then waits.Closed else waits.Pending) (at_least info.epoch (first_epoch c) same))
+      where
+        at_least : (n m : ℕ) → n ≡ m → nat_le m n ≡ true
+        at_least n m e = grind (arith, nat_tests)
+
+    enters : ComesTo NoStop Entered (half.enters c waiting st)
+    enters =
+        subst (λ (answer : Waited). ComesTo NoStop Entered (half.waited_for c (record st.orchestrator { fence = waited (first_epoch c) answer st.orchestrator.fence }) waiting answer st)) (sym answered)
+        (tracks (record st.orchestrator { fence = waited (first_epoch c) waits.Ready st.orchestrator.fence }) (c.directories.lacking info.directory (half.peers_for waiting)) (full info.directory (half.peers_for waiting)) registered)
+
+    by_info : ComesTo NoStop Entered (if info.epoch == first_epoch c then half.enters c waiting st else Stops (Faulted (WrongEpoch (first_epoch c) info.epoch)))
+    by_info = comes_if NoStop Entered (info.epoch == first_epoch c) (half.enters c waiting st) (Stops (Faulted (WrongEpoch (first_epoch c) info.epoch))) (λ e. enters) (λ e. other_number info.epoch (first_epoch c) e same)
+
+  at_block : (block : Block Dir) → first_block c ≡ Some block → (found : Option (EpochInfo Dir)) → info_of block.payload ≡ found
+      → IsSomeAnd found (λ info. (info.epoch ≡ first_epoch c) × (validity c info ≡ Ok tt) × IsSeatedBy c seen st info)
+      → ComesTo NoStop Entered (option_map_or (λ info. if info.epoch == first_epoch c then half.enters c (record { epoch = first_epoch c; info = info; floor = Genesis block.digest; block = None }) st
+      else Stops (Faulted (WrongEpoch (first_epoch c) info.epoch))) found (Stops (Faulted (MissingEpochInfo block.height))))
+  at_block block is None carries set_up = absurd set_up
+  at_block block is (Some info) carries set_up = by_info block is info set_up.0 set_up.2
+
+  at : (found : Option (Block Dir)) → first_block c ≡ found → IsSetUpBy c seen st found → ComesTo NoStop Entered (half.opens_at c (first_epoch c) found st)
+  at None is set_up = subst (λ (o : Option (Block Dir)). HasEntered c (record { live = with_orchestrator (record st.orchestrator { halted = true; waiting = None }) st; answer = half.Withholds }) o) (sym is) refl
+  at (Some block) is set_up =
+      at_block block is (info_of block.payload) refl (subst (λ (o : Option (Block Dir)). IsSomeAnd o (λ b. IsSomeAnd (info_of b.payload) (λ info. (info.epoch ≡ first_epoch c) × (validity c info ≡ Ok tt) × IsSeatedBy c seen st info))) is set_up)
+
+  opens_today : ComesTo NoStop Entered (half.opens_half c None st)
+  opens_today = comes_if NoStop Entered (s.is_past_range c (start_of c)) (Stops (Faulted HeightRange)) (half.opens_at c (first_epoch c) (first_block c) st)
+      (λ e. let t : ◌≡◌ {A = Bool} true false = sym e ∙ opened.in_range in cc) (λ e. at (first_block c) refl opened.set_up)
+
+pub halves_open : {Dir : Type 0} → HalvesOpen Dir
+halves_open c st seen opened full = opens_today c st seen opened full
 
 -- A STEP
 
@@ -310,6 +396,41 @@ no_part k (suc n) low = let half : suc n / 2 < suc n = div-lt_self {n = suc n} {
 below_last : (k n : ℕ) → k < n / 2 → k < n - 1
 below_last k zero low = let none : zero / 2 ≡ 0 = no_part 0 2 (omega arith) in absurd (omega (arith, none, low))
 below_last k (suc n) low = let half : suc n / 2 < suc n = div-lt_self {n = suc n} {k = 2} (omega arith) (lit< tt) in omega (arith, half, low)
+
+below_any : (m k n : ℕ) → k < n / 2 → k < m + n - 1
+below_any m k n low = let under = below_last k n low in omega (arith, under)
+
+not_above : (k l : ℕ) → k < l → nat_lt l k ≡ true → ⊥
+not_above k l under e = grind (arith, nat_tests, under)
+
+not_beside : (k l : ℕ) → k < l → nat_lt k l ≡ false → ⊥
+not_beside k l under e = grind (arith, nat_tests, under)
+
+module _ {Dir : Type 0} (c : Fixed Dir) (st : Live Dir) (block : Block Dir) (early : block.height < midpoint c.blocks_per_epoch 0) where
+  abbrev Never : NodeStop → Type 0
+  Never stop = ⊥
+
+  abbrev Left : Option ℕ → Half Dir → Type 0
+  Left found left = (left.live ≡ st) × (left.answer ≡ answer_in found)
+
+  by_epoch : (found : Option ℕ) → ComesTo Never (Left found) (half.delivered_in c block st found)
+  by_epoch None = (refl, refl)
+  by_epoch (Some epoch) =
+      let zeros : 0 * c.blocks_per_epoch ≡ 0 = zero-mul c.blocks_per_epoch in
+      let under = below_any (epoch * c.blocks_per_epoch) block.height c.blocks_per_epoch (omega (arith, early, zeros)) in
+      comes_if Never (Left (Some epoch)) (nat_lt (last c.blocks_per_epoch epoch) block.height) (Stops (Faulted (SkippedHeight (last c.blocks_per_epoch epoch) block.height)))
+      (if nat_lt block.height (last c.blocks_per_epoch epoch) then half.leaves st.orchestrator half.Acknowledges st else half.enters_at c block (epoch + 1) (Some block.height) st)
+      (λ e. not_above block.height (last c.blocks_per_epoch epoch) under e)
+      (λ e. comes_if Never (Left (Some epoch)) (nat_lt block.height (last c.blocks_per_epoch epoch)) (half.leaves st.orchestrator half.Acknowledges st) (half.enters_at c block (epoch + 1) (Some block.height) st)
+      (λ e. (refl, refl)) (λ e. absurd (not_beside block.height (last c.blocks_per_epoch epoch) under e)))
+
+  by_half : (found : Option (Waiting Dir)) → found ≡ None
+      → ComesTo Never (Left (half.active st.orchestrator)) (bind (option_map_or (λ w. bind (half.enters c w st) (half.acked_late w.block)) found (Goes st)) (λ st. half.delivered_in c block st (half.active st.orchestrator)))
+  by_half None none = by_epoch (half.active st.orchestrator)
+  by_half (Some w) none = absurd (none_apart w (sym none))
+
+pub halves_deliver : {Dir : Type 0} → HalvesDeliver Dir
+halves_deliver c st block early none = by_half c st block early st.orchestrator.waiting none
 
 module _ {Dir : Type 0} (c : Fixed Dir) (st : Live Dir) (live : IsLiveToday c st) where
   not_ended : st.participation.stage ≡ Ends → ⊥
@@ -332,7 +453,7 @@ module _ {Dir : Type 0} (c : Fixed Dir) (st : Live Dir) (live : IsLiveToday c st
     PG end = IsNextToday c st end of_peer
 
     same : PG st
-    same = record { accepted = refl; tip = refl; live = live; epoch = refl; round = refl; seat = refl; current = refl }
+    same = record { accepted = refl; tip = refl; live = live; epoch = refl; round = refl; seat = refl; current = refl; orchestrator = refl }
 
     recorded : (epoch dealer : ℕ) (public : List ℕ) (private : ℕ) → PG (d.with_dealing_of epoch dealer public private st)
     recorded epoch dealer public private = record {
@@ -343,6 +464,7 @@ module _ {Dir : Type 0} (c : Fixed Dir) (st : Live Dir) (live : IsLiveToday c st
       round = refl;
       seat = refl;
       current = refl;
+      orchestrator = refl;
     }
 
     module _ (round : Round) where
@@ -414,15 +536,15 @@ module _ {Dir : Type 0} (c : Fixed Dir) (st : Live Dir) (live : IsLiveToday c st
 
       -- the same life on this tip
       goes_on : (end : Live Dir) → end.tip ≡ Some (record { height = block.height; digest = block.digest }) → end.participation.epoch ≡ st.participation.epoch → end.participation.round ≡ st.participation.round
-          → end.participation.seat ≡ st.participation.seat → end.participation.current ≡ st.participation.current → IsLiveToday c end → BG end
-      goes_on end is_tip epoch round seat current live = record { accepted = accepted; tip = is_tip ∙ sym behind; live = live; epoch = epoch; round = round; seat = seat; current = current }
+          → end.participation.seat ≡ st.participation.seat → end.participation.current ≡ st.participation.current → end.orchestrator ≡ st.orchestrator → IsLiveToday c end → BG end
+      goes_on end is_tip epoch round seat current half live = record { accepted = accepted; tip = is_tip ∙ sym behind; live = live; epoch = epoch; round = round; seat = seat; current = current; orchestrator = half }
 
       undealt_there : (o : Option Round) (dealer : Option Dealer) → dealer ≡ None → option_and_then (λ round. option_map (s.signed c round) dealer) o ≡ None
       undealt_there None dealer is = refl
       undealt_there (Some round) dealer is = ap (λ (x : Option Dealer). option_map (s.signed c round) x) is
 
       still_deals : st.participation.stage ≡ Deals → (block.height + 1 == midpoint c.blocks_per_epoch st.participation.epoch) ≡ false → BG (with_tip block st)
-      still_deals deals e = goes_on (with_tip block st) refl refl refl refl refl (record {
+      still_deals deals e = goes_on (with_tip block st) refl refl refl refl refl refl (record {
         awaits = here ∙ sym there;
         undealt = live.undealt;
         idle = live.idle;
@@ -436,7 +558,7 @@ module _ {Dir : Type 0} (c : Fixed Dir) (st : Live Dir) (live : IsLiveToday c st
               strictly (block.height + 1) (midpoint c.blocks_per_epoch 0) (omega (arith, early)) apart
 
       ends_dealing : st.participation.stage ≡ Deals → (block.height + 1 == midpoint c.blocks_per_epoch st.participation.epoch) ≡ true → BG (s.begins_inclusion c (with_tip block st))
-      ends_dealing deals e = goes_on (s.begins_inclusion c (with_tip block st)) refl refl refl refl refl (record {
+      ends_dealing deals e = goes_on (s.begins_inclusion c (with_tip block st)) refl refl refl refl refl refl (record {
         awaits = here ∙ sym there;
         undealt = undealt_there st.participation.round st.participation.dealer live.undealt;
         idle = live.idle;
@@ -478,7 +600,7 @@ module _ {Dir : Type 0} (c : Fixed Dir) (st : Live Dir) (live : IsLiveToday c st
 
       followed : st.participation.stage ≡ Follows → ComesTo BF BG (b.follows_at c block st)
       followed follows = subst (λ (t : Bool). ComesTo BF BG (if t then b.carried c block (λ info. b.follows_into c block info st) else Goes (with_tip block st))) (sym not_last)
-          (goes_on (with_tip block st) refl refl refl refl refl (record {
+          (goes_on (with_tip block st) refl refl refl refl refl refl (record {
             awaits = here ∙ sym there;
             undealt = live.undealt;
             idle = live.idle;
@@ -532,6 +654,7 @@ module _ {Dir : Type 0} (c : Fixed Dir) (st : Live Dir) (live : IsLiveToday c st
           round = refl;
           seat = refl;
           current = refl;
+          orchestrator = refl;
         }
 
         moved : nat_le block.height t.height ≡ false → tip_behind (Finalized block) st.tip ≡ new_tip

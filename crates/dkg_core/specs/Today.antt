@@ -1,6 +1,6 @@
 -- How openings and steps end in the form that is built: a reshare without shares and material, up to the block before an epoch's midpoint. Each own fault
 -- has its exact cause, and so has each state that is left.
-use Rattle.std.specs.Prelude.{◌≡◌, ◌<◌, ◌+◌, ◌==◌, ◌||◌, ◌&&◌, ℕ, true, false, not, nat_lt, nat_le, List, [], Option, Some, None, IsSomeAnd, is_none, Result, Ok, Err, if◌then◌else◌}
+use Rattle.std.specs.Prelude.{◌≡◌, ◌<◌, ◌+◌, ◌==◌, ◌||◌, ◌&&◌, ℕ, true, false, not, nat_lt, nat_le, List, [], ◌∷◌, Option, Some, None, IsSomeAnd, is_none, Result, Ok, Err, if◌then◌else◌}
 use Rattle.std.specs.Option.{option_map_or}
 use Rattle.std.specs.Str.{bytes_eq}
 use Rattle.dkg_ceremony.specs.declared.output.Output.{Output}
@@ -9,6 +9,7 @@ use Rattle.dkg_ceremony.specs.declared.phase.Phase.TheVariants.{Early, Midpoint,
 use Rattle.dkg_ceremony.specs.declared.round.Round.{Round}
 use Rattle.dkg_ceremony.specs.declared.round.RoundError.{RoundError}
 use Rattle.dkg_ceremony.specs.Schedule.{epoch_of, midpoint, boundary}
+use Rattle.dkg_fence.specs.Fence.{marked}
 use Rattle.dkg_types.specs.Blocks.{Block}
 use Rattle.dkg_types.specs.BlockCodes.{info_of}
 use Rattle.dkg_types.specs.declared.entry.Entry.{Entry as Line}
@@ -18,6 +19,7 @@ use Rattle.dkg_types.specs.declared.fault.LocalCause.TheVariants.{StoredDealing}
 use Rattle.dkg_types.specs.declared.fault.ParticipantsCause.TheVariants.{Refused, Round as NoRound}
 use Rattle.dkg_types.specs.declared.info.EpochInfo.{EpochInfo}
 use Rattle.dkg_types.specs.declared.participants.ParticipantsError.{ParticipantsError}
+use Rattle.dkg_types.specs.declared.participants.TrackedPeers.{TrackedPeers}
 use Rattle.dkg_types.specs.Validation.{validation}
 use Rattle.dkg_store.specs.Acts.{Held, Ended, went, stopped, broken}
 use Rattle.dkg_core.specs.Courses.{Course, Say, Do, Call, Ask, Goes, Stops, on_devices}
@@ -25,11 +27,12 @@ use Rattle.dkg_core.specs.Said.{Said}
 use Rattle.dkg_core.specs.Seen.{Seen}
 use Rattle.dkg_core.specs.Sources.{Tip, startup}
 use Rattle.dkg_core.specs.Fixed.{Fixed, has}
-use Rattle.dkg_core.specs.Live.{Live, Stage, Deals, Includes, Follows, Seat, Plays, Watches, Message, Sent, Peer, Finalized, awaited_height, phase_of, of_epoch}
+use Rattle.dkg_core.specs.Live.{Live, Orchestrator, NodeStop, Stage, Deals, Includes, Follows, Seat, Plays, Watches, Message, Sent, Peer, Finalized, awaited_height, phase_of, of_epoch}
 use Rattle.dkg_core.specs.Logs.{logs_of}
-use Rattle.dkg_core.specs.Setup.{is_lost, is_past_range, participants_of, refused_in}
+use Rattle.dkg_core.specs.Setup.{is_lost, is_past_range, participants_of, refused_in, scheme_for}
 use Rattle.dkg_core.specs.Blocks.{is_in_window}
-use Rattle.dkg_core.specs.Core.{opening, step, begun}
+use Rattle.dkg_core.specs.Core.{opening, step, begun, no_orchestrator}
+use Rattle.dkg_core.specs.Entering.{Half, HalfAnswer, Acknowledges, Withholds, active, opens_half, delivered}
 use Rattle.dkg_core.specs.Laws.{start_of}
 
 -- WHERE A COURSE COMES TO: each fault that it may stop by, and each end that it may go to, whatever is read
@@ -114,6 +117,10 @@ IsOpeningFault c seen fault = ⊥
 abbrev pub seat_in : {Dir : Type 0} → Fixed Dir → Round → Live Dir → Seat
 seat_in c round st = if not (has round.players c.me) || is_lost c round (of_epoch round.number st.records.dealings) (logs_of st round.number) then Watches else Plays
 
+-- the orchestrator's half at the end of an opening: the info's scheme was registered without a share, and the fence was marked
+abbrev pub registered_by : {Dir : Type 0} → Fixed Dir → EpochInfo Dir → Orchestrator Dir
+registered_by {Dir} c info = record no_orchestrator { fence = marked info.epoch (no_orchestrator {Dir = Dir}).fence; schemes = (info.epoch, scheme_for c info None) ∷ [] }
+
 -- The life takes part in the round of the info that the boundary block carries, of which no stored dealing is refused where it plays.
 pub record IsSeatedBy {Dir : Type 0} (c : Fixed Dir) (seen : Seen) (st : Live Dir) (info : EpochInfo Dir) : Type 0 where
   pub round : Round
@@ -122,13 +129,15 @@ pub record IsSeatedBy {Dir : Type 0} (c : Fixed Dir) (seen : Seen) (st : Live Di
   pub current : st.participation.current ≡ Some info
   pub seat : st.participation.seat ≡ seat_in c round st
   pub passing : st.participation.seat ≡ Plays → refused_in c round (begun seen) ≡ None
+  pub orchestrator : st.orchestrator ≡ registered_by c info
 
--- .. or without that block it follows.
+-- .. or without that block it follows, and nothing was registered.
 abbrev pub IsSetUpBy : {Dir : Type 0} → Fixed Dir → Seen → Live Dir → Option (Block Dir) → Type 0
-IsSetUpBy c seen st None = st.participation.round ≡ None
+IsSetUpBy c seen st None = (st.participation.round ≡ None) × (st.orchestrator ≡ no_orchestrator)
 IsSetUpBy c seen st (Some b) = OnValid c (IsSeatedBy c seen st)
 
 pub record IsOpenedToday {Dir : Type 0} (c : Fixed Dir) (seen : Seen) (st : Live Dir) : Type 0 where
+  pub in_range : is_past_range c (start_of c) ≡ false
   pub tip : st.tip ≡ startup c.source.anchor None
   pub live : IsLiveToday c st
   pub set_up : IsSetUpBy c seen st (first_block c)
@@ -137,6 +146,16 @@ pub record IsOpenedToday {Dir : Type 0} (c : Fixed Dir) (seen : Seen) (st : Live
 abbrev pub OpeningsComeTo : Type 0 → Type 0
 OpeningsComeTo Dir = (c : Fixed Dir) (ended : Ended Fault (Live Dir)) (old new : List Line) → IsFormOfToday c → Said (on_devices (opening c)) ended old new
     → CameTo (λ fault. (h : Held) × IsOpeningFault c (c.seen h) fault) (λ st. (h : Held) × IsOpenedToday c (c.seen h) st) ended
+
+-- what the orchestrator's half comes to then: it halts without that block, and else has entered the awaited epoch
+abbrev pub HasEntered : {Dir : Type 0} → Fixed Dir → Half Dir → Option (Block Dir) → Type 0
+HasEntered c half None = half.live.orchestrator.halted ≡ true
+HasEntered c half (Some b) = half.live.orchestrator.entered ≡ Some (first_epoch c)
+
+-- THE ORCHESTRATOR'S HALF behind such an opening never stops, where directories lack nobody: neither a scheme nor a peer is missing.
+abbrev pub HalvesOpen : Type 0 → Type 0
+HalvesOpen Dir = (c : Fixed Dir) (st : Live Dir) (seen : Seen) → IsOpenedToday c seen st → ((directory : Dir) (peers : TrackedPeers) → c.directories.lacking directory peers ≡ None)
+    → ComesTo (λ (stop : NodeStop). ⊥) (λ half. HasEntered c half (first_block c)) (opens_half c None st)
 
 -- A STEP
 
@@ -174,8 +193,19 @@ pub record IsNextToday {Dir : Type 0} (c : Fixed Dir) (st end : Live Dir) (messa
   pub round : end.participation.round ≡ st.participation.round
   pub seat : end.participation.seat ≡ st.participation.seat
   pub current : end.participation.current ≡ st.participation.current
+  pub orchestrator : end.orchestrator ≡ st.orchestrator
 
 -- A STEP stops by the fault that the block in hand is refused for, by the tip that the life had, and by no other; or the life goes on.
 abbrev pub StepsComeTo : Type 0 → Type 0
 StepsComeTo Dir = (c : Fixed Dir) (st : Live Dir) (message : Message Dir) (ended : Ended Fault (Live Dir)) (old new : List Line) → IsTakenToday c message → IsLiveToday c st
     → Said (on_devices (step c message st)) ended old new → CameTo (λ fault. refusal_of c message st ≡ Some fault) (λ end. IsNextToday c st end message) ended
+
+-- which half-answer an epoch's engine gives to a block below its last
+abbrev pub answer_in : Option ℕ → HalfAnswer
+answer_in None = Withholds
+answer_in (Some epoch) = Acknowledges
+
+-- THE ORCHESTRATOR'S HALF of such a block never stops where it doesn't wait: it acknowledges where it has entered an epoch, and changes nothing.
+abbrev pub HalvesDeliver : Type 0 → Type 0
+HalvesDeliver Dir = (c : Fixed Dir) (st : Live Dir) (b : Block Dir) → b.height < midpoint c.blocks_per_epoch 0 → st.orchestrator.waiting ≡ None
+    → ComesTo (λ (stop : NodeStop). ⊥) (λ half. (half.live ≡ st) × (half.answer ≡ answer_in (active st.orchestrator))) (delivered c b st)

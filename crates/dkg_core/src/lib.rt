@@ -17,7 +17,7 @@ ghost use Rattle.dkg_core.specs.Laws.{DuesAreAnswered, OpeningsPrune, OthersAckn
 ghost use Rattle.dkg_core.specs.Counted.{CutsFall, RunsCount};
 ghost use Rattle.dkg_core.specs.Lives.{LivesKeep};
 ghost use Rattle.dkg_core.specs.Said.{RunsSay};
-ghost use Rattle.dkg_core.specs.Today.{OpeningsComeTo, StepsComeTo};
+ghost use Rattle.dkg_core.specs.Today.{HalvesDeliver, HalvesOpen, OpeningsComeTo, StepsComeTo};
 ghost use Rattle.dkg_core.specs.Transcripts.{OpeningsAreQuiet, RunsAddDeeds, StepsAreQuiet, TranscriptsMove};
 
 /// A peer's message records a valid dealing of its sender under a new key alone, behind its private half, and acknowledges only
@@ -167,10 +167,22 @@ pub fn openings_come_to<Dir>()
     ensures { OpeningsComeTo Dir }
 {}
 
+/// Behind such an opening the orchestrator's half never stops, where directories lack nobody: it enters the awaited epoch, or halts
+/// without its boundary block.
+pub fn halves_open<Dir>()
+    ensures { HalvesOpen Dir }
+{}
+
 /// In the form that is built a step stops by the fault that the block in hand is refused for, by the tip that the life had, and by no
 /// other; or the life goes on in the same round and seat.
 pub fn steps_come_to<Dir>()
     ensures { StepsComeTo Dir }
+{}
+
+/// The orchestrator's half of such a block never stops where it doesn't wait: it acknowledges where it has entered an epoch, and changes
+/// nothing.
+pub fn halves_deliver<Dir>()
+    ensures { HalvesDeliver Dir }
 {}
 
 /// At every exit of a life of the form that is built, whatever an operation in hand leaves: the devices are whole, and each
