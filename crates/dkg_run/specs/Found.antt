@@ -1,5 +1,5 @@
 -- What the devices and the script show of the cause of a fault that blames what is recorded, or the first epoch's info.
-use Rattle.std.specs.Prelude.{ℕ, List, ◌≡◌, ◌≢◌, ◌==◌, ⊤, Option, Some, None, option_and_then, option_map, IsSomeAnd, Result, Ok, Err, if◌then◌else◌}
+use Rattle.std.specs.Prelude.{ℕ, List, ◌≡◌, ◌≢◌, ◌==◌, ⊤, Option, Some, None, option_and_then, slice_get, IsSomeAnd, Result, Ok, Err, if◌then◌else◌}
 use Rattle.std.specs.Int.NonZero.{non_zero_u32_get}
 use Rattle.std.specs.List.{AllByRecursion}
 use Rattle.dkg_ceremony.specs.Dealings.{dealing_of}
@@ -24,14 +24,12 @@ use Rattle.dkg_store.specs.Corrupt.{IsCorruptAt}
 use Rattle.dkg_store.specs.Pairs.{Pairs}
 use Rattle.dkg_store.specs.Recorded.{first_refused, of_epoch}
 use Rattle.dkg_store.specs.Secrets.{Secrets}
+use Rattle.dkg_text.specs.declared.script.BlockLine.{BlockLine}
 use Rattle.dkg_text.specs.declared.script.Script.{Script}
-use Rattle.dkg_script.specs.Readings.{Info}
+use Rattle.dkg_script.specs.Readings.{Info, info_in}
 use Rattle.dkg_script.specs.Setting.{recovered_from}
 use Rattle.dkg_script.specs.Valid.{participants_in}
-use Rattle.dkg_run.specs.Opened.{first_info, spelled_info}
-use Rattle.dkg_run.specs.declared.beginning.Beginning.{Beginning}
-use Rattle.dkg_run.specs.declared.stop.Stop.{Stop}
-use Rattle.dkg_run.specs.declared.stop.Stop.TheVariants.{Faulted, Cut}
+use Rattle.dkg_run.specs.Given.{limits_of}
 
 -- WHO READS
 
@@ -53,17 +51,12 @@ pub record Reader : Type 0 where
 abbrev pub reader : (limit me : ℕ) → List ℕ → Mode → Option Info → Reader
 reader limit me namespace mode info = record { limit = limit; me = me; info = info; tried = tried_by namespace mode info }
 
-abbrev pub reader_of : Beginning → Reader
-reader_of b = reader (non_zero_u32_get b.limit) b.me b.namespace b.mode (option_map spelled_info b.info)
+-- the info that the payload of block 0 is
+abbrev pub first_info : Script → Option Info
+first_info script = option_and_then (λ (line : BlockLine). option_and_then (info_in (limits_of script)) line.payload) (slice_get script.blocks 0)
 
 abbrev pub reader_in : Script → Reader
 reader_in script = reader (non_zero_u32_get script.config.limit) script.config.me script.config.namespace script.config.mode (first_info script)
-
--- WHAT THE DEVICES GIVE BACK
-
--- whatever a crash now leaves gives these dealings back
-pub record GiveBack (pairs : Pairs) (image : Files → Type 0) (held : Secrets) : Type 0 where
-  pub each : (c : Files) → image c → recovered_from c held ≡ pairs
 
 -- WHAT IS FOUND
 
@@ -85,39 +78,27 @@ IsRefusal reader (cause.Round why) = reader.tried ≡ Some (Err why)
 IsRefusal reader _ = ⊤
 
 -- A corrupt record stands where the fault says; a stored dealing that it names is among those that the devices give back, and is
--- refused; the first block carries no info, or one of the epoch that it names, or one that is refused so. (Of other faults, and of a
--- cut, nothing is to be found.)
-abbrev pub Shows : Reader → Files → Secrets → Stop → Type 0
-Shows reader files held Cut = ⊤
-Shows reader files held (Faulted (Corrupt name place)) = IsCorruptAt reader.limit files name place
-Shows reader files held (Faulted (LocalState cause)) = IsLocalFound reader (recovered_from files held) cause
-Shows reader files held (Faulted (MissingEpochInfo height)) = (height ≡ 0) × (reader.info ≡ None)
-Shows reader files held (Faulted (WrongEpoch expected got)) = (expected ≡ 0) × IsSomeAnd reader.info (λ i. (i.epoch ≡ got) × (got ≢ 0))
-Shows reader files held (Faulted (InvalidParticipants cause)) = IsRefusal reader cause
-Shows reader files held (Faulted its) = ⊤
+-- refused; the first block carries no info, or one of the epoch that it names, or one that is refused so. (Of other faults nothing is to be found.)
+abbrev pub Shows : Reader → Files → Secrets → Fault → Type 0
+Shows reader files held (Corrupt name place) = IsCorruptAt reader.limit files name place
+Shows reader files held (LocalState cause) = IsLocalFound reader (recovered_from files held) cause
+Shows reader files held (MissingEpochInfo height) = (height ≡ 0) × (reader.info ≡ None)
+Shows reader files held (WrongEpoch expected got) = (expected ≡ 0) × IsSomeAnd reader.info (λ i. (i.epoch ≡ got) × (got ≢ 0))
+Shows reader files held (InvalidParticipants cause) = IsRefusal reader cause
+Shows reader files held its = ⊤
 
--- The devices show what the stop blames.
-pub record IsFound (reader : Reader) (files : Files) (held : Secrets) (stop : Stop) : Type 0 where
-  pub so : Shows reader files held stop
+-- The devices show what the fault blames.
+pub record IsFound (reader : Reader) (files : Files) (held : Secrets) (its : Fault) : Type 0 where
+  pub so : Shows reader files held its
 
 -- .. where a fault is told
 abbrev pub IsFoundEntry : Reader → Files → Secrets → Entry → Type 0
-IsFoundEntry reader files held (entry.Fault its) = IsFound reader files held (Faulted its)
+IsFoundEntry reader files held (entry.Fault its) = IsFound reader files held its
 IsFoundEntry reader files held _ = ⊤
 
 -- .. each fault that these entries tell
 pub record AreFound (reader : Reader) (files : Files) (held : Secrets) (entries : List Entry) : Type 0 where
   pub each : AllByRecursion (IsFoundEntry reader files held) entries
-
--- a stop that blames nothing that is recorded, and no info
-abbrev pub BlamesNoRecord : Stop → Type 0
-BlamesNoRecord Cut = ⊤
-BlamesNoRecord (Faulted (Corrupt name place)) = ⊥
-BlamesNoRecord (Faulted (LocalState cause)) = ⊥
-BlamesNoRecord (Faulted (MissingEpochInfo height)) = ⊥
-BlamesNoRecord (Faulted (WrongEpoch expected got)) = ⊥
-BlamesNoRecord (Faulted (InvalidParticipants cause)) = ⊥
-BlamesNoRecord (Faulted its) = ⊤
 
 -- a fault that names no corrupt record
 abbrev pub NamesNoRecord : Fault → Type 0

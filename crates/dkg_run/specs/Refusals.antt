@@ -10,49 +10,38 @@ use Rattle.dkg_text.specs.declared.script.Event.TheVariants.{Final}
 use Rattle.dkg_text.specs.declared.script.Life.{Life}
 use Rattle.dkg_script.specs.Blocks.{Block, block_at}
 use Rattle.dkg_script.specs.Position.{awaited_height, event_of_step}
-use Rattle.dkg_script.specs.Progress.{Progress}
 use Rattle.dkg_script.specs.Promise.{IsBuilt, IsHonestRun}
 use Rattle.dkg_script.specs.Setting.{Setting, life_at}
 use Rattle.dkg_script.specs.Valid.{IsReached}
-use Rattle.dkg_run.specs.declared.stop.Stop.{Stop}
-use Rattle.dkg_run.specs.declared.stop.Stop.TheVariants.{Faulted}
 
--- the stop blames a delivered block
-abbrev pub IsRefusal : Stop → Type 0
-IsRefusal (Faulted (ConflictingBlock height)) = ⊤
-IsRefusal (Faulted (DetachedBlock height)) = ⊤
-IsRefusal (Faulted (SkippedHeight awaited got)) = ⊤
+-- the fault blames a delivered block
+abbrev pub IsRefusal : Fault → Type 0
+IsRefusal (ConflictingBlock height) = ⊤
+IsRefusal (DetachedBlock height) = ⊤
+IsRefusal (SkippedHeight awaited got) = ⊤
 IsRefusal _ = ⊥
 
--- The block that a step delivers to which the life comes stands above the height that is awaited before that step, and the stop says so.
-pub record SkipsIn (s : Setting) (l : ℕ) (life : Life) (stop : Stop) : Type 0 where
+-- The block that a step delivers to which the life comes stands above the height that is awaited before that step, and the fault says so.
+pub record SkipsIn (s : Setting) (l : ℕ) (life : Life) (fault : Fault) : Type 0 where
   pub step : ℕ
   pub number : ℕ
   pub block : Block
   pub event_is : event_of_step life step ≡ Some (Final number)
   pub reached : IsReached life.cut step
   pub block_is : block_at s number ≡ Some block
-  pub stop_is : stop ≡ Faulted (SkippedHeight (awaited_height s l life (step - 1)) block.height)
+  pub fault_is : fault ≡ SkippedHeight (awaited_height s l life (step - 1)) block.height
   pub above : awaited_height s l life (step - 1) < block.height
 
--- As the l-th life of a script that is consistent, from any such place, the life stops at a block only where that skips a height. (So a
--- block is never told to conflict with the chain or to be detached from it.)
-abbrev pub RefusesOnlySkips : (Setting → Progress → Type 0) → ℕ → Life → Stop → Type 0
-RefusesOnlySkips P l life stop = (s : Setting) (p : Progress) → P s p → IsRefusal stop → SkipsIn s l life stop
-
 -- .. in one of the script's lives
-pub record SkipsSomewhere (s : Setting) (stop : Stop) : Type 0 where
+pub record SkipsSomewhere (s : Setting) (fault : Fault) : Type 0 where
   pub number : ℕ
   pub life : Life
   pub life_is : life_at s number ≡ Some life
-  pub skips : SkipsIn s number life stop
-
-abbrev pub RunRefusesOnlySkips : (Setting → Progress → Type 0) → Stop → Type 0
-RunRefusesOnlySkips P stop = (s : Setting) (p : Progress) → P s p → IsRefusal stop → SkipsSomewhere s stop
+  pub skips : SkipsIn s number life fault
 
 -- where the premises of the promise hold
 abbrev pub BlamesOnlySkips : Setting → (image : Files → Type 0) → Fault → Type 0
-BlamesOnlySkips s image fault = IsBuilt s → IsHonestRun s image → IsRefusal (Faulted fault) → SkipsSomewhere s (Faulted fault)
+BlamesOnlySkips s image fault = IsBuilt s → IsHonestRun s image → IsRefusal fault → SkipsSomewhere s fault
 
 -- .. where a fault is told
 abbrev pub IsSkipEntry : Setting → (image : Files → Type 0) → Entry → Type 0

@@ -1,17 +1,40 @@
 //! The blocks of a script, made once for all of its lives.
-ghost use Rattle.std.specs.Prelude.{◌≡◌, ◌≤◌, ◌^◌, IfOk, IfSome, IsSome, false, length};
-ghost use Rattle.std.specs.List.{AllByRecursion};
+ghost use Rattle.std.specs.Prelude.{◌≡◌, IfOk, option_and_then};
 ghost use Rattle.std.specs.Int.NonZero.{non_zero_u32_get, non_zero_u64_get};
-ghost use Rattle.dkg_script.specs.Form.{IsBlockOfToday};
-ghost use Rattle.dkg_script.specs.Schedule.{epoch_of};
-ghost use Rattle.dkg_run.specs.Chain.{AreBlocksOf, IsMadeOf, parent_in};
-ghost use Rattle.dkg_run.specs.Opened.{IsRead};
+ghost use Rattle.dkg_ceremony.specs.Schedule.{epoch_of};
+ghost use Rattle.dkg_script.specs.Readings.{unit_payload};
+ghost use Rattle.dkg_run.specs.Given.{block_on, blocks_in, parent_in, payload_in};
 
-use crate::beginning::payload_of;
-use dkg_ceremony::{Digest, Epoch, Height, Key, Mem};
+use dkg_ceremony::{CodecError, Digest, Epoch, Height, Key, Mem, NoMemory, decode_cfg};
 use dkg_script::{BlockLine, Script, ScriptConfig};
-use dkg_types::{Block, Context, Unit};
+use dkg_types::{Block, Context, Payload, Unit};
 use std::alloc::Global;
+
+/// The payload that bytes spell, if they spell one.
+fn payload_in(alloc: Global, config: &ScriptConfig, bytes: &[u8]) -> Mem<Option<Payload<Unit>>>
+    ensures { IfOk result (λ payload. payload ≡ unit_payload (record { most = non_zero_u32_get config.now.limit; version = config.now.max_mode.0; addressed = false }) bytes.now) }
+{
+    let limits = (config.limit, config.max_mode);
+    match decode_cfg::<Payload<Unit>>(alloc, bytes, &limits) {
+        Ok(payload) => Ok(Some(payload)),
+        Err(CodecError::NoMemory) => Err(NoMemory),
+        Err(_) => Ok(None),
+    }
+}
+
+/// The payload of a block line, if it has one.
+fn payload_of(
+    alloc: Global,
+    config: &ScriptConfig,
+    line: &BlockLine,
+) -> Mem<Option<Payload<Unit>>>
+    ensures { IfOk result (λ payload. payload ≡ payload_in config.now line.now.payload) }
+{
+    match &line.payload {
+        None => Ok(None),
+        Some(payload) => payload_in(alloc, config, payload.as_slice()),
+    }
+}
 
 /// The digest of the block that a line names as its parent, and zeros where it names none.
 fn parent_digest(line: &BlockLine, before: &[Block<Unit>]) -> Digest
@@ -40,8 +63,7 @@ fn block_on(
     parent: Digest,
     line: &BlockLine,
 ) -> Mem<Block<Unit>>
-    requires { IsRead (non_zero_u32_get config.now.limit) config.now.max_mode.0 line.now.payload }
-    ensures { IfOk result (IsMadeOf (non_zero_u64_get config.now.blocks_per_epoch) line.now parent) }
+    ensures { IfOk result (λ block. block ≡ block_on config.now parent line.now) }
 {
     let context = Context {
         epoch: epoch_at(config, line.height),
@@ -56,9 +78,7 @@ fn block_on(
 
 /// The blocks of a script, in the order of its lines.
 pub fn blocks_of(alloc: Global, script: &Script) -> Mem<Vec<Block<Unit>>>
-    requires { AllByRecursion (IsBlockOfToday script.now) script.now.blocks }
-    ensures are { IfOk result (λ blocks. AreBlocksOf script.now blocks.items) }
-    ensures all { IfOk result (λ blocks. length blocks.items ≡ length script.now.blocks) }
+    ensures { IfOk result (λ blocks. blocks.items ≡ blocks_in script.now) }
 {
     let lines = script.blocks.as_slice();
     let mut blocks = Vec::with_capacity(alloc, lines.len())?;

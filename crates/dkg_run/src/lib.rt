@@ -3,21 +3,17 @@
 //! `main` makes the outside (source, sink, devices) and calls `run_command`; whoever has a script already calls `run_lives`.
 #![tactic(auto)]
 
-mod beginning;
 mod blocks;
 mod calls;
 mod command;
-mod decoded;
-mod index;
+mod half;
+mod held;
 mod lives;
 mod memory;
 mod node;
-mod place;
 mod sink;
 mod source;
 mod standard;
-mod stop;
-mod tip;
 mod transfer;
 
 pub use command::{Status, run_command};

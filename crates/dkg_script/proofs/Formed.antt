@@ -1,5 +1,5 @@
 -- A script that passes the test is of the form that is run.
-use Rattle.std.proofs.Common.{◌≡◌, ℕ, ◌+◌, ◌<◌, ◌≤◌, ◌&&◌, ◌^◌, Bool, true, false, List, [], ◌∷◌, Option, Some, None, Ok, Err, Result, refl, sym, ap, subst, ◌∙◌, append-nil, arith, length, take, drop, get_or, ◌-◌}
+use Rattle.std.proofs.Common.{◌≡◌, ℕ, ◌+◌, ◌<◌, ◌≤◌, ◌&&◌, ◌^◌, ◌==◌, Bool, true, false, List, [], ◌∷◌, Option, Some, None, Ok, Err, Result, refl, sym, ap, subst, ◌∙◌, append-nil, arith, length, take, drop, get_or, ◌-◌}
 use Rattle.std.specs.Prelude.{⊤, not, nat_lt, is_some, IfSome, IsSome, IsSomeAnd, slice_get, IfOk}
 use Rattle.std.specs.Bool.{OnTrue}
 use Rattle.std.specs.Int.NonZero.{non_zero_u32_get, non_zero_u64_get}
@@ -10,6 +10,9 @@ use Rattle.std.specs.declared.num.NonZeroU64.{NonZeroU64}
 use Rattle.std.proofs.lemmas.List.{take_all}
 use Rattle.std.proofs.lemmas.Bool.{and_parts, eqb-true, leb-true, ltb-true}
 use Rattle.dkg_values.specs.Codec.{whole}
+use Rattle.dkg_ceremony.specs.Modes.{supports_of}
+use Rattle.dkg_ceremony.specs.declared.mode.Mode.{Mode}
+use Rattle.dkg_ceremony.specs.declared.mode.Mode.TheVariants.{NonZeroCounter, RootsOfUnity}
 use Rattle.dkg_values.specs.declared.codec.CodecError.{CodecError}
 use Rattle.dkg_types.specs.declared.directory.Unit as directory
 use Rattle.dkg_types.specs.declared.info.EpochInfo.{EpochInfo}
@@ -25,7 +28,7 @@ use Rattle.dkg_text.specs.declared.script.Event.TheVariants.{Peer, Final}
 use Rattle.dkg_text.specs.declared.script.Life.{Life}
 use Rattle.dkg_text.specs.declared.script.Script.{Script}
 use Rattle.dkg_text.specs.declared.script.ScriptConfig.{ScriptConfig}
-use Rattle.dkg_script.specs.Built.{are_events, are_later, are_lives, begins_at_zero, is_alone, is_anchor, is_early, is_event, is_later, is_life, is_limit, is_plain, is_simple}
+use Rattle.dkg_script.specs.Built.{are_events, are_later, are_lives, begins_at_zero, is_alone, is_anchor, is_counter, is_early, is_event, is_later, is_life, is_limit, is_plain, is_simple}
 use Rattle.dkg_script.specs.Form.{IsAnchorOfToday, IsBlockOfToday, IsEarly, IsEventOfToday, IsFormOfToday, IsLifeOfToday, midpoint_of}
 use Rattle.dkg_script.specs.Readings.{unit_payload}
 use Rattle.dkg_script.specs.Starts.{AreFirst, Carries, IsFirstBlock, IsLaterBlock, IsStart}
@@ -175,6 +178,13 @@ lives_today midpoint blocks (life ∷ lives) e =
 
 -- THE SCRIPT
 
+two_or_more : (n : ℕ) → nat_lt 1 n ≡ true → 2 ≤ n
+two_or_more n e = let less : 1 < n = ltb-true 1 n e in omega arith
+
+counter_is_supported : (version : ℕ) (mode : Mode) → is_counter mode ≡ true → supports_of version mode ≡ true
+counter_is_supported version NonZeroCounter e = refl
+counter_is_supported version RootsOfUnity e = absurd cc
+
 -- where the configuration and the blocks passed, and the lives were tested
 pub lives_form : (script : Script) (midpoint : ℕ) (blocks : List BlockLine) (lives : List Life) (first all : Bool) → script.addressed ≡ false → is_plain script.config ≡ true
     → blocks ≡ script.blocks → lives ≡ script.lives → midpoint ≡ midpoint_of script
@@ -185,11 +195,17 @@ lives_form script midpoint blocks lives true true not_addressed config_is same_b
     let config = script.config in
     let plain = and_parts (is_simple config && is_alone config) (is_limit config) config_is in
     let simple = and_parts (is_simple config) (is_alone config) plain.0 in
+    let counted = and_parts (nat_lt 1 (non_zero_u64_get config.blocks_per_epoch) && is_counter config.mode && (config.max_mode.0 == 0) && (length config.namespace == 0)) (not (is_some config.oneshot)) simple.0 in
+    let named = and_parts (nat_lt 1 (non_zero_u64_get config.blocks_per_epoch) && is_counter config.mode && (config.max_mode.0 == 0)) (length config.namespace == 0) counted.0 in
+    let moded = and_parts (nat_lt 1 (non_zero_u64_get config.blocks_per_epoch) && is_counter config.mode) (config.max_mode.0 == 0) named.0 in
+    let long = and_parts (nat_lt 1 (non_zero_u64_get config.blocks_per_epoch)) (is_counter config.mode) moded.0 in
     let are_its : AreFirst config script.blocks = subst (λ (bs : List BlockLine). AreFirst config bs) same_blocks are in
     record {
       plain = not_addressed;
-      reshares = none_of config.oneshot (and_parts _ (not (is_some config.oneshot)) simple.0).1;
+      reshares = none_of config.oneshot counted.1;
       few = leb-true (non_zero_u32_get config.limit) (2 ^ 30) plain.1;
+      long = two_or_more (non_zero_u64_get config.blocks_per_epoch) long.0;
+      supported = counter_is_supported config.max_mode.0 config.mode long.1;
       blocks = blocks_in script script.blocks not_addressed are_its;
       first = first_at_zero config script.blocks are_its;
       lives = lives_today (midpoint_of script) script.blocks script.lives (rw (same_blocks, same_lives, at) at (sym tested));

@@ -103,6 +103,8 @@ module _ (plans : List (Option Material)) where
       plain = refl;
       reshares = refl;
       few = lit≤ tt;
+      long = lit≤ tt;
+      supported = refl;
       blocks = (genesis_of_today [], ((lit< tt, tt), tt));
       first = refl;
       lives = (record { anchor = tt; holds = refl; no_sync = refl; events = (lit< tt, (lit< tt, tt)) }, tt);

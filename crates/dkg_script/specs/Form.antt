@@ -1,8 +1,9 @@
 -- The one form of script that is read and run so far: within epoch 0 and below its midpoint, nothing happens but messages of the
 -- dealing channel and finalized blocks.
-use Rattle.std.specs.Prelude.{ℕ, ◌+◌, ◌<◌, ◌≡◌, ◌≤◌, ◌^◌, ◌/◌, List, None, Some, false, IfSome, IsSome, IsSomeAnd, slice_get}
+use Rattle.std.specs.Prelude.{ℕ, ◌+◌, ◌<◌, ◌≡◌, ◌≤◌, ◌^◌, ◌/◌, List, None, Some, true, false, IfSome, IsSome, IsSomeAnd, slice_get}
 use Rattle.std.specs.Int.NonZero.{non_zero_u32_get, non_zero_u64_get}
 use Rattle.std.specs.List.{AllByRecursion}
+use Rattle.dkg_ceremony.specs.Modes.{supports_of}
 use Rattle.dkg_text.specs.declared.script.Anchor.{Anchor}
 use Rattle.dkg_text.specs.declared.script.Anchor.TheVariants.{Processed, Absent}
 use Rattle.dkg_text.specs.declared.script.BlockLine.{BlockLine}
@@ -43,12 +44,15 @@ IsBlockOfToday script block =
     (block.height < non_zero_u64_get script.config.blocks_per_epoch)
     × IfSome block.payload (λ bytes. IsSome (unit_payload (record { most = non_zero_u32_get script.config.limit; version = script.config.max_mode.0; addressed = script.addressed }) bytes))
 
--- The script is of a reshare without directories of addresses, its limit is one that a script may have, its blocks are of epoch 0
+-- The script is of a reshare without directories of addresses, its limit is one that a script may have, its epochs have two blocks at least, its mode is
+-- supported, its blocks are of epoch 0
 -- and their payloads are read, its first block stands at height 0, and each of its lives is of the form.
 pub record IsFormOfToday (script : Script) : Type 0 where
   pub plain : script.addressed ≡ false
   pub reshares : script.config.oneshot ≡ None
   pub few : non_zero_u32_get script.config.limit ≤ 2 ^ 30
+  pub long : 2 ≤ non_zero_u64_get script.config.blocks_per_epoch
+  pub supported : supports_of script.config.max_mode.0 script.config.mode ≡ true
   pub blocks : AllByRecursion (IsBlockOfToday script) script.blocks
   pub first : IfSome (slice_get script.blocks 0) (λ block. block.height ≡ 0)
   pub lives : AllByRecursion (IsLifeOfToday (midpoint_of script) script.blocks) script.lives

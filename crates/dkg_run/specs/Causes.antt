@@ -1,0 +1,23 @@
+-- What a fault that ends a life blames.
+use Rattle.std.specs.Prelude.{ℕ, ◌≡◌, ◌≢◌, ⊤, IsSomeAnd, Option}
+use Rattle.dkg_types.specs.declared.fault.Fault.{Fault}
+use Rattle.dkg_types.specs.declared.fault.Fault.TheVariants as fault
+use Rattle.dkg_text.specs.declared.script.Cut as cut
+use Rattle.dkg_reshare.specs.declared.stop.Stop.{Stop}
+use Rattle.dkg_reshare.specs.declared.stop.Stop.TheVariants.{Cut, Failed, Fault as FaultOf}
+
+-- A device is blamed only where its count rose. (Each count's rise is handed in as a fact.)
+abbrev pub HasCause : Fault → (disk_rose secrets_rose : Type 0) → Type 0
+HasCause fault.Disk disk_rose secrets_rose = disk_rose
+HasCause fault.Secrets disk_rose secrets_rose = secrets_rose
+HasCause its disk_rose secrets_rose = ⊤
+
+-- P of a fault that stopped it
+abbrev pub IfFault : Stop → (Fault → Type 0) → Type 0
+IfFault (FaultOf its) P = P its
+IfFault Cut P = ⊤
+IfFault Failed P = ⊤
+
+-- The script cuts the life within the step.
+abbrev pub IsCutWithin : Option cut.Cut → ℕ → Type 0
+IsCutWithin its step = IsSomeAnd its (λ cut. (cut.step ≡ step) × (cut.call ≢ 0))

@@ -1,0 +1,172 @@
+-- What a life of a script is given: the blocks that its source holds, and the configuration of its node.
+use Rattle.std.specs.Prelude.{ℕ, ◌-◌, ◌++◌, ◌∷◌, [], List, true, false, Option, None, Some, filter_map, fold, option_and_then, option_map, slice_get, take, length, ◌≡◌}
+use Rattle.std.specs.Int.NonZero.{non_zero_u32_get, non_zero_u64_get}
+use Rattle.std.specs.Option.{option_map_or}
+use Rattle.sha2.specs.Sha256.{sha256}
+use Rattle.dkg_ceremony.specs.Schedule.{epoch_of}
+use Rattle.dkg_ceremony.specs.declared.mode.Reveal.TheVariants.{V1}
+use Rattle.dkg_journal.specs.Names.{Files}
+use Rattle.dkg_journal.specs.Opening.{open_calls}
+use Rattle.dkg_types.specs.BlockCodes.{block_bytes}
+use Rattle.dkg_types.specs.Blocks.{Block}
+use Rattle.dkg_types.specs.NextInfos.{Provided}
+use Rattle.dkg_types.specs.Units.{unit_at, unit_spelling}
+use Rattle.dkg_types.specs.declared.block.Context.{Context}
+use Rattle.dkg_types.specs.declared.directory.Unit as directory
+use Rattle.dkg_types.specs.declared.payload.Payload.{Payload}
+use Rattle.dkg_types.specs.declared.finalization.Finalization.{Finalization}
+use Rattle.dkg_store.specs.Acts.{Held}
+use Rattle.dkg_text.specs.declared.script.Anchor as declared
+use Rattle.dkg_text.specs.declared.script.Anchor.TheVariants as anchor
+use Rattle.dkg_text.specs.declared.script.BlockLine.{BlockLine}
+use Rattle.dkg_text.specs.declared.script.Event as script
+use Rattle.dkg_text.specs.declared.script.Event.TheVariants as event
+use Rattle.dkg_text.specs.declared.script.Life.{Life}
+use Rattle.dkg_text.specs.declared.script.Script.{Script}
+use Rattle.dkg_text.specs.declared.script.ScriptConfig.{ScriptConfig}
+use Rattle.dkg_script.specs.Blocks.{delivered_number, zeros}
+use Rattle.dkg_script.specs.Form.{IsFormOfToday}
+use Rattle.dkg_script.specs.Readings.{Limits, unit_payload}
+use Rattle.dkg_core.specs.Courses.{Course, Goes}
+use Rattle.dkg_core.specs.Fixed.{Directories, Fixed, Inner, Probed, stand_in}
+use Rattle.dkg_core.specs.Live.{Event, Live, NodeStop, Delivers, Peer, Reshare}
+use Rattle.dkg_core.specs.Node.{node_step}
+use Rattle.dkg_core.specs.Seen.{Seen}
+use Rattle.dkg_core.specs.Sources.{Anchor, AtBlock, Absent, Source, source_of}
+use Rattle.dkg_reshare.specs.Today.{seen_today}
+
+-- BLOCKS
+
+abbrev pub limits_of : Script → Limits
+limits_of script = record { most = non_zero_u32_get script.config.limit; version = script.config.max_mode.0; addressed = script.addressed }
+
+-- what a line's payload spells, if it does, to a node whose directories say nothing
+abbrev pub payload_in : ScriptConfig → Option (List ℕ) → Option (Payload directory.Unit)
+payload_in config payload =
+    option_and_then (unit_payload (record { most = non_zero_u32_get config.limit; version = config.max_mode.0; addressed = false })) payload
+
+-- where the block of a line is proposed
+abbrev pub context_in : ScriptConfig → BlockLine → (parent : List ℕ) → Context
+context_in config line parent =
+    record { epoch = epoch_of (non_zero_u64_get config.blocks_per_epoch) line.height; view = line.view; leader = 0; parent_view = 0; parent = parent }
+
+-- the block of a line whose parent has this digest
+abbrev pub block_on : ScriptConfig → (parent : List ℕ) → BlockLine → Block directory.Unit
+block_on config parent line = record {
+  context = context_in config line parent;
+  parent = parent;
+  height = line.height;
+  payload = payload_in config line.payload;
+  digest = sha256 (block_bytes unit_spelling (context_in config line parent) parent line.height (payload_in config line.payload));
+}
+
+-- the digest of the block that a line names as its parent, among the blocks of the lines before it
+abbrev pub parent_in : List (Block directory.Unit) → Option ℕ → List ℕ
+parent_in before parent = option_map_or (λ b. b.digest) (option_and_then (slice_get before) parent) zeros
+
+-- these blocks, and that of one line more
+abbrev pub with_block : ScriptConfig → List (Block directory.Unit) → BlockLine → List (Block directory.Unit)
+with_block config before line = before ++ block_on config (parent_in before line.parent) line ∷ []
+
+-- the blocks of a script, in the order of its lines
+unfoldable pub blocks_in : Script → List (Block directory.Unit)
+blocks_in script = fold (with_block script.config) [] script.blocks
+
+-- A SOURCE
+
+-- the blocks of these numbers
+abbrev pub numbered : List (Block directory.Unit) → List ℕ → List (Block directory.Unit)
+numbered blocks numbers = filter_map (slice_get blocks) numbers
+
+-- the blocks that these events deliver
+abbrev pub delivered_by : List (Block directory.Unit) → List script.Event → List (Block directory.Unit)
+delivered_by blocks events = numbered blocks (filter_map delivered_number events)
+
+abbrev pub anchor_at : declared.Anchor → Block directory.Unit → Anchor directory.Unit
+anchor_at (anchor.Processed number) b = record { processed = AtBlock b.height; block = b }
+anchor_at (anchor.Absent number) b = record { processed = Absent (b.height - 1); block = b }
+
+abbrev pub anchor_block : List (Block directory.Unit) → declared.Anchor → Option (Block directory.Unit)
+anchor_block blocks (anchor.Processed number) = slice_get blocks number
+anchor_block blocks (anchor.Absent number) = slice_get blocks number
+
+abbrev pub anchor_in : List (Block directory.Unit) → Option declared.Anchor → Option (Anchor directory.Unit)
+anchor_in blocks at = option_and_then (λ its. option_map (anchor_at its) (anchor_block blocks its)) at
+
+-- No finalization is known of a block: no probe is run yet.
+abbrev pub unsealed : Block directory.Unit → Option Finalization
+unsealed b = None
+
+-- A LIFE
+
+-- a life of a script: its number, what its reads give, and the calls of its journal's opening
+pub record Lived : Type 0 where
+  pub script : Script
+  pub number : ℕ
+  pub life : Life
+  pub seen : Held → Seen
+  pub calls : ℕ
+
+-- the one that opens over these files, with these reads
+abbrev pub lived : Script → (number : ℕ) → Life → (Held → Seen) → Files → Lived
+lived script number life seen files = record { script = script; number = number; life = life; seen = seen; calls = length (open_calls files) }
+
+-- what its source holds once so many of its events have come: a block that the last of them delivers is there
+abbrev pub source_at : Lived → (taken : ℕ) → Source directory.Unit
+source_at g taken =
+    source_of unsealed (anchor_in (blocks_in g.script) g.life.anchor) (numbered (blocks_in g.script) g.life.held) (delivered_by (blocks_in g.script) (take taken g.life.events))
+
+-- directories that say nothing, and lack nobody
+abbrev pub unit_directories : Directories directory.Unit
+unit_directories = record { spelling = unit_spelling; read = λ peers. unit_at; matches = λ d peers. true; lacking = λ d peers. None }
+
+-- what no step of today asks: a provider, an inner application and a probe
+abbrev pub no_provider : Provided directory.Unit
+no_provider = record { participants = λ epoch. []; directory = λ epoch peers. record {} }
+
+abbrev pub no_inner : Inner directory.Unit
+no_inner = record { prepared = λ b payload. None; proposed = λ b payload. None; accepts = λ ancestry. false }
+
+abbrev pub no_probed : Probed directory.Unit
+no_probed = record { snapshot = None; certifies = λ finalization. false }
+
+-- what a step of the life is given
+unfoldable pub at_step : Lived → (taken : ℕ) → Fixed directory.Unit
+at_step g taken = record {
+  me = g.script.config.me;
+  blocks_per_epoch = non_zero_u64_get g.script.config.blocks_per_epoch;
+  limit = non_zero_u32_get g.script.config.limit;
+  version = g.script.config.max_mode.0;
+  mode = g.script.config.mode;
+  reveal = V1;
+  namespace = g.script.config.namespace;
+  oneshot = None;
+  rules = stand_in;
+  directories = unit_directories;
+  provided = no_provider;
+  seen = g.seen;
+  inner = no_inner;
+  probed = no_probed;
+  life = g.number;
+  word = g.life.word;
+  material = None;
+  opening_calls = g.calls;
+  source = source_at g taken;
+}
+
+-- the node's event of a script's
+abbrev pub event_in : List (Block directory.Unit) → script.Event → Option (Event directory.Unit)
+event_in blocks (event.Peer from bytes) = Some (Reshare (Peer from bytes))
+event_in blocks (event.Final number) = option_map Delivers (slice_get blocks number)
+event_in blocks other = None
+
+-- the course of a step
+abbrev pub step_of : Lived → (number : ℕ) → script.Event → Live directory.Unit → Course directory.Unit NodeStop (Live directory.Unit)
+step_of g number event st = option_map_or (λ its. node_step (at_step g number) its st) (event_in (blocks_in g.script) event) (Goes st)
+
+-- It is a life of a script of today's form, and reads neither a share nor a plan.
+pub record IsLifeHere (g : Lived) : Type 0 where
+  pub form : IsFormOfToday g.script
+  pub life_is : slice_get g.script.lives g.number ≡ Some g.life
+  pub shareless : (h : Held) → (g.seen h).shares ≡ []
+  pub unplanned : (h : Held) → (g.seen h).plan ≡ None

@@ -1,0 +1,121 @@
+-- A node between two steps, as the relation's Live.
+use Rattle.std.specs.Prelude.{ℕ, ◌<◌, ◌≡◌, ⊤, Bool, true, false, Contains, List, None, Option, Some, Result, Ok, Err, IsSome, IsSomeAnd, slice_get}
+use Rattle.std.specs.Int.NonZero.{non_zero_u64_get}
+use Rattle.dkg_ceremony.specs.Acks.{ack_of}
+use Rattle.dkg_ceremony.specs.Schedule.{midpoint}
+use Rattle.dkg_fence.specs.Readiness.{Readiness}
+use Rattle.dkg_journal.specs.Names.{Files}
+use Rattle.dkg_store.specs.Acts.{Ended, went}
+use Rattle.dkg_store.specs.declared.devices.Devices.{Devices}
+use Rattle.dkg_text.specs.declared.script.Event.{Event}
+use Rattle.dkg_text.specs.declared.script.Event.TheVariants.{Peer, Final}
+use Rattle.dkg_text.specs.declared.script.Life.{Life}
+use Rattle.dkg_types.specs.Blocks.{Block}
+use Rattle.dkg_types.specs.declared.directory.Unit as directory
+use Rattle.dkg_types.specs.declared.participants.TrackedPeers.{TrackedPeers}
+use Rattle.dkg_values.specs.Rising.{lookup}
+use Rattle.dkg_core.specs.Entering.{is_ready}
+use Rattle.dkg_core.specs.Fixed.{Fixed}
+use Rattle.dkg_core.specs.Live.{Live, NodeStop, with_orchestrator}
+use Rattle.dkg_core.specs.Sources.{Source}
+use Rattle.dkg_core.specs.Today.{IsFormOfToday, OnInfo, first_epoch}
+use Rattle.dkg_reshare.specs.Actors.{IsAt}
+use Rattle.dkg_reshare.specs.Given.{IsOf}
+use Rattle.dkg_reshare.specs.LiveOf.{Beside, live_of}
+use Rattle.dkg_reshare.specs.declared.actor.State.TheVariants.{Living}
+use Rattle.dkg_reshare.specs.declared.life.Life as reshare
+use Rattle.dkg_reshare.specs.declared.stop.Stop.{Stop}
+use Rattle.dkg_run.specs.Ended.{by_node_stop}
+use Rattle.dkg_run.specs.Given.{Lived, at_step, blocks_in}
+use Rattle.dkg_run.specs.declared.half.Half.{Half}
+use Rattle.dkg_run.specs.declared.held.HeldBlocks.{HeldBlocks}
+use Rattle.dkg_run.specs.declared.node.Node.{Node}
+
+-- THE ORCHESTRATOR'S HALF
+
+-- What this half has in memory of a life. It doesn't wait.
+pub record HasHalf (half : Half) (st : Live directory.Unit) : Type 0 where
+  pub entered : st.orchestrator.entered ≡ half.entered
+  pub halted : st.orchestrator.halted ≡ half.halted
+  pub unawaited : st.orchestrator.waiting ≡ None
+
+-- the life with this half, and with this fence
+abbrev pub with_half : Half → Readiness → Live directory.Unit → Live directory.Unit
+with_half half fence st =
+    with_orchestrator (record st.orchestrator { fence = fence; entered = half.entered; halted = half.halted; waiting = None }) st
+
+abbrev pub ends_half : Readiness → Live directory.Unit → Result Half Stop → Ended NodeStop (Live directory.Unit)
+ends_half fence st (Ok half) = went (with_half half fence st)
+ends_half fence st (Err stop) = by_node_stop stop
+
+-- A Fixed of today's form that this half's opening is given.
+pub record IsHalfGiven (blocks : ℕ) (source : Source directory.Unit) (c : Fixed directory.Unit) : Type 0 where
+  pub blocks_are : c.blocks_per_epoch ≡ blocks
+  pub lent : c.source ≡ source
+  pub today : IsFormOfToday c
+  pub lacks : (d : directory.Unit) (peers : TrackedPeers) → c.directories.lacking d peers ≡ None
+
+-- Where its boundary block carries the epoch's info, the fence is ready for the epoch in which the life starts.
+abbrev pub IsFenceReady : Fixed directory.Unit → Readiness → Type 0
+IsFenceReady c fence = OnInfo c (λ info. info.epoch ≡ first_epoch c) → is_ready fence.ready (first_epoch c) ≡ true
+
+-- The half has not begun, and the epoch in which the life starts was registered where that block carries its info.
+pub record MayEnter (c : Fixed directory.Unit) (fence : Readiness) (st : Live directory.Unit) : Type 0 where
+  pub unentered : st.orchestrator.entered ≡ None
+  pub going : st.orchestrator.halted ≡ false
+  pub unawaited : st.orchestrator.waiting ≡ None
+  pub fence_is : st.orchestrator.fence ≡ fence
+  pub registered : OnInfo c (λ info. info.epoch ≡ first_epoch c) → IsSome (lookup (first_epoch c) st.orchestrator.schemes)
+
+-- A NODE
+
+-- what it has in memory
+pub record IsView (node : Node) (st : Live directory.Unit) : Type 0 where
+  pub life : reshare.Life directory.Unit
+  pub beside : Beside directory.Unit
+  pub lives : node.actor.state ≡ Living life
+  pub is : st ≡ live_of beside node.fence life
+  pub half : HasHalf node.half st
+
+-- It goes on over these devices.
+pub record IsReadyNode {D X : Type 0} (tells : Bool) (files : D → Files) (image : D → Files → Type 0) (node : Node) (devices : Devices D X) : Type 0 where
+  pub at : IsAt tells files image ack_of node.actor.terms node.actor.state devices
+  pub viewed : (st : Live directory.Unit) × IsView node st
+
+-- Its configuration is that of the life.
+pub record IsOfLife (g : Lived) (node : Node) : Type 0 where
+  pub of : (taken : ℕ) → IsOf node.actor.terms (at_step g taken)
+
+-- how a call of a node ended, in a view of what it left
+abbrev pub Viewed : Node → Result (Unit {0}) Stop → (Ended NodeStop (Live directory.Unit) → Type 0) → Type 0
+Viewed node (Ok done) P = (st : Live directory.Unit) × IsView node st × P (went st)
+Viewed node (Err stop) P = P (by_node_stop stop)
+
+-- .. of a node that the call made
+abbrev pub ViewedNew : Result Node Stop → (Ended NodeStop (Live directory.Unit) → Type 0) → Type 0
+ViewedNew (Ok node) P = (st : Live directory.Unit) × IsView node st × P (went st)
+ViewedNew (Err stop) P = P (by_node_stop stop)
+
+-- .. whatever the view
+abbrev pub ended_new : Result Node Stop → Ended NodeStop Node
+ended_new (Ok node) = went node
+ended_new (Err stop) = by_node_stop stop
+
+-- .. and its source has the blocks of the life's script.
+pub record IsStepHere (g : Lived) (node : Node) (blocks : List (Block directory.Unit)) (life : Life) : Type 0 where
+  pub of : IsOfLife g node
+  pub blocks_are : blocks ≡ blocks_in g.script
+  pub life_is : g.life ≡ life
+
+-- EVENTS
+
+-- An event of today: a message, or one of these blocks that lies below the midpoint.
+abbrev pub IsEventOfBlocks : (per_epoch : ℕ) → List (Block directory.Unit) → Event → Type 0
+IsEventOfBlocks per_epoch blocks (Peer from bytes) = ⊤
+IsEventOfBlocks per_epoch blocks (Final number) = IsSomeAnd (slice_get blocks number) (λ b. b.height < midpoint per_epoch 0)
+IsEventOfBlocks per_epoch blocks event = ⊥
+
+-- .. which is held by then.
+abbrev pub IsEventHere : (per_epoch : ℕ) → HeldBlocks → Event → Type 0
+IsEventHere per_epoch source (Final number) = Contains source.numbers.items number × IsEventOfBlocks per_epoch source.blocks.now (Final number)
+IsEventHere per_epoch source event = IsEventOfBlocks per_epoch source.blocks.now event

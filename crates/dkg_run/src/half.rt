@@ -1,0 +1,141 @@
+//! The orchestrator's half of a node: which epoch it has entered, and which blocks it acknowledges.
+//!
+//! It enters the epoch of the height above its source's position, and a life ends within that epoch.
+ghost use Rattle.std.specs.Prelude.{◌≡◌, ◌<◌, ◌+◌, ◌++◌, ◌∷◌, [], ◌^◌, ℕ, IfErr, IfNone, IfOk, IfSome, true, None, Some};
+ghost use Rattle.std.specs.Int.NonZero.{non_zero_u64_get};
+ghost use Rattle.std.specs.Option.{option_map_or};
+ghost use Rattle.dkg_ceremony.specs.Schedule.{boundary, first, midpoint};
+ghost use Rattle.dkg_types.specs.Blocks as blocks;
+ghost use Rattle.dkg_types.specs.declared.directory.Unit as directory;
+ghost use Rattle.dkg_types.specs.declared.entry.Entry.TheVariants as entry;
+ghost use Rattle.dkg_core.specs.Courses.{bind};
+ghost use Rattle.dkg_core.specs.Entering.{acked_at, delivered, is_ready};
+ghost use Rattle.dkg_core.specs.Fixed.{Fixed};
+ghost use Rattle.dkg_core.specs.Live.{Live};
+ghost use Rattle.dkg_core.specs.Node.{kept_material};
+ghost use Rattle.dkg_reshare.specs.Made.{Speaks};
+ghost use Rattle.dkg_reshare.specs.declared.stop.Stop.TheVariants.{Fault as FaultOf};
+ghost use Rattle.dkg_types.specs.declared.fault.Fault.TheVariants.{NoMemory};
+ghost use Rattle.dkg_run.specs.Ended.{ends_node};
+ghost use Rattle.dkg_run.specs.Halves.{IsStartOf, beginning_of};
+ghost use Rattle.dkg_run.specs.Nodes.{HasHalf, IsFenceReady, IsHalfGiven, MayEnter, ends_half};
+
+use dkg_ceremony::{Bounds, Epoch, Epocher, Height};
+use dkg_fence::{Fence, Waited};
+use dkg_reshare::{BlockSource, Stop, Tip, startup};
+use dkg_types::{Block, Entry, Fault, Transcript, Unit};
+use std::num::NonZeroU64;
+
+/// The orchestrator's half between two steps. It doesn't wait: an opening has marked its epoch on the fence.
+#[derive(Drop)]
+pub(crate) struct Half {
+    entered: Option<Epoch>,
+    halted: bool,
+}
+
+/// The height above a position, unless it passes 64 bits.
+fn awaited(tip: &Option<Tip>) -> Option<Height>
+    ensures some { IfSome result (λ height. height ≡ option_map_or (λ t. t.height + 1) tip.now 0) }
+    ensures none { IfNone result (option_map_or (λ t. t.height + 1) tip.now 0 ≡ 2 ^ 64) }
+{
+    match tip {
+        None => Some(Height(0)),
+        Some(tip) => Some(Height(tip.height.0.checked_add(1)?)),
+    }
+}
+
+/// The bounds of the epoch in which a life of this source starts.
+fn start_bounds<B: BlockSource<Unit>>(
+    blocks_per_epoch: NonZeroU64,
+    source: &B,
+) -> Result<Bounds, Fault>
+    ensures { (c : Fixed directory.Unit) → IsHalfGiven (non_zero_u64_get blocks_per_epoch) (B.answers source.now) c → IsStartOf c result }
+{
+    let Some(height) = awaited(&startup(source, None)) else {
+        return Err(Fault::HeightRange);
+    };
+    let Some(bounds) = Epocher::new(blocks_per_epoch).containing(height) else {
+        return Err(Fault::HeightRange);
+    };
+    Ok(bounds)
+}
+
+/// The height of an epoch's boundary block: the last one of the epoch before, and genesis for epoch 0.
+fn boundary_of(bounds: &Bounds) -> Height
+    ensures { (blocks : ℕ) → bounds.now.first ≡ first blocks bounds.now.epoch → result ≡ boundary blocks bounds.now.epoch }
+{
+    Height(bounds.first.0.saturating_sub(1))
+}
+
+/// A boundary block carries its epoch's info.
+fn check_info(block: &Block<Unit>, epoch: Epoch) -> Result<(), Fault>
+    ensures { result ≡ beginning_of block.now epoch }
+{
+    let Some(info) = block.epoch_info() else {
+        return Err(Fault::MissingEpochInfo {
+            height: block.height(),
+        });
+    };
+    if info.epoch != epoch {
+        return Err(Fault::WrongEpoch {
+            expected: epoch,
+            got: info.epoch,
+        });
+    }
+    Ok(())
+}
+
+/// Enters an epoch that the fence is ready for.
+fn enter(epoch: Epoch, fence: &mut Fence, out: &mut Transcript) -> Result<Half, Stop>
+    requires ready { is_ready fence.old.ready epoch ≡ true }
+    ensures ok { IfOk result (λ half. (half ≡ record { entered = Some epoch; halted = false }) × (out.new.entries ≡ out.old.entries ++ entry.Entered epoch ∷ [])) }
+    ensures err { IfErr result (λ stop. (stop ≡ FaultOf NoMemory) × (out.new.entries ≡ out.old.entries)) }
+    ensures fence { fence.new ≡ record fence.old { awaited = None } }
+{
+    match fence.wait(epoch) {
+        Waited::Ready => {
+            out.push(Entry::Entered { epoch })?;
+            Ok(Half {
+                entered: Some(epoch),
+                halted: false,
+            })
+        }
+        Waited::Pending | Waited::Closed => unreachable!(),
+    }
+}
+
+impl Half {
+    /// Enters the epoch in which a life starts, or halts where its boundary block is not held.
+    pub fn open<B: BlockSource<Unit>>(
+        blocks_per_epoch: NonZeroU64,
+        source: &B,
+        fence: &mut Fence,
+        out: &mut Transcript,
+    ) -> Result<Half, Stop>
+        requires ready { (c : Fixed directory.Unit) → IsHalfGiven (non_zero_u64_get blocks_per_epoch) (B.answers source.now) c → IsFenceReady c fence.old }
+        ensures speaks { (c : Fixed directory.Unit) (st : Live directory.Unit) → IsHalfGiven (non_zero_u64_get blocks_per_epoch) (B.answers source.now) c → MayEnter c fence.old st
+            → Speaks (kept_material c st) (ends_half fence.new st result) out.old.entries out.new.entries }
+    {
+        let bounds = start_bounds(blocks_per_epoch, source)?;
+        let Some(block) = source.block(boundary_of(&bounds)) else {
+            out.push(Entry::Halted)?;
+            return Ok(Half {
+                entered: None,
+                halted: true,
+            });
+        };
+        check_info(block, bounds.epoch)?;
+        enter(bounds.epoch, fence, out)
+    }
+
+    /// Acknowledges a block below the first midpoint.
+    pub fn acknowledge(&self, height: Height, out: &mut Transcript) -> Result<(), Stop>
+        ensures speaks { (c : Fixed directory.Unit) (st : Live directory.Unit) (b : blocks.Block directory.Unit) → b.height ≡ height → height < midpoint c.blocks_per_epoch 0
+            → HasHalf self.now st → Speaks (bind (delivered c b st) (λ half. acked_at b.height half.answer half.live)) (ends_node st result) out.old.entries out.new.entries }
+    {
+        if self.halted || self.entered.is_none() {
+            return Ok(());
+        }
+        Ok(out.push(Entry::Acked { height })?)
+    }
+}
