@@ -1,6 +1,6 @@
 -- A script that passes the test is of the form that is run.
-use Rattle.std.proofs.Common.{◌≡◌, ℕ, ◌+◌, ◌<◌, ◌≤◌, ◌&&◌, ◌^◌, ◌==◌, Bool, true, false, List, [], ◌∷◌, Option, Some, None, Ok, Err, Result, refl, sym, ap, subst, ◌∙◌, append-nil, arith, length, take, drop, get_or, ◌-◌}
-use Rattle.std.specs.Prelude.{⊤, not, nat_lt, is_some, IfSome, IsSome, IsSomeAnd, slice_get, IfOk}
+use Rattle.std.proofs.Common.{◌≡◌, ℕ, ◌+◌, ◌<◌, ◌≤◌, ◌&&◌, ◌^◌, Bool, true, false, List, [], ◌∷◌, Option, Some, None, Ok, Err, Result, refl, sym, ap, subst, ◌∙◌, append-nil, arith, length, take, drop, get_or, ◌-◌}
+use Rattle.std.specs.Prelude.{⊤, ◌==◌, not, nat_lt, is_some, IfSome, IsSome, IsSomeAnd, slice_get, IfOk}
 use Rattle.std.specs.Bool.{OnTrue}
 use Rattle.std.specs.Int.NonZero.{non_zero_u32_get, non_zero_u64_get}
 use Rattle.std.specs.List.{AllByRecursion}
