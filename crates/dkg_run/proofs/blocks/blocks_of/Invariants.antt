@@ -1,6 +1,7 @@
--- The blocks so far are those of the lines so far.
-use Rattle.dkg_run.proofs.MadeBlocks.{AreSoFar}
+-- The blocks so far, and those of the lines that are left, are all.
+use Rattle.std.proofs.Common.{◌≡◌, [], drop, fold}
+use Rattle.dkg_run.specs.Given.{with_block}
 use Rattle.dkg_run.proofs.blocks.blocks_of.Given as goal
 
 abbrev pub invariant-loop-line : goal.invariant-loop-line
-invariant-loop-line l = AreSoFar l.fn.script l.line-index l.blocks.items
+invariant-loop-line l = fold (with_block l.fn.script.config) l.blocks.items (drop l.line-index l.fn.script.blocks) ≡ fold (with_block l.fn.script.config) [] l.fn.script.blocks
