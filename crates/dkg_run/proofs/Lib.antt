@@ -1,4 +1,4 @@
 pub mod Asked
-pub mod Ended
 pub mod Fresh
-pub mod Reported
+pub mod Naming
+pub mod Noding

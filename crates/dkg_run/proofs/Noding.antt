@@ -1,22 +1,25 @@
 -- What a call of the actor and the orchestrator's half behind it make of a node.
-use Rattle.std.proofs.Common.{◌≡◌, ℕ, Bool, true, false, List, Option, Some, None, Result, Ok, Err, refl, sym, ◌∙◌, ap, subst}
+use Rattle.std.proofs.Common.{◌≡◌, ℕ, Bool, true, false, List, [], Option, Some, None, Result, Ok, Err, append-nil, refl, sym, ◌∙◌, ap, subst}
 use Rattle.std.specs.Prelude.{is_some, if◌then◌else◌}
 use Rattle.std.specs.Option.{option_map_or}
 use Rattle.dkg_ceremony.specs.Acks as acks
 use Rattle.dkg_ceremony.specs.Dealings as dealings
 use Rattle.dkg_ceremony.specs.Rounds as rounds
 use Rattle.dkg_ceremony.specs.ValidLogs as logs
+use Rattle.dkg_journal.specs.Burn.{Burn}
 use Rattle.dkg_journal.specs.Names.{Files}
 use Rattle.dkg_types.specs.declared.directory.Unit as directory
+use Rattle.dkg_types.specs.Blocks.{Block}
 use Rattle.dkg_types.specs.declared.entry.Entry.{Entry as Line}
+use Rattle.dkg_types.specs.declared.entry.Entry.TheVariants.{Acked}
 use Rattle.dkg_types.specs.declared.fault.Fault.{Fault}
-use Rattle.dkg_store.specs.Acts.{Ended, Moment, went}
+use Rattle.dkg_store.specs.Acts.{Ended, IfWent, Moment, Runs, Stands, at, broken, held_in, moment, stopped, went}
 use Rattle.dkg_store.specs.Secrets.{Secrets}
 use Rattle.dkg_store.specs.declared.devices.Devices.{Devices}
 use Rattle.dkg_text.specs.declared.script.Event.TheVariants as event
 use Rattle.dkg_core.specs.Core.{step}
-use Rattle.dkg_core.specs.Courses.{Course, Goes, on_devices}
-use Rattle.dkg_core.specs.Entering.{asks_again}
+use Rattle.dkg_core.specs.Courses.{Course, Goes, Say, bind, on_devices}
+use Rattle.dkg_core.specs.Entering.{acked_at, asks_again, delivered}
 use Rattle.dkg_core.specs.Fixed.{Fixed}
 use Rattle.dkg_core.specs.Live.{Live, Mail, NodeStop, Peer, Reshare, Sent, Delivers, Finalized}
 use Rattle.dkg_core.specs.Node.{node_step, unless_once}
@@ -24,7 +27,7 @@ use Rattle.dkg_core.specs.Said.{Said}
 use Rattle.dkg_reshare.specs.Actors.{EndsAt, HasFailed, IfLiving, lives}
 use Rattle.dkg_reshare.specs.Ends.{by_stop}
 use Rattle.dkg_reshare.specs.LiveOf.{Beside, live_of}
-use Rattle.dkg_reshare.specs.Made.{Makes, MakesAt, Tells}
+use Rattle.dkg_reshare.specs.Made.{MakesAt, Speaks, Tells}
 use Rattle.dkg_reshare.specs.Rules.{IsRuledBy}
 use Rattle.dkg_reshare.specs.declared.actor.State.{State}
 use Rattle.dkg_reshare.specs.declared.actor.State.TheVariants.{New, Living, Failed as HadFailed}
@@ -32,9 +35,12 @@ use Rattle.dkg_reshare.specs.declared.life.Life as reshare
 use Rattle.dkg_reshare.specs.declared.stop.Stop.{Stop}
 use Rattle.dkg_run.specs.Ended.{by_node_stop, ends_node}
 use Rattle.dkg_run.specs.Given.{Lived, at_step, blocks_in, step_of}
+use Rattle.dkg_run.specs.Lives.{never}
 use Rattle.dkg_run.specs.Nodes.{HasHalf, IsView, Viewed}
 use Rattle.dkg_run.specs.declared.half.Half.{Half}
 use Rattle.dkg_run.specs.declared.node.Node.{Node}
+use Rattle.dkg_reshare.proofs.Burning.{burns_none, makes_nothing}
+use Rattle.dkg_reshare.proofs.Said.{nothing_held, said_of_runs}
 use Rattle.dkg_run.proofs.Naming.{node_ends, node_goes, node_says, node_says_early}
 
 -- WHAT A STEP IS GIVEN
@@ -57,3 +63,160 @@ asks_nothing c st is = ap (λ (o : Option _). option_map_or _ o (Goes st)) is
 
 pub goes_on : (c : Fixed directory.Unit) (st : Live directory.Unit) → c.oneshot ≡ None → st.orchestrator.waiting ≡ None → unless_once c (asks_again c st) (Goes st) ≡ Goes st
 goes_on c st reshare unawaited = unless_reshare c (asks_again c st) (Goes st) reshare ∙ asks_nothing c st unawaited
+
+module _ {S : Type 0} (course : Course directory.Unit NodeStop S) where
+  -- what touches no device, as acts over both
+  pub speaks_makes : (how : Ended NodeStop S) (files : Files) (image : Files → Type 0) {out now : List Line} {s : Secrets} {f : Burn} → Speaks course how out now
+      → MakesAt (on_devices course) how files image files image (moment out s f) (moment now s f)
+  speaks_makes how files image {out} {now} {s} {f} speaks = record {
+    made = record {
+      made = λ stands c here. subst (λ (x : Files). Runs (on_devices course) how (at (moment out s f) files) (at (moment now s f) x)) (sym (stands.lands.only c here)) (speaks (held_in files s) f);
+      stands = stood how;
+    };
+    burns = burns_none how f;
+  }
+    where
+      stood : (how : Ended NodeStop S) → IfWent how (Stands files image → Stands files image)
+      stood (went end) = λ stands. stands
+      stood (stopped fault) = tt
+      stood (broken cause) = tt
+
+  -- .. and its lines
+  pub speaks_says : (how : Ended NodeStop S) {out now : List Line} → Speaks course how out now → Tells course how out now
+  speaks_says how {out} {now} speaks = said_of_runs (on_devices course) how (record { out = out; held = nothing_held; fuse = never }) (record { out = now; held = nothing_held; fuse = never }) (speaks nothing_held never)
+
+says_nothing : {st : Live directory.Unit} (out : List Line) → Tells {F = NodeStop} (Goes st) (went st) out out
+says_nothing out = record { lines = []; added = sym (append-nil out); by = (refl, refl) }
+
+-- VIEWS
+
+pub viewed : (n : Node) (st : Live directory.Unit) → IsView n st → (result : Result (Unit {0}) Stop) (Q : Ended NodeStop (Live directory.Unit) → Type 0) → Q (ends_node st result) → Viewed n result Q
+viewed n st view (Ok done) Q q = (st, view, q)
+viewed n st view (Err stop) Q q = q
+
+-- The orchestrator's half has these in memory, and waits for nothing.
+pub record HasBeside (half : Half) (beside : Beside directory.Unit) : Type 0 where
+  pub entered : beside.orchestrator.entered ≡ half.entered
+  pub halted : beside.orchestrator.halted ≡ half.halted
+  pub unawaited : beside.orchestrator.waiting ≡ None
+
+pub view_of : (n : Node) (beside : Beside directory.Unit) (life : reshare.Life directory.Unit) → HasBeside n.half beside → n.actor.state ≡ Living life → IsView n (live_of beside n.fence life)
+view_of n beside life has lives = record {
+  life = life;
+  beside = beside;
+  lives = lives;
+  is = refl;
+  half = record { entered = has.entered; halted = has.halted; unawaited = has.unawaited };
+}
+
+-- .. of a view's
+pub beside_of : (n : Node) (st : Live directory.Unit) (view : IsView n st) → HasBeside n.half view.beside
+beside_of n st view = record {
+  entered = subst (λ (s : Live directory.Unit). s.orchestrator.entered ≡ n.half.entered) view.is view.half.entered;
+  halted = subst (λ (s : Live directory.Unit). s.orchestrator.halted ≡ n.half.halted) view.is view.half.halted;
+  unawaited = subst (λ (s : Live directory.Unit). s.orchestrator.waiting ≡ None) view.is view.half.unawaited;
+}
+
+-- A MESSAGE, over any W that says how a course went
+
+module _ (n : Node) (c : Fixed directory.Unit) (beside : Beside directory.Unit) (has : HasBeside n.half beside) (reshare_is : c.oneshot ≡ None) (mail : Mail directory.Unit) (st : Live directory.Unit) where
+  abbrev next_of : Live directory.Unit → Course directory.Unit NodeStop (Live directory.Unit)
+  next_of st = unless_once c (asks_again c st) (Goes st)
+
+  module _ {files files_now : Files} {image now : Files → Type 0} {old new : Moment} where
+    heard_in : (state : State directory.Unit) → n.actor.state ≡ state → (result : Result (Unit {0}) Stop) (P : reshare.Life directory.Unit → Type 0) → EndsAt state result P
+        → MakesAt (on_devices (step c (Sent mail) st)) (lives (live_of beside n.fence) state result) files image files_now now old new
+        → Viewed n result (λ ended. MakesAt (on_devices (node_step c (Reshare mail) st)) ended files image files_now now old new)
+    heard_in (Living life) is (Ok done) P ends made = (
+      live_of beside n.fence life,
+      view_of n beside life has is,
+      node_goes (step c (Sent mail) st) next_of made
+        (subst (λ (a : Course directory.Unit NodeStop (Live directory.Unit)). MakesAt (on_devices a) (went (live_of beside n.fence life)) files_now now files_now now new new)
+        (sym (goes_on c (live_of beside n.fence life) reshare_is has.unawaited)) (makes_nothing files_now now new refl)),
+    )
+    heard_in New is (Ok done) P ends made = absurd ends
+    heard_in HadFailed is (Ok done) P ends made = absurd ends
+    heard_in (Living life) is (Err stop) P ends made = node_ends (step c (Sent mail) st) next_of stop made
+    heard_in New is (Err stop) P ends made = node_ends (step c (Sent mail) st) next_of stop made
+    heard_in HadFailed is (Err stop) P ends made = node_ends (step c (Sent mail) st) next_of stop made
+
+    pub heard : (result : Result (Unit {0}) Stop) (P : reshare.Life directory.Unit → Type 0) → EndsAt n.actor.state result P
+        → MakesAt (on_devices (step c (Sent mail) st)) (lives (live_of beside n.fence) n.actor.state result) files image files_now now old new
+        → Viewed n result (λ ended. MakesAt (on_devices (node_step c (Reshare mail) st)) ended files image files_now now old new)
+    heard result P ends made = heard_in n.actor.state refl result P ends made
+
+  module _ {out now : List Line} where
+    said_in : (state : State directory.Unit) → n.actor.state ≡ state → (result : Result (Unit {0}) Stop) (P : reshare.Life directory.Unit → Type 0) → EndsAt state result P
+        → Tells (step c (Sent mail) st) (lives (live_of beside n.fence) state result) out now → Viewed n result (λ ended. Tells (node_step c (Reshare mail) st) ended out now)
+    said_in (Living life) is (Ok done) P ends said = (
+      live_of beside n.fence life,
+      view_of n beside life has is,
+      node_says (step c (Sent mail) st) next_of said
+        (subst (λ (a : Course directory.Unit NodeStop (Live directory.Unit)). Tells a (went (live_of beside n.fence life)) now now)
+        (sym (goes_on c (live_of beside n.fence life) reshare_is has.unawaited)) (says_nothing now)),
+    )
+    said_in New is (Ok done) P ends said = absurd ends
+    said_in HadFailed is (Ok done) P ends said = absurd ends
+    said_in (Living life) is (Err stop) P ends said = node_says_early (step c (Sent mail) st) next_of stop said
+    said_in New is (Err stop) P ends said = node_says_early (step c (Sent mail) st) next_of stop said
+    said_in HadFailed is (Err stop) P ends said = node_says_early (step c (Sent mail) st) next_of stop said
+
+    pub heard_said : (result : Result (Unit {0}) Stop) (P : reshare.Life directory.Unit → Type 0) → EndsAt n.actor.state result P
+        → Tells (step c (Sent mail) st) (lives (live_of beside n.fence) n.actor.state result) out now → Viewed n result (λ ended. Tells (node_step c (Reshare mail) st) ended out now)
+    heard_said result P ends said = said_in n.actor.state refl result P ends said
+
+-- A BLOCK: the reshare half took it, and then the orchestrator's half answers
+
+module _ (n : Node) (c : Fixed directory.Unit) (beside : Beside directory.Unit) (has : HasBeside n.half beside) (reshare_is : c.oneshot ≡ None) (b : Block directory.Unit) (st : Live directory.Unit) where
+  abbrev answered : Live directory.Unit → Course directory.Unit NodeStop (Live directory.Unit)
+  answered st = bind (delivered c b st) (λ half. acked_at b.height half.answer half.live)
+
+  abbrev next_behind : Live directory.Unit → Course directory.Unit NodeStop (Live directory.Unit)
+  next_behind st = unless_once c (answered st) (Say (Acked b.height) (Goes st))
+
+  -- it ended in the reshare half
+  pub refused_made : {files files_now : Files} {image now : Files → Type 0} {old new : Moment} (state : State directory.Unit) (stop : Stop) (P : reshare.Life directory.Unit → Type 0) → EndsAt state (Err stop) P
+      → MakesAt (on_devices (step c (Finalized b) st)) (lives (live_of beside n.fence) state (Err stop)) files image files_now now old new
+      → MakesAt (on_devices (node_step c (Delivers b) st)) (by_node_stop stop) files image files_now now old new
+  refused_made (Living life) stop P ends made = node_ends (step c (Finalized b) st) next_behind stop made
+  refused_made New stop P ends made = node_ends (step c (Finalized b) st) next_behind stop made
+  refused_made HadFailed stop P ends made = node_ends (step c (Finalized b) st) next_behind stop made
+
+  pub refused_said : {out now : List Line} (state : State directory.Unit) (stop : Stop) (P : reshare.Life directory.Unit → Type 0) → EndsAt state (Err stop) P
+      → Tells (step c (Finalized b) st) (lives (live_of beside n.fence) state (Err stop)) out now → Tells (node_step c (Delivers b) st) (by_node_stop stop) out now
+  refused_said (Living life) stop P ends said = node_says_early (step c (Finalized b) st) next_behind stop said
+  refused_said New stop P ends said = node_says_early (step c (Finalized b) st) next_behind stop said
+  refused_said HadFailed stop P ends said = node_says_early (step c (Finalized b) st) next_behind stop said
+
+  -- .. or it went there, and the other half answered
+  module _ {files files_now : Files} {image now : Files → Type 0} {old : Moment} {mid_out out : List Line} {s : Secrets} {f : Burn} where
+    taken_in : (state : State directory.Unit) → n.actor.state ≡ state → (P : reshare.Life directory.Unit → Type 0) → EndsAt state (Ok tt) P
+        → MakesAt (on_devices (step c (Finalized b) st)) (lives (live_of beside n.fence) state (Ok tt)) files image files_now now old (moment mid_out s f)
+        → (result : Result (Unit {0}) Stop) → ((st : Live directory.Unit) → HasHalf n.half st → Speaks (answered st) (ends_node st result) mid_out out)
+        → Viewed n result (λ ended. MakesAt (on_devices (node_step c (Delivers b) st)) ended files image files_now now old (moment out s f))
+    taken_in (Living life) is P ends made result speaks =
+        let end = live_of beside n.fence life in
+        let view = view_of n beside life has is in
+        viewed n end view result (λ ended. MakesAt (on_devices (node_step c (Delivers b) st)) ended files image files_now now old (moment out s f))
+        (node_goes (step c (Finalized b) st) next_behind made
+        (subst (λ (a : Course directory.Unit NodeStop (Live directory.Unit)). MakesAt (on_devices a) (ends_node end result) files_now now files_now now (moment mid_out s f) (moment out s f))
+        (sym (unless_reshare c (answered end) (Say (Acked b.height) (Goes end)) reshare_is))
+        (speaks_makes (answered end) (ends_node end result) files_now now (speaks end view.half))))
+    taken_in New is P ends made result speaks = absurd ends
+    taken_in HadFailed is P ends made result speaks = absurd ends
+
+  module _ {out mid now : List Line} where
+    told_in : (state : State directory.Unit) → n.actor.state ≡ state → (P : reshare.Life directory.Unit → Type 0) → EndsAt state (Ok tt) P
+        → Tells (step c (Finalized b) st) (lives (live_of beside n.fence) state (Ok tt)) out mid
+        → (result : Result (Unit {0}) Stop) → ((st : Live directory.Unit) → HasHalf n.half st → Speaks (answered st) (ends_node st result) mid now)
+        → Viewed n result (λ ended. Tells (node_step c (Delivers b) st) ended out now)
+    told_in (Living life) is P ends said result speaks =
+        let end = live_of beside n.fence life in
+        let view = view_of n beside life has is in
+        viewed n end view result (λ ended. Tells (node_step c (Delivers b) st) ended out now)
+        (node_says (step c (Finalized b) st) next_behind said
+        (subst (λ (a : Course directory.Unit NodeStop (Live directory.Unit)). Tells a (ends_node end result) mid now)
+        (sym (unless_reshare c (answered end) (Say (Acked b.height) (Goes end)) reshare_is))
+        (speaks_says (answered end) (ends_node end result) (speaks end view.half))))
+    told_in New is P ends said result speaks = absurd ends
+    told_in HadFailed is P ends said result speaks = absurd ends
