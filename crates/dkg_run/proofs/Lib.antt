@@ -1,4 +1,6 @@
 pub mod Asked
 pub mod Fresh
+pub mod Going
 pub mod Naming
 pub mod Noding
+pub mod Stepping

@@ -223,9 +223,9 @@ fn live<D: Disk, X: SecretStore>(
 /// Stops both devices, each with this pick.
 fn crash<D: Disk, X: SecretStore>(devices: &mut Devices<'_, D, X>, pick: u64)
     ensures went { Went D.tells D.made X.made D.faults X.faults devices.old devices.new (pick ∷ []) }
-    ensures narrows { IsTrue D.tells → (c : Files) → D.image devices.new.disk.now c → D.image devices.old.disk.now c }
+    ensures narrows { (c : Files) → D.image devices.new.disk.now c → D.image devices.old.disk.now c }
     ensures stands { IsTrue D.tells → Stands (D.files devices.new.disk.now) (D.image devices.new.disk.now) }
-    ensures held { IsTrue X.tells → X.held devices.new.secrets.now ≡ X.held devices.old.secrets.now }
+    ensures held { X.held devices.new.secrets.now ≡ X.held devices.old.secrets.now }
     ensures fuse { devices.new.fuse ≡ devices.old.fuse }
 {
     devices.disk.crash(pick);
@@ -244,8 +244,8 @@ fn end_life<D: Disk, X: SecretStore>(
     ensures ends { (picks : List ℕ) → EndsLife by_lines life.now how (trace out.old.entries picks) result (trace out.new.entries (picks ++ picks_at_end life.now how))
         (λ now. (result ≡ Ok tt) × (now ≡ trace out.new.entries (picks ++ picks_at_end life.now how))) }
     ensures faulted { IfErr result (λ fault. (how ≡ Err (FaultOf fault)) ⊎ (fault ≡ NoMemory)) }
-    ensures narrows { IsTrue D.tells → (c : Files) → D.image devices.new.disk.now c → D.image devices.old.disk.now c }
-    ensures held { IsTrue X.tells → X.held devices.new.secrets.now ≡ X.held devices.old.secrets.now }
+    ensures narrows { (c : Files) → D.image devices.new.disk.now c → D.image devices.old.disk.now c }
+    ensures held { X.held devices.new.secrets.now ≡ X.held devices.old.secrets.now }
     ensures same { (fault : Fault) → how ≡ Err (FaultOf fault) → devices.new ≡ devices.old }
     ensures stands { OnOk result (IsTrue D.tells → Stands (D.files devices.new.disk.now) (D.image devices.new.disk.now)) }
     ensures went { Went D.tells D.made X.made D.faults X.faults devices.old devices.new (picks_at_end life.now how) }
