@@ -3,4 +3,5 @@ pub mod Fresh
 pub mod Going
 pub mod Naming
 pub mod Noding
+pub mod Sourced
 pub mod Stepping

@@ -164,9 +164,13 @@ event_in blocks other = None
 abbrev pub step_of : Lived → (number : ℕ) → script.Event → Live directory.Unit → Course directory.Unit NodeStop (Live directory.Unit)
 step_of g number event st = option_map_or (λ its. node_step (at_step g number) its st) (event_in (blocks_in g.script) event) (Goes st)
 
--- It is a life of a script of today's form, and reads neither a share nor a plan.
+-- Neither a share nor a plan is read.
+pub record ReadsNeither (seen : Held → Seen) : Type 0 where
+  pub shareless : (h : Held) → (seen h).shares ≡ []
+  pub unplanned : (h : Held) → (seen h).plan ≡ None
+
+-- It is a life of a script of today's form.
 pub record IsLifeHere (g : Lived) : Type 0 where
   pub form : IsFormOfToday g.script
   pub life_is : slice_get g.script.lives g.number ≡ Some g.life
-  pub shareless : (h : Held) → (g.seen h).shares ≡ []
-  pub unplanned : (h : Held) → (g.seen h).plan ≡ None
+  pub reads : ReadsNeither g.seen

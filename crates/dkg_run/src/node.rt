@@ -18,7 +18,7 @@ ghost use Rattle.dkg_reshare.specs.Made.{Makes, Tells, UnlessBroken};
 ghost use Rattle.dkg_reshare.specs.Moved.{Moved, StaysAbove};
 ghost use Rattle.dkg_reshare.specs.Opened.{IsInGrammar, OpensReadable};
 ghost use Rattle.dkg_reshare.specs.Today.{seen_today};
-ghost use Rattle.dkg_run.specs.Given.{Lived, at_step, blocks_in, limits_of, lived, step_of};
+ghost use Rattle.dkg_run.specs.Given.{Lived, ReadsNeither, at_step, blocks_in, limits_of, lived, step_of};
 ghost use Rattle.dkg_run.specs.Nodes.{IsEventHere, IsOfLife, IsReadyNode, IsView, Viewed, ViewedNew, ended_new};
 ghost use Rattle.dkg_run.specs.Sources.{IsSourceOf};
 
@@ -80,7 +80,7 @@ impl Node {
         requires source { IsSourceOf (blocks_in script.now) life.now 0 source.now }
         // It goes on over these devices alone, as a node of this life.
         ensures ready { IfOk result (λ node. IsReadyNode D.tells D.files D.image node devices.new) }
-        ensures of { IfOk result (λ node. (g : Lived) → g.script ≡ script.now → IsOfLife g node) }
+        ensures of { IfOk result (λ node. (g : Lived) → g.script ≡ script.now → ReadsNeither g.seen → IsOfLife g node) }
         // It is the relation's opening of a journal in its grammar, and each act was made, whatever image a crash leaves.
         ensures acts { IsTrue D.tells → IsTrue X.tells → IsInGrammar (limits_of script.now).most (D.files devices.old.disk.now)
             → ViewedNew result (λ ended. Makes D.files D.image X.held (node_opening (at_step (lived script.now number life.now seen_today (D.files devices.old.disk.now)) 0))
