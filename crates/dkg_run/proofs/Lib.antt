@@ -3,5 +3,6 @@ pub mod Fresh
 pub mod Going
 pub mod Naming
 pub mod Noding
+pub mod Opening
 pub mod Sourced
 pub mod Stepping

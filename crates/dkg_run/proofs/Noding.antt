@@ -55,7 +55,7 @@ at_oneshot g taken = refl
 
 -- A MESSAGE: an orchestrator that waits for nothing asks for nothing behind it
 
-unless_reshare : {S : Type 0} (c : Fixed directory.Unit) (course once : Course directory.Unit NodeStop S) → c.oneshot ≡ None → unless_once c course once ≡ course
+pub unless_reshare : {S : Type 0} (c : Fixed directory.Unit) (course once : Course directory.Unit NodeStop S) → c.oneshot ≡ None → unless_once c course once ≡ course
 unless_reshare c course once is = ap (λ (o : Option _). if is_some o then once else course) is
 
 asks_nothing : (c : Fixed directory.Unit) (st : Live directory.Unit) → st.orchestrator.waiting ≡ None → asks_again c st ≡ Goes st
