@@ -1,4 +1,5 @@
 pub mod Asked
+pub mod Entering
 pub mod Fresh
 pub mod Going
 pub mod Naming

@@ -1,6 +1,7 @@
 -- A node's opening: the actor's, and then the orchestrator's half.
-use Rattle.std.proofs.Common.{◌≡◌, ℕ, Bool, true, false, List, ◌∷◌, Option, Some, None, Result, Ok, Err, refl, sym, ◌∙◌, ap, subst}
-use Rattle.std.specs.Prelude.{IsSome, IsSomeAnd, nat_le}
+use Rattle.std.proofs.Common.{◌≡◌, ℕ, arith, Bool, true, false, List, [], ◌∷◌, Option, Some, None, Result, Ok, Err, refl, sym, ◌∙◌, ap, subst}
+use Rattle.std.specs.Prelude.{◌==◌, if◌then◌else◌, IsSome, IsSomeAnd, nat_le}
+use Rattle.std.proofs.lemmas.Bool.Decides.{nat_tests}
 use Rattle.dkg_fence.specs.Fence.{marked}
 use Rattle.dkg_fence.specs.Readiness.{Readiness}
 use Rattle.dkg_journal.specs.Burn.{Burn}
@@ -51,10 +52,17 @@ ready_at : (e first : ℕ) → e ≡ first → is_ready (marked e (no_orchestrat
 ready_at e first is = rw is (le_self first)
   where
     le_self : (n : ℕ) → nat_le n n ≡ true
-    le_self n = grind arith
+    le_self n = grind (arith, nat_tests)
 
 lookup_at : (e first : ℕ) (scheme : SchemeInfo) → e ≡ first → IsSome (lookup first ((e, scheme) ∷ []))
-lookup_at e first scheme is = rw is (grind arith)
+lookup_at e first scheme is = found (e == first) (equal e first is)
+  where
+    equal : (n m : ℕ) → n ≡ m → (n == m) ≡ true
+    equal n m e = grind (arith, nat_tests)
+
+    found : (t : Bool) → t ≡ true → IsSome (if t then Some scheme else None)
+    found true e = tt
+    found false e = absurd (let wrong : false ≡ true = e in cc)
 
 module _ (c : Fixed directory.Unit) (seen : Seen) (st : Live directory.Unit) where
   -- the info that was registered

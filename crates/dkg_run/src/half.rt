@@ -5,6 +5,8 @@ ghost use Rattle.std.specs.Prelude.{◌≡◌, ◌<◌, ◌+◌, ◌++◌, ◌�
 ghost use Rattle.std.specs.Int.NonZero.{non_zero_u64_get};
 ghost use Rattle.std.specs.Option.{option_map_or};
 ghost use Rattle.dkg_ceremony.specs.Schedule.{boundary, first, midpoint};
+ghost use Rattle.dkg_fence.specs.Fence.{waited};
+ghost use Rattle.dkg_fence.specs.declared.fence.Waited.TheVariants as waits;
 ghost use Rattle.dkg_types.specs.Blocks as blocks;
 ghost use Rattle.dkg_types.specs.declared.directory.Unit as directory;
 ghost use Rattle.dkg_types.specs.declared.entry.Entry.TheVariants as entry;
@@ -90,7 +92,7 @@ fn enter(epoch: Epoch, fence: &mut Fence, out: &mut Transcript) -> Result<Half, 
     requires ready { is_ready fence.old.ready epoch ≡ true }
     ensures ok { IfOk result (λ half. (half ≡ record { entered = Some epoch; halted = false }) × (out.new.entries ≡ out.old.entries ++ entry.Entered epoch ∷ [])) }
     ensures err { IfErr result (λ stop. (stop ≡ FaultOf NoMemory) × (out.new.entries ≡ out.old.entries)) }
-    ensures fence { fence.new ≡ record fence.old { awaited = None } }
+    ensures fence { fence.new ≡ waited epoch waits.Ready fence.old }
 {
     match fence.wait(epoch) {
         Waited::Ready => {
