@@ -2,6 +2,7 @@ pub mod Asked
 pub mod Entering
 pub mod Fresh
 pub mod Going
+pub mod Living
 pub mod Naming
 pub mod Noding
 pub mod Opening

@@ -1,0 +1,92 @@
+-- The steps of a life, and lives, by what their calls answered.
+use Rattle.std.proofs.Common.{◌≡◌, ◌⊎◌, ◌<◌, ◌≤◌, ◌+◌, ◌^◌, ◌++◌, [], ◌∷◌, ℕ, zero, suc, Bool, true, false, List, Option, Some, None, inl, inr, get_or, length, refl, sym, ◌∙◌, ap, subst, arith}
+use Rattle.std.specs.Prelude.{⊤, nat_lt, slice_get}
+use Rattle.std.proofs.lemmas.Bool.Decides.{nat_tests}
+use Rattle.std.specs.List.{AllByRecursion}
+use Rattle.std.proofs.lemmas.Option.{slice_get-get_or}
+use Rattle.dkg_journal.specs.Disk.{Rose}
+use Rattle.dkg_types.specs.Blocks.{Block}
+use Rattle.dkg_types.specs.declared.directory.Unit as directory
+use Rattle.dkg_types.specs.declared.fault.Fault.{Fault}
+use Rattle.dkg_types.specs.declared.fault.Fault.TheVariants as fault
+use Rattle.dkg_text.specs.declared.script.Life.{Life}
+use Rattle.dkg_reshare.specs.Given.{IsOf}
+use Rattle.dkg_reshare.specs.declared.config.Terms.{Terms}
+use Rattle.dkg_store.specs.declared.devices.Devices.{Devices}
+use Rattle.dkg_reshare.specs.Ends.{IsCaused}
+use Rattle.dkg_reshare.specs.declared.stop.Stop.{Stop}
+use Rattle.dkg_reshare.specs.declared.stop.Stop.TheVariants.{Cut, Failed, Fault as FaultOf}
+use Rattle.dkg_run.specs.Causes.{HasCause, IfFault}
+use Rattle.dkg_run.specs.Moving.{Blames}
+use Rattle.dkg_run.specs.Given.{Lived, at_step}
+use Rattle.dkg_run.specs.Nodes.{IsOfLife, IsStepHere}
+use Rattle.dkg_run.specs.declared.node.Node.{Node}
+
+-- the item that a loop is at
+pub item_here : {A : Type 0} (xs : List A) (i : ℕ) (x : A) → i < length xs → x ≡ get_or xs i x → slice_get xs i ≡ Some x
+item_here {A} xs i x below is = slice_get-get_or xs i x below ∙ ap (λ (y : A). Some y) (sym is)
+
+-- .. of which all items have something
+pub holds_at : {A : Type 0} (P : A → Type 0) (xs : List A) (i : ℕ) (x : A) → AllByRecursion P xs → slice_get xs i ≡ Some x → P x
+holds_at {A} P [] i x all is = absurd (let wrong : ◌≡◌ {A = Option A} None (Some x) = is in cc)
+holds_at {A} P (y ∷ ys) zero x all is = subst P (the_item is) all.0
+  where
+    the_item : {a b : A} → Some a ≡ Some b → a ≡ b
+    the_item e = cc
+holds_at P (y ∷ ys) (suc i) x all is = holds_at P ys i x all.1 is
+
+-- A node with the same terms is of the same life.
+pub step_here : (g : Lived) (a b : Node) (blocks now : List (Block directory.Unit)) (life : Life) → b.actor.terms ≡ a.actor.terms → now ≡ blocks → IsStepHere g a blocks life → IsStepHere g b now life
+step_here g a b blocks now life terms same is = record {
+  of = record { of = λ taken. subst (λ (t : Terms). IsOf t (at_step g taken)) (sym terms) (is.of.of taken) };
+  blocks_are = same ∙ is.blocks_are;
+  life_is = is.life_is;
+}
+
+-- COUNTS
+
+-- a count that rose in a call rose in all that is around it
+pub rose_around : (a b c d : ℕ) → a ≤ b → b ≤ c → c ≤ d → Rose b c → Rose a d
+rose_around a b c d ab bc cd rose = rises (2 ^ 64) a b c d ab bc cd rose
+  where
+    rises : (most a b c d : ℕ) → a ≤ b → b ≤ c → c ≤ d → (b < c) ⊎ (b + 1 ≡ most) → (a < d) ⊎ (a + 1 ≡ most)
+    rises most a b c d ab bc cd (inl less) = inl (omega (arith, ab, less, cd))
+    rises most a b c d ab bc cd (inr full) = by_order (nat_lt a b) refl
+      where
+        by_order : (t : Bool) → nat_lt a b ≡ t → (a < d) ⊎ (a + 1 ≡ most)
+        by_order true e = inl (grind (arith, nat_tests))
+        by_order false e = inr (grind (arith, nat_tests))
+
+-- .. so that what a fault blames in a part of a call, it blames in all of it
+caused_around : (its : Fault) (P Q R S : Type 0) → (P → R) → (Q → S) → HasCause its P Q → HasCause its R S
+caused_around fault.Disk P Q R S disk secrets is = disk is
+caused_around fault.Secrets P Q R S disk secrets is = secrets is
+caused_around its P Q R S disk secrets is = tt
+
+module _ {D X : Type 0} (disk_faults : D → ℕ) (secret_faults : X → ℕ) where
+  pub blames_around : (old before after new : Devices D X) → disk_faults old.disk.now ≤ disk_faults before.disk.now → secret_faults old.secrets.now ≤ secret_faults before.secrets.now
+      → disk_faults before.disk.now ≤ disk_faults after.disk.now → secret_faults before.secrets.now ≤ secret_faults after.secrets.now
+      → disk_faults after.disk.now ≤ disk_faults new.disk.now → secret_faults after.secrets.now ≤ secret_faults new.secrets.now
+      → (its : Fault) → Blames disk_faults secret_faults before after its → Blames disk_faults secret_faults old new its
+  blames_around old before after new d1 s1 d2 s2 d3 s3 its is = caused_around its
+      (Rose (disk_faults before.disk.now) (disk_faults after.disk.now)) (Rose (secret_faults before.secrets.now) (secret_faults after.secrets.now))
+      (Rose (disk_faults old.disk.now) (disk_faults new.disk.now)) (Rose (secret_faults old.secrets.now) (secret_faults new.secrets.now))
+      (rose_around (disk_faults old.disk.now) (disk_faults before.disk.now) (disk_faults after.disk.now) (disk_faults new.disk.now) d1 d2 d3)
+      (rose_around (secret_faults old.secrets.now) (secret_faults before.secrets.now) (secret_faults after.secrets.now) (secret_faults new.secrets.now) s1 s2 s3) is
+
+  -- .. of a stop
+  pub stop_blames_around : (old before after new : Devices D X) → disk_faults old.disk.now ≤ disk_faults before.disk.now → secret_faults old.secrets.now ≤ secret_faults before.secrets.now
+      → disk_faults before.disk.now ≤ disk_faults after.disk.now → secret_faults before.secrets.now ≤ secret_faults after.secrets.now
+      → disk_faults after.disk.now ≤ disk_faults new.disk.now → secret_faults after.secrets.now ≤ secret_faults new.secrets.now
+      → (stop : Stop) → IfFault stop (Blames disk_faults secret_faults before after) → IfFault stop (Blames disk_faults secret_faults old new)
+  stop_blames_around old before after new d1 s1 d2 s2 d3 s3 (FaultOf its) is = blames_around old before after new d1 s1 d2 s2 d3 s3 its is
+  stop_blames_around old before after new d1 s1 d2 s2 d3 s3 Cut is = tt
+  stop_blames_around old before after new d1 s1 d2 s2 d3 s3 Failed is = tt
+
+-- the causes of an actor's stop
+pub caused_blames : (stop : Stop) (disk secrets reached : Type 0) → IsCaused stop disk secrets reached → IfFault stop (λ its. HasCause its disk secrets)
+caused_blames Cut disk secrets reached is = tt
+caused_blames Failed disk secrets reached is = tt
+caused_blames (FaultOf fault.Disk) disk secrets reached is = is
+caused_blames (FaultOf fault.Secrets) disk secrets reached is = is
+caused_blames (FaultOf its) disk secrets reached is = tt
