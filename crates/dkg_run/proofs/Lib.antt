@@ -16,3 +16,4 @@ pub mod Sourced
 pub mod Standing
 pub mod Stepping
 pub mod Steps
+pub mod Today
