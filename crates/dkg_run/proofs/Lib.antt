@@ -1,6 +1,8 @@
 pub mod Asked
+pub mod Early
 pub mod Ended
 pub mod Entering
+pub mod Faults
 pub mod Fresh
 pub mod Going
 pub mod InPlace
