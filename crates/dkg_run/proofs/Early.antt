@@ -25,7 +25,7 @@ use Rattle.dkg_run.proofs.Today.{IsMade, life_form, made_at}
 half_below : (n : ℕ) → 2 ≤ n → n / 2 < n
 half_below n long = div_below n 2 n (omega arith) (omega (arith, long))
 
-some_half : (n : ℕ) → 2 ≤ n → 0 < n / 2
+pub some_half : (n : ℕ) → 2 ≤ n → 0 < n / 2
 some_half n long = let one : 1 ≤ n / 2 = le-div 1 n 2 (omega arith) (omega (arith, long)) in omega (arith, one)
 
 pub first_of : (n height : ℕ) → 2 ≤ n → height < n / 2 → epoch_of n height ≡ 0

@@ -73,8 +73,8 @@ made_at script number P of_line = both (slice_get script.blocks number) (slice_g
 
 -- THE FORM of what is given
 
-middle_is : (n : ℕ) → n / 2 ≡ midpoint n 0
-middle_is n = ?
+pub middle_is : (n : ℕ) → n / 2 ≡ midpoint n 0
+middle_is n = omega arith
 
 module _ (g : Lived) (here : IsLifeHere g) where
   pub form_at : (taken : ℕ) → core.IsFormOfToday (at_step g taken)
