@@ -1,5 +1,5 @@
 -- Laws of dkg_core that are awaited: a node's course, from those of its halves.
-use Rattle.std.proofs.Common.{◌≡◌, ◌++◌, List, Option, Some, None}
+use Rattle.std.proofs.Common.{◌≡◌, ◌++◌, List, Option, Some, None, true, false, sym, subst}
 use Rattle.std.specs.List.{AllByRecursion}
 use Rattle.dkg_types.specs.declared.entry.Entry.{Entry as Line}
 use Rattle.dkg_types.specs.declared.fault.Fault.{Fault}
@@ -13,6 +13,7 @@ use Rattle.dkg_core.specs.Live.{Delivers, Event, Faulted, Finalized, Live, Messa
 use Rattle.dkg_core.specs.Node.{node_opening, node_step}
 use Rattle.dkg_core.specs.Said.{Said}
 use Rattle.dkg_core.specs.Seen.{Seen}
+use Rattle.dkg_core.specs.Sources.{startup}
 use Rattle.dkg_core.specs.Today.{CameTo, IsFormOfToday, IsLiveToday, IsNextToday, IsOpenedToday, IsOpeningFault, IsTakenToday, first_block, first_epoch, refusal_of}
 use Rattle.dkg_core.specs.Transcripts.{BeginsOpened}
 
@@ -49,3 +50,17 @@ module _ {Dir : Type 0} where
   pub node_steps_are_quiet : (c : Fixed Dir) (st : Live Dir) (message : Message Dir) (ended : Ended NodeStop (Live Dir)) (old new : List Line) → c.oneshot ≡ None
       → Said (on_devices (node_step c (event_of message) st)) ended old new → (added : List Line) × (new ≡ old ++ added) × AllByRecursion IsQuiet added
   node_steps_are_quiet c st message ended old new reshare said = ?
+
+-- what is known of a life behind a node's opening
+module _ {Dir : Type 0} (c : Fixed Dir) (seen : Seen) (st : Live Dir) (opened : IsNodeOpened c seen st) where
+  pub opened_live : IsLiveToday c st
+  opened_live = subst (IsLiveToday c) (sym opened.same) (alike opened.opened.live)
+    where
+      alike : IsLiveToday c opened.before → IsLiveToday c (with_orchestrator st.orchestrator opened.before)
+      alike is = record { awaits = is.awaits; undealt = is.undealt; idle = is.idle; in_round = is.in_round; without = is.without }
+
+  pub opened_unawaited : st.orchestrator.waiting ≡ None
+  opened_unawaited = opened.unawaited
+
+  pub opened_tip : st.tip ≡ startup c.source.anchor None
+  opened_tip = subst (λ (s : Live Dir). s.tip ≡ startup c.source.anchor None) (sym opened.same) opened.opened.tip

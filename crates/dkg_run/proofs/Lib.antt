@@ -2,6 +2,7 @@ pub mod Asked
 pub mod Early
 pub mod Ended
 pub mod Entering
+pub mod Faulted
 pub mod Faults
 pub mod Fresh
 pub mod Going

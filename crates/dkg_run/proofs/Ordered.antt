@@ -146,13 +146,21 @@ step_is_quiet g j (event.Final number) st ended out now said = of_block (slice_g
     of_block (Some b) said = adds_quiet out now (node_steps_are_quiet (at_step g j) st (Finalized b) ended out now (at_oneshot g j) said)
 step_is_quiet g j other st ended out now said = said_none st ended out now said
 
--- EVENTS, those from number i on
+-- WHAT IS LEFT of a list
 
-rest_of : (all : List Event) (i : ℕ) (its : Event) (events : List Event) → its ∷ events ≡ drop i all → events ≡ drop (suc i) all
-rest_of [] zero its events is = absurd (let wrong : its ∷ events ≡ [] = is in cc)
-rest_of [] (suc i) its events is = absurd (let wrong : its ∷ events ≡ [] = is in cc)
-rest_of (x ∷ all) zero its events is = let so : its ∷ events ≡ x ∷ all = is in cc
-rest_of (x ∷ all) (suc i) its events is = rest_of all i its events is
+pub rest_at : {A : Type 0} (all : List A) (i : ℕ) (its : A) (more : List A) → its ∷ more ≡ drop i all → more ≡ drop (suc i) all
+rest_at [] zero its more is = absurd (let wrong : its ∷ more ≡ [] = is in cc)
+rest_at [] (suc i) its more is = absurd (let wrong : its ∷ more ≡ [] = is in cc)
+rest_at (x ∷ all) zero its more is = let so : its ∷ more ≡ x ∷ all = is in cc
+rest_at (x ∷ all) (suc i) its more is = rest_at all i its more is
+
+pub item_at : {A : Type 0} (all : List A) (i : ℕ) (its : A) (more : List A) → its ∷ more ≡ drop i all → slice_get all i ≡ Some its
+item_at [] zero its more is = absurd (let wrong : its ∷ more ≡ [] = is in cc)
+item_at [] (suc i) its more is = absurd (let wrong : its ∷ more ≡ [] = is in cc)
+item_at (x ∷ all) zero its more is = let so : its ∷ more ≡ x ∷ all = is in cc
+item_at (x ∷ all) (suc i) its more is = item_at all i its more is
+
+-- EVENTS, those from number i on
 
 pub takes_in_order : (g : Lived) (i : ℕ) (events : List Event) (st : Live directory.Unit) (t new : Trace) (how : Result (Unit {0}) Stop) → i ≤ length g.life.events → events ≡ drop i g.life.events
     → TakesAll by_lines g (i + 1) events st t how new → Moves IsInOrder (IsBehind g.life g.number i) (EndsIn g.life g.number how) t.out new.out
@@ -167,7 +175,7 @@ takes_in_order g i (its ∷ events) st t new how within rest takes =
     (moves_none IsInOrder (IsBehind g.life g.number i) (IsBefore g.life g.number (i + 1)) t.out t.out refl (λ s p at. at.next below))
     (steps_in_order g.life g.number (i + 1) (step_of g (i + 1) its st) (omega arith) (step_is_quiet g (i + 1) its st) (fuse_for g.life.cut (i + 1)) refl t new how
     (λ end mid. TakesAll by_lines g (i + 1 + 1) events end mid how new)
-    (λ end mid so. takes_in_order g (i + 1) events end mid new how (omega (arith, below)) (subst (λ (k : ℕ). events ≡ drop k g.life.events) (sym (add-one i)) (rest_of g.life.events i its events rest)) so) takes)
+    (λ end mid so. takes_in_order g (i + 1) events end mid new how (omega (arith, below)) (subst (λ (k : ℕ). events ≡ drop k g.life.events) (sym (add-one i)) (rest_at g.life.events i its events rest)) so) takes)
   where
     below : i < length g.life.events
     below = let some : suc (length events) ≡ length g.life.events - i = ap length rest ∙ length-drop i g.life.events in omega (arith, some)
@@ -276,18 +284,6 @@ module _ (script : Script) where
       below : l < length script.lives
       below = let some : suc (length lives) ≡ length script.lives - l = ap length rest ∙ length-drop l script.lives in omega (arith, some)
 
-      rest_at : (all : List Life) (i : ℕ) (its : Life) (lives : List Life) → its ∷ lives ≡ drop i all → lives ≡ drop (suc i) all
-      rest_at [] zero its lives is = absurd (let wrong : its ∷ lives ≡ [] = is in cc)
-      rest_at [] (suc i) its lives is = absurd (let wrong : its ∷ lives ≡ [] = is in cc)
-      rest_at (x ∷ all) zero its lives is = let so : its ∷ lives ≡ x ∷ all = is in cc
-      rest_at (x ∷ all) (suc i) its lives is = rest_at all i its lives is
-
-      item_at : (all : List Life) (i : ℕ) (its : Life) (lives : List Life) → its ∷ lives ≡ drop i all → slice_get all i ≡ Some its
-      item_at [] zero its lives is = absurd (let wrong : its ∷ lives ≡ [] = is in cc)
-      item_at [] (suc i) its lives is = absurd (let wrong : its ∷ lives ≡ [] = is in cc)
-      item_at (x ∷ all) zero its lives is = let so : its ∷ lives ≡ x ∷ all = is in cc
-      item_at (x ∷ all) (suc i) its lives is = item_at all i its lives is
-
       at : slice_get script.lives l ≡ Some life
       at = item_at script.lives l life lives rest
 
@@ -299,7 +295,7 @@ module _ (script : Script) where
 
 -- THE CLAUSES of order
 
-tells_fault : (its answered : Fault) (mid new : Trace) → TellsEnd by_lines (Err its) (Err answered) mid new → TellsFault its answered mid.out new.out
+pub tells_fault : (its answered : Fault) (mid new : Trace) → TellsEnd by_lines (Err its) (Err answered) mid new → TellsFault its answered mid.out new.out
 tells_fault its answered mid new (inl wants) = inl (the_fault wants.0, ap (λ (x : Trace). x.out) wants.1)
   where
     the_fault : {a b : Fault} → ◌≡◌ {A = Result (Unit {0}) Fault} (Err a) (Err b) → a ≡ b
