@@ -1,6 +1,6 @@
 -- A run is ended only by faults that can be told, or by want of memory, whatever the devices tell.
 use Rattle.std.proofs.Common.{◌≡◌, ◌≢◌, ◌⊎◌, inl, inr, ℕ, zero, suc, ◌+◌, ◌++◌, ◌<◌, ◌≤◌, List, [], ◌∷◌, drop, length, Option, Some, None, Result, Ok, Err, append_assoc, refl, sym, ◌∙◌, ap, subst, add-one, arith}
-use Rattle.std.specs.Prelude.{IsSomeAnd, slice_get}
+use Rattle.std.specs.Prelude.{IfErr, IsSomeAnd, slice_get}
 use Rattle.dkg_journal.specs.Burn.{Burn}
 use Rattle.dkg_journal.specs.Names.{Files}
 use Rattle.dkg_types.specs.declared.directory.Unit as directory
@@ -182,10 +182,33 @@ ends_faulted its entries disk_rose secrets_rose not ends cause = (ends, cause)
 
 pub run_ends : (script : Script) (form : IsFormOfToday script) (first : Files → Type 0) (t new : Trace) (answered : Result (Unit {0}) Fault) (disk_rose secrets_rose : Type 0)
     → IfErr answered (λ its. HasCause its disk_rose secrets_rose) → RunsSo by_lines script first t answered new → Adds t.out new.out (λ added. EndsRun answered added disk_rose secrets_rose)
-run_ends script form first t new answered disk_rose secrets_rose causes run = by_result run.result (all_in_order script first t run.mid run.result run.lives) (λ its is. all_tell script form its first t run.mid (subst (λ (r : Result (Unit {0}) Fault). RunsAllSo by_lines script first t r run.mid) is run.lives)) answered causes run.told
+run_ends script form first t new answered disk_rose secrets_rose causes run =
+    by_result run.result (all_in_order script first t run.mid run.result run.lives) (tellable run.result run.lives) answered causes run.told
   where
-    by_result : (result : Result (Unit {0}) Fault) → Moves IsInOrder (IsBetweenOf script 0) (RunEndsIn script result) t.out run.mid.out → ((its : Fault) → run.result ≡ Err its → IsTellable its)
+    tellable : (result : Result (Unit {0}) Fault) → RunsAllSo by_lines script first t result run.mid → IfErr result IsTellable
+    tellable (Ok done) lives = tt
+    tellable (Err its) lives = all_tell script form its first t run.mid lives
+
+    not_ok : (its : Fault) → TellsEnd by_lines (Err its) (Ok tt) run.mid new → ⊥
+    not_ok its (inl wants) = let wrong : ◌≡◌ {A = Result (Unit {0}) Fault} (Ok tt) (Err fault.NoMemory) = wants.0 in cc
+    not_ok its (inr told) = let wrong : ◌≡◌ {A = Result (Unit {0}) Fault} (Ok tt) (Err its) = told.0 in cc
+
+    faulted : (its answered : Fault) → Moves IsInOrder (IsBetweenOf script 0) (MayTell its) t.out run.mid.out → IsTellable its → HasCause answered disk_rose secrets_rose
+        → TellsFault its answered run.mid.out new.out → Adds t.out new.out (λ added. EndsFaulted answered added disk_rose secrets_rose)
+    faulted its answered moves tells cause (inl none) =
+        (moves.added, none.1 ∙ moves.parts, subst (λ (x : Fault). EndsFaulted x moves.added disk_rose secrets_rose) (sym none.0) moves.no_fault)
+    faulted its answered moves tells cause (inr told) = (
+      moves.added ++ entry.Fault its ∷ [],
+      told.2 ∙ ap (λ (xs : List Entry). xs ++ entry.Fault its ∷ []) moves.parts ∙ append_assoc t.out moves.added (entry.Fault its ∷ []),
+      subst (λ (x : Fault). EndsFaulted x (moves.added ++ entry.Fault its ∷ []) disk_rose secrets_rose) (sym told.0)
+        (ends_faulted its (moves.added ++ entry.Fault its ∷ []) disk_rose secrets_rose told.1 (record { before = moves.added; last = refl; only = moves.no_fault })
+        (has_risen its disk_rose secrets_rose told.1 tells (subst (λ (x : Fault). HasCause x disk_rose secrets_rose) told.0 cause))),
+    )
+
+    by_result : (result : Result (Unit {0}) Fault) → Moves IsInOrder (IsBetweenOf script 0) (RunEndsIn script result) t.out run.mid.out → IfErr result IsTellable
         → (answered : Result (Unit {0}) Fault) → IfErr answered (λ its. HasCause its disk_rose secrets_rose) → TellsEnd by_lines result answered run.mid new
         → Adds t.out new.out (λ added. EndsRun answered added disk_rose secrets_rose)
-    by_result (Ok done) moves tells answered causes told = ?
-    by_result (Err its) moves tells answered causes told = ?
+    by_result (Ok done) moves tells answered causes told =
+        (moves.added, ap (λ (x : Trace). x.out) told.1 ∙ moves.parts, subst (λ (r : Result (Unit {0}) Fault). EndsRun r moves.added disk_rose secrets_rose) (sym told.0) moves.no_fault)
+    by_result (Err its) moves tells (Ok done) causes told = absurd (not_ok its told)
+    by_result (Err its) moves tells (Err answered) causes told = faulted its answered moves tells causes (tells_fault its answered run.mid new told)
