@@ -1,4 +1,4 @@
-use Rattle.std.proofs.Common.{◌∙◌, ◌/◌, ℕ, ap, sym}
+use Rattle.std.proofs.Common.{◌∙◌, ◌/◌, ℕ, ap, sym, arith}
 use Rattle.dkg_script.proofs.Formed.{lives_form}
 use Rattle.dkg_script.proofs.built.is_built.Goals as goal
 
