@@ -1,0 +1,30 @@
+-- An actor's state behind a call.
+use Rattle.std.proofs.Common.{◌≡◌, Result, Ok, Err, refl, subst}
+use Rattle.std.specs.Prelude.{IfErr}
+use Rattle.dkg_reshare.specs.declared.actor.State.{State}
+use Rattle.dkg_reshare.specs.declared.actor.State.TheVariants.{New, Living, Failed as HadFailed}
+use Rattle.dkg_reshare.specs.declared.life.Life.{Life}
+use Rattle.dkg_reshare.specs.declared.stop.Stop.{Stop}
+use Rattle.dkg_reshare.specs.declared.stop.Stop.TheVariants.{Fault as Faulted, Cut, Failed}
+use Rattle.dkg_types.specs.declared.fault.Fault.TheVariants as fault
+use Rattle.dkg_reshare.specs.Actors.{EndsAt, HasFailed, IfLiving, IsNew}
+use Rattle.dkg_reshare.specs.Ends.{IsCaused, IsCausedInStep}
+
+module _ {Dir : Type 0} where
+  pub not_living : (state : State Dir) → ((life : Life Dir) → state ≡ Living life → ⊥) → (P : Life Dir → Type 0) → IfLiving state P
+  not_living New apart P = tt
+  not_living (Living life) apart P = absurd (apart life refl)
+  not_living HadFailed apart P = tt
+
+  pub has_failed : (state : State Dir) → (IsNew state → ⊥) → ((life : Life Dir) → state ≡ Living life → ⊥) → HasFailed state
+  has_failed New old apart = absurd (old tt)
+  has_failed (Living life) old apart = absurd (apart life refl)
+  has_failed HadFailed old apart = tt
+
+  pub failed_ends : (state : State Dir) (stop : Stop) (P : Life Dir → Type 0) → HasFailed state → EndsAt state (Err stop) P
+  failed_ends New stop P is = is
+  failed_ends (Living life) stop P is = is
+  failed_ends HadFailed stop P is = is
+
+pub never_failed : (stop : Stop) (P Q : Type 0) → IsCaused stop P Q → stop ≡ Failed → ⊥
+never_failed stop P Q is e = let R : Stop → Type 0 = λ s. IsCaused s P Q in subst R e is

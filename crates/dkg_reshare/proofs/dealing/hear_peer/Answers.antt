@@ -1,0 +1,25 @@
+use Rattle.std.proofs.Common.{Some, refl, sym, ap, ◌∙◌}
+use Rattle.dkg_types.specs.declared.message.Message.{Message as Channel}
+use Rattle.std.proofs.lemmas.Result.{err_from_is_err_and}
+use Rattle.dkg_store.specs.Acts.{by_want}
+use Rattle.dkg_store.specs.declared.call.StoreError.TheVariants.{NoMemory as Wanting}
+use Rattle.dkg_store.proofs.Acts.{made_none}
+use Rattle.dkg_reshare.proofs.Read.{dealing_heard}
+use Rattle.dkg_reshare.proofs.Said.{said_none}
+use Rattle.dkg_reshare.proofs.dealing.hear_peer.Goals as goal
+
+pub returns-in_err-public-clause-acts : goal.returns-in_err-public-clause-acts
+returns-in_err-public-clause-acts g c = λ disk secrets fixed beside fence of by.
+    let p = err_from_is_err_and c.from_residual.result c.from_residual.ensures.1 in
+    rw (p.1, p.2) (made_none _ _ _ _ by_want tt refl)
+
+pub returns-in_err-public-clause-tells : goal.returns-in_err-public-clause-tells
+returns-in_err-public-clause-tells g c = λ fixed beside fence of by.
+    let p = err_from_is_err_and c.from_residual.result c.from_residual.ensures.1 in
+    rw (p.1, p.2) (said_none _ Wanting tt refl)
+
+pub returns-in-Some-Dealer-clause-acts : goal.returns-in-Some-Dealer-clause-acts
+returns-in-Some-Dealer-clause-acts g c = λ disk secrets fixed beside fence of by.
+    dealing_heard fixed c.args.from c.args.bytes.now beside fence c.args.life.now c.in-Some.epoch (sym c.in-Some.ensures) c.in-Some-Dealer.public c.in-Some-Dealer.private c.get.result
+    (of.limit ∙ sym c.get.ensures.value) (sym c.in_ok-public.ensures.read ∙ c.in-Some-Dealer.is ∙ ap (λ (m : Channel). Some m) c.in-Some-Dealer.field-0-is)
+    (λ round has. c.hear_dealing.ensures.acts disk secrets fixed round beside fence of by has)
