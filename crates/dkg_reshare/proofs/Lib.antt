@@ -3,6 +3,7 @@ pub mod Caused
 pub mod Chained
 pub mod Drawing
 pub mod Ending
+pub mod Giving
 pub mod Handed
 pub mod Heard
 pub mod Hearing
@@ -10,6 +11,7 @@ pub mod Judging
 pub mod Kept
 pub mod Lines
 pub mod Making
+pub mod Placing
 pub mod Read
 pub mod Reading
 pub mod Said
