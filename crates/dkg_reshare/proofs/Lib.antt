@@ -11,6 +11,7 @@ pub mod Judging
 pub mod Kept
 pub mod Lines
 pub mod Making
+pub mod Opening
 pub mod Placing
 pub mod Read
 pub mod Reading
