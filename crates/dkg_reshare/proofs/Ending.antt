@@ -26,5 +26,5 @@ module _ {Dir : Type 0} where
   failed_ends (Living life) stop P is = is
   failed_ends HadFailed stop P is = is
 
-pub never_failed : (stop : Stop) (P Q : Type 0) → IsCaused stop P Q → stop ≡ Failed → ⊥
-never_failed stop P Q is e = let R : Stop → Type 0 = λ s. IsCaused s P Q in subst R e is
+pub never_failed : (stop : Stop) (P Q T : Type 0) → IsCaused stop P Q T → stop ≡ Failed → ⊥
+never_failed stop P Q T is e = let R : Stop → Type 0 = λ s. IsCaused s P Q T in subst R e is

@@ -1,4 +1,5 @@
 pub mod Beginning
+pub mod Burning
 pub mod Caused
 pub mod Chained
 pub mod Drawing

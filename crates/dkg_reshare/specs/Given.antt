@@ -1,5 +1,12 @@
 -- Which Fixed a call is of: that of the terms, of the life that was opened, and of the source that it is lent.
-use Rattle.std.specs.Prelude.{◌≡◌, ℕ, [], None}
+use Rattle.std.specs.Prelude.{◌≡◌, ◌≤◌, ℕ, List, [], None}
+use Rattle.std.specs.FinMap.{find, get}
+use Rattle.dkg_journal.specs.Names.{Files}
+use Rattle.dkg_journal.specs.Records.{entries}
+use Rattle.dkg_store.specs.Keys.{key_cmp}
+use Rattle.dkg_store.specs.Pairs.{recovered}
+use Rattle.dkg_store.specs.Recorded.{Pair}
+use Rattle.dkg_store.specs.Secrets.{Secrets}
 use Rattle.std.specs.Int.NonZero.{non_zero_u32_get, non_zero_u64_get}
 use Rattle.dkg_store.specs.Acts.{Held}
 use Rattle.dkg_core.specs.Fixed.{Fixed}
@@ -36,9 +43,14 @@ ReadsToday c = c.seen ≡ seen_today
 abbrev pub reading : {Dir : Type 0} → Seen → Fixed Dir → Fixed Dir
 reading s c = record c { seen = λ h. s }
 
--- Something was read, whatever the devices tell: neither a share nor a plan.
-pub record HasRead (P : Seen → Type 0) : Type 0 where
+-- Of this epoch and later ones the dealings are those that whatever a crash leaves gives back.
+abbrev pub AreGivenFrom : (min : ℕ) → List Pair → (image : Files → Type 0) → Secrets → Type 0
+AreGivenFrom min dealings image held = (c : Files) → image c → (key : ℕ × ℕ) → min ≤ key.0 → find key_cmp key dealings ≡ get (recovered (entries c) held) key
+
+-- Something was read, whatever the devices tell, and it is so given: neither a share nor a plan.
+pub record HasRead (Given P : Seen → Type 0) : Type 0 where
   pub seen : Seen
   pub shareless : seen.shares ≡ []
   pub unplanned : seen.plan ≡ None
+  pub given : Given seen
   pub so : P seen

@@ -1,5 +1,5 @@
 -- What an actor has in memory, as the relation's Live.
-use Rattle.std.specs.Prelude.{ℕ, false, ◌∷◌, List, ◌≡◌, ◌≤◌, ◌+◌, Contains, Option, Some, None, IfSome, IsSomeAnd}
+use Rattle.std.specs.Prelude.{ℕ, Bool, false, ◌∷◌, ◌++◌, reverse, IsTrue, List, ◌≡◌, ◌≤◌, ◌+◌, Contains, Option, Some, None, IfSome, IsSomeAnd}
 use Rattle.std.specs.FinMap as maps
 use Rattle.dkg_ceremony.specs.declared.round.Round.{Round}
 use Rattle.std.specs.Option.{option_map_or}
@@ -97,9 +97,16 @@ scheme_by me info = (info.epoch, scheme_of me info.output.players info.output.sh
 abbrev pub with_scheme_of : {Dir : Type 0} → (me : ℕ) → EpochInfo Dir → Beside Dir → Beside Dir
 with_scheme_of me info beside = with_scheme info.epoch (scheme_of me info.output.players info.output.sharing None) beside
 
--- What is not the actor's is as it was, but for schemes that were registered.
-pub record EndsBeside {Dir : Type 0} (old : Beside Dir) (P : Beside Dir → Type 0) : Type 0 where
+-- Where the registrar tells, it took these schemes, of which the last to come is the first here.
+abbrev pub Took : Bool → (old new schemes : List (ℕ × SchemeInfo)) → Type 0
+Took tells old new schemes = IsTrue tells → new ≡ old ++ reverse schemes
+
+-- What is not the actor's is as it was, but for schemes that were registered, and the registrar took just these.
+pub record EndsBeside {Dir : Type 0} (old : Beside Dir) (TookThese : List (ℕ × SchemeInfo) → Type 0) (P : Beside Dir → Type 0) : Type 0 where
   pub now : Beside Dir
+  pub more : List (ℕ × SchemeInfo)
+  pub schemes : now.orchestrator.schemes ≡ more ++ old.orchestrator.schemes
+  pub took : TookThese more
   pub probe : now.probe ≡ old.probe
   pub orchestrator : now.orchestrator ≡ record old.orchestrator { schemes = now.orchestrator.schemes }
   pub holds : P now
