@@ -4,8 +4,7 @@ use Rattle.std.specs.Prelude.{map, ◌==◌, option_and_then, if◌then◌else�
 use Rattle.std.specs.Option.{option_map_or}
 use Rattle.std.specs.FinMap as maps
 use Rattle.dkg_ceremony.specs.Schedule.{boundary}
-use Rattle.dkg_types.specs.Blocks.{Block}
-use Rattle.dkg_types.specs.BlockCodes.{info_of}
+use Rattle.dkg_fence.specs.Readiness.{Readiness}
 use Rattle.dkg_types.specs.declared.entry.Entry.TheVariants.{Opened}
 use Rattle.dkg_types.specs.declared.fault.Fault.{Fault}
 use Rattle.dkg_types.specs.declared.fault.Fault.TheVariants.{HeightRange}
@@ -13,11 +12,11 @@ use Rattle.dkg_types.specs.declared.info.EpochInfo.{EpochInfo}
 use Rattle.dkg_store.specs.Acts as acts_of
 use Rattle.dkg_store.specs.Acts.{Acts, Held}
 use Rattle.dkg_store.specs.Calls as calls_of
-use Rattle.dkg_store.specs.Calls.{given_back}
 use Rattle.dkg_store.specs.Noted.{Notes}
 use Rattle.dkg_store.specs.Pairs.{Pairs}
 use Rattle.dkg_store.specs.Recorded.{restored_list}
 use Rattle.dkg_store.specs.declared.recorded_log.RecordedLog.{RecordedLog}
+use Rattle.dkg_store.specs.declared.store.Store.{Store}
 use Rattle.dkg_core.specs.Core.{opens_in, opening, no_inclusion, no_orchestrator, no_participation, no_probe}
 use Rattle.dkg_core.specs.Courses.{Course, Ask, Stops, bind, on_devices}
 use Rattle.dkg_core.specs.Fixed.{Fixed, Material, OneShot, start}
@@ -25,9 +24,12 @@ use Rattle.dkg_core.specs.Live.{Live, Records, awaited_height}
 use Rattle.dkg_core.specs.Plans as plans
 use Rattle.dkg_core.specs.Setup as setup
 use Rattle.dkg_core.specs.Seen.{Seen}
-use Rattle.dkg_core.specs.Sources.{Tip, startup}
+use Rattle.dkg_core.specs.Sources.{Source, Tip, startup}
+use Rattle.dkg_reshare.specs.declared.life.Life.{Life}
+use Rattle.dkg_reshare.specs.declared.life.Stage.TheVariants.{Following}
 use Rattle.dkg_reshare.specs.Ends.{fault_of}
-use Rattle.dkg_reshare.specs.Opened.{opens_store}
+use Rattle.dkg_reshare.specs.LiveOf.{live_of, no_fence, nothing_beside, records_of}
+use Rattle.dkg_reshare.specs.Opened.{opens_store, startup_of}
 use Rattle.dkg_reshare.specs.Today.{seen_today}
 
 -- THE STORE
@@ -76,6 +78,18 @@ module _ {Dir : Type 0} (c : Fixed Dir) (reshare : c.oneshot ≡ None) (bare : c
   opening_as =
       ap (λ (o : Option (OneShot Dir)). bind (opens_store c.seen c.life c.opening_calls) (λ r. opens_in c o (begun_by r))) reshare
       ∙ (λ i. bind (opens_store c.seen c.life c.opening_calls) (λ r. resharing r i))
+
+-- what is in memory as the setup begins
+pub begun_live : {Dir : Type 0} (c : Fixed Dir) (source : Source Dir) → c.source ≡ source → (fence : Readiness) → fence ≡ no_fence → (store : Store Dir) → store.current ≡ None → (life : Life Dir)
+    → life ≡ record { store = store; tip = startup_of source; epoch = 0; midpoint = 0; stage = Following; round = None; player = None }
+    → live_of nothing_beside fence life ≡ begun_at c (records_of store)
+begun_live {Dir} c source lent fence fresh store current life is =
+    ap (λ (l : Life Dir). live_of nothing_beside fence l) is
+    ∙ (λ i. record (begun_by (records_of store)) {
+      tip = startup_of (sym lent i);
+      participation = record no_participation { current = current i };
+      orchestrator = record no_orchestrator { fence = fresh i };
+    })
 
 -- A SETUP, where no info is committed
 

@@ -1,0 +1,183 @@
+-- The opening of a store, and the setup behind it: made, said, and what is blamed.
+use Rattle.std.proofs.Common.{◌≡◌, ◌⊎◌, inl, inr, ℕ, ◌+◌, ◌-◌, ◌<◌, ◌≤◌, Bool, List, [], ◌∷◌, ◌++◌, drop, length, map, Option, Some, None, Result, Ok, Err, refl, sym, ◌∙◌, ap, subst}
+use Rattle.std.specs.Prelude.{IsTrue, OnOk, OnErr, if◌then◌else◌, ◌==◌}
+use Rattle.std.specs.FinMap as maps
+use Rattle.std.specs.FinMap.{find, get, get-entries}
+use Rattle.dkg_values.specs.declared.name.Name.{Name}
+use Rattle.dkg_fence.specs.Readiness.{Readiness}
+use Rattle.dkg_journal.specs.Burn.{Burn}
+use Rattle.dkg_journal.specs.DeviceCall.{DeviceCall}
+use Rattle.dkg_journal.specs.Fuse.{Ran, RanAll, calls_in}
+use Rattle.dkg_journal.specs.Gated.{gated, gated_behind}
+use Rattle.dkg_journal.specs.Names.{Files}
+use Rattle.dkg_journal.specs.Opening.{broken, open_calls}
+use Rattle.dkg_journal.specs.Records.{Entry, entries}
+use Rattle.dkg_journal.specs.Views.{views}
+use Rattle.dkg_journal.specs.declared.disk.Op.{Op}
+use Rattle.dkg_journal.specs.declared.opening.JournalEntry.{JournalEntry}
+use Rattle.dkg_types.specs.declared.entry.Entry.{Entry as Line}
+use Rattle.dkg_types.specs.declared.entry.Entry.TheVariants.{Opened}
+use Rattle.dkg_types.specs.declared.fault.Fault.{Fault}
+use Rattle.dkg_types.specs.declared.fault.Fault.TheVariants as fault
+use Rattle.dkg_store.specs.Acts as acts_of
+use Rattle.dkg_store.specs.Acts.{Acts, Ended, Held, Moment, Runs, World, broken as broken_by, stopped, went}
+use Rattle.dkg_store.specs.Both.{Call, MadeBoth, on_disk}
+use Rattle.dkg_store.specs.Corrupt.{AreEvents, HasNoEvent, IsCorruptAt}
+use Rattle.dkg_store.specs.Errors.{IsOfDevices, IsOfOpening, IsOfPruning}
+use Rattle.dkg_store.specs.Events.{no_event_at}
+use Rattle.dkg_store.specs.Keys.{key_cmp}
+use Rattle.dkg_store.specs.Pairs.{Pairs, recovered}
+use Rattle.dkg_store.specs.Recorded.{restored_of}
+use Rattle.dkg_store.specs.Secrets.{Secrets}
+use Rattle.dkg_store.specs.declared.call.StoreError.{StoreError}
+use Rattle.dkg_store.specs.declared.call.StoreError.TheVariants.{Disk, Secrets as SecretsFailed, Corrupt, LocalState, StateSyncEpochs, StateSyncMaterial, Cut as StoreCut, NoMemory}
+use Rattle.dkg_store.specs.declared.secrets.SecretOp.{SecretOp}
+use Rattle.dkg_store.specs.declared.store.Store.{Store}
+use Rattle.dkg_store.proofs.Both.{burned-map, disk_calls-map, secret_calls-map}
+use Rattle.dkg_store.proofs.OpeningActs.{no_other, no_place, not_corrupt}
+use Rattle.dkg_core.specs.Courses.{Course, Ask, on_devices}
+use Rattle.dkg_core.specs.Said.{Said, SaysBy}
+use Rattle.dkg_core.specs.Seen.{Seen}
+use Rattle.dkg_reshare.specs.declared.stop.Stop.{Stop}
+use Rattle.dkg_reshare.specs.declared.stop.Stop.TheVariants.{Fault as Faulted, Cut, Failed}
+use Rattle.dkg_reshare.specs.Actors.{IsFoundAt}
+use Rattle.dkg_reshare.specs.Ends.{IsCausedBy, by_stop, stop_of}
+use Rattle.dkg_reshare.specs.Given.{AreGivenFrom}
+use Rattle.dkg_reshare.specs.LiveOf.{records_of}
+use Rattle.dkg_reshare.specs.Made.{MakesAt, Tells}
+use Rattle.dkg_reshare.specs.Opened.{IsInGrammar, opens_store}
+use Rattle.dkg_reshare.proofs.Said.{none_first, nothing_held}
+
+-- A JOURNAL IN ITS GRAMMAR
+
+-- an entry again, without the place of its gate
+abbrev bare : Entry → Entry
+bare e = (e.0, drop 1 e.1)
+
+bare_behind : (section place : ℕ) (es : List Entry) → map bare (gated_behind section place es) ≡ es
+bare_behind section place [] = refl
+bare_behind section place (e ∷ es) = let at = if e.0 == section then place else 0 in ap (λ (l : List Entry). e ∷ l) (bare_behind e.0 (at + (5 + length e.1)) es)
+
+bare_views : (es : List JournalEntry) → map bare (map gated es) ≡ views es
+bare_views [] = refl
+bare_views (e ∷ es) = ap (λ (l : List Entry). (e.section, e.body) ∷ l) (bare_views es)
+
+-- no record of it is corrupt
+uncorrupt : (limit : ℕ) (files : Files) (name : Name) (place : ℕ) → IsInGrammar limit files → IsCorruptAt limit files name place → ⊥
+uncorrupt limit files name place grammar at = by_cause at.so
+  where
+    by_cause : (broken files ≡ Some (name, place)) ⊎ ((broken files ≡ None) × HasNoEvent limit files name place) → ⊥
+    by_cause (inl torn) = no_place (broken files) (name, place) torn grammar.whole
+    by_cause (inr other) =
+        let same : views other.1.read ≡ entries files = sym (bare_views other.1.read) ∙ ap (map bare) other.1.are ∙ bare_behind 0 0 (entries files) in
+        no_place (no_event_at limit other.1.read) (name, place) other.1.first (no_other limit other.1.read (subst (AreEvents limit) (sym same) grammar.events))
+
+-- so its opening ends by a device, a cut or want of memory
+pub opens_by_devices : (limit : ℕ) (files : Files) → IsInGrammar limit files → (e : StoreError) → IsOfOpening e → ((name : Name) (place : ℕ) → e ≡ Corrupt name place → IsCorruptAt limit files name place) → IsOfDevices e
+opens_by_devices limit files grammar e kind corrupt = not_corrupt e kind (λ name place is. uncorrupt limit files name place grammar (corrupt name place is))
+
+-- AN OPENING THAT FAILED
+
+pub pruning_of_opening : (e : StoreError) → IsOfOpening e → IsOfPruning e
+pruning_of_opening Disk is = tt
+pruning_of_opening SecretsFailed is = tt
+pruning_of_opening (Corrupt name place) is = tt
+pruning_of_opening (LocalState cause) is = is
+pruning_of_opening (StateSyncEpochs info floor) is = is
+pruning_of_opening StateSyncMaterial is = is
+pruning_of_opening StoreCut is = tt
+pruning_of_opening NoMemory is = tt
+
+-- what it blames
+pub opening_found : (limit : ℕ) (tells : Bool) (files : Files) (e : StoreError) → IsOfOpening e → {disk secrets reached : Type 0} → (e ≡ Disk → disk) → (e ≡ SecretsFailed → secrets) → (e ≡ StoreCut → reached)
+    → ((name : Name) (place : ℕ) → e ≡ Corrupt name place → IsTrue tells → IsCorruptAt limit files name place) → IsFoundAt limit tells files (stop_of e) disk secrets reached
+opening_found limit tells files Disk is of_disk of_secrets of_cut found = of_disk refl
+opening_found limit tells files SecretsFailed is of_disk of_secrets of_cut found = of_secrets refl
+opening_found limit tells files (Corrupt name place) is of_disk of_secrets of_cut found = found name place refl
+opening_found limit tells files (LocalState cause) is of_disk of_secrets of_cut found = absurd is
+opening_found limit tells files (StateSyncEpochs info floor) is of_disk of_secrets of_cut found = absurd is
+opening_found limit tells files StateSyncMaterial is of_disk of_secrets of_cut found = absurd is
+opening_found limit tells files StoreCut is of_disk of_secrets of_cut found = λ told. of_cut refl
+opening_found limit tells files NoMemory is of_disk of_secrets of_cut found = tt
+
+-- what a setup behind it blames is blamed of both
+module _ (limit : ℕ) (tells : Bool) (files : Files) {disk secrets reached disk_around secrets_around reached_around : Type 0}
+    (of_disk : disk → disk_around) (of_secrets : secrets → secrets_around) (of_cut : IsTrue tells → reached → reached_around)
+  where
+    pub found_around : (stop : Stop) → IsCausedBy tells stop disk secrets reached → IsFoundAt limit tells files stop disk_around secrets_around reached_around
+    found_around (Faulted fault.NoMemory) is = tt
+    found_around (Faulted fault.Disk) is = of_disk is
+    found_around (Faulted fault.Secrets) is = of_secrets is
+    found_around (Faulted (fault.Corrupt x y)) is = λ told. absurd (is told)
+    found_around (Faulted (fault.InvalidConfig x)) is = tt
+    found_around (Faulted (fault.StateSyncEpochs x y)) is = tt
+    found_around (Faulted fault.StateSyncMaterial) is = tt
+    found_around (Faulted (fault.ConflictingBlock x)) is = tt
+    found_around (Faulted (fault.DetachedBlock x)) is = tt
+    found_around (Faulted (fault.SkippedHeight x y)) is = tt
+    found_around (Faulted (fault.OutOfWindow x)) is = tt
+    found_around (Faulted fault.HeightRange) is = tt
+    found_around (Faulted (fault.MissingEpochInfo x)) is = tt
+    found_around (Faulted (fault.WrongEpoch x y)) is = tt
+    found_around (Faulted (fault.InvalidParticipants x)) is = tt
+    found_around (Faulted (fault.DirectoryMismatch x)) is = tt
+    found_around (Faulted (fault.LocalState x)) is = tt
+    found_around (Faulted fault.FinalBlockMissing) is = tt
+    found_around (Faulted fault.FloorBlockMissing) is = tt
+    found_around Cut is = λ told. of_cut told (is told)
+    found_around Failed is = absurd is
+
+-- ITS CALLS: the disk's alone
+
+module _ {D X : Type 0} (disk : D → D → List (DeviceCall Op) → Type 0) (secrets : X → X → List (DeviceCall SecretOp) → Type 0) where
+  pub disk_alone : {a b : D} {x y : X} {f g : Burn} {calls : List Op} → Ran disk a b f g calls → secrets x y [] → (all : List Call) × RanAll (MadeBoth disk secrets) (a, x) (b, y) f g all
+  disk_alone {a} {b} {x} {y} {f} ran none = (map on_disk ran.first, record {
+    each = record {
+      on_the_disk = subst (λ (l : List (DeviceCall Op)). disk a b l) (sym (disk_calls-map ran.first f)) ran.all.each;
+      on_the_secrets = subst (λ (l : List (DeviceCall SecretOp)). secrets x y l) (sym (secret_calls-map ran.first f)) none;
+    };
+    fuse = ran.all.fuse ∙ sym (burned-map ran.first f);
+  })
+
+-- WHAT WAS READ
+
+-- nothing
+abbrev pub nothing_seen : Seen
+nothing_seen = record { dealings = []; acks = []; logs = []; shares = []; seeds = []; plan = None }
+
+-- what a store has
+abbrev pub seen_of : {Dir : Type 0} → Store Dir → Seen
+seen_of store = record { dealings = maps.entries store.dealings; acks = maps.entries store.acks; logs = maps.entries store.logs; shares = []; seeds = []; plan = None }
+
+-- The line says it.
+pub opened_told : {Dir : Type 0} (store : Store Dir) (life calls : ℕ) {out now : List Line} → now ≡ out ++ Opened life (map restored_of (maps.entries store.dealings)) ∷ []
+    → Tells {Dir = Dir} (opens_store (λ h. seen_of store) life calls) (went (records_of store)) out now
+opened_told store life calls told = record { lines = Opened life (map restored_of (maps.entries store.dealings)) ∷ []; added = told; by = (nothing_held, ([], refl, (refl, refl))) }
+
+pub given_back : {Dir : Type 0} (store : Store Dir) (image : Files → Type 0) (es : List Entry) (s t : Secrets) → store.dealings ≡ recovered es s → ((c : Files) → image c → entries c ≡ es) → t ≡ s
+    → AreGivenFrom 0 (seen_of store).dealings image t
+given_back store image es s t is settled same = λ c here key above.
+    sym (get-entries store.dealings key) ∙ ap (λ (m : Pairs). get m key) (is ∙ (λ i. recovered (sym (settled c here) i) (sym same i)))
+
+-- A READ that changes nothing
+
+module _ {Dir F S : Type 0} (course : Course Dir F S) where
+  runs_asked : (how : Ended F S) (w new : World) → Runs (on_devices course) how w new → Runs (on_devices (Ask {Dir = Dir} (λ h. course))) how w new
+  runs_asked (went end) w new a = a
+  runs_asked (stopped fault) w new a = a
+  runs_asked (broken_by cause) w new a = a
+
+  pub asked_makes : {how : Ended F S} {files files_now : Files} {image now : Files → Type 0} {old new : Moment} → MakesAt (on_devices course) how files image files_now now old new
+      → MakesAt (on_devices (Ask {Dir = Dir} (λ h. course))) how files image files_now now old new
+  asked_makes {how} {files} {old = old} {new = new} it = record {
+    made = record { made = λ stands c here. runs_asked how (acts_of.at old files) (acts_of.at new c) (it.made.made stands c here); stands = it.made.stands };
+    burns = it.burns;
+  }
+
+  asked_says : (how : Ended F S) (lines : List Line) → SaysBy (on_devices course) how lines → SaysBy (on_devices (Ask {Dir = Dir} (λ h. course))) how lines
+  asked_says (went end) lines by = (nothing_held, by)
+  asked_says (stopped fault) lines by = (nothing_held, by)
+  asked_says (broken_by cause) lines by = inr (nothing_held, by)
+
+  pub asked_told : (how : Ended F S) {out now : List Line} → Tells course how out now → Tells (Ask {Dir = Dir} (λ h. course)) how out now
+  asked_told how said = record { lines = said.lines; added = said.added; by = asked_says how said.lines said.by }
