@@ -425,11 +425,13 @@ pub(crate) fn set_up<
     ensures placed { OnOk result (IsPlaced (non_zero_u64_get terms.now.blocks_per_epoch) life.new) }
     ensures acts { IsTrue D.tells → IsTrue X.tells → (c : Fixed Dir) (beside : Beside Dir) → IsLent terms.now (B.answers source.now) word c
         → ReadsToday c → SeatsBy C.round_of C.dealing_of C.bears_ack_of c.rules
-        → EndsBeside beside (λ more. OnOk result (Took R.tells (R.taken registrar.old) (R.taken registrar.new) more)) (λ now. Makes D.files D.image X.held (setup.setup c None (live_of beside fence.old life.old))
-        (ends_in (live_of now fence.new life.new) result) devices.old devices.new out.old.entries out.new.entries) }
+        → EndsBeside beside (λ more. OnOk result (Took R.tells (R.taken registrar.old) (R.taken registrar.new) more))
+        (λ now. Makes D.files D.image X.held (setup.setup c None (live_of beside fence.old life.old)) (ends_in (live_of now fence.new life.new) result)
+        devices.old devices.new out.old.entries out.new.entries) }
     ensures tells { (c : Fixed Dir) (beside : Beside Dir) → IsLent terms.now (B.answers source.now) word c
         → SeatsBy C.round_of C.dealing_of C.bears_ack_of c.rules
-        → EndsBeside beside (λ more. OnOk result (Took R.tells (R.taken registrar.old) (R.taken registrar.new) more)) (λ now. Tells (setup.setup c None (live_of beside fence.old life.old)) (ends_in (live_of now fence.new life.new) result)
+        → EndsBeside beside (λ more. OnOk result (Took R.tells (R.taken registrar.old) (R.taken registrar.new) more))
+        (λ now. Tells (setup.setup c None (live_of beside fence.old life.old)) (ends_in (live_of now fence.new life.new) result)
         out.old.entries out.new.entries) }
     ensures tip { life.new.tip ≡ life.old.tip }
     ensures moved { Moved D.tells D.made X.made D.faults X.faults devices.old devices.new }

@@ -7,6 +7,7 @@ use Rattle.dkg_reshare.specs.LiveOf.{live_of}
 use Rattle.dkg_reshare.proofs.Burning.{burns_ran, ran_call, ran_pick}
 use Rattle.dkg_reshare.proofs.Calls.{moved_both}
 use Rattle.dkg_reshare.proofs.Caused.{of_pruning}
+use Rattle.dkg_reshare.proofs.Giving.{pruned_gives}
 use Rattle.dkg_reshare.proofs.Kept.{above_of}
 use Rattle.dkg_reshare.proofs.Said.{said_none}
 use Rattle.dkg_reshare.proofs.Setting.{prune_failed, prune_made, prune_said, pruned_live, pruned_records}
@@ -62,3 +63,6 @@ pub returns-in_err-prune-clause-causes : goal.returns-in_err-prune-clause-causes
 returns-in_err-prune-clause-causes g c =
     let p = err_from_is_err_and c.from_residual.result c.from_residual.ensures.1 in
     rw (p.1, p.2) (of_pruning g.D.Disk.tells c.in_err-prune.field-0.0 c.in_err-prune.ensures.kinds c.in_err-prune.ensures.of_devices c.in_err-prune.ensures.disk c.in_err-prune.ensures.secrets c.in_err-prune.ensures.cut)
+
+pub returns-clause-gives : goal.returns-clause-gives
+returns-clause-gives g c = λ told. pruned_gives c.args.min _ _ _ _ (c.in_ok-prune.ensures.left told) c.prune.ensures.crash
