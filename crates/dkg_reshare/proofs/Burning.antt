@@ -63,7 +63,7 @@ unless (went end) P p = p
 unless (stopped fault) P p = p
 unless (broken cause) P p = tt
 
-unless_so : {F S : Type 0} (how : Ended F S) {P Q : Type 0} → (P → Q) → UnlessBroken how P → UnlessBroken how Q
+pub unless_so : {F S : Type 0} (how : Ended F S) {P Q : Type 0} → (P → Q) → UnlessBroken how P → UnlessBroken how Q
 unless_so (went end) so p = so p
 unless_so (stopped fault) so p = so p
 unless_so (broken cause) so p = tt

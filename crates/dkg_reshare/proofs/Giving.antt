@@ -1,10 +1,10 @@
 -- What calls leave of the dealings that the devices give back.
-use Rattle.std.proofs.Common.{◌≡◌, ◌⊎◌, inl, inr, ℕ, ◌<◌, ◌≤◌, Bool, true, false, cond, nat_le, List, [], ◌∷◌, fold, Option, Some, None, Result, Ok, Err, refl, sym, ◌∙◌, ap, subst, arith}
-use Rattle.std.specs.FinMap.{FinMap, empty, get, get-retain_keys, retain_keys, same_map}
+use Rattle.std.proofs.Common.{◌≡◌, ◌⊎◌, inl, inr, ℕ, ◌<◌, ◌≤◌, Bool, true, cond, nat_le, List, [], ◌∷◌, fold, Option, Some, None, Result, Ok, Err, refl, sym, ◌∙◌, ap, subst, arith}
+use Rattle.std.specs.FinMap.{FinMap, empty, get, get-retain_keys, retain_keys}
 use Rattle.std.proofs.lemmas.Bool.Decides.{nat_tests}
 use Rattle.dkg_values.specs.Codec.{whole}
 use Rattle.dkg_values.specs.declared.codec.CodecError.{CodecError}
-use Rattle.dkg_journal.specs.Disk.{Follows, Lands}
+use Rattle.dkg_journal.specs.Disk.{Follows}
 use Rattle.dkg_journal.specs.Names.{Files}
 use Rattle.dkg_journal.specs.Pruning.{Leaves}
 use Rattle.dkg_journal.specs.Records.{Entry, entries, from_section}
@@ -12,35 +12,18 @@ use Rattle.dkg_journal.specs.Steps.{Keeps}
 use Rattle.dkg_store.specs.Corrupt.{AreFit}
 use Rattle.dkg_store.specs.Events.{event_at, no_limit}
 use Rattle.dkg_store.specs.Keys.{StaysOrGoes, key_cmp}
-use Rattle.dkg_store.specs.Named.{SamePlan}
-use Rattle.dkg_store.specs.Pairs.{Dealing, Holds, HoldsPruned, IsWhole, Pairs, dealing_in, dealing_of, recovered, with_dealing, with_half}
+use Rattle.dkg_store.specs.Pairs.{Dealing, IsWhole, Pairs, dealing_in, dealing_of, recovered, with_dealing, with_half}
 use Rattle.dkg_store.specs.Recorded.{Pair}
 use Rattle.dkg_store.specs.Secrets.{Secrets, Tries}
 use Rattle.dkg_store.specs.declared.event.Event.{Event}
 use Rattle.dkg_store.specs.declared.event.Event.TheVariants as events
 use Rattle.dkg_store.specs.declared.secrets.SecretOp.TheVariants.{Prune}
-use Rattle.dkg_store.proofs.Map.{below_or, exact_keys, keys_total}
+use Rattle.dkg_store.proofs.Map.{below_or, exact_keys}
 use Rattle.dkg_store.proofs.Pruned.{recovered_from}
 use Rattle.dkg_reshare.specs.Given.{AreGivenFrom}
-use Rattle.dkg_reshare.specs.Moved.{GivesFrom, StaysAbove, StaysFrom, StaysGiven, StaysWhole}
+use Rattle.dkg_reshare.specs.Moved.{StaysAbove, StaysFrom}
 
 -- FROM AN EPOCH ON
-
--- what is kept from a minimum is what is kept from a lower one, and then from this
-kept_twice : {V : Type 0} (a b : Bool) (found : Option V) → (a ≡ true → b ≡ true) → cond {A = Option V} a (cond b found None) None ≡ cond a found None
-kept_twice true b found both = ap (λ (t : Bool). cond t found None) (both refl)
-kept_twice false b found both = refl
-
-lower_too : (least min key : ℕ) → least ≤ min → nat_le min key ≡ true → nat_le least key ≡ true
-lower_too least min key low above = grind (arith, nat_tests, above, low)
-
-pub retained_twice : {V : Type 0} (m : FinMap key_cmp V) (least min : ℕ) → least ≤ min
-    → retain_keys (retain_keys m (λ k. nat_le least k.0)) (λ k. nat_le min k.0) ≡ retain_keys m (λ k. nat_le min k.0)
-retained_twice {V} m least min low = same_map keys_total exact_keys _ _ (λ q.
-    get-retain_keys (retain_keys m (λ k. nat_le least k.0)) (λ k. nat_le min k.0) q (λ x tied. ap (λ (y : ℕ × ℕ). nat_le min y.0) (sym (exact_keys q x tied)))
-    ∙ ap (λ (o : Option V). cond (nat_le min q.0) o None) (get-retain_keys m (λ k. nat_le least k.0) q (λ x tied. ap (λ (y : ℕ × ℕ). nat_le least y.0) (sym (exact_keys q x tied))))
-    ∙ kept_twice (nat_le min q.0) (nat_le least q.0) (get m q) (lower_too least min q.0 low)
-    ∙ sym (get-retain_keys m (λ k. nat_le min k.0) q (λ x tied. ap (λ (y : ℕ × ℕ). nat_le min y.0) (sym (exact_keys q x tied)))))
 
 at_or_above : (min key : ℕ) → min ≤ key → nat_le min key ≡ true
 at_or_above min key above = grind (arith, nat_tests, above)
@@ -50,68 +33,7 @@ retained_at {V} m min q above =
     get-retain_keys m (λ k. nat_le min k.0) q (λ x tied. ap (λ (y : ℕ × ℕ). nat_le min y.0) (sym (exact_keys q x tied)))
     ∙ ap (λ (b : Bool). cond b (get m q) None) (at_or_above min q.0 above)
 
--- ONE CALL BEHIND ANOTHER
-
-module _ {min : ℕ} {a b c : Files} {s t u : Secrets} where
-  pub given_then : StaysGiven min a b s t → StaysGiven min b c t u → StaysGiven min a c s u
-  given_then first second = record {
-    plan = second.plan ∙ first.plan;
-    whole = λ w. second.whole (first.whole w);
-    pairs = λ w. second.pairs (first.whole w) ∙ first.pairs w;
-  }
-
-pub above_then : {min : ℕ} {image between next : Files → Type 0} {s t u : Secrets} → StaysAbove min image between s t → StaysAbove min between next t u → StaysAbove min image next s u
-above_then first second = record {
-  fit = λ most fits. second.fit most (first.fit most fits);
-  each = λ c here. let d = second.each c here in let e = first.each d.0 d.1 in (e.0, e.1, given_then e.2 d.2);
-}
-
--- Nothing was done.
-pub above_same : (min : ℕ) (image : Files → Type 0) (s : Secrets) → StaysAbove min image image s s
-above_same min image s = record {
-  fit = λ most fits. fits;
-  each = λ c here. (c, here, record { plan = refl; whole = λ w. w; pairs = λ w. refl });
-}
-
--- WHERE NOTHING OF THE DISK IS LOOSE: each image is the files
-
-module _ (files : Files) (image : Files → Type 0) (s : Secrets) (lands : Lands files image) (d : Files) (there : image d) where
-  -- they hold what one image gives
-  holds_it : IsWhole (entries d) s → Holds (recovered (entries d) s) image s
-  holds_it w = record {
-    whole = λ x at. subst (λ (f : Files). IsWhole (entries f) s) (lands.only d there ∙ sym (lands.only x at)) w;
-    gives = λ x at. ap (λ (f : Files). recovered (entries f) s) (lands.only x at ∙ sym (lands.only d there));
-  }
-
--- A call that keeps whatever is held
-pub whole_above : (min : ℕ) (files : Files) (image next : Files → Type 0) (s t : Secrets) → Lands files image → StaysWhole image next s t → StaysAbove min image next s t
-whole_above min files image next s t lands stays = record {
-  fit = λ most fits. (stays.sound most).fit fits;
-  each = λ c here.
-      let d = (stays.sound 0).plan.each c here in
-      (d.0, d.1, record {
-        plan = d.2;
-        whole = λ w. (stays.holds (recovered (entries d.0) s) (holds_it files image s lands d.0 d.1 w)).whole c here;
-        pairs = λ w. ap (λ (m : Pairs). retain_keys m (λ k. nat_le min k.0)) ((stays.holds (recovered (entries d.0) s) (holds_it files image s lands d.0 d.1 w)).gives c here);
-      });
-}
-
 -- A PRUNE
-
-pub pruned_above : (min : ℕ) (files : Files) (image next : Files → Type 0) (s t : Secrets) → Lands files image → ((most : ℕ) → AreFit most image → AreFit most next) → Follows SamePlan image next
-    → ((pairs : Pairs) → Holds pairs image s → HoldsPruned min pairs next t) → StaysAbove min image next s t
-pruned_above min files image next s t lands fit plan pruned = record {
-  fit = fit;
-  each = λ c here.
-      let d = plan.each c here in
-      (d.0, d.1, record {
-        plan = d.2;
-        whole = λ w. (pruned (recovered (entries d.0) s) (holds_it files image s lands d.0 d.1 w)).whole c here;
-        pairs = λ w.
-            let left = (pruned (recovered (entries d.0) s) (holds_it files image s lands d.0 d.1 w)).gives c here in
-            ap (λ (m : Pairs). retain_keys m (λ k. nat_le min k.0)) left.2 ∙ retained_twice (recovered (entries d.0) s) left.0 min left.1;
-      });
-}
 
 -- The section of a dealing's record is its epoch.
 abbrev IsOf : ℕ → Option Dealing → Type 0

@@ -1,13 +1,13 @@
 -- The opening of a store, and the setup behind it: made, said, and what is blamed.
 use Rattle.std.proofs.Common.{◌≡◌, ◌⊎◌, inl, inr, ℕ, ◌+◌, ◌-◌, ◌<◌, ◌≤◌, Bool, List, [], ◌∷◌, ◌++◌, drop, length, map, Option, Some, None, Result, Ok, Err, refl, sym, ◌∙◌, ap, subst}
-use Rattle.std.specs.Prelude.{IsTrue, OnOk, OnErr, if◌then◌else◌, ◌==◌}
+use Rattle.std.specs.Prelude.{IfErr, IsTrue, OnOk, OnErr, if◌then◌else◌, ◌==◌}
 use Rattle.std.specs.FinMap as maps
 use Rattle.std.specs.FinMap.{find, get, get-entries}
 use Rattle.dkg_values.specs.declared.name.Name.{Name}
 use Rattle.dkg_fence.specs.Readiness.{Readiness}
 use Rattle.dkg_journal.specs.Burn.{Burn}
 use Rattle.dkg_journal.specs.DeviceCall.{DeviceCall}
-use Rattle.dkg_journal.specs.Fuse.{Ran, RanAll, calls_in}
+use Rattle.dkg_journal.specs.Fuse.{Ran, RanAll, Reached, calls_in}
 use Rattle.dkg_journal.specs.Gated.{gated, gated_behind}
 use Rattle.dkg_journal.specs.Names.{Files}
 use Rattle.dkg_journal.specs.Opening.{broken, open_calls}
@@ -20,14 +20,18 @@ use Rattle.dkg_types.specs.declared.entry.Entry.TheVariants.{Opened}
 use Rattle.dkg_types.specs.declared.fault.Fault.{Fault}
 use Rattle.dkg_types.specs.declared.fault.Fault.TheVariants as fault
 use Rattle.dkg_store.specs.Acts as acts_of
-use Rattle.dkg_store.specs.Acts.{Acts, Ended, Held, Moment, Runs, World, broken as broken_by, stopped, went}
+use Rattle.dkg_store.specs.Acts.{Acts, Ended, Held, MadeAt, Moment, OnDisk, Runs, Stands, World, after, broken as broken_by, by_want, held_in, stopped, went}
+use Rattle.dkg_store.specs.Calls as calls_of
+use Rattle.dkg_store.specs.Calls.{by_error}
+use Rattle.dkg_store.specs.Noted.{Notes}
+use Rattle.dkg_store.specs.declared.recorded_log.RecordedLog.{RecordedLog}
 use Rattle.dkg_store.specs.Both.{Call, MadeBoth, on_disk}
 use Rattle.dkg_store.specs.Corrupt.{AreEvents, HasNoEvent, IsCorruptAt}
 use Rattle.dkg_store.specs.Errors.{IsOfDevices, IsOfOpening, IsOfPruning}
 use Rattle.dkg_store.specs.Events.{no_event_at}
 use Rattle.dkg_store.specs.Keys.{key_cmp}
-use Rattle.dkg_store.specs.Pairs.{Pairs, recovered}
-use Rattle.dkg_store.specs.Recorded.{restored_of}
+use Rattle.dkg_store.specs.Pairs.{IsWhole, Pairs, recovered}
+use Rattle.dkg_store.specs.Recorded.{restored_list, restored_of}
 use Rattle.dkg_store.specs.Secrets.{Secrets}
 use Rattle.dkg_store.specs.declared.call.StoreError.{StoreError}
 use Rattle.dkg_store.specs.declared.call.StoreError.TheVariants.{Disk, Secrets as SecretsFailed, Corrupt, LocalState, StateSyncEpochs, StateSyncMaterial, Cut as StoreCut, NoMemory}
@@ -35,18 +39,34 @@ use Rattle.dkg_store.specs.declared.secrets.SecretOp.{SecretOp}
 use Rattle.dkg_store.specs.declared.store.Store.{Store}
 use Rattle.dkg_store.proofs.Both.{burned-map, disk_calls-map, secret_calls-map}
 use Rattle.dkg_store.proofs.OpeningActs.{no_other, no_place, not_corrupt}
-use Rattle.dkg_core.specs.Courses.{Course, Ask, on_devices}
+use Rattle.dkg_journal.specs.Operations.{Bars, Opens}
+use Rattle.dkg_core.specs.Agreeing.{AreAgreed}
+use Rattle.dkg_core.specs.Core.{opening}
+use Rattle.dkg_core.specs.Courses.{Course, Ask, bind, on_devices}
+use Rattle.dkg_core.specs.Fixed.{Fixed}
+use Rattle.dkg_core.specs.Live.{Live, Records}
+use Rattle.dkg_core.specs.Setup as setup
+use Rattle.dkg_core.specs.Sources.{Source}
+use Rattle.dkg_core.proofs.Agreeing.{setups_agree}
 use Rattle.dkg_core.specs.Said.{Said, SaysBy}
 use Rattle.dkg_core.specs.Seen.{Seen}
 use Rattle.dkg_reshare.specs.declared.stop.Stop.{Stop}
 use Rattle.dkg_reshare.specs.declared.stop.Stop.TheVariants.{Fault as Faulted, Cut, Failed}
 use Rattle.dkg_reshare.specs.Actors.{IsFoundAt}
-use Rattle.dkg_reshare.specs.Ends.{IsCausedBy, by_stop, stop_of}
-use Rattle.dkg_reshare.specs.Given.{AreGivenFrom}
-use Rattle.dkg_reshare.specs.LiveOf.{records_of}
-use Rattle.dkg_reshare.specs.Made.{MakesAt, Tells}
-use Rattle.dkg_reshare.specs.Opened.{IsInGrammar, opens_store}
-use Rattle.dkg_reshare.proofs.Said.{none_first, nothing_held}
+use Rattle.dkg_reshare.specs.declared.config.Terms.{Terms}
+use Rattle.dkg_reshare.specs.declared.life.Life.{Life}
+use Rattle.dkg_reshare.specs.declared.life.Stage.TheVariants.{Following}
+use Rattle.dkg_types.specs.declared.scheme.SchemeInfo.{SchemeInfo}
+use Rattle.dkg_reshare.specs.Ends.{IsCausedBy, by_stop, ends_in, stop_of}
+use Rattle.dkg_reshare.specs.Given.{AreGivenFrom, IsLent, reading}
+use Rattle.dkg_reshare.specs.LiveOf.{Beside, EndsBeside, live_of, no_fence, nothing_beside, records_of}
+use Rattle.dkg_reshare.specs.Made.{Burns, MakesAt, Tells}
+use Rattle.dkg_reshare.specs.Opened.{IsInGrammar, opens_store, startup_of}
+use Rattle.dkg_reshare.specs.Today.{IsOpeningOfToday, seen_today}
+use Rattle.dkg_reshare.proofs.Beginning.{begun_at, begun_live, makes_as, opening_as, recorded, sets_up_over, tells_as}
+use Rattle.dkg_reshare.proofs.Burning.{burns_ran, line_makes, makes_early, makes_error, makes_next, makes_under}
+use Rattle.dkg_reshare.proofs.Chained.{early_makes, early_told, then_makes, then_told}
+use Rattle.dkg_reshare.proofs.Said.{nothing_held}
 
 -- A JOURNAL IN ITS GRAMMAR
 
@@ -139,6 +159,30 @@ module _ {D X : Type 0} (disk : D → D → List (DeviceCall Op) → Type 0) (se
     fuse = ran.all.fuse ∙ sym (burned-map ran.first f);
   })
 
+-- AS ACTS: the store's opening, and the line
+
+module _ {Dir : Type 0} (life calls : ℕ) {D : Type 0} {made : D → D → List (DeviceCall Op) → Type 0} {a b : D} {ops : List Op}
+    {files files_now : Files} {image now : Files → Type 0} {old new : Moment} (ran : Ran made a b old.fuse new.fuse ops)
+  where
+    abbrev tells_line : Pairs × Notes (List ℕ) × Notes RecordedLog → Acts Fault Records
+    tells_line g = acts_of.Say (Opened life (restored_list g.0)) (acts_of.Goes (recorded g))
+
+    -- it failed
+    pub store_failed : (e : StoreError) → IsOfDevices e → MadeAt (calls_of.opening None calls None) (by_error e) files image files_now now old new
+        → MakesAt (on_devices (opens_store {Dir = Dir} seen_today life calls)) (by_stop (stop_of e)) files image files_now now old new
+    store_failed e kind opened =
+        let burns : Burns {F = Fault} {S = Records} (broken_by by_want) old.fuse new.fuse = burns_ran ran.all (broken_by by_want) tt in
+        makes_early tells_line (stop_of e) (makes_error e kind opened burns.call burns.pick)
+
+    -- .. or went, and its line was told, or found no memory
+    pub store_opened : (g : Pairs × Notes (List ℕ) × Notes RecordedLog) → MadeAt (calls_of.opening None calls None) (went g) files image files_now now old new → (Reached old.fuse new.fuse → ⊥)
+        → (result : Result (Unit {0}) Stop) {out : List Line} → OnOk result (out ≡ new.out ++ Opened life (restored_list g.0) ∷ []) → OnErr result (out ≡ new.out)
+        → IfErr result (λ stop. stop ≡ Faulted fault.NoMemory)
+        → MakesAt (on_devices (opens_store {Dir = Dir} seen_today life calls)) (ends_in (recorded g) result) files image files_now now old (acts_of.moment out new.secrets new.fuse)
+    store_opened g opened uncut result {out} told untold memory =
+        makes_next tells_line (makes_under (went g) opened (burns_ran ran.all (went g) uncut))
+        (line_makes (Opened life (restored_list g.0)) (recorded g) result files_now now new.secrets new.fuse told untold memory)
+
 -- WHAT WAS READ
 
 -- nothing
@@ -181,3 +225,81 @@ module _ {Dir F S : Type 0} (course : Course Dir F S) where
 
   pub asked_told : (how : Ended F S) {out now : List Line} → Tells course how out now → Tells (Ask {Dir = Dir} (λ h. course)) how out now
   asked_told how said = record { lines = said.lines; added = said.added; by = asked_says how said.lines said.by }
+
+-- AN OPENING OF A LIFE
+
+module _ {Dir : Type 0} (c : Fixed Dir) (today : IsOpeningOfToday c) (unplanned : (h : Held) → (c.seen h).plan ≡ None) (seen : Held → Seen) (reads : c.seen ≡ seen) (number calls : ℕ) (life_is : c.life ≡ number) (calls_are : c.opening_calls ≡ calls) where
+  store_first : opening c ≡ bind (opens_store seen number calls) (sets_up_over c)
+  store_first = opening_as c today.reshare today.bare unplanned ∙ (λ i. bind (opens_store (reads i) (life_is i) (calls_are i)) (sets_up_over c))
+
+  -- the store failed
+  pub opening_failed : (stop : Stop) {files files_now : Files} {image now : Files → Type 0} {old new : Moment} → MakesAt (on_devices (opens_store {Dir = Dir} seen number calls)) (by_stop stop) files image files_now now old new
+      → MakesAt (on_devices (opening c)) (by_stop stop) files image files_now now old new
+  opening_failed stop made = makes_as store_first (by_stop stop) (early_makes (opens_store seen number calls) (sets_up_over c) stop made)
+
+  pub opening_untold : (stop : Stop) {out now : List Line} → Tells {Dir = Dir} (opens_store seen number calls) (by_stop stop) out now → Tells (opening c) (by_stop stop) out now
+  opening_untold stop told = tells_as store_first (by_stop stop) (early_told (opens_store seen number calls) (sets_up_over c) stop told)
+
+  -- .. or the setup was made over it
+  module _ (source : Source Dir) (lent : c.source ≡ source) (fence : Readiness) (fresh : fence ≡ no_fence) (store : Store Dir) (current : store.current ≡ None) (life : Life Dir)
+      (is : life ≡ record { store = store; tip = startup_of source; epoch = 0; midpoint = 0; stage = Following; round = None; player = None }) (how : Ended Fault (Live Dir))
+    where
+      setup_is : setup.setup c None (begun_at c (records_of store)) ≡ setup.setup c None (live_of nothing_beside fence life)
+      setup_is = ap (λ (st : Live Dir). setup.setup c None st) (sym (begun_live c source lent fence fresh store current life is))
+
+      pub opening_made : {files files_mid files_now : Files} {image between now : Files → Type 0} {old mid new : Moment}
+          → MakesAt (on_devices (opens_store {Dir = Dir} seen number calls)) (went (records_of store)) files image files_mid between old mid
+          → MakesAt (on_devices (setup.setup c None (live_of nothing_beside fence life))) how files_mid between files_now now mid new
+          → MakesAt (on_devices (opening c)) how files image files_now now old new
+      opening_made first second =
+          makes_as store_first how (then_makes (opens_store seen number calls) (sets_up_over c) (records_of store) how first
+          (asked_makes (setup.setup c None (begun_at c (records_of store))) (makes_as setup_is how second)))
+
+      pub opening_told : {out mid now : List Line} → Tells {Dir = Dir} (opens_store seen number calls) (went (records_of store)) out mid → Tells (setup.setup c None (live_of nothing_beside fence life)) how mid now
+          → Tells (opening c) how out now
+      opening_told first second =
+          tells_as store_first how (then_told (opens_store seen number calls) (sets_up_over c) (records_of store) how first
+          (asked_told (setup.setup c None (begun_at c (records_of store))) how (tells_as setup_is how second)))
+
+-- of which something was read
+pub reading_lent : {Dir : Type 0} (terms : Terms) (source : Source Dir) (word : ℕ) (c : Fixed Dir) (s : Seen) → s.shares ≡ [] → s.plan ≡ None → IsLent terms source word c → IsLent terms source word (reading s c)
+reading_lent terms source word c s shareless unplanned its = record {
+  of = record {
+    me = its.of.me;
+    blocks = its.of.blocks;
+    limit = its.of.limit;
+    version = its.of.version;
+    mode = its.of.mode;
+    reveal = its.of.reveal;
+    namespace = its.of.namespace;
+    shareless = λ h. shareless;
+    unplanned = λ h. unplanned;
+    reshare = its.of.reshare;
+    bare = its.of.bare;
+  };
+  lent = its.lent;
+  word_is = its.word_is;
+}
+
+pub beside_as : {Dir : Type 0} {beside : Beside Dir} {T U : List (ℕ × SchemeInfo) → Type 0} {P Q : Beside Dir → Type 0} → ((more : List (ℕ × SchemeInfo)) → T more → U more) → ((now : Beside Dir) → P now → Q now)
+    → EndsBeside beside T P → EndsBeside beside U Q
+beside_as took so ends = record { now = ends.now; more = ends.more; schemes = ends.schemes; took = took ends.more ends.took; probe = ends.probe; orchestrator = ends.orchestrator; holds = so ends.now ends.holds }
+
+-- MEMORY AND DEVICES AGREE
+
+-- behind the store's opening
+pub store_agrees : {Dir : Type 0} (life calls : ℕ) (r : Records) {files files_now : Files} {image now : Files → Type 0} {old new : Moment}
+    → MakesAt (on_devices (opens_store {Dir = Dir} seen_today life calls)) (went r) files image files_now now old new → now files_now → Stands files image → IsWhole (entries files) old.secrets
+    → AreAgreed r (held_in files_now new.secrets)
+store_agrees life calls r {files} {old = old} it here stands whole =
+    let done = it.made.made stands _ here in
+    let opened : Held = after (OnDisk (Opens calls)) (after (OnDisk Bars) (held_in files old.secrets)) in
+    subst (λ (w : World). AreAgreed r w.held) (sym done.0) (subst (λ (x : Records). AreAgreed x opened) (sym done.1) (record { whole = whole; dealings = refl; acks = refl; logs = refl }))
+
+-- .. and behind a setup
+pub setup_agrees : {Dir : Type 0} (c : Fixed Dir) (st end : Live Dir) (result : Result (Unit {0}) Stop) {files files_now : Files} {image now : Files → Type 0} {old new : Moment}
+    → MakesAt (on_devices (setup.setup c None st)) (ends_in end result) files image files_now now old new → now files_now
+    → OnOk result (Stands files image → AreAgreed st.records (held_in files old.secrets) → AreAgreed end.records (held_in files_now new.secrets))
+setup_agrees c st end (Ok done) {files} {files_now} {old = old} {new = new} it here = λ stands agreed.
+    setups_agree c None st end (acts_of.at old files) (acts_of.at new files_now) agreed (it.made.made stands files_now here)
+setup_agrees c st end (Err stop) it here = tt

@@ -2,6 +2,7 @@
 use Rattle.std.proofs.Common.{◌≡◌, ℕ, ◌+◌, ◌-◌, ◌*◌, ◌/◌, ◌^◌, ◌<◌, ◌≤◌, nat_le, nat_lt, Bool, true, false, [], Option, Some, None, Result, Ok, Err, refl, sym, ◌∙◌, ap, subst, append-nil, arith}
 use Rattle.std.specs.Prelude.{IsSomeAnd, IsTrue, List, ◌∷◌, OnOk, nat_eq, if◌then◌else◌}
 use Rattle.std.specs.Option.{option_map_or}
+use Rattle.std.specs.Int.NonZero.{non_zero_u32_get, non_zero_u64_get}
 use Rattle.std.proofs.lemmas.Bool.Decides.{nat_tests}
 use Rattle.std.proofs.Math.Nat.{lt-div-mul-add}
 use Rattle.dkg_ceremony.specs.Schedule.{boundary, bounds_at, epoch_of, first, in_range as in_bounds, last, midpoint, phase_at}
@@ -14,9 +15,11 @@ use Rattle.dkg_types.specs.declared.fault.Fault.{Fault}
 use Rattle.dkg_types.specs.declared.fault.Fault.TheVariants.{HeightRange, MissingEpochInfo}
 use Rattle.dkg_types.specs.declared.info.EpochInfo.{EpochInfo}
 use Rattle.dkg_types.specs.declared.scheme.SchemeInfo.{SchemeInfo}
+use Rattle.dkg_journal.specs.Names.{Files}
+use Rattle.dkg_store.specs.declared.devices.Devices.{Devices}
 use Rattle.dkg_store.specs.declared.store.Store.{Store}
 use Rattle.dkg_core.specs.Courses.{Course, Stops}
-use Rattle.dkg_core.specs.Fixed.{Fixed}
+use Rattle.dkg_core.specs.Fixed.{Fixed, stand_in}
 use Rattle.dkg_core.specs.Live.{Live, awaited_height}
 use Rattle.dkg_core.specs.Setup as setup
 use Rattle.dkg_core.specs.Setup.{Uncommitted}
@@ -24,10 +27,16 @@ use Rattle.dkg_core.specs.Sources.{Source, Tip}
 use Rattle.dkg_reshare.specs.declared.life.Life.{Life}
 use Rattle.dkg_reshare.specs.declared.life.Stage.{Stage}
 use Rattle.dkg_reshare.specs.declared.life.Stage.TheVariants.{Dealing, Including, Following}
-use Rattle.dkg_reshare.specs.LiveOf.{Beside, EndsBeside, IsPlaced, Took, live_of, scheme_by, with_scheme_of}
+use Rattle.dkg_reshare.specs.declared.config.Terms.{Terms}
+use Rattle.dkg_reshare.specs.Actors.{IsReadyLife}
+use Rattle.dkg_reshare.specs.LiveOf.{Beside, EndsBeside, IsPlaced, IsSeated, Took, live_of, scheme_by, with_scheme_of}
+use Rattle.dkg_reshare.specs.Moved.{IsFirm}
+use Rattle.dkg_reshare.specs.Given.{IsLent, ReadsToday}
+use Rattle.dkg_reshare.specs.Rules.{AckOf, BearsAckOf, DealingOf, RoundOf, SeatsBy}
+use Rattle.dkg_reshare.specs.Today.{seen_today}
+use Rattle.dkg_values.specs.declared.codec.CodecError.TheVariants.{EndOfBuffer}
 use Rattle.dkg_reshare.specs.Steps.{StandsIn, stage_in}
 use Rattle.dkg_reshare.proofs.Beginning.{out_of_range, sets_up_as}
-use Rattle.dkg_reshare.proofs.Seated.{on_ok}
 use Rattle.dkg_reshare.proofs.Taking.{bounds_is, range_kept, range_test}
 
 -- NO EPOCH IN RANGE
@@ -104,6 +113,10 @@ module _ {Dir : Type 0} (c : Fixed Dir) (n : ℕ) (same : c.blocks_per_epoch ≡
 
 -- WHERE THE LIFE STANDS THEN
 
+pub epoch_there : {Dir : Type 0} (n : ℕ) (old life : Life Dir) (height : ℕ) → height ≡ option_map_or (λ t. t.height + 1) old.tip 0 → (bounds : Bounds) → Some bounds ≡ in_bounds n (epoch_of n height) (bounds_at n height)
+    → life ≡ record old { epoch = bounds.epoch; midpoint = bounds.midpoint; stage = Following; round = None; player = None } → life.epoch ≡ epoch_of n (option_map_or (λ t. t.height + 1) old.tip 0)
+epoch_there {Dir} n old life height at bounds found now = ap (λ (l : Life Dir). l.epoch) now ∙ ap (λ (b : Bounds). b.epoch) (bounds_is n height bounds found) ∙ ap (epoch_of n) at
+
 -- an epoch that begins with inclusion is past its midpoint
 past_middle : (middle height : ℕ) → stage_in (phase_at middle height) ≡ Including → middle ≤ height
 past_middle middle height including = by_test (nat_lt height middle) refl including
@@ -133,6 +146,36 @@ set_placed n long life height at bounds found epoch middle stage =
           (subst (λ (m : ℕ). m ≤ height) (sym midpoint_is) (past_middle (midpoint n (epoch_of n height)) height (sym (ap (λ (b : Bounds). stage_in b.phase) is) ∙ stage including)));
     }
 
+-- a life that follows
+pub following_ready : {Dir D X : Type 0} (tells : Bool) (files : D → Files) (image : D → Files → Type 0) (ack_of : AckOf) (terms : Terms) (old life : Life Dir) (height : ℕ) → height ≡ option_map_or (λ t. t.height + 1) old.tip 0
+    → (bounds : Bounds) → Some bounds ≡ in_bounds (non_zero_u64_get terms.blocks_per_epoch) (epoch_of (non_zero_u64_get terms.blocks_per_epoch) height) (bounds_at (non_zero_u64_get terms.blocks_per_epoch) height)
+    → life ≡ record old { epoch = bounds.epoch; midpoint = bounds.midpoint; stage = Following; round = None; player = None } → (devices : Devices D X)
+    → (IsTrue tells → IsFirm old.store.journal (files devices.disk.now) (image devices.disk.now)) → IsReadyLife tells files image ack_of terms life devices
+following_ready {Dir} {D} {X} tells files image ack_of terms old life height at bounds found now devices firm = record {
+  seated = subst (λ (l : Life Dir). IsSeated ack_of terms.me l) (sym now) tt;
+  placed = set_placed (non_zero_u64_get terms.blocks_per_epoch) terms.long life height (at ∙ ap (λ (l : Life Dir). option_map_or (λ t. t.height + 1) l.tip 0) (sym now)) bounds found (ap (λ (l : Life Dir). l.epoch) now) (ap (λ (l : Life Dir). l.midpoint) now)
+      (λ including. absurd (let e : ◌≡◌ {A = Stage} Following Including = sym (ap (λ (l : Life Dir). l.stage) now) ∙ including in cc));
+  firm = λ told. subst (λ (s : Store Dir). IsFirm s.journal (files devices.disk.now) (image devices.disk.now)) (sym (ap (λ (l : Life Dir). l.store) now)) (firm told);
+}
+
+-- .. and one that was set up by an info
+pub set_up_ready : {Dir D X : Type 0} (tells : Bool) (files : D → Files) (image : D → Files → Type 0) (ack_of : AckOf) (terms : Terms) (old life new : Life Dir) (height : ℕ) → height ≡ option_map_or (λ t. t.height + 1) old.tip 0
+    → (bounds : Bounds) → Some bounds ≡ in_bounds (non_zero_u64_get terms.blocks_per_epoch) (epoch_of (non_zero_u64_get terms.blocks_per_epoch) height) (bounds_at (non_zero_u64_get terms.blocks_per_epoch) height)
+    → life ≡ record old { epoch = bounds.epoch; midpoint = bounds.midpoint; stage = Following; round = None; player = None }
+    → new ≡ record life { store = new.store; stage = new.stage; round = new.round; player = new.player } → (devices : Devices D X)
+    → (IsTrue tells → IsFirm new.store.journal (files devices.disk.now) (image devices.disk.now)) → IsSeated ack_of terms.me new × (new.stage ≡ stage_in bounds.phase) → IsReadyLife tells files image ack_of terms new devices
+set_up_ready {Dir} tells files image ack_of terms old life new height at bounds found now rest devices firm sits = record {
+  seated = sits.0;
+  placed = set_placed (non_zero_u64_get terms.blocks_per_epoch) terms.long new height (at ∙ ap (λ (l : Life Dir). option_map_or (λ t. t.height + 1) l.tip 0) (sym now) ∙ ap (λ (l : Life Dir). option_map_or (λ t. t.height + 1) l.tip 0) (sym rest)) bounds found
+      (ap (λ (l : Life Dir). l.epoch) rest ∙ ap (λ (l : Life Dir). l.epoch) now) (ap (λ (l : Life Dir). l.midpoint) rest ∙ ap (λ (l : Life Dir). l.midpoint) now) (λ including. sym sits.1 ∙ including);
+  firm = firm;
+}
+
+-- where a call went well, both hold
+pub both_ok : {T E A B C : Type 0} (r : Result T E) → (A → B → C) → OnOk r A → OnOk r B → OnOk r C
+both_ok (Ok x) so a b = so a b
+both_ok (Err e) so a b = tt
+
 -- WHAT WAS REGISTERED
 
 module _ {Dir : Type 0} (beside : Beside Dir) (Took : List (ℕ × SchemeInfo) → Type 0) (P : Beside Dir → Type 0) where
@@ -146,3 +189,48 @@ module _ {Dir : Type 0} (beside : Beside Dir) (Took : List (ℕ × SchemeInfo) �
 
 pub took_none : (tells : Bool) (taken : List (ℕ × SchemeInfo)) → Took tells taken taken []
 took_none tells taken = λ told. sym (append-nil taken)
+
+-- A FIXED of these terms, for a node of which nothing else is asked
+
+pub any_fixed : {Dir : Type 0} → Terms → Source Dir → (word : ℕ) → RoundOf → DealingOf → BearsAckOf → Dir → Fixed Dir
+any_fixed terms source word round_of dealing_of bears_ack_of directory = record {
+  me = terms.me;
+  blocks_per_epoch = non_zero_u64_get terms.blocks_per_epoch;
+  limit = non_zero_u32_get terms.limit;
+  version = terms.max_mode.0;
+  mode = terms.mode;
+  reveal = terms.reveal;
+  namespace = terms.namespace;
+  oneshot = None;
+  rules = record stand_in { round_of = round_of; dealing_of = dealing_of; bears_ack_of = bears_ack_of };
+  directories = record { spelling = λ d. []; read = λ peers bytes. Err EndOfBuffer; matches = λ d peers. false; lacking = λ d peers. None };
+  provided = record { participants = λ epoch. []; directory = λ epoch peers. directory };
+  seen = seen_today;
+  inner = record { prepared = λ b payload. None; proposed = λ b payload. None; accepts = λ blocks. false };
+  probed = record { snapshot = None; certifies = λ f. false };
+  life = 0;
+  word = word;
+  material = None;
+  opening_calls = 0;
+  source = source;
+}
+
+module _ {Dir : Type 0} (terms : Terms) (source : Source Dir) (word : ℕ) (round_of : RoundOf) (dealing_of : DealingOf) (bears_ack_of : BearsAckOf) (directory : Dir) where
+  abbrev its : Fixed Dir
+  its = any_fixed terms source word round_of dealing_of bears_ack_of directory
+
+  pub any_lent : IsLent terms source word its
+  unfolding any_fixed
+  any_lent = record {
+    of = record { me = refl; blocks = refl; limit = refl; version = refl; mode = refl; reveal = refl; namespace = refl; shareless = λ h. refl; unplanned = λ h. refl; reshare = refl; bare = refl };
+    lent = refl;
+    word_is = refl;
+  }
+
+  pub any_reads : ReadsToday its
+  unfolding any_fixed
+  any_reads = refl
+
+  pub any_seats : SeatsBy round_of dealing_of bears_ack_of its.rules
+  unfolding any_fixed
+  any_seats = record { round = refl; dealing = refl; bears = refl }

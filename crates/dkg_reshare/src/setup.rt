@@ -2,7 +2,7 @@
 //!
 //! Each function here is a part of the relation's `setup`, and names it.
 ghost use Rattle.std.specs.Prelude.{◌≡◌, ◌++◌, ◌∷◌, ◌-◌, [], ℕ, IfErr, IfOk, IfSome, IsTrue, List, Some, None, OnErr, OnOk, Ok};
-ghost use Rattle.std.specs.Int.NonZero.{non_zero_u32_get, non_zero_u64_get};
+ghost use Rattle.std.specs.Int.NonZero.{non_zero_u32_get};
 ghost use Rattle.dkg_ceremony.specs.Schedule.{boundary, first};
 ghost use Rattle.dkg_fence.specs.Fence.{marked};
 ghost use Rattle.dkg_fence.specs.Readiness.{Readiness};
@@ -11,15 +11,18 @@ ghost use Rattle.dkg_journal.specs.Fuse.{Reached};
 ghost use Rattle.dkg_types.specs.Schemes.{scheme_of};
 ghost use Rattle.dkg_types.specs.declared.entry.Entry.{Entry as Line};
 ghost use Rattle.dkg_types.specs.declared.fault.Fault.TheVariants.{NoMemory as OutOfMemory};
+ghost use Rattle.dkg_store.specs.Acts.{Stands, held_in};
+ghost use Rattle.dkg_core.specs.Agreeing.{AreAgreed};
 ghost use Rattle.dkg_core.specs.Fixed.{Fixed};
 ghost use Rattle.dkg_core.specs.Fixed as given;
 ghost use Rattle.dkg_core.specs.Live.{Live};
 ghost use Rattle.dkg_core.specs.Setup as setup;
 ghost use Rattle.dkg_core.specs.Setup.{Uncommitted};
 ghost use Rattle.dkg_reshare.specs.declared.stop.Stop.TheVariants.{Fault as Faulted};
+ghost use Rattle.dkg_reshare.specs.Actors.{IsReadyLife};
 ghost use Rattle.dkg_reshare.specs.Ends.{IsCaused, IsCausedBy, IsOutside, by_stop, ends, ends_in};
 ghost use Rattle.dkg_reshare.specs.Given.{IsLent, IsOf, ReadsToday};
-ghost use Rattle.dkg_reshare.specs.LiveOf.{Beside, EndsBeside, IsPlaced, IsSeated, SitsIn, Took, live_of, records_of, scheme_by, seat_of, with_scheme, with_scheme_of};
+ghost use Rattle.dkg_reshare.specs.LiveOf.{Beside, EndsBeside, IsSeated, SitsIn, Took, live_of, records_of, scheme_by, seat_of, with_scheme, with_scheme_of};
 ghost use Rattle.dkg_reshare.specs.Made.{Makes, Speaks, Tells, UnlessBroken};
 ghost use Rattle.dkg_reshare.specs.Moved.{IsFirm, Moved, StaysAbove, StaysFrom, StaysWhole};
 ghost use Rattle.dkg_reshare.specs.Opened.{epoch_above};
@@ -301,8 +304,9 @@ fn follow<Dir: Directory + Drop>(
     phase: Phase,
     out: &mut Transcript,
 ) -> Result<(), Stop>
-    ensures { (c : Fixed Dir) (beside : Beside Dir) (fence : Readiness) → StandsIn c (live_of beside fence life.now) phase
+    ensures speaks { (c : Fixed Dir) (beside : Beside Dir) (fence : Readiness) → StandsIn c (live_of beside fence life.now) phase
         → Speaks (setup.follows c (live_of beside fence life.now)) (ends_in (live_of beside fence life.now) result) out.old.entries out.new.entries }
+    ensures causes { IfErr result (λ stop. IsCaused stop ⊥ ⊥ ⊥) }
 {
     Ok(out.push(Entry::Setup {
         epoch: life.epoch,
@@ -420,9 +424,7 @@ pub(crate) fn set_up<
 ) -> Result<(), Stop>
     requires open { IsTrue D.tells → IsFirm life.old.store.journal (D.files devices.old.disk.now) (D.image devices.old.disk.now) }
     requires uncommitted { life.old.store.current ≡ None }
-    ensures open { OnOk result (IsTrue D.tells → IsFirm life.new.store.journal (D.files devices.new.disk.now) (D.image devices.new.disk.now)) }
-    ensures seated { OnOk result (IsSeated C.ack_of terms.now.me life.new) }
-    ensures placed { OnOk result (IsPlaced (non_zero_u64_get terms.now.blocks_per_epoch) life.new) }
+    ensures ready { OnOk result (IsReadyLife D.tells D.files D.image C.ack_of terms.now life.new devices.new) }
     ensures acts { IsTrue D.tells → IsTrue X.tells → (c : Fixed Dir) (beside : Beside Dir) → IsLent terms.now (B.answers source.now) word c
         → ReadsToday c → SeatsBy C.round_of C.dealing_of C.bears_ack_of c.rules
         → EndsBeside beside (λ more. OnOk result (Took R.tells (R.taken registrar.old) (R.taken registrar.new) more))
@@ -433,7 +435,10 @@ pub(crate) fn set_up<
         → EndsBeside beside (λ more. OnOk result (Took R.tells (R.taken registrar.old) (R.taken registrar.new) more))
         (λ now. Tells (setup.setup c None (live_of beside fence.old life.old)) (ends_in (live_of now fence.new life.new) result)
         out.old.entries out.new.entries) }
-    ensures tip { life.new.tip ≡ life.old.tip }
+    // Where nothing was loose, and memory had what the devices give back, it has so behind it.
+    ensures agrees { OnOk result (IsTrue D.tells → IsTrue X.tells → Stands (D.files devices.old.disk.now) (D.image devices.old.disk.now)
+        → AreAgreed (records_of life.old.store) (held_in (D.files devices.old.disk.now) (X.held devices.old.secrets.now))
+        → AreAgreed (records_of life.new.store) (held_in (D.files devices.new.disk.now) (X.held devices.new.secrets.now))) }
     ensures moved { Moved D.tells D.made X.made D.faults X.faults devices.old devices.new }
     ensures causes { IfErr result (λ stop. IsCausedBy D.tells stop (Rose (D.faults devices.old.disk.now) (D.faults devices.new.disk.now))
         (Rose (X.faults devices.old.secrets.now) (X.faults devices.new.secrets.now)) (Reached devices.old.fuse devices.new.fuse)) }
