@@ -38,10 +38,10 @@ burned_pick [] f = refl
 burned_pick (one ∷ calls) f = burned_pick calls (spent_once f)
 
 module _ {D O : Type 0} {made : D → D → List (DeviceCall O) → Type 0} {a b : D} {f g : Burn} {calls : List O} (ran : RanAll made a b f g calls) where
-  ran_call : g.call ≡ f.call
+  pub ran_call : g.call ≡ f.call
   ran_call = ap (λ (x : Burn). x.call) ran.fuse ∙ burned_call calls f
 
-  ran_pick : g.pick ≡ f.pick
+  pub ran_pick : g.pick ≡ f.pick
   ran_pick = ap (λ (x : Burn). x.pick) ran.fuse ∙ burned_pick calls f
 
   -- a store's call, by its calls

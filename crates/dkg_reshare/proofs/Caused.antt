@@ -3,7 +3,7 @@ use Rattle.std.proofs.Common.{◌≡◌, ◌⊎◌, inl, inr, ℕ, ◌<◌, ◌�
 use Rattle.std.specs.Prelude.{IfErr, IsTrue}
 use Rattle.dkg_ceremony.specs.declared.round.Round.{Round}
 use Rattle.dkg_ceremony.specs.declared.round.RoundError.{RoundError}
-use Rattle.dkg_store.specs.Errors.{IsOfPlaying}
+use Rattle.dkg_store.specs.Errors.{IsOfDevices, IsOfPlaying, IsOfPruning, IsOfSecrets}
 use Rattle.dkg_store.specs.declared.call.StoreError.{StoreError}
 use Rattle.dkg_store.specs.declared.call.StoreError.TheVariants.{Disk, Secrets as SecretsFailed, Corrupt, LocalState, StateSyncEpochs, StateSyncMaterial, Cut as StoreCut, NoMemory}
 use Rattle.std.proofs.lemmas.Bool.Decides.{nat_tests}
@@ -11,7 +11,7 @@ use Rattle.dkg_journal.specs.Disk.{Rose}
 use Rattle.dkg_types.specs.declared.fault.Fault.TheVariants as fault
 use Rattle.dkg_reshare.specs.declared.stop.Stop.{Stop}
 use Rattle.dkg_reshare.specs.declared.stop.Stop.TheVariants.{Fault as Faulted, Cut, Failed}
-use Rattle.dkg_reshare.specs.Ends.{IsCaused, IsCausedBy, stop_of}
+use Rattle.dkg_reshare.specs.Ends.{IsCaused, IsCausedBy, IsOutside, stop_of}
 use Rattle.dkg_reshare.specs.Steps.{IsFaultOrWant, no_round}
 
 rises : (most a b c d : ℕ) → a ≤ b → b ≤ c → c ≤ d → (b < c) ⊎ (b + 1 ≡ most) → (a < d) ⊎ (a + 1 ≡ most)
@@ -83,6 +83,10 @@ of_result tells disk secrets reached (Err stop) is = caused_around tells (λ x. 
 wants : (stop : Stop) → stop ≡ Faulted fault.NoMemory → IsCaused stop ⊥ ⊥ ⊥
 wants stop is = let R : Stop → Type 0 = λ s. IsCaused s ⊥ ⊥ ⊥ in subst R (sym is) tt
 
+-- want of memory comes from outside
+pub of_want : (stop : Stop) → stop ≡ Faulted fault.NoMemory → IsOutside stop
+of_want stop is = subst IsOutside (sym is) tt
+
 -- Neither does a round that wasn't drawn up, nor a player that wasn't made.
 pub of_round : (r : Result Round RoundError) (stop : Stop) → IsFaultOrWant (no_round r) stop → IsCaused stop ⊥ ⊥ ⊥
 of_round (Ok round) stop want = wants stop want
@@ -98,3 +102,37 @@ of_playing (StateSyncEpochs info floor) is = absurd is
 of_playing StateSyncMaterial is = absurd is
 of_playing StoreCut is = absurd is
 of_playing NoMemory is = tt
+
+-- WHAT A STORE'S ERROR BLAMES, and that it comes from outside
+
+module _ {disk secrets reached : Type 0} where
+  pub of_secrets_alone : (e : StoreError) → IsOfSecrets e → (e ≡ SecretsFailed → secrets) → (e ≡ StoreCut → reached) → IsOutside (stop_of e) × IsCaused (stop_of e) disk secrets reached
+  of_secrets_alone Disk is rose cut = absurd is
+  of_secrets_alone SecretsFailed is rose cut = (tt, rose refl)
+  of_secrets_alone (Corrupt name place) is rose cut = absurd is
+  of_secrets_alone (LocalState cause) is rose cut = absurd is
+  of_secrets_alone (StateSyncEpochs info floor) is rose cut = absurd is
+  of_secrets_alone StateSyncMaterial is rose cut = absurd is
+  of_secrets_alone StoreCut is rose cut = (tt, cut refl)
+  of_secrets_alone NoMemory is rose cut = (tt, tt)
+
+  pub of_both : (e : StoreError) → IsOfDevices e → (e ≡ Disk → disk) → (e ≡ SecretsFailed → secrets) → (e ≡ StoreCut → reached) → IsCaused (stop_of e) disk secrets reached
+  of_both Disk is rose fell cut = rose refl
+  of_both SecretsFailed is rose fell cut = fell refl
+  of_both (Corrupt name place) is rose fell cut = absurd is
+  of_both (LocalState cause) is rose fell cut = absurd is
+  of_both (StateSyncEpochs info floor) is rose fell cut = absurd is
+  of_both StateSyncMaterial is rose fell cut = absurd is
+  of_both StoreCut is rose fell cut = cut refl
+  of_both NoMemory is rose fell cut = tt
+
+  pub of_pruning : (tells : Bool) (e : StoreError) → IsOfPruning e → (IsTrue tells → IsOfDevices e) → (e ≡ Disk → disk) → (e ≡ SecretsFailed → secrets) → (e ≡ StoreCut → reached)
+      → IsOutside (stop_of e) × IsCausedBy tells (stop_of e) disk secrets reached
+  of_pruning tells Disk is devices rose fell cut = (tt, rose refl)
+  of_pruning tells SecretsFailed is devices rose fell cut = (tt, fell refl)
+  of_pruning tells (Corrupt name place) is devices rose fell cut = (tt, λ told. devices told)
+  of_pruning tells (LocalState cause) is devices rose fell cut = absurd is
+  of_pruning tells (StateSyncEpochs info floor) is devices rose fell cut = absurd is
+  of_pruning tells StateSyncMaterial is devices rose fell cut = absurd is
+  of_pruning tells StoreCut is devices rose fell cut = (tt, λ told. cut refl)
+  of_pruning tells NoMemory is devices rose fell cut = (tt, tt)

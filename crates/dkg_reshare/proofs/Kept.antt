@@ -19,8 +19,9 @@ use Rattle.dkg_store.specs.Secrets.{Secrets}
 use Rattle.dkg_store.specs.declared.devices.Devices.{Devices}
 use Rattle.dkg_store.specs.declared.secrets.SecretOp.{SecretOp}
 use Rattle.dkg_store.proofs.Both.{both_more}
+use Rattle.dkg_store.proofs.Halves.{recovered_at}
 use Rattle.dkg_store.proofs.Map.{exact_keys, keys_total}
-use Rattle.dkg_reshare.specs.Moved.{Moved, StaysAbove, StaysGiven, StaysSound, StaysWhole}
+use Rattle.dkg_reshare.specs.Moved.{GivesFrom, Moved, StaysAbove, StaysFrom, StaysGiven, StaysSound, StaysWhole}
 
 -- A disk that is as it was leaves the same images.
 module _ {D : Type 0} (image : D → Files → Type 0) (old new : D) (same : new ≡ old) where
@@ -145,6 +146,25 @@ module _ (min : ℕ) where
             let its = (holds (recovered (entries d) held) (once d has whole)).gives c here in
             ap (λ (m : Pairs). retain_keys m (λ k. nat_le min k.0)) its.2 ∙ retained_again (recovered (entries d) held) min its.0 its.1;
       }
+
+-- A seed was read, an epoch committed, and what lies below a minimum pruned.
+module _ {D : Type 0} (min : ℕ) (files : D → Files) (image : D → Files → Type 0) (d0 d1 d2 d3 : D) (s0 s1 s2 s3 : Secrets) (firm : Lands (files d0) (image d0)) (read : d1 ≡ d0) (read_too : s1 ≡ s0) where
+  pub above_committed : StaysWhole (image d1) (image d2) s1 s2 → StaysAbove min (image d0) (image d2) s0 s2
+  above_committed whole =
+      above_then min (above_same min image d0 d1 s0 s1 read read_too)
+      (above_of min (files d1) (image d1) (image d2) s1 s2 (subst (λ (d : D). Lands (files d) (image d)) (sym read) firm) whole.sound (λ pairs holds. all_pruned min pairs (image d2) s2 (whole.holds pairs holds)))
+
+  pub above_pruned : StaysWhole (image d1) (image d2) s1 s2 → (m : ℕ) → m ≡ min → StaysAbove m (image d2) (image d3) s2 s3 → StaysAbove min (image d0) (image d3) s0 s3
+  above_pruned whole m is above = above_then min (above_committed whole) (subst (λ (n : ℕ). StaysAbove n (image d2) (image d3) s2 s3) is above)
+
+  pub gives_pruned : d2 ≡ d1 → s2.privates ≡ s1.privates → (m : ℕ) → m ≡ min → StaysFrom m (image d2) (image d3) s2 s3 → StaysFrom min (image d0) (image d3) s0 s3
+  gives_pruned same halves m is from pairs gives =
+      let at_read : GivesFrom min pairs (image d1) s1 =
+          subst (λ (d : D). GivesFrom min pairs (image d) s1) (sym read) (subst (λ (s : Secrets). GivesFrom min pairs (image d0) s) (sym read_too) gives) in
+      let committed : GivesFrom min pairs (image d2) s2 =
+          record { each = λ c here key above. recovered_at s1 s2 key (entries c) (ap (λ (p : FinMap key_cmp ℕ). get p key) halves)
+              ∙ at_read.each c (subst (λ (d : D). image d c) same here) key above } in
+      (subst (λ (n : ℕ). StaysFrom n (image d2) (image d3) s2 s3) is from) pairs committed
 
 -- ONE CALL BEHIND ANOTHER, of both devices
 

@@ -1,5 +1,6 @@
 pub mod Beginning
 pub mod Burning
+pub mod Calls
 pub mod Caused
 pub mod Chained
 pub mod Drawing

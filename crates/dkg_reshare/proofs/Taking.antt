@@ -251,13 +251,13 @@ judged_cause (Some t) height digest parent =
     by_tests false false false true = tt
     by_tests false false false false = tt
 
-pub refusal_caused : (tip : Option Tip) (height : ℕ) (digest parent : List ℕ) → IfErr (judged tip height digest parent) (λ e. IsCaused (Faulted e) ⊥ ⊥)
+pub refusal_caused : (tip : Option Tip) (height : ℕ) (digest parent : List ℕ) → IfErr (judged tip height digest parent) (λ e. IsCaused (Faulted e) ⊥ ⊥ ⊥)
 unfolding judged judged_over
 refusal_caused None height digest parent = tt
 refusal_caused (Some t) height digest parent =
     by_tests ((height == t.height) && not (bytes_eq digest t.digest)) (nat_lt (t.height + 1) height) ((height == t.height + 1) && not (bytes_eq parent t.digest)) (nat_le height t.height)
   where
-    by_tests : (p q r s : Bool) → IfErr (if p then Err (ConflictingBlock height) else if q then Err (SkippedHeight (t.height + 1) height) else if r then Err (DetachedBlock height) else if s then Ok Again else Ok New) (λ e. IsCaused (Faulted e) ⊥ ⊥)
+    by_tests : (p q r s : Bool) → IfErr (if p then Err (ConflictingBlock height) else if q then Err (SkippedHeight (t.height + 1) height) else if r then Err (DetachedBlock height) else if s then Ok Again else Ok New) (λ e. IsCaused (Faulted e) ⊥ ⊥ ⊥)
     by_tests true q r s = tt
     by_tests false true r s = tt
     by_tests false false true s = tt
