@@ -177,9 +177,9 @@ both_ok (Ok x) so a b = so a b
 both_ok (Err e) so a b = tt
 
 -- .. by what is given of both
-pub ok_given : {T E A B C : Type 0} (r : Result T E) → (A → B → OnOk r C) → OnOk r (A → B → C)
-ok_given (Ok x) so = so
-ok_given (Err e) so = tt
+pub ok_given : {T E A B : Type 0} (C : Type 0) (r : Result T E) → (A → B → OnOk r C) → OnOk r (A → B → C)
+ok_given C (Ok x) so = so
+ok_given C (Err e) so = tt
 
 -- WHAT WAS REGISTERED
 

@@ -167,6 +167,18 @@ fn dealing(alloc: Global) -> Result<Message<Unit>, Fail>
     })
 }
 
+/// The height of a block that doesn't fit, where one ended a step.
+fn detached(ended: &Result<(), Stop>) -> Option<u64> {
+    match ended {
+        Err(Stop::Fault(Fault::DetachedBlock { height })) => Some(height.0),
+        _ => None,
+    }
+}
+
+fn has_failed(ended: &Result<(), Stop>) -> bool {
+    matches!(ended, Err(Stop::Failed))
+}
+
 /// How many lines were told after the opening, the dealing, the same again, and a block; and how a detached block and one more call end.
 fn lived(alloc: Global) -> Result<[usize; 4], Fail> {
     let limits = (NonZeroU32::new(4).ok_or("no limit")?, ModeVersion(0));
@@ -203,19 +215,17 @@ fn lived(alloc: Global) -> Result<[usize; 4], Fail> {
     if step(alloc, &mut actor, &mut devices, &source, block, &mut fence, &mut out).is_err() {
         return Err(Fail::from("not taken"));
     }
-    let detached = Message::Finalized(block_at(alloc, parent, Height(2), None)?);
-    let Err(Stop::Fault(Fault::DetachedBlock { height })) =
-        step(alloc, &mut actor, &mut devices, &source, detached, &mut fence, &mut out)
-    else {
+    let apart = Message::Finalized(block_at(alloc, parent, Height(2), None)?);
+    let ended = step(alloc, &mut actor, &mut devices, &source, apart, &mut fence, &mut out);
+    let Some(height) = detached(&ended) else {
         return Err(Fail::from("a detached block is taken"));
     };
     let late = dealing(alloc)?;
-    let Err(Stop::Failed) =
-        step(alloc, &mut actor, &mut devices, &source, late, &mut fence, &mut out)
-    else {
+    let ended = step(alloc, &mut actor, &mut devices, &source, late, &mut fence, &mut out);
+    if !has_failed(&ended) {
         return Err(Fail::from("a failed actor goes on"));
-    };
-    Ok([opened, heard, out.entries().len(), height.0 as usize])
+    }
+    Ok([opened, heard, out.entries().len(), height as usize])
 }
 
 #[test]

@@ -5,7 +5,7 @@ use Rattle.std.specs.Int.NonZero.{non_zero_u64_get}
 use Rattle.dkg_ceremony.specs.Schedule.{first}
 use Rattle.dkg_ceremony.specs.declared.epocher.Bounds.{Bounds}
 use Rattle.dkg_types.specs.declared.fault.Fault.TheVariants.{HeightRange, MissingEpochInfo}
-use Rattle.dkg_store.specs.Acts.{held_in}
+use Rattle.dkg_store.specs.Acts.{Stands, held_in}
 use Rattle.dkg_store.specs.declared.store.Store.{Store}
 use Rattle.dkg_core.specs.Agreeing.{AreAgreed}
 use Rattle.dkg_core.specs.Courses.{Stops}
@@ -195,6 +195,7 @@ returns-clause-agrees g c =
     let place = c.boundary_of.ensures n (ap (λ (b : Bounds). b.first) (bounds_is n c.in-Some.height c.in-Some-containing.bounds found) ∙ ap (λ (b : Bounds). first n b.epoch) (sym (bounds_is n c.in-Some.height c.in-Some-containing.bounds found))) in
     let held = ap option_copied c.in-Some-block.is in
     let info = sym c.epoch_info.ensures ∙ ap option_copied c.in-Some-epoch_info.is in
-    ok_given c.set_up_by.result (λ disk secrets. setup_agrees fixed (live_of beside c.args.fence.now c.args.life.now) (live_of (with_scheme_of c.args.terms.now.me c.in-Some-epoch_info.info.now beside) c.set_up_by.new.fence c.set_up_by.new.life) c.set_up_by.result
+    ok_given (Stands (g.D.Disk.files c.args.devices.now.disk.now) (g.D.Disk.image c.args.devices.now.disk.now) → AreAgreed (records_of c.args.life.now.store) (held_in (g.D.Disk.files c.args.devices.now.disk.now) (g.X.SecretStore.held c.args.devices.now.secrets.now))
+    → AreAgreed (records_of c.set_up_by.new.life.store) (held_in (g.D.Disk.files c.set_up_by.new.devices.disk.now) (g.X.SecretStore.held c.set_up_by.new.devices.secrets.now))) c.set_up_by.result (λ disk secrets. setup_agrees fixed (live_of beside c.args.fence.now c.args.life.now) (live_of (with_scheme_of c.args.terms.now.me c.in-Some-epoch_info.info.now beside) c.set_up_by.new.fence c.set_up_by.new.life) c.set_up_by.result
     (makes_as (by_block fixed n lent.of.blocks beside c.args.fence.now c.args.life.now c.in-Some.height c.in-Some.ensures.some c.in-Some-containing.bounds found c.begin_epoch.new.life c.begin_epoch.ensures c.requires.uncommitted (g.B.BlockSource.answers c.args.source.now) lent.lent c.boundary_of.result place (option_copied c.block.result) c.block.ensures c.in-Some-block.block.now held c.in-Some-epoch_info.info.now info) (ends_in (live_of (with_scheme_of c.args.terms.now.me c.in-Some-epoch_info.info.now beside) c.set_up_by.new.fence c.set_up_by.new.life) c.set_up_by.result) (c.set_up_by.ensures.acts disk secrets fixed beside lent.of (any_reads c.args.terms.now (g.B.BlockSource.answers c.args.source.now) c.args.word g.C.Ceremony.round_of g.C.Ceremony.dealing_of g.C.Ceremony.bears_ack_of c.in-Some-epoch_info.info.now.directory) lent.word_is (any_seats c.args.terms.now (g.B.BlockSource.answers c.args.source.now) c.args.word g.C.Ceremony.round_of g.C.Ceremony.dealing_of g.C.Ceremony.bears_ack_of c.in-Some-epoch_info.info.now.directory) (stands_there fixed n lent.of.blocks beside c.args.fence.now c.args.life.now c.in-Some.height c.in-Some.ensures.some c.in-Some-containing.bounds found c.begin_epoch.new.life c.begin_epoch.ensures c.requires.uncommitted)))
     (g.met.D.Disk.reads c.set_up_by.new.devices.disk.now disk))
