@@ -16,7 +16,7 @@ use Rattle.dkg_store.specs.Errors.{IsOfDevices, IsOfPruning}
 use Rattle.dkg_store.specs.Secrets.{Secrets}
 use Rattle.dkg_store.specs.declared.call.StoreError.{StoreError}
 use Rattle.dkg_store.specs.declared.call.StoreError.TheVariants.{Disk, Secrets as SecretsFailed, Corrupt, LocalState, StateSyncEpochs, StateSyncMaterial, Cut, NoMemory}
-use Rattle.dkg_store.proofs.Acts.{made_next, made_none, made_none_said, made_nothing, unreached}
+use Rattle.dkg_store.proofs.Acts.{made_next, made_none, made_nothing}
 use Rattle.dkg_core.specs.Courses.{Course, on_devices}
 use Rattle.dkg_reshare.specs.declared.stop.Stop.{Stop}
 use Rattle.dkg_reshare.specs.declared.stop.Stop.TheVariants as stop
@@ -49,14 +49,14 @@ module _ {D O : Type 0} {made : D → D → List (DeviceCall O) → Type 0} {a b
   burns_ran how uncut = record { call = ran_call; pick = ran_pick; uncut = uncut }
 
 -- where an end comes from outside
-pub unless_outside : {S : Type 0} (its : Stop) (P : Type 0) → IsOutside its → UnlessBroken (by_stop {S = S} its) P
-unless_outside stop.Cut P is = tt
-unless_outside stop.Failed P is = tt
-unless_outside {S} (stop.Fault its) P is = by_its (cause_in its) is
+pub unless_outside : (S : Type 0) (its : Stop) (P : Type 0) → IsOutside its → UnlessBroken (by_stop {S = S} its) P
+unless_outside S stop.Cut P is = tt
+unless_outside S stop.Failed P is = tt
+unless_outside S (stop.Fault its) P is = by_its (cause_in its) is
   where
     by_its : (cause : Option Cause) → IsSome cause → UnlessBroken (by_cause {S = S} cause its) P
     by_its (Some cause) is = tt
-    by_its None is = absurd is
+    by_its None is = absurd cc
 
 pub unless : {F S : Type 0} (how : Ended F S) (P : Type 0) → P → UnlessBroken how P
 unless (went end) P p = p
@@ -70,27 +70,30 @@ unless_so (broken cause) so p = tt
 
 -- errors of devices come from outside, and so do those of a prune
 pub outside_of_pruning : (e : StoreError) → IsOfPruning e → IsOutside (stop_of e)
-outside_of_pruning Disk is = tt
-outside_of_pruning SecretsFailed is = tt
-outside_of_pruning (Corrupt name place) is = tt
+outside_of_pruning Disk is = refl
+outside_of_pruning SecretsFailed is = refl
+outside_of_pruning (Corrupt name place) is = refl
 outside_of_pruning (LocalState cause) is = absurd is
 outside_of_pruning (StateSyncEpochs info floor) is = absurd is
 outside_of_pruning StateSyncMaterial is = absurd is
 outside_of_pruning Cut is = tt
-outside_of_pruning NoMemory is = tt
+outside_of_pruning NoMemory is = refl
 
 pub outside_of_devices : (e : StoreError) → IsOfDevices e → IsOutside (stop_of e)
 outside_of_devices e is = outside_of_pruning e (devices_of_pruning e is)
 
 -- .. with another end
-by_cause_alike : {S T : Type 0} (cause : Option Cause) (its : Fault) (P : Type 0) → UnlessBroken (by_cause {S = S} cause its) P → UnlessBroken (by_cause {S = T} cause its) P
-by_cause_alike (Some cause) its P p = tt
-by_cause_alike None its P p = p
+by_cause_alike : (S T : Type 0) (cause : Option Cause) (its : Fault) (P : Type 0) → UnlessBroken (by_cause {S = S} cause its) P → UnlessBroken (by_cause {S = T} cause its) P
+by_cause_alike S T (Some cause) its P p = tt
+by_cause_alike S T None its P p = p
 
-pub by_stop_alike : {S T : Type 0} (its : Stop) (P : Type 0) → UnlessBroken (by_stop {S = S} its) P → UnlessBroken (by_stop {S = T} its) P
-by_stop_alike stop.Cut P p = tt
-by_stop_alike stop.Failed P p = tt
-by_stop_alike (stop.Fault its) P p = by_cause_alike (cause_in its) its P p
+pub by_stop_alike : (S T : Type 0) (its : Stop) (P : Type 0) → UnlessBroken (by_stop {S = S} its) P → UnlessBroken (by_stop {S = T} its) P
+by_stop_alike S T stop.Cut P p = tt
+by_stop_alike S T stop.Failed P p = tt
+by_stop_alike S T (stop.Fault its) P p = by_cause_alike S T (cause_in its) its P p
+
+unreached : (f : Burn) → Reached f f → ⊥
+unreached f is = absurd (let low = is.not_yet in let high = is.by_now in omega (arith, low, high))
 
 -- no call was made
 pub burns_none : {F S : Type 0} (how : Ended F S) (f : Burn) → Burns how f f
@@ -108,7 +111,7 @@ burns_next how {f} {g} {h} first second = record {
 }
 
 pub burns_stopped : {S T : Type 0} (its : Stop) {f g : Burn} → Burns (by_stop {S = S} its) f g → Burns (by_stop {S = T} its) f g
-burns_stopped its {f} {g} burns = record { call = burns.call; pick = burns.pick; uncut = by_stop_alike its (Reached f g → ⊥) burns.uncut }
+burns_stopped {S} {T} its {f} {g} burns = record { call = burns.call; pick = burns.pick; uncut = by_stop_alike S T its (Reached f g → ⊥) burns.uncut }
 
 burns_renamed : {S : Type 0} (how : Ended StoreError S) {f g : Burn} → Burns how f g → Burns (renamed how) f g
 burns_renamed (went end) burns = record { call = burns.call; pick = burns.pick; uncut = burns.uncut }
@@ -143,7 +146,7 @@ module _ {S : Type 0} {acts : Acts StoreError S} {files files_now : Files} {imag
       → MakesAt (acts_of.under fault_of acts) (by_stop (stop_of e)) files image files_now now old new
   makes_error e kind made call pick = record {
     made = made_error e kind made;
-    burns = record { call = call; pick = pick; uncut = unless_outside (stop_of e) (Reached old.fuse new.fuse → ⊥) (outside_of_devices e kind) };
+    burns = record { call = call; pick = pick; uncut = unless_outside S (stop_of e) (Reached old.fuse new.fuse → ⊥) (outside_of_devices e kind) };
   }
 
 -- no device touched

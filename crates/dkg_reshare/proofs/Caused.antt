@@ -85,7 +85,7 @@ wants stop is = let R : Stop → Type 0 = λ s. IsCaused s ⊥ ⊥ ⊥ in subst 
 
 -- want of memory comes from outside
 pub of_want : (stop : Stop) → stop ≡ Faulted fault.NoMemory → IsOutside stop
-of_want stop is = subst IsOutside (sym is) tt
+of_want stop is = subst IsOutside (sym is) refl
 
 -- Neither does a round that wasn't drawn up, nor a player that wasn't made.
 pub of_round : (r : Result Round RoundError) (stop : Stop) → IsFaultOrWant (no_round r) stop → IsCaused stop ⊥ ⊥ ⊥
@@ -105,17 +105,19 @@ of_playing NoMemory is = tt
 
 -- WHAT A STORE'S ERROR BLAMES, and that it comes from outside
 
-module _ {disk secrets reached : Type 0} where
-  pub of_secrets_alone : (e : StoreError) → IsOfSecrets e → (e ≡ SecretsFailed → secrets) → (e ≡ StoreCut → reached) → IsOutside (stop_of e) × IsCaused (stop_of e) disk secrets reached
+module _ {T secrets reached : Type 0} where
+  pub of_secrets_alone : (e : StoreError) → IsOfSecrets e → (◌≡◌ {A = Result T StoreError} (Err e) (Err SecretsFailed) → secrets) → (◌≡◌ {A = Result T StoreError} (Err e) (Err StoreCut) → reached)
+      → IsOutside (stop_of e) × IsCaused (stop_of e) ⊥ secrets reached
   of_secrets_alone Disk is rose cut = absurd is
-  of_secrets_alone SecretsFailed is rose cut = (tt, rose refl)
+  of_secrets_alone SecretsFailed is rose cut = (refl, rose refl)
   of_secrets_alone (Corrupt name place) is rose cut = absurd is
   of_secrets_alone (LocalState cause) is rose cut = absurd is
   of_secrets_alone (StateSyncEpochs info floor) is rose cut = absurd is
   of_secrets_alone StateSyncMaterial is rose cut = absurd is
   of_secrets_alone StoreCut is rose cut = (tt, cut refl)
-  of_secrets_alone NoMemory is rose cut = (tt, tt)
+  of_secrets_alone NoMemory is rose cut = (refl, tt)
 
+module _ {disk secrets reached : Type 0} where
   pub of_both : (e : StoreError) → IsOfDevices e → (e ≡ Disk → disk) → (e ≡ SecretsFailed → secrets) → (e ≡ StoreCut → reached) → IsCaused (stop_of e) disk secrets reached
   of_both Disk is rose fell cut = rose refl
   of_both SecretsFailed is rose fell cut = fell refl
@@ -126,13 +128,14 @@ module _ {disk secrets reached : Type 0} where
   of_both StoreCut is rose fell cut = cut refl
   of_both NoMemory is rose fell cut = tt
 
-  pub of_pruning : (tells : Bool) (e : StoreError) → IsOfPruning e → (IsTrue tells → IsOfDevices e) → (e ≡ Disk → disk) → (e ≡ SecretsFailed → secrets) → (e ≡ StoreCut → reached)
+  pub of_pruning : {T : Type 0} (tells : Bool) (e : StoreError) → IsOfPruning e → (IsTrue tells → IsOfDevices e) → (◌≡◌ {A = Result T StoreError} (Err e) (Err Disk) → disk)
+      → (◌≡◌ {A = Result T StoreError} (Err e) (Err SecretsFailed) → secrets) → (◌≡◌ {A = Result T StoreError} (Err e) (Err StoreCut) → reached)
       → IsOutside (stop_of e) × IsCausedBy tells (stop_of e) disk secrets reached
-  of_pruning tells Disk is devices rose fell cut = (tt, rose refl)
-  of_pruning tells SecretsFailed is devices rose fell cut = (tt, fell refl)
-  of_pruning tells (Corrupt name place) is devices rose fell cut = (tt, λ told. devices told)
+  of_pruning tells Disk is devices rose fell cut = (refl, rose refl)
+  of_pruning tells SecretsFailed is devices rose fell cut = (refl, fell refl)
+  of_pruning tells (Corrupt name place) is devices rose fell cut = (refl, λ told. devices told)
   of_pruning tells (LocalState cause) is devices rose fell cut = absurd is
   of_pruning tells (StateSyncEpochs info floor) is devices rose fell cut = absurd is
   of_pruning tells StateSyncMaterial is devices rose fell cut = absurd is
   of_pruning tells StoreCut is devices rose fell cut = (tt, λ told. cut refl)
-  of_pruning tells NoMemory is devices rose fell cut = (tt, tt)
+  of_pruning tells NoMemory is devices rose fell cut = (refl, tt)

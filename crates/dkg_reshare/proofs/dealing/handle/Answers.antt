@@ -1,6 +1,8 @@
-use Rattle.std.proofs.Common.{ℕ, Ok, sym, subst, ◌∙◌}
+use Rattle.std.proofs.Common.{ℕ, Ok, Err, ap, sym, subst, ◌∙◌}
 use Rattle.std.specs.Prelude.{Contains}
 use Rattle.dkg_store.specs.Acts.{went}
+use Rattle.dkg_store.specs.declared.call.StoreError.{StoreError}
+use Rattle.dkg_store.specs.declared.player.DealingHandleError.TheVariants.{Store as OfStore}
 use Rattle.dkg_store.specs.declared.event.Event.TheVariants as events
 use Rattle.dkg_store.proofs.Fit.{fits_event}
 use Rattle.dkg_reshare.proofs.Burning.{burns_ran, makes_error, makes_under, ran_call, ran_pick}
@@ -68,4 +70,5 @@ returns-in-Err-Store-clause-moved g c =
 pub returns-in-Err-Store-clause-causes : goal.returns-in-Err-Store-clause-causes
 returns-in-Err-Store-clause-causes g c =
     let at = rw c.in-Err-Store.field-0-is at c.in-Err-Store.ensures in
-    rw c.from.ensures (of_both c.in-Err-Store.error at.kinds at.disk at.secrets at.cut)
+    rw c.from.ensures (of_both c.in-Err-Store.error at.kinds (λ is. at.disk (ap (λ (x : StoreError). Err (OfStore x)) is)) (λ is. at.secrets (ap (λ (x : StoreError). Err (OfStore x)) is))
+    (λ is. at.cut (ap (λ (x : StoreError). Err (OfStore x)) is)))

@@ -109,22 +109,22 @@ returns-in_err-judge_info-clause-gives g c = unless (ends_in tt c.from_residual.
 pub returns-in_err-seed-clause-gives : goal.returns-in_err-seed-clause-gives
 returns-in_err-seed-clause-gives g c =
     let p = err_from_is_err_and c.from_residual-in_err-seed.result c.from_residual-in_err-seed.ensures.1 in
-    rw (p.1, p.2) (unless_outside c.in_err-seed.field-0.0 _ c.in_err-seed.ensures.causes.0)
+    rw (p.1, p.2) (unless_outside _ c.in_err-seed.field-0.0 _ c.in_err-seed.ensures.causes.0)
 
 pub returns-in_err-commit-clause-gives : goal.returns-in_err-commit-clause-gives
 returns-in_err-commit-clause-gives g c =
     let p = err_from_is_err_and c.from_residual-in_err-commit.result c.from_residual-in_err-commit.ensures.1 in
-    rw (p.1, p.2) (unless_outside c.in_err-commit.field-0.0 _ c.in_err-commit.ensures.causes.0)
+    rw (p.1, p.2) (unless_outside _ c.in_err-commit.field-0.0 _ c.in_err-commit.ensures.causes.0)
 
 pub returns-in_err-prune-clause-gives : goal.returns-in_err-prune-clause-gives
 returns-in_err-prune-clause-gives g c =
     let p = err_from_is_err_and c.from_residual-in_err-prune.result c.from_residual-in_err-prune.ensures.1 in
-    rw (p.1, p.2) (unless_outside c.in_err-prune.field-0.0 _ c.in_err-prune.ensures.causes.0)
+    rw (p.1, p.2) (unless_outside _ c.in_err-prune.field-0.0 _ c.in_err-prune.ensures.causes.0)
 
 pub returns-in_err-register-clause-gives : goal.returns-in_err-register-clause-gives
 returns-in_err-register-clause-gives g c =
     let p = err_from_is_err_and c.from_residual-in_err-register.result c.from_residual-in_err-register.ensures.1 in
-    rw (p.1, p.2) (unless_outside c.in_err-register.field-0.0 _ (of_want c.in_err-register.field-0.0 c.in_err-register.ensures.memory))
+    rw (p.1, p.2) (unless_outside _ c.in_err-register.field-0.0 _ (of_want c.in_err-register.field-0.0 c.in_err-register.ensures.memory))
 
 pub returns-clause-gives : goal.returns-clause-gives
 returns-clause-gives g c = unless (ends_in tt c.draw_up.result) _ (λ told held.
