@@ -108,6 +108,9 @@ opened_above min image next s t same fit keeps = record {
 
 -- WHAT WAS READ
 
+pub given_above : (min : ℕ) (dealings : List Pair) (image : Files → Type 0) (s : Secrets) → AreGivenFrom 0 dealings image s → AreGivenFrom min dealings image s
+given_above min dealings image s given = λ c here key above. given c here key (omega arith)
+
 -- The dealings that each image gives back are given as far on as what the images give stays.
 pub given_on : (min : ℕ) (dealings : List Pair) (files : Files) (image next : Files → Type 0) (s t : Secrets) → image files → AreGivenFrom 0 dealings image s → StaysFrom min image next s t
     → AreGivenFrom min dealings next t

@@ -13,7 +13,7 @@ pub mod Judging
 pub mod Kept
 pub mod Lines
 pub mod Making
-pub mod OpeningStore
+pub mod Openings
 pub mod Placing
 pub mod Read
 pub mod Reading

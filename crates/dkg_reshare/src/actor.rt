@@ -168,7 +168,7 @@ impl<C: Ceremony, P, R: Registrar, M, Dir: Directory + Drop> Actor<C, P, R, M, D
         // Whatever the devices tell, its lines are those of an opening that has read something.
         ensures tells { (c : Fixed Dir) → IsLent self.old.terms (B.answers source.now) word c → c.life ≡ life → IsOpeningOfToday c
             → IsRuledBy C.round_of C.dealing_of C.ack_of C.bears_ack_of c.rules → fence.old ≡ no_fence
-            → HasRead (λ s. UnlessBroken (lives (λ life. life) self.new.state result) (IsTrue D.tells → IsTrue X.tells
+            → HasRead (λ s. UnlessBroken (ends_in tt result) (IsTrue D.tells → IsTrue X.tells
             → AreGivenFrom (epoch_at (B.answers source.now) self.old.terms - 1) s.dealings (D.image devices.new.disk.now) (X.held devices.new.secrets.now)))
             (λ s. EndsBeside nothing_beside (λ more. OnOk result (Took R.tells (R.taken self.old.registrar) (R.taken self.new.registrar) more))
             (λ now. Tells (opening (reading s c)) (lives (live_of now fence.new) self.new.state result)

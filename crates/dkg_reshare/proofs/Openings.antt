@@ -31,7 +31,7 @@ use Rattle.dkg_store.specs.Errors.{IsOfDevices, IsOfOpening, IsOfPruning}
 use Rattle.dkg_store.specs.Events.{no_event_at}
 use Rattle.dkg_store.specs.Keys.{key_cmp}
 use Rattle.dkg_store.specs.Pairs.{IsWhole, Pairs, recovered}
-use Rattle.dkg_store.specs.Recorded.{restored_list, restored_of}
+use Rattle.dkg_store.specs.Recorded.{Pair, restored_list, restored_of}
 use Rattle.dkg_store.specs.Secrets.{Secrets}
 use Rattle.dkg_store.specs.declared.call.StoreError.{StoreError}
 use Rattle.dkg_store.specs.declared.call.StoreError.TheVariants.{Disk, Secrets as SecretsFailed, Corrupt, LocalState, StateSyncEpochs, StateSyncMaterial, Cut as StoreCut, NoMemory}
@@ -58,15 +58,17 @@ use Rattle.dkg_reshare.specs.declared.life.Life.{Life}
 use Rattle.dkg_reshare.specs.declared.life.Stage.TheVariants.{Following}
 use Rattle.dkg_types.specs.declared.scheme.SchemeInfo.{SchemeInfo}
 use Rattle.dkg_reshare.specs.Ends.{IsCausedBy, by_stop, ends_in, stop_of}
-use Rattle.dkg_reshare.specs.Given.{AreGivenFrom, IsLent, reading}
+use Rattle.dkg_reshare.specs.Given.{AreGivenFrom, HasRead, IsLent, reading}
 use Rattle.dkg_reshare.specs.LiveOf.{Beside, EndsBeside, live_of, no_fence, nothing_beside, records_of}
-use Rattle.dkg_reshare.specs.Made.{Burns, MakesAt, Tells}
+use Rattle.dkg_reshare.specs.Made.{Burns, MakesAt, Tells, UnlessBroken}
+use Rattle.dkg_reshare.specs.Moved.{StaysFrom}
 use Rattle.dkg_reshare.specs.Opened.{IsInGrammar, opens_store, startup_of}
 use Rattle.dkg_reshare.specs.Today.{IsOpeningOfToday, seen_today}
 use Rattle.dkg_reshare.proofs.Beginning.{begun_at, begun_live, makes_as, opening_as, recorded, sets_up_over, tells_as}
-use Rattle.dkg_reshare.proofs.Burning.{burns_ran, line_makes, makes_early, makes_error, makes_next, makes_under}
+use Rattle.dkg_reshare.proofs.Burning.{burns_ran, by_stop_alike, line_makes, makes_early, makes_error, makes_next, makes_under, outside_of_pruning, unless_outside, unless_so}
 use Rattle.dkg_reshare.proofs.Chained.{early_makes, early_told, then_makes, then_told}
-use Rattle.dkg_reshare.proofs.Said.{nothing_held}
+use Rattle.dkg_reshare.proofs.Giving.{given_above, given_on}
+use Rattle.dkg_reshare.proofs.Said.{nothing_held, said_none}
 
 -- A JOURNAL IN ITS GRAMMAR
 
@@ -202,6 +204,46 @@ pub given_back : {Dir : Type 0} (store : Store Dir) (image : Files → Type 0) (
     → AreGivenFrom 0 (seen_of store).dealings image t
 given_back store image es s t is settled same = λ c here key above.
     sym (get-entries store.dealings key) ∙ ap (λ (m : Pairs). get m key) (is ∙ (λ i. recovered (sym (settled c here) i) (sym same i)))
+
+module _ {Dir : Type 0} (life calls : ℕ) where
+  -- Where the store failed, nothing was said, whatever was read.
+  pub store_untold : (e : StoreError) → IsOfPruning e → (out : List Line) (P : Seen → Type 0)
+      → HasRead (λ s. UnlessBroken (by_stop {S = Records} (stop_of e)) (P s)) (λ s. Tells {Dir = Dir} (opens_store (λ h. s) life calls) (by_stop (stop_of e)) out out)
+  store_untold e kind out P = record {
+    seen = nothing_seen;
+    shareless = refl;
+    unplanned = refl;
+    given = unless_outside (stop_of e) (P nothing_seen) (outside_of_pruning e kind);
+    so = said_none (on_devices {Dir = Dir} (opens_store (λ h. nothing_seen) life calls)) e kind refl;
+  }
+
+  -- .. and where its line found no memory
+  pub store_unlisted : (out now : List Line) → now ≡ out → (P : Seen → Type 0)
+      → HasRead (λ s. UnlessBroken (by_stop {S = Records} (Faulted fault.NoMemory)) (P s)) (λ s. Tells {Dir = Dir} (opens_store (λ h. s) life calls) (by_stop (Faulted fault.NoMemory)) out now)
+  store_unlisted out now same P = record {
+    seen = nothing_seen;
+    shareless = refl;
+    unplanned = refl;
+    given = tt;
+    so = said_none (on_devices {Dir = Dir} (opens_store (λ h. nothing_seen) life calls)) NoMemory tt same;
+  }
+
+-- What was given from the first epoch on, is so from a later one.
+pub given_untold : {S T : Type 0} (stop : Stop) (tells sure : Type 0) (min : ℕ) (dealings : List Pair) (image : Files → Type 0) (s : Secrets)
+    → UnlessBroken (by_stop {S = S} stop) (tells → sure → AreGivenFrom 0 dealings image s) → UnlessBroken (by_stop {S = T} stop) (tells → sure → AreGivenFrom min dealings image s)
+given_untold {S} {T} stop tells sure min dealings image s given =
+    by_stop_alike {S = S} {T = T} stop (tells → sure → AreGivenFrom min dealings image s)
+    (unless_so (by_stop {S = S} stop) {P = tells → sure → AreGivenFrom 0 dealings image s} {Q = tells → sure → AreGivenFrom min dealings image s} (λ its told too. given_above min dealings image s (its told too)) given)
+
+module _ (tells sure : Type 0) (low min : ℕ) (same : low ≡ min) (dealings : List Pair) (files : Files) (image next : Files → Type 0) (s t : Secrets) (there : tells → image files) (given : tells → sure → AreGivenFrom 0 dealings image s) where
+  -- .. and of what a setup behind it leaves
+  pub given_behind : (tells → sure → StaysFrom low image next s t) → tells → sure → AreGivenFrom min dealings next t
+  given_behind stays told too = subst (λ (m : ℕ). AreGivenFrom m dealings next t) same (given_on low dealings files image next s t (there told) (given told too) (stays told too))
+
+  pub given_stopped : {S T : Type 0} (stop : Stop) → UnlessBroken (by_stop {S = S} stop) (tells → sure → StaysFrom low image next s t) → UnlessBroken (by_stop {S = T} stop) (tells → sure → AreGivenFrom min dealings next t)
+  given_stopped {S} {T} stop stays =
+      by_stop_alike {S = S} {T = T} stop (tells → sure → AreGivenFrom min dealings next t)
+      (unless_so (by_stop {S = S} stop) {P = tells → sure → StaysFrom low image next s t} {Q = tells → sure → AreGivenFrom min dealings next t} given_behind stays)
 
 -- A READ that changes nothing
 
