@@ -9,7 +9,7 @@ ghost use Rattle.dkg_core.specs.Core.{opening, step};
 ghost use Rattle.dkg_core.specs.Fixed.{Fixed};
 ghost use Rattle.dkg_reshare.specs.Actors.{EndsAt, FailsStop, IfLiving, IsAgreed, IsAt, IsFoundAt, IsNew, IsReadyLife, IsSoundAt};
 ghost use Rattle.dkg_reshare.specs.Actors.{AreTerms, IsTakenToday, config_fault, lives, message_of};
-ghost use Rattle.dkg_reshare.specs.Ends.{IsCaused, IsCausedInStep, ends_in};
+ghost use Rattle.dkg_reshare.specs.Ends.{IsCaused, IsCausedInStep, ends, ends_in};
 ghost use Rattle.dkg_reshare.specs.Given.{AreGivenFrom, HasRead, IsLent, IsOf, reading};
 ghost use Rattle.dkg_reshare.specs.LiveOf.{Beside, EndsBeside, Took, live_of, no_fence, nothing_beside};
 ghost use Rattle.dkg_reshare.specs.Made.{Makes, Tells, UnlessBroken};
@@ -168,7 +168,7 @@ impl<C: Ceremony, P, R: Registrar, M, Dir: Directory + Drop> Actor<C, P, R, M, D
         // Whatever the devices tell, its lines are those of an opening that has read something.
         ensures tells { (c : Fixed Dir) → IsLent self.old.terms (B.answers source.now) word c → c.life ≡ life → IsOpeningOfToday c
             → IsRuledBy C.round_of C.dealing_of C.ack_of C.bears_ack_of c.rules → fence.old ≡ no_fence
-            → HasRead (λ s. UnlessBroken (ends_in tt result) (IsTrue D.tells → IsTrue X.tells
+            → HasRead (λ s. UnlessBroken (ends (λ done. done) result) (IsTrue D.tells → IsTrue X.tells
             → AreGivenFrom (epoch_at (B.answers source.now) self.old.terms - 1) s.dealings (D.image devices.new.disk.now) (X.held devices.new.secrets.now)))
             (λ s. EndsBeside nothing_beside (λ more. OnOk result (Took R.tells (R.taken self.old.registrar) (R.taken self.new.registrar) more))
             (λ now. Tells (opening (reading s c)) (lives (live_of now fence.new) self.new.state result)

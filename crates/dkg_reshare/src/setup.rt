@@ -372,7 +372,7 @@ fn set_up_by<C: Ceremony, R: Registrar, Dir: Directory + Drop, D: Disk, X: Secre
         (Rose (X.faults devices.old.secrets.now) (X.faults devices.new.secrets.now)) (Reached devices.old.fuse devices.new.fuse)) }
     ensures above { IsTrue D.tells → StaysAbove (life.old.epoch - 1) (D.image devices.old.disk.now) (D.image devices.new.disk.now)
         (X.held devices.old.secrets.now) (X.held devices.new.secrets.now) }
-    ensures gives { UnlessBroken (ends_in tt result) (IsTrue D.tells → IsTrue X.tells → StaysFrom (life.old.epoch - 1)
+    ensures gives { UnlessBroken (ends (λ done. done) result) (IsTrue D.tells → IsTrue X.tells → StaysFrom (life.old.epoch - 1)
         (D.image devices.old.disk.now) (D.image devices.new.disk.now) (X.held devices.old.secrets.now) (X.held devices.new.secrets.now)) }
 {
     judge_info(alloc, terms, life.epoch, info)?;
@@ -444,7 +444,7 @@ pub(crate) fn set_up<
         (Rose (X.faults devices.old.secrets.now) (X.faults devices.new.secrets.now)) (Reached devices.old.fuse devices.new.fuse)) }
     ensures above { IsTrue D.tells → StaysAbove (epoch_above terms.now life.old.tip - 1) (D.image devices.old.disk.now) (D.image devices.new.disk.now)
         (X.held devices.old.secrets.now) (X.held devices.new.secrets.now) }
-    ensures gives { UnlessBroken (ends_in tt result) (IsTrue D.tells → IsTrue X.tells → StaysFrom (epoch_above terms.now life.old.tip - 1)
+    ensures gives { UnlessBroken (ends (λ done. done) result) (IsTrue D.tells → IsTrue X.tells → StaysFrom (epoch_above terms.now life.old.tip - 1)
         (D.image devices.old.disk.now) (D.image devices.new.disk.now) (X.held devices.old.secrets.now) (X.held devices.new.secrets.now)) }
 {
     let Some(height) = awaited(&life.tip) else {
