@@ -163,18 +163,18 @@ module _ {D X : Type 0} (disk : D → D → List (DeviceCall Op) → Type 0) (se
 
 -- AS ACTS: the store's opening, and the line
 
-module _ {Dir : Type 0} (life calls : ℕ) {D : Type 0} {made : D → D → List (DeviceCall Op) → Type 0} {a b : D} {ops : List Op}
+abbrev tells_line : (life : ℕ) → Pairs × Notes (List ℕ) × Notes RecordedLog → Acts Fault Records
+tells_line life g = acts_of.Say (Opened life (restored_list g.0)) (acts_of.Goes (recorded g))
+
+module _ (Dir : Type 0) (life calls : ℕ) {D : Type 0} {made : D → D → List (DeviceCall Op) → Type 0} {a b : D} {ops : List Op}
     {files files_now : Files} {image now : Files → Type 0} {old new : Moment} (ran : Ran made a b old.fuse new.fuse ops)
   where
-    abbrev tells_line : Pairs × Notes (List ℕ) × Notes RecordedLog → Acts Fault Records
-    tells_line g = acts_of.Say (Opened life (restored_list g.0)) (acts_of.Goes (recorded g))
-
     -- it failed
     pub store_failed : (e : StoreError) → IsOfDevices e → MadeAt (calls_of.opening None calls None) (by_error e) files image files_now now old new
         → MakesAt (on_devices (opens_store {Dir = Dir} seen_today life calls)) (by_stop (stop_of e)) files image files_now now old new
     store_failed e kind opened =
         let burns : Burns {F = Fault} {S = Records} (broken_by by_want) old.fuse new.fuse = burns_ran ran.all (broken_by by_want) tt in
-        makes_early tells_line (stop_of e) (makes_error e kind opened burns.call burns.pick)
+        makes_early (tells_line life) (stop_of e) (makes_error e kind opened burns.call burns.pick)
 
     -- .. or went, and its line was told, or found no memory
     pub store_opened : (g : Pairs × Notes (List ℕ) × Notes RecordedLog) → MadeAt (calls_of.opening None calls None) (went g) files image files_now now old new → (Reached old.fuse new.fuse → ⊥)
@@ -182,7 +182,7 @@ module _ {Dir : Type 0} (life calls : ℕ) {D : Type 0} {made : D → D → List
         → IfErr result (λ stop. stop ≡ Faulted fault.NoMemory)
         → MakesAt (on_devices (opens_store {Dir = Dir} seen_today life calls)) (ends_in (recorded g) result) files image files_now now old (acts_of.moment out new.secrets new.fuse)
     store_opened g opened uncut result {out} told untold memory =
-        makes_next tells_line (makes_under (went g) opened (burns_ran ran.all (went g) uncut))
+        makes_next (tells_line life) (makes_under (went g) opened (burns_ran ran.all (went g) uncut))
         (line_makes (Opened life (restored_list g.0)) (recorded g) result files_now now new.secrets new.fuse told untold memory)
 
 -- WHAT WAS READ
@@ -205,7 +205,7 @@ pub given_back : {Dir : Type 0} (store : Store Dir) (image : Files → Type 0) (
 given_back store image es s t is settled same = λ c here key above.
     sym (get-entries store.dealings key) ∙ ap (λ (m : Pairs). get m key) (is ∙ (λ i. recovered (sym (settled c here) i) (sym same i)))
 
-module _ {Dir : Type 0} (life calls : ℕ) where
+module _ (Dir : Type 0) (life calls : ℕ) where
   -- Where the store failed, nothing was said, whatever was read.
   pub store_untold : (e : StoreError) → IsOfPruning e → (out : List Line) (P : Seen → Type 0)
       → HasRead (λ s. UnlessBroken (by_stop {S = Records} (stop_of e)) (P s)) (λ s. Tells {Dir = Dir} (opens_store (λ h. s) life calls) (by_stop (stop_of e)) out out)
@@ -213,7 +213,7 @@ module _ {Dir : Type 0} (life calls : ℕ) where
     seen = nothing_seen;
     shareless = refl;
     unplanned = refl;
-    given = unless_outside (stop_of e) (P nothing_seen) (outside_of_pruning e kind);
+    given = unless_outside Records (stop_of e) (P nothing_seen) (outside_of_pruning e kind);
     so = said_none (on_devices {Dir = Dir} (opens_store (λ h. nothing_seen) life calls)) e kind refl;
   }
 
@@ -229,10 +229,10 @@ module _ {Dir : Type 0} (life calls : ℕ) where
   }
 
 -- What was given from the first epoch on, is so from a later one.
-pub given_untold : {S T : Type 0} (stop : Stop) (tells sure : Type 0) (min : ℕ) (dealings : List Pair) (image : Files → Type 0) (s : Secrets)
+pub given_untold : (S T : Type 0) (stop : Stop) (tells sure : Type 0) (min : ℕ) (dealings : List Pair) (image : Files → Type 0) (s : Secrets)
     → UnlessBroken (by_stop {S = S} stop) (tells → sure → AreGivenFrom 0 dealings image s) → UnlessBroken (by_stop {S = T} stop) (tells → sure → AreGivenFrom min dealings image s)
-given_untold {S} {T} stop tells sure min dealings image s given =
-    by_stop_alike {S = S} {T = T} stop (tells → sure → AreGivenFrom min dealings image s)
+given_untold S T stop tells sure min dealings image s given =
+    by_stop_alike S T stop (tells → sure → AreGivenFrom min dealings image s)
     (unless_so (by_stop {S = S} stop) {P = tells → sure → AreGivenFrom 0 dealings image s} {Q = tells → sure → AreGivenFrom min dealings image s} (λ its told too. given_above min dealings image s (its told too)) given)
 
 module _ (tells sure : Type 0) (low min : ℕ) (same : low ≡ min) (dealings : List Pair) (files : Files) (image next : Files → Type 0) (s t : Secrets) (there : tells → image files) (given : tells → sure → AreGivenFrom 0 dealings image s) where
@@ -240,32 +240,32 @@ module _ (tells sure : Type 0) (low min : ℕ) (same : low ≡ min) (dealings : 
   pub given_behind : (tells → sure → StaysFrom low image next s t) → tells → sure → AreGivenFrom min dealings next t
   given_behind stays told too = subst (λ (m : ℕ). AreGivenFrom m dealings next t) same (given_on low dealings files image next s t (there told) (given told too) (stays told too))
 
-  pub given_stopped : {S T : Type 0} (stop : Stop) → UnlessBroken (by_stop {S = S} stop) (tells → sure → StaysFrom low image next s t) → UnlessBroken (by_stop {S = T} stop) (tells → sure → AreGivenFrom min dealings next t)
-  given_stopped {S} {T} stop stays =
-      by_stop_alike {S = S} {T = T} stop (tells → sure → AreGivenFrom min dealings next t)
+  pub given_stopped : (S T : Type 0) (stop : Stop) → UnlessBroken (by_stop {S = S} stop) (tells → sure → StaysFrom low image next s t) → UnlessBroken (by_stop {S = T} stop) (tells → sure → AreGivenFrom min dealings next t)
+  given_stopped S T stop stays =
+      by_stop_alike S T stop (tells → sure → AreGivenFrom min dealings next t)
       (unless_so (by_stop {S = S} stop) {P = tells → sure → StaysFrom low image next s t} {Q = tells → sure → AreGivenFrom min dealings next t} given_behind stays)
 
 -- A READ that changes nothing
 
 module _ {Dir F S : Type 0} (course : Course Dir F S) where
-  runs_asked : (how : Ended F S) (w new : World) → Runs (on_devices course) how w new → Runs (on_devices (Ask {Dir = Dir} (λ h. course))) how w new
+  runs_asked : (how : Ended F S) (w new : World) → Runs (on_devices course) how w new → Runs (on_devices (Ask (λ h. course))) how w new
   runs_asked (went end) w new a = a
   runs_asked (stopped fault) w new a = a
   runs_asked (broken_by cause) w new a = a
 
   pub asked_makes : {how : Ended F S} {files files_now : Files} {image now : Files → Type 0} {old new : Moment} → MakesAt (on_devices course) how files image files_now now old new
-      → MakesAt (on_devices (Ask {Dir = Dir} (λ h. course))) how files image files_now now old new
+      → MakesAt (on_devices (Ask (λ h. course))) how files image files_now now old new
   asked_makes {how} {files} {old = old} {new = new} it = record {
     made = record { made = λ stands c here. runs_asked how (acts_of.at old files) (acts_of.at new c) (it.made.made stands c here); stands = it.made.stands };
     burns = it.burns;
   }
 
-  asked_says : (how : Ended F S) (lines : List Line) → SaysBy (on_devices course) how lines → SaysBy (on_devices (Ask {Dir = Dir} (λ h. course))) how lines
+  asked_says : (how : Ended F S) (lines : List Line) → SaysBy (on_devices course) how lines → SaysBy (on_devices (Ask (λ h. course))) how lines
   asked_says (went end) lines by = (nothing_held, by)
   asked_says (stopped fault) lines by = (nothing_held, by)
   asked_says (broken_by cause) lines by = inr (nothing_held, by)
 
-  pub asked_told : (how : Ended F S) {out now : List Line} → Tells course how out now → Tells (Ask {Dir = Dir} (λ h. course)) how out now
+  pub asked_told : (how : Ended F S) {out now : List Line} → Tells course how out now → Tells (Ask (λ h. course)) how out now
   asked_told how said = record { lines = said.lines; added = said.added; by = asked_says how said.lines said.by }
 
 -- AN OPENING OF A LIFE
@@ -330,10 +330,10 @@ beside_as took so ends = record { now = ends.now; more = ends.more; schemes = en
 -- MEMORY AND DEVICES AGREE
 
 -- behind the store's opening
-pub store_agrees : {Dir : Type 0} (life calls : ℕ) (r : Records) {files files_now : Files} {image now : Files → Type 0} {old new : Moment}
+pub store_agrees : (Dir : Type 0) (life calls : ℕ) (r : Records) {files files_now : Files} {image now : Files → Type 0} {old new : Moment}
     → MakesAt (on_devices (opens_store {Dir = Dir} seen_today life calls)) (went r) files image files_now now old new → now files_now → Stands files image → IsWhole (entries files) old.secrets
     → AreAgreed r (held_in files_now new.secrets)
-store_agrees life calls r {files} {old = old} it here stands whole =
+store_agrees Dir life calls r {files} {old = old} it here stands whole =
     let done = it.made.made stands _ here in
     let opened : Held = after (OnDisk (Opens calls)) (after (OnDisk Bars) (held_in files old.secrets)) in
     subst (λ (w : World). AreAgreed r w.held) (sym done.0) (subst (λ (x : Records). AreAgreed x opened) (sym done.1) (record { whole = whole; dealings = refl; acks = refl; logs = refl }))

@@ -176,6 +176,11 @@ pub both_ok : {T E A B C : Type 0} (r : Result T E) → (A → B → C) → OnOk
 both_ok (Ok x) so a b = so a b
 both_ok (Err e) so a b = tt
 
+-- .. by what is given of both
+pub ok_given : {T E A B C : Type 0} (r : Result T E) → (A → B → OnOk r C) → OnOk r (A → B → C)
+ok_given (Ok x) so = so
+ok_given (Err e) so = tt
+
 -- WHAT WAS REGISTERED
 
 module _ {Dir : Type 0} (beside : Beside Dir) (Took : List (ℕ × SchemeInfo) → Type 0) (P : Beside Dir → Type 0) where

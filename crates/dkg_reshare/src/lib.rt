@@ -22,6 +22,6 @@ mod tip;
 pub use actor::Actor;
 pub use config::Config;
 pub use message::Message;
-pub use source::{BlockSource, Processed};
+pub use source::{BlockSource, Processed, startup};
 pub use stop::Stop;
 pub use tip::Tip;

@@ -21,7 +21,7 @@ ghost use Rattle.dkg_reshare.specs.Today.{IsOpeningOfToday, seen_today};
 use crate::config::Terms;
 use crate::life::{Life, Stage};
 use crate::setup::set_up;
-use crate::source::{BlockSource, startup};
+use crate::source::{BlockSource, position};
 use crate::stop::Stop;
 use dkg_ceremony::Ceremony;
 use dkg_fence::Fence;
@@ -61,11 +61,11 @@ fn open_store<Dir: Directory + Drop, D: Disk, X: SecretStore>(
     ensures readable { IsTrue D.tells → OpensReadable (IsInGrammar (non_zero_u32_get limit) (D.files devices.old.disk.now)) result
         out.old.entries out.new.entries }
     ensures acts { IsTrue D.tells → IsTrue X.tells → IsInGrammar (non_zero_u32_get limit) (D.files devices.old.disk.now)
-        → Makes D.files D.image X.held (opens_store seen_today life (length (open_calls (D.files devices.old.disk.now)))) (ends records_of result)
+        → Makes {Dir = Dir} D.files D.image X.held (opens_store seen_today life (length (open_calls (D.files devices.old.disk.now)))) (ends records_of result)
         devices.old devices.new out.old.entries out.new.entries }
     ensures tells { (calls : ℕ) → HasRead (λ s. UnlessBroken (ends records_of result) (IsTrue D.tells → IsTrue X.tells
         → AreGivenFrom 0 s.dealings (D.image devices.new.disk.now) (X.held devices.new.secrets.now)))
-        (λ s. Tells (opens_store (λ h. s) life calls) (ends records_of result) out.old.entries out.new.entries) }
+        (λ s. Tells {Dir = Dir} (opens_store (λ h. s) life calls) (ends records_of result) out.old.entries out.new.entries) }
     ensures moved { Moved D.tells D.made X.made D.faults X.faults devices.old devices.new }
     ensures causes { IfErr result (λ stop. IsFoundAt (non_zero_u32_get limit) D.tells (D.files devices.new.disk.now) stop
         (Rose (D.faults devices.old.disk.now) (D.faults devices.new.disk.now))
@@ -86,7 +86,7 @@ fn begin<Dir: Directory + Drop, B: BlockSource<Dir>>(store: Store<Dir>, source: 
 {
     Life {
         store,
-        tip: startup(source, None),
+        tip: position(source),
         epoch: Epoch(0),
         midpoint: Height(0),
         stage: Stage::Following,

@@ -6,6 +6,7 @@ use Rattle.dkg_journal.specs.Opening.{open_calls}
 use Rattle.dkg_store.specs.Acts.{held_in, went}
 use Rattle.dkg_store.specs.declared.store.Store.{Store}
 use Rattle.dkg_core.specs.Agreeing.{AreAgreed}
+use Rattle.dkg_core.specs.Live.{Records}
 use Rattle.dkg_reshare.specs.declared.life.Life.{Life}
 use Rattle.dkg_reshare.specs.Ends.{by_stop}
 use Rattle.dkg_reshare.specs.Given.{reading}
@@ -37,8 +38,8 @@ returns-in_err-store-clause-tells g c = λ fixed lent life today seats fresh.
       seen = read.seen;
       shareless = read.shareless;
       unplanned = read.unplanned;
-      given = given_untold c.in_err-store.field-0.0 (IsTrue g.D.Disk.tells) (IsTrue g.X.SecretStore.tells) (epoch_at (g.B.BlockSource.answers c.args.source.now) c.args.terms.now - 1) read.seen.dealings (g.D.Disk.image c.open_store.new.devices.disk.now) (g.X.SecretStore.held c.open_store.new.devices.secrets.now) read.given;
-      so = none_beside nothing_beside _ _ tt (opening_untold (reading read.seen fixed) today (λ h. read.unplanned) (λ h. read.seen) refl c.args.number fixed.opening_calls life refl c.in_err-store.field-0.0 read.so);
+      given = given_untold Records (Life g.row.Dir.Denot) c.in_err-store.field-0.0 (IsTrue g.D.Disk.tells) (IsTrue g.X.SecretStore.tells) (epoch_at (g.B.BlockSource.answers c.args.source.now) c.args.terms.now - 1) read.seen.dealings (g.D.Disk.image c.open_store.new.devices.disk.now) (g.X.SecretStore.held c.open_store.new.devices.secrets.now) read.given;
+      so = none_beside nothing_beside _ _ tt (opening_untold (reading read.seen fixed) (record { reshare = today.reshare; bare = today.bare }) (λ h. read.unplanned) (λ h. read.seen) refl c.args.number fixed.opening_calls life refl c.in_err-store.field-0.0 read.so);
     })
 
 pub returns-in_err-store-clause-causes : goal.returns-in_err-store-clause-causes
@@ -48,7 +49,7 @@ returns-in_err-store-clause-causes g c =
 
 pub returns-in_err-store-clause-above : goal.returns-in_err-store-clause-above
 returns-in_err-store-clause-above g c = λ told.
-    c.open_store.ensures.above told _
+    c.open_store.ensures.above told (epoch_at (g.B.BlockSource.answers c.args.source.now) c.args.terms.now - 1)
 
 pub returns-in_err-set_up-clause-readable : goal.returns-in_err-set_up-clause-readable
 returns-in_err-set_up-clause-readable g c = λ told.
@@ -69,8 +70,8 @@ returns-in_err-set_up-clause-tells g c = λ fixed lent life today seats fresh.
       seen = read.seen;
       shareless = read.shareless;
       unplanned = read.unplanned;
-      given = given_stopped (IsTrue g.D.Disk.tells) (IsTrue g.X.SecretStore.tells) _ (epoch_at (g.B.BlockSource.answers c.args.source.now) c.args.terms.now - 1) (ap (λ (l : Life g.row.Dir.Denot). epoch_above c.args.terms.now l.tip - 1) c.begin-life.ensures) read.seen.dealings (g.D.Disk.files c.open_store.new.devices.disk.now) (g.D.Disk.image c.open_store.new.devices.disk.now) (g.D.Disk.image c.set_up.new.devices.disk.now) (g.X.SecretStore.held c.open_store.new.devices.secrets.now) (g.X.SecretStore.held c.set_up.new.devices.secrets.now) (λ told. g.met.D.Disk.reads c.open_store.new.devices.disk.now told) read.given c.in_err-set_up.field-0.0 c.in_err-set_up.ensures.gives;
-      so = beside_as (λ more took. took) (λ now told. opening_told (reading read.seen fixed) today (λ h. read.unplanned) (λ h. read.seen) refl c.args.number fixed.opening_calls life refl (g.B.BlockSource.answers c.args.source.now) lent.lent c.args.fence.now fresh c.in_ok-store.store c.in_ok-store.ensures.current c.begin-life.result c.begin-life.ensures (by_stop c.in_err-set_up.field-0.0) read.so told)
+      given = given_stopped (IsTrue g.D.Disk.tells) (IsTrue g.X.SecretStore.tells) _ (epoch_at (g.B.BlockSource.answers c.args.source.now) c.args.terms.now - 1) (ap (λ (l : Life g.row.Dir.Denot). epoch_above c.args.terms.now l.tip - 1) c.begin-life.ensures) read.seen.dealings (g.D.Disk.files c.open_store.new.devices.disk.now) (g.D.Disk.image c.open_store.new.devices.disk.now) (g.D.Disk.image c.set_up.new.devices.disk.now) (g.X.SecretStore.held c.open_store.new.devices.secrets.now) (g.X.SecretStore.held c.set_up.new.devices.secrets.now) (λ told. g.met.D.Disk.reads c.open_store.new.devices.disk.now told) read.given (Unit {0}) (Life g.row.Dir.Denot) c.in_err-set_up.field-0.0 c.in_err-set_up.ensures.gives;
+      so = beside_as (λ more took. took) (λ now told. opening_told (reading read.seen fixed) (record { reshare = today.reshare; bare = today.bare }) (λ h. read.unplanned) (λ h. read.seen) refl c.args.number fixed.opening_calls life refl (g.B.BlockSource.answers c.args.source.now) lent.lent c.args.fence.now fresh c.in_ok-store.store c.in_ok-store.ensures.current c.begin-life.result c.begin-life.ensures (by_stop c.in_err-set_up.field-0.0) read.so told)
           (c.in_err-set_up.ensures.tells (reading read.seen fixed) nothing_beside (reading_lent c.args.terms.now (g.B.BlockSource.answers c.args.source.now) c.args.word fixed read.seen read.shareless read.unplanned lent) seats);
     })
 
@@ -80,7 +81,7 @@ returns-in_err-set_up-clause-moved g c =
 
 pub returns-in_err-set_up-clause-above : goal.returns-in_err-set_up-clause-above
 returns-in_err-set_up-clause-above g c = λ told.
-    above_then _ (c.open_store.ensures.above told _) (subst (λ (min : ℕ). StaysAbove min _ _ _ _) (ap (λ (l : Life g.row.Dir.Denot). epoch_above c.args.terms.now l.tip - 1) c.begin-life.ensures) (c.set_up.ensures.above told))
+    above_then (epoch_at (g.B.BlockSource.answers c.args.source.now) c.args.terms.now - 1) (c.open_store.ensures.above told (epoch_at (g.B.BlockSource.answers c.args.source.now) c.args.terms.now - 1)) (subst (λ (min : ℕ). StaysAbove min (g.D.Disk.image c.open_store.new.devices.disk.now) (g.D.Disk.image c.set_up.new.devices.disk.now) (g.X.SecretStore.held c.open_store.new.devices.secrets.now) (g.X.SecretStore.held c.set_up.new.devices.secrets.now)) (ap (λ (l : Life g.row.Dir.Denot). epoch_above c.args.terms.now l.tip - 1) c.begin-life.ensures) (c.set_up.ensures.above told))
 
 pub returns-clause-readable : goal.returns-clause-readable
 returns-clause-readable g c = λ told.
@@ -99,7 +100,7 @@ returns-clause-tells g c = λ fixed lent life today seats fresh.
       shareless = read.shareless;
       unplanned = read.unplanned;
       given = given_behind (IsTrue g.D.Disk.tells) (IsTrue g.X.SecretStore.tells) _ (epoch_at (g.B.BlockSource.answers c.args.source.now) c.args.terms.now - 1) (ap (λ (l : Life g.row.Dir.Denot). epoch_above c.args.terms.now l.tip - 1) c.begin-life.ensures) read.seen.dealings (g.D.Disk.files c.open_store.new.devices.disk.now) (g.D.Disk.image c.open_store.new.devices.disk.now) (g.D.Disk.image c.set_up.new.devices.disk.now) (g.X.SecretStore.held c.open_store.new.devices.secrets.now) (g.X.SecretStore.held c.set_up.new.devices.secrets.now) (λ told. g.met.D.Disk.reads c.open_store.new.devices.disk.now told) read.given c.in_ok-set_up.ensures.gives;
-      so = beside_as (λ more took. took) (λ now told. opening_told (reading read.seen fixed) today (λ h. read.unplanned) (λ h. read.seen) refl c.args.number fixed.opening_calls life refl (g.B.BlockSource.answers c.args.source.now) lent.lent c.args.fence.now fresh c.in_ok-store.store c.in_ok-store.ensures.current c.begin-life.result c.begin-life.ensures (went (live_of now c.set_up.new.fence c.set_up.new.life)) read.so told)
+      so = beside_as (λ more took. took) (λ now told. opening_told (reading read.seen fixed) (record { reshare = today.reshare; bare = today.bare }) (λ h. read.unplanned) (λ h. read.seen) refl c.args.number fixed.opening_calls life refl (g.B.BlockSource.answers c.args.source.now) lent.lent c.args.fence.now fresh c.in_ok-store.store c.in_ok-store.ensures.current c.begin-life.result c.begin-life.ensures (went (live_of now c.set_up.new.fence c.set_up.new.life)) read.so told)
           (c.in_ok-set_up.ensures.tells (reading read.seen fixed) nothing_beside (reading_lent c.args.terms.now (g.B.BlockSource.answers c.args.source.now) c.args.word fixed read.seen read.shareless read.unplanned lent) seats);
     })
 
@@ -109,7 +110,7 @@ returns-clause-moved g c =
 
 pub returns-clause-above : goal.returns-clause-above
 returns-clause-above g c = λ told.
-    above_then _ (c.open_store.ensures.above told _) (subst (λ (min : ℕ). StaysAbove min _ _ _ _) (ap (λ (l : Life g.row.Dir.Denot). epoch_above c.args.terms.now l.tip - 1) c.begin-life.ensures) (c.set_up.ensures.above told))
+    above_then (epoch_at (g.B.BlockSource.answers c.args.source.now) c.args.terms.now - 1) (c.open_store.ensures.above told (epoch_at (g.B.BlockSource.answers c.args.source.now) c.args.terms.now - 1)) (subst (λ (min : ℕ). StaysAbove min (g.D.Disk.image c.open_store.new.devices.disk.now) (g.D.Disk.image c.set_up.new.devices.disk.now) (g.X.SecretStore.held c.open_store.new.devices.secrets.now) (g.X.SecretStore.held c.set_up.new.devices.secrets.now)) (ap (λ (l : Life g.row.Dir.Denot). epoch_above c.args.terms.now l.tip - 1) c.begin-life.ensures) (c.set_up.ensures.above told))
 
 pub returns-in_err-set_up-clause-causes : goal.returns-in_err-set_up-clause-causes
 returns-in_err-set_up-clause-causes g c =
@@ -129,4 +130,4 @@ returns-clause-live g c = λ disk secrets sound.
     let made = c.in_ok-store.ensures.acts disk secrets (c.in_ok-store.ensures.readable disk).ok in
     c.in_ok-set_up.ensures.agrees disk secrets (made.made.stands sound.stands)
     (subst (λ (s : Store g.row.Dir.Denot). AreAgreed (records_of s) (held_in (g.D.Disk.files c.open_store.new.devices.disk.now) (g.X.SecretStore.held c.open_store.new.devices.secrets.now))) (sym (ap (λ (l : Life g.row.Dir.Denot). l.store) c.begin-life.ensures))
-    (store_agrees c.args.number (length (open_calls (g.D.Disk.files c.args.devices.now.disk.now))) (records_of c.in_ok-store.store) made (g.met.D.Disk.reads c.open_store.new.devices.disk.now disk) sound.stands sound.whole))
+    (store_agrees g.row.Dir.Denot c.args.number (length (open_calls (g.D.Disk.files c.args.devices.now.disk.now))) (records_of c.in_ok-store.store) made (g.met.D.Disk.reads c.open_store.new.devices.disk.now disk) sound.stands sound.whole))

@@ -5,18 +5,23 @@ use Rattle.std.specs.Int.NonZero.{non_zero_u64_get}
 use Rattle.dkg_ceremony.specs.Schedule.{first}
 use Rattle.dkg_ceremony.specs.declared.epocher.Bounds.{Bounds}
 use Rattle.dkg_types.specs.declared.fault.Fault.TheVariants.{HeightRange, MissingEpochInfo}
+use Rattle.dkg_store.specs.Acts.{held_in}
+use Rattle.dkg_store.specs.declared.store.Store.{Store}
+use Rattle.dkg_core.specs.Agreeing.{AreAgreed}
 use Rattle.dkg_core.specs.Courses.{Stops}
 use Rattle.dkg_core.specs.Setup as setup
+use Rattle.dkg_reshare.specs.declared.life.Life.{Life}
 use Rattle.dkg_reshare.specs.declared.stop.Stop.TheVariants.{Fault as Faulted}
-use Rattle.dkg_reshare.specs.Ends.{by_stop, ends_in}
-use Rattle.dkg_reshare.specs.LiveOf.{live_of, with_scheme_of}
+use Rattle.dkg_reshare.specs.Ends.{by_stop, ends, ends_in}
+use Rattle.dkg_reshare.specs.LiveOf.{Beside, live_of, nothing_beside, records_of, with_scheme_of}
 use Rattle.dkg_reshare.specs.Made.{UnlessBroken}
 use Rattle.dkg_reshare.specs.Moved.{StaysAbove, StaysFrom}
 use Rattle.dkg_reshare.proofs.Beginning.{makes_as, tells_as}
 use Rattle.dkg_reshare.proofs.Burning.{speaks_makes, unless}
 use Rattle.dkg_reshare.proofs.Caused.{of_result}
 use Rattle.dkg_reshare.proofs.Kept.{above_itself, moved_none}
-use Rattle.dkg_reshare.proofs.Placing.{bare_block, both_ok, by_block, epoch_there, followed, following_ready, no_bounds, no_height, none_beside, one_beside, set_up_ready, stands_there, took_none}
+use Rattle.dkg_reshare.proofs.Placing.{any_fixed, any_lent, any_reads, any_seats, bare_block, both_ok, by_block, epoch_there, followed, following_ready, no_bounds, no_height, none_beside, ok_given, one_beside, set_up_ready, stands_there, took_none}
+use Rattle.dkg_reshare.proofs.Openings.{setup_agrees}
 use Rattle.dkg_reshare.proofs.Said.{speaks_tells}
 use Rattle.dkg_reshare.proofs.Seated.{on_ok}
 use Rattle.dkg_reshare.proofs.Speaking.{stops_speaks}
@@ -99,7 +104,7 @@ returns-in_default-block-clause-above g c = λ told.
 
 pub returns-in_default-block-clause-gives : goal.returns-in_default-block-clause-gives
 returns-in_default-block-clause-gives g c =
-    unless (ends_in tt c.follow.result) _ (λ disk secrets pairs gives. gives)
+    unless (ends (λ (done : Unit {0}). done) c.follow.result) _ (λ disk secrets pairs gives. gives)
 
 pub returns-in_default-block-clause-ready : goal.returns-in_default-block-clause-ready
 returns-in_default-block-clause-ready g c =
@@ -117,7 +122,7 @@ returns-in_default-epoch_info-clause-acts g c = λ disk secrets fixed beside len
     let place = c.boundary_of.ensures n (ap (λ (b : Bounds). b.first) (bounds_is n c.in-Some.height c.in-Some-containing.bounds found) ∙ ap (λ (b : Bounds). first n b.epoch) (sym (bounds_is n c.in-Some.height c.in-Some-containing.bounds found))) in
     let held = ap option_copied c.in-Some-block.is in
     let none = sym c.epoch_info.ensures ∙ ap option_copied c.in_default-epoch_info.is in
-    none_beside beside _ _ tt (speaks_makes (setup.setup fixed None (live_of beside c.args.fence.now c.args.life.now)) (by_stop (Faulted (MissingEpochInfo c.height-in_default-epoch_info.result))) _ _ (stops_speaks (setup.setup fixed None (live_of beside c.args.fence.now c.args.life.now)) ((MissingEpochInfo c.height-in_default-epoch_info.result)) (bare_block fixed n lent.of.blocks beside c.args.fence.now c.args.life.now c.in-Some.height c.in-Some.ensures.some c.in-Some-containing.bounds found c.begin_epoch.new.life c.begin_epoch.ensures c.requires.uncommitted (g.B.BlockSource.answers c.args.source.now) lent.lent c.boundary_of.result place (option_copied c.block.result) c.block.ensures c.in-Some-block.block.now held none ∙ ap (λ (h : ℕ). Stops (MissingEpochInfo h)) (sym c.height-in_default-epoch_info.ensures)) refl c.args.out.now.entries))
+    none_beside beside _ _ tt (speaks_makes (setup.setup fixed None (live_of beside c.args.fence.now c.args.life.now)) (by_stop (Faulted (MissingEpochInfo c.height.result))) _ _ (stops_speaks (setup.setup fixed None (live_of beside c.args.fence.now c.args.life.now)) ((MissingEpochInfo c.height.result)) (bare_block fixed n lent.of.blocks beside c.args.fence.now c.args.life.now c.in-Some.height c.in-Some.ensures.some c.in-Some-containing.bounds found c.begin_epoch.new.life c.begin_epoch.ensures c.requires.uncommitted (g.B.BlockSource.answers c.args.source.now) lent.lent c.boundary_of.result place (option_copied c.block.result) c.block.ensures c.in-Some-block.block.now held none ∙ ap (λ (h : ℕ). Stops (MissingEpochInfo h)) (sym c.height.ensures)) refl c.args.out.now.entries))
 
 pub returns-in_default-epoch_info-clause-tells : goal.returns-in_default-epoch_info-clause-tells
 returns-in_default-epoch_info-clause-tells g c = λ fixed beside lent seats.
@@ -126,7 +131,7 @@ returns-in_default-epoch_info-clause-tells g c = λ fixed beside lent seats.
     let place = c.boundary_of.ensures n (ap (λ (b : Bounds). b.first) (bounds_is n c.in-Some.height c.in-Some-containing.bounds found) ∙ ap (λ (b : Bounds). first n b.epoch) (sym (bounds_is n c.in-Some.height c.in-Some-containing.bounds found))) in
     let held = ap option_copied c.in-Some-block.is in
     let none = sym c.epoch_info.ensures ∙ ap option_copied c.in_default-epoch_info.is in
-    none_beside beside _ _ tt (speaks_tells (setup.setup fixed None (live_of beside c.args.fence.now c.args.life.now)) (by_stop (Faulted (MissingEpochInfo c.height-in_default-epoch_info.result))) (stops_speaks (setup.setup fixed None (live_of beside c.args.fence.now c.args.life.now)) ((MissingEpochInfo c.height-in_default-epoch_info.result)) (bare_block fixed n lent.of.blocks beside c.args.fence.now c.args.life.now c.in-Some.height c.in-Some.ensures.some c.in-Some-containing.bounds found c.begin_epoch.new.life c.begin_epoch.ensures c.requires.uncommitted (g.B.BlockSource.answers c.args.source.now) lent.lent c.boundary_of.result place (option_copied c.block.result) c.block.ensures c.in-Some-block.block.now held none ∙ ap (λ (h : ℕ). Stops (MissingEpochInfo h)) (sym c.height-in_default-epoch_info.ensures)) refl c.args.out.now.entries))
+    none_beside beside _ _ tt (speaks_tells (setup.setup fixed None (live_of beside c.args.fence.now c.args.life.now)) (by_stop (Faulted (MissingEpochInfo c.height.result))) (stops_speaks (setup.setup fixed None (live_of beside c.args.fence.now c.args.life.now)) ((MissingEpochInfo c.height.result)) (bare_block fixed n lent.of.blocks beside c.args.fence.now c.args.life.now c.in-Some.height c.in-Some.ensures.some c.in-Some-containing.bounds found c.begin_epoch.new.life c.begin_epoch.ensures c.requires.uncommitted (g.B.BlockSource.answers c.args.source.now) lent.lent c.boundary_of.result place (option_copied c.block.result) c.block.ensures c.in-Some-block.block.now held none ∙ ap (λ (h : ℕ). Stops (MissingEpochInfo h)) (sym c.height.ensures)) refl c.args.out.now.entries))
 
 pub returns-in_default-epoch_info-clause-moved : goal.returns-in_default-epoch_info-clause-moved
 returns-in_default-epoch_info-clause-moved g c =
@@ -167,10 +172,29 @@ pub returns-clause-above : goal.returns-clause-above
 returns-clause-above g c = λ told.
     let n = non_zero_u64_get c.args.terms.now.blocks_per_epoch in
     let found = rw c.new.ensures at c.in-Some-containing.ensures.value in
-    subst (λ (min : ℕ). StaysAbove min _ _ _ _) (ap (λ (e : ℕ). e - 1) (epoch_there n c.args.life.now c.begin_epoch.new.life c.in-Some.height c.in-Some.ensures.some c.in-Some-containing.bounds found c.begin_epoch.ensures)) (c.set_up_by.ensures.above told)
+    subst (λ (min : ℕ). StaysAbove min (g.D.Disk.image c.args.devices.now.disk.now) (g.D.Disk.image c.set_up_by.new.devices.disk.now) (g.X.SecretStore.held c.args.devices.now.secrets.now) (g.X.SecretStore.held c.set_up_by.new.devices.secrets.now)) (ap (λ (e : ℕ). e - 1) (epoch_there n c.args.life.now c.begin_epoch.new.life c.in-Some.height c.in-Some.ensures.some c.in-Some-containing.bounds found c.begin_epoch.ensures)) (c.set_up_by.ensures.above told)
 
 pub returns-clause-gives : goal.returns-clause-gives
 returns-clause-gives g c =
     let n = non_zero_u64_get c.args.terms.now.blocks_per_epoch in
     let found = rw c.new.ensures at c.in-Some-containing.ensures.value in
-    subst (λ (min : ℕ). UnlessBroken (ends_in tt c.set_up_by.result) (IsTrue g.D.Disk.tells → IsTrue g.X.SecretStore.tells → StaysFrom min _ _ _ _)) (ap (λ (e : ℕ). e - 1) (epoch_there n c.args.life.now c.begin_epoch.new.life c.in-Some.height c.in-Some.ensures.some c.in-Some-containing.bounds found c.begin_epoch.ensures)) c.set_up_by.ensures.gives
+    subst (λ (min : ℕ). UnlessBroken (ends (λ (done : Unit {0}). done) c.set_up_by.result) (IsTrue g.D.Disk.tells → IsTrue g.X.SecretStore.tells → StaysFrom min (g.D.Disk.image c.args.devices.now.disk.now) (g.D.Disk.image c.set_up_by.new.devices.disk.now) (g.X.SecretStore.held c.args.devices.now.secrets.now) (g.X.SecretStore.held c.set_up_by.new.devices.secrets.now))) (ap (λ (e : ℕ). e - 1) (epoch_there n c.args.life.now c.begin_epoch.new.life c.in-Some.height c.in-Some.ensures.some c.in-Some-containing.bounds found c.begin_epoch.ensures)) c.set_up_by.ensures.gives
+
+pub returns-in_default-block-clause-agrees : goal.returns-in_default-block-clause-agrees
+returns-in_default-block-clause-agrees g c =
+    on_ok c.follow.result (λ disk secrets stands agreed.
+    subst (λ (s : Store g.row.Dir.Denot). AreAgreed (records_of s) (held_in (g.D.Disk.files c.args.devices.now.disk.now) (g.X.SecretStore.held c.args.devices.now.secrets.now))) (sym (ap (λ (l : Life g.row.Dir.Denot). l.store) c.begin_epoch.ensures)) agreed)
+
+pub returns-clause-agrees : goal.returns-clause-agrees
+returns-clause-agrees g c =
+    let fixed = any_fixed c.args.terms.now (g.B.BlockSource.answers c.args.source.now) c.args.word g.C.Ceremony.round_of g.C.Ceremony.dealing_of g.C.Ceremony.bears_ack_of c.in-Some-epoch_info.info.now.directory in
+    let lent = any_lent c.args.terms.now (g.B.BlockSource.answers c.args.source.now) c.args.word g.C.Ceremony.round_of g.C.Ceremony.dealing_of g.C.Ceremony.bears_ack_of c.in-Some-epoch_info.info.now.directory in
+    let beside : Beside g.row.Dir.Denot = nothing_beside in
+    let n = non_zero_u64_get c.args.terms.now.blocks_per_epoch in
+    let found = rw c.new.ensures at c.in-Some-containing.ensures.value in
+    let place = c.boundary_of.ensures n (ap (λ (b : Bounds). b.first) (bounds_is n c.in-Some.height c.in-Some-containing.bounds found) ∙ ap (λ (b : Bounds). first n b.epoch) (sym (bounds_is n c.in-Some.height c.in-Some-containing.bounds found))) in
+    let held = ap option_copied c.in-Some-block.is in
+    let info = sym c.epoch_info.ensures ∙ ap option_copied c.in-Some-epoch_info.is in
+    ok_given c.set_up_by.result (λ disk secrets. setup_agrees fixed (live_of beside c.args.fence.now c.args.life.now) (live_of (with_scheme_of c.args.terms.now.me c.in-Some-epoch_info.info.now beside) c.set_up_by.new.fence c.set_up_by.new.life) c.set_up_by.result
+    (makes_as (by_block fixed n lent.of.blocks beside c.args.fence.now c.args.life.now c.in-Some.height c.in-Some.ensures.some c.in-Some-containing.bounds found c.begin_epoch.new.life c.begin_epoch.ensures c.requires.uncommitted (g.B.BlockSource.answers c.args.source.now) lent.lent c.boundary_of.result place (option_copied c.block.result) c.block.ensures c.in-Some-block.block.now held c.in-Some-epoch_info.info.now info) (ends_in (live_of (with_scheme_of c.args.terms.now.me c.in-Some-epoch_info.info.now beside) c.set_up_by.new.fence c.set_up_by.new.life) c.set_up_by.result) (c.set_up_by.ensures.acts disk secrets fixed beside lent.of (any_reads c.args.terms.now (g.B.BlockSource.answers c.args.source.now) c.args.word g.C.Ceremony.round_of g.C.Ceremony.dealing_of g.C.Ceremony.bears_ack_of c.in-Some-epoch_info.info.now.directory) lent.word_is (any_seats c.args.terms.now (g.B.BlockSource.answers c.args.source.now) c.args.word g.C.Ceremony.round_of g.C.Ceremony.dealing_of g.C.Ceremony.bears_ack_of c.in-Some-epoch_info.info.now.directory) (stands_there fixed n lent.of.blocks beside c.args.fence.now c.args.life.now c.in-Some.height c.in-Some.ensures.some c.in-Some-containing.bounds found c.begin_epoch.new.life c.begin_epoch.ensures c.requires.uncommitted)))
+    (g.met.D.Disk.reads c.set_up_by.new.devices.disk.now disk))

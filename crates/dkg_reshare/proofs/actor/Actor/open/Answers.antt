@@ -1,4 +1,5 @@
 use Rattle.std.proofs.lemmas.Result.{err_from_is_err_and}
+use Rattle.dkg_reshare.specs.declared.life.Life.{Life}
 use Rattle.dkg_reshare.proofs.Burning.{by_stop_alike}
 use Rattle.dkg_reshare.proofs.actor.Actor.open.Goals as goal
 
@@ -11,7 +12,7 @@ pub returns-in_err-life-clause-tells : goal.returns-in_err-life-clause-tells
 returns-in_err-life-clause-tells g c = λ fixed lent life today by fresh.
     let p = err_from_is_err_and c.from_residual.result c.from_residual.ensures.1 in
     rw (p.1, p.2) (let read = c.in_err-life.ensures.tells fixed lent life today by.seats fresh in
-    record { seen = read.seen; shareless = read.shareless; unplanned = read.unplanned; given = by_stop_alike c.in_err-life.field-0.0 _ read.given; so = read.so })
+    record { seen = read.seen; shareless = read.shareless; unplanned = read.unplanned; given = by_stop_alike (Life g.row.Dir.Denot) (Unit {0}) c.in_err-life.field-0.0 _ read.given; so = read.so })
 
 pub returns-in_err-life-clause-readable : goal.returns-in_err-life-clause-readable
 returns-in_err-life-clause-readable g c = λ told.
