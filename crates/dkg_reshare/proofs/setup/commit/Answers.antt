@@ -1,15 +1,19 @@
-use Rattle.std.proofs.Common.{None, refl}
+use Rattle.std.proofs.Common.{Err, None, Ok, Some, ap, refl, ◌∙◌}
 use Rattle.std.proofs.lemmas.Result.{err_from_is_err_and}
+use Rattle.dkg_types.specs.declared.fault.Fault.TheVariants.{NoMemory as OutOfMemory}
+use Rattle.dkg_types.specs.declared.info.EpochInfo.{EpochInfo}
+use Rattle.dkg_store.specs.Acts.{went}
 use Rattle.dkg_core.specs.Courses.{on_devices}
 use Rattle.dkg_core.specs.Setup as setup
 use Rattle.dkg_store.specs.declared.call.StoreError.TheVariants.{NoMemory}
+use Rattle.dkg_reshare.specs.declared.stop.Stop.TheVariants.{Fault as Faulted}
 use Rattle.dkg_reshare.specs.LiveOf.{live_of}
-use Rattle.dkg_reshare.proofs.Burning.{ran_call, ran_pick}
+use Rattle.dkg_reshare.proofs.Burning.{burns_ran, ran_call, ran_pick}
 use Rattle.dkg_reshare.proofs.Calls.{moved_secrets, no_later, none_on}
 use Rattle.dkg_reshare.proofs.Caused.{of_secrets_alone}
 use Rattle.dkg_reshare.proofs.Kept.{moved_none, stays_whole}
 use Rattle.dkg_reshare.proofs.Said.{devices_of_pruning, said_none}
-use Rattle.dkg_reshare.proofs.Setting.{commit_failed}
+use Rattle.dkg_reshare.proofs.Setting.{commit_failed, commit_made, committed_live}
 use Rattle.dkg_reshare.proofs.Under.{secrets_of_devices}
 use Rattle.dkg_reshare.proofs.setup.commit.Goals as goal
 
@@ -62,3 +66,18 @@ pub returns-in_err-commit_epoch-clause-causes : goal.returns-in_err-commit_epoch
 returns-in_err-commit_epoch-clause-causes g c =
     let p = err_from_is_err_and c.from_residual-in_err-commit_epoch.result c.from_residual-in_err-commit_epoch.ensures.1 in
     rw (p.1, p.2) (of_secrets_alone c.in_err-commit_epoch.field-0.0 c.in_err-commit_epoch.ensures.kinds c.in_err-commit_epoch.ensures.secrets c.in_err-commit_epoch.ensures.cut)
+
+pub returns-in_err-push-clause-acts : goal.returns-in_err-push-clause-acts
+returns-in_err-push-clause-acts g c = λ disk secrets beside fence.
+    let p = err_from_is_err_and c.from_residual-in_err-push.result c.from_residual-in_err-push.ensures.1 in
+    let made = rw c.in_ok-committed.ensures at (c.in_ok-commit_epoch.ensures.acts disk secrets c.args.out.now.entries) in
+    rw (p.1, p.2) (commit_made c.args.info.now c.args.seed (live_of beside fence c.args.life.now) _ refl (Err (Faulted OutOfMemory)) made
+    (burns_ran c.commit_epoch.ensures.calls.all (went tt) c.in_ok-commit_epoch.ensures.not_cut) tt c.in_err-push.ensures.err refl)
+
+pub returns-clause-acts : goal.returns-clause-acts
+returns-clause-acts g c = λ disk secrets beside fence.
+    let made = rw c.in_ok-committed.ensures at (c.in_ok-commit_epoch.ensures.acts disk secrets c.args.out.now.entries) in
+    let current = c.in_ok-commit_epoch.ensures.current ∙ ap (λ (i : EpochInfo g.row.Dir.Denot). Some i) c.in_ok-committed.ensures in
+    commit_made c.args.info.now c.args.seed (live_of beside fence c.args.life.now) (live_of beside fence (record c.args.life.now { store = c.commit_epoch.new.self }))
+    (committed_live c.args.info.now beside fence c.args.life.now c.commit_epoch.new.self current c.in_ok-commit_epoch.ensures.dealings c.in_ok-commit_epoch.ensures.acks c.in_ok-commit_epoch.ensures.logs)
+    (Ok tt) made (burns_ran c.commit_epoch.ensures.calls.all (went tt) c.in_ok-commit_epoch.ensures.not_cut) c.in_ok-push.ensures.ok tt tt

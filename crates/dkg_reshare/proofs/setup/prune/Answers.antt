@@ -37,12 +37,6 @@ returns-clause-acts g c = λ disk secrets beside fence out.
     (pruned_live c.args.min beside fence c.args.life.now c.prune.new.self same c.in_ok-prune.ensures.current) (c.in_ok-prune.ensures.acts disk secrets out)
     (burns_ran (c.prune.ensures.calls disk).all (went tt) c.in_ok-prune.ensures.not_cut)
 
-pub returns-clause-sound : goal.returns-clause-sound
-returns-clause-sound g c = λ told most. record { fit = c.in_ok-prune.ensures.fit told most; plan = c.in_ok-prune.ensures.others told }
-
-pub returns-clause-holds : goal.returns-clause-holds
-returns-clause-holds g c = λ told pairs above holds. holds_above c.args.min pairs _ _ above (c.in_ok-prune.ensures.images told pairs holds)
-
 pub returns-in_err-prune-clause-above : goal.returns-in_err-prune-clause-above
 returns-in_err-prune-clause-above g c = λ told. above_of c.args.min _ _ _ _ _ (c.requires told).lands (λ most. record { fit = c.in_err-prune.ensures.fit told most; plan = c.in_err-prune.ensures.others told }) (c.in_err-prune.ensures.images told)
 

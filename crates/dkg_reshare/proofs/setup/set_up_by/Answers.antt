@@ -4,7 +4,7 @@ use Rattle.std.specs.Int.NonZero.{non_zero_u32_get}
 use Rattle.dkg_core.specs.Setup as setup
 use Rattle.dkg_core.specs.Setup.{Uncommitted}
 use Rattle.dkg_reshare.specs.declared.life.Life.{Life}
-use Rattle.dkg_reshare.specs.Ends.{by_stop, ends_in}
+use Rattle.dkg_reshare.specs.Ends.{by_stop, ends, ends_in}
 use Rattle.dkg_reshare.specs.LiveOf.{live_of, with_scheme_of}
 use Rattle.dkg_reshare.proofs.Burning.{speaks_makes, unless, unless_outside}
 use Rattle.dkg_reshare.proofs.Caused.{caused_around, caused_by_around, of_result, of_want, rose_around}
@@ -104,7 +104,7 @@ returns-clause-above g c = λ told.
     ((c.saturating_sub.ensures ∙ ap (λ (l : Life g.row.Dir.Denot). l.epoch - 1) c.life.view_is) ∙ ap (λ (l : Life g.row.Dir.Denot). l.epoch - 1) c.commit.ensures.rest) (c.prune.ensures.above told)
 
 pub returns-in_err-judge_info-clause-gives : goal.returns-in_err-judge_info-clause-gives
-returns-in_err-judge_info-clause-gives g c = unless (ends_in tt c.from_residual.result) _ (λ told held pairs gives. gives)
+returns-in_err-judge_info-clause-gives g c = unless (ends (λ done. done) c.from_residual.result) _ (λ told held pairs gives. gives)
 
 pub returns-in_err-seed-clause-gives : goal.returns-in_err-seed-clause-gives
 returns-in_err-seed-clause-gives g c =
@@ -127,7 +127,7 @@ returns-in_err-register-clause-gives g c =
     rw (p.1, p.2) (unless_outside _ c.in_err-register.field-0.0 _ (of_want c.in_err-register.field-0.0 c.in_err-register.ensures.memory))
 
 pub returns-clause-gives : goal.returns-clause-gives
-returns-clause-gives g c = unless (ends_in tt c.draw_up.result) _ (λ told held.
+returns-clause-gives g c = unless (ends (λ done. done) c.draw_up.result) _ (λ told held.
     gives_pruned (c.args.life.now.epoch - 1) g.D.Disk.files g.D.Disk.image c.args.devices.now.disk.now c.seed_for.new.devices.disk.now c.commit.new.devices.disk.now c.prune.new.devices.disk.now (g.X.SecretStore.held c.args.devices.now.secrets.now) (g.X.SecretStore.held c.seed_for.new.devices.secrets.now) (g.X.SecretStore.held c.commit.new.devices.secrets.now) (g.X.SecretStore.held c.prune.new.devices.secrets.now)
     (c.requires told).lands c.seed_for.ensures.disk c.seed_for.ensures.secrets c.commit.ensures.disk (c.in_ok-commit.ensures.halves held) c.saturating_sub.result
     ((c.saturating_sub.ensures ∙ ap (λ (l : Life g.row.Dir.Denot). l.epoch - 1) c.life.view_is) ∙ ap (λ (l : Life g.row.Dir.Denot). l.epoch - 1) c.commit.ensures.rest) (c.in_ok-prune.ensures.gives told))
