@@ -14,6 +14,7 @@ pub mod Noding
 pub mod Opening
 pub mod Ordered
 pub mod Places
+pub mod Reported
 pub mod Runs
 pub mod Sourced
 pub mod Standing
