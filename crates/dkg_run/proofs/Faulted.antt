@@ -18,11 +18,11 @@ use Rattle.dkg_script.specs.Order.{IsInOrder}
 use Rattle.dkg_script.specs.Promise.{Adds}
 use Rattle.dkg_store.specs.Acts.{Ended, Held, broken, stopped, went}
 use Rattle.dkg_core.specs.Courses.{Course, on_devices}
-use Rattle.dkg_core.specs.Live.{Faulted, Live, Message, NodeStop}
+use Rattle.dkg_core.specs.Live.{Faulted, Live, Message, NodeStop, Orchestrator}
 use Rattle.dkg_core.specs.Node.{node_opening, node_step}
 use Rattle.dkg_core.specs.Said.{Said}
 use Rattle.dkg_core.specs.Seen.{Seen}
-use Rattle.dkg_core.specs.Today.{CameTo, IsLiveToday, IsNextToday, IsOpeningFault, refusal_of}
+use Rattle.dkg_core.specs.Today.{CameTo, IsLiveToday, IsNextToday, IsOpeningFault, IsTakenToday, refusal_of}
 use Rattle.dkg_reshare.specs.declared.stop.Stop.{Stop}
 use Rattle.dkg_reshare.specs.declared.stop.Stop.TheVariants.{Cut, Failed, Fault as FaultOf}
 use Rattle.dkg_run.specs.Causes.{HasCause}
@@ -30,7 +30,7 @@ use Rattle.dkg_run.specs.Ended.{by_node_stop}
 use Rattle.dkg_run.specs.Given.{IsLifeHere, Lived, ReadsNeither, at_step, lived, step_of}
 use Rattle.dkg_run.specs.Lives.{AnyFiles, EndsLife, LivesFrom, LivesSo, RunsAllSo, RunsSo, Steps, TakesAll, TellsEnd, fuse_for}
 use Rattle.dkg_run.specs.Ways.{ReadsSomething, Trace, by_lines}
-use Rattle.dkg_run.proofs.Faults.{IsTellable, opening_tellable, own_or_tellable, refusal_tellable}
+use Rattle.dkg_run.proofs.Faults.{IsOutside, IsTellable, opening_tellable, outside_tellable, own_or_outside, refusal_tellable}
 use Rattle.dkg_run.proofs.Laws.{IsNodeOpened, event_of, node_openings_come_to, node_steps_come_to, opened_live, opened_unawaited}
 use Rattle.dkg_run.proofs.Living.{holds_at}
 use Rattle.dkg_run.proofs.Ordered.{RunEndsIn, all_in_order, item_at, rest_at, tells_fault}
@@ -53,82 +53,92 @@ same_stop e = cc
 own_fault : {x y : Fault} → Faulted x ≡ Faulted y → x ≡ y
 own_fault e = cc
 
-wanted : (its : Fault) → ◌≡◌ {A = Result (Unit {0}) Stop} (Err (FaultOf its)) (Err (FaultOf fault.NoMemory)) → IsTellable its
-wanted its e = inl (same_fault e)
+-- A STEP that a fault ended: the fault is one of outside, or the course's own; `next` is of what comes behind it
 
--- A STEP that a fault ended, whose own faults can be told; `next` is of what comes behind it
+module _ (P : Fault → Type 0) (outside : (its : Fault) → IsOutside its → P its) where
+  -- how a course may end by itself
+  abbrev pub Comes : (Next : Live directory.Unit → Type 0) → Ended NodeStop (Live directory.Unit) → Type 0
+  Comes Next ended = CameTo (λ (stop : NodeStop). (own : Fault) × (stop ≡ Faulted own) × P own) Next ended
 
-module _ (course : Course directory.Unit NodeStop (Live directory.Unit)) (its : Fault) (Next : Live directory.Unit → Type 0) where
-  pub step_tells : ((ended : Ended NodeStop (Live directory.Unit)) (old new : List Entry) → Said (on_devices course) ended old new → CameTo (λ stop. (own : Fault) × (stop ≡ Faulted own) × IsFaultOfToday own) Next ended)
-      → (line : Entry) (fuse : Option Burn) (t new : Trace) (next : Live directory.Unit → Trace → Type 0) → ((end : Live directory.Unit) (mid : Trace) → Next end → next end mid → IsTellable its)
-      → Steps by_lines line fuse course t (Err (FaultOf its)) new next → IsTellable its
-  step_tells comes line None t new next then steps = absurd (fault_cut steps.0)
-  step_tells comes line (Some f) t new next then (inl wants) = wanted its wants.0
-  step_tells comes line (Some f) t new next then (inr (inl (stop, is, goes))) = by_fault (own_or_tellable its)
-    where
-      said : Said (on_devices course) (by_node_stop (FaultOf its)) t.out new.out
-      said = subst (λ (s : Stop). Said (on_devices course) (by_node_stop s) t.out new.out) (sym (same_stop is)) goes.0
+  wanted : (its : Fault) → ◌≡◌ {A = Result (Unit {0}) Stop} (Err (FaultOf its)) (Err (FaultOf fault.NoMemory)) → P its
+  wanted its e = subst P (sym (same_fault e)) (outside fault.NoMemory tt)
 
-      by_fault : IsTellable its ⊎ (by_node_stop {S = Live directory.Unit} (FaultOf its) ≡ stopped (Faulted its)) → IsTellable its
-      by_fault (inl tellable) = tellable
-      by_fault (inr own) =
-          let came = comes (stopped (Faulted its)) t.out new.out (subst (λ (e : Ended NodeStop (Live directory.Unit)). Said (on_devices course) e t.out new.out) own said) in
-          inr (subst IsFaultOfToday (sym (own_fault came.1)) came.2)
-  step_tells comes line (Some f) t new next then (inr (inr (end, mid, goes, inl wants))) = wanted its wants.0
-  step_tells comes line (Some f) t new next then (inr (inr (end, mid, goes, inr so))) = then end (by_lines.says mid line) (comes (went end) t.out mid.out goes.0) so
+  module _ (course : Course directory.Unit NodeStop (Live directory.Unit)) (its : Fault) (Next : Live directory.Unit → Type 0) where
+    pub step_tells : ((ended : Ended NodeStop (Live directory.Unit)) (old new : List Entry) → Said (on_devices course) ended old new → Comes Next ended)
+        → (line : Entry) (fuse : Option Burn) (t new : Trace) (next : Live directory.Unit → Trace → Type 0) → ((end : Live directory.Unit) (mid : Trace) → Next end → next end mid → P its)
+        → Steps by_lines line fuse course t (Err (FaultOf its)) new next → P its
+    step_tells comes line None t new next then steps = absurd (fault_cut steps.0)
+    step_tells comes line (Some f) t new next then (inl wants) = wanted its wants.0
+    step_tells comes line (Some f) t new next then (inr (inl (stop, is, goes))) = by_kind (own_or_outside its)
+      where
+        said : Said (on_devices course) (by_node_stop (FaultOf its)) t.out new.out
+        said = subst (λ (s : Stop). Said (on_devices course) (by_node_stop s) t.out new.out) (sym (same_stop is)) goes.0
 
--- A LIFE
+        by_kind : IsOutside its ⊎ (by_node_stop {S = Live directory.Unit} (FaultOf its) ≡ stopped (Faulted its)) → P its
+        by_kind (inl out) = outside its out
+        by_kind (inr own) =
+            let came = comes (stopped (Faulted its)) t.out new.out (subst (λ (e : Ended NodeStop (Live directory.Unit)). Said (on_devices course) e t.out new.out) own said) in
+            subst P (sym (own_fault came.1)) came.2
+    step_tells comes line (Some f) t new next then (inr (inr (end, mid, goes, inl wants))) = wanted its wants.0
+    step_tells comes line (Some f) t new next then (inr (inr (end, mid, goes, inr so))) = then end (by_lines.says mid line) (comes (went end) t.out mid.out goes.0) so
 
-module _ (g : Lived) (here : IsLifeHere g) (its : Fault) where
-  -- what goes on
-  Goes : (taken : ℕ) → Live directory.Unit → Type 0
-  Goes taken st = IsLiveToday (at_step g taken) st × (st.orchestrator.waiting ≡ None)
+  -- A LIFE
+  module _ (g : Lived) (here : IsLifeHere g) where
+    -- what goes on
+    abbrev pub GoesOn : (taken : ℕ) → Live directory.Unit → Type 0
+    GoesOn taken st = IsLiveToday (at_step g taken) st × (st.orchestrator.waiting ≡ None)
 
-  event_comes : (j : ℕ) (e : Event) (st : Live directory.Unit) → IsEventOfToday (midpoint_of g.script) g.script.blocks e → Goes j st → (ended : Ended NodeStop (Live directory.Unit)) (old new : List Entry)
-      → Said (on_devices (step_of g j e st)) ended old new → CameTo (λ stop. (own : Fault) × (stop ≡ Faulted own) × IsFaultOfToday own) (Goes j) ended
-  unfolding Goes
-  event_comes j e st today goes ended old new said = by_end ended (node_steps_come_to (at_step g j) st its_message.message ended old new reshare its_message.taken goes.0 goes.1
-      (subst (λ (k : Course directory.Unit NodeStop (Live directory.Unit)). Said (on_devices k) ended old new) its_message.course said))
-    where
-      its_message : IsMessage g j e st
-      its_message = message_of g j e st today
+    module _ (refused : (j : ℕ) (message : Message directory.Unit) (st : Live directory.Unit) (own : Fault) → IsTakenToday (at_step g j) message → IsLiveToday (at_step g j) st
+        → refusal_of (at_step g j) message st ≡ Some own → P own) where
+      event_comes : (j : ℕ) (e : Event) (st : Live directory.Unit) → IsEventOfToday (midpoint_of g.script) g.script.blocks e → GoesOn j st → (ended : Ended NodeStop (Live directory.Unit)) (old new : List Entry)
+          → Said (on_devices (step_of g j e st)) ended old new → Comes (GoesOn j) ended
+      event_comes j e st today goes ended old new said = by_end ended (node_steps_come_to (at_step g j) st its_message.message ended old new reshare its_message.taken goes.0 goes.1
+          (subst (λ (k : Course directory.Unit NodeStop (Live directory.Unit)). Said (on_devices k) ended old new) its_message.course said))
+        where
+          its_message : IsMessage g j e st
+          its_message = message_of g j e st today
 
-      reshare : (at_step g j).oneshot ≡ None
-      reshare = (form_at g here j).reshare
+          reshare : (at_step g j).oneshot ≡ None
+          reshare = (form_at g here j).reshare
 
-      by_end : (ended : Ended NodeStop (Live directory.Unit))
-          → CameTo (λ stop. (own : Fault) × (stop ≡ Faulted own) × (refusal_of (at_step g j) its_message.message st ≡ Some own)) (λ end. IsNextToday (at_step g j) st end its_message.message) ended
-          → CameTo (λ stop. (own : Fault) × (stop ≡ Faulted own) × IsFaultOfToday own) (Goes j) ended
-      by_end (went end) next = (next.live, subst (λ (o : _). o.waiting ≡ None) (sym next.orchestrator) goes.1)
-      by_end (stopped stop) came = (came.0, came.1, refusal_tellable g here j its_message.message st came.0 its_message.taken goes.0 came.2)
-      by_end (broken cause) came = tt
+          by_end : (ended : Ended NodeStop (Live directory.Unit))
+              → CameTo (λ stop. (own : Fault) × (stop ≡ Faulted own) × (refusal_of (at_step g j) its_message.message st ≡ Some own)) (λ end. IsNextToday (at_step g j) st end its_message.message) ended
+              → Comes (GoesOn j) ended
+          by_end (went end) next = (next.live, subst (λ (o : Orchestrator directory.Unit). o.waiting ≡ None) (sym next.orchestrator) goes.1)
+          by_end (stopped stop) came = (came.0, came.1, refused j its_message.message st came.0 its_message.taken goes.0 came.2)
+          by_end (broken cause) came = tt
 
-  takes_tell : (i : ℕ) (events : List Event) (st : Live directory.Unit) (t new : Trace) → events ≡ drop i g.life.events → Goes i st
-      → TakesAll by_lines g (i + 1) events st t (Err (FaultOf its)) new → IsTellable its
-  unfolding Goes
-  takes_tell i [] st t new rest goes takes = absurd (ok_err takes.0)
-  takes_tell i (e ∷ events) st t new rest goes takes =
-      step_tells (step_of g (i + 1) e st) its (Goes (i + 1)) (event_comes (i + 1) e st (holds_at (IsEventOfToday (midpoint_of g.script) g.script.blocks) g.life.events i e (life_form g here).events (item_at g.life.events i e events rest))
-      (alike_at g i (i + 1) st goes.0, goes.1)) (entry.Step (i + 1)) (fuse_for g.life.cut (i + 1)) t new (λ end mid. TakesAll by_lines g (i + 1 + 1) events end mid (Err (FaultOf its)) new)
-      (λ end mid next so. takes_tell (i + 1) events end mid new (subst (λ (k : ℕ). events ≡ drop k g.life.events) (sym (add-one i)) (rest_at g.life.events i e events rest)) next so) takes
+      pub takes_tell : (its : Fault) (i : ℕ) (events : List Event) (st : Live directory.Unit) (t new : Trace) → events ≡ drop i g.life.events → GoesOn i st
+          → TakesAll by_lines g (i + 1) events st t (Err (FaultOf its)) new → P its
+      takes_tell its i [] st t new rest goes takes = absurd (ok_err takes.0)
+      takes_tell its i (e ∷ events) st t new rest goes takes =
+          step_tells (step_of g (i + 1) e st) its (GoesOn (i + 1)) (event_comes (i + 1) e st (holds_at (IsEventOfToday (midpoint_of g.script) g.script.blocks) g.life.events i e (life_form g here).events (item_at g.life.events i e events rest))
+          (alike_at g i (i + 1) st goes.0, goes.1)) (entry.Step (i + 1)) (fuse_for g.life.cut (i + 1)) t new (λ end mid. TakesAll by_lines g (i + 1 + 1) events end mid (Err (FaultOf its)) new)
+          (λ end mid next so. takes_tell its (i + 1) events end mid new (subst (λ (k : ℕ). events ≡ drop k g.life.events) (sym (add-one i)) (rest_at g.life.events i e events rest)) next so) takes
 
-  opening_comes : (ended : Ended NodeStop (Live directory.Unit)) (old new : List Entry) → Said (on_devices (node_opening (at_step g 0))) ended old new
-      → CameTo (λ stop. (own : Fault) × (stop ≡ Faulted own) × IsFaultOfToday own) (Goes 0) ended
-  unfolding Goes
-  opening_comes ended old new said = by_end ended (node_openings_come_to (at_step g 0) ended old new (form_at g here 0) (lacks_nobody g here 0) said)
-    where
-      by_end : (ended : Ended NodeStop (Live directory.Unit))
-          → CameTo (λ stop. (own : Fault) × (stop ≡ Faulted own) × ((h : Held) × IsOpeningFault (at_step g 0) ((at_step g 0).seen h) own)) (λ st. (h : Held) × IsNodeOpened (at_step g 0) ((at_step g 0).seen h) st) ended
-          → CameTo (λ stop. (own : Fault) × (stop ≡ Faulted own) × IsFaultOfToday own) (Goes 0) ended
-      by_end (went end) (h, opened) = (opened_live (at_step g 0) ((at_step g 0).seen h) end opened, opened_unawaited (at_step g 0) ((at_step g 0).seen h) end opened)
-      by_end (stopped stop) (own, is, h, why) = (own, is, opening_tellable g here 0 ((at_step g 0).seen h) own why)
-      by_end (broken cause) came = tt
+      module _ (opening : (seen : Seen) (own : Fault) → IsOpeningFault (at_step g 0) seen own → P own) where
+        pub opening_comes : (ended : Ended NodeStop (Live directory.Unit)) (old new : List Entry) → Said (on_devices (node_opening (at_step g 0))) ended old new → Comes (GoesOn 0) ended
+        opening_comes ended old new said = by_end ended (node_openings_come_to (at_step g 0) ended old new (form_at g here 0) (lacks_nobody g here 0) said)
+          where
+            by_end : (ended : Ended NodeStop (Live directory.Unit))
+                → CameTo (λ stop. (own : Fault) × (stop ≡ Faulted own) × ((h : Held) × IsOpeningFault (at_step g 0) ((at_step g 0).seen h) own)) (λ st. (h : Held) × IsNodeOpened (at_step g 0) ((at_step g 0).seen h) st) ended
+                → Comes (GoesOn 0) ended
+            by_end (went end) (h, opened) = (opened_live (at_step g 0) ((at_step g 0).seen h) end opened, opened_unawaited (at_step g 0) ((at_step g 0).seen h) end opened)
+            by_end (stopped stop) (own, is, h, why) = (own, is, opening ((at_step g 0).seen h) own why)
+            by_end (broken cause) came = tt
 
-  pub life_tells : (files : Files) (t new : Trace) → LivesSo by_lines g files t (Err (FaultOf its)) new → IsTellable its
-  life_tells files t new (inl steps) =
-      step_tells (node_opening (at_step g 0)) its (Goes 0) opening_comes (entry.Step 0) (fuse_for g.life.cut 0) t new (λ end mid. TakesAll by_lines g 1 g.life.events end mid (Err (FaultOf its)) new)
-      (λ end mid next so. takes_tell 0 g.life.events end mid new refl next so) steps
-  life_tells files t new (inr refused) = absurd refused.1.2
+        pub life_tells : (its : Fault) (files : Files) (t new : Trace) → LivesSo by_lines g files t (Err (FaultOf its)) new → P its
+        life_tells its files t new (inl steps) =
+            step_tells (node_opening (at_step g 0)) its (GoesOn 0) opening_comes (entry.Step 0) (fuse_for g.life.cut 0) t new (λ end mid. TakesAll by_lines g 1 g.life.events end mid (Err (FaultOf its)) new)
+            (λ end mid next so. takes_tell its 0 g.life.events end mid new refl next so) steps
+        life_tells its files t new (inr refused) = absurd refused.1.2
+
+-- THAT IT CAN BE TOLD
+
+tellable_life : (g : Lived) (here : IsLifeHere g) (its : Fault) (files : Files) (t new : Trace) → LivesSo by_lines g files t (Err (FaultOf its)) new → IsTellable its
+tellable_life g here its files t new so = life_tells IsTellable outside_tellable g here
+    (λ j message st own taken live is. inr (refusal_tellable g here j message st own taken live is))
+    (λ seen own why. inr (opening_tellable g here 0 seen own why)) its files t new so
 
 -- ALL LIVES
 
@@ -160,7 +170,7 @@ module _ (script : Script) (form : IsFormOfToday script) (its : Fault) where
           → EndsLife by_lines life how mid (Err its) new (λ mid. LivesFrom by_lines script AnyFiles (l + 1) lives mid (Err its) new) → IsTellable its
       by_end (Ok done) so ends = on (by_lines.stops mid life.pick) ends
       by_end (Err Cut) so ends = by_cut life.cut ends
-      by_end (Err (FaultOf own)) so ends = subst IsTellable (sym (same_answer ends.0)) (life_tells (lived script l life seen files) here own files t mid so)
+      by_end (Err (FaultOf own)) so ends = subst IsTellable (sym (same_answer ends.0)) (tellable_life (lived script l life seen files) here own files t mid so)
       by_end (Err Failed) so ends = absurd ends
 
   pub all_tell : (first : Files → Type 0) (t new : Trace) → RunsAllSo by_lines script first t (Err its) new → IsTellable its

@@ -44,13 +44,28 @@ use Rattle.dkg_run.proofs.Today.{middle_is}
 abbrev pub IsTellable : Fault → Type 0
 IsTellable its = (its ≡ fault.NoMemory) ⊎ IsFaultOfToday its
 
--- A fault of a device, a corrupt record and want of memory can be told, or aren't; any other one is the course's own.
-pub own_or_tellable : {S : Type 0} (its : Fault) → IsTellable its ⊎ (named {S = S} Faulted (by_fault its) ≡ stopped (Faulted its))
-own_or_tellable fault.NoMemory = inl (inl refl)
-own_or_tellable fault.Disk = inl (inr tt)
-own_or_tellable fault.Secrets = inl (inr tt)
-own_or_tellable (fault.Corrupt name place) = inl (inr tt)
-own_or_tellable its = inr refl
+-- of a device, a corrupt record, or want of memory: what ends a course from outside
+abbrev pub IsOutside : Fault → Type 0
+IsOutside fault.NoMemory = Unit {0}
+IsOutside fault.Disk = Unit {0}
+IsOutside fault.Secrets = Unit {0}
+IsOutside (fault.Corrupt name place) = Unit {0}
+IsOutside its = ⊥
+
+pub outside_tellable : (its : Fault) → IsOutside its → IsTellable its
+outside_tellable fault.NoMemory is = inl refl
+outside_tellable fault.Disk is = inr tt
+outside_tellable fault.Secrets is = inr tt
+outside_tellable (fault.Corrupt name place) is = inr tt
+outside_tellable its is = absurd is
+
+-- .. and any other one is the course's own
+pub own_or_outside : {S : Type 0} (its : Fault) → IsOutside its ⊎ (named {S = S} Faulted (by_fault its) ≡ stopped (Faulted its))
+own_or_outside fault.NoMemory = inl tt
+own_or_outside fault.Disk = inl tt
+own_or_outside fault.Secrets = inl tt
+own_or_outside (fault.Corrupt name place) = inl tt
+own_or_outside its = inr refl
 
 -- of a life whose start is in the first epoch
 module _ (g : Lived) (here : IsLifeHere g) where

@@ -24,7 +24,7 @@ ghost use Rattle.dkg_run.specs.Found.{IsFound, reader_in};
 ghost use Rattle.dkg_run.specs.Given.{Lived, blocks_in, limits_of, lived, step_of};
 ghost use Rattle.dkg_run.specs.GivesBack.{GivesBack};
 ghost use Rattle.dkg_run.specs.Lives.{AnyFiles, EndsLife, LivesHere, LivesSo, RunsAllSo, RunsOver, RunsSo, Steps, TakesAll, TellsEnd, fuse_for, never};
-ghost use Rattle.dkg_run.specs.Moving.{Blames, Went, world_of};
+ghost use Rattle.dkg_run.specs.Moving.{Blames, StepBlames, StopBlames, Went, world_of};
 ghost use Rattle.dkg_run.specs.Nodes.{IsEventOfBlocks, IsReadyNode, IsStepHere, IsView};
 ghost use Rattle.dkg_run.specs.Passing.{ArePassing};
 ghost use Rattle.dkg_run.specs.Promised.{Promised};
@@ -143,7 +143,7 @@ fn take_step<D: Disk, X: SecretStore>(
         (world_of X.held devices.old out.old.entries (D.files devices.old.disk.now)) result (world_of X.held devices.new out.new.entries c)
         (λ end w. (result ≡ Ok tt) × IsView node.new end × (w ≡ world_of X.held devices.new out.new.entries c)) }
     ensures went { Went D.tells D.made X.made D.faults X.faults devices.old devices.new [] }
-    ensures causes { IfErr result (λ stop. IfFault stop (Blames D.faults X.faults devices.old devices.new)) }
+    ensures causes { IfErr result (StepBlames D.faults X.faults devices.old devices.new) }
     ensures fit { IsTrue D.tells → AreFit (non_zero_u32_get node.old.actor.terms.limit) (D.image devices.old.disk.now)
         → AreFit (non_zero_u32_get node.old.actor.terms.limit) (D.image devices.new.disk.now) }
 {
@@ -173,7 +173,7 @@ fn take_steps<D: Disk, X: SecretStore>(
         → TakesAll by_worlds g 1 life.now.events st (world_of X.held devices.old out.old.entries (D.files devices.old.disk.now)) result (world_of X.held devices.new out.new.entries c) }
     ensures firm { OnOk result (IsTrue D.tells → Lands (D.files devices.new.disk.now) (D.image devices.new.disk.now)) }
     ensures went { Went D.tells D.made X.made D.faults X.faults devices.old devices.new [] }
-    ensures causes { IfErr result (λ stop. IfFault stop (Blames D.faults X.faults devices.old devices.new)) }
+    ensures causes { IfErr result (StepBlames D.faults X.faults devices.old devices.new) }
     ensures fit { IsTrue D.tells → AreFit (non_zero_u32_get node.old.actor.terms.limit) (D.image devices.old.disk.now)
         → AreFit (non_zero_u32_get node.old.actor.terms.limit) (D.image devices.new.disk.now) }
 {
@@ -203,7 +203,7 @@ fn live<D: Disk, X: SecretStore>(
         (world_of X.held devices.old out.old.entries (D.files devices.old.disk.now)) result (world_of X.held devices.new out.new.entries c) }
     ensures firm { OnOk result (IsTrue D.tells → Lands (D.files devices.new.disk.now) (D.image devices.new.disk.now)) }
     ensures went { Went D.tells D.made X.made D.faults X.faults devices.old devices.new [] }
-    ensures causes { IfErr result (λ stop. IfFault stop (Blames D.faults X.faults devices.old devices.new)) }
+    ensures causes { IfErr result (StopBlames D.faults X.faults devices.old devices.new) }
     // A corrupt record or a refused dealing that it blames is found on the devices as they stand.
     ensures found { IfErr result (λ stop. IsTrue D.tells → IsTrue X.tells → IfFault stop (IsFound (reader_in script.now) (D.files devices.new.disk.now) (X.held devices.new.secrets.now))) }
     ensures fit { IsTrue D.tells → AreFit (limits_of script.now).most (D.image devices.old.disk.now) → AreFit (limits_of script.now).most (D.image devices.new.disk.now) }
