@@ -4,6 +4,7 @@ pub mod Ended
 pub mod Entering
 pub mod Faulted
 pub mod Faults
+pub mod Finding
 pub mod Fresh
 pub mod Going
 pub mod InPlace
@@ -15,6 +16,7 @@ pub mod Opening
 pub mod Ordered
 pub mod Places
 pub mod Reported
+pub mod Running
 pub mod Runs
 pub mod Sourced
 pub mod Standing

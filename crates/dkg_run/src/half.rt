@@ -1,7 +1,7 @@
 //! The orchestrator's half of a node: which epoch it has entered, and which blocks it acknowledges.
 //!
 //! It enters the epoch of the height above its source's position, and a life ends within that epoch.
-ghost use Rattle.std.specs.Prelude.{◌≡◌, ◌<◌, ◌+◌, ◌++◌, ◌∷◌, [], ◌^◌, ℕ, IfErr, IfNone, IfOk, IfSome, true, None, Some};
+ghost use Rattle.std.specs.Prelude.{◌≡◌, ◌<◌, ◌+◌, ◌++◌, ◌∷◌, [], ◌^◌, ℕ, IfErr, IfNone, IfOk, IfSome, true, false, None, Some};
 ghost use Rattle.std.specs.Int.NonZero.{non_zero_u64_get};
 ghost use Rattle.std.specs.Option.{option_map_or};
 ghost use Rattle.dkg_ceremony.specs.Schedule.{boundary, first, midpoint};
