@@ -10,7 +10,7 @@
 //! The functions here are laws of the relation: calls without a body, whose contract is the law.
 #![tactic(auto)]
 
-ghost use Rattle.dkg_core.specs.Agreeing.{OpeningsAgree, StepsAgree};
+ghost use Rattle.dkg_core.specs.Agreeing.{OpeningsAgree, SetupsAgree, StepsAgree};
 ghost use Rattle.dkg_core.specs.Enduring.{OpeningsEndure, StepsGiveBack, StepsKeep};
 ghost use Rattle.dkg_core.specs.Entry.{EntersRegistered, LastBlocksAreEntered};
 ghost use Rattle.dkg_core.specs.Heard.{OpeningsKeep, OpeningsRestore, PeersAgree, PeersAreKept, RunsAreKept, SetupsKeep};
@@ -103,6 +103,11 @@ pub fn setups_are_sound<Dir>()
 /// takes, if what it may record fits a record.
 pub fn steps_agree<Dir>()
     ensures { StepsAgree Dir }
+{}
+
+/// So they do behind a setup.
+pub fn setups_agree<Dir>()
+    ensures { SetupsAgree Dir }
 {}
 
 /// Over whole devices an opening in either mode leaves in memory what the devices give back.
