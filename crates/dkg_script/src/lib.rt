@@ -5,8 +5,9 @@
 //! `IsHonestRun` are what they presume. `specs/Kept.antt` has what it is that a transcript and the devices keep (`Kept`), entry by entry.
 //! `specs/Laws.antt` has what follows for a dealer and for the node; the calls below prove it. From there one goes down as far as one
 //! wants: `Order` (where an entry may stand), `Due` (when an acknowledgement is owed), `Consistent`, `OwnMarks` and `Valid` (what is
-//! presumed of a script), `AsCut` (a script as its lives were cut), `Ends` (how entries end), and below these `Progress`, `Position`, `Blocks`, `Setting` and `Readings`. Which
-//! scripts are run so far is `Form`, which the promise presumes, and `Built`, by which `read_built` answers.
+//! presumed of a script), `AsCut` and `AsCutLaws` (a script as its lives were cut, and what stays of it), `Ends` (how entries end), and
+//! below these `Progress`, `Position`, `Blocks`, `Setting` and `Readings`. Which scripts are run so far is `Form`, which the promise
+//! presumes, and `Built`, by which `read_built` answers.
 #![tactic(auto)]
 
 mod built;
