@@ -1,5 +1,6 @@
 pub mod Agreeing
 pub mod Applying
+pub mod Behind
 pub mod Blocks
 pub mod Core
 pub mod Counted
@@ -28,5 +29,6 @@ pub mod Said
 pub mod Seen
 pub mod Setup
 pub mod Sources
+pub mod Splitting
 pub mod Today
 pub mod Transcripts
