@@ -23,21 +23,21 @@ use Rattle.dkg_store.specs.declared.event.Event.TheVariants as events
 use Rattle.dkg_core.specs.Courses.{Course, Say, Goes, bind, under, on_devices, Deed, Said as Spoke, Did, Called, EndsSo}
 use Rattle.dkg_core.specs.Said.{Said}
 use Rattle.dkg_core.specs.Fixed.{Fixed}
-use Rattle.dkg_core.specs.Live.{Live, Dealer, NodeStop, Faulted, Seat, Plays, Watches, Stage, Deals, Includes, Follows, Ends, Mail, Message, Sent, Peer, Finalized, recorded_at}
+use Rattle.dkg_core.specs.Live.{Live, Dealer, NodeStop, Faulted, Seat, Plays, Watches, Stage, Deals, Includes, Follows, Ends, Message, Sent, Peer, Finalized, recorded_at}
 use Rattle.dkg_core.specs.Dealing as d
 use Rattle.dkg_core.specs.Plans.{material_at}
 use Rattle.dkg_core.specs.Core.{opening, step}
 use Rattle.dkg_core.specs.Entering as half
 use Rattle.dkg_core.specs.Entering.{HalfAnswer}
-use Rattle.dkg_core.specs.Node.{unless_once, kept_material, node_opening, node_step}
-use Rattle.dkg_core.specs.Laws.{IsQuiet, IsDue}
+use Rattle.dkg_core.specs.Node.{unless_once, kept_material}
+use Rattle.dkg_core.specs.Laws.{IsQuiet}
 use Rattle.dkg_core.specs.Transcripts.{lines_of, BeginsOpened}
 use Rattle.dkg_core.specs.Splitting.{IsEarly, named}
-use Rattle.dkg_core.specs.Behind.{IsAside, IsSameBeside}
-use Rattle.dkg_core.specs.Today.{ComesTo, CameTo, IsFormOfToday, IsOpeningFault, IsOpenedToday, IsEnteredToday, IsLiveToday, IsTakenToday, refusal_of, IsNextToday, answer_in}
+use Rattle.dkg_core.specs.Behind.{EndsBehind, IfEarly, IsAside}
+use Rattle.dkg_core.specs.Today.{ComesTo, CameTo, IsFormOfToday, IsOpeningFault, IsOpenedToday, IsEnteredToday, refusal_of, IsNextToday, answer_in}
 use Rattle.dkg_core.specs.NodeToday.{LacksNobody, IsNodeOpened, IsFaultBy, NodeOpeningsComeTo, NodeStepsComeTo, NodeOpeningsAreQuiet, NodeStepsAreQuiet, NodeDuesAreAnswered}
 use Rattle.dkg_core.proofs.Answering.{answered}
-use Rattle.dkg_core.proofs.Behind.{opened_aside, only_said, steps_say_behind}
+use Rattle.dkg_core.proofs.Behind.{openings_say_behind, steps_say_behind}
 use Rattle.dkg_core.proofs.Lines.{runs_add_deeds}
 use Rattle.dkg_core.proofs.Quiet.{openings_are_quiet, steps_are_quiet}
 use Rattle.dkg_core.proofs.Said.{runs_say}
@@ -170,27 +170,23 @@ all_quiet [] [] all aside = tt
 all_quiet [] (line ∷ more) all aside = (aside_quiet line aside.0, all_quiet [] more tt aside.1)
 all_quiet (line ∷ lines) more all aside = (all.0, all_quiet lines more all.1 aside)
 
-opened_on : {S T : Type 0} (life : ℕ) (added more : List Line) (end : S) (ended : Ended NodeStop T) → BeginsOpened {F = Fault} life added (went end) → AllByRecursion IsAside more → BeginsOpened life (added ++ more) ended
-opened_on life (Opened its restored ∷ lines) more end ended begins aside = (begins.0, all_quiet lines more begins.1 aside)
-opened_on life added more end ended begins aside = absurd begins
-
-opened_early : {S T : Type 0} (life : ℕ) (added : List Line) (its : Ended Fault S) (ended : Ended NodeStop T) → IsEarly (named {S = S} Faulted its) ended → BeginsOpened life added its → BeginsOpened life added ended
-opened_early life (Opened its restored ∷ lines) half ended is begins = begins
-opened_early life [] (broken cause) (broken other) is begins = tt
-opened_early life [] (broken cause) ended is begins = absurd is
-opened_early life added half ended is begins = absurd begins
+-- the line of the opening stands first, whatever comes behind: nothing, where the reshare half has said nothing
+opened_first : {Dir : Type 0} (life : ℕ) (added more : List Line) (its : Ended Fault (Live Dir)) (ended : Ended NodeStop (Live Dir)) → EndsBehind its ended → IfEarly its (more ≡ []) → BeginsOpened life added its
+    → AllByRecursion IsAside more → BeginsOpened life (added ++ more) ended
+opened_first life (Opened number restored ∷ lines) more its ended ends silent begins aside = (begins.0, all_quiet lines more begins.1 aside)
+opened_first {Dir} life [] more (broken cause) ended ends silent begins aside =
+    subst (λ (ls : List Line). BeginsOpened life ls ended) (sym silent) (subst (λ (e : Ended NodeStop (Live Dir)). BeginsOpened life [] e) (sym ends) tt)
+opened_first life added more its ended ends silent begins aside = absurd begins
 
 -- lines, and others behind them
 behind : (old mid new added more : List Line) → mid ≡ old ++ added → new ≡ mid ++ more → new ≡ old ++ (added ++ more)
 behind old mid new added more first next = next ∙ ap (λ (ls : List Line). ls ++ more) first ∙ append_assoc old added more
 
 pub node_openings_are_quiet : {Dir : Type 0} → NodeOpeningsAreQuiet Dir
-node_openings_are_quiet c ended old new said = elim (parted (opening c) (λ st. unless_once c (kept_material c st) (Goes st)) ended old new said) [
-  | inl both ↦ (let first = openings_are_quiet c (went both.0) old both.1 both.2 in
-      let more = only_said IsAside (IsSameBeside both.0) (unless_once c (kept_material c both.0) (Goes both.0)) ended both.1 new (opened_aside c both.0) both.3 in
-      (first.0 ++ more.lines, behind old both.1 new first.0 more.lines first.1 more.out, opened_on c.life first.0 more.lines both.0 ended first.2 more.says))
-  | inr early ↦ (let first = openings_are_quiet c early.0 old new early.2 in (first.0, first.1, opened_early c.life first.0 early.0 ended early.1 first.2))
-]
+node_openings_are_quiet c ended old new said =
+    let its = openings_say_behind c ended old new said in
+    let first = openings_are_quiet c its.half old its.mid its.said in
+    (first.0 ++ its.lines, behind old its.mid new first.0 its.lines first.1 its.out, opened_first c.life first.0 its.lines its.half ended its.ends its.silent first.2 its.aside)
 
 pub node_steps_are_quiet : {Dir : Type 0} → NodeStepsAreQuiet Dir
 node_steps_are_quiet c st message ended old new said =
