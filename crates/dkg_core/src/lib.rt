@@ -18,6 +18,7 @@ ghost use Rattle.dkg_core.specs.Joining.{JoinsTrack, ProbesJoin};
 ghost use Rattle.dkg_core.specs.Laws.{DuesAreAnswered, OpeningsPrune, OthersAcknowledgeNothing, PeersAreHeard, SetupsAreSound, SetupsPrune};
 ghost use Rattle.dkg_core.specs.Counted.{CutsFall, RunsCount};
 ghost use Rattle.dkg_core.specs.Lives.{LivesKeep};
+ghost use Rattle.dkg_core.specs.NodeToday.{NodeDuesAreAnswered, NodeOpeningsAreQuiet, NodeOpeningsComeTo, NodeStepsAreQuiet, NodeStepsComeTo};
 ghost use Rattle.dkg_core.specs.Probes.{ProbesStep};
 ghost use Rattle.dkg_core.specs.Said.{RunsSay};
 ghost use Rattle.dkg_core.specs.Today.{HalvesDeliver, HalvesOpen, OpeningsComeTo, StepsComeTo};
@@ -215,4 +216,31 @@ pub fn joins_track<Dir, F, G, S, T>()
 /// leaves as they were, with the same lines, and to the same end or fault. The life has the state that it went to.
 pub fn probes_step<Dir>()
     ensures { ProbesStep Dir }
+{}
+
+/// In the form that is built a node's opening stops by the faults of its reshare half alone, each with its cause, where directories lack
+/// nobody; or it leaves the life that this half left, with the awaited epoch entered, or halted without its boundary block.
+pub fn node_openings_come_to<Dir>()
+    ensures { NodeOpeningsComeTo Dir }
+{}
+
+/// In the form that is built a node's step stops by the fault that the block in hand is refused for, and by no other; or the life goes on in
+/// the same round and seat, with its orchestrator as it was. The orchestrator's half doesn't wait before it.
+pub fn node_steps_come_to<Dir>()
+    ensures { NodeStepsComeTo Dir }
+{}
+
+/// A node's opening says first that the life is opened, and then lines of its own alone; where it ended by itself it has said so.
+pub fn node_openings_are_quiet<Dir>()
+    ensures { NodeOpeningsAreQuiet Dir }
+{}
+
+/// A node's step by a message of the reshare half, or by a block, neither opens a life, counts a step, nor tells a cut or a fault.
+pub fn node_steps_are_quiet<Dir>()
+    ensures { NodeStepsAreQuiet Dir }
+{}
+
+/// A peer's message that is due is acknowledged as the last thing of the node's step, where the orchestrator's half doesn't wait.
+pub fn node_dues_are_answered<Dir>()
+    ensures { NodeDuesAreAnswered Dir }
 {}
