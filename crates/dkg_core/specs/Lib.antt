@@ -22,6 +22,7 @@ pub mod Logs
 pub mod Meant
 pub mod Node
 pub mod NodeKept
+pub mod NodeToday
 pub mod OneShots
 pub mod Plans
 pub mod Probes

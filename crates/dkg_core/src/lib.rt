@@ -11,6 +11,7 @@
 #![tactic(auto)]
 
 ghost use Rattle.dkg_core.specs.Agreeing.{OpeningsAgree, SetupsAgree, StepsAgree};
+ghost use Rattle.dkg_core.specs.Behind.{OpeningsRunBehind, OpeningsSayBehind, StepsRunBehind, StepsSayBehind};
 ghost use Rattle.dkg_core.specs.Enduring.{OpeningsEndure, StepsGiveBack, StepsKeep};
 ghost use Rattle.dkg_core.specs.Entry.{EntersRegistered, LastBlocksAreEntered};
 ghost use Rattle.dkg_core.specs.Heard.{OpeningsKeep, OpeningsRestore, PeersAgree, PeersAreKept, RunsAreKept, SetupsKeep};
@@ -18,7 +19,9 @@ ghost use Rattle.dkg_core.specs.Joining.{JoinsTrack, ProbesJoin};
 ghost use Rattle.dkg_core.specs.Laws.{DuesAreAnswered, OpeningsPrune, OthersAcknowledgeNothing, PeersAreHeard, SetupsAreSound, SetupsPrune};
 ghost use Rattle.dkg_core.specs.Counted.{CutsFall, RunsCount};
 ghost use Rattle.dkg_core.specs.Lives.{LivesKeep};
-ghost use Rattle.dkg_core.specs.NodeKept.{DeliveriesAreIdle, NodeOpeningsAgree, NodeOpeningsKeep, NodeOpeningsRestore, NodeOpeningsSpareLogs, NodeOpeningsSparePlans, NodePeersAreKept, NodeStepsAgree, NodeStepsGiveBack, NodeStepsSpareLogs, NodeStepsSparePlans};
+ghost use Rattle.dkg_core.specs.NodeKept.{NodeOpeningsAgree, NodeOpeningsKeep, NodeOpeningsRestore, NodeOpeningsSpareLogs, NodeOpeningsSparePlans};
+ghost use Rattle.dkg_core.specs.NodeKept.{DeliveriesAreIdle, NodePeersAreKept, NodeStepsAgree, NodeStepsGiveBack, NodeStepsSpareLogs, NodeStepsSparePlans};
+ghost use Rattle.dkg_core.specs.NodeToday.{NodeDuesAreAnswered, NodeOpeningsAreQuiet, NodeOpeningsComeTo, NodeStepsAreQuiet, NodeStepsComeTo};
 ghost use Rattle.dkg_core.specs.Probes.{ProbesStep};
 ghost use Rattle.dkg_core.specs.Said.{RunsSay};
 ghost use Rattle.dkg_core.specs.Today.{HalvesDeliver, HalvesOpen, OpeningsComeTo, StepsComeTo};
@@ -276,4 +279,52 @@ pub fn node_steps_spare_plans<Dir>()
 /// At every exit of such a step the devices give back the logs that they did, if what it takes fits a record.
 pub fn node_steps_spare_logs<Dir>()
     ensures { NodeStepsSpareLogs Dir }
+{}
+
+/// In the form that is built a node's opening stops by the faults of its reshare half alone, each with its cause, where directories lack
+/// nobody; or it leaves the life that this half left, with the awaited epoch entered, or halted without its boundary block.
+pub fn node_openings_come_to<Dir>()
+    ensures { NodeOpeningsComeTo Dir }
+{}
+
+/// In the form that is built a node's step stops by the fault that the block in hand is refused for, and by no other; or the life goes on in
+/// the same round and seat, with its orchestrator as it was. The orchestrator's half doesn't wait before it.
+pub fn node_steps_come_to<Dir>()
+    ensures { NodeStepsComeTo Dir }
+{}
+
+/// A node's opening says first that the life is opened, and then lines of its own alone; where it ended by itself it has said so.
+pub fn node_openings_are_quiet<Dir>()
+    ensures { NodeOpeningsAreQuiet Dir }
+{}
+
+/// A node's step by a message of the reshare half, or by a block, neither opens a life, counts a step, nor tells a cut or a fault.
+pub fn node_steps_are_quiet<Dir>()
+    ensures { NodeStepsAreQuiet Dir }
+{}
+
+/// A peer's message that is due is acknowledged as the last thing of the node's step, where the orchestrator's half doesn't wait.
+pub fn node_dues_are_answered<Dir>()
+    ensures { NodeDuesAreAnswered Dir }
+{}
+
+/// At every exit a run of a node's opening is one of its reshare half's, behind which no device is touched, no call is counted, and nothing is said of
+/// dealings.
+pub fn openings_run_behind<Dir>()
+    ensures { OpeningsRunBehind Dir }
+{}
+
+/// So is a run of a node's step for a message of the reshare half, or for a block.
+pub fn steps_run_behind<Dir>()
+    ensures { StepsRunBehind Dir }
+{}
+
+/// Whatever the devices tell, a node's opening says what its reshare half says, and behind it nothing of dealings.
+pub fn openings_say_behind<Dir>()
+    ensures { OpeningsSayBehind Dir }
+{}
+
+/// So does a node's step for a message of the reshare half, or for a block.
+pub fn steps_say_behind<Dir>()
+    ensures { StepsSayBehind Dir }
 {}
