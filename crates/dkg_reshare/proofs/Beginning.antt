@@ -40,12 +40,6 @@ use Rattle.dkg_reshare.specs.Today.{seen_today}
 abbrev pub recorded : Pairs × Notes (List ℕ) × Notes RecordedLog → Records
 recorded g = record { dealings = maps.entries g.0; acks = maps.entries g.1; logs = maps.entries g.2 }
 
--- the store's opening, and the line
-pub store_as : (Dir : Type 0) (life calls : ℕ)
-    → on_devices (opens_store {Dir = Dir} seen_today life calls)
-    ≡ acts_of.bind (acts_of.under fault_of (calls_of.opening None calls None)) (λ g. acts_of.Say (Opened life (restored_list g.0)) (acts_of.Goes (recorded g)))
-store_as Dir life calls = refl
-
 -- AN OPENING
 
 abbrev pub begun_by : {Dir : Type 0} → Records → Live Dir

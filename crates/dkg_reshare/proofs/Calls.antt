@@ -48,25 +48,6 @@ module _ {D X : Type 0} (tells : Bool) (disk : D → D → List (DeviceCall Op) 
       later_secrets = later_secrets;
     }
 
-    -- the disk alone
-    pub moved_disk : (calls : List Op) → (IsTrue tells → Ran disk old.disk.now new.disk.now old.fuse new.fuse calls) → secrets old.secrets.now new.secrets.now []
-        → Moved tells disk secrets disk_faults secret_faults old new
-    moved_disk calls ran none = record {
-      ran = λ told.
-          let first = (ran told).first in
-          (map on_disk first, record {
-            each = record {
-              on_the_disk = subst (λ (l : List (DeviceCall Op)). disk old.disk.now new.disk.now l) (sym (disk_calls-map first old.fuse)) (ran told).all.each;
-              on_the_secrets = subst (λ (l : List (DeviceCall SecretOp)). secrets old.secrets.now new.secrets.now l) (sym (secret_calls-map first old.fuse)) none;
-            };
-            fuse = (ran told).all.fuse ∙ sym (burned-map first old.fuse);
-          });
-      same_disk = same_disk;
-      same_secrets = same_secrets;
-      later_disk = later_disk;
-      later_secrets = later_secrets;
-    }
-
     -- the secrets alone
     pub moved_secrets : (calls : List SecretOp) → Ran secrets old.secrets.now new.secrets.now old.fuse new.fuse calls → disk old.disk.now new.disk.now []
         → Moved tells disk secrets disk_faults secret_faults old new

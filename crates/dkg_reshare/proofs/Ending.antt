@@ -30,9 +30,6 @@ module _ {Dir : Type 0} where
   failed_ends (Living life) stop P is = is
   failed_ends HadFailed stop P is = is
 
-pub never_failed : (stop : Stop) (P Q T : Type 0) → IsCaused stop P Q T → stop ≡ Failed → ⊥
-never_failed stop P Q T is e = let R : Stop → Type 0 = λ s. IsCaused s P Q T in subst R e is
-
 -- What a call says of its end is what the next one asks for.
 pub stands_again : {Dir D X : Type 0} (tells : Bool) (files : D → Files) (image : D → Files → Type 0) (ack_of : AckOf) (terms : Terms) (state : State Dir) (devices : Devices D X) (result : Result (Unit {0}) Stop)
     → EndsAt state result (λ life. IsReadyLife tells files image ack_of terms life devices) → IsAt tells files image ack_of terms state devices

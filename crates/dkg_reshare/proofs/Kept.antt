@@ -86,12 +86,6 @@ burned_later (one ∷ calls) f =
 
 -- ONE CALL BEHIND ANOTHER
 
-pub sound_then : {most : ℕ} {a b c : Files → Type 0} → StaysSound most a b → StaysSound most b c → StaysSound most a c
-sound_then first second = record {
-  fit = λ fits. second.fit (first.fit fits);
-  plan = record { each = λ x has. let m = second.plan.each x has in let l = first.plan.each m.0 m.1 in (l.0, l.1, m.2 ∙ l.2) };
-}
-
 module _ (min : ℕ) where
   given_then : {a b c : Files} {r s t : Secrets} → StaysGiven min a b r s → StaysGiven min b c s t → StaysGiven min a c r t
   given_then first second = record {
