@@ -17,14 +17,18 @@ use Rattle.dkg_store.specs.Acts.{Ended, IfWent, Moment, Runs, Stands, at, broken
 use Rattle.dkg_store.specs.Secrets.{Secrets}
 use Rattle.dkg_store.specs.declared.devices.Devices.{Devices}
 use Rattle.dkg_text.specs.declared.script.Event.TheVariants as event
-use Rattle.dkg_core.specs.Core.{step}
+use Rattle.std.specs.Int.NonZero.{non_zero_u32_get, non_zero_u64_get}
+use Rattle.dkg_ceremony.specs.declared.mode.ModeVersion.{ModeVersion}
+use Rattle.dkg_ceremony.specs.declared.mode.Reveal.TheVariants.{V1}
+use Rattle.dkg_text.specs.declared.script.ScriptConfig.{ScriptConfig}
+use Rattle.dkg_core.specs.Core.{no_orchestrator, no_probe, step}
 use Rattle.dkg_core.specs.Courses.{Course, Goes, Say, bind, on_devices}
 use Rattle.dkg_core.specs.Entering.{acked_at, asks_again, delivered}
 use Rattle.dkg_core.specs.Fixed.{Fixed}
 use Rattle.dkg_core.specs.Live.{Live, Mail, NodeStop, Peer, Reshare, Sent, Delivers, Finalized}
 use Rattle.dkg_core.specs.Node.{node_step, unless_once}
 use Rattle.dkg_core.specs.Said.{Said}
-use Rattle.dkg_reshare.specs.Actors.{EndsAt, HasFailed, IfLiving, lives}
+use Rattle.dkg_reshare.specs.Actors.{AreTerms, EndsAt, HasFailed, IfLiving, IsReadyLife, lives}
 use Rattle.dkg_reshare.specs.Ends.{by_stop}
 use Rattle.dkg_reshare.specs.LiveOf.{Beside, live_of}
 use Rattle.dkg_reshare.specs.Made.{MakesAt, Speaks, Tells}
@@ -34,12 +38,13 @@ use Rattle.dkg_reshare.specs.declared.actor.State.TheVariants.{New, Living, Fail
 use Rattle.dkg_reshare.specs.declared.life.Life as reshare
 use Rattle.dkg_reshare.specs.declared.stop.Stop.{Stop}
 use Rattle.dkg_run.specs.Ended.{by_node_stop, ends_node}
-use Rattle.dkg_run.specs.Given.{Lived, at_step, blocks_in, step_of}
+use Rattle.dkg_run.specs.Given.{Lived, ReadsNeither, at_step, blocks_in, step_of}
 use Rattle.dkg_run.specs.Lives.{never}
-use Rattle.dkg_run.specs.Nodes.{HasHalf, IsView, Viewed}
+use Rattle.dkg_run.specs.Nodes.{HasHalf, IsOfLife, IsReadyNode, IsView, Viewed}
 use Rattle.dkg_run.specs.declared.half.Half.{Half}
 use Rattle.dkg_run.specs.declared.node.Node.{Node}
 use Rattle.dkg_reshare.proofs.Burning.{burns_none, makes_nothing}
+use Rattle.dkg_reshare.proofs.Ending.{stands_again}
 use Rattle.dkg_reshare.proofs.Said.{nothing_held, said_of_runs}
 use Rattle.dkg_run.proofs.Naming.{node_ends, node_goes, node_says, node_says_early}
 
@@ -220,3 +225,38 @@ module _ (n : Node) (c : Fixed directory.Unit) (beside : Beside directory.Unit) 
         (speaks_says (answered end) (ends_node end result) (speaks end view.half))))
     told_in New is P ends said result speaks = absurd ends
     told_in HadFailed is P ends said result speaks = absurd ends
+
+-- A NODE THAT GOES ON has a view, whatever it was
+viewed_in : (n : Node) (P : reshare.Life directory.Unit → Type 0) (state : State directory.Unit) → n.actor.state ≡ state → EndsAt state (Ok tt) P → (st : Live directory.Unit) × IsView n st
+viewed_in n P (Living life) is ends = (
+  live_of (record { orchestrator = record (no_orchestrator {Dir = directory.Unit}) { entered = n.half.entered; halted = n.half.halted }; probe = no_probe }) n.fence life,
+  view_of n (record { orchestrator = record (no_orchestrator {Dir = directory.Unit}) { entered = n.half.entered; halted = n.half.halted }; probe = no_probe }) life (record { entered = refl; halted = refl; unawaited = refl }) is,
+)
+viewed_in n P New is ends = absurd ends
+viewed_in n P HadFailed is ends = absurd ends
+
+pub ready_node : {D X : Type 0} (tells : Bool) (files : D → Files) (image : D → Files → Type 0) (n : Node) (devices : Devices D X)
+    → EndsAt n.actor.state (Ok tt) (λ life. IsReadyLife tells files image acks.ack_of n.actor.terms life devices) → IsReadyNode tells files image n devices
+ready_node tells files image n devices ends = record {
+  at = stands_again tells files image acks.ack_of n.actor.terms n.actor.state devices (Ok tt) ends;
+  viewed = viewed_in n (λ life. IsReadyLife tells files image acks.ack_of n.actor.terms life devices) n.actor.state refl ends;
+}
+
+-- THE CONFIGURATION of a life
+
+pub of_terms : (g : Lived) (node : Node) (config : ScriptConfig) → g.script.config ≡ config → ReadsNeither g.seen
+    → AreTerms node.actor.terms config.me config.blocks_per_epoch config.limit config.max_mode config.mode V1 config.namespace → IsOfLife g node
+unfolding at_step
+of_terms g node config same reads are = record { of = λ taken. record {
+  me = ap (λ (c : ScriptConfig). c.me) same ∙ sym are.me_is;
+  blocks = ap (λ (c : ScriptConfig). non_zero_u64_get c.blocks_per_epoch) same ∙ ap non_zero_u64_get (sym are.blocks_are);
+  limit = ap (λ (c : ScriptConfig). non_zero_u32_get c.limit) same ∙ ap non_zero_u32_get (sym are.limit_is);
+  version = ap (λ (c : ScriptConfig). c.max_mode.0) same ∙ ap (λ (m : ModeVersion). m.0) (sym are.version_is);
+  mode = ap (λ (c : ScriptConfig). c.mode) same ∙ sym are.mode_is;
+  reveal = sym are.reveal_is;
+  namespace = ap (λ (c : ScriptConfig). c.namespace) same ∙ sym are.namespace_is;
+  shareless = reads.shareless;
+  unplanned = reads.unplanned;
+  reshare = refl;
+  bare = refl;
+} }

@@ -21,10 +21,7 @@ use Rattle.dkg_run.proofs.Stepping.{drop_item}
 
 -- A LIFE'S END over worlds, from that over lines: the devices' stops change nothing of what is held
 
-module _ (life : Life) (out now : List Entry) (picks after : List ℕ) (w new : World) (result : Result (Unit {0}) Fault) (of_lines : (lines : List Entry) → now ≡ lines → new ≡ record w { out = lines }) (starts : w.out ≡ out) where
-  same_out : new ≡ record w { out = now }
-  same_out = of_lines now refl
-
+module _ (life : Life) (out now : List Entry) (picks after : List ℕ) (w new : World) (result : Result (Unit {0}) Fault) (same_out : new ≡ record w { out = now }) (starts : w.out ≡ out) where
   pub ends_over : (how : Result (Unit {0}) Stop) → EndsLife by_lines life how (trace out picks) result (trace now after) (λ t. (result ≡ Ok tt) × (t ≡ trace now after))
       → EndsLife by_worlds life how w result new (λ v. (result ≡ Ok tt) × (v ≡ new))
   ends_over (Ok done) ends = (ends.0, at_out out starts (ap (λ (t : Trace). t.out) ends.1))
