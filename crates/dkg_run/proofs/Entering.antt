@@ -1,6 +1,6 @@
 -- What the orchestrator's half says as a life opens, and of a block, one exit after another.
 use Rattle.std.proofs.Common.{◌≡◌, ℕ, ◌+◌, ◌++◌, ◌∷◌, [], arith, Bool, true, false, List, Option, Some, None, Result, Ok, Err, refl, sym, ◌∙◌, ap, subst}
-use Rattle.std.specs.Prelude.{◌==◌, ◌<◌, nat_lt, IsSome, is_some, option_and_then, if◌then◌else◌}
+use Rattle.std.specs.Prelude.{◌==◌, ◌<◌, nat_lt, IsSome, IsSomeAnd, is_some, option_and_then, if◌then◌else◌}
 use Rattle.std.specs.Option.{option_map_or}
 use Rattle.std.specs.Result.{result_ok}
 use Rattle.std.proofs.lemmas.Bool.Decides.{nat_tests}
@@ -38,6 +38,7 @@ use Rattle.dkg_core.specs.Setup.{is_past_range}
 use Rattle.dkg_core.specs.Today.{first_block, first_epoch}
 use Rattle.dkg_reshare.specs.Made.{Speaks}
 use Rattle.dkg_run.specs.Halves.{beginning_of}
+use Rattle.dkg_run.specs.Nodes.{IsFenceReady}
 
 -- A COURSE THAT TOUCHES NO DEVICE
 
@@ -59,6 +60,31 @@ speaks_line : {S : Type 0} (line : Line) (end its : S) (out : List Line) → its
 speaks_line line end its out is = λ h f. (refl, is)
 
 -- AN OPENING
+
+-- the fence is ready for the epoch whose info the boundary block carries
+pub ready_where_carried : (c : Fixed directory.Unit) (fence : Readiness) (b : Block directory.Unit) (epoch : ℕ) → epoch ≡ first_epoch c → first_block c ≡ Some b → beginning_of b epoch ≡ Ok tt → IsFenceReady c fence
+    → is_ready fence.ready epoch ≡ true
+ready_where_carried c fence b epoch of at begins ready = subst (λ (n : ℕ). is_ready fence.ready n ≡ true) (sym of) (ready (on_first (first_block c) at))
+  where
+    by_test : (info : EpochInfo directory.Unit) (t : Bool) → (info.epoch == epoch) ≡ t → (if t then Ok tt else Err (WrongEpoch epoch info.epoch)) ≡ Ok tt → info.epoch ≡ first_epoch c
+    by_test info true e is = same info.epoch epoch e ∙ of
+      where
+        same : (n m : ℕ) → (n == m) ≡ true → n ≡ m
+        same n m e = grind (arith, nat_tests)
+    by_test info false e is = absurd (let wrong : ◌≡◌ {A = Result (Unit {0}) Fault} (Err (WrongEpoch epoch info.epoch)) (Ok tt) = is in cc)
+
+    on_info : (found : Option (EpochInfo directory.Unit))
+        → option_map_or (λ (info : EpochInfo directory.Unit). if info.epoch == epoch then Ok tt else Err (WrongEpoch epoch info.epoch)) found (Err (MissingEpochInfo b.height)) ≡ Ok tt
+        → IsSomeAnd found (λ (info : EpochInfo directory.Unit). info.epoch ≡ first_epoch c)
+    on_info None is = absurd (let wrong : ◌≡◌ {A = Result (Unit {0}) Fault} (Err (MissingEpochInfo b.height)) (Ok tt) = is in cc)
+    on_info (Some info) is = by_test info (info.epoch == epoch) refl is
+
+    on_first : (found : Option (Block directory.Unit)) → found ≡ Some b → IsSomeAnd found (λ b. IsSomeAnd (info_of b.payload) (λ info. info.epoch ≡ first_epoch c))
+    on_first None is = absurd (let wrong : ◌≡◌ {A = Option (Block directory.Unit)} None (Some b) = is in cc)
+    on_first (Some own) is = subst (λ (k : Block directory.Unit). IsSomeAnd (info_of k.payload) (λ info. info.epoch ≡ first_epoch c)) (sym (the_block is)) (on_info (info_of b.payload) begins)
+      where
+        the_block : {x y : Block directory.Unit} → Some x ≡ Some y → x ≡ y
+        the_block e = cc
 
 module _ (c : Fixed directory.Unit) (st : Live directory.Unit) (unplanned : (h : Held) → (c.seen h).plan ≡ None) where
   abbrev its_live : Half directory.Unit → NodeCourse (Live directory.Unit)

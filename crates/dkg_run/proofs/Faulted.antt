@@ -31,7 +31,9 @@ use Rattle.dkg_run.specs.Given.{IsLifeHere, Lived, ReadsNeither, at_step, lived,
 use Rattle.dkg_run.specs.Lives.{AnyFiles, EndsLife, LivesFrom, LivesSo, RunsAllSo, RunsSo, Steps, TakesAll, TellsEnd, fuse_for}
 use Rattle.dkg_run.specs.Ways.{ReadsSomething, Trace, by_lines}
 use Rattle.dkg_run.proofs.Faults.{IsOutside, IsTellable, opening_tellable, outside_tellable, own_or_outside, refusal_tellable}
-use Rattle.dkg_run.proofs.Laws.{IsNodeOpened, event_of, node_openings_come_to, node_steps_come_to, opened_live, opened_unawaited}
+use Rattle.dkg_core.proofs.NodeToday.{node_openings_come_to, node_steps_come_to}
+use Rattle.dkg_core.specs.NodeToday.{IsNodeOpened}
+use Rattle.dkg_run.proofs.Laws.{opened_live, opened_unawaited}
 use Rattle.dkg_run.proofs.Living.{holds_at}
 use Rattle.dkg_run.proofs.Ordered.{RunEndsIn, all_in_order, item_at, rest_at, tells_fault}
 use Rattle.dkg_run.proofs.Standing.{IsBetweenOf, MayTell, Moves, TellsFault}
@@ -92,14 +94,11 @@ module _ (P : Fault → Type 0) (outside : (its : Fault) → IsOutside its → P
         → refusal_of (at_step g j) message st ≡ Some own → P own) where
       event_comes : (j : ℕ) (e : Event) (st : Live directory.Unit) → IsEventOfToday (midpoint_of g.script) g.script.blocks e → GoesOn j st → (ended : Ended NodeStop (Live directory.Unit)) (old new : List Entry)
           → Said (on_devices (step_of g j e st)) ended old new → Comes (GoesOn j) ended
-      event_comes j e st today goes ended old new said = by_end ended (node_steps_come_to (at_step g j) st its_message.message ended old new reshare its_message.taken goes.0 goes.1
+      event_comes j e st today goes ended old new said = by_end ended (node_steps_come_to (at_step g j) st its_message.message ended old new its_message.taken goes.0 goes.1
           (subst (λ (k : Course directory.Unit NodeStop (Live directory.Unit)). Said (on_devices k) ended old new) its_message.course said))
         where
           its_message : IsMessage g j e st
           its_message = message_of g j e st today
-
-          reshare : (at_step g j).oneshot ≡ None
-          reshare = (form_at g here j).reshare
 
           by_end : (ended : Ended NodeStop (Live directory.Unit))
               → CameTo (λ stop. (own : Fault) × (stop ≡ Faulted own) × (refusal_of (at_step g j) its_message.message st ≡ Some own)) (λ end. IsNextToday (at_step g j) st end its_message.message) ended

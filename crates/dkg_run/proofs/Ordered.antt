@@ -38,8 +38,7 @@ use Rattle.dkg_run.specs.Lives.{AnyFiles, EndsLife, LivesFrom, LivesHere, LivesS
 use Rattle.dkg_run.specs.Ways.{Trace, by_lines}
 use Rattle.dkg_run.proofs.Ended.{told_in_order}
 use Rattle.dkg_run.proofs.InPlace.{moves_cut}
-use Rattle.dkg_run.proofs.Laws.{node_openings_are_quiet, node_steps_are_quiet}
-use Rattle.dkg_run.proofs.Noding.{at_oneshot}
+use Rattle.dkg_core.proofs.NodeToday.{node_openings_are_quiet, node_steps_are_quiet}
 use Rattle.dkg_run.proofs.Places.{moves_none, moves_then, moves_within, quiet_none}
 use Rattle.dkg_run.proofs.Runs.{moves_in_life, moves_life, runs_all, runs_in_order}
 use Rattle.dkg_run.proofs.Standing.{AddsOpening, AddsQuiet, IsAtCut, IsBefore, IsBehind, IsBetween, IsBetweenOf, IsCutBefore, IsStopped, IsWithin, MayTell, Moves, TellsFault}
@@ -137,13 +136,13 @@ adds_quiet out now its = record { added = its.0; parts = its.1; quiet = its.2 }
 pub step_is_quiet : (g : Lived) (j : ℕ) (its : Event) (st : Live directory.Unit) (ended : Ended NodeStop (Live directory.Unit)) (out now : List Entry)
     → Said (on_devices (step_of g j its st)) ended out now → AddsQuiet out now
 step_is_quiet g j (event.Peer from bytes) st ended out now said =
-    adds_quiet out now (node_steps_are_quiet (at_step g j) st (Sent (Peer from bytes)) ended out now (at_oneshot g j) said)
+    adds_quiet out now (node_steps_are_quiet (at_step g j) st (Sent (Peer from bytes)) ended out now said)
 step_is_quiet g j (event.Final number) st ended out now said = of_block (slice_get (blocks_in g.script) number) said
   where
     of_block : (o : Option (Block directory.Unit))
         → Said (on_devices (option_map_or (λ its. node_step (at_step g j) its st) (option_map Delivers o) (Goes st))) ended out now → AddsQuiet out now
     of_block None said = said_none st ended out now said
-    of_block (Some b) said = adds_quiet out now (node_steps_are_quiet (at_step g j) st (Finalized b) ended out now (at_oneshot g j) said)
+    of_block (Some b) said = adds_quiet out now (node_steps_are_quiet (at_step g j) st (Finalized b) ended out now said)
 step_is_quiet g j other st ended out now said = said_none st ended out now said
 
 -- WHAT IS LEFT of a list
@@ -202,7 +201,7 @@ module _ (g : Lived) where
   opened_in : (ended : Ended NodeStop (Live directory.Unit)) (out now : List Entry) → Said (on_devices (node_opening (at_step g 0))) ended out now
       → (added : List Entry) × (now ≡ out ++ added) × BeginsOpened g.number added ended
   opened_in ended out now said =
-      let its = node_openings_are_quiet (at_step g 0) ended out now (at_oneshot g 0) said in
+      let its = node_openings_are_quiet (at_step g 0) ended out now said in
       (its.0, its.1, subst (λ (n : ℕ). BeginsOpened n its.0 ended) (at_number g 0) its.2)
 
   opening_in_order : (fuse : Option Burn) → fuse_for g.life.cut 0 ≡ fuse → (t new : Trace) (how : Result (Unit {0}) Stop) (next : Live directory.Unit → Trace → Type 0)

@@ -21,6 +21,7 @@ use Rattle.dkg_text.specs.declared.script.Script.{Script}
 use Rattle.dkg_text.specs.declared.script.ScriptConfig.{ScriptConfig}
 use Rattle.dkg_script.specs.Form.{IsEarly, IsEventOfToday, IsFormOfToday, IsLifeOfToday, midpoint_of}
 use Rattle.dkg_store.specs.Acts.{Held}
+use Rattle.dkg_core.specs.Behind.{event_of}
 use Rattle.dkg_core.specs.Courses.{Goes}
 use Rattle.dkg_core.specs.Live.{Delivers, Finalized, Live, Message, Peer, Sent}
 use Rattle.dkg_core.specs.Node.{node_step}
@@ -28,7 +29,6 @@ use Rattle.dkg_core.specs.Seen.{Seen}
 use Rattle.dkg_core.specs.Today as core
 use Rattle.dkg_core.specs.Today.{IsLiveToday, IsTakenToday}
 use Rattle.dkg_run.specs.Given.{IsLifeHere, Lived, ReadsNeither, at_step, blocks_in, step_of, with_block}
-use Rattle.dkg_run.proofs.Laws.{event_of}
 use Rattle.dkg_run.proofs.Living.{holds_at}
 
 -- BLOCKS stand at the heights of their lines

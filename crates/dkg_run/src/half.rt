@@ -114,7 +114,7 @@ impl Half {
         fence: &mut Fence,
         out: &mut Transcript,
     ) -> Result<Half, Stop>
-        requires ready { (c : Fixed directory.Unit) → IsHalfGiven (non_zero_u64_get blocks_per_epoch) (B.answers source.now) c → IsFenceReady c fence.old }
+        requires ready { (c : Fixed directory.Unit) × IsHalfGiven (non_zero_u64_get blocks_per_epoch) (B.answers source.now) c × IsFenceReady c fence.old }
         ensures speaks { (c : Fixed directory.Unit) (st : Live directory.Unit) → IsHalfGiven (non_zero_u64_get blocks_per_epoch) (B.answers source.now) c → MayEnter c fence.old st
             → Speaks (kept_material c st) (ends_half fence.new st result) out.old.entries out.new.entries }
     {
