@@ -19,7 +19,7 @@ use Rattle.dkg_types.specs.declared.fault.Fault.TheVariants.{HeightRange, Missin
 use Rattle.dkg_types.specs.declared.info.EpochInfo.{EpochInfo}
 use Rattle.dkg_types.specs.declared.scheme.SchemeInfo.{SchemeInfo}
 use Rattle.dkg_store.specs.Acts.{Held, World, Cause, says, Ended, went, stopped, broken, Completes, Faults, Breaks}
-use Rattle.dkg_core.specs.Courses.{Course, Say, Do, Call, Ask, Goes, Stops, bind, under, on_devices, EndsSo, Genesis}
+use Rattle.dkg_core.specs.Courses.{Course, Say, Do, Call, Ask, Goes, Stops, bind, under, on_devices, EndsSo, Genesis, Certified}
 use Rattle.dkg_core.specs.Said.{Said, SaysAll, SaysUpTo, SaysFirst}
 use Rattle.dkg_core.specs.Fixed.{Fixed, Material}
 use Rattle.dkg_core.specs.Live.{Live, Orchestrator, Waiting, NodeStop, Faulted, Message, Sent, Finalized, with_orchestrator}
@@ -104,7 +104,7 @@ module _ {Dir : Type 0} (c : Fixed Dir) where
   opens_at_aside st epoch (Some b) = enters_at_aside st b epoch None
 
   opens_aside : (st : Live Dir) (m : Option (Material Dir)) → Aside st (half.opens_half c m st)
-  opens_aside st (Some m) = enters_aside st _
+  opens_aside st (Some m) = enters_aside st (record { epoch = m.info.epoch; info = m.info; floor = Certified m.floor; block = None })
   opens_aside st None =
       let epoch = epoch_of c.blocks_per_epoch (half.start_height c) in
       only_if IsAside (IsHalfOf st) (is_past_range c (half.start_height c)) (Stops (Faulted HeightRange)) (half.opens_at c epoch (c.source.block (boundary c.blocks_per_epoch epoch)) st)
@@ -183,7 +183,14 @@ pub record OnlySaid {F S : Type 0} (P : Line → Type 0) (Q : S → Type 0) (end
   pub says : AllByRecursion P lines
   pub goes : IfGoes Q ended
 
-module _ {Dir F S : Type 0} (P : Line → Type 0) (Q : S → Type 0) where
+-- such lines
+all_such : (P : Line → Type 0) (line : Line) (lines rest : List Line) → lines ≡ line ∷ rest → P line → AllByRecursion P rest → AllByRecursion P lines
+all_such P line lines rest are is all = subst (λ (ls : List Line). AllByRecursion P ls) (sym are) (is, all)
+
+none_such : (P : Line → Type 0) (lines : List Line) → lines ≡ [] → AllByRecursion P lines
+none_such P lines are = subst (λ (ls : List Line). AllByRecursion P ls) (sym are) tt
+
+module _ {F S : Type 0} (P : Line → Type 0) (Q : S → Type 0) where
   one_more : (line : Line) (ended : Ended F S) (w new : World) → P line → LeavesDevices P Q ended (says w line) new → LeavesDevices P Q ended w new
   one_more line ended w new is leaves = record {
     held = leaves.held;
@@ -204,67 +211,62 @@ module _ {Dir F S : Type 0} (P : Line → Type 0) (Q : S → Type 0) where
     goes = goes;
   }
 
+module _ {Dir F S : Type 0} (P : Line → Type 0) (Q : S → Type 0) where
   completes : (course : Course Dir F S) (end : S) (w new : World) → OnlySays P Q course → Completes (on_devices course) end w new → LeavesDevices {F = F} P Q (went end) w new
-  completes (Say line course) end w new only run = one_more line (went end) w new only.0 (completes course end (says w line) new only.1 run)
+  completes (Say line course) end w new only run = one_more P Q line (went end) w new only.0 (completes course end (says w line) new only.1 run)
   completes (Do op course) end w new only run = absurd only
   completes (Call outer course) end w new only run = completes course end w new only run
   completes (Ask f) end w new only run = completes (f w.held) end w new (only w.held) run
-  completes (Goes its) end w new only run = nothing_more (went end) w new run.0 (subst Q (sym run.1) only)
+  completes (Goes its) end w new only run = nothing_more P Q (went end) w new run.0 (subst Q (sym run.1) only)
   completes (Stops fault) end w new only run = absurd run
 
   faults : (course : Course Dir F S) (fault : F) (w new : World) → OnlySays P Q course → Faults (on_devices course) fault w new → LeavesDevices P Q (stopped fault) w new
-  faults (Say line course) fault w new only run = one_more line (stopped fault) w new only.0 (faults course fault (says w line) new only.1 run)
+  faults (Say line course) fault w new only run = one_more P Q line (stopped fault) w new only.0 (faults course fault (says w line) new only.1 run)
   faults (Do op course) fault w new only run = absurd only
   faults (Call outer course) fault w new only run = faults course fault w new only run
   faults (Ask f) fault w new only run = faults (f w.held) fault w new (only w.held) run
   faults (Goes its) fault w new only run = absurd run
-  faults (Stops its) fault w new only run = nothing_more (stopped fault) w new run.0 tt
+  faults (Stops its) fault w new only run = nothing_more P Q (stopped fault) w new run.0 tt
 
   breaks : (cause : Cause) (course : Course Dir F S) (w new : World) → OnlySays P Q course → Breaks cause (on_devices course) w new → LeavesDevices {F = F} P Q (broken cause) w new
-  breaks cause (Say line course) w new only (inl none) = nothing_more (broken cause) w new none.1 tt
-  breaks cause (Say line course) w new only (inr run) = one_more line (broken cause) w new only.0 (breaks cause course (says w line) new only.1 run)
+  breaks cause (Say line course) w new only (inl none) = nothing_more P Q (broken cause) w new none.1 tt
+  breaks cause (Say line course) w new only (inr run) = one_more P Q line (broken cause) w new only.0 (breaks cause course (says w line) new only.1 run)
   breaks cause (Do op course) w new only run = absurd only
   breaks cause (Call outer course) w new only run = breaks cause course w new only run
   breaks cause (Ask f) w new only run = breaks cause (f w.held) w new (only w.held) run
-  breaks cause (Goes its) w new only run = nothing_more (broken cause) w new run.1 tt
-  breaks cause (Stops fault) w new only run = nothing_more (broken cause) w new run.1 tt
+  breaks cause (Goes its) w new only run = nothing_more P Q (broken cause) w new run.1 tt
+  breaks cause (Stops fault) w new only run = nothing_more P Q (broken cause) w new run.1 tt
 
   pub leaves_devices : (course : Course Dir F S) (ended : Ended F S) (w new : World) → OnlySays P Q course → EndsSo course ended w new → LeavesDevices P Q ended w new
   leaves_devices course (went end) w new only run = completes course end w new only run
   leaves_devices course (stopped fault) w new only run = faults course fault w new only run
   leaves_devices course (broken cause) w new only run = breaks cause course w new only run
 
-  all_such : (line : Line) (lines rest : List Line) → lines ≡ line ∷ rest → P line → AllByRecursion P rest → AllByRecursion P lines
-  all_such line lines rest are is all = subst (λ (ls : List Line). AllByRecursion P ls) (sym are) (is, all)
-
-  none_such : (lines : List Line) → lines ≡ [] → AllByRecursion P lines
-  none_such lines are = subst (λ (ls : List Line). AllByRecursion P ls) (sym are) tt
-
   all_says : (course : Course Dir F S) (end : S) (lines : List Line) → OnlySays P Q course → SaysAll (on_devices course) end lines → AllByRecursion P lines × Q end
-  all_says (Say line course) end lines only by = let rest = all_says course end by.0 only.1 by.2 in (all_such line lines by.0 by.1 only.0 rest.0, rest.1)
+  all_says (Say line course) end lines only by = let rest = all_says course end by.0 only.1 by.2 in (all_such P line lines by.0 by.1 only.0 rest.0, rest.1)
   all_says (Do op course) end lines only by = absurd only
   all_says (Call outer course) end lines only by = all_says course end lines only by
   all_says (Ask f) end lines only by = all_says (f by.0) end lines (only by.0) by.1
-  all_says (Goes its) end lines only by = (none_such lines by.0, subst Q (sym by.1) only)
+  all_says (Goes its) end lines only by = (none_such P lines by.0, subst Q (sym by.1) only)
   all_says (Stops fault) end lines only by = absurd by
 
   up_to_says : (course : Course Dir F S) (fault : F) (lines : List Line) → OnlySays P Q course → SaysUpTo (on_devices course) fault lines → AllByRecursion P lines
-  up_to_says (Say line course) fault lines only by = all_such line lines by.0 by.1 only.0 (up_to_says course fault by.0 only.1 by.2)
+  up_to_says (Say line course) fault lines only by = all_such P line lines by.0 by.1 only.0 (up_to_says course fault by.0 only.1 by.2)
   up_to_says (Do op course) fault lines only by = absurd only
   up_to_says (Call outer course) fault lines only by = up_to_says course fault lines only by
   up_to_says (Ask f) fault lines only by = up_to_says (f by.0) fault lines (only by.0) by.1
   up_to_says (Goes its) fault lines only by = absurd by
-  up_to_says (Stops its) fault lines only by = none_such lines by.0
+  up_to_says (Stops its) fault lines only by = none_such P lines by.0
 
   first_says : (course : Course Dir F S) (lines : List Line) → OnlySays P Q course → SaysFirst (on_devices course) lines → AllByRecursion P lines
-  first_says (Say line course) lines only (inl none) = none_such lines none
-  first_says (Say line course) lines only (inr by) = all_such line lines by.0 by.1 only.0 (first_says course by.0 only.1 by.2)
+  first_says (Say line course) lines only (inl none) = none_such P lines none
+  first_says (Say line course) lines only (inr by) = all_such P line lines by.0 by.1 only.0 (first_says course by.0 only.1 by.2)
   first_says (Do op course) lines only by = absurd only
   first_says (Call outer course) lines only by = first_says course lines only by
-  first_says (Ask f) lines only (inl none) = none_such lines none
+  first_says (Ask f) lines only (inl none) = none_such P lines none
   first_says (Ask f) lines only (inr by) = first_says (f by.0) lines (only by.0) by.1
-  first_says (Goes its) lines only by = none_such lines by
-  first_says (Stops fault) lines only by = none_such lines by
+  first_says (Goes its) lines only by = none_such P lines by
+  first_says (Stops fault) lines only by = none_such P lines by
 
   pub only_said : (course : Course Dir F S) (ended : Ended F S) (old new : List Line) → OnlySays P Q course → Said (on_devices course) ended old new → OnlySaid P Q ended old new
   only_said course (went end) old new only said = let all = all_says course end said.lines only said.by in record { lines = said.lines; out = said.added; says = all.0; goes = all.1 }
@@ -305,7 +307,7 @@ module _ {Dir : Type 0} (course : Course Dir Fault (Live Dir)) (next : Live Dir 
 
   runs_behind : (ended : Ended NodeStop (Live Dir)) (w new : World) → EndsSo (bind (under Faulted course) next) ended w new → RunsBehind course ended w new
   runs_behind ended w new run = elim (runs_split (under Faulted course) next ended w new run) [
-    inl both ↦ (let its = runs_under Faulted course (went both.0) w both.1 both.2 in
+    | inl both ↦ (let its = runs_under Faulted course (went both.0) w both.1 both.2 in
         let left = leaves_devices IsAside (IsSameBeside both.0) (next both.0) ended both.1 new (aside both.0) both.3 in
         record {
           half = went both.0;
@@ -338,7 +340,7 @@ module _ {Dir : Type 0} (course : Course Dir Fault (Live Dir)) (next : Live Dir 
 
   said_behind : (ended : Ended NodeStop (Live Dir)) (old new : List Line) → Said (on_devices (bind (under Faulted course) next)) ended old new → SaidBehind course ended old new
   said_behind ended old new said = elim (said_split (under Faulted course) next ended old new said) [
-    inl both ↦ (let its = said_under Faulted course (went both.0) old both.1 both.2 in
+    | inl both ↦ (let its = said_under Faulted course (went both.0) old both.1 both.2 in
         let left = only_said IsAside (IsSameBeside both.0) (next both.0) ended both.1 new (aside both.0) both.3 in
         record {
           half = went both.0;

@@ -65,13 +65,13 @@ module _ {Dir F S T : Type 0} (next : S → Course Dir F T) where
   up_to_apart : (course : Course Dir F S) (fault : F) (lines : List Line) → SaysUpTo (on_devices (bind course next)) fault lines
       → Both course (λ its rest. SaysUpTo (on_devices (next its)) fault rest) lines ⊎ SaysUpTo (on_devices course) fault lines
   up_to_apart (Say line course) fault lines said = elim (up_to_apart course fault said.0 said.2) [
-    inl both ↦ inl (both_more line course (λ its rest. SaysUpTo (on_devices (next its)) fault rest) lines said.0 said.1 both)
+    | inl both ↦ inl (both_more line course (λ its rest. SaysUpTo (on_devices (next its)) fault rest) lines said.0 said.1 both)
     | inr first ↦ inr (said.0, said.1, first)
   ]
   up_to_apart (Do op course) fault lines said = up_to_apart course fault lines said
   up_to_apart (Call outer course) fault lines said = up_to_apart course fault lines said
   up_to_apart (Ask f) fault lines said = elim (up_to_apart (f said.0) fault lines said.1) [
-    inl both ↦ inl (both.0, both.1, both.2, both.3, (said.0, both.4), both.5)
+    | inl both ↦ inl (both.0, both.1, both.2, both.3, (said.0, both.4), both.5)
     | inr first ↦ inr (said.0, first)
   ]
   up_to_apart (Goes its) fault lines said = inl (its, [], lines, refl, (refl, refl), said)
@@ -81,7 +81,7 @@ module _ {Dir F S T : Type 0} (next : S → Course Dir F T) where
       → Both course (λ its rest. SaysFirst (on_devices (next its)) rest) lines ⊎ SaysFirst (on_devices course) lines
   first_apart (Say line course) lines (inl none) = inr (inl none)
   first_apart (Say line course) lines (inr said) = elim (first_apart course said.0 said.2) [
-    inl both ↦ inl (both_more line course (λ its rest. SaysFirst (on_devices (next its)) rest) lines said.0 said.1 both)
+    | inl both ↦ inl (both_more line course (λ its rest. SaysFirst (on_devices (next its)) rest) lines said.0 said.1 both)
     | inr first ↦ inr (inr (said.0, said.1, first))
   ]
   first_apart (Do op course) lines (inl none) = inr (inl none)
@@ -89,7 +89,7 @@ module _ {Dir F S T : Type 0} (next : S → Course Dir F T) where
   first_apart (Call outer course) lines said = first_apart course lines said
   first_apart (Ask f) lines (inl none) = inr (inl none)
   first_apart (Ask f) lines (inr said) = elim (first_apart (f said.0) lines said.1) [
-    inl both ↦ inl (both.0, both.1, both.2, both.3, (said.0, both.4), both.5)
+    | inl both ↦ inl (both.0, both.1, both.2, both.3, (said.0, both.4), both.5)
     | inr first ↦ inr (inr (said.0, first))
   ]
   first_apart (Goes its) lines said = inl (its, [], lines, refl, (refl, refl), said)
