@@ -216,6 +216,7 @@ module _ {Dir : Type 0} (c : Fixed Dir) (form : IsFormOfToday c) where
                   current = current;
                   seat = at_seat ∙ seat_is ∙ ap (λ (r : _). seat_in c round (record st { records = r })) (sym same_records);
                   passing = λ plays. passing (sym at_seat ∙ plays);
+                  passes = λ plays. ap (λ (r : _). s.refused_in c round (record st { records = r })) same_records ∙ refused_is ∙ passing (sym at_seat ∙ plays);
                   orchestrator = same_half;
                 }));
               },

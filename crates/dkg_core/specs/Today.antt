@@ -121,7 +121,7 @@ seat_in c round st = if not (has round.players c.me) || is_lost c round (of_epoc
 abbrev pub registered_by : {Dir : Type 0} → Fixed Dir → EpochInfo Dir → Orchestrator Dir
 registered_by {Dir} c info = record no_orchestrator { fence = marked info.epoch (no_orchestrator {Dir = Dir}).fence; schemes = (info.epoch, scheme_for c info None) ∷ [] }
 
--- The life takes part in the round of the info that the boundary block carries, of which no stored dealing is refused where it plays.
+-- The life takes part in the round of the info that the boundary block carries, of which no stored dealing is refused where it plays, nor one in memory.
 pub record IsSeatedBy {Dir : Type 0} (c : Fixed Dir) (seen : Seen) (st : Live Dir) (info : EpochInfo Dir) : Type 0 where
   pub round : Round
   pub drawn : round_by c info ≡ Ok round
@@ -129,6 +129,7 @@ pub record IsSeatedBy {Dir : Type 0} (c : Fixed Dir) (seen : Seen) (st : Live Di
   pub current : st.participation.current ≡ Some info
   pub seat : st.participation.seat ≡ seat_in c round st
   pub passing : st.participation.seat ≡ Plays → refused_in c round (begun seen) ≡ None
+  pub passes : st.participation.seat ≡ Plays → refused_in c round st ≡ None
   pub orchestrator : st.orchestrator ≡ registered_by c info
 
 -- .. or without that block it follows, and nothing was registered.
