@@ -191,6 +191,11 @@ abbrev pub tip_behind : {Dir : Type 0} → Message Dir → Option Tip → Option
 tip_behind (Finalized b) tip = if option_map_or (λ t. nat_le b.height t.height) tip false then tip else Some (record { height = b.height; digest = b.digest })
 tip_behind (Sent mail) tip = tip
 
+-- a block changes nothing that is recorded
+abbrev pub SparesRecords : {Dir : Type 0} → Message Dir → (st end : Live Dir) → Type 0
+SparesRecords (Finalized b) st end = end.records ≡ st.records
+SparesRecords message st end = Unit {0}
+
 -- The same life goes on: it awaits the same epoch in the same round and seat.
 pub record IsNextToday {Dir : Type 0} (c : Fixed Dir) (st end : Live Dir) (message : Message Dir) : Type 0 where
   pub accepted : refusal_of c message st ≡ None
@@ -201,6 +206,7 @@ pub record IsNextToday {Dir : Type 0} (c : Fixed Dir) (st end : Live Dir) (messa
   pub seat : end.participation.seat ≡ st.participation.seat
   pub current : end.participation.current ≡ st.participation.current
   pub orchestrator : end.orchestrator ≡ st.orchestrator
+  pub records : SparesRecords message st end
 
 -- A STEP stops by the fault that the block in hand is refused for, by the tip that the life had, and by no other; or the life goes on.
 abbrev pub StepsComeTo : Type 0 → Type 0
