@@ -205,7 +205,7 @@ module _ (blocks : ℕ) where
   some_line [] some = absurd (omega (arith, some))
   some_line (n ∷ ns) some = refl
 
-  none_held : AreHeld blocks []
+  pub none_held : AreHeld blocks []
   none_held = record { small = tt; rising = refl; named = refl }
 
   pub held_found : (text held rest : List ℕ) → held_at blocks text ≡ Ok (held, rest) → AreHeld blocks held × (text ≡ held_line held ++ rest)

@@ -30,6 +30,12 @@ abbrev pub Gives : {A : Type 0} → Result A ℕ → Result A Stop → Type 0
 Gives reading (Ok x) = reading ≡ Ok x
 Gives reading (Err stop) = Fails stop reading
 
+-- what a call answered and left where it reads no more than a text that goes on so
+abbrev pub ReadsIf : {A : Type 0} → (goes_on : Bool) → Reading A → (text : List ℕ) → Result (Option A) Stop → (left : List ℕ) → Type 0
+ReadsIf goes_on reading text (Ok (Some x)) left = (goes_on ≡ true) × (reading ≡ Ok (x, left))
+ReadsIf goes_on reading text (Ok None) left = (goes_on ≡ false) × (left ≡ text)
+ReadsIf goes_on reading text (Err stop) left = (goes_on ≡ true) × Fails stop reading
+
 -- the same, for what a call answered seen by view
 abbrev pub ReadsBy : {X A : Type 0} → (X → A) → Reading A → Result X Stop → List ℕ → Type 0
 ReadsBy view reading (Ok x) left = reading ≡ Ok (view x, left)
@@ -60,6 +66,11 @@ allowed text None = Err (length text)
 -- what the fields of a line spell, all of them
 abbrev pub row_of : {A : Type 0} → (name : List ℕ) → Row A → Front → Option (A × List ℕ)
 row_of name row line = if bytes_eq line.0 name then (whole (row line.1.0) >>= λ x. Some (x, line.1.1)) else None
+
+-- what the fields of a line make by a table: a row has a line's name, and what its fields make
+abbrev pub by_name : {A : Type 0} → (table : List (List ℕ × (List (List ℕ) → Option A))) → (name : List ℕ) (fields : List (List ℕ)) → Option A
+by_name [] name fields = None
+by_name (row ∷ rows) name fields = if bytes_eq name row.0 then row.1 fields else by_name rows name fields
 
 -- a line of this name and these fields
 unfoldable pub line_at : {A : Type 0} → (name : List ℕ) → Row A → List ℕ → Reading A
