@@ -15,6 +15,7 @@ use Rattle.dkg_text.specs.declared.script.Event.TheVariants.{Peer, Final}
 use Rattle.dkg_text.specs.declared.script.Life.{Life}
 use Rattle.dkg_text.specs.declared.script.Script.{Script}
 use Rattle.dkg_text.specs.declared.script.ScriptConfig.{ScriptConfig}
+use Rattle.dkg_text.specs.Laws.{IsPlace}
 use Rattle.dkg_script.specs.declared.read.ReadError.{ReadError}
 use Rattle.dkg_script.specs.declared.read.ReadError.TheVariants.{Bad, Unsupported, NoMemory}
 use Rattle.dkg_script.specs.Form.{midpoint_of}
@@ -113,3 +114,8 @@ ReadsBuilt spelled (Ok script) = (spelled ≡ Ok script) × (is_built script ≡
 ReadsBuilt spelled (Err (Bad place)) = spelled ≡ Err place
 ReadsBuilt spelled (Err Unsupported) = (script : Script) × (spelled ≡ Ok script) × (is_built script ≡ false)
 ReadsBuilt spelled (Err NoMemory) = Unit {0}
+
+-- what is told of bytes that are no script: the first line that no script has after the lines before it
+abbrev pub TellsPlace : (addressed : Bool) (bytes : List ℕ) → Result Script ReadError → Type 0
+TellsPlace addressed bytes (Err (Bad place)) = IsPlace addressed bytes place
+TellsPlace addressed bytes _ = Unit {0}

@@ -24,15 +24,16 @@ use Rattle.dkg_text.specs.declared.script.ProbeLine.{ProbeLine}
 use Rattle.dkg_text.specs.declared.script.Script.{Script}
 use Rattle.dkg_text.specs.declared.script.ScriptConfig.{ScriptConfig}
 use Rattle.dkg_text.specs.declared.script.SyncLine.{SyncLine}
-use Rattle.dkg_text.specs.Allowed.{AreHeld, Is32, Is64, IsAddressLine, IsAnchor, IsBlockLine, IsConfig, IsCut, IsEventAfter, IsKeys, IsLife, IsPlayerLine, IsProbeLine, IsScript, IsSyncLine}
+use Rattle.dkg_text.specs.declared.stop.Stop.{Stop}
+use Rattle.dkg_text.specs.declared.stop.Stop.TheVariants.{Line, NoMemory}
+use Rattle.dkg_text.specs.Allowed.{AreHeld, Is32, Is64, IsAddressLine, IsAnchor, IsBlockLine, IsConfig, IsCut, IsEventAfter, IsKeys, IsLife, IsPlayerLine, IsProbeLine, IsSyncLine}
 use Rattle.dkg_text.specs.Fields.{bytes_field, number_field}
-use Rattle.dkg_text.specs.Grammar.{address_at, anchor_at, block_at, blocks_at, config_at, cut_at, end_at, event_after, event_at, events_at, held_at, is_eventful, life_at, limit_from, lives_at, nothing_left, opening_at, players_at, probe_at, reading_of, sync_at, version_one}
+use Rattle.dkg_text.specs.Grammar.{absent_from, address_at, anchor_at, block_at, blocks_at, config_at, cut_at, end_at, event_after, event_at, events_at, held_at, is_eventful, life_at, lives_at, nothing_left, opening_at, players_at, probe_at, processed_from, reading_of, sync_at}
 use Rattle.dkg_text.specs.Laws.{Begins}
-use Rattle.dkg_text.specs.Lines.{Reading, allowed, begins, checked, checked_at, front_of, line_at, many_at, many_from, maybe_at, row_of, some_read, ◌>=>◌}
-use Rattle.dkg_text.specs.Positive.{positive_64}
-use Rattle.dkg_text.specs.Rows.{Row, bytes_of, field, mode_of, number_below, number_of, nothing, set_row, two, version_of, ◌>>=◌}
+use Rattle.dkg_text.specs.Lines.{Fails, Reading, begins, checked, checked_at, front_of, line_at, many_at, many_from, maybe_at, row_of, some_read, ◌>=>◌}
+use Rattle.dkg_text.specs.Rows.{Row, bytes_of, field, four, number_below, number_of, set_row, two, ◌>>=◌}
 use Rattle.dkg_text.specs.Spells.{FitAfter, IsLine}
-use Rattle.dkg_text.specs.Writing.{address_line, anchor_line, block_line, config_text, cut_line, ended, event_line, held_line, life_text, oneshot_line, players_line, probe_line, sync_line, text_of}
+use Rattle.dkg_text.specs.Writing.{address_line, anchor_line, block_line, config_text, cut_line, ended, event_line, held_line, life_text, oneshot_line, players_line, probe_line, sync_line}
 use Rattle.dkg_text.proofs.ConfigLaws.{AreModes, addresses_law, blocks_law as per_epoch_law, limit_law, me_law, modes_law, modes_line, oneshot_law, players_law, probes_law, space_law, version_law}
 use Rattle.dkg_text.proofs.EventLaws.{events_law}
 use Rattle.dkg_text.proofs.LifeLaws.{anchor_found, blocks_law, cut_found, held_found, none_held, number_line_law, sync_found}
@@ -69,11 +70,11 @@ refuses_some {A} read law text left e =
       | inr more ↦ absurd (let never : Ok (Some more.0.0, more.0.1) ≡ Err left = more.2 in cc)
     ]
 
-refuses_if : {A : Type 0} (test : List ℕ → Bool) (yes no : List ℕ → Result A ℕ) → Refuses yes → Refuses no → Refuses (λ text. if test text then yes text else no text)
-refuses_if test yes no is_yes is_no text left e =
+refuses_if : {A : Type 0} (test : List ℕ → Bool) (then_read else_read : List ℕ → Result A ℕ) → Refuses then_read → Refuses else_read → Refuses (λ text. if test text then then_read text else else_read text)
+refuses_if test then_read else_read is_then is_else text left e =
     elim (cases_Bool (test text)) [
-      | inl on ↦ is_yes text left (rw on at e)
-      | inr off ↦ is_no text left (rw off at e)
+      | inl on ↦ is_then text left (rw on at e)
+      | inr off ↦ is_else text left (rw off at e)
     ]
 
 refuses_maybe : {A : Type 0} (name : List ℕ) (read : List ℕ → Reading A) → Refuses read → Refuses (maybe_at name read)
@@ -95,11 +96,17 @@ refuses_block : (addressed : Bool) (config : ScriptConfig) (done : List BlockLin
 unfolding block_at
 refuses_block addressed config done = refuses_checked _ _ _
 
+abbrev processed_read : List BlockLine → List ℕ → Reading (Option Anchor)
+processed_read blocks text = some_read (checked_at (codes "processed") (field (number_below (2 ^ 32))) (processed_from blocks) text)
+
+abbrev absent_read : List BlockLine → List ℕ → Reading (Option Anchor)
+absent_read blocks text = if begins (codes "absent") text then some_read (checked_at (codes "absent") (field (number_below (2 ^ 32))) (absent_from blocks) text) else Ok (None, text)
+
 refuses_anchor : (blocks : List BlockLine) → Refuses (anchor_at blocks)
 unfolding anchor_at
 refuses_anchor blocks =
-    refuses_if _ _ _ (refuses_some _ (refuses_checked _ _ _))
-    (refuses_if _ _ _ (refuses_some _ (refuses_checked _ _ _)) (refuses_never _))
+    refuses_if (begins (codes "processed")) (processed_read blocks) (absent_read blocks) (refuses_some _ (refuses_checked (codes "processed") (field (number_below (2 ^ 32))) (processed_from blocks)))
+    (refuses_maybe (codes "absent") (checked_at (codes "absent") (field (number_below (2 ^ 32))) (absent_from blocks)) (refuses_checked (codes "absent") (field (number_below (2 ^ 32))) (absent_from blocks)))
 
 refuses_held : (blocks : ℕ) → Refuses (held_at blocks)
 unfolding held_at
@@ -109,6 +116,14 @@ refuses_sync : (addressed oneshot : Bool) (blocks : ℕ) → Refuses (sync_at ad
 unfolding sync_at
 refuses_sync addressed true blocks = refuses_if _ _ _ refuses_always (refuses_never _)
 refuses_sync addressed false blocks = refuses_if _ _ _ (refuses_some _ (refuses_checked _ _ _)) (refuses_never _)
+
+-- a line of start material that isn't one is refused in each mode
+pub sync_refused : (addressed oneshot : Bool) (blocks : ℕ) (text : List ℕ) (stop : Stop) → begins (codes "sync") text ≡ true → Fails stop (line_at (codes "sync") (four bytes_of number_of number_of (number_below (2 ^ 32))) text)
+    → Fails stop (sync_at addressed oneshot blocks text)
+unfolding sync_at
+sync_refused addressed oneshot blocks text NoMemory on is = tt
+sync_refused addressed true blocks text (Line left) on is = rw on (ap (λ (n : ℕ). let r : Reading (Option SyncLine) = Err n in r) (refuses_line (codes "sync") (four bytes_of number_of number_of (number_below (2 ^ 32))) text left is))
+sync_refused addressed false blocks text (Line left) on is = rw (on, is) refl
 
 refuses_event : (blocks : ℕ) (probe : Bool) (done : List Event) → Refuses (event_at blocks probe done)
 unfolding event_at
@@ -223,10 +238,10 @@ eight_left o a b c d e f g = sym (append_assoc (o ++ a) b (c ++ (d ++ (e ++ (f +
 zero_fits : Is64 0
 zero_fits = omega arith
 
-one_32 : NonZeroU32
+abbrev one_32 : NonZeroU32
 one_32 = record { value = suc zero; ok = zero-lt-suc zero }
 
-one_64 : NonZeroU64
+abbrev one_64 : NonZeroU64
 one_64 = record { value = suc zero; ok = zero-lt-suc zero }
 
 abbrev me_text : ℕ → List ℕ
@@ -254,8 +269,17 @@ or_none text None = []
 no_bytes : IsBytes []
 no_bytes i = omega arith
 
-first_modes : Mode × ModeVersion
+abbrev first_modes : Mode × ModeVersion
 first_modes = (NonZeroCounter, record { 0 = 0 })
+
+known_version : first_modes.1.0 < 2
+known_version = zero-lt-suc 1
+
+allowed_limit : non_zero_u32_get one_32 ≤ 2 ^ 30
+allowed_limit = (let one : non_zero_u32_get one_32 ≡ 1 = refl in omega (arith, one))
+
+small_epoch : Is64 (non_zero_u64_get one_64)
+small_epoch = (let one : non_zero_u64_get one_64 ≡ 1 = refl in omega (arith, one))
 
 module _ (addressed : Bool) where
   abbrev P : List ℕ → Type 0
@@ -347,13 +371,13 @@ module _ (addressed : Bool) where
   to_modes me blocks limit modes fm fb fl fd = cut _ (space_text []) (to_space me blocks limit modes [] fm fb fl fd no_bytes)
 
   to_limit : (me : ℕ) (blocks : NonZeroU64) (limit : NonZeroU32) → Is32 me → Is64 (non_zero_u64_get blocks) → non_zero_u32_get limit ≤ 2 ^ 30 → P (((dkg_line ++ me_text me) ++ per_epoch_text blocks) ++ limit_text limit)
-  to_limit me blocks limit fm fb fl = cut _ (modes_line first_modes) (to_modes me blocks limit first_modes fm fb fl (tt, omega arith))
+  to_limit me blocks limit fm fb fl = cut _ (modes_line first_modes) (to_modes me blocks limit first_modes fm fb fl (tt, known_version))
 
   to_per_epoch : (me : ℕ) (blocks : NonZeroU64) → Is32 me → Is64 (non_zero_u64_get blocks) → P ((dkg_line ++ me_text me) ++ per_epoch_text blocks)
-  to_per_epoch me blocks fm fb = cut _ (limit_text one_32) (to_limit me blocks one_32 fm fb (omega arith))
+  to_per_epoch me blocks fm fb = cut _ (limit_text one_32) (to_limit me blocks one_32 fm fb allowed_limit)
 
   to_me : (me : ℕ) → Is32 me → P (dkg_line ++ me_text me)
-  to_me me fm = cut _ (per_epoch_text one_64) (to_per_epoch me one_64 fm (omega arith))
+  to_me me fm = cut _ (per_epoch_text one_64) (to_per_epoch me one_64 fm small_epoch)
 
   to_version : P dkg_line
   to_version = cut dkg_line (me_text 0) (to_me 0 (omega arith))

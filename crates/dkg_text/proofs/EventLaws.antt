@@ -1,7 +1,7 @@
 -- The lines of events have one spelling for each event.
-use Rattle.std.proofs.Common.{◌≡◌, ℕ, ◌<◌, ◌≤◌, ◌^◌, ◌&&◌, ◌||◌, Bool, true, false, cond, not, List, [], ◌∷◌, ◌++◌, length, decimal, Option, Some, None, Result, Ok, Err, refl, sym, ap, subst, ◌∙◌, append-nil, length-append, arith}
+use Rattle.std.proofs.Common.{◌≡◌, ℕ, ◌<◌, ◌^◌, ◌&&◌, ◌||◌, Bool, true, false, cond, not, List, [], ◌∷◌, ◌++◌, length, decimal, Option, Some, None, Ok, refl, sym, ap, subst, ◌∙◌, append-nil, length-append, arith}
 use Rattle.std.specs.Prelude.{codes}
-use Rattle.std.specs.List.{AllByRecursion, list_any}
+use Rattle.std.specs.List.{list_any}
 use Rattle.std.specs.Str.{bytes_eq}
 use Rattle.std.proofs.lemmas.Slice.Eq.{bytes_eq-Decides}
 use Rattle.hex.specs.Hex.{IsBytes}
@@ -10,7 +10,7 @@ use Rattle.dkg_text.specs.declared.script.Event.TheVariants.{Peer, Final, Next, 
 use Rattle.dkg_text.specs.Allowed.{Is32, Is64, IsEventAfter, IsEventInRange}
 use Rattle.dkg_text.specs.Fields.{bytes_field, hex_text, number_field}
 use Rattle.dkg_text.specs.Grammar.{event_after, event_at, event_of, event_row, event_table, is_event, is_eventful}
-use Rattle.dkg_text.specs.Lines.{Front, Reading, allowed, begins, front_of}
+use Rattle.dkg_text.specs.Lines.{begins, front_of}
 use Rattle.dkg_text.specs.Rows.{Row, all, bytes_of, field, nothing, number_below, number_of, two, whole, ◌>>=◌}
 use Rattle.dkg_text.specs.Spells.{AreFieldTexts, IsFieldText, IsLastRow, IsLine, spaced}
 use Rattle.dkg_text.specs.Writing.{ended, event_line, event_text, numbers_fields}

@@ -5,14 +5,12 @@ use Rattle.std.specs.Result.{result_ok}
 use Rattle.std.specs.Str.{bytes_eq}
 use Rattle.std.proofs.Math.Seq.{drop-append_seam, take-append_seam}
 use Rattle.std.proofs.lemmas.Bool.{cases_Bool, eq-eqb, eqb-true}
-use Rattle.dkg_text.specs.declared.error.ScriptError.{ScriptError}
-use Rattle.dkg_text.specs.declared.error.ScriptError.TheVariants.{Bad, NoMemory}
 use Rattle.dkg_text.specs.declared.script.BlockLine.{BlockLine}
 use Rattle.dkg_text.specs.declared.script.Event.{Event}
 use Rattle.dkg_text.specs.declared.script.Script.{Script}
 use Rattle.dkg_text.specs.declared.script.ScriptConfig.{ScriptConfig}
-use Rattle.dkg_text.specs.Grammar.{Answers, address_at, anchor_at, block_at, blocks_at, config_at, cut_at, end_at, event_after, event_at, event_of, events_at, held_at, is_event, is_eventful, life_at, lives_at, nothing_left, opening_at, players_at, probe_at, reading_of, script_of, script_or_place, sync_at, with_place}
-use Rattle.dkg_text.specs.Laws.{Begins, IsAllowed, IsPlaceFound, IsPlace, TellsPlace, first_line}
+use Rattle.dkg_text.specs.Grammar.{address_at, anchor_at, block_at, blocks_at, config_at, cut_at, end_at, event_after, event_at, event_of, events_at, held_at, is_event, is_eventful, life_at, lives_at, nothing_left, opening_at, players_at, probe_at, reading_of, script_of, script_or_place, sync_at, with_place}
+use Rattle.dkg_text.specs.Laws.{Begins, IsAllowed, IsPlaceFound, IsPlace, first_line}
 use Rattle.dkg_text.specs.Lines.{Front, Reading, allowed, begins, checked, checked_at, front_of, line_at, maybe_at, row_of, some_read, ◌>=>◌}
 use Rattle.dkg_text.specs.Rows.{Row, cut_of, whole, ◌>>=◌}
 use Rattle.dkg_text.specs.Writing.{text_of}
@@ -294,7 +292,7 @@ front_of_place bytes front rest place left is bytes_is size =
     let long : place ≡ length front = omega (arith, is, size, ap length bytes_is, length-append front rest) in
     ap (take place) bytes_is ∙ ap (λ (n : ℕ). take n (front ++ rest)) long ∙ take-append_seam front rest
 
-place_of : (addressed : Bool) (bytes : List ℕ) (place left : ℕ) → reading_of addressed bytes ≡ Err left → place ≡ length bytes - left → IsPlace addressed bytes place
+pub place_of : (addressed : Bool) (bytes : List ℕ) (place left : ℕ) → reading_of addressed bytes ≡ Err left → place ≡ length bytes - left → IsPlace addressed bytes place
 unfolding script_of
 place_of addressed bytes place left stops is =
     let s = stops_reading addressed bytes left stops in
@@ -320,8 +318,3 @@ unfolding script_or_place
 first_place addressed bytes place e =
     let l = left_at (length bytes) (reading_of addressed bytes) place e in
     place_of addressed bytes place l.0 l.1 l.2
-
-pub tells_place : (addressed : Bool) (bytes : List ℕ) (answer : Result Script ScriptError) → Answers (script_or_place addressed bytes) answer → TellsPlace addressed bytes answer
-tells_place addressed bytes (Ok script) answers = tt
-tells_place addressed bytes (Err (Bad place)) answers = first_place addressed bytes place answers
-tells_place addressed bytes (Err NoMemory) answers = tt

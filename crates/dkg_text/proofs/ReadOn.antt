@@ -1,9 +1,9 @@
 -- Loops that read on: what was read so far, and what the rest of the text spells.
-use Rattle.std.proofs.Common.{◌≡◌, ℕ, zero, suc, ◌+◌, ◌<◌, ◌≤◌, Bool, true, false, List, [], ◌∷◌, ◌++◌, length, Result, Ok, Err, Option, Some, None, refl, sym, ap, subst, ◌∙◌, append_assoc, append-nil, arith}
+use Rattle.std.proofs.Common.{◌≡◌, ℕ, zero, suc, ◌<◌, Bool, true, false, List, [], ◌∷◌, ◌++◌, length, Ok, Err, Option, Some, None, refl, sym, ap, subst, ◌∙◌, append_assoc, append-nil, arith}
 use Rattle.std.specs.Prelude.{IfSome}
 use Rattle.dkg_text.specs.declared.stop.Stop.{Stop}
 use Rattle.dkg_text.specs.declared.stop.Stop.TheVariants.{Line, NoMemory}
-use Rattle.dkg_text.specs.Lines.{Fails, Reading, ReadsIf, many_from, ◌>=>◌}
+use Rattle.dkg_text.specs.Lines.{Fails, Reading, ReadsIf, many_from}
 use Rattle.dkg_text.specs.Rows.{all_of, ◌>>=◌}
 use Rattle.dkg_text.proofs.Guards.{some_is}
 
@@ -63,6 +63,11 @@ module _ {A : Type 0} (goes_on : List ℕ → Bool) (read : List A → List ℕ 
   -- all is left at the beginning
   pub begin : (text : List ℕ) → IsLeft goes_on read [] text (many_from goes_on read (suc (length text)) [] text)
   begin text = record { most = suc (length text); fits = omega arith; spells = refl }
+
+-- nothing was read, so all is left
+pub kept_if : {A : Type 0} (goes_on : Bool) (reading : Reading A) (text left : List ℕ) (o : Option A) → o ≡ None → ReadsIf goes_on reading text (Ok o) left → left ≡ text
+kept_if goes_on reading text left (Some x) is reads = absurd cc
+kept_if goes_on reading text left None is reads = reads.1
 
 -- FIELDS, by the same steps
 

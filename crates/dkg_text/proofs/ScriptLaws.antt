@@ -1,8 +1,8 @@
 -- A whole script and its text.
-use Rattle.std.proofs.Common.{◌≡◌, ℕ, ◌<◌, ◌≤◌, ◌^◌, ◌&&◌, Bool, true, false, cond, not, List, [], ◌∷◌, ◌++◌, length, is_some, Option, Some, None, Result, Ok, Err, refl, sym, ap, subst, ◌∙◌, append_assoc, append-nil, length-append, arith}
-use Rattle.std.specs.Prelude.{codes, IfSome}
+use Rattle.std.proofs.Common.{◌≡◌, ℕ, ◌<◌, ◌≤◌, ◌^◌, Bool, false, List, [], ◌∷◌, ◌++◌, length, is_some, Option, Some, Result, Ok, Err, refl, sym, ap, subst, ◌∙◌, append_assoc, length-append, arith}
+use Rattle.std.specs.Prelude.{codes}
 use Rattle.std.specs.Int.NonZero.{non_zero_u32_get, non_zero_u64_get}
-use Rattle.std.specs.List.{flat_map, list_any}
+use Rattle.std.specs.List.{flat_map}
 use Rattle.std.specs.Result.{result_ok}
 use Rattle.std.specs.Str.{bytes_eq}
 use Rattle.hex.specs.Hex.{IsBytes}
@@ -18,11 +18,11 @@ use Rattle.dkg_text.specs.declared.script.ProbeLine.{ProbeLine}
 use Rattle.dkg_text.specs.declared.script.Script.{Script}
 use Rattle.dkg_text.specs.declared.script.ScriptConfig.{ScriptConfig}
 use Rattle.dkg_text.specs.declared.script.SyncLine.{SyncLine}
-use Rattle.dkg_text.specs.Allowed.{AreHeld, Is32, Is64, IsAddressLine, IsAnchor, IsBlockLine, IsConfig, IsCut, IsEventAfter, IsKeys, IsLife, IsOpening, IsPlayerLine, IsProbeLine, IsScript, IsSyncLine}
+use Rattle.dkg_text.specs.Allowed.{Is32, Is64, IsAddressLine, IsBlockLine, IsConfig, IsEventAfter, IsKeys, IsLife, IsOpening, IsPlayerLine, IsProbeLine, IsScript}
 use Rattle.dkg_text.specs.Fields.{bytes_field, number_field}
 use Rattle.dkg_text.specs.Grammar.{address_at, anchor_at, block_at, blocks_at, config_at, cut_at, end_at, event_at, events_at, held_at, is_eventful, life_at, limit_from, lives_at, nothing_left, opening_at, players_at, probe_at, reading_of, script_of, sync_at, version_one}
 use Rattle.dkg_text.specs.Laws.{IsReadAgain, IsWrittenAgain}
-use Rattle.dkg_text.specs.Lines.{Reading, begins, checked_at, line_at, many_at, maybe_at, ◌>=>◌}
+use Rattle.dkg_text.specs.Lines.{begins, checked_at, line_at, many_at, maybe_at}
 use Rattle.dkg_text.specs.Positive.{positive_64}
 use Rattle.dkg_text.specs.Rows.{bytes_of, field, mode_of, nothing, number_below, number_of, set_row, two, version_of}
 use Rattle.dkg_text.specs.Spells.{FitAfter, IsLine}

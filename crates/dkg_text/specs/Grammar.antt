@@ -1,14 +1,10 @@
 -- Which bytes are a script, which script they spell, and which is the first line that no script has after the lines before it.
-use Rattle.std.specs.Prelude.{◌≡◌, ℕ, zero, suc, ◌+◌, ◌-◌, ◌^◌, ◌==◌, ◌&&◌, nat_lt, not, max, is_some, slice_get, Bool, true, false, if◌then◌else◌, List, [], ◌∷◌, length, map, Option, Some, None, Result, Ok, Err, codes}
+use Rattle.std.specs.Prelude.{◌≡◌, ℕ, ◌+◌, ◌-◌, ◌^◌, ◌==◌, ◌&&◌, nat_lt, not, max, is_some, slice_get, Bool, true, if◌then◌else◌, List, [], ◌∷◌, length, map, Option, Some, None, Result, Ok, Err, codes}
 use Rattle.std.specs.Int.NonZero.{non_zero_u32_get}
 use Rattle.std.specs.Option.{option_map_or}
 use Rattle.std.specs.Result.{result_ok}
-use Rattle.std.specs.Str.{bytes_eq}
 use Rattle.std.specs.declared.num.NonZeroU32.{NonZeroU32}
-use Rattle.std.specs.declared.num.NonZeroU64.{NonZeroU64}
 use Rattle.dkg_values.specs.Rising.{keys_of, rises}
-use Rattle.dkg_ceremony.specs.declared.mode.Mode.{Mode}
-use Rattle.dkg_ceremony.specs.declared.mode.ModeVersion.{ModeVersion}
 use Rattle.dkg_types.specs.declared.addresses.Address.{Address}
 use Rattle.dkg_text.specs.declared.config_lines.Opening.{Opening}
 use Rattle.dkg_text.specs.declared.error.ScriptError.{ScriptError}
@@ -27,7 +23,7 @@ use Rattle.dkg_text.specs.declared.script.ScriptConfig.{ScriptConfig}
 use Rattle.dkg_text.specs.declared.script.SyncLine.{SyncLine}
 use Rattle.dkg_text.specs.Asked.{is_asked}
 use Rattle.dkg_text.specs.Carried.{carried, is_info}
-use Rattle.dkg_text.specs.Lines.{Reading, allowed, begins, by_name, checked, checked_at, front_of, line_at, many_at, maybe_at, some_read, Front, ◌>=>◌}
+use Rattle.dkg_text.specs.Lines.{Reading, allowed, begins, by_name, checked_at, front_of, line_at, many_at, maybe_at, some_read, Front, ◌>=>◌}
 use Rattle.dkg_text.specs.Positive.{positive_32, positive_64}
 use Rattle.dkg_text.specs.Rows.{Row, address_row, all, beside, bytes_of, dash_or, field, four, mode_of, nothing, number_below, number_of, set_row, three, two, version_of, whole, ◌>>=◌}
 

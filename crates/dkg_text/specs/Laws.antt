@@ -1,7 +1,7 @@
 -- The text of a script, the script of a text, and the place at which a text stops being one.
-use Rattle.std.specs.Prelude.{◌≡◌, ◌≤◌, ◌⊎◌, ◌==◌, ℕ, Bool, List, [], ◌∷◌, ◌++◌, length, take, drop, Some, None, Result, Ok, Err, if◌then◌else◌}
+use Rattle.std.specs.Prelude.{◌≡◌, ◌≤◌, ◌⊎◌, ◌==◌, ℕ, Bool, List, [], ◌∷◌, ◌++◌, length, take, drop, Some, None, Result, Err, if◌then◌else◌}
 use Rattle.dkg_text.specs.declared.error.ScriptError.{ScriptError}
-use Rattle.dkg_text.specs.declared.error.ScriptError.TheVariants.{Bad, NoMemory}
+use Rattle.dkg_text.specs.declared.error.ScriptError.TheVariants.{Bad}
 use Rattle.dkg_text.specs.declared.script.Script.{Script}
 use Rattle.dkg_text.specs.Allowed.{IsScript}
 use Rattle.dkg_text.specs.Grammar.{script_of, script_or_place}

@@ -53,7 +53,7 @@ fn read_lines(alloc: Global, addressed: bool, lines: &mut Lines<'_>) -> Result<S
 /// # Errors
 ///
 /// `Bad` names the first line that no script has after the lines before it.
-#[tactic(auto, unfolding(crate::specs::Grammar::script_or_place), using(crate::proofs::Places::tells_place))]
+#[tactic(auto, unfolding(crate::specs::Grammar::script_or_place))]
 pub fn read_script(alloc: Global, bytes: &[u8], addressed: bool) -> Result<Script, ScriptError>
     ensures reads { Answers (script_or_place addressed bytes.now) result }
     // Some script's text begins with the lines before the place that is told, and none's goes on with the line there.

@@ -1,4 +1,4 @@
-use Rattle.std.proofs.Common.{◌≡◌, ◌<◌, ◌^◌, ◌+◌, ℕ, true, Option, Some, [], ◌∷◌, ◌++◌, ap, subst, List, length, Ok, Err, arith}
+use Rattle.std.proofs.Common.{◌≡◌, ◌<◌, ◌^◌, ◌+◌, ℕ, true, Option, [], ◌∷◌, ◌++◌, subst, List, length, Ok, Err, arith}
 use Rattle.std.specs.Prelude.{codes, IfSome, IsTrue}
 use Rattle.std.proofs.lemmas.Result.{err_from_is_err_and}
 use Rattle.dkg_types.specs.declared.addresses.Address.{Address}

@@ -1,11 +1,11 @@
-use Rattle.std.proofs.Common.{◌≡◌, ◌∙◌, ◌<◌, ◌||◌, sym, ap, subst, Bool, List, ℕ, Option, length, Ok, arith}
+use Rattle.std.proofs.Common.{◌∙◌, ◌<◌, ◌||◌, sym, ap, subst, Bool, Option, length, Ok, arith}
 use Rattle.std.specs.Prelude.{IfSome}
 use Rattle.std.proofs.lemmas.Result.{err_from_is_err_and}
 use Rattle.dkg_text.specs.declared.script.Event.{Event}
 use Rattle.dkg_text.specs.Asked.{asks}
 use Rattle.dkg_text.specs.Grammar.{is_eventful, event_at, events_at}
 use Rattle.dkg_text.proofs.Numbered.{asked_more}
-use Rattle.dkg_text.proofs.ReadOn.{ends_if, more_if, refused_if}
+use Rattle.dkg_text.proofs.ReadOn.{ends_if, kept_if, more_if, refused_if}
 use Rattle.dkg_text.proofs.event_lines.read_events.Goals as goal
 
 pub events-preserved : goal.events-preserved
@@ -40,3 +40,13 @@ returns-in_err-event-clause-reads c =
     let inv = c.events.invariant in
     let r = refused_if is_eventful (event_at c.args.around.blocks c.args.around.probe) done c.events.lines.rest.now c.read_event_after.new.lines.rest.now _ c.in_err-event.field-0.0 inv.at (c.in_err-event.ensures.reads done inv.asked) in
     rw (p.1, p.2) r
+
+pub returns-clause-on : goal.returns-clause-on
+returns-clause-on c =
+    let done = c.events.events.items in
+    let inv = c.events.invariant in
+    let text = c.events.lines.rest.now in
+    let rest = c.read_event_after.new.lines.rest.now in
+    let kept = kept_if (is_eventful text) (event_at c.args.around.blocks c.args.around.probe done text) text rest c.in_ok-event.field-0 c.in_default.is (c.in_ok-event.ensures.reads done inv.asked) in
+    let on = inv.on in
+    omega (arith, on, ap length kept)
