@@ -46,18 +46,18 @@ module _ {A : Type 0} (goes_on : List ℕ → Bool) (read : List A → List ℕ 
   refused done text all NoMemory left on fails = tt
 
   -- the same, by what a call answered that reads no more than a text that goes on so
-  pub more_if : (done : List A) (text rest : List ℕ) (o : Option A) (x : A) (all : Reading (List A)) → IsLeft goes_on read done text all → o ≡ Some x → ReadsIf (goes_on text) (read done text) text (Ok o) rest
+  pub more_if : (done : List A) (text rest : List ℕ) (o : Option A) (x : A) (all : Reading (List A)) → IsLeft goes_on read done text all → o ≡ Some x → ReadsIf goes_on (read done) text (Ok o) rest
       → IfSome o (λ _. length rest < length text) → IsLeft goes_on read (done ++ x ∷ []) rest all
   more_if done text rest (Some y) x all left is reads shorter =
       let same : y ≡ x = some_is y x is in
       subst (λ (z : A). IsLeft goes_on read (done ++ z ∷ []) rest all) same (more done text rest y all left reads.0 reads.1 shorter)
   more_if done text rest None x all left is reads shorter = absurd cc
 
-  pub ends_if : (done : List A) (text rest : List ℕ) (o : Option A) (all : Reading (List A)) → IsLeft goes_on read done text all → o ≡ None → ReadsIf (goes_on text) (read done text) text (Ok o) rest → all ≡ Ok (done, rest)
+  pub ends_if : (done : List A) (text rest : List ℕ) (o : Option A) (all : Reading (List A)) → IsLeft goes_on read done text all → o ≡ None → ReadsIf goes_on (read done) text (Ok o) rest → all ≡ Ok (done, rest)
   ends_if done text rest (Some y) all left is reads = absurd cc
   ends_if done text rest None all left is reads = ends done text all left reads.0 ∙ ap (λ (t : List ℕ). let r : Reading (List A) = Ok (done, t) in r) (sym reads.1)
 
-  pub refused_if : (done : List A) (text rest : List ℕ) (all : Reading (List A)) (stop : Stop) → IsLeft goes_on read done text all → ReadsIf (goes_on text) (read done text) text (Err stop) rest → Fails stop all
+  pub refused_if : (done : List A) (text rest : List ℕ) (all : Reading (List A)) (stop : Stop) → IsLeft goes_on read done text all → ReadsIf goes_on (read done) text (Err stop) rest → Fails stop all
   refused_if done text rest all stop left reads = refused done text all stop left reads.0 reads.1
 
   -- all is left at the beginning
@@ -65,9 +65,9 @@ module _ {A : Type 0} (goes_on : List ℕ → Bool) (read : List A → List ℕ 
   begin text = record { most = suc (length text); fits = omega arith; spells = refl }
 
 -- nothing was read, so all is left
-pub kept_if : {A : Type 0} (goes_on : Bool) (reading : Reading A) (text left : List ℕ) (o : Option A) → o ≡ None → ReadsIf goes_on reading text (Ok o) left → left ≡ text
-kept_if goes_on reading text left (Some x) is reads = absurd cc
-kept_if goes_on reading text left None is reads = reads.1
+pub kept_if : {A : Type 0} (goes_on : List ℕ → Bool) (read : List ℕ → Reading A) (text left : List ℕ) (o : Option A) → o ≡ None → ReadsIf goes_on read text (Ok o) left → left ≡ text
+kept_if goes_on read text left (Some x) is reads = absurd cc
+kept_if goes_on read text left None is reads = reads.1
 
 -- FIELDS, by the same steps
 

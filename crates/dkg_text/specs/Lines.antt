@@ -30,11 +30,11 @@ abbrev pub Gives : {A : Type 0} → Result A ℕ → Result A Stop → Type 0
 Gives reading (Ok x) = reading ≡ Ok x
 Gives reading (Err stop) = Fails stop reading
 
--- what a call answered and left where it reads no more than a text that goes on so
-abbrev pub ReadsIf : {A : Type 0} → (goes_on : Bool) → Reading A → (text : List ℕ) → Result (Option A) Stop → (left : List ℕ) → Type 0
-ReadsIf goes_on reading text (Ok (Some x)) left = (goes_on ≡ true) × (reading ≡ Ok (x, left))
-ReadsIf goes_on reading text (Ok None) left = (goes_on ≡ false) × (left ≡ text)
-ReadsIf goes_on reading text (Err stop) left = (goes_on ≡ true) × Fails stop reading
+-- what a call answered and left that reads on where the text goes on so, and else reads nothing
+abbrev pub ReadsIf : {A : Type 0} → (goes_on : List ℕ → Bool) → (read : List ℕ → Reading A) → (text : List ℕ) → Result (Option A) Stop → (left : List ℕ) → Type 0
+ReadsIf goes_on read text (Ok (Some x)) left = (goes_on text ≡ true) × (read text ≡ Ok (x, left))
+ReadsIf goes_on read text (Ok None) left = (goes_on text ≡ false) × (left ≡ text)
+ReadsIf goes_on read text (Err stop) left = (goes_on text ≡ true) × Fails stop (read text)
 
 -- the same, for what a call answered seen by view
 abbrev pub ReadsBy : {X A : Type 0} → (X → A) → Reading A → Result X Stop → List ℕ → Type 0

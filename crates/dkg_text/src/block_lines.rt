@@ -59,7 +59,7 @@ fn read_block_after(
     done: &[BlockLine],
     lines: &mut Lines<'_>,
 ) -> Result<Option<BlockLine>, Stop>
-    ensures reads { ReadsIf (begins (codes "block") lines.old.rest.now) (block_at addressed config.now done.now lines.old.rest.now) lines.old.rest.now result lines.new.rest.now }
+    ensures reads { ReadsIf (begins (codes "block")) (block_at addressed config.now done.now) lines.old.rest.now result lines.new.rest.now }
     ensures on { IfOk result (λ made. IfSome made (λ _. length lines.new.rest.now < length lines.old.rest.now)) }
 {
     let Some((height, parent, view, payload)): Option<(Height, Option<u32>, u64, Option<Blob>)> =

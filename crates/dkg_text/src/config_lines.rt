@@ -102,7 +102,7 @@ fn read_players_after(
     done: &[PlayerLine],
     lines: &mut Lines<'_>,
 ) -> Result<Option<PlayerLine>, Stop>
-    ensures reads { ReadsIf (begins (codes "players") lines.old.rest.now) (players_at done.now lines.old.rest.now) lines.old.rest.now result lines.new.rest.now }
+    ensures reads { ReadsIf (begins (codes "players")) (players_at done.now) lines.old.rest.now result lines.new.rest.now }
     ensures on { IfOk result (λ made. IfSome made (λ _. length lines.new.rest.now < length lines.old.rest.now)) }
 {
     let Some((epoch, players)) = lines.take_if(alloc, b"players")? else {
@@ -143,7 +143,7 @@ fn read_address_after(
     done: &[(Key, Address)],
     lines: &mut Lines<'_>,
 ) -> Result<Option<(Key, Address)>, Stop>
-    ensures reads { ReadsIf (begins (codes "address") lines.old.rest.now) (address_at done.now lines.old.rest.now) lines.old.rest.now result lines.new.rest.now }
+    ensures reads { ReadsIf (begins (codes "address")) (address_at done.now) lines.old.rest.now result lines.new.rest.now }
     ensures on { IfOk result (λ made. IfSome made (λ _. length lines.new.rest.now < length lines.old.rest.now)) }
     ensures above { IfOk result (λ made. IfSome made (λ line. IsTrue (is_above (keys_of done.now) line.0))) }
     ensures few { IfOk result (λ made. IfSome made (λ _. length done.now + 1 < 2 ^ 32)) }

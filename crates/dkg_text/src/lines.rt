@@ -101,7 +101,7 @@ impl<'a> Lines<'a> {
         alloc: Global,
         name: &[u8],
     ) -> Result<Option<T>, Stop>
-        ensures reads { ReadsIf (begins name.now self.old.rest.now) (line_at name.now T.spells self.old.rest.now) self.old.rest.now result self.new.rest.now }
+        ensures reads { ReadsIf (begins name.now) (line_at name.now T.spells) self.old.rest.now result self.new.rest.now }
         ensures taken { IfOk result (λ made. IfSome made (λ _. self.new.taken.now ≡ self.old.rest.now)) }
         ensures on { IfOk result (λ made. IfSome made (λ _. length self.new.rest.now < length self.old.rest.now)) }
     {

@@ -12,7 +12,7 @@ more-preserved c =
     let read = block_at c.args.addressed c.args.config.now in
     let text = c.more.lines.rest.now in
     let rest = c.read_block_after.new.lines.rest.now in
-    let reads = subst (λ (d : List BlockLine). ReadsIf (begins (codes "block") text) (read d text) text (Ok c.in_ok-block.field-0) rest) c.deref.ensures.value c.in_ok-block.ensures.reads in
+    let reads = subst (λ (d : List BlockLine). ReadsIf (begins (codes "block")) (read d) text (Ok c.in_ok-block.field-0) rest) c.deref.ensures.value c.in_ok-block.ensures.reads in
     record { at = rw c.in_ok-push.ensures.items (more_if (begins (codes "block")) read c.more.blocks.items text rest c.in_ok-block.field-0 c.in-Some.block _ c.more.invariant.at c.in-Some.is reads c.in_ok-block.ensures.on) }
 
 pub returns : goal.returns
@@ -21,7 +21,7 @@ returns c =
     let read = block_at c.args.addressed c.args.config.now in
     let text = c.more.lines.rest.now in
     let rest = c.read_block_after.new.lines.rest.now in
-    let reads = subst (λ (d : List BlockLine). ReadsIf (begins (codes "block") text) (read d text) text (Ok c.in_ok-block.field-0) rest) c.deref.ensures.value c.in_ok-block.ensures.reads in
+    let reads = subst (λ (d : List BlockLine). ReadsIf (begins (codes "block")) (read d) text (Ok c.in_ok-block.field-0) rest) c.deref.ensures.value c.in_ok-block.ensures.reads in
     ends_if (begins (codes "block")) read c.more.blocks.items text rest c.in_ok-block.field-0 _ c.more.invariant.at c.in_default.is reads ∙ ap (λ xs. Ok (xs, rest)) (sym c.new.ensures)
 
 pub returns-in_err-block : goal.returns-in_err-block
@@ -31,6 +31,6 @@ returns-in_err-block c =
     let read = block_at c.args.addressed c.args.config.now in
     let text = c.more.lines.rest.now in
     let rest = c.read_block_after.new.lines.rest.now in
-    let reads = subst (λ (d : List BlockLine). ReadsIf (begins (codes "block") text) (read d text) text (Err c.in_err-block.field-0.0) rest) c.deref.ensures.value c.in_err-block.ensures.reads in
+    let reads = subst (λ (d : List BlockLine). ReadsIf (begins (codes "block")) (read d) text (Err c.in_err-block.field-0.0) rest) c.deref.ensures.value c.in_err-block.ensures.reads in
     let r = refused_if (begins (codes "block")) read c.more.blocks.items text rest _ c.in_err-block.field-0.0 c.more.invariant.at reads in
     rw (p.1, p.2) r

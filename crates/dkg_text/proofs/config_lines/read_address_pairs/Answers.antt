@@ -16,7 +16,7 @@ pairs-preserved c =
     let rest = c.read_address_after.new.lines.rest.now in
     let done = c.pairs.pairs.items in
     let pair = c.in-Some.pair in
-    let reads = subst (λ (d : List (ℕ × Address)). ReadsIf (begins (codes "address") text) (address_at d text) text (Ok c.in_ok-pair.field-0) rest) c.deref.ensures.value c.in_ok-pair.ensures.reads in
+    let reads = subst (λ (d : List (ℕ × Address)). ReadsIf (begins (codes "address")) (address_at d) text (Ok c.in_ok-pair.field-0) rest) c.deref.ensures.value c.in_ok-pair.ensures.reads in
     let at = more_if (begins (codes "address")) address_at done text rest c.in_ok-pair.field-0 pair _ c.pairs.invariant.at c.in-Some.is reads c.in_ok-pair.ensures.on in
     let is_over = subst (λ (o : Option (ℕ × Address)). IfSome o (λ line. IsTrue (is_above (keys_of c.deref.result.now) line.0))) c.in-Some.is c.in_ok-pair.ensures.above in
     let has_room = subst (λ (o : Option (ℕ × Address)). IfSome o (λ _. length c.deref.result.now + 1 < 2 ^ 32)) c.in-Some.is c.in_ok-pair.ensures.few in
@@ -30,7 +30,7 @@ pub returns-clause-reads : goal.returns-clause-reads
 returns-clause-reads c =
     let text = c.pairs.lines.rest.now in
     let rest = c.read_address_after.new.lines.rest.now in
-    let reads = subst (λ (d : List (ℕ × Address)). ReadsIf (begins (codes "address") text) (address_at d text) text (Ok c.in_ok-pair.field-0) rest) c.deref.ensures.value c.in_ok-pair.ensures.reads in
+    let reads = subst (λ (d : List (ℕ × Address)). ReadsIf (begins (codes "address")) (address_at d) text (Ok c.in_ok-pair.field-0) rest) c.deref.ensures.value c.in_ok-pair.ensures.reads in
     ends_if (begins (codes "address")) address_at c.pairs.pairs.items text rest c.in_ok-pair.field-0 _ c.pairs.invariant.at c.in_default.is reads
 
 pub returns-in_err-pair-clause-reads : goal.returns-in_err-pair-clause-reads
@@ -38,6 +38,6 @@ returns-in_err-pair-clause-reads c =
     let p = err_from_is_err_and c.from_residual.result c.from_residual.ensures.1 in
     let text = c.pairs.lines.rest.now in
     let rest = c.read_address_after.new.lines.rest.now in
-    let reads = subst (λ (d : List (ℕ × Address)). ReadsIf (begins (codes "address") text) (address_at d text) text (Err c.in_err-pair.field-0.0) rest) c.deref.ensures.value c.in_err-pair.ensures.reads in
+    let reads = subst (λ (d : List (ℕ × Address)). ReadsIf (begins (codes "address")) (address_at d) text (Err c.in_err-pair.field-0.0) rest) c.deref.ensures.value c.in_err-pair.ensures.reads in
     let r = refused_if (begins (codes "address")) address_at c.pairs.pairs.items text rest _ c.in_err-pair.field-0.0 c.pairs.invariant.at reads in
     rw (p.1, p.2) r

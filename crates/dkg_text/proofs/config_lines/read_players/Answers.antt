@@ -11,14 +11,14 @@ pub players-preserved : goal.players-preserved
 players-preserved c =
     let text = c.players.lines.rest.now in
     let rest = c.read_players_after.new.lines.rest.now in
-    let reads = subst (λ (d : List PlayerLine). ReadsIf (begins (codes "players") text) (players_at d text) text (Ok c.in_ok-line.field-0) rest) c.deref.ensures.value c.in_ok-line.ensures.reads in
+    let reads = subst (λ (d : List PlayerLine). ReadsIf (begins (codes "players")) (players_at d) text (Ok c.in_ok-line.field-0) rest) c.deref.ensures.value c.in_ok-line.ensures.reads in
     record { at = rw c.in_ok-push.ensures.items (more_if (begins (codes "players")) players_at c.players.players.items text rest c.in_ok-line.field-0 c.in-Some.line _ c.players.invariant.at c.in-Some.is reads c.in_ok-line.ensures.on) }
 
 pub returns : goal.returns
 returns c =
     let text = c.players.lines.rest.now in
     let rest = c.read_players_after.new.lines.rest.now in
-    let reads = subst (λ (d : List PlayerLine). ReadsIf (begins (codes "players") text) (players_at d text) text (Ok c.in_ok-line.field-0) rest) c.deref.ensures.value c.in_ok-line.ensures.reads in
+    let reads = subst (λ (d : List PlayerLine). ReadsIf (begins (codes "players")) (players_at d) text (Ok c.in_ok-line.field-0) rest) c.deref.ensures.value c.in_ok-line.ensures.reads in
     ends_if (begins (codes "players")) players_at c.players.players.items text rest c.in_ok-line.field-0 _ c.players.invariant.at c.in_default.is reads ∙ ap (λ xs. Ok (xs, rest)) (sym c.new.ensures)
 
 pub returns-in_err-line : goal.returns-in_err-line
@@ -26,6 +26,6 @@ returns-in_err-line c =
     let p = err_from_is_err_and c.from_residual.result c.from_residual.ensures.1 in
     let text = c.players.lines.rest.now in
     let rest = c.read_players_after.new.lines.rest.now in
-    let reads = subst (λ (d : List PlayerLine). ReadsIf (begins (codes "players") text) (players_at d text) text (Err c.in_err-line.field-0.0) rest) c.deref.ensures.value c.in_err-line.ensures.reads in
+    let reads = subst (λ (d : List PlayerLine). ReadsIf (begins (codes "players")) (players_at d) text (Err c.in_err-line.field-0.0) rest) c.deref.ensures.value c.in_err-line.ensures.reads in
     let r = refused_if (begins (codes "players")) players_at c.players.players.items text rest _ c.in_err-line.field-0.0 c.players.invariant.at reads in
     rw (p.1, p.2) r

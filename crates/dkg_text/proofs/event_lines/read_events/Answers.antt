@@ -47,6 +47,6 @@ returns-clause-on c =
     let inv = c.events.invariant in
     let text = c.events.lines.rest.now in
     let rest = c.read_event_after.new.lines.rest.now in
-    let kept = kept_if (is_eventful text) (event_at c.args.around.blocks c.args.around.probe done text) text rest c.in_ok-event.field-0 c.in_default.is (c.in_ok-event.ensures.reads done inv.asked) in
+    let kept = kept_if is_eventful (event_at c.args.around.blocks c.args.around.probe done) text rest c.in_ok-event.field-0 c.in_default.is (c.in_ok-event.ensures.reads done inv.asked) in
     let on = inv.on in
     omega (arith, on, ap length kept)
