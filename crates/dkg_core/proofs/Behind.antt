@@ -1,5 +1,5 @@
 -- The orchestrator's half touches no device, and what it says is no dealing's.
-use Rattle.std.proofs.Common.{◌≡◌, ◌⊎◌, inl, inr, ℕ, List, [], ◌∷◌, ◌++◌, Bool, true, false, Option, Some, None, refl, sym, ◌∙◌, ap, subst, append_assoc, append-nil}
+use Rattle.std.proofs.Common.{◌≡◌, inl, inr, ℕ, List, [], ◌∷◌, ◌++◌, Bool, true, false, Option, Some, None, refl, sym, ◌∙◌, ap, subst, append_assoc, append-nil}
 use Rattle.std.specs.Prelude.{nat_lt, ◌==◌, ◌+◌, if◌then◌else◌, option_and_then, is_some}
 use Rattle.std.specs.List.{AllByRecursion}
 use Rattle.std.specs.Option.{option_map_or}
@@ -18,18 +18,18 @@ use Rattle.dkg_types.specs.declared.fault.Fault.{Fault}
 use Rattle.dkg_types.specs.declared.fault.Fault.TheVariants.{HeightRange, MissingEpochInfo, SkippedHeight, WrongEpoch}
 use Rattle.dkg_types.specs.declared.info.EpochInfo.{EpochInfo}
 use Rattle.dkg_types.specs.declared.scheme.SchemeInfo.{SchemeInfo}
-use Rattle.dkg_store.specs.Acts.{Held, World, Cause, says, Ended, went, stopped, broken, Completes, Faults, Breaks}
+use Rattle.dkg_store.specs.Acts.{World, Cause, says, Ended, went, stopped, broken, Completes, Faults, Breaks}
 use Rattle.dkg_core.specs.Courses.{Course, Say, Do, Call, Ask, Goes, Stops, bind, under, on_devices, EndsSo, Genesis, Certified}
 use Rattle.dkg_core.specs.Said.{Said, SaysAll, SaysUpTo, SaysFirst}
 use Rattle.dkg_core.specs.Fixed.{Fixed, Material}
-use Rattle.dkg_core.specs.Live.{Live, Orchestrator, Waiting, NodeStop, Faulted, Message, Sent, Finalized, with_orchestrator}
+use Rattle.dkg_core.specs.Live.{Live, Orchestrator, Waiting, NodeStop, Faulted, Sent, Finalized, with_orchestrator}
 use Rattle.dkg_core.specs.Setup.{is_past_range}
 use Rattle.dkg_core.specs.Plans.{material_at}
 use Rattle.dkg_core.specs.Core.{opening, step}
 use Rattle.dkg_core.specs.Entering as half
 use Rattle.dkg_core.specs.Entering.{Half, HalfAnswer}
-use Rattle.dkg_core.specs.Node.{unless_once, kept_material, node_opening, node_step}
-use Rattle.dkg_core.specs.Behind.{EndsBehind, IsAside, IsSameBeside, OnlySays, OpeningsRunBehind, OpeningsSayBehind, RunsBehind, SaidBehind, StepsRunBehind, StepsSayBehind, event_of}
+use Rattle.dkg_core.specs.Node.{unless_once, kept_material}
+use Rattle.dkg_core.specs.Behind.{EndsBehind, IfEarly, IsAside, IsSameBeside, OnlySays, OpeningsRunBehind, OpeningsSayBehind, RunsBehind, SaidBehind, StepsRunBehind, StepsSayBehind}
 use Rattle.dkg_core.specs.Splitting.{IsEarly, named}
 use Rattle.dkg_core.proofs.Splitting.{runs_split, runs_under, said_split, said_under}
 
@@ -147,15 +147,15 @@ module _ {Dir : Type 0} (c : Fixed Dir) where
       only_as mid same (Stops fault) only = tt
 
   -- behind an opening, a message and a block
-  opened_aside : (st : Live Dir) → OnlySays IsAside (IsSameBeside st) (unless_once c (kept_material c st) (Goes st))
+  pub opened_aside : (st : Live Dir) → OnlySays IsAside (IsSameBeside st) (unless_once c (kept_material c st) (Goes st))
   opened_aside st = only_if IsAside (IsSameBeside st) (is_some c.oneshot) (Goes st) (kept_material c st) refl
       (λ h. only_behind IsAside (IsHalfOf st) (IsSameBeside st) (half.opens_half c (option_and_then (λ bytes. result_ok (whole (material_at c bytes))) (c.seen h).plan) st) (λ left. Goes left.live)
       (opens_aside st (option_and_then (λ bytes. result_ok (whole (material_at c bytes))) (c.seen h).plan)) (λ left same. same))
 
-  heard_aside : (st : Live Dir) → OnlySays IsAside (IsSameBeside st) (unless_once c (half.asks_again c st) (Goes st))
+  pub heard_aside : (st : Live Dir) → OnlySays IsAside (IsSameBeside st) (unless_once c (half.asks_again c st) (Goes st))
   heard_aside st = only_if IsAside (IsSameBeside st) (is_some c.oneshot) (Goes st) (half.asks_again c st) refl (asks_aside st)
 
-  block_aside : (b : Block Dir) (st : Live Dir)
+  pub block_aside : (b : Block Dir) (st : Live Dir)
       → OnlySays IsAside (IsSameBeside st) (unless_once c (bind (half.delivered c b st) (λ left. half.acked_at b.height left.answer left.live)) (Say (Acked b.height) (Goes st)))
   block_aside b st =
       only_if IsAside (IsSameBeside st) (is_some c.oneshot) (Say (Acked b.height) (Goes st)) (bind (half.delivered c b st) (λ left. half.acked_at b.height left.answer left.live)) (tt, refl)
@@ -305,6 +305,11 @@ module _ {Dir : Type 0} (course : Course Dir Fault (Live Dir)) (next : Live Dir 
   early_behind (broken cause) (broken other) (stopped stop) is so = absurd so
   early_behind (broken cause) (broken other) (broken its) is so = sym (ap broken so) ∙ is
 
+  early_silent : (its : Ended Fault (Live Dir)) → IfEarly {S = Live Dir} its (◌≡◌ {A = List Line} [] [])
+  early_silent (went st) = tt
+  early_silent (stopped fault) = refl
+  early_silent (broken cause) = refl
+
   runs_behind : (ended : Ended NodeStop (Live Dir)) (w new : World) → EndsSo (bind (under Faulted course) next) ended w new → RunsBehind course ended w new
   runs_behind ended w new run = elim (runs_split (under Faulted course) next ended w new run) [
     | inl both ↦ (let its = runs_under Faulted course (went both.0) w both.1 both.2 in
@@ -319,6 +324,7 @@ module _ {Dir : Type 0} (course : Course Dir Fault (Live Dir)) (next : Live Dir 
           lines = left.lines;
           out = left.out;
           aside = left.says;
+          silent = tt;
         })
     | inr first ↦ (let its = runs_under Faulted course first.0 w new first.2 in record {
       half = its.0;
@@ -330,6 +336,7 @@ module _ {Dir : Type 0} (course : Course Dir Fault (Live Dir)) (next : Live Dir 
       lines = [];
       out = sym (append-nil new.out);
       aside = tt;
+      silent = early_silent its.0;
     })
   ]
     where
@@ -350,6 +357,7 @@ module _ {Dir : Type 0} (course : Course Dir Fault (Live Dir)) (next : Live Dir 
           lines = left.lines;
           out = left.out;
           aside = left.says;
+          silent = tt;
         })
     | inr first ↦ (let its = said_under Faulted course first.0 old new first.2 in record {
       half = its.0;
@@ -359,6 +367,7 @@ module _ {Dir : Type 0} (course : Course Dir Fault (Live Dir)) (next : Live Dir 
       lines = [];
       out = sym (append-nil new);
       aside = tt;
+      silent = early_silent its.0;
     })
   ]
     where

@@ -37,7 +37,13 @@ EndsBehind (went st) ended = Unit {0}
 EndsBehind (stopped fault) ended = ended ≡ stopped (Faulted fault)
 EndsBehind (broken cause) ended = ended ≡ broken cause
 
--- A run of the reshare half's course, and lines behind it.
+-- P, unless it went to its end
+abbrev pub IfEarly : {F S : Type 0} → Ended F S → Type 0 → Type 0
+IfEarly (went end) P = Unit {0}
+IfEarly (stopped fault) P = P
+IfEarly (broken cause) P = P
+
+-- A run of the reshare half's course, and lines behind it: none, unless it went to its end.
 pub record RunsBehind {Dir : Type 0} (course : Course Dir Fault (Live Dir)) (ended : Ended NodeStop (Live Dir)) (w new : World) : Type 0 where
   pub half : Ended Fault (Live Dir)
   pub mid : World
@@ -48,6 +54,7 @@ pub record RunsBehind {Dir : Type 0} (course : Course Dir Fault (Live Dir)) (end
   pub lines : List Line
   pub out : new.out ≡ mid.out ++ lines
   pub aside : AllByRecursion IsAside lines
+  pub silent : IfEarly half (lines ≡ [])
 
 -- .. and its lines, whatever the devices tell
 pub record SaidBehind {Dir : Type 0} (course : Course Dir Fault (Live Dir)) (ended : Ended NodeStop (Live Dir)) (old new : List Line) : Type 0 where
@@ -58,6 +65,7 @@ pub record SaidBehind {Dir : Type 0} (course : Course Dir Fault (Live Dir)) (end
   pub lines : List Line
   pub out : new ≡ mid ++ lines
   pub aside : AllByRecursion IsAside lines
+  pub silent : IfEarly half (lines ≡ [])
 
 -- what the reshare half takes, as an event of the node
 abbrev pub event_of : {Dir : Type 0} → Message Dir → Event Dir

@@ -21,6 +21,8 @@ pub mod Lives
 pub mod Logs
 pub mod Meant
 pub mod Node
+pub mod NodeKept
+pub mod NodeToday
 pub mod OneShots
 pub mod Plans
 pub mod Probes

@@ -32,7 +32,7 @@ use Rattle.dkg_core.specs.Logs.{logs_of}
 use Rattle.dkg_core.specs.Setup.{is_lost, is_past_range, participants_of, refused_in, scheme_for}
 use Rattle.dkg_core.specs.Blocks.{is_in_window}
 use Rattle.dkg_core.specs.Core.{opening, step, begun, no_orchestrator}
-use Rattle.dkg_core.specs.Entering.{Half, HalfAnswer, Acknowledges, Withholds, active, opens_half, delivered}
+use Rattle.dkg_core.specs.Entering.{HalfAnswer, Acknowledges, Withholds, active, opens_half, delivered}
 use Rattle.dkg_core.specs.Laws.{start_of}
 
 -- WHERE A COURSE COMES TO: each fault that it may stop by, and each end that it may go to, whatever is read
