@@ -6,6 +6,8 @@ pub mod Faulted
 pub mod Faults
 pub mod Finding
 pub mod Fresh
+pub mod Giving
+pub mod GivingPlans
 pub mod Going
 pub mod InPlace
 pub mod Laws
