@@ -8,6 +8,7 @@ pub mod Finding
 pub mod Fresh
 pub mod Going
 pub mod InPlace
+pub mod Lasting
 pub mod Laws
 pub mod Living
 pub mod Naming
