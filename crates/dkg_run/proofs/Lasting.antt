@@ -56,7 +56,7 @@ module _ (its : Option cut.Cut) (step : ℕ) (line : Line) (course : Course dire
       the_stop e = cc
 
       burns : 0 < f.call
-      burns = (subst (λ (s : Stop). by_lines.goes course (by_node_stop s) f t new) (sym (the_stop how)) goes).2.1 refl
+      burns = (subst (λ (s : Stop). by_lines.goes course (by_node_stop s) f t new) (sym (the_stop how)) goes).2 refl
 
       by_cut : (o : Option cut.Cut) → fuse_for o step ≡ Some f → IsSome o
       by_cut None same = absurd (none_burns f (the_fuse same) burns)
