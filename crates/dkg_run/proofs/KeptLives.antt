@@ -1,7 +1,7 @@
 -- A run of lives keeps the dealings: each life begins with what the one before left, wherever that ended.
 use Rattle.std.proofs.Common.{◌≡◌, ◌⊎◌, inl, inr, ℕ, zero, suc, ◌+◌, ◌-◌, ◌<◌, ◌≤◌, List, [], ◌∷◌, ◌++◌, Option, Some, None, Bool, true, false, cond, refl, sym, ◌∙◌, ap, subst, length, arith, append_assoc, append-nil, length-append}
 use Rattle.std.specs.Prelude.{fold, option_map, slice_get, Result, Ok, Err, IsSomeAnd, ◌==◌, ◌^◌}
-use Rattle.std.specs.List.{AllByRecursion}
+use Rattle.std.specs.List.{AllByRecursion, list_any}
 use Rattle.std.specs.Option.{option_map_or}
 use Rattle.std.proofs.lemmas.Bool.{eq-eqb, eqb-true}
 use Rattle.std.proofs.lemmas.List.Sums.{fold-append}
@@ -28,6 +28,7 @@ use Rattle.dkg_store.specs.Noted.{logs_in}
 use Rattle.dkg_store.specs.Pairs.{IsWhole}
 use Rattle.dkg_store.specs.Recorded.{restored_list}
 use Rattle.dkg_script.specs.Blocks.{round_at}
+use Rattle.dkg_script.specs.Due.{is_ack}
 use Rattle.dkg_script.specs.Kept.{Gives, IsSound}
 use Rattle.dkg_script.specs.Position.{event_of_step}
 use Rattle.dkg_script.specs.Progress.{Progress, read, is_last_step, with_life_ended}
@@ -44,7 +45,7 @@ use Rattle.dkg_core.specs.Node.{node_opening, node_step}
 use Rattle.dkg_core.specs.NodeKept.{BeginsRestored, DeliveriesAreIdle, IsAckedLine, NodeOpeningsAgree, NodeOpeningsKeep, NodeOpeningsRestore}
 use Rattle.dkg_core.specs.NodeToday.{IsFaultBy, IsNodeOpened, LacksNobody, NodeOpeningsComeTo, NodeStepsComeTo}
 use Rattle.dkg_core.specs.Seen.{Seen}
-use Rattle.dkg_core.specs.Today.{CameTo, IsFormOfToday, IsLiveToday, IsNextToday, IsTakenToday, refusal_of}
+use Rattle.dkg_core.specs.Today.{CameTo, IsFormOfToday, IsLiveToday, IsNextToday, IsOpeningFault, IsTakenToday, refusal_of}
 use Rattle.dkg_core.specs.Transcripts.{IfWentTo}
 use Rattle.dkg_core.proofs.Counted.{cuts_fall}
 use Rattle.dkg_core.proofs.Said.{runs_say}
@@ -55,7 +56,7 @@ use Rattle.dkg_run.specs.Ended.{by_node_stop}
 use Rattle.dkg_run.specs.Given.{Lived, at_step, blocks_in, event_in, lived, step_of}
 use Rattle.dkg_run.specs.Lives.{EndsLife, LivesFrom, LivesSo, RunsAllSo, RunsSo, Steps, TakesAll, TellsEnd, Wants, fuse_for, fuse_within, never}
 use Rattle.dkg_run.specs.Ways.{StaysHeld, by_worlds}
-use Rattle.dkg_run.proofs.Resting.{HandsOn, IsTodays, MayBeRecorded, RestsAt, may_of, may_still}
+use Rattle.dkg_run.proofs.Resting.{HandsOn, IsKeptEntry, IsTodays, MayBeRecorded, RestsAt, may_of, may_still}
 use Rattle.dkg_run.proofs.PeerForms.{IsUndue}
 use Rattle.dkg_script.proofs.EachEntry.{EachAfter}
 use Rattle.dkg_run.proofs.KeptMessages.{Carries, Knows}
@@ -118,7 +119,7 @@ pub record Goes (s : Setting) (p : Progress) (old new : List Entry) (Q : Progres
 sound_of : (s : Setting) (p : Progress) (old new : List Entry) (Q : Progress → Type 0) → Reaches s p old new Q → Goes s p old new Q
 sound_of s p old new Q a = record { added = a.added; out = a.out; each = each a.added p a.each; to = a.to }
   where
-    each : (entries : List Entry) (p : Progress) → EachAfter s _ p entries → EachAfter s (IsSound s) p entries
+    each : (entries : List Entry) (p : Progress) → EachAfter s (IsKeptEntry s) p entries → EachAfter s (IsSound s) p entries
     each [] p all = tt
     each (one ∷ entries) p all = (all.0.0, each entries (read s p one) all.1)
 
@@ -327,7 +328,7 @@ module _ (laws : NodeLaws) (g : Lived) (s : Setting) (meant : IsMeant g s) where
   leaves_of : (j : ℕ) (st : Live U) (Unanswered : Type 0) (ended : Ended NodeStop (Live U)) (h : Held) (p q : Progress) → IsLeftBy (at_step g j) l st Unanswered ended h s p q → StepLeaves g j ended h s p q
   leaves_of j st Unanswered ended h p q left = record { cuts = left.same.cuts; step = left.same.step; saved = left.saved; went = by_end ended left.went }
     where
-      by_end : (its : Ended NodeStop (Live U)) → IfWentTo its (λ end. CarriesAt (at_step g j) l end h s q × _) → IfWentTo its (λ end. CarriesAt (at_step g j) l end h s q)
+      by_end : (its : Ended NodeStop (Live U)) → IfWentTo its (λ end. CarriesAt (at_step g j) l end h s q × (Unanswered ⊎ (list_any is_ack q.written ≡ true))) → IfWentTo its (λ end. CarriesAt (at_step g j) l end h s q)
       by_end (went end) is = is.0
       by_end (stopped stop) is = tt
       by_end (broken cause) is = tt
@@ -400,7 +401,8 @@ module _ (laws : NodeLaws) (g : Lived) (s : Setting) (meant : IsMeant g s) where
       → CarriesAt (at_step g n) l st w.held s p → TakesAll by_worlds g j events st w how new → Goes s p w.out new.out (Ends how new.held)
   takes_kept [] n j st w how new p rest stands carries takes =
       goes_none s p w.out new.out (Ends how new.held) (ap (λ (x : World). x.out) takes.1) (rw (takes.0, takes.1) (stands, rests_carried n st w.held p carries))
-  takes_kept (event ∷ events) n j st w how new p rest stands carries takes = by_fuse (fuse_for life.cut j) refl takes
+  takes_kept (event ∷ events) n j st w how new p rest stands carries takes =
+      by_fuse (λ end mid r stands carries more. takes_kept events j (j + 1) end mid how new r rest.2 stands carries more) (fuse_for life.cut j) refl takes
     where
       here : CarriesAt (at_step g j) l st w.held s p
       here = over n j st w.held p carries
@@ -412,23 +414,21 @@ module _ (laws : NodeLaws) (g : Lived) (s : Setting) (meant : IsMeant g s) where
       not_begun fuse is same = goes_none s p w.out new.out (Ends how new.held) (ap (λ (x : World). x.out) same)
           (rw (is, same) (stops_saved AnyCall l life j Cut w.held s p stands.lives stands.step (λ e its there. (cut_before life.cut j fuse its there, tt)) (saved_carried AnyCall (at_step g j) l st w.held s p here)))
 
-      by_fuse : (o : Option Burn) → fuse_for life.cut j ≡ o → Steps by_worlds (entry.Step j) o (step_of g j event st) w how new Next → Goes s p w.out new.out (Ends how new.held)
-      by_fuse None fuse steps = not_begun fuse steps.0 steps.1
-      by_fuse (Some f) fuse (inl wants) = goes_none s p w.out new.out (Ends how new.held) (ap (λ (x : World). x.out) wants.1)
+      Again : Type 0
+      Again = (end : Live U) (mid : World) (r : Progress) → Stands l life (j + 1) events s r → CarriesAt (at_step g j) l end mid.held s r → TakesAll by_worlds g (j + 1) events end mid how new
+          → Goes s r mid.out new.out (Ends how new.held)
+
+      by_fuse : Again → (o : Option Burn) → fuse_for life.cut j ≡ o → Steps by_worlds (entry.Step j) o (step_of g j event st) w how new Next → Goes s p w.out new.out (Ends how new.held)
+      by_fuse again None fuse steps = not_begun fuse steps.0 steps.1
+      by_fuse again (Some f) fuse (inl wants) = goes_none s p w.out new.out (Ends how new.held) (ap (λ (x : World). x.out) wants.1)
           (rw (wants.0, wants.1) (stops_saved AnyCall l life j (FaultOf NoMemory) w.held s p stands.lives stands.step (λ e its there. memory_no_cut _ e) (saved_carried AnyCall (at_step g j) l st w.held s p here)))
-      by_fuse (Some f) fuse (inr (inl stops)) =
+      by_fuse again (Some f) fuse (inr (inl stops)) =
           goes_as s p w.out new.out (StepLeaves g j (by_node_stop stops.0) new.held s p) (Ends how new.held)
           (λ q left. rw stops.1 (stops_saved WithinCall l life j stops.0 new.held s q (ap length left.cuts ∙ stands.lives) (left.step ∙ stands.step)
           (λ e its there. cut_within life.cut j f fuse (burns (step_of g j event st) f w new stops.0 stops.2.0 e) its there) left.saved))
           (step_goes j event st (by_node_stop stops.0) (record w { fuse = f }) new p stands rest.0 here stops.2.0)
-      by_fuse (Some f) fuse (inr (inr done)) = by_next done.3
+      by_fuse again (Some f) fuse (inr (inr done)) = by_next done.3
         where
-          end : Live U
-          end = done.0
-
-          mid : World
-          mid = done.1
-
           first : Goes s p w.out done.1.out (StepLeaves g j (went done.0) done.1.held s p)
           first = step_goes j event st (went done.0) (record w { fuse = f }) done.1 p stands rest.0 here done.2.0
 
@@ -442,11 +442,8 @@ module _ (laws : NodeLaws) (g : Lived) (s : Setting) (meant : IsMeant g s) where
               let step : q.step ≡ j = left.step ∙ stands.step in
               goes_then s q done.1.out (done.1.out ++ entry.Step j ∷ []) new.out (λ r. r ≡ read s q (entry.Step j)) (Ends how new.held)
               (goes_one s q done.1.out (done.1.out ++ entry.Step j ∷ []) (λ r. r ≡ read s q (entry.Step j)) (entry.Step j) refl tt refl)
-              (λ r is. rw is (again (read s q (entry.Step j)) (behind s l life j q stands.life_is lives step events rest.2) (told_carries j done.0 done.1.held q stands.life_is lives step left.went) more)))
-            where
-              again : (r : Progress) → Stands l life (j + 1) events s r → CarriesAt (at_step g j) l done.0 done.1.held s r → TakesAll by_worlds g (j + 1) events done.0 (says done.1 (entry.Step j)) how new
-                  → Goes s r (done.1.out ++ entry.Step j ∷ []) new.out (Ends how new.held)
-              again r stands carries more = takes_kept events j (j + 1) done.0 (says done.1 (entry.Step j)) how new r rest.2 stands carries more
+              (λ r is. rw is (again done.0 (says done.1 (entry.Step j)) (read s q (entry.Step j)) (behind s l life j q stands.life_is lives step events rest.2)
+              (told_carries j done.0 done.1.held q stands.life_is lives step left.went) more)))
 
   -- A LIFE'S OPENING
 
@@ -458,7 +455,7 @@ module _ (laws : NodeLaws) (g : Lived) (s : Setting) (meant : IsMeant g s) where
   opens_of ended w new whole run = by_end ended run
       (laws.opens_to (at_step g 0) ended w.out new.out meant.form meant.lacks (runs_say (on_devices (node_opening (at_step g 0))) ended w new run))
     where
-      by_end : (its : Ended NodeStop (Live U)) → EndsSo (node_opening (at_step g 0)) its w new → CameTo _ (λ st. (h : Held) × IsNodeOpened (at_step g 0) ((at_step g 0).seen h) st) its
+      by_end : (its : Ended NodeStop (Live U)) → EndsSo (node_opening (at_step g 0)) its w new → CameTo (IsFaultBy (λ fault. (h : Held) × IsOpeningFault (at_step g 0) ((at_step g 0).seen h) fault)) (λ st. (h : Held) × IsNodeOpened (at_step g 0) ((at_step g 0).seen h) st) its
           → IfWentTo its (λ end. Opens (at_step g 0) end new.held s)
       by_end (went end) run came = record {
         agreed = agreed;
@@ -474,11 +471,11 @@ module _ (laws : NodeLaws) (g : Lived) (s : Setting) (meant : IsMeant g s) where
       by_end (broken cause) run came = tt
 
   opening_goes : (ended : Ended NodeStop (Live U)) (w new : World) (p : Progress) → length p.cuts ≡ l → RestsAt w.held s p → EndsSo (node_opening (at_step g 0)) ended w new
-      → Goes s p w.out new.out (IsOpenedBy (at_step g 0) l ended new.held s p)
+      → Goes s p w.out new.out (IsOpenedBy {F = NodeStop} (at_step g 0) l ended new.held s p)
   opening_goes ended w new p lives rests run =
       let listed = laws.restores (at_step g 0) ended w new meant.reads run in
       let keeps = laws.keeps (at_step g 0) ended 0 w new meant.starts run in
-      sound_of s p w.out new.out (IsOpenedBy (at_step g 0) l ended new.held s p)
+      sound_of s p w.out new.out (IsOpenedBy {F = NodeStop} (at_step g 0) l ended new.held s p)
       (opening_kept (at_step g 0) l ended w new s p lives rests (meant.knows 0) (all_kept w.held new keeps.0) (keeps.1 rests.whole) (opens_of ended w new rests.whole run) listed.0 listed.1
       (subst (λ (n : ℕ). BeginsRestored n (restored_list (recovered_in w.held)) listed.0 ended) meant.number_is listed.2))
 
@@ -520,20 +517,20 @@ module _ (laws : NodeLaws) (g : Lived) (s : Setting) (meant : IsMeant g s) where
       by_fuse (Some f) fuse (inl wants) = goes_none s p w.out new.out (Ends how new.held) (ap (λ (x : World). x.out) wants.1)
           (rw (wants.0, wants.1) (stops_saved AnyCall l life 0 (FaultOf NoMemory) w.held s p stands.lives stands.step (λ e its there. memory_no_cut _ e) (saved_rests w.held p rests)))
       by_fuse (Some f) fuse (inr (inl stops)) =
-          goes_as s p w.out new.out (IsOpenedBy (at_step g 0) l (by_node_stop stops.0) new.held s p) (Ends how new.held)
+          goes_as s p w.out new.out (IsOpenedBy {F = NodeStop} (at_step g 0) l (by_node_stop stops.0) new.held s p) (Ends how new.held)
           (λ q left. rw stops.1 (stops_saved AnyCall l life 0 stops.0 new.held s q (ap length left.cuts ∙ stands.lives) (left.step ∙ stands.step)
           (λ e its there. ((cut_within life.cut 0 f fuse (burns (node_opening (at_step g 0)) f w new stops.0 stops.2.0 e) its there).0, tt)) left.saved))
           (opening_goes (by_node_stop stops.0) (record w { fuse = f }) new p stands.lives rests stops.2.0)
       by_fuse (Some f) fuse (inr (inr done)) = by_next done.3
         where
-          first : Goes s p w.out done.1.out (IsOpenedBy (at_step g 0) l (went done.0) done.1.held s p)
+          first : Goes s p w.out done.1.out (IsOpenedBy {F = NodeStop} (at_step g 0) l (went done.0) done.1.held s p)
           first = opening_goes (went done.0) (record w { fuse = f }) done.1 p stands.lives rests done.2.0
 
           by_next : Wants how done.1 new ⊎ TakesAll by_worlds g 1 life.events done.0 (says done.1 (entry.Step 0)) how new → Goes s p w.out new.out (Ends how new.held)
-          by_next (inl wants) = goes_then s p w.out done.1.out new.out (IsOpenedBy (at_step g 0) l (went done.0) done.1.held s p) (Ends how new.held) first
+          by_next (inl wants) = goes_then s p w.out done.1.out new.out (IsOpenedBy {F = NodeStop} (at_step g 0) l (went done.0) done.1.held s p) (Ends how new.held) first
               (λ q left. goes_none s q done.1.out new.out (Ends how new.held) (ap (λ (x : World). x.out) wants.1)
               (rw (wants.0, wants.1) (stops_saved AnyCall l life 0 (FaultOf NoMemory) done.1.held s q (ap length left.cuts ∙ stands.lives) (left.step ∙ stands.step) (λ e its there. memory_no_cut _ e) left.saved)))
-          by_next (inr more) = goes_then s p w.out done.1.out new.out (IsOpenedBy (at_step g 0) l (went done.0) done.1.held s p) (Ends how new.held) first
+          by_next (inr more) = goes_then s p w.out done.1.out new.out (IsOpenedBy {F = NodeStop} (at_step g 0) l (went done.0) done.1.held s p) (Ends how new.held) first
               (λ q left.
               let lives : length q.cuts ≡ l = ap length left.cuts ∙ stands.lives in
               let step : q.step ≡ 0 = left.step ∙ stands.step in
@@ -590,30 +587,30 @@ module _ (laws : NodeLaws) (script : Script) (s : Setting)
       goes_then s p w.out here.3.out new.out (LeavesLife l life here.2 here.3.held s) (LeavesRun result new.held s)
       (lives_kept laws (lived script l life here.0 here.1) s (meant l life here.0 here.1 are.0 here.4) here.1 w here.2 here.3 p (all_rest life)
       (record { life_is = are.0; lives = between.lives; step = between.step; nothing = between.nothing }) rests here.7)
-      (λ q leaves. by_how here.2 q leaves here.8)
+      (λ q leaves. by_how (λ q mid between rests more. from_kept lives (λ files. Unit {0}) (l + 1) mid result new q are.1 between rests more) here.2 q leaves here.8)
     where
       Rests : World → Type 0
       Rests mid = LivesFrom by_worlds script (λ files. Unit {0}) (l + 1) lives mid result new
 
-      on : (q : Progress) (mid : World) → IsBetween (l + 1) s q → RestsAt mid.held s q → Rests mid → Goes s q mid.out new.out (LeavesRun result new.held s)
-      on q mid between rests more = from_kept lives (λ files. Unit {0}) (l + 1) mid result new q are.1 between rests more
+      On : Type 0
+      On = (q : Progress) (mid : World) → IsBetween (l + 1) s q → RestsAt mid.held s q → Rests mid → Goes s q mid.out new.out (LeavesRun result new.held s)
 
-      by_cut : (o : Option cut.Cut) → life.cut ≡ o → (q : Progress) → IsStopped l life Cut here.3.held s q
+      by_cut : On → (o : Option cut.Cut) → life.cut ≡ o → (q : Progress) → IsStopped l life Cut here.3.held s q
           → IsSomeAnd o (λ its. ((result ≡ Err NoMemory) × (new ≡ here.3)) ⊎ Rests (says here.3 (entry.Cut its.step its.call))) → Goes s q here.3.out new.out (LeavesRun result new.held s)
-      by_cut None is q stopped ends = absurd ends
-      by_cut (Some its) is q stopped (inl wants) = goes_none s q here.3.out new.out (LeavesRun result new.held s) (ap (λ (x : World). x.out) wants.1) (rw wants.1 (stopped.whole, stopped.gives))
-      by_cut (Some its) is q stopped (inr more) =
+      by_cut on None is q its_stop ends = absurd ends
+      by_cut on (Some its) is q its_stop (inl wants) = goes_none s q here.3.out new.out (LeavesRun result new.held s) (ap (λ (x : World). x.out) wants.1) (rw wants.1 (its_stop.whole, its_stop.gives))
+      by_cut on (Some its) is q its_stop (inr more) =
           goes_then s q here.3.out (here.3.out ++ entry.Cut its.step its.call ∷ []) new.out (λ r. r ≡ read s q (entry.Cut its.step its.call)) (LeavesRun result new.held s)
           (goes_one s q here.3.out (here.3.out ++ entry.Cut its.step its.call ∷ []) (λ r. r ≡ read s q (entry.Cut its.step its.call)) (entry.Cut its.step its.call) refl tt refl)
           (λ r same. rw same (on (read s q (entry.Cut its.step its.call)) (says here.3 (entry.Cut its.step its.call))
-          (record { lives = cut_length q s its.step its.call l stopped.lives; step = refl; nothing = refl })
-          (record { today = stopped.today; whole = stopped.whole; may = stopped.at_cut refl its is; handed = record { dealings = stopped.handed.dealings } }) more))
+          (record { lives = cut_length q s its.step its.call l its_stop.lives; step = refl; nothing = refl })
+          (record { today = its_stop.today; whole = its_stop.whole; may = its_stop.at_cut refl its is; handed = record { dealings = its_stop.handed.dealings } }) more))
 
-      by_how : (how : Result (Unit {0}) Stop) (q : Progress) → LeavesLife l life how here.3.held s q → EndsLife by_worlds life how here.3 result new Rests → Goes s q here.3.out new.out (LeavesRun result new.held s)
-      by_how (Ok done) q leaves ends = on q here.3 leaves.0 leaves.1 ends
-      by_how (Err Cut) q leaves ends = by_cut life.cut refl q leaves ends
-      by_how (Err (FaultOf fault)) q leaves ends = goes_none s q here.3.out new.out (LeavesRun result new.held s) (ap (λ (x : World). x.out) ends.1) (rw ends.1 (leaves.whole, leaves.gives))
-      by_how (Err Failed) q leaves ends = absurd ends
+      by_how : On → (how : Result (Unit {0}) Stop) (q : Progress) → LeavesLife l life how here.3.held s q → EndsLife by_worlds life how here.3 result new Rests → Goes s q here.3.out new.out (LeavesRun result new.held s)
+      by_how on (Ok done) q leaves ends = on q here.3 leaves.0 leaves.1 ends
+      by_how on (Err Cut) q leaves ends = by_cut on life.cut refl q leaves ends
+      by_how on (Err (FaultOf fault)) q leaves ends = goes_none s q here.3.out new.out (LeavesRun result new.held s) (ap (λ (x : World). x.out) ends.1) (rw ends.1 (leaves.whole, leaves.gives))
+      by_how on (Err Failed) q leaves ends = absurd ends
 
   -- THE RUN
   pub run_kept : (first : Files → Type 0) (w : World) (answered : Result (Unit {0}) Fault) (new : World) (p : Progress) → AreLives s 0 script.lives → IsBetween 0 s p → RestsAt w.held s p
