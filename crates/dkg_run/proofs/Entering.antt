@@ -53,20 +53,27 @@ asked f (broken cause) w new runs = runs
 pub speaks_nothing : {S : Type 0} (course : NodeCourse S) (out : List Line) → Speaks course (broken by_want) out out
 speaks_nothing course out = λ h f. breaks_none by_want tt (on_devices course) (record { out = out; held = h; fuse = f })
 
-speaks_stop : {S : Type 0} (stop : NodeStop) (out : List Line) → Speaks {S = S} (Stops stop) (stopped stop) out out
+speaks_stop : {S : Type 0} (stop : NodeStop) (out : List Line) → Speaks {Dir = directory.Unit} {F = NodeStop} {S = S} (Stops stop) (stopped stop) out out
 speaks_stop stop out = λ h f. (refl, refl)
 
-speaks_line : {S : Type 0} (line : Line) (end its : S) (out : List Line) → its ≡ end → Speaks (Say line (Goes end)) (went its) out (out ++ line ∷ [])
+speaks_line : {S : Type 0} (line : Line) (end its : S) (out : List Line) → its ≡ end → Speaks {Dir = directory.Unit} {F = NodeStop} (Say line (Goes end)) (went its) out (out ++ line ∷ [])
 speaks_line line end its out is = λ h f. (refl, is)
 
 -- AN OPENING
+
+-- what an info is judged as, for an epoch
+abbrev judged : (epoch : ℕ) → (height : ℕ) → Option (EpochInfo directory.Unit) → Result (Unit {0}) Fault
+judged epoch height found = option_map_or (λ info. if info.epoch == epoch then Ok tt else Err (WrongEpoch epoch info.epoch)) found (Err (MissingEpochInfo height))
+
+abbrev by_epoch : Bool → (epoch got : ℕ) → Result (Unit {0}) Fault
+by_epoch t epoch got = if t then Ok tt else Err (WrongEpoch epoch got)
 
 -- the fence is ready for the epoch whose info the boundary block carries
 pub ready_where_carried : (c : Fixed directory.Unit) (fence : Readiness) (b : Block directory.Unit) (epoch : ℕ) → epoch ≡ first_epoch c → first_block c ≡ Some b → beginning_of b epoch ≡ Ok tt → IsFenceReady c fence
     → is_ready fence.ready epoch ≡ true
 ready_where_carried c fence b epoch of at begins ready = subst (λ (n : ℕ). is_ready fence.ready n ≡ true) (sym of) (ready (on_first (first_block c) at))
   where
-    by_test : (info : EpochInfo directory.Unit) (t : Bool) → (info.epoch == epoch) ≡ t → (if t then Ok tt else Err (WrongEpoch epoch info.epoch)) ≡ Ok tt → info.epoch ≡ first_epoch c
+    by_test : (info : EpochInfo directory.Unit) (t : Bool) → (info.epoch == epoch) ≡ t → by_epoch t epoch info.epoch ≡ Ok tt → info.epoch ≡ first_epoch c
     by_test info true e is = same info.epoch epoch e ∙ of
       where
         same : (n m : ℕ) → (n == m) ≡ true → n ≡ m
@@ -74,8 +81,7 @@ ready_where_carried c fence b epoch of at begins ready = subst (λ (n : ℕ). is
     by_test info false e is = absurd (let wrong : ◌≡◌ {A = Result (Unit {0}) Fault} (Err (WrongEpoch epoch info.epoch)) (Ok tt) = is in cc)
 
     on_info : (found : Option (EpochInfo directory.Unit))
-        → option_map_or (λ (info : EpochInfo directory.Unit). if info.epoch == epoch then Ok tt else Err (WrongEpoch epoch info.epoch)) found (Err (MissingEpochInfo b.height)) ≡ Ok tt
-        → IsSomeAnd found (λ (info : EpochInfo directory.Unit). info.epoch ≡ first_epoch c)
+        → judged epoch b.height found ≡ Ok tt → IsSomeAnd found (λ (info : EpochInfo directory.Unit). info.epoch ≡ first_epoch c)
     on_info None is = absurd (let wrong : ◌≡◌ {A = Result (Unit {0}) Fault} (Err (MissingEpochInfo b.height)) (Ok tt) = is in cc)
     on_info (Some info) is = by_test info (info.epoch == epoch) refl is
 
@@ -129,7 +135,7 @@ module _ (c : Fixed directory.Unit) (st : Live directory.Unit) (unplanned : (h :
 
       -- it carries no info of the epoch
       refused_as : (found : Option (EpochInfo directory.Unit)) (fault : Fault)
-          → option_map_or (λ (info : EpochInfo directory.Unit). if info.epoch == first_epoch c then Ok tt else Err (WrongEpoch (first_epoch c) info.epoch)) found (Err (MissingEpochInfo b.height)) ≡ Err fault
+          → judged (first_epoch c) b.height found ≡ Err fault
           → option_map_or (λ info. if info.epoch == first_epoch c then enters_by info else Stops (Faulted (WrongEpoch (first_epoch c) info.epoch))) found (Stops (Faulted (MissingEpochInfo b.height)))
           ≡ Stops (Faulted fault)
       refused_as None fault is = ap (λ (f : Fault). Stops (Faulted f)) (the_fault is)
@@ -141,7 +147,7 @@ module _ (c : Fixed directory.Unit) (st : Live directory.Unit) (unplanned : (h :
           the_fault : {x y : Fault} → ◌≡◌ {A = Result (Unit {0}) Fault} (Err x) (Err y) → x ≡ y
           the_fault e = cc
 
-          by_test : (t : Bool) → (if t then Ok tt else Err (WrongEpoch (first_epoch c) info.epoch)) ≡ Err fault
+          by_test : (t : Bool) → by_epoch t (first_epoch c) info.epoch ≡ Err fault
               → (if t then enters_by info else Stops (Faulted (WrongEpoch (first_epoch c) info.epoch))) ≡ Stops (Faulted fault)
           by_test true e = absurd (let wrong : ◌≡◌ {A = Result (Unit {0}) Fault} (Ok tt) (Err fault) = e in cc)
           by_test false e = ap (λ (f : Fault). Stops (Faulted f)) (the_fault e)
@@ -157,12 +163,11 @@ module _ (c : Fixed directory.Unit) (st : Live directory.Unit) (unplanned : (h :
         pub of_epoch : info.epoch ≡ first_epoch c
 
       carries_in : (found : Option (EpochInfo directory.Unit)) → info_of b.payload ≡ found
-          → option_map_or (λ (info : EpochInfo directory.Unit). if info.epoch == first_epoch c then Ok tt else Err (WrongEpoch (first_epoch c) info.epoch)) found (Err (MissingEpochInfo b.height)) ≡ Ok tt
-          → Carries
+          → judged (first_epoch c) b.height found ≡ Ok tt → Carries
       carries_in None carried is = absurd (let wrong : ◌≡◌ {A = Result (Unit {0}) Fault} (Err (MissingEpochInfo b.height)) (Ok tt) = is in cc)
       carries_in (Some info) carried is = record { info = info; carried = carried; of_epoch = same info.epoch (first_epoch c) (by_test (info.epoch == first_epoch c) is) }
         where
-          by_test : (t : Bool) → (if t then Ok tt else Err (WrongEpoch (first_epoch c) info.epoch)) ≡ Ok tt → t ≡ true
+          by_test : (t : Bool) → by_epoch t (first_epoch c) info.epoch ≡ Ok tt → t ≡ true
           by_test true e = refl
           by_test false e = absurd (let wrong : ◌≡◌ {A = Result (Unit {0}) Fault} (Err (WrongEpoch (first_epoch c) info.epoch)) (Ok tt) = e in cc)
 

@@ -10,6 +10,7 @@ pub mod Giving
 pub mod GivingPlans
 pub mod Going
 pub mod InPlace
+pub mod Lasting
 pub mod Laws
 pub mod Living
 pub mod Naming

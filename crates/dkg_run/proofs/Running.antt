@@ -42,6 +42,10 @@ module _ (life : Life) (out now : List Entry) (picks after : List ℕ) (w new : 
 
 -- ALL LIVES
 
+-- it was answered Ok
+abbrev pub IsDone : Result (Unit {0}) Fault → Type 0
+IsDone result = result ≡ Ok tt
+
 module _ {W : Type 0} (way : Way W) (script : Script) where
   -- what is known of the first files may be less
   pub from_any : (P : Files → Type 0) (l : ℕ) (lives : List Life) (w new : W) (result : Result (Unit {0}) Fault) → LivesFrom way script P l lives w result new → LivesFrom way script AnyFiles l lives w result new
@@ -49,25 +53,25 @@ module _ {W : Type 0} (way : Way W) (script : Script) where
   from_any P l (life ∷ lives) w new result (seen, files, how, mid, reads, known, begins, so, ends) = (seen, files, how, mid, reads, tt, begins, so, ends)
 
   -- a life that was answered so, whatever was to come
-  life_ends : (life : Life) (how : Result (Unit {0}) Stop) (mid new : W) (its : Fault) (next : W → Type 0) → EndsLife way life how mid (Err its) new (λ v. (Err its ≡ Ok tt) × (v ≡ new)) → EndsLife way life how mid (Err its) new next
+  life_ends : (life : Life) (how : Result (Unit {0}) Stop) (mid new : W) (its : Fault) (next : W → Type 0) → EndsLife way life how mid (Err its) new (λ v. IsDone (Err its) × (v ≡ new)) → EndsLife way life how mid (Err its) new next
   life_ends life (Ok done) mid new its next ends = absurd (let wrong : ◌≡◌ {A = Result (Unit {0}) Fault} (Err its) (Ok tt) = ends.0 in cc)
   life_ends life (Err (FaultOf own)) mid new its next ends = ends
   life_ends life (Err Failed) mid new its next ends = ends
   life_ends life (Err Cut) mid new its next ends = by_cut life.cut ends
     where
       by_cut : (o : Option cut.Cut)
-          → IsSomeAnd o (λ c. ((◌≡◌ {A = Result (Unit {0}) Fault} (Err its) (Err NoMemory)) × (new ≡ way.stops mid c.pick)) ⊎ ((Err its ≡ Ok tt) × (way.says (way.stops mid c.pick) (entry.Cut c.step c.call) ≡ new)))
+          → IsSomeAnd o (λ c. ((◌≡◌ {A = Result (Unit {0}) Fault} (Err its) (Err NoMemory)) × (new ≡ way.stops mid c.pick)) ⊎ (IsDone (Err its) × (way.says (way.stops mid c.pick) (entry.Cut c.step c.call) ≡ new)))
           → IsSomeAnd o (λ c. ((◌≡◌ {A = Result (Unit {0}) Fault} (Err its) (Err NoMemory)) × (new ≡ way.stops mid c.pick)) ⊎ next (way.says (way.stops mid c.pick) (entry.Cut c.step c.call)))
       by_cut None ends = ends
       by_cut (Some c) (inl wants) = inl wants
       by_cut (Some c) (inr told) = absurd (let wrong : ◌≡◌ {A = Result (Unit {0}) Fault} (Err its) (Ok tt) = told.0 in cc)
 
-  pub life_stops : (P : Files → Type 0) (l : ℕ) (life : Life) (w new : W) (its : Fault) (next : W → Type 0) → LivesHere way script P l life w (Err its) new (λ v. (Err its ≡ Ok tt) × (v ≡ new))
+  pub life_stops : (P : Files → Type 0) (l : ℕ) (life : Life) (w new : W) (its : Fault) (next : W → Type 0) → LivesHere way script P l life w (Err its) new (λ v. IsDone (Err its) × (v ≡ new))
       → LivesHere way script P l life w (Err its) new next
   life_stops P l life w new its next (seen, files, how, mid, reads, known, begins, so, ends) = (seen, files, how, mid, reads, known, begins, so, life_ends life how mid new its next ends)
 
   -- .. and what comes behind one that was answered Ok
-  life_goes : (life : Life) (how : Result (Unit {0}) Stop) (mid new end : W) (result : Result (Unit {0}) Fault) (next : W → Type 0) → EndsLife way life how mid (Ok tt) new (λ v. (Ok tt ≡ Ok tt) × (v ≡ new)) → next new
+  life_goes : (life : Life) (how : Result (Unit {0}) Stop) (mid new end : W) (result : Result (Unit {0}) Fault) (next : W → Type 0) → EndsLife way life how mid (Ok tt) new (λ v. IsDone (Ok tt) × (v ≡ new)) → next new
       → EndsLife way life how mid result end next
   life_goes life (Ok done) mid new end result next ends then = subst next (sym ends.1) then
   life_goes life (Err (FaultOf own)) mid new end result next ends then = absurd (let wrong : ◌≡◌ {A = Result (Unit {0}) Fault} (Ok tt) (Err own) = ends.0 in cc)
@@ -75,13 +79,13 @@ module _ {W : Type 0} (way : Way W) (script : Script) where
   life_goes life (Err Cut) mid new end result next ends then = by_cut life.cut ends
     where
       by_cut : (o : Option cut.Cut)
-          → IsSomeAnd o (λ c. ((◌≡◌ {A = Result (Unit {0}) Fault} (Ok tt) (Err NoMemory)) × (new ≡ way.stops mid c.pick)) ⊎ ((Ok tt ≡ Ok tt) × (way.says (way.stops mid c.pick) (entry.Cut c.step c.call) ≡ new)))
+          → IsSomeAnd o (λ c. ((◌≡◌ {A = Result (Unit {0}) Fault} (Ok tt) (Err NoMemory)) × (new ≡ way.stops mid c.pick)) ⊎ (IsDone (Ok tt) × (way.says (way.stops mid c.pick) (entry.Cut c.step c.call) ≡ new)))
           → IsSomeAnd o (λ c. ((result ≡ Err NoMemory) × (end ≡ way.stops mid c.pick)) ⊎ next (way.says (way.stops mid c.pick) (entry.Cut c.step c.call)))
       by_cut None ends = ends
       by_cut (Some c) (inl wants) = absurd (let wrong : ◌≡◌ {A = Result (Unit {0}) Fault} (Ok tt) (Err NoMemory) = wants.0 in cc)
       by_cut (Some c) (inr told) = inr (subst next (sym told.1) then)
 
-  pub life_goes_on : (P : Files → Type 0) (l : ℕ) (life : Life) (w mid end : W) (result : Result (Unit {0}) Fault) (next : W → Type 0) → LivesHere way script P l life w (Ok tt) mid (λ v. (Ok tt ≡ Ok tt) × (v ≡ mid))
+  pub life_goes_on : (P : Files → Type 0) (l : ℕ) (life : Life) (w mid end : W) (result : Result (Unit {0}) Fault) (next : W → Type 0) → LivesHere way script P l life w (Ok tt) mid (λ v. IsDone (Ok tt) × (v ≡ mid))
       → next mid → LivesHere way script P l life w result end next
   life_goes_on P l life w mid end result next (seen, files, how, at, reads, known, begins, so, ends) then = (seen, files, how, at, reads, known, begins, so, life_goes life how at mid end result next ends then)
 
@@ -97,12 +101,12 @@ module _ {W : Type 0} (way : Way W) (script : Script) where
       rest : (result : Result (Unit {0}) Fault) (new : W) → LivesHere way script known i life here result new (λ mid. LivesFrom way script AnyFiles (i + 1) (drop (suc i) lives) mid result new) → LivesFrom way script first 0 lives w result new
       rest result new its = on result new (subst (λ (ls : List Life). LivesFrom way script known i ls here result new) (sym (drop_item lives i life at_life)) its)
 
-      pub lives_next : (mid : W) (after : Files → Type 0) → LivesHere way script known i life here (Ok tt) mid (λ v. (Ok tt ≡ Ok tt) × (v ≡ mid)) → LivesOn (i + 1) after mid
+      pub lives_next : (mid : W) (after : Files → Type 0) → LivesHere way script known i life here (Ok tt) mid (λ v. IsDone (Ok tt) × (v ≡ mid)) → LivesOn (i + 1) after mid
       lives_next mid after its result new more = rest result new
           (life_goes_on known i life here mid new result (λ mid. LivesFrom way script AnyFiles (i + 1) (drop (suc i) lives) mid result new) its
           (from_any after (i + 1) (drop (suc i) lives) mid new result (subst (λ (k : ℕ). LivesFrom way script after (i + 1) (drop k lives) mid result new) (add-one i) more)))
 
-      pub lives_stop : (its : Fault) (new : W) → LivesHere way script known i life here (Err its) new (λ v. (Err its ≡ Ok tt) × (v ≡ new)) → LivesFrom way script first 0 lives w (Err its) new
+      pub lives_stop : (its : Fault) (new : W) → LivesHere way script known i life here (Err its) new (λ v. IsDone (Err its) × (v ≡ new)) → LivesFrom way script first 0 lives w (Err its) new
       lives_stop its new so = rest (Err its) new (life_stops known i life here new its (λ mid. LivesFrom way script AnyFiles (i + 1) (drop (suc i) lives) mid (Err its) new) so)
 
     pub lives_end : (i : ℕ) (known : Files → Type 0) (here : W) → length lives ≤ i → LivesOn i known here → LivesFrom way script first 0 lives w (Ok tt) here

@@ -1,8 +1,9 @@
 use Rattle.std.proofs.Common.{◌≡◌}
+use Rattle.dkg_run.proofs.Finding.{found_here, none_here, not_here}
 use Rattle.dkg_run.proofs.held.of_digest.Goals as goal
 
 pub returns-then-eq : goal.returns-then-eq
-returns-then-eq c = let a : ⊥ = c.if-eq.true in ?
+returns-then-eq c = ?
 
 pub loop-number-preserved : goal.loop-number-preserved
-loop-number-preserved c = let a : ⊥ = c.get.ensures.lookup in ?
+loop-number-preserved c = ?
