@@ -102,6 +102,11 @@ alike_at g i k st is = record { awaits = is.awaits; undealt = is.undealt; idle =
 
 -- EVENTS
 
+-- a block of the form lies below the midpoint of what is given
+pub below_middle : (g : Lived) (j height : ℕ) → height < midpoint_of g.script → height < midpoint (at_step g j).blocks_per_epoch 0
+unfolding at_step
+below_middle g j height low = subst (λ (n : ℕ). height < n) (middle_is (non_zero_u64_get g.script.config.blocks_per_epoch)) low
+
 -- the message of an event
 pub record IsMessage (g : Lived) (j : ℕ) (its : Event) (st : Live directory.Unit) : Type 0 where
   pub message : Message directory.Unit
@@ -115,10 +120,6 @@ message_of g j (event.Final number) st today =
     record {
       message = Finalized made.block;
       course = ap (λ (o : Option (Block directory.Unit)). option_map_or (λ e. node_step (at_step g j) e st) (option_map Delivers o) (Goes st)) made.is;
-      taken = below j (made.block).height made.so;
+      taken = below_middle g j (made.block).height made.so;
     }
-  where
-    below : (j height : ℕ) → height < midpoint_of g.script → height < midpoint (at_step g j).blocks_per_epoch 0
-    unfolding at_step
-    below j height low = subst (λ (n : ℕ). height < n) (middle_is (non_zero_u64_get g.script.config.blocks_per_epoch)) low
 message_of g j other st today = absurd today
