@@ -144,36 +144,38 @@ tellable_life g here its files t new so = life_tells IsTellable outside_tellable
 pub reads_neither : (seen : Held → Seen) → ReadsSomething seen → ReadsNeither seen
 reads_neither seen reads = subst ReadsNeither (sym reads.each) (record { shareless = λ h. reads.shareless; unplanned = λ h. reads.unplanned })
 
-module _ (script : Script) (form : IsFormOfToday script) (its : Fault) where
+-- what holds of each fault that may end a life, and of want of memory, holds of the fault that ends them all
+module _ (script : Script) (form : IsFormOfToday script) (its : Fault) (P : Fault → Type 0) (memory : P fault.NoMemory)
+    (each : (l : ℕ) (life : Life) (seen : Held → Seen) (files : Files) → IsLifeHere (lived script l life seen files) → (own : Fault) (t mid : Trace) → LivesSo by_lines (lived script l life seen files) files t (Err (FaultOf own)) mid → P own) where
   same_answer : {x y : Fault} → ◌≡◌ {A = Result (Unit {0}) Fault} (Err x) (Err y) → x ≡ y
   same_answer e = cc
 
-  pub from_tells : (first : Files → Type 0) (l : ℕ) (lives : List Life) (t new : Trace) → lives ≡ drop l script.lives → LivesFrom by_lines script first l lives t (Err its) new → IsTellable its
+  pub from_tells : (first : Files → Type 0) (l : ℕ) (lives : List Life) (t new : Trace) → lives ≡ drop l script.lives → LivesFrom by_lines script first l lives t (Err its) new → P its
   from_tells first l [] t new rest lives = absurd (let wrong : ◌≡◌ {A = Result (Unit {0}) Fault} (Err its) (Ok tt) = lives.0 in cc)
   from_tells first l (life ∷ lives) t new rest (seen, files, how, mid, reads, known, begins, so, ends) = by_end how so ends
     where
       here : IsLifeHere (lived script l life seen files)
       here = record { form = form; life_is = item_at script.lives l life lives rest; reads = reads_neither seen reads }
 
-      on : (t : Trace) → LivesFrom by_lines script AnyFiles (l + 1) lives t (Err its) new → IsTellable its
+      on : (t : Trace) → LivesFrom by_lines script AnyFiles (l + 1) lives t (Err its) new → P its
       on t rest_lives = from_tells AnyFiles (l + 1) lives t new (subst (λ (k : ℕ). lives ≡ drop k script.lives) (sym (add-one l)) (rest_at script.lives l life lives rest)) rest_lives
 
       by_cut : (o : Option cut.Cut)
           → IsSomeAnd o (λ c. ((◌≡◌ {A = Result (Unit {0}) Fault} (Err its) (Err fault.NoMemory)) × (new ≡ by_lines.stops mid c.pick)) ⊎ LivesFrom by_lines script AnyFiles (l + 1) lives (by_lines.says (by_lines.stops mid c.pick) (entry.Cut c.step c.call)) (Err its) new)
-          → IsTellable its
+          → P its
       by_cut None ends = absurd ends
-      by_cut (Some c) (inl wants) = inl (same_answer wants.0)
+      by_cut (Some c) (inl wants) = subst P (sym (same_answer wants.0)) memory
       by_cut (Some c) (inr next) = on (by_lines.says (by_lines.stops mid c.pick) (entry.Cut c.step c.call)) next
 
       by_end : (how : Result (Unit {0}) Stop) → LivesSo by_lines (lived script l life seen files) files t how mid
-          → EndsLife by_lines life how mid (Err its) new (λ mid. LivesFrom by_lines script AnyFiles (l + 1) lives mid (Err its) new) → IsTellable its
+          → EndsLife by_lines life how mid (Err its) new (λ mid. LivesFrom by_lines script AnyFiles (l + 1) lives mid (Err its) new) → P its
       by_end (Ok done) so ends = on (by_lines.stops mid life.pick) ends
       by_end (Err Cut) so ends = by_cut life.cut ends
-      by_end (Err (FaultOf own)) so ends = subst IsTellable (sym (same_answer ends.0)) (tellable_life (lived script l life seen files) here own files t mid so)
+      by_end (Err (FaultOf own)) so ends = subst P (sym (same_answer ends.0)) (each l life seen files here own t mid so)
       by_end (Err Failed) so ends = absurd ends
 
-  pub all_tell : (first : Files → Type 0) (t new : Trace) → RunsAllSo by_lines script first t (Err its) new → IsTellable its
-  all_tell first t new (inl wants) = inl (same_answer wants.0)
+  pub all_tell : (first : Files → Type 0) (t new : Trace) → RunsAllSo by_lines script first t (Err its) new → P its
+  all_tell first t new (inl wants) = subst P (sym (same_answer wants.0)) memory
   all_tell first t new (inr lives) = from_tells first 0 script.lives t new refl lives
 
 -- THE CLAUSE of ends
@@ -196,7 +198,7 @@ run_ends script form first t new answered disk_rose secrets_rose causes run =
   where
     tellable : (result : Result (Unit {0}) Fault) → RunsAllSo by_lines script first t result run.mid → IfErr result IsTellable
     tellable (Ok done) lives = tt
-    tellable (Err its) lives = all_tell script form its first t run.mid lives
+    tellable (Err its) lives = all_tell script form its IsTellable (inl refl) (λ l life seen files here own t mid so. tellable_life (lived script l life seen files) here own files t mid so) first t run.mid lives
 
     not_ok : (its : Fault) → TellsEnd by_lines (Err its) (Ok tt) run.mid new → ⊥
     not_ok its (inl wants) = let wrong : ◌≡◌ {A = Result (Unit {0}) Fault} (Ok tt) (Err fault.NoMemory) = wants.0 in cc

@@ -1,4 +1,5 @@
 pub mod Asked
+pub mod BlockLines
 pub mod Early
 pub mod Ended
 pub mod Entering
