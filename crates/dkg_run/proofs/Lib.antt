@@ -23,6 +23,7 @@ pub mod Opening
 pub mod Ordered
 pub mod PeerForms
 pub mod Places
+pub mod Promising
 pub mod Recorded
 pub mod Reported
 pub mod Resting
