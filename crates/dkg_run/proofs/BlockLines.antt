@@ -69,7 +69,7 @@ units most version = record { most = most; version = version; addressed = false 
 
 spelled_back : (most version : ℕ) (bytes : List ℕ) → IsBytes bytes → (read : Result (Payload directory.Unit) CodecError)
     → whole (payload_at (λ peers. unit_at) (λ d peers. true) most version bytes) ≡ read → IsSome (result_ok read) → flagged_bytes unit_spelling (result_ok read) ≡ 1 ∷ bytes
-spelled_back most version bytes are (Err e) is some = absurd some
+spelled_back most version bytes are (Err e) is some = absurd (let wrong : false ≡ true = some in cc)
 spelled_back most version bytes are (Ok payload) is some =
     ap (λ (text : List ℕ). 1 ∷ text) (sym (decoded_found (PayloadFits (λ peers (u : directory.Unit). ⊤) (λ d peers. true) most version) (payload_spelling unit_spelling) (payload_at (λ peers. unit_at) (λ d peers. true) most version)
     (payload_grammar (λ peers (u : directory.Unit). ⊤) unit_spelling (λ peers. unit_at) (λ d peers. true) (λ peers. unit_grammar) most version) bytes are (Ok payload) is).1)

@@ -46,6 +46,21 @@ start_in : (middle : ℕ) (at : Option (Anchor directory.Unit)) → 0 < middle �
 start_in middle None some low = some
 start_in middle (Some a) some low = low
 
+-- what is found at a height stands there
+found_at : (blocks : List (Block directory.Unit)) (b : Block directory.Unit) (height : ℕ) → find (λ (its : Block directory.Unit). its.height == height) blocks ≡ Some b → b.height ≡ height
+found_at [] b height is = absurd (let wrong : ◌≡◌ {A = Option (Block directory.Unit)} None (Some b) = is in cc)
+found_at (x ∷ blocks) b height is = by_test (x.height == height) refl is
+  where
+    the_block : {x y : Block directory.Unit} → Some x ≡ Some y → x ≡ y
+    the_block e = cc
+
+    same : (n m : ℕ) → (n == m) ≡ true → n ≡ m
+    same n m e = grind (arith, nat_tests)
+
+    by_test : (t : Bool) → (x.height == height) ≡ t → (if t then Some x else find (λ (its : Block directory.Unit). its.height == height) blocks) ≡ Some b → b.height ≡ height
+    by_test true e is = subst (λ (its : Block directory.Unit). its.height ≡ height) (the_block is) (same x.height height e)
+    by_test false e is = found_at blocks b height is
+
 module _ (g : Lived) (here : IsLifeHere g) where
   abbrev per_epoch : ℕ
   per_epoch = non_zero_u64_get g.script.config.blocks_per_epoch
@@ -86,17 +101,3 @@ module _ (g : Lived) (here : IsLifeHere g) where
   pub boundary_low : (taken : ℕ) (b : Block directory.Unit) → first_block (at_step g taken) ≡ Some b → b.height ≡ 0
   unfolding at_step
   boundary_low taken b is = found_at _ b 0 (ap (λ (e : ℕ). (at_step g taken).source.block (boundary per_epoch e)) (sym (starts_first taken)) ∙ is)
-    where
-      found_at : (blocks : List (Block directory.Unit)) (b : Block directory.Unit) (height : ℕ) → find (λ (its : Block directory.Unit). its.height == height) blocks ≡ Some b → b.height ≡ height
-      found_at [] b height is = absurd (let wrong : ◌≡◌ {A = Option (Block directory.Unit)} None (Some b) = is in cc)
-      found_at (x ∷ blocks) b height is = by_test (x.height == height) refl is
-        where
-          the_block : {x y : Block directory.Unit} → Some x ≡ Some y → x ≡ y
-          the_block e = cc
-
-          same : (n m : ℕ) → (n == m) ≡ true → n ≡ m
-          same n m e = grind (arith, nat_tests)
-
-          by_test : (t : Bool) → (x.height == height) ≡ t → (if t then Some x else find (λ (its : Block directory.Unit). its.height == height) blocks) ≡ Some b → b.height ≡ height
-          by_test true e is = subst (λ (its : Block directory.Unit). its.height ≡ height) (the_block is) (same x.height height e)
-          by_test false e is = found_at blocks b height is

@@ -55,7 +55,7 @@ module _ (its : Option cut.Cut) (step : ℕ) (line : Line) (course : Course dire
     where
       by_cut : (o : Option cut.Cut) → fuse_for o step ≡ None → IsSome o
       by_cut None wrong = absurd (let no : ◌≡◌ {A = Option Burn} (Some never) None = wrong in cc)
-      by_cut (Some c) wrong = tt
+      by_cut (Some c) wrong = refl
   step_scripted (Some f) is (inl wants) more = absurd (let wrong : ◌≡◌ {A = Result (Unit {0}) Stop} (Err Cut) (Err (FaultOf NoMemory)) = wants.0 in cc)
   step_scripted (Some f) is (inr (inl (stop, how, goes))) more = by_cut its is
     where
@@ -73,7 +73,7 @@ module _ (its : Option cut.Cut) (step : ℕ) (line : Line) (course : Course dire
 
           none_burns : (f : Burn) → never ≡ f → 0 < f.call → ⊥
           none_burns f e less = omega (arith, subst (λ (b : Burn). 0 < b.call) (sym e) less)
-      by_cut (Some c) same = tt
+      by_cut (Some c) same = refl
   step_scripted (Some f) is (inr (inr (end, mid, goes, inl wants))) more = absurd (let wrong : ◌≡◌ {A = Result (Unit {0}) Stop} (Err Cut) (Err (FaultOf NoMemory)) = wants.0 in cc)
   step_scripted (Some f) is (inr (inr (end, mid, goes, inr then))) more = more end (by_lines.says mid line) then
 
