@@ -49,7 +49,7 @@ start_in middle (Some a) some low = low
 -- what is found at a height stands there
 found_at : (blocks : List (Block directory.Unit)) (b : Block directory.Unit) (height : ℕ) → find (λ (its : Block directory.Unit). its.height == height) blocks ≡ Some b → b.height ≡ height
 found_at [] b height is = absurd (let wrong : ◌≡◌ {A = Option (Block directory.Unit)} None (Some b) = is in cc)
-found_at (x ∷ blocks) b height is = by_test (x.height == height) refl is
+found_at (x ∷ blocks) b height is = by_test (x.height == height) refl is (found_at blocks b height)
   where
     the_block : {x y : Block directory.Unit} → Some x ≡ Some y → x ≡ y
     the_block e = cc
@@ -57,9 +57,10 @@ found_at (x ∷ blocks) b height is = by_test (x.height == height) refl is
     same : (n m : ℕ) → (n == m) ≡ true → n ≡ m
     same n m e = grind (arith, nat_tests)
 
-    by_test : (t : Bool) → (x.height == height) ≡ t → (if t then Some x else find (λ (its : Block directory.Unit). its.height == height) blocks) ≡ Some b → b.height ≡ height
-    by_test true e is = subst (λ (its : Block directory.Unit). its.height ≡ height) (the_block is) (same x.height height e)
-    by_test false e is = found_at blocks b height is
+    by_test : (t : Bool) → (x.height == height) ≡ t → (if t then Some x else find (λ (its : Block directory.Unit). its.height == height) blocks) ≡ Some b
+        → (find (λ (its : Block directory.Unit). its.height == height) blocks ≡ Some b → b.height ≡ height) → b.height ≡ height
+    by_test true e is rest = subst (λ (its : Block directory.Unit). its.height ≡ height) (the_block is) (same x.height height e)
+    by_test false e is rest = rest is
 
 module _ (g : Lived) (here : IsLifeHere g) where
   abbrev per_epoch : ℕ
