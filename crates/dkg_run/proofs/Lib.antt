@@ -12,6 +12,7 @@ pub mod Lasting
 pub mod Laws
 pub mod Living
 pub mod Naming
+pub mod NodeOpens
 pub mod Noding
 pub mod Opening
 pub mod Ordered

@@ -1,15 +1,17 @@
 -- Lives of a script of today's form: what is given to their steps is of dkg_core's form of today.
 use Rattle.std.proofs.Common.{◌≡◌, ◌+◌, ◌++◌, ◌∷◌, [], ◌<◌, ◌≤◌, ◌^◌, ℕ, zero, suc, List, Option, Some, None, Ok, refl, sym, ◌∙◌, ap, subst, map, fold, arith, append_assoc, append-nil}
-use Rattle.std.specs.Prelude.{◌/◌, IfSome, IsSomeAnd, is_none, false, slice_get, option_map}
+use Rattle.std.specs.Prelude.{◌/◌, IfOk, IfSome, Result, IsSomeAnd, is_none, false, slice_get, option_map}
 use Rattle.std.specs.Option.{option_map_or}
 use Rattle.std.specs.Int.NonZero.{non_zero_u64_get}
 use Rattle.std.specs.List.{AllByRecursion}
 use Rattle.std.proofs.lemmas.List.{map-append}
 use Rattle.std.proofs.lemmas.Option.{slice_get-map}
-use Rattle.dkg_ceremony.specs.Rounds.{round_of}
+use Rattle.dkg_ceremony.specs.RoundLaws.{round_has}
+use Rattle.dkg_ceremony.specs.declared.mode.Reveal.TheVariants.{V1}
 use Rattle.dkg_ceremony.specs.Schedule.{midpoint}
 use Rattle.dkg_ceremony.specs.declared.output.Output.{Output}
 use Rattle.dkg_ceremony.specs.declared.round.Round.{Round}
+use Rattle.dkg_ceremony.specs.declared.round.RoundError.{RoundError}
 use Rattle.dkg_types.specs.Blocks.{Block}
 use Rattle.dkg_types.specs.declared.directory.Unit as directory
 use Rattle.dkg_types.specs.declared.participants.TrackedPeers.{TrackedPeers}
@@ -73,6 +75,9 @@ made_at script number P of_line = both (slice_get script.blocks number) (slice_g
 
 -- THE FORM of what is given
 
+same_round : (r : Result Round RoundError) (asked : Round) → IfOk r (λ its. its ≡ asked) → (round : Round) → r ≡ Ok round → round ≡ asked
+same_round r asked has round is = let P : Result Round RoundError → Type 0 = λ q. IfOk q (λ its. its ≡ asked) in subst P is has
+
 pub middle_is : (n : ℕ) → n / 2 ≡ midpoint n 0
 middle_is n = omega arith
 
@@ -84,7 +89,19 @@ module _ (g : Lived) (here : IsLifeHere g) where
     bare = refl;
     shareless = here.reads.shareless;
     unplanned = here.reads.unplanned;
-    carries_on = λ number output dealers players round drawn. ?;
+    carries_on = λ number output dealers players round drawn.
+        let asked : Round = record {
+          namespace = g.script.config.namespace;
+          number = number;
+          previous = Some output;
+          mode = g.script.config.mode;
+          reveal = V1;
+          dealers = dealers;
+          players = players;
+        } in
+        let same : round ≡ asked =
+            same_round _ asked (round_has g.script.config.namespace number (Some output) g.script.config.mode V1 dealers players) round drawn in
+        (ap (λ (r : Round). is_none r.previous) same, ap (λ (r : Round). r.number) same);
   }
 
   pub lacks_nobody : (taken : ℕ) (d : directory.Unit) (peers : TrackedPeers) → (at_step g taken).directories.lacking d peers ≡ None
