@@ -18,6 +18,7 @@ pub mod Laws
 pub mod Living
 pub mod Meant
 pub mod Naming
+pub mod NodeOpens
 pub mod Noding
 pub mod Opening
 pub mod Ordered

@@ -118,6 +118,7 @@ impl Half {
         requires ready { (c : Fixed directory.Unit) × IsHalfGiven (non_zero_u64_get blocks_per_epoch) (B.answers source.now) c × IsFenceReady c fence.old }
         ensures speaks { (c : Fixed directory.Unit) (st : Live directory.Unit) → IsHalfGiven (non_zero_u64_get blocks_per_epoch) (B.answers source.now) c → MayEnter c fence.old st
             → Speaks (kept_material c st) (ends_half fence.new st result) out.old.entries out.new.entries }
+        // It blames no device.
         ensures causes { IfErr result (λ stop. IsCaused stop ⊥ ⊥ ⊥) }
     {
         let bounds = start_bounds(blocks_per_epoch, source)?;
