@@ -101,4 +101,4 @@ module _ (g : Lived) (here : IsLifeHere g) where
   -- its boundary block stands at height 0
   pub boundary_low : (taken : ℕ) (b : Block directory.Unit) → first_block (at_step g taken) ≡ Some b → b.height ≡ 0
   unfolding at_step
-  boundary_low taken b is = found_at _ b 0 (ap (λ (e : ℕ). (at_step g taken).source.block (boundary per_epoch e)) (sym (starts_first taken)) ∙ is)
+  boundary_low taken b is = found_at (numbered (blocks_in g.script) g.life.held ++ (anchored (anchor_in (blocks_in g.script) g.life.anchor) ++ delivered_by (blocks_in g.script) (take taken g.life.events))) b 0 (ap (λ (e : ℕ). (at_step g taken).source.block (boundary per_epoch e)) (sym (starts_first taken)) ∙ is)

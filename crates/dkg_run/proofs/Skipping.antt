@@ -208,14 +208,14 @@ comes_to (Some cut) events i reached = by_call (cut.call == 0) refl
         still_there events (cut.step - 1) i (omega arith)
 
 module _ (s : Setting) (l : ℕ) (life : Life) (i : ℕ) (one : Event) (event_is : slice_get life.events i ≡ Some one) (reached : IsReached life.cut (suc i)) where
-  abbrev events : List Event
-  events = events_come_to life.cut life.events
+  abbrev coming : List Event
+  coming = events_come_to life.cut life.events
 
   delivered_more : delivered s life (suc i) ≡ delivered s life i ++ filter_map (block_at s) (filter_map delivered_number (one ∷ []))
   delivered_more =
-      ap (λ (es : List Event). filter_map (block_at s) (filter_map delivered_number es)) (one_more events i one (comes_to life.cut life.events i reached ∙ event_is))
-      ∙ ap (λ (ns : List ℕ). filter_map (block_at s) ns) (filter_map-append delivered_number (take i events) (one ∷ []))
-      ∙ filter_map-append (block_at s) (filter_map delivered_number (take i events)) (filter_map delivered_number (one ∷ []))
+      ap (λ (es : List Event). filter_map (block_at s) (filter_map delivered_number es)) (one_more coming i one (comes_to life.cut life.events i reached ∙ event_is))
+      ∙ ap (λ (ns : List ℕ). filter_map (block_at s) ns) (filter_map-append delivered_number (take i coming) (one ∷ []))
+      ∙ filter_map-append (block_at s) (filter_map delivered_number (take i coming)) (filter_map delivered_number (one ∷ []))
 
   height_more : awaited_height s l life (suc i) ≡ fold (λ height b. max height (suc b.height)) (awaited_height s l life i) (filter_map (block_at s) (filter_map delivered_number (one ∷ [])))
   unfolding awaited_height
@@ -293,11 +293,11 @@ module _ (s : Setting) (today : IsTodays s) (bytes : AllByRecursion (λ line. If
 
   has_block : (number : ℕ) (line : BlockLine) → slice_get s.script.blocks number ≡ Some line → HasBlock number line
   has_block number line line_is =
-      let made = made_at s.script number (λ height. Unit {0}) (subst (λ (o : Option BlockLine). IsSomeAnd o (λ l. Unit {0})) (sym line_is) tt) in
+      let found = made_at s.script number (λ height. Unit {0}) (subst (λ (o : Option BlockLine). IsSomeAnd o (λ l. Unit {0})) (sym line_is) tt) in
       let there : block_at s number ≡ Some (block_of s (take number (blocks s)) line) = of_line s number line line_is in
-      let known : IsSomeAnd (block_at s number) (λ b. IsOf b made.block) = subst (λ (o : Option (made.Block directory.Unit)). IfSome o (λ its. IsSomeAnd (block_at s number) (λ b. IsOf b its))) made.is
+      let known : IsSomeAnd (block_at s number) (λ b. IsOf b found.block) = subst (λ (o : Option (made.Block directory.Unit)). IfSome o (λ its. IsSomeAnd (block_at s number) (λ b. IsOf b its))) found.is
       (each_is s today.built.form.blocks bytes number) in
-      record { its = made.block; is = made.is; there = there; same = subst (λ (o : Option Block). IsSomeAnd o (λ b. IsOf b made.block)) there known }
+      record { its = found.block; is = found.is; there = there; same = subst (λ (o : Option Block). IsSomeAnd o (λ b. IsOf b found.block)) there known }
 
   -- AN OPENING stands at its anchor
   abbrev Starts : Option Anchor → Option Tip → Type 0
@@ -404,7 +404,7 @@ module _ (s : Setting) (today : IsTodays s) (bytes : AllByRecursion (λ line. If
               → CameTo (λ stop. (own : Fault) × (stop ≡ Faulted own) × ((h : Held) × IsOpeningFault (at_step g 0) ((at_step g 0).seen h) own)) (λ st. (h : Held) × IsNodeOpened (at_step g 0) ((at_step g 0).seen h) st) ended
               → Came (Stands 0) ended
           by_end (went end) (h, opened) = opened_stands h end opened
-          by_end (stopped stop) (own, is, h, why) = (own, is, opening_blames (at_step g 0) ((at_step g 0).seen h) own why)
+          by_end (stopped stop) (own, is, why) = (own, is, opening_blames (at_step g 0) ((at_step g 0).seen why.0) own why.1)
           by_end (broken cause) came = tt
 
       -- A STEP
@@ -507,17 +507,20 @@ module _ (s : Setting) (today : IsTodays s) (bytes : AllByRecursion (λ line. If
       takes_blame : (own : Fault) (i : ℕ) (events : List Event) (st : Live directory.Unit) (t new : Trace) → events ≡ drop i life.events → IsBefore life.cut (i + 1) → Stands i st
           → TakesAll by_lines g (i + 1) events st t (Err (FaultOf own)) new → Blames own
       takes_blame own i [] st t new rest before stands takes = absurd (ok_err takes.0)
-      takes_blame own i (e ∷ events) st t new rest before stands takes = by_fuse (fuse_for life.cut (i + 1)) refl takes
+      takes_blame own i (e ∷ events) st t new rest before stands takes =
+          by_fuse (λ end mid before next so. takes_blame own (i + 1) events end mid new (subst (λ (k : ℕ). events ≡ drop k life.events) (sym (add-one i)) (rest_at life.events i e events rest)) before next so)
+          (fuse_for life.cut (i + 1)) refl takes
         where
-          by_fuse : (fuse : Option Burn) → fuse_for life.cut (i + 1) ≡ fuse
+          by_fuse : ((end : Live directory.Unit) (mid : Trace) → IsBefore life.cut (i + 1 + 1) → Stands (i + 1) end → TakesAll by_lines g (i + 1 + 1) events end mid (Err (FaultOf own)) new → Blames own)
+              → (fuse : Option Burn) → fuse_for life.cut (i + 1) ≡ fuse
               → Steps by_lines (entry.Step (i + 1)) fuse (step_of g (i + 1) e st) t (Err (FaultOf own)) new (λ end mid. TakesAll by_lines g (i + 1 + 1) events end mid (Err (FaultOf own)) new) → Blames own
-          by_fuse None lit steps = absurd (fault_cut steps.0)
-          by_fuse (Some f) lit steps =
+          by_fuse on None lit steps = absurd (fault_cut steps.0)
+          by_fuse on (Some f) lit steps =
               let reached : IsReached life.cut (i + 1) = reached_by life.cut (i + 1) before (lit_begins life.cut (i + 1) f lit) in
               let one_is : slice_get life.events i ≡ Some e = item_at life.events i e events rest in
               step_tells Blames outside_blames (step_of g (i + 1) e st) own (Stands (i + 1)) (step_comes i e one_is (subst (IsReached life.cut) (add-one i) reached) st stands)
               (entry.Step (i + 1)) (Some f) t new (λ end mid. TakesAll by_lines g (i + 1 + 1) events end mid (Err (FaultOf own)) new)
-              (λ end mid next so. takes_blame own (i + 1) events end mid new (subst (λ (k : ℕ). events ≡ drop k life.events) (sym (add-one i)) (rest_at life.events i e events rest)) (reached_next life.cut (i + 1) reached) next so) steps
+              (λ end mid next so. on end mid (reached_next life.cut (i + 1) reached) next so) steps
 
       before_all : (its : Option Cut) → IsBefore its 0
       before_all None = tt
@@ -551,8 +554,8 @@ module _ (script : Script) (files : Files) (held : Secrets) (image : Files → T
 
   all_skip : (its : Fault) (first : Files → Type 0) (t new : Trace) → RunsAllSo by_lines script first t (Err its) new → BlamesOnlySkips s image its
   all_skip its first t new runs built honest = all_tell script built.form its (λ own. IsRefusal own → SkipsSomewhere s own) (λ refusal. absurd refusal)
-      (λ l life seen files here own t mid so refusal.
-      record { number = l; life = life; life_is = here.life_is; skips = life_blames s (todays script files held image built honest) bytes l life here.life_is seen files here own t mid so refusal }) first t new runs
+      (λ l life seen own_files here own t mid so refusal.
+      record { number = l; life = life; life_is = here.life_is; skips = life_blames s (todays script files held image built honest) bytes l life here.life_is seen own_files here own t mid so refusal }) first t new runs
 
   -- THE CLAUSE of skips
   pub run_skips : (first : Files → Type 0) (t new : Trace) (answered : Result (Unit {0}) Fault) → RunsSo by_lines script first t answered new → IfErr answered (BlamesOnlySkips s image)
