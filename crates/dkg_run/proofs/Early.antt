@@ -1,5 +1,5 @@
 -- Heights of today's form lie in the first epoch, below its midpoint.
-use Rattle.std.proofs.Common.{◌≡◌, ◌+◌, ◌*◌, ◌<◌, ◌≤◌, ◌^◌, ◌==◌, ℕ, zero, suc, Bool, true, false, List, [], ◌∷◌, Option, Some, None, refl, sym, ◌∙◌, ap, subst, arith}
+use Rattle.std.proofs.Common.{◌≡◌, ◌++◌, take, ◌+◌, ◌*◌, ◌<◌, ◌≤◌, ◌^◌, ◌==◌, ℕ, zero, suc, Bool, true, false, List, [], ◌∷◌, Option, Some, None, refl, sym, ◌∙◌, ap, subst, arith}
 use Rattle.std.specs.Prelude.{◌/◌, ◌-◌, ◌==◌, IfSome, IsSomeAnd, find, nat_le, nat_lt, option_map, slice_get, if◌then◌else◌}
 use Rattle.std.specs.Int.NonZero.{non_zero_u64_get}
 use Rattle.std.specs.Option.{option_map_or}
@@ -15,9 +15,9 @@ use Rattle.dkg_text.specs.declared.script.Life.{Life}
 use Rattle.dkg_script.specs.Form.{IsAnchorOfToday, midpoint_of}
 use Rattle.dkg_core.specs.Laws.{start_of}
 use Rattle.dkg_core.specs.Setup.{is_past_range}
-use Rattle.dkg_core.specs.Sources.{Anchor, Tip, position, position_of}
+use Rattle.dkg_core.specs.Sources.{Anchor, Tip, anchored, position, position_of}
 use Rattle.dkg_core.specs.Today.{first_block, first_epoch}
-use Rattle.dkg_run.specs.Given.{IsLifeHere, Lived, anchor_at, anchor_in, at_step, blocks_in}
+use Rattle.dkg_run.specs.Given.{IsLifeHere, Lived, anchor_at, anchor_in, at_step, blocks_in, delivered_by, numbered}
 use Rattle.dkg_run.proofs.Today.{IsMade, life_form, made_at}
 
 -- OVER NUMBERS
