@@ -1,5 +1,5 @@
 -- Heights of today's form lie in the first epoch, below its midpoint.
-use Rattle.std.proofs.Common.{◌≡◌, ◌+◌, ◌*◌, ◌<◌, ◌≤◌, ◌^◌, ◌==◌, ℕ, zero, suc, Bool, true, false, List, [], ◌∷◌, Option, Some, None, refl, sym, ◌∙◌, ap, subst, arith}
+use Rattle.std.proofs.Common.{◌≡◌, ◌++◌, take, ◌+◌, ◌*◌, ◌<◌, ◌≤◌, ◌^◌, ◌==◌, ℕ, zero, suc, Bool, true, false, List, [], ◌∷◌, Option, Some, None, refl, sym, ◌∙◌, ap, subst, arith}
 use Rattle.std.specs.Prelude.{◌/◌, ◌-◌, ◌==◌, IfSome, IsSomeAnd, find, nat_le, nat_lt, option_map, slice_get, if◌then◌else◌}
 use Rattle.std.specs.Int.NonZero.{non_zero_u64_get}
 use Rattle.std.specs.Option.{option_map_or}
@@ -15,9 +15,9 @@ use Rattle.dkg_text.specs.declared.script.Life.{Life}
 use Rattle.dkg_script.specs.Form.{IsAnchorOfToday, midpoint_of}
 use Rattle.dkg_core.specs.Laws.{start_of}
 use Rattle.dkg_core.specs.Setup.{is_past_range}
-use Rattle.dkg_core.specs.Sources.{Anchor, Tip, position, position_of}
+use Rattle.dkg_core.specs.Sources.{Anchor, Tip, anchored, position, position_of}
 use Rattle.dkg_core.specs.Today.{first_block, first_epoch}
-use Rattle.dkg_run.specs.Given.{IsLifeHere, Lived, anchor_at, anchor_in, at_step, blocks_in}
+use Rattle.dkg_run.specs.Given.{IsLifeHere, Lived, anchor_at, anchor_in, at_step, blocks_in, delivered_by, numbered}
 use Rattle.dkg_run.proofs.Today.{IsMade, life_form, made_at}
 
 -- OVER NUMBERS
@@ -45,6 +45,22 @@ in_range_of n height long short low = rw (first_of n height long low) (beyond (2
 start_in : (middle : ℕ) (at : Option (Anchor directory.Unit)) → 0 < middle → IfSome (position at) (λ t. t.height + 1 < middle) → option_map_or (λ t. t.height + 1) (position at) 0 < middle
 start_in middle None some low = some
 start_in middle (Some a) some low = low
+
+-- what is found at a height stands there
+found_at : (blocks : List (Block directory.Unit)) (b : Block directory.Unit) (height : ℕ) → find (λ (its : Block directory.Unit). its.height == height) blocks ≡ Some b → b.height ≡ height
+found_at [] b height is = absurd (let wrong : ◌≡◌ {A = Option (Block directory.Unit)} None (Some b) = is in cc)
+found_at (x ∷ blocks) b height is = by_test (x.height == height) refl is (found_at blocks b height)
+  where
+    the_block : {x y : Block directory.Unit} → Some x ≡ Some y → x ≡ y
+    the_block e = cc
+
+    same : (n m : ℕ) → (n == m) ≡ true → n ≡ m
+    same n m e = grind (arith, nat_tests)
+
+    by_test : (t : Bool) → (x.height == height) ≡ t → (if t then Some x else find (λ (its : Block directory.Unit). its.height == height) blocks) ≡ Some b
+        → (find (λ (its : Block directory.Unit). its.height == height) blocks ≡ Some b → b.height ≡ height) → b.height ≡ height
+    by_test true e is rest = subst (λ (its : Block directory.Unit). its.height ≡ height) (the_block is) (same x.height height e)
+    by_test false e is rest = rest is
 
 module _ (g : Lived) (here : IsLifeHere g) where
   abbrev per_epoch : ℕ
@@ -85,18 +101,4 @@ module _ (g : Lived) (here : IsLifeHere g) where
   -- its boundary block stands at height 0
   pub boundary_low : (taken : ℕ) (b : Block directory.Unit) → first_block (at_step g taken) ≡ Some b → b.height ≡ 0
   unfolding at_step
-  boundary_low taken b is = found_at _ b 0 (ap (λ (e : ℕ). (at_step g taken).source.block (boundary per_epoch e)) (sym (starts_first taken)) ∙ is)
-    where
-      found_at : (blocks : List (Block directory.Unit)) (b : Block directory.Unit) (height : ℕ) → find (λ (its : Block directory.Unit). its.height == height) blocks ≡ Some b → b.height ≡ height
-      found_at [] b height is = absurd (let wrong : ◌≡◌ {A = Option (Block directory.Unit)} None (Some b) = is in cc)
-      found_at (x ∷ blocks) b height is = by_test (x.height == height) refl is
-        where
-          the_block : {x y : Block directory.Unit} → Some x ≡ Some y → x ≡ y
-          the_block e = cc
-
-          same : (n m : ℕ) → (n == m) ≡ true → n ≡ m
-          same n m e = grind (arith, nat_tests)
-
-          by_test : (t : Bool) → (x.height == height) ≡ t → (if t then Some x else find (λ (its : Block directory.Unit). its.height == height) blocks) ≡ Some b → b.height ≡ height
-          by_test true e is = subst (λ (its : Block directory.Unit). its.height ≡ height) (the_block is) (same x.height height e)
-          by_test false e is = found_at blocks b height is
+  boundary_low taken b is = found_at (numbered (blocks_in g.script) g.life.held ++ (anchored (anchor_in (blocks_in g.script) g.life.anchor) ++ delivered_by (blocks_in g.script) (take taken g.life.events))) b 0 (ap (λ (e : ℕ). (at_step g taken).source.block (boundary per_epoch e)) (sym (starts_first taken)) ∙ is)

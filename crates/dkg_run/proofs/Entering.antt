@@ -4,7 +4,8 @@ use Rattle.std.specs.Prelude.{◌==◌, ◌<◌, nat_lt, IsSome, IsSomeAnd, is_s
 use Rattle.std.specs.Option.{option_map_or}
 use Rattle.std.specs.Result.{result_ok}
 use Rattle.std.proofs.lemmas.Bool.Decides.{nat_tests}
-use Rattle.dkg_ceremony.specs.Schedule.{last}
+use Rattle.dkg_ceremony.specs.Schedule.{boundary, first, last}
+use Rattle.dkg_ceremony.specs.declared.epocher.Bounds.{Bounds}
 use Rattle.dkg_fence.specs.Fence.{waited}
 use Rattle.dkg_fence.specs.Readiness.{Readiness}
 use Rattle.dkg_fence.specs.declared.fence.Waited.{Waited}
@@ -35,10 +36,11 @@ use Rattle.dkg_core.specs.Live.{Live, NodeStop, Faulted, Orchestrator, Waiting, 
 use Rattle.dkg_core.specs.Node.{kept_material}
 use Rattle.dkg_core.specs.Plans.{material_at}
 use Rattle.dkg_core.specs.Setup.{is_past_range}
+use Rattle.dkg_core.specs.Sources.{Source}
 use Rattle.dkg_core.specs.Today.{first_block, first_epoch}
 use Rattle.dkg_reshare.specs.Made.{Speaks}
-use Rattle.dkg_run.specs.Halves.{beginning_of}
-use Rattle.dkg_run.specs.Nodes.{IsFenceReady}
+use Rattle.dkg_run.specs.Halves.{AreStart, beginning_of}
+use Rattle.dkg_run.specs.Nodes.{IsFenceReady, IsHalfGiven}
 
 -- A COURSE THAT TOUCHES NO DEVICE
 
@@ -53,8 +55,8 @@ asked f (broken cause) w new runs = runs
 pub speaks_nothing : {S : Type 0} (course : NodeCourse S) (out : List Line) → Speaks course (broken by_want) out out
 speaks_nothing course out = λ h f. breaks_none by_want tt (on_devices course) (record { out = out; held = h; fuse = f })
 
-speaks_stop : {S : Type 0} (stop : NodeStop) (out : List Line) → Speaks {Dir = directory.Unit} {F = NodeStop} {S = S} (Stops stop) (stopped stop) out out
-speaks_stop stop out = λ h f. (refl, refl)
+speaks_stop : (S : Type 0) (stop : NodeStop) (out : List Line) → Speaks {Dir = directory.Unit} {F = NodeStop} {S = S} (Stops stop) (stopped stop) out out
+speaks_stop S stop out = λ h f. (refl, refl)
 
 speaks_line : {S : Type 0} (line : Line) (end its : S) (out : List Line) → its ≡ end → Speaks {Dir = directory.Unit} {F = NodeStop} (Say line (Goes end)) (went its) out (out ++ line ∷ [])
 speaks_line line end its out is = λ h f. (refl, is)
@@ -92,6 +94,15 @@ ready_where_carried c fence b epoch of at begins ready = subst (λ (n : ℕ). is
         the_block : {x y : Block directory.Unit} → Some x ≡ Some y → x ≡ y
         the_block e = cc
 
+-- .. where the bounds, the boundary block and its info were found so
+pub ready_at : (c : Fixed directory.Unit) (fence : Readiness) (b : Block directory.Unit) (blocks : ℕ) (source : Source directory.Unit) (bounds : Bounds) (height : ℕ) → IsHalfGiven blocks source c → AreStart c bounds
+    → ((n : ℕ) → bounds.first ≡ first n bounds.epoch → height ≡ boundary n bounds.epoch) → Some b ≡ source.block height → beginning_of b bounds.epoch ≡ Ok tt → IsFenceReady c fence → is_ready fence.ready bounds.epoch ≡ true
+ready_at c fence b blocks source bounds height given start boundary_is there begins ready = ready_where_carried c fence b bounds.epoch start.epoch_is here begins ready
+  where
+    here : first_block c ≡ Some b
+    here = ap (λ (s : Source directory.Unit). s.block (boundary c.blocks_per_epoch (first_epoch c))) given.lent
+        ∙ ap source.block (sym (boundary_is c.blocks_per_epoch start.first_is ∙ ap (boundary c.blocks_per_epoch) start.epoch_is)) ∙ sym there
+
 module _ (c : Fixed directory.Unit) (st : Live directory.Unit) (unplanned : (h : Held) → (c.seen h).plan ≡ None) where
   abbrev its_live : Half directory.Unit → NodeCourse (Live directory.Unit)
   its_live half = Goes half.live
@@ -113,7 +124,7 @@ module _ (c : Fixed directory.Unit) (st : Live directory.Unit) (unplanned : (h :
   within_as within = ap (λ (b : Bool). if b then Stops (Faulted HeightRange) else half.opens_at c (first_epoch c) (first_block c) st) within
 
   pub past_speaks : is_past_range c (start_of c) ≡ true → (out : List Line) → Speaks (kept_material c st) (stopped (Faulted HeightRange)) out out
-  past_speaks past out = speaks_as (Stops (Faulted HeightRange)) (past_as past) (stopped (Faulted HeightRange)) out out (speaks_stop (Faulted HeightRange) out)
+  past_speaks past out = speaks_as (Stops (Faulted HeightRange)) (past_as past) (stopped (Faulted HeightRange)) out out (speaks_stop (Live directory.Unit) (Faulted HeightRange) out)
 
   module _ (within : is_past_range c (start_of c) ≡ false) where
     -- the boundary block isn't held
@@ -154,7 +165,7 @@ module _ (c : Fixed directory.Unit) (st : Live directory.Unit) (unplanned : (h :
 
       pub refused_speaks : (fault : Fault) → beginning_of b (first_epoch c) ≡ Err fault → (out : List Line) → Speaks (kept_material c st) (stopped (Faulted fault)) out out
       refused_speaks fault is out =
-          speaks_as (Stops (Faulted fault)) (begins_as ∙ refused_as (info_of b.payload) fault is) (stopped (Faulted fault)) out out (speaks_stop (Faulted fault) out)
+          speaks_as (Stops (Faulted fault)) (begins_as ∙ refused_as (info_of b.payload) fault is) (stopped (Faulted fault)) out out (speaks_stop (Live directory.Unit) (Faulted fault) out)
 
       -- it does: the info
       pub record Carries : Type 0 where
@@ -214,7 +225,7 @@ module _ (c : Fixed directory.Unit) (st : Live directory.Unit) (unplanned : (h :
             stops (Some epoch) none = absurd (let wrong : Some epoch ≡ None = none in cc)
 
             starts : (found : Option SchemeInfo) → IsSome found → Speaks (bind (half.starts_engine passed waiting found st) its_live) (went live) out (out ++ lines.Entered (first_epoch c) ∷ [])
-            starts None some = absurd some
+            starts None some = absurd (let wrong : false ≡ true = some in cc)
             starts (Some scheme) some = stops st.orchestrator.entered unentered
 
             tracks : (lacking : Option ℕ) → lacking ≡ None → Speaks (bind (half.tracks_peers passed waiting lacking st) its_live) (went live) out (out ++ lines.Entered (first_epoch c) ∷ [])

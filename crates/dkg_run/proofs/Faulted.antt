@@ -69,9 +69,9 @@ module _ (P : Fault → Type 0) (outside : (its : Fault) → IsOutside its → P
     pub step_tells : ((ended : Ended NodeStop (Live directory.Unit)) (old new : List Entry) → Said (on_devices course) ended old new → Comes Next ended)
         → (line : Entry) (fuse : Option Burn) (t new : Trace) (next : Live directory.Unit → Trace → Type 0) → ((end : Live directory.Unit) (mid : Trace) → Next end → next end mid → P its)
         → Steps by_lines line fuse course t (Err (FaultOf its)) new next → P its
-    step_tells comes line None t new next then steps = absurd (fault_cut steps.0)
-    step_tells comes line (Some f) t new next then (inl wants) = wanted its wants.0
-    step_tells comes line (Some f) t new next then (inr (inl (stop, is, goes))) = by_kind (own_or_outside its)
+    step_tells comes line None t new next after steps = absurd (fault_cut steps.0)
+    step_tells comes line (Some f) t new next after (inl wants) = wanted its wants.0
+    step_tells comes line (Some f) t new next after (inr (inl (stop, is, goes))) = by_kind (own_or_outside its)
       where
         said : Said (on_devices course) (by_node_stop (FaultOf its)) t.out new.out
         said = subst (λ (s : Stop). Said (on_devices course) (by_node_stop s) t.out new.out) (sym (same_stop is)) goes.0
@@ -81,8 +81,8 @@ module _ (P : Fault → Type 0) (outside : (its : Fault) → IsOutside its → P
         by_kind (inr own) =
             let came = comes (stopped (Faulted its)) t.out new.out (subst (λ (e : Ended NodeStop (Live directory.Unit)). Said (on_devices course) e t.out new.out) own said) in
             subst P (sym (own_fault came.1)) came.2
-    step_tells comes line (Some f) t new next then (inr (inr (end, mid, goes, inl wants))) = wanted its wants.0
-    step_tells comes line (Some f) t new next then (inr (inr (end, mid, goes, inr so))) = then end (by_lines.says mid line) (comes (went end) t.out mid.out goes.0) so
+    step_tells comes line (Some f) t new next after (inr (inr (end, mid, goes, inl wants))) = wanted its wants.0
+    step_tells comes line (Some f) t new next after (inr (inr (end, mid, goes, inr so))) = after end (by_lines.says mid line) (comes (went end) t.out mid.out goes.0) so
 
   -- A LIFE
   module _ (g : Lived) (here : IsLifeHere g) where
@@ -123,7 +123,7 @@ module _ (P : Fault → Type 0) (outside : (its : Fault) → IsOutside its → P
                 → CameTo (λ stop. (own : Fault) × (stop ≡ Faulted own) × ((h : Held) × IsOpeningFault (at_step g 0) ((at_step g 0).seen h) own)) (λ st. (h : Held) × IsNodeOpened (at_step g 0) ((at_step g 0).seen h) st) ended
                 → Comes (GoesOn 0) ended
             by_end (went end) (h, opened) = (opened_live (at_step g 0) ((at_step g 0).seen h) end opened, opened_unawaited (at_step g 0) ((at_step g 0).seen h) end opened)
-            by_end (stopped stop) (own, is, h, why) = (own, is, opening ((at_step g 0).seen h) own why)
+            by_end (stopped stop) (own, is, why) = (own, is, opening ((at_step g 0).seen why.0) own why.1)
             by_end (broken cause) came = tt
 
         pub life_tells : (its : Fault) (files : Files) (t new : Trace) → LivesSo by_lines g files t (Err (FaultOf its)) new → P its
@@ -144,36 +144,39 @@ tellable_life g here its files t new so = life_tells IsTellable outside_tellable
 pub reads_neither : (seen : Held → Seen) → ReadsSomething seen → ReadsNeither seen
 reads_neither seen reads = subst ReadsNeither (sym reads.each) (record { shareless = λ h. reads.shareless; unplanned = λ h. reads.unplanned })
 
-module _ (script : Script) (form : IsFormOfToday script) (its : Fault) where
+-- what holds of each fault that may end a life, and of want of memory, holds of the fault that ends them all
+module _ (script : Script) (form : IsFormOfToday script) (its : Fault) (P : Fault → Type 0) (memory : P fault.NoMemory)
+    (each : (l : ℕ) (life : Life) (seen : Held → Seen) (files : Files) → IsLifeHere (lived script l life seen files) → (own : Fault) (t mid : Trace) → LivesSo by_lines (lived script l life seen files) files t (Err (FaultOf own)) mid → P own) where
   same_answer : {x y : Fault} → ◌≡◌ {A = Result (Unit {0}) Fault} (Err x) (Err y) → x ≡ y
   same_answer e = cc
 
-  pub from_tells : (first : Files → Type 0) (l : ℕ) (lives : List Life) (t new : Trace) → lives ≡ drop l script.lives → LivesFrom by_lines script first l lives t (Err its) new → IsTellable its
+  pub from_tells : (first : Files → Type 0) (l : ℕ) (lives : List Life) (t new : Trace) → lives ≡ drop l script.lives → LivesFrom by_lines script first l lives t (Err its) new → P its
   from_tells first l [] t new rest lives = absurd (let wrong : ◌≡◌ {A = Result (Unit {0}) Fault} (Err its) (Ok tt) = lives.0 in cc)
-  from_tells first l (life ∷ lives) t new rest (seen, files, how, mid, reads, known, begins, so, ends) = by_end how so ends
+  from_tells first l (life ∷ lives) t new rest (seen, files, how, mid, reads, known, begins, so, ends) =
+      by_end (λ t more. from_tells AnyFiles (l + 1) lives t new (subst (λ (k : ℕ). lives ≡ drop k script.lives) (sym (add-one l)) (rest_at script.lives l life lives rest)) more) how so ends
     where
       here : IsLifeHere (lived script l life seen files)
       here = record { form = form; life_is = item_at script.lives l life lives rest; reads = reads_neither seen reads }
 
-      on : (t : Trace) → LivesFrom by_lines script AnyFiles (l + 1) lives t (Err its) new → IsTellable its
-      on t rest_lives = from_tells AnyFiles (l + 1) lives t new (subst (λ (k : ℕ). lives ≡ drop k script.lives) (sym (add-one l)) (rest_at script.lives l life lives rest)) rest_lives
+      On : Type 0
+      On = (t : Trace) → LivesFrom by_lines script AnyFiles (l + 1) lives t (Err its) new → P its
 
-      by_cut : (o : Option cut.Cut)
+      by_cut : On → (o : Option cut.Cut)
           → IsSomeAnd o (λ c. ((◌≡◌ {A = Result (Unit {0}) Fault} (Err its) (Err fault.NoMemory)) × (new ≡ by_lines.stops mid c.pick)) ⊎ LivesFrom by_lines script AnyFiles (l + 1) lives (by_lines.says (by_lines.stops mid c.pick) (entry.Cut c.step c.call)) (Err its) new)
-          → IsTellable its
-      by_cut None ends = absurd ends
-      by_cut (Some c) (inl wants) = inl (same_answer wants.0)
-      by_cut (Some c) (inr next) = on (by_lines.says (by_lines.stops mid c.pick) (entry.Cut c.step c.call)) next
+          → P its
+      by_cut on None ends = absurd ends
+      by_cut on (Some c) (inl wants) = subst P (sym (same_answer wants.0)) memory
+      by_cut on (Some c) (inr next) = on (by_lines.says (by_lines.stops mid c.pick) (entry.Cut c.step c.call)) next
 
-      by_end : (how : Result (Unit {0}) Stop) → LivesSo by_lines (lived script l life seen files) files t how mid
-          → EndsLife by_lines life how mid (Err its) new (λ mid. LivesFrom by_lines script AnyFiles (l + 1) lives mid (Err its) new) → IsTellable its
-      by_end (Ok done) so ends = on (by_lines.stops mid life.pick) ends
-      by_end (Err Cut) so ends = by_cut life.cut ends
-      by_end (Err (FaultOf own)) so ends = subst IsTellable (sym (same_answer ends.0)) (tellable_life (lived script l life seen files) here own files t mid so)
-      by_end (Err Failed) so ends = absurd ends
+      by_end : On → (how : Result (Unit {0}) Stop) → LivesSo by_lines (lived script l life seen files) files t how mid
+          → EndsLife by_lines life how mid (Err its) new (λ mid. LivesFrom by_lines script AnyFiles (l + 1) lives mid (Err its) new) → P its
+      by_end on (Ok done) so ends = on (by_lines.stops mid life.pick) ends
+      by_end on (Err Cut) so ends = by_cut on life.cut ends
+      by_end on (Err (FaultOf own)) so ends = subst P (sym (same_answer ends.0)) (each l life seen files here own t mid so)
+      by_end on (Err Failed) so ends = absurd ends
 
-  pub all_tell : (first : Files → Type 0) (t new : Trace) → RunsAllSo by_lines script first t (Err its) new → IsTellable its
-  all_tell first t new (inl wants) = inl (same_answer wants.0)
+  pub all_tell : (first : Files → Type 0) (t new : Trace) → RunsAllSo by_lines script first t (Err its) new → P its
+  all_tell first t new (inl wants) = subst P (sym (same_answer wants.0)) memory
   all_tell first t new (inr lives) = from_tells first 0 script.lives t new refl lives
 
 -- THE CLAUSE of ends
@@ -196,7 +199,7 @@ run_ends script form first t new answered disk_rose secrets_rose causes run =
   where
     tellable : (result : Result (Unit {0}) Fault) → RunsAllSo by_lines script first t result run.mid → IfErr result IsTellable
     tellable (Ok done) lives = tt
-    tellable (Err its) lives = all_tell script form its first t run.mid lives
+    tellable (Err its) lives = all_tell script form its IsTellable (inl refl) (λ l life seen files here own t mid so. tellable_life (lived script l life seen files) here own files t mid so) first t run.mid lives
 
     not_ok : (its : Fault) → TellsEnd by_lines (Err its) (Ok tt) run.mid new → ⊥
     not_ok its (inl wants) = let wrong : ◌≡◌ {A = Result (Unit {0}) Fault} (Ok tt) (Err fault.NoMemory) = wants.0 in cc

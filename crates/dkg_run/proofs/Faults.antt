@@ -164,11 +164,11 @@ module _ (g : Lived) (here : IsLifeHere g) (taken : ℕ) (b : Block directory.Un
 -- the same of a message
 pub refusal_tellable : (g : Lived) (here : IsLifeHere g) (taken : ℕ) (message : Message directory.Unit) (st : Live directory.Unit) (its : Fault) → IsTakenToday (at_step g taken) message
     → IsLiveToday (at_step g taken) st → refusal_of (at_step g taken) message st ≡ Some its → IsFaultOfToday its
+unfolding at_step
 refusal_tellable g here taken (Sent mail) st its today live is = absurd (let wrong : ◌≡◌ {A = Option Fault} None (Some its) = is in cc)
 refusal_tellable g here taken (Finalized b) st its today live is =
     over_tellable (at_step g taken) b st its st.tip (λ none. in_window g here taken b st low none live)
     (sym (ap (λ (t : Bool). if t then Some fault.HeightRange else refusal_over (at_step g taken) b st st.tip) (low_in_range g here taken b.height low)) ∙ is)
   where
     low : b.height < midpoint_of g.script
-    unfolding at_step
     low = subst (λ (n : ℕ). b.height < n) (sym (middle_is (non_zero_u64_get g.script.config.blocks_per_epoch))) today

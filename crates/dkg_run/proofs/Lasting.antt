@@ -10,21 +10,28 @@ use Rattle.dkg_types.specs.declared.fault.Fault.{Fault}
 use Rattle.dkg_types.specs.declared.fault.Fault.TheVariants.{NoMemory}
 use Rattle.dkg_text.specs.declared.script.Cut as cut
 use Rattle.dkg_text.specs.declared.script.Event.{Event}
+use Rattle.dkg_text.specs.declared.script.Life.{Life}
+use Rattle.dkg_text.specs.declared.script.Script.{Script}
+use Rattle.dkg_store.specs.Acts.{Held, at, moment}
 use Rattle.dkg_store.specs.Corrupt.{AreFit}
 use Rattle.dkg_store.specs.Secrets.{Secrets}
 use Rattle.dkg_store.specs.declared.devices.Devices.{Devices}
 use Rattle.dkg_core.specs.Courses.{Course}
 use Rattle.dkg_core.specs.Live.{Live, NodeStop}
 use Rattle.dkg_core.specs.Node.{node_opening}
+use Rattle.dkg_core.specs.Seen.{Seen}
+use Rattle.dkg_reshare.specs.Today.{seen_today}
 use Rattle.dkg_reshare.specs.declared.stop.Stop.{Stop}
 use Rattle.dkg_reshare.specs.declared.stop.Stop.TheVariants.{Cut, Failed, Fault as FaultOf}
 use Rattle.dkg_run.specs.Causes.{HasCause, IfFault, StopHasCause}
 use Rattle.dkg_run.specs.Ended.{by_node_stop}
 use Rattle.dkg_run.specs.Found.{Reader}
-use Rattle.dkg_run.specs.Given.{Lived, at_step, step_of}
-use Rattle.dkg_run.specs.Lives.{LivesSo, Steps, TakesAll, fuse_for, never}
+use Rattle.dkg_run.specs.Given.{Lived, at_step, lived, step_of}
+use Rattle.dkg_run.specs.Lives.{AnyFiles, EndsLife, LivesHere, LivesSo, Steps, TakesAll, fuse_for, never}
 use Rattle.dkg_run.specs.Passing.{ArePassing}
-use Rattle.dkg_run.specs.Ways.{Trace, by_lines}
+use Rattle.dkg_run.specs.Stopped.{picks_at_end}
+use Rattle.dkg_run.specs.Ways.{Trace, by_lines, by_worlds, trace}
+use Rattle.dkg_run.proofs.Running.{ends_over}
 
 -- OF FEWER IMAGES
 
@@ -48,7 +55,7 @@ module _ (its : Option cut.Cut) (step : ℕ) (line : Line) (course : Course dire
     where
       by_cut : (o : Option cut.Cut) → fuse_for o step ≡ None → IsSome o
       by_cut None wrong = absurd (let no : ◌≡◌ {A = Option Burn} (Some never) None = wrong in cc)
-      by_cut (Some c) wrong = tt
+      by_cut (Some c) wrong = refl
   step_scripted (Some f) is (inl wants) more = absurd (let wrong : ◌≡◌ {A = Result (Unit {0}) Stop} (Err Cut) (Err (FaultOf NoMemory)) = wants.0 in cc)
   step_scripted (Some f) is (inr (inl (stop, how, goes))) more = by_cut its is
     where
@@ -66,7 +73,7 @@ module _ (its : Option cut.Cut) (step : ℕ) (line : Line) (course : Course dire
 
           none_burns : (f : Burn) → never ≡ f → 0 < f.call → ⊥
           none_burns f e less = omega (arith, subst (λ (b : Burn). 0 < b.call) (sym e) less)
-      by_cut (Some c) same = tt
+      by_cut (Some c) same = refl
   step_scripted (Some f) is (inr (inr (end, mid, goes, inl wants))) more = absurd (let wrong : ◌≡◌ {A = Result (Unit {0}) Stop} (Err Cut) (Err (FaultOf NoMemory)) = wants.0 in cc)
   step_scripted (Some f) is (inr (inr (end, mid, goes, inr then))) more = more end (by_lines.says mid line) then
 
@@ -105,3 +112,21 @@ module _ {D X : Type 0} (mid new : Devices D X) (how : Result (Unit {0}) Stop) (
       by_cases : (how ≡ Err (FaultOf its)) ⊎ (its ≡ NoMemory) → F new its
       by_cases (inl fault) = subst (λ (d : Devices D X). F d its) (sym (same its fault)) (subst (λ (h : Result (Unit {0}) Stop). IfErr h (λ stop. T → U → IfFault stop (F mid))) fault found told known)
       by_cases (inr wants) = subst (F new) (sym wants) none
+
+-- A LIFE WITH ITS END, over the lines, and over worlds
+
+module _ (script : Script) (number : ℕ) (life : Life) (files : Files) (how : Result (Unit {0}) Stop) (result : Result (Unit {0}) Fault) (out mid new : List Line) where
+  pub life_lines : (seen : Held → Seen) → by_lines.reads seen → ((picks : List ℕ) → LivesSo by_lines (lived script number life seen files) files (trace out picks) how (trace mid picks))
+      → ((picks : List ℕ) → EndsLife by_lines life how (trace mid picks) result (trace new (picks ++ picks_at_end life how)) (λ now. (result ≡ Ok tt) × (now ≡ trace new (picks ++ picks_at_end life how))))
+      → (picks : List ℕ) → LivesHere by_lines script AnyFiles number life (trace out picks) result (trace new (picks ++ picks_at_end life how)) (λ now. (result ≡ Ok tt) × (now ≡ trace new (picks ++ picks_at_end life how)))
+  life_lines seen reads so ends picks = (seen, files, how, trace mid picks, reads, tt, tt, so picks, ends picks)
+
+  pub life_over : (c : Files) (held held_mid held_new : Secrets) (f f_mid f_new : Burn) → held_new ≡ held_mid → f_new ≡ f_mid
+      → LivesSo by_worlds (lived script number life seen_today files) files (at (moment out held f) files) how (at (moment mid held_mid f_mid) c)
+      → EndsLife by_lines life how (trace mid []) result (trace new (picks_at_end life how)) (λ now. (result ≡ Ok tt) × (now ≡ trace new (picks_at_end life how)))
+      → LivesHere by_worlds script (λ its. its ≡ files) number life (at (moment out held f) files) result (at (moment new held_new f_new) c) (λ w. (result ≡ Ok tt) × (w ≡ at (moment new held_new f_new) c))
+  life_over c held held_mid held_new f f_mid f_new same_held same_fuse so ends = (seen_today, files, how, at (moment mid held_mid f_mid) c, refl, refl, refl, so,
+    ends_over life mid new [] (picks_at_end life how) (at (moment mid held_mid f_mid) c) (at (moment new held_new f_new) c) result same refl how ends)
+    where
+      same : at (moment new held_new f_new) c ≡ record (at (moment mid held_mid f_mid) c) { out = new }
+      same = ap (λ (s : Secrets). at (moment new s f_new) c) same_held ∙ ap (λ (f : Burn). at (moment new held_mid f) c) same_fuse

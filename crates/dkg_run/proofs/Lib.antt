@@ -1,4 +1,5 @@
 pub mod Asked
+pub mod BlockLines
 pub mod Completing
 pub mod Early
 pub mod Ended
@@ -22,17 +23,20 @@ pub mod Laws
 pub mod Living
 pub mod Meant
 pub mod Naming
+pub mod NodeOpens
 pub mod Noding
 pub mod Opening
 pub mod Ordered
 pub mod PeerForms
 pub mod Places
+pub mod Promising
 pub mod Recorded
 pub mod Reported
 pub mod Resting
 pub mod Running
 pub mod Runs
 pub mod Seating
+pub mod Skipping
 pub mod Sourced
 pub mod Standing
 pub mod Stepping

@@ -61,12 +61,16 @@ none_some e = cc
 some_same : {A : Type 0} {x y : A} → Some x ≡ Some y → x ≡ y
 some_same e = cc
 
+-- the fuse of the step that a cut names, by whether the cut is before it
+abbrev lit_by : Bool → cut.Cut → Option Burn
+lit_by u its = if u then None else Some (record { call = its.call; pick = its.pick; spent = 0 })
+
 -- no fuse is where the life is cut before the step
 pub unlit : (its : Option cut.Cut) (step : ℕ) → fuse_for its step ≡ None → IsCutBefore its step
 unlit None step none = absurd (none_some (sym none))
 unlit (Some its) step none = by_step (its.step == step) refl
   where
-    by_call : (u : Bool) → (its.call == 0) ≡ u → (if u then None else Some (record { call = its.call; pick = its.pick; spent = 0 })) ≡ None → its.call ≡ 0
+    by_call : (u : Bool) → (its.call == 0) ≡ u → lit_by u its ≡ None → its.call ≡ 0
     by_call true e is = same its.call 0 e
     by_call false e is = absurd (none_some (sym is))
 
@@ -77,7 +81,7 @@ unlit (Some its) step none = by_step (its.step == step) refl
 pub lit_begins : (its : Option cut.Cut) (step : ℕ) (f : Burn) → fuse_for its step ≡ Some f → IsCutBefore its step → ⊥
 lit_begins None step f lit before = before
 lit_begins (Some its) step f lit before =
-    none_some (ap (λ (b : Bool). if b then None else Some (record { call = its.call; pick = its.pick; spent = 0 })) (sym (equal its.call 0 before.1)) ∙ sym (fuse_at its step true (equal its.step step before.0)) ∙ lit)
+    none_some (ap (λ (b : Bool). lit_by b its) (sym (equal its.call 0 before.1)) ∙ sym (fuse_at its step true (equal its.step step before.0)) ∙ lit)
 
 -- a fuse that cuts a call is the script's
 pub lit_within : (its : Option cut.Cut) (step : ℕ) (f : Burn) → fuse_for its step ≡ Some f → 0 < f.call → IsCutWithin its step
@@ -89,7 +93,7 @@ lit_within (Some its) step f lit some = by_step (its.step == step) refl
   where
     by_step : (t : Bool) → (its.step == step) ≡ t → IsCutWithin (Some its) step
     by_step true e = (same its.step step e, λ zero_call. none_some
-        (ap (λ (b : Bool). if b then None else Some (record { call = its.call; pick = its.pick; spent = 0 })) (sym (equal its.call 0 zero_call)) ∙ sym (fuse_at its step true e) ∙ lit))
+        (ap (λ (b : Bool). lit_by b its) (sym (equal its.call 0 zero_call)) ∙ sym (fuse_at its step true e) ∙ lit))
     by_step false e = absurd (let none : 0 ≡ f.call = ap (λ (b : Burn). b.call) (some_same (sym (fuse_at its step false e) ∙ lit)) in omega arith)
 
 -- STEPS
@@ -108,21 +112,21 @@ module _ (life : Life) (l j : ℕ) (course : Course directory.Unit NodeStop (Liv
     pub steps_in_order : (fuse : Option Burn) → fuse_for life.cut j ≡ fuse → (t new : Trace) (how : Result (Unit {0}) Stop) (next : Live directory.Unit → Trace → Type 0)
         → ((end : Live directory.Unit) (mid : Trace) → next end mid → Moves IsInOrder (IsBehind life l j) (EndsIn life l how) mid.out new.out)
         → Steps by_lines (entry.Step j) fuse course t how new next → Moves IsInOrder (IsBefore life l j) (EndsIn life l how) t.out new.out
-    steps_in_order None none t new how next then its = subst (λ (r : Result (Unit {0}) Stop). Moves IsInOrder (IsBefore life l j) (EndsIn life l r) t.out new.out) (sym its.0)
+    steps_in_order None none t new how next after its = subst (λ (r : Result (Unit {0}) Stop). Moves IsInOrder (IsBefore life l j) (EndsIn life l r) t.out new.out) (sym its.0)
         (stops_before life l j Cut t.out new.out (ap (λ (x : Trace). x.out) its.1) (refl, unlit life.cut j none))
-    steps_in_order (Some f) lit t new how next then (inl wants) = subst (λ (r : Result (Unit {0}) Stop). Moves IsInOrder (IsBefore life l j) (EndsIn life l r) t.out new.out) (sym wants.0)
+    steps_in_order (Some f) lit t new how next after (inl wants) = subst (λ (r : Result (Unit {0}) Stop). Moves IsInOrder (IsBefore life l j) (EndsIn life l r) t.out new.out) (sym wants.0)
         (wanted (IsBefore life l j) t new wants.1)
-    steps_in_order (Some f) lit t new how next then (inr (inl (stop, is, goes))) = subst (λ (r : Result (Unit {0}) Stop). Moves IsInOrder (IsBefore life l j) (EndsIn life l r) t.out new.out) (sym is)
+    steps_in_order (Some f) lit t new how next after (inr (inl (stop, is, goes))) = subst (λ (r : Result (Unit {0}) Stop). Moves IsInOrder (IsBefore life l j) (EndsIn life l r) t.out new.out) (sym is)
         (quiet_stops life l j stop t.out new.out (lit_begins life.cut j f lit) (quiet _ t.out new.out goes.0) (cut_is stop goes.2))
       where
         cut_is : (stop : Stop) → (by_node_stop {S = Live directory.Unit} stop ≡ broken by_cut → 0 < f.call) → stop ≡ Cut → IsCutWithin life.cut j
         cut_is stop so is_cut = lit_within life.cut j f lit (so (ap (λ (x : Stop). by_node_stop {S = Live directory.Unit} x) is_cut))
-    steps_in_order (Some f) lit t new how next then (inr (inr (end, mid, goes, inl wants))) = subst (λ (r : Result (Unit {0}) Stop). Moves IsInOrder (IsBefore life l j) (EndsIn life l r) t.out new.out) (sym wants.0)
+    steps_in_order (Some f) lit t new how next after (inr (inr (end, mid, goes, inl wants))) = subst (λ (r : Result (Unit {0}) Stop). Moves IsInOrder (IsBefore life l j) (EndsIn life l r) t.out new.out) (sym wants.0)
         (moves_then IsInOrder (IsBefore life l j) (IsWithin life l j false) (MayTell NoMemory) t.out mid.out new.out
         (quiet_so_far life l j t.out mid.out (lit_begins life.cut j f lit) (quiet _ t.out mid.out goes.0)) (wanted (IsWithin life l j false) mid new wants.1))
-    steps_in_order (Some f) lit t new how next then (inr (inr (end, mid, goes, inr so))) =
+    steps_in_order (Some f) lit t new how next after (inr (inr (end, mid, goes, inr so))) =
         moves_then IsInOrder (IsBefore life l j) (IsBehind life l j) (EndsIn life l how) t.out (mid.out ++ entry.Step j ∷ []) new.out
-        (quiet_step life l j t.out mid.out (mid.out ++ entry.Step j ∷ []) later (lit_begins life.cut j f lit) (quiet _ t.out mid.out goes.0) refl) (then end (by_lines.says mid (entry.Step j)) so)
+        (quiet_step life l j t.out mid.out (mid.out ++ entry.Step j ∷ []) later (lit_begins life.cut j f lit) (quiet _ t.out mid.out goes.0) refl) (after end (by_lines.says mid (entry.Step j)) so)
 
 -- a step says quiet lines alone
 said_none : {S : Type 0} (st : S) (ended : Ended NodeStop S) (out now : List Entry) → Said (on_devices {Dir = directory.Unit} {F = NodeStop} (Goes st)) ended out now → AddsQuiet out now
@@ -187,7 +191,10 @@ opening_added l out now ended (entry.Opened its restored ∷ more, is, at) =
     inr (record { restored = restored; more = more; parts = subst (λ (n : ℕ). now ≡ out ++ entry.Opened n restored ∷ more) at.0 is; quiet = at.1 })
 opening_added l out now ended (other ∷ more, is, at) = absurd at
 
-went_opened : (l : ℕ) (out now : List Entry) (end : Live directory.Unit) → (added : List Entry) × (now ≡ out ++ added) × BeginsOpened l added (went {F = NodeStop} end) → AddsOpening l out now
+abbrev went_node : Live directory.Unit → Ended NodeStop (Live directory.Unit)
+went_node end = went end
+
+went_opened : (l : ℕ) (out now : List Entry) (end : Live directory.Unit) → (added : List Entry) × (now ≡ out ++ added) × BeginsOpened l added (went_node end) → AddsOpening l out now
 went_opened l out now end ([], is, at) = absurd at
 went_opened l out now end (entry.Opened its restored ∷ more, is, at) =
     record { restored = restored; more = more; parts = subst (λ (n : ℕ). now ≡ out ++ entry.Opened n restored ∷ more) at.0 is; quiet = at.1 }
@@ -207,23 +214,23 @@ module _ (g : Lived) where
   opening_in_order : (fuse : Option Burn) → fuse_for g.life.cut 0 ≡ fuse → (t new : Trace) (how : Result (Unit {0}) Stop) (next : Live directory.Unit → Trace → Type 0)
       → ((end : Live directory.Unit) (mid : Trace) → next end mid → Moves IsInOrder (IsBehind g.life g.number 0) (EndsIn g.life g.number how) mid.out new.out)
       → Steps by_lines (entry.Step 0) fuse (node_opening (at_step g 0)) t how new next → Moves IsInOrder (IsBefore g.life g.number 0) (EndsIn g.life g.number how) t.out new.out
-  opening_in_order None none t new how next then its = subst (λ (r : Result (Unit {0}) Stop). Moves IsInOrder (IsBefore g.life g.number 0) (EndsIn g.life g.number r) t.out new.out) (sym its.0)
+  opening_in_order None none t new how next after its = subst (λ (r : Result (Unit {0}) Stop). Moves IsInOrder (IsBefore g.life g.number 0) (EndsIn g.life g.number r) t.out new.out) (sym its.0)
       (stops_before g.life g.number 0 Cut t.out new.out (ap (λ (x : Trace). x.out) its.1) (refl, unlit g.life.cut 0 none))
-  opening_in_order (Some f) lit t new how next then (inl wants) = subst (λ (r : Result (Unit {0}) Stop). Moves IsInOrder (IsBefore g.life g.number 0) (EndsIn g.life g.number r) t.out new.out) (sym wants.0)
+  opening_in_order (Some f) lit t new how next after (inl wants) = subst (λ (r : Result (Unit {0}) Stop). Moves IsInOrder (IsBefore g.life g.number 0) (EndsIn g.life g.number r) t.out new.out) (sym wants.0)
       (wanted g.life g.number 0 (node_opening (at_step g 0)) (IsBefore g.life g.number 0) t new wants.1)
-  opening_in_order (Some f) lit t new how next then (inr (inl (stop, is, goes))) = subst (λ (r : Result (Unit {0}) Stop). Moves IsInOrder (IsBefore g.life g.number 0) (EndsIn g.life g.number r) t.out new.out) (sym is)
+  opening_in_order (Some f) lit t new how next after (inr (inl (stop, is, goes))) = subst (λ (r : Result (Unit {0}) Stop). Moves IsInOrder (IsBefore g.life g.number 0) (EndsIn g.life g.number r) t.out new.out) (sym is)
       (opening_stops g.life g.number stop t.out new.out (lit_begins g.life.cut 0 f lit) (opening_added g.number t.out new.out (by_node_stop stop) (opened_in (by_node_stop stop) t.out new.out goes.0)) (cut_is stop goes.2))
     where
       cut_is : (stop : Stop) → (by_node_stop {S = Live directory.Unit} stop ≡ broken by_cut → 0 < f.call) → stop ≡ Cut → IsCutWithin g.life.cut 0
       cut_is stop so is_cut = lit_within g.life.cut 0 f lit (so (ap (λ (x : Stop). by_node_stop {S = Live directory.Unit} x) is_cut))
-  opening_in_order (Some f) lit t new how next then (inr (inr (end, mid, goes, inl wants))) = subst (λ (r : Result (Unit {0}) Stop). Moves IsInOrder (IsBefore g.life g.number 0) (EndsIn g.life g.number r) t.out new.out) (sym wants.0)
+  opening_in_order (Some f) lit t new how next after (inr (inr (end, mid, goes, inl wants))) = subst (λ (r : Result (Unit {0}) Stop). Moves IsInOrder (IsBefore g.life g.number 0) (EndsIn g.life g.number r) t.out new.out) (sym wants.0)
       (moves_then IsInOrder (IsBefore g.life g.number 0) (IsWithin g.life g.number 0 true) (MayTell NoMemory) t.out mid.out new.out
       (opened_so_far g.life g.number t.out mid.out (lit_begins g.life.cut 0 f lit) (went_opened g.number t.out mid.out end (opened_in (went end) t.out mid.out goes.0)))
       (wanted g.life g.number 0 (node_opening (at_step g 0)) (IsWithin g.life g.number 0 true) mid new wants.1))
-  opening_in_order (Some f) lit t new how next then (inr (inr (end, mid, goes, inr so))) =
+  opening_in_order (Some f) lit t new how next after (inr (inr (end, mid, goes, inr so))) =
       moves_then IsInOrder (IsBefore g.life g.number 0) (IsBehind g.life g.number 0) (EndsIn g.life g.number how) t.out (mid.out ++ entry.Step 0 ∷ []) new.out
       (opening_step g.life g.number t.out mid.out (mid.out ++ entry.Step 0 ∷ []) (lit_begins g.life.cut 0 f lit) (went_opened g.number t.out mid.out end (opened_in (went end) t.out mid.out goes.0)) refl)
-      (then end (by_lines.says mid (entry.Step 0)) so)
+      (after end (by_lines.says mid (entry.Step 0)) so)
 
   -- A LIFE
   pub lives_in_order : (files : Files) (t new : Trace) (how : Result (Unit {0}) Stop) → LivesSo by_lines g files t how new → Moves IsInOrder (IsBefore g.life g.number 0) (EndsIn g.life g.number how) t.out new.out
@@ -244,14 +251,14 @@ module _ (script : Script) where
       → Moves IsInOrder (IsBefore life l 0) (EndsIn life l how) t.out mid.out
       → ((t : Trace) → next t → Moves IsInOrder (IsBetweenOf script (l + 1)) (RunEndsIn script result) t.out new.out)
       → EndsLife by_lines life how mid result new next → Moves IsInOrder (IsBetweenOf script l) (RunEndsIn script result) t.out new.out
-  life_in_order l life at (Ok done) t mid new result next moves then ends =
+  life_in_order l life at (Ok done) t mid new result next moves after ends =
       moves_then IsInOrder (IsBetweenOf script l) (IsBetweenOf script (l + 1)) (RunEndsIn script result) t.out mid.out new.out
-      (moves_life script life l t.out mid.out at moves) (then (by_lines.stops mid life.pick) ends)
-  life_in_order l life at (Err (FaultOf its)) t mid new result next moves then ends =
+      (moves_life script life l t.out mid.out at moves) (after (by_lines.stops mid life.pick) ends)
+  life_in_order l life at (Err (FaultOf its)) t mid new result next moves after ends =
       subst (λ (r : Result (Unit {0}) Fault). Moves IsInOrder (IsBetweenOf script l) (RunEndsIn script r) t.out new.out) (sym ends.0)
       (moves_in_life script life l (MayTell its) t.out new.out at (subst (λ (x : Trace). Moves IsInOrder (IsBefore life l 0) (MayTell its) t.out x.out) (sym ends.1) moves))
-  life_in_order l life at (Err Failed) t mid new result next moves then ends = absurd ends
-  life_in_order l life at (Err Cut) t mid new result next moves then ends = by_cut life.cut refl ends
+  life_in_order l life at (Err Failed) t mid new result next moves after ends = absurd ends
+  life_in_order l life at (Err Cut) t mid new result next moves after ends = by_cut life.cut refl ends
     where
       by_cut : (o : Option cut.Cut) → life.cut ≡ o
           → IsSomeAnd o (λ its. ((result ≡ Err NoMemory) × (new ≡ by_lines.stops mid its.pick)) ⊎ next (by_lines.says (by_lines.stops mid its.pick) (entry.Cut its.step its.call)))
@@ -264,7 +271,7 @@ module _ (script : Script) where
           (moves_life script life l t.out (mid.out ++ entry.Cut its.step its.call ∷ []) at
           (moves_then IsInOrder (IsBefore life l 0) (IsAtCut life l) (IsBetween (l + 1)) t.out mid.out (mid.out ++ entry.Cut its.step its.call ∷ []) moves
           (moves_cut life l its mid.out (mid.out ++ entry.Cut its.step its.call ∷ []) is refl)))
-          (then (by_lines.says (by_lines.stops mid its.pick) (entry.Cut its.step its.call)) so)
+          (after (by_lines.says (by_lines.stops mid its.pick) (entry.Cut its.step its.call)) so)
 
   pub from_in_order : (first : Files → Type 0) (l : ℕ) (lives : List Life) (t new : Trace) (result : Result (Unit {0}) Fault) → l ≤ length script.lives → lives ≡ drop l script.lives
       → LivesFrom by_lines script first l lives t result new → Moves IsInOrder (IsBetweenOf script l) (RunEndsIn script result) t.out new.out

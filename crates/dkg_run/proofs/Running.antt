@@ -11,10 +11,11 @@ use Rattle.dkg_types.specs.declared.fault.Fault.TheVariants.{NoMemory}
 use Rattle.dkg_text.specs.declared.script.Cut as cut
 use Rattle.dkg_text.specs.declared.script.Life.{Life}
 use Rattle.dkg_text.specs.declared.script.Script.{Script}
-use Rattle.dkg_store.specs.Acts.{World}
+use Rattle.dkg_store.specs.Acts.{World, at, moment}
+use Rattle.dkg_store.specs.Secrets.{Secrets}
 use Rattle.dkg_reshare.specs.declared.stop.Stop.{Stop}
 use Rattle.dkg_reshare.specs.declared.stop.Stop.TheVariants.{Cut, Failed, Fault as FaultOf}
-use Rattle.dkg_run.specs.Lives.{AnyFiles, EndsLife, LivesFrom, LivesHere}
+use Rattle.dkg_run.specs.Lives.{AnyFiles, EndsLife, LivesFrom, LivesHere, RunsAllSo, RunsSo, TellsEnd}
 use Rattle.dkg_run.specs.Stopped.{picks_at_end}
 use Rattle.dkg_run.specs.Ways.{Way, Trace, by_lines, by_worlds, trace}
 use Rattle.dkg_run.proofs.Stepping.{drop_item}
@@ -111,3 +112,18 @@ module _ {W : Type 0} (way : Way W) (script : Script) where
 
     pub lives_end : (i : ℕ) (known : Files → Type 0) (here : W) → length lives ≤ i → LivesOn i known here → LivesFrom way script first 0 lives w (Ok tt) here
     lives_end i known here all on = on (Ok tt) here (subst (λ (ls : List Life). LivesFrom way script known i ls here (Ok tt) here) (sym (drop_of_length-le lives all)) (refl, refl))
+
+-- THE RUN, with the line of its fault
+
+pub runs_well : {W : Type 0} (way : Way W) (script : Script) (first : Files → Type 0) (w new : W) → RunsAllSo way script first w (Ok tt) new → RunsSo way script first w (Ok tt) new
+runs_well way script first w new lives = record { result = Ok tt; mid = new; lives = lives; told = (refl, refl) }
+
+pub runs_faulted : {W : Type 0} (way : Way W) (script : Script) (first : Files → Type 0) (w mid new : W) (its answered : Fault) → RunsAllSo way script first w (Err its) mid → TellsEnd way (Err its) (Err answered) mid new
+    → RunsSo way script first w (Err answered) new
+runs_faulted way script first w mid new its answered lives told = record { result = Err its; mid = mid; lives = lives; told = told }
+
+-- a line that is added over lines is added over worlds
+pub tells_over : (its answered : Fault) (out now : List Entry) (picks : List ℕ) (held : Secrets) (f : Burn) (files : Files) → TellsEnd by_lines (Err its) (Err answered) (trace out picks) (trace now picks)
+    → TellsEnd by_worlds (Err its) (Err answered) (at (moment out held f) files) (at (moment now held f) files)
+tells_over its answered out now picks held f files (inl wants) = inl (wants.0, ap (λ (t : Trace). at (moment t.out held f) files) wants.1)
+tells_over its answered out now picks held f files (inr told) = inr (told.0, told.1, ap (λ (t : Trace). at (moment t.out held f) files) told.2)

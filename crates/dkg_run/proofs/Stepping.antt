@@ -47,7 +47,7 @@ module _ {W : Type 0} (way : Way W) (line : Line) (fuse : Option Burn) (course :
 
   pub step_told : (f : Burn) → fuse ≡ Some f → (end : Live directory.Unit) (mid : W) → way.goes course (went end) f w mid → (how : Result (Unit {0}) Stop) (new : W) → next end (way.says mid line)
       → Steps way line fuse course w how new next
-  step_told f lit end mid goes how new then = subst (λ (o : Option Burn). Steps way line o course w how new next) (sym lit) (inr (inr (end, mid, goes, inr then)))
+  step_told f lit end mid goes how new after = subst (λ (o : Option Burn). Steps way line o course w how new next) (sym lit) (inr (inr (end, mid, goes, inr after)))
 
   -- a step that was answered so, whatever was to come
   pub step_ends : (stop : Stop) (new : W) (V : Live directory.Unit → W → Type 0) → Steps way line fuse course w (Err stop) new (λ end mid. IsDone (Err stop) × V end mid)
@@ -59,7 +59,7 @@ module _ {W : Type 0} (way : Way W) (line : Line) (fuse : Option Burn) (course :
       in_fuse (Some f) (inl wants) = inl wants
       in_fuse (Some f) (inr (inl stops)) = inr (inl stops)
       in_fuse (Some f) (inr (inr (end, mid, goes, inl wants))) = inr (inr (end, mid, goes, inl wants))
-      in_fuse (Some f) (inr (inr (end, mid, goes, inr then))) = absurd (not_ok then.0)
+      in_fuse (Some f) (inr (inr (end, mid, goes, inr after))) = absurd (not_ok after.0)
         where
           not_ok : IsDone (Err stop) → ⊥
           not_ok e = cc
@@ -82,10 +82,10 @@ step_goes_on {W} way line fuse course w mid V steps = in_fuse fuse steps
     in_fuse (Some f) (inl wants) = absurd (not_err (FaultOf NoMemory) wants.0)
     in_fuse (Some f) (inr (inl (stop, is, goes))) = absurd (not_err stop is)
     in_fuse (Some f) (inr (inr (end, here, goes, inl wants))) = absurd (not_err (FaultOf NoMemory) wants.0)
-    in_fuse (Some f) (inr (inr (end, here, goes, inr then))) = record {
+    in_fuse (Some f) (inr (inr (end, here, goes, inr after))) = record {
       end = end;
-      so = then.1;
-      on = λ how new next its. inr (inr (end, here, goes, inr (subst (λ (m : W). next end m) (sym then.2) its)));
+      so = after.1;
+      on = λ how new next its. inr (inr (end, here, goes, inr (subst (λ (m : W). next end m) (sym after.2) its)));
     }
 
 -- ONE STEP AFTER ANOTHER

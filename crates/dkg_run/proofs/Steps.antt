@@ -25,7 +25,7 @@ pub stops_before : (life : Life) (l j : ℕ) (stop : Stop) (old new : List Entry
 stops_before life l j stop old new same its = rw its.0 (moves_none IsInOrder (IsBefore life l j) (IsAtCut life l) old new same (λ s p is. cut_before life l j s p its.1 is))
 
 -- a step that began, and has quiet entries
-quiet_so_far : (life : Life) (l j : ℕ) (old new : List Entry) → (IsCutBefore life.cut j → ⊥) → AddsQuiet old new
+pub quiet_so_far : (life : Life) (l j : ℕ) (old new : List Entry) → (IsCutBefore life.cut j → ⊥) → AddsQuiet old new
     → Moves IsInOrder (IsBefore life l j) (IsWithin life l j false) old new
 quiet_so_far life l j old new not adds = moves_within IsInOrder (IsWithin life l j false) (IsBefore life l j) (IsWithin life l j false) (IsWithin life l j false) old new
     (λ s p is. begins life l j s p not is) (λ s p is. is) (moves_quiet life l j false old new adds)
@@ -56,7 +56,7 @@ faulted_not_cut fault P is = absurd (apart is)
 abbrev pub Opening : ℕ → List Entry → List Entry → Type 0
 Opening l old new = (new ≡ old) ⊎ AddsOpening l old new
 
-opened_so_far : (life : Life) (l : ℕ) (old new : List Entry) → (IsCutBefore life.cut 0 → ⊥) → AddsOpening l old new
+pub opened_so_far : (life : Life) (l : ℕ) (old new : List Entry) → (IsCutBefore life.cut 0 → ⊥) → AddsOpening l old new
     → Moves IsInOrder (IsBefore life l 0) (IsWithin life l 0 true) old new
 opened_so_far life l old new not adds = moves_within IsInOrder (IsWithin life l 0 false) (IsBefore life l 0) (IsWithin life l 0 true) (IsWithin life l 0 true) old new
     (λ s p is. begins life l 0 s p not is) (λ s p is. is) (moves_opening life l old new adds)

@@ -8,6 +8,7 @@ use Rattle.std.proofs.lemmas.List.{map-append}
 use Rattle.std.proofs.lemmas.Option.{slice_get-map}
 use Rattle.dkg_ceremony.specs.Rounds.{round_of}
 use Rattle.dkg_ceremony.specs.Schedule.{midpoint}
+use Rattle.dkg_ceremony.specs.declared.mode.Reveal.TheVariants.{V1}
 use Rattle.dkg_ceremony.specs.declared.output.Output.{Output}
 use Rattle.dkg_ceremony.specs.declared.round.Round.{Round}
 use Rattle.dkg_types.specs.Blocks.{Block}
@@ -30,6 +31,7 @@ use Rattle.dkg_core.specs.Today as core
 use Rattle.dkg_core.specs.Today.{IsLiveToday, IsTakenToday}
 use Rattle.dkg_run.specs.Given.{IsLifeHere, Lived, ReadsNeither, at_step, blocks_in, step_of, with_block}
 use Rattle.dkg_run.proofs.Living.{holds_at}
+use Rattle.dkg_run.proofs.Seating.{drawn_is}
 
 -- BLOCKS stand at the heights of their lines
 
@@ -84,7 +86,9 @@ module _ (g : Lived) (here : IsLifeHere g) where
     bare = refl;
     shareless = here.reads.shareless;
     unplanned = here.reads.unplanned;
-    carries_on = λ number output dealers players round drawn. ?;
+    carries_on = λ number output dealers players round drawn.
+        let its = drawn_is g.script.config.namespace number (Some output) g.script.config.mode V1 dealers players round drawn in
+        (ap (λ (o : Option Output). is_none o) its.0, its.1);
   }
 
   pub lacks_nobody : (taken : ℕ) (d : directory.Unit) (peers : TrackedPeers) → (at_step g taken).directories.lacking d peers ≡ None
@@ -107,19 +111,27 @@ pub below_middle : (g : Lived) (j height : ℕ) → height < midpoint_of g.scrip
 unfolding at_step
 below_middle g j height low = subst (λ (n : ℕ). height < n) (middle_is (non_zero_u64_get g.script.config.blocks_per_epoch)) low
 
+-- what an event brings
+abbrev pub Brings : Lived → Event → Message directory.Unit → Type 0
+Brings g (event.Peer from bytes) message = message ≡ Sent (Peer from bytes)
+Brings g (event.Final number) message = (block : Block directory.Unit) × (slice_get (blocks_in g.script) number ≡ Some block) × (message ≡ Finalized block)
+Brings g other message = ⊥
+
 -- the message of an event
 pub record IsMessage (g : Lived) (j : ℕ) (its : Event) (st : Live directory.Unit) : Type 0 where
   pub message : Message directory.Unit
   pub course : step_of g j its st ≡ node_step (at_step g j) (event_of message) st
   pub taken : IsTakenToday (at_step g j) message
+  pub brings : Brings g its message
 
 pub message_of : (g : Lived) (j : ℕ) (its : Event) (st : Live directory.Unit) → IsEventOfToday (midpoint_of g.script) g.script.blocks its → IsMessage g j its st
-message_of g j (event.Peer from bytes) st today = record { message = Sent (Peer from bytes); course = refl; taken = tt }
+message_of g j (event.Peer from bytes) st today = record { message = Sent (Peer from bytes); course = refl; taken = tt; brings = refl }
 message_of g j (event.Final number) st today =
     let made = made_at g.script number (λ height. height < midpoint_of g.script) today in
     record {
       message = Finalized made.block;
       course = ap (λ (o : Option (Block directory.Unit)). option_map_or (λ e. node_step (at_step g j) e st) (option_map Delivers o) (Goes st)) made.is;
       taken = below_middle g j (made.block).height made.so;
+      brings = (made.block, made.is, refl);
     }
 message_of g j other st today = absurd today

@@ -15,6 +15,7 @@ ghost use Rattle.dkg_core.specs.Entering.{acked_at, delivered, is_ready};
 ghost use Rattle.dkg_core.specs.Fixed.{Fixed};
 ghost use Rattle.dkg_core.specs.Live.{Live};
 ghost use Rattle.dkg_core.specs.Node.{kept_material};
+ghost use Rattle.dkg_reshare.specs.Ends.{IsCaused};
 ghost use Rattle.dkg_reshare.specs.Made.{Speaks};
 ghost use Rattle.dkg_reshare.specs.declared.stop.Stop.TheVariants.{Fault as FaultOf};
 ghost use Rattle.dkg_types.specs.declared.fault.Fault.TheVariants.{NoMemory};
@@ -117,6 +118,8 @@ impl Half {
         requires ready { (c : Fixed directory.Unit) × IsHalfGiven (non_zero_u64_get blocks_per_epoch) (B.answers source.now) c × IsFenceReady c fence.old }
         ensures speaks { (c : Fixed directory.Unit) (st : Live directory.Unit) → IsHalfGiven (non_zero_u64_get blocks_per_epoch) (B.answers source.now) c → MayEnter c fence.old st
             → Speaks (kept_material c st) (ends_half fence.new st result) out.old.entries out.new.entries }
+        // It blames no device.
+        ensures causes { IfErr result (λ stop. IsCaused stop ⊥ ⊥ ⊥) }
     {
         let bounds = start_bounds(blocks_per_epoch, source)?;
         let Some(block) = source.block(boundary_of(&bounds)) else {
@@ -134,6 +137,7 @@ impl Half {
     pub fn acknowledge(&self, height: Height, out: &mut Transcript) -> Result<(), Stop>
         ensures speaks { (c : Fixed directory.Unit) (st : Live directory.Unit) (b : blocks.Block directory.Unit) → b.height ≡ height → height < midpoint c.blocks_per_epoch 0
             → HasHalf self.now st → Speaks (bind (delivered c b st) (λ half. acked_at b.height half.answer half.live)) (ends_node st result) out.old.entries out.new.entries }
+        ensures memory { IfErr result (λ stop. stop ≡ FaultOf NoMemory) }
     {
         if self.halted || self.entered.is_none() {
             return Ok(());
