@@ -32,6 +32,7 @@ use Rattle.dkg_core.specs.Behind.{EndsBehind, RunsBehind, event_of}
 use Rattle.dkg_core.specs.Core.{step}
 use Rattle.dkg_core.specs.Courses.{Course, EndsSo, Goes, on_devices}
 use Rattle.dkg_core.specs.Dealing.{hears_peer_in}
+use Rattle.dkg_core.specs.Fixed.{Fixed}
 use Rattle.dkg_core.specs.Heard.{Fits, MayHave, recovered_in}
 use Rattle.dkg_core.specs.Laws.{IsAccepted}
 use Rattle.dkg_core.specs.Live.{Delivers, Finalized, Live, Message, NodeStop, Peer, Records, Sent, Stage}
@@ -82,17 +83,10 @@ module _ (reader : Reader) where
   pub passes_all : (image : Files → Type 0) (held : Secrets) → ((c : Files) → image c → PassHeld reader (held_in c held)) → ArePassing reader image held
   passes_all image held each = record { whole = λ c here. (each c here).0; each = λ round made c here. (each c here).1 round made }
 
-  -- of fewer images
-  pub narrowed_passing : (image next : Files → Type 0) (held now : Secrets) → ((c : Files) → next c → image c) → now ≡ held → ArePassing reader image held → ArePassing reader next now
-  narrowed_passing image next held now narrows same are = subst (λ (s : Secrets). ArePassing reader next s) (sym same) (record {
-    whole = λ c here. are.whole c (narrows c here);
-    each = λ round made c here. are.each round made c (narrows c here);
-  })
-
   -- nothing lies below epoch 0
   all_above : (pairs : Pairs) → retain_keys pairs (λ k. nat_le 0 k.0) ≡ pairs
   all_above pairs = same_map keys_total exact_keys (retain_keys pairs (λ k. nat_le 0 k.0)) pairs (λ key.
-      get-retain_keys keys_total pairs (λ k. nat_le 0 k.0) key (λ x is. at_least x.0 ∙ sym (at_least key.0)) ∙ ap (λ (t : Bool). cond t (get pairs key) None) (at_least key.0))
+      get-retain_keys pairs (λ k. nat_le 0 k.0) key (λ x is. at_least x.0 ∙ sym (at_least key.0)) ∙ ap (λ (t : Bool). cond t (get pairs key) None) (at_least key.0))
     where
       at_least : (n : ℕ) → nat_le 0 n ≡ true
       at_least n = grind (arith, nat_tests)
@@ -164,7 +158,7 @@ module _ (g : Lived) (here : IsLifeHere g) where
 
   module _ (fits : (i from : ℕ) (bytes : List ℕ) → slice_get g.life.events i ≡ Some (event.Peer from bytes) → Fits (at_step g (i + 1)) (from, bytes)) where
     module _ (i : ℕ) (st : Live directory.Unit) (h : Held) (passing : IsPassing st h) (w new : World) (at : w.held ≡ h) where
-      abbrev c : _
+      abbrev c : Fixed directory.Unit
       c = at_step g (i + 1)
 
       going : IsGoing g here (i + 1) st
@@ -279,7 +273,7 @@ module _ (g : Lived) (here : IsLifeHere g) where
 -- BEHIND AN OPENING that went to its end: of any devices its lines were those of one that had read this, and whatever a crash leaves gives that back
 
 module _ (script : Script) (number : ℕ) (life : Life) (files : Files) (form : IsFormOfToday script) (life_is : slice_get script.lives number ≡ Some life) where
-  reading : Seen → Lived
+  abbrev pub reading : Seen → Lived
   reading s = lived script number life (λ h. s) files
 
   opening_here : (s : Seen) → s.shares ≡ [] → s.plan ≡ None → IsLifeHere (reading s)
@@ -309,7 +303,7 @@ module _ (script : Script) (number : ℕ) (life : Life) (files : Files) (form : 
       → (image next : Files → Type 0) (held held_now : Secrets) → StaysAbove 0 image next held held_now → AreGivenFrom 0 s.dealings next held_now → ArePassing (reader_in script) image held
       → (c : Files) → next c → IsPassing (lived script number life seen_today files) here_today st (held_in c held_now)
   opened_passing s shareless unplanned st m in_memory out now said image next held held_now stays given are c here = record {
-    going = (alike_read s st (opened_going (reading s) its_here opened.0 st opened.1).0, (opened_going (reading s) its_here opened.0 st opened.1).1);
+    going = (alike_read s st (opened_going (reading s) its_here s st opened.1).0, (opened_going (reading s) its_here s st opened.1).1);
     records = in_memory ∙ ap maps.entries (given_is m (recovered_from c held_now) (λ key above. ap (find key_cmp key) (sym in_memory ∙ read) ∙ given c here key above));
     seats = seats_by_first (reading s) its_here s st opened.1;
     pass = passes_at (reader_in script) next held_now c here (above_passing (reader_in script) image next held held_now stays are);

@@ -13,8 +13,9 @@ use Rattle.dkg_core.specs.Behind.{event_of}
 use Rattle.dkg_core.specs.Courses.{Course, EndsSo, on_devices}
 use Rattle.dkg_core.specs.Live.{Live, Message, NodeStop, Orchestrator}
 use Rattle.dkg_core.specs.Node.{node_opening, node_step}
-use Rattle.dkg_core.specs.NodeToday.{IsFaultBy, IsNodeOpened}
-use Rattle.dkg_core.specs.Today.{CameTo, IsLiveToday, IsNextToday, IsOpeningFault, refusal_of}
+use Rattle.dkg_core.specs.NodeToday.{IsNodeOpened}
+use Rattle.dkg_core.specs.Seen.{Seen}
+use Rattle.dkg_core.specs.Today.{IsLiveToday, IsNextToday}
 use Rattle.dkg_core.proofs.NodeKept.{node_openings_spare_plans, node_steps_spare_plans}
 use Rattle.dkg_core.proofs.NodeToday.{node_openings_come_to, node_steps_come_to}
 use Rattle.dkg_core.proofs.Said.{runs_say}
@@ -49,8 +50,8 @@ module _ (g : Lived) (here : IsLifeHere g) where
   pub opened_of : (end : Live directory.Unit) (w new : World) → EndsSo (node_opening (at_step g 0)) (went end) w new → (h : Held) × IsNodeOpened (at_step g 0) ((at_step g 0).seen h) end
   opened_of end w new run = node_openings_come_to (at_step g 0) (went end) w.out new.out (form_at g here 0) (lacks_nobody g here 0) (runs_say (on_devices (node_opening (at_step g 0))) (went end) w new run)
 
-  pub opened_going : (h : Held) (end : Live directory.Unit) → IsNodeOpened (at_step g 0) ((at_step g 0).seen h) end → IsGoing 0 end
-  opened_going h end opened = (opened_live (at_step g 0) ((at_step g 0).seen h) end opened, opened_unawaited (at_step g 0) ((at_step g 0).seen h) end opened)
+  pub opened_going : (seen : Seen) (end : Live directory.Unit) → IsNodeOpened (at_step g 0) seen end → IsGoing 0 end
+  opened_going seen end opened = (opened_live (at_step g 0) seen end opened, opened_unawaited (at_step g 0) seen end opened)
 
   -- PLANS
   module _ (was : Option (List ℕ)) where
@@ -85,7 +86,7 @@ module _ (g : Lived) (here : IsLifeHere g) where
         same ended run = node_openings_spare_plans (at_step g 0) ended w new (form_at g here 0) run ∙ ap plan at ∙ is
 
         by_end : (ended : Ended NodeStop (Live directory.Unit)) → EndsSo (node_opening (at_step g 0)) ended w new → LeavesHeld HasPlan Goes ended new.held
-        by_end (went end) run = let opened = opened_of end w new run in (opened_going opened.0 end opened.1, same (went end) run)
+        by_end (went end) run = let opened = opened_of end w new run in (opened_going ((at_step g 0).seen opened.0) end opened.1, same (went end) run)
         by_end (stopped stop) run = same (stopped stop) run
         by_end (broken cause) run = same (broken cause) run
 
