@@ -91,7 +91,6 @@ pub record IsBlocks (g : Lived) (j : ℕ) (event : script.Event) : Type 0 where
   pub is : event ≡ Final number
   pub there : slice_get (blocks_in g.script) number ≡ Some block
   pub early : block.height < midpoint (at_step g j).blocks_per_epoch 0
-  pub brings : BringsRecords (at_step g j) (Finalized block)
 
 pub record IsMeant (g : Lived) (s : Setting) : Type 0 where
   pub life_is : life_at s g.number ≡ Some g.life
@@ -360,8 +359,8 @@ module _ (laws : NodeLaws) (g : Lived) (s : Setting) (meant : IsMeant g s) where
           goes_as s p w.out new.out (IsLeftBy (at_step g j) l st (Unit {0}) ended new.held s p) (StepLeaves g j ended new.held s p)
           (λ q left. leaves_of j st (Unit {0}) ended new.held p q left)
           (sound_of s p w.out new.out (IsLeftBy (at_step g j) l st (Unit {0}) ended new.held s p)
-          (block_kept (at_step g j) l life j its.block st ended w new s p at carries (can_of j st message carries.half.undealt its.brings) idle.0 idle.2.0 idle.2.1 (acked_aside idle.2.0 idle.2.2)
-          (next_of j st message ended w new its.early carries.live carries.unawaited so) so))
+          (block_kept (at_step g j) l life j its.block st ended w new s p at carries idle.0 idle.2.0 idle.2.1 (acked_aside idle.2.0 idle.2.2)
+          (next_of j st message ended w new its.early carries.live carries.unawaited so)))
 
   -- A LIFE'S STEPS
 
