@@ -82,15 +82,6 @@ U = directory.Unit
 laws : NodeLaws
 laws = record { opens_to = node_openings_come_to; restores = node_openings_restore; keeps = node_openings_keep; agrees = node_openings_agree; steps_to = node_steps_come_to; idle = deliveries_are_idle }
 
--- KEYS OF 32 BITS: this node's, and each peer's
-abbrev pub IsOfKey : Event → Type 0
-IsOfKey (event.Peer from bytes) = from < 2 ^ 32
-IsOfKey _ = Unit {0}
-
-pub record HasKeys (script : Script) : Type 0 where
-  pub own : script.config.me < 2 ^ 32
-  pub peers : AllByRecursion (λ life. AllByRecursion IsOfKey life.events) script.lives
-
 -- BLOCKS of the first epoch
 
 same_item : {A : Type 0} (x y : A) (xs ys : List A) → (x ∷ xs) ≡ (y ∷ ys) → (x ≡ y) × (xs ≡ ys)
@@ -155,7 +146,7 @@ first_epoch_of n height long low = let none : height / n < 1 = div_below height 
 
 -- WHAT A LIFE IS GIVEN
 
-module _ (s : Setting) (today : IsTodays s) (keys : HasKeys s.script) (l : ℕ) (life : Life) (files : Files) (life_is : life_at s l ≡ Some life) where
+module _ (s : Setting) (today : IsTodays s) (l : ℕ) (life : Life) (files : Files) (life_is : life_at s l ≡ Some life) where
   abbrev g : Lived
   g = lived s.script l life seen_today files
 
@@ -201,7 +192,7 @@ module _ (s : Setting) (today : IsTodays s) (keys : HasKeys s.script) (l : ℕ) 
 
   acks_given : (n : ℕ) (round : Round) (public : List ℕ) → IsEvent (events.Ack (at_step g n).me ((at_step g n).rules.ack_of (at_step g n).me round (at_step g n).me public))
   unfolding at_step
-  acks_given n round public = record { one = keys.own; other = is_mark s.script.config.me domains.Ack (ack_content round s.script.config.me public) }
+  acks_given n round public = record { one = today.built.form.own; other = is_mark s.script.config.me domains.Ack (ack_content round s.script.config.me public) }
 
   limit_given : (n : ℕ) → (at_step g n).limit ≤ 2 ^ 30
   unfolding at_step
@@ -211,21 +202,19 @@ module _ (s : Setting) (today : IsTodays s) (keys : HasKeys s.script) (l : ℕ) 
   unfolding at_step
   middle_given j height low = subst (λ (n : ℕ). height < n) (middle_is (non_zero_u64_get s.script.config.blocks_per_epoch)) low
 
-  event_today : (j : ℕ) (its : Event) → event_of_step life j ≡ Some its → IsEventOfToday (midpoint_of s.script) s.script.blocks its × IsOfKey its
+  event_today : (j : ℕ) (its : Event) → event_of_step life j ≡ Some its → IsEventOfToday (midpoint_of s.script) s.script.blocks its
   event_today zero its is = absurd (none_some its is)
-  event_today (suc j) its is =
-      (resting.form_at (IsEventOfToday (midpoint_of s.script) s.script.blocks) life.events j its (life_form g here).events is,
-      resting.form_at IsOfKey life.events j its (resting.form_at (λ (life : Life). AllByRecursion IsOfKey life.events) s.script.lives l life keys.peers life_is) is)
+  event_today (suc j) its is = resting.form_at (IsEventOfToday (midpoint_of s.script) s.script.blocks) life.events j its (life_form g here).events is
 
   events_given : (j : ℕ) (its : Event) → event_of_step life j ≡ Some its → IsPeers g j its ⊎ IsBlocks g j its
   events_given j its is = by_event its (event_today j its is)
     where
-      by_event : (its : Event) → IsEventOfToday (midpoint_of s.script) s.script.blocks its × IsOfKey its → IsPeers g j its ⊎ IsBlocks g j its
-      by_event (event.Peer from bytes) of = inl (record { from = from; bytes = bytes; is = refl; small = of.1; brings = message_fits (at_step g j) from bytes (limit_given j) of.1 })
+      by_event : (its : Event) → IsEventOfToday (midpoint_of s.script) s.script.blocks its → IsPeers g j its ⊎ IsBlocks g j its
+      by_event (event.Peer from bytes) small = inl (record { from = from; bytes = bytes; is = refl; small = small; brings = message_fits (at_step g j) from bytes (limit_given j) small })
       by_event (event.Final number) of =
-          let made = made_at s.script number (λ height. height < midpoint_of s.script) of.0 in
+          let made = made_at s.script number (λ height. height < midpoint_of s.script) of in
           inr (record { number = number; block = made.block; is = refl; there = made.is; early = middle_given j (made.block).height made.so })
-      by_event other of = absurd of.0
+      by_event other of = absurd of
 
   pub meant : IsMeant g s
   meant = record {
@@ -263,7 +252,7 @@ same_behind [] a b e = e
 same_behind (x ∷ old) a b e = same_behind old a b (same_item x x (old ++ a) (old ++ b) e).1
 
 -- what follows of one image
-module _ (s : Setting) (today : IsTodays s) (keys : HasKeys s.script) (whole : IsWhole (entries s.files) s.secrets) (answered : Result (Unit {0}) Fault) (old_out new_out added : List Entry) (secrets_now : Secrets)
+module _ (s : Setting) (today : IsTodays s) (whole : IsWhole (entries s.files) s.secrets) (answered : Result (Unit {0}) Fault) (old_out new_out added : List Entry) (secrets_now : Secrets)
     (is : new_out ≡ old_out ++ added) where
   pub goes_to : (c : Files) → RunsOver s.script answered s.files (at (moment old_out s.secrets never) s.files) (λ f. at (moment new_out secrets_now f) c)
       → EachAfter s (IsSound s) (at_start s) added × LeavesRun answered (at (moment new_out secrets_now never) c).held s (fold (read s) (at_start s) added)
@@ -276,14 +265,14 @@ module _ (s : Setting) (today : IsTodays s) (keys : HasKeys s.script) (whole : I
       new = at (moment new_out secrets_now run.fuse) c
 
       gone : Goes s (at_start s) old_out new_out (LeavesRun answered (at (moment new_out secrets_now never) c).held s)
-      gone = run_kept laws s.script s (λ l life seen files life_is reads. subst (λ (seen : Held → Seen). IsMeant (lived s.script l life seen files) s) (sym reads) (meant s today keys l life files life_is))
+      gone = run_kept laws s.script s (λ l life seen files life_is reads. subst (λ (seen : Held → Seen). IsMeant (lived s.script l life seen files) s) (sym reads) (meant s today l life files life_is))
           (λ its. its ≡ s.files) w answered new (at_start s) (lives_of s [] s.script.lives refl) (record { lives = refl; step = refl; nothing = refl }) (rests_at_start s w.held today refl refl whole) run.so
 
       same : gone.added ≡ added
       same = same_behind old_out gone.added added (sym gone.out ∙ is)
 
 -- .. and of all, where one is left
-module _ (script : Script) (keys : HasKeys script) (files : Files) (image : Files → Type 0) (secrets : Secrets) (now : Files → Type 0) (secrets_now : Secrets) (answered : Result (Unit {0}) Fault) (old_out new_out added : List Entry)
+module _ (script : Script) (files : Files) (image : Files → Type 0) (secrets : Secrets) (now : Files → Type 0) (secrets_now : Secrets) (answered : Result (Unit {0}) Fault) (old_out new_out added : List Entry)
     (is : new_out ≡ old_out ++ added)
     (runs : Stands files image → (c : Files) → now c → RunsOver script answered files (at (moment old_out secrets never) files) (λ f. at (moment new_out secrets_now f) c)) where
   pub kept_of : image files → (c : Files) → now c → KeepsDealings (setting_of script files secrets) image now secrets_now added
@@ -306,4 +295,4 @@ module _ (script : Script) (keys : HasKeys script) (files : Files) (image : File
       stands = record { lands = honest.stores.nothing_loose; itself = itself }
 
       one : (c : Files) → now c → EachAfter s (IsSound s) (at_start s) added × LeavesRun answered (at (moment new_out secrets_now never) c).held s (fold (read s) (at_start s) added)
-      one c left = goes_to s today keys honest.stores.whole answered old_out new_out added secrets_now is c (runs stands c left)
+      one c left = goes_to s today honest.stores.whole answered old_out new_out added secrets_now is c (runs stands c left)
