@@ -73,14 +73,19 @@ by_tag most zero bytes m rest few e =
     let b = bind_ok (public_at most bytes) (λ p. element_at p.1 >>= λ q. Ok (pair {A = List ℕ} {B = ℕ} p.0 q.0, q.1)) a.0 a.1 in
     let o = bind_ok (element_at b.0.1) (λ q. Ok (pair {A = List ℕ} {B = ℕ} b.0.0 q.0, q.1)) a.0 b.2 in
     let fits : PublicFits no_limit b.0.0 = public_read most bytes b.0.0 b.0.1 few b.1 in
-    let made : PublicFits no_limit a.0.0.0 = subst (λ (x : (List ℕ × ℕ) × List ℕ). PublicFits no_limit x.0.0) (ok_is ((b.0.0, o.0.0), o.0.1) a.0 o.2) fits in
-    subst (λ (x : Message × List ℕ). MayBeRecorded x.0) (ok_is (dealer_of a.0.0, a.0.1) (m, rest) a.2) made
+    let halves : (List ℕ × ℕ) × List ℕ = ((b.0.0, o.0.0), o.0.1) in
+    let made : PublicFits no_limit a.0.0.0 = subst (λ (x : (List ℕ × ℕ) × List ℕ). PublicFits no_limit x.0.0) (ok_is halves a.0 o.2) fits in
+    let before : Message × List ℕ = (dealer_of a.0.0, a.0.1) in
+    let read : Message × List ℕ = (m, rest) in
+    subst (λ (x : Message × List ℕ). MayBeRecorded x.0) (ok_is before read a.2) made
 by_tag most (suc zero) bytes m rest few e =
     let a = bind_ok (bytes_at 8 bytes) (λ a. Ok (ack_message a.0, a.1)) (m, rest) e in
     let g = guard_past (ltb (length bytes) 8) EndOfBuffer (take 8 bytes, drop 8 bytes) a.0 a.1 in
     let long : 8 ≤ length bytes = ltb-false (length bytes) 8 g.0 in
     let made : length a.0.0 ≡ 8 = subst (λ (x : List ℕ × List ℕ). length x.0 ≡ 8) g.1 (let taken = length-take 8 bytes in omega (arith, taken, long)) in
-    subst (λ (x : Message × List ℕ). MayBeRecorded x.0) (ok_is (ack_message a.0.0, a.0.1) (m, rest) a.2) made
+    let before : Message × List ℕ = (ack_message a.0.0, a.0.1) in
+    let read : Message × List ℕ = (m, rest) in
+    subst (λ (x : Message × List ℕ). MayBeRecorded x.0) (ok_is before read a.2) made
 by_tag most (suc (suc tag)) bytes m rest few e = absurd (never e)
   where
     never : Err (InvalidEnum (suc (suc tag))) ≡ Ok (m, rest) → ⊥

@@ -95,7 +95,7 @@ module _ (s : Setting) (today : IsTodays s) (l : ℕ) (life : Life) (seen : Held
       same_participation = ap (λ (x : Live directory.Unit). x.participation) opened.entered.same
 
       -- what a life that takes part has been seated by
-      Seats : Round → Type 0
+      abbrev Seats : Round → Type 0
       Seats round = (info : EpochInfo directory.Unit) × (its : IsSeatedBy (at_step g 0) ((at_step g 0).seen h) opened.before info) × (its.round ≡ round)
           × ((line : BlockLine) × (slice_get s.script.blocks 0 ≡ Some line) × (info_of (block_on s.script.config (parent_in [] line.parent) line).payload ≡ Some info)) × (info.epoch ≡ 0)
 
