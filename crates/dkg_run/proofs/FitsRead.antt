@@ -88,7 +88,7 @@ by_tag most (suc zero) bytes m rest few e =
     subst (λ (x : Message × List ℕ). MayBeRecorded x.0) (ok_is before read a.2) made
 by_tag most (suc (suc tag)) bytes m rest few e = absurd (never e)
   where
-    never : Err (InvalidEnum (suc (suc tag))) ≡ Ok (m, rest) → ⊥
+    never : ◌≡◌ {A = Reading Message} (Err (InvalidEnum (suc (suc tag)))) (Ok (m, rest)) → ⊥
     never e = cc
 
 whole_is : {A : Type 0} (reading : Reading A) (v : A) → whole reading ≡ Ok v → reading ≡ Ok (v, [])

@@ -24,6 +24,7 @@ use Rattle.dkg_journal.specs.Records.{entries}
 use Rattle.dkg_types.specs.Blocks.{Block}
 use Rattle.dkg_types.specs.declared.directory.Unit as directory
 use Rattle.dkg_types.specs.declared.entry.Entry.{Entry}
+use Rattle.dkg_types.specs.declared.entry.Entry.TheVariants as entry
 use Rattle.dkg_types.specs.declared.fault.Fault.{Fault}
 use Rattle.dkg_types.specs.declared.participants.TrackedPeers.{TrackedPeers}
 use Rattle.dkg_store.specs.Acts.{Held, Moment, Stands, World, at, moment, notes}
@@ -42,9 +43,9 @@ use Rattle.dkg_script.specs.Consistent.{IsConsistentScript}
 use Rattle.dkg_script.specs.Form.{IsBlockOfToday, IsEventOfToday, IsFormOfToday, IsLifeOfToday, midpoint_of}
 use Rattle.dkg_script.specs.Kept.{AllCurrent, Gives, IsDurable, IsSound, Kept}
 use Rattle.dkg_script.specs.Position.{begun, event_of_step}
-use Rattle.dkg_script.specs.Progress.{Progress, at_start, progress, read}
-use Rattle.dkg_script.specs.Promise.{IsBuilt, IsHonestRun, KeepsDealings, cuts_in}
-use Rattle.dkg_script.specs.Setting.{Setting, life_at, me, setting_of}
+use Rattle.dkg_script.specs.Progress.{AtEachEntry, Progress, at_start, progress, read}
+use Rattle.dkg_script.specs.Promise.{AnswersDealings, InACase, IsAnswered, IsBuilt, IsHonestRun, KeepsDealings, RunsAll, cuts_in}
+use Rattle.dkg_script.specs.Setting.{Setting, blocks_per_epoch, life_at, me, setting_of}
 use Rattle.dkg_script.proofs.EachEntry.{EachAfter, at_each}
 use Rattle.dkg_script.proofs.Today.{plain_of}
 use Rattle.dkg_core.specs.Behind.{event_of}
@@ -58,20 +59,21 @@ use Rattle.dkg_core.specs.Seen.{Seen}
 use Rattle.dkg_core.specs.Sources.{Anchor, anchored}
 use Rattle.dkg_core.specs.Today.{IsLiveToday, first_epoch}
 use Rattle.dkg_core.proofs.Delivering.{deliveries_are_idle}
-use Rattle.dkg_core.proofs.NodeKept.{node_openings_agree, node_openings_keep, node_openings_restore}
+use Rattle.dkg_core.proofs.NodeKept.{node_openings_agree, node_openings_keep, node_openings_restore, node_openings_spare_logs, node_steps_spare_logs}
 use Rattle.dkg_core.proofs.NodeToday.{node_openings_come_to, node_steps_come_to}
 use Rattle.dkg_reshare.specs.Today.{seen_today}
 use Rattle.dkg_run.specs.Given.{IsLifeHere, Lived, ReadsNeither, anchor_at, anchor_in, at_step, blocks_in, delivered_by, lived, numbered}
 use Rattle.dkg_run.specs.Lives.{RunsOver, RunsSo, never}
 use Rattle.dkg_run.specs.Ways.{by_worlds}
 use Rattle.dkg_run.proofs.Early.{starts_first}
+use Rattle.dkg_run.proofs.Awaiting.{HasHeight, has_height}
 use Rattle.dkg_run.proofs.FitsRead.{message_fits}
 use Rattle.dkg_run.proofs.KeptLives.{AreLives, Goes, IsBetween, IsBlocks, IsMeant, IsPeers, LeavesRun, NodeLaws, run_kept}
 use Rattle.dkg_run.proofs.KeptMessages.{Knows}
 use Rattle.dkg_run.proofs.KeptSteps.{ValidIn}
 use Rattle.dkg_run.proofs.Meant as given
 use Rattle.dkg_run.proofs.Recorded.{all_current}
-use Rattle.dkg_run.proofs.Resting.{IsTodays, RestsAt, rests_at_start}
+use Rattle.dkg_run.proofs.Resting.{IsKeptEntry, IsTodays, RestsAt, rests_at_start}
 use Rattle.dkg_run.proofs.Resting as resting
 use Rattle.dkg_run.proofs.Today.{IsMade, alike_at, form_at, heights_are, lacks_nobody, life_form, made_at, middle_is}
 
@@ -80,7 +82,7 @@ U = directory.Unit
 
 -- THE LAWS of a node's course
 laws : NodeLaws
-laws = record { opens_to = node_openings_come_to; restores = node_openings_restore; keeps = node_openings_keep; agrees = node_openings_agree; steps_to = node_steps_come_to; idle = deliveries_are_idle }
+laws = record { opens_to = node_openings_come_to; restores = node_openings_restore; keeps = node_openings_keep; agrees = node_openings_agree; steps_to = node_steps_come_to; idle = deliveries_are_idle; opens_spare = node_openings_spare_logs; steps_spare = node_steps_spare_logs }
 
 -- BLOCKS of the first epoch
 
@@ -206,15 +208,23 @@ module _ (s : Setting) (today : IsTodays s) (l : ℕ) (life : Life) (files : Fil
   event_today zero its is = absurd (none_some its is)
   event_today (suc j) its is = resting.form_at (IsEventOfToday (midpoint_of s.script) s.script.blocks) life.events j its (life_form g here).events is
 
-  events_given : (j : ℕ) (its : Event) → event_of_step life j ≡ Some its → IsPeers g j its ⊎ IsBlocks g j its
+  events_given : (j : ℕ) (its : Event) → event_of_step life j ≡ Some its → IsPeers g j its ⊎ IsBlocks g s j its
   events_given j its is = by_event its (event_today j its is)
     where
-      by_event : (its : Event) → IsEventOfToday (midpoint_of s.script) s.script.blocks its → IsPeers g j its ⊎ IsBlocks g j its
+      by_line : (number : ℕ) (its : Block U) → slice_get (blocks_in s.script) number ≡ Some its → (o : Option BlockLine) → slice_get s.script.blocks number ≡ o → IsSomeAnd o (λ line. line.height < midpoint_of s.script) → HasHeight s number its
+      by_line number its is None line_is low = absurd low
+      by_line number its is (Some line) line_is low = has_height s number its line line_is is
+
+      by_event : (its : Event) → IsEventOfToday (midpoint_of s.script) s.script.blocks its → IsPeers g j its ⊎ IsBlocks g s j its
       by_event (event.Peer from bytes) small = inl (record { from = from; bytes = bytes; is = refl; small = small; brings = message_fits (at_step g j) from bytes (limit_given j) small })
       by_event (event.Final number) of =
           let made = made_at s.script number (λ height. height < midpoint_of s.script) of in
-          inr (record { number = number; block = made.block; is = refl; there = made.is; early = middle_given j (made.block).height made.so })
+          inr (record { number = number; block = made.block; is = refl; there = made.is; has = by_line number made.block made.is (slice_get s.script.blocks number) refl of; early = middle_given j (made.block).height made.so })
       by_event other of = absurd of
+
+  blocks_given : (n : ℕ) → (at_step g n).blocks_per_epoch ≡ blocks_per_epoch s
+  unfolding at_step
+  blocks_given n = refl
 
   pub meant : IsMeant g s
   meant = record {
@@ -229,6 +239,8 @@ module _ (s : Setting) (today : IsTodays s) (l : ℕ) (life : Life) (files : Fil
     acks = acks_given;
     seated = λ h st opened round is. given.in_round s today l life seen_today files life_is first_given h st opened round is;
     passes = λ h now st opened agreed. given.valid s today l life seen_today files life_is first_given h st opened now agreed;
+    middle = blocks_given;
+    plays = λ h now st q opened agreed are handed logs. given.playing s today l life seen_today files life_is first_given h st opened now q agreed are handed logs;
     events = events_given;
   }
 
@@ -255,8 +267,8 @@ same_behind (x ∷ old) a b e = same_behind old a b (same_item x x (old ++ a) (o
 module _ (s : Setting) (today : IsTodays s) (whole : IsWhole (entries s.files) s.secrets) (answered : Result (Unit {0}) Fault) (old_out new_out added : List Entry) (secrets_now : Secrets)
     (is : new_out ≡ old_out ++ added) where
   pub goes_to : (c : Files) → RunsOver s.script answered s.files (at (moment old_out s.secrets never) s.files) (λ f. at (moment new_out secrets_now f) c)
-      → EachAfter s (IsSound s) (at_start s) added × LeavesRun answered (at (moment new_out secrets_now never) c).held s (fold (read s) (at_start s) added)
-  goes_to c run = (subst (λ (xs : List Entry). EachAfter s (IsSound s) (at_start s) xs) same gone.each, subst (λ (xs : List Entry). LeavesRun answered (at (moment new_out secrets_now never) c).held s (fold (read s) (at_start s) xs)) same gone.to)
+      → EachAfter s (IsKeptEntry s) (at_start s) added × LeavesRun answered (at (moment new_out secrets_now never) c).held s (fold (read s) (at_start s) added)
+  goes_to c run = (subst (λ (xs : List Entry). EachAfter s (IsKeptEntry s) (at_start s) xs) same gone.each, subst (λ (xs : List Entry). LeavesRun answered (at (moment new_out secrets_now never) c).held s (fold (read s) (at_start s) xs)) same gone.to)
     where
       w : World
       w = at (moment old_out s.secrets never) s.files
@@ -266,7 +278,7 @@ module _ (s : Setting) (today : IsTodays s) (whole : IsWhole (entries s.files) s
 
       gone : Goes s (at_start s) old_out new_out (LeavesRun answered (at (moment new_out secrets_now never) c).held s)
       gone = run_kept laws s.script s (λ l life seen files life_is reads. subst (λ (seen : Held → Seen). IsMeant (lived s.script l life seen files) s) (sym reads) (meant s today l life files life_is))
-          (λ its. its ≡ s.files) w answered new (at_start s) (lives_of s [] s.script.lives refl) (record { lives = refl; step = refl; nothing = refl }) (rests_at_start s w.held today refl refl whole) run.so
+          (λ its. its ≡ s.files) w answered new (at_start s) (lives_of s [] s.script.lives refl) (record { lives = refl; step = refl; nothing = refl }) (rests_at_start s w.held today refl refl whole) refl run.so
 
       same : gone.added ≡ added
       same = same_behind old_out gone.added added (sym gone.out ∙ is)
@@ -274,25 +286,40 @@ module _ (s : Setting) (today : IsTodays s) (whole : IsWhole (entries s.files) s
 -- .. and of all, where one is left
 module _ (script : Script) (files : Files) (image : Files → Type 0) (secrets : Secrets) (now : Files → Type 0) (secrets_now : Secrets) (answered : Result (Unit {0}) Fault) (old_out new_out added : List Entry)
     (is : new_out ≡ old_out ++ added)
-    (runs : Stands files image → (c : Files) → now c → RunsOver script answered files (at (moment old_out secrets never) files) (λ f. at (moment new_out secrets_now f) c)) where
-  pub kept_of : image files → (c : Files) → now c → KeepsDealings (setting_of script files secrets) image now secrets_now added
-  unfolding progress
-  kept_of itself c left built honest = ([], resting.is_history (setting_of script files secrets) (cuts_in (setting_of script files secrets) added) today, record {
-    each = at_each s (IsSound s) added (one c left).0;
+    (runs : Stands files image → (c : Files) → now c → RunsOver script answered files (at (moment old_out secrets never) files) (λ f. at (moment new_out secrets_now f) c))
+    (itself : image files) (left : Files) (is_left : now left) where
+  abbrev s : Setting
+  s = setting_of script files secrets
+
+  module _ (built : IsBuilt s) (honest : IsHonestRun s image) where
+    today : IsTodays s
+    today = record { built = built; no_plans = refl; consistent = honest.source [] tt [] (record { first = sym (plain_of s built).no_record; next = λ l below. absurd (omega (arith, below)) }) }
+
+    stands : Stands files image
+    stands = record { lands = honest.stores.nothing_loose; itself = itself }
+
+    one : (c : Files) → now c → EachAfter s (IsKeptEntry s) (at_start s) added × LeavesRun answered (at (moment new_out secrets_now never) c).held s (fold (read s) (at_start s) added)
+    one c there = goes_to s today honest.stores.whole answered old_out new_out added secrets_now is c (runs stands c there)
+
+    each : AtEachEntry s (IsKeptEntry s) added
+    each = at_each s (IsKeptEntry s) added (one left is_left).0
+
+    durable : IsDurable s (progress s added) now secrets_now
+    unfolding progress
     durable = record {
-      whole = λ c left. (one c left).1.0;
-      gives = λ c left. all_current (begun s (progress s added).cuts (length (progress s added).cuts) (progress s added).step) (Gives (recovered_in (at (moment new_out secrets_now never) c).held)) (progress s added).recorded (one c left).1.1;
-    };
-  })
-    where
-      s : Setting
-      s = setting_of script files secrets
+      whole = λ c there. (one c there).1.0;
+      gives = λ c there. all_current (begun s (progress s added).cuts (length (progress s added).cuts) (progress s added).step) (Gives (recovered_in (at (moment new_out secrets_now never) c).held)) (progress s added).recorded (one c there).1.1;
+    }
 
-      today : IsTodays s
-      today = record { built = built; no_plans = refl; consistent = honest.source [] tt [] (record { first = sym (plain_of s built).no_record; next = λ l below. absurd (omega (arith, below)) }) }
+    kept : InACase s (cuts_in s added) (λ case. Kept case added now secrets_now)
+    kept = ([], resting.is_history s (cuts_in s added) today, record { each = λ before entry after parts. (each before entry after parts).0; durable = durable })
 
-      stands : Stands files image
-      stands = record { lands = honest.stores.nothing_loose; itself = itself }
+    -- the case of no plan
+    settled : (before after : List Entry) (step : ℕ) → added ≡ before ++ entry.Step step ∷ after → IsAnswered s before
+    settled before after step parts own due = (each before (entry.Step step) after parts).1 own.handed_in (due [] (resting.is_history s (cuts_in s before) today))
 
-      one : (c : Files) → now c → EachAfter s (IsSound s) (at_start s) added × LeavesRun answered (at (moment new_out secrets_now never) c).held s (fold (read s) (at_start s) added)
-      one c left = goes_to s today honest.stores.whole answered old_out new_out added secrets_now is c (runs stands c left)
+  pub kept_of : KeepsDealings (setting_of script files secrets) image now secrets_now added
+  kept_of built honest = kept built honest
+
+  pub answered_of : RunsAll script added → AnswersDealings (setting_of script files secrets) image added
+  answered_of all built honest = record { all_run = all files secrets; answered = settled built honest }

@@ -246,7 +246,11 @@ module _ {Dir : Type 0} (c : Fixed Dir) (l : ℕ) (life : Life) (j from : ℕ) (
   its_half = heard c st from bytes life l j its.half w its.mid s p
       (record { life_is = at.life_is; lives = at.lives; step = at.step; event_is = event_is; nothing = at.nothing }) carries.half can.brings small its.run
 
-  pub message_kept : Reaches s p w.out new.out (IsLeftBy c l st (IsUndue c st from bytes) ended new.held s p)
+  -- nothing is due, and nothing was recorded
+  abbrev Passed : Progress → Type 0
+  Passed q = IsUndue c st from bytes × (q.recorded ≡ p.recorded)
+
+  pub message_kept : Reaches s p w.out new.out (λ q. IsLeftBy c l st (IsUndue c st from bytes × (q.recorded ≡ p.recorded)) ended new.held s p q)
   message_kept = record {
     added = its_half.added ++ its.lines;
     out = its.out ∙ ap (λ (xs : List Entry). xs ++ its.lines) its_half.out ∙ append_assoc w.out its_half.added its.lines;
@@ -257,8 +261,8 @@ module _ {Dir : Type 0} (c : Fixed Dir) (l : ℕ) (life : Life) (j from : ℕ) (
       mid : Progress
       mid = fold (read s) p its_half.added
 
-      left : (q : Progress) → IsUnchanged mid q → (list_any is_ack mid.written ≡ true → list_any is_ack q.written ≡ true) → IsLeftBy c l st (IsUndue c st from bytes) ended new.held s p q
-      left q unchanged wrote = leaves c l life j st (Sent (Peer from bytes)) ended w new s p at carries (agreed_by c st (Sent (Peer from bytes)) ended w new carries.half.agreed can run) next (IsUndue c st from bytes) q
+      left : (q : Progress) → IsUnchanged mid q → (list_any is_ack mid.written ≡ true → list_any is_ack q.written ≡ true) → IsLeftBy c l st (Passed q) ended new.held s p q
+      left q unchanged wrote = leaves c l life j st (Sent (Peer from bytes)) ended w new s p at carries (agreed_by c st (Sent (Peer from bytes)) ended w new carries.half.agreed can run) next (Passed q) q
           (record { cuts = unchanged.cuts ∙ its_half.same.cuts; step = unchanged.step ∙ its_half.same.step; opened = unchanged.opened ∙ its_half.same.opened })
           (subst (λ (h : Held). IsWhole (notes h) h.secrets) (sym its.held) its_half.whole)
           (rw (its.held, unchanged.recorded) its_half.given)
@@ -268,13 +272,13 @@ module _ {Dir : Type 0} (c : Fixed Dir) (l : ℕ) (life : Life) (j from : ℕ) (
           (by_end its.half ended its.ends its_half.ended)
         where
           Settled : Type 0
-          Settled = ((pair : Restored) → Gives (recovered_in new.held) pair → pair_of q.recorded pair.epoch pair.dealer ≡ Some pair) × (IsUndue c st from bytes ⊎ (list_any is_ack q.written ≡ true))
+          Settled = ((pair : Restored) → Gives (recovered_in new.held) pair → pair_of q.recorded pair.epoch pair.dealer ≡ Some pair) × (Passed q ⊎ (list_any is_ack q.written ≡ true))
 
           by_end : (half : Ended Fault (Live Dir)) (whole : Ended NodeStop (Live Dir)) → EndsBehind half whole
-              → IfWentTo half (λ end. ((pair : Restored) → Gives (recovered_in its.mid.held) pair → pair_of mid.recorded pair.epoch pair.dealer ≡ Some pair) × (IsUndue c st from bytes ⊎ (list_any is_ack mid.written ≡ true)))
+              → IfWentTo half (λ end. ((pair : Restored) → Gives (recovered_in its.mid.held) pair → pair_of mid.recorded pair.epoch pair.dealer ≡ Some pair) × (Passed mid ⊎ (list_any is_ack mid.written ≡ true)))
               → IfWentTo whole (λ end. Settled)
           by_end (went x) (went end) ends so =
-              ((λ pair there. rw unchanged.recorded (so.0 pair (rw its.held at there))), elim so.1 [ inl undue ↦ inl undue | inr is ↦ inr (wrote is) ])
+              ((λ pair there. rw unchanged.recorded (so.0 pair (rw its.held at there))), elim so.1 [ inl passed ↦ inl (passed.0, unchanged.recorded ∙ passed.1) | inr is ↦ inr (wrote is) ])
           by_end half (stopped stop) ends so = tt
           by_end half (broken cause) ends so = tt
           by_end (stopped fault) (went end) ends so = absurd (went_stopped end (Faulted fault) ends)
