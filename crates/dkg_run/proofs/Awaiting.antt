@@ -58,13 +58,17 @@ IsReached its j = IfSome its (λ cut. cut.call ≡ 0 → j < cut.step)
 abbrev pub IsBefore : Option Cut → ℕ → Type 0
 IsBefore its j = IfSome its (λ cut. cut.call ≡ 0 → j ≤ cut.step)
 
+none_lit : (t : Bool) (x f : Burn) → t ≡ true → cond t None (Some x) ≡ Some f → ⊥
+none_lit true x f test is = none_there f is
+none_lit false x f test is = absurd (let wrong : ◌≡◌ {A = Bool} false true = test in cc)
+
 -- a step that has a fuse is reached
 pub reached_lit : (its : Option Cut) (j : ℕ) (f : Burn) → fuse_for its j ≡ Some f → IsBefore its j → IsReached its j
 reached_lit None j f lit before = tt
 reached_lit (Some cut) j f lit before = λ none. by_step none (cut.step == j) refl lit
   where
     by_step : cut.call ≡ 0 → (t : Bool) → (cut.step == j) ≡ t → cond t (fuse_within cut) (Some never) ≡ Some f → j < cut.step
-    by_step none true test lit = absurd (none_there f (sym (ap (λ (b : Bool). cond b None (Some (record { call = cut.call; pick = cut.pick; spent = 0 }))) (sym (is_zero cut.call none))) ∙ lit))
+    by_step none true test lit = absurd (none_lit (cut.call == 0) (record { call = cut.call; pick = cut.pick; spent = 0 }) f (is_zero cut.call none) lit)
       where
         is_zero : (n : ℕ) → n ≡ 0 → (n == 0) ≡ true
         is_zero n e = grind (arith, nat_tests)
@@ -129,9 +133,9 @@ pub record HasHeight (s : Setting) (number : ℕ) (its : made.Block directory.Un
 
 pub has_height : (s : Setting) (number : ℕ) (its : made.Block directory.Unit) (line : BlockLine) → slice_get s.script.blocks number ≡ Some line → slice_get (blocks_in s.script) number ≡ Some its → HasHeight s number its
 has_height s number its line line_is is =
-    let made = made_at s.script number (λ (h : ℕ). h ≡ line.height) (subst (λ (o : Option BlockLine). IsSomeAnd o (λ l. l.height ≡ line.height)) (sym line_is) refl) in
-    let same : made.block ≡ its = same_there made.block its (sym made.is ∙ is) in
-    record { b = block_of s (take number (blocks s)) line; there = of_line s number line line_is; same = subst (λ (b : made.Block directory.Unit). b.height ≡ line.height) same made.so }
+    let of = made_at s.script number (λ (h : ℕ). h ≡ line.height) (subst (λ (o : Option BlockLine). IsSomeAnd o (λ l. l.height ≡ line.height)) (sym line_is) refl) in
+    let same : of.block ≡ its = same_there of.block its (sym of.is ∙ is) in
+    record { b = block_of s (take number (blocks s)) line; there = of_line s number line line_is; same = subst (λ (b : made.Block directory.Unit). b.height ≡ line.height) same of.so }
 
 -- A TIP, and what is awaited behind it
 

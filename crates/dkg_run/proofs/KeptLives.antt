@@ -432,7 +432,7 @@ module _ (laws : NodeLaws) (g : Lived) (s : Setting) (meant : IsMeant g s) where
       lives_on message (stopped stop) next = tt
       lives_on message (broken cause) next = tt
 
-      abbrev Left : Type 0
+      Left : Type 0
       Left = (logs_in (notes new.held) ≡ logs_in (notes w.held)) × IfWentTo ended (λ end. IsLiveToday (at_step g j) end × (end.orchestrator.waiting ≡ None))
 
       by_peer : IsPeers g j event → Left

@@ -194,15 +194,16 @@ module _ (s : Setting) (today : IsTodays s) (l : ℕ) (life : Life) (seen : Held
           ∙ first_found (blocks_in s.script) life.held _ block (life_today s l life today life_is).holds (first_made s.script line there) height)
 
       has_round : follows s l life 0 ≡ false → (round : Round) × (st.participation.round ≡ Some round)
-      has_round part =
-          let first = by_line part (slice_get s.script.blocks 0) refl in
-          of_info first.0 (info_of first.0.payload) (subst (λ (o : Option (Block directory.Unit)). IsSetUpBy (at_step g 0) ((at_step g 0).seen h) opened.before o) first.1 opened.opened.set_up)
+      has_round part = by_first (by_line part (slice_get s.script.blocks 0) refl)
         where
           of_info : (b : Block directory.Unit) (o : Option (EpochInfo directory.Unit))
               → IsSomeAnd o (λ info. (info.epoch ≡ first_epoch (at_step g 0)) × (validity (at_step g 0) info ≡ Ok tt) × IsSeatedBy (at_step g 0) ((at_step g 0).seen h) opened.before info)
               → (round : Round) × (st.participation.round ≡ Some round)
           of_info b None set_up = absurd set_up
           of_info b (Some info) set_up = (set_up.2.round, ap (λ p. p.round) same_participation ∙ set_up.2.in_round)
+
+          by_first : (b : Block directory.Unit) × (first_block (at_step g 0) ≡ Some b) → (round : Round) × (st.participation.round ≡ Some round)
+          by_first (b, is) = of_info b (info_of b.payload) (rw is at opened.opened.set_up)
 
       -- ITS SEAT
       module _ (now : Held) (q : Progress) (agreed : AreAgreed st.records now) (are : AreRecorded (recovered_in now) q.recorded) (handed : HandsOn s q) (logs : logs_in (notes now) ≡ logs_in (entries s.files)) where
@@ -216,7 +217,7 @@ module _ (s : Setting) (today : IsTodays s) (l : ℕ) (life : Life) (seen : Held
             let first : round.number ≡ 0 = (in_round round there).1 in
             let found : is_lost (at_step g 0) round (of_epoch 0 (pairs_in (recovered_in now))) (bare_logs (of_epoch 0 (pairs_in (logs_in (entries s.files))))) ≡ false = lacks_none s q (recovered_in now) round handed are.given known (in_round round there).0 in
             let lost : is_lost (at_step g 0) round (of_epoch round.number opened.before.records.dealings) (logs_of opened.before round.number) ≡ false =
-            rw (records, agreed.dealings, agreed.logs, logs, first) found in
+            subst (λ (n : ℕ). is_lost (at_step g 0) round (of_epoch n opened.before.records.dealings) (logs_of opened.before n) ≡ false) (sym first) (rw (records, agreed.dealings, agreed.logs, logs) found) in
             seat ∙ sits (has_key (me s) round.players) (is_lost (at_step g 0) round (of_epoch round.number opened.before.records.dealings) (logs_of opened.before round.number)) key lost
           where
             sits : (key lost : Bool) → key ≡ true → lost ≡ false → (if not key || lost then Watches else Plays) ≡ Plays

@@ -77,6 +77,9 @@ module _ {Dir : Type 0} (c : Fixed Dir) (st : Live Dir) (h : Held) (s : Setting)
   zero_is : awaited_epoch s l life (j - 1) ≡ 0
   zero_is = awaits_zero s l life (j - 1) carries.today life_is
 
+  valid_back : (round : Round) (public : List ℕ) (private : ℕ) → dealing_of round (me s) from public private ≡ Ok tt → c.rules.dealing_of round c.me from public private ≡ Ok tt
+  valid_back round public private is = rw (carries.knows.rules_are, carries.knows.me_is) is
+
   module _ (due : script.IsDue s q) where
     of_life : IsDueIn s q life
     of_life = rw (lives, life_is) at due
@@ -89,9 +92,9 @@ module _ {Dir : Type 0} (c : Fixed Dir) (st : Live Dir) (h : Held) (s : Setting)
 
     event : IsDueEvent s q 0 (Peer from bytes)
     event = subst (λ (e : Option Event). IsSomeAnd e (IsDueEvent s q 0)) (ap (event_of_step life) step ∙ event_is)
-        (subst (λ (n : ℕ). IsSomeAnd (event_of_step life q.step) (IsDueEvent s q n)) zero_is (rw (lives, step) at of_life.dealing))
+        (subst (λ (n : ℕ). IsSomeAnd (event_of_step life q.step) (IsDueEvent s q n)) (awaits_zero s (length q.cuts) life (q.step - 1) carries.today (ap (life_at s) lives ∙ life_is)) of_life.dealing)
 
-    round : Round
+    abbrev round : Round
     round = (in_round takes_part).0
 
     of_epoch : st.participation.round ≡ Some round
@@ -115,7 +118,7 @@ module _ {Dir : Type 0} (c : Fixed Dir) (st : Live Dir) (h : Held) (s : Setting)
 
     fits : (d : Halves) → IsDueDealing s q 0 from round d → IsSome (recorded_at st.records.dealings round.number from) ⊎ (c.rules.dealing_of round c.me from d.public d.private ≡ Ok tt)
     fits d its = elim its.valid [
-      | inl ok ↦ inr (rw (carries.knows.rules_are, carries.knows.me_is) ok)
+      | inl ok ↦ inr (valid_back round d.public d.private ok)
       | inr some ↦ inl (there (pair_of p.recorded 0 from) refl (subst (λ (rs : List Restored). IsSome (pair_of rs 0 from)) same some))
     ]
 
