@@ -1,4 +1,5 @@
 pub mod Asked
+pub mod Behind
 pub mod BlockLines
 pub mod Early
 pub mod Ended
