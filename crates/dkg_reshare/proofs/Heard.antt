@@ -10,7 +10,7 @@ use Rattle.dkg_journal.specs.Names.{Files}
 use Rattle.dkg_types.specs.declared.entry.Entry.{Entry as Line}
 use Rattle.dkg_types.specs.declared.fault.Fault.{Fault}
 use Rattle.dkg_types.specs.declared.fault.Fault.TheVariants.{NoMemory}
-use Rattle.dkg_store.specs.Acts.{Acts, MadeAt, Moment, moment, went}
+use Rattle.dkg_store.specs.Acts.{Acts, Moment, moment, went}
 use Rattle.dkg_store.specs.Rest.{SameRest}
 use Rattle.dkg_store.specs.Secrets.{Secrets}
 use Rattle.dkg_store.specs.declared.player.Player.{Player}
@@ -27,6 +27,7 @@ use Rattle.dkg_reshare.specs.Ends.{by_stop, ends_in}
 use Rattle.dkg_reshare.specs.Given.{IsOf}
 use Rattle.dkg_reshare.specs.Heard.{answers, pairs_after, round_dealt}
 use Rattle.dkg_reshare.specs.LiveOf.{Beside, IsSeated, Sits, SitsAt, live_of, seat_of}
+use Rattle.dkg_reshare.specs.Made.{MakesAt}
 use Rattle.dkg_reshare.specs.Rules.{AckOf, AnswersBy, DealingOf}
 use Rattle.dkg_core.specs.Said.{Said}
 use Rattle.dkg_reshare.specs.Steps.{told_by}
@@ -64,9 +65,9 @@ module _ {Dir : Type 0} (dealing_of : DealingOf) (ack_of : AckOf) (its : ℕ) (t
           new = record old { store = store; player = Some now }
 
           pub heard_made : {files files_mid : Files} {image between : Files → Type 0} {old_moment : Moment} {mid told : List Line} {s : Secrets} {f : Burn}
-              → MadeAt its_acts (went answer) files image files_mid between old_moment (moment mid s f)
+              → MakesAt its_acts (went answer) files image files_mid between old_moment (moment mid s f)
               → OnOk result (told ≡ mid ++ told_by epoch from answer ∷ []) → OnErr result (told ≡ mid) → IfErr result (λ stop. stop ≡ Faulted NoMemory)
-              → MadeAt (on_devices course) (ends_in (live_of beside fence new) result) files image files_mid between old_moment (moment told s f)
+              → MakesAt (on_devices course) (ends_in (live_of beside fence new) result) files image files_mid between old_moment (moment told s f)
           heard_made first line untold memory =
               dealing_made c round from public private beside fence old dealing_of ack_of player epoch by.dealing by.ack mine_is its_round of_round.number (ap seat_of is) new
               (ends_at c round from public private beside fence old dealing_of ack_of player epoch by.dealing by.ack mine_is its_round of_round.number (ap seat_of is) new refl rest (sym (ap seat_of is)) pairs)
@@ -81,7 +82,7 @@ module _ {Dir : Type 0} (dealing_of : DealingOf) (ack_of : AckOf) (its : ℕ) (t
               answer result first line untold memory
 
       pub heard_stopped : (stop : Stop) {files files_now : Files} {image now : Files → Type 0} {old_moment new_moment : Moment}
-          → MadeAt its_acts (by_stop stop) files image files_now now old_moment new_moment → MadeAt (on_devices course) (by_stop stop) files image files_now now old_moment new_moment
+          → MakesAt its_acts (by_stop stop) files image files_now now old_moment new_moment → MakesAt (on_devices course) (by_stop stop) files image files_now now old_moment new_moment
       heard_stopped stop first =
           dealing_stopped c round from public private beside fence old dealing_of ack_of player epoch by.dealing by.ack mine_is its_round of_round.number (ap seat_of is) stop first
 

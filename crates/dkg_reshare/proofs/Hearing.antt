@@ -12,12 +12,11 @@ use Rattle.dkg_types.specs.declared.entry.Entry.{Entry as Line}
 use Rattle.dkg_types.specs.declared.fault.Fault.{Fault}
 use Rattle.dkg_types.specs.declared.fault.Fault.TheVariants.{NoMemory}
 use Rattle.dkg_store.specs.Acts as acts_of
-use Rattle.dkg_store.specs.Acts.{Acts, MadeAt, Ended, went, Moment, moment}
+use Rattle.dkg_store.specs.Acts.{Acts, Ended, went, Moment, moment}
 use Rattle.dkg_store.specs.Keys.{key_cmp}
 use Rattle.dkg_store.specs.Rest.{SameRest}
 use Rattle.dkg_store.specs.Secrets.{Secrets}
 use Rattle.dkg_store.specs.declared.player.Player.{Player}
-use Rattle.dkg_store.proofs.Acts.{made_next}
 use Rattle.dkg_core.specs.Courses.{Course, on_devices}
 use Rattle.dkg_core.specs.Dealing as dealing
 use Rattle.dkg_core.specs.Fixed.{Fixed}
@@ -28,13 +27,14 @@ use Rattle.dkg_reshare.specs.declared.stop.Stop.{Stop}
 use Rattle.dkg_reshare.specs.declared.stop.Stop.TheVariants.{Fault as Faulted}
 use Rattle.dkg_reshare.specs.Ends.{by_stop, ends_in}
 use Rattle.dkg_reshare.specs.Heard.{answers, pairs_after}
+use Rattle.dkg_reshare.specs.Made.{MakesAt}
 use Rattle.dkg_reshare.specs.LiveOf.{Beside, live_of, seat_of}
 use Rattle.dkg_reshare.specs.Rules.{AckOf, DealingOf}
 use Rattle.dkg_core.specs.Said.{Said}
 use Rattle.dkg_reshare.specs.Steps.{told_by}
-use Rattle.dkg_reshare.proofs.Lines.{line_made, line_said}
+use Rattle.dkg_reshare.proofs.Burning.{line_makes, makes_early, makes_next}
+use Rattle.dkg_reshare.proofs.Lines.{line_said}
 use Rattle.dkg_reshare.proofs.Said.{said_next, said_early}
-use Rattle.dkg_reshare.proofs.Under.{ends_early}
 
 module _ {Dir : Type 0} (c : Fixed Dir) (round : Round) (from : ℕ) (public : List ℕ) (private : ℕ) (st : Live Dir) where
   -- what is in memory then
@@ -120,13 +120,13 @@ module _ {Dir : Type 0} (c : Fixed Dir) (round : Round) (from : ℕ) (public : L
     -- the player answered, and the line was told or found no memory
     pub dealing_made : (new : Life Dir) → live_of beside fence new ≡ end → (answer : Result (List ℕ) DealingError) (result : Result (Unit {0}) Stop)
         {files files_mid : Files} {image between : Files → Type 0} {old_moment : Moment} {mid now : List Line} {s : Secrets} {f : Burn}
-        → MadeAt its (went answer) files image files_mid between old_moment (moment mid s f)
+        → MakesAt its (went answer) files image files_mid between old_moment (moment mid s f)
         → OnOk result (now ≡ mid ++ told_by epoch from answer ∷ []) → OnErr result (now ≡ mid) → IfErr result (λ stop. stop ≡ Faulted NoMemory)
-        → MadeAt (on_devices course) (ends_in (live_of beside fence new) result) files image files_mid between old_moment (moment now s f)
+        → MakesAt (on_devices course) (ends_in (live_of beside fence new) result) files image files_mid between old_moment (moment now s f)
     dealing_made new live answer result {files} {files_mid} {image} {between} {old_moment} {mid} {now} {s} {f} first told untold memory =
-        subst (λ (x : Live Dir). MadeAt (on_devices course) (ends_in x result) files image files_mid between old_moment (moment now s f)) (sym live)
-        (subst (λ (x : Acts Fault (Live Dir)). MadeAt x (ends_in end result) files image files_mid between old_moment (moment now s f)) (sym course_is)
-        (made_next (λ x. acts_of.Say (told_by epoch from x) (acts_of.Goes end)) first (line_made (told_by epoch from answer) end result files_mid between s f told untold memory)))
+        subst (λ (x : Live Dir). MakesAt (on_devices course) (ends_in x result) files image files_mid between old_moment (moment now s f)) (sym live)
+        (subst (λ (x : Acts Fault (Live Dir)). MakesAt x (ends_in end result) files image files_mid between old_moment (moment now s f)) (sym course_is)
+        (makes_next (λ x. acts_of.Say (told_by epoch from x) (acts_of.Goes end)) first (line_makes (told_by epoch from answer) end result files_mid between s f told untold memory)))
 
     pub dealing_said : (new : Life Dir) → live_of beside fence new ≡ end → (answer : Result (List ℕ) DealingError) (result : Result (Unit {0}) Stop)
         {out mid now : List Line} → Said its (went answer) out mid
@@ -139,11 +139,11 @@ module _ {Dir : Type 0} (c : Fixed Dir) (round : Round) (from : ℕ) (public : L
 
     -- it did not answer
     pub dealing_stopped : (stop : Stop) {files files_now : Files} {image now : Files → Type 0} {old_moment new_moment : Moment}
-        → MadeAt its (by_stop stop) files image files_now now old_moment new_moment
-        → MadeAt (on_devices course) (by_stop stop) files image files_now now old_moment new_moment
+        → MakesAt its (by_stop stop) files image files_now now old_moment new_moment
+        → MakesAt (on_devices course) (by_stop stop) files image files_now now old_moment new_moment
     dealing_stopped stop {files} {files_now} {image} {now} {old_moment} {new_moment} first =
-        subst (λ (x : Acts Fault (Live Dir)). MadeAt x (by_stop stop) files image files_now now old_moment new_moment) (sym course_is)
-        (ends_early (λ x. acts_of.Say (told_by epoch from x) (acts_of.Goes end)) stop first)
+        subst (λ (x : Acts Fault (Live Dir)). MakesAt x (by_stop stop) files image files_now now old_moment new_moment) (sym course_is)
+        (makes_early (λ x. acts_of.Say (told_by epoch from x) (acts_of.Goes end)) stop first)
 
     pub dealing_unsaid : (stop : Stop) {out now : List Line} → Said its (by_stop stop) out now
         → Said (on_devices course) (by_stop stop) out now

@@ -1,8 +1,11 @@
 pub mod Beginning
+pub mod Burning
+pub mod Calls
 pub mod Caused
 pub mod Chained
 pub mod Drawing
 pub mod Ending
+pub mod Giving
 pub mod Handed
 pub mod Heard
 pub mod Hearing
@@ -10,6 +13,8 @@ pub mod Judging
 pub mod Kept
 pub mod Lines
 pub mod Making
+pub mod Openings
+pub mod Placing
 pub mod Read
 pub mod Reading
 pub mod Said

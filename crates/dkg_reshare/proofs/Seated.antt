@@ -38,17 +38,6 @@ module _ {Dir : Type 0} (ack_of : AckOf) (me its : ℕ) (life : Life Dir) (playe
   pub round_is : (round : Round) → life.round ≡ Some round → round ≡ player.round
   round_is round has = same_some round sits.round (sym has ∙ sits.has) ∙ sym sits.sits.round_is
 
-  -- .. keeps its seat
-  pub sits_again : (store : Store Dir) (now : Player) → SitsIn ack_of its store player.round now → Sits ack_of me (record life { store = store; player = Some now }) now
-  sits_again store now kept = record {
-    round = sits.round;
-    has = sits.has;
-    sits = subst (λ (r : Round). SitsIn ack_of me store r now) sits.sits.round_is (subst (λ (k : ℕ). SitsIn ack_of k store player.round now) (sym mine) kept);
-  }
-
-pub placed_again : {Dir : Type 0} (n : ℕ) (life : Life Dir) (store : Store Dir) (player : Option Player) → IsPlaced n life → IsPlaced n (record life { store = store; player = player })
-placed_again n life store player placed = record { epoch_is = placed.epoch_is; midpoint_is = placed.midpoint_is; ended = placed.ended }
-
 -- A life whose tip and stage alone moved keeps its player.
 pub seated_on : {Dir : Type 0} (ack_of : AckOf) (me : ℕ) (old new : Life Dir) → new ≡ record old { tip = new.tip; stage = new.stage } → IsSeated ack_of me old → IsSeated ack_of me new
 seated_on {Dir} ack_of me old new same seated = subst (λ (l : Life Dir). IsSeated ack_of me l) (sym same) (in_seat old.player seated)
@@ -65,3 +54,8 @@ pub seated_in : {Dir : Type 0} (ack_of : AckOf) (me : ℕ) (life : Life Dir) (ro
     → IfSome player (SitsIn ack_of me life.store round) → IfSome player (Sits ack_of me life)
 seated_in ack_of me life round has None sits = tt
 seated_in ack_of me life round has (Some player) sits = record { round = round; has = has; sits = sits }
+
+-- a life that a setup went on with
+pub same_but : {Dir : Type 0} (old new : Life Dir) → new.epoch ≡ old.epoch → new.midpoint ≡ old.midpoint → new.tip ≡ old.tip
+    → new ≡ record old { store = new.store; stage = new.stage; round = new.round; player = new.player }
+same_but old new epoch midpoint tip = λ i. record new { epoch = epoch i; midpoint = midpoint i; tip = tip i }

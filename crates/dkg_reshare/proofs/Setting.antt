@@ -19,7 +19,6 @@ use Rattle.dkg_store.specs.Acts.{Acts, Ended, Held, MadeAt, Moment, moment, went
 use Rattle.dkg_store.specs.Errors.{IsOfDevices}
 use Rattle.dkg_store.specs.Secrets.{Secrets}
 use Rattle.dkg_store.specs.declared.call.StoreError.{StoreError}
-use Rattle.dkg_store.proofs.Acts.{made_next, made_nothing}
 use Rattle.dkg_store.specs.Calls.{by_error, seeding, committing, pruning}
 use Rattle.dkg_store.specs.Keys.{key_cmp}
 use Rattle.dkg_store.specs.declared.store.Store.{Store}
@@ -35,10 +34,10 @@ use Rattle.dkg_reshare.specs.declared.stop.Stop.TheVariants.{Fault as Faulted}
 use Rattle.dkg_reshare.specs.Ends.{by_stop, ends_in, fault_of, stop_of}
 use Rattle.dkg_reshare.specs.LiveOf.{Beside, live_of, records_of}
 use Rattle.dkg_core.specs.Said.{Said}
+use Rattle.dkg_reshare.specs.Made.{Burns, MakesAt}
 use Rattle.dkg_reshare.specs.Steps.{reads_seed}
 use Rattle.dkg_reshare.specs.Today.{seen_today}
-use Rattle.dkg_reshare.proofs.Lines.{line_made}
-use Rattle.dkg_reshare.proofs.Under.{ends_early, made_error, made_under}
+use Rattle.dkg_reshare.proofs.Burning.{burns_still, line_makes, makes_early, makes_error, makes_next, makes_nothing, makes_under}
 
 equal_alike : (q k : ℕ) → eq_by_cmp nat_cmp q k ≡ (k == q)
 equal_alike q k = grind (arith, nat_tests)
@@ -86,17 +85,11 @@ pruned_records min old new dealings acks logs = λ i. record {
 -- MADE OVER THE DEVICES
 
 module _ {Dir : Type 0} (c : Fixed Dir) (epoch : ℕ) (reads : c.seen ≡ seen_today) {files files_now : Files} {image now : Files → Type 0} {old new : Moment} where
-  pub seed_read : (found : Option (List ℕ)) (seed : List ℕ) → seed ≡ setup.seed_for c epoch found → MadeAt (seeding epoch) (went found) files image files_now now old new
-      → MadeAt (on_devices (reads_seed c epoch)) (went seed) files image files_now now old new
-  seed_read found seed is made =
-      subst (λ (x : Acts Fault (List ℕ)). MadeAt x (went seed) files image files_now now old new) (sym (reads_as c epoch reads))
-      (made_next (λ its. acts_of.Goes (setup.seed_for c epoch its)) (made_under (went found) made) (made_nothing files_now now new is))
-
-  pub seed_failed : (e : StoreError) → IsOfDevices e → MadeAt (seeding epoch) (by_error e) files image files_now now old new
-      → MadeAt (on_devices (reads_seed c epoch)) (by_stop (stop_of e)) files image files_now now old new
-  seed_failed e kind made =
-      subst (λ (x : Acts Fault (List ℕ)). MadeAt x (by_stop (stop_of e)) files image files_now now old new) (sym (reads_as c epoch reads))
-      (ends_early (λ its. acts_of.Goes (setup.seed_for c epoch its)) (stop_of e) (made_error e kind made))
+  pub seed_read : (found : Option (List ℕ)) (seed : List ℕ) → seed ≡ setup.seed_for c epoch found → MadeAt (seeding epoch) (went found) files image files_now now old new → new.fuse ≡ old.fuse
+      → MakesAt (on_devices (reads_seed c epoch)) (went seed) files image files_now now old new
+  seed_read found seed is made still =
+      subst (λ (x : Acts Fault (List ℕ)). MakesAt x (went seed) files image files_now now old new) (sym (reads_as c epoch reads))
+      (makes_next (λ its. acts_of.Goes (setup.seed_for c epoch its)) (makes_under (went found) made (burns_still (went found) still)) (makes_nothing files_now now new is))
 
 module _ {Dir : Type 0} (info : EpochInfo Dir) (seed : List ℕ) (st : Live Dir) where
   abbrev with_info : Live Dir
@@ -107,40 +100,32 @@ module _ {Dir : Type 0} (info : EpochInfo Dir) (seed : List ℕ) (st : Live Dir)
 
   module _ {files files_now : Files} {image now : Files → Type 0} where
     pub commit_made : (end : Live Dir) → end ≡ with_info → (result : Result (Unit {0}) Stop) {old : Moment} {out told : List Line} {s : Secrets} {f : Burn}
-        → MadeAt (committing info.epoch seed None) (went tt) files image files_now now old (moment out s f)
+        → MadeAt (committing info.epoch seed None) (went tt) files image files_now now old (moment out s f) → Burns {F = StoreError} {S = Unit {0}} (went tt) old.fuse f
         → OnOk result (told ≡ out ++ Committed info.epoch None ∷ []) → OnErr result (told ≡ out) → IfErr result (λ stop. stop ≡ Faulted NoMemory)
-        → MadeAt (on_devices (setup.commits info seed None st)) (ends_in end result) files image files_now now old (moment told s f)
-    commit_made end is result {old} {out} {told} {s} {f} made told_it untold memory =
-        subst (λ (x : Live Dir). MadeAt (on_devices (setup.commits info seed None st)) (ends_in x result) files image files_now now old (moment told s f)) (sym is)
-        (made_next then_tells (made_under (went tt) made) (line_made (Committed info.epoch None) with_info result files_now now s f told_it untold memory))
+        → MakesAt (on_devices (setup.commits info seed None st)) (ends_in end result) files image files_now now old (moment told s f)
+    commit_made end is result {old} {out} {told} {s} {f} made burns told_it untold memory =
+        subst (λ (x : Live Dir). MakesAt (on_devices (setup.commits info seed None st)) (ends_in x result) files image files_now now old (moment told s f)) (sym is)
+        (makes_next then_tells (makes_under (went tt) made burns) (line_makes (Committed info.epoch None) with_info result files_now now s f told_it untold memory))
 
     pub commit_failed : (its : EpochInfo Dir) → its ≡ info → (e : StoreError) → IsOfDevices e → {old new : Moment}
-        → MadeAt (committing its.epoch seed None) (by_error e) files image files_now now old new
-        → MadeAt (on_devices (setup.commits info seed None st)) (by_stop (stop_of e)) files image files_now now old new
-    commit_failed its same e kind {old} {new} made =
-        ends_early then_tells (stop_of e)
-        (made_error e kind (subst (λ (x : EpochInfo Dir). MadeAt (committing x.epoch seed None) (by_error e) files image files_now now old new) same made))
-
-  pub commit_said : (end : Live Dir) → end ≡ with_info → (result : Result (Unit {0}) Stop) {out told : List Line}
-      → OnOk result (told ≡ out ++ Committed info.epoch None ∷ []) → OnErr result (told ≡ out) → IfErr result (λ stop. stop ≡ Faulted NoMemory)
-      → Said (on_devices (setup.commits info seed None st)) (ends_in end result) out told
-  commit_said end is (Ok done) {out} told untold memory = record { lines = Committed info.epoch None ∷ []; added = told; by = ([], refl, (refl, is)) }
-  commit_said end is (Err stop) {out} {told} told_it untold memory =
-      subst (λ (its : Ended Fault (Live Dir)). Said (on_devices (setup.commits info seed None st)) its out told) (sym (ap (λ (its : Stop). by_stop {S = Live Dir} its) memory))
-      (record { lines = []; added = untold ∙ sym (append-nil out); by = inl refl })
+        → MadeAt (committing its.epoch seed None) (by_error e) files image files_now now old new → new.fuse.call ≡ old.fuse.call → new.fuse.pick ≡ old.fuse.pick
+        → MakesAt (on_devices (setup.commits info seed None st)) (by_stop (stop_of e)) files image files_now now old new
+    commit_failed its same e kind {old} {new} made call pick =
+        makes_early then_tells (stop_of e)
+        (makes_error e kind (subst (λ (x : EpochInfo Dir). MadeAt (committing x.epoch seed None) (by_error e) files image files_now now old new) same made) call pick)
 
 module _ {Dir : Type 0} (min : ℕ) (st : Live Dir) where
   abbrev kept : Live Dir
   kept = record st { records = setup.records_from min st.records }
 
 module _ {Dir : Type 0} (min : ℕ) (st : Live Dir) {files files_now : Files} {image now : Files → Type 0} {old new : Moment} where
-  pub prune_made : (end : Live Dir) → end ≡ kept min st → MadeAt (pruning min) (went tt) files image files_now now old new
-      → MadeAt (on_devices (setup.prunes min st)) (went end) files image files_now now old new
-  prune_made end is made = made_next (λ done. acts_of.Goes (kept min st)) (made_under (went tt) made) (made_nothing files_now now new is)
+  pub prune_made : (end : Live Dir) → end ≡ kept min st → MadeAt (pruning min) (went tt) files image files_now now old new → Burns {F = StoreError} {S = Unit {0}} (went tt) old.fuse new.fuse
+      → MakesAt (on_devices (setup.prunes min st)) (went end) files image files_now now old new
+  prune_made end is made burns = makes_next (λ done. acts_of.Goes (kept min st)) (makes_under (went tt) made burns) (makes_nothing files_now now new is)
 
-  pub prune_failed : (e : StoreError) → IsOfDevices e → MadeAt (pruning min) (by_error e) files image files_now now old new
-      → MadeAt (on_devices (setup.prunes min st)) (by_stop (stop_of e)) files image files_now now old new
-  prune_failed e kind made = ends_early (λ done. acts_of.Goes (kept min st)) (stop_of e) (made_error e kind made)
+  pub prune_failed : (e : StoreError) → IsOfDevices e → MadeAt (pruning min) (by_error e) files image files_now now old new → new.fuse.call ≡ old.fuse.call → new.fuse.pick ≡ old.fuse.pick
+      → MakesAt (on_devices (setup.prunes min st)) (by_stop (stop_of e)) files image files_now now old new
+  prune_failed e kind made call pick = makes_early (λ done. acts_of.Goes (kept min st)) (stop_of e) (makes_error e kind made call pick)
 
 -- what a prune leaves in memory
 pub pruned_live : {Dir : Type 0} (min : ℕ) (beside : Beside Dir) (fence : Readiness) (life : Life Dir) (store : Store Dir)

@@ -10,7 +10,7 @@ use Rattle.dkg_types.specs.declared.fault.Fault.TheVariants.{InvalidParticipants
 use Rattle.dkg_types.specs.declared.fault.ParticipantsCause.TheVariants.{Refused}
 use Rattle.dkg_types.specs.declared.info.EpochInfo.{EpochInfo}
 use Rattle.dkg_types.specs.declared.participants.ParticipantsError.{ParticipantsError}
-use Rattle.dkg_store.specs.Acts.{Acts, Ended, Held, MadeAt, Moment, went}
+use Rattle.dkg_store.specs.Acts.{Acts, Ended, Held, Moment, went}
 use Rattle.dkg_store.specs.declared.store.Store.{Store}
 use Rattle.dkg_core.specs.Courses.{Course, bind, on_devices}
 use Rattle.dkg_core.specs.Fixed.{Fixed}
@@ -23,9 +23,9 @@ use Rattle.dkg_reshare.specs.declared.stop.Stop.TheVariants.{Fault as Faulted}
 use Rattle.dkg_reshare.specs.Ends.{by_stop, cause_in}
 use Rattle.dkg_reshare.specs.declared.life.Life.{Life}
 use Rattle.dkg_reshare.specs.LiveOf.{Beside, live_of}
-use Rattle.dkg_reshare.specs.Made.{Speaks, Tells}
+use Rattle.dkg_reshare.specs.Made.{MakesAt, Speaks, Tells}
 use Rattle.dkg_reshare.specs.Steps.{IsFaultOrWant, reads_seed, refusal_of, refused_by}
-use Rattle.dkg_reshare.proofs.Chained.{early_made, early_told, then_made, then_told}
+use Rattle.dkg_reshare.proofs.Chained.{early_makes, early_told, then_makes, then_told}
 use Rattle.dkg_reshare.proofs.Judging.{judged_today, passed, refused, seeded}
 use Rattle.dkg_reshare.proofs.Said.{nothing_held}
 use Rattle.dkg_reshare.proofs.Seated.{same_some}
@@ -89,44 +89,44 @@ seed_told c epoch out = record { lines = []; added = sym (append-nil out); by = 
 module _ {Dir : Type 0} (c : Fixed Dir) (info : EpochInfo Dir) (st : Live Dir) (all : Course Dir Fault (Live Dir)) (from_seed : all ≡ bind (reads_seed c info.epoch) (seeded c info st))
     {files files_now : Files} {image now : Files → Type 0} {old new : Moment}
   where
-    as_made : (how : Ended Fault (Live Dir)) → MadeAt (on_devices (bind (reads_seed c info.epoch) (seeded c info st))) how files image files_now now old new
-        → MadeAt (on_devices all) how files image files_now now old new
-    as_made how made = subst (λ (x : Course Dir Fault (Live Dir)). MadeAt (on_devices x) how files image files_now now old new) (sym from_seed) made
+    as_made : (how : Ended Fault (Live Dir)) → MakesAt (on_devices (bind (reads_seed c info.epoch) (seeded c info st))) how files image files_now now old new
+        → MakesAt (on_devices all) how files image files_now now old new
+    as_made how made = subst (λ (x : Course Dir Fault (Live Dir)). MakesAt (on_devices x) how files image files_now now old new) (sym from_seed) made
 
-    pub seed_ended : (stop : Stop) → MadeAt (on_devices (reads_seed c info.epoch)) (by_stop stop) files image files_now now old new
-        → MadeAt (on_devices all) (by_stop stop) files image files_now now old new
-    seed_ended stop made = as_made (by_stop stop) (early_made (reads_seed c info.epoch) (seeded c info st) stop made)
+    pub seed_ended : (stop : Stop) → MakesAt (on_devices (reads_seed c info.epoch)) (by_stop stop) files image files_now now old new
+        → MakesAt (on_devices all) (by_stop stop) files image files_now now old new
+    seed_ended stop made = as_made (by_stop stop) (early_makes (reads_seed c info.epoch) (seeded c info st) stop made)
 
-    module _ (seed : List ℕ) {files1 : Files} {image1 : Files → Type 0} {m1 : Moment} (read : MadeAt (on_devices (reads_seed c info.epoch)) (went seed) files image files1 image1 old m1) where
-      behind_seed : (how : Ended Fault (Live Dir)) → MadeAt (on_devices (seeded c info st seed)) how files1 image1 files_now now m1 new
-          → MadeAt (on_devices all) how files image files_now now old new
-      behind_seed how made = as_made how (then_made (reads_seed c info.epoch) (seeded c info st) seed how read made)
+    module _ (seed : List ℕ) {files1 : Files} {image1 : Files → Type 0} {m1 : Moment} (read : MakesAt (on_devices (reads_seed c info.epoch)) (went seed) files image files1 image1 old m1) where
+      behind_seed : (how : Ended Fault (Live Dir)) → MakesAt (on_devices (seeded c info st seed)) how files1 image1 files_now now m1 new
+          → MakesAt (on_devices all) how files image files_now now old new
+      behind_seed how made = as_made how (then_makes (reads_seed c info.epoch) (seeded c info st) seed how read made)
 
-      pub commit_ended : (stop : Stop) → MadeAt (on_devices (setup.commits info seed None st)) (by_stop stop) files1 image1 files_now now m1 new
-          → MadeAt (on_devices all) (by_stop stop) files image files_now now old new
+      pub commit_ended : (stop : Stop) → MakesAt (on_devices (setup.commits info seed None st)) (by_stop stop) files1 image1 files_now now m1 new
+          → MakesAt (on_devices all) (by_stop stop) files image files_now now old new
       commit_ended stop made =
-          behind_seed (by_stop stop) (early_made (bind (setup.commits info seed None st) (registering c info)) (last_parts c info seed) stop (early_made (setup.commits info seed None st) (registering c info) stop made))
+          behind_seed (by_stop stop) (early_makes (bind (setup.commits info seed None st) (registering c info)) (last_parts c info seed) stop (early_makes (setup.commits info seed None st) (registering c info) stop made))
 
-      module _ (st1 : Live Dir) {files2 : Files} {image2 : Files → Type 0} {m2 : Moment} (committed : MadeAt (on_devices (setup.commits info seed None st)) (went st1) files1 image1 files2 image2 m1 m2) where
-        pub register_ended : (stop : Stop) → MadeAt (on_devices (registering c info st1)) (by_stop stop) files2 image2 files_now now m2 new
-            → MadeAt (on_devices all) (by_stop stop) files image files_now now old new
+      module _ (st1 : Live Dir) {files2 : Files} {image2 : Files → Type 0} {m2 : Moment} (committed : MakesAt (on_devices (setup.commits info seed None st)) (went st1) files1 image1 files2 image2 m1 m2) where
+        pub register_ended : (stop : Stop) → MakesAt (on_devices (registering c info st1)) (by_stop stop) files2 image2 files_now now m2 new
+            → MakesAt (on_devices all) (by_stop stop) files image files_now now old new
         register_ended stop made =
-            behind_seed (by_stop stop) (early_made (bind (setup.commits info seed None st) (registering c info)) (last_parts c info seed) stop
-            (then_made (setup.commits info seed None st) (registering c info) st1 (by_stop stop) committed made))
+            behind_seed (by_stop stop) (early_makes (bind (setup.commits info seed None st) (registering c info)) (last_parts c info seed) stop
+            (then_makes (setup.commits info seed None st) (registering c info) st1 (by_stop stop) committed made))
 
-        module _ (st2 : Live Dir) {files3 : Files} {image3 : Files → Type 0} {m3 : Moment} (registered : MadeAt (on_devices (registering c info st1)) (went st2) files2 image2 files3 image3 m2 m3) where
-          pub prune_ended : (min : ℕ) → min ≡ st2.participation.epoch - 1 → (stop : Stop) → MadeAt (on_devices (setup.prunes min st2)) (by_stop stop) files3 image3 files_now now m3 new
-              → MadeAt (on_devices all) (by_stop stop) files image files_now now old new
+        module _ (st2 : Live Dir) {files3 : Files} {image3 : Files → Type 0} {m3 : Moment} (registered : MakesAt (on_devices (registering c info st1)) (went st2) files2 image2 files3 image3 m2 m3) where
+          pub prune_ended : (min : ℕ) → min ≡ st2.participation.epoch - 1 → (stop : Stop) → MakesAt (on_devices (setup.prunes min st2)) (by_stop stop) files3 image3 files_now now m3 new
+              → MakesAt (on_devices all) (by_stop stop) files image files_now now old new
           prune_ended min min_is stop made =
-              behind_seed (by_stop stop) (then_made (bind (setup.commits info seed None st) (registering c info)) (last_parts c info seed) st2 (by_stop stop) (then_made (setup.commits info seed None st) (registering c info) st1 (went st2) committed registered)
-              (early_made (pruning_in c info st2) (drawing c info seed) stop (subst (λ (m : ℕ). MadeAt (on_devices (setup.prunes m st2)) (by_stop stop) files3 image3 files_now now m3 new) min_is made)))
+              behind_seed (by_stop stop) (then_makes (bind (setup.commits info seed None st) (registering c info)) (last_parts c info seed) st2 (by_stop stop) (then_makes (setup.commits info seed None st) (registering c info) st1 (went st2) committed registered)
+              (early_makes (pruning_in c info st2) (drawing c info seed) stop (subst (λ (m : ℕ). MakesAt (on_devices (setup.prunes m st2)) (by_stop stop) files3 image3 files_now now m3 new) min_is made)))
 
           pub draw_ended : (min : ℕ) → min ≡ st2.participation.epoch - 1 → (st3 : Live Dir) (how : Ended Fault (Live Dir)) {files4 : Files} {image4 : Files → Type 0} {m4 : Moment}
-              → MadeAt (on_devices (setup.prunes min st2)) (went st3) files3 image3 files4 image4 m3 m4 → MadeAt (on_devices (drawing c info seed st3)) how files4 image4 files_now now m4 new
-              → MadeAt (on_devices all) how files image files_now now old new
+              → MakesAt (on_devices (setup.prunes min st2)) (went st3) files3 image3 files4 image4 m3 m4 → MakesAt (on_devices (drawing c info seed st3)) how files4 image4 files_now now m4 new
+              → MakesAt (on_devices all) how files image files_now now old new
           draw_ended min min_is st3 how {files4} {image4} {m4} pruned drawn =
-              behind_seed how (then_made (bind (setup.commits info seed None st) (registering c info)) (last_parts c info seed) st2 how (then_made (setup.commits info seed None st) (registering c info) st1 (went st2) committed registered)
-              (then_made (pruning_in c info st2) (drawing c info seed) st3 how (subst (λ (m : ℕ). MadeAt (on_devices (setup.prunes m st2)) (went st3) files3 image3 files4 image4 m3 m4) min_is pruned) drawn))
+              behind_seed how (then_makes (bind (setup.commits info seed None st) (registering c info)) (last_parts c info seed) st2 how (then_makes (setup.commits info seed None st) (registering c info) st1 (went st2) committed registered)
+              (then_makes (pruning_in c info st2) (drawing c info seed) st3 how (subst (λ (m : ℕ). MakesAt (on_devices (setup.prunes m st2)) (went st3) files3 image3 files4 image4 m3 m4) min_is pruned) drawn))
 
 -- SAID, from the seed on
 

@@ -212,18 +212,21 @@ pub is_now : {Dir : Type 0} (old new : Life Dir) (t : Tip) (s : Stage) → new �
 is_now old new t s rest tip stage = rest ∙ (λ i. record old { tip = tip i; stage = stage i })
 
 -- the bounds of its epoch
-pub bounds_are : {Dir : Type 0} (c : Fixed Dir) (b : Block Dir) (n height : ℕ) (bounds : Bounds) → c.blocks_per_epoch ≡ n → height ≡ b.height
-    → Some bounds ≡ in_bounds n (epoch_of n height) (bounds_at n height) → AreBoundsOf c bounds b
-bounds_are c b n height bounds same at is =
-    let it : bounds ≡ bounds_at n height = by_test (nat_lt (last n (epoch_of n height)) (2 ^ 64)) is in
-    record {
-      epoch = ap (λ (x : Bounds). x.epoch) it ∙ (λ i. epoch_of (sym same i) (at i));
-      phase = ap (λ (x : Bounds). x.phase) it ∙ (λ i. phase_at (midpoint (sym same i) (epoch_of (sym same i) (at i))) (at i));
-    }
+pub bounds_is : (n height : ℕ) (bounds : Bounds) → Some bounds ≡ in_bounds n (epoch_of n height) (bounds_at n height) → bounds ≡ bounds_at n height
+bounds_is n height bounds is = by_test (nat_lt (last n (epoch_of n height)) (2 ^ 64)) is
   where
     by_test : (p : Bool) → Some bounds ≡ (if p then Some (bounds_at n height) else None) → bounds ≡ bounds_at n height
     by_test true is = same_some bounds (bounds_at n height) is
     by_test false is = absurd cc
+
+pub bounds_are : {Dir : Type 0} (c : Fixed Dir) (b : Block Dir) (n height : ℕ) (bounds : Bounds) → c.blocks_per_epoch ≡ n → height ≡ b.height
+    → Some bounds ≡ in_bounds n (epoch_of n height) (bounds_at n height) → AreBoundsOf c bounds b
+bounds_are c b n height bounds same at is =
+    let it : bounds ≡ bounds_at n height = bounds_is n height bounds is in
+    record {
+      epoch = ap (λ (x : Bounds). x.epoch) it ∙ (λ i. epoch_of (sym same i) (at i));
+      phase = ap (λ (x : Bounds). x.phase) it ∙ (λ i. phase_at (midpoint (sym same i) (epoch_of (sym same i) (at i))) (at i));
+    }
 
 looked : (o : Option Tip) (w : Bool) → (is_some o || w) ≡ true → o ≡ None → w ≡ true
 looked None w is none = is
@@ -248,27 +251,27 @@ judged_cause (Some t) height digest parent =
     by_tests false false false true = tt
     by_tests false false false false = tt
 
-pub refusal_caused : (tip : Option Tip) (height : ℕ) (digest parent : List ℕ) → IfErr (judged tip height digest parent) (λ e. IsCaused (Faulted e) ⊥ ⊥)
+pub refusal_caused : (tip : Option Tip) (height : ℕ) (digest parent : List ℕ) → IfErr (judged tip height digest parent) (λ e. IsCaused (Faulted e) ⊥ ⊥ ⊥)
 unfolding judged judged_over
 refusal_caused None height digest parent = tt
 refusal_caused (Some t) height digest parent =
     by_tests ((height == t.height) && not (bytes_eq digest t.digest)) (nat_lt (t.height + 1) height) ((height == t.height + 1) && not (bytes_eq parent t.digest)) (nat_le height t.height)
   where
-    by_tests : (p q r s : Bool) → IfErr (if p then Err (ConflictingBlock height) else if q then Err (SkippedHeight (t.height + 1) height) else if r then Err (DetachedBlock height) else if s then Ok Again else Ok New) (λ e. IsCaused (Faulted e) ⊥ ⊥)
+    by_tests : (p q r s : Bool) → IfErr (if p then Err (ConflictingBlock height) else if q then Err (SkippedHeight (t.height + 1) height) else if r then Err (DetachedBlock height) else if s then Ok Again else Ok New) (λ e. IsCaused (Faulted e) ⊥ ⊥ ⊥)
     by_tests true q r s = tt
     by_tests false true r s = tt
     by_tests false false true s = tt
     by_tests false false false true = tt
     by_tests false false false false = tt
 
-range_test : (n height : ℕ) (x : Bounds) → in_bounds n (epoch_of n height) x ≡ None → nat_le (2 ^ 64) (last n (epoch_of n height)) ≡ true
+pub range_test : (n height : ℕ) (x : Bounds) → in_bounds n (epoch_of n height) x ≡ None → nat_le (2 ^ 64) (last n (epoch_of n height)) ≡ true
 range_test n height x none = by_test (nat_lt (last n (epoch_of n height)) (2 ^ 64)) refl none
   where
     by_test : (p : Bool) → nat_lt (last n (epoch_of n height)) (2 ^ 64) ≡ p → (if p then Some x else None) ≡ None → nat_le (2 ^ 64) (last n (epoch_of n height)) ≡ true
     by_test true is none = absurd cc
     by_test false is none = grind (arith, nat_tests, is)
 
-range_kept : (n height : ℕ) (x y : Bounds) → in_bounds n (epoch_of n height) x ≡ Some y → nat_le (2 ^ 64) (last n (epoch_of n height)) ≡ false
+pub range_kept : (n height : ℕ) (x y : Bounds) → in_bounds n (epoch_of n height) x ≡ Some y → nat_le (2 ^ 64) (last n (epoch_of n height)) ≡ false
 range_kept n height x y some = by_test (nat_lt (last n (epoch_of n height)) (2 ^ 64)) refl some
   where
     by_test : (p : Bool) → nat_lt (last n (epoch_of n height)) (2 ^ 64) ≡ p → (if p then Some x else None) ≡ Some y → nat_le (2 ^ 64) (last n (epoch_of n height)) ≡ false

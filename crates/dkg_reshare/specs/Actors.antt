@@ -28,7 +28,7 @@ use Rattle.dkg_reshare.specs.declared.life.Life.{Life}
 use Rattle.dkg_reshare.specs.declared.message.Message.{Message}
 use Rattle.dkg_reshare.specs.declared.message.Message.TheVariants as message
 use Rattle.dkg_reshare.specs.declared.stop.Stop.{Stop}
-use Rattle.dkg_reshare.specs.declared.stop.Stop.TheVariants.{Failed, Fault as Faulted}
+use Rattle.dkg_reshare.specs.declared.stop.Stop.TheVariants.{Cut, Failed, Fault as Faulted}
 use Rattle.dkg_reshare.specs.Ends.{by_stop, IsCaused}
 use Rattle.dkg_reshare.specs.LiveOf.{IsPlaced, IsSeated, records_of}
 use Rattle.dkg_reshare.specs.Moved.{IsFirm}
@@ -133,8 +133,10 @@ abbrev pub config_fault : Mode → (version blocks : ℕ) → Option Fault
 config_fault mode version blocks =
     if not (supports_of version mode) then Some (InvalidConfig ModeCause) else if blocks == 1 then Some (InvalidConfig OneBlock) else None
 
--- A device is blamed where its count rose, and a record where it is the first one out of its grammar. What else is blamed, the course says.
+-- A device is blamed where its count rose, a record where it is the first one out of its grammar, and a cut of a disk that tells is the fuse's. What else is
+-- blamed, the course says.
 abbrev pub IsFoundAt : (limit : ℕ) (tells : Bool) → Files → Stop → (disk_rose secrets_rose reached : Type 0) → Type 0
 IsFoundAt limit tells files (Faulted (Corrupt name place)) disk_rose secrets_rose reached = IsTrue tells → IsCorruptAt limit files name place
+IsFoundAt limit tells files Cut disk_rose secrets_rose reached = IsTrue tells → reached
 IsFoundAt limit tells files Failed disk_rose secrets_rose reached = ⊥
 IsFoundAt limit tells files stop disk_rose secrets_rose reached = IsCaused stop disk_rose secrets_rose reached

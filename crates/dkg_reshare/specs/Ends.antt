@@ -1,5 +1,5 @@
 -- How a call of the actor ends, beside the ends of a course.
-use Rattle.std.specs.Prelude.{⊤, Bool, IsTrue, Option, Some, None, Result, Ok, Err}
+use Rattle.std.specs.Prelude.{⊤, Bool, IsSome, IsTrue, Option, Some, None, Result, Ok, Err}
 use Rattle.dkg_types.specs.declared.fault.Fault.{Fault}
 use Rattle.dkg_types.specs.declared.fault.Fault.TheVariants as fault
 use Rattle.dkg_store.specs.Acts.{Cause, Ended, went, stopped, broken, by_cut, by_disk, by_secrets, by_want}
@@ -60,13 +60,13 @@ ends view (Err stop) = by_stop stop
 abbrev pub ends_in : {S : Type 0} → S → Result (Unit {0}) Stop → Ended Fault S
 ends_in end result = ends (λ done. end) result
 
--- A device is blamed only where its count rose, a cut is one of the fuse, and a record is blamed only where one is read. What else a fault blames, its course says.
+-- A device is blamed only where its count rose, a cut is the fuse's, and a record is blamed only where one is read. What else a fault blames, its course says.
 abbrev pub IsCaused : Stop → (disk_rose secrets_rose reached : Type 0) → Type 0
+IsCaused Cut disk_rose secrets_rose reached = reached
+IsCaused Failed disk_rose secrets_rose reached = ⊥
 IsCaused (Faulted fault.Disk) disk_rose secrets_rose reached = disk_rose
 IsCaused (Faulted fault.Secrets) disk_rose secrets_rose reached = secrets_rose
 IsCaused (Faulted (fault.Corrupt name place)) disk_rose secrets_rose reached = ⊥
-IsCaused Failed disk_rose secrets_rose reached = ⊥
-IsCaused Cut disk_rose secrets_rose reached = reached
 IsCaused stop disk_rose secrets_rose reached = ⊤
 
 -- .. of a step, which Failed may end, too
@@ -74,7 +74,14 @@ abbrev pub IsCausedInStep : Stop → (disk_rose secrets_rose reached : Type 0) �
 IsCausedInStep Failed disk_rose secrets_rose reached = ⊤
 IsCausedInStep stop disk_rose secrets_rose reached = IsCaused stop disk_rose secrets_rose reached
 
--- the same where records are read: of a disk that tells, none is blamed behind an opening
+-- .. where records are read: of a disk that tells none is blamed behind an opening, and a cut of it is the fuse's
 abbrev pub IsCausedBy : (tells : Bool) → Stop → (disk_rose secrets_rose reached : Type 0) → Type 0
 IsCausedBy tells (Faulted (fault.Corrupt name place)) disk_rose secrets_rose reached = IsTrue tells → ⊥
+IsCausedBy tells Cut disk_rose secrets_rose reached = IsTrue tells → reached
 IsCausedBy tells stop disk_rose secrets_rose reached = IsCaused stop disk_rose secrets_rose reached
+
+-- It comes from outside: no course stops by it.
+abbrev pub IsOutside : Stop → Type 0
+IsOutside Cut = ⊤
+IsOutside Failed = ⊤
+IsOutside (Faulted its) = IsSome (cause_in its)

@@ -43,9 +43,9 @@ ReadsToday c = c.seen ≡ seen_today
 abbrev pub reading : {Dir : Type 0} → Seen → Fixed Dir → Fixed Dir
 reading s c = record c { seen = λ h. s }
 
--- Of an epoch or a later one the dealings are those that the devices give back.
-abbrev pub AreGivenFrom : (min : ℕ) → List Pair → Files → Secrets → Type 0
-AreGivenFrom min dealings files held = (key : ℕ × ℕ) → min ≤ key.0 → find key_cmp key dealings ≡ get (recovered (entries files) held) key
+-- Of this epoch and later ones the dealings are those that whatever a crash leaves gives back.
+abbrev pub AreGivenFrom : (min : ℕ) → List Pair → (image : Files → Type 0) → Secrets → Type 0
+AreGivenFrom min dealings image held = (c : Files) → image c → (key : ℕ × ℕ) → min ≤ key.0 → find key_cmp key dealings ≡ get (recovered (entries c) held) key
 
 -- Something was read, whatever the devices tell, and it is so given: neither a share nor a plan.
 pub record HasRead (Given P : Seen → Type 0) : Type 0 where

@@ -1,6 +1,6 @@
 -- What became of the devices and of the journal, beside what the acts did.
 use Rattle.std.specs.Prelude.{ℕ, ◌≡◌, ◌≤◌, nat_le, Bool, IsTrue, List}
-use Rattle.std.specs.FinMap.{retain_keys}
+use Rattle.std.specs.FinMap.{get, retain_keys}
 use Rattle.dkg_journal.specs.DeviceCall.{DeviceCall}
 use Rattle.dkg_journal.specs.Fuse.{RanAll}
 use Rattle.dkg_journal.specs.Records.{entries}
@@ -43,14 +43,22 @@ pub record StaysWhole (image next : Files → Type 0) (held held_now : Secrets) 
   pub sound : (most : ℕ) → StaysSound most image next
   pub holds : (pairs : Pairs) → Holds pairs image held → Holds pairs next held_now
 
--- What stood for whole devices stands for whole ones that give back the same dealings from an epoch on; and the plan is the same.
+-- What was whole is whole, and gives back the same dealings of this epoch and later ones; and the plan is the same.
 pub record StaysGiven (min : ℕ) (old new : Files) (held held_now : Secrets) : Type 0 where
   pub plan : SamePlan old new
   pub whole : IsWhole (entries old) held → IsWhole (entries new) held_now
   pub pairs : IsWhole (entries old) held
       → retain_keys (recovered (entries new) held_now) (λ k. nat_le min k.0) ≡ retain_keys (recovered (entries old) held) (λ k. nat_le min k.0)
 
--- .. so each image does, of one from before: for an opening, which prunes below the epoch
+-- .. so does each image, of one from before: for an opening, which prunes below this epoch
 pub record StaysAbove (min : ℕ) (image next : Files → Type 0) (held held_now : Secrets) : Type 0 where
   pub fit : (most : ℕ) → AreFit most image → AreFit most next
   pub each : (c : Files) → next c → (d : Files) × image d × StaysGiven min d c held held_now
+
+-- Of this epoch and later ones whatever a crash leaves gives back what these do.
+pub record GivesFrom (min : ℕ) (pairs : Pairs) (image : Files → Type 0) (held : Secrets) : Type 0 where
+  pub each : (c : Files) → image c → (key : ℕ × ℕ) → min ≤ key.0 → get (recovered (entries c) held) key ≡ get pairs key
+
+-- .. and goes on giving it back
+abbrev pub StaysFrom : (min : ℕ) → (image next : Files → Type 0) → (held held_now : Secrets) → Type 0
+StaysFrom min image next held held_now = (pairs : Pairs) → GivesFrom min pairs image held → GivesFrom min pairs next held_now

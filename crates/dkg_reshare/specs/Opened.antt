@@ -37,9 +37,13 @@ opens_store seen life calls =
 abbrev pub startup_of : {Dir : Type 0} → Source Dir → Option Tip
 startup_of source = startup source.anchor None
 
--- the epoch that is awaited there
+-- the epoch that is awaited above a position
+abbrev pub epoch_above : Terms → Option Tip → ℕ
+epoch_above terms tip = epoch_of (non_zero_u64_get terms.blocks_per_epoch) (option_map_or (λ t. t.height + 1) tip 0)
+
+-- .. where such a life starts
 abbrev pub epoch_at : {Dir : Type 0} → Source Dir → Terms → ℕ
-epoch_at source terms = epoch_of (non_zero_u64_get terms.blocks_per_epoch) (option_map_or (λ t. t.height + 1) (startup_of source) 0)
+epoch_at source terms = epoch_above terms (startup_of source)
 
 -- A Fixed of an opening of today, over files in their grammar, whose opening makes as many mending calls as the Fixed says.
 pub record IsOpeningOf {Dir : Type 0} (terms : Terms) (source : Source Dir) (life word : ℕ) (files : Files) (c : Fixed Dir) : Type 0 where

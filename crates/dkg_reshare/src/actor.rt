@@ -9,7 +9,7 @@ ghost use Rattle.dkg_core.specs.Core.{opening, step};
 ghost use Rattle.dkg_core.specs.Fixed.{Fixed};
 ghost use Rattle.dkg_reshare.specs.Actors.{EndsAt, FailsStop, IfLiving, IsAgreed, IsAt, IsFoundAt, IsNew, IsReadyLife, IsSoundAt};
 ghost use Rattle.dkg_reshare.specs.Actors.{AreTerms, IsTakenToday, config_fault, lives, message_of};
-ghost use Rattle.dkg_reshare.specs.Ends.{IsCaused, IsCausedInStep, ends_in};
+ghost use Rattle.dkg_reshare.specs.Ends.{IsCaused, IsCausedInStep, ends, ends_in};
 ghost use Rattle.dkg_reshare.specs.Given.{AreGivenFrom, HasRead, IsLent, IsOf, reading};
 ghost use Rattle.dkg_reshare.specs.LiveOf.{Beside, EndsBeside, Took, live_of, no_fence, nothing_beside};
 ghost use Rattle.dkg_reshare.specs.Made.{Makes, Tells, UnlessBroken};
@@ -77,8 +77,7 @@ fn take<C: Ceremony, Dir: Directory + Drop, D: Disk, X: SecretStore>(
         out.old.entries out.new.entries }
     ensures moved { Moved D.tells D.made X.made D.faults X.faults devices.old devices.new }
     ensures causes { IfErr result (λ stop. IsCaused stop (Rose (D.faults devices.old.disk.now) (D.faults devices.new.disk.now))
-        (Rose (X.faults devices.old.secrets.now) (X.faults devices.new.secrets.now))
-            (Reached devices.old.fuse devices.new.fuse)) }
+        (Rose (X.faults devices.old.secrets.now) (X.faults devices.new.secrets.now)) (Reached devices.old.fuse devices.new.fuse)) }
     ensures fit { IsTrue D.tells → AreFit (non_zero_u32_get terms.now.limit) (D.image devices.old.disk.now)
         → AreFit (non_zero_u32_get terms.now.limit) (D.image devices.new.disk.now) }
 {
@@ -159,19 +158,19 @@ impl<C: Ceremony, P, R: Registrar, M, Dir: Directory + Drop> Actor<C, P, R, M, D
         out: &mut Transcript,
     ) -> Result<(), Stop>
         requires new { IsNew self.old.state }
-        // It is the relation's opening, and each act was made, whatever image a crash leaves.
+        // Of a disk of which nothing was loose: it is the relation's opening, and each act was made, whatever image a crash leaves.
         ensures acts { IsTrue D.tells → IsTrue X.tells → (c : Fixed Dir)
             → IsOpeningOf self.old.terms (B.answers source.now) life word (D.files devices.old.disk.now) c
             → IsRuledBy C.round_of C.dealing_of C.ack_of C.bears_ack_of c.rules → fence.old ≡ no_fence
-            → EndsBeside nothing_beside (λ more. OnOk result (Took R.tells (R.taken self.old.registrar) (R.taken self.new.registrar) more)) 
+            → EndsBeside nothing_beside (λ more. OnOk result (Took R.tells (R.taken self.old.registrar) (R.taken self.new.registrar) more))
             (λ now. Makes D.files D.image X.held (opening c) (lives (live_of now fence.new) self.new.state result)
             devices.old devices.new out.old.entries out.new.entries) }
-        // Whatever the devices tell, its lines are those of an opening that has read something.
+        // Whatever the devices tell, its lines are those of an opening that has read something: where they tell, dealings that each image gives back.
         ensures tells { (c : Fixed Dir) → IsLent self.old.terms (B.answers source.now) word c → c.life ≡ life → IsOpeningOfToday c
             → IsRuledBy C.round_of C.dealing_of C.ack_of C.bears_ack_of c.rules → fence.old ≡ no_fence
-            → HasRead (λ s. UnlessBroken (lives (λ life. life) self.new.state result) (IsTrue D.tells → IsTrue X.tells
-            → AreGivenFrom (epoch_at (B.answers source.now) self.old.terms - 1) s.dealings (D.files devices.new.disk.now) (X.held devices.new.secrets.now)))
-            (λ s. EndsBeside nothing_beside (λ more. OnOk result (Took R.tells (R.taken self.old.registrar) (R.taken self.new.registrar) more)) 
+            → HasRead (λ s. UnlessBroken (ends (λ done. done) result) (IsTrue D.tells → IsTrue X.tells
+            → AreGivenFrom (epoch_at (B.answers source.now) self.old.terms - 1) s.dealings (D.image devices.new.disk.now) (X.held devices.new.secrets.now)))
+            (λ s. EndsBeside nothing_beside (λ more. OnOk result (Took R.tells (R.taken self.old.registrar) (R.taken self.new.registrar) more))
             (λ now. Tells (opening (reading s c)) (lives (live_of now fence.new) self.new.state result)
             out.old.entries out.new.entries)) }
         // A journal that is not in its grammar is not opened, and nothing is told.
@@ -185,12 +184,11 @@ impl<C: Ceremony, P, R: Registrar, M, Dir: Directory + Drop> Actor<C, P, R, M, D
         ensures live { OnOk result (IsTrue D.tells → IsTrue X.tells → IsSoundAt D.files D.image X.held devices.old
             → IsAgreed self.new.state (D.files devices.new.disk.now) (X.held devices.new.secrets.now)) }
         ensures moved { Moved D.tells D.made X.made D.faults X.faults devices.old devices.new }
-        // A device is blamed where its count rose, and a record where it stands.
+        // A device is blamed where its count rose, a cut where the fuse reached its call, and a record where it stands.
         ensures causes { IfErr result (λ stop. IsFoundAt (non_zero_u32_get self.old.terms.limit) D.tells (D.files devices.new.disk.now) stop
             (Rose (D.faults devices.old.disk.now) (D.faults devices.new.disk.now))
-            (Rose (X.faults devices.old.secrets.now) (X.faults devices.new.secrets.now))
-            (Reached devices.old.fuse devices.new.fuse)) }
-        // Where something was loose: what a crash leaves stays in its grammar, and gives back what is not below the epoch before.
+            (Rose (X.faults devices.old.secrets.now) (X.faults devices.new.secrets.now)) (Reached devices.old.fuse devices.new.fuse)) }
+        // Whatever was loose: what a crash leaves stays in its grammar, and gives back what is not below the epoch before.
         ensures loose { IsTrue D.tells → StaysAbove (epoch_at (B.answers source.now) self.old.terms - 1)
             (D.image devices.old.disk.now) (D.image devices.new.disk.now) (X.held devices.old.secrets.now) (X.held devices.new.secrets.now) }
     {
@@ -241,8 +239,7 @@ impl<C: Ceremony, P, R: Registrar, M, Dir: Directory + Drop> Actor<C, P, R, M, D
             ((self.new.state ≡ self.old.state) × (devices.new ≡ devices.old) × (out.new ≡ out.old) × (fence.new ≡ fence.old)) }
         ensures moved { Moved D.tells D.made X.made D.faults X.faults devices.old devices.new }
         ensures causes { IfErr result (λ stop. IsCausedInStep stop (Rose (D.faults devices.old.disk.now) (D.faults devices.new.disk.now))
-            (Rose (X.faults devices.old.secrets.now) (X.faults devices.new.secrets.now))
-            (Reached devices.old.fuse devices.new.fuse)) }
+            (Rose (X.faults devices.old.secrets.now) (X.faults devices.new.secrets.now)) (Reached devices.old.fuse devices.new.fuse)) }
         // No record that a crash leaves is out of its grammar, or past the limit, where none was.
         ensures fit { IsTrue D.tells → AreFit (non_zero_u32_get self.old.terms.limit) (D.image devices.old.disk.now)
             → AreFit (non_zero_u32_get self.old.terms.limit) (D.image devices.new.disk.now) }

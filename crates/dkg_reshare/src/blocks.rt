@@ -75,7 +75,7 @@ pub(crate) fn take_block<Dir: Directory + Drop>(
     requires early { block.now.height < life.old.midpoint }
     ensures placed { IsPlaced (non_zero_u64_get terms.now.blocks_per_epoch) life.new }
     ensures rest { life.new ≡ record life.old { tip = life.new.tip; stage = life.new.stage } }
-    ensures causes { IfErr result (λ stop. IsCaused stop ⊥ ⊥) }
+    ensures causes { IfErr result (λ stop. IsCaused stop ⊥ ⊥ ⊥) }
     ensures speaks { (c : Fixed Dir) (beside : Beside Dir) (fence : Readiness) → IsOf terms.now c → (out : List Line)
         → Speaks (blocks.delivers c block.now (live_of beside fence life.old)) (ends_in (live_of beside fence life.new) result) out out }
 {

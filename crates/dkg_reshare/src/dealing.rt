@@ -17,13 +17,12 @@ ghost use Rattle.dkg_reshare.specs.Actors.{IsReadyLife};
 ghost use Rattle.dkg_reshare.specs.Ends.{IsCaused, ends, ends_in};
 ghost use Rattle.dkg_reshare.specs.Given.{IsOf};
 ghost use Rattle.dkg_reshare.specs.LiveOf.{Beside, SitsAt, live_of, seat_of};
-ghost use Rattle.dkg_reshare.specs.Made.{Makes, Tells};
+ghost use Rattle.dkg_reshare.specs.Made.{Makes, MakesOn, Tells};
 ghost use Rattle.dkg_reshare.specs.Moved.{IsFirm, Moved};
 ghost use Rattle.dkg_reshare.specs.Rules.{AnswersBy};
 ghost use Rattle.dkg_core.specs.Said.{Said};
 ghost use Rattle.dkg_reshare.specs.Heard.{Keeps, answers, round_dealt};
 ghost use Rattle.dkg_reshare.specs.Steps.{told_by};
-ghost use Rattle.dkg_store.specs.Acts.{MadeOn};
 ghost use Rattle.dkg_store.specs.Events.{EventFits};
 ghost use Rattle.dkg_store.specs.declared.event.Event.TheVariants as events;
 ghost use Rattle.std.specs.Int.NonZero.{non_zero_u32_get};
@@ -115,14 +114,14 @@ fn handle<C: Ceremony, Dir: Directory + Drop, D: Disk, X: SecretStore>(
     requires firm { IsTrue D.tells → IsFirm store.old.journal (D.files devices.old.disk.now) (D.image devices.old.disk.now) }
     ensures firm { OnOk result (IsTrue D.tells → IsFirm store.new.journal (D.files devices.new.disk.now) (D.image devices.new.disk.now)) }
     ensures keeps { Keeps result C.dealing_of C.ack_of (C.Signer.key_of signer.now) epoch from public private store.old store.new player.old player.new }
-    ensures acts { IsTrue D.tells → IsTrue X.tells → MadeOn D.files D.image X.held (answers C.dealing_of C.ack_of player.old.me player.old.round
-        (map.get store.old.dealings (epoch, from)) epoch from public private) (ends (λ answer. answer) result) devices.old devices.new out.old.entries out.new.entries }
+    ensures acts { IsTrue D.tells → IsTrue X.tells → MakesOn D.files D.image X.held (answers C.dealing_of C.ack_of player.old.me player.old.round
+        (map.get store.old.dealings (epoch, from)) epoch from public private) (ends (λ answer. answer) result)
+        devices.old devices.new out.old.entries out.new.entries }
     ensures tells { Said (answers C.dealing_of C.ack_of player.old.me player.old.round (map.get store.old.dealings (epoch, from)) epoch from public private)
         (ends (λ answer. answer) result) out.old.entries out.new.entries }
     ensures moved { Moved D.tells D.made X.made D.faults X.faults devices.old devices.new }
     ensures causes { IfErr result (λ stop. IsCaused stop (Rose (D.faults devices.old.disk.now) (D.faults devices.new.disk.now))
-        (Rose (X.faults devices.old.secrets.now) (X.faults devices.new.secrets.now))
-            (Reached devices.old.fuse devices.new.fuse)) }
+        (Rose (X.faults devices.old.secrets.now) (X.faults devices.new.secrets.now)) (Reached devices.old.fuse devices.new.fuse)) }
     ensures fit { IsTrue D.tells → (most : ℕ) → EventFits most (events.Dealing from public)
         → AreFit most (D.image devices.old.disk.now) → AreFit most (D.image devices.new.disk.now) }
 {
@@ -164,8 +163,7 @@ fn hear_dealing<C: Ceremony, Dir: Directory + Drop, D: Disk, X: SecretStore>(
         (ends_in (live_of beside fence life.new) result) out.old.entries out.new.entries }
     ensures moved { Moved D.tells D.made X.made D.faults X.faults devices.old devices.new }
     ensures causes { IfErr result (λ stop. IsCaused stop (Rose (D.faults devices.old.disk.now) (D.faults devices.new.disk.now))
-        (Rose (X.faults devices.old.secrets.now) (X.faults devices.new.secrets.now))
-            (Reached devices.old.fuse devices.new.fuse)) }
+        (Rose (X.faults devices.old.secrets.now) (X.faults devices.new.secrets.now)) (Reached devices.old.fuse devices.new.fuse)) }
     ensures fit { IsTrue D.tells → AreFit (non_zero_u32_get terms.now.limit) (D.image devices.old.disk.now)
         → AreFit (non_zero_u32_get terms.now.limit) (D.image devices.new.disk.now) }
 {
@@ -221,8 +219,7 @@ pub(crate) fn hear_peer<C: Ceremony, Dir: Directory + Drop, D: Disk, X: SecretSt
         out.old.entries out.new.entries }
     ensures moved { Moved D.tells D.made X.made D.faults X.faults devices.old devices.new }
     ensures causes { IfErr result (λ stop. IsCaused stop (Rose (D.faults devices.old.disk.now) (D.faults devices.new.disk.now))
-        (Rose (X.faults devices.old.secrets.now) (X.faults devices.new.secrets.now))
-            (Reached devices.old.fuse devices.new.fuse)) }
+        (Rose (X.faults devices.old.secrets.now) (X.faults devices.new.secrets.now)) (Reached devices.old.fuse devices.new.fuse)) }
     ensures fit { IsTrue D.tells → AreFit (non_zero_u32_get terms.now.limit) (D.image devices.old.disk.now)
         → AreFit (non_zero_u32_get terms.now.limit) (D.image devices.new.disk.now) }
 {

@@ -8,21 +8,24 @@ ghost use Rattle.dkg_fence.specs.Fence.{marked};
 ghost use Rattle.dkg_fence.specs.Readiness.{Readiness};
 ghost use Rattle.dkg_journal.specs.Disk.{Rose};
 ghost use Rattle.dkg_journal.specs.Fuse.{Reached};
-ghost use Rattle.dkg_store.specs.Pairs.{AreAtOrAbove, Holds, Pairs};
 ghost use Rattle.dkg_types.specs.Schemes.{scheme_of};
 ghost use Rattle.dkg_types.specs.declared.entry.Entry.{Entry as Line};
 ghost use Rattle.dkg_types.specs.declared.fault.Fault.TheVariants.{NoMemory as OutOfMemory};
+ghost use Rattle.dkg_store.specs.Acts.{Stands, held_in};
+ghost use Rattle.dkg_core.specs.Agreeing.{AreAgreed};
 ghost use Rattle.dkg_core.specs.Fixed.{Fixed};
 ghost use Rattle.dkg_core.specs.Fixed as given;
 ghost use Rattle.dkg_core.specs.Live.{Live};
 ghost use Rattle.dkg_core.specs.Setup as setup;
 ghost use Rattle.dkg_core.specs.Setup.{Uncommitted};
 ghost use Rattle.dkg_reshare.specs.declared.stop.Stop.TheVariants.{Fault as Faulted};
-ghost use Rattle.dkg_reshare.specs.Ends.{IsCaused, IsCausedBy, by_stop, ends, ends_in};
+ghost use Rattle.dkg_reshare.specs.Actors.{IsReadyLife};
+ghost use Rattle.dkg_reshare.specs.Ends.{IsCaused, IsCausedBy, IsOutside, by_stop, ends, ends_in};
 ghost use Rattle.dkg_reshare.specs.Given.{IsLent, IsOf, ReadsToday};
-ghost use Rattle.dkg_reshare.specs.LiveOf.{Beside, EndsBeside, Took, IsSeated, SitsIn, live_of, records_of, scheme_by, seat_of, with_scheme, with_scheme_of};
-ghost use Rattle.dkg_reshare.specs.Made.{Makes, Speaks, Tells};
-ghost use Rattle.dkg_reshare.specs.Moved.{IsFirm, Moved, StaysSound, StaysWhole};
+ghost use Rattle.dkg_reshare.specs.LiveOf.{Beside, EndsBeside, IsSeated, SitsIn, Took, live_of, records_of, scheme_by, seat_of, with_scheme, with_scheme_of};
+ghost use Rattle.dkg_reshare.specs.Made.{Makes, Speaks, Tells, UnlessBroken};
+ghost use Rattle.dkg_reshare.specs.Moved.{IsFirm, Moved, StaysAbove, StaysFrom, StaysWhole};
+ghost use Rattle.dkg_reshare.specs.Opened.{epoch_above};
 ghost use Rattle.dkg_reshare.specs.Rules.{SeatsBy};
 ghost use Rattle.dkg_reshare.specs.Steps.{IsFaultOrWant, MakesPlayer, StandsIn, no_round, reads_seed, refusal_of, stage_in};
 ghost use Rattle.dkg_reshare.specs.declared.config.Terms.{Terms};
@@ -66,14 +69,14 @@ fn seed_for<Dir: Directory + Drop, D: Disk, X: SecretStore>(
 ) -> Result<Seed, Stop>
     ensures store { store.new ≡ store.old }
     ensures disk { devices.new.disk.now ≡ devices.old.disk.now }
+    ensures secrets { X.held devices.new.secrets.now ≡ X.held devices.old.secrets.now }
     ensures acts { IsTrue D.tells → IsTrue X.tells → (c : Fixed Dir) → ReadsToday c → c.word ≡ word → (out : List Line)
         → Makes D.files D.image X.held (reads_seed c epoch) (ends (λ seed. seed) result) devices.old devices.new out out }
     // Where no seed is read, nothing is said, whatever the devices tell.
     ensures tells { IfErr result (λ stop. (c : Fixed Dir) (out : List Line) → Tells (reads_seed c epoch) (by_stop stop) out out) }
     ensures moved { Moved D.tells D.made X.made D.faults X.faults devices.old devices.new }
-    ensures causes { IfErr result (λ stop. IsCaused stop ⊥ (Rose (X.faults devices.old.secrets.now) (X.faults devices.new.secrets.now))
+    ensures causes { IfErr result (λ stop. IsOutside stop × IsCaused stop ⊥ (Rose (X.faults devices.old.secrets.now) (X.faults devices.new.secrets.now))
         (Reached devices.old.fuse devices.new.fuse)) }
-    ensures whole { StaysWhole (D.image devices.old.disk.now) (D.image devices.new.disk.now) (X.held devices.old.secrets.now) (X.held devices.new.secrets.now) }
 {
     match store.seed(alloc, devices, epoch)? {
         Some(seed) => Ok(seed),
@@ -125,9 +128,10 @@ fn commit<Dir: Directory + Drop, D: Disk, X: SecretStore>(
         → Tells (setup.commits info.now any None (live_of beside fence life.old)) (ends_in (live_of beside fence life.new) result)
         out.old.entries out.new.entries }
     ensures moved { Moved D.tells D.made X.made D.faults X.faults devices.old devices.new }
-    ensures causes { IfErr result (λ stop. IsCaused stop ⊥ (Rose (X.faults devices.old.secrets.now) (X.faults devices.new.secrets.now))
-            (Reached devices.old.fuse devices.new.fuse)) }
+    ensures causes { IfErr result (λ stop. IsOutside stop × IsCaused stop ⊥ (Rose (X.faults devices.old.secrets.now) (X.faults devices.new.secrets.now))
+        (Reached devices.old.fuse devices.new.fuse)) }
     ensures whole { StaysWhole (D.image devices.old.disk.now) (D.image devices.new.disk.now) (X.held devices.old.secrets.now) (X.held devices.new.secrets.now) }
+    ensures halves { OnOk result (IsTrue X.tells → (X.held devices.new.secrets.now).privates ≡ (X.held devices.old.secrets.now).privates) }
 {
     let committed = info.copy(alloc)?;
     life.store
@@ -184,12 +188,12 @@ fn prune<Dir: Directory + Drop, D: Disk, X: SecretStore>(
     ensures tells { (beside : Beside Dir) (fence : Readiness) (out : List Line)
         → Tells (setup.prunes min (live_of beside fence life.old)) (ends_in (live_of beside fence life.new) result) out out }
     ensures moved { Moved D.tells D.made X.made D.faults X.faults devices.old devices.new }
-    ensures causes { IfErr result (λ stop. IsCausedBy D.tells stop (Rose (D.faults devices.old.disk.now) (D.faults devices.new.disk.now))
-        (Rose (X.faults devices.old.secrets.now) (X.faults devices.new.secrets.now))
-            (Reached devices.old.fuse devices.new.fuse)) }
-    ensures sound { IsTrue D.tells → (most : ℕ) → StaysSound most (D.image devices.old.disk.now) (D.image devices.new.disk.now) }
-    ensures holds { IsTrue D.tells → (pairs : Pairs) → AreAtOrAbove min pairs → Holds pairs (D.image devices.old.disk.now) (X.held devices.old.secrets.now)
-        → Holds pairs (D.image devices.new.disk.now) (X.held devices.new.secrets.now) }
+    ensures causes { IfErr result (λ stop. IsOutside stop × IsCausedBy D.tells stop (Rose (D.faults devices.old.disk.now) (D.faults devices.new.disk.now))
+        (Rose (X.faults devices.old.secrets.now) (X.faults devices.new.secrets.now)) (Reached devices.old.fuse devices.new.fuse)) }
+    ensures above { IsTrue D.tells → StaysAbove min (D.image devices.old.disk.now) (D.image devices.new.disk.now)
+        (X.held devices.old.secrets.now) (X.held devices.new.secrets.now) }
+    ensures gives { OnOk result (IsTrue D.tells → StaysFrom min (D.image devices.old.disk.now) (D.image devices.new.disk.now)
+        (X.held devices.old.secrets.now) (X.held devices.new.secrets.now)) }
 {
     Ok(life.store.prune(alloc, devices, min)?)
 }
@@ -234,7 +238,7 @@ fn player_of<C: Ceremony, Dir: Directory + Drop>(
     ensures sits { IfOk result (λ player. IfSome player (SitsIn C.ack_of me store.now round.now)) }
     ensures made { (c : Fixed Dir) (phase : Phase) (st : Live Dir) → c.me ≡ me → SeatsBy C.round_of C.dealing_of C.bears_ack_of c.rules
         → st.records ≡ records_of store.now → MakesPlayer c round.now phase st result }
-    ensures causes { IfErr result (λ stop. IsCaused stop ⊥ ⊥) }
+    ensures causes { IfErr result (λ stop. IsCaused stop ⊥ ⊥ ⊥) }
 {
     if !round.players.has(me) {
         return Ok(None);
@@ -273,13 +277,13 @@ fn draw_up<C: Ceremony, Dir: Directory + Drop>(
     phase: Phase,
     out: &mut Transcript,
 ) -> Result<(), Stop>
-    ensures store { life.new.store ≡ life.old.store }
-    ensures seated { OnOk result (IsSeated C.ack_of terms.now.me life.new) }
+    ensures rest { life.new ≡ record life.old { stage = life.new.stage; round = life.new.round; player = life.new.player } }
+    ensures sits { OnOk result (IsSeated C.ack_of terms.now.me life.new × (life.new.stage ≡ stage_in phase)) }
     ensures speaks { (c : Fixed Dir) (seed : List ℕ) (beside : Beside Dir) (fence : Readiness)
         → IsOf terms.now c → SeatsBy C.round_of C.dealing_of C.bears_ack_of c.rules → StandsIn c (live_of beside fence life.old) phase
         → Speaks (setup.draws_up c (setup.participants_of info.now) (Some info.now.output) None seed (live_of beside fence life.old))
         (ends_in (live_of beside fence life.new) result) out.old.entries out.new.entries }
-    ensures causes { IfErr result (λ stop. IsCaused stop ⊥ ⊥) }
+    ensures causes { IfErr result (λ stop. IsCaused stop ⊥ ⊥ ⊥) }
 {
     let round = round_of(alloc, ceremony, terms, life.epoch, info)?;
     let player = player_of(alloc, ceremony, terms.me, &life.store, &round)?;
@@ -300,8 +304,9 @@ fn follow<Dir: Directory + Drop>(
     phase: Phase,
     out: &mut Transcript,
 ) -> Result<(), Stop>
-    ensures { (c : Fixed Dir) (beside : Beside Dir) (fence : Readiness) → StandsIn c (live_of beside fence life.now) phase
+    ensures speaks { (c : Fixed Dir) (beside : Beside Dir) (fence : Readiness) → StandsIn c (live_of beside fence life.now) phase
         → Speaks (setup.follows c (live_of beside fence life.now)) (ends_in (live_of beside fence life.now) result) out.old.entries out.new.entries }
+    ensures causes { IfErr result (λ stop. IsCaused stop ⊥ ⊥ ⊥) }
 {
     Ok(out.push(Entry::Setup {
         epoch: life.epoch,
@@ -350,7 +355,8 @@ fn set_up_by<C: Ceremony, R: Registrar, Dir: Directory + Drop, D: Disk, X: Secre
 ) -> Result<(), Stop>
     requires { IsTrue D.tells → IsFirm life.old.store.journal (D.files devices.old.disk.now) (D.image devices.old.disk.now) }
     ensures open { OnOk result (IsTrue D.tells → IsFirm life.new.store.journal (D.files devices.new.disk.now) (D.image devices.new.disk.now)) }
-    ensures seated { OnOk result (IsSeated C.ack_of terms.now.me life.new) }
+    ensures rest { life.new ≡ record life.old { store = life.new.store; stage = life.new.stage; round = life.new.round; player = life.new.player } }
+    ensures sits { OnOk result (IsSeated C.ack_of terms.now.me life.new × (life.new.stage ≡ stage_in phase)) }
     ensures acts { IsTrue D.tells → IsTrue X.tells → (c : Fixed Dir) (beside : Beside Dir) → IsOf terms.now c → ReadsToday c → c.word ≡ word
         → SeatsBy C.round_of C.dealing_of C.bears_ack_of c.rules → StandsIn c (live_of beside fence.old life.old) phase
         → Makes D.files D.image X.held (setup.with_info c None Uncommitted info.now (live_of beside fence.old life.old))
@@ -363,12 +369,11 @@ fn set_up_by<C: Ceremony, R: Registrar, Dir: Directory + Drop, D: Disk, X: Secre
     ensures taken { OnOk result (IsTrue R.tells → R.taken registrar.new ≡ R.taken registrar.old ++ scheme_by terms.now.me info.now ∷ []) }
     ensures moved { Moved D.tells D.made X.made D.faults X.faults devices.old devices.new }
     ensures causes { IfErr result (λ stop. IsCausedBy D.tells stop (Rose (D.faults devices.old.disk.now) (D.faults devices.new.disk.now))
-        (Rose (X.faults devices.old.secrets.now) (X.faults devices.new.secrets.now))
-            (Reached devices.old.fuse devices.new.fuse)) }
-    ensures sound { IsTrue D.tells → (most : ℕ) → StaysSound most (D.image devices.old.disk.now) (D.image devices.new.disk.now) }
-    ensures holds { IsTrue D.tells → (pairs : Pairs) → AreAtOrAbove (life.old.epoch - 1) pairs
-        → Holds pairs (D.image devices.old.disk.now) (X.held devices.old.secrets.now)
-        → Holds pairs (D.image devices.new.disk.now) (X.held devices.new.secrets.now) }
+        (Rose (X.faults devices.old.secrets.now) (X.faults devices.new.secrets.now)) (Reached devices.old.fuse devices.new.fuse)) }
+    ensures above { IsTrue D.tells → StaysAbove (life.old.epoch - 1) (D.image devices.old.disk.now) (D.image devices.new.disk.now)
+        (X.held devices.old.secrets.now) (X.held devices.new.secrets.now) }
+    ensures gives { UnlessBroken (ends (λ done. done) result) (IsTrue D.tells → IsTrue X.tells → StaysFrom (life.old.epoch - 1)
+        (D.image devices.old.disk.now) (D.image devices.new.disk.now) (X.held devices.old.secrets.now) (X.held devices.new.secrets.now)) }
 {
     judge_info(alloc, terms, life.epoch, info)?;
     let seed = seed_for(alloc, &mut life.store, devices, word, info.epoch)?;
@@ -419,24 +424,28 @@ pub(crate) fn set_up<
 ) -> Result<(), Stop>
     requires open { IsTrue D.tells → IsFirm life.old.store.journal (D.files devices.old.disk.now) (D.image devices.old.disk.now) }
     requires uncommitted { life.old.store.current ≡ None }
-    ensures open { OnOk result (IsTrue D.tells → IsFirm life.new.store.journal (D.files devices.new.disk.now) (D.image devices.new.disk.now)) }
-    ensures seated { OnOk result (IsSeated C.ack_of terms.now.me life.new) }
+    ensures ready { OnOk result (IsReadyLife D.tells D.files D.image C.ack_of terms.now life.new devices.new) }
     ensures acts { IsTrue D.tells → IsTrue X.tells → (c : Fixed Dir) (beside : Beside Dir) → IsLent terms.now (B.answers source.now) word c
         → ReadsToday c → SeatsBy C.round_of C.dealing_of C.bears_ack_of c.rules
-        → EndsBeside beside (λ more. OnOk result (Took R.tells (R.taken registrar.old) (R.taken registrar.new) more)) 
-            (λ now. Makes D.files D.image X.held (setup.setup c None (live_of beside fence.old life.old))
-        (ends_in (live_of now fence.new life.new) result) devices.old devices.new out.old.entries out.new.entries) }
+        → EndsBeside beside (λ more. OnOk result (Took R.tells (R.taken registrar.old) (R.taken registrar.new) more))
+        (λ now. Makes D.files D.image X.held (setup.setup c None (live_of beside fence.old life.old)) (ends_in (live_of now fence.new life.new) result)
+        devices.old devices.new out.old.entries out.new.entries) }
     ensures tells { (c : Fixed Dir) (beside : Beside Dir) → IsLent terms.now (B.answers source.now) word c
         → SeatsBy C.round_of C.dealing_of C.bears_ack_of c.rules
-        → EndsBeside beside (λ more. OnOk result (Took R.tells (R.taken registrar.old) (R.taken registrar.new) more)) 
-            (λ now. Tells (setup.setup c None (live_of beside fence.old life.old)) (ends_in (live_of now fence.new life.new) result)
+        → EndsBeside beside (λ more. OnOk result (Took R.tells (R.taken registrar.old) (R.taken registrar.new) more))
+        (λ now. Tells (setup.setup c None (live_of beside fence.old life.old)) (ends_in (live_of now fence.new life.new) result)
         out.old.entries out.new.entries) }
-    ensures tip { life.new.tip ≡ life.old.tip }
+    // Where nothing was loose, and memory had what the devices give back, it has so behind it.
+    ensures agrees { OnOk result (IsTrue D.tells → IsTrue X.tells → Stands (D.files devices.old.disk.now) (D.image devices.old.disk.now)
+        → AreAgreed (records_of life.old.store) (held_in (D.files devices.old.disk.now) (X.held devices.old.secrets.now))
+        → AreAgreed (records_of life.new.store) (held_in (D.files devices.new.disk.now) (X.held devices.new.secrets.now))) }
     ensures moved { Moved D.tells D.made X.made D.faults X.faults devices.old devices.new }
     ensures causes { IfErr result (λ stop. IsCausedBy D.tells stop (Rose (D.faults devices.old.disk.now) (D.faults devices.new.disk.now))
-        (Rose (X.faults devices.old.secrets.now) (X.faults devices.new.secrets.now))
-            (Reached devices.old.fuse devices.new.fuse)) }
-    ensures sound { IsTrue D.tells → (most : ℕ) → StaysSound most (D.image devices.old.disk.now) (D.image devices.new.disk.now) }
+        (Rose (X.faults devices.old.secrets.now) (X.faults devices.new.secrets.now)) (Reached devices.old.fuse devices.new.fuse)) }
+    ensures above { IsTrue D.tells → StaysAbove (epoch_above terms.now life.old.tip - 1) (D.image devices.old.disk.now) (D.image devices.new.disk.now)
+        (X.held devices.old.secrets.now) (X.held devices.new.secrets.now) }
+    ensures gives { UnlessBroken (ends (λ done. done) result) (IsTrue D.tells → IsTrue X.tells → StaysFrom (epoch_above terms.now life.old.tip - 1)
+        (D.image devices.old.disk.now) (D.image devices.new.disk.now) (X.held devices.old.secrets.now) (X.held devices.new.secrets.now)) }
 {
     let Some(height) = awaited(&life.tip) else {
         return Err(Stop::Fault(Fault::HeightRange));

@@ -63,7 +63,7 @@ fn position_of<Dir: Directory + Drop>(processed: Processed, block: &Block<Dir>) 
 }
 
 /// The position that a source's anchor names.
-fn position<Dir: Directory + Drop, B: BlockSource<Dir>>(source: &B) -> Option<Tip>
+pub(crate) fn position<Dir: Directory + Drop, B: BlockSource<Dir>>(source: &B) -> Option<Tip>
     ensures { result ≡ position (B.answers source.now).anchor }
 {
     let processed = source.processed()?;

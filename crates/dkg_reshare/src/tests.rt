@@ -1,14 +1,21 @@
 //! One life over memory devices: it opens, a dealing is heard twice, a block is taken, and a block that doesn't fit ends it.
-ghost use Rattle.std.specs.Prelude.{◌≡◌, None, Some, if◌then◌else◌, ◌==◌};
+ghost use Rattle.std.specs.Prelude.{◌≡◌, ℕ, IfOk, None, Some, if◌then◌else◌, ◌==◌};
+ghost use Rattle.std.specs.Int.NonZero.{non_zero_u64_get};
+ghost use Rattle.dkg_ceremony.specs.Schedule.{midpoint};
 ghost use Rattle.dkg_core.specs.Sources.{AtBlock};
+ghost use Rattle.dkg_reshare.specs.Actors.{IsAt, IsNew, IsTakenToday};
 
 use crate::source::{BlockSource, Processed};
 use crate::{Actor, Config, Message, Stop};
-use dkg_ceremony::{Blob, Mode, ModeVersion, Reveal, StandCeremony, StandSigner, decode_cfg};
+use dkg_ceremony::{
+    Blob, Ceremony, Mode, ModeVersion, Reveal, StandCeremony, StandSigner, decode_cfg,
+};
 use dkg_fence::Fence;
-use dkg_journal::{Fuse, MemoryDisk};
-use dkg_store::{Devices, MemorySecrets};
-use dkg_types::{Block, Context, Fault, Finalization, NoopRegistrar, Payload, Transcript, Unit};
+use dkg_journal::{Disk, Fuse, MemoryDisk};
+use dkg_store::{Devices, MemorySecrets, SecretStore};
+use dkg_types::{
+    Block, Context, Fault, Finalization, NoopRegistrar, Payload, Registrar, Transcript, Unit,
+};
 use dkg_values::{Digest, Epoch, Height, Key, Mem};
 use std::alloc::Global;
 use std::num::{NonZeroU32, NonZeroU64};
@@ -78,7 +85,9 @@ fn block_at(
     parent: Digest,
     height: Height,
     payload: Option<Payload<Unit>>,
-) -> Mem<Block<Unit>> {
+) -> Mem<Block<Unit>>
+    ensures { IfOk result (λ block. block.height ≡ height) }
+{
     let context = Context {
         epoch: Epoch(0),
         view: height.0,
@@ -89,7 +98,11 @@ fn block_at(
     Block::new(alloc, context, parent, height, payload)
 }
 
-fn actor_of(alloc: Global) -> Result<Actor<StandCeremony, Unit, NoopRegistrar, Unit, Unit>, Fail> {
+/// An actor with epochs of eight blocks.
+fn actor_of(alloc: Global) -> Result<Actor<StandCeremony, Unit, NoopRegistrar, Unit, Unit>, Fail>
+    ensures new { IfOk result (λ actor. IsNew actor.state) }
+    ensures early { IfOk result (λ actor. midpoint (non_zero_u64_get actor.terms.blocks_per_epoch) 0 ≡ 4) }
+{
     let config = Config {
         ceremony: StandCeremony,
         signer: StandSigner::new(Key(1)),
@@ -107,6 +120,63 @@ fn actor_of(alloc: Global) -> Result<Actor<StandCeremony, Unit, NoopRegistrar, U
         return Err(Fail::from("refused"));
     };
     Ok(actor)
+}
+
+/// An actor's opening.
+fn open<C: Ceremony, P, R: Registrar, M, D: Disk, X: SecretStore, B: BlockSource<Unit>>(
+    alloc: Global,
+    actor: &mut Actor<C, P, R, M, Unit>,
+    devices: &mut Devices<'_, D, X>,
+    source: &B,
+    fence: &mut Fence,
+    out: &mut Transcript,
+) -> Result<(), Stop>
+    requires { IsNew actor.old.state }
+    ensures at { IsAt D.tells D.files D.image C.ack_of actor.new.terms actor.new.state devices.new }
+    ensures terms { actor.new.terms ≡ actor.old.terms }
+{
+    actor.open(alloc, devices, source, 0, 9, fence, out)
+}
+
+/// .. and a step.
+fn step<C: Ceremony, P, R: Registrar, M, D: Disk, X: SecretStore, B: BlockSource<Unit>>(
+    alloc: Global,
+    actor: &mut Actor<C, P, R, M, Unit>,
+    devices: &mut Devices<'_, D, X>,
+    source: &B,
+    message: Message<Unit>,
+    fence: &mut Fence,
+    out: &mut Transcript,
+) -> Result<(), Stop>
+    requires at { IsAt D.tells D.files D.image C.ack_of actor.old.terms actor.old.state devices.old }
+    requires today { IsTakenToday (non_zero_u64_get actor.old.terms.blocks_per_epoch) message }
+    ensures at { IsAt D.tells D.files D.image C.ack_of actor.new.terms actor.new.state devices.new }
+    ensures terms { actor.new.terms ≡ actor.old.terms }
+{
+    actor.step(alloc, devices, source, message, fence, out)
+}
+
+/// The dealing, from its dealer.
+fn dealing(alloc: Global) -> Result<Message<Unit>, Fail>
+    ensures { (blocks : ℕ) → IfOk result (IsTakenToday blocks) }
+{
+    let bytes = Blob::new(Vec::from_slice(alloc, &DEALING)?);
+    Ok(Message::Peer {
+        from: Key(2),
+        bytes,
+    })
+}
+
+/// The height of a block that doesn't fit, where one ended a step.
+fn detached(ended: &Result<(), Stop>) -> Option<u64> {
+    match ended {
+        Err(Stop::Fault(Fault::DetachedBlock { height })) => Some(height.0),
+        _ => None,
+    }
+}
+
+fn has_failed(ended: &Result<(), Stop>) -> bool {
+    matches!(ended, Err(Stop::Failed))
 }
 
 /// How many lines were told after the opening, the dealing, the same again, and a block; and how a detached block and one more call end.
@@ -128,57 +198,34 @@ fn lived(alloc: Global) -> Result<[usize; 4], Fail> {
     };
     let mut fence = Fence::new();
     let mut out = Transcript::new(alloc);
-    if actor
-        .open(alloc, &mut devices, &source, 0, 9, &mut fence, &mut out)
-        .is_err()
-    {
+    if open(alloc, &mut actor, &mut devices, &source, &mut fence, &mut out).is_err() {
         return Err(Fail::from("not opened"));
     }
     let opened = out.entries().len();
-    for _ in 0..2 {
-        let bytes = Blob::new(Vec::from_slice(alloc, &DEALING)?);
-        let message = Message::Peer {
-            from: Key(2),
-            bytes,
-        };
-        if actor
-            .step(alloc, &mut devices, &source, message, &mut fence, &mut out)
-            .is_err()
-        {
-            return Err(Fail::from("not heard"));
-        }
+    let message = dealing(alloc)?;
+    if step(alloc, &mut actor, &mut devices, &source, message, &mut fence, &mut out).is_err() {
+        return Err(Fail::from("not heard"));
+    }
+    let again = dealing(alloc)?;
+    if step(alloc, &mut actor, &mut devices, &source, again, &mut fence, &mut out).is_err() {
+        return Err(Fail::from("not heard again"));
     }
     let heard = out.entries().len();
-    let block = block_at(alloc, parent, Height(1), None)?;
-    let message = Message::Finalized(block);
-    if actor
-        .step(alloc, &mut devices, &source, message, &mut fence, &mut out)
-        .is_err()
-    {
+    let block = Message::Finalized(block_at(alloc, parent, Height(1), None)?);
+    if step(alloc, &mut actor, &mut devices, &source, block, &mut fence, &mut out).is_err() {
         return Err(Fail::from("not taken"));
     }
-    let block = block_at(alloc, parent, Height(2), None)?;
-    let message = Message::Finalized(block);
-    let Err(Stop::Fault(Fault::DetachedBlock { height })) = actor.step(
-        alloc,
-        &mut devices,
-        &source,
-        message,
-        &mut fence,
-        &mut out,
-    ) else {
+    let apart = Message::Finalized(block_at(alloc, parent, Height(2), None)?);
+    let ended = step(alloc, &mut actor, &mut devices, &source, apart, &mut fence, &mut out);
+    let Some(height) = detached(&ended) else {
         return Err(Fail::from("a detached block is taken"));
     };
-    let bytes = Blob::new(Vec::new(alloc));
-    let message = Message::Peer {
-        from: Key(2),
-        bytes,
-    };
-    let Err(Stop::Failed) = actor.step(alloc, &mut devices, &source, message, &mut fence, &mut out)
-    else {
+    let late = dealing(alloc)?;
+    let ended = step(alloc, &mut actor, &mut devices, &source, late, &mut fence, &mut out);
+    if !has_failed(&ended) {
         return Err(Fail::from("a failed actor goes on"));
-    };
-    Ok([opened, heard, out.entries().len(), height.0 as usize])
+    }
+    Ok([opened, heard, out.entries().len(), height as usize])
 }
 
 #[test]

@@ -10,7 +10,7 @@ use Rattle.dkg_script.specs.Order.{IsInOrder}
 use Rattle.dkg_script.specs.Progress.{Progress}
 use Rattle.dkg_script.specs.Promise.{Adds, RunsInOrder}
 use Rattle.dkg_script.specs.Setting.{Setting}
-use Rattle.dkg_run.specs.Standing.{Moves, MayTell, IsBetweenOf, TellsFault}
+use Rattle.dkg_run.proofs.Standing.{Moves, MayTell, IsBetweenOf, TellsFault}
 use Rattle.dkg_run.proofs.Runs.{runs_in_order, faulted_in_order}
 use Rattle.dkg_run.proofs.Places.{moves_then, moves_none}
 

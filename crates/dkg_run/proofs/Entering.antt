@@ -1,10 +1,11 @@
 -- What the orchestrator's half says as a life opens, and of a block, one exit after another.
 use Rattle.std.proofs.Common.{◌≡◌, ℕ, ◌+◌, ◌++◌, ◌∷◌, [], arith, Bool, true, false, List, Option, Some, None, Result, Ok, Err, refl, sym, ◌∙◌, ap, subst}
-use Rattle.std.specs.Prelude.{◌==◌, ◌<◌, nat_lt, IsSome, is_some, option_and_then, if◌then◌else◌}
+use Rattle.std.specs.Prelude.{◌==◌, ◌<◌, nat_lt, IsSome, IsSomeAnd, is_some, option_and_then, if◌then◌else◌}
 use Rattle.std.specs.Option.{option_map_or}
 use Rattle.std.specs.Result.{result_ok}
 use Rattle.std.proofs.lemmas.Bool.Decides.{nat_tests}
-use Rattle.dkg_ceremony.specs.Schedule.{last}
+use Rattle.dkg_ceremony.specs.Schedule.{boundary, first, last}
+use Rattle.dkg_ceremony.specs.declared.epocher.Bounds.{Bounds}
 use Rattle.dkg_fence.specs.Fence.{waited}
 use Rattle.dkg_fence.specs.Readiness.{Readiness}
 use Rattle.dkg_fence.specs.declared.fence.Waited.{Waited}
@@ -35,9 +36,11 @@ use Rattle.dkg_core.specs.Live.{Live, NodeStop, Faulted, Orchestrator, Waiting, 
 use Rattle.dkg_core.specs.Node.{kept_material}
 use Rattle.dkg_core.specs.Plans.{material_at}
 use Rattle.dkg_core.specs.Setup.{is_past_range}
+use Rattle.dkg_core.specs.Sources.{Source}
 use Rattle.dkg_core.specs.Today.{first_block, first_epoch}
 use Rattle.dkg_reshare.specs.Made.{Speaks}
-use Rattle.dkg_run.specs.Halves.{beginning_of}
+use Rattle.dkg_run.specs.Halves.{AreStart, beginning_of}
+use Rattle.dkg_run.specs.Nodes.{IsFenceReady, IsHalfGiven}
 
 -- A COURSE THAT TOUCHES NO DEVICE
 
@@ -52,13 +55,53 @@ asked f (broken cause) w new runs = runs
 pub speaks_nothing : {S : Type 0} (course : NodeCourse S) (out : List Line) → Speaks course (broken by_want) out out
 speaks_nothing course out = λ h f. breaks_none by_want tt (on_devices course) (record { out = out; held = h; fuse = f })
 
-speaks_stop : {S : Type 0} (stop : NodeStop) (out : List Line) → Speaks {S = S} (Stops stop) (stopped stop) out out
-speaks_stop stop out = λ h f. (refl, refl)
+speaks_stop : (S : Type 0) (stop : NodeStop) (out : List Line) → Speaks {Dir = directory.Unit} {F = NodeStop} {S = S} (Stops stop) (stopped stop) out out
+speaks_stop S stop out = λ h f. (refl, refl)
 
-speaks_line : {S : Type 0} (line : Line) (end its : S) (out : List Line) → its ≡ end → Speaks (Say line (Goes end)) (went its) out (out ++ line ∷ [])
+speaks_line : {S : Type 0} (line : Line) (end its : S) (out : List Line) → its ≡ end → Speaks {Dir = directory.Unit} {F = NodeStop} (Say line (Goes end)) (went its) out (out ++ line ∷ [])
 speaks_line line end its out is = λ h f. (refl, is)
 
 -- AN OPENING
+
+-- what an info is judged as, for an epoch
+abbrev judged : (epoch : ℕ) → (height : ℕ) → Option (EpochInfo directory.Unit) → Result (Unit {0}) Fault
+judged epoch height found = option_map_or (λ info. if info.epoch == epoch then Ok tt else Err (WrongEpoch epoch info.epoch)) found (Err (MissingEpochInfo height))
+
+abbrev by_epoch : Bool → (epoch got : ℕ) → Result (Unit {0}) Fault
+by_epoch t epoch got = if t then Ok tt else Err (WrongEpoch epoch got)
+
+-- the fence is ready for the epoch whose info the boundary block carries
+pub ready_where_carried : (c : Fixed directory.Unit) (fence : Readiness) (b : Block directory.Unit) (epoch : ℕ) → epoch ≡ first_epoch c → first_block c ≡ Some b → beginning_of b epoch ≡ Ok tt → IsFenceReady c fence
+    → is_ready fence.ready epoch ≡ true
+ready_where_carried c fence b epoch of at begins ready = subst (λ (n : ℕ). is_ready fence.ready n ≡ true) (sym of) (ready (on_first (first_block c) at))
+  where
+    by_test : (info : EpochInfo directory.Unit) (t : Bool) → (info.epoch == epoch) ≡ t → by_epoch t epoch info.epoch ≡ Ok tt → info.epoch ≡ first_epoch c
+    by_test info true e is = same info.epoch epoch e ∙ of
+      where
+        same : (n m : ℕ) → (n == m) ≡ true → n ≡ m
+        same n m e = grind (arith, nat_tests)
+    by_test info false e is = absurd (let wrong : ◌≡◌ {A = Result (Unit {0}) Fault} (Err (WrongEpoch epoch info.epoch)) (Ok tt) = is in cc)
+
+    on_info : (found : Option (EpochInfo directory.Unit))
+        → judged epoch b.height found ≡ Ok tt → IsSomeAnd found (λ (info : EpochInfo directory.Unit). info.epoch ≡ first_epoch c)
+    on_info None is = absurd (let wrong : ◌≡◌ {A = Result (Unit {0}) Fault} (Err (MissingEpochInfo b.height)) (Ok tt) = is in cc)
+    on_info (Some info) is = by_test info (info.epoch == epoch) refl is
+
+    on_first : (found : Option (Block directory.Unit)) → found ≡ Some b → IsSomeAnd found (λ b. IsSomeAnd (info_of b.payload) (λ info. info.epoch ≡ first_epoch c))
+    on_first None is = absurd (let wrong : ◌≡◌ {A = Option (Block directory.Unit)} None (Some b) = is in cc)
+    on_first (Some own) is = subst (λ (k : Block directory.Unit). IsSomeAnd (info_of k.payload) (λ info. info.epoch ≡ first_epoch c)) (sym (the_block is)) (on_info (info_of b.payload) begins)
+      where
+        the_block : {x y : Block directory.Unit} → Some x ≡ Some y → x ≡ y
+        the_block e = cc
+
+-- .. where the bounds, the boundary block and its info were found so
+pub ready_at : (c : Fixed directory.Unit) (fence : Readiness) (b : Block directory.Unit) (blocks : ℕ) (source : Source directory.Unit) (bounds : Bounds) (height : ℕ) → IsHalfGiven blocks source c → AreStart c bounds
+    → ((n : ℕ) → bounds.first ≡ first n bounds.epoch → height ≡ boundary n bounds.epoch) → Some b ≡ source.block height → beginning_of b bounds.epoch ≡ Ok tt → IsFenceReady c fence → is_ready fence.ready bounds.epoch ≡ true
+ready_at c fence b blocks source bounds height given start boundary_is there begins ready = ready_where_carried c fence b bounds.epoch start.epoch_is here begins ready
+  where
+    here : first_block c ≡ Some b
+    here = ap (λ (s : Source directory.Unit). s.block (boundary c.blocks_per_epoch (first_epoch c))) given.lent
+        ∙ ap source.block (sym (boundary_is c.blocks_per_epoch start.first_is ∙ ap (boundary c.blocks_per_epoch) start.epoch_is)) ∙ sym there
 
 module _ (c : Fixed directory.Unit) (st : Live directory.Unit) (unplanned : (h : Held) → (c.seen h).plan ≡ None) where
   abbrev its_live : Half directory.Unit → NodeCourse (Live directory.Unit)
@@ -81,7 +124,7 @@ module _ (c : Fixed directory.Unit) (st : Live directory.Unit) (unplanned : (h :
   within_as within = ap (λ (b : Bool). if b then Stops (Faulted HeightRange) else half.opens_at c (first_epoch c) (first_block c) st) within
 
   pub past_speaks : is_past_range c (start_of c) ≡ true → (out : List Line) → Speaks (kept_material c st) (stopped (Faulted HeightRange)) out out
-  past_speaks past out = speaks_as (Stops (Faulted HeightRange)) (past_as past) (stopped (Faulted HeightRange)) out out (speaks_stop (Faulted HeightRange) out)
+  past_speaks past out = speaks_as (Stops (Faulted HeightRange)) (past_as past) (stopped (Faulted HeightRange)) out out (speaks_stop (Live directory.Unit) (Faulted HeightRange) out)
 
   module _ (within : is_past_range c (start_of c) ≡ false) where
     -- the boundary block isn't held
@@ -103,7 +146,7 @@ module _ (c : Fixed directory.Unit) (st : Live directory.Unit) (unplanned : (h :
 
       -- it carries no info of the epoch
       refused_as : (found : Option (EpochInfo directory.Unit)) (fault : Fault)
-          → option_map_or (λ (info : EpochInfo directory.Unit). if info.epoch == first_epoch c then Ok tt else Err (WrongEpoch (first_epoch c) info.epoch)) found (Err (MissingEpochInfo b.height)) ≡ Err fault
+          → judged (first_epoch c) b.height found ≡ Err fault
           → option_map_or (λ info. if info.epoch == first_epoch c then enters_by info else Stops (Faulted (WrongEpoch (first_epoch c) info.epoch))) found (Stops (Faulted (MissingEpochInfo b.height)))
           ≡ Stops (Faulted fault)
       refused_as None fault is = ap (λ (f : Fault). Stops (Faulted f)) (the_fault is)
@@ -115,14 +158,14 @@ module _ (c : Fixed directory.Unit) (st : Live directory.Unit) (unplanned : (h :
           the_fault : {x y : Fault} → ◌≡◌ {A = Result (Unit {0}) Fault} (Err x) (Err y) → x ≡ y
           the_fault e = cc
 
-          by_test : (t : Bool) → (if t then Ok tt else Err (WrongEpoch (first_epoch c) info.epoch)) ≡ Err fault
+          by_test : (t : Bool) → by_epoch t (first_epoch c) info.epoch ≡ Err fault
               → (if t then enters_by info else Stops (Faulted (WrongEpoch (first_epoch c) info.epoch))) ≡ Stops (Faulted fault)
           by_test true e = absurd (let wrong : ◌≡◌ {A = Result (Unit {0}) Fault} (Ok tt) (Err fault) = e in cc)
           by_test false e = ap (λ (f : Fault). Stops (Faulted f)) (the_fault e)
 
       pub refused_speaks : (fault : Fault) → beginning_of b (first_epoch c) ≡ Err fault → (out : List Line) → Speaks (kept_material c st) (stopped (Faulted fault)) out out
       refused_speaks fault is out =
-          speaks_as (Stops (Faulted fault)) (begins_as ∙ refused_as (info_of b.payload) fault is) (stopped (Faulted fault)) out out (speaks_stop (Faulted fault) out)
+          speaks_as (Stops (Faulted fault)) (begins_as ∙ refused_as (info_of b.payload) fault is) (stopped (Faulted fault)) out out (speaks_stop (Live directory.Unit) (Faulted fault) out)
 
       -- it does: the info
       pub record Carries : Type 0 where
@@ -131,12 +174,11 @@ module _ (c : Fixed directory.Unit) (st : Live directory.Unit) (unplanned : (h :
         pub of_epoch : info.epoch ≡ first_epoch c
 
       carries_in : (found : Option (EpochInfo directory.Unit)) → info_of b.payload ≡ found
-          → option_map_or (λ (info : EpochInfo directory.Unit). if info.epoch == first_epoch c then Ok tt else Err (WrongEpoch (first_epoch c) info.epoch)) found (Err (MissingEpochInfo b.height)) ≡ Ok tt
-          → Carries
+          → judged (first_epoch c) b.height found ≡ Ok tt → Carries
       carries_in None carried is = absurd (let wrong : ◌≡◌ {A = Result (Unit {0}) Fault} (Err (MissingEpochInfo b.height)) (Ok tt) = is in cc)
       carries_in (Some info) carried is = record { info = info; carried = carried; of_epoch = same info.epoch (first_epoch c) (by_test (info.epoch == first_epoch c) is) }
         where
-          by_test : (t : Bool) → (if t then Ok tt else Err (WrongEpoch (first_epoch c) info.epoch)) ≡ Ok tt → t ≡ true
+          by_test : (t : Bool) → by_epoch t (first_epoch c) info.epoch ≡ Ok tt → t ≡ true
           by_test true e = refl
           by_test false e = absurd (let wrong : ◌≡◌ {A = Result (Unit {0}) Fault} (Err (WrongEpoch (first_epoch c) info.epoch)) (Ok tt) = e in cc)
 
@@ -183,7 +225,7 @@ module _ (c : Fixed directory.Unit) (st : Live directory.Unit) (unplanned : (h :
             stops (Some epoch) none = absurd (let wrong : Some epoch ≡ None = none in cc)
 
             starts : (found : Option SchemeInfo) → IsSome found → Speaks (bind (half.starts_engine passed waiting found st) its_live) (went live) out (out ++ lines.Entered (first_epoch c) ∷ [])
-            starts None some = absurd some
+            starts None some = absurd (let wrong : false ≡ true = some in cc)
             starts (Some scheme) some = stops st.orchestrator.entered unentered
 
             tracks : (lacking : Option ℕ) → lacking ≡ None → Speaks (bind (half.tracks_peers passed waiting lacking st) its_live) (went live) out (out ++ lines.Entered (first_epoch c) ∷ [])

@@ -16,8 +16,8 @@ use Rattle.dkg_store.specs.declared.devices.Devices.{Devices}
 use Rattle.dkg_reshare.specs.Ends.{IsCaused}
 use Rattle.dkg_reshare.specs.declared.stop.Stop.{Stop}
 use Rattle.dkg_reshare.specs.declared.stop.Stop.TheVariants.{Cut, Failed, Fault as FaultOf}
-use Rattle.dkg_run.specs.Causes.{HasCause, IfFault}
-use Rattle.dkg_run.specs.Moving.{Blames}
+use Rattle.dkg_run.specs.Causes.{HasCause, StopHasCause}
+use Rattle.dkg_run.specs.Moving.{Blames, StepBlames}
 use Rattle.dkg_run.specs.Given.{Lived, at_step}
 use Rattle.dkg_run.specs.Nodes.{IsOfLife, IsStepHere}
 use Rattle.dkg_run.specs.declared.node.Node.{Node}
@@ -74,19 +74,31 @@ module _ {D X : Type 0} (disk_faults : D → ℕ) (secret_faults : X → ℕ) wh
       (rose_around (disk_faults old.disk.now) (disk_faults before.disk.now) (disk_faults after.disk.now) (disk_faults new.disk.now) d1 d2 d3)
       (rose_around (secret_faults old.secrets.now) (secret_faults before.secrets.now) (secret_faults after.secrets.now) (secret_faults new.secrets.now) s1 s2 s3) is
 
-  -- .. of a stop
-  pub stop_blames_around : (old before after new : Devices D X) → disk_faults old.disk.now ≤ disk_faults before.disk.now → secret_faults old.secrets.now ≤ secret_faults before.secrets.now
+-- .. of a step's stop
+stop_caused_around : (stop : Stop) (P Q R S U : Type 0) → (P → R) → (Q → S) → IsCaused stop P Q U → IsCaused stop R S ⊤
+stop_caused_around Cut P Q R S U disk secrets is = tt
+stop_caused_around Failed P Q R S U disk secrets is = absurd is
+stop_caused_around (FaultOf fault.Disk) P Q R S U disk secrets is = disk is
+stop_caused_around (FaultOf fault.Secrets) P Q R S U disk secrets is = secrets is
+stop_caused_around (FaultOf (fault.Corrupt name place)) P Q R S U disk secrets is = absurd is
+stop_caused_around (FaultOf its) P Q R S U disk secrets is = tt
+
+module _ {D X : Type 0} (disk_faults : D → ℕ) (secret_faults : X → ℕ) where
+  pub step_blames_around : (old before after new : Devices D X) → disk_faults old.disk.now ≤ disk_faults before.disk.now → secret_faults old.secrets.now ≤ secret_faults before.secrets.now
       → disk_faults before.disk.now ≤ disk_faults after.disk.now → secret_faults before.secrets.now ≤ secret_faults after.secrets.now
       → disk_faults after.disk.now ≤ disk_faults new.disk.now → secret_faults after.secrets.now ≤ secret_faults new.secrets.now
-      → (stop : Stop) → IfFault stop (Blames disk_faults secret_faults before after) → IfFault stop (Blames disk_faults secret_faults old new)
-  stop_blames_around old before after new d1 s1 d2 s2 d3 s3 (FaultOf its) is = blames_around old before after new d1 s1 d2 s2 d3 s3 its is
-  stop_blames_around old before after new d1 s1 d2 s2 d3 s3 Cut is = tt
-  stop_blames_around old before after new d1 s1 d2 s2 d3 s3 Failed is = tt
+      → (stop : Stop) (U : Type 0) → IsCaused stop (Rose (disk_faults before.disk.now) (disk_faults after.disk.now)) (Rose (secret_faults before.secrets.now) (secret_faults after.secrets.now)) U
+      → StepBlames disk_faults secret_faults old new stop
+  step_blames_around old before after new d1 s1 d2 s2 d3 s3 stop U is = stop_caused_around stop
+      (Rose (disk_faults before.disk.now) (disk_faults after.disk.now)) (Rose (secret_faults before.secrets.now) (secret_faults after.secrets.now))
+      (Rose (disk_faults old.disk.now) (disk_faults new.disk.now)) (Rose (secret_faults old.secrets.now) (secret_faults new.secrets.now)) U
+      (rose_around (disk_faults old.disk.now) (disk_faults before.disk.now) (disk_faults after.disk.now) (disk_faults new.disk.now) d1 d2 d3)
+      (rose_around (secret_faults old.secrets.now) (secret_faults before.secrets.now) (secret_faults after.secrets.now) (secret_faults new.secrets.now) s1 s2 s3) is
 
--- the causes of an actor's stop
-pub caused_blames : (stop : Stop) (disk secrets reached : Type 0) → IsCaused stop disk secrets reached → IfFault stop (λ its. HasCause its disk secrets)
-caused_blames Cut disk secrets reached is = tt
-caused_blames Failed disk secrets reached is = tt
-caused_blames (FaultOf fault.Disk) disk secrets reached is = is
-caused_blames (FaultOf fault.Secrets) disk secrets reached is = is
-caused_blames (FaultOf its) disk secrets reached is = tt
+-- a step's causes are a life's
+pub step_stop_cause : (stop : Stop) (P Q U : Type 0) → IsCaused stop P Q U → StopHasCause stop P Q
+step_stop_cause Cut P Q U is = tt
+step_stop_cause Failed P Q U is = is
+step_stop_cause (FaultOf fault.Disk) P Q U is = is
+step_stop_cause (FaultOf fault.Secrets) P Q U is = is
+step_stop_cause (FaultOf its) P Q U is = tt

@@ -1,6 +1,6 @@
 -- What a call of the actor and the orchestrator's half behind it make of a node.
 use Rattle.std.proofs.Common.{◌≡◌, ℕ, Bool, true, false, List, [], Option, Some, None, Result, Ok, Err, append-nil, refl, sym, ◌∙◌, ap, subst}
-use Rattle.std.specs.Prelude.{is_some, if◌then◌else◌}
+use Rattle.std.specs.Prelude.{IfErr, OnOk, is_some, option_map, slice_get, if◌then◌else◌}
 use Rattle.std.specs.Option.{option_map_or}
 use Rattle.dkg_ceremony.specs.Acks as acks
 use Rattle.dkg_ceremony.specs.Dealings as dealings
@@ -13,34 +13,43 @@ use Rattle.dkg_types.specs.Blocks.{Block}
 use Rattle.dkg_types.specs.declared.entry.Entry.{Entry as Line}
 use Rattle.dkg_types.specs.declared.entry.Entry.TheVariants.{Acked}
 use Rattle.dkg_types.specs.declared.fault.Fault.{Fault}
-use Rattle.dkg_store.specs.Acts.{Ended, IfWent, Moment, Runs, Stands, at, broken, held_in, moment, stopped, went}
+use Rattle.dkg_store.specs.Acts.{Acts, Cause, Ended, IfWent, Moment, Runs, Stands, at, broken, held_in, moment, stopped, went}
 use Rattle.dkg_store.specs.Secrets.{Secrets}
 use Rattle.dkg_store.specs.declared.devices.Devices.{Devices}
 use Rattle.dkg_text.specs.declared.script.Event.TheVariants as event
-use Rattle.dkg_core.specs.Core.{step}
+use Rattle.std.specs.Int.NonZero.{non_zero_u32_get, non_zero_u64_get}
+use Rattle.dkg_ceremony.specs.declared.mode.ModeVersion.{ModeVersion}
+use Rattle.dkg_ceremony.specs.declared.mode.Reveal.TheVariants.{V1}
+use Rattle.dkg_text.specs.declared.script.ScriptConfig.{ScriptConfig}
+use Rattle.dkg_core.specs.Core.{no_orchestrator, no_probe, step}
 use Rattle.dkg_core.specs.Courses.{Course, Goes, Say, bind, on_devices}
 use Rattle.dkg_core.specs.Entering.{acked_at, asks_again, delivered}
 use Rattle.dkg_core.specs.Fixed.{Fixed}
 use Rattle.dkg_core.specs.Live.{Live, Mail, NodeStop, Peer, Reshare, Sent, Delivers, Finalized}
 use Rattle.dkg_core.specs.Node.{node_step, unless_once}
 use Rattle.dkg_core.specs.Said.{Said}
-use Rattle.dkg_reshare.specs.Actors.{EndsAt, HasFailed, IfLiving, lives}
-use Rattle.dkg_reshare.specs.Ends.{by_stop}
+use Rattle.dkg_reshare.specs.Actors.{AreTerms, EndsAt, HasFailed, IfLiving, IsReadyLife, lives}
+use Rattle.dkg_types.specs.declared.fault.Fault.TheVariants.{NoMemory}
+use Rattle.dkg_reshare.specs.declared.stop.Stop.TheVariants.{Fault as FaultOf}
+use Rattle.dkg_reshare.specs.Ends.{IsCaused, by_stop}
+use Rattle.dkg_reshare.specs.Given.{IsOf}
 use Rattle.dkg_reshare.specs.LiveOf.{Beside, live_of}
 use Rattle.dkg_reshare.specs.Made.{MakesAt, Speaks, Tells}
 use Rattle.dkg_reshare.specs.Rules.{IsRuledBy}
+use Rattle.dkg_reshare.specs.declared.config.Terms.{Terms}
 use Rattle.dkg_reshare.specs.declared.actor.State.{State}
 use Rattle.dkg_reshare.specs.declared.actor.State.TheVariants.{New, Living, Failed as HadFailed}
 use Rattle.dkg_reshare.specs.declared.life.Life as reshare
 use Rattle.dkg_reshare.specs.declared.stop.Stop.{Stop}
 use Rattle.dkg_run.specs.Ended.{by_node_stop, ends_node}
-use Rattle.dkg_run.specs.Given.{Lived, at_step, blocks_in, step_of}
+use Rattle.dkg_run.specs.Given.{Lived, ReadsNeither, at_step, blocks_in, step_of}
 use Rattle.dkg_run.specs.Lives.{never}
-use Rattle.dkg_run.specs.Nodes.{HasHalf, IsView, Viewed}
+use Rattle.dkg_run.specs.Nodes.{HasHalf, IsOfLife, IsReadyNode, IsView, Viewed}
 use Rattle.dkg_run.specs.declared.half.Half.{Half}
 use Rattle.dkg_run.specs.declared.node.Node.{Node}
 use Rattle.dkg_reshare.proofs.Burning.{burns_none, makes_nothing}
-use Rattle.dkg_reshare.proofs.Said.{nothing_held, said_of_runs}
+use Rattle.dkg_reshare.proofs.Ending.{stands_again}
+use Rattle.dkg_reshare.proofs.Said.{none_first, nothing_held, said_of_runs}
 use Rattle.dkg_run.proofs.Naming.{node_ends, node_goes, node_says, node_says_early}
 
 -- WHAT A STEP IS GIVEN
@@ -190,7 +199,7 @@ module _ (n : Node) (c : Fixed directory.Unit) (beside : Beside directory.Unit) 
 
   -- .. or it went there, and the other half answered
   module _ {files files_now : Files} {image now : Files → Type 0} {old : Moment} {mid_out out : List Line} {s : Secrets} {f : Burn} where
-    taken_in : (state : State directory.Unit) → n.actor.state ≡ state → (P : reshare.Life directory.Unit → Type 0) → EndsAt state (Ok tt) P
+    pub taken_in : (state : State directory.Unit) → n.actor.state ≡ state → (P : reshare.Life directory.Unit → Type 0) → EndsAt state (Ok tt) P
         → MakesAt (on_devices (step c (Finalized b) st)) (lives (live_of beside n.fence) state (Ok tt)) files image files_now now old (moment mid_out s f)
         → (result : Result (Unit {0}) Stop) → ((st : Live directory.Unit) → HasHalf n.half st → Speaks (answered st) (ends_node st result) mid_out out)
         → Viewed n result (λ ended. MakesAt (on_devices (node_step c (Delivers b) st)) ended files image files_now now old (moment out s f))
@@ -206,7 +215,7 @@ module _ (n : Node) (c : Fixed directory.Unit) (beside : Beside directory.Unit) 
     taken_in HadFailed is P ends made result speaks = absurd ends
 
   module _ {out mid now : List Line} where
-    told_in : (state : State directory.Unit) → n.actor.state ≡ state → (P : reshare.Life directory.Unit → Type 0) → EndsAt state (Ok tt) P
+    pub told_in : (state : State directory.Unit) → n.actor.state ≡ state → (P : reshare.Life directory.Unit → Type 0) → EndsAt state (Ok tt) P
         → Tells (step c (Finalized b) st) (lives (live_of beside n.fence) state (Ok tt)) out mid
         → (result : Result (Unit {0}) Stop) → ((st : Live directory.Unit) → HasHalf n.half st → Speaks (answered st) (ends_node st result) mid now)
         → Viewed n result (λ ended. Tells (node_step c (Delivers b) st) ended out now)
@@ -220,3 +229,167 @@ module _ (n : Node) (c : Fixed directory.Unit) (beside : Beside directory.Unit) 
         (speaks_says (answered end) (ends_node end result) (speaks end view.half))))
     told_in New is P ends said result speaks = absurd ends
     told_in HadFailed is P ends said result speaks = absurd ends
+
+-- A NODE THAT GOES ON has a view, whatever it was
+viewed_in : (n : Node) (P : reshare.Life directory.Unit → Type 0) (state : State directory.Unit) → n.actor.state ≡ state → EndsAt state (Ok tt) P → (st : Live directory.Unit) × IsView n st
+viewed_in n P (Living life) is ends = (
+  live_of (record { orchestrator = record (no_orchestrator {Dir = directory.Unit}) { entered = n.half.entered; halted = n.half.halted }; probe = no_probe }) n.fence life,
+  view_of n (record { orchestrator = record (no_orchestrator {Dir = directory.Unit}) { entered = n.half.entered; halted = n.half.halted }; probe = no_probe }) life (record { entered = refl; halted = refl; unawaited = refl }) is,
+)
+viewed_in n P New is ends = absurd ends
+viewed_in n P HadFailed is ends = absurd ends
+
+pub ready_node : {D X : Type 0} (tells : Bool) (files : D → Files) (image : D → Files → Type 0) (n : Node) (devices : Devices D X)
+    → EndsAt n.actor.state (Ok tt) (λ life. IsReadyLife tells files image acks.ack_of n.actor.terms life devices) → IsReadyNode tells files image n devices
+ready_node tells files image n devices ends = record {
+  at = stands_again tells files image acks.ack_of n.actor.terms n.actor.state devices (Ok tt) ends;
+  viewed = viewed_in n (λ life. IsReadyLife tells files image acks.ack_of n.actor.terms life devices) n.actor.state refl ends;
+}
+
+-- THE CONFIGURATION of a life
+
+pub is_of : (g : Lived) (terms : Terms) (config : ScriptConfig) → g.script.config ≡ config → ReadsNeither g.seen
+    → AreTerms terms config.me config.blocks_per_epoch config.limit config.max_mode config.mode V1 config.namespace → (taken : ℕ) → IsOf terms (at_step g taken)
+unfolding at_step
+is_of g terms config same reads are taken = record {
+  me = ap (λ (c : ScriptConfig). c.me) same ∙ sym are.me_is;
+  blocks = ap (λ (c : ScriptConfig). non_zero_u64_get c.blocks_per_epoch) same ∙ ap non_zero_u64_get (sym are.blocks_are);
+  limit = ap (λ (c : ScriptConfig). non_zero_u32_get c.limit) same ∙ ap non_zero_u32_get (sym are.limit_is);
+  version = ap (λ (c : ScriptConfig). c.max_mode.0) same ∙ ap (λ (m : ModeVersion). m.0) (sym are.version_is);
+  mode = ap (λ (c : ScriptConfig). c.mode) same ∙ sym are.mode_is;
+  reveal = sym are.reveal_is;
+  namespace = ap (λ (c : ScriptConfig). c.namespace) same ∙ sym are.namespace_is;
+  shareless = reads.shareless;
+  unplanned = reads.unplanned;
+  reshare = refl;
+  bare = refl;
+}
+
+pub of_terms : (g : Lived) (node : Node) (config : ScriptConfig) → g.script.config ≡ config → ReadsNeither g.seen
+    → AreTerms node.actor.terms config.me config.blocks_per_epoch config.limit config.max_mode config.mode V1 config.namespace → IsOfLife g node
+of_terms g node config same reads are = record { of = is_of g node.actor.terms config same reads are }
+
+-- ONE STEP of a node, from a view of it
+
+-- a node that goes on where its call went well
+pub ready_on : {D X : Type 0} (tells : Bool) (files : D → Files) (image : D → Files → Type 0) (n : Node) (devices : Devices D X) (result : Result (Unit {0}) Stop)
+    → EndsAt n.actor.state result (λ life. IsReadyLife tells files image acks.ack_of n.actor.terms life devices) → OnOk result (IsReadyNode tells files image n devices)
+ready_on tells files image n devices (Ok done) ends = ready_node tells files image n devices ends
+ready_on tells files image n devices (Err stop) ends = tt
+
+module _ (before n : Node) (half : n.half ≡ before.half) (g : Lived) (number : ℕ) (st : Live directory.Unit) (view : IsView before st) where
+  abbrev given_at : Fixed directory.Unit
+  given_at = at_step g number
+
+  has_half : HasBeside n.half view.beside
+  has_half = subst (λ (h : Half). HasBeside h view.beside) (sym half) (beside_of before st view)
+
+  living : (Q : reshare.Life directory.Unit → Type 0) → IfLiving before.actor.state Q → Q view.life
+  living Q q = let P : State directory.Unit → Type 0 = λ s. IfLiving s Q in subst P view.lives q
+
+  -- the course of the actor, with what was copied
+  sent_as : (from : ℕ) (bytes its : List ℕ) → its ≡ bytes
+      → step given_at (Sent (Peer from its)) (live_of view.beside before.fence view.life) ≡ step given_at (Sent (Peer from bytes)) st
+  sent_as from bytes its same = λ i. step given_at (Sent (Peer from (same i))) (sym view.is i)
+
+  given_as : (b its : Block directory.Unit) → its ≡ b → step given_at (Finalized its) (live_of view.beside before.fence view.life) ≡ step given_at (Finalized b) st
+  given_as b its same = λ i. step given_at (Finalized (same i)) (sym view.is i)
+
+  module _ {files files_now : Files} {image now : Files → Type 0} {old new : Moment} where
+    pub hears : (from : ℕ) (bytes its : List ℕ) → its ≡ bytes → (result : Result (Unit {0}) Stop) (P : reshare.Life directory.Unit → Type 0) → EndsAt n.actor.state result P
+        → IfLiving before.actor.state (λ life. MakesAt (on_devices (step given_at (Sent (Peer from its)) (live_of view.beside before.fence life)))
+            (lives (live_of view.beside n.fence) n.actor.state result) files image files_now now old new)
+        → Viewed n result (λ ended. MakesAt (on_devices (step_of g number (event.Peer from bytes) st)) ended files image files_now now old new)
+    hears from bytes its same result P ends made =
+        heard n given_at view.beside has_half (at_oneshot g number) (Peer from bytes) st result P ends
+        (subst (λ (a : Course directory.Unit Fault (Live directory.Unit)). MakesAt (on_devices a) (lives (live_of view.beside n.fence) n.actor.state result) files image files_now now old new)
+        (sent_as from bytes its same)
+        (living (λ life. MakesAt (on_devices (step given_at (Sent (Peer from its)) (live_of view.beside before.fence life))) (lives (live_of view.beside n.fence) n.actor.state result) files image files_now now old new) made))
+
+    pub refuses : (b its : Block directory.Unit) → its ≡ b → (stop : Stop) (P : reshare.Life directory.Unit → Type 0) → EndsAt n.actor.state (Err stop) P
+        → IfLiving before.actor.state (λ life. MakesAt (on_devices (step given_at (Finalized its) (live_of view.beside before.fence life)))
+            (lives (live_of view.beside n.fence) n.actor.state (Err stop)) files image files_now now old new)
+        → MakesAt (on_devices (node_step given_at (Delivers b) st)) (by_node_stop stop) files image files_now now old new
+    refuses b its same stop P ends made =
+        refused_made n given_at view.beside has_half (at_oneshot g number) b st n.actor.state stop P ends
+        (subst (λ (a : Course directory.Unit Fault (Live directory.Unit)). MakesAt (on_devices a) (lives (live_of view.beside n.fence) n.actor.state (Err stop)) files image files_now now old new)
+        (given_as b its same)
+        (living (λ life. MakesAt (on_devices (step given_at (Finalized its) (live_of view.beside before.fence life))) (lives (live_of view.beside n.fence) n.actor.state (Err stop)) files image files_now now old new) made))
+
+  module _ {out now : List Line} where
+    pub hears_said : (from : ℕ) (bytes its : List ℕ) → its ≡ bytes → (result : Result (Unit {0}) Stop) (P : reshare.Life directory.Unit → Type 0) → EndsAt n.actor.state result P
+        → IfLiving before.actor.state (λ life. Tells (step given_at (Sent (Peer from its)) (live_of view.beside before.fence life)) (lives (live_of view.beside n.fence) n.actor.state result) out now)
+        → Viewed n result (λ ended. Tells (step_of g number (event.Peer from bytes) st) ended out now)
+    hears_said from bytes its same result P ends said =
+        heard_said n given_at view.beside has_half (at_oneshot g number) (Peer from bytes) st result P ends
+        (subst (λ (a : Course directory.Unit Fault (Live directory.Unit)). Said (on_devices a) (lives (live_of view.beside n.fence) n.actor.state result) out now)
+        (sent_as from bytes its same)
+        (living (λ life. Tells (step given_at (Sent (Peer from its)) (live_of view.beside before.fence life)) (lives (live_of view.beside n.fence) n.actor.state result) out now) said))
+
+    pub refuses_said : (b its : Block directory.Unit) → its ≡ b → (stop : Stop) (P : reshare.Life directory.Unit → Type 0) → EndsAt n.actor.state (Err stop) P
+        → IfLiving before.actor.state (λ life. Tells (step given_at (Finalized its) (live_of view.beside before.fence life)) (lives (live_of view.beside n.fence) n.actor.state (Err stop)) out now)
+        → Tells (node_step given_at (Delivers b) st) (by_node_stop stop) out now
+    refuses_said b its same stop P ends said =
+        refused_said n given_at view.beside has_half (at_oneshot g number) b st n.actor.state stop P ends
+        (subst (λ (a : Course directory.Unit Fault (Live directory.Unit)). Said (on_devices a) (lives (live_of view.beside n.fence) n.actor.state (Err stop)) out now)
+        (given_as b its same)
+        (living (λ life. Tells (step given_at (Finalized its) (live_of view.beside before.fence life)) (lives (live_of view.beside n.fence) n.actor.state (Err stop)) out now) said))
+
+  -- .. the other half answered
+  module _ {files files_now : Files} {image now : Files → Type 0} {old : Moment} {mid_out out : List Line} {s : Secrets} {f : Burn} where
+    pub takes : (b its : Block directory.Unit) → its ≡ b → (P : reshare.Life directory.Unit → Type 0) → EndsAt n.actor.state (Ok tt) P
+        → IfLiving before.actor.state (λ life. MakesAt (on_devices (step given_at (Finalized its) (live_of view.beside before.fence life)))
+            (lives (live_of view.beside n.fence) n.actor.state (Ok tt)) files image files_now now old (moment mid_out s f))
+        → (result : Result (Unit {0}) Stop)
+        → ((st : Live directory.Unit) → HasHalf n.half st → Speaks (bind (delivered given_at b st) (λ half. acked_at b.height half.answer half.live)) (ends_node st result) mid_out out)
+        → Viewed n result (λ ended. MakesAt (on_devices (node_step given_at (Delivers b) st)) ended files image files_now now old (moment out s f))
+    takes b its same P ends made result speaks =
+        taken_in n given_at view.beside has_half (at_oneshot g number) b st n.actor.state refl P ends
+        (subst (λ (a : Course directory.Unit Fault (Live directory.Unit)). MakesAt (on_devices a) (lives (live_of view.beside n.fence) n.actor.state (Ok tt)) files image files_now now old (moment mid_out s f))
+        (given_as b its same)
+        (living (λ life. MakesAt (on_devices (step given_at (Finalized its) (live_of view.beside before.fence life))) (lives (live_of view.beside n.fence) n.actor.state (Ok tt)) files image files_now now old (moment mid_out s f)) made))
+        result speaks
+
+  module _ {out mid now : List Line} where
+    pub takes_said : (b its : Block directory.Unit) → its ≡ b → (P : reshare.Life directory.Unit → Type 0) → EndsAt n.actor.state (Ok tt) P
+        → IfLiving before.actor.state (λ life. Tells (step given_at (Finalized its) (live_of view.beside before.fence life)) (lives (live_of view.beside n.fence) n.actor.state (Ok tt)) out mid)
+        → (result : Result (Unit {0}) Stop)
+        → ((st : Live directory.Unit) → HasHalf n.half st → Speaks (bind (delivered given_at b st) (λ half. acked_at b.height half.answer half.live)) (ends_node st result) mid now)
+        → Viewed n result (λ ended. Tells (node_step given_at (Delivers b) st) ended out now)
+    takes_said b its same P ends said result speaks =
+        told_in n given_at view.beside has_half (at_oneshot g number) b st n.actor.state refl P ends
+        (subst (λ (a : Course directory.Unit Fault (Live directory.Unit)). Said (on_devices a) (lives (live_of view.beside n.fence) n.actor.state (Ok tt)) out mid)
+        (given_as b its same)
+        (living (λ life. Tells (step given_at (Finalized its) (live_of view.beside before.fence life)) (lives (live_of view.beside n.fence) n.actor.state (Ok tt)) out mid) said))
+        result speaks
+
+-- nothing is said where nothing was found
+pub unsaid : {S : Type 0} (acts : Acts NodeStop S) (cause : Cause) (out : List Line) → Said acts (broken cause) out out
+unsaid acts cause out = record { lines = []; added = sym (append-nil out); by = none_first acts }
+
+-- want of memory, in what was made so far
+pub wants_caused : (stop : Stop) (disk secrets reached : Type 0) → stop ≡ FaultOf NoMemory → IsCaused stop disk secrets reached
+wants_caused stop disk secrets reached is = let P : Stop → Type 0 = λ s. IsCaused s disk secrets reached in subst P (sym is) tt
+
+pub wants_on : {T : Type 0} (result : Result T Stop) (disk secrets reached : Type 0) → IfErr result (λ stop. stop ≡ FaultOf NoMemory) → IfErr result (λ stop. IsCaused stop disk secrets reached)
+wants_on (Ok done) disk secrets reached is = tt
+wants_on (Err stop) disk secrets reached is = wants_caused stop disk secrets reached is
+
+-- A BLOCK of a script's number
+
+block_step : (g : Lived) (number n : ℕ) (st : Live directory.Unit) (b : Block directory.Unit) → slice_get (blocks_in g.script) n ≡ Some b
+    → node_step (at_step g number) (Delivers b) st ≡ step_of g number (event.Final n) st
+block_step g number n st b is =
+    sym (ap (λ (o : Option (Block directory.Unit)). option_map_or (λ its. node_step (at_step g number) its st) (option_map Delivers o) (Goes st)) is)
+
+module _ (node : Node) (result : Result (Unit {0}) Stop) (g : Lived) (number n : ℕ) (st : Live directory.Unit) (b : Block directory.Unit) (is : slice_get (blocks_in g.script) n ≡ Some b) where
+  pub block_made : {files files_now : Files} {image now : Files → Type 0} {old new : Moment}
+      → Viewed node result (λ ended. MakesAt (on_devices (node_step (at_step g number) (Delivers b) st)) ended files image files_now now old new)
+      → Viewed node result (λ ended. MakesAt (on_devices (step_of g number (event.Final n) st)) ended files image files_now now old new)
+  block_made {files} {files_now} {image} {now} {old} {new} its =
+      subst (λ (a : Course directory.Unit NodeStop (Live directory.Unit)). Viewed node result (λ ended. MakesAt (on_devices a) ended files image files_now now old new)) (block_step g number n st b is) its
+
+  pub block_said : {out now : List Line} → Viewed node result (λ ended. Tells (node_step (at_step g number) (Delivers b) st) ended out now)
+      → Viewed node result (λ ended. Tells (step_of g number (event.Final n) st) ended out now)
+  block_said {out} {now} its =
+      subst (λ (a : Course directory.Unit NodeStop (Live directory.Unit)). Viewed node result (λ ended. Said (on_devices a) ended out now)) (block_step g number n st b is) its

@@ -1,7 +1,10 @@
 -- A node's opening: the actor's, and then the orchestrator's half.
 use Rattle.std.proofs.Common.{◌≡◌, ℕ, arith, Bool, true, false, List, [], ◌∷◌, Option, Some, None, Result, Ok, Err, refl, sym, ◌∙◌, ap, subst}
-use Rattle.std.specs.Prelude.{◌==◌, if◌then◌else◌, IsSome, IsSomeAnd, nat_le}
+use Rattle.std.specs.Prelude.{◌==◌, ◌+◌, if◌then◌else◌, IsSome, IsSomeAnd, length, nat_le}
+use Rattle.std.specs.Option.{option_map_or}
+use Rattle.std.specs.Int.NonZero.{non_zero_u64_get}
 use Rattle.std.proofs.lemmas.Bool.Decides.{nat_tests}
+use Rattle.dkg_ceremony.specs.Schedule.{epoch_of}
 use Rattle.dkg_fence.specs.Fence.{marked}
 use Rattle.dkg_fence.specs.Readiness.{Readiness}
 use Rattle.dkg_journal.specs.Burn.{Burn}
@@ -9,33 +12,46 @@ use Rattle.dkg_journal.specs.Names.{Files}
 use Rattle.dkg_types.specs.Blocks.{Block}
 use Rattle.dkg_types.specs.BlockCodes.{info_of}
 use Rattle.dkg_types.specs.declared.directory.Unit as directory
+use Rattle.dkg_journal.specs.Opening.{open_calls}
 use Rattle.dkg_types.specs.declared.entry.Entry.{Entry as Line}
+use Rattle.dkg_types.specs.declared.fault.Fault.{Fault}
 use Rattle.dkg_types.specs.declared.info.EpochInfo.{EpochInfo}
 use Rattle.dkg_types.specs.declared.scheme.SchemeInfo.{SchemeInfo}
-use Rattle.dkg_store.specs.Acts.{Moment, moment, went}
+use Rattle.dkg_store.specs.Acts.{Acts, Cause, Ended, IfWent, Moment, Stands, at, broken, moment, stopped, went}
 use Rattle.dkg_store.specs.Secrets.{Secrets}
 use Rattle.dkg_values.specs.Rising.{lookup}
 use Rattle.dkg_core.specs.Core.{no_orchestrator, opening}
 use Rattle.dkg_core.specs.Courses.{Course, Goes, on_devices}
 use Rattle.dkg_core.specs.Entering.{is_ready}
 use Rattle.dkg_core.specs.Fixed.{Fixed}
-use Rattle.dkg_core.specs.Live.{Live, NodeStop, Orchestrator}
+use Rattle.dkg_core.specs.Live.{Faulted, Live, NodeStop, Orchestrator}
 use Rattle.dkg_core.specs.Node.{kept_material, node_opening, unless_once}
 use Rattle.dkg_core.specs.Said.{Said}
 use Rattle.dkg_core.specs.Seen.{Seen}
 use Rattle.dkg_core.specs.Setup.{scheme_for}
-use Rattle.dkg_core.specs.Sources.{Source}
+use Rattle.dkg_core.specs.Sources.{Source, startup}
 use Rattle.dkg_core.specs.Today.{IsOpenedToday, IsSeatedBy, IsSetUpBy, OnInfo, OnValid, first_block, first_epoch, registered_by, validity}
-use Rattle.dkg_reshare.specs.Ends.{by_stop}
-use Rattle.dkg_reshare.specs.LiveOf.{Beside, live_of}
-use Rattle.dkg_reshare.specs.Made.{MakesAt, Speaks, Tells}
-use Rattle.dkg_reshare.specs.declared.actor.State.TheVariants.{Living}
+use Rattle.dkg_core.proofs.Today.{openings_come_to}
+use Rattle.dkg_reshare.specs.Actors.{EndsAt, lives}
+use Rattle.dkg_reshare.specs.Ends.{by_cause, by_stop, cause_in}
+use Rattle.dkg_reshare.specs.Given.{IsLent, IsOf, reading}
+use Rattle.dkg_reshare.specs.LiveOf.{Beside, live_of, nothing_beside}
+use Rattle.dkg_reshare.specs.Made.{Burns, MakesAt, Speaks, Tells, UnlessBroken}
+use Rattle.dkg_reshare.specs.Opened.{IsInGrammar, IsOpeningOf, epoch_at}
+use Rattle.dkg_reshare.specs.Today.{IsOpeningOfToday, seen_today}
+use Rattle.dkg_reshare.specs.declared.actor.State.{State}
+use Rattle.dkg_reshare.specs.declared.actor.State.TheVariants.{New, Living, Failed as HadFailed}
+use Rattle.dkg_reshare.specs.declared.config.Terms.{Terms}
 use Rattle.dkg_reshare.specs.declared.life.Life as reshare
 use Rattle.dkg_reshare.specs.declared.stop.Stop.{Stop}
-use Rattle.dkg_run.specs.Ended.{by_node_stop}
-use Rattle.dkg_run.specs.Nodes.{IsFenceReady, IsView, ViewedNew, with_half}
+use Rattle.dkg_reshare.specs.declared.stop.Stop.TheVariants as stops
+use Rattle.dkg_reshare.proofs.Said.{said_of_runs}
+use Rattle.dkg_run.specs.Ended.{by_node_stop, named}
+use Rattle.dkg_run.specs.Given.{IsLifeHere, Lived, at_step, limits_of, source_at}
+use Rattle.dkg_run.specs.Nodes.{IsFenceReady, IsHalfGiven, IsView, MayEnter, ViewedNew, with_half}
 use Rattle.dkg_run.specs.declared.node.Node.{Node}
 use Rattle.dkg_run.proofs.Naming.{node_ends, node_goes, node_says, node_says_early}
+use Rattle.dkg_run.proofs.Today.{form_at, lacks_nobody}
 use Rattle.dkg_run.proofs.Noding.{speaks_makes, speaks_says, unless_reshare}
 
 -- WHERE A LIFE STARTS, the fence is ready and a scheme is registered
@@ -148,10 +164,128 @@ module _ (c : Fixed directory.Unit) (reshare_is : c.oneshot ≡ None) (st : Live
       (subst (λ (a : Course directory.Unit NodeStop (Live directory.Unit)). Tells a (by_node_stop stop) mid_out new)
       (sym (unless_reshare c (kept_material c st) (Goes st) reshare_is)) (speaks_says (kept_material c st) (by_node_stop stop) speaks))
 
-  -- the actor's opening ended
+-- the actor's opening ended
+module _ (c : Fixed directory.Unit) (stop : Stop) where
   pub ended_makes : {files files_now : Files} {image next : Files → Type 0} {old new : Moment} → MakesAt (on_devices (opening c)) (by_stop stop) files image files_now next old new
       → MakesAt (on_devices (node_opening c)) (by_node_stop stop) files image files_now next old new
   ended_makes made = node_ends (opening c) (λ st. unless_once c (kept_material c st) (Goes st)) stop made
 
   pub ended_says : {out new : List Line} → Said (on_devices (opening c)) (by_stop stop) out new → Tells (node_opening c) (by_node_stop stop) out new
   ended_says said = node_says_early (opening c) (λ st. unless_once c (kept_material c st) (Goes st)) stop said
+
+-- HOW AN OPENING OF THE ACTOR ENDED
+
+pub lives_err : (view : reshare.Life directory.Unit → Live directory.Unit) (state : State directory.Unit) (stop : Stop) → lives view state (Err stop) ≡ by_stop stop
+lives_err view New stop = refl
+lives_err view (Living life) stop = refl
+lives_err view HadFailed stop = refl
+
+-- where it went
+pub record Lives (state : State directory.Unit) : Type 0 where
+  pub life : reshare.Life directory.Unit
+  pub is : state ≡ Living life
+
+pub lives_at : (state : State directory.Unit) (P : reshare.Life directory.Unit → Type 0) → EndsAt state (Ok tt) P → Lives state
+lives_at New P ends = absurd ends
+lives_at (Living life) P ends = record { life = life; is = refl }
+lives_at HadFailed P ends = absurd ends
+
+-- UNDER NAMES, and under what is asked of devices
+
+unless_cause : (S T : Type 0) (cause : Option Cause) (its : Fault) (P Q : Type 0) → (P → Q) → UnlessBroken (by_cause {S = S} cause its) P → UnlessBroken (named Faulted (by_cause {S = T} cause its)) Q
+unless_cause S T (Some cause) its P Q so p = tt
+unless_cause S T None its P Q so p = so p
+
+pub unless_named : (S T : Type 0) (stop : Stop) (P Q : Type 0) → (P → Q) → UnlessBroken (by_stop {S = S} stop) P → UnlessBroken (by_node_stop {S = T} stop) Q
+unless_named S T stops.Cut P Q so p = tt
+unless_named S T stops.Failed P Q so p = tt
+unless_named S T (stops.Fault its) P Q so p = unless_cause S T (cause_in its) its P Q so p
+
+went_so : {F S : Type 0} (how : Ended F S) {P Q : Type 0} → (P → IfWent how (P → Q)) → IfWent how (P → Q)
+went_so (went end) so = λ p. so p p
+went_so (stopped fault) so = tt
+went_so (broken cause) so = tt
+
+-- Acts were made where they were, of a disk of which nothing was loose, with what the fuse burnt.
+pub made_there : {S : Type 0} {acts : Acts NodeStop S} (how : Ended NodeStop S) {files files_now : Files} {image now : Files → Type 0} {old new : Moment} → Burns how old.fuse new.fuse
+    → (Stands files image → MakesAt acts how files image files_now now old new) → MakesAt acts how files image files_now now old new
+made_there how burns so = record {
+  made = record { made = λ stands c here. (so stands).made.made stands c here; stands = went_so how (λ stands. (so stands).made.stands) };
+  burns = burns;
+}
+
+-- WHAT A LIFE'S OPENING IS GIVEN
+
+-- the life, with other reads
+abbrev pub with_reads : Lived → Seen → Lived
+with_reads g s = record g { seen = λ h. s }
+
+pub reading_as : (g : Lived) (s : Seen) (taken : ℕ) → reading s (at_step g taken) ≡ at_step (with_reads g s) taken
+unfolding at_step
+reading_as g s taken = refl
+
+module _ (g : Lived) (terms : Terms) (source : Source directory.Unit) (taken : ℕ) (of : IsOf terms (at_step g taken)) (lent : source_at g taken ≡ source) where
+  pub lent_at : IsLent terms source g.life.word (at_step g taken)
+  lent_at = record { of = of; lent = source_too; word_is = word_too }
+    where
+      source_too : (at_step g taken).source ≡ source
+      unfolding at_step
+      source_too = lent
+
+      word_too : (at_step g taken).word ≡ g.life.word
+      unfolding at_step
+      word_too = refl
+
+  pub number_at : (at_step g taken).life ≡ g.number
+  unfolding at_step
+  number_at = refl
+
+  pub today_at : IsOpeningOfToday (at_step g taken)
+  unfolding at_step
+  today_at = record { reshare = refl; bare = refl }
+
+  pub opening_of : (files : Files) → g.seen ≡ seen_today → g.calls ≡ length (open_calls files) → IsInGrammar (limits_of g.script).most files
+      → IsOpeningOf terms source g.number g.life.word files (at_step g taken)
+  unfolding at_step
+  opening_of files reads calls grammar = record { lent = lent_at; today = today_at; reads = reads; life_is = number_at; calls_are = calls; grammar = grammar }
+
+  -- the epoch that is awaited
+  pub epoch_is : epoch_at source terms ≡ first_epoch (at_step g taken)
+  epoch_is = λ i. epoch_of (sym of.blocks i) (option_map_or (λ t. t.height + 1) (startup ((sym (lent_at.lent) i).anchor) None) 0)
+
+  pub half_given : (here : IsLifeHere g) → IsHalfGiven (non_zero_u64_get terms.blocks_per_epoch) source (at_step g taken)
+  half_given here = record { blocks_are = of.blocks; lent = lent_at.lent; today = form_at g here taken; lacks = lacks_nobody g here taken }
+
+-- BEHIND THE ACTOR'S OPENING the half may enter
+
+module _ (g : Lived) (here : IsLifeHere g) (now : Beside directory.Unit) (fence : Readiness) (life : reshare.Life directory.Unit)
+    (same : now.orchestrator ≡ record (nothing_beside {Dir = directory.Unit}).orchestrator { schemes = now.orchestrator.schemes })
+  where
+    abbrev behind : Live directory.Unit
+    behind = live_of now fence life
+
+    opened_behind : {out new : List Line} → Said (on_devices (opening (at_step g 0))) (went behind) out new
+        → (seen : Seen) × IsOpenedToday (at_step g 0) seen behind
+    opened_behind {out} {new} said =
+        let came = openings_come_to (at_step g 0) (went behind) out new (form_at g here 0) said in
+        ((at_step g 0).seen came.0, came.1)
+
+    pub fence_ready : {out new : List Line} → Said (on_devices (opening (at_step g 0))) (went behind) out new → IsFenceReady (at_step g 0) fence
+    fence_ready said = let its = opened_behind said in ready_behind (at_step g 0) its.0 behind its.1
+
+    pub may_enter : {out new : List Line} → Said (on_devices (opening (at_step g 0))) (went behind) out new → MayEnter (at_step g 0) fence behind
+    may_enter said =
+        let its = opened_behind said in
+        record {
+          unentered = ap (λ (o : Orchestrator directory.Unit). o.entered) same;
+          going = ap (λ (o : Orchestrator directory.Unit). o.halted) same;
+          unawaited = ap (λ (o : Orchestrator directory.Unit). o.waiting) same;
+          fence_is = refl;
+          registered = scheme_behind (at_step g 0) its.0 behind its.1;
+        }
+
+    -- .. where the opening was made
+    pub may_enter_made : {files files_mid : Files} {image between : Files → Type 0} {old mid : Moment} → Stands files image
+        → MakesAt (on_devices (opening (at_step g 0))) (went behind) files image files_mid between old mid → MayEnter (at_step g 0) fence behind
+    may_enter_made {files} {files_mid} {image} {between} {old} {mid} stands first =
+        may_enter (said_of_runs (on_devices (opening (at_step g 0))) (went behind) (at old files) (at mid files_mid) (first.made.made stands files_mid (first.made.stands stands).itself))

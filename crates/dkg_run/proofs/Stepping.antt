@@ -1,6 +1,7 @@
 -- How a step of a life went, by what its parts answered; in either way.
-use Rattle.std.proofs.Common.{◌≡◌, ◌⊎◌, inl, inr, ℕ, zero, suc, ◌+◌, ◌<◌, ◌≤◌, ◌==◌, List, [], ◌∷◌, drop, length, Option, Some, None, Result, Ok, Err, refl, sym, ◌∙◌, ap, subst, add-one, arith}
-use Rattle.std.specs.Prelude.{slice_get}
+use Rattle.std.proofs.Common.{◌≡◌, ◌⊎◌, inl, inr, Bool, true, false, ℕ, zero, suc, ◌+◌, ◌<◌, ◌≤◌, ◌==◌, List, [], ◌∷◌, drop, length, Option, Some, None, Result, Ok, Err, refl, sym, ◌∙◌, ap, subst, add-one, arith}
+use Rattle.std.specs.Prelude.{slice_get, if◌then◌else◌}
+use Rattle.std.proofs.lemmas.Bool.Decides.{nat_tests}
 use Rattle.std.proofs.Math.ListN.{drop_of_length-le}
 use Rattle.dkg_journal.specs.Burn.{Burn}
 use Rattle.dkg_journal.specs.Fuse.{Reached}
@@ -24,8 +25,12 @@ use Rattle.dkg_text.specs.declared.script.Event.{Event}
 use Rattle.dkg_run.specs.Causes.{IsCutWithin}
 use Rattle.dkg_run.specs.Ended.{by_node_stop, named}
 use Rattle.dkg_run.specs.Given.{Lived, step_of}
-use Rattle.dkg_run.specs.Lives.{Steps, TakesAll, Wants, fuse_for}
+use Rattle.dkg_run.specs.Lives.{Steps, TakesAll, Wants, fuse_for, fuse_within, never}
 use Rattle.dkg_run.specs.Ways.{Trace, Way, by_lines, by_worlds, trace}
+
+-- it was answered Ok
+abbrev pub IsDone : Result (Unit {0}) Stop → Type 0
+IsDone how = how ≡ Ok tt
 
 module _ {W : Type 0} (way : Way W) (line : Line) (fuse : Option Burn) (course : Course directory.Unit NodeStop (Live directory.Unit)) (w : W) (next : Live directory.Unit → W → Type 0) where
   pub step_cut : fuse ≡ None → Steps way line fuse course w (Err Cut) w next
@@ -42,45 +47,45 @@ module _ {W : Type 0} (way : Way W) (line : Line) (fuse : Option Burn) (course :
 
   pub step_told : (f : Burn) → fuse ≡ Some f → (end : Live directory.Unit) (mid : W) → way.goes course (went end) f w mid → (how : Result (Unit {0}) Stop) (new : W) → next end (way.says mid line)
       → Steps way line fuse course w how new next
-  step_told f lit end mid goes how new then = subst (λ (o : Option Burn). Steps way line o course w how new next) (sym lit) (inr (inr (end, mid, goes, inr then)))
+  step_told f lit end mid goes how new after = subst (λ (o : Option Burn). Steps way line o course w how new next) (sym lit) (inr (inr (end, mid, goes, inr after)))
 
   -- a step that was answered so, whatever was to come
-  pub step_ends : (stop : Stop) (new : W) (V : Live directory.Unit → W → Type 0) → Steps way line fuse course w (Err stop) new (λ end mid. (Err stop ≡ Ok tt) × V end mid)
+  pub step_ends : (stop : Stop) (new : W) (V : Live directory.Unit → W → Type 0) → Steps way line fuse course w (Err stop) new (λ end mid. IsDone (Err stop) × V end mid)
       → Steps way line fuse course w (Err stop) new next
   step_ends stop new V steps = in_fuse fuse steps
     where
-      in_fuse : (fuse : Option Burn) → Steps way line fuse course w (Err stop) new (λ end mid. (Err stop ≡ Ok tt) × V end mid) → Steps way line fuse course w (Err stop) new next
+      in_fuse : (fuse : Option Burn) → Steps way line fuse course w (Err stop) new (λ end mid. IsDone (Err stop) × V end mid) → Steps way line fuse course w (Err stop) new next
       in_fuse None its = its
       in_fuse (Some f) (inl wants) = inl wants
       in_fuse (Some f) (inr (inl stops)) = inr (inl stops)
       in_fuse (Some f) (inr (inr (end, mid, goes, inl wants))) = inr (inr (end, mid, goes, inl wants))
-      in_fuse (Some f) (inr (inr (end, mid, goes, inr then))) = absurd (not_ok then.0)
+      in_fuse (Some f) (inr (inr (end, mid, goes, inr after))) = absurd (not_ok after.0)
         where
-          not_ok : Err stop ≡ Ok tt → ⊥
+          not_ok : IsDone (Err stop) → ⊥
           not_ok e = cc
 
 -- A step that was answered Ok ended so, and what comes then is what comes behind it.
-pub record GoneOn {W : Type 0} (way : Way W) (line : Line) (fuse : Option Burn) (course : Course directory.Unit NodeStop (Live directory.Unit)) (w mid : W) (V : Live directory.Unit → Type 0) : Type 0 where
+pub record GoneOn {W : Type 0} (way : Way W) (line : Line) (fuse : Option Burn) (course : Course directory.Unit NodeStop (Live directory.Unit)) (w mid : W) (V : Live directory.Unit → Type 0) : Type 1 where
   pub end : Live directory.Unit
   pub so : V end
   pub on : (how : Result (Unit {0}) Stop) (new : W) (next : Live directory.Unit → W → Type 0) → next end mid → Steps way line fuse course w how new next
 
 pub step_goes_on : {W : Type 0} (way : Way W) (line : Line) (fuse : Option Burn) (course : Course directory.Unit NodeStop (Live directory.Unit)) (w mid : W) (V : Live directory.Unit → Type 0)
-    → Steps way line fuse course w (Ok tt) mid (λ end m. (Ok tt ≡ Ok tt) × V end × (m ≡ mid)) → GoneOn way line fuse course w mid V
+    → Steps way line fuse course w (Ok tt) mid (λ end m. IsDone (Ok tt) × V end × (m ≡ mid)) → GoneOn way line fuse course w mid V
 step_goes_on {W} way line fuse course w mid V steps = in_fuse fuse steps
   where
-    not_err : (stop : Stop) → Ok tt ≡ Err stop → ⊥
+    not_err : (stop : Stop) → ◌≡◌ {A = Result (Unit {0}) Stop} (Ok tt) (Err stop) → ⊥
     not_err stop e = cc
 
-    in_fuse : (fuse : Option Burn) → Steps way line fuse course w (Ok tt) mid (λ end m. (Ok tt ≡ Ok tt) × V end × (m ≡ mid)) → GoneOn way line fuse course w mid V
+    in_fuse : (fuse : Option Burn) → Steps way line fuse course w (Ok tt) mid (λ end m. IsDone (Ok tt) × V end × (m ≡ mid)) → GoneOn way line fuse course w mid V
     in_fuse None its = absurd (not_err Cut its.0)
     in_fuse (Some f) (inl wants) = absurd (not_err (FaultOf NoMemory) wants.0)
     in_fuse (Some f) (inr (inl (stop, is, goes))) = absurd (not_err stop is)
     in_fuse (Some f) (inr (inr (end, here, goes, inl wants))) = absurd (not_err (FaultOf NoMemory) wants.0)
-    in_fuse (Some f) (inr (inr (end, here, goes, inr then))) = record {
+    in_fuse (Some f) (inr (inr (end, here, goes, inr after))) = record {
       end = end;
-      so = then.1;
-      on = λ how new next its. inr (inr (end, here, goes, inr (subst (λ (m : W). next end m) (sym then.2) its)));
+      so = after.1;
+      on = λ how new next its. inr (inr (end, here, goes, inr (subst (λ (m : W). next end m) (sym after.2) its)));
     }
 
 -- ONE STEP AFTER ANOTHER
@@ -89,7 +94,7 @@ some_is : {A : Type 0} {x y : A} → Some x ≡ Some y → x ≡ y
 some_is e = cc
 
 pub drop_item : {A : Type 0} (xs : List A) (i : ℕ) (x : A) → slice_get xs i ≡ Some x → drop i xs ≡ x ∷ drop (suc i) xs
-drop_item [] i x is = absurd (let wrong : None ≡ Some x = is in cc)
+drop_item {A} [] i x is = absurd (let wrong : ◌≡◌ {A = Option A} None (Some x) = is in cc)
 drop_item {A} (y ∷ ys) zero x is = ap (λ (o : A). o ∷ ys) (some_is is)
 drop_item (y ∷ ys) (suc i) x is = drop_item ys i x is
 
@@ -112,7 +117,7 @@ module _ {W : Type 0} (way : Way W) (g : Lived) (events : List Event) (st : Live
     rest how new takes = on how new (subst (λ (es : List Event). TakesAll way g (i + 1) es now here how new) (sym (drop_item events i event at_event)) takes)
 
     pub takes_next : (mid : W) (V : Live directory.Unit → Type 0)
-        → Steps way (entry.Step (i + 1)) (fuse_for g.life.cut (i + 1)) (step_of g (i + 1) event now) here (Ok tt) mid (λ end m. (Ok tt ≡ Ok tt) × V end × (m ≡ mid)) → TakenOn (i + 1) V mid
+        → Steps way (entry.Step (i + 1)) (fuse_for g.life.cut (i + 1)) (step_of g (i + 1) event now) here (Ok tt) mid (λ end m. IsDone (Ok tt) × V end × (m ≡ mid)) → TakenOn (i + 1) V mid
     takes_next mid V steps =
         let gone = step_goes_on way (entry.Step (i + 1)) (fuse_for g.life.cut (i + 1)) (step_of g (i + 1) event now) here mid V steps in
         record {
@@ -123,7 +128,7 @@ module _ {W : Type 0} (way : Way W) (g : Lived) (events : List Event) (st : Live
         }
 
     pub takes_stop : (stop : Stop) (new : W) (V : Live directory.Unit → W → Type 0)
-        → Steps way (entry.Step (i + 1)) (fuse_for g.life.cut (i + 1)) (step_of g (i + 1) event now) here (Err stop) new (λ end m. (Err stop ≡ Ok tt) × V end m) → TakesAll way g 1 events st w (Err stop) new
+        → Steps way (entry.Step (i + 1)) (fuse_for g.life.cut (i + 1)) (step_of g (i + 1) event now) here (Err stop) new (λ end m. IsDone (Err stop) × V end m) → TakesAll way g 1 events st w (Err stop) new
     takes_stop stop new V steps = rest (Err stop) new
         (step_ends way (entry.Step (i + 1)) (fuse_for g.life.cut (i + 1)) (step_of g (i + 1) event now) here (λ end m. TakesAll way g (i + 1 + 1) (drop (suc i) events) end m (Err stop) new) stop new V steps)
 
@@ -133,7 +138,7 @@ module _ {W : Type 0} (way : Way W) (g : Lived) (events : List Event) (st : Live
 -- OVER LINES
 
 -- no other fault is a cut
-fault_uncut : (its : Fault) → named {S = Live directory.Unit} Faulted (by_fault its) ≡ broken by_cut → ⊥
+fault_uncut : (its : Fault) → ◌≡◌ {A = Ended NodeStop (Live directory.Unit)} (named Faulted (by_fault its)) (broken by_cut) → ⊥
 fault_uncut fault.NoMemory is = cc
 fault_uncut fault.Disk is = cc
 fault_uncut fault.Secrets is = cc
@@ -142,12 +147,29 @@ fault_uncut its is = cc
 
 pub uncut : (stop : Stop) → by_node_stop {S = Live directory.Unit} stop ≡ broken by_cut → stop ≡ Cut
 uncut Cut is = refl
-uncut Failed is = absurd (let wrong : broken {S = Live directory.Unit} by_want ≡ broken by_cut = is in cc)
+uncut Failed is = absurd (let wrong : ◌≡◌ {A = Ended NodeStop (Live directory.Unit)} (broken by_want) (broken by_cut) = is in cc)
 uncut (FaultOf its) is = absurd (fault_uncut its is)
 
 -- the fuse of a step within which the script cuts the life
 within_call : (its : cut.Cut) (step : ℕ) (f : Burn) → its.step ≡ step → (its.call ≡ 0 → ⊥) → fuse_for (Some its) step ≡ Some f → 0 < f.call
-within_call its step f at within lit = ?
+within_call its step f at within lit = by_step (its.step == step) refl lit
+  where
+    is_zero : (n : ℕ) → (n == 0) ≡ true → n ≡ 0
+    is_zero n e = grind (arith, nat_tests)
+
+    is_more : (n : ℕ) → (n == 0) ≡ false → 0 < n
+    is_more n e = grind (arith, nat_tests)
+
+    differ : (n m : ℕ) → n ≡ m → (n == m) ≡ false → ⊥
+    differ n m same e = grind (arith, nat_tests)
+
+    by_call : (t : Bool) → (its.call == 0) ≡ t → ◌≡◌ {A = Option Burn} (if t then None else Some (record { call = its.call; pick = its.pick; spent = 0 })) (Some f) → 0 < f.call
+    by_call true e is = absurd (within (is_zero its.call e))
+    by_call false e is = subst (λ (b : Burn). 0 < b.call) (some_is is) (is_more its.call e)
+
+    by_step : (t : Bool) → (its.step == step) ≡ t → ◌≡◌ {A = Option Burn} (if t then fuse_within its else Some never) (Some f) → 0 < f.call
+    by_step true e is = by_call (its.call == 0) refl is
+    by_step false e is = absurd (differ its.step step at e)
 
 pub cuts_within : (its : Option cut.Cut) (step : ℕ) (f : Burn) → IsCutWithin its step → fuse_for its step ≡ Some f → 0 < f.call
 cuts_within None step f within lit = absurd within

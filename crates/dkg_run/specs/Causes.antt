@@ -12,6 +12,12 @@ HasCause fault.Disk disk_rose secrets_rose = disk_rose
 HasCause fault.Secrets disk_rose secrets_rose = secrets_rose
 HasCause its disk_rose secrets_rose = ⊤
 
+-- .. of a stop: no life ends by a call that failed before
+abbrev pub StopHasCause : Stop → (disk_rose secrets_rose : Type 0) → Type 0
+StopHasCause (FaultOf its) disk_rose secrets_rose = HasCause its disk_rose secrets_rose
+StopHasCause Cut disk_rose secrets_rose = ⊤
+StopHasCause Failed disk_rose secrets_rose = ⊥
+
 -- P of a fault that stopped it
 abbrev pub IfFault : Stop → (Fault → Type 0) → Type 0
 IfFault (FaultOf its) P = P its

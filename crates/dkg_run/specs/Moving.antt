@@ -1,5 +1,5 @@
 -- What lives make of the devices, beside what their acts do.
-use Rattle.std.specs.Prelude.{ℕ, ◌≡◌, ◌≤◌, ◌++◌, Bool, IsTrue, List, Result}
+use Rattle.std.specs.Prelude.{ℕ, ◌≡◌, ◌≤◌, ⊤, Bool, IsTrue, List}
 use Rattle.dkg_journal.specs.DeviceCall.{DeviceCall}
 use Rattle.dkg_journal.specs.Disk.{Rose}
 use Rattle.dkg_journal.specs.Names.{Files}
@@ -10,7 +10,9 @@ use Rattle.dkg_store.specs.Acts.{World, at, moment}
 use Rattle.dkg_store.specs.Secrets.{Secrets}
 use Rattle.dkg_store.specs.declared.devices.Devices.{Devices}
 use Rattle.dkg_store.specs.declared.secrets.SecretOp.{SecretOp}
-use Rattle.dkg_run.specs.Causes.{HasCause}
+use Rattle.dkg_reshare.specs.Ends.{IsCaused}
+use Rattle.dkg_reshare.specs.declared.stop.Stop.{Stop}
+use Rattle.dkg_run.specs.Causes.{HasCause, StopHasCause}
 use Rattle.dkg_run.specs.Stopped.{Stopped}
 
 -- where these devices stand, with this image of the disk
@@ -30,3 +32,13 @@ pub record Went {D X : Type 0} (tells : Bool) (made_disk : D → D → List (Dev
 abbrev pub Blames : {D X : Type 0} → (D → ℕ) → (X → ℕ) → (old new : Devices D X) → Fault → Type 0
 Blames disk_faults secret_faults old new fault =
     HasCause fault (Rose (disk_faults old.disk.now) (disk_faults new.disk.now)) (Rose (secret_faults old.secrets.now) (secret_faults new.secrets.now))
+
+-- .. that the stop blames
+abbrev pub StopBlames : {D X : Type 0} → (D → ℕ) → (X → ℕ) → (old new : Devices D X) → Stop → Type 0
+StopBlames disk_faults secret_faults old new stop =
+    StopHasCause stop (Rose (disk_faults old.disk.now) (disk_faults new.disk.now)) (Rose (secret_faults old.secrets.now) (secret_faults new.secrets.now))
+
+-- .. in a step, which reads no record
+abbrev pub StepBlames : {D X : Type 0} → (D → ℕ) → (X → ℕ) → (old new : Devices D X) → Stop → Type 0
+StepBlames disk_faults secret_faults old new stop =
+    IsCaused stop (Rose (disk_faults old.disk.now) (disk_faults new.disk.now)) (Rose (secret_faults old.secrets.now) (secret_faults new.secrets.now)) ⊤

@@ -6,6 +6,7 @@ use Rattle.dkg_types.specs.declared.directory.Unit as directory
 use Rattle.dkg_types.specs.declared.entry.Entry.{Entry as Line}
 use Rattle.dkg_store.specs.Acts.{Cause, Ended, Held, World, by_cut, broken, notes, plan, says}
 use Rattle.dkg_journal.specs.Operations.{journaled}
+use Rattle.dkg_store.specs.Noted.{logs_in}
 use Rattle.dkg_store.specs.Pairs.{IsWhole}
 use Rattle.dkg_core.specs.Courses.{Course, EndsSo, on_devices}
 use Rattle.dkg_core.specs.Heard.{recovered_in}
@@ -27,10 +28,11 @@ pub record Way (W : Type 0) : Type 1 where
   pub begins : Files → W → Type 0
   pub refuses : Stop → W → W → Type 0
 
--- No record was out of its grammar before, or there is nothing to keep: devices that were whole give back the same dealings, and the plan is the same.
+-- No record was out of its grammar before, or there is nothing to keep: devices that were whole give back the same dealings and logs, and the plan is the same.
 pub record StaysHeld (old new : Held) : Type 0 where
   pub whole : IsWhole (notes old) old.secrets → IsWhole (notes new) new.secrets
   pub pairs : IsWhole (notes old) old.secrets → recovered_in new ≡ recovered_in old
+  pub logs : IsWhole (notes old) old.secrets → logs_in (notes new) ≡ logs_in (notes old)
   pub plan : plan new ≡ plan old
 
 -- It was broken off from outside.

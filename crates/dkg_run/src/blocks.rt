@@ -1,5 +1,5 @@
 //! The blocks of a script, made once for all of its lives.
-ghost use Rattle.std.specs.Prelude.{◌≡◌, IfOk, option_and_then};
+ghost use Rattle.std.specs.Prelude.{◌≡◌, false, IfOk};
 ghost use Rattle.std.specs.Int.NonZero.{non_zero_u32_get, non_zero_u64_get};
 ghost use Rattle.dkg_ceremony.specs.Schedule.{epoch_of};
 ghost use Rattle.dkg_script.specs.Readings.{unit_payload};
@@ -77,6 +77,7 @@ fn block_on(
 }
 
 /// The blocks of a script, in the order of its lines.
+#[tactic(auto, unfolding(crate::specs::Given::blocks_in))]
 pub fn blocks_of(alloc: Global, script: &Script) -> Mem<Vec<Block<Unit>>>
     ensures { IfOk result (λ blocks. blocks.items ≡ blocks_in script.now) }
 {

@@ -142,7 +142,7 @@ fn run<S: Source, D: Disk, X: SecretStore>(
 ) -> Status
     ensures read_fault { result ≡ Status.ReadFault → Rose (S.faults source.old) (S.faults source.new) }
     ensures too_long { result ≡ Status.TooLong → IsTrue S.tells → TookMore 16777216 (S.left source.old) (S.left source.new) }
-    ensures few { result ≡ Status.ReadFault → IsTrue S.tells → TookFew 16777216 (S.left source.old) (S.left source.new) }
+    ensures few { IsTrue S.tells → TookFew 16777217 (S.left source.old) (S.left source.new) }
     ensures ends { Adds out.old.entries out.new.entries (EndsAs (Rose (D.faults disk.old) (D.faults disk.new)) (Rose (X.faults secrets.old) (X.faults secrets.new)) (Reads (IsTrue S.tells) (S.left source.old) (S.left source.new)) ((disk.new ≡ disk.old) × (secrets.new ≡ secrets.old)) (KeepsAndCompletes (IsTrue D.tells × IsTrue X.tells) (D.files disk.old) (X.held secrets.old) (D.image disk.old) (D.files disk.new) (D.image disk.new) (X.held secrets.new) (Rose (D.faults disk.old) (D.faults disk.new)) (Rose (X.faults secrets.old) (X.faults secrets.new))) (Answers (IsTrue D.tells × IsTrue X.tells) (D.files disk.old) (X.held secrets.old) (D.image disk.old)) result) }
 {
     let bytes = match read_all(alloc, source) {
@@ -272,7 +272,7 @@ pub fn run_command<S: Source, K: Sink, D: Disk, X: SecretStore>(
     ensures device { result ≡ Status.Device → Rose (D.faults disk.old) (D.faults disk.new) ⊎ Rose (X.faults secrets.old) (X.faults secrets.new) }
     ensures write_fault { result ≡ Status.WriteFault → Rose (K.faults sink.old) (K.faults sink.new) }
     ensures too_long { result ≡ Status.TooLong → IsTrue S.tells → TookMore 16777216 (S.left source.old) (S.left source.new) }
-    ensures few { result ≡ Status.ReadFault → IsTrue S.tells → TookFew 16777216 (S.left source.old) (S.left source.new) }
+    ensures few { IsTrue S.tells → TookFew 16777217 (S.left source.old) (S.left source.new) }
     // Where the source holds the text of a valid script of a form that is run, the devices are valid, and no count rises, every life is run, unless memory
     // runs out.
     ensures complete { (map string_bytes words.now ≡ codes "run" ∷ []) → IsTrue S.tells → (script : Script) → script_of false (S.left source.old) ≡ Some script → is_built script ≡ true → length (S.left source.old) ≤ 16777216 → IsSoundRun (IsTrue D.tells × IsTrue X.tells) (D.files disk.old) (X.held secrets.old) (D.image disk.old) (Rose (D.faults disk.old) (D.faults disk.new)) (Rose (X.faults secrets.old) (X.faults secrets.new)) script → (Rose (S.faults source.old) (S.faults source.new) → ⊥) → (Rose (K.faults sink.old) (K.faults sink.new) → ⊥) → (result ≡ Status.Done) ⊎ (result ≡ Status.NoMemory) }

@@ -1,7 +1,7 @@
 //! The orchestrator's half of a node: which epoch it has entered, and which blocks it acknowledges.
 //!
 //! It enters the epoch of the height above its source's position, and a life ends within that epoch.
-ghost use Rattle.std.specs.Prelude.{◌≡◌, ◌<◌, ◌+◌, ◌++◌, ◌∷◌, [], ◌^◌, ℕ, IfErr, IfNone, IfOk, IfSome, true, None, Some};
+ghost use Rattle.std.specs.Prelude.{◌≡◌, ◌<◌, ◌+◌, ◌++◌, ◌∷◌, [], ◌^◌, ℕ, IfErr, IfNone, IfOk, IfSome, true, false, None, Some};
 ghost use Rattle.std.specs.Int.NonZero.{non_zero_u64_get};
 ghost use Rattle.std.specs.Option.{option_map_or};
 ghost use Rattle.dkg_ceremony.specs.Schedule.{boundary, first, midpoint};
@@ -15,6 +15,7 @@ ghost use Rattle.dkg_core.specs.Entering.{acked_at, delivered, is_ready};
 ghost use Rattle.dkg_core.specs.Fixed.{Fixed};
 ghost use Rattle.dkg_core.specs.Live.{Live};
 ghost use Rattle.dkg_core.specs.Node.{kept_material};
+ghost use Rattle.dkg_reshare.specs.Ends.{IsCaused};
 ghost use Rattle.dkg_reshare.specs.Made.{Speaks};
 ghost use Rattle.dkg_reshare.specs.declared.stop.Stop.TheVariants.{Fault as FaultOf};
 ghost use Rattle.dkg_types.specs.declared.fault.Fault.TheVariants.{NoMemory};
@@ -90,7 +91,8 @@ fn check_info(block: &Block<Unit>, epoch: Epoch) -> Result<(), Fault>
 /// Enters an epoch that the fence is ready for.
 fn enter(epoch: Epoch, fence: &mut Fence, out: &mut Transcript) -> Result<Half, Stop>
     requires ready { is_ready fence.old.ready epoch ≡ true }
-    ensures ok { IfOk result (λ half. (half ≡ record { entered = Some epoch; halted = false }) × (out.new.entries ≡ out.old.entries ++ entry.Entered epoch ∷ [])) }
+    ensures ok { IfOk result (λ half. (half ≡ record { entered = Some epoch; halted = false })
+        × (out.new.entries ≡ out.old.entries ++ entry.Entered epoch ∷ [])) }
     ensures err { IfErr result (λ stop. (stop ≡ FaultOf NoMemory) × (out.new.entries ≡ out.old.entries)) }
     ensures fence { fence.new ≡ waited epoch waits.Ready fence.old }
 {
@@ -114,9 +116,12 @@ impl Half {
         fence: &mut Fence,
         out: &mut Transcript,
     ) -> Result<Half, Stop>
-        requires ready { (c : Fixed directory.Unit) → IsHalfGiven (non_zero_u64_get blocks_per_epoch) (B.answers source.now) c → IsFenceReady c fence.old }
-        ensures speaks { (c : Fixed directory.Unit) (st : Live directory.Unit) → IsHalfGiven (non_zero_u64_get blocks_per_epoch) (B.answers source.now) c → MayEnter c fence.old st
+        requires ready { (c : Fixed directory.Unit) × IsHalfGiven (non_zero_u64_get blocks_per_epoch) (B.answers source.now) c × IsFenceReady c fence.old }
+        ensures speaks { (c : Fixed directory.Unit) (st : Live directory.Unit) → IsHalfGiven (non_zero_u64_get blocks_per_epoch) (B.answers source.now) c
+            → MayEnter c fence.old st
             → Speaks (kept_material c st) (ends_half fence.new st result) out.old.entries out.new.entries }
+        // It blames no device.
+        ensures causes { IfErr result (λ stop. IsCaused stop ⊥ ⊥ ⊥) }
     {
         let bounds = start_bounds(blocks_per_epoch, source)?;
         let Some(block) = source.block(boundary_of(&bounds)) else {
@@ -132,8 +137,11 @@ impl Half {
 
     /// Acknowledges a block below the first midpoint.
     pub fn acknowledge(&self, height: Height, out: &mut Transcript) -> Result<(), Stop>
-        ensures speaks { (c : Fixed directory.Unit) (st : Live directory.Unit) (b : blocks.Block directory.Unit) → b.height ≡ height → height < midpoint c.blocks_per_epoch 0
-            → HasHalf self.now st → Speaks (bind (delivered c b st) (λ half. acked_at b.height half.answer half.live)) (ends_node st result) out.old.entries out.new.entries }
+        ensures speaks { (c : Fixed directory.Unit) (st : Live directory.Unit) (b : blocks.Block directory.Unit) → b.height ≡ height
+            → height < midpoint c.blocks_per_epoch 0
+            → HasHalf self.now st
+            → Speaks (bind (delivered c b st) (λ half. acked_at b.height half.answer half.live)) (ends_node st result) out.old.entries out.new.entries }
+        ensures memory { IfErr result (λ stop. stop ≡ FaultOf NoMemory) }
     {
         if self.halted || self.entered.is_none() {
             return Ok(());

@@ -188,10 +188,10 @@ counter_is_supported version RootsOfUnity e = absurd cc
 -- where the configuration and the blocks passed, and the lives were tested
 pub lives_form : (script : Script) (midpoint : ℕ) (blocks : List BlockLine) (lives : List Life) (first all : Bool) → script.addressed ≡ false → is_plain script.config ≡ true
     → blocks ≡ script.blocks → lives ≡ script.lives → midpoint ≡ midpoint_of script
-    → first ≡ true → OnTrue first (AreFirst script.config blocks) → all ≡ are_lives midpoint blocks lives → OnTrue all (IsFormOfToday script)
-lives_form script midpoint blocks lives first false not_addressed config_is same_blocks same_lives at found are tested = tt
-lives_form script midpoint blocks lives false true not_addressed config_is same_blocks same_lives at found are tested = absurd (let wrong : false ≡ true = found in cc)
-lives_form script midpoint blocks lives true true not_addressed config_is same_blocks same_lives at found are tested =
+    → first ≡ true → OnTrue first (AreFirst script.config blocks) → all ≡ are_lives midpoint blocks lives → non_zero_u64_get script.config.blocks_per_epoch < 2 ^ 64 → OnTrue all (IsFormOfToday script)
+lives_form script midpoint blocks lives first false not_addressed config_is same_blocks same_lives at found are tested short = tt
+lives_form script midpoint blocks lives false true not_addressed config_is same_blocks same_lives at found are tested short = absurd (let wrong : false ≡ true = found in cc)
+lives_form script midpoint blocks lives true true not_addressed config_is same_blocks same_lives at found are tested short =
     let config = script.config in
     let plain = and_parts (is_simple config && is_alone config) (is_limit config) config_is in
     let simple = and_parts (is_simple config) (is_alone config) plain.0 in
@@ -205,6 +205,7 @@ lives_form script midpoint blocks lives true true not_addressed config_is same_b
       reshares = none_of config.oneshot counted.1;
       few = leb-true (non_zero_u32_get config.limit) (2 ^ 30) plain.1;
       long = two_or_more (non_zero_u64_get config.blocks_per_epoch) long.0;
+      short = short;
       supported = counter_is_supported config.max_mode.0 config.mode long.1;
       blocks = blocks_in script script.blocks not_addressed are_its;
       first = first_at_zero config script.blocks are_its;

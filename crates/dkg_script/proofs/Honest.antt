@@ -41,6 +41,9 @@ two_is_built = record {
     plain = refl;
     reshares = refl;
     few = lit≤ tt;
+    long = lit≤ tt;
+    short = lit< tt;
+    supported = refl;
     blocks = (genesis_of_today two.lives, tt);
     first = refl;
     lives = (record { anchor = tt; holds = refl; no_sync = refl; events = (tt, tt) }, (record { anchor = tt; holds = refl; no_sync = refl; events = tt }, tt));
@@ -81,6 +84,9 @@ install_is_built plans = record {
     plain = refl;
     reshares = refl;
     few = lit≤ tt;
+    long = lit≤ tt;
+    short = lit< tt;
+    supported = refl;
     blocks = (genesis_of_today at_install.lives, tt);
     first = refl;
     lives = (record { anchor = tt; holds = refl; no_sync = refl; events = (tt, tt) }, (record { anchor = tt; holds = refl; no_sync = refl; events = (tt, tt) }, (record { anchor = tt; holds = refl; no_sync = refl; events = tt }, tt)));
@@ -107,6 +113,9 @@ gate_is_built plans = record {
     plain = refl;
     reshares = refl;
     few = lit≤ tt;
+    long = lit≤ tt;
+    short = lit< tt;
+    supported = refl;
     blocks = (genesis_of_today at_gate.lives, tt);
     first = refl;
     lives = (record { anchor = tt; holds = refl; no_sync = refl; events = (tt, tt) }, (record { anchor = tt; holds = refl; no_sync = refl; events = tt }, tt));

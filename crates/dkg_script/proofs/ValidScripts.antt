@@ -104,6 +104,7 @@ module _ (plans : List (Option Material)) where
       reshares = refl;
       few = lit≤ tt;
       long = lit≤ tt;
+      short = lit< tt;
       supported = refl;
       blocks = (genesis_of_today [], ((lit< tt, tt), tt));
       first = refl;

@@ -44,14 +44,15 @@ IsBlockOfToday script block =
     (block.height < non_zero_u64_get script.config.blocks_per_epoch)
     × IfSome block.payload (λ bytes. IsSome (unit_payload (record { most = non_zero_u32_get script.config.limit; version = script.config.max_mode.0; addressed = script.addressed }) bytes))
 
--- The script is of a reshare without directories of addresses, its limit is one that a script may have, its epochs have two blocks at least, its mode is
--- supported, its blocks are of epoch 0
+-- The script is of a reshare without directories of addresses, its limit is one that a script may have, its epochs have two blocks at least, and a number of
+-- 64 bits, its mode is supported, its blocks are of epoch 0
 -- and their payloads are read, its first block stands at height 0, and each of its lives is of the form.
 pub record IsFormOfToday (script : Script) : Type 0 where
   pub plain : script.addressed ≡ false
   pub reshares : script.config.oneshot ≡ None
   pub few : non_zero_u32_get script.config.limit ≤ 2 ^ 30
   pub long : 2 ≤ non_zero_u64_get script.config.blocks_per_epoch
+  pub short : non_zero_u64_get script.config.blocks_per_epoch < 2 ^ 64
   pub supported : supports_of script.config.max_mode.0 script.config.mode ≡ true
   pub blocks : AllByRecursion (IsBlockOfToday script) script.blocks
   pub first : IfSome (slice_get script.blocks 0) (λ block. block.height ≡ 0)

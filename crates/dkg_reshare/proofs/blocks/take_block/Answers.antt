@@ -74,5 +74,5 @@ returns-in-New-clause-placed g c =
 pub returns-in_err-judge-clause-causes : goal.returns-in_err-judge-clause-causes
 returns-in_err-judge-clause-causes g c =
     let p = err_from_is_err_and c.from_residual.result c.from_residual.ensures.1 in
-    let P : Result Judged Fault → Type 0 = λ r. IfErr r (λ e. IsCaused (Faulted e) ⊥ ⊥) in
+    let P : Result Judged Fault → Type 0 = λ r. IfErr r (λ e. IsCaused (Faulted e) ⊥ ⊥ ⊥) in
     rw (p.1, p.2) (subst P (sym c.in_err-judge.ensures) (refusal_caused c.args.life.now.tip c.args.block.now.height c.args.block.now.digest c.args.block.now.parent))

@@ -2,6 +2,7 @@ use Rattle.std.proofs.Common.{rules}
 use Rattle.std.proofs.lemmas.Result.{err_from_is_err_and}
 use Rattle.std.specs.Int.NonZero.{non_zero_u32_get}
 use Rattle.dkg_reshare.proofs.Heard.{heard_made, heard_said, heard_stopped, heard_unsaid, of_round}
+use Rattle.dkg_reshare.proofs.Kept.{moved_none}
 use Rattle.dkg_reshare.proofs.Short.{dealing_fits}
 use Rattle.dkg_reshare.proofs.dealing.hear_dealing.Goals as goal
 
@@ -46,3 +47,6 @@ returns-in_err-answer-clause-tells g c = λ fixed round beside fence of by has.
     rw (p.1, p.2) (heard_unsaid g.C.Ceremony.dealing_of g.C.Ceremony.ack_of _ c.args.terms.now c.args.life.now c.in-Some.player c.args.epoch c.args.from c.args.public c.args.private
     c.in-Some.is c.requires.ready.seated c.requires.me c.requires.dealt
     fixed round beside fence of by has c.in_err-answer.field-0.0 c.in_err-answer.ensures.tells)
+
+pub returns-in_default-clause-moved : goal.returns-in_default-clause-moved
+returns-in_default-clause-moved g c = moved_none g.D.Disk.tells g.D.Disk.made g.X.SecretStore.made g.D.Disk.faults g.X.SecretStore.faults g.met.D.Disk.made_none g.met.X.SecretStore.made_none c.args.devices.now

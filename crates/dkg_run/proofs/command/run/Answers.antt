@@ -1,7 +1,7 @@
 use Rattle.std.proofs.Common.{[], ◌∙◌, ap, false, inl, refl, sym}
 use Rattle.std.proofs.lemmas.List.{append-nil}
 use Rattle.dkg_text.specs.Grammar.{script_or_place}
-use Rattle.dkg_run.proofs.Reported.{at_added, is_spelled, ends_faulted, ends_in_none, runs_faulted, fault_skips, none_skips}
+use Rattle.dkg_run.proofs.Reported.{is_spelled, ends_faulted, ends_in_none, runs_faulted, fault_skips, none_skips}
 use Rattle.dkg_run.proofs.command.run.Goals as goal
 
 pub returns-in-Err-Failed-clause-ends : goal.returns-in-Err-Failed-clause-ends
@@ -53,11 +53,11 @@ returns-in-Err-Unsupported-clause-ends g c = let refused = rw c.in-Err-Unsupport
 )
 
 pub returns-in-Ok-run_lives-clause-ends : goal.returns-in-Ok-run_lives-clause-ends
-returns-in-Ok-run_lives-clause-ends g c = let told = c.in-Ok-run_lives.ensures in (
-  told.ends.0,
-  told.ends.1,
+returns-in-Ok-run_lives-clause-ends g c = let told = c.in-Ok-run_lives.ensures.promise in (
+  told.0,
+  told.1,
   record {
-    ends = told.ends.2;
+    ends = told.2.ends;
     runs = record {
       ran = record {
         bytes = c.in-Ok.bytes.items;
@@ -66,24 +66,21 @@ returns-in-Ok-run_lives-clause-ends g c = let told = c.in-Ok-run_lives.ensures i
         spells = is_spelled _ _ _ (ap (script_or_place false) (sym c.deref.ensures.value) ∙ c.in-Ok-read_built.ensures.reads.0);
         built = c.in-Ok-read_built.ensures.reads.1;
         form = c.in-Ok-read_built.ensures.form;
-        in_order = at_added _ _ _ _ told.ends.1 told.in_order;
-        kept = (
-          (λ tells. at_added _ _ _ _ told.ends.1 (told.kept tells.0 tells.1), λ tells. at_added _ _ _ _ told.ends.1 (told.found tells.0 tells.1), λ tells. none_skips _ _ _ told.ends.2),
-          λ sound. told.ends.2,
-        );
+        in_order = told.2.in_order;
+        kept = ((told.2.kept, told.2.found, λ tells. none_skips _ _ _ told.2.ends), λ sound. told.2.ends);
       };
-      all = at_added _ _ _ _ told.ends.1 told.all;
-      answered = λ tells. at_added _ _ _ _ told.ends.1 (told.answered tells.0 tells.1);
+      all = told.2.all;
+      answered = told.2.answered;
     };
   },
 )
 
 pub returns-clause-ends : goal.returns-clause-ends
-returns-clause-ends g c = let told = c.in-Err.ensures in (
-  told.ends.0,
-  told.ends.1,
+returns-clause-ends g c = let told = c.in-Err.ensures.promise in (
+  told.0,
+  told.1,
   rw c.status_of.ensures (record {
-    ends = ends_faulted c.in-Err.fault _ _ _ told.ends.2;
+    ends = ends_faulted c.in-Err.fault _ _ _ told.2.ends;
     runs = runs_faulted c.in-Err.fault _ _ _ _ _ (record {
       bytes = c.in-Ok.bytes.items;
       gave = record { all = c.in-Ok.ensures.whole; not_too_long = c.in-Ok.ensures.short };
@@ -91,10 +88,10 @@ returns-clause-ends g c = let told = c.in-Err.ensures in (
       spells = is_spelled _ _ _ (ap (script_or_place false) (sym c.deref.ensures.value) ∙ c.in-Ok-read_built.ensures.reads.0);
       built = c.in-Ok-read_built.ensures.reads.1;
       form = c.in-Ok-read_built.ensures.form;
-      in_order = at_added _ _ _ _ told.ends.1 told.in_order;
+      in_order = told.2.in_order;
       kept = (
-        (λ tells. at_added _ _ _ _ told.ends.1 (told.kept tells.0 tells.1), λ tells. at_added _ _ _ _ told.ends.1 (told.found tells.0 tells.1), λ tells. fault_skips _ _ c.in-Err.fault _ _ _ told.ends.2 (told.skips tells.0 tells.1)),
-        λ sound. ends_in_none c.in-Err.fault _ _ _ told.ends.2 (told.complete sound.tells.0 sound.tells.1 sound.valid sound.no_disk_rose sound.no_secrets_rose),
+        (told.2.kept, told.2.found, λ tells. fault_skips _ _ c.in-Err.fault _ _ _ told.2.ends (told.2.skips tells)),
+        λ sound. ends_in_none c.in-Err.fault _ _ _ told.2.ends (told.2.complete sound.tells sound.valid sound.no_disk_rose sound.no_secrets_rose),
       );
     });
   }),

@@ -2,7 +2,8 @@ use Rattle.std.proofs.Common.{refl}
 use Rattle.dkg_reshare.specs.declared.life.Life.{Life}
 use Rattle.dkg_reshare.specs.declared.stop.Stop.TheVariants.{Failed}
 use Rattle.dkg_reshare.specs.Actors.{IsReadyLife}
-use Rattle.dkg_reshare.proofs.Ending.{failed_ends, has_failed, never_failed, not_living}
+use Rattle.dkg_reshare.proofs.Ending.{failed_ends, has_failed, not_living}
+use Rattle.dkg_reshare.proofs.Kept.{moved_none}
 use Rattle.dkg_reshare.proofs.actor.Actor.step.Goals as goal
 
 pub returns-in_default-clause-acts : goal.returns-in_default-clause-acts
@@ -26,3 +27,6 @@ returns-in-Ok-clause-acts g c = λ disk secrets fixed beside of by. rw c.in-Livi
 
 pub returns-in-Err-clause-acts : goal.returns-in-Err-clause-acts
 returns-in-Err-clause-acts g c = λ disk secrets fixed beside of by. rw c.in-Living.is (c.in-Err.ensures.acts disk secrets fixed beside c.args.fence.now of by.answers)
+
+pub returns-in_default-clause-moved : goal.returns-in_default-clause-moved
+returns-in_default-clause-moved g c = moved_none g.D.Disk.tells g.D.Disk.made g.X.SecretStore.made g.D.Disk.faults g.X.SecretStore.faults g.met.D.Disk.made_none g.met.X.SecretStore.made_none c.args.devices.now

@@ -1,0 +1,340 @@
+-- Entries that are a node run stand in their order, whatever the devices tell.
+use Rattle.std.proofs.Common.{◌≡◌, ◌⊎◌, inl, inr, ℕ, zero, suc, ◌+◌, ◌++◌, ◌∷◌, [], ◌<◌, ◌≤◌, Bool, true, false, List, Option, Some, None, Result, Ok, Err, refl, sym, ◌∙◌, ap, subst, length, drop, arith, add-one, append-nil}
+use Rattle.std.specs.Option.{option_map_or}
+use Rattle.std.specs.Prelude.{◌==◌, ◌-◌, IsSomeAnd, if◌then◌else◌, option_map, slice_get}
+use Rattle.std.specs.List.{AllByRecursion}
+use Rattle.std.proofs.lemmas.Bool.Decides.{nat_tests}
+use Rattle.std.proofs.lemmas.List.{length-drop}
+use Rattle.dkg_journal.specs.Burn.{Burn}
+use Rattle.dkg_journal.specs.Names.{Files}
+use Rattle.dkg_types.specs.Blocks.{Block}
+use Rattle.dkg_types.specs.declared.directory.Unit as directory
+use Rattle.dkg_types.specs.declared.entry.Entry.{Entry}
+use Rattle.dkg_types.specs.declared.entry.Entry.TheVariants as entry
+use Rattle.dkg_types.specs.declared.fault.Fault.{Fault}
+use Rattle.dkg_types.specs.declared.fault.Fault.TheVariants.{NoMemory}
+use Rattle.dkg_text.specs.declared.script.Cut as cut
+use Rattle.dkg_text.specs.declared.script.Event.{Event}
+use Rattle.dkg_text.specs.declared.script.Event.TheVariants as event
+use Rattle.dkg_text.specs.declared.script.Life.{Life}
+use Rattle.dkg_text.specs.declared.script.Script.{Script}
+use Rattle.dkg_script.specs.Order.{IsInOrder}
+use Rattle.dkg_script.specs.Progress.{Progress}
+use Rattle.dkg_script.specs.Promise.{Adds, RunsAll, RunsInOrder}
+use Rattle.dkg_script.specs.Setting.{Setting}
+use Rattle.dkg_store.specs.Acts.{Ended, broken, by_cut, stopped, went}
+use Rattle.dkg_core.specs.Courses.{Course, Goes, on_devices}
+use Rattle.dkg_core.specs.Laws.{IsQuiet}
+use Rattle.dkg_core.specs.Live.{Delivers, Finalized, Live, NodeStop, Peer, Sent}
+use Rattle.dkg_core.specs.Node.{node_opening, node_step}
+use Rattle.dkg_core.specs.Said.{Said}
+use Rattle.dkg_core.specs.Transcripts.{BeginsOpened}
+use Rattle.dkg_reshare.specs.declared.stop.Stop.{Stop}
+use Rattle.dkg_reshare.specs.declared.stop.Stop.TheVariants.{Cut, Failed, Fault as FaultOf}
+use Rattle.dkg_run.specs.Causes.{IsCutWithin}
+use Rattle.dkg_run.specs.Ended.{by_node_stop}
+use Rattle.dkg_run.specs.Given.{Lived, at_step, blocks_in, lived, step_of}
+use Rattle.dkg_run.specs.Lives.{AnyFiles, EndsLife, LivesFrom, LivesHere, LivesSo, RunsAllSo, RunsSo, Steps, TakesAll, TellsEnd, fuse_for, fuse_within, never}
+use Rattle.dkg_run.specs.Ways.{Trace, by_lines}
+use Rattle.dkg_run.proofs.Ended.{told_in_order}
+use Rattle.dkg_run.proofs.InPlace.{moves_cut}
+use Rattle.dkg_core.proofs.NodeToday.{node_openings_are_quiet, node_steps_are_quiet}
+use Rattle.dkg_run.proofs.Places.{moves_none, moves_then, moves_within, quiet_none}
+use Rattle.dkg_run.proofs.Runs.{moves_in_life, moves_life, runs_all, runs_in_order}
+use Rattle.dkg_run.proofs.Standing.{AddsOpening, AddsQuiet, IsAtCut, IsBefore, IsBehind, IsBetween, IsBetweenOf, IsCutBefore, IsStopped, IsWithin, MayTell, Moves, TellsFault}
+use Rattle.dkg_run.proofs.Steps.{Opening, cut_untold, opened_so_far, opening_step, opening_stops, quiet_so_far, quiet_step, quiet_stops, stops_before}
+
+-- FUSES AND CUTS
+
+fuse_at : (its : cut.Cut) (step : ℕ) (t : Bool) → (its.step == step) ≡ t → fuse_for (Some its) step ≡ (if t then fuse_within its else Some never)
+fuse_at its step t is = ap (λ (b : Bool). if b then fuse_within its else Some never) is
+
+same : (n m : ℕ) → (n == m) ≡ true → n ≡ m
+same n m e = grind (arith, nat_tests)
+
+equal : (n m : ℕ) → n ≡ m → (n == m) ≡ true
+equal n m e = grind (arith, nat_tests)
+
+none_some : {A : Type 0} {x : A} → ◌≡◌ {A = Option A} None (Some x) → ⊥
+none_some e = cc
+
+some_same : {A : Type 0} {x y : A} → Some x ≡ Some y → x ≡ y
+some_same e = cc
+
+-- the fuse of the step that a cut names, by whether the cut is before it
+abbrev lit_by : Bool → cut.Cut → Option Burn
+lit_by u its = if u then None else Some (record { call = its.call; pick = its.pick; spent = 0 })
+
+-- no fuse is where the life is cut before the step
+pub unlit : (its : Option cut.Cut) (step : ℕ) → fuse_for its step ≡ None → IsCutBefore its step
+unlit None step none = absurd (none_some (sym none))
+unlit (Some its) step none = by_step (its.step == step) refl
+  where
+    by_call : (u : Bool) → (its.call == 0) ≡ u → lit_by u its ≡ None → its.call ≡ 0
+    by_call true e is = same its.call 0 e
+    by_call false e is = absurd (none_some (sym is))
+
+    by_step : (t : Bool) → (its.step == step) ≡ t → IsCutBefore (Some its) step
+    by_step true e = (same its.step step e, by_call (its.call == 0) refl (sym (fuse_at its step true e) ∙ none))
+    by_step false e = absurd (none_some (sym (sym (fuse_at its step false e) ∙ none)))
+
+pub lit_begins : (its : Option cut.Cut) (step : ℕ) (f : Burn) → fuse_for its step ≡ Some f → IsCutBefore its step → ⊥
+lit_begins None step f lit before = before
+lit_begins (Some its) step f lit before =
+    none_some (ap (λ (b : Bool). lit_by b its) (sym (equal its.call 0 before.1)) ∙ sym (fuse_at its step true (equal its.step step before.0)) ∙ lit)
+
+-- a fuse that cuts a call is the script's
+pub lit_within : (its : Option cut.Cut) (step : ℕ) (f : Burn) → fuse_for its step ≡ Some f → 0 < f.call → IsCutWithin its step
+lit_within None step f lit some = absurd (not_never f (some_same lit) some)
+  where
+    not_never : (f : Burn) → never ≡ f → 0 < f.call → ⊥
+    not_never f is some = let none : 0 ≡ f.call = ap (λ (b : Burn). b.call) is in omega arith
+lit_within (Some its) step f lit some = by_step (its.step == step) refl
+  where
+    by_step : (t : Bool) → (its.step == step) ≡ t → IsCutWithin (Some its) step
+    by_step true e = (same its.step step e, λ zero_call. none_some
+        (ap (λ (b : Bool). lit_by b its) (sym (equal its.call 0 zero_call)) ∙ sym (fuse_at its step true e) ∙ lit))
+    by_step false e = absurd (let none : 0 ≡ f.call = ap (λ (b : Burn). b.call) (some_same (sym (fuse_at its step false e) ∙ lit)) in omega arith)
+
+-- STEPS
+
+-- where a life stands that ended so
+abbrev pub EndsIn : Life → (l : ℕ) → Result (Unit {0}) Stop → Setting → Progress → Type 0
+EndsIn life l (Ok done) s p = IsBetween (l + 1) s p
+EndsIn life l (Err stop) s p = IsStopped life l stop s p
+
+module _ (life : Life) (l j : ℕ) (course : Course directory.Unit NodeStop (Live directory.Unit)) where
+  -- memory was wanting
+  wanted : (P : Setting → Progress → Type 0) (t new : Trace) → new ≡ t → Moves IsInOrder P (EndsIn life l (Err (FaultOf NoMemory))) t.out new.out
+  wanted P t new is = moves_none IsInOrder P (MayTell NoMemory) t.out new.out (ap (λ (x : Trace). x.out) is) (λ s p at. inl refl)
+
+  module _ (later : 0 < j) (quiet : (ended : Ended NodeStop (Live directory.Unit)) (out now : List Entry) → Said (on_devices course) ended out now → AddsQuiet out now) where
+    pub steps_in_order : (fuse : Option Burn) → fuse_for life.cut j ≡ fuse → (t new : Trace) (how : Result (Unit {0}) Stop) (next : Live directory.Unit → Trace → Type 0)
+        → ((end : Live directory.Unit) (mid : Trace) → next end mid → Moves IsInOrder (IsBehind life l j) (EndsIn life l how) mid.out new.out)
+        → Steps by_lines (entry.Step j) fuse course t how new next → Moves IsInOrder (IsBefore life l j) (EndsIn life l how) t.out new.out
+    steps_in_order None none t new how next after its = subst (λ (r : Result (Unit {0}) Stop). Moves IsInOrder (IsBefore life l j) (EndsIn life l r) t.out new.out) (sym its.0)
+        (stops_before life l j Cut t.out new.out (ap (λ (x : Trace). x.out) its.1) (refl, unlit life.cut j none))
+    steps_in_order (Some f) lit t new how next after (inl wants) = subst (λ (r : Result (Unit {0}) Stop). Moves IsInOrder (IsBefore life l j) (EndsIn life l r) t.out new.out) (sym wants.0)
+        (wanted (IsBefore life l j) t new wants.1)
+    steps_in_order (Some f) lit t new how next after (inr (inl (stop, is, goes))) = subst (λ (r : Result (Unit {0}) Stop). Moves IsInOrder (IsBefore life l j) (EndsIn life l r) t.out new.out) (sym is)
+        (quiet_stops life l j stop t.out new.out (lit_begins life.cut j f lit) (quiet _ t.out new.out goes.0) (cut_is stop goes.2))
+      where
+        cut_is : (stop : Stop) → (by_node_stop {S = Live directory.Unit} stop ≡ broken by_cut → 0 < f.call) → stop ≡ Cut → IsCutWithin life.cut j
+        cut_is stop so is_cut = lit_within life.cut j f lit (so (ap (λ (x : Stop). by_node_stop {S = Live directory.Unit} x) is_cut))
+    steps_in_order (Some f) lit t new how next after (inr (inr (end, mid, goes, inl wants))) = subst (λ (r : Result (Unit {0}) Stop). Moves IsInOrder (IsBefore life l j) (EndsIn life l r) t.out new.out) (sym wants.0)
+        (moves_then IsInOrder (IsBefore life l j) (IsWithin life l j false) (MayTell NoMemory) t.out mid.out new.out
+        (quiet_so_far life l j t.out mid.out (lit_begins life.cut j f lit) (quiet _ t.out mid.out goes.0)) (wanted (IsWithin life l j false) mid new wants.1))
+    steps_in_order (Some f) lit t new how next after (inr (inr (end, mid, goes, inr so))) =
+        moves_then IsInOrder (IsBefore life l j) (IsBehind life l j) (EndsIn life l how) t.out (mid.out ++ entry.Step j ∷ []) new.out
+        (quiet_step life l j t.out mid.out (mid.out ++ entry.Step j ∷ []) later (lit_begins life.cut j f lit) (quiet _ t.out mid.out goes.0) refl) (after end (by_lines.says mid (entry.Step j)) so)
+
+-- a step says quiet lines alone
+said_none : {S : Type 0} (st : S) (ended : Ended NodeStop S) (out now : List Entry) → Said (on_devices {Dir = directory.Unit} {F = NodeStop} (Goes st)) ended out now → AddsQuiet out now
+said_none st (went end) out now said = quiet_none out now (said.added ∙ ap (λ (l : List Entry). out ++ l) (said.by).0 ∙ append-nil out)
+said_none st (stopped fault) out now said = absurd said.by
+said_none st (broken cause) out now said = quiet_none out now (said.added ∙ ap (λ (l : List Entry). out ++ l) said.by ∙ append-nil out)
+
+adds_quiet : (out now : List Entry) → (added : List Entry) × (now ≡ out ++ added) × AllByRecursion IsQuiet added → AddsQuiet out now
+adds_quiet out now its = record { added = its.0; parts = its.1; quiet = its.2 }
+
+pub step_is_quiet : (g : Lived) (j : ℕ) (its : Event) (st : Live directory.Unit) (ended : Ended NodeStop (Live directory.Unit)) (out now : List Entry)
+    → Said (on_devices (step_of g j its st)) ended out now → AddsQuiet out now
+step_is_quiet g j (event.Peer from bytes) st ended out now said =
+    adds_quiet out now (node_steps_are_quiet (at_step g j) st (Sent (Peer from bytes)) ended out now said)
+step_is_quiet g j (event.Final number) st ended out now said = of_block (slice_get (blocks_in g.script) number) said
+  where
+    of_block : (o : Option (Block directory.Unit))
+        → Said (on_devices (option_map_or (λ its. node_step (at_step g j) its st) (option_map Delivers o) (Goes st))) ended out now → AddsQuiet out now
+    of_block None said = said_none st ended out now said
+    of_block (Some b) said = adds_quiet out now (node_steps_are_quiet (at_step g j) st (Finalized b) ended out now said)
+step_is_quiet g j other st ended out now said = said_none st ended out now said
+
+-- WHAT IS LEFT of a list
+
+pub rest_at : {A : Type 0} (all : List A) (i : ℕ) (its : A) (more : List A) → its ∷ more ≡ drop i all → more ≡ drop (suc i) all
+rest_at [] zero its more is = absurd (let wrong : its ∷ more ≡ [] = is in cc)
+rest_at [] (suc i) its more is = absurd (let wrong : its ∷ more ≡ [] = is in cc)
+rest_at (x ∷ all) zero its more is = let so : its ∷ more ≡ x ∷ all = is in cc
+rest_at (x ∷ all) (suc i) its more is = rest_at all i its more is
+
+pub item_at : {A : Type 0} (all : List A) (i : ℕ) (its : A) (more : List A) → its ∷ more ≡ drop i all → slice_get all i ≡ Some its
+item_at [] zero its more is = absurd (let wrong : its ∷ more ≡ [] = is in cc)
+item_at [] (suc i) its more is = absurd (let wrong : its ∷ more ≡ [] = is in cc)
+item_at (x ∷ all) zero its more is = let so : its ∷ more ≡ x ∷ all = is in cc
+item_at (x ∷ all) (suc i) its more is = item_at all i its more is
+
+-- EVENTS, those from number i on
+
+pub takes_in_order : (g : Lived) (i : ℕ) (events : List Event) (st : Live directory.Unit) (t new : Trace) (how : Result (Unit {0}) Stop) → i ≤ length g.life.events → events ≡ drop i g.life.events
+    → TakesAll by_lines g (i + 1) events st t how new → Moves IsInOrder (IsBehind g.life g.number i) (EndsIn g.life g.number how) t.out new.out
+takes_in_order g i [] st t new how within rest its =
+    subst (λ (r : Result (Unit {0}) Stop). Moves IsInOrder (IsBehind g.life g.number i) (EndsIn g.life g.number r) t.out new.out) (sym its.0)
+    (moves_none IsInOrder (IsBehind g.life g.number i) (IsBetween (g.number + 1)) t.out new.out (ap (λ (x : Trace). x.out) its.1) (λ s p at. at.last all))
+  where
+    all : i ≡ length g.life.events
+    all = let none : 0 ≡ length g.life.events - i = ap length rest ∙ length-drop i g.life.events in omega (arith, within, none)
+takes_in_order g i (its ∷ events) st t new how within rest takes =
+    moves_then IsInOrder (IsBehind g.life g.number i) (IsBefore g.life g.number (i + 1)) (EndsIn g.life g.number how) t.out t.out new.out
+    (moves_none IsInOrder (IsBehind g.life g.number i) (IsBefore g.life g.number (i + 1)) t.out t.out refl (λ s p at. at.next below))
+    (steps_in_order g.life g.number (i + 1) (step_of g (i + 1) its st) (omega arith) (step_is_quiet g (i + 1) its st) (fuse_for g.life.cut (i + 1)) refl t new how
+    (λ end mid. TakesAll by_lines g (i + 1 + 1) events end mid how new)
+    (λ end mid so. takes_in_order g (i + 1) events end mid new how (omega (arith, below)) (subst (λ (k : ℕ). events ≡ drop k g.life.events) (sym (add-one i)) (rest_at g.life.events i its events rest)) so) takes)
+  where
+    below : i < length g.life.events
+    below = let some : suc (length events) ≡ length g.life.events - i = ap length rest ∙ length-drop i g.life.events in omega (arith, some)
+
+-- AN OPENING: its line stands first, or it was broken off before
+
+opening_added : (l : ℕ) (out now : List Entry) (ended : Ended NodeStop (Live directory.Unit)) → (added : List Entry) × (now ≡ out ++ added) × BeginsOpened l added ended → Opening l out now
+opening_added l out now ended ([], is, at) = inl (is ∙ append-nil out)
+opening_added l out now ended (entry.Opened its restored ∷ more, is, at) =
+    inr (record { restored = restored; more = more; parts = subst (λ (n : ℕ). now ≡ out ++ entry.Opened n restored ∷ more) at.0 is; quiet = at.1 })
+opening_added l out now ended (other ∷ more, is, at) = absurd at
+
+abbrev went_node : Live directory.Unit → Ended NodeStop (Live directory.Unit)
+went_node end = went end
+
+went_opened : (l : ℕ) (out now : List Entry) (end : Live directory.Unit) → (added : List Entry) × (now ≡ out ++ added) × BeginsOpened l added (went_node end) → AddsOpening l out now
+went_opened l out now end ([], is, at) = absurd at
+went_opened l out now end (entry.Opened its restored ∷ more, is, at) =
+    record { restored = restored; more = more; parts = subst (λ (n : ℕ). now ≡ out ++ entry.Opened n restored ∷ more) at.0 is; quiet = at.1 }
+went_opened l out now end (other ∷ more, is, at) = absurd at
+
+at_number : (g : Lived) (taken : ℕ) → (at_step g taken).life ≡ g.number
+unfolding at_step
+at_number g taken = refl
+
+module _ (g : Lived) where
+  opened_in : (ended : Ended NodeStop (Live directory.Unit)) (out now : List Entry) → Said (on_devices (node_opening (at_step g 0))) ended out now
+      → (added : List Entry) × (now ≡ out ++ added) × BeginsOpened g.number added ended
+  opened_in ended out now said =
+      let its = node_openings_are_quiet (at_step g 0) ended out now said in
+      (its.0, its.1, subst (λ (n : ℕ). BeginsOpened n its.0 ended) (at_number g 0) its.2)
+
+  opening_in_order : (fuse : Option Burn) → fuse_for g.life.cut 0 ≡ fuse → (t new : Trace) (how : Result (Unit {0}) Stop) (next : Live directory.Unit → Trace → Type 0)
+      → ((end : Live directory.Unit) (mid : Trace) → next end mid → Moves IsInOrder (IsBehind g.life g.number 0) (EndsIn g.life g.number how) mid.out new.out)
+      → Steps by_lines (entry.Step 0) fuse (node_opening (at_step g 0)) t how new next → Moves IsInOrder (IsBefore g.life g.number 0) (EndsIn g.life g.number how) t.out new.out
+  opening_in_order None none t new how next after its = subst (λ (r : Result (Unit {0}) Stop). Moves IsInOrder (IsBefore g.life g.number 0) (EndsIn g.life g.number r) t.out new.out) (sym its.0)
+      (stops_before g.life g.number 0 Cut t.out new.out (ap (λ (x : Trace). x.out) its.1) (refl, unlit g.life.cut 0 none))
+  opening_in_order (Some f) lit t new how next after (inl wants) = subst (λ (r : Result (Unit {0}) Stop). Moves IsInOrder (IsBefore g.life g.number 0) (EndsIn g.life g.number r) t.out new.out) (sym wants.0)
+      (wanted g.life g.number 0 (node_opening (at_step g 0)) (IsBefore g.life g.number 0) t new wants.1)
+  opening_in_order (Some f) lit t new how next after (inr (inl (stop, is, goes))) = subst (λ (r : Result (Unit {0}) Stop). Moves IsInOrder (IsBefore g.life g.number 0) (EndsIn g.life g.number r) t.out new.out) (sym is)
+      (opening_stops g.life g.number stop t.out new.out (lit_begins g.life.cut 0 f lit) (opening_added g.number t.out new.out (by_node_stop stop) (opened_in (by_node_stop stop) t.out new.out goes.0)) (cut_is stop goes.2))
+    where
+      cut_is : (stop : Stop) → (by_node_stop {S = Live directory.Unit} stop ≡ broken by_cut → 0 < f.call) → stop ≡ Cut → IsCutWithin g.life.cut 0
+      cut_is stop so is_cut = lit_within g.life.cut 0 f lit (so (ap (λ (x : Stop). by_node_stop {S = Live directory.Unit} x) is_cut))
+  opening_in_order (Some f) lit t new how next after (inr (inr (end, mid, goes, inl wants))) = subst (λ (r : Result (Unit {0}) Stop). Moves IsInOrder (IsBefore g.life g.number 0) (EndsIn g.life g.number r) t.out new.out) (sym wants.0)
+      (moves_then IsInOrder (IsBefore g.life g.number 0) (IsWithin g.life g.number 0 true) (MayTell NoMemory) t.out mid.out new.out
+      (opened_so_far g.life g.number t.out mid.out (lit_begins g.life.cut 0 f lit) (went_opened g.number t.out mid.out end (opened_in (went end) t.out mid.out goes.0)))
+      (wanted g.life g.number 0 (node_opening (at_step g 0)) (IsWithin g.life g.number 0 true) mid new wants.1))
+  opening_in_order (Some f) lit t new how next after (inr (inr (end, mid, goes, inr so))) =
+      moves_then IsInOrder (IsBefore g.life g.number 0) (IsBehind g.life g.number 0) (EndsIn g.life g.number how) t.out (mid.out ++ entry.Step 0 ∷ []) new.out
+      (opening_step g.life g.number t.out mid.out (mid.out ++ entry.Step 0 ∷ []) (lit_begins g.life.cut 0 f lit) (went_opened g.number t.out mid.out end (opened_in (went end) t.out mid.out goes.0)) refl)
+      (after end (by_lines.says mid (entry.Step 0)) so)
+
+  -- A LIFE
+  pub lives_in_order : (files : Files) (t new : Trace) (how : Result (Unit {0}) Stop) → LivesSo by_lines g files t how new → Moves IsInOrder (IsBefore g.life g.number 0) (EndsIn g.life g.number how) t.out new.out
+  lives_in_order files t new how (inl steps) = opening_in_order (fuse_for g.life.cut 0) refl t new how (λ end mid. TakesAll by_lines g 1 g.life.events end mid how new)
+      (λ end mid so. takes_in_order g 0 g.life.events end mid new how (omega arith) refl so) steps
+  lives_in_order files t new how (inr refused) = absurd refused.1.2
+
+-- ALL LIVES
+
+-- where a run stands that was answered so
+abbrev pub RunEndsIn : Script → Result (Unit {0}) Fault → Setting → Progress → Type 0
+RunEndsIn script (Ok done) s p = IsBetweenOf script (length script.lives) s p
+RunEndsIn script (Err its) s p = MayTell its s p
+
+module _ (script : Script) where
+  -- a life, and what comes behind it
+  life_in_order : (l : ℕ) (life : Life) → slice_get script.lives l ≡ Some life → (how : Result (Unit {0}) Stop) (t mid new : Trace) (result : Result (Unit {0}) Fault) (next : Trace → Type 0)
+      → Moves IsInOrder (IsBefore life l 0) (EndsIn life l how) t.out mid.out
+      → ((t : Trace) → next t → Moves IsInOrder (IsBetweenOf script (l + 1)) (RunEndsIn script result) t.out new.out)
+      → EndsLife by_lines life how mid result new next → Moves IsInOrder (IsBetweenOf script l) (RunEndsIn script result) t.out new.out
+  life_in_order l life at (Ok done) t mid new result next moves after ends =
+      moves_then IsInOrder (IsBetweenOf script l) (IsBetweenOf script (l + 1)) (RunEndsIn script result) t.out mid.out new.out
+      (moves_life script life l t.out mid.out at moves) (after (by_lines.stops mid life.pick) ends)
+  life_in_order l life at (Err (FaultOf its)) t mid new result next moves after ends =
+      subst (λ (r : Result (Unit {0}) Fault). Moves IsInOrder (IsBetweenOf script l) (RunEndsIn script r) t.out new.out) (sym ends.0)
+      (moves_in_life script life l (MayTell its) t.out new.out at (subst (λ (x : Trace). Moves IsInOrder (IsBefore life l 0) (MayTell its) t.out x.out) (sym ends.1) moves))
+  life_in_order l life at (Err Failed) t mid new result next moves after ends = absurd ends
+  life_in_order l life at (Err Cut) t mid new result next moves after ends = by_cut life.cut refl ends
+    where
+      by_cut : (o : Option cut.Cut) → life.cut ≡ o
+          → IsSomeAnd o (λ its. ((result ≡ Err NoMemory) × (new ≡ by_lines.stops mid its.pick)) ⊎ next (by_lines.says (by_lines.stops mid its.pick) (entry.Cut its.step its.call)))
+          → Moves IsInOrder (IsBetweenOf script l) (RunEndsIn script result) t.out new.out
+      by_cut None none its = absurd its
+      by_cut (Some its) is (inl wants) = subst (λ (r : Result (Unit {0}) Fault). Moves IsInOrder (IsBetweenOf script l) (RunEndsIn script r) t.out new.out) (sym wants.0)
+          (moves_in_life script life l (MayTell NoMemory) t.out new.out at (cut_untold (IsBefore life l 0) (IsAtCut life l) NoMemory t.out mid.out new.out refl (ap (λ (x : Trace). x.out) wants.1) moves))
+      by_cut (Some its) is (inr so) =
+          moves_then IsInOrder (IsBetweenOf script l) (IsBetweenOf script (l + 1)) (RunEndsIn script result) t.out (mid.out ++ entry.Cut its.step its.call ∷ []) new.out
+          (moves_life script life l t.out (mid.out ++ entry.Cut its.step its.call ∷ []) at
+          (moves_then IsInOrder (IsBefore life l 0) (IsAtCut life l) (IsBetween (l + 1)) t.out mid.out (mid.out ++ entry.Cut its.step its.call ∷ []) moves
+          (moves_cut life l its mid.out (mid.out ++ entry.Cut its.step its.call ∷ []) is refl)))
+          (after (by_lines.says (by_lines.stops mid its.pick) (entry.Cut its.step its.call)) so)
+
+  pub from_in_order : (first : Files → Type 0) (l : ℕ) (lives : List Life) (t new : Trace) (result : Result (Unit {0}) Fault) → l ≤ length script.lives → lives ≡ drop l script.lives
+      → LivesFrom by_lines script first l lives t result new → Moves IsInOrder (IsBetweenOf script l) (RunEndsIn script result) t.out new.out
+  from_in_order first l [] t new result within rest its =
+      subst (λ (r : Result (Unit {0}) Fault). Moves IsInOrder (IsBetweenOf script l) (RunEndsIn script r) t.out new.out) (sym its.0)
+      (moves_none IsInOrder (IsBetweenOf script l) (IsBetweenOf script (length script.lives)) t.out new.out (ap (λ (x : Trace). x.out) its.1) (λ s p at. subst (λ (n : ℕ). IsBetweenOf script n s p) all at))
+    where
+      all : l ≡ length script.lives
+      all = let none : 0 ≡ length script.lives - l = ap length rest ∙ length-drop l script.lives in omega (arith, within, none)
+  from_in_order first l (life ∷ lives) t new result within rest (seen, files, how, mid, reads, known, begins, so, ends) =
+      life_in_order l life at how t mid new result (λ mid. LivesFrom by_lines script AnyFiles (l + 1) lives mid result new)
+      (lives_in_order (lived script l life seen files) files t mid how so)
+      (λ t its. from_in_order AnyFiles (l + 1) lives t new result (omega (arith, below)) (subst (λ (k : ℕ). lives ≡ drop k script.lives) (sym (add-one l)) (rest_at script.lives l life lives rest)) its)
+      ends
+    where
+      below : l < length script.lives
+      below = let some : suc (length lives) ≡ length script.lives - l = ap length rest ∙ length-drop l script.lives in omega (arith, some)
+
+      at : slice_get script.lives l ≡ Some life
+      at = item_at script.lives l life lives rest
+
+  pub all_in_order : (first : Files → Type 0) (t new : Trace) (result : Result (Unit {0}) Fault) → RunsAllSo by_lines script first t result new
+      → Moves IsInOrder (IsBetweenOf script 0) (RunEndsIn script result) t.out new.out
+  all_in_order first t new result (inl wants) = subst (λ (r : Result (Unit {0}) Fault). Moves IsInOrder (IsBetweenOf script 0) (RunEndsIn script r) t.out new.out) (sym wants.0)
+      (moves_none IsInOrder (IsBetweenOf script 0) (MayTell NoMemory) t.out new.out (ap (λ (x : Trace). x.out) wants.1) (λ s p at. inl refl))
+  all_in_order first t new result (inr lives) = from_in_order first 0 script.lives t new result (omega arith) refl lives
+
+-- THE CLAUSES of order
+
+pub tells_fault : (its answered : Fault) (mid new : Trace) → TellsEnd by_lines (Err its) (Err answered) mid new → TellsFault its answered mid.out new.out
+tells_fault its answered mid new (inl wants) = inl (the_fault wants.0, ap (λ (x : Trace). x.out) wants.1)
+  where
+    the_fault : {a b : Fault} → ◌≡◌ {A = Result (Unit {0}) Fault} (Err a) (Err b) → a ≡ b
+    the_fault e = cc
+tells_fault its answered mid new (inr told) = inr (the_fault told.0, told.1, ap (λ (x : Trace). x.out) told.2)
+  where
+    the_fault : {a b : Fault} → ◌≡◌ {A = Result (Unit {0}) Fault} (Err a) (Err b) → a ≡ b
+    the_fault e = cc
+
+pub run_in_order : (script : Script) (first : Files → Type 0) (t new : Trace) (answered : Result (Unit {0}) Fault) → RunsSo by_lines script first t answered new → Adds t.out new.out (RunsInOrder script)
+run_in_order script first t new answered run = by_result run.result (all_in_order script first t run.mid run.result run.lives) run.told
+  where
+    not_ok : (its : Fault) → TellsEnd by_lines (Err its) (Ok tt) run.mid new → ⊥
+    not_ok its (inl wants) = let wrong : ◌≡◌ {A = Result (Unit {0}) Fault} (Ok tt) (Err NoMemory) = wants.0 in cc
+    not_ok its (inr told) = let wrong : ◌≡◌ {A = Result (Unit {0}) Fault} (Ok tt) (Err its) = told.0 in cc
+
+    faulted : (its : Fault) → Moves IsInOrder (IsBetweenOf script 0) (MayTell its) t.out run.mid.out → (answered : Result (Unit {0}) Fault) → TellsEnd by_lines (Err its) answered run.mid new
+        → Adds t.out new.out (RunsInOrder script)
+    faulted its moves (Ok done) told = absurd (not_ok its told)
+    faulted its moves (Err answered) told = told_in_order script its answered t.out run.mid.out new.out moves (tells_fault its answered run.mid new told)
+
+    by_result : (result : Result (Unit {0}) Fault) → Moves IsInOrder (IsBetweenOf script 0) (RunEndsIn script result) t.out run.mid.out → TellsEnd by_lines result answered run.mid new
+        → Adds t.out new.out (RunsInOrder script)
+    by_result (Ok done) moves told = runs_in_order script (IsBetweenOf script (length script.lives)) t.out new.out
+        (subst (λ (x : Trace). Moves IsInOrder (IsBetweenOf script 0) (IsBetweenOf script (length script.lives)) t.out x.out) (sym told.1) moves)
+    by_result (Err its) moves told = faulted its moves answered told
+
+pub run_all_lives : (script : Script) (first : Files → Type 0) (t new : Trace) → RunsSo by_lines script first t (Ok tt) new → Adds t.out new.out (RunsAll script)
+run_all_lives script first t new run = by_result run.result (all_in_order script first t run.mid run.result run.lives) run.told
+  where
+    by_result : (result : Result (Unit {0}) Fault) → Moves IsInOrder (IsBetweenOf script 0) (RunEndsIn script result) t.out run.mid.out → TellsEnd by_lines result (Ok tt) run.mid new
+        → Adds t.out new.out (RunsAll script)
+    by_result (Ok done) moves told = runs_all script t.out new.out
+        (subst (λ (x : Trace). Moves IsInOrder (IsBetweenOf script 0) (IsBetweenOf script (length script.lives)) t.out x.out) (sym told.1) moves)
+    by_result (Err its) moves (inl wants) = absurd (let wrong : ◌≡◌ {A = Result (Unit {0}) Fault} (Ok tt) (Err NoMemory) = wants.0 in cc)
+    by_result (Err its) moves (inr told) = absurd (let wrong : ◌≡◌ {A = Result (Unit {0}) Fault} (Ok tt) (Err its) = told.0 in cc)

@@ -1,0 +1,91 @@
+-- What the entries of a whole run are, over all that the devices may have held.
+use Rattle.std.proofs.Common.{ℕ, ◌+◌, Some, List, [], ◌∷◌, ◌++◌, ◌≡◌, ◌≢◌, ◌<◌, get_or, inl, inr, refl, sym, ap, ◌∙◌, append_assoc, length, add-one}
+use Rattle.std.specs.Prelude.{slice_get, fold}
+use Rattle.std.proofs.lemmas.Option.{slice_get-get_or}
+use Rattle.dkg_journal.specs.Names.{Files}
+use Rattle.dkg_store.specs.Secrets.{Secrets}
+use Rattle.dkg_types.specs.declared.entry.Entry.{Entry}
+use Rattle.dkg_types.specs.declared.entry.Entry.TheVariants as entry
+use Rattle.dkg_types.specs.declared.fault.Fault.{Fault}
+use Rattle.dkg_types.specs.declared.fault.Fault.TheVariants.{NoMemory}
+use Rattle.dkg_text.specs.declared.script.Event.{Event}
+use Rattle.dkg_text.specs.declared.script.Life.{Life}
+use Rattle.dkg_script.specs.Position.{event_of_step}
+use Rattle.dkg_text.specs.declared.script.Script.{Script}
+use Rattle.dkg_script.specs.Order.{InOrder, IsInOrder}
+use Rattle.dkg_script.specs.Progress.{Progress, read, at_start, progress}
+use Rattle.dkg_script.specs.Promise.{Adds, RunsInOrder, RunsAll}
+use Rattle.dkg_script.specs.Setting.{Setting, setting_of}
+use Rattle.dkg_script.proofs.EachEntry.{EachAfter, at_each}
+use Rattle.dkg_run.proofs.Standing.{Each, Moves, MayTell, IsBetween, IsBetweenOf, IsBefore}
+use Rattle.dkg_run.proofs.Places.{each_of_both, moves_none, moves_within}
+use Rattle.dkg_run.proofs.InPlace.{life_begins}
+
+-- the item that a loop is at
+pub at_item : {A : Type 0} (xs : List A) (i : ℕ) (x : A) → i < length xs → x ≡ get_or xs i x → slice_get xs i ≡ Some x
+at_item {A = A} xs i x below is = slice_get-get_or xs i x below ∙ ap (λ (y : A). Some y) (sym is)
+
+-- .. which is the event of the next step
+pub at_event : (life : Life) (i : ℕ) (event : Event) → slice_get life.events i ≡ Some event → event_of_step life (i + 1) ≡ Some event
+at_event life i event is = rw (add-one i) is
+
+-- ONE LIFE OF A SCRIPT
+
+pub moves_life : (script : Script) (life : Life) (l : ℕ) (old new : List Entry) → slice_get script.lives l ≡ Some life
+    → Moves IsInOrder (IsBefore life l 0) (IsBetween (l + 1)) old new → Moves IsInOrder (IsBetweenOf script l) (IsBetweenOf script (l + 1)) old new
+moves_life script life l old new life_is a = record {
+  added = a.added;
+  parts = a.parts;
+  each = λ s p is. a.each s p (begins s p is);
+  to = λ s p is. record { of_script = is.of_script; between = a.to s p (begins s p is) };
+  no_fault = a.no_fault;
+}
+  where
+    begins : (s : Setting) (p : Progress) → IsBetweenOf script l s p → IsBefore life l 0 s p
+    begins s p is = life_begins life l s p (ap (λ (x : Script). slice_get x.lives l) is.of_script ∙ life_is) is.between
+
+pub moves_in_life : (script : Script) (life : Life) (l : ℕ) (Q : Setting → Progress → Type 0) (old new : List Entry) → slice_get script.lives l ≡ Some life
+    → Moves IsInOrder (IsBefore life l 0) Q old new → Moves IsInOrder (IsBetweenOf script l) Q old new
+moves_in_life script life l Q old new life_is a = moves_within IsInOrder (IsBefore life l 0) (IsBetweenOf script l) Q Q old new
+    (λ s p is. life_begins life l s p (ap (λ (x : Script). slice_get x.lives l) is.of_script ∙ life_is) is.between) (λ s p is. is) a
+
+-- memory ran out before the first life
+pub untouched : (script : Script) (out : List Entry) → Moves IsInOrder (IsBetweenOf script 0) (MayTell NoMemory) out out
+untouched script out = moves_none IsInOrder (IsBetweenOf script 0) (MayTell NoMemory) out out refl (λ s p is. inl refl)
+
+-- THE WHOLE RUN
+
+pub each_after : (s : Setting) (E : Progress → Entry → Type 0) (added : List Entry) (p : Progress) → Each s E p added → EachAfter s E p added
+each_after s E [] p each = tt
+each_after s E (one ∷ added) p each = (each.0, each_after s E added (read s p one) each.1)
+
+from_start : (s : Setting) (added : List Entry) → Each s (IsInOrder s) (at_start s) added → InOrder s added
+unfolding InOrder
+from_start s added each = at_each s (IsInOrder s) added (each_after s (IsInOrder s) added (at_start s) each)
+
+pub starts : (script : Script) (files : Files) (secrets : Secrets) → IsBetweenOf script 0 (setting_of script files secrets) (at_start (setting_of script files secrets))
+starts script files secrets = record { of_script = refl; between = record { lives = refl; step = refl; nothing = refl } }
+
+pub runs_in_order : (script : Script) (Q : Setting → Progress → Type 0) (old new : List Entry) → Moves IsInOrder (IsBetweenOf script 0) Q old new → Adds old new (RunsInOrder script)
+runs_in_order script Q old new a =
+    (a.added, a.parts, λ files secrets. let s = setting_of script files secrets in from_start s a.added (a.each s (at_start s) (starts script files secrets)))
+
+may_tell : (fault : Fault) (s : Setting) (p : Progress) → fault ≢ NoMemory → MayTell fault s p → IsInOrder s p (entry.Fault fault)
+may_tell fault s p not (inl is) = absurd (not is)
+may_tell fault s p not (inr may) = may
+
+pub faulted_in_order : (script : Script) (fault : Fault) (old mid new : List Entry) → fault ≢ NoMemory → Moves IsInOrder (IsBetweenOf script 0) (MayTell fault) old mid
+    → new ≡ mid ++ entry.Fault fault ∷ [] → Adds old new (RunsInOrder script)
+faulted_in_order script fault old mid new not a is = (
+  a.added ++ entry.Fault fault ∷ [],
+  is ∙ ap (λ xs. xs ++ entry.Fault fault ∷ []) a.parts ∙ append_assoc old a.added (entry.Fault fault ∷ []),
+  λ files secrets. let s = setting_of script files secrets in from_start s (a.added ++ entry.Fault fault ∷ [])
+      (each_of_both s (IsInOrder s) a.added (entry.Fault fault ∷ []) (at_start s) (a.each s (at_start s) (starts script files secrets))
+      (may_tell fault s (fold (read s) (at_start s) a.added) not (a.to s (at_start s) (starts script files secrets)), tt)),
+)
+
+pub runs_all : (script : Script) (old new : List Entry) → Moves IsInOrder (IsBetweenOf script 0) (IsBetweenOf script (length script.lives)) old new
+    → Adds old new (RunsAll script)
+unfolding progress
+runs_all script old new a =
+    (a.added, a.parts, λ files secrets. let s = setting_of script files secrets in (a.to s (at_start s) (starts script files secrets)).between.lives)

@@ -1,0 +1,574 @@
+-- Why a node refuses a block of a consistent script: it skips the height that is awaited, and nothing else.
+use Rattle.std.proofs.Common.{◌≡◌, ◌⊎◌, inl, inr, ℕ, zero, suc, ◌+◌, ◌-◌, ◌<◌, ◌≤◌, ◌==◌, ◌&&◌, ◌++◌, ◌∷◌, [], Bool, true, false, not, List, Option, Some, None, Result, Ok, Err, arith, refl, sym, ◌∙◌, ap, subst, add-one, drop, take, filter_map}
+use Rattle.std.specs.Prelude.{fold, max, nat_le, nat_lt, option_map, slice_get, IfErr, IfSome, IsSomeAnd, if◌then◌else◌}
+use Rattle.std.specs.List.{AllByRecursion}
+use Rattle.std.specs.Option.{option_map_or}
+use Rattle.std.specs.Str.{bytes_eq}
+use Rattle.std.proofs.lemmas.Bool.Decides.{nat_tests}
+use Rattle.std.proofs.lemmas.List.Elements.{filter_map-append}
+use Rattle.std.proofs.lemmas.List.Sums.{fold-append}
+use Rattle.std.proofs.lemmas.Slice.Eq.{bytes_eq-Decides}
+use Rattle.dkg_journal.specs.Burn.{Burn}
+use Rattle.dkg_journal.specs.Names.{Files}
+use Rattle.dkg_values.specs.Codec.{IsBytes}
+use Rattle.dkg_types.specs.Blocks as made
+use Rattle.dkg_types.specs.declared.directory.Unit as directory
+use Rattle.dkg_types.specs.declared.entry.Entry.{Entry}
+use Rattle.dkg_types.specs.declared.entry.Entry.TheVariants as entry
+use Rattle.dkg_types.specs.declared.fault.Fault.{Fault}
+use Rattle.dkg_types.specs.declared.fault.Fault.TheVariants as fault
+use Rattle.dkg_types.specs.declared.fault.Fault.TheVariants.{ConflictingBlock, DetachedBlock, SkippedHeight}
+use Rattle.dkg_text.specs.declared.script.Anchor.{Anchor}
+use Rattle.dkg_text.specs.declared.script.Anchor.TheVariants.{Processed, Absent}
+use Rattle.dkg_text.specs.declared.script.BlockLine.{BlockLine}
+use Rattle.dkg_text.specs.declared.script.Cut.{Cut}
+use Rattle.dkg_text.specs.declared.script.Event.{Event}
+use Rattle.dkg_text.specs.declared.script.Event.TheVariants as event
+use Rattle.dkg_text.specs.declared.script.Life.{Life}
+use Rattle.dkg_text.specs.declared.script.Script.{Script}
+use Rattle.dkg_script.specs.Blocks.{Block, block_at, block_of, blocks, chain, chain_below, delivered_number, events_come_to}
+use Rattle.dkg_script.specs.Form.{IsAnchorOfToday, IsEventOfToday, midpoint_of}
+use Rattle.dkg_script.specs.Position.{awaited_height, delivered, height_after_anchor, start_height}
+use Rattle.dkg_script.specs.Promise.{IsBuilt, IsHonestRun}
+use Rattle.dkg_script.specs.Setting.{Setting, life_at, setting_of}
+use Rattle.dkg_script.specs.Valid.{IsReached}
+use Rattle.dkg_script.proofs.LineBlocks.{of_line}
+use Rattle.dkg_script.proofs.Today.{plain_of, start_is}
+use Rattle.dkg_store.specs.Acts.{Ended, Held, broken, stopped, went}
+use Rattle.dkg_store.specs.Secrets.{Secrets}
+use Rattle.dkg_core.specs.Courses.{Course, on_devices}
+use Rattle.dkg_core.specs.Fixed.{Fixed}
+use Rattle.dkg_core.specs.Live.{Faulted, Finalized, Live, Message, NodeStop, Orchestrator, Peer, Sent}
+use Rattle.dkg_core.specs.Node.{node_opening}
+use Rattle.dkg_core.specs.NodeToday.{IsNodeOpened}
+use Rattle.dkg_core.specs.Said.{Said}
+use Rattle.dkg_core.specs.Seen.{Seen}
+use Rattle.dkg_core.specs.Setup.{is_past_range}
+use Rattle.dkg_core.specs.Sources.{Tip, position, position_of, startup}
+use Rattle.dkg_core.specs.Today.{CameTo, IsLiveToday, IsNextToday, IsOpeningFault, refusal_of, refusal_over, tip_behind}
+use Rattle.dkg_core.proofs.NodeToday.{node_openings_come_to, node_steps_come_to}
+use Rattle.dkg_reshare.specs.declared.stop.Stop.{Stop}
+use Rattle.dkg_reshare.specs.declared.stop.Stop.TheVariants.{Cut as AtCut, Fault as FaultOf}
+use Rattle.dkg_run.specs.Given.{IsLifeHere, Lived, anchor_at, anchor_in, at_step, blocks_in, lived, step_of}
+use Rattle.dkg_run.specs.Lives.{LivesSo, RunsAllSo, RunsSo, Steps, TakesAll, TellsEnd, fuse_for}
+use Rattle.dkg_run.specs.Refusals.{BlamesOnlySkips, IsRefusal, SkipsIn, SkipsSomewhere}
+use Rattle.dkg_run.specs.Ways.{Trace, by_lines}
+use Rattle.dkg_run.proofs.BlockLines.{IsOf, each_is}
+use Rattle.dkg_run.proofs.Faulted.{all_tell, step_tells}
+use Rattle.dkg_run.proofs.Faults.{IsOutside}
+use Rattle.dkg_run.proofs.Laws.{opened_live, opened_tip, opened_unawaited}
+use Rattle.dkg_run.proofs.Living.{holds_at}
+use Rattle.dkg_run.proofs.Ordered.{item_at, lit_begins, rest_at}
+use Rattle.dkg_run.proofs.Resting.{IsTodays, finds_none, life_today}
+use Rattle.dkg_run.proofs.Standing.{IsCutBefore}
+use Rattle.dkg_run.proofs.Today.{Brings, IsMessage, alike_at, form_at, lacks_nobody, life_form, made_at, message_of}
+use Rattle.dkg_run.proofs.Used.{in_chain, of_anchor, of_delivered}
+
+not_there : {A : Type 0} (x : A) → ◌≡◌ {A = Option A} None (Some x) → ⊥
+not_there x e = cc
+
+some_is : {A : Type 0} (x y : A) → ◌≡◌ {A = Option A} (Some x) (Some y) → x ≡ y
+some_is x y e = cc
+
+-- A TIP on the chain, and the height that is awaited behind it
+
+abbrev awaited : Option Tip → ℕ
+awaited None = 0
+awaited (Some tip) = tip.height + 1
+
+record IsOnChain (s : Setting) (tip : Tip) : Type 0 where
+  here : IfSome (chain s tip.height) (λ b. b.digest ≡ tip.digest)
+  above : IfSome (chain s (suc tip.height)) (λ b. b.parent ≡ tip.digest)
+
+abbrev at_block : Block → Tip
+at_block b = record { height = b.height; digest = b.digest }
+
+-- A BLOCK OF THE CHAIN is refused by a tip of it only for its height
+
+same_digest : (one other : List ℕ) → one ≡ other → not (bytes_eq one other) ≡ false
+same_digest one other same = let equal : bytes_eq one other ≡ true = (bytes_eq-Decides one other).1 same in rw equal refl
+
+both_tests : (a b : Bool) → (a && b) ≡ true → b ≡ false → ⊥
+both_tests true b both not_b = let h : true ≡ false = sym both ∙ not_b in cc
+both_tests false b both not_b = let h : ◌≡◌ {A = Bool} false true = both in cc
+
+first_test : (a b : Bool) → (a && b) ≡ true → a ≡ true
+first_test true b both = refl
+first_test false b both = both
+
+same_number : (a b : ℕ) → (a == b) ≡ true → a ≡ b
+same_number a b test = grind (arith, nat_tests)
+
+-- the tests, over what a block is judged by
+abbrev detached_or : ℕ → List ℕ → Tip → Option Fault
+detached_or h parent tip = if (h == tip.height + 1) && not (bytes_eq parent tip.digest) then Some (DetachedBlock h) else None
+
+abbrev skipped_or : ℕ → List ℕ → Tip → Option Fault
+skipped_or h parent tip = if nat_lt (tip.height + 1) h then Some (SkippedHeight (tip.height + 1) h) else detached_or h parent tip
+
+abbrev judged : ℕ → (digest parent : List ℕ) → Tip → Option Fault
+judged h digest parent tip = if (h == tip.height) && not (bytes_eq digest tip.digest) then Some (ConflictingBlock h) else skipped_or h parent tip
+
+module _ (s : Setting) (tip : Tip) (b : Block) (on_chain : IsOnChain s tip) (there : chain s b.height ≡ Some b) (own : Fault) where
+  abbrev Skips : Type 0
+  Skips = (own ≡ SkippedHeight (tip.height + 1) b.height) × (tip.height + 1 < b.height)
+
+  no_conflict : ((b.height == tip.height) && not (bytes_eq b.digest tip.digest)) ≡ true → ⊥
+  no_conflict test =
+      let at : b.height ≡ tip.height = same_number b.height tip.height (first_test (b.height == tip.height) (not (bytes_eq b.digest tip.digest)) test) in
+      let its : chain s tip.height ≡ Some b = subst (λ (n : ℕ). chain s n ≡ Some b) at there in
+      let same : b.digest ≡ tip.digest = subst (λ (o : Option Block). IfSome o (λ c. c.digest ≡ tip.digest)) its on_chain.here in
+      both_tests (b.height == tip.height) (not (bytes_eq b.digest tip.digest)) test (same_digest b.digest tip.digest same)
+
+  no_detached : ((b.height == tip.height + 1) && not (bytes_eq b.parent tip.digest)) ≡ true → ⊥
+  no_detached test =
+      let at : b.height ≡ tip.height + 1 = same_number b.height (tip.height + 1) (first_test (b.height == tip.height + 1) (not (bytes_eq b.parent tip.digest)) test) in
+      let its : chain s (suc tip.height) ≡ Some b = subst (λ (n : ℕ). chain s n ≡ Some b) (at ∙ next tip.height) there in
+      let same : b.parent ≡ tip.digest = subst (λ (o : Option Block). IfSome o (λ c. c.parent ≡ tip.digest)) its on_chain.above in
+      both_tests (b.height == tip.height + 1) (not (bytes_eq b.parent tip.digest)) test (same_digest b.parent tip.digest same)
+    where
+      next : (n : ℕ) → n + 1 ≡ suc n
+      next n = omega arith
+
+  by_detached : (t : Bool) → ((b.height == tip.height + 1) && not (bytes_eq b.parent tip.digest)) ≡ t → ◌≡◌ {A = Option Fault} (if t then Some (DetachedBlock b.height) else None) (Some own) → Skips
+  by_detached true test is = absurd (no_detached test)
+  by_detached false test is = absurd (not_there own is)
+
+  by_skipped : (t : Bool) → nat_lt (tip.height + 1) b.height ≡ t
+      → ◌≡◌ {A = Option Fault} (if t then Some (SkippedHeight (tip.height + 1) b.height) else detached_or b.height b.parent tip) (Some own) → Skips
+  by_skipped true test is = (sym (some_is (SkippedHeight (tip.height + 1) b.height) own is), grind (arith, nat_tests))
+  by_skipped false test is = by_detached ((b.height == tip.height + 1) && not (bytes_eq b.parent tip.digest)) refl is
+
+  by_conflict : (t : Bool) → ((b.height == tip.height) && not (bytes_eq b.digest tip.digest)) ≡ t
+      → ◌≡◌ {A = Option Fault} (if t then Some (ConflictingBlock b.height) else skipped_or b.height b.parent tip) (Some own) → Skips
+  by_conflict true test is = absurd (no_conflict test)
+  by_conflict false test is = by_skipped (nat_lt (tip.height + 1) b.height) refl is
+
+  judged_skips : judged b.height b.digest b.parent tip ≡ Some own → Skips
+  judged_skips is = by_conflict ((b.height == tip.height) && not (bytes_eq b.digest tip.digest)) refl is
+
+-- The law: of the tests of a block of the chain, that of its height alone can fail.
+only_skips : (s : Setting) (c : Fixed directory.Unit) (st : Live directory.Unit) (its : made.Block directory.Unit) (b : Block) (own : Fault) → IsOf b its → IfSome st.tip (IsOnChain s) → chain s b.height ≡ Some b → IsRefusal own
+    → refusal_of c (Finalized its) st ≡ Some own → (own ≡ SkippedHeight (awaited st.tip) b.height) × (awaited st.tip < b.height)
+only_skips s c st its b own same on_chain there refusal is = by_range (is_past_range c its.height) is
+  where
+    over_tip : (tip : Option Tip) → IfSome tip (IsOnChain s) → refusal_over c its st tip ≡ Some own → (own ≡ SkippedHeight (awaited tip) b.height) × (awaited tip < b.height)
+    over_tip None on is = by_window _ is
+      where
+        by_window : (t : Bool) → ◌≡◌ {A = Option Fault} (if t then None else Some (fault.OutOfWindow its.height)) (Some own) → (own ≡ SkippedHeight 0 b.height) × (0 < b.height)
+        by_window true e = absurd (not_there own e)
+        by_window false e = absurd (subst IsRefusal (sym (some_is (fault.OutOfWindow its.height) own e)) refusal)
+    over_tip (Some tip) on is = judged_skips s tip b on there own
+        (subst (λ (h : ℕ). judged h b.digest b.parent tip ≡ Some own) same.height (subst (λ (d : List ℕ). judged its.height d b.parent tip ≡ Some own) same.digest (subst (λ (p : List ℕ). judged its.height its.digest p tip ≡ Some own) same.parent is)))
+
+    by_range : (t : Bool) → ◌≡◌ {A = Option Fault} (if t then Some fault.HeightRange else refusal_over c its st st.tip) (Some own) → (own ≡ SkippedHeight (awaited st.tip) b.height) × (awaited st.tip < b.height)
+    by_range true e = absurd (subst IsRefusal (sym (some_is fault.HeightRange own e)) refusal)
+    by_range false e = over_tip st.tip on_chain e
+
+-- THE EVENTS THAT THE LIFE COMES TO
+
+one_more : {A : Type 0} (xs : List A) (i : ℕ) (x : A) → slice_get xs i ≡ Some x → take (suc i) xs ≡ take i xs ++ x ∷ []
+one_more [] i x is = absurd (not_there x is)
+one_more {A} (y ∷ xs) zero x is = ap (λ (z : A). z ∷ []) (some_is y x is)
+one_more {A} (y ∷ xs) (suc i) x is = ap (λ (zs : List A). y ∷ zs) (one_more xs i x is)
+
+still_there : {A : Type 0} (xs : List A) (n i : ℕ) → i < n → slice_get (take n xs) i ≡ slice_get xs i
+still_there [] zero i below = absurd (omega arith)
+still_there [] (suc n) i below = refl
+still_there (x ∷ xs) zero i below = absurd (omega arith)
+still_there (x ∷ xs) (suc n) zero below = refl
+still_there (x ∷ xs) (suc n) (suc i) below = still_there xs n i (omega arith)
+
+-- the life isn't cut before a step that comes after this many steps
+abbrev IsBefore : Option Cut → ℕ → Type 0
+IsBefore its n = IfSome its (λ cut. cut.call ≡ 0 → n ≤ cut.step)
+
+reached_by : (its : Option Cut) (j : ℕ) → IsBefore its j → (IsCutBefore its j → ⊥) → IsReached its j
+reached_by None j before lit = tt
+reached_by (Some cut) j before lit = λ none. by_step (before none) (λ same. lit (same, none))
+  where
+    by_step : j ≤ cut.step → (cut.step ≡ j → ⊥) → j < cut.step
+    by_step low apart = omega arith
+
+reached_next : (its : Option Cut) (j : ℕ) → IsReached its j → IsBefore its (j + 1)
+reached_next None j reached = tt
+reached_next (Some cut) j reached = λ none. let low : j < cut.step = reached none in omega arith
+
+comes_to : (its : Option Cut) (events : List Event) (i : ℕ) → IsReached its (suc i) → slice_get (events_come_to its events) i ≡ slice_get events i
+comes_to None events i reached = refl
+comes_to (Some cut) events i reached = by_call (cut.call == 0) refl
+  where
+    is_zero : (n : ℕ) → (n == 0) ≡ true → n ≡ 0
+    is_zero n e = grind (arith, nat_tests)
+
+    by_call : (t : Bool) → (cut.call == 0) ≡ t → slice_get (if t then take (cut.step - 1) events else events) i ≡ slice_get events i
+    by_call false test = refl
+    by_call true test =
+        let below : suc i < cut.step = reached (is_zero cut.call test) in
+        still_there events (cut.step - 1) i (omega arith)
+
+module _ (s : Setting) (l : ℕ) (life : Life) (i : ℕ) (one : Event) (event_is : slice_get life.events i ≡ Some one) (reached : IsReached life.cut (suc i)) where
+  abbrev coming : List Event
+  coming = events_come_to life.cut life.events
+
+  delivered_more : delivered s life (suc i) ≡ delivered s life i ++ filter_map (block_at s) (filter_map delivered_number (one ∷ []))
+  delivered_more =
+      ap (λ (es : List Event). filter_map (block_at s) (filter_map delivered_number es)) (one_more coming i one (comes_to life.cut life.events i reached ∙ event_is))
+      ∙ ap (λ (ns : List ℕ). filter_map (block_at s) ns) (filter_map-append delivered_number (take i coming) (one ∷ []))
+      ∙ filter_map-append (block_at s) (filter_map delivered_number (take i coming)) (filter_map delivered_number (one ∷ []))
+
+  height_more : awaited_height s l life (suc i) ≡ fold (λ height b. max height (suc b.height)) (awaited_height s l life i) (filter_map (block_at s) (filter_map delivered_number (one ∷ [])))
+  unfolding awaited_height
+  height_more = ap (λ (bs : List Block). fold (λ height b. max height (suc b.height)) (start_height s l life) bs) delivered_more
+      ∙ fold-append (λ height b. max height (suc b.height)) (start_height s l life) (delivered s life i) (filter_map (block_at s) (filter_map delivered_number (one ∷ [])))
+
+-- what is awaited behind a message, and behind a block
+message_behind : (s : Setting) (l : ℕ) (life : Life) (i from : ℕ) (bytes : List ℕ) → slice_get life.events i ≡ Some (event.Peer from bytes) → IsReached life.cut (suc i) → awaited_height s l life (suc i) ≡ awaited_height s l life i
+message_behind s l life i from bytes is reached = height_more s l life i (event.Peer from bytes) is reached
+
+block_behind : (s : Setting) (l : ℕ) (life : Life) (i number : ℕ) (b : Block) → slice_get life.events i ≡ Some (event.Final number) → IsReached life.cut (suc i) → block_at s number ≡ Some b
+    → awaited_height s l life (suc i) ≡ max (awaited_height s l life i) (b.height + 1)
+block_behind s l life i number b is reached there = height_more s l life i (event.Final number) is reached ∙ (rw there (rest (awaited_height s l life i) b.height))
+  where
+    rest : (h k : ℕ) → max h (suc k) ≡ max h (k + 1)
+    rest h k = omega arith
+
+-- the tip behind a block that was taken
+tip_awaits : (tip : Option Tip) (its : made.Block directory.Unit) (b : Block) → IsOf b its → awaited (tip_behind (Finalized its) tip) ≡ max (awaited tip) (b.height + 1)
+tip_awaits None its b same = (rw same.height (omega arith))
+tip_awaits (Some tip) its b same = by_order (nat_le its.height tip.height) refl
+  where
+    low : (h k m : ℕ) → h ≡ m → nat_le h k ≡ true → k + 1 ≡ max (k + 1) (m + 1)
+    low h k m same test = let less : h ≤ k = grind (arith, nat_tests) in omega arith
+
+    high : (h k m : ℕ) → h ≡ m → nat_le h k ≡ false → h + 1 ≡ max (k + 1) (m + 1)
+    high h k m same test = let more : k < h = grind (arith, nat_tests) in omega arith
+
+    by_order : (t : Bool) → nat_le its.height tip.height ≡ t → awaited (if t then Some tip else Some (record { height = its.height; digest = its.digest })) ≡ max (tip.height + 1) (b.height + 1)
+    by_order true test = low its.height tip.height b.height same.height test
+    by_order false test = high its.height tip.height b.height same.height test
+
+tip_is : (tip : Option Tip) (its : made.Block directory.Unit) (b : Block) (P : Option Tip → Type 0) → IsOf b its → P tip → P (Some (at_block b)) → P (tip_behind (Finalized its) tip)
+tip_is tip its b P same old new = by_order (option_map_or (λ t. nat_le its.height t.height) tip false)
+  where
+    by_order : (t : Bool) → P (if t then tip else Some (record { height = its.height; digest = its.digest }))
+    by_order true = old
+    by_order false = rw (same.height, same.digest) new
+
+-- ON THE CHAIN
+
+abbrev Links : Setting → Block → Type 0
+Links s b = IfSome (chain_below s b.height) (λ below. b.parent ≡ below.digest)
+
+module _ (s : Setting) (today : IsTodays s) where
+  -- a tip at a block that is used
+  chained_at : (b : Block) → chain s b.height ≡ Some b → IsOnChain s (at_block b)
+  chained_at b there = record { here = rw there refl; above = by_above (chain s (suc b.height)) refl }
+    where
+      by_above : (o : Option Block) → chain s (suc b.height) ≡ o → IfSome o (λ c. c.parent ≡ b.digest)
+      by_above None is = tt
+      by_above (Some c) is =
+          let links : Links s c × (c.height ≡ suc b.height) = in_chain s (Links s) (suc b.height) c today.consistent.linked is in
+          let below : IfSome (chain s b.height) (λ below. c.parent ≡ below.digest) = rw links.1 at links.0 in
+          rw there at below
+
+  -- .. and one below it
+  chained_below : (b : Block) (k : ℕ) → b.height ≡ suc k → chain s b.height ≡ Some b → Links s b → IsOnChain s (record { height = k; digest = b.parent })
+  chained_below b k height there links = record {
+    here = by_below (chain s k) (rw height at links);
+    above = let above : chain s (suc k) ≡ Some b = subst (λ (n : ℕ). chain s n ≡ Some b) height there in rw above refl;
+  }
+    where
+      by_below : (o : Option Block) → IfSome o (λ below. b.parent ≡ below.digest) → IfSome o (λ below. below.digest ≡ b.parent)
+      by_below None links = tt
+      by_below (Some below) links = sym links
+
+module _ (s : Setting) (today : IsTodays s) (bytes : AllByRecursion (λ line. IfSome line.payload IsBytes) s.script.blocks) where
+  -- the block of a line, as the node holds it
+  record HasBlock (number : ℕ) (line : BlockLine) : Type 0 where
+    its : made.Block directory.Unit
+    is : slice_get (blocks_in s.script) number ≡ Some its
+    there : block_at s number ≡ Some (block_of s (take number (blocks s)) line)
+    same : IsOf (block_of s (take number (blocks s)) line) its
+
+  has_block : (number : ℕ) (line : BlockLine) → slice_get s.script.blocks number ≡ Some line → HasBlock number line
+  has_block number line line_is =
+      let found = made_at s.script number (λ height. Unit {0}) (subst (λ (o : Option BlockLine). IsSomeAnd o (λ l. Unit {0})) (sym line_is) tt) in
+      let there : block_at s number ≡ Some (block_of s (take number (blocks s)) line) = of_line s number line line_is in
+      let known : IsSomeAnd (block_at s number) (λ b. IsOf b found.block) = subst (λ (o : Option (made.Block directory.Unit)). IfSome o (λ its. IsSomeAnd (block_at s number) (λ b. IsOf b its))) found.is
+      (each_is s today.built.form.blocks bytes number) in
+      record { its = found.block; is = found.is; there = there; same = subst (λ (o : Option Block). IsSomeAnd o (λ b. IsOf b found.block)) there known }
+
+  -- AN OPENING stands at its anchor
+  abbrev Starts : Option Anchor → Option Tip → Type 0
+  Starts at tip = (awaited tip ≡ height_after_anchor s at) × IfSome tip (IsOnChain s)
+
+  abbrev position_at : Anchor → Option (made.Block directory.Unit) → Option Tip
+  position_at at o = option_map (λ a. position_of a.processed a.block) (option_map (anchor_at at) o)
+
+  module _ (l : ℕ) (life : Life) (life_is : life_at s l ≡ Some life) where
+    starts_processed : (number : ℕ) (line : BlockLine) (tip : Option Tip) → life.anchor ≡ Some (Processed number) → slice_get s.script.blocks number ≡ Some line
+        → tip ≡ position (anchor_in (blocks_in s.script) (Some (Processed number))) → Starts (Some (Processed number)) tip
+    starts_processed number line tip anchor_is line_is is =
+        let b : Block = block_of s (take number (blocks s)) line in
+        let has = has_block number line line_is in
+        let at : tip ≡ Some (at_block b) = is ∙ ap (position_at (Processed number)) has.is ∙ (rw ((has.same).height, (has.same).digest) refl) in
+        let used : chain s b.height ≡ Some b = subst (λ (o : Option Block). IfSome o (λ c. chain s c.height ≡ Some c)) has.there (of_anchor s l life (λ c. chain s c.height ≡ Some c) life_is today.consistent.one_chain (Processed number) anchor_is) in
+        (ap awaited at ∙ (rw has.there (omega arith)), subst (λ (o : Option Tip). IfSome o (IsOnChain s)) (sym at) (chained_at s today b used))
+
+    starts_absent : (number : ℕ) (line : BlockLine) (tip : Option Tip) → life.anchor ≡ Some (Absent number) → slice_get s.script.blocks number ≡ Some line → 0 < line.height
+        → tip ≡ position (anchor_in (blocks_in s.script) (Some (Absent number))) → Starts (Some (Absent number)) tip
+    starts_absent number line tip anchor_is line_is above is =
+        let b : Block = block_of s (take number (blocks s)) line in
+        let has = has_block number line line_is in
+        let at : tip ≡ Some (record { height = b.height - 1; digest = b.parent }) = is ∙ ap (position_at (Absent number)) has.is ∙ (rw ((has.same).height, (has.same).parent) refl) in
+        let used : chain s b.height ≡ Some b = subst (λ (o : Option Block). IfSome o (λ c. chain s c.height ≡ Some c)) has.there (of_anchor s l life (λ c. chain s c.height ≡ Some c) life_is today.consistent.one_chain (Absent number) anchor_is) in
+        let links : Links s b = subst (λ (o : Option Block). IfSome o (Links s)) has.there (of_anchor s l life (Links s) life_is today.consistent.linked (Absent number) anchor_is) in
+        by_height b (b.height) refl above at used links has.there
+      where
+        by_height : (b : Block) (k : ℕ) → b.height ≡ k → 0 < k → tip ≡ Some (record { height = b.height - 1; digest = b.parent }) → chain s b.height ≡ Some b → Links s b → block_at s number ≡ Some b → Starts (Some (Absent number)) tip
+        by_height b zero height some at used links there = absurd (omega arith)
+        by_height b (suc k) height some at used links there =
+            let same : b.height - 1 ≡ k = omega arith in
+            let here : tip ≡ Some (record { height = k; digest = b.parent }) = at ∙ ap (λ (n : ℕ). Some (record { height = n; digest = b.parent })) same in
+            (ap awaited here ∙ (rw there (omega arith)), subst (λ (o : Option Tip). IfSome o (IsOnChain s)) (sym here) (chained_below s today b k height used links))
+
+    starts : (at : Option Anchor) (tip : Option Tip) → life.anchor ≡ at → IfSome at (IsAnchorOfToday (midpoint_of s.script) s.script.blocks) → tip ≡ position (anchor_in (blocks_in s.script) at) → Starts at tip
+    starts None tip anchor_is form is = rw is (refl, tt)
+    starts (Some (Processed number)) tip anchor_is form is = by_line (slice_get s.script.blocks number) refl form
+      where
+        by_line : (o : Option BlockLine) → slice_get s.script.blocks number ≡ o → IsSomeAnd o (λ line. line.height + 1 < midpoint_of s.script) → Starts (Some (Processed number)) tip
+        by_line None line_is early = absurd early
+        by_line (Some line) line_is early = starts_processed number line tip anchor_is line_is is
+    starts (Some (Absent number)) tip anchor_is form is = by_line (slice_get s.script.blocks number) refl form
+      where
+        by_line : (o : Option BlockLine) → slice_get s.script.blocks number ≡ o → IsSomeAnd o (λ line. (0 < line.height) × (line.height < midpoint_of s.script)) → Starts (Some (Absent number)) tip
+        by_line None line_is early = absurd early
+        by_line (Some line) line_is early = starts_absent number line tip anchor_is line_is early.0 is
+
+    nothing_delivered : awaited_height s l life 0 ≡ start_height s l life
+    unfolding awaited_height
+    nothing_delivered = by_events (events_come_to life.cut life.events)
+      where
+        by_events : (events : List Event) → fold (λ height b. max height (suc b.height)) (start_height s l life) (filter_map (block_at s) (filter_map delivered_number (take 0 events))) ≡ start_height s l life
+        by_events [] = refl
+        by_events (one ∷ rest) = refl
+
+    -- A LIFE
+    module _ (seen : Held → Seen) (files : Files) (here : IsLifeHere (lived s.script l life seen files)) where
+      abbrev g : Lived
+      g = lived s.script l life seen files
+
+      -- where it stands behind so many steps
+      record Stands (n : ℕ) (st : Live directory.Unit) : Type 0 where
+        live : IsLiveToday (at_step g n) st
+        unawaited : st.orchestrator.waiting ≡ None
+        height : awaited st.tip ≡ awaited_height s l life n
+        chained : IfSome st.tip (IsOnChain s)
+
+      abbrev Blames : Fault → Type 0
+      Blames own = IsRefusal own → SkipsIn s l life own
+
+      outside_blames : (own : Fault) → IsOutside own → Blames own
+      outside_blames fault.NoMemory out refusal = absurd refusal
+      outside_blames fault.Disk out refusal = absurd refusal
+      outside_blames fault.Secrets out refusal = absurd refusal
+      outside_blames (fault.Corrupt name place) out refusal = absurd refusal
+      outside_blames own out refusal = absurd out
+
+      opening_blames : (c : Fixed directory.Unit) (read : Seen) (own : Fault) → IsOpeningFault c read own → Blames own
+      opening_blames c read (ConflictingBlock height) why refusal = absurd why
+      opening_blames c read (DetachedBlock height) why refusal = absurd why
+      opening_blames c read (SkippedHeight height got) why refusal = absurd why
+      opening_blames c read own why refusal = absurd refusal
+
+      opened_stands : (h : Held) (st : Live directory.Unit) → IsNodeOpened (at_step g 0) ((at_step g 0).seen h) st → Stands 0 st
+      unfolding at_step
+      opened_stands h st opened =
+          let its = life_today s l life today life_is in
+          let at = starts life.anchor st.tip refl its.anchor (opened_tip (at_step g 0) ((at_step g 0).seen h) st opened) in
+          record {
+            live = opened_live (at_step g 0) ((at_step g 0).seen h) st opened;
+            unawaited = opened_unawaited (at_step g 0) ((at_step g 0).seen h) st opened;
+            height = at.0 ∙ sym (nothing_delivered ∙ start_is s l life its.no_sync (finds_none s l today));
+            chained = at.1;
+          }
+
+      abbrev Came : (Live directory.Unit → Type 0) → Ended NodeStop (Live directory.Unit) → Type 0
+      Came Next ended = CameTo (λ (stop : NodeStop). (own : Fault) × (stop ≡ Faulted own) × Blames own) Next ended
+
+      opening_comes : (ended : Ended NodeStop (Live directory.Unit)) (old new : List Entry) → Said (on_devices (node_opening (at_step g 0))) ended old new → Came (Stands 0) ended
+      opening_comes ended old new said = by_end ended (node_openings_come_to (at_step g 0) ended old new (form_at g here 0) (lacks_nobody g here 0) said)
+        where
+          by_end : (ended : Ended NodeStop (Live directory.Unit))
+              → CameTo (λ stop. (own : Fault) × (stop ≡ Faulted own) × ((h : Held) × IsOpeningFault (at_step g 0) ((at_step g 0).seen h) own)) (λ st. (h : Held) × IsNodeOpened (at_step g 0) ((at_step g 0).seen h) st) ended
+              → Came (Stands 0) ended
+          by_end (went end) (h, opened) = opened_stands h end opened
+          by_end (stopped stop) (own, is, why) = (own, is, opening_blames (at_step g 0) ((at_step g 0).seen why.0) own why.1)
+          by_end (broken cause) came = tt
+
+      -- A STEP
+      module _ (i : ℕ) (one : Event) (one_is : slice_get life.events i ≡ Some one) (reached : IsReached life.cut (suc i)) (st : Live directory.Unit) (stands : Stands i st) where
+        abbrev m : IsMessage g (i + 1) one st
+        m = message_of g (i + 1) one st (holds_at (IsEventOfToday (midpoint_of s.script) s.script.blocks) life.events i one (life_form g here).events one_is)
+
+        -- a block of a line
+        record Delivers (number : ℕ) (its : made.Block directory.Unit) : Type 0 where
+          b : Block
+          there : block_at s number ≡ Some b
+          same : IsOf b its
+          used : chain s b.height ≡ Some b
+
+        delivers : (number : ℕ) (its : made.Block directory.Unit) → one ≡ event.Final number → slice_get (blocks_in s.script) number ≡ Some its → Delivers number its
+        delivers number its event_is is = by_block (block_at s number) refl known
+          where
+            known : IsSomeAnd (block_at s number) (λ b. IsOf b its)
+            known = subst (λ (o : Option (made.Block directory.Unit)). IfSome o (λ k. IsSomeAnd (block_at s number) (λ b. IsOf b k))) is (each_is s today.built.form.blocks bytes number)
+
+            at : slice_get (events_come_to life.cut life.events) i ≡ Some (event.Final number)
+            at = comes_to life.cut life.events i reached ∙ one_is ∙ ap (λ (e : Event). Some e) event_is
+
+            by_block : (o : Option Block) → block_at s number ≡ o → IsSomeAnd o (λ b. IsOf b its) → Delivers number its
+            by_block None there same = absurd same
+            by_block (Some b) there same = record {
+              b = b;
+              there = there;
+              same = same;
+              used = subst (λ (o : Option Block). IfSome o (λ c. chain s c.height ≡ Some c)) there (of_delivered s l life (λ c. chain s c.height ≡ Some c) life_is today.consistent.one_chain i number at);
+            }
+
+        step_blames : (own : Fault) → refusal_of (at_step g (i + 1)) m.message st ≡ Some own → Blames own
+        step_blames own refused refusal = by_event one refl m.message m.brings refused
+          where
+            same : suc i - 1 ≡ i
+            same = omega arith
+
+            by_event : (e : Event) → one ≡ e → (message : Message directory.Unit) → Brings g e message → refusal_of (at_step g (i + 1)) message st ≡ Some own → SkipsIn s l life own
+            by_event (event.Peer from bytes) is message brings refused = absurd (not_there own (subst (λ (k : Message directory.Unit). refusal_of (at_step g (i + 1)) k st ≡ Some own) brings refused))
+            by_event (event.Final number) is message (its, there, is_its) refused =
+                let d = delivers number its is there in
+                let skips = only_skips s (at_step g (i + 1)) st its d.b own d.same stands.chained d.used refusal (subst (λ (k : Message directory.Unit). refusal_of (at_step g (i + 1)) k st ≡ Some own) is_its refused) in
+                let before : awaited st.tip ≡ awaited_height s l life (suc i - 1) = stands.height ∙ ap (awaited_height s l life) (sym same) in
+                record {
+                  step = suc i;
+                  number = number;
+                  block = d.b;
+                  event_is = one_is ∙ ap (λ (e : Event). Some e) is;
+                  reached = reached;
+                  block_is = d.there;
+                  fault_is = skips.0 ∙ ap (λ (n : ℕ). SkippedHeight n (d.b).height) before;
+                  above = subst (λ (n : ℕ). n < (d.b).height) before skips.1;
+                }
+            by_event other is message brings refused = absurd brings
+
+        step_next : (end : Live directory.Unit) → IsNextToday (at_step g (i + 1)) st end m.message → Stands (i + 1) end
+        step_next end next =
+            let on = subst Then (sym (add-one i)) (by_event one refl m.message m.brings next.tip) in
+            record {
+              live = next.live;
+              unawaited = subst (λ (o : Orchestrator directory.Unit). o.waiting ≡ None) (sym next.orchestrator) stands.unawaited;
+              height = on.0;
+              chained = on.1;
+            }
+          where
+            Then : ℕ → Type 0
+            Then n = (awaited end.tip ≡ awaited_height s l life n) × IfSome end.tip (IsOnChain s)
+
+            by_event : (e : Event) → one ≡ e → (message : Message directory.Unit) → Brings g e message → end.tip ≡ tip_behind message st.tip → Then (suc i)
+            by_event (event.Peer from bytes) is message brings tip =
+                let at : end.tip ≡ st.tip = tip ∙ ap (λ (k : Message directory.Unit). tip_behind k st.tip) brings in
+                (ap awaited at ∙ stands.height ∙ sym (message_behind s l life i from bytes (one_is ∙ ap (λ (e : Event). Some e) is) reached), subst (λ (o : Option Tip). IfSome o (IsOnChain s)) (sym at) stands.chained)
+            by_event (event.Final number) is message (its, there, is_its) tip =
+                let d = delivers number its is there in
+                let at : end.tip ≡ tip_behind (Finalized its) st.tip = tip ∙ ap (λ (k : Message directory.Unit). tip_behind k st.tip) is_its in
+                (ap awaited at ∙ tip_awaits st.tip its d.b d.same ∙ ap (λ (n : ℕ). max n ((d.b).height + 1)) stands.height
+                    ∙ sym (block_behind s l life i number d.b (one_is ∙ ap (λ (e : Event). Some e) is) reached d.there),
+                subst (λ (o : Option Tip). IfSome o (IsOnChain s)) (sym at)
+                    (tip_is st.tip its d.b (λ (o : Option Tip). IfSome o (IsOnChain s)) d.same stands.chained (chained_at s today d.b d.used)))
+            by_event other is message brings tip = absurd brings
+
+        step_comes : (ended : Ended NodeStop (Live directory.Unit)) (old new : List Entry) → Said (on_devices (step_of g (i + 1) one st)) ended old new → Came (Stands (i + 1)) ended
+        step_comes ended old new said = by_end ended (node_steps_come_to (at_step g (i + 1)) st m.message ended old new m.taken (alike_at g i (i + 1) st stands.live) stands.unawaited
+            (subst (λ (k : Course directory.Unit NodeStop (Live directory.Unit)). Said (on_devices k) ended old new) m.course said))
+          where
+            by_end : (ended : Ended NodeStop (Live directory.Unit))
+                → CameTo (λ stop. (own : Fault) × (stop ≡ Faulted own) × (refusal_of (at_step g (i + 1)) m.message st ≡ Some own)) (λ end. IsNextToday (at_step g (i + 1)) st end m.message) ended
+                → Came (Stands (i + 1)) ended
+            by_end (went end) next = step_next end next
+            by_end (stopped stop) came = (came.0, came.1, step_blames came.0 came.2)
+            by_end (broken cause) came = tt
+
+      ok_err : {x : Stop} → ◌≡◌ {A = Result (Unit {0}) Stop} (Err x) (Ok tt) → ⊥
+      ok_err e = cc
+
+      fault_cut : {x : Fault} → ◌≡◌ {A = Result (Unit {0}) Stop} (Err (FaultOf x)) (Err AtCut) → ⊥
+      fault_cut e = cc
+
+      takes_blame : (own : Fault) (i : ℕ) (events : List Event) (st : Live directory.Unit) (t new : Trace) → events ≡ drop i life.events → IsBefore life.cut (i + 1) → Stands i st
+          → TakesAll by_lines g (i + 1) events st t (Err (FaultOf own)) new → Blames own
+      takes_blame own i [] st t new rest before stands takes = absurd (ok_err takes.0)
+      takes_blame own i (e ∷ events) st t new rest before stands takes =
+          by_fuse (λ end mid before next so. takes_blame own (i + 1) events end mid new (subst (λ (k : ℕ). events ≡ drop k life.events) (sym (add-one i)) (rest_at life.events i e events rest)) before next so)
+          (fuse_for life.cut (i + 1)) refl takes
+        where
+          by_fuse : ((end : Live directory.Unit) (mid : Trace) → IsBefore life.cut (i + 1 + 1) → Stands (i + 1) end → TakesAll by_lines g (i + 1 + 1) events end mid (Err (FaultOf own)) new → Blames own)
+              → (fuse : Option Burn) → fuse_for life.cut (i + 1) ≡ fuse
+              → Steps by_lines (entry.Step (i + 1)) fuse (step_of g (i + 1) e st) t (Err (FaultOf own)) new (λ end mid. TakesAll by_lines g (i + 1 + 1) events end mid (Err (FaultOf own)) new) → Blames own
+          by_fuse on None lit steps = absurd (fault_cut steps.0)
+          by_fuse on (Some f) lit steps =
+              let reached : IsReached life.cut (i + 1) = reached_by life.cut (i + 1) before (lit_begins life.cut (i + 1) f lit) in
+              let one_is : slice_get life.events i ≡ Some e = item_at life.events i e events rest in
+              step_tells Blames outside_blames (step_of g (i + 1) e st) own (Stands (i + 1)) (step_comes i e one_is (subst (IsReached life.cut) (add-one i) reached) st stands)
+              (entry.Step (i + 1)) (Some f) t new (λ end mid. TakesAll by_lines g (i + 1 + 1) events end mid (Err (FaultOf own)) new)
+              (λ end mid next so. on end mid (reached_next life.cut (i + 1) reached) next so) steps
+
+      before_all : (its : Option Cut) → IsBefore its 0
+      before_all None = tt
+      before_all (Some cut) = λ none. omega arith
+
+      life_blames : (own : Fault) (t new : Trace) → LivesSo by_lines g files t (Err (FaultOf own)) new → Blames own
+      life_blames own t new (inl steps) = by_fuse (fuse_for life.cut 0) refl steps
+        where
+          by_fuse : (fuse : Option Burn) → fuse_for life.cut 0 ≡ fuse
+              → Steps by_lines (entry.Step 0) fuse (node_opening (at_step g 0)) t (Err (FaultOf own)) new (λ end mid. TakesAll by_lines g 1 life.events end mid (Err (FaultOf own)) new) → Blames own
+          by_fuse None lit steps = absurd (fault_cut steps.0)
+          by_fuse (Some f) lit steps =
+              let reached : IsReached life.cut 0 = reached_by life.cut 0 (before_all life.cut) (lit_begins life.cut 0 f lit) in
+              step_tells Blames outside_blames (node_opening (at_step g 0)) own (Stands 0) opening_comes (entry.Step 0) (Some f) t new (λ end mid. TakesAll by_lines g 1 life.events end mid (Err (FaultOf own)) new)
+              (λ end mid next so. takes_blame own 0 life.events end mid new refl (reached_next life.cut 0 reached) next so) steps
+      life_blames own t new (inr refused) = absurd refused.1.2
+
+-- IN A RUN
+
+-- what is built and honest is of today
+pub todays : (script : Script) (files : Files) (held : Secrets) (image : Files → Type 0) → IsBuilt (setting_of script files held) → IsHonestRun (setting_of script files held) image → IsTodays (setting_of script files held)
+todays script files held image built honest = record {
+  built = built;
+  no_plans = refl;
+  consistent = honest.source [] tt [] (record { first = sym (plain_of (setting_of script files held) built).no_record; next = λ l below. absurd (omega (arith, below)) });
+}
+
+module _ (script : Script) (files : Files) (held : Secrets) (image : Files → Type 0) (bytes : AllByRecursion (λ line. IfSome line.payload IsBytes) script.blocks) where
+  abbrev s : Setting
+  s = setting_of script files held
+
+  all_skip : (its : Fault) (first : Files → Type 0) (t new : Trace) → RunsAllSo by_lines script first t (Err its) new → BlamesOnlySkips s image its
+  all_skip its first t new runs built honest = all_tell script built.form its (λ own. IsRefusal own → SkipsSomewhere s own) (λ refusal. absurd refusal)
+      (λ l life seen own_files here own t mid so refusal.
+      record { number = l; life = life; life_is = here.life_is; skips = life_blames s (todays script files held image built honest) bytes l life here.life_is seen own_files here own t mid so refusal }) first t new runs
+
+  -- THE CLAUSE of skips
+  pub run_skips : (first : Files → Type 0) (t new : Trace) (answered : Result (Unit {0}) Fault) → RunsSo by_lines script first t answered new → IfErr answered (BlamesOnlySkips s image)
+  run_skips first t new answered run = by_result run.result run.lives answered run.told
+    where
+      ok_is : {x : Fault} → ◌≡◌ {A = Result (Unit {0}) Fault} (Err x) (Ok tt) → ⊥
+      ok_is e = cc
+
+      same_answer : {x y : Fault} → ◌≡◌ {A = Result (Unit {0}) Fault} (Err x) (Err y) → x ≡ y
+      same_answer e = cc
+
+      by_result : (result : Result (Unit {0}) Fault) → RunsAllSo by_lines script first t result run.mid → (answered : Result (Unit {0}) Fault) → TellsEnd by_lines result answered run.mid new → IfErr answered (BlamesOnlySkips s image)
+      by_result result lives (Ok done) told = tt
+      by_result (Ok done) lives (Err its) told = absurd (ok_is told.0)
+      by_result (Err own) lives (Err its) (inl wants) = λ built honest refusal. absurd (subst IsRefusal (same_answer wants.0) refusal)
+      by_result (Err own) lives (Err its) (inr told) = subst (BlamesOnlySkips s image) (sym (same_answer told.0)) (all_skip own first t run.mid lives)
