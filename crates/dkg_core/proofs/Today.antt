@@ -216,6 +216,7 @@ module _ {Dir : Type 0} (c : Fixed Dir) (form : IsFormOfToday c) where
                   current = current;
                   seat = at_seat ∙ seat_is ∙ ap (λ (r : _). seat_in c round (record st { records = r })) (sym same_records);
                   passing = λ plays. passing (sym at_seat ∙ plays);
+                  passes = λ plays. ap (λ (r : _). s.refused_in c round (record st { records = r })) same_records ∙ refused_is ∙ passing (sym at_seat ∙ plays);
                   orchestrator = same_half;
                 }));
               },
@@ -453,7 +454,7 @@ module _ {Dir : Type 0} (c : Fixed Dir) (st : Live Dir) (live : IsLiveToday c st
     PG end = IsNextToday c st end of_peer
 
     same : PG st
-    same = record { accepted = refl; tip = refl; live = live; epoch = refl; round = refl; seat = refl; current = refl; orchestrator = refl }
+    same = record { accepted = refl; tip = refl; live = live; epoch = refl; round = refl; seat = refl; current = refl; orchestrator = refl; records = tt }
 
     recorded : (epoch dealer : ℕ) (public : List ℕ) (private : ℕ) → PG (d.with_dealing_of epoch dealer public private st)
     recorded epoch dealer public private = record {
@@ -465,6 +466,7 @@ module _ {Dir : Type 0} (c : Fixed Dir) (st : Live Dir) (live : IsLiveToday c st
       seat = refl;
       current = refl;
       orchestrator = refl;
+      records = tt;
     }
 
     module _ (round : Round) where
@@ -536,15 +538,15 @@ module _ {Dir : Type 0} (c : Fixed Dir) (st : Live Dir) (live : IsLiveToday c st
 
       -- the same life on this tip
       goes_on : (end : Live Dir) → end.tip ≡ Some (record { height = block.height; digest = block.digest }) → end.participation.epoch ≡ st.participation.epoch → end.participation.round ≡ st.participation.round
-          → end.participation.seat ≡ st.participation.seat → end.participation.current ≡ st.participation.current → end.orchestrator ≡ st.orchestrator → IsLiveToday c end → BG end
-      goes_on end is_tip epoch round seat current half live = record { accepted = accepted; tip = is_tip ∙ sym behind; live = live; epoch = epoch; round = round; seat = seat; current = current; orchestrator = half }
+          → end.participation.seat ≡ st.participation.seat → end.participation.current ≡ st.participation.current → end.orchestrator ≡ st.orchestrator → end.records ≡ st.records → IsLiveToday c end → BG end
+      goes_on end is_tip epoch round seat current half records live = record { accepted = accepted; tip = is_tip ∙ sym behind; live = live; epoch = epoch; round = round; seat = seat; current = current; orchestrator = half; records = records }
 
       undealt_there : (o : Option Round) (dealer : Option Dealer) → dealer ≡ None → option_and_then (λ round. option_map (s.signed c round) dealer) o ≡ None
       undealt_there None dealer is = refl
       undealt_there (Some round) dealer is = ap (λ (x : Option Dealer). option_map (s.signed c round) x) is
 
       still_deals : st.participation.stage ≡ Deals → (block.height + 1 == midpoint c.blocks_per_epoch st.participation.epoch) ≡ false → BG (with_tip block st)
-      still_deals deals e = goes_on (with_tip block st) refl refl refl refl refl refl (record {
+      still_deals deals e = goes_on (with_tip block st) refl refl refl refl refl refl refl (record {
         awaits = here ∙ sym there;
         undealt = live.undealt;
         idle = live.idle;
@@ -558,7 +560,7 @@ module _ {Dir : Type 0} (c : Fixed Dir) (st : Live Dir) (live : IsLiveToday c st
               strictly (block.height + 1) (midpoint c.blocks_per_epoch 0) (omega (arith, early)) apart
 
       ends_dealing : st.participation.stage ≡ Deals → (block.height + 1 == midpoint c.blocks_per_epoch st.participation.epoch) ≡ true → BG (s.begins_inclusion c (with_tip block st))
-      ends_dealing deals e = goes_on (s.begins_inclusion c (with_tip block st)) refl refl refl refl refl refl (record {
+      ends_dealing deals e = goes_on (s.begins_inclusion c (with_tip block st)) refl refl refl refl refl refl refl (record {
         awaits = here ∙ sym there;
         undealt = undealt_there st.participation.round st.participation.dealer live.undealt;
         idle = live.idle;
@@ -600,7 +602,7 @@ module _ {Dir : Type 0} (c : Fixed Dir) (st : Live Dir) (live : IsLiveToday c st
 
       followed : st.participation.stage ≡ Follows → ComesTo BF BG (b.follows_at c block st)
       followed follows = subst (λ (t : Bool). ComesTo BF BG (if t then b.carried c block (λ info. b.follows_into c block info st) else Goes (with_tip block st))) (sym not_last)
-          (goes_on (with_tip block st) refl refl refl refl refl refl (record {
+          (goes_on (with_tip block st) refl refl refl refl refl refl refl (record {
             awaits = here ∙ sym there;
             undealt = live.undealt;
             idle = live.idle;
@@ -655,6 +657,7 @@ module _ {Dir : Type 0} (c : Fixed Dir) (st : Live Dir) (live : IsLiveToday c st
           seat = refl;
           current = refl;
           orchestrator = refl;
+          records = refl;
         }
 
         moved : nat_le block.height t.height ≡ false → tip_behind (Finalized block) st.tip ≡ new_tip
