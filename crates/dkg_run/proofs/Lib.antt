@@ -1,7 +1,9 @@
 pub mod Asked
+pub mod Behind
 pub mod BlockLines
 pub mod Completing
 pub mod Early
+pub mod Empty
 pub mod Ended
 pub mod Entering
 pub mod Faulted

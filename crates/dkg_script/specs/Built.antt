@@ -40,8 +40,12 @@ is_alone config = (length config.players == 0) && (length config.addresses == 0)
 abbrev pub is_limit : ScriptConfig → Bool
 is_limit config = nat_le (non_zero_u32_get config.limit) (2 ^ 30)
 
+-- a key, which has 32 bits
+abbrev pub is_key : ℕ → Bool
+is_key key = nat_lt key (2 ^ 32)
+
 abbrev pub is_plain : ScriptConfig → Bool
-is_plain config = is_simple config && is_alone config && is_limit config
+is_plain config = is_simple config && is_alone config && is_limit config && is_key config.me
 
 -- THE BLOCKS
 
@@ -71,7 +75,7 @@ is_anchor midpoint blocks (Processed number) = option_map_or (λ block. nat_lt (
 is_anchor midpoint blocks (Absent number) = option_map_or (λ block. nat_lt 0 block.height && nat_lt block.height midpoint) (slice_get blocks number) false
 
 abbrev pub is_event : (midpoint : ℕ) → List BlockLine → Event → Bool
-is_event midpoint blocks (Peer from bytes) = true
+is_event midpoint blocks (Peer from bytes) = is_key from
 is_event midpoint blocks (Final number) = is_early midpoint blocks number
 is_event midpoint blocks _ = false
 
