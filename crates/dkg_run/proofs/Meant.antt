@@ -189,9 +189,11 @@ module _ (s : Setting) (today : IsTodays s) (l : ℕ) (life : Life) (seen : Held
       by_line part None none = absurd (let both : true ≡ false = sym (blind none) ∙ part in cc)
       by_line part (Some line) there =
           let block : Block directory.Unit = block_on s.script.config (parent_in [] line.parent) line in
-          let height : line.height ≡ 0 = rw there at today.built.form.first in
-          (block, ap (λ (epoch : ℕ). (at_step g 0).source.block (boundary (at_step g 0).blocks_per_epoch epoch)) early
-          ∙ first_found (blocks_in s.script) life.held _ block (life_today s l life today life_is).holds (first_made s.script line there) height)
+          let height : line.height ≡ 0 = rw there at today.built.form.first in (
+            block,
+            ap (λ (epoch : ℕ). (at_step g 0).source.block (boundary (at_step g 0).blocks_per_epoch epoch)) early
+                ∙ first_found (blocks_in s.script) life.held _ block (life_today s l life today life_is).holds (first_made s.script line there) height,
+          )
 
       has_round : follows s l life 0 ≡ false → (round : Round) × (st.participation.round ≡ Some round)
       has_round part = by_first (by_line part (slice_get s.script.blocks 0) refl)
