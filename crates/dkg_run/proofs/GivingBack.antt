@@ -25,7 +25,7 @@ use Rattle.dkg_run.proofs.GivingPlans.{runs_spare_plans}
 told_plan : (result answered : Result (Unit {0}) Fault) (mid new : World) → TellsEnd by_worlds result answered mid new → plan new.held ≡ plan mid.held
 told_plan (Ok done) answered mid new told = ap (λ (x : World). plan x.held) told.1
 told_plan (Err its) answered mid new (inl wants) = ap (λ (x : World). plan x.held) wants.1
-told_plan (Err its) answered mid new (inr told) = ap (λ (x : World). plan x.held) told.2.1
+told_plan (Err its) answered mid new (inr told) = ap (λ (x : World). plan x.held) told.2
 
 pub run_spares_plan : (script : Script) → IsFormOfToday script → (first : Files → Type 0) (w new : World) (answered : Result (Unit {0}) Fault) → RunsSo by_worlds script first w answered new → plan new.held ≡ plan w.held
 run_spares_plan script form first w new answered run = told_plan run.result answered run.mid new run.told ∙ runs_spare_plans script form first w run.mid run.result run.lives
