@@ -1,6 +1,7 @@
 pub mod Asked
 pub mod Behind
 pub mod BlockLines
+pub mod Completing
 pub mod Early
 pub mod Empty
 pub mod Ended
@@ -9,6 +10,10 @@ pub mod Faulted
 pub mod Faults
 pub mod Finding
 pub mod Fresh
+pub mod Giving
+pub mod GivingFirst
+pub mod GivingPassing
+pub mod GivingPlans
 pub mod Going
 pub mod InPlace
 pub mod KeptLives
