@@ -45,3 +45,4 @@ pub mod Stepping
 pub mod Steps
 pub mod Today
 pub mod Used
+pub mod Whole

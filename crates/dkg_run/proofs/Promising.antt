@@ -69,24 +69,31 @@ module _ (script : Script) (form : IsFormOfToday script) (bytes : AllByRecursion
   pub promised : (answered : Result (Unit {0}) Fault) → RunsSo by_lines script AnyFiles (trace out []) answered (trace new picks) → IfErr answered (λ its. HasCause its disk_rose secrets_rose)
       → IfErr answered (λ its. Tells → IsFound (reader_in script) files_now held_now its)
       → ((added : List Entry) → new ≡ out ++ added → Tells → KeepsDealings (setting_of script files held) image now held_now added)
-      → ((added : List Entry) → new ≡ out ++ added → OnOk answered (Tells → AnswersDealings (setting_of script files held) image added))
-      → IfErr answered (λ its. Tells → IsValidRun (setting_of script files held) image → (disk_rose → ⊥) → (secrets_rose → ⊥) → its ≡ NoMemory)
+      → ((added : List Entry) → new ≡ out ++ added → RunsAll script added → Tells → AnswersDealings (setting_of script files held) image added)
+      → ((added : List Entry) → EndsRun answered added disk_rose secrets_rose → IfErr answered (BlamesOnlySkips (setting_of script files held) image)
+      → IfErr answered (λ its. Tells → IsValidRun (setting_of script files held) image → (disk_rose → ⊥) → (secrets_rose → ⊥) → its ≡ NoMemory))
       → Adds out new (Promised script Tells files image held files_now now held_now disk_rose secrets_rose answered)
   promised answered run causes found kept answers complete =
       let its = run_in_order script AnyFiles (trace out []) (trace new picks) answered run in
       let ends : EndsRun answered its.0 disk_rose secrets_rose = added_so out new its.0 (λ added. EndsRun answered added disk_rose secrets_rose) its.1
       (run_ends script form AnyFiles (trace out []) (trace new picks) answered disk_rose secrets_rose causes run) in
+      let blames = run_skips script files held image bytes AnyFiles (trace out []) (trace new picks) answered run in
+      let all = all_run answered its.0 its.1 run in
       (its.0, its.1, record {
         in_order = its.2;
-        all = all_run answered its.0 its.1 run;
+        all = all;
         ends = ends;
         found = run_found (reader_in script) files_now held_now answered its.0 disk_rose secrets_rose Tells ends found;
-        skips = skips answered (run_skips script files held image bytes AnyFiles (trace out []) (trace new picks) answered run);
+        skips = skips answered blames;
         kept = kept its.0 its.1;
-        answered = answers its.0 its.1;
-        complete = complete;
+        answered = on_ok answered (RunsAll script its.0) (Tells → AnswersDealings (setting_of script files held) image its.0) all (answers its.0 its.1);
+        complete = complete its.0 ends blames;
       })
     where
       skips : (answered : Result (Unit {0}) Fault) → IfErr answered (BlamesOnlySkips (setting_of script files held) image) → IfErr answered (λ its. Tells → BlamesOnlySkips (setting_of script files held) image its)
       skips (Ok done) blames = tt
       skips (Err its) blames = λ told. blames
+
+      on_ok : (answered : Result (Unit {0}) Fault) (A B : Type 0) → OnOk answered A → (A → B) → OnOk answered B
+      on_ok (Ok done) A B all so = so all
+      on_ok (Err its) A B all so = tt
