@@ -31,7 +31,7 @@ loop-i-init g c = record {
 pub run_life-requires-clause-here : goal.run_life-requires-clause-here
 run_life-requires-clause-here g c =
     let life_is : slice_get c.args.script.now.lives c.loop-i.i ≡ Some c.life-item.result = rw (← c.as_slice-life-items.ensures) (item_here _ _ _ c.loop-i-test.true c.life-item.is) in
-    (life_is, c.deref.ensures.value ∙ c.in_ok-blocks.ensures)
+    (life_is, c.deref.ensures.value ∙ c.in_ok-blocks.ensures.blocks)
 
 pub returns-in_err-run_life-clause-lines : goal.returns-in_err-run_life-clause-lines
 returns-in_err-run_life-clause-lines g c =
