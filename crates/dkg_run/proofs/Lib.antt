@@ -52,3 +52,4 @@ pub mod Stepping
 pub mod Steps
 pub mod Today
 pub mod Used
+pub mod Whole
