@@ -53,7 +53,7 @@ use Rattle.dkg_run.specs.declared.held.HeldBlocks.{HeldBlocks}
 use Rattle.dkg_run.specs.declared.node.Node.{Node}
 use Rattle.dkg_run.proofs.Early.{starts_first}
 use Rattle.dkg_run.proofs.Noding.{at_oneshot, is_of, unsaid}
-use Rattle.dkg_run.proofs.Opening.{Lives, end_of, ended_makes, ended_says, epoch_is, fence_ready, half_given, halted_makes, halted_says, lent_at, lives_at, lives_err, made_there, may_enter, may_enter_made, opened_makes, opened_says, opened_view, opening_of, reading_as, today_at, number_at, unless_named, went_burns}
+use Rattle.dkg_run.proofs.Opening.{Lives, end_of, ended_makes, ended_says, epoch_is, fence_ready, half_given, halted_makes, halted_says, lent_at, lives_at, lives_err, made_there, may_enter, may_enter_made, opened_made, opened_says, opened_view, opening_of, reading_as, today_at, number_at, unless_named, went_burns}
 use Rattle.dkg_run.proofs.Sourced.{source_is}
 
 -- the terms that a script's configuration comes to
@@ -236,7 +236,7 @@ module _ (script : Script) (number : ℕ) (life : Life) (source : HeldBlocks) (f
                   end,
                   opened_view n its (at_oneshot (life_with seen_today) 0) made.now fence living.life (same ∙ living.is),
                   made_there (went end) (burns_next (went end) (went_burns {S = Live directory.Unit} {T = Live directory.Unit} {y = end_is} acts_are.burns) (burns_none (went end) f)) (λ stands.
-                    (opened_makes n its (at_oneshot (life_with seen_today) 0) made.now fence living.life (same ∙ living.is) acts_are (speaks its end_is given_is (enters_made stands))).2),
+                    opened_made n its (at_oneshot (life_with seen_today) 0) made.now fence living.life (same ∙ living.is) acts_are (speaks its end_is given_is (enters_made stands))),
                 )
 
             pub halted_acts : (stop : Stop) (out : List Line) (half_fence : Readiness)

@@ -127,17 +127,14 @@ module _ (n : Node) (c : Fixed directory.Unit) (reshare_is : c.oneshot ≡ None)
   entered_as : next_opening (live_of now fence life) ≡ kept_material c (live_of now fence life)
   entered_as = unless_reshare c (kept_material c (live_of now fence life)) (Goes (live_of now fence life)) reshare_is
 
-  pub opened_makes : {files files_now : Files} {image next : Files → Type 0} {old : Moment} {mid_out out : List Line} {s : Secrets} {f : Burn}
+  pub opened_made : {files files_now : Files} {image next : Files → Type 0} {old : Moment} {mid_out out : List Line} {s : Secrets} {f : Burn}
       → MakesAt (on_devices (opening c)) (went (live_of now fence life)) files image files_now next old (moment mid_out s f)
       → Speaks (kept_material c (live_of now fence life)) (went end_of) mid_out out
-      → ViewedNew (Ok n) (λ ended. MakesAt (on_devices (node_opening c)) ended files image files_now next old (moment out s f))
-  opened_makes {files_now = files_now} {next = next} {mid_out = mid_out} {out = out} {s = s} {f = f} made speaks = (
-    end_of,
-    opened_view,
-    node_goes (opening c) next_opening made
+      → MakesAt (on_devices (node_opening c)) (went end_of) files image files_now next old (moment out s f)
+  opened_made {files_now = files_now} {next = next} {mid_out = mid_out} {out = out} {s = s} {f = f} made speaks =
+      node_goes (opening c) next_opening made
       (subst (λ (a : Course directory.Unit NodeStop (Live directory.Unit)). MakesAt (on_devices a) (went end_of) files_now next files_now next (moment mid_out s f) (moment out s f)) (sym entered_as)
-      (speaks_makes (kept_material c (live_of now fence life)) (went end_of) files_now next speaks)),
-  )
+      (speaks_makes (kept_material c (live_of now fence life)) (went end_of) files_now next speaks))
 
   pub opened_says : {out mid_out new : List Line} → Said (on_devices (opening c)) (went (live_of now fence life)) out mid_out
       → Speaks (kept_material c (live_of now fence life)) (went end_of) mid_out new → ViewedNew (Ok n) (λ ended. Tells (node_opening c) ended out new)
