@@ -1,6 +1,8 @@
 pub mod Asked
+pub mod Behind
 pub mod BlockLines
 pub mod Early
+pub mod Empty
 pub mod Ended
 pub mod Entering
 pub mod Faulted
