@@ -1,6 +1,8 @@
 pub mod Asked
+pub mod Awaiting
 pub mod Behind
 pub mod BlockLines
+pub mod Completing
 pub mod Early
 pub mod Empty
 pub mod Ended
@@ -8,9 +10,15 @@ pub mod Entering
 pub mod Faulted
 pub mod Faults
 pub mod Finding
+pub mod FitsRead
 pub mod Fresh
+pub mod Giving
+pub mod GivingFirst
+pub mod GivingPassing
+pub mod GivingPlans
 pub mod Going
 pub mod InPlace
+pub mod Keeping
 pub mod KeptLives
 pub mod KeptMessages
 pub mod KeptOpenings
@@ -18,14 +26,17 @@ pub mod KeptSteps
 pub mod Lasting
 pub mod Laws
 pub mod Living
+pub mod Marks
 pub mod Meant
 pub mod Naming
 pub mod NodeOpens
 pub mod Noding
 pub mod Opening
 pub mod Ordered
+pub mod Owed
 pub mod PeerForms
 pub mod Places
+pub mod Playing
 pub mod Promising
 pub mod Recorded
 pub mod Reported
@@ -40,3 +51,4 @@ pub mod Stepping
 pub mod Steps
 pub mod Today
 pub mod Used
+pub mod Whole
