@@ -211,7 +211,7 @@ module _ (s : Setting) (today : IsTodays s) (l : ℕ) (life : Life) (seen : Held
 
           by_first : (b : Block directory.Unit) × (first_block (at_step g 0) ≡ Some b) → (round : Round) × (st.participation.round ≡ Some round)
           by_first (b, is) = of_info b (info_of b.payload) (subst (λ (o : Option (Block directory.Unit)). IsSomeAnd o (λ b. IsSomeAnd (info_of b.payload) (λ info.
-          (info.epoch ≡ first_epoch (at_step g 0)) × (validity (at_step g 0) info ≡ Ok tt) × IsSeatedBy (at_step g 0) ((at_step g 0).seen h) opened.before info))) is (given b is))
+              (info.epoch ≡ first_epoch (at_step g 0)) × (validity (at_step g 0) info ≡ Ok tt) × IsSeatedBy (at_step g 0) ((at_step g 0).seen h) opened.before info))) is (given b is))
 
       -- ITS SEAT
       module _ (now : Held) (q : Progress) (agreed : AreAgreed st.records now) (are : AreRecorded (recovered_in now) q.recorded) (handed : HandsOn s q) (logs : logs_in (notes now) ≡ logs_in (entries s.files)) where
