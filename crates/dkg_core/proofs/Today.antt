@@ -40,7 +40,7 @@ use Rattle.dkg_core.specs.Said.{SaysAll, SaysUpTo}
 use Rattle.dkg_core.specs.Seen.{Seen}
 use Rattle.dkg_core.specs.Sources.{Tip, startup}
 use Rattle.dkg_core.specs.Fixed.{Fixed, Material, has, start}
-use Rattle.dkg_core.specs.Live.{Live, Dealer, Orchestrator, Waiting, NodeStop, Faulted, Stage, Deals, Includes, Follows, Ends, Seat, Plays, Watches, Request, Message, Sent, Peer, Finalized, NextLog, ReleaseLog, EpochInfoOf, Feed, Over, Cancel, Work, awaited_height, phase_of, is_last_height, of_epoch, with_tip, with_participation, with_orchestrator}
+use Rattle.dkg_core.specs.Live.{Live, Records, Dealer, Orchestrator, Waiting, NodeStop, Faulted, Stage, Deals, Includes, Follows, Ends, Seat, Plays, Watches, Request, Message, Sent, Peer, Finalized, NextLog, ReleaseLog, EpochInfoOf, Feed, Over, Cancel, Work, awaited_height, phase_of, is_last_height, of_epoch, with_tip, with_participation, with_orchestrator}
 use Rattle.dkg_core.specs.Logs.{logs_of}
 use Rattle.dkg_core.specs.Setup as s
 use Rattle.dkg_core.specs.Dealing as d
@@ -145,6 +145,14 @@ pairs_kept : (min epoch : ℕ) → min ≤ epoch → (rs : List Pair) → filter
 pairs_kept min epoch low [] = refl
 pairs_kept min epoch low (r ∷ rs) = one_kept min epoch low r rs (s.kept_from min rs) (pairs_kept min epoch low rs) (nat_le min r.0.0) refl
 
+-- none lies below epoch 0
+nothing_below : (rs : List Pair) → s.kept_from 0 rs ≡ rs
+nothing_below [] = refl
+nothing_below (r ∷ rs) = ap (λ (t : Bool). cond t (r ∷ s.kept_from 0 rs) (s.kept_from 0 rs)) (at_least r.0.0) ∙ ap (λ (l : List Pair). r ∷ l) (nothing_below rs)
+  where
+    at_least : (n : ℕ) → nat_le 0 n ≡ true
+    at_least n = grind (arith, nat_tests)
+
 never_deals : (in_set lacks : Bool) (bare : Bool) → bare ≡ false → (in_set && (false || bare) && lacks) ≡ true → ⊥
 never_deals in_set lacks true is e = absurd (let t : ◌≡◌ {A = Bool} true false = is in cc)
 never_deals true lacks false is e = absurd (let t : ◌≡◌ {A = Bool} false true = e in cc)
@@ -208,6 +216,7 @@ module _ {Dir : Type 0} (c : Fixed Dir) (form : IsFormOfToday c) where
               record {
                 in_range = reached;
                 tip = same_tip;
+                restored = λ few. ap (λ (r : Records). r.dealings) same_records ∙ ap (λ (min : ℕ). s.kept_from min seen.dealings) (omega (arith, few)) ∙ nothing_below seen.dealings;
                 live = live;
                 set_up = subst (IsSetUpBy c seen st) (sym is) (on_valid (IsSeatedBy c seen st) (record {
                   round = round;
@@ -278,7 +287,7 @@ module _ {Dir : Type 0} (c : Fixed Dir) (form : IsFormOfToday c) where
     from_info block is (Some info) carries = with_info block is info carries
 
     from_boundary : (found : Option (Block Dir)) → first_block c ≡ found → ComesTo F G (s.from_boundary c found fresh)
-    from_boundary None is = (h, record { in_range = reached; tip = refl; live = follower; set_up = subst (IsSetUpBy c seen fresh) (sym is) (refl, refl) })
+    from_boundary None is = (h, record { in_range = reached; tip = refl; restored = λ few. refl; live = follower; set_up = subst (IsSetUpBy c seen fresh) (sym is) (refl, refl) })
     from_boundary (Some block) is = from_info block is (info_of block.payload) refl
 
   module _ (h : Held) where

@@ -1,6 +1,6 @@
 -- How openings and steps end in the form that is built: a reshare without shares and material, up to the block before an epoch's midpoint. Each own fault
 -- has its exact cause, and so has each state that is left.
-use Rattle.std.specs.Prelude.{◌≡◌, ◌<◌, ◌+◌, ◌==◌, ◌||◌, ◌&&◌, ℕ, true, false, not, nat_lt, nat_le, List, [], ◌∷◌, Option, Some, None, IsSomeAnd, is_none, Result, Ok, Err, if◌then◌else◌}
+use Rattle.std.specs.Prelude.{◌≡◌, ◌<◌, ◌≤◌, ◌+◌, ◌==◌, ◌||◌, ◌&&◌, ℕ, true, false, not, nat_lt, nat_le, List, [], ◌∷◌, Option, Some, None, IsSomeAnd, is_none, Result, Ok, Err, if◌then◌else◌}
 use Rattle.std.specs.Option.{option_map_or}
 use Rattle.std.specs.Str.{bytes_eq}
 use Rattle.dkg_ceremony.specs.declared.output.Output.{Output}
@@ -140,6 +140,8 @@ IsSetUpBy c seen st (Some b) = OnValid c (IsSeatedBy c seen st)
 pub record IsOpenedToday {Dir : Type 0} (c : Fixed Dir) (seen : Seen) (st : Live Dir) : Type 0 where
   pub in_range : is_past_range c (start_of c) ≡ false
   pub tip : st.tip ≡ startup c.source.anchor None
+  -- of the first epochs nothing that was read is lost from memory
+  pub restored : first_epoch c ≤ 1 → st.records.dealings ≡ seen.dealings
   pub live : IsLiveToday c st
   pub set_up : IsSetUpBy c seen st (first_block c)
 

@@ -2,6 +2,7 @@ pub mod Asked
 pub mod Awaiting
 pub mod Behind
 pub mod BlockLines
+pub mod Completing
 pub mod Early
 pub mod Empty
 pub mod Ended
@@ -11,6 +12,10 @@ pub mod Faults
 pub mod Finding
 pub mod FitsRead
 pub mod Fresh
+pub mod Giving
+pub mod GivingFirst
+pub mod GivingPassing
+pub mod GivingPlans
 pub mod Going
 pub mod InPlace
 pub mod Keeping
@@ -46,3 +51,4 @@ pub mod Stepping
 pub mod Steps
 pub mod Today
 pub mod Used
+pub mod Whole
