@@ -4,7 +4,9 @@ use Rattle.std.specs.Prelude.{find as find_first, fold, not, option_and_then, op
 use Rattle.std.specs.FinMap.{entries as pairs_in, get, get-entries}
 use Rattle.std.specs.List.{AllByRecursion, cons_option}
 use Rattle.std.proofs.lemmas.Bool.{eq-eqb}
+use Rattle.dkg_values.specs.Places.{place_of-Contains}
 use Rattle.dkg_values.specs.Rising.{has_key}
+use Rattle.dkg_values.specs.RisingLaws.{has_key-to}
 use Rattle.dkg_ceremony.specs.Dealings.{dealing_of}
 use Rattle.dkg_ceremony.specs.Rounds.{round_of}
 use Rattle.dkg_ceremony.specs.Schedule.{boundary}
@@ -32,7 +34,7 @@ use Rattle.dkg_script.specs.Position.{awaited_epoch, enters_at, follows, materia
 use Rattle.dkg_script.specs.Progress.{Progress}
 use Rattle.dkg_script.specs.Setting.{Setting, is_oneshot, life_at, me}
 use Rattle.dkg_core.specs.Agreeing.{AreAgreed}
-use Rattle.dkg_core.specs.Fixed.{stand_in}
+use Rattle.dkg_core.specs.Fixed.{has, stand_in}
 use Rattle.dkg_core.specs.Heard.{recovered_in}
 use Rattle.dkg_core.specs.Live.{Live, Plays, Watches, of_epoch}
 use Rattle.dkg_core.specs.Logs.{logs_of}
@@ -208,7 +210,8 @@ module _ (s : Setting) (today : IsTodays s) (l : ℕ) (life : Life) (seen : Held
           given b is = subst (IsSetUpBy (at_step g 0) ((at_step g 0).seen h) opened.before) is opened.opened.set_up
 
           by_first : (b : Block directory.Unit) × (first_block (at_step g 0) ≡ Some b) → (round : Round) × (st.participation.round ≡ Some round)
-          by_first (b, is) = of_info b (info_of b.payload) (rw is at given b is)
+          by_first (b, is) = of_info b (info_of b.payload) (subst (λ (o : Option (Block directory.Unit)). IsSomeAnd o (λ b. IsSomeAnd (info_of b.payload) (λ info.
+              (info.epoch ≡ first_epoch (at_step g 0)) × (validity (at_step g 0) info ≡ Ok tt) × IsSeatedBy (at_step g 0) ((at_step g 0).seen h) opened.before info))) is (given b is))
 
       -- ITS SEAT
       module _ (now : Held) (q : Progress) (agreed : AreAgreed st.records now) (are : AreRecorded (recovered_in now) q.recorded) (handed : HandsOn s q) (logs : logs_in (notes now) ≡ logs_in (entries s.files)) where
@@ -223,7 +226,7 @@ module _ (s : Setting) (today : IsTodays s) (l : ℕ) (life : Life) (seen : Held
             let found : is_lost (at_step g 0) round (of_epoch 0 (pairs_in (recovered_in now))) (bare_logs (of_epoch 0 (pairs_in (logs_in (entries s.files))))) ≡ false = lacks_none s q (recovered_in now) round handed are.given known (in_round round there).0 in
             let lost : is_lost (at_step g 0) round (of_epoch round.number opened.before.records.dealings) (logs_of opened.before round.number) ≡ false =
             subst (λ (n : ℕ). is_lost (at_step g 0) round (of_epoch n opened.before.records.dealings) (logs_of opened.before n) ≡ false) (sym first) (rw (records, agreed.dealings, agreed.logs, logs) found) in
-            let its_seat : seat_in (at_step g 0) round opened.before ≡ Plays = sits (has_key (me s) round.players) (is_lost (at_step g 0) round (of_epoch round.number opened.before.records.dealings) (logs_of opened.before round.number)) key lost in
+            let its_seat : seat_in (at_step g 0) round opened.before ≡ Plays = sits (has round.players (me s)) (is_lost (at_step g 0) round (of_epoch round.number opened.before.records.dealings) (logs_of opened.before round.number)) (place_of-Contains (me s) round.players (has_key-to round.players (me s) key)) lost in
             seat ∙ its_seat
           where
             sits : (key lost : Bool) → key ≡ true → lost ≡ false → (if not key || lost then Watches else Plays) ≡ Plays
