@@ -240,7 +240,7 @@ pub record IsHeard {Dir : Type 0} (c : Fixed Dir) (st : Live Dir) (from : ℕ) (
   pub known : (pair : Restored) → Gives (recovered_in mid.held) pair → (pair_of (fold (read s) p added).recorded pair.epoch pair.dealer ≡ Some pair)
       ⊎ ((pair_of (fold (read s) p added).recorded pair.epoch pair.dealer ≡ None) × IsBrought s l life j pair)
   pub ended : IfWentTo half (λ end. ((pair : Restored) → Gives (recovered_in mid.held) pair → pair_of (fold (read s) p added).recorded pair.epoch pair.dealer ≡ Some pair)
-      × (IsUndue c st from bytes ⊎ (list_any is_ack (fold (read s) p added).written ≡ true)))
+      × ((IsUndue c st from bytes × ((fold (read s) p added).recorded ≡ p.recorded)) ⊎ (list_any is_ack (fold (read s) p added).written ≡ true)))
   pub valid : (round : Round) (dealer : ℕ) (pair : List ℕ × ℕ) → st.participation.round ≡ Some round → st.participation.seat ≡ Plays → dealer < 2 ^ 32
       → get (recovered_in mid.held) (0, dealer) ≡ Some pair → dealing_of round (me s) dealer pair.0 pair.1 ≡ Ok tt
 
@@ -411,7 +411,7 @@ module _ {Dir : Type 0} (c : Fixed Dir) (st : Live Dir) (from : ℕ) (bytes : Li
       whole = whole_still;
       given = rw same.recorded are_still.given;
       known = λ pair there. inl (known pair there);
-      ended = if_went half _ _ (λ end its. (known, its)) ended;
+      ended = if_went half _ _ (λ end its. (known, elim its [ inl undue ↦ inl (undue, same.recorded) | inr is ↦ inr is ])) ended;
       valid = valid_still;
     }
       where

@@ -91,7 +91,8 @@ fn check_info(block: &Block<Unit>, epoch: Epoch) -> Result<(), Fault>
 /// Enters an epoch that the fence is ready for.
 fn enter(epoch: Epoch, fence: &mut Fence, out: &mut Transcript) -> Result<Half, Stop>
     requires ready { is_ready fence.old.ready epoch ≡ true }
-    ensures ok { IfOk result (λ half. (half ≡ record { entered = Some epoch; halted = false }) × (out.new.entries ≡ out.old.entries ++ entry.Entered epoch ∷ [])) }
+    ensures ok { IfOk result (λ half. (half ≡ record { entered = Some epoch; halted = false })
+        × (out.new.entries ≡ out.old.entries ++ entry.Entered epoch ∷ [])) }
     ensures err { IfErr result (λ stop. (stop ≡ FaultOf NoMemory) × (out.new.entries ≡ out.old.entries)) }
     ensures fence { fence.new ≡ waited epoch waits.Ready fence.old }
 {
@@ -116,7 +117,8 @@ impl Half {
         out: &mut Transcript,
     ) -> Result<Half, Stop>
         requires ready { (c : Fixed directory.Unit) × IsHalfGiven (non_zero_u64_get blocks_per_epoch) (B.answers source.now) c × IsFenceReady c fence.old }
-        ensures speaks { (c : Fixed directory.Unit) (st : Live directory.Unit) → IsHalfGiven (non_zero_u64_get blocks_per_epoch) (B.answers source.now) c → MayEnter c fence.old st
+        ensures speaks { (c : Fixed directory.Unit) (st : Live directory.Unit) → IsHalfGiven (non_zero_u64_get blocks_per_epoch) (B.answers source.now) c
+            → MayEnter c fence.old st
             → Speaks (kept_material c st) (ends_half fence.new st result) out.old.entries out.new.entries }
         // It blames no device.
         ensures causes { IfErr result (λ stop. IsCaused stop ⊥ ⊥ ⊥) }
@@ -135,8 +137,10 @@ impl Half {
 
     /// Acknowledges a block below the first midpoint.
     pub fn acknowledge(&self, height: Height, out: &mut Transcript) -> Result<(), Stop>
-        ensures speaks { (c : Fixed directory.Unit) (st : Live directory.Unit) (b : blocks.Block directory.Unit) → b.height ≡ height → height < midpoint c.blocks_per_epoch 0
-            → HasHalf self.now st → Speaks (bind (delivered c b st) (λ half. acked_at b.height half.answer half.live)) (ends_node st result) out.old.entries out.new.entries }
+        ensures speaks { (c : Fixed directory.Unit) (st : Live directory.Unit) (b : blocks.Block directory.Unit) → b.height ≡ height
+            → height < midpoint c.blocks_per_epoch 0
+            → HasHalf self.now st
+            → Speaks (bind (delivered c b st) (λ half. acked_at b.height half.answer half.live)) (ends_node st result) out.old.entries out.new.entries }
         ensures memory { IfErr result (λ stop. stop ≡ FaultOf NoMemory) }
     {
         if self.halted || self.entered.is_none() {

@@ -21,7 +21,7 @@ ghost use Rattle.dkg_reshare.specs.Today.{seen_today};
 ghost use Rattle.dkg_reshare.specs.declared.stop.Stop.TheVariants.{Cut as AtCut, Failed as HadFailed, Fault as FaultOf};
 ghost use Rattle.dkg_run.specs.Causes.{HasCause, IfFault, IsCutWithin};
 ghost use Rattle.dkg_run.specs.Found.{IsFound, reader_in};
-ghost use Rattle.dkg_run.specs.Given.{Lived, blocks_in, limits_of, lived, step_of};
+ghost use Rattle.dkg_run.specs.Given.{AreBytes, Lived, blocks_in, limits_of, lived, step_of};
 ghost use Rattle.dkg_run.specs.GivesBack.{GivesBack};
 ghost use Rattle.dkg_run.specs.Lives.{AnyFiles, EndsLife, LivesHere, LivesSo, RunsAllSo, RunsOver, RunsSo, Steps, TakesAll, TellsEnd, fuse_for, never};
 ghost use Rattle.dkg_run.specs.Moving.{Blames, StepBlames, StopBlames, Went, world_of};
@@ -281,16 +281,20 @@ fn run_life<D: Disk, X: SecretStore>(
     requires form { IsFormOfToday script.now }
     requires here { (slice_get script.now.lives number ≡ Some life.now) × (blocks.now ≡ blocks_in script.now) }
     ensures lines { (added : List ℕ) × Went D.tells D.made X.made D.faults X.faults devices.old devices.new added
-        × ((picks : List ℕ) → LivesHere by_lines script.now AnyFiles number life.now (trace out.old.entries picks) result (trace out.new.entries (picks ++ added))
+        × ((picks : List ℕ) → LivesHere by_lines script.now AnyFiles number life.now (trace out.old.entries picks) result
+        (trace out.new.entries (picks ++ added))
         (λ now. (result ≡ Ok tt) × (now ≡ trace out.new.entries (picks ++ added)))) }
-    ensures run { IsTrue D.tells → IsTrue X.tells → Stands (D.files devices.old.disk.now) (D.image devices.old.disk.now) → (c : Files) → D.image devices.new.disk.now c
+    ensures run { IsTrue D.tells → IsTrue X.tells → Stands (D.files devices.old.disk.now) (D.image devices.old.disk.now) → (c : Files)
+        → D.image devices.new.disk.now c
         → LivesHere by_worlds script.now (λ files. files ≡ D.files devices.old.disk.now) number life.now
         (world_of X.held devices.old out.old.entries (D.files devices.old.disk.now)) result (world_of X.held devices.new out.new.entries c)
         (λ w. (result ≡ Ok tt) × (w ≡ world_of X.held devices.new out.new.entries c)) }
     ensures stands { OnOk result (IsTrue D.tells → Stands (D.files devices.new.disk.now) (D.image devices.new.disk.now)) }
     ensures causes { IfErr result (Blames D.faults X.faults devices.old devices.new) }
-    ensures found { IfErr result (λ fault. IsTrue D.tells → IsTrue X.tells → IsFound (reader_in script.now) (D.files devices.new.disk.now) (X.held devices.new.secrets.now) fault) }
-    ensures fit { IsTrue D.tells → AreFit (limits_of script.now).most (D.image devices.old.disk.now) → AreFit (limits_of script.now).most (D.image devices.new.disk.now) }
+    ensures found { IfErr result (λ fault. IsTrue D.tells → IsTrue X.tells
+        → IsFound (reader_in script.now) (D.files devices.new.disk.now) (X.held devices.new.secrets.now) fault) }
+    ensures fit { IsTrue D.tells → AreFit (limits_of script.now).most (D.image devices.old.disk.now)
+        → AreFit (limits_of script.now).most (D.image devices.new.disk.now) }
     ensures passing { IsTrue D.tells → IsTrue X.tells → ArePassing (reader_in script.now) (D.image devices.old.disk.now) (X.held devices.old.secrets.now)
         → ArePassing (reader_in script.now) (D.image devices.new.disk.now) (X.held devices.new.secrets.now) }
 {
@@ -308,15 +312,20 @@ fn run_all<D: Disk, X: SecretStore>(
     requires form { IsFormOfToday script.now }
     ensures lines { (picks : List ℕ) × Went D.tells D.made X.made D.faults X.faults devices.old devices.new picks
         × RunsAllSo by_lines script.now AnyFiles (trace out.old.entries []) result (trace out.new.entries picks) }
-    ensures run { IsTrue D.tells → IsTrue X.tells → Stands (D.files devices.old.disk.now) (D.image devices.old.disk.now) → (c : Files) → D.image devices.new.disk.now c
+    ensures run { IsTrue D.tells → IsTrue X.tells → Stands (D.files devices.old.disk.now) (D.image devices.old.disk.now) → (c : Files)
+        → D.image devices.new.disk.now c
         → RunsAllSo by_worlds script.now (λ files. files ≡ D.files devices.old.disk.now)
         (world_of X.held devices.old out.old.entries (D.files devices.old.disk.now)) result (world_of X.held devices.new out.new.entries c) }
-    ensures stands { OnOk result (IsTrue D.tells → Stands (D.files devices.old.disk.now) (D.image devices.old.disk.now) → Stands (D.files devices.new.disk.now) (D.image devices.new.disk.now)) }
+    ensures stands { OnOk result (IsTrue D.tells → Stands (D.files devices.old.disk.now) (D.image devices.old.disk.now)
+        → Stands (D.files devices.new.disk.now) (D.image devices.new.disk.now)) }
     ensures causes { IfErr result (Blames D.faults X.faults devices.old devices.new) }
-    ensures found { IfErr result (λ fault. IsTrue D.tells → IsTrue X.tells → IsFound (reader_in script.now) (D.files devices.new.disk.now) (X.held devices.new.secrets.now) fault) }
-    ensures fit { IsTrue D.tells → AreFit (limits_of script.now).most (D.image devices.old.disk.now) → AreFit (limits_of script.now).most (D.image devices.new.disk.now) }
+    ensures found { IfErr result (λ fault. IsTrue D.tells → IsTrue X.tells
+        → IsFound (reader_in script.now) (D.files devices.new.disk.now) (X.held devices.new.secrets.now) fault) }
+    ensures fit { IsTrue D.tells → AreFit (limits_of script.now).most (D.image devices.old.disk.now)
+        → AreFit (limits_of script.now).most (D.image devices.new.disk.now) }
     ensures passing { IsTrue D.tells → IsTrue X.tells → ArePassing (reader_in script.now) (D.image devices.old.disk.now) (X.held devices.old.secrets.now)
         → ArePassing (reader_in script.now) (D.image devices.new.disk.now) (X.held devices.new.secrets.now) }
+    ensures bytes { IfErr result (λ fault. (fault ≡ NoMemory) ⊎ AreBytes script.now.blocks) }
 {
     let blocks = blocks_of(alloc, script)?;
     for (i, life) in script.lives.as_slice().iter().enumerate() {
@@ -356,10 +365,12 @@ pub fn run_lives<D: Disk, X: SecretStore>(
     ensures lines { (picks : List ℕ) × (IsTrue D.tells → Stopped D.made X.made (disk.old, secrets.old) (disk.new, secrets.new) picks)
         × RunsSo by_lines script.now AnyFiles (trace out.old.entries []) result (trace out.new.entries picks) }
     // The node ran over the devices, whatever image a crash leaves: each life from what the one before left, and cut exactly where its step makes so many calls.
-    ensures run { IsTrue D.tells → IsTrue X.tells → Stands (D.files disk.old) (D.image disk.old) → (c : Files) → D.image disk.new c → RunsOver script.now result (D.files disk.old)
+    ensures run { IsTrue D.tells → IsTrue X.tells → Stands (D.files disk.old) (D.image disk.old) → (c : Files) → D.image disk.new c
+        → RunsOver script.now result (D.files disk.old)
         (at (moment out.old.entries (X.held secrets.old) never) (D.files disk.old)) (λ f. at (moment out.new.entries (X.held secrets.new) f) c) }
     // What follows of the dealings, the order and the faults.
-    ensures promise { Adds out.old.entries out.new.entries (Promised script.now (IsTrue D.tells × IsTrue X.tells) (D.files disk.old) (D.image disk.old) (X.held secrets.old)
+    ensures promise { Adds out.old.entries out.new.entries (Promised script.now (IsTrue D.tells × IsTrue X.tells)
+        (D.files disk.old) (D.image disk.old) (X.held secrets.old)
         (D.files disk.new) (D.image disk.new) (X.held secrets.new) (Rose (D.faults disk.old) (D.faults disk.new)) (Rose (X.faults secrets.old) (X.faults secrets.new)) result) }
     // A second call stands under what this one leaves.
     ensures gives_back { IsTrue D.tells → IsTrue X.tells → GivesBack (reader_in script.now) result (D.files disk.old) (D.image disk.old) (X.held secrets.old)
