@@ -1,6 +1,6 @@
 -- Where the dealings that the devices give back pass the first round's check, they do so behind each step and each life.
 use Rattle.std.proofs.Common.{◌≡◌, ◌⊎◌, inl, inr, ℕ, ◌+◌, ◌<◌, ◌≤◌, nat_le, Bool, true, cond, List, [], drop, Option, Some, None, Result, Ok, Err, refl, sym, ◌∙◌, ap, subst, arith}
-use Rattle.std.specs.Prelude.{option_map, slice_get}
+use Rattle.std.specs.Prelude.{◌^◌, option_map, slice_get}
 use Rattle.std.specs.Option.{option_map_or}
 use Rattle.std.specs.FinMap as maps
 use Rattle.std.specs.FinMap.{find, get, get-entries, get-retain_keys, insert, retain_keys, same_map}
@@ -19,7 +19,7 @@ use Rattle.dkg_text.specs.declared.script.Event.{Event}
 use Rattle.dkg_text.specs.declared.script.Event.TheVariants as event
 use Rattle.dkg_text.specs.declared.script.Life.{Life}
 use Rattle.dkg_text.specs.declared.script.Script.{Script}
-use Rattle.dkg_store.specs.Acts.{Cause, Ended, Held, World, broken, held_in, notes, stopped, went}
+use Rattle.dkg_store.specs.Acts.{Cause, Ended, Held, Moment, World, at, broken, held_in, notes, stopped, went}
 use Rattle.dkg_store.specs.Keys.{key_cmp}
 use Rattle.dkg_store.specs.Pairs.{IsWhole, Pairs}
 use Rattle.dkg_store.specs.Recorded.{first_refused, of_epoch}
@@ -57,6 +57,7 @@ use Rattle.dkg_run.specs.Given.{IsLifeHere, Lived, at_step, lived, step_of}
 use Rattle.dkg_run.specs.Lives.{TakesAll}
 use Rattle.dkg_run.specs.Passing.{ArePassing}
 use Rattle.dkg_run.specs.Ways.{by_worlds}
+use Rattle.dkg_run.proofs.FitsRead.{message_fits}
 use Rattle.dkg_run.proofs.Giving.{KeepsHeld, LeavesHeld, reads_today, takes_hold}
 use Rattle.dkg_run.proofs.GivingFirst.{reads_first, seats_by_first}
 use Rattle.dkg_run.proofs.GivingPlans.{IsGoing, opened_going, step_goes_on}
@@ -156,119 +157,127 @@ module _ (g : Lived) (here : IsLifeHere g) where
       its_round : (accepted : IsAccepted (at_step g j) st round.number from public private) → accepted.round ≡ round
       its_round accepted = let both : Some accepted.round ≡ Some round = sym accepted.of_epoch ∙ is in cc
 
-  module _ (fits : (i from : ℕ) (bytes : List ℕ) → slice_get g.life.events i ≡ Some (event.Peer from bytes) → Fits (at_step g (i + 1)) (from, bytes)) where
-    module _ (i : ℕ) (st : Live directory.Unit) (h : Held) (passing : IsPassing st h) (w new : World) (at : w.held ≡ h) where
-      abbrev c : Fixed directory.Unit
-      c = at_step g (i + 1)
+  today_at : (i : ℕ) (its : Event) → slice_get g.life.events i ≡ Some its → IsEventOfToday (midpoint_of g.script) g.script.blocks its
+  today_at i its is = holds_at (IsEventOfToday (midpoint_of g.script) g.script.blocks) g.life.events i its (life_form g here).events is
 
-      going : IsGoing g here (i + 1) st
-      going = (alike_at g 0 (i + 1) st passing.going.0, passing.going.1)
+  few_at : (j : ℕ) → (at_step g j).limit ≤ 2 ^ 30
+  unfolding at_step
+  few_at j = here.form.few
 
-      records : st.records.dealings ≡ maps.entries (recovered_in w.held)
-      records = subst (λ (x : Held). st.records.dealings ≡ maps.entries (recovered_in x)) (sym at) passing.records
+  module _ (i : ℕ) (st : Live directory.Unit) (h : Held) (passing : IsPassing st h) (w new : World) (at : w.held ≡ h) where
+    abbrev c : Fixed directory.Unit
+    c = at_step g (i + 1)
 
-      pass : PassHeld reader w.held
-      pass = subst (PassHeld reader) (sym at) passing.pass
+    going : IsGoing g here (i + 1) st
+    going = (alike_at g 0 (i + 1) st passing.going.0, passing.going.1)
 
-      same_held : new.held ≡ w.held → PassHeld reader new.held
-      same_held same = subst (PassHeld reader) (sym same) pass
+    records : st.records.dealings ≡ maps.entries (recovered_in w.held)
+    records = subst (λ (x : Held). st.records.dealings ≡ maps.entries (recovered_in x)) (sym at) passing.records
 
-      -- where it goes on
-      goes_on : (message : Message directory.Unit) (end : Live directory.Unit) → IsNextToday c st end message → end.records.dealings ≡ maps.entries (recovered_in new.held) → PassHeld reader new.held → IsPassing end new.held
-      goes_on message end next same passes = record {
-        going = step_goes_on g here (i + 1) message st end w new next going;
-        records = same;
-        seats = λ round is. passing.seats round (sym next.round ∙ is);
-        pass = passes;
-      }
+    pass : PassHeld reader w.held
+    pass = subst (PassHeld reader) (sym at) passing.pass
 
-      module _ (message : Message directory.Unit) (taken : IsTakenToday c message) where
-        next : (end : Live directory.Unit) → EndsSo (node_step c (event_of message) st) (went end) w new → IsNextToday c st end message
-        next end run = node_steps_come_to c st message (went end) w.out new.out taken going.0 going.1 (runs_say (on_devices (node_step c (event_of message) st)) (went end) w new run)
+    same_held : new.held ≡ w.held → PassHeld reader new.held
+    same_held same = subst (PassHeld reader) (sym same) pass
 
-      -- A BLOCK touches no device, and no record
-      module _ (block : Block directory.Unit) (early : block.height < midpoint c.blocks_per_epoch 0) where
-        abbrev judged : Course directory.Unit Fault (Live directory.Unit)
-        judged = step c (Finalized block) st
+    -- where it goes on
+    goes_on : (message : Message directory.Unit) (end : Live directory.Unit) → IsNextToday c st end message → end.records.dealings ≡ maps.entries (recovered_in new.held) → PassHeld reader new.held → IsPassing end new.held
+    goes_on message end next same passes = record {
+      going = step_goes_on g here (i + 1) message st end w new next going;
+      records = same;
+      seats = λ round is. passing.seats round (sym next.round ∙ is);
+      pass = passes;
+    }
 
-        left : (half : Ended Fault (Live directory.Unit)) (mid : World) → EndsSo judged half w mid → LeavesDevices IsAckedLine (Same c block early st going.0) half w mid
-        left half mid run = leaves_devices IsAckedLine (Same c block early st going.0) judged half w mid (silent_block c block early st going.0) run
+    module _ (message : Message directory.Unit) (taken : IsTakenToday c message) where
+      next : (end : Live directory.Unit) → EndsSo (node_step c (event_of message) st) (went end) w new → IsNextToday c st end message
+      next end run = node_steps_come_to c st message (went end) w.out new.out taken going.0 going.1 (runs_say (on_devices (node_step c (event_of message) st)) (went end) w new run)
 
-        block_same : (ended : Ended NodeStop (Live directory.Unit)) → EndsSo (node_step c (event_of (Finalized block)) st) ended w new → new.held ≡ w.held
-        block_same ended run = let b = steps_run_behind c st (Finalized block) ended w new run in b.held ∙ (left b.half b.mid b.run).held
+    -- A BLOCK touches no device, and no record
+    module _ (block : Block directory.Unit) (early : block.height < midpoint c.blocks_per_epoch 0) where
+      abbrev judged : Course directory.Unit Fault (Live directory.Unit)
+      judged = step c (Finalized block) st
 
-        pub block_passes : (ended : Ended NodeStop (Live directory.Unit)) → EndsSo (node_step c (event_of (Finalized block)) st) ended w new → LeavesHeld (PassHeld reader) IsPassing ended new.held
-        block_passes (went end) run =
-            let half = half_went judged end w new (steps_run_behind c st (Finalized block) (went end) w new run) in
-            let same : half.half.records ≡ st.records = ((left (went half.half) half.mid half.run).goes).1 in
-            goes_on (Finalized block) end (next (Finalized block) early end run)
-            (ap (λ (r : Records). r.dealings) (half.records ∙ same) ∙ records ∙ ap (λ (x : Held). maps.entries (recovered_in x)) (sym (block_same (went end) run))) (same_held (block_same (went end) run))
-        block_passes (stopped stop) run = same_held (block_same (stopped stop) run)
-        block_passes (broken cause) run = same_held (block_same (broken cause) run)
+      left : (half : Ended Fault (Live directory.Unit)) (mid : World) → EndsSo judged half w mid → LeavesDevices IsAckedLine (Same c block early st going.0) half w mid
+      left half mid run = leaves_devices IsAckedLine (Same c block early st going.0) judged half w mid (silent_block c block early st going.0) run
 
-      -- A MESSAGE
-      module _ (from : ℕ) (bytes : List ℕ) (fit : Fits c (from, bytes)) where
-        abbrev heard : Course directory.Unit Fault (Live directory.Unit)
-        heard = step c (Sent (Peer from bytes)) st
+      block_same : (ended : Ended NodeStop (Live directory.Unit)) → EndsSo (node_step c (event_of (Finalized block)) st) ended w new → new.held ≡ w.held
+      block_same ended run = let b = steps_run_behind c st (Finalized block) ended w new run in b.held ∙ (left b.half b.mid b.run).held
 
-        -- without a round nothing is done
-        module _ (none : st.participation.round ≡ None) where
-          unheard : (ended : Ended Fault (Live directory.Unit)) (mid : World) → EndsSo heard ended w mid → EndsSo {Dir = directory.Unit} {F = Fault} (Goes st) ended w mid
-          unheard ended mid run = subst (λ (stage : Stage). EndsSo (hears_peer_in c from bytes st stage) ended w mid) (going.0.without none) run
+      pub block_passes : (ended : Ended NodeStop (Live directory.Unit)) → EndsSo (node_step c (event_of (Finalized block)) st) ended w new → LeavesHeld (PassHeld reader) IsPassing ended new.held
+      block_passes (went end) run =
+          let half = half_went judged end w new (steps_run_behind c st (Finalized block) (went end) w new run) in
+          let same : half.half.records ≡ st.records = ((left (went half.half) half.mid half.run).goes).1 in
+          goes_on (Finalized block) end (next (Finalized block) early end run)
+          (ap (λ (r : Records). r.dealings) (half.records ∙ same) ∙ records ∙ ap (λ (x : Held). maps.entries (recovered_in x)) (sym (block_same (went end) run))) (same_held (block_same (went end) run))
+      block_passes (stopped stop) run = same_held (block_same (stopped stop) run)
+      block_passes (broken cause) run = same_held (block_same (broken cause) run)
 
-          unheard_same : (ended : Ended NodeStop (Live directory.Unit)) → EndsSo (node_step c (event_of (Sent (Peer from bytes))) st) ended w new → new.held ≡ w.held
-          unheard_same ended run =
-              let b = steps_run_behind c st (Sent (Peer from bytes)) ended w new run in b.held ∙ ap (λ (x : World). x.held) (goes_nothing st b.half w b.mid (unheard b.half b.mid b.run))
+    -- A MESSAGE
+    module _ (from : ℕ) (bytes : List ℕ) (fit : Fits c (from, bytes)) where
+      abbrev heard : Course directory.Unit Fault (Live directory.Unit)
+      heard = step c (Sent (Peer from bytes)) st
 
-          unheard_passes : (ended : Ended NodeStop (Live directory.Unit)) → EndsSo (node_step c (event_of (Sent (Peer from bytes))) st) ended w new → LeavesHeld (PassHeld reader) IsPassing ended new.held
-          unheard_passes (went end) run =
-              let half = half_went heard end w new (steps_run_behind c st (Sent (Peer from bytes)) (went end) w new run) in
-              let same : half.half ≡ st = (unheard (went half.half) half.mid half.run).1 in
-              goes_on (Sent (Peer from bytes)) end (next (Sent (Peer from bytes)) tt end run)
-              (ap (λ (r : Records). r.dealings) (half.records ∙ ap (λ (x : Live directory.Unit). x.records) same) ∙ records ∙ ap (λ (x : Held). maps.entries (recovered_in x)) (sym (unheard_same (went end) run)))
-              (same_held (unheard_same (went end) run))
-          unheard_passes (stopped stop) run = same_held (unheard_same (stopped stop) run)
-          unheard_passes (broken cause) run = same_held (unheard_same (broken cause) run)
+      -- without a round nothing is done
+      module _ (none : st.participation.round ≡ None) where
+        unheard : (ended : Ended Fault (Live directory.Unit)) (mid : World) → EndsSo heard ended w mid → EndsSo {Dir = directory.Unit} {F = Fault} (Goes st) ended w mid
+        unheard ended mid run = subst (λ (stage : Stage). EndsSo (hears_peer_in c from bytes st stage) ended w mid) (going.0.without none) run
 
-        -- in a round one dealing more may be kept
-        module _ (round : Round) (is : st.participation.round ≡ Some round) where
-          heard_pass : (ended : Ended NodeStop (Live directory.Unit)) → EndsSo (node_step c (event_of (Sent (Peer from bytes))) st) ended w new → PassHeld reader new.held
-          heard_pass ended run =
-              let kept = node_peers_are_kept c st from bytes round ended w new (recovered_in w.held) is
-              (record { records = records; whole = pass.0; gives = refl; fits = fit.0; fits_ack = fit.1 }) run in
-              let seat = passing.seats round is in
-              (kept.whole, more_pass (i + 1) st from round (recovered_in w.held) (recovered_in new.held) is seat.0 seat.1 kept.gives pass.1)
+        unheard_same : (ended : Ended NodeStop (Live directory.Unit)) → EndsSo (node_step c (event_of (Sent (Peer from bytes))) st) ended w new → new.held ≡ w.held
+        unheard_same ended run =
+            let b = steps_run_behind c st (Sent (Peer from bytes)) ended w new run in b.held ∙ ap (λ (x : World). x.held) (goes_nothing st b.half w b.mid (unheard b.half b.mid b.run))
 
-          heard_passes : (ended : Ended NodeStop (Live directory.Unit)) → EndsSo (node_step c (event_of (Sent (Peer from bytes))) st) ended w new → LeavesHeld (PassHeld reader) IsPassing ended new.held
-          heard_passes (went end) run =
-              let half = half_went heard end w new (steps_run_behind c st (Sent (Peer from bytes)) (went end) w new run) in
-              let same = agreed c st half.half from bytes round w half.mid (record { of_epoch = is; whole = pass.0; records = records }) fit half.run in
-              goes_on (Sent (Peer from bytes)) end (next (Sent (Peer from bytes)) tt end run)
-              (ap (λ (r : Records). r.dealings) half.records ∙ same.records ∙ ap (λ (x : Held). maps.entries (recovered_in x)) (sym half.held)) (heard_pass (went end) run)
-          heard_passes (stopped stop) run = heard_pass (stopped stop) run
-          heard_passes (broken cause) run = heard_pass (broken cause) run
+        unheard_passes : (ended : Ended NodeStop (Live directory.Unit)) → EndsSo (node_step c (event_of (Sent (Peer from bytes))) st) ended w new → LeavesHeld (PassHeld reader) IsPassing ended new.held
+        unheard_passes (went end) run =
+            let half = half_went heard end w new (steps_run_behind c st (Sent (Peer from bytes)) (went end) w new run) in
+            let same : half.half ≡ st = (unheard (went half.half) half.mid half.run).1 in
+            goes_on (Sent (Peer from bytes)) end (next (Sent (Peer from bytes)) tt end run)
+            (ap (λ (r : Records). r.dealings) (half.records ∙ ap (λ (x : Live directory.Unit). x.records) same) ∙ records ∙ ap (λ (x : Held). maps.entries (recovered_in x)) (sym (unheard_same (went end) run)))
+            (same_held (unheard_same (went end) run))
+        unheard_passes (stopped stop) run = same_held (unheard_same (stopped stop) run)
+        unheard_passes (broken cause) run = same_held (unheard_same (broken cause) run)
 
-        pub message_passes : (ended : Ended NodeStop (Live directory.Unit)) → EndsSo (node_step c (event_of (Sent (Peer from bytes))) st) ended w new → LeavesHeld (PassHeld reader) IsPassing ended new.held
-        message_passes ended run = by_round st.participation.round refl
-          where
-            by_round : (o : Option Round) → st.participation.round ≡ o → LeavesHeld (PassHeld reader) IsPassing ended new.held
-            by_round None is = unheard_passes is ended run
-            by_round (Some round) is = heard_passes round is ended run
+      -- in a round one dealing more may be kept
+      module _ (round : Round) (is : st.participation.round ≡ Some round) where
+        heard_pass : (ended : Ended NodeStop (Live directory.Unit)) → EndsSo (node_step c (event_of (Sent (Peer from bytes))) st) ended w new → PassHeld reader new.held
+        heard_pass ended run =
+            let kept = node_peers_are_kept c st from bytes round ended w new (recovered_in w.held) is
+            (record { records = records; whole = pass.0; gives = refl; fits = fit.0; fits_ack = fit.1 }) run in
+            let seat = passing.seats round is in
+            (kept.whole, more_pass (i + 1) st from round (recovered_in w.held) (recovered_in new.held) is seat.0 seat.1 kept.gives pass.1)
 
-    today_at : (i : ℕ) (its : Event) → slice_get g.life.events i ≡ Some its → IsEventOfToday (midpoint_of g.script) g.script.blocks its
-    today_at i its is = holds_at (IsEventOfToday (midpoint_of g.script) g.script.blocks) g.life.events i its (life_form g here).events is
+        heard_passes : (ended : Ended NodeStop (Live directory.Unit)) → EndsSo (node_step c (event_of (Sent (Peer from bytes))) st) ended w new → LeavesHeld (PassHeld reader) IsPassing ended new.held
+        heard_passes (went end) run =
+            let half = half_went heard end w new (steps_run_behind c st (Sent (Peer from bytes)) (went end) w new run) in
+            let same = agreed c st half.half from bytes round w half.mid (record { of_epoch = is; whole = pass.0; records = records }) fit half.run in
+            goes_on (Sent (Peer from bytes)) end (next (Sent (Peer from bytes)) tt end run)
+            (ap (λ (r : Records). r.dealings) half.records ∙ same.records ∙ ap (λ (x : Held). maps.entries (recovered_in x)) (sym half.held)) (heard_pass (went end) run)
+        heard_passes (stopped stop) run = heard_pass (stopped stop) run
+        heard_passes (broken cause) run = heard_pass (broken cause) run
 
-    step_passes : (i : ℕ) (its : Event) (st : Live directory.Unit) (h : Held) → slice_get g.life.events i ≡ Some its → IsPassing st h → KeepsHeld (PassHeld reader) IsPassing (step_of g (i + 1) its st) h
-    step_passes i (event.Peer from bytes) st h is passing ended w new at run = message_passes i st h passing w new at from bytes (fits i from bytes is) ended run
-    step_passes i (event.Final number) st h is passing ended w new at run =
-        let made = made_at g.script number (λ height. height < midpoint_of g.script) (today_at i (event.Final number) is) in
-        block_passes i st h passing w new at made.block (below_middle g (i + 1) (made.block).height made.so) ended
-        (subst (λ (o : Option (Block directory.Unit)). EndsSo (option_map_or (λ e. node_step (at_step g (i + 1)) e st) (option_map Delivers o) (Goes st)) ended w new) made.is run)
-    step_passes i other st h is passing ended w new at run = absurd (today_at i other is)
+      pub message_passes : (ended : Ended NodeStop (Live directory.Unit)) → EndsSo (node_step c (event_of (Sent (Peer from bytes))) st) ended w new → LeavesHeld (PassHeld reader) IsPassing ended new.held
+      message_passes ended run = by_round st.participation.round refl
+        where
+          by_round : (o : Option Round) → st.participation.round ≡ o → LeavesHeld (PassHeld reader) IsPassing ended new.held
+          by_round None is = unheard_passes is ended run
+          by_round (Some round) is = heard_passes round is ended run
 
-    -- THE STEPS of a life, wherever they end
-    pub takes_pass : (st : Live directory.Unit) (w new : World) (how : Result (Unit {0}) Stop) → IsPassing st w.held → TakesAll by_worlds g 1 g.life.events st w how new → PassHeld reader new.held
-    takes_pass st w new how passing takes = takes_hold (PassHeld reader) IsPassing (λ st h its. its.pass) g step_passes 0 g.life.events refl st w new how passing takes
+  step_passes : (i : ℕ) (its : Event) (st : Live directory.Unit) (h : Held) → slice_get g.life.events i ≡ Some its → IsPassing st h → KeepsHeld (PassHeld reader) IsPassing (step_of g (i + 1) its st) h
+  step_passes i (event.Peer from bytes) st h is passing ended w new at run = message_passes i st h passing w new at from bytes (message_fits (at_step g (i + 1)) from bytes (few_at (i + 1)) (today_at i (event.Peer from bytes) is)) ended run
+  step_passes i (event.Final number) st h is passing ended w new at run =
+      let made = made_at g.script number (λ height. height < midpoint_of g.script) (today_at i (event.Final number) is) in
+      block_passes i st h passing w new at made.block (below_middle g (i + 1) (made.block).height made.so) ended
+      (subst (λ (o : Option (Block directory.Unit)). EndsSo (option_map_or (λ e. node_step (at_step g (i + 1)) e st) (option_map Delivers o) (Goes st)) ended w new) made.is run)
+  step_passes i other st h is passing ended w new at run = absurd (today_at i other is)
+
+  -- THE STEPS of a life, wherever they end
+  pub takes_pass : (st : Live directory.Unit) (w new : World) (how : Result (Unit {0}) Stop) → IsPassing st w.held → TakesAll by_worlds g 1 g.life.events st w how new → PassHeld reader new.held
+  takes_pass st w new how passing takes = takes_hold (PassHeld reader) IsPassing (λ st h its. its.pass) g step_passes 0 g.life.events refl st w new how passing takes
+
+  -- .. whichever image is left
+  pub steps_passing : (st : Live directory.Unit) (old new : Moment) (files : Files) (next : Files → Type 0) (how : Result (Unit {0}) Stop) → IsPassing st (held_in files old.secrets)
+      → ((c : Files) → next c → TakesAll by_worlds g 1 g.life.events st (at old files) how (at new c)) → ArePassing reader next new.secrets
+  steps_passing st old new files next how passing run = passes_all reader next new.secrets (λ c left. takes_pass st (at old files) (at new c) how passing (run c left))
 
 -- BEHIND AN OPENING that went to its end: of any devices its lines were those of one that had read this, and whatever a crash leaves gives that back
 

@@ -43,7 +43,7 @@ use Rattle.dkg_core.specs.Heard.{KeepsFrom, recovered_in}
 use Rattle.dkg_core.specs.Laws.{StartsWithin}
 use Rattle.dkg_core.specs.Laws as node
 use Rattle.dkg_core.specs.Live as core_live
-use Rattle.dkg_core.specs.Live.{Delivers, Live, NodeStop, Orchestrator, Message, Sent, Peer, Finalized, with_orchestrator}
+use Rattle.dkg_core.specs.Live.{Deals, Delivers, Live, NodeStop, Orchestrator, Message, Sent, Peer, Finalized, with_orchestrator}
 use Rattle.dkg_core.specs.Meant.{ReadsRecords}
 use Rattle.dkg_core.specs.Node.{node_opening, node_step}
 use Rattle.dkg_core.specs.NodeKept.{BeginsRestored, DeliveriesAreIdle, IsAckedLine, NodeOpeningsAgree, NodeOpeningsKeep, NodeOpeningsRestore, NodeOpeningsSpareLogs, NodeStepsSpareLogs}

@@ -13,6 +13,7 @@ pub mod Finding
 pub mod FitsRead
 pub mod Fresh
 pub mod Giving
+pub mod GivingBack
 pub mod GivingFirst
 pub mod GivingPassing
 pub mod GivingPlans

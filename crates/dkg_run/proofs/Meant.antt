@@ -189,9 +189,11 @@ module _ (s : Setting) (today : IsTodays s) (l : ℕ) (life : Life) (seen : Held
       by_line part None none = absurd (let both : true ≡ false = sym (blind none) ∙ part in cc)
       by_line part (Some line) there =
           let block : Block directory.Unit = block_on s.script.config (parent_in [] line.parent) line in
-          let height : line.height ≡ 0 = rw there at today.built.form.first in
-          (block, ap (λ (epoch : ℕ). (at_step g 0).source.block (boundary (at_step g 0).blocks_per_epoch epoch)) early
-          ∙ first_found (blocks_in s.script) life.held _ block (life_today s l life today life_is).holds (first_made s.script line there) height)
+          let height : line.height ≡ 0 = rw there at today.built.form.first in (
+            block,
+            ap (λ (epoch : ℕ). (at_step g 0).source.block (boundary (at_step g 0).blocks_per_epoch epoch)) early
+                ∙ first_found (blocks_in s.script) life.held _ block (life_today s l life today life_is).holds (first_made s.script line there) height,
+          )
 
       has_round : follows s l life 0 ≡ false → (round : Round) × (st.participation.round ≡ Some round)
       has_round part = by_first (by_line part (slice_get s.script.blocks 0) refl)
@@ -202,8 +204,11 @@ module _ (s : Setting) (today : IsTodays s) (l : ℕ) (life : Life) (seen : Held
           of_info b None set_up = absurd set_up
           of_info b (Some info) set_up = (set_up.2.round, ap (λ p. p.round) same_participation ∙ set_up.2.in_round)
 
+          given : (b : Block directory.Unit) → first_block (at_step g 0) ≡ Some b → IsSetUpBy (at_step g 0) ((at_step g 0).seen h) opened.before (Some b)
+          given b is = subst (IsSetUpBy (at_step g 0) ((at_step g 0).seen h) opened.before) is opened.opened.set_up
+
           by_first : (b : Block directory.Unit) × (first_block (at_step g 0) ≡ Some b) → (round : Round) × (st.participation.round ≡ Some round)
-          by_first (b, is) = of_info b (info_of b.payload) (rw is at opened.opened.set_up)
+          by_first (b, is) = of_info b (info_of b.payload) (rw is at given b is)
 
       -- ITS SEAT
       module _ (now : Held) (q : Progress) (agreed : AreAgreed st.records now) (are : AreRecorded (recovered_in now) q.recorded) (handed : HandsOn s q) (logs : logs_in (notes now) ≡ logs_in (entries s.files)) where
@@ -218,7 +223,8 @@ module _ (s : Setting) (today : IsTodays s) (l : ℕ) (life : Life) (seen : Held
             let found : is_lost (at_step g 0) round (of_epoch 0 (pairs_in (recovered_in now))) (bare_logs (of_epoch 0 (pairs_in (logs_in (entries s.files))))) ≡ false = lacks_none s q (recovered_in now) round handed are.given known (in_round round there).0 in
             let lost : is_lost (at_step g 0) round (of_epoch round.number opened.before.records.dealings) (logs_of opened.before round.number) ≡ false =
             subst (λ (n : ℕ). is_lost (at_step g 0) round (of_epoch n opened.before.records.dealings) (logs_of opened.before n) ≡ false) (sym first) (rw (records, agreed.dealings, agreed.logs, logs) found) in
-            seat ∙ sits (has_key (me s) round.players) (is_lost (at_step g 0) round (of_epoch round.number opened.before.records.dealings) (logs_of opened.before round.number)) key lost
+            let its_seat : seat_in (at_step g 0) round opened.before ≡ Plays = sits (has_key (me s) round.players) (is_lost (at_step g 0) round (of_epoch round.number opened.before.records.dealings) (logs_of opened.before round.number)) key lost in
+            seat ∙ its_seat
           where
             sits : (key lost : Bool) → key ≡ true → lost ≡ false → (if not key || lost then Watches else Plays) ≡ Plays
             sits key lost a b = rw (a, b) refl

@@ -1,9 +1,8 @@
 -- What the caller of a run knows: the promise, and what a second call stands under.
 use Rattle.std.proofs.Common.{◌≡◌, ◌⊎◌, inl, inr, ◌++◌, ◌∷◌, [], ℕ, List, Result, Ok, Err, refl, sym, ◌∙◌, ap, subst}
 use Rattle.std.specs.Prelude.{IfErr, OnOk}
-use Rattle.dkg_journal.specs.Disk.{Lands}
 use Rattle.dkg_journal.specs.Names.{Files}
-use Rattle.dkg_store.specs.Acts.{Stands, World, at, moment, plan}
+use Rattle.dkg_store.specs.Acts.{Stands, at, moment}
 use Rattle.dkg_store.specs.Corrupt.{AreFit}
 use Rattle.dkg_store.specs.Secrets.{Secrets}
 use Rattle.dkg_types.specs.declared.entry.Entry.{Entry}
@@ -19,17 +18,11 @@ use Rattle.dkg_run.specs.GivesBack.{GivesBack}
 use Rattle.dkg_run.specs.Lives.{AnyFiles, RunsOver, RunsSo, TellsEnd, never}
 use Rattle.dkg_run.specs.Passing.{ArePassing}
 use Rattle.dkg_run.specs.Promised.{Promised}
-use Rattle.dkg_run.specs.Ways.{by_lines, by_worlds, trace}
-use Rattle.dkg_run.proofs.Completing.{completes, unblamed}
-use Rattle.dkg_run.proofs.GivingPlans.{runs_spare_plans}
+use Rattle.dkg_run.specs.Ways.{by_lines, trace}
+use Rattle.dkg_run.proofs.Completing.{completes}
+use Rattle.dkg_run.proofs.GivingBack.{gives_back}
 use Rattle.dkg_run.proofs.Keeping.{answered_of, kept_of}
 use Rattle.dkg_run.proofs.Promising.{promised}
-
--- a line that is told leaves the plan as it is
-told_spares : (result answered : Result (Unit {0}) Fault) (mid new : World) → TellsEnd by_worlds result answered mid new → plan new.held ≡ plan mid.held
-told_spares (Ok done) answered mid new told = ap (λ (w : World). plan w.held) told.1
-told_spares (Err its) answered mid new (inl wants) = ap (λ (w : World). plan w.held) wants.1
-told_spares (Err its) answered mid new (inr told) = ap (λ (w : World). plan w.held) told.2
 
 -- (`D` and `X` say that the disk and the secret store tell.)
 module _ (script : Script) (form : IsFormOfToday script) (D X : Type 0) (files : Files) (image : Files → Type 0) (held : Secrets) (files_now : Files) (now : Files → Type 0) (held_now : Secrets) (out new : List Entry)
@@ -55,21 +48,13 @@ module _ (script : Script) (form : IsFormOfToday script) (D X : Type 0) (files :
       (λ added ends blames. completes by_lines script AnyFiles (trace out []) (trace new picks) files files_now held held_now image now (D × X) P Q answered added run ends (both_tell answered found) blames
       (λ told. left told.0) (λ told. fit told.0) (λ told. passing told.0 told.1))
 
-  firm : (answered : Result (Unit {0}) Fault) → OnOk answered (D → Stands files image → Stands files_now now) → D → OnOk answered (Lands files image → Lands files_now now)
-  firm (Ok done) stood disk = λ lands. (stood disk (record { lands = lands; itself = itself disk })).lands
-  firm (Err its) stood disk = tt
+  when_stood : (answered : Result (Unit {0}) Fault) → OnOk answered (D → Stands files image → Stands files_now now) → D → OnOk answered (Stands files image → Stands files_now now)
+  when_stood (Ok done) stood disk = stood disk
+  when_stood (Err its) stood disk = tt
 
-  pub gives_back : OnOk answered (D → Stands files image → Stands files_now now) → D → X → GivesBack (reader_in script) answered files image held files_now now held_now
-  gives_back stood disk secrets = record {
-    fit = fit disk;
-    unblamed = unblamed (reader_in script) files_now held_now image now answered (when_told answered found disk secrets) (fit disk) (left disk);
-    passing = passing disk secrets;
-    firm = firm answered stood disk;
-    plan = λ lands c there.
-        let its = runs disk secrets (record { lands = lands; itself = itself disk }) c there in
-        told_spares (its.so).result answered (its.so).mid (at (moment new held_now its.fuse) c) (its.so).told
-        ∙ runs_spare_plans script form (λ f. f ≡ files) (at (moment out held never) files) (its.so).mid (its.so).result (its.so).lives;
-  }
+  pub whole_back : OnOk answered (D → Stands files image → Stands files_now now) → D → X → GivesBack (reader_in script) answered files image held files_now now held_now
+  whole_back stood disk secrets = gives_back script form answered files image held files_now now held_now out new (itself disk) (left disk) (fit disk) (when_told answered found disk secrets) (passing disk secrets)
+      (when_stood answered stood disk) (runs disk secrets)
 
 -- what is known of the lines where a fault ended the lives is known where it is told
 pub bytes_told : (script : Script) (its answered : Fault) (mid new : List Entry) (picks : List ℕ) → TellsEnd by_lines (Err its) (Err answered) (trace mid picks) (trace new picks)

@@ -55,7 +55,7 @@ fn is_key(_key: u32) -> bool
 fn is_plain(config: &ScriptConfig) -> bool
     ensures { result ≡ is_plain_of config.now }
 {
-    is_simple(config) && is_alone(config) && is_limit(config) && is_key(config.me)
+    is_simple(config) && is_alone(config) && is_limit(config) && is_key(config.me.0)
 }
 
 /// The first block: at height 0, without a parent, with the first epoch's info.
@@ -138,7 +138,7 @@ fn is_event(midpoint: u64, blocks: &[BlockLine], event: &Event) -> bool
     ensures { result ≡ is_event_of midpoint blocks.now event.now }
 {
     match event {
-        Event::Peer { from, .. } => is_key(*from),
+        Event::Peer { from, .. } => is_key(from.0),
         Event::Final { block } => is_early(midpoint, blocks, *block),
         _ => false,
     }

@@ -141,6 +141,7 @@ returns-clause-tells g c = λ calls.
       seen = seen_of c.in_ok-store.store;
       shareless = refl;
       unplanned = refl;
+      listed = (c.in_ok-store.store.dealings, refl);
       given = λ disk secrets. given_back c.in_ok-store.store _ _ _ _ (c.in_ok-store.ensures.recovered disk secrets) (c.in_ok-store.ensures.settled_entries disk) c.init.ensures.same;
       so = opened_told c.in_ok-store.store c.args.life calls line;
     }

@@ -10,7 +10,7 @@ use Rattle.dkg_run.specs.Lives.{AnyFiles, RunsOver, RunsSo, never}
 use Rattle.dkg_run.specs.Ways.{by_lines, by_worlds, trace}
 use Rattle.dkg_run.proofs.Behind.{gives_as, image_as, over_as, promise_as, stopped_as}
 use Rattle.dkg_run.proofs.Running.{runs_faulted, runs_well, tells_over}
-use Rattle.dkg_run.proofs.Whole.{bytes_told, found_told, gives_back, whole_promise}
+use Rattle.dkg_run.proofs.Whole.{bytes_told, found_told, whole_back, whole_promise}
 use Rattle.dkg_run.proofs.lives.run_lives.Goals as goal
 
 -- EVERY LIFE WAS RUN
@@ -43,7 +43,7 @@ pub returns-in-Ok-clause-gives_back : goal.returns-in-Ok-clause-gives_back
 returns-in-Ok-clause-gives_back g c = λ disk secrets.
     gives_as g.D.Disk.files g.D.Disk.image g.X.SecretStore.held (reader_in c.args.script.now) (Ok tt) (g.D.Disk.files c.args.disk.now) (g.D.Disk.image c.args.disk.now) (g.X.SecretStore.held c.args.secrets.now)
     c.run_all.new.devices.disk.now _ c.run_all.new.devices.secrets.now _ (search rules) (search rules)
-    (gives_back c.args.script.now c.requires.form (IsTrue g.D.Disk.tells) (IsTrue g.X.SecretStore.tells)
+    (whole_back c.args.script.now c.requires.form (IsTrue g.D.Disk.tells) (IsTrue g.X.SecretStore.tells)
     (g.D.Disk.files c.args.disk.now) (g.D.Disk.image c.args.disk.now) (g.X.SecretStore.held c.args.secrets.now)
     (g.D.Disk.files c.run_all.new.devices.disk.now) (g.D.Disk.image c.run_all.new.devices.disk.now) (g.X.SecretStore.held c.run_all.new.devices.secrets.now) c.args.out.now.entries c.run_all.new.out.entries (Ok tt)
     (λ disk secrets stands image left.
@@ -96,7 +96,7 @@ pub returns-in-Err-clause-gives_back : goal.returns-in-Err-clause-gives_back
 returns-in-Err-clause-gives_back g c = λ disk secrets.
     gives_as g.D.Disk.files g.D.Disk.image g.X.SecretStore.held (reader_in c.args.script.now) (Err c.tell.result) (g.D.Disk.files c.args.disk.now) (g.D.Disk.image c.args.disk.now) (g.X.SecretStore.held c.args.secrets.now)
     c.run_all.new.devices.disk.now _ c.run_all.new.devices.secrets.now _ (search rules) (search rules)
-    (gives_back c.args.script.now c.requires.form (IsTrue g.D.Disk.tells) (IsTrue g.X.SecretStore.tells)
+    (whole_back c.args.script.now c.requires.form (IsTrue g.D.Disk.tells) (IsTrue g.X.SecretStore.tells)
     (g.D.Disk.files c.args.disk.now) (g.D.Disk.image c.args.disk.now) (g.X.SecretStore.held c.args.secrets.now)
     (g.D.Disk.files c.run_all.new.devices.disk.now) (g.D.Disk.image c.run_all.new.devices.disk.now) (g.X.SecretStore.held c.run_all.new.devices.secrets.now) c.args.out.now.entries c.tell.new.out.entries (Err c.tell.result)
     (λ disk secrets stands image left.
