@@ -192,6 +192,7 @@ module _ (script : Script) (number : ℕ) (life : Life) (source : HeldBlocks) (f
               seen = said.seen;
               shareless = said.shareless;
               unplanned = said.unplanned;
+              listed = said.listed;
               given = so said.seen said.given;
               so = opened_says n (at_step (life_with (λ h. said.seen)) 0) (at_oneshot (life_with (λ h. said.seen)) 0) now_is fence living.life (same ∙ living.is) lines_are
                   (speaks (at_step (life_with (λ h. said.seen)) 0) (live_of now_is fence living.life) (given_with (λ h. said.seen) reads_it) enters);
@@ -205,6 +206,7 @@ module _ (script : Script) (number : ℕ) (life : Life) (source : HeldBlocks) (f
               seen = said.seen;
               shareless = said.shareless;
               unplanned = said.unplanned;
+              listed = said.listed;
               given = so said.seen said.given;
               so = halted_says (at_step (life_with (λ h. said.seen)) 0) (at_oneshot (life_with (λ h. said.seen)) 0) (live_of now_is fence living.life) stop lines_are
                   (speaks (at_step (life_with (λ h. said.seen)) 0) (live_of now_is fence living.life) (given_with (λ h. said.seen) reads_it) enters);
@@ -263,6 +265,7 @@ module _ (script : Script) (number : ℕ) (life : Life) (source : HeldBlocks) (f
           seen = said.seen;
           shareless = said.shareless;
           unplanned = said.unplanned;
+          listed = said.listed;
           given = so said.seen said.given;
           so = ended_says (at_step (life_with (λ h. said.seen)) 0) stop
               (subst (λ (c : Fixed directory.Unit). Said (on_devices (opening c)) (by_stop stop) out new) (read_as said.seen)

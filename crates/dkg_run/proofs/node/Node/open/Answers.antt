@@ -2,6 +2,7 @@ use Rattle.std.proofs.Common.{ℕ, Err, Ok, ap, refl, subst, sym}
 use Rattle.std.specs.Int.NonZero.{non_zero_u32_get, non_zero_u64_get}
 use Rattle.std.proofs.lemmas.Result.{err_from_is_err_and}
 use Rattle.dkg_store.specs.Acts.{by_want}
+use Rattle.dkg_core.specs.Heard.{recovered_in}
 use Rattle.std.specs.Prelude.{IsTrue}
 use Rattle.dkg_ceremony.specs.declared.mode.Reveal.TheVariants.{V1}
 use Rattle.dkg_text.specs.declared.script.Script.{Script}
@@ -16,6 +17,7 @@ use Rattle.dkg_reshare.proofs.Said.{nothing_held}
 use Rattle.dkg_run.specs.Nodes.{ended_new}
 use Rattle.dkg_run.proofs.NodeOpens.{above_from, are_of, ended_acts, ended_lines, found_nothing, given_ended, given_halted, given_opened, half_as, halted_acts, halted_lines, its, lent_is, life_with, number_is, opened_acts, opened_lines, opening_is, ready_is, today_is}
 use Rattle.dkg_run.proofs.Noding.{at_rules, of_terms, ready_node, unsaid}
+use Rattle.dkg_run.proofs.Shutting.{shut_as, shut_none}
 use Rattle.dkg_run.proofs.node.Node.open.Goals as goal
 
 pub returns-in_err-config-clause-acts : goal.returns-in_err-config-clause-acts
@@ -26,7 +28,7 @@ returns-in_err-config-clause-acts g c = λ disk secrets grammar.
 pub returns-in_err-config-clause-tells : goal.returns-in_err-config-clause-tells
 returns-in_err-config-clause-tells g c =
     let p = err_from_is_err_and c.from_residual.result c.from_residual.ensures.1 in
-    rw (p.1, p.2) (record { seen = seen_today nothing_held; shareless = refl; unplanned = refl; given = tt; so = unsaid _ by_want c.args.out.now.entries })
+    rw (p.1, p.2) (record { seen = seen_today nothing_held; shareless = refl; unplanned = refl; listed = (recovered_in nothing_held, refl); given = tt; so = unsaid _ by_want c.args.out.now.entries })
 
 pub returns-in_err-open-clause-acts : goal.returns-in_err-open-clause-acts
 returns-in_err-open-clause-acts g c = λ disk secrets grammar.
@@ -107,3 +109,24 @@ pub returns-clause-loose : goal.returns-clause-loose
 returns-clause-loose g c = λ told.
     let are = (are_of (c.in_ok-actor.actor).terms c.args.script.now.config _ _ _ _ _ _ _ c.in_ok-actor.ensures.terms c.in_ok-config.ensures.0 c.in_ok-config.ensures.1 c.in_ok-config.ensures.2 c.in_ok-config.ensures.3 c.in_ok-config.ensures.4 c.in_ok-config.ensures.5 c.in_ok-config.ensures.6) in
     above_from c.args.script.now c.args.number c.args.life.now c.args.source.now (g.D.Disk.files c.args.devices.now.disk.now) c.requires.form c.requires.here c.requires.source (c.in_ok-actor.actor).terms are _ _ _ _ (c.in_ok-open.ensures.loose told)
+
+pub returns-in_err-config-clause-shut : goal.returns-in_err-config-clause-shut
+returns-in_err-config-clause-shut g c = λ told. shut_none _ _ _
+
+pub returns-in_err-actor-clause-shut : goal.returns-in_err-actor-clause-shut
+returns-in_err-actor-clause-shut g c = λ told. shut_none _ _ _
+
+pub returns-in_err-open-clause-shut : goal.returns-in_err-open-clause-shut
+returns-in_err-open-clause-shut g c = λ told.
+    let are = (are_of (c.in_ok-actor.actor).terms c.args.script.now.config _ _ _ _ _ _ _ c.in_ok-actor.ensures.terms c.in_ok-config.ensures.0 c.in_ok-config.ensures.1 c.in_ok-config.ensures.2 c.in_ok-config.ensures.3 c.in_ok-config.ensures.4 c.in_ok-config.ensures.5 c.in_ok-config.ensures.6) in
+    shut_as _ _ (ap non_zero_u32_get are.limit_is) _ _ _ _ _ (c.in_err-open.ensures.shut told)
+
+pub returns-in_err-half-clause-shut : goal.returns-in_err-half-clause-shut
+returns-in_err-half-clause-shut g c = λ told.
+    let are = (are_of (c.in_ok-actor.actor).terms c.args.script.now.config _ _ _ _ _ _ _ c.in_ok-actor.ensures.terms c.in_ok-config.ensures.0 c.in_ok-config.ensures.1 c.in_ok-config.ensures.2 c.in_ok-config.ensures.3 c.in_ok-config.ensures.4 c.in_ok-config.ensures.5 c.in_ok-config.ensures.6) in
+    shut_as _ _ (ap non_zero_u32_get are.limit_is) _ _ _ _ _ (c.in_ok-open.ensures.shut told)
+
+pub returns-clause-shut : goal.returns-clause-shut
+returns-clause-shut g c = λ told.
+    let are = (are_of (c.in_ok-actor.actor).terms c.args.script.now.config _ _ _ _ _ _ _ c.in_ok-actor.ensures.terms c.in_ok-config.ensures.0 c.in_ok-config.ensures.1 c.in_ok-config.ensures.2 c.in_ok-config.ensures.3 c.in_ok-config.ensures.4 c.in_ok-config.ensures.5 c.in_ok-config.ensures.6) in
+    shut_as _ _ (ap non_zero_u32_get are.limit_is) _ _ _ _ _ (c.in_ok-open.ensures.shut told)
