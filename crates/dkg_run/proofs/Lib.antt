@@ -45,11 +45,13 @@ pub mod Resting
 pub mod Running
 pub mod Runs
 pub mod Seating
+pub mod Shutting
 pub mod Skipping
 pub mod Sourced
 pub mod Standing
 pub mod Stepping
 pub mod Steps
 pub mod Today
+pub mod Turns
 pub mod Used
 pub mod Whole

@@ -67,7 +67,7 @@ fn begin_step<D: Disk, X: SecretStore>(
 ) -> Result<(), Stop>
     ensures same { (devices.new.disk ≡ devices.old.disk) × (devices.new.secrets ≡ devices.old.secrets) }
     ensures lit { OnOk result (fuse_for cut.now step ≡ Some devices.new.fuse) }
-    ensures ends { IfErr result (λ stop. (stop ≡ AtCut) × (fuse_for cut.now step ≡ None)) }
+    ensures ends { IfErr result (λ stop. (stop ≡ AtCut) × (fuse_for cut.now step ≡ None) × (devices.new ≡ devices.old)) }
 {
     match fuse_of(cut, step) {
         Some(fuse) => {

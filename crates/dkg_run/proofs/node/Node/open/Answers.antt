@@ -16,6 +16,8 @@ use Rattle.dkg_reshare.proofs.Said.{nothing_held}
 use Rattle.dkg_run.specs.Nodes.{ended_new}
 use Rattle.dkg_run.proofs.NodeOpens.{above_from, are_of, ended_acts, ended_lines, found_nothing, given_ended, given_halted, given_opened, half_as, halted_acts, halted_lines, its, lent_is, life_with, number_is, opened_acts, opened_lines, opening_is, ready_is, today_is}
 use Rattle.dkg_run.proofs.Noding.{at_rules, of_terms, ready_node, unsaid}
+use Rattle.dkg_run.proofs.Opening.{unless_named}
+use Rattle.dkg_run.proofs.Shutting.{shut_as, shut_none}
 use Rattle.dkg_run.proofs.node.Node.open.Goals as goal
 
 pub returns-in_err-config-clause-acts : goal.returns-in_err-config-clause-acts
@@ -107,3 +109,24 @@ pub returns-clause-loose : goal.returns-clause-loose
 returns-clause-loose g c = λ told.
     let are = (are_of (c.in_ok-actor.actor).terms c.args.script.now.config _ _ _ _ _ _ _ c.in_ok-actor.ensures.terms c.in_ok-config.ensures.0 c.in_ok-config.ensures.1 c.in_ok-config.ensures.2 c.in_ok-config.ensures.3 c.in_ok-config.ensures.4 c.in_ok-config.ensures.5 c.in_ok-config.ensures.6) in
     above_from c.args.script.now c.args.number c.args.life.now c.args.source.now (g.D.Disk.files c.args.devices.now.disk.now) c.requires.form c.requires.here c.requires.source (c.in_ok-actor.actor).terms are _ _ _ _ (c.in_ok-open.ensures.loose told)
+
+pub returns-in_err-config-clause-shut : goal.returns-in_err-config-clause-shut
+returns-in_err-config-clause-shut g c = λ told. shut_none _ _ _
+
+pub returns-in_err-actor-clause-shut : goal.returns-in_err-actor-clause-shut
+returns-in_err-actor-clause-shut g c = λ told. shut_none _ _ _
+
+pub returns-in_err-open-clause-shut : goal.returns-in_err-open-clause-shut
+returns-in_err-open-clause-shut g c = λ told.
+    let are = (are_of (c.in_ok-actor.actor).terms c.args.script.now.config _ _ _ _ _ _ _ c.in_ok-actor.ensures.terms c.in_ok-config.ensures.0 c.in_ok-config.ensures.1 c.in_ok-config.ensures.2 c.in_ok-config.ensures.3 c.in_ok-config.ensures.4 c.in_ok-config.ensures.5 c.in_ok-config.ensures.6) in
+    shut_as _ _ (ap non_zero_u32_get are.limit_is) _ _ _ _ _ (c.in_err-open.ensures.shut told)
+
+pub returns-in_err-half-clause-shut : goal.returns-in_err-half-clause-shut
+returns-in_err-half-clause-shut g c = λ told.
+    let are = (are_of (c.in_ok-actor.actor).terms c.args.script.now.config _ _ _ _ _ _ _ c.in_ok-actor.ensures.terms c.in_ok-config.ensures.0 c.in_ok-config.ensures.1 c.in_ok-config.ensures.2 c.in_ok-config.ensures.3 c.in_ok-config.ensures.4 c.in_ok-config.ensures.5 c.in_ok-config.ensures.6) in
+    shut_as _ _ (ap non_zero_u32_get are.limit_is) _ _ _ _ _ (c.in_ok-open.ensures.shut told)
+
+pub returns-clause-shut : goal.returns-clause-shut
+returns-clause-shut g c = λ told.
+    let are = (are_of (c.in_ok-actor.actor).terms c.args.script.now.config _ _ _ _ _ _ _ c.in_ok-actor.ensures.terms c.in_ok-config.ensures.0 c.in_ok-config.ensures.1 c.in_ok-config.ensures.2 c.in_ok-config.ensures.3 c.in_ok-config.ensures.4 c.in_ok-config.ensures.5 c.in_ok-config.ensures.6) in
+    shut_as _ _ (ap non_zero_u32_get are.limit_is) _ _ _ _ _ (c.in_ok-open.ensures.shut told)
