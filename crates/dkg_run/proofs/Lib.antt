@@ -11,6 +11,7 @@ pub mod Faulted
 pub mod Faults
 pub mod Finding
 pub mod FitsRead
+pub mod Founding
 pub mod Fresh
 pub mod Giving
 pub mod GivingBack
