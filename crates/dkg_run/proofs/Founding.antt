@@ -1,6 +1,6 @@
 -- What the fault of a life shows: of its opening, what was read and the script's first info; of a step, nothing.
-use Rattle.std.proofs.Common.{◌≡◌, ◌⊎◌, inl, inr, ℕ, zero, ◌+◌, ◌<◌, ◌≤◌, ◌&&◌, ◌==◌, Bool, true, false, List, [], ◌∷◌, filter, Option, Some, None, Result, Ok, Err, refl, sym, ◌∙◌, ap, subst, arith}
-use Rattle.std.specs.Prelude.{IfErr, IsSomeAnd, ⊤, not, nat_lt, option_and_then, slice_get, if◌then◌else◌}
+use Rattle.std.proofs.Common.{◌≡◌, ◌⊎◌, inl, inr, ℕ, zero, ◌+◌, ◌<◌, ◌≤◌, ◌&&◌, ◌==◌, ◌^◌, Bool, true, false, List, [], ◌∷◌, filter, Option, Some, None, Result, Ok, Err, refl, sym, ◌∙◌, ap, subst, arith}
+use Rattle.std.specs.Prelude.{IfErr, IsSomeAnd, IsTrue, ⊤, not, nat_lt, option_and_then, slice_get, if◌then◌else◌}
 use Rattle.std.specs.FinMap as maps
 use Rattle.std.specs.FinMap.{find, get, get-entries, same_map}
 use Rattle.std.specs.Int.NonZero.{non_zero_u32_get}
@@ -48,6 +48,7 @@ use Rattle.dkg_core.specs.Today.{IsLiveToday, IsOpeningFault, IsTakenToday, OnIn
 use Rattle.dkg_core.proofs.NodeToday.{node_openings_come_to}
 use Rattle.dkg_reshare.specs.Actors.{IsFoundAt}
 use Rattle.dkg_reshare.specs.Ends.{IsCaused}
+use Rattle.dkg_reshare.specs.Made.{UnlessBroken}
 use Rattle.dkg_reshare.specs.declared.stop.Stop.{Stop}
 use Rattle.dkg_reshare.specs.declared.stop.Stop.TheVariants.{Cut, Failed, Fault as FaultOf}
 use Rattle.dkg_run.specs.Causes.{IfFault}
@@ -56,6 +57,7 @@ use Rattle.dkg_run.specs.Found.{IsFound, NamesNoRecord, Shows, first_info, reade
 use Rattle.dkg_run.specs.Given.{IsLifeHere, Lived, at_step, block_on, limits_of, parent_in, payload_in}
 use Rattle.dkg_run.specs.Lives.{TakesAll}
 use Rattle.dkg_run.specs.Ways.{Trace, by_lines}
+use Rattle.dkg_run.specs.declared.node.Node.{Node}
 use Rattle.dkg_run.proofs.Early.{boundary_low, starts_first}
 use Rattle.dkg_run.proofs.Faulted.{GoesOn, opening_comes, takes_tell}
 use Rattle.dkg_run.proofs.Faults.{IsOutside, own_or_outside}
@@ -212,14 +214,14 @@ outside_shows files held script its is plain = absurd is
 
 -- A LIFE'S STOP, as its opening found it
 
-fault_alike : (stop result : Stop) (F : Fault → Type 0) → F fault.NoMemory → (result ≡ stop) ⊎ ((stop ≡ Cut) × (result ≡ FaultOf fault.NoMemory)) → IfFault stop F → IfFault result F
+pub fault_alike : (stop result : Stop) (F : Fault → Type 0) → F fault.NoMemory → (result ≡ stop) ⊎ ((stop ≡ Cut) × (result ≡ FaultOf fault.NoMemory)) → IfFault stop F → IfFault result F
 fault_alike stop result F memory (inl same) is = subst (λ (s : Stop). IfFault s F) (sym same) is
 fault_alike stop result F memory (inr other) is = subst (λ (s : Stop). IfFault s F) (sym other.1) memory
 
 module _ (g : Lived) (here : IsLifeHere g) (files : Files) (held : Secrets) where
   -- of a stop of the opening: `given` is of what was read
-  module _ (seen : Seen) (pairs : Pairs) (reads : (h : Held) → (at_step g 0).seen h ≡ seen) (listed : seen.dealings ≡ maps.entries pairs) (out now : List Entry) (limit : ℕ) (same_limit : limit ≡ (reader_in g.script).limit) where
-    pub stop_found : (stop : Stop) (P Q R : Type 0) → IsFoundAt limit true files stop P Q R
+  module _ (seen : Seen) (pairs : Pairs) (reads : (h : Held) → (at_step g 0).seen h ≡ seen) (listed : seen.dealings ≡ maps.entries pairs) (out now : List Entry) (limit : ℕ) (same_limit : limit ≡ (reader_in g.script).limit) (tells : Bool) (told : IsTrue tells) where
+    pub stop_found : (stop : Stop) (P Q R : Type 0) → IsFoundAt limit tells files stop P Q R
         → Said (on_devices (node_opening (at_step g 0))) (by_node_stop stop) out now
         → ((its : Fault) → by_node_stop {S = Live directory.Unit} (FaultOf its) ≡ stopped (Faulted its) → stop ≡ FaultOf its → (key : ℕ × ℕ) → 0 ≤ key.0 → find key_cmp key seen.dealings ≡ get (recovered_from files held) key)
         → IfFault stop (IsFound (reader_in g.script) files held)
@@ -227,11 +229,11 @@ module _ (g : Lived) (here : IsLifeHere g) (files : Files) (held : Secrets) wher
     stop_found Failed P Q R caused said given = tt
     stop_found (FaultOf its) P Q R caused said given = by_kind (own_or_outside its)
       where
-        by_outside : (own : Fault) → IsOutside own → IsFoundAt limit true files (FaultOf own) P Q R → IsFound (reader_in g.script) files held own
+        by_outside : (own : Fault) → IsOutside own → IsFoundAt limit tells files (FaultOf own) P Q R → IsFound (reader_in g.script) files held own
         by_outside fault.NoMemory is caused = record { so = tt }
         by_outside fault.Disk is caused = record { so = tt }
         by_outside fault.Secrets is caused = record { so = tt }
-        by_outside (fault.Corrupt name place) is caused = record { so = subst (λ (n : ℕ). IsFoundAt n true files (FaultOf (fault.Corrupt name place)) P Q R) same_limit caused refl }
+        by_outside (fault.Corrupt name place) is caused = record { so = (subst (λ (n : ℕ). IsFoundAt n tells files (FaultOf (fault.Corrupt name place)) P Q R) same_limit caused) told }
         by_outside own is caused = absurd is
 
         own_fault : {x y : Fault} → Faulted x ≡ Faulted y → x ≡ y
@@ -266,3 +268,24 @@ module _ (g : Lived) (here : IsLifeHere g) (files : Files) (held : Secrets) wher
     where
       goes : IsLiveToday (at_step g 0) st × (st.orchestrator.waiting ≡ None)
       goes = opening_comes (λ own. Unit {0}) (λ own is. tt) g here (λ j message its_st own taken live is. tt) (λ seen own why. tt) (went st) out now said
+
+-- WHAT WAS READ
+
+pub seen_at : (g : Lived) (h : Held) → (at_step g 0).seen h ≡ g.seen h
+unfolding at_step
+seen_at g h = refl
+
+-- of an opening that was not broken off
+pub given_there : (stop : Stop) (its : Fault) (P : Type 0) → by_node_stop {S = Live directory.Unit} (FaultOf its) ≡ stopped (Faulted its) → stop ≡ FaultOf its → UnlessBroken (by_node_stop {S = Node} stop) P → P
+given_there stop its P own is given = by_kind (own_or_outside its)
+  where
+    apart : (x : Fault) → IsOutside x → by_node_stop {S = Live directory.Unit} (FaultOf x) ≡ stopped (Faulted x) → ⊥
+    apart fault.NoMemory out e = cc
+    apart fault.Disk out e = cc
+    apart fault.Secrets out e = cc
+    apart (fault.Corrupt name place) out e = cc
+    apart x out e = out
+
+    by_kind : IsOutside its ⊎ (by_node_stop {S = Node} (FaultOf its) ≡ stopped (Faulted its)) → P
+    by_kind (inl out) = absurd (apart its out own)
+    by_kind (inr here) = subst (λ (e : Ended NodeStop Node). UnlessBroken e P) here (subst (λ (s : Stop). UnlessBroken (by_node_stop {S = Node} s) P) is given)

@@ -33,6 +33,7 @@ pub mod Meant
 pub mod Naming
 pub mod NodeOpens
 pub mod Noding
+pub mod Opened
 pub mod Opening
 pub mod Ordered
 pub mod Owed
@@ -50,6 +51,7 @@ pub mod Shutting
 pub mod Skipping
 pub mod Sourced
 pub mod Standing
+pub mod Starting
 pub mod Stepping
 pub mod Steps
 pub mod Today

@@ -44,8 +44,8 @@ events_or : (limit : ℕ) (es : List Entry) → AreEvents limit es ⊎ (AreEvent
 events_or limit [] = inl tt
 events_or limit (e ∷ es) = by_first (is_event limit e.1) refl (events_or limit es)
   where
-    apart : (is_event limit e.1 ≡ false) → is_event limit e.1 ≡ true → ⊥
-    apart no yes = let wrong : true ≡ false = sym yes ∙ no in cc
+    apart : is_event limit e.1 ≡ false → is_event limit e.1 ≡ true → ⊥
+    apart isnt is = let wrong : true ≡ false = sym is ∙ isnt in cc
 
     by_first : (t : Bool) → is_event limit e.1 ≡ t → AreEvents limit es ⊎ (AreEvents limit es → ⊥) → AreEvents limit (e ∷ es) ⊎ (AreEvents limit (e ∷ es) → ⊥)
     by_first true is (inl are) = inl (is, are)

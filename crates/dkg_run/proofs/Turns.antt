@@ -266,4 +266,4 @@ module _ {W : Type 0} (way : Way W) (line : Line) (fuse : Option Burn) (course :
       in_fuse (Some f) (inl wants) = inl wants
       in_fuse (Some f) (inr (inl stops)) = inr (inl stops)
       in_fuse (Some f) (inr (inr (end, mid, goes, inl wants))) = inr (inr (end, mid, goes, inl wants))
-      in_fuse (Some f) (inr (inr (end, mid, goes, inr more))) = absurd (none end mid more)
+      in_fuse (Some f) (inr (inr (end, mid, goes, inr more))) = absurd (none end (way.says mid line) more)
