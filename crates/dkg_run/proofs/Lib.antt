@@ -49,6 +49,7 @@ pub mod Shutting
 pub mod Skipping
 pub mod Sourced
 pub mod Standing
+pub mod Starting
 pub mod Stepping
 pub mod Steps
 pub mod Today
