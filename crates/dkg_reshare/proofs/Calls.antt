@@ -52,14 +52,16 @@ module _ {D X : Type 0} (tells : Bool) (disk : D → D → List (DeviceCall Op) 
     pub moved_secrets : (calls : List SecretOp) → Ran secrets old.secrets.now new.secrets.now old.fuse new.fuse calls → disk old.disk.now new.disk.now []
         → Moved tells disk secrets disk_faults secret_faults old new
     moved_secrets calls ran none = record {
-      ran = λ told.
-          (map on_secrets ran.first, record {
-            each = record {
-              on_the_disk = subst (λ (l : List (DeviceCall Op)). disk old.disk.now new.disk.now l) (sym (none_of_disk ran.first old.fuse)) none;
-              on_the_secrets = subst (λ (l : List (DeviceCall SecretOp)). secrets old.secrets.now new.secrets.now l) (sym (all_of_secrets ran.first old.fuse)) ran.all.each;
-            };
-            fuse = ran.all.fuse ∙ sym (burned_alike ran.first old.fuse);
-          });
+      ran = λ told. (
+        map on_secrets ran.first,
+        record {
+          each = record {
+            on_the_disk = subst (λ (l : List (DeviceCall Op)). disk old.disk.now new.disk.now l) (sym (none_of_disk ran.first old.fuse)) none;
+            on_the_secrets = subst (λ (l : List (DeviceCall SecretOp)). secrets old.secrets.now new.secrets.now l) (sym (all_of_secrets ran.first old.fuse)) ran.all.each;
+          };
+          fuse = ran.all.fuse ∙ sym (burned_alike ran.first old.fuse);
+        },
+      );
       same_disk = same_disk;
       same_secrets = same_secrets;
       later_disk = later_disk;

@@ -153,13 +153,16 @@ module _ (limit : ℕ) (tells : Bool) (files : Files) {disk secrets reached disk
 
 module _ {D X : Type 0} (disk : D → D → List (DeviceCall Op) → Type 0) (secrets : X → X → List (DeviceCall SecretOp) → Type 0) where
   pub disk_alone : {a b : D} {x y : X} {f g : Burn} {calls : List Op} → Ran disk a b f g calls → secrets x y [] → (all : List Call) × RanAll (MadeBoth disk secrets) (a, x) (b, y) f g all
-  disk_alone {a} {b} {x} {y} {f} ran none = (map on_disk ran.first, record {
-    each = record {
-      on_the_disk = subst (λ (l : List (DeviceCall Op)). disk a b l) (sym (disk_calls-map ran.first f)) ran.all.each;
-      on_the_secrets = subst (λ (l : List (DeviceCall SecretOp)). secrets x y l) (sym (secret_calls-map ran.first f)) none;
-    };
-    fuse = ran.all.fuse ∙ sym (burned-map ran.first f);
-  })
+  disk_alone {a} {b} {x} {y} {f} ran none = (
+    map on_disk ran.first,
+    record {
+      each = record {
+        on_the_disk = subst (λ (l : List (DeviceCall Op)). disk a b l) (sym (disk_calls-map ran.first f)) ran.all.each;
+        on_the_secrets = subst (λ (l : List (DeviceCall SecretOp)). secrets x y l) (sym (secret_calls-map ran.first f)) none;
+      };
+      fuse = ran.all.fuse ∙ sym (burned-map ran.first f);
+    },
+  )
 
 -- AS ACTS: the store's opening, and the line
 
