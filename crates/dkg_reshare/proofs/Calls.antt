@@ -3,12 +3,11 @@ use Rattle.std.proofs.Common.{◌≡◌, ℕ, ◌≤◌, arith, Bool, List, [], 
 use Rattle.std.specs.Prelude.{IsTrue}
 use Rattle.dkg_journal.specs.Burn.{Burn}
 use Rattle.dkg_journal.specs.DeviceCall.{DeviceCall, call_at}
-use Rattle.dkg_journal.specs.Fuse.{Ran, RanAll, burned, calls_in, pick_now, spent_once}
+use Rattle.dkg_journal.specs.Fuse.{Ran, burned, calls_in, pick_now, spent_once}
 use Rattle.dkg_journal.specs.declared.disk.Op.{Op}
-use Rattle.dkg_store.specs.Both.{Call, MadeBoth, disk_calls, on_disk, on_secrets, secret_calls}
+use Rattle.dkg_store.specs.Both.{Call, MadeBoth, disk_calls, on_secrets, secret_calls}
 use Rattle.dkg_store.specs.declared.devices.Devices.{Devices}
 use Rattle.dkg_store.specs.declared.secrets.SecretOp.{SecretOp}
-use Rattle.dkg_store.proofs.Both.{burned-map, disk_calls-map, secret_calls-map}
 use Rattle.dkg_reshare.specs.Moved.{Moved}
 
 -- a call of the secrets, made or cut
