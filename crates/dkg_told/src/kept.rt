@@ -1,5 +1,5 @@
 //! A source that keeps what is read of it, so that a person can be told which line it was.
-ghost use Rattle.std.specs.Prelude.{◌≡◌, ◌<◌, ◌≤◌, IfOk, OnErr, length};
+ghost use Rattle.std.specs.Prelude.{◌≡◌, ◌<◌, ◌≤◌, ◌++◌, IfOk, IsTrue, OnErr, length};
 ghost use Rattle.dkg_journal.specs.Disk.{Rose};
 
 use dkg_run::{Failed, Source};
@@ -32,7 +32,11 @@ impl<S: Source> KeptSource<S> {
         }
     }
 
-    fn keep(&mut self, piece: &[u8]) {
+    fn keep(&mut self, piece: &[u8])
+        ensures source { self.new.source ≡ self.old.source }
+        ensures kept { IsTrue self.new.is_whole → self.new.kept.items ≡ self.old.kept.items ++ piece.now }
+        ensures whole { IsTrue self.new.is_whole → IsTrue self.old.is_whole }
+    {
         if self.is_whole && self.kept.extend_from_slice(piece).is_err() {
             self.is_whole = false;
             self.kept.clear();

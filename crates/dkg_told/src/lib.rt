@@ -2,7 +2,7 @@
 #![tactic(auto)]
 
 mod kept;
-mod told;
+mod words;
 
 pub use kept::KeptSource;
-pub use told::told;
+pub use words::told;

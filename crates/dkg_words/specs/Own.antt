@@ -2,11 +2,11 @@
 use Rattle.std.specs.Prelude.{ℕ, ◌+◌, ◌^◌, min, List, [], ◌∷◌, ◌++◌, Option, Some, None, codes, decimal, option_map}
 use Rattle.memchr.specs.Find.{first_of, matches}
 use Rattle.dkg_words.specs.Before.{counted}
-use Rattle.dkg_words.specs.Lines.{behind, first_number}
+use Rattle.dkg_words.specs.Lines.{behind, first_number, until}
 use Rattle.dkg_words.specs.Told.{line_told}
 
 abbrev pub key_of : Option (List ℕ) → ℕ
-key_of (Some line) = first_number line
+key_of (Some lines) = first_number (until 10 lines)
 key_of None = 0
 
 -- this node's key: the number behind the name of the second line

@@ -4,7 +4,7 @@ ghost use Rattle.dkg_words.specs.Own.{behind_first, own_key, own_message, own_pl
 
 use crate::bad::put_line;
 use crate::before::counted;
-use crate::lines::{behind, first_number};
+use crate::lines::{behind, first_number, until};
 use crate::put::{put, put_number};
 use dkg_values::Mem;
 use memchr::memmem;
@@ -15,7 +15,7 @@ fn key(text: &[u8]) -> u64
     ensures { result ≡ own_key text.now }
 {
     match behind(text, b'\n') {
-        Some(line) => first_number(line),
+        Some(lines) => first_number(until(lines, b'\n')),
         None => 0,
     }
 }
@@ -32,7 +32,7 @@ fn message_of(alloc: Global, key: u64) -> Mem<Vec<u8>>
 }
 
 /// The place behind the first line feed at which some words stand.
-fn find(text: &[u8], words: &[u8]) -> Option<u64>
+pub(crate) fn find(text: &[u8], words: &[u8]) -> Option<u64>
     ensures { result ≡ behind_first text.now words.now }
 {
     match memmem::find(text, words) {

@@ -2,10 +2,10 @@
 ghost use Rattle.std.specs.Prelude.{◌≡◌, ◌++◌, IfOk, OnOk};
 ghost use Rattle.dkg_words.specs.Twice.{IsTwiceWarning, lines_told, pair_told, twice_told};
 
-use crate::lines::{behind, cut, first_number, line_number, number_or_zero, until};
+use crate::lines::{behind, cut, first_number, line_number, number_or_zero, on_from, until, up_to};
+use crate::own::find;
 use crate::put::{put, put_number};
 use dkg_values::Mem;
-use memchr::memmem;
 use std::alloc::Global;
 
 /// A block line: its height, where it begins, and whether a life uses it.
@@ -18,8 +18,8 @@ pub(crate) struct Block {
 
 /// A script's head, and its lives.
 fn parts(text: &[u8]) -> (&[u8], &[u8]) {
-    match memmem::find(text, b"\nlife ") {
-        Some(feed) => text.split_at(feed),
+    match find(text, b"\nlife ") {
+        Some(place) => (up_to(text, place), on_from(text, place)),
         None => (text, &[]),
     }
 }
