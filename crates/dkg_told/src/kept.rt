@@ -1,6 +1,5 @@
 //! A source that keeps what is read of it, so that a person can be told which line it was.
-ghost use Rattle.std.specs.Prelude.{◌≡◌, ◌<◌, ◌≤◌, ◌++◌, IfOk, IsTrue, OnErr, length};
-ghost use Rattle.dkg_journal.specs.Disk.{Rose};
+ghost use Rattle.std.specs.Prelude.{◌≡◌, ◌<◌, ◌++◌, IsTrue};
 
 use dkg_run::{Failed, Source};
 use std::alloc::Global;

@@ -1,5 +1,5 @@
 //! What is said on standard error, by the status.
-ghost use Rattle.std.specs.Prelude.{◌≡◌, ◌++◌, IfOk, Some, None};
+ghost use Rattle.std.specs.Prelude.{◌≡◌, IfOk, Some};
 ghost use Rattle.std.specs.Option.{option_copied};
 ghost use Rattle.dkg_words.specs.Help.{help_text};
 ghost use Rattle.dkg_told.specs.Tells.{DeviceTold, Tells, TellsOf, Warns, is_of_text as is_of_text_status};

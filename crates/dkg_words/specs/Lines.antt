@@ -1,5 +1,5 @@
 -- The parts of a text: its lines, and a line's fields.
-use Rattle.std.specs.Prelude.{ℕ, ◌+◌, ◌==◌, suc, if◌then◌else◌, List, [], ◌∷◌, ◌++◌, take, Option, Some, None, unwrap_or}
+use Rattle.std.specs.Prelude.{◌≡◌, ℕ, ◌+◌, ◌==◌, suc, if◌then◌else◌, List, [], ◌∷◌, ◌++◌, take, Option, Some, None, unwrap_or}
 use Rattle.dkg_text.specs.Rows.{number_of}
 
 -- what stands before the first such byte, or all of a text that has none
@@ -11,6 +11,13 @@ until at (b ∷ bs) = if b == at then [] else b ∷ until at bs
 abbrev pub behind : (at : ℕ) → List ℕ → Option (List ℕ)
 behind at [] = None
 behind at (b ∷ bs) = if b == at then Some bs else behind at bs
+
+-- a text parted at the first such byte, and one without any
+abbrev pub IsParted : (at : ℕ) (text before after : List ℕ) → Type 0
+IsParted at text before after = (until at text ≡ before) × (behind at text ≡ Some after)
+
+abbrev pub IsWhole : (at : ℕ) (text : List ℕ) → Type 0
+IsWhole at text = (until at text ≡ text) × (behind at text ≡ None)
 
 -- FIELDS
 

@@ -1,6 +1,6 @@
 //! What is plain to see of a line: that it is empty, ends in a carriage return, or has a space too many.
-ghost use Rattle.std.specs.Prelude.{◌≡◌, ◌-◌, length, slice_get};
-ghost use Rattle.dkg_words.specs.Notes.{has_loose_space as has_loose_space_of, is_returned as is_returned_of, loose, note as note_of};
+ghost use Rattle.std.specs.Prelude.{◌≡◌, ◌-◌};
+ghost use Rattle.dkg_words.specs.Notes.{has_loose_space as has_loose_space_of, is_returned as is_returned_of, note as note_of};
 
 /// Whether a space stands at a line's begin or end, or behind another.
 fn has_loose_space(line: &[u8]) -> bool

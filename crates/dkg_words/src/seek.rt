@@ -1,7 +1,6 @@
 //! The line of a life's step: its event's, or the one that begins the life.
-ghost use Rattle.std.specs.Prelude.{◌≡◌, ◌+◌, None, [], length};
-ghost use Rattle.dkg_words.specs.Before.{events_after};
-ghost use Rattle.dkg_words.specs.Seek.{is_sought as is_sought_of, lives_after, place_of, sought_after};
+ghost use Rattle.std.specs.Prelude.{◌≡◌, None};
+ghost use Rattle.dkg_words.specs.Seek.{is_sought as is_sought_of, lives_after, place_of};
 
 use crate::before::events_behind;
 use crate::lines::{Walk, go_over, until};

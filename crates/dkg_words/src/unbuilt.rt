@@ -1,5 +1,5 @@
 //! The line that is said of a script of a form that isn't run yet.
-ghost use Rattle.std.specs.Prelude.{◌≡◌, IfOk, OnOk, ◌++◌, IfSome};
+ghost use Rattle.std.specs.Prelude.{◌≡◌, IfOk};
 ghost use Rattle.dkg_words.specs.Unbuilt.{IsUnbuiltLine, unbuilt_told, why_words};
 
 use crate::bad::put_line;
