@@ -71,7 +71,7 @@ use Rattle.dkg_core.specs.Plans as p
 use Rattle.dkg_core.specs.OneShots as o
 use Rattle.dkg_core.specs.Core.{opening, step, opens_in, begun}
 use Rattle.dkg_core.specs.Heard.{recovered_in, Fits}
-use Rattle.dkg_core.specs.Agreeing.{AreAgreed, CanRecord, BringsRecords, StepsAgree, OpeningsAgree}
+use Rattle.dkg_core.specs.Agreeing.{AreAgreed, CanRecord, BringsRecords, StepsAgree, SetupsAgree, OpeningsAgree}
 use Rattle.dkg_core.proofs.Keeping.{fold_silent, silent_whole}
 
 -- WHERE A COURSE LANDS: its end, over what the devices hold
@@ -757,6 +757,9 @@ module _ {Dir : Type 0} (c : Fixed Dir) where
 
 pub steps_agree : {Dir : Type 0} → StepsAgree Dir
 steps_agree c st end message w new a can done = lands_at (step c message st) w new end (steps c st message w.held can a) done
+
+pub setups_agree : {Dir : Type 0} → SetupsAgree Dir
+setups_agree c material st end w new a done = lands_at (s.setup c material st) w new end (setup c material st w.held a) done
 
 pub openings_agree : {Dir : Type 0} → OpeningsAgree Dir
 openings_agree c end w new reads whole done =

@@ -51,7 +51,7 @@ use Rattle.dkg_core.specs.Entering as half
 use Rattle.dkg_core.specs.Entering.{Half}
 use Rattle.dkg_core.specs.Core.{opening, step, opens_in, begun}
 use Rattle.dkg_core.specs.Laws.{start_of}
-use Rattle.dkg_core.specs.Today.{ComesTo, IsFormOfToday, stage_in, IsLiveToday, first_epoch, first_block, round_by, validity, OnInfo, OnValid, IsOpeningFault, seat_in, IsSeatedBy, IsSetUpBy, IsOpenedToday, OpeningsComeTo, HasEntered, HalvesOpen, answer_in, HalvesDeliver, IsTakenToday, refusal_over, refusal_of, tip_behind, IsNextToday, StepsComeTo}
+use Rattle.dkg_core.specs.Today.{ComesTo, IsFormOfToday, stage_in, IsLiveToday, first_epoch, first_block, round_by, validity, OnInfo, OnValid, IsOpeningFault, seat_in, IsSeatedBy, IsSetUpBy, IsOpenedToday, OpeningsComeTo, HasEntered, IsEnteredToday, HalvesOpen, answer_in, HalvesDeliver, IsTakenToday, refusal_over, refusal_of, tip_behind, IsNextToday, StepsComeTo}
 
 -- WHERE A COURSE COMES TO
 
@@ -316,26 +316,26 @@ module _ {Dir : Type 0} (c : Fixed Dir) (st : Live Dir) (seen : Seen) (opened : 
   NoStop stop = ⊥
 
   abbrev Entered : Half Dir → Type 0
-  Entered half = HasEntered c half (first_block c)
+  Entered half = IsEnteredToday c st half.live
 
   module _ (block : Block Dir) (is : first_block c ≡ Some block) (info : EpochInfo Dir) (same : info.epoch ≡ first_epoch c) (seated : IsSeatedBy c seen st info) where
     abbrev waiting : Waiting Dir
     waiting = record { epoch = first_epoch c; info = info; floor = Genesis block.digest; block = None }
 
-    entered : (half : Half Dir) → half.live.orchestrator.entered ≡ Some (first_epoch c) → Entered half
-    entered half e = subst (HasEntered c half) (sym is) e
+    entered : (o : Orchestrator Dir) (answer : half.HalfAnswer) → o.halted ≡ false → Entered (record { live = with_orchestrator (half.with_entered (first_epoch c) o) st; answer = answer })
+    entered o answer active = record { entered = subst (HasEntered c (half.with_entered (first_epoch c) o)) (sym is) (refl, active); unawaited = refl; same = refl }
 
-    starts_engine : (o : Orchestrator Dir) (found : Option SchemeInfo) → is_some found ≡ true → ComesTo NoStop Entered (half.starts_engine o waiting found st)
-    starts_engine o None e = let t : ◌≡◌ {A = Bool} false true = e in cc
-    starts_engine o (Some scheme) e = stopped o.entered
+    starts_engine : (o : Orchestrator Dir) (found : Option SchemeInfo) → is_some found ≡ true → o.halted ≡ false → ComesTo NoStop Entered (half.starts_engine o waiting found st)
+    starts_engine o None e active = let t : ◌≡◌ {A = Bool} false true = e in cc
+    starts_engine o (Some scheme) e active = stopped o.entered
       where
         stopped : (old : Option ℕ) → ComesTo NoStop Entered (half.stops_engine old (Say (lines.Entered (first_epoch c)) (half.leaves (half.with_entered (first_epoch c) o) half.Acknowledges st)))
-        stopped None = entered (record { live = with_orchestrator (half.with_entered (first_epoch c) o) st; answer = half.Acknowledges }) refl
-        stopped (Some epoch) = entered (record { live = with_orchestrator (half.with_entered (first_epoch c) o) st; answer = half.Acknowledges }) refl
+        stopped None = entered o half.Acknowledges active
+        stopped (Some epoch) = entered o half.Acknowledges active
 
-    tracks : (o : Orchestrator Dir) (lacking : Option ℕ) → lacking ≡ None → is_some (lookup (first_epoch c) o.schemes) ≡ true → ComesTo NoStop Entered (half.tracks_peers o waiting lacking st)
-    tracks o None none e = starts_engine o (lookup (first_epoch c) o.schemes) e
-    tracks o (Some peer) none e = absurd (none_apart peer (sym none))
+    tracks : (o : Orchestrator Dir) (lacking : Option ℕ) → lacking ≡ None → is_some (lookup (first_epoch c) o.schemes) ≡ true → o.halted ≡ false → ComesTo NoStop Entered (half.tracks_peers o waiting lacking st)
+    tracks o None none e active = starts_engine o (lookup (first_epoch c) o.schemes) e active
+    tracks o (Some peer) none e active = absurd (none_apart peer (sym none))
 
     registered : is_some (lookup (first_epoch c) st.orchestrator.schemes) ≡ true
     registered = subst (λ (o : Orchestrator Dir). is_some (lookup (first_epoch c) o.schemes) ≡ true) (sym seated.orchestrator) (found (info.epoch == first_epoch c) (equal info.epoch (first_epoch c) same))
@@ -357,7 +357,7 @@ module _ {Dir : Type 0} (c : Fixed Dir) (st : Live Dir) (seen : Seen) (opened : 
     enters : ComesTo NoStop Entered (half.enters c waiting st)
     enters =
         subst (λ (answer : Waited). ComesTo NoStop Entered (half.waited_for c (record st.orchestrator { fence = waited (first_epoch c) answer st.orchestrator.fence }) waiting answer st)) (sym answered)
-        (tracks (record st.orchestrator { fence = waited (first_epoch c) waits.Ready st.orchestrator.fence }) (c.directories.lacking info.directory (half.peers_for waiting)) (full info.directory (half.peers_for waiting)) registered)
+        (tracks (record st.orchestrator { fence = waited (first_epoch c) waits.Ready st.orchestrator.fence }) (c.directories.lacking info.directory (half.peers_for waiting)) (full info.directory (half.peers_for waiting)) registered (ap (λ (o : Orchestrator Dir). o.halted) seated.orchestrator))
 
     by_info : ComesTo NoStop Entered (if info.epoch == first_epoch c then half.enters c waiting st else Stops (Faulted (WrongEpoch (first_epoch c) info.epoch)))
     by_info = comes_if NoStop Entered (info.epoch == first_epoch c) (half.enters c waiting st) (Stops (Faulted (WrongEpoch (first_epoch c) info.epoch))) (λ e. enters) (λ e. other_number info.epoch (first_epoch c) e same)
@@ -370,7 +370,7 @@ module _ {Dir : Type 0} (c : Fixed Dir) (st : Live Dir) (seen : Seen) (opened : 
   at_block block is (Some info) carries set_up = by_info block is info set_up.0 set_up.2
 
   at : (found : Option (Block Dir)) → first_block c ≡ found → IsSetUpBy c seen st found → ComesTo NoStop Entered (half.opens_at c (first_epoch c) found st)
-  at None is set_up = subst (λ (o : Option (Block Dir)). HasEntered c (record { live = with_orchestrator (record st.orchestrator { halted = true; waiting = None }) st; answer = half.Withholds }) o) (sym is) refl
+  at None is set_up = record { entered = subst (HasEntered c (record st.orchestrator { halted = true; waiting = None })) (sym is) refl; unawaited = refl; same = refl }
   at (Some block) is set_up =
       at_block block is (info_of block.payload) refl (subst (λ (o : Option (Block Dir)). IsSomeAnd o (λ b. IsSomeAnd (info_of b.payload) (λ info. (info.epoch ≡ first_epoch c) × (validity c info ≡ Ok tt) × IsSeatedBy c seen st info))) is set_up)
 

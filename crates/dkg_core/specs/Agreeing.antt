@@ -1,9 +1,10 @@
 -- Memory has what the devices give back, behind every completed opening and step.
-use Rattle.std.specs.Prelude.{ℕ, List, ◌≡◌, Some, option_and_then}
+use Rattle.std.specs.Prelude.{ℕ, List, ◌≡◌, Option, Some, option_and_then}
 use Rattle.std.specs.FinMap as maps
 use Rattle.dkg_ceremony.specs.declared.round.Round.{Round}
 use Rattle.dkg_ceremony.specs.declared.signed_log.SignedDealerLog.{SignedDealerLog}
 use Rattle.dkg_types.specs.PayloadCodes.{its_log}
+use Rattle.dkg_types.specs.declared.info.EpochInfo.{EpochInfo}
 use Rattle.dkg_store.specs.Acts.{Held, World, notes}
 use Rattle.dkg_store.specs.Events.{IsEvent}
 use Rattle.dkg_store.specs.declared.event.Event.TheVariants as events
@@ -13,6 +14,7 @@ use Rattle.dkg_core.specs.Courses.{Finishes}
 use Rattle.dkg_core.specs.Fixed.{Fixed}
 use Rattle.dkg_core.specs.Live.{Live, Records, Dealer, Message, Sent, Peer, Finalized}
 use Rattle.dkg_core.specs.Core.{opening, step}
+use Rattle.dkg_core.specs.Setup.{setup}
 use Rattle.dkg_core.specs.Heard.{recovered_in, Fits}
 use Rattle.dkg_core.specs.Meant.{ReadsRecords}
 
@@ -39,6 +41,11 @@ pub record CanRecord {Dir : Type 0} (c : Fixed Dir) (st : Live Dir) (message : M
 abbrev pub StepsAgree : Type 0 → Type 0
 StepsAgree Dir = (c : Fixed Dir) (st end : Live Dir) (message : Message Dir) (w new : World)
     → AreAgreed st.records w.held → CanRecord c st message → Finishes (step c message st) end w new → AreAgreed end.records new.held
+
+-- A SETUP, wherever the life stands
+abbrev pub SetupsAgree : Type 0 → Type 0
+SetupsAgree Dir = (c : Fixed Dir) (material : Option (EpochInfo Dir × ℕ)) (st end : Live Dir) (w new : World)
+    → AreAgreed st.records w.held → Finishes (setup c material st) end w new → AreAgreed end.records new.held
 
 -- AN OPENING, in either mode
 abbrev pub OpeningsAgree : Type 0 → Type 0

@@ -1,5 +1,6 @@
 pub mod Agreeing
 pub mod Applying
+pub mod Behind
 pub mod Blocks
 pub mod Core
 pub mod Counted
@@ -20,6 +21,8 @@ pub mod Lives
 pub mod Logs
 pub mod Meant
 pub mod Node
+pub mod NodeKept
+pub mod NodeToday
 pub mod OneShots
 pub mod Plans
 pub mod Probes
@@ -28,5 +31,6 @@ pub mod Said
 pub mod Seen
 pub mod Setup
 pub mod Sources
+pub mod Splitting
 pub mod Today
 pub mod Transcripts

@@ -27,12 +27,12 @@ use Rattle.dkg_core.specs.Said.{Said}
 use Rattle.dkg_core.specs.Seen.{Seen}
 use Rattle.dkg_core.specs.Sources.{Tip, startup}
 use Rattle.dkg_core.specs.Fixed.{Fixed, has}
-use Rattle.dkg_core.specs.Live.{Live, Orchestrator, NodeStop, Stage, Deals, Includes, Follows, Seat, Plays, Watches, Message, Sent, Peer, Finalized, awaited_height, phase_of, of_epoch}
+use Rattle.dkg_core.specs.Live.{Live, Orchestrator, NodeStop, Stage, Deals, Includes, Follows, Seat, Plays, Watches, Message, Sent, Peer, Finalized, awaited_height, phase_of, of_epoch, with_orchestrator}
 use Rattle.dkg_core.specs.Logs.{logs_of}
 use Rattle.dkg_core.specs.Setup.{is_lost, is_past_range, participants_of, refused_in, scheme_for}
 use Rattle.dkg_core.specs.Blocks.{is_in_window}
 use Rattle.dkg_core.specs.Core.{opening, step, begun, no_orchestrator}
-use Rattle.dkg_core.specs.Entering.{Half, HalfAnswer, Acknowledges, Withholds, active, opens_half, delivered}
+use Rattle.dkg_core.specs.Entering.{HalfAnswer, Acknowledges, Withholds, active, opens_half, delivered}
 use Rattle.dkg_core.specs.Laws.{start_of}
 
 -- WHERE A COURSE COMES TO: each fault that it may stop by, and each end that it may go to, whatever is read
@@ -147,15 +147,21 @@ abbrev pub OpeningsComeTo : Type 0 → Type 0
 OpeningsComeTo Dir = (c : Fixed Dir) (ended : Ended Fault (Live Dir)) (old new : List Line) → IsFormOfToday c → Said (on_devices (opening c)) ended old new
     → CameTo (λ fault. (h : Held) × IsOpeningFault c (c.seen h) fault) (λ st. (h : Held) × IsOpenedToday c (c.seen h) st) ended
 
--- what the orchestrator's half comes to then: it halts without that block, and else has entered the awaited epoch
-abbrev pub HasEntered : {Dir : Type 0} → Fixed Dir → Half Dir → Option (Block Dir) → Type 0
-HasEntered c half None = half.live.orchestrator.halted ≡ true
-HasEntered c half (Some b) = half.live.orchestrator.entered ≡ Some (first_epoch c)
+-- the orchestrator behind it: it halted without that block, and else has entered the awaited epoch
+abbrev pub HasEntered : {Dir : Type 0} → Fixed Dir → Orchestrator Dir → Option (Block Dir) → Type 0
+HasEntered c o None = o.halted ≡ true
+HasEntered c o (Some b) = (o.entered ≡ Some (first_epoch c)) × (o.halted ≡ false)
+
+-- .. which waits for nothing, and nothing else was changed
+pub record IsEnteredToday {Dir : Type 0} (c : Fixed Dir) (st end : Live Dir) : Type 0 where
+  pub entered : HasEntered c end.orchestrator (first_block c)
+  pub unawaited : end.orchestrator.waiting ≡ None
+  pub same : end ≡ with_orchestrator end.orchestrator st
 
 -- THE ORCHESTRATOR'S HALF behind such an opening never stops, where directories lack nobody: neither a scheme nor a peer is missing.
 abbrev pub HalvesOpen : Type 0 → Type 0
 HalvesOpen Dir = (c : Fixed Dir) (st : Live Dir) (seen : Seen) → IsOpenedToday c seen st → ((directory : Dir) (peers : TrackedPeers) → c.directories.lacking directory peers ≡ None)
-    → ComesTo (λ (stop : NodeStop). ⊥) (λ half. HasEntered c half (first_block c)) (opens_half c None st)
+    → ComesTo (λ (stop : NodeStop). ⊥) (λ half. IsEnteredToday c st half.live) (opens_half c None st)
 
 -- A STEP
 

@@ -10,7 +10,8 @@
 //! The functions here are laws of the relation: calls without a body, whose contract is the law.
 #![tactic(auto)]
 
-ghost use Rattle.dkg_core.specs.Agreeing.{OpeningsAgree, StepsAgree};
+ghost use Rattle.dkg_core.specs.Agreeing.{OpeningsAgree, SetupsAgree, StepsAgree};
+ghost use Rattle.dkg_core.specs.Behind.{OpeningsRunBehind, OpeningsSayBehind, StepsRunBehind, StepsSayBehind};
 ghost use Rattle.dkg_core.specs.Enduring.{OpeningsEndure, StepsGiveBack, StepsKeep};
 ghost use Rattle.dkg_core.specs.Entry.{EntersRegistered, LastBlocksAreEntered};
 ghost use Rattle.dkg_core.specs.Heard.{OpeningsKeep, OpeningsRestore, PeersAgree, PeersAreKept, RunsAreKept, SetupsKeep};
@@ -18,6 +19,9 @@ ghost use Rattle.dkg_core.specs.Joining.{JoinsTrack, ProbesJoin};
 ghost use Rattle.dkg_core.specs.Laws.{DuesAreAnswered, OpeningsPrune, OthersAcknowledgeNothing, PeersAreHeard, SetupsAreSound, SetupsPrune};
 ghost use Rattle.dkg_core.specs.Counted.{CutsFall, RunsCount};
 ghost use Rattle.dkg_core.specs.Lives.{LivesKeep};
+ghost use Rattle.dkg_core.specs.NodeKept.{NodeOpeningsAgree, NodeOpeningsKeep, NodeOpeningsRestore, NodeOpeningsSpareLogs, NodeOpeningsSparePlans};
+ghost use Rattle.dkg_core.specs.NodeKept.{DeliveriesAreIdle, NodePeersAreKept, NodeStepsAgree, NodeStepsGiveBack, NodeStepsSpareLogs, NodeStepsSparePlans};
+ghost use Rattle.dkg_core.specs.NodeToday.{NodeDuesAreAnswered, NodeOpeningsAreQuiet, NodeOpeningsComeTo, NodeStepsAreQuiet, NodeStepsComeTo};
 ghost use Rattle.dkg_core.specs.Probes.{ProbesStep};
 ghost use Rattle.dkg_core.specs.Said.{RunsSay};
 ghost use Rattle.dkg_core.specs.Today.{HalvesDeliver, HalvesOpen, OpeningsComeTo, StepsComeTo};
@@ -103,6 +107,11 @@ pub fn setups_are_sound<Dir>()
 /// takes, if what it may record fits a record.
 pub fn steps_agree<Dir>()
     ensures { StepsAgree Dir }
+{}
+
+/// So they do behind a setup.
+pub fn setups_agree<Dir>()
+    ensures { SetupsAgree Dir }
 {}
 
 /// Over whole devices an opening in either mode leaves in memory what the devices give back.
@@ -210,4 +219,112 @@ pub fn joins_track<Dir, F, G, S, T>()
 /// leaves as they were, with the same lines, and to the same end or fault. The life has the state that it went to.
 pub fn probes_step<Dir>()
     ensures { ProbesStep Dir }
+{}
+
+/// At every exit a node's opening has listed first exactly what the devices gave back, and told nothing of dealings behind it; only one that was
+/// broken off may have said nothing.
+pub fn node_openings_restore<Dir>()
+    ensures { NodeOpeningsRestore Dir }
+{}
+
+/// At every exit of a node's opening the devices give back each dealing of the epoch that it starts in and of the one before, as they did, and
+/// whole devices are whole.
+pub fn node_openings_keep<Dir>()
+    ensures { NodeOpeningsKeep Dir }
+{}
+
+/// Over whole devices a node's opening leaves in memory what they give back.
+pub fn node_openings_agree<Dir>()
+    ensures { NodeOpeningsAgree Dir }
+{}
+
+/// At every exit of a node's opening in the form that is built the plan is as it was.
+pub fn node_openings_spare_plans<Dir>()
+    ensures { NodeOpeningsSparePlans Dir }
+{}
+
+/// At every exit of a node's opening in epoch 0 or 1 the devices give back the logs that they did.
+pub fn node_openings_spare_logs<Dir>()
+    ensures { NodeOpeningsSpareLogs Dir }
+{}
+
+/// At every exit of a node's step for a peer's message, whatever an operation in hand leaves: the devices are whole and give back the dealings from
+/// before or with the sender's, and an acknowledgement is that of a dealing that they give back.
+pub fn node_peers_are_kept<Dir>()
+    ensures { NodePeersAreKept Dir }
+{}
+
+/// Where the devices are whole and give back what is recorded in memory before a node's step, they do so behind it, whatever the step takes, if what
+/// it may record fits a record.
+pub fn node_steps_agree<Dir>()
+    ensures { NodeStepsAgree Dir }
+{}
+
+/// At every exit of a node's step the devices give back each dealing that they gave back before it, of the epochs that the step prunes nothing of.
+pub fn node_steps_give_back<Dir>()
+    ensures { NodeStepsGiveBack Dir }
+{}
+
+/// At every exit of a node's step for a block below the first midpoint no device was touched and no call counted, and nothing was told but that a
+/// block is acknowledged, where the orchestrator's half doesn't wait.
+pub fn deliveries_are_idle<Dir>()
+    ensures { DeliveriesAreIdle Dir }
+{}
+
+/// At every exit of a node's step in the form that is built the plan is as it was.
+pub fn node_steps_spare_plans<Dir>()
+    ensures { NodeStepsSparePlans Dir }
+{}
+
+/// At every exit of such a step the devices give back the logs that they did, if what it takes fits a record.
+pub fn node_steps_spare_logs<Dir>()
+    ensures { NodeStepsSpareLogs Dir }
+{}
+
+/// In the form that is built a node's opening stops by the faults of its reshare half alone, each with its cause, where directories lack
+/// nobody; or it leaves the life that this half left, with the awaited epoch entered, or halted without its boundary block.
+pub fn node_openings_come_to<Dir>()
+    ensures { NodeOpeningsComeTo Dir }
+{}
+
+/// In the form that is built a node's step stops by the fault that the block in hand is refused for, and by no other; or the life goes on in
+/// the same round and seat, with its orchestrator as it was. The orchestrator's half doesn't wait before it.
+pub fn node_steps_come_to<Dir>()
+    ensures { NodeStepsComeTo Dir }
+{}
+
+/// A node's opening says first that the life is opened, and then lines of its own alone; where it ended by itself it has said so.
+pub fn node_openings_are_quiet<Dir>()
+    ensures { NodeOpeningsAreQuiet Dir }
+{}
+
+/// A node's step by a message of the reshare half, or by a block, neither opens a life, counts a step, nor tells a cut or a fault.
+pub fn node_steps_are_quiet<Dir>()
+    ensures { NodeStepsAreQuiet Dir }
+{}
+
+/// A peer's message that is due is acknowledged as the last thing of the node's step, where the orchestrator's half doesn't wait.
+pub fn node_dues_are_answered<Dir>()
+    ensures { NodeDuesAreAnswered Dir }
+{}
+
+/// At every exit a run of a node's opening is one of its reshare half's, behind which no device is touched, no call is counted, and nothing is said of
+/// dealings.
+pub fn openings_run_behind<Dir>()
+    ensures { OpeningsRunBehind Dir }
+{}
+
+/// So is a run of a node's step for a message of the reshare half, or for a block.
+pub fn steps_run_behind<Dir>()
+    ensures { StepsRunBehind Dir }
+{}
+
+/// Whatever the devices tell, a node's opening says what its reshare half says, and behind it nothing of dealings.
+pub fn openings_say_behind<Dir>()
+    ensures { OpeningsSayBehind Dir }
+{}
+
+/// So does a node's step for a message of the reshare half, or for a block.
+pub fn steps_say_behind<Dir>()
+    ensures { StepsSayBehind Dir }
 {}

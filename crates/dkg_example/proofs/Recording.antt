@@ -1,5 +1,5 @@
 -- A player that has acknowledged nothing, and what a recording leaves.
-use Rattle.std.proofs.Common.{◌≡◌, ℕ, List, Option, Some, None, IfSome, IsSome, is_some, if◌then◌else◌, refl, ap, subst, ◌∙◌}
+use Rattle.std.proofs.Common.{◌≡◌, ℕ, List, Option, Some, None, Contains, IfSome, IsSome, is_some, if◌then◌else◌, refl, ap, subst, sym, ◌∙◌}
 use Rattle.std.specs.FinMap.{FinMap, get, insert, empty, get-empty}
 use Rattle.std.specs.Ordering.{nat_cmp}
 use Rattle.dkg_ceremony.specs.declared.round.Round.{Round}
@@ -8,7 +8,8 @@ use Rattle.dkg_store.specs.Player.{IsPlayerOf}
 use Rattle.dkg_store.specs.declared.player.Player.{Player}
 use Rattle.dkg_store.proofs.Pairs.{get_other}
 use Rattle.dkg_store.proofs.Playing.{not_none}
-use Rattle.dkg_example.specs.Sent.{Stays}
+use Rattle.dkg_example.specs.Sent.{IsPlaying, Stays}
+use Rattle.dkg_example.specs.declared.Node.{Node}
 
 none_kept : (acks : FinMap nat_cmp (List ℕ)) (dealer : ℕ) → acks ≡ empty → get acks dealer ≡ None
 none_kept acks dealer none = ap (λ (m : FinMap nat_cmp (List ℕ)). get m dealer) none ∙ get-empty nat_cmp dealer
@@ -16,11 +17,18 @@ none_kept acks dealer none = ap (λ (m : FinMap nat_cmp (List ℕ)). get m deale
 fresh : (ack_of : ℕ → Round → ℕ → List ℕ → List ℕ) (me : ℕ) (round : Round) (acks : FinMap nat_cmp (List ℕ)) (pairs : Pairs) (epoch : ℕ) → acks ≡ empty → IsPlayerOf ack_of me round acks pairs epoch
 fresh ack_of me round acks pairs epoch none = record { kept = λ dealer ack is. let not : get acks dealer ≡ None = none_kept acks dealer none in cc }
 
--- a player that has acknowledged nothing is one of any recorded dealings
-pub fresh_player : (ack_of : ℕ → Round → ℕ → List ℕ → List ℕ) (me : ℕ) (round : Round) (made : Option Player) (player : Player) (pairs : Pairs) (epoch : ℕ)
-    → made ≡ Some player → IfSome made (λ p. p.acks ≡ empty) → IsPlayerOf ack_of me round player.acks pairs epoch
-fresh_player ack_of me round made player pairs epoch is none =
-    fresh ack_of me round player.acks pairs epoch (subst (λ (m : Option Player). IfSome m (λ p. p.acks ≡ empty)) is none)
+playing : (ack_of : ℕ → Round → ℕ → List ℕ → List ℕ) (me : ℕ) (round : Round) (node : Node) → node.player.me ≡ me → node.player.round ≡ round → node.player.acks ≡ empty → Contains round.players me
+    → IsPlaying ack_of node
+playing ack_of me round node mine its none sits = record {
+    seated = subst (λ (n : ℕ). Contains node.player.round.players n) (sym mine) (subst (λ (r : Round). Contains r.players me) (sym its) sits);
+    answers = fresh ack_of node.player.me node.player.round node.player.acks node.store.dealings node.epoch none
+}
+
+-- a player that has acknowledged nothing is one of any recorded dealings, and sits in its round
+pub fresh_player : (ack_of : ℕ → Round → ℕ → List ℕ → List ℕ) (me : ℕ) (round : Round) (made : Option Player) (node : Node)
+    → made ≡ Some node.player → IfSome made (λ p. p.me ≡ me) → IfSome made (λ p. p.round ≡ round) → IfSome made (λ p. p.acks ≡ empty) → Contains round.players me → IsPlaying ack_of node
+fresh_player ack_of me round made node is mine its none sits = playing ack_of me round node (subst (λ (m : Option Player). IfSome m (λ p. p.me ≡ me)) is mine)
+    (subst (λ (m : Option Player). IfSome m (λ p. p.round ≡ round)) is its) (subst (λ (m : Option Player). IfSome m (λ p. p.acks ≡ empty)) is none) sits
 
 added : (pairs : Pairs) (key : ℕ × ℕ) (pair : List ℕ × ℕ) (epoch dealer : ℕ) → get pairs key ≡ None → IsSome (get pairs (epoch, dealer)) → get (insert pairs key pair) (epoch, dealer) ≡ get pairs (epoch, dealer)
 added pairs key pair epoch dealer none there =

@@ -1,12 +1,28 @@
 -- What a node answers, beside what it has recorded.
-use Rattle.std.specs.Prelude.{◌≡◌, ◌<◌, ◌⊎◌, ℕ, List, length, IsErr, IsSome, None, Result}
-use Rattle.std.specs.FinMap.{get}
+use Rattle.std.specs.Prelude.{◌≡◌, ◌-◌, ◌<◌, ◌⊎◌, ℕ, nat_le, List, length, Contains, IsErr, IsSome, None, Result}
+use Rattle.std.specs.FinMap.{get, retain_keys}
 use Rattle.dkg_ceremony.specs.declared.ceremony.DealingError.{DealingError}
 use Rattle.dkg_ceremony.specs.declared.round.Round.{Round}
 use Rattle.dkg_store.specs.Pairs.{Pairs}
-use Rattle.dkg_store.specs.Player.{Acknowledges}
+use Rattle.dkg_store.specs.Player.{Acknowledges, IsPlayerOf}
 use Rattle.dkg_example.specs.declared.Answer.{Answer}
 use Rattle.dkg_example.specs.declared.Answer.TheVariants.{Send, Block}
+use Rattle.dkg_example.specs.declared.Node.{Node}
+
+-- Between two messages: the node is one of its round's players, and acknowledges what is recorded and nothing else.
+pub record IsPlaying (ack_of : ℕ → Round → ℕ → List ℕ → List ℕ) (node : Node) : Type 0 where
+  pub seated : Contains node.player.round.players node.player.me
+  pub answers : IsPlayerOf ack_of node.player.me node.player.round node.player.acks node.store.dealings node.epoch
+
+-- The same player of the same round and epoch.
+pub record IsSameSeat (node other : Node) : Type 0 where
+  pub me : other.player.me ≡ node.player.me
+  pub round : other.player.round ≡ node.player.round
+  pub epoch : other.epoch ≡ node.epoch
+
+-- Of dealings those of an epoch and of the one below.
+abbrev pub since_below : (epoch : ℕ) → Pairs → Pairs
+since_below epoch pairs = retain_keys pairs (λ key. nat_le (epoch - 1) key.0)
 
 -- An acknowledgement is sent of the dealing that is recorded, and of no other.
 abbrev pub IsSound : (ack_of : ℕ → Round → ℕ → List ℕ → List ℕ) (me : ℕ) (round : Round) (pairs : Pairs) (epoch dealer : ℕ) → Answer → Type 0

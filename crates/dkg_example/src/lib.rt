@@ -3,13 +3,11 @@
 //! `docs/EMBEDDING.md` goes through it.
 #![tactic(auto)]
 
-ghost use Rattle.std.specs.Prelude.{◌≡◌, ◌-◌, nat_le, Contains, IfOk, IfSome, IsTrue, OnOk};
-ghost use Rattle.std.specs.FinMap as map;
+ghost use Rattle.std.specs.Prelude.{◌≡◌, Contains, IfOk, IfSome, IsTrue, OnOk};
 ghost use Rattle.dkg_journal.specs.Journals.{IsOpen};
 ghost use Rattle.dkg_journal.specs.Records.{entries};
 ghost use Rattle.dkg_store.specs.Pairs.{recovered};
-ghost use Rattle.dkg_store.specs.Player.{IsPlayerOf};
-ghost use Rattle.dkg_example.specs.Sent.{IsFair, IsSound, Stays};
+ghost use Rattle.dkg_example.specs.Sent.{IsFair, IsPlaying, IsSameSeat, IsSound, Stays, since_below};
 
 #[cfg(test)]
 mod tests;
@@ -59,10 +57,12 @@ impl Node {
         requires playing { Contains round.now.players me }
         ensures me { IfOk result (λ made. IfSome made (λ node. node.player.me ≡ me)) }
         ensures round { IfOk result (λ made. IfSome made (λ node. node.player.round ≡ round.now)) }
-        ensures open { IfOk result (λ made. IfSome made (λ node. IsTrue D.tells → IsOpen node.store.journal (D.files devices.new.disk.now) (D.image devices.new.disk.now))) }
-        ensures answers { IfOk result (λ made. IfSome made (λ node. IsPlayerOf C.ack_of me round.now node.player.acks node.store.dealings node.epoch)) }
+        ensures open { IfOk result (λ made. IfSome made (λ node. IsTrue D.tells →
+            IsOpen node.store.journal (D.files devices.new.disk.now) (D.image devices.new.disk.now))) }
+        ensures playing { IfOk result (λ made. IfSome made (λ node. IsPlaying C.ack_of node)) }
         // What the devices give of this epoch and the one below.
-        ensures restored { IfOk result (λ made. IfSome made (λ node. IsTrue D.tells → IsTrue X.tells → node.store.dealings ≡ map.retain_keys (recovered (entries (D.files devices.old.disk.now)) (X.held devices.old.secrets.now)) (λ key. nat_le (epoch - 1) key.0))) }
+        ensures restored { IfOk result (λ made. IfSome made (λ node. IsTrue D.tells → IsTrue X.tells →
+            node.store.dealings ≡ since_below epoch (recovered (entries (D.files devices.old.disk.now)) (X.held devices.old.secrets.now)))) }
         ensures same_disk { devices.new.disk.ghost_name ≡ devices.old.disk.ghost_name }
         ensures same_secrets { devices.new.secrets.ghost_name ≡ devices.old.secrets.ghost_name }
     {
@@ -92,17 +92,15 @@ impl Node {
         public: Public,
         private: Private,
     ) -> Result<Answer, StoreError>
-        requires playing { Contains self.old.player.round.players self.old.player.me }
+        requires playing { IsPlaying C.ack_of self.old }
         requires signer { C.Signer.key_of signer.now ≡ self.old.player.me }
         requires open { IsTrue D.tells → IsOpen self.old.store.journal (D.files devices.old.disk.now) (D.image devices.old.disk.now) }
-        requires answers { IsPlayerOf C.ack_of self.old.player.me self.old.player.round self.old.player.acks self.old.store.dealings self.old.epoch }
-        ensures me { self.new.player.me ≡ self.old.player.me }
-        ensures round { self.new.player.round ≡ self.old.player.round }
-        ensures epoch { self.new.epoch ≡ self.old.epoch }
+        ensures seat { IsSameSeat self.old self.new }
         ensures open { OnOk result (IsTrue D.tells → IsOpen self.new.store.journal (D.files devices.new.disk.now) (D.image devices.new.disk.now)) }
-        ensures answers { IsPlayerOf C.ack_of self.new.player.me self.new.player.round self.new.player.acks self.new.store.dealings self.new.epoch }
+        ensures playing { IsPlaying C.ack_of self.new }
         ensures sound { IfOk result (IsSound C.ack_of self.new.player.me self.new.player.round self.new.store.dealings self.new.epoch from) }
-        ensures fair { IfOk result (IsFair (C.dealing_of self.old.player.round self.old.player.me from public private) public self.old.store.dealings self.old.epoch from) }
+        ensures fair { IfOk result (IsFair (C.dealing_of self.old.player.round self.old.player.me from public private) public
+            self.old.store.dealings self.old.epoch from) }
         ensures stays { Stays self.old.store.dealings self.new.store.dealings }
         ensures same_disk { devices.new.disk.ghost_name ≡ devices.old.disk.ghost_name }
         ensures same_secrets { devices.new.secrets.ghost_name ≡ devices.old.secrets.ghost_name }
@@ -141,15 +139,12 @@ impl Node {
         from: Key,
         bytes: &[u8],
     ) -> Result<Answer, StoreError>
-        requires playing { Contains self.old.player.round.players self.old.player.me }
+        requires playing { IsPlaying C.ack_of self.old }
         requires signer { C.Signer.key_of signer.now ≡ self.old.player.me }
         requires open { IsTrue D.tells → IsOpen self.old.store.journal (D.files devices.old.disk.now) (D.image devices.old.disk.now) }
-        requires answers { IsPlayerOf C.ack_of self.old.player.me self.old.player.round self.old.player.acks self.old.store.dealings self.old.epoch }
-        ensures me { self.new.player.me ≡ self.old.player.me }
-        ensures round { self.new.player.round ≡ self.old.player.round }
-        ensures epoch { self.new.epoch ≡ self.old.epoch }
+        ensures seat { IsSameSeat self.old self.new }
         ensures open { OnOk result (IsTrue D.tells → IsOpen self.new.store.journal (D.files devices.new.disk.now) (D.image devices.new.disk.now)) }
-        ensures answers { IsPlayerOf C.ack_of self.new.player.me self.new.player.round self.new.player.acks self.new.store.dealings self.new.epoch }
+        ensures playing { IsPlaying C.ack_of self.new }
         // What is sent is the acknowledgement of the dealing that is recorded, and what is recorded stays.
         ensures sound { IfOk result (IsSound C.ack_of self.new.player.me self.new.player.round self.new.store.dealings self.new.epoch from) }
         ensures stays { Stays self.old.store.dealings self.new.store.dealings }

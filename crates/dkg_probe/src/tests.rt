@@ -764,9 +764,10 @@ impl Turn for Node {
 }
 
 impl Carries<Event, Answer> for Node {
-    ghost use Rattle.std.specs.Prelude.{◌≡◌, true};
+    ghost use Rattle.std.specs.Prelude.{◌≡◌, Some, None, true, false};
     ghost use Rattle.std.proofs.Common.{rules};
     ghost use Rattle.dkg_probe.specs.Mailboxes.{Meets};
+    ghost use Rattle.dkg_probe.specs.declared.event.Event.{Event};
 
     ghost posted = { λ message. message };
 
@@ -781,6 +782,15 @@ impl Carries<Event, Answer> for Node {
     ghost answerless = { λ before message reply after turned. turned.1 };
 
     ghost ends = { λ before call reply after turned stop. Prim.search rules };
+
+    ghost leads_on = { λ node. record {
+      before = record node { stopped = false };
+      message = Event.Attach;
+      reply = Some None;
+      after = record node { stopped = false };
+      turned = Prim.search rules;
+      goes_on = Prim.search rules;
+    } };
 
     fn call_of(message: Event) -> Event {
         message

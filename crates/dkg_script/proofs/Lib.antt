@@ -1,6 +1,8 @@
 pub mod AnyDevices
+pub mod AsCut
 pub mod Beginning
 pub mod Bridges
+pub mod ConsistentAsCut
 pub mod CutWrites
 pub mod Durable
 pub mod EachEntry
@@ -8,6 +10,7 @@ pub mod Edges
 pub mod Formed
 pub mod Honest
 pub mod LineBlocks
+pub mod Members
 pub mod OneAck
 pub mod OneDealing
 pub mod Openings
@@ -22,6 +25,7 @@ pub mod Stores
 pub mod Survives
 pub mod Today
 pub mod Trials
+pub mod ToldPlaces
 pub mod TwoEpochs
 pub mod ValidScripts
 pub mod Views

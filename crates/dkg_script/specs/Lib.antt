@@ -1,3 +1,5 @@
+pub mod AsCut
+pub mod AsCutLaws
 pub mod Blocks
 pub mod Built
 pub mod Consistent

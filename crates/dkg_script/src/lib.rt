@@ -5,8 +5,9 @@
 //! `IsHonestRun` are what they presume. `specs/Kept.antt` has what it is that a transcript and the devices keep (`Kept`), entry by entry.
 //! `specs/Laws.antt` has what follows for a dealer and for the node; the calls below prove it. From there one goes down as far as one
 //! wants: `Order` (where an entry may stand), `Due` (when an acknowledgement is owed), `Consistent`, `OwnMarks` and `Valid` (what is
-//! presumed of a script), `Ends` (how entries end), and below these `Progress`, `Position`, `Blocks`, `Setting` and `Readings`. Which
-//! scripts are run so far is `Form`, which the promise presumes, and `Built`, by which `read_built` answers.
+//! presumed of a script), `AsCut` and `AsCutLaws` (a script as its lives were cut, and what stays of it), `Ends` (how entries end), and
+//! below these `Progress`, `Position`, `Blocks`, `Setting` and `Readings`. Which scripts are run so far is `Form`, which the promise
+//! presumes, and `Built`, by which `read_built` answers.
 #![tactic(auto)]
 
 mod built;
@@ -22,7 +23,8 @@ pub use dkg_text::{
     PlayerLines, ProbeLine, Script, ScriptConfig, SyncLine, print_of,
 };
 pub use promise::{
-    acknowledged_survives, acknowledges_once, ends_as_scripted, own_marks_stand_before,
-    stays_in_order, stays_kept,
+    acknowledged_survives, acknowledges_once, comes_as_far, ends_as_scripted,
+    own_marks_stand_before, stays_honest, stays_in_order, stays_in_order_as_cut, stays_kept,
+    stays_of_today, stays_valid, valid_anyhow,
 };
 pub use read::{ReadError, read_built};

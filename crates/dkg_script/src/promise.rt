@@ -1,6 +1,7 @@
 //! What the promise of a run means, over every script, every transcript and every crash.
 //!
 //! Each law is a call without a body, whose contract is the law. Whoever relies on the promise cites them.
+ghost use Rattle.dkg_script.specs.AsCutLaws.{ComesAsFar, StaysHonest, StaysInOrderAsCut, StaysOfToday, StaysValid, ValidAnyhow};
 ghost use Rattle.dkg_script.specs.Laws.{AcknowledgesOnce, AcknowledgedSurvives, EndsAsScripted, OwnMarksStandBefore, StaysInOrder, StaysKept};
 
 use dkg_journal::Disk;
@@ -33,4 +34,34 @@ pub fn own_marks_stand_before()
 /// The lives of a transcript in order ended as their script lets them.
 pub fn ends_as_scripted()
     ensures { EndsAsScripted }
+{}
+
+/// A transcript in order comes as far over its script as it was cut.
+pub fn comes_as_far()
+    ensures { ComesAsFar }
+{}
+
+/// A transcript in order is in order over its script as it was cut.
+pub fn stays_in_order_as_cut()
+    ensures { StaysInOrderAsCut }
+{}
+
+/// A script of today's form is of it as it was cut.
+pub fn stays_of_today()
+    ensures { StaysOfToday }
+{}
+
+/// A script that is consistent wherever its cuts fall is consistent as it was cut.
+pub fn stays_honest<D: Disk>()
+    ensures { StaysHonest D.image }
+{}
+
+/// A script that is valid wherever its cuts fall is valid as it was cut.
+pub fn stays_valid()
+    ensures { StaysValid }
+{}
+
+/// A script that is valid as it is cut, however that may be, is valid as it was cut.
+pub fn valid_anyhow()
+    ensures { ValidAnyhow }
 {}

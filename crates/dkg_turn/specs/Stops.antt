@@ -8,3 +8,13 @@ module _ {T C R A : Type 0} where
     pub stays : (call : C) (reply : R) (after : T) → turns value call reply after → stopped value call reply after × (after ≡ value)
     -- for every number it has a reply that is no answer
     pub silent : (number : ℕ) → (reply : R) × (told value number ≡ Some reply) × (answered reply ≡ None)
+
+module _ {T C R M : Type 0} where
+  -- Some message leads on: from a value where it is posted the turn ends by no stop
+  pub record SomeLeadsOn (turns stopped : T → C → R → T → Type 0) (posted : M → C) : Type 0 where
+    pub before : T
+    pub message : M
+    pub reply : R
+    pub after : T
+    pub turned : turns before (posted message) reply after
+    pub goes_on : ¬ stopped before (posted message) reply after

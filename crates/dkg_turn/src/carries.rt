@@ -2,7 +2,7 @@
 ghost use Rattle.std.specs.Prelude.{◌≡◌, ◌↔◌, Option, Some, true, IsNone, IfOk, IfErr};
 ghost use Rattle.dkg_turn.specs.Passes.{IsPassOf, Posted};
 ghost use Rattle.dkg_turn.specs.Refusals.{CallRefused};
-ghost use Rattle.dkg_turn.specs.Stops.{HasStopped};
+ghost use Rattle.dkg_turn.specs.Stops.{HasStopped, SomeLeadsOn};
 
 use crate::lock::TurnLock;
 use crate::pass::{Pass, TurnError};
@@ -12,7 +12,8 @@ use std::sync::Wait;
 
 /// A core to which a mailbox posts messages of the type `M`, and which answers by values of the type `A`.
 ///
-/// An answer is none exactly where the turn ended by a stop. From then on each turn ends by a stop and leaves the core as it is.
+/// An answer is none exactly where the turn ended by a stop. From then on each turn ends by a stop and leaves the core as it is. Some
+/// message leads on without a stop.
 pub trait Carries<M, A>: Turn {
     // The call that a message is posted as.
     ghost posted: { M → Self.Call };
@@ -42,6 +43,9 @@ pub trait Carries<M, A>: Turn {
 
     // A stop is for good.
     ghost ends: { (before : Self) (call : Self.Call) (reply : Self.Reply) (after : Self) → Self.turns before call reply after → stopped before call reply after → HasStopped Self.turns stopped Self.told answered after };
+
+    // Where there is a value at all, there is one from which some message is answered.
+    ghost leads_on: { Self → SomeLeadsOn Self.turns stopped posted };
 }
 
 impl<T: Turn> Pass<T> {

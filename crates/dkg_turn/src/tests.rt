@@ -66,7 +66,7 @@ impl Turn for Till {
 }
 
 impl Carries<u64, u64> for Till {
-    ghost use Rattle.std.specs.Prelude.{◌≡◌, Some, None, true};
+    ghost use Rattle.std.specs.Prelude.{◌≡◌, Some, None, true, false};
     ghost use Rattle.std.proofs.Common.{rules};
 
     ghost posted = { λ message. Some message };
@@ -82,6 +82,15 @@ impl Carries<u64, u64> for Till {
     ghost answerless = { λ before message reply after turned. turned.1 };
 
     ghost ends = { λ before call reply after turned stop. Prim.search rules };
+
+    ghost leads_on = { λ till. record {
+      before = record { sum = 0; closed = false };
+      message = 0;
+      reply = Some 0;
+      after = record { sum = 0; closed = false };
+      turned = Prim.search rules;
+      goes_on = Prim.search rules;
+    } };
 
     fn call_of(message: u64) -> Option<u64> {
         Some(message)

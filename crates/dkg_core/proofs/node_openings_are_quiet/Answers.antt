@@ -1,0 +1,5 @@
+use Rattle.dkg_core.proofs.NodeToday.{node_openings_are_quiet as law}
+use Rattle.dkg_core.proofs.node_openings_are_quiet.Goals as goal
+
+pub returns : goal.returns
+returns g c = law

@@ -1,0 +1,5 @@
+use Rattle.dkg_core.proofs.Behind.{steps_say_behind as law}
+use Rattle.dkg_core.proofs.steps_say_behind.Goals as goal
+
+pub returns : goal.returns
+returns g c = law

@@ -1,0 +1,142 @@
+-- An actor between two calls, by its state.
+use Rattle.std.specs.Prelude.{List, ◌≡◌, ◌<◌, ◌==◌, not, ℕ, ⊤, Option, Some, None, Bool, if◌then◌else◌, IsTrue, Result, Ok, Err, IsErrOf}
+use Rattle.std.specs.Int.NonZero.{non_zero_u64_get}
+use Rattle.std.specs.declared.num.NonZeroU32.{NonZeroU32}
+use Rattle.std.specs.declared.num.NonZeroU64.{NonZeroU64}
+use Rattle.dkg_ceremony.specs.Modes.{supports_of}
+use Rattle.dkg_ceremony.specs.Schedule.{midpoint}
+use Rattle.dkg_ceremony.specs.declared.mode.Mode.{Mode}
+use Rattle.dkg_ceremony.specs.declared.mode.ModeVersion.{ModeVersion}
+use Rattle.dkg_ceremony.specs.declared.mode.Reveal.{Reveal}
+use Rattle.dkg_journal.specs.Records.{entries}
+use Rattle.dkg_journal.specs.Names.{Files}
+use Rattle.dkg_store.specs.Acts.{Ended, went, broken, by_want, held_in, Stands}
+use Rattle.dkg_store.specs.Secrets.{Secrets}
+use Rattle.dkg_store.specs.declared.devices.Devices.{Devices}
+use Rattle.dkg_store.specs.Corrupt.{IsCorruptAt}
+use Rattle.dkg_store.specs.Pairs.{IsWhole}
+use Rattle.dkg_types.specs.declared.fault.Fault.{Fault}
+use Rattle.dkg_types.specs.declared.fault.Fault.TheVariants.{Corrupt, InvalidConfig}
+use Rattle.dkg_types.specs.declared.fault.ConfigCause.TheVariants.{Mode as ModeCause, OneBlock}
+use Rattle.dkg_core.specs.Agreeing.{AreAgreed}
+use Rattle.dkg_core.specs.Live as core
+use Rattle.dkg_core.specs.Live.{Live, Sent}
+use Rattle.dkg_reshare.specs.declared.actor.State.{State}
+use Rattle.dkg_reshare.specs.declared.actor.State.TheVariants.{New, Living, Failed as HadFailed}
+use Rattle.dkg_reshare.specs.declared.config.Terms.{Terms}
+use Rattle.dkg_reshare.specs.declared.life.Life.{Life}
+use Rattle.dkg_reshare.specs.declared.message.Message.{Message}
+use Rattle.dkg_reshare.specs.declared.message.Message.TheVariants as message
+use Rattle.dkg_reshare.specs.declared.stop.Stop.{Stop}
+use Rattle.dkg_reshare.specs.declared.stop.Stop.TheVariants.{Cut, Failed, Fault as Faulted}
+use Rattle.dkg_reshare.specs.Ends.{by_stop, IsCaused}
+use Rattle.dkg_reshare.specs.LiveOf.{IsPlaced, IsSeated, records_of}
+use Rattle.dkg_reshare.specs.Moved.{IsFirm}
+use Rattle.dkg_reshare.specs.Rules.{AckOf}
+
+-- STATES
+
+abbrev pub IsNew : {Dir : Type 0} → State Dir → Type 0
+IsNew New = ⊤
+IsNew (Living life) = ⊥
+IsNew HadFailed = ⊥
+
+abbrev pub HasFailed : {Dir : Type 0} → State Dir → Type 0
+HasFailed New = ⊥
+HasFailed (Living life) = ⊥
+HasFailed HadFailed = ⊤
+
+-- of a life, if it has one
+abbrev pub IfLiving : {Dir : Type 0} → State Dir → (Life Dir → Type 0) → Type 0
+IfLiving New P = ⊤
+IfLiving (Living life) P = P life
+IfLiving HadFailed P = ⊤
+
+-- BETWEEN TWO CALLS
+
+-- a life on these devices, as the call before left them
+pub record IsReadyLife {Dir D X : Type 0} (tells : Bool) (files : D → Files) (image : D → Files → Type 0) (ack_of : AckOf) (terms : Terms) (life : Life Dir) (devices : Devices D X) : Type 0 where
+  pub seated : IsSeated ack_of terms.me life
+  pub placed : IsPlaced (non_zero_u64_get terms.blocks_per_epoch) life
+  pub firm : IsTrue tells → IsFirm life.store.journal (files devices.disk.now) (image devices.disk.now)
+
+-- It was opened, and its life, if it goes on, stands on these devices.
+pub record IsAt {Dir D X : Type 0} (tells : Bool) (files : D → Files) (image : D → Files → Type 0) (ack_of : AckOf) (terms : Terms) (state : State Dir) (devices : Devices D X) : Type 0 where
+  pub opened : IsNew state → ⊥
+  pub ready : IfLiving state (λ life. IsReadyLife tells files image ack_of terms life devices)
+
+-- The devices are whole, and nothing of the disk is loose.
+pub record IsSoundAt {D X : Type 0} (files : D → Files) (image : D → Files → Type 0) (held : X → Secrets) (devices : Devices D X) : Type 0 where
+  pub stands : Stands (files devices.disk.now) (image devices.disk.now)
+  pub whole : IsWhole (entries (files devices.disk.now)) (held devices.secrets.now)
+
+-- Memory has what the devices give back.
+abbrev pub IsAgreed : {Dir : Type 0} → State Dir → Files → Secrets → Type 0
+IsAgreed state files s = IfLiving state (λ life. AreAgreed (records_of life.store) (held_in files s))
+
+-- HOW A CALL ENDS
+
+-- At Ok there is a life.
+abbrev pub lives : {Dir : Type 0} → (Life Dir → Live Dir) → State Dir → Result (Unit {0}) Stop → Ended Fault (Live Dir)
+lives view (Living life) (Ok done) = went (view life)
+lives view New (Ok done) = broken by_want
+lives view HadFailed (Ok done) = broken by_want
+lives view state (Err stop) = by_stop stop
+
+-- At Ok there is a life of which P holds, and at an error the actor has failed.
+abbrev pub EndsAt : {Dir : Type 0} → State Dir → Result (Unit {0}) Stop → (Life Dir → Type 0) → Type 0
+EndsAt (Living life) (Ok done) P = P life
+EndsAt New (Ok done) P = ⊥
+EndsAt HadFailed (Ok done) P = ⊥
+EndsAt state (Err stop) P = HasFailed state
+
+-- A call that ends in an error is the last one that does anything: nothing is done where one did before, and Failed comes exactly there.
+pub record FailsStop {Dir : Type 0} (state : State Dir) (result : Result (Unit {0}) Stop) (same : Type 0) : Type 0 where
+  pub stopped : HasFailed state → (result ≡ Err Failed) × same
+  pub only : IsErrOf result Failed → HasFailed state
+
+-- MESSAGES
+
+abbrev pub message_of : {Dir Cfg : Type 0} → Message Dir Cfg → core.Message Dir
+message_of (message.Peer from bytes) = Sent (core.Peer from bytes)
+message_of (message.Finalized b) = core.Finalized b
+message_of (message.NextLog request height) = Sent (core.NextLog request height)
+message_of (message.ReleaseLog height) = Sent (core.ReleaseLog height)
+message_of (message.EpochInfo request) = Sent (core.EpochInfoOf request)
+message_of (message.Feed request b) = Sent (core.Feed request b)
+message_of (message.Over request) = Sent (core.Over request)
+message_of (message.Cancel request) = Sent (core.Cancel request)
+message_of message.Work = Sent (core.Work None)
+
+-- What is taken today: a peer's message, or a block below the midpoint of the first epoch.
+abbrev pub IsTakenToday : {Dir Cfg : Type 0} → (blocks : ℕ) → Message Dir Cfg → Type 0
+IsTakenToday blocks (message.Peer from bytes) = ⊤
+IsTakenToday blocks (message.Finalized b) = b.height < midpoint blocks 0
+IsTakenToday blocks its = ⊥
+
+-- TERMS
+
+-- a configuration's plain data
+pub record AreTerms (terms : Terms) (me : ℕ) (blocks : NonZeroU64) (limit : NonZeroU32) (max_mode : ModeVersion) (mode : Mode) (reveal : Reveal) (namespace : List ℕ) : Type 0 where
+  pub me_is : terms.me ≡ me
+  pub blocks_are : terms.blocks_per_epoch ≡ blocks
+  pub limit_is : terms.limit ≡ limit
+  pub version_is : terms.max_mode ≡ max_mode
+  pub mode_is : terms.mode ≡ mode
+  pub reveal_is : terms.reveal ≡ reveal
+  pub namespace_is : terms.namespace ≡ namespace
+
+-- REFUSALS
+
+-- what a configuration is refused for, in reshare mode
+abbrev pub config_fault : Mode → (version blocks : ℕ) → Option Fault
+config_fault mode version blocks =
+    if not (supports_of version mode) then Some (InvalidConfig ModeCause) else if blocks == 1 then Some (InvalidConfig OneBlock) else None
+
+-- A device is blamed where its count rose, a record where it is the first one out of its grammar, and a cut of a disk that tells is the fuse's. What else is
+-- blamed, the course says.
+abbrev pub IsFoundAt : (limit : ℕ) (tells : Bool) → Files → Stop → (disk_rose secrets_rose reached : Type 0) → Type 0
+IsFoundAt limit tells files (Faulted (Corrupt name place)) disk_rose secrets_rose reached = IsTrue tells → IsCorruptAt limit files name place
+IsFoundAt limit tells files Cut disk_rose secrets_rose reached = IsTrue tells → reached
+IsFoundAt limit tells files Failed disk_rose secrets_rose reached = ⊥
+IsFoundAt limit tells files stop disk_rose secrets_rose reached = IsCaused stop disk_rose secrets_rose reached

@@ -1,0 +1,13 @@
+pub mod Actors
+pub mod Anchors
+pub mod Ends
+pub mod Given
+pub mod Heard
+pub mod Judged
+pub mod LiveOf
+pub mod Made
+pub mod Moved
+pub mod Opened
+pub mod Rules
+pub mod Steps
+pub mod Today

@@ -1,0 +1,274 @@
+//! The reshare actor: one opening and then steps, over devices and a source that each call is lent.
+ghost use Rattle.std.specs.Prelude.{◌≡◌, ◌≤◌, ◌-◌, ◌^◌, IfErr, IfOk, IsTrue, None, OnErr, OnOk, Some};
+ghost use Rattle.std.specs.Int.NonZero.{non_zero_u32_get, non_zero_u64_get};
+ghost use Rattle.dkg_fence.specs.Readiness.{Readiness};
+ghost use Rattle.dkg_journal.specs.Disk.{Rose};
+ghost use Rattle.dkg_journal.specs.Fuse.{Reached};
+ghost use Rattle.dkg_store.specs.Corrupt.{AreFit};
+ghost use Rattle.dkg_core.specs.Core.{opening, step};
+ghost use Rattle.dkg_core.specs.Fixed.{Fixed};
+ghost use Rattle.dkg_reshare.specs.Actors.{EndsAt, FailsStop, IfLiving, IsAgreed, IsAt, IsFoundAt, IsNew, IsReadyLife, IsSoundAt};
+ghost use Rattle.dkg_reshare.specs.Actors.{AreTerms, IsTakenToday, config_fault, lives, message_of};
+ghost use Rattle.dkg_reshare.specs.Ends.{IsCaused, IsCausedInStep, ends, ends_in};
+ghost use Rattle.dkg_reshare.specs.Given.{AreGivenFrom, HasRead, IsLent, IsOf, reading};
+ghost use Rattle.dkg_reshare.specs.LiveOf.{Beside, EndsBeside, Took, live_of, no_fence, nothing_beside};
+ghost use Rattle.dkg_reshare.specs.Made.{Makes, Tells, UnlessBroken};
+ghost use Rattle.dkg_reshare.specs.Moved.{Moved, StaysAbove};
+ghost use Rattle.dkg_reshare.specs.Opened.{IsInGrammar, IsOpeningOf, OpensReadable, epoch_at};
+ghost use Rattle.dkg_reshare.specs.Rules.{AnswersBy, IsRuledBy};
+ghost use Rattle.dkg_reshare.specs.Today.{IsOpeningOfToday};
+
+use crate::blocks::take_block;
+use crate::config::{Config, Terms};
+use crate::dealing::hear_peer;
+use crate::life::Life;
+use crate::message::Message;
+use crate::opening::open_life;
+use crate::source::BlockSource;
+use crate::stop::Stop;
+use dkg_ceremony::{Ceremony, Signer};
+use dkg_fence::Fence;
+use dkg_journal::Disk;
+use dkg_store::{Devices, SecretStore};
+use dkg_types::{ConfigCause, Directory, Fault, Registrar, Transcript};
+use std::alloc::Global;
+
+/// Where an actor stands in its life.
+#[derive(Drop)]
+enum State<Dir> {
+    New,
+    Living(Life<Dir>),
+    Failed,
+}
+
+/// A reshare actor of one life.
+#[derive(Drop)]
+pub struct Actor<C: Ceremony, P, R, M, Dir: Directory> {
+    ceremony: C,
+    signer: C::Signer,
+    provider: P,
+    registrar: R,
+    manager: M,
+    terms: Terms,
+    state: State<Dir>,
+    ghost me: { terms.me ≡ C.Signer.key_of signer },
+}
+
+/// Takes a message of today's form: a peer's, or a block below the midpoint (`step`).
+fn take<C: Ceremony, Dir: Directory + Drop, D: Disk, X: SecretStore>(
+    alloc: Global,
+    ceremony: &C,
+    signer: &C::Signer,
+    terms: &Terms,
+    life: &mut Life<Dir>,
+    devices: &mut Devices<'_, D, X>,
+    message: Message<Dir>,
+    out: &mut Transcript,
+) -> Result<(), Stop>
+    requires me { terms.now.me ≡ C.Signer.key_of signer.now }
+    requires ready { IsReadyLife D.tells D.files D.image C.ack_of terms.now life.old devices.old }
+    requires today { IsTakenToday (non_zero_u64_get terms.now.blocks_per_epoch) message }
+    ensures ready { OnOk result (IsReadyLife D.tells D.files D.image C.ack_of terms.now life.new devices.new) }
+    ensures acts { IsTrue D.tells → IsTrue X.tells → (c : Fixed Dir) (beside : Beside Dir) (fence : Readiness) → IsOf terms.now c
+        → AnswersBy C.dealing_of C.ack_of c.rules → Makes D.files D.image X.held (step c (message_of message) (live_of beside fence life.old))
+        (ends_in (live_of beside fence life.new) result) devices.old devices.new out.old.entries out.new.entries }
+    ensures tells { (c : Fixed Dir) (beside : Beside Dir) (fence : Readiness) → IsOf terms.now c → AnswersBy C.dealing_of C.ack_of c.rules
+        → Tells (step c (message_of message) (live_of beside fence life.old)) (ends_in (live_of beside fence life.new) result)
+        out.old.entries out.new.entries }
+    ensures moved { Moved D.tells D.made X.made D.faults X.faults devices.old devices.new }
+    ensures causes { IfErr result (λ stop. IsCaused stop (Rose (D.faults devices.old.disk.now) (D.faults devices.new.disk.now))
+        (Rose (X.faults devices.old.secrets.now) (X.faults devices.new.secrets.now)) (Reached devices.old.fuse devices.new.fuse)) }
+    ensures fit { IsTrue D.tells → AreFit (non_zero_u32_get terms.now.limit) (D.image devices.old.disk.now)
+        → AreFit (non_zero_u32_get terms.now.limit) (D.image devices.new.disk.now) }
+{
+    match message {
+        Message::Peer { from, bytes } => hear_peer(
+            alloc,
+            ceremony,
+            signer,
+            terms,
+            life,
+            devices,
+            from,
+            bytes.as_slice(),
+            out,
+        ),
+        Message::Finalized(block) => take_block(terms, life, &block),
+        _ => unreachable!(),
+    }
+}
+
+impl<C: Ceremony + Drop, P: Drop, R: Drop, M: Drop, Dir: Directory + Drop> Actor<C, P, R, M, Dir>
+where
+    C::Signer: Drop,
+{
+    /// An actor in reshare mode, which was not opened yet.
+    ///
+    /// InvalidConfig: the sharing mode is not supported; else an epoch has one block.
+    pub fn new(config: Config<C, P, R, M>) -> Result<Actor<C, P, R, M, Dir>, Fault>
+        requires few { non_zero_u32_get config.max_participants ≤ 2 ^ 30 }
+        ensures new { IfOk result (λ actor. IsNew actor.state) }
+        ensures parts { IfOk result (λ actor. (actor.ceremony ≡ config.ceremony) × (actor.signer ≡ config.signer) × (actor.registrar ≡ config.registrar)
+            × (actor.provider ≡ config.provider) × (actor.manager ≡ config.manager)) }
+        ensures terms { IfOk result (λ actor. AreTerms actor.terms (C.Signer.key_of config.signer) config.blocks_per_epoch config.max_participants
+            config.max_mode config.mode config.reveal config.namespace) }
+        ensures refused { IfErr result (λ its. config_fault config.mode config.max_mode.0 (non_zero_u64_get config.blocks_per_epoch) ≡ Some its) }
+        ensures accepted { OnOk result (config_fault config.mode config.max_mode.0 (non_zero_u64_get config.blocks_per_epoch) ≡ None) }
+    {
+        if !config.max_mode.supports(config.mode) {
+            return Err(Fault::InvalidConfig(ConfigCause::Mode));
+        }
+        if config.blocks_per_epoch.get() == 1 {
+            return Err(Fault::InvalidConfig(ConfigCause::OneBlock));
+        }
+        let me = config.signer.public_key();
+        Ok(Actor {
+            ceremony: config.ceremony,
+            signer: config.signer,
+            provider: config.provider,
+            registrar: config.registrar,
+            manager: config.manager,
+            terms: Terms {
+                me,
+                blocks_per_epoch: config.blocks_per_epoch,
+                limit: config.max_participants,
+                max_mode: config.max_mode,
+                mode: config.mode,
+                reveal: config.reveal,
+                namespace: config.namespace,
+            },
+            state: State::New,
+        })
+    }
+}
+
+impl<C: Ceremony, P, R: Registrar, M, Dir: Directory + Drop> Actor<C, P, R, M, Dir> {
+    /// Opens a life: its number and its random word are the caller's. The dealings are restored, and the epoch above the source's position is
+    /// set up.
+    ///
+    /// A fault or a cut ends the life.
+    pub fn open<D: Disk, X: SecretStore, B: BlockSource<Dir>>(
+        &mut self,
+        alloc: Global,
+        devices: &mut Devices<'_, D, X>,
+        source: &B,
+        life: u64,
+        word: u64,
+        fence: &mut Fence,
+        out: &mut Transcript,
+    ) -> Result<(), Stop>
+        requires new { IsNew self.old.state }
+        // Of a disk of which nothing was loose: it is the relation's opening, and each act was made, whatever image a crash leaves.
+        ensures acts { IsTrue D.tells → IsTrue X.tells → (c : Fixed Dir)
+            → IsOpeningOf self.old.terms (B.answers source.now) life word (D.files devices.old.disk.now) c
+            → IsRuledBy C.round_of C.dealing_of C.ack_of C.bears_ack_of c.rules → fence.old ≡ no_fence
+            → EndsBeside nothing_beside (λ more. OnOk result (Took R.tells (R.taken self.old.registrar) (R.taken self.new.registrar) more))
+            (λ now. Makes D.files D.image X.held (opening c) (lives (live_of now fence.new) self.new.state result)
+            devices.old devices.new out.old.entries out.new.entries) }
+        // Whatever the devices tell, its lines are those of an opening that has read something: where they tell, dealings that each image gives back.
+        ensures tells { (c : Fixed Dir) → IsLent self.old.terms (B.answers source.now) word c → c.life ≡ life → IsOpeningOfToday c
+            → IsRuledBy C.round_of C.dealing_of C.ack_of C.bears_ack_of c.rules → fence.old ≡ no_fence
+            → HasRead (λ s. UnlessBroken (ends (λ done. done) result) (IsTrue D.tells → IsTrue X.tells
+            → AreGivenFrom (epoch_at (B.answers source.now) self.old.terms - 1) s.dealings (D.image devices.new.disk.now) (X.held devices.new.secrets.now)))
+            (λ s. EndsBeside nothing_beside (λ more. OnOk result (Took R.tells (R.taken self.old.registrar) (R.taken self.new.registrar) more))
+            (λ now. Tells (opening (reading s c)) (lives (live_of now fence.new) self.new.state result)
+            out.old.entries out.new.entries)) }
+        // A journal that is not in its grammar is not opened, and nothing is told.
+        ensures readable { IsTrue D.tells → OpensReadable (IsInGrammar (non_zero_u32_get self.old.terms.limit) (D.files devices.old.disk.now)) result
+            out.old.entries out.new.entries }
+        // It may go on over these devices alone, or it has failed.
+        ensures ends { EndsAt self.new.state result (λ life. IsReadyLife D.tells D.files D.image C.ack_of self.new.terms life devices.new) }
+        ensures rest { (self.new.ceremony ≡ self.old.ceremony) × (self.new.signer ≡ self.old.signer) × (self.new.provider ≡ self.old.provider)
+            × (self.new.manager ≡ self.old.manager) × (self.new.terms ≡ self.old.terms) }
+        // Memory has what the devices give back, where they were whole and nothing of them was loose.
+        ensures live { OnOk result (IsTrue D.tells → IsTrue X.tells → IsSoundAt D.files D.image X.held devices.old
+            → IsAgreed self.new.state (D.files devices.new.disk.now) (X.held devices.new.secrets.now)) }
+        ensures moved { Moved D.tells D.made X.made D.faults X.faults devices.old devices.new }
+        // A device is blamed where its count rose, a cut where the fuse reached its call, and a record where it stands.
+        ensures causes { IfErr result (λ stop. IsFoundAt (non_zero_u32_get self.old.terms.limit) D.tells (D.files devices.new.disk.now) stop
+            (Rose (D.faults devices.old.disk.now) (D.faults devices.new.disk.now))
+            (Rose (X.faults devices.old.secrets.now) (X.faults devices.new.secrets.now)) (Reached devices.old.fuse devices.new.fuse)) }
+        // Whatever was loose: what a crash leaves stays in its grammar, and gives back what is not below the epoch before.
+        ensures loose { IsTrue D.tells → StaysAbove (epoch_at (B.answers source.now) self.old.terms - 1)
+            (D.image devices.old.disk.now) (D.image devices.new.disk.now) (X.held devices.old.secrets.now) (X.held devices.new.secrets.now) }
+    {
+        self.state = State::Failed;
+        let life = open_life(
+            alloc,
+            &self.ceremony,
+            &mut self.registrar,
+            &self.terms,
+            devices,
+            source,
+            life,
+            word,
+            fence,
+            out,
+        )?;
+        self.state = State::Living(life);
+        Ok(())
+    }
+
+    /// Takes one message.
+    ///
+    /// Failed: exactly where a call before ended in a fault or a cut.
+    pub fn step<D: Disk, X: SecretStore, B: BlockSource<Dir>>(
+        &mut self,
+        alloc: Global,
+        devices: &mut Devices<'_, D, X>,
+        _source: &B,
+        message: Message<Dir>,
+        fence: &mut Fence,
+        out: &mut Transcript,
+    ) -> Result<(), Stop>
+        requires at { IsAt D.tells D.files D.image C.ack_of self.old.terms self.old.state devices.old }
+        requires today { IsTakenToday (non_zero_u64_get self.old.terms.blocks_per_epoch) message }
+        // It is the relation's step, and each act was made, whatever image a crash leaves.
+        ensures acts { IsTrue D.tells → IsTrue X.tells → (c : Fixed Dir) (beside : Beside Dir) → IsOf self.old.terms c
+            → IsRuledBy C.round_of C.dealing_of C.ack_of C.bears_ack_of c.rules
+            → IfLiving self.old.state (λ old. Makes D.files D.image X.held (step c (message_of message) (live_of beside fence.old old))
+            (lives (live_of beside fence.new) self.new.state result) devices.old devices.new out.old.entries out.new.entries) }
+        ensures tells { (c : Fixed Dir) (beside : Beside Dir) → IsOf self.old.terms c → IsRuledBy C.round_of C.dealing_of C.ack_of C.bears_ack_of c.rules
+            → IfLiving self.old.state (λ old. Tells (step c (message_of message) (live_of beside fence.old old))
+            (lives (live_of beside fence.new) self.new.state result) out.old.entries out.new.entries) }
+        // It may go on over these devices alone, or it has failed.
+        ensures ends { EndsAt self.new.state result (λ life. IsReadyLife D.tells D.files D.image C.ack_of self.new.terms life devices.new) }
+        ensures rest { (self.new.ceremony ≡ self.old.ceremony) × (self.new.signer ≡ self.old.signer) × (self.new.provider ≡ self.old.provider)
+            × (self.new.registrar ≡ self.old.registrar) × (self.new.manager ≡ self.old.manager) × (self.new.terms ≡ self.old.terms) }
+        ensures fails { FailsStop self.old.state result
+            ((self.new.state ≡ self.old.state) × (devices.new ≡ devices.old) × (out.new ≡ out.old) × (fence.new ≡ fence.old)) }
+        ensures moved { Moved D.tells D.made X.made D.faults X.faults devices.old devices.new }
+        ensures causes { IfErr result (λ stop. IsCausedInStep stop (Rose (D.faults devices.old.disk.now) (D.faults devices.new.disk.now))
+            (Rose (X.faults devices.old.secrets.now) (X.faults devices.new.secrets.now)) (Reached devices.old.fuse devices.new.fuse)) }
+        // No record that a crash leaves is out of its grammar, or past the limit, where none was.
+        ensures fit { IsTrue D.tells → AreFit (non_zero_u32_get self.old.terms.limit) (D.image devices.old.disk.now)
+            → AreFit (non_zero_u32_get self.old.terms.limit) (D.image devices.new.disk.now) }
+    {
+        let State::Living(life) = &mut self.state else {
+            return Err(Stop::Failed);
+        };
+        match take(
+            alloc,
+            &self.ceremony,
+            &self.signer,
+            &self.terms,
+            life,
+            devices,
+            message,
+            out,
+        ) {
+            Ok(()) => Ok(()),
+            Err(stop) => {
+                self.state = State::Failed;
+                Err(stop)
+            }
+        }
+    }
+
+    /// Who took the schemes of this life's epochs.
+    pub fn registrar(&self) -> &R
+        ensures { result.now ≡ self.now.registrar }
+    {
+        &self.registrar
+    }
+}
