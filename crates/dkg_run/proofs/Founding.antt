@@ -151,21 +151,27 @@ module _ (g : Lived) (here : IsLifeHere g) (files : Files) (held : Secrets) wher
     opening_shows (fault.InvalidParticipants (cause.Round e)) why =
         let c = carried _ why in
         tried_as g.script.config.namespace g.script.config.mode (first_info g.script) (with_spelled unit_spelling c.info) (Err e) c.first (c.so.0 ∙ starts_first g here 0)
-        (subst (λ (n : ℕ). round_of g.script.config.namespace n (Some c.info.output) g.script.config.mode V1 c.info.output.players c.info.players ≡ Err e) (starts_first g here 0) c.so.2.2)
+        (subst (λ (n : ℕ). round_of g.script.config.namespace n (Some c.info.output) g.script.config.mode V1 c.info.output.players c.info.players ≡ Err e) (starts_first g here 0) c.so.2)
     opening_shows (fault.LocalState (local.StoredDealing epoch dealer)) why =
         let c = carried _ why.1 in
-        let round : Round = c.so.2.2.0 in
+        let round : Round = c.so.2.0 in
         let drawn : round_of g.script.config.namespace 0 (Some c.info.output) g.script.config.mode V1 c.info.output.players c.info.players ≡ Ok round =
-        subst (λ (n : ℕ). round_of g.script.config.namespace n (Some c.info.output) g.script.config.mode V1 c.info.output.players c.info.players ≡ Ok round) (starts_first g here 0) c.so.2.2.1 in
+        subst (λ (n : ℕ). round_of g.script.config.namespace n (Some c.info.output) g.script.config.mode V1 c.info.output.players c.info.players ≡ Ok round) (starts_first g here 0) c.so.2.1 in
         let first : epoch ≡ 0 = why.0 ∙ starts_first g here 0 in
         record {
           first_epoch = first;
           round = round;
           made = tried_as g.script.config.namespace g.script.config.mode (first_info g.script) (with_spelled unit_spelling c.info) (Ok round) c.first (c.so.0 ∙ starts_first g here 0) drawn;
           refused =
+<<<<<<< HEAD
               ap (first_refused (dealing_of round g.script.config.me)) (sym (dealings_are epoch)
               ∙ ap (λ (n : ℕ). filter (λ (p : Pair). (p.0.0 == n) && nat_lt p.0.1 (2 ^ 32)) seen.dealings) (first ∙ sym (drawn_is _ _ _ _ _ _ _ round drawn).1))
               ∙ c.so.2.2.2;
+=======
+            ap (first_refused (dealing_of round g.script.config.me)) (sym (dealings_are epoch)
+            ∙ ap (λ (n : ℕ). filter (λ (p : Pair). (p.0.0 == n) && nat_lt p.0.1 (2 ^ 32)) seen.dealings) (first ∙ sym (drawn_is _ _ _ _ _ _ _ round drawn).1))
+            ∙ c.so.2.2;
+>>>>>>> c-over
         }
     opening_shows its why = absurd why
 

@@ -54,7 +54,7 @@ LinesSo script number life out how now files =
     (seen : Held → Seen) × ReadsSomething seen × ((picks : List ℕ) → LivesSo by_lines (lived script number life seen files) files (trace out picks) how (trace now picks))
 
 -- what is read of nothing
-nothing : Held → Seen
+abbrev nothing : Held → Seen
 nothing h = seen_today nothing_held
 
 reads_nothing : ReadsSomething nothing
@@ -108,7 +108,7 @@ module _ (script : Script) (number : ℕ) (life : Life) (files : Files) (out : L
               (λ end mid. TakesAll by_lines its 1 life.events end mid (Err (FaultOf NoMemory)) (trace now picks)) out now picks (read.so).0 (read.so).2),
         )
 
-        -- .. or was told, and the steps of the life came behind
+        -- .. or was told, and the steps of the life came then
         pub told_first : (how : Result (Unit {0}) Stop) (behind now_then : List Line) → behind ≡ now ++ entry.Step 0 ∷ []
             → ((g : Lived) → g.script ≡ script → ReadsNeither g.seen → IsOfLife g node) → (blocks : List (Block directory.Unit)) → blocks ≡ blocks_in script
             → ((g : Lived) (st : Live directory.Unit) (picks : List ℕ) → IsStepHere g node blocks life → IsView node st → TakesAll by_lines g 1 life.events st (trace behind picks) how (trace now_then picks))
