@@ -163,15 +163,9 @@ module _ (g : Lived) (here : IsLifeHere g) (files : Files) (held : Secrets) wher
           round = round;
           made = tried_as g.script.config.namespace g.script.config.mode (first_info g.script) (with_spelled unit_spelling c.info) (Ok round) c.first (c.so.0 ∙ starts_first g here 0) drawn;
           refused =
-<<<<<<< HEAD
               ap (first_refused (dealing_of round g.script.config.me)) (sym (dealings_are epoch)
               ∙ ap (λ (n : ℕ). filter (λ (p : Pair). (p.0.0 == n) && nat_lt p.0.1 (2 ^ 32)) seen.dealings) (first ∙ sym (drawn_is _ _ _ _ _ _ _ round drawn).1))
-              ∙ c.so.2.2.2;
-=======
-            ap (first_refused (dealing_of round g.script.config.me)) (sym (dealings_are epoch)
-            ∙ ap (λ (n : ℕ). filter (λ (p : Pair). (p.0.0 == n) && nat_lt p.0.1 (2 ^ 32)) seen.dealings) (first ∙ sym (drawn_is _ _ _ _ _ _ _ round drawn).1))
-            ∙ c.so.2.2;
->>>>>>> c-over
+              ∙ c.so.2.2;
         }
     opening_shows its why = absurd why
 
