@@ -131,17 +131,19 @@ module _ (g : Lived) (here : IsLifeHere g) (files : Files) (held : Secrets) wher
         by_block : (o : Option (Block directory.Unit)) → first_block (at_step g 0) ≡ o → IsSomeAnd o (λ b. (height ≡ b.height) × (info_of b.payload ≡ None)) → (height ≡ 0) × (first_info g.script ≡ None)
         by_block None there why = absurd why
         by_block (Some b) there why =
-            let line = boundary_is g here b there in
-            (why.0 ∙ boundary_low g here 0 b there,
-            ap (λ (o : Option BlockLine). option_and_then (λ (its : BlockLine). option_and_then (info_in (limits_of g.script)) its.payload) o) line.1
-            ∙ none_read g.script here.form (line.0).payload (subst (λ (x : Block directory.Unit). info_of x.payload ≡ None) line.2 why.1))
+            let line = boundary_is g here b there in (
+              why.0 ∙ boundary_low g here 0 b there,
+              ap (λ (o : Option BlockLine). option_and_then (λ (its : BlockLine). option_and_then (info_in (limits_of g.script)) its.payload) o) line.1
+                  ∙ none_read g.script here.form (line.0).payload (subst (λ (x : Block directory.Unit). info_of x.payload ≡ None) line.2 why.1),
+            )
     opening_shows (fault.WrongEpoch expected got) why =
-        let c = carried (λ info. (got ≡ info.epoch) × (info.epoch ≡ first_epoch (at_step g 0) → ⊥)) why.1 in
-        (why.0 ∙ starts_first g here 0,
-        shown (λ i. (i.epoch ≡ got) × (got ≡ 0 → ⊥)) (with_spelled unit_spelling c.info) c.first (sym c.so.0, λ none. c.so.1 (sym c.so.0 ∙ none ∙ sym (starts_first g here 0))))
+        let c = carried (λ info. (got ≡ info.epoch) × (info.epoch ≡ first_epoch (at_step g 0) → ⊥)) why.1 in (
+          why.0 ∙ starts_first g here 0,
+          shown (λ i. (i.epoch ≡ got) × (got ≡ 0 → ⊥)) (with_spelled unit_spelling c.info) c.first (sym c.so.0, λ none. c.so.1 (sym c.so.0 ∙ none ∙ sym (starts_first g here 0))),
+        )
     opening_shows (fault.InvalidParticipants (cause.Refused e)) why =
         let c = carried (λ info. (info.epoch ≡ first_epoch (at_step g 0)) × (validation (record { dealers = info.output.players; players = info.players; next_players = info.next_players })
-            (at_step g 0).limit (Some info.output) info.epoch ≡ Err e)) why in
+        (at_step g 0).limit (Some info.output) info.epoch ≡ Err e)) why in
         let epoch : c.info.epoch ≡ 0 = c.so.0 ∙ starts_first g here 0 in
         shown (λ i. (i.epoch ≡ 0) × (validation (record { dealers = i.output.players; players = i.players; next_players = i.next_players }) (reader_in g.script).limit (Some i.output) 0 ≡ Err e))
         (with_spelled unit_spelling c.info) c.first
@@ -149,21 +151,21 @@ module _ (g : Lived) (here : IsLifeHere g) (files : Files) (held : Secrets) wher
     opening_shows (fault.InvalidParticipants (cause.Round e)) why =
         let c = carried _ why in
         tried_as g.script.config.namespace g.script.config.mode (first_info g.script) (with_spelled unit_spelling c.info) (Err e) c.first (c.so.0 ∙ starts_first g here 0)
-        (subst (λ (n : ℕ). round_of g.script.config.namespace n (Some c.info.output) g.script.config.mode V1 c.info.output.players c.info.players ≡ Err e) (starts_first g here 0) c.so.2.2)
+        (subst (λ (n : ℕ). round_of g.script.config.namespace n (Some c.info.output) g.script.config.mode V1 c.info.output.players c.info.players ≡ Err e) (starts_first g here 0) c.so.2)
     opening_shows (fault.LocalState (local.StoredDealing epoch dealer)) why =
         let c = carried _ why.1 in
-        let round : Round = c.so.2.2.0 in
+        let round : Round = c.so.2.0 in
         let drawn : round_of g.script.config.namespace 0 (Some c.info.output) g.script.config.mode V1 c.info.output.players c.info.players ≡ Ok round =
-        subst (λ (n : ℕ). round_of g.script.config.namespace n (Some c.info.output) g.script.config.mode V1 c.info.output.players c.info.players ≡ Ok round) (starts_first g here 0) c.so.2.2.1 in
+        subst (λ (n : ℕ). round_of g.script.config.namespace n (Some c.info.output) g.script.config.mode V1 c.info.output.players c.info.players ≡ Ok round) (starts_first g here 0) c.so.2.1 in
         let first : epoch ≡ 0 = why.0 ∙ starts_first g here 0 in
         record {
           first_epoch = first;
           round = round;
           made = tried_as g.script.config.namespace g.script.config.mode (first_info g.script) (with_spelled unit_spelling c.info) (Ok round) c.first (c.so.0 ∙ starts_first g here 0) drawn;
           refused =
-            ap (first_refused (dealing_of round g.script.config.me)) (sym (dealings_are epoch)
-            ∙ ap (λ (n : ℕ). filter (λ (p : Pair). (p.0.0 == n) && nat_lt p.0.1 (2 ^ 32)) seen.dealings) (first ∙ sym (drawn_is _ _ _ _ _ _ _ round drawn).1))
-            ∙ c.so.2.2.2;
+              ap (first_refused (dealing_of round g.script.config.me)) (sym (dealings_are epoch)
+              ∙ ap (λ (n : ℕ). filter (λ (p : Pair). (p.0.0 == n) && nat_lt p.0.1 (2 ^ 32)) seen.dealings) (first ∙ sym (drawn_is _ _ _ _ _ _ _ round drawn).1))
+              ∙ c.so.2.2;
         }
     opening_shows its why = absurd why
 
@@ -243,16 +245,20 @@ module _ (g : Lived) (here : IsLifeHere g) (files : Files) (held : Secrets) wher
         by_kind (inl is) = by_outside its is caused
         by_kind (inr own) =
             let came = node_openings_come_to (at_step g 0) (stopped (Faulted its)) out now (form_at g here 0) (lacks_nobody g here 0)
-                (subst (λ (e : Ended NodeStop (Live directory.Unit)). Said (on_devices (node_opening (at_step g 0))) e out now) own said) in
-            record { so = subst (Shows (reader_in g.script) files held) (sym (own_fault came.1))
-                (opening_shows g here files held seen pairs listed (given its own refl) came.0 (subst (λ (s : Seen). IsOpeningFault (at_step g 0) s came.0) (reads came.2.0) came.2.1)) }
+            (subst (λ (e : Ended NodeStop (Live directory.Unit)). Said (on_devices (node_opening (at_step g 0))) e out now) own said) in
+            record {
+              so = subst (Shows (reader_in g.script) files held) (sym (own_fault came.1))
+                  (opening_shows g here files held seen pairs listed (given its own refl) came.0 (subst (λ (s : Seen). IsOpeningFault (at_step g 0) s came.0) (reads came.2.0) came.2.1));
+            }
 
   -- of a stop of its steps
   takes_found : (st : Live directory.Unit) (t new : Trace) (its : Fault) (P Q U : Type 0) → IsLiveToday (at_step g 0) st × (st.orchestrator.waiting ≡ None) → IsCaused (FaultOf its) P Q U
       → TakesAll by_lines g 1 g.life.events st t (Err (FaultOf its)) new → IsFound (reader_in g.script) files held its
-  takes_found st t new its P Q U goes caused takes = record { so =
-      takes_tell (Plain files held g.script) (outside_shows files held g.script) g here (λ j message its_st own taken live is. refusal_shows files held g j message its_st own taken is)
-      its 0 g.life.events st t new refl goes takes (names_none its caused) }
+  takes_found st t new its P Q U goes caused takes = record {
+    so =
+        takes_tell (Plain files held g.script) (outside_shows files held g.script) g here (λ j message its_st own taken live is. refusal_shows files held g j message its_st own taken is)
+        its 0 g.life.events st t new refl goes takes (names_none its caused);
+  }
     where
       names_none : (own : Fault) → IsCaused (FaultOf own) P Q U → NamesNoRecord own
       names_none (fault.Corrupt name place) is = is

@@ -378,10 +378,11 @@ module _ (s : Setting) (today : IsTodays s) (bytes : AllByRecursion (λ line. If
                 (ap awaited at ∙ stands.height ∙ sym (message_behind s l life i from bytes (one_is ∙ ap (λ (e : Event). Some e) is) reached), subst (λ (o : Option Tip). IfSome o (IsOnChain s)) (sym at) stands.chained)
             by_event (event.Final number) is message (its, there, is_its) tip =
                 let d = delivers number its is there in
-                let at : end.tip ≡ tip_behind (Finalized its) st.tip = tip ∙ ap (λ (k : Message directory.Unit). tip_behind k st.tip) is_its in
-                (ap awaited at ∙ block_awaits s l life i number its st.tip (record { b = d.b; there = d.there; same = (d.same).height }) (one_is ∙ ap (λ (e : Event). Some e) is) reached stands.height,
-                subst (λ (o : Option Tip). IfSome o (IsOnChain s)) (sym at)
-                    (tip_is st.tip its d.b (λ (o : Option Tip). IfSome o (IsOnChain s)) d.same stands.chained (chained_at s today d.b d.used)))
+                let at : end.tip ≡ tip_behind (Finalized its) st.tip = tip ∙ ap (λ (k : Message directory.Unit). tip_behind k st.tip) is_its in (
+                  ap awaited at ∙ block_awaits s l life i number its st.tip (record { b = d.b; there = d.there; same = (d.same).height }) (one_is ∙ ap (λ (e : Event). Some e) is) reached stands.height,
+                  subst (λ (o : Option Tip). IfSome o (IsOnChain s)) (sym at)
+                      (tip_is st.tip its d.b (λ (o : Option Tip). IfSome o (IsOnChain s)) d.same stands.chained (chained_at s today d.b d.used)),
+                )
             by_event other is message brings tip = absurd brings
 
         step_comes : (ended : Ended NodeStop (Live directory.Unit)) (old new : List Entry) → Said (on_devices (step_of g (i + 1) one st)) ended old new → Came (Stands (i + 1)) ended

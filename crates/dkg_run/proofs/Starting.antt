@@ -54,7 +54,7 @@ LinesSo script number life out how now files =
     (seen : Held → Seen) × ReadsSomething seen × ((picks : List ℕ) → LivesSo by_lines (lived script number life seen files) files (trace out picks) how (trace now picks))
 
 -- what is read of nothing
-nothing : Held → Seen
+abbrev nothing : Held → Seen
 nothing h = seen_today nothing_held
 
 reads_nothing : ReadsSomething nothing
@@ -63,14 +63,22 @@ reads_nothing = record { read = seen_today nothing_held; each = refl; shareless 
 module _ (script : Script) (number : ℕ) (life : Life) (files : Files) (out : List Line) where
   -- The life is cut before it opens.
   pub cut_first : fuse_for life.cut 0 ≡ None → (stop : Stop) → stop ≡ Cut → LinesSo script number life out (Err stop) out files
-  cut_first none stop at_cut = (nothing, reads_nothing, λ picks. inl (cut_lines (entry.Step 0) life.cut 0 none (node_opening (at_step (lived script number life nothing files) 0)) stop at_cut
-      (λ end mid. TakesAll by_lines (lived script number life nothing files) 1 life.events end mid (Err stop) (trace out picks)) out picks))
+  cut_first none stop at_cut = (
+    nothing,
+    reads_nothing,
+    λ picks. inl (cut_lines (entry.Step 0) life.cut 0 none (node_opening (at_step (lived script number life nothing files) 0)) stop at_cut
+        (λ end mid. TakesAll by_lines (lived script number life nothing files) 1 life.events end mid (Err stop) (trace out picks)) out picks),
+  )
 
   module _ (f : Burn) (lit : fuse_for life.cut 0 ≡ Some f) where
     -- There is no memory for its source.
     pub unsourced_first : LinesSo script number life out (Err (FaultOf NoMemory)) out files
-    unsourced_first = (nothing, reads_nothing, λ picks. inl (step_wants by_lines (entry.Step 0) (fuse_for life.cut 0) (node_opening (at_step (lived script number life nothing files) 0)) (trace out picks)
-        (λ end mid. TakesAll by_lines (lived script number life nothing files) 1 life.events end mid (Err (FaultOf NoMemory)) (trace out picks)) f lit))
+    unsourced_first = (
+      nothing,
+      reads_nothing,
+      λ picks. inl (step_wants by_lines (entry.Step 0) (fuse_for life.cut 0) (node_opening (at_step (lived script number life nothing files) 0)) (trace out picks)
+          (λ end mid. TakesAll by_lines (lived script number life nothing files) 1 life.events end mid (Err (FaultOf NoMemory)) (trace out picks)) f lit),
+    )
 
     module _ (G : Seen → Type 0) (now : List Line) where
       -- The opening stopped.
@@ -93,18 +101,26 @@ module _ (script : Script) (number : ℕ) (life : Life) (files : Files) (out : L
 
         -- Its line found no memory.
         pub untold_first : LinesSo script number life out (Err (FaultOf NoMemory)) now files
-        untold_first = (λ h. read.seen, reads_it, λ picks. inl (untold_lines (entry.Step 0) life.cut 0 f lit (node_opening (at_step its 0))
-            (λ end mid. TakesAll by_lines its 1 life.events end mid (Err (FaultOf NoMemory)) (trace now picks)) out now picks (read.so).0 (read.so).2))
+        untold_first = (
+          λ h. read.seen,
+          reads_it,
+          λ picks. inl (untold_lines (entry.Step 0) life.cut 0 f lit (node_opening (at_step its 0))
+              (λ end mid. TakesAll by_lines its 1 life.events end mid (Err (FaultOf NoMemory)) (trace now picks)) out now picks (read.so).0 (read.so).2),
+        )
 
-        -- .. or was told, and the steps of the life came behind
+        -- .. or was told, and the steps of the life came then
         pub told_first : (how : Result (Unit {0}) Stop) (behind now_then : List Line) → behind ≡ now ++ entry.Step 0 ∷ []
             → ((g : Lived) → g.script ≡ script → ReadsNeither g.seen → IsOfLife g node) → (blocks : List (Block directory.Unit)) → blocks ≡ blocks_in script
             → ((g : Lived) (st : Live directory.Unit) (picks : List ℕ) → IsStepHere g node blocks life → IsView node st → TakesAll by_lines g 1 life.events st (trace behind picks) how (trace now_then picks))
             → LinesSo script number life out how now_then files
-        told_first how behind now_then is of blocks same takes = (λ h. read.seen, reads_it, λ picks. inl (told_lines (entry.Step 0) life.cut 0 f lit (node_opening (at_step its 0))
-            (λ end mid. TakesAll by_lines its 1 life.events end mid how (trace now_then picks)) out now picks (read.so).0 (read.so).2 how (trace now_then picks)
-            (subst (λ (l : List Line). TakesAll by_lines its 1 life.events (read.so).0 (trace l picks) how (trace now_then picks)) is
-            (takes its (read.so).0 picks (record { of = of its refl (record { shareless = λ h. read.shareless; unplanned = λ h. read.unplanned }); blocks_are = same; life_is = refl }) (read.so).1))))
+        told_first how behind now_then is of blocks same takes = (
+          λ h. read.seen,
+          reads_it,
+          λ picks. inl (told_lines (entry.Step 0) life.cut 0 f lit (node_opening (at_step its 0))
+              (λ end mid. TakesAll by_lines its 1 life.events end mid how (trace now_then picks)) out now picks (read.so).0 (read.so).2 how (trace now_then picks)
+              (subst (λ (l : List Line). TakesAll by_lines its 1 life.events (read.so).0 (trace l picks) how (trace now_then picks)) is
+              (takes its (read.so).0 picks (record { of = of its refl (record { shareless = λ h. read.shareless; unplanned = λ h. read.unplanned }); blocks_are = same; life_is = refl }) (read.so).1))),
+        )
 
 -- the same files of a disk whose fuse was set
 pub lines_over : {D : Type 0} (files : D → Files) (old begun : MutBor D) → begun ≡ old → (script : Script) (number : ℕ) (life : Life) (out : List Line) (how : Result (Unit {0}) Stop) (now : List Line)

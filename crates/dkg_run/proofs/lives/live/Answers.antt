@@ -71,14 +71,14 @@ pub returns-in-Err-clause-went : goal.returns-in-Err-clause-went
 returns-in-Err-clause-went g c =
     went_then g.D.Disk.tells g.D.Disk.made g.X.SecretStore.made g.D.Disk.faults g.X.SecretStore.faults g.met.D.Disk.made_more g.met.X.SecretStore.made_more c.args.devices.now c.begin_step.new.devices c.open.new.devices [] []
     (went_none g.D.Disk.tells g.D.Disk.made g.X.SecretStore.made g.D.Disk.faults g.X.SecretStore.faults g.met.D.Disk.made_none g.met.X.SecretStore.made_none c.args.devices.now c.begin_step.new.devices
-      c.begin_step.ensures.same.0 c.begin_step.ensures.same.1)
+    c.begin_step.ensures.same.0 c.begin_step.ensures.same.1)
     (went_moved g.D.Disk.tells g.D.Disk.made g.X.SecretStore.made g.D.Disk.faults g.X.SecretStore.faults c.begin_step.new.devices c.open.new.devices c.open.ensures.moved)
 
 pub returns-in_err-push-clause-went : goal.returns-in_err-push-clause-went
 returns-in_err-push-clause-went g c =
     went_then g.D.Disk.tells g.D.Disk.made g.X.SecretStore.made g.D.Disk.faults g.X.SecretStore.faults g.met.D.Disk.made_more g.met.X.SecretStore.made_more c.args.devices.now c.begin_step.new.devices c.open.new.devices [] []
     (went_none g.D.Disk.tells g.D.Disk.made g.X.SecretStore.made g.D.Disk.faults g.X.SecretStore.faults g.met.D.Disk.made_none g.met.X.SecretStore.made_none c.args.devices.now c.begin_step.new.devices
-      c.begin_step.ensures.same.0 c.begin_step.ensures.same.1)
+    c.begin_step.ensures.same.0 c.begin_step.ensures.same.1)
     (went_moved g.D.Disk.tells g.D.Disk.made g.X.SecretStore.made g.D.Disk.faults g.X.SecretStore.faults c.begin_step.new.devices c.open.new.devices c.open.ensures.moved)
 
 pub returns-clause-went : goal.returns-clause-went
@@ -86,7 +86,7 @@ returns-clause-went g c =
     let opened : Went g.D.Disk.tells g.D.Disk.made g.X.SecretStore.made g.D.Disk.faults g.X.SecretStore.faults c.args.devices.now c.open.new.devices [] =
     went_then g.D.Disk.tells g.D.Disk.made g.X.SecretStore.made g.D.Disk.faults g.X.SecretStore.faults g.met.D.Disk.made_more g.met.X.SecretStore.made_more c.args.devices.now c.begin_step.new.devices c.open.new.devices [] []
     (went_none g.D.Disk.tells g.D.Disk.made g.X.SecretStore.made g.D.Disk.faults g.X.SecretStore.faults g.met.D.Disk.made_none g.met.X.SecretStore.made_none c.args.devices.now c.begin_step.new.devices
-      c.begin_step.ensures.same.0 c.begin_step.ensures.same.1)
+    c.begin_step.ensures.same.0 c.begin_step.ensures.same.1)
     (went_moved g.D.Disk.tells g.D.Disk.made g.X.SecretStore.made g.D.Disk.faults g.X.SecretStore.faults c.begin_step.new.devices c.open.new.devices c.open.ensures.moved) in
     went_then g.D.Disk.tells g.D.Disk.made g.X.SecretStore.made g.D.Disk.faults g.X.SecretStore.faults g.met.D.Disk.made_more g.met.X.SecretStore.made_more c.args.devices.now c.open.new.devices c.take_steps.new.devices [] []
     opened c.take_steps.ensures.went
@@ -96,7 +96,7 @@ returns-clause-causes g c =
     let opened : Went g.D.Disk.tells g.D.Disk.made g.X.SecretStore.made g.D.Disk.faults g.X.SecretStore.faults c.args.devices.now c.open.new.devices [] =
     went_then g.D.Disk.tells g.D.Disk.made g.X.SecretStore.made g.D.Disk.faults g.X.SecretStore.faults g.met.D.Disk.made_more g.met.X.SecretStore.made_more c.args.devices.now c.begin_step.new.devices c.open.new.devices [] []
     (went_none g.D.Disk.tells g.D.Disk.made g.X.SecretStore.made g.D.Disk.faults g.X.SecretStore.faults g.met.D.Disk.made_none g.met.X.SecretStore.made_none c.args.devices.now c.begin_step.new.devices
-      c.begin_step.ensures.same.0 c.begin_step.ensures.same.1)
+    c.begin_step.ensures.same.0 c.begin_step.ensures.same.1)
     (went_moved g.D.Disk.tells g.D.Disk.made g.X.SecretStore.made g.D.Disk.faults g.X.SecretStore.faults c.begin_step.new.devices c.open.new.devices c.open.ensures.moved) in
     blames_from g.D.Disk.tells g.D.Disk.made g.X.SecretStore.made g.D.Disk.faults g.X.SecretStore.faults c.args.devices.now c.open.new.devices c.take_steps.new.devices opened c.take_steps.ensures.went c.take_steps.result c.take_steps.ensures.causes
 
@@ -139,7 +139,7 @@ returns-clause-run g c = λ disk secrets stands left image.
     told_ran g.D.Disk.files g.D.Disk.image g.X.SecretStore.held c.args.devices.now c.begin_step.new.devices c.begin_step.ensures.same.0 c.begin_step.ensures.same.1 stands c.args.script.now c.args.number c.args.life.now c.in_ok-begin_step.ensures.lit c.args.out.now.entries c.open.new.devices c.open.new.out.entries (g.D.Disk.files c.open.new.devices.disk.now) (g.met.D.Disk.reads c.open.new.devices.disk.now disk)
     its.0 its.2 c.take_steps.result (world_of g.X.SecretStore.held c.take_steps.new.devices c.take_steps.new.out.entries left) c.push.new.self.entries c.in_ok-push.ensures.ok
     (c.take_steps.ensures.run disk secrets today its.0
-      (record { of = c.in-Ok.ensures.of today refl (reads_today seen_today refl); blocks_are = c.in_ok-source.ensures.blocks ∙ c.requires.here.1; life_is = refl }) its.1 left image)
+    (record { of = c.in-Ok.ensures.of today refl (reads_today seen_today refl); blocks_are = c.in_ok-source.ensures.blocks ∙ c.requires.here.1; life_is = refl }) its.1 left image)
 
 -- WHAT THE STOP SHOWS
 
@@ -157,7 +157,7 @@ returns-clause-found g c =
     steps_found (lived c.args.script.now c.args.number c.args.life.now (λ h. read.seen) (g.D.Disk.files c.begin_step.new.devices.disk.now)) (record { form = c.requires.form; life_is = c.requires.here.0; reads = record { shareless = λ h. read.shareless; unplanned = λ h. read.unplanned } }) (g.D.Disk.files c.take_steps.new.devices.disk.now) (g.X.SecretStore.held c.take_steps.new.devices.secrets.now) c.args.out.now.entries c.open.new.out.entries read.so.0 read.so.2
     (trace c.push.new.self.entries []) (trace c.take_steps.new.out.entries []) c.take_steps.result _ _ _ _ _ c.take_steps.ensures.causes
     (c.take_steps.ensures.lines (lived c.args.script.now c.args.number c.args.life.now (λ h. read.seen) (g.D.Disk.files c.begin_step.new.devices.disk.now)) read.so.0 []
-      (record { of = c.in-Ok.ensures.of (lived c.args.script.now c.args.number c.args.life.now (λ h. read.seen) (g.D.Disk.files c.begin_step.new.devices.disk.now)) refl (record { shareless = λ h. read.shareless; unplanned = λ h. read.unplanned }); blocks_are = c.in_ok-source.ensures.blocks ∙ c.requires.here.1; life_is = refl }) read.so.1)
+    (record { of = c.in-Ok.ensures.of (lived c.args.script.now c.args.number c.args.life.now (λ h. read.seen) (g.D.Disk.files c.begin_step.new.devices.disk.now)) refl (record { shareless = λ h. read.shareless; unplanned = λ h. read.unplanned }); blocks_are = c.in_ok-source.ensures.blocks ∙ c.requires.here.1; life_is = refl }) read.so.1)
 
 -- WHAT PASSES
 
@@ -169,9 +169,9 @@ pub returns-in_err-push-clause-passing : goal.returns-in_err-push-clause-passing
 returns-in_err-push-clause-passing g c = λ disk secrets are.
     let read = c.in-Ok.ensures.tells in
     passes_all (reader_in c.args.script.now) (g.D.Disk.image c.open.new.devices.disk.now) (g.X.SecretStore.held c.open.new.devices.secrets.now) (λ left image.
-      (opened_passing c.args.script.now c.args.number c.args.life.now (g.D.Disk.files c.begin_step.new.devices.disk.now) c.requires.form c.requires.here.0 read.seen read.shareless read.unplanned read.so.0 (read.so.1).life.store.dealings (ap (λ (x : Live directory.Unit). x.records.dealings) (read.so.1).is)
-        c.args.out.now.entries c.open.new.out.entries read.so.2 (g.D.Disk.image c.args.devices.now.disk.now) (g.D.Disk.image c.open.new.devices.disk.now) (g.X.SecretStore.held c.args.devices.now.secrets.now) (g.X.SecretStore.held c.open.new.devices.secrets.now)
-        (above_begun g.D.Disk.files g.D.Disk.image g.X.SecretStore.held c.args.devices.now c.begin_step.new.devices c.begin_step.ensures.same.0 c.begin_step.ensures.same.1 (g.D.Disk.image c.open.new.devices.disk.now) (g.X.SecretStore.held c.open.new.devices.secrets.now) (c.open.ensures.loose disk)) (read.given disk secrets) are left image).pass)
+    (opened_passing c.args.script.now c.args.number c.args.life.now (g.D.Disk.files c.begin_step.new.devices.disk.now) c.requires.form c.requires.here.0 read.seen read.shareless read.unplanned read.so.0 (read.so.1).life.store.dealings (ap (λ (x : Live directory.Unit). x.records.dealings) (read.so.1).is)
+    c.args.out.now.entries c.open.new.out.entries read.so.2 (g.D.Disk.image c.args.devices.now.disk.now) (g.D.Disk.image c.open.new.devices.disk.now) (g.X.SecretStore.held c.args.devices.now.secrets.now) (g.X.SecretStore.held c.open.new.devices.secrets.now)
+    (above_begun g.D.Disk.files g.D.Disk.image g.X.SecretStore.held c.args.devices.now c.begin_step.new.devices c.begin_step.ensures.same.0 c.begin_step.ensures.same.1 (g.D.Disk.image c.open.new.devices.disk.now) (g.X.SecretStore.held c.open.new.devices.secrets.now) (c.open.ensures.loose disk)) (read.given disk secrets) are left image).pass)
 
 pub returns-clause-passing : goal.returns-clause-passing
 returns-clause-passing g c = λ disk secrets are.
@@ -180,7 +180,7 @@ returns-clause-passing g c = λ disk secrets are.
     steps_passing today (here_today c.args.script.now c.args.number c.args.life.now (g.D.Disk.files c.begin_step.new.devices.disk.now) c.requires.form c.requires.here.0) read.so.0 (moment c.push.new.self.entries (g.X.SecretStore.held c.open.new.devices.secrets.now) c.open.new.devices.fuse)
     (moment c.take_steps.new.out.entries (g.X.SecretStore.held c.take_steps.new.devices.secrets.now) c.take_steps.new.devices.fuse) (g.D.Disk.files c.open.new.devices.disk.now) (g.D.Disk.image c.take_steps.new.devices.disk.now) c.take_steps.result
     (opened_passing c.args.script.now c.args.number c.args.life.now (g.D.Disk.files c.begin_step.new.devices.disk.now) c.requires.form c.requires.here.0 read.seen read.shareless read.unplanned read.so.0 (read.so.1).life.store.dealings (ap (λ (x : Live directory.Unit). x.records.dealings) (read.so.1).is)
-      c.args.out.now.entries c.open.new.out.entries read.so.2 (g.D.Disk.image c.args.devices.now.disk.now) (g.D.Disk.image c.open.new.devices.disk.now) (g.X.SecretStore.held c.args.devices.now.secrets.now) (g.X.SecretStore.held c.open.new.devices.secrets.now)
-      (above_begun g.D.Disk.files g.D.Disk.image g.X.SecretStore.held c.args.devices.now c.begin_step.new.devices c.begin_step.ensures.same.0 c.begin_step.ensures.same.1 (g.D.Disk.image c.open.new.devices.disk.now) (g.X.SecretStore.held c.open.new.devices.secrets.now) (c.open.ensures.loose disk)) (read.given disk secrets) are (g.D.Disk.files c.open.new.devices.disk.now) (g.met.D.Disk.reads c.open.new.devices.disk.now disk))
+    c.args.out.now.entries c.open.new.out.entries read.so.2 (g.D.Disk.image c.args.devices.now.disk.now) (g.D.Disk.image c.open.new.devices.disk.now) (g.X.SecretStore.held c.args.devices.now.secrets.now) (g.X.SecretStore.held c.open.new.devices.secrets.now)
+    (above_begun g.D.Disk.files g.D.Disk.image g.X.SecretStore.held c.args.devices.now c.begin_step.new.devices c.begin_step.ensures.same.0 c.begin_step.ensures.same.1 (g.D.Disk.image c.open.new.devices.disk.now) (g.X.SecretStore.held c.open.new.devices.secrets.now) (c.open.ensures.loose disk)) (read.given disk secrets) are (g.D.Disk.files c.open.new.devices.disk.now) (g.met.D.Disk.reads c.open.new.devices.disk.now disk))
     (λ left image. c.take_steps.ensures.run disk secrets today read.so.0
-      (record { of = c.in-Ok.ensures.of today refl (reads_today seen_today refl); blocks_are = c.in_ok-source.ensures.blocks ∙ c.requires.here.1; life_is = refl }) read.so.1 left image)
+    (record { of = c.in-Ok.ensures.of today refl (reads_today seen_today refl); blocks_are = c.in_ok-source.ensures.blocks ∙ c.requires.here.1; life_is = refl }) read.so.1 left image)
