@@ -2,6 +2,7 @@ pub mod Asked
 pub mod Behind
 pub mod BlockLines
 pub mod Early
+pub mod Empty
 pub mod Ended
 pub mod Entering
 pub mod Faulted

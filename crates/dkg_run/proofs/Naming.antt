@@ -115,16 +115,17 @@ module _ {S : Type 0} where
 
 -- A CALL THAT ENDS BY A STOP ends all that stands behind it, by the same
 
-module _ {S T : Type 0} {acts : Acts NodeStop S} (next : S → Acts NodeStop T) {files files_now : Files} {image now : Files → Type 0} {old new : Moment} where
-  stop_burns : (its : Stop) → Burns (by_node_stop {S = S} its) old.fuse new.fuse → Burns (by_node_stop {S = T} its) old.fuse new.fuse
+module _ {S T : Type 0} {before after : Burn} where
+  stop_burns : (its : Stop) → Burns (by_node_stop {S = S} its) before after → Burns (by_node_stop {S = T} its) before after
   stop_burns (stop.Fault its) burns = in_cause (cause_in its) its burns
     where
-      in_cause : (cause : Option Cause) (its : Fault) → Burns (named {S = S} Faulted (by_cause cause its)) old.fuse new.fuse → Burns (named {S = T} Faulted (by_cause cause its)) old.fuse new.fuse
+      in_cause : (cause : Option Cause) (its : Fault) → Burns (named {S = S} Faulted (by_cause cause its)) before after → Burns (named {S = T} Faulted (by_cause cause its)) before after
       in_cause (Some cause) its burns = record { call = burns.call; pick = burns.pick; uncut = tt }
       in_cause None its burns = record { call = burns.call; pick = burns.pick; uncut = burns.uncut }
   stop_burns stop.Cut burns = record { call = burns.call; pick = burns.pick; uncut = tt }
   stop_burns stop.Failed burns = record { call = burns.call; pick = burns.pick; uncut = tt }
 
+module _ {S T : Type 0} {acts : Acts NodeStop S} (next : S → Acts NodeStop T) {files files_now : Files} {image now : Files → Type 0} {old new : Moment} where
   stop_made : (its : Stop) → MadeAt acts (by_node_stop its) files image files_now now old new → MadeAt (acts_of.bind acts next) (by_node_stop its) files image files_now now old new
   stop_made (stop.Fault its) made = in_cause (cause_in its) its made
     where
@@ -175,6 +176,7 @@ module _ {Dir S T : Type 0} (course : Course Dir Fault S) (next : S → Course D
     burns = burns_next how (makes_named (on_devices course) (went end) first).burns second.burns;
   })
 
+module _ {Dir S T : Type 0} (course : Course Dir Fault S) (next : S → Course Dir NodeStop T) {files files_now : Files} {image now : Files → Type 0} {old new : Moment} where
   pub node_ends : (its : Stop) → MakesAt (on_devices course) (by_stop its) files image files_now now old new
       → MakesAt (on_devices (bind (under Faulted course) next)) (by_node_stop its) files image files_now now old new
   node_ends its first = subst (λ (a : Acts NodeStop T). MakesAt a (by_node_stop its) files image files_now now old new) (behind course next)
@@ -185,6 +187,7 @@ module _ {Dir S T : Type 0} (course : Course Dir Fault S) (next : S → Course D
       → Said (on_devices (bind (under Faulted course) next)) how out now
   node_says {end} {how} first second = subst (λ (a : Acts NodeStop T). Said a how out now) (behind course next) (said_next (λ s. on_devices (next s)) (said_named (on_devices course) (went end) first) second)
 
+module _ {Dir S T : Type 0} (course : Course Dir Fault S) (next : S → Course Dir NodeStop T) {out now : List Line} where
   pub node_says_early : (its : Stop) → Said (on_devices course) (by_stop its) out now → Said (on_devices (bind (under Faulted course) next)) (by_node_stop its) out now
   node_says_early its first = subst (λ (a : Acts NodeStop T). Said a (by_node_stop its) out now) (behind course next)
       (said_early (λ s. on_devices (next s)) its (said_named (on_devices course) (by_stop its) first))

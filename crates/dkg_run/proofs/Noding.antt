@@ -23,9 +23,9 @@ use Rattle.dkg_ceremony.specs.declared.mode.Reveal.TheVariants.{V1}
 use Rattle.dkg_text.specs.declared.script.ScriptConfig.{ScriptConfig}
 use Rattle.dkg_core.specs.Core.{no_orchestrator, no_probe, step}
 use Rattle.dkg_core.specs.Courses.{Course, Goes, Say, bind, on_devices}
-use Rattle.dkg_core.specs.Entering.{acked_at, asks_again, delivered}
-use Rattle.dkg_core.specs.Fixed.{Fixed}
-use Rattle.dkg_core.specs.Live.{Live, Mail, NodeStop, Peer, Reshare, Sent, Delivers, Finalized}
+use Rattle.dkg_core.specs.Entering.{acked_at, acked_late, asks_again, delivered, enters}
+use Rattle.dkg_core.specs.Fixed.{Fixed, OneShot}
+use Rattle.dkg_core.specs.Live.{Live, Mail, NodeStop, Waiting, Peer, Reshare, Sent, Delivers, Finalized}
 use Rattle.dkg_core.specs.Node.{node_step, unless_once}
 use Rattle.dkg_core.specs.Said.{Said}
 use Rattle.dkg_reshare.specs.Actors.{AreTerms, EndsAt, HasFailed, IfLiving, IsReadyLife, lives}
@@ -65,10 +65,10 @@ at_oneshot g taken = refl
 -- A MESSAGE: an orchestrator that waits for nothing asks for nothing behind it
 
 pub unless_reshare : {S : Type 0} (c : Fixed directory.Unit) (course once : Course directory.Unit NodeStop S) → c.oneshot ≡ None → unless_once c course once ≡ course
-unless_reshare c course once is = ap (λ (o : Option _). if is_some o then once else course) is
+unless_reshare c course once is = ap (λ (o : Option (OneShot directory.Unit)). if is_some o then once else course) is
 
 asks_nothing : (c : Fixed directory.Unit) (st : Live directory.Unit) → st.orchestrator.waiting ≡ None → asks_again c st ≡ Goes st
-asks_nothing c st is = ap (λ (o : Option _). option_map_or _ o (Goes st)) is
+asks_nothing c st is = ap (λ (o : Option (Waiting directory.Unit)). option_map_or (λ w. bind (enters c w st) (acked_late w.block)) o (Goes st)) is
 
 pub goes_on : (c : Fixed directory.Unit) (st : Live directory.Unit) → c.oneshot ≡ None → st.orchestrator.waiting ≡ None → unless_once c (asks_again c st) (Goes st) ≡ Goes st
 goes_on c st reshare unawaited = unless_reshare c (asks_again c st) (Goes st) reshare ∙ asks_nothing c st unawaited
@@ -94,7 +94,7 @@ module _ {S : Type 0} (course : Course directory.Unit NodeStop S) where
   pub speaks_says : (how : Ended NodeStop S) {out now : List Line} → Speaks course how out now → Tells course how out now
   speaks_says how {out} {now} speaks = said_of_runs (on_devices course) how (record { out = out; held = nothing_held; fuse = never }) (record { out = now; held = nothing_held; fuse = never }) (speaks nothing_held never)
 
-says_nothing : {st : Live directory.Unit} (out : List Line) → Tells {F = NodeStop} (Goes st) (went st) out out
+says_nothing : {st : Live directory.Unit} (out : List Line) → Tells {Dir = directory.Unit} {F = NodeStop} (Goes st) (went st) out out
 says_nothing out = record { lines = []; added = sym (append-nil out); by = (refl, refl) }
 
 -- VIEWS
@@ -132,7 +132,7 @@ module _ (n : Node) (c : Fixed directory.Unit) (beside : Beside directory.Unit) 
   abbrev next_of : Live directory.Unit → Course directory.Unit NodeStop (Live directory.Unit)
   next_of st = unless_once c (asks_again c st) (Goes st)
 
-  module _ {files files_now : Files} {image now : Files → Type 0} {old new : Moment} where
+  module _ (files files_now : Files) (image now : Files → Type 0) (old new : Moment) where
     heard_in : (state : State directory.Unit) → n.actor.state ≡ state → (result : Result (Unit {0}) Stop) (P : reshare.Life directory.Unit → Type 0) → EndsAt state result P
         → MakesAt (on_devices (step c (Sent mail) st)) (lives (live_of beside n.fence) state result) files image files_now now old new
         → Viewed n result (λ ended. MakesAt (on_devices (node_step c (Reshare mail) st)) ended files image files_now now old new)
@@ -154,7 +154,7 @@ module _ (n : Node) (c : Fixed directory.Unit) (beside : Beside directory.Unit) 
         → Viewed n result (λ ended. MakesAt (on_devices (node_step c (Reshare mail) st)) ended files image files_now now old new)
     heard result P ends made = heard_in n.actor.state refl result P ends made
 
-  module _ {out now : List Line} where
+  module _ (out now : List Line) where
     said_in : (state : State directory.Unit) → n.actor.state ≡ state → (result : Result (Unit {0}) Stop) (P : reshare.Life directory.Unit → Type 0) → EndsAt state result P
         → Tells (step c (Sent mail) st) (lives (live_of beside n.fence) state result) out now → Viewed n result (λ ended. Tells (node_step c (Reshare mail) st) ended out now)
     said_in (Living life) is (Ok done) P ends said = (
@@ -198,7 +198,7 @@ module _ (n : Node) (c : Fixed directory.Unit) (beside : Beside directory.Unit) 
   refused_said HadFailed stop P ends said = node_says_early (step c (Finalized b) st) next_behind stop said
 
   -- .. or it went there, and the other half answered
-  module _ {files files_now : Files} {image now : Files → Type 0} {old : Moment} {mid_out out : List Line} {s : Secrets} {f : Burn} where
+  module _ (files files_now : Files) (image now : Files → Type 0) (old : Moment) (mid_out out : List Line) (s : Secrets) (f : Burn) where
     pub taken_in : (state : State directory.Unit) → n.actor.state ≡ state → (P : reshare.Life directory.Unit → Type 0) → EndsAt state (Ok tt) P
         → MakesAt (on_devices (step c (Finalized b) st)) (lives (live_of beside n.fence) state (Ok tt)) files image files_now now old (moment mid_out s f)
         → (result : Result (Unit {0}) Stop) → ((st : Live directory.Unit) → HasHalf n.half st → Speaks (answered st) (ends_node st result) mid_out out)
@@ -214,7 +214,7 @@ module _ (n : Node) (c : Fixed directory.Unit) (beside : Beside directory.Unit) 
     taken_in New is P ends made result speaks = absurd ends
     taken_in HadFailed is P ends made result speaks = absurd ends
 
-  module _ {out mid now : List Line} where
+  module _ (out mid now : List Line) where
     pub told_in : (state : State directory.Unit) → n.actor.state ≡ state → (P : reshare.Life directory.Unit → Type 0) → EndsAt state (Ok tt) P
         → Tells (step c (Finalized b) st) (lives (live_of beside n.fence) state (Ok tt)) out mid
         → (result : Result (Unit {0}) Stop) → ((st : Live directory.Unit) → HasHalf n.half st → Speaks (answered st) (ends_node st result) mid now)
@@ -295,13 +295,13 @@ module _ (before n : Node) (half : n.half ≡ before.half) (g : Lived) (number :
   given_as : (b its : Block directory.Unit) → its ≡ b → step given_at (Finalized its) (live_of view.beside before.fence view.life) ≡ step given_at (Finalized b) st
   given_as b its same = λ i. step given_at (Finalized (same i)) (sym view.is i)
 
-  module _ {files files_now : Files} {image now : Files → Type 0} {old new : Moment} where
+  module _ (files files_now : Files) (image now : Files → Type 0) (old new : Moment) where
     pub hears : (from : ℕ) (bytes its : List ℕ) → its ≡ bytes → (result : Result (Unit {0}) Stop) (P : reshare.Life directory.Unit → Type 0) → EndsAt n.actor.state result P
         → IfLiving before.actor.state (λ life. MakesAt (on_devices (step given_at (Sent (Peer from its)) (live_of view.beside before.fence life)))
             (lives (live_of view.beside n.fence) n.actor.state result) files image files_now now old new)
         → Viewed n result (λ ended. MakesAt (on_devices (step_of g number (event.Peer from bytes) st)) ended files image files_now now old new)
     hears from bytes its same result P ends made =
-        heard n given_at view.beside has_half (at_oneshot g number) (Peer from bytes) st result P ends
+        heard n given_at view.beside has_half (at_oneshot g number) (Peer from bytes) st files files_now image now old new result P ends
         (subst (λ (a : Course directory.Unit Fault (Live directory.Unit)). MakesAt (on_devices a) (lives (live_of view.beside n.fence) n.actor.state result) files image files_now now old new)
         (sent_as from bytes its same)
         (living (λ life. MakesAt (on_devices (step given_at (Sent (Peer from its)) (live_of view.beside before.fence life))) (lives (live_of view.beside n.fence) n.actor.state result) files image files_now now old new) made))
@@ -316,12 +316,12 @@ module _ (before n : Node) (half : n.half ≡ before.half) (g : Lived) (number :
         (given_as b its same)
         (living (λ life. MakesAt (on_devices (step given_at (Finalized its) (live_of view.beside before.fence life))) (lives (live_of view.beside n.fence) n.actor.state (Err stop)) files image files_now now old new) made))
 
-  module _ {out now : List Line} where
+  module _ (out now : List Line) where
     pub hears_said : (from : ℕ) (bytes its : List ℕ) → its ≡ bytes → (result : Result (Unit {0}) Stop) (P : reshare.Life directory.Unit → Type 0) → EndsAt n.actor.state result P
         → IfLiving before.actor.state (λ life. Tells (step given_at (Sent (Peer from its)) (live_of view.beside before.fence life)) (lives (live_of view.beside n.fence) n.actor.state result) out now)
         → Viewed n result (λ ended. Tells (step_of g number (event.Peer from bytes) st) ended out now)
     hears_said from bytes its same result P ends said =
-        heard_said n given_at view.beside has_half (at_oneshot g number) (Peer from bytes) st result P ends
+        heard_said n given_at view.beside has_half (at_oneshot g number) (Peer from bytes) st out now result P ends
         (subst (λ (a : Course directory.Unit Fault (Live directory.Unit)). Said (on_devices a) (lives (live_of view.beside n.fence) n.actor.state result) out now)
         (sent_as from bytes its same)
         (living (λ life. Tells (step given_at (Sent (Peer from its)) (live_of view.beside before.fence life)) (lives (live_of view.beside n.fence) n.actor.state result) out now) said))
@@ -336,7 +336,7 @@ module _ (before n : Node) (half : n.half ≡ before.half) (g : Lived) (number :
         (living (λ life. Tells (step given_at (Finalized its) (live_of view.beside before.fence life)) (lives (live_of view.beside n.fence) n.actor.state (Err stop)) out now) said))
 
   -- .. the other half answered
-  module _ {files files_now : Files} {image now : Files → Type 0} {old : Moment} {mid_out out : List Line} {s : Secrets} {f : Burn} where
+  module _ (files files_now : Files) (image now : Files → Type 0) (old : Moment) (mid_out out : List Line) (s : Secrets) (f : Burn) where
     pub takes : (b its : Block directory.Unit) → its ≡ b → (P : reshare.Life directory.Unit → Type 0) → EndsAt n.actor.state (Ok tt) P
         → IfLiving before.actor.state (λ life. MakesAt (on_devices (step given_at (Finalized its) (live_of view.beside before.fence life)))
             (lives (live_of view.beside n.fence) n.actor.state (Ok tt)) files image files_now now old (moment mid_out s f))
@@ -344,20 +344,20 @@ module _ (before n : Node) (half : n.half ≡ before.half) (g : Lived) (number :
         → ((st : Live directory.Unit) → HasHalf n.half st → Speaks (bind (delivered given_at b st) (λ half. acked_at b.height half.answer half.live)) (ends_node st result) mid_out out)
         → Viewed n result (λ ended. MakesAt (on_devices (node_step given_at (Delivers b) st)) ended files image files_now now old (moment out s f))
     takes b its same P ends made result speaks =
-        taken_in n given_at view.beside has_half (at_oneshot g number) b st n.actor.state refl P ends
+        taken_in n given_at view.beside has_half (at_oneshot g number) b st files files_now image now old mid_out out s f n.actor.state refl P ends
         (subst (λ (a : Course directory.Unit Fault (Live directory.Unit)). MakesAt (on_devices a) (lives (live_of view.beside n.fence) n.actor.state (Ok tt)) files image files_now now old (moment mid_out s f))
         (given_as b its same)
         (living (λ life. MakesAt (on_devices (step given_at (Finalized its) (live_of view.beside before.fence life))) (lives (live_of view.beside n.fence) n.actor.state (Ok tt)) files image files_now now old (moment mid_out s f)) made))
         result speaks
 
-  module _ {out mid now : List Line} where
+  module _ (out mid now : List Line) where
     pub takes_said : (b its : Block directory.Unit) → its ≡ b → (P : reshare.Life directory.Unit → Type 0) → EndsAt n.actor.state (Ok tt) P
         → IfLiving before.actor.state (λ life. Tells (step given_at (Finalized its) (live_of view.beside before.fence life)) (lives (live_of view.beside n.fence) n.actor.state (Ok tt)) out mid)
         → (result : Result (Unit {0}) Stop)
         → ((st : Live directory.Unit) → HasHalf n.half st → Speaks (bind (delivered given_at b st) (λ half. acked_at b.height half.answer half.live)) (ends_node st result) mid now)
         → Viewed n result (λ ended. Tells (node_step given_at (Delivers b) st) ended out now)
     takes_said b its same P ends said result speaks =
-        told_in n given_at view.beside has_half (at_oneshot g number) b st n.actor.state refl P ends
+        told_in n given_at view.beside has_half (at_oneshot g number) b st out mid now n.actor.state refl P ends
         (subst (λ (a : Course directory.Unit Fault (Live directory.Unit)). Said (on_devices a) (lives (live_of view.beside n.fence) n.actor.state (Ok tt)) out mid)
         (given_as b its same)
         (living (λ life. Tells (step given_at (Finalized its) (live_of view.beside before.fence life)) (lives (live_of view.beside n.fence) n.actor.state (Ok tt)) out mid) said))
@@ -383,13 +383,13 @@ block_step g number n st b is =
     sym (ap (λ (o : Option (Block directory.Unit)). option_map_or (λ its. node_step (at_step g number) its st) (option_map Delivers o) (Goes st)) is)
 
 module _ (node : Node) (result : Result (Unit {0}) Stop) (g : Lived) (number n : ℕ) (st : Live directory.Unit) (b : Block directory.Unit) (is : slice_get (blocks_in g.script) n ≡ Some b) where
-  pub block_made : {files files_now : Files} {image now : Files → Type 0} {old new : Moment}
+  pub block_made : (files files_now : Files) (image now : Files → Type 0) (old new : Moment)
       → Viewed node result (λ ended. MakesAt (on_devices (node_step (at_step g number) (Delivers b) st)) ended files image files_now now old new)
       → Viewed node result (λ ended. MakesAt (on_devices (step_of g number (event.Final n) st)) ended files image files_now now old new)
-  block_made {files} {files_now} {image} {now} {old} {new} its =
+  block_made files files_now image now old new its =
       subst (λ (a : Course directory.Unit NodeStop (Live directory.Unit)). Viewed node result (λ ended. MakesAt (on_devices a) ended files image files_now now old new)) (block_step g number n st b is) its
 
-  pub block_said : {out now : List Line} → Viewed node result (λ ended. Tells (node_step (at_step g number) (Delivers b) st) ended out now)
+  pub block_said : (out now : List Line) → Viewed node result (λ ended. Tells (node_step (at_step g number) (Delivers b) st) ended out now)
       → Viewed node result (λ ended. Tells (step_of g number (event.Final n) st) ended out now)
-  block_said {out} {now} its =
+  block_said out now its =
       subst (λ (a : Course directory.Unit NodeStop (Live directory.Unit)). Viewed node result (λ ended. Said (on_devices a) ended out now)) (block_step g number n st b is) its

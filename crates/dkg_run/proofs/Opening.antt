@@ -225,16 +225,16 @@ unfolding at_step
 reading_as g s taken = refl
 
 module _ (g : Lived) (terms : Terms) (source : Source directory.Unit) (taken : ℕ) (of : IsOf terms (at_step g taken)) (lent : source_at g taken ≡ source) where
-  pub lent_at : IsLent terms source g.life.word (at_step g taken)
-  lent_at = record { of = of; lent = source_too; word_is = word_too }
-    where
-      source_too : (at_step g taken).source ≡ source
-      unfolding at_step
-      source_too = lent
+  source_at_is : (at_step g taken).source ≡ source
+  unfolding at_step
+  source_at_is = lent
 
-      word_too : (at_step g taken).word ≡ g.life.word
-      unfolding at_step
-      word_too = refl
+  word_at : (at_step g taken).word ≡ g.life.word
+  unfolding at_step
+  word_at = refl
+
+  pub lent_at : IsLent terms source g.life.word (at_step g taken)
+  lent_at = record { of = of; lent = source_at_is; word_is = word_at }
 
   pub number_at : (at_step g taken).life ≡ g.number
   unfolding at_step

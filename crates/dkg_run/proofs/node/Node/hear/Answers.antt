@@ -24,12 +24,12 @@ returns-clause-ready g c = ready_on g.D.Disk.tells g.D.Disk.files g.D.Disk.image
 
 pub returns-clause-acts : goal.returns-clause-acts
 returns-clause-acts g c = λ disk secrets lived number st of view.
-    hears c.args.self.now (record c.args.self.now { actor = c.step.new.self; fence = c.step.new.fence }) refl lived number st view c.args.from c.args.bytes.now c.in_ok-bytes.bytes c.in_ok-bytes.ensures c.step.result
+    hears c.args.self.now (record c.args.self.now { actor = c.step.new.self; fence = c.step.new.fence }) refl lived number st view _ _ _ _ _ _ c.args.from c.args.bytes.now c.in_ok-bytes.bytes c.in_ok-bytes.ensures c.step.result
     (λ (life : reshare.Life directory.Unit). IsReadyLife g.D.Disk.tells g.D.Disk.files g.D.Disk.image acks.ack_of (c.step.new.self).terms life c.step.new.devices) c.step.ensures.ends
     (c.step.ensures.acts disk secrets _ view.beside (of.of number) (at_rules lived number))
 
 pub returns-clause-tells : goal.returns-clause-tells
 returns-clause-tells g c = λ lived number st of view.
-    hears_said c.args.self.now (record c.args.self.now { actor = c.step.new.self; fence = c.step.new.fence }) refl lived number st view c.args.from c.args.bytes.now c.in_ok-bytes.bytes c.in_ok-bytes.ensures c.step.result
+    hears_said c.args.self.now (record c.args.self.now { actor = c.step.new.self; fence = c.step.new.fence }) refl lived number st view _ _ c.args.from c.args.bytes.now c.in_ok-bytes.bytes c.in_ok-bytes.ensures c.step.result
     (λ (life : reshare.Life directory.Unit). IsReadyLife g.D.Disk.tells g.D.Disk.files g.D.Disk.image acks.ack_of (c.step.new.self).terms life c.step.new.devices) c.step.ensures.ends
     (c.step.ensures.tells _ view.beside (of.of number) (at_rules lived number))

@@ -13,12 +13,12 @@ returns-in-Peer-clause-tells g c = λ lived number st of here view. rw c.in-Peer
 
 pub returns-in-Some-clause-acts : goal.returns-in-Some-clause-acts
 returns-in-Some-clause-acts g c = λ disk secrets lived number st of here view.
-    rw c.in-Final.is (block_made c.deliver.new.self c.deliver.result lived number c.in-Final.block.now st c.in-Some.block.now
-    (ap (λ (bs : List (Block directory.Unit)). slice_get bs c.in-Final.block.now) (sym here) ∙ sym c.in-Some.ensures)
+    rw c.in-Final.is (block_made c.deliver.new.self c.deliver.result lived number c.in-Final.block st c.in-Some.block.now
+    (ap (λ (bs : List (Block directory.Unit)). slice_get bs c.in-Final.block) (sym here) ∙ sym c.in-Some.ensures) _ _ _ _ _ _
     (c.deliver.ensures.acts disk secrets lived number st of view))
 
 pub returns-in-Some-clause-tells : goal.returns-in-Some-clause-tells
 returns-in-Some-clause-tells g c = λ lived number st of here view.
-    rw c.in-Final.is (block_said c.deliver.new.self c.deliver.result lived number c.in-Final.block.now st c.in-Some.block.now
-    (ap (λ (bs : List (Block directory.Unit)). slice_get bs c.in-Final.block.now) (sym here) ∙ sym c.in-Some.ensures)
+    rw c.in-Final.is (block_said c.deliver.new.self c.deliver.result lived number c.in-Final.block st c.in-Some.block.now
+    (ap (λ (bs : List (Block directory.Unit)). slice_get bs c.in-Final.block) (sym here) ∙ sym c.in-Some.ensures) _ _
     (c.deliver.ensures.tells lived number st of view))
