@@ -4,10 +4,10 @@
 //! write and the sync of a new segment, and by the write and the sync of its gate. An opening makes three.
 
 use crate::runs::{DEALING, OPENED, run, script};
-use dkg_journal::MemoryDisk;
+use dkg_journal::{Disk, MemoryDisk};
 use dkg_run::run_lives;
 use dkg_script::{print_of, read_built};
-use dkg_store::MemorySecrets;
+use dkg_store::{MemorySecrets, SecretStore};
 use dkg_types::Transcript;
 use std::alloc::Global;
 use std::test::Fail;
@@ -45,14 +45,27 @@ const OTHER: (&str, &str) = (
     "recorded 0 2 03000f00090001 0019\nack 0 2 d2d494c825b5ca18\nstep 1\n",
 );
 
-/// What the lives of a script tell over empty devices, as text.
-fn told(alloc: Global, text: &str) -> Result<Vec<u8>, Fail> {
+/// Whether the lives of a script were run to their end over these devices, and what they told, as text.
+fn told(
+    alloc: Global,
+    text: &str,
+    disk: &mut MemoryDisk,
+    secrets: &mut MemorySecrets,
+) -> Result<(bool, Vec<u8>), Fail> {
     let script = read_built(alloc, text.as_bytes(), false)?;
+    let mut out = Transcript::new(alloc);
+    let ended = run_lives(alloc, &script, disk, secrets, &mut out);
+    Ok((ended.is_ok(), print_of(alloc, out.entries())?))
+}
+
+/// What the lives of a script tell over empty devices, run to their end.
+fn told_anew(alloc: Global, text: &str) -> Result<Vec<u8>, Fail> {
     let mut disk = MemoryDisk::new(alloc);
     let mut secrets = MemorySecrets::new(alloc);
-    let mut out = Transcript::new(alloc);
-    run_lives(alloc, &script, &mut disk, &mut secrets, &mut out)?;
-    Ok(print_of(alloc, out.entries())?)
+    match told(alloc, text, &mut disk, &mut secrets)? {
+        (true, lines) => Ok(lines),
+        (false, _) => Err(Fail::from("a fault")),
+    }
 }
 
 /// A script whose first life hears the dealing and is cut, and whose second has these events.
@@ -75,7 +88,7 @@ fn a_life_is_cut_at_each_call_of_a_step(rt: HostRuntime) -> Result<(), Fail> {
             let text = cut_script(alloc, (step, call, pick), "")?;
             let second = if pick < whole { FOUND } else { LOST };
             let wanted = format!(in alloc; "{front}cut {step} {call}\n{second}")?;
-            let lines = told(alloc, text.as_str())?;
+            let lines = told_anew(alloc, text.as_str())?;
             assert_eq!(rt;
                 lines.as_slice(),
                 wanted.as_bytes(),
@@ -93,7 +106,7 @@ fn a_step_of_fewer_calls_is_not_cut(rt: HostRuntime) -> Result<(), Fail> {
         for pick in 0..4u64 {
             let text = cut_script(alloc, (step, call, pick), "")?;
             let wanted = format!(in alloc; "{OPENED}{ANSWERED}{FOUND}")?;
-            let lines = told(alloc, text.as_str())?;
+            let lines = told_anew(alloc, text.as_str())?;
             assert_eq!(rt;
                 lines.as_slice(),
                 wanted.as_bytes(),
@@ -136,6 +149,39 @@ fn another_dealing_comes_behind_a_cut_one(rt: HostRuntime) -> Result<(), Fail> {
         let (status, sink) = run(alloc, text.as_str(), &mut disk, &mut secrets)?;
         assert_eq!(rt; sink.bytes(), wanted.as_bytes(), "{call}");
         assert_eq!(rt; status, 0, "{call}");
+    }
+    Ok(())
+}
+
+#[test]
+fn a_second_call_goes_on_over_the_devices_of_the_first(rt: HostRuntime) -> Result<(), Fail> {
+    let alloc = rt.alloc();
+    let event = format!(in alloc; "peer 2 {DEALING}\n")?;
+    let first = script(alloc, event.as_str())?;
+    let second = script(alloc, "")?;
+    // The call that syncs the record fails, so its gate stays closed; or none does.
+    for (failing, end, restored) in [
+        (6u64, "fault 2\n", "opened 0 0\n"),
+        (
+            0,
+            ANSWERED,
+            "opened 0 1\nrestored 0 2 03000f00070001 0017\n",
+        ),
+    ] {
+        let mut disk = MemoryDisk::failing(alloc, vec![in alloc; failing]?);
+        let mut secrets = MemorySecrets::new(alloc);
+        let (ended, lines) = told(alloc, first.as_str(), &mut disk, &mut secrets)?;
+        let wanted = format!(in alloc; "{OPENED}{end}")?;
+        assert_eq!(rt; lines.as_slice(), wanted.as_bytes());
+        assert_eq!(rt; ended, failing == 0);
+        disk.crash(0);
+        secrets.crash(0);
+        let (ended, lines) = told(alloc, second.as_str(), &mut disk, &mut secrets)?;
+        let wanted = format!(in alloc;
+            "{restored}committed 0 -\nregistered 0 member\nsetup 0 early player\nentered 0\nstep 0\n"
+        )?;
+        assert_eq!(rt; lines.as_slice(), wanted.as_bytes());
+        assert_eq!(rt; ended, true);
     }
     Ok(())
 }
