@@ -70,11 +70,11 @@ module _ {Dir : Type 0} (c : Fixed Dir) (block : Block Dir) (early : block.heigh
   low : block.height < c.blocks_per_epoch / 2
   low = let none : 0 * c.blocks_per_epoch ≡ 0 = zero-mul c.blocks_per_epoch in omega (arith, early, none)
 
-  -- THE RESHARE ACTOR: no device is touched, and the orchestrator's half stays
+  -- THE RESHARE ACTOR: no device is touched, and the orchestrator's half and the records stay
 
   module _ (st : Live Dir) (live : IsLiveToday c st) where
     abbrev pub Same : Live Dir → Type 0
-    Same end = end.orchestrator ≡ st.orchestrator
+    Same end = (end.orchestrator ≡ st.orchestrator) × (end.records ≡ st.records)
 
     not_last : is_last_height c block.height ≡ false
     not_last =
@@ -97,7 +97,7 @@ module _ {Dir : Type 0} (c : Fixed Dir) (block : Block Dir) (early : block.heigh
         let next : Live Dir → Course Dir Fault (Live Dir) = λ st. if block.height + 1 == midpoint c.blocks_per_epoch st.participation.epoch then i.advanced c (s.begins_inclusion c (with_tip block st)) else Goes (with_tip block st) in
         subst (λ (course : Course Dir Fault (Live Dir)). OnlySays IsAckedLine Same (bind course next)) (sym deals_nothing)
         (either_way IsAckedLine Same (block.height + 1 == midpoint c.blocks_per_epoch st.participation.epoch) (i.advanced c (s.begins_inclusion c (with_tip block st))) (Goes (with_tip block st))
-        (λ e. subst (λ (queue : List (Request Dir)). OnlySays IsAckedLine Same (i.advances c (length queue) (s.begins_inclusion c (with_tip block st)))) (sym live.idle) refl) (λ e. refl))
+        (λ e. subst (λ (queue : List (Request Dir)). OnlySays IsAckedLine Same (i.advances c (length queue) (s.begins_inclusion c (with_tip block st)))) (sym live.idle) (refl, refl)) (λ e. (refl, refl)))
 
     -- a block at or above the awaited height comes while dealing, or while following
     not_included : awaited_height st ≤ block.height → st.participation.stage ≡ Includes → ⊥
@@ -118,8 +118,8 @@ module _ {Dir : Type 0} (c : Fixed Dir) (block : Block Dir) (early : block.heigh
     applied : (stage : Stage) → st.participation.stage ≡ stage → awaited_height st ≤ block.height → OnlySays IsAckedLine Same (b.applies_in c block st stage)
     applied Deals is awaited = dealt
     applied Includes is awaited = absurd (not_included awaited is)
-    applied Follows is awaited = subst (λ (t : Bool). OnlySays IsAckedLine Same (if t then b.carried c block (λ info. b.follows_into c block info st) else Goes (with_tip block st))) (sym not_last) refl
-    applied Ends is awaited = refl
+    applied Follows is awaited = subst (λ (t : Bool). OnlySays IsAckedLine Same (if t then b.carried c block (λ info. b.follows_into c block info st) else Goes (with_tip block st))) (sym not_last) (refl, refl)
+    applied Ends is awaited = (refl, refl)
 
     over_tip : (tip : Option Tip) → st.tip ≡ tip → OnlySays IsAckedLine Same (b.over_tip_in c block st tip)
     over_tip None is =
@@ -133,7 +133,7 @@ module _ {Dir : Type 0} (c : Fixed Dir) (block : Block Dir) (early : block.heigh
         either_way IsAckedLine Same ((block.height == t.height) && not (bytes_eq block.digest t.digest)) (Stops (ConflictingBlock block.height)) next (λ e. tt)
         (λ e. either_way IsAckedLine Same (nat_lt (t.height + 1) block.height) (Stops (SkippedHeight (t.height + 1) block.height)) child (λ e. tt)
         (λ e. either_way IsAckedLine Same detached (Stops (DetachedBlock block.height)) old_or_new (λ e. tt)
-        (λ e. either_way IsAckedLine Same (nat_le block.height t.height) (Goes st) (b.applies c block st) (λ e. refl) (λ e. applied st.participation.stage refl (reaches e)))))
+        (λ e. either_way IsAckedLine Same (nat_le block.height t.height) (Goes st) (b.applies c block st) (λ e. (refl, refl)) (λ e. applied st.participation.stage refl (reaches e)))))
       where
         above : (height tip : ℕ) → nat_le height tip ≡ false → tip + 1 ≤ height
         above height tip e = grind (arith, nat_tests)
@@ -148,7 +148,7 @@ module _ {Dir : Type 0} (c : Fixed Dir) (block : Block Dir) (early : block.heigh
     delivers Deals = in_reach
     delivers Includes = in_reach
     delivers Follows = in_reach
-    delivers Ends = refl
+    delivers Ends = (refl, refl)
 
     pub silent_block : OnlySays IsAckedLine Same (step c (Finalized block) st)
     silent_block = delivers st.participation.stage
@@ -185,7 +185,7 @@ module _ {Dir : Type 0} (c : Fixed Dir) (block : Block Dir) (early : block.heigh
   both st live none =
       only_behind IsAckedLine (Same st live) Any (under Faulted (step c (Finalized block) st))
       (λ st. unless_once c (bind (half.delivered c block st) (λ left. half.acked_at block.height left.answer left.live)) (Say (Acked block.height) (Goes st)))
-      (only_under IsAckedLine (Same st live) Faulted (step c (Finalized block) st) (silent_block st live)) (λ end same. behind end (ap (λ (o : Orchestrator Dir). o.waiting) same ∙ none))
+      (only_under IsAckedLine (Same st live) Faulted (step c (Finalized block) st) (silent_block st live)) (λ end same. behind end (ap (λ (o : Orchestrator Dir). o.waiting) same.0 ∙ none))
 
 pub deliveries_are_idle : {Dir : Type 0} → DeliveriesAreIdle Dir
 deliveries_are_idle c b st ended w new early live none run =

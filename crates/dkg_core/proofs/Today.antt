@@ -40,7 +40,7 @@ use Rattle.dkg_core.specs.Said.{SaysAll, SaysUpTo}
 use Rattle.dkg_core.specs.Seen.{Seen}
 use Rattle.dkg_core.specs.Sources.{Tip, startup}
 use Rattle.dkg_core.specs.Fixed.{Fixed, Material, has, start}
-use Rattle.dkg_core.specs.Live.{Live, Dealer, Orchestrator, Waiting, NodeStop, Faulted, Stage, Deals, Includes, Follows, Ends, Seat, Plays, Watches, Request, Message, Sent, Peer, Finalized, NextLog, ReleaseLog, EpochInfoOf, Feed, Over, Cancel, Work, awaited_height, phase_of, is_last_height, of_epoch, with_tip, with_participation, with_orchestrator}
+use Rattle.dkg_core.specs.Live.{Live, Records, Dealer, Orchestrator, Waiting, NodeStop, Faulted, Stage, Deals, Includes, Follows, Ends, Seat, Plays, Watches, Request, Message, Sent, Peer, Finalized, NextLog, ReleaseLog, EpochInfoOf, Feed, Over, Cancel, Work, awaited_height, phase_of, is_last_height, of_epoch, with_tip, with_participation, with_orchestrator}
 use Rattle.dkg_core.specs.Logs.{logs_of}
 use Rattle.dkg_core.specs.Setup as s
 use Rattle.dkg_core.specs.Dealing as d
@@ -145,6 +145,14 @@ pairs_kept : (min epoch : ℕ) → min ≤ epoch → (rs : List Pair) → filter
 pairs_kept min epoch low [] = refl
 pairs_kept min epoch low (r ∷ rs) = one_kept min epoch low r rs (s.kept_from min rs) (pairs_kept min epoch low rs) (nat_le min r.0.0) refl
 
+-- none lies below epoch 0
+nothing_below : (rs : List Pair) → s.kept_from 0 rs ≡ rs
+nothing_below [] = refl
+nothing_below (r ∷ rs) = ap (λ (t : Bool). cond t (r ∷ s.kept_from 0 rs) (s.kept_from 0 rs)) (at_least r.0.0) ∙ ap (λ (l : List Pair). r ∷ l) (nothing_below rs)
+  where
+    at_least : (n : ℕ) → nat_le 0 n ≡ true
+    at_least n = grind (arith, nat_tests)
+
 never_deals : (in_set lacks : Bool) (bare : Bool) → bare ≡ false → (in_set && (false || bare) && lacks) ≡ true → ⊥
 never_deals in_set lacks true is e = absurd (let t : ◌≡◌ {A = Bool} true false = is in cc)
 never_deals true lacks false is e = absurd (let t : ◌≡◌ {A = Bool} false true = e in cc)
@@ -208,6 +216,7 @@ module _ {Dir : Type 0} (c : Fixed Dir) (form : IsFormOfToday c) where
               record {
                 in_range = reached;
                 tip = same_tip;
+                restored = λ few. ap (λ (r : Records). r.dealings) same_records ∙ ap (λ (min : ℕ). s.kept_from min seen.dealings) (omega (arith, few)) ∙ nothing_below seen.dealings;
                 live = live;
                 set_up = subst (IsSetUpBy c seen st) (sym is) (on_valid (IsSeatedBy c seen st) (record {
                   round = round;
@@ -216,6 +225,7 @@ module _ {Dir : Type 0} (c : Fixed Dir) (form : IsFormOfToday c) where
                   current = current;
                   seat = at_seat ∙ seat_is ∙ ap (λ (r : _). seat_in c round (record st { records = r })) (sym same_records);
                   passing = λ plays. passing (sym at_seat ∙ plays);
+                  passes = λ plays. ap (λ (r : _). s.refused_in c round (record st { records = r })) same_records ∙ refused_is ∙ passing (sym at_seat ∙ plays);
                   orchestrator = same_half;
                 }));
               },
@@ -277,7 +287,7 @@ module _ {Dir : Type 0} (c : Fixed Dir) (form : IsFormOfToday c) where
     from_info block is (Some info) carries = with_info block is info carries
 
     from_boundary : (found : Option (Block Dir)) → first_block c ≡ found → ComesTo F G (s.from_boundary c found fresh)
-    from_boundary None is = (h, record { in_range = reached; tip = refl; live = follower; set_up = subst (IsSetUpBy c seen fresh) (sym is) (refl, refl) })
+    from_boundary None is = (h, record { in_range = reached; tip = refl; restored = λ few. refl; live = follower; set_up = subst (IsSetUpBy c seen fresh) (sym is) (refl, refl) })
     from_boundary (Some block) is = from_info block is (info_of block.payload) refl
 
   module _ (h : Held) where
@@ -453,7 +463,7 @@ module _ {Dir : Type 0} (c : Fixed Dir) (st : Live Dir) (live : IsLiveToday c st
     PG end = IsNextToday c st end of_peer
 
     same : PG st
-    same = record { accepted = refl; tip = refl; live = live; epoch = refl; round = refl; seat = refl; current = refl; orchestrator = refl }
+    same = record { accepted = refl; tip = refl; live = live; epoch = refl; round = refl; seat = refl; current = refl; orchestrator = refl; records = tt }
 
     recorded : (epoch dealer : ℕ) (public : List ℕ) (private : ℕ) → PG (d.with_dealing_of epoch dealer public private st)
     recorded epoch dealer public private = record {
@@ -465,6 +475,7 @@ module _ {Dir : Type 0} (c : Fixed Dir) (st : Live Dir) (live : IsLiveToday c st
       seat = refl;
       current = refl;
       orchestrator = refl;
+      records = tt;
     }
 
     module _ (round : Round) where
@@ -536,15 +547,15 @@ module _ {Dir : Type 0} (c : Fixed Dir) (st : Live Dir) (live : IsLiveToday c st
 
       -- the same life on this tip
       goes_on : (end : Live Dir) → end.tip ≡ Some (record { height = block.height; digest = block.digest }) → end.participation.epoch ≡ st.participation.epoch → end.participation.round ≡ st.participation.round
-          → end.participation.seat ≡ st.participation.seat → end.participation.current ≡ st.participation.current → end.orchestrator ≡ st.orchestrator → IsLiveToday c end → BG end
-      goes_on end is_tip epoch round seat current half live = record { accepted = accepted; tip = is_tip ∙ sym behind; live = live; epoch = epoch; round = round; seat = seat; current = current; orchestrator = half }
+          → end.participation.seat ≡ st.participation.seat → end.participation.current ≡ st.participation.current → end.orchestrator ≡ st.orchestrator → end.records ≡ st.records → IsLiveToday c end → BG end
+      goes_on end is_tip epoch round seat current half records live = record { accepted = accepted; tip = is_tip ∙ sym behind; live = live; epoch = epoch; round = round; seat = seat; current = current; orchestrator = half; records = records }
 
       undealt_there : (o : Option Round) (dealer : Option Dealer) → dealer ≡ None → option_and_then (λ round. option_map (s.signed c round) dealer) o ≡ None
       undealt_there None dealer is = refl
       undealt_there (Some round) dealer is = ap (λ (x : Option Dealer). option_map (s.signed c round) x) is
 
       still_deals : st.participation.stage ≡ Deals → (block.height + 1 == midpoint c.blocks_per_epoch st.participation.epoch) ≡ false → BG (with_tip block st)
-      still_deals deals e = goes_on (with_tip block st) refl refl refl refl refl refl (record {
+      still_deals deals e = goes_on (with_tip block st) refl refl refl refl refl refl refl (record {
         awaits = here ∙ sym there;
         undealt = live.undealt;
         idle = live.idle;
@@ -558,7 +569,7 @@ module _ {Dir : Type 0} (c : Fixed Dir) (st : Live Dir) (live : IsLiveToday c st
               strictly (block.height + 1) (midpoint c.blocks_per_epoch 0) (omega (arith, early)) apart
 
       ends_dealing : st.participation.stage ≡ Deals → (block.height + 1 == midpoint c.blocks_per_epoch st.participation.epoch) ≡ true → BG (s.begins_inclusion c (with_tip block st))
-      ends_dealing deals e = goes_on (s.begins_inclusion c (with_tip block st)) refl refl refl refl refl refl (record {
+      ends_dealing deals e = goes_on (s.begins_inclusion c (with_tip block st)) refl refl refl refl refl refl refl (record {
         awaits = here ∙ sym there;
         undealt = undealt_there st.participation.round st.participation.dealer live.undealt;
         idle = live.idle;
@@ -600,7 +611,7 @@ module _ {Dir : Type 0} (c : Fixed Dir) (st : Live Dir) (live : IsLiveToday c st
 
       followed : st.participation.stage ≡ Follows → ComesTo BF BG (b.follows_at c block st)
       followed follows = subst (λ (t : Bool). ComesTo BF BG (if t then b.carried c block (λ info. b.follows_into c block info st) else Goes (with_tip block st))) (sym not_last)
-          (goes_on (with_tip block st) refl refl refl refl refl refl (record {
+          (goes_on (with_tip block st) refl refl refl refl refl refl refl (record {
             awaits = here ∙ sym there;
             undealt = live.undealt;
             idle = live.idle;
@@ -655,6 +666,7 @@ module _ {Dir : Type 0} (c : Fixed Dir) (st : Live Dir) (live : IsLiveToday c st
           seat = refl;
           current = refl;
           orchestrator = refl;
+          records = refl;
         }
 
         moved : nat_le block.height t.height ≡ false → tip_behind (Finalized block) st.tip ≡ new_tip

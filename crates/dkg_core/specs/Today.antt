@@ -1,6 +1,6 @@
 -- How openings and steps end in the form that is built: a reshare without shares and material, up to the block before an epoch's midpoint. Each own fault
 -- has its exact cause, and so has each state that is left.
-use Rattle.std.specs.Prelude.{◌≡◌, ◌<◌, ◌+◌, ◌==◌, ◌||◌, ◌&&◌, ℕ, true, false, not, nat_lt, nat_le, List, [], ◌∷◌, Option, Some, None, IsSomeAnd, is_none, Result, Ok, Err, if◌then◌else◌}
+use Rattle.std.specs.Prelude.{◌≡◌, ◌<◌, ◌≤◌, ◌+◌, ◌==◌, ◌||◌, ◌&&◌, ℕ, true, false, not, nat_lt, nat_le, List, [], ◌∷◌, Option, Some, None, IsSomeAnd, is_none, Result, Ok, Err, if◌then◌else◌}
 use Rattle.std.specs.Option.{option_map_or}
 use Rattle.std.specs.Str.{bytes_eq}
 use Rattle.dkg_ceremony.specs.declared.output.Output.{Output}
@@ -121,7 +121,7 @@ seat_in c round st = if not (has round.players c.me) || is_lost c round (of_epoc
 abbrev pub registered_by : {Dir : Type 0} → Fixed Dir → EpochInfo Dir → Orchestrator Dir
 registered_by {Dir} c info = record no_orchestrator { fence = marked info.epoch (no_orchestrator {Dir = Dir}).fence; schemes = (info.epoch, scheme_for c info None) ∷ [] }
 
--- The life takes part in the round of the info that the boundary block carries, of which no stored dealing is refused where it plays.
+-- The life takes part in the round of the info that the boundary block carries, of which no stored dealing is refused where it plays, nor one in memory.
 pub record IsSeatedBy {Dir : Type 0} (c : Fixed Dir) (seen : Seen) (st : Live Dir) (info : EpochInfo Dir) : Type 0 where
   pub round : Round
   pub drawn : round_by c info ≡ Ok round
@@ -129,6 +129,7 @@ pub record IsSeatedBy {Dir : Type 0} (c : Fixed Dir) (seen : Seen) (st : Live Di
   pub current : st.participation.current ≡ Some info
   pub seat : st.participation.seat ≡ seat_in c round st
   pub passing : st.participation.seat ≡ Plays → refused_in c round (begun seen) ≡ None
+  pub passes : st.participation.seat ≡ Plays → refused_in c round st ≡ None
   pub orchestrator : st.orchestrator ≡ registered_by c info
 
 -- .. or without that block it follows, and nothing was registered.
@@ -139,6 +140,8 @@ IsSetUpBy c seen st (Some b) = OnValid c (IsSeatedBy c seen st)
 pub record IsOpenedToday {Dir : Type 0} (c : Fixed Dir) (seen : Seen) (st : Live Dir) : Type 0 where
   pub in_range : is_past_range c (start_of c) ≡ false
   pub tip : st.tip ≡ startup c.source.anchor None
+  -- of the first epochs nothing that was read is lost from memory
+  pub restored : first_epoch c ≤ 1 → st.records.dealings ≡ seen.dealings
   pub live : IsLiveToday c st
   pub set_up : IsSetUpBy c seen st (first_block c)
 
@@ -190,6 +193,11 @@ abbrev pub tip_behind : {Dir : Type 0} → Message Dir → Option Tip → Option
 tip_behind (Finalized b) tip = if option_map_or (λ t. nat_le b.height t.height) tip false then tip else Some (record { height = b.height; digest = b.digest })
 tip_behind (Sent mail) tip = tip
 
+-- a block changes nothing that is recorded
+abbrev pub SparesRecords : {Dir : Type 0} → Message Dir → (st end : Live Dir) → Type 0
+SparesRecords (Finalized b) st end = end.records ≡ st.records
+SparesRecords message st end = Unit {0}
+
 -- The same life goes on: it awaits the same epoch in the same round and seat.
 pub record IsNextToday {Dir : Type 0} (c : Fixed Dir) (st end : Live Dir) (message : Message Dir) : Type 0 where
   pub accepted : refusal_of c message st ≡ None
@@ -200,6 +208,7 @@ pub record IsNextToday {Dir : Type 0} (c : Fixed Dir) (st end : Live Dir) (messa
   pub seat : end.participation.seat ≡ st.participation.seat
   pub current : end.participation.current ≡ st.participation.current
   pub orchestrator : end.orchestrator ≡ st.orchestrator
+  pub records : SparesRecords message st end
 
 -- A STEP stops by the fault that the block in hand is refused for, by the tip that the life had, and by no other; or the life goes on.
 abbrev pub StepsComeTo : Type 0 → Type 0

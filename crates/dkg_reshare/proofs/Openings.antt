@@ -188,8 +188,11 @@ module _ (Dir : Type 0) (life calls : ℕ) {D : Type 0} {made : D → D → List
 -- WHAT WAS READ
 
 -- nothing
+abbrev pub none_kept : Pairs
+none_kept = maps.empty
+
 abbrev pub nothing_seen : Seen
-nothing_seen = record { dealings = []; acks = []; logs = []; shares = []; seeds = []; plan = None }
+nothing_seen = record { dealings = maps.entries none_kept; acks = []; logs = []; shares = []; seeds = []; plan = None }
 
 -- what a store has
 abbrev pub seen_of : {Dir : Type 0} → Store Dir → Seen
@@ -213,6 +216,7 @@ module _ (Dir : Type 0) (life calls : ℕ) where
     seen = nothing_seen;
     shareless = refl;
     unplanned = refl;
+    listed = (none_kept, refl);
     given = unless_outside Records (stop_of e) (P nothing_seen) (outside_of_pruning e kind);
     so = said_none (on_devices {Dir = Dir} (opens_store (λ h. nothing_seen) life calls)) e kind refl;
   }
@@ -224,6 +228,7 @@ module _ (Dir : Type 0) (life calls : ℕ) where
     seen = nothing_seen;
     shareless = refl;
     unplanned = refl;
+    listed = (none_kept, refl);
     given = tt;
     so = said_none (on_devices {Dir = Dir} (opens_store (λ h. nothing_seen) life calls)) NoMemory tt same;
   }

@@ -1,10 +1,11 @@
 -- Which Fixed a call is of: that of the terms, of the life that was opened, and of the source that it is lent.
 use Rattle.std.specs.Prelude.{◌≡◌, ◌≤◌, ℕ, List, [], None}
 use Rattle.std.specs.FinMap.{find, get}
+use Rattle.std.specs.FinMap as maps
 use Rattle.dkg_journal.specs.Names.{Files}
 use Rattle.dkg_journal.specs.Records.{entries}
 use Rattle.dkg_store.specs.Keys.{key_cmp}
-use Rattle.dkg_store.specs.Pairs.{recovered}
+use Rattle.dkg_store.specs.Pairs.{Pairs, recovered}
 use Rattle.dkg_store.specs.Recorded.{Pair}
 use Rattle.dkg_store.specs.Secrets.{Secrets}
 use Rattle.std.specs.Int.NonZero.{non_zero_u32_get, non_zero_u64_get}
@@ -47,10 +48,11 @@ reading s c = record c { seen = λ h. s }
 abbrev pub AreGivenFrom : (min : ℕ) → List Pair → (image : Files → Type 0) → Secrets → Type 0
 AreGivenFrom min dealings image held = (c : Files) → image c → (key : ℕ × ℕ) → min ≤ key.0 → find key_cmp key dealings ≡ get (recovered (entries c) held) key
 
--- Something was read, whatever the devices tell, and it is so given: neither a share nor a plan.
+-- Something was read, whatever the devices tell, and it is so given: neither a share nor a plan, and dealings by their keys.
 pub record HasRead (Given P : Seen → Type 0) : Type 0 where
   pub seen : Seen
   pub shareless : seen.shares ≡ []
   pub unplanned : seen.plan ≡ None
+  pub listed : (pairs : Pairs) × (seen.dealings ≡ maps.entries pairs)
   pub given : Given seen
   pub so : P seen

@@ -3,13 +3,16 @@ use Rattle.std.specs.Prelude.{◌≡◌, ◌+◌, ℕ, List, Option, None, OnOk,
 use Rattle.std.specs.Option.{option_map_or}
 use Rattle.std.specs.Int.NonZero.{non_zero_u64_get}
 use Rattle.dkg_ceremony.specs.Schedule.{epoch_of}
+use Rattle.dkg_journal.specs.Disk.{Follows}
 use Rattle.dkg_journal.specs.Names.{Files}
 use Rattle.dkg_journal.specs.Opening.{broken, open_calls}
 use Rattle.dkg_journal.specs.Operations.{Bars, Opens}
+use Rattle.dkg_journal.specs.Steps.{Keeps}
 use Rattle.dkg_store.specs.Acts.{OnDisk, Held}
 use Rattle.dkg_core.specs.Seen.{Seen}
 use Rattle.dkg_store.specs.Corrupt.{IsAlien}
 use Rattle.dkg_store.specs.Recorded.{restored_of}
+use Rattle.dkg_store.specs.Secrets.{Secrets}
 use Rattle.dkg_types.specs.declared.entry.Entry.{Entry as Line}
 use Rattle.dkg_types.specs.declared.entry.Entry.TheVariants.{Opened}
 use Rattle.dkg_types.specs.declared.fault.Fault.{Fault}
@@ -58,3 +61,8 @@ pub record IsOpeningOf {Dir : Type 0} (terms : Terms) (source : Source Dir) (lif
 pub record OpensReadable {T : Type 0} (Readable : Type 0) (result : Result T Stop) (out now : List Line) : Type 0 where
   pub ok : OnOk result Readable
   pub untold : (Readable → ⊥) → now ≡ out
+
+-- .. Each image keeps the entries and the plan of one from before, then, and the secrets are as they were.
+pub record StaysShut (Readable : Type 0) (image next : Files → Type 0) (held held_now : Secrets) : Type 0 where
+  pub images : (Readable → ⊥) → Follows Keeps image next
+  pub same : (Readable → ⊥) → held_now ≡ held

@@ -240,7 +240,7 @@ pub record IsHeard {Dir : Type 0} (c : Fixed Dir) (st : Live Dir) (from : ℕ) (
   pub known : (pair : Restored) → Gives (recovered_in mid.held) pair → (pair_of (fold (read s) p added).recorded pair.epoch pair.dealer ≡ Some pair)
       ⊎ ((pair_of (fold (read s) p added).recorded pair.epoch pair.dealer ≡ None) × IsBrought s l life j pair)
   pub ended : IfWentTo half (λ end. ((pair : Restored) → Gives (recovered_in mid.held) pair → pair_of (fold (read s) p added).recorded pair.epoch pair.dealer ≡ Some pair)
-      × (IsUndue c st from bytes ⊎ (list_any is_ack (fold (read s) p added).written ≡ true)))
+      × ((IsUndue c st from bytes × ((fold (read s) p added).recorded ≡ p.recorded)) ⊎ (list_any is_ack (fold (read s) p added).written ≡ true)))
   pub valid : (round : Round) (dealer : ℕ) (pair : List ℕ × ℕ) → st.participation.round ≡ Some round → st.participation.seat ≡ Plays → dealer < 2 ^ 32
       → get (recovered_in mid.held) (0, dealer) ≡ Some pair → dealing_of round (me s) dealer pair.0 pair.1 ≡ Ok tt
 
@@ -259,7 +259,7 @@ front_of_two x y [] ys e = inl refl
 front_of_two {A} x y (a ∷ xs) ys e =
     let same : a ≡ x = cc in
     elim (front_of_one y xs ys (let rest : y ∷ [] ≡ xs ++ ys = cc in rest)) [
-      inl none ↦ inr (inl (ap (λ (l : List A). a ∷ l) none ∙ ap (λ (z : A). z ∷ []) same))
+      | inl none ↦ inr (inl (ap (λ (l : List A). a ∷ l) none ∙ ap (λ (z : A). z ∷ []) same))
       | inr both ↦ inr (inr (ap (λ (l : List A). a ∷ l) both.0 ∙ ap (λ (z : A). z ∷ y ∷ []) same, both.1))
     ]
 
@@ -411,7 +411,7 @@ module _ {Dir : Type 0} (c : Fixed Dir) (st : Live Dir) (from : ℕ) (bytes : Li
       whole = whole_still;
       given = rw same.recorded are_still.given;
       known = λ pair there. inl (known pair there);
-      ended = if_went half _ _ (λ end its. (known, its)) ended;
+      ended = if_went half _ _ (λ end its. (known, elim its [ inl undue ↦ inl (undue, same.recorded) | inr is ↦ inr is ])) ended;
       valid = valid_still;
     }
       where
@@ -428,7 +428,7 @@ module _ {Dir : Type 0} (c : Fixed Dir) (st : Live Dir) (from : ℕ) (bytes : Li
 
   again : IsAgain c st from bytes (step c (Sent (Peer from bytes)) st) w.held → Heard
   again its = elim (front_of_one ack_entry adds.added adds.rest (sym its.lines ∙ adds.of_deeds)) [
-    inl none ↦ with_entries its.only (rw none tt) (rw none (record { cuts = refl; step = refl; opened = refl; recorded = refl }))
+    | inl none ↦ with_entries its.only (rw none tt) (rw none (record { cuts = refl; step = refl; opened = refl; recorded = refl }))
         (if_went half (λ end. adds.rest ≡ []) _ (λ end rest. absurd (cons_is_none ack_entry [] (sym its.lines ∙ adds.of_deeds ∙ both_none adds.added adds.rest none rest))) told)
     | inr both ↦ with_entries its.only (rw both.0 (kept_ack, tt)) (rw both.0 (record { cuts = refl; step = refl; opened = refl; recorded = refl })) (all_ended half _ (λ end. inr (rw both.0 (wrote _ _))))
   ]
@@ -529,8 +529,10 @@ module _ {Dir : Type 0} (c : Fixed Dir) (st : Live Dir) (from : ℕ) (bytes : Li
       each = tt;
       same = record { cuts = refl; step = refl; opened = refl };
       whole = has.0;
-      given = elim has.1 [ inl same ↦ subst (λ (m : Pairs). AllByRecursion (Gives m) p.recorded) (sym same.1) carries.are.given
-          | inr more ↦ subst (λ (m : Pairs). AllByRecursion (Gives m) p.recorded) (sym more) (all_still_given pairs (0, from) v p.recorded none_there carries.are.given) ];
+      given = elim has.1 [
+        | inl same ↦ subst (λ (m : Pairs). AllByRecursion (Gives m) p.recorded) (sym same.1) carries.are.given
+        | inr more ↦ subst (λ (m : Pairs). AllByRecursion (Gives m) p.recorded) (sym more) (all_still_given pairs (0, from) v p.recorded none_there carries.are.given)
+      ];
       known = λ x there. elim has.1 [
         | inl same ↦ inl (carries.are.known x (subst (λ (m : Pairs). Gives m x) same.1 there))
         | inr more ↦ elim (new_or_old pairs 0 from v x (subst (λ (m : Pairs). Gives m x) more there)) [
@@ -571,7 +573,7 @@ module _ {Dir : Type 0} (c : Fixed Dir) (st : Live Dir) (from : ℕ) (bytes : Li
 
     new : Heard
     new = elim (front_of_two recorded_entry ack_entry adds.added adds.rest lines_are) [
-      inl none ↦ untold none
+      | inl none ↦ untold none
       | inr (inl one) ↦ told_so (recorded_entry ∷ []) recorded_entry [] one refl (kept_record, tt) (record { cuts = refl; step = refl; opened = refl }) refl
           (if_went half (λ end. adds.rest ≡ []) _ (λ end rest. absurd (cons_is_none ack_entry [] (tail_is (lines_are ∙ only_one recorded_entry adds.added adds.rest one rest)))) told)
       | inr (inr both) ↦ told_so (recorded_entry ∷ ack_entry ∷ []) recorded_entry (ack_entry ∷ []) both.0 refl (kept_record, (kept_ack, tt)) (record { cuts = refl; step = refl; opened = refl }) refl

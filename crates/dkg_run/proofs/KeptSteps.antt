@@ -157,23 +157,22 @@ pub record IsLeftBy {Dir : Type 0} (c : Fixed Dir) (l : ℕ) (st : Live Dir) (Un
   pub saved : IsSaved WithinCall h s q
   pub went : IfWentTo ended (λ end. CarriesAt c l end h s q × (Unanswered ⊎ (list_any is_ack q.written ≡ true)))
 
-module _ {Dir : Type 0} (c : Fixed Dir) (l : ℕ) (life : Life) (j : ℕ) (st : Live Dir) (message : Message Dir) (ended : Ended NodeStop (Live Dir)) (w new : World) (s : Setting) (p : Progress)
-    (at : IsAtStep l life j s p) (carries : CarriesAt c l st w.held s p) (can : CanRecord c st message)
-    (next : IfWentTo ended (λ end. IsNextToday c st end message)) (run : EndsSo (node_step c (event_of message) st) ended w new) where
-  abbrev behind : RunsBehind (step c message st) ended w new
-  behind = steps_run_behind c st message ended w new run
+-- memory and devices agree where the step went to its end
+agreed_by : {Dir : Type 0} (c : Fixed Dir) (st : Live Dir) (message : Message Dir) (ended : Ended NodeStop (Live Dir)) (w new : World) → AreAgreed st.records w.held → CanRecord c st message
+    → EndsSo (node_step c (event_of message) st) ended w new → (end : Live Dir) → ended ≡ went end → AreAgreed end.records new.held
+agreed_by {Dir} c st message ended w new agreed can run end is =
+    let behind : RunsBehind (step c message st) ended w new = steps_run_behind c st message ended w new run in
+    let its = half_went behind.half end (subst (EndsBehind behind.half) is behind.ends) in
+    let half_run : EndsSo (step c message st) (went its.0) w behind.mid = subst (λ (half : Ended Fault (Live Dir)). EndsSo (step c message st) half w behind.mid) its.1 behind.run in
+    subst (λ (h : Held). AreAgreed end.records h) (sym behind.held)
+    (subst (λ (x : Live Dir). AreAgreed x.records behind.mid.held) (sym its.2) (steps_agree c st its.0 message w behind.mid agreed can half_run))
 
+module _ {Dir : Type 0} (c : Fixed Dir) (l : ℕ) (life : Life) (j : ℕ) (st : Live Dir) (message : Message Dir) (ended : Ended NodeStop (Live Dir)) (w new : World) (s : Setting) (p : Progress)
+    (at : IsAtStep l life j s p) (carries : CarriesAt c l st w.held s p) (agreed : (end : Live Dir) → ended ≡ went end → AreAgreed end.records new.held)
+    (next : IfWentTo ended (λ end. IsNextToday c st end message)) where
   -- what was handed in
   still_handed : (q : Progress) → ((pair : Restored) → pair_of p.recorded pair.epoch pair.dealer ≡ Some pair → pair_of q.recorded pair.epoch pair.dealer ≡ Some pair) → HandsOn s q
   still_handed q grown = record { dealings = λ pair given. grown pair (carries.handed.dealings pair given) }
-
-  -- memory and devices agree where the step went to its end
-  agreed : (end : Live Dir) → ended ≡ went end → AreAgreed end.records new.held
-  agreed end is =
-      let its = half_went behind.half end (subst (EndsBehind behind.half) is behind.ends) in
-      let half_run : EndsSo (step c message st) (went its.0) w behind.mid = subst (λ (half : Ended Fault (Live Dir)). EndsSo (step c message st) half w behind.mid) its.1 behind.run in
-      subst (λ (h : Held). AreAgreed end.records h) (sym behind.held)
-      (subst (λ (x : Live Dir). AreAgreed x.records behind.mid.held) (sym its.2) (steps_agree c st its.0 message w behind.mid carries.half.agreed can half_run))
 
   carried : (end : Live Dir) (q : Progress) → ended ≡ went end → IsNextToday c st end message → q.opened ≡ p.opened → AreRecorded (recovered_in new.held) q.recorded → HandsOn s q → ValidIn st new.held s
       → CarriesAt c l end new.held s q
@@ -247,7 +246,11 @@ module _ {Dir : Type 0} (c : Fixed Dir) (l : ℕ) (life : Life) (j from : ℕ) (
   its_half = heard c st from bytes life l j its.half w its.mid s p
       (record { life_is = at.life_is; lives = at.lives; step = at.step; event_is = event_is; nothing = at.nothing }) carries.half can.brings small its.run
 
-  pub message_kept : Reaches s p w.out new.out (IsLeftBy c l st (IsUndue c st from bytes) ended new.held s p)
+  -- nothing is due, and nothing was recorded
+  abbrev Passed : Progress → Type 0
+  Passed q = IsUndue c st from bytes × (q.recorded ≡ p.recorded)
+
+  pub message_kept : Reaches s p w.out new.out (λ q. IsLeftBy c l st (IsUndue c st from bytes × (q.recorded ≡ p.recorded)) ended new.held s p q)
   message_kept = record {
     added = its_half.added ++ its.lines;
     out = its.out ∙ ap (λ (xs : List Entry). xs ++ its.lines) its_half.out ∙ append_assoc w.out its_half.added its.lines;
@@ -258,8 +261,8 @@ module _ {Dir : Type 0} (c : Fixed Dir) (l : ℕ) (life : Life) (j from : ℕ) (
       mid : Progress
       mid = fold (read s) p its_half.added
 
-      left : (q : Progress) → IsUnchanged mid q → (list_any is_ack mid.written ≡ true → list_any is_ack q.written ≡ true) → IsLeftBy c l st (IsUndue c st from bytes) ended new.held s p q
-      left q unchanged wrote = leaves c l life j st (Sent (Peer from bytes)) ended w new s p at carries can next run (IsUndue c st from bytes) q
+      left : (q : Progress) → IsUnchanged mid q → (list_any is_ack mid.written ≡ true → list_any is_ack q.written ≡ true) → IsLeftBy c l st (Passed q) ended new.held s p q
+      left q unchanged wrote = leaves c l life j st (Sent (Peer from bytes)) ended w new s p at carries (agreed_by c st (Sent (Peer from bytes)) ended w new carries.half.agreed can run) next (Passed q) q
           (record { cuts = unchanged.cuts ∙ its_half.same.cuts; step = unchanged.step ∙ its_half.same.step; opened = unchanged.opened ∙ its_half.same.opened })
           (subst (λ (h : Held). IsWhole (notes h) h.secrets) (sym its.held) its_half.whole)
           (rw (its.held, unchanged.recorded) its_half.given)
@@ -269,13 +272,13 @@ module _ {Dir : Type 0} (c : Fixed Dir) (l : ℕ) (life : Life) (j from : ℕ) (
           (by_end its.half ended its.ends its_half.ended)
         where
           Settled : Type 0
-          Settled = ((pair : Restored) → Gives (recovered_in new.held) pair → pair_of q.recorded pair.epoch pair.dealer ≡ Some pair) × (IsUndue c st from bytes ⊎ (list_any is_ack q.written ≡ true))
+          Settled = ((pair : Restored) → Gives (recovered_in new.held) pair → pair_of q.recorded pair.epoch pair.dealer ≡ Some pair) × (Passed q ⊎ (list_any is_ack q.written ≡ true))
 
           by_end : (half : Ended Fault (Live Dir)) (whole : Ended NodeStop (Live Dir)) → EndsBehind half whole
-              → IfWentTo half (λ end. ((pair : Restored) → Gives (recovered_in its.mid.held) pair → pair_of mid.recorded pair.epoch pair.dealer ≡ Some pair) × (IsUndue c st from bytes ⊎ (list_any is_ack mid.written ≡ true)))
+              → IfWentTo half (λ end. ((pair : Restored) → Gives (recovered_in its.mid.held) pair → pair_of mid.recorded pair.epoch pair.dealer ≡ Some pair) × (Passed mid ⊎ (list_any is_ack mid.written ≡ true)))
               → IfWentTo whole (λ end. Settled)
           by_end (went x) (went end) ends so =
-              ((λ pair there. rw unchanged.recorded (so.0 pair (rw its.held at there))), elim so.1 [ inl undue ↦ inl undue | inr is ↦ inr (wrote is) ])
+              ((λ pair there. rw unchanged.recorded (so.0 pair (rw its.held at there))), elim so.1 [ inl passed ↦ inl (passed.0, unchanged.recorded ∙ passed.1) | inr is ↦ inr (wrote is) ])
           by_end half (stopped stop) ends so = tt
           by_end half (broken cause) ends so = tt
           by_end (stopped fault) (went end) ends so = absurd (went_stopped end (Faulted fault) ends)
@@ -283,17 +286,21 @@ module _ {Dir : Type 0} (c : Fixed Dir) (l : ℕ) (life : Life) (j from : ℕ) (
 
 -- A BLOCK that leaves the devices as they are
 module _ {Dir : Type 0} (c : Fixed Dir) (l : ℕ) (life : Life) (j : ℕ) (b : Block Dir) (st : Live Dir) (ended : Ended NodeStop (Live Dir)) (w new : World) (s : Setting) (p : Progress)
-    (at : IsAtStep l life j s p) (carries : CarriesAt c l st w.held s p) (can : CanRecord c st (Finalized b)) (held : new.held ≡ w.held)
-    (lines : List Entry) (out : new.out ≡ w.out ++ lines) (aside : AllByRecursion IsAside lines) (next : IfWentTo ended (λ end. IsNextToday c st end (Finalized b)))
-    (run : EndsSo (node_step c (event_of (Finalized b)) st) ended w new) where
+    (at : IsAtStep l life j s p) (carries : CarriesAt c l st w.held s p) (held : new.held ≡ w.held)
+    (lines : List Entry) (out : new.out ≡ w.out ++ lines) (aside : AllByRecursion IsAside lines) (next : IfWentTo ended (λ end. IsNextToday c st end (Finalized b))) where
   pub block_kept : Reaches s p w.out new.out (IsLeftBy c l st (Unit {0}) ended new.held s p)
   block_kept = record { added = lines; out = out; each = each_aside s lines p aside; to = left (fold (read s) p lines) (read_aside s lines p aside) }
     where
+      still_agreed : (end : Live Dir) → ended ≡ went end → AreAgreed end.records new.held
+      still_agreed end is =
+          let its : IsNextToday c st end (Finalized b) = subst (λ (e : Ended NodeStop (Live Dir)). IfWentTo e (λ end. IsNextToday c st end (Finalized b))) is next in
+          subst (λ (h : Held). AreAgreed end.records h) (sym held) (rw its.records carries.half.agreed)
+
       are_still : AreRecorded (recovered_in new.held) p.recorded
       are_still = subst (λ (h : Held). AreRecorded (recovered_in h) p.recorded) (sym held) carries.half.are
 
       left : (q : Progress) → IsUnchanged p q → IsLeftBy c l st (Unit {0}) ended new.held s p q
-      left q unchanged = leaves c l life j st (Finalized b) ended w new s p at carries can next run (Unit {0}) q
+      left q unchanged = leaves c l life j st (Finalized b) ended w new s p at carries still_agreed next (Unit {0}) q
           (record { cuts = unchanged.cuts; step = unchanged.step; opened = unchanged.opened })
           (subst (λ (h : Held). IsWhole (notes h) h.secrets) (sym held) carries.half.agreed.whole)
           (rw unchanged.recorded are_still.given)

@@ -1,5 +1,5 @@
 -- A node's opening from the actor's, as a life of a script gives it.
-use Rattle.std.proofs.Common.{◌≡◌, ℕ, ◌-◌, List, [], Option, Some, None, Result, Ok, Err, refl, sym, ◌∙◌, ap, subst}
+use Rattle.std.proofs.Common.{◌≡◌, ℕ, ◌-◌, Bool, List, [], Option, Some, None, Result, Ok, Err, refl, sym, ◌∙◌, ap, subst}
 use Rattle.std.specs.Prelude.{IsTrue, IfErr, slice_get}
 use Rattle.std.specs.Int.NonZero.{non_zero_u64_get}
 use Rattle.std.specs.declared.num.NonZeroU32.{NonZeroU32}
@@ -43,7 +43,7 @@ use Rattle.dkg_reshare.specs.declared.config.Terms.{Terms}
 use Rattle.dkg_reshare.specs.declared.life.Life as reshare
 use Rattle.dkg_reshare.specs.declared.stop.Stop.{Stop}
 use Rattle.dkg_reshare.specs.declared.stop.Stop.TheVariants.{Cut, Failed, Fault as FaultOf}
-use Rattle.dkg_reshare.proofs.Burning.{burns_next, burns_none}
+use Rattle.dkg_reshare.proofs.Burning.{burns_next, burns_none, unless}
 use Rattle.dkg_run.specs.Ended.{by_node_stop}
 use Rattle.dkg_run.specs.Given.{IsLifeHere, Lived, ReadsNeither, anchor_in, at_step, blocks_in, limits_of, lived, numbered, unsealed}
 use Rattle.dkg_run.specs.Nodes.{IsFenceReady, IsHalfGiven, IsView, MayEnter, ViewedNew, ended_new, ends_half, with_half}
@@ -53,7 +53,7 @@ use Rattle.dkg_run.specs.declared.held.HeldBlocks.{HeldBlocks}
 use Rattle.dkg_run.specs.declared.node.Node.{Node}
 use Rattle.dkg_run.proofs.Early.{starts_first}
 use Rattle.dkg_run.proofs.Noding.{at_oneshot, is_of, unsaid}
-use Rattle.dkg_run.proofs.Opening.{Lives, end_of, ended_makes, ended_says, epoch_is, fence_ready, half_given, halted_makes, halted_says, lent_at, lives_at, lives_err, made_there, may_enter, may_enter_made, opened_makes, opened_says, opened_view, opening_of, reading_as, today_at, number_at, unless_named}
+use Rattle.dkg_run.proofs.Opening.{Lives, end_of, ended_makes, ended_says, epoch_is, fence_ready, half_given, halted_makes, halted_says, lent_at, lives_at, lives_err, made_there, may_enter, may_enter_made, opened_made, opened_says, opened_view, opening_of, reading_as, today_at, number_at, unless_named, went_burns}
 use Rattle.dkg_run.proofs.Sourced.{source_is}
 
 -- the terms that a script's configuration comes to
@@ -184,7 +184,7 @@ module _ (script : Script) (number : ℕ) (life : Life) (source : HeldBlocks) (f
             enters : MayEnter (at_step (life_with (λ h. said.seen)) 0) fence (live_of now_is fence living.life)
             enters = may_enter (life_with (λ h. said.seen)) (here_with (λ h. said.seen) reads_it) now_is fence living.life said.so.orchestrator lines_are
 
-            pub opened_lines : (n : Node) → n.actor.state ≡ state → (out_now : List Line) (Asked : Seen → Type 0) → (Given said.seen → Asked said.seen)
+            pub opened_lines : (n : Node) → n.actor.state ≡ state → (out_now : List Line) (Asked : Seen → Type 0) → ((s : Seen) → Given s → Asked s)
                 → ((c : Fixed directory.Unit) (st : Live directory.Unit) → IsHalfGiven (non_zero_u64_get terms.blocks_per_epoch) answers c → MayEnter c fence st
                 → Speaks (kept_material c st) (ends_half n.fence st (Ok n.half)) mid out_now)
                 → HasRead Asked (λ s. ViewedNew (Ok n) (λ ended. Tells (node_opening (at_step (life_with (λ h. s)) 0)) ended out out_now))
@@ -192,12 +192,13 @@ module _ (script : Script) (number : ℕ) (life : Life) (source : HeldBlocks) (f
               seen = said.seen;
               shareless = said.shareless;
               unplanned = said.unplanned;
-              given = so said.given;
+              listed = said.listed;
+              given = so said.seen said.given;
               so = opened_says n (at_step (life_with (λ h. said.seen)) 0) (at_oneshot (life_with (λ h. said.seen)) 0) now_is fence living.life (same ∙ living.is) lines_are
                   (speaks (at_step (life_with (λ h. said.seen)) 0) (live_of now_is fence living.life) (given_with (λ h. said.seen) reads_it) enters);
             }
 
-            pub halted_lines : (stop : Stop) (out_now : List Line) (half_fence : Readiness) (Asked : Seen → Type 0) → (Given said.seen → Asked said.seen)
+            pub halted_lines : (stop : Stop) (out_now : List Line) (half_fence : Readiness) (Asked : Seen → Type 0) → ((s : Seen) → Given s → Asked s)
                 → ((c : Fixed directory.Unit) (st : Live directory.Unit) → IsHalfGiven (non_zero_u64_get terms.blocks_per_epoch) answers c → MayEnter c fence st
                 → Speaks (kept_material c st) (ends_half half_fence st (Err stop)) mid out_now)
                 → HasRead Asked (λ s. Tells (node_opening (at_step (life_with (λ h. s)) 0)) (by_node_stop stop) out out_now)
@@ -205,7 +206,8 @@ module _ (script : Script) (number : ℕ) (life : Life) (source : HeldBlocks) (f
               seen = said.seen;
               shareless = said.shareless;
               unplanned = said.unplanned;
-              given = so said.given;
+              listed = said.listed;
+              given = so said.seen said.given;
               so = halted_says (at_step (life_with (λ h. said.seen)) 0) (at_oneshot (life_with (λ h. said.seen)) 0) (live_of now_is fence living.life) stop lines_are
                   (speaks (at_step (life_with (λ h. said.seen)) 0) (live_of now_is fence living.life) (given_with (λ h. said.seen) reads_it) enters);
             }
@@ -235,8 +237,8 @@ module _ (script : Script) (number : ℕ) (life : Life) (source : HeldBlocks) (f
                 (
                   end,
                   opened_view n its (at_oneshot (life_with seen_today) 0) made.now fence living.life (same ∙ living.is),
-                  made_there (went end) (burns_next (went end) acts_are.burns (burns_none (went end) f)) (λ stands.
-                    (opened_makes n its (at_oneshot (life_with seen_today) 0) made.now fence living.life (same ∙ living.is) acts_are (speaks its end_is given_is (enters_made stands))).2),
+                  made_there (went end) (burns_next (went end) (went_burns {S = Live directory.Unit} {T = Live directory.Unit} {y = end_is} acts_are.burns) (burns_none (went end) f)) (λ stands.
+                    opened_made n its (at_oneshot (life_with seen_today) 0) made.now fence living.life (same ∙ living.is) acts_are (speaks its end_is given_is (enters_made stands))),
                 )
 
             pub halted_acts : (stop : Stop) (out : List Line) (half_fence : Readiness)
@@ -244,9 +246,10 @@ module _ (script : Script) (number : ℕ) (life : Life) (source : HeldBlocks) (f
                 → Speaks (kept_material c st) (ends_half half_fence st (Err stop)) mid out)
                 → MakesAt (on_devices (node_opening its)) (by_node_stop stop) files image files_now between old (moment out s f)
             halted_acts stop out half_fence speaks =
-                made_there (by_node_stop stop) (burns_next (by_node_stop stop) acts_are.burns (burns_none (by_node_stop stop) f)) (λ stands.
+                made_there (by_node_stop stop) (burns_next (by_node_stop stop) (went_burns {S = Live directory.Unit} {T = Live directory.Unit} {y = end_is} acts_are.burns) (burns_none (by_node_stop stop) f)) (λ stands.
                 halted_makes its (at_oneshot (life_with seen_today) 0) end_is stop acts_are (speaks its end_is given_is (enters_made stands)))
 
+    module _ (Took : List (ℕ × SchemeInfo) → Type 0) (fence : Readiness) (state : State directory.Unit) where
       -- IT ENDED in the actor's
       module _ (stop : Stop) where
         pub ended_acts : {files_now : Files} {image between : Files → Type 0} {old new : Moment}
@@ -262,6 +265,7 @@ module _ (script : Script) (number : ℕ) (life : Life) (source : HeldBlocks) (f
           seen = said.seen;
           shareless = said.shareless;
           unplanned = said.unplanned;
+          listed = said.listed;
           given = so said.seen said.given;
           so = ended_says (at_step (life_with (λ h. said.seen)) 0) stop
               (subst (λ (c : Fixed directory.Unit). Said (on_devices (opening c)) (by_stop stop) out new) (read_as said.seen)
@@ -274,3 +278,15 @@ module _ (script : Script) (number : ℕ) (life : Life) (source : HeldBlocks) (f
 
     pub above_from : (image next : Files → Type 0) (held now : Secrets) → StaysAbove (epoch_at answers terms - 1) image next held now → StaysAbove 0 image next held now
     above_from image next held now above = subst (λ (n : ℕ). StaysAbove n image next held now) least_is above
+
+    module _ (A B : Type 0) (image : Files → Type 0) (held : Secrets) where
+      pub given_opened : (s : Seen) → (A → B → AreGivenFrom (epoch_at answers terms - 1) s.dealings image held) → A → B → AreGivenFrom 0 s.dealings image held
+      given_opened s given a b = given_from image held s (given a b)
+
+      pub given_halted : (stop : Stop) (s : Seen) → (A → B → AreGivenFrom (epoch_at answers terms - 1) s.dealings image held)
+          → UnlessBroken (ended_new (Err stop)) (A → B → AreGivenFrom 0 s.dealings image held)
+      given_halted stop s given = unless (ended_new (Err stop)) (A → B → AreGivenFrom 0 s.dealings image held) (given_opened s given)
+
+      pub given_ended : (stop : Stop) (s : Seen) → UnlessBroken (by_stop {S = Unit {0}} stop) (A → B → AreGivenFrom (epoch_at answers terms - 1) s.dealings image held)
+          → UnlessBroken (ended_new (Err stop)) (A → B → AreGivenFrom 0 s.dealings image held)
+      given_ended stop s given = unless_named (Unit {0}) Node stop (A → B → AreGivenFrom (epoch_at answers terms - 1) s.dealings image held) (A → B → AreGivenFrom 0 s.dealings image held) (given_opened s) given

@@ -77,7 +77,7 @@ lookup_at e first scheme is = found (e == first) (equal e first is)
     equal n m e = grind (arith, nat_tests)
 
     found : (t : Bool) → t ≡ true → IsSome (if t then Some scheme else None)
-    found true e = tt
+    found true e = refl
     found false e = absurd (let wrong : false ≡ true = e in cc)
 
 module _ (c : Fixed directory.Unit) (seen : Seen) (st : Live directory.Unit) where
@@ -109,10 +109,10 @@ ready_alike c d fence blocks source ready =
 -- THE NODE, once both halves have opened
 
 module _ (n : Node) (c : Fixed directory.Unit) (reshare_is : c.oneshot ≡ None) (now : Beside directory.Unit) (fence : Readiness) (life : reshare.Life directory.Unit) (lives : n.actor.state ≡ Living life) where
-  abbrev end_of : Live directory.Unit
+  abbrev pub end_of : Live directory.Unit
   end_of = with_half n.half n.fence (live_of now fence life)
 
-  opened_view : IsView n end_of
+  pub opened_view : IsView n end_of
   opened_view = record {
     life = life;
     beside = record { orchestrator = record now.orchestrator { entered = n.half.entered; halted = n.half.halted; waiting = None }; probe = now.probe };
@@ -127,17 +127,14 @@ module _ (n : Node) (c : Fixed directory.Unit) (reshare_is : c.oneshot ≡ None)
   entered_as : next_opening (live_of now fence life) ≡ kept_material c (live_of now fence life)
   entered_as = unless_reshare c (kept_material c (live_of now fence life)) (Goes (live_of now fence life)) reshare_is
 
-  pub opened_makes : {files files_now : Files} {image next : Files → Type 0} {old : Moment} {mid_out out : List Line} {s : Secrets} {f : Burn}
+  pub opened_made : {files files_now : Files} {image next : Files → Type 0} {old : Moment} {mid_out out : List Line} {s : Secrets} {f : Burn}
       → MakesAt (on_devices (opening c)) (went (live_of now fence life)) files image files_now next old (moment mid_out s f)
       → Speaks (kept_material c (live_of now fence life)) (went end_of) mid_out out
-      → ViewedNew (Ok n) (λ ended. MakesAt (on_devices (node_opening c)) ended files image files_now next old (moment out s f))
-  opened_makes {files_now = files_now} {next = next} {mid_out = mid_out} {out = out} {s = s} {f = f} made speaks = (
-    end_of,
-    opened_view,
-    node_goes (opening c) next_opening made
+      → MakesAt (on_devices (node_opening c)) (went end_of) files image files_now next old (moment out s f)
+  opened_made {files_now = files_now} {next = next} {mid_out = mid_out} {out = out} {s = s} {f = f} made speaks =
+      node_goes (opening c) next_opening made
       (subst (λ (a : Course directory.Unit NodeStop (Live directory.Unit)). MakesAt (on_devices a) (went end_of) files_now next files_now next (moment mid_out s f) (moment out s f)) (sym entered_as)
-      (speaks_makes (kept_material c (live_of now fence life)) (went end_of) files_now next speaks)),
-  )
+      (speaks_makes (kept_material c (live_of now fence life)) (went end_of) files_now next speaks))
 
   pub opened_says : {out mid_out new : List Line} → Said (on_devices (opening c)) (went (live_of now fence life)) out mid_out
       → Speaks (kept_material c (live_of now fence life)) (went end_of) mid_out new → ViewedNew (Ok n) (λ ended. Tells (node_opening c) ended out new)
@@ -201,16 +198,20 @@ unless_named S T stops.Cut P Q so p = tt
 unless_named S T stops.Failed P Q so p = tt
 unless_named S T (stops.Fault its) P Q so p = unless_cause S T (cause_in its) its P Q so p
 
-went_so : {F S : Type 0} (how : Ended F S) {P Q : Type 0} → (P → IfWent how (P → Q)) → IfWent how (P → Q)
-went_so (went end) so = λ p. so p p
-went_so (stopped fault) so = tt
-went_so (broken cause) so = tt
+went_so : {F S : Type 0} (how : Ended F S) (P Q : Type 0) → (P → IfWent how (P → Q)) → IfWent how (P → Q)
+went_so (went end) P Q so = λ p. so p p
+went_so (stopped fault) P Q so = tt
+went_so (broken cause) P Q so = tt
+
+-- what was burnt to the end, whatever end that is
+pub went_burns : {F G S T : Type 0} {x : S} {y : T} {f g : Burn} → Burns {F = F} (went x) f g → Burns {F = G} (went y) f g
+went_burns burns = record { call = burns.call; pick = burns.pick; uncut = burns.uncut }
 
 -- Acts were made where they were, of a disk of which nothing was loose, with what the fuse burnt.
 pub made_there : {S : Type 0} {acts : Acts NodeStop S} (how : Ended NodeStop S) {files files_now : Files} {image now : Files → Type 0} {old new : Moment} → Burns how old.fuse new.fuse
     → (Stands files image → MakesAt acts how files image files_now now old new) → MakesAt acts how files image files_now now old new
-made_there how burns so = record {
-  made = record { made = λ stands c here. (so stands).made.made stands c here; stands = went_so how (λ stands. (so stands).made.stands) };
+made_there how {files} {files_now} {image} {now} burns so = record {
+  made = record { made = λ stands c here. (so stands).made.made stands c here; stands = went_so how (Stands files image) (Stands files_now now) (λ stands. (so stands).made.stands) };
   burns = burns;
 }
 

@@ -68,9 +68,9 @@ module _ {Dir : Type 0} (c : Fixed Dir) (st : Live Dir) (from : ℕ) (bytes : Li
     (passed : IsUndue c st from bytes → P (Goes st))
     (blocked : (reason : BlockedWhy) → IsUndue c st from bytes → P (blocks_sender from reason st))
     (again : (round : Round) (public : List ℕ) (private : ℕ) (kept : List ℕ × ℕ) → BringsDealing c st bytes round public private → recorded_at st.records.dealings round.number from ≡ Some kept
-        → P (acknowledges c round from kept.0 st))
+    → P (acknowledges c round from kept.0 st))
     (new : (round : Round) (public : List ℕ) (private : ℕ) → BringsDealing c st bytes round public private → recorded_at st.records.dealings round.number from ≡ None
-        → c.rules.dealing_of round c.me from public private ≡ Ok tt → P (bind (keeps round.number from public private st) (λ st. acknowledges c round from public st))) where
+    → c.rules.dealing_of round c.me from public private ≡ Ok tt → P (bind (keeps round.number from public private st) (λ st. acknowledges c round from public st))) where
   module _ (round : Round) (deals : st.participation.stage ≡ Deals) (in_round : st.participation.round ≡ Some round) where
     module _ (public : List ℕ) (private : ℕ) (brings : whole (message_at c.limit bytes) ≡ Ok (ADealing public private)) where
       refused : (e : DealingError) → recorded_at st.records.dealings round.number from ≡ None → c.rules.dealing_of round c.me from public private ≡ Err e → IsUndue c st from bytes

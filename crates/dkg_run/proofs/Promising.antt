@@ -1,8 +1,7 @@
 -- The promise of a run, of what its lines say and of what is known of the devices.
-use Rattle.std.proofs.Common.{◌≡◌, ℕ, true, false, ◌++◌, ◌∷◌, [], List, Option, Some, None, Result, Ok, Err, refl, sym, ◌∙◌, ap, subst}
-use Rattle.std.specs.Prelude.{IfErr, IfSome, OnOk}
+use Rattle.std.proofs.Common.{◌≡◌, ◌⊎◌, ℕ, true, false, ◌++◌, ◌∷◌, [], List, Option, Some, None, Result, Ok, Err, refl, sym, ◌∙◌, ap, subst}
+use Rattle.std.specs.Prelude.{IfErr, OnOk}
 use Rattle.std.specs.List.{AllByRecursion}
-use Rattle.dkg_values.specs.Codec.{IsBytes}
 use Rattle.dkg_journal.specs.Names.{Files}
 use Rattle.dkg_store.specs.Secrets.{Secrets}
 use Rattle.dkg_types.specs.declared.entry.Entry.{Entry}
@@ -17,6 +16,7 @@ use Rattle.dkg_script.specs.Setting.{setting_of}
 use Rattle.dkg_run.specs.Causes.{HasCause}
 use Rattle.dkg_run.specs.Complete.{IsValidRun}
 use Rattle.dkg_run.specs.Found.{AreFound, IsFound, IsFoundEntry, Reader, reader_in}
+use Rattle.dkg_run.specs.Given.{AreBytes}
 use Rattle.dkg_run.specs.Lives.{AnyFiles, RunsSo}
 use Rattle.dkg_run.specs.Promised.{Promised}
 use Rattle.dkg_run.specs.Refusals.{BlamesOnlySkips}
@@ -60,33 +60,40 @@ module _ (reader : Reader) (files : Files) (held : Secrets) where
 
 -- THE PROMISE
 
-module _ (script : Script) (form : IsFormOfToday script) (bytes : AllByRecursion (λ line. IfSome line.payload IsBytes) script.blocks) (Tells : Type 0) (files : Files) (image : Files → Type 0) (held : Secrets)
+module _ (script : Script) (form : IsFormOfToday script) (Tells : Type 0) (files : Files) (image : Files → Type 0) (held : Secrets)
     (files_now : Files) (now : Files → Type 0) (held_now : Secrets) (disk_rose secrets_rose : Type 0) (out new : List Entry) (picks : List ℕ) where
   all_run : (answered : Result (Unit {0}) Fault) (added : List Entry) → new ≡ out ++ added → RunsSo by_lines script AnyFiles (trace out []) answered (trace new picks) → OnOk answered (RunsAll script added)
   all_run (Ok done) added is run = added_so out new added (RunsAll script) is (run_all_lives script AnyFiles (trace out []) (trace new picks) run)
   all_run (Err its) added is run = tt
 
-  pub promised : (answered : Result (Unit {0}) Fault) → RunsSo by_lines script AnyFiles (trace out []) answered (trace new picks) → IfErr answered (λ its. HasCause its disk_rose secrets_rose)
+  pub promised : (answered : Result (Unit {0}) Fault) → IfErr answered (λ its. (its ≡ NoMemory) ⊎ AreBytes script.blocks) → RunsSo by_lines script AnyFiles (trace out []) answered (trace new picks) → IfErr answered (λ its. HasCause its disk_rose secrets_rose)
       → IfErr answered (λ its. Tells → IsFound (reader_in script) files_now held_now its)
       → ((added : List Entry) → new ≡ out ++ added → Tells → KeepsDealings (setting_of script files held) image now held_now added)
-      → ((added : List Entry) → new ≡ out ++ added → OnOk answered (Tells → AnswersDealings (setting_of script files held) image added))
-      → IfErr answered (λ its. Tells → IsValidRun (setting_of script files held) image → (disk_rose → ⊥) → (secrets_rose → ⊥) → its ≡ NoMemory)
+      → ((added : List Entry) → new ≡ out ++ added → RunsAll script added → Tells → AnswersDealings (setting_of script files held) image added)
+      → ((added : List Entry) → EndsRun answered added disk_rose secrets_rose → IfErr answered (BlamesOnlySkips (setting_of script files held) image)
+      → IfErr answered (λ its. Tells → IsValidRun (setting_of script files held) image → (disk_rose → ⊥) → (secrets_rose → ⊥) → its ≡ NoMemory))
       → Adds out new (Promised script Tells files image held files_now now held_now disk_rose secrets_rose answered)
-  promised answered run causes found kept answers complete =
+  promised answered bytes run causes found kept answers complete =
       let its = run_in_order script AnyFiles (trace out []) (trace new picks) answered run in
       let ends : EndsRun answered its.0 disk_rose secrets_rose = added_so out new its.0 (λ added. EndsRun answered added disk_rose secrets_rose) its.1
       (run_ends script form AnyFiles (trace out []) (trace new picks) answered disk_rose secrets_rose causes run) in
+      let blames = run_skips script files held image AnyFiles (trace out []) (trace new picks) answered bytes run in
+      let all = all_run answered its.0 its.1 run in
       (its.0, its.1, record {
         in_order = its.2;
-        all = all_run answered its.0 its.1 run;
+        all = all;
         ends = ends;
         found = run_found (reader_in script) files_now held_now answered its.0 disk_rose secrets_rose Tells ends found;
-        skips = skips answered (run_skips script files held image bytes AnyFiles (trace out []) (trace new picks) answered run);
+        skips = skips answered blames;
         kept = kept its.0 its.1;
-        answered = answers its.0 its.1;
-        complete = complete;
+        answered = on_ok answered (RunsAll script its.0) (Tells → AnswersDealings (setting_of script files held) image its.0) all (answers its.0 its.1);
+        complete = complete its.0 ends blames;
       })
     where
       skips : (answered : Result (Unit {0}) Fault) → IfErr answered (BlamesOnlySkips (setting_of script files held) image) → IfErr answered (λ its. Tells → BlamesOnlySkips (setting_of script files held) image its)
       skips (Ok done) blames = tt
       skips (Err its) blames = λ told. blames
+
+      on_ok : (answered : Result (Unit {0}) Fault) (A B : Type 0) → OnOk answered A → (A → B) → OnOk answered B
+      on_ok (Ok done) A B all so = so all
+      on_ok (Err its) A B all so = tt

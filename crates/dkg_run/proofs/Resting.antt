@@ -91,7 +91,7 @@ life_today s l life today is = form_at (IsLifeOfToday (midpoint_of s.script) s.s
 pub awaits_zero : (s : Setting) (l : ℕ) (life : Life) (n : ℕ) → IsTodays s → life_at s l ≡ Some life → awaited_epoch s l life n ≡ 0
 awaits_zero s l life n today is = awaits_epoch_zero s l life n (life_today s l life today is) (finds_none s l today)
 
-has_none : (s : Setting) (l : ℕ) (life : Life) → IsTodays s → life_at s l ≡ Some life → material s l life ≡ None
+pub has_none : (s : Setting) (l : ℕ) (life : Life) → IsTodays s → life_at s l ≡ Some life → material s l life ≡ None
 has_none s l life today is = by_mode (is_oneshot s)
   where
     by_mode : (oneshot : Bool) → cond oneshot None (unless_outdated s life (option_or (provided s life) (found s l))) ≡ None

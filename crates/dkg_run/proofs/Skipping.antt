@@ -49,7 +49,7 @@ use Rattle.dkg_core.specs.Today.{CameTo, IsLiveToday, IsNextToday, IsOpeningFaul
 use Rattle.dkg_core.proofs.NodeToday.{node_openings_come_to, node_steps_come_to}
 use Rattle.dkg_reshare.specs.declared.stop.Stop.{Stop}
 use Rattle.dkg_reshare.specs.declared.stop.Stop.TheVariants.{Cut as AtCut, Fault as FaultOf}
-use Rattle.dkg_run.specs.Given.{IsLifeHere, Lived, anchor_at, anchor_in, at_step, blocks_in, lived, step_of}
+use Rattle.dkg_run.specs.Given.{AreBytes, IsLifeHere, Lived, anchor_at, anchor_in, at_step, blocks_in, lived, step_of}
 use Rattle.dkg_run.specs.Lives.{LivesSo, RunsAllSo, RunsSo, Steps, TakesAll, TellsEnd, fuse_for}
 use Rattle.dkg_run.specs.Refusals.{BlamesOnlySkips, IsRefusal, SkipsIn, SkipsSomewhere}
 use Rattle.dkg_run.specs.Ways.{Trace, by_lines}
@@ -548,18 +548,19 @@ todays script files held image built honest = record {
   consistent = honest.source [] tt [] (record { first = sym (plain_of (setting_of script files held) built).no_record; next = λ l below. absurd (omega (arith, below)) });
 }
 
-module _ (script : Script) (files : Files) (held : Secrets) (image : Files → Type 0) (bytes : AllByRecursion (λ line. IfSome line.payload IsBytes) script.blocks) where
+module _ (script : Script) (files : Files) (held : Secrets) (image : Files → Type 0) where
   abbrev s : Setting
   s = setting_of script files held
 
-  all_skip : (its : Fault) (first : Files → Type 0) (t new : Trace) → RunsAllSo by_lines script first t (Err its) new → BlamesOnlySkips s image its
-  all_skip its first t new runs built honest = all_tell script built.form its (λ own. IsRefusal own → SkipsSomewhere s own) (λ refusal. absurd refusal)
+  all_skip : AreBytes script.blocks → (its : Fault) (first : Files → Type 0) (t new : Trace) → RunsAllSo by_lines script first t (Err its) new → BlamesOnlySkips s image its
+  all_skip bytes its first t new runs built honest = all_tell script built.form its (λ own. IsRefusal own → SkipsSomewhere s own) (λ refusal. absurd refusal)
       (λ l life seen own_files here own t mid so refusal.
       record { number = l; life = life; life_is = here.life_is; skips = life_blames s (todays script files held image built honest) bytes l life here.life_is seen own_files here own t mid so refusal }) first t new runs
 
   -- THE CLAUSE of skips
-  pub run_skips : (first : Files → Type 0) (t new : Trace) (answered : Result (Unit {0}) Fault) → RunsSo by_lines script first t answered new → IfErr answered (BlamesOnlySkips s image)
-  run_skips first t new answered run = by_result run.result run.lives answered run.told
+  pub run_skips : (first : Files → Type 0) (t new : Trace) (answered : Result (Unit {0}) Fault) → IfErr answered (λ its. (its ≡ fault.NoMemory) ⊎ AreBytes script.blocks) → RunsSo by_lines script first t answered new
+      → IfErr answered (BlamesOnlySkips s image)
+  run_skips first t new answered bytes run = by_result run.result run.lives answered bytes run.told
     where
       ok_is : {x : Fault} → ◌≡◌ {A = Result (Unit {0}) Fault} (Err x) (Ok tt) → ⊥
       ok_is e = cc
@@ -567,8 +568,9 @@ module _ (script : Script) (files : Files) (held : Secrets) (image : Files → T
       same_answer : {x y : Fault} → ◌≡◌ {A = Result (Unit {0}) Fault} (Err x) (Err y) → x ≡ y
       same_answer e = cc
 
-      by_result : (result : Result (Unit {0}) Fault) → RunsAllSo by_lines script first t result run.mid → (answered : Result (Unit {0}) Fault) → TellsEnd by_lines result answered run.mid new → IfErr answered (BlamesOnlySkips s image)
-      by_result result lives (Ok done) told = tt
-      by_result (Ok done) lives (Err its) told = absurd (ok_is told.0)
-      by_result (Err own) lives (Err its) (inl wants) = λ built honest refusal. absurd (subst IsRefusal (same_answer wants.0) refusal)
-      by_result (Err own) lives (Err its) (inr told) = subst (BlamesOnlySkips s image) (sym (same_answer told.0)) (all_skip own first t run.mid lives)
+      by_result : (result : Result (Unit {0}) Fault) → RunsAllSo by_lines script first t result run.mid → (answered : Result (Unit {0}) Fault) → IfErr answered (λ its. (its ≡ fault.NoMemory) ⊎ AreBytes script.blocks) → TellsEnd by_lines result answered run.mid new → IfErr answered (BlamesOnlySkips s image)
+      by_result result lives (Ok done) bytes told = tt
+      by_result (Ok done) lives (Err its) bytes told = absurd (ok_is told.0)
+      by_result (Err own) lives (Err its) bytes (inl wants) = λ built honest refusal. absurd (subst IsRefusal (same_answer wants.0) refusal)
+      by_result (Err own) lives (Err its) (inl wants) (inr told) = λ built honest refusal. absurd (subst IsRefusal wants refusal)
+      by_result (Err own) lives (Err its) (inr bytes) (inr told) = subst (BlamesOnlySkips s image) (sym (same_answer told.0)) (all_skip bytes own first t run.mid lives)

@@ -1,8 +1,10 @@
 -- What a life of a script is given: the blocks that its source holds, and the configuration of its node.
-use Rattle.std.specs.Prelude.{ℕ, ◌-◌, ◌++◌, ◌∷◌, [], List, true, false, Option, None, Some, filter_map, fold, option_and_then, option_map, slice_get, take, length, ◌≡◌}
+use Rattle.std.specs.Prelude.{ℕ, ◌-◌, ◌++◌, ◌∷◌, [], List, true, false, Option, None, Some, filter_map, fold, option_and_then, option_map, slice_get, take, length, ◌≡◌, IfSome}
 use Rattle.std.specs.Int.NonZero.{non_zero_u32_get, non_zero_u64_get}
+use Rattle.std.specs.List.{AllByRecursion}
 use Rattle.std.specs.Option.{option_map_or}
 use Rattle.sha2.specs.Sha256.{sha256}
+use Rattle.dkg_values.specs.Codec.{IsBytes}
 use Rattle.dkg_ceremony.specs.Schedule.{epoch_of}
 use Rattle.dkg_ceremony.specs.declared.mode.Reveal.TheVariants.{V1}
 use Rattle.dkg_journal.specs.Names.{Files}
@@ -71,6 +73,10 @@ with_block config before line = before ++ block_on config (parent_in before line
 -- the blocks of a script, in the order of its lines
 unfoldable pub blocks_in : Script → List (Block directory.Unit)
 blocks_in script = fold (with_block script.config) [] script.blocks
+
+-- each of their payloads is bytes
+abbrev pub AreBytes : List BlockLine → Type 0
+AreBytes lines = AllByRecursion (λ line. IfSome line.payload IsBytes) lines
 
 -- A SOURCE
 

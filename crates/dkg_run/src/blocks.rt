@@ -1,9 +1,10 @@
 //! The blocks of a script, made once for all of its lives.
-ghost use Rattle.std.specs.Prelude.{◌≡◌, false, IfOk};
+ghost use Rattle.std.specs.Prelude.{◌≡◌, false, IfOk, IfSome};
 ghost use Rattle.std.specs.Int.NonZero.{non_zero_u32_get, non_zero_u64_get};
+ghost use Rattle.dkg_values.specs.Codec.{IsBytes};
 ghost use Rattle.dkg_ceremony.specs.Schedule.{epoch_of};
 ghost use Rattle.dkg_script.specs.Readings.{unit_payload};
-ghost use Rattle.dkg_run.specs.Given.{block_on, blocks_in, parent_in, payload_in};
+ghost use Rattle.dkg_run.specs.Given.{AreBytes, block_on, blocks_in, parent_in, payload_in};
 
 use dkg_ceremony::{CodecError, Digest, Epoch, Height, Key, Mem, NoMemory, decode_cfg};
 use dkg_script::{BlockLine, Script, ScriptConfig};
@@ -12,7 +13,9 @@ use std::alloc::Global;
 
 /// The payload that bytes spell, if they spell one.
 fn payload_in(alloc: Global, config: &ScriptConfig, bytes: &[u8]) -> Mem<Option<Payload<Unit>>>
-    ensures { IfOk result (λ payload. payload ≡ unit_payload (record { most = non_zero_u32_get config.now.limit; version = config.now.max_mode.0; addressed = false }) bytes.now) }
+    ensures payload { IfOk result (λ payload. payload ≡ unit_payload
+        (record { most = non_zero_u32_get config.now.limit; version = config.now.max_mode.0; addressed = false }) bytes.now) }
+    ensures bytes { IsBytes bytes.now }
 {
     let limits = (config.limit, config.max_mode);
     match decode_cfg::<Payload<Unit>>(alloc, bytes, &limits) {
@@ -28,7 +31,8 @@ fn payload_of(
     config: &ScriptConfig,
     line: &BlockLine,
 ) -> Mem<Option<Payload<Unit>>>
-    ensures { IfOk result (λ payload. payload ≡ payload_in config.now line.now.payload) }
+    ensures payload { IfOk result (λ payload. payload ≡ payload_in config.now line.now.payload) }
+    ensures bytes { IfSome line.now.payload IsBytes }
 {
     match &line.payload {
         None => Ok(None),
@@ -63,7 +67,8 @@ fn block_on(
     parent: Digest,
     line: &BlockLine,
 ) -> Mem<Block<Unit>>
-    ensures { IfOk result (λ block. block ≡ block_on config.now parent line.now) }
+    ensures block { IfOk result (λ block. block ≡ block_on config.now parent line.now) }
+    ensures bytes { IfSome line.now.payload IsBytes }
 {
     let context = Context {
         epoch: epoch_at(config, line.height),
@@ -79,7 +84,9 @@ fn block_on(
 /// The blocks of a script, in the order of its lines.
 #[tactic(auto, unfolding(crate::specs::Given::blocks_in))]
 pub fn blocks_of(alloc: Global, script: &Script) -> Mem<Vec<Block<Unit>>>
-    ensures { IfOk result (λ blocks. blocks.items ≡ blocks_in script.now) }
+    ensures blocks { IfOk result (λ blocks. blocks.items ≡ blocks_in script.now) }
+    // What the lines' payloads hold is bytes.
+    ensures bytes { IfOk result (λ blocks. AreBytes script.now.blocks) }
 {
     let lines = script.blocks.as_slice();
     let mut blocks = Vec::with_capacity(alloc, lines.len())?;

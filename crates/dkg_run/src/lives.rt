@@ -21,7 +21,7 @@ ghost use Rattle.dkg_reshare.specs.Today.{seen_today};
 ghost use Rattle.dkg_reshare.specs.declared.stop.Stop.TheVariants.{Cut as AtCut, Failed as HadFailed, Fault as FaultOf};
 ghost use Rattle.dkg_run.specs.Causes.{HasCause, IfFault, IsCutWithin};
 ghost use Rattle.dkg_run.specs.Found.{IsFound, reader_in};
-ghost use Rattle.dkg_run.specs.Given.{Lived, blocks_in, limits_of, lived, step_of};
+ghost use Rattle.dkg_run.specs.Given.{AreBytes, Lived, blocks_in, limits_of, lived, step_of};
 ghost use Rattle.dkg_run.specs.GivesBack.{GivesBack};
 ghost use Rattle.dkg_run.specs.Lives.{AnyFiles, EndsLife, LivesHere, LivesSo, RunsAllSo, RunsOver, RunsSo, Steps, TakesAll, TellsEnd, fuse_for, never};
 ghost use Rattle.dkg_run.specs.Moving.{Blames, StepBlames, StopBlames, Went, world_of};
@@ -67,7 +67,7 @@ fn begin_step<D: Disk, X: SecretStore>(
 ) -> Result<(), Stop>
     ensures same { (devices.new.disk ≡ devices.old.disk) × (devices.new.secrets ≡ devices.old.secrets) }
     ensures lit { OnOk result (fuse_for cut.now step ≡ Some devices.new.fuse) }
-    ensures ends { IfErr result (λ stop. (stop ≡ AtCut) × (fuse_for cut.now step ≡ None)) }
+    ensures ends { IfErr result (λ stop. (stop ≡ AtCut) × (fuse_for cut.now step ≡ None) × (devices.new ≡ devices.old)) }
 {
     match fuse_of(cut, step) {
         Some(fuse) => {
@@ -325,6 +325,7 @@ fn run_all<D: Disk, X: SecretStore>(
         → AreFit (limits_of script.now).most (D.image devices.new.disk.now) }
     ensures passing { IsTrue D.tells → IsTrue X.tells → ArePassing (reader_in script.now) (D.image devices.old.disk.now) (X.held devices.old.secrets.now)
         → ArePassing (reader_in script.now) (D.image devices.new.disk.now) (X.held devices.new.secrets.now) }
+    ensures bytes { IfErr result (λ fault. (fault ≡ NoMemory) ⊎ AreBytes script.now.blocks) }
 {
     let blocks = blocks_of(alloc, script)?;
     for (i, life) in script.lives.as_slice().iter().enumerate() {

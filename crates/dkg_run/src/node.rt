@@ -16,7 +16,7 @@ ghost use Rattle.dkg_reshare.specs.Ends.{IsCaused};
 ghost use Rattle.dkg_reshare.specs.Given.{AreGivenFrom, HasRead};
 ghost use Rattle.dkg_reshare.specs.Made.{Makes, Tells, UnlessBroken};
 ghost use Rattle.dkg_reshare.specs.Moved.{Moved, StaysAbove};
-ghost use Rattle.dkg_reshare.specs.Opened.{IsInGrammar, OpensReadable};
+ghost use Rattle.dkg_reshare.specs.Opened.{IsInGrammar, OpensReadable, StaysShut};
 ghost use Rattle.dkg_reshare.specs.Today.{seen_today};
 ghost use Rattle.dkg_run.specs.Given.{Lived, ReadsNeither, at_step, blocks_in, limits_of, lived, step_of};
 ghost use Rattle.dkg_run.specs.Nodes.{IsEventHere, IsOfLife, IsReadyNode, IsView, Viewed, ViewedNew, ended_new};
@@ -92,6 +92,8 @@ impl Node {
         // A journal that is not in its grammar is not opened, and nothing is told.
         ensures readable { IsTrue D.tells → OpensReadable (IsInGrammar (limits_of script.now).most (D.files devices.old.disk.now)) result
             out.old.entries out.new.entries }
+        ensures shut { IsTrue D.tells → StaysShut (IsInGrammar (limits_of script.now).most (D.files devices.old.disk.now))
+            (D.image devices.old.disk.now) (D.image devices.new.disk.now) (X.held devices.old.secrets.now) (X.held devices.new.secrets.now) }
         ensures moved { Moved D.tells D.made X.made D.faults X.faults devices.old devices.new }
         // A device is blamed where its count rose, and a record where it stands.
         ensures causes { IfErr result (λ stop. IsFoundAt (limits_of script.now).most D.tells (D.files devices.new.disk.now) stop

@@ -225,6 +225,7 @@ pub form_as_cut : StaysOfToday
 form_as_cut ends script form = record {
   plain = form.plain;
   reshares = form.reshares;
+  own = form.own;
   few = form.few;
   long = form.long;
   short = form.short;

@@ -28,7 +28,7 @@ use Rattle.dkg_text.specs.declared.script.Event.TheVariants.{Peer, Final}
 use Rattle.dkg_text.specs.declared.script.Life.{Life}
 use Rattle.dkg_text.specs.declared.script.Script.{Script}
 use Rattle.dkg_text.specs.declared.script.ScriptConfig.{ScriptConfig}
-use Rattle.dkg_script.specs.Built.{are_events, are_later, are_lives, begins_at_zero, is_alone, is_anchor, is_counter, is_early, is_event, is_later, is_life, is_limit, is_plain, is_simple}
+use Rattle.dkg_script.specs.Built.{are_events, are_later, are_lives, begins_at_zero, is_alone, is_anchor, is_counter, is_early, is_event, is_key, is_later, is_life, is_limit, is_plain, is_simple}
 use Rattle.dkg_script.specs.Form.{IsAnchorOfToday, IsBlockOfToday, IsEarly, IsEventOfToday, IsFormOfToday, IsLifeOfToday, midpoint_of}
 use Rattle.dkg_script.specs.Readings.{unit_payload}
 use Rattle.dkg_script.specs.Starts.{AreFirst, Carries, IsFirstBlock, IsLaterBlock, IsStart}
@@ -141,7 +141,7 @@ anchored midpoint blocks (Absent number) e =
     each_some (λ block. nat_lt 0 block.height && nat_lt block.height midpoint) (λ block. (0 < block.height) × (block.height < midpoint)) (between midpoint) (slice_get blocks number) e
 
 event_today : (midpoint : ℕ) (blocks : List BlockLine) (event : Event) → is_event midpoint blocks event ≡ true → IsEventOfToday midpoint blocks event
-event_today midpoint blocks (Peer from bytes) e = tt
+event_today midpoint blocks (Peer from bytes) e = ltb-true from (2 ^ 32) e
 event_today midpoint blocks (Final number) e = early midpoint blocks number e
 event_today midpoint blocks _ e = absurd cc
 
@@ -193,7 +193,8 @@ lives_form script midpoint blocks lives first false not_addressed config_is same
 lives_form script midpoint blocks lives false true not_addressed config_is same_blocks same_lives at found are tested short = absurd (let wrong : false ≡ true = found in cc)
 lives_form script midpoint blocks lives true true not_addressed config_is same_blocks same_lives at found are tested short =
     let config = script.config in
-    let plain = and_parts (is_simple config && is_alone config) (is_limit config) config_is in
+    let keyed = and_parts (is_simple config && is_alone config && is_limit config) (is_key config.me) config_is in
+    let plain = and_parts (is_simple config && is_alone config) (is_limit config) keyed.0 in
     let simple = and_parts (is_simple config) (is_alone config) plain.0 in
     let counted = and_parts (nat_lt 1 (non_zero_u64_get config.blocks_per_epoch) && is_counter config.mode && (config.max_mode.0 == 0) && (length config.namespace == 0)) (not (is_some config.oneshot)) simple.0 in
     let named = and_parts (nat_lt 1 (non_zero_u64_get config.blocks_per_epoch) && is_counter config.mode && (config.max_mode.0 == 0)) (length config.namespace == 0) counted.0 in
@@ -203,6 +204,7 @@ lives_form script midpoint blocks lives true true not_addressed config_is same_b
     record {
       plain = not_addressed;
       reshares = none_of config.oneshot counted.1;
+      own = ltb-true config.me (2 ^ 32) keyed.1;
       few = leb-true (non_zero_u32_get config.limit) (2 ^ 30) plain.1;
       long = two_or_more (non_zero_u64_get config.blocks_per_epoch) long.0;
       short = short;

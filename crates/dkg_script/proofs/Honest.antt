@@ -40,13 +40,14 @@ two_is_built = record {
   form = record {
     plain = refl;
     reshares = refl;
+    own = lit< tt;
     few = lit≤ tt;
     long = lit≤ tt;
     short = lit< tt;
     supported = refl;
     blocks = (genesis_of_today two.lives, tt);
     first = refl;
-    lives = (record { anchor = tt; holds = refl; no_sync = refl; events = (tt, tt) }, (record { anchor = tt; holds = refl; no_sync = refl; events = tt }, tt));
+    lives = (record { anchor = tt; holds = refl; no_sync = refl; events = (lit< tt, tt) }, (record { anchor = tt; holds = refl; no_sync = refl; events = tt }, tt));
   };
   no_plan = get-empty name_cmp Plan;
 }
@@ -83,13 +84,14 @@ install_is_built plans = record {
   form = record {
     plain = refl;
     reshares = refl;
+    own = lit< tt;
     few = lit≤ tt;
     long = lit≤ tt;
     short = lit< tt;
     supported = refl;
     blocks = (genesis_of_today at_install.lives, tt);
     first = refl;
-    lives = (record { anchor = tt; holds = refl; no_sync = refl; events = (tt, tt) }, (record { anchor = tt; holds = refl; no_sync = refl; events = (tt, tt) }, (record { anchor = tt; holds = refl; no_sync = refl; events = tt }, tt)));
+    lives = (record { anchor = tt; holds = refl; no_sync = refl; events = (lit< tt, tt) }, (record { anchor = tt; holds = refl; no_sync = refl; events = (lit< tt, tt) }, (record { anchor = tt; holds = refl; no_sync = refl; events = tt }, tt)));
   };
   no_plan = get-empty name_cmp Plan;
 }
@@ -112,13 +114,14 @@ gate_is_built plans = record {
   form = record {
     plain = refl;
     reshares = refl;
+    own = lit< tt;
     few = lit≤ tt;
     long = lit≤ tt;
     short = lit< tt;
     supported = refl;
     blocks = (genesis_of_today at_gate.lives, tt);
     first = refl;
-    lives = (record { anchor = tt; holds = refl; no_sync = refl; events = (tt, tt) }, (record { anchor = tt; holds = refl; no_sync = refl; events = tt }, tt));
+    lives = (record { anchor = tt; holds = refl; no_sync = refl; events = (lit< tt, tt) }, (record { anchor = tt; holds = refl; no_sync = refl; events = tt }, tt));
   };
   no_plan = get-empty name_cmp Plan;
 }

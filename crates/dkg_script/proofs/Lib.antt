@@ -25,6 +25,7 @@ pub mod Stores
 pub mod Survives
 pub mod Today
 pub mod Trials
+pub mod ToldPlaces
 pub mod TwoEpochs
 pub mod ValidScripts
 pub mod Views

@@ -102,6 +102,7 @@ module _ (plans : List (Option Material)) where
     form = record {
       plain = refl;
       reshares = refl;
+      own = lit< tt;
       few = lit≤ tt;
       long = lit≤ tt;
       short = lit< tt;

@@ -1,5 +1,6 @@
 -- Whether a script is of the form that is run so far, as a test, and what reading such a script answers.
-use Rattle.std.specs.Prelude.{◌≡◌, ℕ, ◌+◌, ◌^◌, ◌==◌, ◌&&◌, not, nat_le, nat_lt, Bool, true, false, List, [], ◌∷◌, length, slice_get, is_some, Result, Ok, Err}
+use Rattle.std.specs.Prelude.{◌≡◌, ℕ, ◌+◌, ◌^◌, ◌==◌, ◌&&◌, not, nat_le, nat_lt, Bool, true, false}
+use Rattle.std.specs.Prelude.{List, [], ◌∷◌, length, slice_get, is_some, Result, Ok, Err}
 use Rattle.std.specs.Int.NonZero.{non_zero_u32_get, non_zero_u64_get}
 use Rattle.std.specs.Option.{option_map_or}
 use Rattle.dkg_ceremony.specs.declared.mode.Mode.{Mode}
@@ -14,6 +15,7 @@ use Rattle.dkg_text.specs.declared.script.Event.TheVariants.{Peer, Final}
 use Rattle.dkg_text.specs.declared.script.Life.{Life}
 use Rattle.dkg_text.specs.declared.script.Script.{Script}
 use Rattle.dkg_text.specs.declared.script.ScriptConfig.{ScriptConfig}
+use Rattle.dkg_text.specs.Laws.{IsPlace}
 use Rattle.dkg_script.specs.declared.read.ReadError.{ReadError}
 use Rattle.dkg_script.specs.declared.read.ReadError.TheVariants.{Bad, Unsupported, NoMemory}
 use Rattle.dkg_script.specs.Form.{midpoint_of}
@@ -28,7 +30,8 @@ is_counter RootsOfUnity = false
 -- a reshare whose epochs have two blocks at least, of the first mode, without a namespace
 abbrev pub is_simple : ScriptConfig → Bool
 is_simple config =
-    nat_lt 1 (non_zero_u64_get config.blocks_per_epoch) && is_counter config.mode && (config.max_mode.0 == 0) && (length config.namespace == 0) && not (is_some config.oneshot)
+    nat_lt 1 (non_zero_u64_get config.blocks_per_epoch) && is_counter config.mode && (config.max_mode.0 == 0)
+    && (length config.namespace == 0) && not (is_some config.oneshot)
 
 -- a node that is told nothing but the script's blocks
 abbrev pub is_alone : ScriptConfig → Bool
@@ -37,8 +40,12 @@ is_alone config = (length config.players == 0) && (length config.addresses == 0)
 abbrev pub is_limit : ScriptConfig → Bool
 is_limit config = nat_le (non_zero_u32_get config.limit) (2 ^ 30)
 
+-- a key, which has 32 bits
+abbrev pub is_key : ℕ → Bool
+is_key key = nat_lt key (2 ^ 32)
+
 abbrev pub is_plain : ScriptConfig → Bool
-is_plain config = is_simple config && is_alone config && is_limit config
+is_plain config = is_simple config && is_alone config && is_limit config && is_key config.me
 
 -- THE BLOCKS
 
@@ -68,7 +75,7 @@ is_anchor midpoint blocks (Processed number) = option_map_or (λ block. nat_lt (
 is_anchor midpoint blocks (Absent number) = option_map_or (λ block. nat_lt 0 block.height && nat_lt block.height midpoint) (slice_get blocks number) false
 
 abbrev pub is_event : (midpoint : ℕ) → List BlockLine → Event → Bool
-is_event midpoint blocks (Peer from bytes) = true
+is_event midpoint blocks (Peer from bytes) = is_key from
 is_event midpoint blocks (Final number) = is_early midpoint blocks number
 is_event midpoint blocks _ = false
 
@@ -82,7 +89,9 @@ begins_at_zero [] = false
 begins_at_zero (n ∷ ns) = n == 0
 
 abbrev pub is_life : (midpoint : ℕ) → List BlockLine → Life → Bool
-is_life midpoint blocks life = option_map_or (is_anchor midpoint blocks) life.anchor true && begins_at_zero life.held && not (is_some life.sync) && are_events midpoint blocks life.events
+is_life midpoint blocks life =
+    option_map_or (is_anchor midpoint blocks) life.anchor true && begins_at_zero life.held
+    && not (is_some life.sync) && are_events midpoint blocks life.events
 
 abbrev pub are_lives : (midpoint : ℕ) → List BlockLine → List Life → Bool
 are_lives midpoint blocks [] = true
@@ -91,7 +100,9 @@ are_lives midpoint blocks (life ∷ lives) = is_life midpoint blocks life && are
 -- THE SCRIPT
 
 unfoldable pub is_built : Script → Bool
-is_built script = not script.addressed && is_plain script.config && are_first script.config script.blocks && are_lives (midpoint_of script) script.blocks script.lives
+is_built script =
+    not script.addressed && is_plain script.config && are_first script.config script.blocks
+    && are_lives (midpoint_of script) script.blocks script.lives
 
 -- READING
 
@@ -107,3 +118,8 @@ ReadsBuilt spelled (Ok script) = (spelled ≡ Ok script) × (is_built script ≡
 ReadsBuilt spelled (Err (Bad place)) = spelled ≡ Err place
 ReadsBuilt spelled (Err Unsupported) = (script : Script) × (spelled ≡ Ok script) × (is_built script ≡ false)
 ReadsBuilt spelled (Err NoMemory) = Unit {0}
+
+-- what is told of bytes that are no script: the first line that no script has after the lines before it
+abbrev pub TellsPlace : (addressed : Bool) (bytes : List ℕ) → Result Script ReadError → Type 0
+TellsPlace addressed bytes (Err (Bad place)) = IsPlace addressed bytes place
+TellsPlace addressed bytes _ = Unit {0}

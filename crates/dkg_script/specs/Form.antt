@@ -17,9 +17,9 @@ use Rattle.dkg_script.specs.Readings.{unit_payload}
 abbrev pub IsEarly : (midpoint : ℕ) → List BlockLine → ℕ → Type 0
 IsEarly midpoint blocks number = IsSomeAnd (slice_get blocks number) (λ block. block.height < midpoint)
 
--- a message of the dealing channel, or a block below the midpoint
+-- a message of the dealing channel, of a key of 32 bits, or a block below the midpoint
 abbrev pub IsEventOfToday : (midpoint : ℕ) → List BlockLine → Event → Type 0
-IsEventOfToday midpoint blocks (Peer from bytes) = Unit {0}
+IsEventOfToday midpoint blocks (Peer from bytes) = from < 2 ^ 32
 IsEventOfToday midpoint blocks (Final number) = IsEarly midpoint blocks number
 IsEventOfToday midpoint blocks _ = ⊥
 
@@ -44,12 +44,13 @@ IsBlockOfToday script block =
     (block.height < non_zero_u64_get script.config.blocks_per_epoch)
     × IfSome block.payload (λ bytes. IsSome (unit_payload (record { most = non_zero_u32_get script.config.limit; version = script.config.max_mode.0; addressed = script.addressed }) bytes))
 
--- The script is of a reshare without directories of addresses, its limit is one that a script may have, its epochs have two blocks at least, and a number of
+-- The script is of a reshare without directories of addresses, its node has a key of 32 bits, its limit is one that a script may have, its epochs have two blocks at least, and a number of
 -- 64 bits, its mode is supported, its blocks are of epoch 0
 -- and their payloads are read, its first block stands at height 0, and each of its lives is of the form.
 pub record IsFormOfToday (script : Script) : Type 0 where
   pub plain : script.addressed ≡ false
   pub reshares : script.config.oneshot ≡ None
+  pub own : script.config.me < 2 ^ 32
   pub few : non_zero_u32_get script.config.limit ≤ 2 ^ 30
   pub long : 2 ≤ non_zero_u64_get script.config.blocks_per_epoch
   pub short : non_zero_u64_get script.config.blocks_per_epoch < 2 ^ 64

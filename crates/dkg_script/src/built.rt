@@ -3,7 +3,7 @@ ghost use Rattle.std.specs.Bool.{OnTrue};
 ghost use Rattle.std.specs.Prelude.{◌≡◌, ◌<◌, ◌+◌, nat_lt, true, IfOk};
 ghost use Rattle.std.specs.Int.NonZero.{non_zero_u32_get};
 ghost use Rattle.std.specs.Option.{option_map_or};
-ghost use Rattle.dkg_script.specs.Built.{are_events as are_events_of, are_first as are_first_of, are_later as are_later_of, are_lives as are_lives_of, begins_at_zero as begins_at_zero_of, is_alone as is_alone_of, is_anchor as is_anchor_of, is_built as is_built_of, is_counter as is_counter_of, is_early as is_early_of, is_event as is_event_of, is_first as is_first_of, is_later as is_later_of, is_life as is_life_of, is_limit as is_limit_of, is_plain as is_plain_of, is_simple as is_simple_of};
+ghost use Rattle.dkg_script.specs.Built.{are_events as are_events_of, are_first as are_first_of, are_later as are_later_of, are_lives as are_lives_of, begins_at_zero as begins_at_zero_of, is_alone as is_alone_of, is_anchor as is_anchor_of, is_built as is_built_of, is_counter as is_counter_of, is_early as is_early_of, is_event as is_event_of, is_first as is_first_of, is_key as is_key_of, is_later as is_later_of, is_life as is_life_of, is_limit as is_limit_of, is_plain as is_plain_of, is_simple as is_simple_of};
 ghost use Rattle.dkg_script.specs.Form.{IsFormOfToday};
 ghost use Rattle.dkg_script.specs.Starts.{AreFirst, IsFirstBlock};
 
@@ -45,10 +45,17 @@ fn is_limit(config: &ScriptConfig) -> bool
     config.limit.get() <= 1 << 30
 }
 
+/// A key, which has 32 bits: any is one.
+fn is_key(_key: u32) -> bool
+    ensures { result ≡ is_key_of _key }
+{
+    true
+}
+
 fn is_plain(config: &ScriptConfig) -> bool
     ensures { result ≡ is_plain_of config.now }
 {
-    is_simple(config) && is_alone(config) && is_limit(config)
+    is_simple(config) && is_alone(config) && is_limit(config) && is_key(config.me.0)
 }
 
 /// The first block: at height 0, without a parent, with the first epoch's info.
@@ -131,7 +138,7 @@ fn is_event(midpoint: u64, blocks: &[BlockLine], event: &Event) -> bool
     ensures { result ≡ is_event_of midpoint blocks.now event.now }
 {
     match event {
-        Event::Peer { .. } => true,
+        Event::Peer { from, .. } => is_key(from.0),
         Event::Final { block } => is_early(midpoint, blocks, *block),
         _ => false,
     }

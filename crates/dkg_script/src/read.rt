@@ -5,7 +5,7 @@
 //! channel and blocks below the midpoint.
 ghost use Rattle.std.specs.Prelude.{◌≡◌, IfOk};
 ghost use Rattle.dkg_text.specs.Grammar.{script_or_place};
-ghost use Rattle.dkg_script.specs.Built.{ReadsBuilt, refusal_of};
+ghost use Rattle.dkg_script.specs.Built.{ReadsBuilt, TellsPlace, refusal_of};
 ghost use Rattle.dkg_script.specs.Form.{IsFormOfToday};
 ghost use Rattle.dkg_script.specs.Starts.{AreFirst};
 ghost use Rattle.dkg_script.specs.declared.read.ReadError.TheVariants.{NoMemory as OutOfMemory};
@@ -59,6 +59,8 @@ impl From<ScriptError> for ReadError {
 pub fn read_built(alloc: Global, bytes: &[u8], addressed: bool) -> Result<Script, ReadError>
     // What is read is what the bytes spell, and what they spell is read or refused by its form, unless memory runs out.
     ensures reads { ReadsBuilt (script_or_place addressed bytes.now) result }
+    // Some script's text begins with the lines before the place that is told, and none's goes on with the line there.
+    ensures place { TellsPlace addressed bytes.now result }
     // The first block, if there is one, carries an info of epoch 0 that passes.
     ensures first { IfOk result (λ script. AreFirst script.config script.blocks) }
     ensures form { IfOk result IsFormOfToday }

@@ -1,30 +1,28 @@
 -- The lines of a configuration have one spelling for each value.
-use Rattle.std.proofs.Common.{◌≡◌, ℕ, zero, suc, ◌+◌, ◌<◌, ◌≤◌, ◌^◌, ◌==◌, ◌&&◌, Bool, true, false, cond, not, List, [], ◌∷◌, ◌++◌, length, map, decimal, Option, Some, None, Result, Ok, Err, refl, sym, ap, subst, ◌∙◌, append_assoc, append-nil, length-append, arith, nat_lt}
+use Rattle.std.proofs.Common.{◌≡◌, ℕ, zero, suc, ◌+◌, ◌<◌, ◌≤◌, ◌^◌, ◌==◌, ◌&&◌, Bool, true, false, cond, not, List, [], ◌∷◌, ◌++◌, length, map, decimal, Option, Some, None, refl, sym, ap, subst, arith, nat_lt}
 use Rattle.std.specs.Prelude.{codes, IfSome}
 use Rattle.std.specs.Int.NonZero.{non_zero_u32_get, non_zero_u64_get}
 use Rattle.std.specs.declared.num.NonZeroU32.{NonZeroU32}
 use Rattle.std.specs.declared.num.NonZeroU64.{NonZeroU64}
-use Rattle.std.proofs.lemmas.Bool.{and_parts, eq-eqb, eqb-true, lt-ltb, ltb-true, ne_eqb}
+use Rattle.std.proofs.lemmas.Bool.{and_parts, eq-eqb, eqb-true, lt-ltb, ltb-true}
 use Rattle.std.proofs.lemmas.Bool.Decides.{nat_tests}
 use Rattle.hex.specs.Hex.{IsBytes}
 use Rattle.dkg_ceremony.specs.declared.mode.Mode.{Mode}
 use Rattle.dkg_ceremony.specs.declared.mode.ModeVersion.{ModeVersion}
 use Rattle.dkg_types.specs.declared.addresses.Address.{Address}
 use Rattle.dkg_values.specs.Rising.{keys_of}
-use Rattle.dkg_text.specs.declared.config_lines.Opening.{Opening}
 use Rattle.dkg_text.specs.declared.script.PlayerLine.{PlayerLine}
 use Rattle.dkg_text.specs.declared.script.ProbeLine.{ProbeLine}
-use Rattle.dkg_text.specs.declared.script.ScriptConfig.{ScriptConfig}
-use Rattle.dkg_text.specs.Allowed.{Is32, Is64, IsAddress, IsAddressLine, IsConfig, IsKeys, IsOpening, IsPlayerLine, IsProbeLine}
+use Rattle.dkg_text.specs.Allowed.{Is32, Is64, IsAddress, IsAddressLine, IsKeys, IsPlayerLine, IsProbeLine}
 use Rattle.dkg_text.specs.Carried.{is_info}
 use Rattle.dkg_text.specs.Fields.{bytes_field, hex_text, number_field}
 use Rattle.dkg_text.specs.Grammar.{address_after, address_at, is_above, limit_from, players_after, players_at, probe_at, probe_from, version_one}
-use Rattle.dkg_text.specs.Lines.{Reading, checked, checked_at, line_at, ◌>=>◌}
+use Rattle.dkg_text.specs.Lines.{checked_at, line_at}
 use Rattle.dkg_text.specs.Positive.{positive_32, positive_64}
 use Rattle.dkg_text.specs.Rows.{address_row, beside, bytes_of, dash_or, field, four, mode_of, number_below, number_of, set_row, two, version_of}
 use Rattle.dkg_text.specs.Spells.{IsFieldText, IsLastRow, IsLine}
 use Rattle.dkg_text.specs.Writing.{address_fields, address_line, ended, mode_number, number_or_dash, numbers_fields, oneshot_line, or_dash, players_line, probe_line}
-use Rattle.dkg_text.proofs.FieldLaws.{below_law, bytes_law, mode_law, number_law, number_or_dash_law, version_law as version_field_law}
+use Rattle.dkg_text.proofs.FieldLaws.{bytes_law, mode_law, number_law, number_or_dash_law, version_law as version_field_law}
 use Rattle.dkg_text.proofs.Guards.{if_some, some_is}
 use Rattle.dkg_text.proofs.LineLaws.{HasName, checked_law, line_law, line_named}
 use Rattle.dkg_text.proofs.NonZeros.{is_32, is_64}

@@ -1,7 +1,7 @@
 -- The lines of events have one spelling for each event.
-use Rattle.std.proofs.Common.{◌≡◌, ℕ, ◌<◌, ◌≤◌, ◌^◌, ◌&&◌, ◌||◌, Bool, true, false, cond, not, List, [], ◌∷◌, ◌++◌, length, decimal, Option, Some, None, Result, Ok, Err, refl, sym, ap, subst, ◌∙◌, append-nil, length-append, arith}
+use Rattle.std.proofs.Common.{◌≡◌, ℕ, ◌<◌, ◌^◌, ◌&&◌, ◌||◌, Bool, true, false, cond, not, List, [], ◌∷◌, ◌++◌, length, decimal, Option, Some, None, Ok, refl, sym, ap, subst, ◌∙◌, append-nil, length-append, arith}
 use Rattle.std.specs.Prelude.{codes}
-use Rattle.std.specs.List.{AllByRecursion, list_any}
+use Rattle.std.specs.List.{list_any}
 use Rattle.std.specs.Str.{bytes_eq}
 use Rattle.std.proofs.lemmas.Slice.Eq.{bytes_eq-Decides}
 use Rattle.hex.specs.Hex.{IsBytes}
@@ -9,8 +9,8 @@ use Rattle.dkg_text.specs.declared.script.Event.{Event}
 use Rattle.dkg_text.specs.declared.script.Event.TheVariants.{Peer, Final, Next, Release, Info, Feed, Over, Cancel, Work, Prepare, Propose, Verify, Later, Subscribe, Unsubscribe, Attach, Reply, Retry}
 use Rattle.dkg_text.specs.Allowed.{Is32, Is64, IsEventAfter, IsEventInRange}
 use Rattle.dkg_text.specs.Fields.{bytes_field, hex_text, number_field}
-use Rattle.dkg_text.specs.Grammar.{event_after, event_at, event_of, event_row, is_event, is_eventful}
-use Rattle.dkg_text.specs.Lines.{Front, Reading, allowed, begins, front_of}
+use Rattle.dkg_text.specs.Grammar.{event_after, event_at, event_of, event_row, event_table, is_event, is_eventful}
+use Rattle.dkg_text.specs.Lines.{begins, front_of}
 use Rattle.dkg_text.specs.Rows.{Row, all, bytes_of, field, nothing, number_below, number_of, two, whole, ◌>>=◌}
 use Rattle.dkg_text.specs.Spells.{AreFieldTexts, IsFieldText, IsLastRow, IsLine, spaced}
 use Rattle.dkg_text.specs.Writing.{ended, event_line, event_text, numbers_fields}
@@ -100,7 +100,7 @@ no_event : (name : List ℕ) (fields : List (List ℕ)) (event : Event) → None
 no_event name fields event e = cc e
 
 pub event_found : (name : List ℕ) (fields : List (List ℕ)) (event : Event) → event_of name fields ≡ Some event → IsNamed name fields event
-unfolding event_of
+unfolding event_table
 event_found name fields event e =
     or_named name (codes "peer") fields _ _ event (row_found (codes "peer") IsMessage (λ p. number_field p.0 ++ bytes_field p.1) (two (number_below (2 ^ 32)) bytes_of) message_row (λ x. Peer x.0 x.1) (λ x fit. fit) (λ x. refl) fields event) (λ e.
     or_named name (codes "final") fields _ _ event (row_found (codes "final") Is32 number_field (field (number_below (2 ^ 32))) number_32_row (λ x. Final x) (λ x fit. fit) (λ x. refl) fields event) (λ e.
@@ -139,7 +139,7 @@ spelt_as name row make event fields named plain text_is there reads no_cut no_st
 }
 
 event_spelt : (event : Event) → IsEventInRange event → IsSpeltEvent event
-unfolding event_of
+unfolding event_table
 event_spelt (Peer from bytes) fit =
     let s = row_again (codes "peer") IsMessage (λ p. number_field p.0 ++ bytes_field p.1) (two (number_below (2 ^ 32)) bytes_of) message_row (λ x. Peer x.0 x.1) (λ x f. f) (λ x. refl) (from, bytes) fit in
     spelt_as (codes "peer") (two (number_below (2 ^ 32)) bytes_of) (λ x. Peer x.0 x.1) (Peer from bytes) s.fields refl s.plain s.text_is refl s.reads refl refl refl

@@ -1,5 +1,5 @@
 -- Each kind of field has one spelling for each value.
-use Rattle.std.proofs.Common.{◌≡◌, ℕ, zero, suc, ◌+◌, ◌<◌, ◌≤◌, ◌^◌, ◌&&◌, Bool, true, false, cond, inl, inr, List, [], ◌∷◌, ◌++◌, length, decimal, get_or, Option, Some, None, Result, Ok, Err, refl, sym, ap, subst, ◌∙◌, arith, nat_lt}
+use Rattle.std.proofs.Common.{◌≡◌, ℕ, zero, suc, ◌<◌, ◌≤◌, ◌^◌, ◌&&◌, Bool, true, false, cond, inl, inr, List, [], ◌∷◌, decimal, Option, Some, None, Result, Ok, Err, refl, subst, ◌∙◌, arith, nat_lt}
 use Rattle.std.specs.Prelude.{IfSome, codes, slice_index}
 use Rattle.std.specs.Result.{result_ok}
 use Rattle.std.specs.Str.{bytes_eq}
@@ -22,7 +22,7 @@ use Rattle.dkg_text.specs.Spells.{IsField, IsFieldText, IsInField}
 use Rattle.dkg_text.specs.Writing.{mode_number, or_dash}
 use Rattle.dkg_text.proofs.Guards.{bind_some, if_some, some_is}
 use Rattle.dkg_text.proofs.Hex.{digits_of}
-use Rattle.dkg_text.proofs.Spelled.{dash_bytes, no_dash, number_is, other_text, same_text, spelled_bytes}
+use Rattle.dkg_text.proofs.Spelled.{dash_bytes, no_dash, number_is, other_text, spelled_bytes}
 
 -- NUMBERS
 

@@ -1,6 +1,6 @@
 -- What follows where a test, a step or a line gave something.
-use Rattle.std.proofs.Common.{◌≡◌, ℕ, Bool, true, false, cond, List, [], length, Option, Some, None, Result, Ok, Err, refl, ap, ◌∙◌}
-use Rattle.dkg_text.specs.Lines.{Reading, allowed, ◌>=>◌}
+use Rattle.std.proofs.Common.{◌≡◌, ℕ, Bool, true, false, cond, List, Option, Some, None, Result, Ok, Err, refl, ap, ◌∙◌}
+use Rattle.dkg_text.specs.Lines.{allowed, ◌>=>◌}
 use Rattle.dkg_text.specs.Rows.{◌>>=◌}
 
 pub some_is : {A : Type 0} (x y : A) → Some x ≡ Some y → x ≡ y

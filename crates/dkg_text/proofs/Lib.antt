@@ -1,3 +1,4 @@
+pub mod Begun
 pub mod ConfigLaws
 pub mod Counted
 pub mod EventLaws

@@ -1,5 +1,5 @@
 -- The lines of blocks and of lives have one spelling for each value.
-use Rattle.std.proofs.Common.{◌≡◌, ℕ, zero, suc, ◌+◌, ◌<◌, ◌≤◌, ◌^◌, ◌&&◌, Bool, true, false, cond, List, [], ◌∷◌, ◌++◌, length, decimal, is_some, Option, Some, None, Result, Ok, Err, refl, sym, ap, subst, ◌∙◌, append_assoc, append-nil, length-append, arith, nat_lt}
+use Rattle.std.proofs.Common.{◌≡◌, ℕ, ◌<◌, ◌≤◌, ◌^◌, ◌&&◌, Bool, true, false, cond, List, [], ◌∷◌, ◌++◌, length, decimal, Option, Some, None, Ok, Err, refl, sym, ap, subst, ◌∙◌, arith, nat_lt}
 use Rattle.std.specs.Prelude.{codes, IfSome, slice_get}
 use Rattle.std.specs.List.{AllByRecursion}
 use Rattle.std.specs.Str.{bytes_eq}
@@ -17,13 +17,13 @@ use Rattle.dkg_text.specs.Allowed.{AreHeld, AreSomeBytes, Is32, Is64, IsAnchor, 
 use Rattle.dkg_text.specs.Carried.{is_info}
 use Rattle.dkg_text.specs.Fields.{bytes_field, hex_text, number_field}
 use Rattle.dkg_text.specs.Grammar.{absent_from, anchor_at, are_blocks, block_after, block_at, cut_at, cut_from, held_at, held_from, is_parent, is_payload, limit_of, processed_from, sync_at, sync_from}
-use Rattle.dkg_text.specs.Lines.{Reading, begins, checked, checked_at, line_at, maybe_at, some_read}
-use Rattle.dkg_text.specs.Rows.{all, bytes_of, dash_or, field, four, number_below, number_of, three, ◌>>=◌}
+use Rattle.dkg_text.specs.Lines.{Reading, begins, checked_at, line_at, some_read}
+use Rattle.dkg_text.specs.Rows.{all, bytes_of, dash_or, field, four, number_below, number_of, three}
 use Rattle.dkg_text.specs.Spells.{IsLastRow, IsLine}
 use Rattle.dkg_text.specs.Writing.{anchor_line, block_line, bytes_or_dash, cut_line, ended, held_line, number_or_dash, numbers_fields, or_dash, sync_line, text_or_none}
 use Rattle.dkg_text.proofs.ConfigLaws.{is_plain, number_32_row, number_row, plain_name}
 use Rattle.dkg_text.proofs.FieldLaws.{below_or_dash_law, bytes_law, bytes_or_dash_law, number_law}
-use Rattle.dkg_text.proofs.Guards.{bind_some, if_some, ok_is, some_is}
+use Rattle.dkg_text.proofs.Guards.{bind_some, if_some, some_is}
 use Rattle.dkg_text.proofs.LineLaws.{HasName, IsAmong, begins_as, begins_so, checked_law, line_law, line_named, maybe_again, maybe_among, maybe_found, maybe_keeps, read_is, some_again, some_found}
 use Rattle.dkg_text.proofs.RowLaws.{all_law, four_law, key_law, three_law}
 
@@ -205,7 +205,7 @@ module _ (blocks : ℕ) where
   some_line [] some = absurd (omega (arith, some))
   some_line (n ∷ ns) some = refl
 
-  none_held : AreHeld blocks []
+  pub none_held : AreHeld blocks []
   none_held = record { small = tt; rising = refl; named = refl }
 
   pub held_found : (text held rest : List ℕ) → held_at blocks text ≡ Ok (held, rest) → AreHeld blocks held × (text ≡ held_line held ++ rest)

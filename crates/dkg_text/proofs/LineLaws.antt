@@ -1,11 +1,10 @@
 -- Lines have one spelling for each value: a line alone, one that is checked, one that may be missing, and lines one after another.
-use Rattle.std.proofs.Common.{◌≡◌, ℕ, zero, suc, ◌+◌, ◌<◌, ◌≤◌, ◌||◌, Bool, true, false, cond, List, [], ◌∷◌, ◌++◌, length, Option, Some, None, Result, Ok, Err, refl, sym, ap, subst, ◌∙◌, append_assoc, append-nil, length-append, arith}
+use Rattle.std.proofs.Common.{◌≡◌, ℕ, zero, suc, ◌<◌, ◌||◌, Bool, true, false, cond, List, [], ◌∷◌, ◌++◌, length, Option, Some, None, Ok, Err, refl, sym, ap, subst, ◌∙◌, append_assoc, append-nil, length-append, arith}
 use Rattle.std.specs.Prelude.{IfSome}
 use Rattle.std.specs.List.{flat_map, list_any}
-use Rattle.std.specs.Option.{option_map_or}
 use Rattle.std.specs.Str.{bytes_eq}
 use Rattle.std.proofs.lemmas.Slice.Eq.{bytes_eq-Decides}
-use Rattle.dkg_text.specs.Lines.{Front, Reading, allowed, begins, checked, front_of, line_at, many_at, many_from, maybe_at, row_of, some_read, ◌>=>◌}
+use Rattle.dkg_text.specs.Lines.{Reading, begins, checked, front_of, line_at, many_at, many_from, maybe_at, row_of, some_read, ◌>=>◌}
 use Rattle.dkg_text.specs.Rows.{Row, whole, ◌>>=◌}
 use Rattle.dkg_text.specs.Spells.{FitAfter, IsFieldText, IsLastRow, IsLine, IsSpeltLast, spaced}
 use Rattle.dkg_text.specs.Writing.{ended, text_or_none}

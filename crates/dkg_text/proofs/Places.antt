@@ -10,10 +10,11 @@ use Rattle.dkg_text.specs.declared.script.Event.{Event}
 use Rattle.dkg_text.specs.declared.script.Script.{Script}
 use Rattle.dkg_text.specs.declared.script.ScriptConfig.{ScriptConfig}
 use Rattle.dkg_text.specs.Grammar.{address_at, anchor_at, block_at, blocks_at, config_at, cut_at, end_at, event_after, event_at, event_of, events_at, held_at, is_event, is_eventful, life_at, lives_at, nothing_left, opening_at, players_at, probe_at, reading_of, script_of, script_or_place, sync_at, with_place}
-use Rattle.dkg_text.specs.Laws.{IsAllowed, IsPlaceFound, IsPlace, first_line}
+use Rattle.dkg_text.specs.Laws.{Begins, IsAllowed, IsPlaceFound, IsPlace, first_line}
 use Rattle.dkg_text.specs.Lines.{Front, Reading, allowed, begins, checked, checked_at, front_of, line_at, maybe_at, row_of, some_read, ◌>=>◌}
 use Rattle.dkg_text.specs.Rows.{Row, cut_of, whole, ◌>>=◌}
 use Rattle.dkg_text.specs.Writing.{text_of}
+use Rattle.dkg_text.proofs.Begun.{begun_reading}
 use Rattle.dkg_text.proofs.ScriptLaws.{read_again}
 use Rattle.dkg_text.proofs.WholeLines.{Alike, IsLined, IsOfFront, Moves, Stopped, Stops, alike_feed, alike_more, begins_of_front, beside_rest, by_front, last_feed, lined_as, lined_done, lined_front, lined_if, lined_many, lined_refused, lined_then, moves_as, moves_front, moves_then, stops_then}
 
@@ -286,12 +287,18 @@ none_read : (r : Result Script ℕ) (left : ℕ) → r ≡ Err left → result_o
 none_read (Ok s) left e = absurd cc
 none_read (Err n) left e = refl
 
-place_of : (addressed : Bool) (bytes : List ℕ) (place left : ℕ) → reading_of addressed bytes ≡ Err left → place ≡ length bytes - left → IsPlace addressed bytes place
+front_of_place : (bytes front rest : List ℕ) (place left : ℕ) → place ≡ length bytes - left → bytes ≡ front ++ rest → length rest ≡ left → take place bytes ≡ front
+front_of_place bytes front rest place left is bytes_is size =
+    let long : place ≡ length front = omega (arith, is, size, ap length bytes_is, length-append front rest) in
+    ap (take place) bytes_is ∙ ap (λ (n : ℕ). take n (front ++ rest)) long ∙ take-append_seam front rest
+
+pub place_of : (addressed : Bool) (bytes : List ℕ) (place left : ℕ) → reading_of addressed bytes ≡ Err left → place ≡ length bytes - left → IsPlace addressed bytes place
 unfolding script_of
 place_of addressed bytes place left stops is =
     let s = stops_reading addressed bytes left stops in
+    let b = begun_reading addressed bytes left stops in
     let long : place ≡ length s.front = omega (arith, is, s.size, ap length s.is, length-append s.front s.rest) in
-    let before : take place bytes ≡ s.front = ap (take place) s.is ∙ ap (λ (n : ℕ). take n (s.front ++ s.rest)) long ∙ take-append_seam s.front s.rest in
+    let before : take place bytes ≡ s.front = front_of_place bytes s.front s.rest place left is s.is s.size in
     let after : drop place bytes ≡ s.rest = ap (drop place) s.is ∙ ap (λ (n : ℕ). drop n (s.front ++ s.rest)) long ∙ drop-append_seam s.front s.rest in
     record {
       within = omega arith;
@@ -299,6 +306,7 @@ place_of addressed bytes place left stops is =
         | inl none ↦ inl (long ∙ ap length none)
         | inr lines ↦ inr (lines.0, before ∙ lines.1)
       ];
+      begun = subst (Begins addressed) (sym (front_of_place bytes b.front b.rest place left is b.is b.size)) b.begun;
       refused = λ allowed.
           let P : List ℕ → List ℕ → Type 0 = λ front rest. IsAllowed addressed front (first_line rest) in
           goes_on_not addressed bytes left s (subst (λ (f : List ℕ). P f s.rest) before (subst (λ (r : List ℕ). P (take place bytes) r) after allowed));

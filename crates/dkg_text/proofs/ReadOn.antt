@@ -1,9 +1,11 @@
 -- Loops that read on: what was read so far, and what the rest of the text spells.
-use Rattle.std.proofs.Common.{◌≡◌, ℕ, zero, suc, ◌+◌, ◌<◌, ◌≤◌, Bool, true, false, List, [], ◌∷◌, ◌++◌, length, Result, Ok, Err, Option, Some, None, refl, sym, ap, ◌∙◌, append_assoc, append-nil, arith}
+use Rattle.std.proofs.Common.{◌≡◌, ℕ, zero, suc, ◌<◌, Bool, true, false, List, [], ◌∷◌, ◌++◌, length, Ok, Err, Option, Some, None, refl, sym, ap, subst, ◌∙◌, append_assoc, append-nil, arith}
+use Rattle.std.specs.Prelude.{IfSome}
 use Rattle.dkg_text.specs.declared.stop.Stop.{Stop}
 use Rattle.dkg_text.specs.declared.stop.Stop.TheVariants.{Line, NoMemory}
-use Rattle.dkg_text.specs.Lines.{Fails, Reading, many_from, ◌>=>◌}
+use Rattle.dkg_text.specs.Lines.{Fails, Reading, ReadsIf, many_from}
 use Rattle.dkg_text.specs.Rows.{all_of, ◌>>=◌}
+use Rattle.dkg_text.proofs.Guards.{some_is}
 
 -- what is left to read, and so many lines at most
 pub record IsLeft {A : Type 0} (goes_on : List ℕ → Bool) (read : List A → List ℕ → Reading A) (done : List A) (text : List ℕ) (all : Reading (List A)) : Type 0 where
@@ -43,9 +45,29 @@ module _ {A : Type 0} (goes_on : List ℕ → Bool) (read : List A → List ℕ 
   refused done text all (Line n) left on fails = sym left.spells ∙ from_refused left.most done text n on fails left.fits
   refused done text all NoMemory left on fails = tt
 
+  -- the same, by what a call answered that reads no more than a text that goes on so
+  pub more_if : (done : List A) (text rest : List ℕ) (o : Option A) (x : A) (all : Reading (List A)) → IsLeft goes_on read done text all → o ≡ Some x → ReadsIf goes_on (read done) text (Ok o) rest
+      → IfSome o (λ _. length rest < length text) → IsLeft goes_on read (done ++ x ∷ []) rest all
+  more_if done text rest (Some y) x all left is reads shorter =
+      let same : y ≡ x = some_is y x is in
+      subst (λ (z : A). IsLeft goes_on read (done ++ z ∷ []) rest all) same (more done text rest y all left reads.0 reads.1 shorter)
+  more_if done text rest None x all left is reads shorter = absurd cc
+
+  pub ends_if : (done : List A) (text rest : List ℕ) (o : Option A) (all : Reading (List A)) → IsLeft goes_on read done text all → o ≡ None → ReadsIf goes_on (read done) text (Ok o) rest → all ≡ Ok (done, rest)
+  ends_if done text rest (Some y) all left is reads = absurd cc
+  ends_if done text rest None all left is reads = ends done text all left reads.0 ∙ ap (λ (t : List ℕ). let r : Reading (List A) = Ok (done, t) in r) (sym reads.1)
+
+  pub refused_if : (done : List A) (text rest : List ℕ) (all : Reading (List A)) (stop : Stop) → IsLeft goes_on read done text all → ReadsIf goes_on (read done) text (Err stop) rest → Fails stop all
+  refused_if done text rest all stop left reads = refused done text all stop left reads.0 reads.1
+
   -- all is left at the beginning
   pub begin : (text : List ℕ) → IsLeft goes_on read [] text (many_from goes_on read (suc (length text)) [] text)
   begin text = record { most = suc (length text); fits = omega arith; spells = refl }
+
+-- nothing was read, so all is left
+pub kept_if : {A : Type 0} (goes_on : List ℕ → Bool) (read : List ℕ → Reading A) (text left : List ℕ) (o : Option A) → o ≡ None → ReadsIf goes_on read text (Ok o) left → left ≡ text
+kept_if goes_on read text left (Some x) is reads = absurd cc
+kept_if goes_on read text left None is reads = reads.1
 
 -- FIELDS, by the same steps
 

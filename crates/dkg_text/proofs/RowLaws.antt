@@ -1,5 +1,5 @@
 -- Each row of fields has one spelling for each value.
-use Rattle.std.proofs.Common.{◌≡◌, ℕ, ◌<◌, ◌≤◌, ◌^◌, ◌&&◌, Bool, true, false, cond, List, [], ◌∷◌, ◌++◌, length, decimal, Option, Some, None, refl, sym, ap, subst, ◌∙◌, append_assoc, append-nil, arith, nat_lt}
+use Rattle.std.proofs.Common.{◌≡◌, ℕ, ◌<◌, ◌^◌, ◌&&◌, List, [], ◌∷◌, ◌++◌, length, decimal, Option, Some, refl, sym, ap, subst, ◌∙◌, append_assoc, append-nil, arith, nat_lt}
 use Rattle.std.specs.List.{flat_map, AllByRecursion}
 use Rattle.std.proofs.lemmas.Bool.{and_parts, lt-ltb, ltb-true}
 use Rattle.std.proofs.lemmas.Grind.{flat_map-append}
@@ -10,7 +10,7 @@ use Rattle.dkg_values.specs.Rising.{rises}
 use Rattle.dkg_text.specs.Allowed.{Is16, Is32, IsAddress, IsKeys, IsSocket}
 use Rattle.dkg_text.specs.Fields.{number_field, word_field}
 use Rattle.dkg_text.specs.Rows.{Row, address_row, all, all_of, as_set, beside, field, four, nothing, number_below, second_socket, set_row, socket_row, three, two, ◌>>=◌}
-use Rattle.dkg_text.specs.Spells.{AreFieldTexts, IsField, IsFieldText, IsLastRow, IsRow, IsSpelt, IsSpeltLast, spaced}
+use Rattle.dkg_text.specs.Spells.{AreFieldTexts, IsField, IsLastRow, IsRow, IsSpeltLast, spaced}
 use Rattle.dkg_text.specs.Writing.{address_fields, numbers_fields, socket_fields}
 use Rattle.dkg_text.proofs.FieldLaws.{below_law}
 use Rattle.dkg_text.proofs.Guards.{bind_some, if_some, some_is}

@@ -1,8 +1,8 @@
 -- A whole script and its text.
-use Rattle.std.proofs.Common.{◌≡◌, ℕ, ◌<◌, ◌≤◌, ◌^◌, ◌&&◌, Bool, true, false, cond, not, List, [], ◌∷◌, ◌++◌, length, is_some, Option, Some, None, Result, Ok, Err, refl, sym, ap, subst, ◌∙◌, append_assoc, append-nil, length-append, arith}
-use Rattle.std.specs.Prelude.{codes, IfSome}
+use Rattle.std.proofs.Common.{◌≡◌, ℕ, ◌<◌, ◌≤◌, ◌^◌, Bool, false, List, [], ◌∷◌, ◌++◌, length, is_some, Option, Some, Result, Ok, Err, refl, sym, ap, subst, ◌∙◌, append_assoc, length-append, arith}
+use Rattle.std.specs.Prelude.{codes}
 use Rattle.std.specs.Int.NonZero.{non_zero_u32_get, non_zero_u64_get}
-use Rattle.std.specs.List.{flat_map, list_any}
+use Rattle.std.specs.List.{flat_map}
 use Rattle.std.specs.Result.{result_ok}
 use Rattle.std.specs.Str.{bytes_eq}
 use Rattle.hex.specs.Hex.{IsBytes}
@@ -18,11 +18,11 @@ use Rattle.dkg_text.specs.declared.script.ProbeLine.{ProbeLine}
 use Rattle.dkg_text.specs.declared.script.Script.{Script}
 use Rattle.dkg_text.specs.declared.script.ScriptConfig.{ScriptConfig}
 use Rattle.dkg_text.specs.declared.script.SyncLine.{SyncLine}
-use Rattle.dkg_text.specs.Allowed.{AreHeld, Is32, Is64, IsAddressLine, IsAnchor, IsBlockLine, IsConfig, IsCut, IsEventAfter, IsKeys, IsLife, IsOpening, IsPlayerLine, IsProbeLine, IsScript, IsSyncLine}
+use Rattle.dkg_text.specs.Allowed.{Is32, Is64, IsAddressLine, IsBlockLine, IsConfig, IsEventAfter, IsKeys, IsLife, IsOpening, IsPlayerLine, IsProbeLine, IsScript}
 use Rattle.dkg_text.specs.Fields.{bytes_field, number_field}
 use Rattle.dkg_text.specs.Grammar.{address_at, anchor_at, block_at, blocks_at, config_at, cut_at, end_at, event_at, events_at, held_at, is_eventful, life_at, limit_from, lives_at, nothing_left, opening_at, players_at, probe_at, reading_of, script_of, sync_at, version_one}
 use Rattle.dkg_text.specs.Laws.{IsReadAgain, IsWrittenAgain}
-use Rattle.dkg_text.specs.Lines.{Reading, begins, checked_at, line_at, many_at, maybe_at, ◌>=>◌}
+use Rattle.dkg_text.specs.Lines.{begins, checked_at, line_at, many_at, maybe_at}
 use Rattle.dkg_text.specs.Positive.{positive_64}
 use Rattle.dkg_text.specs.Rows.{bytes_of, field, mode_of, nothing, number_below, number_of, set_row, two, version_of}
 use Rattle.dkg_text.specs.Spells.{FitAfter, IsLine}
@@ -54,32 +54,32 @@ front a t u v is then_is = is ∙ ap (λ (x : List ℕ). a ++ x) then_is
 
 -- THE LINES THAT EVERY SCRIPT HAS
 
-record FitsOpening (o : Opening) : Type 0 where
-  me : Is32 o.me
-  blocks : Is64 (non_zero_u64_get o.blocks_per_epoch)
-  limit : non_zero_u32_get o.limit ≤ 2 ^ 30
-  version : o.modes.1.0 < 2
-  namespace : IsBytes o.namespace
+pub record FitsOpening (o : Opening) : Type 0 where
+  pub me : Is32 o.me
+  pub blocks : Is64 (non_zero_u64_get o.blocks_per_epoch)
+  pub limit : non_zero_u32_get o.limit ≤ 2 ^ 30
+  pub version : o.modes.1.0 < 2
+  pub namespace : IsBytes o.namespace
 
-abbrev dkg_line : List ℕ
+abbrev pub dkg_line : List ℕ
 dkg_line = ended (codes "dkg" ++ number_field 1)
 
-abbrev me_line : Opening → List ℕ
+abbrev pub me_line : Opening → List ℕ
 me_line o = ended (codes "me" ++ number_field o.me)
 
-abbrev blocks_line : Opening → List ℕ
+abbrev pub blocks_line : Opening → List ℕ
 blocks_line o = ended (codes "blocks" ++ number_field (non_zero_u64_get o.blocks_per_epoch))
 
-abbrev limit_line : Opening → List ℕ
+abbrev pub limit_line : Opening → List ℕ
 limit_line o = ended (codes "limit" ++ number_field (non_zero_u32_get o.limit))
 
-abbrev space_line : Opening → List ℕ
+abbrev pub space_line : Opening → List ℕ
 space_line o = ended (codes "space" ++ bytes_field o.namespace)
 
-abbrev lines_of : Opening → List ℕ
+abbrev pub lines_of : Opening → List ℕ
 lines_of o = (dkg_line ++ (me_line o ++ blocks_line o)) ++ (limit_line o ++ (modes_line o.modes ++ space_line o))
 
-opening_found : (text : List ℕ) (o : Opening) (rest : List ℕ) → opening_at text ≡ Ok (o, rest) → FitsOpening o × (text ≡ lines_of o ++ rest)
+pub opening_found : (text : List ℕ) (o : Opening) (rest : List ℕ) → opening_at text ≡ Ok (o, rest) → FitsOpening o × (text ≡ lines_of o ++ rest)
 unfolding opening_at
 opening_found text o rest e =
     let v = bind_ok (checked_at (codes "dkg") (field number_of) version_one text) _ (o, rest) e in
@@ -116,19 +116,19 @@ opening_again o rest fit = ap opening_at (six dkg_line (me_line o) (blocks_line 
 
 -- THE CONFIGURATION
 
-abbrev oneshot_text : Option (List ℕ) → List ℕ
+abbrev pub oneshot_text : Option (List ℕ) → List ℕ
 oneshot_text o = text_or_none oneshot_line o
 
-abbrev players_text : List PlayerLine → List ℕ
+abbrev pub players_text : List PlayerLine → List ℕ
 players_text xs = flat_map players_line xs
 
-abbrev addresses_text : List (ℕ × Address) → List ℕ
+abbrev pub addresses_text : List (ℕ × Address) → List ℕ
 addresses_text xs = flat_map address_line xs
 
-abbrev probe_text : Option ProbeLine → List ℕ
+abbrev pub probe_text : Option ProbeLine → List ℕ
 probe_text o = text_or_none probe_line o
 
-config_found : (addressed : Bool) (text : List ℕ) (config : ScriptConfig) (rest : List ℕ) → config_at addressed text ≡ Ok (config, rest) → IsConfig addressed config × (text ≡ config_text config ++ rest)
+pub config_found : (addressed : Bool) (text : List ℕ) (config : ScriptConfig) (rest : List ℕ) → config_at addressed text ≡ Ok (config, rest) → IsConfig addressed config × (text ≡ config_text config ++ rest)
 unfolding config_at
 config_found addressed text config rest e =
     let o = bind_ok (opening_at text) _ (config, rest) e in
@@ -215,22 +215,22 @@ module _ (addressed : Bool) (config : ScriptConfig) (fit : IsConfig addressed co
 -- A LIFE
 
 module _ (addressed : Bool) (config : ScriptConfig) (blocks : List BlockLine) where
-  abbrev anchor_text : Option Anchor → List ℕ
+  abbrev pub anchor_text : Option Anchor → List ℕ
   anchor_text o = text_or_none anchor_line o
 
-  abbrev sync_text : Option SyncLine → List ℕ
+  abbrev pub sync_text : Option SyncLine → List ℕ
   sync_text o = text_or_none sync_line o
 
-  abbrev events_text : List Event → List ℕ
+  abbrev pub events_text : List Event → List ℕ
   events_text xs = flat_map event_line xs
 
-  abbrev cut_text : Option Cut → List ℕ
+  abbrev pub cut_text : Option Cut → List ℕ
   cut_text o = text_or_none cut_line o
 
-  abbrev word_line : ℕ → List ℕ
+  abbrev pub word_line : ℕ → List ℕ
   word_line n = ended (codes "life" ++ number_field n)
 
-  abbrev stop_line : ℕ → List ℕ
+  abbrev pub stop_line : ℕ → List ℕ
   stop_line n = ended (codes "stop" ++ number_field n)
 
   life_found : (text : List ℕ) (life : Life) (rest : List ℕ) → life_at addressed config blocks text ≡ Ok (life, rest) → IsLife addressed config blocks life × (text ≡ life_text life ++ rest)
@@ -324,7 +324,7 @@ module _ (addressed : Bool) (config : ScriptConfig) (blocks : List BlockLine) wh
         subst (HasName (codes "life")) (sym (append_assoc (word_line life.word) (anchor_text life.anchor ++ (held_line life.held ++ (sync_text life.sync ++ (events_text life.events ++ (cut_text life.cut ++ stop_line life.pick))))) rest))
         (number_line_named (codes "life") refl life.word ((anchor_text life.anchor ++ (held_line life.held ++ (sync_text life.sync ++ (events_text life.events ++ (cut_text life.cut ++ stop_line life.pick))))) ++ rest) fit.word)
 
-  life_law : IsLine (IsLife addressed config blocks) life_text (life_at addressed config blocks)
+  pub life_law : IsLine (IsLife addressed config blocks) life_text (life_at addressed config blocks)
   life_law = record { found = life_found; again = λ life rest fit. life_again life rest fit }
 
   life_long : (life : Life) → 0 < length (life_text life)
@@ -336,7 +336,7 @@ module _ (addressed : Bool) (config : ScriptConfig) (blocks : List BlockLine) wh
 
 -- THE LAST LINE
 
-end_line_law : IsLine (λ (x : Unit {0}). Unit {0}) (λ x. ended (codes "end")) (line_at (codes "end") nothing)
+pub end_line_law : IsLine (λ (x : Unit {0}). Unit {0}) (λ x. ended (codes "end")) (line_at (codes "end") nothing)
 end_line_law = line_law (codes "end") (plain_name (codes "end") refl) (λ (x : Unit {0}). Unit {0}) (λ x. []) nothing nothing_law
 
 end_found : (text : List ℕ) (x : Unit {0}) → end_at text ≡ Ok x → text ≡ ended (codes "end")

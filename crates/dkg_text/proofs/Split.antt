@@ -1,6 +1,5 @@
 -- The fields of a line, and the line of some fields.
-use Rattle.std.proofs.Common.{◌≡◌, ℕ, zero, suc, ◌+◌, ◌<◌, ◌==◌, Bool, Bor, true, false, cond, List, [], ◌∷◌, ◌++◌, length, Option, Some, None, is_some, not, refl, sym, ap, subst, ◌∙◌, append_assoc, append-nil, length-append, arith}
-use Rattle.std.specs.List.{flat_map}
+use Rattle.std.proofs.Common.{◌≡◌, ℕ, ◌==◌, Bool, Bor, true, false, cond, List, [], ◌∷◌, ◌++◌, Option, Some, None, is_some, not, refl, sym, ap, subst, ◌∙◌, append-nil, arith}
 use Rattle.std.proofs.lemmas.Bool.{eqb-true, ne_eqb}
 use Rattle.dkg_text.specs.Fields.{word_field}
 use Rattle.dkg_text.specs.Lines.{Front, front_of, named}

@@ -97,7 +97,7 @@ refused_none : {A : Type 0} (text : List ℕ) (o : Option A) (left : ℕ) → al
 refused_none text None left e = refl
 refused_none text (Some x) left e = absurd cc
 
-refused_at : {A : Type 0} (text : List ℕ) (o : Option A) (left : ℕ) → allowed text o ≡ Err left → length text ≡ left
+pub refused_at : {A : Type 0} (text : List ℕ) (o : Option A) (left : ℕ) → allowed text o ≡ Err left → length text ≡ left
 refused_at text None left e = cc
 refused_at text (Some x) left e = absurd cc
 
@@ -155,7 +155,7 @@ lined_refused {A} = record {
 
 -- ONE AFTER THE OTHER
 
-bind_err : {A B : Type 0} (r : Result A ℕ) (f : A → Result B ℕ) (left : ℕ) → (r >=> f) ≡ Err left → (r ≡ Err left) ⊎ ((x : A) × (r ≡ Ok x) × (f x ≡ Err left))
+pub bind_err : {A B : Type 0} (r : Result A ℕ) (f : A → Result B ℕ) (left : ℕ) → (r >=> f) ≡ Err left → (r ≡ Err left) ⊎ ((x : A) × (r ≡ Ok x) × (f x ≡ Err left))
 bind_err (Ok x) f left e = inr (x, refl, e)
 bind_err {A} (Err n) f left e = inl (let same : n ≡ left = cc in ap (λ (m : ℕ). let r : Result A ℕ = Err m in r) same)
 

@@ -1,5 +1,5 @@
 -- What a payload is: a log or an info, under limits.
-use Rattle.std.specs.Prelude.{ℕ, ◌^◌, Bool, true, false, if◌then◌else◌, List, length, Option, Some, None, option_map}
+use Rattle.std.specs.Prelude.{ℕ, ◌^◌, Bool, true, false, if◌then◌else◌, List, length, Option, Some, option_map}
 use Rattle.std.specs.Result.{result_ok}
 use Rattle.std.specs.Str.{bytes_eq}
 use Rattle.dkg_values.specs.Codec.{whole}

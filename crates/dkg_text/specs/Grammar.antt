@@ -1,14 +1,10 @@
 -- Which bytes are a script, which script they spell, and which is the first line that no script has after the lines before it.
-use Rattle.std.specs.Prelude.{◌≡◌, ℕ, zero, suc, ◌+◌, ◌-◌, ◌^◌, ◌==◌, ◌&&◌, nat_lt, not, max, is_some, slice_get, Bool, true, false, if◌then◌else◌, List, [], ◌∷◌, length, map, Option, Some, None, Result, Ok, Err, codes}
+use Rattle.std.specs.Prelude.{◌≡◌, ℕ, ◌+◌, ◌-◌, ◌^◌, ◌==◌, ◌&&◌, nat_lt, not, max, is_some, slice_get, Bool, true, if◌then◌else◌, List, [], ◌∷◌, length, map, Option, Some, None, Result, Ok, Err, codes}
 use Rattle.std.specs.Int.NonZero.{non_zero_u32_get}
 use Rattle.std.specs.Option.{option_map_or}
 use Rattle.std.specs.Result.{result_ok}
-use Rattle.std.specs.Str.{bytes_eq}
 use Rattle.std.specs.declared.num.NonZeroU32.{NonZeroU32}
-use Rattle.std.specs.declared.num.NonZeroU64.{NonZeroU64}
 use Rattle.dkg_values.specs.Rising.{keys_of, rises}
-use Rattle.dkg_ceremony.specs.declared.mode.Mode.{Mode}
-use Rattle.dkg_ceremony.specs.declared.mode.ModeVersion.{ModeVersion}
 use Rattle.dkg_types.specs.declared.addresses.Address.{Address}
 use Rattle.dkg_text.specs.declared.config_lines.Opening.{Opening}
 use Rattle.dkg_text.specs.declared.error.ScriptError.{ScriptError}
@@ -27,7 +23,7 @@ use Rattle.dkg_text.specs.declared.script.ScriptConfig.{ScriptConfig}
 use Rattle.dkg_text.specs.declared.script.SyncLine.{SyncLine}
 use Rattle.dkg_text.specs.Asked.{is_asked}
 use Rattle.dkg_text.specs.Carried.{carried, is_info}
-use Rattle.dkg_text.specs.Lines.{Reading, allowed, begins, checked, checked_at, front_of, line_at, many_at, maybe_at, some_read, Front, ◌>=>◌}
+use Rattle.dkg_text.specs.Lines.{Reading, allowed, begins, by_name, checked_at, front_of, line_at, many_at, maybe_at, some_read, Front, ◌>=>◌}
 use Rattle.dkg_text.specs.Positive.{positive_32, positive_64}
 use Rattle.dkg_text.specs.Rows.{Row, address_row, all, beside, bytes_of, dash_or, field, four, mode_of, nothing, number_below, number_of, set_row, three, two, version_of, whole, ◌>>=◌}
 
@@ -141,28 +137,31 @@ blocks_at addressed config = many_at (begins (codes "block")) (block_at addresse
 abbrev pub event_row : {A : Type 0} → Row A → (A → Event) → List (List ℕ) → Option Event
 event_row row make fields = whole (row fields) >>= λ x. Some (make x)
 
--- the events of the node, by their names
-unfoldable pub event_of : (name : List ℕ) (fields : List (List ℕ)) → Option Event
-event_of name fields =
-    if bytes_eq name (codes "peer") then event_row (two key_of bytes_of) (λ x. Peer x.0 x.1) fields
-    else (if bytes_eq name (codes "final") then event_row (field index_of) Final fields
-    else (if bytes_eq name (codes "next") then event_row (two number_of number_of) (λ x. Next x.0 x.1) fields
-    else (if bytes_eq name (codes "release") then event_row (field number_of) Release fields
-    else (if bytes_eq name (codes "info") then event_row (field number_of) Info fields
-    else (if bytes_eq name (codes "feed") then event_row (two number_of index_of) (λ x. Feed x.0 x.1) fields
-    else (if bytes_eq name (codes "over") then event_row (field number_of) Over fields
-    else (if bytes_eq name (codes "cancel") then event_row (field number_of) Cancel fields
-    else (if bytes_eq name (codes "work") then event_row nothing (λ x. Work) fields
-    else (if bytes_eq name (codes "prepare") then event_row (all index_of) Prepare fields
-    else (if bytes_eq name (codes "propose") then event_row (all index_of) Propose fields
-    else (if bytes_eq name (codes "verify") then event_row (all index_of) Verify fields
-    else (if bytes_eq name (codes "later") then event_row (two key_of number_of) (λ x. Later x.0 x.1) fields
-    else (if bytes_eq name (codes "subscribe") then event_row nothing (λ x. Subscribe) fields
-    else (if bytes_eq name (codes "unsubscribe") then event_row nothing (λ x. Unsubscribe) fields
-    else (if bytes_eq name (codes "attach") then event_row nothing (λ x. Attach) fields
-    else (if bytes_eq name (codes "reply") then event_row (two key_of bytes_of) (λ x. Reply x.0 x.1) fields
-    else (if bytes_eq name (codes "retry") then event_row nothing (λ x. Retry) fields
-    else None)))))))))))))))))
+-- the events of the node: the name of a line, what its fields spell, and what that makes
+unfoldable pub event_table : List (List ℕ × (List (List ℕ) → Option Event))
+event_table =
+    (codes "peer", event_row (two key_of bytes_of) (λ x. Peer x.0 x.1))
+    ∷ (codes "final", event_row (field index_of) Final)
+    ∷ (codes "next", event_row (two number_of number_of) (λ x. Next x.0 x.1))
+    ∷ (codes "release", event_row (field number_of) Release)
+    ∷ (codes "info", event_row (field number_of) Info)
+    ∷ (codes "feed", event_row (two number_of index_of) (λ x. Feed x.0 x.1))
+    ∷ (codes "over", event_row (field number_of) Over)
+    ∷ (codes "cancel", event_row (field number_of) Cancel)
+    ∷ (codes "work", event_row nothing (λ x. Work))
+    ∷ (codes "prepare", event_row (all index_of) Prepare)
+    ∷ (codes "propose", event_row (all index_of) Propose)
+    ∷ (codes "verify", event_row (all index_of) Verify)
+    ∷ (codes "later", event_row (two key_of number_of) (λ x. Later x.0 x.1))
+    ∷ (codes "subscribe", event_row nothing (λ x. Subscribe))
+    ∷ (codes "unsubscribe", event_row nothing (λ x. Unsubscribe))
+    ∷ (codes "attach", event_row nothing (λ x. Attach))
+    ∷ (codes "reply", event_row (two key_of bytes_of) (λ x. Reply x.0 x.1))
+    ∷ (codes "retry", event_row nothing (λ x. Retry))
+    ∷ []
+
+abbrev pub event_of : (name : List ℕ) (fields : List (List ℕ)) → Option Event
+event_of = by_name event_table
 
 -- whether all are numbers of blocks
 abbrev pub are_blocks : (blocks : ℕ) → List ℕ → Bool

@@ -1,5 +1,7 @@
 -- The text of a script, the script of a text, and the place at which a text stops being one.
-use Rattle.std.specs.Prelude.{◌≡◌, ◌≤◌, ◌⊎◌, ◌==◌, ℕ, Bool, List, [], ◌∷◌, ◌++◌, length, take, drop, Some, None, Err, if◌then◌else◌}
+use Rattle.std.specs.Prelude.{◌≡◌, ◌≤◌, ◌⊎◌, ◌==◌, ℕ, Bool, List, [], ◌∷◌, ◌++◌, length, take, drop, Some, None, Result, Err, if◌then◌else◌}
+use Rattle.dkg_text.specs.declared.error.ScriptError.{ScriptError}
+use Rattle.dkg_text.specs.declared.error.ScriptError.TheVariants.{Bad}
 use Rattle.dkg_text.specs.declared.script.Script.{Script}
 use Rattle.dkg_text.specs.Allowed.{IsScript}
 use Rattle.dkg_text.specs.Grammar.{script_of, script_or_place}
@@ -32,12 +34,19 @@ pub record Begins (addressed : Bool) (front : List ℕ) : Type 0 where
 abbrev pub IsAllowed : (addressed : Bool) (before line : List ℕ) → Type 0
 IsAllowed addressed before line = ((body : List ℕ) × (line ≡ body ++ 10 ∷ [])) × Begins addressed (before ++ line)
 
--- The bytes are no script, and a line begins at the place, or would, with which no script goes on after the lines before it.
+-- The bytes are no script: some script's text begins with the lines before the place, and at the place a line begins, or would, with
+-- which no script's text goes on after them.
 pub record IsPlace (addressed : Bool) (bytes : List ℕ) (place : ℕ) : Type 0 where
   pub within : place ≤ length bytes
   pub at_line : (place ≡ 0) ⊎ ((lines : List ℕ) × (take place bytes ≡ lines ++ 10 ∷ []))
+  pub begun : Begins addressed (take place bytes)
   pub refused : IsAllowed addressed (take place bytes) (first_line (drop place bytes)) → ⊥
   pub missing : script_of addressed bytes ≡ None
+
+-- what a reading answered tells such a place
+abbrev pub TellsPlace : (addressed : Bool) (bytes : List ℕ) → Result Script ScriptError → Type 0
+TellsPlace addressed bytes (Err (Bad place)) = IsPlace addressed bytes place
+TellsPlace addressed bytes _ = Unit {0}
 
 abbrev pub IsPlaceFound : Type 0
 IsPlaceFound = (addressed : Bool) (bytes : List ℕ) (place : ℕ) → script_or_place addressed bytes ≡ Err place → IsPlace addressed bytes place

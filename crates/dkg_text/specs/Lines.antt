@@ -1,5 +1,5 @@
 -- The lines of a text, one after another, each ended by a line feed.
-use Rattle.std.specs.Prelude.{◌≡◌, ℕ, zero, suc, ◌-◌, Bool, true, false, if◌then◌else◌, List, [], ◌∷◌, ◌++◌, length, Option, Some, None, Result, Ok, Err}
+use Rattle.std.specs.Prelude.{◌≡◌, ℕ, zero, suc, Bool, true, false, if◌then◌else◌, List, [], ◌∷◌, ◌++◌, length, Option, Some, None, Result, Ok, Err}
 use Rattle.std.specs.Option.{option_map_or}
 use Rattle.std.specs.Str.{bytes_eq}
 use Rattle.dkg_text.specs.declared.stop.Stop.{Stop}
@@ -29,6 +29,12 @@ Reads reading (Err stop) left = Fails stop reading
 abbrev pub Gives : {A : Type 0} → Result A ℕ → Result A Stop → Type 0
 Gives reading (Ok x) = reading ≡ Ok x
 Gives reading (Err stop) = Fails stop reading
+
+-- what a call answered and left that reads on where the text goes on so, and else reads nothing
+abbrev pub ReadsIf : {A : Type 0} → (goes_on : List ℕ → Bool) → (read : List ℕ → Reading A) → (text : List ℕ) → Result (Option A) Stop → (left : List ℕ) → Type 0
+ReadsIf goes_on read text (Ok (Some x)) left = (goes_on text ≡ true) × (read text ≡ Ok (x, left))
+ReadsIf goes_on read text (Ok None) left = (goes_on text ≡ false) × (left ≡ text)
+ReadsIf goes_on read text (Err stop) left = (goes_on text ≡ true) × Fails stop (read text)
 
 -- the same, for what a call answered seen by view
 abbrev pub ReadsBy : {X A : Type 0} → (X → A) → Reading A → Result X Stop → List ℕ → Type 0
@@ -60,6 +66,11 @@ allowed text None = Err (length text)
 -- what the fields of a line spell, all of them
 abbrev pub row_of : {A : Type 0} → (name : List ℕ) → Row A → Front → Option (A × List ℕ)
 row_of name row line = if bytes_eq line.0 name then (whole (row line.1.0) >>= λ x. Some (x, line.1.1)) else None
+
+-- what the fields of a line make by a table: a row has a line's name, and what its fields make
+abbrev pub by_name : {A : Type 0} → (table : List (List ℕ × (List (List ℕ) → Option A))) → (name : List ℕ) (fields : List (List ℕ)) → Option A
+by_name [] name fields = None
+by_name (row ∷ rows) name fields = if bytes_eq name row.0 then row.1 fields else by_name rows name fields
 
 -- a line of this name and these fields
 unfoldable pub line_at : {A : Type 0} → (name : List ℕ) → Row A → List ℕ → Reading A

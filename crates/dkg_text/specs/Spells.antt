@@ -1,5 +1,5 @@
 -- One spelling for each value: of a field, of a row of fields, and of the lines that stand in front of a text.
-use Rattle.std.specs.Prelude.{◌≡◌, ℕ, List, [], ◌∷◌, ◌++◌, Option, Some, None, Result, Ok, Err}
+use Rattle.std.specs.Prelude.{◌≡◌, ℕ, List, [], ◌∷◌, ◌++◌, Option, Some, Ok}
 use Rattle.std.specs.List.{flat_map, AllByRecursion}
 use Rattle.dkg_text.specs.Fields.{word_field}
 use Rattle.dkg_text.specs.Lines.{Reading}

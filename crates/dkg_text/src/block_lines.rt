@@ -1,8 +1,8 @@
 //! The lines of a script's blocks: each names an earlier one as its parent, or none, and may carry a payload.
-ghost use Rattle.std.specs.Prelude.{◌≡◌, ◌<◌, OnOk, IfOk, length};
+ghost use Rattle.std.specs.Prelude.{◌≡◌, ◌<◌, IfOk, IfSome, codes, length};
 ghost use Rattle.std.specs.Int.NonZero.{non_zero_u32_get};
 ghost use Rattle.dkg_text.specs.Grammar.{block_at, blocks_at, is_parent as is_parent_of, is_payload as is_payload_of, limit_of};
-ghost use Rattle.dkg_text.specs.Lines.{Reads};
+ghost use Rattle.dkg_text.specs.Lines.{Reads, ReadsIf, begins};
 
 use crate::lines::Lines;
 use crate::payload::carried_by;
@@ -50,7 +50,7 @@ fn is_payload(
     }
 }
 
-/// `block H P V PAYLOAD`: a block after others; its parent P and its payload may be dashes.
+/// `block H P V PAYLOAD`: a block after others, where there is a line of it; its parent P and its payload may be dashes.
 #[tactic(auto, unfolding(crate::specs::Grammar::block_at))]
 fn read_block_after(
     alloc: Global,
@@ -58,20 +58,22 @@ fn read_block_after(
     config: &ScriptConfig,
     done: &[BlockLine],
     lines: &mut Lines<'_>,
-) -> Result<BlockLine, Stop>
-    ensures reads { Reads (block_at addressed config.now done.now lines.old.rest.now) result lines.new.rest.now }
-    ensures on { OnOk result (length lines.new.rest.now < length lines.old.rest.now) }
+) -> Result<Option<BlockLine>, Stop>
+    ensures reads { ReadsIf (begins (codes "block")) (block_at addressed config.now done.now) lines.old.rest.now result lines.new.rest.now }
+    ensures on { IfOk result (λ made. IfSome made (λ _. length lines.new.rest.now < length lines.old.rest.now)) }
 {
-    let (height, parent, view, payload): (Height, Option<u32>, u64, Option<Blob>) = lines.take(
-        alloc, b"block",
-    )?;
+    let Some((height, parent, view, payload)): Option<(Height, Option<u32>, u64, Option<Blob>)> =
+        lines.take_if(alloc, b"block")?
+    else {
+        return Ok(None);
+    };
     if is_parent(done.len(), parent) && is_payload(alloc, addressed, config, &payload)? {
-        Ok(BlockLine {
+        Ok(Some(BlockLine {
             height,
             parent,
             view,
             payload,
-        })
+        }))
     } else {
         Err(lines.refused())
     }
@@ -88,8 +90,7 @@ pub(crate) fn read_blocks(
     ensures { Reads (blocks_at addressed config.now lines.old.rest.now) result lines.new.rest.now }
 {
     let mut blocks = Vec::new(alloc);
-    'more: while lines.is_at(b"block") {
-        let block = read_block_after(alloc, addressed, config, &blocks, lines)?;
+    'more: while let Some(block) = read_block_after(alloc, addressed, config, &blocks, lines)? {
         blocks.push(block)?;
     }
     Ok(BlockLines::new(blocks))

@@ -1,9 +1,9 @@
 //! The lines of a script's configuration, from the version to the probe.
-ghost use Rattle.std.specs.Prelude.{◌≡◌, ◌+◌, ◌<◌, ◌^◌, IfOk, IsTrue, OnOk, codes, length, map};
+ghost use Rattle.std.specs.Prelude.{◌≡◌, ◌+◌, ◌<◌, ◌^◌, IfOk, IfSome, IsTrue, codes, length, map};
 ghost use Rattle.std.specs.List.Sorted.{IsStrictlyIncreasing};
 ghost use Rattle.dkg_values.specs.Rising.{keys_of};
 ghost use Rattle.dkg_text.specs.Grammar.{address_at, config_at, is_above, limit_from, opening_at, players_at, probe_at};
-ghost use Rattle.dkg_text.specs.Lines.{Reads, ReadsBy, begins, line_at, many_at, maybe_at};
+ghost use Rattle.dkg_text.specs.Lines.{Reads, ReadsBy, ReadsIf, begins, line_at, many_at, maybe_at};
 ghost use Rattle.dkg_text.specs.Positive.{positive_32, positive_64};
 ghost use Rattle.dkg_text.specs.Rows.{set_row};
 
@@ -82,11 +82,7 @@ fn read_opening(alloc: Global, lines: &mut Lines<'_>) -> Result<Opening, Stop>
 fn read_oneshot(alloc: Global, lines: &mut Lines<'_>) -> Result<Option<Set>, Stop>
     ensures { Reads (maybe_at (codes "oneshot") (line_at (codes "oneshot") set_row) lines.old.rest.now) result lines.new.rest.now }
 {
-    if lines.is_at(b"oneshot") {
-        Ok(Some(lines.take(alloc, b"oneshot")?))
-    } else {
-        Ok(None)
-    }
+    lines.take_if(alloc, b"oneshot")
 }
 
 /// Whether an epoch is above the last one of some lines.
@@ -99,19 +95,21 @@ fn is_above_players(done: &[PlayerLine], epoch: Epoch) -> bool
     }
 }
 
-/// `players E K ..`: an epoch's players, keys rising, after those of lower epochs.
+/// `players E K ..`: an epoch's players, keys rising, after those of lower epochs, where there is a line of them.
 #[tactic(auto, unfolding(crate::specs::Grammar::players_at))]
 fn read_players_after(
     alloc: Global,
     done: &[PlayerLine],
     lines: &mut Lines<'_>,
-) -> Result<PlayerLine, Stop>
-    ensures reads { Reads (players_at done.now lines.old.rest.now) result lines.new.rest.now }
-    ensures on { OnOk result (length lines.new.rest.now < length lines.old.rest.now) }
+) -> Result<Option<PlayerLine>, Stop>
+    ensures reads { ReadsIf (begins (codes "players")) (players_at done.now) lines.old.rest.now result lines.new.rest.now }
+    ensures on { IfOk result (λ made. IfSome made (λ _. length lines.new.rest.now < length lines.old.rest.now)) }
 {
-    let (epoch, players) = lines.take(alloc, b"players")?;
+    let Some((epoch, players)) = lines.take_if(alloc, b"players")? else {
+        return Ok(None);
+    };
     if is_above_players(done, epoch) {
-        Ok(PlayerLine { epoch, players })
+        Ok(Some(PlayerLine { epoch, players }))
     } else {
         Err(lines.refused())
     }
@@ -122,8 +120,7 @@ fn read_players(alloc: Global, lines: &mut Lines<'_>) -> Result<PlayerLines, Sto
     ensures { Reads (many_at (begins (codes "players")) players_at lines.old.rest.now) result lines.new.rest.now }
 {
     let mut players = Vec::new(alloc);
-    'players: while lines.is_at(b"players") {
-        let line = read_players_after(alloc, &players, lines)?;
+    'players: while let Some(line) = read_players_after(alloc, &players, lines)? {
         players.push(line)?;
     }
     Ok(PlayerLines::new(players))
@@ -139,21 +136,23 @@ fn is_above_keys(done: &[(Key, Address)], key: Key) -> bool
     }
 }
 
-/// `address K IP PORT` or `address K IP PORT IP PORT`: where a key is reached, after those of lower keys.
+/// `address K IP PORT` or `address K IP PORT IP PORT`: where a key is reached, after those of lower keys, where there is a line of it.
 #[tactic(auto, unfolding(crate::specs::Grammar::address_at))]
 fn read_address_after(
     alloc: Global,
     done: &[(Key, Address)],
     lines: &mut Lines<'_>,
-) -> Result<(Key, Address), Stop>
-    ensures reads { Reads (address_at done.now lines.old.rest.now) result lines.new.rest.now }
-    ensures on { OnOk result (length lines.new.rest.now < length lines.old.rest.now) }
-    ensures above { IfOk result (λ line. IsTrue (is_above (keys_of done.now) line.0)) }
-    ensures few { OnOk result (length done.now + 1 < 2 ^ 32) }
+) -> Result<Option<(Key, Address)>, Stop>
+    ensures reads { ReadsIf (begins (codes "address")) (address_at done.now) lines.old.rest.now result lines.new.rest.now }
+    ensures on { IfOk result (λ made. IfSome made (λ _. length lines.new.rest.now < length lines.old.rest.now)) }
+    ensures above { IfOk result (λ made. IfSome made (λ line. IsTrue (is_above (keys_of done.now) line.0))) }
+    ensures few { IfOk result (λ made. IfSome made (λ _. length done.now + 1 < 2 ^ 32)) }
 {
-    let (key, address) = lines.take(alloc, b"address")?;
+    let Some((key, address)) = lines.take_if(alloc, b"address")? else {
+        return Ok(None);
+    };
     if is_above_keys(done, key) && done.len() < u32::MAX as usize {
-        Ok((key, address))
+        Ok(Some((key, address)))
     } else {
         Err(lines.refused())
     }
@@ -165,8 +164,7 @@ fn read_address_pairs(alloc: Global, lines: &mut Lines<'_>) -> Result<Vec<(Key, 
     ensures few { IfOk result (λ pairs. length pairs.items < 2 ^ 32) }
 {
     let mut pairs = Vec::new(alloc);
-    'pairs: while lines.is_at(b"address") {
-        let pair = read_address_after(alloc, &pairs, lines)?;
+    'pairs: while let Some(pair) = read_address_after(alloc, &pairs, lines)? {
         pairs.push(pair)?;
     }
     Ok(pairs)
@@ -189,11 +187,12 @@ fn read_probe(
 ) -> Result<Option<ProbeLine>, Stop>
     ensures { Reads (maybe_at (codes "probe") (probe_at addressed) lines.old.rest.now) result lines.new.rest.now }
 {
-    if !lines.is_at(b"probe") {
+    let Some((checkpoint, floor, checkpoint_info, genesis_info)): Option<
+        (Epoch, Option<Epoch>, Blob, Blob),
+    > = lines.take_if(alloc, b"probe")?
+    else {
         return Ok(None);
-    }
-    let (checkpoint, floor, checkpoint_info, genesis_info): (Epoch, Option<Epoch>, Blob, Blob) =
-        lines.take(alloc, b"probe")?;
+    };
     if is_info(alloc, addressed, checkpoint_info.as_slice())?
         && is_info(alloc, addressed, genesis_info.as_slice())?
     {

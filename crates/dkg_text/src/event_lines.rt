@@ -1,9 +1,10 @@
 //! The lines of a life's events: a table of their names and fields, and what an event must meet where it stands.
-ghost use Rattle.std.specs.Prelude.{◌≡◌, ◌<◌, ◌≤◌, ◌↔◌, All, IfOk, IsTrue, List, OnOk, length};
+ghost use Rattle.std.specs.Prelude.{◌≡◌, ◌<◌, ◌≤◌, ◌↔◌, ◌||◌, All, IfOk, IfSome, IsTrue, List, OnOk, codes, length};
+ghost use Rattle.std.specs.Str.{bytes_eq};
 ghost use Rattle.dkg_text.specs.declared.script.Event.{Event as AnEvent};
 ghost use Rattle.dkg_text.specs.Asked.{AreAsked};
-ghost use Rattle.dkg_text.specs.Grammar.{are_blocks as are_blocks_of, event_at, event_of as event_by_name, events_at, is_event as is_event_of, is_eventful as is_eventful_of};
-ghost use Rattle.dkg_text.specs.Lines.{Reads};
+ghost use Rattle.dkg_text.specs.Grammar.{are_blocks as are_blocks_of, event_at, event_of as event_by_name, events_at, is_event as is_event_of, is_eventful};
+ghost use Rattle.dkg_text.specs.Lines.{Reads, ReadsIf};
 
 use crate::asked::Asked;
 use crate::fields::{Fields, whole};
@@ -13,79 +14,41 @@ use crate::stop::Stop;
 use dkg_ceremony::{Blob, Epoch, Height, Key, Mem};
 use std::alloc::Global;
 
+/// A table of lines: a name, what the fields of such a line spell, and what that makes. No other line makes anything.
+macro_rules! by_name {
+    ($alloc:ident, $name:ident, $fields:ident; $($word:literal: $row:ty => $make:expr,)*) => {
+        $(
+            if $name == $word.as_slice() {
+                return Ok(whole::<$row>($alloc, $fields)?.map($make));
+            }
+        )*
+    };
+}
+
 /// The event of a line, by its name and its fields.
-#[tactic(auto, unfolding(crate::specs::Grammar::event_of))]
+#[tactic(auto, unfolding(crate::specs::Grammar::event_table))]
 fn event_of(alloc: Global, name: &[u8], fields: Fields<'_>) -> Mem<Option<Event>>
     ensures { IfOk result (λ made. made ≡ event_by_name name.now fields.entry) }
 {
-    if name == b"peer".as_slice() {
-        return Ok(whole::<(Key, Blob)>(alloc, fields)?.map(|(from, bytes)| Event::Peer {
-            from,
-            bytes,
-        }));
-    }
-    if name == b"final".as_slice() {
-        return Ok(whole::<u32>(alloc, fields)?.map(|block| Event::Final { block }));
-    }
-    if name == b"next".as_slice() {
-        return Ok(whole::<(u64, Height)>(alloc, fields)?.map(|(request, height)| Event::Next {
-            request,
-            height,
-        }));
-    }
-    if name == b"release".as_slice() {
-        return Ok(whole::<Height>(alloc, fields)?.map(|height| Event::Release { height }));
-    }
-    if name == b"info".as_slice() {
-        return Ok(whole::<u64>(alloc, fields)?.map(|request| Event::Info { request }));
-    }
-    if name == b"feed".as_slice() {
-        return Ok(whole::<(u64, u32)>(alloc, fields)?.map(|(request, block)| Event::Feed {
-            request,
-            block,
-        }));
-    }
-    if name == b"over".as_slice() {
-        return Ok(whole::<u64>(alloc, fields)?.map(|request| Event::Over { request }));
-    }
-    if name == b"cancel".as_slice() {
-        return Ok(whole::<u64>(alloc, fields)?.map(|request| Event::Cancel { request }));
-    }
-    if name == b"work".as_slice() {
-        return Ok(whole::<()>(alloc, fields)?.map(|()| Event::Work));
-    }
-    if name == b"prepare".as_slice() {
-        return Ok(whole::<Indexes>(alloc, fields)?.map(|ancestry| Event::Prepare { ancestry }));
-    }
-    if name == b"propose".as_slice() {
-        return Ok(whole::<Indexes>(alloc, fields)?.map(|ancestry| Event::Propose { ancestry }));
-    }
-    if name == b"verify".as_slice() {
-        return Ok(whole::<Indexes>(alloc, fields)?.map(|ancestry| Event::Verify { ancestry }));
-    }
-    if name == b"later".as_slice() {
-        return Ok(whole::<(Key, Epoch)>(alloc, fields)?.map(|(from, epoch)| Event::Later {
-            from,
-            epoch,
-        }));
-    }
-    if name == b"subscribe".as_slice() {
-        return Ok(whole::<()>(alloc, fields)?.map(|()| Event::Subscribe));
-    }
-    if name == b"unsubscribe".as_slice() {
-        return Ok(whole::<()>(alloc, fields)?.map(|()| Event::Unsubscribe));
-    }
-    if name == b"attach".as_slice() {
-        return Ok(whole::<()>(alloc, fields)?.map(|()| Event::Attach));
-    }
-    if name == b"reply".as_slice() {
-        return Ok(whole::<(Key, Blob)>(alloc, fields)?.map(|(from, bytes)| Event::Reply {
-            from,
-            bytes,
-        }));
-    }
-    if name == b"retry".as_slice() {
-        return Ok(whole::<()>(alloc, fields)?.map(|()| Event::Retry));
+    by_name! { alloc, name, fields;
+        b"peer": (Key, Blob) => |(from, bytes)| Event::Peer { from, bytes },
+        b"final": u32 => |block| Event::Final { block },
+        b"next": (u64, Height) => |(request, height)| Event::Next { request, height },
+        b"release": Height => |height| Event::Release { height },
+        b"info": u64 => |request| Event::Info { request },
+        b"feed": (u64, u32) => |(request, block)| Event::Feed { request, block },
+        b"over": u64 => |request| Event::Over { request },
+        b"cancel": u64 => |request| Event::Cancel { request },
+        b"work": () => |()| Event::Work,
+        b"prepare": Indexes => |ancestry| Event::Prepare { ancestry },
+        b"propose": Indexes => |ancestry| Event::Propose { ancestry },
+        b"verify": Indexes => |ancestry| Event::Verify { ancestry },
+        b"later": (Key, Epoch) => |(from, epoch)| Event::Later { from, epoch },
+        b"subscribe": () => |()| Event::Subscribe,
+        b"unsubscribe": () => |()| Event::Unsubscribe,
+        b"attach": () => |()| Event::Attach,
+        b"reply": (Key, Blob) => |(from, bytes)| Event::Reply { from, bytes },
+        b"retry": () => |()| Event::Retry,
     }
     Ok(None)
 }
@@ -129,38 +92,40 @@ fn is_event(around: Around, asked: &Asked, event: &Event) -> bool
     }
 }
 
-/// Reads the line of an event after others, which named these requests.
-#[tactic(auto, unfolding(crate::specs::Grammar::event_at))]
+/// Whether the line of this name ends a life's events: its cut or its stop.
+fn is_end(name: &[u8]) -> bool
+    ensures { result ≡ (bytes_eq name.now (codes "cut") || bytes_eq name.now (codes "stop")) }
+{
+    name == b"cut".as_slice() || name == b"stop".as_slice()
+}
+
+/// Reads the line of an event after others, which named these requests, up to the life's cut or its stop.
+#[tactic(auto, unfolding(crate::specs::Grammar::event_at, crate::specs::Grammar::is_eventful, crate::specs::Lines::begins))]
 fn read_event_after(
     alloc: Global,
     around: Around,
     asked: &Asked,
     lines: &mut Lines<'_>,
-) -> Result<Event, Stop>
-    ensures reads { (done : List AnEvent) → AreAsked done asked.now.numbers → Reads (event_at around.blocks around.probe done lines.old.rest.now) result lines.new.rest.now }
-    ensures on { OnOk result (length lines.new.rest.now < length lines.old.rest.now) }
+) -> Result<Option<Event>, Stop>
+    ensures reads { (done : List AnEvent) → AreAsked done asked.now.numbers → ReadsIf is_eventful (event_at around.blocks around.probe done) lines.old.rest.now result lines.new.rest.now }
+    ensures on { IfOk result (λ made. IfSome made (λ _. length lines.new.rest.now < length lines.old.rest.now)) }
 {
     let Some(line) = lines.front() else {
-        return Err(Stop::Line(lines.rest.len()));
+        return Err(lines.stopped());
     };
+    if is_end(line.name) {
+        return Ok(None);
+    }
     let behind = line.behind;
     let Some(event) = event_of(alloc, line.name, line.fields)? else {
-        return Err(Stop::Line(lines.rest.len()));
+        return Err(lines.stopped());
     };
     if is_event(around, asked, &event) {
         lines.pass(behind);
-        Ok(event)
+        Ok(Some(event))
     } else {
-        Err(Stop::Line(lines.rest.len()))
+        Err(lines.stopped())
     }
-}
-
-/// Whether the line in front goes on with a life's events: up to its cut or its stop.
-#[tactic(auto, unfolding(crate::specs::Grammar::is_eventful))]
-fn is_eventful(lines: &Lines<'_>) -> bool
-    ensures { result ≡ is_eventful_of lines.now.rest.now }
-{
-    !lines.is_at(b"cut") && !lines.is_at(b"stop")
 }
 
 /// The events of a life.
@@ -175,8 +140,7 @@ pub(crate) fn read_events(
 {
     let mut events = Vec::new(alloc);
     let mut asked = Asked::new(alloc);
-    'events: while is_eventful(lines) {
-        let event = read_event_after(alloc, around, &asked, lines)?;
+    'events: while let Some(event) = read_event_after(alloc, around, &asked, lines)? {
         asked.add(&event)?;
         events.push(event)?;
     }

@@ -13,7 +13,7 @@ pub fn read_is_written()
     ensures { IsWrittenAgain }
 {}
 
-/// A text that is no script's is one up to its place, where a line begins with which no script's text goes on.
+/// Some script's text begins with the lines before the place of a text that is no script's, and none's goes on with the line there.
 pub fn place_is_first()
     ensures { IsPlaceFound }
 {}

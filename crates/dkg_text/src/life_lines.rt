@@ -51,10 +51,10 @@ fn read_anchor(
     ensures reads { Reads (anchor_at blocks.now lines.old.rest.now) result lines.new.rest.now }
     ensures on { OnOk result (length lines.new.rest.now ≤ length lines.old.rest.now) }
 {
-    let anchor = if lines.is_at(b"processed") {
-        processed(blocks, lines.take(alloc, b"processed")?)
-    } else if lines.is_at(b"absent") {
-        absent(blocks, lines.take(alloc, b"absent")?)
+    let anchor = if let Some(number) = lines.take_if(alloc, b"processed")? {
+        processed(blocks, number)
+    } else if let Some(number) = lines.take_if(alloc, b"absent")? {
+        absent(blocks, number)
     } else {
         return Ok(None);
     };
@@ -101,10 +101,10 @@ fn read_held(alloc: Global, blocks: usize, lines: &mut Lines<'_>) -> Result<Inde
     ensures reads { Reads (held_at blocks lines.old.rest.now) result lines.new.rest.now }
     ensures on { OnOk result (length lines.new.rest.now ≤ length lines.old.rest.now) }
 {
-    if !lines.is_at(b"held") {
+    let Some(numbers) = lines.take_if(alloc, b"held")? else {
         return Ok(Indexes::new(Vec::new(alloc)));
-    }
-    match held(blocks, lines.take(alloc, b"held")?) {
+    };
+    match held(blocks, numbers) {
         Some(held) => Ok(held),
         None => Err(lines.refused()),
     }
@@ -120,13 +120,15 @@ fn read_sync(
     ensures reads { Reads (sync_at known.now.addressed (is_some known.now.config.now.oneshot) (length known.now.blocks.now) lines.old.rest.now) result lines.new.rest.now }
     ensures on { OnOk result (length lines.new.rest.now ≤ length lines.old.rest.now) }
 {
-    if !lines.is_at(b"sync") {
+    let Some((info, epoch, view, block)): Option<(Blob, Epoch, u64, u32)> = lines.take_if(
+        alloc, b"sync",
+    )?
+    else {
         return Ok(None);
-    }
+    };
     if known.config.oneshot.is_some() {
-        return Err(Stop::Line(lines.rest.len()));
+        return Err(lines.refused());
     }
-    let (info, epoch, view, block): (Blob, Epoch, u64, u32) = lines.take(alloc, b"sync")?;
     if (block as usize) < known.blocks.len() && is_info(alloc, known.addressed, info.as_slice())? {
         Ok(Some(SyncLine {
             info,
@@ -157,10 +159,10 @@ fn read_cut(alloc: Global, events: usize, lines: &mut Lines<'_>) -> Result<Optio
     ensures reads { Reads (cut_at events lines.old.rest.now) result lines.new.rest.now }
     ensures on { OnOk result (length lines.new.rest.now ≤ length lines.old.rest.now) }
 {
-    if !lines.is_at(b"cut") {
+    let Some(line) = lines.take_if(alloc, b"cut")? else {
         return Ok(None);
-    }
-    match cut(events, lines.take(alloc, b"cut")?) {
+    };
+    match cut(events, line) {
         Some(cut) => Ok(Some(cut)),
         None => Err(lines.refused()),
     }

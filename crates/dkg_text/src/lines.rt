@@ -3,7 +3,7 @@
 //! The readers of a script look at the line in front, take it where it is one of theirs, and refuse it where what it spells is not
 //! allowed there.
 ghost use Rattle.std.specs.Prelude.{◌≡◌, ◌<◌, IfSome, IfOk, MatchOption, None, OnOk, Some, length};
-ghost use Rattle.dkg_text.specs.Lines.{Reads, begins, front_of, line_at, named, row_of};
+ghost use Rattle.dkg_text.specs.Lines.{Reads, ReadsIf, begins, front_of, line_at, named, row_of};
 ghost use Rattle.dkg_text.specs.Rows.{whole as whole_of};
 
 use crate::fields::{Fields, Row, cut, whole};
@@ -42,17 +42,6 @@ fn front(text: &[u8]) -> Option<Line<'_>>
     })
 }
 
-/// What all fields of a line of this name spell.
-fn row<T: Row + Drop>(alloc: Global, name: &[u8], line: Line<'_>) -> Mem<Option<T>>
-    ensures { IfOk result (λ made. MatchOption made (row_of name.now T.spells (line.entry.name.now, (line.entry.fields, line.entry.behind.now)) ≡ None) (λ x. row_of name.now T.spells (line.entry.name.now, (line.entry.fields, line.entry.behind.now)) ≡ Some (x, line.entry.behind.now))) }
-{
-    if line.name == name {
-        whole(alloc, line.fields)
-    } else {
-        Ok(None)
-    }
-}
-
 impl<'a> Lines<'a> {
     pub(crate) fn new(text: &'a [u8]) -> Lines<'a>
         ensures { result.rest.now ≡ text.now }
@@ -82,6 +71,13 @@ impl<'a> Lines<'a> {
         }
     }
 
+    /// That the line in front is not allowed.
+    pub(crate) fn stopped(&self) -> Stop
+        ensures { result ≡ Stop.Line (length self.now.rest.now) }
+    {
+        Stop::Line(self.rest.len())
+    }
+
     /// That the line taken last is not allowed.
     pub(crate) fn refused(&self) -> Stop
         ensures { result ≡ Stop.Line (length self.now.taken.now) }
@@ -98,21 +94,42 @@ impl<'a> Lines<'a> {
         self.rest = behind;
     }
 
+    /// Reads the line in front where it has this name, looking at it once.
+    #[tactic(auto, unfolding(crate::specs::Lines::line_at, crate::specs::Lines::begins))]
+    pub(crate) fn take_if<T: Row + Drop>(
+        &mut self,
+        alloc: Global,
+        name: &[u8],
+    ) -> Result<Option<T>, Stop>
+        ensures reads { ReadsIf (begins name.now) (line_at name.now T.spells) self.old.rest.now result self.new.rest.now }
+        ensures taken { IfOk result (λ made. IfSome made (λ _. self.new.taken.now ≡ self.old.rest.now)) }
+        ensures on { IfOk result (λ made. IfSome made (λ _. length self.new.rest.now < length self.old.rest.now)) }
+    {
+        let Some(line) = front(self.rest) else {
+            return Ok(None);
+        };
+        if line.name == name {
+            let behind = line.behind;
+            let Some(value) = whole(alloc, line.fields)? else {
+                return Err(self.stopped());
+            };
+            self.pass(behind);
+            Ok(Some(value))
+        } else {
+            Ok(None)
+        }
+    }
+
     /// Reads a line of this name.
-    #[tactic(auto, unfolding(crate::specs::Lines::line_at))]
+    #[tactic(auto, unfolding(crate::specs::Lines::line_at, crate::specs::Lines::begins))]
     pub(crate) fn take<T: Row + Drop>(&mut self, alloc: Global, name: &[u8]) -> Result<T, Stop>
         ensures reads { Reads (line_at name.now T.spells self.old.rest.now) result self.new.rest.now }
         ensures taken { OnOk result (self.new.taken.now ≡ self.old.rest.now) }
         ensures on { OnOk result (length self.new.rest.now < length self.old.rest.now) }
     {
-        let Some(line) = front(self.rest) else {
-            return Err(Stop::Line(self.rest.len()));
-        };
-        let behind = line.behind;
-        let Some(value) = row(alloc, name, line)? else {
-            return Err(Stop::Line(self.rest.len()));
-        };
-        self.pass(behind);
-        Ok(value)
+        match self.take_if(alloc, name)? {
+            Some(value) => Ok(value),
+            None => Err(self.stopped()),
+        }
     }
 }

@@ -1,6 +1,7 @@
 //! The reading of a script's text, line by line; the program calls it on the bytes that it was given.
 ghost use Rattle.std.specs.Prelude.{◌≡◌, length};
 ghost use Rattle.dkg_text.specs.Grammar.{Answers, end_at, reading_of, script_or_place};
+ghost use Rattle.dkg_text.specs.Laws.{TellsPlace};
 ghost use Rattle.dkg_text.specs.Lines.{Gives};
 
 use crate::block_lines::read_blocks;
@@ -54,7 +55,9 @@ fn read_lines(alloc: Global, addressed: bool, lines: &mut Lines<'_>) -> Result<S
 /// `Bad` names the first line that no script has after the lines before it.
 #[tactic(auto, unfolding(crate::specs::Grammar::script_or_place))]
 pub fn read_script(alloc: Global, bytes: &[u8], addressed: bool) -> Result<Script, ScriptError>
-    ensures { Answers (script_or_place addressed bytes.now) result }
+    ensures reads { Answers (script_or_place addressed bytes.now) result }
+    // Some script's text begins with the lines before the place that is told, and none's goes on with the line there.
+    ensures place { TellsPlace addressed bytes.now result }
 {
     let mut lines = Lines::new(bytes);
     match read_lines(alloc, addressed, &mut lines) {

@@ -38,6 +38,7 @@ returns-in_err-store-clause-tells g c = λ fixed lent life today seats fresh.
       seen = read.seen;
       shareless = read.shareless;
       unplanned = read.unplanned;
+      listed = read.listed;
       given = given_untold Records (Life g.row.Dir.Denot) c.in_err-store.field-0.0 (IsTrue g.D.Disk.tells) (IsTrue g.X.SecretStore.tells) (epoch_at (g.B.BlockSource.answers c.args.source.now) c.args.terms.now - 1) read.seen.dealings (g.D.Disk.image c.open_store.new.devices.disk.now) (g.X.SecretStore.held c.open_store.new.devices.secrets.now) read.given;
       so = none_beside nothing_beside _ _ tt (opening_untold (reading read.seen fixed) (record { reshare = today.reshare; bare = today.bare }) (λ h. read.unplanned) (λ h. read.seen) refl c.args.number fixed.opening_calls life refl c.in_err-store.field-0.0 read.so);
     })
@@ -70,6 +71,7 @@ returns-in_err-set_up-clause-tells g c = λ fixed lent life today seats fresh.
       seen = read.seen;
       shareless = read.shareless;
       unplanned = read.unplanned;
+      listed = read.listed;
       given = given_stopped (IsTrue g.D.Disk.tells) (IsTrue g.X.SecretStore.tells) _ (epoch_at (g.B.BlockSource.answers c.args.source.now) c.args.terms.now - 1) (ap (λ (l : Life g.row.Dir.Denot). epoch_above c.args.terms.now l.tip - 1) c.begin-life.ensures) read.seen.dealings (g.D.Disk.files c.open_store.new.devices.disk.now) (g.D.Disk.image c.open_store.new.devices.disk.now) (g.D.Disk.image c.set_up.new.devices.disk.now) (g.X.SecretStore.held c.open_store.new.devices.secrets.now) (g.X.SecretStore.held c.set_up.new.devices.secrets.now) (λ told. g.met.D.Disk.reads c.open_store.new.devices.disk.now told) read.given (Unit {0}) (Life g.row.Dir.Denot) c.in_err-set_up.field-0.0 c.in_err-set_up.ensures.gives;
       so = beside_as (λ more took. took) (λ now told. opening_told (reading read.seen fixed) (record { reshare = today.reshare; bare = today.bare }) (λ h. read.unplanned) (λ h. read.seen) refl c.args.number fixed.opening_calls life refl (g.B.BlockSource.answers c.args.source.now) lent.lent c.args.fence.now fresh c.in_ok-store.store c.in_ok-store.ensures.current c.begin-life.result c.begin-life.ensures (by_stop c.in_err-set_up.field-0.0) read.so told)
           (c.in_err-set_up.ensures.tells (reading read.seen fixed) nothing_beside (reading_lent c.args.terms.now (g.B.BlockSource.answers c.args.source.now) c.args.word fixed read.seen read.shareless read.unplanned lent) seats);
@@ -99,6 +101,7 @@ returns-clause-tells g c = λ fixed lent life today seats fresh.
       seen = read.seen;
       shareless = read.shareless;
       unplanned = read.unplanned;
+      listed = read.listed;
       given = given_behind (IsTrue g.D.Disk.tells) (IsTrue g.X.SecretStore.tells) _ (epoch_at (g.B.BlockSource.answers c.args.source.now) c.args.terms.now - 1) (ap (λ (l : Life g.row.Dir.Denot). epoch_above c.args.terms.now l.tip - 1) c.begin-life.ensures) read.seen.dealings (g.D.Disk.files c.open_store.new.devices.disk.now) (g.D.Disk.image c.open_store.new.devices.disk.now) (g.D.Disk.image c.set_up.new.devices.disk.now) (g.X.SecretStore.held c.open_store.new.devices.secrets.now) (g.X.SecretStore.held c.set_up.new.devices.secrets.now) (λ told. g.met.D.Disk.reads c.open_store.new.devices.disk.now told) read.given c.in_ok-set_up.ensures.gives;
       so = beside_as (λ more took. took) (λ now told. opening_told (reading read.seen fixed) (record { reshare = today.reshare; bare = today.bare }) (λ h. read.unplanned) (λ h. read.seen) refl c.args.number fixed.opening_calls life refl (g.B.BlockSource.answers c.args.source.now) lent.lent c.args.fence.now fresh c.in_ok-store.store c.in_ok-store.ensures.current c.begin-life.result c.begin-life.ensures (went (live_of now c.set_up.new.fence c.set_up.new.life)) read.so told)
           (c.in_ok-set_up.ensures.tells (reading read.seen fixed) nothing_beside (reading_lent c.args.terms.now (g.B.BlockSource.answers c.args.source.now) c.args.word fixed read.seen read.shareless read.unplanned lent) seats);
@@ -131,3 +134,9 @@ returns-clause-live g c = λ disk secrets sound.
     c.in_ok-set_up.ensures.agrees disk secrets (made.made.stands sound.stands)
     (subst (λ (s : Store g.row.Dir.Denot). AreAgreed (records_of s) (held_in (g.D.Disk.files c.open_store.new.devices.disk.now) (g.X.SecretStore.held c.open_store.new.devices.secrets.now))) (sym (ap (λ (l : Life g.row.Dir.Denot). l.store) c.begin-life.ensures))
     (store_agrees g.row.Dir.Denot c.args.number (length (open_calls (g.D.Disk.files c.args.devices.now.disk.now))) (records_of c.in_ok-store.store) made (g.met.D.Disk.reads c.open_store.new.devices.disk.now disk) sound.stands sound.whole))
+
+pub returns-in_err-set_up-clause-shut : goal.returns-in_err-set_up-clause-shut
+returns-in_err-set_up-clause-shut g c = λ told. let its = (c.in_ok-store.ensures.readable told).ok in record { images = λ no. absurd (no its); same = λ no. absurd (no its) }
+
+pub returns-clause-shut : goal.returns-clause-shut
+returns-clause-shut g c = λ told. let its = (c.in_ok-store.ensures.readable told).ok in record { images = λ no. absurd (no its); same = λ no. absurd (no its) }

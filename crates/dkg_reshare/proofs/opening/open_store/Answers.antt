@@ -141,6 +141,7 @@ returns-clause-tells g c = λ calls.
       seen = seen_of c.in_ok-store.store;
       shareless = refl;
       unplanned = refl;
+      listed = (c.in_ok-store.store.dealings, refl);
       given = λ disk secrets. given_back c.in_ok-store.store _ _ _ _ (c.in_ok-store.ensures.recovered disk secrets) (c.in_ok-store.ensures.settled_entries disk) c.init.ensures.same;
       so = opened_told c.in_ok-store.store c.args.life calls line;
     }
@@ -148,3 +149,15 @@ returns-clause-tells g c = λ calls.
 pub returns-clause-open : goal.returns-clause-open
 returns-clause-open g c = λ told.
     record { open_on = c.in_ok-store.ensures.open told; lands = c.in_ok-store.ensures.lands told }
+
+pub returns-in_err-store-clause-shut : goal.returns-in_err-store-clause-shut
+returns-in_err-store-clause-shut g c = λ told. record { images = λ no. c.init.ensures.images told; same = λ no. c.init.ensures.same }
+
+pub returns-in_err-restored-clause-shut : goal.returns-in_err-restored-clause-shut
+returns-in_err-restored-clause-shut g c = λ told. record { images = λ no. c.init.ensures.images told; same = λ no. c.init.ensures.same }
+
+pub returns-in_err-push-clause-shut : goal.returns-in_err-push-clause-shut
+returns-in_err-push-clause-shut g c = λ told. record { images = λ no. c.init.ensures.images told; same = λ no. c.init.ensures.same }
+
+pub returns-clause-shut : goal.returns-clause-shut
+returns-clause-shut g c = λ told. record { images = λ no. c.init.ensures.images told; same = λ no. c.init.ensures.same }

@@ -17,6 +17,9 @@ pub returns-in_err-blocks-clause-lines : goal.returns-in_err-blocks-clause-lines
 returns-in_err-blocks-clause-lines g c = let p = err_from_is_err_and c.from_residual.result c.from_residual.ensures.1 in
     rw (p.1, p.2) ([], went_none _ _ _ _ _ g.met.D.Disk.made_none g.met.X.SecretStore.made_none _ _ refl refl, inl (refl, refl))
 
+pub returns-in_err-blocks-clause-bytes : goal.returns-in_err-blocks-clause-bytes
+returns-in_err-blocks-clause-bytes g c = let p = err_from_is_err_and c.from_residual.result c.from_residual.ensures.1 in rw (p.1, p.2) (inl refl)
+
 pub loop-i-init : goal.loop-i-init
 loop-i-init g c = record {
   lines = ([], went_none _ _ _ _ _ g.met.D.Disk.made_none g.met.X.SecretStore.made_none _ _ refl refl, lives_first by_lines c.args.script.now AnyFiles _ _);
@@ -31,7 +34,7 @@ loop-i-init g c = record {
 pub run_life-requires-clause-here : goal.run_life-requires-clause-here
 run_life-requires-clause-here g c =
     let life_is : slice_get c.args.script.now.lives c.loop-i.i ≡ Some c.life-item.result = rw (← c.as_slice-life-items.ensures) (item_here _ _ _ c.loop-i-test.true c.life-item.is) in
-    (life_is, c.deref.ensures.value ∙ c.in_ok-blocks.ensures)
+    (life_is, c.deref.ensures.value ∙ c.in_ok-blocks.ensures.blocks)
 
 pub returns-in_err-run_life-clause-lines : goal.returns-in_err-run_life-clause-lines
 returns-in_err-run_life-clause-lines g c =
@@ -52,6 +55,10 @@ returns-in_err-run_life-clause-run g c =
     rw (p.1, p.2) (λ disk secrets stands image left.
     inr (lives_stop by_worlds c.args.script.now (λ files. files ≡ g.D.Disk.files c.args.devices.now.disk.now) c.args.script.now.lives old c.loop-i.i (λ files. files ≡ g.D.Disk.files c.loop-i.devices.disk.now)
     c.life-item.result life_is here (c.loop-i.invariant.run disk secrets stands) _ _ (c.in_err-run_life.ensures.run disk secrets (c.loop-i.invariant.stands disk stands) image left)))
+
+pub returns-in_err-run_life-clause-bytes : goal.returns-in_err-run_life-clause-bytes
+returns-in_err-run_life-clause-bytes g c =
+    let p = err_from_is_err_and c.from_residual-in_err-run_life.result c.from_residual-in_err-run_life.ensures.1 in rw (p.1, p.2) (inr c.in_ok-blocks.ensures.bytes)
 
 pub loop-i-preserved : goal.loop-i-preserved
 loop-i-preserved g c =

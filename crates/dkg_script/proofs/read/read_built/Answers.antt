@@ -1,5 +1,12 @@
 use Rattle.std.proofs.Common.{◌∙◌, sym}
+use Rattle.std.proofs.lemmas.Result.{err_from_is_err_and}
+use Rattle.dkg_script.proofs.ToldPlaces.{told_as_read}
 use Rattle.dkg_script.proofs.read.read_built.Goals as goal
 
 pub returns-else-branch-clause-reads : goal.returns-else-branch-clause-reads
-returns-else-branch-clause-reads c = (c.in_ok-script.script, c.in_ok-script.ensures, sym c.in_ok-is_built.ensures.exact ∙ c.if-branch.false)
+returns-else-branch-clause-reads c = (c.in_ok-script.script, c.in_ok-script.ensures.reads, sym c.in_ok-is_built.ensures.exact ∙ c.if-branch.false)
+
+pub returns-in_err-script-clause-place : goal.returns-in_err-script-clause-place
+returns-in_err-script-clause-place c =
+    let p = err_from_is_err_and c.from_residual.result c.from_residual.ensures.1 in
+    rw (p.1, p.2) (told_as_read c.args.addressed c.args.bytes.now c.in_err-script.field-0.0 c.in_err-script.ensures.place)

@@ -1,4 +1,4 @@
-use Rattle.std.proofs.Common.{◌≡◌, ◌<◌, ◌≤◌, ◌^◌, ℕ, List, length}
+use Rattle.std.proofs.Common.{length}
 use Rattle.std.specs.Prelude.{codes}
 use Rattle.dkg_text.specs.Grammar.{block_at}
 use Rattle.dkg_text.specs.Lines.{begins, many_at}

@@ -1,6 +1,6 @@
-use Rattle.std.proofs.Common.{◌≡◌, ◌<◌, ◌≤◌, ◌^◌, ℕ, List, length}
+use Rattle.std.proofs.Common.{◌≤◌, length}
 use Rattle.dkg_text.specs.Grammar.{is_eventful, event_at}
-use Rattle.dkg_text.specs.Lines.{begins, many_at}
+use Rattle.dkg_text.specs.Lines.{many_at}
 use Rattle.dkg_text.proofs.ReadOn.{IsLeft}
 use Rattle.dkg_text.specs.Asked.{AreAsked}
 use Rattle.dkg_text.proofs.event_lines.read_events.Given as goal

@@ -1,4 +1,4 @@
-use Rattle.std.proofs.Common.{◌≡◌, ◌∙◌, sym, ap, List, ℕ, Some, None}
+use Rattle.std.proofs.Common.{◌∙◌, sym, ap, List, ℕ}
 use Rattle.dkg_text.specs.Rows.{all_of}
 use Rattle.dkg_text.proofs.ReadOn.{before_more, no_more, none_more, one_more}
 use Rattle.dkg_text.proofs.fields.all.Goals as goal

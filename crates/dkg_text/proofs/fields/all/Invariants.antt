@@ -1,4 +1,4 @@
-use Rattle.std.proofs.Common.{◌≡◌, ℕ, length}
+use Rattle.std.proofs.Common.{◌≡◌, length}
 use Rattle.dkg_text.specs.Rows.{all_of}
 use Rattle.dkg_text.proofs.ReadOn.{before_more}
 use Rattle.dkg_text.proofs.fields.all.Given as goal

@@ -1,8 +1,8 @@
-use Rattle.std.proofs.Common.{◌≡◌, ◌∙◌, ◌<◌, ◌^◌, ℕ, sym, ap, subst, List, length, Ok, arith}
+use Rattle.std.proofs.Common.{◌∙◌, sym, ap, Ok}
 use Rattle.std.specs.Prelude.{codes}
 use Rattle.std.proofs.lemmas.Result.{err_from_is_err_and}
 use Rattle.dkg_text.specs.Grammar.{life_at, lives_at}
-use Rattle.dkg_text.specs.Lines.{Fails, begins}
+use Rattle.dkg_text.specs.Lines.{begins}
 use Rattle.dkg_text.proofs.ReadOn.{ends, more, refused}
 use Rattle.dkg_text.proofs.life_lines.read_lives.Goals as goal
 

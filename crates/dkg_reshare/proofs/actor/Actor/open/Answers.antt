@@ -12,7 +12,7 @@ pub returns-in_err-life-clause-tells : goal.returns-in_err-life-clause-tells
 returns-in_err-life-clause-tells g c = λ fixed lent life today by fresh.
     let p = err_from_is_err_and c.from_residual.result c.from_residual.ensures.1 in
     rw (p.1, p.2) (let read = c.in_err-life.ensures.tells fixed lent life today by.seats fresh in
-    record { seen = read.seen; shareless = read.shareless; unplanned = read.unplanned; given = by_stop_alike (Life g.row.Dir.Denot) (Unit {0}) c.in_err-life.field-0.0 _ read.given; so = read.so })
+    record { seen = read.seen; shareless = read.shareless; unplanned = read.unplanned; listed = read.listed; given = by_stop_alike (Life g.row.Dir.Denot) (Unit {0}) c.in_err-life.field-0.0 _ read.given; so = read.so })
 
 pub returns-in_err-life-clause-readable : goal.returns-in_err-life-clause-readable
 returns-in_err-life-clause-readable g c = λ told.
@@ -25,7 +25,7 @@ returns-clause-acts g c = λ disk secrets fixed opening by fresh. c.in_ok-life.e
 pub returns-clause-tells : goal.returns-clause-tells
 returns-clause-tells g c = λ fixed lent life today by fresh.
     let read = c.in_ok-life.ensures.tells fixed lent life today by.seats fresh in
-    record { seen = read.seen; shareless = read.shareless; unplanned = read.unplanned; given = read.given; so = read.so }
+    record { seen = read.seen; shareless = read.shareless; unplanned = read.unplanned; listed = read.listed; given = read.given; so = read.so }
 
 pub returns-clause-readable : goal.returns-clause-readable
 returns-clause-readable g c = λ told. let its = c.in_ok-life.ensures.readable told in record { ok = its.ok; untold = its.untold }

@@ -26,14 +26,14 @@ returns-in_err-copy-clause-tells g c = λ lived number st of view.
 pub returns-in_err-step-clause-acts : goal.returns-in_err-step-clause-acts
 returns-in_err-step-clause-acts g c = λ disk secrets lived number st of view.
     let p = err_from_is_err_and c.from_residual-in_err-step.result c.from_residual-in_err-step.ensures.1 in
-    rw (p.1, p.2) (refuses c.args.self.now (record c.args.self.now { actor = c.step.new.self; fence = c.step.new.fence }) refl lived number st view c.args.block.now c.in_ok-copy.field-0 c.in_ok-copy.ensures c.in_err-step.field-0.0
+    rw (p.1, p.2) (refuses c.args.self.now (record c.args.self.now { actor = c.step.new.self; fence = c.step.new.fence }) refl lived number st view _ _ _ _ _ _ c.args.block.now c.in_ok-copy.field-0 c.in_ok-copy.ensures c.in_err-step.field-0.0
     (λ (life : reshare.Life directory.Unit). IsReadyLife g.D.Disk.tells g.D.Disk.files g.D.Disk.image acks.ack_of (c.step.new.self).terms life c.step.new.devices) c.in_err-step.ensures.ends
     (c.in_err-step.ensures.acts disk secrets _ view.beside (of.of number) (at_rules lived number)))
 
 pub returns-in_err-step-clause-tells : goal.returns-in_err-step-clause-tells
 returns-in_err-step-clause-tells g c = λ lived number st of view.
     let p = err_from_is_err_and c.from_residual-in_err-step.result c.from_residual-in_err-step.ensures.1 in
-    rw (p.1, p.2) (refuses_said c.args.self.now (record c.args.self.now { actor = c.step.new.self; fence = c.step.new.fence }) refl lived number st view c.args.block.now c.in_ok-copy.field-0 c.in_ok-copy.ensures c.in_err-step.field-0.0
+    rw (p.1, p.2) (refuses_said c.args.self.now (record c.args.self.now { actor = c.step.new.self; fence = c.step.new.fence }) refl lived number st view _ _ c.args.block.now c.in_ok-copy.field-0 c.in_ok-copy.ensures c.in_err-step.field-0.0
     (λ (life : reshare.Life directory.Unit). IsReadyLife g.D.Disk.tells g.D.Disk.files g.D.Disk.image acks.ack_of (c.step.new.self).terms life c.step.new.devices) c.in_err-step.ensures.ends
     (c.in_err-step.ensures.tells _ view.beside (of.of number) (at_rules lived number)))
 

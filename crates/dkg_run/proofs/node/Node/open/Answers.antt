@@ -1,17 +1,23 @@
-use Rattle.std.proofs.Common.{ℕ, ap, refl, subst, sym}
+use Rattle.std.proofs.Common.{ℕ, Err, Ok, ap, refl, subst, sym}
 use Rattle.std.specs.Int.NonZero.{non_zero_u32_get, non_zero_u64_get}
 use Rattle.std.proofs.lemmas.Result.{err_from_is_err_and}
 use Rattle.dkg_store.specs.Acts.{by_want}
+use Rattle.dkg_core.specs.Heard.{recovered_in}
+use Rattle.std.specs.Prelude.{IsTrue}
+use Rattle.dkg_ceremony.specs.declared.mode.Reveal.TheVariants.{V1}
 use Rattle.dkg_text.specs.declared.script.Script.{Script}
 use Rattle.dkg_reshare.specs.Actors.{AreTerms}
+use Rattle.dkg_reshare.specs.Given.{AreGivenFrom}
+use Rattle.dkg_reshare.specs.Made.{UnlessBroken}
 use Rattle.dkg_reshare.specs.Opened.{IsInGrammar}
 use Rattle.dkg_reshare.specs.Today.{seen_today}
 use Rattle.dkg_reshare.specs.declared.config.Terms.{Terms}
-use Rattle.dkg_reshare.proofs.Burning.{makes_none, unless}
+use Rattle.dkg_reshare.proofs.Burning.{makes_none}
 use Rattle.dkg_reshare.proofs.Said.{nothing_held}
-use Rattle.dkg_run.proofs.NodeOpens.{above_from, are_of, ended_acts, ended_lines, found_nothing, given_from, half_as, halted_acts, halted_lines, its, lent_is, life_with, number_is, opened_acts, opened_lines, opening_is, ready_is, today_is}
+use Rattle.dkg_run.specs.Nodes.{ended_new}
+use Rattle.dkg_run.proofs.NodeOpens.{above_from, are_of, ended_acts, ended_lines, found_nothing, given_ended, given_halted, given_opened, half_as, halted_acts, halted_lines, its, lent_is, life_with, number_is, opened_acts, opened_lines, opening_is, ready_is, today_is}
 use Rattle.dkg_run.proofs.Noding.{at_rules, of_terms, ready_node, unsaid}
-use Rattle.dkg_run.proofs.Opening.{unless_named}
+use Rattle.dkg_run.proofs.Shutting.{shut_as, shut_none}
 use Rattle.dkg_run.proofs.node.Node.open.Goals as goal
 
 pub returns-in_err-config-clause-acts : goal.returns-in_err-config-clause-acts
@@ -22,20 +28,20 @@ returns-in_err-config-clause-acts g c = λ disk secrets grammar.
 pub returns-in_err-config-clause-tells : goal.returns-in_err-config-clause-tells
 returns-in_err-config-clause-tells g c =
     let p = err_from_is_err_and c.from_residual.result c.from_residual.ensures.1 in
-    rw (p.1, p.2) (record { seen = seen_today nothing_held; shareless = refl; unplanned = refl; given = tt; so = unsaid _ by_want c.args.out.now.entries })
+    rw (p.1, p.2) (record { seen = seen_today nothing_held; shareless = refl; unplanned = refl; listed = (recovered_in nothing_held, refl); given = tt; so = unsaid _ by_want c.args.out.now.entries })
 
 pub returns-in_err-open-clause-acts : goal.returns-in_err-open-clause-acts
 returns-in_err-open-clause-acts g c = λ disk secrets grammar.
     let p = err_from_is_err_and c.from_residual-in_err-open.result c.from_residual-in_err-open.ensures.1 in
     let are = (are_of (c.in_ok-actor.actor).terms c.args.script.now.config _ _ _ _ _ _ _ c.in_ok-actor.ensures.terms c.in_ok-config.ensures.0 c.in_ok-config.ensures.1 c.in_ok-config.ensures.2 c.in_ok-config.ensures.3 c.in_ok-config.ensures.4 c.in_ok-config.ensures.5 c.in_ok-config.ensures.6) in
-    rw (p.1, p.2) (ended_acts c.args.script.now c.args.number c.args.life.now c.args.source.now (g.D.Disk.files c.args.devices.now.disk.now) c.requires.form c.requires.here c.requires.source (c.in_ok-actor.actor).terms are _ c.open.new.fence (c.open.new.self).state _ c.in_err-open.field-0.0 (c.in_err-open.ensures.acts disk secrets (its c.args.script.now c.args.number c.args.life.now c.args.source.now (g.D.Disk.files c.args.devices.now.disk.now) c.requires.form c.requires.here c.requires.source (c.in_ok-actor.actor).terms are) (opening_is c.args.script.now c.args.number c.args.life.now c.args.source.now (g.D.Disk.files c.args.devices.now.disk.now) c.requires.form c.requires.here c.requires.source (c.in_ok-actor.actor).terms are grammar) (at_rules (life_with c.args.script.now c.args.number c.args.life.now c.args.source.now (g.D.Disk.files c.args.devices.now.disk.now) c.requires.form c.requires.here c.requires.source (c.in_ok-actor.actor).terms are seen_today) 0) c.new-fence.ensures.fresh))
+    rw (p.1, p.2) (ended_acts c.args.script.now c.args.number c.args.life.now c.args.source.now (g.D.Disk.files c.args.devices.now.disk.now) c.requires.form c.requires.here c.requires.source (c.in_ok-actor.actor).terms are _ c.open.new.fence (c.open.new.self).state c.in_err-open.field-0.0 (c.in_err-open.ensures.acts disk secrets (its c.args.script.now c.args.number c.args.life.now c.args.source.now (g.D.Disk.files c.args.devices.now.disk.now) c.requires.form c.requires.here c.requires.source (c.in_ok-actor.actor).terms are) (opening_is c.args.script.now c.args.number c.args.life.now c.args.source.now (g.D.Disk.files c.args.devices.now.disk.now) c.requires.form c.requires.here c.requires.source (c.in_ok-actor.actor).terms are grammar) (at_rules (life_with c.args.script.now c.args.number c.args.life.now c.args.source.now (g.D.Disk.files c.args.devices.now.disk.now) c.requires.form c.requires.here c.requires.source (c.in_ok-actor.actor).terms are seen_today) 0) c.new-fence.ensures.fresh))
 
 pub returns-in_err-open-clause-tells : goal.returns-in_err-open-clause-tells
 returns-in_err-open-clause-tells g c =
     let p = err_from_is_err_and c.from_residual-in_err-open.result c.from_residual-in_err-open.ensures.1 in
     let are = (are_of (c.in_ok-actor.actor).terms c.args.script.now.config _ _ _ _ _ _ _ c.in_ok-actor.ensures.terms c.in_ok-config.ensures.0 c.in_ok-config.ensures.1 c.in_ok-config.ensures.2 c.in_ok-config.ensures.3 c.in_ok-config.ensures.4 c.in_ok-config.ensures.5 c.in_ok-config.ensures.6) in
-    rw (p.1, p.2) (ended_lines c.args.script.now c.args.number c.args.life.now c.args.source.now (g.D.Disk.files c.args.devices.now.disk.now) c.requires.form c.requires.here c.requires.source (c.in_ok-actor.actor).terms are _ c.open.new.fence (c.open.new.self).state _ c.in_err-open.field-0.0 _
-    (λ s given. unless_named _ _ c.in_err-open.field-0.0 _ _ (λ given told held. given_from c.args.script.now c.args.number c.args.life.now c.args.source.now (g.D.Disk.files c.args.devices.now.disk.now) c.requires.form c.requires.here c.requires.source (c.in_ok-actor.actor).terms are _ _ _ (given told held)) given) (c.in_err-open.ensures.tells (its c.args.script.now c.args.number c.args.life.now c.args.source.now (g.D.Disk.files c.args.devices.now.disk.now) c.requires.form c.requires.here c.requires.source (c.in_ok-actor.actor).terms are) (lent_is c.args.script.now c.args.number c.args.life.now c.args.source.now (g.D.Disk.files c.args.devices.now.disk.now) c.requires.form c.requires.here c.requires.source (c.in_ok-actor.actor).terms are) (number_is c.args.script.now c.args.number c.args.life.now c.args.source.now (g.D.Disk.files c.args.devices.now.disk.now) c.requires.form c.requires.here c.requires.source (c.in_ok-actor.actor).terms are) (today_is c.args.script.now c.args.number c.args.life.now c.args.source.now (g.D.Disk.files c.args.devices.now.disk.now) c.requires.form c.requires.here c.requires.source (c.in_ok-actor.actor).terms are) (at_rules (life_with c.args.script.now c.args.number c.args.life.now c.args.source.now (g.D.Disk.files c.args.devices.now.disk.now) c.requires.form c.requires.here c.requires.source (c.in_ok-actor.actor).terms are seen_today) 0) c.new-fence.ensures.fresh))
+    rw (p.1, p.2) (ended_lines c.args.script.now c.args.number c.args.life.now c.args.source.now (g.D.Disk.files c.args.devices.now.disk.now) c.requires.form c.requires.here c.requires.source (c.in_ok-actor.actor).terms are _ c.open.new.fence (c.open.new.self).state c.in_err-open.field-0.0 (λ s. UnlessBroken (ended_new (Err c.in_err-open.field-0.0)) (IsTrue g.D.Disk.tells → IsTrue g.X.SecretStore.tells → AreGivenFrom 0 s.dealings (g.D.Disk.image c.open.new.devices.disk.now) (g.X.SecretStore.held c.open.new.devices.secrets.now)))
+    (given_ended c.args.script.now c.args.number c.args.life.now c.args.source.now (g.D.Disk.files c.args.devices.now.disk.now) c.requires.form c.requires.here c.requires.source (c.in_ok-actor.actor).terms are (IsTrue g.D.Disk.tells) (IsTrue g.X.SecretStore.tells) (g.D.Disk.image c.open.new.devices.disk.now) (g.X.SecretStore.held c.open.new.devices.secrets.now) c.in_err-open.field-0.0) (c.in_err-open.ensures.tells (its c.args.script.now c.args.number c.args.life.now c.args.source.now (g.D.Disk.files c.args.devices.now.disk.now) c.requires.form c.requires.here c.requires.source (c.in_ok-actor.actor).terms are) (lent_is c.args.script.now c.args.number c.args.life.now c.args.source.now (g.D.Disk.files c.args.devices.now.disk.now) c.requires.form c.requires.here c.requires.source (c.in_ok-actor.actor).terms are) (number_is c.args.script.now c.args.number c.args.life.now c.args.source.now (g.D.Disk.files c.args.devices.now.disk.now) c.requires.form c.requires.here c.requires.source (c.in_ok-actor.actor).terms are) (today_is c.args.script.now c.args.number c.args.life.now c.args.source.now (g.D.Disk.files c.args.devices.now.disk.now) c.requires.form c.requires.here c.requires.source (c.in_ok-actor.actor).terms are) (at_rules (life_with c.args.script.now c.args.number c.args.life.now c.args.source.now (g.D.Disk.files c.args.devices.now.disk.now) c.requires.form c.requires.here c.requires.source (c.in_ok-actor.actor).terms are seen_today) 0) c.new-fence.ensures.fresh))
 
 pub returns-in_err-open-clause-loose : goal.returns-in_err-open-clause-loose
 returns-in_err-open-clause-loose g c = λ told.
@@ -45,7 +51,7 @@ returns-in_err-open-clause-loose g c = λ told.
 pub open-requires-2 : goal.open-requires-2
 open-requires-2 g c =
     let are = (are_of (c.in_ok-actor.actor).terms c.args.script.now.config _ _ _ _ _ _ _ c.in_ok-actor.ensures.terms c.in_ok-config.ensures.0 c.in_ok-config.ensures.1 c.in_ok-config.ensures.2 c.in_ok-config.ensures.3 c.in_ok-config.ensures.4 c.in_ok-config.ensures.5 c.in_ok-config.ensures.6) in
-    ready_is c.args.script.now c.args.number c.args.life.now c.args.source.now (g.D.Disk.files c.args.devices.now.disk.now) c.requires.form c.requires.here c.requires.source (c.in_ok-actor.actor).terms are _ c.open.new.fence (c.open.new.self).state _ c.in_ok-open.ensures.ends (c.in_ok-open.ensures.tells (its c.args.script.now c.args.number c.args.life.now c.args.source.now (g.D.Disk.files c.args.devices.now.disk.now) c.requires.form c.requires.here c.requires.source (c.in_ok-actor.actor).terms are) (lent_is c.args.script.now c.args.number c.args.life.now c.args.source.now (g.D.Disk.files c.args.devices.now.disk.now) c.requires.form c.requires.here c.requires.source (c.in_ok-actor.actor).terms are) (number_is c.args.script.now c.args.number c.args.life.now c.args.source.now (g.D.Disk.files c.args.devices.now.disk.now) c.requires.form c.requires.here c.requires.source (c.in_ok-actor.actor).terms are) (today_is c.args.script.now c.args.number c.args.life.now c.args.source.now (g.D.Disk.files c.args.devices.now.disk.now) c.requires.form c.requires.here c.requires.source (c.in_ok-actor.actor).terms are) (at_rules (life_with c.args.script.now c.args.number c.args.life.now c.args.source.now (g.D.Disk.files c.args.devices.now.disk.now) c.requires.form c.requires.here c.requires.source (c.in_ok-actor.actor).terms are seen_today) 0) c.new-fence.ensures.fresh) _ (ap non_zero_u64_get are.blocks_are)
+    record { ready = ready_is c.args.script.now c.args.number c.args.life.now c.args.source.now (g.D.Disk.files c.args.devices.now.disk.now) c.requires.form c.requires.here c.requires.source (c.in_ok-actor.actor).terms are _ c.open.new.fence (c.open.new.self).state _ c.in_ok-open.ensures.ends (c.in_ok-open.ensures.tells (its c.args.script.now c.args.number c.args.life.now c.args.source.now (g.D.Disk.files c.args.devices.now.disk.now) c.requires.form c.requires.here c.requires.source (c.in_ok-actor.actor).terms are) (lent_is c.args.script.now c.args.number c.args.life.now c.args.source.now (g.D.Disk.files c.args.devices.now.disk.now) c.requires.form c.requires.here c.requires.source (c.in_ok-actor.actor).terms are) (number_is c.args.script.now c.args.number c.args.life.now c.args.source.now (g.D.Disk.files c.args.devices.now.disk.now) c.requires.form c.requires.here c.requires.source (c.in_ok-actor.actor).terms are) (today_is c.args.script.now c.args.number c.args.life.now c.args.source.now (g.D.Disk.files c.args.devices.now.disk.now) c.requires.form c.requires.here c.requires.source (c.in_ok-actor.actor).terms are) (at_rules (life_with c.args.script.now c.args.number c.args.life.now c.args.source.now (g.D.Disk.files c.args.devices.now.disk.now) c.requires.form c.requires.here c.requires.source (c.in_ok-actor.actor).terms are seen_today) 0) c.new-fence.ensures.fresh) _ (ap non_zero_u64_get are.blocks_are) }
 
 pub returns-in_err-half-clause-acts : goal.returns-in_err-half-clause-acts
 returns-in_err-half-clause-acts g c = λ disk secrets grammar.
@@ -58,8 +64,8 @@ pub returns-in_err-half-clause-tells : goal.returns-in_err-half-clause-tells
 returns-in_err-half-clause-tells g c =
     let p = err_from_is_err_and c.from_residual-in_err-half.result c.from_residual-in_err-half.ensures.1 in
     let are = (are_of (c.in_ok-actor.actor).terms c.args.script.now.config _ _ _ _ _ _ _ c.in_ok-actor.ensures.terms c.in_ok-config.ensures.0 c.in_ok-config.ensures.1 c.in_ok-config.ensures.2 c.in_ok-config.ensures.3 c.in_ok-config.ensures.4 c.in_ok-config.ensures.5 c.in_ok-config.ensures.6) in
-    rw (p.1, p.2) (halted_lines c.args.script.now c.args.number c.args.life.now c.args.source.now (g.D.Disk.files c.args.devices.now.disk.now) c.requires.form c.requires.here c.requires.source (c.in_ok-actor.actor).terms are _ c.open.new.fence (c.open.new.self).state _ c.in_ok-open.ensures.ends (c.in_ok-open.ensures.tells (its c.args.script.now c.args.number c.args.life.now c.args.source.now (g.D.Disk.files c.args.devices.now.disk.now) c.requires.form c.requires.here c.requires.source (c.in_ok-actor.actor).terms are) (lent_is c.args.script.now c.args.number c.args.life.now c.args.source.now (g.D.Disk.files c.args.devices.now.disk.now) c.requires.form c.requires.here c.requires.source (c.in_ok-actor.actor).terms are) (number_is c.args.script.now c.args.number c.args.life.now c.args.source.now (g.D.Disk.files c.args.devices.now.disk.now) c.requires.form c.requires.here c.requires.source (c.in_ok-actor.actor).terms are) (today_is c.args.script.now c.args.number c.args.life.now c.args.source.now (g.D.Disk.files c.args.devices.now.disk.now) c.requires.form c.requires.here c.requires.source (c.in_ok-actor.actor).terms are) (at_rules (life_with c.args.script.now c.args.number c.args.life.now c.args.source.now (g.D.Disk.files c.args.devices.now.disk.now) c.requires.form c.requires.here c.requires.source (c.in_ok-actor.actor).terms are seen_today) 0) c.new-fence.ensures.fresh) c.in_err-half.field-0.0 _ c.open-2.new.fence _
-    (λ given. unless _ _ (λ told held. given_from c.args.script.now c.args.number c.args.life.now c.args.source.now (g.D.Disk.files c.args.devices.now.disk.now) c.requires.form c.requires.here c.requires.source (c.in_ok-actor.actor).terms are _ _ _ (given told held)))
+    rw (p.1, p.2) (halted_lines c.args.script.now c.args.number c.args.life.now c.args.source.now (g.D.Disk.files c.args.devices.now.disk.now) c.requires.form c.requires.here c.requires.source (c.in_ok-actor.actor).terms are _ c.open.new.fence (c.open.new.self).state _ c.in_ok-open.ensures.ends (c.in_ok-open.ensures.tells (its c.args.script.now c.args.number c.args.life.now c.args.source.now (g.D.Disk.files c.args.devices.now.disk.now) c.requires.form c.requires.here c.requires.source (c.in_ok-actor.actor).terms are) (lent_is c.args.script.now c.args.number c.args.life.now c.args.source.now (g.D.Disk.files c.args.devices.now.disk.now) c.requires.form c.requires.here c.requires.source (c.in_ok-actor.actor).terms are) (number_is c.args.script.now c.args.number c.args.life.now c.args.source.now (g.D.Disk.files c.args.devices.now.disk.now) c.requires.form c.requires.here c.requires.source (c.in_ok-actor.actor).terms are) (today_is c.args.script.now c.args.number c.args.life.now c.args.source.now (g.D.Disk.files c.args.devices.now.disk.now) c.requires.form c.requires.here c.requires.source (c.in_ok-actor.actor).terms are) (at_rules (life_with c.args.script.now c.args.number c.args.life.now c.args.source.now (g.D.Disk.files c.args.devices.now.disk.now) c.requires.form c.requires.here c.requires.source (c.in_ok-actor.actor).terms are seen_today) 0) c.new-fence.ensures.fresh) c.in_err-half.field-0.0 _ c.open-2.new.fence (λ s. UnlessBroken (ended_new (Err c.in_err-half.field-0.0)) (IsTrue g.D.Disk.tells → IsTrue g.X.SecretStore.tells → AreGivenFrom 0 s.dealings (g.D.Disk.image c.open.new.devices.disk.now) (g.X.SecretStore.held c.open.new.devices.secrets.now)))
+    (given_halted c.args.script.now c.args.number c.args.life.now c.args.source.now (g.D.Disk.files c.args.devices.now.disk.now) c.requires.form c.requires.here c.requires.source (c.in_ok-actor.actor).terms are (IsTrue g.D.Disk.tells) (IsTrue g.X.SecretStore.tells) (g.D.Disk.image c.open.new.devices.disk.now) (g.X.SecretStore.held c.open.new.devices.secrets.now) c.in_err-half.field-0.0)
     (λ fixed st half may. c.in_err-half.ensures.speaks fixed st (half_as half (ap non_zero_u64_get are.blocks_are)) may))
 
 pub returns-in_err-half-clause-readable : goal.returns-in_err-half-clause-readable
@@ -84,7 +90,7 @@ returns-clause-ready g c = ready_node g.D.Disk.tells g.D.Disk.files g.D.Disk.ima
 pub returns-clause-of : goal.returns-clause-of
 returns-clause-of g c = λ lived same reads.
     let are = (are_of (c.in_ok-actor.actor).terms c.args.script.now.config _ _ _ _ _ _ _ c.in_ok-actor.ensures.terms c.in_ok-config.ensures.0 c.in_ok-config.ensures.1 c.in_ok-config.ensures.2 c.in_ok-config.ensures.3 c.in_ok-config.ensures.4 c.in_ok-config.ensures.5 c.in_ok-config.ensures.6) in
-    of_terms lived (record { actor = c.open.new.self; fence = c.open-2.new.fence; half = c.in_ok-half.half }) c.args.script.now.config (ap (λ (s : Script). s.config) same) reads (subst (λ (t : Terms). AreTerms t _ _ _ _ _ _ _) (sym c.in_ok-open.ensures.rest.4) are)
+    of_terms lived (record { actor = c.open.new.self; fence = c.open-2.new.fence; half = c.in_ok-half.half }) c.args.script.now.config (ap (λ (s : Script). s.config) same) reads (subst (λ (t : Terms). AreTerms t c.args.script.now.config.me c.args.script.now.config.blocks_per_epoch c.args.script.now.config.limit c.args.script.now.config.max_mode c.args.script.now.config.mode V1 c.args.script.now.config.namespace) (sym c.in_ok-open.ensures.rest.4) are)
 
 pub returns-clause-acts : goal.returns-clause-acts
 returns-clause-acts g c = λ disk secrets grammar.
@@ -95,11 +101,32 @@ returns-clause-acts g c = λ disk secrets grammar.
 pub returns-clause-tells : goal.returns-clause-tells
 returns-clause-tells g c =
     let are = (are_of (c.in_ok-actor.actor).terms c.args.script.now.config _ _ _ _ _ _ _ c.in_ok-actor.ensures.terms c.in_ok-config.ensures.0 c.in_ok-config.ensures.1 c.in_ok-config.ensures.2 c.in_ok-config.ensures.3 c.in_ok-config.ensures.4 c.in_ok-config.ensures.5 c.in_ok-config.ensures.6) in
-    opened_lines c.args.script.now c.args.number c.args.life.now c.args.source.now (g.D.Disk.files c.args.devices.now.disk.now) c.requires.form c.requires.here c.requires.source (c.in_ok-actor.actor).terms are _ c.open.new.fence (c.open.new.self).state _ c.in_ok-open.ensures.ends (c.in_ok-open.ensures.tells (its c.args.script.now c.args.number c.args.life.now c.args.source.now (g.D.Disk.files c.args.devices.now.disk.now) c.requires.form c.requires.here c.requires.source (c.in_ok-actor.actor).terms are) (lent_is c.args.script.now c.args.number c.args.life.now c.args.source.now (g.D.Disk.files c.args.devices.now.disk.now) c.requires.form c.requires.here c.requires.source (c.in_ok-actor.actor).terms are) (number_is c.args.script.now c.args.number c.args.life.now c.args.source.now (g.D.Disk.files c.args.devices.now.disk.now) c.requires.form c.requires.here c.requires.source (c.in_ok-actor.actor).terms are) (today_is c.args.script.now c.args.number c.args.life.now c.args.source.now (g.D.Disk.files c.args.devices.now.disk.now) c.requires.form c.requires.here c.requires.source (c.in_ok-actor.actor).terms are) (at_rules (life_with c.args.script.now c.args.number c.args.life.now c.args.source.now (g.D.Disk.files c.args.devices.now.disk.now) c.requires.form c.requires.here c.requires.source (c.in_ok-actor.actor).terms are seen_today) 0) c.new-fence.ensures.fresh) (record { actor = c.open.new.self; fence = c.open-2.new.fence; half = c.in_ok-half.half }) refl _ _
-    (λ given told held. given_from c.args.script.now c.args.number c.args.life.now c.args.source.now (g.D.Disk.files c.args.devices.now.disk.now) c.requires.form c.requires.here c.requires.source (c.in_ok-actor.actor).terms are _ _ _ (given told held))
+    opened_lines c.args.script.now c.args.number c.args.life.now c.args.source.now (g.D.Disk.files c.args.devices.now.disk.now) c.requires.form c.requires.here c.requires.source (c.in_ok-actor.actor).terms are _ c.open.new.fence (c.open.new.self).state _ c.in_ok-open.ensures.ends (c.in_ok-open.ensures.tells (its c.args.script.now c.args.number c.args.life.now c.args.source.now (g.D.Disk.files c.args.devices.now.disk.now) c.requires.form c.requires.here c.requires.source (c.in_ok-actor.actor).terms are) (lent_is c.args.script.now c.args.number c.args.life.now c.args.source.now (g.D.Disk.files c.args.devices.now.disk.now) c.requires.form c.requires.here c.requires.source (c.in_ok-actor.actor).terms are) (number_is c.args.script.now c.args.number c.args.life.now c.args.source.now (g.D.Disk.files c.args.devices.now.disk.now) c.requires.form c.requires.here c.requires.source (c.in_ok-actor.actor).terms are) (today_is c.args.script.now c.args.number c.args.life.now c.args.source.now (g.D.Disk.files c.args.devices.now.disk.now) c.requires.form c.requires.here c.requires.source (c.in_ok-actor.actor).terms are) (at_rules (life_with c.args.script.now c.args.number c.args.life.now c.args.source.now (g.D.Disk.files c.args.devices.now.disk.now) c.requires.form c.requires.here c.requires.source (c.in_ok-actor.actor).terms are seen_today) 0) c.new-fence.ensures.fresh) (record { actor = c.open.new.self; fence = c.open-2.new.fence; half = c.in_ok-half.half }) refl _ (λ s. UnlessBroken (ended_new (Ok (record { actor = c.open.new.self; fence = c.open-2.new.fence; half = c.in_ok-half.half }))) (IsTrue g.D.Disk.tells → IsTrue g.X.SecretStore.tells → AreGivenFrom 0 s.dealings (g.D.Disk.image c.open.new.devices.disk.now) (g.X.SecretStore.held c.open.new.devices.secrets.now)))
+    (given_opened c.args.script.now c.args.number c.args.life.now c.args.source.now (g.D.Disk.files c.args.devices.now.disk.now) c.requires.form c.requires.here c.requires.source (c.in_ok-actor.actor).terms are (IsTrue g.D.Disk.tells) (IsTrue g.X.SecretStore.tells) (g.D.Disk.image c.open.new.devices.disk.now) (g.X.SecretStore.held c.open.new.devices.secrets.now))
     (λ fixed st half may. c.in_ok-half.ensures.speaks fixed st (half_as half (ap non_zero_u64_get are.blocks_are)) may)
 
 pub returns-clause-loose : goal.returns-clause-loose
 returns-clause-loose g c = λ told.
     let are = (are_of (c.in_ok-actor.actor).terms c.args.script.now.config _ _ _ _ _ _ _ c.in_ok-actor.ensures.terms c.in_ok-config.ensures.0 c.in_ok-config.ensures.1 c.in_ok-config.ensures.2 c.in_ok-config.ensures.3 c.in_ok-config.ensures.4 c.in_ok-config.ensures.5 c.in_ok-config.ensures.6) in
     above_from c.args.script.now c.args.number c.args.life.now c.args.source.now (g.D.Disk.files c.args.devices.now.disk.now) c.requires.form c.requires.here c.requires.source (c.in_ok-actor.actor).terms are _ _ _ _ (c.in_ok-open.ensures.loose told)
+
+pub returns-in_err-config-clause-shut : goal.returns-in_err-config-clause-shut
+returns-in_err-config-clause-shut g c = λ told. shut_none _ _ _
+
+pub returns-in_err-actor-clause-shut : goal.returns-in_err-actor-clause-shut
+returns-in_err-actor-clause-shut g c = λ told. shut_none _ _ _
+
+pub returns-in_err-open-clause-shut : goal.returns-in_err-open-clause-shut
+returns-in_err-open-clause-shut g c = λ told.
+    let are = (are_of (c.in_ok-actor.actor).terms c.args.script.now.config _ _ _ _ _ _ _ c.in_ok-actor.ensures.terms c.in_ok-config.ensures.0 c.in_ok-config.ensures.1 c.in_ok-config.ensures.2 c.in_ok-config.ensures.3 c.in_ok-config.ensures.4 c.in_ok-config.ensures.5 c.in_ok-config.ensures.6) in
+    shut_as _ _ (ap non_zero_u32_get are.limit_is) _ _ _ _ _ (c.in_err-open.ensures.shut told)
+
+pub returns-in_err-half-clause-shut : goal.returns-in_err-half-clause-shut
+returns-in_err-half-clause-shut g c = λ told.
+    let are = (are_of (c.in_ok-actor.actor).terms c.args.script.now.config _ _ _ _ _ _ _ c.in_ok-actor.ensures.terms c.in_ok-config.ensures.0 c.in_ok-config.ensures.1 c.in_ok-config.ensures.2 c.in_ok-config.ensures.3 c.in_ok-config.ensures.4 c.in_ok-config.ensures.5 c.in_ok-config.ensures.6) in
+    shut_as _ _ (ap non_zero_u32_get are.limit_is) _ _ _ _ _ (c.in_ok-open.ensures.shut told)
+
+pub returns-clause-shut : goal.returns-clause-shut
+returns-clause-shut g c = λ told.
+    let are = (are_of (c.in_ok-actor.actor).terms c.args.script.now.config _ _ _ _ _ _ _ c.in_ok-actor.ensures.terms c.in_ok-config.ensures.0 c.in_ok-config.ensures.1 c.in_ok-config.ensures.2 c.in_ok-config.ensures.3 c.in_ok-config.ensures.4 c.in_ok-config.ensures.5 c.in_ok-config.ensures.6) in
+    shut_as _ _ (ap non_zero_u32_get are.limit_is) _ _ _ _ _ (c.in_ok-open.ensures.shut told)

@@ -1,4 +1,4 @@
-use Rattle.std.proofs.Common.{◌≡◌, ◌∙◌, ap, is_some, Option, ℕ}
+use Rattle.std.proofs.Common.{◌∙◌, ap, is_some, Option, ℕ}
 use Rattle.dkg_text.proofs.Numbered.{added}
 use Rattle.dkg_text.proofs.asked.Asked.insert.Goals as goal
 

@@ -1,0 +1,254 @@
+-- A step of a life, by what its calls answered: over the lines, and over both devices.
+use Rattle.std.proofs.Common.{MutBor, ◌≡◌, ◌⊎◌, inl, inr, ℕ, ◌<◌, ◌==◌, ◌++◌, [], ◌∷◌, Bool, true, false, List, Option, Some, None, Result, Ok, Err, refl, sym, ◌∙◌, ap, subst, append-nil, arith}
+use Rattle.std.specs.Prelude.{Contains, IsTrue, filter_map, if◌then◌else◌}
+use Rattle.std.proofs.lemmas.List.Elements.{Contains-append_right}
+use Rattle.std.specs.Int.NonZero.{non_zero_u32_get, non_zero_u64_get}
+use Rattle.std.proofs.lemmas.Bool.Decides.{nat_tests}
+use Rattle.dkg_ceremony.specs.Acks.{ack_of}
+use Rattle.dkg_journal.specs.Burn.{Burn}
+use Rattle.dkg_journal.specs.Disk.{Lands}
+use Rattle.dkg_journal.specs.Fuse.{Reached}
+use Rattle.dkg_journal.specs.Names.{Files}
+use Rattle.dkg_types.specs.declared.directory.Unit as directory
+use Rattle.dkg_types.specs.declared.entry.Entry.{Entry as Line}
+use Rattle.dkg_types.specs.declared.fault.Fault.TheVariants.{NoMemory}
+use Rattle.dkg_store.specs.Acts.{Ended, Moment, Stands, World, at, broken, by_cut, by_want, moment, says, went}
+use Rattle.dkg_store.specs.Corrupt.{AreFit}
+use Rattle.dkg_store.specs.Secrets.{Secrets}
+use Rattle.dkg_store.specs.declared.devices.Devices.{Devices}
+use Rattle.dkg_store.proofs.Acts.{breaks_none}
+use Rattle.dkg_types.specs.Blocks.{Block}
+use Rattle.dkg_script.specs.Blocks.{delivered_number}
+use Rattle.dkg_text.specs.declared.script.Cut as cut
+use Rattle.dkg_text.specs.declared.script.Life.{Life}
+use Rattle.dkg_text.specs.declared.script.Event.{Event}
+use Rattle.dkg_text.specs.declared.script.Event.TheVariants.{Final, Peer}
+use Rattle.dkg_core.specs.Courses.{Course, on_devices}
+use Rattle.dkg_core.specs.Live.{Live, NodeStop}
+use Rattle.dkg_core.specs.Said.{Said}
+use Rattle.dkg_reshare.specs.Actors.{IfLiving, IsReadyLife}
+use Rattle.dkg_reshare.specs.Made.{Burns, MakesAt, MakesOn, Tells}
+use Rattle.dkg_reshare.specs.declared.actor.State.{State}
+use Rattle.dkg_reshare.specs.declared.actor.State.TheVariants.{Living}
+use Rattle.dkg_reshare.specs.declared.life.Life as reshare
+use Rattle.dkg_reshare.specs.declared.config.Terms.{Terms}
+use Rattle.dkg_reshare.specs.declared.stop.Stop.{Stop}
+use Rattle.dkg_reshare.specs.declared.stop.Stop.TheVariants.{Cut, Failed, Fault as FaultOf}
+use Rattle.dkg_reshare.proofs.Burning.{burns_none}
+use Rattle.dkg_reshare.proofs.Said.{none_first}
+use Rattle.dkg_run.specs.Causes.{IsCutWithin}
+use Rattle.dkg_run.specs.Ended.{by_node_stop}
+use Rattle.dkg_run.specs.Lives.{Steps, fuse_for, fuse_within, never}
+use Rattle.dkg_reshare.specs.Ends.{IsCaused}
+use Rattle.dkg_run.specs.Moving.{world_of}
+use Rattle.dkg_run.specs.Nodes.{IsEventHere, IsEventOfBlocks, IsReadyNode, IsView}
+use Rattle.dkg_run.specs.declared.held.HeldBlocks.{HeldBlocks}
+use Rattle.dkg_run.specs.Given.{Lived}
+use Rattle.dkg_run.specs.Ways.{Trace, Way, by_lines, by_worlds, trace}
+use Rattle.dkg_run.specs.declared.node.Node.{Node}
+use Rattle.dkg_run.proofs.Stepping.{cuts_within, lines_go, step_cut, step_stops, step_told, step_untold, uncut, worlds_go}
+
+-- NOTHING IS LOOSE on the devices of a node that goes on
+
+pub node_lands : {D X : Type 0} (tells : Bool) (files : D → Files) (image : D → Files → Type 0) (node : Node) (devices : Devices D X) → IsReadyNode tells files image node devices → IsTrue tells
+    → Lands (files devices.disk.now) (image devices.disk.now)
+node_lands tells files image node devices ready told =
+    let its : IsReadyLife tells files image ack_of node.actor.terms (ready.viewed.1).life devices =
+    subst (λ (s : State directory.Unit). IfLiving s (λ life. IsReadyLife tells files image ack_of node.actor.terms life devices)) (ready.viewed.1).lives ready.at.ready in
+    (its.firm told).lands
+
+-- THE FUSE of a step within which the script cuts nothing
+
+some_is : {A : Type 0} {x y : A} → Some x ≡ Some y → x ≡ y
+some_is e = cc
+
+of_never : (f : Burn) → ◌≡◌ {A = Option Burn} (Some never) (Some f) → f.call ≡ 0
+of_never f is = sym (ap (λ (b : Burn). b.call) (some_is is))
+
+uncut_call : (its : cut.Cut) (step : ℕ) (f : Burn) → ((its.step ≡ step) × (its.call ≡ 0 → ⊥) → ⊥) → fuse_for (Some its) step ≡ Some f → f.call ≡ 0
+uncut_call its step f apart lit = by_step (its.step == step) refl lit
+  where
+    same : (n m : ℕ) → (n == m) ≡ true → n ≡ m
+    same n m e = grind (arith, nat_tests)
+
+    differ : (n m : ℕ) → (n == m) ≡ false → n ≡ m → ⊥
+    differ n m e is = grind (arith, nat_tests)
+
+    by_call : (t : Bool) → its.step ≡ step → (its.call == 0) ≡ t → ◌≡◌ {A = Option Burn} (if t then None else Some (record { call = its.call; pick = its.pick; spent = 0 })) (Some f) → f.call ≡ 0
+    by_call true at e is = absurd (let wrong : ◌≡◌ {A = Option Burn} None (Some f) = is in cc)
+    by_call false at e is = absurd (apart (at, differ its.call 0 e))
+
+    by_step : (t : Bool) → (its.step == step) ≡ t → ◌≡◌ {A = Option Burn} (if t then fuse_within its else Some never) (Some f) → f.call ≡ 0
+    by_step true e is = by_call (its.call == 0) (same its.step step e) refl is
+    by_step false e is = of_never f is
+
+pub never_cut : (its : Option cut.Cut) (step : ℕ) (f : Burn) → (IsCutWithin its step → ⊥) → fuse_for its step ≡ Some f → f.call ≡ 0
+never_cut None step f apart lit = of_never f lit
+never_cut (Some its) step f apart lit = uncut_call its step f apart lit
+
+not_cut : ◌≡◌ {A = Stop} (FaultOf NoMemory) Cut → ⊥
+not_cut is = cc
+
+-- so a device that tells is not cut there
+unreached : (f now : Burn) → f.call ≡ 0 → now.call ≡ f.call → Reached f now → ⊥
+unreached f now none same reached = absurd (let low = reached.not_yet in omega (arith, none, same, low))
+
+went_uncut : (end : Live directory.Unit) → ◌≡◌ {A = Ended NodeStop (Live directory.Unit)} (went end) (broken by_cut) → ⊥
+went_uncut end is = cc
+
+module _ (line : Line) (its : Option cut.Cut) (number : ℕ) (f : Burn) (lit : fuse_for its number ≡ Some f) (course : Course directory.Unit NodeStop (Live directory.Unit)) where
+  -- OVER LINES
+
+  module _ (next : Live directory.Unit → Trace → Type 0) (out now : List Line) (picks : List ℕ) where
+    -- it stopped
+    pub stopped_lines : (stop result : Stop) → (result ≡ Cut → IsCutWithin its number) → (result ≡ stop) ⊎ ((stop ≡ Cut) × (result ≡ FaultOf NoMemory)) → Tells course (by_node_stop stop) out now
+        → Steps by_lines line (fuse_for its number) course (trace out picks) (Err result) (trace now picks) next
+    stopped_lines stop result within (inl same) told =
+        step_stops by_lines line (fuse_for its number) course (trace out picks) next f lit result (trace now picks)
+        (lines_go course (by_node_stop result) f out now picks (subst (λ (s : Stop). Tells course (by_node_stop s) out now) (sym same) told) (λ is. cuts_within its number f (within (uncut result is)) lit))
+    stopped_lines stop result within (inr other) told =
+        let first : Said (on_devices course) (broken by_cut) out now = subst (λ (s : Stop). Tells course (by_node_stop s) out now) other.0 told in
+        subst (λ (s : Stop). Steps by_lines line (fuse_for its number) course (trace out picks) (Err s) (trace now picks) next) (sym other.1)
+        (step_stops by_lines line (fuse_for its number) course (trace out picks) next f lit (FaultOf NoMemory) (trace now picks)
+        (lines_go course (broken by_want) f out now picks (record { lines = first.lines; added = first.added; by = first.by })
+        (λ is. absurd (let wrong : ◌≡◌ {A = Ended NodeStop (Live directory.Unit)} (broken by_want) (broken by_cut) = is in cc))))
+
+    -- its line found no memory
+    pub untold_lines : (end : Live directory.Unit) → Tells course (went end) out now → Steps by_lines line (fuse_for its number) course (trace out picks) (Err (FaultOf NoMemory)) (trace now picks) next
+    untold_lines end told = step_untold by_lines line (fuse_for its number) course (trace out picks) next f lit end (trace now picks) (lines_go course (went end) f out now picks told (λ is. absurd (went_uncut end is)))
+
+    -- .. or was told
+    pub told_lines : (end : Live directory.Unit) → Tells course (went end) out now → (how : Result (Unit {0}) Stop) (new : Trace) → next end (trace (now ++ line ∷ []) picks)
+        → Steps by_lines line (fuse_for its number) course (trace out picks) how new next
+    told_lines end told how new more = step_told by_lines line (fuse_for its number) course (trace out picks) next f lit end (trace now picks) (lines_go course (went end) f out now picks told (λ is. absurd (went_uncut end is))) how new more
+
+  -- OVER WORLDS: the fuse was another before
+
+  module _ (next : Live directory.Unit → World → Type 0) (files : Files) (image : Files → Type 0) (stands : Stands files image) (out : List Line) (s : Secrets) (before : Burn) where
+    abbrev start : World
+    start = at (moment out s before) files
+
+    -- memory was wanting before its first act
+    pub unheld_worlds : (c : Files) → image c → Steps by_worlds line (fuse_for its number) course start (Err (FaultOf NoMemory)) (at (moment out s f) c) next
+    unheld_worlds c here = subst (λ (x : Files). Steps by_worlds line (fuse_for its number) course start (Err (FaultOf NoMemory)) (at (moment out s f) x) next) (sym (stands.lands.only c here))
+        (step_stops by_worlds line (fuse_for its number) course start next f lit (FaultOf NoMemory) (at (moment out s f) files)
+        (breaks_none by_want tt (on_devices course) (at (moment out s f) files), burns_none (broken by_want) f))
+
+    module _ (files_now : Files) (image_now : Files → Type 0) (now : List Line) (t : Secrets) (after : Burn) (c : Files) (here : image_now c) where
+      -- it stopped
+      pub stopped_worlds : (stop result : Stop) → (IsCutWithin its number → result ≡ stop) → (result ≡ stop) ⊎ ((stop ≡ Cut) × (result ≡ FaultOf NoMemory)) → (stop ≡ Cut → Reached f after)
+          → MakesAt (on_devices course) (by_node_stop stop) files image files_now image_now (moment out s f) (moment now t after)
+          → Steps by_worlds line (fuse_for its number) course start (Err result) (at (moment now t after) c) next
+      stopped_worlds stop result within (inl same) cuts makes =
+          step_stops by_worlds line (fuse_for its number) course start next f lit result (at (moment now t after) c)
+          (worlds_go course (by_node_stop result) files files_now image image_now (moment out s f) (moment now t after)
+          (subst (λ (x : Stop). MakesAt (on_devices course) (by_node_stop x) files image files_now image_now (moment out s f) (moment now t after)) (sym same) makes) stands c here before)
+      stopped_worlds stop result within (inr other) cuts makes =
+          absurd (unreached f after (never_cut its number f (λ in_step. not_cut (sym other.1 ∙ within in_step ∙ other.0)) lit) makes.burns.call (cuts other.0))
+
+      module _ (end : Live directory.Unit) (makes : MakesAt (on_devices course) (went end) files image files_now image_now (moment out s f) (moment now t after)) where
+        goes : by_worlds.goes course (went end) f start (at (moment now t after) c)
+        goes = worlds_go course (went end) files files_now image image_now (moment out s f) (moment now t after) makes stands c here before
+
+        -- its line found no memory
+        pub untold_worlds : Steps by_worlds line (fuse_for its number) course start (Err (FaultOf NoMemory)) (at (moment now t after) c) next
+        untold_worlds = step_untold by_worlds line (fuse_for its number) course start next f lit end (at (moment now t after) c) goes
+
+        -- .. or was told
+        pub told_worlds : (how : Result (Unit {0}) Stop) (new : World) → next end (at (moment (now ++ line ∷ []) t after) c) → Steps by_worlds line (fuse_for its number) course start how new next
+        told_worlds how new more = step_told by_worlds line (fuse_for its number) course start next f lit end (at (moment now t after) c) goes how new more
+
+-- THE LIFE IS CUT BEFORE THE STEP
+
+module _ (line : Line) (its : Option cut.Cut) (number : ℕ) (none : fuse_for its number ≡ None) (course : Course directory.Unit NodeStop (Live directory.Unit)) (stop : Stop) (at_cut : stop ≡ Cut) where
+  pub cut_lines : (next : Live directory.Unit → Trace → Type 0) (out : List Line) (picks : List ℕ) → Steps by_lines line (fuse_for its number) course (trace out picks) (Err stop) (trace out picks) next
+  cut_lines next out picks = subst (λ (s : Stop). Steps by_lines line (fuse_for its number) course (trace out picks) (Err s) (trace out picks) next) (sym at_cut)
+      (step_cut by_lines line (fuse_for its number) course (trace out picks) next none)
+
+  pub cut_worlds : (next : Live directory.Unit → World → Type 0) (files : Files) (image : Files → Type 0) → Stands files image → (out : List Line) (s : Secrets) (f : Burn) (c : Files) → image c
+      → Steps by_worlds line (fuse_for its number) course (at (moment out s f) files) (Err stop) (at (moment out s f) c) next
+  cut_worlds next files image stands out s f c here =
+      subst (λ (x : Files). Steps by_worlds line (fuse_for its number) course (at (moment out s f) files) (Err stop) (at (moment out s f) x) next) (sym (stands.lands.only c here))
+      (subst (λ (x : Stop). Steps by_worlds line (fuse_for its number) course (at (moment out s f) files) (Err x) (at (moment out s f) files) next) (sym at_cut)
+      (step_cut by_worlds line (fuse_for its number) course (at (moment out s f) files) next none))
+
+-- THE BLOCK that an event delivers is held
+
+pub event_here : (per_epoch : ℕ) (old now : HeldBlocks) (event : Event) → now.blocks ≡ old.blocks → now.numbers.items ≡ old.numbers.items ++ filter_map delivered_number (event ∷ [])
+    → IsEventOfBlocks per_epoch old.blocks.now event → IsEventHere per_epoch now event
+event_here per_epoch old now (Final number) blocks numbers is = (
+  subst (λ (l : List ℕ). Contains l number) (sym numbers) (Contains-append_right old.numbers.items (number ∷ []) number (0, omega arith, refl)),
+  rw blocks is,
+)
+event_here per_epoch old now (Peer from bytes) blocks numbers is = tt
+event_here per_epoch old now event blocks numbers is = absurd is
+
+-- A CUT of a device that tells is one of the fuse
+
+pub cut_reached : (stop : Stop) (P Q R : Type 0) → IsCaused stop P Q R → stop ≡ Cut → R
+cut_reached stop P Q R caused is = subst (λ (s : Stop). IsCaused s P Q R) is caused
+
+pub blocks_held : (old now : HeldBlocks) (blocks : List (Block directory.Unit)) → now.blocks ≡ old.blocks → old.blocks.now ≡ blocks → now.blocks.now ≡ blocks
+blocks_held old now blocks same is = rw same is
+
+-- OVER THE DEVICES of a step: its fuse was set anew
+
+module _ {D X : Type 0} (files : D → Files) (image : D → Files → Type 0) (held : X → Secrets) (old begun : Devices D X) (same_disk : begun.disk ≡ old.disk) (same_secrets : begun.secrets ≡ old.secrets)
+    (stands : Stands (files old.disk.now) (image old.disk.now)) (line : Line) (its : Option cut.Cut) (number : ℕ) (lit : fuse_for its number ≡ Some begun.fuse)
+    (course : Course directory.Unit NodeStop (Live directory.Unit)) (out : List Line) (next : Live directory.Unit → World → Type 0)
+  where
+    abbrev pub Ran : (how : Result (Unit {0}) Stop) (new : Devices D X) (now : List Line) → Files → Type 0
+    Ran how new now c = Steps by_worlds line (fuse_for its number) course (world_of held old out (files old.disk.now)) how (world_of held new now c) next
+
+    stood : Stands (files begun.disk.now) (image begun.disk.now)
+    stood = subst (λ (d : MutBor D). Stands (files d.now) (image d.now)) (sym same_disk) stands
+
+    begins : (how : Result (Unit {0}) Stop) (w : World) → Steps by_worlds line (fuse_for its number) course (at (moment out (held begun.secrets.now) old.fuse) (files begun.disk.now)) how w next
+        → Steps by_worlds line (fuse_for its number) course (world_of held old out (files old.disk.now)) how w next
+    begins how w steps =
+        subst (λ (d : MutBor D). Steps by_worlds line (fuse_for its number) course (at (moment out (held old.secrets.now) old.fuse) (files d.now)) how w next) same_disk
+        (subst (λ (x : MutBor X). Steps by_worlds line (fuse_for its number) course (at (moment out (held x.now) old.fuse) (files begun.disk.now)) how w next) same_secrets steps)
+
+    pub ran_unheld : (c : Files) → image begun.disk.now c → Ran (Err (FaultOf NoMemory)) begun out c
+    ran_unheld c here = begins (Err (FaultOf NoMemory)) (world_of held begun out c)
+        (unheld_worlds line its number begun.fuse lit course next (files begun.disk.now) (image begun.disk.now) stood out (held begun.secrets.now) old.fuse c here)
+
+    module _ (new : Devices D X) (now : List Line) (c : Files) (here : image new.disk.now c) where
+      pub ran_stopped : (stop result : Stop) → (IsCutWithin its number → result ≡ stop) → (result ≡ stop) ⊎ ((stop ≡ Cut) × (result ≡ FaultOf NoMemory)) → (stop ≡ Cut → Reached begun.fuse new.fuse)
+          → MakesOn files image held (on_devices course) (by_node_stop stop) begun new out now → Ran (Err result) new now c
+      ran_stopped stop result within other reached makes = begins (Err result) (world_of held new now c)
+          (stopped_worlds line its number begun.fuse lit course next (files begun.disk.now) (image begun.disk.now) stood out (held begun.secrets.now) old.fuse
+          (files new.disk.now) (image new.disk.now) now (held new.secrets.now) new.fuse c here stop result within other reached makes)
+
+      module _ (end : Live directory.Unit) (makes : MakesOn files image held (on_devices course) (went end) begun new out now) where
+        pub ran_untold : Ran (Err (FaultOf NoMemory)) new now c
+        ran_untold = begins (Err (FaultOf NoMemory)) (world_of held new now c)
+            (untold_worlds line its number begun.fuse lit course next (files begun.disk.now) (image begun.disk.now) stood out (held begun.secrets.now) old.fuse
+            (files new.disk.now) (image new.disk.now) now (held new.secrets.now) new.fuse c here end makes)
+
+        pub ran_told : (how : Result (Unit {0}) Stop) (w : World) → next end (world_of held new (now ++ line ∷ []) c)
+            → Steps by_worlds line (fuse_for its number) course (world_of held old out (files old.disk.now)) how w next
+        ran_told how w more = begins how w
+            (told_worlds line its number begun.fuse lit course next (files begun.disk.now) (image begun.disk.now) stood out (held begun.secrets.now) old.fuse
+            (files new.disk.now) (image new.disk.now) now (held new.secrets.now) new.fuse c here end makes how w more)
+
+-- A LOOP over a life's events
+
+pub blocks_same : (old now : HeldBlocks) → now.blocks ≡ old.blocks → now.blocks.now ≡ old.blocks.now
+blocks_same old now same = rw same refl
+
+pub event_of : (a b : Node) (old now : HeldBlocks) (event : Event) → b.actor.terms ≡ a.actor.terms → now.blocks ≡ old.blocks
+    → IsEventOfBlocks (non_zero_u64_get a.actor.terms.blocks_per_epoch) old.blocks.now event → IsEventOfBlocks (non_zero_u64_get b.actor.terms.blocks_per_epoch) now.blocks.now event
+event_of a b old now event terms blocks is =
+    subst (λ (t : Terms). IsEventOfBlocks (non_zero_u64_get t.blocks_per_epoch) now.blocks.now event) (sym terms)
+    (subst (λ (bs : List (Block directory.Unit)). IsEventOfBlocks (non_zero_u64_get a.actor.terms.blocks_per_epoch) bs event) (sym (blocks_same old now blocks)) is)
+
+pub fit_on : (a b : Node) → b.actor.terms ≡ a.actor.terms → (image next : Files → Type 0)
+    → (AreFit (non_zero_u32_get b.actor.terms.limit) image → AreFit (non_zero_u32_get b.actor.terms.limit) next)
+    → AreFit (non_zero_u32_get a.actor.terms.limit) image → AreFit (non_zero_u32_get a.actor.terms.limit) next
+fit_on a b terms image next step = subst (λ (t : Terms). AreFit (non_zero_u32_get t.limit) image → AreFit (non_zero_u32_get t.limit) next) terms step
+
+-- its fuses are those of this life
+pub steps_of : {W : Type 0} (way : Way W) (g : Lived) (life : Life) → g.life ≡ life → (line : Line) (step : ℕ) (course : Course directory.Unit NodeStop (Live directory.Unit)) (w : W)
+    (how : Result (Unit {0}) Stop) (new : W) (next : Live directory.Unit → W → Type 0) → Steps way line (fuse_for life.cut step) course w how new next → Steps way line (fuse_for g.life.cut step) course w how new next
+steps_of way g life is line step course w how new next its = subst (λ (l : Life). Steps way line (fuse_for l.cut step) course w how new next) (sym is) its
