@@ -1,11 +1,13 @@
 //! The program: reads a script from standard input, and writes its transcript to standard output.
 //!
-//! Its exit status is the number of the command's status.
+//! Its exit status is the number of the command's status. What a person is told of it stands on standard error.
 #![tactic(auto)]
 
 use dkg_run::{Status, StdSink, StdSource, fresh_devices, run_command};
-use dkg_types::Transcript;
+use dkg_told::{KeptSource, told};
+use dkg_types::{Entry, Transcript};
 use dkg_values::{Mem, NoMemory};
+use std::io::Write;
 use std::process::ExitCode;
 use std::{env, io};
 
@@ -22,12 +24,21 @@ fn words<R: env::Env + AllocGlobal>(rt: &R) -> Mem<Vec<String>> {
     }
 }
 
+/// Tells a person how the run ended. (That standard error takes no words is let go.)
+fn tell(rt: &HostRuntime, status: &Status, text: Option<&[u8]>, entries: &[Entry]) {
+    let _ = match told(rt.alloc(), status, text, entries) {
+        Ok(words) => rt.stderr().write_all(&words),
+        Err(NoMemory) => rt.stderr().write_all(b"no memory was left to say more\n"),
+    };
+}
+
 fn main(rt: HostRuntime) -> ExitCode {
     let alloc = rt.alloc();
     let Ok(words) = words(&rt) else {
+        tell(&rt, &Status::NoMemory, None, &[]);
         return ExitCode::from(Status::NoMemory.number());
     };
-    let mut source = StdSource::new(rt.reader());
+    let mut source = KeptSource::new(alloc, StdSource::new(rt.reader()));
     let mut sink = StdSink::new(io::writer(&rt));
     let (mut disk, mut secrets) = fresh_devices(alloc);
     let mut out = Transcript::new(alloc);
@@ -40,5 +51,6 @@ fn main(rt: HostRuntime) -> ExitCode {
         &mut secrets,
         &mut out,
     );
+    tell(&rt, &status, source.kept(), out.entries());
     ExitCode::from(status.number())
 }

@@ -1,7 +1,7 @@
 //! Replays scripts whose transcripts an independent model wrote, and tells each difference.
 //!
 //! Beside the program lie a file of the forms' names, a file a form, one of encoded values and one of scanned ancestries, which
-//! `tools/replay-data` makes, and the examples, whose transcripts it makes. It prints a line a file, one for the examples and a total,
+//! `tools/replay-data` makes, the examples, whose transcripts it makes, and a file of what persons are told, which `tools/told-cases` makes. It prints a line a file, one for the examples and a total,
 //! and ends with status 1 where something differs or a file can't be read.
 #![tactic(auto)]
 
@@ -9,6 +9,7 @@ mod cases;
 mod examples;
 mod paths;
 mod replay;
+mod telling;
 mod told;
 mod values;
 
@@ -47,7 +48,18 @@ fn scan_paths(rt: &HostRuntime) -> io::Result<Count> {
     Ok(count)
 }
 
-/// Runs the examples, replays all forms, reads all values, and scans all ancestries.
+/// Runs the scripts of which a person is told something.
+fn tell_persons(rt: &HostRuntime) -> io::Result<Count> {
+    let alloc = rt.alloc();
+    let bytes = fs::read(rt, "told.cases")?;
+    let mut sink = io::writer(rt);
+    let count = telling::all(alloc, bytes.as_slice(), &mut sink)?;
+    told::tell_count(alloc, "told", &count, &mut sink)?;
+    Ok(count)
+}
+
+/// Runs the examples, replays all forms, reads all values, scans all ancestries, and compares what
+/// persons are told.
 fn replay_all(rt: &HostRuntime) -> io::Result<Count> {
     let mut total = examples::all(rt, &mut io::writer(rt))?;
     let forms = fs::read_to_string(rt, "forms")?;
@@ -56,6 +68,7 @@ fn replay_all(rt: &HostRuntime) -> io::Result<Count> {
     }
     total.add(&read_values(rt)?);
     total.add(&scan_paths(rt)?);
+    total.add(&tell_persons(rt)?);
     told::tell_count(rt.alloc(), "all", &total, &mut io::writer(rt))?;
     Ok(total)
 }

@@ -74,10 +74,22 @@ pub fn tell_difference<W: Write>(
     run: &Run,
     sink: &mut W,
 ) -> io::Result<()> {
-    let (number, wanted, got) = first_difference(case.transcript, run.sink.bytes());
+    tell_lines(alloc, form, case, run.status, run.sink.bytes(), sink)
+}
+
+/// The same of a case that ended with a status and wrote some bytes.
+pub fn tell_lines<W: Write>(
+    alloc: Global,
+    form: &str,
+    case: &Case<'_>,
+    status: u8,
+    bytes: &[u8],
+    sink: &mut W,
+) -> io::Result<()> {
+    let (number, wanted, got) = first_difference(case.transcript, bytes);
     let line = format!(in alloc;
-        "{form} {}: status {} for {}, line {number}: wanted ",
-        case.name, run.status, case.status
+        "{form} {}: status {status} for {}, line {number}: wanted ",
+        case.name, case.status
     )?;
     sink.write_all(line.as_bytes())?;
     sink.write_all(wanted)?;

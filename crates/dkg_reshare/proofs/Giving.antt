@@ -1,5 +1,5 @@
 -- What calls leave of the dealings that the devices give back.
-use Rattle.std.proofs.Common.{◌≡◌, ◌⊎◌, inl, inr, ℕ, ◌<◌, ◌≤◌, Bool, true, cond, nat_le, List, [], ◌∷◌, fold, Option, Some, None, Result, Ok, Err, refl, sym, ◌∙◌, ap, subst, arith}
+use Rattle.std.proofs.Common.{◌≡◌, inl, inr, ℕ, ◌<◌, ◌≤◌, Bool, true, cond, nat_le, List, [], ◌∷◌, fold, Option, Some, None, Result, Ok, Err, refl, sym, ◌∙◌, ap, subst, arith}
 use Rattle.std.specs.FinMap.{FinMap, empty, get, get-retain_keys, retain_keys}
 use Rattle.std.proofs.lemmas.Bool.Decides.{nat_tests}
 use Rattle.dkg_values.specs.Codec.{whole}
@@ -85,12 +85,15 @@ pub opened_above : (min : ℕ) (image next : Files → Type 0) (s t : Secrets) �
 opened_above min image next s t same fit keeps = record {
   fit = fit;
   each = λ c here.
-      let d = keeps.each c here in
-      (d.0, d.1, record {
-        plan = d.2.plan;
-        whole = λ w. subst (λ (x : Secrets). IsWhole (entries c) x) (sym same) (subst (λ (es : List Entry). IsWhole es s) (sym d.2.same) w);
-        pairs = λ w. λ i. retain_keys (recovered (d.2.same i) (same i)) (λ k. nat_le min k.0);
-      });
+      let d = keeps.each c here in (
+        d.0,
+        d.1,
+        record {
+          plan = d.2.plan;
+          whole = λ w. subst (λ (x : Secrets). IsWhole (entries c) x) (sym same) (subst (λ (es : List Entry). IsWhole es s) (sym d.2.same) w);
+          pairs = λ w. λ i. retain_keys (recovered (d.2.same i) (same i)) (λ k. nat_le min k.0);
+        },
+      );
 }
 
 -- WHAT WAS READ

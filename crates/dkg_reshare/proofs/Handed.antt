@@ -1,5 +1,5 @@
 -- What a player told of a dealing that it was handed.
-use Rattle.std.proofs.Common.{◌≡◌, ◌++◌, ◌∷◌, [], ℕ, ◌<◌, ◌≤◌, List, Option, Some, None, is_some, Result, Ok, Err, refl, sym, ◌∙◌, ap, subst, append-nil}
+use Rattle.std.proofs.Common.{◌≡◌, ◌++◌, ◌∷◌, [], ℕ, List, Option, Some, None, is_some, Result, Ok, Err, refl, sym, ◌∙◌, ap, subst, append-nil}
 use Rattle.std.specs.Prelude.{if◌then◌else◌}
 use Rattle.std.specs.FinMap.{FinMap, get, insert}
 use Rattle.std.specs.Ordering.{nat_cmp}
@@ -14,7 +14,6 @@ use Rattle.dkg_store.specs.Pairs.{Pairs}
 use Rattle.dkg_store.specs.Player.{Acknowledges, IsPlayerOf}
 use Rattle.dkg_store.proofs.Map.{keys_total, exact_keys, get_here}
 use Rattle.dkg_reshare.specs.Ends.{fault_of}
-use Rattle.dkg_reshare.specs.Heard.{pairs_after}
 use Rattle.dkg_core.specs.Said.{Said}
 
 same_pair : (v w : List ℕ × ℕ) → ◌≡◌ {A = Option (List ℕ × ℕ)} (Some v) (Some w) → v ≡ w

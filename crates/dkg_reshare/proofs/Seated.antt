@@ -1,14 +1,13 @@
 -- A life's player, between two calls.
-use Rattle.std.proofs.Common.{◌≡◌, ℕ, Option, Some, None, Result, Ok, Err, refl, sym, ◌∙◌, ap, subst}
-use Rattle.std.specs.Prelude.{IfSome, OnOk, OnErr, option_map, if◌then◌else◌}
+use Rattle.std.proofs.Common.{◌≡◌, ℕ, Option, Some, None, Result, Ok, Err, sym, ◌∙◌, ap, subst}
+use Rattle.std.specs.Prelude.{IfSome, OnOk, option_map, if◌then◌else◌}
 use Rattle.dkg_ceremony.specs.declared.round.Round.{Round}
 use Rattle.dkg_store.specs.declared.player.Player.{Player}
-use Rattle.dkg_store.specs.declared.store.Store.{Store}
 use Rattle.dkg_reshare.specs.declared.life.Life.{Life}
 use Rattle.dkg_reshare.specs.declared.life.Stage.{Stage}
 use Rattle.dkg_reshare.specs.declared.life.Stage.TheVariants.{Dealing, Including, Following}
 use Rattle.dkg_reshare.specs.Heard.{round_dealt}
-use Rattle.dkg_reshare.specs.LiveOf.{IsPlaced, IsSeated, Sits, SitsAt, SitsIn}
+use Rattle.dkg_reshare.specs.LiveOf.{IsSeated, Sits, SitsAt, SitsIn}
 use Rattle.dkg_reshare.specs.Rules.{AckOf}
 use Rattle.dkg_reshare.specs.Steps.{is_dealing}
 

@@ -85,7 +85,7 @@ pub before_all : (its : Option Cut) → IsBefore its 0
 before_all None = tt
 before_all (Some cut) = λ none. omega arith
 
-comes_to : (its : Option Cut) (events : List Event) (i : ℕ) → IsReached its (suc i) → slice_get (events_come_to its events) i ≡ slice_get events i
+pub comes_to : (its : Option Cut) (events : List Event) (i : ℕ) → IsReached its (suc i) → slice_get (events_come_to its events) i ≡ slice_get events i
 comes_to None events i reached = refl
 comes_to (Some cut) events i reached = by_call (cut.call == 0) refl
   where

@@ -213,8 +213,8 @@ run_ends script form first t new answered disk_rose secrets_rose causes run =
       moves.added ++ entry.Fault its ∷ [],
       told.2 ∙ ap (λ (xs : List Entry). xs ++ entry.Fault its ∷ []) moves.parts ∙ append_assoc t.out moves.added (entry.Fault its ∷ []),
       subst (λ (x : Fault). EndsFaulted x (moves.added ++ entry.Fault its ∷ []) disk_rose secrets_rose) (sym told.0)
-        (ends_faulted its (moves.added ++ entry.Fault its ∷ []) disk_rose secrets_rose told.1 (record { before = moves.added; last = refl; only = moves.no_fault })
-        (has_risen its disk_rose secrets_rose told.1 tells (subst (λ (x : Fault). HasCause x disk_rose secrets_rose) told.0 cause))),
+          (ends_faulted its (moves.added ++ entry.Fault its ∷ []) disk_rose secrets_rose told.1 (record { before = moves.added; last = refl; only = moves.no_fault })
+          (has_risen its disk_rose secrets_rose told.1 tells (subst (λ (x : Fault). HasCause x disk_rose secrets_rose) told.0 cause))),
     )
 
     by_result : (result : Result (Unit {0}) Fault) → Moves IsInOrder (IsBetweenOf script 0) (RunEndsIn script result) t.out run.mid.out → IfErr result IsTellable

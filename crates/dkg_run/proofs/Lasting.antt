@@ -125,8 +125,17 @@ module _ (script : Script) (number : ℕ) (life : Life) (files : Files) (how : R
       → LivesSo by_worlds (lived script number life seen_today files) files (at (moment out held f) files) how (at (moment mid held_mid f_mid) c)
       → EndsLife by_lines life how (trace mid []) result (trace new (picks_at_end life how)) (λ now. (result ≡ Ok tt) × (now ≡ trace new (picks_at_end life how)))
       → LivesHere by_worlds script (λ its. its ≡ files) number life (at (moment out held f) files) result (at (moment new held_new f_new) c) (λ w. (result ≡ Ok tt) × (w ≡ at (moment new held_new f_new) c))
-  life_over c held held_mid held_new f f_mid f_new same_held same_fuse so ends = (seen_today, files, how, at (moment mid held_mid f_mid) c, refl, refl, refl, so,
-    ends_over life mid new [] (picks_at_end life how) (at (moment mid held_mid f_mid) c) (at (moment new held_new f_new) c) result same refl how ends)
+  life_over c held held_mid held_new f f_mid f_new same_held same_fuse so ends = (
+    seen_today,
+    files,
+    how,
+    at (moment mid held_mid f_mid) c,
+    refl,
+    refl,
+    refl,
+    so,
+    ends_over life mid new [] (picks_at_end life how) (at (moment mid held_mid f_mid) c) (at (moment new held_new f_new) c) result same refl how ends,
+  )
     where
       same : at (moment new held_new f_new) c ≡ record (at (moment mid held_mid f_mid) c) { out = new }
       same = ap (λ (s : Secrets). at (moment new s f_new) c) same_held ∙ ap (λ (f : Burn). at (moment new held_mid f) c) same_fuse

@@ -11,6 +11,7 @@ pub mod Faulted
 pub mod Faults
 pub mod Finding
 pub mod FitsRead
+pub mod Founding
 pub mod Fresh
 pub mod Giving
 pub mod GivingBack
@@ -32,6 +33,7 @@ pub mod Meant
 pub mod Naming
 pub mod NodeOpens
 pub mod Noding
+pub mod Opened
 pub mod Opening
 pub mod Ordered
 pub mod Owed
@@ -49,6 +51,7 @@ pub mod Shutting
 pub mod Skipping
 pub mod Sourced
 pub mod Standing
+pub mod Starting
 pub mod Stepping
 pub mod Steps
 pub mod Today

@@ -233,12 +233,11 @@ module _ (script : Script) (number : ℕ) (life : Life) (source : HeldBlocks) (f
                 → Speaks (kept_material c st) (ends_half n.fence st (Ok n.half)) mid out)
                 → ViewedNew (Ok n) (λ ended. MakesAt (on_devices (node_opening its)) ended files image files_now between old (moment out s f))
             opened_acts n same out speaks =
-                let end = end_of n its (at_oneshot (life_with seen_today) 0) made.now fence living.life (same ∙ living.is) in
-                (
+                let end = end_of n its (at_oneshot (life_with seen_today) 0) made.now fence living.life (same ∙ living.is) in (
                   end,
                   opened_view n its (at_oneshot (life_with seen_today) 0) made.now fence living.life (same ∙ living.is),
                   made_there (went end) (burns_next (went end) (went_burns {S = Live directory.Unit} {T = Live directory.Unit} {y = end_is} acts_are.burns) (burns_none (went end) f)) (λ stands.
-                    opened_made n its (at_oneshot (life_with seen_today) 0) made.now fence living.life (same ∙ living.is) acts_are (speaks its end_is given_is (enters_made stands))),
+                      opened_made n its (at_oneshot (life_with seen_today) 0) made.now fence living.life (same ∙ living.is) acts_are (speaks its end_is given_is (enters_made stands))),
                 )
 
             pub halted_acts : (stop : Stop) (out : List Line) (half_fence : Readiness)

@@ -140,8 +140,8 @@ module _ (n : Node) (c : Fixed directory.Unit) (beside : Beside directory.Unit) 
       live_of beside n.fence life,
       view_of n beside life has is,
       node_goes (step c (Sent mail) st) next_of made
-        (subst (λ (a : Course directory.Unit NodeStop (Live directory.Unit)). MakesAt (on_devices a) (went (live_of beside n.fence life)) files_now now files_now now new new)
-        (sym (goes_on c (live_of beside n.fence life) reshare_is has.unawaited)) (makes_nothing files_now now new refl)),
+          (subst (λ (a : Course directory.Unit NodeStop (Live directory.Unit)). MakesAt (on_devices a) (went (live_of beside n.fence life)) files_now now files_now now new new)
+          (sym (goes_on c (live_of beside n.fence life) reshare_is has.unawaited)) (makes_nothing files_now now new refl)),
     )
     heard_in New is (Ok done) P ends made = absurd ends
     heard_in HadFailed is (Ok done) P ends made = absurd ends
@@ -161,8 +161,8 @@ module _ (n : Node) (c : Fixed directory.Unit) (beside : Beside directory.Unit) 
       live_of beside n.fence life,
       view_of n beside life has is,
       node_says (step c (Sent mail) st) next_of said
-        (subst (λ (a : Course directory.Unit NodeStop (Live directory.Unit)). Tells a (went (live_of beside n.fence life)) now now)
-        (sym (goes_on c (live_of beside n.fence life) reshare_is has.unawaited)) (says_nothing now)),
+          (subst (λ (a : Course directory.Unit NodeStop (Live directory.Unit)). Tells a (went (live_of beside n.fence life)) now now)
+          (sym (goes_on c (live_of beside n.fence life) reshare_is has.unawaited)) (says_nothing now)),
     )
     said_in New is (Ok done) P ends said = absurd ends
     said_in HadFailed is (Ok done) P ends said = absurd ends
@@ -298,7 +298,7 @@ module _ (before n : Node) (half : n.half ≡ before.half) (g : Lived) (number :
   module _ (files files_now : Files) (image now : Files → Type 0) (old new : Moment) where
     pub hears : (from : ℕ) (bytes its : List ℕ) → its ≡ bytes → (result : Result (Unit {0}) Stop) (P : reshare.Life directory.Unit → Type 0) → EndsAt n.actor.state result P
         → IfLiving before.actor.state (λ life. MakesAt (on_devices (step given_at (Sent (Peer from its)) (live_of view.beside before.fence life)))
-            (lives (live_of view.beside n.fence) n.actor.state result) files image files_now now old new)
+        (lives (live_of view.beside n.fence) n.actor.state result) files image files_now now old new)
         → Viewed n result (λ ended. MakesAt (on_devices (step_of g number (event.Peer from bytes) st)) ended files image files_now now old new)
     hears from bytes its same result P ends made =
         heard n given_at view.beside has_half (at_oneshot g number) (Peer from bytes) st files files_now image now old new result P ends
@@ -308,7 +308,7 @@ module _ (before n : Node) (half : n.half ≡ before.half) (g : Lived) (number :
 
     pub refuses : (b its : Block directory.Unit) → its ≡ b → (stop : Stop) (P : reshare.Life directory.Unit → Type 0) → EndsAt n.actor.state (Err stop) P
         → IfLiving before.actor.state (λ life. MakesAt (on_devices (step given_at (Finalized its) (live_of view.beside before.fence life)))
-            (lives (live_of view.beside n.fence) n.actor.state (Err stop)) files image files_now now old new)
+        (lives (live_of view.beside n.fence) n.actor.state (Err stop)) files image files_now now old new)
         → MakesAt (on_devices (node_step given_at (Delivers b) st)) (by_node_stop stop) files image files_now now old new
     refuses b its same stop P ends made =
         refused_made n given_at view.beside has_half (at_oneshot g number) b st n.actor.state stop P ends
@@ -339,7 +339,7 @@ module _ (before n : Node) (half : n.half ≡ before.half) (g : Lived) (number :
   module _ (files files_now : Files) (image now : Files → Type 0) (old : Moment) (mid_out out : List Line) (s : Secrets) (f : Burn) where
     pub takes : (b its : Block directory.Unit) → its ≡ b → (P : reshare.Life directory.Unit → Type 0) → EndsAt n.actor.state (Ok tt) P
         → IfLiving before.actor.state (λ life. MakesAt (on_devices (step given_at (Finalized its) (live_of view.beside before.fence life)))
-            (lives (live_of view.beside n.fence) n.actor.state (Ok tt)) files image files_now now old (moment mid_out s f))
+        (lives (live_of view.beside n.fence) n.actor.state (Ok tt)) files image files_now now old (moment mid_out s f))
         → (result : Result (Unit {0}) Stop)
         → ((st : Live directory.Unit) → HasHalf n.half st → Speaks (bind (delivered given_at b st) (λ half. acked_at b.height half.answer half.live)) (ends_node st result) mid_out out)
         → Viewed n result (λ ended. MakesAt (on_devices (node_step given_at (Delivers b) st)) ended files image files_now now old (moment out s f))

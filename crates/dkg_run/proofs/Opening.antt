@@ -142,7 +142,7 @@ module _ (n : Node) (c : Fixed directory.Unit) (reshare_is : c.oneshot ≡ None)
     end_of,
     opened_view,
     node_says (opening c) next_opening said
-      (subst (λ (a : Course directory.Unit NodeStop (Live directory.Unit)). Tells a (went end_of) mid_out new) (sym entered_as) (speaks_says (kept_material c (live_of now fence life)) (went end_of) speaks)),
+        (subst (λ (a : Course directory.Unit NodeStop (Live directory.Unit)). Tells a (went end_of) mid_out new) (sym entered_as) (speaks_says (kept_material c (live_of now fence life)) (went end_of) speaks)),
   )
 
 -- .. or the second has found no memory: an orchestrator's half that stops, over any node

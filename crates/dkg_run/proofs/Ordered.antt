@@ -92,8 +92,11 @@ lit_within None step f lit some = absurd (not_never f (some_same lit) some)
 lit_within (Some its) step f lit some = by_step (its.step == step) refl
   where
     by_step : (t : Bool) → (its.step == step) ≡ t → IsCutWithin (Some its) step
-    by_step true e = (same its.step step e, λ zero_call. none_some
-        (ap (λ (b : Bool). lit_by b its) (sym (equal its.call 0 zero_call)) ∙ sym (fuse_at its step true e) ∙ lit))
+    by_step true e = (
+      same its.step step e,
+      λ zero_call. none_some
+          (ap (λ (b : Bool). lit_by b its) (sym (equal its.call 0 zero_call)) ∙ sym (fuse_at its step true e) ∙ lit),
+    )
     by_step false e = absurd (let none : 0 ≡ f.call = ap (λ (b : Burn). b.call) (some_same (sym (fuse_at its step false e) ∙ lit)) in omega arith)
 
 -- STEPS

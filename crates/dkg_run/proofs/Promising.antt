@@ -78,17 +78,20 @@ module _ (script : Script) (form : IsFormOfToday script) (Tells : Type 0) (files
       let ends : EndsRun answered its.0 disk_rose secrets_rose = added_so out new its.0 (λ added. EndsRun answered added disk_rose secrets_rose) its.1
       (run_ends script form AnyFiles (trace out []) (trace new picks) answered disk_rose secrets_rose causes run) in
       let blames = run_skips script files held image AnyFiles (trace out []) (trace new picks) answered bytes run in
-      let all = all_run answered its.0 its.1 run in
-      (its.0, its.1, record {
-        in_order = its.2;
-        all = all;
-        ends = ends;
-        found = run_found (reader_in script) files_now held_now answered its.0 disk_rose secrets_rose Tells ends found;
-        skips = skips answered blames;
-        kept = kept its.0 its.1;
-        answered = on_ok answered (RunsAll script its.0) (Tells → AnswersDealings (setting_of script files held) image its.0) all (answers its.0 its.1);
-        complete = complete its.0 ends blames;
-      })
+      let all = all_run answered its.0 its.1 run in (
+        its.0,
+        its.1,
+        record {
+          in_order = its.2;
+          all = all;
+          ends = ends;
+          found = run_found (reader_in script) files_now held_now answered its.0 disk_rose secrets_rose Tells ends found;
+          skips = skips answered blames;
+          kept = kept its.0 its.1;
+          answered = on_ok answered (RunsAll script its.0) (Tells → AnswersDealings (setting_of script files held) image its.0) all (answers its.0 its.1);
+          complete = complete its.0 ends blames;
+        },
+      )
     where
       skips : (answered : Result (Unit {0}) Fault) → IfErr answered (BlamesOnlySkips (setting_of script files held) image) → IfErr answered (λ its. Tells → BlamesOnlySkips (setting_of script files held) image its)
       skips (Ok done) blames = tt

@@ -1,8 +1,35 @@
 -- What an opening leaves of a journal that it doesn't open.
-use Rattle.std.proofs.Common.{◌≡◌, ℕ, refl, subst}
+use Rattle.std.proofs.Common.{◌≡◌, ◌⊎◌, inl, inr, ℕ, ◌++◌, Bool, true, false, List, [], ◌∷◌, Option, Some, None, refl, sym, ◌∙◌, ap, subst}
+use Rattle.std.specs.Prelude.{IsTrue}
 use Rattle.dkg_journal.specs.Names.{Files}
+use Rattle.dkg_journal.specs.Opening.{broken}
+use Rattle.dkg_journal.specs.Records.{Entry, entries}
+use Rattle.dkg_journal.specs.Steps.{Keeps}
+use Rattle.dkg_values.specs.declared.name.Name.{Name}
+use Rattle.dkg_types.specs.declared.directory.Unit as directory
+use Rattle.dkg_types.specs.declared.entry.Entry.{Entry as Line}
+use Rattle.dkg_types.specs.declared.entry.Entry.TheVariants as entry
+use Rattle.dkg_types.specs.declared.fault.Fault.{Fault}
+use Rattle.dkg_types.specs.declared.fault.Fault.TheVariants as fault
+use Rattle.dkg_store.specs.Acts.{Cause, Ended, Held, Stands, broken as broken_off, by_cut, by_disk, by_secrets, by_want, held_in, stopped}
+use Rattle.dkg_store.specs.Corrupt.{AreEvents}
+use Rattle.dkg_store.specs.Events.{is_event}
+use Rattle.dkg_store.specs.Noted.{logs_in}
+use Rattle.dkg_store.specs.Pairs.{IsWhole, recovered}
 use Rattle.dkg_store.specs.Secrets.{Secrets}
+use Rattle.dkg_core.specs.Courses.{on_devices}
+use Rattle.dkg_core.specs.Fixed.{Fixed}
+use Rattle.dkg_core.specs.Live.{Faulted, Live, NodeStop}
+use Rattle.dkg_core.specs.Node.{node_opening}
+use Rattle.dkg_core.specs.Said.{Said}
+use Rattle.dkg_core.specs.Transcripts.{BeginsOpened}
+use Rattle.dkg_core.proofs.NodeToday.{node_openings_are_quiet}
 use Rattle.dkg_reshare.specs.Opened.{IsInGrammar, StaysShut}
+use Rattle.dkg_reshare.specs.declared.stop.Stop.{Stop}
+use Rattle.dkg_reshare.specs.declared.stop.Stop.TheVariants.{Cut, Failed, Fault as FaultOf}
+use Rattle.dkg_run.specs.Ended.{by_node_stop}
+use Rattle.dkg_run.specs.Ways.{IsBroken, StaysHeld}
+use Rattle.dkg_run.proofs.Faults.{IsOutside, own_or_outside}
 
 pub shut_none : (Readable : Type 0) (image : Files → Type 0) (held : Secrets) → StaysShut Readable image image held held
 shut_none Readable image held = record { images = λ no. record { each = λ c here. (c, here, record { plan = refl; same = refl }) }; same = λ no. refl }
@@ -10,3 +37,86 @@ shut_none Readable image held = record { images = λ no. record { each = λ c he
 pub shut_as : (limit most : ℕ) → limit ≡ most → (files : Files) (image next : Files → Type 0) (held now : Secrets) → StaysShut (IsInGrammar limit files) image next held now
     → StaysShut (IsInGrammar most files) image next held now
 shut_as limit most same files image next held now is = subst (λ (n : ℕ). StaysShut (IsInGrammar n files) image next held now) same is
+
+-- WHETHER A JOURNAL is in its grammar
+
+events_or : (limit : ℕ) (es : List Entry) → AreEvents limit es ⊎ (AreEvents limit es → ⊥)
+events_or limit [] = inl tt
+events_or limit (e ∷ es) = by_first (is_event limit e.1) refl (events_or limit es)
+  where
+    apart : is_event limit e.1 ≡ false → is_event limit e.1 ≡ true → ⊥
+    apart isnt is = let wrong : true ≡ false = sym is ∙ isnt in cc
+
+    by_first : (t : Bool) → is_event limit e.1 ≡ t → AreEvents limit es ⊎ (AreEvents limit es → ⊥) → AreEvents limit (e ∷ es) ⊎ (AreEvents limit (e ∷ es) → ⊥)
+    by_first true is (inl are) = inl (is, are)
+    by_first true is (inr not) = inr (λ are. not are.1)
+    by_first false is rest = inr (λ are. apart is are.0)
+
+pub grammar_or : (limit : ℕ) (files : Files) → IsInGrammar limit files ⊎ (IsInGrammar limit files → ⊥)
+grammar_or limit files = by_broken (broken files) refl (events_or limit (entries files))
+  where
+    some_none : {A : Type 0} {x : A} → ◌≡◌ {A = Option A} (Some x) None → ⊥
+    some_none e = cc
+
+    by_broken : (o : Option (Name × ℕ)) → broken files ≡ o → AreEvents limit (entries files) ⊎ (AreEvents limit (entries files) → ⊥) → IsInGrammar limit files ⊎ (IsInGrammar limit files → ⊥)
+    by_broken None is (inl are) = inl (record { whole = is; events = are })
+    by_broken None is (inr not) = inr (λ its. not its.events)
+    by_broken (Some at) is events = inr (λ its. some_none (sym is ∙ its.whole))
+
+-- THE STOP of an opening that said nothing came from outside
+
+ends_none : (old added : List Line) → old ≡ old ++ added → added ≡ []
+ends_none [] added is = sym is
+ends_none (x ∷ old) added is = ends_none old added (rest is)
+  where
+    rest : x ∷ old ≡ x ∷ (old ++ added) → old ≡ old ++ added
+    rest e = cc
+
+broken_outside : (its : Fault) → IsOutside its → IsBroken (FaultOf its)
+broken_outside fault.NoMemory is = record { cause = by_want; by = refl }
+broken_outside fault.Disk is = record { cause = by_disk; by = refl }
+broken_outside fault.Secrets is = record { cause = by_secrets; by = refl }
+broken_outside (fault.Corrupt name place) is = record { cause = by_disk; by = refl }
+broken_outside its is = absurd is
+
+module _ (c : Fixed directory.Unit) (out now : List Line) (untold : now ≡ out) where
+  unsaid_stop : (stop : Stop) → Said (on_devices (node_opening c)) (by_node_stop stop) out now → IsBroken stop
+  unsaid_stop Cut said = record { cause = by_cut; by = refl }
+  unsaid_stop Failed said = record { cause = by_want; by = refl }
+  unsaid_stop (FaultOf its) said = by_kind (own_or_outside its)
+    where
+      nothing : (added : List Line) → added ≡ [] → BeginsOpened {F = NodeStop} {S = Live directory.Unit} c.life added (stopped (Faulted its)) → ⊥
+      nothing added is begins = subst (λ (l : List Line). BeginsOpened {F = NodeStop} {S = Live directory.Unit} c.life l (stopped (Faulted its))) is begins
+
+      by_kind : IsOutside its ⊎ (by_node_stop {S = Live directory.Unit} (FaultOf its) ≡ stopped (Faulted its)) → IsBroken (FaultOf its)
+      by_kind (inl is) = broken_outside its is
+      by_kind (inr own) =
+          let quiet = node_openings_are_quiet c (stopped (Faulted its)) out now (subst (λ (e : Ended NodeStop (Live directory.Unit)). Said (on_devices (node_opening c)) e out now) own said) in
+          absurd (nothing quiet.0 (ends_none out quiet.0 (sym untold ∙ quiet.1)) quiet.2)
+
+  pub unsaid_breaks : (stop result : Stop) → (result ≡ stop) ⊎ ((stop ≡ Cut) × (result ≡ FaultOf fault.NoMemory)) → Said (on_devices (node_opening c)) (by_node_stop stop) out now → IsBroken result
+  unsaid_breaks stop result (inl same) said = subst IsBroken (sym same) (unsaid_stop stop said)
+  unsaid_breaks stop result (inr other) said = subst IsBroken (sym other.1) (record { cause = by_want; by = refl })
+
+-- WHAT IS HELD stays
+
+pub shut_holds : (Readable : Type 0) (files : Files) (image next : Files → Type 0) (held now : Secrets) → Stands files image → (Readable → ⊥) → StaysShut Readable image next held now → (c : Files) → next c
+    → StaysHeld (held_in files held) (held_in c now)
+shut_holds Readable files image next held now stands not shut c here = record {
+  whole = λ w. subst (λ (s : Secrets). IsWhole (entries c) s) (sym secrets) (subst (λ (es : List Entry). IsWhole es held) (sym same) w);
+  pairs = λ w. λ i. recovered (same i) (secrets i);
+  logs = λ w. ap logs_in same;
+  plan = (from.2).plan ∙ ap (λ (f : Files). (held_in f held).journaled.plan) at;
+}
+  where
+    from : (d : Files) × image d × Keeps d c
+    from = (shut.images not).each c here
+
+    secrets : now ≡ held
+    secrets = shut.same not
+
+    at : from.0 ≡ files
+    at = stands.lands.only from.0 from.1
+
+    same : entries c ≡ entries files
+    same = (from.2).same ∙ ap entries at

@@ -1,12 +1,10 @@
 -- Why a node refuses a block of a consistent script: it skips the height that is awaited, and nothing else.
-use Rattle.std.proofs.Common.{◌≡◌, ◌⊎◌, inl, inr, ℕ, zero, suc, ◌+◌, ◌-◌, ◌<◌, ◌≤◌, ◌==◌, ◌&&◌, ◌++◌, ◌∷◌, [], Bool, true, false, not, List, Option, Some, None, Result, Ok, Err, arith, refl, sym, ◌∙◌, ap, subst, add-one, drop, take, filter_map}
-use Rattle.std.specs.Prelude.{fold, max, nat_le, nat_lt, option_map, slice_get, IfErr, IfSome, IsSomeAnd, if◌then◌else◌}
+use Rattle.std.proofs.Common.{◌≡◌, ◌⊎◌, inl, inr, ℕ, zero, suc, ◌+◌, ◌-◌, ◌<◌, ◌≤◌, ◌==◌, ◌&&◌, ◌++◌, ◌∷◌, [], Bool, true, false, not, List, Option, Some, None, Result, Ok, Err, arith, refl, sym, ◌∙◌, ap, subst, add-one, drop, take}
+use Rattle.std.specs.Prelude.{nat_le, nat_lt, option_map, slice_get, IfErr, IfSome, IsSomeAnd, if◌then◌else◌}
 use Rattle.std.specs.List.{AllByRecursion}
 use Rattle.std.specs.Option.{option_map_or}
 use Rattle.std.specs.Str.{bytes_eq}
 use Rattle.std.proofs.lemmas.Bool.Decides.{nat_tests}
-use Rattle.std.proofs.lemmas.List.Elements.{filter_map-append}
-use Rattle.std.proofs.lemmas.List.Sums.{fold-append}
 use Rattle.std.proofs.lemmas.Slice.Eq.{bytes_eq-Decides}
 use Rattle.dkg_journal.specs.Burn.{Burn}
 use Rattle.dkg_journal.specs.Names.{Files}
@@ -21,19 +19,17 @@ use Rattle.dkg_types.specs.declared.fault.Fault.TheVariants.{ConflictingBlock, D
 use Rattle.dkg_text.specs.declared.script.Anchor.{Anchor}
 use Rattle.dkg_text.specs.declared.script.Anchor.TheVariants.{Processed, Absent}
 use Rattle.dkg_text.specs.declared.script.BlockLine.{BlockLine}
-use Rattle.dkg_text.specs.declared.script.Cut.{Cut}
 use Rattle.dkg_text.specs.declared.script.Event.{Event}
 use Rattle.dkg_text.specs.declared.script.Event.TheVariants as event
 use Rattle.dkg_text.specs.declared.script.Life.{Life}
 use Rattle.dkg_text.specs.declared.script.Script.{Script}
-use Rattle.dkg_script.specs.Blocks.{Block, block_at, block_of, blocks, chain, chain_below, delivered_number, events_come_to}
+use Rattle.dkg_script.specs.Blocks.{Block, block_at, block_of, blocks, chain, chain_below, events_come_to}
 use Rattle.dkg_script.specs.Form.{IsAnchorOfToday, IsEventOfToday, midpoint_of}
-use Rattle.dkg_script.specs.Position.{awaited_height, delivered, height_after_anchor, start_height}
+use Rattle.dkg_script.specs.Position.{awaited_height}
 use Rattle.dkg_script.specs.Promise.{IsBuilt, IsHonestRun}
 use Rattle.dkg_script.specs.Setting.{Setting, life_at, setting_of}
-use Rattle.dkg_script.specs.Valid.{IsReached}
 use Rattle.dkg_script.proofs.LineBlocks.{of_line}
-use Rattle.dkg_script.proofs.Today.{plain_of, start_is}
+use Rattle.dkg_script.proofs.Today.{plain_of}
 use Rattle.dkg_store.specs.Acts.{Ended, Held, broken, stopped, went}
 use Rattle.dkg_store.specs.Secrets.{Secrets}
 use Rattle.dkg_core.specs.Courses.{Course, on_devices}
@@ -53,14 +49,14 @@ use Rattle.dkg_run.specs.Given.{AreBytes, IsLifeHere, Lived, anchor_at, anchor_i
 use Rattle.dkg_run.specs.Lives.{LivesSo, RunsAllSo, RunsSo, Steps, TakesAll, TellsEnd, fuse_for}
 use Rattle.dkg_run.specs.Refusals.{BlamesOnlySkips, IsRefusal, SkipsIn, SkipsSomewhere}
 use Rattle.dkg_run.specs.Ways.{Trace, by_lines}
+use Rattle.dkg_run.proofs.Awaiting.{IsBefore, IsReached, awaited, awaits_first, before_all, before_next, block_awaits, comes_to, message_behind, reached_lit}
 use Rattle.dkg_run.proofs.BlockLines.{IsOf, each_is}
 use Rattle.dkg_run.proofs.Faulted.{all_tell, step_tells}
 use Rattle.dkg_run.proofs.Faults.{IsOutside}
 use Rattle.dkg_run.proofs.Laws.{opened_live, opened_tip, opened_unawaited}
 use Rattle.dkg_run.proofs.Living.{holds_at}
-use Rattle.dkg_run.proofs.Ordered.{item_at, lit_begins, rest_at}
-use Rattle.dkg_run.proofs.Resting.{IsTodays, finds_none, life_today}
-use Rattle.dkg_run.proofs.Standing.{IsCutBefore}
+use Rattle.dkg_run.proofs.Ordered.{item_at, rest_at}
+use Rattle.dkg_run.proofs.Resting.{IsTodays, life_today}
 use Rattle.dkg_run.proofs.Today.{Brings, IsMessage, alike_at, form_at, lacks_nobody, life_form, made_at, message_of}
 use Rattle.dkg_run.proofs.Used.{in_chain, of_anchor, of_delivered}
 
@@ -70,11 +66,7 @@ not_there x e = cc
 some_is : {A : Type 0} (x y : A) → ◌≡◌ {A = Option A} (Some x) (Some y) → x ≡ y
 some_is x y e = cc
 
--- A TIP on the chain, and the height that is awaited behind it
-
-abbrev awaited : Option Tip → ℕ
-awaited None = 0
-awaited (Some tip) = tip.height + 1
+-- A TIP on the chain
 
 record IsOnChain (s : Setting) (tip : Tip) : Type 0 where
   here : IfSome (chain s tip.height) (λ b. b.digest ≡ tip.digest)
@@ -165,89 +157,7 @@ only_skips s c st its b own same on_chain there refusal is = by_range (is_past_r
     by_range true e = absurd (subst IsRefusal (sym (some_is fault.HeightRange own e)) refusal)
     by_range false e = over_tip st.tip on_chain e
 
--- THE EVENTS THAT THE LIFE COMES TO
-
-one_more : {A : Type 0} (xs : List A) (i : ℕ) (x : A) → slice_get xs i ≡ Some x → take (suc i) xs ≡ take i xs ++ x ∷ []
-one_more [] i x is = absurd (not_there x is)
-one_more {A} (y ∷ xs) zero x is = ap (λ (z : A). z ∷ []) (some_is y x is)
-one_more {A} (y ∷ xs) (suc i) x is = ap (λ (zs : List A). y ∷ zs) (one_more xs i x is)
-
-still_there : {A : Type 0} (xs : List A) (n i : ℕ) → i < n → slice_get (take n xs) i ≡ slice_get xs i
-still_there [] zero i below = absurd (omega arith)
-still_there [] (suc n) i below = refl
-still_there (x ∷ xs) zero i below = absurd (omega arith)
-still_there (x ∷ xs) (suc n) zero below = refl
-still_there (x ∷ xs) (suc n) (suc i) below = still_there xs n i (omega arith)
-
--- the life isn't cut before a step that comes after this many steps
-abbrev IsBefore : Option Cut → ℕ → Type 0
-IsBefore its n = IfSome its (λ cut. cut.call ≡ 0 → n ≤ cut.step)
-
-reached_by : (its : Option Cut) (j : ℕ) → IsBefore its j → (IsCutBefore its j → ⊥) → IsReached its j
-reached_by None j before lit = tt
-reached_by (Some cut) j before lit = λ none. by_step (before none) (λ same. lit (same, none))
-  where
-    by_step : j ≤ cut.step → (cut.step ≡ j → ⊥) → j < cut.step
-    by_step low apart = omega arith
-
-reached_next : (its : Option Cut) (j : ℕ) → IsReached its j → IsBefore its (j + 1)
-reached_next None j reached = tt
-reached_next (Some cut) j reached = λ none. let low : j < cut.step = reached none in omega arith
-
-comes_to : (its : Option Cut) (events : List Event) (i : ℕ) → IsReached its (suc i) → slice_get (events_come_to its events) i ≡ slice_get events i
-comes_to None events i reached = refl
-comes_to (Some cut) events i reached = by_call (cut.call == 0) refl
-  where
-    is_zero : (n : ℕ) → (n == 0) ≡ true → n ≡ 0
-    is_zero n e = grind (arith, nat_tests)
-
-    by_call : (t : Bool) → (cut.call == 0) ≡ t → slice_get (if t then take (cut.step - 1) events else events) i ≡ slice_get events i
-    by_call false test = refl
-    by_call true test =
-        let below : suc i < cut.step = reached (is_zero cut.call test) in
-        still_there events (cut.step - 1) i (omega arith)
-
-module _ (s : Setting) (l : ℕ) (life : Life) (i : ℕ) (one : Event) (event_is : slice_get life.events i ≡ Some one) (reached : IsReached life.cut (suc i)) where
-  abbrev coming : List Event
-  coming = events_come_to life.cut life.events
-
-  delivered_more : delivered s life (suc i) ≡ delivered s life i ++ filter_map (block_at s) (filter_map delivered_number (one ∷ []))
-  delivered_more =
-      ap (λ (es : List Event). filter_map (block_at s) (filter_map delivered_number es)) (one_more coming i one (comes_to life.cut life.events i reached ∙ event_is))
-      ∙ ap (λ (ns : List ℕ). filter_map (block_at s) ns) (filter_map-append delivered_number (take i coming) (one ∷ []))
-      ∙ filter_map-append (block_at s) (filter_map delivered_number (take i coming)) (filter_map delivered_number (one ∷ []))
-
-  height_more : awaited_height s l life (suc i) ≡ fold (λ height b. max height (suc b.height)) (awaited_height s l life i) (filter_map (block_at s) (filter_map delivered_number (one ∷ [])))
-  unfolding awaited_height
-  height_more = ap (λ (bs : List Block). fold (λ height b. max height (suc b.height)) (start_height s l life) bs) delivered_more
-      ∙ fold-append (λ height b. max height (suc b.height)) (start_height s l life) (delivered s life i) (filter_map (block_at s) (filter_map delivered_number (one ∷ [])))
-
--- what is awaited behind a message, and behind a block
-message_behind : (s : Setting) (l : ℕ) (life : Life) (i from : ℕ) (bytes : List ℕ) → slice_get life.events i ≡ Some (event.Peer from bytes) → IsReached life.cut (suc i) → awaited_height s l life (suc i) ≡ awaited_height s l life i
-message_behind s l life i from bytes is reached = height_more s l life i (event.Peer from bytes) is reached
-
-block_behind : (s : Setting) (l : ℕ) (life : Life) (i number : ℕ) (b : Block) → slice_get life.events i ≡ Some (event.Final number) → IsReached life.cut (suc i) → block_at s number ≡ Some b
-    → awaited_height s l life (suc i) ≡ max (awaited_height s l life i) (b.height + 1)
-block_behind s l life i number b is reached there = height_more s l life i (event.Final number) is reached ∙ (rw there (rest (awaited_height s l life i) b.height))
-  where
-    rest : (h k : ℕ) → max h (suc k) ≡ max h (k + 1)
-    rest h k = omega arith
-
--- the tip behind a block that was taken
-tip_awaits : (tip : Option Tip) (its : made.Block directory.Unit) (b : Block) → IsOf b its → awaited (tip_behind (Finalized its) tip) ≡ max (awaited tip) (b.height + 1)
-tip_awaits None its b same = (rw same.height (omega arith))
-tip_awaits (Some tip) its b same = by_order (nat_le its.height tip.height) refl
-  where
-    low : (h k m : ℕ) → h ≡ m → nat_le h k ≡ true → k + 1 ≡ max (k + 1) (m + 1)
-    low h k m same test = let less : h ≤ k = grind (arith, nat_tests) in omega arith
-
-    high : (h k m : ℕ) → h ≡ m → nat_le h k ≡ false → h + 1 ≡ max (k + 1) (m + 1)
-    high h k m same test = let more : k < h = grind (arith, nat_tests) in omega arith
-
-    by_order : (t : Bool) → nat_le its.height tip.height ≡ t → awaited (if t then Some tip else Some (record { height = its.height; digest = its.digest })) ≡ max (tip.height + 1) (b.height + 1)
-    by_order true test = low its.height tip.height b.height same.height test
-    by_order false test = high its.height tip.height b.height same.height test
-
+-- what holds of the tip, and of one at a block, holds of the tip behind the block
 tip_is : (tip : Option Tip) (its : made.Block directory.Unit) (b : Block) (P : Option Tip → Type 0) → IsOf b its → P tip → P (Some (at_block b)) → P (tip_behind (Finalized its) tip)
 tip_is tip its b P same old new = by_order (option_map_or (λ t. nat_le its.height t.height) tip false)
   where
@@ -300,59 +210,48 @@ module _ (s : Setting) (today : IsTodays s) (bytes : AllByRecursion (λ line. If
       record { its = found.block; is = found.is; there = there; same = subst (λ (o : Option Block). IsSomeAnd o (λ b. IsOf b found.block)) there known }
 
   -- AN OPENING stands at its anchor
-  abbrev Starts : Option Anchor → Option Tip → Type 0
-  Starts at tip = (awaited tip ≡ height_after_anchor s at) × IfSome tip (IsOnChain s)
-
   abbrev position_at : Anchor → Option (made.Block directory.Unit) → Option Tip
   position_at at o = option_map (λ a. position_of a.processed a.block) (option_map (anchor_at at) o)
 
-  module _ (l : ℕ) (life : Life) (life_is : life_at s l ≡ Some life) where
-    starts_processed : (number : ℕ) (line : BlockLine) (tip : Option Tip) → life.anchor ≡ Some (Processed number) → slice_get s.script.blocks number ≡ Some line
-        → tip ≡ position (anchor_in (blocks_in s.script) (Some (Processed number))) → Starts (Some (Processed number)) tip
-    starts_processed number line tip anchor_is line_is is =
-        let b : Block = block_of s (take number (blocks s)) line in
-        let has = has_block number line line_is in
-        let at : tip ≡ Some (at_block b) = is ∙ ap (position_at (Processed number)) has.is ∙ (rw ((has.same).height, (has.same).digest) refl) in
-        let used : chain s b.height ≡ Some b = subst (λ (o : Option Block). IfSome o (λ c. chain s c.height ≡ Some c)) has.there (of_anchor s l life (λ c. chain s c.height ≡ Some c) life_is today.consistent.one_chain (Processed number) anchor_is) in
-        (ap awaited at ∙ (rw has.there (omega arith)), subst (λ (o : Option Tip). IfSome o (IsOnChain s)) (sym at) (chained_at s today b used))
+  abbrev Chained : Option Tip → Type 0
+  Chained tip = IfSome tip (IsOnChain s)
 
-    starts_absent : (number : ℕ) (line : BlockLine) (tip : Option Tip) → life.anchor ≡ Some (Absent number) → slice_get s.script.blocks number ≡ Some line → 0 < line.height
-        → tip ≡ position (anchor_in (blocks_in s.script) (Some (Absent number))) → Starts (Some (Absent number)) tip
-    starts_absent number line tip anchor_is line_is above is =
+  module _ (l : ℕ) (life : Life) (life_is : life_at s l ≡ Some life) where
+    starts_processed : (number : ℕ) (line : BlockLine) → life.anchor ≡ Some (Processed number) → slice_get s.script.blocks number ≡ Some line → Chained (position (anchor_in (blocks_in s.script) (Some (Processed number))))
+    starts_processed number line anchor_is line_is =
         let b : Block = block_of s (take number (blocks s)) line in
         let has = has_block number line line_is in
-        let at : tip ≡ Some (record { height = b.height - 1; digest = b.parent }) = is ∙ ap (position_at (Absent number)) has.is ∙ (rw ((has.same).height, (has.same).parent) refl) in
+        let at : position (anchor_in (blocks_in s.script) (Some (Processed number))) ≡ Some (at_block b) = ap (position_at (Processed number)) has.is ∙ (rw ((has.same).height, (has.same).digest) refl) in
+        let used : chain s b.height ≡ Some b = subst (λ (o : Option Block). IfSome o (λ c. chain s c.height ≡ Some c)) has.there (of_anchor s l life (λ c. chain s c.height ≡ Some c) life_is today.consistent.one_chain (Processed number) anchor_is) in
+        subst Chained (sym at) (chained_at s today b used)
+
+    starts_absent : (number : ℕ) (line : BlockLine) → life.anchor ≡ Some (Absent number) → slice_get s.script.blocks number ≡ Some line → 0 < line.height → Chained (position (anchor_in (blocks_in s.script) (Some (Absent number))))
+    starts_absent number line anchor_is line_is above =
+        let b : Block = block_of s (take number (blocks s)) line in
+        let has = has_block number line line_is in
+        let at : position (anchor_in (blocks_in s.script) (Some (Absent number))) ≡ Some (record { height = b.height - 1; digest = b.parent }) = ap (position_at (Absent number)) has.is ∙ (rw ((has.same).height, (has.same).parent) refl) in
         let used : chain s b.height ≡ Some b = subst (λ (o : Option Block). IfSome o (λ c. chain s c.height ≡ Some c)) has.there (of_anchor s l life (λ c. chain s c.height ≡ Some c) life_is today.consistent.one_chain (Absent number) anchor_is) in
         let links : Links s b = subst (λ (o : Option Block). IfSome o (Links s)) has.there (of_anchor s l life (Links s) life_is today.consistent.linked (Absent number) anchor_is) in
-        by_height b (b.height) refl above at used links has.there
+        subst Chained (sym at) (by_height b b.height refl above used links)
       where
-        by_height : (b : Block) (k : ℕ) → b.height ≡ k → 0 < k → tip ≡ Some (record { height = b.height - 1; digest = b.parent }) → chain s b.height ≡ Some b → Links s b → block_at s number ≡ Some b → Starts (Some (Absent number)) tip
-        by_height b zero height some at used links there = absurd (omega arith)
-        by_height b (suc k) height some at used links there =
-            let same : b.height - 1 ≡ k = omega arith in
-            let here : tip ≡ Some (record { height = k; digest = b.parent }) = at ∙ ap (λ (n : ℕ). Some (record { height = n; digest = b.parent })) same in
-            (ap awaited here ∙ (rw there (omega arith)), subst (λ (o : Option Tip). IfSome o (IsOnChain s)) (sym here) (chained_below s today b k height used links))
+        by_height : (b : Block) (k : ℕ) → b.height ≡ k → 0 < k → chain s b.height ≡ Some b → Links s b → IsOnChain s (record { height = b.height - 1; digest = b.parent })
+        by_height b zero height some used links = absurd (omega (arith, some))
+        by_height b (suc k) height some used links =
+            let same : b.height - 1 ≡ k = omega (arith, height) in
+            subst (λ (n : ℕ). IsOnChain s (record { height = n; digest = b.parent })) (sym same) (chained_below s today b k height used links)
 
-    starts : (at : Option Anchor) (tip : Option Tip) → life.anchor ≡ at → IfSome at (IsAnchorOfToday (midpoint_of s.script) s.script.blocks) → tip ≡ position (anchor_in (blocks_in s.script) at) → Starts at tip
-    starts None tip anchor_is form is = rw is (refl, tt)
-    starts (Some (Processed number)) tip anchor_is form is = by_line (slice_get s.script.blocks number) refl form
+    starts : (at : Option Anchor) → life.anchor ≡ at → IfSome at (IsAnchorOfToday (midpoint_of s.script) s.script.blocks) → Chained (position (anchor_in (blocks_in s.script) at))
+    starts None anchor_is form = tt
+    starts (Some (Processed number)) anchor_is form = by_line (slice_get s.script.blocks number) refl form
       where
-        by_line : (o : Option BlockLine) → slice_get s.script.blocks number ≡ o → IsSomeAnd o (λ line. line.height + 1 < midpoint_of s.script) → Starts (Some (Processed number)) tip
+        by_line : (o : Option BlockLine) → slice_get s.script.blocks number ≡ o → IsSomeAnd o (λ line. line.height + 1 < midpoint_of s.script) → Chained (position (anchor_in (blocks_in s.script) (Some (Processed number))))
         by_line None line_is early = absurd early
-        by_line (Some line) line_is early = starts_processed number line tip anchor_is line_is is
-    starts (Some (Absent number)) tip anchor_is form is = by_line (slice_get s.script.blocks number) refl form
+        by_line (Some line) line_is early = starts_processed number line anchor_is line_is
+    starts (Some (Absent number)) anchor_is form = by_line (slice_get s.script.blocks number) refl form
       where
-        by_line : (o : Option BlockLine) → slice_get s.script.blocks number ≡ o → IsSomeAnd o (λ line. (0 < line.height) × (line.height < midpoint_of s.script)) → Starts (Some (Absent number)) tip
+        by_line : (o : Option BlockLine) → slice_get s.script.blocks number ≡ o → IsSomeAnd o (λ line. (0 < line.height) × (line.height < midpoint_of s.script)) → Chained (position (anchor_in (blocks_in s.script) (Some (Absent number))))
         by_line None line_is early = absurd early
-        by_line (Some line) line_is early = starts_absent number line tip anchor_is line_is early.0 is
-
-    nothing_delivered : awaited_height s l life 0 ≡ start_height s l life
-    unfolding awaited_height
-    nothing_delivered = by_events (events_come_to life.cut life.events)
-      where
-        by_events : (events : List Event) → fold (λ height b. max height (suc b.height)) (start_height s l life) (filter_map (block_at s) (filter_map delivered_number (take 0 events))) ≡ start_height s l life
-        by_events [] = refl
-        by_events (one ∷ rest) = refl
+        by_line (Some line) line_is early = starts_absent number line anchor_is line_is early.0
 
     -- A LIFE
     module _ (seen : Held → Seen) (files : Files) (here : IsLifeHere (lived s.script l life seen files)) where
@@ -385,13 +284,12 @@ module _ (s : Setting) (today : IsTodays s) (bytes : AllByRecursion (λ line. If
       opened_stands : (h : Held) (st : Live directory.Unit) → IsNodeOpened (at_step g 0) ((at_step g 0).seen h) st → Stands 0 st
       unfolding at_step
       opened_stands h st opened =
-          let its = life_today s l life today life_is in
-          let at = starts life.anchor st.tip refl its.anchor (opened_tip (at_step g 0) ((at_step g 0).seen h) st opened) in
+          let tip = opened_tip (at_step g 0) ((at_step g 0).seen h) st opened in
           record {
             live = opened_live (at_step g 0) ((at_step g 0).seen h) st opened;
             unawaited = opened_unawaited (at_step g 0) ((at_step g 0).seen h) st opened;
-            height = at.0 ∙ sym (nothing_delivered ∙ start_is s l life its.no_sync (finds_none s l today));
-            chained = at.1;
+            height = ap awaited tip ∙ awaits_first s l life today life_is;
+            chained = subst Chained (sym tip) (starts life.anchor refl (life_today s l life today life_is).anchor);
           }
 
       abbrev Came : (Live directory.Unit → Type 0) → Ended NodeStop (Live directory.Unit) → Type 0
@@ -480,11 +378,11 @@ module _ (s : Setting) (today : IsTodays s) (bytes : AllByRecursion (λ line. If
                 (ap awaited at ∙ stands.height ∙ sym (message_behind s l life i from bytes (one_is ∙ ap (λ (e : Event). Some e) is) reached), subst (λ (o : Option Tip). IfSome o (IsOnChain s)) (sym at) stands.chained)
             by_event (event.Final number) is message (its, there, is_its) tip =
                 let d = delivers number its is there in
-                let at : end.tip ≡ tip_behind (Finalized its) st.tip = tip ∙ ap (λ (k : Message directory.Unit). tip_behind k st.tip) is_its in
-                (ap awaited at ∙ tip_awaits st.tip its d.b d.same ∙ ap (λ (n : ℕ). max n ((d.b).height + 1)) stands.height
-                    ∙ sym (block_behind s l life i number d.b (one_is ∙ ap (λ (e : Event). Some e) is) reached d.there),
-                subst (λ (o : Option Tip). IfSome o (IsOnChain s)) (sym at)
-                    (tip_is st.tip its d.b (λ (o : Option Tip). IfSome o (IsOnChain s)) d.same stands.chained (chained_at s today d.b d.used)))
+                let at : end.tip ≡ tip_behind (Finalized its) st.tip = tip ∙ ap (λ (k : Message directory.Unit). tip_behind k st.tip) is_its in (
+                  ap awaited at ∙ block_awaits s l life i number its st.tip (record { b = d.b; there = d.there; same = (d.same).height }) (one_is ∙ ap (λ (e : Event). Some e) is) reached stands.height,
+                  subst (λ (o : Option Tip). IfSome o (IsOnChain s)) (sym at)
+                      (tip_is st.tip its d.b (λ (o : Option Tip). IfSome o (IsOnChain s)) d.same stands.chained (chained_at s today d.b d.used)),
+                )
             by_event other is message brings tip = absurd brings
 
         step_comes : (ended : Ended NodeStop (Live directory.Unit)) (old new : List Entry) → Said (on_devices (step_of g (i + 1) one st)) ended old new → Came (Stands (i + 1)) ended
@@ -516,15 +414,11 @@ module _ (s : Setting) (today : IsTodays s) (bytes : AllByRecursion (λ line. If
               → Steps by_lines (entry.Step (i + 1)) fuse (step_of g (i + 1) e st) t (Err (FaultOf own)) new (λ end mid. TakesAll by_lines g (i + 1 + 1) events end mid (Err (FaultOf own)) new) → Blames own
           by_fuse on None lit steps = absurd (fault_cut steps.0)
           by_fuse on (Some f) lit steps =
-              let reached : IsReached life.cut (i + 1) = reached_by life.cut (i + 1) before (lit_begins life.cut (i + 1) f lit) in
+              let reached : IsReached life.cut (i + 1) = reached_lit life.cut (i + 1) f lit before in
               let one_is : slice_get life.events i ≡ Some e = item_at life.events i e events rest in
               step_tells Blames outside_blames (step_of g (i + 1) e st) own (Stands (i + 1)) (step_comes i e one_is (subst (IsReached life.cut) (add-one i) reached) st stands)
               (entry.Step (i + 1)) (Some f) t new (λ end mid. TakesAll by_lines g (i + 1 + 1) events end mid (Err (FaultOf own)) new)
-              (λ end mid next so. on end mid (reached_next life.cut (i + 1) reached) next so) steps
-
-      before_all : (its : Option Cut) → IsBefore its 0
-      before_all None = tt
-      before_all (Some cut) = λ none. omega arith
+              (λ end mid next so. on end mid (before_next life.cut (i + 1) reached) next so) steps
 
       life_blames : (own : Fault) (t new : Trace) → LivesSo by_lines g files t (Err (FaultOf own)) new → Blames own
       life_blames own t new (inl steps) = by_fuse (fuse_for life.cut 0) refl steps
@@ -533,9 +427,9 @@ module _ (s : Setting) (today : IsTodays s) (bytes : AllByRecursion (λ line. If
               → Steps by_lines (entry.Step 0) fuse (node_opening (at_step g 0)) t (Err (FaultOf own)) new (λ end mid. TakesAll by_lines g 1 life.events end mid (Err (FaultOf own)) new) → Blames own
           by_fuse None lit steps = absurd (fault_cut steps.0)
           by_fuse (Some f) lit steps =
-              let reached : IsReached life.cut 0 = reached_by life.cut 0 (before_all life.cut) (lit_begins life.cut 0 f lit) in
+              let reached : IsReached life.cut 0 = reached_lit life.cut 0 f lit (before_all life.cut) in
               step_tells Blames outside_blames (node_opening (at_step g 0)) own (Stands 0) opening_comes (entry.Step 0) (Some f) t new (λ end mid. TakesAll by_lines g 1 life.events end mid (Err (FaultOf own)) new)
-              (λ end mid next so. takes_blame own 0 life.events end mid new refl (reached_next life.cut 0 reached) next so) steps
+              (λ end mid next so. takes_blame own 0 life.events end mid new refl (before_next life.cut 0 reached) next so) steps
       life_blames own t new (inr refused) = absurd refused.1.2
 
 -- IN A RUN

@@ -29,7 +29,7 @@ held_are : (blocks : List (Block directory.Unit)) (held : List ℕ) (at : Option
 held_are blocks held at = sym (
     filter_map-append (slice_get blocks) held (anchor_numbers at ++ [])
     ∙ ap (λ (bs : List (Block directory.Unit)). numbered blocks held ++ bs)
-      (filter_map-append (slice_get blocks) (anchor_numbers at) [] ∙ ap (λ (bs : List (Block directory.Unit)). bs ++ []) (sym (anchored_are blocks at))))
+    (filter_map-append (slice_get blocks) (anchor_numbers at) [] ∙ ap (λ (bs : List (Block directory.Unit)). bs ++ []) (sym (anchored_are blocks at))))
 
 -- The source that the life's opening is given is what the held blocks answer.
 pub source_is : (g : Lived) (source : HeldBlocks) → IsSourceOf (blocks_in g.script) g.life 0 source

@@ -252,3 +252,18 @@ fit_on a b terms image next step = subst (λ (t : Terms). AreFit (non_zero_u32_g
 pub steps_of : {W : Type 0} (way : Way W) (g : Lived) (life : Life) → g.life ≡ life → (line : Line) (step : ℕ) (course : Course directory.Unit NodeStop (Live directory.Unit)) (w : W)
     (how : Result (Unit {0}) Stop) (new : W) (next : Live directory.Unit → W → Type 0) → Steps way line (fuse_for life.cut step) course w how new next → Steps way line (fuse_for g.life.cut step) course w how new next
 steps_of way g life is line step course w how new next its = subst (λ (l : Life). Steps way line (fuse_for l.cut step) course w how new next) (sym is) its
+
+-- A step that stopped, whatever was to come behind one that didn't
+pub not_done : {stop : Stop} → ◌≡◌ {A = Result (Unit {0}) Stop} (Err stop) (Ok tt) → ⊥
+not_done e = cc
+
+module _ {W : Type 0} (way : Way W) (line : Line) (fuse : Option Burn) (course : Course directory.Unit NodeStop (Live directory.Unit)) (w : W) (stop : Stop) (new : W) (N M : Live directory.Unit → W → Type 0) where
+  pub stops_with : ((end : Live directory.Unit) (mid : W) → N end mid → ⊥) → Steps way line fuse course w (Err stop) new N → Steps way line fuse course w (Err stop) new M
+  stops_with none steps = in_fuse fuse steps
+    where
+      in_fuse : (o : Option Burn) → Steps way line o course w (Err stop) new N → Steps way line o course w (Err stop) new M
+      in_fuse None its = its
+      in_fuse (Some f) (inl wants) = inl wants
+      in_fuse (Some f) (inr (inl stops)) = inr (inl stops)
+      in_fuse (Some f) (inr (inr (end, mid, goes, inl wants))) = inr (inr (end, mid, goes, inl wants))
+      in_fuse (Some f) (inr (inr (end, mid, goes, inr more))) = absurd (none end (way.says mid line) more)

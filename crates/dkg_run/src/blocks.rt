@@ -26,11 +26,7 @@ fn payload_in(alloc: Global, config: &ScriptConfig, bytes: &[u8]) -> Mem<Option<
 }
 
 /// The payload of a block line, if it has one.
-fn payload_of(
-    alloc: Global,
-    config: &ScriptConfig,
-    line: &BlockLine,
-) -> Mem<Option<Payload<Unit>>>
+fn payload_of(alloc: Global, config: &ScriptConfig, line: &BlockLine) -> Mem<Option<Payload<Unit>>>
     ensures payload { IfOk result (λ payload. payload ≡ payload_in config.now line.now.payload) }
     ensures bytes { IfSome line.now.payload IsBytes }
 {

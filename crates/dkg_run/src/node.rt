@@ -136,7 +136,8 @@ impl Node {
     {
         let bytes = bytes.copy(alloc)?;
         let message = Message::Peer { from, bytes };
-        self.actor.step(alloc, devices, source, message, &mut self.fence, out)
+        self.actor
+            .step(alloc, devices, source, message, &mut self.fence, out)
     }
 
     /// Takes a finalized block, and acknowledges it once both halves did.
@@ -165,7 +166,8 @@ impl Node {
     {
         let height = block.height();
         let message = Message::Finalized(block.copy(alloc)?);
-        self.actor.step(alloc, devices, source, message, &mut self.fence, out)?;
+        self.actor
+            .step(alloc, devices, source, message, &mut self.fence, out)?;
         self.half.acknowledge(height, out)
     }
 

@@ -12,11 +12,11 @@ returns-then-eq c =
 
 pub loop-number-preserved : goal.loop-number-preserved
 loop-number-preserved c = elim c.match-get.branch [
-    in-Some+else-eq w ↦
+  | in-Some+else-eq w ↦
       let its = w.in-Some.ensures.lookup in
       not_here c.args.blocks.now c.args.numbers.now (λ b. bytes_eq b.digest c.args.digest.now) c.loop-number.number-index w.in-Some.block.now c.loop-number-test.true its.0 its.1
       (ap (λ (d : List ℕ). bytes_eq d c.args.digest.now) (sym w.digest.ensures) ∙ sym w.if-eq.ensures) ∙ c.loop-number.invariant
   | in_default w ↦
       let its = w.in_default.ensures.lookup in
       none_here c.args.blocks.now c.args.numbers.now (λ b. bytes_eq b.digest c.args.digest.now) c.loop-number.number-index c.loop-number-test.true its.0 ∙ c.loop-number.invariant
-  ]
+]

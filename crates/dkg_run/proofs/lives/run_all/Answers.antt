@@ -42,9 +42,11 @@ returns-in_err-run_life-clause-lines g c =
     let life_is : slice_get c.args.script.now.lives c.loop-i.i ≡ Some c.life-item.result = rw (← c.as_slice-life-items.ensures) (item_here _ _ _ c.loop-i-test.true c.life-item.is) in
     let so_far = c.loop-i.invariant.lines in
     let its = c.in_err-run_life.ensures.lines in
-    rw (p.1, p.2) (so_far.0 ++ its.0,
-    went_then g.D.Disk.tells g.D.Disk.made g.X.SecretStore.made g.D.Disk.faults g.X.SecretStore.faults g.met.D.Disk.made_more g.met.X.SecretStore.made_more _ _ _ so_far.0 its.0 so_far.1 its.1,
-    inr (lives_stop by_lines c.args.script.now AnyFiles c.args.script.now.lives (trace c.args.out.now.entries []) c.loop-i.i AnyFiles c.life-item.result life_is (trace c.loop-i.out.entries so_far.0) so_far.2 _ _ (its.2 so_far.0)))
+    rw (p.1, p.2) (
+      so_far.0 ++ its.0,
+      went_then g.D.Disk.tells g.D.Disk.made g.X.SecretStore.made g.D.Disk.faults g.X.SecretStore.faults g.met.D.Disk.made_more g.met.X.SecretStore.made_more _ _ _ so_far.0 its.0 so_far.1 its.1,
+      inr (lives_stop by_lines c.args.script.now AnyFiles c.args.script.now.lives (trace c.args.out.now.entries []) c.loop-i.i AnyFiles c.life-item.result life_is (trace c.loop-i.out.entries so_far.0) so_far.2 _ _ (its.2 so_far.0)),
+    )
 
 pub returns-in_err-run_life-clause-run : goal.returns-in_err-run_life-clause-run
 returns-in_err-run_life-clause-run g c =
@@ -70,14 +72,16 @@ loop-i-preserved g c =
     let files_now : Files = g.D.Disk.files c.run_life.new.devices.disk.now in
     let now : World = world_of g.X.SecretStore.held c.run_life.new.devices c.run_life.new.out.entries files_now in
     record {
-      lines = (so_far.0 ++ its.0,
+      lines = (
+        so_far.0 ++ its.0,
         went_then g.D.Disk.tells g.D.Disk.made g.X.SecretStore.made g.D.Disk.faults g.X.SecretStore.faults g.met.D.Disk.made_more g.met.X.SecretStore.made_more _ _ _ so_far.0 its.0 so_far.1 its.1,
         lives_next by_lines c.args.script.now AnyFiles c.args.script.now.lives (trace c.args.out.now.entries []) c.loop-i.i AnyFiles c.life-item.result life_is (trace c.loop-i.out.entries so_far.0) so_far.2
-        (trace c.run_life.new.out.entries (so_far.0 ++ its.0)) AnyFiles (its.2 so_far.0));
+            (trace c.run_life.new.out.entries (so_far.0 ++ its.0)) AnyFiles (its.2 so_far.0),
+      );
       run = λ disk secrets stands.
-        lives_next by_worlds c.args.script.now (λ files. files ≡ g.D.Disk.files c.args.devices.now.disk.now) c.args.script.now.lives old c.loop-i.i (λ files. files ≡ g.D.Disk.files c.loop-i.devices.disk.now)
-        c.life-item.result life_is here (c.loop-i.invariant.run disk secrets stands) now (λ files. files ≡ files_now)
-        (c.in_ok-run_life.ensures.run disk secrets (c.loop-i.invariant.stands disk stands) files_now (g.met.D.Disk.reads c.run_life.new.devices.disk.now disk));
+          lives_next by_worlds c.args.script.now (λ files. files ≡ g.D.Disk.files c.args.devices.now.disk.now) c.args.script.now.lives old c.loop-i.i (λ files. files ≡ g.D.Disk.files c.loop-i.devices.disk.now)
+          c.life-item.result life_is here (c.loop-i.invariant.run disk secrets stands) now (λ files. files ≡ files_now)
+          (c.in_ok-run_life.ensures.run disk secrets (c.loop-i.invariant.stands disk stands) files_now (g.met.D.Disk.reads c.run_life.new.devices.disk.now disk));
       stands = λ told stands. c.in_ok-run_life.ensures.stands told;
       fit = λ told fit. c.run_life.ensures.fit told (c.loop-i.invariant.fit told fit);
       passing = λ disk secrets are. c.run_life.ensures.passing disk secrets (c.loop-i.invariant.passing disk secrets are);

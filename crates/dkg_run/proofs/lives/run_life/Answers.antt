@@ -9,11 +9,12 @@ end_life-requires-clause-scripted g c = life_scripted _ _ _ _ _ (c.live-how.ensu
 
 pub returns-clause-lines : goal.returns-clause-lines
 returns-clause-lines g c =
-    let its = c.live-how.ensures.lines in
-    (picks_at_end c.args.life.now c.live-how.result,
-    went_then g.D.Disk.tells g.D.Disk.made g.X.SecretStore.made g.D.Disk.faults g.X.SecretStore.faults g.met.D.Disk.made_more g.met.X.SecretStore.made_more _ _ _ [] (picks_at_end c.args.life.now c.live-how.result)
-      c.live-how.ensures.went c.end_life.ensures.went,
-    life_lines _ _ _ _ _ _ _ _ _ its.0 its.1 its.2 c.end_life.ensures.ends)
+    let its = c.live-how.ensures.lines in (
+      picks_at_end c.args.life.now c.live-how.result,
+      went_then g.D.Disk.tells g.D.Disk.made g.X.SecretStore.made g.D.Disk.faults g.X.SecretStore.faults g.met.D.Disk.made_more g.met.X.SecretStore.made_more _ _ _ [] (picks_at_end c.args.life.now c.live-how.result)
+          c.live-how.ensures.went c.end_life.ensures.went,
+      life_lines _ _ _ _ _ _ _ _ _ its.0 its.1 its.2 c.end_life.ensures.ends,
+    )
 
 pub returns-clause-run : goal.returns-clause-run
 returns-clause-run g c = λ disk secrets stands image here.

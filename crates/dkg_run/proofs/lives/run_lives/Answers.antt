@@ -56,9 +56,11 @@ returns-in-Ok-clause-gives_back g c = λ disk secrets.
 
 pub returns-in-Err-clause-lines : goal.returns-in-Err-clause-lines
 returns-in-Err-clause-lines g c =
-    let its = c.in-Err.ensures.lines in
-    (its.0, λ told. stopped_as g.D.Disk.made g.X.SecretStore.made _ c.run_all.new.devices.disk.now _ c.run_all.new.devices.secrets.now _ its.0 (search rules) (search rules) ((its.1).stopped told),
-    runs_faulted by_lines c.args.script.now AnyFiles _ _ _ c.in-Err.fault c.tell.result its.2 (c.tell.ensures its.0))
+    let its = c.in-Err.ensures.lines in (
+      its.0,
+      λ told. stopped_as g.D.Disk.made g.X.SecretStore.made _ c.run_all.new.devices.disk.now _ c.run_all.new.devices.secrets.now _ its.0 (search rules) (search rules) ((its.1).stopped told),
+      runs_faulted by_lines c.args.script.now AnyFiles _ _ _ c.in-Err.fault c.tell.result its.2 (c.tell.ensures its.0),
+    )
 
 pub returns-in-Err-clause-run : goal.returns-in-Err-clause-run
 returns-in-Err-clause-run g c = λ disk secrets stands image left.

@@ -57,7 +57,7 @@ pub returns-in_err-push-in-Ok-clause-went : goal.returns-in_err-push-in-Ok-claus
 returns-in_err-push-in-Ok-clause-went g c =
     went_then g.D.Disk.tells g.D.Disk.made g.X.SecretStore.made g.D.Disk.faults g.X.SecretStore.faults g.met.D.Disk.made_more g.met.X.SecretStore.made_more c.args.devices.now c.begin_step.new.devices c.step.new.devices [] []
     (went_none g.D.Disk.tells g.D.Disk.made g.X.SecretStore.made g.D.Disk.faults g.X.SecretStore.faults g.met.D.Disk.made_none g.met.X.SecretStore.made_none c.args.devices.now c.begin_step.new.devices
-      c.begin_step.ensures.same.0 c.begin_step.ensures.same.1)
+    c.begin_step.ensures.same.0 c.begin_step.ensures.same.1)
     (went_moved g.D.Disk.tells g.D.Disk.made g.X.SecretStore.made g.D.Disk.faults g.X.SecretStore.faults c.begin_step.new.devices c.step.new.devices c.step.ensures.moved)
 
 -- .. or was told
@@ -84,7 +84,7 @@ pub returns-in_ok-push-in-Ok-clause-went : goal.returns-in_ok-push-in-Ok-clause-
 returns-in_ok-push-in-Ok-clause-went g c =
     went_then g.D.Disk.tells g.D.Disk.made g.X.SecretStore.made g.D.Disk.faults g.X.SecretStore.faults g.met.D.Disk.made_more g.met.X.SecretStore.made_more c.args.devices.now c.begin_step.new.devices c.step.new.devices [] []
     (went_none g.D.Disk.tells g.D.Disk.made g.X.SecretStore.made g.D.Disk.faults g.X.SecretStore.faults g.met.D.Disk.made_none g.met.X.SecretStore.made_none c.args.devices.now c.begin_step.new.devices
-      c.begin_step.ensures.same.0 c.begin_step.ensures.same.1)
+    c.begin_step.ensures.same.0 c.begin_step.ensures.same.1)
     (went_moved g.D.Disk.tells g.D.Disk.made g.X.SecretStore.made g.D.Disk.faults g.X.SecretStore.faults c.begin_step.new.devices c.step.new.devices c.step.ensures.moved)
 
 -- THE STEP STOPPED
@@ -110,5 +110,5 @@ pub returns-in-Err-clause-went : goal.returns-in-Err-clause-went
 returns-in-Err-clause-went g c =
     went_then g.D.Disk.tells g.D.Disk.made g.X.SecretStore.made g.D.Disk.faults g.X.SecretStore.faults g.met.D.Disk.made_more g.met.X.SecretStore.made_more c.args.devices.now c.begin_step.new.devices c.step.new.devices [] []
     (went_none g.D.Disk.tells g.D.Disk.made g.X.SecretStore.made g.D.Disk.faults g.X.SecretStore.faults g.met.D.Disk.made_none g.met.X.SecretStore.made_none c.args.devices.now c.begin_step.new.devices
-      c.begin_step.ensures.same.0 c.begin_step.ensures.same.1)
+    c.begin_step.ensures.same.0 c.begin_step.ensures.same.1)
     (went_moved g.D.Disk.tells g.D.Disk.made g.X.SecretStore.made g.D.Disk.faults g.X.SecretStore.faults c.begin_step.new.devices c.step.new.devices c.step.ensures.moved)

@@ -1,0 +1,112 @@
+-- A life from its opening on, by what its calls answered: over both devices.
+use Rattle.std.proofs.Common.{MutBor, ◌≡◌, ◌⊎◌, inl, inr, Bool, ℕ, ◌++◌, ◌∷◌, [], List, Option, Some, None, Result, Ok, Err, refl, sym, ◌∙◌, ap, subst}
+use Rattle.std.specs.Prelude.{IsTrue}
+use Rattle.dkg_journal.specs.Fuse.{Reached}
+use Rattle.dkg_journal.specs.Names.{Files}
+use Rattle.dkg_types.specs.declared.directory.Unit as directory
+use Rattle.dkg_types.specs.declared.entry.Entry.{Entry as Line}
+use Rattle.dkg_types.specs.declared.entry.Entry.TheVariants as entry
+use Rattle.dkg_types.specs.declared.fault.Fault.TheVariants.{NoMemory}
+use Rattle.dkg_store.specs.Acts.{Ended, Stands, World, went}
+use Rattle.dkg_store.specs.Secrets.{Secrets}
+use Rattle.dkg_store.specs.declared.devices.Devices.{Devices}
+use Rattle.dkg_text.specs.declared.script.Life.{Life}
+use Rattle.dkg_text.specs.declared.script.Script.{Script}
+use Rattle.dkg_core.specs.Courses.{Course, on_devices}
+use Rattle.dkg_core.specs.Fixed.{Fixed}
+use Rattle.dkg_core.specs.Live.{Live, NodeStop}
+use Rattle.dkg_core.specs.Node.{node_opening}
+use Rattle.dkg_core.specs.Said.{Said}
+use Rattle.dkg_reshare.specs.Actors.{IsFoundAt}
+use Rattle.dkg_reshare.specs.Made.{MakesOn}
+use Rattle.dkg_reshare.specs.Moved.{StaysAbove}
+use Rattle.dkg_reshare.specs.Opened.{IsInGrammar, StaysShut}
+use Rattle.dkg_reshare.specs.Today.{seen_today}
+use Rattle.dkg_reshare.specs.declared.stop.Stop.{Stop}
+use Rattle.dkg_reshare.specs.declared.stop.Stop.TheVariants.{Cut, Failed, Fault as FaultOf}
+use Rattle.dkg_run.specs.Causes.{IsCutWithin}
+use Rattle.dkg_run.specs.Ended.{by_node_stop}
+use Rattle.dkg_run.specs.Given.{Lived, at_step, limits_of, lived}
+use Rattle.dkg_run.specs.Lives.{LivesSo, Steps, TakesAll, fuse_for}
+use Rattle.dkg_run.specs.Moving.{world_of}
+use Rattle.dkg_run.specs.Ways.{StaysHeld, by_worlds}
+use Rattle.dkg_run.proofs.Shutting.{grammar_or, shut_holds, unsaid_breaks}
+use Rattle.dkg_run.proofs.Turns.{ran_stopped, ran_told, ran_unheld, ran_untold}
+
+-- a cut of a device that tells is the fuse's
+pub cut_behind : (limit : ℕ) (tells : Bool) → IsTrue tells → (files : Files) (stop : Stop) (P Q R : Type 0) → IsFoundAt limit tells files stop P Q R → stop ≡ Cut → R
+cut_behind limit tells told files stop P Q R caused is = (subst (λ (s : Stop). IsFoundAt limit tells files s P Q R) is caused) told
+
+module _ {D X : Type 0} (files : D → Files) (image : D → Files → Type 0) (held : X → Secrets) (old begun : Devices D X) (same_disk : begun.disk ≡ old.disk) (same_secrets : begun.secrets ≡ old.secrets) where
+  -- what is kept from where the fuse was set is kept from before
+  pub above_begun : (next : Files → Type 0) (now : Secrets) → StaysAbove 0 (image begun.disk.now) next (held begun.secrets.now) now → StaysAbove 0 (image old.disk.now) next (held old.secrets.now) now
+  above_begun next now stays =
+      subst (λ (d : MutBor D). StaysAbove 0 (image d.now) next (held old.secrets.now) now) same_disk
+      (subst (λ (x : MutBor X). StaysAbove 0 (image begun.disk.now) next (held x.now) now) same_secrets stays)
+
+  module _ (stands : Stands (files old.disk.now) (image old.disk.now)) (script : Script) (number : ℕ) (life : Life) (lit : fuse_for life.cut 0 ≡ Some begun.fuse) (out : List Line) where
+    abbrev pub its : Lived
+    its = lived script number life seen_today (files old.disk.now)
+
+    abbrev course : Course directory.Unit NodeStop (Live directory.Unit)
+    course = node_opening (at_step its 0)
+
+    abbrev pub LivesRan : (how : Result (Unit {0}) Stop) (new : Devices D X) (now : List Line) → Files → Type 0
+    LivesRan how new now c = LivesSo by_worlds its (files old.disk.now) (world_of held old out (files old.disk.now)) how (world_of held new now c)
+
+    abbrev Next : (how : Result (Unit {0}) Stop) → World → Live directory.Unit → World → Type 0
+    Next how w end mid = TakesAll by_worlds its 1 life.events end mid how w
+
+    abbrev Acted : Ended NodeStop (Live directory.Unit) → (at : MutBor D) (new : Devices D X) (now : List Line) → Type 0
+    Acted ended at new now = MakesOn files image held (on_devices (node_opening (at_step (lived script number life seen_today (files at.now)) 0))) ended begun new out now
+
+    acts_over : (ended : Ended NodeStop (Live directory.Unit)) (new : Devices D X) (now : List Line) → Acted ended begun.disk new now → Acted ended old.disk new now
+    acts_over ended new now acts = subst (λ (d : MutBor D). Acted ended d new now) same_disk acts
+
+    -- There is no memory for its source.
+    pub unsourced_ran : (c : Files) → image begun.disk.now c → LivesRan (Err (FaultOf NoMemory)) begun out c
+    unsourced_ran c here = inl (ran_unheld files image held old begun same_disk same_secrets stands (entry.Step 0) life.cut 0 lit course out (Next (Err (FaultOf NoMemory)) (world_of held begun out c)) c here)
+
+    module _ (new : Devices D X) (now : List Line) (c : Files) (here : image new.disk.now c) where
+      -- The opening stopped.
+      module _ (stop result : Stop) (within : IsCutWithin life.cut 0 → result ≡ stop) (other : (result ≡ stop) ⊎ ((stop ≡ Cut) × (result ≡ FaultOf NoMemory))) (reached : stop ≡ Cut → Reached begun.fuse new.fuse)
+          (acts : IsInGrammar (limits_of script).most (files begun.disk.now) → Acted (by_node_stop stop) begun.disk new now)
+          (fixed : Fixed directory.Unit) (said : Said (on_devices (node_opening fixed)) (by_node_stop stop) out now)
+          (untold : (IsInGrammar (limits_of script).most (files begun.disk.now) → ⊥) → now ≡ out)
+          (shut : StaysShut (IsInGrammar (limits_of script).most (files begun.disk.now)) (image begun.disk.now) (image new.disk.now) (held begun.secrets.now) (held new.secrets.now))
+        where
+          -- .. whose journal is not in its grammar
+          refused : (IsInGrammar (limits_of script).most (files begun.disk.now) → ⊥) → LivesRan (Err result) new now c
+          refused not = inr (
+            λ its. not (subst (λ (d : MutBor D). IsInGrammar (limits_of script).most (files d.now)) (sym same_disk) its),
+            (result, refl, (unsaid_breaks fixed out now (untold not) stop result other said, untold not, kept)),
+          )
+            where
+              shut_old : StaysShut (IsInGrammar (limits_of script).most (files begun.disk.now)) (image old.disk.now) (image new.disk.now) (held old.secrets.now) (held new.secrets.now)
+              shut_old = subst (λ (d : MutBor D). StaysShut (IsInGrammar (limits_of script).most (files begun.disk.now)) (image d.now) (image new.disk.now) (held old.secrets.now) (held new.secrets.now)) same_disk
+                  (subst (λ (x : MutBor X). StaysShut (IsInGrammar (limits_of script).most (files begun.disk.now)) (image begun.disk.now) (image new.disk.now) (held x.now) (held new.secrets.now)) same_secrets shut)
+
+              kept : StaysHeld (world_of held old out (files old.disk.now)).held (world_of held new now c).held
+              kept = shut_holds (IsInGrammar (limits_of script).most (files begun.disk.now)) (files old.disk.now) (image old.disk.now) (image new.disk.now) (held old.secrets.now) (held new.secrets.now) stands not shut_old c here
+
+          pub stopped_ran : LivesRan (Err result) new now c
+          stopped_ran = by_grammar (grammar_or (limits_of script).most (files begun.disk.now))
+            where
+              by_grammar : IsInGrammar (limits_of script).most (files begun.disk.now) ⊎ (IsInGrammar (limits_of script).most (files begun.disk.now) → ⊥) → LivesRan (Err result) new now c
+              by_grammar (inl grammar) = inl (ran_stopped files image held old begun same_disk same_secrets stands (entry.Step 0) life.cut 0 lit course out (Next (Err result) (world_of held new now c))
+                  new now c here stop result within other reached (acts_over (by_node_stop stop) new now (acts grammar)))
+              by_grammar (inr not) = refused not
+
+      -- It went,
+      module _ (end : Live directory.Unit) (acts : Acted (went end) begun.disk new now) where
+        -- .. and its line found no memory.
+        pub untold_ran : LivesRan (Err (FaultOf NoMemory)) new now c
+        untold_ran = inl (ran_untold files image held old begun same_disk same_secrets stands (entry.Step 0) life.cut 0 lit course out (Next (Err (FaultOf NoMemory)) (world_of held new now c))
+            new now c here end (acts_over (went end) new now acts))
+
+        -- .. or was told, and its steps came then.
+        pub told_ran : (how : Result (Unit {0}) Stop) (w : World) (told : List Line) → told ≡ now ++ entry.Step 0 ∷ [] → TakesAll by_worlds its 1 life.events end (world_of held new told c) how w
+            → LivesSo by_worlds its (files old.disk.now) (world_of held old out (files old.disk.now)) how w
+        told_ran how w told is takes = inl (ran_told files image held old begun same_disk same_secrets stands (entry.Step 0) life.cut 0 lit course out (Next how w)
+            new now c here end (acts_over (went end) new now acts) how w
+            (subst (λ (l : List Line). TakesAll by_worlds its 1 life.events end (world_of held new l c) how w) is takes))

@@ -1,0 +1,4 @@
+pub mod Joined
+pub mod Over
+pub mod Parts
+pub mod Some

@@ -1,0 +1,9 @@
+use Rattle.std.proofs.Common.{◌≡◌, ◌≤◌, ◌+◌, drop}
+use Rattle.dkg_words.specs.Lines.{feeds}
+use Rattle.dkg_words.proofs.lines.line_number.Given as goal
+
+abbrev pub invariant-loop-byte : goal.invariant-loop-byte
+invariant-loop-byte l = record {
+  counted : l.number + feeds (drop l.byte-index l.byte-items) ≡ 1 + feeds l.byte-items;
+  few : l.number ≤ 1 + l.byte-index;
+}

@@ -1,0 +1,15 @@
+pub mod Bad
+pub mod Before
+pub mod Fault
+pub mod Forms
+pub mod Help
+pub mod Lines
+pub mod Names
+pub mod Notes
+pub mod Own
+pub mod Seek
+pub mod Shown
+pub mod Stages
+pub mod Told
+pub mod Twice
+pub mod Unbuilt

@@ -1,0 +1,27 @@
+//! What a person reads: the line that is said of a script that can't be run, and of a run that ended early.
+//!
+//! Each call is a function of the script's bytes, and of how the run ended. `dkg_told` says which of them a status calls for.
+#![tactic(auto)]
+
+mod bad;
+mod before;
+mod fault;
+mod forms;
+mod lines;
+mod names;
+mod notes;
+mod own;
+mod put;
+mod seek;
+mod stages;
+mod twice;
+mod unbuilt;
+mod usage;
+
+pub use bad::bad_line;
+pub use fault::fault_line;
+pub use own::own_warning;
+pub use put::sentence;
+pub use twice::twice_warning;
+pub use unbuilt::unbuilt_line;
+pub use usage::help;
