@@ -1,22 +1,18 @@
 -- An opening and a setup without material, as courses of what the actor's functions do.
-use Rattle.std.proofs.Common.{◌≡◌, ℕ, ◌+◌, Bool, true, false, List, [], Option, Some, None, refl, sym, ◌∙◌, ap, subst}
-use Rattle.std.specs.Prelude.{map, ◌==◌, option_and_then, if◌then◌else◌}
+use Rattle.std.proofs.Common.{◌≡◌, ℕ, ◌+◌, Bool, true, false, List, Option, Some, None, refl, sym, ◌∙◌, ap, subst}
+use Rattle.std.specs.Prelude.{◌==◌, option_and_then, if◌then◌else◌}
 use Rattle.std.specs.Option.{option_map_or}
 use Rattle.std.specs.FinMap as maps
 use Rattle.dkg_ceremony.specs.Schedule.{boundary}
 use Rattle.dkg_fence.specs.Readiness.{Readiness}
 use Rattle.dkg_journal.specs.Names.{Files}
 use Rattle.dkg_types.specs.declared.entry.Entry.{Entry as Line}
-use Rattle.dkg_types.specs.declared.entry.Entry.TheVariants.{Opened}
 use Rattle.dkg_types.specs.declared.fault.Fault.{Fault}
 use Rattle.dkg_types.specs.declared.fault.Fault.TheVariants.{HeightRange}
 use Rattle.dkg_types.specs.declared.info.EpochInfo.{EpochInfo}
-use Rattle.dkg_store.specs.Acts as acts_of
-use Rattle.dkg_store.specs.Acts.{Acts, Ended, Held, Moment}
-use Rattle.dkg_store.specs.Calls as calls_of
+use Rattle.dkg_store.specs.Acts.{Ended, Held, Moment}
 use Rattle.dkg_store.specs.Noted.{Notes}
 use Rattle.dkg_store.specs.Pairs.{Pairs}
-use Rattle.dkg_store.specs.Recorded.{restored_list}
 use Rattle.dkg_store.specs.declared.recorded_log.RecordedLog.{RecordedLog}
 use Rattle.dkg_store.specs.declared.store.Store.{Store}
 use Rattle.dkg_core.specs.Core.{opens_in, opening, no_inclusion, no_orchestrator, no_participation, no_probe}
@@ -25,26 +21,17 @@ use Rattle.dkg_core.specs.Fixed.{Fixed, Material, OneShot, start}
 use Rattle.dkg_core.specs.Live.{Live, Records, awaited_height}
 use Rattle.dkg_core.specs.Plans as plans
 use Rattle.dkg_core.specs.Setup as setup
-use Rattle.dkg_core.specs.Seen.{Seen}
 use Rattle.dkg_core.specs.Sources.{Source, Tip, startup}
 use Rattle.dkg_reshare.specs.declared.life.Life.{Life}
 use Rattle.dkg_reshare.specs.declared.life.Stage.TheVariants.{Following}
-use Rattle.dkg_reshare.specs.Ends.{fault_of}
 use Rattle.dkg_reshare.specs.LiveOf.{live_of, no_fence, nothing_beside, records_of}
 use Rattle.dkg_reshare.specs.Made.{MakesAt, Tells}
 use Rattle.dkg_reshare.specs.Opened.{opens_store, startup_of}
-use Rattle.dkg_reshare.specs.Today.{seen_today}
 
 -- THE STORE
 
 abbrev pub recorded : Pairs × Notes (List ℕ) × Notes RecordedLog → Records
 recorded g = record { dealings = maps.entries g.0; acks = maps.entries g.1; logs = maps.entries g.2 }
-
--- the store's opening, and the line
-pub store_as : (Dir : Type 0) (life calls : ℕ)
-    → on_devices (opens_store {Dir = Dir} seen_today life calls)
-    ≡ acts_of.bind (acts_of.under fault_of (calls_of.opening None calls None)) (λ g. acts_of.Say (Opened life (restored_list g.0)) (acts_of.Goes (recorded g)))
-store_as Dir life calls = refl
 
 -- AN OPENING
 

@@ -3,12 +3,11 @@ use Rattle.std.proofs.Common.{◌≡◌, ℕ, ◌≤◌, arith, Bool, List, [], 
 use Rattle.std.specs.Prelude.{IsTrue}
 use Rattle.dkg_journal.specs.Burn.{Burn}
 use Rattle.dkg_journal.specs.DeviceCall.{DeviceCall, call_at}
-use Rattle.dkg_journal.specs.Fuse.{Ran, RanAll, burned, calls_in, pick_now, spent_once}
+use Rattle.dkg_journal.specs.Fuse.{Ran, burned, calls_in, pick_now, spent_once}
 use Rattle.dkg_journal.specs.declared.disk.Op.{Op}
-use Rattle.dkg_store.specs.Both.{Call, MadeBoth, disk_calls, on_disk, on_secrets, secret_calls}
+use Rattle.dkg_store.specs.Both.{Call, MadeBoth, disk_calls, on_secrets, secret_calls}
 use Rattle.dkg_store.specs.declared.devices.Devices.{Devices}
 use Rattle.dkg_store.specs.declared.secrets.SecretOp.{SecretOp}
-use Rattle.dkg_store.proofs.Both.{burned-map, disk_calls-map, secret_calls-map}
 use Rattle.dkg_reshare.specs.Moved.{Moved}
 
 -- a call of the secrets, made or cut
@@ -48,37 +47,20 @@ module _ {D X : Type 0} (tells : Bool) (disk : D → D → List (DeviceCall Op) 
       later_secrets = later_secrets;
     }
 
-    -- the disk alone
-    pub moved_disk : (calls : List Op) → (IsTrue tells → Ran disk old.disk.now new.disk.now old.fuse new.fuse calls) → secrets old.secrets.now new.secrets.now []
-        → Moved tells disk secrets disk_faults secret_faults old new
-    moved_disk calls ran none = record {
-      ran = λ told.
-          let first = (ran told).first in
-          (map on_disk first, record {
-            each = record {
-              on_the_disk = subst (λ (l : List (DeviceCall Op)). disk old.disk.now new.disk.now l) (sym (disk_calls-map first old.fuse)) (ran told).all.each;
-              on_the_secrets = subst (λ (l : List (DeviceCall SecretOp)). secrets old.secrets.now new.secrets.now l) (sym (secret_calls-map first old.fuse)) none;
-            };
-            fuse = (ran told).all.fuse ∙ sym (burned-map first old.fuse);
-          });
-      same_disk = same_disk;
-      same_secrets = same_secrets;
-      later_disk = later_disk;
-      later_secrets = later_secrets;
-    }
-
     -- the secrets alone
     pub moved_secrets : (calls : List SecretOp) → Ran secrets old.secrets.now new.secrets.now old.fuse new.fuse calls → disk old.disk.now new.disk.now []
         → Moved tells disk secrets disk_faults secret_faults old new
     moved_secrets calls ran none = record {
-      ran = λ told.
-          (map on_secrets ran.first, record {
-            each = record {
-              on_the_disk = subst (λ (l : List (DeviceCall Op)). disk old.disk.now new.disk.now l) (sym (none_of_disk ran.first old.fuse)) none;
-              on_the_secrets = subst (λ (l : List (DeviceCall SecretOp)). secrets old.secrets.now new.secrets.now l) (sym (all_of_secrets ran.first old.fuse)) ran.all.each;
-            };
-            fuse = ran.all.fuse ∙ sym (burned_alike ran.first old.fuse);
-          });
+      ran = λ told. (
+        map on_secrets ran.first,
+        record {
+          each = record {
+            on_the_disk = subst (λ (l : List (DeviceCall Op)). disk old.disk.now new.disk.now l) (sym (none_of_disk ran.first old.fuse)) none;
+            on_the_secrets = subst (λ (l : List (DeviceCall SecretOp)). secrets old.secrets.now new.secrets.now l) (sym (all_of_secrets ran.first old.fuse)) ran.all.each;
+          };
+          fuse = ran.all.fuse ∙ sym (burned_alike ran.first old.fuse);
+        },
+      );
       same_disk = same_disk;
       same_secrets = same_secrets;
       later_disk = later_disk;

@@ -29,51 +29,51 @@ rose_around a b c d ab bc cd rose = rises (2 ^ 64) a b c d ab bc cd rose
 module _ (tells : Bool) {disk secrets reached disk_around secrets_around reached_around : Type 0}
     (of_disk : disk → disk_around) (of_secrets : secrets → secrets_around) (of_reached : IsTrue tells → reached → reached_around)
   where
-  pub caused_around : (stop : Stop) → IsCaused stop disk secrets reached → IsCausedBy tells stop disk_around secrets_around reached_around
-  caused_around (Faulted fault.NoMemory) is = tt
-  caused_around (Faulted fault.Disk) is = of_disk is
-  caused_around (Faulted fault.Secrets) is = of_secrets is
-  caused_around (Faulted (fault.Corrupt x y)) is = absurd is
-  caused_around (Faulted (fault.InvalidConfig x)) is = tt
-  caused_around (Faulted (fault.StateSyncEpochs x y)) is = tt
-  caused_around (Faulted fault.StateSyncMaterial) is = tt
-  caused_around (Faulted (fault.ConflictingBlock x)) is = tt
-  caused_around (Faulted (fault.DetachedBlock x)) is = tt
-  caused_around (Faulted (fault.SkippedHeight x y)) is = tt
-  caused_around (Faulted (fault.OutOfWindow x)) is = tt
-  caused_around (Faulted fault.HeightRange) is = tt
-  caused_around (Faulted (fault.MissingEpochInfo x)) is = tt
-  caused_around (Faulted (fault.WrongEpoch x y)) is = tt
-  caused_around (Faulted (fault.InvalidParticipants x)) is = tt
-  caused_around (Faulted (fault.DirectoryMismatch x)) is = tt
-  caused_around (Faulted (fault.LocalState x)) is = tt
-  caused_around (Faulted fault.FinalBlockMissing) is = tt
-  caused_around (Faulted fault.FloorBlockMissing) is = tt
-  caused_around Cut is = λ told. of_reached told is
-  caused_around Failed is = absurd is
+    pub caused_around : (stop : Stop) → IsCaused stop disk secrets reached → IsCausedBy tells stop disk_around secrets_around reached_around
+    caused_around (Faulted fault.NoMemory) is = tt
+    caused_around (Faulted fault.Disk) is = of_disk is
+    caused_around (Faulted fault.Secrets) is = of_secrets is
+    caused_around (Faulted (fault.Corrupt x y)) is = absurd is
+    caused_around (Faulted (fault.InvalidConfig x)) is = tt
+    caused_around (Faulted (fault.StateSyncEpochs x y)) is = tt
+    caused_around (Faulted fault.StateSyncMaterial) is = tt
+    caused_around (Faulted (fault.ConflictingBlock x)) is = tt
+    caused_around (Faulted (fault.DetachedBlock x)) is = tt
+    caused_around (Faulted (fault.SkippedHeight x y)) is = tt
+    caused_around (Faulted (fault.OutOfWindow x)) is = tt
+    caused_around (Faulted fault.HeightRange) is = tt
+    caused_around (Faulted (fault.MissingEpochInfo x)) is = tt
+    caused_around (Faulted (fault.WrongEpoch x y)) is = tt
+    caused_around (Faulted (fault.InvalidParticipants x)) is = tt
+    caused_around (Faulted (fault.DirectoryMismatch x)) is = tt
+    caused_around (Faulted (fault.LocalState x)) is = tt
+    caused_around (Faulted fault.FinalBlockMissing) is = tt
+    caused_around (Faulted fault.FloorBlockMissing) is = tt
+    caused_around Cut is = λ told. of_reached told is
+    caused_around Failed is = absurd is
 
-  pub caused_by_around : (stop : Stop) → IsCausedBy tells stop disk secrets reached → IsCausedBy tells stop disk_around secrets_around reached_around
-  caused_by_around (Faulted fault.NoMemory) is = tt
-  caused_by_around (Faulted fault.Disk) is = of_disk is
-  caused_by_around (Faulted fault.Secrets) is = of_secrets is
-  caused_by_around (Faulted (fault.Corrupt x y)) is = is
-  caused_by_around (Faulted (fault.InvalidConfig x)) is = tt
-  caused_by_around (Faulted (fault.StateSyncEpochs x y)) is = tt
-  caused_by_around (Faulted fault.StateSyncMaterial) is = tt
-  caused_by_around (Faulted (fault.ConflictingBlock x)) is = tt
-  caused_by_around (Faulted (fault.DetachedBlock x)) is = tt
-  caused_by_around (Faulted (fault.SkippedHeight x y)) is = tt
-  caused_by_around (Faulted (fault.OutOfWindow x)) is = tt
-  caused_by_around (Faulted fault.HeightRange) is = tt
-  caused_by_around (Faulted (fault.MissingEpochInfo x)) is = tt
-  caused_by_around (Faulted (fault.WrongEpoch x y)) is = tt
-  caused_by_around (Faulted (fault.InvalidParticipants x)) is = tt
-  caused_by_around (Faulted (fault.DirectoryMismatch x)) is = tt
-  caused_by_around (Faulted (fault.LocalState x)) is = tt
-  caused_by_around (Faulted fault.FinalBlockMissing) is = tt
-  caused_by_around (Faulted fault.FloorBlockMissing) is = tt
-  caused_by_around Cut is = λ told. of_reached told (is told)
-  caused_by_around Failed is = absurd is
+    pub caused_by_around : (stop : Stop) → IsCausedBy tells stop disk secrets reached → IsCausedBy tells stop disk_around secrets_around reached_around
+    caused_by_around (Faulted fault.NoMemory) is = tt
+    caused_by_around (Faulted fault.Disk) is = of_disk is
+    caused_by_around (Faulted fault.Secrets) is = of_secrets is
+    caused_by_around (Faulted (fault.Corrupt x y)) is = is
+    caused_by_around (Faulted (fault.InvalidConfig x)) is = tt
+    caused_by_around (Faulted (fault.StateSyncEpochs x y)) is = tt
+    caused_by_around (Faulted fault.StateSyncMaterial) is = tt
+    caused_by_around (Faulted (fault.ConflictingBlock x)) is = tt
+    caused_by_around (Faulted (fault.DetachedBlock x)) is = tt
+    caused_by_around (Faulted (fault.SkippedHeight x y)) is = tt
+    caused_by_around (Faulted (fault.OutOfWindow x)) is = tt
+    caused_by_around (Faulted fault.HeightRange) is = tt
+    caused_by_around (Faulted (fault.MissingEpochInfo x)) is = tt
+    caused_by_around (Faulted (fault.WrongEpoch x y)) is = tt
+    caused_by_around (Faulted (fault.InvalidParticipants x)) is = tt
+    caused_by_around (Faulted (fault.DirectoryMismatch x)) is = tt
+    caused_by_around (Faulted (fault.LocalState x)) is = tt
+    caused_by_around (Faulted fault.FinalBlockMissing) is = tt
+    caused_by_around (Faulted fault.FloorBlockMissing) is = tt
+    caused_by_around Cut is = λ told. of_reached told (is told)
+    caused_by_around Failed is = absurd is
 
 -- Such a result blames none of them.
 pub of_result : {T : Type 0} (tells : Bool) (disk secrets reached : Type 0) (r : Result T Stop) → IfErr r (λ stop. IsCaused stop ⊥ ⊥ ⊥) → IfErr r (λ stop. IsCausedBy tells stop disk secrets reached)

@@ -1,6 +1,6 @@
 -- How a round is drawn up where this node holds no share.
 use Rattle.std.proofs.Common.{◌≡◌, inl, inr, ℕ, ◌+◌, [], ◌∷◌, ◌++◌, Bool, true, false, List, Option, Some, None, is_none, Result, Ok, Err, refl, sym, ◌∙◌, ap, subst}
-use Rattle.std.specs.Prelude.{◌&&◌, is_some, IfOk, if◌then◌else◌}
+use Rattle.std.specs.Prelude.{◌&&◌, IfOk, if◌then◌else◌}
 use Rattle.std.specs.Option.{option_map_or}
 use Rattle.dkg_values.specs.Rising.{lookup}
 use Rattle.dkg_ceremony.specs.declared.output.Output.{Output}

@@ -1,6 +1,5 @@
 -- An actor's state behind a call.
-use Rattle.std.proofs.Common.{◌≡◌, Bool, Result, Ok, Err, refl, subst}
-use Rattle.std.specs.Prelude.{IfErr}
+use Rattle.std.proofs.Common.{◌≡◌, Bool, Result, Ok, Err, refl}
 use Rattle.dkg_journal.specs.Names.{Files}
 use Rattle.dkg_store.specs.declared.devices.Devices.{Devices}
 use Rattle.dkg_reshare.specs.declared.config.Terms.{Terms}
@@ -9,10 +8,7 @@ use Rattle.dkg_reshare.specs.declared.actor.State.{State}
 use Rattle.dkg_reshare.specs.declared.actor.State.TheVariants.{New, Living, Failed as HadFailed}
 use Rattle.dkg_reshare.specs.declared.life.Life.{Life}
 use Rattle.dkg_reshare.specs.declared.stop.Stop.{Stop}
-use Rattle.dkg_reshare.specs.declared.stop.Stop.TheVariants.{Fault as Faulted, Cut, Failed}
-use Rattle.dkg_types.specs.declared.fault.Fault.TheVariants as fault
 use Rattle.dkg_reshare.specs.Actors.{EndsAt, HasFailed, IfLiving, IsAt, IsNew, IsReadyLife}
-use Rattle.dkg_reshare.specs.Ends.{IsCaused, IsCausedInStep}
 
 module _ {Dir : Type 0} where
   pub not_living : (state : State Dir) → ((life : Life Dir) → state ≡ Living life → ⊥) → (P : Life Dir → Type 0) → IfLiving state P
@@ -29,9 +25,6 @@ module _ {Dir : Type 0} where
   failed_ends New stop P is = is
   failed_ends (Living life) stop P is = is
   failed_ends HadFailed stop P is = is
-
-pub never_failed : (stop : Stop) (P Q T : Type 0) → IsCaused stop P Q T → stop ≡ Failed → ⊥
-never_failed stop P Q T is e = let R : Stop → Type 0 = λ s. IsCaused s P Q T in subst R e is
 
 -- What a call says of its end is what the next one asks for.
 pub stands_again : {Dir D X : Type 0} (tells : Bool) (files : D → Files) (image : D → Files → Type 0) (ack_of : AckOf) (terms : Terms) (state : State Dir) (devices : Devices D X) (result : Result (Unit {0}) Stop)

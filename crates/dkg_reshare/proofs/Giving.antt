@@ -1,5 +1,5 @@
 -- What calls leave of the dealings that the devices give back.
-use Rattle.std.proofs.Common.{◌≡◌, ◌⊎◌, inl, inr, ℕ, ◌<◌, ◌≤◌, Bool, true, cond, nat_le, List, [], ◌∷◌, fold, Option, Some, None, Result, Ok, Err, refl, sym, ◌∙◌, ap, subst, arith}
+use Rattle.std.proofs.Common.{◌≡◌, inl, inr, ℕ, ◌<◌, ◌≤◌, Bool, true, cond, nat_le, List, [], ◌∷◌, fold, Option, Some, None, Result, Ok, Err, refl, sym, ◌∙◌, ap, subst, arith}
 use Rattle.std.specs.FinMap.{FinMap, empty, get, get-retain_keys, retain_keys}
 use Rattle.std.proofs.lemmas.Bool.Decides.{nat_tests}
 use Rattle.dkg_values.specs.Codec.{whole}
@@ -79,31 +79,21 @@ pruned_gives min image next s t left tries = λ pairs gives. record {
       ∙ gives.each d.0 d.1 key above;
 }
 
--- THE SAME DISK, and the same private halves
-
-pub privates_give : (min : ℕ) (image : Files → Type 0) (s t : Secrets) → t.privates ≡ s.privates → StaysFrom min image image s t
-privates_give min image s t same = λ pairs gives. record { each = λ c here key above. ap (λ (m : Pairs). get m key) (all (entries c) empty) ∙ gives.each c here key above }
-  where
-    step : (m : Pairs) (o : Option Dealing) → with_dealing t m o ≡ with_dealing s m o
-    step m None = refl
-    step m (Some d) = ap (λ (p : FinMap key_cmp ℕ). with_half m d (get p d.key)) same
-
-    all : (es : List Entry) (m : Pairs) → steps_from t m es ≡ steps_from s m es
-    all [] m = refl
-    all (e ∷ es) m = ap (λ (n : Pairs). steps_from t n es) (step m (dealing_of e)) ∙ all es (with_dealing s m (dealing_of e))
-
 -- AN OPENING OF A JOURNAL, which keeps the entries
 
 pub opened_above : (min : ℕ) (image next : Files → Type 0) (s t : Secrets) → t ≡ s → ((most : ℕ) → AreFit most image → AreFit most next) → Follows Keeps image next → StaysAbove min image next s t
 opened_above min image next s t same fit keeps = record {
   fit = fit;
   each = λ c here.
-      let d = keeps.each c here in
-      (d.0, d.1, record {
-        plan = d.2.plan;
-        whole = λ w. subst (λ (x : Secrets). IsWhole (entries c) x) (sym same) (subst (λ (es : List Entry). IsWhole es s) (sym d.2.same) w);
-        pairs = λ w. λ i. retain_keys (recovered (d.2.same i) (same i)) (λ k. nat_le min k.0);
-      });
+      let d = keeps.each c here in (
+        d.0,
+        d.1,
+        record {
+          plan = d.2.plan;
+          whole = λ w. subst (λ (x : Secrets). IsWhole (entries c) x) (sym same) (subst (λ (es : List Entry). IsWhole es s) (sym d.2.same) w);
+          pairs = λ w. λ i. retain_keys (recovered (d.2.same i) (same i)) (λ k. nat_le min k.0);
+        },
+      );
 }
 
 -- WHAT WAS READ

@@ -1,5 +1,5 @@
 -- What a player told of a dealing that it was handed.
-use Rattle.std.proofs.Common.{◌≡◌, ◌++◌, ◌∷◌, [], ℕ, ◌<◌, ◌≤◌, List, Option, Some, None, is_some, Result, Ok, Err, refl, sym, ◌∙◌, ap, subst, append-nil}
+use Rattle.std.proofs.Common.{◌≡◌, ◌++◌, ◌∷◌, [], ℕ, List, Option, Some, None, is_some, Result, Ok, Err, refl, sym, ◌∙◌, ap, subst, append-nil}
 use Rattle.std.specs.Prelude.{if◌then◌else◌}
 use Rattle.std.specs.FinMap.{FinMap, get, insert}
 use Rattle.std.specs.Ordering.{nat_cmp}
@@ -14,7 +14,6 @@ use Rattle.dkg_store.specs.Pairs.{Pairs}
 use Rattle.dkg_store.specs.Player.{Acknowledges, IsPlayerOf}
 use Rattle.dkg_store.proofs.Map.{keys_total, exact_keys, get_here}
 use Rattle.dkg_reshare.specs.Ends.{fault_of}
-use Rattle.dkg_reshare.specs.Heard.{pairs_after}
 use Rattle.dkg_core.specs.Said.{Said}
 
 same_pair : (v w : List ℕ × ℕ) → ◌≡◌ {A = Option (List ℕ × ℕ)} (Some v) (Some w) → v ≡ w
@@ -51,18 +50,6 @@ module _ (ack_of : ℕ → Round → ℕ → List ℕ → List ℕ) (me : ℕ) (
             by = ([], refl, (refl, ap (λ (x : List ℕ). Ok x) (answer.is ∙ ap (λ (q : List ℕ × ℕ). ack_of me round dealer q.0) p)));
           })
 
-  -- .. and recorded it where it was new
-  pub handed_pairs : (new : Pairs) → (get pairs (epoch, dealer) ≡ None → check ≡ Ok tt)
-      → new ≡ (if is_some (get pairs (epoch, dealer)) then pairs else insert pairs (epoch, dealer) (public, private))
-      → new ≡ pairs_after (get pairs (epoch, dealer)) check (epoch, dealer) (public, private) pairs
-  handed_pairs new checked kept = by_pair (get pairs (epoch, dealer)) checked kept
-    where
-      by_pair : (known : Option (List ℕ × ℕ)) → (known ≡ None → check ≡ Ok tt)
-          → new ≡ (if is_some known then pairs else insert pairs (epoch, dealer) (public, private))
-          → new ≡ pairs_after known check (epoch, dealer) (public, private) pairs
-      by_pair (Some pair) checked same = same
-      by_pair None checked more = more ∙ ap (λ (x : Result (Unit {0}) DealingError). pairs_after None x (epoch, dealer) (public, private) pairs) (sym (checked refl))
-
   -- It refused it.
   pub refused_said : (e : DealingError) {out now : List Line} → get pairs (epoch, dealer) ≡ None → check ≡ Err e → now ≡ out
       → Said (its (get pairs (epoch, dealer)) check) (went (Err e)) out now
@@ -71,18 +58,8 @@ module _ (ack_of : ℕ → Round → ℕ → List ℕ → List ℕ) (me : ℕ) (
       (subst (λ (x : Result (Unit {0}) DealingError). Said (its None x) (went (Err e)) out now) (sym refused)
       (record { lines = []; added = same ∙ sym (append-nil out); by = (refl, refl) }))
 
-  pub refused_pairs : (e : DealingError) (new : Pairs) → get pairs (epoch, dealer) ≡ None → check ≡ Err e → new ≡ pairs
-      → new ≡ pairs_after (get pairs (epoch, dealer)) check (epoch, dealer) (public, private) pairs
-  refused_pairs e new none refused same = same ∙ sym (λ i. pairs_after (none i) (refused i) (epoch, dealer) (public, private) pairs)
-
 -- a player of its own round's epoch
 pub plays_at : (ack_of : ℕ → Round → ℕ → List ℕ → List ℕ) (me its epoch number : ℕ) (round : Round) (acks : FinMap nat_cmp (List ℕ)) (pairs : Pairs) → its ≡ me → epoch ≡ number
     → IsPlayerOf ack_of me round acks pairs number → IsPlayerOf ack_of its round acks pairs epoch
 plays_at ack_of me its epoch number round acks pairs mine same is =
     subst (λ (k : ℕ). IsPlayerOf ack_of k round acks pairs epoch) (sym mine) (subst (λ (n : ℕ). IsPlayerOf ack_of me round acks pairs n) (sym same) is)
-
-pub plays_back : (ack_of : ℕ → Round → ℕ → List ℕ → List ℕ) (me its epoch number : ℕ) (round now : Round) (acks : FinMap nat_cmp (List ℕ)) (pairs : Pairs) → its ≡ me → epoch ≡ number → now ≡ round
-    → IsPlayerOf ack_of its now acks pairs epoch → IsPlayerOf ack_of me round acks pairs number
-plays_back ack_of me its epoch number round now acks pairs mine same one is =
-    subst (λ (q : Round). IsPlayerOf ack_of me q acks pairs number) one
-    (subst (λ (k : ℕ). IsPlayerOf ack_of k now acks pairs number) mine (subst (λ (n : ℕ). IsPlayerOf ack_of its now acks pairs n) same is))

@@ -1,5 +1,5 @@
 -- A dealing of the round that is dealt: what a life makes of it is what the relation says.
-use Rattle.std.proofs.Common.{◌≡◌, ◌++◌, ◌∷◌, [], ℕ, List, Option, Some, Result, Ok, Err, refl, sym, ◌∙◌, ap}
+use Rattle.std.proofs.Common.{◌≡◌, ◌++◌, ◌∷◌, [], ℕ, List, Some, Result, refl, sym, ◌∙◌, ap}
 use Rattle.std.specs.Prelude.{OnOk, OnErr, IfErr}
 use Rattle.std.specs.FinMap.{get}
 use Rattle.dkg_ceremony.specs.declared.ceremony.DealingError.{DealingError}

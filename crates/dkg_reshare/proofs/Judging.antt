@@ -1,12 +1,11 @@
 -- How an info is judged, and the course of a setup by an info that is not committed yet.
-use Rattle.std.proofs.Common.{◌≡◌, ℕ, ◌-◌, Bool, true, false, List, [], Option, Some, None, Result, Ok, Err, refl, sym, ◌∙◌, ap, subst}
+use Rattle.std.proofs.Common.{◌≡◌, ℕ, Bool, true, false, List, [], Option, Some, None, Result, Ok, Err, refl, ◌∙◌, ap}
 use Rattle.std.specs.Prelude.{◌==◌, if◌then◌else◌}
 use Rattle.std.specs.Option.{option_or}
 use Rattle.dkg_values.specs.Rising.{lookup}
 use Rattle.dkg_types.specs.Validation.{validation}
 use Rattle.dkg_types.specs.declared.fault.Fault.{Fault}
-use Rattle.dkg_types.specs.declared.fault.Fault.TheVariants.{InvalidParticipants, WrongEpoch}
-use Rattle.dkg_types.specs.declared.fault.ParticipantsCause.TheVariants.{Refused}
+use Rattle.dkg_types.specs.declared.fault.Fault.TheVariants.{WrongEpoch}
 use Rattle.dkg_types.specs.declared.info.EpochInfo.{EpochInfo}
 use Rattle.dkg_types.specs.declared.outcome.EpochOutcome.{EpochOutcome}
 use Rattle.dkg_types.specs.declared.outcome.EpochOutcome.TheVariants.{Success, Failure}

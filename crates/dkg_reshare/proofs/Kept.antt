@@ -1,11 +1,11 @@
 -- What a call of the store leaves of the devices, as the actor's clauses say it.
-use Rattle.std.proofs.Common.{◌≡◌, ℕ, ◌<◌, ◌≤◌, ◌+◌, ◌^◌, Bool, true, false, cond, nat_lt, List, [], ◌∷◌, ◌++◌, Option, Some, None, refl, sym, ◌∙◌, ap, subst, nat_le, arith}
+use Rattle.std.proofs.Common.{◌≡◌, ℕ, ◌≤◌, ◌+◌, ◌^◌, Bool, true, false, cond, nat_lt, List, [], ◌∷◌, ◌++◌, Option, Some, None, refl, sym, ◌∙◌, ap, subst, nat_le, arith}
 use Rattle.std.specs.Prelude.{IsSome, IsTrue, if◌then◌else◌}
 use Rattle.std.specs.FinMap.{FinMap, get, get-retain_keys, retain_keys, same_map}
 use Rattle.std.proofs.lemmas.Bool.Decides.{nat_tests}
 use Rattle.dkg_journal.specs.Burn.{Burn}
 use Rattle.dkg_journal.specs.DeviceCall.{DeviceCall}
-use Rattle.dkg_journal.specs.Disk.{Follows, Lands}
+use Rattle.dkg_journal.specs.Disk.{Lands}
 use Rattle.dkg_journal.specs.Fuse.{Reached, burned, counted, spent_once}
 use Rattle.dkg_journal.specs.Names.{Files}
 use Rattle.dkg_journal.specs.Records.{entries}
@@ -86,12 +86,6 @@ burned_later (one ∷ calls) f =
 
 -- ONE CALL BEHIND ANOTHER
 
-pub sound_then : {most : ℕ} {a b c : Files → Type 0} → StaysSound most a b → StaysSound most b c → StaysSound most a c
-sound_then first second = record {
-  fit = λ fits. second.fit (first.fit fits);
-  plan = record { each = λ x has. let m = second.plan.each x has in let l = first.plan.each m.0 m.1 in (l.0, l.1, m.2 ∙ l.2) };
-}
-
 module _ (min : ℕ) where
   given_then : {a b c : Files} {r s t : Secrets} → StaysGiven min a b r s → StaysGiven min b c s t → StaysGiven min a c r t
   given_then first second = record {
@@ -160,10 +154,12 @@ module _ {D : Type 0} (min : ℕ) (files : D → Files) (image : D → Files →
   pub gives_pruned : d2 ≡ d1 → s2.privates ≡ s1.privates → (m : ℕ) → m ≡ min → StaysFrom m (image d2) (image d3) s2 s3 → StaysFrom min (image d0) (image d3) s0 s3
   gives_pruned same halves m is from pairs gives =
       let at_read : GivesFrom min pairs (image d1) s1 =
-          subst (λ (d : D). GivesFrom min pairs (image d) s1) (sym read) (subst (λ (s : Secrets). GivesFrom min pairs (image d0) s) (sym read_too) gives) in
+      subst (λ (d : D). GivesFrom min pairs (image d) s1) (sym read) (subst (λ (s : Secrets). GivesFrom min pairs (image d0) s) (sym read_too) gives) in
       let committed : GivesFrom min pairs (image d2) s2 =
-          record { each = λ c here key above. recovered_at s1 s2 key (entries c) (ap (λ (p : FinMap key_cmp ℕ). get p key) halves)
-              ∙ at_read.each c (subst (λ (d : D). image d c) same here) key above } in
+      record {
+        each = λ c here key above. recovered_at s1 s2 key (entries c) (ap (λ (p : FinMap key_cmp ℕ). get p key) halves)
+            ∙ at_read.each c (subst (λ (d : D). image d c) same here) key above;
+      } in
       (subst (λ (n : ℕ). StaysFrom n (image d2) (image d3) s2 s3) is from) pairs committed
 
 -- ONE CALL BEHIND ANOTHER, of both devices

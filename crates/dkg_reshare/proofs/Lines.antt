@@ -13,7 +13,7 @@ use Rattle.dkg_store.proofs.Acts.{made_say, made_none_said}
 use Rattle.dkg_reshare.specs.declared.stop.Stop.{Stop}
 use Rattle.dkg_reshare.specs.declared.stop.Stop.TheVariants.{Fault as Faulted}
 use Rattle.dkg_reshare.specs.Ends.{by_stop, ends_in}
-use Rattle.dkg_core.specs.Said.{Said, SaysFirst}
+use Rattle.dkg_core.specs.Said.{Said}
 
 module _ {S : Type 0} (line : Line) (end : S) {out now : List Line} where
   -- over the devices, which it doesn't touch

@@ -1,7 +1,7 @@
 -- How a player is made: what a store answers is what the relation says.
 use Rattle.std.proofs.Common.{◌≡◌, inl, inr, ℕ, Bool, true, false, List, Option, Some, None, Err, refl, sym, ◌∙◌, ap, subst, Contains, Ok}
 use Rattle.std.specs.Ordering.{nat_cmp}
-use Rattle.std.specs.FinMap.{FinMap, empty, get, get-empty}
+use Rattle.std.specs.FinMap.{FinMap, empty, get-empty}
 use Rattle.std.specs.Prelude.{◌⊎◌, ◌||◌, not, is_some, IfSome, if◌then◌else◌}
 use Rattle.dkg_ceremony.specs.declared.phase.Phase.{Phase}
 use Rattle.dkg_ceremony.specs.declared.round.Round.{Round}
@@ -16,11 +16,11 @@ use Rattle.dkg_store.specs.declared.player.Player.{Player}
 use Rattle.dkg_store.specs.declared.store.Store.{Store}
 use Rattle.dkg_core.specs.Courses.{Course}
 use Rattle.dkg_core.specs.Fixed.{Fixed, has}
-use Rattle.dkg_core.specs.Live.{Live, Plays, Records, Watches, of_epoch}
+use Rattle.dkg_core.specs.Live.{Live, Plays, Watches, of_epoch}
 use Rattle.dkg_core.specs.Logs.{logs_of}
 use Rattle.dkg_core.specs.Setup as setup
 use Rattle.dkg_reshare.specs.Ends.{stop_of}
-use Rattle.dkg_reshare.specs.LiveOf.{SitsIn, records_of, seat_of}
+use Rattle.dkg_reshare.specs.LiveOf.{SitsIn, records_of}
 use Rattle.dkg_reshare.specs.Rules.{AckOf, BearsAckOf, DealingOf}
 use Rattle.dkg_reshare.specs.Steps.{MakesPlayer}
 

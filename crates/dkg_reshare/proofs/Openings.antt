@@ -1,16 +1,16 @@
 -- The opening of a store, and the setup behind it: made, said, and what is blamed.
-use Rattle.std.proofs.Common.{◌≡◌, ◌⊎◌, inl, inr, ℕ, ◌+◌, ◌-◌, ◌<◌, ◌≤◌, Bool, List, [], ◌∷◌, ◌++◌, drop, length, map, Option, Some, None, Result, Ok, Err, refl, sym, ◌∙◌, ap, subst}
+use Rattle.std.proofs.Common.{◌≡◌, ◌⊎◌, inl, inr, ℕ, ◌+◌, Bool, List, [], ◌∷◌, ◌++◌, drop, length, map, Some, None, Result, Ok, Err, refl, sym, ◌∙◌, ap, subst}
 use Rattle.std.specs.Prelude.{IfErr, IsTrue, OnOk, OnErr, if◌then◌else◌, ◌==◌}
 use Rattle.std.specs.FinMap as maps
-use Rattle.std.specs.FinMap.{find, get, get-entries}
+use Rattle.std.specs.FinMap.{get, get-entries}
 use Rattle.dkg_values.specs.declared.name.Name.{Name}
 use Rattle.dkg_fence.specs.Readiness.{Readiness}
 use Rattle.dkg_journal.specs.Burn.{Burn}
 use Rattle.dkg_journal.specs.DeviceCall.{DeviceCall}
-use Rattle.dkg_journal.specs.Fuse.{Ran, RanAll, Reached, calls_in}
+use Rattle.dkg_journal.specs.Fuse.{Ran, RanAll, Reached}
 use Rattle.dkg_journal.specs.Gated.{gated, gated_behind}
 use Rattle.dkg_journal.specs.Names.{Files}
-use Rattle.dkg_journal.specs.Opening.{broken, open_calls}
+use Rattle.dkg_journal.specs.Opening.{broken}
 use Rattle.dkg_journal.specs.Records.{Entry, entries}
 use Rattle.dkg_journal.specs.Views.{views}
 use Rattle.dkg_journal.specs.declared.disk.Op.{Op}
@@ -29,7 +29,6 @@ use Rattle.dkg_store.specs.Both.{Call, MadeBoth, on_disk}
 use Rattle.dkg_store.specs.Corrupt.{AreEvents, HasNoEvent, IsCorruptAt}
 use Rattle.dkg_store.specs.Errors.{IsOfDevices, IsOfOpening, IsOfPruning}
 use Rattle.dkg_store.specs.Events.{no_event_at}
-use Rattle.dkg_store.specs.Keys.{key_cmp}
 use Rattle.dkg_store.specs.Pairs.{IsWhole, Pairs, recovered}
 use Rattle.dkg_store.specs.Recorded.{Pair, restored_list, restored_of}
 use Rattle.dkg_store.specs.Secrets.{Secrets}
@@ -48,7 +47,7 @@ use Rattle.dkg_core.specs.Live.{Live, Records}
 use Rattle.dkg_core.specs.Setup as setup
 use Rattle.dkg_core.specs.Sources.{Source}
 use Rattle.dkg_core.proofs.Agreeing.{setups_agree}
-use Rattle.dkg_core.specs.Said.{Said, SaysBy}
+use Rattle.dkg_core.specs.Said.{SaysBy}
 use Rattle.dkg_core.specs.Seen.{Seen}
 use Rattle.dkg_reshare.specs.declared.stop.Stop.{Stop}
 use Rattle.dkg_reshare.specs.declared.stop.Stop.TheVariants.{Fault as Faulted, Cut, Failed}
@@ -153,13 +152,16 @@ module _ (limit : ℕ) (tells : Bool) (files : Files) {disk secrets reached disk
 
 module _ {D X : Type 0} (disk : D → D → List (DeviceCall Op) → Type 0) (secrets : X → X → List (DeviceCall SecretOp) → Type 0) where
   pub disk_alone : {a b : D} {x y : X} {f g : Burn} {calls : List Op} → Ran disk a b f g calls → secrets x y [] → (all : List Call) × RanAll (MadeBoth disk secrets) (a, x) (b, y) f g all
-  disk_alone {a} {b} {x} {y} {f} ran none = (map on_disk ran.first, record {
-    each = record {
-      on_the_disk = subst (λ (l : List (DeviceCall Op)). disk a b l) (sym (disk_calls-map ran.first f)) ran.all.each;
-      on_the_secrets = subst (λ (l : List (DeviceCall SecretOp)). secrets x y l) (sym (secret_calls-map ran.first f)) none;
-    };
-    fuse = ran.all.fuse ∙ sym (burned-map ran.first f);
-  })
+  disk_alone {a} {b} {x} {y} {f} ran none = (
+    map on_disk ran.first,
+    record {
+      each = record {
+        on_the_disk = subst (λ (l : List (DeviceCall Op)). disk a b l) (sym (disk_calls-map ran.first f)) ran.all.each;
+        on_the_secrets = subst (λ (l : List (DeviceCall SecretOp)). secrets x y l) (sym (secret_calls-map ran.first f)) none;
+      };
+      fuse = ran.all.fuse ∙ sym (burned-map ran.first f);
+    },
+  )
 
 -- AS ACTS: the store's opening, and the line
 

@@ -1,24 +1,23 @@
 -- A setup at a life's position: the epoch that is awaited there, and its boundary block.
-use Rattle.std.proofs.Common.{◌≡◌, ℕ, ◌+◌, ◌-◌, ◌*◌, ◌/◌, ◌^◌, ◌<◌, ◌≤◌, nat_le, nat_lt, Bool, true, false, [], Option, Some, None, Result, Ok, Err, refl, sym, ◌∙◌, ap, subst, append-nil, arith}
+use Rattle.std.proofs.Common.{◌≡◌, ℕ, ◌+◌, ◌*◌, ◌/◌, ◌^◌, ◌<◌, ◌≤◌, nat_le, nat_lt, Bool, true, false, [], Option, Some, None, Result, Ok, Err, refl, sym, ◌∙◌, ap, subst, append-nil, arith}
 use Rattle.std.specs.Prelude.{IsSomeAnd, IsTrue, List, ◌∷◌, OnOk, nat_eq, if◌then◌else◌}
 use Rattle.std.specs.Option.{option_map_or}
 use Rattle.std.specs.Int.NonZero.{non_zero_u32_get, non_zero_u64_get}
 use Rattle.std.proofs.lemmas.Bool.Decides.{nat_tests}
 use Rattle.std.proofs.Math.Nat.{lt-div-mul-add}
-use Rattle.dkg_ceremony.specs.Schedule.{boundary, bounds_at, epoch_of, first, in_range as in_bounds, last, midpoint, phase_at}
+use Rattle.dkg_ceremony.specs.Schedule.{boundary, bounds_at, epoch_of, in_range as in_bounds, last, midpoint, phase_at}
 use Rattle.dkg_ceremony.specs.declared.epocher.Bounds.{Bounds}
 use Rattle.dkg_ceremony.specs.declared.phase.Phase.TheVariants.{Early, Midpoint, Late}
 use Rattle.dkg_fence.specs.Readiness.{Readiness}
 use Rattle.dkg_types.specs.BlockCodes.{info_of}
 use Rattle.dkg_types.specs.Blocks.{Block}
-use Rattle.dkg_types.specs.declared.fault.Fault.{Fault}
 use Rattle.dkg_types.specs.declared.fault.Fault.TheVariants.{HeightRange, MissingEpochInfo}
 use Rattle.dkg_types.specs.declared.info.EpochInfo.{EpochInfo}
 use Rattle.dkg_types.specs.declared.scheme.SchemeInfo.{SchemeInfo}
 use Rattle.dkg_journal.specs.Names.{Files}
 use Rattle.dkg_store.specs.declared.devices.Devices.{Devices}
 use Rattle.dkg_store.specs.declared.store.Store.{Store}
-use Rattle.dkg_core.specs.Courses.{Course, Stops}
+use Rattle.dkg_core.specs.Courses.{Stops}
 use Rattle.dkg_core.specs.Fixed.{Fixed, stand_in}
 use Rattle.dkg_core.specs.Live.{Live, awaited_height}
 use Rattle.dkg_core.specs.Setup as setup
@@ -26,7 +25,7 @@ use Rattle.dkg_core.specs.Setup.{Uncommitted}
 use Rattle.dkg_core.specs.Sources.{Source, Tip}
 use Rattle.dkg_reshare.specs.declared.life.Life.{Life}
 use Rattle.dkg_reshare.specs.declared.life.Stage.{Stage}
-use Rattle.dkg_reshare.specs.declared.life.Stage.TheVariants.{Dealing, Including, Following}
+use Rattle.dkg_reshare.specs.declared.life.Stage.TheVariants.{Including, Following}
 use Rattle.dkg_reshare.specs.declared.config.Terms.{Terms}
 use Rattle.dkg_reshare.specs.Actors.{IsReadyLife}
 use Rattle.dkg_reshare.specs.LiveOf.{Beside, EndsBeside, IsPlaced, IsSeated, Took, live_of, scheme_by, with_scheme_of}

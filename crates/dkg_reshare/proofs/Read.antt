@@ -1,5 +1,5 @@
 -- A message that is a dealing was heard as one.
-use Rattle.std.proofs.Common.{◌≡◌, ℕ, List, Option, Some, refl, sym, ◌∙◌, ap, subst}
+use Rattle.std.proofs.Common.{◌≡◌, ℕ, List, Some, sym, ◌∙◌, ap, subst}
 use Rattle.std.specs.Result.{result_ok}
 use Rattle.dkg_values.specs.Codec.{whole}
 use Rattle.dkg_ceremony.specs.declared.round.Round.{Round}
@@ -7,7 +7,6 @@ use Rattle.dkg_fence.specs.Readiness.{Readiness}
 use Rattle.dkg_journal.specs.Names.{Files}
 use Rattle.dkg_types.specs.MessageCodes.{message_at}
 use Rattle.dkg_types.specs.declared.fault.Fault.{Fault}
-use Rattle.dkg_types.specs.declared.message.Message.{Message as Channel}
 use Rattle.dkg_types.specs.declared.message.Message.TheVariants.{Dealer as ADealing}
 use Rattle.dkg_store.specs.Acts.{Ended, Moment}
 use Rattle.dkg_core.specs.Courses.{Course, on_devices}
@@ -18,7 +17,7 @@ use Rattle.dkg_reshare.specs.declared.life.Life.{Life}
 use Rattle.dkg_reshare.specs.Heard.{round_dealt}
 use Rattle.dkg_reshare.specs.Made.{MakesAt}
 use Rattle.dkg_reshare.specs.LiveOf.{Beside, live_of, seat_of}
-use Rattle.dkg_reshare.proofs.Reading.{Reads, reads_dealing, reads_it}
+use Rattle.dkg_reshare.proofs.Reading.{reads_dealing, reads_it}
 
 pub dealing_heard : {Dir : Type 0} (c : Fixed Dir) (from : ℕ) (bytes : List ℕ) (beside : Beside Dir) (fence : Readiness) (life : Life Dir) (epoch : ℕ) → round_dealt life ≡ Some epoch
     → (public : List ℕ) (private limit : ℕ) → c.limit ≡ limit → result_ok (whole (message_at limit bytes)) ≡ Some (ADealing public private)

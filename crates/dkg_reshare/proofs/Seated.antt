@@ -1,14 +1,13 @@
 -- A life's player, between two calls.
-use Rattle.std.proofs.Common.{◌≡◌, ℕ, Option, Some, None, Result, Ok, Err, refl, sym, ◌∙◌, ap, subst}
-use Rattle.std.specs.Prelude.{IfSome, OnOk, OnErr, option_map, if◌then◌else◌}
+use Rattle.std.proofs.Common.{◌≡◌, ℕ, Option, Some, None, Result, Ok, Err, sym, ◌∙◌, ap, subst}
+use Rattle.std.specs.Prelude.{IfSome, OnOk, option_map, if◌then◌else◌}
 use Rattle.dkg_ceremony.specs.declared.round.Round.{Round}
 use Rattle.dkg_store.specs.declared.player.Player.{Player}
-use Rattle.dkg_store.specs.declared.store.Store.{Store}
 use Rattle.dkg_reshare.specs.declared.life.Life.{Life}
 use Rattle.dkg_reshare.specs.declared.life.Stage.{Stage}
 use Rattle.dkg_reshare.specs.declared.life.Stage.TheVariants.{Dealing, Including, Following}
 use Rattle.dkg_reshare.specs.Heard.{round_dealt}
-use Rattle.dkg_reshare.specs.LiveOf.{IsPlaced, IsSeated, Sits, SitsAt, SitsIn}
+use Rattle.dkg_reshare.specs.LiveOf.{IsSeated, Sits, SitsAt, SitsIn}
 use Rattle.dkg_reshare.specs.Rules.{AckOf}
 use Rattle.dkg_reshare.specs.Steps.{is_dealing}
 
@@ -37,17 +36,6 @@ module _ {Dir : Type 0} (ack_of : AckOf) (me its : ℕ) (life : Life Dir) (playe
 
   pub round_is : (round : Round) → life.round ≡ Some round → round ≡ player.round
   round_is round has = same_some round sits.round (sym has ∙ sits.has) ∙ sym sits.sits.round_is
-
-  -- .. keeps its seat
-  pub sits_again : (store : Store Dir) (now : Player) → SitsIn ack_of its store player.round now → Sits ack_of me (record life { store = store; player = Some now }) now
-  sits_again store now kept = record {
-    round = sits.round;
-    has = sits.has;
-    sits = subst (λ (r : Round). SitsIn ack_of me store r now) sits.sits.round_is (subst (λ (k : ℕ). SitsIn ack_of k store player.round now) (sym mine) kept);
-  }
-
-pub placed_again : {Dir : Type 0} (n : ℕ) (life : Life Dir) (store : Store Dir) (player : Option Player) → IsPlaced n life → IsPlaced n (record life { store = store; player = player })
-placed_again n life store player placed = record { epoch_is = placed.epoch_is; midpoint_is = placed.midpoint_is; ended = placed.ended }
 
 -- A life whose tip and stage alone moved keeps its player.
 pub seated_on : {Dir : Type 0} (ack_of : AckOf) (me : ℕ) (old new : Life Dir) → new ≡ record old { tip = new.tip; stage = new.stage } → IsSeated ack_of me old → IsSeated ack_of me new

@@ -1,5 +1,5 @@
 -- The parts of a setup, and the store's calls that they are.
-use Rattle.std.proofs.Common.{◌≡◌, ℕ, ◌==◌, arith, Bool, cond, nat_le, List, [], ◌∷◌, ◌++◌, Option, Some, None, Result, Ok, Err, refl, sym, ◌∙◌, ap, subst, inl, append-nil}
+use Rattle.std.proofs.Common.{◌≡◌, ℕ, ◌==◌, arith, Bool, cond, nat_le, List, [], ◌∷◌, ◌++◌, Option, Some, None, Result, refl, sym, ◌∙◌, ap, subst, append-nil}
 use Rattle.std.specs.Prelude.{IfErr, OnErr, OnOk}
 use Rattle.std.specs.FinMap as maps
 use Rattle.std.specs.FinMap.{FinMap, find, get, get-entries}
@@ -91,12 +91,6 @@ module _ {Dir : Type 0} (c : Fixed Dir) (epoch : ℕ) (reads : c.seen ≡ seen_t
       subst (λ (x : Acts Fault (List ℕ)). MakesAt x (went seed) files image files_now now old new) (sym (reads_as c epoch reads))
       (makes_next (λ its. acts_of.Goes (setup.seed_for c epoch its)) (makes_under (went found) made (burns_still (went found) still)) (makes_nothing files_now now new is))
 
-  pub seed_failed : (e : StoreError) → IsOfDevices e → MadeAt (seeding epoch) (by_error e) files image files_now now old new → new.fuse ≡ old.fuse
-      → MakesAt (on_devices (reads_seed c epoch)) (by_stop (stop_of e)) files image files_now now old new
-  seed_failed e kind made still =
-      subst (λ (x : Acts Fault (List ℕ)). MakesAt x (by_stop (stop_of e)) files image files_now now old new) (sym (reads_as c epoch reads))
-      (makes_early (λ its. acts_of.Goes (setup.seed_for c epoch its)) (stop_of e) (makes_error e kind made (ap (λ (f : Burn). f.call) still) (ap (λ (f : Burn). f.pick) still)))
-
 module _ {Dir : Type 0} (info : EpochInfo Dir) (seed : List ℕ) (st : Live Dir) where
   abbrev with_info : Live Dir
   with_info = record st { participation = record st.participation { current = Some info } }
@@ -119,14 +113,6 @@ module _ {Dir : Type 0} (info : EpochInfo Dir) (seed : List ℕ) (st : Live Dir)
     commit_failed its same e kind {old} {new} made call pick =
         makes_early then_tells (stop_of e)
         (makes_error e kind (subst (λ (x : EpochInfo Dir). MadeAt (committing x.epoch seed None) (by_error e) files image files_now now old new) same made) call pick)
-
-  pub commit_said : (end : Live Dir) → end ≡ with_info → (result : Result (Unit {0}) Stop) {out told : List Line}
-      → OnOk result (told ≡ out ++ Committed info.epoch None ∷ []) → OnErr result (told ≡ out) → IfErr result (λ stop. stop ≡ Faulted NoMemory)
-      → Said (on_devices (setup.commits info seed None st)) (ends_in end result) out told
-  commit_said end is (Ok done) {out} told untold memory = record { lines = Committed info.epoch None ∷ []; added = told; by = ([], refl, (refl, is)) }
-  commit_said end is (Err stop) {out} {told} told_it untold memory =
-      subst (λ (its : Ended Fault (Live Dir)). Said (on_devices (setup.commits info seed None st)) its out told) (sym (ap (λ (its : Stop). by_stop {S = Live Dir} its) memory))
-      (record { lines = []; added = untold ∙ sym (append-nil out); by = inl refl })
 
 module _ {Dir : Type 0} (min : ℕ) (st : Live Dir) where
   abbrev kept : Live Dir

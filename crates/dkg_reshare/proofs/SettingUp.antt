@@ -10,7 +10,7 @@ use Rattle.dkg_types.specs.declared.fault.Fault.TheVariants.{InvalidParticipants
 use Rattle.dkg_types.specs.declared.fault.ParticipantsCause.TheVariants.{Refused}
 use Rattle.dkg_types.specs.declared.info.EpochInfo.{EpochInfo}
 use Rattle.dkg_types.specs.declared.participants.ParticipantsError.{ParticipantsError}
-use Rattle.dkg_store.specs.Acts.{Acts, Ended, Held, Moment, went}
+use Rattle.dkg_store.specs.Acts.{Ended, Held, Moment, went}
 use Rattle.dkg_store.specs.declared.store.Store.{Store}
 use Rattle.dkg_core.specs.Courses.{Course, bind, on_devices}
 use Rattle.dkg_core.specs.Fixed.{Fixed}
@@ -19,7 +19,6 @@ use Rattle.dkg_core.specs.Setup as setup
 use Rattle.dkg_core.specs.Setup.{Uncommitted}
 use Rattle.dkg_core.specs.Said.{Said}
 use Rattle.dkg_reshare.specs.declared.stop.Stop.{Stop}
-use Rattle.dkg_reshare.specs.declared.stop.Stop.TheVariants.{Fault as Faulted}
 use Rattle.dkg_reshare.specs.Ends.{by_stop, cause_in}
 use Rattle.dkg_reshare.specs.declared.life.Life.{Life}
 use Rattle.dkg_reshare.specs.LiveOf.{Beside, live_of}

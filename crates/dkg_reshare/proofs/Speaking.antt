@@ -1,5 +1,5 @@
 -- Courses that touch no device.
-use Rattle.std.proofs.Common.{◌≡◌, List, [], ◌∷◌, ◌++◌, Option, Some, None, refl, sym, ap, subst, inl, inr}
+use Rattle.std.proofs.Common.{◌≡◌, List, [], ◌∷◌, ◌++◌, Option, None, refl, sym, ap, subst}
 use Rattle.dkg_journal.specs.Burn.{Burn}
 use Rattle.dkg_types.specs.declared.entry.Entry.{Entry as Line}
 use Rattle.dkg_types.specs.declared.fault.Fault.{Fault}

@@ -1,5 +1,5 @@
 -- An actor between two calls, by its state.
-use Rattle.std.specs.Prelude.{List, ◌≡◌, ◌<◌, ◌==◌, not, ℕ, ⊤, Option, Some, None, Bool, if◌then◌else◌, IsTrue, Result, Ok, Err, OnErr, IsErrOf}
+use Rattle.std.specs.Prelude.{List, ◌≡◌, ◌<◌, ◌==◌, not, ℕ, ⊤, Option, Some, None, Bool, if◌then◌else◌, IsTrue, Result, Ok, Err, IsErrOf}
 use Rattle.std.specs.Int.NonZero.{non_zero_u64_get}
 use Rattle.std.specs.declared.num.NonZeroU32.{NonZeroU32}
 use Rattle.std.specs.declared.num.NonZeroU64.{NonZeroU64}

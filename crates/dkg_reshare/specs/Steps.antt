@@ -1,5 +1,5 @@
 -- The parts of the relation's courses that the functions here are, one by one.
-use Rattle.std.specs.Prelude.{◌≡◌, ◌⊎◌, ◌==◌, ◌++◌, ◌∷◌, [], ℕ, Bool, true, false, IfOk, OnErr, OnOk, List, Option, Some, None, Result, Ok, Err, if◌then◌else◌}
+use Rattle.std.specs.Prelude.{◌≡◌, ◌⊎◌, ◌==◌, ℕ, Bool, true, false, List, Option, Some, None, Result, Ok, Err, if◌then◌else◌}
 use Rattle.dkg_ceremony.specs.declared.phase.Phase.{Phase}
 use Rattle.dkg_ceremony.specs.declared.phase.Phase.TheVariants as phase
 use Rattle.dkg_ceremony.specs.declared.round.Round.{Round}
@@ -13,11 +13,10 @@ use Rattle.dkg_types.specs.declared.fault.LocalCause.TheVariants.{StoredDealing}
 use Rattle.dkg_types.specs.declared.fault.ParticipantsCause.TheVariants.{Refused, Round as NoRound}
 use Rattle.dkg_types.specs.declared.info.EpochInfo.{EpochInfo}
 use Rattle.dkg_types.specs.declared.participants.ParticipantsError.{ParticipantsError}
-use Rattle.std.specs.FinMap.{get, insert}
 use Rattle.dkg_ceremony.specs.declared.ceremony.DealingError.{DealingError}
 use Rattle.dkg_types.specs.Validation.{validation}
 use Rattle.dkg_types.specs.declared.entry.Entry.{Entry as Line}
-use Rattle.dkg_types.specs.declared.entry.Entry.TheVariants.{Recorded, Ack, Blocked}
+use Rattle.dkg_types.specs.declared.entry.Entry.TheVariants.{Ack, Blocked}
 use Rattle.dkg_values.specs.Rising.{lookup}
 use Rattle.dkg_core.specs.Courses.{Course, Goes}
 use Rattle.dkg_core.specs.Fixed.{Fixed}
@@ -30,8 +29,6 @@ use Rattle.dkg_reshare.specs.declared.stop.Stop.TheVariants.{Fault as Faulted}
 use Rattle.dkg_reshare.specs.declared.life.Stage.{Stage}
 use Rattle.dkg_reshare.specs.declared.life.Stage.TheVariants as stage
 use Rattle.dkg_reshare.specs.LiveOf.{seat_of}
-use Rattle.dkg_reshare.specs.Rules.{AckOf, DealingOf}
-use Rattle.dkg_store.specs.declared.store.Store.{Store}
 use Rattle.dkg_store.specs.declared.player.Player.{Player}
 
 -- the seed of an epoch, as it is read

@@ -158,14 +158,14 @@ impl<C: Ceremony, P, R: Registrar, M, Dir: Directory + Drop> Actor<C, P, R, M, D
         out: &mut Transcript,
     ) -> Result<(), Stop>
         requires new { IsNew self.old.state }
-        // It is the relation's opening, and each act was made, whatever image a crash leaves.
+        // Of a disk of which nothing was loose: it is the relation's opening, and each act was made, whatever image a crash leaves.
         ensures acts { IsTrue D.tells → IsTrue X.tells → (c : Fixed Dir)
             → IsOpeningOf self.old.terms (B.answers source.now) life word (D.files devices.old.disk.now) c
             → IsRuledBy C.round_of C.dealing_of C.ack_of C.bears_ack_of c.rules → fence.old ≡ no_fence
             → EndsBeside nothing_beside (λ more. OnOk result (Took R.tells (R.taken self.old.registrar) (R.taken self.new.registrar) more))
             (λ now. Makes D.files D.image X.held (opening c) (lives (live_of now fence.new) self.new.state result)
             devices.old devices.new out.old.entries out.new.entries) }
-        // Whatever the devices tell, its lines are those of an opening that has read something.
+        // Whatever the devices tell, its lines are those of an opening that has read something: where they tell, dealings that each image gives back.
         ensures tells { (c : Fixed Dir) → IsLent self.old.terms (B.answers source.now) word c → c.life ≡ life → IsOpeningOfToday c
             → IsRuledBy C.round_of C.dealing_of C.ack_of C.bears_ack_of c.rules → fence.old ≡ no_fence
             → HasRead (λ s. UnlessBroken (ends (λ done. done) result) (IsTrue D.tells → IsTrue X.tells
@@ -184,11 +184,11 @@ impl<C: Ceremony, P, R: Registrar, M, Dir: Directory + Drop> Actor<C, P, R, M, D
         ensures live { OnOk result (IsTrue D.tells → IsTrue X.tells → IsSoundAt D.files D.image X.held devices.old
             → IsAgreed self.new.state (D.files devices.new.disk.now) (X.held devices.new.secrets.now)) }
         ensures moved { Moved D.tells D.made X.made D.faults X.faults devices.old devices.new }
-        // A device is blamed where its count rose, and a record where it stands.
+        // A device is blamed where its count rose, a cut where the fuse reached its call, and a record where it stands.
         ensures causes { IfErr result (λ stop. IsFoundAt (non_zero_u32_get self.old.terms.limit) D.tells (D.files devices.new.disk.now) stop
             (Rose (D.faults devices.old.disk.now) (D.faults devices.new.disk.now))
             (Rose (X.faults devices.old.secrets.now) (X.faults devices.new.secrets.now)) (Reached devices.old.fuse devices.new.fuse)) }
-        // Where something was loose: what a crash leaves stays in its grammar, and gives back what is not below the epoch before.
+        // Whatever was loose: what a crash leaves stays in its grammar, and gives back what is not below the epoch before.
         ensures loose { IsTrue D.tells → StaysAbove (epoch_at (B.answers source.now) self.old.terms - 1)
             (D.image devices.old.disk.now) (D.image devices.new.disk.now) (X.held devices.old.secrets.now) (X.held devices.new.secrets.now) }
     {

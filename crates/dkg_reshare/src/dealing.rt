@@ -115,7 +115,8 @@ fn handle<C: Ceremony, Dir: Directory + Drop, D: Disk, X: SecretStore>(
     ensures firm { OnOk result (IsTrue D.tells → IsFirm store.new.journal (D.files devices.new.disk.now) (D.image devices.new.disk.now)) }
     ensures keeps { Keeps result C.dealing_of C.ack_of (C.Signer.key_of signer.now) epoch from public private store.old store.new player.old player.new }
     ensures acts { IsTrue D.tells → IsTrue X.tells → MakesOn D.files D.image X.held (answers C.dealing_of C.ack_of player.old.me player.old.round
-        (map.get store.old.dealings (epoch, from)) epoch from public private) (ends (λ answer. answer) result) devices.old devices.new out.old.entries out.new.entries }
+        (map.get store.old.dealings (epoch, from)) epoch from public private) (ends (λ answer. answer) result)
+        devices.old devices.new out.old.entries out.new.entries }
     ensures tells { Said (answers C.dealing_of C.ack_of player.old.me player.old.round (map.get store.old.dealings (epoch, from)) epoch from public private)
         (ends (λ answer. answer) result) out.old.entries out.new.entries }
     ensures moved { Moved D.tells D.made X.made D.faults X.faults devices.old devices.new }

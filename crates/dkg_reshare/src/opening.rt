@@ -82,7 +82,14 @@ fn open_store<Dir: Directory + Drop, D: Disk, X: SecretStore>(
 /// A life over a store, at the position that its source tells.
 fn begin<Dir: Directory + Drop, B: BlockSource<Dir>>(store: Store<Dir>, source: &B) -> Life<Dir>
     ensures { result ≡ record {
-        store = store; tip = startup_of (B.answers source.now); epoch = 0; midpoint = 0; stage = Stage.Following; round = None; player = None } }
+      store = store;
+      tip = startup_of (B.answers source.now);
+      epoch = 0;
+      midpoint = 0;
+      stage = Stage.Following;
+      round = None;
+      player = None;
+    } }
 {
     Life {
         store,

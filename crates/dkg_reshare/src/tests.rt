@@ -198,30 +198,85 @@ fn lived(alloc: Global) -> Result<[usize; 4], Fail> {
     };
     let mut fence = Fence::new();
     let mut out = Transcript::new(alloc);
-    if open(alloc, &mut actor, &mut devices, &source, &mut fence, &mut out).is_err() {
+    if open(
+        alloc,
+        &mut actor,
+        &mut devices,
+        &source,
+        &mut fence,
+        &mut out,
+    )
+    .is_err()
+    {
         return Err(Fail::from("not opened"));
     }
     let opened = out.entries().len();
     let message = dealing(alloc)?;
-    if step(alloc, &mut actor, &mut devices, &source, message, &mut fence, &mut out).is_err() {
+    if step(
+        alloc,
+        &mut actor,
+        &mut devices,
+        &source,
+        message,
+        &mut fence,
+        &mut out,
+    )
+    .is_err()
+    {
         return Err(Fail::from("not heard"));
     }
     let again = dealing(alloc)?;
-    if step(alloc, &mut actor, &mut devices, &source, again, &mut fence, &mut out).is_err() {
+    if step(
+        alloc,
+        &mut actor,
+        &mut devices,
+        &source,
+        again,
+        &mut fence,
+        &mut out,
+    )
+    .is_err()
+    {
         return Err(Fail::from("not heard again"));
     }
     let heard = out.entries().len();
     let block = Message::Finalized(block_at(alloc, parent, Height(1), None)?);
-    if step(alloc, &mut actor, &mut devices, &source, block, &mut fence, &mut out).is_err() {
+    if step(
+        alloc,
+        &mut actor,
+        &mut devices,
+        &source,
+        block,
+        &mut fence,
+        &mut out,
+    )
+    .is_err()
+    {
         return Err(Fail::from("not taken"));
     }
     let apart = Message::Finalized(block_at(alloc, parent, Height(2), None)?);
-    let ended = step(alloc, &mut actor, &mut devices, &source, apart, &mut fence, &mut out);
+    let ended = step(
+        alloc,
+        &mut actor,
+        &mut devices,
+        &source,
+        apart,
+        &mut fence,
+        &mut out,
+    );
     let Some(height) = detached(&ended) else {
         return Err(Fail::from("a detached block is taken"));
     };
     let late = dealing(alloc)?;
-    let ended = step(alloc, &mut actor, &mut devices, &source, late, &mut fence, &mut out);
+    let ended = step(
+        alloc,
+        &mut actor,
+        &mut devices,
+        &source,
+        late,
+        &mut fence,
+        &mut out,
+    );
     if !has_failed(&ended) {
         return Err(Fail::from("a failed actor goes on"));
     }

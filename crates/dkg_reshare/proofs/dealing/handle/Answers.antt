@@ -1,4 +1,4 @@
-use Rattle.std.proofs.Common.{ℕ, Ok, Err, ap, sym, subst, ◌∙◌}
+use Rattle.std.proofs.Common.{ℕ, Ok, Err, ap, sym, subst}
 use Rattle.std.specs.Prelude.{Contains}
 use Rattle.dkg_store.specs.Acts.{went}
 use Rattle.dkg_store.specs.declared.call.StoreError.{StoreError}
@@ -8,7 +8,7 @@ use Rattle.dkg_store.proofs.Fit.{fits_event}
 use Rattle.dkg_reshare.proofs.Burning.{burns_ran, makes_error, makes_under, ran_call, ran_pick}
 use Rattle.dkg_reshare.proofs.Calls.{moved_both}
 use Rattle.dkg_reshare.proofs.Caused.{of_both}
-use Rattle.dkg_reshare.proofs.Handed.{handed_said, refused_said, plays_at}
+use Rattle.dkg_reshare.proofs.Handed.{handed_said, plays_at}
 use Rattle.dkg_reshare.proofs.Said.{said_none, devices_of_pruning}
 use Rattle.dkg_reshare.proofs.Short.{event_short}
 use Rattle.dkg_reshare.proofs.dealing.handle.Goals as goal

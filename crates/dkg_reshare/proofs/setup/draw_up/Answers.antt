@@ -28,8 +28,10 @@ returns-in_err-player-clause-speaks g c = λ fixed seed beside fence of seats st
 
 pub returns-clause-sits : goal.returns-clause-sits
 returns-clause-sits g c = (
-    seated_in g.C.Ceremony.ack_of c.args.terms.now.me (record c.args.life.now { stage = c.stage_in-life.result; round = Some c.in_ok-round.round; player = c.in_ok-player.player })
-    c.in_ok-round.round refl c.in_ok-player.player c.in_ok-player.ensures.sits, c.stage_in-life.ensures)
+  seated_in g.C.Ceremony.ack_of c.args.terms.now.me (record c.args.life.now { stage = c.stage_in-life.result; round = Some c.in_ok-round.round; player = c.in_ok-player.player })
+      c.in_ok-round.round refl c.in_ok-player.player c.in_ok-player.ensures.sits,
+  c.stage_in-life.ensures,
+)
 
 pub returns-in_err-push-clause-speaks : goal.returns-in_err-push-clause-speaks
 returns-in_err-push-clause-speaks g c = λ fixed seed beside fence of seats stands.

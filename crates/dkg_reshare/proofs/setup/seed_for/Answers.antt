@@ -1,4 +1,4 @@
-use Rattle.std.proofs.Common.{◌≡◌, ℕ, List, Option, refl, sym, ◌∙◌, ap}
+use Rattle.std.proofs.Common.{ℕ, List, Option, refl, sym, ◌∙◌, ap}
 use Rattle.std.proofs.lemmas.Result.{err_from_is_err_and}
 use Rattle.dkg_core.specs.Courses.{on_devices}
 use Rattle.dkg_reshare.specs.Steps.{reads_seed}

@@ -1,4 +1,4 @@
-use Rattle.std.proofs.Common.{◌-◌, ◌∙◌, None, Some, ap, arith, refl, subst, sym}
+use Rattle.std.proofs.Common.{◌-◌, ◌∙◌, None, ap, arith, refl}
 use Rattle.std.proofs.lemmas.Result.{err_from_is_err_and}
 use Rattle.std.specs.Int.NonZero.{non_zero_u32_get}
 use Rattle.dkg_core.specs.Setup as setup
