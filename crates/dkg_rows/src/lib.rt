@@ -5,7 +5,11 @@
 
 mod appends;
 #[cfg(test)]
+mod blames;
+#[cfg(test)]
 mod block_rows;
+#[cfg(test)]
+mod cuts;
 #[cfg(test)]
 mod misses;
 #[cfg(test)]

@@ -1,5 +1,5 @@
 -- Why a valid run comes to its end: each fault but want of memory is against one of its premises.
-use Rattle.std.proofs.Common.{◌≡◌, ◌≢◌, ℕ, zero, suc, ◌+◌, ◌-◌, ◌<◌, ◌≤◌, ◌⊎◌, inl, inr, List, [], ◌∷◌, map, drop, Option, Some, None, Result, Ok, Err, false, true, arith, refl, sym, ap, subst, ◌∙◌, length}
+use Rattle.std.proofs.Common.{◌≡◌, ◌≢◌, ℕ, zero, suc, ◌-◌, ◌<◌, ◌≤◌, ◌⊎◌, inl, inr, List, [], ◌∷◌, map, drop, Option, Some, None, Result, Ok, Err, false, true, arith, refl, sym, ap, subst, ◌∙◌, length}
 use Rattle.std.specs.Prelude.{IfErr, slice_get, take, option_and_then, option_map, IsSome, IsSomeAnd}
 use Rattle.std.specs.Result.{result_ok}
 use Rattle.std.proofs.lemmas.List.{length-map}
@@ -41,7 +41,7 @@ use Rattle.dkg_script.proofs.Today.{plain_of}
 use Rattle.dkg_run.specs.Complete.{IsValidRun}
 use Rattle.dkg_run.specs.Found.{IsFound, IsLocalFound, NamesNoRecord, Reader, first_info, made_by, reader_in, tried_by}
 use Rattle.dkg_run.specs.Given.{limits_of}
-use Rattle.dkg_run.specs.Lives.{LivesFrom, RunsAllSo, RunsSo, TellsEnd}
+use Rattle.dkg_run.specs.Lives.{LivesFrom, RunsSo, TellsEnd}
 use Rattle.dkg_run.specs.Passing.{ArePassing}
 use Rattle.dkg_run.specs.Refusals.{BlamesOnlySkips, IsRefusal, SkipsIn, SkipsSomewhere}
 use Rattle.dkg_run.specs.Ways.{Way}

@@ -1,5 +1,5 @@
 -- What holds of the devices from step to step and from life to life, over worlds.
-use Rattle.std.proofs.Common.{◌≡◌, ◌⊎◌, inl, inr, ℕ, zero, suc, ◌+◌, List, [], ◌∷◌, drop, Option, Some, None, Result, Ok, Err, refl, sym, ap, subst, add-one}
+use Rattle.std.proofs.Common.{◌≡◌, ◌⊎◌, inl, inr, ℕ, ◌+◌, List, [], ◌∷◌, drop, Option, Some, None, Result, Ok, Err, refl, sym, subst, add-one}
 use Rattle.std.specs.Prelude.{IsSomeAnd, slice_get}
 use Rattle.dkg_journal.specs.Burn.{Burn}
 use Rattle.dkg_journal.specs.Names.{Files}
@@ -22,21 +22,9 @@ use Rattle.dkg_reshare.specs.Today.{seen_today}
 use Rattle.dkg_reshare.specs.declared.stop.Stop.{Stop}
 use Rattle.dkg_reshare.specs.declared.stop.Stop.TheVariants.{Cut, Failed, Fault as FaultOf}
 use Rattle.dkg_run.specs.Given.{IsLifeHere, Lived, ReadsNeither, at_step, lived, step_of}
-use Rattle.dkg_run.specs.Lives.{AnyFiles, EndsLife, LivesFrom, LivesSo, RunsAllSo, RunsSo, Steps, TakesAll, TellsEnd, fuse_for}
+use Rattle.dkg_run.specs.Lives.{AnyFiles, EndsLife, LivesFrom, LivesSo, RunsAllSo, Steps, TakesAll, fuse_for}
 use Rattle.dkg_run.specs.Ways.{by_worlds}
-
--- the rest of a list
-pub rest_at : {A : Type 0} (all : List A) (i : ℕ) (its : A) (more : List A) → its ∷ more ≡ drop i all → more ≡ drop (suc i) all
-rest_at [] zero its more is = absurd (let wrong : its ∷ more ≡ [] = is in cc)
-rest_at [] (suc i) its more is = absurd (let wrong : its ∷ more ≡ [] = is in cc)
-rest_at (x ∷ all) zero its more is = let so : its ∷ more ≡ x ∷ all = is in cc
-rest_at (x ∷ all) (suc i) its more is = rest_at all i its more is
-
-pub item_at : {A : Type 0} (all : List A) (i : ℕ) (its : A) (more : List A) → its ∷ more ≡ drop i all → slice_get all i ≡ Some its
-item_at [] zero its more is = absurd (let wrong : its ∷ more ≡ [] = is in cc)
-item_at [] (suc i) its more is = absurd (let wrong : its ∷ more ≡ [] = is in cc)
-item_at (x ∷ all) zero its more is = let so : its ∷ more ≡ x ∷ all = is in cc
-item_at (x ∷ all) (suc i) its more is = item_at all i its more is
+use Rattle.dkg_run.proofs.Ordered.{item_at, rest_at}
 
 -- A STEP
 

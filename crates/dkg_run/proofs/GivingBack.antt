@@ -1,8 +1,6 @@
 -- A run gives back its own premises.
-use Rattle.std.proofs.Common.{◌≡◌, inl, inr, List, Result, Ok, Err, sym, ◌∙◌, ap}
+use Rattle.std.proofs.Common.{◌≡◌, inl, inr, List, Result, Ok, Err, ◌∙◌, ap}
 use Rattle.std.specs.Prelude.{IfErr, OnOk}
-use Rattle.std.specs.FinMap.{get}
-use Rattle.dkg_values.specs.declared.name.Name.TheVariants.{Plan}
 use Rattle.dkg_journal.specs.Disk.{Lands}
 use Rattle.dkg_journal.specs.Names.{Files}
 use Rattle.dkg_types.specs.declared.entry.Entry.{Entry}

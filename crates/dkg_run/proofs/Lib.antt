@@ -56,5 +56,6 @@ pub mod Stepping
 pub mod Steps
 pub mod Today
 pub mod Turns
+pub mod Twice
 pub mod Used
 pub mod Whole

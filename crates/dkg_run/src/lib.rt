@@ -3,6 +3,7 @@
 //! `main` makes the outside (source, sink, devices) and calls `run_command`; whoever has a script already calls `run_lives`.
 #![tactic(auto)]
 
+mod again;
 mod blocks;
 mod calls;
 mod command;
@@ -16,6 +17,7 @@ mod source;
 mod standard;
 mod transfer;
 
+pub use again::runs_again;
 pub use command::{Status, run_command};
 pub use lives::run_lives;
 pub use memory::fresh_devices;

@@ -33,7 +33,7 @@ pub returns-clause-too_long : goal.returns-clause-too_long
 returns-clause-too_long g c is = c.run-status.ensures.too_long (status_told _ _ _ _ _ _ _ is (λ e. cc) (λ e. cc) c.report-2.ensures.told)
 
 pub returns-clause-few : goal.returns-clause-few
-returns-clause-few g c tells = c.run-status.ensures.few tells
+returns-clause-few g c = c.run-status.ensures.few
 
 pub returns-clause-write_fault : goal.returns-clause-write_fault
 returns-clause-write_fault g c is = c.report-2.ensures.write_fault (λ same. rw same at c.run-status.ensures.ends.2.runs) is
