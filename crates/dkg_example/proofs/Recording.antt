@@ -20,8 +20,8 @@ fresh ack_of me round acks pairs epoch none = record { kept = λ dealer ack is. 
 playing : (ack_of : ℕ → Round → ℕ → List ℕ → List ℕ) (me : ℕ) (round : Round) (node : Node) → node.player.me ≡ me → node.player.round ≡ round → node.player.acks ≡ empty → Contains round.players me
     → IsPlaying ack_of node
 playing ack_of me round node mine its none sits = record {
-    seated = subst (λ (n : ℕ). Contains node.player.round.players n) (sym mine) (subst (λ (r : Round). Contains r.players me) (sym its) sits);
-    answers = fresh ack_of node.player.me node.player.round node.player.acks node.store.dealings node.epoch none
+  seated = subst (λ (n : ℕ). Contains node.player.round.players n) (sym mine) (subst (λ (r : Round). Contains r.players me) (sym its) sits);
+  answers = fresh ack_of node.player.me node.player.round node.player.acks node.store.dealings node.epoch none;
 }
 
 -- a player that has acknowledged nothing is one of any recorded dealings, and sits in its round
