@@ -3,8 +3,9 @@ ghost use Rattle.std.specs.Prelude.{◌≡◌};
 ghost use Rattle.dkg_types.specs.Faults.{number_of};
 ghost use Rattle.dkg_types.specs.declared.fault.Fault.TheVariants.{NoMemory as OutOfMemory};
 
+use crate::boxed_public::BoxedPublic;
 use crate::participants::ParticipantsError;
-use dkg_ceremony::{Epoch, Height, Key, Mem, Name, NoMemory, Public, RoundError, Value};
+use dkg_ceremony::{Epoch, Height, Key, Mem, Name, NoMemory, RoundError, Value};
 use std::alloc::Global;
 use thiserror::Error;
 
@@ -49,8 +50,8 @@ pub enum LocalCause {
     #[error("the player keeps another dealing of this node for epoch {}", .epoch.0)]
     OwnDealing {
         epoch: Epoch,
-        kept: Public,
-        dealt: Public,
+        kept: BoxedPublic,
+        dealt: BoxedPublic,
     },
     #[error("the ceremony succeeded and gave this node no share")]
     NoShare,

@@ -6,6 +6,7 @@
 mod addresses;
 mod apart;
 mod block;
+mod boxed_public;
 mod directory;
 mod entry;
 mod fault;
@@ -25,6 +26,7 @@ mod transcript;
 
 pub use addresses::{Address, Addresses, Socket};
 pub use block::{Block, Context, ReshareBlock};
+pub use boxed_public::BoxedPublic;
 pub use directory::{Directory, Unit};
 pub use entry::{
     AnswerLine, BlockedWhy, Entry, Part, PreparedLine, Restored, RestoredList, Role, Verdict, Why,

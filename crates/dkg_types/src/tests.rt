@@ -768,8 +768,8 @@ fn opened(alloc: Global, byte: u8) -> Result<Entry, Fail> {
 fn other_dealing(alloc: Global, byte: u8) -> Result<Entry, Fail> {
     Ok(Entry::Fault(Fault::LocalState(LocalCause::OwnDealing {
         epoch: Epoch(0),
-        kept: constant(alloc, 5)?,
-        dealt: constant(alloc, byte)?,
+        kept: BoxedPublic::of(alloc, constant(alloc, 5)?)?,
+        dealt: BoxedPublic::of(alloc, constant(alloc, byte)?)?,
     })))
 }
 
