@@ -1,5 +1,5 @@
 -- The entries in each step of an append.
-use Rattle.std.proofs.Common.{◌≡◌, ◌≢◌, inl, inr, ⊎_elim, ℕ, ◌+◌, Bool, true, false, cond, ◌<◌, ◌≤◌, ◌^◌, List, [], ◌∷◌, ◌++◌, length, Option, Some, None, refl, sym, ◌∙◌, ap, subst, arith, length-append}
+use Rattle.std.proofs.Common.{◌≡◌, ◌≢◌, inl, inr, ⊎_elim, ℕ, ◌+◌, Bool, true, false, cond, ◌<◌, ◌≤◌, ◌^◌, List, [], ◌∷◌, ◌++◌, length, Option, Some, None, Result, Ok, Err, OnOk, refl, sym, ◌∙◌, ap, subst, arith, length-append}
 use Rattle.std.proofs.lemmas.Bool.{cases_eq}
 use Rattle.std.specs.FinMap.{get, insert, get-insert}
 use Rattle.std.specs.Cmp.{nat_cmp_total}
@@ -10,7 +10,7 @@ use Rattle.dkg_journal.specs.Names.{Files, name_number}
 use Rattle.dkg_journal.specs.Disk.{Torn, written, SameElse, HasFile, Inside, Follows, Did}
 use Rattle.dkg_journal.specs.Places.{Places, joined, place_at}
 use Rattle.dkg_journal.specs.Records.{Entry, entries, placed, IsShut, IsBody, Staged, spelled, behind}
-use Rattle.dkg_journal.specs.Steps.{Firm, IsNext, IsOpenAt, IsSegmentAt, SegmentAt, Into, KeepsBut, Adds, MayAdd, start}
+use Rattle.dkg_journal.specs.Steps.{Firm, IsNext, IsOpenAt, IsSegmentAt, SegmentAt, Into, KeepsBut, Adds, MayAdd, Grows, start}
 use Rattle.dkg_values.specs.declared.name.Name.{Name}
 use Rattle.dkg_values.specs.declared.name.Name.TheVariants.{Plan, Flat, Segment}
 use Rattle.dkg_journal.specs.declared.disk.Op.TheVariants.{Install}
@@ -237,3 +237,10 @@ opened_more places places' section end n body old new image next at segment step
 
     other_number : (a b : ℕ) → a ≢ b → eq_by_cmp nat_cmp a b ≡ false
     other_number a b ne = grind (arith, nat_tests)
+
+-- an append that came to its end, and one that did not
+pub grows_ok : {T E : Type 0} (e : Entry) (x : T) (a b : Files → Type 0) → Follows (MayAdd e) a b → Follows (Adds e) a b → Grows {E = E} e (Ok x) a b
+grows_ok e x a b may added = record { may = may; added = added }
+
+pub grows_err : {T E : Type 0} (e : Entry) (r : Result T E) (x : E) (a b : Files → Type 0) → r ≡ Err x → Follows (MayAdd e) a b → Grows e r a b
+grows_err {T = T} {E = E} e r x a b is may = record { may = may; added = subst (λ (q : Result T E). OnOk q (Follows (Adds e) a b)) (sym is) tt }

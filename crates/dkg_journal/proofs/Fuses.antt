@@ -1,5 +1,5 @@
 -- How calls, one behind the other, spend their fuse.
-use Rattle.std.proofs.Common.{◌≡◌, inl, inr, ⊎_elim, ℕ, zero, suc, ◌+◌, ◌<◌, ◌≤◌, ◌^◌, List, [], ◌∷◌, length, Result, Ok, Err, refl, ◌∙◌, ap, arith, length-append}
+use Rattle.std.proofs.Common.{◌≡◌, inl, inr, ⊎_elim, ℕ, zero, suc, ◌+◌, ◌<◌, ◌≤◌, ◌^◌, List, [], ◌∷◌, length, Result, Ok, Err, OnOk, IsErrOf, refl, ◌∙◌, ap, arith, length-append}
 use Rattle.std.proofs.lemmas.Bool.{cases_lt}
 use Rattle.std.proofs.lemmas.Bool.Decides.{nat_tests}
 use Rattle.dkg_journal.specs.Burn.{Burn}
@@ -128,6 +128,17 @@ fused_then cut want x r f g h first second = record {
       let mid = first.whole x refl (omega (arith, reached.not_yet, second.call, first.call)) in
       second.reached (record { not_yet = omega (arith, mid, second.call, first.call); by_now = reached.by_now });
 }
+
+-- WHAT A CALLER MAY READ OFF: Cut comes where the fuse reached its call
+pub cut_reached : {T E : Type 0} (cut want : E) (r : Result T E) (f g : Burn) → Fused cut want r f g → IsErrOf r cut → Reached f g
+cut_reached cut want r f g fused is =
+    let there = fused.cut_there is in
+    record { not_yet = omega (arith, there.0, fused.call); by_now = omega (arith, there.1, fused.call) }
+
+-- .. and Ok where it did not
+pub ok_unreached : {T E : Type 0} (cut want : E) (r : Result T E) (f g : Burn) → Fused cut want r f g → OnOk r (Reached f g → ⊥)
+ok_unreached cut want (Ok x) f g fused = λ reached. ⊎_elim (λ c. not_err x cut c) (λ w. not_err x want w) (fused.reached reached)
+ok_unreached cut want (Err e) f g fused = tt
 
 -- so many calls
 pub burned_burnt : {O : Type 0} (calls : List O) (f : Burn) → burned calls f ≡ burnt (length calls) f

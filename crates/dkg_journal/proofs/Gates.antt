@@ -155,12 +155,13 @@ ungated_views : (es : List JournalEntry) → views es ≡ map ungated (map gated
 ungated_views [] = refl
 ungated_views (e ∷ es) = ap (λ (l : List Entry). view e ∷ l) (ungated_views es)
 
+-- WHAT A CALLER MAY READ OFF: entries with the places of their gates are entries
+pub gated_listed : (waiting : List JournalEntry) (f : Files) → map gated waiting ≡ gated_entries f → views waiting ≡ entries f
+gated_listed waiting f are = ungated_views waiting ∙ ap (map ungated) are ∙ ungated_behind 0 0 (entries f)
+
 module _ (f : Files) (waiting : List JournalEntry) (places : Places) (calls : List Op) (finds : Finds f waiting places calls) where
   pub finds_gated : map gated waiting ≡ gated_entries f
   finds_gated = finds.listed ∙ sym (ap gated_of (segments_entries f finds.flat) ∙ gated_rows (map_of.entries (segments f)) (entries_sorted (segments f)) 0 0 (inl refl))
-
-  pub finds_listed : views waiting ≡ entries f
-  finds_listed = ungated_views waiting ∙ ap (map ungated) finds_gated ∙ ungated_behind 0 0 (entries f)
 
 -- the entries of one section of a flat file
 pub flat_entries_section : (f : Files) (file : List ℕ) → get f Flat ≡ Some file → (bs : List (List ℕ)) (place : ℕ) → Whole 8 bs place file → (s : ℕ) → of_section s (entries f) ≡ with_section s (of_one s bs)

@@ -1,5 +1,5 @@
 -- What a prune leaves.
-use Rattle.std.proofs.Common.{◌≡◌, ◌≢◌, inl, inr, ⊎_elim, ℕ, zero, suc, ◌+◌, ◌<◌, ◌≤◌, ◌==◌, nat_le, nat_lt, Bool, true, false, cond, List, [], ◌∷◌, map, length, Option, Some, None, is_some, refl, sym, ◌∙◌, ap, subst, arith}
+use Rattle.std.proofs.Common.{◌≡◌, ◌≢◌, inl, inr, ⊎_elim, ℕ, zero, suc, ◌+◌, ◌<◌, ◌≤◌, ◌==◌, nat_le, nat_lt, Bool, true, false, cond, List, [], ◌∷◌, map, length, Option, Some, None, Result, Ok, Err, OnOk, is_some, refl, sym, ◌∙◌, ap, subst, arith}
 use Rattle.std.specs.Prelude.{T, ◌&&◌, ◌||◌, filter, flat_map}
 use Rattle.std.specs.List.{list_any}
 use Rattle.std.specs.Ordering.{eq_by_cmp, nat_cmp, is_eq, is_lt}
@@ -20,7 +20,7 @@ use Rattle.dkg_journal.specs.Fuse.{Ran, RanAll}
 use Rattle.dkg_journal.specs.Opening.{AreUnbroken, removes}
 use Rattle.dkg_journal.specs.Operations.{Prunes, Tried, Finished, after_operation, calls_of, journaled}
 use Rattle.dkg_journal.specs.Places.{Places, joined, place_at, remove_of, removes_below}
-use Rattle.dkg_journal.specs.Pruning.{Leaves, MayLeave, is_below, prune_calls}
+use Rattle.dkg_journal.specs.Pruning.{Leaves, MayLeave, Thins, is_below, prune_calls}
 use Rattle.dkg_journal.specs.Segments.{segment_rows}
 use Rattle.dkg_journal.specs.Steps.{IsOpenAt, IsSegmentAt}
 use Rattle.dkg_journal.specs.Wholes.{Amid, AreOfWhole, Becomes, after_all}
@@ -395,3 +395,10 @@ module _ (min : ℕ) (places : Places) (files : Files) (image : Files → Type 0
         settled = becomes_lands (prune_calls min (keys files)) files new image next lands step is;
         spent = all_burnt made a b f h (prune_calls min (keys files)) (calls_of (Prunes min) (journaled files)) size all;
       }
+
+-- a prune that came to its end, and one that did not
+pub thins_ok : {T E : Type 0} (min : ℕ) (x : T) (a b : Files → Type 0) → Follows (MayLeave min) a b → Follows (Leaves min) a b → Thins {E = E} min (Ok x) a b
+thins_ok min x a b may left = record { may = may; left = left }
+
+pub thins_err : {T E : Type 0} (min : ℕ) (r : Result T E) (x : E) (a b : Files → Type 0) → r ≡ Err x → Follows (MayLeave min) a b → Thins min r a b
+thins_err {T = T} {E = E} min r x a b is may = record { may = may; left = subst (λ (q : Result T E). OnOk q (Follows (Leaves min) a b)) (sym is) tt }

@@ -1,5 +1,5 @@
 -- What files stand for, after each step of an operation.
-use Rattle.std.proofs.Common.{◌≡◌, ◌≢◌, inl, inr, ⊎_elim, ℕ, Bool, true, cond, List, length, Option, Some, None, is_some, refl, sym, ◌∙◌, ap, subst, arith}
+use Rattle.std.proofs.Common.{◌≡◌, ◌≢◌, inl, inr, ⊎_elim, ℕ, Bool, true, cond, List, length, Option, Some, None, Result, Ok, Err, OnOk, is_some, refl, sym, ◌∙◌, ap, subst, arith}
 use Rattle.std.specs.FinMap.{get, keys}
 use Rattle.dkg_values.specs.declared.name.Name.{Name}
 use Rattle.dkg_values.specs.declared.name.Name.TheVariants.{Plan, Segment}
@@ -10,7 +10,7 @@ use Rattle.dkg_journal.specs.Disk.{SameElse, HasFile, Follows, Lands, IsUnchange
 use Rattle.dkg_journal.specs.Fuse.{Ran, RanAll}
 use Rattle.dkg_journal.specs.Records.{Entry, entries, placed}
 use Rattle.dkg_journal.specs.Steps.{Firm, IsNext, SegmentAt, KeepsBut, Adds, MayAdd, Into, append_calls_at}
-use Rattle.dkg_journal.specs.Operations.{Journaled, journaled, with_name, Operation, Appends, after_operation, calls_of, InPart, Tries, Tried, Finished}
+use Rattle.dkg_journal.specs.Operations.{Journaled, journaled, with_name, Operation, Appends, after_operation, calls_of, InPart, Tries, Tried, Finished, TriedOn, FinishedOn, Does}
 use Rattle.dkg_journal.specs.declared.disk.Op.{Op}
 use Rattle.dkg_journal.proofs.Steps.{weaken}
 use Rattle.dkg_journal.proofs.SameFiles.{same_files, named, has_key}
@@ -96,6 +96,13 @@ finished_append made a b f g place end e old new image next at lands segment ste
       settled = settled_file (Segment e.0) segment.bytes old new image next lands segment.firm (adds_else e image next step) now;
       spent = all_burnt made a b f g (append_calls_at place e) (calls_of (Appends e) (journaled old)) (append_size place e old image at) all;
     }
+
+-- an operation that came to its end, and one that did not
+pub does_ok : {D T E : Type 0} (files : D → Files) (image : D → Files → Type 0) (op : Operation) (x : T) (a b : D) (f g : Burn) → TriedOn files image op a b f g → FinishedOn files image op a b f g → Does {E = E} files image op (Ok x) a b f g
+does_ok files image op x a b f g tried done = record { tried = tried; done = done }
+
+pub does_err : {D T E : Type 0} (files : D → Files) (image : D → Files → Type 0) (op : Operation) (r : Result T E) (e : E) (a b : D) (f g : Burn) → r ≡ Err e → TriedOn files image op a b f g → Does files image op r a b f g
+does_err {T = T} {E = E} files image op r e a b f g is tried = record { tried = tried; done = subst (λ (q : Result T E). OnOk q (FinishedOn files image op a b f g)) (sym is) tt }
 
 -- an operation that only read
 pub unchanged_lands : {D : Type 0} (files : D → Files) (image : D → Files → Type 0) (a b : D) → Lands (files a) (image a) → IsUnchanged files image a b → Lands (files b) (image b)

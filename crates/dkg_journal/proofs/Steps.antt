@@ -1,5 +1,5 @@
 -- How the calls of an append follow each other.
-use Rattle.std.proofs.Common.{◌≡◌, inl, inr, ℕ, cond, List, [], ◌∷◌, ◌++◌, length, Option, Some, refl, sym, ◌∙◌, ap, subst, arith, append_assoc}
+use Rattle.std.proofs.Common.{◌≡◌, inl, inr, ℕ, cond, List, [], ◌∷◌, ◌++◌, length, Option, Some, Result, Ok, Err, OnOk, refl, sym, ◌∙◌, ap, subst, arith, append_assoc}
 use Rattle.std.proofs.lemmas.Bool.{cases_lt}
 use Rattle.std.proofs.lemmas.List.{append-nil}
 use Rattle.std.specs.FinMap.{get, insert, get-insert}
@@ -12,7 +12,7 @@ use Rattle.dkg_journal.specs.Disk.{Torn, written, Inside, Follows, Did, after_wr
 use Rattle.dkg_journal.specs.Steps.{Firm, Into}
 use Rattle.dkg_journal.specs.Burn.{Burn}
 use Rattle.dkg_journal.specs.DeviceCall.{DeviceCall, call_at}
-use Rattle.dkg_journal.specs.Fuse.{spent_once, pick_now, burned, calls_in, Reached, Ran, RanAll}
+use Rattle.dkg_journal.specs.Fuse.{spent_once, pick_now, burned, calls_in, HasRun, Reached, Ran, RanAll}
 use Rattle.dkg_values.specs.declared.name.Name.{Name}
 use Rattle.dkg_journal.specs.declared.disk.Op.TheVariants.{WriteAt, Sync}
 
@@ -108,3 +108,16 @@ module _ {D O : Type 0} (made : D → D → List (DeviceCall O) → Type 0) (a b
 
 pub ran_all : {D O : Type 0} (made : D → D → List (DeviceCall O) → Type 0) (a b : D) (f g : Burn) (xs : List O) → RanAll made a b f g xs → Ran made a b f g xs
 ran_all made a b f g xs all = record { first = xs; rest = []; whole = sym (append-nil xs); all = all }
+
+-- a call that came to its end
+pub run_ok : {D O T E : Type 0} (made : D → D → List (DeviceCall O) → Type 0) (a b : D) (f g : Burn) (xs : List O) (x : T) → RanAll made a b f g xs → HasRun {E = E} made (Ok x) a b f g xs
+run_ok made a b f g xs x all = record { ran = ran_all made a b f g xs all; all = all }
+
+-- .. and one that did not
+pub run_err : {D O T E : Type 0} (made : D → D → List (DeviceCall O) → Type 0) (r : Result T E) (a b : D) (f g : Burn) (xs : List O) (e : E) → r ≡ Err e → Ran made a b f g xs → HasRun made r a b f g xs
+run_err {T = T} {E = E} made r a b f g xs e is ran = record { ran = ran; all = subst (λ (q : Result T E). OnOk q (RanAll made a b f g xs)) (sym is) tt }
+
+-- .. and one whose calls were made, whatever it answered
+pub run_each : {D O T E : Type 0} (made : D → D → List (DeviceCall O) → Type 0) (r : Result T E) (a b : D) (f g : Burn) (xs : List O) → RanAll made a b f g xs → HasRun made r a b f g xs
+run_each made (Ok x) a b f g xs all = record { ran = ran_all made a b f g xs all; all = all }
+run_each made (Err e) a b f g xs all = record { ran = ran_all made a b f g xs all; all = tt }

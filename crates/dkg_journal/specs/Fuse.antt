@@ -1,5 +1,5 @@
 -- A fuse counts calls, and gives its pick at one of them.
-use Rattle.std.specs.Prelude.{◌≡◌, ◌⊎◌, ◌<◌, ◌≤◌, ◌^◌, ℕ, zero, suc, ◌+◌, ◌==◌, nat_lt, if◌then◌else◌, List, [], ◌∷◌, ◌++◌, Option, Some, None, Result, Ok, IsErrOf}
+use Rattle.std.specs.Prelude.{◌≡◌, ◌⊎◌, ◌<◌, ◌≤◌, ◌^◌, ℕ, zero, suc, ◌+◌, ◌==◌, nat_lt, if◌then◌else◌, List, [], ◌∷◌, ◌++◌, Option, Some, None, Result, Ok, IsErrOf, OnOk}
 use Rattle.dkg_journal.specs.Burn.{Burn}
 use Rattle.dkg_journal.specs.DeviceCall.{DeviceCall, call_at}
 
@@ -64,3 +64,8 @@ pub record Ran {D O : Type 0} (made : D → D → List (DeviceCall O) → Type 0
   pub rest : List O
   pub whole : calls ≡ first ++ rest
   pub all : RanAll made old new before now first
+
+-- A call that makes these calls: all of them at Ok, and at any other exit the first of them.
+pub record HasRun {D O T E : Type 0} (made : D → D → List (DeviceCall O) → Type 0) (result : Result T E) (old new : D) (before now : Burn) (calls : List O) : Type 0 where
+  pub ran : Ran made old new before now calls
+  pub all : OnOk result (RanAll made old new before now calls)

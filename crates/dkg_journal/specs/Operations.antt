@@ -1,5 +1,5 @@
 -- What the calls of the journal and of the one-key record make of what a disk's files stand for.
-use Rattle.std.specs.Prelude.{◌≡◌, ◌⊎◌, ◌≤◌, ℕ, List, [], ◌∷◌, fold, filter, length, if◌then◌else◌, Bool, true, false, not, Option, Some, None}
+use Rattle.std.specs.Prelude.{◌≡◌, ◌⊎◌, ◌≤◌, ℕ, List, [], ◌∷◌, fold, filter, length, if◌then◌else◌, Bool, true, false, not, Option, Some, None, Result, OnOk}
 use Rattle.std.specs.List.{list_any}
 use Rattle.std.specs.Ordering.{eq_by_cmp}
 use Rattle.std.specs.FinMap.{get, keys}
@@ -97,3 +97,14 @@ pub record Finished (op : Operation) (old new : Files) (image : Files → Type 0
   pub after : journaled new ≡ after_operation op (journaled old)
   pub settled : Lands new image
   pub spent : now ≡ burnt (calls_of op (journaled old)) before
+
+abbrev pub TriedOn : {D : Type 0} → (D → Files) → (D → Files → Type 0) → Operation → D → D → Burn → Burn → Type 0
+TriedOn files image op old new before now = Lands (files old) (image old) → Tried op (files old) (image new) before now
+
+abbrev pub FinishedOn : {D : Type 0} → (D → Files) → (D → Files → Type 0) → Operation → D → D → Burn → Burn → Type 0
+FinishedOn files image op old new before now = Lands (files old) (image old) → Finished op (files old) (files new) (image new) before now
+
+-- A call that does an operation: it is tried at every exit, and finished at Ok.
+pub record Does {D T E : Type 0} (files : D → Files) (image : D → Files → Type 0) (op : Operation) (result : Result T E) (old new : D) (before now : Burn) : Type 0 where
+  pub tried : TriedOn files image op old new before now
+  pub done : OnOk result (FinishedOn files image op old new before now)

@@ -1,8 +1,8 @@
 -- A journal's files on a disk, and what a crash makes of their entries.
-use Rattle.std.specs.Prelude.{◌≡◌, ◌≢◌, ◌⊎◌, ℕ, ◌+◌, List, [], ◌∷◌, ◌++◌, Option, Some, None}
+use Rattle.std.specs.Prelude.{◌≡◌, ◌≢◌, ◌⊎◌, ℕ, ◌+◌, List, [], ◌∷◌, ◌++◌, Option, Some, None, Result, OnOk}
 use Rattle.std.specs.FinMap.{get}
 use Rattle.dkg_journal.specs.Names.{Files}
-use Rattle.dkg_journal.specs.Disk.{SameElse, HasFile}
+use Rattle.dkg_journal.specs.Disk.{SameElse, HasFile, Follows}
 use Rattle.dkg_journal.specs.Records.{Entry, entries, placed, IsShut, behind}
 use Rattle.dkg_journal.specs.Places.{Places, place_at}
 use Rattle.dkg_values.specs.declared.name.Name.{Name}
@@ -62,6 +62,11 @@ pub record Adds (e : Entry) (old new : Files) : Type 0 where
 pub record MayAdd (e : Entry) (old new : Files) : Type 0 where
   pub others : SameElse (Segment e.0) old new
   pub either : (entries new ≡ entries old) ⊎ (entries new ≡ placed (entries old) e)
+
+-- An append that gave this answer: each image has the entries from before, with the new one or without, and at Ok with it.
+pub record Grows {T E : Type 0} (e : Entry) (result : Result T E) (old new : Files → Type 0) : Type 0 where
+  pub may : Follows (MayAdd e) old new
+  pub added : OnOk result (Follows (Adds e) old new)
 
 abbrev pub start : Option ℕ → ℕ
 start None = 0

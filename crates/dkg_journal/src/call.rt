@@ -3,8 +3,9 @@
 //! The journal makes all its changing calls through `perform`, and so do the crates above it.
 ghost use Rattle.std.specs.Prelude.{◌≡◌, ◌⊎◌, ◌≤◌, [], ◌∷◌, OnOk, IsErrOf, IsTrue, IfErr, ◌+◌, None};
 ghost use Rattle.dkg_journal.specs.DeviceCall.{Makes};
-ghost use Rattle.dkg_journal.specs.Disk.{Inside, Follows, Allowed, Did, Lands, IsUnchanged, HasCause, HasWant, Rose};
-ghost use Rattle.dkg_journal.specs.Fuse.{calls_in, spent_once, Reached, RanAll, Fused};
+ghost use Rattle.dkg_journal.specs.Counts.{Caused};
+ghost use Rattle.dkg_journal.specs.Disk.{Inside, Follows, Allowed, Did, IsUnchanged, HasCause, HasWant, Rose};
+ghost use Rattle.dkg_journal.specs.Fuse.{calls_in, spent_once, RanAll};
 ghost use Rattle.dkg_journal.specs.Errors.{IsOfDevice};
 ghost use Rattle.dkg_journal.specs.declared.call.JournalError.TheVariants.{NoMemory as WantOfMemory};
 
@@ -85,19 +86,12 @@ pub fn perform<D: Disk>(
     ensures done { OnOk result (IsTrue D.tells → Did op.now (D.files disk.old) (D.files disk.new) (D.image disk.new)) }
     ensures crash { Follows (Inside op.now) (D.image disk.old) (D.image disk.new) }
     ensures memory { IsErrOf result JournalError.NoMemory → IsUnchanged D.files D.image disk.old disk.new }
-    ensures later { D.faults disk.old ≤ D.faults disk.new }
-    ensures later_wants { D.wants disk.old ≤ D.wants disk.new }
+    ensures caused { Caused (IsTrue D.tells) D.files D.image D.faults D.wants result disk.old disk.new fuse.old fuse.new }
     ensures wanted { IsErrOf result JournalError.NoMemory → Rose (D.wants disk.old) (D.wants disk.new) }
-    ensures disk { IsErrOf result JournalError.Disk → Rose (D.faults disk.old) (D.faults disk.new) }
     // It was made, or cut where the fuse says so.
     ensures calls { D.made disk.old disk.new (calls_in fuse.old (op.now ∷ [])) }
     ensures counted { fuse.new ≡ spent_once fuse.old }
-    ensures not_cut { OnOk result (Reached fuse.old fuse.new → ⊥) }
-    ensures cut { IsErrOf result JournalError.Cut → Reached fuse.old fuse.new }
-    ensures lands { IsErrOf result JournalError.Cut → IsTrue D.tells → Lands (D.files disk.new) (D.image disk.new) }
-    ensures reached { Reached fuse.old fuse.new → IsErrOf result JournalError.Cut ⊎ IsErrOf result JournalError.NoMemory }
     ensures kinds { IfErr result IsOfDevice }
-    ensures fused { Fused JournalError.Cut JournalError.NoMemory result fuse.old fuse.new }
 {
     if let Some(pick) = fuse.spend() {
         return match disk.cut(alloc, op, pick) {
@@ -123,14 +117,10 @@ pub(crate) fn perform_own<D: Disk>(
     ensures done { OnOk result (IsTrue D.tells → Did op (D.files disk.old) (D.files disk.new) (D.image disk.new)) }
     ensures crash { Follows (Inside op) (D.image disk.old) (D.image disk.new) }
     ensures memory { IsErrOf result JournalError.NoMemory → IsUnchanged D.files D.image disk.old disk.new }
-    ensures later { D.faults disk.old ≤ D.faults disk.new }
-    ensures later_wants { D.wants disk.old ≤ D.wants disk.new }
+    ensures caused { Caused (IsTrue D.tells) D.files D.image D.faults D.wants result disk.old disk.new fuse.old fuse.new }
     ensures wanted { IsErrOf result JournalError.NoMemory → Rose (D.wants disk.old) (D.wants disk.new) }
-    ensures disk { IsErrOf result JournalError.Disk → Rose (D.faults disk.old) (D.faults disk.new) }
     ensures all { RanAll D.made disk.old disk.new fuse.old fuse.new (op ∷ []) }
-    ensures lands { IsErrOf result JournalError.Cut → IsTrue D.tells → Lands (D.files disk.new) (D.image disk.new) }
     ensures kinds { IfErr result IsOfDevice }
-    ensures fused { Fused JournalError.Cut JournalError.NoMemory result fuse.old fuse.new }
 {
     perform(alloc, disk, fuse, &op)
 }

@@ -44,7 +44,8 @@ impl Model for File {
 
     ghost view = { λ f. record { bytes = f.bytes.items; synced = f.synced; undo = map (λ u. (u.place, u.old.items)) f.undo.items } };
 
-    ghost invariant = { λ f. (f.synced ≤ length f.bytes.items) × AreWithin (map (λ u. (u.place, u.old.items)) f.undo.items) (length f.bytes.items) × ((i : ℕ) → list_any (λ s. nat_le s.start i && nat_lt i s.end) f.spans.items ≡ touched (map (λ u. (u.place, u.old.items)) f.undo.items) i) };
+    ghost invariant = { λ f. (f.synced ≤ length f.bytes.items) × AreWithin (map (λ u. (u.place, u.old.items)) f.undo.items) (length f.bytes.items)
+        × ((i : ℕ) → list_any (λ s. nat_le s.start i && nat_lt i s.end) f.spans.items ≡ touched (map (λ u. (u.place, u.old.items)) f.undo.items) i) };
 }
 
 /// Puts old bytes back, from a place on.
@@ -139,7 +140,8 @@ fn place_behind(spans: &[Span], synced: usize, len: usize, count: u64) -> (usize
 /// Puts spans in the order of their starts.
 fn sort_spans(spans: &mut Vec<Span>)
     ensures sorted { IsNonDecreasingBy (λ s. s.start) spans.new.items }
-    ensures same { (i : ℕ) → list_any (λ s. nat_le s.start i && nat_lt i s.end) spans.new.items ≡ list_any (λ s. nat_le s.start i && nat_lt i s.end) spans.old.items }
+    ensures same { (i : ℕ) → list_any (λ s. nat_le s.start i && nat_lt i s.end) spans.new.items
+        ≡ list_any (λ s. nat_le s.start i && nat_lt i s.end) spans.old.items }
 {
     spans.sort_unstable_by_key(|span| span.start);
 }

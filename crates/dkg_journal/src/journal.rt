@@ -6,13 +6,14 @@ ghost use Rattle.dkg_journal.specs.Errors.{IsOfDevice};
 ghost use Rattle.dkg_journal.specs.Names.{Files};
 ghost use Rattle.dkg_journal.specs.Opening.{AreUnbroken};
 ghost use Rattle.dkg_journal.specs.Journals.{IsOpen, append_calls};
-ghost use Rattle.dkg_journal.specs.Disk.{Follows, Allowed, Lands, Torn, Rose, written};
-ghost use Rattle.dkg_journal.specs.Fuse.{Reached, Ran, RanAll, Fused};
-ghost use Rattle.dkg_journal.specs.Operations.{Tried, Finished, Appends};
+ghost use Rattle.dkg_journal.specs.Counts.{Caused};
+ghost use Rattle.dkg_journal.specs.Disk.{Follows, Allowed, Torn, Rose, written};
+ghost use Rattle.dkg_journal.specs.Fuse.{HasRun};
+ghost use Rattle.dkg_journal.specs.Operations.{Does, Appends};
 ghost use Rattle.dkg_journal.specs.Places.{has_room, place_at};
-ghost use Rattle.dkg_journal.specs.Ready.{IsReady};
+ghost use Rattle.dkg_journal.specs.Ready.{IsPrepared, IsReady};
 ghost use Rattle.dkg_journal.specs.Records.{behind};
-ghost use Rattle.dkg_journal.specs.Steps.{Firm, IsOpenAt, IsNext, IsSegmentAt, Into, KeepsBut, Adds, MayAdd, SegmentAt, start, make_segment, make_calls, record_calls, append_calls_at};
+ghost use Rattle.dkg_journal.specs.Steps.{Firm, IsNext, Into, KeepsBut, Grows, SegmentAt, start, make_segment, make_calls, append_calls_at};
 ghost use Rattle.dkg_values.specs.declared.name.Name.{Name};
 
 use crate::by_section::BySection;
@@ -39,21 +40,16 @@ fn write_segment<D: Disk>(
     write: &Op,
 ) -> Result<(), JournalError>
     requires { IsTrue D.tells → Allowed (D.files disk.old) write.now }
-    ensures done { OnOk result (IsTrue D.tells → (x bytes : List ℕ) (place : ℕ) → write.now ≡ Op.WriteAt (Name.Segment section) place bytes → Firm (Name.Segment section) x (D.files disk.old) (D.image disk.old)
+    ensures done { OnOk result (IsTrue D.tells → (x bytes : List ℕ) (place : ℕ) → write.now ≡ Op.WriteAt (Name.Segment section) place bytes
+        → Firm (Name.Segment section) x (D.files disk.old) (D.image disk.old)
         → Firm (Name.Segment section) (written place bytes x) (D.files disk.new) (D.image disk.new)) }
-    ensures images { (x bytes : List ℕ) (place : ℕ) → write.now ≡ Op.WriteAt (Name.Segment section) place bytes → Firm (Name.Segment section) x (D.files disk.old) (D.image disk.old)
+    ensures images { (x bytes : List ℕ) (place : ℕ) → write.now ≡ Op.WriteAt (Name.Segment section) place bytes
+        → Firm (Name.Segment section) x (D.files disk.old) (D.image disk.old)
         → Follows (Into (Name.Segment section) (Torn place (length bytes) x)) (D.image disk.old) (D.image disk.new) }
-    ensures later { D.faults disk.old ≤ D.faults disk.new }
-    ensures later_wants { D.wants disk.old ≤ D.wants disk.new }
+    ensures caused { Caused (IsTrue D.tells) D.files D.image D.faults D.wants result disk.old disk.new fuse.old fuse.new }
     ensures wanted { IsErrOf result JournalError.NoMemory → Rose (D.wants disk.old) (D.wants disk.new) }
-    ensures disk { IsErrOf result JournalError.Disk → Rose (D.faults disk.old) (D.faults disk.new) }
     ensures kinds { IfErr result IsOfDevice }
-    ensures fused { Fused JournalError.Cut JournalError.NoMemory result fuse.old fuse.new }
-    ensures lands { IsErrOf result JournalError.Cut → IsTrue D.tells → Lands (D.files disk.new) (D.image disk.new) }
-    ensures cut { IsErrOf result JournalError.Cut → Reached fuse.old fuse.new }
-    ensures not_cut { OnOk result (Reached fuse.old fuse.new → ⊥) }
-    ensures all { OnOk result (RanAll D.made disk.old disk.new fuse.old fuse.new (write.now ∷ Op.Sync (Name.Segment section) ∷ [])) }
-    ensures calls { Ran D.made disk.old disk.new fuse.old fuse.new (write.now ∷ Op.Sync (Name.Segment section) ∷ []) }
+    ensures calls { HasRun D.made result disk.old disk.new fuse.old fuse.new (write.now ∷ Op.Sync (Name.Segment section) ∷ []) }
 {
     perform(alloc, disk, fuse, write)?;
     perform(
@@ -77,21 +73,16 @@ fn make_file<D: Disk>(
     make: &Op,
 ) -> Result<(), JournalError>
     requires { make.now ≡ make_segment section }
-    ensures open { OnOk result (IsTrue D.tells → IsNext section place (D.files disk.old) (D.image disk.old) → SegmentAt section (start place) (D.files disk.new) (D.image disk.new)) }
-    ensures images { IsNext section place (D.files disk.old) (D.image disk.old) → Follows (KeepsBut (Name.Segment section)) (D.image disk.old) (D.image disk.new) }
+    ensures open { OnOk result (IsTrue D.tells → IsNext section place (D.files disk.old) (D.image disk.old)
+        → SegmentAt section (start place) (D.files disk.new) (D.image disk.new)) }
+    ensures images { IsNext section place (D.files disk.old) (D.image disk.old)
+        → Follows (KeepsBut (Name.Segment section)) (D.image disk.old) (D.image disk.new) }
     ensures sound { IsNext section place (D.files disk.old) (D.image disk.old) → AreUnbroken (D.image disk.old) → AreUnbroken (D.image disk.new) }
     ensures same { (p : ℕ) → place ≡ Some p → disk.new ≡ disk.old }
-    ensures later { D.faults disk.old ≤ D.faults disk.new }
-    ensures later_wants { D.wants disk.old ≤ D.wants disk.new }
+    ensures caused { Caused (IsTrue D.tells) D.files D.image D.faults D.wants result disk.old disk.new fuse.old fuse.new }
     ensures wanted { IsErrOf result JournalError.NoMemory → Rose (D.wants disk.old) (D.wants disk.new) }
-    ensures disk { IsErrOf result JournalError.Disk → Rose (D.faults disk.old) (D.faults disk.new) }
     ensures kinds { IfErr result IsOfDevice }
-    ensures fused { Fused JournalError.Cut JournalError.NoMemory result fuse.old fuse.new }
-    ensures lands { IsErrOf result JournalError.Cut → IsTrue D.tells → Lands (D.files disk.new) (D.image disk.new) }
-    ensures cut { IsErrOf result JournalError.Cut → Reached fuse.old fuse.new }
-    ensures not_cut { OnOk result (Reached fuse.old fuse.new → ⊥) }
-    ensures all { OnOk result (RanAll D.made disk.old disk.new fuse.old fuse.new (make_calls section place)) }
-    ensures calls { Ran D.made disk.old disk.new fuse.old fuse.new (make_calls section place) }
+    ensures calls { HasRun D.made result disk.old disk.new fuse.old fuse.new (make_calls section place) }
 {
     match place {
         Some(_) => Ok(()),
@@ -163,28 +154,16 @@ fn append_prepared<D: Disk>(
     section: u64,
     body: &[u8],
 ) -> Result<(), JournalError>
-    requires make { calls.now.make ≡ make_segment section }
-    requires write { calls.now.write ≡ Op.WriteAt (Name.Segment section) (start place + 1) (behind body.now) }
-    requires gate { calls.now.gate ≡ Op.WriteAt (Name.Segment section) (start place) (1 ∷ []) }
-    requires short { length body.now < 2 ^ 32 }
+    requires prepared { IsPrepared calls.now place (section, body.now) }
     requires next { IsTrue D.tells → IsNext section place (D.files disk.old) (D.image disk.old) }
     ensures open { OnOk result (IsTrue D.tells → SegmentAt section (start place + 5 + length body.now) (D.files disk.new) (D.image disk.new)) }
-    ensures added { OnOk result (IsTrue D.tells → Follows (Adds (section, body.now)) (D.image disk.old) (D.image disk.new)) }
-    ensures images { IsTrue D.tells → Follows (MayAdd (section, body.now)) (D.image disk.old) (D.image disk.new) }
+    ensures grows { IsTrue D.tells → Grows (section, body.now) result (D.image disk.old) (D.image disk.new) }
     ensures sound { IsTrue D.tells → AreUnbroken (D.image disk.old) → AreUnbroken (D.image disk.new) }
-    ensures done { OnOk result (IsTrue D.tells → Lands (D.files disk.old) (D.image disk.old) → Finished (Appends (section, body.now)) (D.files disk.old) (D.files disk.new) (D.image disk.new) fuse.old fuse.new) }
-    ensures tried { IsTrue D.tells → Lands (D.files disk.old) (D.image disk.old) → Tried (Appends (section, body.now)) (D.files disk.old) (D.image disk.new) fuse.old fuse.new }
-    ensures later { D.faults disk.old ≤ D.faults disk.new }
-    ensures later_wants { D.wants disk.old ≤ D.wants disk.new }
+    ensures does { IsTrue D.tells → Does D.files D.image (Appends (section, body.now)) result disk.old disk.new fuse.old fuse.new }
+    ensures caused { Caused (IsTrue D.tells) D.files D.image D.faults D.wants result disk.old disk.new fuse.old fuse.new }
     ensures wanted { IsErrOf result JournalError.NoMemory → Rose (D.wants disk.old) (D.wants disk.new) }
-    ensures disk { IsErrOf result JournalError.Disk → Rose (D.faults disk.old) (D.faults disk.new) }
     ensures kinds { IfErr result IsOfDevice }
-    ensures fused { Fused JournalError.Cut JournalError.NoMemory result fuse.old fuse.new }
-    ensures lands { IsErrOf result JournalError.Cut → IsTrue D.tells → Lands (D.files disk.new) (D.image disk.new) }
-    ensures cut { IsErrOf result JournalError.Cut → Reached fuse.old fuse.new }
-    ensures not_cut { OnOk result (Reached fuse.old fuse.new → ⊥) }
-    ensures all { OnOk result (RanAll D.made disk.old disk.new fuse.old fuse.new (append_calls_at place (section, body.now))) }
-    ensures calls { Ran D.made disk.old disk.new fuse.old fuse.new (append_calls_at place (section, body.now)) }
+    ensures calls { HasRun D.made result disk.old disk.new fuse.old fuse.new (append_calls_at place (section, body.now)) }
 {
     make_file(alloc, disk, fuse, section, place, &calls.make)?;
     write_segment(alloc, disk, fuse, section, &calls.write)?;
@@ -255,23 +234,15 @@ impl Journal {
         requires ready { IsReady calls.now self.old (section, body.now) }
         requires open { IsTrue D.tells → IsOpen self.old (D.files disk.old) (D.image disk.old) }
         ensures open { OnOk result (IsTrue D.tells → IsOpen self.new (D.files disk.new) (D.image disk.new)) }
-        ensures added { OnOk result (IsTrue D.tells → Follows (Adds (section, body.now)) (D.image disk.old) (D.image disk.new)) }
-        ensures images { IsTrue D.tells → Follows (MayAdd (section, body.now)) (D.image disk.old) (D.image disk.new) }
+        // Each image has the entries from before, with the new one or without; at Ok it has it.
+        ensures grows { IsTrue D.tells → Grows (section, body.now) result (D.image disk.old) (D.image disk.new) }
         // .. and each record in it is whole.
         ensures sound { IsTrue D.tells → AreUnbroken (D.image disk.new) }
-        ensures done { OnOk result (IsTrue D.tells → Lands (D.files disk.old) (D.image disk.old) → Finished (Appends (section, body.now)) (D.files disk.old) (D.files disk.new) (D.image disk.new) fuse.old fuse.new) }
-        ensures tried { IsTrue D.tells → Lands (D.files disk.old) (D.image disk.old) → Tried (Appends (section, body.now)) (D.files disk.old) (D.image disk.new) fuse.old fuse.new }
-        ensures later { D.faults disk.old ≤ D.faults disk.new }
-        ensures later_wants { D.wants disk.old ≤ D.wants disk.new }
+        ensures does { IsTrue D.tells → Does D.files D.image (Appends (section, body.now)) result disk.old disk.new fuse.old fuse.new }
+        ensures caused { Caused (IsTrue D.tells) D.files D.image D.faults D.wants result disk.old disk.new fuse.old fuse.new }
         ensures wanted { IsErrOf result JournalError.NoMemory → Rose (D.wants disk.old) (D.wants disk.new) }
-        ensures disk { IsErrOf result JournalError.Disk → Rose (D.faults disk.old) (D.faults disk.new) }
         ensures kinds { IfErr result IsOfDevice }
-        ensures fused { Fused JournalError.Cut JournalError.NoMemory result fuse.old fuse.new }
-        ensures lands { IsErrOf result JournalError.Cut → IsTrue D.tells → Lands (D.files disk.new) (D.image disk.new) }
-        ensures cut { IsErrOf result JournalError.Cut → Reached fuse.old fuse.new }
-        ensures not_cut { OnOk result (Reached fuse.old fuse.new → ⊥) }
-        ensures all { OnOk result (RanAll D.made disk.old disk.new fuse.old fuse.new (append_calls self.old (section, body.now))) }
-        ensures calls { Ran D.made disk.old disk.new fuse.old fuse.new (append_calls self.old (section, body.now)) }
+        ensures calls { HasRun D.made result disk.old disk.new fuse.old fuse.new (append_calls self.old (section, body.now)) }
     {
         let place = self.place_of(section);
         append_prepared(alloc, disk, fuse, place, calls, section, body)?;
@@ -291,26 +262,18 @@ impl Journal {
     ) -> Result<(), JournalError>
         requires { IsTrue D.tells → IsOpen self.old (D.files disk.old) (D.image disk.old) }
         ensures open { OnOk result (IsTrue D.tells → IsOpen self.new (D.files disk.new) (D.image disk.new)) }
-        ensures added { OnOk result (IsTrue D.tells → Follows (Adds (section, body.now)) (D.image disk.old) (D.image disk.new)) }
-        // Each image has the entries from before, with the new one or without.
-        ensures images { IsTrue D.tells → Follows (MayAdd (section, body.now)) (D.image disk.old) (D.image disk.new) }
+        // Each image has the entries from before, with the new one or without; at Ok it has it.
+        ensures grows { IsTrue D.tells → Grows (section, body.now) result (D.image disk.old) (D.image disk.new) }
         // .. and each record in it is whole.
         ensures sound { IsTrue D.tells → AreUnbroken (D.image disk.new) }
         // What the files stand for, where nothing of the disk was loose: with the entry, and nothing is loose.
-        ensures done { OnOk result (IsTrue D.tells → Lands (D.files disk.old) (D.image disk.old) → Finished (Appends (section, body.now)) (D.files disk.old) (D.files disk.new) (D.image disk.new) fuse.old fuse.new) }
-        ensures tried { IsTrue D.tells → Lands (D.files disk.old) (D.image disk.old) → Tried (Appends (section, body.now)) (D.files disk.old) (D.image disk.new) fuse.old fuse.new }
+        ensures does { IsTrue D.tells → Does D.files D.image (Appends (section, body.now)) result disk.old disk.new fuse.old fuse.new }
         ensures too_long { IsErrOf result JournalError.TooLong ↔ 2 ^ 32 ≤ length body.now }
-        ensures later { D.faults disk.old ≤ D.faults disk.new }
-        ensures later_wants { D.wants disk.old ≤ D.wants disk.new }
-        ensures memory { IsErrOf result JournalError.NoMemory → ((self.new ≡ self.old) × (disk.new ≡ disk.old) × (fuse.new ≡ fuse.old)) ⊎ Rose (D.wants disk.old) (D.wants disk.new) }
-        ensures disk { IsErrOf result JournalError.Disk → Rose (D.faults disk.old) (D.faults disk.new) }
-        ensures fused { Fused JournalError.Cut JournalError.NoMemory result fuse.old fuse.new }
-        ensures lands { IsErrOf result JournalError.Cut → IsTrue D.tells → Lands (D.files disk.new) (D.image disk.new) }
+        ensures caused { Caused (IsTrue D.tells) D.files D.image D.faults D.wants result disk.old disk.new fuse.old fuse.new }
+        ensures memory { IsErrOf result JournalError.NoMemory → ((self.new ≡ self.old) × (disk.new ≡ disk.old) × (fuse.new ≡ fuse.old))
+            ⊎ Rose (D.wants disk.old) (D.wants disk.new) }
         ensures not_corrupt { (name : Name) (place : ℕ) → IsErrOf result (JournalError.Corrupt name place) → ⊥ }
-        ensures cut { IsErrOf result JournalError.Cut → Reached fuse.old fuse.new }
-        ensures not_cut { OnOk result (Reached fuse.old fuse.new → ⊥) }
-        ensures all { OnOk result (RanAll D.made disk.old disk.new fuse.old fuse.new (append_calls self.old (section, body.now))) }
-        ensures calls { Ran D.made disk.old disk.new fuse.old fuse.new (append_calls self.old (section, body.now)) }
+        ensures calls { HasRun D.made result disk.old disk.new fuse.old fuse.new (append_calls self.old (section, body.now)) }
     {
         let calls = self.ready(alloc, section, body)?;
         self.append_ready(alloc, disk, fuse, &calls, section, body)

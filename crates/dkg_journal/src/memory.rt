@@ -140,7 +140,8 @@ impl Disk for MemoryDisk {
         ensures memory { IsErrOf result DiskError.NoMemory → IsUnchanged files_of images_of self.old self.new }
         ensures cause { HasCause self.old.faults self.new.faults result }
         ensures want { HasWant self.old.disk.wants self.new.disk.wants result }
-        ensures calls { Made (Makes (Op.WriteAt name place bytes.now) ∷ []) self.old.disk.changes self.new.disk.changes self.old.disk.files self.new.disk.files }
+        ensures calls { Made (Makes (Op.WriteAt name place bytes.now) ∷ []) self.old.disk.changes self.new.disk.changes
+            self.old.disk.files self.new.disk.files }
         // What the last sync left is not touched.
         ensures synced { KeepsSynced self.old.disk.files self.new.disk.files }
         // Exactly the calls of these numbers fail.
@@ -237,8 +238,7 @@ impl Disk for MemoryDisk {
         ensures later { self.old.disk.wants ≤ self.new.disk.wants }
         ensures wanted { OnErr result (Rose self.old.disk.wants self.new.disk.wants) }
         ensures calls { Made (CutIn op.now pick ∷ []) self.old.disk.changes self.new.disk.changes self.old.disk.files self.new.disk.files }
-        ensures uncounted { self.new.calls ≡ self.old.calls }
-        ensures numbers { self.new.failing ≡ self.old.failing }
+        ensures uncounted { (self.new.calls ≡ self.old.calls) × (self.new.failing ≡ self.old.failing) }
         // It has done what the pick says.
         ensures picked { OnOk result (CutBy op.now pick self.old.disk.files self.new.disk.files) }
     {
@@ -251,8 +251,7 @@ impl Disk for MemoryDisk {
         ensures cause { self.new.faults ≡ self.old.faults }
         ensures later { self.old.disk.wants ≤ self.new.disk.wants }
         ensures calls { Made (Crashes pick ∷ []) self.old.disk.changes self.new.disk.changes self.old.disk.files self.new.disk.files }
-        ensures uncounted { self.new.calls ≡ self.old.calls }
-        ensures numbers { self.new.failing ≡ self.old.failing }
+        ensures uncounted { (self.new.calls ≡ self.old.calls) × (self.new.failing ≡ self.old.failing) }
         // Where the pick says so it has left what the last sync left.
         ensures synced { pick % 4 ≡ 1 → (name : Name) → map.get (files_of self.new) name ≡ synced_at name self.old.disk.files }
         // It has left what the pick says.

@@ -5,19 +5,19 @@ ghost use Rattle.std.specs.Prelude.{◌≡◌, ◌⊎◌, ◌≤◌, ◌++◌, [
 ghost use Rattle.std.specs.Ordering.{nat_cmp};
 ghost use Rattle.std.specs.FinMap as map;
 ghost use Rattle.std.specs.FinMap.{find, get, keys};
+ghost use Rattle.dkg_journal.specs.Counts.{Caused, Counts};
 ghost use Rattle.dkg_journal.specs.Errors.{IsOfDisk, IsOfReading};
 ghost use Rattle.dkg_journal.specs.Names.{Files};
-ghost use Rattle.dkg_journal.specs.Disk.{Follows, Rose, IsUnchanged, Lands};
+ghost use Rattle.dkg_journal.specs.Disk.{Rose, IsUnchanged, Lands};
 ghost use Rattle.dkg_journal.specs.Found.{Takes, Finds};
-ghost use Rattle.dkg_journal.specs.Fuse.{Reached, Ran, RanAll, Fused};
-ghost use Rattle.dkg_journal.specs.Operations.{Tried, Finished, Opens};
-ghost use Rattle.dkg_journal.specs.Opening.{AreUnbroken, broken, broken_rows, is_unnamed, mend_of, open_calls, removes};
+ghost use Rattle.dkg_journal.specs.Fuse.{HasRun};
+ghost use Rattle.dkg_journal.specs.Operations.{Does, Opens};
+ghost use Rattle.dkg_journal.specs.Opening.{broken, broken_rows, is_unnamed, mend_of, open_calls, removes};
 ghost use Rattle.dkg_journal.specs.Records.{Entry, Whole, broken_at, entries};
-ghost use Rattle.dkg_journal.specs.Gated.{OpensAlike, gated, gated_entries};
+ghost use Rattle.dkg_journal.specs.Gated.{gated, gated_entries};
 ghost use Rattle.dkg_journal.specs.Segments.{Segments, parted, segment_rows, segments};
-ghost use Rattle.dkg_journal.specs.Views.{views};
+ghost use Rattle.dkg_journal.specs.Opens.{Judges, KeepsAll, Repeats};
 ghost use Rattle.dkg_journal.specs.Journals.{IsOpen};
-ghost use Rattle.dkg_journal.specs.Steps.{Keeps};
 ghost use Rattle.dkg_journal.specs.Wholes.{AreOfWhole};
 ghost use Rattle.dkg_journal.specs.declared.disk.Op.TheVariants.{Install, Remove};
 ghost use Rattle.dkg_values.specs.declared.name.Name.{Name};
@@ -55,9 +55,11 @@ impl Found {
 
     /// Takes a segment in: its entries, the place behind its last record, and where it ends there, the call that adds a closed gate.
     fn take_in(&mut self, alloc: Global, section: u64, bytes: Vec<u8>) -> Result<(), JournalError>
-        ensures taken { OnOk result ((before : List Op) (rows : List (ℕ × List ℕ)) → find nat_cmp section rows ≡ None → Takes before rows self.old.waiting.items self.old.places self.old.mending.items
+        ensures taken { OnOk result ((before : List Op) (rows : List (ℕ × List ℕ)) → find nat_cmp section rows ≡ None
+            → Takes before rows self.old.waiting.items self.old.places self.old.mending.items
             → Takes before (rows ++ (section, bytes.items) ∷ []) self.new.waiting.items self.new.places self.new.mending.items) }
-        ensures broken { IfErr result (λ e. (e ≡ JournalError.NoMemory) ⊎ ((place : ℕ) × (e ≡ JournalError.Corrupt (Segment section) place) × (broken_at 0 bytes.items ≡ Some place))) }
+        ensures broken { IfErr result (λ e. (e ≡ JournalError.NoMemory)
+            ⊎ ((place : ℕ) × (e ≡ JournalError.Corrupt (Segment section) place) × (broken_at 0 bytes.items ≡ Some place))) }
     {
         let place = parse(alloc, section, &bytes, &mut self.waiting)?;
         self.places.insert(section, Some(place))?;
@@ -78,10 +80,8 @@ impl Found {
 fn list<D: Disk>(alloc: Global, disk: &mut D) -> Result<Vec<Name>, JournalError>
     ensures names { IfOk result (λ names. IsTrue D.tells → names.items ≡ keys (D.files disk.old)) }
     ensures same { IsUnchanged D.files D.image disk.old disk.new }
-    ensures later { D.faults disk.old ≤ D.faults disk.new }
-    ensures later_wants { D.wants disk.old ≤ D.wants disk.new }
+    ensures counts { Counts D.faults D.wants result disk.old disk.new }
     ensures wanted { IsErrOf result JournalError.NoMemory → Rose (D.wants disk.old) (D.wants disk.new) }
-    ensures disk { IsErrOf result JournalError.Disk → Rose (D.faults disk.old) (D.faults disk.new) }
     ensures kinds { IfErr result IsOfDisk }
     ensures calls { D.made disk.old disk.new [] }
 {
@@ -96,10 +96,8 @@ fn list<D: Disk>(alloc: Global, disk: &mut D) -> Result<Vec<Name>, JournalError>
 fn read<D: Disk>(alloc: Global, disk: &mut D, name: Name) -> Result<Option<Vec<u8>>, JournalError>
     ensures bytes { IfOk result (λ bytes. IsTrue D.tells → option_map (λ v. v.items) bytes ≡ get (D.files disk.old) name) }
     ensures same { IsUnchanged D.files D.image disk.old disk.new }
-    ensures later { D.faults disk.old ≤ D.faults disk.new }
-    ensures later_wants { D.wants disk.old ≤ D.wants disk.new }
+    ensures counts { Counts D.faults D.wants result disk.old disk.new }
     ensures wanted { IsErrOf result JournalError.NoMemory → Rose (D.wants disk.old) (D.wants disk.new) }
-    ensures disk { IsErrOf result JournalError.Disk → Rose (D.faults disk.old) (D.faults disk.new) }
     ensures kinds { IfErr result IsOfDisk }
     ensures calls { D.made disk.old disk.new [] }
 {
@@ -116,12 +114,12 @@ fn find_segments<D: Disk>(
     disk: &mut D,
     names: &[Name],
 ) -> Result<Found, JournalError>
-    ensures found { IfOk result (λ f. IsTrue D.tells → names.now ≡ keys (D.files disk.old) → Takes [] (segment_rows (map.entries (D.files disk.old))) f.waiting.items f.places f.mending.items) }
-    ensures broken { (name : Name) (place : ℕ) → IsErrOf result (JournalError.Corrupt name place) → IsTrue D.tells → names.now ≡ keys (D.files disk.old) → broken_rows (segment_rows (map.entries (D.files disk.old))) ≡ Some (name, place) }
+    ensures found { IfOk result (λ f. IsTrue D.tells → names.now ≡ keys (D.files disk.old)
+        → Takes [] (segment_rows (map.entries (D.files disk.old))) f.waiting.items f.places f.mending.items) }
+    ensures broken { (name : Name) (place : ℕ) → IsErrOf result (JournalError.Corrupt name place) → IsTrue D.tells
+        → names.now ≡ keys (D.files disk.old) → broken_rows (segment_rows (map.entries (D.files disk.old))) ≡ Some (name, place) }
     ensures same { IsUnchanged D.files D.image disk.old disk.new }
-    ensures later { D.faults disk.old ≤ D.faults disk.new }
-    ensures later_wants { D.wants disk.old ≤ D.wants disk.new }
-    ensures disk { IsErrOf result JournalError.Disk → Rose (D.faults disk.old) (D.faults disk.new) }
+    ensures counts { Counts D.faults D.wants result disk.old disk.new }
     ensures not_cut { IsErrOf result JournalError.Cut → ⊥ }
     ensures not_long { IsErrOf result JournalError.TooLong → ⊥ }
     ensures calls { D.made disk.old disk.new [] }
@@ -171,7 +169,8 @@ fn take_parted(
     segments: &BySection<Piece>,
 ) -> Result<Found, JournalError>
     ensures found { IfOk result (λ f. Takes mending.items (map.entries segments.now) f.waiting.items f.places f.mending.items) }
-    ensures broken { (name : Name) (place : ℕ) → IsErrOf result (JournalError.Corrupt name place) → broken_rows (map.entries segments.now) ≡ Some (name, place) }
+    ensures broken { (name : Name) (place : ℕ) → IsErrOf result (JournalError.Corrupt name place)
+        → broken_rows (map.entries segments.now) ≡ Some (name, place) }
     ensures kinds { IfErr result IsOfReading }
 {
     let mut found = Found::new(alloc);
@@ -185,7 +184,8 @@ fn take_parted(
 
 /// Parts a flat file into segments: first those that it does not name go, then each that it names is put in place, and then it goes.
 fn migrate(alloc: Global, names: &[Name], bytes: &[u8]) -> Result<Found, JournalError>
-    ensures found { IfOk result (λ f. (files : Files) → names.now ≡ keys files → get files Flat ≡ Some bytes.now → Finds files f.waiting.items f.places f.mending.items) }
+    ensures found { IfOk result (λ f. (files : Files) → names.now ≡ keys files → get files Flat ≡ Some bytes.now
+        → Finds files f.waiting.items f.places f.mending.items) }
     ensures broken { (name : Name) (place : ℕ) → IsErrOf result (JournalError.Corrupt name place) → (name ≡ Flat) × (broken_at 8 bytes.now ≡ Some place) }
     ensures kinds { IfErr result IsOfReading }
 {
@@ -199,11 +199,10 @@ fn migrate(alloc: Global, names: &[Name], bytes: &[u8]) -> Result<Found, Journal
 /// Reads a journal's files, and judges them all.
 fn find<D: Disk>(alloc: Global, disk: &mut D) -> Result<Found, JournalError>
     ensures found { IfOk result (λ f. IsTrue D.tells → Finds (D.files disk.old) f.waiting.items f.places f.mending.items) }
-    ensures broken { (name : Name) (place : ℕ) → IsErrOf result (JournalError.Corrupt name place) → IsTrue D.tells → broken (D.files disk.old) ≡ Some (name, place) }
+    ensures broken { (name : Name) (place : ℕ) → IsErrOf result (JournalError.Corrupt name place) → IsTrue D.tells
+        → broken (D.files disk.old) ≡ Some (name, place) }
     ensures same { IsUnchanged D.files D.image disk.old disk.new }
-    ensures later { D.faults disk.old ≤ D.faults disk.new }
-    ensures later_wants { D.wants disk.old ≤ D.wants disk.new }
-    ensures disk { IsErrOf result JournalError.Disk → Rose (D.faults disk.old) (D.faults disk.new) }
+    ensures counts { Counts D.faults D.wants result disk.old disk.new }
     ensures not_cut { IsErrOf result JournalError.Cut → ⊥ }
     ensures not_long { IsErrOf result JournalError.TooLong → ⊥ }
     ensures calls { D.made disk.old disk.new [] }
@@ -224,34 +223,22 @@ impl Journal {
         fuse: &mut Fuse,
     ) -> Result<Journal, JournalError>
         ensures open { IfOk result (λ j. IsTrue D.tells → Lands (D.files disk.old) (D.image disk.old) → IsOpen j (D.files disk.new) (D.image disk.new)) }
-        // What it read is what the files stand for.
-        ensures listed { IfOk result (λ j. IsTrue D.tells → views j.waiting.items ≡ entries (D.files disk.old)) }
-        // .. each with the place of its gate.
+        // What it read is what the files stand for, each entry with the place of its gate.
         ensures gated { IfOk result (λ j. IsTrue D.tells → list_map gated j.waiting.items ≡ gated_entries (D.files disk.old)) }
-        ensures images { IsTrue D.tells → Lands (D.files disk.old) (D.image disk.old) → Follows Keeps (D.image disk.old) (D.image disk.new) }
+        // Each image has the entries from before; each record in it is whole, but where one of the files was not and nothing was changed.
+        ensures images { IsTrue D.tells → Lands (D.files disk.old) (D.image disk.old) → KeepsAll (D.image disk.old) (D.image disk.new) }
         // What the files stand for, where nothing of the disk was loose: the same, and nothing is loose.
-        ensures done { OnOk result (IsTrue D.tells → Lands (D.files disk.old) (D.image disk.old) → Finished (Opens (length (open_calls (D.files disk.old)))) (D.files disk.old) (D.files disk.new) (D.image disk.new) fuse.old fuse.new) }
-        ensures tried { IsTrue D.tells → Lands (D.files disk.old) (D.image disk.old) → Tried (Opens (length (open_calls (D.files disk.old)))) (D.files disk.old) (D.image disk.new) fuse.old fuse.new }
+        ensures does { IsTrue D.tells → Does D.files D.image (Opens (length (open_calls (D.files disk.old)))) result disk.old disk.new fuse.old fuse.new }
         // A record that is not whole is the one cause of Corrupt, and no Ok passes over one.
-        ensures broken { (name : Name) (place : ℕ) → IsErrOf result (JournalError.Corrupt name place) → IsTrue D.tells → broken (D.files disk.old) ≡ Some (name, place) }
-        ensures whole { OnOk result (IsTrue D.tells → broken (D.files disk.old) ≡ None) }
-        ensures corrupt { (name : Name) (place : ℕ) → IsTrue D.tells → broken (D.files disk.old) ≡ Some (name, place) → IsErrOf result (JournalError.Corrupt name place) ⊎ (IsErrOf result JournalError.Disk ⊎ IsErrOf result JournalError.NoMemory) }
-        // Each record of whatever a crash leaves is whole, but where one of the files was not and nothing was changed.
-        ensures sound { IsTrue D.tells → Lands (D.files disk.old) (D.image disk.old) → AreUnbroken (D.image disk.old) → AreUnbroken (D.image disk.new) }
+        ensures judges { IsTrue D.tells → Judges result (D.files disk.old) }
         // Another opening finds the same: at Ok, and at Corrupt, which comes before any change.
-        ensures alike { OnOk result (IsTrue D.tells → OpensAlike (D.files disk.old) (D.files disk.new)) }
-        ensures unread { (name : Name) (place : ℕ) → IsErrOf result (JournalError.Corrupt name place) → IsUnchanged D.files D.image disk.old disk.new }
-        ensures later { D.faults disk.old ≤ D.faults disk.new }
-        ensures later_wants { D.wants disk.old ≤ D.wants disk.new }
-        ensures memory { IsErrOf result JournalError.NoMemory → (D.made disk.old disk.new [] × IsUnchanged D.files D.image disk.old disk.new × (fuse.new ≡ fuse.old)) ⊎ Rose (D.wants disk.old) (D.wants disk.new) }
-        ensures disk { IsErrOf result JournalError.Disk → Rose (D.faults disk.old) (D.faults disk.new) }
-        ensures fused { Fused JournalError.Cut JournalError.NoMemory result fuse.old fuse.new }
-        ensures lands { IsErrOf result JournalError.Cut → IsTrue D.tells → Lands (D.files disk.new) (D.image disk.new) }
-        ensures cut { IsErrOf result JournalError.Cut → Reached fuse.old fuse.new }
-        ensures not_cut { OnOk result (Reached fuse.old fuse.new → ⊥) }
+        ensures again { Repeats (IsTrue D.tells) D.files D.image result disk.old disk.new }
+        ensures caused { Caused (IsTrue D.tells) D.files D.image D.faults D.wants result disk.old disk.new fuse.old fuse.new }
+        ensures memory { IsErrOf result JournalError.NoMemory
+            → (D.made disk.old disk.new [] × IsUnchanged D.files D.image disk.old disk.new × (fuse.new ≡ fuse.old))
+            ⊎ Rose (D.wants disk.old) (D.wants disk.new) }
         ensures not_long { IsErrOf result JournalError.TooLong → ⊥ }
-        ensures all { OnOk result (IsTrue D.tells → RanAll D.made disk.old disk.new fuse.old fuse.new (open_calls (D.files disk.old))) }
-        ensures calls { IsTrue D.tells → Ran D.made disk.old disk.new fuse.old fuse.new (open_calls (D.files disk.old)) }
+        ensures calls { IsTrue D.tells → HasRun D.made result disk.old disk.new fuse.old fuse.new (open_calls (D.files disk.old)) }
     {
         let Found {
             waiting,

@@ -85,8 +85,10 @@ pub fn parse(
     bytes: &[u8],
     entries: &mut Vec<JournalEntry>,
 ) -> Result<u64, JournalError>
-    ensures whole { IfOk result (λ place. (bs : List (List ℕ)) × Whole 0 bs place bytes.now × (map gated entries.new.items ≡ map gated entries.old.items ++ gated_from section 0 bs)) }
-    ensures broken { IfErr result (λ e. (e ≡ JournalError.NoMemory) ⊎ ((place : ℕ) × (e ≡ JournalError.Corrupt (Name.Segment section) place) × (broken_at 0 bytes.now ≡ Some place))) }
+    ensures whole { IfOk result (λ place. (bs : List (List ℕ)) × Whole 0 bs place bytes.now
+        × (map gated entries.new.items ≡ map gated entries.old.items ++ gated_from section 0 bs)) }
+    ensures broken { IfErr result (λ e. (e ≡ JournalError.NoMemory)
+        ⊎ ((place : ℕ) × (e ≡ JournalError.Corrupt (Name.Segment section) place) × (broken_at 0 bytes.now ≡ Some place))) }
 {
     let mut place = 0u64;
     let mut rest = bytes;

@@ -73,7 +73,8 @@ fn add_record(alloc: Global, segments: &mut BySection<Piece>, section: u64, body
 /// Reads the records of a flat file up to the first gate that is not open, or to its end, each into the segment of its section.
 pub fn part(alloc: Global, bytes: &[u8]) -> Result<BySection<Piece>, JournalError>
     ensures parted { IfOk result (λ m. (bs : List (List ℕ)) × (place : ℕ) × Whole 8 bs place bytes.now × (m ≡ parted bs)) }
-    ensures broken { IfErr result (λ e. (e ≡ JournalError.NoMemory) ⊎ ((place : ℕ) × (e ≡ JournalError.Corrupt Name.Flat place) × (broken_at 8 bytes.now ≡ Some place))) }
+    ensures broken { IfErr result (λ e. (e ≡ JournalError.NoMemory)
+        ⊎ ((place : ℕ) × (e ≡ JournalError.Corrupt Name.Flat place) × (broken_at 8 bytes.now ≡ Some place))) }
 {
     let mut segments = BySection::new(alloc);
     let mut place = 0u64;

@@ -3,13 +3,14 @@
 //! The store prunes a journal when the epoch before the last is done.
 ghost use Rattle.std.specs.Prelude.{◌≡◌, ◌⊎◌, ◌≤◌, [], OnOk, IfOk, IfErr, IsErrOf, IsTrue};
 ghost use Rattle.std.specs.FinMap.{keys};
-ghost use Rattle.dkg_journal.specs.Disk.{Follows, IsUnchanged, Lands, Rose};
+ghost use Rattle.dkg_journal.specs.Counts.{Caused};
+ghost use Rattle.dkg_journal.specs.Disk.{IsUnchanged, Rose};
 ghost use Rattle.dkg_journal.specs.Errors.{IsOfDevice};
-ghost use Rattle.dkg_journal.specs.Fuse.{Fused, Ran, RanAll};
-ghost use Rattle.dkg_journal.specs.Operations.{Tried, Finished, Prunes};
+ghost use Rattle.dkg_journal.specs.Fuse.{HasRun};
+ghost use Rattle.dkg_journal.specs.Operations.{Does, Prunes};
 ghost use Rattle.dkg_journal.specs.Opening.{AreUnbroken};
 ghost use Rattle.dkg_journal.specs.Places.{removes_below};
-ghost use Rattle.dkg_journal.specs.Pruning.{prune_calls, Leaves, MayLeave};
+ghost use Rattle.dkg_journal.specs.Pruning.{prune_calls, Thins};
 ghost use Rattle.dkg_journal.specs.Journals.{IsOpen};
 
 use crate::by_section::BySection;
@@ -45,22 +46,17 @@ impl Journal {
     ) -> Result<(), JournalError>
         requires { IsTrue D.tells → IsOpen self.old (D.files disk.old) (D.image disk.old) }
         ensures open { OnOk result (IsTrue D.tells → IsOpen self.new (D.files disk.new) (D.image disk.new)) }
-        ensures left { OnOk result (IsTrue D.tells → Follows (Leaves min) (D.image disk.old) (D.image disk.new)) }
-        // Each image has the entries at or above a minimum, at or below this one.
-        ensures images { IsTrue D.tells → Follows (MayLeave min) (D.image disk.old) (D.image disk.new) }
+        // Each image has the entries at or above a minimum, at or below this one; at Ok it is this one.
+        ensures thins { IsTrue D.tells → Thins min result (D.image disk.old) (D.image disk.new) }
         // .. and each record in it is whole.
         ensures sound { IsTrue D.tells → AreUnbroken (D.image disk.new) }
-        ensures done { OnOk result (IsTrue D.tells → Lands (D.files disk.old) (D.image disk.old) → Finished (Prunes min) (D.files disk.old) (D.files disk.new) (D.image disk.new) fuse.old fuse.new) }
-        ensures tried { IsTrue D.tells → Lands (D.files disk.old) (D.image disk.old) → Tried (Prunes min) (D.files disk.old) (D.image disk.new) fuse.old fuse.new }
-        ensures later { D.faults disk.old ≤ D.faults disk.new }
-        ensures later_wants { D.wants disk.old ≤ D.wants disk.new }
-        ensures memory { IsErrOf result JournalError.NoMemory → ((self.new ≡ self.old) × D.made disk.old disk.new [] × IsUnchanged D.files D.image disk.old disk.new × (fuse.new ≡ fuse.old)) ⊎ Rose (D.wants disk.old) (D.wants disk.new) }
-        ensures disk { IsErrOf result JournalError.Disk → Rose (D.faults disk.old) (D.faults disk.new) }
+        ensures does { IsTrue D.tells → Does D.files D.image (Prunes min) result disk.old disk.new fuse.old fuse.new }
+        ensures caused { Caused (IsTrue D.tells) D.files D.image D.faults D.wants result disk.old disk.new fuse.old fuse.new }
+        ensures memory { IsErrOf result JournalError.NoMemory →
+            ((self.new ≡ self.old) × D.made disk.old disk.new [] × IsUnchanged D.files D.image disk.old disk.new × (fuse.new ≡ fuse.old))
+            ⊎ Rose (D.wants disk.old) (D.wants disk.new) }
         ensures kinds { IfErr result IsOfDevice }
-        ensures fused { Fused JournalError.Cut JournalError.NoMemory result fuse.old fuse.new }
-        ensures lands { IsErrOf result JournalError.Cut → IsTrue D.tells → Lands (D.files disk.new) (D.image disk.new) }
-        ensures all { OnOk result (IsTrue D.tells → RanAll D.made disk.old disk.new fuse.old fuse.new (prune_calls min (keys (D.files disk.old)))) }
-        ensures calls { IsTrue D.tells → Ran D.made disk.old disk.new fuse.old fuse.new (prune_calls min (keys (D.files disk.old))) }
+        ensures calls { IsTrue D.tells → HasRun D.made result disk.old disk.new fuse.old fuse.new (prune_calls min (keys (D.files disk.old))) }
     {
         let ops = doomed(alloc, &self.places, min)?;
         perform_all(alloc, disk, fuse, &ops)?;

@@ -4,9 +4,10 @@
 ghost use Rattle.std.specs.Prelude.{◌≡◌, ◌⊎◌, ◌<◌, ◌≤◌, ◌^◌, ◌+◌, [], ◌∷◌, Option, Some, None, OnOk, IfOk, IfErr, IsErrOf, IsTrue, option_map};
 ghost use Rattle.std.specs.FinMap.{get};
 ghost use Rattle.dkg_journal.specs.Errors.{IsOfDevice, IsOfDisk};
-ghost use Rattle.dkg_journal.specs.Disk.{Follows, IsUnchanged, Lands, Rose, SameElse};
-ghost use Rattle.dkg_journal.specs.Fuse.{Fused, Ran, RanAll};
-ghost use Rattle.dkg_journal.specs.Operations.{Tried, Finished, PutsPlan, ClearsPlan};
+ghost use Rattle.dkg_journal.specs.Counts.{Caused, Counts};
+ghost use Rattle.dkg_journal.specs.Disk.{Follows, IsUnchanged, Rose, SameElse};
+ghost use Rattle.dkg_journal.specs.Fuse.{HasRun, RanAll};
+ghost use Rattle.dkg_journal.specs.Operations.{FinishedOn, TriedOn, PutsPlan, ClearsPlan};
 ghost use Rattle.dkg_values.specs.declared.name.Name.TheVariants.{Plan};
 
 use crate::call::perform_own;
@@ -27,18 +28,13 @@ impl Record {
     ) -> Result<(), JournalError>
         ensures put { OnOk result (IsTrue D.tells → get (D.files disk.new) Plan ≡ Some bytes.now) }
         ensures others { Follows (SameElse Plan) (D.image disk.old) (D.image disk.new) }
-        ensures done { OnOk result (IsTrue D.tells → Lands (D.files disk.old) (D.image disk.old) → Finished (PutsPlan bytes.now) (D.files disk.old) (D.files disk.new) (D.image disk.new) fuse.old fuse.new) }
-        ensures tried { Lands (D.files disk.old) (D.image disk.old) → Tried (PutsPlan bytes.now) (D.files disk.old) (D.image disk.new) fuse.old fuse.new }
-        ensures later { D.faults disk.old ≤ D.faults disk.new }
-        ensures later_wants { D.wants disk.old ≤ D.wants disk.new }
+        ensures done { OnOk result (IsTrue D.tells → FinishedOn D.files D.image (PutsPlan bytes.now) disk.old disk.new fuse.old fuse.new) }
+        ensures tried { TriedOn D.files D.image (PutsPlan bytes.now) disk.old disk.new fuse.old fuse.new }
+        ensures caused { Caused (IsTrue D.tells) D.files D.image D.faults D.wants result disk.old disk.new fuse.old fuse.new }
         ensures kept { IsErrOf result JournalError.NoMemory → IsUnchanged D.files D.image disk.old disk.new }
         ensures memory { IsErrOf result JournalError.NoMemory → ((disk.new ≡ disk.old) × (fuse.new ≡ fuse.old)) ⊎ Rose (D.wants disk.old) (D.wants disk.new) }
-        ensures disk { IsErrOf result JournalError.Disk → Rose (D.faults disk.old) (D.faults disk.new) }
         ensures kinds { IfErr result IsOfDevice }
-        ensures fused { Fused JournalError.Cut JournalError.NoMemory result fuse.old fuse.new }
-        ensures lands { IsErrOf result JournalError.Cut → IsTrue D.tells → Lands (D.files disk.new) (D.image disk.new) }
-        ensures all { OnOk result (RanAll D.made disk.old disk.new fuse.old fuse.new (Op.Install Plan bytes.now ∷ [])) }
-        ensures calls { Ran D.made disk.old disk.new fuse.old fuse.new (Op.Install Plan bytes.now ∷ []) }
+        ensures calls { HasRun D.made result disk.old disk.new fuse.old fuse.new (Op.Install Plan bytes.now ∷ []) }
     {
         let install = Op::Install {
             name: Name::Plan,
@@ -51,10 +47,8 @@ impl Record {
     pub fn get<D: Disk>(alloc: Global, disk: &mut D) -> Result<Option<Vec<u8>>, JournalError>
         ensures bytes { IfOk result (λ bytes. IsTrue D.tells → option_map (λ v. v.items) bytes ≡ get (D.files disk.old) Plan) }
         ensures same { IsUnchanged D.files D.image disk.old disk.new }
-        ensures later { D.faults disk.old ≤ D.faults disk.new }
-        ensures later_wants { D.wants disk.old ≤ D.wants disk.new }
+        ensures counts { Counts D.faults D.wants result disk.old disk.new }
         ensures wanted { IsErrOf result JournalError.NoMemory → Rose (D.wants disk.old) (D.wants disk.new) }
-        ensures disk { IsErrOf result JournalError.Disk → Rose (D.faults disk.old) (D.faults disk.new) }
         ensures kinds { IfErr result IsOfDisk }
         ensures calls { D.made disk.old disk.new [] }
     {
@@ -69,15 +63,11 @@ impl Record {
     pub fn clear<D: Disk>(alloc: Global, disk: &mut D, fuse: &mut Fuse) -> Result<(), JournalError>
         ensures cleared { OnOk result (IsTrue D.tells → get (D.files disk.new) Plan ≡ None) }
         ensures others { Follows (SameElse Plan) (D.image disk.old) (D.image disk.new) }
-        ensures done { OnOk result (IsTrue D.tells → Lands (D.files disk.old) (D.image disk.old) → Finished ClearsPlan (D.files disk.old) (D.files disk.new) (D.image disk.new) fuse.old fuse.new) }
-        ensures tried { Lands (D.files disk.old) (D.image disk.old) → Tried ClearsPlan (D.files disk.old) (D.image disk.new) fuse.old fuse.new }
-        ensures later { D.faults disk.old ≤ D.faults disk.new }
-        ensures later_wants { D.wants disk.old ≤ D.wants disk.new }
+        ensures done { OnOk result (IsTrue D.tells → FinishedOn D.files D.image ClearsPlan disk.old disk.new fuse.old fuse.new) }
+        ensures tried { TriedOn D.files D.image ClearsPlan disk.old disk.new fuse.old fuse.new }
+        ensures caused { Caused (IsTrue D.tells) D.files D.image D.faults D.wants result disk.old disk.new fuse.old fuse.new }
         ensures wanted { IsErrOf result JournalError.NoMemory → Rose (D.wants disk.old) (D.wants disk.new) }
-        ensures disk { IsErrOf result JournalError.Disk → Rose (D.faults disk.old) (D.faults disk.new) }
         ensures kinds { IfErr result IsOfDevice }
-        ensures fused { Fused JournalError.Cut JournalError.NoMemory result fuse.old fuse.new }
-        ensures lands { IsErrOf result JournalError.Cut → IsTrue D.tells → Lands (D.files disk.new) (D.image disk.new) }
         ensures all { RanAll D.made disk.old disk.new fuse.old fuse.new (Op.Remove Plan ∷ []) }
     {
         perform_own(alloc, disk, fuse, Op::Remove { name: Name::Plan })

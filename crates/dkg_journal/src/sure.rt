@@ -123,7 +123,8 @@ impl Disk for SureDisk {
         requires { Allowed (contents self.old.files) (Op.WriteAt name place bytes.now) }
         ensures done { OnOk result (Did (Op.WriteAt name place bytes.now) (contents self.old.files) (contents self.new.files) (RowsImage self.new.files)) }
         ensures crash { Follows (Inside (Op.WriteAt name place bytes.now)) (RowsImage self.old.files) (RowsImage self.new.files) }
-        ensures memory { IsErrOf result DiskError.NoMemory → IsUnchanged (λ (d : SureDisk). contents d.files) (λ (d : SureDisk). RowsImage d.files) self.old self.new }
+        ensures memory { IsErrOf result DiskError.NoMemory
+            → IsUnchanged (λ (d : SureDisk). contents d.files) (λ (d : SureDisk). RowsImage d.files) self.old self.new }
         ensures cause { HasCause 0 0 result }
         ensures want { HasWant self.old.wants self.new.wants result }
         ensures calls { Made (Makes (Op.WriteAt name place bytes.now) ∷ []) self.old.changes self.new.changes self.old.files self.new.files }

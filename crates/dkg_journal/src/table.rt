@@ -202,7 +202,8 @@ impl Table {
         bytes: &[u8],
     ) -> Result<(), AllocError>
         requires { (f : Kept) × (file_at name self.old ≡ Some f) × (place ≤ length f.bytes) }
-        ensures done { OnOk result ((f : Kept) → file_at name self.old ≡ Some f → (f.synced ≤ length f.bytes) × IsUpdate name (Some (wrote place bytes.now f)) self.old self.new) }
+        ensures done { OnOk result ((f : Kept) → file_at name self.old ≡ Some f
+            → (f.synced ≤ length f.bytes) × IsUpdate name (Some (wrote place bytes.now f)) self.old self.new) }
         ensures kept { OnErr result (self.new ≡ self.old) }
         ensures synced { KeepsSynced self.old self.new }
     {

@@ -37,8 +37,8 @@ loop-name-preserved g c =
     elim c.match-name.branch [
       | in-Segment+in_ok-bytes+in-Some+in_ok-take_in w ↦ record {
         same = subst (λ d. IsUnchanged g.D.Disk.files g.D.Disk.image c.args.disk.now d) (sym w.disk-is) (unchanged_then g.D.Disk.files g.D.Disk.image _ _ _ inv.same w.read.ensures.same);
-        later = subst (λ d. g.D.Disk.faults c.args.disk.now ≤ g.D.Disk.faults d) (sym w.disk-is) (omega (arith, inv.later, w.read.ensures.later));
-        later_wants = subst (λ d. g.D.Disk.wants c.args.disk.now ≤ g.D.Disk.wants d) (sym w.disk-is) (omega (arith, inv.later_wants, w.read.ensures.later_wants));
+        later = subst (λ d. g.D.Disk.faults c.args.disk.now ≤ g.D.Disk.faults d) (sym w.disk-is) (omega (arith, inv.later, w.read.ensures.counts.later));
+        later_wants = subst (λ d. g.D.Disk.wants c.args.disk.now ≤ g.D.Disk.wants d) (sym w.disk-is) (omega (arith, inv.later_wants, w.read.ensures.counts.later_wants));
         made = subst (λ d. g.D.Disk.made c.args.disk.now d []) (sym w.disk-is) (g.met.D.Disk.made_more _ _ _ [] [] inv.made w.read.ensures.calls);
         along = λ tells are. subst (λ f. Along (map.entries old) (drop (i + 1) names) f.waiting.items f.places f.mending.items) (sym w.found-is)
             (along_more (map.entries old) (get_or names i Plan) (drop (i + 1) names) _ _ _ (along tells are) (map.entries_sorted old) w.in-Segment.section w.in-Segment.is w.in-Some.bytes.items
@@ -47,8 +47,8 @@ loop-name-preserved g c =
       }
       | in-Segment+in_ok-bytes+in_default-2 w ↦ record {
         same = subst (λ d. IsUnchanged g.D.Disk.files g.D.Disk.image c.args.disk.now d) (sym w.disk-is) (unchanged_then g.D.Disk.files g.D.Disk.image _ _ _ inv.same w.read.ensures.same);
-        later = subst (λ d. g.D.Disk.faults c.args.disk.now ≤ g.D.Disk.faults d) (sym w.disk-is) (omega (arith, inv.later, w.read.ensures.later));
-        later_wants = subst (λ d. g.D.Disk.wants c.args.disk.now ≤ g.D.Disk.wants d) (sym w.disk-is) (omega (arith, inv.later_wants, w.read.ensures.later_wants));
+        later = subst (λ d. g.D.Disk.faults c.args.disk.now ≤ g.D.Disk.faults d) (sym w.disk-is) (omega (arith, inv.later, w.read.ensures.counts.later));
+        later_wants = subst (λ d. g.D.Disk.wants c.args.disk.now ≤ g.D.Disk.wants d) (sym w.disk-is) (omega (arith, inv.later_wants, w.read.ensures.counts.later_wants));
         made = subst (λ d. g.D.Disk.made c.args.disk.now d []) (sym w.disk-is) (g.met.D.Disk.made_more _ _ _ [] [] inv.made w.read.ensures.calls);
         along = λ tells are. absurd (along_there (map.entries old) (get_or names i Plan) (drop (i + 1) names) _ _ _ (along tells are) (map.entries_sorted old)
             (sym (map.get-entries old (get_or names i Plan)) ∙ ap (λ (m : Files). map.get m (get_or names i Plan)) (sym inv.same.same_files) ∙ sym (w.in_ok-bytes.ensures.bytes tells) ∙ ap (λ o. option_map (λ v. v.items) o) w.in_default-2.is));

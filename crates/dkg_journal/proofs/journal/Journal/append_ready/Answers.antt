@@ -11,5 +11,5 @@ returns-clause-sound g c = λ tells. c.append_prepared.ensures.sound tells (open
 
 pub returns-clause-open : goal.returns-clause-open
 returns-clause-open g c = λ tells.
-    opened_more c.args.self.now.places _ c.args.section _ _ c.args.body.now _ _ _ _ (c.requires.open tells) (c.in_ok-append_prepared.ensures.open tells) (c.in_ok-append_prepared.ensures.added tells) (g.met.D.Disk.reads _ tells)
+    opened_more c.args.self.now.places _ c.args.section _ _ c.args.body.now _ _ _ _ (c.requires.open tells) (c.in_ok-append_prepared.ensures.open tells) (c.in_ok-append_prepared.ensures.grows tells).added (g.met.D.Disk.reads _ tells)
     (ap (λ n. n + 5 + length c.args.body.now) (start_is c.place_of-place.result c.unwrap_or.result c.unwrap_or.ensures)) c.set.ensures
