@@ -1,6 +1,7 @@
 -- An acknowledgement that a dealer handles, as acts.
-use Rattle.std.proofs.Common.{◌≡◌, Bool, true, false, Result, Ok, Err, if◌then◌else◌, refl, sym, ap, subst, ◌∙◌}
+use Rattle.std.proofs.Common.{◌≡◌, ℕ, List, Option, Bool, true, false, not, Result, Ok, Err, if◌then◌else◌, refl, sym, ap, subst, ◌∙◌}
 use Rattle.dkg_ceremony.specs.declared.ceremony.AckError.{AckError}
+use Rattle.dkg_ceremony.specs.declared.ceremony.AckError.TheVariants as acks
 use Rattle.dkg_journal.specs.Names.{Files}
 use Rattle.dkg_journal.specs.Records.{Entry}
 use Rattle.dkg_store.specs.Acts.{Acts, Goes, bind, by_want, Ended, went, broken, Moment, MadeAt}
@@ -13,7 +14,11 @@ use Rattle.dkg_store.specs.declared.dealer.AckHandleError.TheVariants.{Refused, 
 use Rattle.dkg_store.specs.declared.dealer.AckOutcome.{AckOutcome}
 use Rattle.dkg_store.specs.declared.dealer.AckOutcome.TheVariants.{Recorded, Duplicate}
 use Rattle.dkg_store.proofs.Acts.{made_next, made_none, made_nothing}
+use Rattle.dkg_store.specs.Dealer.{AnswersAck, IsDueAs, outcome_of}
+use Rattle.dkg_store.specs.Rest.{KeepsAck}
+use Rattle.dkg_store.specs.declared.store.Store.{Store}
 use Rattle.dkg_store.proofs.Acting.{then_broken}
+use Rattle.dkg_store.proofs.Left.{due_want}
 
 abbrev pub outcome : Bool → AckOutcome
 outcome new = if new then Recorded else Duplicate
@@ -67,3 +72,31 @@ acking_unchecked check counted recorded entry files image m r (OfStore s) is ref
 
 pub same_store : (e f : StoreError) → ◌≡◌ {A = Result AckOutcome AckHandleError} (Err (OfStore e)) (Err (OfStore f)) → e ≡ f
 same_store e f is = cc
+
+-- WHAT A DEALER ANSWERS, and what an error of it is due to
+
+pub store_alone : (e : StoreError) (a : AckError) → ◌≡◌ {A = Result AckOutcome AckHandleError} (Err (OfStore e)) (Err (Refused a)) → ⊥
+store_alone e a is = cc
+
+pub ok_alone : (outcome : AckOutcome) (a : AckError) → ◌≡◌ {A = Result AckOutcome AckHandleError} (Ok outcome) (Err (Refused a)) → ⊥
+ok_alone outcome a is = cc
+
+pub check_answers : (e : AckHandleError) (check : Result (Unit {0}) AckError) (its : AckOutcome) → ((a : AckError) → ◌≡◌ {A = Result (Unit {0}) AckHandleError} (Err e) (Err (Refused a)) → check ≡ Err a)
+    → (◌≡◌ {A = Result (Unit {0}) AckHandleError} (Err e) (Err (Refused acks.NoMemory)) → ⊥) → AnswersAck (Err e) check its
+check_answers (Refused a) check its refused no_want = (refused a refl, λ is. no_want (ap (λ (x : AckError). Err (Refused x)) is))
+check_answers (OfStore s) check its refused no_want = tt
+
+pub check_due : (e : AckHandleError) (disk secrets cut want : Type 0) → ((s : StoreError) → ◌≡◌ {A = Result (Unit {0}) AckHandleError} (Err e) (Err (OfStore s)) → s ≡ NoMemory) → want → IsDueAs e disk secrets cut want
+check_due (Refused a) disk secrets cut want memory w = tt
+check_due (OfStore s) disk secrets cut want memory w = due_want s _ _ _ _ _ (memory s refl) w
+
+outcome_new : (recorded : Bool) → outcome (not recorded) ≡ outcome_of false recorded
+outcome_new true = refl
+outcome_new false = refl
+
+pub outcome_there : (counted recorded new is : Bool) → new ≡ not recorded → counted ≡ false → new ≡ is → outcome is ≡ outcome_of counted recorded
+outcome_there counted recorded new is known first which =
+    ap outcome (sym which ∙ known) ∙ outcome_new recorded ∙ ap (λ (b : Bool). outcome_of b recorded) (sym first)
+
+pub ack_kept_as : {Dir : Type 0} {ends ends_too : Option Bool} {key : ℕ × ℕ} {ack : List ℕ} {old new : Store Dir} → ends ≡ ends_too → KeepsAck ends key ack old new → KeepsAck ends_too key ack old new
+ack_kept_as {key = key} {ack = ack} {old = old} {new = new} is keeps = subst (λ (o : Option Bool). KeepsAck o key ack old new) is keeps

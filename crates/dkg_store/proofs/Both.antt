@@ -96,3 +96,18 @@ module _ {D X : Type 0} (disk : D → D → List (DeviceCall Op) → Type 0) (se
 -- one call, whatever it answered
 pub one_call : {X : Type 0} (made : X → X → List (DeviceCall SecretOp) → Type 0) (x y : X) (f g : Burn) (op : SecretOp) → made x y (calls_in f (op ∷ [])) → g ≡ spent_once f → RanAll made x y f g (op ∷ [])
 one_call made x y f g op did once = record { each = did; fuse = once }
+
+-- CALLS OF THE SECRETS ALONE
+
+pub none_of_disk : (calls : List SecretOp) (f : Burn) → disk_calls (calls_in f (map on_secrets calls)) ≡ []
+none_of_disk [] f = refl
+none_of_disk (one ∷ calls) f = not_at_disk (pick_now f) one (calls_in (spent_once f) (map on_secrets calls)) ∙ none_of_disk calls (spent_once f)
+
+pub all_of_secrets : (calls : List SecretOp) (f : Burn) → secret_calls (calls_in f (map on_secrets calls)) ≡ calls_in f calls
+all_of_secrets [] f = refl
+all_of_secrets (one ∷ calls) f =
+    at_secrets (pick_now f) one (calls_in (spent_once f) (map on_secrets calls)) ∙ ap (λ (l : List (DeviceCall SecretOp)). call_at (pick_now f) one ∷ l) (all_of_secrets calls (spent_once f))
+
+pub burned_alike : (calls : List SecretOp) (f : Burn) → burned (map on_secrets calls) f ≡ burned calls f
+burned_alike [] f = refl
+burned_alike (one ∷ calls) f = burned_alike calls (spent_once f)

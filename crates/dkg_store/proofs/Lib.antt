@@ -7,12 +7,15 @@ pub mod Appended
 pub mod Chained
 pub mod Both
 pub mod Corrupt
+pub mod Counts
 pub mod Cuts
 pub mod Dealing
 pub mod Epochs
 pub mod Events
 pub mod Fit
 pub mod Halves
+pub mod Handling
+pub mod Left
 pub mod Listed
 pub mod Logs
 pub mod Making

@@ -1,11 +1,18 @@
 -- What a dealer keeps of its dealing, whom it still waits for, and what it answers.
-use Rattle.std.specs.Prelude.{◌≡◌, ◌||◌, ℕ, Bool, List, [], ◌∷◌, map, filter, fold, Option, Some, None, Result, Ok, Err, is_ok, Contains, if◌then◌else◌}
+use Rattle.std.specs.Prelude.{◌≡◌, ◌≢◌, ◌||◌, ℕ, Bool, not, List, [], ◌∷◌, map, filter, fold, Option, Some, None, is_some, Result, Ok, Err, IsErrOf, is_ok, Contains, if◌then◌else◌}
 use Rattle.std.specs.Ordering.{nat_cmp}
-use Rattle.std.specs.FinMap.{FinMap, get, insert, empty}
+use Rattle.std.specs.FinMap.{FinMap, contains_key, get, insert, empty}
 use Rattle.dkg_values.specs.Rising.{lookup}
 use Rattle.dkg_ceremony.specs.declared.ceremony.AckError.{AckError}
 use Rattle.dkg_ceremony.specs.declared.deal.DealError.{DealError}
 use Rattle.dkg_ceremony.specs.declared.round.Round.{Round}
+use Rattle.dkg_ceremony.specs.declared.ceremony.AckError.TheVariants.{NoMemory}
+use Rattle.dkg_store.specs.Called.{IsDue, if_made, made_in}
+use Rattle.dkg_store.specs.Noted.{Notes}
+use Rattle.dkg_store.specs.Rest.{KeepsAck}
+use Rattle.dkg_store.specs.declared.dealer.AckHandleError.{AckHandleError}
+use Rattle.dkg_store.specs.declared.dealer.AckHandleError.TheVariants.{Refused, Store as OfStore}
+use Rattle.dkg_store.specs.declared.store.Store.{Store}
 use Rattle.dkg_store.specs.declared.dealer.AckOutcome.{AckOutcome}
 use Rattle.dkg_store.specs.declared.dealer.AckOutcome.TheVariants.{Recorded, Duplicate}
 use Rattle.dkg_store.specs.declared.dealer.Dealer.{Dealer}
@@ -60,3 +67,28 @@ pub record IsDealerOf (deal_of : Round → ℕ → Option ℕ → List ℕ → R
 -- An acknowledgement that passes is a duplicate where that player's came in, or was recorded, before.
 abbrev pub outcome_of : (counted recorded : Bool) → AckOutcome
 outcome_of counted recorded = if (counted || recorded) then Duplicate else Recorded
+
+-- how the handling of an acknowledgement ended: in a record where that player's neither came in nor was recorded before
+abbrev pub acked_in : {T E : Type 0} → AckMap → Notes (List ℕ) → (epoch player : ℕ) → Result T E → Option Bool
+acked_in acks recorded epoch player result = made_in (not (is_some (get acks player) || contains_key recorded (epoch, player))) result
+
+-- what a dealer answers, where the store did not refuse; want of memory is the store's
+abbrev pub AnswersAck : Result AckOutcome AckHandleError → (check : Result (Unit {0}) AckError) → AckOutcome → Type 0
+AnswersAck (Ok outcome) check its = (check ≡ Ok tt) × (outcome ≡ its)
+AnswersAck (Err (Refused error)) check its = (check ≡ Err error) × (error ≢ NoMemory)
+AnswersAck (Err (OfStore error)) check its = Unit {0}
+
+-- What the handling of an acknowledgement leaves in memory: what passed the check and is a player's first counts, and is recorded if none was.
+pub record HandlesAck {Dir : Type 0} (ends : Option Bool) (result : Result AckOutcome AckHandleError) (check : Result (Unit {0}) AckError)
+    (epoch player : ℕ) (ack : List ℕ) (dealer now : Dealer) (old new : Store Dir) (same : Type 0) : Type 0 where
+  pub answers : AnswersAck result check (outcome_of (is_some (get dealer.acks player)) (contains_key old.acks (epoch, player)))
+  pub rest : now ≡ record dealer { acks = now.acks }
+  pub counted : now.acks ≡ if_made (made_in (not (is_some (get dealer.acks player))) result) (insert dealer.acks player ack) dealer.acks
+  pub recorded : KeepsAck ends (epoch, player) ack old new
+  -- a refusal touches nothing
+  pub untouched : (e : AckError) → IsErrOf result (Refused e) → same
+
+-- what an error of the handling is due to, where it is the store's
+abbrev pub IsDueAs : AckHandleError → (disk secrets cut want : Type 0) → Type 0
+IsDueAs (Refused error) disk secrets cut want = Unit {0}
+IsDueAs (OfStore error) disk secrets cut want = IsDue error disk secrets cut want

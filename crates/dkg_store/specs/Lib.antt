@@ -1,14 +1,17 @@
 pub mod Acts
 pub mod Both
+pub mod Called
 pub mod Calls
 pub mod Chain
 pub mod Commits
 pub mod Corrupt
+pub mod Counts
 pub mod Cuts
 pub mod Dealer
 pub mod Errors
 pub mod Events
 pub mod Keys
+pub mod Left
 pub mod Made
 pub mod Named
 pub mod Noted

@@ -7,7 +7,8 @@ ghost use Rattle.dkg_journal.specs.Disk.{Rose};
 ghost use Rattle.dkg_journal.specs.Fuse.{calls_in, spent_once, Reached};
 ghost use Rattle.dkg_store.specs.Acts.{EndsBy};
 ghost use Rattle.dkg_store.specs.Calls.{cause_of};
-ghost use Rattle.dkg_store.specs.Errors.{IsOfSecrets, store_error_of};
+ghost use Rattle.dkg_store.specs.Called.{IsDue};
+ghost use Rattle.dkg_store.specs.Errors.{store_error_of};
 ghost use Rattle.dkg_store.specs.declared.call.StoreError.TheVariants.{NoMemory as WantOfMemory};
 ghost use Rattle.dkg_store.specs.Secrets.{Tries, HasCause, HasWant, after};
 
@@ -117,20 +118,18 @@ pub fn perform_secret<X: SecretStore>(
 ) -> Result<(), StoreError>
     ensures done { OnOk result (IsTrue X.tells → X.held secrets.new ≡ after op.now (X.held secrets.old)) }
     ensures crash { Tries op.now (X.held secrets.old) (X.held secrets.new) }
-    ensures memory { IsErrOf result StoreError.NoMemory → X.held secrets.new ≡ X.held secrets.old }
+    // Want of memory changes nothing.
+    ensures due { IfErr result (λ e. IsDue e ⊥ (Rose (X.faults secrets.old) (X.faults secrets.new)) (Reached fuse.old fuse.new)
+        (Rose (X.wants secrets.old) (X.wants secrets.new) × (X.held secrets.new ≡ X.held secrets.old))) }
     ensures later { X.faults secrets.old ≤ X.faults secrets.new }
     ensures later_wants { X.wants secrets.old ≤ X.wants secrets.new }
-    ensures wanted { IsErrOf result StoreError.NoMemory → Rose (X.wants secrets.old) (X.wants secrets.new) }
-    ensures secrets { IsErrOf result StoreError.Secrets → Rose (X.faults secrets.old) (X.faults secrets.new) }
     // It was made, or cut where the fuse says so.
     ensures calls { X.made secrets.old secrets.new (calls_in fuse.old (op.now ∷ [])) }
     ensures counted { fuse.new ≡ spent_once fuse.old }
     ensures not_cut { OnOk result (Reached fuse.old fuse.new → ⊥) }
-    ensures cut { IsErrOf result StoreError.Cut → Reached fuse.old fuse.new }
     ensures reached { Reached fuse.old fuse.new → IsErrOf result StoreError.Cut ⊎ IsErrOf result StoreError.NoMemory }
     // A cut is where the fuse says, and no failure is.
     ensures ends { IfErr result (λ e. EndsBy (cause_of e) fuse.old fuse.new) }
-    ensures kinds { IfErr result IsOfSecrets }
 {
     if let Some(pick) = fuse.spend() {
         return match secrets.cut(alloc, op, pick) {

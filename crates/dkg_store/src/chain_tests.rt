@@ -35,7 +35,10 @@ fn taken<D: Disk, X: SecretStore>(
     requires open { IsTrue D.tells → IsOpen store.old.journal (D.files devices.old.disk.now) (D.image devices.old.disk.now) }
     ensures open { OnOk result (IsTrue D.tells → IsOpen store.new.journal (D.files devices.new.disk.now) (D.image devices.new.disk.now)) }
     // One after another, as far as it came, whatever image is left.
-    ensures acts { IsTrue D.tells → IsTrue X.tells → (out : List Line) → MadeOn D.files D.image X.held (taking (recording (map.contains_key store.old.dealings (epoch, dealer)) epoch dealer public private) (map.contains_key store.old.acks (epoch, dealer)) (epoch, event_spelling (events.Ack dealer ack)) epoch) (ended result) devices.old devices.new out out }
+    ensures acts { IsTrue D.tells → IsTrue X.tells → (out : List Line) → MadeOn D.files D.image X.held
+        (taking (recording (map.contains_key store.old.dealings (epoch, dealer)) epoch dealer public private)
+        (map.contains_key store.old.acks (epoch, dealer)) (epoch, event_spelling (events.Ack dealer ack)) epoch)
+        (ended result) devices.old devices.new out out }
     ensures same_disk { devices.new.disk.ghost_name ≡ devices.old.disk.ghost_name }
     ensures same_secrets { devices.new.secrets.ghost_name ≡ devices.old.secrets.ghost_name }
 {

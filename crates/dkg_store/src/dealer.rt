@@ -1,26 +1,25 @@
 //! A dealer of a round: it counts the acknowledgements that come in, and makes its log of them.
 //!
 //! A reshare actor sends its dealing to the players that have not acknowledged it, and hands it each acknowledgement that comes back.
-ghost use Rattle.std.specs.Prelude.{◌≡◌, ◌⊎◌, ◌≤◌, ◌||◌, ◌↔◌, [], ◌∷◌, ℕ, List, length, OnOk, OnErr, IfOk, IfErr, IfSome, IsErrOf, IsTrue, IsSome, is_some, Option, Some, None, Ok, Err, Contains, not, true, false, if◌then◌else◌};
+ghost use Rattle.std.specs.Prelude.{◌≡◌, ◌⊎◌, ◌≤◌, ◌↔◌, ⊤, ℕ, List, length, OnOk, OnErr, IfOk, IfErr, IsErrOf, IsTrue, is_some, Some, None, Ok, Err, true, false, if◌then◌else◌};
+ghost use Rattle.std.specs.Prelude.{map as list_map};
 ghost use Rattle.std.specs.FinMap as map;
 ghost use Rattle.std.specs.Option.{option_copied};
 ghost use Rattle.std.specs.Iterator.{YieldsFirstBy, item_count};
-ghost use Rattle.dkg_values.specs.declared.name.Name.TheVariants.{Segment};
 ghost use Rattle.dkg_values.specs.Rising.{lookup};
 ghost use Rattle.dkg_ceremony.specs.Thresholds.{max_faults_of};
 ghost use Rattle.dkg_ceremony.specs.declared.ceremony.AckError.{AckError};
-ghost use Rattle.dkg_journal.specs.Disk.{Follows, Lands, Rose, SameElse};
-ghost use Rattle.dkg_journal.specs.Fuse.{Reached, Ran};
+ghost use Rattle.dkg_journal.specs.Disk.{Lands, Rose};
+ghost use Rattle.dkg_journal.specs.Fuse.{Reached};
 ghost use Rattle.dkg_journal.specs.Journals.{IsOpen, append_calls};
 ghost use Rattle.dkg_store.specs.Acts.{MadeOn};
+ghost use Rattle.dkg_store.specs.Both.{on_disk};
+ghost use Rattle.dkg_store.specs.Called.{Called};
 ghost use Rattle.dkg_store.specs.Calls.{acking, acked};
-ghost use Rattle.dkg_store.specs.Dealer.{IsDealerOf, held_acks, outcome_of, passing, to_send, unsent};
-ghost use Rattle.dkg_store.specs.Errors.{IsOfAcking};
-ghost use Rattle.dkg_store.specs.Corrupt.{AreFit};
-ghost use Rattle.dkg_store.specs.Events.{event_spelling, is_event};
-ghost use Rattle.dkg_store.specs.Named.{Named, MayBeNamed, NamesOpened, NamesPruned, SamePlan};
-ghost use Rattle.dkg_store.specs.Noted.{Gives, GivesEither, acks_in, logs_in};
-ghost use Rattle.dkg_store.specs.Pairs.{Pairs, Holds};
+ghost use Rattle.dkg_store.specs.Dealer.{HandlesAck, IsDealerOf, IsDueAs, acked_in, held_acks, passing, to_send, unsent};
+ghost use Rattle.dkg_store.specs.Events.{event_spelling};
+ghost use Rattle.dkg_store.specs.Left.{Extends, GivesNote};
+ghost use Rattle.dkg_store.specs.Noted.{acks_in, logs_in};
 ghost use Rattle.dkg_store.specs.Recorded.{at_epoch};
 ghost use Rattle.dkg_store.specs.declared.dealer.AckHandleError.TheVariants.{Store as OfStore};
 ghost use Rattle.dkg_store.specs.declared.event.Event.TheVariants as events;
@@ -115,7 +114,8 @@ fn check<C: Ceremony>(
     ack: &Ack,
 ) -> Result<(), AckHandleError>
     ensures passed { OnOk result (C.check_ack_of dealer.now.round dealer.now.me dealer.now.public player ack.now ≡ Ok tt) }
-    ensures refused { (e : AckError) → IsErrOf result (AckHandleError.Refused e) → C.check_ack_of dealer.now.round dealer.now.me dealer.now.public player ack.now ≡ Err e }
+    ensures refused { (e : AckError) → IsErrOf result (AckHandleError.Refused e)
+        → C.check_ack_of dealer.now.round dealer.now.me dealer.now.public player ack.now ≡ Err e }
     ensures not_want { IsErrOf result (AckHandleError.Refused AckError.NoMemory) → ⊥ }
     ensures memory { (e : StoreError) → IsErrOf result (AckHandleError.Store e) → e ≡ StoreError.NoMemory }
 {
@@ -159,7 +159,15 @@ impl Dealer {
         privates: Map<Private>,
         acks: NumberMap<Ack>,
     ) -> Mem<Dealer>
-        ensures { IfOk result (λ dealer. dealer ≡ record { me = me; round = round.now; public = public; privates = privates; acks = acks; is_open = true; finalized = None }) }
+        ensures { IfOk result (λ dealer. dealer ≡ record {
+          me = me;
+          round = round.now;
+          public = public;
+          privates = privates;
+          acks = acks;
+          is_open = true;
+          finalized = None;
+        }) }
     {
         Ok(Dealer {
             me,
@@ -190,57 +198,33 @@ impl Dealer {
     ) -> Result<AckOutcome, AckHandleError>
         requires is_open { IsTrue self.old.is_open }
         requires open { IsTrue D.tells → IsOpen store.old.journal (D.files devices.old.disk.now) (D.image devices.old.disk.now) }
-        ensures me { self.new.me ≡ self.old.me }
-        ensures round { self.new.round ≡ self.old.round }
-        ensures public { self.new.public ≡ self.old.public }
-        ensures privates { self.new.privates ≡ self.old.privates }
-        ensures is_open { self.new.is_open ≡ self.old.is_open }
-        ensures finalized { self.new.finalized ≡ self.old.finalized }
-        ensures dealer { IsDealerOf C.deal_of C.check_ack_of self.old → IsDealerOf C.deal_of C.check_ack_of self.new }
-        ensures checked { OnOk result (C.check_ack_of self.old.round self.old.me self.old.public player ack ≡ Ok tt) }
-        ensures refused { (e : AckError) → IsErrOf result (AckHandleError.Refused e) → C.check_ack_of self.old.round self.old.me self.old.public player ack ≡ Err e }
-        // A refusal touches nothing.
-        ensures untouched { (e : AckError) → IsErrOf result (AckHandleError.Refused e) → (self.new ≡ self.old) × (store.new ≡ store.old) × (devices.new ≡ devices.old) }
-        ensures answer { IfOk result (λ outcome. outcome ≡ outcome_of (is_some (map.get self.old.acks player)) (map.contains_key store.old.acks (epoch, player))) }
-        // What came in first counts.
-        ensures counted { OnOk result (self.new.acks ≡ (if is_some (map.get self.old.acks player) then self.old.acks else map.insert self.old.acks player ack)) }
-        ensures uncounted { OnErr result (self.new.acks ≡ self.old.acks) }
-        // The first record stays.
-        ensures recorded { OnOk result (store.new.acks ≡ (if (is_some (map.get self.old.acks player) || map.contains_key store.old.acks (epoch, player)) then store.old.acks else map.insert store.old.acks (epoch, player) ack)) }
-        ensures unrecorded { OnErr result (store.new.acks ≡ store.old.acks) }
-        ensures dealings { store.new.dealings ≡ store.old.dealings }
-        ensures logs { store.new.logs ≡ store.old.logs }
-        ensures current { store.new.current ≡ store.old.current }
-        ensures restored { store.new.restored ≡ store.old.restored }
         ensures open { OnOk result (IsTrue D.tells → IsOpen store.new.journal (D.files devices.new.disk.now) (D.image devices.new.disk.now)) }
-        ensures gives { OnOk result (IsTrue D.tells → Gives acks_in store.old.acks (D.image devices.old.disk.now) → Gives acks_in store.new.acks (D.image devices.new.disk.now)) }
-        // Each image gives the acknowledgements that were recorded before, with the new one or without.
-        ensures images { IsTrue D.tells → Gives acks_in store.old.acks (D.image devices.old.disk.now) → GivesEither acks_in store.old.acks (map.insert store.old.acks (epoch, player) ack) (D.image devices.new.disk.now) }
-        ensures others { IsTrue D.tells → Gives logs_in store.old.logs (D.image devices.old.disk.now) → Gives logs_in store.old.logs (D.image devices.new.disk.now) }
-        ensures holds { IsTrue D.tells → (pairs : Pairs) → Holds pairs (D.image devices.old.disk.now) (X.held devices.old.secrets.now) → Holds pairs (D.image devices.new.disk.now) (X.held devices.new.secrets.now) }
-        // The check, and then the append: all of it at Ok, and at any other exit a part, whatever image is left.
-        ensures acts { IsTrue D.tells → (out : List Line) → MadeOn D.files D.image X.held (acking (C.check_ack_of self.old.round self.old.me self.old.public player ack) (is_some (map.get self.old.acks player)) (map.contains_key store.old.acks (epoch, player)) (epoch, event_spelling (events.Ack player ack))) (acked result) devices.old devices.new out out }
-        ensures kinds { IfErr result IsOfAcking }
-        ensures not_secrets { IsErrOf result (AckHandleError.Store StoreError.Secrets) → ⊥ }
-        ensures calls { Ran D.made devices.old.disk.now devices.new.disk.now devices.old.fuse devices.new.fuse (append_calls store.old.journal (epoch, event_spelling (events.Ack player ack))) }
+        // It answers as the check does, and what came in first counts and is recorded. A refusal touches nothing.
+        ensures handled { HandlesAck (acked_in self.old.acks store.old.acks epoch player result) result
+            (C.check_ack_of self.old.round self.old.me self.old.public player ack) epoch player ack self.old self.new store.old store.new
+            ((self.new ≡ self.old) × (store.new ≡ store.old) × (devices.new ≡ devices.old)) }
+        ensures dealer { IsDealerOf C.deal_of C.check_ack_of self.old → IsDealerOf C.deal_of C.check_ack_of self.new }
+        // Each image gives what was recorded of the kind, with the new record or without, and of the other kinds what it gave.
+        ensures gives { IsTrue D.tells → GivesNote acks_in logs_in (acked_in self.old.acks store.old.acks epoch player result) store.old.acks
+            (map.insert store.old.acks (epoch, player) ack)
+            (D.image devices.old.disk.now) (D.image devices.new.disk.now) (X.held devices.old.secrets.now) (X.held devices.new.secrets.now) }
+        // Whatever a crash leaves of the disk.
+        ensures extends { IsTrue D.tells → Extends (acked_in self.old.acks store.old.acks epoch player result)
+            epoch (event_spelling (events.Ack player ack))
+            (D.files devices.old.disk.now) (D.files devices.new.disk.now) (D.image devices.old.disk.now) (D.image devices.new.disk.now) }
         ensures secrets { devices.new.secrets.now ≡ devices.old.secrets.now }
-        ensures memory { IsErrOf result (AckHandleError.Store StoreError.NoMemory) → ((self.new ≡ self.old) × (store.new ≡ store.old) × (devices.new ≡ devices.old)) ⊎ Rose (D.wants devices.old.disk.now) (D.wants devices.new.disk.now) }
-        ensures later_disk { D.faults devices.old.disk.now ≤ D.faults devices.new.disk.now }
-        ensures disk { IsErrOf result (AckHandleError.Store StoreError.Disk) → Rose (D.faults devices.old.disk.now) (D.faults devices.new.disk.now) }
-        ensures cut { IsErrOf result (AckHandleError.Store StoreError.Cut) → Reached devices.old.fuse devices.new.fuse }
-        ensures not_cut { OnOk result (Reached devices.old.fuse devices.new.fuse → ⊥) }
-        ensures fit { IsTrue D.tells → (limit : ℕ) → is_event limit (event_spelling (events.Ack player ack)) ≡ true → AreFit limit (D.image devices.old.disk.now) → AreFit limit (D.image devices.new.disk.now) }
-        // A crash leaves every file but the journal's as it was.
-        ensures files { IsTrue D.tells → Follows (SameElse (Segment epoch)) (D.image devices.old.disk.now) (D.image devices.new.disk.now) }
-        // Where nothing of the disk was loose, each image has the names from before, or the journal's own with them. At Ok it has it, if the
-        // record is new, and else just those from before.
-        ensures names { IsTrue D.tells → Lands (D.files devices.old.disk.now) (D.image devices.old.disk.now) → Follows (MayBeNamed epoch) (D.image devices.old.disk.now) (D.image devices.new.disk.now) }
-        ensures named { OnOk result (IsTrue D.tells → Follows (Named (not (is_some (map.get self.old.acks player) || map.contains_key store.old.acks (epoch, player))) epoch) (D.image devices.old.disk.now) (D.image devices.new.disk.now)) }
-        // At Ok nothing of the disk is loose, where nothing was.
-        ensures lands { OnOk result (IsTrue D.tells → Lands (D.files devices.old.disk.now) (D.image devices.old.disk.now) → Lands (D.files devices.new.disk.now) (D.image devices.new.disk.now)) }
-        ensures cut_lands { IsErrOf result (AckHandleError.Store StoreError.Cut) → IsTrue D.tells → Lands (D.files devices.new.disk.now) (D.image devices.new.disk.now) }
-        ensures same_disk { devices.new.disk.ghost_name ≡ devices.old.disk.ghost_name }
-        ensures same_secrets { devices.new.secrets.ghost_name ≡ devices.old.secrets.ghost_name }
+        // The check, and then the append: all of it at Ok, and at any other exit a part, whatever image is left.
+        ensures acts { IsTrue D.tells → (out : List Line) → MadeOn D.files D.image X.held
+            (acking (C.check_ack_of self.old.round self.old.me self.old.public player ack) (is_some (map.get self.old.acks player))
+            (map.contains_key store.old.acks (epoch, player)) (epoch, event_spelling (events.Ack player ack)))
+            (acked result) devices.old devices.new out out }
+        ensures called { Called ⊤ D.made X.made D.faults X.faults (acked_in self.old.acks store.old.acks epoch player result)
+            (list_map on_disk (append_calls store.old.journal (epoch, event_spelling (events.Ack player ack)))) devices.old devices.new }
+        // The secret store is not called. After a cut nothing of the disk is loose.
+        ensures due { IfErr result (λ e. IsDueAs e (Rose (D.faults devices.old.disk.now) (D.faults devices.new.disk.now)) ⊥
+            (Reached devices.old.fuse devices.new.fuse × (IsTrue D.tells → Lands (D.files devices.new.disk.now) (D.image devices.new.disk.now)))
+            (((self.new ≡ self.old) × (store.new ≡ store.old) × (devices.new ≡ devices.old))
+            ⊎ Rose (D.wants devices.old.disk.now) (D.wants devices.new.disk.now))) }
     {
         check(alloc, ceremony, self, player, &ack)?;
         if kept_ack(&self.acks, player).is_some() {
@@ -303,7 +287,9 @@ impl Dealer {
         requires dealer { IsDealerOf C.deal_of C.check_ack_of self.old }
         ensures first { IfOk result (λ first. first ≡ self.old.is_open) }
         ensures closed { OnOk result (self.new.is_open ≡ false) }
-        ensures log { IfOk result (λ first. self.new.finalized ≡ (if first then Some (C.sign_log_of self.old.me self.old.round self.old.public self.old.privates (held_acks self.old.acks self.old.round.players)) else self.old.finalized)) }
+        ensures log { IfOk result (λ first. self.new.finalized ≡ (if first
+            then Some (C.sign_log_of self.old.me self.old.round self.old.public self.old.privates (held_acks self.old.acks self.old.round.players))
+            else self.old.finalized)) }
         ensures me { self.new.me ≡ self.old.me }
         ensures round { self.new.round ≡ self.old.round }
         ensures public { self.new.public ≡ self.old.public }

@@ -1,35 +1,30 @@
 //! A player of a round: it acknowledges each dealer once, for the dealing that is recorded.
 //!
 //! A reshare actor hands it each dealing that comes in.
-ghost use Rattle.std.specs.Prelude.{◌≡◌, ◌⊎◌, ◌≤◌, ◌<◌, ◌+◌, ◌^◌, ◌++◌, ◌∷◌, [], length, OnOk, OnErr, IfOk, IfErr, IsErrOf, IsTrue, IsSome, IsOk, is_some, None, Ok, Err, Contains, if◌then◌else◌, not, true, ℕ};
+ghost use Rattle.std.specs.Prelude.{◌≡◌, ◌⊎◌, ◌<◌, ◌^◌, ⊤, length, OnOk, OnErr, IfOk, IfErr, IsTrue, None, Contains, if◌then◌else◌, not, true};
 ghost use Rattle.std.specs.FinMap as map;
-ghost use Rattle.dkg_values.specs.declared.name.Name.TheVariants.{Segment};
-ghost use Rattle.dkg_journal.specs.Disk.{Follows, Lands, Rose, SameElse};
-ghost use Rattle.dkg_journal.specs.Fuse.{Reached, Ran, RanAll};
+ghost use Rattle.dkg_journal.specs.Disk.{Rose};
+ghost use Rattle.dkg_journal.specs.Fuse.{Reached};
 ghost use Rattle.dkg_journal.specs.Journals.{IsOpen};
-ghost use Rattle.dkg_store.specs.Corrupt.{AreFit};
 ghost use Rattle.dkg_store.specs.Acts.{MadeOn};
+ghost use Rattle.dkg_store.specs.Both.{IsWant};
+ghost use Rattle.dkg_store.specs.Called.{Called, IsDue, made_in};
 ghost use Rattle.dkg_store.specs.Calls.{keeping, accepting, answering, answered, ended};
-ghost use Rattle.dkg_store.specs.Errors.{IsOfDevices, IsOfHandling};
-ghost use Rattle.dkg_store.specs.Events.{event_spelling, is_event};
+ghost use Rattle.dkg_store.specs.Events.{event_spelling};
 ghost use Rattle.dkg_store.specs.declared.event.Event.TheVariants as events;
+ghost use Rattle.dkg_store.specs.Left.{Extends, GivesDealing};
 ghost use Rattle.dkg_store.specs.On.{StaysFirm};
-ghost use Rattle.dkg_store.specs.Named.{Named, MayBeNamed, NamesOpened, NamesPruned, SamePlan};
-ghost use Rattle.dkg_store.specs.Noted.{SameNotes};
-ghost use Rattle.dkg_store.specs.Pairs.{Holds, HoldsEither};
-ghost use Rattle.dkg_store.specs.Player.{IsPlayerOf, Acknowledges, MayKeep};
-ghost use Rattle.dkg_store.specs.Both.{MadeBoth, IsWant, put_then_append};
-ghost use Rattle.dkg_store.specs.Recorded.{AreChecked, at_epoch, first_refused, of_epoch, with_first};
-ghost use Rattle.dkg_store.specs.Rest.{SameRest};
+ghost use Rattle.dkg_store.specs.Player.{Handles, IsDueTo, IsPlayerOf, KeepsDealing, Untouched, answer_to, handled_in};
+ghost use Rattle.dkg_store.specs.Ready.{dealing_calls};
+ghost use Rattle.dkg_store.specs.Recorded.{AreChecked, with_first};
 ghost use Rattle.dkg_ceremony.specs.Finishes.{Finishes, IsMissing};
 ghost use Rattle.dkg_store.specs.declared.player.DealingHandleError.TheVariants.{Store as OfStore};
-ghost use Rattle.dkg_ceremony.specs.declared.ceremony.DealingError.{DealingError};
 
 use crate::call::StoreError;
 use crate::devices::Devices;
 use crate::key_map::KeyMap;
 use crate::number_map::NumberMap;
-use crate::secrets::{SecretOp, SecretStore};
+use crate::secrets::SecretStore;
 use crate::store::Store;
 use dkg_ceremony::{
     Ack, Ceremony, DealerLog, DealingError, FinishError, Output, Private, Public, Round, Share,
@@ -179,47 +174,30 @@ fn keep_dealing<D: Disk, X: SecretStore, Dir: Drop>(
 ) -> Result<(), StoreError>
     requires short { length (event_spelling (events.Dealing dealer public)) < 2 ^ 32 }
     requires room { 0 < out.old.spare }
-    requires new { map.get acks.old dealer ≡ None }
-    requires unrecorded { map.get store.old.dealings (epoch, dealer) ≡ None }
+    requires new { (map.get acks.old dealer ≡ None) × (map.get store.old.dealings (epoch, dealer) ≡ None) }
     requires open { IsTrue D.tells → IsOpen store.old.journal (D.files devices.old.disk.now) (D.image devices.old.disk.now) }
-    ensures acks { OnOk result (acks.new ≡ map.insert acks.old dealer ack) }
-    ensures no_ack { OnErr result (acks.new ≡ acks.old) }
-    ensures kept { OnOk result (dealings.new ≡ with_first dealings.old dealer (public, private)) }
-    ensures unkept { OnErr result (dealings.new ≡ dealings.old) }
-    ensures pairs { OnOk result (store.new.dealings ≡ map.insert store.old.dealings (epoch, dealer) (public, private)) }
-    ensures no_pair { OnErr result (store.new.dealings ≡ store.old.dealings) }
-    ensures rest { SameRest store.old store.new }
-    ensures notes { IsTrue D.tells → Follows SameNotes (D.image devices.old.disk.now) (D.image devices.new.disk.now) }
-    ensures told { OnOk result (out.new.entries ≡ out.old.entries ++ Entry.Recorded epoch dealer told private ∷ []) }
-    ensures untold { OnErr result (out.new.entries ≡ out.old.entries) }
     ensures open { OnOk result (IsTrue D.tells → IsOpen store.new.journal (D.files devices.new.disk.now) (D.image devices.new.disk.now)) }
-    ensures holds { OnOk result (IsTrue D.tells → IsTrue X.tells → Holds store.old.dealings (D.image devices.old.disk.now) (X.held devices.old.secrets.now) → Holds store.new.dealings (D.image devices.new.disk.now) (X.held devices.new.secrets.now)) }
-    ensures images { IsTrue D.tells → IsTrue X.tells → Holds store.old.dealings (D.image devices.old.disk.now) (X.held devices.old.secrets.now) → HoldsEither store.old.dealings (map.insert store.old.dealings (epoch, dealer) (public, private)) (D.image devices.new.disk.now) (X.held devices.new.secrets.now) }
-    ensures acts { IsTrue D.tells → IsTrue X.tells → MadeOn D.files D.image X.held (keeping epoch dealer public told private tt) (ended result) devices.old devices.new out.old.entries out.new.entries }
-    ensures kinds { IfErr result IsOfDevices }
-    ensures all { OnOk result (RanAll (MadeBoth D.made X.made) (devices.old.disk.now, devices.old.secrets.now) (devices.new.disk.now, devices.new.secrets.now) devices.old.fuse devices.new.fuse (put_then_append (SecretOp.PutDealing epoch dealer private) store.old.journal (epoch, event_spelling (events.Dealing dealer public)))) }
-    ensures calls { Ran (MadeBoth D.made X.made) (devices.old.disk.now, devices.old.secrets.now) (devices.new.disk.now, devices.new.secrets.now) devices.old.fuse devices.new.fuse (put_then_append (SecretOp.PutDealing epoch dealer private) store.old.journal (epoch, event_spelling (events.Dealing dealer public))) }
-    ensures memory { IsErrOf result StoreError.NoMemory → IsWant ((acks.new ≡ acks.old) × (dealings.new ≡ dealings.old) × (store.new ≡ store.old) × (devices.new ≡ devices.old)) (D.wants devices.old.disk.now) (D.wants devices.new.disk.now) (X.wants devices.old.secrets.now) (X.wants devices.new.secrets.now) }
-    ensures later_disk { D.faults devices.old.disk.now ≤ D.faults devices.new.disk.now }
-    ensures later_secrets { X.faults devices.old.secrets.now ≤ X.faults devices.new.secrets.now }
-    ensures disk { IsErrOf result StoreError.Disk → Rose (D.faults devices.old.disk.now) (D.faults devices.new.disk.now) }
-    ensures secrets { IsErrOf result StoreError.Secrets → Rose (X.faults devices.old.secrets.now) (X.faults devices.new.secrets.now) }
-    ensures cut { IsErrOf result StoreError.Cut → Reached devices.old.fuse devices.new.fuse }
-    ensures not_cut { OnOk result (Reached devices.old.fuse devices.new.fuse → ⊥) }
-    ensures fit { IsTrue D.tells → (limit : ℕ) → is_event limit (event_spelling (events.Dealing dealer public)) ≡ true → AreFit limit (D.image devices.old.disk.now) → AreFit limit (D.image devices.new.disk.now) }
-    // A crash leaves every file but the journal's as it was.
-    ensures others { IsTrue D.tells → Follows (SameElse (Segment epoch)) (D.image devices.old.disk.now) (D.image devices.new.disk.now) }
-    // Where nothing of the disk was loose, each image has the names from before, or the journal's own with them. At Ok it has it.
-    ensures names { IsTrue D.tells → Lands (D.files devices.old.disk.now) (D.image devices.old.disk.now) → Follows (MayBeNamed epoch) (D.image devices.old.disk.now) (D.image devices.new.disk.now) }
-    ensures named { OnOk result (IsTrue D.tells → Follows (Named true epoch) (D.image devices.old.disk.now) (D.image devices.new.disk.now)) }
-    // At Ok nothing of the disk is loose, where nothing was.
-    ensures lands { OnOk result (IsTrue D.tells → Lands (D.files devices.old.disk.now) (D.image devices.old.disk.now) → Lands (D.files devices.new.disk.now) (D.image devices.new.disk.now)) }
-    ensures cut_lands { IsErrOf result StoreError.Cut → IsTrue D.tells → StaysFirm D.files D.image devices.old.disk.now devices.new.disk.now }
-    // The secret store comes first: where it failed, the disk is as it was.
-    ensures unreached { IsErrOf result StoreError.Secrets → devices.new.disk.now ≡ devices.old.disk.now }
-    ensures same_disk { devices.new.disk.ghost_name ≡ devices.old.disk.ghost_name }
-    ensures same_secrets { devices.new.secrets.ghost_name ≡ devices.old.secrets.ghost_name }
-    ensures fits { OnOk result (dealer < 2 ^ 32) }
+    ensures keeps { KeepsDealing (made_in true result) epoch dealer public told private ack acks.old acks.new dealings.old dealings.new
+        store.old store.new out.old.entries out.new.entries }
+    // Each image, with the secrets then held, gives the dealings from before, with the new one or without; the other kinds it gives as before.
+    ensures gives { IsTrue D.tells → GivesDealing (IsTrue X.tells) (made_in true result)
+        store.old.dealings (map.insert store.old.dealings (epoch, dealer) (public, private))
+        (D.image devices.old.disk.now) (D.image devices.new.disk.now) (X.held devices.old.secrets.now) (X.held devices.new.secrets.now) }
+    // Whatever a crash leaves of the disk.
+    ensures extends { IsTrue D.tells → Extends (made_in true result)
+        epoch (event_spelling (events.Dealing dealer public))
+        (D.files devices.old.disk.now) (D.files devices.new.disk.now) (D.image devices.old.disk.now) (D.image devices.new.disk.now) }
+    ensures acts { IsTrue D.tells → IsTrue X.tells → MadeOn D.files D.image X.held
+        (keeping epoch dealer public told private tt)
+        (ended result) devices.old devices.new out.old.entries out.new.entries }
+    ensures called { Called ⊤ D.made X.made D.faults X.faults (made_in true result)
+        (dealing_calls store.old.journal epoch dealer public private) devices.old devices.new }
+    // The secret store comes first: where it failed, the disk is as it was. After a cut nothing of the disk is loose, where nothing was.
+    ensures due { IfErr result (λ e. IsDue e (Rose (D.faults devices.old.disk.now) (D.faults devices.new.disk.now))
+        (Rose (X.faults devices.old.secrets.now) (X.faults devices.new.secrets.now) × (devices.new.disk.now ≡ devices.old.disk.now))
+        (Reached devices.old.fuse devices.new.fuse × (IsTrue D.tells → StaysFirm D.files D.image devices.old.disk.now devices.new.disk.now))
+        (IsWant ((acks.new ≡ acks.old) × (dealings.new ≡ dealings.old) × (store.new ≡ store.old) × (devices.new ≡ devices.old))
+        (D.wants devices.old.disk.now) (D.wants devices.new.disk.now) (X.wants devices.old.secrets.now) (X.wants devices.new.secrets.now))) }
 {
     let new = keep_both(alloc, acks, dealings, dealer, ack, &public, private)?;
     match store.append_dealing(alloc, devices, epoch, dealer, public, private) {
@@ -320,59 +298,39 @@ impl Player {
         private: Private,
     ) -> Result<Ack, DealingHandleError>
         requires short { length (event_spelling (events.Dealing dealer public)) < 2 ^ 32 }
-        requires playing { Contains self.old.round.players self.old.me }
-        requires signer { C.Signer.key_of signer.now ≡ self.old.me }
-        requires unrecorded { map.get store.old.dealings (epoch, dealer) ≡ None }
-        requires unkept { map.get self.old.acks dealer ≡ None }
+        requires seat { (C.Signer.key_of signer.now ≡ self.old.me) × Contains self.old.round.players self.old.me }
+        requires new { (map.get self.old.acks dealer ≡ None) × (map.get store.old.dealings (epoch, dealer) ≡ None) }
         requires open { IsTrue D.tells → IsOpen store.old.journal (D.files devices.old.disk.now) (D.image devices.old.disk.now) }
-        ensures me { self.new.me ≡ self.old.me }
-        ensures round { self.new.round ≡ self.old.round }
-        ensures answer { IfOk result (λ ack. IsPlayerOf C.ack_of self.old.me self.old.round self.old.acks store.old.dealings epoch → Acknowledges C.ack_of self.old.me self.old.round store.new.dealings epoch dealer ack) }
-        ensures player { IsPlayerOf C.ack_of self.old.me self.old.round self.old.acks store.old.dealings epoch → IsPlayerOf C.ack_of self.new.me self.new.round self.new.acks store.new.dealings epoch }
-        ensures refused { (e : DealingError) → IsErrOf result (DealingHandleError.Refused e) → C.dealing_of self.old.round self.old.me dealer public private ≡ Err e }
-        // A refusal touches nothing.
-        ensures untouched { (e : DealingError) → IsErrOf result (DealingHandleError.Refused e) → (self.new ≡ self.old) × (store.new ≡ store.old) × (out.new ≡ out.old) × (devices.new ≡ devices.old) }
-        ensures checked { OnOk result (C.dealing_of self.old.round self.old.me dealer public private ≡ Ok tt) }
-        ensures kept { IfOk result (λ ack. self.new.acks ≡ map.insert self.old.acks dealer ack) }
-        ensures unkept { OnErr result (self.new.acks ≡ self.old.acks) }
-        ensures own { OnErr result (self.new.dealings ≡ self.old.dealings) }
-        ensures mirrors { map.entries self.old.dealings ≡ at_epoch epoch store.old.dealings → map.entries self.new.dealings ≡ at_epoch epoch store.new.dealings }
-        ensures own_passes { AreChecked (C.dealing_of self.old.round self.old.me) self.old.dealings → AreChecked (C.dealing_of self.old.round self.old.me) self.new.dealings }
-        ensures pairs { OnOk result (store.new.dealings ≡ map.insert store.old.dealings (epoch, dealer) (public, private)) }
-        ensures rest { SameRest store.old store.new }
-        ensures notes { IsTrue D.tells → Follows SameNotes (D.image devices.old.disk.now) (D.image devices.new.disk.now) }
-        ensures passes { first_refused (C.dealing_of self.old.round self.old.me) (of_epoch epoch store.old.dealings) ≡ None → first_refused (C.dealing_of self.old.round self.old.me) (of_epoch epoch store.new.dealings) ≡ None }
-        ensures no_pair { OnErr result (store.new.dealings ≡ store.old.dealings) }
-        ensures told { OnOk result (out.new.entries ≡ out.old.entries ++ Entry.Recorded epoch dealer public private ∷ []) }
-        ensures untold { OnErr result (out.new.entries ≡ out.old.entries) }
         ensures open { OnOk result (IsTrue D.tells → IsOpen store.new.journal (D.files devices.new.disk.now) (D.image devices.new.disk.now)) }
-        ensures holds { OnOk result (IsTrue D.tells → IsTrue X.tells → Holds store.old.dealings (D.image devices.old.disk.now) (X.held devices.old.secrets.now) → Holds store.new.dealings (D.image devices.new.disk.now) (X.held devices.new.secrets.now)) }
-        // Each image, with the secrets then held, gives the dealings from before; or, where the dealing is new and passed the check, these or
-        // those with the new one.
-        ensures images { IsTrue D.tells → IsTrue X.tells → Holds store.old.dealings (D.image devices.old.disk.now) (X.held devices.old.secrets.now) → MayKeep (C.dealing_of self.old.round self.old.me dealer public private) store.old.dealings (epoch, dealer) (public, private) (D.image devices.new.disk.now) (X.held devices.new.secrets.now) }
-        ensures acts { IsTrue D.tells → IsTrue X.tells → MadeOn D.files D.image X.held (accepting (C.dealing_of self.old.round self.old.me dealer public private) epoch dealer public private (C.ack_of self.old.me self.old.round dealer public)) (answered result) devices.old devices.new out.old.entries out.new.entries }
-        ensures kinds { IfErr result IsOfHandling }
-        ensures calls { Ran (MadeBoth D.made X.made) (devices.old.disk.now, devices.old.secrets.now) (devices.new.disk.now, devices.new.secrets.now) devices.old.fuse devices.new.fuse (put_then_append (SecretOp.PutDealing epoch dealer private) store.old.journal (epoch, event_spelling (events.Dealing dealer public))) }
-        ensures memory { IsErrOf result (DealingHandleError.Store StoreError.NoMemory) → IsWant ((self.new ≡ self.old) × (store.new ≡ store.old) × (devices.new ≡ devices.old)) (D.wants devices.old.disk.now) (D.wants devices.new.disk.now) (X.wants devices.old.secrets.now) (X.wants devices.new.secrets.now) }
-        ensures later_disk { D.faults devices.old.disk.now ≤ D.faults devices.new.disk.now }
-        ensures later_secrets { X.faults devices.old.secrets.now ≤ X.faults devices.new.secrets.now }
-        ensures disk { IsErrOf result (DealingHandleError.Store StoreError.Disk) → Rose (D.faults devices.old.disk.now) (D.faults devices.new.disk.now) }
-        ensures secrets { IsErrOf result (DealingHandleError.Store StoreError.Secrets) → Rose (X.faults devices.old.secrets.now) (X.faults devices.new.secrets.now) }
-        ensures cut { IsErrOf result (DealingHandleError.Store StoreError.Cut) → Reached devices.old.fuse devices.new.fuse }
-        ensures not_cut { OnOk result (Reached devices.old.fuse devices.new.fuse → ⊥) }
-        ensures fit { IsTrue D.tells → (limit : ℕ) → is_event limit (event_spelling (events.Dealing dealer public)) ≡ true → AreFit limit (D.image devices.old.disk.now) → AreFit limit (D.image devices.new.disk.now) }
-        // A crash leaves every file but the journal's as it was.
-        ensures others { IsTrue D.tells → Follows (SameElse (Segment epoch)) (D.image devices.old.disk.now) (D.image devices.new.disk.now) }
-        // Where nothing of the disk was loose, each image has the names from before, or the journal's own with them. At Ok it has it.
-        ensures names { IsTrue D.tells → Lands (D.files devices.old.disk.now) (D.image devices.old.disk.now) → Follows (MayBeNamed epoch) (D.image devices.old.disk.now) (D.image devices.new.disk.now) }
-        ensures named { OnOk result (IsTrue D.tells → Follows (Named true epoch) (D.image devices.old.disk.now) (D.image devices.new.disk.now)) }
-        // At Ok nothing of the disk is loose, where nothing was.
-        ensures lands { OnOk result (IsTrue D.tells → Lands (D.files devices.old.disk.now) (D.image devices.old.disk.now) → Lands (D.files devices.new.disk.now) (D.image devices.new.disk.now)) }
-        ensures cut_lands { IsErrOf result (DealingHandleError.Store StoreError.Cut) → IsTrue D.tells → StaysFirm D.files D.image devices.old.disk.now devices.new.disk.now }
-        // The secret store comes first: where it failed, the disk is as it was.
-        ensures unreached { IsErrOf result (DealingHandleError.Store StoreError.Secrets) → devices.new.disk.now ≡ devices.old.disk.now }
-        ensures same_disk { devices.new.disk.ghost_name ≡ devices.old.disk.ghost_name }
-        ensures same_secrets { devices.new.secrets.ghost_name ≡ devices.old.secrets.ghost_name }
+        // It answers as what was kept and recorded says, and else as the check does; and it keeps, records and tells just a new dealing.
+        ensures handled { Handles (handled_in self.old.acks store.old.dealings epoch dealer result) result
+            (answer_to (C.ack_of self.old.me self.old.round dealer) (map.get self.old.acks dealer) (map.get store.old.dealings (epoch, dealer))
+            (C.dealing_of self.old.round self.old.me dealer public private) public)
+            epoch dealer public private self.old self.new store.old store.new out.old.entries out.new.entries }
+        // A refusal touches nothing, nor does a dealing of a dealer whose dealing is recorded; and one that was answered before is answered.
+        ensures untouched { Untouched (map.get self.old.acks dealer) (map.get store.old.dealings (epoch, dealer))
+            (C.dealing_of self.old.round self.old.me dealer public private) result (self.new ≡ self.old)
+            ((store.new ≡ store.old) × (out.new ≡ out.old) × (devices.new ≡ devices.old)) }
+        // Each image, with the secrets then held, gives the dealings from before, with the new one or without; the other kinds it gives as before.
+        ensures gives { IsTrue D.tells → GivesDealing (IsTrue X.tells) (handled_in self.old.acks store.old.dealings epoch dealer result)
+            store.old.dealings (map.insert store.old.dealings (epoch, dealer) (public, private))
+            (D.image devices.old.disk.now) (D.image devices.new.disk.now) (X.held devices.old.secrets.now) (X.held devices.new.secrets.now) }
+        // Whatever a crash leaves of the disk.
+        ensures extends { IsTrue D.tells → Extends (handled_in self.old.acks store.old.dealings epoch dealer result)
+            epoch (event_spelling (events.Dealing dealer public))
+            (D.files devices.old.disk.now) (D.files devices.new.disk.now) (D.image devices.old.disk.now) (D.image devices.new.disk.now) }
+        ensures acts { IsTrue D.tells → IsTrue X.tells → MadeOn D.files D.image X.held
+            (accepting (C.dealing_of self.old.round self.old.me dealer public private) epoch dealer public private
+            (C.ack_of self.old.me self.old.round dealer public))
+            (answered result) devices.old devices.new out.old.entries out.new.entries }
+        ensures called { Called ⊤ D.made X.made D.faults X.faults (handled_in self.old.acks store.old.dealings epoch dealer result)
+            (dealing_calls store.old.journal epoch dealer public private) devices.old devices.new }
+        // The secret store comes first: where it failed, the disk is as it was. After a cut nothing of the disk is loose, where nothing was.
+        ensures due { IfErr result (λ e. IsDueTo e (Rose (D.faults devices.old.disk.now) (D.faults devices.new.disk.now))
+            (Rose (X.faults devices.old.secrets.now) (X.faults devices.new.secrets.now) × (devices.new.disk.now ≡ devices.old.disk.now))
+            (Reached devices.old.fuse devices.new.fuse × (IsTrue D.tells → StaysFirm D.files D.image devices.old.disk.now devices.new.disk.now))
+            (IsWant ((self.new ≡ self.old) × (store.new ≡ store.old) × (devices.new ≡ devices.old))
+            (D.wants devices.old.disk.now) (D.wants devices.new.disk.now) (X.wants devices.old.secrets.now) (X.wants devices.new.secrets.now))) }
     {
         if let Err(error) = ceremony.check_dealing(
             &self.round,
@@ -422,69 +380,41 @@ impl Player {
         private: Private,
     ) -> Result<Ack, DealingHandleError>
         requires short { length (event_spelling (events.Dealing dealer public)) < 2 ^ 32 }
-        requires playing { Contains self.old.round.players self.old.me }
-        requires signer { C.Signer.key_of signer.now ≡ self.old.me }
+        requires seat { (C.Signer.key_of signer.now ≡ self.old.me) × Contains self.old.round.players self.old.me }
         requires open { IsTrue D.tells → IsOpen store.old.journal (D.files devices.old.disk.now) (D.image devices.old.disk.now) }
-        ensures me { self.new.me ≡ self.old.me }
-        ensures round { self.new.round ≡ self.old.round }
-        // The acknowledgement is that of the dealing that is recorded.
-        ensures answer { IfOk result (λ ack. IsPlayerOf C.ack_of self.old.me self.old.round self.old.acks store.old.dealings epoch → Acknowledges C.ack_of self.old.me self.old.round store.new.dealings epoch dealer ack) }
-        ensures player { IsPlayerOf C.ack_of self.old.me self.old.round self.old.acks store.old.dealings epoch → IsPlayerOf C.ack_of self.new.me self.new.round self.new.acks store.new.dealings epoch }
-        ensures refused { (e : DealingError) → IsErrOf result (DealingHandleError.Refused e) → C.dealing_of self.old.round self.old.me dealer public private ≡ Err e }
-        ensures refused_new { (e : DealingError) → IsErrOf result (DealingHandleError.Refused e) → map.get store.old.dealings (epoch, dealer) ≡ None }
-        // A refusal touches nothing.
-        ensures untouched { (e : DealingError) → IsErrOf result (DealingHandleError.Refused e) → (self.new ≡ self.old) × (store.new ≡ store.old) × (out.new ≡ out.old) × (devices.new ≡ devices.old) }
-        ensures checked { OnOk result (IsPlayerOf C.ack_of self.old.me self.old.round self.old.acks store.old.dealings epoch → map.get store.old.dealings (epoch, dealer) ≡ None → C.dealing_of self.old.round self.old.me dealer public private ≡ Ok tt) }
-        // A recorded dealer touches nothing, and no memory is taken where it was answered before.
-        ensures recorded { IsSome (map.get store.old.dealings (epoch, dealer)) → (store.new ≡ store.old) × (out.new ≡ out.old) × (devices.new ≡ devices.old) }
-        ensures cached { IsSome (map.get self.old.acks dealer) → (self.new ≡ self.old) × (store.new ≡ store.old) × (out.new ≡ out.old) × (devices.new ≡ devices.old) × IsOk result }
-        // The acknowledgement is kept, and a dealer's first one stays.
-        ensures kept { IfOk result (λ ack. self.new.acks ≡ (if is_some (map.get self.old.acks dealer) then self.old.acks else map.insert self.old.acks dealer ack)) }
-        ensures unkept { OnErr result (self.new.acks ≡ self.old.acks) }
-        ensures pairs { OnOk result (IsPlayerOf C.ack_of self.old.me self.old.round self.old.acks store.old.dealings epoch → store.new.dealings ≡ (if is_some (map.get store.old.dealings (epoch, dealer)) then store.old.dealings else map.insert store.old.dealings (epoch, dealer) (public, private))) }
-        ensures no_pair { OnErr result (store.new.dealings ≡ store.old.dealings) }
-        // Where the player's own dealings were those that are recorded of the epoch, they still are; and they pass the check, where they did.
-        ensures own { OnErr result (self.new.dealings ≡ self.old.dealings) }
-        ensures mirrors { map.entries self.old.dealings ≡ at_epoch epoch store.old.dealings → map.entries self.new.dealings ≡ at_epoch epoch store.new.dealings }
-        ensures own_passes { AreChecked (C.dealing_of self.old.round self.old.me) self.old.dealings → AreChecked (C.dealing_of self.old.round self.old.me) self.new.dealings }
-        // Of the epoch's recorded dealings none is refused, where none was before.
-        ensures passes { first_refused (C.dealing_of self.old.round self.old.me) (of_epoch epoch store.old.dealings) ≡ None → first_refused (C.dealing_of self.old.round self.old.me) (of_epoch epoch store.new.dealings) ≡ None }
-        ensures rest { SameRest store.old store.new }
-        // Each image gives the acknowledgements and the logs from before.
-        ensures notes { IsTrue D.tells → Follows SameNotes (D.image devices.old.disk.now) (D.image devices.new.disk.now) }
-        ensures told { OnOk result (IsPlayerOf C.ack_of self.old.me self.old.round self.old.acks store.old.dealings epoch → out.new.entries ≡ (if is_some (map.get store.old.dealings (epoch, dealer)) then out.old.entries else out.old.entries ++ Entry.Recorded epoch dealer public private ∷ [])) }
-        ensures untold { OnErr result (out.new.entries ≡ out.old.entries) }
         ensures open { OnOk result (IsTrue D.tells → IsOpen store.new.journal (D.files devices.new.disk.now) (D.image devices.new.disk.now)) }
-        ensures holds { OnOk result (IsTrue D.tells → IsTrue X.tells → Holds store.old.dealings (D.image devices.old.disk.now) (X.held devices.old.secrets.now) → Holds store.new.dealings (D.image devices.new.disk.now) (X.held devices.new.secrets.now)) }
-        // Each image, with the secrets then held, gives the dealings from before; or, where the dealing is new and passed the check, these or
-        // those with the new one.
-        ensures images { IsTrue D.tells → IsTrue X.tells → Holds store.old.dealings (D.image devices.old.disk.now) (X.held devices.old.secrets.now) → MayKeep (C.dealing_of self.old.round self.old.me dealer public private) store.old.dealings (epoch, dealer) (public, private) (D.image devices.new.disk.now) (X.held devices.new.secrets.now) }
-        // A dealer whose dealing is recorded is answered by the acknowledgement of that. Else the check, the put, the append and the
-        // line: all of them at Ok, and at any other exit a part, whatever image is left.
-        ensures acts { IsTrue D.tells → IsTrue X.tells → IsPlayerOf C.ack_of self.old.me self.old.round self.old.acks store.old.dealings epoch → MadeOn D.files D.image X.held (answering (C.ack_of self.old.me self.old.round dealer) (map.get store.old.dealings (epoch, dealer)) (C.dealing_of self.old.round self.old.me dealer public private) epoch dealer public private) (answered result) devices.old devices.new out.old.entries out.new.entries }
-        ensures kinds { IfErr result IsOfHandling }
-        ensures calls { Ran (MadeBoth D.made X.made) (devices.old.disk.now, devices.old.secrets.now) (devices.new.disk.now, devices.new.secrets.now) devices.old.fuse devices.new.fuse (put_then_append (SecretOp.PutDealing epoch dealer private) store.old.journal (epoch, event_spelling (events.Dealing dealer public))) }
-        ensures memory { IsErrOf result (DealingHandleError.Store StoreError.NoMemory) → IsWant ((self.new ≡ self.old) × (store.new ≡ store.old) × (devices.new ≡ devices.old)) (D.wants devices.old.disk.now) (D.wants devices.new.disk.now) (X.wants devices.old.secrets.now) (X.wants devices.new.secrets.now) }
-        ensures later_disk { D.faults devices.old.disk.now ≤ D.faults devices.new.disk.now }
-        ensures later_secrets { X.faults devices.old.secrets.now ≤ X.faults devices.new.secrets.now }
-        ensures disk { IsErrOf result (DealingHandleError.Store StoreError.Disk) → Rose (D.faults devices.old.disk.now) (D.faults devices.new.disk.now) }
-        ensures secrets { IsErrOf result (DealingHandleError.Store StoreError.Secrets) → Rose (X.faults devices.old.secrets.now) (X.faults devices.new.secrets.now) }
-        ensures cut { IsErrOf result (DealingHandleError.Store StoreError.Cut) → Reached devices.old.fuse devices.new.fuse }
-        ensures not_cut { OnOk result (Reached devices.old.fuse devices.new.fuse → ⊥) }
-        ensures fit { IsTrue D.tells → (limit : ℕ) → is_event limit (event_spelling (events.Dealing dealer public)) ≡ true → AreFit limit (D.image devices.old.disk.now) → AreFit limit (D.image devices.new.disk.now) }
-        // A crash leaves every file but the journal's as it was.
-        ensures others { IsTrue D.tells → Follows (SameElse (Segment epoch)) (D.image devices.old.disk.now) (D.image devices.new.disk.now) }
-        // Where nothing of the disk was loose, each image has the names from before, or the journal's own with them. At Ok it has it, if the
-        // record is new, and else just those from before.
-        ensures names { IsTrue D.tells → Lands (D.files devices.old.disk.now) (D.image devices.old.disk.now) → Follows (MayBeNamed epoch) (D.image devices.old.disk.now) (D.image devices.new.disk.now) }
-        ensures named { OnOk result (IsTrue D.tells → IsPlayerOf C.ack_of self.old.me self.old.round self.old.acks store.old.dealings epoch → Follows (Named (not (is_some (map.get store.old.dealings (epoch, dealer)))) epoch) (D.image devices.old.disk.now) (D.image devices.new.disk.now)) }
-        // At Ok nothing of the disk is loose, where nothing was.
-        ensures lands { OnOk result (IsTrue D.tells → Lands (D.files devices.old.disk.now) (D.image devices.old.disk.now) → Lands (D.files devices.new.disk.now) (D.image devices.new.disk.now)) }
-        ensures cut_lands { IsErrOf result (DealingHandleError.Store StoreError.Cut) → IsTrue D.tells → StaysFirm D.files D.image devices.old.disk.now devices.new.disk.now }
-        // The secret store comes first: where it failed, the disk is as it was.
-        ensures unreached { IsErrOf result (DealingHandleError.Store StoreError.Secrets) → devices.new.disk.now ≡ devices.old.disk.now }
-        ensures same_disk { devices.new.disk.ghost_name ≡ devices.old.disk.ghost_name }
-        ensures same_secrets { devices.new.secrets.ghost_name ≡ devices.old.secrets.ghost_name }
+        // It answers as what was kept and recorded says, and else as the check does; and it keeps, records and tells just a new dealing.
+        ensures handled { Handles (handled_in self.old.acks store.old.dealings epoch dealer result) result
+            (answer_to (C.ack_of self.old.me self.old.round dealer) (map.get self.old.acks dealer) (map.get store.old.dealings (epoch, dealer))
+            (C.dealing_of self.old.round self.old.me dealer public private) public)
+            epoch dealer public private self.old self.new store.old store.new out.old.entries out.new.entries }
+        // A refusal touches nothing, nor does a dealing of a dealer whose dealing is recorded; and one that was answered before is answered.
+        ensures untouched { Untouched (map.get self.old.acks dealer) (map.get store.old.dealings (epoch, dealer))
+            (C.dealing_of self.old.round self.old.me dealer public private) result (self.new ≡ self.old)
+            ((store.new ≡ store.old) × (out.new ≡ out.old) × (devices.new ≡ devices.old)) }
+        // Each image, with the secrets then held, gives the dealings from before, with the new one or without; the other kinds it gives as before.
+        ensures gives { IsTrue D.tells → GivesDealing (IsTrue X.tells) (handled_in self.old.acks store.old.dealings epoch dealer result)
+            store.old.dealings (map.insert store.old.dealings (epoch, dealer) (public, private))
+            (D.image devices.old.disk.now) (D.image devices.new.disk.now) (X.held devices.old.secrets.now) (X.held devices.new.secrets.now) }
+        // Whatever a crash leaves of the disk.
+        ensures extends { IsTrue D.tells → Extends (handled_in self.old.acks store.old.dealings epoch dealer result)
+            epoch (event_spelling (events.Dealing dealer public))
+            (D.files devices.old.disk.now) (D.files devices.new.disk.now) (D.image devices.old.disk.now) (D.image devices.new.disk.now) }
+        // A dealer whose dealing is recorded is answered by the acknowledgement of that. Else the check, the put, the append and the line: all of
+        // them at Ok, and at any other exit a part, whatever image is left.
+        ensures acts { IsTrue D.tells → IsTrue X.tells → IsPlayerOf C.ack_of self.old.me self.old.round self.old.acks store.old.dealings epoch
+            → MadeOn D.files D.image X.held
+            (answering (C.ack_of self.old.me self.old.round dealer) (map.get store.old.dealings (epoch, dealer))
+            (C.dealing_of self.old.round self.old.me dealer public private) epoch dealer public private)
+            (answered result) devices.old devices.new out.old.entries out.new.entries }
+        ensures called { Called ⊤ D.made X.made D.faults X.faults (handled_in self.old.acks store.old.dealings epoch dealer result)
+            (dealing_calls store.old.journal epoch dealer public private) devices.old devices.new }
+        // The secret store comes first: where it failed, the disk is as it was. After a cut nothing of the disk is loose, where nothing was.
+        ensures due { IfErr result (λ e. IsDueTo e (Rose (D.faults devices.old.disk.now) (D.faults devices.new.disk.now))
+            (Rose (X.faults devices.old.secrets.now) (X.faults devices.new.secrets.now) × (devices.new.disk.now ≡ devices.old.disk.now))
+            (Reached devices.old.fuse devices.new.fuse × (IsTrue D.tells → StaysFirm D.files D.image devices.old.disk.now devices.new.disk.now))
+            (IsWant ((self.new ≡ self.old) × (store.new ≡ store.old) × (devices.new ≡ devices.old))
+            (D.wants devices.old.disk.now) (D.wants devices.new.disk.now) (X.wants devices.old.secrets.now) (X.wants devices.new.secrets.now))) }
     {
         if let Some(ack) = kept_ack(&self.acks, dealer) {
             return Ok(ack);
@@ -520,7 +450,8 @@ impl Player {
         requires passes { AreChecked (C.dealing_of self.round self.me) self.dealings }
         ensures finishes { Finishes (C.finish_of self.round self.me (map.entries self.dealings) logs.now) result }
         // So there is a share wherever there is an outcome, and no selected log lacks its dealing.
-        ensures missing { IfErr result (λ e. (e ≡ FinishError.NoMemory) ⊎ IsMissing (λ dealer log. C.bears_ack_of self.round dealer log self.me) (map.entries self.dealings) logs.now (C.selected_of self.round logs.now) e) }
+        ensures missing { IfErr result (λ e. (e ≡ FinishError.NoMemory) ⊎ IsMissing (λ dealer log. C.bears_ack_of self.round dealer log self.me)
+            (map.entries self.dealings) logs.now (C.selected_of self.round logs.now) e) }
     {
         let Player {
             me,

@@ -43,8 +43,10 @@ fn hear<C: Ceremony, D: Disk, X: SecretStore>(
     requires open { IsTrue D.tells → IsOpen store.old.journal (D.files devices.old.disk.now) (D.image devices.old.disk.now) }
     ensures me { player.new.me ≡ player.old.me }
     ensures round { player.new.round ≡ player.old.round }
-    ensures mirrors { map.entries player.old.dealings ≡ at_epoch epoch store.old.dealings → map.entries player.new.dealings ≡ at_epoch epoch store.new.dealings }
-    ensures passes { AreChecked (C.dealing_of player.old.round player.old.me) player.old.dealings → AreChecked (C.dealing_of player.old.round player.old.me) player.new.dealings }
+    ensures mirrors { map.entries player.old.dealings ≡ at_epoch epoch store.old.dealings
+        → map.entries player.new.dealings ≡ at_epoch epoch store.new.dealings }
+    ensures passes { AreChecked (C.dealing_of player.old.round player.old.me) player.old.dealings
+        → AreChecked (C.dealing_of player.old.round player.old.me) player.new.dealings }
     ensures open { OnOk result (IsTrue D.tells → IsOpen store.new.journal (D.files devices.new.disk.now) (D.image devices.new.disk.now)) }
     ensures same_disk { devices.new.disk.ghost_name ≡ devices.old.disk.ghost_name }
     ensures same_secrets { devices.new.secrets.ghost_name ≡ devices.old.secrets.ghost_name }

@@ -38,7 +38,8 @@ fn restore_dealing<X: SecretStore>(
     dealer: Key,
     public: Public,
 ) -> Result<(), StoreError>
-    ensures given { OnOk result (IsTrue X.tells → dealings.new ≡ with_half dealings.old (record { key = (epoch, dealer); public = public }) (map.get (X.held secrets.old).privates (epoch, dealer))) }
+    ensures given { OnOk result (IsTrue X.tells → dealings.new
+        ≡ with_half dealings.old (record { key = (epoch, dealer); public = public }) (map.get (X.held secrets.old).privates (epoch, dealer))) }
     ensures same { X.held secrets.new ≡ X.held secrets.old }
     ensures later { X.faults secrets.old ≤ X.faults secrets.new }
     ensures secrets { IsErrOf result StoreError.Secrets → Rose (X.faults secrets.old) (X.faults secrets.new) }
@@ -65,7 +66,8 @@ fn restore_event<X: SecretStore>(
     epoch: Epoch,
     event: Event,
 ) -> Result<(), StoreError>
-    ensures given { OnOk result (IsTrue X.tells → recorded.new.dealings ≡ with_dealing (X.held secrets.old) recorded.old.dealings (dealing_in epoch (Ok event))) }
+    ensures given { OnOk result (IsTrue X.tells → recorded.new.dealings
+        ≡ with_dealing (X.held secrets.old) recorded.old.dealings (dealing_in epoch (Ok event))) }
     ensures acks { OnOk result (recorded.new.acks ≡ with_note recorded.old.acks (ack_in epoch (Ok event))) }
     ensures logs { OnOk result (recorded.new.logs ≡ with_note recorded.old.logs (log_in epoch (Ok event))) }
     ensures same { X.held secrets.new ≡ X.held secrets.old }
@@ -113,7 +115,8 @@ fn restore_one<X: SecretStore>(
     limit: u32,
     entry: &JournalEntry,
 ) -> Result<(), StoreError>
-    ensures given { OnOk result (IsTrue X.tells → recorded.new.dealings ≡ with_dealing (X.held secrets.old) recorded.old.dealings (dealing_of (view entry.now))) }
+    ensures given { OnOk result (IsTrue X.tells → recorded.new.dealings
+        ≡ with_dealing (X.held secrets.old) recorded.old.dealings (dealing_of (view entry.now))) }
     ensures acks { OnOk result (recorded.new.acks ≡ with_note recorded.old.acks (noted_ack (view entry.now))) }
     ensures logs { OnOk result (recorded.new.logs ≡ with_note recorded.old.logs (noted_log (view entry.now))) }
     ensures same { X.held secrets.new ≡ X.held secrets.old }
@@ -122,7 +125,8 @@ fn restore_one<X: SecretStore>(
     ensures event { OnOk result (is_event limit entry.now.body ≡ true) }
     ensures half { IsErrOf result StoreError.Secrets → is_event limit entry.now.body ≡ true }
     // A body that is no event is the one cause of Corrupt.
-    ensures corrupt { (name : Name) (place : ℕ) → IsErrOf result (StoreError.Corrupt name place) → (name ≡ Segment entry.now.section) × (place ≡ entry.now.place) × (is_event limit entry.now.body ≡ false) }
+    ensures corrupt { (name : Name) (place : ℕ) → IsErrOf result (StoreError.Corrupt name place)
+        → (name ≡ Segment entry.now.section) × (place ≡ entry.now.place) × (is_event limit entry.now.body ≡ false) }
     ensures kinds { IfErr result IsOfRestoring }
     ensures calls { X.made secrets.old secrets.new [] }
 {

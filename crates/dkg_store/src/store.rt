@@ -1,7 +1,7 @@
 //! What a node has recorded, in memory and on both devices.
 //!
 //! A reshare actor opens a store at the start of a life, asks it what is there, and records each dealing before it acknowledges it.
-ghost use Rattle.std.specs.Prelude.{◌≡◌, ◌⊎◌, ◌≤◌, ◌<◌, ◌+◌, ◌^◌, ◌∷◌, [], ℕ, List, length, OnOk, OnErr, IfOk, IfErr, IfSome, IsSome, is_some, IsErrOf, IsTrue, MatchResult, Option, Some, None, Ok, Err, not, true, false, nat_le, Contains, if◌then◌else◌};
+ghost use Rattle.std.specs.Prelude.{⊤, ◌≡◌, ◌⊎◌, ◌≤◌, ◌<◌, ◌+◌, ◌^◌, ◌∷◌, [], ℕ, List, length, OnOk, OnErr, IfOk, IfErr, IfSome, IsSome, is_some, IsErrOf, IsTrue, MatchResult, Option, Some, None, Ok, Err, not, true, false, nat_le, Contains, if◌then◌else◌};
 ghost use Rattle.std.specs.Prelude.{map as list_map};
 ghost use Rattle.std.specs.Option.{option_copied};
 ghost use Rattle.std.specs.FinMap as map;
@@ -25,10 +25,16 @@ ghost use Rattle.dkg_journal.specs.Pruning.{Leaves};
 ghost use Rattle.dkg_journal.specs.Places.{place_at};
 ghost use Rattle.dkg_journal.specs.Steps.{Keeps};
 ghost use Rattle.dkg_journal.specs.Opening.{AreUnbroken, broken, open_calls};
+ghost use Rattle.std.specs.Result.{result_ok};
+ghost use Rattle.dkg_store.specs.Called.{Called, IsDue, IsDueWith, if_made, made_in};
+ghost use Rattle.dkg_store.specs.Left.{Extends, GivesAbove, GivesDealing, GivesNote, OpensOver, Rereads, Restores, Shrinks};
+ghost use Rattle.dkg_store.specs.Rest.{KeepsAbove, KeepsAck, KeepsLog, KeepsPair};
 ghost use Rattle.dkg_store.specs.Acts.{MadeAt, MadeOn, Runs, moment, world};
 ghost use Rattle.dkg_store.specs.Calls.{put_and_appended, noting, recording, sharing, seeding, committing, pruning, opens, opened, opening, ended, ended_as};
 ghost use Rattle.dkg_store.specs.Commits.{commit_calls, committed};
 ghost use Rattle.dkg_store.specs.Corrupt.{IsAlien, IsCorruptAt, AreEvents, AreFit, BeginsWithEvent};
+ghost use Rattle.dkg_store.specs.Counts.{CountsOn};
+ghost use Rattle.dkg_journal.specs.Opens.{KeepsAll};
 ghost use Rattle.dkg_store.specs.Errors.{IsOfDealing, IsOfDevices, IsOfOpening, IsOfPlaying, IsOfPruning, IsOfSecrets};
 ghost use Rattle.dkg_store.specs.Secrets.{Secrets, Tries, after};
 ghost use Rattle.dkg_store.specs.Events.{event_spelling, is_event};
@@ -36,13 +42,13 @@ ghost use Rattle.dkg_store.specs.declared.event.Event.TheVariants as events;
 ghost use Rattle.dkg_store.specs.Pairs.{Pairs, HoldsPruned, IsWhole, AreAtOrAbove, Holds, HoldsEither, recovered};
 ghost use Rattle.dkg_store.specs.declared.recorded_log.RecordedLog.{RecordedLog};
 ghost use Rattle.dkg_store.specs.Recorded.{AreChecked, is_reached, at_epoch, restored_list, of_epoch, first_refused, bare_logs, reached_logs};
-ghost use Rattle.dkg_store.specs.Both.{MadeBoth, IsWant, prune_both, put_then_append};
+ghost use Rattle.dkg_store.specs.Both.{MadeBoth, IsWant, on_disk, on_secrets, prune_both};
 ghost use Rattle.dkg_store.specs.On.{StaysFirm};
 ghost use Rattle.dkg_store.specs.Named.{Named, MayBeNamed, NamesOpened, NamesPruned, SamePlan};
 ghost use Rattle.dkg_store.specs.Noted.{Gives, GivesEither, GivesPruned, Notes, SameNotes, acks_in, logs_in};
 ghost use Rattle.dkg_store.specs.Dealer.{IsDealerOf, passing, passing_acks};
 ghost use Rattle.dkg_store.specs.Player.{has_orphan};
-ghost use Rattle.dkg_store.specs.Ready.{IsReadyDealing};
+ghost use Rattle.dkg_store.specs.Ready.{IsReadyDealing, dealing_calls};
 
 use crate::appending::append_event;
 use crate::call::{StoreError, of_journal, perform_secret};
@@ -111,28 +117,20 @@ fn open_journal<D: Disk>(
     disk: &mut D,
     fuse: &mut Fuse,
 ) -> Result<Journal, StoreError>
-    ensures open { IfOk result (λ journal. IsTrue D.tells → IsOpen journal (D.files disk.new) (D.image disk.new)) }
-    ensures images { IsTrue D.tells → Follows Keeps (D.image disk.old) (D.image disk.new) }
     // What it read is what the files stand for, and after it a crash leaves no other entries.
-    ensures listed { IfOk result (λ journal. IsTrue D.tells → views journal.waiting.items ≡ entries (D.files disk.old)) }
-    ensures gated { IfOk result (λ journal. IsTrue D.tells → list_map gated journal.waiting.items ≡ gated_entries (D.files disk.old)) }
-    ensures settled { OnOk result (IsTrue D.tells → (c : Files) → D.image disk.new c → entries c ≡ entries (D.files disk.old)) }
-    ensures acts { IsTrue D.tells → broken (D.files disk.old) ≡ None → (out : List Line) (s : Secrets) → MadeAt (opens None (length (open_calls (D.files disk.old)))) (opened result) (D.files disk.old) (D.image disk.old) (D.files disk.new) (D.image disk.new) (moment out s fuse.old) (moment out s fuse.new) }
-    ensures corrupt { (name : Name) (place : ℕ) → IsErrOf result (StoreError.Corrupt name place) → IsTrue D.tells → broken (D.files disk.old) ≡ Some (name, place) }
-    ensures whole { OnOk result (IsTrue D.tells → broken (D.files disk.old) ≡ None) }
+    ensures opens { IfOk result (λ journal. IsTrue D.tells → OpensOver journal (D.files disk.old) (D.files disk.new) (D.image disk.new)) }
+    ensures keeps { IsTrue D.tells → KeepsAll (D.image disk.old) (D.image disk.new) }
+    ensures acts { IsTrue D.tells → broken (D.files disk.old) ≡ None → (out : List Line) (s : Secrets)
+        → MadeAt (opens None (length (open_calls (D.files disk.old)))) (opened result) (D.files disk.old) (D.image disk.old)
+        (D.files disk.new) (D.image disk.new) (moment out s fuse.old) (moment out s fuse.new) }
     // Another opening finds the same, at Ok and at Corrupt.
-    ensures alike { OnOk result (IsTrue D.tells → OpensAlike (D.files disk.old) (D.files disk.new)) }
-    ensures unread { (name : Name) (place : ℕ) → IsErrOf result (StoreError.Corrupt name place) → IsTrue D.tells → OpensAlike (D.files disk.old) (D.files disk.new) }
-    ensures sound { IsTrue D.tells → AreUnbroken (D.image disk.old) → AreUnbroken (D.image disk.new) }
-    ensures settled_names { OnOk result (IsTrue D.tells → (c : Files) → D.image disk.new c → NamesOpened (D.files disk.old) c) }
-    ensures lands { OnOk result (IsTrue D.tells → Lands (D.files disk.new) (D.image disk.new)) }
-    ensures cut_lands { IsErrOf result StoreError.Cut → IsTrue D.tells → Lands (D.files disk.new) (D.image disk.new) }
+    ensures due { IfErr result (λ e. IsDueWith (λ name place. IsTrue D.tells → (broken (D.files disk.old) ≡ Some (name, place))
+        × OpensAlike (D.files disk.old) (D.files disk.new)) e
+        (Rose (D.faults disk.old) (D.faults disk.new)) ⊥
+        (Reached fuse.old fuse.new × (IsTrue D.tells → Lands (D.files disk.new) (D.image disk.new))) ⊤) }
     ensures later { D.faults disk.old ≤ D.faults disk.new }
-    ensures disk { IsErrOf result StoreError.Disk → Rose (D.faults disk.old) (D.faults disk.new) }
-    ensures not_secrets { IsErrOf result StoreError.Secrets → ⊥ }
-    ensures kinds { IfErr result IsOfOpening }
-    ensures cut { IsErrOf result StoreError.Cut → Reached fuse.old fuse.new }
-    ensures not_cut { OnOk result (IsTrue D.tells → Reached fuse.old fuse.new → ⊥) }
+    ensures counts { CountsOn fuse.old fuse.new }
+    ensures not_cut { OnOk result (Reached fuse.old fuse.new → ⊥) }
     ensures all { OnOk result (IsTrue D.tells → RanAll D.made disk.old disk.new fuse.old fuse.new (Op.Barrier ∷ open_calls (D.files disk.old))) }
     ensures calls { IsTrue D.tells → Ran D.made disk.old disk.new fuse.old fuse.new (Op.Barrier ∷ open_calls (D.files disk.old)) }
 {
@@ -369,13 +367,12 @@ fn put_both<X: SecretStore>(
     share: Option<Share>,
 ) -> Result<(), StoreError>
     ensures done { OnOk result (IsTrue X.tells → X.held secrets.new ≡ committed epoch seed share (X.held secrets.old)) }
-    ensures acts { IsTrue X.tells → (out : List Line) (j : Journaled) → Runs (committing epoch seed share) (ended result) (world out j (X.held secrets.old) fuse.old) (world out j (X.held secrets.new) fuse.new) }
-    ensures later { X.faults secrets.old ≤ X.faults secrets.new }
-    ensures wanted { IsErrOf result StoreError.NoMemory → Rose (X.wants secrets.old) (X.wants secrets.new) }
-    ensures secrets { IsErrOf result StoreError.Secrets → Rose (X.faults secrets.old) (X.faults secrets.new) }
+    ensures acts { IsTrue X.tells → (out : List Line) (j : Journaled) → Runs (committing epoch seed share) (ended result)
+        (world out j (X.held secrets.old) fuse.old) (world out j (X.held secrets.new) fuse.new) }
     ensures privates { (X.held secrets.new).privates ≡ (X.held secrets.old).privates }
-    ensures kinds { IfErr result IsOfSecrets }
-    ensures cut { IsErrOf result StoreError.Cut → Reached fuse.old fuse.new }
+    ensures due { IfErr result (λ e. IsDue e ⊥ (Rose (X.faults secrets.old) (X.faults secrets.new)) (Reached fuse.old fuse.new)
+        (Rose (X.wants secrets.old) (X.wants secrets.new))) }
+    ensures later { X.faults secrets.old ≤ X.faults secrets.new }
     ensures not_cut { OnOk result (Reached fuse.old fuse.new → ⊥) }
     ensures all { OnOk result (RanAll X.made secrets.old secrets.new fuse.old fuse.new (commit_calls epoch seed share)) }
     ensures calls { Ran X.made secrets.old secrets.new fuse.old fuse.new (commit_calls epoch seed share) }
@@ -407,35 +404,26 @@ fn record_dealing<D: Disk, X: SecretStore>(
     requires new { map.get dealings.old (epoch, dealer) ≡ None }
     requires open { IsTrue D.tells → IsOpen journal.old (D.files devices.old.disk.now) (D.image devices.old.disk.now) }
     ensures open { OnOk result (IsTrue D.tells → IsOpen journal.new (D.files devices.new.disk.now) (D.image devices.new.disk.now)) }
-    ensures dealings { OnOk result (dealings.new ≡ map.insert dealings.old (epoch, dealer) (public, private)) }
-    ensures kept { OnErr result (dealings.new ≡ dealings.old) }
-    ensures holds { OnOk result (IsTrue D.tells → IsTrue X.tells → Holds dealings.old (D.image devices.old.disk.now) (X.held devices.old.secrets.now) → Holds (map.insert dealings.old (epoch, dealer) (public, private)) (D.image devices.new.disk.now) (X.held devices.new.secrets.now)) }
-    ensures images { IsTrue D.tells → IsTrue X.tells → Holds dealings.old (D.image devices.old.disk.now) (X.held devices.old.secrets.now) → HoldsEither dealings.old (map.insert dealings.old (epoch, dealer) (public, private)) (D.image devices.new.disk.now) (X.held devices.new.secrets.now) }
-    ensures notes { IsTrue D.tells → Follows SameNotes (D.image devices.old.disk.now) (D.image devices.new.disk.now) }
-    ensures acts { IsTrue D.tells → IsTrue X.tells → (out : List Line) → MadeOn D.files D.image X.held (put_and_appended (SecretOp.PutDealing epoch dealer private) (epoch, event_spelling (events.Dealing dealer public)) tt) (ended result) devices.old devices.new out out }
-    ensures kinds { IfErr result IsOfDevices }
-    ensures all { OnOk result (RanAll (MadeBoth D.made X.made) (devices.old.disk.now, devices.old.secrets.now) (devices.new.disk.now, devices.new.secrets.now) devices.old.fuse devices.new.fuse (put_then_append (SecretOp.PutDealing epoch dealer private) journal.old (epoch, event_spelling (events.Dealing dealer public)))) }
-    ensures calls { Ran (MadeBoth D.made X.made) (devices.old.disk.now, devices.old.secrets.now) (devices.new.disk.now, devices.new.secrets.now) devices.old.fuse devices.new.fuse (put_then_append (SecretOp.PutDealing epoch dealer private) journal.old (epoch, event_spelling (events.Dealing dealer public))) }
-    ensures memory { IsErrOf result StoreError.NoMemory → IsWant ((dealings.new ≡ dealings.old) × (journal.new ≡ journal.old) × (devices.new ≡ devices.old)) (D.wants devices.old.disk.now) (D.wants devices.new.disk.now) (X.wants devices.old.secrets.now) (X.wants devices.new.secrets.now) }
-    ensures later_disk { D.faults devices.old.disk.now ≤ D.faults devices.new.disk.now }
-    ensures later_secrets { X.faults devices.old.secrets.now ≤ X.faults devices.new.secrets.now }
-    ensures disk { IsErrOf result StoreError.Disk → Rose (D.faults devices.old.disk.now) (D.faults devices.new.disk.now) }
-    ensures secrets { IsErrOf result StoreError.Secrets → Rose (X.faults devices.old.secrets.now) (X.faults devices.new.secrets.now) }
-    ensures cut { IsErrOf result StoreError.Cut → Reached devices.old.fuse devices.new.fuse }
-    ensures not_cut { OnOk result (Reached devices.old.fuse devices.new.fuse → ⊥) }
-    ensures fit { IsTrue D.tells → (limit : ℕ) → is_event limit (event_spelling (events.Dealing dealer public)) ≡ true → AreFit limit (D.image devices.old.disk.now) → AreFit limit (D.image devices.new.disk.now) }
-    // A crash leaves every file but the journal's as it was.
-    ensures others { IsTrue D.tells → Follows (SameElse (Segment epoch)) (D.image devices.old.disk.now) (D.image devices.new.disk.now) }
-    // Where nothing of the disk was loose, each image has the names from before, or the journal's own with them. At Ok it has it.
-    ensures names { IsTrue D.tells → Lands (D.files devices.old.disk.now) (D.image devices.old.disk.now) → Follows (MayBeNamed epoch) (D.image devices.old.disk.now) (D.image devices.new.disk.now) }
-    ensures named { OnOk result (IsTrue D.tells → Follows (Named true epoch) (D.image devices.old.disk.now) (D.image devices.new.disk.now)) }
-    // At Ok nothing of the disk is loose, where nothing was.
-    ensures lands { OnOk result (IsTrue D.tells → Lands (D.files devices.old.disk.now) (D.image devices.old.disk.now) → Lands (D.files devices.new.disk.now) (D.image devices.new.disk.now)) }
-    ensures cut_lands { IsErrOf result StoreError.Cut → IsTrue D.tells → StaysFirm D.files D.image devices.old.disk.now devices.new.disk.now }
-    // The secret store comes first: where it failed, the disk is as it was.
-    ensures unreached { IsErrOf result StoreError.Secrets → devices.new.disk.now ≡ devices.old.disk.now }
-    ensures same_disk { devices.new.disk.ghost_name ≡ devices.old.disk.ghost_name }
-    ensures same_secrets { devices.new.secrets.ghost_name ≡ devices.old.secrets.ghost_name }
+    ensures kept { dealings.new ≡ if_made (made_in true result) (map.insert dealings.old (epoch, dealer) (public, private)) dealings.old }
+    // Each image, with the secrets then held, gives the dealings from before, with the new one or without; the other kinds it gives as before.
+    ensures gives { IsTrue D.tells → GivesDealing (IsTrue X.tells) (made_in true result)
+        dealings.old (map.insert dealings.old (epoch, dealer) (public, private))
+        (D.image devices.old.disk.now) (D.image devices.new.disk.now) (X.held devices.old.secrets.now) (X.held devices.new.secrets.now) }
+    // Whatever a crash leaves of the disk.
+    ensures extends { IsTrue D.tells → Extends (made_in true result)
+        epoch (event_spelling (events.Dealing dealer public))
+        (D.files devices.old.disk.now) (D.files devices.new.disk.now) (D.image devices.old.disk.now) (D.image devices.new.disk.now) }
+    ensures acts { IsTrue D.tells → IsTrue X.tells → (out : List Line) → MadeOn D.files D.image X.held
+        (put_and_appended (SecretOp.PutDealing epoch dealer private) (epoch, event_spelling (events.Dealing dealer public)) tt)
+        (ended result) devices.old devices.new out out }
+    ensures called { Called ⊤ D.made X.made D.faults X.faults (made_in true result)
+        (dealing_calls journal.old epoch dealer public private) devices.old devices.new }
+    // The secret store comes first: where it failed, the disk is as it was. After a cut nothing of the disk is loose, where nothing was.
+    ensures due { IfErr result (λ e. IsDue e (Rose (D.faults devices.old.disk.now) (D.faults devices.new.disk.now))
+        (Rose (X.faults devices.old.secrets.now) (X.faults devices.new.secrets.now) × (devices.new.disk.now ≡ devices.old.disk.now))
+        (Reached devices.old.fuse devices.new.fuse × (IsTrue D.tells → StaysFirm D.files D.image devices.old.disk.now devices.new.disk.now))
+        (IsWant ((dealings.new ≡ dealings.old) × (journal.new ≡ journal.old) × (devices.new ≡ devices.old))
+        (D.wants devices.old.disk.now) (D.wants devices.new.disk.now) (X.wants devices.old.secrets.now) (X.wants devices.new.secrets.now))) }
 {
     dealings.insert(epoch, dealer, (public, private))?;
     let Ok(calls) = journal.ready(alloc, epoch.0, &ready.body) else {
@@ -472,55 +460,39 @@ impl<Dir: Drop> Store<Dir> {
         devices: &mut Devices<'_, D, X>,
         limit: NonZeroU32,
     ) -> Result<Store<Dir>, StoreError>
-        ensures open { IfOk result (λ store. IsTrue D.tells → IsOpen store.journal (D.files devices.new.disk.now) (D.image devices.new.disk.now)) }
-        ensures current { IfOk result (λ store. store.current ≡ None) }
-        // A dealing is restored exactly where its record and its private half are there, a later record of a key in place of an earlier one.
-        ensures recovered { IfOk result (λ store. IsTrue D.tells → IsTrue X.tells → store.dealings ≡ recovered (entries (D.files devices.old.disk.now)) (X.held devices.old.secrets.now)) }
-        ensures acks { IfOk result (λ store. IsTrue D.tells → store.acks ≡ acks_in (entries (D.files devices.old.disk.now))) }
-        ensures logs { IfOk result (λ store. IsTrue D.tells → store.logs ≡ logs_in (entries (D.files devices.old.disk.now))) }
-        ensures restored { IfOk result (λ store. store.restored.items ≡ restored_list store.dealings) }
-        // From then on a crash leaves just that.
-        ensures settled { IfOk result (λ store. IsTrue D.tells → IsTrue X.tells → IsWhole (entries (D.files devices.old.disk.now)) (X.held devices.old.secrets.now) → Holds store.dealings (D.image devices.new.disk.now) (X.held devices.new.secrets.now)) }
-        ensures settled_acks { IfOk result (λ store. IsTrue D.tells → Gives acks_in store.acks (D.image devices.new.disk.now)) }
-        ensures settled_logs { IfOk result (λ store. IsTrue D.tells → Gives logs_in store.logs (D.image devices.new.disk.now)) }
-        ensures settled_entries { OnOk result (IsTrue D.tells → (c : Files) → D.image devices.new.disk.now c → entries c ≡ entries (D.files devices.old.disk.now)) }
-        // Wherever it stops, each image with the secrets is whole as before, and gives the same dealings.
-        ensures holds { IsTrue D.tells → (pairs : Pairs) → Holds pairs (D.image devices.old.disk.now) (X.held devices.old.secrets.now) → Holds pairs (D.image devices.new.disk.now) (X.held devices.new.secrets.now) }
+        // A dealing is restored exactly where its record and its private half are there, a later record of a key in place of an earlier one. From then
+        // on a crash leaves just that, and nothing of the disk is loose.
+        ensures restores { IfOk result (λ store. Restores (IsTrue D.tells) (IsTrue X.tells) (non_zero_u32_get limit) store
+            (D.files devices.old.disk.now) (D.files devices.new.disk.now) (D.image devices.new.disk.now)
+            (X.held devices.old.secrets.now) (X.held devices.new.secrets.now)) }
+        // Wherever it stops: no entry is lost, each record stays in its grammar, and each image with the secrets gives the same dealings.
+        ensures rereads { IsTrue D.tells → Rereads (D.image devices.old.disk.now) (D.image devices.new.disk.now)
+            (X.held devices.old.secrets.now) (X.held devices.new.secrets.now) }
+        ensures same { X.held devices.new.secrets.now ≡ X.held devices.old.secrets.now }
         // The barrier, the journal's opening, and what is read then, or the first body that is no event: all at Ok and at Corrupt, and at any
         // other exit a part, whatever image is left.
-        ensures acts { IsTrue D.tells → IsTrue X.tells → broken (D.files devices.old.disk.now) ≡ None → (alien : Option (Name × ℕ)) → IsAlien (non_zero_u32_get limit) (D.files devices.old.disk.now) alien → (out : List Line) → MadeOn D.files D.image X.held (opening None (length (open_calls (D.files devices.old.disk.now))) alien) (ended_as (λ store. (store.dealings, store.acks, store.logs)) result) devices.old devices.new out out }
-        // Corrupt comes exactly of a record that is not whole, or, where all are, of the first whose body is no event within the limit.
-        ensures corrupt { (name : Name) (place : ℕ) → IsErrOf result (StoreError.Corrupt name place) → IsTrue D.tells → IsCorruptAt (non_zero_u32_get limit) (D.files devices.old.disk.now) name place }
-        // .. and where there is such a record, the answer is Corrupt at its gate, but where a device, a cut or want of memory ended it before.
-        ensures answer { (name : Name) (place : ℕ) → IsTrue D.tells → IsCorruptAt (non_zero_u32_get limit) (D.files devices.old.disk.now) name place → MatchResult result (λ store. ⊥) (λ e. (e ≡ StoreError.Corrupt name place) ⊎ IsOfDevices e) }
+        ensures acts { IsTrue D.tells → IsTrue X.tells → broken (D.files devices.old.disk.now) ≡ None
+            → (alien : Option (Name × ℕ)) → IsAlien (non_zero_u32_get limit) (D.files devices.old.disk.now) alien → (out : List Line)
+            → MadeOn D.files D.image X.held (opening None (length (open_calls (D.files devices.old.disk.now))) alien)
+            (ended_as (λ store. (store.dealings, store.acks, store.logs)) result) devices.old devices.new out out }
+        // Where there is a record that is not whole, or, where all are, a first body that is no event within the limit, the answer is Corrupt at its
+        // gate, but where a device, a cut or want of memory ended it before.
+        ensures answer { (name : Name) (place : ℕ) → IsTrue D.tells → IsCorruptAt (non_zero_u32_get limit) (D.files devices.old.disk.now) name place
+            → MatchResult result (λ store. ⊥) (λ e. (e ≡ StoreError.Corrupt name place) ⊎ IsOfDevices e) }
         // Where a crash left no such record as the call began, only a device, a cut or want of memory ends it.
         ensures opens { IsTrue D.tells → AreFit (non_zero_u32_get limit) (D.image devices.old.disk.now) → IfErr result IsOfDevices }
-        // The disk as the call leaves it has that record at that place.
-        ensures found { (name : Name) (place : ℕ) → IsErrOf result (StoreError.Corrupt name place) → IsTrue D.tells → IsCorruptAt (non_zero_u32_get limit) (D.files devices.new.disk.now) name place }
-        // A private half is read once the journal is open, and of an event before which all are events.
-        ensures half { IsErrOf result StoreError.Secrets → IsTrue D.tells → (broken (D.files devices.old.disk.now) ≡ None) × BeginsWithEvent (non_zero_u32_get limit) (entries (D.files devices.old.disk.now)) }
-        ensures sound { OnOk result (IsTrue D.tells → (broken (D.files devices.old.disk.now) ≡ None) × AreEvents (non_zero_u32_get limit) (entries (D.files devices.old.disk.now))) }
-        ensures fit { IsTrue D.tells → (most : ℕ) → AreFit most (D.image devices.old.disk.now) → AreFit most (D.image devices.new.disk.now) }
-        // No entry is lost, wherever it stops, and the secrets are as they were.
-        ensures images { IsTrue D.tells → Follows Keeps (D.image devices.old.disk.now) (D.image devices.new.disk.now) }
-        // Wherever it stops, each image has the names from before: the end of a file is mended in place of it, and one that is absent stays so.
-        ensures settled_names { OnOk result (IsTrue D.tells → (c : Files) → D.image devices.new.disk.now c → NamesOpened (D.files devices.old.disk.now) c) }
-        // From then on nothing of the disk is loose.
-        ensures lands { OnOk result (IsTrue D.tells → Lands (D.files devices.new.disk.now) (D.image devices.new.disk.now)) }
-        ensures cut_lands { IsErrOf result StoreError.Cut → IsTrue D.tells → Lands (D.files devices.new.disk.now) (D.image devices.new.disk.now) }
-        ensures same { X.held devices.new.secrets.now ≡ X.held devices.old.secrets.now }
-        ensures disk { IsErrOf result StoreError.Disk → Rose (D.faults devices.old.disk.now) (D.faults devices.new.disk.now) }
-        ensures secrets { IsErrOf result StoreError.Secrets → Rose (X.faults devices.old.secrets.now) (X.faults devices.new.secrets.now) }
-        ensures later_disk { D.faults devices.old.disk.now ≤ D.faults devices.new.disk.now }
-        ensures later_secrets { X.faults devices.old.secrets.now ≤ X.faults devices.new.secrets.now }
-        ensures kinds { IfErr result IsOfOpening }
-        ensures cut { IsErrOf result StoreError.Cut → Reached devices.old.fuse devices.new.fuse }
-        ensures not_cut { OnOk result (IsTrue D.tells → Reached devices.old.fuse devices.new.fuse → ⊥) }
-        ensures all { OnOk result (IsTrue D.tells → RanAll D.made devices.old.disk.now devices.new.disk.now devices.old.fuse devices.new.fuse (Op.Barrier ∷ open_calls (D.files devices.old.disk.now))) }
-        ensures calls { IsTrue D.tells → Ran D.made devices.old.disk.now devices.new.disk.now devices.old.fuse devices.new.fuse (Op.Barrier ∷ open_calls (D.files devices.old.disk.now)) }
+        // Corrupt comes of such a record alone, which the disk has as the call leaves it. A private half is read once the journal is open, and of an
+        // event before which all are events.
+        ensures due { IfErr result (λ e. IsDueWith (λ name place. IsTrue D.tells
+            → IsCorruptAt (non_zero_u32_get limit) (D.files devices.old.disk.now) name place
+            × IsCorruptAt (non_zero_u32_get limit) (D.files devices.new.disk.now) name place) e
+            (Rose (D.faults devices.old.disk.now) (D.faults devices.new.disk.now))
+            (Rose (X.faults devices.old.secrets.now) (X.faults devices.new.secrets.now) × (IsTrue D.tells → (broken (D.files devices.old.disk.now) ≡ None)
+            × BeginsWithEvent (non_zero_u32_get limit) (entries (D.files devices.old.disk.now))))
+            (Reached devices.old.fuse devices.new.fuse × (IsTrue D.tells → Lands (D.files devices.new.disk.now) (D.image devices.new.disk.now))) ⊤) }
+        ensures called { Called (IsTrue D.tells) D.made X.made D.faults X.faults (made_in true result)
+            (list_map on_disk (Op.Barrier ∷ open_calls (D.files devices.old.disk.now))) devices.old devices.new }
         ensures secret_calls { X.made devices.old.secrets.now devices.new.secrets.now [] }
-        ensures same_disk { devices.new.disk.ghost_name ≡ devices.old.disk.ghost_name }
-        ensures same_secrets { devices.new.secrets.ghost_name ≡ devices.old.secrets.ghost_name }
     {
         let mut journal = open_journal(alloc, devices.disk, &mut devices.fuse)?;
         let entries = journal.replay(alloc);
@@ -570,13 +542,17 @@ impl<Dir: Drop> Store<Dir> {
         ensures me { IfOk result (λ made. IfSome made (λ player. player.me ≡ me)) }
         ensures round { IfOk result (λ made. IfSome made (λ player. player.round ≡ round.now)) }
         ensures acks { IfOk result (λ made. IfSome made (λ player. player.acks ≡ map.empty)) }
-        ensures some { IfOk result (λ made. is_some made ≡ not (has_orphan (λ dealer log. C.bears_ack_of round.now dealer log me) (at_epoch epoch self.now.dealings) (bare_logs (at_epoch epoch self.now.logs)))) }
+        ensures some { IfOk result (λ made. is_some made ≡ not (has_orphan (λ dealer log. C.bears_ack_of round.now dealer log me)
+            (at_epoch epoch self.now.dealings) (bare_logs (at_epoch epoch self.now.logs)))) }
         // It has its own copy of what is recorded of the epoch, and each of that passes the check.
         ensures dealings { IfOk result (λ made. IfSome made (λ player. map.entries player.dealings ≡ at_epoch epoch self.now.dealings)) }
         ensures checked { IfOk result (λ made. IfSome made (λ player. AreChecked (C.dealing_of round.now me) player.dealings)) }
         ensures passes { IfOk result (λ made. IfSome made (λ player. first_refused (C.dealing_of round.now me) (of_epoch epoch self.now.dealings) ≡ None)) }
         ensures kinds { IfErr result IsOfPlaying }
-        ensures stored { IfErr result (λ e. (e ≡ StoreError.NoMemory) ⊎ ((dealer : ℕ) × (e ≡ StoreError.LocalState (LocalCause.StoredDealing epoch dealer)) × (first_refused (C.dealing_of round.now me) (of_epoch epoch self.now.dealings) ≡ Some dealer) × (has_orphan (λ dealer log. C.bears_ack_of round.now dealer log me) (at_epoch epoch self.now.dealings) (bare_logs (at_epoch epoch self.now.logs)) ≡ false))) }
+        ensures stored { IfErr result (λ e. (e ≡ StoreError.NoMemory) ⊎ ((dealer : ℕ) × (e ≡ StoreError.LocalState (LocalCause.StoredDealing epoch dealer))
+            × (first_refused (C.dealing_of round.now me) (of_epoch epoch self.now.dealings) ≡ Some dealer)
+            × (has_orphan (λ dealer log. C.bears_ack_of round.now dealer log me)
+            (at_epoch epoch self.now.dealings) (bare_logs (at_epoch epoch self.now.logs)) ≡ false))) }
     {
         let logs = bare_logs(alloc, &self.logs, epoch)?;
         self.create_player_with_logs(alloc, ceremony, epoch, me, round, &logs)
@@ -600,13 +576,16 @@ impl<Dir: Drop> Store<Dir> {
         ensures me { IfOk result (λ made. IfSome made (λ player. player.me ≡ me)) }
         ensures round { IfOk result (λ made. IfSome made (λ player. player.round ≡ round.now)) }
         ensures acks { IfOk result (λ made. IfSome made (λ player. player.acks ≡ map.empty)) }
-        ensures some { IfOk result (λ made. is_some made ≡ not (has_orphan (λ dealer log. C.bears_ack_of round.now dealer log me) (at_epoch epoch self.now.dealings) logs.now)) }
+        ensures some { IfOk result (λ made. is_some made ≡ not (has_orphan (λ dealer log. C.bears_ack_of round.now dealer log me)
+            (at_epoch epoch self.now.dealings) logs.now)) }
         // It has its own copy of what is recorded of the epoch, and each of that passes the check.
         ensures dealings { IfOk result (λ made. IfSome made (λ player. map.entries player.dealings ≡ at_epoch epoch self.now.dealings)) }
         ensures checked { IfOk result (λ made. IfSome made (λ player. AreChecked (C.dealing_of round.now me) player.dealings)) }
         ensures passes { IfOk result (λ made. IfSome made (λ player. first_refused (C.dealing_of round.now me) (of_epoch epoch self.now.dealings) ≡ None)) }
         ensures kinds { IfErr result IsOfPlaying }
-        ensures stored { IfErr result (λ e. (e ≡ StoreError.NoMemory) ⊎ ((dealer : ℕ) × (e ≡ StoreError.LocalState (LocalCause.StoredDealing epoch dealer)) × (first_refused (C.dealing_of round.now me) (of_epoch epoch self.now.dealings) ≡ Some dealer) × (has_orphan (λ dealer log. C.bears_ack_of round.now dealer log me) (at_epoch epoch self.now.dealings) logs.now ≡ false))) }
+        ensures stored { IfErr result (λ e. (e ≡ StoreError.NoMemory) ⊎ ((dealer : ℕ) × (e ≡ StoreError.LocalState (LocalCause.StoredDealing epoch dealer))
+            × (first_refused (C.dealing_of round.now me) (of_epoch epoch self.now.dealings) ≡ Some dealer)
+            × (has_orphan (λ dealer log. C.bears_ack_of round.now dealer log me) (at_epoch epoch self.now.dealings) logs.now ≡ false))) }
     {
         if has_orphan(alloc, ceremony, &self.dealings, epoch, me, round, logs)? {
             return Ok(None);
@@ -637,13 +616,17 @@ impl<Dir: Drop> Store<Dir> {
         ensures some { IfOk result (λ made. is_some made ≡ not (map.contains_key self.now.logs (epoch, C.Signer.key_of signer.now))) }
         ensures me { IfOk result (λ made. IfSome made (λ dealer. dealer.me ≡ C.Signer.key_of signer.now)) }
         ensures round { IfOk result (λ made. IfSome made (λ dealer. dealer.round ≡ round.now)) }
-        ensures dealt { IfOk result (λ made. IfSome made (λ dealer. C.deal_of round.now (C.Signer.key_of signer.now) (option_copied share.entry) seed.now ≡ Ok (dealer.public, dealer.privates))) }
-        ensures acks { IfOk result (λ made. IfSome made (λ dealer. map.entries dealer.acks ≡ passing_acks (C.check_ack_of round.now (C.Signer.key_of signer.now) dealer.public) (at_epoch epoch self.now.acks))) }
+        ensures dealt { IfOk result (λ made. IfSome made (λ dealer. C.deal_of round.now (C.Signer.key_of signer.now) (option_copied share.entry) seed.now
+            ≡ Ok (dealer.public, dealer.privates))) }
+        ensures acks { IfOk result (λ made. IfSome made (λ dealer. map.entries dealer.acks
+            ≡ passing_acks (C.check_ack_of round.now (C.Signer.key_of signer.now) dealer.public) (at_epoch epoch self.now.acks))) }
         ensures open { IfOk result (λ made. IfSome made (λ dealer. dealer.is_open ≡ true)) }
         ensures finalized { IfOk result (λ made. IfSome made (λ dealer. dealer.finalized ≡ None)) }
         ensures dealer { IfOk result (λ made. IfSome made (λ dealer. IsDealerOf C.deal_of C.check_ack_of dealer)) }
         ensures kinds { IfErr result IsOfDealing }
-        ensures refused { IfErr result (λ e. (e ≡ StoreError.NoMemory) ⊎ ((e ≡ StoreError.LocalState (LocalCause.ShareRefused epoch)) × (C.deal_of round.now (C.Signer.key_of signer.now) (option_copied share.entry) seed.now ≡ Err DealError.ShareRefused) × (map.contains_key self.now.logs (epoch, C.Signer.key_of signer.now) ≡ false))) }
+        ensures refused { IfErr result (λ e. (e ≡ StoreError.NoMemory) ⊎ ((e ≡ StoreError.LocalState (LocalCause.ShareRefused epoch))
+            × (C.deal_of round.now (C.Signer.key_of signer.now) (option_copied share.entry) seed.now ≡ Err DealError.ShareRefused)
+            × (map.contains_key self.now.logs (epoch, C.Signer.key_of signer.now) ≡ false))) }
     {
         let me = signer.public_key();
         if self.has_log(epoch, me) {
@@ -681,17 +664,13 @@ impl<Dir: Drop> Store<Dir> {
         ensures same { X.held devices.new.secrets.now ≡ X.held devices.old.secrets.now }
         ensures disk { devices.new.disk.now ≡ devices.old.disk.now }
         ensures fuse { devices.new.fuse ≡ devices.old.fuse }
-        ensures wanted { IsErrOf result StoreError.NoMemory → Rose (X.wants devices.old.secrets.now) (X.wants devices.new.secrets.now) }
-        ensures secrets { IsErrOf result StoreError.Secrets → Rose (X.faults devices.old.secrets.now) (X.faults devices.new.secrets.now) }
-        ensures kinds { IfErr result IsOfSecrets }
-        ensures no_cut { IsErrOf result StoreError.Cut → ⊥ }
-        ensures later_secrets { X.faults devices.old.secrets.now ≤ X.faults devices.new.secrets.now }
-        // Each image with the secrets is whole as before, and gives the same dealings.
-        ensures holds { (pairs : Pairs) → Holds pairs (D.image devices.old.disk.now) (X.held devices.old.secrets.now) → Holds pairs (D.image devices.new.disk.now) (X.held devices.new.secrets.now) }
-        ensures acts { IsTrue D.tells → IsTrue X.tells → (out : List Line) → MadeOn D.files D.image X.held (sharing epoch) (ended result) devices.old devices.new out out }
-        ensures calls { X.made devices.old.secrets.now devices.new.secrets.now [] }
-        ensures same_disk { devices.new.disk.ghost_name ≡ devices.old.disk.ghost_name }
-        ensures same_secrets { devices.new.secrets.ghost_name ≡ devices.old.secrets.ghost_name }
+        ensures acts { IsTrue D.tells → IsTrue X.tells → (out : List Line) → MadeOn D.files D.image X.held
+            (sharing epoch)
+            (ended result) devices.old devices.new out out }
+        ensures called { Called ⊤ D.made X.made D.faults X.faults (made_in false result)
+            [] devices.old devices.new }
+        ensures due { IfErr result (λ e. IsDue e ⊥ (Rose (X.faults devices.old.secrets.now) (X.faults devices.new.secrets.now)) ⊥
+            (Rose (X.wants devices.old.secrets.now) (X.wants devices.new.secrets.now))) }
     {
         match devices.secrets.get_share(alloc, epoch) {
             Ok(share) => Ok(share),
@@ -712,17 +691,13 @@ impl<Dir: Drop> Store<Dir> {
         ensures same { X.held devices.new.secrets.now ≡ X.held devices.old.secrets.now }
         ensures disk { devices.new.disk.now ≡ devices.old.disk.now }
         ensures fuse { devices.new.fuse ≡ devices.old.fuse }
-        ensures wanted { IsErrOf result StoreError.NoMemory → Rose (X.wants devices.old.secrets.now) (X.wants devices.new.secrets.now) }
-        ensures secrets { IsErrOf result StoreError.Secrets → Rose (X.faults devices.old.secrets.now) (X.faults devices.new.secrets.now) }
-        ensures kinds { IfErr result IsOfSecrets }
-        ensures no_cut { IsErrOf result StoreError.Cut → ⊥ }
-        ensures later_secrets { X.faults devices.old.secrets.now ≤ X.faults devices.new.secrets.now }
-        // Each image with the secrets is whole as before, and gives the same dealings.
-        ensures holds { (pairs : Pairs) → Holds pairs (D.image devices.old.disk.now) (X.held devices.old.secrets.now) → Holds pairs (D.image devices.new.disk.now) (X.held devices.new.secrets.now) }
-        ensures acts { IsTrue D.tells → IsTrue X.tells → (out : List Line) → MadeOn D.files D.image X.held (seeding epoch) (ended result) devices.old devices.new out out }
-        ensures calls { X.made devices.old.secrets.now devices.new.secrets.now [] }
-        ensures same_disk { devices.new.disk.ghost_name ≡ devices.old.disk.ghost_name }
-        ensures same_secrets { devices.new.secrets.ghost_name ≡ devices.old.secrets.ghost_name }
+        ensures acts { IsTrue D.tells → IsTrue X.tells → (out : List Line) → MadeOn D.files D.image X.held
+            (seeding epoch)
+            (ended result) devices.old devices.new out out }
+        ensures called { Called ⊤ D.made X.made D.faults X.faults (made_in false result)
+            [] devices.old devices.new }
+        ensures due { IfErr result (λ e. IsDue e ⊥ (Rose (X.faults devices.old.secrets.now) (X.faults devices.new.secrets.now)) ⊥
+            (Rose (X.wants devices.old.secrets.now) (X.wants devices.new.secrets.now))) }
     {
         match devices.secrets.get_seed(alloc, epoch) {
             Ok(seed) => Ok(seed),
@@ -740,28 +715,20 @@ impl<Dir: Drop> Store<Dir> {
         seed: Seed,
         share: Option<Share>,
     ) -> Result<(), StoreError>
-        ensures current { OnOk result (self.new.current ≡ Some info) }
-        ensures err { OnErr result (self.new ≡ self.old) }
-        ensures dealings { self.new.dealings ≡ self.old.dealings }
-        ensures acks { self.new.acks ≡ self.old.acks }
-        ensures logs { self.new.logs ≡ self.old.logs }
-        ensures restored { self.new.restored ≡ self.old.restored }
+        ensures kept { self.new ≡ record self.old { current = if_made (made_in true result) (Some info) self.old.current } }
         ensures done { OnOk result (IsTrue X.tells → X.held devices.new.secrets.now ≡ committed info.epoch seed share (X.held devices.old.secrets.now)) }
-        ensures journal { self.new.journal ≡ self.old.journal }
         ensures disk { devices.new.disk.now ≡ devices.old.disk.now }
-        ensures wanted { IsErrOf result StoreError.NoMemory → Rose (X.wants devices.old.secrets.now) (X.wants devices.new.secrets.now) }
-        ensures secrets { IsErrOf result StoreError.Secrets → Rose (X.faults devices.old.secrets.now) (X.faults devices.new.secrets.now) }
-        ensures later_secrets { X.faults devices.old.secrets.now ≤ X.faults devices.new.secrets.now }
-        ensures kinds { IfErr result IsOfSecrets }
         // Wherever it stops, each image with the secrets is whole as before, and gives the same dealings.
-        ensures holds { (pairs : Pairs) → Holds pairs (D.image devices.old.disk.now) (X.held devices.old.secrets.now) → Holds pairs (D.image devices.new.disk.now) (X.held devices.new.secrets.now) }
-        ensures acts { IsTrue D.tells → IsTrue X.tells → (out : List Line) → MadeOn D.files D.image X.held (committing info.epoch seed share) (ended result) devices.old devices.new out out }
-        ensures cut { IsErrOf result StoreError.Cut → Reached devices.old.fuse devices.new.fuse }
-        ensures not_cut { OnOk result (Reached devices.old.fuse devices.new.fuse → ⊥) }
-        ensures all { OnOk result (RanAll X.made devices.old.secrets.now devices.new.secrets.now devices.old.fuse devices.new.fuse (commit_calls info.epoch seed share)) }
-        ensures calls { Ran X.made devices.old.secrets.now devices.new.secrets.now devices.old.fuse devices.new.fuse (commit_calls info.epoch seed share) }
-        ensures same_disk { devices.new.disk.ghost_name ≡ devices.old.disk.ghost_name }
-        ensures same_secrets { devices.new.secrets.ghost_name ≡ devices.old.secrets.ghost_name }
+        ensures holds { (pairs : Pairs) → Holds pairs (D.image devices.old.disk.now) (X.held devices.old.secrets.now)
+            → Holds pairs (D.image devices.new.disk.now) (X.held devices.new.secrets.now) }
+        // The share, if there is one, and then the seed: both at Ok, and at any other exit a part.
+        ensures acts { IsTrue D.tells → IsTrue X.tells → (out : List Line) → MadeOn D.files D.image X.held
+            (committing info.epoch seed share)
+            (ended result) devices.old devices.new out out }
+        ensures called { Called ⊤ D.made X.made D.faults X.faults (made_in true result)
+            (list_map on_secrets (commit_calls info.epoch seed share)) devices.old devices.new }
+        ensures due { IfErr result (λ e. IsDue e ⊥ (Rose (X.faults devices.old.secrets.now) (X.faults devices.new.secrets.now))
+            (Reached devices.old.fuse devices.new.fuse) (Rose (X.wants devices.old.secrets.now) (X.wants devices.new.secrets.now))) }
     {
         put_both(
             alloc,
@@ -787,51 +754,33 @@ impl<Dir: Drop> Store<Dir> {
         devices: &mut Devices<'_, D, X>,
         min: Epoch,
     ) -> Result<(), StoreError>
-        requires { IsTrue D.tells → IsOpen self.old.journal (D.files devices.old.disk.now) (D.image devices.old.disk.now) }
+        requires open { IsTrue D.tells → IsOpen self.old.journal (D.files devices.old.disk.now) (D.image devices.old.disk.now) }
         ensures open { OnOk result (IsTrue D.tells → IsOpen self.new.journal (D.files devices.new.disk.now) (D.image devices.new.disk.now)) }
-        ensures dealings { OnOk result (self.new.dealings ≡ map.retain_keys self.old.dealings (λ key. nat_le min key.0)) }
-        ensures acks { OnOk result (self.new.acks ≡ map.retain_keys self.old.acks (λ key. nat_le min key.0)) }
-        ensures logs { OnOk result (self.new.logs ≡ map.retain_keys self.old.logs (λ key. nat_le min key.0)) }
         // Nothing is forgotten that the devices may still hold.
-        ensures kept { OnErr result ((self.new.dealings ≡ self.old.dealings) × (self.new.acks ≡ self.old.acks) × (self.new.logs ≡ self.old.logs)) }
-        ensures current { self.new.current ≡ self.old.current }
-        ensures restored { self.new.restored ≡ self.old.restored }
+        ensures kept { KeepsAbove (made_in true result) min self.old self.new }
         ensures done { OnOk result (IsTrue X.tells → X.held devices.new.secrets.now ≡ after (SecretOp.Prune min) (X.held devices.old.secrets.now)) }
         ensures crash { Tries (SecretOp.Prune min) (X.held devices.old.secrets.now) (X.held devices.new.secrets.now) }
-        ensures left { OnOk result (IsTrue D.tells → Follows (Leaves min) (D.image devices.old.disk.now) (D.image devices.new.disk.now)) }
-        // Each image with the secrets then held is whole as before, and gives all dealings from before, or those at or above the minimum.
-        ensures images { IsTrue D.tells → (pairs : Pairs) → Holds pairs (D.image devices.old.disk.now) (X.held devices.old.secrets.now) → HoldsPruned min pairs (D.image devices.new.disk.now) (X.held devices.new.secrets.now) }
-        ensures images_acks { IsTrue D.tells → (acks : Notes (List ℕ)) → Gives acks_in acks (D.image devices.old.disk.now) → GivesPruned acks_in min acks (D.image devices.new.disk.now) }
-        ensures images_logs { IsTrue D.tells → (logs : Notes RecordedLog) → Gives logs_in logs (D.image devices.old.disk.now) → GivesPruned logs_in min logs (D.image devices.new.disk.now) }
-        // At Ok it is those at or above the minimum.
-        ensures holds { OnOk result (IsTrue D.tells → (pairs : Pairs) → Holds pairs (D.image devices.old.disk.now) (X.held devices.old.secrets.now) → Holds (map.retain_keys pairs (λ key. nat_le min key.0)) (D.image devices.new.disk.now) (X.held devices.new.secrets.now)) }
-        ensures gives_acks { OnOk result (IsTrue D.tells → (acks : Notes (List ℕ)) → Gives acks_in acks (D.image devices.old.disk.now) → Gives acks_in (map.retain_keys acks (λ key. nat_le min key.0)) (D.image devices.new.disk.now)) }
-        ensures gives_logs { OnOk result (IsTrue D.tells → (logs : Notes RecordedLog) → Gives logs_in logs (D.image devices.old.disk.now) → Gives logs_in (map.retain_keys logs (λ key. nat_le min key.0)) (D.image devices.new.disk.now)) }
+        // Each image with the secrets then held is whole as before, and gives all from before, or what lies at or above the minimum; at Ok the latter.
+        ensures gives { IsTrue D.tells → GivesAbove min (made_in true result)
+            (D.image devices.old.disk.now) (D.image devices.new.disk.now) (X.held devices.old.secrets.now) (X.held devices.new.secrets.now) }
+        // Each image has the names of segments from before, or those at or above the minimum, and every other file as it was.
+        ensures shrinks { IsTrue D.tells → Shrinks min (made_in true result)
+            (D.files devices.old.disk.now) (D.files devices.new.disk.now) (D.image devices.old.disk.now) (D.image devices.new.disk.now) }
         // The journal, and then the secrets: both at Ok, and at any other exit a part, whatever image is left.
-        ensures acts { IsTrue D.tells → IsTrue X.tells → (out : List Line) → MadeOn D.files D.image X.held (pruning min) (ended result) devices.old devices.new out out }
-        ensures kinds { IfErr result IsOfPruning }
-        ensures of_devices { IsTrue D.tells → IfErr result IsOfDevices }
-        ensures all { OnOk result (IsTrue D.tells → RanAll (MadeBoth D.made X.made) (devices.old.disk.now, devices.old.secrets.now) (devices.new.disk.now, devices.new.secrets.now) devices.old.fuse devices.new.fuse (prune_both min (keys (D.files devices.old.disk.now)))) }
-        ensures calls { IsTrue D.tells → Ran (MadeBoth D.made X.made) (devices.old.disk.now, devices.old.secrets.now) (devices.new.disk.now, devices.new.secrets.now) devices.old.fuse devices.new.fuse (prune_both min (keys (D.files devices.old.disk.now))) }
-        ensures memory { IsErrOf result StoreError.NoMemory → IsWant ((self.new ≡ self.old) × D.made devices.old.disk.now devices.new.disk.now [] × IsUnchanged D.files D.image devices.old.disk.now devices.new.disk.now × (devices.new.secrets.now ≡ devices.old.secrets.now) × (devices.new.fuse ≡ devices.old.fuse)) (D.wants devices.old.disk.now) (D.wants devices.new.disk.now) (X.wants devices.old.secrets.now) (X.wants devices.new.secrets.now) }
-        ensures later_disk { D.faults devices.old.disk.now ≤ D.faults devices.new.disk.now }
-        ensures later_secrets { X.faults devices.old.secrets.now ≤ X.faults devices.new.secrets.now }
-        ensures disk { IsErrOf result StoreError.Disk → Rose (D.faults devices.old.disk.now) (D.faults devices.new.disk.now) }
-        ensures secrets { IsErrOf result StoreError.Secrets → Rose (X.faults devices.old.secrets.now) (X.faults devices.new.secrets.now) }
-        ensures cut { IsErrOf result StoreError.Cut → Reached devices.old.fuse devices.new.fuse }
-        ensures not_cut { OnOk result (Reached devices.old.fuse devices.new.fuse → ⊥) }
-        ensures fit { IsTrue D.tells → (limit : ℕ) → AreFit limit (D.image devices.old.disk.now) → AreFit limit (D.image devices.new.disk.now) }
-        // A crash leaves every file but the journal's as it was.
-        ensures others { IsTrue D.tells → Follows SamePlan (D.image devices.old.disk.now) (D.image devices.new.disk.now) }
-        // Wherever it stops, each image has the names from before: the journal's own is there exactly where it was, where nothing was loose.
-        ensures names { IsTrue D.tells → Follows (NamesPruned min) (D.image devices.old.disk.now) (D.image devices.new.disk.now) }
-        // At Ok nothing of the disk is loose, where nothing was.
-        ensures lands { OnOk result (IsTrue D.tells → Lands (D.files devices.old.disk.now) (D.image devices.old.disk.now) → Lands (D.files devices.new.disk.now) (D.image devices.new.disk.now)) }
-        ensures cut_lands { IsErrOf result StoreError.Cut → IsTrue D.tells → StaysFirm D.files D.image devices.old.disk.now devices.new.disk.now }
-        // The disk comes first: where it failed, the secrets are as they were.
-        ensures unreached { IsErrOf result StoreError.Disk → devices.new.secrets.now ≡ devices.old.secrets.now }
-        ensures same_disk { devices.new.disk.ghost_name ≡ devices.old.disk.ghost_name }
-        ensures same_secrets { devices.new.secrets.ghost_name ≡ devices.old.secrets.ghost_name }
+        ensures acts { IsTrue D.tells → IsTrue X.tells → (out : List Line) → MadeOn D.files D.image X.held
+            (pruning min)
+            (ended result) devices.old devices.new out out }
+        ensures called { Called (IsTrue D.tells) D.made X.made D.faults X.faults (made_in true result)
+            (prune_both min (keys (D.files devices.old.disk.now))) devices.old devices.new }
+        // The disk comes first: where it failed, the secrets are as they were. After a cut nothing of the disk is loose, where nothing was.
+        ensures due { IfErr result (λ e. IsDue e
+            (Rose (D.faults devices.old.disk.now) (D.faults devices.new.disk.now) × (devices.new.secrets.now ≡ devices.old.secrets.now))
+            (Rose (X.faults devices.old.secrets.now) (X.faults devices.new.secrets.now))
+            (Reached devices.old.fuse devices.new.fuse × (IsTrue D.tells → StaysFirm D.files D.image devices.old.disk.now devices.new.disk.now))
+            (IsWant ((self.new ≡ self.old)
+            × D.made devices.old.disk.now devices.new.disk.now [] × IsUnchanged D.files D.image devices.old.disk.now devices.new.disk.now
+            × (devices.new.secrets.now ≡ devices.old.secrets.now) × (devices.new.fuse ≡ devices.old.fuse))
+            (D.wants devices.old.disk.now) (D.wants devices.new.disk.now) (X.wants devices.old.secrets.now) (X.wants devices.new.secrets.now))) }
     {
         prune_devices(alloc, devices, &mut self.journal, min)?;
         self.dealings.prune(min.0);
@@ -855,45 +804,29 @@ impl<Dir: Drop> Store<Dir> {
         requires open { IsTrue D.tells → IsOpen self.old.journal (D.files devices.old.disk.now) (D.image devices.old.disk.now) }
         ensures open { OnOk result (IsTrue D.tells → IsOpen self.new.journal (D.files devices.new.disk.now) (D.image devices.new.disk.now)) }
         ensures known { IfOk result (λ new. new ≡ not (map.contains_key self.old.dealings (epoch, dealer))) }
-        ensures kept { IfOk result (λ new. self.new.dealings ≡ (if new then map.insert self.old.dealings (epoch, dealer) (public, private) else self.old.dealings)) }
-        ensures same { OnErr result (self.new.dealings ≡ self.old.dealings) }
+        ensures kept { KeepsPair (result_ok result) (epoch, dealer) (public, private) self.old self.new }
         // What is recorded already touches nothing.
         ensures untouched { IfOk result (λ new. new ≡ false → (self.new ≡ self.old) × (devices.new ≡ devices.old)) }
-        ensures acks { self.new.acks ≡ self.old.acks }
-        ensures logs { self.new.logs ≡ self.old.logs }
-        ensures current { self.new.current ≡ self.old.current }
-        ensures restored { self.new.restored ≡ self.old.restored }
-        ensures holds { OnOk result (IsTrue D.tells → IsTrue X.tells → Holds self.old.dealings (D.image devices.old.disk.now) (X.held devices.old.secrets.now) → Holds self.new.dealings (D.image devices.new.disk.now) (X.held devices.new.secrets.now)) }
-        // Each image, with the secrets then held, gives the dealings from before, with the new one or without.
-        ensures images { IsTrue D.tells → IsTrue X.tells → Holds self.old.dealings (D.image devices.old.disk.now) (X.held devices.old.secrets.now) → HoldsEither self.old.dealings (map.insert self.old.dealings (epoch, dealer) (public, private)) (D.image devices.new.disk.now) (X.held devices.new.secrets.now) }
-        // Each image gives the acknowledgements and the logs from before.
-        ensures notes { IsTrue D.tells → Follows SameNotes (D.image devices.old.disk.now) (D.image devices.new.disk.now) }
+        // Each image, with the secrets then held, gives the dealings from before, with the new one or without; the other kinds it gives as before.
+        ensures gives { IsTrue D.tells → GivesDealing (IsTrue X.tells) (result_ok result)
+            self.old.dealings (map.insert self.old.dealings (epoch, dealer) (public, private))
+            (D.image devices.old.disk.now) (D.image devices.new.disk.now) (X.held devices.old.secrets.now) (X.held devices.new.secrets.now) }
+        // Whatever a crash leaves of the disk.
+        ensures extends { IsTrue D.tells → Extends (result_ok result)
+            epoch (event_spelling (events.Dealing dealer public))
+            (D.files devices.old.disk.now) (D.files devices.new.disk.now) (D.image devices.old.disk.now) (D.image devices.new.disk.now) }
         // The put, and then the append, where it was not recorded: both at Ok, and at any other exit a part, whatever image is left.
-        ensures acts { IsTrue D.tells → IsTrue X.tells → (out : List Line) → MadeOn D.files D.image X.held (recording (map.contains_key self.old.dealings (epoch, dealer)) epoch dealer public private) (ended result) devices.old devices.new out out }
-        ensures kinds { IfErr result IsOfDevices }
-        ensures all { IfOk result (λ new. RanAll (MadeBoth D.made X.made) (devices.old.disk.now, devices.old.secrets.now) (devices.new.disk.now, devices.new.secrets.now) devices.old.fuse devices.new.fuse (if new then put_then_append (SecretOp.PutDealing epoch dealer private) self.old.journal (epoch, event_spelling (events.Dealing dealer public)) else [])) }
-        ensures calls { Ran (MadeBoth D.made X.made) (devices.old.disk.now, devices.old.secrets.now) (devices.new.disk.now, devices.new.secrets.now) devices.old.fuse devices.new.fuse (put_then_append (SecretOp.PutDealing epoch dealer private) self.old.journal (epoch, event_spelling (events.Dealing dealer public))) }
-        ensures memory { IsErrOf result StoreError.NoMemory → IsWant ((self.new ≡ self.old) × (devices.new ≡ devices.old)) (D.wants devices.old.disk.now) (D.wants devices.new.disk.now) (X.wants devices.old.secrets.now) (X.wants devices.new.secrets.now) }
-        ensures later_disk { D.faults devices.old.disk.now ≤ D.faults devices.new.disk.now }
-        ensures later_secrets { X.faults devices.old.secrets.now ≤ X.faults devices.new.secrets.now }
-        ensures disk { IsErrOf result StoreError.Disk → Rose (D.faults devices.old.disk.now) (D.faults devices.new.disk.now) }
-        ensures secrets { IsErrOf result StoreError.Secrets → Rose (X.faults devices.old.secrets.now) (X.faults devices.new.secrets.now) }
-        ensures cut { IsErrOf result StoreError.Cut → Reached devices.old.fuse devices.new.fuse }
-        ensures not_cut { OnOk result (Reached devices.old.fuse devices.new.fuse → ⊥) }
-        ensures fit { IsTrue D.tells → (limit : ℕ) → is_event limit (event_spelling (events.Dealing dealer public)) ≡ true → AreFit limit (D.image devices.old.disk.now) → AreFit limit (D.image devices.new.disk.now) }
-        // A crash leaves every file but the journal's as it was.
-        ensures others { IsTrue D.tells → Follows (SameElse (Segment epoch)) (D.image devices.old.disk.now) (D.image devices.new.disk.now) }
-        // Where nothing of the disk was loose, each image has the names from before, or the journal's own with them. At Ok it has it, if the
-        // record is new, and else just those from before.
-        ensures names { IsTrue D.tells → Lands (D.files devices.old.disk.now) (D.image devices.old.disk.now) → Follows (MayBeNamed epoch) (D.image devices.old.disk.now) (D.image devices.new.disk.now) }
-        ensures named { IfOk result (λ new. IsTrue D.tells → Follows (Named new epoch) (D.image devices.old.disk.now) (D.image devices.new.disk.now)) }
-        // At Ok nothing of the disk is loose, where nothing was.
-        ensures lands { OnOk result (IsTrue D.tells → Lands (D.files devices.old.disk.now) (D.image devices.old.disk.now) → Lands (D.files devices.new.disk.now) (D.image devices.new.disk.now)) }
-        ensures cut_lands { IsErrOf result StoreError.Cut → IsTrue D.tells → StaysFirm D.files D.image devices.old.disk.now devices.new.disk.now }
-        // The secret store comes first: where it failed, the disk is as it was.
-        ensures unreached { IsErrOf result StoreError.Secrets → devices.new.disk.now ≡ devices.old.disk.now }
-        ensures same_disk { devices.new.disk.ghost_name ≡ devices.old.disk.ghost_name }
-        ensures same_secrets { devices.new.secrets.ghost_name ≡ devices.old.secrets.ghost_name }
+        ensures acts { IsTrue D.tells → IsTrue X.tells → (out : List Line) → MadeOn D.files D.image X.held
+            (recording (map.contains_key self.old.dealings (epoch, dealer)) epoch dealer public private)
+            (ended result) devices.old devices.new out out }
+        ensures called { Called ⊤ D.made X.made D.faults X.faults (result_ok result)
+            (dealing_calls self.old.journal epoch dealer public private) devices.old devices.new }
+        // The secret store comes first: where it failed, the disk is as it was. After a cut nothing of the disk is loose, where nothing was.
+        ensures due { IfErr result (λ e. IsDue e (Rose (D.faults devices.old.disk.now) (D.faults devices.new.disk.now))
+            (Rose (X.faults devices.old.secrets.now) (X.faults devices.new.secrets.now) × (devices.new.disk.now ≡ devices.old.disk.now))
+            (Reached devices.old.fuse devices.new.fuse × (IsTrue D.tells → StaysFirm D.files D.image devices.old.disk.now devices.new.disk.now))
+            (IsWant ((self.new ≡ self.old) × (devices.new ≡ devices.old))
+            (D.wants devices.old.disk.now) (D.wants devices.new.disk.now) (X.wants devices.old.secrets.now) (X.wants devices.new.secrets.now))) }
     {
         if self.dealings.get(epoch, dealer).is_some() {
             return Ok(false);
@@ -927,44 +860,29 @@ impl<Dir: Drop> Store<Dir> {
         ensures open { OnOk result (IsTrue D.tells → IsOpen self.new.journal (D.files devices.new.disk.now) (D.image devices.new.disk.now)) }
         ensures known { IfOk result (λ new. new ≡ not (map.contains_key self.old.acks (epoch, player))) }
         // The first record stays.
-        ensures kept { IfOk result (λ new. self.new.acks ≡ (if new then map.insert self.old.acks (epoch, player) ack else self.old.acks)) }
-        ensures same { OnErr result (self.new.acks ≡ self.old.acks) }
+        ensures kept { KeepsAck (result_ok result) (epoch, player) ack self.old self.new }
         // What is recorded already touches nothing.
         ensures untouched { IfOk result (λ new. new ≡ false → (self.new ≡ self.old) × (devices.new ≡ devices.old)) }
-        ensures logs { self.new.logs ≡ self.old.logs }
-        ensures dealings { self.new.dealings ≡ self.old.dealings }
-        ensures current { self.new.current ≡ self.old.current }
-        ensures restored { self.new.restored ≡ self.old.restored }
-        ensures gives { OnOk result (IsTrue D.tells → Gives acks_in self.old.acks (D.image devices.old.disk.now) → Gives acks_in self.new.acks (D.image devices.new.disk.now)) }
-        // Each image gives what was recorded before, with the new record or without.
-        ensures images { IsTrue D.tells → Gives acks_in self.old.acks (D.image devices.old.disk.now) → GivesEither acks_in self.old.acks (map.insert self.old.acks (epoch, player) ack) (D.image devices.new.disk.now) }
-        ensures others { IsTrue D.tells → Gives logs_in self.old.logs (D.image devices.old.disk.now) → Gives logs_in self.old.logs (D.image devices.new.disk.now) }
-        // Wherever it stops, each image with the secrets is whole as before, and gives the same dealings.
-        ensures holds { IsTrue D.tells → (pairs : Pairs) → Holds pairs (D.image devices.old.disk.now) (X.held devices.old.secrets.now) → Holds pairs (D.image devices.new.disk.now) (X.held devices.new.secrets.now) }
-        // The append, where it was not recorded: all of it at Ok, and at any other exit a part, whatever image is left.
-        ensures acts { IsTrue D.tells → (out : List Line) → MadeOn D.files D.image X.held (noting (map.contains_key self.old.acks (epoch, player)) (epoch, event_spelling (events.Ack player ack))) (ended result) devices.old devices.new out out }
-        ensures kinds { IfErr result IsOfDevices }
-        ensures not_secrets { IsErrOf result StoreError.Secrets → ⊥ }
-        ensures all { IfOk result (λ new. RanAll D.made devices.old.disk.now devices.new.disk.now devices.old.fuse devices.new.fuse (if new then append_calls self.old.journal (epoch, event_spelling (events.Ack player ack)) else [])) }
-        ensures calls { Ran D.made devices.old.disk.now devices.new.disk.now devices.old.fuse devices.new.fuse (append_calls self.old.journal (epoch, event_spelling (events.Ack player ack))) }
+        // Each image gives what was recorded of the kind, with the new record or without, and of the other kinds what it gave.
+        ensures gives { IsTrue D.tells → GivesNote acks_in logs_in (result_ok result) self.old.acks
+            (map.insert self.old.acks (epoch, player) ack)
+            (D.image devices.old.disk.now) (D.image devices.new.disk.now) (X.held devices.old.secrets.now) (X.held devices.new.secrets.now) }
+        // Whatever a crash leaves of the disk.
+        ensures extends { IsTrue D.tells → Extends (result_ok result)
+            epoch (event_spelling (events.Ack player ack))
+            (D.files devices.old.disk.now) (D.files devices.new.disk.now) (D.image devices.old.disk.now) (D.image devices.new.disk.now) }
         ensures secrets { devices.new.secrets.now ≡ devices.old.secrets.now }
-        ensures memory { IsErrOf result StoreError.NoMemory → ((self.new ≡ self.old) × (devices.new ≡ devices.old)) ⊎ Rose (D.wants devices.old.disk.now) (D.wants devices.new.disk.now) }
-        ensures later_disk { D.faults devices.old.disk.now ≤ D.faults devices.new.disk.now }
-        ensures disk { IsErrOf result StoreError.Disk → Rose (D.faults devices.old.disk.now) (D.faults devices.new.disk.now) }
-        ensures cut { IsErrOf result StoreError.Cut → Reached devices.old.fuse devices.new.fuse }
-        ensures not_cut { OnOk result (Reached devices.old.fuse devices.new.fuse → ⊥) }
-        ensures fit { IsTrue D.tells → (limit : ℕ) → is_event limit (event_spelling (events.Ack player ack)) ≡ true → AreFit limit (D.image devices.old.disk.now) → AreFit limit (D.image devices.new.disk.now) }
-        // A crash leaves every file but the journal's as it was.
-        ensures files { IsTrue D.tells → Follows (SameElse (Segment epoch)) (D.image devices.old.disk.now) (D.image devices.new.disk.now) }
-        // Where nothing of the disk was loose, each image has the names from before, or the journal's own with them. At Ok it has it, if the
-        // record is new, and else just those from before.
-        ensures names { IsTrue D.tells → Lands (D.files devices.old.disk.now) (D.image devices.old.disk.now) → Follows (MayBeNamed epoch) (D.image devices.old.disk.now) (D.image devices.new.disk.now) }
-        ensures named { IfOk result (λ new. IsTrue D.tells → Follows (Named new epoch) (D.image devices.old.disk.now) (D.image devices.new.disk.now)) }
-        // At Ok nothing of the disk is loose, where nothing was.
-        ensures lands { OnOk result (IsTrue D.tells → Lands (D.files devices.old.disk.now) (D.image devices.old.disk.now) → Lands (D.files devices.new.disk.now) (D.image devices.new.disk.now)) }
-        ensures cut_lands { IsErrOf result StoreError.Cut → IsTrue D.tells → Lands (D.files devices.new.disk.now) (D.image devices.new.disk.now) }
-        ensures same_disk { devices.new.disk.ghost_name ≡ devices.old.disk.ghost_name }
-        ensures same_secrets { devices.new.secrets.ghost_name ≡ devices.old.secrets.ghost_name }
+        // The append, where it was not recorded: all of it at Ok, and at any other exit a part, whatever image is left.
+        ensures acts { IsTrue D.tells → (out : List Line) → MadeOn D.files D.image X.held
+            (noting (map.contains_key self.old.acks (epoch, player)) (epoch, event_spelling (events.Ack player ack)))
+            (ended result) devices.old devices.new out out }
+        ensures called { Called ⊤ D.made X.made D.faults X.faults (result_ok result)
+            (list_map on_disk (append_calls self.old.journal (epoch, event_spelling (events.Ack player ack)))) devices.old devices.new }
+        // The secret store is not called. After a cut nothing of the disk is loose.
+        ensures due { IfErr result (λ e. IsDue e (Rose (D.faults devices.old.disk.now) (D.faults devices.new.disk.now)) ⊥
+            (Reached devices.old.fuse devices.new.fuse × (IsTrue D.tells → Lands (D.files devices.new.disk.now) (D.image devices.new.disk.now)))
+            (((self.new ≡ self.old) × (devices.new ≡ devices.old))
+            ⊎ Rose (D.wants devices.old.disk.now) (D.wants devices.new.disk.now))) }
     {
         if self.acks.get(epoch, player).is_some() {
             return Ok(false);
@@ -975,8 +893,7 @@ impl<Dir: Drop> Store<Dir> {
             alloc,
             &mut self.acks,
             &mut self.journal,
-            devices.disk,
-            &mut devices.fuse,
+            devices,
             epoch,
             player,
             ack,
@@ -1001,44 +918,29 @@ impl<Dir: Drop> Store<Dir> {
         ensures open { OnOk result (IsTrue D.tells → IsOpen self.new.journal (D.files devices.new.disk.now) (D.image devices.new.disk.now)) }
         ensures known { IfOk result (λ new. new ≡ not (map.contains_key self.old.logs (epoch, dealer))) }
         // The first record stays.
-        ensures kept { IfOk result (λ new. self.new.logs ≡ (if new then map.insert self.old.logs (epoch, dealer) (record { height = Some height; log = log }) else self.old.logs)) }
-        ensures same { OnErr result (self.new.logs ≡ self.old.logs) }
+        ensures kept { KeepsLog (result_ok result) (epoch, dealer) (record { height = Some height; log = log }) self.old self.new }
         // What is recorded already touches nothing.
         ensures untouched { IfOk result (λ new. new ≡ false → (self.new ≡ self.old) × (devices.new ≡ devices.old)) }
-        ensures acks { self.new.acks ≡ self.old.acks }
-        ensures dealings { self.new.dealings ≡ self.old.dealings }
-        ensures current { self.new.current ≡ self.old.current }
-        ensures restored { self.new.restored ≡ self.old.restored }
-        ensures gives { OnOk result (IsTrue D.tells → Gives logs_in self.old.logs (D.image devices.old.disk.now) → Gives logs_in self.new.logs (D.image devices.new.disk.now)) }
-        // Each image gives what was recorded before, with the new record or without.
-        ensures images { IsTrue D.tells → Gives logs_in self.old.logs (D.image devices.old.disk.now) → GivesEither logs_in self.old.logs (map.insert self.old.logs (epoch, dealer) (record { height = Some height; log = log })) (D.image devices.new.disk.now) }
-        ensures others { IsTrue D.tells → Gives acks_in self.old.acks (D.image devices.old.disk.now) → Gives acks_in self.old.acks (D.image devices.new.disk.now) }
-        // Wherever it stops, each image with the secrets is whole as before, and gives the same dealings.
-        ensures holds { IsTrue D.tells → (pairs : Pairs) → Holds pairs (D.image devices.old.disk.now) (X.held devices.old.secrets.now) → Holds pairs (D.image devices.new.disk.now) (X.held devices.new.secrets.now) }
-        // The append, where it was not recorded: all of it at Ok, and at any other exit a part, whatever image is left.
-        ensures acts { IsTrue D.tells → (out : List Line) → MadeOn D.files D.image X.held (noting (map.contains_key self.old.logs (epoch, dealer)) (epoch, event_spelling (events.LogAt dealer height log))) (ended result) devices.old devices.new out out }
-        ensures kinds { IfErr result IsOfDevices }
-        ensures not_secrets { IsErrOf result StoreError.Secrets → ⊥ }
-        ensures all { IfOk result (λ new. RanAll D.made devices.old.disk.now devices.new.disk.now devices.old.fuse devices.new.fuse (if new then append_calls self.old.journal (epoch, event_spelling (events.LogAt dealer height log)) else [])) }
-        ensures calls { Ran D.made devices.old.disk.now devices.new.disk.now devices.old.fuse devices.new.fuse (append_calls self.old.journal (epoch, event_spelling (events.LogAt dealer height log))) }
+        // Each image gives what was recorded of the kind, with the new record or without, and of the other kinds what it gave.
+        ensures gives { IsTrue D.tells → GivesNote logs_in acks_in (result_ok result) self.old.logs
+            (map.insert self.old.logs (epoch, dealer) (record { height = Some height; log = log }))
+            (D.image devices.old.disk.now) (D.image devices.new.disk.now) (X.held devices.old.secrets.now) (X.held devices.new.secrets.now) }
+        // Whatever a crash leaves of the disk.
+        ensures extends { IsTrue D.tells → Extends (result_ok result)
+            epoch (event_spelling (events.LogAt dealer height log))
+            (D.files devices.old.disk.now) (D.files devices.new.disk.now) (D.image devices.old.disk.now) (D.image devices.new.disk.now) }
         ensures secrets { devices.new.secrets.now ≡ devices.old.secrets.now }
-        ensures memory { IsErrOf result StoreError.NoMemory → ((self.new ≡ self.old) × (devices.new ≡ devices.old)) ⊎ Rose (D.wants devices.old.disk.now) (D.wants devices.new.disk.now) }
-        ensures later_disk { D.faults devices.old.disk.now ≤ D.faults devices.new.disk.now }
-        ensures disk { IsErrOf result StoreError.Disk → Rose (D.faults devices.old.disk.now) (D.faults devices.new.disk.now) }
-        ensures cut { IsErrOf result StoreError.Cut → Reached devices.old.fuse devices.new.fuse }
-        ensures not_cut { OnOk result (Reached devices.old.fuse devices.new.fuse → ⊥) }
-        ensures fit { IsTrue D.tells → (limit : ℕ) → is_event limit (event_spelling (events.LogAt dealer height log)) ≡ true → AreFit limit (D.image devices.old.disk.now) → AreFit limit (D.image devices.new.disk.now) }
-        // A crash leaves every file but the journal's as it was.
-        ensures files { IsTrue D.tells → Follows (SameElse (Segment epoch)) (D.image devices.old.disk.now) (D.image devices.new.disk.now) }
-        // Where nothing of the disk was loose, each image has the names from before, or the journal's own with them. At Ok it has it, if the
-        // record is new, and else just those from before.
-        ensures names { IsTrue D.tells → Lands (D.files devices.old.disk.now) (D.image devices.old.disk.now) → Follows (MayBeNamed epoch) (D.image devices.old.disk.now) (D.image devices.new.disk.now) }
-        ensures named { IfOk result (λ new. IsTrue D.tells → Follows (Named new epoch) (D.image devices.old.disk.now) (D.image devices.new.disk.now)) }
-        // At Ok nothing of the disk is loose, where nothing was.
-        ensures lands { OnOk result (IsTrue D.tells → Lands (D.files devices.old.disk.now) (D.image devices.old.disk.now) → Lands (D.files devices.new.disk.now) (D.image devices.new.disk.now)) }
-        ensures cut_lands { IsErrOf result StoreError.Cut → IsTrue D.tells → Lands (D.files devices.new.disk.now) (D.image devices.new.disk.now) }
-        ensures same_disk { devices.new.disk.ghost_name ≡ devices.old.disk.ghost_name }
-        ensures same_secrets { devices.new.secrets.ghost_name ≡ devices.old.secrets.ghost_name }
+        // The append, where it was not recorded: all of it at Ok, and at any other exit a part, whatever image is left.
+        ensures acts { IsTrue D.tells → (out : List Line) → MadeOn D.files D.image X.held
+            (noting (map.contains_key self.old.logs (epoch, dealer)) (epoch, event_spelling (events.LogAt dealer height log)))
+            (ended result) devices.old devices.new out out }
+        ensures called { Called ⊤ D.made X.made D.faults X.faults (result_ok result)
+            (list_map on_disk (append_calls self.old.journal (epoch, event_spelling (events.LogAt dealer height log)))) devices.old devices.new }
+        // The secret store is not called. After a cut nothing of the disk is loose.
+        ensures due { IfErr result (λ e. IsDue e (Rose (D.faults devices.old.disk.now) (D.faults devices.new.disk.now)) ⊥
+            (Reached devices.old.fuse devices.new.fuse × (IsTrue D.tells → Lands (D.files devices.new.disk.now) (D.image devices.new.disk.now)))
+            (((self.new ≡ self.old) × (devices.new ≡ devices.old))
+            ⊎ Rose (D.wants devices.old.disk.now) (D.wants devices.new.disk.now))) }
     {
         if self.logs.get(epoch, dealer).is_some() {
             return Ok(false);
@@ -1053,8 +955,7 @@ impl<Dir: Drop> Store<Dir> {
             alloc,
             &mut self.logs,
             &mut self.journal,
-            devices.disk,
-            &mut devices.fuse,
+            devices,
             epoch,
             dealer,
             recorded,

@@ -43,7 +43,7 @@ returns-in_err-append_ack-clause-acts g c = λ disk secrets out.
     (not_had dealing known e c.args.epoch _ (sym c.is_some.ensures ∙ c.if-is_some.false)
     (made_next {acts = dealing} (λ (new : Bool). bind (noting known e) (λ (noted : Bool). bind (pruning c.args.epoch) (λ gone. Goes new))) (c.in_ok-new.ensures.acts disk secrets out)
     (as_known (λ (noted : Bool). bind (pruning c.args.epoch) (λ gone. Goes c.in_ok-new.new)) known (map.contains_key c.append_dealing.new.self.acks (c.args.epoch, c.args.dealer)) e
-    (ap (λ (m : FinMap key_cmp (List ℕ)). map.contains_key m (c.args.epoch, c.args.dealer)) (sym c.in_ok-new.ensures.acks))
+    (ap (λ (m : FinMap key_cmp (List ℕ)). map.contains_key m (c.args.epoch, c.args.dealer)) (sym c.in_ok-new.ensures.kept.rest.acks))
     (ends_early {acts = noting (map.contains_key c.append_dealing.new.self.acks (c.args.epoch, c.args.dealer)) e} (λ (noted : Bool). bind (pruning c.args.epoch) (λ gone. Goes c.in_ok-new.new)) _ (c.in_err-append_ack.ensures.acts disk out))))))
 
 pub returns-in_err-prune-clause-acts : goal.returns-in_err-prune-clause-acts
@@ -56,7 +56,7 @@ returns-in_err-prune-clause-acts g c = λ disk secrets out.
     (not_had dealing known e c.args.epoch _ (sym c.is_some.ensures ∙ c.if-is_some.false)
     (made_next {acts = dealing} (λ (new : Bool). bind (noting known e) (λ (noted : Bool). bind (pruning c.args.epoch) (λ gone. Goes new))) (c.in_ok-new.ensures.acts disk secrets out)
     (as_known (λ (noted : Bool). bind (pruning c.args.epoch) (λ gone. Goes c.in_ok-new.new)) known (map.contains_key c.append_dealing.new.self.acks (c.args.epoch, c.args.dealer)) e
-    (ap (λ (m : FinMap key_cmp (List ℕ)). map.contains_key m (c.args.epoch, c.args.dealer)) (sym c.in_ok-new.ensures.acks))
+    (ap (λ (m : FinMap key_cmp (List ℕ)). map.contains_key m (c.args.epoch, c.args.dealer)) (sym c.in_ok-new.ensures.kept.rest.acks))
     (made_next {acts = noting (map.contains_key c.append_dealing.new.self.acks (c.args.epoch, c.args.dealer)) e} (λ (noted : Bool). bind (pruning c.args.epoch) (λ gone. Goes c.in_ok-new.new)) (c.in_ok-append_ack.ensures.acts disk out)
     (ends_early {acts = pruning c.args.epoch} (λ gone. Goes c.in_ok-new.new) _ (c.in_err-prune.ensures.acts disk secrets out)))))))
 
@@ -69,6 +69,6 @@ returns-clause-acts g c = λ disk secrets out.
     (not_had dealing known e c.args.epoch _ (sym c.is_some.ensures ∙ c.if-is_some.false)
     (made_next {acts = dealing} (λ (new : Bool). bind (noting known e) (λ (noted : Bool). bind (pruning c.args.epoch) (λ gone. Goes new))) (c.in_ok-new.ensures.acts disk secrets out)
     (as_known (λ (noted : Bool). bind (pruning c.args.epoch) (λ gone. Goes c.in_ok-new.new)) known (map.contains_key c.append_dealing.new.self.acks (c.args.epoch, c.args.dealer)) e
-    (ap (λ (m : FinMap key_cmp (List ℕ)). map.contains_key m (c.args.epoch, c.args.dealer)) (sym c.in_ok-new.ensures.acks))
+    (ap (λ (m : FinMap key_cmp (List ℕ)). map.contains_key m (c.args.epoch, c.args.dealer)) (sym c.in_ok-new.ensures.kept.rest.acks))
     (made_next {acts = noting (map.contains_key c.append_dealing.new.self.acks (c.args.epoch, c.args.dealer)) e} (λ (noted : Bool). bind (pruning c.args.epoch) (λ gone. Goes c.in_ok-new.new)) (c.in_ok-append_ack.ensures.acts disk out)
     (made_next {acts = pruning c.args.epoch} (λ gone. Goes c.in_ok-new.new) (c.in_ok-prune.ensures.acts disk secrets out) (made_nothing _ _ _ refl)))))))
