@@ -77,11 +77,11 @@ abbrev pub script_with : ScriptConfig → List BlockLine → List Life → Scrip
 script_with config blocks lives = record { addressed = false; config = config; blocks = blocks; lives = lives }
 
 pub script_is : (number epoch : ℕ) (making : Making) (one : Life) (config : ScriptConfig) (blocks : List BlockLine) (lives : List Life) → epoch ≡ 5 → IsMaking number epoch making → config ≡ made_config → blocks ≡ making.blocks.items
-    → one ≡ life_with number 5 making.events.items → lives ≡ making.lives.items ++ one ∷ [] → script_with config blocks lives ≡ made_script number
+    → one ≡ life_with number 5 making.events → lives ≡ making.lives.items ++ one ∷ [] → script_with config blocks lives ≡ made_script number
 unfolding made_script
 script_is number epoch making one config blocks lives all before configured built last followed =
     let is = subst (λ (n : ℕ). IsMaking number n making) all before in
-    let life = last ∙ last_life number making.events.items is.events in
+    let life = last ∙ last_life number making.events is.events in
     let chain = built ∙ is.blocks in
     let its = followed ∙ lives_further number 5 making.lives.items one is.lives life in
     ap (λ (c : ScriptConfig). script_with c blocks lives) configured

@@ -20,4 +20,4 @@ pub record IsMaking (number epoch : ℕ) (making : Making) : Type 0 where
   pub info : making.info ≡ info_at number epoch
   pub blocks : making.blocks.items ≡ flat_map (epoch_blocks number) (range_with_len 0 epoch)
   pub lives : making.lives.items ≡ map (life_of number) (range_with_len 0 epoch)
-  pub events : making.events.items ≡ rest_before number epoch
+  pub events : making.events ≡ rest_before number epoch

@@ -3,52 +3,51 @@ ghost use Rattle.std.specs.Prelude.{◌≡◌, ◌<◌, ◌≤◌, ◌-◌, ◌+
 ghost use Rattle.dkg_generator.specs.Made.{after_block as after_block_of, anchor_of, events_with, held_of, life_with, peer_of, request_of};
 
 use crate::plan::Plan;
-use dkg_ceremony::{Blob, Height, Key, Mem, Value};
-use dkg_text::{Anchor, Event, Events, Indexes, Life};
+use dkg_ceremony::{Blob, Height, Key, Mem};
+use dkg_text::{Anchor, Event, Events, Indexes, Life, MessageBytes};
 use std::alloc::Global;
 
 /// Messages reach the node.
-fn put_peers(alloc: Global, events: &mut Vec<Event>, sent: &[(Key, Blob)]) -> Mem<()>
-    ensures { OnOk result (events.new.items ≡ events.old.items ++ map peer_of sent.now) }
+fn put_peers(events: &mut Events, sent: &[(Key, Blob)]) -> Mem<()>
+    ensures { OnOk result (events.new ≡ events.old ++ map peer_of sent.now) }
 {
     for message in sent {
-        events.push(Event::Peer {
+        events.push(&Event::Peer {
             from: message.0,
-            bytes: message.1.copy(alloc)?,
+            bytes: MessageBytes::lent(message.1.as_slice()),
         })?;
     }
     Ok(())
 }
 
 /// The request for what the last block has to carry, which is fed the block below it.
-fn put_request(events: &mut Vec<Event>, epoch: u64) -> Mem<()>
+fn put_request(events: &mut Events, epoch: u64) -> Mem<()>
     requires { epoch < 5 }
-    ensures { OnOk result (events.new.items ≡ events.old.items ++ request_of epoch) }
+    ensures { OnOk result (events.new ≡ events.old ++ request_of epoch) }
 {
     let request = 2 * epoch + 1;
-    events.push(Event::Info { request })?;
-    events.push(Event::Feed {
+    events.push(&Event::Info { request })?;
+    events.push(&Event::Feed {
         request,
         block: (epoch * 64 + 62) as u32,
     })?;
-    events.push(Event::Work)?;
-    Ok(())
+    events.push(&Event::Work)
 }
 
 /// What follows the delivery of the block at a place of an epoch.
-fn put_after(alloc: Global, events: &mut Vec<Event>, plan: &Plan, epoch: u64, place: u64) -> Mem<()>
+fn put_after(events: &mut Events, plan: &Plan, epoch: u64, place: u64) -> Mem<()>
     requires epoch { epoch < 5 }
     requires some { 0 < vec_len plan.now.dealings }
-    ensures { OnOk result (events.new.items ≡ events.old.items ++ after_block_of plan.now.dealings.items plan.now.acks.items epoch place) }
+    ensures { OnOk result (events.new ≡ events.old ++ after_block_of plan.now.dealings.items plan.now.acks.items epoch place) }
 {
     match place {
-        1 => put_peers(alloc, events, &plan.dealings),
-        2 => put_peers(alloc, events, &plan.acks),
-        16 => put_peers(alloc, events, &plan.dealings[..1]),
-        39 => Ok(events.push(Event::Next {
+        1 => put_peers(events, &plan.dealings),
+        2 => put_peers(events, &plan.acks),
+        16 => put_peers(events, &plan.dealings[..1]),
+        39 => events.push(&Event::Next {
             request: 2 * epoch,
             height: Height(epoch * 64 + 40),
-        })?),
+        }),
         62 => put_request(events, epoch),
         _ => Ok(()),
     }
@@ -56,8 +55,7 @@ fn put_after(alloc: Global, events: &mut Vec<Event>, plan: &Plan, epoch: u64, pl
 
 /// Delivers the blocks at so many places of an epoch from one on, each with what follows it.
 pub(crate) fn put_events(
-    alloc: Global,
-    events: &mut Vec<Event>,
+    events: &mut Events,
     plan: &Plan,
     epoch: u64,
     from: u64,
@@ -67,13 +65,13 @@ pub(crate) fn put_events(
     requires some { 0 < vec_len plan.now.dealings }
     requires places { from ≤ to }
     requires within { to ≤ 64 }
-    ensures { OnOk result (events.new.items ≡ events.old.items ++ events_with plan.now.dealings.items plan.now.acks.items epoch from (to - from)) }
+    ensures { OnOk result (events.new ≡ events.old ++ events_with plan.now.dealings.items plan.now.acks.items epoch from (to - from)) }
 {
     for place in from..to {
-        events.push(Event::Final {
+        events.push(&Event::Final {
             block: (epoch * 64 + place) as u32,
         })?;
-        put_after(alloc, events, plan, epoch, place)?;
+        put_after(events, plan, epoch, place)?;
     }
     Ok(())
 }
@@ -107,16 +105,16 @@ fn held(alloc: Global, life: u64) -> Mem<Indexes>
 }
 
 /// A life of these events.
-pub(crate) fn life(alloc: Global, number: u64, life: u64, events: Vec<Event>) -> Mem<Life>
+pub(crate) fn life(alloc: Global, number: u64, life: u64, events: Events) -> Mem<Life>
     requires { life ≤ 5 }
-    ensures { IfOk result (λ made. made ≡ life_with number life events.items) }
+    ensures { IfOk result (λ made. made ≡ life_with number life events) }
 {
     Ok(Life {
         word: number,
         anchor: anchor(life),
         held: held(alloc, life)?,
         sync: None,
-        events: Events::new(events),
+        events,
         cut: None,
         pick: 0,
     })

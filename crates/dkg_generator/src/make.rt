@@ -10,7 +10,7 @@ use crate::life::{life, put_events};
 use crate::plan::{EPOCHS, ME, Plan, plan_of};
 use dkg_ceremony::{Blob, Epoch, Height, Map, Mem, Mode, ModeVersion, Value};
 use dkg_text::{
-    BlockLine, BlockLines, Event, Life, Lives, PlayerLine, PlayerLines, Script, ScriptConfig,
+    BlockLine, BlockLines, Events, Life, Lives, PlayerLine, PlayerLines, Script, ScriptConfig,
 };
 use dkg_types::{EpochInfo, Unit};
 use std::alloc::Global;
@@ -126,7 +126,7 @@ struct Making {
     /// The lives that have ended.
     lives: Vec<Life>,
     /// The events of the life that goes on.
-    events: Vec<Event>,
+    events: Events,
 }
 
 /// Goes on by an epoch, in which a life ends and another begins.
@@ -137,11 +137,11 @@ fn add_epoch(alloc: Global, number: u64, epoch: u64, mut making: Making) -> Mem<
 {
     let plan = plan_of(alloc, number, &making.info)?;
     put_blocks(alloc, &mut making.blocks, &plan, epoch)?;
-    put_events(alloc, &mut making.events, &plan, epoch, 0, 16)?;
+    put_events(&mut making.events, &plan, epoch, 0, 16)?;
     let mut lives = making.lives;
     lives.push(life(alloc, number, epoch, making.events)?)?;
-    let mut events = Vec::new(alloc);
-    put_events(alloc, &mut events, &plan, epoch, 16, 64)?;
+    let mut events = Events::new(alloc);
+    put_events(&mut events, &plan, epoch, 16, 64)?;
     Ok(Making {
         info: plan.info,
         blocks: making.blocks,
@@ -160,7 +160,7 @@ pub fn make_script(alloc: Global, number: u64) -> Mem<Script>
         info: genesis(alloc, number)?,
         blocks: Vec::new(alloc),
         lives: Vec::new(alloc),
-        events: Vec::new(alloc),
+        events: Events::new(alloc),
     };
     for epoch in 0..EPOCHS {
         making = add_epoch(alloc, number, epoch, making)?;

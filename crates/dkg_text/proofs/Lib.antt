@@ -5,6 +5,7 @@ pub mod EventLaws
 pub mod FieldLaws
 pub mod Guards
 pub mod Hex
+pub mod Kept
 pub mod LifeLaws
 pub mod LineLaws
 pub mod NonZeros

@@ -4,6 +4,8 @@ pub mod Carried
 pub mod FaultLines
 pub mod Fields
 pub mod Grammar
+pub mod Held
+pub mod Kept
 pub mod Laws
 pub mod Lines
 pub mod Positive

@@ -39,7 +39,7 @@ impl Asked {
     }
 
     /// Adds the request that an event names, if it names one.
-    pub(crate) fn add(&mut self, event: &Event) -> Mem<()>
+    pub(crate) fn add(&mut self, event: &Event<'_>) -> Mem<()>
         ensures { OnOk result ((request : ℕ) → has_number self.new.numbers request ≡ (asks request event.now || has_number self.old.numbers request)) }
     {
         match event {

@@ -1,15 +1,17 @@
 //! The lines of a life's events: a table of their names and fields, and what an event must meet where it stands.
-ghost use Rattle.std.specs.Prelude.{◌≡◌, ◌<◌, ◌≤◌, ◌↔◌, ◌||◌, All, IfOk, IfSome, IsTrue, List, OnOk, codes, length};
+ghost use Rattle.std.specs.Prelude.{◌≡◌, ℕ, ◌<◌, ◌≤◌, ◌↔◌, ◌||◌, ◌++◌, ◌∷◌, [], All, IfOk, IfSome, IsTrue, List, OnOk, codes, length};
 ghost use Rattle.std.specs.Str.{bytes_eq};
 ghost use Rattle.dkg_text.specs.declared.script.Event.{Event as AnEvent};
-ghost use Rattle.dkg_text.specs.Asked.{AreAsked};
+ghost use Rattle.dkg_text.specs.Asked.{AreAsked, asks, has_number};
 ghost use Rattle.dkg_text.specs.Grammar.{are_blocks as are_blocks_of, event_at, event_of as event_by_name, events_at, is_event as is_event_of, is_eventful};
 ghost use Rattle.dkg_text.specs.Lines.{Reads, ReadsIf};
 
 use crate::asked::Asked;
+use crate::events::Events;
 use crate::fields::{Fields, whole};
+use crate::held::{Ancestry, MessageBytes};
 use crate::lines::Lines;
-use crate::script::{Event, Events, Indexes};
+use crate::script::{Event, Indexes};
 use crate::stop::Stop;
 use dkg_ceremony::{Blob, Epoch, Height, Key, Mem};
 use std::alloc::Global;
@@ -27,11 +29,11 @@ macro_rules! by_name {
 
 /// The event of a line, by its name and its fields.
 #[tactic(auto, unfolding(crate::specs::Grammar::event_table))]
-fn event_of(alloc: Global, name: &[u8], fields: Fields<'_>) -> Mem<Option<Event>>
+fn event_of(alloc: Global, name: &[u8], fields: Fields<'_>) -> Mem<Option<Event<'static>>>
     ensures { IfOk result (λ made. made ≡ event_by_name name.now fields.entry) }
 {
     by_name! { alloc, name, fields;
-        b"peer": (Key, Blob) => |(from, bytes)| Event::Peer { from, bytes },
+        b"peer": (Key, Blob) => |(from, bytes)| Event::Peer { from, bytes: MessageBytes::new(bytes) },
         b"final": u32 => |block| Event::Final { block },
         b"next": (u64, Height) => |(request, height)| Event::Next { request, height },
         b"release": Height => |height| Event::Release { height },
@@ -40,14 +42,14 @@ fn event_of(alloc: Global, name: &[u8], fields: Fields<'_>) -> Mem<Option<Event>
         b"over": u64 => |request| Event::Over { request },
         b"cancel": u64 => |request| Event::Cancel { request },
         b"work": () => |()| Event::Work,
-        b"prepare": Indexes => |ancestry| Event::Prepare { ancestry },
-        b"propose": Indexes => |ancestry| Event::Propose { ancestry },
-        b"verify": Indexes => |ancestry| Event::Verify { ancestry },
+        b"prepare": Indexes => |numbers| Event::Prepare { ancestry: Ancestry::new(numbers) },
+        b"propose": Indexes => |numbers| Event::Propose { ancestry: Ancestry::new(numbers) },
+        b"verify": Indexes => |numbers| Event::Verify { ancestry: Ancestry::new(numbers) },
         b"later": (Key, Epoch) => |(from, epoch)| Event::Later { from, epoch },
         b"subscribe": () => |()| Event::Subscribe,
         b"unsubscribe": () => |()| Event::Unsubscribe,
         b"attach": () => |()| Event::Attach,
-        b"reply": (Key, Blob) => |(from, bytes)| Event::Reply { from, bytes },
+        b"reply": (Key, Blob) => |(from, bytes)| Event::Reply { from, bytes: MessageBytes::new(bytes) },
         b"retry": () => |()| Event::Retry,
     }
     Ok(None)
@@ -75,7 +77,7 @@ pub(crate) struct Around {
 }
 
 /// Whether an event may stand after others, which named these requests.
-fn is_event(around: Around, asked: &Asked, event: &Event) -> bool
+fn is_event(around: Around, asked: &Asked, event: &Event<'_>) -> bool
     ensures { (done : List AnEvent) → AreAsked done asked.now.numbers → result ≡ is_event_of around.blocks around.probe done event.now }
 {
     match event {
@@ -106,7 +108,7 @@ fn read_event_after(
     around: Around,
     asked: &Asked,
     lines: &mut Lines<'_>,
-) -> Result<Option<Event>, Stop>
+) -> Result<Option<Event<'static>>, Stop>
     ensures reads { (done : List AnEvent) → AreAsked done asked.now.numbers → ReadsIf is_eventful (event_at around.blocks around.probe done) lines.old.rest.now result lines.new.rest.now }
     ensures on { IfOk result (λ made. IfSome made (λ _. length lines.new.rest.now < length lines.old.rest.now)) }
 {
@@ -128,6 +130,15 @@ fn read_event_after(
     }
 }
 
+/// Adds an event behind the others, and the request that it names to theirs.
+fn keep(asked: &mut Asked, events: &mut Events, event: Event<'_>) -> Mem<()>
+    ensures asked { OnOk result ((request : ℕ) → has_number asked.new.numbers request ≡ (asks request event.entry || has_number asked.old.numbers request)) }
+    ensures events { OnOk result (events.new ≡ events.old ++ event.entry ∷ []) }
+{
+    asked.add(&event)?;
+    events.push(&event)
+}
+
 /// The events of a life.
 #[tactic(auto, unfolding(crate::specs::Grammar::events_at))]
 pub(crate) fn read_events(
@@ -138,11 +149,10 @@ pub(crate) fn read_events(
     ensures reads { Reads (events_at around.blocks around.probe lines.old.rest.now) result lines.new.rest.now }
     ensures on { OnOk result (length lines.new.rest.now ≤ length lines.old.rest.now) }
 {
-    let mut events = Vec::new(alloc);
+    let mut events = Events::new(alloc);
     let mut asked = Asked::new(alloc);
     'events: while let Some(event) = read_event_after(alloc, around, &asked, lines)? {
-        asked.add(&event)?;
-        events.push(event)?;
+        keep(&mut asked, &mut events, event)?;
     }
-    Ok(Events::new(events))
+    Ok(events)
 }

@@ -105,7 +105,12 @@ fn put_local(text: &mut Text, cause: &LocalCause) -> Mem<()>
             text.number(2)?;
             text.number(epoch.0)
         }
-        LocalCause::OwnDealing { epoch, kept, dealt } => put_own(text, *epoch, kept, dealt),
+        LocalCause::OwnDealing { epoch, kept, dealt } => put_own(
+            text,
+            *epoch,
+            kept.get(),
+            dealt.get(),
+        ),
         LocalCause::NoShare => text.number(4),
         LocalCause::OutcomeOmitted => text.number(5),
     }

@@ -9,8 +9,10 @@ mod block_lines;
 mod config_lines;
 mod error;
 mod event_lines;
+mod events;
 mod fault;
 mod fields;
+mod held;
 mod laws;
 mod life_lines;
 mod lines;
@@ -27,13 +29,15 @@ mod words;
 mod write;
 
 pub use error::ScriptError;
+pub use events::Events;
 pub use fields::number;
+pub use held::{Ancestry, MessageBytes};
 pub use laws::{place_is_first, read_is_written, written_is_read};
 pub use print::print_of;
 pub use read::read_script;
 pub use script::{
-    Anchor, BlockLine, BlockLines, Cut, Event, Events, Indexes, Life, Lives, PlayerLine,
-    PlayerLines, ProbeLine, Script, ScriptConfig, SyncLine,
+    Anchor, BlockLine, BlockLines, Cut, Event, Indexes, Life, Lives, PlayerLine, PlayerLines,
+    ProbeLine, Script, ScriptConfig, SyncLine,
 };
 pub use tallies::summary;
 pub use write::{event_bytes, script_text};

@@ -183,7 +183,7 @@ fn read_life(alloc: Global, known: &Known<'_>, lines: &mut Lines<'_>) -> Result<
         probe: known.config.probe.is_some(),
     };
     let events = read_events(alloc, around, lines)?;
-    let cut = read_cut(alloc, events.as_slice().len(), lines)?;
+    let cut = read_cut(alloc, events.len(), lines)?;
     let pick = lines.take(alloc, b"stop")?;
     Ok(Life {
         word,

@@ -5,6 +5,8 @@
 //! bytes that decode; numbers of blocks count the block lines from 0.
 ghost use Rattle.std.specs.Prelude.{◌≡◌};
 
+use crate::events::Events;
+use crate::held::{Ancestry, MessageBytes};
 use dkg_ceremony::{Blob, Epoch, Height, Key, Map, Mode, ModeVersion, Set};
 use dkg_types::Address;
 use std::marker::Model;
@@ -96,10 +98,6 @@ pub struct Lives(pub Vec<Life>);
 #[derive(Debug, Drop)]
 pub struct Indexes(pub Vec<u32>);
 
-/// Events in order, which contracts see as a list.
-#[derive(Debug, Drop)]
-pub struct Events(pub Vec<Event>);
-
 /// The position that a life begins at: a processed block, or no block at the height below a block.
 #[derive(Clone, Copy, Debug, PartialEq, Eq)]
 pub enum Anchor {
@@ -128,9 +126,9 @@ pub struct Cut {
 
 /// What reaches the node in one step.
 #[derive(Debug, Drop)]
-pub enum Event {
+pub enum Event<'a> {
     /// A message of the dealing channel.
-    Peer { from: Key, bytes: Blob },
+    Peer { from: Key, bytes: MessageBytes<'a> },
     /// A finalized block.
     Final { block: u32 },
     /// A request for the log to include at a height.
@@ -147,9 +145,9 @@ pub enum Event {
     /// The running verification ends.
     Work,
     /// The application's calls, each with the ancestry from the parent or the tip down.
-    Prepare { ancestry: Indexes },
-    Propose { ancestry: Indexes },
-    Verify { ancestry: Indexes },
+    Prepare { ancestry: Ancestry<'a> },
+    Propose { ancestry: Ancestry<'a> },
+    Verify { ancestry: Ancestry<'a> },
     /// Consensus traffic of a later epoch.
     Later { from: Key, epoch: Epoch },
     /// The probe's events.
@@ -157,7 +155,7 @@ pub enum Event {
     Unsubscribe,
     Attach,
     /// A message of the probe's channel.
-    Reply { from: Key, bytes: Blob },
+    Reply { from: Key, bytes: MessageBytes<'a> },
     Retry,
 }
 
@@ -246,29 +244,6 @@ impl Indexes {
     }
 
     pub fn as_slice(&self) -> &[u32]
-        ensures { result.now ≡ self.now }
-    {
-        &self.0
-    }
-}
-
-impl Model for Events {
-    ghost use Rattle.std.specs.Prelude.{List};
-    ghost use Rattle.dkg_text.specs.declared.script.Event.{Event};
-
-    ghost Value = { List Event };
-
-    ghost view = { λ l. l.0.items };
-}
-
-impl Events {
-    pub fn new(events: Vec<Event>) -> Events
-        ensures { result ≡ events.items }
-    {
-        Events(events)
-    }
-
-    pub fn as_slice(&self) -> &[Event]
         ensures { result.now ≡ self.now }
     {
         &self.0

@@ -58,9 +58,9 @@ fn a_script_is_read_and_written(rt: HostRuntime) -> Result<(), Fail> {
     let script = read_script(rt.alloc(), RESHARE.as_bytes(), false)?;
     assert_eq!(rt; script.config.me, Key(1));
     let life = script.lives.as_slice().get(0).ok_or("no life")?;
-    assert_eq!(rt; life.events.as_slice().len(), 19);
-    let second = life.events.as_slice().get(1).ok_or("no event")?;
-    let event = event_bytes(rt.alloc(), second)?;
+    assert_eq!(rt; life.events.len(), 19);
+    let second = life.events.at(1);
+    let event = event_bytes(rt.alloc(), &second)?;
     assert_eq!(rt; event.as_slice(), b"peer 3 -".as_slice());
     Ok(())
 }

@@ -6,9 +6,9 @@ ghost use Rattle.std.specs.List.{flat_map};
 ghost use Rattle.dkg_text.specs.Fields.{bytes_field, number_field};
 ghost use Rattle.dkg_text.specs.Writing.{address_fields, address_line, anchor_line, block_line, bytes_or_dash, config_text, cut_line, event_line, event_text, held_line, life_text, limits_text, mode_number, number_or_dash, numbers_fields, oneshot_line, opening_text, players_line, probe_line, provided_text, socket_fields, start_text, sync_line, text_of, text_or_none};
 
+use crate::events::Events;
 use crate::script::{
-    Anchor, BlockLine, Cut, Event, Indexes, Life, PlayerLine, ProbeLine, Script, ScriptConfig,
-    SyncLine,
+    Anchor, BlockLine, Cut, Event, Life, PlayerLine, ProbeLine, Script, ScriptConfig, SyncLine,
 };
 use crate::text::Text;
 use dkg_ceremony::{Blob, Epoch, Key, Mem, Mode, Set};
@@ -312,27 +312,27 @@ fn put_pair(text: &mut Text, name: &[u8], one: u64, other: u64) -> Mem<()>
 }
 
 /// A name, a key and bytes.
-fn put_message(text: &mut Text, name: &[u8], from: Key, bytes: &Blob) -> Mem<()>
+fn put_message(text: &mut Text, name: &[u8], from: Key, bytes: &[u8]) -> Mem<()>
     ensures { OnOk result (text.new ≡ text.old ++ (name.now ++ number_field from ++ bytes_field bytes.now)) }
 {
     text.put(name)?;
     text.number(u64::from(from.0))?;
-    text.bytes(bytes.as_slice())
+    text.bytes(bytes)
 }
 
 /// A name and numbers.
-fn put_ancestry(text: &mut Text, name: &[u8], ancestry: &Indexes) -> Mem<()>
+fn put_ancestry(text: &mut Text, name: &[u8], ancestry: &[u32]) -> Mem<()>
     ensures { OnOk result (text.new ≡ text.old ++ (name.now ++ numbers_fields ancestry.now)) }
 {
     text.put(name)?;
-    put_numbers(text, ancestry.as_slice())
+    put_numbers(text, ancestry)
 }
 
-fn put_event(text: &mut Text, event: &Event) -> Mem<()>
+fn put_event(text: &mut Text, event: &Event<'_>) -> Mem<()>
     ensures { OnOk result (text.new ≡ text.old ++ event_text event.now) }
 {
     match event {
-        Event::Peer { from, bytes } => put_message(text, b"peer", *from, bytes),
+        Event::Peer { from, bytes } => put_message(text, b"peer", *from, bytes.as_slice()),
         Event::Final { block } => put_named(text, b"final", u64::from(*block)),
         Event::Next { request, height } => put_pair(text, b"next", *request, height.0),
         Event::Release { height } => put_named(text, b"release", height.0),
@@ -341,19 +341,19 @@ fn put_event(text: &mut Text, event: &Event) -> Mem<()>
         Event::Over { request } => put_named(text, b"over", *request),
         Event::Cancel { request } => put_named(text, b"cancel", *request),
         Event::Work => text.put(b"work"),
-        Event::Prepare { ancestry } => put_ancestry(text, b"prepare", ancestry),
-        Event::Propose { ancestry } => put_ancestry(text, b"propose", ancestry),
-        Event::Verify { ancestry } => put_ancestry(text, b"verify", ancestry),
+        Event::Prepare { ancestry } => put_ancestry(text, b"prepare", ancestry.as_slice()),
+        Event::Propose { ancestry } => put_ancestry(text, b"propose", ancestry.as_slice()),
+        Event::Verify { ancestry } => put_ancestry(text, b"verify", ancestry.as_slice()),
         Event::Later { from, epoch } => put_pair(text, b"later", u64::from(from.0), epoch.0),
         Event::Subscribe => text.put(b"subscribe"),
         Event::Unsubscribe => text.put(b"unsubscribe"),
         Event::Attach => text.put(b"attach"),
-        Event::Reply { from, bytes } => put_message(text, b"reply", *from, bytes),
+        Event::Reply { from, bytes } => put_message(text, b"reply", *from, bytes.as_slice()),
         Event::Retry => text.put(b"retry"),
     }
 }
 
-fn put_event_line(text: &mut Text, event: &Event) -> Mem<()>
+fn put_event_line(text: &mut Text, event: &Event<'_>) -> Mem<()>
     ensures { OnOk result (text.new ≡ text.old ++ event_line event.now) }
 {
     put_event(text, event)?;
@@ -361,7 +361,7 @@ fn put_event_line(text: &mut Text, event: &Event) -> Mem<()>
 }
 
 /// The line of an event, without its line feed.
-pub fn event_bytes(alloc: Global, event: &Event) -> Mem<Vec<u8>>
+pub fn event_bytes(alloc: Global, event: &Event<'_>) -> Mem<Vec<u8>>
     ensures { IfOk result (λ text. text.items ≡ event_text event.now) }
 {
     let mut text = Text::new(alloc);
@@ -369,11 +369,11 @@ pub fn event_bytes(alloc: Global, event: &Event) -> Mem<Vec<u8>>
     Ok(text.into_bytes())
 }
 
-fn put_events(text: &mut Text, events: &[Event]) -> Mem<()>
+fn put_events(text: &mut Text, events: &Events) -> Mem<()>
     ensures { OnOk result (text.new ≡ text.old ++ flat_map event_line events.now) }
 {
-    for event in events {
-        put_event_line(text, event)?;
+    for i in 0..events.len() {
+        put_event_line(text, &events.at(i))?;
     }
     Ok(())
 }
@@ -398,7 +398,7 @@ fn put_life(text: &mut Text, life: &Life) -> Mem<()>
     put_anchor(text, life.anchor)?;
     put_held(text, life.held.as_slice())?;
     put_sync(text, &life.sync)?;
-    put_events(text, life.events.as_slice())?;
+    put_events(text, &life.events)?;
     put_cut(text, life.cut)?;
     put_one(text, b"stop", life.pick)
 }

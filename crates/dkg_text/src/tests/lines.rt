@@ -5,8 +5,8 @@ use dkg_ceremony::{
     Ack, Blob, Element, Epoch, Height, Key, Mark, Name, Phase, Private, Public, RoundError, Share,
 };
 use dkg_types::{
-    AnswerLine, BlockedWhy, ConfigCause, Entry, Fault, LocalCause, Part, ParticipantsCause,
-    ParticipantsError, PreparedLine, Restored, RestoredList, Role, Verdict, Why,
+    AnswerLine, BlockedWhy, BoxedPublic, ConfigCause, Entry, Fault, LocalCause, Part,
+    ParticipantsCause, ParticipantsError, PreparedLine, Restored, RestoredList, Role, Verdict, Why,
 };
 use std::alloc::Global;
 use std::process::Abort;
@@ -365,8 +365,8 @@ fn faults_of_local_state_have_lines(rt: HostRuntime) -> Result<(), Fail> {
     shows_fault(&rt, Fault::LocalState(cause), "fault 17 2 3\n")?;
     let cause = LocalCause::OwnDealing {
         epoch,
-        kept: public(rt.alloc())?,
-        dealt: constant(rt.alloc())?,
+        kept: BoxedPublic::of(rt.alloc(), public(rt.alloc())?)?,
+        dealt: BoxedPublic::of(rt.alloc(), constant(rt.alloc())?)?,
     };
     let line = "fault 17 3 3 03000f00070001 010005\n";
     shows_fault(&rt, Fault::LocalState(cause), line)?;

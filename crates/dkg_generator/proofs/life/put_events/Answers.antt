@@ -9,9 +9,9 @@ loop-place-preserved c =
     let from = c.args.from in
     let place = c.loop-place.place in
     let f = events_at plan.dealings.items plan.acks.items c.args.epoch in
-    let more = flat_more_after f c.args.events.now.items _ _ from (place - from) place (omega arith) refl in
+    let more = flat_more_after f c.args.events.now _ _ from (place - from) place (omega arith) refl in
     let size : (place + 1) - from ≡ (place - from) + 1 = omega arith in
-    rw size (cc (more, c.loop-place.invariant, c.in_ok-push.ensures.items, c.in_ok-put_after.ensures))
+    rw size (cc (more, c.loop-place.invariant, c.in_ok-push.ensures.added, c.in_ok-put_after.ensures))
 
 pub returns : goal.returns
 unfolding events_with

@@ -4,4 +4,4 @@ use Rattle.dkg_generator.specs.Made.{events_at}
 use Rattle.dkg_generator.proofs.life.put_events.Given as goal
 
 abbrev pub invariant-loop-place : goal.invariant-loop-place
-invariant-loop-place l = l.events.items ≡ l.initial.events.items ++ flat_map (events_at l.plan.dealings.items l.plan.acks.items l.epoch) (range_with_len l.from (l.place - l.from))
+invariant-loop-place l = l.events ≡ l.initial.events ++ flat_map (events_at l.plan.dealings.items l.plan.acks.items l.epoch) (range_with_len l.from (l.place - l.from))

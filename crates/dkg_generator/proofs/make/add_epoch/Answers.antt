@@ -39,14 +39,14 @@ returns c =
     let life =
     c.in_ok-life.ensures
     ∙ ap (life_with number epoch) c.in_ok-put_events.ensures
-    ∙ life_is number epoch making.events.items begun c.requires.epoch stands.events (plan_events number epoch 0 16 plan is) in
+    ∙ life_is number epoch making.events begun c.requires.epoch stands.events (plan_events number epoch 0 16 plan is) in
     record {
       info = is.info ∙ info_further number epoch;
       blocks = c.in_ok-put_blocks.ensures ∙ blocks_further number epoch plan making.blocks.items is stands.blocks;
       lives = c.in_ok-push.ensures.items ∙ lives_further number epoch making.lives.items c.in_ok-life.field-0 stands.lives life;
       events =
           c.in_ok-put_events-2.ensures
-          ∙ ap (λ (events : List Event). events ++ rest) c.new-events.ensures.items
+          ∙ ap (λ (events : List Event). events ++ rest) c.new-events.ensures
           ∙ plan_events number epoch 16 48 plan is
           ∙ rest_further number epoch;
     }

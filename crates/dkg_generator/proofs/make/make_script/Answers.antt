@@ -5,7 +5,7 @@ use Rattle.dkg_generator.proofs.make.make_script.Goals as goal
 
 pub loop-epoch-init : goal.loop-epoch-init
 unfolding info_at
-loop-epoch-init c = record { info = c.in_ok-genesis.ensures; blocks = c.new.ensures.items; lives = c.new-2.ensures.items; events = c.new-3.ensures.items }
+loop-epoch-init c = record { info = c.in_ok-genesis.ensures; blocks = c.new.ensures.items; lives = c.new-2.ensures.items; events = c.new-3.ensures }
 
 pub returns : goal.returns
 returns c =

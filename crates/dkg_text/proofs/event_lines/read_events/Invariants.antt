@@ -7,8 +7,8 @@ use Rattle.dkg_text.proofs.event_lines.read_events.Given as goal
 
 abbrev pub invariant-events : goal.invariant-events
 invariant-events l = record {
-  at : IsLeft (is_eventful) (event_at l.around.blocks l.around.probe) l.events.items l.lines.rest.now (many_at (is_eventful) (event_at l.around.blocks l.around.probe) l.initial.lines.rest.now);
-  asked : AreAsked l.events.items l.asked.numbers;
+  at : IsLeft (is_eventful) (event_at l.around.blocks l.around.probe) l.events l.lines.rest.now (many_at (is_eventful) (event_at l.around.blocks l.around.probe) l.initial.lines.rest.now);
+  asked : AreAsked l.events l.asked.numbers;
   on : length l.lines.rest.now ≤ length l.initial.lines.rest.now;
 }
 
