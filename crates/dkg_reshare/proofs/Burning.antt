@@ -2,8 +2,7 @@
 use Rattle.std.proofs.Common.{◌≡◌, arith, List, [], ◌∷◌, ◌++◌, Option, Some, None, Result, refl, sym, ◌∙◌, ap, subst}
 use Rattle.std.specs.Prelude.{IfErr, IsSome, OnErr, OnOk}
 use Rattle.dkg_journal.specs.Burn.{Burn}
-use Rattle.dkg_journal.specs.DeviceCall.{DeviceCall}
-use Rattle.dkg_journal.specs.Fuse.{RanAll, Reached, burned, spent_once}
+use Rattle.dkg_journal.specs.Fuse.{Reached}
 use Rattle.dkg_journal.specs.Names.{Files}
 use Rattle.dkg_journal.proofs.Steps.{not_reached}
 use Rattle.dkg_types.specs.declared.entry.Entry.{Entry as Line}
@@ -17,6 +16,7 @@ use Rattle.dkg_store.specs.Secrets.{Secrets}
 use Rattle.dkg_store.specs.declared.call.StoreError.{StoreError}
 use Rattle.dkg_store.specs.declared.call.StoreError.TheVariants.{Disk, Secrets as SecretsFailed, Corrupt, LocalState, StateSyncEpochs, StateSyncMaterial, Cut, NoMemory}
 use Rattle.dkg_store.proofs.Acts.{made_next, made_none, made_nothing}
+use Rattle.dkg_store.specs.Counts.{CountsOn}
 use Rattle.dkg_core.specs.Courses.{Course, on_devices}
 use Rattle.dkg_reshare.specs.declared.stop.Stop.{Stop}
 use Rattle.dkg_reshare.specs.declared.stop.Stop.TheVariants as stop
@@ -29,24 +29,9 @@ use Rattle.dkg_reshare.proofs.Under.{ends_early, made_error, made_under, renamed
 
 -- THE FUSE
 
-burned_call : {O : Type 0} (calls : List O) (f : Burn) → (burned calls f).call ≡ f.call
-burned_call [] f = refl
-burned_call (one ∷ calls) f = burned_call calls (spent_once f)
-
-burned_pick : {O : Type 0} (calls : List O) (f : Burn) → (burned calls f).pick ≡ f.pick
-burned_pick [] f = refl
-burned_pick (one ∷ calls) f = burned_pick calls (spent_once f)
-
-module _ {D O : Type 0} {made : D → D → List (DeviceCall O) → Type 0} {a b : D} {f g : Burn} {calls : List O} (ran : RanAll made a b f g calls) where
-  pub ran_call : g.call ≡ f.call
-  ran_call = ap (λ (x : Burn). x.call) ran.fuse ∙ burned_call calls f
-
-  pub ran_pick : g.pick ≡ f.pick
-  ran_pick = ap (λ (x : Burn). x.pick) ran.fuse ∙ burned_pick calls f
-
-  -- a store's call, by its calls
-  pub burns_ran : {F S : Type 0} (how : Ended F S) → UnlessBroken how (Reached f g → ⊥) → Burns how f g
-  burns_ran how uncut = record { call = ran_call; pick = ran_pick; uncut = uncut }
+-- a call of the store
+pub burns_counted : {F S : Type 0} (how : Ended F S) {f g : Burn} → CountsOn f g → UnlessBroken how (Reached f g → ⊥) → Burns how f g
+burns_counted how counts uncut = record { call = counts.call; pick = counts.pick; uncut = uncut }
 
 -- where an end comes from outside
 pub unless_outside : (S : Type 0) (its : Stop) (P : Type 0) → IsOutside its → UnlessBroken (by_stop {S = S} its) P

@@ -3,7 +3,8 @@ use Rattle.std.proofs.Common.{◌≡◌, ◌⊎◌, inl, inr, ℕ, ◌<◌, ◌�
 use Rattle.std.specs.Prelude.{IfErr, IsTrue}
 use Rattle.dkg_ceremony.specs.declared.round.Round.{Round}
 use Rattle.dkg_ceremony.specs.declared.round.RoundError.{RoundError}
-use Rattle.dkg_store.specs.Errors.{IsOfDevices, IsOfPlaying, IsOfPruning, IsOfSecrets}
+use Rattle.dkg_store.specs.Called.{IsDue}
+use Rattle.dkg_store.specs.Errors.{IsOfPlaying}
 use Rattle.dkg_store.specs.declared.call.StoreError.{StoreError}
 use Rattle.dkg_store.specs.declared.call.StoreError.TheVariants.{Disk, Secrets as SecretsFailed, Corrupt, LocalState, StateSyncEpochs, StateSyncMaterial, Cut as StoreCut, NoMemory}
 use Rattle.std.proofs.lemmas.Bool.Decides.{nat_tests}
@@ -27,7 +28,7 @@ pub rose_around : (a b c d : ℕ) → a ≤ b → b ≤ c → c ≤ d → Rose b
 rose_around a b c d ab bc cd rose = rises (2 ^ 64) a b c d ab bc cd rose
 
 module _ (tells : Bool) {disk secrets reached disk_around secrets_around reached_around : Type 0}
-    (of_disk : disk → disk_around) (of_secrets : secrets → secrets_around) (of_reached : IsTrue tells → reached → reached_around)
+    (of_disk : disk → disk_around) (of_secrets : secrets → secrets_around) (of_reached : reached → reached_around)
   where
     pub caused_around : (stop : Stop) → IsCaused stop disk secrets reached → IsCausedBy tells stop disk_around secrets_around reached_around
     caused_around (Faulted fault.NoMemory) is = tt
@@ -49,7 +50,7 @@ module _ (tells : Bool) {disk secrets reached disk_around secrets_around reached
     caused_around (Faulted (fault.LocalState x)) is = tt
     caused_around (Faulted fault.FinalBlockMissing) is = tt
     caused_around (Faulted fault.FloorBlockMissing) is = tt
-    caused_around Cut is = λ told. of_reached told is
+    caused_around Cut is = of_reached is
     caused_around Failed is = absurd is
 
     pub caused_by_around : (stop : Stop) → IsCausedBy tells stop disk secrets reached → IsCausedBy tells stop disk_around secrets_around reached_around
@@ -72,13 +73,13 @@ module _ (tells : Bool) {disk secrets reached disk_around secrets_around reached
     caused_by_around (Faulted (fault.LocalState x)) is = tt
     caused_by_around (Faulted fault.FinalBlockMissing) is = tt
     caused_by_around (Faulted fault.FloorBlockMissing) is = tt
-    caused_by_around Cut is = λ told. of_reached told (is told)
+    caused_by_around Cut is = of_reached is
     caused_by_around Failed is = absurd is
 
 -- Such a result blames none of them.
 pub of_result : {T : Type 0} (tells : Bool) (disk secrets reached : Type 0) (r : Result T Stop) → IfErr r (λ stop. IsCaused stop ⊥ ⊥ ⊥) → IfErr r (λ stop. IsCausedBy tells stop disk secrets reached)
 of_result tells disk secrets reached (Ok x) is = tt
-of_result tells disk secrets reached (Err stop) is = caused_around tells (λ x. absurd x) (λ x. absurd x) (λ told x. absurd x) stop is
+of_result tells disk secrets reached (Err stop) is = caused_around tells (λ x. absurd x) (λ x. absurd x) (λ x. absurd x) stop is
 
 wants : (stop : Stop) → stop ≡ Faulted fault.NoMemory → IsCaused stop ⊥ ⊥ ⊥
 wants stop is = let R : Stop → Type 0 = λ s. IsCaused s ⊥ ⊥ ⊥ in subst R (sym is) tt
@@ -104,38 +105,13 @@ of_playing StoreCut is = absurd is
 of_playing NoMemory is = tt
 
 -- WHAT A STORE'S ERROR BLAMES, and that it comes from outside
-
-module _ {T secrets reached : Type 0} where
-  pub of_secrets_alone : (e : StoreError) → IsOfSecrets e → (◌≡◌ {A = Result T StoreError} (Err e) (Err SecretsFailed) → secrets) → (◌≡◌ {A = Result T StoreError} (Err e) (Err StoreCut) → reached)
-      → IsOutside (stop_of e) × IsCaused (stop_of e) ⊥ secrets reached
-  of_secrets_alone Disk is rose cut = absurd is
-  of_secrets_alone SecretsFailed is rose cut = (refl, rose refl)
-  of_secrets_alone (Corrupt name place) is rose cut = absurd is
-  of_secrets_alone (LocalState cause) is rose cut = absurd is
-  of_secrets_alone (StateSyncEpochs info floor) is rose cut = absurd is
-  of_secrets_alone StateSyncMaterial is rose cut = absurd is
-  of_secrets_alone StoreCut is rose cut = (tt, cut refl)
-  of_secrets_alone NoMemory is rose cut = (refl, tt)
-
-module _ {disk secrets reached : Type 0} where
-  pub of_both : (e : StoreError) → IsOfDevices e → (e ≡ Disk → disk) → (e ≡ SecretsFailed → secrets) → (e ≡ StoreCut → reached) → IsCaused (stop_of e) disk secrets reached
-  of_both Disk is rose fell cut = rose refl
-  of_both SecretsFailed is rose fell cut = fell refl
-  of_both (Corrupt name place) is rose fell cut = absurd is
-  of_both (LocalState cause) is rose fell cut = absurd is
-  of_both (StateSyncEpochs info floor) is rose fell cut = absurd is
-  of_both StateSyncMaterial is rose fell cut = absurd is
-  of_both StoreCut is rose fell cut = cut refl
-  of_both NoMemory is rose fell cut = tt
-
-  pub of_pruning : {T : Type 0} (tells : Bool) (e : StoreError) → IsOfPruning e → (IsTrue tells → IsOfDevices e) → (◌≡◌ {A = Result T StoreError} (Err e) (Err Disk) → disk)
-      → (◌≡◌ {A = Result T StoreError} (Err e) (Err SecretsFailed) → secrets) → (◌≡◌ {A = Result T StoreError} (Err e) (Err StoreCut) → reached)
-      → IsOutside (stop_of e) × IsCausedBy tells (stop_of e) disk secrets reached
-  of_pruning tells Disk is devices rose fell cut = (refl, rose refl)
-  of_pruning tells SecretsFailed is devices rose fell cut = (refl, fell refl)
-  of_pruning tells (Corrupt name place) is devices rose fell cut = (refl, λ told. devices told)
-  of_pruning tells (LocalState cause) is devices rose fell cut = absurd is
-  of_pruning tells (StateSyncEpochs info floor) is devices rose fell cut = absurd is
-  of_pruning tells StateSyncMaterial is devices rose fell cut = absurd is
-  of_pruning tells StoreCut is devices rose fell cut = (tt, λ told. cut refl)
-  of_pruning tells NoMemory is devices rose fell cut = (refl, tt)
+pub of_due : {disk secrets cut disk_rose secrets_rose reached : Type 0} (want : Type 0) (e : StoreError) → IsDue e disk secrets cut want → (disk → disk_rose) → (secrets → secrets_rose) → (cut → reached)
+    → IsOutside (stop_of e) × IsCaused (stop_of e) disk_rose secrets_rose reached
+of_due want Disk due d s c = (refl, d due)
+of_due want SecretsFailed due d s c = (refl, s due)
+of_due want (Corrupt name place) due d s c = absurd due
+of_due want (LocalState cause) due d s c = absurd due
+of_due want (StateSyncEpochs info floor) due d s c = absurd due
+of_due want StateSyncMaterial due d s c = absurd due
+of_due want StoreCut due d s c = (tt, c due)
+of_due want NoMemory due d s c = (refl, tt)

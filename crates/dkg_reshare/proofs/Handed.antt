@@ -13,6 +13,13 @@ use Rattle.dkg_store.specs.Calls.{answering}
 use Rattle.dkg_store.specs.Pairs.{Pairs}
 use Rattle.dkg_store.specs.Player.{Acknowledges, IsPlayerOf}
 use Rattle.dkg_store.proofs.Map.{keys_total, exact_keys, get_here}
+use Rattle.dkg_journal.specs.Names.{Files}
+use Rattle.dkg_journal.specs.declared.journal.Journal.{Journal}
+use Rattle.dkg_store.specs.declared.player.Player.{Player}
+use Rattle.dkg_store.specs.declared.store.Store.{Store}
+use Rattle.dkg_reshare.specs.Heard.{pairs_after}
+use Rattle.dkg_reshare.specs.LiveOf.{SitsAt, SitsIn}
+use Rattle.dkg_reshare.specs.Moved.{IsFirm}
 use Rattle.dkg_reshare.specs.Ends.{fault_of}
 use Rattle.dkg_core.specs.Said.{Said}
 
@@ -63,3 +70,40 @@ pub plays_at : (ack_of : ℕ → Round → ℕ → List ℕ → List ℕ) (me it
     → IsPlayerOf ack_of me round acks pairs number → IsPlayerOf ack_of its round acks pairs epoch
 plays_at ack_of me its epoch number round acks pairs mine same is =
     subst (λ (k : ℕ). IsPlayerOf ack_of k round acks pairs epoch) (sym mine) (subst (λ (n : ℕ). IsPlayerOf ack_of me round acks pairs n) (sym same) is)
+
+-- WHAT IT LEAVES IN MEMORY
+
+pub pairs_kept : (known : Option (List ℕ × ℕ)) (check : Result (Unit {0}) DealingError) (key : ℕ × ℕ) (pair : List ℕ × ℕ) (pairs new : Pairs) → new ≡ (if is_some known then pairs else insert pairs key pair)
+    → (known ≡ None → check ≡ Ok tt) → new ≡ pairs_after known check key pair pairs
+pairs_kept (Some kept) check key pair pairs new is passed = is
+pairs_kept None check key pair pairs new is passed = is ∙ ap (λ (c : Result (Unit {0}) DealingError). pairs_after None c key pair pairs) (sym (passed refl))
+
+pub pairs_refused : (known : Option (List ℕ × ℕ)) (check : Result (Unit {0}) DealingError) (key : ℕ × ℕ) (pair : List ℕ × ℕ) (pairs new : Pairs) (e : DealingError) → new ≡ pairs → known ≡ None → check ≡ Err e
+    → new ≡ pairs_after known check key pair pairs
+pairs_refused known check key pair pairs new e is none refused =
+    is
+    ∙ ap (λ (c : Result (Unit {0}) DealingError). pairs_after None c key pair pairs) (sym refused)
+    ∙ ap (λ (o : Option (List ℕ × ℕ)). pairs_after o check key pair pairs) (sym none)
+
+-- A player sits in the round of this epoch, ..
+pub plays_there : {Dir : Type 0} (ack_of : ℕ → Round → ℕ → List ℕ → List ℕ) (me epoch : ℕ) (store : Store Dir) (player : Player) → SitsAt ack_of me epoch store player
+    → IsPlayerOf ack_of player.me player.round player.acks store.dealings epoch
+plays_there ack_of me epoch store player at = plays_at ack_of me player.me epoch player.round.number player.round player.acks store.dealings at.sits.me_is at.number at.sits.kept
+
+-- .. and keeps its seat.
+module _ {Dir : Type 0} (ack_of : ℕ → Round → ℕ → List ℕ → List ℕ) (me epoch : ℕ) (old new : Store Dir) (player now : Player) (at : SitsAt ack_of me epoch old player) where
+  pub seat_kept : now.me ≡ player.me → now.round ≡ player.round → IsPlayerOf ack_of now.me now.round now.acks new.dealings epoch → SitsIn ack_of me new player.round now
+  seat_kept same_me same_round kept = record {
+    me_is = same_me ∙ at.sits.me_is;
+    round_is = same_round;
+    plays = at.sits.plays;
+    kept =
+        subst (λ (n : ℕ). IsPlayerOf ack_of me player.round now.acks new.dealings n) at.number
+        (subst (λ (r : Round). IsPlayerOf ack_of me r now.acks new.dealings epoch) same_round
+        (subst (λ (k : ℕ). IsPlayerOf ack_of k now.round now.acks new.dealings epoch) (same_me ∙ at.sits.me_is) kept));
+  }
+
+-- a journal that is as it was, on a disk that is
+pub firm_same : {D : Type 0} (files : D → Files) (image : D → Files → Type 0) (was now : Journal) (a b : D) → now ≡ was → b ≡ a → IsFirm was (files a) (image a) → IsFirm now (files b) (image b)
+firm_same {D} files image was now a b same_journal same_disk firm =
+    subst (λ (j : Journal). IsFirm j (files b) (image b)) (sym same_journal) (subst (λ (d : D). IsFirm was (files d) (image d)) (sym same_disk) firm)

@@ -3,10 +3,8 @@ use Rattle.std.proofs.Common.{◌≡◌, ℕ, ◌≤◌, ◌+◌, ◌^◌, Bool,
 use Rattle.std.specs.Prelude.{IsSome, IsTrue, if◌then◌else◌}
 use Rattle.std.specs.FinMap.{FinMap, get, get-retain_keys, retain_keys, same_map}
 use Rattle.std.proofs.lemmas.Bool.Decides.{nat_tests}
-use Rattle.dkg_journal.specs.Burn.{Burn}
 use Rattle.dkg_journal.specs.DeviceCall.{DeviceCall}
 use Rattle.dkg_journal.specs.Disk.{Lands}
-use Rattle.dkg_journal.specs.Fuse.{Reached, burned, counted, spent_once}
 use Rattle.dkg_journal.specs.Names.{Files}
 use Rattle.dkg_journal.specs.Records.{entries}
 use Rattle.dkg_journal.specs.declared.disk.Op.{Op}
@@ -19,6 +17,7 @@ use Rattle.dkg_store.specs.Secrets.{Secrets}
 use Rattle.dkg_store.specs.declared.devices.Devices.{Devices}
 use Rattle.dkg_store.specs.declared.secrets.SecretOp.{SecretOp}
 use Rattle.dkg_store.proofs.Both.{both_more}
+use Rattle.dkg_store.proofs.Counts.{counts_none, counts_then}
 use Rattle.dkg_store.proofs.Halves.{recovered_at}
 use Rattle.dkg_store.proofs.Map.{exact_keys, keys_total}
 use Rattle.dkg_reshare.specs.Moved.{GivesFrom, Moved, StaysAbove, StaysFrom, StaysGiven, StaysSound, StaysWhole}
@@ -67,22 +66,6 @@ retained_again {V} m min least low = same_map keys_total exact_keys _ _ (λ q.
     ∙ ap (λ (o : Option V). cond (nat_le min q.0) o None) (got m least q)
     ∙ twice q.0 min least (get m q) low
     ∙ sym (got m min q))
-
--- THE FUSE
-
-counted_later : (n : ℕ) → n ≤ counted n
-counted_later n = by_order (nat_lt (n + 1) (2 ^ 64))
-  where
-    by_order : (b : Bool) → n ≤ (if b then n + 1 else n)
-    by_order true = omega arith
-    by_order false = omega arith
-
-burned_later : {O : Type 0} (calls : List O) (f : Burn) → f.spent ≤ (burned calls f).spent
-burned_later [] f = omega arith
-burned_later (one ∷ calls) f =
-    let first : f.spent ≤ counted f.spent = counted_later f.spent in
-    let more : counted f.spent ≤ (burned calls (spent_once f)).spent = burned_later calls (spent_once f) in
-    omega (arith, first, more)
 
 -- ONE CALL BEHIND ANOTHER
 
@@ -170,6 +153,7 @@ module _ {D X : Type 0} (tells : Bool) (disk : D → D → List (DeviceCall Op) 
       → (old mid new : Devices D X) → Moved tells disk secrets disk_faults secret_faults old mid → Moved tells disk secrets disk_faults secret_faults mid new
       → Moved tells disk secrets disk_faults secret_faults old new
   moved_then more_disk more_secrets old mid new first second = record {
+    counts = counts_then _ _ _ first.counts second.counts;
     ran = λ told.
         let a = first.ran told in
         let b = second.ran told in
@@ -183,18 +167,10 @@ module _ {D X : Type 0} (tells : Bool) (disk : D → D → List (DeviceCall Op) 
   -- no call was made
   pub moved_none : ((a : D) → disk a a []) → ((a : X) → secrets a a []) → (devices : Devices D X) → Moved tells disk secrets disk_faults secret_faults devices devices
   moved_none no_disk no_secrets devices = record {
+    counts = counts_none devices.fuse;
     ran = λ told. ([], record { each = record { on_the_disk = no_disk devices.disk.now; on_the_secrets = no_secrets devices.secrets.now }; fuse = refl });
     same_disk = refl;
     same_secrets = refl;
     later_disk = omega arith;
     later_secrets = omega arith;
   }
-
-  -- What was cut in a call is what was cut of all calls up to it.
-  pub reached_behind : (old mid : Devices D X) (now : Burn) → Moved tells disk secrets disk_faults secret_faults old mid → IsTrue tells → Reached mid.fuse now → Reached old.fuse now
-  reached_behind old mid now moved told reached =
-      let ran = moved.ran told in
-      let later : old.fuse.spent ≤ (burned ran.0 old.fuse).spent = burned_later ran.0 old.fuse in
-      let same : mid.fuse.spent ≡ (burned ran.0 old.fuse).spent = ap (λ (f : Burn). f.spent) ran.1.fuse in
-      let not_yet = reached.not_yet in
-      record { not_yet = omega (arith, later, same, not_yet); by_now = reached.by_now }

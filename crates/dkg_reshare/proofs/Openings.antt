@@ -6,38 +6,35 @@ use Rattle.std.specs.FinMap.{get, get-entries}
 use Rattle.dkg_values.specs.declared.name.Name.{Name}
 use Rattle.dkg_fence.specs.Readiness.{Readiness}
 use Rattle.dkg_journal.specs.Burn.{Burn}
-use Rattle.dkg_journal.specs.DeviceCall.{DeviceCall}
-use Rattle.dkg_journal.specs.Fuse.{Ran, RanAll, Reached}
+use Rattle.dkg_journal.specs.Fuse.{Reached}
 use Rattle.dkg_journal.specs.Gated.{gated, gated_behind}
 use Rattle.dkg_journal.specs.Names.{Files}
 use Rattle.dkg_journal.specs.Opening.{broken}
 use Rattle.dkg_journal.specs.Records.{Entry, entries}
 use Rattle.dkg_journal.specs.Views.{views}
-use Rattle.dkg_journal.specs.declared.disk.Op.{Op}
 use Rattle.dkg_journal.specs.declared.opening.JournalEntry.{JournalEntry}
 use Rattle.dkg_types.specs.declared.entry.Entry.{Entry as Line}
 use Rattle.dkg_types.specs.declared.entry.Entry.TheVariants.{Opened}
 use Rattle.dkg_types.specs.declared.fault.Fault.{Fault}
 use Rattle.dkg_types.specs.declared.fault.Fault.TheVariants as fault
 use Rattle.dkg_store.specs.Acts as acts_of
-use Rattle.dkg_store.specs.Acts.{Acts, Ended, Held, MadeAt, Moment, OnDisk, Runs, Stands, World, after, broken as broken_by, by_want, held_in, stopped, went}
+use Rattle.dkg_store.specs.Acts.{Acts, Ended, Held, MadeAt, Moment, OnDisk, Runs, Stands, World, after, broken as broken_by, held_in, stopped, went}
 use Rattle.dkg_store.specs.Calls as calls_of
 use Rattle.dkg_store.specs.Calls.{by_error}
 use Rattle.dkg_store.specs.Noted.{Notes}
 use Rattle.dkg_store.specs.declared.recorded_log.RecordedLog.{RecordedLog}
-use Rattle.dkg_store.specs.Both.{Call, MadeBoth, on_disk}
+use Rattle.dkg_store.specs.Called.{IsDueWith}
+use Rattle.dkg_store.specs.Counts.{CountsOn}
 use Rattle.dkg_store.specs.Corrupt.{AreEvents, HasNoEvent, IsCorruptAt}
-use Rattle.dkg_store.specs.Errors.{IsOfDevices, IsOfOpening, IsOfPruning}
+use Rattle.dkg_store.specs.Errors.{IsOfDevices, IsOfPruning}
 use Rattle.dkg_store.specs.Events.{no_event_at}
 use Rattle.dkg_store.specs.Pairs.{IsWhole, Pairs, recovered}
 use Rattle.dkg_store.specs.Recorded.{Pair, restored_list, restored_of}
 use Rattle.dkg_store.specs.Secrets.{Secrets}
 use Rattle.dkg_store.specs.declared.call.StoreError.{StoreError}
 use Rattle.dkg_store.specs.declared.call.StoreError.TheVariants.{Disk, Secrets as SecretsFailed, Corrupt, LocalState, StateSyncEpochs, StateSyncMaterial, Cut as StoreCut, NoMemory}
-use Rattle.dkg_store.specs.declared.secrets.SecretOp.{SecretOp}
 use Rattle.dkg_store.specs.declared.store.Store.{Store}
-use Rattle.dkg_store.proofs.Both.{burned-map, disk_calls-map, secret_calls-map}
-use Rattle.dkg_store.proofs.OpeningActs.{no_other, no_place, not_corrupt}
+use Rattle.dkg_store.proofs.OpeningActs.{no_other, no_place}
 use Rattle.dkg_journal.specs.Operations.{Bars, Opens}
 use Rattle.dkg_core.specs.Agreeing.{AreAgreed}
 use Rattle.dkg_core.specs.Core.{opening}
@@ -59,12 +56,12 @@ use Rattle.dkg_types.specs.declared.scheme.SchemeInfo.{SchemeInfo}
 use Rattle.dkg_reshare.specs.Ends.{IsCausedBy, by_stop, ends_in, stop_of}
 use Rattle.dkg_reshare.specs.Given.{AreGivenFrom, HasRead, IsLent, reading}
 use Rattle.dkg_reshare.specs.LiveOf.{Beside, EndsBeside, live_of, no_fence, nothing_beside, records_of}
-use Rattle.dkg_reshare.specs.Made.{Burns, MakesAt, Tells, UnlessBroken}
+use Rattle.dkg_reshare.specs.Made.{MakesAt, Tells, UnlessBroken}
 use Rattle.dkg_reshare.specs.Moved.{StaysFrom}
-use Rattle.dkg_reshare.specs.Opened.{IsInGrammar, opens_store, startup_of}
+use Rattle.dkg_reshare.specs.Opened.{IsInGrammar, OpensReadable, opens_store, startup_of}
 use Rattle.dkg_reshare.specs.Today.{IsOpeningOfToday, seen_today}
 use Rattle.dkg_reshare.proofs.Beginning.{begun_at, begun_live, makes_as, opening_as, recorded, sets_up_over, tells_as}
-use Rattle.dkg_reshare.proofs.Burning.{burns_ran, by_stop_alike, line_makes, makes_early, makes_error, makes_next, makes_under, outside_of_pruning, unless_outside, unless_so}
+use Rattle.dkg_reshare.proofs.Burning.{burns_counted, by_stop_alike, line_makes, makes_early, makes_error, makes_next, makes_under, outside_of_pruning, unless_outside, unless_so}
 use Rattle.dkg_reshare.proofs.Chained.{early_makes, early_told, then_makes, then_told}
 use Rattle.dkg_reshare.proofs.Giving.{given_above, given_on}
 use Rattle.dkg_reshare.proofs.Said.{nothing_held, said_none}
@@ -93,37 +90,38 @@ uncorrupt limit files name place grammar at = by_cause at.so
         let same : views other.1.read ≡ entries files = sym (bare_views other.1.read) ∙ ap (map bare) other.1.are ∙ bare_behind 0 0 (entries files) in
         no_place (no_event_at limit other.1.read) (name, place) other.1.first (no_other limit other.1.read (subst (AreEvents limit) (sym same) grammar.events))
 
+-- Where it was, so is its opening, however that ended.
+pub was_readable : {T Readable : Type 0} → Readable → (r : Result T Stop) {out now : List Line} {image next : Files → Type 0} {s t : Secrets} → OpensReadable Readable r out now image next s t
+was_readable its (Ok x) = record { ok = its; untold = λ no. absurd (no its); shut = λ no. absurd (no its) }
+was_readable its (Err stop) = record { ok = tt; untold = λ no. absurd (no its); shut = λ no. absurd (no its) }
+
 -- so its opening ends by a device, a cut or want of memory
-pub opens_by_devices : (limit : ℕ) (files : Files) → IsInGrammar limit files → (e : StoreError) → IsOfOpening e → ((name : Name) (place : ℕ) → e ≡ Corrupt name place → IsCorruptAt limit files name place) → IsOfDevices e
-opens_by_devices limit files grammar e kind corrupt = not_corrupt e kind (λ name place is. uncorrupt limit files name place grammar (corrupt name place is))
+pub opens_by_devices : (limit : ℕ) (files : Files) → IsInGrammar limit files → (record_at : Name → ℕ → Type 0) (disk secrets cut want : Type 0) (e : StoreError) → IsDueWith record_at e disk secrets cut want
+    → ((name : Name) (place : ℕ) → record_at name place → IsCorruptAt limit files name place) → IsOfDevices e
+opens_by_devices limit files grammar record_at disk secrets cut want Disk due corrupt = tt
+opens_by_devices limit files grammar record_at disk secrets cut want SecretsFailed due corrupt = tt
+opens_by_devices limit files grammar record_at disk secrets cut want (Corrupt name place) due corrupt = absurd (uncorrupt limit files name place grammar (corrupt name place due))
+opens_by_devices limit files grammar record_at disk secrets cut want (LocalState cause) due corrupt = absurd due
+opens_by_devices limit files grammar record_at disk secrets cut want (StateSyncEpochs info floor) due corrupt = absurd due
+opens_by_devices limit files grammar record_at disk secrets cut want StateSyncMaterial due corrupt = absurd due
+opens_by_devices limit files grammar record_at disk secrets cut want StoreCut due corrupt = tt
+opens_by_devices limit files grammar record_at disk secrets cut want NoMemory due corrupt = tt
 
--- AN OPENING THAT FAILED
-
-pub pruning_of_opening : (e : StoreError) → IsOfOpening e → IsOfPruning e
-pruning_of_opening Disk is = tt
-pruning_of_opening SecretsFailed is = tt
-pruning_of_opening (Corrupt name place) is = tt
-pruning_of_opening (LocalState cause) is = is
-pruning_of_opening (StateSyncEpochs info floor) is = is
-pruning_of_opening StateSyncMaterial is = is
-pruning_of_opening StoreCut is = tt
-pruning_of_opening NoMemory is = tt
-
--- what it blames
-pub opening_found : (limit : ℕ) (tells : Bool) (files : Files) (e : StoreError) → IsOfOpening e → {disk secrets reached : Type 0} → (e ≡ Disk → disk) → (e ≡ SecretsFailed → secrets) → (e ≡ StoreCut → reached)
-    → ((name : Name) (place : ℕ) → e ≡ Corrupt name place → IsTrue tells → IsCorruptAt limit files name place) → IsFoundAt limit tells files (stop_of e) disk secrets reached
-opening_found limit tells files Disk is of_disk of_secrets of_cut found = of_disk refl
-opening_found limit tells files SecretsFailed is of_disk of_secrets of_cut found = of_secrets refl
-opening_found limit tells files (Corrupt name place) is of_disk of_secrets of_cut found = found name place refl
-opening_found limit tells files (LocalState cause) is of_disk of_secrets of_cut found = absurd is
-opening_found limit tells files (StateSyncEpochs info floor) is of_disk of_secrets of_cut found = absurd is
-opening_found limit tells files StateSyncMaterial is of_disk of_secrets of_cut found = absurd is
-opening_found limit tells files StoreCut is of_disk of_secrets of_cut found = λ told. of_cut refl
-opening_found limit tells files NoMemory is of_disk of_secrets of_cut found = tt
+-- AN OPENING THAT FAILED, and what it blames
+pub opening_found : (limit : ℕ) (tells : Bool) (files : Files) (record_at : Name → ℕ → Type 0) (disk secrets cut want secrets_rose reached : Type 0) (e : StoreError) → IsDueWith record_at e disk secrets cut want
+    → ((name : Name) (place : ℕ) → record_at name place → IsTrue tells → IsCorruptAt limit files name place) → (secrets → secrets_rose) → (cut → reached) → IsFoundAt limit tells files (stop_of e) disk secrets_rose reached
+opening_found limit tells files record_at disk secrets cut want secrets_rose reached Disk due found of_secrets of_cut = due
+opening_found limit tells files record_at disk secrets cut want secrets_rose reached SecretsFailed due found of_secrets of_cut = of_secrets due
+opening_found limit tells files record_at disk secrets cut want secrets_rose reached (Corrupt name place) due found of_secrets of_cut = found name place due
+opening_found limit tells files record_at disk secrets cut want secrets_rose reached (LocalState cause) due found of_secrets of_cut = absurd due
+opening_found limit tells files record_at disk secrets cut want secrets_rose reached (StateSyncEpochs info floor) due found of_secrets of_cut = absurd due
+opening_found limit tells files record_at disk secrets cut want secrets_rose reached StateSyncMaterial due found of_secrets of_cut = absurd due
+opening_found limit tells files record_at disk secrets cut want secrets_rose reached StoreCut due found of_secrets of_cut = of_cut due
+opening_found limit tells files record_at disk secrets cut want secrets_rose reached NoMemory due found of_secrets of_cut = tt
 
 -- what a setup behind it blames is blamed of both
 module _ (limit : ℕ) (tells : Bool) (files : Files) {disk secrets reached disk_around secrets_around reached_around : Type 0}
-    (of_disk : disk → disk_around) (of_secrets : secrets → secrets_around) (of_cut : IsTrue tells → reached → reached_around)
+    (of_disk : disk → disk_around) (of_secrets : secrets → secrets_around) (of_cut : reached → reached_around)
   where
     pub found_around : (stop : Stop) → IsCausedBy tells stop disk secrets reached → IsFoundAt limit tells files stop disk_around secrets_around reached_around
     found_around (Faulted fault.NoMemory) is = tt
@@ -145,38 +143,21 @@ module _ (limit : ℕ) (tells : Bool) (files : Files) {disk secrets reached disk
     found_around (Faulted (fault.LocalState x)) is = tt
     found_around (Faulted fault.FinalBlockMissing) is = tt
     found_around (Faulted fault.FloorBlockMissing) is = tt
-    found_around Cut is = λ told. of_cut told (is told)
+    found_around Cut is = of_cut is
     found_around Failed is = absurd is
-
--- ITS CALLS: the disk's alone
-
-module _ {D X : Type 0} (disk : D → D → List (DeviceCall Op) → Type 0) (secrets : X → X → List (DeviceCall SecretOp) → Type 0) where
-  pub disk_alone : {a b : D} {x y : X} {f g : Burn} {calls : List Op} → Ran disk a b f g calls → secrets x y [] → (all : List Call) × RanAll (MadeBoth disk secrets) (a, x) (b, y) f g all
-  disk_alone {a} {b} {x} {y} {f} ran none = (
-    map on_disk ran.first,
-    record {
-      each = record {
-        on_the_disk = subst (λ (l : List (DeviceCall Op)). disk a b l) (sym (disk_calls-map ran.first f)) ran.all.each;
-        on_the_secrets = subst (λ (l : List (DeviceCall SecretOp)). secrets x y l) (sym (secret_calls-map ran.first f)) none;
-      };
-      fuse = ran.all.fuse ∙ sym (burned-map ran.first f);
-    },
-  )
 
 -- AS ACTS: the store's opening, and the line
 
 abbrev tells_line : (life : ℕ) → Pairs × Notes (List ℕ) × Notes RecordedLog → Acts Fault Records
 tells_line life g = acts_of.Say (Opened life (restored_list g.0)) (acts_of.Goes (recorded g))
 
-module _ (Dir : Type 0) (life calls : ℕ) {D : Type 0} {made : D → D → List (DeviceCall Op) → Type 0} {a b : D} {ops : List Op}
-    {files files_now : Files} {image now : Files → Type 0} {old new : Moment} (ran : Ran made a b old.fuse new.fuse ops)
+module _ (Dir : Type 0) (life calls : ℕ) {files files_now : Files} {image now : Files → Type 0} {old new : Moment} (counts : CountsOn old.fuse new.fuse)
   where
     -- it failed
     pub store_failed : (e : StoreError) → IsOfDevices e → MadeAt (calls_of.opening None calls None) (by_error e) files image files_now now old new
         → MakesAt (on_devices (opens_store {Dir = Dir} seen_today life calls)) (by_stop (stop_of e)) files image files_now now old new
     store_failed e kind opened =
-        let burns : Burns {F = Fault} {S = Records} (broken_by by_want) old.fuse new.fuse = burns_ran ran.all (broken_by by_want) tt in
-        makes_early (tells_line life) (stop_of e) (makes_error e kind opened burns.call burns.pick)
+        makes_early (tells_line life) (stop_of e) (makes_error e kind opened counts.call counts.pick)
 
     -- .. or went, and its line was told, or found no memory
     pub store_opened : (g : Pairs × Notes (List ℕ) × Notes RecordedLog) → MadeAt (calls_of.opening None calls None) (went g) files image files_now now old new → (Reached old.fuse new.fuse → ⊥)
@@ -184,7 +165,7 @@ module _ (Dir : Type 0) (life calls : ℕ) {D : Type 0} {made : D → D → List
         → IfErr result (λ stop. stop ≡ Faulted fault.NoMemory)
         → MakesAt (on_devices (opens_store {Dir = Dir} seen_today life calls)) (ends_in (recorded g) result) files image files_now now old (acts_of.moment out new.secrets new.fuse)
     store_opened g opened uncut result {out} told untold memory =
-        makes_next (tells_line life) (makes_under (went g) opened (burns_ran ran.all (went g) uncut))
+        makes_next (tells_line life) (makes_under (went g) opened (burns_counted (went g) counts uncut))
         (line_makes (Opened life (restored_list g.0)) (recorded g) result files_now now new.secrets new.fuse told untold memory)
 
 -- WHAT WAS READ

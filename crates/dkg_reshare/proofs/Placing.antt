@@ -7,6 +7,7 @@ use Rattle.std.proofs.lemmas.Bool.Decides.{nat_tests}
 use Rattle.std.proofs.Math.Nat.{lt-div-mul-add}
 use Rattle.dkg_ceremony.specs.Schedule.{boundary, bounds_at, epoch_of, in_range as in_bounds, last, midpoint, phase_at}
 use Rattle.dkg_ceremony.specs.declared.epocher.Bounds.{Bounds}
+use Rattle.dkg_ceremony.specs.declared.phase.Phase.{Phase}
 use Rattle.dkg_ceremony.specs.declared.phase.Phase.TheVariants.{Early, Midpoint, Late}
 use Rattle.dkg_fence.specs.Readiness.{Readiness}
 use Rattle.dkg_types.specs.BlockCodes.{info_of}
@@ -15,6 +16,7 @@ use Rattle.dkg_types.specs.declared.fault.Fault.TheVariants.{HeightRange, Missin
 use Rattle.dkg_types.specs.declared.info.EpochInfo.{EpochInfo}
 use Rattle.dkg_types.specs.declared.scheme.SchemeInfo.{SchemeInfo}
 use Rattle.dkg_journal.specs.Names.{Files}
+use Rattle.dkg_journal.specs.declared.journal.Journal.{Journal}
 use Rattle.dkg_store.specs.declared.devices.Devices.{Devices}
 use Rattle.dkg_store.specs.declared.store.Store.{Store}
 use Rattle.dkg_core.specs.Courses.{Stops}
@@ -27,7 +29,7 @@ use Rattle.dkg_reshare.specs.declared.life.Life.{Life}
 use Rattle.dkg_reshare.specs.declared.life.Stage.{Stage}
 use Rattle.dkg_reshare.specs.declared.life.Stage.TheVariants.{Including, Following}
 use Rattle.dkg_reshare.specs.declared.config.Terms.{Terms}
-use Rattle.dkg_reshare.specs.Actors.{IsReadyLife}
+use Rattle.dkg_reshare.specs.Actors.{IsReadyLife, IsSetUp}
 use Rattle.dkg_reshare.specs.LiveOf.{Beside, EndsBeside, IsPlaced, IsSeated, Took, live_of, scheme_by, with_scheme_of}
 use Rattle.dkg_reshare.specs.Moved.{IsFirm}
 use Rattle.dkg_reshare.specs.Given.{IsLent, ReadsToday}
@@ -162,18 +164,29 @@ pub set_up_ready : {Dir D X : Type 0} (tells : Bool) (files : D → Files) (imag
     → (bounds : Bounds) → Some bounds ≡ in_bounds (non_zero_u64_get terms.blocks_per_epoch) (epoch_of (non_zero_u64_get terms.blocks_per_epoch) height) (bounds_at (non_zero_u64_get terms.blocks_per_epoch) height)
     → life ≡ record old { epoch = bounds.epoch; midpoint = bounds.midpoint; stage = Following; round = None; player = None }
     → new ≡ record life { store = new.store; stage = new.stage; round = new.round; player = new.player } → (devices : Devices D X)
-    → (IsTrue tells → IsFirm new.store.journal (files devices.disk.now) (image devices.disk.now)) → IsSeated ack_of terms.me new × (new.stage ≡ stage_in bounds.phase) → IsReadyLife tells files image ack_of terms new devices
-set_up_ready {Dir} tells files image ack_of terms old life new height at bounds found now rest devices firm sits = record {
-  seated = sits.0;
+    → IsSetUp tells files image ack_of terms.me bounds.phase new devices → IsReadyLife tells files image ack_of terms new devices
+set_up_ready {Dir} tells files image ack_of terms old life new height at bounds found now rest devices done = record {
+  seated = done.seated;
   placed = set_placed (non_zero_u64_get terms.blocks_per_epoch) terms.long new height (at ∙ ap (λ (l : Life Dir). option_map_or (λ t. t.height + 1) l.tip 0) (sym now) ∙ ap (λ (l : Life Dir). option_map_or (λ t. t.height + 1) l.tip 0) (sym rest)) bounds found
-      (ap (λ (l : Life Dir). l.epoch) rest ∙ ap (λ (l : Life Dir). l.epoch) now) (ap (λ (l : Life Dir). l.midpoint) rest ∙ ap (λ (l : Life Dir). l.midpoint) now) (λ including. sym sits.1 ∙ including);
-  firm = firm;
+      (ap (λ (l : Life Dir). l.epoch) rest ∙ ap (λ (l : Life Dir). l.epoch) now) (ap (λ (l : Life Dir). l.midpoint) rest ∙ ap (λ (l : Life Dir). l.midpoint) now) (λ including. sym done.stage ∙ including);
+  firm = done.firm;
 }
 
--- where a call went well, both hold
-pub both_ok : {T E A B C : Type 0} (r : Result T E) → (A → B → C) → OnOk r A → OnOk r B → OnOk r C
-both_ok (Ok x) so a b = so a b
-both_ok (Err e) so a b = tt
+-- as its last part leaves it
+pub drawn_up : {Dir D X T E : Type 0} (tells : Bool) (files : D → Files) (image : D → Files → Type 0) (ack_of : AckOf) (me : ℕ) (phase : Phase) (life new : Life Dir) (devices : Devices D X)
+    → new ≡ record life { stage = new.stage; round = new.round; player = new.player } → (IsTrue tells → IsFirm life.store.journal (files devices.disk.now) (image devices.disk.now))
+    → (r : Result T E) → OnOk r (IsSeated ack_of me new × (new.stage ≡ stage_in phase)) → OnOk r (IsSetUp tells files image ack_of me phase new devices)
+drawn_up {Dir} tells files image ack_of me phase life new devices rest firm (Ok x) sits = record {
+  seated = sits.0;
+  stage = sits.1;
+  firm = subst (λ (j : Journal). IsTrue tells → IsFirm j (files devices.disk.now) (image devices.disk.now)) (sym (ap (λ (l : Life Dir). l.store.journal) rest)) firm;
+}
+drawn_up tells files image ack_of me phase life new devices rest firm (Err e) sits = tt
+
+-- where a call went well, what follows holds
+pub then_ok : {T E A B : Type 0} (r : Result T E) → (A → B) → OnOk r A → OnOk r B
+then_ok (Ok x) so a = so a
+then_ok (Err e) so a = tt
 
 -- .. by what is given of both
 pub ok_given : {T E A B : Type 0} (C : Type 0) (r : Result T E) → (A → B → OnOk r C) → OnOk r (A → B → C)

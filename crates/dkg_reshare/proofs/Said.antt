@@ -1,5 +1,5 @@
 -- Lines of acts, one after another, whatever the devices tell.
-use Rattle.std.proofs.Common.{◌≡◌, inl, inr, List, [], ◌∷◌, ◌++◌, Option, Some, None, refl, sym, ◌∙◌, ap, subst, append_assoc, append-nil}
+use Rattle.std.proofs.Common.{◌≡◌, inl, inr, ℕ, List, [], ◌∷◌, ◌++◌, Option, Some, None, refl, sym, ◌∙◌, ap, subst, append_assoc, append-nil}
 use Rattle.std.specs.FinMap.{empty}
 use Rattle.dkg_journal.specs.Burn.{Burn}
 use Rattle.dkg_types.specs.declared.entry.Entry.{Entry as Line}
@@ -8,6 +8,8 @@ use Rattle.dkg_types.specs.declared.fault.Fault.{Fault}
 use Rattle.dkg_store.specs.Acts.{Acts, Held, held_in, World, says, does, Completes, Faults, Breaks, Runs, Cause, Ended, went, stopped, broken, bind}
 use Rattle.dkg_core.specs.Courses.{Course, on_devices}
 use Rattle.dkg_store.specs.Acts.{by_cut, by_want}
+use Rattle.dkg_values.specs.declared.name.Name.{Name}
+use Rattle.dkg_store.specs.Called.{IsDueWith}
 use Rattle.dkg_store.specs.Errors.{IsOfDevices, IsOfPruning}
 use Rattle.dkg_store.specs.declared.call.StoreError.{StoreError}
 use Rattle.dkg_store.specs.declared.call.StoreError.TheVariants.{Disk, Secrets as SecretsFailed, Corrupt, LocalState, StateSyncEpochs, StateSyncMaterial, Cut, NoMemory}
@@ -93,6 +95,16 @@ devices_of_pruning (StateSyncEpochs info floor) is = absurd is
 devices_of_pruning StateSyncMaterial is = absurd is
 devices_of_pruning Cut is = tt
 devices_of_pruning NoMemory is = tt
+
+pub pruning_of_due : (record_at : Name → ℕ → Type 0) (disk secrets cut want : Type 0) (e : StoreError) → IsDueWith record_at e disk secrets cut want → IsOfPruning e
+pruning_of_due record_at disk secrets cut want Disk due = tt
+pruning_of_due record_at disk secrets cut want SecretsFailed due = tt
+pruning_of_due record_at disk secrets cut want (Corrupt name place) due = tt
+pruning_of_due record_at disk secrets cut want (LocalState cause) due = absurd due
+pruning_of_due record_at disk secrets cut want (StateSyncEpochs info floor) due = absurd due
+pruning_of_due record_at disk secrets cut want StateSyncMaterial due = absurd due
+pruning_of_due record_at disk secrets cut want Cut due = tt
+pruning_of_due record_at disk secrets cut want NoMemory due = tt
 
 -- A stop ends all that stands behind it.
 module _ {S T : Type 0} {acts : Acts Fault S} (next : S → Acts Fault T) {out now : List Line} where

@@ -7,7 +7,7 @@ use Rattle.dkg_types.specs.declared.fault.Fault.{Fault}
 use Rattle.dkg_store.specs.Acts as acts_of
 use Rattle.dkg_store.specs.Acts.{Acts, World, says, does, held_in, at, moment, Moment, Stands, MadeAt, Runs, Completes, Faults, Breaks, Cause, Ended, went, stopped, broken, IfWent}
 use Rattle.dkg_store.specs.Calls.{by_error}
-use Rattle.dkg_store.specs.Errors.{IsOfDevices, IsOfSecrets}
+use Rattle.dkg_store.specs.Errors.{IsOfDevices}
 use Rattle.dkg_store.specs.Secrets.{Secrets}
 use Rattle.dkg_store.specs.declared.call.StoreError.{StoreError}
 use Rattle.dkg_store.specs.declared.call.StoreError.TheVariants.{Disk, Secrets as SecretsFailed, Corrupt, LocalState, StateSyncEpochs, StateSyncMaterial, Cut, NoMemory}
@@ -48,17 +48,6 @@ renamed_error (StateSyncEpochs info floor) is = absurd is
 renamed_error StateSyncMaterial is = absurd is
 renamed_error Cut is = refl
 renamed_error NoMemory is = refl
-
--- errors of secrets alone, and those of a prune of a disk that tells
-pub secrets_of_devices : (e : StoreError) → IsOfSecrets e → IsOfDevices e
-secrets_of_devices Disk is = absurd is
-secrets_of_devices SecretsFailed is = tt
-secrets_of_devices (Corrupt name place) is = absurd is
-secrets_of_devices (LocalState cause) is = absurd is
-secrets_of_devices (StateSyncEpochs info floor) is = absurd is
-secrets_of_devices StateSyncMaterial is = absurd is
-secrets_of_devices Cut is = tt
-secrets_of_devices NoMemory is = tt
 
 module _ {S : Type 0} where
   completes_under : (acts : Acts StoreError S) (end : S) (w new : World) → Completes acts end w new → Completes (acts_of.under fault_of acts) end w new

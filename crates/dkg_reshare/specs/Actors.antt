@@ -8,6 +8,7 @@ use Rattle.dkg_ceremony.specs.Schedule.{midpoint}
 use Rattle.dkg_ceremony.specs.declared.mode.Mode.{Mode}
 use Rattle.dkg_ceremony.specs.declared.mode.ModeVersion.{ModeVersion}
 use Rattle.dkg_ceremony.specs.declared.mode.Reveal.{Reveal}
+use Rattle.dkg_ceremony.specs.declared.phase.Phase.{Phase}
 use Rattle.dkg_journal.specs.Records.{entries}
 use Rattle.dkg_journal.specs.Names.{Files}
 use Rattle.dkg_store.specs.Acts.{Ended, went, broken, by_want, held_in, Stands}
@@ -33,6 +34,7 @@ use Rattle.dkg_reshare.specs.Ends.{by_stop, IsCaused}
 use Rattle.dkg_reshare.specs.LiveOf.{IsPlaced, IsSeated, records_of}
 use Rattle.dkg_reshare.specs.Moved.{IsFirm}
 use Rattle.dkg_reshare.specs.Rules.{AckOf}
+use Rattle.dkg_reshare.specs.Steps.{stage_in}
 
 -- STATES
 
@@ -58,6 +60,12 @@ IfLiving HadFailed P = ⊤
 pub record IsReadyLife {Dir D X : Type 0} (tells : Bool) (files : D → Files) (image : D → Files → Type 0) (ack_of : AckOf) (terms : Terms) (life : Life Dir) (devices : Devices D X) : Type 0 where
   pub seated : IsSeated ack_of terms.me life
   pub placed : IsPlaced (non_zero_u64_get terms.blocks_per_epoch) life
+  pub firm : IsTrue tells → IsFirm life.store.journal (files devices.disk.now) (image devices.disk.now)
+
+-- .. of which this phase's setup is done
+pub record IsSetUp {Dir D X : Type 0} (tells : Bool) (files : D → Files) (image : D → Files → Type 0) (ack_of : AckOf) (me : ℕ) (phase : Phase) (life : Life Dir) (devices : Devices D X) : Type 0 where
+  pub seated : IsSeated ack_of me life
+  pub stage : life.stage ≡ stage_in phase
   pub firm : IsTrue tells → IsFirm life.store.journal (files devices.disk.now) (image devices.disk.now)
 
 -- It was opened, and its life, if it goes on, stands on these devices.
@@ -133,10 +141,8 @@ abbrev pub config_fault : Mode → (version blocks : ℕ) → Option Fault
 config_fault mode version blocks =
     if not (supports_of version mode) then Some (InvalidConfig ModeCause) else if blocks == 1 then Some (InvalidConfig OneBlock) else None
 
--- A device is blamed where its count rose, a record where it is the first one out of its grammar, and a cut of a disk that tells is the fuse's. What else is
--- blamed, the course says.
+-- A device is blamed where its count rose, a record where it is the first one out of its grammar, and a cut is the fuse's. What else is blamed, the course
+-- says.
 abbrev pub IsFoundAt : (limit : ℕ) (tells : Bool) → Files → Stop → (disk_rose secrets_rose reached : Type 0) → Type 0
 IsFoundAt limit tells files (Faulted (Corrupt name place)) disk_rose secrets_rose reached = IsTrue tells → IsCorruptAt limit files name place
-IsFoundAt limit tells files Cut disk_rose secrets_rose reached = IsTrue tells → reached
-IsFoundAt limit tells files Failed disk_rose secrets_rose reached = ⊥
 IsFoundAt limit tells files stop disk_rose secrets_rose reached = IsCaused stop disk_rose secrets_rose reached

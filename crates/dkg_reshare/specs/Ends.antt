@@ -74,10 +74,9 @@ abbrev pub IsCausedInStep : Stop → (disk_rose secrets_rose reached : Type 0) �
 IsCausedInStep Failed disk_rose secrets_rose reached = ⊤
 IsCausedInStep stop disk_rose secrets_rose reached = IsCaused stop disk_rose secrets_rose reached
 
--- .. where records are read: of a disk that tells none is blamed behind an opening, and a cut of it is the fuse's
+-- .. where records are read: of a disk that tells none is blamed behind an opening
 abbrev pub IsCausedBy : (tells : Bool) → Stop → (disk_rose secrets_rose reached : Type 0) → Type 0
 IsCausedBy tells (Faulted (fault.Corrupt name place)) disk_rose secrets_rose reached = IsTrue tells → ⊥
-IsCausedBy tells Cut disk_rose secrets_rose reached = IsTrue tells → reached
 IsCausedBy tells stop disk_rose secrets_rose reached = IsCaused stop disk_rose secrets_rose reached
 
 -- It comes from outside: no course stops by it.

@@ -12,14 +12,16 @@ use Rattle.dkg_journal.specs.Disk.{Follows, Lands}
 use Rattle.dkg_journal.specs.Journals.{IsOpen}
 use Rattle.dkg_journal.specs.declared.journal.Journal.{Journal}
 use Rattle.dkg_store.specs.Corrupt.{AreFit}
+use Rattle.dkg_store.specs.Counts.{CountsOn}
 use Rattle.dkg_store.specs.Named.{SamePlan}
 use Rattle.dkg_store.specs.Pairs.{IsWhole, Pairs, Holds, recovered}
 use Rattle.dkg_store.specs.Secrets.{Secrets}
 use Rattle.dkg_store.specs.declared.devices.Devices.{Devices}
 
--- The same devices are lent still, and no count fell. Their calls are just those that the fuse counted.
+-- The same devices are lent still, no count fell, and the fuse goes on. Their calls are just those that it counted.
 pub record Moved {D X : Type 0} (tells : Bool) (made_disk : D → D → List (DeviceCall Op) → Type 0) (made_secrets : X → X → List (DeviceCall SecretOp) → Type 0)
     (disk_faults : D → ℕ) (secret_faults : X → ℕ) (old new : Devices D X) : Type 0 where
+  pub counts : CountsOn old.fuse new.fuse
   pub ran : IsTrue tells → (calls : List Call) × RanAll (MadeBoth made_disk made_secrets) (old.disk.now, old.secrets.now) (new.disk.now, new.secrets.now) old.fuse new.fuse calls
   pub same_disk : new.disk.ghost_name ≡ old.disk.ghost_name
   pub same_secrets : new.secrets.ghost_name ≡ old.secrets.ghost_name

@@ -57,12 +57,13 @@ pub record IsOpeningOf {Dir : Type 0} (terms : Terms) (source : Source Dir) (lif
   pub calls_are : c.opening_calls ≡ length (open_calls files)
   pub grammar : IsInGrammar c.limit files
 
--- A journal that is not in its grammar is not opened, and nothing is told.
-pub record OpensReadable {T : Type 0} (Readable : Type 0) (result : Result T Stop) (out now : List Line) : Type 0 where
+-- Each image keeps the entries and the plan of one from before, and the secrets are as they were.
+pub record StaysShut (image next : Files → Type 0) (held held_now : Secrets) : Type 0 where
+  pub images : Follows Keeps image next
+  pub same : held_now ≡ held
+
+-- A journal that is not in its grammar is not opened: nothing is told then, and all stays.
+pub record OpensReadable {T : Type 0} (Readable : Type 0) (result : Result T Stop) (out now : List Line) (image next : Files → Type 0) (held held_now : Secrets) : Type 0 where
   pub ok : OnOk result Readable
   pub untold : (Readable → ⊥) → now ≡ out
-
--- .. Each image keeps the entries and the plan of one from before, then, and the secrets are as they were.
-pub record StaysShut (Readable : Type 0) (image next : Files → Type 0) (held held_now : Secrets) : Type 0 where
-  pub images : (Readable → ⊥) → Follows Keeps image next
-  pub same : (Readable → ⊥) → held_now ≡ held
+  pub shut : (Readable → ⊥) → StaysShut image next held held_now

@@ -14,7 +14,7 @@ ghost use Rattle.dkg_reshare.specs.Given.{AreGivenFrom, HasRead, IsLent, IsOf, r
 ghost use Rattle.dkg_reshare.specs.LiveOf.{Beside, EndsBeside, Took, live_of, no_fence, nothing_beside};
 ghost use Rattle.dkg_reshare.specs.Made.{Makes, Tells, UnlessBroken};
 ghost use Rattle.dkg_reshare.specs.Moved.{Moved, StaysAbove};
-ghost use Rattle.dkg_reshare.specs.Opened.{IsInGrammar, IsOpeningOf, OpensReadable, StaysShut, epoch_at};
+ghost use Rattle.dkg_reshare.specs.Opened.{IsInGrammar, IsOpeningOf, OpensReadable, epoch_at};
 ghost use Rattle.dkg_reshare.specs.Rules.{AnswersBy, IsRuledBy};
 ghost use Rattle.dkg_reshare.specs.Today.{IsOpeningOfToday};
 
@@ -173,10 +173,9 @@ impl<C: Ceremony, P, R: Registrar, M, Dir: Directory + Drop> Actor<C, P, R, M, D
             (λ s. EndsBeside nothing_beside (λ more. OnOk result (Took R.tells (R.taken self.old.registrar) (R.taken self.new.registrar) more))
             (λ now. Tells (opening (reading s c)) (lives (live_of now fence.new) self.new.state result)
             out.old.entries out.new.entries)) }
-        // A journal that is not in its grammar is not opened, and nothing is told.
+        // A journal that is not in its grammar is not opened: nothing is told, and all stays.
         ensures readable { IsTrue D.tells → OpensReadable (IsInGrammar (non_zero_u32_get self.old.terms.limit) (D.files devices.old.disk.now)) result
-            out.old.entries out.new.entries }
-        ensures shut { IsTrue D.tells → StaysShut (IsInGrammar (non_zero_u32_get self.old.terms.limit) (D.files devices.old.disk.now))
+            out.old.entries out.new.entries
             (D.image devices.old.disk.now) (D.image devices.new.disk.now) (X.held devices.old.secrets.now) (X.held devices.new.secrets.now) }
         // It may go on over these devices alone, or it has failed.
         ensures ends { EndsAt self.new.state result (λ life. IsReadyLife D.tells D.files D.image C.ack_of self.new.terms life devices.new) }

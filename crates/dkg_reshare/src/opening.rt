@@ -14,7 +14,7 @@ ghost use Rattle.dkg_reshare.specs.Given.{AreGivenFrom, HasRead, IsLent, reading
 ghost use Rattle.dkg_reshare.specs.LiveOf.{EndsBeside, Took, live_of, no_fence, nothing_beside, records_of};
 ghost use Rattle.dkg_reshare.specs.Made.{Makes, Tells, UnlessBroken};
 ghost use Rattle.dkg_reshare.specs.Moved.{IsFirm, Moved, StaysAbove};
-ghost use Rattle.dkg_reshare.specs.Opened.{IsInGrammar, IsOpeningOf, OpensReadable, StaysShut, epoch_at, opens_store, startup_of};
+ghost use Rattle.dkg_reshare.specs.Opened.{IsInGrammar, IsOpeningOf, OpensReadable, epoch_at, opens_store, startup_of};
 ghost use Rattle.dkg_reshare.specs.Rules.{SeatsBy};
 ghost use Rattle.dkg_reshare.specs.Today.{IsOpeningOfToday, seen_today};
 
@@ -59,8 +59,7 @@ fn open_store<Dir: Directory + Drop, D: Disk, X: SecretStore>(
     ensures open { IfOk result (λ store. IsTrue D.tells → IsFirm store.journal (D.files devices.new.disk.now) (D.image devices.new.disk.now)) }
     ensures current { IfOk result (λ store. store.current ≡ None) }
     ensures readable { IsTrue D.tells → OpensReadable (IsInGrammar (non_zero_u32_get limit) (D.files devices.old.disk.now)) result
-        out.old.entries out.new.entries }
-    ensures shut { IsTrue D.tells → StaysShut (IsInGrammar (non_zero_u32_get limit) (D.files devices.old.disk.now))
+        out.old.entries out.new.entries
         (D.image devices.old.disk.now) (D.image devices.new.disk.now) (X.held devices.old.secrets.now) (X.held devices.new.secrets.now) }
     ensures acts { IsTrue D.tells → IsTrue X.tells → IsInGrammar (non_zero_u32_get limit) (D.files devices.old.disk.now)
         → Makes {Dir = Dir} D.files D.image X.held (opens_store seen_today life (length (open_calls (D.files devices.old.disk.now)))) (ends records_of result)
@@ -126,8 +125,7 @@ pub(crate) fn open_life<
 ) -> Result<Life<Dir>, Stop>
     ensures ready { IfOk result (λ life. IsReadyLife D.tells D.files D.image C.ack_of terms.now life devices.new) }
     ensures readable { IsTrue D.tells → OpensReadable (IsInGrammar (non_zero_u32_get terms.now.limit) (D.files devices.old.disk.now)) result
-        out.old.entries out.new.entries }
-    ensures shut { IsTrue D.tells → StaysShut (IsInGrammar (non_zero_u32_get terms.now.limit) (D.files devices.old.disk.now))
+        out.old.entries out.new.entries
         (D.image devices.old.disk.now) (D.image devices.new.disk.now) (X.held devices.old.secrets.now) (X.held devices.new.secrets.now) }
     ensures acts { IsTrue D.tells → IsTrue X.tells → (c : Fixed Dir) → IsOpeningOf terms.now (B.answers source.now) number word (D.files devices.old.disk.now) c
         → SeatsBy C.round_of C.dealing_of C.bears_ack_of c.rules → fence.old ≡ no_fence

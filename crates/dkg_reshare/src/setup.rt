@@ -19,7 +19,7 @@ ghost use Rattle.dkg_core.specs.Live.{Live};
 ghost use Rattle.dkg_core.specs.Setup as setup;
 ghost use Rattle.dkg_core.specs.Setup.{Uncommitted};
 ghost use Rattle.dkg_reshare.specs.declared.stop.Stop.TheVariants.{Fault as Faulted};
-ghost use Rattle.dkg_reshare.specs.Actors.{IsReadyLife};
+ghost use Rattle.dkg_reshare.specs.Actors.{IsReadyLife, IsSetUp};
 ghost use Rattle.dkg_reshare.specs.Ends.{IsCaused, IsCausedBy, IsOutside, by_stop, ends, ends_in};
 ghost use Rattle.dkg_reshare.specs.Given.{IsLent, IsOf, ReadsToday};
 ghost use Rattle.dkg_reshare.specs.LiveOf.{Beside, EndsBeside, IsSeated, SitsIn, Took, live_of, records_of, scheme_by, seat_of, with_scheme, with_scheme_of};
@@ -354,9 +354,8 @@ fn set_up_by<C: Ceremony, R: Registrar, Dir: Directory + Drop, D: Disk, X: Secre
     out: &mut Transcript,
 ) -> Result<(), Stop>
     requires { IsTrue D.tells → IsFirm life.old.store.journal (D.files devices.old.disk.now) (D.image devices.old.disk.now) }
-    ensures open { OnOk result (IsTrue D.tells → IsFirm life.new.store.journal (D.files devices.new.disk.now) (D.image devices.new.disk.now)) }
+    ensures done { OnOk result (IsSetUp D.tells D.files D.image C.ack_of terms.now.me phase life.new devices.new) }
     ensures rest { life.new ≡ record life.old { store = life.new.store; stage = life.new.stage; round = life.new.round; player = life.new.player } }
-    ensures sits { OnOk result (IsSeated C.ack_of terms.now.me life.new × (life.new.stage ≡ stage_in phase)) }
     ensures acts { IsTrue D.tells → IsTrue X.tells → (c : Fixed Dir) (beside : Beside Dir) → IsOf terms.now c → ReadsToday c → c.word ≡ word
         → SeatsBy C.round_of C.dealing_of C.bears_ack_of c.rules → StandsIn c (live_of beside fence.old life.old) phase
         → Makes D.files D.image X.held (setup.with_info c None Uncommitted info.now (live_of beside fence.old life.old))

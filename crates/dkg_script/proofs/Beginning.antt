@@ -19,6 +19,7 @@ use Rattle.dkg_store.specs.Pairs.{Pairs, IsWhole}
 use Rattle.dkg_store.proofs.Map.{keys_total}
 use Rattle.dkg_types.specs.declared.entry.Entry.{Entry}
 use Rattle.dkg_types.specs.declared.entry.Restored.{Restored}
+use Rattle.dkg_store.specs.Secrets.{Secrets}
 use Rattle.dkg_text.specs.declared.script.Script.{Script}
 use Rattle.dkg_script.specs.Setting.{Setting, setting_of, listed, recovered_from}
 use Rattle.dkg_script.specs.Blocks.{handed_in}
@@ -112,13 +113,14 @@ durable s image honest = record {
       (all_current (begun (in_case s) [] 0 0) (Gives (recovered_from s.files s.secrets)) (listed (recovered_from s.files s.secrets)) (gives_all (recovered_from s.files s.secrets)));
 }
 
-pub keeps_nothing : (s : Setting) (image : Files → Type 0) → KeepsDealings s image image s.secrets []
+pub keeps_nothing : (script : Script) (files : Files) (secrets : Secrets) (image : Files → Type 0) → KeepsDealings script files secrets image image secrets []
 unfolding progress
-keeps_nothing s image built honest = (
-  handed_in s ∷ [],
-  record { first = refl; next = λ l below. absurd (none_below l below) },
-  record { each = at_each (in_case s) (IsSound (in_case s)) [] tt; durable = durable s image honest.stores },
-)
+keeps_nothing script files secrets image built honest =
+    let s : Setting = setting_of script files secrets in (
+      handed_in s ∷ [],
+      record { first = refl; next = λ l below. absurd (none_below l below) },
+      record { each = at_each (in_case s) (IsSound (in_case s)) [] tt; durable = durable s image honest.stores },
+    )
 
 pub orders_nothing : (script : Script) → RunsInOrder script []
 unfolding InOrder

@@ -10,18 +10,17 @@ use Rattle.dkg_text.specs.declared.script.Cut.{Cut as ScriptCut}
 use Rattle.dkg_text.specs.declared.script.Event.{Event}
 use Rattle.dkg_text.specs.declared.script.Event.TheVariants.{Final}
 use Rattle.dkg_text.specs.declared.script.Life.{Life}
-use Rattle.dkg_text.specs.declared.script.Script.{Script}
 use Rattle.dkg_script.specs.Readings.{Info, Material}
 use Rattle.dkg_script.specs.Setting.{Setting, CutAt, life_at, found, setting_of}
 use Rattle.dkg_script.specs.Blocks.{Block, block_at, carried_infos, chain, chain_below, delivered_number, events_come_to, handed_in, held_at_opening, info_at_boundary, provided, used, used_in}
 use Rattle.dkg_script.specs.Position.{IsLeft, IsPlanHistory, awaited_height, cut_of, delivered, event_of_step, height_after_anchor, start_height}
 use Rattle.dkg_script.specs.Progress.{Progress, progress}
-use Rattle.dkg_script.specs.Consistent.{IsConsistentScript, IsFromAnother, MayEndSo}
+use Rattle.dkg_script.specs.Consistent.{IsConsistentScript, IsFromAnother}
 use Rattle.dkg_script.specs.Order.{InOrder}
-use Rattle.dkg_script.specs.Promise.{AreHonestStores, IsBuilt, IsHonestRun, InEachCase, with_plans}
+use Rattle.dkg_script.specs.Promise.{IsBuilt, IsHonestRun, with_plans}
 use Rattle.dkg_script.specs.Valid.{CarriesFirstInfo, DeliversInTurn, IsFirstInfo, IsValidCase, IsValidScript}
-use Rattle.dkg_script.specs.AsCut.{as_cut, cut_within, life_as_cut, lives_as_cut, setting_as_cut, with_cuts}
-use Rattle.dkg_script.specs.AsCutLaws.{InEachCaseAsCut, StaysHonest, StaysValid, ValidAnyhow}
+use Rattle.dkg_script.specs.AsCut.{cut_within, life_as_cut, lives_as_cut, with_cuts}
+use Rattle.dkg_script.specs.AsCutLaws.{HonestAnyhow, ValidAnyhow, ValidAsCut}
 use Rattle.dkg_script.proofs.AsCut.{all_within, form_as_cut, its_life, same_progress}
 use Rattle.dkg_script.proofs.Members.{IsIn, all_of, found_within, in_either, in_first, in_joined, in_mapped, in_second, in_taken, joined_in, map_in, named_within, of_all}
 use Rattle.dkg_script.proofs.ScriptedCuts.{ends_as_scripted}
@@ -300,39 +299,38 @@ module _ (s : Setting) (ends : List (Option CutAt)) where
 
 -- THE PREMISES, of a transcript in order
 
-module _ (s : Setting) (out : List Entry) (ordered : InOrder s out) where
-  same_ends : (progress (with_cuts (progress s out).cuts s) out).cuts ≡ (progress s out).cuts
-  same_ends = ap (λ (p : Progress). p.cuts) (same_progress s (progress s out).cuts out ordered refl)
-
-  each_as_cut : (P : Setting → List (Option CutAt) → Type 0) → InEachCase s (progress s out).cuts (λ case. P case (progress s out).cuts)
-      → ((plans : List (Option Material)) → IsPlanHistory (with_cuts (progress s out).cuts (with_plans s plans)) (progress s out).cuts
-      → P (with_plans s plans) (progress s out).cuts → P (with_cuts (progress s out).cuts (with_plans s plans)) (progress s out).cuts)
-      → InEachCaseAsCut s out P
-  each_as_cut P each leads plans history =
-      let here : IsPlanHistory (with_plans (with_cuts (progress s out).cuts s) plans) (progress s out).cuts =
-      subst (λ (cs : List (Option CutAt)). IsPlanHistory (with_plans (with_cuts (progress s out).cuts s) plans) cs) same_ends history in
-      subst (λ (cs : List (Option CutAt)). P (with_plans (with_cuts (progress s out).cuts s) plans) cs) (sym same_ends)
-      (leads plans here (each plans (history_of (with_plans s plans) (progress s out).cuts (progress s out).cuts here)))
+same_ends : (s : Setting) (out : List Entry) → InOrder s out → (progress (with_cuts (progress s out).cuts s) out).cuts ≡ (progress s out).cuts
+same_ends s out ordered = ap (λ (p : Progress). p.cuts) (same_progress s (progress s out).cuts out ordered refl)
 
 built_case : (s : Setting) (plans : List (Option Material)) → IsBuilt s → IsBuilt (with_plans s plans)
 built_case s plans built = record { form = built.form; no_plan = built.no_plan }
 
-pub stays_honest : {D : Type 0} (image : D → Files → Type 0) → StaysHonest image
-stays_honest image s out disk built honest ordered = (
-  record { whole = honest.stores.whole; nothing_loose = honest.stores.nothing_loose },
-  each_as_cut s out ordered IsConsistentScript (honest.source (progress s out).cuts (ends_as_scripted s out ordered))
-      (λ plans history is. consistent_as_cut (with_plans s plans) (progress s out).cuts (progress s out).cuts (built_case s plans built) history is),
-)
+pub honest_as_cut : (s : Setting) (image : Files → Type 0) (ends : List (Option CutAt)) → IsBuilt s → IsHonestRun s image ends → IsHonestRun (with_cuts ends s) image ends
+honest_as_cut s image ends built honest = record {
+  stores = record { whole = honest.stores.whole; nothing_loose = honest.stores.nothing_loose };
+  source = λ plans history. consistent_as_cut (with_plans s plans) ends ends (built_case s plans built) history (honest.source plans (history_of (with_plans s plans) ends ends history));
+}
 
-pub stays_valid : StaysValid
-stays_valid s out built valid ordered =
-    each_as_cut s out ordered IsValidCase (valid.each (progress s out).cuts (ends_as_scripted s out ordered))
-    (λ plans history is. valid_case_as_cut (with_plans s plans) (progress s out).cuts (progress s out).cuts (built_case s plans built) history is)
+pub valid_as_cut : (s : Setting) (ends : List (Option CutAt)) → IsBuilt s → IsValidScript s ends → IsValidScript (with_cuts ends s) ends
+valid_as_cut s ends built valid = record {
+  source = λ plans history. valid_case_as_cut (with_plans s plans) ends ends (built_case s plans built) history (valid.source plans (history_of (with_plans s plans) ends ends history));
+}
+
+pub honest_anyhow : {D : Type 0} (image : D → Files → Type 0) → HonestAnyhow image
+honest_anyhow image script files secrets out disk built each ordered =
+    let s : Setting = setting_of script files secrets in
+    let ends = (progress s out).cuts in
+    subst (λ (cs : List (Option CutAt)). IsHonestRun (with_cuts ends s) (image disk) cs) (sym (same_ends s out ordered))
+    (honest_as_cut s (image disk) ends built (each ends (ends_as_scripted s out ordered)))
 
 pub valid_anyhow : ValidAnyhow
-valid_anyhow script files secrets each out ordered plans history =
+valid_anyhow script files secrets out built each ordered =
     let s : Setting = setting_of script files secrets in
-    let same = same_ends s out ordered in
-    let here = subst (λ (cs : List (Option CutAt)). IsPlanHistory (with_plans (with_cuts (progress s out).cuts s) plans) cs) same history in
-    subst (λ (cs : List (Option CutAt)). IsValidCase (with_plans (with_cuts (progress s out).cuts s) plans) cs) (sym same)
-    (each (progress s out).cuts (ends_as_scripted s out ordered) plans here)
+    let ends = (progress s out).cuts in
+    subst (λ (cs : List (Option CutAt)). IsValidScript (with_cuts ends s) cs) (sym (same_ends s out ordered)) (valid_as_cut s ends built (each ends (ends_as_scripted s out ordered)))
+
+pub valid_if_cut : ValidAsCut
+valid_if_cut script files secrets out each ordered =
+    let s : Setting = setting_of script files secrets in
+    let ends = (progress s out).cuts in
+    subst (λ (cs : List (Option CutAt)). IsValidScript (with_cuts ends s) cs) (sym (same_ends s out ordered)) (each ends (ends_as_scripted s out ordered))

@@ -1,6 +1,6 @@
 -- The premises of the promise hold of the stored run, in each case of what the plan may have held: so what the calls promise of
 -- it stands. And they hold of the scripts whose writes are cut, wherever the cuts fall.
-use Rattle.std.proofs.Common.{List, [], ◌∷◌, refl, Option, Some, None, lit<, lit≤, sym, subst}
+use Rattle.std.proofs.Common.{List, [], ◌∷◌, ◌≡◌, refl, Option, Some, None, lit<, lit≤, ap, sym, subst}
 use Rattle.std.specs.FinMap.{get-empty}
 use Rattle.dkg_values.specs.Bytes.{byte_at}
 use Rattle.dkg_values.specs.Codec.{many_at}
@@ -18,13 +18,17 @@ use Rattle.dkg_text.specs.declared.script.Life.{Life}
 use Rattle.dkg_text.specs.declared.script.Script.{Script}
 use Rattle.dkg_script.specs.Form.{IsBlockOfToday}
 use Rattle.dkg_script.specs.Readings.{Material, info_in}
-use Rattle.dkg_script.specs.Setting.{CutAt}
+use Rattle.dkg_script.specs.Setting.{Setting, CutAt}
 use Rattle.dkg_script.specs.Blocks.{used}
 use Rattle.dkg_script.specs.Position.{IsPlanHistory}
-use Rattle.dkg_script.specs.Promise.{AreHonestStores, IsBuilt, IsHonestRun, KeepsDealings, AnswersDealings, with_plans, cuts_in}
+use Rattle.dkg_script.specs.AsCut.{setting_as_cut, with_cuts}
+use Rattle.dkg_script.specs.Kept.{Kept}
+use Rattle.dkg_script.specs.Progress.{Progress}
+use Rattle.dkg_script.specs.Promise.{AreHonestStores, IsBuilt, IsComplete, IsHonestRun, InACase, KeepsDealings, AnswersDealings, with_plans, cuts_in}
 use Rattle.dkg_script.specs.Consistent.{IsConsistentScript}
 use Rattle.dkg_script.proofs.OneDealing.{two, out_two, two_is_kept, two_is_complete, other_key}
-use Rattle.dkg_script.proofs.Trials.{no_plan}
+use Rattle.dkg_script.proofs.ConsistentAsCut.{honest_as_cut}
+use Rattle.dkg_script.proofs.Trials.{no_plan, progress_is}
 use Rattle.dkg_script.proofs.Today.{never_back}
 use Rattle.dkg_script.proofs.CutWrites.{at_install, at_gate}
 use Rattle.dkg_script.proofs.Worked.{script_of, genesis, setting, files_of, secrets_of, flat, OnlyThese, nothing_there}
@@ -72,13 +76,13 @@ empty_stores script = record {
   nothing_loose = record { only = λ c is. is };
 }
 
-pub two_is_honest : IsHonestRun (setting two) (OnlyThese (files_of None))
-two_is_honest = record {
+pub two_is_honest : (ends : List (Option CutAt)) → IsHonestRun (setting two) (OnlyThese (files_of None)) ends
+two_is_honest ends = record {
   stores = empty_stores two;
-  source = λ ends so plans history. consistent_in plans ends history;
+  source = λ plans history. consistent_in plans ends history;
 }
 
--- OF CUTS WITHIN A STEP too, whether their call comes or not
+-- OF CUTS WITHIN A STEP too, whether their call comes or not, and of these scripts as they were cut
 install_is_built : (plans : List (Option Material)) → IsBuilt (with_plans (setting at_install) plans)
 install_is_built plans = record {
   form = record {
@@ -106,8 +110,10 @@ install_in plans ends history = record {
   others = ((other_key, tt), ((other_key, tt), (tt, tt)));
 }
 
-pub install_is_honest : IsHonestRun (setting at_install) (OnlyThese (files_of None))
-install_is_honest = record { stores = empty_stores at_install; source = λ ends so plans history. install_in plans ends history }
+pub install_is_honest : (ends : List (Option CutAt)) → IsHonestRun (with_cuts ends (setting at_install)) (OnlyThese (files_of None)) ends
+install_is_honest ends =
+    honest_as_cut (setting at_install) (OnlyThese (files_of None)) ends (install_is_built [])
+    (record { stores = empty_stores at_install; source = λ plans history. install_in plans ends history })
 
 gate_is_built : (plans : List (Option Material)) → IsBuilt (with_plans (setting at_gate) plans)
 gate_is_built plans = record {
@@ -136,12 +142,19 @@ gate_in plans ends history = record {
   others = ((other_key, tt), (tt, tt));
 }
 
-pub gate_is_honest : IsHonestRun (setting at_gate) (OnlyThese (files_of None))
-gate_is_honest = record { stores = empty_stores at_gate; source = λ ends so plans history. gate_in plans ends history }
+pub gate_is_honest : (ends : List (Option CutAt)) → IsHonestRun (with_cuts ends (setting at_gate)) (OnlyThese (files_of None)) ends
+gate_is_honest ends =
+    honest_as_cut (setting at_gate) (OnlyThese (files_of None)) ends (gate_is_built [])
+    (record { stores = empty_stores at_gate; source = λ plans history. gate_in plans ends history })
 
--- WHAT THE CALLS PROMISE of it
-pub two_keeps : KeepsDealings (setting two) (OnlyThese (files_of None)) (OnlyThese (files_of (Some (flat 1 0 7)))) (secrets_of (((0, 2), 23) ∷ [])) out_two
-two_keeps built honest = ([], no_plan two (cuts_in (setting two) out_two) refl (refl, (refl, tt)), two_is_kept)
+-- WHAT THE CALLS PROMISE of it: none of its lives is cut, so it is judged as it stands
+as_it_stands : setting_as_cut two (files_of None) (secrets_of []) out_two ≡ setting two
+as_it_stands = ap (λ (p : Progress). with_cuts p.cuts (setting two)) (progress_is two out_two)
 
-pub two_answers : AnswersDealings (setting two) (OnlyThese (files_of None)) out_two
-two_answers built honest = two_is_complete
+pub two_keeps : KeepsDealings two (files_of None) (secrets_of []) (OnlyThese (files_of None)) (OnlyThese (files_of (Some (flat 1 0 7)))) (secrets_of (((0, 2), 23) ∷ [])) out_two
+two_keeps built honest =
+    subst (λ (s : Setting). InACase s (cuts_in s out_two) (λ case. Kept case out_two (OnlyThese (files_of (Some (flat 1 0 7)))) (secrets_of (((0, 2), 23) ∷ [])))) (sym as_it_stands)
+    ([], no_plan two (cuts_in (setting two) out_two) refl (refl, (refl, tt)), two_is_kept)
+
+pub two_answers : AnswersDealings two (files_of None) (secrets_of []) (OnlyThese (files_of None)) out_two
+two_answers built honest = subst (λ (s : Setting). IsComplete s out_two) (sym as_it_stands) two_is_complete

@@ -12,6 +12,7 @@ pub mod Honest
 pub mod LineBlocks
 pub mod Members
 pub mod OneAck
+pub mod OneAckAgain
 pub mod OneDealing
 pub mod Openings
 pub mod Plain
@@ -27,6 +28,7 @@ pub mod Today
 pub mod Trials
 pub mod ToldPlaces
 pub mod TwoEpochs
+pub mod TwoRuns
 pub mod ValidScripts
 pub mod Views
 pub mod Worked

@@ -1,6 +1,6 @@
 -- A body that runs past a cut at call 0: it is refused, and what is presumed of the script doesn't depend on it. And the run that
 -- heeds the cut.
-use Rattle.std.proofs.Common.{ℕ, ◌+◌, ◌<◌, ◌≤◌, List, [], ◌∷◌, ◌++◌, ◌≡◌, refl, Some, None, inl, inr, lit<, lit≤, arith, subst, ap, length}
+use Rattle.std.proofs.Common.{ℕ, ◌+◌, ◌<◌, ◌≤◌, List, [], ◌∷◌, ◌++◌, ◌≡◌, refl, Option, Some, None, inl, inr, lit<, lit≤, arith, subst, ap, length}
 use Rattle.std.specs.Prelude.{fold}
 use Rattle.dkg_types.specs.declared.entry.Entry.{Entry}
 use Rattle.dkg_types.specs.declared.entry.Entry.TheVariants.{Opened, Committed, Registered, Setup, Entered, Acked, Ack, Cut, Step, Fault}
@@ -16,7 +16,9 @@ use Rattle.dkg_script.specs.Blocks.{used}
 use Rattle.dkg_script.specs.Position.{awaited_height, awaited_before}
 use Rattle.dkg_script.specs.Progress.{Progress, progress, read}
 use Rattle.dkg_script.specs.Order.{IsInOrder, InOrder}
+use Rattle.dkg_script.specs.AsCut.{with_cuts}
 use Rattle.dkg_script.specs.Promise.{IsHonestRun, cuts_in}
+use Rattle.dkg_script.specs.Setting.{CutAt}
 use Rattle.dkg_script.specs.Consistent.{IsConsistentScript}
 use Rattle.dkg_journal.specs.Names.{Files}
 use Rattle.dkg_script.proofs.OneDealing.{recorded}
@@ -85,7 +87,7 @@ pub awaits_no_more : awaited_before (setting script) (None ∷ []) 1 ≡ 0
 unfolding awaited_height
 awaits_no_more = refl
 
--- Of a cut at call 1 the call may never come: so where life 1 would start two epochs below, nothing is presumed of the script's runs.
+-- Of a cut at call 1 the call may never come, and life 1 starts two epochs below then: so nothing is presumed of the runs in which it doesn't come.
 abbrev may_miss : Script
 may_miss = script_of 2 (lit< tt) blocks (record first { cut = cut_at 1 1 0 } ∷ second ∷ [])
 
@@ -96,9 +98,20 @@ missed_falls_back : IsConsistentScript (setting may_miss) (None ∷ []) → ⊥
 unfolding awaited_height
 missed_falls_back consistent = too_far_back (consistent.never_back 1 (lit< tt) (lit≤ tt))
 
-pub missed_is_not_presumed : (image : Files → Type 0) → IsHonestRun (setting may_miss) image → ⊥
-missed_is_not_presumed image honest =
-    missed_falls_back (honest.source (None ∷ []) (inr (inl (lit< tt), refl), tt) [] (no_plan may_miss (None ∷ []) refl (refl, (refl, tt))))
+pub missed_is_not_presumed : (image : Files → Type 0) → IsHonestRun (with_cuts (None ∷ []) (setting may_miss)) image (None ∷ []) → ⊥
+missed_is_not_presumed image honest = missed_falls_back (honest.source [] (no_plan may_miss (None ∷ []) refl (refl, (refl, tt))))
+
+-- Where it came, life 0 ends within its step 1 and awaits the first epoch still: so of these runs all is promised.
+abbrev fell : List (Option CutAt)
+fell = Some (record { step = 1; call = 1 }) ∷ []
+
+pub awaits_no_more_cut : awaited_before (with_cuts fell (setting may_miss)) fell 1 ≡ 0
+unfolding awaited_height
+awaits_no_more_cut = refl
+
+pub uses_no_more_cut : length (used (with_cuts fell (setting may_miss))) ≡ 3
+unfolding used
+uses_no_more_cut = refl
 
 -- THE HONEST RUN ends life 0 before its step 1
 abbrev pub honest : List Entry

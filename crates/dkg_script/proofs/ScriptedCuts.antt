@@ -11,10 +11,9 @@ use Rattle.dkg_journal.specs.Names.{Files}
 use Rattle.dkg_text.specs.declared.script.Life.{Life}
 use Rattle.dkg_script.specs.Setting.{Setting, CutAt, life_at}
 use Rattle.dkg_script.specs.Progress.{Progress, read, at_start, progress, is_last_step, with_life_ended}
-use Rattle.dkg_script.specs.Consistent.{IsConsistentScript, MayEnd, MayEndSo}
+use Rattle.dkg_script.specs.Consistent.{MayEnd, MayEndSo}
 use Rattle.dkg_script.specs.Order.{IsInOrder, InOrder, IsOrderedStep, IsOrderedCut}
 use Rattle.dkg_script.specs.Laws.{EndsAsScripted}
-use Rattle.dkg_script.specs.Promise.{IsHonestRun, InEachCase, cuts_in}
 use Rattle.dkg_script.proofs.EachEntry.{EachAfter, all_splits}
 
 abbrev MayEndIts : Option CutAt → Life → Type 0
@@ -77,8 +76,3 @@ module _ (s : Setting) where
 
 pub ends_as_scripted : EndsAsScripted
 ends_as_scripted s out ordered = end_so s out ordered
-
--- so what is presumed of a script is presumed of its run
-pub source_of_run : (s : Setting) (image : Files → Type 0) (out : List Entry) → IsHonestRun s image → InOrder s out
-    → InEachCase s (cuts_in s out) (λ case. IsConsistentScript case (cuts_in s out))
-source_of_run s image out honest ordered = honest.source (cuts_in s out) (ends_as_scripted s out ordered)

@@ -69,9 +69,9 @@ module _ (plans : List (Option Material)) where
   unfolding info_in payload_after carried_at parts_at held_at outcome_after mode_at byte_at many_at keys_at groups_at validation round_of
   two_starts = record { first = refl; accepted = refl; round = refl }
 
-pub two_is_valid : IsValidScript (setting two)
-two_is_valid = record {
-  each = λ ends so plans history. record {
+pub two_is_valid : (ends : List (Option CutAt)) → IsValidScript (setting two) ends
+two_is_valid ends = record {
+  source = λ plans history. record {
     consistent = consistent_in plans ends history;
     in_turn = λ l began. two_in_turn plans l;
     starts = λ some. two_starts plans;
@@ -139,9 +139,9 @@ module _ (plans : List (Option Material)) where
   unfolding info_in payload_after carried_at parts_at held_at outcome_after mode_at byte_at many_at keys_at groups_at validation round_of
   delivering_starts = record { first = refl; accepted = refl; round = refl }
 
-pub delivering_is_valid : IsValidScript (setting delivering)
-delivering_is_valid = record {
-  each = λ ends so plans history. record {
+pub delivering_is_valid : (ends : List (Option CutAt)) → IsValidScript (setting delivering) ends
+delivering_is_valid ends = record {
+  source = λ plans history. record {
     consistent = delivering_consistent plans ends history;
     in_turn = λ l began. delivering_in_turn plans l;
     starts = λ some. delivering_starts plans;

@@ -1,5 +1,5 @@
 -- How the entries of a run end, by what ended it.
-use Rattle.std.specs.Prelude.{List, [], ◌∷◌, ◌++◌, ◌≡◌, ◌≢◌, ◌<◌, ◌⊎◌, Bool, true, false, ⊤, IsFalse, Result, Ok, Err}
+use Rattle.std.specs.Prelude.{List, [], ◌∷◌, ◌++◌, ◌≡◌, ◌≢◌, ◌<◌, Bool, true, false, ⊤, IsFalse, Result, Ok, Err}
 use Rattle.std.specs.List.{list_any}
 use Rattle.dkg_types.specs.declared.entry.Entry.{Entry}
 use Rattle.dkg_types.specs.declared.entry.Entry.TheVariants as entry
@@ -77,7 +77,3 @@ IsNodeFault NoMemory = ⊥
 IsNodeFault Disk = ⊥
 IsNodeFault Secrets = ⊥
 IsNodeFault fault = IsFaultOfToday fault
-
--- the entries of a run that a device ended
-abbrev pub EndsByDevice : List Entry → (disk_rose secrets_rose : Type 0) → Type 0
-EndsByDevice entries disk_rose secrets_rose = (EndsInFault entries Disk × disk_rose) ⊎ (EndsInFault entries Secrets × secrets_rose)

@@ -24,6 +24,24 @@ AcknowledgesOnce {D} image =
     → out ≡ before ++ Ack epoch dealer one ∷ (mid ++ Ack epoch dealer other ∷ after)
     → one ≡ other
 
+-- A run of t begins with what one of s left: an image that a crash then left of its disk, and its secrets. It is the same node's, and where both make a round of this
+-- epoch, they make the same.
+pub record GoesOn (s t : Setting) (image : Files → Type 0) (secrets : Secrets) (epoch : ℕ) : Type 0 where
+  pub files : image t.files
+  pub secrets_are : t.secrets ≡ secrets
+  pub node : me t ≡ me s
+  pub one_round : (one other : Round) → round_at s epoch ≡ Some one → round_at t epoch ≡ Some other → one ≡ other
+
+-- .. nor over two runs, until an epoch two above has begun in the first.
+abbrev pub AcknowledgesOnceAgain : {D : Type 0} → (D → Files → Type 0) → Type 0
+AcknowledgesOnceAgain {D} image =
+    (s t : Setting) (out next : List Entry) (disk disk_now : D) (secrets secrets_now : Secrets) → Kept s out (image disk) secrets → Kept t next (image disk_now) secrets_now
+    → (epoch dealer : ℕ) → GoesOn s t (image disk) secrets epoch
+    → begun s (progress s out).cuts (length (progress s out).cuts) (progress s out).step < epoch + 2
+    → (before after first rest : List Entry) (one other : List ℕ)
+    → out ≡ before ++ Ack epoch dealer one ∷ after → next ≡ first ++ Ack epoch dealer other ∷ rest
+    → one ≡ other
+
 -- the dealing that an acknowledgement stands for
 pub record StandsFor (s : Setting) (p : Progress) (epoch dealer : ℕ) (ack : List ℕ) : Type 0 where
   pub pair : Restored

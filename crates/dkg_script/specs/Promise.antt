@@ -15,7 +15,8 @@ use Rattle.dkg_script.specs.Form.{IsFormOfToday}
 use Rattle.dkg_script.specs.Setting.{Setting, CutAt, setting_of}
 use Rattle.dkg_script.specs.Position.{IsPlanHistory}
 use Rattle.dkg_script.specs.Progress.{progress}
-use Rattle.dkg_script.specs.Consistent.{IsConsistentScript, MayEndSo}
+use Rattle.dkg_script.specs.AsCut.{setting_as_cut}
+use Rattle.dkg_script.specs.Consistent.{IsConsistentScript}
 use Rattle.dkg_script.specs.Due.{IsDue, WroteAck}
 use Rattle.dkg_script.specs.Order.{InOrder}
 use Rattle.dkg_script.specs.Kept.{Kept}
@@ -49,10 +50,10 @@ pub record IsBuilt (s : Setting) : Type 0 where
   pub form : IsFormOfToday s.script
   pub no_plan : get s.files Plan ≡ None
 
--- The premise of the whole promise, of the stores and the script alone: the script is consistent wherever its cuts fall.
-pub record IsHonestRun (s : Setting) (image : Files → Type 0) : Type 0 where
+-- The premise of the whole promise, of the stores and of the script, whose first lives ended so.
+pub record IsHonestRun (s : Setting) (image : Files → Type 0) (ends : List (Option CutAt)) : Type 0 where
   pub stores : AreHonestStores s image
-  pub source : (ends : List (Option CutAt)) → MayEndSo s.script.lives ends → InEachCase s ends (λ case. IsConsistentScript case ends)
+  pub source : InEachCase s ends (λ case. IsConsistentScript case ends)
 
 -- COMPLETENESS
 
@@ -82,12 +83,17 @@ RunsInOrder script out = (files : Files) (secrets : Secrets) → InOrder (settin
 abbrev pub RunsAll : Script → List Entry → Type 0
 RunsAll script out = (files : Files) (secrets : Secrets) → length (cuts_in (setting_of script files secrets) out) ≡ length script.lives
 
--- Whatever ends the run: the transcript and the devices keep each recorded dealing. (`image` and `now` are what a crash may
--- leave before and after, and `secrets` what the secret store holds after.)
-abbrev pub KeepsDealings : Setting → (image now : Files → Type 0) → Secrets → List Entry → Type 0
-KeepsDealings s image now secrets out =
-    IsBuilt s → IsHonestRun s image → InACase s (cuts_in s out) (λ case. Kept case out now secrets)
+-- (The last two judge a transcript against the script as it was cut: what lies behind a cut within a step never came. That a transcript tells such a cut
+-- only where the script has it is its order, `RunsInOrder`.)
+
+-- Whatever ends the run: the transcript and the devices keep each recorded dealing. (`files` and `secrets` are what the devices held before, `image` and
+-- `now` what a crash may leave of the disk before and after, and `secrets_now` what the secret store holds after.)
+abbrev pub KeepsDealings : Script → Files → Secrets → (image now : Files → Type 0) → Secrets → List Entry → Type 0
+KeepsDealings script files secrets image now secrets_now out =
+    let s = setting_as_cut script files secrets out in
+    IsBuilt s → IsHonestRun s image (cuts_in s out) → InACase s (cuts_in s out) (λ case. Kept case out now secrets_now)
 
 -- On success: every life was run, and each dealing that was due was acknowledged.
-abbrev pub AnswersDealings : Setting → (image : Files → Type 0) → List Entry → Type 0
-AnswersDealings s image out = IsBuilt s → IsHonestRun s image → IsComplete s out
+abbrev pub AnswersDealings : Script → Files → Secrets → (image : Files → Type 0) → List Entry → Type 0
+AnswersDealings script files secrets image out =
+    let s = setting_as_cut script files secrets out in IsBuilt s → IsHonestRun s image (cuts_in s out) → IsComplete s out

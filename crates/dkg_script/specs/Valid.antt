@@ -14,7 +14,7 @@ use Rattle.dkg_script.specs.Readings.{Info}
 use Rattle.dkg_script.specs.Setting.{Setting, CutAt, life_at, limits}
 use Rattle.dkg_script.specs.Blocks.{Block, block_at, reshare_round}
 use Rattle.dkg_script.specs.Position.{awaited_height, event_of_step}
-use Rattle.dkg_script.specs.Consistent.{IsConsistentScript, MayEndSo}
+use Rattle.dkg_script.specs.Consistent.{IsConsistentScript}
 use Rattle.dkg_script.specs.Promise.{InEachCase}
 
 -- DELIVERIES
@@ -55,6 +55,6 @@ pub record IsValidCase (s : Setting) (ends : List (Option CutAt)) : Type 0 where
   -- where there is a life, the block that each one holds first is there and carries the first epoch's info
   pub starts : 0 < length s.script.lives → IsSomeAnd (block_at s 0) (CarriesFirstInfo s)
 
--- wherever its cuts fall
-pub record IsValidScript (s : Setting) : Type 0 where
-  pub each : (ends : List (Option CutAt)) → MayEndSo s.script.lives ends → InEachCase s ends (λ case. IsValidCase case ends)
+-- .. in each such case
+pub record IsValidScript (s : Setting) (ends : List (Option CutAt)) : Type 0 where
+  pub source : InEachCase s ends (λ case. IsValidCase case ends)

@@ -9,7 +9,7 @@ ghost use Rattle.dkg_script.specs.Starts.{AreFirst, IsFirstBlock};
 
 use crate::start::starts;
 use dkg_ceremony::{Mem, Mode};
-use dkg_text::{Anchor, BlockLine, Event, Life, Script, ScriptConfig};
+use dkg_text::{Anchor, BlockLine, Event, Events, Life, Script, ScriptConfig};
 use std::alloc::Global;
 
 fn is_counter(mode: Mode) -> bool
@@ -134,7 +134,7 @@ fn is_anchor(midpoint: u64, blocks: &[BlockLine], anchor: Anchor) -> bool
 }
 
 /// A message of the dealing channel, or a block below the midpoint.
-fn is_event(midpoint: u64, blocks: &[BlockLine], event: &Event) -> bool
+fn is_event(midpoint: u64, blocks: &[BlockLine], event: &Event<'_>) -> bool
     ensures { result ≡ is_event_of midpoint blocks.now event.now }
 {
     match event {
@@ -144,11 +144,11 @@ fn is_event(midpoint: u64, blocks: &[BlockLine], event: &Event) -> bool
     }
 }
 
-fn are_events(midpoint: u64, blocks: &[BlockLine], events: &[Event]) -> bool
+fn are_events(midpoint: u64, blocks: &[BlockLine], events: &Events) -> bool
     ensures { result ≡ are_events_of midpoint blocks.now events.now }
 {
-    for event in events {
-        if !is_event(midpoint, blocks, event) {
+    for i in 0..events.len() {
+        if !is_event(midpoint, blocks, &events.at(i)) {
             return false;
         }
     }
@@ -179,7 +179,7 @@ fn is_life(midpoint: u64, blocks: &[BlockLine], life: &Life) -> bool
     has_anchor(midpoint, blocks, life.anchor)
         && begins_at_zero(life.held.as_slice())
         && !life.sync.is_some()
-        && are_events(midpoint, blocks, life.events.as_slice())
+        && are_events(midpoint, blocks, &life.events)
 }
 
 fn are_lives(midpoint: u64, blocks: &[BlockLine], lives: &[Life]) -> bool

@@ -23,8 +23,8 @@ pub use dkg_text::{
     PlayerLines, ProbeLine, Script, ScriptConfig, SyncLine, print_of,
 };
 pub use promise::{
-    acknowledged_survives, acknowledges_once, comes_as_far, ends_as_scripted,
-    own_marks_stand_before, stays_honest, stays_in_order, stays_in_order_as_cut, stays_kept,
-    stays_of_today, stays_valid, valid_anyhow,
+    acknowledged_survives, acknowledges_once, comes_as_far, ends_as_scripted, honest_anyhow,
+    own_marks_stand_before, stays_in_order, stays_in_order_as_cut, stays_kept, stays_of_today,
+    valid_anyhow, valid_as_cut,
 };
 pub use read::{ReadError, read_built};

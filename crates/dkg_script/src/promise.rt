@@ -1,14 +1,19 @@
 //! What the promise of a run means, over every script, every transcript and every crash.
 //!
 //! Each law is a call without a body, whose contract is the law. Whoever relies on the promise cites them.
-ghost use Rattle.dkg_script.specs.AsCutLaws.{ComesAsFar, StaysHonest, StaysInOrderAsCut, StaysOfToday, StaysValid, ValidAnyhow};
-ghost use Rattle.dkg_script.specs.Laws.{AcknowledgesOnce, AcknowledgedSurvives, EndsAsScripted, OwnMarksStandBefore, StaysInOrder, StaysKept};
+ghost use Rattle.dkg_script.specs.AsCutLaws.{ComesAsFar, HonestAnyhow, StaysInOrderAsCut, StaysOfToday, ValidAnyhow, ValidAsCut};
+ghost use Rattle.dkg_script.specs.Laws.{AcknowledgesOnce, AcknowledgesOnceAgain, AcknowledgedSurvives, EndsAsScripted, OwnMarksStandBefore, StaysInOrder, StaysKept};
 
 use dkg_journal::Disk;
 
 /// No dealer gets two different acknowledgements of one epoch.
 pub fn acknowledges_once<D: Disk>()
     ensures { AcknowledgesOnce D.image }
+{}
+
+/// .. nor in two runs, of which the second begins with what the first left.
+pub fn acknowledges_once_again<D: Disk>()
+    ensures { AcknowledgesOnceAgain D.image }
 {}
 
 /// An acknowledged dealing is found again after every crash, until an epoch two above has begun.
@@ -52,16 +57,16 @@ pub fn stays_of_today()
 {}
 
 /// A script that is consistent wherever its cuts fall is consistent as it was cut.
-pub fn stays_honest<D: Disk>()
-    ensures { StaysHonest D.image }
+pub fn honest_anyhow<D: Disk>()
+    ensures { HonestAnyhow D.image }
 {}
 
 /// A script that is valid wherever its cuts fall is valid as it was cut.
-pub fn stays_valid()
-    ensures { StaysValid }
+pub fn valid_anyhow()
+    ensures { ValidAnyhow }
 {}
 
 /// A script that is valid as it is cut, however that may be, is valid as it was cut.
-pub fn valid_anyhow()
-    ensures { ValidAnyhow }
+pub fn valid_as_cut()
+    ensures { ValidAsCut }
 {}

@@ -50,8 +50,8 @@ fn a_script_is_read_field_by_field(rt: HostRuntime) -> Result<(), Fail> {
     let life = &script.lives.as_slice()[0];
     assert_eq!(rt; life.word, 9);
     assert_eq!(rt; life.held.as_slice(), [0u32].as_slice());
-    assert_eq!(rt; life.events.as_slice().len(), 1);
-    let Event::Peer { from, bytes } = &life.events.as_slice()[0] else {
+    assert_eq!(rt; life.events.len(), 1);
+    let Event::Peer { from, bytes } = &life.events.at(0) else {
         return Err("no message".into());
     };
     assert_eq!(rt; *from, Key(2));
@@ -73,7 +73,7 @@ fn blocks_positions_deliveries_and_cuts_are_read(rt: HostRuntime) -> Result<(), 
     let life = &script.lives.as_slice()[0];
     assert_eq!(rt; life.anchor, Some(Anchor::Processed(1)));
     assert_eq!(rt; life.held.as_slice(), [0u32, 2, 3].as_slice());
-    assert_eq!(rt; life.events.as_slice().len(), 2);
+    assert_eq!(rt; life.events.len(), 2);
     let cut = Cut {
         step: 1,
         call: 3,

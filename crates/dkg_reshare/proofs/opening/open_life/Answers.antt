@@ -15,15 +15,16 @@ use Rattle.dkg_reshare.specs.Moved.{StaysAbove}
 use Rattle.dkg_reshare.specs.Opened.{IsInGrammar, epoch_above, epoch_at}
 use Rattle.dkg_reshare.specs.Today.{seen_today}
 use Rattle.dkg_reshare.proofs.Caused.{rose_around}
-use Rattle.dkg_reshare.proofs.Kept.{above_then, moved_then, reached_behind}
-use Rattle.dkg_reshare.proofs.Openings.{beside_as, found_around, given_behind, given_stopped, given_untold, opening_failed, opening_made, opening_told, opening_untold, reading_lent, store_agrees}
+use Rattle.dkg_store.proofs.Counts.{reached_behind}
+use Rattle.dkg_reshare.proofs.Kept.{above_then, moved_then}
+use Rattle.dkg_reshare.proofs.Openings.{beside_as, found_around, given_behind, given_stopped, given_untold, opening_failed, opening_made, opening_told, opening_untold, reading_lent, store_agrees, was_readable}
 use Rattle.dkg_reshare.proofs.Placing.{none_beside}
 use Rattle.dkg_reshare.proofs.opening.open_life.Goals as goal
 
 pub returns-in_err-store-clause-readable : goal.returns-in_err-store-clause-readable
 returns-in_err-store-clause-readable g c = λ told.
     let p = err_from_is_err_and c.from_residual.result c.from_residual.ensures.1 in
-    let its = c.in_err-store.ensures.readable told in rw (p.1, p.2) (record { ok = tt; untold = its.untold })
+    let its = c.in_err-store.ensures.readable told in rw (p.1, p.2) (record { ok = tt; untold = its.untold; shut = its.shut })
 
 pub returns-in_err-store-clause-acts : goal.returns-in_err-store-clause-acts
 returns-in_err-store-clause-acts g c = λ disk secrets fixed opening seats fresh.
@@ -54,9 +55,7 @@ returns-in_err-store-clause-above g c = λ told.
 
 pub returns-in_err-set_up-clause-readable : goal.returns-in_err-set_up-clause-readable
 returns-in_err-set_up-clause-readable g c = λ told.
-    let p = err_from_is_err_and c.from_residual-in_err-set_up.result c.from_residual-in_err-set_up.ensures.1 in
-    let its = (c.in_ok-store.ensures.readable told).ok in
-    rw (p.1, p.2) (record { ok = tt; untold = λ no. absurd (no its) })
+    was_readable (c.in_ok-store.ensures.readable told).ok _
 
 pub returns-in_err-set_up-clause-acts : goal.returns-in_err-set_up-clause-acts
 returns-in_err-set_up-clause-acts g c = λ disk secrets fixed opening seats fresh.
@@ -87,8 +86,7 @@ returns-in_err-set_up-clause-above g c = λ told.
 
 pub returns-clause-readable : goal.returns-clause-readable
 returns-clause-readable g c = λ told.
-    let its = (c.in_ok-store.ensures.readable told).ok in
-    (record { ok = its; untold = λ no. absurd (no its) })
+    was_readable (c.in_ok-store.ensures.readable told).ok _
 
 pub returns-clause-acts : goal.returns-clause-acts
 returns-clause-acts g c = λ disk secrets fixed opening seats fresh.
@@ -121,7 +119,7 @@ returns-in_err-set_up-clause-causes g c =
     rw (p.1, p.2) (found_around (non_zero_u32_get c.args.terms.now.limit) g.D.Disk.tells _
     (rose_around _ _ _ _ c.open_store.ensures.moved.later_disk c.set_up.ensures.moved.later_disk (omega arith))
     (rose_around _ _ _ _ c.open_store.ensures.moved.later_secrets c.set_up.ensures.moved.later_secrets (omega arith))
-    (reached_behind g.D.Disk.tells g.D.Disk.made g.X.SecretStore.made g.D.Disk.faults g.X.SecretStore.faults c.args.devices.now c.open_store.new.devices _ c.open_store.ensures.moved)
+    (reached_behind _ _ _ c.open_store.ensures.moved.counts)
     c.in_err-set_up.field-0.0 c.in_err-set_up.ensures.causes)
 
 pub returns-clause-ready : goal.returns-clause-ready
@@ -134,9 +132,3 @@ returns-clause-live g c = λ disk secrets sound.
     c.in_ok-set_up.ensures.agrees disk secrets (made.made.stands sound.stands)
     (subst (λ (s : Store g.row.Dir.Denot). AreAgreed (records_of s) (held_in (g.D.Disk.files c.open_store.new.devices.disk.now) (g.X.SecretStore.held c.open_store.new.devices.secrets.now))) (sym (ap (λ (l : Life g.row.Dir.Denot). l.store) c.begin-life.ensures))
     (store_agrees g.row.Dir.Denot c.args.number (length (open_calls (g.D.Disk.files c.args.devices.now.disk.now))) (records_of c.in_ok-store.store) made (g.met.D.Disk.reads c.open_store.new.devices.disk.now disk) sound.stands sound.whole))
-
-pub returns-in_err-set_up-clause-shut : goal.returns-in_err-set_up-clause-shut
-returns-in_err-set_up-clause-shut g c = λ told. let its = (c.in_ok-store.ensures.readable told).ok in record { images = λ no. absurd (no its); same = λ no. absurd (no its) }
-
-pub returns-clause-shut : goal.returns-clause-shut
-returns-clause-shut g c = λ told. let its = (c.in_ok-store.ensures.readable told).ok in record { images = λ no. absurd (no its); same = λ no. absurd (no its) }

@@ -2,10 +2,9 @@ use Rattle.std.proofs.Common.{ℕ, List, Option, refl, sym, ◌∙◌, ap}
 use Rattle.std.proofs.lemmas.Result.{err_from_is_err_and}
 use Rattle.dkg_core.specs.Courses.{on_devices}
 use Rattle.dkg_reshare.specs.Steps.{reads_seed}
-use Rattle.dkg_reshare.proofs.Calls.{moved_read, no_later, none_on}
-use Rattle.dkg_reshare.proofs.Caused.{of_secrets_alone}
-use Rattle.dkg_reshare.proofs.Said.{devices_of_pruning, said_none}
-use Rattle.dkg_reshare.proofs.Under.{secrets_of_devices}
+use Rattle.dkg_reshare.proofs.Calls.{moved_called}
+use Rattle.dkg_reshare.proofs.Caused.{of_due}
+use Rattle.dkg_reshare.proofs.Said.{pruning_of_due, said_none}
 use Rattle.dkg_core.specs.Fixed.{fresh_seed}
 use Rattle.dkg_core.specs.Setup as setup
 use Rattle.dkg_reshare.proofs.Setting.{seed_read}
@@ -15,7 +14,7 @@ pub returns-in_err-seed-clause-tells : goal.returns-in_err-seed-clause-tells
 returns-in_err-seed-clause-tells g c =
     let p = err_from_is_err_and c.from_residual.result c.from_residual.ensures.1 in
     rw (p.1, p.2) (λ fixed out. said_none (on_devices (reads_seed fixed c.args.epoch)) c.in_err-seed.field-0.0
-    (devices_of_pruning c.in_err-seed.field-0.0 (secrets_of_devices c.in_err-seed.field-0.0 c.in_err-seed.ensures.kinds)) refl)
+    (pruning_of_due _ _ _ _ _ c.in_err-seed.field-0.0 c.in_err-seed.ensures.due) refl)
 
 pub returns-in-Some-clause-acts : goal.returns-in-Some-clause-acts
 returns-in-Some-clause-acts g c = λ disk secrets fixed reads word out.
@@ -30,20 +29,17 @@ returns-in-None-clause-acts g c = λ disk secrets fixed reads word out.
 
 pub returns-in_err-seed-clause-moved : goal.returns-in_err-seed-clause-moved
 returns-in_err-seed-clause-moved g c =
-    moved_read g.D.Disk.tells g.D.Disk.made g.X.SecretStore.made g.D.Disk.faults g.X.SecretStore.faults c.args.devices.now c.seed.new.devices c.seed.ensures.same_disk c.seed.ensures.same_secrets
-    (no_later g.D.Disk.faults _ _ c.seed.ensures.disk) c.seed.ensures.later_secrets (none_on g.D.Disk.made g.met.D.Disk.made_none _ _ c.seed.ensures.disk) c.seed.ensures.calls c.seed.ensures.fuse
+    moved_called g.D.Disk.tells g.D.Disk.made g.X.SecretStore.made g.D.Disk.faults g.X.SecretStore.faults (λ told. tt) c.seed.ensures.called
 
 pub returns-in-Some-clause-moved : goal.returns-in-Some-clause-moved
 returns-in-Some-clause-moved g c =
-    moved_read g.D.Disk.tells g.D.Disk.made g.X.SecretStore.made g.D.Disk.faults g.X.SecretStore.faults c.args.devices.now c.seed.new.devices c.seed.ensures.same_disk c.seed.ensures.same_secrets
-    (no_later g.D.Disk.faults _ _ c.seed.ensures.disk) c.seed.ensures.later_secrets (none_on g.D.Disk.made g.met.D.Disk.made_none _ _ c.seed.ensures.disk) c.seed.ensures.calls c.seed.ensures.fuse
+    moved_called g.D.Disk.tells g.D.Disk.made g.X.SecretStore.made g.D.Disk.faults g.X.SecretStore.faults (λ told. tt) c.seed.ensures.called
 
 pub returns-in-None-clause-moved : goal.returns-in-None-clause-moved
 returns-in-None-clause-moved g c =
-    moved_read g.D.Disk.tells g.D.Disk.made g.X.SecretStore.made g.D.Disk.faults g.X.SecretStore.faults c.args.devices.now c.seed.new.devices c.seed.ensures.same_disk c.seed.ensures.same_secrets
-    (no_later g.D.Disk.faults _ _ c.seed.ensures.disk) c.seed.ensures.later_secrets (none_on g.D.Disk.made g.met.D.Disk.made_none _ _ c.seed.ensures.disk) c.seed.ensures.calls c.seed.ensures.fuse
+    moved_called g.D.Disk.tells g.D.Disk.made g.X.SecretStore.made g.D.Disk.faults g.X.SecretStore.faults (λ told. tt) c.seed.ensures.called
 
 pub returns-in_err-seed-clause-causes : goal.returns-in_err-seed-clause-causes
 returns-in_err-seed-clause-causes g c =
     let p = err_from_is_err_and c.from_residual.result c.from_residual.ensures.1 in
-    rw (p.1, p.2) (of_secrets_alone c.in_err-seed.field-0.0 c.in_err-seed.ensures.kinds c.in_err-seed.ensures.secrets (λ cut. absurd (c.in_err-seed.ensures.no_cut cut)))
+    rw (p.1, p.2) (of_due _ c.in_err-seed.field-0.0 c.in_err-seed.ensures.due (λ no. no) (λ rose. rose) (λ no. absurd no))

@@ -20,7 +20,7 @@ use Rattle.dkg_reshare.proofs.Beginning.{makes_as, tells_as}
 use Rattle.dkg_reshare.proofs.Burning.{speaks_makes, unless}
 use Rattle.dkg_reshare.proofs.Caused.{of_result}
 use Rattle.dkg_reshare.proofs.Kept.{above_itself, moved_none}
-use Rattle.dkg_reshare.proofs.Placing.{any_fixed, any_lent, any_reads, any_seats, bare_block, both_ok, by_block, epoch_there, followed, following_ready, no_bounds, no_height, none_beside, ok_given, one_beside, set_up_ready, stands_there, took_none}
+use Rattle.dkg_reshare.proofs.Placing.{any_fixed, any_lent, any_reads, any_seats, bare_block, by_block, epoch_there, followed, following_ready, no_bounds, no_height, none_beside, ok_given, one_beside, set_up_ready, stands_there, then_ok, took_none}
 use Rattle.dkg_reshare.proofs.Openings.{setup_agrees}
 use Rattle.dkg_reshare.proofs.Said.{speaks_tells}
 use Rattle.dkg_reshare.proofs.Seated.{on_ok}
@@ -166,7 +166,7 @@ returns-clause-tells g c = λ fixed beside lent seats.
 pub returns-clause-ready : goal.returns-clause-ready
 returns-clause-ready g c =
     let found = rw c.new.ensures at c.in-Some-containing.ensures.value in
-    both_ok c.set_up_by.result (set_up_ready g.D.Disk.tells g.D.Disk.files g.D.Disk.image g.C.Ceremony.ack_of c.args.terms.now c.args.life.now c.begin_epoch.new.life c.set_up_by.new.life c.in-Some.height c.in-Some.ensures.some c.in-Some-containing.bounds found c.begin_epoch.ensures c.set_up_by.ensures.rest c.set_up_by.new.devices) c.set_up_by.ensures.open c.set_up_by.ensures.sits
+    then_ok c.set_up_by.result (set_up_ready g.D.Disk.tells g.D.Disk.files g.D.Disk.image g.C.Ceremony.ack_of c.args.terms.now c.args.life.now c.begin_epoch.new.life c.set_up_by.new.life c.in-Some.height c.in-Some.ensures.some c.in-Some-containing.bounds found c.begin_epoch.ensures c.set_up_by.ensures.rest c.set_up_by.new.devices) c.set_up_by.ensures.done
 
 pub returns-clause-above : goal.returns-clause-above
 returns-clause-above g c = λ told.

@@ -1,6 +1,7 @@
 use Rattle.std.proofs.Common.{◌-◌, ◌∙◌, None, ap, arith, refl}
 use Rattle.std.proofs.lemmas.Result.{err_from_is_err_and}
 use Rattle.std.specs.Int.NonZero.{non_zero_u32_get}
+use Rattle.dkg_store.proofs.Counts.{reached_behind}
 use Rattle.dkg_core.specs.Setup as setup
 use Rattle.dkg_core.specs.Setup.{Uncommitted}
 use Rattle.dkg_reshare.specs.declared.life.Life.{Life}
@@ -9,7 +10,8 @@ use Rattle.dkg_reshare.specs.LiveOf.{live_of, with_scheme_of}
 use Rattle.dkg_reshare.proofs.Burning.{speaks_makes, unless, unless_outside}
 use Rattle.dkg_reshare.proofs.Caused.{caused_around, caused_by_around, of_result, of_want, rose_around}
 use Rattle.dkg_reshare.proofs.Drawing.{stands_on}
-use Rattle.dkg_reshare.proofs.Kept.{above_committed, above_itself, above_pruned, above_same, gives_pruned, moved_none, moved_then, reached_behind}
+use Rattle.dkg_reshare.proofs.Kept.{above_committed, above_itself, above_pruned, above_same, gives_pruned, moved_none, moved_then}
+use Rattle.dkg_reshare.proofs.Placing.{drawn_up}
 use Rattle.dkg_reshare.proofs.Said.{speaks_tells}
 use Rattle.dkg_reshare.proofs.Seated.{same_but}
 use Rattle.dkg_reshare.proofs.SettingUp.{commit_ended, commit_unsaid, draw_ended, draw_said, drawing, judge_failed, passed_over, prune_ended, prune_unsaid, register_ended, register_unsaid, registering, seed_ended, seed_of_none, seed_told, seed_unsaid}
@@ -154,13 +156,13 @@ returns-clause-moved g c =
 pub returns-in_err-seed-clause-causes : goal.returns-in_err-seed-clause-causes
 returns-in_err-seed-clause-causes g c =
     let p = err_from_is_err_and c.from_residual-in_err-seed.result c.from_residual-in_err-seed.ensures.1 in
-    rw (p.1, p.2) (caused_around g.D.Disk.tells (λ x. absurd x) (λ x. x) (λ told x. x) c.in_err-seed.field-0.0 c.in_err-seed.ensures.causes.1)
+    rw (p.1, p.2) (caused_around g.D.Disk.tells (λ x. absurd x) (λ x. x) (λ x. x) c.in_err-seed.field-0.0 c.in_err-seed.ensures.causes.1)
 
 pub returns-in_err-commit-clause-causes : goal.returns-in_err-commit-clause-causes
 returns-in_err-commit-clause-causes g c =
     let p = err_from_is_err_and c.from_residual-in_err-commit.result c.from_residual-in_err-commit.ensures.1 in
     rw (p.1, p.2) (caused_around g.D.Disk.tells (λ x. absurd x) (λ x. rose_around _ _ _ _ c.seed_for.ensures.moved.later_secrets c.commit.ensures.moved.later_secrets (omega arith) x)
-    (λ told x. reached_behind g.D.Disk.tells g.D.Disk.made g.X.SecretStore.made g.D.Disk.faults g.X.SecretStore.faults _ _ _ c.seed_for.ensures.moved told x) c.in_err-commit.field-0.0 c.in_err-commit.ensures.causes.1)
+    (λ x. reached_behind _ _ _ c.seed_for.ensures.moved.counts x) c.in_err-commit.field-0.0 c.in_err-commit.ensures.causes.1)
 
 pub returns-in_err-prune-clause-causes : goal.returns-in_err-prune-clause-causes
 returns-in_err-prune-clause-causes g c =
@@ -168,7 +170,7 @@ returns-in_err-prune-clause-causes g c =
     let before = moved_then g.D.Disk.tells g.D.Disk.made g.X.SecretStore.made g.D.Disk.faults g.X.SecretStore.faults g.met.D.Disk.made_more g.met.X.SecretStore.made_more _ _ _ c.seed_for.ensures.moved c.commit.ensures.moved in
     rw (p.1, p.2) (caused_by_around g.D.Disk.tells (λ x. rose_around _ _ _ _ before.later_disk c.prune.ensures.moved.later_disk (omega arith) x)
     (λ x. rose_around _ _ _ _ before.later_secrets c.prune.ensures.moved.later_secrets (omega arith) x)
-    (λ told x. reached_behind g.D.Disk.tells g.D.Disk.made g.X.SecretStore.made g.D.Disk.faults g.X.SecretStore.faults _ _ _ before told x) c.in_err-prune.field-0.0 c.in_err-prune.ensures.causes.1)
+    (λ x. reached_behind _ _ _ before.counts x) c.in_err-prune.field-0.0 c.in_err-prune.ensures.causes.1)
 
 pub returns-clause-causes : goal.returns-clause-causes
 returns-clause-causes g c = of_result g.D.Disk.tells _ _ _ c.draw_up.result c.draw_up.ensures.causes
@@ -188,3 +190,8 @@ returns-in_err-prune-clause-rest g c = same_but c.args.life.now c.prune.new.life
 pub returns-clause-rest : goal.returns-clause-rest
 returns-clause-rest g c = same_but c.args.life.now c.draw_up.new.life
     (ap (λ (l : Life g.row.Dir.Denot). l.epoch) c.draw_up.ensures.rest ∙ ap (λ (l : Life g.row.Dir.Denot). l.epoch) c.prune.ensures.rest ∙ ap (λ (l : Life g.row.Dir.Denot). l.epoch) c.commit.ensures.rest) (ap (λ (l : Life g.row.Dir.Denot). l.midpoint) c.draw_up.ensures.rest ∙ ap (λ (l : Life g.row.Dir.Denot). l.midpoint) c.prune.ensures.rest ∙ ap (λ (l : Life g.row.Dir.Denot). l.midpoint) c.commit.ensures.rest) (ap (λ (l : Life g.row.Dir.Denot). l.tip) c.draw_up.ensures.rest ∙ ap (λ (l : Life g.row.Dir.Denot). l.tip) c.prune.ensures.rest ∙ ap (λ (l : Life g.row.Dir.Denot). l.tip) c.commit.ensures.rest)
+
+pub returns-clause-done : goal.returns-clause-done
+returns-clause-done g c =
+    drawn_up g.D.Disk.tells g.D.Disk.files g.D.Disk.image g.C.Ceremony.ack_of c.args.terms.now.me c.args.phase c.prune.new.life c.draw_up.new.life c.prune.new.devices c.draw_up.ensures.rest c.in_ok-prune.ensures.open
+    c.draw_up.result c.draw_up.ensures.sits

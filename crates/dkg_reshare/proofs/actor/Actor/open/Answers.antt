@@ -17,7 +17,7 @@ returns-in_err-life-clause-tells g c = λ fixed lent life today by fresh.
 pub returns-in_err-life-clause-readable : goal.returns-in_err-life-clause-readable
 returns-in_err-life-clause-readable g c = λ told.
     let p = err_from_is_err_and c.from_residual.result c.from_residual.ensures.1 in
-    rw (p.1, p.2) (record { ok = tt; untold = (c.in_err-life.ensures.readable told).untold })
+    rw (p.1, p.2) (let its = c.in_err-life.ensures.readable told in record { ok = tt; untold = its.untold; shut = its.shut })
 
 pub returns-clause-acts : goal.returns-clause-acts
 returns-clause-acts g c = λ disk secrets fixed opening by fresh. c.in_ok-life.ensures.acts disk secrets fixed opening by.seats fresh
@@ -28,4 +28,4 @@ returns-clause-tells g c = λ fixed lent life today by fresh.
     record { seen = read.seen; shareless = read.shareless; unplanned = read.unplanned; listed = read.listed; given = read.given; so = read.so }
 
 pub returns-clause-readable : goal.returns-clause-readable
-returns-clause-readable g c = λ told. let its = c.in_ok-life.ensures.readable told in record { ok = its.ok; untold = its.untold }
+returns-clause-readable g c = λ told. let its = c.in_ok-life.ensures.readable told in record { ok = its.ok; untold = its.untold; shut = its.shut }
