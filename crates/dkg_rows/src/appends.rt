@@ -19,7 +19,8 @@ pub fn append_two<D: Disk>(
 ) -> Result<(), JournalError>
     requires open { IsTrue D.tells → IsOpen journal.old (D.files disk.old) (D.image disk.old) }
     requires settled { IsTrue D.tells → Lands (D.files disk.old) (D.image disk.old) }
-    ensures both { OnOk result (IsTrue D.tells → journaled (D.files disk.new) ≡ after_operation (Appends (section, second.now)) (after_operation (Appends (section, first.now)) (journaled (D.files disk.old)))) }
+    ensures both { OnOk result (IsTrue D.tells → journaled (D.files disk.new)
+        ≡ after_operation (Appends (section, second.now)) (after_operation (Appends (section, first.now)) (journaled (D.files disk.old)))) }
     ensures settled { OnOk result (IsTrue D.tells → Lands (D.files disk.new) (D.image disk.new)) }
 {
     journal.append(alloc, disk, fuse, section, first)?;

@@ -38,7 +38,7 @@ same_there x y e = cc
 
 -- THE EVENTS THAT THE LIFE COMES TO
 
-one_more : {A : Type 0} (xs : List A) (i : ℕ) (x : A) → slice_get xs i ≡ Some x → take (suc i) xs ≡ take i xs ++ x ∷ []
+pub one_more : {A : Type 0} (xs : List A) (i : ℕ) (x : A) → slice_get xs i ≡ Some x → take (suc i) xs ≡ take i xs ++ x ∷ []
 one_more [] i x is = absurd (none_there x is)
 one_more {A} (y ∷ xs) zero x is = ap (λ (z : A). z ∷ []) (same_there y x is)
 one_more {A} (y ∷ xs) (suc i) x is = ap (λ (zs : List A). y ∷ zs) (one_more xs i x is)

@@ -1,8 +1,7 @@
 -- Why a valid run comes to its end: each fault but want of memory is against one of its premises.
 use Rattle.std.proofs.Common.{◌≡◌, ◌≢◌, ℕ, zero, suc, ◌-◌, ◌<◌, ◌≤◌, ◌⊎◌, inl, inr, List, [], ◌∷◌, map, drop, Option, Some, None, Result, Ok, Err, false, true, arith, refl, sym, ap, subst, ◌∙◌, length}
-use Rattle.std.specs.Prelude.{IfErr, slice_get, take, option_and_then, option_map, IsSome, IsSomeAnd}
+use Rattle.std.specs.Prelude.{IfErr, slice_get, take, option_and_then, IsSome, IsSomeAnd}
 use Rattle.std.specs.Result.{result_ok}
-use Rattle.std.proofs.lemmas.List.{length-map}
 use Rattle.dkg_ceremony.specs.Dealings.{dealing_of}
 use Rattle.dkg_ceremony.specs.declared.round.Round.{Round}
 use Rattle.dkg_ceremony.specs.declared.round.RoundError.{RoundError}
@@ -25,27 +24,30 @@ use Rattle.dkg_store.specs.Recorded.{first_refused, of_epoch}
 use Rattle.dkg_store.specs.Secrets.{Secrets}
 use Rattle.dkg_store.proofs.OpeningActs.{no_other, no_place}
 use Rattle.dkg_text.specs.declared.script.BlockLine.{BlockLine}
-use Rattle.dkg_text.specs.declared.script.Cut.{Cut}
 use Rattle.dkg_text.specs.declared.script.Life.{Life}
 use Rattle.dkg_text.specs.declared.script.Script.{Script}
+use Rattle.dkg_script.specs.AsCut.{with_cuts}
 use Rattle.dkg_script.specs.Blocks.{block_of, blocks}
-use Rattle.dkg_script.specs.Consistent.{MayEnd, MayEndSo}
 use Rattle.dkg_script.specs.Ends.{EndsFaulted, EndsRun, HasRisen}
+use Rattle.dkg_script.specs.Order.{InOrder}
 use Rattle.dkg_script.specs.Position.{awaited_height}
-use Rattle.dkg_script.specs.Promise.{IsBuilt, IsHonestRun}
+use Rattle.dkg_script.specs.Progress.{Progress, progress}
+use Rattle.dkg_script.specs.Promise.{IsBuilt, IsHonestRun, RunsInOrder}
 use Rattle.dkg_script.specs.Readings.{Info, Limits, info_in}
 use Rattle.dkg_script.specs.Setting.{Setting, CutAt, limits, recovered_from, setting_of}
 use Rattle.dkg_script.specs.Valid.{CarriesFirstInfo, DeliversInTurn, IsFirstInfo, IsValidCase, participants_in}
+use Rattle.dkg_script.proofs.AsCut.{same_progress}
 use Rattle.dkg_script.proofs.LineBlocks.{no_line, of_line}
-use Rattle.dkg_script.proofs.Today.{plain_of}
-use Rattle.dkg_run.specs.Complete.{IsValidRun}
+use Rattle.dkg_script.proofs.ScriptedCuts.{ends_as_scripted}
+use Rattle.dkg_run.specs.Complete.{IsValidAnyhow, IsValidAsCut, IsValidRun}
 use Rattle.dkg_run.specs.Found.{IsFound, IsLocalFound, NamesNoRecord, Reader, first_info, made_by, reader_in, tried_by}
 use Rattle.dkg_run.specs.Given.{limits_of}
 use Rattle.dkg_run.specs.Lives.{LivesFrom, RunsSo, TellsEnd}
+use Rattle.dkg_run.specs.Over.{Standing}
 use Rattle.dkg_run.specs.Passing.{ArePassing}
-use Rattle.dkg_run.specs.Refusals.{BlamesOnlySkips, IsRefusal, SkipsIn, SkipsSomewhere}
+use Rattle.dkg_run.specs.Refusals.{BlamesOnlySkips, IsRefusal, SkipsIn, SkipsNow}
 use Rattle.dkg_run.specs.Ways.{Way}
-use Rattle.dkg_run.proofs.Resting.{IsTodays, is_history}
+use Rattle.dkg_run.proofs.Resting.{is_history, today_of}
 
 -- NO CORRUPT RECORD
 
@@ -82,28 +84,10 @@ pub unblamed : (reader : Reader) (files_now : Files) (held_now : Secrets) (image
 unblamed reader files_now held_now image now (Ok done) found fit here = tt
 unblamed reader files_now held_now image now (Err its) found fit here = λ fits. names_none reader files_now held_now now its found (fit fits) here
 
--- LIVES MAY END where the script cuts them
-
-abbrev end_of : Life → Option CutAt
-end_of life = option_map (λ cut. record { step = cut.step; call = cut.call }) life.cut
-
-may_end : (events : ℕ) (cut : Option Cut) → MayEnd events cut (option_map (λ its. record { step = its.step; call = its.call }) cut)
-may_end events None = refl
-may_end events (Some cut) = inl refl
-
-may_end_so : (lives : List Life) → MayEndSo lives (map end_of lives)
-may_end_so [] = tt
-may_end_so (life ∷ lives) = (may_end (length life.events) life.cut, may_end_so lives)
-
 -- OPTIONS
 
 not_there : {A : Type 0} (x : A) → None ≡ Some x → ⊥
 not_there x e = cc
-
-within : {A : Type 0} (xs : List A) (n : ℕ) (x : A) → slice_get xs n ≡ Some x → n ≤ length xs
-within [] n x is = absurd (not_there x is)
-within (y ∷ xs) zero x is = omega arith
-within (y ∷ xs) (suc n) x is = omega (arith, within xs n x is)
 
 -- a fact of what is there, and another that it excludes
 both_there : {A : Type 0} (o : Option A) (P Q : A → Type 0) → IsSomeAnd o P → IsSomeAnd o Q → ((x : A) → P x → Q x → ⊥) → ⊥
@@ -181,14 +165,14 @@ module _ (script : Script) (files : Files) (held : Secrets) (built : IsBuilt (se
   accepts i its = subst (λ (n : ℕ). validation (participants_in i) n (Some i.output) 0 ≡ Ok tt) (ap (λ (l : Limits). l.most) same_limits) its.accepted
 
   module _ (P Q : Type 0) (now : Files → Type 0) (files_now : Files) (held_now : Secrets) (here : now files_now) (passing : ArePassing (reader_in script) now held_now)
-      (no_disk : P → ⊥) (no_secrets : Q → ⊥) (some : 0 < length script.lives) (none_skips : (its : Fault) → SkipsSomewhere s its → ⊥) where
+      (no_disk : P → ⊥) (no_secrets : Q → ⊥) (some : 0 < length script.lives) (none_skips : (its : Fault) → SkipsNow s ends its → ⊥) where
     no_dealing : (epoch dealer : ℕ) → IsLocalFound (reader_in script) (recovered_from files_now held_now) (StoredDealing epoch dealer) → ⊥
     no_dealing epoch dealer found =
         let refused : first_refused (dealing_of found.round (reader_in script).me) (of_epoch 0 (recovered_from files_now held_now)) ≡ Some dealer =
         subst (λ (n : ℕ). first_refused (dealing_of found.round (reader_in script).me) (of_epoch n (recovered_from files_now held_now)) ≡ Some dealer) found.first_epoch found.refused in
         some_apart dealer (first_refused (dealing_of found.round (reader_in script).me) (of_epoch 0 (recovered_from files_now held_now))) refused (passing.each found.round found.made files_now here)
 
-    pub no_cause : (its : Fault) → HasRisen its P Q → NamesNoRecord its → IsFound (reader_in script) files_now held_now its → (IsRefusal its → SkipsSomewhere s its) → ⊥
+    pub no_cause : (its : Fault) → HasRisen its P Q → NamesNoRecord its → IsFound (reader_in script) files_now held_now its → (IsRefusal its → SkipsNow s ends its) → ⊥
     no_cause Disk risen names found skips = no_disk risen
     no_cause SecretsFailed risen names found skips = no_secrets risen
     no_cause (Corrupt name place) risen names found skips = names
@@ -211,54 +195,50 @@ module _ (script : Script) (files : Files) (held : Secrets) (built : IsBuilt (se
 
 -- A VALID RUN
 
-module _ (script : Script) (files : Files) (held : Secrets) (image : Files → Type 0) (valid : IsValidRun (setting_of script files held) image) where
+module _ (script : Script) (files : Files) (held : Secrets) (image : Files → Type 0) (ends : List (Option CutAt)) (valid : IsValidRun (setting_of script files held) image ends) where
   abbrev its_setting : Setting
   its_setting = setting_of script files held
 
-  todays : IsTodays its_setting
-  todays = record {
-    built = valid.built;
-    no_plans = refl;
-    consistent = (valid.script.each [] tt [] (record { first = sym (plain_of its_setting valid.built).no_record; next = λ l below. absurd (none_below l below) })).consistent;
-  }
-    where
-      none_below : (l : ℕ) → l < 0 → ⊥
-      none_below l below = omega (arith, below)
+  honest : IsHonestRun its_setting image ends
+  honest = record { stores = valid.devices.stores; source = λ plans history. (valid.script.source plans history).consistent }
 
-  -- as its lives are cut
-  cut_case : IsValidCase its_setting (map end_of script.lives)
-  cut_case = valid.script.each (map end_of script.lives) (may_end_so script.lives) [] (is_history its_setting (map end_of script.lives) todays)
+  the_case : IsValidCase its_setting ends
+  the_case = valid.script.source [] (is_history its_setting ends (today_of script files held ends valid.built honest.source))
 
-  cut_skips : (its : Fault) → SkipsSomewhere its_setting its → ⊥
-  cut_skips its skips =
-      let low : skips.number ≤ length (map end_of script.lives) = rw (length-map script.lives end_of) (within script.lives skips.number skips.life skips.life_is) in
-      let in_turn : DeliversInTurn its_setting skips.number skips.life = rw skips.life_is at (cut_case.in_turn skips.number low) in
-      no_skip its_setting skips.number skips.life its in_turn skips.skips
-
-  honest : IsHonestRun its_setting image
-  honest = record { stores = valid.devices.stores; source = λ ends so plans history. (valid.script.each ends so plans history).consistent }
+  now_skips : (its : Fault) → SkipsNow its_setting ends its → ⊥
+  now_skips its skips =
+      let in_turn : DeliversInTurn its_setting (length ends) skips.life = rw skips.life_is at (the_case.in_turn (length ends) (omega arith)) in
+      no_skip its_setting (length ends) skips.life its in_turn skips.skips
 
   -- so what a run answers that a fault ended is want of memory
   pub ends_in_memory : (P Q : Type 0) (now : Files → Type 0) (files_now : Files) (held_now : Secrets) → now files_now → AreFit (reader_in script).limit now → ArePassing (reader_in script) now held_now → (P → ⊥) → (Q → ⊥)
-      → (its : Fault) (added : List Entry) → EndsFaulted its added P Q → IsFound (reader_in script) files_now held_now its → BlamesOnlySkips its_setting image its → (its ≡ NoMemory) ⊎ (0 < length script.lives) → its ≡ NoMemory
-  ends_in_memory P Q now files_now held_now here fit passing no_disk no_secrets its added ends found skips (inl none) = none
-  ends_in_memory P Q now files_now held_now here fit passing no_disk no_secrets its added ends found skips (inr some) = by_its its ends found skips
+      → (its : Fault) (added : List Entry) → EndsFaulted its added P Q → IsFound (reader_in script) files_now held_now its → BlamesOnlySkips its_setting image ends its → (its ≡ NoMemory) ⊎ (0 < length script.lives) → its ≡ NoMemory
+  ends_in_memory P Q now files_now held_now here fit passing no_disk no_secrets its added faulted found skips (inl none) = none
+  ends_in_memory P Q now files_now held_now here fit passing no_disk no_secrets its added faulted found skips (inr some) = by_its its faulted found skips
     where
-      told : (own : Fault) → HasRisen own P Q → IsFound (reader_in script) files_now held_now own → BlamesOnlySkips its_setting image own → ⊥
-      told own risen found skips = no_cause script files held valid.built (map end_of script.lives) cut_case P Q now files_now held_now here passing no_disk no_secrets some cut_skips own risen
+      told : (own : Fault) → HasRisen own P Q → IsFound (reader_in script) files_now held_now own → BlamesOnlySkips its_setting image ends own → ⊥
+      told own risen found skips = no_cause script files held valid.built ends the_case P Q now files_now held_now here passing no_disk no_secrets some now_skips own risen
           (names_none (reader_in script) files_now held_now now own found fit here) found (skips valid.built honest)
 
-      by_its : (own : Fault) → EndsFaulted own added P Q → IsFound (reader_in script) files_now held_now own → BlamesOnlySkips its_setting image own → own ≡ NoMemory
-      by_its NoMemory ends found skips = refl
-      by_its own ends found skips = absurd (told own ends.1 found skips)
+      by_its : (own : Fault) → EndsFaulted own added P Q → IsFound (reader_in script) files_now held_now own → BlamesOnlySkips its_setting image ends own → own ≡ NoMemory
+      by_its NoMemory faulted found skips = refl
+      by_its own faulted found skips = absurd (told own faulted.1 found skips)
+
+-- What is valid however it is cut is valid as it was.
+pub valid_as_cut : (script : Script) (entries : List Entry) (before : Standing) → IsValidAnyhow script before → RunsInOrder script entries → IsValidAsCut script entries before
+valid_as_cut script entries before valid ordered =
+    let s : Setting = setting_of script before.files before.held in
+    let ends : List (Option CutAt) = (progress s entries).cuts in
+    let here : InOrder s entries = ordered before.files before.held in
+    subst (λ (its : List (Option CutAt)). IsValidRun (with_cuts ends s) before.image its) (sym (ap (λ (p : Progress). p.cuts) (same_progress s ends entries here refl))) (valid ends (ends_as_scripted s entries here))
 
 -- THE CLAUSE of complete
-pub completes : {W : Type 0} (way : Way W) (script : Script) (first : Files → Type 0) (w new : W) (files files_now : Files) (held held_now : Secrets) (image now : Files → Type 0) (Tells P Q : Type 0) (answered : Result (Unit {0}) Fault) (added : List Entry)
+pub completes : {W : Type 0} (way : Way W) (script : Script) (first : Files → Type 0) (w new : W) (files files_now : Files) (held held_now : Secrets) (image now : Files → Type 0) (Tells P Q : Type 0) (answered : Result (Unit {0}) Fault) (added : List Entry) (ends : List (Option CutAt))
     → RunsSo way script first w answered new → EndsRun answered added P Q → IfErr answered (λ its. Tells → IsFound (reader_in script) files_now held_now its)
-    → IfErr answered (BlamesOnlySkips (setting_of script files held) image) → (Tells → now files_now) → (Tells → AreFit (reader_in script).limit image → AreFit (reader_in script).limit now)
+    → IfErr answered (BlamesOnlySkips (setting_of script files held) image ends) → (Tells → now files_now) → (Tells → AreFit (reader_in script).limit image → AreFit (reader_in script).limit now)
     → (Tells → ArePassing (reader_in script) image held → ArePassing (reader_in script) now held_now)
-    → IfErr answered (λ its. Tells → IsValidRun (setting_of script files held) image → (P → ⊥) → (Q → ⊥) → its ≡ NoMemory)
-completes way script first w new files files_now held held_now image now Tells P Q (Ok done) added run ends found skips here fit passing = tt
-completes way script first w new files files_now held held_now image now Tells P Q (Err its) added run ends found skips here fit passing = λ told valid no_disk no_secrets.
-    ends_in_memory script files held image valid P Q now files_now held_now (here told) (fit told valid.devices.fit) (passing told valid.devices.passing) no_disk no_secrets its added ends (found told) skips
+    → IfErr answered (λ its. Tells → IsValidRun (setting_of script files held) image ends → (P → ⊥) → (Q → ⊥) → its ≡ NoMemory)
+completes way script first w new files files_now held held_now image now Tells P Q (Ok done) added ends run faulted found skips here fit passing = tt
+completes way script first w new files files_now held held_now image now Tells P Q (Err its) added ends run faulted found skips here fit passing = λ told valid no_disk no_secrets.
+    ends_in_memory script files held image ends valid P Q now files_now held_now (here told) (fit told valid.devices.fit) (passing told valid.devices.passing) no_disk no_secrets its added faulted (found told) skips
     (lived way script first w new its run)

@@ -23,20 +23,3 @@ told_in_order script fault answered old mid new a (inr told) = faulted_in_order 
 
 pub ends_well : (script : Script) (Q : Setting → Progress → Type 0) (old new : List Entry) → Moves IsInOrder (IsBetweenOf script 0) Q old new → Adds old new EndsWell
 ends_well script Q old new a = (a.added, a.parts, a.no_fault)
-
--- a fault that is told, by its cause
-faulted : (fault : Fault) (entries : List Entry) (disk_rose secrets_rose : Type 0) → fault ≢ NoMemory → EndsInFault entries fault → HasRisen fault disk_rose secrets_rose
-    → EndsFaulted fault entries disk_rose secrets_rose
-faulted NoMemory entries disk_rose secrets_rose not ends cause = absurd (not refl)
-faulted _ entries disk_rose secrets_rose not ends cause = (ends, cause)
-
-pub told_ends : (P Q : Setting → Progress → Type 0) (fault answered : Fault) (old mid new : List Entry) (disk_rose secrets_rose : Type 0) → Moves IsInOrder P Q old mid
-    → TellsFault fault answered mid new → (fault ≢ NoMemory → HasRisen fault disk_rose secrets_rose)
-    → Adds old new (λ added. EndsFaulted answered added disk_rose secrets_rose)
-told_ends P Q fault answered old mid new disk_rose secrets_rose a (inl none) cause = (a.added, none.1 ∙ a.parts, rw none.0 a.no_fault)
-told_ends P Q fault answered old mid new disk_rose secrets_rose a (inr told) cause = (
-  a.added ++ entry.Fault fault ∷ [],
-  told.2 ∙ ap (λ xs. xs ++ entry.Fault fault ∷ []) a.parts ∙ append_assoc old a.added (entry.Fault fault ∷ []),
-  rw told.0 (faulted fault (a.added ++ entry.Fault fault ∷ []) disk_rose secrets_rose told.1
-      (record { before = a.added; last = refl; only = a.no_fault }) (cause told.1)),
-)

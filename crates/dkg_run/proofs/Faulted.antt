@@ -29,13 +29,15 @@ use Rattle.dkg_run.specs.Causes.{HasCause}
 use Rattle.dkg_run.specs.Ended.{by_node_stop}
 use Rattle.dkg_run.specs.Given.{IsLifeHere, Lived, ReadsNeither, at_step, lived, step_of}
 use Rattle.dkg_run.specs.Lives.{AnyFiles, EndsLife, LivesFrom, LivesSo, RunsAllSo, RunsSo, Steps, TakesAll, TellsEnd, fuse_for}
+use Rattle.dkg_run.specs.Refused.{IsOutside}
 use Rattle.dkg_run.specs.Ways.{ReadsSomething, Trace, by_lines}
-use Rattle.dkg_run.proofs.Faults.{IsOutside, IsTellable, opening_tellable, outside_tellable, own_or_outside, refusal_tellable}
+use Rattle.dkg_run.proofs.Faults.{IsTellable, opening_tellable, outside_tellable, own_or_outside, refusal_tellable}
 use Rattle.dkg_core.proofs.NodeToday.{node_openings_come_to, node_steps_come_to}
 use Rattle.dkg_core.specs.NodeToday.{IsNodeOpened}
 use Rattle.dkg_run.proofs.Laws.{opened_live, opened_unawaited}
 use Rattle.dkg_run.proofs.Living.{holds_at}
-use Rattle.dkg_run.proofs.Ordered.{RunEndsIn, all_in_order, item_at, rest_at, tells_fault}
+use Rattle.dkg_run.proofs.Following.{item_at, rest_at}
+use Rattle.dkg_run.proofs.Ordered.{RunEndsIn, all_in_order, tells_fault}
 use Rattle.dkg_run.proofs.Standing.{IsBetweenOf, MayTell, Moves, TellsFault}
 use Rattle.dkg_run.proofs.Today.{IsMessage, alike_at, form_at, lacks_nobody, life_form, message_of}
 

@@ -31,26 +31,20 @@ use Rattle.dkg_core.specs.Said.{Said}
 use Rattle.dkg_core.specs.Seen.{Seen}
 use Rattle.dkg_core.specs.Setup.{is_past_range}
 use Rattle.dkg_core.specs.Sources.{Tip}
+use Rattle.dkg_core.specs.Splitting.{named}
 use Rattle.dkg_core.specs.Today.{CameTo, IsLiveToday, IsNextToday, IsOpeningFault, IsTakenToday, OnInfo, first_block, first_epoch, refusal_of, refusal_over}
 use Rattle.dkg_reshare.specs.Ends.{by_fault}
 use Rattle.dkg_reshare.specs.declared.stop.Stop.{Stop}
 use Rattle.dkg_reshare.specs.declared.stop.Stop.TheVariants.{Cut, Failed, Fault as FaultOf}
-use Rattle.dkg_run.specs.Ended.{by_node_stop, named}
+use Rattle.dkg_run.specs.Ended.{by_node_stop}
 use Rattle.dkg_run.specs.Given.{IsLifeHere, Lived, at_step}
+use Rattle.dkg_run.specs.Refused.{IsOutside}
 use Rattle.dkg_run.proofs.Early.{boundary_low, first_of, low_in_range, some_half, starts_first, starts_in_range}
 use Rattle.dkg_run.proofs.Today.{middle_is}
 
 -- the fault is one that can be told, or want of memory
 abbrev pub IsTellable : Fault → Type 0
 IsTellable its = (its ≡ fault.NoMemory) ⊎ IsFaultOfToday its
-
--- of a device, a corrupt record, or want of memory: what ends a course from outside
-abbrev pub IsOutside : Fault → Type 0
-IsOutside fault.NoMemory = Unit {0}
-IsOutside fault.Disk = Unit {0}
-IsOutside fault.Secrets = Unit {0}
-IsOutside (fault.Corrupt name place) = Unit {0}
-IsOutside its = ⊥
 
 pub outside_tellable : (its : Fault) → IsOutside its → IsTellable its
 outside_tellable fault.NoMemory is = inl refl
@@ -59,7 +53,7 @@ outside_tellable fault.Secrets is = inr tt
 outside_tellable (fault.Corrupt name place) is = inr tt
 outside_tellable its is = absurd is
 
--- .. and any other one is the course's own
+-- a fault that doesn't come from outside is the course's own
 pub own_or_outside : {S : Type 0} (its : Fault) → IsOutside its ⊎ (named {S = S} Faulted (by_fault its) ≡ stopped (Faulted its))
 own_or_outside fault.NoMemory = inl tt
 own_or_outside fault.Disk = inl tt

@@ -56,11 +56,12 @@ use Rattle.dkg_run.specs.Ended.{by_node_stop}
 use Rattle.dkg_run.specs.Found.{IsFound, NamesNoRecord, Shows, first_info, reader_in, tried_by}
 use Rattle.dkg_run.specs.Given.{IsLifeHere, Lived, at_step, block_on, limits_of, parent_in, payload_in}
 use Rattle.dkg_run.specs.Lives.{TakesAll}
+use Rattle.dkg_run.specs.Refused.{IsOutside}
 use Rattle.dkg_run.specs.Ways.{Trace, by_lines}
 use Rattle.dkg_run.specs.declared.node.Node.{Node}
 use Rattle.dkg_run.proofs.Early.{boundary_low, starts_first}
 use Rattle.dkg_run.proofs.Faulted.{GoesOn, opening_comes, takes_tell}
-use Rattle.dkg_run.proofs.Faults.{IsOutside, own_or_outside}
+use Rattle.dkg_run.proofs.Faults.{own_or_outside}
 use Rattle.dkg_run.proofs.GivingFirst.{boundary_is, first_info_is}
 use Rattle.dkg_run.proofs.Seating.{drawn_is}
 use Rattle.dkg_run.proofs.Today.{form_at, lacks_nobody}
@@ -215,10 +216,6 @@ outside_shows files held script (fault.Corrupt name place) is plain = absurd pla
 outside_shows files held script its is plain = absurd is
 
 -- A LIFE'S STOP, as its opening found it
-
-pub fault_alike : (stop result : Stop) (F : Fault → Type 0) → F fault.NoMemory → (result ≡ stop) ⊎ ((stop ≡ Cut) × (result ≡ FaultOf fault.NoMemory)) → IfFault stop F → IfFault result F
-fault_alike stop result F memory (inl same) is = subst (λ (s : Stop). IfFault s F) (sym same) is
-fault_alike stop result F memory (inr other) is = subst (λ (s : Stop). IfFault s F) (sym other.1) memory
 
 module _ (g : Lived) (here : IsLifeHere g) (files : Files) (held : Secrets) where
   -- of a stop of the opening: `given` is of what was read

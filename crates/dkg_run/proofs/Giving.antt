@@ -24,7 +24,7 @@ use Rattle.dkg_reshare.specs.declared.stop.Stop.TheVariants.{Cut, Failed, Fault 
 use Rattle.dkg_run.specs.Given.{IsLifeHere, Lived, ReadsNeither, at_step, lived, step_of}
 use Rattle.dkg_run.specs.Lives.{AnyFiles, EndsLife, LivesFrom, LivesSo, RunsAllSo, Steps, TakesAll, fuse_for}
 use Rattle.dkg_run.specs.Ways.{by_worlds}
-use Rattle.dkg_run.proofs.Ordered.{item_at, rest_at}
+use Rattle.dkg_run.proofs.Following.{item_at, rest_at}
 
 -- A STEP
 

@@ -8,12 +8,12 @@ use Rattle.dkg_types.specs.declared.fault.Fault.{Fault}
 use Rattle.dkg_text.specs.declared.script.Script.{Script}
 use Rattle.dkg_store.specs.Acts.{Stands, World, at, moment, plan}
 use Rattle.dkg_store.specs.Corrupt.{AreFit}
-use Rattle.dkg_store.specs.Secrets.{Secrets}
 use Rattle.dkg_script.specs.Form.{IsFormOfToday}
 use Rattle.dkg_run.specs.Found.{IsFound, reader_in}
 use Rattle.dkg_run.specs.Given.{limits_of}
 use Rattle.dkg_run.specs.GivesBack.{GivesBack}
 use Rattle.dkg_run.specs.Lives.{RunsOver, RunsSo, TellsEnd, never}
+use Rattle.dkg_run.specs.Over.{Standing}
 use Rattle.dkg_run.specs.Passing.{ArePassing}
 use Rattle.dkg_run.specs.Ways.{by_worlds}
 use Rattle.dkg_run.proofs.Completing.{unblamed}
@@ -32,19 +32,19 @@ stands : {files : Files} {image : Files → Type 0} → image files → Lands fi
 stands here lands = record { lands = lands; itself = here }
 
 -- THE CLAUSE of gives_back, where both devices tell and each reads as one of its images
-pub gives_back : (script : Script) → IsFormOfToday script → (answered : Result (Unit {0}) Fault) (files : Files) (image : Files → Type 0) (held : Secrets) (files_now : Files) (now : Files → Type 0) (held_now : Secrets) (out out_now : List Entry)
-    → image files → now files_now → (AreFit (limits_of script).most image → AreFit (limits_of script).most now) → IfErr answered (λ its. IsFound (reader_in script) files_now held_now its)
-    → (ArePassing (reader_in script) image held → ArePassing (reader_in script) now held_now) → OnOk answered (Stands files image → Stands files_now now)
-    → (Stands files image → (c : Files) → now c → RunsOver script answered files (at (moment out held never) files) (λ f. at (moment out_now held_now f) c))
-    → GivesBack (reader_in script) answered files image held files_now now held_now
-gives_back script form answered files image held files_now now held_now out out_now here here_now fit found passing firm run = record {
+pub gives_back : (script : Script) → IsFormOfToday script → (answered : Result (Unit {0}) Fault) (before now : Standing) (out out_now : List Entry)
+    → before.image before.files → now.image now.files → (AreFit (limits_of script).most before.image → AreFit (limits_of script).most now.image) → IfErr answered (λ its. IsFound (reader_in script) now.files now.held its)
+    → (ArePassing (reader_in script) before.image before.held → ArePassing (reader_in script) now.image now.held) → OnOk answered (Stands before.files before.image → Stands now.files now.image)
+    → (Stands before.files before.image → (c : Files) → now.image c → RunsOver script answered before.files (at (moment out before.held never) before.files) (λ f. at (moment out_now now.held f) c))
+    → GivesBack (reader_in script) answered before now
+gives_back script form answered before now out out_now here here_now fit found passing firm run = record {
   fit = fit;
-  unblamed = unblamed (reader_in script) files_now held_now image now answered found fit here_now;
+  unblamed = unblamed (reader_in script) now.files now.held before.image now.image answered found fit here_now;
   passing = passing;
   firm = by_answer answered firm;
   plan = λ lands c left. let its = run (stands here lands) c left in run_spares_plan script form _ _ _ answered its.so;
 }
   where
-    by_answer : (answered : Result (Unit {0}) Fault) → OnOk answered (Stands files image → Stands files_now now) → OnOk answered (Lands files image → Lands files_now now)
+    by_answer : (answered : Result (Unit {0}) Fault) → OnOk answered (Stands before.files before.image → Stands now.files now.image) → OnOk answered (Lands before.files before.image → Lands now.files now.image)
     by_answer (Ok done) firm = λ lands. (firm (stands here lands)).lands
     by_answer (Err its) firm = firm

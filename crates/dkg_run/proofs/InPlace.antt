@@ -15,8 +15,7 @@ use Rattle.dkg_script.specs.Setting.{Setting, life_at}
 use Rattle.dkg_reshare.specs.declared.stop.Stop.{Stop}
 use Rattle.dkg_reshare.specs.declared.stop.Stop.TheVariants.{Cut as AtCut, Failed, Fault as Faulted}
 use Rattle.dkg_core.specs.Laws.{IsQuiet}
-use Rattle.dkg_run.proofs.Standing.{Each, Moves, AddsQuiet, AddsOpening, IsBetween, IsBefore, IsWithin, IsAtCut, IsStopped, IsBehind, IsCutBefore}
-use Rattle.dkg_run.specs.Causes.{IsCutWithin}
+use Rattle.dkg_run.proofs.Standing.{Each, Moves, AddsQuiet, AddsOpening, IsBetween, IsBefore, IsWithin, IsAtCut, IsStopped, IsBehind, IsCutBefore, IsCutWithin}
 use Rattle.dkg_run.proofs.Places.{moves_one}
 
 -- CUTS, over variables

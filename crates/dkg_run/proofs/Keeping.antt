@@ -39,15 +39,13 @@ use Rattle.dkg_text.specs.declared.script.Event.{Event}
 use Rattle.dkg_text.specs.declared.script.Event.TheVariants as event
 use Rattle.dkg_text.specs.declared.script.Life.{Life}
 use Rattle.dkg_text.specs.declared.script.Script.{Script}
-use Rattle.dkg_script.specs.Consistent.{IsConsistentScript}
 use Rattle.dkg_script.specs.Form.{IsBlockOfToday, IsEventOfToday, IsFormOfToday, IsLifeOfToday, midpoint_of}
 use Rattle.dkg_script.specs.Kept.{AllCurrent, Gives, IsDurable, IsSound, Kept}
 use Rattle.dkg_script.specs.Position.{begun, event_of_step}
 use Rattle.dkg_script.specs.Progress.{AtEachEntry, Progress, at_start, progress, read}
-use Rattle.dkg_script.specs.Promise.{AnswersDealings, InACase, IsAnswered, IsBuilt, IsHonestRun, KeepsDealings, RunsAll, cuts_in}
-use Rattle.dkg_script.specs.Setting.{Setting, blocks_per_epoch, life_at, me, setting_of}
+use Rattle.dkg_script.specs.Promise.{InACase, IsAnswered, IsBuilt, IsComplete, IsHonestRun, RunsAll, cuts_in}
+use Rattle.dkg_script.specs.Setting.{CutAt, Setting, blocks_per_epoch, life_at, me, setting_of}
 use Rattle.dkg_script.proofs.EachEntry.{EachAfter, at_each}
-use Rattle.dkg_script.proofs.Today.{plain_of}
 use Rattle.dkg_core.specs.Behind.{event_of}
 use Rattle.dkg_core.specs.Fixed.{Fixed}
 use Rattle.dkg_core.specs.Heard.{recovered_in}
@@ -246,7 +244,7 @@ module _ (s : Setting) (today : IsTodays s) (l : ℕ) (life : Life) (files : Fil
 
 -- THE RUN
 
-lives_of : (s : Setting) (front lives : List Life) → s.script.lives ≡ front ++ lives → AreLives s (length front) lives
+pub lives_of : (s : Setting) (front lives : List Life) → s.script.lives ≡ front ++ lives → AreLives s (length front) lives
 lives_of s front [] is = tt
 lives_of s front (life ∷ lives) is =
     (ap (λ (xs : List Life). slice_get xs (length front)) is ∙ item front, subst (λ (n : ℕ). AreLives s n lives) (longer front) (lives_of s (front ++ life ∷ []) lives (is ∙ sym (append_assoc front (life ∷ []) lives))))
@@ -259,7 +257,7 @@ lives_of s front (life ∷ lives) is =
     longer [] = refl
     longer (x ∷ front) = let rest : length (front ++ life ∷ []) ≡ length front + 1 = longer front in omega (arith, rest)
 
-same_behind : (old a b : List Entry) → old ++ a ≡ old ++ b → a ≡ b
+pub same_behind : (old a b : List Entry) → old ++ a ≡ old ++ b → a ≡ b
 same_behind [] a b e = e
 same_behind (x ∷ old) a b e = same_behind old a b (same_item x x (old ++ a) (old ++ b) e).1
 
@@ -291,9 +289,9 @@ module _ (script : Script) (files : Files) (image : Files → Type 0) (secrets :
   abbrev s : Setting
   s = setting_of script files secrets
 
-  module _ (built : IsBuilt s) (honest : IsHonestRun s image) where
+  module _ (ends : List (Option CutAt)) (built : IsBuilt s) (honest : IsHonestRun s image ends) where
     today : IsTodays s
-    today = record { built = built; no_plans = refl; consistent = honest.source [] tt [] (record { first = sym (plain_of s built).no_record; next = λ l below. absurd (omega (arith, below)) }) }
+    today = resting.today_of script files secrets ends built honest.source
 
     stands : Stands files image
     stands = record { lands = honest.stores.nothing_loose; itself = itself }
@@ -311,15 +309,12 @@ module _ (script : Script) (files : Files) (image : Files → Type 0) (secrets :
       gives = λ c there. all_current (begun s (progress s added).cuts (length (progress s added).cuts) (progress s added).step) (Gives (recovered_in (at (moment new_out secrets_now never) c).held)) (progress s added).recorded (one c there).1.1;
     }
 
-    kept : InACase s (cuts_in s added) (λ case. Kept case added now secrets_now)
-    kept = ([], resting.is_history s (cuts_in s added) today, record { each = λ before entry after parts. (each before entry after parts).0; durable = durable })
+    pub kept_of : InACase s (cuts_in s added) (λ case. Kept case added now secrets_now)
+    kept_of = ([], resting.is_history s (cuts_in s added) today, record { each = λ before entry after parts. (each before entry after parts).0; durable = durable })
 
     -- the case of no plan
     settled : (before after : List Entry) (step : ℕ) → added ≡ before ++ entry.Step step ∷ after → IsAnswered s before
     settled before after step parts own due = (each before (entry.Step step) after parts).1 own.handed_in (due [] (resting.is_history s (cuts_in s before) today))
 
-  pub kept_of : KeepsDealings (setting_of script files secrets) image now secrets_now added
-  kept_of built honest = kept built honest
-
-  pub answered_of : RunsAll script added → AnswersDealings (setting_of script files secrets) image added
-  answered_of all built honest = record { all_run = all files secrets; answered = settled built honest }
+    pub answered_of : RunsAll script added → IsComplete s added
+    answered_of all = record { all_run = all files secrets; answered = settled }

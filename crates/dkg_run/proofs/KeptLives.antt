@@ -63,6 +63,7 @@ use Rattle.dkg_run.specs.Ways.{StaysHeld, by_worlds}
 use Rattle.dkg_run.proofs.Awaiting.{HasHeight, IsBefore, IsReached, before_all, before_next, reached_lit}
 use Rattle.dkg_run.proofs.Owed.{no_block_due, no_opening_due, owed}
 use Rattle.dkg_run.proofs.Playing.{IsPlaying, deals_below, plays_on_block, plays_on_message}
+use Rattle.dkg_run.proofs.Shutting.{held_logs, held_pairs, held_whole}
 use Rattle.dkg_run.proofs.Resting.{AreRecorded, HandsOn, IsKeptEntry, IsTodays, MayBeRecorded, RestsAt, may_of, may_still}
 use Rattle.dkg_run.proofs.PeerForms.{IsUndue}
 use Rattle.dkg_script.proofs.EachEntry.{EachAfter}
@@ -583,7 +584,7 @@ module _ (laws : NodeLaws) (g : Lived) (s : Setting) (meant : IsMeant g s) where
   lives_kept files w how new p rest stands rests logs (inr refused) = goes_none s p w.out new.out (Ends how new.held) refused.1.2.1 (rw refused.1.1 (record {
     lives = stands.lives;
     today = rests.today;
-    whole = stays.whole rests.whole;
+    whole = held_whole w.held new.held stays rests.whole;
     gives = rw same rests.may.given;
     at_cut = λ e its there. rw same (may_still s p (read s p (entry.Cut its.step its.call)) (Some (record { step = its.step; call = its.call })) (recovered_in w.held) refl refl refl rests.may);
     handed = rests.handed;
@@ -593,7 +594,7 @@ module _ (laws : NodeLaws) (g : Lived) (s : Setting) (meant : IsMeant g s) where
       stays = refused.1.2.2
 
       same : recovered_in new.held ≡ recovered_in w.held
-      same = stays.pairs rests.whole
+      same = held_pairs w.held new.held stays
   lives_kept files w how new p rest stands rests logs (inl lives) = by_fuse (fuse_for life.cut 0) refl lives
     where
       Next : Live U → World → Type 0
@@ -660,10 +661,7 @@ module _ (laws : NodeLaws) (g : Lived) (s : Setting) (meant : IsMeant g s) where
           by_next (inr more) = again done.0 (says done.1 (entry.Step j)) first.1.0 first.1.1 more ∙ first.0
 
   pub lives_logs : (files : Files) (w : World) (how : Result (Unit {0}) Stop) (new : World) → IsWhole (notes w.held) w.held.secrets → LivesSo by_worlds g files w how new → logs_in (notes new.held) ≡ logs_in (notes w.held)
-  lives_logs files w how new whole (inr refused) = stays.logs whole
-    where
-      stays : StaysHeld w.held new.held
-      stays = refused.1.2.2
+  lives_logs files w how new whole (inr refused) = held_logs w.held new.held refused.1.2.2
   lives_logs files w how new whole (inl lives) = by_fuse (fuse_for life.cut 0) lives
     where
       by_fuse : (o : Option Burn) → Steps by_worlds (entry.Step 0) o (node_opening (at_step g 0)) w how new (λ end mid. TakesAll by_worlds g 1 life.events end mid how new) → logs_in (notes new.held) ≡ logs_in (notes w.held)

@@ -91,28 +91,6 @@ life_scripted g files t new how lives cuts = by_cases (subst (λ (h : Result (Un
         (λ end mid more. takes_scripted g 1 g.life.events end mid new more)
     by_cases (inr refused) = absurd (refused.1.2)
 
--- NO LIFE ENDS by a call that failed before
-pub never_failed : (how : Result (Unit {0}) Stop) (P Q : Type 0) → IfErr how (λ stop. StopHasCause stop P Q) → how ≡ Err Failed → ⊥
-never_failed how P Q caused failed = subst (λ (h : Result (Unit {0}) Stop). IfErr h (λ stop. StopHasCause stop P Q)) failed caused
-
--- WHAT THE FAULT BLAMES that ended a life: its end changed nothing then, or memory wanted
-module _ {D X : Type 0} (mid new : Devices D X) (how : Result (Unit {0}) Stop) (its : Fault)
-    (same : (fault : Fault) → how ≡ Err (FaultOf fault) → new ≡ mid) (faulted : (how ≡ Err (FaultOf its)) ⊎ (its ≡ NoMemory)) where
-  pub caused_at_end : (P Q : Devices D X → Type 0) → IfErr how (λ stop. StopHasCause stop (P mid) (Q mid)) → HasCause its (P new) (Q new)
-  caused_at_end P Q caused = by_cases faulted
-    where
-      by_cases : (how ≡ Err (FaultOf its)) ⊎ (its ≡ NoMemory) → HasCause its (P new) (Q new)
-      by_cases (inl fault) = subst (λ (d : Devices D X). HasCause its (P d) (Q d)) (sym (same its fault))
-          (subst (λ (h : Result (Unit {0}) Stop). IfErr h (λ stop. StopHasCause stop (P mid) (Q mid))) fault caused)
-      by_cases (inr wants) = subst (λ (f : Fault). HasCause f (P new) (Q new)) (sym wants) tt
-
-  pub found_at_end : (T U : Type 0) (F : Devices D X → Fault → Type 0) → IfErr how (λ stop. T → U → IfFault stop (F mid)) → F new NoMemory → T → U → F new its
-  found_at_end T U F found none told known = by_cases faulted
-    where
-      by_cases : (how ≡ Err (FaultOf its)) ⊎ (its ≡ NoMemory) → F new its
-      by_cases (inl fault) = subst (λ (d : Devices D X). F d its) (sym (same its fault)) (subst (λ (h : Result (Unit {0}) Stop). IfErr h (λ stop. T → U → IfFault stop (F mid))) fault found told known)
-      by_cases (inr wants) = subst (F new) (sym wants) none
-
 -- A LIFE WITH ITS END, over the lines, and over worlds
 
 module _ (script : Script) (number : ℕ) (life : Life) (files : Files) (how : Result (Unit {0}) Stop) (result : Result (Unit {0}) Fault) (out mid new : List Line) where

@@ -3,6 +3,7 @@ pub mod Awaiting
 pub mod Behind
 pub mod BlockLines
 pub mod Completing
+pub mod CutLives
 pub mod Early
 pub mod Empty
 pub mod Ended
@@ -11,6 +12,7 @@ pub mod Faulted
 pub mod Faults
 pub mod Finding
 pub mod FitsRead
+pub mod Following
 pub mod Founding
 pub mod Fresh
 pub mod Giving
@@ -42,6 +44,8 @@ pub mod Places
 pub mod Playing
 pub mod Promising
 pub mod Recorded
+pub mod RefusedTrial
+pub mod Refusing
 pub mod Reported
 pub mod Resting
 pub mod Running
@@ -57,5 +61,6 @@ pub mod Steps
 pub mod Today
 pub mod Turns
 pub mod Twice
+pub mod TwiceAcked
 pub mod Used
 pub mod Whole

@@ -57,24 +57,7 @@ rose_around a b c d ab bc cd rose = rises (2 ^ 64) a b c d ab bc cd rose
         by_order true e = inl (grind (arith, nat_tests))
         by_order false e = inr (grind (arith, nat_tests))
 
--- .. so that what a fault blames in a part of a call, it blames in all of it
-caused_around : (its : Fault) (P Q R S : Type 0) → (P → R) → (Q → S) → HasCause its P Q → HasCause its R S
-caused_around fault.Disk P Q R S disk secrets is = disk is
-caused_around fault.Secrets P Q R S disk secrets is = secrets is
-caused_around its P Q R S disk secrets is = tt
-
-module _ {D X : Type 0} (disk_faults : D → ℕ) (secret_faults : X → ℕ) where
-  pub blames_around : (old before after new : Devices D X) → disk_faults old.disk.now ≤ disk_faults before.disk.now → secret_faults old.secrets.now ≤ secret_faults before.secrets.now
-      → disk_faults before.disk.now ≤ disk_faults after.disk.now → secret_faults before.secrets.now ≤ secret_faults after.secrets.now
-      → disk_faults after.disk.now ≤ disk_faults new.disk.now → secret_faults after.secrets.now ≤ secret_faults new.secrets.now
-      → (its : Fault) → Blames disk_faults secret_faults before after its → Blames disk_faults secret_faults old new its
-  blames_around old before after new d1 s1 d2 s2 d3 s3 its is = caused_around its
-      (Rose (disk_faults before.disk.now) (disk_faults after.disk.now)) (Rose (secret_faults before.secrets.now) (secret_faults after.secrets.now))
-      (Rose (disk_faults old.disk.now) (disk_faults new.disk.now)) (Rose (secret_faults old.secrets.now) (secret_faults new.secrets.now))
-      (rose_around (disk_faults old.disk.now) (disk_faults before.disk.now) (disk_faults after.disk.now) (disk_faults new.disk.now) d1 d2 d3)
-      (rose_around (secret_faults old.secrets.now) (secret_faults before.secrets.now) (secret_faults after.secrets.now) (secret_faults new.secrets.now) s1 s2 s3) is
-
--- .. of a step's stop
+-- .. so that what a step's stop blames in a part of a call, it blames in all of it
 stop_caused_around : (stop : Stop) (P Q R S U : Type 0) → (P → R) → (Q → S) → IsCaused stop P Q U → IsCaused stop R S ⊤
 stop_caused_around Cut P Q R S U disk secrets is = tt
 stop_caused_around Failed P Q R S U disk secrets is = absurd is

@@ -1,7 +1,6 @@
 -- A life from its opening on, by what its calls answered: over both devices.
 use Rattle.std.proofs.Common.{MutBor, ◌≡◌, ◌⊎◌, inl, inr, Bool, ℕ, ◌++◌, ◌∷◌, [], List, Option, Some, None, Result, Ok, Err, refl, sym, ◌∙◌, ap, subst}
 use Rattle.std.specs.Prelude.{IsTrue}
-use Rattle.dkg_journal.specs.Fuse.{Reached}
 use Rattle.dkg_journal.specs.Names.{Files}
 use Rattle.dkg_types.specs.declared.directory.Unit as directory
 use Rattle.dkg_types.specs.declared.entry.Entry.{Entry as Line}
@@ -24,18 +23,17 @@ use Rattle.dkg_reshare.specs.Opened.{IsInGrammar, StaysShut}
 use Rattle.dkg_reshare.specs.Today.{seen_today}
 use Rattle.dkg_reshare.specs.declared.stop.Stop.{Stop}
 use Rattle.dkg_reshare.specs.declared.stop.Stop.TheVariants.{Cut, Failed, Fault as FaultOf}
-use Rattle.dkg_run.specs.Causes.{IsCutWithin}
 use Rattle.dkg_run.specs.Ended.{by_node_stop}
 use Rattle.dkg_run.specs.Given.{Lived, at_step, limits_of, lived}
 use Rattle.dkg_run.specs.Lives.{LivesSo, Steps, TakesAll, fuse_for}
 use Rattle.dkg_run.specs.Moving.{world_of}
 use Rattle.dkg_run.specs.Ways.{StaysHeld, by_worlds}
-use Rattle.dkg_run.proofs.Shutting.{grammar_or, shut_holds, unsaid_breaks}
+use Rattle.dkg_run.proofs.Shutting.{grammar_or, shut_holds, unsaid_stop}
 use Rattle.dkg_run.proofs.Turns.{ran_stopped, ran_told, ran_unheld, ran_untold}
 
--- a cut of a device that tells is the fuse's
-pub cut_behind : (limit : ℕ) (tells : Bool) → IsTrue tells → (files : Files) (stop : Stop) (P Q R : Type 0) → IsFoundAt limit tells files stop P Q R → stop ≡ Cut → R
-cut_behind limit tells told files stop P Q R caused is = (subst (λ (s : Stop). IsFoundAt limit tells files s P Q R) is caused) told
+-- a cut is the fuse's
+pub cut_behind : (limit : ℕ) (tells : Bool) (files : Files) (stop : Stop) (P Q R : Type 0) → IsFoundAt limit tells files stop P Q R → stop ≡ Cut → R
+cut_behind limit tells files stop P Q R caused is = subst (λ (s : Stop). IsFoundAt limit tells files s P Q R) is caused
 
 module _ {D X : Type 0} (files : D → Files) (image : D → Files → Type 0) (held : X → Secrets) (old begun : Devices D X) (same_disk : begun.disk ≡ old.disk) (same_secrets : begun.secrets ≡ old.secrets) where
   -- what is kept from where the fuse was set is kept from before
@@ -69,32 +67,31 @@ module _ {D X : Type 0} (files : D → Files) (image : D → Files → Type 0) (
 
     module _ (new : Devices D X) (now : List Line) (c : Files) (here : image new.disk.now c) where
       -- The opening stopped.
-      module _ (stop result : Stop) (within : IsCutWithin life.cut 0 → result ≡ stop) (other : (result ≡ stop) ⊎ ((stop ≡ Cut) × (result ≡ FaultOf NoMemory))) (reached : stop ≡ Cut → Reached begun.fuse new.fuse)
-          (acts : IsInGrammar (limits_of script).most (files begun.disk.now) → Acted (by_node_stop stop) begun.disk new now)
+      module _ (stop : Stop) (acts : IsInGrammar (limits_of script).most (files begun.disk.now) → Acted (by_node_stop stop) begun.disk new now)
           (fixed : Fixed directory.Unit) (said : Said (on_devices (node_opening fixed)) (by_node_stop stop) out now)
           (untold : (IsInGrammar (limits_of script).most (files begun.disk.now) → ⊥) → now ≡ out)
-          (shut : StaysShut (IsInGrammar (limits_of script).most (files begun.disk.now)) (image begun.disk.now) (image new.disk.now) (held begun.secrets.now) (held new.secrets.now))
+          (shut : (IsInGrammar (limits_of script).most (files begun.disk.now) → ⊥) → StaysShut (image begun.disk.now) (image new.disk.now) (held begun.secrets.now) (held new.secrets.now))
         where
           -- .. whose journal is not in its grammar
-          refused : (IsInGrammar (limits_of script).most (files begun.disk.now) → ⊥) → LivesRan (Err result) new now c
+          refused : (IsInGrammar (limits_of script).most (files begun.disk.now) → ⊥) → LivesRan (Err stop) new now c
           refused not = inr (
             λ its. not (subst (λ (d : MutBor D). IsInGrammar (limits_of script).most (files d.now)) (sym same_disk) its),
-            (result, refl, (unsaid_breaks fixed out now (untold not) stop result other said, untold not, kept)),
+            (stop, refl, (unsaid_stop fixed out now (untold not) stop said, untold not, kept)),
           )
             where
-              shut_old : StaysShut (IsInGrammar (limits_of script).most (files begun.disk.now)) (image old.disk.now) (image new.disk.now) (held old.secrets.now) (held new.secrets.now)
-              shut_old = subst (λ (d : MutBor D). StaysShut (IsInGrammar (limits_of script).most (files begun.disk.now)) (image d.now) (image new.disk.now) (held old.secrets.now) (held new.secrets.now)) same_disk
-                  (subst (λ (x : MutBor X). StaysShut (IsInGrammar (limits_of script).most (files begun.disk.now)) (image begun.disk.now) (image new.disk.now) (held x.now) (held new.secrets.now)) same_secrets shut)
+              shut_old : StaysShut (image old.disk.now) (image new.disk.now) (held old.secrets.now) (held new.secrets.now)
+              shut_old = subst (λ (d : MutBor D). StaysShut (image d.now) (image new.disk.now) (held old.secrets.now) (held new.secrets.now)) same_disk
+                  (subst (λ (x : MutBor X). StaysShut (image begun.disk.now) (image new.disk.now) (held x.now) (held new.secrets.now)) same_secrets (shut not))
 
               kept : StaysHeld (world_of held old out (files old.disk.now)).held (world_of held new now c).held
-              kept = shut_holds (IsInGrammar (limits_of script).most (files begun.disk.now)) (files old.disk.now) (image old.disk.now) (image new.disk.now) (held old.secrets.now) (held new.secrets.now) stands not shut_old c here
+              kept = shut_holds (files old.disk.now) (image old.disk.now) (image new.disk.now) (held old.secrets.now) (held new.secrets.now) stands shut_old c here
 
-          pub stopped_ran : LivesRan (Err result) new now c
+          pub stopped_ran : LivesRan (Err stop) new now c
           stopped_ran = by_grammar (grammar_or (limits_of script).most (files begun.disk.now))
             where
-              by_grammar : IsInGrammar (limits_of script).most (files begun.disk.now) ⊎ (IsInGrammar (limits_of script).most (files begun.disk.now) → ⊥) → LivesRan (Err result) new now c
-              by_grammar (inl grammar) = inl (ran_stopped files image held old begun same_disk same_secrets stands (entry.Step 0) life.cut 0 lit course out (Next (Err result) (world_of held new now c))
-                  new now c here stop result within other reached (acts_over (by_node_stop stop) new now (acts grammar)))
+              by_grammar : IsInGrammar (limits_of script).most (files begun.disk.now) ⊎ (IsInGrammar (limits_of script).most (files begun.disk.now) → ⊥) → LivesRan (Err stop) new now c
+              by_grammar (inl grammar) = inl (ran_stopped files image held old begun same_disk same_secrets stands (entry.Step 0) life.cut 0 lit course out (Next (Err stop) (world_of held new now c))
+                  new now c here stop (acts_over (by_node_stop stop) new now (acts grammar)))
               by_grammar (inr not) = refused not
 
       -- It went,

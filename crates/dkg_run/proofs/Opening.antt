@@ -30,6 +30,7 @@ use Rattle.dkg_core.specs.Said.{Said}
 use Rattle.dkg_core.specs.Seen.{Seen}
 use Rattle.dkg_core.specs.Setup.{scheme_for}
 use Rattle.dkg_core.specs.Sources.{Source, startup}
+use Rattle.dkg_core.specs.Splitting.{named}
 use Rattle.dkg_core.specs.Today.{IsOpenedToday, IsSeatedBy, IsSetUpBy, OnInfo, OnValid, first_block, first_epoch, registered_by, validity}
 use Rattle.dkg_core.proofs.Today.{openings_come_to}
 use Rattle.dkg_reshare.specs.Actors.{EndsAt, lives}
@@ -46,7 +47,7 @@ use Rattle.dkg_reshare.specs.declared.life.Life as reshare
 use Rattle.dkg_reshare.specs.declared.stop.Stop.{Stop}
 use Rattle.dkg_reshare.specs.declared.stop.Stop.TheVariants as stops
 use Rattle.dkg_reshare.proofs.Said.{said_of_runs}
-use Rattle.dkg_run.specs.Ended.{by_node_stop, named}
+use Rattle.dkg_run.specs.Ended.{by_node_stop}
 use Rattle.dkg_run.specs.Given.{IsLifeHere, Lived, at_step, limits_of, source_at}
 use Rattle.dkg_run.specs.Nodes.{IsFenceReady, IsHalfGiven, IsView, MayEnter, ViewedNew, with_half}
 use Rattle.dkg_run.specs.declared.node.Node.{Node}

@@ -22,27 +22,28 @@ use Rattle.dkg_script.specs.Order.{IsInOrder}
 use Rattle.dkg_script.specs.Progress.{Progress}
 use Rattle.dkg_script.specs.Promise.{Adds, RunsAll, RunsInOrder}
 use Rattle.dkg_script.specs.Setting.{Setting}
-use Rattle.dkg_store.specs.Acts.{Ended, broken, by_cut, stopped, went}
+use Rattle.dkg_store.specs.Acts.{Ended, Held, broken, by_cut, stopped, went}
 use Rattle.dkg_core.specs.Courses.{Course, Goes, on_devices}
 use Rattle.dkg_core.specs.Laws.{IsQuiet}
 use Rattle.dkg_core.specs.Live.{Delivers, Finalized, Live, NodeStop, Peer, Sent}
 use Rattle.dkg_core.specs.Node.{node_opening, node_step}
 use Rattle.dkg_core.specs.Said.{Said}
+use Rattle.dkg_core.specs.Seen.{Seen}
 use Rattle.dkg_core.specs.Transcripts.{BeginsOpened}
 use Rattle.dkg_reshare.specs.declared.stop.Stop.{Stop}
 use Rattle.dkg_reshare.specs.declared.stop.Stop.TheVariants.{Cut, Failed, Fault as FaultOf}
-use Rattle.dkg_run.specs.Causes.{IsCutWithin}
 use Rattle.dkg_run.specs.Ended.{by_node_stop}
 use Rattle.dkg_run.specs.Given.{Lived, at_step, blocks_in, lived, step_of}
 use Rattle.dkg_run.specs.Lives.{AnyFiles, EndsLife, LivesFrom, LivesHere, LivesSo, RunsAllSo, RunsSo, Steps, TakesAll, TellsEnd, fuse_for, fuse_within, never}
 use Rattle.dkg_run.specs.Ways.{Trace, by_lines}
 use Rattle.dkg_run.proofs.Ended.{told_in_order}
+use Rattle.dkg_run.proofs.Following.{EndsBy, RunEndsBy, all_move, item_at, rest_at}
 use Rattle.dkg_run.proofs.InPlace.{moves_cut}
 use Rattle.dkg_core.proofs.NodeToday.{node_openings_are_quiet, node_steps_are_quiet}
 use Rattle.dkg_run.proofs.Places.{moves_none, moves_then, moves_within, quiet_none}
-use Rattle.dkg_run.proofs.Runs.{moves_in_life, moves_life, runs_all, runs_in_order}
-use Rattle.dkg_run.proofs.Standing.{AddsOpening, AddsQuiet, IsAtCut, IsBefore, IsBehind, IsBetween, IsBetweenOf, IsCutBefore, IsStopped, IsWithin, MayTell, Moves, TellsFault}
-use Rattle.dkg_run.proofs.Steps.{Opening, cut_untold, opened_so_far, opening_step, opening_stops, quiet_so_far, quiet_step, quiet_stops, stops_before}
+use Rattle.dkg_run.proofs.Runs.{runs_all, runs_in_order}
+use Rattle.dkg_run.proofs.Standing.{AddsOpening, AddsQuiet, IsAtCut, IsBefore, IsBehind, IsBetween, IsBetweenOf, IsCutBefore, IsStopped, IsWithin, MayTell, Moves, TellsFault, IsCutWithin}
+use Rattle.dkg_run.proofs.Steps.{Opening, opened_so_far, opening_step, opening_stops, quiet_so_far, quiet_step, quiet_stops, stops_before}
 
 -- FUSES AND CUTS
 
@@ -152,20 +153,6 @@ step_is_quiet g j (event.Final number) st ended out now said = of_block (slice_g
     of_block (Some b) said = adds_quiet out now (node_steps_are_quiet (at_step g j) st (Finalized b) ended out now said)
 step_is_quiet g j other st ended out now said = said_none st ended out now said
 
--- WHAT IS LEFT of a list
-
-pub rest_at : {A : Type 0} (all : List A) (i : ℕ) (its : A) (more : List A) → its ∷ more ≡ drop i all → more ≡ drop (suc i) all
-rest_at [] zero its more is = absurd (let wrong : its ∷ more ≡ [] = is in cc)
-rest_at [] (suc i) its more is = absurd (let wrong : its ∷ more ≡ [] = is in cc)
-rest_at (x ∷ all) zero its more is = let so : its ∷ more ≡ x ∷ all = is in cc
-rest_at (x ∷ all) (suc i) its more is = rest_at all i its more is
-
-pub item_at : {A : Type 0} (all : List A) (i : ℕ) (its : A) (more : List A) → its ∷ more ≡ drop i all → slice_get all i ≡ Some its
-item_at [] zero its more is = absurd (let wrong : its ∷ more ≡ [] = is in cc)
-item_at [] (suc i) its more is = absurd (let wrong : its ∷ more ≡ [] = is in cc)
-item_at (x ∷ all) zero its more is = let so : its ∷ more ≡ x ∷ all = is in cc
-item_at (x ∷ all) (suc i) its more is = item_at all i its more is
-
 -- EVENTS, those from number i on
 
 pub takes_in_order : (g : Lived) (i : ℕ) (events : List Event) (st : Live directory.Unit) (t new : Trace) (how : Result (Unit {0}) Stop) → i ≤ length g.life.events → events ≡ drop i g.life.events
@@ -188,7 +175,7 @@ takes_in_order g i (its ∷ events) st t new how within rest takes =
 
 -- AN OPENING: its line stands first, or it was broken off before
 
-opening_added : (l : ℕ) (out now : List Entry) (ended : Ended NodeStop (Live directory.Unit)) → (added : List Entry) × (now ≡ out ++ added) × BeginsOpened l added ended → Opening l out now
+pub opening_added : (l : ℕ) (out now : List Entry) (ended : Ended NodeStop (Live directory.Unit)) → (added : List Entry) × (now ≡ out ++ added) × BeginsOpened l added ended → Opening l out now
 opening_added l out now ended ([], is, at) = inl (is ∙ append-nil out)
 opening_added l out now ended (entry.Opened its restored ∷ more, is, at) =
     inr (record { restored = restored; more = more; parts = subst (λ (n : ℕ). now ≡ out ++ entry.Opened n restored ∷ more) at.0 is; quiet = at.1 })
@@ -197,7 +184,7 @@ opening_added l out now ended (other ∷ more, is, at) = absurd at
 abbrev went_node : Live directory.Unit → Ended NodeStop (Live directory.Unit)
 went_node end = went end
 
-went_opened : (l : ℕ) (out now : List Entry) (end : Live directory.Unit) → (added : List Entry) × (now ≡ out ++ added) × BeginsOpened l added (went_node end) → AddsOpening l out now
+pub went_opened : (l : ℕ) (out now : List Entry) (end : Live directory.Unit) → (added : List Entry) × (now ≡ out ++ added) × BeginsOpened l added (went_node end) → AddsOpening l out now
 went_opened l out now end ([], is, at) = absurd at
 went_opened l out now end (entry.Opened its restored ∷ more, is, at) =
     record { restored = restored; more = more; parts = subst (λ (n : ℕ). now ≡ out ++ entry.Opened n restored ∷ more) at.0 is; quiet = at.1 }
@@ -208,7 +195,7 @@ unfolding at_step
 at_number g taken = refl
 
 module _ (g : Lived) where
-  opened_in : (ended : Ended NodeStop (Live directory.Unit)) (out now : List Entry) → Said (on_devices (node_opening (at_step g 0))) ended out now
+  pub opened_in : (ended : Ended NodeStop (Live directory.Unit)) (out now : List Entry) → Said (on_devices (node_opening (at_step g 0))) ended out now
       → (added : List Entry) × (now ≡ out ++ added) × BeginsOpened g.number added ended
   opened_in ended out now said =
       let its = node_openings_are_quiet (at_step g 0) ended out now said in
@@ -245,62 +232,23 @@ module _ (g : Lived) where
 
 -- where a run stands that was answered so
 abbrev pub RunEndsIn : Script → Result (Unit {0}) Fault → Setting → Progress → Type 0
-RunEndsIn script (Ok done) s p = IsBetweenOf script (length script.lives) s p
-RunEndsIn script (Err its) s p = MayTell its s p
+RunEndsIn script result s p = RunEndsBy MayTell script result s p
 
 module _ (script : Script) where
-  -- a life, and what comes behind it
-  life_in_order : (l : ℕ) (life : Life) → slice_get script.lives l ≡ Some life → (how : Result (Unit {0}) Stop) (t mid new : Trace) (result : Result (Unit {0}) Fault) (next : Trace → Type 0)
-      → Moves IsInOrder (IsBefore life l 0) (EndsIn life l how) t.out mid.out
-      → ((t : Trace) → next t → Moves IsInOrder (IsBetweenOf script (l + 1)) (RunEndsIn script result) t.out new.out)
-      → EndsLife by_lines life how mid result new next → Moves IsInOrder (IsBetweenOf script l) (RunEndsIn script result) t.out new.out
-  life_in_order l life at (Ok done) t mid new result next moves after ends =
-      moves_then IsInOrder (IsBetweenOf script l) (IsBetweenOf script (l + 1)) (RunEndsIn script result) t.out mid.out new.out
-      (moves_life script life l t.out mid.out at moves) (after (by_lines.stops mid life.pick) ends)
-  life_in_order l life at (Err (FaultOf its)) t mid new result next moves after ends =
-      subst (λ (r : Result (Unit {0}) Fault). Moves IsInOrder (IsBetweenOf script l) (RunEndsIn script r) t.out new.out) (sym ends.0)
-      (moves_in_life script life l (MayTell its) t.out new.out at (subst (λ (x : Trace). Moves IsInOrder (IsBefore life l 0) (MayTell its) t.out x.out) (sym ends.1) moves))
-  life_in_order l life at (Err Failed) t mid new result next moves after ends = absurd ends
-  life_in_order l life at (Err Cut) t mid new result next moves after ends = by_cut life.cut refl ends
-    where
-      by_cut : (o : Option cut.Cut) → life.cut ≡ o
-          → IsSomeAnd o (λ its. ((result ≡ Err NoMemory) × (new ≡ by_lines.stops mid its.pick)) ⊎ next (by_lines.says (by_lines.stops mid its.pick) (entry.Cut its.step its.call)))
-          → Moves IsInOrder (IsBetweenOf script l) (RunEndsIn script result) t.out new.out
-      by_cut None none its = absurd its
-      by_cut (Some its) is (inl wants) = subst (λ (r : Result (Unit {0}) Fault). Moves IsInOrder (IsBetweenOf script l) (RunEndsIn script r) t.out new.out) (sym wants.0)
-          (moves_in_life script life l (MayTell NoMemory) t.out new.out at (cut_untold (IsBefore life l 0) (IsAtCut life l) NoMemory t.out mid.out new.out refl (ap (λ (x : Trace). x.out) wants.1) moves))
-      by_cut (Some its) is (inr so) =
-          moves_then IsInOrder (IsBetweenOf script l) (IsBetweenOf script (l + 1)) (RunEndsIn script result) t.out (mid.out ++ entry.Cut its.step its.call ∷ []) new.out
-          (moves_life script life l t.out (mid.out ++ entry.Cut its.step its.call ∷ []) at
-          (moves_then IsInOrder (IsBefore life l 0) (IsAtCut life l) (IsBetween (l + 1)) t.out mid.out (mid.out ++ entry.Cut its.step its.call ∷ []) moves
-          (moves_cut life l its mid.out (mid.out ++ entry.Cut its.step its.call ∷ []) is refl)))
-          (after (by_lines.says (by_lines.stops mid its.pick) (entry.Cut its.step its.call)) so)
-
-  pub from_in_order : (first : Files → Type 0) (l : ℕ) (lives : List Life) (t new : Trace) (result : Result (Unit {0}) Fault) → l ≤ length script.lives → lives ≡ drop l script.lives
-      → LivesFrom by_lines script first l lives t result new → Moves IsInOrder (IsBetweenOf script l) (RunEndsIn script result) t.out new.out
-  from_in_order first l [] t new result within rest its =
-      subst (λ (r : Result (Unit {0}) Fault). Moves IsInOrder (IsBetweenOf script l) (RunEndsIn script r) t.out new.out) (sym its.0)
-      (moves_none IsInOrder (IsBetweenOf script l) (IsBetweenOf script (length script.lives)) t.out new.out (ap (λ (x : Trace). x.out) its.1) (λ s p at. subst (λ (n : ℕ). IsBetweenOf script n s p) all at))
-    where
-      all : l ≡ length script.lives
-      all = let none : 0 ≡ length script.lives - l = ap length rest ∙ length-drop l script.lives in omega (arith, within, none)
-  from_in_order first l (life ∷ lives) t new result within rest (seen, files, how, mid, reads, known, begins, so, ends) =
-      life_in_order l life at how t mid new result (λ mid. LivesFrom by_lines script AnyFiles (l + 1) lives mid result new)
+  life_in_order : (l : ℕ) (life : Life) (seen : Held → Seen) (files : Files) (t mid : Trace) (how : Result (Unit {0}) Stop) → LivesSo by_lines (lived script l life seen files) files t how mid
+      → Moves IsInOrder (IsBefore life l 0) (EndsBy MayTell life l how) t.out mid.out
+  life_in_order l life seen files t mid how so = moves_within IsInOrder (IsBefore life l 0) (IsBefore life l 0) (EndsIn life l how) (EndsBy MayTell life l how) t.out mid.out (λ s p at. at) (by_end how)
       (lives_in_order (lived script l life seen files) files t mid how so)
-      (λ t its. from_in_order AnyFiles (l + 1) lives t new result (omega (arith, below)) (subst (λ (k : ℕ). lives ≡ drop k script.lives) (sym (add-one l)) (rest_at script.lives l life lives rest)) its)
-      ends
     where
-      below : l < length script.lives
-      below = let some : suc (length lives) ≡ length script.lives - l = ap length rest ∙ length-drop l script.lives in omega (arith, some)
-
-      at : slice_get script.lives l ≡ Some life
-      at = item_at script.lives l life lives rest
+      by_end : (how : Result (Unit {0}) Stop) (s : Setting) (p : Progress) → EndsIn life l how s p → EndsBy MayTell life l how s p
+      by_end (Ok done) s p at = at
+      by_end (Err Cut) s p at = at
+      by_end (Err (FaultOf its)) s p at = at
+      by_end (Err Failed) s p at = at
 
   pub all_in_order : (first : Files → Type 0) (t new : Trace) (result : Result (Unit {0}) Fault) → RunsAllSo by_lines script first t result new
       → Moves IsInOrder (IsBetweenOf script 0) (RunEndsIn script result) t.out new.out
-  all_in_order first t new result (inl wants) = subst (λ (r : Result (Unit {0}) Fault). Moves IsInOrder (IsBetweenOf script 0) (RunEndsIn script r) t.out new.out) (sym wants.0)
-      (moves_none IsInOrder (IsBetweenOf script 0) (MayTell NoMemory) t.out new.out (ap (λ (x : Trace). x.out) wants.1) (λ s p at. inl refl))
-  all_in_order first t new result (inr lives) = from_in_order first 0 script.lives t new result (omega arith) refl lives
+  all_in_order first t new result runs = all_move IsInOrder MayTell (λ s p. inl refl) moves_cut script (λ l life seen files at reads. life_in_order l life seen files) first t new result runs
 
 -- THE CLAUSES of order
 

@@ -29,33 +29,6 @@ quiet_none old new same = record { added = []; parts = same ∙ sym (append-nil 
 pub quiet_one : (old new : List Entry) (one : Entry) → new ≡ old ++ one ∷ [] → IsQuiet one → AddsQuiet old new
 quiet_one old new one is quiet = record { added = one ∷ []; parts = is; quiet = (quiet, tt) }
 
-pub quiet_unless : (known : Bool) (old new : List Entry) (one : Entry) → new ≡ (if known then old else old ++ one ∷ []) → IsQuiet one → AddsQuiet old new
-quiet_unless true old new one is quiet = quiet_none old new is
-quiet_unless false old new one is quiet = quiet_one old new one is quiet
-
-pub quiet_push : {T E : Type 0} (result : Result T E) (old new : List Entry) (one : Entry) → OnOk result (new ≡ old ++ one ∷ []) → OnErr result (new ≡ old) → IsQuiet one → AddsQuiet old new
-quiet_push (Ok x) old new one ok err quiet = quiet_one old new one ok quiet
-quiet_push (Err e) old new one ok err quiet = quiet_none old new err
-
-pub quiet_then : (old mid new : List Entry) → AddsQuiet old mid → AddsQuiet mid new → AddsQuiet old new
-quiet_then old mid new a b = record {
-  added = a.added ++ b.added;
-  parts = b.parts ∙ ap (λ xs. xs ++ b.added) a.parts ∙ append_assoc old a.added b.added;
-  quiet = all_of_both IsQuiet a.added b.added a.quiet b.quiet;
-}
-
-pub opening_then : (life : ℕ) (old mid new : List Entry) → AddsOpening life old mid → AddsQuiet mid new → AddsOpening life old new
-opening_then life old mid new a b = record {
-  restored = a.restored;
-  more = a.more ++ b.added;
-  parts = b.parts ∙ ap (λ xs. xs ++ b.added) a.parts ∙ append_assoc old (entry.Opened life a.restored ∷ a.more) b.added;
-  quiet = all_of_both IsQuiet a.more b.added a.quiet b.quiet;
-}
-
-pub at_err : {T E : Type 0} (result : Result T E) (P : Type 0) → P → OnErr result P
-at_err (Ok x) P is = tt
-at_err (Err e) P is = is
-
 -- MOVES
 
 pub each_of_both : (s : Setting) (E : Progress → Entry → Type 0) (xs ys : List Entry) (p : Progress)

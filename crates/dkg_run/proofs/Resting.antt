@@ -1,26 +1,29 @@
 -- What the devices hold of the recorded dealings: between two lives, within a life, and where a life stops.
-use Rattle.std.proofs.Common.{ℕ, zero, suc, ◌<◌, List, [], ◌∷◌, ◌++◌, ◌≡◌, refl, sym, ap, subst, ◌∙◌, ◌⊎◌, inl, inr, Option, Some, None, Bool, true, false, cond, length}
+use Rattle.std.proofs.Common.{ℕ, zero, suc, ◌+◌, ◌<◌, ◌≤◌, arith, List, [], ◌∷◌, ◌++◌, ◌≡◌, refl, sym, ap, subst, ◌∙◌, ◌⊎◌, inl, inr, Option, Some, None, Bool, true, false, cond, length}
 use Rattle.std.specs.Prelude.{fold, slice_get, option_map, MatchOption, IfSome, IsSomeAnd, IsFalse}
 use Rattle.std.specs.FinMap.{get}
 use Rattle.std.specs.List.{AllByRecursion}
 use Rattle.std.specs.Option.{option_or}
+use Rattle.dkg_journal.specs.Names.{Files}
 use Rattle.dkg_journal.specs.Records.{entries}
 use Rattle.dkg_store.specs.Acts.{Held, notes}
 use Rattle.dkg_store.specs.Pairs.{Pairs, IsWhole, recovered}
+use Rattle.dkg_store.specs.Secrets.{Secrets}
 use Rattle.dkg_types.specs.declared.entry.Entry.{Entry}
 use Rattle.dkg_types.specs.declared.entry.Entry.TheVariants as entry
 use Rattle.dkg_types.specs.declared.entry.Restored.{Restored}
 use Rattle.dkg_text.specs.declared.script.Life.{Life}
+use Rattle.dkg_text.specs.declared.script.Script.{Script}
 use Rattle.dkg_script.specs.Blocks.{provided}
 use Rattle.dkg_script.specs.Consistent.{IsConsistentScript}
 use Rattle.dkg_script.specs.Due.{IsDue, WroteAck}
 use Rattle.dkg_script.specs.Form.{IsLifeOfToday, midpoint_of}
 use Rattle.dkg_script.specs.Kept.{AllCurrent, Gives, IsBroughtAtCut, IsRecordedAs, IsSound, IsSoundOpening, IsLaterOpening}
 use Rattle.dkg_script.specs.OwnMarks.{AreKnownHandedIn}
-use Rattle.dkg_script.specs.Position.{IsPlanHistory, IsLeft, awaited_epoch, begun, begun_before, cut_of, material, unless_outdated}
+use Rattle.dkg_script.specs.Position.{IsPlanHistory, IsLeft, awaited_before, awaited_epoch, awaited_epoch_in, begun, begun_before, cut_of, material, unless_outdated}
 use Rattle.dkg_script.specs.Progress.{Progress, read, at_start, is_last_step, pair_of, with_life_ended, with_pair, IsBrought}
-use Rattle.dkg_script.specs.Promise.{AreHonestStores, IsBuilt}
-use Rattle.dkg_script.specs.Setting.{Setting, CutAt, found, is_oneshot, life_at, listed, recovered_from}
+use Rattle.dkg_script.specs.Promise.{AreHonestStores, InEachCase, IsBuilt}
+use Rattle.dkg_script.specs.Setting.{Setting, CutAt, found, is_oneshot, life_at, listed, recovered_from, setting_of}
 use Rattle.dkg_script.proofs.Beginning.{gives_all, pair_of-listed}
 use Rattle.dkg_script.proofs.Openings.{lists_them}
 use Rattle.dkg_script.proofs.Today.{awaits_epoch_zero, plain_of}
@@ -99,19 +102,45 @@ has_none s l life today is = by_mode (is_oneshot s)
     by_mode false = rw ((life_today s l life today is).no_sync, finds_none s l today) refl
 
 -- the one case of start material is a case
-pub is_history : (s : Setting) (cuts : List (Option CutAt)) → IsTodays s → IsPlanHistory s cuts
-is_history s cuts today = record {
-  first = finds_none s 0 today ∙ sym (plain_of s today.built).no_record;
+plain_history : (s : Setting) (cuts : List (Option CutAt)) → IsBuilt s → s.plans ≡ [] → IsPlanHistory s cuts
+plain_history s cuts built no_plans = record {
+  first = none 0 ∙ sym (plain_of s built).no_record;
   next = λ l below. by_life l (life_at s l) refl;
 }
   where
-    by_mode : (l : ℕ) (oneshot : Bool) (m : Option _) → m ≡ None → found s (suc l) ≡ cond oneshot (found s l) m
-    by_mode l true m none = finds_none s (suc l) today ∙ sym (finds_none s l today)
-    by_mode l false m none = finds_none s (suc l) today ∙ sym none
+    none : (l : ℕ) → found s l ≡ None
+    none l = rw no_plans refl
+
+    by_mode : (l : ℕ) (oneshot : Bool) (m : Option _) → m ≡ None → found s (suc l) ≡ cond oneshot (found s l) (cond oneshot None m)
+    by_mode l true m is = none (suc l) ∙ sym (none l)
+    by_mode l false m is = none (suc l) ∙ sym is
 
     by_life : (l : ℕ) (o : Option Life) → life_at s l ≡ o → IfSome o (λ life. IsLeft s l life (cut_of cuts l) (found s (suc l)))
     by_life l None is = tt
-    by_life l (Some life) is = inl (by_mode l (is_oneshot s) (material s l life) (has_none s l life today is))
+    by_life l (Some life) is = inl (by_mode l (is_oneshot s) (unless_outdated s life (option_or (provided s life) (found s l)))
+        (rw ((form_at (IsLifeOfToday (midpoint_of s.script) s.script.blocks) s.script.lives l life built.form.lives is).no_sync, none l) refl))
+
+pub is_history : (s : Setting) (cuts : List (Option CutAt)) → IsTodays s → IsPlanHistory s cuts
+is_history s cuts today = plain_history s cuts today.built today.no_plans
+
+-- What is built is of today where it is consistent, however its first lives ended.
+pub today_of : (script : Script) (files : Files) (secrets : Secrets) (ends : List (Option CutAt)) → IsBuilt (setting_of script files secrets)
+    → InEachCase (setting_of script files secrets) ends (λ case. IsConsistentScript case ends) → IsTodays (setting_of script files secrets)
+today_of script files secrets ends built source = record {
+  built = built;
+  no_plans = refl;
+  consistent = record { one_chain = its.one_chain; linked = its.linked; one_info = its.one_info; never_back = λ l below began. first l began; others = its.others };
+}
+  where
+    s : Setting
+    s = setting_of script files secrets
+
+    its : IsConsistentScript s ends
+    its = source [] (plain_history s ends built refl)
+
+    first : (l : ℕ) → l ≤ 0 → awaited_before s [] l ≤ awaited_epoch_in s l 0 + 1
+    first zero began = omega arith
+    first (suc l) began = absurd (omega (arith, began))
 
 -- NO ENTRY TAKES A RECORDED DEALING AWAY
 

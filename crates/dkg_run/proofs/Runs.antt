@@ -21,33 +21,9 @@ use Rattle.dkg_run.proofs.Standing.{Each, Moves, MayTell, IsBetween, IsBetweenOf
 use Rattle.dkg_run.proofs.Places.{each_of_both, moves_none, moves_within}
 use Rattle.dkg_run.proofs.InPlace.{life_begins}
 
--- the item that a loop is at
-pub at_item : {A : Type 0} (xs : List A) (i : ℕ) (x : A) → i < length xs → x ≡ get_or xs i x → slice_get xs i ≡ Some x
-at_item {A = A} xs i x below is = slice_get-get_or xs i x below ∙ ap (λ (y : A). Some y) (sym is)
-
--- .. which is the event of the next step
+-- the event of the next step
 pub at_event : (life : Life) (i : ℕ) (event : Event) → slice_get life.events i ≡ Some event → event_of_step life (i + 1) ≡ Some event
 at_event life i event is = rw (add-one i) is
-
--- ONE LIFE OF A SCRIPT
-
-pub moves_life : (script : Script) (life : Life) (l : ℕ) (old new : List Entry) → slice_get script.lives l ≡ Some life
-    → Moves IsInOrder (IsBefore life l 0) (IsBetween (l + 1)) old new → Moves IsInOrder (IsBetweenOf script l) (IsBetweenOf script (l + 1)) old new
-moves_life script life l old new life_is a = record {
-  added = a.added;
-  parts = a.parts;
-  each = λ s p is. a.each s p (begins s p is);
-  to = λ s p is. record { of_script = is.of_script; between = a.to s p (begins s p is) };
-  no_fault = a.no_fault;
-}
-  where
-    begins : (s : Setting) (p : Progress) → IsBetweenOf script l s p → IsBefore life l 0 s p
-    begins s p is = life_begins life l s p (ap (λ (x : Script). slice_get x.lives l) is.of_script ∙ life_is) is.between
-
-pub moves_in_life : (script : Script) (life : Life) (l : ℕ) (Q : Setting → Progress → Type 0) (old new : List Entry) → slice_get script.lives l ≡ Some life
-    → Moves IsInOrder (IsBefore life l 0) Q old new → Moves IsInOrder (IsBetweenOf script l) Q old new
-moves_in_life script life l Q old new life_is a = moves_within IsInOrder (IsBefore life l 0) (IsBetweenOf script l) Q Q old new
-    (λ s p is. life_begins life l s p (ap (λ (x : Script). slice_get x.lives l) is.of_script ∙ life_is) is.between) (λ s p is. is) a
 
 -- memory ran out before the first life
 pub untouched : (script : Script) (out : List Entry) → Moves IsInOrder (IsBetweenOf script 0) (MayTell NoMemory) out out

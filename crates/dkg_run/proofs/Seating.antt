@@ -98,12 +98,12 @@ module _ (s : Setting) (today : IsTodays s) (l : ℕ) (life : Life) (life_is : l
   same_limits : limits s ≡ limits_of s.script
   same_limits = rw today.built.form.reshares refl
 
-  reshares : round_at s 0 ≡ option_and_then (reshare_round s 0) (known_info s 0)
+  pub reshares : round_at s 0 ≡ option_and_then (reshare_round s 0) (known_info s 0)
   unfolding round_at
   reshares = rw today.built.form.reshares refl
 
   -- the info that the script's first block carries is known
-  info_known : (line : BlockLine) (i : Info) → slice_get s.script.blocks 0 ≡ Some line → option_and_then (info_in (limits_of s.script)) line.payload ≡ Some i → i.epoch ≡ 0 → known_info s 0 ≡ Some i
+  pub info_known : (line : BlockLine) (i : Info) → slice_get s.script.blocks 0 ≡ Some line → option_and_then (info_in (limits_of s.script)) line.payload ≡ Some i → i.epoch ≡ 0 → known_info s 0 ≡ Some i
   info_known line i line_is info epoch =
       let height : line.height ≡ 0 = rw line_is at today.built.form.first in
       known_is s l life (block_of s (take 0 (blocks s)) line) i today life_is (of_line s 0 line line_is) height

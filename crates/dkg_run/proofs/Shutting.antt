@@ -1,5 +1,5 @@
 -- What an opening leaves of a journal that it doesn't open.
-use Rattle.std.proofs.Common.{◌≡◌, ◌⊎◌, inl, inr, ℕ, ◌++◌, Bool, true, false, List, [], ◌∷◌, Option, Some, None, refl, sym, ◌∙◌, ap, subst}
+use Rattle.std.proofs.Common.{◌≡◌, ◌⊎◌, inl, inr, ℕ, ◌++◌, Bool, true, false, List, [], ◌∷◌, Option, Some, None, Err, refl, sym, ◌∙◌, ap, subst}
 use Rattle.std.specs.Prelude.{IsTrue}
 use Rattle.dkg_journal.specs.Names.{Files}
 use Rattle.dkg_journal.specs.Opening.{broken}
@@ -11,7 +11,7 @@ use Rattle.dkg_types.specs.declared.entry.Entry.{Entry as Line}
 use Rattle.dkg_types.specs.declared.entry.Entry.TheVariants as entry
 use Rattle.dkg_types.specs.declared.fault.Fault.{Fault}
 use Rattle.dkg_types.specs.declared.fault.Fault.TheVariants as fault
-use Rattle.dkg_store.specs.Acts.{Cause, Ended, Held, Stands, broken as broken_off, by_cut, by_disk, by_secrets, by_want, held_in, stopped}
+use Rattle.dkg_store.specs.Acts.{Cause, Ended, Held, Stands, broken as broken_off, by_cut, by_disk, by_secrets, by_want, held_in, notes, stopped}
 use Rattle.dkg_store.specs.Corrupt.{AreEvents}
 use Rattle.dkg_store.specs.Events.{is_event}
 use Rattle.dkg_store.specs.Noted.{logs_in}
@@ -19,24 +19,35 @@ use Rattle.dkg_store.specs.Pairs.{IsWhole, recovered}
 use Rattle.dkg_store.specs.Secrets.{Secrets}
 use Rattle.dkg_core.specs.Courses.{on_devices}
 use Rattle.dkg_core.specs.Fixed.{Fixed}
+use Rattle.dkg_core.specs.Heard.{recovered_in}
 use Rattle.dkg_core.specs.Live.{Faulted, Live, NodeStop}
 use Rattle.dkg_core.specs.Node.{node_opening}
 use Rattle.dkg_core.specs.Said.{Said}
 use Rattle.dkg_core.specs.Transcripts.{BeginsOpened}
 use Rattle.dkg_core.proofs.NodeToday.{node_openings_are_quiet}
-use Rattle.dkg_reshare.specs.Opened.{IsInGrammar, StaysShut}
+use Rattle.dkg_reshare.specs.Opened.{IsInGrammar, OpensReadable, StaysShut}
 use Rattle.dkg_reshare.specs.declared.stop.Stop.{Stop}
 use Rattle.dkg_reshare.specs.declared.stop.Stop.TheVariants.{Cut, Failed, Fault as FaultOf}
 use Rattle.dkg_run.specs.Ended.{by_node_stop}
+use Rattle.dkg_run.specs.Refused.{IsOutside}
 use Rattle.dkg_run.specs.Ways.{IsBroken, StaysHeld}
-use Rattle.dkg_run.proofs.Faults.{IsOutside, own_or_outside}
+use Rattle.dkg_run.proofs.Faults.{own_or_outside}
 
-pub shut_none : (Readable : Type 0) (image : Files → Type 0) (held : Secrets) → StaysShut Readable image image held held
-shut_none Readable image held = record { images = λ no. record { each = λ c here. (c, here, record { plan = refl; same = refl }) }; same = λ no. refl }
+shut_none : (image : Files → Type 0) (held : Secrets) → StaysShut image image held held
+shut_none image held = record { images = record { each = λ c here. (c, here, record { plan = refl; same = refl }) }; same = refl }
 
-pub shut_as : (limit most : ℕ) → limit ≡ most → (files : Files) (image next : Files → Type 0) (held now : Secrets) → StaysShut (IsInGrammar limit files) image next held now
-    → StaysShut (IsInGrammar most files) image next held now
-shut_as limit most same files image next held now is = subst (λ (n : ℕ). StaysShut (IsInGrammar n files) image next held now) same is
+-- no journal was opened
+pub unopened : (T Readable : Type 0) (stop : Stop) (out : List Line) (image : Files → Type 0) (held : Secrets) → OpensReadable {T = T} Readable (Err stop) out out image image held held
+unopened T Readable stop out image held = record { ok = tt; untold = λ no. refl; shut = λ no. shut_none image held }
+
+-- .. or its opening ended so
+pub readable_ended : (T U : Type 0) (limit most : ℕ) → limit ≡ most → (files : Files) (stop : Stop) {out now : List Line} {image next : Files → Type 0} {held held_now : Secrets}
+    → OpensReadable {T = T} (IsInGrammar limit files) (Err stop) out now image next held held_now → OpensReadable {T = U} (IsInGrammar most files) (Err stop) out now image next held held_now
+readable_ended T U limit most same files stop {out} {now} {image} {next} {held} {held_now} its =
+    subst (λ (n : ℕ). OpensReadable {T = U} (IsInGrammar n files) (Err stop) out now image next held held_now) same (record { ok = tt; untold = its.untold; shut = its.shut })
+
+pub grammar_as : (limit most : ℕ) → limit ≡ most → (files : Files) → IsInGrammar limit files → IsInGrammar most files
+grammar_as limit most same files its = subst (λ (n : ℕ). IsInGrammar n files) same its
 
 -- WHETHER A JOURNAL is in its grammar
 
@@ -80,7 +91,7 @@ broken_outside (fault.Corrupt name place) is = record { cause = by_disk; by = re
 broken_outside its is = absurd is
 
 module _ (c : Fixed directory.Unit) (out now : List Line) (untold : now ≡ out) where
-  unsaid_stop : (stop : Stop) → Said (on_devices (node_opening c)) (by_node_stop stop) out now → IsBroken stop
+  pub unsaid_stop : (stop : Stop) → Said (on_devices (node_opening c)) (by_node_stop stop) out now → IsBroken stop
   unsaid_stop Cut said = record { cause = by_cut; by = refl }
   unsaid_stop Failed said = record { cause = by_want; by = refl }
   unsaid_stop (FaultOf its) said = by_kind (own_or_outside its)
@@ -94,29 +105,27 @@ module _ (c : Fixed directory.Unit) (out now : List Line) (untold : now ≡ out)
           let quiet = node_openings_are_quiet c (stopped (Faulted its)) out now (subst (λ (e : Ended NodeStop (Live directory.Unit)). Said (on_devices (node_opening c)) e out now) own said) in
           absurd (nothing quiet.0 (ends_none out quiet.0 (sym untold ∙ quiet.1)) quiet.2)
 
-  pub unsaid_breaks : (stop result : Stop) → (result ≡ stop) ⊎ ((stop ≡ Cut) × (result ≡ FaultOf fault.NoMemory)) → Said (on_devices (node_opening c)) (by_node_stop stop) out now → IsBroken result
-  unsaid_breaks stop result (inl same) said = subst IsBroken (sym same) (unsaid_stop stop said)
-  unsaid_breaks stop result (inr other) said = subst IsBroken (sym other.1) (record { cause = by_want; by = refl })
-
 -- WHAT IS HELD stays
 
-pub shut_holds : (Readable : Type 0) (files : Files) (image next : Files → Type 0) (held now : Secrets) → Stands files image → (Readable → ⊥) → StaysShut Readable image next held now → (c : Files) → next c
-    → StaysHeld (held_in files held) (held_in c now)
-shut_holds Readable files image next held now stands not shut c here = record {
-  whole = λ w. subst (λ (s : Secrets). IsWhole (entries c) s) (sym secrets) (subst (λ (es : List Entry). IsWhole es held) (sym same) w);
-  pairs = λ w. λ i. recovered (same i) (secrets i);
-  logs = λ w. ap logs_in same;
+pub shut_holds : (files : Files) (image next : Files → Type 0) (held now : Secrets) → Stands files image → StaysShut image next held now → (c : Files) → next c → StaysHeld (held_in files held) (held_in c now)
+shut_holds files image next held now stands shut c here = record {
+  entries = (from.2).same ∙ ap entries at;
   plan = (from.2).plan ∙ ap (λ (f : Files). (held_in f held).journaled.plan) at;
+  secrets = shut.same;
 }
   where
     from : (d : Files) × image d × Keeps d c
-    from = (shut.images not).each c here
-
-    secrets : now ≡ held
-    secrets = shut.same not
+    from = shut.images.each c here
 
     at : from.0 ≡ files
     at = stands.lands.only from.0 from.1
 
-    same : entries c ≡ entries files
-    same = (from.2).same ∙ ap entries at
+module _ (old new : Held) (stays : StaysHeld old new) where
+  pub held_whole : IsWhole (notes old) old.secrets → IsWhole (notes new) new.secrets
+  held_whole whole = subst (λ (s : Secrets). IsWhole (notes new) s) (sym stays.secrets) (subst (λ (es : List Entry). IsWhole es old.secrets) (sym stays.entries) whole)
+
+  pub held_pairs : recovered_in new ≡ recovered_in old
+  held_pairs = λ i. recovered (stays.entries i) (stays.secrets i)
+
+  pub held_logs : logs_in (notes new) ≡ logs_in (notes old)
+  held_logs = ap logs_in stays.entries

@@ -1,6 +1,6 @@
 -- Why a node refuses a block of a consistent script: it skips the height that is awaited, and nothing else.
 use Rattle.std.proofs.Common.{◌≡◌, ◌⊎◌, inl, inr, ℕ, zero, suc, ◌+◌, ◌-◌, ◌<◌, ◌≤◌, ◌==◌, ◌&&◌, ◌++◌, ◌∷◌, [], Bool, true, false, not, List, Option, Some, None, Result, Ok, Err, arith, refl, sym, ◌∙◌, ap, subst, add-one, drop, take}
-use Rattle.std.specs.Prelude.{nat_le, nat_lt, option_map, slice_get, IfErr, IfSome, IsSomeAnd, if◌then◌else◌}
+use Rattle.std.specs.Prelude.{nat_le, nat_lt, length, option_map, slice_get, IfErr, IfSome, IsSomeAnd, if◌then◌else◌}
 use Rattle.std.specs.List.{AllByRecursion}
 use Rattle.std.specs.Option.{option_map_or}
 use Rattle.std.specs.Str.{bytes_eq}
@@ -26,10 +26,8 @@ use Rattle.dkg_text.specs.declared.script.Script.{Script}
 use Rattle.dkg_script.specs.Blocks.{Block, block_at, block_of, blocks, chain, chain_below, events_come_to}
 use Rattle.dkg_script.specs.Form.{IsAnchorOfToday, IsEventOfToday, midpoint_of}
 use Rattle.dkg_script.specs.Position.{awaited_height}
-use Rattle.dkg_script.specs.Promise.{IsBuilt, IsHonestRun}
-use Rattle.dkg_script.specs.Setting.{Setting, life_at, setting_of}
+use Rattle.dkg_script.specs.Setting.{CutAt, Setting, life_at, setting_of}
 use Rattle.dkg_script.proofs.LineBlocks.{of_line}
-use Rattle.dkg_script.proofs.Today.{plain_of}
 use Rattle.dkg_store.specs.Acts.{Ended, Held, broken, stopped, went}
 use Rattle.dkg_store.specs.Secrets.{Secrets}
 use Rattle.dkg_core.specs.Courses.{Course, on_devices}
@@ -46,17 +44,18 @@ use Rattle.dkg_core.proofs.NodeToday.{node_openings_come_to, node_steps_come_to}
 use Rattle.dkg_reshare.specs.declared.stop.Stop.{Stop}
 use Rattle.dkg_reshare.specs.declared.stop.Stop.TheVariants.{Cut as AtCut, Fault as FaultOf}
 use Rattle.dkg_run.specs.Given.{AreBytes, IsLifeHere, Lived, anchor_at, anchor_in, at_step, blocks_in, lived, step_of}
-use Rattle.dkg_run.specs.Lives.{LivesSo, RunsAllSo, RunsSo, Steps, TakesAll, TellsEnd, fuse_for}
-use Rattle.dkg_run.specs.Refusals.{BlamesOnlySkips, IsRefusal, SkipsIn, SkipsSomewhere}
+use Rattle.dkg_run.specs.Lives.{LivesSo, Steps, TakesAll, fuse_for}
+use Rattle.dkg_run.specs.Refusals.{BlamesOnlySkips, IsRefusal, SkipsIn}
+use Rattle.dkg_run.specs.Refused.{IsOutside}
 use Rattle.dkg_run.specs.Ways.{Trace, by_lines}
 use Rattle.dkg_run.proofs.Awaiting.{IsBefore, IsReached, awaited, awaits_first, before_all, before_next, block_awaits, comes_to, message_behind, reached_lit}
 use Rattle.dkg_run.proofs.BlockLines.{IsOf, each_is}
-use Rattle.dkg_run.proofs.Faulted.{all_tell, step_tells}
-use Rattle.dkg_run.proofs.Faults.{IsOutside}
+use Rattle.dkg_run.proofs.CutLives.{InHand}
+use Rattle.dkg_run.proofs.Faulted.{reads_neither, step_tells}
 use Rattle.dkg_run.proofs.Laws.{opened_live, opened_tip, opened_unawaited}
 use Rattle.dkg_run.proofs.Living.{holds_at}
-use Rattle.dkg_run.proofs.Ordered.{item_at, rest_at}
-use Rattle.dkg_run.proofs.Resting.{IsTodays, life_today}
+use Rattle.dkg_run.proofs.Following.{item_at, rest_at}
+use Rattle.dkg_run.proofs.Resting.{IsTodays, life_today, today_of}
 use Rattle.dkg_run.proofs.Today.{Brings, IsMessage, alike_at, form_at, lacks_nobody, life_form, made_at, message_of}
 use Rattle.dkg_run.proofs.Used.{in_chain, of_anchor, of_delivered}
 
@@ -434,37 +433,20 @@ module _ (s : Setting) (today : IsTodays s) (bytes : AllByRecursion (λ line. If
 
 -- IN A RUN
 
--- what is built and honest is of today
-pub todays : (script : Script) (files : Files) (held : Secrets) (image : Files → Type 0) → IsBuilt (setting_of script files held) → IsHonestRun (setting_of script files held) image → IsTodays (setting_of script files held)
-todays script files held image built honest = record {
-  built = built;
-  no_plans = refl;
-  consistent = honest.source [] tt [] (record { first = sym (plain_of (setting_of script files held) built).no_record; next = λ l below. absurd (omega (arith, below)) });
-}
-
 module _ (script : Script) (files : Files) (held : Secrets) (image : Files → Type 0) where
   abbrev s : Setting
   s = setting_of script files held
 
-  all_skip : AreBytes script.blocks → (its : Fault) (first : Files → Type 0) (t new : Trace) → RunsAllSo by_lines script first t (Err its) new → BlamesOnlySkips s image its
-  all_skip bytes its first t new runs built honest = all_tell script built.form its (λ own. IsRefusal own → SkipsSomewhere s own) (λ refusal. absurd refusal)
-      (λ l life seen own_files here own t mid so refusal.
-      record { number = l; life = life; life_is = here.life_is; skips = life_blames s (todays script files held image built honest) bytes l life here.life_is seen own_files here own t mid so refusal }) first t new runs
-
-  -- THE CLAUSE of skips
-  pub run_skips : (first : Files → Type 0) (t new : Trace) (answered : Result (Unit {0}) Fault) → IfErr answered (λ its. (its ≡ fault.NoMemory) ⊎ AreBytes script.blocks) → RunsSo by_lines script first t answered new
-      → IfErr answered (BlamesOnlySkips s image)
-  run_skips first t new answered bytes run = by_result run.result run.lives answered bytes run.told
-    where
-      ok_is : {x : Fault} → ◌≡◌ {A = Result (Unit {0}) Fault} (Err x) (Ok tt) → ⊥
-      ok_is e = cc
-
-      same_answer : {x y : Fault} → ◌≡◌ {A = Result (Unit {0}) Fault} (Err x) (Err y) → x ≡ y
-      same_answer e = cc
-
-      by_result : (result : Result (Unit {0}) Fault) → RunsAllSo by_lines script first t result run.mid → (answered : Result (Unit {0}) Fault) → IfErr answered (λ its. (its ≡ fault.NoMemory) ⊎ AreBytes script.blocks) → TellsEnd by_lines result answered run.mid new → IfErr answered (BlamesOnlySkips s image)
-      by_result result lives (Ok done) bytes told = tt
-      by_result (Ok done) lives (Err its) bytes told = absurd (ok_is told.0)
-      by_result (Err own) lives (Err its) bytes (inl wants) = λ built honest refusal. absurd (subst IsRefusal (same_answer wants.0) refusal)
-      by_result (Err own) lives (Err its) (inl wants) (inr told) = λ built honest refusal. absurd (subst IsRefusal wants refusal)
-      by_result (Err own) lives (Err its) (inr bytes) (inr told) = subst (BlamesOnlySkips s image) (sym (same_answer told.0)) (all_skip bytes own first t run.mid lives)
+  -- THE CLAUSE of skips, of the life in hand
+  pub hand_skips : (ends : List (Option CutAt)) (answered : Result (Unit {0}) Fault) → IfErr answered (λ its. (its ≡ fault.NoMemory) ⊎ AreBytes script.blocks)
+      → IfErr answered (λ its. (its ≡ fault.NoMemory) ⊎ InHand by_lines script s ends its) → IfErr answered (BlamesOnlySkips s image ends)
+  hand_skips ends (Ok done) bytes hand = tt
+  hand_skips ends (Err its) (inl wants) hand = λ built honest refusal. absurd (subst IsRefusal wants refusal)
+  hand_skips ends (Err its) (inr bytes) (inl wants) = λ built honest refusal. absurd (subst IsRefusal wants refusal)
+  hand_skips ends (Err its) (inr bytes) (inr hand) = λ built honest refusal.
+      let here : IsLifeHere (lived script (length ends) hand.life hand.seen hand.files) = record { form = built.form; life_is = hand.life_is; reads = reads_neither hand.seen hand.reads } in
+      record {
+        life = hand.life;
+        life_is = hand.life_is;
+        skips = life_blames s (today_of script files held ends built honest.source) bytes (length ends) hand.life hand.life_is hand.seen hand.files here its hand.old hand.new hand.so refusal;
+      }

@@ -49,6 +49,10 @@ MayTell its s p = (its ≡ NoMemory) ⊎ IsInOrder s p (Fault its)
 abbrev pub IsCutBefore : Option cut.Cut → ℕ → Type 0
 IsCutBefore its step = IsSomeAnd its (λ cut. (cut.step ≡ step) × (cut.call ≡ 0))
 
+-- .. or within it
+abbrev pub IsCutWithin : Option cut.Cut → ℕ → Type 0
+IsCutWithin its step = IsSomeAnd its (λ cut. (cut.step ≡ step) × (cut.call ≢ 0))
+
 -- WHERE A RUN STANDS
 
 -- at both of two places

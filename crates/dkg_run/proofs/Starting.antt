@@ -1,5 +1,5 @@
 -- A life from its opening on, by what its calls answered: over the lines; and what it blames.
-use Rattle.std.proofs.Common.{MutBor, ◌≡◌, ◌⊎◌, inl, inr, ℕ, ◌<◌, ◌++◌, ◌∷◌, [], List, Option, Some, None, Result, Ok, Err, refl, sym, ◌∙◌, ap, subst, arith}
+use Rattle.std.proofs.Common.{MutBor, ◌≡◌, ◌⊎◌, inl, inr, ℕ, ◌<◌, ◌++◌, ◌∷◌, [], List, Option, Some, None, Result, Ok, Err, refl, sym, ◌∙◌, ap, subst, append-nil, arith}
 use Rattle.std.specs.Prelude.{⊤, Bool, IfErr, IsSomeAnd, slice_get}
 use Rattle.std.specs.Int.NonZero.{non_zero_u32_get, non_zero_u64_get}
 use Rattle.std.specs.List.{AllByRecursion}
@@ -34,13 +34,15 @@ use Rattle.dkg_reshare.specs.Today.{seen_today}
 use Rattle.dkg_reshare.specs.declared.stop.Stop.{Stop}
 use Rattle.dkg_reshare.specs.declared.stop.Stop.TheVariants.{Cut, Failed, Fault as FaultOf}
 use Rattle.dkg_reshare.proofs.Said.{nothing_held}
-use Rattle.dkg_run.specs.Causes.{IsCutWithin, StopHasCause}
+use Rattle.dkg_run.specs.Causes.{StopHasCause}
 use Rattle.dkg_run.specs.Ended.{by_node_stop}
 use Rattle.dkg_run.specs.Given.{IsLifeHere, Lived, ReadsNeither, at_step, blocks_in, lived}
 use Rattle.dkg_run.specs.Lives.{LivesSo, TakesAll, fuse_for}
 use Rattle.dkg_run.specs.Moving.{StepBlames, StopBlames, Went}
 use Rattle.dkg_run.specs.Nodes.{IsEventOfBlocks, IsOfLife, IsStepHere, IsView, ViewedNew}
+use Rattle.dkg_run.specs.Sources.{IsToOpen, anchor_numbers}
 use Rattle.dkg_run.specs.Ways.{ReadsSomething, by_lines, trace}
+use Rattle.dkg_run.specs.declared.held.HeldBlocks.{HeldBlocks}
 use Rattle.dkg_run.specs.declared.node.Node.{Node}
 use Rattle.dkg_run.proofs.Living.{step_blames_around, step_stop_cause}
 use Rattle.dkg_run.proofs.Stepping.{step_wants}
@@ -82,14 +84,14 @@ module _ (script : Script) (number : ℕ) (life : Life) (files : Files) (out : L
 
     module _ (G : Seen → Type 0) (now : List Line) where
       -- The opening stopped.
-      pub stopped_first : (stop result : Stop) → (result ≡ Cut → IsCutWithin life.cut 0) → (result ≡ stop) ⊎ ((stop ≡ Cut) × (result ≡ FaultOf NoMemory))
+      pub stopped_first : (stop : Stop) → (stop ≡ Cut → 0 < f.call)
           → HasRead G (λ s. ViewedNew (Err stop) (λ ended. Tells (node_opening (at_step (lived script number life (λ h. s) files) 0)) ended out now))
-          → LinesSo script number life out (Err result) now files
-      stopped_first stop result within other read = (
+          → LinesSo script number life out (Err stop) now files
+      stopped_first stop cuts read = (
         λ h. read.seen,
         record { read = read.seen; each = refl; shareless = read.shareless; unplanned = read.unplanned },
         λ picks. inl (stopped_lines (entry.Step 0) life.cut 0 f lit (node_opening (at_step (lived script number life (λ h. read.seen) files) 0))
-            (λ end mid. TakesAll by_lines (lived script number life (λ h. read.seen) files) 1 life.events end mid (Err result) (trace now picks)) out now picks stop result within other read.so),
+            (λ end mid. TakesAll by_lines (lived script number life (λ h. read.seen) files) 1 life.events end mid (Err stop) (trace now picks)) out now picks stop cuts read.so),
       )
 
       module _ (node : Node) (read : HasRead G (λ s. ViewedNew (Ok node) (λ ended. Tells (node_opening (at_step (lived script number life (λ h. s) files) 0)) ended out now))) where
@@ -140,6 +142,14 @@ of_blocks script (event.Final number) today =
     subst (λ (o : Option (Block directory.Unit)). IsSomeAnd o (λ b. b.height < midpoint (non_zero_u64_get script.config.blocks_per_epoch) 0)) (sym made.is)
     (subst (λ (n : ℕ). (made.block).height < n) (middle_is (non_zero_u64_get script.config.blocks_per_epoch)) made.so)
 of_blocks script other today = absurd today
+
+pub to_open : (script : Script) (number : ℕ) (life : Life) (source : HeldBlocks) → IsFormOfToday script → slice_get script.lives number ≡ Some life → source.blocks.now ≡ blocks_in script
+    → source.anchor ≡ life.anchor → source.numbers.items ≡ life.held ++ anchor_numbers life.anchor → IsToOpen script number life source
+to_open script number life source form here blocks anchor numbers = record {
+  form = form;
+  life_is = here;
+  source_is = record { blocks_are = blocks; anchor_is = anchor; numbers_are = numbers ∙ ap (λ (l : List ℕ). life.held ++ l) (sym (append-nil (anchor_numbers life.anchor))) };
+}
 
 at_blocks : (g : Lived) → (at_step g 0).blocks_per_epoch ≡ non_zero_u64_get g.script.config.blocks_per_epoch
 unfolding at_step

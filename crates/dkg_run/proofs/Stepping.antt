@@ -16,14 +16,14 @@ use Rattle.dkg_store.specs.Acts.{Ended, Moment, Stands, at, by_cut, by_want, bro
 use Rattle.dkg_core.specs.Courses.{Course, on_devices}
 use Rattle.dkg_core.specs.Live.{Faulted, Live, NodeStop}
 use Rattle.dkg_core.specs.Said.{Said}
+use Rattle.dkg_core.specs.Splitting.{named}
 use Rattle.dkg_reshare.specs.Ends.{by_fault}
 use Rattle.dkg_reshare.specs.Made.{Burns, MakesAt, Tells}
 use Rattle.dkg_reshare.specs.declared.stop.Stop.{Stop}
 use Rattle.dkg_reshare.specs.declared.stop.Stop.TheVariants.{Cut, Failed, Fault as FaultOf}
 use Rattle.dkg_text.specs.declared.script.Cut as cut
 use Rattle.dkg_text.specs.declared.script.Event.{Event}
-use Rattle.dkg_run.specs.Causes.{IsCutWithin}
-use Rattle.dkg_run.specs.Ended.{by_node_stop, named}
+use Rattle.dkg_run.specs.Ended.{by_node_stop}
 use Rattle.dkg_run.specs.Given.{Lived, step_of}
 use Rattle.dkg_run.specs.Lives.{Steps, TakesAll, Wants, fuse_for, fuse_within, never}
 use Rattle.dkg_run.specs.Ways.{Trace, Way, by_lines, by_worlds, trace}
@@ -149,31 +149,6 @@ pub uncut : (stop : Stop) → by_node_stop {S = Live directory.Unit} stop ≡ br
 uncut Cut is = refl
 uncut Failed is = absurd (let wrong : ◌≡◌ {A = Ended NodeStop (Live directory.Unit)} (broken by_want) (broken by_cut) = is in cc)
 uncut (FaultOf its) is = absurd (fault_uncut its is)
-
--- the fuse of a step within which the script cuts the life
-within_call : (its : cut.Cut) (step : ℕ) (f : Burn) → its.step ≡ step → (its.call ≡ 0 → ⊥) → fuse_for (Some its) step ≡ Some f → 0 < f.call
-within_call its step f at within lit = by_step (its.step == step) refl lit
-  where
-    is_zero : (n : ℕ) → (n == 0) ≡ true → n ≡ 0
-    is_zero n e = grind (arith, nat_tests)
-
-    is_more : (n : ℕ) → (n == 0) ≡ false → 0 < n
-    is_more n e = grind (arith, nat_tests)
-
-    differ : (n m : ℕ) → n ≡ m → (n == m) ≡ false → ⊥
-    differ n m same e = grind (arith, nat_tests)
-
-    by_call : (t : Bool) → (its.call == 0) ≡ t → ◌≡◌ {A = Option Burn} (if t then None else Some (record { call = its.call; pick = its.pick; spent = 0 })) (Some f) → 0 < f.call
-    by_call true e is = absurd (within (is_zero its.call e))
-    by_call false e is = subst (λ (b : Burn). 0 < b.call) (some_is is) (is_more its.call e)
-
-    by_step : (t : Bool) → (its.step == step) ≡ t → ◌≡◌ {A = Option Burn} (if t then fuse_within its else Some never) (Some f) → 0 < f.call
-    by_step true e is = by_call (its.call == 0) refl is
-    by_step false e is = absurd (differ its.step step at e)
-
-pub cuts_within : (its : Option cut.Cut) (step : ℕ) (f : Burn) → IsCutWithin its step → fuse_for its step ≡ Some f → 0 < f.call
-cuts_within None step f within lit = absurd within
-cuts_within (Some its) step f within lit = within_call its step f within.0 within.1 lit
 
 pub lines_go : (course : Course directory.Unit NodeStop (Live directory.Unit)) (ended : Ended NodeStop (Live directory.Unit)) (f : Burn) (out now : List Line) (picks : List ℕ) → Tells course ended out now
     → (ended ≡ broken by_cut → 0 < f.call) → by_lines.goes course ended f (trace out picks) (trace now picks)

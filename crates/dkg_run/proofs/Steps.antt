@@ -12,8 +12,7 @@ use Rattle.dkg_script.specs.Progress.{Progress}
 use Rattle.dkg_script.specs.Setting.{Setting}
 use Rattle.dkg_reshare.specs.declared.stop.Stop.{Stop}
 use Rattle.dkg_reshare.specs.declared.stop.Stop.TheVariants.{Cut, Fault as Faulted}
-use Rattle.dkg_run.proofs.Standing.{Moves, AddsQuiet, AddsOpening, IsBetween, IsBefore, IsWithin, IsAtCut, IsStopped, IsBehind, MayTell, IsCutBefore}
-use Rattle.dkg_run.specs.Causes.{IsCutWithin}
+use Rattle.dkg_run.proofs.Standing.{Moves, AddsQuiet, AddsOpening, IsBetween, IsBefore, IsWithin, IsAtCut, IsStopped, IsBehind, MayTell, IsCutBefore, IsCutWithin}
 use Rattle.dkg_run.proofs.Places.{moves_none, moves_then, moves_within}
 use Rattle.dkg_run.proofs.InPlace.{begins, cut_before, stopped_within, moves_quiet, moves_opening, moves_step, moves_cut}
 
@@ -44,13 +43,6 @@ quiet_step life l j old mid new later not adds is =
     (quiet_so_far life l j old mid not adds)
     (moves_step life l j false mid new (λ first. absurd (omega arith)) is)
 
--- a fault is no cut
-pub faulted_not_cut : (fault : Fault) (P : Type 0) → Faulted fault ≡ Cut → P
-faulted_not_cut fault P is = absurd (apart is)
-  where
-    apart : Faulted fault ≡ Cut → ⊥
-    apart is = cc
-
 -- AN OPENING
 
 abbrev pub Opening : ℕ → List Entry → List Entry → Type 0
@@ -74,29 +66,3 @@ opening_step life l old mid new not adds is =
     moves_then IsInOrder (IsBefore life l 0) (IsWithin life l 0 true) (IsBehind life l 0) old mid new
     (opened_so_far life l old mid not adds)
     (moves_step life l 0 true mid new (λ first. refl) is)
-
--- STEPS IN A ROW
-
-pub next_step : (life : Life) (l j : ℕ) (P Q : Setting → Progress → Type 0) (old mid new : List Entry) → j < length life.events
-    → Moves IsInOrder P (IsBehind life l j) old mid → Moves IsInOrder (IsBefore life l (j + 1)) Q mid new → Moves IsInOrder P Q old new
-next_step life l j P Q old mid new more a b = moves_then IsInOrder P (IsBefore life l (j + 1)) Q old mid new
-    (moves_within IsInOrder P P (IsBehind life l j) (IsBefore life l (j + 1)) old mid (λ s p is. is) (λ s p is. is.next more) a) b
-
--- A LIFE'S END
-
-pub cut_told : (life : Life) (l : ℕ) (old mid new : List Entry)
-    → IfSome life.cut (λ its. new ≡ mid ++ entry.Cut its.step its.call ∷ []) → (life.cut ≡ None → new ≡ mid)
-    → Moves IsInOrder (IsBefore life l 0) (IsAtCut life l) old mid → Moves IsInOrder (IsBefore life l 0) (IsBetween (l + 1)) old new
-cut_told life l old mid new told none a = by_cut life.cut refl
-  where
-    by_cut : (o : Option cut.Cut) → life.cut ≡ o → Moves IsInOrder (IsBefore life l 0) (IsBetween (l + 1)) old new
-    by_cut (Some its) is = let so : new ≡ mid ++ entry.Cut its.step its.call ∷ [] = rw is at told in
-        moves_then IsInOrder (IsBefore life l 0) (IsAtCut life l) (IsBetween (l + 1)) old mid new a (moves_cut life l its mid new is so)
-    by_cut None is = moves_then IsInOrder (IsBefore life l 0) (IsAtCut life l) (IsBetween (l + 1)) old mid new a
-        (moves_none IsInOrder (IsAtCut life l) (IsBetween (l + 1)) mid new (none is) (λ s p at. let its = at.its_is in cc))
-
--- a cut that found no memory for its entry
-pub cut_untold : (P Q : Setting → Progress → Type 0) (fault : Fault) (old mid new : List Entry) → fault ≡ NoMemory → new ≡ mid
-    → Moves IsInOrder P Q old mid → Moves IsInOrder P (MayTell fault) old new
-cut_untold P Q fault old mid new is same a = moves_then IsInOrder P Q (MayTell fault) old mid new a
-    (moves_none IsInOrder Q (MayTell fault) mid new same (λ s p at. inl is))

@@ -36,7 +36,6 @@ use Rattle.dkg_reshare.specs.declared.stop.Stop.{Stop}
 use Rattle.dkg_reshare.specs.declared.stop.Stop.TheVariants.{Cut, Failed, Fault as FaultOf}
 use Rattle.dkg_reshare.proofs.Burning.{burns_none}
 use Rattle.dkg_reshare.proofs.Said.{none_first}
-use Rattle.dkg_run.specs.Causes.{IsCutWithin}
 use Rattle.dkg_run.specs.Ended.{by_node_stop}
 use Rattle.dkg_run.specs.Lives.{Steps, fuse_for, fuse_within, never}
 use Rattle.dkg_reshare.specs.Ends.{IsCaused}
@@ -46,7 +45,7 @@ use Rattle.dkg_run.specs.declared.held.HeldBlocks.{HeldBlocks}
 use Rattle.dkg_run.specs.Given.{Lived}
 use Rattle.dkg_run.specs.Ways.{Trace, Way, by_lines, by_worlds, trace}
 use Rattle.dkg_run.specs.declared.node.Node.{Node}
-use Rattle.dkg_run.proofs.Stepping.{cuts_within, lines_go, step_cut, step_stops, step_told, step_untold, uncut, worlds_go}
+use Rattle.dkg_run.proofs.Stepping.{lines_go, step_cut, step_stops, step_told, step_untold, uncut, worlds_go}
 
 -- NOTHING IS LOOSE on the devices of a node that goes on
 
@@ -57,41 +56,7 @@ node_lands tells files image node devices ready told =
     subst (λ (s : State directory.Unit). IfLiving s (λ life. IsReadyLife tells files image ack_of node.actor.terms life devices)) (ready.viewed.1).lives ready.at.ready in
     (its.firm told).lands
 
--- THE FUSE of a step within which the script cuts nothing
-
-some_is : {A : Type 0} {x y : A} → Some x ≡ Some y → x ≡ y
-some_is e = cc
-
-of_never : (f : Burn) → ◌≡◌ {A = Option Burn} (Some never) (Some f) → f.call ≡ 0
-of_never f is = sym (ap (λ (b : Burn). b.call) (some_is is))
-
-uncut_call : (its : cut.Cut) (step : ℕ) (f : Burn) → ((its.step ≡ step) × (its.call ≡ 0 → ⊥) → ⊥) → fuse_for (Some its) step ≡ Some f → f.call ≡ 0
-uncut_call its step f apart lit = by_step (its.step == step) refl lit
-  where
-    same : (n m : ℕ) → (n == m) ≡ true → n ≡ m
-    same n m e = grind (arith, nat_tests)
-
-    differ : (n m : ℕ) → (n == m) ≡ false → n ≡ m → ⊥
-    differ n m e is = grind (arith, nat_tests)
-
-    by_call : (t : Bool) → its.step ≡ step → (its.call == 0) ≡ t → ◌≡◌ {A = Option Burn} (if t then None else Some (record { call = its.call; pick = its.pick; spent = 0 })) (Some f) → f.call ≡ 0
-    by_call true at e is = absurd (let wrong : ◌≡◌ {A = Option Burn} None (Some f) = is in cc)
-    by_call false at e is = absurd (apart (at, differ its.call 0 e))
-
-    by_step : (t : Bool) → (its.step == step) ≡ t → ◌≡◌ {A = Option Burn} (if t then fuse_within its else Some never) (Some f) → f.call ≡ 0
-    by_step true e is = by_call (its.call == 0) (same its.step step e) refl is
-    by_step false e is = of_never f is
-
-pub never_cut : (its : Option cut.Cut) (step : ℕ) (f : Burn) → (IsCutWithin its step → ⊥) → fuse_for its step ≡ Some f → f.call ≡ 0
-never_cut None step f apart lit = of_never f lit
-never_cut (Some its) step f apart lit = uncut_call its step f apart lit
-
-not_cut : ◌≡◌ {A = Stop} (FaultOf NoMemory) Cut → ⊥
-not_cut is = cc
-
--- so a device that tells is not cut there
-unreached : (f now : Burn) → f.call ≡ 0 → now.call ≡ f.call → Reached f now → ⊥
-unreached f now none same reached = absurd (let low = reached.not_yet in omega (arith, none, same, low))
+-- A STEP WITH ITS FUSE
 
 went_uncut : (end : Live directory.Unit) → ◌≡◌ {A = Ended NodeStop (Live directory.Unit)} (went end) (broken by_cut) → ⊥
 went_uncut end is = cc
@@ -101,17 +66,9 @@ module _ (line : Line) (its : Option cut.Cut) (number : ℕ) (f : Burn) (lit : f
 
   module _ (next : Live directory.Unit → Trace → Type 0) (out now : List Line) (picks : List ℕ) where
     -- it stopped
-    pub stopped_lines : (stop result : Stop) → (result ≡ Cut → IsCutWithin its number) → (result ≡ stop) ⊎ ((stop ≡ Cut) × (result ≡ FaultOf NoMemory)) → Tells course (by_node_stop stop) out now
-        → Steps by_lines line (fuse_for its number) course (trace out picks) (Err result) (trace now picks) next
-    stopped_lines stop result within (inl same) told =
-        step_stops by_lines line (fuse_for its number) course (trace out picks) next f lit result (trace now picks)
-        (lines_go course (by_node_stop result) f out now picks (subst (λ (s : Stop). Tells course (by_node_stop s) out now) (sym same) told) (λ is. cuts_within its number f (within (uncut result is)) lit))
-    stopped_lines stop result within (inr other) told =
-        let first : Said (on_devices course) (broken by_cut) out now = subst (λ (s : Stop). Tells course (by_node_stop s) out now) other.0 told in
-        subst (λ (s : Stop). Steps by_lines line (fuse_for its number) course (trace out picks) (Err s) (trace now picks) next) (sym other.1)
-        (step_stops by_lines line (fuse_for its number) course (trace out picks) next f lit (FaultOf NoMemory) (trace now picks)
-        (lines_go course (broken by_want) f out now picks (record { lines = first.lines; added = first.added; by = first.by })
-        (λ is. absurd (let wrong : ◌≡◌ {A = Ended NodeStop (Live directory.Unit)} (broken by_want) (broken by_cut) = is in cc))))
+    pub stopped_lines : (stop : Stop) → (stop ≡ Cut → 0 < f.call) → Tells course (by_node_stop stop) out now → Steps by_lines line (fuse_for its number) course (trace out picks) (Err stop) (trace now picks) next
+    stopped_lines stop cuts told =
+        step_stops by_lines line (fuse_for its number) course (trace out picks) next f lit stop (trace now picks) (lines_go course (by_node_stop stop) f out now picks told (λ is. cuts (uncut stop is)))
 
     -- its line found no memory
     pub untold_lines : (end : Live directory.Unit) → Tells course (went end) out now → Steps by_lines line (fuse_for its number) course (trace out picks) (Err (FaultOf NoMemory)) (trace now picks) next
@@ -136,15 +93,11 @@ module _ (line : Line) (its : Option cut.Cut) (number : ℕ) (f : Burn) (lit : f
 
     module _ (files_now : Files) (image_now : Files → Type 0) (now : List Line) (t : Secrets) (after : Burn) (c : Files) (here : image_now c) where
       -- it stopped
-      pub stopped_worlds : (stop result : Stop) → (IsCutWithin its number → result ≡ stop) → (result ≡ stop) ⊎ ((stop ≡ Cut) × (result ≡ FaultOf NoMemory)) → (stop ≡ Cut → Reached f after)
-          → MakesAt (on_devices course) (by_node_stop stop) files image files_now image_now (moment out s f) (moment now t after)
-          → Steps by_worlds line (fuse_for its number) course start (Err result) (at (moment now t after) c) next
-      stopped_worlds stop result within (inl same) cuts makes =
-          step_stops by_worlds line (fuse_for its number) course start next f lit result (at (moment now t after) c)
-          (worlds_go course (by_node_stop result) files files_now image image_now (moment out s f) (moment now t after)
-          (subst (λ (x : Stop). MakesAt (on_devices course) (by_node_stop x) files image files_now image_now (moment out s f) (moment now t after)) (sym same) makes) stands c here before)
-      stopped_worlds stop result within (inr other) cuts makes =
-          absurd (unreached f after (never_cut its number f (λ in_step. not_cut (sym other.1 ∙ within in_step ∙ other.0)) lit) makes.burns.call (cuts other.0))
+      pub stopped_worlds : (stop : Stop) → MakesAt (on_devices course) (by_node_stop stop) files image files_now image_now (moment out s f) (moment now t after)
+          → Steps by_worlds line (fuse_for its number) course start (Err stop) (at (moment now t after) c) next
+      stopped_worlds stop makes =
+          step_stops by_worlds line (fuse_for its number) course start next f lit stop (at (moment now t after) c)
+          (worlds_go course (by_node_stop stop) files files_now image image_now (moment out s f) (moment now t after) makes stands c here before)
 
       module _ (end : Live directory.Unit) (makes : MakesAt (on_devices course) (went end) files image files_now image_now (moment out s f) (moment now t after)) where
         goes : by_worlds.goes course (went end) f start (at (moment now t after) c)
@@ -183,7 +136,7 @@ event_here per_epoch old now (Final number) blocks numbers is = (
 event_here per_epoch old now (Peer from bytes) blocks numbers is = tt
 event_here per_epoch old now event blocks numbers is = absurd is
 
--- A CUT of a device that tells is one of the fuse
+-- A CUT is one of the fuse
 
 pub cut_reached : (stop : Stop) (P Q R : Type 0) → IsCaused stop P Q R → stop ≡ Cut → R
 cut_reached stop P Q R caused is = subst (λ (s : Stop). IsCaused s P Q R) is caused
@@ -214,11 +167,10 @@ module _ {D X : Type 0} (files : D → Files) (image : D → Files → Type 0) (
         (unheld_worlds line its number begun.fuse lit course next (files begun.disk.now) (image begun.disk.now) stood out (held begun.secrets.now) old.fuse c here)
 
     module _ (new : Devices D X) (now : List Line) (c : Files) (here : image new.disk.now c) where
-      pub ran_stopped : (stop result : Stop) → (IsCutWithin its number → result ≡ stop) → (result ≡ stop) ⊎ ((stop ≡ Cut) × (result ≡ FaultOf NoMemory)) → (stop ≡ Cut → Reached begun.fuse new.fuse)
-          → MakesOn files image held (on_devices course) (by_node_stop stop) begun new out now → Ran (Err result) new now c
-      ran_stopped stop result within other reached makes = begins (Err result) (world_of held new now c)
+      pub ran_stopped : (stop : Stop) → MakesOn files image held (on_devices course) (by_node_stop stop) begun new out now → Ran (Err stop) new now c
+      ran_stopped stop makes = begins (Err stop) (world_of held new now c)
           (stopped_worlds line its number begun.fuse lit course next (files begun.disk.now) (image begun.disk.now) stood out (held begun.secrets.now) old.fuse
-          (files new.disk.now) (image new.disk.now) now (held new.secrets.now) new.fuse c here stop result within other reached makes)
+          (files new.disk.now) (image new.disk.now) now (held new.secrets.now) new.fuse c here stop makes)
 
       module _ (end : Live directory.Unit) (makes : MakesOn files image held (on_devices course) (went end) begun new out now) where
         pub ran_untold : Ran (Err (FaultOf NoMemory)) new now c

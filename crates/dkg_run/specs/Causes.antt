@@ -1,8 +1,7 @@
 -- What a fault that ends a life blames.
-use Rattle.std.specs.Prelude.{ℕ, ◌≡◌, ◌≢◌, ⊤, IsSomeAnd, Option}
+use Rattle.std.specs.Prelude.{⊤}
 use Rattle.dkg_types.specs.declared.fault.Fault.{Fault}
 use Rattle.dkg_types.specs.declared.fault.Fault.TheVariants as fault
-use Rattle.dkg_text.specs.declared.script.Cut as cut
 use Rattle.dkg_reshare.specs.declared.stop.Stop.{Stop}
 use Rattle.dkg_reshare.specs.declared.stop.Stop.TheVariants.{Cut, Failed, Fault as FaultOf}
 
@@ -23,7 +22,3 @@ abbrev pub IfFault : Stop → (Fault → Type 0) → Type 0
 IfFault (FaultOf its) P = P its
 IfFault Cut P = ⊤
 IfFault Failed P = ⊤
-
--- The script cuts the life within the step.
-abbrev pub IsCutWithin : Option cut.Cut → ℕ → Type 0
-IsCutWithin its step = IsSomeAnd its (λ cut. (cut.step ≡ step) × (cut.call ≢ 0))

@@ -4,7 +4,11 @@ use Rattle.dkg_run.specs.Outside.{HoldsFront}
 use Rattle.dkg_run.specs.declared.command.Status.{Status}
 use Rattle.dkg_run.specs.declared.command.Status.TheVariants.{WriteFault, NoMemory}
 
--- the words ask for the made script of this number
+-- the words ask for the lives of the script that the source gives
+abbrev pub IsRun : (words : List (List ℕ)) → Type 0
+IsRun words = words ≡ codes "run" ∷ []
+
+-- .. for the made script of this number
 pub record IsMake (number : ℕ) (words : List (List ℕ)) : Type 0 where
   pub below : number < 2 ^ 64
   pub words_are : words ≡ codes "make" ∷ decimal number ∷ codes "script" ∷ []

@@ -1,16 +1,11 @@
 -- How a node's course ended, by what its call answered.
 use Rattle.std.specs.Prelude.{Result, Ok, Err}
 use Rattle.dkg_types.specs.declared.fault.Fault.{Fault}
-use Rattle.dkg_store.specs.Acts.{Ended, went, stopped, broken}
+use Rattle.dkg_store.specs.Acts.{Ended, went}
 use Rattle.dkg_core.specs.Live.{NodeStop, Faulted}
+use Rattle.dkg_core.specs.Splitting.{named}
 use Rattle.dkg_reshare.specs.Ends.{by_stop}
 use Rattle.dkg_reshare.specs.declared.stop.Stop.{Stop}
-
--- the same end, with another name for its fault
-abbrev pub named : {F G S : Type 0} → (F → G) → Ended F S → Ended G S
-named name (went end) = went end
-named name (stopped fault) = stopped (name fault)
-named name (broken cause) = broken cause
 
 abbrev pub by_node_stop : {S : Type 0} → Stop → Ended NodeStop S
 by_node_stop {S} stop = named Faulted (by_stop {S = S} stop)

@@ -5,19 +5,18 @@ use Rattle.dkg_journal.specs.Disk.{Lands}
 use Rattle.dkg_journal.specs.Names.{Files}
 use Rattle.dkg_values.specs.declared.name.Name.TheVariants.{Plan}
 use Rattle.dkg_store.specs.Corrupt.{AreFit}
-use Rattle.dkg_store.specs.Secrets.{Secrets}
 use Rattle.dkg_types.specs.declared.fault.Fault.{Fault}
 use Rattle.dkg_run.specs.Found.{NamesNoRecord, Reader}
+use Rattle.dkg_run.specs.Over.{Standing}
 use Rattle.dkg_run.specs.Passing.{ArePassing}
 
-pub record GivesBack (reader : Reader) (result : Result (Unit {0}) Fault) (files : Files) (image : Files → Type 0) (held : Secrets)
-    (files_now : Files) (now : Files → Type 0) (held_now : Secrets) : Type 0 where
+pub record GivesBack (reader : Reader) (result : Result (Unit {0}) Fault) (before now : Standing) : Type 0 where
   -- each record that a crash leaves is whole and an event within the limit, and then no fault names a corrupt one
-  pub fit : AreFit reader.limit image → AreFit reader.limit now
-  pub unblamed : IfErr result (λ fault. AreFit reader.limit image → NamesNoRecord fault)
+  pub fit : AreFit reader.limit before.image → AreFit reader.limit now.image
+  pub unblamed : IfErr result (λ fault. AreFit reader.limit before.image → NamesNoRecord fault)
   -- whatever a crash leaves gives back dealings that the round's check passes
-  pub passing : ArePassing reader image held → ArePassing reader now held_now
+  pub passing : ArePassing reader before.image before.held → ArePassing reader now.image now.held
   -- at Ok nothing is loose, where nothing was
-  pub firm : OnOk result (Lands files image → Lands files_now now)
+  pub firm : OnOk result (Lands before.files before.image → Lands now.files now.image)
   -- no plan where none was
-  pub plan : Lands files image → (c : Files) → now c → get c Plan ≡ get files Plan
+  pub plan : Lands before.files before.image → (c : Files) → now.image c → get c Plan ≡ get before.files Plan

@@ -12,9 +12,11 @@ pub mod Lives
 pub mod Moving
 pub mod Nodes
 pub mod Outside
+pub mod Over
 pub mod Passing
 pub mod Promised
 pub mod Refusals
+pub mod Refused
 pub mod Reports
 pub mod Sources
 pub mod Stopped

@@ -1,32 +1,58 @@
--- What running the lives of a script promises, whatever ends it, over the entries that it adds.
-use Rattle.std.specs.Prelude.{◌≡◌, IfErr, List, OnOk, Result}
+-- What running the lives of a script promises, whatever ends it.
+use Rattle.std.specs.Prelude.{[], ◌++◌, ◌≡◌, ℕ, IfErr, List, OnOk, Result}
 use Rattle.dkg_journal.specs.Names.{Files}
-use Rattle.dkg_store.specs.Secrets.{Secrets}
+use Rattle.dkg_store.specs.Acts.{Stands, at, moment}
 use Rattle.dkg_types.specs.declared.entry.Entry.{Entry}
 use Rattle.dkg_types.specs.declared.fault.Fault.{Fault}
 use Rattle.dkg_types.specs.declared.fault.Fault.TheVariants.{NoMemory}
 use Rattle.dkg_text.specs.declared.script.Script.{Script}
 use Rattle.dkg_script.specs.Ends.{EndsRun}
-use Rattle.dkg_script.specs.Promise.{AnswersDealings, KeepsDealings, RunsAll, RunsInOrder}
-use Rattle.dkg_script.specs.Setting.{setting_of}
-use Rattle.dkg_run.specs.Complete.{IsValidRun}
+use Rattle.dkg_script.specs.AsCut.{setting_as_cut}
+use Rattle.dkg_script.specs.Promise.{AnswersDealings, KeepsDealings, RunsAll, RunsInOrder, cuts_in}
+use Rattle.dkg_run.specs.Complete.{IsSoundRun, IsValidAsCut}
 use Rattle.dkg_run.specs.Found.{AreFound, reader_in}
+use Rattle.dkg_run.specs.GivesBack.{GivesBack}
+use Rattle.dkg_run.specs.Lives.{AnyFiles, RunsOver, RunsSo, never}
+use Rattle.dkg_run.specs.Over.{Over}
 use Rattle.dkg_run.specs.Refusals.{BlamesOnlySkips}
+use Rattle.dkg_run.specs.Refused.{RefusesSo}
+use Rattle.dkg_run.specs.Ways.{by_lines, trace}
 
--- (`Tells` says that both devices tell; each count's rise is handed in as a fact.)
-pub record Promised (script : Script) (Tells : Type 0) (files : Files) (image : Files → Type 0) (held : Secrets)
-    (files_now : Files) (now : Files → Type 0) (held_now : Secrets) (disk_rose secrets_rose : Type 0) (result : Result (Unit {0}) Fault) (added : List Entry) : Type 0 where
+-- THE ENTRIES are those of a node run of the script, whatever the devices tell: a step that is ended early gives a front of its lines. Each life's end
+-- stopped both devices, each with its pick. (`out` and `new` are the transcript before and behind.)
+pub record SaysRun (script : Script) (o : Over) (out : List Entry) (result : Result (Unit {0}) Fault) (new : List Entry) : Type 0 where
+  pub picks : List ℕ
+  pub stopped : o.disk_tells → o.stopped picks
+  pub run : RunsSo by_lines script AnyFiles (trace out []) result (trace new picks)
+
+-- THE NODE RAN over devices that tell and of which nothing was loose, whatever image a crash leaves now: each life from what the one before left, and cut
+-- exactly where its step makes so many calls.
+abbrev pub DoesRun : Script → Over → (out : List Entry) → Result (Unit {0}) Fault → (new : List Entry) → Type 0
+DoesRun script o out result new = o.tells → Stands o.before.files o.before.image → (c : Files) → o.now.image c
+    → RunsOver script result o.before.files (at (moment out o.before.held never) o.before.files) (λ f. at (moment new o.now.held f) c)
+
+-- WHAT FOLLOWS for the entries that are added
+pub record Promised (script : Script) (o : Over) (result : Result (Unit {0}) Fault) (added : List Entry) : Type 0 where
   -- Whatever ends the run, the entries are in order, and at Ok every life was run.
   pub in_order : RunsInOrder script added
   pub all : OnOk result (RunsAll script added)
   -- A fault is the last of them, the only one, and one that has its cause.
-  pub ends : EndsRun result added disk_rose secrets_rose
+  pub ends : EndsRun result added o.disk_rose o.secrets_rose
   -- A corrupt record or a refused dealing that it blames is found on the devices as the call leaves them.
-  pub found : Tells → AreFound (reader_in script) files_now held_now added
-  -- In a consistent script no block is refused but one that skips a height.
-  pub skips : IfErr result (λ fault. Tells → BlamesOnlySkips (setting_of script files held) image fault)
+  pub found : o.tells → AreFound (reader_in script) o.now.files o.now.held added
+  -- From here on the script is judged as it was cut. In a consistent one no block is refused but one that skips a height.
+  pub skips : IfErr result (λ fault. o.tells → (let s = setting_as_cut script o.before.files o.before.held added in BlamesOnlySkips s o.before.image (cuts_in s added) fault))
+  -- Whatever the script is and the devices tell, a fault blames a block just where the step in hand refuses it, by the tip that its life had.
+  pub refused : RefusesSo script added
   -- The transcript and the devices keep each recorded dealing; and at Ok each dealing that was due was acknowledged.
-  pub kept : Tells → KeepsDealings (setting_of script files held) image now held_now added
-  pub answered : OnOk result (Tells → AnswersDealings (setting_of script files held) image added)
+  pub kept : o.tells → KeepsDealings script o.before.files o.before.held o.before.image o.now.image o.now.held added
+  pub answered : OnOk result (o.tells → AnswersDealings script o.before.files o.before.held o.before.image added)
   -- A valid script over valid devices, of which no count rises, is run to its end, unless memory runs out.
-  pub complete : IfErr result (λ fault. Tells → IsValidRun (setting_of script files held) image → (disk_rose → ⊥) → (secrets_rose → ⊥) → fault ≡ NoMemory)
+  pub complete : IfErr result (λ fault. IsSoundRun o (IsValidAsCut script added) → fault ≡ NoMemory)
+
+-- ALL OF IT, for whoever hands it on
+pub record RunsLives (script : Script) (o : Over) (out : List Entry) (result : Result (Unit {0}) Fault) (added : List Entry) : Type 0 where
+  pub lines : SaysRun script o out result (out ++ added)
+  pub run : DoesRun script o out result (out ++ added)
+  pub promise : Promised script o result added
+  pub gives_back : o.tells → GivesBack (reader_in script) result o.before o.now

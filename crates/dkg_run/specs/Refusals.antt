@@ -1,9 +1,6 @@
 -- Where a life stops at a block that is refused.
-use Rattle.std.specs.Prelude.{ℕ, ◌-◌, ◌<◌, ◌≡◌, ⊤, List, Some}
-use Rattle.std.specs.List.{AllByRecursion}
+use Rattle.std.specs.Prelude.{ℕ, ◌-◌, ◌<◌, ◌≡◌, ⊤, List, Option, Some, length}
 use Rattle.dkg_journal.specs.Names.{Files}
-use Rattle.dkg_types.specs.declared.entry.Entry.{Entry}
-use Rattle.dkg_types.specs.declared.entry.Entry.TheVariants as entry
 use Rattle.dkg_types.specs.declared.fault.Fault.{Fault}
 use Rattle.dkg_types.specs.declared.fault.Fault.TheVariants.{ConflictingBlock, DetachedBlock, SkippedHeight}
 use Rattle.dkg_text.specs.declared.script.Event.TheVariants.{Final}
@@ -11,7 +8,7 @@ use Rattle.dkg_text.specs.declared.script.Life.{Life}
 use Rattle.dkg_script.specs.Blocks.{Block, block_at}
 use Rattle.dkg_script.specs.Position.{awaited_height, event_of_step}
 use Rattle.dkg_script.specs.Promise.{IsBuilt, IsHonestRun}
-use Rattle.dkg_script.specs.Setting.{Setting, life_at}
+use Rattle.dkg_script.specs.Setting.{CutAt, Setting, life_at}
 use Rattle.dkg_script.specs.Valid.{IsReached}
 
 -- the fault blames a delivered block
@@ -32,22 +29,12 @@ pub record SkipsIn (s : Setting) (l : ℕ) (life : Life) (fault : Fault) : Type 
   pub fault_is : fault ≡ SkippedHeight (awaited_height s l life (step - 1)) block.height
   pub above : awaited_height s l life (step - 1) < block.height
 
--- .. in one of the script's lives
-pub record SkipsSomewhere (s : Setting) (fault : Fault) : Type 0 where
-  pub number : ℕ
+-- .. in the life behind those that ended so
+pub record SkipsNow (s : Setting) (ends : List (Option CutAt)) (fault : Fault) : Type 0 where
   pub life : Life
-  pub life_is : life_at s number ≡ Some life
-  pub skips : SkipsIn s number life fault
+  pub life_is : life_at s (length ends) ≡ Some life
+  pub skips : SkipsIn s (length ends) life fault
 
 -- where the premises of the promise hold
-abbrev pub BlamesOnlySkips : Setting → (image : Files → Type 0) → Fault → Type 0
-BlamesOnlySkips s image fault = IsBuilt s → IsHonestRun s image → IsRefusal fault → SkipsSomewhere s fault
-
--- .. where a fault is told
-abbrev pub IsSkipEntry : Setting → (image : Files → Type 0) → Entry → Type 0
-IsSkipEntry s image (entry.Fault its) = BlamesOnlySkips s image its
-IsSkipEntry s image _ = ⊤
-
--- .. each fault that these entries tell
-pub record TellOnlySkips (s : Setting) (image : Files → Type 0) (entries : List Entry) : Type 0 where
-  pub each : AllByRecursion (IsSkipEntry s image) entries
+abbrev pub BlamesOnlySkips : Setting → (image : Files → Type 0) → List (Option CutAt) → Fault → Type 0
+BlamesOnlySkips s image ends fault = IsBuilt s → IsHonestRun s image ends → IsRefusal fault → SkipsNow s ends fault

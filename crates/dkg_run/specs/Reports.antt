@@ -1,22 +1,19 @@
--- How a command ends, by its status: how the entries end, what was read and run, and what there is to write.
-use Rattle.std.specs.Prelude.{ℕ, List, [], ◌∷◌, ◌++◌, ◌≡◌, ◌≤◌, ◌⊎◌, true, false, Some, Err, codes, length}
-use Rattle.dkg_journal.specs.Names.{Files}
-use Rattle.dkg_store.specs.Secrets.{Secrets}
+-- How a command ends, by its status: what was read and run, what there is to write, and what a status blames.
+use Rattle.std.specs.Prelude.{ℕ, List, [], ◌∷◌, ◌++◌, ◌≡◌, ◌≤◌, ◌⊎◌, true, false, Some, Result, Ok, Err, codes, length}
 use Rattle.dkg_types.specs.declared.entry.Entry.{Entry}
 use Rattle.dkg_types.specs.declared.fault.Fault.{Fault}
 use Rattle.dkg_types.specs.declared.fault.Fault.TheVariants as fault
 use Rattle.dkg_text.specs.declared.script.Script.{Script}
 use Rattle.dkg_text.specs.Fields.{number_field}
 use Rattle.dkg_text.specs.Grammar.{script_of, script_or_place}
+use Rattle.dkg_text.specs.Printing.{lines_of}
 use Rattle.dkg_script.specs.Built.{is_built}
-use Rattle.dkg_script.specs.Ends.{EndsWell, EndsInFault, EndsByDevice, IsNodeFault}
+use Rattle.dkg_script.specs.Ends.{IsNodeFault}
 use Rattle.dkg_script.specs.Form.{IsFormOfToday}
-use Rattle.dkg_script.specs.Promise.{RunsInOrder, RunsAll, KeepsDealings, AnswersDealings}
-use Rattle.dkg_script.specs.Setting.{setting_of}
-use Rattle.dkg_run.specs.Complete.{Completes}
-use Rattle.dkg_run.specs.Found.{AreFound, reader_in}
+use Rattle.dkg_run.specs.Command.{IsTold}
 use Rattle.dkg_run.specs.Outside.{TookAll}
-use Rattle.dkg_run.specs.Refusals.{TellOnlySkips}
+use Rattle.dkg_run.specs.Over.{Over}
+use Rattle.dkg_run.specs.Promised.{RunsLives}
 use Rattle.dkg_run.specs.declared.command.Status.{Status}
 use Rattle.dkg_run.specs.declared.command.Status.TheVariants as status
 
@@ -48,106 +45,71 @@ last_of (status.BadScript place) = codes "bad" ++ number_field place ++ 10 ∷ [
 last_of status.Unsupported = codes "unsupported" ++ 10 ∷ []
 last_of _ = []
 
--- HOW THE ENTRIES END
-
--- the entries by the status, whatever the source and the devices tell (each count's rise is handed in as a fact)
-abbrev pub Ends : Status → List Entry → (disk_rose secrets_rose : Type 0) → Type 0
-Ends status.Done entries disk_rose secrets_rose = EndsWell entries
-Ends (status.Fault fault) entries disk_rose secrets_rose = IsNodeFault fault × EndsInFault entries fault
-Ends status.Device entries disk_rose secrets_rose = EndsByDevice entries disk_rose secrets_rose
-Ends status.NoMemory entries disk_rose secrets_rose = EndsWell entries
-Ends (status.BadScript place) entries disk_rose secrets_rose = entries ≡ []
-Ends status.Unsupported entries disk_rose secrets_rose = entries ≡ []
-Ends status.ReadFault entries disk_rose secrets_rose = entries ≡ []
-Ends status.TooLong entries disk_rose secrets_rose = entries ≡ []
-Ends status.Usage entries disk_rose secrets_rose = ⊥
-Ends status.WriteFault entries disk_rose secrets_rose = ⊥
-
 -- WHAT WAS READ AND RUN
 
--- The source was read to its end, and a script may be so long. (Where the source tells, these bytes are what it had left.)
-pub record Reads (Tells : Type 0) (old new bytes : List ℕ) : Type 0 where
+-- The source was read to its end, a script may be so long, and the source has these bytes back. (Where it tells, they are what it had left.)
+pub record Reads (Tells : Type 0) (old new : List ℕ) (HasBack : List ℕ → Type 0) (bytes : List ℕ) : Type 0 where
   pub all : Tells → TookAll bytes old new
   pub not_too_long : length bytes ≤ 16777216
+  pub back : HasBack bytes
 
--- where the devices tell: the transcript and the devices keep each recorded dealing
-abbrev pub Keeps : (Tells : Type 0) → Files → Secrets → (image now : Files → Type 0) → (held : Secrets) → Script → List Entry → Type 0
-Keeps Tells files secrets image now held script entries = Tells → KeepsDealings (setting_of script files secrets) image now held entries
-
--- .. and each dealing that was due was acknowledged
-abbrev pub Answers : (Tells : Type 0) → Files → Secrets → (image : Files → Type 0) → Script → List Entry → Type 0
-Answers Tells files secrets image script entries = Tells → AnswersDealings (setting_of script files secrets) image entries
-
--- .. and what each fault that is told blames is found on the devices as they stand
-abbrev pub Finds : (Tells : Type 0) → Files → Secrets → Script → List Entry → Type 0
-Finds Tells files held script entries = Tells → AreFound (reader_in script) files held entries
-
--- .. and a block that it blames skips a height, where the stores are honest and the script is consistent
-abbrev pub Skips : (Tells : Type 0) → Files → Secrets → (image : Files → Type 0) → Script → List Entry → Type 0
-Skips Tells files secrets image script entries = Tells → TellOnlySkips (setting_of script files secrets) image entries
-
-abbrev pub KeepsAndFinds : (Tells : Type 0) → Files → Secrets → (image : Files → Type 0) → (files_now : Files) → (now : Files → Type 0) → (held : Secrets) → Script → List Entry → Type 0
-KeepsAndFinds Tells files secrets image files_now now held script entries =
-    Keeps Tells files secrets image now held script entries × Finds Tells files_now held script entries × Skips Tells files secrets image script entries
-
--- .. and no fault ends the entries of a valid script over valid devices
-abbrev pub KeepsAndCompletes : (Tells : Type 0) → Files → Secrets → (image : Files → Type 0) → (files_now : Files) → (now : Files → Type 0) → (held : Secrets) → (disk_rose secrets_rose : Type 0) → Script → List Entry → Type 0
-KeepsAndCompletes Tells files secrets image files_now now held disk_rose secrets_rose script entries =
-    KeepsAndFinds Tells files secrets image files_now now held script entries × Completes Tells files secrets image disk_rose secrets_rose script entries
-
--- A script was read, of a form that is run, and it was run. (`Gave` says that the source gave these bytes to its end; `Kept` says what a
--- run keeps.)
-pub record Ran (Gave : List ℕ → Type 0) (Kept : Script → List Entry → Type 0) (entries : List Entry) : Type 0 where
+-- A script was read, of a form that is run, and its lives were run, which answered this and kept all that it promises. (`Gave` says that the source gave
+-- these bytes to its end; `out` is the transcript before.)
+pub record Ran (Gave : List ℕ → Type 0) (o : Over) (out : List Entry) (result : Result (Unit {0}) Fault) (entries : List Entry) : Type 0 where
   pub bytes : List ℕ
   pub gave : Gave bytes
   pub script : Script
   pub spells : script_of false bytes ≡ Some script
   pub built : is_built script ≡ true
   pub form : IsFormOfToday script
-  pub in_order : RunsInOrder script entries
-  pub kept : Kept script entries
-
--- .. and every life was run
-pub record RanAll (Gave : List ℕ → Type 0) (Kept Answered : Script → List Entry → Type 0) (entries : List Entry) : Type 0 where
-  pub ran : Ran Gave Kept entries
-  pub all : RunsAll ran.script entries
-  pub answered : Answered ran.script entries
+  pub lives : RunsLives script o out result entries
 
 -- no entry was written, and no device was called
-pub record RanNothing (Untouched : Type 0) (entries : List Entry) : Type 0 where
+pub record RanNothing (o : Over) (entries : List Entry) : Type 0 where
   pub no_entry : entries ≡ []
-  pub untouched : Untouched
+  pub untouched : o.same
 
 -- The bytes are no script: from this place on stands the first line that no script has after the lines before it.
-pub record NoScript (Gave : List ℕ → Type 0) (Untouched : Type 0) (place : ℕ) (entries : List Entry) : Type 0 where
+pub record NoScript (Gave : List ℕ → Type 0) (o : Over) (place : ℕ) (entries : List Entry) : Type 0 where
   pub bytes : List ℕ
   pub gave : Gave bytes
   pub no_script : script_or_place false bytes ≡ Err place
-  pub nothing : RanNothing Untouched entries
+  pub nothing : RanNothing o entries
 
 -- The bytes are a script, of a form that is not run yet.
-pub record NotBuilt (Gave : List ℕ → Type 0) (Untouched : Type 0) (entries : List Entry) : Type 0 where
+pub record NotBuilt (Gave : List ℕ → Type 0) (o : Over) (entries : List Entry) : Type 0 where
   pub bytes : List ℕ
   pub gave : Gave bytes
   pub script : Script
   pub spells : script_of false bytes ≡ Some script
   pub not_built : is_built script ≡ false
-  pub nothing : RanNothing Untouched entries
+  pub nothing : RanNothing o entries
 
--- by the status (`Untouched` says that no device was called)
-abbrev pub Runs : Status → (Gave : List ℕ → Type 0) → (Untouched : Type 0) → (Kept Answered : Script → List Entry → Type 0) → List Entry → Type 0
-Runs status.Done Gave Untouched Kept Answered entries = RanAll Gave Kept Answered entries
-Runs (status.Fault fault) Gave Untouched Kept Answered entries = Ran Gave Kept entries
-Runs status.Device Gave Untouched Kept Answered entries = Ran Gave Kept entries
-Runs status.NoMemory Gave Untouched Kept Answered entries = RanNothing Untouched entries ⊎ Ran Gave Kept entries
-Runs (status.BadScript place) Gave Untouched Kept Answered entries = NoScript Gave Untouched place entries
-Runs status.Unsupported Gave Untouched Kept Answered entries = NotBuilt Gave Untouched entries
-Runs status.ReadFault Gave Untouched Kept Answered entries = RanNothing Untouched entries
-Runs status.TooLong Gave Untouched Kept Answered entries = RanNothing Untouched entries
-Runs status.Usage Gave Untouched Kept Answered entries = ⊥
-Runs status.WriteFault Gave Untouched Kept Answered entries = ⊥
+-- by the status
+abbrev pub Runs : (Gave : List ℕ → Type 0) → Over → (out : List Entry) → Status → (entries : List Entry) → Type 0
+Runs Gave o out status.Done entries = Ran Gave o out (Ok tt) entries
+Runs Gave o out (status.Fault its) entries = IsNodeFault its × Ran Gave o out (Err its) entries
+Runs Gave o out status.Device entries = Ran Gave o out (Err fault.Disk) entries ⊎ Ran Gave o out (Err fault.Secrets) entries
+Runs Gave o out status.NoMemory entries = RanNothing o entries ⊎ Ran Gave o out (Err fault.NoMemory) entries
+Runs Gave o out (status.BadScript place) entries = NoScript Gave o place entries
+Runs Gave o out status.Unsupported entries = NotBuilt Gave o entries
+Runs Gave o out status.ReadFault entries = RanNothing o entries
+Runs Gave o out status.TooLong entries = RanNothing o entries
+Runs Gave o out status.Usage entries = ⊥
+Runs Gave o out status.WriteFault entries = ⊥
 
--- how the words `run` ended, with these new entries
-pub record EndsAs (disk_rose secrets_rose : Type 0) (Gave : List ℕ → Type 0) (Untouched : Type 0) (Kept Answered : Script → List Entry → Type 0) (status : Status) (entries : List Entry) : Type 0 where
-  pub ends : Ends status entries disk_rose secrets_rose
-  pub runs : Runs status Gave Untouched Kept Answered entries
+-- HOW THE WORDS `run` END: the status says what was run, and the sink took the lines of the new entries and the status's last line. (`held` and `held_now`
+-- are what it held and holds, where it tells.)
+pub record Reported (Gave : List ℕ → Type 0) (o : Over) (out new : List Entry) (result : Status) (Tells : Type 0) (held held_now : List ℕ) : Type 0 where
+  pub entries : List Entry
+  pub added : new ≡ out ++ entries
+  pub ended : Status
+  pub runs : Runs Gave o out ended entries
+  pub told : IsTold ended result (lines_of entries ++ last_of ended) Tells held held_now
+
+-- WHAT A STATUS BLAMES, outside, is so. (The source's and the sink's rises, and that the source has too many bytes, are handed in as facts.)
+pub record Blamed (o : Over) (source_rose sink_rose TooMany : Type 0) (result : Status) : Type 0 where
+  pub read_fault : result ≡ status.ReadFault → source_rose
+  pub device : result ≡ status.Device → o.disk_rose ⊎ o.secrets_rose
+  pub write_fault : result ≡ status.WriteFault → sink_rose
+  pub too_long : result ≡ status.TooLong → TooMany

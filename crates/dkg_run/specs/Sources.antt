@@ -1,10 +1,13 @@
 -- A life's source, by the events that have come.
-use Rattle.std.specs.Prelude.{ℕ, ◌≡◌, ◌++◌, ◌∷◌, [], filter_map, List, None, Option, Some, take}
+use Rattle.std.specs.Prelude.{ℕ, ◌≡◌, ◌++◌, ◌∷◌, [], filter_map, List, None, Option, slice_get, Some, take}
 use Rattle.dkg_types.specs.Blocks.{Block}
 use Rattle.dkg_types.specs.declared.directory.Unit as directory
 use Rattle.dkg_text.specs.declared.script.Anchor.{Anchor}
 use Rattle.dkg_text.specs.declared.script.Life.{Life}
+use Rattle.dkg_text.specs.declared.script.Script.{Script}
 use Rattle.dkg_script.specs.Blocks.{anchor_number, delivered_number}
+use Rattle.dkg_script.specs.Form.{IsFormOfToday}
+use Rattle.dkg_run.specs.Given.{blocks_in}
 use Rattle.dkg_run.specs.declared.held.HeldBlocks.{HeldBlocks}
 
 -- the number of an anchor's block
@@ -17,3 +20,9 @@ pub record IsSourceOf (blocks : List (Block directory.Unit)) (life : Life) (take
   pub blocks_are : source.blocks.now ≡ blocks
   pub anchor_is : source.anchor ≡ life.anchor
   pub numbers_are : source.numbers.items ≡ life.held ++ (anchor_numbers life.anchor ++ filter_map delivered_number (take taken life.events))
+
+-- It is the life of this number of a script of today's form, and this the source of its opening.
+pub record IsToOpen (script : Script) (number : ℕ) (life : Life) (source : HeldBlocks) : Type 0 where
+  pub form : IsFormOfToday script
+  pub life_is : slice_get script.lives number ≡ Some life
+  pub source_is : IsSourceOf (blocks_in script) life 0 source

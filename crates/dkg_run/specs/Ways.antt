@@ -6,10 +6,7 @@ use Rattle.dkg_types.specs.declared.directory.Unit as directory
 use Rattle.dkg_types.specs.declared.entry.Entry.{Entry as Line}
 use Rattle.dkg_store.specs.Acts.{Cause, Ended, Held, World, by_cut, broken, notes, plan, says}
 use Rattle.dkg_journal.specs.Operations.{journaled}
-use Rattle.dkg_store.specs.Noted.{logs_in}
-use Rattle.dkg_store.specs.Pairs.{IsWhole}
 use Rattle.dkg_core.specs.Courses.{Course, EndsSo, on_devices}
-use Rattle.dkg_core.specs.Heard.{recovered_in}
 use Rattle.dkg_core.specs.Live.{Live, NodeStop}
 use Rattle.dkg_core.specs.Said.{Said}
 use Rattle.dkg_core.specs.Seen.{Seen}
@@ -28,12 +25,11 @@ pub record Way (W : Type 0) : Type 1 where
   pub begins : Files → W → Type 0
   pub refuses : Stop → W → W → Type 0
 
--- No record was out of its grammar before, or there is nothing to keep: devices that were whole give back the same dealings and logs, and the plan is the same.
+-- The journal's entries, its plan and the secrets are as they were. (Its files' names may be others.)
 pub record StaysHeld (old new : Held) : Type 0 where
-  pub whole : IsWhole (notes old) old.secrets → IsWhole (notes new) new.secrets
-  pub pairs : IsWhole (notes old) old.secrets → recovered_in new ≡ recovered_in old
-  pub logs : IsWhole (notes old) old.secrets → logs_in (notes new) ≡ logs_in (notes old)
+  pub entries : notes new ≡ notes old
   pub plan : plan new ≡ plan old
+  pub secrets : new.secrets ≡ old.secrets
 
 -- It was broken off from outside.
 pub record IsBroken (stop : Stop) : Type 0 where

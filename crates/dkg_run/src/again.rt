@@ -1,5 +1,5 @@
 //! One call behind another, over the same devices.
-ghost use Rattle.dkg_run.specs.Again.{RunsAgain};
+ghost use Rattle.dkg_run.specs.Again.{AcknowledgesAsBefore, RunsAgain};
 
 use dkg_journal::Disk;
 
@@ -7,4 +7,9 @@ use dkg_journal::Disk;
 /// was stopped.
 pub fn runs_again<D: Disk>()
     ensures { RunsAgain D.files D.image }
+{}
+
+/// A second call acknowledges as the first did, where it begins with what that left.
+pub fn acknowledges_as_before<D: Disk>()
+    ensures { AcknowledgesAsBefore D.files D.image }
 {}

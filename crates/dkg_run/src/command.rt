@@ -1,18 +1,21 @@
 //! The top call: it reads a script, runs its lives, and writes their transcript.
-ghost use Rattle.std.specs.Prelude.{◌≡◌, ◌≢◌, ◌↔◌, ◌⊎◌, ◌≤◌, ◌++◌, [], ◌∷◌, map, codes, string_bytes, length, Some, IsTrue, IfOk, IfNone, IfSome, OnOk, ℕ, drop, true, false};
+ghost use Rattle.std.specs.Prelude.{◌≡◌, ◌≢◌, ◌↔◌, ◌⊎◌, ◌≤◌, ◌++◌, [], ◌∷◌, ℕ, true, false, IfNone, IfOk, IfSome, IsTrue, OnOk, Some};
+ghost use Rattle.std.specs.Prelude.{codes, drop, length, map, string_bytes};
 ghost use Rattle.dkg_journal.specs.Disk.{Rose};
 ghost use Rattle.dkg_generator.specs.Made.{made_script};
 ghost use Rattle.dkg_text.specs.Fields.{number_field};
-ghost use Rattle.dkg_text.specs.Grammar.{script_of};
+ghost use Rattle.dkg_text.specs.Grammar.{script_of, script_or_place};
 ghost use Rattle.dkg_text.specs.Printing.{lines_of};
 ghost use Rattle.dkg_text.specs.Writing.{text_of as script_text_of};
 ghost use Rattle.dkg_text.specs.declared.script.Script.{Script};
-ghost use Rattle.dkg_script.specs.Built.{is_built};
+ghost use Rattle.dkg_script.specs.Built.{ReadsBuilt, is_built};
+ghost use Rattle.dkg_script.specs.Form.{IsFormOfToday};
 ghost use Rattle.dkg_script.specs.Promise.{Adds};
-ghost use Rattle.dkg_run.specs.Command.{IsMake, IsTold};
-ghost use Rattle.dkg_run.specs.Complete.{IsSoundRun};
+ghost use Rattle.dkg_run.specs.Command.{IsMake, IsRun, IsTold};
+ghost use Rattle.dkg_run.specs.Complete.{IsSoundRun, IsValidAnyhow};
 ghost use Rattle.dkg_run.specs.Outside.{TookFew, TookMore};
-ghost use Rattle.dkg_run.specs.Reports.{Answers, EndsAs, KeepsAndCompletes, Reads, fault_status, last_of, number_of};
+ghost use Rattle.dkg_run.specs.Over.{over};
+ghost use Rattle.dkg_run.specs.Reports.{Blamed, Reads, Reported, Runs, fault_status, last_of, number_of};
 
 use crate::lives::run_lives;
 use crate::sink::Sink;
@@ -82,7 +85,7 @@ fn is_run_word(word: &str) -> bool
 
 /// Whether the words are those that run a script.
 fn is_run(words: &[String]) -> bool
-    ensures { IsTrue result ↔ (map string_bytes words.now ≡ codes "run" ∷ []) }
+    ensures { IsTrue result ↔ IsRun (map string_bytes words.now) }
 {
     match words {
         [word] => is_run_word(word.as_str()),
@@ -132,6 +135,22 @@ fn status_of(fault: Fault) -> Status
     }
 }
 
+/// The script that bytes spell which were read of a source. It is given them back.
+fn script_in<S: Source>(
+    alloc: Global,
+    source: &mut S,
+    bytes: Vec<u8>,
+) -> Result<dkg_script::Script, BuiltError>
+    ensures reads { ReadsBuilt (script_or_place false bytes.items) result }
+    ensures form { IfOk result IsFormOfToday }
+    ensures left { S.left source.new ≡ S.left source.old }
+    ensures back { S.has_back source.new bytes.items }
+{
+    let read = read_built(alloc, &bytes, false);
+    source.give_back(bytes);
+    read
+}
+
 /// Reads a script and runs its lives.
 fn run<S: Source, D: Disk, X: SecretStore>(
     alloc: Global,
@@ -143,7 +162,9 @@ fn run<S: Source, D: Disk, X: SecretStore>(
     ensures read_fault { result ≡ Status.ReadFault → Rose (S.faults source.old) (S.faults source.new) }
     ensures too_long { result ≡ Status.TooLong → IsTrue S.tells → TookMore 16777216 (S.left source.old) (S.left source.new) }
     ensures few { IsTrue S.tells → TookFew 16777217 (S.left source.old) (S.left source.new) }
-    ensures ends { Adds out.old.entries out.new.entries (EndsAs (Rose (D.faults disk.old) (D.faults disk.new)) (Rose (X.faults secrets.old) (X.faults secrets.new)) (Reads (IsTrue S.tells) (S.left source.old) (S.left source.new)) ((disk.new ≡ disk.old) × (secrets.new ≡ secrets.old)) (KeepsAndCompletes (IsTrue D.tells × IsTrue X.tells) (D.files disk.old) (X.held secrets.old) (D.image disk.old) (D.files disk.new) (D.image disk.new) (X.held secrets.new) (Rose (D.faults disk.old) (D.faults disk.new)) (Rose (X.faults secrets.old) (X.faults secrets.new))) (Answers (IsTrue D.tells × IsTrue X.tells) (D.files disk.old) (X.held secrets.old) (D.image disk.old)) result) }
+    ensures ends { Adds out.old.entries out.new.entries (Runs (Reads (IsTrue S.tells) (S.left source.old) (S.left source.new) (S.has_back source.new))
+        (over D.tells D.files D.image D.faults D.made X.tells X.held X.faults X.made (disk.old, secrets.old) (disk.new, secrets.new))
+        out.old.entries result) }
 {
     let bytes = match read_all(alloc, source) {
         Ok(bytes) => bytes,
@@ -151,13 +172,12 @@ fn run<S: Source, D: Disk, X: SecretStore>(
         Err(ReadError::TooLong) => return Status::TooLong,
         Err(ReadError::NoMemory) => return Status::NoMemory,
     };
-    let script = match read_built(alloc, &bytes, false) {
+    let script = match script_in(alloc, source, bytes) {
         Ok(script) => script,
         Err(BuiltError::Bad { place }) => return Status::BadScript { place },
         Err(BuiltError::Unsupported) => return Status::Unsupported,
         Err(BuiltError::NoMemory) => return Status::NoMemory,
     };
-    drop(bytes);
     match run_lives(alloc, &script, disk, secrets, out) {
         Ok(()) => Status::Done,
         Err(fault) => status_of(fault),
@@ -259,23 +279,37 @@ pub fn run_command<S: Source, K: Sink, D: Disk, X: SecretStore>(
     out: &mut Transcript,
 ) -> Status
     // Other words read and run nothing.
-    ensures usage { (map string_bytes words.now ≢ codes "run" ∷ []) → ((n : ℕ) → IsMake n (map string_bytes words.now) → ⊥) → IsTold Status.Usage result (last_of Status.Usage) (IsTrue K.tells) (K.held sink.old) (K.held sink.new) × (source.new ≡ source.old) × (disk.new ≡ disk.old) × (secrets.new ≡ secrets.old) × (out.new ≡ out.old) }
-    ensures only_usage { result ≡ Status.Usage → (map string_bytes words.now ≢ codes "run" ∷ []) × ((n : ℕ) → IsMake n (map string_bytes words.now) → ⊥) }
+    ensures usage { (IsRun (map string_bytes words.now) → ⊥) → ((n : ℕ) → IsMake n (map string_bytes words.now) → ⊥)
+        → IsTold Status.Usage result (last_of Status.Usage) (IsTrue K.tells) (K.held sink.old) (K.held sink.new)
+        × (source.new ≡ source.old) × (disk.new ≡ disk.old) × (secrets.new ≡ secrets.old) × (out.new ≡ out.old) }
+    ensures only_usage { result ≡ Status.Usage
+        → (IsRun (map string_bytes words.now) → ⊥) × ((n : ℕ) → IsMake n (map string_bytes words.now) → ⊥) }
     // `make N script` writes that script's text, and touches nothing but the sink.
-    ensures make { (n : ℕ) → IsMake n (map string_bytes words.now) → IsTold Status.Done result (script_text_of (made_script n)) (IsTrue K.tells) (K.held sink.old) (K.held sink.new) × (source.new ≡ source.old) × (disk.new ≡ disk.old) × (secrets.new ≡ secrets.old) × (out.new ≡ out.old) }
-    // However the words `run` end, the new entries, the devices and what was read are as the status says, and the sink took the lines
-    // of the entries and the status's last line: all, or a front where a write failed, or nothing where there was no memory for them.
-    ensures run { (map string_bytes words.now ≡ codes "run" ∷ []) → Adds out.old.entries out.new.entries (λ entries. (status : Status) × EndsAs (Rose (D.faults disk.old) (D.faults disk.new)) (Rose (X.faults secrets.old) (X.faults secrets.new)) (Reads (IsTrue S.tells) (S.left source.old) (S.left source.new)) ((disk.new ≡ disk.old) × (secrets.new ≡ secrets.old)) (KeepsAndCompletes (IsTrue D.tells × IsTrue X.tells) (D.files disk.old) (X.held secrets.old) (D.image disk.old) (D.files disk.new) (D.image disk.new) (X.held secrets.new) (Rose (D.faults disk.old) (D.faults disk.new)) (Rose (X.faults secrets.old) (X.faults secrets.new))) (Answers (IsTrue D.tells × IsTrue X.tells) (D.files disk.old) (X.held secrets.old) (D.image disk.old)) status entries × IsTold status result (lines_of entries ++ last_of status) (IsTrue K.tells) (K.held sink.old) (K.held sink.new)) }
+    ensures make { (n : ℕ) → IsMake n (map string_bytes words.now)
+        → IsTold Status.Done result (script_text_of (made_script n)) (IsTrue K.tells) (K.held sink.old) (K.held sink.new)
+        × (source.new ≡ source.old) × (disk.new ≡ disk.old) × (secrets.new ≡ secrets.old) × (out.new ≡ out.old) }
+    // However the words `run` end, the new entries, the devices and what was read are as the status says, with all that `run_lives` promises of the
+    // script that the source gave, and the sink took the lines of the entries and the status's last line: all, or a front where a write failed, or
+    // nothing where there was no memory for them.
+    ensures run { IsRun (map string_bytes words.now) → Reported (Reads (IsTrue S.tells) (S.left source.old) (S.left source.new) (S.has_back source.new))
+        (over D.tells D.files D.image D.faults D.made X.tells X.held X.faults X.made (disk.old, secrets.old) (disk.new, secrets.new))
+        out.old.entries out.new.entries result (IsTrue K.tells) (K.held sink.old) (K.held sink.new) }
     ensures silent { (result ≡ Status.ReadFault) ⊎ (result ≡ Status.TooLong) → sink.new ≡ sink.old }
-    // The causes of what the outside's statuses tell.
-    ensures read_fault { result ≡ Status.ReadFault → Rose (S.faults source.old) (S.faults source.new) }
-    ensures device { result ≡ Status.Device → Rose (D.faults disk.old) (D.faults disk.new) ⊎ Rose (X.faults secrets.old) (X.faults secrets.new) }
-    ensures write_fault { result ≡ Status.WriteFault → Rose (K.faults sink.old) (K.faults sink.new) }
-    ensures too_long { result ≡ Status.TooLong → IsTrue S.tells → TookMore 16777216 (S.left source.old) (S.left source.new) }
+    // What a status blames is so, and no more than one byte above a script's most is taken.
+    ensures blamed { Blamed
+        (over D.tells D.files D.image D.faults D.made X.tells X.held X.faults X.made (disk.old, secrets.old) (disk.new, secrets.new))
+        (Rose (S.faults source.old) (S.faults source.new)) (Rose (K.faults sink.old) (K.faults sink.new))
+        (IsTrue S.tells → TookMore 16777216 (S.left source.old) (S.left source.new)) result }
     ensures few { IsTrue S.tells → TookFew 16777217 (S.left source.old) (S.left source.new) }
-    // Where the source holds the text of a valid script of a form that is run, the devices are valid, and no count rises, every life is run, unless memory
-    // runs out.
-    ensures complete { (map string_bytes words.now ≡ codes "run" ∷ []) → IsTrue S.tells → (script : Script) → script_of false (S.left source.old) ≡ Some script → is_built script ≡ true → length (S.left source.old) ≤ 16777216 → IsSoundRun (IsTrue D.tells × IsTrue X.tells) (D.files disk.old) (X.held secrets.old) (D.image disk.old) (Rose (D.faults disk.old) (D.faults disk.new)) (Rose (X.faults secrets.old) (X.faults secrets.new)) script → (Rose (S.faults source.old) (S.faults source.new) → ⊥) → (Rose (K.faults sink.old) (K.faults sink.new) → ⊥) → (result ≡ Status.Done) ⊎ (result ≡ Status.NoMemory) }
+    // Where the source holds the text of a script of a form that is run, which is valid however it is cut, the devices are valid, and no count rises, every
+    // life is run, unless memory runs out.
+    ensures complete { IsRun (map string_bytes words.now) → IsTrue S.tells → (script : Script)
+        → script_of false (S.left source.old) ≡ Some script → is_built script ≡ true → length (S.left source.old) ≤ 16777216
+        → IsSoundRun
+        (over D.tells D.files D.image D.faults D.made X.tells X.held X.faults X.made (disk.old, secrets.old) (disk.new, secrets.new))
+        (IsValidAnyhow script)
+        → (Rose (S.faults source.old) (S.faults source.new) → ⊥) → (Rose (K.faults sink.old) (K.faults sink.new) → ⊥)
+        → (result ≡ Status.Done) ⊎ (result ≡ Status.NoMemory) }
 {
     if let Some(number) = made_number(words) {
         return make(alloc, sink, number);

@@ -17,7 +17,7 @@ mod source;
 mod standard;
 mod transfer;
 
-pub use again::runs_again;
+pub use again::{acknowledges_as_before, runs_again};
 pub use command::{Status, run_command};
 pub use lives::run_lives;
 pub use memory::fresh_devices;

@@ -2,15 +2,15 @@
 //!
 //! A life's opening is its step 0, and each event is one step more. A step that the script cuts ends its life, and any
 //! other life ends by its stop. Either way both devices crash.
-ghost use Rattle.std.specs.Prelude.{◌≡◌, ◌⊎◌, ◌↔◌, ◌<◌, ◌++◌, ◌∷◌, [], ℕ, IfErr, IsSome, IsTrue, OnOk, None, Some, Ok, Err, List, filter_map, length, slice_get};
+ghost use Rattle.std.specs.Prelude.{◌≡◌, ◌⊎◌, ◌++◌, ◌∷◌, [], ℕ, IfErr, IsSome, IsTrue, OnOk, None, Some, Ok, Err, List, filter_map, slice_get};
 ghost use Rattle.std.specs.Int.NonZero.{non_zero_u32_get, non_zero_u64_get};
 ghost use Rattle.std.specs.List.{AllByRecursion};
-ghost use Rattle.dkg_journal.specs.Disk.{Lands, Rose};
+ghost use Rattle.dkg_journal.specs.Disk.{Lands};
 ghost use Rattle.dkg_journal.specs.Names.{Files};
 ghost use Rattle.dkg_types.specs.declared.directory.Unit as directory;
 ghost use Rattle.dkg_types.specs.declared.entry.Entry.TheVariants as entry;
 ghost use Rattle.dkg_types.specs.declared.fault.Fault.TheVariants.{NoMemory};
-ghost use Rattle.dkg_store.specs.Acts.{Held, Stands, at, moment};
+ghost use Rattle.dkg_store.specs.Acts.{Held, Stands};
 ghost use Rattle.dkg_store.specs.Corrupt.{AreFit};
 ghost use Rattle.dkg_core.specs.Live.{Live};
 ghost use Rattle.dkg_core.specs.Seen.{Seen};
@@ -19,17 +19,18 @@ ghost use Rattle.dkg_script.specs.Form.{IsFormOfToday};
 ghost use Rattle.dkg_script.specs.Promise.{Adds};
 ghost use Rattle.dkg_reshare.specs.Today.{seen_today};
 ghost use Rattle.dkg_reshare.specs.declared.stop.Stop.TheVariants.{Cut as AtCut, Failed as HadFailed, Fault as FaultOf};
-ghost use Rattle.dkg_run.specs.Causes.{HasCause, IfFault, IsCutWithin};
+ghost use Rattle.dkg_run.specs.Causes.{HasCause, IfFault};
 ghost use Rattle.dkg_run.specs.Found.{IsFound, reader_in};
 ghost use Rattle.dkg_run.specs.Given.{AreBytes, Lived, blocks_in, limits_of, lived, step_of};
 ghost use Rattle.dkg_run.specs.GivesBack.{GivesBack};
-ghost use Rattle.dkg_run.specs.Lives.{AnyFiles, EndsLife, LivesHere, LivesSo, RunsAllSo, RunsOver, RunsSo, Steps, TakesAll, TellsEnd, fuse_for, never};
+ghost use Rattle.dkg_run.specs.Lives.{AnyFiles, EndsLife, LivesHere, LivesSo, RunsAllSo, Steps, TakesAll, TellsEnd, fuse_for};
 ghost use Rattle.dkg_run.specs.Moving.{Blames, StepBlames, StopBlames, Went, world_of};
 ghost use Rattle.dkg_run.specs.Nodes.{IsEventOfBlocks, IsReadyNode, IsStepHere, IsView};
+ghost use Rattle.dkg_run.specs.Over.{over, standing};
 ghost use Rattle.dkg_run.specs.Passing.{ArePassing};
-ghost use Rattle.dkg_run.specs.Promised.{Promised};
+ghost use Rattle.dkg_run.specs.Promised.{DoesRun, Promised, SaysRun};
 ghost use Rattle.dkg_run.specs.Sources.{IsSourceOf};
-ghost use Rattle.dkg_run.specs.Stopped.{Stopped, picks_at_end};
+ghost use Rattle.dkg_run.specs.Stopped.{picks_at_end};
 ghost use Rattle.dkg_run.specs.Ways.{by_lines, by_worlds, trace};
 
 use crate::blocks::blocks_of;
@@ -78,34 +79,8 @@ fn begin_step<D: Disk, X: SecretStore>(
     }
 }
 
-/// Whether the script cuts the life within the step.
-fn is_cut_within(cut: &Option<Cut>, step: u64) -> bool
-    ensures { IsTrue result ↔ IsCutWithin cut.now step }
-{
-    match cut {
-        Some(cut) => cut.step == step && cut.call != 0,
-        None => false,
-    }
-}
-
-/// What the stop of a step means to its life: a cut is the script's own, within this step. (A device that tells is cut only by the fuse that
-/// this step was given. A cut that another one came by would be told as want of memory.)
-fn stop_of(cut: &Option<Cut>, step: u64, stop: Stop) -> Stop
-    ensures cut { result ≡ AtCut → IsCutWithin cut.now step }
-    ensures same { IsCutWithin cut.now step → result ≡ stop }
-    ensures other { (result ≡ stop) ⊎ ((stop ≡ AtCut) × (result ≡ FaultOf NoMemory)) }
-{
-    if is_cut_within(cut, step) {
-        return stop;
-    }
-    match stop {
-        Stop::Cut => Stop::Fault(Fault::NoMemory),
-        stop => stop,
-    }
-}
-
 /// Holds the block that an event delivers.
-fn hold(source: &mut HeldBlocks<'_>, event: &Event) -> Mem<()>
+fn hold(source: &mut HeldBlocks<'_>, event: &Event<'_>) -> Mem<()>
     ensures blocks { source.new.blocks ≡ source.old.blocks }
     ensures anchor { source.new.anchor ≡ source.old.anchor }
     ensures numbers { OnOk result (source.new.numbers.items ≡ source.old.numbers.items ++ filter_map delivered_number (event.now ∷ [])) }
@@ -121,7 +96,7 @@ fn take_step<D: Disk, X: SecretStore>(
     alloc: Global,
     node: &mut Node,
     source: &mut HeldBlocks<'_>,
-    event: &Event,
+    event: &Event<'_>,
     number: u64,
     life: &Life,
     devices: &mut Devices<'_, D, X>,
@@ -135,10 +110,11 @@ fn take_step<D: Disk, X: SecretStore>(
         × OnOk result (source.new.numbers.items ≡ source.old.numbers.items ++ filter_map delivered_number (event.now ∷ [])) }
     // It is the relation's step with its fuse, over the lines, and over both devices, whatever image a crash leaves.
     ensures lines { (g : Lived) (st : Live directory.Unit) (picks : List ℕ) → IsStepHere g node.old source.old.blocks.now life.now → IsView node.old st
-        → Steps by_lines (entry.Step number) (fuse_for life.now.cut number) (step_of g number event.now st) (trace out.old.entries picks) result (trace out.new.entries picks)
+        → Steps by_lines (entry.Step number) (fuse_for life.now.cut number) (step_of g number event.now st)
+        (trace out.old.entries picks) result (trace out.new.entries picks)
         (λ end now. (result ≡ Ok tt) × IsView node.new end × (now ≡ trace out.new.entries picks)) }
-    ensures run { IsTrue D.tells → IsTrue X.tells → (g : Lived) (st : Live directory.Unit) → IsStepHere g node.old source.old.blocks.now life.now → IsView node.old st
-        → (c : Files) → D.image devices.new.disk.now c
+    ensures run { IsTrue D.tells → IsTrue X.tells → (g : Lived) (st : Live directory.Unit) → IsStepHere g node.old source.old.blocks.now life.now
+        → IsView node.old st → (c : Files) → D.image devices.new.disk.now c
         → Steps by_worlds (entry.Step number) (fuse_for life.now.cut number) (step_of g number event.now st)
         (world_of X.held devices.old out.old.entries (D.files devices.old.disk.now)) result (world_of X.held devices.new out.new.entries c)
         (λ end w. (result ≡ Ok tt) × IsView node.new end × (w ≡ world_of X.held devices.new out.new.entries c)) }
@@ -149,10 +125,8 @@ fn take_step<D: Disk, X: SecretStore>(
 {
     begin_step(devices, &life.cut, number)?;
     hold(source, event)?;
-    match node.step(alloc, source, event, devices, out) {
-        Ok(()) => Ok(out.push(Entry::Step { step: number })?),
-        Err(stop) => Err(stop_of(&life.cut, number, stop)),
-    }
+    node.step(alloc, source, event, devices, out)?;
+    Ok(out.push(Entry::Step { step: number })?)
 }
 
 /// Takes the steps of a life's events, which begin with step 1.
@@ -168,17 +142,27 @@ fn take_steps<D: Disk, X: SecretStore>(
     requires ready { IsReadyNode D.tells D.files D.image node.old devices.old }
     ensures lines { (g : Lived) (st : Live directory.Unit) (picks : List ℕ) → IsStepHere g node.old source.old.blocks.now life.now → IsView node.old st
         → TakesAll by_lines g 1 life.now.events st (trace out.old.entries picks) result (trace out.new.entries picks) }
-    ensures run { IsTrue D.tells → IsTrue X.tells → (g : Lived) (st : Live directory.Unit) → IsStepHere g node.old source.old.blocks.now life.now → IsView node.old st
-        → (c : Files) → D.image devices.new.disk.now c
-        → TakesAll by_worlds g 1 life.now.events st (world_of X.held devices.old out.old.entries (D.files devices.old.disk.now)) result (world_of X.held devices.new out.new.entries c) }
+    ensures run { IsTrue D.tells → IsTrue X.tells → (g : Lived) (st : Live directory.Unit) → IsStepHere g node.old source.old.blocks.now life.now
+        → IsView node.old st → (c : Files) → D.image devices.new.disk.now c
+        → TakesAll by_worlds g 1 life.now.events st
+        (world_of X.held devices.old out.old.entries (D.files devices.old.disk.now)) result (world_of X.held devices.new out.new.entries c) }
     ensures firm { OnOk result (IsTrue D.tells → Lands (D.files devices.new.disk.now) (D.image devices.new.disk.now)) }
     ensures went { Went D.tells D.made X.made D.faults X.faults devices.old devices.new [] }
     ensures causes { IfErr result (StepBlames D.faults X.faults devices.old devices.new) }
     ensures fit { IsTrue D.tells → AreFit (non_zero_u32_get node.old.actor.terms.limit) (D.image devices.old.disk.now)
         → AreFit (non_zero_u32_get node.old.actor.terms.limit) (D.image devices.new.disk.now) }
 {
-    for (i, event) in life.events.as_slice().iter().enumerate() {
-        take_step(alloc, node, source, event, i as u64 + 1, life, devices, out)?;
+    for i in 0..life.events.len() {
+        take_step(
+            alloc,
+            node,
+            source,
+            &life.events.at(i),
+            i as u64 + 1,
+            life,
+            devices,
+            out,
+        )?;
     }
     Ok(())
 }
@@ -196,26 +180,27 @@ fn live<D: Disk, X: SecretStore>(
     requires form { IsFormOfToday script.now }
     requires here { (slice_get script.now.lives number ≡ Some life.now) × (blocks.now ≡ blocks_in script.now) }
     // It is a life of the node, over the lines and over both devices, whatever image a crash leaves.
-    ensures lines { (seen : Held → Seen) × by_lines.reads seen × ((picks : List ℕ) → LivesSo by_lines (lived script.now number life.now seen (D.files devices.old.disk.now)) (D.files devices.old.disk.now)
+    ensures lines { (seen : Held → Seen) × by_lines.reads seen × ((picks : List ℕ)
+        → LivesSo by_lines (lived script.now number life.now seen (D.files devices.old.disk.now)) (D.files devices.old.disk.now)
         (trace out.old.entries picks) result (trace out.new.entries picks)) }
-    ensures run { IsTrue D.tells → IsTrue X.tells → Stands (D.files devices.old.disk.now) (D.image devices.old.disk.now) → (c : Files) → D.image devices.new.disk.now c
+    ensures run { IsTrue D.tells → IsTrue X.tells → Stands (D.files devices.old.disk.now) (D.image devices.old.disk.now) → (c : Files)
+        → D.image devices.new.disk.now c
         → LivesSo by_worlds (lived script.now number life.now seen_today (D.files devices.old.disk.now)) (D.files devices.old.disk.now)
         (world_of X.held devices.old out.old.entries (D.files devices.old.disk.now)) result (world_of X.held devices.new out.new.entries c) }
     ensures firm { OnOk result (IsTrue D.tells → Lands (D.files devices.new.disk.now) (D.image devices.new.disk.now)) }
     ensures went { Went D.tells D.made X.made D.faults X.faults devices.old devices.new [] }
     ensures causes { IfErr result (StopBlames D.faults X.faults devices.old devices.new) }
     // A corrupt record or a refused dealing that it blames is found on the devices as they stand.
-    ensures found { IfErr result (λ stop. IsTrue D.tells → IsTrue X.tells → IfFault stop (IsFound (reader_in script.now) (D.files devices.new.disk.now) (X.held devices.new.secrets.now))) }
-    ensures fit { IsTrue D.tells → AreFit (limits_of script.now).most (D.image devices.old.disk.now) → AreFit (limits_of script.now).most (D.image devices.new.disk.now) }
+    ensures found { IfErr result (λ stop. IsTrue D.tells → IsTrue X.tells
+        → IfFault stop (IsFound (reader_in script.now) (D.files devices.new.disk.now) (X.held devices.new.secrets.now))) }
+    ensures fit { IsTrue D.tells → AreFit (limits_of script.now).most (D.image devices.old.disk.now)
+        → AreFit (limits_of script.now).most (D.image devices.new.disk.now) }
     ensures passing { IsTrue D.tells → IsTrue X.tells → ArePassing (reader_in script.now) (D.image devices.old.disk.now) (X.held devices.old.secrets.now)
         → ArePassing (reader_in script.now) (D.image devices.new.disk.now) (X.held devices.new.secrets.now) }
 {
     begin_step(devices, &life.cut, 0)?;
     let mut source = HeldBlocks::new(alloc, blocks, life)?;
-    let mut node = match Node::open(alloc, script, number, life, &source, devices, out) {
-        Ok(node) => node,
-        Err(stop) => return Err(stop_of(&life.cut, 0, stop)),
-    };
+    let mut node = Node::open(alloc, script, number, life, &source, devices, out)?;
     out.push(Entry::Step { step: 0 })?;
     take_steps(alloc, &mut node, &mut source, life, devices, out)
 }
@@ -241,7 +226,8 @@ fn end_life<D: Disk, X: SecretStore>(
 ) -> Result<(), Fault>
     requires scripted { how ≡ Err AtCut → IsSome life.now.cut }
     requires done { how ≡ Err HadFailed → ⊥ }
-    ensures ends { (picks : List ℕ) → EndsLife by_lines life.now how (trace out.old.entries picks) result (trace out.new.entries (picks ++ picks_at_end life.now how))
+    ensures ends { (picks : List ℕ)
+        → EndsLife by_lines life.now how (trace out.old.entries picks) result (trace out.new.entries (picks ++ picks_at_end life.now how))
         (λ now. (result ≡ Ok tt) × (now ≡ trace out.new.entries (picks ++ picks_at_end life.now how))) }
     ensures faulted { IfErr result (λ fault. (how ≡ Err (FaultOf fault)) ⊎ (fault ≡ NoMemory)) }
     ensures narrows { (c : Files) → D.image devices.new.disk.now c → D.image devices.old.disk.now c }
@@ -360,21 +346,22 @@ pub fn run_lives<D: Disk, X: SecretStore>(
     out: &mut Transcript,
 ) -> Result<(), Fault>
     requires form { IsFormOfToday script.now }
-    // The entries of each life are those of a node run of the script, whatever the devices tell; a step that is ended early gives a front of its lines. Each life's
-    // end stopped both devices, each with its pick.
-    ensures lines { (picks : List ℕ) × (IsTrue D.tells → Stopped D.made X.made (disk.old, secrets.old) (disk.new, secrets.new) picks)
-        × RunsSo by_lines script.now AnyFiles (trace out.old.entries []) result (trace out.new.entries picks) }
-    // The node ran over the devices, whatever image a crash leaves: each life from what the one before left, and cut exactly where its step makes so many calls.
-    ensures run { IsTrue D.tells → IsTrue X.tells → Stands (D.files disk.old) (D.image disk.old) → (c : Files) → D.image disk.new c
-        → RunsOver script.now result (D.files disk.old)
-        (at (moment out.old.entries (X.held secrets.old) never) (D.files disk.old)) (λ f. at (moment out.new.entries (X.held secrets.new) f) c) }
+    // The entries of each life are those of a node run of the script, whatever the devices tell; a step that is ended early gives a front of its lines.
+    // Each life's end stopped both devices, each with its pick.
+    ensures lines { SaysRun script.now
+        (over D.tells D.files D.image D.faults D.made X.tells X.held X.faults X.made (disk.old, secrets.old) (disk.new, secrets.new))
+        out.old.entries result out.new.entries }
+    // The node ran over the devices, whatever image a crash leaves: each life from what the one before left, and cut exactly where its step makes so many
+    // calls.
+    ensures run { DoesRun script.now
+        (over D.tells D.files D.image D.faults D.made X.tells X.held X.faults X.made (disk.old, secrets.old) (disk.new, secrets.new))
+        out.old.entries result out.new.entries }
     // What follows of the dealings, the order and the faults.
-    ensures promise { Adds out.old.entries out.new.entries (Promised script.now (IsTrue D.tells × IsTrue X.tells)
-        (D.files disk.old) (D.image disk.old) (X.held secrets.old)
-        (D.files disk.new) (D.image disk.new) (X.held secrets.new) (Rose (D.faults disk.old) (D.faults disk.new)) (Rose (X.faults secrets.old) (X.faults secrets.new)) result) }
+    ensures promise { Adds out.old.entries out.new.entries (Promised script.now
+        (over D.tells D.files D.image D.faults D.made X.tells X.held X.faults X.made (disk.old, secrets.old) (disk.new, secrets.new)) result) }
     // A second call stands under what this one leaves.
-    ensures gives_back { IsTrue D.tells → IsTrue X.tells → GivesBack (reader_in script.now) result (D.files disk.old) (D.image disk.old) (X.held secrets.old)
-        (D.files disk.new) (D.image disk.new) (X.held secrets.new) }
+    ensures gives_back { IsTrue D.tells → IsTrue X.tells → GivesBack (reader_in script.now) result
+        (standing (D.files disk.old) (D.image disk.old) (X.held secrets.old)) (standing (D.files disk.new) (D.image disk.new) (X.held secrets.new)) }
 {
     let mut devices = Devices {
         disk,

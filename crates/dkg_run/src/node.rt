@@ -1,5 +1,5 @@
 //! A node in one life: the reshare actor, and the orchestrator's half behind it.
-ghost use Rattle.std.specs.Prelude.{◌≡◌, ◌<◌, ℕ, IfErr, IfOk, IsTrue, OnOk, Some, slice_get};
+ghost use Rattle.std.specs.Prelude.{◌≡◌, ◌<◌, ℕ, IfErr, IfOk, IsTrue, OnOk};
 ghost use Rattle.std.specs.Int.NonZero.{non_zero_u32_get, non_zero_u64_get};
 ghost use Rattle.dkg_ceremony.specs.Schedule.{midpoint};
 ghost use Rattle.dkg_ceremony.specs.declared.mode.Reveal.TheVariants.{V1};
@@ -10,17 +10,16 @@ ghost use Rattle.dkg_types.specs.declared.directory.Unit as directory;
 ghost use Rattle.dkg_text.specs.declared.script.Event.TheVariants as event;
 ghost use Rattle.dkg_core.specs.Live.{Delivers, Live};
 ghost use Rattle.dkg_core.specs.Node.{node_opening, node_step};
-ghost use Rattle.dkg_script.specs.Form.{IsFormOfToday};
 ghost use Rattle.dkg_reshare.specs.Actors.{IsFoundAt};
 ghost use Rattle.dkg_reshare.specs.Ends.{IsCaused};
 ghost use Rattle.dkg_reshare.specs.Given.{AreGivenFrom, HasRead};
 ghost use Rattle.dkg_reshare.specs.Made.{Makes, Tells, UnlessBroken};
 ghost use Rattle.dkg_reshare.specs.Moved.{Moved, StaysAbove};
-ghost use Rattle.dkg_reshare.specs.Opened.{IsInGrammar, OpensReadable, StaysShut};
+ghost use Rattle.dkg_reshare.specs.Opened.{IsInGrammar, OpensReadable};
 ghost use Rattle.dkg_reshare.specs.Today.{seen_today};
 ghost use Rattle.dkg_run.specs.Given.{Lived, ReadsNeither, at_step, blocks_in, limits_of, lived, step_of};
 ghost use Rattle.dkg_run.specs.Nodes.{IsEventHere, IsOfLife, IsReadyNode, IsView, Viewed, ViewedNew, ended_new};
-ghost use Rattle.dkg_run.specs.Sources.{IsSourceOf};
+ghost use Rattle.dkg_run.specs.Sources.{IsToOpen};
 
 use crate::half::Half;
 use crate::held::HeldBlocks;
@@ -46,8 +45,9 @@ fn config_of(
     alloc: Global,
     config: &ScriptConfig,
 ) -> Mem<Config<StandCeremony, (), NoopRegistrar, ()>>
-    ensures { IfOk result (λ made. (made.signer ≡ config.now.me) × (made.namespace ≡ config.now.namespace) × (made.mode ≡ config.now.mode) × (made.max_mode ≡ config.now.max_mode)
-        × (made.reveal ≡ V1) × (made.max_participants ≡ config.now.limit) × (made.blocks_per_epoch ≡ config.now.blocks_per_epoch)) }
+    ensures { IfOk result (λ made. (made.signer ≡ config.now.me) × (made.namespace ≡ config.now.namespace) × (made.mode ≡ config.now.mode)
+        × (made.max_mode ≡ config.now.max_mode) × (made.reveal ≡ V1) × (made.max_participants ≡ config.now.limit)
+        × (made.blocks_per_epoch ≡ config.now.blocks_per_epoch)) }
 {
     Ok(Config {
         ceremony: StandCeremony,
@@ -64,6 +64,13 @@ fn config_of(
     })
 }
 
+/// A copy of a message's bytes.
+fn copied(alloc: Global, bytes: &[u8]) -> Mem<Blob>
+    ensures { IfOk result (λ made. made ≡ bytes.now) }
+{
+    Ok(Blob::new(Vec::from_slice(alloc, bytes)?))
+}
+
 impl Node {
     /// Opens the life of a number: the actor's half, and then the orchestrator's.
     pub fn open<D: Disk, X: SecretStore>(
@@ -75,32 +82,32 @@ impl Node {
         devices: &mut Devices<'_, D, X>,
         out: &mut Transcript,
     ) -> Result<Node, Stop>
-        requires form { IsFormOfToday script.now }
-        requires here { slice_get script.now.lives number ≡ Some life.now }
-        requires source { IsSourceOf (blocks_in script.now) life.now 0 source.now }
+        requires here { IsToOpen script.now number life.now source.now }
         // It goes on over these devices alone, as a node of this life.
         ensures ready { IfOk result (λ node. IsReadyNode D.tells D.files D.image node devices.new) }
         ensures of { IfOk result (λ node. (g : Lived) → g.script ≡ script.now → ReadsNeither g.seen → IsOfLife g node) }
         // It is the relation's opening of a journal in its grammar, and each act was made, whatever image a crash leaves.
         ensures acts { IsTrue D.tells → IsTrue X.tells → IsInGrammar (limits_of script.now).most (D.files devices.old.disk.now)
-            → ViewedNew result (λ ended. Makes D.files D.image X.held (node_opening (at_step (lived script.now number life.now seen_today (D.files devices.old.disk.now)) 0))
+            → ViewedNew result (λ ended. Makes D.files D.image X.held
+            (node_opening (at_step (lived script.now number life.now seen_today (D.files devices.old.disk.now)) 0))
             ended devices.old devices.new out.old.entries out.new.entries) }
         // Whatever the devices tell, its lines are those of an opening that has read something.
-        ensures tells { HasRead (λ s. UnlessBroken (ended_new result) (IsTrue D.tells → IsTrue X.tells → AreGivenFrom 0 s.dealings (D.image devices.new.disk.now) (X.held devices.new.secrets.now)))
+        ensures tells { HasRead (λ s. UnlessBroken (ended_new result) (IsTrue D.tells → IsTrue X.tells
+            → AreGivenFrom 0 s.dealings (D.image devices.new.disk.now) (X.held devices.new.secrets.now)))
             (λ s. ViewedNew result (λ ended. Tells (node_opening (at_step (lived script.now number life.now (λ h. s) (D.files devices.old.disk.now)) 0))
             ended out.old.entries out.new.entries)) }
-        // A journal that is not in its grammar is not opened, and nothing is told.
+        // A journal that is not in its grammar is not opened: nothing is told, and all stays.
         ensures readable { IsTrue D.tells → OpensReadable (IsInGrammar (limits_of script.now).most (D.files devices.old.disk.now)) result
-            out.old.entries out.new.entries }
-        ensures shut { IsTrue D.tells → StaysShut (IsInGrammar (limits_of script.now).most (D.files devices.old.disk.now))
+            out.old.entries out.new.entries
             (D.image devices.old.disk.now) (D.image devices.new.disk.now) (X.held devices.old.secrets.now) (X.held devices.new.secrets.now) }
         ensures moved { Moved D.tells D.made X.made D.faults X.faults devices.old devices.new }
-        // A device is blamed where its count rose, and a record where it stands.
+        // A device is blamed where its count rose, a cut where the fuse reached its call, and a record where it stands.
         ensures causes { IfErr result (λ stop. IsFoundAt (limits_of script.now).most D.tells (D.files devices.new.disk.now) stop
             (Rose (D.faults devices.old.disk.now) (D.faults devices.new.disk.now)) (Rose (X.faults devices.old.secrets.now) (X.faults devices.new.secrets.now))
             (Reached devices.old.fuse devices.new.fuse)) }
         // Where something was loose: what a crash leaves stays in its grammar, and gives the same dealings back.
-        ensures loose { IsTrue D.tells → StaysAbove 0 (D.image devices.old.disk.now) (D.image devices.new.disk.now) (X.held devices.old.secrets.now) (X.held devices.new.secrets.now) }
+        ensures loose { IsTrue D.tells → StaysAbove 0 (D.image devices.old.disk.now) (D.image devices.new.disk.now)
+            (X.held devices.old.secrets.now) (X.held devices.new.secrets.now) }
     {
         let config = config_of(alloc, &script.config)?;
         let mut actor = Actor::new(config)?;
@@ -116,7 +123,7 @@ impl Node {
         alloc: Global,
         source: &HeldBlocks<'_>,
         from: Key,
-        bytes: &Blob,
+        bytes: &[u8],
         devices: &mut Devices<'_, D, X>,
         out: &mut Transcript,
     ) -> Result<(), Stop>
@@ -134,7 +141,7 @@ impl Node {
         ensures fit { IsTrue D.tells → AreFit (non_zero_u32_get self.old.actor.terms.limit) (D.image devices.old.disk.now)
             → AreFit (non_zero_u32_get self.old.actor.terms.limit) (D.image devices.new.disk.now) }
     {
-        let bytes = bytes.copy(alloc)?;
+        let bytes = copied(alloc, bytes)?;
         let message = Message::Peer { from, bytes };
         self.actor
             .step(alloc, devices, source, message, &mut self.fence, out)
@@ -176,7 +183,7 @@ impl Node {
         &mut self,
         alloc: Global,
         source: &HeldBlocks<'_>,
-        event: &Event,
+        event: &Event<'_>,
         devices: &mut Devices<'_, D, X>,
         out: &mut Transcript,
     ) -> Result<(), Stop>
@@ -185,8 +192,9 @@ impl Node {
         ensures ready { OnOk result (IsReadyNode D.tells D.files D.image self.new devices.new) }
         ensures terms { self.new.actor.terms ≡ self.old.actor.terms }
         // It is the relation's step, and each act was made, whatever image a crash leaves.
-        ensures acts { IsTrue D.tells → IsTrue X.tells → (g : Lived) (number : ℕ) (st : Live directory.Unit) → IsOfLife g self.old → source.now.blocks.now ≡ blocks_in g.script
-            → IsView self.old st → Viewed self.new result (λ ended. Makes D.files D.image X.held (step_of g number event.now st) ended
+        ensures acts { IsTrue D.tells → IsTrue X.tells → (g : Lived) (number : ℕ) (st : Live directory.Unit) → IsOfLife g self.old
+            → source.now.blocks.now ≡ blocks_in g.script → IsView self.old st
+            → Viewed self.new result (λ ended. Makes D.files D.image X.held (step_of g number event.now st) ended
             devices.old devices.new out.old.entries out.new.entries) }
         ensures tells { (g : Lived) (number : ℕ) (st : Live directory.Unit) → IsOfLife g self.old → source.now.blocks.now ≡ blocks_in g.script
             → IsView self.old st → Viewed self.new result (λ ended. Tells (step_of g number event.now st) ended out.old.entries out.new.entries) }
@@ -197,7 +205,14 @@ impl Node {
             → AreFit (non_zero_u32_get self.old.actor.terms.limit) (D.image devices.new.disk.now) }
     {
         match event {
-            Event::Peer { from, bytes } => self.hear(alloc, source, *from, bytes, devices, out),
+            Event::Peer { from, bytes } => self.hear(
+                alloc,
+                source,
+                *from,
+                bytes.as_slice(),
+                devices,
+                out,
+            ),
             Event::Final { block } => match source.of_number(*block) {
                 Some(block) => self.deliver(alloc, source, block, devices, out),
                 None => unreachable!(),

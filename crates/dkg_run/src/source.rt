@@ -24,6 +24,9 @@ pub trait Source {
     /// How often the source has failed.
     ghost faults: { Self → ℕ };
 
+    /// What is so of a source that was given back these bytes.
+    ghost has_back: { Self → List ℕ → Type 0 };
+
     /// Reads some bytes into the front of a piece, and says how many. None for a piece that has room is the end.
     fn read(&mut self, into: &mut [u8]) -> Result<usize, Failed>
         ensures within { IfOk result (λ n. n ≤ length into.new) }
@@ -31,6 +34,12 @@ pub trait Source {
         ensures lost { OnErr result (left self.new ≡ left self.old) }
         ensures later { faults self.old ≤ faults self.new }
         ensures failed { OnErr result (Rose (faults self.old) (faults self.new)) };
+
+    /// Takes back all that was read of it, where that is needed no more.
+    fn give_back(&mut self, text: Vec<u8>)
+        ensures left { left self.new ≡ left self.old }
+        ensures faults { faults self.new ≡ faults self.old }
+        ensures back { has_back self.new text.items };
 }
 
 /// Takes bytes from the front of what is left, at most as many as the piece has room for.
@@ -77,12 +86,17 @@ impl Source for MemorySource {
 
     ghost faults = { λ s. s.calls.faults };
 
+    ghost has_back = { λ _ _. Unit {0} };
+
     fn read(&mut self, into: &mut [u8]) -> Result<usize, Failed> {
         self.calls.make()?;
         let count = take_front(&self.bytes[self.place..], into);
         self.place += count;
         Ok(count)
     }
+
+    /// It forgets them.
+    fn give_back(&mut self, _text: Vec<u8>) {}
 }
 
 /// A source over bytes in memory that never fails.
@@ -108,9 +122,14 @@ impl Source for SureSource {
 
     ghost faults = { λ _. 0 };
 
+    ghost has_back = { λ _ _. Unit {0} };
+
     fn read(&mut self, into: &mut [u8]) -> Result<usize, Failed> {
         let count = take_front(&self.bytes[self.place..], into);
         self.place += count;
         Ok(count)
     }
+
+    /// It forgets them.
+    fn give_back(&mut self, _text: Vec<u8>) {}
 }

@@ -45,6 +45,8 @@ impl<R: io::Read> Source for StdSource<R> {
 
     ghost faults = { λ s. s.faults };
 
+    ghost has_back = { λ _ _. Unit {0} };
+
     fn read(&mut self, into: &mut [u8]) -> Result<usize, Failed> {
         match read_some(&mut self.reader, into) {
             Some(count) => Ok(count),
@@ -54,6 +56,9 @@ impl<R: io::Read> Source for StdSource<R> {
             }
         }
     }
+
+    /// It forgets them.
+    fn give_back(&mut self, _text: Vec<u8>) {}
 }
 
 /// Standard output, or any other writer. A write that was interrupted is made again, and one that takes nothing of a

@@ -4,3 +4,6 @@ use Rattle.dkg_rows.proofs.observer.record_log.Goals as goal
 
 pub append_log-requires-clause-short : goal.append_log-requires-clause-short
 append_log-requires-clause-short g c = log_short 2 4 c.args.log (omega (arith, c.encode_size.ensures.size, c.if-encode_size-gt100.false))
+
+pub append_log-requires-clause-open : goal.append_log-requires-clause-open
+append_log-requires-clause-open g c = λ told. c.in_ok-store.ensures.restores.opened told

@@ -2,18 +2,19 @@ use Rattle.std.proofs.Common.{[], refl, ◌∙◌, ap, sym}
 use Rattle.std.proofs.lemmas.Result.{err_from_is_err_and}
 use Rattle.dkg_types.specs.declared.directory.Unit as directory
 use Rattle.dkg_store.specs.Acts.{moment}
+use Rattle.dkg_store.proofs.Counts.{reached_cuts}
 use Rattle.dkg_core.specs.Live.{Live}
 use Rattle.dkg_reshare.specs.Today.{seen_today}
 use Rattle.dkg_run.specs.Found.{IsFound, reader_in}
 use Rattle.dkg_run.specs.Given.{Lived, at_step, limits_of, lived}
 use Rattle.dkg_run.specs.Moving.{Went, world_of}
 use Rattle.dkg_run.specs.Ways.{trace}
-use Rattle.dkg_run.proofs.Founding.{fault_alike, given_there, seen_at, steps_found, stop_found}
+use Rattle.dkg_run.proofs.Founding.{given_there, seen_at, steps_found, stop_found}
 use Rattle.dkg_run.proofs.Giving.{reads_today}
 use Rattle.dkg_run.proofs.GivingPassing.{above_passing, here_today, opened_passing, passes_all, steps_passing}
 use Rattle.dkg_run.proofs.Opened.{above_begun, cut_behind, stopped_ran, told_ran, unsourced_ran, untold_ran}
 use Rattle.dkg_run.proofs.Going.{went_moved, went_none, went_then}
-use Rattle.dkg_run.proofs.Starting.{blames_from, cut_first, events_of, fit_over, fit_then, lines_over, stopped_first, told_first, unsourced_first, untold_first}
+use Rattle.dkg_run.proofs.Starting.{blames_from, cut_first, events_of, fit_over, fit_then, lines_over, stopped_first, to_open, told_first, unsourced_first, untold_first}
 use Rattle.dkg_run.proofs.lives.live.Goals as goal
 
 -- OVER THE LINES
@@ -28,31 +29,41 @@ returns-in_err-source-clause-lines g c =
     let p = err_from_is_err_and c.from_residual-in_err-source.result c.from_residual-in_err-source.ensures.1 in
     rw (p.1, p.2) (unsourced_first c.args.script.now c.args.number c.args.life.now (g.D.Disk.files c.args.devices.now.disk.now) c.args.out.now.entries c.begin_step.new.devices.fuse c.in_ok-begin_step.ensures.lit)
 
-pub returns-in-Err-clause-lines : goal.returns-in-Err-clause-lines
-returns-in-Err-clause-lines g c =
-    lines_over g.D.Disk.files c.args.devices.now.disk c.begin_step.new.devices.disk c.begin_step.ensures.same.0 c.args.script.now c.args.number c.args.life.now c.args.out.now.entries _ _
+pub returns-in_err-node-clause-lines : goal.returns-in_err-node-clause-lines
+returns-in_err-node-clause-lines g c =
+    let p = err_from_is_err_and c.from_residual-in_err-node.result c.from_residual-in_err-node.ensures.1 in
+    rw (p.1, p.2) (lines_over g.D.Disk.files c.args.devices.now.disk c.begin_step.new.devices.disk c.begin_step.ensures.same.0 c.args.script.now c.args.number c.args.life.now c.args.out.now.entries _ _
     (stopped_first c.args.script.now c.args.number c.args.life.now (g.D.Disk.files c.begin_step.new.devices.disk.now) c.args.out.now.entries c.begin_step.new.devices.fuse c.in_ok-begin_step.ensures.lit
-    _ c.open.new.out.entries c.in-Err.stop c.stop_of.result c.stop_of.ensures.cut c.stop_of.ensures.other c.in-Err.ensures.tells)
+    _ c.open.new.out.entries c.in_err-node.field-0.0
+    (λ is. reached_cuts _ _ c.open.ensures.moved.counts (cut_behind (limits_of c.args.script.now).most g.D.Disk.tells (g.D.Disk.files c.open.new.devices.disk.now) c.in_err-node.field-0.0 _ _ _ c.in_err-node.ensures.causes is)) c.in_err-node.ensures.tells))
 
 pub returns-in_err-push-clause-lines : goal.returns-in_err-push-clause-lines
 returns-in_err-push-clause-lines g c =
     let p = err_from_is_err_and c.from_residual-in_err-push.result c.from_residual-in_err-push.ensures.1 in
     rw (p.1, p.2, c.in_err-push.ensures.err) (lines_over g.D.Disk.files c.args.devices.now.disk c.begin_step.new.devices.disk c.begin_step.ensures.same.0 c.args.script.now c.args.number c.args.life.now c.args.out.now.entries _ _
     (untold_first c.args.script.now c.args.number c.args.life.now (g.D.Disk.files c.begin_step.new.devices.disk.now) c.args.out.now.entries c.begin_step.new.devices.fuse c.in_ok-begin_step.ensures.lit
-    _ c.open.new.out.entries c.in-Ok.node c.in-Ok.ensures.tells))
+    _ c.open.new.out.entries c.in_ok-node.node c.in_ok-node.ensures.tells))
 
 pub returns-clause-lines : goal.returns-clause-lines
 returns-clause-lines g c =
     lines_over g.D.Disk.files c.args.devices.now.disk c.begin_step.new.devices.disk c.begin_step.ensures.same.0 c.args.script.now c.args.number c.args.life.now c.args.out.now.entries _ _
     (told_first c.args.script.now c.args.number c.args.life.now (g.D.Disk.files c.begin_step.new.devices.disk.now) c.args.out.now.entries c.begin_step.new.devices.fuse c.in_ok-begin_step.ensures.lit
-    _ c.open.new.out.entries c.in-Ok.node c.in-Ok.ensures.tells c.take_steps.result c.push.new.self.entries c.take_steps.new.out.entries c.in_ok-push.ensures.ok c.in-Ok.ensures.of
+    _ c.open.new.out.entries c.in_ok-node.node c.in_ok-node.ensures.tells c.take_steps.result c.push.new.self.entries c.take_steps.new.out.entries c.in_ok-push.ensures.ok c.in_ok-node.ensures.of
     c.in_ok-source.source.blocks.now (c.in_ok-source.ensures.blocks ∙ c.requires.here.1) c.take_steps.ensures.lines)
+
+-- THE NODE'S OPENING
+
+pub open-requires : goal.open-requires
+open-requires g c = record {
+  here = to_open c.args.script.now c.args.number c.args.life.now c.in_ok-source.source c.requires.form c.requires.here.0 (c.in_ok-source.ensures.blocks ∙ c.requires.here.1)
+      c.in_ok-source.ensures.anchor c.in_ok-source.ensures.numbers;
+}
 
 -- THE STEPS are those of its source
 
 pub take_steps-requires-clause-here : goal.take_steps-requires-clause-here
 take_steps-requires-clause-here g c =
-    events_of c.args.script.now c.args.number c.args.life.now c.in-Ok.node c.in-Ok.ensures.of (g.D.Disk.files c.args.devices.now.disk.now) c.requires.form c.requires.here.0
+    events_of c.args.script.now c.args.number c.args.life.now c.in_ok-node.node c.in_ok-node.ensures.of (g.D.Disk.files c.args.devices.now.disk.now) c.requires.form c.requires.here.0
     c.in_ok-source.source.blocks.now (c.in_ok-source.ensures.blocks ∙ c.requires.here.1)
 
 -- WHAT THE DEVICES MADE
@@ -67,8 +78,8 @@ returns-in_err-source-clause-went g c =
     went_none g.D.Disk.tells g.D.Disk.made g.X.SecretStore.made g.D.Disk.faults g.X.SecretStore.faults g.met.D.Disk.made_none g.met.X.SecretStore.made_none c.args.devices.now c.begin_step.new.devices
     c.begin_step.ensures.same.0 c.begin_step.ensures.same.1
 
-pub returns-in-Err-clause-went : goal.returns-in-Err-clause-went
-returns-in-Err-clause-went g c =
+pub returns-in_err-node-clause-went : goal.returns-in_err-node-clause-went
+returns-in_err-node-clause-went g c =
     went_then g.D.Disk.tells g.D.Disk.made g.X.SecretStore.made g.D.Disk.faults g.X.SecretStore.faults g.met.D.Disk.made_more g.met.X.SecretStore.made_more c.args.devices.now c.begin_step.new.devices c.open.new.devices [] []
     (went_none g.D.Disk.tells g.D.Disk.made g.X.SecretStore.made g.D.Disk.faults g.X.SecretStore.faults g.met.D.Disk.made_none g.met.X.SecretStore.made_none c.args.devices.now c.begin_step.new.devices
     c.begin_step.ensures.same.0 c.begin_step.ensures.same.1)
@@ -102,72 +113,73 @@ returns-clause-causes g c =
 
 -- FITTING
 
-pub returns-in-Err-clause-fit : goal.returns-in-Err-clause-fit
-returns-in-Err-clause-fit g c = λ told. fit_over g.D.Disk.image c.args.devices.now.disk c.begin_step.new.devices.disk c.begin_step.ensures.same.0 (limits_of c.args.script.now).most _ ((c.open.ensures.loose told).fit (limits_of c.args.script.now).most)
+pub returns-in_err-node-clause-fit : goal.returns-in_err-node-clause-fit
+returns-in_err-node-clause-fit g c = λ told. fit_over g.D.Disk.image c.args.devices.now.disk c.begin_step.new.devices.disk c.begin_step.ensures.same.0 (limits_of c.args.script.now).most _ ((c.open.ensures.loose told).fit (limits_of c.args.script.now).most)
 
 pub returns-in_err-push-clause-fit : goal.returns-in_err-push-clause-fit
 returns-in_err-push-clause-fit g c = λ told. fit_over g.D.Disk.image c.args.devices.now.disk c.begin_step.new.devices.disk c.begin_step.ensures.same.0 (limits_of c.args.script.now).most _ ((c.open.ensures.loose told).fit (limits_of c.args.script.now).most)
 
 pub returns-clause-fit : goal.returns-clause-fit
 returns-clause-fit g c = λ told. fit_over g.D.Disk.image c.args.devices.now.disk c.begin_step.new.devices.disk c.begin_step.ensures.same.0 (limits_of c.args.script.now).most _
-    (fit_then c.args.script.now c.args.number c.args.life.now c.in-Ok.node c.in-Ok.ensures.of (g.D.Disk.files c.args.devices.now.disk.now) _ _ _ ((c.open.ensures.loose told).fit (limits_of c.args.script.now).most) (c.take_steps.ensures.fit told))
+    (fit_then c.args.script.now c.args.number c.args.life.now c.in_ok-node.node c.in_ok-node.ensures.of (g.D.Disk.files c.args.devices.now.disk.now) _ _ _ ((c.open.ensures.loose told).fit (limits_of c.args.script.now).most) (c.take_steps.ensures.fit told))
 
--- OVER BOTH g.D.Disk.files g.D.Disk.image g.X.SecretStore.held c.args.devices.now c.begin_step.new.devices c.begin_step.ensures.same.0 c.begin_step.ensures.same.1ICES
+-- OVER BOTH DEVICES
 
 pub returns-in_err-source-clause-run : goal.returns-in_err-source-clause-run
 returns-in_err-source-clause-run g c = λ disk secrets stands left image.
     let p = err_from_is_err_and c.from_residual-in_err-source.result c.from_residual-in_err-source.ensures.1 in
     rw (p.1, p.2) (unsourced_ran g.D.Disk.files g.D.Disk.image g.X.SecretStore.held c.args.devices.now c.begin_step.new.devices c.begin_step.ensures.same.0 c.begin_step.ensures.same.1 stands c.args.script.now c.args.number c.args.life.now c.in_ok-begin_step.ensures.lit c.args.out.now.entries left image)
 
-pub returns-in-Err-clause-run : goal.returns-in-Err-clause-run
-returns-in-Err-clause-run g c = λ disk secrets stands left image.
-    let read = c.in-Err.ensures.tells in
-    stopped_ran g.D.Disk.files g.D.Disk.image g.X.SecretStore.held c.args.devices.now c.begin_step.new.devices c.begin_step.ensures.same.0 c.begin_step.ensures.same.1 stands c.args.script.now c.args.number c.args.life.now c.in_ok-begin_step.ensures.lit c.args.out.now.entries c.open.new.devices c.open.new.out.entries left image
-    c.in-Err.stop c.stop_of.result c.stop_of.ensures.same c.stop_of.ensures.other (cut_behind (limits_of c.args.script.now).most g.D.Disk.tells disk (g.D.Disk.files c.open.new.devices.disk.now) c.in-Err.stop _ _ _ c.in-Err.ensures.causes)
-    (c.in-Err.ensures.acts disk secrets) (at_step (lived c.args.script.now c.args.number c.args.life.now (λ h. read.seen) (g.D.Disk.files c.begin_step.new.devices.disk.now)) 0) read.so (c.in-Err.ensures.readable disk).untold (c.open.ensures.shut disk)
+pub returns-in_err-node-clause-run : goal.returns-in_err-node-clause-run
+returns-in_err-node-clause-run g c = λ disk secrets stands left image.
+    let p = err_from_is_err_and c.from_residual-in_err-node.result c.from_residual-in_err-node.ensures.1 in
+    let read = c.in_err-node.ensures.tells in
+    rw (p.1, p.2) (stopped_ran g.D.Disk.files g.D.Disk.image g.X.SecretStore.held c.args.devices.now c.begin_step.new.devices c.begin_step.ensures.same.0 c.begin_step.ensures.same.1 stands c.args.script.now c.args.number c.args.life.now c.in_ok-begin_step.ensures.lit c.args.out.now.entries c.open.new.devices c.open.new.out.entries left image
+    c.in_err-node.field-0.0
+    (c.in_err-node.ensures.acts disk secrets) (at_step (lived c.args.script.now c.args.number c.args.life.now (λ h. read.seen) (g.D.Disk.files c.begin_step.new.devices.disk.now)) 0) read.so (c.in_err-node.ensures.readable disk).untold (c.in_err-node.ensures.readable disk).shut)
 
 pub returns-in_err-push-clause-run : goal.returns-in_err-push-clause-run
 returns-in_err-push-clause-run g c = λ disk secrets stands left image.
     let p = err_from_is_err_and c.from_residual-in_err-push.result c.from_residual-in_err-push.ensures.1 in
-    let its = c.in-Ok.ensures.acts disk secrets (c.in-Ok.ensures.readable disk).ok in
+    let its = c.in_ok-node.ensures.acts disk secrets (c.in_ok-node.ensures.readable disk).ok in
     rw (p.1, p.2, c.in_err-push.ensures.err) (untold_ran g.D.Disk.files g.D.Disk.image g.X.SecretStore.held c.args.devices.now c.begin_step.new.devices c.begin_step.ensures.same.0 c.begin_step.ensures.same.1 stands c.args.script.now c.args.number c.args.life.now c.in_ok-begin_step.ensures.lit c.args.out.now.entries c.open.new.devices c.open.new.out.entries left image its.0 its.2)
 
 pub returns-clause-run : goal.returns-clause-run
 returns-clause-run g c = λ disk secrets stands left image.
-    let its = c.in-Ok.ensures.acts disk secrets (c.in-Ok.ensures.readable disk).ok in
+    let its = c.in_ok-node.ensures.acts disk secrets (c.in_ok-node.ensures.readable disk).ok in
     let today : Lived = lived c.args.script.now c.args.number c.args.life.now seen_today (g.D.Disk.files c.args.devices.now.disk.now) in
     told_ran g.D.Disk.files g.D.Disk.image g.X.SecretStore.held c.args.devices.now c.begin_step.new.devices c.begin_step.ensures.same.0 c.begin_step.ensures.same.1 stands c.args.script.now c.args.number c.args.life.now c.in_ok-begin_step.ensures.lit c.args.out.now.entries c.open.new.devices c.open.new.out.entries (g.D.Disk.files c.open.new.devices.disk.now) (g.met.D.Disk.reads c.open.new.devices.disk.now disk)
     its.0 its.2 c.take_steps.result (world_of g.X.SecretStore.held c.take_steps.new.devices c.take_steps.new.out.entries left) c.push.new.self.entries c.in_ok-push.ensures.ok
     (c.take_steps.ensures.run disk secrets today its.0
-    (record { of = c.in-Ok.ensures.of today refl (reads_today seen_today refl); blocks_are = c.in_ok-source.ensures.blocks ∙ c.requires.here.1; life_is = refl }) its.1 left image)
+    (record { of = c.in_ok-node.ensures.of today refl (reads_today seen_today refl); blocks_are = c.in_ok-source.ensures.blocks ∙ c.requires.here.1; life_is = refl }) its.1 left image)
 
 -- WHAT THE STOP SHOWS
 
-pub returns-in-Err-clause-found : goal.returns-in-Err-clause-found
-returns-in-Err-clause-found g c = λ told known.
-    let read = c.in-Err.ensures.tells in
-    fault_alike c.in-Err.stop c.stop_of.result (IsFound (reader_in c.args.script.now) (g.D.Disk.files c.open.new.devices.disk.now) (g.X.SecretStore.held c.open.new.devices.secrets.now)) (record { so = tt }) c.stop_of.ensures.other
-    (stop_found (lived c.args.script.now c.args.number c.args.life.now (λ h. read.seen) (g.D.Disk.files c.begin_step.new.devices.disk.now)) (record { form = c.requires.form; life_is = c.requires.here.0; reads = record { shareless = λ h. read.shareless; unplanned = λ h. read.unplanned } }) (g.D.Disk.files c.open.new.devices.disk.now) (g.X.SecretStore.held c.open.new.devices.secrets.now) read.seen read.listed.0 (λ h. seen_at (lived c.args.script.now c.args.number c.args.life.now (λ h. read.seen) (g.D.Disk.files c.begin_step.new.devices.disk.now)) h) read.listed.1 c.args.out.now.entries c.open.new.out.entries (limits_of c.args.script.now).most refl g.D.Disk.tells told
-    c.in-Err.stop _ _ _ c.in-Err.ensures.causes read.so
-    (λ its own is key above. given_there c.in-Err.stop its _ own is read.given told known (g.D.Disk.files c.open.new.devices.disk.now) (g.met.D.Disk.reads c.open.new.devices.disk.now told) key above))
+pub returns-in_err-node-clause-found : goal.returns-in_err-node-clause-found
+returns-in_err-node-clause-found g c =
+    let p = err_from_is_err_and c.from_residual-in_err-node.result c.from_residual-in_err-node.ensures.1 in
+    let read = c.in_err-node.ensures.tells in
+    rw (p.1, p.2) (λ told known. stop_found (lived c.args.script.now c.args.number c.args.life.now (λ h. read.seen) (g.D.Disk.files c.begin_step.new.devices.disk.now)) (record { form = c.requires.form; life_is = c.requires.here.0; reads = record { shareless = λ h. read.shareless; unplanned = λ h. read.unplanned } }) (g.D.Disk.files c.open.new.devices.disk.now) (g.X.SecretStore.held c.open.new.devices.secrets.now) read.seen read.listed.0 (λ h. seen_at (lived c.args.script.now c.args.number c.args.life.now (λ h. read.seen) (g.D.Disk.files c.begin_step.new.devices.disk.now)) h) read.listed.1 c.args.out.now.entries c.open.new.out.entries (limits_of c.args.script.now).most refl g.D.Disk.tells told
+    c.in_err-node.field-0.0 _ _ _ c.in_err-node.ensures.causes read.so
+    (λ its own is key above. given_there c.in_err-node.field-0.0 its _ own is read.given told known (g.D.Disk.files c.open.new.devices.disk.now) (g.met.D.Disk.reads c.open.new.devices.disk.now told) key above))
 
 pub returns-clause-found : goal.returns-clause-found
 returns-clause-found g c =
-    let read = c.in-Ok.ensures.tells in
+    let read = c.in_ok-node.ensures.tells in
     steps_found (lived c.args.script.now c.args.number c.args.life.now (λ h. read.seen) (g.D.Disk.files c.begin_step.new.devices.disk.now)) (record { form = c.requires.form; life_is = c.requires.here.0; reads = record { shareless = λ h. read.shareless; unplanned = λ h. read.unplanned } }) (g.D.Disk.files c.take_steps.new.devices.disk.now) (g.X.SecretStore.held c.take_steps.new.devices.secrets.now) c.args.out.now.entries c.open.new.out.entries read.so.0 read.so.2
     (trace c.push.new.self.entries []) (trace c.take_steps.new.out.entries []) c.take_steps.result _ _ _ _ _ c.take_steps.ensures.causes
     (c.take_steps.ensures.lines (lived c.args.script.now c.args.number c.args.life.now (λ h. read.seen) (g.D.Disk.files c.begin_step.new.devices.disk.now)) read.so.0 []
-    (record { of = c.in-Ok.ensures.of (lived c.args.script.now c.args.number c.args.life.now (λ h. read.seen) (g.D.Disk.files c.begin_step.new.devices.disk.now)) refl (record { shareless = λ h. read.shareless; unplanned = λ h. read.unplanned }); blocks_are = c.in_ok-source.ensures.blocks ∙ c.requires.here.1; life_is = refl }) read.so.1)
+    (record { of = c.in_ok-node.ensures.of (lived c.args.script.now c.args.number c.args.life.now (λ h. read.seen) (g.D.Disk.files c.begin_step.new.devices.disk.now)) refl (record { shareless = λ h. read.shareless; unplanned = λ h. read.unplanned }); blocks_are = c.in_ok-source.ensures.blocks ∙ c.requires.here.1; life_is = refl }) read.so.1)
 
 -- WHAT PASSES
 
-pub returns-in-Err-clause-passing : goal.returns-in-Err-clause-passing
-returns-in-Err-clause-passing g c = λ disk secrets. above_passing (reader_in c.args.script.now) (g.D.Disk.image c.args.devices.now.disk.now) (g.D.Disk.image c.open.new.devices.disk.now)
+pub returns-in_err-node-clause-passing : goal.returns-in_err-node-clause-passing
+returns-in_err-node-clause-passing g c = λ disk secrets. above_passing (reader_in c.args.script.now) (g.D.Disk.image c.args.devices.now.disk.now) (g.D.Disk.image c.open.new.devices.disk.now)
     (g.X.SecretStore.held c.args.devices.now.secrets.now) (g.X.SecretStore.held c.open.new.devices.secrets.now) (above_begun g.D.Disk.files g.D.Disk.image g.X.SecretStore.held c.args.devices.now c.begin_step.new.devices c.begin_step.ensures.same.0 c.begin_step.ensures.same.1 (g.D.Disk.image c.open.new.devices.disk.now) (g.X.SecretStore.held c.open.new.devices.secrets.now) (c.open.ensures.loose disk))
 
 pub returns-in_err-push-clause-passing : goal.returns-in_err-push-clause-passing
 returns-in_err-push-clause-passing g c = λ disk secrets are.
-    let read = c.in-Ok.ensures.tells in
+    let read = c.in_ok-node.ensures.tells in
     passes_all (reader_in c.args.script.now) (g.D.Disk.image c.open.new.devices.disk.now) (g.X.SecretStore.held c.open.new.devices.secrets.now) (λ left image.
     (opened_passing c.args.script.now c.args.number c.args.life.now (g.D.Disk.files c.begin_step.new.devices.disk.now) c.requires.form c.requires.here.0 read.seen read.shareless read.unplanned read.so.0 (read.so.1).life.store.dealings (ap (λ (x : Live directory.Unit). x.records.dealings) (read.so.1).is)
     c.args.out.now.entries c.open.new.out.entries read.so.2 (g.D.Disk.image c.args.devices.now.disk.now) (g.D.Disk.image c.open.new.devices.disk.now) (g.X.SecretStore.held c.args.devices.now.secrets.now) (g.X.SecretStore.held c.open.new.devices.secrets.now)
@@ -175,7 +187,7 @@ returns-in_err-push-clause-passing g c = λ disk secrets are.
 
 pub returns-clause-passing : goal.returns-clause-passing
 returns-clause-passing g c = λ disk secrets are.
-    let read = c.in-Ok.ensures.tells in
+    let read = c.in_ok-node.ensures.tells in
     let today : Lived = lived c.args.script.now c.args.number c.args.life.now seen_today (g.D.Disk.files c.begin_step.new.devices.disk.now) in
     steps_passing today (here_today c.args.script.now c.args.number c.args.life.now (g.D.Disk.files c.begin_step.new.devices.disk.now) c.requires.form c.requires.here.0) read.so.0 (moment c.push.new.self.entries (g.X.SecretStore.held c.open.new.devices.secrets.now) c.open.new.devices.fuse)
     (moment c.take_steps.new.out.entries (g.X.SecretStore.held c.take_steps.new.devices.secrets.now) c.take_steps.new.devices.fuse) (g.D.Disk.files c.open.new.devices.disk.now) (g.D.Disk.image c.take_steps.new.devices.disk.now) c.take_steps.result
@@ -183,4 +195,4 @@ returns-clause-passing g c = λ disk secrets are.
     c.args.out.now.entries c.open.new.out.entries read.so.2 (g.D.Disk.image c.args.devices.now.disk.now) (g.D.Disk.image c.open.new.devices.disk.now) (g.X.SecretStore.held c.args.devices.now.secrets.now) (g.X.SecretStore.held c.open.new.devices.secrets.now)
     (above_begun g.D.Disk.files g.D.Disk.image g.X.SecretStore.held c.args.devices.now c.begin_step.new.devices c.begin_step.ensures.same.0 c.begin_step.ensures.same.1 (g.D.Disk.image c.open.new.devices.disk.now) (g.X.SecretStore.held c.open.new.devices.secrets.now) (c.open.ensures.loose disk)) (read.given disk secrets) are (g.D.Disk.files c.open.new.devices.disk.now) (g.met.D.Disk.reads c.open.new.devices.disk.now disk))
     (λ left image. c.take_steps.ensures.run disk secrets today read.so.0
-    (record { of = c.in-Ok.ensures.of today refl (reads_today seen_today refl); blocks_are = c.in_ok-source.ensures.blocks ∙ c.requires.here.1; life_is = refl }) read.so.1 left image)
+    (record { of = c.in_ok-node.ensures.of today refl (reads_today seen_today refl); blocks_are = c.in_ok-source.ensures.blocks ∙ c.requires.here.1; life_is = refl }) read.so.1 left image)

@@ -13,7 +13,7 @@ use Rattle.dkg_run.specs.Moving.{world_of}
 use Rattle.dkg_run.specs.Nodes.{IsStepHere, IsView}
 use Rattle.dkg_run.specs.Ways.{Trace, by_lines, by_worlds, trace}
 use Rattle.dkg_run.proofs.Going.{went_none, went_then}
-use Rattle.dkg_run.proofs.Living.{holds_at, item_here, step_here}
+use Rattle.dkg_run.proofs.Living.{holds_at, step_here}
 use Rattle.dkg_run.proofs.Stepping.{takes_end, takes_first, takes_next, takes_stop}
 use Rattle.dkg_run.proofs.Turns.{blocks_same, event_of, fit_on, node_lands, not_done, steps_of, stops_with}
 use Rattle.dkg_run.proofs.lives.take_steps.Goals as goal
@@ -33,32 +33,32 @@ loop-i-init g c = record {
 
 pub take_step-requires-clause-here : goal.take_step-requires-clause-here
 take_step-requires-clause-here g c =
-    let at_event : slice_get c.args.life.now.events c.loop-i.i ≡ Some c.event-item.result = rw (← c.as_slice-event-items.ensures) (item_here _ _ _ c.loop-i-test.true c.event-item.is) in
-    event_of c.args.node.now c.loop-i.node c.args.source.now c.loop-i.source c.event-item.result c.loop-i.invariant.terms c.loop-i.invariant.blocks (holds_at _ c.args.life.now.events c.loop-i.i c.event-item.result c.requires.here at_event)
+    let at_event : slice_get c.args.life.now.events c.loop-i.i ≡ Some c.at.result = c.at.ensures in
+    event_of c.args.node.now c.loop-i.node c.args.source.now c.loop-i.source c.at.result c.loop-i.invariant.terms c.loop-i.invariant.blocks (holds_at _ c.args.life.now.events c.loop-i.i c.at.result c.requires.here at_event)
 
 pub returns-in_err-take_step-clause-lines : goal.returns-in_err-take_step-clause-lines
 returns-in_err-take_step-clause-lines g c = λ lived st picks here view.
     let p = err_from_is_err_and c.from_residual.result c.from_residual.ensures.1 in
-    let at_event : slice_get c.args.life.now.events c.loop-i.i ≡ Some c.event-item.result = rw (← c.as_slice-event-items.ensures) (item_here _ _ _ c.loop-i-test.true c.event-item.is) in
+    let at_event : slice_get c.args.life.now.events c.loop-i.i ≡ Some c.at.result = c.at.ensures in
     let taken = c.loop-i.invariant.lines lived st picks here view in
-    let its : Steps by_lines (entry.Step (c.loop-i.i + 1)) (fuse_for c.args.life.now.cut (c.loop-i.i + 1)) (step_of lived (c.loop-i.i + 1) c.event-item.result taken.now) (trace c.loop-i.out.entries picks)
+    let its : Steps by_lines (entry.Step (c.loop-i.i + 1)) (fuse_for c.args.life.now.cut (c.loop-i.i + 1)) (step_of lived (c.loop-i.i + 1) c.at.result taken.now) (trace c.loop-i.out.entries picks)
     (Err c.in_err-take_step.field-0.0) (trace c.take_step.new.out.entries picks) (λ end t. (◌≡◌ {A = Result (Unit {0}) Stop} (Err c.in_err-take_step.field-0.0) (Ok tt)) × IsView c.take_step.new.node end × (t ≡ trace c.take_step.new.out.entries picks)) =
     c.in_err-take_step.ensures.lines lived taken.now picks (step_here lived c.args.node.now c.loop-i.node c.args.source.now.blocks.now c.loop-i.source.blocks.now c.args.life.now c.loop-i.invariant.terms (blocks_same c.args.source.now c.loop-i.source c.loop-i.invariant.blocks) here) taken.so in
-    rw (p.1, p.2) (takes_stop by_lines lived c.args.life.now.events st (trace c.args.out.now.entries picks) c.loop-i.i c.event-item.result at_event taken.now (trace c.loop-i.out.entries picks) taken.on c.in_err-take_step.field-0.0 (trace c.take_step.new.out.entries picks) (λ end t. Unit {0})
-    (stops_with by_lines _ _ _ _ _ _ _ _ (λ end t so. not_done so.0) (steps_of by_lines lived c.args.life.now here.life_is (entry.Step (c.loop-i.i + 1)) (c.loop-i.i + 1) (step_of lived (c.loop-i.i + 1) c.event-item.result taken.now) (trace c.loop-i.out.entries picks) (Err c.in_err-take_step.field-0.0) (trace c.take_step.new.out.entries picks)
+    rw (p.1, p.2) (takes_stop by_lines lived c.args.life.now.events st (trace c.args.out.now.entries picks) c.loop-i.i c.at.result at_event taken.now (trace c.loop-i.out.entries picks) taken.on c.in_err-take_step.field-0.0 (trace c.take_step.new.out.entries picks) (λ end t. Unit {0})
+    (stops_with by_lines _ _ _ _ _ _ _ _ (λ end t so. not_done so.0) (steps_of by_lines lived c.args.life.now here.life_is (entry.Step (c.loop-i.i + 1)) (c.loop-i.i + 1) (step_of lived (c.loop-i.i + 1) c.at.result taken.now) (trace c.loop-i.out.entries picks) (Err c.in_err-take_step.field-0.0) (trace c.take_step.new.out.entries picks)
     (λ end t. (◌≡◌ {A = Result (Unit {0}) Stop} (Err c.in_err-take_step.field-0.0) (Ok tt)) × IsView c.take_step.new.node end × (t ≡ trace c.take_step.new.out.entries picks)) its)))
 
 pub returns-in_err-take_step-clause-run : goal.returns-in_err-take_step-clause-run
 returns-in_err-take_step-clause-run g c = λ disk secrets lived st here view left image.
     let p = err_from_is_err_and c.from_residual.result c.from_residual.ensures.1 in
-    let at_event : slice_get c.args.life.now.events c.loop-i.i ≡ Some c.event-item.result = rw (← c.as_slice-event-items.ensures) (item_here _ _ _ c.loop-i-test.true c.event-item.is) in
+    let at_event : slice_get c.args.life.now.events c.loop-i.i ≡ Some c.at.result = c.at.ensures in
     let taken = c.loop-i.invariant.run disk secrets lived st here view in
-    let its : Steps by_worlds (entry.Step (c.loop-i.i + 1)) (fuse_for c.args.life.now.cut (c.loop-i.i + 1)) (step_of lived (c.loop-i.i + 1) c.event-item.result taken.now) (world_of g.X.SecretStore.held c.loop-i.devices c.loop-i.out.entries (g.D.Disk.files c.loop-i.devices.disk.now))
+    let its : Steps by_worlds (entry.Step (c.loop-i.i + 1)) (fuse_for c.args.life.now.cut (c.loop-i.i + 1)) (step_of lived (c.loop-i.i + 1) c.at.result taken.now) (world_of g.X.SecretStore.held c.loop-i.devices c.loop-i.out.entries (g.D.Disk.files c.loop-i.devices.disk.now))
     (Err c.in_err-take_step.field-0.0) (world_of g.X.SecretStore.held c.take_step.new.devices c.take_step.new.out.entries left) (λ end w. (◌≡◌ {A = Result (Unit {0}) Stop} (Err c.in_err-take_step.field-0.0) (Ok tt)) × IsView c.take_step.new.node end × (w ≡ world_of g.X.SecretStore.held c.take_step.new.devices c.take_step.new.out.entries left)) =
     c.in_err-take_step.ensures.run disk secrets lived taken.now (step_here lived c.args.node.now c.loop-i.node c.args.source.now.blocks.now c.loop-i.source.blocks.now c.args.life.now c.loop-i.invariant.terms (blocks_same c.args.source.now c.loop-i.source c.loop-i.invariant.blocks) here) taken.so left image in
-    rw (p.1, p.2) (takes_stop by_worlds lived c.args.life.now.events st (world_of g.X.SecretStore.held c.args.devices.now c.args.out.now.entries (g.D.Disk.files c.args.devices.now.disk.now)) c.loop-i.i c.event-item.result at_event taken.now (world_of g.X.SecretStore.held c.loop-i.devices c.loop-i.out.entries (g.D.Disk.files c.loop-i.devices.disk.now)) taken.on c.in_err-take_step.field-0.0 (world_of g.X.SecretStore.held c.take_step.new.devices c.take_step.new.out.entries left)
+    rw (p.1, p.2) (takes_stop by_worlds lived c.args.life.now.events st (world_of g.X.SecretStore.held c.args.devices.now c.args.out.now.entries (g.D.Disk.files c.args.devices.now.disk.now)) c.loop-i.i c.at.result at_event taken.now (world_of g.X.SecretStore.held c.loop-i.devices c.loop-i.out.entries (g.D.Disk.files c.loop-i.devices.disk.now)) taken.on c.in_err-take_step.field-0.0 (world_of g.X.SecretStore.held c.take_step.new.devices c.take_step.new.out.entries left)
     (λ end w. Unit {0})
-    (stops_with by_worlds _ _ _ _ _ _ _ _ (λ end w so. not_done so.0) (steps_of by_worlds lived c.args.life.now here.life_is (entry.Step (c.loop-i.i + 1)) (c.loop-i.i + 1) (step_of lived (c.loop-i.i + 1) c.event-item.result taken.now) (world_of g.X.SecretStore.held c.loop-i.devices c.loop-i.out.entries (g.D.Disk.files c.loop-i.devices.disk.now)) (Err c.in_err-take_step.field-0.0) (world_of g.X.SecretStore.held c.take_step.new.devices c.take_step.new.out.entries left)
+    (stops_with by_worlds _ _ _ _ _ _ _ _ (λ end w so. not_done so.0) (steps_of by_worlds lived c.args.life.now here.life_is (entry.Step (c.loop-i.i + 1)) (c.loop-i.i + 1) (step_of lived (c.loop-i.i + 1) c.at.result taken.now) (world_of g.X.SecretStore.held c.loop-i.devices c.loop-i.out.entries (g.D.Disk.files c.loop-i.devices.disk.now)) (Err c.in_err-take_step.field-0.0) (world_of g.X.SecretStore.held c.take_step.new.devices c.take_step.new.out.entries left)
     (λ end w. (◌≡◌ {A = Result (Unit {0}) Stop} (Err c.in_err-take_step.field-0.0) (Ok tt)) × IsView c.take_step.new.node end × (w ≡ world_of g.X.SecretStore.held c.take_step.new.devices c.take_step.new.out.entries left)) its)))
 
 pub returns-in_err-take_step-clause-went : goal.returns-in_err-take_step-clause-went
@@ -66,7 +66,7 @@ returns-in_err-take_step-clause-went g c = went_then g.D.Disk.tells g.D.Disk.mad
 
 pub loop-i-preserved : goal.loop-i-preserved
 loop-i-preserved g c =
-    let at_event : slice_get c.args.life.now.events c.loop-i.i ≡ Some c.event-item.result = rw (← c.as_slice-event-items.ensures) (item_here _ _ _ c.loop-i-test.true c.event-item.is) in
+    let at_event : slice_get c.args.life.now.events c.loop-i.i ≡ Some c.at.result = c.at.ensures in
     record {
       ready = c.in_ok-take_step.ensures.ready;
       terms = c.take_step.ensures.terms ∙ c.loop-i.invariant.terms;
@@ -76,12 +76,12 @@ loop-i-preserved g c =
       lines = λ lived st picks here view.
           let taken = c.loop-i.invariant.lines lived st picks here view in
           let its = c.in_ok-take_step.ensures.lines lived taken.now picks (step_here lived c.args.node.now c.loop-i.node c.args.source.now.blocks.now c.loop-i.source.blocks.now c.args.life.now c.loop-i.invariant.terms (blocks_same c.args.source.now c.loop-i.source c.loop-i.invariant.blocks) here) taken.so in
-          takes_next by_lines lived c.args.life.now.events st (trace c.args.out.now.entries picks) c.loop-i.i c.event-item.result at_event taken.now (trace c.loop-i.out.entries picks) taken.on (trace c.take_step.new.out.entries picks) (IsView c.take_step.new.node)
+          takes_next by_lines lived c.args.life.now.events st (trace c.args.out.now.entries picks) c.loop-i.i c.at.result at_event taken.now (trace c.loop-i.out.entries picks) taken.on (trace c.take_step.new.out.entries picks) (IsView c.take_step.new.node)
           (steps_of by_lines lived c.args.life.now here.life_is _ _ _ _ _ _ _ its);
       run = λ disk secrets lived st here view.
           let taken = c.loop-i.invariant.run disk secrets lived st here view in
           let its = c.in_ok-take_step.ensures.run disk secrets lived taken.now (step_here lived c.args.node.now c.loop-i.node c.args.source.now.blocks.now c.loop-i.source.blocks.now c.args.life.now c.loop-i.invariant.terms (blocks_same c.args.source.now c.loop-i.source c.loop-i.invariant.blocks) here) taken.so (g.D.Disk.files c.take_step.new.devices.disk.now) (g.met.D.Disk.reads c.take_step.new.devices.disk.now disk) in
-          takes_next by_worlds lived c.args.life.now.events st (world_of g.X.SecretStore.held c.args.devices.now c.args.out.now.entries (g.D.Disk.files c.args.devices.now.disk.now)) c.loop-i.i c.event-item.result at_event taken.now (world_of g.X.SecretStore.held c.loop-i.devices c.loop-i.out.entries (g.D.Disk.files c.loop-i.devices.disk.now)) taken.on
+          takes_next by_worlds lived c.args.life.now.events st (world_of g.X.SecretStore.held c.args.devices.now c.args.out.now.entries (g.D.Disk.files c.args.devices.now.disk.now)) c.loop-i.i c.at.result at_event taken.now (world_of g.X.SecretStore.held c.loop-i.devices c.loop-i.out.entries (g.D.Disk.files c.loop-i.devices.disk.now)) taken.on
           (world_of g.X.SecretStore.held c.take_step.new.devices c.take_step.new.out.entries (g.D.Disk.files c.take_step.new.devices.disk.now)) (IsView c.take_step.new.node)
           (steps_of by_worlds lived c.args.life.now here.life_is _ _ _ _ _ _ _ its);
     }
@@ -90,13 +90,13 @@ loop-i-preserved g c =
 
 pub returns-clause-lines : goal.returns-clause-lines
 returns-clause-lines g c = λ lived st picks here view.
-    let all : length c.args.life.now.events ≤ c.loop-i.i = rw (← c.as_slice-event-items.ensures) (omega (arith, c.loop-i-test.false)) in
+    let all : length c.args.life.now.events ≤ c.loop-i.i = omega (arith, c.len-i-end.ensures, c.loop-i-test.false) in
     let taken = c.loop-i.invariant.lines lived st picks here view in
     takes_end by_lines lived c.args.life.now.events st (trace c.args.out.now.entries picks) c.loop-i.i taken.now (trace c.loop-i.out.entries picks) all taken.on
 
 pub returns-clause-run : goal.returns-clause-run
 returns-clause-run g c = λ disk secrets lived st here view left image.
-    let all : length c.args.life.now.events ≤ c.loop-i.i = rw (← c.as_slice-event-items.ensures) (omega (arith, c.loop-i-test.false)) in
+    let all : length c.args.life.now.events ≤ c.loop-i.i = omega (arith, c.len-i-end.ensures, c.loop-i-test.false) in
     let taken = c.loop-i.invariant.run disk secrets lived st here view in
     let same : left ≡ g.D.Disk.files c.loop-i.devices.disk.now = (node_lands g.D.Disk.tells g.D.Disk.files g.D.Disk.image c.loop-i.node c.loop-i.devices c.loop-i.invariant.ready disk).only left image in
     subst (λ (f : Files). TakesAll by_worlds lived 1 c.args.life.now.events st (world_of g.X.SecretStore.held c.args.devices.now c.args.out.now.entries (g.D.Disk.files c.args.devices.now.disk.now)) (Ok tt) (world_of g.X.SecretStore.held c.loop-i.devices c.loop-i.out.entries f)) (sym same)

@@ -6,10 +6,10 @@ use Rattle.dkg_run.proofs.Noding.{block_made, block_said}
 use Rattle.dkg_run.proofs.node.Node.step.Goals as goal
 
 pub returns-in-Peer-clause-acts : goal.returns-in-Peer-clause-acts
-returns-in-Peer-clause-acts g c = λ disk secrets lived number st of here view. rw c.in-Peer.is (c.hear.ensures.acts disk secrets lived number st of view)
+returns-in-Peer-clause-acts g c = λ disk secrets lived number st of here view. rw (c.in-Peer.is, sym c.as_slice.ensures) (c.hear.ensures.acts disk secrets lived number st of view)
 
 pub returns-in-Peer-clause-tells : goal.returns-in-Peer-clause-tells
-returns-in-Peer-clause-tells g c = λ lived number st of here view. rw c.in-Peer.is (c.hear.ensures.tells lived number st of view)
+returns-in-Peer-clause-tells g c = λ lived number st of here view. rw (c.in-Peer.is, sym c.as_slice.ensures) (c.hear.ensures.tells lived number st of view)
 
 pub returns-in-Some-clause-acts : goal.returns-in-Some-clause-acts
 returns-in-Some-clause-acts g c = λ disk secrets lived number st of here view.
