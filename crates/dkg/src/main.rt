@@ -38,7 +38,7 @@ fn main(rt: HostRuntime) -> ExitCode {
         tell(&rt, &Status::NoMemory, None, &[]);
         return ExitCode::from(Status::NoMemory.number());
     };
-    let mut source = KeptSource::new(alloc, StdSource::new(rt.reader()));
+    let mut source = KeptSource::new(StdSource::new(rt.reader()));
     let mut sink = StdSink::new(io::writer(&rt));
     let (mut disk, mut secrets) = fresh_devices(alloc);
     let mut out = Transcript::new(alloc);
@@ -51,6 +51,8 @@ fn main(rt: HostRuntime) -> ExitCode {
         &mut secrets,
         &mut out,
     );
-    tell(&rt, &status, source.kept(), out.entries());
+    // Of a command that read no script there is nothing to warn of.
+    let text = source.kept().unwrap_or(&[]);
+    tell(&rt, &status, Some(text), out.entries());
     ExitCode::from(status.number())
 }

@@ -1,14 +1,19 @@
 -- A player that has acknowledged nothing, and what a recording leaves.
-use Rattle.std.proofs.Common.{◌≡◌, ℕ, List, Option, Some, None, Contains, IfSome, IsSome, is_some, if◌then◌else◌, refl, ap, subst, sym, ◌∙◌}
+use Rattle.std.proofs.Common.{◌≡◌, inr, ℕ, List, Option, Some, None, Result, Err, IsErr, Contains, IfSome, IsSome, is_some, if◌then◌else◌, refl, ap, subst, sym, ◌∙◌}
+use Rattle.dkg_ceremony.specs.declared.ceremony.DealingError.{DealingError}
+use Rattle.dkg_journal.specs.Journals.{IsOpen}
+use Rattle.dkg_journal.specs.Names.{Files}
+use Rattle.dkg_journal.specs.declared.journal.Journal.{Journal}
+use Rattle.dkg_example.specs.declared.Answer.TheVariants.{Block}
 use Rattle.std.specs.FinMap.{FinMap, get, insert, empty, get-empty}
 use Rattle.std.specs.Ordering.{nat_cmp}
 use Rattle.dkg_ceremony.specs.declared.round.Round.{Round}
 use Rattle.dkg_store.specs.Pairs.{Pairs}
-use Rattle.dkg_store.specs.Player.{IsPlayerOf}
+use Rattle.dkg_store.specs.Player.{Acknowledges, IsPlayerOf}
 use Rattle.dkg_store.specs.declared.player.Player.{Player}
 use Rattle.dkg_store.proofs.Pairs.{get_other}
 use Rattle.dkg_store.proofs.Playing.{not_none}
-use Rattle.dkg_example.specs.Sent.{IsPlaying, Stays}
+use Rattle.dkg_example.specs.Sent.{IsFair, IsPlaying, Stays}
 use Rattle.dkg_example.specs.declared.Node.{Node}
 
 none_kept : (acks : FinMap nat_cmp (List ℕ)) (dealer : ℕ) → acks ≡ empty → get acks dealer ≡ None
@@ -43,3 +48,29 @@ kept_at (Some p) pairs key pair epoch dealer some there = refl
 pub recorded_stays : (pairs later : Pairs) (key : ℕ × ℕ) (pair : List ℕ × ℕ) → later ≡ (if is_some (get pairs key) then pairs else insert pairs key pair) → Stays pairs later
 recorded_stays pairs later key pair is = λ epoch dealer there.
     ap (λ (m : Pairs). get m (epoch, dealer)) is ∙ kept_at (get pairs key) pairs key pair epoch dealer refl there
+
+pub stays_same : (pairs later : Pairs) → later ≡ pairs → Stays pairs later
+stays_same pairs later is = λ epoch dealer there. ap (λ (m : Pairs). get m (epoch, dealer)) is
+
+-- the node still plays, behind a message
+pub plays_on : (ack_of : ℕ → Round → ℕ → List ℕ → List ℕ) (old new : Node) → new.player.me ≡ old.player.me → new.player.round ≡ old.player.round → IsPlaying ack_of old
+    → IsPlayerOf ack_of new.player.me new.player.round new.player.acks new.store.dealings new.epoch → IsPlaying ack_of new
+plays_on ack_of old new mine its playing answers = record {
+  seated = subst (λ (n : ℕ). Contains new.player.round.players n) (sym mine) (subst (λ (r : Round). Contains r.players old.player.me) (sym its) playing.seated);
+  answers = answers;
+}
+
+-- An acknowledgement of the node that it was is one of the node that it is.
+pub sent_by : (ack_of : ℕ → Round → ℕ → List ℕ → List ℕ) (me its : ℕ) (round other : Round) (pairs : Pairs) (epoch dealer : ℕ) (ack : List ℕ) → its ≡ me → other ≡ round → Acknowledges ack_of me round pairs epoch dealer ack
+    → Acknowledges ack_of its other pairs epoch dealer ack
+sent_by ack_of me its round other pairs epoch dealer ack mine same is =
+    subst (λ (n : ℕ). Acknowledges ack_of n other pairs epoch dealer ack) (sym mine) (subst (λ (r : Round). Acknowledges ack_of me r pairs epoch dealer ack) (sym same) is)
+
+-- a refusal is fair
+pub refused_fair : (check : Result (Unit {0}) DealingError) (public : List ℕ) (pairs : Pairs) (epoch dealer : ℕ) (e : DealingError) → check ≡ Err e → get pairs (epoch, dealer) ≡ None → IsFair check public pairs epoch dealer Block
+refused_fair check public pairs epoch dealer e refused none = inr (subst (λ (c : Result (Unit {0}) DealingError). IsErr c) (sym refused) refl, none)
+
+-- a journal that is as it was, on a disk that is
+pub open_still : {D : Type 0} (files : D → Files) (image : D → Files → Type 0) (was now : Journal) (a b : D) → now ≡ was → b ≡ a → IsOpen was (files a) (image a) → IsOpen now (files b) (image b)
+open_still {D} files image was now a b same_journal same_disk is =
+    subst (λ (j : Journal). IsOpen j (files b) (image b)) (sym same_journal) (subst (λ (d : D). IsOpen was (files d) (image d)) (sym same_disk) is)

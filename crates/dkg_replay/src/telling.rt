@@ -20,7 +20,7 @@ struct Telling {
 /// Runs a script as the program does.
 fn run_script(alloc: Global, script: &[u8]) -> io::Result<Telling> {
     let source = MemorySource::new(alloc, Vec::from_slice(alloc, script)?);
-    let mut source = KeptSource::new(alloc, source);
+    let mut source = KeptSource::new(source);
     let mut sink = MemorySink::new(alloc);
     let mut out = Transcript::new(alloc);
     let (mut disk, mut secrets) = fresh_devices(alloc);

@@ -8,14 +8,14 @@ use Rattle.dkg_words.specs.Bad.{bad_text}
 use Rattle.dkg_words.specs.Fault.{IsFaultLine}
 use Rattle.dkg_words.specs.Help.{help_text}
 use Rattle.dkg_words.specs.Own.{own_text}
-use Rattle.dkg_words.specs.Twice.{IsTwiceWarning}
+use Rattle.dkg_words.specs.Chain.{IsChainWarning}
 use Rattle.dkg_words.specs.Unbuilt.{IsUnbuiltLine}
 
--- the warning of a message of the node's own key, and that of two blocks of one height, each where there is one
+-- the warning of a message of the node's own key, and that of blocks that make no chain, each where there is one
 pub record Warns (text words : List ℕ) : Type 0 where
-  pub twice : List ℕ
-  pub is_twice : IsTwiceWarning text twice
-  pub parts : words ≡ own_text text ++ twice
+  pub chain : List ℕ
+  pub is_chain : IsChainWarning text chain
+  pub parts : words ≡ own_text text ++ chain
 
 -- the line of a device's failure, which is the last entry
 abbrev pub LastTold : (text : List ℕ) → List Entry → (last : Option Entry) → (words : List ℕ) → Type 0

@@ -1,44 +1,31 @@
-//! A source that keeps what is read of it, so that a person can be told which line it was.
-ghost use Rattle.std.specs.Prelude.{◌≡◌, ◌<◌, ◌++◌, IsTrue};
+//! A source that keeps what it is given back, so that a person can be told which line of it it was.
+ghost use Rattle.std.specs.Prelude.{◌≡◌, None, Some, option_map};
+ghost use Rattle.std.specs.Option.{option_copied};
 
 use dkg_run::{Failed, Source};
-use std::alloc::Global;
 
-/// A source, and what was read of it.
+/// A source, and the bytes that it was given back.
 #[derive(Drop)]
 pub struct KeptSource<S> {
     source: S,
-    kept: Vec<u8>,
-    /// Whether there was memory for all of it.
-    is_whole: bool,
+    kept: Option<Vec<u8>>,
 }
 
 impl<S: Source> KeptSource<S> {
-    pub fn new(alloc: Global, source: S) -> KeptSource<S> {
-        KeptSource {
-            source,
-            kept: Vec::new(alloc),
-            is_whole: true,
-        }
-    }
-
-    /// What was read, if there was memory for all of it.
-    pub fn kept(&self) -> Option<&[u8]> {
-        if self.is_whole {
-            Some(&self.kept)
-        } else {
-            None
-        }
-    }
-
-    fn keep(&mut self, piece: &[u8])
-        ensures source { self.new.source ≡ self.old.source }
-        ensures kept { IsTrue self.new.is_whole → self.new.kept.items ≡ self.old.kept.items ++ piece.now }
-        ensures whole { IsTrue self.new.is_whole → IsTrue self.old.is_whole }
+    pub fn new(source: S) -> KeptSource<S>
+        ensures source { result.source ≡ source }
+        ensures kept { result.kept ≡ None }
     {
-        if self.is_whole && self.kept.extend_from_slice(piece).is_err() {
-            self.is_whole = false;
-            self.kept.clear();
+        KeptSource { source, kept: None }
+    }
+
+    /// What was given back, if anything was.
+    pub fn kept(&self) -> Option<&[u8]>
+        ensures { option_copied result ≡ option_map (λ text. text.items) self.now.kept }
+    {
+        match &self.kept {
+            Some(text) => Some(text.as_slice()),
+            None => None,
         }
     }
 }
@@ -50,9 +37,14 @@ impl<S: Source> Source for KeptSource<S> {
 
     ghost faults = { λ s. S.faults s.source };
 
+    /// It keeps them as they are.
+    ghost has_back = { λ s bytes. option_map (λ text. text.items) s.kept ≡ Some bytes };
+
     fn read(&mut self, into: &mut [u8]) -> Result<usize, Failed> {
-        let count = self.source.read(into)?;
-        self.keep(&into[..count]);
-        Ok(count)
+        self.source.read(into)
+    }
+
+    fn give_back(&mut self, text: Vec<u8>) {
+        self.kept = Some(text);
     }
 }

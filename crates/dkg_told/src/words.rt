@@ -7,7 +7,7 @@ ghost use Rattle.dkg_told.specs.Tells.{DeviceTold, Tells, TellsOf, Warns, is_of_
 use dkg_run::Status;
 use dkg_types::Entry;
 use dkg_values::{Mem, NoMemory};
-use dkg_words::{bad_line, fault_line, help, own_warning, sentence, twice_warning, unbuilt_line};
+use dkg_words::{bad_line, chain_warning, fault_line, help, own_warning, sentence, unbuilt_line};
 use std::alloc::Global;
 
 /// The warnings of a script that was run to its end.
@@ -15,7 +15,7 @@ fn warnings(alloc: Global, text: &[u8]) -> Mem<Vec<u8>>
     ensures { IfOk result (λ words. Warns text.now words.items) }
 {
     let mut out = own_warning(alloc, text)?;
-    let more = twice_warning(alloc, text)?;
+    let more = chain_warning(alloc, text)?;
     out.extend_from_slice(&more)?;
     Ok(out)
 }

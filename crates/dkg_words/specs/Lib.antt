@@ -1,5 +1,6 @@
 pub mod Bad
 pub mod Before
+pub mod Chain
 pub mod Fault
 pub mod Forms
 pub mod Help
@@ -11,5 +12,4 @@ pub mod Seek
 pub mod Shown
 pub mod Stages
 pub mod Told
-pub mod Twice
 pub mod Unbuilt

@@ -5,6 +5,7 @@
 
 mod bad;
 mod before;
+mod chain;
 mod fault;
 mod forms;
 mod lines;
@@ -14,14 +15,13 @@ mod own;
 mod put;
 mod seek;
 mod stages;
-mod twice;
 mod unbuilt;
 mod usage;
 
 pub use bad::bad_line;
+pub use chain::chain_warning;
 pub use fault::fault_line;
 pub use own::own_warning;
 pub use put::sentence;
-pub use twice::twice_warning;
 pub use unbuilt::unbuilt_line;
 pub use usage::help;
