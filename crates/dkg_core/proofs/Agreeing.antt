@@ -45,19 +45,19 @@ use Rattle.dkg_store.specs.Acts.{Held, OnDisk, Changes, World, says, does, after
 use Rattle.dkg_store.specs.Events.{event_spelling, IsEvent}
 use Rattle.dkg_store.specs.declared.event.Event.{Event}
 use Rattle.dkg_store.specs.declared.event.Event.TheVariants as events
-use Rattle.dkg_store.specs.declared.secrets.SecretOp.TheVariants.{PutShare, PutSeed, PutDealing, Prune}
-use Rattle.dkg_store.specs.Keys.{key_cmp}
+use Rattle.dkg_secrets.specs.declared.secrets.SecretOp.TheVariants.{PutShare, PutSeed, PutDealing, Prune}
+use Rattle.dkg_secrets.specs.Keys.{key_cmp}
 use Rattle.dkg_store.specs.Noted.{Notes, noted_ack, noted_log, acks_in, logs_in}
 use Rattle.dkg_store.specs.Pairs.{Dealing, IsWhole, HasHalf, recovered, dealing_of, dealing_in}
-use Rattle.dkg_store.specs.Secrets.{Secrets}
-use Rattle.dkg_store.specs.Secrets as of_secrets
+use Rattle.dkg_secrets.specs.Secrets.{Secrets}
+use Rattle.dkg_secrets.specs.Secrets as of_secrets
 use Rattle.dkg_store.proofs.Halves.{recovered_at, prune_halves}
-use Rattle.dkg_store.proofs.Map.{keys_total, exact_keys}
+use Rattle.dkg_secrets.proofs.Map.{keys_total, exact_keys}
 use Rattle.dkg_store.proofs.Noted.{says_ack, says_log, noted_placed, noted_silent}
 use Rattle.dkg_store.proofs.Pairs.{record_one}
 use Rattle.dkg_store.proofs.Pruned.{recovered_from, acks_from, logs_from}
 use Rattle.dkg_store.proofs.Silent.{says_dealing}
-use Rattle.dkg_store.proofs.Tried.{all_done}
+use Rattle.dkg_secrets.proofs.Tried.{all_done}
 use Rattle.dkg_core.specs.Sources.{Tip, startup}
 use Rattle.dkg_core.specs.Courses.{Course, Say, Do, Call, Ask, Goes, Stops, Tracks, bind, Finishes}
 use Rattle.dkg_core.specs.Fixed.{Fixed, Material, OneShot, has, start}

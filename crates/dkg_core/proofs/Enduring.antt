@@ -30,7 +30,7 @@ use Rattle.dkg_types.specs.PayloadCodes.{its_log}
 use Rattle.dkg_store.specs.Acts.{World, says}
 use Rattle.dkg_store.specs.Events.{IsEvent}
 use Rattle.dkg_store.specs.declared.event.Event.TheVariants as events
-use Rattle.dkg_store.specs.Keys.{key_cmp}
+use Rattle.dkg_secrets.specs.Keys.{key_cmp}
 use Rattle.dkg_core.specs.Sources.{Tip}
 use Rattle.dkg_core.specs.Courses.{Course, Say, Goes, Stops, bind, Throughout}
 use Rattle.dkg_core.specs.Fixed.{Fixed, OneShot, has}

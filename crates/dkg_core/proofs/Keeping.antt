@@ -21,12 +21,12 @@ use Rattle.dkg_store.specs.Acts.{Held, Operation, OnDisk, Changes, Cause, World,
 use Rattle.dkg_core.specs.Courses.{Course, Goes, Throughout, Finishes}
 use Rattle.dkg_store.specs.Events.{event_spelling, IsEvent}
 use Rattle.dkg_store.specs.declared.event.Event.TheVariants as events
-use Rattle.dkg_store.specs.Keys.{key_cmp}
+use Rattle.dkg_secrets.specs.Keys.{key_cmp}
 use Rattle.dkg_store.specs.Pairs.{Pairs, IsWhole, HasHalf, recovered, dealing_of, with_dealing}
-use Rattle.dkg_store.specs.Secrets.{Secrets, after}
-use Rattle.dkg_store.specs.declared.secrets.SecretOp.TheVariants.{PutDealing}
+use Rattle.dkg_secrets.specs.Secrets.{Secrets, after}
+use Rattle.dkg_secrets.specs.declared.secrets.SecretOp.TheVariants.{PutDealing}
 use Rattle.dkg_store.proofs.Pairs.{step as add, whole_placed, put_one, record_one, get_here}
-use Rattle.dkg_store.proofs.Map.{keys_total}
+use Rattle.dkg_secrets.proofs.Map.{keys_total}
 use Rattle.dkg_store.proofs.Silent.{says_dealing}
 use Rattle.dkg_core.specs.Fixed.{Fixed}
 use Rattle.dkg_core.specs.Live.{Live, Dealer, Seat, Plays, Watches, Stage, Deals, Includes, Follows, Ends, recorded_at}

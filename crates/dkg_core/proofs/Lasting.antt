@@ -9,13 +9,13 @@ use Rattle.dkg_journal.specs.Operations.{Bars, Opens, Appends, Prunes, PutsPlan,
 use Rattle.dkg_store.specs.Acts.{Held, Operation, OnDisk, Changes, Cause, World, does, Tears, IsLeft, notes}
 use Rattle.dkg_core.specs.Courses.{Deed}
 use Rattle.dkg_store.specs.Pairs.{Pairs, recovered}
-use Rattle.dkg_store.specs.Secrets.{Secrets, after, Tries}
-use Rattle.dkg_store.specs.declared.secrets.SecretOp.{SecretOp}
-use Rattle.dkg_store.specs.declared.secrets.SecretOp.TheVariants.{PutShare, PutSeed, PutDealing, Prune}
+use Rattle.dkg_secrets.specs.Secrets.{Secrets, after, Tries}
+use Rattle.dkg_secrets.specs.declared.secrets.SecretOp.{SecretOp}
+use Rattle.dkg_secrets.specs.declared.secrets.SecretOp.TheVariants.{PutShare, PutSeed, PutDealing, Prune}
 use Rattle.dkg_store.proofs.Halves.{recovered_at, share_halves, seed_halves, prune_halves}
-use Rattle.dkg_store.proofs.Map.{below_or, exact_keys}
+use Rattle.dkg_secrets.proofs.Map.{below_or, exact_keys}
 use Rattle.dkg_store.proofs.Pruned.{recovered_from}
-use Rattle.dkg_store.proofs.Tried.{all_done}
+use Rattle.dkg_secrets.proofs.Tried.{all_done}
 use Rattle.dkg_core.specs.Fixed.{Fixed}
 use Rattle.dkg_core.specs.Live.{awaited_height}
 use Rattle.dkg_core.specs.Laws.{Keeps, prune_law, PrunesAtMost, OpeningOperation, opening_law}

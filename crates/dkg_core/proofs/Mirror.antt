@@ -11,12 +11,12 @@ use Rattle.dkg_values.specs.declared.name.Name.TheVariants.{Plan}
 use Rattle.dkg_journal.specs.Operations.{Opens, Journaled, after_operation, opened_names}
 use Rattle.dkg_store.specs.Acts.{Operation, OnDisk, Changes, Held, device_calls, notes, plan}
 use Rattle.dkg_core.specs.Courses.{Course, Say, Do, Call, Ask, Goes, Stops, Outer}
-use Rattle.dkg_store.specs.Keys.{key_cmp}
+use Rattle.dkg_secrets.specs.Keys.{key_cmp}
 use Rattle.dkg_store.specs.Noted.{Note, noted_ack, noted_log}
 use Rattle.dkg_store.specs.Pairs.{Dealing, dealing_of}
 use Rattle.dkg_store.specs.Recorded.{Pair}
-use Rattle.dkg_store.specs.declared.secrets.SecretOp.{SecretOp}
-use Rattle.dkg_store.specs.declared.secrets.SecretOp.TheVariants.{PutShare, PutSeed, PutDealing, Prune}
+use Rattle.dkg_secrets.specs.declared.secrets.SecretOp.{SecretOp}
+use Rattle.dkg_secrets.specs.declared.secrets.SecretOp.TheVariants.{PutShare, PutSeed, PutDealing, Prune}
 use Rattle.dkg_core.specs.Seen.{Seen}
 
 -- secrets stand behind all sections: of a kind, an epoch and what there is

@@ -21,7 +21,7 @@ use Rattle.dkg_journal.specs.Operations.{Bars, Opens, Appends, Prunes, PutsPlan,
 use Rattle.dkg_store.specs.Acts.{Held, Operation, OnDisk, Changes, after}
 use Rattle.dkg_core.specs.Courses.{Course, Do, Call, Stops, Tracks, Deed, Said, Did, Called, deeds_of}
 use Rattle.dkg_store.specs.Recorded.{Pair, restored_of}
-use Rattle.dkg_store.specs.declared.secrets.SecretOp.TheVariants.{PutShare, PutSeed, PutDealing, Prune}
+use Rattle.dkg_secrets.specs.declared.secrets.SecretOp.TheVariants.{PutShare, PutSeed, PutDealing, Prune}
 use Rattle.dkg_core.specs.Sources.{Tip, position, over_floor, startup}
 use Rattle.dkg_core.specs.Fixed.{Fixed, Material, OneShot, start}
 use Rattle.dkg_core.specs.Live.{Live, awaited_height}

@@ -29,7 +29,7 @@ use Rattle.dkg_journal.specs.Operations.{Bars, Opens, Appends, Prunes, PutsPlan,
 use Rattle.dkg_store.specs.Acts.{Operation, OnDisk, Changes}
 use Rattle.dkg_core.specs.Courses.{Course, Say, Goes, Stops, bind, Deed}
 use Rattle.dkg_store.specs.declared.event.Event.TheVariants as events
-use Rattle.dkg_store.specs.declared.secrets.SecretOp.TheVariants.{PutShare, PutSeed, PutDealing, Prune}
+use Rattle.dkg_secrets.specs.declared.secrets.SecretOp.TheVariants.{PutShare, PutSeed, PutDealing, Prune}
 use Rattle.dkg_core.specs.Sources.{Tip}
 use Rattle.dkg_core.specs.Fixed.{Fixed, OneShot, has}
 use Rattle.dkg_core.specs.Live.{Live, Dealer, Seat, Plays, Watches, Stage, Deals, Includes, Follows, Ends, Request, Job, Verified, VerifiedLogs, Artifact, Sent, Peer, Finalized, NextLog, ReleaseLog, EpochInfoOf, Feed, Over, Cancel, Work, awaited_height, recorded_at, with_tip, with_inclusion, with_queue, with_used, is_last_height}

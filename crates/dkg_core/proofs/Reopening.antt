@@ -20,7 +20,7 @@ use Rattle.dkg_journal.specs.Operations as of_journal
 use Rattle.dkg_journal.specs.Operations.{Bars, Opens, PutsPlan, ClearsPlan, Journaled, InPart}
 use Rattle.dkg_store.specs.Acts.{OnDisk, Changes, World, says, does, notes, IsLeft}
 use Rattle.dkg_store.specs.Recorded.{restored_of}
-use Rattle.dkg_store.specs.declared.secrets.SecretOp.TheVariants.{PutSeed}
+use Rattle.dkg_secrets.specs.declared.secrets.SecretOp.TheVariants.{PutSeed}
 use Rattle.dkg_store.proofs.Halves.{seed_halves}
 use Rattle.dkg_core.specs.Sources.{position, startup}
 use Rattle.dkg_core.specs.Courses.{Course, Say, Do, Call, Stops, Tracks, Throughout}

@@ -23,7 +23,7 @@ use Rattle.dkg_types.specs.OutcomeCodes.{outcome_after}
 use Rattle.dkg_types.specs.Validation.{validation}
 use Rattle.dkg_store.specs.Acts.{OnDisk, Changes}
 use Rattle.dkg_journal.specs.Operations.{Bars, Opens, PutsPlan, ClearsPlan}
-use Rattle.dkg_store.specs.declared.secrets.SecretOp.TheVariants.{PutSeed}
+use Rattle.dkg_secrets.specs.declared.secrets.SecretOp.TheVariants.{PutSeed}
 use Rattle.dkg_core.specs.Fixed.{Material, fresh_seed}
 use Rattle.dkg_core.specs.Live.{Reshare, Delivers, EpochInfoOf, Faulted}
 use Rattle.dkg_core.specs.Plans.{material_bytes}

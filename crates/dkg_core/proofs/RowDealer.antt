@@ -26,7 +26,7 @@ use Rattle.dkg_store.specs.Acts.{Held, OnDisk, Changes}
 use Rattle.dkg_journal.specs.Operations.{Bars, Opens, Appends}
 use Rattle.dkg_store.specs.Events.{event_spelling}
 use Rattle.dkg_store.specs.declared.event.Event.TheVariants as events
-use Rattle.dkg_store.specs.declared.secrets.SecretOp.TheVariants.{PutShare, PutDealing}
+use Rattle.dkg_secrets.specs.declared.secrets.SecretOp.TheVariants.{PutShare, PutDealing}
 use Rattle.dkg_core.specs.Fixed.{fresh_seed}
 use Rattle.dkg_core.specs.Live.{Reshare, Delivers, NextLog, ReleaseLog, NodeStop}
 use Rattle.dkg_core.proofs.Mirror.{Outcome, holding, secret}

@@ -20,7 +20,7 @@ use Rattle.dkg_types.specs.NextInfos.{info_by}
 use Rattle.dkg_types.specs.Validation.{validation}
 use Rattle.dkg_store.specs.Acts.{OnDisk, Changes}
 use Rattle.dkg_journal.specs.Operations.{Prunes}
-use Rattle.dkg_store.specs.declared.secrets.SecretOp.TheVariants.{PutShare, PutSeed, Prune}
+use Rattle.dkg_secrets.specs.declared.secrets.SecretOp.TheVariants.{PutShare, PutSeed, Prune}
 use Rattle.dkg_core.specs.Fixed.{stand_in, fresh_seed}
 use Rattle.dkg_core.specs.Live.{Delivers}
 use Rattle.dkg_core.proofs.Lives.{Life, plays}

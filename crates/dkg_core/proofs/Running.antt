@@ -8,7 +8,7 @@ use Rattle.dkg_types.specs.declared.entry.Entry.{Entry as Line}
 use Rattle.dkg_types.specs.declared.entry.Entry.TheVariants.{Recorded, Ack}
 use Rattle.dkg_store.specs.Acts.{Held, World, says, does}
 use Rattle.dkg_core.specs.Courses.{Course, Say, Do, Call, Ask, Goes, Stops, bind, Throughout, Finishes}
-use Rattle.dkg_store.specs.Keys.{key_cmp}
+use Rattle.dkg_secrets.specs.Keys.{key_cmp}
 use Rattle.dkg_store.specs.Pairs.{Pairs}
 use Rattle.dkg_store.proofs.Pairs.{same_key, get_other}
 use Rattle.dkg_core.specs.Fixed.{Fixed}

@@ -22,7 +22,7 @@ use Rattle.dkg_store.specs.Acts.{Held, Operation, OnDisk, Changes, World, does, 
 use Rattle.dkg_store.specs.Events.{event_spelling}
 use Rattle.dkg_store.specs.Noted.{noted_log, logs_in}
 use Rattle.dkg_store.specs.declared.event.Event.TheVariants as events
-use Rattle.dkg_store.specs.declared.secrets.SecretOp.TheVariants.{PutDealing}
+use Rattle.dkg_secrets.specs.declared.secrets.SecretOp.TheVariants.{PutDealing}
 use Rattle.dkg_store.proofs.Noted.{says_log, noted_silent}
 use Rattle.dkg_core.specs.Courses.{Course, Goes, Stops, Deed, Throughout}
 use Rattle.dkg_core.specs.Sources.{startup}

@@ -24,15 +24,15 @@ use Rattle.dkg_store.specs.Acts.{Held, OnDisk, Changes, World, says, does, notes
 use Rattle.dkg_store.specs.Events.{event_spelling, IsEvent}
 use Rattle.dkg_store.specs.declared.event.Event.{Event}
 use Rattle.dkg_store.specs.declared.event.Event.TheVariants as events
-use Rattle.dkg_store.specs.declared.secrets.SecretOp.TheVariants.{PutShare, PutSeed, PutDealing, Prune}
-use Rattle.dkg_store.specs.Keys.{key_cmp}
+use Rattle.dkg_secrets.specs.declared.secrets.SecretOp.TheVariants.{PutShare, PutSeed, PutDealing, Prune}
+use Rattle.dkg_secrets.specs.Keys.{key_cmp}
 use Rattle.dkg_store.specs.Pairs.{Pairs, IsWhole, recovered, dealing_of, dealing_in}
-use Rattle.dkg_store.specs.Secrets.{Secrets, Tries}
-use Rattle.dkg_store.specs.Secrets as of_secrets
+use Rattle.dkg_secrets.specs.Secrets.{Secrets, Tries}
+use Rattle.dkg_secrets.specs.Secrets as of_secrets
 use Rattle.dkg_store.proofs.Halves.{recovered_at, prune_halves, share_halves, seed_halves}
 use Rattle.dkg_store.proofs.Pairs.{record_one, put_one, same_key, get_here, get_other}
 use Rattle.dkg_store.proofs.Silent.{says_dealing}
-use Rattle.dkg_store.proofs.Tried.{all_done}
+use Rattle.dkg_secrets.proofs.Tried.{all_done}
 use Rattle.dkg_core.specs.Courses.{Course, Stops, bind, Throughout}
 use Rattle.dkg_core.specs.Fixed.{Fixed, has}
 use Rattle.dkg_core.specs.Live.{Live, Dealer, Seat, Plays, Watches, awaited_height, of_epoch, phase_of, with_participation}
@@ -43,7 +43,7 @@ use Rattle.dkg_core.proofs.Keeping.{fold_silent, silent_whole, left_entries}
 use Rattle.std.specs.List.{AllByRecursion}
 use Rattle.dkg_types.specs.declared.entry.Entry.{Entry as Line}
 use Rattle.dkg_types.specs.declared.entry.Entry.TheVariants.{Recorded, Ack, Committed, Registered}
-use Rattle.dkg_store.specs.declared.secrets.SecretOp.{SecretOp}
+use Rattle.dkg_secrets.specs.declared.secrets.SecretOp.{SecretOp}
 use Rattle.dkg_core.specs.Enduring.{AckOf, IsSaidFrom, IsKeptFrom}
 use Rattle.dkg_core.proofs.Agreeing.{all_whole, whole_kept}
 use Rattle.dkg_core.proofs.Lasting.{pruned_at}

@@ -22,7 +22,7 @@ use Rattle.dkg_types.specs.declared.payload.Payload.TheVariants as payloads
 use Rattle.dkg_types.specs.Units.{unit_at, unit_spelling}
 use Rattle.dkg_store.specs.Acts.{Operation, OnDisk, Changes}
 use Rattle.dkg_journal.specs.Operations.{Bars, Opens, Appends, Prunes}
-use Rattle.dkg_store.specs.declared.secrets.SecretOp.TheVariants.{PutSeed, PutDealing, Prune}
+use Rattle.dkg_secrets.specs.declared.secrets.SecretOp.TheVariants.{PutSeed, PutDealing, Prune}
 use Rattle.dkg_core.specs.Sources.{Absent, source_of}
 use Rattle.dkg_core.specs.Fixed.{Fixed, stand_in, fresh_seed}
 use Rattle.dkg_core.specs.Live.{NodeStop, Faulted}

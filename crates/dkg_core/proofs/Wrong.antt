@@ -15,7 +15,7 @@ use Rattle.dkg_types.specs.declared.entry.Entry.TheVariants.{Recorded, Ack, Offe
 use Rattle.dkg_store.specs.Acts.{Held, OnDisk, Changes}
 use Rattle.dkg_core.specs.Courses.{Deed, Said, Did, deeds_of}
 use Rattle.dkg_journal.specs.Operations.{Appends}
-use Rattle.dkg_store.specs.declared.secrets.SecretOp.TheVariants.{PutDealing, Prune}
+use Rattle.dkg_secrets.specs.declared.secrets.SecretOp.TheVariants.{PutDealing, Prune}
 use Rattle.dkg_core.specs.Fixed.{Fixed}
 use Rattle.dkg_core.specs.Live.{Live, Sent, Peer, Finalized}
 use Rattle.dkg_core.specs.Core.{opening, step, Core, Reply, State, IsReplyOf}

@@ -22,7 +22,7 @@ use Rattle.dkg_types.specs.declared.info.EpochInfo.{EpochInfo}
 use Rattle.dkg_types.specs.InfoCodes.{info_spelling}
 use Rattle.dkg_types.specs.PayloadCodes.{its_log, info_payload}
 use Rattle.dkg_core.specs.Courses.{Course, Say, Goes, Stops, bind}
-use Rattle.dkg_store.specs.Keys.{key_cmp}
+use Rattle.dkg_secrets.specs.Keys.{key_cmp}
 use Rattle.dkg_core.specs.Fixed.{Fixed}
 use Rattle.dkg_core.specs.Sources.{Tip}
 use Rattle.dkg_core.specs.Live.{Live, Dealer, Stage, Deals, Includes, Follows, Ends, Request, VerifiedLogs, Artifact, with_tip, with_participation, with_inclusion, with_queue, phase_of, is_last_height, recorded_at}

@@ -24,10 +24,10 @@ use Rattle.dkg_store.specs.Acts.{OnDisk, Changes}
 use Rattle.dkg_journal.specs.Operations.{Appends}
 use Rattle.dkg_core.specs.Courses.{Course, Say, Do, Goes, Stops, bind}
 use Rattle.dkg_store.specs.Events.{event_spelling}
-use Rattle.dkg_store.specs.Keys.{key_cmp}
+use Rattle.dkg_secrets.specs.Keys.{key_cmp}
 use Rattle.dkg_store.specs.declared.event.Event.{Event}
 use Rattle.dkg_store.specs.declared.event.Event.TheVariants as events
-use Rattle.dkg_store.specs.declared.secrets.SecretOp.TheVariants.{PutDealing}
+use Rattle.dkg_secrets.specs.declared.secrets.SecretOp.TheVariants.{PutDealing}
 use Rattle.dkg_core.specs.Fixed.{Fixed}
 use Rattle.dkg_core.specs.Live.{Live, Dealer, Seat, Plays, Watches, Stage, Deals, Includes, Follows, Ends, recorded_at, with_participation}
 use Rattle.dkg_core.specs.Setup.{unsent}

@@ -18,7 +18,7 @@ use Rattle.dkg_journal.specs.Operations.{Bars, Opens, Appends, Prunes, PutsPlan,
 use Rattle.dkg_core.specs.Courses.{Course, Say, Do, Call, Ask, Goes, Stops, Deed, Said, Did, Called, deeds_of}
 use Rattle.dkg_store.specs.Events.{event_spelling}
 use Rattle.dkg_store.specs.declared.event.Event.TheVariants.{Dealing}
-use Rattle.dkg_store.specs.declared.secrets.SecretOp.TheVariants.{PutShare, PutSeed, PutDealing, Prune}
+use Rattle.dkg_secrets.specs.declared.secrets.SecretOp.TheVariants.{PutShare, PutSeed, PutDealing, Prune}
 use Rattle.dkg_core.specs.Fixed.{Fixed, start}
 use Rattle.dkg_core.specs.Live.{Live, Dealer, Plays, Deals, Message, Sent, Peer, Finalized, awaited_height, recorded_at}
 use Rattle.dkg_core.specs.Core.{opening, step}

@@ -15,7 +15,7 @@ use Rattle.dkg_types.specs.PayloadCodes.{its_log}
 use Rattle.dkg_types.specs.Validation.{validation}
 use Rattle.dkg_store.specs.Acts.{Changes}
 use Rattle.dkg_core.specs.Courses.{Course, Do, Call, Stops, Tracks}
-use Rattle.dkg_store.specs.declared.secrets.SecretOp.TheVariants.{PutSeed}
+use Rattle.dkg_secrets.specs.declared.secrets.SecretOp.TheVariants.{PutSeed}
 use Rattle.dkg_core.specs.Fixed.{Fixed, OneShot}
 use Rattle.dkg_core.specs.Sources.{Tip, startup}
 use Rattle.dkg_core.specs.Live.{Live}

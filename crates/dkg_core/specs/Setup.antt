@@ -38,7 +38,7 @@ use Rattle.dkg_store.specs.Acts.{OnDisk, Changes}
 use Rattle.dkg_journal.specs.Operations.{Prunes}
 use Rattle.dkg_core.specs.Courses.{Course, Say, Do, Call, Ask, Goes, Stops, Marks, bind}
 use Rattle.dkg_store.specs.Recorded.{Pair, first_refused}
-use Rattle.dkg_store.specs.declared.secrets.SecretOp.TheVariants.{PutShare, PutSeed, Prune}
+use Rattle.dkg_secrets.specs.declared.secrets.SecretOp.TheVariants.{PutShare, PutSeed, Prune}
 use Rattle.dkg_core.specs.Seen.{Seen}
 use Rattle.dkg_core.specs.Fixed.{Fixed, has, fresh_seed}
 use Rattle.dkg_core.specs.Live.{Live, Records, Dealer, Seat, Plays, Watches, Deals, Includes, Follows, awaited_height, phase_of, of_epoch, with_participation, with_inclusion, with_orchestrator}

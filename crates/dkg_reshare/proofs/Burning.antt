@@ -12,7 +12,7 @@ use Rattle.dkg_store.specs.Acts as acts_of
 use Rattle.dkg_store.specs.Acts.{Acts, Cause, Ended, IsBetween, MadeAt, Moment, broken, by_want, moment, stopped, went}
 use Rattle.dkg_store.specs.Calls.{by_error}
 use Rattle.dkg_store.specs.Errors.{IsOfDevices, IsOfPruning}
-use Rattle.dkg_store.specs.Secrets.{Secrets}
+use Rattle.dkg_secrets.specs.Secrets.{Secrets}
 use Rattle.dkg_store.specs.declared.call.StoreError.{StoreError}
 use Rattle.dkg_store.specs.declared.call.StoreError.TheVariants.{Disk, Secrets as SecretsFailed, Corrupt, LocalState, StateSyncEpochs, StateSyncMaterial, Cut, NoMemory}
 use Rattle.dkg_store.proofs.Acts.{made_next, made_none, made_nothing}

@@ -6,7 +6,7 @@ use Rattle.dkg_journal.specs.declared.disk.Op.{Op}
 use Rattle.dkg_store.specs.Both.{Call}
 use Rattle.dkg_store.specs.Called.{Called}
 use Rattle.dkg_store.specs.declared.devices.Devices.{Devices}
-use Rattle.dkg_store.specs.declared.secrets.SecretOp.{SecretOp}
+use Rattle.dkg_secrets.specs.declared.secrets.SecretOp.{SecretOp}
 use Rattle.dkg_reshare.specs.Moved.{Moved}
 
 -- What is known of them on a disk that tells.

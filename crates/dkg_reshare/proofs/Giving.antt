@@ -11,14 +11,14 @@ use Rattle.dkg_journal.specs.Records.{Entry, entries, from_section}
 use Rattle.dkg_journal.specs.Steps.{Keeps}
 use Rattle.dkg_store.specs.Corrupt.{AreFit}
 use Rattle.dkg_store.specs.Events.{event_at, no_limit}
-use Rattle.dkg_store.specs.Keys.{StaysOrGoes, key_cmp}
+use Rattle.dkg_secrets.specs.Keys.{StaysOrGoes, key_cmp}
 use Rattle.dkg_store.specs.Pairs.{Dealing, IsWhole, Pairs, dealing_in, dealing_of, recovered, with_dealing, with_half}
 use Rattle.dkg_store.specs.Recorded.{Pair}
-use Rattle.dkg_store.specs.Secrets.{Secrets, Tries}
+use Rattle.dkg_secrets.specs.Secrets.{Secrets, Tries}
 use Rattle.dkg_store.specs.declared.event.Event.{Event}
 use Rattle.dkg_store.specs.declared.event.Event.TheVariants as events
-use Rattle.dkg_store.specs.declared.secrets.SecretOp.TheVariants.{Prune}
-use Rattle.dkg_store.proofs.Map.{below_or, exact_keys}
+use Rattle.dkg_secrets.specs.declared.secrets.SecretOp.TheVariants.{Prune}
+use Rattle.dkg_secrets.proofs.Map.{below_or, exact_keys}
 use Rattle.dkg_store.proofs.Pruned.{recovered_from}
 use Rattle.dkg_reshare.specs.Given.{AreGivenFrom}
 use Rattle.dkg_reshare.specs.Moved.{StaysAbove, StaysFrom}

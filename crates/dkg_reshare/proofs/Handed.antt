@@ -12,7 +12,7 @@ use Rattle.dkg_store.specs.Acts.{Acts, went, under}
 use Rattle.dkg_store.specs.Calls.{answering}
 use Rattle.dkg_store.specs.Pairs.{Pairs}
 use Rattle.dkg_store.specs.Player.{Acknowledges, IsPlayerOf}
-use Rattle.dkg_store.proofs.Map.{keys_total, exact_keys, get_here}
+use Rattle.dkg_secrets.proofs.Map.{keys_total, exact_keys, get_here}
 use Rattle.dkg_journal.specs.Names.{Files}
 use Rattle.dkg_journal.specs.declared.journal.Journal.{Journal}
 use Rattle.dkg_store.specs.declared.player.Player.{Player}

@@ -12,7 +12,7 @@ use Rattle.dkg_types.specs.declared.fault.Fault.{Fault}
 use Rattle.dkg_types.specs.declared.fault.Fault.TheVariants.{NoMemory}
 use Rattle.dkg_store.specs.Acts.{Acts, Moment, moment, went}
 use Rattle.dkg_store.specs.Rest.{SameRest}
-use Rattle.dkg_store.specs.Secrets.{Secrets}
+use Rattle.dkg_secrets.specs.Secrets.{Secrets}
 use Rattle.dkg_store.specs.declared.player.Player.{Player}
 use Rattle.dkg_store.specs.declared.store.Store.{Store}
 use Rattle.dkg_core.specs.Courses.{Course, on_devices}

@@ -10,16 +10,16 @@ use Rattle.dkg_journal.specs.Records.{entries}
 use Rattle.dkg_journal.specs.declared.disk.Op.{Op}
 use Rattle.dkg_journal.proofs.Steps.{then_all}
 use Rattle.dkg_store.specs.Both.{MadeBoth}
-use Rattle.dkg_store.specs.Keys.{key_cmp}
+use Rattle.dkg_secrets.specs.Keys.{key_cmp}
 use Rattle.dkg_store.specs.Named.{SamePlan}
 use Rattle.dkg_store.specs.Pairs.{Holds, HoldsPruned, IsWhole, Pairs, recovered}
-use Rattle.dkg_store.specs.Secrets.{Secrets}
+use Rattle.dkg_secrets.specs.Secrets.{Secrets}
 use Rattle.dkg_store.specs.declared.devices.Devices.{Devices}
-use Rattle.dkg_store.specs.declared.secrets.SecretOp.{SecretOp}
+use Rattle.dkg_secrets.specs.declared.secrets.SecretOp.{SecretOp}
 use Rattle.dkg_store.proofs.Both.{both_more}
 use Rattle.dkg_store.proofs.Counts.{counts_none, counts_then}
 use Rattle.dkg_store.proofs.Halves.{recovered_at}
-use Rattle.dkg_store.proofs.Map.{exact_keys, keys_total}
+use Rattle.dkg_secrets.proofs.Map.{exact_keys, keys_total}
 use Rattle.dkg_reshare.specs.Moved.{GivesFrom, Moved, StaysAbove, StaysFrom, StaysGiven, StaysSound, StaysWhole}
 
 -- A disk that is as it was leaves the same images.

@@ -30,7 +30,7 @@ use Rattle.dkg_store.specs.Errors.{IsOfDevices, IsOfPruning}
 use Rattle.dkg_store.specs.Events.{no_event_at}
 use Rattle.dkg_store.specs.Pairs.{IsWhole, Pairs, recovered}
 use Rattle.dkg_store.specs.Recorded.{Pair, restored_list, restored_of}
-use Rattle.dkg_store.specs.Secrets.{Secrets}
+use Rattle.dkg_secrets.specs.Secrets.{Secrets}
 use Rattle.dkg_store.specs.declared.call.StoreError.{StoreError}
 use Rattle.dkg_store.specs.declared.call.StoreError.TheVariants.{Disk, Secrets as SecretsFailed, Corrupt, LocalState, StateSyncEpochs, StateSyncMaterial, Cut as StoreCut, NoMemory}
 use Rattle.dkg_store.specs.declared.store.Store.{Store}

@@ -12,7 +12,7 @@ use Rattle.dkg_ceremony.specs.declared.phase.Phase.{Phase}
 use Rattle.dkg_journal.specs.Records.{entries}
 use Rattle.dkg_journal.specs.Names.{Files}
 use Rattle.dkg_store.specs.Acts.{Ended, went, broken, by_want, held_in, Stands}
-use Rattle.dkg_store.specs.Secrets.{Secrets}
+use Rattle.dkg_secrets.specs.Secrets.{Secrets}
 use Rattle.dkg_store.specs.declared.devices.Devices.{Devices}
 use Rattle.dkg_store.specs.Corrupt.{IsCorruptAt}
 use Rattle.dkg_store.specs.Pairs.{IsWhole}

@@ -4,10 +4,10 @@ use Rattle.std.specs.FinMap.{find, get}
 use Rattle.std.specs.FinMap as maps
 use Rattle.dkg_journal.specs.Names.{Files}
 use Rattle.dkg_journal.specs.Records.{entries}
-use Rattle.dkg_store.specs.Keys.{key_cmp}
+use Rattle.dkg_secrets.specs.Keys.{key_cmp}
 use Rattle.dkg_store.specs.Pairs.{Pairs, recovered}
 use Rattle.dkg_store.specs.Recorded.{Pair}
-use Rattle.dkg_store.specs.Secrets.{Secrets}
+use Rattle.dkg_secrets.specs.Secrets.{Secrets}
 use Rattle.std.specs.Int.NonZero.{non_zero_u32_get, non_zero_u64_get}
 use Rattle.dkg_store.specs.Acts.{Held}
 use Rattle.dkg_core.specs.Fixed.{Fixed}

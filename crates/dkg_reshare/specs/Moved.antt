@@ -6,7 +6,7 @@ use Rattle.dkg_journal.specs.Fuse.{RanAll}
 use Rattle.dkg_journal.specs.Records.{entries}
 use Rattle.dkg_journal.specs.declared.disk.Op.{Op}
 use Rattle.dkg_store.specs.Both.{Call, MadeBoth}
-use Rattle.dkg_store.specs.declared.secrets.SecretOp.{SecretOp}
+use Rattle.dkg_secrets.specs.declared.secrets.SecretOp.{SecretOp}
 use Rattle.dkg_journal.specs.Names.{Files}
 use Rattle.dkg_journal.specs.Disk.{Follows, Lands}
 use Rattle.dkg_journal.specs.Journals.{IsOpen}
@@ -15,7 +15,7 @@ use Rattle.dkg_store.specs.Corrupt.{AreFit}
 use Rattle.dkg_store.specs.Counts.{CountsOn}
 use Rattle.dkg_store.specs.Named.{SamePlan}
 use Rattle.dkg_store.specs.Pairs.{IsWhole, Pairs, Holds, recovered}
-use Rattle.dkg_store.specs.Secrets.{Secrets}
+use Rattle.dkg_secrets.specs.Secrets.{Secrets}
 use Rattle.dkg_store.specs.declared.devices.Devices.{Devices}
 
 -- The same devices are lent still, no count fell, and the fuse goes on. Their calls are just those that it counted.

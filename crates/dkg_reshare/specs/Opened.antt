@@ -12,7 +12,7 @@ use Rattle.dkg_store.specs.Acts.{OnDisk, Held}
 use Rattle.dkg_core.specs.Seen.{Seen}
 use Rattle.dkg_store.specs.Corrupt.{IsAlien}
 use Rattle.dkg_store.specs.Recorded.{restored_of}
-use Rattle.dkg_store.specs.Secrets.{Secrets}
+use Rattle.dkg_secrets.specs.Secrets.{Secrets}
 use Rattle.dkg_types.specs.declared.entry.Entry.{Entry as Line}
 use Rattle.dkg_types.specs.declared.entry.Entry.TheVariants.{Opened}
 use Rattle.dkg_types.specs.declared.fault.Fault.{Fault}

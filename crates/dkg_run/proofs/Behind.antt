@@ -8,8 +8,8 @@ use Rattle.dkg_types.specs.declared.entry.Entry.{Entry}
 use Rattle.dkg_types.specs.declared.fault.Fault.{Fault}
 use Rattle.dkg_text.specs.declared.script.Script.{Script}
 use Rattle.dkg_store.specs.Acts.{at, moment}
-use Rattle.dkg_store.specs.Secrets.{Secrets}
-use Rattle.dkg_store.specs.declared.secrets.SecretOp.{SecretOp}
+use Rattle.dkg_secrets.specs.Secrets.{Secrets}
+use Rattle.dkg_secrets.specs.declared.secrets.SecretOp.{SecretOp}
 use Rattle.dkg_run.specs.Lives.{RunsOver, RunsSo, never}
 use Rattle.dkg_run.specs.Over.{Over, over}
 use Rattle.dkg_run.specs.Ways.{by_worlds}

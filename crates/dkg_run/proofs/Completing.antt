@@ -21,7 +21,7 @@ use Rattle.dkg_types.specs.declared.fault.ParticipantsCause.TheVariants.{Refused
 use Rattle.dkg_store.specs.Corrupt.{AreEvents, AreFit, HasNoEvent, IsCorruptAt}
 use Rattle.dkg_store.specs.Events.{no_event_at}
 use Rattle.dkg_store.specs.Recorded.{first_refused, of_epoch}
-use Rattle.dkg_store.specs.Secrets.{Secrets}
+use Rattle.dkg_secrets.specs.Secrets.{Secrets}
 use Rattle.dkg_store.proofs.OpeningActs.{no_other, no_place}
 use Rattle.dkg_text.specs.declared.script.BlockLine.{BlockLine}
 use Rattle.dkg_text.specs.declared.script.Life.{Life}

@@ -19,7 +19,7 @@ use Rattle.dkg_text.specs.declared.script.Event.{Event}
 use Rattle.dkg_text.specs.declared.script.Life.{Life}
 use Rattle.dkg_text.specs.declared.script.Script.{Script}
 use Rattle.dkg_store.specs.Acts.{Ended, Held, at, by_cut, broken, moment, went}
-use Rattle.dkg_store.specs.Secrets.{Secrets}
+use Rattle.dkg_secrets.specs.Secrets.{Secrets}
 use Rattle.dkg_script.specs.AsCut.{as_cut, life_as_cut, lives_as_cut}
 use Rattle.dkg_script.specs.Progress.{Progress, at_start, is_last_step, progress, read, with_life_ended}
 use Rattle.dkg_script.specs.Setting.{CutAt, Setting, life_at, setting_of}

@@ -13,10 +13,10 @@ use Rattle.dkg_journal.specs.Records.{Entry, entries}
 use Rattle.dkg_journal.specs.Table.{MatchFile, Rows, RowsImage, contents}
 use Rattle.dkg_journal.proofs.Steps.{names_total, exact_names}
 use Rattle.dkg_store.specs.Corrupt.{AreEvents}
-use Rattle.dkg_store.specs.Keys.{key_cmp}
+use Rattle.dkg_secrets.specs.Keys.{key_cmp}
 use Rattle.dkg_store.specs.Pairs.{IsWhole, recovered}
 use Rattle.dkg_store.specs.Recorded.{Pair, first_refused, of_epoch}
-use Rattle.dkg_store.specs.Secrets.{Secrets}
+use Rattle.dkg_secrets.specs.Secrets.{Secrets}
 use Rattle.dkg_text.specs.declared.script.Script.{Script}
 use Rattle.dkg_script.specs.Promise.{AreHonestStores}
 use Rattle.dkg_script.specs.Setting.{recovered_from, setting_of}

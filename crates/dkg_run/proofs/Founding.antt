@@ -28,11 +28,11 @@ use Rattle.dkg_types.specs.declared.payload.Payload.TheVariants as payload
 use Rattle.dkg_text.specs.declared.script.BlockLine.{BlockLine}
 use Rattle.dkg_text.specs.declared.script.Script.{Script}
 use Rattle.dkg_store.specs.Acts.{Ended, Held, stopped, went}
-use Rattle.dkg_store.specs.Keys.{key_cmp}
+use Rattle.dkg_secrets.specs.Keys.{key_cmp}
 use Rattle.dkg_store.specs.Pairs.{Pairs}
 use Rattle.dkg_store.specs.Recorded.{Pair, first_refused, of_epoch}
-use Rattle.dkg_store.specs.Secrets.{Secrets}
-use Rattle.dkg_store.proofs.Map.{exact_keys, keys_total}
+use Rattle.dkg_secrets.specs.Secrets.{Secrets}
+use Rattle.dkg_secrets.proofs.Map.{exact_keys, keys_total}
 use Rattle.dkg_script.specs.Form.{IsFormOfToday}
 use Rattle.dkg_script.specs.Readings.{Info, Limits, info_in, unit_payload, with_spelled}
 use Rattle.dkg_script.specs.Setting.{recovered_from}

@@ -20,11 +20,11 @@ use Rattle.dkg_text.specs.declared.script.Event.TheVariants as event
 use Rattle.dkg_text.specs.declared.script.Life.{Life}
 use Rattle.dkg_text.specs.declared.script.Script.{Script}
 use Rattle.dkg_store.specs.Acts.{Cause, Ended, Held, Moment, World, at, broken, held_in, notes, stopped, went}
-use Rattle.dkg_store.specs.Keys.{key_cmp}
+use Rattle.dkg_secrets.specs.Keys.{key_cmp}
 use Rattle.dkg_store.specs.Pairs.{IsWhole, Pairs}
 use Rattle.dkg_store.specs.Recorded.{first_refused, of_epoch}
-use Rattle.dkg_store.specs.Secrets.{Secrets}
-use Rattle.dkg_store.proofs.Map.{exact_keys, keys_total}
+use Rattle.dkg_secrets.specs.Secrets.{Secrets}
+use Rattle.dkg_secrets.proofs.Map.{exact_keys, keys_total}
 use Rattle.dkg_store.proofs.Passing.{one_more_passes}
 use Rattle.dkg_script.specs.Form.{IsEventOfToday, IsFormOfToday, midpoint_of}
 use Rattle.dkg_script.specs.Setting.{recovered_from}

@@ -30,7 +30,7 @@ use Rattle.dkg_types.specs.declared.participants.TrackedPeers.{TrackedPeers}
 use Rattle.dkg_store.specs.Acts.{Held, Moment, Stands, World, at, moment, notes}
 use Rattle.dkg_store.specs.Events.{IsEvent}
 use Rattle.dkg_store.specs.Pairs.{IsWhole}
-use Rattle.dkg_store.specs.Secrets.{Secrets}
+use Rattle.dkg_secrets.specs.Secrets.{Secrets}
 use Rattle.dkg_store.specs.declared.event.Event.TheVariants as events
 use Rattle.dkg_text.specs.declared.script.Anchor as declared
 use Rattle.dkg_text.specs.declared.script.Anchor.TheVariants as anchor

@@ -25,9 +25,9 @@ use Rattle.dkg_journal.specs.Records.{placed}
 use Rattle.dkg_store.specs.Acts.{Held, World, Cause, OnDisk, Changes, Tears, Ended, does, went, stopped, broken, notes}
 use Rattle.dkg_store.specs.Events.{IsEvent, event_spelling}
 use Rattle.dkg_store.specs.declared.event.Event.TheVariants as events
-use Rattle.dkg_store.specs.declared.secrets.SecretOp.TheVariants.{PutDealing}
+use Rattle.dkg_secrets.specs.declared.secrets.SecretOp.TheVariants.{PutDealing}
 use Rattle.dkg_store.specs.Pairs.{Pairs, IsWhole, recovered}
-use Rattle.dkg_store.specs.Secrets.{Secrets, after as after_change}
+use Rattle.dkg_secrets.specs.Secrets.{Secrets, after as after_change}
 use Rattle.dkg_store.proofs.Acts.{along_runs}
 use Rattle.dkg_store.proofs.Pairs.{same_key, get_at, get_here, get_other, put_one, record_one}
 use Rattle.dkg_script.specs.Blocks.{round_at}

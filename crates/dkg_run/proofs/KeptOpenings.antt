@@ -10,7 +10,7 @@ use Rattle.dkg_types.specs.declared.entry.Restored.{Restored}
 use Rattle.dkg_store.specs.Acts.{Held, World, Ended, went, stopped, broken, notes}
 use Rattle.dkg_store.specs.Pairs.{Pairs, IsWhole}
 use Rattle.dkg_store.specs.Recorded.{restored_list}
-use Rattle.dkg_store.proofs.Map.{exact_keys, keys_total}
+use Rattle.dkg_secrets.proofs.Map.{exact_keys, keys_total}
 use Rattle.dkg_script.specs.Blocks.{round_at}
 use Rattle.dkg_script.specs.Kept.{Gives}
 use Rattle.dkg_script.specs.Progress.{Progress, read, pair_of}

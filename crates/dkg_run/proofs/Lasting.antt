@@ -14,7 +14,7 @@ use Rattle.dkg_text.specs.declared.script.Life.{Life}
 use Rattle.dkg_text.specs.declared.script.Script.{Script}
 use Rattle.dkg_store.specs.Acts.{Held, at, moment}
 use Rattle.dkg_store.specs.Corrupt.{AreFit}
-use Rattle.dkg_store.specs.Secrets.{Secrets}
+use Rattle.dkg_secrets.specs.Secrets.{Secrets}
 use Rattle.dkg_store.specs.declared.devices.Devices.{Devices}
 use Rattle.dkg_core.specs.Courses.{Course}
 use Rattle.dkg_core.specs.Live.{Live, NodeStop}

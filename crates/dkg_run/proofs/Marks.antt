@@ -11,13 +11,13 @@ use Rattle.dkg_ceremony.specs.ValidLogs.{bears_ack_of}
 use Rattle.dkg_ceremony.specs.declared.dealer_log.DealerLog.{DealerLog}
 use Rattle.dkg_ceremony.specs.declared.round.Round.{Round}
 use Rattle.dkg_journal.specs.Records.{Entry, entries}
-use Rattle.dkg_store.specs.Keys.{key_cmp}
+use Rattle.dkg_secrets.specs.Keys.{key_cmp}
 use Rattle.dkg_store.specs.Noted.{Note, Notes, logs_in, noted_log, with_note}
 use Rattle.dkg_store.specs.Pairs.{Pairs}
 use Rattle.dkg_store.specs.Player.{has_orphan, is_orphan}
 use Rattle.dkg_store.specs.Recorded.{at_epoch, bare_logs}
 use Rattle.dkg_store.specs.declared.recorded_log.RecordedLog.{RecordedLog}
-use Rattle.dkg_store.proofs.Map.{keys_total}
+use Rattle.dkg_secrets.proofs.Map.{keys_total}
 use Rattle.dkg_store.proofs.Own.{lookup_at}
 use Rattle.dkg_store.proofs.Pairs.{same_key, get_at, get_other}
 use Rattle.dkg_types.specs.declared.entry.Restored.{Restored}

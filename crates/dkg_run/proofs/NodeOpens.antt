@@ -20,7 +20,7 @@ use Rattle.dkg_text.specs.declared.script.Script.{Script}
 use Rattle.dkg_text.specs.declared.script.ScriptConfig.{ScriptConfig}
 use Rattle.dkg_script.specs.Form.{IsFormOfToday}
 use Rattle.dkg_store.specs.Acts.{Ended, Held, Moment, Stands, moment, went}
-use Rattle.dkg_store.specs.Secrets.{Secrets}
+use Rattle.dkg_secrets.specs.Secrets.{Secrets}
 use Rattle.dkg_core.specs.Core.{opening}
 use Rattle.dkg_core.specs.Courses.{Course, on_devices}
 use Rattle.dkg_core.specs.Fixed.{Fixed}

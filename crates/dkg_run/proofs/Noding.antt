@@ -14,7 +14,7 @@ use Rattle.dkg_types.specs.declared.entry.Entry.{Entry as Line}
 use Rattle.dkg_types.specs.declared.entry.Entry.TheVariants.{Acked}
 use Rattle.dkg_types.specs.declared.fault.Fault.{Fault}
 use Rattle.dkg_store.specs.Acts.{Acts, Cause, Ended, IfWent, Moment, Runs, Stands, at, broken, held_in, moment, stopped, went}
-use Rattle.dkg_store.specs.Secrets.{Secrets}
+use Rattle.dkg_secrets.specs.Secrets.{Secrets}
 use Rattle.dkg_store.specs.declared.devices.Devices.{Devices}
 use Rattle.dkg_text.specs.declared.script.Event.TheVariants as event
 use Rattle.std.specs.Int.NonZero.{non_zero_u32_get, non_zero_u64_get}

@@ -18,7 +18,7 @@ use Rattle.dkg_types.specs.declared.fault.Fault.{Fault}
 use Rattle.dkg_types.specs.declared.info.EpochInfo.{EpochInfo}
 use Rattle.dkg_types.specs.declared.scheme.SchemeInfo.{SchemeInfo}
 use Rattle.dkg_store.specs.Acts.{Acts, Cause, Ended, IfWent, Moment, Stands, at, broken, moment, stopped, went}
-use Rattle.dkg_store.specs.Secrets.{Secrets}
+use Rattle.dkg_secrets.specs.Secrets.{Secrets}
 use Rattle.dkg_values.specs.Rising.{lookup}
 use Rattle.dkg_core.specs.Core.{no_orchestrator, opening}
 use Rattle.dkg_core.specs.Courses.{Course, Goes, on_devices}

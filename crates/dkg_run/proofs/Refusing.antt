@@ -30,7 +30,7 @@ use Rattle.dkg_script.specs.Promise.{Adds}
 use Rattle.dkg_script.specs.Setting.{Setting, setting_of}
 use Rattle.dkg_script.proofs.EachEntry.{at_each}
 use Rattle.dkg_store.specs.Acts.{Ended, Held, broken, by_cut, stopped, went}
-use Rattle.dkg_store.specs.Secrets as store
+use Rattle.dkg_secrets.specs.Secrets as store
 use Rattle.dkg_core.specs.Courses.{Course, on_devices}
 use Rattle.dkg_core.specs.Fixed.{Fixed}
 use Rattle.dkg_core.specs.Laws.{IsQuiet}

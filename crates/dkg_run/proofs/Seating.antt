@@ -27,9 +27,9 @@ use Rattle.dkg_types.specs.declared.directory.Unit as directory
 use Rattle.dkg_types.specs.declared.info.EpochInfo.{EpochInfo}
 use Rattle.dkg_types.specs.declared.payload.Payload.{Payload}
 use Rattle.dkg_types.specs.declared.payload.Payload.TheVariants as payload
-use Rattle.dkg_store.specs.Keys.{key_cmp}
+use Rattle.dkg_secrets.specs.Keys.{key_cmp}
 use Rattle.dkg_store.specs.Recorded.{Pair, first_refused, refused_or}
-use Rattle.dkg_store.proofs.Map.{exact_keys}
+use Rattle.dkg_secrets.proofs.Map.{exact_keys}
 use Rattle.dkg_text.specs.declared.script.Anchor as declared
 use Rattle.dkg_text.specs.declared.script.Anchor.TheVariants as anchor
 use Rattle.dkg_text.specs.declared.script.BlockLine.{BlockLine}

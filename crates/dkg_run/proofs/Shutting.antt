@@ -16,7 +16,7 @@ use Rattle.dkg_store.specs.Corrupt.{AreEvents}
 use Rattle.dkg_store.specs.Events.{is_event}
 use Rattle.dkg_store.specs.Noted.{logs_in}
 use Rattle.dkg_store.specs.Pairs.{IsWhole, recovered}
-use Rattle.dkg_store.specs.Secrets.{Secrets}
+use Rattle.dkg_secrets.specs.Secrets.{Secrets}
 use Rattle.dkg_core.specs.Courses.{on_devices}
 use Rattle.dkg_core.specs.Fixed.{Fixed}
 use Rattle.dkg_core.specs.Heard.{recovered_in}

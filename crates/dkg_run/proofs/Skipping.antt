@@ -29,7 +29,7 @@ use Rattle.dkg_script.specs.Position.{awaited_height}
 use Rattle.dkg_script.specs.Setting.{CutAt, Setting, life_at, setting_of}
 use Rattle.dkg_script.proofs.LineBlocks.{of_line}
 use Rattle.dkg_store.specs.Acts.{Ended, Held, broken, stopped, went}
-use Rattle.dkg_store.specs.Secrets.{Secrets}
+use Rattle.dkg_secrets.specs.Secrets.{Secrets}
 use Rattle.dkg_core.specs.Courses.{Course, on_devices}
 use Rattle.dkg_core.specs.Fixed.{Fixed}
 use Rattle.dkg_core.specs.Live.{Faulted, Finalized, Live, Message, NodeStop, Orchestrator, Peer, Sent}

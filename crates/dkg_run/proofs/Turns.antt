@@ -14,7 +14,7 @@ use Rattle.dkg_types.specs.declared.entry.Entry.{Entry as Line}
 use Rattle.dkg_types.specs.declared.fault.Fault.TheVariants.{NoMemory}
 use Rattle.dkg_store.specs.Acts.{Ended, Moment, Stands, World, at, broken, by_cut, by_want, moment, says, went}
 use Rattle.dkg_store.specs.Corrupt.{AreFit}
-use Rattle.dkg_store.specs.Secrets.{Secrets}
+use Rattle.dkg_secrets.specs.Secrets.{Secrets}
 use Rattle.dkg_store.specs.declared.devices.Devices.{Devices}
 use Rattle.dkg_store.proofs.Acts.{breaks_none}
 use Rattle.dkg_types.specs.Blocks.{Block}

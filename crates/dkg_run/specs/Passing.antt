@@ -6,7 +6,7 @@ use Rattle.dkg_journal.specs.Names.{Files}
 use Rattle.dkg_journal.specs.Records.{entries}
 use Rattle.dkg_store.specs.Pairs.{IsWhole}
 use Rattle.dkg_store.specs.Recorded.{first_refused, of_epoch}
-use Rattle.dkg_store.specs.Secrets.{Secrets}
+use Rattle.dkg_secrets.specs.Secrets.{Secrets}
 use Rattle.dkg_script.specs.Setting.{recovered_from}
 use Rattle.dkg_run.specs.Found.{Reader}
 

@@ -7,7 +7,7 @@ use Rattle.dkg_text.specs.declared.script.Life.{Life}
 use Rattle.dkg_types.specs.declared.entry.Restored.{Restored}
 use Rattle.dkg_text.specs.declared.script.Script.{Script}
 use Rattle.dkg_journal.specs.Names.{Files}
-use Rattle.dkg_store.specs.Secrets.{Secrets}
+use Rattle.dkg_secrets.specs.Secrets.{Secrets}
 use Rattle.dkg_script.specs.Setting.{Setting, setting_of}
 use Rattle.dkg_script.specs.Progress.{Progress, read, at_start, progress, is_last_step, with_life_ended}
 use Rattle.dkg_script.specs.Order.{IsInOrder, InOrder, IsOrderedStep, IsOrderedCut}

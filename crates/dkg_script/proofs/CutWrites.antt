@@ -11,7 +11,7 @@ use Rattle.dkg_ceremony.specs.Modes.{mode_at}
 use Rattle.dkg_journal.specs.Names.{Files, name_cmp}
 use Rattle.dkg_journal.specs.Records.{entries, read32, read64}
 use Rattle.dkg_store.specs.Pairs.{IsWhole}
-use Rattle.dkg_store.specs.Secrets.{Secrets}
+use Rattle.dkg_secrets.specs.Secrets.{Secrets}
 use Rattle.dkg_types.specs.InfoCodes.{held_at, parts_at}
 use Rattle.dkg_types.specs.OutcomeCodes.{outcome_after}
 use Rattle.dkg_types.specs.PayloadCodes.{carried_at, payload_after}

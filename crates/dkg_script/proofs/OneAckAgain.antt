@@ -7,7 +7,7 @@ use Rattle.dkg_ceremony.specs.Acks.{ack_of}
 use Rattle.dkg_ceremony.specs.declared.round.Round.{Round}
 use Rattle.dkg_journal.specs.Names.{Files}
 use Rattle.dkg_store.specs.Pairs.{Pairs}
-use Rattle.dkg_store.specs.Secrets.{Secrets}
+use Rattle.dkg_secrets.specs.Secrets.{Secrets}
 use Rattle.dkg_types.specs.declared.entry.Entry.{Entry}
 use Rattle.dkg_types.specs.declared.entry.Entry.TheVariants.{Ack}
 use Rattle.dkg_types.specs.declared.entry.Restored.{Restored}

@@ -9,8 +9,8 @@ use Rattle.dkg_journal.specs.Names.{Files}
 use Rattle.dkg_journal.specs.Records.{entries, read32, read64}
 use Rattle.dkg_store.specs.Events.{event_after}
 use Rattle.dkg_store.specs.Pairs.{IsWhole, dealing_of}
-use Rattle.dkg_store.specs.Secrets.{Secrets}
-use Rattle.dkg_store.proofs.Map.{keys_total}
+use Rattle.dkg_secrets.specs.Secrets.{Secrets}
+use Rattle.dkg_secrets.proofs.Map.{keys_total}
 use Rattle.dkg_store.proofs.Pairs.{get_here}
 use Rattle.dkg_types.specs.declared.entry.Restored.{Restored}
 use Rattle.dkg_script.specs.Setting.{Setting, recovered_from}

@@ -10,10 +10,10 @@ use Rattle.dkg_values.specs.Codec.{many_at}
 use Rattle.dkg_values.specs.Lists.{keys_at}
 use Rattle.dkg_values.specs.Uint.{groups_at}
 use Rattle.dkg_journal.specs.Names.{Files}
-use Rattle.dkg_store.specs.Keys.{key_cmp}
+use Rattle.dkg_secrets.specs.Keys.{key_cmp}
 use Rattle.dkg_store.specs.Pairs.{Pairs}
-use Rattle.dkg_store.specs.Secrets.{Secrets}
-use Rattle.dkg_store.proofs.Map.{keys_total}
+use Rattle.dkg_secrets.specs.Secrets.{Secrets}
+use Rattle.dkg_secrets.proofs.Map.{keys_total}
 use Rattle.dkg_types.specs.InfoCodes.{held_at, parts_at}
 use Rattle.dkg_types.specs.OutcomeCodes.{outcome_after}
 use Rattle.dkg_types.specs.PayloadCodes.{carried_at, payload_after}

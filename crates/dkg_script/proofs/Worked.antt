@@ -9,9 +9,9 @@ use Rattle.dkg_ceremony.specs.declared.mode.Mode.TheVariants.{NonZeroCounter}
 use Rattle.dkg_journal.specs.Names.{Files, name_cmp}
 use Rattle.dkg_journal.specs.Records.{Entry, entries, entries_with, segment_entries}
 use Rattle.dkg_journal.proofs.Steps.{names_total}
-use Rattle.dkg_store.specs.Keys.{key_cmp}
+use Rattle.dkg_secrets.specs.Keys.{key_cmp}
 use Rattle.dkg_store.specs.Pairs.{recovered}
-use Rattle.dkg_store.specs.Secrets.{Secrets}
+use Rattle.dkg_secrets.specs.Secrets.{Secrets}
 use Rattle.dkg_text.specs.declared.script.BlockLine.{BlockLine}
 use Rattle.dkg_text.specs.declared.script.Cut.{Cut}
 use Rattle.dkg_text.specs.declared.script.Event.{Event}

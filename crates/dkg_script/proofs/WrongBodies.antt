@@ -20,10 +20,10 @@ use Rattle.dkg_journal.specs.Table.{Rows, RowsImage, MatchFile, file_at}
 use Rattle.dkg_journal.proofs.Steps.{names_total}
 use Rattle.dkg_journal.proofs.AtOnce.{get_other}
 use Rattle.dkg_store.specs.Events.{event_after}
-use Rattle.dkg_store.specs.Keys.{key_cmp}
+use Rattle.dkg_secrets.specs.Keys.{key_cmp}
 use Rattle.dkg_store.specs.Pairs.{IsWhole, recovered}
-use Rattle.dkg_store.specs.Secrets.{Secrets}
-use Rattle.dkg_store.proofs.Map.{keys_total}
+use Rattle.dkg_secrets.specs.Secrets.{Secrets}
+use Rattle.dkg_secrets.proofs.Map.{keys_total}
 use Rattle.dkg_types.specs.declared.entry.Entry.{Entry}
 use Rattle.dkg_types.specs.declared.entry.Entry.TheVariants.{Opened, Ack, Step, Fault}
 use Rattle.dkg_types.specs.declared.entry.Restored.{Restored}

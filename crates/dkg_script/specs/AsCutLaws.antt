@@ -1,7 +1,7 @@
 -- What a script as it was cut keeps of the script.
 use Rattle.std.specs.Prelude.{List, ◌++◌, ◌≡◌, Option}
 use Rattle.dkg_journal.specs.Names.{Files}
-use Rattle.dkg_store.specs.Secrets.{Secrets}
+use Rattle.dkg_secrets.specs.Secrets.{Secrets}
 use Rattle.dkg_types.specs.declared.entry.Entry.{Entry}
 use Rattle.dkg_text.specs.declared.script.Script.{Script}
 use Rattle.dkg_script.specs.Setting.{Setting, CutAt, setting_of}

@@ -6,9 +6,9 @@ use Rattle.std.specs.FinMap.{get, is_sorted}
 use Rattle.dkg_ceremony.specs.Acks.{ack_of}
 use Rattle.dkg_journal.specs.Names.{Files}
 use Rattle.dkg_journal.specs.Records.{entries}
-use Rattle.dkg_store.specs.Keys.{key_cmp}
+use Rattle.dkg_secrets.specs.Keys.{key_cmp}
 use Rattle.dkg_store.specs.Pairs.{Pairs, IsWhole}
-use Rattle.dkg_store.specs.Secrets.{Secrets}
+use Rattle.dkg_secrets.specs.Secrets.{Secrets}
 use Rattle.dkg_types.specs.declared.entry.Entry.{Entry}
 use Rattle.dkg_types.specs.declared.entry.Entry.TheVariants.{Opened, Recorded, Ack}
 use Rattle.dkg_types.specs.declared.entry.Restored.{Restored}

@@ -4,7 +4,7 @@ use Rattle.std.specs.List.{AllByRecursion}
 use Rattle.std.specs.FinMap.{get, empty}
 use Rattle.dkg_journal.specs.Names.{Files}
 use Rattle.dkg_journal.specs.Records.{Entry, entries}
-use Rattle.dkg_store.specs.Secrets.{Secrets}
+use Rattle.dkg_secrets.specs.Secrets.{Secrets}
 use Rattle.dkg_store.specs.Pairs.{Pairs, Dealing, dealing_of, with_half, with_dealing, recovered, HasHalf, IsWhole, AreAtOrAbove, Holds}
 use Rattle.dkg_store.proofs.Pairs.{half_there, fold_stays, step}
 

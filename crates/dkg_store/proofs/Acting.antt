@@ -10,13 +10,13 @@ use Rattle.dkg_journal.specs.declared.call.JournalError.{JournalError}
 use Rattle.dkg_journal.specs.declared.call.JournalError.TheVariants as of_journal
 use Rattle.dkg_types.specs.declared.entry.Entry.{Entry as Line}
 use Rattle.dkg_journal.specs.Operations.{Appends}
-use Rattle.dkg_store.specs.Secrets.{Secrets, Tries, after}
+use Rattle.dkg_secrets.specs.Secrets.{Secrets, Tries, after}
 use Rattle.dkg_store.specs.Acts.{Acts, bind, Cause, EndsBy, Ended, broken, went, Stands, Moment, moment, MadeAt}
 use Rattle.dkg_store.specs.Calls.{appended, put_and_appended, ended_as, by_error, cause_of}
 use Rattle.dkg_store.specs.Errors.{IsOfDevices, IsOfSecrets, store_error_of}
 use Rattle.dkg_store.specs.declared.call.StoreError.{StoreError}
 use Rattle.dkg_store.specs.declared.call.StoreError.TheVariants.{Disk, Secrets as OfSecrets, Corrupt, LocalState, StateSyncEpochs, StateSyncMaterial, Cut, NoMemory}
-use Rattle.dkg_store.specs.declared.secrets.SecretOp.{SecretOp}
+use Rattle.dkg_secrets.specs.declared.secrets.SecretOp.{SecretOp}
 use Rattle.dkg_store.proofs.Acts.{made_broken, made_next}
 use Rattle.dkg_store.proofs.Making.{disk_done, disk_torn, secret_done, secret_torn}
 

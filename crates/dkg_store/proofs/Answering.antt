@@ -10,7 +10,7 @@ use Rattle.dkg_store.specs.declared.event.Event.TheVariants as events
 use Rattle.dkg_store.specs.declared.call.StoreError.{StoreError}
 use Rattle.dkg_store.specs.declared.player.DealingHandleError.{DealingHandleError}
 use Rattle.dkg_store.specs.declared.player.DealingHandleError.TheVariants.{Store as OfStore}
-use Rattle.dkg_store.specs.declared.secrets.SecretOp.TheVariants.{PutDealing}
+use Rattle.dkg_secrets.specs.declared.secrets.SecretOp.TheVariants.{PutDealing}
 use Rattle.dkg_store.proofs.Acts.{made_nothing}
 use Rattle.dkg_store.proofs.Acting.{breaks_off, then_broken}
 

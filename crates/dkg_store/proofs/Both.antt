@@ -5,7 +5,7 @@ use Rattle.dkg_journal.specs.Burn.{Burn}
 use Rattle.dkg_journal.specs.DeviceCall.{DeviceCall, Makes, CutIn, Crashes, call_at}
 use Rattle.dkg_journal.specs.Fuse.{Ran, RanAll, burned, calls_in, pick_now, spent_once}
 use Rattle.dkg_journal.specs.declared.disk.Op.{Op}
-use Rattle.dkg_store.specs.declared.secrets.SecretOp.{SecretOp}
+use Rattle.dkg_secrets.specs.declared.secrets.SecretOp.{SecretOp}
 use Rattle.dkg_store.specs.Both.{Call, on_disk, on_secrets, disk_calls, secret_calls, MadeBoth}
 
 -- a call of one device, made or cut

@@ -14,7 +14,7 @@ use Rattle.dkg_ceremony.specs.declared.deal.DealError.{DealError}
 use Rattle.dkg_ceremony.specs.declared.round.Round.{Round}
 use Rattle.dkg_store.specs.Dealer.{AckMap, held_acks, with_held, passing, with_passed, unsent, with_unsent, to_send, IsDealerOf}
 use Rattle.dkg_store.specs.declared.dealer.Dealer.{Dealer}
-use Rattle.dkg_store.proofs.Map as map
+use Rattle.dkg_secrets.proofs.Map as map
 
 keys_with : (player : ℕ) (o : Option (List ℕ)) (later : List (ℕ × List ℕ)) → keys_of (with_held player o later) ≡ cond (is_some o) (player ∷ keys_of later) (keys_of later)
 keys_with player None later = refl

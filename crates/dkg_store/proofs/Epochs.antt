@@ -13,7 +13,7 @@ use Rattle.std.proofs.lemmas.Bool.Decides.{nat_tests}
 use Rattle.std.proofs.lemmas.Cmp.{tied_itself}
 use Rattle.std.proofs.lemmas.Map.Keys.{IsStrictlyIncreasing-from_sorted}
 use Rattle.dkg_values.specs.Rising.{keys_of}
-use Rattle.dkg_store.specs.Keys.{key_cmp}
+use Rattle.dkg_secrets.specs.Keys.{key_cmp}
 use Rattle.dkg_store.specs.Noted.{Notes}
 use Rattle.dkg_store.specs.Recorded.{at_epoch}
 

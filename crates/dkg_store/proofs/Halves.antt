@@ -3,10 +3,10 @@ use Rattle.std.proofs.Common.{◌≡◌, ◌≢◌, inl, inr, ℕ, ◌<◌, ◌�
 use Rattle.std.specs.FinMap.{get, empty, same_map}
 use Rattle.dkg_journal.specs.Names.{Files}
 use Rattle.dkg_journal.specs.Records.{Entry, entries}
-use Rattle.dkg_store.specs.Secrets.{Secrets, Tries}
-use Rattle.dkg_store.specs.declared.secrets.SecretOp.TheVariants.{PutShare, PutSeed, Prune}
+use Rattle.dkg_secrets.specs.Secrets.{Secrets, Tries}
+use Rattle.dkg_secrets.specs.declared.secrets.SecretOp.TheVariants.{PutShare, PutSeed, Prune}
 use Rattle.dkg_store.specs.Pairs.{Pairs, Dealing, dealing_of, with_half, with_dealing, recovered, HasHalf, IsWhole, Holds}
-use Rattle.dkg_store.proofs.Map.{keys_total, exact_keys}
+use Rattle.dkg_secrets.proofs.Map.{keys_total, exact_keys}
 use Rattle.dkg_store.proofs.Pairs.{same_key, get_at, get_other, step}
 
 -- one half more, or none, at this key and at another

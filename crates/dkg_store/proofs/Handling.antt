@@ -11,7 +11,7 @@ use Rattle.dkg_types.specs.declared.entry.Entry.TheVariants.{Recorded}
 use Rattle.dkg_store.specs.Called.{if_made, made_in}
 use Rattle.dkg_journal.specs.Names.{Files}
 use Rattle.dkg_store.specs.Pairs.{Holds, HoldsEither, Pairs}
-use Rattle.dkg_store.specs.Secrets.{Secrets}
+use Rattle.dkg_secrets.specs.Secrets.{Secrets}
 use Rattle.dkg_store.specs.Player.{Acknowledges, Answers, Handles, IsPlayerOf, MayKeep, Untouched, answer_to, handled_in, is_new, with_answer}
 use Rattle.dkg_store.specs.Recorded.{AreChecked, at_epoch, first_refused, of_epoch, with_first}
 use Rattle.dkg_store.specs.declared.call.StoreError.{StoreError}

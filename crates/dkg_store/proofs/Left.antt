@@ -29,12 +29,12 @@ use Rattle.dkg_store.specs.Events.{IsEvent, event_spelling}
 use Rattle.dkg_store.specs.declared.event.Event.TheVariants as events
 use Rattle.dkg_store.specs.Noted.{Gives, Note, Notes, noted}
 use Rattle.dkg_store.specs.Pairs.{Holds, HoldsEither, IsWhole, Pairs, PutsFirst, dealing_of, recovered}
-use Rattle.dkg_store.specs.Secrets.{Secrets, after}
-use Rattle.dkg_store.specs.declared.secrets.SecretOp.TheVariants.{PutDealing}
+use Rattle.dkg_secrets.specs.Secrets.{Secrets, after}
+use Rattle.dkg_secrets.specs.declared.secrets.SecretOp.TheVariants.{PutDealing}
 use Rattle.dkg_store.specs.declared.call.StoreError.{StoreError}
 use Rattle.dkg_store.specs.declared.call.StoreError.TheVariants.{Disk, Secrets as OfSecrets, Corrupt, LocalState, StateSyncEpochs, StateSyncMaterial, Cut, NoMemory}
 use Rattle.dkg_store.specs.declared.devices.Devices.{Devices}
-use Rattle.dkg_store.specs.declared.secrets.SecretOp.{SecretOp}
+use Rattle.dkg_secrets.specs.declared.secrets.SecretOp.{SecretOp}
 use Rattle.dkg_store.proofs.Both.{all_of_secrets, burned-map, burned_alike, disk_calls-map, none_of_disk, none_ran, secret_calls-map}
 use Rattle.dkg_store.proofs.Counts.{counts_burned, counts_same}
 use Rattle.dkg_store.proofs.Named.{may_same, same_names}

@@ -8,7 +8,6 @@ pub mod Chained
 pub mod Both
 pub mod Corrupt
 pub mod Counts
-pub mod Cuts
 pub mod Dealing
 pub mod Epochs
 pub mod Events
@@ -19,7 +18,6 @@ pub mod Left
 pub mod Listed
 pub mod Logs
 pub mod Making
-pub mod Map
 pub mod Named
 pub mod Noted
 pub mod Opened
@@ -30,9 +28,7 @@ pub mod Pairs
 pub mod Passing
 pub mod Playing
 pub mod Pruned
-pub mod Ranges
 pub mod Recorded
 pub mod Replayed
 pub mod Short
 pub mod Silent
-pub mod Tried

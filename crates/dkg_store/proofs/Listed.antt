@@ -12,7 +12,7 @@ use Rattle.dkg_store.specs.Dealer.{AckMap, passing, passing_acks, with_passed}
 use Rattle.dkg_store.specs.Noted.{Notes}
 use Rattle.dkg_store.specs.Recorded.{at_epoch}
 use Rattle.dkg_store.proofs.Epochs.{sorted_epoch}
-use Rattle.dkg_store.proofs.Map.{is_sorted_true}
+use Rattle.dkg_secrets.proofs.Map.{is_sorted_true}
 use Rattle.dkg_store.proofs.Own.{none_yet, put_last, one_by_one}
 
 abbrev Acks : Type 0

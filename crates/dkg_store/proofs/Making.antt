@@ -16,8 +16,8 @@ use Rattle.dkg_store.specs.Calls.{cause_of}
 use Rattle.dkg_store.specs.Errors.{IsOfSecrets, store_error_of}
 use Rattle.dkg_store.specs.declared.call.StoreError.{StoreError}
 use Rattle.dkg_store.specs.declared.call.StoreError.TheVariants.{Disk, Secrets as OfSecrets, Corrupt, LocalState, StateSyncEpochs, StateSyncMaterial, Cut, NoMemory}
-use Rattle.dkg_store.specs.Secrets.{Secrets, Tries, after}
-use Rattle.dkg_store.specs.declared.secrets.SecretOp.{SecretOp}
+use Rattle.dkg_secrets.specs.Secrets.{Secrets, Tries, after}
+use Rattle.dkg_secrets.specs.declared.secrets.SecretOp.{SecretOp}
 
 -- one operation alone
 abbrev pub one : {F S : Type 0} → Operation → S → Acts F S

@@ -7,13 +7,13 @@ use Rattle.dkg_journal.specs.Names.{Files}
 use Rattle.dkg_journal.specs.Disk.{Follows}
 use Rattle.dkg_journal.specs.Records.{Entry, entries, placed, from_section}
 use Rattle.dkg_journal.specs.Steps.{Adds, MayAdd}
-use Rattle.dkg_store.specs.Keys.{key_cmp}
+use Rattle.dkg_secrets.specs.Keys.{key_cmp}
 use Rattle.dkg_store.specs.Events.{event_spelling, no_limit, IsEvent}
 use Rattle.dkg_store.specs.declared.event.Event.{Event}
 use Rattle.dkg_store.specs.declared.event.Event.TheVariants.{Dealing}
 use Rattle.dkg_store.specs.Noted.{Note, Notes, with_note, noted, noted_ack, noted_log, ack_in, log_in, Gives, GivesEither, SameNotes}
 use Rattle.dkg_store.proofs.Events.{read_again}
-use Rattle.dkg_store.proofs.Map.{below_or, keys_total, exact_keys}
+use Rattle.dkg_secrets.proofs.Map.{below_or, keys_total, exact_keys}
 use Rattle.dkg_store.proofs.Pairs.{same_key, get_at, get_other, insert_swap}
 
 -- what an event's record says

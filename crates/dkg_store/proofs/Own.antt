@@ -9,12 +9,12 @@ use Rattle.std.specs.FinMap.{FinMap, find, get, insert, remove, contains_key, en
 use Rattle.std.specs.FinMap.Entries.{put, by_order, is_sorted, below_all}
 use Rattle.std.proofs.lemmas.Bool.Decides.{nat_tests}
 use Rattle.dkg_values.specs.Rising.{lookup}
-use Rattle.dkg_store.specs.Keys.{key_cmp}
+use Rattle.dkg_secrets.specs.Keys.{key_cmp}
 use Rattle.dkg_store.specs.Noted.{Notes}
 use Rattle.dkg_store.specs.Pairs.{Pairs}
 use Rattle.dkg_store.specs.Recorded.{AreChecked, at_epoch, of_epoch, first_refused, with_first}
 use Rattle.dkg_store.proofs.Epochs.{sorted_epoch}
-use Rattle.dkg_store.proofs.Map.{keys_total, exact_keys, same_key, get_at, get_other, remove_insert, view_entries, is_sorted_true}
+use Rattle.dkg_secrets.proofs.Map.{keys_total, exact_keys, same_key, get_at, get_other, remove_insert, view_entries, is_sorted_true}
 use Rattle.dkg_store.proofs.Passing.{passes_at}
 
 both_true : (a b : Bool) → (a && b) ≡ true → (a ≡ true) × (b ≡ true)

@@ -7,15 +7,15 @@ use Rattle.dkg_journal.specs.Disk.{Follows}
 use Rattle.dkg_journal.specs.Records.{Entry, entries, placed}
 use Rattle.dkg_journal.specs.Steps.{Adds, MayAdd}
 use Rattle.dkg_values.specs.Codec.{Reading, whole}
-use Rattle.dkg_store.specs.Keys.{key_cmp}
+use Rattle.dkg_secrets.specs.Keys.{key_cmp}
 use Rattle.dkg_store.specs.Events.{event_spelling, no_limit, IsEvent}
 use Rattle.dkg_store.specs.declared.event.Event.{Event}
 use Rattle.dkg_store.specs.declared.event.Event.TheVariants as events
-use Rattle.dkg_store.specs.Secrets.{Secrets, after}
-use Rattle.dkg_store.specs.declared.secrets.SecretOp.TheVariants.{PutDealing}
+use Rattle.dkg_secrets.specs.Secrets.{Secrets, after}
+use Rattle.dkg_secrets.specs.declared.secrets.SecretOp.TheVariants.{PutDealing}
 use Rattle.dkg_store.specs.Pairs.{Pairs, Dealing, dealing_in, dealing_of, with_half, with_dealing, recovered, HasHalf, IsWhole, Holds, HoldsEither, PutsFirst}
-use Rattle.dkg_store.proofs.Map as map
-use Rattle.dkg_store.proofs.Map.{keys_total, exact_keys}
+use Rattle.dkg_secrets.proofs.Map as map
+use Rattle.dkg_secrets.proofs.Map.{keys_total, exact_keys}
 use Rattle.dkg_store.proofs.Events.{read_again}
 
 pub same_key : (q k : ℕ × ℕ) → (q ≡ k) ⊎ (q ≢ k)

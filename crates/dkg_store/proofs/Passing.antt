@@ -7,10 +7,10 @@ use Rattle.std.specs.declared.cmp.Ordering.{Ordering}
 use Rattle.std.specs.declared.cmp.Ordering.TheVariants.{Less, Equal, Greater}
 use Rattle.std.proofs.lemmas.Bool.Decides.{nat_tests}
 use Rattle.dkg_values.specs.Rising.{lookup}
-use Rattle.dkg_store.specs.Keys.{key_cmp}
+use Rattle.dkg_secrets.specs.Keys.{key_cmp}
 use Rattle.dkg_store.specs.Pairs.{Pairs}
 use Rattle.dkg_store.specs.Recorded.{Pair, at_epoch, of_epoch, first_refused, refused_or}
-use Rattle.dkg_store.proofs.Map.{keys_total, exact_keys}
+use Rattle.dkg_secrets.proofs.Map.{keys_total, exact_keys}
 
 module _ {E : Type 0} (check : ℕ → List ℕ → ℕ → Result (Unit {0}) E) where
   both : (r : Result (Unit {0}) E) (dealer : ℕ) (later : Option ℕ) → refused_or r dealer later ≡ None → (r ≡ Ok tt) × (later ≡ None)

@@ -6,7 +6,7 @@ use Rattle.std.specs.Cmp.{nat_cmp_total}
 use Rattle.dkg_ceremony.specs.declared.round.Round.{Round}
 use Rattle.dkg_store.specs.Pairs.{Pairs}
 use Rattle.dkg_store.specs.Player.{IsPlayerOf, Acknowledges}
-use Rattle.dkg_store.proofs.Map as map
+use Rattle.dkg_secrets.proofs.Map as map
 use Rattle.dkg_store.proofs.Pairs.{get_here, get_other}
 
 some_is : {A : Type 0} (x y : A) → ◌≡◌ {A = Option A} (Some x) (Some y) → x ≡ y

@@ -19,19 +19,19 @@ use Rattle.dkg_store.specs.declared.event.Event.{Event}
 use Rattle.dkg_store.specs.declared.event.Event.TheVariants as events
 use Rattle.dkg_store.specs.Noted.{GivesPruned, Note, Notes, with_note, noted, noted_ack, noted_log, ack_in, log_in, Gives, GivesEither}
 use Rattle.dkg_store.specs.Named.{SamePlan}
-use Rattle.dkg_store.specs.Secrets.{Secrets, Tries}
-use Rattle.dkg_store.specs.Secrets as of_secrets
+use Rattle.dkg_secrets.specs.Secrets.{Secrets, Tries}
+use Rattle.dkg_secrets.specs.Secrets as of_secrets
 use Rattle.dkg_store.specs.Pairs.{Pairs, Dealing, dealing_in, dealing_of, with_half, with_dealing, recovered, HasHalf, IsWhole, Holds, HoldsEither, HoldsPruned}
 use Rattle.dkg_journal.specs.declared.call.JournalError.{JournalError}
 use Rattle.dkg_journal.specs.declared.call.JournalError.TheVariants as of_journal
 use Rattle.dkg_store.specs.Errors.{IsOfPruning, IsOfSecrets, store_error_of}
 use Rattle.dkg_store.specs.declared.call.StoreError.{StoreError}
 use Rattle.dkg_store.specs.declared.call.StoreError.TheVariants.{Disk, Secrets as OfSecrets, Corrupt, LocalState, StateSyncEpochs, StateSyncMaterial, Cut, NoMemory}
-use Rattle.dkg_store.specs.declared.secrets.SecretOp.TheVariants.{Prune}
+use Rattle.dkg_secrets.specs.declared.secrets.SecretOp.TheVariants.{Prune}
 use Rattle.dkg_store.proofs.Acting.{first_broken}
 use Rattle.dkg_store.proofs.Acts.{made_next}
 use Rattle.dkg_store.proofs.Making.{one, disk_done, disk_torn, secret_done, secret_torn}
-use Rattle.dkg_store.proofs.Map.{below_or}
+use Rattle.dkg_secrets.proofs.Map.{below_or}
 use Rattle.dkg_store.proofs.Noted.{IsUnder, noted_from}
 
 -- THE SECTION OF A RECORD IS ITS EPOCH

@@ -4,7 +4,7 @@ use Rattle.std.proofs.lemmas.List.{take_more, map-append}
 use Rattle.std.proofs.lemmas.List.Sums.{fold_push}
 use Rattle.std.specs.FinMap.{empty}
 use Rattle.dkg_journal.specs.Records.{Entry}
-use Rattle.dkg_store.specs.Secrets.{Secrets}
+use Rattle.dkg_secrets.specs.Secrets.{Secrets}
 use Rattle.dkg_values.specs.Codec.{whole}
 use Rattle.dkg_store.specs.Events.{event_at, no_limit}
 use Rattle.dkg_store.specs.Noted.{Note, with_note, noted, noted_ack, noted_log, ack_in, log_in}

@@ -8,7 +8,7 @@ use Rattle.dkg_journal.specs.Records.{Entry, entries, placed}
 use Rattle.dkg_journal.specs.Steps.{MayAdd}
 use Rattle.dkg_store.specs.Events.{event_spelling, no_limit, IsEvent}
 use Rattle.dkg_store.specs.declared.event.Event.{Event}
-use Rattle.dkg_store.specs.Secrets.{Secrets}
+use Rattle.dkg_secrets.specs.Secrets.{Secrets}
 use Rattle.dkg_store.specs.Pairs.{Pairs, dealing_in, dealing_of, with_dealing, recovered, HasHalf, IsWhole, Holds}
 use Rattle.dkg_store.proofs.Events.{read_again}
 use Rattle.dkg_store.proofs.Pairs.{step, whole_placed}

@@ -9,9 +9,9 @@ use Rattle.dkg_journal.specs.Operations as of_journal
 use Rattle.dkg_journal.specs.Operations.{InPart}
 use Rattle.dkg_journal.specs.Operations.{Journaled, journaled}
 use Rattle.dkg_types.specs.declared.entry.Entry.{Entry as Line}
-use Rattle.dkg_store.specs.Secrets.{Secrets, Tries}
-use Rattle.dkg_store.specs.Secrets as of_secrets
-use Rattle.dkg_store.specs.declared.secrets.SecretOp.{SecretOp}
+use Rattle.dkg_secrets.specs.Secrets.{Secrets, Tries}
+use Rattle.dkg_secrets.specs.Secrets as of_secrets
+use Rattle.dkg_secrets.specs.declared.secrets.SecretOp.{SecretOp}
 use Rattle.dkg_store.specs.declared.devices.Devices.{Devices}
 
 -- What both devices hold: what the disk's files stand for (the journal's entries, the plan's bytes, the names), and the secrets.

@@ -8,8 +8,8 @@ use Rattle.dkg_journal.specs.Records.{Entry}
 use Rattle.dkg_journal.specs.Journals.{append_calls}
 use Rattle.dkg_journal.specs.declared.disk.Op.{Op}
 use Rattle.dkg_journal.specs.declared.journal.Journal.{Journal}
-use Rattle.dkg_store.specs.declared.secrets.SecretOp.{SecretOp}
-use Rattle.dkg_store.specs.declared.secrets.SecretOp.TheVariants.{Prune}
+use Rattle.dkg_secrets.specs.declared.secrets.SecretOp.{SecretOp}
+use Rattle.dkg_secrets.specs.declared.secrets.SecretOp.TheVariants.{Prune}
 
 pub data Call : Type 0 where
   on_disk : Op → Call

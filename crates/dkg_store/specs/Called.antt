@@ -10,7 +10,7 @@ use Rattle.dkg_store.specs.On.{RanOn}
 use Rattle.dkg_store.specs.declared.call.StoreError.{StoreError}
 use Rattle.dkg_store.specs.declared.call.StoreError.TheVariants.{Disk, Secrets, Corrupt, LocalState, StateSyncEpochs, StateSyncMaterial, Cut, NoMemory}
 use Rattle.dkg_store.specs.declared.devices.Devices.{Devices}
-use Rattle.dkg_store.specs.declared.secrets.SecretOp.{SecretOp}
+use Rattle.dkg_secrets.specs.declared.secrets.SecretOp.{SecretOp}
 
 -- How a call ended: in a change or without one, or it was stopped.
 abbrev pub made_in : {T E : Type 0} → Bool → Result T E → Option Bool

@@ -21,8 +21,8 @@ use Rattle.dkg_store.specs.declared.dealer.AckOutcome.TheVariants.{Recorded as N
 use Rattle.dkg_store.specs.declared.player.DealingHandleError.{DealingHandleError}
 use Rattle.dkg_store.specs.declared.player.DealingHandleError.TheVariants.{Refused, Store as OfStore}
 use Rattle.dkg_store.specs.declared.recorded_log.RecordedLog.{RecordedLog}
-use Rattle.dkg_store.specs.declared.secrets.SecretOp.{SecretOp}
-use Rattle.dkg_store.specs.declared.secrets.SecretOp.TheVariants.{PutShare, PutSeed, PutDealing, Prune}
+use Rattle.dkg_secrets.specs.declared.secrets.SecretOp.{SecretOp}
+use Rattle.dkg_secrets.specs.declared.secrets.SecretOp.TheVariants.{PutShare, PutSeed, PutDealing, Prune}
 
 -- what ends acts by an error that is none of their own
 abbrev pub cause_of : StoreError → Cause

@@ -1,8 +1,8 @@
 -- Committing an epoch: its share, if there is one, then its seed.
 use Rattle.std.specs.Prelude.{ℕ, List, [], ◌∷◌, Option, Some, None}
-use Rattle.dkg_store.specs.Secrets.{Secrets, after}
-use Rattle.dkg_store.specs.declared.secrets.SecretOp.{SecretOp}
-use Rattle.dkg_store.specs.declared.secrets.SecretOp.TheVariants.{PutShare, PutSeed}
+use Rattle.dkg_secrets.specs.Secrets.{Secrets, after}
+use Rattle.dkg_secrets.specs.declared.secrets.SecretOp.{SecretOp}
+use Rattle.dkg_secrets.specs.declared.secrets.SecretOp.TheVariants.{PutShare, PutSeed}
 
 abbrev pub commit_calls : ℕ → List ℕ → Option ℕ → List SecretOp
 commit_calls epoch seed None = PutSeed epoch seed ∷ []

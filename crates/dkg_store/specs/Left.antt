@@ -19,7 +19,7 @@ use Rattle.dkg_store.specs.Named.{Named, MayBeNamed, NamesOpened, NamesPruned, S
 use Rattle.dkg_store.specs.Noted.{Gives, GivesEither, GivesPruned, Notes, SameNotes, acks_in, logs_in}
 use Rattle.dkg_store.specs.Pairs.{Pairs, Holds, HoldsEither, HoldsPruned, IsWhole, recovered}
 use Rattle.dkg_store.specs.Recorded.{restored_list}
-use Rattle.dkg_store.specs.Secrets.{Secrets}
+use Rattle.dkg_secrets.specs.Secrets.{Secrets}
 use Rattle.dkg_store.specs.declared.recorded_log.RecordedLog.{RecordedLog}
 use Rattle.dkg_store.specs.declared.store.Store.{Store}
 

@@ -6,13 +6,10 @@ pub mod Chain
 pub mod Commits
 pub mod Corrupt
 pub mod Counts
-pub mod Cuts
 pub mod Dealer
 pub mod Errors
 pub mod Events
-pub mod Keys
 pub mod Left
-pub mod Made
 pub mod Named
 pub mod Noted
 pub mod On
@@ -21,4 +18,3 @@ pub mod Player
 pub mod Ready
 pub mod Recorded
 pub mod Rest
-pub mod Secrets

@@ -8,12 +8,12 @@ use Rattle.dkg_journal.specs.Records.{Entry, entries}
 use Rattle.dkg_journal.specs.Steps.{MayAdd}
 use Rattle.dkg_values.specs.Codec.{whole}
 use Rattle.dkg_values.specs.declared.codec.CodecError.{CodecError}
-use Rattle.dkg_store.specs.Keys.{key_cmp}
+use Rattle.dkg_secrets.specs.Keys.{key_cmp}
 use Rattle.dkg_store.specs.Events.{event_at, no_limit}
 use Rattle.dkg_store.specs.declared.event.Event.{Event}
 use Rattle.dkg_store.specs.declared.event.Event.TheVariants as events
-use Rattle.dkg_store.specs.Secrets.{Secrets, Tries, after}
-use Rattle.dkg_store.specs.declared.secrets.SecretOp.{SecretOp}
+use Rattle.dkg_secrets.specs.Secrets.{Secrets, Tries, after}
+use Rattle.dkg_secrets.specs.declared.secrets.SecretOp.{SecretOp}
 
 -- both halves by epoch and dealer
 abbrev pub Pairs : Type 0

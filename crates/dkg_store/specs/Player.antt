@@ -15,7 +15,7 @@ use Rattle.dkg_store.specs.Called.{IsDue, if_made, made_in}
 use Rattle.dkg_store.specs.Pairs.{Pairs, Holds, HoldsEither}
 use Rattle.dkg_store.specs.Recorded.{with_first}
 use Rattle.dkg_store.specs.Rest.{SameRest}
-use Rattle.dkg_store.specs.Secrets.{Secrets}
+use Rattle.dkg_secrets.specs.Secrets.{Secrets}
 use Rattle.dkg_store.specs.declared.player.DealingHandleError.{DealingHandleError}
 use Rattle.dkg_store.specs.declared.player.DealingHandleError.TheVariants.{Refused, Store as OfStore}
 use Rattle.dkg_store.specs.declared.player.Player.{Player}

@@ -5,7 +5,7 @@ use Rattle.dkg_journal.specs.declared.journal.Journal.{Journal}
 use Rattle.dkg_store.specs.Both.{Call, put_then_append}
 use Rattle.dkg_store.specs.Events.{event_spelling, IsEvent}
 use Rattle.dkg_store.specs.declared.event.Event.TheVariants as events
-use Rattle.dkg_store.specs.declared.secrets.SecretOp.TheVariants.{PutDealing}
+use Rattle.dkg_secrets.specs.declared.secrets.SecretOp.TheVariants.{PutDealing}
 use Rattle.dkg_store.specs.declared.store.ReadyDealing.{ReadyDealing}
 
 pub record IsReadyDealing (ready : ReadyDealing) (epoch dealer : ℕ) (public : List ℕ) (private : ℕ) : Type 0 where

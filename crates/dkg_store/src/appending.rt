@@ -15,8 +15,8 @@ ghost use Rattle.dkg_store.specs.Left.{Extends};
 
 use crate::call::{StoreError, of_journal};
 use crate::devices::Devices;
-use crate::pair_map::PairMap;
-use crate::secrets::SecretStore;
+use dkg_secrets::PairMap;
+use dkg_secrets::SecretStore;
 use dkg_journal::{Disk, Journal};
 use dkg_values::{Epoch, Key};
 use std::alloc::Global;

@@ -10,9 +10,9 @@ ghost use Rattle.dkg_store.specs.Calls.{cause_of};
 ghost use Rattle.dkg_store.specs.Called.{IsDue};
 ghost use Rattle.dkg_store.specs.Errors.{store_error_of};
 ghost use Rattle.dkg_store.specs.declared.call.StoreError.TheVariants.{NoMemory as WantOfMemory};
-ghost use Rattle.dkg_store.specs.Secrets.{Tries, HasCause, HasWant, after};
+ghost use Rattle.dkg_secrets.specs.Secrets.{Tries, HasCause, HasWant, after};
 
-use crate::secrets::{SecretError, SecretOp, SecretStore};
+use dkg_secrets::{SecretError, SecretOp, SecretStore};
 use dkg_journal::{Fuse, JournalError};
 use dkg_types::LocalCause;
 use dkg_values::{Epoch, Name, NoMemory};

@@ -27,10 +27,10 @@ ghost use Rattle.dkg_types.specs.declared.entry.Entry.{Entry as Line};
 
 use crate::call::StoreError;
 use crate::devices::Devices;
-use crate::number_map::NumberMap;
-use crate::pair_map::PairMap;
+use dkg_secrets::NumberMap;
+use dkg_secrets::PairMap;
 use crate::player::{forget_ack, keep_ack, kept_ack};
-use crate::secrets::SecretStore;
+use dkg_secrets::SecretStore;
 use crate::store::{Store, in_order};
 use dkg_ceremony::{
     Ack, AckError, Ceremony, Private, Public, Round, SignedDealerLog, Value, max_faults,

@@ -14,10 +14,10 @@ ghost use Rattle.dkg_store.specs.Calls.{put_and_appended, pruning, ended};
 ghost use Rattle.dkg_store.specs.Left.{Extends, GivesAbove, Shrinks};
 ghost use Rattle.dkg_store.specs.On.{StaysFirm};
 ghost use Rattle.dkg_store.specs.Pairs.{PutsFirst};
-ghost use Rattle.dkg_store.specs.Secrets.{Tries, after};
+ghost use Rattle.dkg_secrets.specs.Secrets.{Tries, after};
 
 use crate::call::{StoreError, of_journal, perform_secret};
-use crate::secrets::{SecretOp, SecretStore};
+use dkg_secrets::{SecretOp, SecretStore};
 use dkg_journal::{Disk, Fuse, Journal, Prepared};
 use dkg_values::Epoch;
 use std::alloc::Global;

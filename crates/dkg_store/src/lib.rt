@@ -17,31 +17,21 @@ mod devices;
 mod event;
 #[cfg(test)]
 mod heights_tests;
-mod held;
 mod key_map;
-mod memory_secrets;
-mod number_map;
-mod pair_map;
 mod player;
 #[cfg(test)]
 mod playing_tests;
 mod recorded_log;
 mod restoring;
-mod secrets;
 #[cfg(test)]
 mod stops;
 mod store;
-mod sure_secrets;
-#[cfg(test)]
-mod tests;
 
 pub use call::{StoreError, perform_secret};
 pub use dealer::{AckHandleError, AckOutcome, Dealer, Unsent};
 pub use devices::Devices;
+pub use dkg_secrets::{MemorySecrets, SecretError, SecretOp, SecretStore, SureSecrets};
 pub use dkg_types::Restored;
 pub use event::Event;
-pub use memory_secrets::MemorySecrets;
 pub use player::{DealingHandleError, Player};
-pub use secrets::{SecretError, SecretOp, SecretStore};
 pub use store::Store;
-pub use sure_secrets::SureSecrets;

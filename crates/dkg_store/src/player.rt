@@ -23,8 +23,8 @@ ghost use Rattle.dkg_store.specs.declared.player.DealingHandleError.TheVariants.
 use crate::call::StoreError;
 use crate::devices::Devices;
 use crate::key_map::KeyMap;
-use crate::number_map::NumberMap;
-use crate::secrets::SecretStore;
+use dkg_secrets::NumberMap;
+use dkg_secrets::SecretStore;
 use crate::store::Store;
 use dkg_ceremony::{
     Ack, Ceremony, DealerLog, DealingError, FinishError, Output, Private, Public, Round, Share,

@@ -13,9 +13,9 @@ ghost use Rattle.dkg_store.specs.Pairs.{with_half, with_dealing, dealing_in, dea
 
 use crate::call::StoreError;
 use crate::event::{Event, read_event};
-use crate::pair_map::PairMap;
+use dkg_secrets::PairMap;
 use crate::recorded_log::RecordedLog;
-use crate::secrets::{SecretError, SecretStore};
+use dkg_secrets::{SecretError, SecretStore};
 use dkg_ceremony::{Ack, Private, Public};
 use dkg_journal::JournalEntry;
 use dkg_values::{CodecError, Epoch, Key, Name};

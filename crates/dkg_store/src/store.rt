@@ -36,7 +36,7 @@ ghost use Rattle.dkg_store.specs.Corrupt.{IsAlien, IsCorruptAt, AreEvents, AreFi
 ghost use Rattle.dkg_store.specs.Counts.{CountsOn};
 ghost use Rattle.dkg_journal.specs.Opens.{KeepsAll};
 ghost use Rattle.dkg_store.specs.Errors.{IsOfDealing, IsOfDevices, IsOfOpening, IsOfPlaying, IsOfPruning, IsOfSecrets};
-ghost use Rattle.dkg_store.specs.Secrets.{Secrets, Tries, after};
+ghost use Rattle.dkg_secrets.specs.Secrets.{Secrets, Tries, after};
 ghost use Rattle.dkg_store.specs.Events.{event_spelling, is_event};
 ghost use Rattle.dkg_store.specs.declared.event.Event.TheVariants as events;
 ghost use Rattle.dkg_store.specs.Pairs.{Pairs, HoldsPruned, IsWhole, AreAtOrAbove, Holds, HoldsEither, recovered};
@@ -56,11 +56,11 @@ use crate::dealer::{Dealer, replayed};
 use crate::devices::{Devices, prune_devices, put_and_append};
 use crate::event::{ack_body, ack_fits, dealing_body, dealing_fits, log_body, log_fits};
 use crate::key_map::KeyMap;
-use crate::pair_map::PairMap;
+use dkg_secrets::PairMap;
 use crate::player::Player;
 use crate::recorded_log::RecordedLog;
 use crate::restoring::{Recorded, restore};
-use crate::secrets::{SecretError, SecretOp, SecretStore};
+use dkg_secrets::{SecretError, SecretOp, SecretStore};
 use dkg_ceremony::{
     Ack, Ceremony, DealError, DealerLog, Private, Public, Round, Share, Signer, Value,
 };

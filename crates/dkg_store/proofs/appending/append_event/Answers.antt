@@ -17,7 +17,7 @@ use Rattle.dkg_journal.proofs.Fuses.{cut_reached, ok_unreached}
 use Rattle.dkg_store.proofs.Counts.{counts_fused}
 use Rattle.dkg_store.proofs.Left.{called_alike, called_unmade, due_append, extends_alike, extends_unmade}
 use Rattle.dkg_store.proofs.Making.{journal_end}
-use Rattle.dkg_store.proofs.Map.{remove_insert, keys_total, exact_keys}
+use Rattle.dkg_secrets.proofs.Map.{remove_insert, keys_total, exact_keys}
 use Rattle.dkg_store.proofs.Others.{others_of, not_added}
 use Rattle.dkg_store.proofs.Fit.{may_add_fit}
 use Rattle.dkg_journal.proofs.Journals.{added_there}

@@ -7,7 +7,7 @@ use Rattle.dkg_journal.proofs.Steps.{then_all, ran_all, ran_more}
 use Rattle.dkg_store.specs.Both.{MadeBoth, on_disk, on_secrets}
 use Rattle.dkg_store.specs.Errors.{IsOfDevices, store_error_of}
 use Rattle.dkg_store.specs.Noted.{acks_in, logs_in, noted_ack, noted_log}
-use Rattle.dkg_store.specs.declared.secrets.SecretOp.TheVariants.{Prune}
+use Rattle.dkg_secrets.specs.declared.secrets.SecretOp.TheVariants.{Prune}
 use Rattle.dkg_store.specs.Acts.{EndsBy}
 use Rattle.dkg_store.specs.Calls.{cause_of}
 use Rattle.dkg_store.specs.declared.call.StoreError.{StoreError}

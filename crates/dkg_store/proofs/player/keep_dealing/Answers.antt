@@ -13,7 +13,7 @@ use Rattle.dkg_store.proofs.Acts.{made_next, made_none, made_say}
 use Rattle.dkg_store.proofs.Acting.{then_broken, ended_broken, breaks_off}
 use Rattle.dkg_store.proofs.Answering.{recorded_new}
 use Rattle.dkg_store.proofs.Left.{called_as, called_unmade, due_around, due_of_devices, due_want, extends_as, extends_unmade, gives_as, gives_unmade}
-use Rattle.dkg_store.proofs.Map.{remove_insert}
+use Rattle.dkg_secrets.proofs.Map.{remove_insert}
 use Rattle.dkg_store.proofs.Own.{took_back}
 use Rattle.dkg_store.proofs.player.keep_dealing.Goals as goal
 

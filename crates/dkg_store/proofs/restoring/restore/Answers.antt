@@ -5,7 +5,7 @@ use Rattle.dkg_values.specs.declared.name.Name.{Name}
 use Rattle.dkg_store.specs.Events.{no_event_at}
 use Rattle.dkg_store.specs.declared.call.StoreError.{StoreError}
 use Rattle.dkg_store.specs.declared.call.StoreError.TheVariants.{Corrupt, Secrets as OfSecrets}
-use Rattle.dkg_store.specs.Secrets.{Secrets}
+use Rattle.dkg_secrets.specs.Secrets.{Secrets}
 use Rattle.dkg_store.specs.Pairs.{Pairs, with_dealing, dealing_of}
 use Rattle.dkg_journal.specs.Views.{view}
 use Rattle.dkg_store.proofs.Corrupt.{same_error}

@@ -10,7 +10,7 @@ use Rattle.dkg_store.specs.declared.call.StoreError.{StoreError}
 use Rattle.dkg_store.proofs.Acts.{made_none}
 use Rattle.dkg_store.proofs.Acting.{ended_broken, made_alike}
 use Rattle.dkg_store.proofs.Left.{called_alike, calls_alike, called_unmade, due_around, extends_alike, extends_unmade, gives_put, gives_recorded, gives_unmade}
-use Rattle.dkg_store.proofs.Map.{remove_insert, keys_total, exact_keys}
+use Rattle.dkg_secrets.proofs.Map.{remove_insert, keys_total, exact_keys}
 use Rattle.dkg_store.proofs.store.record_dealing.Goals as goal
 
 pub returns-in-Err-clause-kept : goal.returns-in-Err-clause-kept

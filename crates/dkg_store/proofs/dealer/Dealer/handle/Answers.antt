@@ -13,7 +13,7 @@ use Rattle.dkg_store.proofs.Appended.{is_none}
 use Rattle.dkg_store.proofs.Dealing.{counts_one}
 use Rattle.dkg_store.proofs.Handling.{made_new, made_old}
 use Rattle.dkg_store.proofs.Left.{called_as, called_unmade, due_around, due_of_devices, due_want, extends_as, extends_unmade, note_as, note_unmade, unmade_as}
-use Rattle.dkg_store.proofs.Map.{remove_insert}
+use Rattle.dkg_secrets.proofs.Map.{remove_insert}
 use Rattle.dkg_store.proofs.dealer.Dealer.handle.Goals as goal
 
 pub returns-in-Ok-true-clause-dealer : goal.returns-in-Ok-true-clause-dealer

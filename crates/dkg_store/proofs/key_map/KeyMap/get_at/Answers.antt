@@ -2,7 +2,7 @@ use Rattle.std.proofs.Common.{ap, sym, ◌∙◌}
 use Rattle.std.specs.FinMap as map
 use Rattle.std.specs.Ordering.{nat_cmp}
 use Rattle.std.specs.Cmp.{nat_cmp_total}
-use Rattle.dkg_store.proofs.Map.{get_view}
+use Rattle.dkg_secrets.proofs.Map.{get_view}
 use Rattle.dkg_store.proofs.key_map.KeyMap.get_at.Goals as goal
 
 pub returns : goal.returns

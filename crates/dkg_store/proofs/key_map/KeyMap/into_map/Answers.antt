@@ -5,7 +5,7 @@ use Rattle.std.specs.Cmp.{nat_cmp_total}
 use Rattle.std.specs.List.Sorted.{IsStrictlyIncreasing}
 use Rattle.std.proofs.lemmas.Map.Keys.{IsStrictlyIncreasing-from_sorted}
 use Rattle.dkg_values.specs.Rising.{keys_of}
-use Rattle.dkg_store.proofs.Map.{view_entries}
+use Rattle.dkg_secrets.proofs.Map.{view_entries}
 use Rattle.dkg_store.proofs.key_map.KeyMap.into_map.Goals as goal
 
 pub loop-key-init : goal.loop-key-init

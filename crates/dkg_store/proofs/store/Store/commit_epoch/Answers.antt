@@ -4,7 +4,7 @@ use Rattle.std.proofs.lemmas.Result.{err_from_is_err_and}
 use Rattle.dkg_store.specs.Commits.{commit_calls}
 use Rattle.dkg_store.proofs.Left.{called_secrets}
 use Rattle.std.specs.FinMap.{FinMap, get}
-use Rattle.dkg_store.specs.Keys.{key_cmp}
+use Rattle.dkg_secrets.specs.Keys.{key_cmp}
 use Rattle.dkg_store.proofs.Halves.{halves_hold}
 use Rattle.dkg_store.proofs.store.Store.commit_epoch.Goals as goal
 

@@ -1,0 +1,4 @@
+pub mod Cuts
+pub mod Map
+pub mod Ranges
+pub mod Tried

@@ -1,0 +1,4 @@
+pub mod Cuts
+pub mod Keys
+pub mod Made
+pub mod Secrets

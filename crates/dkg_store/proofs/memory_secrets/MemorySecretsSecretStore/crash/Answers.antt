@@ -1,7 +1,0 @@
-use Rattle.std.proofs.Common.{refl}
-use Rattle.dkg_journal.specs.DeviceCall.{Crashes}
-use Rattle.dkg_store.specs.Made.{made_one}
-use Rattle.dkg_store.proofs.memory_secrets.MemorySecretsSecretStore.crash.Goals as goal
-
-pub returns-clause-calls : goal.returns-clause-calls
-returns-clause-calls c = made_one (Crashes c.args.pick) _ _ refl
