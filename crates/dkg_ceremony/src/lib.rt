@@ -9,31 +9,23 @@ mod combine;
 mod deal;
 mod dealer_log;
 mod epocher;
-#[cfg(test)]
-mod epocher_tests;
 mod evaluate;
 mod finish;
 mod limits;
 mod log_entries;
 mod log_entry;
 mod log_mark;
-#[cfg(test)]
-mod log_tests;
 mod mode;
 mod output;
 mod phase;
 mod private;
 mod public;
 mod round;
-#[cfg(test)]
-mod round_tests;
 mod select;
 mod sharing;
 mod sign;
 mod signed_log;
 mod stand;
-#[cfg(test)]
-mod tests;
 mod threshold;
 mod valid_log;
 mod weigh;

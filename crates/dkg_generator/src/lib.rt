@@ -9,7 +9,5 @@ mod chain;
 mod life;
 mod make;
 mod plan;
-#[cfg(test)]
-mod tests;
 
 pub use make::make_script;

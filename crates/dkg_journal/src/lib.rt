@@ -18,8 +18,6 @@ mod pruning;
 mod record;
 mod sure;
 mod table;
-#[cfg(test)]
-mod tests;
 mod wholes;
 
 pub use call::{JournalError, perform};

@@ -10,8 +10,6 @@ mod actor;
 mod artifact;
 mod blocks;
 mod candidates;
-#[cfg(test)]
-mod cases;
 mod discovery;
 mod event;
 mod laws;
@@ -19,8 +17,6 @@ mod mailbox;
 mod sample;
 mod service;
 mod state;
-#[cfg(test)]
-mod tests;
 mod wire;
 
 pub use actor::{Actor, Config};

@@ -15,8 +15,6 @@ mod opening;
 mod setup;
 mod source;
 mod stop;
-#[cfg(test)]
-mod tests;
 mod tip;
 
 pub use actor::Actor;

@@ -9,16 +9,32 @@ mod blames;
 #[cfg(test)]
 mod block_rows;
 #[cfg(test)]
+mod chain;
+#[cfg(test)]
 mod cuts;
+#[cfg(test)]
+mod dealing;
+#[cfg(test)]
+mod heights;
 #[cfg(test)]
 mod misses;
 #[cfg(test)]
 mod observer;
 #[cfg(test)]
+mod playing;
+#[cfg(test)]
+mod reshare;
+#[cfg(test)]
 mod rows;
 #[cfg(test)]
 mod runs;
 #[cfg(test)]
+mod script;
+#[cfg(test)]
+mod secrets;
+#[cfg(test)]
 mod statuses;
+#[cfg(test)]
+mod stops;
 
 pub use appends::append_two;

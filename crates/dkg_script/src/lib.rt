@@ -14,8 +14,6 @@ mod built;
 mod promise;
 mod read;
 mod start;
-#[cfg(test)]
-mod tests;
 
 pub use built::is_built;
 pub use dkg_text::{

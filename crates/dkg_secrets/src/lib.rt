@@ -10,8 +10,6 @@ mod number_map;
 mod pair_map;
 mod secrets;
 mod sure_secrets;
-#[cfg(test)]
-mod tests;
 
 pub use memory_secrets::MemorySecrets;
 pub use number_map::NumberMap;

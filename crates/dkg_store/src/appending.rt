@@ -15,9 +15,8 @@ ghost use Rattle.dkg_store.specs.Left.{Extends};
 
 use crate::call::{StoreError, of_journal};
 use crate::devices::Devices;
-use dkg_secrets::PairMap;
-use dkg_secrets::SecretStore;
 use dkg_journal::{Disk, Journal};
+use dkg_secrets::{PairMap, SecretStore};
 use dkg_values::{Epoch, Key};
 use std::alloc::Global;
 

@@ -27,15 +27,13 @@ ghost use Rattle.dkg_types.specs.declared.entry.Entry.{Entry as Line};
 
 use crate::call::StoreError;
 use crate::devices::Devices;
-use dkg_secrets::NumberMap;
-use dkg_secrets::PairMap;
 use crate::player::{forget_ack, keep_ack, kept_ack};
-use dkg_secrets::SecretStore;
 use crate::store::{Store, in_order};
 use dkg_ceremony::{
     Ack, AckError, Ceremony, Private, Public, Round, SignedDealerLog, Value, max_faults,
 };
 use dkg_journal::Disk;
+use dkg_secrets::{NumberMap, PairMap, SecretStore};
 use dkg_values::{Epoch, Key, Map, Mem, NoMemory, Set};
 use std::alloc::Global;
 use std::marker::Model;

@@ -17,8 +17,8 @@ ghost use Rattle.dkg_store.specs.Pairs.{PutsFirst};
 ghost use Rattle.dkg_secrets.specs.Secrets.{Tries, after};
 
 use crate::call::{StoreError, of_journal, perform_secret};
-use dkg_secrets::{SecretOp, SecretStore};
 use dkg_journal::{Disk, Fuse, Journal, Prepared};
+use dkg_secrets::{SecretOp, SecretStore};
 use dkg_values::Epoch;
 use std::alloc::Global;
 

@@ -8,23 +8,13 @@
 
 mod appending;
 mod call;
-#[cfg(test)]
-mod chain_tests;
 mod dealer;
-#[cfg(test)]
-mod dealing_tests;
 mod devices;
 mod event;
-#[cfg(test)]
-mod heights_tests;
 mod key_map;
 mod player;
-#[cfg(test)]
-mod playing_tests;
 mod recorded_log;
 mod restoring;
-#[cfg(test)]
-mod stops;
 mod store;
 
 pub use call::{StoreError, perform_secret};

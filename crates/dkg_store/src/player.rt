@@ -23,14 +23,13 @@ ghost use Rattle.dkg_store.specs.declared.player.DealingHandleError.TheVariants.
 use crate::call::StoreError;
 use crate::devices::Devices;
 use crate::key_map::KeyMap;
-use dkg_secrets::NumberMap;
-use dkg_secrets::SecretStore;
 use crate::store::Store;
 use dkg_ceremony::{
     Ack, Ceremony, DealerLog, DealingError, FinishError, Output, Private, Public, Round, Share,
     Value,
 };
 use dkg_journal::Disk;
+use dkg_secrets::{NumberMap, SecretStore};
 use dkg_types::{Entry, Transcript};
 use dkg_values::{Epoch, Key, Map, Mem};
 use std::alloc::Global;

@@ -13,11 +13,10 @@ ghost use Rattle.dkg_store.specs.Pairs.{with_half, with_dealing, dealing_in, dea
 
 use crate::call::StoreError;
 use crate::event::{Event, read_event};
-use dkg_secrets::PairMap;
 use crate::recorded_log::RecordedLog;
-use dkg_secrets::{SecretError, SecretStore};
 use dkg_ceremony::{Ack, Private, Public};
 use dkg_journal::JournalEntry;
+use dkg_secrets::{PairMap, SecretError, SecretStore};
 use dkg_values::{CodecError, Epoch, Key, Name};
 use std::alloc::Global;
 

@@ -56,15 +56,14 @@ use crate::dealer::{Dealer, replayed};
 use crate::devices::{Devices, prune_devices, put_and_append};
 use crate::event::{ack_body, ack_fits, dealing_body, dealing_fits, log_body, log_fits};
 use crate::key_map::KeyMap;
-use dkg_secrets::PairMap;
 use crate::player::Player;
 use crate::recorded_log::RecordedLog;
 use crate::restoring::{Recorded, restore};
-use dkg_secrets::{SecretError, SecretOp, SecretStore};
 use dkg_ceremony::{
     Ack, Ceremony, DealError, DealerLog, Private, Public, Round, Share, Signer, Value,
 };
 use dkg_journal::{Disk, Fuse, Journal, Op, perform};
+use dkg_secrets::{PairMap, SecretError, SecretOp, SecretStore};
 use dkg_types::{EpochInfo, LocalCause, Restored};
 use dkg_values::{Epoch, Height, Key, Map, Mem, NoMemory, NotRising, Seed};
 use std::alloc::Global;

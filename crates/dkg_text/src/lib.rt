@@ -22,8 +22,6 @@ mod read;
 mod script;
 mod stop;
 mod tallies;
-#[cfg(test)]
-mod tests;
 mod text;
 mod words;
 mod write;

@@ -20,8 +20,6 @@ mod payload;
 mod provider;
 mod registrar;
 mod scheme;
-#[cfg(test)]
-mod tests;
 mod transcript;
 
 pub use addresses::{Address, Addresses, Socket};

@@ -12,8 +12,6 @@ mod memory;
 mod name;
 mod numbers;
 mod set;
-#[cfg(test)]
-mod tests;
 mod uint;
 mod value;
 

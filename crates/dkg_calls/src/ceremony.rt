@@ -1,0 +1,505 @@
+use dkg_ceremony::*;
+use std::alloc::Global;
+use std::test::Fail;
+
+/// Four players, 5 + x + 2x², each dealt by all four.
+const OUTPUT: [u8; 52] = [
+    0, 0, 0, 0, 0, 0, 0, 0, 0, 4, 3, 0, 5, 0, 1, 0, 2, 4, 0, 0, 0, 1, 0, 0, 0, 2, 0, 0, 0, 3, 0, 0,
+    0, 4, 4, 0, 0, 0, 1, 0, 0, 0, 2, 0, 0, 0, 3, 0, 0, 0, 4, 0,
+];
+
+fn fault_of<T: Drop>(answer: Result<T, CodecError>) -> Option<CodecError> {
+    match answer {
+        Ok(_) => None,
+        Err(fault) => Some(fault),
+    }
+}
+
+fn fault_of_public(alloc: Global, bytes: &[u8]) -> Option<CodecError> {
+    fault_of(decode_cfg::<Public>(alloc, bytes, &4))
+}
+
+fn fault_of_output(alloc: Global, bytes: &[u8], version: u8) -> Option<CodecError> {
+    fault_of(decode_cfg::<Output>(alloc, bytes, &(4, ModeVersion(version))))
+}
+
+#[test]
+fn publics_are_refused(rt: HostRuntime) -> Result<(), Fail> {
+    let rows: [(&[u8], Option<CodecError>); 8] = [
+        (&[1, 0xff, 0xf0], None),
+        (&[], Some(CodecError::EndOfBuffer)),
+        (&[1, 0], Some(CodecError::EndOfBuffer)),
+        (&[0x80, 0], Some(CodecError::InvalidVarint)),
+        (&[0], Some(CodecError::InvalidLength { got: 0, max: 4 })),
+        (&[5], Some(CodecError::InvalidLength { got: 5, max: 4 })),
+        (&[1, 0xff, 0xf1], Some(CodecError::Invalid(What::Element))),
+        (&[1, 0, 5, 0], Some(CodecError::ExtraData)),
+    ];
+    for (bytes, want) in rows {
+        let fault = fault_of_public(rt.alloc(), bytes);
+        assert_eq!(rt; fault, want, "at {bytes:?}");
+    }
+    Ok(())
+}
+
+/// An output whose bytes are those of the worked one but for one.
+fn fault_of_edit(alloc: Global, place: usize, byte: u8) -> Option<CodecError> {
+    let mut bytes = OUTPUT;
+    if place < 52 {
+        bytes[place] = byte;
+    }
+    fault_of_output(alloc, &bytes, 0)
+}
+
+#[test]
+fn edited_outputs_are_refused(rt: HostRuntime) -> Result<(), Fail> {
+    let rows: [(usize, u8, Option<CodecError>); 9] = [
+        (0, 7, None),
+        (8, 1, Some(CodecError::InvalidEnum(1))),
+        (8, 2, Some(CodecError::InvalidEnum(2))),
+        (9, 3, Some(CodecError::Invalid(What::Output))),
+        (10, 133, Some(CodecError::InvalidVarint)),
+        (17, 5, Some(CodecError::InvalidLength { got: 5, max: 4 })),
+        (25, 1, Some(CodecError::Invalid(What::Set))),
+        (34, 3, Some(CodecError::Invalid(What::Output))),
+        (51, 1, Some(CodecError::EndOfBuffer)),
+    ];
+    for (place, byte, want) in rows {
+        let fault = fault_of_edit(rt.alloc(), place, byte);
+        assert_eq!(rt; fault, want, "{byte} at {place}");
+    }
+    Ok(())
+}
+
+#[test]
+fn outputs_whose_parts_differ_are_refused(rt: HostRuntime) -> Result<(), Fail> {
+    let invalid = Some(CodecError::Invalid(What::Output));
+    let rows: [(&[u8], Option<CodecError>); 6] = [
+        (
+            &[
+                0, 0, 0, 0, 0, 0, 0, 0, 1, 1, 1, 0, 5, 0, 1, 0, 0, 0, 7, 1, 0, 0, 0, 7,
+            ],
+            None,
+        ),
+        (
+            &[
+                0, 0, 0, 0, 0, 0, 0, 0, 0, 1, 2, 0, 5, 0, 1, 0, 1, 0, 0, 0, 7, 0,
+            ],
+            invalid,
+        ),
+        (&[0, 0, 0, 0, 0, 0, 0, 0, 0, 0, 1, 0, 5, 0, 0, 0], invalid),
+        (
+            &[
+                0, 0, 0, 0, 0, 0, 0, 0, 0, 1, 1, 0, 5, 0, 1, 0, 0, 0, 7, 1, 0, 0, 0, 8,
+            ],
+            invalid,
+        ),
+        (
+            &[
+                0, 0, 0, 0, 0, 0, 0, 0, 0, 1, 1, 0xff, 0xf1, 0, 1, 0, 0, 0, 7, 0,
+            ],
+            Some(CodecError::Invalid(What::Element)),
+        ),
+        (
+            &[
+                0, 0, 0, 0, 0, 0, 0, 0, 0, 1, 1, 0, 5, 0, 1, 0, 0, 0, 7, 0, 0,
+            ],
+            Some(CodecError::ExtraData),
+        ),
+    ];
+    for (bytes, want) in rows {
+        let fault = fault_of_output(rt.alloc(), bytes, 1);
+        assert_eq!(rt; fault, want, "at {bytes:?}");
+    }
+    Ok(())
+}
+
+pub(crate) fn output(alloc: Global) -> Result<Output, CodecError> {
+    decode_cfg::<Output>(alloc, &OUTPUT, &(4, ModeVersion(0)))
+}
+
+fn public(alloc: Global, bytes: &[u8]) -> Result<Public, CodecError> {
+    decode_cfg::<Public>(alloc, bytes, &4)
+}
+
+pub(crate) fn first_keys(alloc: Global, count: u32) -> Result<Set, Fail> {
+    let mut keys = Vec::new(alloc);
+    for number in 0..count {
+        keys.push(Key(number + 1))?;
+    }
+    if keys.len() > 70000 {
+        return Err(Fail::from(NotRising));
+    }
+    Ok(Set::from_sorted(keys)?)
+}
+
+/// Round 0 of a chain without a name, by any ceremony.
+pub(crate) fn draw<C: Ceremony>(
+    ceremony: &C,
+    alloc: Global,
+    previous: Option<&Output>,
+    dealers: &Set,
+    players: &Set,
+) -> Result<Round, RoundError> {
+    let mode = Mode::NonZeroCounter;
+    ceremony.round(alloc, b"", 0, previous, mode, Reveal::V1, dealers, players)
+}
+
+fn round_fault(
+    alloc: Global,
+    dealers: u32,
+    players: u32,
+    follows: bool,
+) -> Result<Option<RoundError>, Fail> {
+    let previous = output(alloc)?;
+    let previous = if follows { Some(&previous) } else { None };
+    let dealers = first_keys(alloc, dealers)?;
+    let players = first_keys(alloc, players)?;
+    match draw(&StandCeremony, alloc, previous, &dealers, &players) {
+        Ok(_) => Ok(None),
+        Err(fault) => Ok(Some(fault)),
+    }
+}
+
+#[test]
+fn rounds_are_drawn(rt: HostRuntime) -> Result<(), Fail> {
+    let rows = [
+        (0, 0, true, Some(RoundError::NoDealers)),
+        (4, 0, true, Some(RoundError::NoPlayers)),
+        (65521, 4, true, Some(RoundError::TooMany)),
+        (4, 65521, true, Some(RoundError::TooMany)),
+        (5, 4, true, Some(RoundError::DealersNotPrevious)),
+        (65520, 65520, false, None),
+        (3, 5, true, None),
+    ];
+    for (dealers, players, follows, want) in rows {
+        let fault = round_fault(rt.alloc(), dealers, players, follows)?;
+        assert_eq!(rt; fault, want, "{dealers} to {players}");
+    }
+    Ok(())
+}
+
+/// What any ceremony says of a dealing to key 1.
+fn check<C: Ceremony>(
+    ceremony: &C,
+    round: &Round,
+    dealer: u32,
+    public: &Public,
+    value: u16,
+) -> Option<DealingError> {
+    let me = Key(1);
+    let private = Private(Element::new(value)?);
+    if !round.players.has(me) {
+        return None;
+    }
+    ceremony
+        .check_dealing(round, me, Key(dealer), public, &private)
+        .err()
+}
+
+pub(crate) fn worked_round(alloc: Global, previous: Option<&Output>) -> Result<Round, Fail> {
+    let keys = first_keys(alloc, 4)?;
+    Ok(draw(&StandCeremony, alloc, previous, &keys, &keys)?)
+}
+
+fn dealing_fault(
+    alloc: Global,
+    dealer: u32,
+    bytes: &[u8],
+    value: u16,
+) -> Result<Option<DealingError>, Fail> {
+    let previous = output(alloc)?;
+    let round = worked_round(alloc, Some(&previous))?;
+    let public = public(alloc, bytes)?;
+    Ok(check(&StandCeremony, &round, dealer, &public, value))
+}
+
+#[test]
+fn dealings_are_checked(rt: HostRuntime) -> Result<(), Fail> {
+    let rows: [(u32, &[u8], u16, Option<DealingError>); 6] = [
+        (2, &[3, 0, 15, 0, 7, 0, 1], 23, None),
+        (
+            2,
+            &[3, 0, 15, 0, 7, 0, 1],
+            45,
+            Some(DealingError::InvalidDealerShare),
+        ),
+        (
+            9,
+            &[2, 0, 15, 0, 7],
+            22,
+            Some(DealingError::UnexpectedDealer),
+        ),
+        (
+            2,
+            &[2, 0, 16, 0, 7],
+            22,
+            Some(DealingError::InvalidCommitmentDegree),
+        ),
+        (
+            2,
+            &[3, 0, 16, 0, 7, 0, 1],
+            24,
+            Some(DealingError::MismatchedReshareCommitment),
+        ),
+        (
+            2,
+            &[3, 0, 16, 0, 7, 0, 1],
+            23,
+            Some(DealingError::MismatchedReshareCommitment),
+        ),
+    ];
+    for (dealer, bytes, value, want) in rows {
+        let fault = dealing_fault(rt.alloc(), dealer, bytes, value)?;
+        assert_eq!(rt; fault, want, "{value} of {dealer}");
+    }
+    Ok(())
+}
+
+/// What a player of any ceremony answers dealer 2.
+fn acknowledge<C: Ceremony>(
+    ceremony: &C,
+    alloc: Global,
+    signer: &C::Signer,
+    round: &Round,
+    public: &Public,
+) -> Mem<Option<Ack>> {
+    if !round.players.has(signer.public_key()) {
+        return Ok(None);
+    }
+    Ok(Some(ceremony.ack(alloc, signer, round, Key(2), public)?))
+}
+
+fn ack_of(alloc: Global, round: &Round) -> Result<Option<Ack>, Fail> {
+    let public = public(alloc, &[3, 0, 15, 0, 7, 0, 1])?;
+    let me = StandSigner::new(Key(1));
+    Ok(acknowledge(&StandCeremony, alloc, &me, round, &public)?)
+}
+
+fn worked_ack(alloc: Global, follows: bool) -> Result<Option<Ack>, Fail> {
+    let previous = output(alloc)?;
+    let previous = if follows { Some(&previous) } else { None };
+    let round = worked_round(alloc, previous)?;
+    ack_of(alloc, &round)
+}
+
+#[test]
+fn dealings_are_acknowledged(rt: HostRuntime) -> Result<(), Fail> {
+    let rows = [
+        (true, [0x13, 0x48, 0x84, 0x48, 0x6f, 0x93, 0x7d, 0x35]),
+        (false, [0x64, 0x77, 0x07, 0xff, 0xb0, 0x9f, 0xc3, 0x22]),
+    ];
+    for (follows, mark) in rows {
+        let ack = worked_ack(rt.alloc(), follows)?;
+        assert_eq!(rt; ack, Some(Ack(Mark(mark))), "follows: {follows}");
+    }
+    Ok(())
+}
+
+/// What any ceremony says of an acknowledgement of the worked dealing.
+fn check_ack<C: Ceremony>(
+    ceremony: &C,
+    alloc: Global,
+    round: &Round,
+    dealer: u32,
+    player: u32,
+) -> Result<Option<AckError>, Fail> {
+    let public = public(alloc, &[3, 0, 15, 0, 7, 0, 1])?;
+    let ack = Ack(Mark([0x13, 0x48, 0x84, 0x48, 0x6f, 0x93, 0x7d, 0x35]));
+    let answer = ceremony.check_ack(alloc, round, Key(dealer), &public, Key(player), &ack);
+    Ok(answer.err())
+}
+
+fn ack_fault(alloc: Global, player: u32, dealer: u32) -> Result<Option<AckError>, Fail> {
+    let previous = output(alloc)?;
+    let round = worked_round(alloc, Some(&previous))?.copy(alloc)?;
+    check_ack(&StandCeremony, alloc, &round, dealer, player)
+}
+
+#[test]
+fn acknowledgements_are_checked(rt: HostRuntime) -> Result<(), Fail> {
+    let rows = [
+        (1, 2, None),
+        (9, 2, Some(AckError::UnexpectedPlayer)),
+        (3, 2, Some(AckError::InvalidAck)),
+        (1, 3, Some(AckError::InvalidAck)),
+    ];
+    for (player, dealer, want) in rows {
+        let fault = ack_fault(rt.alloc(), player, dealer)?;
+        assert_eq!(rt; fault, want, "{player} of {dealer}");
+    }
+    acks_pass::<StandCeremony>();
+    Ok(())
+}
+
+#[test]
+fn marks_are_bound_to_their_domain(rt: HostRuntime) -> Result<(), Fail> {
+    let rows = [
+        (
+            Domain::Ack,
+            [0x01, 0xef, 0xbd, 0x10, 0x5a, 0x9b, 0x28, 0xae],
+        ),
+        (
+            Domain::Log,
+            [0x48, 0x3b, 0x04, 0xb4, 0xf3, 0xd9, 0x40, 0xfc],
+        ),
+        (
+            Domain::Round,
+            [0xc8, 0x55, 0x1a, 0xe1, 0xe7, 0xb1, 0xdb, 0x00],
+        ),
+        (
+            Domain::Final,
+            [0xd8, 0x6b, 0xe5, 0x2e, 0xf9, 0x19, 0x32, 0x84],
+        ),
+    ];
+    for (domain, bytes) in rows {
+        let signer = StandSigner::new(Key(7));
+        assert_eq!(rt; signer.sign(domain, b"abc"), Mark(bytes));
+        assert_eq!(rt; mark_of(Key(7), domain, b"abc"), Mark(bytes));
+    }
+    Ok(())
+}
+
+#[test]
+fn a_quorum_outlives_faults(rt: HostRuntime) -> Result<(), Fail> {
+    let rows = [
+        (0, 0, 0),
+        (1, 0, 1),
+        (3, 0, 3),
+        (4, 1, 3),
+        (7, 2, 5),
+        (65520, 21839, 43681),
+        (u32::MAX, 1431655764, 2863311531),
+    ];
+    for (n, faults, enough) in rows {
+        assert_eq!(rt; max_faults(n), faults, "of {n}");
+        assert_eq!(rt; quorum(n), enough, "of {n}");
+    }
+    Ok(())
+}
+
+#[test]
+fn a_copied_output_spells_the_same(rt: HostRuntime) -> Result<(), Fail> {
+    let alloc = rt.alloc();
+    let value = output(alloc)?;
+    let copy = value.copy(alloc)?;
+    assert!(rt; copy.same(&value));
+    let bytes = encode(alloc, &copy)?;
+    assert_eq!(rt; bytes.as_slice(), OUTPUT.as_slice());
+    Ok(())
+}
+
+#[test]
+fn private_values_are_spelled(rt: HostRuntime) -> Result<(), Fail> {
+    let alloc = rt.alloc();
+    let private = decode_cfg::<Private>(alloc, &[1, 2], &())?;
+    assert_eq!(rt; private.0.get(), 258);
+    let share = decode_cfg::<Share>(alloc, &[1, 2], &())?;
+    assert_eq!(rt; share.0.get(), 258);
+    let ack = decode_cfg::<Ack>(alloc, &[1, 2, 3, 4, 5, 6, 7, 8], &())?;
+    assert_eq!(rt; ack, Ack(Mark([1, 2, 3, 4, 5, 6, 7, 8])));
+    let elements = [private.0, share.0].to_vec(alloc)?;
+    let bytes = encode(alloc, &Public::new(elements))?;
+    assert_eq!(rt; bytes.as_slice(), [2, 1, 2, 1, 2].as_slice());
+    let bytes = encode(alloc, &private)?;
+    assert_eq!(rt; bytes.as_slice(), [1, 2].as_slice());
+    Ok(())
+}
+
+/// An output that is written and read again, where the limits allow it.
+fn read_again(
+    alloc: Global,
+    output: &Output,
+    cfg: &(u32, ModeVersion),
+) -> Result<Option<Output>, CodecError> {
+    let (most, version) = *cfg;
+    if output.dealers.len() > most || output.players.len() > most {
+        return Ok(None);
+    }
+    if !version.supports(output.sharing.mode) {
+        return Ok(None);
+    }
+    output.fits_limits();
+    Ok(Some(round_trip(alloc, output, cfg)?))
+}
+
+/// A sharing that is written and read again, where the limits allow it.
+fn share_again(
+    alloc: Global,
+    sharing: &Sharing,
+    cfg: &(u32, ModeVersion),
+) -> Result<Option<Sharing>, CodecError> {
+    let (most, version) = *cfg;
+    let elements = sharing.poly.as_slice();
+    if elements.is_empty() || elements.len() > most as usize {
+        return Ok(None);
+    }
+    if !version.supports(sharing.mode) {
+        return Ok(None);
+    }
+    sharing.fits_limits();
+    Ok(Some(round_trip(alloc, sharing, cfg)?))
+}
+
+#[test]
+fn outputs_are_written_and_read(rt: HostRuntime) -> Result<(), Fail> {
+    let alloc = rt.alloc();
+    let value = output(alloc)?;
+    let cfg = (4, ModeVersion(0));
+    let again = read_again(alloc, &value, &cfg)?.ok_or("the limits allow it")?;
+    assert!(rt; again.same(&value));
+    assert_eq!(rt; value.encode_size(), OUTPUT.len());
+    let sharing = share_again(alloc, &value.sharing, &cfg)?.ok_or("the limits allow it")?;
+    assert!(rt; sharing.same(&value.sharing));
+    assert!(rt; read_again(alloc, &value, &(3, ModeVersion(0)))?.is_none());
+    no_prefix::<Output>();
+    no_prefix::<Sharing>();
+    Ok(())
+}
+
+/// Whether a value's copy is the value.
+fn has_copy<T: Value + Drop>(alloc: Global, value: &T) -> Mem<bool> {
+    Ok(value.copy(alloc)?.same(value))
+}
+
+fn round_has_copy(alloc: Global, follows: bool) -> Result<bool, Fail> {
+    let previous = output(alloc)?;
+    let previous = if follows { Some(&previous) } else { None };
+    let round = worked_round(alloc, previous)?;
+    Ok(has_copy(alloc, &round)?)
+}
+
+fn public_has_copy(alloc: Global) -> Result<bool, Fail> {
+    let public = public(alloc, &[3, 0, 15, 0, 7, 0, 1])?;
+    Ok(has_copy(alloc, &public)?)
+}
+
+#[test]
+fn ceremony_values_are_copied(rt: HostRuntime) -> Result<(), Fail> {
+    let alloc = rt.alloc();
+    assert!(rt; round_has_copy(alloc, true)?);
+    assert!(rt; round_has_copy(alloc, false)?);
+    assert!(rt; public_has_copy(alloc)?);
+    let element = Element::new(23).ok_or("23 is an element")?;
+    let halves = (Private(element), (Share(element), Ack(Mark([1; 8]))));
+    assert!(rt; has_copy(alloc, &halves)?);
+    Ok(())
+}
+
+#[test]
+fn versions_know_their_modes(rt: HostRuntime) -> Result<(), Fail> {
+    let rows = [
+        (0, Mode::NonZeroCounter, true),
+        (0, Mode::RootsOfUnity, false),
+        (1, Mode::NonZeroCounter, true),
+        (1, Mode::RootsOfUnity, true),
+    ];
+    for (version, mode, want) in rows {
+        let version = ModeVersion(version);
+        assert_eq!(rt; version.supports(mode), want, "{mode:?} in {version:?}");
+        let bytes = encode(rt.alloc(), &mode)?;
+        let read = decode_cfg::<Mode>(rt.alloc(), bytes.as_slice(), &version);
+        assert_eq!(rt; read.ok(), want.then_some(mode), "{mode:?} in {version:?}");
+    }
+    Ok(())
+}

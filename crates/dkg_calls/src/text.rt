@@ -1,0 +1,254 @@
+//! Scripts with a line of every kind, and texts that just miss them, with the place that an independent model has for each.
+
+mod lines;
+
+use dkg_ceremony::Key;
+use dkg_text::{ScriptError, event_bytes, read_script, script_text};
+use std::alloc::Global;
+use std::process::Abort;
+use std::test::Fail;
+
+/// A line of each kind but that of one-shot participants.
+const RESHARE: &str =
+    "dkg 1\nme 1\nblocks 8\nlimit 4\nmode 0 1\nspace 6b65\nplayers 2 1 2 3 4\nplayers 3\nplayers 7 4294967295\naddress 2 1 65535\naddress 5 4294967295 0 7 8\nprobe 1 - 0100000000000000000000000403000500010002040000000100000002000000030000000404000000010000000200000003000000040004000000010000000200000003000000040400000001000000020000000300000004 0100000000000000000000000403000500010002040000000100000002000000030000000404000000010000000200000003000000040004000000010000000200000003000000040400000001000000020000000300000004\nblock 0 - 0 0100000000000000000000000403000500010002040000000100000002000000030000000404000000010000000200000003000000040004000000010000000200000003000000040400000001000000020000000300000004\nblock 1 0 5 -\nblock 18446744073709551615 - 0 -\nlife 9\nprocessed 1\nheld 0 2\nsync 0100000000000000000000000403000500010002040000000100000002000000030000000404000000010000000200000003000000040004000000010000000200000003000000040400000001000000020000000300000004 0 4 1\npeer 2 0003000f000700010017\npeer 3 -\nfinal 1\nnext 4 5\nrelease 5\ninfo 3\nfeed 3 0\nover 3\ncancel 9\nwork\nprepare 1 0\npropose\nverify 2 2\nlater 3 1\nsubscribe\nunsubscribe\nattach\nreply 4 ff\nretry\ncut 19 5 18446744073709551615\nstop 1\nlife 18446744073709551615\nabsent 1\nstop 0\nend\n";
+
+/// A one-shot script.
+const ONE_SHOT: &str =
+    "dkg 1\nme 1\nblocks 1\nlimit 1073741824\nmode 1 0\nspace -\noneshot\nlife 0\ninfo 1\nstop 0\nlife 0\nnext 1 0\ninfo 2\ncut 0 0 0\nstop 0\nend\n";
+
+/// A script whose directories hold addresses.
+const ADDRESSED: &str =
+    "dkg 1\nme 1\nblocks 8\nlimit 4\nmode 0 0\nspace -\nblock 0 - 0 010000000000000000000000040300050001000204000000010000000200000003000000040400000001000000020000000300000004000400000001000000020000000300000004040000000100000002000000030000000404000000010000000200000003000000040400000000070001010000000e000200000009ffff00000000150003010000001c000400000009ffff\nlife 9\nheld 0\nsync 010000000000000000000000040300050001000204000000010000000200000003000000040400000001000000020000000300000004000400000001000000020000000300000004040000000100000002000000030000000404000000010000000200000003000000040400000000070001010000000e000200000009ffff00000000150003010000001c000400000009ffff 0 4 0\nstop 0\nend\n";
+
+/// A text with the first such part replaced.
+fn changed(alloc: Global, text: &str, part: &str, by: &str) -> Result<String, Fail> {
+    let (before, after) = text.split_once(part).ok_or("no such part")?;
+    Ok(format!(in alloc; "{before}{by}{after}")?)
+}
+
+/// That the changed text is refused at a place.
+fn misses(
+    rt: &(impl Abort + AllocGlobal),
+    text: &str,
+    part: &str,
+    by: &str,
+    place: u64,
+) -> Result<(), Fail> {
+    let text = changed(rt.alloc(), text, part, by)?;
+    let error = read_script(rt.alloc(), text.as_str().as_bytes(), false).err();
+    assert_eq!(rt; error, Some(ScriptError::Bad { place }), "{by}");
+    Ok(())
+}
+
+/// That a text is read, and written again as it was.
+fn returns(rt: &(impl Abort + AllocGlobal), text: &str, addressed: bool) -> Result<(), Fail> {
+    let script = read_script(rt.alloc(), text.as_bytes(), addressed)?;
+    let written = script_text(rt.alloc(), &script)?;
+    assert_eq!(rt; written.as_slice(), text.as_bytes());
+    Ok(())
+}
+
+#[test]
+fn a_script_is_read_and_written(rt: HostRuntime) -> Result<(), Fail> {
+    returns(&rt, RESHARE, false)?;
+    returns(&rt, ONE_SHOT, false)?;
+    returns(&rt, ONE_SHOT, true)?;
+    let script = read_script(rt.alloc(), RESHARE.as_bytes(), false)?;
+    assert_eq!(rt; script.config.me, Key(1));
+    let life = script.lives.as_slice().get(0).ok_or("no life")?;
+    assert_eq!(rt; life.events.len(), 19);
+    let second = life.events.at(1);
+    let event = event_bytes(rt.alloc(), &second)?;
+    assert_eq!(rt; event.as_slice(), b"peer 3 -".as_slice());
+    Ok(())
+}
+
+#[test]
+fn directories_are_read_as_they_are_told(rt: HostRuntime) -> Result<(), Fail> {
+    returns(&rt, ADDRESSED, true)?;
+    misses(&rt, ADDRESSED, "dkg 1", "dkg 1", 45)?;
+    let error = read_script(rt.alloc(), RESHARE.as_bytes(), true).err();
+    assert_eq!(rt; error, Some(ScriptError::Bad { place: 142 }));
+    Ok(())
+}
+
+#[test]
+fn lines_of_the_configuration_just_miss(rt: HostRuntime) -> Result<(), Fail> {
+    for (part, by, place) in [
+        ("dkg 1\n", "dkg 01\n", 0),
+        ("dkg 1\n", "dkg 2\n", 0),
+        ("dkg 1\n", "dkg 1 \n", 0),
+        ("dkg 1\n", "Dkg 1\n", 0),
+        ("dkg 1\n", "", 0),
+        ("me 1\n", "me 4294967296\n", 6),
+        ("me 1\n", "me +1\n", 6),
+        ("me 1\n", "me\n", 6),
+        ("me 1\n", "me  1\n", 6),
+        ("me 1\n", "me 1\nme 1\n", 11),
+        ("blocks 8", "blocks 0", 11),
+        ("blocks 8", "blocks 18446744073709551616", 11),
+        ("limit 4", "limit 0", 20),
+        ("limit 4", "limit 1073741825", 20),
+        ("mode 0 1", "mode 2 1", 28),
+        ("mode 0 1", "mode 0 2", 28),
+        ("mode 0 1", "mode 0", 28),
+        ("space 6b65", "space 6B65", 37),
+        ("space 6b65", "space 6b6", 37),
+        ("space 6b65", "space ", 37),
+        ("players 2 1 2 3 4", "players 2 1 3 2 4", 48),
+        ("players 2 1 2 3 4", "players 3 1 2 3 4", 66),
+        ("players 2 1", "players 2 1 1", 48),
+        ("players 3\n", "players\n", 66),
+        ("players 7 4294967295", "players 7 4294967296", 76),
+        ("address 2 1 65535", "address 2 1 65536", 97),
+        ("address 2 1 65535", "address 2 1", 97),
+        ("address 2 1 65535", "address 2 1 65535 1", 97),
+        ("address 5", "address 2", 115),
+        ("address 5 4294967295", "address 5 4294967296", 115),
+        ("probe 1 -", "probe 1 --", 142),
+        ("probe 1 -", "probe - -", 142),
+    ] {
+        misses(&rt, RESHARE, part, by, place)?;
+    }
+    Ok(())
+}
+
+#[test]
+fn lines_of_blocks_just_miss(rt: HostRuntime) -> Result<(), Fail> {
+    for (part, by, place) in [
+        ("block 0 - 0 ", "block 0 0 0 ", 510),
+        ("block 0 - 0 0100", "block 0 - 0 0300", 510),
+        ("block 0 - 0 0100", "block 0 - 0 ff0100", 510),
+        ("block 1 0 5 -", "block 1 1 5 -", 701),
+        ("block 1 0 5 -", "block 1 0 5", 701),
+        ("block 1 0 5 -", "block 1 0 05 -", 701),
+        ("block 1 0 5 -", "block 18446744073709551616 0 5 -", 701),
+    ] {
+        misses(&rt, RESHARE, part, by, place)?;
+    }
+    Ok(())
+}
+
+#[test]
+fn lines_of_lives_just_miss(rt: HostRuntime) -> Result<(), Fail> {
+    for (part, by, place) in [
+        ("life 9\n", "", 748),
+        ("life 9\n", "life\n", 748),
+        ("life 9\n", "life 18446744073709551616\n", 748),
+        ("life 9\n", "life 9\nlife 9\n", 755),
+        ("processed 1", "processed 3", 755),
+        ("processed 1", "processed 1\nabsent 1", 767),
+        ("held 0 2", "held 2 0", 767),
+        ("held 0 2", "held 0 0", 767),
+        ("held 0 2", "held 0 3", 767),
+        ("held 0 2", "held", 767),
+        ("held 0 2\n", "held 0 2\nprocessed 1\n", 776),
+        ("sync 01", "sync 00", 776),
+        (" 0 4 1\npeer", " 0 4 3\npeer", 776),
+        (" 0 4 1\npeer", " 0 4\npeer", 776),
+    ] {
+        misses(&rt, RESHARE, part, by, place)?;
+    }
+    Ok(())
+}
+
+#[test]
+fn lines_of_events_just_miss(rt: HostRuntime) -> Result<(), Fail> {
+    for (part, by, place) in [
+        ("peer 3 -", "peer 3", 994),
+        ("peer 3 -", "peer 3 FF", 994),
+        ("peer 3 -", "peer 3 - -", 994),
+        ("final 1", "final 3", 1003),
+        ("final 1", "final -1", 1003),
+        ("final 1\n", "final 1\nheld 0\n", 1011),
+        ("info 3", "info 4", 1030),
+        ("info 3", "info 3\ninfo 3", 1037),
+        ("info 3", "Info 3", 1030),
+        ("info 3\nfeed 3 0", "info 3\nnext 3 1\nfeed 3 3", 1046),
+        ("feed 3 0", "feed 3", 1037),
+        ("work\n", "work 1\n", 1062),
+        ("prepare 1 0", "prepare 1 3", 1067),
+        ("propose\n", "propose \n", 1079),
+        ("verify 2 2", "verify 2,2", 1087),
+        ("verify 2 2", "verify 3 2", 1087),
+        ("next 4 5", "next 4", 1011),
+        ("next 4 5", "next 4 5 6", 1011),
+        ("release 5", "release", 1020),
+        ("release 5", "release 05", 1020),
+        ("feed 3 0", "feed 3 3", 1037),
+        ("over 3", "over 3 3", 1046),
+        ("cancel 9", "cancel -", 1053),
+        ("propose\n", "propose 3\n", 1079),
+        ("later 3 1", "later 3 18446744073709551616", 1098),
+        ("later 3 1", "later 3", 1098),
+        ("unsubscribe", "unsubscribe 1", 1118),
+        ("attach", "attached", 1130),
+        ("retry\n", "retry 1\n", 1148),
+        ("subscribe", "subscribes", 1108),
+        ("reply 4 ff", "reply 4 f", 1137),
+        ("reply 4 ff", "reply 4294967296 ff", 1137),
+    ] {
+        misses(&rt, RESHARE, part, by, place)?;
+    }
+    Ok(())
+}
+
+#[test]
+fn last_lines_just_miss(rt: HostRuntime) -> Result<(), Fail> {
+    for (part, by, place) in [
+        ("cut 19 5", "cut 20 5", 1154),
+        ("cut 19 5", "cut 19 5 5", 1154),
+        ("cut 19 5 18446744073709551615", "cut 19 5", 1154),
+        ("cut 19 5 1844", "cut 19 5 11844", 1154),
+        (
+            "cut 19 5 18446744073709551615\n",
+            "cut 19 5 0\ncut 19 5 0\n",
+            1165,
+        ),
+        (
+            "cut 19 5 18446744073709551615\n",
+            "cut 19 5 0\nretry\n",
+            1165,
+        ),
+        (
+            "retry\ncut 19 5 18446744073709551615\n",
+            "cut 18 5 0\nretry\n",
+            1159,
+        ),
+        ("stop 1\nlife", "life", 1184),
+        ("stop 1\n", "stop 01\n", 1184),
+        ("stop 1\n", "stop 1\nblock 1 0 5 -\n", 1191),
+        ("absent 1", "absent 0", 1217),
+        ("absent 1", "absent 3", 1217),
+        ("stop 0\nend", "end", 1226),
+        ("end\n", "end", 1233),
+        ("end\n", "", 1233),
+        ("end\n", "end\n\n", 1237),
+        ("end\n", "end\nend\n", 1237),
+        ("end\n", "end \n", 1233),
+        ("end\n", "end\r\n", 1233),
+        ("stop 0\n", "stop 0\n\n", 1233),
+    ] {
+        misses(&rt, RESHARE, part, by, place)?;
+    }
+    Ok(())
+}
+
+#[test]
+fn one_shot_lines_just_miss(rt: HostRuntime) -> Result<(), Fail> {
+    for (part, by, place) in [
+        ("oneshot\n", "oneshot\noneshot\n", 62),
+        ("oneshot\n", "oneshot 2 1\n", 54),
+        ("oneshot\n", "players 1\noneshot\n", 64),
+        ("info 1", "retry", 69),
+        ("info 1", "reply 1 ff", 69),
+        ("info 2", "info 1", 99),
+        ("cut 0", "cut 3", 106),
+        ("mode 1 0", "mode 01 0", 37),
+        ("space -", "space --", 46),
+        ("space -", "space -\nend\n", 58),
+    ] {
+        misses(&rt, ONE_SHOT, part, by, place)?;
+    }
+    Ok(())
+}
