@@ -208,7 +208,7 @@ not_there None e = refl
 not_there (Some a) e = absurd (let f : ◌≡◌ {A = Bool} true false = e in cc)
 
 -- nothing is noted at a key at which memory has nothing
-unnoted : {V : Type 0} (m : Notes V) (records : List ((ℕ × ℕ) × V)) (k : ℕ × ℕ) → records ≡ maps.entries m → find key_cmp k records ≡ None → get m k ≡ None
+pub unnoted : {V : Type 0} (m : Notes V) (records : List ((ℕ × ℕ) × V)) (k : ℕ × ℕ) → records ≡ maps.entries m → find key_cmp k records ≡ None → get m k ≡ None
 unnoted m records k same none = get-entries m k ∙ ap (find key_cmp k) (sym same) ∙ none
 
 pub put_same : {V : Type 0} (m : Notes V) (records : List ((ℕ × ℕ) × V)) (k : ℕ × ℕ) (v : V) → records ≡ maps.entries m → put key_cmp k v records ≡ maps.entries (maps.insert m k v)
@@ -245,7 +245,7 @@ module _ (epoch : ℕ) (h : Held) where
       }
 
   -- a dealing more
-  dealing_more : (r : Records) (dealer : ℕ) (public : List ℕ) (private : ℕ) → IsEvent (events.Dealing dealer public) → recorded_at r.dealings epoch dealer ≡ None → AreAgreed r h
+  pub dealing_more : (r : Records) (dealer : ℕ) (public : List ℕ) (private : ℕ) → IsEvent (events.Dealing dealer public) → recorded_at r.dealings epoch dealer ≡ None → AreAgreed r h
       → AreAgreed (record r { dealings = put key_cmp (epoch, dealer) (public, private) r.dealings })
       (after (OnDisk (Appends (epoch, event_spelling (events.Dealing dealer public)))) (after (Changes (PutDealing epoch dealer private)) h))
   dealing_more r dealer public private is none a =
@@ -542,8 +542,8 @@ module _ {Dir : Type 0} (c : Fixed Dir) where
 
     deals : (st : Live Dir) (h : Held) → ((dealer : Dealer) → st.participation.dealer ≡ Some dealer → IsEvent (events.Dealing c.me dealer.public)) → AreAgreed st.records h → Lands (d.deals c st) h
     deals st h is a =
-        rounds st (λ round. option_map_or (λ dealer. d.offers c round dealer.public (s.unsent dealer) st) st.participation.dealer (Goes st)) h a
-        (λ round. lands_option st.participation.dealer (λ dealer. d.offers c round dealer.public (s.unsent dealer) st) (Goes st) h (λ dealer e. offers round dealer.public (s.unsent dealer) st h (is dealer e) a) (λ e. a))
+        rounds st (λ round. option_map_or (λ dealer. d.offers c round dealer.public (s.unsent round dealer) st) st.participation.dealer (Goes st)) h a
+        (λ round. lands_option st.participation.dealer (λ dealer. d.offers c round dealer.public (s.unsent round dealer) st) (Goes st) h (λ dealer e. offers round dealer.public (s.unsent round dealer) st h (is dealer e) a) (λ e. a))
 
   -- BLOCKS
 

@@ -88,9 +88,9 @@ module _ {Dir : Type 0} (c : Fixed Dir) (block : Block Dir) (early : block.heigh
     deals_nothing : d.deals c st ≡ Goes st
     deals_nothing = either st.participation.round st.participation.dealer live.undealt
       where
-        either : (o : Option Round) (dealer : Option Dealer) → dealer ≡ None → option_map_or (λ round. option_map_or (λ its. d.offers c round its.public (s.unsent its) st) dealer (Goes st)) o (Goes st) ≡ Goes st
+        either : (o : Option Round) (dealer : Option Dealer) → dealer ≡ None → option_map_or (λ round. option_map_or (λ its. d.offers c round its.public (s.unsent round its) st) dealer (Goes st)) o (Goes st) ≡ Goes st
         either None dealer is = refl
-        either (Some round) dealer is = ap (λ (x : Option Dealer). option_map_or (λ its. d.offers c round its.public (s.unsent its) st) x (Goes st)) is
+        either (Some round) dealer is = ap (λ (x : Option Dealer). option_map_or (λ its. d.offers c round its.public (s.unsent round its) st) x (Goes st)) is
 
     dealt : OnlySays IsAckedLine Same (b.deals_at c block st)
     dealt =

@@ -211,7 +211,7 @@ node_steps_give_back c st message ended most w new low agreed can run key pair a
 pub node_openings_spare_plans : {Dir : Type 0} → NodeOpeningsSparePlans Dir
 node_openings_spare_plans c ended w new form run =
     let b = openings_run_behind c ended w new run in
-    ap plan b.held ∙ along_runs (λ (x : World). plan x.held ≡ plan w.held) (on_devices (opening c)) b.half w b.mid (plan_spared (opening c) w (opening_plan c form)) b.run
+    ap plan b.held ∙ along_runs (λ (x : World). plan x.held ≡ plan w.held) (on_devices (opening c)) b.half w b.mid (plan_spared (opening c) w (opening_plan c form.reshare form.bare form.unplanned)) b.run
 
 pub node_openings_spare_logs : {Dir : Type 0} → NodeOpeningsSpareLogs Dir
 node_openings_spare_logs c ended w new starts run =

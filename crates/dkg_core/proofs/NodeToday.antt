@@ -13,7 +13,7 @@ use Rattle.dkg_ceremony.specs.declared.round.Round.{Round}
 use Rattle.dkg_ceremony.specs.Schedule.{midpoint}
 use Rattle.dkg_types.specs.Blocks.{Block}
 use Rattle.dkg_types.specs.declared.entry.Entry.{Entry as Line}
-use Rattle.dkg_types.specs.declared.entry.Entry.TheVariants.{Opened, Recorded, Ack, Acked}
+use Rattle.dkg_types.specs.declared.entry.Entry.TheVariants.{Opened, Recorded, Ack, Offer, Acked}
 use Rattle.dkg_types.specs.declared.fault.Fault.{Fault}
 use Rattle.dkg_types.specs.declared.message.Message.{Message as Channel}
 use Rattle.dkg_types.specs.declared.message.Message.TheVariants.{Dealer as ADealing, Ack as AnAck}
@@ -162,6 +162,7 @@ node_steps_come_to c st (Finalized b) ended old new taken live none said =
 aside_quiet : (line : Line) → IsAside line → IsQuiet line
 aside_quiet (Recorded epoch dealer public private) aside = absurd aside
 aside_quiet (Ack epoch dealer ack) aside = absurd aside
+aside_quiet (Offer epoch player public private) aside = absurd aside
 aside_quiet line aside = aside
 
 -- quiet ones, and behind them lines aside

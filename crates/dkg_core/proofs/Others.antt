@@ -1,7 +1,7 @@
 -- What messages that aren't a peer's say and do.
 use Rattle.std.proofs.Common.{◌≡◌, ℕ, zero, suc, List, [], ◌∷◌, ◌++◌, true, false, Option, Some, None, refl, subst}
 use Rattle.std.specs.Prelude.{◌+◌, ◌-◌, ◌^◌, ◌==◌, ◌&&◌, nat_lt, nat_le, length, filter, if◌then◌else◌, not, Result, Ok, Err, is_some, is_none, option_and_then, option_map}
-use Rattle.std.proofs.Common.{cond, arith, Bool, inl, inr}
+use Rattle.std.proofs.Common.{arith}
 use Rattle.std.proofs.lemmas.Bool.Decides.{nat_tests}
 use Rattle.std.specs.List.{AllByRecursion}
 use Rattle.std.specs.Option.{option_map_or}
@@ -38,16 +38,20 @@ use Rattle.dkg_core.specs.Setup as s
 use Rattle.dkg_core.specs.Dealing as d
 use Rattle.dkg_core.specs.Including as i
 use Rattle.dkg_core.specs.Blocks as b
-use Rattle.dkg_core.specs.Laws.{Law, Holds, IsSilent, PrunesAtMost, prune_law, OtherLine, OtherOperation, OfHalves, IsAmong, IsOwn, other_law, OthersAcknowledgeNothing}
+use Rattle.dkg_core.specs.Laws.{Law, Holds, IsSilent, PrunesAtMost, prune_law, OtherLine, OtherOperation, OfHalves, OfOffers, IsAmong, IsOwn, IsOffered, other_law, OthersAcknowledgeNothing}
 use Rattle.dkg_core.proofs.Holding.{holds_as, holds_bind, holds_if, holds_option}
 use Rattle.dkg_core.proofs.Pruning.{setups_prune}
+use Rattle.dkg_core.proofs.Unsent.{all_as, found_among, IsUnsent, are_unsent}
 
 same_number : (a b : ℕ) → (a == b) ≡ true → a ≡ b
 same_number a b e = grind (arith, nat_tests)
 
-module _ {Dir : Type 0} (c : Fixed Dir) (own : OfHalves) (most : ℕ) where
+other_number : (a b : ℕ) → (a == b) ≡ false → a ≡ b → ⊥
+other_number a b e is = grind (arith, nat_tests)
+
+module _ {Dir : Type 0} (c : Fixed Dir) (own : OfHalves) (offered : OfOffers) (most : ℕ) where
   abbrev law : Law Dir (Live Dir)
-  law = other_law c own most
+  law = other_law c own offered most
 
   same_line : (past : List (Deed Dir)) (line : Line) → law.line past line → law.line past line
   same_line past line h = h
@@ -211,34 +215,35 @@ module _ {Dir : Type 0} (c : Fixed Dir) (own : OfHalves) (most : ℕ) where
   to_itself past round public private st Plays mine = to_itself_in past round public private st (recorded_at st.records.dealings round.number c.me) mine
   to_itself past round public private st Watches mine = tt
 
-  -- of these halves, this node's own
+  -- of these halves this node's own, and others'
   abbrev AreOwn : Round → List ℕ → List (ℕ × ℕ) → Type 0
-  AreOwn round public ps = AllByRecursion (λ p. p.0 ≡ c.me → own round.number public p.1) ps
+  AreOwn round public ps = AllByRecursion (λ p. (p.0 ≡ c.me → own round.number public p.1) × ((p.0 ≡ c.me → ⊥) → offered round.number p.0 public p.1)) ps
 
   offers : (round : Round) (public : List ℕ) (ps : List (ℕ × ℕ)) (past : List (Deed Dir)) (st : Live Dir) → AreOwn round public ps → Holds law past (d.offers c round public ps st)
   offers round public [] past st mine = tt
   offers round public (p ∷ ps) past st mine =
       holds_if law past (p.0 == c.me) (bind (d.offers_to_itself c round public p.1 st) (λ st. d.offers c round public ps st)) (Say (lines.Offer round.number p.0 public p.1) (d.offers c round public ps st))
       (λ e. both past (d.offers_to_itself c round public p.1 st) (λ st. d.offers c round public ps st)
-      (to_itself past round public p.1 st st.participation.seat (mine.0 (same_number p.0 c.me e))) (λ past st. offers round public ps past st mine.1))
-      (λ e. (tt, offers round public ps _ st mine.1))
+      (to_itself past round public p.1 st st.participation.seat (mine.0.0 (same_number p.0 c.me e))) (λ past st. offers round public ps past st mine.1))
+      (λ e. (mine.0.1 (other_number p.0 c.me e), offers round public ps _ st mine.1))
 
   -- what this node's dealer deals to itself is its own
   abbrev Owns : Live Dir → Type 0
-  Owns st = (round : Round) (dealer : Dealer) → st.participation.round ≡ Some round → st.participation.dealer ≡ Some dealer → AreOwn round dealer.public (s.unsent dealer)
+  Owns st = (round : Round) (dealer : Dealer) → st.participation.round ≡ Some round → st.participation.dealer ≡ Some dealer → AreOwn round dealer.public (s.unsent round dealer)
 
   deals : (past : List (Deed Dir)) (st : Live Dir) → Owns st → Holds law past (d.deals c st)
   deals past st owns =
-      holds_option law past st.participation.round (λ round. option_map_or (λ dealer. d.offers c round dealer.public (s.unsent dealer) st) st.participation.dealer (Goes st)) (Goes st)
-      (λ round is_round. holds_option law past st.participation.dealer (λ dealer. d.offers c round dealer.public (s.unsent dealer) st) (Goes st)
-      (λ dealer is_dealer. offers round dealer.public (s.unsent dealer) past st (owns round dealer is_round is_dealer)) (λ e. tt)) (λ e. tt)
+      holds_option law past st.participation.round (λ round. option_map_or (λ dealer. d.offers c round dealer.public (s.unsent round dealer) st) st.participation.dealer (Goes st)) (Goes st)
+      (λ round is_round. holds_option law past st.participation.dealer (λ dealer. d.offers c round dealer.public (s.unsent round dealer) st) (Goes st)
+      (λ dealer is_dealer. offers round dealer.public (s.unsent round dealer) past st (owns round dealer is_round is_dealer)) (λ e. tt)) (λ e. tt)
 
 -- SETUP
 
-quiet : {Dir : Type 0} (c : Fixed Dir) (own : OfHalves) (past : List (Deed Dir)) (line : Line) → IsSilent past line → OtherLine c own past line
-quiet c own past (lines.Recorded epoch dealer public private) h = absurd h
-quiet c own past (lines.Ack epoch dealer ack) h = absurd h
-quiet c own past line h = h
+quiet : {Dir : Type 0} (c : Fixed Dir) (own : OfHalves) (offered : OfOffers) (past : List (Deed Dir)) (line : Line) → IsSilent past line → OtherLine c own offered past line
+quiet c own offered past (lines.Recorded epoch dealer public private) h = absurd h
+quiet c own offered past (lines.Ack epoch dealer ack) h = absurd h
+quiet c own offered past (lines.Offer epoch player public private) h = absurd h
+quiet c own offered past line h = h
 
 pruning : {Dir : Type 0} (c : Fixed Dir) (own : OfHalves) (most : ℕ) (past : List (Deed Dir)) (op : Operation) → PrunesAtMost most past op → OtherOperation c own most past op
 pruning c own most past (OnDisk Bars) h = absurd h
@@ -252,22 +257,22 @@ pruning c own most past (Changes (PutSeed epoch seed)) h = tt
 pruning c own most past (Changes (PutDealing epoch dealer private)) h = absurd h
 pruning c own most past (Changes (Prune min)) h = h
 
-module _ {Dir : Type 0} (c : Fixed Dir) (own : OfHalves) (block : Block Dir) where
+module _ {Dir : Type 0} (c : Fixed Dir) (own : OfHalves) (offered : OfOffers) (block : Block Dir) where
   abbrev reach : ℕ
   reach = epoch_of c.blocks_per_epoch (block.height + 1) - 1
 
   abbrev of_block : Law Dir (Live Dir)
-  of_block = other_law c own reach
+  of_block = other_law c own offered reach
 
   -- .. at the end of which the tip is the block
   abbrev at_block : Law Dir (Live Dir)
-  at_block = record { line = OtherLine c own; operation = OtherOperation c own reach; end = λ past st. awaited_height st ≡ block.height + 1 }
+  at_block = record { line = OtherLine c own offered; operation = OtherOperation c own reach; end = λ past st. awaited_height st ≡ block.height + 1 }
 
   sets_up : (past : List (Deed Dir)) (st : Live Dir) → awaited_height st ≡ block.height + 1 → Holds of_block past (s.setup c None st)
   sets_up past st is =
-      subst (λ (height : ℕ). Holds (other_law c own (epoch_of c.blocks_per_epoch height - 1)) past (s.setup c None st)) is
-      (holds_as (prune_law (epoch_of c.blocks_per_epoch (awaited_height st))) (other_law c own (epoch_of c.blocks_per_epoch (awaited_height st) - 1)) past (s.setup c None st)
-      (quiet c own) (pruning c own (epoch_of c.blocks_per_epoch (awaited_height st) - 1)) (λ past st e. tt) (setups_prune c None st past))
+      subst (λ (height : ℕ). Holds (other_law c own offered (epoch_of c.blocks_per_epoch height - 1)) past (s.setup c None st)) is
+      (holds_as (prune_law (epoch_of c.blocks_per_epoch (awaited_height st))) (other_law c own offered (epoch_of c.blocks_per_epoch (awaited_height st) - 1)) past (s.setup c None st)
+      (quiet c own offered) (pruning c own (epoch_of c.blocks_per_epoch (awaited_height st) - 1)) (λ past st e. tt) (setups_prune c None st past))
 
   commits : (past : List (Deed Dir)) (info : EpochInfo Dir) (seed : List ℕ) (share : Option ℕ) (st : Live Dir) → Holds of_block past (s.commits info seed share st)
   commits past info seed None st = (tt, (tt, tt))
@@ -275,11 +280,11 @@ module _ {Dir : Type 0} (c : Fixed Dir) (own : OfHalves) (block : Block Dir) whe
 
   -- WHILE DEALING AND INCLUDING
 
-  deals_at : (past : List (Deed Dir)) (st : Live Dir) → Owns c own reach st → Holds of_block past (b.deals_at c block st)
+  deals_at : (past : List (Deed Dir)) (st : Live Dir) → Owns c own offered reach st → Holds of_block past (b.deals_at c block st)
   deals_at past st owns =
-      both c own reach past (d.deals c st) (λ st. if block.height + 1 == midpoint c.blocks_per_epoch st.participation.epoch then i.advanced c (s.begins_inclusion c (with_tip block st)) else Goes (with_tip block st))
-      (deals c own reach past st owns) (λ past st. holds_if of_block past (block.height + 1 == midpoint c.blocks_per_epoch st.participation.epoch) (i.advanced c (s.begins_inclusion c (with_tip block st))) (Goes (with_tip block st))
-      (λ e. advanced c own reach past (s.begins_inclusion c (with_tip block st))) (λ e. tt))
+      both c own offered reach past (d.deals c st) (λ st. if block.height + 1 == midpoint c.blocks_per_epoch st.participation.epoch then i.advanced c (s.begins_inclusion c (with_tip block st)) else Goes (with_tip block st))
+      (deals c own offered reach past st owns) (λ past st. holds_if of_block past (block.height + 1 == midpoint c.blocks_per_epoch st.participation.epoch) (i.advanced c (s.begins_inclusion c (with_tip block st))) (Goes (with_tip block st))
+      (λ e. advanced c own offered reach past (s.begins_inclusion c (with_tip block st))) (λ e. tt))
 
   records_log : (past : List (Deed Dir)) (epoch : ℕ) (log : SignedDealerLog) (st : Live Dir) → Holds of_block past (b.records_log epoch block.height log st)
   records_log past epoch log st =
@@ -290,12 +295,12 @@ module _ {Dir : Type 0} (c : Fixed Dir) (own : OfHalves) (block : Block Dir) whe
   observes past round st None = tt
   observes past round st (Some log) =
       holds_if of_block past (is_accepted c round log) (bind (b.records_log round.number block.height log st) (λ st. Goes (b.without_own_log c log.dealer st))) (Goes st)
-      (λ e. both c own reach past (b.records_log round.number block.height log st) (λ st. Goes (b.without_own_log c log.dealer st)) (records_log past round.number log st) (λ past st. tt)) (λ e. tt)
+      (λ e. both c own offered reach past (b.records_log round.number block.height log st) (λ st. Goes (b.without_own_log c log.dealer st)) (records_log past round.number log st) (λ past st. tt)) (λ e. tt)
 
   includes : (past : List (Deed Dir)) (round : Round) (st : Live Dir) → Holds of_block past (b.includes c round block st)
   includes past round st =
-      both c own reach past (b.observes c round block st (option_and_then its_log block.payload)) (λ st. i.advanced c (with_tip block (b.unserved block.height st)))
-      (observes past round st (option_and_then its_log block.payload)) (λ past st. advanced c own reach past (with_tip block (b.unserved block.height st)))
+      both c own offered reach past (b.observes c round block st (option_and_then its_log block.payload)) (λ st. i.advanced c (with_tip block (b.unserved block.height st)))
+      (observes past round st (option_and_then its_log block.payload)) (λ past st. advanced c own offered reach past (with_tip block (b.unserved block.height st)))
 
   -- THE FINAL BLOCK
 
@@ -313,9 +318,9 @@ module _ {Dir : Type 0} (c : Fixed Dir) (own : OfHalves) (block : Block Dir) whe
   takes_over : (past : List (Deed Dir)) (info : EpochInfo Dir) (share : Option ℕ) (st : Live Dir) → Holds of_block past (b.takes_over c block info share st)
   takes_over past info share st = λ h.
       let seed = s.seed_for c info.epoch (lookup info.epoch (c.seen h).seeds) in
-      both c own reach past (s.commits info seed share st) (λ st. bind (if is_some c.oneshot then Goes st else s.registers c info share st) (λ st. b.passes_on c block (Some info) st))
+      both c own offered reach past (s.commits info seed share st) (λ st. bind (if is_some c.oneshot then Goes st else s.registers c info share st) (λ st. b.passes_on c block (Some info) st))
       (commits past info seed share st)
-      (λ past st. both c own reach past (if is_some c.oneshot then Goes st else s.registers c info share st) (λ st. b.passes_on c block (Some info) st)
+      (λ past st. both c own offered reach past (if is_some c.oneshot then Goes st else s.registers c info share st) (λ st. b.passes_on c block (Some info) st)
       (holds_if of_block past (is_some c.oneshot) (Goes st) (s.registers c info share st) (λ e. tt) (λ e. (tt, tt))) (λ past st. passes_on past (Some info) st))
 
   carried : (past : List (Deed Dir)) (f : EpochInfo Dir → Course Dir Fault (Live Dir)) → ((info : EpochInfo Dir) → Holds of_block past (f info)) → Holds of_block past (b.carried c block f)
@@ -331,11 +336,11 @@ module _ {Dir : Type 0} (c : Fixed Dir) (own : OfHalves) (block : Block Dir) whe
       (λ e. carried past (λ info. b.takes_over c block info (b.share_for c info made) st) (λ info. takes_over past info (b.share_for c info made) st))
 
   derives_now : (past : List (Deed Dir)) (round : Round) (logs : LogMap) (r : Option VerifiedLogs) (st : Live Dir) → Holds of_block past (b.derives_now c round block logs r st)
-  derives_now past round logs (Some r) st = artifact c own reach past r st (b.concludes c block) (λ made st. concludes past made st)
+  derives_now past round logs (Some r) st = artifact c own offered reach past r st (b.concludes c block) (λ made st. concludes past made st)
   derives_now past round logs None st =
       let found = i.verified c (i.job_for c round logs st) in
-      both c own reach past (i.starts_verifying c round logs None st) (λ st. i.artifact c found (i.retains c found st) (b.concludes c block)) (starts c own reach past round logs None st)
-      (λ past st. artifact c own reach past found (i.retains c found st) (b.concludes c block) (λ made st. concludes past made st))
+      both c own offered reach past (i.starts_verifying c round logs None st) (λ st. i.artifact c found (i.retains c found st) (b.concludes c block)) (starts c own offered reach past round logs None st)
+      (λ past st. artifact c own offered reach past found (i.retains c found st) (b.concludes c block) (λ made st. concludes past made st))
 
   concludes_by : (past : List (Deed Dir)) (round : Round) (logs : LogMap) (before now : Option (Artifact Dir)) (st : Live Dir) → Holds of_block past (b.concludes_by c round block logs before now st)
   concludes_by past round logs (Some made) now st = concludes past made st
@@ -346,8 +351,8 @@ module _ {Dir : Type 0} (c : Fixed Dir) (own : OfHalves) (block : Block Dir) whe
   final_block past round st =
       let logs = canonical c st in
       let before = i.cached_for st.inclusion.cached logs in
-      both c own reach past (i.ends_verifying c None st) (λ st. b.concludes_by c round block logs before (i.cached_for st.inclusion.cached logs) st)
-      (ends_verifying c own reach past None st st.inclusion.running)
+      both c own offered reach past (i.ends_verifying c None st) (λ st. b.concludes_by c round block logs before (i.cached_for st.inclusion.cached logs) st)
+      (ends_verifying c own offered reach past None st st.inclusion.running)
       (λ past st. concludes_by past round logs before (i.cached_for st.inclusion.cached logs) st)
 
   -- WHILE FOLLOWING
@@ -356,8 +361,8 @@ module _ {Dir : Type 0} (c : Fixed Dir) (own : OfHalves) (block : Block Dir) whe
   follows_into past info st = λ h.
       let seed = s.seed_for c info.epoch (lookup info.epoch (c.seen h).seeds) in
       let share = s.recovered_share c (c.seen h) info in
-      both c own reach past (s.commits info seed share st) (λ st. bind (s.registers c info share st) (λ st. s.setup c None (with_tip block st))) (commits past info seed share st)
-      (λ past st. both c own reach past (s.registers c info share st) (λ st. s.setup c None (with_tip block st)) (tt, tt) (λ past st. sets_up past (with_tip block st) refl))
+      both c own offered reach past (s.commits info seed share st) (λ st. bind (s.registers c info share st) (λ st. s.setup c None (with_tip block st))) (commits past info seed share st)
+      (λ past st. both c own offered reach past (s.registers c info share st) (λ st. s.setup c None (with_tip block st)) (tt, tt) (λ past st. sets_up past (with_tip block st) refl))
 
   follows_at : (past : List (Deed Dir)) (st : Live Dir) → Holds of_block past (b.follows_at c block st)
   follows_at past st =
@@ -366,15 +371,15 @@ module _ {Dir : Type 0} (c : Fixed Dir) (own : OfHalves) (block : Block Dir) whe
 
   -- ANY BLOCK
 
-  applies : (past : List (Deed Dir)) (st : Live Dir) (stage : Stage) → Owns c own reach st → Holds of_block past (b.applies_in c block st stage)
+  applies : (past : List (Deed Dir)) (st : Live Dir) (stage : Stage) → Owns c own offered reach st → Holds of_block past (b.applies_in c block st stage)
   applies past st Deals owns = deals_at past st owns
   applies past st Includes owns =
-      rounds c own reach past st (λ round. if is_last_height c block.height then b.final_block c round block st else b.includes c round block st)
+      rounds c own offered reach past st (λ round. if is_last_height c block.height then b.final_block c round block st else b.includes c round block st)
       (λ round. holds_if of_block past (is_last_height c block.height) (b.final_block c round block st) (b.includes c round block st) (λ e. final_block past round st) (λ e. includes past round st))
   applies past st Follows owns = follows_at past st
   applies past st Ends owns = tt
 
-  over_tip : (past : List (Deed Dir)) (st : Live Dir) (tip : Option Tip) → Owns c own reach st → Holds of_block past (b.over_tip_in c block st tip)
+  over_tip : (past : List (Deed Dir)) (st : Live Dir) (tip : Option Tip) → Owns c own offered reach st → Holds of_block past (b.over_tip_in c block st tip)
   over_tip past st None owns =
       holds_if of_block past (b.is_in_window c block st) (b.applies c block st) (Stops (OutOfWindow block.height)) (λ e. applies past st st.participation.stage owns) (λ e. tt)
   over_tip past st (Some t) owns =
@@ -386,38 +391,50 @@ module _ {Dir : Type 0} (c : Fixed Dir) (own : OfHalves) (block : Block Dir) whe
       (λ e. holds_if of_block past ((block.height == t.height + 1) && not (bytes_eq block.parent t.digest)) (Stops (DetachedBlock block.height)) low (λ e. tt)
       (λ e. holds_if of_block past (nat_le block.height t.height) (Goes st) (b.applies c block st) (λ e. tt) (λ e. applies past st st.participation.stage owns))))
 
-  in_range : (past : List (Deed Dir)) (st : Live Dir) → Owns c own reach st → Holds of_block past (if s.is_past_range c block.height then Stops HeightRange else b.over_tip c block st)
+  in_range : (past : List (Deed Dir)) (st : Live Dir) → Owns c own offered reach st → Holds of_block past (if s.is_past_range c block.height then Stops HeightRange else b.over_tip c block st)
   in_range past st owns = holds_if of_block past (s.is_past_range c block.height) (Stops HeightRange) (b.over_tip c block st) (λ e. tt) (λ e. over_tip past st st.tip owns)
 
-  delivers : (past : List (Deed Dir)) (st : Live Dir) (stage : Stage) → Owns c own reach st → Holds of_block past (b.delivers_in c block st stage)
+  delivers : (past : List (Deed Dir)) (st : Live Dir) (stage : Stage) → Owns c own offered reach st → Holds of_block past (b.delivers_in c block st stage)
   delivers past st Deals owns = in_range past st owns
   delivers past st Includes owns = in_range past st owns
   delivers past st Follows owns = in_range past st owns
   delivers past st Ends owns = tt
 
-each_of : {A : Type 0} (f : A → Bool) (xs ys : List A) → ((a : A) → IsAmong a xs → IsAmong a ys) → AllByRecursion (λ a. IsAmong a ys) (filter f xs)
-each_of f [] ys among = tt
-each_of f (x ∷ xs) ys among =
-    let rest = each_of f xs ys (λ a is. among a (inr is)) in
-    elim (f x) as (λ b. AllByRecursion (λ a. IsAmong a ys) (cond b (x ∷ filter f xs) (filter f xs))) [ true ↦ (among x (inl refl), rest) | false ↦ rest ]
-
-all_as : {A : Type 0} (P Q : A → Type 0) → ((a : A) → P a → Q a) → (xs : List A) → AllByRecursion P xs → AllByRecursion Q xs
-all_as P Q as_other [] all = tt
-all_as P Q as_other (x ∷ xs) all = (as_other x all.0, all_as P Q as_other xs all.1)
-
-owns : {Dir : Type 0} (c : Fixed Dir) (st : Live Dir) (most : ℕ) → Owns c (IsOwn c st) most st
+owns : {Dir : Type 0} (c : Fixed Dir) (st : Live Dir) (most : ℕ) → Owns c (IsOwn c st) (IsOffered c st) most st
 owns c st most round dealer is_round is_dealer =
-    all_as (λ p. IsAmong p dealer.privates) (λ p. p.0 ≡ c.me → IsOwn c st round.number dealer.public p.1)
-    (λ p among me. record { round = round; of_epoch = is_round; number = refl; dealer = dealer; of_dealer = is_dealer; is_public = refl; is_private = subst (λ (k : ℕ). IsAmong (k, p.1) dealer.privates) me among })
-    (s.unsent dealer) (each_of (λ p. is_none (lookup p.0 dealer.acks)) dealer.privates dealer.privates (λ a is. is))
+    all_as (IsUnsent dealer.acks dealer.privates round.players) (λ p. (p.0 ≡ c.me → IsOwn c st round.number dealer.public p.1) × ((p.0 ≡ c.me → ⊥) → IsOffered c st round.number p.0 dealer.public p.1))
+    (λ p is. (
+      (λ me. record {
+        round = round;
+        of_epoch = is_round;
+        number = refl;
+        dealer = dealer;
+        of_dealer = is_dealer;
+        is_public = refl;
+        is_private = subst (λ (k : ℕ). IsAmong (k, p.1) dealer.privates) me (found_among p.0 p.1 dealer.privates is.has);
+      }),
+      (λ other. record {
+        round = round;
+        of_epoch = is_round;
+        number = refl;
+        dealer = dealer;
+        of_dealer = is_dealer;
+        is_public = refl;
+        is_private = is.has;
+        plays = is.plays;
+        lacks = is.lacks;
+        other = other;
+      }),
+    ))
+    (s.unsent round dealer) (are_unsent dealer.acks dealer.privates round.players)
 
 pub others_acknowledge_nothing : {Dir : Type 0} → OthersAcknowledgeNothing Dir
-others_acknowledge_nothing c st (Finalized block) other = delivers c (IsOwn c st) block [] st st.participation.stage (owns c st (reach c (IsOwn c st) block))
+others_acknowledge_nothing c st (Finalized block) other = delivers c (IsOwn c st) (IsOffered c st) block [] st st.participation.stage (owns c st (reach c (IsOwn c st) (IsOffered c st) block))
 others_acknowledge_nothing c st (Sent (Peer from bytes)) other = absurd other
-others_acknowledge_nothing c st (Sent (NextLog request height)) other = serves c (IsOwn c st) 0 [] request height (i.served_now st) (with_used request st)
+others_acknowledge_nothing c st (Sent (NextLog request height)) other = serves c (IsOwn c st) (IsOffered c st) 0 [] request height (i.served_now st) (with_used request st)
 others_acknowledge_nothing c st (Sent (ReleaseLog height)) other = tt
-others_acknowledge_nothing c st (Sent (EpochInfoOf request)) other = asks_in c (IsOwn c st) 0 [] request (with_used request st) st.participation.stage
-others_acknowledge_nothing c st (Sent (Feed request block)) other = advanced c (IsOwn c st) 0 [] (i.changed request (λ r. if r.ended then r else record r { blocks = r.blocks ++ block ∷ [] }) st)
-others_acknowledge_nothing c st (Sent (Over request)) other = advanced c (IsOwn c st) 0 [] (i.changed request (λ r. record r { ended = true }) st)
-others_acknowledge_nothing c st (Sent (Cancel request)) other = cancels c (IsOwn c st) 0 [] request st
-others_acknowledge_nothing c st (Sent (Work handed)) other = works c (IsOwn c st) 0 [] handed st
+others_acknowledge_nothing c st (Sent (EpochInfoOf request)) other = asks_in c (IsOwn c st) (IsOffered c st) 0 [] request (with_used request st) st.participation.stage
+others_acknowledge_nothing c st (Sent (Feed request block)) other = advanced c (IsOwn c st) (IsOffered c st) 0 [] (i.changed request (λ r. if r.ended then r else record r { blocks = r.blocks ++ block ∷ [] }) st)
+others_acknowledge_nothing c st (Sent (Over request)) other = advanced c (IsOwn c st) (IsOffered c st) 0 [] (i.changed request (λ r. record r { ended = true }) st)
+others_acknowledge_nothing c st (Sent (Cancel request)) other = cancels c (IsOwn c st) (IsOffered c st) 0 [] request st
+others_acknowledge_nothing c st (Sent (Work handed)) other = works c (IsOwn c st) (IsOffered c st) 0 [] handed st

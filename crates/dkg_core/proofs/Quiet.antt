@@ -2,7 +2,7 @@
 use Rattle.std.proofs.Common.{◌≡◌, inl, inr, ℕ, List, [], ◌∷◌, ◌++◌, map, Option, refl, sym, subst}
 use Rattle.std.specs.List.{AllByRecursion}
 use Rattle.dkg_types.specs.declared.entry.Entry.{Entry as Line}
-use Rattle.dkg_types.specs.declared.entry.Entry.TheVariants.{Opened, Recorded, Ack}
+use Rattle.dkg_types.specs.declared.entry.Entry.TheVariants.{Opened, Recorded, Ack, Offer}
 use Rattle.dkg_types.specs.declared.fault.Fault.{Fault}
 use Rattle.dkg_types.specs.declared.info.EpochInfo.{EpochInfo}
 use Rattle.dkg_ceremony.specs.Schedule.{epoch_of}
@@ -16,7 +16,7 @@ use Rattle.dkg_core.specs.Fixed.{Fixed}
 use Rattle.dkg_core.specs.Live.{Live, Message, Sent, Peer, Finalized, NextLog, ReleaseLog, EpochInfoOf, Feed, Over, Cancel, Work, awaited_height}
 use Rattle.dkg_core.specs.Setup.{setup}
 use Rattle.dkg_core.specs.Core.{opening, step, opens_in, begun}
-use Rattle.dkg_core.specs.Laws.{Law, Holds, Anything, IsQuiet, IsSilent, PeerLine, peer_law, OtherLine, OfHalves, IsOwn, other_law, prune_law, reach_of}
+use Rattle.dkg_core.specs.Laws.{Law, Holds, Anything, IsQuiet, IsSilent, PeerLine, peer_law, OtherLine, OfHalves, OfOffers, IsOwn, IsOffered, other_law, prune_law, reach_of}
 use Rattle.dkg_core.specs.Transcripts.{lines_of, StepsAreQuiet, BeginsOpened, OpeningsAreQuiet}
 use Rattle.dkg_core.proofs.Hearing.{heard}
 use Rattle.dkg_core.proofs.Holding.{holds_as}
@@ -32,17 +32,20 @@ quiet_law = record { line = λ past line. IsQuiet line; operation = Anything; en
 silent_quiet : {Dir : Type 0} (past : List (Deed Dir)) (line : Line) → IsSilent past line → IsQuiet line
 silent_quiet past (Recorded epoch dealer public private) h = absurd h
 silent_quiet past (Ack epoch dealer ack) h = absurd h
+silent_quiet past (Offer epoch player public private) h = tt
 silent_quiet past line h = h
 
 peer_quiet : {Dir : Type 0} (c : Fixed Dir) (st : Live Dir) (from : ℕ) (past : List (Deed Dir)) (line : Line) → PeerLine c st from past line → IsQuiet line
 peer_quiet c st from past (Recorded epoch dealer public private) h = tt
 peer_quiet c st from past (Ack epoch dealer ack) h = tt
+peer_quiet c st from past (Offer epoch player public private) h = tt
 peer_quiet c st from past line h = h
 
-other_quiet : {Dir : Type 0} (c : Fixed Dir) (own : OfHalves) (past : List (Deed Dir)) (line : Line) → OtherLine c own past line → IsQuiet line
-other_quiet c own past (Recorded epoch dealer public private) h = tt
-other_quiet c own past (Ack epoch dealer ack) h = absurd h
-other_quiet c own past line h = h
+other_quiet : {Dir : Type 0} (c : Fixed Dir) (own : OfHalves) (offered : OfOffers) (past : List (Deed Dir)) (line : Line) → OtherLine c own offered past line → IsQuiet line
+other_quiet c own offered past (Recorded epoch dealer public private) h = tt
+other_quiet c own offered past (Ack epoch dealer ack) h = absurd h
+other_quiet c own offered past (Offer epoch player public private) h = tt
+other_quiet c own offered past line h = h
 
 -- A STEP
 
@@ -56,8 +59,8 @@ module _ {Dir : Type 0} (c : Fixed Dir) (st : Live Dir) (ended : Ended Fault (Li
       let front = lines_obey law [] (step c message st) ended old new holds said in
       (lines_of front.deeds, front.added, all_lines law IsQuiet so [] front.deeds front.obeys)
 
-  of_other : (message : Message Dir) → Holds (other_law c (IsOwn c st) (reach_of c message)) [] (step c message st) → SaysBy (on_devices (step c message st)) ended old new → AddsQuiet
-  of_other message holds said = of_law (other_law c (IsOwn c st) (reach_of c message)) message (other_quiet c (IsOwn c st)) holds said
+  of_other : (message : Message Dir) → Holds (other_law c (IsOwn c st) (IsOffered c st) (reach_of c message)) [] (step c message st) → SaysBy (on_devices (step c message st)) ended old new → AddsQuiet
+  of_other message holds said = of_law (other_law c (IsOwn c st) (IsOffered c st) (reach_of c message)) message (other_quiet c (IsOwn c st) (IsOffered c st)) holds said
 
   each : (message : Message Dir) → SaysBy (on_devices (step c message st)) ended old new → AddsQuiet
   each (Finalized b) said = of_other (Finalized b) (others_acknowledge_nothing c st (Finalized b) tt) said

@@ -32,10 +32,12 @@ use Rattle.dkg_core.specs.OneShots as o
 use Rattle.dkg_core.specs.Blocks.{ends_once}
 use Rattle.dkg_core.specs.Core.{opening, opens_in, begun}
 use Rattle.dkg_core.specs.Laws.{StartsWithin}
+use Rattle.dkg_core.specs.Behind.{IsAside}
 use Rattle.dkg_core.specs.Enduring.{AckOf, IsSaidFrom, IsKeptFrom, OpeningsEndure}
 use Rattle.dkg_core.proofs.Opening.{above_floor}
 use Rattle.dkg_core.proofs.Upkeep as up
 use Rattle.dkg_core.proofs.Upkeep.{along_if}
+use Rattle.dkg_core.proofs.Walking as walk
 
 -- what is left of an operation that changes no entry
 left_same : (op : of_journal.Operation) (j new : Journaled) → (of_journal.after_operation op j).entries ≡ j.entries → (InPart op j new → new.entries ≡ j.entries) → IsLeft op j new → new.entries ≡ j.entries
@@ -50,6 +52,9 @@ module _ {Dir : Type 0} (c : Fixed Dir) (ack_of : AckOf) (most : ℕ) (base : Li
   tell : (w : World) (line : Line) → IsSaidFrom ack_of most w.held line → P w → P (says w line)
   tell w line sound q = up.tells ack_of most base w line sound q
 
+  told : (w : World) (line : Line) → IsAside line → P w → P (says w line)
+  told w line aside q = up.told c ack_of most base w line aside q
+
   same_entries : (w new : World) → new.out ≡ w.out → notes new.held ≡ notes w.held → new.held.secrets ≡ w.held.secrets → P w → P new
   same_entries w new same is_es is_t q = up.over ack_of most base w new (notes w.held) w.held.secrets same is_es is_t q.whole (λ key v above got. got) q
 
@@ -62,7 +67,7 @@ module _ {Dir : Type 0} (c : Fixed Dir) (ack_of : AckOf) (most : ℕ) (base : Li
   )
 
   setup : (m : Option (EpochInfo Dir × ℕ)) (st : Live Dir) (w : World) → (epoch_of c.blocks_per_epoch (awaited_height st) - 1) ≤ most → P w → Throughout P (s.setup c m st) w
-  setup m st w low q = up.setup c ack_of most base m st w low q
+  setup m st w low q = walk.setup c P told most (λ info st w q. up.commits_read c ack_of most base info st w q) (λ min under st w q. up.prunes ack_of most base min under st w q) m st w low q
 
   starts_at : (m : Material Dir) (found : Option (Block Dir)) (st : Live Dir) (w : World) → c.source.by_digest m.floor.payload ≡ found → P w → Throughout P (p.starts_at c m found st) w
   starts_at m None st w is q = q
@@ -120,7 +125,7 @@ module _ {Dir : Type 0} (c : Fixed Dir) (ack_of : AckOf) (most : ℕ) (base : Li
   begins_once : (once : OneShot Dir) (seed : List ℕ) (st : Live Dir) (w : World) → P w → Throughout P (o.begins_once c once seed st) w
   begins_once once seed st w q = (
     λ cause new tears. up.put_torn ack_of most base (PutSeed 0 seed) (seed_halves 0 seed) w new cause tears q,
-    up.draws_up c ack_of most base (o.participants_in once) None None seed (s.anew c st) (does w (Changes (PutSeed 0 seed))) (up.put_done ack_of most base (PutSeed 0 seed) (seed_halves 0 seed) w q),
+    walk.draws_up c P told (o.participants_in once) None None seed (s.anew c st) (does w (Changes (PutSeed 0 seed))) (up.put_done ack_of most base (PutSeed 0 seed) (seed_halves 0 seed) w q),
   )
 
   goes_once : (once : OneShot Dir) (share : Option ℕ) (seed : List ℕ) (st : Live Dir) (w : World) → P w → Throughout P (o.goes_once c once share seed st) w

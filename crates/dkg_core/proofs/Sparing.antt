@@ -34,7 +34,6 @@ use Rattle.dkg_core.specs.Plans as p
 use Rattle.dkg_core.specs.Core.{opening, step, opens_in, begun}
 use Rattle.dkg_core.specs.Laws.{Law, Holds, Keeps, Anything, PrunesAtMost, prune_law, OpeningOperation, opening_law, StartsWithin}
 use Rattle.dkg_core.specs.Heard.{Fits}
-use Rattle.dkg_core.specs.Today.{IsFormOfToday}
 use Rattle.dkg_core.proofs.Holding.{holds_as, holds_if, holds_option, along}
 use Rattle.dkg_core.proofs.Opening.{openings_prune}
 use Rattle.dkg_core.proofs.Pruning.{setups_prune}
@@ -151,7 +150,7 @@ opening_spares past (OnDisk (PutsPlan bytes)) h = tt
 opening_spares past (OnDisk ClearsPlan) h = tt
 opening_spares past (Changes op) h = tt
 
-module _ {Dir : Type 0} (c : Fixed Dir) (form : IsFormOfToday c) where
+module _ {Dir : Type 0} (c : Fixed Dir) (reshare : c.oneshot ≡ None) (bare : c.material ≡ None) (unplanned : (h : Held) → (c.seen h).plan ≡ None) where
   abbrev plans : Law Dir (Live Dir)
   plans = sparing SparesPlan
 
@@ -169,9 +168,9 @@ module _ {Dir : Type 0} (c : Fixed Dir) (form : IsFormOfToday c) where
       (λ e. tt) (λ e. sets_up past (record st { tip = startup c.source.anchor None }))
 
   opens : (past : List (Deed Dir)) (st : Live Dir) → Holds plans past (opens_in c c.oneshot st)
-  opens past st = subst (λ (o : _). Holds plans past (opens_in c o st)) (sym form.reshare)
-      (subst (λ (m : Option (Material Dir)). Holds plans past (p.finds_material c m (next st))) (sym form.bare)
-      (λ k. subst (λ (found : Option (List ℕ)). Holds plans past (p.reads_plan c found (next st))) (sym (form.unplanned k)) (goes past st)))
+  opens past st = subst (λ (o : _). Holds plans past (opens_in c o st)) (sym reshare)
+      (subst (λ (m : Option (Material Dir)). Holds plans past (p.finds_material c m (next st))) (sym bare)
+      (λ k. subst (λ (found : Option (List ℕ)). Holds plans past (p.reads_plan c found (next st))) (sym (unplanned k)) (goes past st)))
 
   pub opening_plan : Holds plans [] (opening c)
   opening_plan = (tt, (tt, λ h. (tt, opens _ (begun (c.seen h)))))

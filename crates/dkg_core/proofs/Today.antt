@@ -585,9 +585,9 @@ module _ {Dir : Type 0} (c : Fixed Dir) (st : Live Dir) (live : IsLiveToday c st
       deals_nothing = either st.participation.round st.participation.dealer live.undealt
         where
           either : (o : Option Round) (dealer : Option Dealer) → dealer ≡ None
-              → option_map_or (λ round. option_map_or (λ its. d.offers c round its.public (s.unsent its) st) dealer (Goes st)) o (Goes st) ≡ Goes st
+              → option_map_or (λ round. option_map_or (λ its. d.offers c round its.public (s.unsent round its) st) dealer (Goes st)) o (Goes st) ≡ Goes st
           either None dealer is = refl
-          either (Some round) dealer is = ap (λ (x : Option Dealer). option_map_or (λ its. d.offers c round its.public (s.unsent its) st) x (Goes st)) is
+          either (Some round) dealer is = ap (λ (x : Option Dealer). option_map_or (λ its. d.offers c round its.public (s.unsent round its) st) x (Goes st)) is
 
       dealt : st.participation.stage ≡ Deals → ComesTo BF BG (b.deals_at c block st)
       dealt deals =

@@ -1,25 +1,12 @@
 -- What an operation, a line and a setup keep of what was told of dealings, wherever they end.
 use Rattle.std.proofs.Common.{◌≡◌, ◌⊎◌, inl, inr, ◌≤◌, ℕ, Bool, true, false, List, [], ◌∷◌, ◌++◌, Option, Some, None, refl, sym, ◌∙◌, ap, subst, append_assoc, arith}
-use Rattle.std.specs.Prelude.{◌-◌, ◌==◌, ◌||◌, if◌then◌else◌, not, Result, Ok, Err, option_map}
+use Rattle.std.specs.Prelude.{if◌then◌else◌, Ok}
 use Rattle.std.specs.Option.{option_map_or}
 use Rattle.std.specs.FinMap.{FinMap, get, empty, insert}
 use Rattle.dkg_values.specs.Rising.{lookup}
-use Rattle.dkg_ceremony.specs.declared.deal.DealError.{DealError}
-use Rattle.dkg_ceremony.specs.declared.output.Output.{Output}
-use Rattle.dkg_ceremony.specs.declared.phase.Phase.{Phase}
-use Rattle.dkg_ceremony.specs.declared.round.Round.{Round}
-use Rattle.dkg_ceremony.specs.declared.round.RoundError.{RoundError}
-use Rattle.dkg_ceremony.specs.Schedule.{epoch_of, boundary}
 use Rattle.dkg_journal.specs.Operations.{Appends, Prunes, Journaled}
 use Rattle.dkg_journal.specs.Records.{Entry, placed, from_section}
-use Rattle.dkg_types.specs.Blocks.{Block}
-use Rattle.dkg_types.specs.BlockCodes.{info_of}
-use Rattle.dkg_types.specs.declared.fault.Fault.{Fault}
-use Rattle.dkg_types.specs.declared.fault.Fault.TheVariants.{HeightRange, MissingEpochInfo, WrongEpoch}
 use Rattle.dkg_types.specs.declared.info.EpochInfo.{EpochInfo}
-use Rattle.dkg_types.specs.declared.participants.Participants.{Participants}
-use Rattle.dkg_types.specs.declared.participants.ParticipantsError.{ParticipantsError}
-use Rattle.dkg_types.specs.Validation.{validation}
 use Rattle.dkg_store.specs.Acts.{Held, OnDisk, Changes, World, says, does, notes, Cause, Tears, IsLeft}
 use Rattle.dkg_store.specs.Events.{event_spelling, IsEvent}
 use Rattle.dkg_store.specs.declared.event.Event.{Event}
@@ -33,21 +20,20 @@ use Rattle.dkg_store.proofs.Halves.{recovered_at, prune_halves, share_halves, se
 use Rattle.dkg_store.proofs.Pairs.{record_one, put_one, same_key, get_here, get_other}
 use Rattle.dkg_store.proofs.Silent.{says_dealing}
 use Rattle.dkg_secrets.proofs.Tried.{all_done}
-use Rattle.dkg_core.specs.Courses.{Course, Stops, bind, Throughout}
-use Rattle.dkg_core.specs.Fixed.{Fixed, has}
-use Rattle.dkg_core.specs.Live.{Live, Dealer, Seat, Plays, Watches, awaited_height, of_epoch, phase_of, with_participation}
-use Rattle.dkg_core.specs.Logs.{logs_of}
+use Rattle.dkg_core.specs.Courses.{Course, Throughout}
+use Rattle.dkg_core.specs.Fixed.{Fixed}
+use Rattle.dkg_core.specs.Live.{Live}
 use Rattle.dkg_core.specs.Setup as s
+use Rattle.dkg_core.specs.Behind.{IsAside}
 use Rattle.dkg_core.specs.Heard.{recovered_in}
 use Rattle.dkg_core.proofs.Keeping.{fold_silent, silent_whole, left_entries}
 use Rattle.std.specs.List.{AllByRecursion}
 use Rattle.dkg_types.specs.declared.entry.Entry.{Entry as Line}
-use Rattle.dkg_types.specs.declared.entry.Entry.TheVariants.{Recorded, Ack, Committed, Registered}
+use Rattle.dkg_types.specs.declared.entry.Entry.TheVariants.{Recorded, Ack}
 use Rattle.dkg_secrets.specs.declared.secrets.SecretOp.{SecretOp}
 use Rattle.dkg_core.specs.Enduring.{AckOf, IsSaidFrom, IsKeptFrom}
 use Rattle.dkg_core.proofs.Agreeing.{all_whole, whole_kept}
 use Rattle.dkg_core.proofs.Lasting.{pruned_at}
-use Rattle.dkg_core.proofs.Running.{along_next, along_end}
 
 -- EITHER WAY
 
@@ -153,7 +139,7 @@ module _ (ack_of : AckOf) (most : ℕ) (base : List Line) where
       (λ key v above got. recovered_at w.held.secrets t key (from_section min (notes w.held)) (halves key (omega arith)) ∙ pruned_from min (notes w.held) w.held.secrets key v low above got) q
 
   -- both
-  prunes : {Dir : Type 0} (min : ℕ) → min ≤ most → (st : Live Dir) (w : World) → Q w → Throughout Q (s.prunes min st) w
+  pub prunes : {Dir : Type 0} (min : ℕ) → min ≤ most → (st : Live Dir) (w : World) → Q w → Throughout Q (s.prunes min st) w
   prunes min low st w q =
       let mid : World = does w (OnDisk (Prunes min)) in
       let t : Secrets = of_secrets.after (Prune min) w.held.secrets in (
@@ -243,7 +229,7 @@ module _ (ack_of : AckOf) (most : ℕ) (base : List Line) where
         left (inl is) = over w new (notes w.held) with_half tears.same is tears.torn.0 half.0 half_gives q
         left (inr is) = over w new (placed (notes w.held) its_entry) with_half tears.same is tears.torn.0 both.0 both_give q
 
--- A SETUP
+-- A COMMIT
 
 module _ {Dir : Type 0} (c : Fixed Dir) (ack_of : AckOf) (most : ℕ) (base : List Line) where
   abbrev P : World → Type 0
@@ -251,13 +237,6 @@ module _ {Dir : Type 0} (c : Fixed Dir) (ack_of : AckOf) (most : ℕ) (base : Li
 
   tell : (w : World) (line : Line) → IsSaidFrom ack_of most w.held line → P w → P (says w line)
   tell w line sound q = tells ack_of most base w line sound q
-
-  then_next : (course : Course Dir Fault (Live Dir)) (next : Live Dir → Course Dir Fault (Live Dir)) (w : World) → Throughout P course w → ((st : Live Dir) (mid : World) → P mid → Throughout P (next st) mid)
-      → Throughout P (bind course next) w
-  then_next course next w t more = along_next P course next w t (λ st mid done. more st mid (along_end P course w mid st t done))
-
-  pub registers : (info : EpochInfo Dir) (share : Option ℕ) (st : Live Dir) (w : World) → P w → Throughout P (s.registers c info share st) w
-  registers info share st w q = (q, tell w _ tt q)
 
   pub commits : (info : EpochInfo Dir) (seed : List ℕ) (share : Option ℕ) (st : Live Dir) (w : World) → P w → Throughout {Dir = Dir} P (s.commits info seed share st) w
   commits info seed None st w q =
@@ -274,112 +253,16 @@ module _ {Dir : Type 0} (c : Fixed Dir) (ack_of : AckOf) (most : ℕ) (base : Li
         ),
       )
 
-  takes_part : (round : Round) (phase : Phase) (dealer : Option Dealer) (seat : Seat) (st : Live Dir) (w : World) → P w → Throughout P (s.takes_part c round phase dealer seat st) w
-  takes_part round phase dealer seat st w q = (q, tell w _ tt q)
+  aside_said : (h : Held) (line : Line) → IsAside line → IsSaidFrom ack_of most h line
+  aside_said h (Recorded epoch dealer public private) aside = absurd aside
+  aside_said h (Ack epoch dealer ack) aside = absurd aside
+  aside_said h line aside = tt
 
-  sits_down : (round : Round) (phase : Phase) (dealer : Option Dealer) (refused : Option ℕ) (st : Live Dir) (w : World) → P w → Throughout P (s.sits_down c round phase dealer refused st) w
-  sits_down round phase dealer (Some refused) st w q = q
-  sits_down round phase dealer None st w q = takes_part round phase dealer Plays st w q
+  -- a line that is no dealing's
+  pub told : (w : World) (line : Line) → IsAside line → P w → P (says w line)
+  told w line aside q = tell w line (aside_said w.held line aside) q
 
-  makes_player : (round : Round) (phase : Phase) (dealer : Option Dealer) (st : Live Dir) (w : World) → P w → Throughout P (s.makes_player c round phase dealer st) w
-  makes_player round phase dealer st w q =
-      along_if P w (not (has round.players c.me) || s.is_lost c round (of_epoch round.number st.records.dealings) (logs_of st round.number))
-      (s.takes_part c round phase dealer Watches st) (s.sits_down c round phase dealer (s.refused_in c round st) st)
-      (λ e. takes_part round phase dealer Watches st w q) (λ e. sits_down round phase dealer (s.refused_in c round st) st w q)
-
-  dealt_by : (round : Round) (phase : Phase) (st : Live Dir) (dealt : Result (List ℕ × List (ℕ × ℕ)) DealError) (w : World) → P w → Throughout P (s.dealt_by c round phase st dealt) w
-  dealt_by round phase st (Ok dealt) w q = makes_player round phase (s.dealer_for phase round (s.dealer_from c round st dealt)) st w q
-  dealt_by round phase st (Err refused) w q = q
-
-  in_round : (phase : Phase) (share : Option ℕ) (seed : List ℕ) (st : Live Dir) (round : Result Round RoundError) (w : World) → P w → Throughout P (s.in_round c phase share seed st round) w
-  in_round phase share seed st (Err e) w q = q
-  in_round phase share seed st (Ok round) w q =
-      along_if P w (s.may_deal c round share st) (s.dealt_by c round phase st (c.rules.deal_of round c.me share seed)) (s.makes_player c round phase None st)
-      (λ e. dealt_by round phase st (c.rules.deal_of round c.me share seed) w q) (λ e. makes_player round phase None st w q)
-
-  pub draws_up : (p : Participants) (previous : Option Output) (share : Option ℕ) (seed : List ℕ) (st : Live Dir) (w : World) → P w → Throughout P (s.draws_up c p previous share seed st) w
-  draws_up p previous share seed st w q =
-      in_round (phase_of c (awaited_height st)) share seed st (c.rules.round_of c.namespace st.participation.epoch previous c.mode c.reveal p.dealers p.players) w q
-
-  behind_prune : (floor : Option ℕ) (info : EpochInfo Dir) (share : Option ℕ) (seed : List ℕ) (st : Live Dir) (w : World) → P w
-      → Throughout P (if s.is_late_floor c floor then s.follows c st else s.draws_up c (s.participants_of info) (Some info.output) share seed st) w
-  behind_prune floor info share seed st w q =
-      along_if P w (s.is_late_floor c floor) (s.follows c st) (s.draws_up c (s.participants_of info) (Some info.output) share seed st)
-      (λ e. (q, tell w _ tt q)) (λ e. draws_up (s.participants_of info) (Some info.output) share seed st w q)
-
-  module _ (epoch : ℕ) (low : (epoch - 1) ≤ most) where
-    after_commit : (floor : Option ℕ) (info : EpochInfo Dir) (share : Option ℕ) (seed : List ℕ) (st : Live Dir) (w : World) → st.participation.epoch ≡ epoch → P w
-        → Throughout P (bind (s.prunes (st.participation.epoch - 1) st) (λ st. if s.is_late_floor c floor then s.follows c st else s.draws_up c (s.participants_of info) (Some info.output) share seed st)) w
-    after_commit floor info share seed st w is q =
-        let min = st.participation.epoch - 1 in
-        let done = prunes ack_of most base min (subst (λ (n : ℕ). (n - 1) ≤ most) (sym is) low) st w q in (
-          done.0,
-          (
-            done.1.0,
-            behind_prune floor info share seed (record st { records = s.records_from min st.records }) (does (does w (OnDisk (Prunes min))) (Changes (Prune min))) done.1.1,
-          ),
-        )
-
-    with_share_and_seed : (floor : Option ℕ) (standing : s.Standing) (info : EpochInfo Dir) (share : Option ℕ) (seed : List ℕ) (st : Live Dir) (w : World) → st.participation.epoch ≡ epoch → P w
-        → Throughout P (s.with_share_and_seed c floor standing info share seed st) w
-    with_share_and_seed floor s.WasCommitted info share seed st w is q = after_commit floor info share seed st w is q
-    with_share_and_seed floor s.Uncommitted info None seed st w is q =
-        let told = commits info seed None st w q in
-        let committed : World = says (does w (Changes (PutSeed info.epoch seed))) (Committed info.epoch None) in
-        let role = s.role_of (s.scheme_for c info None) in (
-          told.0,
-          (
-            told.1.0,
-            (
-              told.1.1,
-              after_commit floor info None seed (s.with_registered info.epoch (s.scheme_for c info None) (with_participation (record st.participation { current = Some info }) st)) (says committed (Registered info.epoch role)) is
-                  (tell committed (Registered info.epoch role) tt told.1.1),
-            ),
-          ),
-        )
-    with_share_and_seed floor s.Uncommitted info (Some share) seed st w is q =
-        let told = commits info seed (Some share) st w q in
-        let committed : World = says (does (does w (Changes (PutShare info.epoch share))) (Changes (PutSeed info.epoch seed))) (Committed info.epoch (Some share)) in
-        let role = s.role_of (s.scheme_for c info (Some share)) in (
-          told.0,
-          (
-            told.1.0,
-            (
-              told.1.1.0,
-              (
-                told.1.1.1,
-                after_commit floor info (Some share) seed (s.with_registered info.epoch (s.scheme_for c info (Some share)) (with_participation (record st.participation { current = Some info }) st)) (says committed (Registered info.epoch role)) is
-                    (tell committed (Registered info.epoch role) tt told.1.1.1),
-              ),
-            ),
-          ),
-        )
-
-    judged : (floor : Option ℕ) (standing : s.Standing) (info : EpochInfo Dir) (st : Live Dir) (valid : Result (Unit {0}) ParticipantsError) (w : World) → st.participation.epoch ≡ epoch → P w
-        → Throughout P (s.judged c floor standing info st valid) w
-    judged floor standing info st (Err e) w is q = q
-    judged floor standing info st (Ok passed) w is q =
-        with_share_and_seed floor standing info (s.recovered_share c (c.seen w.held) info) (s.seed_for c info.epoch (lookup info.epoch (c.seen w.held).seeds)) st w is q
-
-    with_info : (floor : Option ℕ) (standing : s.Standing) (info : EpochInfo Dir) (st : Live Dir) (w : World) → st.participation.epoch ≡ epoch → P w → Throughout P (s.with_info c floor standing info st) w
-    with_info floor standing info st w is q =
-        along_if P w (info.epoch == st.participation.epoch) (s.judged c floor standing info st (validation (s.participants_of info) c.limit (Some info.output) info.epoch)) (Stops (WrongEpoch st.participation.epoch info.epoch))
-        (λ e. judged floor standing info st (validation (s.participants_of info) c.limit (Some info.output) info.epoch) w is q) (λ e. q)
-
-    from_boundary : (found : Option (Block Dir)) (st : Live Dir) (w : World) → st.participation.epoch ≡ epoch → P w → Throughout P (s.from_boundary c found st) w
-    from_boundary None st w is q = (q, tell w _ tt q)
-    from_boundary (Some block) st w is q =
-        along_option P w (info_of block.payload) (λ info. s.with_info c None s.Uncommitted info st) (Stops (MissingEpochInfo block.height)) (λ info e. with_info None s.Uncommitted info st w is q) (λ e. q)
-
-    from_material : (m : Option (EpochInfo Dir × ℕ)) (st : Live Dir) (w : World) → st.participation.epoch ≡ epoch → P w → Throughout P (s.from_material c m st) w
-    from_material (Some m) st w is q = with_info (Some m.1) s.Uncommitted m.0 st w is q
-    from_material None st w is q = from_boundary (c.source.block (boundary c.blocks_per_epoch st.participation.epoch)) st w is q
-
-    sets_up : (m : Option (EpochInfo Dir × ℕ)) (committed : Option (EpochInfo Dir)) (st : Live Dir) (w : World) → st.participation.epoch ≡ epoch → P w → Throughout P (s.sets_up_by c m committed st) w
-    sets_up m (Some info) st w is q = with_info (option_map (λ m. m.1) m) s.WasCommitted info st w is q
-    sets_up m None st w is q = from_material m st w is q
-
-  pub setup : (m : Option (EpochInfo Dir × ℕ)) (st : Live Dir) (w : World) → (epoch_of c.blocks_per_epoch (awaited_height st) - 1) ≤ most → P w → Throughout P (s.setup c m st) w
-  setup m st w low q =
-      along_if P w (s.is_past_range c (awaited_height st)) (Stops HeightRange) (s.sets_up c m st) (λ e. q)
-      (λ e. sets_up (epoch_of c.blocks_per_epoch (awaited_height st)) low m (s.committed_info (s.anew c st)) (s.anew c st) w refl q)
+  -- what was read is committed
+  pub commits_read : (info : EpochInfo Dir) (st : Live Dir) (w : World) → P w
+      → Throughout {Dir = Dir} P (s.commits info (s.seed_for c info.epoch (lookup info.epoch (c.seen w.held).seeds)) (s.recovered_share c (c.seen w.held) info) st) w
+  commits_read info st w q = commits info (s.seed_for c info.epoch (lookup info.epoch (c.seen w.held).seeds)) (s.recovered_share c (c.seen w.held) info) st w q

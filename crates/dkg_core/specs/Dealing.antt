@@ -163,4 +163,4 @@ offers c round public (p ∷ ps) st =
 
 -- A dealer offers whatever isn't acknowledged.
 abbrev pub deals : {Dir : Type 0} → Fixed Dir → Live Dir → Course Dir Fault (Live Dir)
-deals c st = with_round st (λ round. option_map_or (λ d. offers c round d.public (unsent d) st) st.participation.dealer (Goes st))
+deals c st = with_round st (λ round. option_map_or (λ d. offers c round d.public (unsent round d) st) st.participation.dealer (Goes st))

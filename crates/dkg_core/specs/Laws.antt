@@ -8,10 +8,11 @@ use Rattle.dkg_ceremony.specs.declared.output.Output.{Output}
 use Rattle.dkg_ceremony.specs.declared.round.Round.{Round}
 use Rattle.dkg_ceremony.specs.Schedule.{epoch_of}
 use Rattle.dkg_types.specs.declared.entry.Entry.{Entry as Line}
-use Rattle.dkg_types.specs.declared.entry.Entry.TheVariants.{Opened, Recorded, Ack, Cut, Step, Fault as AFault}
+use Rattle.dkg_types.specs.declared.entry.Entry.TheVariants.{Opened, Recorded, Ack, Offer, Cut, Step, Fault as AFault}
 use Rattle.dkg_types.specs.declared.message.Message.TheVariants.{Dealer as ADealing}
 use Rattle.dkg_types.specs.MessageCodes.{message_at}
 use Rattle.dkg_values.specs.Codec.{whole}
+use Rattle.dkg_values.specs.Rising.{lookup}
 use Rattle.dkg_types.specs.declared.info.EpochInfo.{EpochInfo}
 use Rattle.dkg_store.specs.Acts.{Operation, OnDisk, Changes, Cause, Held, World, says, does, Tears}
 use Rattle.dkg_journal.specs.Operations.{Bars, Opens, Appends, Prunes, PutsPlan, ClearsPlan}
@@ -66,10 +67,11 @@ IsQuiet (Step step) = ⊥
 IsQuiet (AFault fault) = ⊥
 IsQuiet line = Unit {0}
 
--- no dealing is told as recorded, and none is acknowledged
+-- no dealing is told as recorded, none is acknowledged, and no half is offered
 abbrev pub IsSilent : {Dir : Type 0} → List (Deed Dir) → Line → Type 0
 IsSilent past (Recorded epoch dealer public private) = ⊥
 IsSilent past (Ack epoch dealer ack) = ⊥
+IsSilent past (Offer epoch player public private) = ⊥
 IsSilent past line = IsQuiet line
 
 -- A setup says nothing of dealings, puts a share and a seed, and prunes nothing of the awaited epoch, nor of the one before.
@@ -145,13 +147,16 @@ pub record IsAcknowledged {Dir : Type 0} (c : Fixed Dir) (st : Live Dir) (past :
 abbrev pub PeerLine : {Dir : Type 0} → Fixed Dir → Live Dir → (from : ℕ) → List (Deed Dir) → Line → Type 0
 PeerLine c st from past (Recorded epoch dealer public private) = (dealer ≡ from) × IsAccepted c st epoch dealer public private × WasPut epoch dealer public private past
 PeerLine c st from past (Ack epoch dealer ack) = (dealer ≡ from) × IsAcknowledged c st past epoch dealer ack
+PeerLine c st from past (Offer epoch player public private) = ⊥
 PeerLine c st from past line = IsQuiet line
 
--- .. and do: it prunes nothing, and puts the private half of an accepted dealing alone, before anything else
+-- .. and do: it prunes nothing, leaves the plan, and puts the private half of an accepted dealing alone, before anything else
 abbrev pub PeerOperation : {Dir : Type 0} → Fixed Dir → Live Dir → (from : ℕ) → List (Deed Dir) → Operation → Type 0
 PeerOperation c st from past (Changes (PutDealing epoch dealer private)) = (past ≡ []) × (dealer ≡ from) × ((public : List ℕ) × IsAccepted c st epoch dealer public private)
 PeerOperation c st from past (Changes (Prune min)) = ⊥
 PeerOperation c st from past (OnDisk (Prunes min)) = ⊥
+PeerOperation c st from past (OnDisk (PutsPlan bytes)) = ⊥
+PeerOperation c st from past (OnDisk ClearsPlan) = ⊥
 PeerOperation c st from past op = Unit {0}
 
 abbrev pub peer_law : {Dir : Type 0} → Fixed Dir → Live Dir → (from : ℕ) → Law Dir (Live Dir)
@@ -181,20 +186,40 @@ pub record IsOwn {Dir : Type 0} (c : Fixed Dir) (st : Live Dir) (epoch : ℕ) (p
   pub is_public : public ≡ dealer.public
   pub is_private : IsAmong (c.me, private) dealer.privates
 
--- No dealing is acknowledged, and of dealings only this node's own is recorded.
-abbrev pub OtherLine : {Dir : Type 0} → Fixed Dir → OfHalves → List (Deed Dir) → Line → Type 0
-OtherLine c own past (Recorded epoch dealer public private) = (dealer ≡ c.me) × own epoch public private
-OtherLine c own past (Ack epoch dealer ack) = ⊥
-OtherLine c own past line = IsQuiet line
+-- what is said of an epoch, a player, a public half and its private half
+abbrev pub OfOffers : Type 1
+OfOffers = (epoch player : ℕ) → List ℕ → ℕ → Type 0
+
+-- This node's dealer deals this half to another player of the life's round, whose acknowledgement doesn't count by then.
+pub record IsOffered {Dir : Type 0} (c : Fixed Dir) (st : Live Dir) (epoch player : ℕ) (public : List ℕ) (private : ℕ) : Type 0 where
+  pub round : Round
+  pub of_epoch : st.participation.round ≡ Some round
+  pub number : epoch ≡ round.number
+  pub dealer : Dealer
+  pub of_dealer : st.participation.dealer ≡ Some dealer
+  pub is_public : public ≡ dealer.public
+  pub is_private : lookup player dealer.privates ≡ Some private
+  pub plays : IsAmong player round.players
+  pub lacks : lookup player dealer.acks ≡ None
+  pub other : player ≡ c.me → ⊥
+
+-- No dealing is acknowledged, of dealings only this node's own is recorded, and such halves are offered.
+abbrev pub OtherLine : {Dir : Type 0} → Fixed Dir → OfHalves → OfOffers → List (Deed Dir) → Line → Type 0
+OtherLine c own offered past (Recorded epoch dealer public private) = (dealer ≡ c.me) × own epoch public private
+OtherLine c own offered past (Ack epoch dealer ack) = ⊥
+OtherLine c own offered past (Offer epoch player public private) = offered epoch player public private
+OtherLine c own offered past line = IsQuiet line
 
 abbrev pub OtherOperation : {Dir : Type 0} → Fixed Dir → OfHalves → (most : ℕ) → List (Deed Dir) → Operation → Type 0
 OtherOperation c own most past (OnDisk (Prunes min)) = min ≤ most
+OtherOperation c own most past (OnDisk (PutsPlan bytes)) = ⊥
+OtherOperation c own most past (OnDisk ClearsPlan) = ⊥
 OtherOperation c own most past (Changes (Prune min)) = min ≤ most
 OtherOperation c own most past (Changes (PutDealing epoch dealer private)) = (dealer ≡ c.me) × ((public : List ℕ) × own epoch public private)
 OtherOperation c own most past op = Unit {0}
 
-abbrev pub other_law : {Dir : Type 0} → Fixed Dir → OfHalves → (most : ℕ) → Law Dir (Live Dir)
-other_law c own most = record { line = OtherLine c own; operation = OtherOperation c own most; end = Anything }
+abbrev pub other_law : {Dir : Type 0} → Fixed Dir → OfHalves → OfOffers → (most : ℕ) → Law Dir (Live Dir)
+other_law c own offered most = record { line = OtherLine c own offered; operation = OtherOperation c own most; end = Anything }
 
 -- the epoch below whose predecessor a message may prune: that of the height above a delivered block, and else none
 abbrev pub reach_of : {Dir : Type 0} → Fixed Dir → Message Dir → ℕ
@@ -206,10 +231,10 @@ abbrev pub IsOther : {Dir : Type 0} → Message Dir → Type 0
 IsOther (Sent (Peer from bytes)) = ⊥
 IsOther message = Unit {0}
 
--- Any other message acknowledges nothing, records this node's own dealing alone, and prunes nothing of the epoch of the next height, nor of
--- the one before.
+-- Any other message acknowledges nothing, records this node's own dealing alone, offers what its dealer deals alone, and prunes nothing of the epoch of the
+-- next height, nor of the one before.
 abbrev pub OthersAcknowledgeNothing : Type 0 → Type 0
-OthersAcknowledgeNothing Dir = (c : Fixed Dir) (st : Live Dir) (message : Message Dir) → IsOther message → Holds (other_law c (IsOwn c st) (reach_of c message)) [] (step c message st)
+OthersAcknowledgeNothing Dir = (c : Fixed Dir) (st : Live Dir) (message : Message Dir) → IsOther message → Holds (other_law c (IsOwn c st) (IsOffered c st) (reach_of c message)) [] (step c message st)
 
 -- WHAT IS DUE
 

@@ -2,6 +2,7 @@ pub mod Agreeing
 pub mod Applying
 pub mod Behind
 pub mod Blocks
+pub mod BlocksKept
 pub mod Core
 pub mod Counted
 pub mod Courses
@@ -11,6 +12,7 @@ pub mod Enduring
 pub mod Entering
 pub mod Entry
 pub mod Fixed
+pub mod Forms
 pub mod Heard
 pub mod Imaged
 pub mod Including
@@ -23,6 +25,7 @@ pub mod Meant
 pub mod Node
 pub mod NodeKept
 pub mod NodeToday
+pub mod Offering
 pub mod OneShots
 pub mod Plans
 pub mod Probes
@@ -31,6 +34,9 @@ pub mod Said
 pub mod Seen
 pub mod Setup
 pub mod Sources
+pub mod Spared
 pub mod Splitting
+pub mod Stepping
+pub mod Storing
 pub mod Today
 pub mod Transcripts

@@ -35,6 +35,7 @@ use Rattle.dkg_types.specs.declared.scheme.SchemeInfo.TheVariants.{Verifier as V
 use Rattle.dkg_types.specs.Schemes.{scheme_of}
 use Rattle.dkg_types.specs.Validation.{validation}
 use Rattle.dkg_store.specs.Acts.{OnDisk, Changes}
+use Rattle.dkg_store.specs.Dealer.{with_unsent}
 use Rattle.dkg_journal.specs.Operations.{Prunes}
 use Rattle.dkg_core.specs.Courses.{Course, Say, Do, Call, Ask, Goes, Stops, Marks, bind}
 use Rattle.dkg_store.specs.Recorded.{Pair, first_refused}
@@ -128,13 +129,18 @@ prunes min st =
 
 -- THIS NODE'S PARTS
 
--- the players without an acknowledgement, each with its private half
-abbrev pub unsent : Dealer → List (ℕ × ℕ)
-unsent d = filter (λ p. is_none (lookup p.0 d.acks)) d.privates
+-- of these players those without an acknowledgement, in their order, each with its private half
+abbrev pub unsent_of : (acks : List (ℕ × List ℕ)) → (privates : List (ℕ × ℕ)) → (players : List ℕ) → List (ℕ × ℕ)
+unsent_of acks privates [] = []
+unsent_of acks privates (player ∷ players) = with_unsent player (lookup player acks) (lookup player privates) (unsent_of acks privates players)
+
+-- .. of the round's players
+abbrev pub unsent : Round → Dealer → List (ℕ × ℕ)
+unsent round d = unsent_of d.acks d.privates round.players
 
 -- At most as many players lack as may fail.
 abbrev pub has_quorum : Round → Dealer → Bool
-has_quorum round d = nat_le (length (unsent d)) (max_faults_of (length round.players))
+has_quorum round d = nat_le (length (unsent round d)) (max_faults_of (length round.players))
 
 -- A dealer without a quorum is given up after Early.
 abbrev pub dealer_for : Phase → Round → Dealer → Option Dealer

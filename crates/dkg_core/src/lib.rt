@@ -14,6 +14,7 @@ ghost use Rattle.dkg_core.specs.Agreeing.{OpeningsAgree, SetupsAgree, StepsAgree
 ghost use Rattle.dkg_core.specs.Behind.{OpeningsRunBehind, OpeningsSayBehind, StepsRunBehind, StepsSayBehind};
 ghost use Rattle.dkg_core.specs.Enduring.{OpeningsEndure, StepsGiveBack, StepsKeep};
 ghost use Rattle.dkg_core.specs.Entry.{EntersRegistered, LastBlocksAreEntered};
+ghost use Rattle.dkg_core.specs.Forms.{HalvesBegin, NodeOpeningsLead, NodeOpeningsLeadOver, OpeningsLead, OpeningsLeadOver, SetupsComeTo, SetupsStore};
 ghost use Rattle.dkg_core.specs.Heard.{OpeningsKeep, OpeningsRestore, PeersAgree, PeersAreKept, RunsAreKept, SetupsKeep};
 ghost use Rattle.dkg_core.specs.Joining.{JoinsTrack, ProbesJoin};
 ghost use Rattle.dkg_core.specs.Laws.{DuesAreAnswered, OpeningsPrune, OthersAcknowledgeNothing, PeersAreHeard, SetupsAreSound, SetupsPrune};
@@ -24,6 +25,11 @@ ghost use Rattle.dkg_core.specs.NodeKept.{DeliveriesAreIdle, NodePeersAreKept, N
 ghost use Rattle.dkg_core.specs.NodeToday.{NodeDuesAreAnswered, NodeOpeningsAreQuiet, NodeOpeningsComeTo, NodeStepsAreQuiet, NodeStepsComeTo};
 ghost use Rattle.dkg_core.specs.Probes.{ProbesStep};
 ghost use Rattle.dkg_core.specs.Said.{RunsSay};
+ghost use Rattle.dkg_core.specs.Spared.{NodeOpeningsKeepNotes, NodeOpeningsKeepPlans};
+ghost use Rattle.dkg_core.specs.Storing.{NodeOpeningsKeepSecrets, NodeStepsKeepSecrets, OpeningsKeepSeeds, OpeningsKeepShares, StepsKeepSeeds, StepsKeepShares};
+ghost use Rattle.dkg_core.specs.Offering.{NodeOffersAreDealt, OffersAreDealt};
+ghost use Rattle.dkg_core.specs.Stepping.{CommitsAreRead, HalvesGoOn, NextLivesStay, NodeStepsLead, NodeStepsLeadOver, StepsLead, StepsLeadOver};
+ghost use Rattle.dkg_core.specs.BlocksKept.{BlocksKeep, NodeStepsKeepNotes, NodeStepsKeepPlans, NodeStepsSpareTheirLogs};
 ghost use Rattle.dkg_core.specs.Today.{HalvesDeliver, HalvesOpen, OpeningsComeTo, StepsComeTo};
 ghost use Rattle.dkg_core.specs.Transcripts.{OpeningsAreQuiet, RunsAddDeeds, StepsAreQuiet, TranscriptsMove};
 
@@ -197,6 +203,56 @@ pub fn halves_deliver<Dir>()
     ensures { HalvesDeliver Dir }
 {}
 
+/// In the form of epochs a setup by an info, of any epoch, stops by faults of its own alone, each with its cause in the info, this node's share and
+/// seed or what is recorded; or it leaves a life that takes part in the info's round, with the dealer that share and seed make. It reads once at most.
+pub fn setups_come_to<Dir>()
+    ensures { SetupsComeTo Dir }
+{}
+
+/// A setup that commits leaves the epoch's seed stored, and its share, if there is one.
+pub fn setups_store<Dir>()
+    ensures { SetupsStore Dir }
+{}
+
+/// An opening comes to such a setup by the info that the boundary block carries, which has no other faults than these and those of the heights and of that block;
+/// without that block it leaves a life that follows, whatever the devices tell.
+pub fn openings_lead<Dir>()
+    ensures { OpeningsLead Dir }
+{}
+
+/// Over devices that tell it has read what these hold behind the journal's opening, the share and the seed among it.
+pub fn openings_lead_over<Dir>()
+    ensures { OpeningsLeadOver Dir }
+{}
+
+/// Behind such an opening the orchestrator's half never stops, where directories lack nobody: it enters the awaited epoch, or halts
+/// without its boundary block.
+pub fn halves_begin<Dir>()
+    ensures { HalvesBegin Dir }
+{}
+
+/// In the form of epochs a node's opening stops by the faults of its reshare half alone, each with its cause, where directories lack nobody; or
+/// it leaves such a life, with the awaited epoch entered, or halted without its boundary block.
+pub fn node_openings_lead<Dir>()
+    ensures { NodeOpeningsLead Dir }
+{}
+
+/// Over devices that tell it has read what these hold behind the journal's opening, the share and the seed among it.
+pub fn node_openings_lead_over<Dir>()
+    ensures { NodeOpeningsLeadOver Dir }
+{}
+
+/// At every exit of a node's opening in the form of epochs the plan is as it was.
+pub fn node_openings_keep_plans<Dir>()
+    ensures { NodeOpeningsKeepPlans Dir }
+{}
+
+/// At every exit of a node's opening, of whatever epoch, the devices give back the logs and the acknowledgements of that epoch, of the one before and of
+/// later ones as they did, and no others of these.
+pub fn node_openings_keep_notes<Dir>()
+    ensures { NodeOpeningsKeepNotes Dir }
+{}
+
 /// At every exit of a life of the form that is built, whatever an operation in hand leaves: the devices are whole, and each
 /// acknowledgement and each recorded dealing that was told, of the epoch that it starts in and of the one before on, is that of a dealing
 /// that they give back.
@@ -327,4 +383,109 @@ pub fn openings_say_behind<Dir>()
 /// So does a node's step for a message of the reshare half, or for a block.
 pub fn steps_say_behind<Dir>()
     ensures { StepsSayBehind Dir }
+{}
+
+/// At every exit of an opening the devices hold each seed that they held, of the epoch that it starts in and of the one before on.
+pub fn openings_keep_seeds<Dir>()
+    ensures { OpeningsKeepSeeds Dir }
+{}
+
+/// .. and each share.
+pub fn openings_keep_shares<Dir>()
+    ensures { OpeningsKeepShares Dir }
+{}
+
+/// At every exit of any step the devices hold each seed that they held, of the epochs that the step prunes nothing of.
+pub fn steps_keep_seeds<Dir>()
+    ensures { StepsKeepSeeds Dir }
+{}
+
+/// .. and each share, where the step commits the share that is recovered: any but a block while including.
+pub fn steps_keep_shares<Dir>()
+    ensures { StepsKeepShares Dir }
+{}
+
+/// At every exit of a node's opening the devices hold each seed and each share that they held, of the epoch that it starts in and of the one before
+/// on.
+pub fn node_openings_keep_secrets<Dir>()
+    ensures { NodeOpeningsKeepSecrets Dir }
+{}
+
+/// So they do at every exit of a node's step, of the epochs that it prunes nothing of; of shares, where it commits those that are recovered.
+pub fn node_steps_keep_secrets<Dir>()
+    ensures { NodeStepsKeepSecrets Dir }
+{}
+
+/// Whatever the devices tell, each half that a step offers is one that the life's dealer deals, to another player whose acknowledgement doesn't count
+/// by then.
+pub fn offers_are_dealt<Dir>()
+    ensures { OffersAreDealt Dir }
+{}
+
+/// So is each that a node's step offers.
+pub fn node_offers_are_dealt<Dir>()
+    ensures { NodeOffersAreDealt Dir }
+{}
+
+/// In the form of epochs a step stops by faults of its own alone that have their cause: the fault that the block in hand is refused for, another
+/// dealing of this node that is recorded, or what the info of an epoch's last block is refused for while following; or it leaves the life that
+/// follows from it.
+pub fn steps_lead<Dir>()
+    ensures { StepsLead Dir }
+{}
+
+/// So it does over devices that tell: what it read is what they held.
+pub fn steps_lead_over<Dir>()
+    ensures { StepsLeadOver Dir }
+{}
+
+/// The orchestrator's half of a block below the entered epoch's last never stops where it doesn't wait: it acknowledges where it has entered an
+/// epoch, and changes nothing.
+pub fn halves_go_on<Dir>()
+    ensures { HalvesGoOn Dir }
+{}
+
+/// In the form of epochs a node's step stops by the faults of its reshare half alone; or it leaves the life that this half left, whose orchestrator
+/// waits for nothing.
+pub fn node_steps_lead<Dir>()
+    ensures { NodeStepsLead Dir }
+{}
+
+/// So it does over devices that tell.
+pub fn node_steps_lead_over<Dir>()
+    ensures { NodeStepsLeadOver Dir }
+{}
+
+/// At every exit of a node's step for a block the devices are whole and give back each dealing, acknowledgement and log that they gave back, of the
+/// epochs that the step prunes nothing of; it acknowledged nothing, recorded of dealings this node's own alone, and offered what its dealer deals.
+pub fn blocks_keep<Dir>()
+    ensures { BlocksKeep Dir }
+{}
+
+/// At every exit of a node's step in the form of epochs the devices give back the logs that they did, of the epochs that the step prunes nothing of,
+/// if what it may record fits a record.
+pub fn node_steps_spare_their_logs<Dir>()
+    ensures { NodeStepsSpareTheirLogs Dir }
+{}
+
+/// Over devices that tell, the setup behind a commit has the share and the seed that were committed.
+pub fn commits_are_read<Dir>()
+    ensures { CommitsAreRead Dir }
+{}
+
+/// Where no epoch is taken over, the life that a step of the form leaves awaits the same epoch, in the same round and seat, and beside it nothing has
+/// changed.
+pub fn next_lives_stay<Dir>()
+    ensures { NextLivesStay Dir }
+{}
+
+/// At every exit of a node's step the devices give back each acknowledgement and each log that they gave back, of the epochs that the step prunes
+/// nothing of, if what it may record fits a record.
+pub fn node_steps_keep_notes<Dir>()
+    ensures { NodeStepsKeepNotes Dir }
+{}
+
+/// At every exit of a node's step the plan is as it was.
+pub fn node_steps_keep_plans<Dir>()
+    ensures { NodeStepsKeepPlans Dir }
 {}

@@ -1,0 +1,73 @@
+-- What a step offers its dealer deals.
+use Rattle.std.proofs.Common.{◌≡◌, ℕ, List, [], ◌∷◌, ◌++◌, ◌∙◌, ap, append_assoc}
+use Rattle.std.specs.List.{AllByRecursion}
+use Rattle.dkg_types.specs.declared.entry.Entry.{Entry as Line}
+use Rattle.dkg_types.specs.declared.entry.Entry.TheVariants.{Offer}
+use Rattle.dkg_types.specs.declared.fault.Fault.{Fault}
+use Rattle.dkg_store.specs.Acts.{Ended}
+use Rattle.dkg_core.specs.Courses.{Deed, on_devices}
+use Rattle.dkg_core.specs.Said.{Said}
+use Rattle.dkg_core.specs.Fixed.{Fixed}
+use Rattle.dkg_core.specs.Live.{Live, Message, Sent, Peer, Finalized, NextLog, ReleaseLog, EpochInfoOf, Feed, Over, Cancel, Work}
+use Rattle.dkg_core.specs.Core.{step}
+use Rattle.dkg_core.specs.Laws.{Law, Holds, PeerLine, peer_law, OtherLine, OfHalves, IsOwn, IsOffered, other_law, reach_of}
+use Rattle.dkg_core.specs.Behind.{IsAside}
+use Rattle.dkg_core.specs.Transcripts.{lines_of}
+use Rattle.dkg_core.specs.Offering.{IsOfferOf, OffersAreDealt, NodeOffersAreDealt}
+use Rattle.dkg_core.proofs.Behind.{steps_say_behind}
+use Rattle.dkg_core.proofs.Hearing.{heard}
+use Rattle.dkg_core.proofs.Lines.{lines_obey, all_lines}
+use Rattle.dkg_core.proofs.Others.{others_acknowledge_nothing}
+
+peer_offers : {Dir : Type 0} (c : Fixed Dir) (st : Live Dir) (from : ℕ) (past : List (Deed Dir)) (line : Line) → PeerLine c st from past line → IsOfferOf c st line
+peer_offers c st from past (Offer epoch player public private) h = absurd h
+peer_offers c st from past line h = tt
+
+other_offers : {Dir : Type 0} (c : Fixed Dir) (own : OfHalves) (st : Live Dir) (past : List (Deed Dir)) (line : Line) → OtherLine c own (IsOffered c st) past line → IsOfferOf c st line
+other_offers c own st past (Offer epoch player public private) h = h
+other_offers c own st past line h = tt
+
+aside_offers : {Dir : Type 0} (c : Fixed Dir) (st : Live Dir) (line : Line) → IsAside line → IsOfferOf c st line
+aside_offers c st (Offer epoch player public private) aside = absurd aside
+aside_offers c st line aside = tt
+
+module _ {Dir : Type 0} (c : Fixed Dir) (st : Live Dir) (ended : Ended Fault (Live Dir)) (old new : List Line) where
+  abbrev AddsDealt : Type 0
+  AddsDealt = (added : List Line) × (new ≡ old ++ added) × AllByRecursion (IsOfferOf c st) added
+
+  of_law : (law : Law Dir (Live Dir)) (message : Message Dir) → ((past : List (Deed Dir)) (line : Line) → law.line past line → IsOfferOf c st line) → Holds law [] (step c message st)
+      → Said (on_devices (step c message st)) ended old new → AddsDealt
+  of_law law message so holds said =
+      let front = lines_obey law [] (step c message st) ended old new holds said in
+      (lines_of front.deeds, front.added, all_lines law (IsOfferOf c st) so [] front.deeds front.obeys)
+
+  of_other : (message : Message Dir) → Holds (other_law c (IsOwn c st) (IsOffered c st) (reach_of c message)) [] (step c message st) → Said (on_devices (step c message st)) ended old new → AddsDealt
+  of_other message holds said = of_law (other_law c (IsOwn c st) (IsOffered c st) (reach_of c message)) message (other_offers c (IsOwn c st) st) holds said
+
+  each : (message : Message Dir) → Said (on_devices (step c message st)) ended old new → AddsDealt
+  each (Finalized b) said = of_other (Finalized b) (others_acknowledge_nothing c st (Finalized b) tt) said
+  each (Sent (Peer from bytes)) said = of_law (peer_law c st from) (Sent (Peer from bytes)) (peer_offers c st from) (heard c st from bytes) said
+  each (Sent (NextLog request height)) said = of_other (Sent (NextLog request height)) (others_acknowledge_nothing c st (Sent (NextLog request height)) tt) said
+  each (Sent (ReleaseLog height)) said = of_other (Sent (ReleaseLog height)) (others_acknowledge_nothing c st (Sent (ReleaseLog height)) tt) said
+  each (Sent (EpochInfoOf request)) said = of_other (Sent (EpochInfoOf request)) (others_acknowledge_nothing c st (Sent (EpochInfoOf request)) tt) said
+  each (Sent (Feed request b)) said = of_other (Sent (Feed request b)) (others_acknowledge_nothing c st (Sent (Feed request b)) tt) said
+  each (Sent (Over request)) said = of_other (Sent (Over request)) (others_acknowledge_nothing c st (Sent (Over request)) tt) said
+  each (Sent (Cancel request)) said = of_other (Sent (Cancel request)) (others_acknowledge_nothing c st (Sent (Cancel request)) tt) said
+  each (Sent (Work handed)) said = of_other (Sent (Work handed)) (others_acknowledge_nothing c st (Sent (Work handed)) tt) said
+
+pub offers_are_dealt : {Dir : Type 0} → OffersAreDealt Dir
+offers_are_dealt c st message ended old new said = each c st ended old new message said
+
+with_aside : {Dir : Type 0} (c : Fixed Dir) (st : Live Dir) (lines more : List Line) → AllByRecursion (IsOfferOf c st) lines → AllByRecursion IsAside more → AllByRecursion (IsOfferOf c st) (lines ++ more)
+with_aside c st [] [] all aside = tt
+with_aside c st [] (line ∷ more) all aside = (aside_offers c st line aside.0, with_aside c st [] more tt aside.1)
+with_aside c st (line ∷ lines) more all aside = (all.0, with_aside c st lines more all.1 aside)
+
+pub node_offers_are_dealt : {Dir : Type 0} → NodeOffersAreDealt Dir
+node_offers_are_dealt c st message ended old new said =
+    let its = steps_say_behind c st message ended old new said in
+    let first = offers_are_dealt c st message its.half old its.mid its.said in (
+      first.0 ++ its.lines,
+      its.out ∙ ap (λ (ls : List Line). ls ++ its.lines) first.1 ∙ append_assoc old first.0 its.lines,
+      with_aside c st first.0 its.lines first.2 its.aside,
+    )

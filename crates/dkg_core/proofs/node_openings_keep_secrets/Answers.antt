@@ -1,0 +1,5 @@
+use Rattle.dkg_core.proofs.Storing.{node_openings_keep_secrets as law}
+use Rattle.dkg_core.proofs.node_openings_keep_secrets.Goals as goal
+
+pub returns : goal.returns
+returns g c = law
