@@ -1,40 +1,25 @@
-//! What crosses crates: worked examples of whole runs, row by row, and two appends composed through the journal's clauses.
+//! Tests of scripts, of the actor and of the top call over devices, a source and a sink that a script can't give; and two appends that are composed
+//! through the journal's clauses.
 //!
-//! A row's transcript was made apart from this program.
+//! Worked rows are data: `dkg_replay` runs them.
 #![tactic(auto)]
 
 mod appends;
 #[cfg(test)]
-mod blames;
+mod devices;
 #[cfg(test)]
-mod block_rows;
-#[cfg(test)]
-mod chain;
-#[cfg(test)]
-mod cuts;
-#[cfg(test)]
-mod dealing;
-#[cfg(test)]
-mod heights;
-#[cfg(test)]
-mod misses;
+mod lives;
 #[cfg(test)]
 mod observer;
 #[cfg(test)]
-mod playing;
-#[cfg(test)]
 mod reshare;
-#[cfg(test)]
-mod rows;
 #[cfg(test)]
 mod runs;
 #[cfg(test)]
 mod script;
 #[cfg(test)]
-mod secrets;
-#[cfg(test)]
 mod statuses;
 #[cfg(test)]
-mod stops;
+mod texts;
 
 pub use appends::append_two;

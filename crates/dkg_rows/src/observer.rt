@@ -1,6 +1,7 @@
 //! A node that finds a log which bears its acknowledgement, and has no dealing with the log's public half.
 
-use crate::runs::{DEALING, run, script};
+use crate::runs::runs_to;
+use crate::texts::{DEALING, OUTPUT, life};
 use dkg_ceremony::{DealerLog, EncodeSize, decode_cfg};
 use dkg_journal::{Disk, Fuse, MemoryDisk};
 use dkg_store::{Devices, MemorySecrets, SecretStore, Store};
@@ -44,12 +45,8 @@ fn a_log_without_its_dealing_makes_an_observer(rt: HostRuntime) -> Result<(), Fa
     let mut disk = MemoryDisk::new(alloc);
     let mut secrets = MemorySecrets::new(alloc);
     record_log(alloc, &mut disk, &mut secrets, log)?;
-    let event = format!(in alloc; "peer 2 {DEALING}\n")?;
-    let text = script(alloc, event.as_str())?;
-    let (status, sink) = run(alloc, text.as_str(), &mut disk, &mut secrets)?;
+    let text = life(alloc, OUTPUT, DEALING)?;
     let lines =
         "opened 0 0\ncommitted 0 -\nregistered 0 member\nsetup 0 early observer\nentered 0\nstep 0\nblocked 2 nonplayer\nstep 1\ndone\n";
-    assert_eq!(rt; sink.bytes(), lines.as_bytes());
-    assert_eq!(rt; status, 0);
-    Ok(())
+    runs_to(alloc, text.as_str(), &mut disk, &mut secrets, 0, lines)
 }

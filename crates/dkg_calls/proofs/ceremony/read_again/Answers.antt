@@ -1,5 +1,5 @@
 use Rattle.std.proofs.Common.{arith, rules}
-use Rattle.dkg_ceremony.proofs.tests.read_again.Goals as goal
+use Rattle.dkg_calls.proofs.ceremony.read_again.Goals as goal
 
 pub round_trip-requires-clause-fits : goal.round_trip-requires-clause-fits
 round_trip-requires-clause-fits c =

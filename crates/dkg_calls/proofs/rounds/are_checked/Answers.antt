@@ -2,7 +2,7 @@ use Rattle.std.proofs.Common.{◌≡◌, ◌∙◌, ℕ, List, Ok, subst, ap, le
 use Rattle.std.specs.List.{AllByRecursion}
 use Rattle.std.proofs.lemmas.List.{take_all}
 use Rattle.dkg_ceremony.specs.FinishLaws.{found_passes}
-use Rattle.dkg_ceremony.proofs.round_tests.are_checked.Goals as goal
+use Rattle.dkg_calls.proofs.rounds.are_checked.Goals as goal
 
 pub returns : goal.returns
 returns g c =

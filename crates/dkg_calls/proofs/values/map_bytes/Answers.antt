@@ -3,7 +3,7 @@ use Rattle.dkg_values.specs.Lists.{values_of}
 use Rattle.dkg_values.specs.Sizes.{all_hold}
 use Rattle.dkg_values.specs.Uint.{uint}
 use Rattle.dkg_values.specs.UintGrammar.{uint_short}
-use Rattle.dkg_values.proofs.tests.map_bytes.Goals as goal
+use Rattle.dkg_calls.proofs.values.map_bytes.Goals as goal
 
 pub encode-requires : goal.encode-requires
 encode-requires c =

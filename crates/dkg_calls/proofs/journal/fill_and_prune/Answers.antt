@@ -1,5 +1,0 @@
-use Rattle.dkg_journal.proofs.OnRows.{bare_lands}
-use Rattle.dkg_journal.proofs.tests.fill_and_prune.Goals as goal
-
-pub append-requires : goal.append-requires
-append-requires c = λ tells. c.in_ok-journal.ensures.open tells (bare_lands _ c.requires)

@@ -1,0 +1,7 @@
+//! Tests of `dkg_probe`: its steps against an executable model, the bytes of its messages, and a probe behind a lock.
+#![tactic(auto)]
+
+#[cfg(test)]
+mod probe;
+#[cfg(test)]
+mod probe_cases;

@@ -1,0 +1,237 @@
+//! A player that is made, hears dealings and ends its round: what its clauses say of the whole, and what it takes from a round.
+ghost use Rattle.std.specs.Prelude.{◌≡◌, OnOk, IfOk, IsTrue, Contains};
+ghost use Rattle.std.specs.FinMap as map;
+ghost use Rattle.dkg_ceremony.specs.Finishes.{Finishes};
+ghost use Rattle.dkg_journal.specs.Journals.{IsOpen};
+ghost use Rattle.dkg_store.specs.Recorded.{AreChecked, at_epoch};
+
+use crate::dealing::{ME, SEED, dealt_by_three, fits, round_of};
+use dkg_ceremony::{
+    Ceremony, DealerLog, FinishError, Output, Private, Public, Round, Share, Signer, StandCeremony,
+    StandSigner,
+};
+use dkg_journal::{Disk, Fuse, MemoryDisk};
+use dkg_store::{Devices, MemorySecrets, Player, SecretStore, Store};
+use dkg_types::{Transcript, Unit};
+use dkg_values::{Epoch, Height, Key, Map};
+use std::alloc::Global;
+use std::num::NonZeroU32;
+use std::test::Fail;
+
+/// A dealing that comes in.
+#[derive(Drop)]
+struct Heard {
+    dealer: Key,
+    public: Public,
+    private: Private,
+}
+
+/// Hands a player one dealing.
+fn hear<C: Ceremony, D: Disk, X: SecretStore>(
+    alloc: Global,
+    ceremony: &C,
+    signer: &C::Signer,
+    devices: &mut Devices<'_, D, X>,
+    store: &mut Store<Unit>,
+    out: &mut Transcript,
+    epoch: Epoch,
+    player: &mut Player,
+    heard: Heard,
+) -> Result<(), Fail>
+    requires playing { Contains player.old.round.players player.old.me }
+    requires signer { C.Signer.key_of signer.now ≡ player.old.me }
+    requires open { IsTrue D.tells → IsOpen store.old.journal (D.files devices.old.disk.now) (D.image devices.old.disk.now) }
+    ensures me { player.new.me ≡ player.old.me }
+    ensures round { player.new.round ≡ player.old.round }
+    ensures mirrors { map.entries player.old.dealings ≡ at_epoch epoch store.old.dealings
+        → map.entries player.new.dealings ≡ at_epoch epoch store.new.dealings }
+    ensures passes { AreChecked (C.dealing_of player.old.round player.old.me) player.old.dealings
+        → AreChecked (C.dealing_of player.old.round player.old.me) player.new.dealings }
+    ensures open { OnOk result (IsTrue D.tells → IsOpen store.new.journal (D.files devices.new.disk.now) (D.image devices.new.disk.now)) }
+{
+    let Heard {
+        dealer,
+        public,
+        private,
+    } = heard;
+    if public.as_slice().len() != 3 {
+        return Err(Fail::from("the polynomial has another degree"));
+    }
+    let _ack = player.handle(
+        alloc, ceremony, signer, devices, store, out, epoch, dealer, public, private,
+    )?;
+    Ok(())
+}
+
+/// Hands a player one dealing after another.
+fn hear_all<C: Ceremony, D: Disk, X: SecretStore>(
+    alloc: Global,
+    ceremony: &C,
+    signer: &C::Signer,
+    devices: &mut Devices<'_, D, X>,
+    store: &mut Store<Unit>,
+    out: &mut Transcript,
+    epoch: Epoch,
+    player: &mut Player,
+    heard: Vec<Heard>,
+) -> Result<(), Fail>
+    requires playing { Contains player.old.round.players player.old.me }
+    requires signer { C.Signer.key_of signer.now ≡ player.old.me }
+    requires open { IsTrue D.tells → IsOpen store.old.journal (D.files devices.old.disk.now) (D.image devices.old.disk.now) }
+    requires mirrors { map.entries player.old.dealings ≡ at_epoch epoch store.old.dealings }
+    requires passes { AreChecked (C.dealing_of player.old.round player.old.me) player.old.dealings }
+    ensures me { player.new.me ≡ player.old.me }
+    ensures round { player.new.round ≡ player.old.round }
+    ensures mirrors { map.entries player.new.dealings ≡ at_epoch epoch store.new.dealings }
+    ensures passes { AreChecked (C.dealing_of player.old.round player.old.me) player.new.dealings }
+{
+    for one in heard {
+        hear(
+            alloc, ceremony, signer, devices, store, out, epoch, player, one,
+        )?;
+    }
+    Ok(())
+}
+
+/// Makes a player, hands it dealings, and ends its round. What comes of it is what the ceremony gives over the dealings that the store
+/// has of the epoch at the end: the clauses of the three calls say so.
+fn played<C: Ceremony, D: Disk, X: SecretStore>(
+    alloc: Global,
+    ceremony: &C,
+    signer: &C::Signer,
+    devices: &mut Devices<'_, D, X>,
+    store: &mut Store<Unit>,
+    epoch: Epoch,
+    round: &Round,
+    heard: Vec<Heard>,
+    logs: &Map<DealerLog>,
+) -> Result<Result<Option<(Output, Share)>, FinishError>, Fail>
+    requires playing { Contains round.now.players (C.Signer.key_of signer.now) }
+    requires open { IsTrue D.tells → IsOpen store.old.journal (D.files devices.old.disk.now) (D.image devices.old.disk.now) }
+    ensures { IfOk result (λ found. Finishes (C.finish_of round.now (C.Signer.key_of signer.now) (at_epoch epoch store.new.dealings) logs.now) found) }
+{
+    let me = signer.public_key();
+    let player = store.create_player(alloc, ceremony, epoch, me, round)?;
+    let mut player = player.ok_or("no player")?;
+    let mut out = Transcript::new(alloc);
+    hear_all(
+        alloc,
+        ceremony,
+        signer,
+        devices,
+        store,
+        &mut out,
+        epoch,
+        &mut player,
+        heard,
+    )?;
+    Ok(player.finalize(alloc, ceremony, logs))
+}
+
+/// The logs of the dealers 1, 2 and 3, each with the acknowledgements of the players 1, 2 and 3.
+fn logs_in<D: Disk, X: SecretStore>(
+    alloc: Global,
+    devices: &mut Devices<'_, D, X>,
+    round: &Round,
+) -> Result<Map<DealerLog>, Fail> {
+    let limit = NonZeroU32::new(4).ok_or("no limit")?;
+    let mut store: Store<Unit> = Store::init(alloc, devices, limit)?;
+    let signers = [
+        StandSigner::new(Key(1)),
+        StandSigner::new(Key(2)),
+        StandSigner::new(Key(3)),
+    ];
+    let _quorums = dealt_by_three(alloc, devices, &mut store, round, &signers)?;
+    Ok(store.logs(alloc, Epoch(0), Height(4), Some(Height(4)))?)
+}
+
+/// Those, made over an empty disk.
+fn logs_in_memory(alloc: Global, round: &Round) -> Result<Map<DealerLog>, Fail> {
+    let mut disk = MemoryDisk::new(alloc);
+    let mut secrets = MemorySecrets::new(alloc);
+    let mut devices = Devices {
+        disk: &mut disk,
+        secrets: &mut secrets,
+        fuse: Fuse::never(),
+    };
+    logs_in(alloc, &mut devices, round)
+}
+
+/// What this dealer deals to this node.
+fn dealing_from(alloc: Global, dealer: Key, round: &Round) -> Result<Heard, Fail> {
+    if !round.dealers.has(dealer) {
+        return Err(Fail::from("the key doesn't deal"));
+    }
+    let signer = StandSigner::new(dealer);
+    let (public, privates) = StandCeremony.deal(alloc, round, &signer, None, &SEED)?;
+    let private = privates.get(ME).copied().ok_or("no private half")?;
+    Ok(Heard {
+        dealer,
+        public,
+        private,
+    })
+}
+
+/// What this node takes from the round, where it hears these dealers.
+fn ended_in<D: Disk, X: SecretStore>(
+    alloc: Global,
+    devices: &mut Devices<'_, D, X>,
+    round: &Round,
+    dealers: &[Key],
+    logs: &Map<DealerLog>,
+) -> Result<Result<Option<(Output, Share)>, FinishError>, Fail> {
+    if !round.players.has(ME) {
+        return Err(Fail::from("the key is no player"));
+    }
+    let limit = NonZeroU32::new(4).ok_or("no limit")?;
+    let mut store: Store<Unit> = Store::init(alloc, devices, limit)?;
+    let mut heard = Vec::new(alloc);
+    for dealer in dealers {
+        heard.push(dealing_from(alloc, *dealer, round)?)?;
+    }
+    let me = StandSigner::new(ME);
+    played(
+        alloc,
+        &StandCeremony,
+        &me,
+        devices,
+        &mut store,
+        Epoch(0),
+        round,
+        heard,
+        logs,
+    )
+}
+
+/// That over an empty disk.
+fn ended_in_memory(
+    alloc: Global,
+    round: &Round,
+    dealers: &[Key],
+    logs: &Map<DealerLog>,
+) -> Result<Result<Option<(Output, Share)>, FinishError>, Fail> {
+    let mut disk = MemoryDisk::new(alloc);
+    let mut secrets = MemorySecrets::new(alloc);
+    let mut devices = Devices {
+        disk: &mut disk,
+        secrets: &mut secrets,
+        fuse: Fuse::never(),
+    };
+    ended_in(alloc, &mut devices, round, dealers, logs)
+}
+
+#[test]
+fn a_player_ends_its_round_from_its_own_dealings(rt: HostRuntime) -> Result<(), Fail> {
+    let alloc = rt.alloc();
+    let round = round_of(alloc)?;
+    let logs = logs_in_memory(alloc, &round)?;
+    let ended = ended_in_memory(alloc, &round, &[Key(3), Key(1), Key(2)], &logs)?;
+    let (output, share) = ended?.ok_or("no outcome")?;
+    assert!(rt; fits(&output, &share));
+    let ended = ended_in_memory(alloc, &round, &[Key(3), Key(1)], &logs)?;
+    let Err(error) = ended else {
+        return Err(Fail::from("no dealing is missing"));
+    };
+    assert_eq!(rt; error, FinishError::MissingDealing { dealer: Key(2) });
+    Ok(())
+}

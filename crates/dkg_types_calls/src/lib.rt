@@ -1,0 +1,5 @@
+//! Tests of `dkg_types`: bytes that are read, refused and written, bounds, digests, directories and managers of peers.
+#![tactic(auto)]
+
+#[cfg(test)]
+mod types;
