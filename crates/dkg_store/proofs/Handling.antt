@@ -1,6 +1,6 @@
 -- What a player's handling of a dealing comes to.
 use Rattle.std.proofs.Common.{◌≡◌, ◌<◌, ◌^◌, inl, inr, ℕ, Bool, true, false, List, [], ◌∷◌, ◌++◌, Option, Some, None, is_some, IsSome, Result, Ok, Err, refl, sym, ap, subst, ◌∙◌}
-use Rattle.std.specs.Prelude.{◌||◌, not, IsTrue, IfOk, IfSome, OnOk, OnErr, if◌then◌else◌}
+use Rattle.std.specs.Prelude.{not, IsTrue, IfOk, IfSome, OnOk, OnErr, if◌then◌else◌}
 use Rattle.std.specs.Ordering.{nat_cmp}
 use Rattle.std.specs.FinMap as map
 use Rattle.std.specs.FinMap.{FinMap, get, insert}

@@ -1,5 +1,5 @@
 -- What a call left and had, read off what its parts left and had.
-use Rattle.std.proofs.Common.{◌≡◌, ◌≤◌, ◌⊎◌, inl, inr, ⊎_elim, ℕ, Bool, true, false, List, [], ◌∷◌, map, Option, Some, None, Result, Ok, Err, arith, refl, sym, ap, subst, ◌∙◌}
+use Rattle.std.proofs.Common.{◌≡◌, ◌≤◌, ◌⊎◌, inl, inr, ℕ, Bool, true, false, List, [], ◌∷◌, map, Option, Some, None, Result, Err, arith, refl, sym, ap, subst, ◌∙◌}
 use Rattle.std.specs.Prelude.{◌<◌, ◌+◌, ◌^◌, nat_lt, IfSome, if◌then◌else◌}
 use Rattle.std.specs.FinMap.{get, insert}
 use Rattle.std.proofs.lemmas.Bool.Decides.{nat_tests}
@@ -27,7 +27,7 @@ use Rattle.dkg_store.specs.Errors.{IsOfDevices, IsOfOpening, IsOfRestoring, stor
 use Rattle.dkg_store.specs.Left.{Extends, GivesDealing, GivesNote}
 use Rattle.dkg_store.specs.Events.{IsEvent, event_spelling}
 use Rattle.dkg_store.specs.declared.event.Event.TheVariants as events
-use Rattle.dkg_store.specs.Noted.{Gives, Note, Notes, noted}
+use Rattle.dkg_store.specs.Noted.{Note, Notes, noted}
 use Rattle.dkg_store.specs.Pairs.{Holds, HoldsEither, IsWhole, Pairs, PutsFirst, dealing_of, recovered}
 use Rattle.dkg_secrets.specs.Secrets.{Secrets, after}
 use Rattle.dkg_secrets.specs.declared.secrets.SecretOp.TheVariants.{PutDealing}

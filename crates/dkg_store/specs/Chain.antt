@@ -1,9 +1,9 @@
 -- Four calls of a store, one after another: what a caller makes of their acts.
-use Rattle.std.specs.Prelude.{ℕ, List, Bool, true, false}
+use Rattle.std.specs.Prelude.{ℕ, Bool, true, false}
 use Rattle.std.specs.Option.{is_some}
 use Rattle.dkg_journal.specs.Records.{Entry}
 use Rattle.dkg_store.specs.Acts.{Acts, Goes, bind}
-use Rattle.dkg_store.specs.Calls.{sharing, recording, noting, pruning}
+use Rattle.dkg_store.specs.Calls.{sharing, noting, pruning}
 use Rattle.dkg_store.specs.declared.call.StoreError.{StoreError}
 
 -- a dealing is recorded, something is noted, and what is below the epoch is pruned; nothing, where the epoch has a share

@@ -1,4 +1,4 @@
-use Rattle.std.proofs.Common.{◌≡◌, ℕ, Err, None, map, inl, inr, ⊎_elim, arith, refl, sym, subst, ap, ◌∙◌}
+use Rattle.std.proofs.Common.{ℕ, Err, None, map, inl, inr, ⊎_elim, arith, refl, sym, subst, ap, ◌∙◌}
 use Rattle.std.specs.Prelude.{⊤}
 use Rattle.std.specs.FinMap as maps
 use Rattle.std.proofs.lemmas.Result.{err_from_is_err_and}

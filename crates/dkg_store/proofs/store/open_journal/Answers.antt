@@ -9,7 +9,7 @@ use Rattle.dkg_journal.specs.declared.disk.Op.TheVariants.{Barrier}
 use Rattle.dkg_journal.proofs.Fuses.{ok_unreached}
 use Rattle.dkg_journal.proofs.Gates.{gated_listed}
 use Rattle.dkg_journal.proofs.Journals.{unchanged_alike}
-use Rattle.dkg_journal.proofs.Steps.{then_all, then_ran, not_reached, ran_first}
+use Rattle.dkg_journal.proofs.Steps.{then_all, then_ran, ran_first}
 use Rattle.dkg_store.specs.Errors.{IsOfDevices, store_error_of}
 use Rattle.dkg_store.proofs.Acting.{breaks_off, of_journal_too}
 use Rattle.dkg_store.specs.Acts.{EndsBy}
@@ -17,13 +17,9 @@ use Rattle.dkg_store.specs.Calls.{cause_of}
 use Rattle.dkg_store.specs.declared.call.StoreError.{StoreError}
 use Rattle.dkg_store.proofs.Making.{journal_end}
 use Rattle.dkg_store.proofs.OpeningActs.{bar_done, bar_torn, open_torn, open_done, journal_devices, no_place}
-use Rattle.dkg_store.proofs.Opened.{same_call}
 use Rattle.dkg_store.proofs.Opened.{barred, kept_on}
-use Rattle.dkg_store.specs.declared.call.StoreError.TheVariants.{Corrupt}
-use Rattle.dkg_store.proofs.Corrupt.{journal_corrupt, same_error}
 use Rattle.dkg_store.proofs.Fit.{barred_unbroken}
 use Rattle.dkg_store.proofs.Named.{opened_too}
-use Rattle.std.specs.Prelude.{⊤}
 use Rattle.dkg_journal.specs.Operations.{Journaled}
 use Rattle.dkg_journal.proofs.Fuses.{cut_reached, ok_unreached}
 use Rattle.dkg_store.proofs.Counts.{counts_fused, counts_then, reached_behind, uncut_then}

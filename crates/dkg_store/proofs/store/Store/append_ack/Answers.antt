@@ -7,10 +7,9 @@ use Rattle.dkg_store.specs.declared.event.Event.TheVariants as events
 use Rattle.dkg_store.specs.Errors.{IsOfDevices}
 use Rattle.dkg_store.specs.Noted.{noted_ack, noted_log}
 use Rattle.dkg_store.specs.Pairs.{dealing_of}
-use Rattle.dkg_store.specs.Acts.{IsBetween, broken}
+use Rattle.dkg_store.specs.Acts.{broken}
 use Rattle.dkg_store.specs.Calls.{cause_of}
 use Rattle.dkg_store.specs.declared.call.StoreError.{StoreError}
-use Rattle.dkg_store.proofs.Acts.{made_none}
 use Rattle.dkg_store.proofs.Acting.{ended_broken}
 use Rattle.dkg_store.proofs.Appended.{unknown, none_there, noting_broken, noting_done}
 use Rattle.dkg_store.proofs.Left.{called_alike, called_unmade, due_around, due_of_devices, extends_alike, extends_unmade, note_done, note_put, note_unmade}

@@ -16,11 +16,11 @@ use Rattle.dkg_store.specs.Errors.{IsOfDevices, IsOfOpening}
 use Rattle.dkg_store.specs.Noted.{acks_in, logs_in}
 use Rattle.dkg_store.specs.Pairs.{recovered}
 use Rattle.dkg_store.specs.declared.call.StoreError.{StoreError}
-use Rattle.dkg_store.specs.declared.call.StoreError.TheVariants.{Corrupt, NoMemory, Secrets as OfSecrets}
+use Rattle.dkg_store.specs.declared.call.StoreError.TheVariants.{Corrupt, NoMemory}
 use Rattle.dkg_store.specs.declared.store.Store.{Store}
 use Rattle.dkg_store.proofs.Acts.{made_next, made_none_held}
 use Rattle.dkg_store.proofs.Acting.{then_broken, ended_broken}
-use Rattle.dkg_store.proofs.Corrupt.{answered, corrupt_alike, corrupt_at, ended_by, none_corrupt, read_all, read_ends, same_error}
+use Rattle.dkg_store.proofs.Corrupt.{answered, corrupt_alike, corrupt_at, ended_by, none_corrupt, read_all, read_ends}
 use Rattle.dkg_store.proofs.OpeningActs.{not_corrupt, of_restoring_too, no_place, no_other}
 use Rattle.dkg_store.proofs.Recorded.{all_events}
 use Rattle.dkg_store.proofs.Fit.{kept_fit}

@@ -1,5 +1,0 @@
-use Rattle.dkg_store.proofs.Short.{event_short}
-use Rattle.dkg_store.proofs.stops.recorded.Goals as goal
-
-pub append_dealing-requires-clause-short : goal.append_dealing-requires-clause-short
-append_dealing-requires-clause-short g c = event_short c.args.dealer c.in_ok-public.public c.in_ok-public.ensures
