@@ -126,6 +126,29 @@ pub deals_pass : (round : Round) (signer : ℕ) (share : Option ℕ) (seed : Lis
 unfolding deal_of
 deals_pass round signer share seed is_dealer = deal_where round signer share seed is_dealer (is_share_of round.previous signer share) refl
 
+-- ---- how long a public half is
+
+long_dealt : (count n : ℕ) → 1 ≤ n → count ≤ n → dealt_length count ≤ n
+long_dealt zero n one few = let is : dealt_length 0 ≡ 1 = refl in omega (arith, one, is)
+long_dealt (suc k) n one few =
+    let least : 1 ≤ quorum_of (suc k) = omega arith in
+    let is : dealt_length (suc k) ≡ quorum_of (suc k) = max-eq_left least in
+    omega (arith, is, few)
+
+short_where : (round : Round) (share : Option ℕ) (seed : List ℕ) (b : Bool)
+    → IfOk (cond (not b) (Err ShareRefused) (Ok (both_halves (dealt_poly share seed (dealt_length (length round.players))) round.players))) (λ d. (n : ℕ) → 1 ≤ n → length round.players ≤ n → length d.0 ≤ n)
+short_where round share seed true = λ n one few.
+    let long : dealt_length (length round.players) ≤ n = long_dealt (length round.players) n one few in
+    let is = length-map-range_with_len (dealt_at share seed) 0 (dealt_length (length round.players)) in
+    omega (arith, is, long)
+short_where round share seed false = tt
+
+-- a public half has no more coefficients than there are players, or one
+pub deals_are_short : (round : Round) (signer : ℕ) (share : Option ℕ) (seed : List ℕ)
+    → IfOk (deal_of round signer share seed) (λ d. (n : ℕ) → 1 ≤ n → length round.players ≤ n → length d.0 ≤ n)
+unfolding deal_of
+deals_are_short round signer share seed = short_where round (again_of round.previous share) seed (is_share_of round.previous signer share)
+
 -- ---- who may deal
 
 held : (o : Output) (signer share : ℕ) → (place : Option ℕ) → (fits_at place o.sharing.poly share ≡ true) ↔ (option_map (λ n. value_at o.sharing.poly (n + 1)) place ≡ Some share)

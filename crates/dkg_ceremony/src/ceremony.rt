@@ -1,7 +1,7 @@
 //! What a node asks of a key ceremony.
 //!
 //! Each answer is a function of the arguments, the same at every node: the ghost members say which.
-ghost use Rattle.std.specs.Prelude.{◌≡◌, ◌↔◌, ℕ, true, List, Option, option_map, Ok, Err, Some, Contains, IfErr, IfOk, IfSome, IsSomeAnd};
+ghost use Rattle.std.specs.Prelude.{◌≡◌, ◌≤◌, ◌↔◌, ℕ, true, List, length, Option, option_map, Ok, Err, Some, Contains, IfErr, IfOk, IfSome, IsSomeAnd};
 ghost use Rattle.dkg_values.specs.Rising.{lookup};
 ghost use Rattle.dkg_ceremony.specs.declared.ceremony.AckError.TheVariants.{NoMemory as NoMemoryLeft};
 ghost use Rattle.dkg_ceremony.specs.declared.dealer_log.DealerLog.{DealerLog};
@@ -274,6 +274,10 @@ pub trait Ceremony {
     ghost deals_pass: { (round : Round) (signer : ℕ) (share : Option ℕ) (seed : List ℕ) → Contains round.dealers signer
         → IfOk (deal_of round signer share seed) (λ dealt. (me : ℕ) → Contains round.players me → IsSomeAnd (lookup me dealt.1) (λ private. dealing_of round me signer dealt.0 private ≡ Ok tt)) };
 
+    /// What a dealer deals has no more coefficients than the round has players, or one.
+    ghost deals_are_short: { (round : Round) (signer : ℕ) (share : Option ℕ) (seed : List ℕ)
+        → IfOk (deal_of round signer share seed) (λ dealt. (n : ℕ) → 1 ≤ n → length round.players ≤ n → length dealt.0 ≤ n) };
+
     /// What a dealer signs passes the check.
     ghost signed_pass: { (round : Round) (signer : ℕ) (public : List ℕ) (privates : List (ℕ × ℕ)) (acks : List (ℕ × List ℕ)) → Contains round.dealers signer → check_log_of round (sign_log_of signer round public privates acks) ≡ true };
 
@@ -300,6 +304,8 @@ pub fn dealers_pass<C: Ceremony>()
         → (C.deal_of round signer share seed ≡ Err DealError.ShareRefused → ⊥) ↔ IfSome round.previous (λ output. IsSomeAnd share (λ s. C.partial_public_of output signer ≡ Some (C.share_public_of s))) }
     ensures checked { (round : Round) (signer : ℕ) (share : Option ℕ) (seed : List ℕ) → Contains round.dealers signer
         → IfOk (C.deal_of round signer share seed) (λ dealt. (me : ℕ) → Contains round.players me → IsSomeAnd (lookup me dealt.1) (λ private. C.dealing_of round me signer dealt.0 private ≡ Ok tt)) }
+    ensures short { (round : Round) (signer : ℕ) (share : Option ℕ) (seed : List ℕ)
+        → IfOk (C.deal_of round signer share seed) (λ dealt. (n : ℕ) → 1 ≤ n → length round.players ≤ n → length dealt.0 ≤ n) }
     ensures signed { (round : Round) (signer : ℕ) (public : List ℕ) (privates : List (ℕ × ℕ)) (acks : List (ℕ × List ℕ)) → Contains round.dealers signer → C.check_log_of round (C.sign_log_of signer round public privates acks) ≡ true }
 {}
 

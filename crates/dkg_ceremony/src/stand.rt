@@ -79,7 +79,7 @@ impl Ceremony for StandCeremony {
     ghost use Rattle.dkg_ceremony.specs.Acks.{ack_of as ack_from, check_ack_of as check_ack_from};
     ghost use Rattle.dkg_ceremony.specs.AckLaws.{ack_passes};
     ghost use Rattle.dkg_ceremony.specs.Deals.{deal_of as deal_from};
-    ghost use Rattle.dkg_ceremony.specs.DealLaws.{deals_pass as all_deals_pass, shares_are_dealt as held_are_dealt};
+    ghost use Rattle.dkg_ceremony.specs.DealLaws.{deals_are_short as all_deals_are_short, deals_pass as all_deals_pass, shares_are_dealt as held_are_dealt};
     ghost use Rattle.dkg_ceremony.specs.ValidLogs.{bears_ack_of as bears_from, check_log_of as check_log_from, sign_log_of as signed_from};
     ghost use Rattle.dkg_ceremony.specs.LogMarkLaws.{signed_passes};
     ghost use Rattle.dkg_ceremony.specs.Outcomes.{outcome_of as outcome_from, selected_of as selected_from};
@@ -120,6 +120,8 @@ impl Ceremony for StandCeremony {
     ghost shares_are_dealt = { held_are_dealt };
 
     ghost deals_pass = { all_deals_pass };
+
+    ghost deals_are_short = { all_deals_are_short };
 
     ghost signed_pass = { signed_passes };
 

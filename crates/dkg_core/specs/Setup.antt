@@ -35,7 +35,7 @@ use Rattle.dkg_types.specs.declared.scheme.SchemeInfo.TheVariants.{Verifier as V
 use Rattle.dkg_types.specs.Schemes.{scheme_of}
 use Rattle.dkg_types.specs.Validation.{validation}
 use Rattle.dkg_store.specs.Acts.{OnDisk, Changes}
-use Rattle.dkg_store.specs.Dealer.{with_unsent}
+use Rattle.dkg_store.specs.Dealer.{with_held, with_unsent}
 use Rattle.dkg_journal.specs.Operations.{Prunes}
 use Rattle.dkg_core.specs.Courses.{Course, Say, Do, Call, Ask, Goes, Stops, Marks, bind}
 use Rattle.dkg_store.specs.Recorded.{Pair, first_refused}
@@ -170,9 +170,14 @@ part_of (Some dealer) Watches = Deals_alone
 part_of None Plays = Player
 part_of None Watches = Observer
 
--- As inclusion begins the dealer signs its log.
+-- of these players' acknowledgements those that are there, in the order of the players
+abbrev pub acks_of : (acks : List (ℕ × List ℕ)) → (players : List ℕ) → List (ℕ × List ℕ)
+acks_of acks [] = []
+acks_of acks (player ∷ players) = with_held player (lookup player acks) (acks_of acks players)
+
+-- As inclusion begins the dealer signs its log, over what came in of the round's players.
 abbrev pub signed : {Dir : Type 0} → Fixed Dir → Round → Dealer → Dealer
-signed c round d = record d { log = Some (c.rules.sign_log_of c.me round d.public d.privates d.acks) }
+signed c round d = record d { log = Some (c.rules.sign_log_of c.me round d.public d.privates (acks_of d.acks round.players)) }
 
 abbrev pub begins_inclusion : {Dir : Type 0} → Fixed Dir → Live Dir → Live Dir
 begins_inclusion c st =
