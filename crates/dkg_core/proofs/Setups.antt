@@ -32,6 +32,7 @@ use Rattle.dkg_core.specs.Setup as s
 use Rattle.dkg_core.specs.Core.{no_inclusion}
 use Rattle.dkg_core.specs.Today.{ComesTo, CameTo, stage_in, validity, seat_in}
 use Rattle.dkg_core.specs.Forms.{IsForm, IsMine, ComesOver, Finds, round_for, signed_in, dealer_by, dealer_in, IsDealable, IsSetupFault, current_by, orchestrator_by, IsSeated, share_read, seed_read, set_up_by, StoresBoth, SetupsStore, SetupsComeTo}
+use Rattle.dkg_core.proofs.Sound.{first_of_three}
 
 -- WHERE A COURSE COMES TO
 
@@ -152,10 +153,6 @@ same_number n m e = grind (arith, nat_tests)
 
 other_number : (n m : ℕ) → (n == m) ≡ false → n ≡ m → ⊥
 other_number n m e is = grind (arith, nat_tests)
-
-first_of_three : (a b t : Bool) → (a && b && t) ≡ true → a ≡ true
-first_of_three true b t e = refl
-first_of_three false b t e = absurd (let no : ◌≡◌ {A = Bool} false true = e in cc)
 
 -- WHAT IS KEPT
 

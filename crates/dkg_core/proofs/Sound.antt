@@ -1,6 +1,6 @@
 -- What a setup leaves.
-use Rattle.std.proofs.Common.{◌≡◌, ℕ, List, true, false, Option, Some, None, refl, sym, ◌∙◌, ap, subst}
-use Rattle.std.specs.Prelude.{◌-◌, ◌==◌, ◌||◌, if◌then◌else◌, not, Result, Ok, Err, option_map, unwrap_or}
+use Rattle.std.proofs.Common.{◌≡◌, ◌&&◌, ℕ, List, Bool, true, false, Option, Some, None, refl, sym, ◌∙◌, ap, subst}
+use Rattle.std.specs.Prelude.{◌-◌, ◌==◌, ◌||◌, if◌then◌else◌, not, Result, Ok, Err, is_none, is_some, option_map, unwrap_or}
 use Rattle.dkg_values.specs.Rising.{lookup}
 use Rattle.dkg_ceremony.specs.declared.deal.DealError.{DealError}
 use Rattle.dkg_ceremony.specs.declared.output.Output.{Output}
@@ -21,7 +21,7 @@ use Rattle.dkg_core.specs.Fixed.{Fixed, has}
 use Rattle.dkg_core.specs.Live.{Live, Dealer, Seat, Plays, Watches, awaited_height, phase_of, of_epoch}
 use Rattle.dkg_core.specs.Logs.{logs_of}
 use Rattle.dkg_core.specs.Setup as s
-use Rattle.dkg_core.specs.Laws.{Law, Holds, Anything, IsAmong, IsCeremony, DealsValidly, IsSetUp, setup_law, SetupsAreSound}
+use Rattle.dkg_core.specs.Laws.{Law, Holds, Anything, IsCeremony, DealsValidly, IsSetUp, setup_law, SetupsAreSound}
 use Rattle.dkg_core.proofs.Holding.{holds_bind, holds_if, holds_option}
 
 same_some : {A : Type 0} (a b : A) → ◌≡◌ {A = Option A} (Some a) (Some b) → a ≡ b
@@ -29,6 +29,10 @@ same_some a b e = ap (λ (o : Option _). unwrap_or o a) e
 
 not_some : {A : Type 0} (a : A) → ◌≡◌ {A = Option A} None (Some a) → ⊥
 not_some a e = cc
+
+pub first_of_three : (a b t : Bool) → (a && b && t) ≡ true → a ≡ true
+first_of_three true b t e = refl
+first_of_three false b t e = absurd (let no : ◌≡◌ {A = Bool} false true = e in cc)
 
 -- the epoch is awaited, and no round is there yet
 abbrev unset : {Dir : Type 0} → (epoch : ℕ) → Law Dir (Live Dir)
@@ -44,11 +48,11 @@ module _ {Dir : Type 0} (c : Fixed Dir) (epoch : ℕ) (ceremony : IsCeremony c) 
 
   -- a log that is signed changes nothing of the dealing
   signed : (round : Round) (dealer : Option Dealer) → DealsValidly c round dealer → DealsValidly c round (option_map (s.signed c round) dealer)
-  signed round None valid d private is among = absurd (not_some d is)
-  signed round (Some dealer) valid d private is among =
+  signed round None valid d private is plays found = absurd (not_some d is)
+  signed round (Some dealer) valid d private is plays found =
       let same = same_some (s.signed c round dealer) d is in
       subst (λ (x : Dealer). c.rules.dealing_of round c.me c.me x.public private ≡ Ok tt) same
-      (valid dealer private refl (subst (λ (x : Dealer). IsAmong (c.me, private) x.privates) (sym same) among))
+      (valid dealer private refl plays (subst (λ (x : Dealer). lookup c.me x.privates ≡ Some private) (sym same) found))
 
   -- the round that there is
   of_round : (round other : Round) (dealer : Option Dealer) → ◌≡◌ {A = Option Round} (Some round) (Some other) → round.number ≡ epoch → DealsValidly c round dealer → (other.number ≡ epoch) × DealsValidly c other dealer
@@ -75,27 +79,28 @@ module _ {Dir : Type 0} (c : Fixed Dir) (epoch : ℕ) (ceremony : IsCeremony c) 
   -- a dealer that is given up deals nothing
   kept : (phase : Phase) (round : Round) (d : Dealer) → DealsValidly c round (Some d) → DealsValidly c round (s.dealer_for phase round d)
   kept Early round d valid = valid
-  kept Midpoint round d valid = elim (s.has_quorum round d) as (λ b. DealsValidly c round (if b then Some d else None)) [ true ↦ valid | false ↦ λ dealer private e among. absurd (not_some dealer e) ]
-  kept Late round d valid = elim (s.has_quorum round d) as (λ b. DealsValidly c round (if b then Some d else None)) [ true ↦ valid | false ↦ λ dealer private e among. absurd (not_some dealer e) ]
+  kept Midpoint round d valid = elim (s.has_quorum round d) as (λ b. DealsValidly c round (if b then Some d else None)) [ true ↦ valid | false ↦ λ dealer private e plays found. absurd (not_some dealer e) ]
+  kept Late round d valid = elim (s.has_quorum round d) as (λ b. DealsValidly c round (if b then Some d else None)) [ true ↦ valid | false ↦ λ dealer private e plays found. absurd (not_some dealer e) ]
 
   dealt_by : (past : List (Deed Dir)) (round : Round) (phase : Phase) (share : Option ℕ) (seed : List ℕ) (st : Live Dir) (dealt : Result (List ℕ × List (ℕ × ℕ)) DealError) → c.rules.deal_of round c.me share seed ≡ dealt
-      → st.participation.epoch ≡ epoch → round.number ≡ epoch → Holds law past (s.dealt_by c round phase st dealt)
-  dealt_by past round phase share seed st (Err refused) gives is number = tt
-  dealt_by past round phase share seed st (Ok dealt) gives is number =
+      → has round.dealers c.me ≡ true → st.participation.epoch ≡ epoch → round.number ≡ epoch → Holds law past (s.dealt_by c round phase st dealt)
+  dealt_by past round phase share seed st (Err refused) gives member is number = tt
+  dealt_by past round phase share seed st (Ok dealt) gives member is number =
       let made = s.dealer_from c round st dealt in
       makes_player past round phase (s.dealer_for phase round made) st is number
-      (kept phase round made (λ dealer private e among.
+      (kept phase round made (λ dealer private e plays found.
       let same = same_some made dealer e in
       subst (λ (x : Dealer). c.rules.dealing_of round c.me c.me x.public private ≡ Ok tt) same
-      (ceremony.deals_pass round share seed dealt.0 dealt.1 private gives (subst (λ (x : Dealer). IsAmong (c.me, private) x.privates) (sym same) among))))
+      (ceremony.deals_pass round share seed dealt.0 dealt.1 private member plays gives (subst (λ (x : Dealer). lookup c.me x.privates ≡ Some private) (sym same) found))))
 
   in_round : (past : List (Deed Dir)) (phase : Phase) (share : Option ℕ) (seed : List ℕ) (st : Live Dir) (round : Result Round RoundError) → ((r : Round) → round ≡ Ok r → r.number ≡ epoch) → st.participation.epoch ≡ epoch
       → Holds law past (s.in_round c phase share seed st round)
   in_round past phase share seed st (Err e) number is = tt
   in_round past phase share seed st (Ok round) number is =
       holds_if law past (s.may_deal c round share st) (s.dealt_by c round phase st (c.rules.deal_of round c.me share seed)) (s.makes_player c round phase None st)
-      (λ e. dealt_by past round phase share seed st (c.rules.deal_of round c.me share seed) refl is (number round refl))
-      (λ e. makes_player past round phase None st is (number round refl) (λ dealer private e among. absurd (not_some dealer e)))
+      (λ e. dealt_by past round phase share seed st (c.rules.deal_of round c.me share seed) refl
+      (first_of_three (has round.dealers c.me) (is_some share || is_none round.previous) (is_none (lookup c.me (logs_of st round.number))) e) is (number round refl))
+      (λ e. makes_player past round phase None st is (number round refl) (λ dealer private e plays found. absurd (not_some dealer e)))
 
   draws_up : (past : List (Deed Dir)) (p : Participants) (previous : Option Output) (share : Option ℕ) (seed : List ℕ) (st : Live Dir) → st.participation.epoch ≡ epoch → Holds law past (s.draws_up c p previous share seed st)
   draws_up past p previous share seed st is =

@@ -1,5 +1,5 @@
 -- Laws of steps: what holds of each line, each operation and the end of acts, whatever the devices hold.
-use Rattle.std.specs.Prelude.{ℕ, List, [], ◌∷◌, ◌++◌, IsSome, ◌-◌, ◌+◌, ◌≤◌, ◌≡◌, ◌⊎◌, Option, Some, None, Ok}
+use Rattle.std.specs.Prelude.{true, ℕ, List, [], ◌∷◌, ◌++◌, IsSome, ◌-◌, ◌+◌, ◌≤◌, ◌≡◌, ◌⊎◌, Option, Some, None, Ok}
 use Rattle.std.specs.Option.{option_map_or}
 use Rattle.dkg_types.specs.Blocks.{Block}
 use Rattle.dkg_ceremony.specs.declared.mode.Mode.{Mode}
@@ -20,7 +20,7 @@ use Rattle.dkg_core.specs.Courses.{Course, Say, Do, Call, Ask, Goes, Stops, Deed
 use Rattle.dkg_store.specs.Events.{event_spelling}
 use Rattle.dkg_store.specs.declared.event.Event.TheVariants.{Dealing}
 use Rattle.dkg_secrets.specs.declared.secrets.SecretOp.TheVariants.{PutShare, PutSeed, PutDealing, Prune}
-use Rattle.dkg_core.specs.Fixed.{Fixed, start}
+use Rattle.dkg_core.specs.Fixed.{Fixed, has, stand_in, start}
 use Rattle.dkg_core.specs.Live.{Live, Dealer, Plays, Deals, Message, Sent, Peer, Finalized, awaited_height, recorded_at}
 use Rattle.dkg_core.specs.Core.{opening, step}
 use Rattle.dkg_core.specs.Setup.{setup}
@@ -263,12 +263,17 @@ DuesAreAnswered Dir = (c : Fixed Dir) (st : Live Dir) (from : ℕ) (bytes : List
 pub record IsCeremony {Dir : Type 0} (c : Fixed Dir) : Type 0 where
   pub round_has : (namespace : List ℕ) (number : ℕ) (previous : Option Output) (mode : Mode) (reveal : Reveal) (dealers players : List ℕ) (round : Round)
       → c.rules.round_of namespace number previous mode reveal dealers players ≡ Ok round → round.number ≡ number
-  pub deals_pass : (round : Round) (share : Option ℕ) (seed public : List ℕ) (privates : List (ℕ × ℕ)) (private : ℕ)
-      → c.rules.deal_of round c.me share seed ≡ Ok (public, privates) → IsAmong (c.me, private) privates → c.rules.dealing_of round c.me c.me public private ≡ Ok tt
+  pub deals_pass : (round : Round) (share : Option ℕ) (seed public : List ℕ) (privates : List (ℕ × ℕ)) (private : ℕ) → has round.dealers c.me ≡ true → has round.players c.me ≡ true
+      → c.rules.deal_of round c.me share seed ≡ Ok (public, privates) → lookup c.me privates ≡ Some private → c.rules.dealing_of round c.me c.me public private ≡ Ok tt
 
--- What this node's dealer deals to itself is valid.
+-- What this node's dealer deals to itself, where it is a player of the round, is valid.
 abbrev pub DealsValidly : {Dir : Type 0} → Fixed Dir → Round → Option Dealer → Type 0
-DealsValidly c round o = (dealer : Dealer) (private : ℕ) → o ≡ Some dealer → IsAmong (c.me, private) dealer.privates → c.rules.dealing_of round c.me c.me dealer.public private ≡ Ok tt
+DealsValidly c round o =
+    (dealer : Dealer) (private : ℕ) → o ≡ Some dealer → has round.players c.me ≡ true → lookup c.me dealer.privates ≡ Some private → c.rules.dealing_of round c.me c.me dealer.public private ≡ Ok tt
+
+-- THE STAND-IN'S RULES are those of a ceremony.
+abbrev pub StandInsAreCeremonies : Type 0 → Type 0
+StandInsAreCeremonies Dir = (c : Fixed Dir) → c.rules ≡ stand_in → IsCeremony c
 
 -- The life awaits this epoch, and where it takes part in a round, that is the epoch's and its own dealing there is valid.
 pub record IsSetUp {Dir : Type 0} (c : Fixed Dir) (epoch : ℕ) (st : Live Dir) : Type 0 where

@@ -17,7 +17,7 @@ ghost use Rattle.dkg_core.specs.Entry.{EntersRegistered, LastBlocksAreEntered};
 ghost use Rattle.dkg_core.specs.Forms.{HalvesBegin, NodeOpeningsLead, NodeOpeningsLeadOver, OpeningsLead, OpeningsLeadOver, SetupsComeTo, SetupsStore};
 ghost use Rattle.dkg_core.specs.Heard.{OpeningsKeep, OpeningsRestore, PeersAgree, PeersAreKept, RunsAreKept, SetupsKeep};
 ghost use Rattle.dkg_core.specs.Joining.{JoinsTrack, ProbesJoin};
-ghost use Rattle.dkg_core.specs.Laws.{DuesAreAnswered, OpeningsPrune, OthersAcknowledgeNothing, PeersAreHeard, SetupsAreSound, SetupsPrune};
+ghost use Rattle.dkg_core.specs.Laws.{DuesAreAnswered, OpeningsPrune, OthersAcknowledgeNothing, PeersAreHeard, SetupsAreSound, SetupsPrune, StandInsAreCeremonies};
 ghost use Rattle.dkg_core.specs.Counted.{CutsFall, RunsCount};
 ghost use Rattle.dkg_core.specs.Lives.{LivesKeep};
 ghost use Rattle.dkg_core.specs.NodeKept.{NodeOpeningsAgree, NodeOpeningsKeep, NodeOpeningsRestore, NodeOpeningsSpareLogs, NodeOpeningsSparePlans};
@@ -101,6 +101,11 @@ pub fn peers_agree<Dir>()
 /// is that of a dealing that they give back.
 pub fn runs_are_kept<Dir>()
     ensures { RunsAreKept Dir }
+{}
+
+/// The stand-in's rules are those of a ceremony.
+pub fn stand_ins_are_ceremonies<Dir>()
+    ensures { StandInsAreCeremonies Dir }
 {}
 
 /// Under what a ceremony promises: a setup leaves the life awaiting the epoch of the next height, and where it takes part in a
