@@ -219,8 +219,8 @@ pub fn setups_store<Dir>()
     ensures { SetupsStore Dir }
 {}
 
-/// An opening comes to such a setup by the info that the boundary block carries, which has no other faults than these and those of the heights and of that block;
-/// without that block it leaves a life that follows, whatever the devices tell.
+/// An opening comes to such a setup by the info that the boundary block carries, which has no other faults than these and those of the heights and
+/// of that block; without that block it leaves a life that follows, whatever the devices tell.
 pub fn openings_lead<Dir>()
     ensures { OpeningsLead Dir }
 {}
