@@ -1,5 +1,5 @@
 -- The counts and causes of calls one behind the other.
-use Rattle.std.proofs.Common.{◌≡◌, ◌⊎◌, inl, inr, ℕ, ◌+◌, ◌<◌, ◌≤◌, ◌^◌, Result, Ok, Err, IsErrOf, ⊎_elim, arith}
+use Rattle.std.proofs.Common.{ℕ, ◌≤◌, Result, Ok, IsErrOf, arith}
 use Rattle.dkg_journal.specs.Burn.{Burn}
 use Rattle.dkg_journal.specs.Counts.{Caused, Counts}
 use Rattle.dkg_journal.specs.Disk.{Rose}

@@ -250,7 +250,7 @@ gone_none lo old d g none = record {
   ];
 }
 
-absent : (o : Option (List ℕ)) → is_some o ≡ false → o ≡ None
+pub absent : (o : Option (List ℕ)) → is_some o ≡ false → o ≡ None
 absent None is = refl
 absent (Some x) is = absurd (let h : ◌≡◌ {A = Bool} true false = is in cc)
 

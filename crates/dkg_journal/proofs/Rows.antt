@@ -7,7 +7,7 @@ use Rattle.std.specs.Ordering.{eq_by_cmp, is_eq, is_gt, is_lt}
 use Rattle.std.specs.declared.cmp.Ordering.TheVariants.{Less, Equal, Greater}
 use Rattle.std.specs.FinMap.Entries.{find, put, by_order, is_sorted, below_all, where_key, find-put, is_sorted-put, find-where_key, is_sorted-where_key}
 use Rattle.std.proofs.lemmas.Option.{cond_some}
-use Rattle.std.proofs.lemmas.List.{take_all, drop_all, take_at, take_more, take_more_set, map-append}
+use Rattle.std.proofs.lemmas.List.{take_all, take_at, take_more, take_more_set, map-append}
 use Rattle.std.proofs.Math.ListN.{set}
 use Rattle.std.proofs.lemmas.Bool.Decides.{nat_tests}
 use Rattle.std.proofs.lemmas.Cmp.{alike_right, eq_by_cmp_equiv}
@@ -79,14 +79,14 @@ is_named name h = eq_by_cmp name_cmp name h.name
 abbrev pub before : Name → List Held → ℕ
 before name hs = prefix_len (λ h. not (is_named name h)) hs
 
-tied : (a b : Name) → eq_by_cmp name_cmp a b ≡ true → a ≡ b
+pub tied : (a b : Name) → eq_by_cmp name_cmp a b ≡ true → a ≡ b
 tied a b is = elim (name_cmp a b) as (λ o. name_cmp a b ≡ o → is_eq o ≡ true → a ≡ b) [
   | Less ↦ λ e t. cc
   | Equal ↦ λ e t. exact_names a b e
   | Greater ↦ λ e t. cc
 ] refl is
 
-one_suc : (n : ℕ) → 1 + n ≡ suc n
+pub one_suc : (n : ℕ) → 1 + n ≡ suc n
 one_suc n = omega arith
 
 -- the file of the name
@@ -140,11 +140,11 @@ named_each (h ∷ hs) name g d = elim (is_named name h) as (λ (b : Bool). cond 
 
 -- a file of a name that isn't there, in its place
 abbrev pub slot : Name → List Held → ℕ
-slot name hs = prefix_len (λ h. not (not (is_gt (name_cmp name h.name)))) hs
+slot name hs = prefix_len (λ h. is_gt (name_cmp name h.name)) hs
 
 pub added_put : (hs : List Held) (g : Held) → file_at g.name (rows hs) ≡ None → rows (insert hs (slot g.name hs) g) ≡ put name_cmp g.name g.file (rows hs)
 added_put [] g none = refl
-added_put (h ∷ hs) g none = elim (name_cmp g.name h.name) as (λ o. name_cmp g.name h.name ≡ o → cond (is_eq o) (Some h.file) (file_at g.name (rows hs)) ≡ None → rows (insert (h ∷ hs) (cond (not (not (is_gt o))) (1 + slot g.name hs) 0) g) ≡ by_order o (row g ∷ rows (h ∷ hs)) ((h.name, g.file) ∷ rows hs) (row h ∷ put name_cmp g.name g.file (rows hs))) [
+added_put (h ∷ hs) g none = elim (name_cmp g.name h.name) as (λ o. name_cmp g.name h.name ≡ o → cond (is_eq o) (Some h.file) (file_at g.name (rows hs)) ≡ None → rows (insert (h ∷ hs) (cond (is_gt o) (1 + slot g.name hs) 0) g) ≡ by_order o (row g ∷ rows (h ∷ hs)) ((h.name, g.file) ∷ rows hs) (row h ∷ put name_cmp g.name g.file (rows hs))) [
   | Less ↦ λ e none. refl
   | Equal ↦ λ e none. cc
   | Greater ↦ λ e none. ap (λ (k : ℕ). rows (insert (h ∷ hs) k g)) (one_suc (slot g.name hs)) ∙ ap (λ (l : Rows). row h ∷ l) (added_put hs g none)
@@ -260,20 +260,6 @@ both_lands None None both = tt
 both_lands (Some f) (Some g) both = both
 both_lands None (Some g) both = absurd both
 both_lands (Some f) None both = absurd both
-
--- the slot, as a search for it gives it
-pub slot_some : (hs ds : List Held) (name : Name) (at : ℕ) → ds ≡ hs → Some at ≡ position (λ h. not (is_gt (name_cmp name h.name))) ds → at ≡ slot name hs
-slot_some hs ds name at same is =
-    sym (cond_some (nat_lt (slot name hs) (length hs)) (slot name hs) at (sym (is ∙ ap (position (λ h. not (is_gt (name_cmp name h.name)))) same))).1
-
-pub slot_none : (hs ds : List Held) (g : Held) → ds ≡ hs → None ≡ position (λ h. not (is_gt (name_cmp g.name h.name))) ds → hs ++ g ∷ [] ≡ insert hs (slot g.name hs) g
-slot_none hs ds g same is =
-    let n = slot g.name hs in
-    let all : length hs ≤ n = none_within n (length hs) (is ∙ ap (position (λ h. not (is_gt (name_cmp g.name h.name)))) same) in
-    λ i. sym (take_all n hs all) i ++ g ∷ sym (drop_all n hs all) i
-  where
-    none_within : (n m : ℕ) → None ≡ cond (nat_lt n m) (Some n) None → m ≤ n
-    none_within n m is = grind (arith, nat_tests)
 
 pub row_names : (hs : List Held) → ◌≡◌ {A = List Name} (map (λ h. h.name) hs) (map (λ e. e.0) (rows hs))
 row_names [] = refl

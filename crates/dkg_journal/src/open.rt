@@ -1,13 +1,14 @@
 //! Opening a journal on a disk that a crash may have left.
 //!
 //! The store calls it once a life, after a barrier.
-ghost use Rattle.std.specs.Prelude.{◌≡◌, ◌⊎◌, ◌≤◌, ◌++◌, [], ◌∷◌, List, ℕ, Option, Some, None, filter, length, map as list_map, OnOk, IfOk, IfErr, IsErrOf, IsTrue, option_map};
-ghost use Rattle.std.specs.Ordering.{nat_cmp};
+ghost use Rattle.std.specs.Prelude.{◌≡◌, ◌⊎◌, ◌≤◌, ◌++◌, [], ◌∷◌, List, ℕ, false, Option, Some, None, filter, length, map as list_map, OnOk, IfOk, IfErr, IsErrOf, IsTrue, option_map};
+ghost use Rattle.std.specs.Ordering.{nat_cmp, eq_by_cmp};
+ghost use Rattle.std.specs.List.{list_any};
 ghost use Rattle.std.specs.FinMap as map;
 ghost use Rattle.std.specs.FinMap.{find, get, keys};
 ghost use Rattle.dkg_journal.specs.Counts.{Caused, Counts};
 ghost use Rattle.dkg_journal.specs.Errors.{IsOfDisk, IsOfReading};
-ghost use Rattle.dkg_journal.specs.Names.{Files};
+ghost use Rattle.dkg_journal.specs.Names.{Files, name_cmp};
 ghost use Rattle.dkg_journal.specs.Disk.{Rose, IsUnchanged, Lands};
 ghost use Rattle.dkg_journal.specs.Found.{Takes, Finds};
 ghost use Rattle.dkg_journal.specs.Fuse.{HasRun};
@@ -105,6 +106,43 @@ fn read<D: Disk>(alloc: Global, disk: &mut D, name: Name) -> Result<Option<Vec<u
         Ok(bytes) => Ok(bytes),
         Err(DiskError::Failed) => Err(JournalError::Disk),
         Err(DiskError::NoMemory) => Err(JournalError::NoMemory),
+    }
+}
+
+fn is_flat(name: Name) -> bool
+    ensures { result ≡ eq_by_cmp name_cmp Flat name }
+{
+    match name {
+        Name::Flat => true,
+        Name::Plan | Name::Segment(_) => false,
+    }
+}
+
+fn has_flat(names: &[Name]) -> bool
+    ensures { result ≡ list_any (eq_by_cmp name_cmp Flat) names.now }
+{
+    names.iter().any(|name| is_flat(*name))
+}
+
+/// The bytes of the flat file, if these names have it. Else nothing is read.
+fn read_flat<D: Disk>(
+    alloc: Global,
+    disk: &mut D,
+    names: &[Name],
+) -> Result<Option<Vec<u8>>, JournalError>
+    ensures bytes { IfOk result (λ bytes. IsTrue D.tells → names.now ≡ keys (D.files disk.old)
+        → option_map (λ v. v.items) bytes ≡ get (D.files disk.old) Flat) }
+    ensures same { IsUnchanged D.files D.image disk.old disk.new }
+    ensures unread { list_any (eq_by_cmp name_cmp Flat) names.now ≡ false → disk.new ≡ disk.old }
+    ensures counts { Counts D.faults D.wants result disk.old disk.new }
+    ensures wanted { IsErrOf result JournalError.NoMemory → Rose (D.wants disk.old) (D.wants disk.new) }
+    ensures kinds { IfErr result IsOfDisk }
+    ensures calls { D.made disk.old disk.new [] }
+{
+    if has_flat(names) {
+        read(alloc, disk, Name::Flat)
+    } else {
+        Ok(None)
     }
 }
 
@@ -208,7 +246,7 @@ fn find<D: Disk>(alloc: Global, disk: &mut D) -> Result<Found, JournalError>
     ensures calls { D.made disk.old disk.new [] }
 {
     let names = list(alloc, disk)?;
-    match read(alloc, disk, Name::Flat)? {
+    match read_flat(alloc, disk, &names)? {
         None => find_segments(alloc, disk, &names),
         Some(bytes) => migrate(alloc, &names, &bytes),
     }

@@ -1,6 +1,6 @@
 //! The files of a memory disk by name.
 //!
-//! A list in the order of the names, so that what is listed, and what a crash counts, comes in that order.
+//! A list in the order of the names, so that what is listed, and what a crash counts, comes in that order. A name is looked up by halves.
 ghost use Rattle.std.specs.Prelude.{◌≡◌, ◌≤◌, ◌<◌, ◌++◌, [], ◌∷◌, List, ℕ, Bool, Option, Some, None, length, IsTrue, IfOk, OnOk, OnErr, IfSome, IfNone, not, map, option_map, position, cond};
 ghost use Rattle.std.specs.List.{prefix_len, insert};
 ghost use Rattle.dkg_journal.specs.Disk.{Allowed, Inside, Follows};
@@ -68,18 +68,25 @@ fn is_same(a: Name, b: Name) -> bool
     }
 }
 
-/// Where the file of this name stands.
-fn place_of(held: &[Held], name: Name) -> Option<usize>
-    ensures { result ≡ position (λ h. eq_by_cmp name_cmp name h.name) held.now }
+/// Where a file of this name would stand.
+fn slot_of(held: &[Held], name: Name) -> usize
+    requires { IsTrue (is_sorted name_cmp (map (λ h. (h.name, h.file)) held.now)) }
+    ensures { result ≡ prefix_len (λ h. is_gt (name_cmp name h.name)) held.now }
 {
-    held.iter().position(|one| is_same(name, one.name))
+    held.partition_point(|one| is_after(name, one.name))
 }
 
-/// Where a file of this name would stand.
-fn slot_of(held: &[Held], name: Name) -> Option<usize>
-    ensures { result ≡ position (λ h. not (is_gt (name_cmp name h.name))) held.now }
+/// Where the file of this name stands.
+fn place_of(held: &[Held], name: Name) -> Option<usize>
+    requires { IsTrue (is_sorted name_cmp (map (λ h. (h.name, h.file)) held.now)) }
+    ensures { result ≡ position (λ h. eq_by_cmp name_cmp name h.name) held.now }
 {
-    held.iter().position(|one| !is_after(name, one.name))
+    let at = slot_of(held, name);
+    if at < held.len() && is_same(name, held[at].name) {
+        Some(at)
+    } else {
+        None
+    }
 }
 
 /// What a crash leaves of a file by its pick, and how many loose bytes may be kept of the files behind it.
@@ -99,19 +106,12 @@ fn crash_one(one: &mut Held, pick: u64, but: Option<Name>, count: u64) -> u64
 
 /// Puts a file of a name that is not there in its place.
 fn add(held: &mut Vec<Held>, one: Held) -> Result<(), AllocFailed<Held>>
-    ensures done { OnOk result (held.new.items ≡ insert held.old.items (prefix_len (λ h. not (not (is_gt (name_cmp one.name h.name)))) held.old.items) one) }
+    requires { IsTrue (is_sorted name_cmp (map (λ h. (h.name, h.file)) held.old.items)) }
+    ensures done { OnOk result (held.new.items ≡ insert held.old.items (prefix_len (λ h. is_gt (name_cmp one.name h.name)) held.old.items) one) }
     ensures kept { OnErr result (held.new.items ≡ held.old.items) }
 {
-    match slot_of(held, one.name) {
-        Some(at) => {
-            held.insert(at, one)?;
-            Ok(())
-        }
-        None => {
-            held.push(one)?;
-            Ok(())
-        }
-    }
+    let at = slot_of(held, one.name);
+    held.insert(at, one)
 }
 
 impl Table {
@@ -190,7 +190,9 @@ impl Table {
     pub fn remove(&mut self, name: Name)
         ensures { IsUpdate name None self.old self.new }
     {
-        self.held.retain(|one| !is_same(name, one.name));
+        if let Some(at) = place_of(&self.held, name) {
+            self.held.remove(at);
+        }
     }
 
     /// Writes to a file that is there, at a place in it or at its end.

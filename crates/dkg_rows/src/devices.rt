@@ -32,8 +32,8 @@ fn a_record_that_is_not_whole_is_a_fault(rt: HostRuntime) -> Result<(), Fail> {
 #[test]
 fn a_failed_sync_leaves_nothing(rt: HostRuntime) -> Result<(), Fail> {
     let alloc = rt.alloc();
-    // An opening calls barrier, list and read, and the dealing then install, write_at and sync: its gate stays closed.
-    let mut disk = MemoryDisk::failing(alloc, vec![in alloc; 6]?);
+    // An opening calls barrier and list, and the dealing then install, write_at and sync: its gate stays closed.
+    let mut disk = MemoryDisk::failing(alloc, vec![in alloc; 5]?);
     let mut secrets = MemorySecrets::new(alloc);
     let text = life(alloc, OUTPUT, DEALING)?;
     let lines = format!(in alloc; "opened 0 0\n{SET_UP}fault 2\n")?;

@@ -1,10 +1,12 @@
-use Rattle.std.proofs.Common.{ℕ, sym, ◌∙◌, ap}
-use Rattle.std.specs.List.{insert}
-use Rattle.dkg_journal.proofs.Rows.{slot_some, slot_none}
+use Rattle.std.proofs.Common.{ℕ, ◌≤◌, length, sym, subst, ap, arith}
+use Rattle.std.specs.Ordering.{is_gt}
+use Rattle.std.proofs.lemmas.List.Sums.{prefix_len-le-length}
+use Rattle.dkg_journal.specs.Names.{name_cmp}
+use Rattle.dkg_journal.specs.declared.table.Held.{Held}
 use Rattle.dkg_journal.proofs.table.add.Goals as goal
 
-pub returns-in_ok-insert-in-Some-clause-done : goal.returns-in_ok-insert-in-Some-clause-done
-returns-in_ok-insert-in-Some-clause-done c = c.in_ok-insert-in-Some.ensures.items ∙ ap (λ (k : ℕ). insert c.args.held.now.items k c.args.one) (slot_some c.args.held.now.items _ c.args.one.name c.in-Some.at c.deref.ensures.value (sym c.in-Some.is ∙ c.slot_of.ensures))
-
-pub returns-in_ok-push-in-None-clause-done : goal.returns-in_ok-push-in-None-clause-done
-returns-in_ok-push-in-None-clause-done c = c.in_ok-push-in-None.ensures.items ∙ slot_none c.args.held.now.items _ c.args.one c.deref.ensures.value (sym c.in-None.is ∙ c.slot_of.ensures)
+pub insert-requires : goal.insert-requires
+insert-requires c =
+    let hs = c.deref.result.now in
+    let fits : c.slot_of-at.result ≤ length hs = subst (λ (n : ℕ). n ≤ length hs) (sym c.slot_of-at.ensures) (prefix_len-le-length (λ (h : Held). is_gt (name_cmp c.args.one.name h.name)) hs) in
+    omega (arith, fits, ap length c.deref.ensures.value)
