@@ -35,7 +35,7 @@ passes : (round : Round) (me : ℕ) (share : Option ℕ) (seed public : List ℕ
     → deal_of round me share seed ≡ Ok (public, privates) → lookup me privates ≡ Some private → dealing_of round me me public private ≡ Ok tt
 passes round me share seed public privates private member plays dealt found =
     let all = of_answer (λ (d : List ℕ × List (ℕ × ℕ)). (who : ℕ) → Contains round.players who → IsSomeAnd (lookup who d.1) (λ half. dealing_of round who me d.0 half ≡ Ok tt))
-        (deal_of round me share seed) (public, privates) (deals.deals_pass round me share seed (Contains-place_of me round.dealers member)) dealt in
+    (deal_of round me share seed) (public, privates) (deals.deals_pass round me share seed (Contains-place_of me round.dealers member)) dealt in
     of_found (λ (half : ℕ). dealing_of round me me public half ≡ Ok tt) (lookup me privates) private (all me (Contains-place_of me round.players plays)) found
 
 pub stand_ins_are_ceremonies : {Dir : Type 0} → StandInsAreCeremonies Dir
