@@ -13,6 +13,7 @@ mod journal;
 mod memory;
 mod open;
 mod opening;
+mod ordered;
 mod parting;
 mod pruning;
 mod record;

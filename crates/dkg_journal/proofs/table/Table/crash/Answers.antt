@@ -1,22 +1,27 @@
-use Rattle.std.proofs.Common.{◌≡◌, arith}
-use Rattle.std.proofs.lemmas.Grind.{common_steps}
+use Rattle.std.proofs.Common.{◌≡◌, ℕ, Option, true, refl, ◌∙◌, subst, rules}
+use Rattle.dkg_values.specs.declared.name.Name.{Name}
 use Rattle.dkg_journal.specs.Kept.{settled, FileImage}
-use Rattle.dkg_journal.proofs.Rows.{all_sorted, all_find, both_lands, crashed_more, crashed_all}
+use Rattle.dkg_journal.specs.Table.{PickedRow, CrashedBy, file_at, Lands}
+use Rattle.dkg_journal.proofs.Rows.{walked}
 use Rattle.dkg_journal.proofs.table.Table.crash.Goals as goal
 
-pub invariant_of-self : goal.invariant_of-self
-invariant_of-self c = all_sorted (λ f g. FileImage f g.bytes × (g ≡ settled g.bytes)) _ c.self.inside.held.items _ _ _ c.self.view_is c.deref_mut-one-items.ensures.value c.self.inside.held.ok.0 c.loop-one.invariant.size (λ k d low. c.loop-one.invariant.done k d (omega (arith, low, c.loop-one-test.false, c.loop-one.invariant.size))) c.self.invariant
+-- What the walk's closure captures: how many loose bytes may be kept, the pick, and the file that is spared.
+gone_through : (c : goal.After-retain) → ((q : Name) → Lands (file_at q c.args.self.now) (file_at q c.retain.new.self.entries)) × CrashedBy c.args.pick c.args.but c.args.self.now c.retain.new.self.entries
+gone_through c = walked _ (λ f. (f.1 ≡ c.args.pick) × (f.2 ≡ c.args.but)) (λ f. f.0) c.args.pick c.args.but (λ f g name v w b holds call.
+    let answer : b ≡ true = search rules in
+    let same : (g.1 ≡ f.1) × (g.2 ≡ f.2) = search rules in
+    let image : FileImage v w.bytes = search rules in
+    let sure : w ≡ settled w.bytes = search rules in
+    let picked : PickedRow f.1 f.0 f.2 name v w g.0 = search rules in (
+      answer,
+      (same.0 ∙ holds.0, same.1 ∙ holds.1),
+      image,
+      sure,
+      subst (λ (n : ℕ). PickedRow n f.0 c.args.but name v w g.0) holds.0 (subst (λ (o : Option Name). PickedRow f.1 f.0 o name v w g.0) holds.1 picked),
+    )) _ (refl, refl) refl _ _ _ c.self.view_is c.retain.ensures.filtered
 
 pub returns-clause-lands : goal.returns-clause-lands
-returns-clause-lands c = λ q. both_lands _ _ (all_find (λ f g. FileImage f g.bytes × (g ≡ settled g.bytes)) _ c.self.inside.held.items _ _ _ c.self.view_is c.deref_mut-one-items.ensures.value c.self.inside.held.ok.0 c.loop-one.invariant.size (λ k d low. c.loop-one.invariant.done k d (omega (arith, low, c.loop-one-test.false, c.loop-one.invariant.size))) q)
-
-pub loop-one-preserved : goal.loop-one-preserved
-loop-one-preserved c = record {
-  size = grind (arith, common_steps);
-  done = grind (arith, common_steps);
-  picked = crashed_more c.args.pick _ _ _ c.args.but c.deref_mut-one-items.result.now c.loop-one.one-items c.loop-one.one-index c.one-item.result _ _ (omega (arith, c.loop-one-test.true, c.loop-one.invariant.size)) c.loop-one.invariant.size (c.loop-one.invariant.left c.loop-one.one-index c.one-item.result (omega arith)) c.loop-one.invariant.picked c.crash_one-count.ensures.name c.crash_one-count.ensures.picked;
-  left = grind (arith, common_steps);
-}
+returns-clause-lands c = (gone_through c).0
 
 pub returns-clause-picked : goal.returns-clause-picked
-returns-clause-picked c = crashed_all c.args.pick _ c.args.but _ c.self.inside.held.items _ _ c.loop-one.one-index _ c.self.view_is c.deref_mut-one-items.ensures.value c.self.inside.held.ok.0 c.loop-one-test.false c.loop-one.invariant.size c.loop-one.invariant.picked
+returns-clause-picked c = (gone_through c).1

@@ -1,13 +1,16 @@
-use Rattle.std.proofs.Common.{List, map, ◌∙◌, ap, arith}
-use Rattle.std.proofs.lemmas.List.{take_all}
+use Rattle.std.proofs.Common.{subst}
+use Rattle.std.specs.Prelude.{IsTrue}
+use Rattle.std.specs.FinMap.Entries.{is_sorted}
+use Rattle.dkg_journal.specs.Names.{name_cmp}
 use Rattle.dkg_journal.specs.Table.{Rows}
-use Rattle.dkg_journal.specs.declared.table.Held.{Held}
-use Rattle.dkg_journal.proofs.Rows.{row_names}
+use Rattle.dkg_journal.proofs.Rows.{rising}
 use Rattle.dkg_journal.proofs.table.Table.names.Goals as goal
 
-pub returns-clause-names : goal.returns-clause-names
-returns-clause-names c =
-    let hs = c.self.inside.held.items in
-    c.loop-one.invariant
-    ∙ ap (λ (l : List Held). map (λ h. h.name) l) (take_all c.loop-one.one-index _ (omega (arith, c.loop-one-test.false)) ∙ c.deref-one-items.ensures.value)
-    ∙ row_names hs ∙ ap (λ (l : Rows). map (λ e. e.0) l) c.self.view_is
+pub returns-in_err-names-clause-sorted : goal.returns-in_err-names-clause-sorted
+returns-in_err-names-clause-sorted c = subst (λ (l : Rows). IsTrue (is_sorted name_cmp l)) c.self.view_is (rising c.self.inside.held.entries c.len.ensures.ordered)
+
+pub returns-in_err-push-clause-sorted : goal.returns-in_err-push-clause-sorted
+returns-in_err-push-clause-sorted c = subst (λ (l : Rows). IsTrue (is_sorted name_cmp l)) c.self.view_is (rising c.self.inside.held.entries c.len.ensures.ordered)
+
+pub returns-clause-sorted : goal.returns-clause-sorted
+returns-clause-sorted c = subst (λ (l : Rows). IsTrue (is_sorted name_cmp l)) c.self.view_is (rising c.self.inside.held.entries c.len.ensures.ordered)

@@ -1,5 +1,5 @@
-use Rattle.std.proofs.Common.{◌≡◌, map, take}
+use Rattle.std.proofs.Common.{◌≡◌, ◌++◌, map}
 use Rattle.dkg_journal.proofs.table.Table.names.Given as goal
 
-abbrev pub invariant-loop-one : goal.invariant-loop-one
-invariant-loop-one l = l.names.items ≡ map (λ h. h.name) (take l.one-index l.one-items)
+abbrev pub invariant-loop-key : goal.invariant-loop-key
+invariant-loop-key l = l.names.items ++ l.key-iterator ≡ map (λ e. e.0) l.self

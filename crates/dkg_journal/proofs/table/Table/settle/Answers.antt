@@ -1,19 +1,28 @@
-use Rattle.std.proofs.Common.{◌≡◌, Some, refl, sym, ◌∙◌, ap}
+use Rattle.std.proofs.Common.{◌≡◌, ◌∙◌, ap, sym, Some}
+use Rattle.std.specs.Option.{option_copied_mut}
 use Rattle.dkg_journal.specs.Kept.{Kept}
-use Rattle.dkg_journal.specs.Table.{file_at, made_sure}
-use Rattle.dkg_journal.proofs.Rows.{at_find, at_none, at_update, at_sorted, as_update, none_update}
+use Rattle.dkg_journal.specs.Table.{Rows, file_at, made_sure}
+use Rattle.dkg_journal.proofs.Rows.{found_file, found_some, found_update, missing_file, as_update, none_update}
+use Rattle.dkg_journal.proofs.table.Table.settle.Goals.{in-Some, in-None}
 use Rattle.dkg_journal.proofs.table.Table.settle.Goals as goal
 
-pub invariant_of-self : goal.invariant_of-self
-invariant_of-self c = at_sorted c.self.inside.held.items _ _ c.args.name c.in-Some.at c.index_mut.result.now c.self.view_is c.deref.ensures.value (sym c.in-Some.is ∙ c.place_of.ensures) c.index_mut.ensures.value (record { name = c.index_mut.result.now.name; file = c.settle.new.self }) refl c.self.invariant
-
-pub returns-in-Some : goal.returns-in-Some
-returns-in-Some c =
-    let found = at_find c.self.inside.held.items _ _ c.args.name c.in-Some.at c.index_mut.result.now c.self.view_is c.deref.ensures.value (sym c.in-Some.is ∙ c.place_of.ensures) c.index_mut.ensures.value in
-    let is : Some c.settle.new.self ≡ made_sure (file_at c.args.name c.args.self.now) = ap (λ (f : Kept). Some f) c.settle.ensures.settled ∙ ap made_sure (sym found) in
-    as_update _ _ c.args.name _ _ is (at_update c.self.inside.held.items _ _ c.args.name c.in-Some.at c.index_mut.result.now c.self.view_is c.deref.ensures.value (sym c.in-Some.is ∙ c.place_of.ensures) c.index_mut.ensures.value (record { name = c.index_mut.result.now.name; file = c.settle.new.self }) refl)
-
-pub returns-in-None : goal.returns-in-None
-returns-in-None c =
-    let none = at_none c.self.inside.held.items _ _ c.args.name c.self.view_is c.deref.ensures.value (sym c.in-None.is ∙ c.place_of.ensures) in
-    none_update c.args.self.now c.args.name (made_sure (file_at c.args.name c.args.self.now)) none (ap made_sure none)
+pub returns : goal.returns
+returns c = elim c.match-get_mut.branch [
+  | in-Some w ↦
+      let rows = c.args.self.now in
+      let es = c.self.inside.held.entries in
+      let f = w.in-Some.file.now in
+      let g = w.settle.new.self in
+      let through = c.get_mut.follows.holds g in
+      let found = ap option_copied_mut (sym w.in-Some.is) ∙ c.get_mut.ensures.value in
+      let new = (c.get_mut.follows.lender g).entries in
+      let done = found_update c.args.name es rows f c.self.view_is found g new (through.3 (found_some c.args.name es rows f c.self.view_is found)).0 in
+      let is : Some g ≡ made_sure (file_at c.args.name rows) = ap (λ (k : Kept). Some k) w.settle.ensures.settled ∙ ap made_sure (sym (found_file c.args.name es rows f c.self.view_is found)) in
+      let update = as_update rows new c.args.name _ _ is done in
+      λ q. ap (λ t. file_at q t.held.entries) w.self-inside-is ∙ update q
+  | in-None w ↦
+      let rows = c.args.self.now in
+      let none = missing_file c.args.name c.self.inside.held.entries rows c.self.view_is (ap option_copied_mut (sym w.in-None.is) ∙ c.get_mut.ensures.value) in
+      let same = ap (λ t. t.held.entries) w.self-inside-is ∙ ap (λ m. m.entries) c.get_mut.follows.holds-at-none ∙ c.self.view_is in
+      λ q. ap (λ (l : Rows). file_at q l) same ∙ none_update rows c.args.name (made_sure (file_at c.args.name rows)) none (ap made_sure none) q
+]

@@ -1,10 +1,11 @@
-use Rattle.std.proofs.Common.{◌≡◌, arith}
+use Rattle.std.proofs.Common.{◌∙◌, ap, rules}
+use Rattle.std.proofs.lemmas.Map.Made.{map_same_pairs}
 use Rattle.dkg_journal.specs.Kept.{settled}
-use Rattle.dkg_journal.proofs.Rows.{all_sorted, all_find, both_sure}
+use Rattle.dkg_journal.specs.Table.{Rows, file_at, made_sure}
+use Rattle.dkg_journal.proofs.Rows.{all_sure}
 use Rattle.dkg_journal.proofs.table.Table.settle_all.Goals as goal
 
-pub invariant_of-self : goal.invariant_of-self
-invariant_of-self c = all_sorted (λ f g. g ≡ settled f.bytes) _ c.self.inside.held.items _ _ _ c.self.view_is c.deref_mut-one-items.ensures.value c.self.inside.held.ok.0 c.loop-one.invariant.size (λ k d low. c.loop-one.invariant.done k d (omega (arith, low, c.loop-one-test.false, c.loop-one.invariant.size))) c.self.invariant
-
 pub returns : goal.returns
-returns c = λ q. both_sure _ _ (all_find (λ f g. g ≡ settled f.bytes) _ c.self.inside.held.items _ _ _ c.self.view_is c.deref_mut-one-items.ensures.value c.self.inside.held.ok.0 c.loop-one.invariant.size (λ k d low. c.loop-one.invariant.done k d (omega (arith, low, c.loop-one-test.false, c.loop-one.invariant.size))) q)
+returns c = λ q.
+    ap (λ (l : Rows). file_at q l) (map_same_pairs _ (λ f. settled f.bytes) _ (λ k v b w g call. search rules) _ _ c.retain.ensures.filtered)
+    ∙ all_sure c.self.inside.held.entries q ∙ ap (λ (l : Rows). made_sure (file_at q l)) c.self.view_is
