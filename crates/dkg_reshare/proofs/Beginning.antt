@@ -70,10 +70,10 @@ module _ {Dir : Type 0} (c : Fixed Dir) (reshare : c.oneshot ≡ None) (bare : c
       ∙ (λ i. bind (opens_store c.seen c.life c.opening_calls) (λ r. resharing r i))
 
 -- what is in memory as the setup begins
-pub begun_live : {Dir : Type 0} (c : Fixed Dir) (source : Source Dir) → c.source ≡ source → (fence : Readiness) → fence ≡ no_fence → (store : Store Dir) → store.current ≡ None → (life : Life Dir)
-    → life ≡ record { store = store; tip = startup_of source; epoch = 0; midpoint = 0; stage = Following; round = None; player = None }
+pub begun_live : {Dir : Type 0} (c : Fixed Dir) (source : Source Dir) → c.source ≡ source → (fence : Readiness) → fence ≡ no_fence → (word : ℕ) (store : Store Dir) → store.current ≡ None → (life : Life Dir)
+    → life ≡ record { word = word; store = store; tip = startup_of source; epoch = 0; midpoint = 0; stage = Following; round = None; dealer = None; player = None }
     → live_of nothing_beside fence life ≡ begun_at c (records_of store)
-begun_live {Dir} c source lent fence fresh store current life is =
+begun_live {Dir} c source lent fence fresh word store current life is =
     ap (λ (l : Life Dir). live_of nothing_beside fence l) is
     ∙ (λ i. record (begun_by (records_of store)) {
       tip = startup_of (sym lent i);

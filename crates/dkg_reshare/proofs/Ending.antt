@@ -3,7 +3,7 @@ use Rattle.std.proofs.Common.{◌≡◌, Bool, Result, Ok, Err, refl}
 use Rattle.dkg_journal.specs.Names.{Files}
 use Rattle.dkg_store.specs.declared.devices.Devices.{Devices}
 use Rattle.dkg_reshare.specs.declared.config.Terms.{Terms}
-use Rattle.dkg_reshare.specs.Rules.{AckOf}
+use Rattle.dkg_reshare.specs.Rules.{AckOf, CheckAckOf, DealOf}
 use Rattle.dkg_reshare.specs.declared.actor.State.{State}
 use Rattle.dkg_reshare.specs.declared.actor.State.TheVariants.{New, Living, Failed as HadFailed}
 use Rattle.dkg_reshare.specs.declared.life.Life.{Life}
@@ -27,11 +27,12 @@ module _ {Dir : Type 0} where
   failed_ends HadFailed stop P is = is
 
 -- What a call says of its end is what the next one asks for.
-pub stands_again : {Dir D X : Type 0} (tells : Bool) (files : D → Files) (image : D → Files → Type 0) (ack_of : AckOf) (terms : Terms) (state : State Dir) (devices : Devices D X) (result : Result (Unit {0}) Stop)
-    → EndsAt state result (λ life. IsReadyLife tells files image ack_of terms life devices) → IsAt tells files image ack_of terms state devices
-stands_again tells files image ack_of terms New devices (Ok done) ends = absurd ends
-stands_again tells files image ack_of terms (Living life) devices (Ok done) ends = record { opened = λ new. new; ready = ends }
-stands_again tells files image ack_of terms HadFailed devices (Ok done) ends = absurd ends
-stands_again tells files image ack_of terms New devices (Err stop) ends = absurd ends
-stands_again tells files image ack_of terms (Living life) devices (Err stop) ends = absurd ends
-stands_again tells files image ack_of terms HadFailed devices (Err stop) ends = record { opened = λ new. new; ready = tt }
+pub stands_again : {Dir D X : Type 0} (tells : Bool) (files : D → Files) (image : D → Files → Type 0) (ack_of : AckOf) (deal_of : DealOf) (check_ack_of : CheckAckOf) (terms : Terms)
+    (state : State Dir) (devices : Devices D X) (result : Result (Unit {0}) Stop)
+    → EndsAt state result (λ life. IsReadyLife tells files image ack_of deal_of check_ack_of terms life devices) → IsAt tells files image ack_of deal_of check_ack_of terms state devices
+stands_again tells files image ack_of deal_of check_ack_of terms New devices (Ok done) ends = absurd ends
+stands_again tells files image ack_of deal_of check_ack_of terms (Living life) devices (Ok done) ends = record { opened = λ new. new; ready = ends }
+stands_again tells files image ack_of deal_of check_ack_of terms HadFailed devices (Ok done) ends = absurd ends
+stands_again tells files image ack_of deal_of check_ack_of terms New devices (Err stop) ends = absurd ends
+stands_again tells files image ack_of deal_of check_ack_of terms (Living life) devices (Err stop) ends = absurd ends
+stands_again tells files image ack_of deal_of check_ack_of terms HadFailed devices (Err stop) ends = record { opened = λ new. new; ready = tt }

@@ -28,7 +28,7 @@ use Rattle.dkg_reshare.specs.Given.{IsOf}
 use Rattle.dkg_reshare.specs.Heard.{answers, pairs_after, round_dealt}
 use Rattle.dkg_reshare.specs.LiveOf.{Beside, IsSeated, Sits, SitsAt, live_of, seat_of}
 use Rattle.dkg_reshare.specs.Made.{MakesAt}
-use Rattle.dkg_reshare.specs.Rules.{AckOf, AnswersBy, DealingOf}
+use Rattle.dkg_reshare.specs.Rules.{AckOf, AnswersBy, CheckAckOf, DealingOf}
 use Rattle.dkg_core.specs.Said.{Said}
 use Rattle.dkg_reshare.specs.Steps.{told_by}
 use Rattle.dkg_reshare.proofs.Hearing.{dealing_made, dealing_said, dealing_stopped, dealing_unsaid, ends_at}
@@ -47,7 +47,7 @@ module _ {Dir : Type 0} (dealing_of : DealingOf) (ack_of : AckOf) (its : ℕ) (t
     abbrev its_acts : Acts Fault (Result (List ℕ) DealingError)
     its_acts = answers dealing_of ack_of player.me player.round (get old.store.dealings (epoch, from)) epoch from public private
 
-    module _ (c : Fixed Dir) (round : Round) (beside : Beside Dir) (fence : Readiness) (of : IsOf terms c) (by : AnswersBy dealing_of ack_of c.rules) (has : old.round ≡ Some round) where
+    module _ (c : Fixed Dir) (round : Round) (beside : Beside Dir) (fence : Readiness) (of : IsOf terms c) {check_ack_of : CheckAckOf} (by : AnswersBy dealing_of ack_of check_ack_of c.rules) (has : old.round ≡ Some round) where
       abbrev course : Course Dir Fault (Live Dir)
       course = dealing.seats_dealing_in c round from public private (live_of beside fence old) (seat_of old.player)
 

@@ -37,7 +37,7 @@ use Rattle.dkg_reshare.proofs.Said.{said_next, said_early}
 
 module _ {Dir : Type 0} (c : Fixed Dir) (round : Round) (from : ℕ) (public : List ℕ) (private : ℕ) (st : Live Dir) where
   -- what is in memory then
-  abbrev heard : Option (List ℕ × ℕ) → Result (Unit {0}) DealingError → Live Dir
+  abbrev pub heard : Option (List ℕ × ℕ) → Result (Unit {0}) DealingError → Live Dir
   heard (Some kept) check = st
   heard None (Err e) = st
   heard None (Ok passed) = dealing.with_dealing_of round.number from public private st
@@ -56,7 +56,7 @@ module _ {Dir : Type 0} (c : Fixed Dir) (round : Round) (from : ℕ) (public : L
   hears_as None = checked_as its_check
 
 -- what a life has in memory behind it
-heard_live : {Dir : Type 0} (c : Fixed Dir) (round : Round) (from : ℕ) (public : List ℕ) (private : ℕ) (beside : Beside Dir) (fence : Readiness) (old new : Life Dir)
+pub heard_live : {Dir : Type 0} (c : Fixed Dir) (round : Round) (from : ℕ) (public : List ℕ) (private : ℕ) (beside : Beside Dir) (fence : Readiness) (old new : Life Dir)
     → new ≡ record old { store = new.store; player = new.player } → SameRest old.store new.store → seat_of new.player ≡ seat_of old.player
     → (known : Option (List ℕ × ℕ)) (check : Result (Unit {0}) DealingError)
     → new.store.dealings ≡ pairs_after known check (round.number, from) (public, private) old.store.dealings

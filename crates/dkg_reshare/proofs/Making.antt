@@ -17,6 +17,7 @@ use Rattle.dkg_store.specs.declared.store.Store.{Store}
 use Rattle.dkg_core.specs.Courses.{Course}
 use Rattle.dkg_core.specs.Fixed.{Fixed, has}
 use Rattle.dkg_core.specs.Live.{Live, Plays, Watches, of_epoch}
+use Rattle.dkg_core.specs.Live as live
 use Rattle.dkg_core.specs.Logs.{logs_of}
 use Rattle.dkg_core.specs.Setup as setup
 use Rattle.dkg_reshare.specs.Ends.{stop_of}
@@ -32,7 +33,7 @@ at_one : (b : Bool) → true ≡ not b → b ≡ false
 at_one true e = absurd (let h : true ≡ false = e in cc)
 at_one false e = refl
 
-module _ {Dir : Type 0} (c : Fixed Dir) (round : Round) (phase : Phase) (st : Live Dir) (store : Store Dir) (me : ℕ) (bears_ack_of : BearsAckOf) (dealing_of : DealingOf)
+module _ {Dir : Type 0} (c : Fixed Dir) (round : Round) (phase : Phase) (dealer : Option live.Dealer) (st : Live Dir) (store : Store Dir) (me : ℕ) (bears_ack_of : BearsAckOf) (dealing_of : DealingOf)
     (records : st.records ≡ records_of store) (mine : c.me ≡ me) (bears : c.rules.bears_ack_of ≡ bears_ack_of) (checks : c.rules.dealing_of ≡ dealing_of)
   where
     -- the store's tests
@@ -50,37 +51,37 @@ module _ {Dir : Type 0} (c : Fixed Dir) (round : Round) (phase : Phase) (st : Li
     refused_is = λ i. first_refused (λ d. checks i round (mine i) d) (setup.pairs_of (record st { records = records i }) round.number)
 
     abbrev part_in : Bool → Option ℕ → Course Dir Fault (Live Dir)
-    part_in watches refused = if watches then setup.takes_part c round phase None Watches st else setup.sits_down c round phase None refused st
+    part_in watches refused = if watches then setup.takes_part c round phase dealer Watches st else setup.sits_down c round phase dealer refused st
 
-    makes_is : (h l : Bool) (r : Option ℕ) → has round.players me ≡ h → orphan ≡ l → refusal ≡ r → setup.makes_player c round phase None st ≡ part_in (not h || l) r
+    makes_is : (h l : Bool) (r : Option ℕ) → has round.players me ≡ h → orphan ≡ l → refusal ≡ r → setup.makes_player c round phase dealer st ≡ part_in (not h || l) r
     makes_is h l r plays lost refused =
         let hp : has round.players c.me ≡ h = ap (has round.players) mine ∙ plays in
         let lp : setup.is_lost c round (of_epoch round.number st.records.dealings) (logs_of st round.number) ≡ l = lost_is ∙ lost in
         let rp : setup.refused_in c round st ≡ r = refused_is ∙ refused in
         λ i. part_in (not (hp i) || lp i) (rp i)
 
-    pub no_player : has round.players me ≡ false → setup.makes_player c round phase None st ≡ setup.takes_part c round phase None Watches st
+    pub no_player : has round.players me ≡ false → setup.makes_player c round phase dealer st ≡ setup.takes_part c round phase dealer Watches st
     no_player plays = makes_is false orphan refusal plays refl refl
 
-    pub orphaned : has round.players me ≡ true → orphan ≡ true → setup.makes_player c round phase None st ≡ setup.takes_part c round phase None Watches st
+    pub orphaned : has round.players me ≡ true → orphan ≡ true → setup.makes_player c round phase dealer st ≡ setup.takes_part c round phase dealer Watches st
     orphaned plays lost = makes_is true true refusal plays lost refl
 
-    pub made : has round.players me ≡ true → orphan ≡ false → refusal ≡ None → setup.makes_player c round phase None st ≡ setup.takes_part c round phase None Plays st
+    pub made : has round.players me ≡ true → orphan ≡ false → refusal ≡ None → setup.makes_player c round phase dealer st ≡ setup.takes_part c round phase dealer Plays st
     made plays lost refused = makes_is true false None plays lost refused
 
-    pub refused : (dealer : ℕ) → has round.players me ≡ true → orphan ≡ false → refusal ≡ Some dealer
-        → setup.makes_player c round phase None st ≡ setup.sits_down c round phase None (Some dealer) st
-    refused dealer plays lost is = makes_is true false (Some dealer) plays lost is
+    pub refused : (by : ℕ) → has round.players me ≡ true → orphan ≡ false → refusal ≡ Some by
+        → setup.makes_player c round phase dealer st ≡ setup.sits_down c round phase dealer (Some by) st
+    refused by plays lost is = makes_is true false (Some by) plays lost is
 
     -- what the store answers
     pub makes_seat : (player : Option Player) → has round.players me ≡ true → is_some player ≡ not orphan → IfSome player (λ p. refusal ≡ None)
-        → MakesPlayer c round phase st (Ok player)
+        → MakesPlayer c round phase dealer st (Ok player)
     makes_seat None plays some passes = orphaned plays (at_none orphan some)
     makes_seat (Some player) plays some passes = made plays (at_one orphan some) passes
 
     pub makes_stop : (e : StoreError) → has round.players me ≡ true
-        → (e ≡ NoMemory) ⊎ ((dealer : ℕ) × (e ≡ LocalState (StoredDealing round.number dealer)) × (refusal ≡ Some dealer) × (orphan ≡ false))
-        → MakesPlayer c round phase st (Err (stop_of e))
+        → (e ≡ NoMemory) ⊎ ((by : ℕ) × (e ≡ LocalState (StoredDealing round.number by)) × (refusal ≡ Some by) × (orphan ≡ false))
+        → MakesPlayer c round phase dealer st (Err (stop_of e))
     makes_stop e plays (inl none) = inl (ap (λ (x : StoreError). stop_of x) none)
     makes_stop e plays (inr a) = inr (a.0, ap (λ (x : StoreError). stop_of x) a.1, refused_is ∙ a.2, refused a.0 plays a.3 a.2)
 

@@ -52,10 +52,9 @@ use Rattle.dkg_reshare.specs.Actors.{IsFoundAt}
 use Rattle.dkg_reshare.specs.declared.config.Terms.{Terms}
 use Rattle.dkg_reshare.specs.declared.life.Life.{Life}
 use Rattle.dkg_reshare.specs.declared.life.Stage.TheVariants.{Following}
-use Rattle.dkg_types.specs.declared.scheme.SchemeInfo.{SchemeInfo}
 use Rattle.dkg_reshare.specs.Ends.{IsCausedBy, by_stop, ends_in, stop_of}
-use Rattle.dkg_reshare.specs.Given.{AreGivenFrom, HasRead, IsLent, reading}
-use Rattle.dkg_reshare.specs.LiveOf.{Beside, EndsBeside, live_of, no_fence, nothing_beside, records_of}
+use Rattle.dkg_reshare.specs.Given.{AreGivenFrom, CanRead, HasRead, IsLent, reading}
+use Rattle.dkg_reshare.specs.LiveOf.{live_of, no_fence, nothing_beside, records_of}
 use Rattle.dkg_reshare.specs.Made.{MakesAt, Tells, UnlessBroken}
 use Rattle.dkg_reshare.specs.Moved.{StaysFrom}
 use Rattle.dkg_reshare.specs.Opened.{IsInGrammar, OpensReadable, opens_store, startup_of}
@@ -197,7 +196,6 @@ module _ (Dir : Type 0) (life calls : ℕ) where
       → HasRead (λ s. UnlessBroken (by_stop {S = Records} (stop_of e)) (P s)) (λ s. Tells {Dir = Dir} (opens_store (λ h. s) life calls) (by_stop (stop_of e)) out out)
   store_untold e kind out P = record {
     seen = nothing_seen;
-    shareless = refl;
     unplanned = refl;
     listed = (none_kept, refl);
     given = unless_outside Records (stop_of e) (P nothing_seen) (outside_of_pruning e kind);
@@ -209,7 +207,6 @@ module _ (Dir : Type 0) (life calls : ℕ) where
       → HasRead (λ s. UnlessBroken (by_stop {S = Records} (Faulted fault.NoMemory)) (P s)) (λ s. Tells {Dir = Dir} (opens_store (λ h. s) life calls) (by_stop (Faulted fault.NoMemory)) out now)
   store_unlisted out now same P = record {
     seen = nothing_seen;
-    shareless = refl;
     unplanned = refl;
     listed = (none_kept, refl);
     given = tt;
@@ -271,11 +268,11 @@ module _ {Dir : Type 0} (c : Fixed Dir) (today : IsOpeningOfToday c) (unplanned 
   opening_untold stop told = tells_as store_first (by_stop stop) (early_told (opens_store seen number calls) (sets_up_over c) stop told)
 
   -- .. or the setup was made over it
-  module _ (source : Source Dir) (lent : c.source ≡ source) (fence : Readiness) (fresh : fence ≡ no_fence) (store : Store Dir) (current : store.current ≡ None) (life : Life Dir)
-      (is : life ≡ record { store = store; tip = startup_of source; epoch = 0; midpoint = 0; stage = Following; round = None; player = None }) (how : Ended Fault (Live Dir))
+  module _ (source : Source Dir) (lent : c.source ≡ source) (fence : Readiness) (fresh : fence ≡ no_fence) (word : ℕ) (store : Store Dir) (current : store.current ≡ None) (life : Life Dir)
+      (is : life ≡ record { word = word; store = store; tip = startup_of source; epoch = 0; midpoint = 0; stage = Following; round = None; dealer = None; player = None }) (how : Ended Fault (Live Dir))
     where
       setup_is : setup.setup c None (begun_at c (records_of store)) ≡ setup.setup c None (live_of nothing_beside fence life)
-      setup_is = ap (λ (st : Live Dir). setup.setup c None st) (sym (begun_live c source lent fence fresh store current life is))
+      setup_is = ap (λ (st : Live Dir). setup.setup c None st) (sym (begun_live c source lent fence fresh word store current life is))
 
       pub opening_made : {files files_mid files_now : Files} {image between now : Files → Type 0} {old mid new : Moment}
           → MakesAt (on_devices (opens_store {Dir = Dir} seen number calls)) (went (records_of store)) files image files_mid between old mid
@@ -292,28 +289,34 @@ module _ {Dir : Type 0} (c : Fixed Dir) (today : IsOpeningOfToday c) (unplanned 
           (asked_told (setup.setup c None (begun_at c (records_of store))) how (tells_as setup_is how second)))
 
 -- of which something was read
-pub reading_lent : {Dir : Type 0} (terms : Terms) (source : Source Dir) (word : ℕ) (c : Fixed Dir) (s : Seen) → s.shares ≡ [] → s.plan ≡ None → IsLent terms source word c → IsLent terms source word (reading s c)
-reading_lent terms source word c s shareless unplanned its = record {
+pub reading_lent : {Dir : Type 0} (terms : Terms) (source : Source Dir) (word its : ℕ) (c : Fixed Dir) (s : Seen) → its ≡ word → s.plan ≡ None → IsLent terms source word c → IsLent terms source its (reading s c)
+reading_lent terms source word its c s same unplanned lent = record {
   of = record {
-    me = its.of.me;
-    blocks = its.of.blocks;
-    limit = its.of.limit;
-    version = its.of.version;
-    mode = its.of.mode;
-    reveal = its.of.reveal;
-    namespace = its.of.namespace;
-    shareless = λ h. shareless;
+    me = lent.of.me;
+    blocks = lent.of.blocks;
+    limit = lent.of.limit;
+    version = lent.of.version;
+    mode = lent.of.mode;
+    reveal = lent.of.reveal;
+    namespace = lent.of.namespace;
     unplanned = λ h. unplanned;
-    reshare = its.of.reshare;
-    bare = its.of.bare;
+    reshare = lent.of.reshare;
+    bare = lent.of.bare;
   };
-  lent = its.lent;
-  word_is = its.word_is;
+  lent = lent.lent;
+  word_is = lent.word_is ∙ sym same;
 }
 
-pub beside_as : {Dir : Type 0} {beside : Beside Dir} {T U : List (ℕ × SchemeInfo) → Type 0} {P Q : Beside Dir → Type 0} → ((more : List (ℕ × SchemeInfo)) → T more → U more) → ((now : Beside Dir) → P now → Q now)
-    → EndsBeside beside T P → EndsBeside beside U Q
-beside_as took so ends = record { now = ends.now; more = ends.more; schemes = ends.schemes; took = took ends.more ends.took; probe = ends.probe; orchestrator = ends.orchestrator; holds = so ends.now ends.holds }
+-- the word of the life that was begun
+pub lent_to : {Dir : Type 0} (terms : Terms) (source : Source Dir) (word its : ℕ) (c : Fixed Dir) → its ≡ word → IsLent terms source word c → IsLent terms source its c
+lent_to terms source word its c same lent = record { of = lent.of; lent = lent.lent; word_is = lent.word_is ∙ sym same }
+
+-- what a store gave back, with the shares and the seeds that a setup behind it read
+abbrev pub with_secrets : Seen → Held → Seen
+with_secrets s h = record s { shares = maps.entries h.secrets.shares; seeds = maps.entries h.secrets.seeds }
+
+pub can_read : {Dir : Type 0} (s : Seen) (h : Held) (c : Fixed Dir) → CanRead (reading (with_secrets s h) c) h
+can_read s h c = (h, refl, refl)
 
 -- MEMORY AND DEVICES AGREE
 

@@ -1,4 +1,4 @@
--- A peer's message that is read, and the dealing that it is.
+-- A peer's message that is read.
 use Rattle.std.proofs.Common.{◌≡◌, ℕ, List, Option, Some, None, Result, Ok, Err, refl, ap}
 use Rattle.std.specs.Prelude.{option_map, if◌then◌else◌}
 use Rattle.std.specs.Option.{option_map_or}
@@ -10,7 +10,6 @@ use Rattle.dkg_fence.specs.Readiness.{Readiness}
 use Rattle.dkg_types.specs.MessageCodes.{message_at}
 use Rattle.dkg_types.specs.declared.fault.Fault.{Fault}
 use Rattle.dkg_types.specs.declared.message.Message.{Message as Channel}
-use Rattle.dkg_types.specs.declared.message.Message.TheVariants.{Dealer as ADealing}
 use Rattle.dkg_core.specs.Courses.{Course, Goes}
 use Rattle.dkg_core.specs.Dealing as dealing
 use Rattle.dkg_core.specs.Fixed.{Fixed}
@@ -47,8 +46,6 @@ module _ {Dir : Type 0} (c : Fixed Dir) (from : ℕ) (bytes : List ℕ) (beside 
   pub reads_it : (epoch : ℕ) → round_dealt life ≡ Some epoch → Reads (dealing.hears_peer c from bytes st)
   reads_it epoch dealt = reads_in life.stage life.round epoch dealt refl
 
-  pub reads_dealing : (round : Round) (r : Result Channel CodecError) (public : List ℕ) (private : ℕ) → result_ok r ≡ Some (ADealing public private)
-      → dealing.reads c round from st r ≡ dealing.seats_dealing_in c round from public private st st.participation.seat
-  reads_dealing round (Ok message) public private is =
-      ap (λ (m : Channel). dealing.reads c round from st (Ok m)) (same_some message (ADealing public private) is)
-  reads_dealing round (Err e) public private is = absurd cc
+  pub reads_message : (round : Round) (r : Result Channel CodecError) (message : Channel) → result_ok r ≡ Some message → dealing.reads c round from st r ≡ dealing.reads c round from st (Ok message)
+  reads_message round (Ok read) message is = ap (λ (m : Channel). dealing.reads c round from st (Ok m)) (same_some read message is)
+  reads_message round (Err e) message is = absurd cc

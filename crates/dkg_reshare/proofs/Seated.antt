@@ -53,8 +53,3 @@ pub seated_in : {Dir : Type 0} (ack_of : AckOf) (me : ℕ) (life : Life Dir) (ro
     → IfSome player (SitsIn ack_of me life.store round) → IfSome player (Sits ack_of me life)
 seated_in ack_of me life round has None sits = tt
 seated_in ack_of me life round has (Some player) sits = record { round = round; has = has; sits = sits }
-
--- a life that a setup went on with
-pub same_but : {Dir : Type 0} (old new : Life Dir) → new.epoch ≡ old.epoch → new.midpoint ≡ old.midpoint → new.tip ≡ old.tip
-    → new ≡ record old { store = new.store; stage = new.stage; round = new.round; player = new.player }
-same_but old new epoch midpoint tip = λ i. record new { epoch = epoch i; midpoint = midpoint i; tip = tip i }

@@ -1,5 +1,5 @@
 -- The parts of a setup, and the store's calls that they are.
-use Rattle.std.proofs.Common.{◌≡◌, ℕ, ◌==◌, arith, Bool, cond, nat_le, List, [], ◌∷◌, ◌++◌, Option, Some, None, Result, refl, sym, ◌∙◌, ap, subst, append-nil}
+use Rattle.std.proofs.Common.{◌≡◌, ℕ, ◌==◌, arith, Bool, cond, nat_le, List, [], ◌∷◌, ◌++◌, Option, Some, None, Result, Ok, Err, refl, sym, ◌∙◌, ap, subst, append-nil}
 use Rattle.std.specs.Prelude.{IfErr, OnErr, OnOk}
 use Rattle.std.specs.FinMap as maps
 use Rattle.std.specs.FinMap.{FinMap, find, get, get-entries}
@@ -15,17 +15,16 @@ use Rattle.dkg_types.specs.declared.fault.Fault.{Fault}
 use Rattle.dkg_types.specs.declared.fault.Fault.TheVariants.{NoMemory}
 use Rattle.dkg_types.specs.declared.info.EpochInfo.{EpochInfo}
 use Rattle.dkg_store.specs.Acts as acts_of
-use Rattle.dkg_store.specs.Acts.{Acts, Ended, Held, MadeAt, Moment, moment, went}
+use Rattle.dkg_store.specs.Acts.{Acts, Ended, MadeAt, Moment, moment, went}
 use Rattle.dkg_store.specs.Errors.{IsOfDevices}
 use Rattle.dkg_secrets.specs.Secrets.{Secrets}
 use Rattle.dkg_store.specs.declared.call.StoreError.{StoreError}
-use Rattle.dkg_store.specs.Calls.{by_error, seeding, committing, pruning}
+use Rattle.dkg_store.specs.Calls.{by_error, committing, pruning}
+use Rattle.dkg_store.specs.declared.call.StoreError.TheVariants.{NoMemory as StoreWant}
 use Rattle.dkg_secrets.specs.Keys.{key_cmp}
 use Rattle.dkg_store.specs.declared.store.Store.{Store}
 use Rattle.dkg_core.specs.Courses.{on_devices}
-use Rattle.dkg_core.specs.Fixed.{Fixed}
 use Rattle.dkg_core.specs.Live.{Live}
-use Rattle.dkg_core.specs.Seen.{Seen}
 use Rattle.dkg_core.specs.Setup as setup
 use Rattle.dkg_core.proofs.Agreeing.{entries_kept}
 use Rattle.dkg_reshare.specs.declared.life.Life.{Life}
@@ -33,11 +32,10 @@ use Rattle.dkg_reshare.specs.declared.stop.Stop.{Stop}
 use Rattle.dkg_reshare.specs.declared.stop.Stop.TheVariants.{Fault as Faulted}
 use Rattle.dkg_reshare.specs.Ends.{by_stop, ends_in, fault_of, stop_of}
 use Rattle.dkg_reshare.specs.LiveOf.{Beside, live_of, records_of}
-use Rattle.dkg_core.specs.Said.{Said}
+use Rattle.dkg_core.specs.Said.{Said, SaysAll}
 use Rattle.dkg_reshare.specs.Made.{Burns, MakesAt}
-use Rattle.dkg_reshare.specs.Steps.{reads_seed}
-use Rattle.dkg_reshare.specs.Today.{seen_today}
-use Rattle.dkg_reshare.proofs.Burning.{burns_still, line_makes, makes_early, makes_error, makes_next, makes_nothing, makes_under}
+use Rattle.dkg_reshare.proofs.Burning.{line_makes, makes_early, makes_error, makes_next, makes_nothing, makes_under}
+use Rattle.dkg_reshare.proofs.Said.{said_none}
 
 equal_alike : (q k : ℕ) → eq_by_cmp nat_cmp q k ≡ (k == q)
 equal_alike q k = grind (arith, nat_tests)
@@ -51,13 +49,6 @@ find_is_lookup {V} q (e ∷ es) =
 -- what is read of a map as a list is what it has
 pub looked_up : {V : Type 0} (k : ℕ) (m : FinMap nat_cmp V) → lookup k (maps.entries m) ≡ get m k
 looked_up k m = sym (find_is_lookup k (maps.entries m)) ∙ sym (get-entries m k)
-
-pub reads_as : {Dir : Type 0} (c : Fixed Dir) (epoch : ℕ) → c.seen ≡ seen_today
-    → on_devices (reads_seed c epoch) ≡ acts_of.bind (acts_of.under fault_of (seeding epoch)) (λ seed. acts_of.Goes (setup.seed_for c epoch seed))
-reads_as c epoch reads = λ i. acts_of.Ask (λ h. acts_of.Goes (setup.seed_for c epoch (same h i)))
-  where
-    same : (h : Held) → lookup epoch (c.seen h).seeds ≡ get h.secrets.seeds epoch
-    same h = ap (λ (seen : Held → Seen). lookup epoch (seen h).seeds) reads ∙ looked_up epoch h.secrets.seeds
 
 -- what a commit leaves in memory
 pub committed_live : {Dir : Type 0} (info : EpochInfo Dir) (beside : Beside Dir) (fence : Readiness) (life : Life Dir) (store : Store Dir)
@@ -84,35 +75,50 @@ pruned_records min old new dealings acks logs = λ i. record {
 
 -- MADE OVER THE DEVICES
 
-module _ {Dir : Type 0} (c : Fixed Dir) (epoch : ℕ) (reads : c.seen ≡ seen_today) {files files_now : Files} {image now : Files → Type 0} {old new : Moment} where
-  pub seed_read : (found : Option (List ℕ)) (seed : List ℕ) → seed ≡ setup.seed_for c epoch found → MadeAt (seeding epoch) (went found) files image files_now now old new → new.fuse ≡ old.fuse
-      → MakesAt (on_devices (reads_seed c epoch)) (went seed) files image files_now now old new
-  seed_read found seed is made still =
-      subst (λ (x : Acts Fault (List ℕ)). MakesAt x (went seed) files image files_now now old new) (sym (reads_as c epoch reads))
-      (makes_next (λ its. acts_of.Goes (setup.seed_for c epoch its)) (makes_under (went found) made (burns_still (went found) still)) (makes_nothing files_now now new is))
+-- a commit's acts are the store's, and then its line
+commits_as : {Dir : Type 0} (info : EpochInfo Dir) (seed : List ℕ) (share : Option ℕ) (st : Live Dir)
+    → on_devices (setup.commits info seed share st)
+    ≡ acts_of.bind (acts_of.under fault_of (committing info.epoch seed share)) (λ done. acts_of.Say (Committed info.epoch share) (acts_of.Goes (record st { participation = record st.participation { current = Some info } })))
+commits_as info seed None st = refl
+commits_as info seed (Some share) st = refl
 
-module _ {Dir : Type 0} (info : EpochInfo Dir) (seed : List ℕ) (st : Live Dir) where
+module _ {Dir : Type 0} (info : EpochInfo Dir) (seed : List ℕ) (share : Option ℕ) (st : Live Dir) where
   abbrev with_info : Live Dir
   with_info = record st { participation = record st.participation { current = Some info } }
 
   abbrev then_tells : Unit {0} → Acts Fault (Live Dir)
-  then_tells done = acts_of.Say (Committed info.epoch None) (acts_of.Goes with_info)
+  then_tells done = acts_of.Say (Committed info.epoch share) (acts_of.Goes with_info)
+
+  -- whatever the devices tell
+  pub commit_said : (end : Live Dir) → end ≡ with_info → (result : Result (Unit {0}) Stop) {out told : List Line}
+      → OnOk result (told ≡ out ++ Committed info.epoch share ∷ []) → OnErr result (told ≡ out) → IfErr result (λ stop. stop ≡ Faulted NoMemory)
+      → Said (on_devices (setup.commits info seed share st)) (ends_in end result) out told
+  commit_said end is (Ok done) {out} {told} told_it untold memory = record { lines = Committed info.epoch share ∷ []; added = told_it; by = says share }
+    where
+      says : (its : Option ℕ) → SaysAll (on_devices (setup.commits info seed its st)) end (Committed info.epoch its ∷ [])
+      says None = ([], refl, (refl, is))
+      says (Some one) = ([], refl, (refl, is))
+  commit_said end is (Err stop) {out} {told} told_it untold memory =
+      subst (λ (its : Ended Fault (Live Dir)). Said (on_devices (setup.commits info seed share st)) its out told) (sym (ap (λ (its : Stop). by_stop {S = Live Dir} its) memory))
+      (said_none (on_devices (setup.commits info seed share st)) StoreWant tt untold)
 
   module _ {files files_now : Files} {image now : Files → Type 0} where
     pub commit_made : (end : Live Dir) → end ≡ with_info → (result : Result (Unit {0}) Stop) {old : Moment} {out told : List Line} {s : Secrets} {f : Burn}
-        → MadeAt (committing info.epoch seed None) (went tt) files image files_now now old (moment out s f) → Burns {F = StoreError} {S = Unit {0}} (went tt) old.fuse f
-        → OnOk result (told ≡ out ++ Committed info.epoch None ∷ []) → OnErr result (told ≡ out) → IfErr result (λ stop. stop ≡ Faulted NoMemory)
-        → MakesAt (on_devices (setup.commits info seed None st)) (ends_in end result) files image files_now now old (moment told s f)
+        → MadeAt (committing info.epoch seed share) (went tt) files image files_now now old (moment out s f) → Burns {F = StoreError} {S = Unit {0}} (went tt) old.fuse f
+        → OnOk result (told ≡ out ++ Committed info.epoch share ∷ []) → OnErr result (told ≡ out) → IfErr result (λ stop. stop ≡ Faulted NoMemory)
+        → MakesAt (on_devices (setup.commits info seed share st)) (ends_in end result) files image files_now now old (moment told s f)
     commit_made end is result {old} {out} {told} {s} {f} made burns told_it untold memory =
-        subst (λ (x : Live Dir). MakesAt (on_devices (setup.commits info seed None st)) (ends_in x result) files image files_now now old (moment told s f)) (sym is)
-        (makes_next then_tells (makes_under (went tt) made burns) (line_makes (Committed info.epoch None) with_info result files_now now s f told_it untold memory))
+        subst (λ (x : Live Dir). MakesAt (on_devices (setup.commits info seed share st)) (ends_in x result) files image files_now now old (moment told s f)) (sym is)
+        (subst (λ (x : Acts Fault (Live Dir)). MakesAt x (ends_in with_info result) files image files_now now old (moment told s f)) (sym (commits_as info seed share st))
+        (makes_next then_tells (makes_under (went tt) made burns) (line_makes (Committed info.epoch share) with_info result files_now now s f told_it untold memory)))
 
     pub commit_failed : (its : EpochInfo Dir) → its ≡ info → (e : StoreError) → IsOfDevices e → {old new : Moment}
-        → MadeAt (committing its.epoch seed None) (by_error e) files image files_now now old new → new.fuse.call ≡ old.fuse.call → new.fuse.pick ≡ old.fuse.pick
-        → MakesAt (on_devices (setup.commits info seed None st)) (by_stop (stop_of e)) files image files_now now old new
+        → MadeAt (committing its.epoch seed share) (by_error e) files image files_now now old new → new.fuse.call ≡ old.fuse.call → new.fuse.pick ≡ old.fuse.pick
+        → MakesAt (on_devices (setup.commits info seed share st)) (by_stop (stop_of e)) files image files_now now old new
     commit_failed its same e kind {old} {new} made call pick =
-        makes_early then_tells (stop_of e)
-        (makes_error e kind (subst (λ (x : EpochInfo Dir). MadeAt (committing x.epoch seed None) (by_error e) files image files_now now old new) same made) call pick)
+        subst (λ (x : Acts Fault (Live Dir)). MakesAt x (by_stop (stop_of e)) files image files_now now old new) (sym (commits_as info seed share st))
+        (makes_early then_tells (stop_of e)
+        (makes_error e kind (subst (λ (x : EpochInfo Dir). MadeAt (committing x.epoch seed share) (by_error e) files image files_now now old new) same made) call pick))
 
 module _ {Dir : Type 0} (min : ℕ) (st : Live Dir) where
   abbrev kept : Live Dir

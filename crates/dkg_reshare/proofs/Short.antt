@@ -1,7 +1,5 @@
 -- A public half within the limit makes an event that a record can hold.
-use Rattle.dkg_types.specs.MessageCodes.{MessageFits}
-use Rattle.dkg_types.specs.declared.message.Message.TheVariants.{Dealer}
-use Rattle.dkg_store.specs.Events.{EventFits, event_spelling}
+use Rattle.dkg_store.specs.Events.{event_spelling}
 use Rattle.dkg_store.specs.declared.event.Event.TheVariants as events
 use Rattle.std.proofs.Common.{◌≤◌, ◌<◌, ◌+◌, ◌*◌, ◌^◌, ℕ, List, length, refl, arith, length-append}
 use Rattle.std.specs.Int.{w32, to_be_bytes}
@@ -15,7 +13,3 @@ public_short public few = omega (arith, uint_short (length public), public_size 
 
 pub event_short : (dealer : ℕ) (public : List ℕ) → length public ≤ 2 ^ 30 → length (event_spelling (events.Dealing dealer public)) < 2 ^ 32
 event_short dealer public few = omega (arith, public_short public few, length-append (to_be_bytes w32 dealer) (public_spelling public))
-
--- a dealing that was read under a limit is within it as an event
-pub dealing_fits : (most from : ℕ) (public : List ℕ) (private : ℕ) → from < 2 ^ 32 → MessageFits most (Dealer public private) → EventFits most (events.Dealing from public)
-dealing_fits most from public private small fits = record { one = small; other = fits.one }

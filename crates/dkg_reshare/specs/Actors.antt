@@ -1,10 +1,9 @@
 -- An actor between two calls, by its state.
-use Rattle.std.specs.Prelude.{List, ◌≡◌, ◌<◌, ◌==◌, not, ℕ, ⊤, Option, Some, None, Bool, if◌then◌else◌, IsTrue, Result, Ok, Err, IsErrOf}
-use Rattle.std.specs.Int.NonZero.{non_zero_u64_get}
+use Rattle.std.specs.Prelude.{List, ◌≡◌, ◌<◌, ◌==◌, ◌&&◌, ◌⊎◌, not, nat_lt, ℕ, ⊤, None, Bool, true, if◌then◌else◌, IsTrue, Result, Ok, Err, IsErrOf}
+use Rattle.std.specs.Int.NonZero.{non_zero_u32_get, non_zero_u64_get}
 use Rattle.std.specs.declared.num.NonZeroU32.{NonZeroU32}
 use Rattle.std.specs.declared.num.NonZeroU64.{NonZeroU64}
-use Rattle.dkg_ceremony.specs.Modes.{supports_of}
-use Rattle.dkg_ceremony.specs.Schedule.{midpoint}
+use Rattle.dkg_ceremony.specs.Schedule.{epoch_of, midpoint}
 use Rattle.dkg_ceremony.specs.declared.mode.Mode.{Mode}
 use Rattle.dkg_ceremony.specs.declared.mode.ModeVersion.{ModeVersion}
 use Rattle.dkg_ceremony.specs.declared.mode.Reveal.{Reveal}
@@ -16,9 +15,9 @@ use Rattle.dkg_secrets.specs.Secrets.{Secrets}
 use Rattle.dkg_store.specs.declared.devices.Devices.{Devices}
 use Rattle.dkg_store.specs.Corrupt.{IsCorruptAt}
 use Rattle.dkg_store.specs.Pairs.{IsWhole}
+use Rattle.dkg_types.specs.Blocks.{Block}
 use Rattle.dkg_types.specs.declared.fault.Fault.{Fault}
-use Rattle.dkg_types.specs.declared.fault.Fault.TheVariants.{Corrupt, InvalidConfig}
-use Rattle.dkg_types.specs.declared.fault.ConfigCause.TheVariants.{Mode as ModeCause, OneBlock}
+use Rattle.dkg_types.specs.declared.fault.Fault.TheVariants.{Corrupt}
 use Rattle.dkg_core.specs.Agreeing.{AreAgreed}
 use Rattle.dkg_core.specs.Live as core
 use Rattle.dkg_core.specs.Live.{Live, Sent}
@@ -26,14 +25,18 @@ use Rattle.dkg_reshare.specs.declared.actor.State.{State}
 use Rattle.dkg_reshare.specs.declared.actor.State.TheVariants.{New, Living, Failed as HadFailed}
 use Rattle.dkg_reshare.specs.declared.config.Terms.{Terms}
 use Rattle.dkg_reshare.specs.declared.life.Life.{Life}
+use Rattle.dkg_reshare.specs.declared.life.Stage.{Stage}
+use Rattle.dkg_reshare.specs.declared.life.Stage.TheVariants as stage
 use Rattle.dkg_reshare.specs.declared.message.Message.{Message}
 use Rattle.dkg_reshare.specs.declared.message.Message.TheVariants as message
 use Rattle.dkg_reshare.specs.declared.stop.Stop.{Stop}
 use Rattle.dkg_reshare.specs.declared.stop.Stop.TheVariants.{Cut, Failed, Fault as Faulted}
 use Rattle.dkg_reshare.specs.Ends.{by_stop, IsCaused}
-use Rattle.dkg_reshare.specs.LiveOf.{IsPlaced, IsSeated, records_of}
+use Rattle.dkg_reshare.specs.declared.tip.Judged.TheVariants.{New as IsNewBlock}
+use Rattle.dkg_reshare.specs.Judged.{judged}
+use Rattle.dkg_reshare.specs.LiveOf.{IsDealing, IsPlaced, IsSeated, IsWithin, records_of}
 use Rattle.dkg_reshare.specs.Moved.{IsFirm}
-use Rattle.dkg_reshare.specs.Rules.{AckOf}
+use Rattle.dkg_reshare.specs.Rules.{AckOf, DealOf, CheckAckOf}
 use Rattle.dkg_reshare.specs.Steps.{stage_in}
 
 -- STATES
@@ -57,21 +60,28 @@ IfLiving HadFailed P = ⊤
 -- BETWEEN TWO CALLS
 
 -- a life on these devices, as the call before left them
-pub record IsReadyLife {Dir D X : Type 0} (tells : Bool) (files : D → Files) (image : D → Files → Type 0) (ack_of : AckOf) (terms : Terms) (life : Life Dir) (devices : Devices D X) : Type 0 where
+pub record IsReadyLife {Dir D X : Type 0} (tells : Bool) (files : D → Files) (image : D → Files → Type 0) (ack_of : AckOf) (deal_of : DealOf) (check_ack_of : CheckAckOf)
+    (terms : Terms) (life : Life Dir) (devices : Devices D X) : Type 0 where
   pub seated : IsSeated ack_of terms.me life
+  pub dealing : IsDealing deal_of check_ack_of terms.me life
   pub placed : IsPlaced (non_zero_u64_get terms.blocks_per_epoch) life
+  pub within : IsWithin (non_zero_u32_get terms.limit) life.round
   pub firm : IsTrue tells → IsFirm life.store.journal (files devices.disk.now) (image devices.disk.now)
 
 -- .. of which this phase's setup is done
-pub record IsSetUp {Dir D X : Type 0} (tells : Bool) (files : D → Files) (image : D → Files → Type 0) (ack_of : AckOf) (me : ℕ) (phase : Phase) (life : Life Dir) (devices : Devices D X) : Type 0 where
+pub record IsSetUp {Dir D X : Type 0} (tells : Bool) (files : D → Files) (image : D → Files → Type 0) (ack_of : AckOf) (deal_of : DealOf) (check_ack_of : CheckAckOf)
+    (me limit : ℕ) (phase : Phase) (life : Life Dir) (devices : Devices D X) : Type 0 where
   pub seated : IsSeated ack_of me life
+  pub dealing : IsDealing deal_of check_ack_of me life
+  pub within : IsWithin limit life.round
   pub stage : life.stage ≡ stage_in phase
   pub firm : IsTrue tells → IsFirm life.store.journal (files devices.disk.now) (image devices.disk.now)
 
 -- It was opened, and its life, if it goes on, stands on these devices.
-pub record IsAt {Dir D X : Type 0} (tells : Bool) (files : D → Files) (image : D → Files → Type 0) (ack_of : AckOf) (terms : Terms) (state : State Dir) (devices : Devices D X) : Type 0 where
+pub record IsAt {Dir D X : Type 0} (tells : Bool) (files : D → Files) (image : D → Files → Type 0) (ack_of : AckOf) (deal_of : DealOf) (check_ack_of : CheckAckOf)
+    (terms : Terms) (state : State Dir) (devices : Devices D X) : Type 0 where
   pub opened : IsNew state → ⊥
-  pub ready : IfLiving state (λ life. IsReadyLife tells files image ack_of terms life devices)
+  pub ready : IfLiving state (λ life. IsReadyLife tells files image ack_of deal_of check_ack_of terms life devices)
 
 -- The devices are whole, and nothing of the disk is loose.
 pub record IsSoundAt {D X : Type 0} (files : D → Files) (image : D → Files → Type 0) (held : X → Secrets) (devices : Devices D X) : Type 0 where
@@ -116,11 +126,30 @@ message_of (message.Over request) = Sent (core.Over request)
 message_of (message.Cancel request) = Sent (core.Cancel request)
 message_of message.Work = Sent (core.Work None)
 
--- What is taken today: a peer's message, or a block below the midpoint of the first epoch.
-abbrev pub IsTakenToday : {Dir Cfg : Type 0} → (blocks : ℕ) → Message Dir Cfg → Type 0
-IsTakenToday blocks (message.Peer from bytes) = ⊤
-IsTakenToday blocks (message.Finalized b) = b.height < midpoint blocks 0
-IsTakenToday blocks its = ⊥
+-- A life without a tip takes a block of its epoch and window, and any while it follows.
+abbrev pub is_in_window_by : Stage → (of_epoch early : Bool) → Bool
+is_in_window_by stage.Dealing of_epoch early = of_epoch && early
+is_in_window_by stage.Including of_epoch early = of_epoch && not early
+is_in_window_by stage.Following of_epoch early = true
+
+-- a block below the midpoint of its epoch
+abbrev pub is_early_in : (blocks height : ℕ) → Bool
+is_early_in blocks height = nat_lt height (midpoint blocks (epoch_of blocks height))
+
+-- The block is applied: it is new over the tip, or without one in the window.
+pub record IsApplied {Dir : Type 0} (blocks : ℕ) (life : Life Dir) (b : Block Dir) : Type 0 where
+  pub is_new : judged life.tip b.height b.digest b.parent ≡ Ok IsNewBlock
+  pub in_window : life.tip ≡ None → is_in_window_by life.stage (epoch_of blocks b.height == life.epoch) (is_early_in blocks b.height) ≡ true
+
+-- A block is taken, unless it is applied at or above the midpoint of its epoch in a life that doesn't follow.
+abbrev pub TakesBlock : {Dir : Type 0} → (blocks : ℕ) → Life Dir → Block Dir → Type 0
+TakesBlock blocks life b = IsApplied blocks life b → (life.stage ≡ stage.Following) ⊎ (b.height < midpoint blocks (epoch_of blocks b.height))
+
+-- What is taken: a peer's message, and a block.
+abbrev pub IsTaken : {Dir Cfg : Type 0} → (blocks : ℕ) → Life Dir → Message Dir Cfg → Type 0
+IsTaken blocks life (message.Peer from bytes) = ⊤
+IsTaken blocks life (message.Finalized b) = TakesBlock blocks life b
+IsTaken blocks life its = ⊥
 
 -- TERMS
 
@@ -134,12 +163,7 @@ pub record AreTerms (terms : Terms) (me : ℕ) (blocks : NonZeroU64) (limit : No
   pub reveal_is : terms.reveal ≡ reveal
   pub namespace_is : terms.namespace ≡ namespace
 
--- REFUSALS
-
--- what a configuration is refused for, in reshare mode
-abbrev pub config_fault : Mode → (version blocks : ℕ) → Option Fault
-config_fault mode version blocks =
-    if not (supports_of version mode) then Some (InvalidConfig ModeCause) else if blocks == 1 then Some (InvalidConfig OneBlock) else None
+-- WHAT IS BLAMED
 
 -- A device is blamed where its count rose, a record where it is the first one out of its grammar, and a cut is the fuse's. What else is blamed, the course
 -- says.

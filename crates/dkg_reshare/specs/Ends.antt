@@ -69,15 +69,15 @@ IsCaused (Faulted fault.Secrets) disk_rose secrets_rose reached = secrets_rose
 IsCaused (Faulted (fault.Corrupt name place)) disk_rose secrets_rose reached = ⊥
 IsCaused stop disk_rose secrets_rose reached = ⊤
 
--- .. of a step, which Failed may end, too
-abbrev pub IsCausedInStep : Stop → (disk_rose secrets_rose reached : Type 0) → Type 0
-IsCausedInStep Failed disk_rose secrets_rose reached = ⊤
-IsCausedInStep stop disk_rose secrets_rose reached = IsCaused stop disk_rose secrets_rose reached
-
 -- .. where records are read: of a disk that tells none is blamed behind an opening
 abbrev pub IsCausedBy : (tells : Bool) → Stop → (disk_rose secrets_rose reached : Type 0) → Type 0
 IsCausedBy tells (Faulted (fault.Corrupt name place)) disk_rose secrets_rose reached = IsTrue tells → ⊥
 IsCausedBy tells stop disk_rose secrets_rose reached = IsCaused stop disk_rose secrets_rose reached
+
+-- .. of a step, which Failed may end, too
+abbrev pub IsCausedInStep : (tells : Bool) → Stop → (disk_rose secrets_rose reached : Type 0) → Type 0
+IsCausedInStep tells Failed disk_rose secrets_rose reached = ⊤
+IsCausedInStep tells stop disk_rose secrets_rose reached = IsCausedBy tells stop disk_rose secrets_rose reached
 
 -- It comes from outside: no course stops by it.
 abbrev pub IsOutside : Stop → Type 0

@@ -1,17 +1,15 @@
--- The form that is built: a reshare, on the first path of an epoch.
-use Rattle.std.specs.Prelude.{◌≡◌, [], None}
-use Rattle.std.specs.FinMap as maps
+-- The form that is built: a reshare, without material, and no plan is read.
+use Rattle.std.specs.Prelude.{◌≡◌, None}
 use Rattle.dkg_store.specs.Acts.{Held, plan}
 use Rattle.dkg_core.specs.Fixed.{Fixed}
 use Rattle.dkg_core.specs.Seen.{Seen, seen_in}
 
--- What is read today: neither a share nor a plan.
+-- What is read today: not the plan.
 abbrev pub seen_today : Held → Seen
-seen_today h = record (seen_in h) { shares = []; plan = None }
+seen_today h = record (seen_in h) { plan = None }
 
--- .. which is all that is meant, where there is neither
+-- .. which is all that is meant, where there is none
 pub record IsHeldOfToday (h : Held) : Type 0 where
-  pub shareless : maps.entries h.secrets.shares ≡ []
   pub unplanned : plan h ≡ None
 
 -- What an opening is given: no ceremony that is held once, and no material.

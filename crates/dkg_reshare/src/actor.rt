@@ -1,25 +1,24 @@
 //! The reshare actor: one opening and then steps, over devices and a source that each call is lent.
-ghost use Rattle.std.specs.Prelude.{◌≡◌, ◌≤◌, ◌-◌, ◌^◌, IfErr, IfOk, IsTrue, None, OnErr, OnOk, Some};
+ghost use Rattle.std.specs.Prelude.{◌≡◌, ◌≤◌, ◌-◌, ◌^◌, IfErr, IfOk, IsTrue, None, OnOk, Some};
 ghost use Rattle.std.specs.Int.NonZero.{non_zero_u32_get, non_zero_u64_get};
-ghost use Rattle.dkg_fence.specs.Readiness.{Readiness};
 ghost use Rattle.dkg_journal.specs.Disk.{Rose};
 ghost use Rattle.dkg_journal.specs.Fuse.{Reached};
 ghost use Rattle.dkg_store.specs.Corrupt.{AreFit};
 ghost use Rattle.dkg_core.specs.Core.{opening, step};
 ghost use Rattle.dkg_core.specs.Fixed.{Fixed};
-ghost use Rattle.dkg_reshare.specs.Actors.{EndsAt, FailsStop, IfLiving, IsAgreed, IsAt, IsFoundAt, IsNew, IsReadyLife, IsSoundAt};
-ghost use Rattle.dkg_reshare.specs.Actors.{AreTerms, IsTakenToday, config_fault, lives, message_of};
-ghost use Rattle.dkg_reshare.specs.Ends.{IsCaused, IsCausedInStep, ends, ends_in};
-ghost use Rattle.dkg_reshare.specs.Given.{AreGivenFrom, HasRead, IsLent, IsOf, reading};
+ghost use Rattle.dkg_reshare.specs.Actors.{AreTerms, EndsAt, FailsStop, IfLiving, IsAgreed, IsAt, IsFoundAt, IsNew, IsReadyLife, IsSoundAt, IsTaken, lives, message_of};
+ghost use Rattle.dkg_reshare.specs.Configured.{config_fault};
+ghost use Rattle.dkg_reshare.specs.Ends.{IsCausedBy, IsCausedInStep, ends, ends_in};
+ghost use Rattle.dkg_reshare.specs.Given.{AreGivenFrom, HasRead, IsIn, IsLent, ReadsToday, reading};
 ghost use Rattle.dkg_reshare.specs.LiveOf.{Beside, EndsBeside, Took, live_of, no_fence, nothing_beside};
 ghost use Rattle.dkg_reshare.specs.Made.{Makes, Tells, UnlessBroken};
 ghost use Rattle.dkg_reshare.specs.Moved.{Moved, StaysAbove};
 ghost use Rattle.dkg_reshare.specs.Opened.{IsInGrammar, IsOpeningOf, OpensReadable, epoch_at};
-ghost use Rattle.dkg_reshare.specs.Rules.{AnswersBy, IsRuledBy};
+ghost use Rattle.dkg_reshare.specs.Rules.{IsRuledBy};
 ghost use Rattle.dkg_reshare.specs.Today.{IsOpeningOfToday};
 
 use crate::blocks::take_block;
-use crate::config::{Config, Terms};
+use crate::config::{Config, Terms, check_config};
 use crate::dealing::hear_peer;
 use crate::life::Life;
 use crate::message::Message;
@@ -30,7 +29,7 @@ use dkg_ceremony::{Ceremony, Signer};
 use dkg_fence::Fence;
 use dkg_journal::Disk;
 use dkg_store::{Devices, SecretStore};
-use dkg_types::{ConfigCause, Directory, Fault, Registrar, Transcript};
+use dkg_types::{Directory, Fault, Registrar, Transcript};
 use std::alloc::Global;
 
 /// Where an actor stands in its life.
@@ -54,29 +53,36 @@ pub struct Actor<C: Ceremony, P, R, M, Dir: Directory> {
     ghost me: { terms.me ≡ C.Signer.key_of signer },
 }
 
-/// Takes a message of today's form: a peer's, or a block below the midpoint (`step`).
-fn take<C: Ceremony, Dir: Directory + Drop, D: Disk, X: SecretStore>(
+/// Takes a message: a peer's, or a block (`step`).
+fn take<C: Ceremony, R: Registrar, Dir: Directory + Drop, D: Disk, X: SecretStore>(
     alloc: Global,
     ceremony: &C,
     signer: &C::Signer,
+    registrar: &mut R,
     terms: &Terms,
     life: &mut Life<Dir>,
     devices: &mut Devices<'_, D, X>,
     message: Message<Dir>,
+    fence: &mut Fence,
     out: &mut Transcript,
 ) -> Result<(), Stop>
+    requires taken { IsTaken (non_zero_u64_get terms.now.blocks_per_epoch) life.old message }
     requires me { terms.now.me ≡ C.Signer.key_of signer.now }
-    requires ready { IsReadyLife D.tells D.files D.image C.ack_of terms.now life.old devices.old }
-    requires today { IsTakenToday (non_zero_u64_get terms.now.blocks_per_epoch) message }
-    ensures ready { OnOk result (IsReadyLife D.tells D.files D.image C.ack_of terms.now life.new devices.new) }
-    ensures acts { IsTrue D.tells → IsTrue X.tells → (c : Fixed Dir) (beside : Beside Dir) (fence : Readiness) → IsOf terms.now c
-        → AnswersBy C.dealing_of C.ack_of c.rules → Makes D.files D.image X.held (step c (message_of message) (live_of beside fence life.old))
-        (ends_in (live_of beside fence life.new) result) devices.old devices.new out.old.entries out.new.entries }
-    ensures tells { (c : Fixed Dir) (beside : Beside Dir) (fence : Readiness) → IsOf terms.now c → AnswersBy C.dealing_of C.ack_of c.rules
-        → Tells (step c (message_of message) (live_of beside fence life.old)) (ends_in (live_of beside fence life.new) result)
-        out.old.entries out.new.entries }
+    requires ready { IsReadyLife D.tells D.files D.image C.ack_of C.deal_of C.check_ack_of terms.now life.old devices.old }
+    ensures ready { OnOk result (IsReadyLife D.tells D.files D.image C.ack_of C.deal_of C.check_ack_of terms.now life.new devices.new) }
+    ensures word { life.new.word ≡ life.old.word }
+    ensures acts { IsTrue D.tells → IsTrue X.tells → (c : Fixed Dir) (beside : Beside Dir) → IsIn terms.now life.old.word c → ReadsToday c
+        → IsRuledBy C.round_of C.deal_of C.dealing_of C.ack_of C.check_ack_of C.sign_log_of C.bears_ack_of C.share_public_of C.partial_public_of c.rules
+        → EndsBeside beside (λ more. OnOk result (Took R.tells (R.taken registrar.old) (R.taken registrar.new) more))
+        (λ now. Makes D.files D.image X.held (step c (message_of message) (live_of beside fence.old life.old)) (ends_in (live_of now fence.new life.new) result)
+        devices.old devices.new out.old.entries out.new.entries) }
+    ensures tells { (c : Fixed Dir) (beside : Beside Dir) → IsIn terms.now life.old.word c → ReadsToday c
+        → IsRuledBy C.round_of C.deal_of C.dealing_of C.ack_of C.check_ack_of C.sign_log_of C.bears_ack_of C.share_public_of C.partial_public_of c.rules
+        → EndsBeside beside (λ more. OnOk result (Took R.tells (R.taken registrar.old) (R.taken registrar.new) more))
+        (λ now. Tells (step c (message_of message) (live_of beside fence.old life.old)) (ends_in (live_of now fence.new life.new) result)
+        out.old.entries out.new.entries) }
     ensures moved { Moved D.tells D.made X.made D.faults X.faults devices.old devices.new }
-    ensures causes { IfErr result (λ stop. IsCaused stop (Rose (D.faults devices.old.disk.now) (D.faults devices.new.disk.now))
+    ensures causes { IfErr result (λ stop. IsCausedBy D.tells stop (Rose (D.faults devices.old.disk.now) (D.faults devices.new.disk.now))
         (Rose (X.faults devices.old.secrets.now) (X.faults devices.new.secrets.now)) (Reached devices.old.fuse devices.new.fuse)) }
     ensures fit { IsTrue D.tells → AreFit (non_zero_u32_get terms.now.limit) (D.image devices.old.disk.now)
         → AreFit (non_zero_u32_get terms.now.limit) (D.image devices.new.disk.now) }
@@ -93,7 +99,9 @@ fn take<C: Ceremony, Dir: Directory + Drop, D: Disk, X: SecretStore>(
             bytes.as_slice(),
             out,
         ),
-        Message::Finalized(block) => take_block(terms, life, &block),
+        Message::Finalized(block) => take_block(
+            alloc, ceremony, signer, registrar, terms, life, devices, &block, fence, out,
+        ),
         _ => unreachable!(),
     }
 }
@@ -115,12 +123,7 @@ where
         ensures refused { IfErr result (λ its. config_fault config.mode config.max_mode.0 (non_zero_u64_get config.blocks_per_epoch) ≡ Some its) }
         ensures accepted { OnOk result (config_fault config.mode config.max_mode.0 (non_zero_u64_get config.blocks_per_epoch) ≡ None) }
     {
-        if !config.max_mode.supports(config.mode) {
-            return Err(Fault::InvalidConfig(ConfigCause::Mode));
-        }
-        if config.blocks_per_epoch.get() == 1 {
-            return Err(Fault::InvalidConfig(ConfigCause::OneBlock));
-        }
+        check_config(config.mode, config.max_mode, config.blocks_per_epoch)?;
         let me = config.signer.public_key();
         Ok(Actor {
             ceremony: config.ceremony,
@@ -161,13 +164,13 @@ impl<C: Ceremony, P, R: Registrar, M, Dir: Directory + Drop> Actor<C, P, R, M, D
         // Of a disk of which nothing was loose: it is the relation's opening, and each act was made, whatever image a crash leaves.
         ensures acts { IsTrue D.tells → IsTrue X.tells → (c : Fixed Dir)
             → IsOpeningOf self.old.terms (B.answers source.now) life word (D.files devices.old.disk.now) c
-            → IsRuledBy C.round_of C.dealing_of C.ack_of C.bears_ack_of c.rules → fence.old ≡ no_fence
-            → EndsBeside nothing_beside (λ more. OnOk result (Took R.tells (R.taken self.old.registrar) (R.taken self.new.registrar) more))
+            → IsRuledBy C.round_of C.deal_of C.dealing_of C.ack_of C.check_ack_of C.sign_log_of C.bears_ack_of C.share_public_of C.partial_public_of c.rules
+            → fence.old ≡ no_fence → EndsBeside nothing_beside (λ more. OnOk result (Took R.tells (R.taken self.old.registrar) (R.taken self.new.registrar) more))
             (λ now. Makes D.files D.image X.held (opening c) (lives (live_of now fence.new) self.new.state result)
             devices.old devices.new out.old.entries out.new.entries) }
         // Whatever the devices tell, its lines are those of an opening that has read something: where they tell, dealings that each image gives back.
         ensures tells { (c : Fixed Dir) → IsLent self.old.terms (B.answers source.now) word c → c.life ≡ life → IsOpeningOfToday c
-            → IsRuledBy C.round_of C.dealing_of C.ack_of C.bears_ack_of c.rules → fence.old ≡ no_fence
+            → IsRuledBy C.round_of C.deal_of C.dealing_of C.ack_of C.check_ack_of C.sign_log_of C.bears_ack_of C.share_public_of C.partial_public_of c.rules → fence.old ≡ no_fence
             → HasRead (λ s. UnlessBroken (ends (λ done. done) result) (IsTrue D.tells → IsTrue X.tells
             → AreGivenFrom (epoch_at (B.answers source.now) self.old.terms - 1) s.dealings (D.image devices.new.disk.now) (X.held devices.new.secrets.now)))
             (λ s. EndsBeside nothing_beside (λ more. OnOk result (Took R.tells (R.taken self.old.registrar) (R.taken self.new.registrar) more))
@@ -178,7 +181,8 @@ impl<C: Ceremony, P, R: Registrar, M, Dir: Directory + Drop> Actor<C, P, R, M, D
             out.old.entries out.new.entries
             (D.image devices.old.disk.now) (D.image devices.new.disk.now) (X.held devices.old.secrets.now) (X.held devices.new.secrets.now) }
         // It may go on over these devices alone, or it has failed.
-        ensures ends { EndsAt self.new.state result (λ life. IsReadyLife D.tells D.files D.image C.ack_of self.new.terms life devices.new) }
+        ensures ends { EndsAt self.new.state result (λ life. IsReadyLife D.tells D.files D.image C.ack_of C.deal_of C.check_ack_of self.new.terms life devices.new) }
+        ensures word { IfLiving self.new.state (λ its. its.word ≡ word) }
         ensures rest { (self.new.ceremony ≡ self.old.ceremony) × (self.new.signer ≡ self.old.signer) × (self.new.provider ≡ self.old.provider)
             × (self.new.manager ≡ self.old.manager) × (self.new.terms ≡ self.old.terms) }
         // Memory has what the devices give back, where they were whole and nothing of them was loose.
@@ -197,6 +201,7 @@ impl<C: Ceremony, P, R: Registrar, M, Dir: Directory + Drop> Actor<C, P, R, M, D
         let life = open_life(
             alloc,
             &self.ceremony,
+            &self.signer,
             &mut self.registrar,
             &self.terms,
             devices,
@@ -222,24 +227,28 @@ impl<C: Ceremony, P, R: Registrar, M, Dir: Directory + Drop> Actor<C, P, R, M, D
         fence: &mut Fence,
         out: &mut Transcript,
     ) -> Result<(), Stop>
-        requires at { IsAt D.tells D.files D.image C.ack_of self.old.terms self.old.state devices.old }
-        requires today { IsTakenToday (non_zero_u64_get self.old.terms.blocks_per_epoch) message }
+        requires at { IsAt D.tells D.files D.image C.ack_of C.deal_of C.check_ack_of self.old.terms self.old.state devices.old }
+        requires taken { IfLiving self.old.state (λ life. IsTaken (non_zero_u64_get self.old.terms.blocks_per_epoch) life message) }
         // It is the relation's step, and each act was made, whatever image a crash leaves.
-        ensures acts { IsTrue D.tells → IsTrue X.tells → (c : Fixed Dir) (beside : Beside Dir) → IsOf self.old.terms c
-            → IsRuledBy C.round_of C.dealing_of C.ack_of C.bears_ack_of c.rules
-            → IfLiving self.old.state (λ old. Makes D.files D.image X.held (step c (message_of message) (live_of beside fence.old old))
-            (lives (live_of beside fence.new) self.new.state result) devices.old devices.new out.old.entries out.new.entries) }
-        ensures tells { (c : Fixed Dir) (beside : Beside Dir) → IsOf self.old.terms c → IsRuledBy C.round_of C.dealing_of C.ack_of C.bears_ack_of c.rules
-            → IfLiving self.old.state (λ old. Tells (step c (message_of message) (live_of beside fence.old old))
-            (lives (live_of beside fence.new) self.new.state result) out.old.entries out.new.entries) }
+        ensures acts { IsTrue D.tells → IsTrue X.tells → (c : Fixed Dir) (beside : Beside Dir) → IfLiving self.old.state (λ old. IsIn self.old.terms old.word c
+            → ReadsToday c → IsRuledBy C.round_of C.deal_of C.dealing_of C.ack_of C.check_ack_of C.sign_log_of C.bears_ack_of C.share_public_of C.partial_public_of c.rules
+            → EndsBeside beside (λ more. OnOk result (Took R.tells (R.taken self.old.registrar) (R.taken self.new.registrar) more))
+            (λ now. Makes D.files D.image X.held (step c (message_of message) (live_of beside fence.old old))
+            (lives (live_of now fence.new) self.new.state result) devices.old devices.new out.old.entries out.new.entries)) }
+        ensures tells { (c : Fixed Dir) (beside : Beside Dir) → IfLiving self.old.state (λ old. IsIn self.old.terms old.word c
+            → ReadsToday c → IsRuledBy C.round_of C.deal_of C.dealing_of C.ack_of C.check_ack_of C.sign_log_of C.bears_ack_of C.share_public_of C.partial_public_of c.rules
+            → EndsBeside beside (λ more. OnOk result (Took R.tells (R.taken self.old.registrar) (R.taken self.new.registrar) more))
+            (λ now. Tells (step c (message_of message) (live_of beside fence.old old))
+            (lives (live_of now fence.new) self.new.state result) out.old.entries out.new.entries)) }
         // It may go on over these devices alone, or it has failed.
-        ensures ends { EndsAt self.new.state result (λ life. IsReadyLife D.tells D.files D.image C.ack_of self.new.terms life devices.new) }
+        ensures ends { EndsAt self.new.state result (λ life. IsReadyLife D.tells D.files D.image C.ack_of C.deal_of C.check_ack_of self.new.terms life devices.new) }
+        ensures word { IfLiving self.old.state (λ old. IfLiving self.new.state (λ life. life.word ≡ old.word)) }
         ensures rest { (self.new.ceremony ≡ self.old.ceremony) × (self.new.signer ≡ self.old.signer) × (self.new.provider ≡ self.old.provider)
-            × (self.new.registrar ≡ self.old.registrar) × (self.new.manager ≡ self.old.manager) × (self.new.terms ≡ self.old.terms) }
-        ensures fails { FailsStop self.old.state result
-            ((self.new.state ≡ self.old.state) × (devices.new ≡ devices.old) × (out.new ≡ out.old) × (fence.new ≡ fence.old)) }
+            × (self.new.manager ≡ self.old.manager) × (self.new.terms ≡ self.old.terms) }
+        ensures fails { FailsStop self.old.state result ((self.new.state ≡ self.old.state) × (self.new.registrar ≡ self.old.registrar)
+            × (devices.new ≡ devices.old) × (out.new ≡ out.old) × (fence.new ≡ fence.old)) }
         ensures moved { Moved D.tells D.made X.made D.faults X.faults devices.old devices.new }
-        ensures causes { IfErr result (λ stop. IsCausedInStep stop (Rose (D.faults devices.old.disk.now) (D.faults devices.new.disk.now))
+        ensures causes { IfErr result (λ stop. IsCausedInStep D.tells stop (Rose (D.faults devices.old.disk.now) (D.faults devices.new.disk.now))
             (Rose (X.faults devices.old.secrets.now) (X.faults devices.new.secrets.now)) (Reached devices.old.fuse devices.new.fuse)) }
         // No record that a crash leaves is out of its grammar, or past the limit, where none was.
         ensures fit { IsTrue D.tells → AreFit (non_zero_u32_get self.old.terms.limit) (D.image devices.old.disk.now)
@@ -252,10 +261,12 @@ impl<C: Ceremony, P, R: Registrar, M, Dir: Directory + Drop> Actor<C, P, R, M, D
             alloc,
             &self.ceremony,
             &self.signer,
+            &mut self.registrar,
             &self.terms,
             life,
             devices,
             message,
+            fence,
             out,
         ) {
             Ok(()) => Ok(()),

@@ -1,31 +1,44 @@
-//! Delivered blocks on the first path: a block that is awaited moves the tip, and the one before the midpoint ends dealing.
+//! Delivered blocks. While dealing an early block offers the dealings, and the one before the midpoint ends that; a node that follows takes
+//! over at an epoch's last block.
 //!
-//! These are the relation's `delivers`, `over_tip` and `applies`, up to the midpoint.
-ghost use Rattle.std.specs.Prelude.{◌≡◌, ◌<◌, ◌+◌, ◌==◌, ◌&&◌, ◌||◌, List, IfErr, Some, is_some, if◌then◌else◌};
-ghost use Rattle.std.specs.Int.NonZero.{non_zero_u64_get};
+//! These are the relation's `delivers`, `over_tip` and `applies`, but for what is applied from the midpoint on in an epoch that the node takes
+//! part in.
+ghost use Rattle.std.specs.Prelude.{◌≡◌, ◌<◌, ◌+◌, ◌^◌, ◌==◌, ◌||◌, IfErr, IfOk, IsTrue, OnOk, is_some};
+ghost use Rattle.std.specs.Int.NonZero.{non_zero_u32_get, non_zero_u64_get};
+ghost use Rattle.dkg_ceremony.specs.Schedule.{epoch_of};
 ghost use Rattle.dkg_fence.specs.Readiness.{Readiness};
-ghost use Rattle.dkg_types.specs.declared.entry.Entry.{Entry as Line};
+ghost use Rattle.dkg_journal.specs.Disk.{Rose};
+ghost use Rattle.dkg_journal.specs.Fuse.{Reached};
+ghost use Rattle.dkg_store.specs.Corrupt.{AreFit};
 ghost use Rattle.dkg_core.specs.Blocks as blocks;
 ghost use Rattle.dkg_core.specs.Fixed.{Fixed};
-ghost use Rattle.dkg_reshare.specs.Ends.{IsCaused, ends_in};
-ghost use Rattle.dkg_reshare.specs.Given.{IsOf};
-ghost use Rattle.dkg_reshare.specs.LiveOf.{Beside, IsPlaced, live_of};
-ghost use Rattle.dkg_reshare.specs.Made.{Speaks};
-ghost use Rattle.dkg_reshare.specs.Steps.{AreBoundsOf, is_dealing};
-ghost use Rattle.dkg_types.specs.Blocks.{Block as Seen};
+ghost use Rattle.dkg_reshare.specs.Actors.{IsApplied, IsReadyLife, TakesBlock, is_in_window_by};
+ghost use Rattle.dkg_reshare.specs.Ends.{IsCaused, IsCausedBy, ends_in};
+ghost use Rattle.dkg_reshare.specs.Given.{IsIn, IsOf, ReadsToday};
+ghost use Rattle.dkg_reshare.specs.LiveOf.{Beside, EndsBeside, Took, live_of};
+ghost use Rattle.dkg_reshare.specs.Made.{Makes, Tells};
+ghost use Rattle.dkg_reshare.specs.Moved.{Moved};
+ghost use Rattle.dkg_reshare.specs.Rules.{IsRuledBy};
+ghost use Rattle.dkg_reshare.specs.Steps.{AreBoundsAt, carried_in};
 
 use crate::config::Terms;
+use crate::inclusion::begin_inclusion;
 use crate::life::{Life, Stage};
+use crate::offers::deal;
+use crate::setup::{commit_and_register, secrets_of, set_up_committed};
 use crate::stop::Stop;
 use crate::tip::{Judged, judge, tip_of};
-use dkg_ceremony::{Bounds, Epocher, Phase};
-use dkg_types::{Block, Directory, Fault};
-use dkg_values::Height;
+use dkg_ceremony::{Bounds, Ceremony, Epocher, Phase};
+use dkg_fence::Fence;
+use dkg_journal::Disk;
+use dkg_store::{Devices, SecretStore};
+use dkg_types::{Block, Directory, EpochInfo, Fault, Registrar, Transcript};
+use dkg_values::{Epoch, Height};
+use std::alloc::Global;
 
 /// Whether a life without a tip takes a block of these bounds (`is_in_window`).
 fn is_in_window<Dir: Directory + Drop>(life: &Life<Dir>, bounds: &Bounds) -> bool
-    ensures { (c : Fixed Dir) (b : Seen Dir) (beside : Beside Dir) (fence : Readiness) → AreBoundsOf c bounds.now b
-        → result ≡ blocks.is_in_window c b (live_of beside fence life.now) }
+    ensures { result ≡ is_in_window_by life.now.stage (bounds.now.epoch == life.now.epoch) (blocks.is_early bounds.now.phase) }
 {
     match life.stage {
         Stage::Dealing => bounds.epoch == life.epoch && bounds.phase == Phase::Early,
@@ -34,50 +47,258 @@ fn is_in_window<Dir: Directory + Drop>(life: &Life<Dir>, bounds: &Bounds) -> boo
     }
 }
 
-/// Whether dealing ends with a block of this height.
+/// Whether dealing ends with a block of this height: the one before the midpoint.
 fn ends_dealing(midpoint: Height, height: Height) -> bool
-    requires { height < midpoint }
     ensures { result ≡ (height + 1 == midpoint) }
 {
-    midpoint.0 - height.0 == 1
+    midpoint.0.checked_sub(height.0) == Some(1)
 }
 
-/// Applies a block that was awaited (`deals_at`, and `follows_at` below an epoch's last height).
-fn apply<Dir: Directory + Drop>(life: &mut Life<Dir>, block: &Block<Dir>)
+/// Applies a block while dealing: the dealings are offered, and the last early block ends dealing (`deals_at`).
+fn apply_dealing<C: Ceremony, Dir: Directory + Drop, D: Disk, X: SecretStore>(
+    alloc: Global,
+    ceremony: &C,
+    signer: &C::Signer,
+    terms: &Terms,
+    life: &mut Life<Dir>,
+    devices: &mut Devices<'_, D, X>,
+    block: &Block<Dir>,
+    out: &mut Transcript,
+) -> Result<(), Stop>
+    requires dealing { life.old.stage ≡ Stage.Dealing }
     requires early { block.now.height < life.old.midpoint }
-    requires before { life.old.stage ≡ Stage.Including → ⊥ }
-    ensures store { life.new.store ≡ life.old.store }
-    ensures tip { life.new.tip ≡ Some (record { height = block.now.height; digest = block.now.digest }) }
-    ensures stage { life.new.stage ≡ (if is_dealing life.old.stage && (block.now.height + 1 == life.old.midpoint) then Stage.Including else life.old.stage) }
-    ensures rest { life.new ≡ record life.old { tip = life.new.tip; stage = life.new.stage } }
+    requires next { epoch_of (non_zero_u64_get terms.now.blocks_per_epoch) block.now.height ≡ life.old.epoch }
+    requires me { terms.now.me ≡ C.Signer.key_of signer.now }
+    requires ready { IsReadyLife D.tells D.files D.image C.ack_of C.deal_of C.check_ack_of terms.now life.old devices.old }
+    ensures ready { OnOk result (IsReadyLife D.tells D.files D.image C.ack_of C.deal_of C.check_ack_of terms.now life.new devices.new) }
+    ensures word { life.new.word ≡ life.old.word }
+    ensures acts { IsTrue D.tells → IsTrue X.tells → (c : Fixed Dir) (beside : Beside Dir) (fence : Readiness)
+        → IsOf terms.now c → IsRuledBy C.round_of C.deal_of C.dealing_of C.ack_of C.check_ack_of C.sign_log_of C.bears_ack_of C.share_public_of C.partial_public_of c.rules
+        → Makes D.files D.image X.held (blocks.deals_at c block.now (live_of beside fence life.old))
+        (ends_in (live_of beside fence life.new) result) devices.old devices.new out.old.entries out.new.entries }
+    ensures tells { (c : Fixed Dir) (beside : Beside Dir) (fence : Readiness)
+        → IsOf terms.now c → IsRuledBy C.round_of C.deal_of C.dealing_of C.ack_of C.check_ack_of C.sign_log_of C.bears_ack_of C.share_public_of C.partial_public_of c.rules
+        → Tells (blocks.deals_at c block.now (live_of beside fence life.old))
+        (ends_in (live_of beside fence life.new) result) out.old.entries out.new.entries }
+    ensures moved { Moved D.tells D.made X.made D.faults X.faults devices.old devices.new }
+    ensures causes { IfErr result (λ stop. IsCaused stop (Rose (D.faults devices.old.disk.now) (D.faults devices.new.disk.now))
+        (Rose (X.faults devices.old.secrets.now) (X.faults devices.new.secrets.now)) (Reached devices.old.fuse devices.new.fuse)) }
+    ensures fit { IsTrue D.tells → AreFit (non_zero_u32_get terms.now.limit) (D.image devices.old.disk.now)
+        → AreFit (non_zero_u32_get terms.now.limit) (D.image devices.new.disk.now) }
 {
+    deal(alloc, ceremony, signer, terms, life, devices, out)?;
     life.tip = Some(tip_of(block));
-    if life.stage == Stage::Dealing && ends_dealing(life.midpoint, block.height()) {
-        life.stage = Stage::Including;
+    if ends_dealing(life.midpoint, block.height()) {
+        return begin_inclusion(alloc, ceremony, signer, life);
+    }
+    Ok(())
+}
+
+/// The next epoch's info, which the last block of these bounds carries (`carried`).
+///
+/// MissingEpochInfo: it carries none. WrongEpoch: else it is another epoch's.
+fn carried_info<'a, Dir: Directory + Drop>(
+    block: &'a Block<Dir>,
+    bounds: &Bounds,
+) -> Result<&'a EpochInfo<Dir>, Fault>
+    requires below { bounds.now.epoch + 1 < 2 ^ 64 }
+    ensures ok { IfOk result (λ info. carried_in bounds.now.epoch block.now ≡ Ok info.now) }
+    ensures err { IfErr result (λ its. carried_in bounds.now.epoch block.now ≡ Err its) }
+{
+    let Some(info) = block.epoch_info() else {
+        return Err(Fault::MissingEpochInfo {
+            height: block.height(),
+        });
+    };
+    let expected = Epoch(bounds.epoch.0 + 1);
+    if info.epoch != expected {
+        return Err(Fault::WrongEpoch {
+            expected,
+            got: info.epoch,
+        });
+    }
+    Ok(info)
+}
+
+/// Takes part from the next epoch on: its info, which a last block carries, is committed and registered, and the epoch is set up
+/// (`follows_into`).
+fn take_over<C: Ceremony, R: Registrar, Dir: Directory + Drop, D: Disk, X: SecretStore>(
+    alloc: Global,
+    ceremony: &C,
+    signer: &C::Signer,
+    registrar: &mut R,
+    terms: &Terms,
+    life: &mut Life<Dir>,
+    devices: &mut Devices<'_, D, X>,
+    block: &Block<Dir>,
+    info: &EpochInfo<Dir>,
+    fence: &mut Fence,
+    out: &mut Transcript,
+) -> Result<(), Stop>
+    requires next { info.now.epoch ≡ epoch_of (non_zero_u64_get terms.now.blocks_per_epoch) (block.now.height + 1) }
+    requires me { terms.now.me ≡ C.Signer.key_of signer.now }
+    requires ready { IsReadyLife D.tells D.files D.image C.ack_of C.deal_of C.check_ack_of terms.now life.old devices.old }
+    ensures ready { OnOk result (IsReadyLife D.tells D.files D.image C.ack_of C.deal_of C.check_ack_of terms.now life.new devices.new) }
+    ensures word { life.new.word ≡ life.old.word }
+    ensures acts { IsTrue D.tells → IsTrue X.tells → (c : Fixed Dir) (beside : Beside Dir) → IsIn terms.now life.old.word c → ReadsToday c
+        → IsRuledBy C.round_of C.deal_of C.dealing_of C.ack_of C.check_ack_of C.sign_log_of C.bears_ack_of C.share_public_of C.partial_public_of c.rules
+        → EndsBeside beside (λ more. OnOk result (Took R.tells (R.taken registrar.old) (R.taken registrar.new) more))
+        (λ now. Makes D.files D.image X.held (blocks.follows_into c block.now info.now (live_of beside fence.old life.old)) (ends_in (live_of now fence.new life.new) result)
+        devices.old devices.new out.old.entries out.new.entries) }
+    ensures tells { (c : Fixed Dir) (beside : Beside Dir) → IsIn terms.now life.old.word c → ReadsToday c
+        → IsRuledBy C.round_of C.deal_of C.dealing_of C.ack_of C.check_ack_of C.sign_log_of C.bears_ack_of C.share_public_of C.partial_public_of c.rules
+        → EndsBeside beside (λ more. OnOk result (Took R.tells (R.taken registrar.old) (R.taken registrar.new) more))
+        (λ now. Tells (blocks.follows_into c block.now info.now (live_of beside fence.old life.old)) (ends_in (live_of now fence.new life.new) result)
+        out.old.entries out.new.entries) }
+    ensures moved { Moved D.tells D.made X.made D.faults X.faults devices.old devices.new }
+    ensures causes { IfErr result (λ stop. IsCausedBy D.tells stop (Rose (D.faults devices.old.disk.now) (D.faults devices.new.disk.now))
+        (Rose (X.faults devices.old.secrets.now) (X.faults devices.new.secrets.now)) (Reached devices.old.fuse devices.new.fuse)) }
+    ensures fit { IsTrue D.tells → AreFit (non_zero_u32_get terms.now.limit) (D.image devices.old.disk.now)
+        → AreFit (non_zero_u32_get terms.now.limit) (D.image devices.new.disk.now) }
+{
+    let me = terms.me;
+    let secrets = secrets_of(alloc, ceremony, me, life, devices, info)?;
+    commit_and_register(
+        alloc, registrar, me, life, devices, info, &secrets, fence, out,
+    )?;
+    life.tip = Some(tip_of(block));
+    set_up_committed(
+        alloc, ceremony, signer, registrar, terms, life, devices, info, fence, out,
+    )
+}
+
+/// Applies a block while following: an epoch's last one begins the next epoch (`follows_at`).
+fn follow_block<C: Ceremony, R: Registrar, Dir: Directory + Drop, D: Disk, X: SecretStore>(
+    alloc: Global,
+    ceremony: &C,
+    signer: &C::Signer,
+    registrar: &mut R,
+    terms: &Terms,
+    life: &mut Life<Dir>,
+    devices: &mut Devices<'_, D, X>,
+    block: &Block<Dir>,
+    bounds: &Bounds,
+    fence: &mut Fence,
+    out: &mut Transcript,
+) -> Result<(), Stop>
+    requires following { life.old.stage ≡ Stage.Following }
+    requires bounds { AreBoundsAt (non_zero_u64_get terms.now.blocks_per_epoch) bounds.now block.now.height }
+    requires me { terms.now.me ≡ C.Signer.key_of signer.now }
+    requires ready { IsReadyLife D.tells D.files D.image C.ack_of C.deal_of C.check_ack_of terms.now life.old devices.old }
+    ensures ready { OnOk result (IsReadyLife D.tells D.files D.image C.ack_of C.deal_of C.check_ack_of terms.now life.new devices.new) }
+    ensures word { life.new.word ≡ life.old.word }
+    ensures acts { IsTrue D.tells → IsTrue X.tells → (c : Fixed Dir) (beside : Beside Dir) → IsIn terms.now life.old.word c → ReadsToday c
+        → IsRuledBy C.round_of C.deal_of C.dealing_of C.ack_of C.check_ack_of C.sign_log_of C.bears_ack_of C.share_public_of C.partial_public_of c.rules
+        → EndsBeside beside (λ more. OnOk result (Took R.tells (R.taken registrar.old) (R.taken registrar.new) more))
+        (λ now. Makes D.files D.image X.held (blocks.follows_at c block.now (live_of beside fence.old life.old)) (ends_in (live_of now fence.new life.new) result)
+        devices.old devices.new out.old.entries out.new.entries) }
+    ensures tells { (c : Fixed Dir) (beside : Beside Dir) → IsIn terms.now life.old.word c → ReadsToday c
+        → IsRuledBy C.round_of C.deal_of C.dealing_of C.ack_of C.check_ack_of C.sign_log_of C.bears_ack_of C.share_public_of C.partial_public_of c.rules
+        → EndsBeside beside (λ more. OnOk result (Took R.tells (R.taken registrar.old) (R.taken registrar.new) more))
+        (λ now. Tells (blocks.follows_at c block.now (live_of beside fence.old life.old)) (ends_in (live_of now fence.new life.new) result)
+        out.old.entries out.new.entries) }
+    ensures moved { Moved D.tells D.made X.made D.faults X.faults devices.old devices.new }
+    ensures causes { IfErr result (λ stop. IsCausedBy D.tells stop (Rose (D.faults devices.old.disk.now) (D.faults devices.new.disk.now))
+        (Rose (X.faults devices.old.secrets.now) (X.faults devices.new.secrets.now)) (Reached devices.old.fuse devices.new.fuse)) }
+    ensures fit { IsTrue D.tells → AreFit (non_zero_u32_get terms.now.limit) (D.image devices.old.disk.now)
+        → AreFit (non_zero_u32_get terms.now.limit) (D.image devices.new.disk.now) }
+{
+    if block.height() != bounds.last {
+        life.tip = Some(tip_of(block));
+        return Ok(());
+    }
+    let info = carried_info(block, bounds)?;
+    take_over(
+        alloc, ceremony, signer, registrar, terms, life, devices, block, info, fence, out,
+    )
+}
+
+/// Applies a block that was awaited (`applies`).
+fn apply<C: Ceremony, R: Registrar, Dir: Directory + Drop, D: Disk, X: SecretStore>(
+    alloc: Global,
+    ceremony: &C,
+    signer: &C::Signer,
+    registrar: &mut R,
+    terms: &Terms,
+    life: &mut Life<Dir>,
+    devices: &mut Devices<'_, D, X>,
+    block: &Block<Dir>,
+    bounds: &Bounds,
+    fence: &mut Fence,
+    out: &mut Transcript,
+) -> Result<(), Stop>
+    requires taken { IsApplied (non_zero_u64_get terms.now.blocks_per_epoch) life.old block.now }
+    requires form { TakesBlock (non_zero_u64_get terms.now.blocks_per_epoch) life.old block.now }
+    requires bounds { AreBoundsAt (non_zero_u64_get terms.now.blocks_per_epoch) bounds.now block.now.height }
+    requires me { terms.now.me ≡ C.Signer.key_of signer.now }
+    requires ready { IsReadyLife D.tells D.files D.image C.ack_of C.deal_of C.check_ack_of terms.now life.old devices.old }
+    ensures ready { OnOk result (IsReadyLife D.tells D.files D.image C.ack_of C.deal_of C.check_ack_of terms.now life.new devices.new) }
+    ensures word { life.new.word ≡ life.old.word }
+    ensures acts { IsTrue D.tells → IsTrue X.tells → (c : Fixed Dir) (beside : Beside Dir) → IsIn terms.now life.old.word c → ReadsToday c
+        → IsRuledBy C.round_of C.deal_of C.dealing_of C.ack_of C.check_ack_of C.sign_log_of C.bears_ack_of C.share_public_of C.partial_public_of c.rules
+        → EndsBeside beside (λ more. OnOk result (Took R.tells (R.taken registrar.old) (R.taken registrar.new) more))
+        (λ now. Makes D.files D.image X.held (blocks.applies c block.now (live_of beside fence.old life.old)) (ends_in (live_of now fence.new life.new) result)
+        devices.old devices.new out.old.entries out.new.entries) }
+    ensures tells { (c : Fixed Dir) (beside : Beside Dir) → IsIn terms.now life.old.word c → ReadsToday c
+        → IsRuledBy C.round_of C.deal_of C.dealing_of C.ack_of C.check_ack_of C.sign_log_of C.bears_ack_of C.share_public_of C.partial_public_of c.rules
+        → EndsBeside beside (λ more. OnOk result (Took R.tells (R.taken registrar.old) (R.taken registrar.new) more))
+        (λ now. Tells (blocks.applies c block.now (live_of beside fence.old life.old)) (ends_in (live_of now fence.new life.new) result)
+        out.old.entries out.new.entries) }
+    ensures moved { Moved D.tells D.made X.made D.faults X.faults devices.old devices.new }
+    ensures causes { IfErr result (λ stop. IsCausedBy D.tells stop (Rose (D.faults devices.old.disk.now) (D.faults devices.new.disk.now))
+        (Rose (X.faults devices.old.secrets.now) (X.faults devices.new.secrets.now)) (Reached devices.old.fuse devices.new.fuse)) }
+    ensures fit { IsTrue D.tells → AreFit (non_zero_u32_get terms.now.limit) (D.image devices.old.disk.now)
+        → AreFit (non_zero_u32_get terms.now.limit) (D.image devices.new.disk.now) }
+{
+    match life.stage {
+        Stage::Dealing => apply_dealing(alloc, ceremony, signer, terms, life, devices, block, out),
+        Stage::Including => unreachable!(),
+        Stage::Following => follow_block(
+            alloc, ceremony, signer, registrar, terms, life, devices, block, bounds, fence, out,
+        ),
     }
 }
 
 /// Whether a block of these bounds is looked at: a life without a tip looks at those in its window alone.
 fn looks_at<Dir: Directory + Drop>(life: &Life<Dir>, bounds: &Bounds) -> bool
-    ensures { (c : Fixed Dir) (b : Seen Dir) (beside : Beside Dir) (fence : Readiness) → AreBoundsOf c bounds.now b
-        → result ≡ (is_some life.now.tip || blocks.is_in_window c b (live_of beside fence life.now)) }
+    ensures { result ≡ (is_some life.now.tip || is_in_window_by life.now.stage (bounds.now.epoch == life.now.epoch) (blocks.is_early bounds.now.phase)) }
 {
     life.tip.is_some() || is_in_window(life, bounds)
 }
 
 /// Takes a delivered block (`delivers`).
-pub(crate) fn take_block<Dir: Directory + Drop>(
+pub(crate) fn take_block<C: Ceremony, R: Registrar, Dir: Directory + Drop, D: Disk, X: SecretStore>(
+    alloc: Global,
+    ceremony: &C,
+    signer: &C::Signer,
+    registrar: &mut R,
     terms: &Terms,
     life: &mut Life<Dir>,
+    devices: &mut Devices<'_, D, X>,
     block: &Block<Dir>,
+    fence: &mut Fence,
+    out: &mut Transcript,
 ) -> Result<(), Stop>
-    requires placed { IsPlaced (non_zero_u64_get terms.now.blocks_per_epoch) life.old }
-    requires early { block.now.height < life.old.midpoint }
-    ensures placed { IsPlaced (non_zero_u64_get terms.now.blocks_per_epoch) life.new }
-    ensures rest { life.new ≡ record life.old { tip = life.new.tip; stage = life.new.stage } }
-    ensures causes { IfErr result (λ stop. IsCaused stop ⊥ ⊥ ⊥) }
-    ensures speaks { (c : Fixed Dir) (beside : Beside Dir) (fence : Readiness) → IsOf terms.now c → (out : List Line)
-        → Speaks (blocks.delivers c block.now (live_of beside fence life.old)) (ends_in (live_of beside fence life.new) result) out out }
+    requires taken { TakesBlock (non_zero_u64_get terms.now.blocks_per_epoch) life.old block.now }
+    requires me { terms.now.me ≡ C.Signer.key_of signer.now }
+    requires ready { IsReadyLife D.tells D.files D.image C.ack_of C.deal_of C.check_ack_of terms.now life.old devices.old }
+    ensures ready { OnOk result (IsReadyLife D.tells D.files D.image C.ack_of C.deal_of C.check_ack_of terms.now life.new devices.new) }
+    ensures word { life.new.word ≡ life.old.word }
+    ensures acts { IsTrue D.tells → IsTrue X.tells → (c : Fixed Dir) (beside : Beside Dir) → IsIn terms.now life.old.word c → ReadsToday c
+        → IsRuledBy C.round_of C.deal_of C.dealing_of C.ack_of C.check_ack_of C.sign_log_of C.bears_ack_of C.share_public_of C.partial_public_of c.rules
+        → EndsBeside beside (λ more. OnOk result (Took R.tells (R.taken registrar.old) (R.taken registrar.new) more))
+        (λ now. Makes D.files D.image X.held (blocks.delivers c block.now (live_of beside fence.old life.old)) (ends_in (live_of now fence.new life.new) result)
+        devices.old devices.new out.old.entries out.new.entries) }
+    ensures tells { (c : Fixed Dir) (beside : Beside Dir) → IsIn terms.now life.old.word c → ReadsToday c
+        → IsRuledBy C.round_of C.deal_of C.dealing_of C.ack_of C.check_ack_of C.sign_log_of C.bears_ack_of C.share_public_of C.partial_public_of c.rules
+        → EndsBeside beside (λ more. OnOk result (Took R.tells (R.taken registrar.old) (R.taken registrar.new) more))
+        (λ now. Tells (blocks.delivers c block.now (live_of beside fence.old life.old)) (ends_in (live_of now fence.new life.new) result)
+        out.old.entries out.new.entries) }
+    ensures moved { Moved D.tells D.made X.made D.faults X.faults devices.old devices.new }
+    ensures causes { IfErr result (λ stop. IsCausedBy D.tells stop (Rose (D.faults devices.old.disk.now) (D.faults devices.new.disk.now))
+        (Rose (X.faults devices.old.secrets.now) (X.faults devices.new.secrets.now)) (Reached devices.old.fuse devices.new.fuse)) }
+    ensures fit { IsTrue D.tells → AreFit (non_zero_u32_get terms.now.limit) (D.image devices.old.disk.now)
+        → AreFit (non_zero_u32_get terms.now.limit) (D.image devices.new.disk.now) }
 {
     let height = block.height();
     let Some(bounds) = Epocher::new(terms.blocks_per_epoch).containing(height) else {
@@ -88,9 +309,8 @@ pub(crate) fn take_block<Dir: Directory + Drop>(
     }
     match judge(&life.tip, block)? {
         Judged::Again => Ok(()),
-        Judged::New => {
-            apply(life, block);
-            Ok(())
-        }
+        Judged::New => apply(
+            alloc, ceremony, signer, registrar, terms, life, devices, block, &bounds, fence, out,
+        ),
     }
 }

@@ -1,7 +1,8 @@
 //! The reshare actor: it opens a node's store, sets an epoch up, answers dealings and takes blocks.
 //!
 //! Each call is a course of `dkg_core`, run over the devices that it is lent: `Actor::open` is `opening`, and `Actor::step` is `step`. What is
-//! built is the first path of an epoch up to its midpoint (`specs/Today`). The rules are those of the upstream's `reshare::actor`.
+//! built of an epoch that the node takes part in goes up to its midpoint; an epoch that it follows is whole. The rules are those of the
+//! upstream's `reshare::actor`.
 #![tactic(auto)]
 
 mod actor;
@@ -9,8 +10,10 @@ mod blocks;
 mod config;
 mod dealing;
 mod decoded;
+mod inclusion;
 mod life;
 mod message;
+mod offers;
 mod opening;
 mod setup;
 mod source;
@@ -18,8 +21,9 @@ mod stop;
 mod tip;
 
 pub use actor::Actor;
-pub use config::Config;
+pub use config::{Config, check_config};
 pub use message::Message;
+pub use setup::{dealer_for_phase, recovered_share};
 pub use source::{BlockSource, Processed, startup};
 pub use stop::Stop;
 pub use tip::Tip;

@@ -15,7 +15,7 @@ ghost use Rattle.dkg_reshare.specs.LiveOf.{EndsBeside, Took, live_of, no_fence, 
 ghost use Rattle.dkg_reshare.specs.Made.{Makes, Tells, UnlessBroken};
 ghost use Rattle.dkg_reshare.specs.Moved.{IsFirm, Moved, StaysAbove};
 ghost use Rattle.dkg_reshare.specs.Opened.{IsInGrammar, IsOpeningOf, OpensReadable, epoch_at, opens_store, startup_of};
-ghost use Rattle.dkg_reshare.specs.Rules.{SeatsBy};
+ghost use Rattle.dkg_reshare.specs.Rules.{IsRuledBy};
 ghost use Rattle.dkg_reshare.specs.Today.{IsOpeningOfToday, seen_today};
 
 use crate::config::Terms;
@@ -81,24 +81,32 @@ fn open_store<Dir: Directory + Drop, D: Disk, X: SecretStore>(
 }
 
 /// A life over a store, at the position that its source tells.
-fn begin<Dir: Directory + Drop, B: BlockSource<Dir>>(store: Store<Dir>, source: &B) -> Life<Dir>
+fn begin<Dir: Directory + Drop, B: BlockSource<Dir>>(
+    store: Store<Dir>,
+    source: &B,
+    word: u64,
+) -> Life<Dir>
     ensures { result ≡ record {
+      word = word;
       store = store;
       tip = startup_of (B.answers source.now);
       epoch = 0;
       midpoint = 0;
       stage = Stage.Following;
       round = None;
+      dealer = None;
       player = None;
     } }
 {
     Life {
+        word,
         store,
         tip: position(source),
         epoch: Epoch(0),
         midpoint: Height(0),
         stage: Stage::Following,
         round: None,
+        dealer: None,
         player: None,
     }
 }
@@ -114,6 +122,7 @@ pub(crate) fn open_life<
 >(
     alloc: Global,
     ceremony: &C,
+    signer: &C::Signer,
     registrar: &mut R,
     terms: &Terms,
     devices: &mut Devices<'_, D, X>,
@@ -123,17 +132,19 @@ pub(crate) fn open_life<
     fence: &mut Fence,
     out: &mut Transcript,
 ) -> Result<Life<Dir>, Stop>
-    ensures ready { IfOk result (λ life. IsReadyLife D.tells D.files D.image C.ack_of terms.now life devices.new) }
+    requires me { terms.now.me ≡ C.Signer.key_of signer.now }
+    ensures ready { IfOk result (λ life. IsReadyLife D.tells D.files D.image C.ack_of C.deal_of C.check_ack_of terms.now life devices.new) }
+    ensures word { IfOk result (λ life. life.word ≡ word) }
     ensures readable { IsTrue D.tells → OpensReadable (IsInGrammar (non_zero_u32_get terms.now.limit) (D.files devices.old.disk.now)) result
         out.old.entries out.new.entries
         (D.image devices.old.disk.now) (D.image devices.new.disk.now) (X.held devices.old.secrets.now) (X.held devices.new.secrets.now) }
     ensures acts { IsTrue D.tells → IsTrue X.tells → (c : Fixed Dir) → IsOpeningOf terms.now (B.answers source.now) number word (D.files devices.old.disk.now) c
-        → SeatsBy C.round_of C.dealing_of C.bears_ack_of c.rules → fence.old ≡ no_fence
-        → EndsBeside nothing_beside (λ more. OnOk result (Took R.tells (R.taken registrar.old) (R.taken registrar.new) more))
+        → IsRuledBy C.round_of C.deal_of C.dealing_of C.ack_of C.check_ack_of C.sign_log_of C.bears_ack_of C.share_public_of C.partial_public_of c.rules
+        → fence.old ≡ no_fence → EndsBeside nothing_beside (λ more. OnOk result (Took R.tells (R.taken registrar.old) (R.taken registrar.new) more))
         (λ now. Makes D.files D.image X.held (opening c) (ends (live_of now fence.new) result)
         devices.old devices.new out.old.entries out.new.entries) }
     ensures tells { (c : Fixed Dir) → IsLent terms.now (B.answers source.now) word c → c.life ≡ number → IsOpeningOfToday c
-        → SeatsBy C.round_of C.dealing_of C.bears_ack_of c.rules → fence.old ≡ no_fence
+        → IsRuledBy C.round_of C.deal_of C.dealing_of C.ack_of C.check_ack_of C.sign_log_of C.bears_ack_of C.share_public_of C.partial_public_of c.rules → fence.old ≡ no_fence
         → HasRead (λ s. UnlessBroken (ends (λ life. life) result) (IsTrue D.tells → IsTrue X.tells
         → AreGivenFrom (epoch_at (B.answers source.now) terms.now - 1) s.dealings (D.image devices.new.disk.now) (X.held devices.new.secrets.now)))
         (λ s. EndsBeside nothing_beside (λ more. OnOk result (Took R.tells (R.taken registrar.old) (R.taken registrar.new) more))
@@ -148,9 +159,9 @@ pub(crate) fn open_life<
         (D.image devices.old.disk.now) (D.image devices.new.disk.now) (X.held devices.old.secrets.now) (X.held devices.new.secrets.now) }
 {
     let store = open_store(alloc, terms.limit, number, devices, out)?;
-    let mut life = begin(store, source);
+    let mut life = begin(store, source, word);
     set_up(
-        alloc, ceremony, registrar, terms, &mut life, devices, source, word, fence, out,
+        alloc, ceremony, signer, registrar, terms, &mut life, devices, source, fence, out,
     )?;
     Ok(life)
 }

@@ -520,7 +520,7 @@ impl<Dir: Drop> Store<Dir> {
     }
 
     /// A recorded dealing, restored or new. The time is logarithmic in how many are recorded.
-    pub(crate) fn dealing(&self, epoch: Epoch, dealer: Key) -> Option<&(Public, Private)>
+    pub fn dealing(&self, epoch: Epoch, dealer: Key) -> Option<&(Public, Private)>
         ensures { option_copied result ≡ map.get self.now.dealings (epoch, dealer) }
     {
         self.dealings.get(epoch, dealer)

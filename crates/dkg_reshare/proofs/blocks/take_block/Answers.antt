@@ -1,78 +1,194 @@
-use Rattle.std.proofs.Common.{◌≡◌, ◌<◌, Result, Ok, true, false, ap, arith, subst, sym, ◌∙◌}
+use Rattle.std.proofs.Common.{◌≡◌, refl, Result, Ok, true, false, ap, arith, subst, sym, ◌∙◌}
 use Rattle.std.specs.Prelude.{IfErr}
-use Rattle.dkg_types.specs.declared.fault.Fault.{Fault}
-use Rattle.dkg_reshare.specs.declared.stop.Stop.TheVariants.{Fault as Faulted}
-use Rattle.dkg_reshare.specs.Ends.{IsCaused}
 use Rattle.std.proofs.lemmas.Grind.{common_steps}
 use Rattle.std.proofs.lemmas.Result.{err_from_is_err_and}
 use Rattle.std.specs.Int.NonZero.{non_zero_u64_get}
 use Rattle.dkg_ceremony.specs.Schedule.{bounds_at}
+use Rattle.dkg_types.specs.declared.fault.Fault.{Fault}
+use Rattle.dkg_types.specs.declared.fault.Fault.TheVariants.{HeightRange, OutOfWindow}
+use Rattle.dkg_store.specs.Acts.{went}
+use Rattle.dkg_core.specs.Blocks as blocks
+use Rattle.dkg_reshare.specs.declared.stop.Stop.TheVariants.{Fault as Faulted}
 use Rattle.dkg_reshare.specs.declared.tip.Judged.{Judged}
-use Rattle.dkg_reshare.proofs.Taking.{bounds_are, is_now, judged_off, no_range, no_window, not_ended, placed_on, refusal_caused, taken_again, taken_new}
+use Rattle.dkg_reshare.specs.Ends.{IsCaused, by_stop, ends_in}
+use Rattle.dkg_reshare.specs.LiveOf.{live_of}
+use Rattle.dkg_reshare.specs.Steps.{AreBoundsAt}
+use Rattle.dkg_reshare.proofs.Beginning.{makes_as, tells_as}
+use Rattle.dkg_reshare.proofs.Beside.{beside_as, none_beside, took_none}
+use Rattle.dkg_reshare.proofs.Burning.{speaks_makes}
+use Rattle.dkg_reshare.proofs.Caused.{caused_around}
+use Rattle.dkg_reshare.proofs.Kept.{moved_none}
+use Rattle.dkg_reshare.proofs.Said.{speaks_tells}
+use Rattle.dkg_reshare.proofs.Ranges.{lies_at}
+use Rattle.dkg_reshare.proofs.Taking.{is_applied, judged_off, no_range, no_window, refusal_caused, taken_again, taken_new}
 use Rattle.dkg_reshare.proofs.blocks.take_block.Goals as goal
 
-pub apply-requires-clause-before : goal.apply-requires-clause-before
-apply-requires-clause-before g c =
-    let n = non_zero_u64_get c.args.terms.now.blocks_per_epoch in
-    let long = c.args.terms.now.long in
-    let some : 0 < n = omega (arith, long) in
-    not_ended c.args.block.now n some c.args.life.now c.requires.placed c.requires.early (sym c.in_ok-judge.ensures ∙ ap (λ (x : Judged). Ok x) c.in-New.is)
-
-pub returns-in_default-clause-speaks : goal.returns-in_default-clause-speaks
-returns-in_default-clause-speaks g c = λ fixed beside fence of.
-    no_range fixed c.args.block.now beside fence c.args.life.now c.new.result (of.blocks ∙ sym c.new.ensures) c.height-height.result (bounds_at c.new.result c.height-height.result)
-    c.height-height.ensures c.in_default.ensures.value
-
-pub returns-then-not-looks_at-clause-speaks : goal.returns-then-not-looks_at-clause-speaks
-returns-then-not-looks_at-clause-speaks g c = λ fixed beside fence of.
+pub apply-requires-clause-bounds : goal.apply-requires-clause-bounds
+apply-requires-clause-bounds g c =
     let n = non_zero_u64_get c.args.terms.now.blocks_per_epoch in
     let value = rw c.new.ensures at c.in-Some.ensures.value in
-    let bounds = bounds_are fixed c.args.block.now n c.height-height.result c.in-Some.bounds of.blocks c.height-height.ensures value in
-    let looks = c.looks_at.ensures fixed c.args.block.now beside fence bounds in
-    let out_of : c.looks_at.result ≡ false = grind (arith, common_steps) in
-    no_window fixed c.args.block.now beside fence c.args.life.now n of.blocks c.height-height.result (bounds_at n c.height-height.result) c.in-Some.bounds c.height-height.ensures value (sym looks ∙ out_of)
+    subst (AreBoundsAt n c.in-Some.bounds) c.height-height.ensures (lies_at n c.height-height.result c.in-Some.bounds value)
 
-pub returns-in_err-judge-clause-speaks : goal.returns-in_err-judge-clause-speaks
-returns-in_err-judge-clause-speaks g c = λ fixed beside fence of.
+pub apply-requires-clause-taken : goal.apply-requires-clause-taken
+apply-requires-clause-taken g c =
+    let n = non_zero_u64_get c.args.terms.now.blocks_per_epoch in
+    let value = rw c.new.ensures at c.in-Some.ensures.value in
+    let yes : c.looks_at.result ≡ true = grind (arith, common_steps) in
+    is_applied n c.height-height.result c.args.life.now c.args.block.now c.in-Some.bounds (lies_at n c.height-height.result c.in-Some.bounds value) c.height-height.ensures
+    (sym c.looks_at.ensures ∙ yes) (sym c.in_ok-judge.ensures ∙ ap (λ (x : Judged). Ok x) c.in-New.is)
+
+pub returns-in_default-clause-acts : goal.returns-in_default-clause-acts
+returns-in_default-clause-acts g c = λ disk secrets fixed beside of reads by.
+    none_beside beside _ _ tt (speaks_makes (blocks.delivers fixed c.args.block.now (live_of beside c.args.fence.now c.args.life.now)) (by_stop (Faulted HeightRange)) _ _ (no_range fixed c.args.block.now beside c.args.fence.now c.args.life.now c.new.result (of.of.blocks ∙ sym c.new.ensures) c.height-height.result (bounds_at c.new.result c.height-height.result)
+    c.height-height.ensures c.in_default.ensures.value c.args.out.now.entries))
+
+pub returns-in_default-clause-tells : goal.returns-in_default-clause-tells
+returns-in_default-clause-tells g c = λ fixed beside of reads by.
+    none_beside beside _ _ tt (speaks_tells (blocks.delivers fixed c.args.block.now (live_of beside c.args.fence.now c.args.life.now)) (by_stop (Faulted HeightRange)) (no_range fixed c.args.block.now beside c.args.fence.now c.args.life.now c.new.result (of.of.blocks ∙ sym c.new.ensures) c.height-height.result (bounds_at c.new.result c.height-height.result)
+    c.height-height.ensures c.in_default.ensures.value c.args.out.now.entries))
+
+pub returns-in_default-clause-moved : goal.returns-in_default-clause-moved
+returns-in_default-clause-moved g c = moved_none g.D.Disk.tells g.D.Disk.made g.X.SecretStore.made g.D.Disk.faults g.X.SecretStore.faults g.met.D.Disk.made_none g.met.X.SecretStore.made_none c.args.devices.now
+
+pub returns-then-not-looks_at-clause-acts : goal.returns-then-not-looks_at-clause-acts
+returns-then-not-looks_at-clause-acts g c = λ disk secrets fixed beside of reads by.
+    let n = non_zero_u64_get c.args.terms.now.blocks_per_epoch in
+    let value = rw c.new.ensures at c.in-Some.ensures.value in
+    let out_of : c.looks_at.result ≡ false = grind (arith, common_steps) in
+    none_beside beside _ _ tt (speaks_makes (blocks.delivers fixed c.args.block.now (live_of beside c.args.fence.now c.args.life.now)) (by_stop (Faulted (OutOfWindow c.height-height.result))) _ _ (no_window fixed c.args.block.now beside c.args.fence.now c.args.life.now n of.of.blocks c.height-height.result c.in-Some.bounds
+    c.height-height.ensures (lies_at n c.height-height.result c.in-Some.bounds value) (sym c.looks_at.ensures ∙ out_of) c.args.out.now.entries))
+
+pub returns-then-not-looks_at-clause-tells : goal.returns-then-not-looks_at-clause-tells
+returns-then-not-looks_at-clause-tells g c = λ fixed beside of reads by.
+    let n = non_zero_u64_get c.args.terms.now.blocks_per_epoch in
+    let value = rw c.new.ensures at c.in-Some.ensures.value in
+    let out_of : c.looks_at.result ≡ false = grind (arith, common_steps) in
+    none_beside beside _ _ tt (speaks_tells (blocks.delivers fixed c.args.block.now (live_of beside c.args.fence.now c.args.life.now)) (by_stop (Faulted (OutOfWindow c.height-height.result))) (no_window fixed c.args.block.now beside c.args.fence.now c.args.life.now n of.of.blocks c.height-height.result c.in-Some.bounds
+    c.height-height.ensures (lies_at n c.height-height.result c.in-Some.bounds value) (sym c.looks_at.ensures ∙ out_of) c.args.out.now.entries))
+
+pub returns-then-not-looks_at-clause-moved : goal.returns-then-not-looks_at-clause-moved
+returns-then-not-looks_at-clause-moved g c = moved_none g.D.Disk.tells g.D.Disk.made g.X.SecretStore.made g.D.Disk.faults g.X.SecretStore.faults g.met.D.Disk.made_none g.met.X.SecretStore.made_none c.args.devices.now
+
+pub returns-in_err-judge-clause-acts : goal.returns-in_err-judge-clause-acts
+returns-in_err-judge-clause-acts g c = λ disk secrets fixed beside of reads by.
     let p = err_from_is_err_and c.from_residual.result c.from_residual.ensures.1 in
     let n = non_zero_u64_get c.args.terms.now.blocks_per_epoch in
     let value = rw c.new.ensures at c.in-Some.ensures.value in
-    let bounds = bounds_are fixed c.args.block.now n c.height-height.result c.in-Some.bounds of.blocks c.height-height.ensures value in
-    let looks = c.looks_at.ensures fixed c.args.block.now beside fence bounds in
     let yes : c.looks_at.result ≡ true = grind (arith, common_steps) in
-    rw (p.1, p.2) (judged_off fixed c.args.block.now beside fence c.args.life.now n of.blocks c.height-height.result (bounds_at n c.height-height.result) c.in-Some.bounds c.height-height.ensures value (sym looks ∙ yes) c.in_err-judge.field-0.0 (sym c.in_err-judge.ensures))
+    rw (p.1, p.2) (none_beside beside _ _ tt (speaks_makes (blocks.delivers fixed c.args.block.now (live_of beside c.args.fence.now c.args.life.now)) (by_stop (Faulted c.in_err-judge.field-0.0)) _ _ (judged_off fixed c.args.block.now beside c.args.fence.now c.args.life.now n of.of.blocks c.height-height.result c.in-Some.bounds
+    c.height-height.ensures (lies_at n c.height-height.result c.in-Some.bounds value) (sym c.looks_at.ensures ∙ yes) c.in_err-judge.field-0.0 (sym c.in_err-judge.ensures) c.args.out.now.entries)))
 
-pub returns-in-Again-clause-speaks : goal.returns-in-Again-clause-speaks
-returns-in-Again-clause-speaks g c = λ fixed beside fence of.
+pub returns-in_err-judge-clause-tells : goal.returns-in_err-judge-clause-tells
+returns-in_err-judge-clause-tells g c = λ fixed beside of reads by.
+    let p = err_from_is_err_and c.from_residual.result c.from_residual.ensures.1 in
     let n = non_zero_u64_get c.args.terms.now.blocks_per_epoch in
     let value = rw c.new.ensures at c.in-Some.ensures.value in
-    let bounds = bounds_are fixed c.args.block.now n c.height-height.result c.in-Some.bounds of.blocks c.height-height.ensures value in
-    let looks = c.looks_at.ensures fixed c.args.block.now beside fence bounds in
     let yes : c.looks_at.result ≡ true = grind (arith, common_steps) in
-    taken_again fixed c.args.block.now beside fence c.args.life.now n of.blocks c.height-height.result (bounds_at n c.height-height.result) c.in-Some.bounds c.height-height.ensures value (sym looks ∙ yes) (sym c.in_ok-judge.ensures ∙ ap (λ (x : Judged). Ok x) c.in-Again.is)
+    rw (p.1, p.2) (none_beside beside _ _ tt (speaks_tells (blocks.delivers fixed c.args.block.now (live_of beside c.args.fence.now c.args.life.now)) (by_stop (Faulted c.in_err-judge.field-0.0)) (judged_off fixed c.args.block.now beside c.args.fence.now c.args.life.now n of.of.blocks c.height-height.result c.in-Some.bounds
+    c.height-height.ensures (lies_at n c.height-height.result c.in-Some.bounds value) (sym c.looks_at.ensures ∙ yes) c.in_err-judge.field-0.0 (sym c.in_err-judge.ensures) c.args.out.now.entries)))
 
-pub returns-in-New-clause-speaks : goal.returns-in-New-clause-speaks
-returns-in-New-clause-speaks g c = λ fixed beside fence of.
-    let n = non_zero_u64_get c.args.terms.now.blocks_per_epoch in
-    let long = c.args.terms.now.long in
-    let some : 0 < n = omega (arith, long) in
-    let value = rw c.new.ensures at c.in-Some.ensures.value in
-    let bounds = bounds_are fixed c.args.block.now n c.height-height.result c.in-Some.bounds of.blocks c.height-height.ensures value in
-    let looks = c.looks_at.ensures fixed c.args.block.now beside fence bounds in
-    let yes : c.looks_at.result ≡ true = grind (arith, common_steps) in
-    taken_new fixed c.args.block.now beside fence c.args.life.now n of.blocks c.height-height.result (bounds_at n c.height-height.result) c.in-Some.bounds c.height-height.ensures value (sym looks ∙ yes) some c.requires.placed c.requires.early
-    (sym c.in_ok-judge.ensures ∙ ap (λ (x : Judged). Ok x) c.in-New.is) c.apply.new.life (is_now c.args.life.now c.apply.new.life _ _ c.apply.ensures.rest c.apply.ensures.tip c.apply.ensures.stage)
-
-pub returns-in-New-clause-placed : goal.returns-in-New-clause-placed
-returns-in-New-clause-placed g c =
-    let n = non_zero_u64_get c.args.terms.now.blocks_per_epoch in
-    let long = c.args.terms.now.long in
-    let some : 0 < n = omega (arith, long) in
-    placed_on c.args.block.now n some c.args.life.now c.requires.placed c.requires.early (sym c.in_ok-judge.ensures ∙ ap (λ (x : Judged). Ok x) c.in-New.is) c.apply.new.life
-    (is_now c.args.life.now c.apply.new.life _ _ c.apply.ensures.rest c.apply.ensures.tip c.apply.ensures.stage)
+pub returns-in_err-judge-clause-moved : goal.returns-in_err-judge-clause-moved
+returns-in_err-judge-clause-moved g c = moved_none g.D.Disk.tells g.D.Disk.made g.X.SecretStore.made g.D.Disk.faults g.X.SecretStore.faults g.met.D.Disk.made_none g.met.X.SecretStore.made_none c.args.devices.now
 
 pub returns-in_err-judge-clause-causes : goal.returns-in_err-judge-clause-causes
 returns-in_err-judge-clause-causes g c =
     let p = err_from_is_err_and c.from_residual.result c.from_residual.ensures.1 in
     let P : Result Judged Fault → Type 0 = λ r. IfErr r (λ e. IsCaused (Faulted e) ⊥ ⊥ ⊥) in
-    rw (p.1, p.2) (subst P (sym c.in_err-judge.ensures) (refusal_caused c.args.life.now.tip c.args.block.now.height c.args.block.now.digest c.args.block.now.parent))
+    rw (p.1, p.2) (caused_around g.D.Disk.tells (λ x. absurd x) (λ x. absurd x) (λ x. absurd x) (Faulted c.in_err-judge.field-0.0)
+    (subst P (sym c.in_err-judge.ensures) (refusal_caused c.args.life.now.tip c.args.block.now.height c.args.block.now.digest c.args.block.now.parent)))
+
+pub returns-in-Again-clause-acts : goal.returns-in-Again-clause-acts
+returns-in-Again-clause-acts g c = λ disk secrets fixed beside of reads by.
+    let n = non_zero_u64_get c.args.terms.now.blocks_per_epoch in
+    let value = rw c.new.ensures at c.in-Some.ensures.value in
+    let yes : c.looks_at.result ≡ true = grind (arith, common_steps) in
+    none_beside beside _ _ (took_none g.R.Registrar.tells (g.R.Registrar.taken c.args.registrar.now)) (speaks_makes (blocks.delivers fixed c.args.block.now (live_of beside c.args.fence.now c.args.life.now)) (went (live_of beside c.args.fence.now c.args.life.now)) _ _ (taken_again fixed c.args.block.now beside c.args.fence.now c.args.life.now n of.of.blocks c.height-height.result
+    c.in-Some.bounds c.height-height.ensures (lies_at n c.height-height.result c.in-Some.bounds value) (sym c.looks_at.ensures ∙ yes)
+    (sym c.in_ok-judge.ensures ∙ ap (λ (x : Judged). Ok x) c.in-Again.is) c.args.out.now.entries))
+
+pub returns-in-Again-clause-tells : goal.returns-in-Again-clause-tells
+returns-in-Again-clause-tells g c = λ fixed beside of reads by.
+    let n = non_zero_u64_get c.args.terms.now.blocks_per_epoch in
+    let value = rw c.new.ensures at c.in-Some.ensures.value in
+    let yes : c.looks_at.result ≡ true = grind (arith, common_steps) in
+    none_beside beside _ _ (took_none g.R.Registrar.tells (g.R.Registrar.taken c.args.registrar.now)) (speaks_tells (blocks.delivers fixed c.args.block.now (live_of beside c.args.fence.now c.args.life.now)) (went (live_of beside c.args.fence.now c.args.life.now)) (taken_again fixed c.args.block.now beside c.args.fence.now c.args.life.now n of.of.blocks c.height-height.result
+    c.in-Some.bounds c.height-height.ensures (lies_at n c.height-height.result c.in-Some.bounds value) (sym c.looks_at.ensures ∙ yes)
+    (sym c.in_ok-judge.ensures ∙ ap (λ (x : Judged). Ok x) c.in-Again.is) c.args.out.now.entries))
+
+pub returns-in-Again-clause-moved : goal.returns-in-Again-clause-moved
+returns-in-Again-clause-moved g c = moved_none g.D.Disk.tells g.D.Disk.made g.X.SecretStore.made g.D.Disk.faults g.X.SecretStore.faults g.met.D.Disk.made_none g.met.X.SecretStore.made_none c.args.devices.now
+
+pub returns-in-New-clause-acts : goal.returns-in-New-clause-acts
+returns-in-New-clause-acts g c = λ disk secrets fixed beside of reads by.
+    let n = non_zero_u64_get c.args.terms.now.blocks_per_epoch in
+    let value = rw c.new.ensures at c.in-Some.ensures.value in
+    let yes : c.looks_at.result ≡ true = grind (arith, common_steps) in
+    let is = taken_new fixed c.args.block.now beside c.args.fence.now c.args.life.now n of.of.blocks c.height-height.result c.in-Some.bounds c.height-height.ensures
+    (lies_at n c.height-height.result c.in-Some.bounds value) (sym c.looks_at.ensures ∙ yes) (sym c.in_ok-judge.ensures ∙ ap (λ (x : Judged). Ok x) c.in-New.is) in
+    beside_as (λ more took. took) (λ now made. makes_as is (ends_in (live_of now c.apply.new.fence c.apply.new.life) c.apply.result) made) (c.apply.ensures.acts disk secrets fixed beside of reads by)
+
+pub returns-in-New-clause-tells : goal.returns-in-New-clause-tells
+returns-in-New-clause-tells g c = λ fixed beside of reads by.
+    let n = non_zero_u64_get c.args.terms.now.blocks_per_epoch in
+    let value = rw c.new.ensures at c.in-Some.ensures.value in
+    let yes : c.looks_at.result ≡ true = grind (arith, common_steps) in
+    let is = taken_new fixed c.args.block.now beside c.args.fence.now c.args.life.now n of.of.blocks c.height-height.result c.in-Some.bounds c.height-height.ensures
+    (lies_at n c.height-height.result c.in-Some.bounds value) (sym c.looks_at.ensures ∙ yes) (sym c.in_ok-judge.ensures ∙ ap (λ (x : Judged). Ok x) c.in-New.is) in
+    beside_as (λ more took. took) (λ now told. tells_as is (ends_in (live_of now c.apply.new.fence c.apply.new.life) c.apply.result) told) (c.apply.ensures.tells fixed beside of reads by)
+
+pub apply-requires-clause-form : goal.apply-requires-clause-form
+apply-requires-clause-form g c = c.requires.taken
+
+pub apply-requires-clause-me : goal.apply-requires-clause-me
+apply-requires-clause-me g c = c.requires.me
+
+pub apply-requires-clause-ready : goal.apply-requires-clause-ready
+apply-requires-clause-ready g c = c.requires.ready
+
+pub returns-in-New-clause-ready : goal.returns-in-New-clause-ready
+returns-in-New-clause-ready g c = c.apply.ensures.ready
+
+pub returns-in-New-clause-word : goal.returns-in-New-clause-word
+returns-in-New-clause-word g c = c.apply.ensures.word
+
+pub returns-in-New-clause-moved : goal.returns-in-New-clause-moved
+returns-in-New-clause-moved g c = c.apply.ensures.moved
+
+pub returns-in-New-clause-causes : goal.returns-in-New-clause-causes
+returns-in-New-clause-causes g c = c.apply.ensures.causes
+
+pub returns-in-New-clause-fit : goal.returns-in-New-clause-fit
+returns-in-New-clause-fit g c = c.apply.ensures.fit
+
+pub returns-in_default-clause-word : goal.returns-in_default-clause-word
+returns-in_default-clause-word g c = refl
+
+pub returns-in_default-clause-fit : goal.returns-in_default-clause-fit
+returns-in_default-clause-fit g c = λ told fit. fit
+
+pub returns-then-not-looks_at-clause-word : goal.returns-then-not-looks_at-clause-word
+returns-then-not-looks_at-clause-word g c = refl
+
+pub returns-then-not-looks_at-clause-fit : goal.returns-then-not-looks_at-clause-fit
+returns-then-not-looks_at-clause-fit g c = λ told fit. fit
+
+pub returns-in-Again-clause-word : goal.returns-in-Again-clause-word
+returns-in-Again-clause-word g c = refl
+
+pub returns-in-Again-clause-fit : goal.returns-in-Again-clause-fit
+returns-in-Again-clause-fit g c = λ told fit. fit
+
+pub returns-in_err-judge-clause-word : goal.returns-in_err-judge-clause-word
+returns-in_err-judge-clause-word g c = refl
+
+pub returns-in_err-judge-clause-fit : goal.returns-in_err-judge-clause-fit
+returns-in_err-judge-clause-fit g c = λ told fit. fit
+
+pub returns-in-Again-clause-ready : goal.returns-in-Again-clause-ready
+returns-in-Again-clause-ready g c = c.requires.ready
+
+pub returns-in_default-clause-causes : goal.returns-in_default-clause-causes
+returns-in_default-clause-causes g c = tt
+
+pub returns-then-not-looks_at-clause-causes : goal.returns-then-not-looks_at-clause-causes
+returns-then-not-looks_at-clause-causes g c = tt

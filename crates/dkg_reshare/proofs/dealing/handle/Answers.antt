@@ -1,6 +1,6 @@
-use Rattle.std.proofs.Common.{ℕ, Ok, Err, ap, refl, sym, subst, ◌∙◌}
+use Rattle.std.proofs.Common.{ℕ, Ok, Err, ap, refl, rules, sym, subst}
 use Rattle.std.specs.Prelude.{Contains}
-use Rattle.dkg_journal.specs.Burn.{Burn}
+use Rattle.dkg_ceremony.specs.Publics.{public_fits}
 use Rattle.dkg_store.specs.Acts.{went}
 use Rattle.dkg_store.specs.declared.devices.Devices.{Devices}
 use Rattle.dkg_store.specs.declared.event.Event.TheVariants as events
@@ -53,7 +53,7 @@ pub returns-in-Ok-clause-moved : goal.returns-in-Ok-clause-moved
 returns-in-Ok-clause-moved g c = moved_called g.D.Disk.tells g.D.Disk.made g.X.SecretStore.made g.D.Disk.faults g.X.SecretStore.faults (λ told. tt) c.handle.ensures.called
 
 pub returns-in-Ok-clause-fit : goal.returns-in-Ok-clause-fit
-returns-in-Ok-clause-fit g c = λ told most fits fit. (c.handle.ensures.extends told).fit most (fits_event most (events.Dealing c.args.from c.args.public) fits) fit
+returns-in-Ok-clause-fit g c = λ told most few fit. (c.handle.ensures.extends told).fit most (fits_event most (events.Dealing c.args.from c.args.public) (record { one = search rules; other = public_fits most c.args.public (search rules) few })) fit
 
 -- IT REFUSED
 
@@ -91,7 +91,7 @@ pub returns-in-Err-Refused-clause-moved : goal.returns-in-Err-Refused-clause-mov
 returns-in-Err-Refused-clause-moved g c = moved_called g.D.Disk.tells g.D.Disk.made g.X.SecretStore.made g.D.Disk.faults g.X.SecretStore.faults (λ told. tt) c.handle.ensures.called
 
 pub returns-in-Err-Refused-clause-fit : goal.returns-in-Err-Refused-clause-fit
-returns-in-Err-Refused-clause-fit g c = λ told most fits fit. (c.handle.ensures.extends told).fit most (fits_event most (events.Dealing c.args.from c.args.public) fits) fit
+returns-in-Err-Refused-clause-fit g c = λ told most few fit. (c.handle.ensures.extends told).fit most (fits_event most (events.Dealing c.args.from c.args.public) (record { one = search rules; other = public_fits most c.args.public (search rules) few })) fit
 
 -- THE STORE FAILED
 
@@ -122,7 +122,7 @@ pub returns-in-Err-Store-clause-moved : goal.returns-in-Err-Store-clause-moved
 returns-in-Err-Store-clause-moved g c = moved_called g.D.Disk.tells g.D.Disk.made g.X.SecretStore.made g.D.Disk.faults g.X.SecretStore.faults (λ told. tt) c.handle.ensures.called
 
 pub returns-in-Err-Store-clause-fit : goal.returns-in-Err-Store-clause-fit
-returns-in-Err-Store-clause-fit g c = λ told most fits fit. (c.handle.ensures.extends told).fit most (fits_event most (events.Dealing c.args.from c.args.public) fits) fit
+returns-in-Err-Store-clause-fit g c = λ told most few fit. (c.handle.ensures.extends told).fit most (fits_event most (events.Dealing c.args.from c.args.public) (record { one = search rules; other = public_fits most c.args.public (search rules) few })) fit
 
 pub returns-in-Err-Store-clause-causes : goal.returns-in-Err-Store-clause-causes
 returns-in-Err-Store-clause-causes g c =

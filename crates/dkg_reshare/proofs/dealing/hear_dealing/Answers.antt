@@ -1,9 +1,9 @@
-use Rattle.std.proofs.Common.{rules}
 use Rattle.std.proofs.lemmas.Result.{err_from_is_err_and}
 use Rattle.std.specs.Int.NonZero.{non_zero_u32_get}
 use Rattle.dkg_reshare.proofs.Heard.{heard_made, heard_said, heard_stopped, heard_unsaid, of_round}
+use Rattle.dkg_reshare.proofs.Dealt.{ready_heard}
 use Rattle.dkg_reshare.proofs.Kept.{moved_none}
-use Rattle.dkg_reshare.proofs.Short.{dealing_fits}
+use Rattle.dkg_reshare.proofs.Seated.{on_ok}
 use Rattle.dkg_reshare.proofs.dealing.hear_dealing.Goals as goal
 
 pub handle-requires-clause-sits : goal.handle-requires-clause-sits
@@ -27,12 +27,12 @@ returns-clause-tells g c = λ fixed round beside fence of by has.
 pub returns-clause-fit : goal.returns-clause-fit
 returns-clause-fit g c = λ told fit.
     let most = non_zero_u32_get c.args.terms.now.limit in
-    c.handle.ensures.fit told most (dealing_fits most c.args.from c.args.public c.args.private (search rules) c.requires.fits) fit
+    c.handle.ensures.fit told most c.requires.fits.one.few fit
 
 pub returns-in_err-answer-clause-fit : goal.returns-in_err-answer-clause-fit
 returns-in_err-answer-clause-fit g c = λ told fit.
     let most = non_zero_u32_get c.args.terms.now.limit in
-    c.handle.ensures.fit told most (dealing_fits most c.args.from c.args.public c.args.private (search rules) c.requires.fits) fit
+    c.handle.ensures.fit told most c.requires.fits.one.few fit
 
 pub returns-in_err-answer-clause-acts : goal.returns-in_err-answer-clause-acts
 returns-in_err-answer-clause-acts g c = λ disk secrets fixed round beside fence of by has.
@@ -50,3 +50,8 @@ returns-in_err-answer-clause-tells g c = λ fixed round beside fence of by has.
 
 pub returns-in_default-clause-moved : goal.returns-in_default-clause-moved
 returns-in_default-clause-moved g c = moved_none g.D.Disk.tells g.D.Disk.made g.X.SecretStore.made g.D.Disk.faults g.X.SecretStore.faults g.met.D.Disk.made_none g.met.X.SecretStore.made_none c.args.devices.now
+
+pub returns-clause-ready : goal.returns-clause-ready
+returns-clause-ready g c =
+    on_ok c.tell_answer.result (ready_heard g.D.Disk.tells g.D.Disk.files g.D.Disk.image g.C.Ceremony.ack_of g.C.Ceremony.deal_of g.C.Ceremony.check_ack_of c.args.terms.now c.args.life.now c.args.devices.now c.requires.ready
+    c.handle.new.devices _ c.in-Some.player c.handle.new.player c.handle.new.store c.in-Some.is c.requires.me c.in_ok-answer.ensures.keeps.sits c.in_ok-answer.ensures.firm)

@@ -17,8 +17,8 @@ use Rattle.dkg_reshare.specs.Today.{seen_today}
 use Rattle.dkg_reshare.proofs.Caused.{rose_around}
 use Rattle.dkg_store.proofs.Counts.{reached_behind}
 use Rattle.dkg_reshare.proofs.Kept.{above_then, moved_then}
-use Rattle.dkg_reshare.proofs.Openings.{beside_as, found_around, given_behind, given_stopped, given_untold, opening_failed, opening_made, opening_told, opening_untold, reading_lent, store_agrees, was_readable}
-use Rattle.dkg_reshare.proofs.Placing.{none_beside}
+use Rattle.dkg_reshare.proofs.Beside.{beside_as, none_beside}
+use Rattle.dkg_reshare.proofs.Openings.{can_read, found_around, lent_to, given_behind, given_stopped, given_untold, opening_failed, opening_made, opening_told, opening_untold, reading_lent, store_agrees, was_readable, with_secrets}
 use Rattle.dkg_reshare.proofs.opening.open_life.Goals as goal
 
 pub returns-in_err-store-clause-readable : goal.returns-in_err-store-clause-readable
@@ -27,17 +27,16 @@ returns-in_err-store-clause-readable g c = λ told.
     let its = c.in_err-store.ensures.readable told in rw (p.1, p.2) (record { ok = tt; untold = its.untold; shut = its.shut })
 
 pub returns-in_err-store-clause-acts : goal.returns-in_err-store-clause-acts
-returns-in_err-store-clause-acts g c = λ disk secrets fixed opening seats fresh.
+returns-in_err-store-clause-acts g c = λ disk secrets fixed opening by fresh.
     let p = err_from_is_err_and c.from_residual.result c.from_residual.ensures.1 in
     rw (p.1, p.2) (none_beside nothing_beside _ _ tt (opening_failed fixed opening.today opening.lent.of.unplanned seen_today opening.reads c.args.number (length (open_calls (g.D.Disk.files c.args.devices.now.disk.now))) opening.life_is opening.calls_are c.in_err-store.field-0.0 (c.in_err-store.ensures.acts disk secrets (subst (λ (n : ℕ). IsInGrammar n (g.D.Disk.files c.args.devices.now.disk.now)) opening.lent.of.limit opening.grammar))))
 
 pub returns-in_err-store-clause-tells : goal.returns-in_err-store-clause-tells
-returns-in_err-store-clause-tells g c = λ fixed lent life today seats fresh.
+returns-in_err-store-clause-tells g c = λ fixed lent life today by fresh.
     let p = err_from_is_err_and c.from_residual.result c.from_residual.ensures.1 in
     let read = c.in_err-store.ensures.tells fixed.opening_calls in
     rw (p.1, p.2) (record {
       seen = read.seen;
-      shareless = read.shareless;
       unplanned = read.unplanned;
       listed = read.listed;
       given = given_untold Records (Life g.row.Dir.Denot) c.in_err-store.field-0.0 (IsTrue g.D.Disk.tells) (IsTrue g.X.SecretStore.tells) (epoch_at (g.B.BlockSource.answers c.args.source.now) c.args.terms.now - 1) read.seen.dealings (g.D.Disk.image c.open_store.new.devices.disk.now) (g.X.SecretStore.held c.open_store.new.devices.secrets.now) read.given;
@@ -58,22 +57,21 @@ returns-in_err-set_up-clause-readable g c = λ told.
     was_readable (c.in_ok-store.ensures.readable told).ok _
 
 pub returns-in_err-set_up-clause-acts : goal.returns-in_err-set_up-clause-acts
-returns-in_err-set_up-clause-acts g c = λ disk secrets fixed opening seats fresh.
+returns-in_err-set_up-clause-acts g c = λ disk secrets fixed opening by fresh.
     let p = err_from_is_err_and c.from_residual-in_err-set_up.result c.from_residual-in_err-set_up.ensures.1 in
-    rw (p.1, p.2) (beside_as (λ more took. took) (λ now made. opening_made fixed opening.today opening.lent.of.unplanned seen_today opening.reads c.args.number (length (open_calls (g.D.Disk.files c.args.devices.now.disk.now))) opening.life_is opening.calls_are (g.B.BlockSource.answers c.args.source.now) opening.lent.lent c.args.fence.now fresh c.in_ok-store.store c.in_ok-store.ensures.current c.begin-life.result c.begin-life.ensures (by_stop c.in_err-set_up.field-0.0) (c.in_ok-store.ensures.acts disk secrets (subst (λ (n : ℕ). IsInGrammar n (g.D.Disk.files c.args.devices.now.disk.now)) opening.lent.of.limit opening.grammar)) made) (c.in_err-set_up.ensures.acts disk secrets fixed nothing_beside opening.lent opening.reads seats))
+    rw (p.1, p.2) (beside_as (λ more took. took) (λ now made. opening_made fixed opening.today opening.lent.of.unplanned seen_today opening.reads c.args.number (length (open_calls (g.D.Disk.files c.args.devices.now.disk.now))) opening.life_is opening.calls_are (g.B.BlockSource.answers c.args.source.now) opening.lent.lent c.args.fence.now fresh c.args.word c.in_ok-store.store c.in_ok-store.ensures.current c.begin-life.result c.begin-life.ensures (by_stop c.in_err-set_up.field-0.0) (c.in_ok-store.ensures.acts disk secrets (subst (λ (n : ℕ). IsInGrammar n (g.D.Disk.files c.args.devices.now.disk.now)) opening.lent.of.limit opening.grammar)) made) (c.in_err-set_up.ensures.acts disk secrets fixed nothing_beside (lent_to c.args.terms.now (g.B.BlockSource.answers c.args.source.now) c.args.word c.begin-life.result.word fixed (ap (λ (l : Life g.row.Dir.Denot). l.word) c.begin-life.ensures) opening.lent) opening.reads by))
 
 pub returns-in_err-set_up-clause-tells : goal.returns-in_err-set_up-clause-tells
-returns-in_err-set_up-clause-tells g c = λ fixed lent life today seats fresh.
+returns-in_err-set_up-clause-tells g c = λ fixed lent life today by fresh.
     let p = err_from_is_err_and c.from_residual-in_err-set_up.result c.from_residual-in_err-set_up.ensures.1 in
     let read = c.in_ok-store.ensures.tells fixed.opening_calls in
     rw (p.1, p.2) (record {
-      seen = read.seen;
-      shareless = read.shareless;
+      seen = with_secrets read.seen c.in_err-set_up.ensures.tells.0;
       unplanned = read.unplanned;
       listed = read.listed;
       given = given_stopped (IsTrue g.D.Disk.tells) (IsTrue g.X.SecretStore.tells) _ (epoch_at (g.B.BlockSource.answers c.args.source.now) c.args.terms.now - 1) (ap (λ (l : Life g.row.Dir.Denot). epoch_above c.args.terms.now l.tip - 1) c.begin-life.ensures) read.seen.dealings (g.D.Disk.files c.open_store.new.devices.disk.now) (g.D.Disk.image c.open_store.new.devices.disk.now) (g.D.Disk.image c.set_up.new.devices.disk.now) (g.X.SecretStore.held c.open_store.new.devices.secrets.now) (g.X.SecretStore.held c.set_up.new.devices.secrets.now) (λ told. g.met.D.Disk.reads c.open_store.new.devices.disk.now told) read.given (Unit {0}) (Life g.row.Dir.Denot) c.in_err-set_up.field-0.0 c.in_err-set_up.ensures.gives;
-      so = beside_as (λ more took. took) (λ now told. opening_told (reading read.seen fixed) (record { reshare = today.reshare; bare = today.bare }) (λ h. read.unplanned) (λ h. read.seen) refl c.args.number fixed.opening_calls life refl (g.B.BlockSource.answers c.args.source.now) lent.lent c.args.fence.now fresh c.in_ok-store.store c.in_ok-store.ensures.current c.begin-life.result c.begin-life.ensures (by_stop c.in_err-set_up.field-0.0) read.so told)
-          (c.in_err-set_up.ensures.tells (reading read.seen fixed) nothing_beside (reading_lent c.args.terms.now (g.B.BlockSource.answers c.args.source.now) c.args.word fixed read.seen read.shareless read.unplanned lent) seats);
+      so = beside_as (λ more took. took) (λ now told. opening_told (reading (with_secrets read.seen c.in_err-set_up.ensures.tells.0) fixed) (record { reshare = today.reshare; bare = today.bare }) (λ h. read.unplanned) (λ h. with_secrets read.seen c.in_err-set_up.ensures.tells.0) refl c.args.number fixed.opening_calls life refl (g.B.BlockSource.answers c.args.source.now) lent.lent c.args.fence.now fresh c.args.word c.in_ok-store.store c.in_ok-store.ensures.current c.begin-life.result c.begin-life.ensures (by_stop c.in_err-set_up.field-0.0) read.so told)
+          (c.in_err-set_up.ensures.tells.1 (reading (with_secrets read.seen c.in_err-set_up.ensures.tells.0) fixed) nothing_beside (reading_lent c.args.terms.now (g.B.BlockSource.answers c.args.source.now) c.args.word c.begin-life.result.word fixed (with_secrets read.seen c.in_err-set_up.ensures.tells.0) (ap (λ (l : Life g.row.Dir.Denot). l.word) c.begin-life.ensures) read.unplanned lent) (can_read read.seen c.in_err-set_up.ensures.tells.0 fixed) by);
     })
 
 pub returns-in_err-set_up-clause-moved : goal.returns-in_err-set_up-clause-moved
@@ -89,20 +87,19 @@ returns-clause-readable g c = λ told.
     was_readable (c.in_ok-store.ensures.readable told).ok _
 
 pub returns-clause-acts : goal.returns-clause-acts
-returns-clause-acts g c = λ disk secrets fixed opening seats fresh.
-    (beside_as (λ more took. took) (λ now made. opening_made fixed opening.today opening.lent.of.unplanned seen_today opening.reads c.args.number (length (open_calls (g.D.Disk.files c.args.devices.now.disk.now))) opening.life_is opening.calls_are (g.B.BlockSource.answers c.args.source.now) opening.lent.lent c.args.fence.now fresh c.in_ok-store.store c.in_ok-store.ensures.current c.begin-life.result c.begin-life.ensures (went (live_of now c.set_up.new.fence c.set_up.new.life)) (c.in_ok-store.ensures.acts disk secrets (subst (λ (n : ℕ). IsInGrammar n (g.D.Disk.files c.args.devices.now.disk.now)) opening.lent.of.limit opening.grammar)) made) (c.in_ok-set_up.ensures.acts disk secrets fixed nothing_beside opening.lent opening.reads seats))
+returns-clause-acts g c = λ disk secrets fixed opening by fresh.
+    (beside_as (λ more took. took) (λ now made. opening_made fixed opening.today opening.lent.of.unplanned seen_today opening.reads c.args.number (length (open_calls (g.D.Disk.files c.args.devices.now.disk.now))) opening.life_is opening.calls_are (g.B.BlockSource.answers c.args.source.now) opening.lent.lent c.args.fence.now fresh c.args.word c.in_ok-store.store c.in_ok-store.ensures.current c.begin-life.result c.begin-life.ensures (went (live_of now c.set_up.new.fence c.set_up.new.life)) (c.in_ok-store.ensures.acts disk secrets (subst (λ (n : ℕ). IsInGrammar n (g.D.Disk.files c.args.devices.now.disk.now)) opening.lent.of.limit opening.grammar)) made) (c.in_ok-set_up.ensures.acts disk secrets fixed nothing_beside (lent_to c.args.terms.now (g.B.BlockSource.answers c.args.source.now) c.args.word c.begin-life.result.word fixed (ap (λ (l : Life g.row.Dir.Denot). l.word) c.begin-life.ensures) opening.lent) opening.reads by))
 
 pub returns-clause-tells : goal.returns-clause-tells
-returns-clause-tells g c = λ fixed lent life today seats fresh.
+returns-clause-tells g c = λ fixed lent life today by fresh.
     let read = c.in_ok-store.ensures.tells fixed.opening_calls in
     (record {
-      seen = read.seen;
-      shareless = read.shareless;
+      seen = with_secrets read.seen c.in_ok-set_up.ensures.tells.0;
       unplanned = read.unplanned;
       listed = read.listed;
       given = given_behind (IsTrue g.D.Disk.tells) (IsTrue g.X.SecretStore.tells) _ (epoch_at (g.B.BlockSource.answers c.args.source.now) c.args.terms.now - 1) (ap (λ (l : Life g.row.Dir.Denot). epoch_above c.args.terms.now l.tip - 1) c.begin-life.ensures) read.seen.dealings (g.D.Disk.files c.open_store.new.devices.disk.now) (g.D.Disk.image c.open_store.new.devices.disk.now) (g.D.Disk.image c.set_up.new.devices.disk.now) (g.X.SecretStore.held c.open_store.new.devices.secrets.now) (g.X.SecretStore.held c.set_up.new.devices.secrets.now) (λ told. g.met.D.Disk.reads c.open_store.new.devices.disk.now told) read.given c.in_ok-set_up.ensures.gives;
-      so = beside_as (λ more took. took) (λ now told. opening_told (reading read.seen fixed) (record { reshare = today.reshare; bare = today.bare }) (λ h. read.unplanned) (λ h. read.seen) refl c.args.number fixed.opening_calls life refl (g.B.BlockSource.answers c.args.source.now) lent.lent c.args.fence.now fresh c.in_ok-store.store c.in_ok-store.ensures.current c.begin-life.result c.begin-life.ensures (went (live_of now c.set_up.new.fence c.set_up.new.life)) read.so told)
-          (c.in_ok-set_up.ensures.tells (reading read.seen fixed) nothing_beside (reading_lent c.args.terms.now (g.B.BlockSource.answers c.args.source.now) c.args.word fixed read.seen read.shareless read.unplanned lent) seats);
+      so = beside_as (λ more took. took) (λ now told. opening_told (reading (with_secrets read.seen c.in_ok-set_up.ensures.tells.0) fixed) (record { reshare = today.reshare; bare = today.bare }) (λ h. read.unplanned) (λ h. with_secrets read.seen c.in_ok-set_up.ensures.tells.0) refl c.args.number fixed.opening_calls life refl (g.B.BlockSource.answers c.args.source.now) lent.lent c.args.fence.now fresh c.args.word c.in_ok-store.store c.in_ok-store.ensures.current c.begin-life.result c.begin-life.ensures (went (live_of now c.set_up.new.fence c.set_up.new.life)) read.so told)
+          (c.in_ok-set_up.ensures.tells.1 (reading (with_secrets read.seen c.in_ok-set_up.ensures.tells.0) fixed) nothing_beside (reading_lent c.args.terms.now (g.B.BlockSource.answers c.args.source.now) c.args.word c.begin-life.result.word fixed (with_secrets read.seen c.in_ok-set_up.ensures.tells.0) (ap (λ (l : Life g.row.Dir.Denot). l.word) c.begin-life.ensures) read.unplanned lent) (can_read read.seen c.in_ok-set_up.ensures.tells.0 fixed) by);
     })
 
 pub returns-clause-moved : goal.returns-clause-moved

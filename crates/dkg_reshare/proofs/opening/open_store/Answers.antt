@@ -111,7 +111,6 @@ returns-clause-tells g c = λ calls.
     let line = c.in_ok-push.ensures.ok ∙ ap (λ (l : List Restored). c.args.out.now.entries ++ Opened c.args.life l ∷ []) (c.in_ok-restored.ensures ∙ c.restored.ensures ∙ c.in_ok-store.ensures.restores.listed) in
     record {
       seen = seen_of c.in_ok-store.store;
-      shareless = refl;
       unplanned = refl;
       listed = (c.in_ok-store.store.dealings, refl);
       given = λ disk secrets. given_back c.in_ok-store.store _ _ _ _ (c.in_ok-store.ensures.restores.dealings disk secrets) (c.in_ok-store.ensures.restores.settled disk) c.init.ensures.same;

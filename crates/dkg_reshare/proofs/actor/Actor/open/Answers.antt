@@ -6,13 +6,13 @@ use Rattle.dkg_reshare.proofs.actor.Actor.open.Goals as goal
 pub returns-in_err-life-clause-acts : goal.returns-in_err-life-clause-acts
 returns-in_err-life-clause-acts g c = λ disk secrets fixed opening by fresh.
     let p = err_from_is_err_and c.from_residual.result c.from_residual.ensures.1 in
-    rw (p.1, p.2) (c.in_err-life.ensures.acts disk secrets fixed opening by.seats fresh)
+    rw (p.1, p.2) (c.in_err-life.ensures.acts disk secrets fixed opening by fresh)
 
 pub returns-in_err-life-clause-tells : goal.returns-in_err-life-clause-tells
 returns-in_err-life-clause-tells g c = λ fixed lent life today by fresh.
     let p = err_from_is_err_and c.from_residual.result c.from_residual.ensures.1 in
-    rw (p.1, p.2) (let read = c.in_err-life.ensures.tells fixed lent life today by.seats fresh in
-    record { seen = read.seen; shareless = read.shareless; unplanned = read.unplanned; listed = read.listed; given = by_stop_alike (Life g.row.Dir.Denot) (Unit {0}) c.in_err-life.field-0.0 _ read.given; so = read.so })
+    rw (p.1, p.2) (let read = c.in_err-life.ensures.tells fixed lent life today by fresh in
+    record { seen = read.seen; unplanned = read.unplanned; listed = read.listed; given = by_stop_alike (Life g.row.Dir.Denot) (Unit {0}) c.in_err-life.field-0.0 _ read.given; so = read.so })
 
 pub returns-in_err-life-clause-readable : goal.returns-in_err-life-clause-readable
 returns-in_err-life-clause-readable g c = λ told.
@@ -20,12 +20,12 @@ returns-in_err-life-clause-readable g c = λ told.
     rw (p.1, p.2) (let its = c.in_err-life.ensures.readable told in record { ok = tt; untold = its.untold; shut = its.shut })
 
 pub returns-clause-acts : goal.returns-clause-acts
-returns-clause-acts g c = λ disk secrets fixed opening by fresh. c.in_ok-life.ensures.acts disk secrets fixed opening by.seats fresh
+returns-clause-acts g c = λ disk secrets fixed opening by fresh. c.in_ok-life.ensures.acts disk secrets fixed opening by fresh
 
 pub returns-clause-tells : goal.returns-clause-tells
 returns-clause-tells g c = λ fixed lent life today by fresh.
-    let read = c.in_ok-life.ensures.tells fixed lent life today by.seats fresh in
-    record { seen = read.seen; shareless = read.shareless; unplanned = read.unplanned; listed = read.listed; given = read.given; so = read.so }
+    let read = c.in_ok-life.ensures.tells fixed lent life today by fresh in
+    record { seen = read.seen; unplanned = read.unplanned; listed = read.listed; given = read.given; so = read.so }
 
 pub returns-clause-readable : goal.returns-clause-readable
 returns-clause-readable g c = λ told. let its = c.in_ok-life.ensures.readable told in record { ok = its.ok; untold = its.untold; shut = its.shut }

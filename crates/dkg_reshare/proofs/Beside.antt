@@ -1,0 +1,52 @@
+-- What calls registered: nothing, one scheme, or what two calls did one behind another.
+use Rattle.std.proofs.Common.{◌≡◌, ℕ, Bool, List, [], ◌∷◌, ◌++◌, Option, Result, Ok, Err, refl, sym, ◌∙◌, ap, append_assoc, append-nil}
+use Rattle.std.specs.Prelude.{IsTrue, OnOk, reverse}
+use Rattle.std.proofs.lemmas.List.{reverse-append}
+use Rattle.dkg_types.specs.declared.info.EpochInfo.{EpochInfo}
+use Rattle.dkg_types.specs.declared.scheme.SchemeInfo.{SchemeInfo}
+use Rattle.dkg_core.specs.Live.{Orchestrator}
+use Rattle.dkg_reshare.specs.LiveOf.{Beside, EndsBeside, Took, scheme_by, with_scheme_of}
+
+module _ {Dir : Type 0} (beside : Beside Dir) (TookThese : List (ℕ × SchemeInfo) → Type 0) (P : Beside Dir → Type 0) where
+  -- nothing
+  pub none_beside : TookThese [] → P beside → EndsBeside beside TookThese P
+  none_beside took holds = record { now = beside; more = []; schemes = refl; took = took; probe = refl; orchestrator = refl; holds = holds }
+
+  -- an info's scheme
+  pub one_beside : (me : ℕ) (info : EpochInfo Dir) (share : Option ℕ) → TookThese (scheme_by me info share ∷ []) → P (with_scheme_of me info share beside) → EndsBeside beside TookThese P
+  one_beside me info share took holds =
+      record { now = with_scheme_of me info share beside; more = scheme_by me info share ∷ []; schemes = refl; took = took; probe = refl; orchestrator = refl; holds = holds }
+
+-- the same, of which more is known
+pub beside_as : {Dir : Type 0} {beside : Beside Dir} {T U : List (ℕ × SchemeInfo) → Type 0} {P Q : Beside Dir → Type 0} → ((more : List (ℕ × SchemeInfo)) → T more → U more) → ((now : Beside Dir) → P now → Q now)
+    → EndsBeside beside T P → EndsBeside beside U Q
+beside_as took so ends = record { now = ends.now; more = ends.more; schemes = ends.schemes; took = took ends.more ends.took; probe = ends.probe; orchestrator = ends.orchestrator; holds = so ends.now ends.holds }
+
+-- an info's scheme, and then what another call registered
+pub then_beside : {Dir : Type 0} (beside : Beside Dir) (me : ℕ) (info : EpochInfo Dir) (share : Option ℕ) {T U : List (ℕ × SchemeInfo) → Type 0} {P Q : Beside Dir → Type 0}
+    → ((more : List (ℕ × SchemeInfo)) → T more → U (more ++ scheme_by me info share ∷ [])) → ((now : Beside Dir) → P now → Q now) → EndsBeside (with_scheme_of me info share beside) T P → EndsBeside beside U Q
+then_beside {Dir} beside me info share took so ends = record {
+  now = ends.now;
+  more = ends.more ++ scheme_by me info share ∷ [];
+  schemes = ends.schemes ∙ sym (append_assoc ends.more (scheme_by me info share ∷ []) beside.orchestrator.schemes);
+  took = took ends.more ends.took;
+  probe = ends.probe;
+  orchestrator = ends.orchestrator;
+  holds = so ends.now ends.holds;
+}
+
+pub took_none : (tells : Bool) (taken : List (ℕ × SchemeInfo)) → Took tells taken taken []
+took_none tells taken = λ told. sym (append-nil taken)
+
+-- one taking behind another
+pub took_then : (tells : Bool) (old mid new first more : List (ℕ × SchemeInfo)) → (IsTrue tells → mid ≡ old ++ reverse first) → Took tells mid new more → Took tells old new (more ++ first)
+took_then tells old mid new first more one other = λ told.
+    other told
+    ∙ ap (λ (l : List (ℕ × SchemeInfo)). l ++ reverse more) (one told)
+    ∙ append_assoc old (reverse first) (reverse more)
+    ∙ ap (λ (l : List (ℕ × SchemeInfo)). old ++ l) (sym (reverse-append more first))
+
+-- where a call went well, what follows holds
+pub then_well : {T E A B : Type 0} (r : Result T E) → (A → B) → OnOk r A → OnOk r B
+then_well (Ok x) so a = so a
+then_well (Err e) so a = tt

@@ -1,0 +1,149 @@
+-- Where a life stands, and where the blocks lie that it applies.
+use Rattle.std.proofs.Common.{◌≡◌, ◌⊎◌, inl, inr, ℕ, ◌+◌, ◌*◌, ◌/◌, ◌-◌, ◌<◌, ◌≤◌, ◌^◌, nat_lt, nat_le, Bool, true, false, Option, Some, None, Result, Ok, Err, refl, sym, ◌∙◌, ap, subst, arith}
+use Rattle.std.specs.Prelude.{IsSomeAnd, List, ◌==◌, ◌&&◌, ◌||◌, is_some, not, if◌then◌else◌}
+use Rattle.std.specs.Option.{option_map_or}
+use Rattle.std.specs.Str.{bytes_eq}
+use Rattle.std.proofs.lemmas.Bool.Decides.{nat_tests}
+use Rattle.std.proofs.Math.Nat.{div-mul-le_self, mul-le-mul_left}
+use Rattle.std.proofs.lemmas.Nat.{le-div, div_below}
+use Rattle.dkg_ceremony.specs.Schedule.{epoch_of, last, midpoint}
+use Rattle.dkg_ceremony.specs.declared.epocher.Bounds.{Bounds}
+use Rattle.dkg_types.specs.Blocks.{Block}
+use Rattle.dkg_types.specs.declared.fault.Fault.{Fault}
+use Rattle.dkg_types.specs.declared.fault.Fault.TheVariants.{ConflictingBlock, DetachedBlock, SkippedHeight}
+use Rattle.dkg_core.specs.Sources.{Tip}
+use Rattle.dkg_reshare.specs.declared.life.Life.{Life}
+use Rattle.dkg_reshare.specs.declared.life.Stage.{Stage}
+use Rattle.dkg_reshare.specs.declared.life.Stage.TheVariants.{Dealing, Including, Following}
+use Rattle.dkg_reshare.specs.declared.tip.Judged.{Judged}
+use Rattle.dkg_reshare.specs.declared.tip.Judged.TheVariants.{New, Again}
+use Rattle.dkg_reshare.specs.Actors.{IsApplied, TakesBlock, is_early_in, is_in_window_by}
+use Rattle.dkg_reshare.specs.Judged.{judged, judged_over}
+use Rattle.dkg_reshare.specs.LiveOf.{IsPlaced, awaited_of}
+use Rattle.dkg_reshare.specs.Steps.{AreBoundsAt}
+
+-- EPOCHS
+
+pub same_epoch : (n e height : ℕ) → 0 < n → e * n ≤ height → height < e * n + n → height / n ≡ e
+same_epoch n e height some from to =
+    let up = le-div e height n some from in
+    let down = div_below height n (e + 1) some (omega (arith, to)) in
+    omega (arith, up, down)
+
+-- the next height below a midpoint's lies in the same epoch
+pub next_in : (n e height : ℕ) → 2 ≤ n → epoch_of n height ≡ e → height < midpoint n e → epoch_of n (height + 1) ≡ e
+next_in n e height long at early =
+    let from : e * n ≤ height = subst (λ (x : ℕ). x * n ≤ height) at (div-mul-le_self height n) in
+    same_epoch n e (height + 1) (omega (arith, long)) (omega (arith, from)) (omega (arith, early, long))
+
+-- .. and that behind a last one lies in the next
+pub next_behind : (n e height : ℕ) → 2 ≤ n → height ≡ last n e → epoch_of n (height + 1) ≡ e + 1
+next_behind n e height long at = same_epoch n (e + 1) (height + 1) (omega (arith, long)) (omega (arith, at, long)) (omega (arith, at, long))
+
+-- an epoch within 64 bits has another one behind it
+pub one_more : (n e : ℕ) → 2 ≤ n → last n e < 2 ^ 64 → e + 1 < 2 ^ 64
+one_more n e long within = let twice : e * 2 ≤ e * n = mul-le-mul_left e long in omega (arith, within, long, twice)
+
+-- BOUNDS
+
+module _ (n height : ℕ) (bounds : Bounds) (long : 2 ≤ n) (at : AreBoundsAt n bounds height) where
+  epoch_at : bounds.epoch ≡ epoch_of n height
+  epoch_at = ap (λ (x : Bounds). x.epoch) at.are
+
+  -- there is an epoch behind it
+  pub epoch_below : bounds.epoch + 1 < 2 ^ 64
+  epoch_below = subst (λ (e : ℕ). e + 1 < 2 ^ 64) (sym epoch_at) (one_more n (epoch_of n height) long at.in_range)
+
+  -- .. in which the height above its last one lies
+  pub behind_last : height ≡ bounds.last → epoch_of n (height + 1) ≡ bounds.epoch + 1
+  behind_last last = next_behind n (epoch_of n height) height long (last ∙ ap (λ (x : Bounds). x.last) at.are) ∙ ap (λ (e : ℕ). e + 1) (sym epoch_at)
+
+-- HOW A BLOCK IS JUDGED
+
+is_new : (p q r s : Bool) (e f g : Fault) → (if p then Err e else if q then Err f else if r then Err g else if s then Ok Again else Ok New) ≡ Ok New → (q ≡ false) × (s ≡ false)
+is_new true q r s e f g is = absurd cc
+is_new false true r s e f g is = absurd cc
+is_new false false true s e f g is = absurd cc
+is_new false false false true e f g is = absurd cc
+is_new false false false false e f g is = (refl, refl)
+
+pub new_height : (t : Tip) (height : ℕ) (digest parent : List ℕ) → judged_over t height digest parent ≡ Ok New → height ≡ t.height + 1
+unfolding judged_over
+new_height t height digest parent is =
+    let tests : (nat_lt (t.height + 1) height ≡ false) × (nat_le height t.height ≡ false) =
+    is_new ((height == t.height) && not (bytes_eq digest t.digest)) (nat_lt (t.height + 1) height) ((height == t.height + 1) && not (bytes_eq parent t.digest)) (nat_le height t.height)
+    (ConflictingBlock height) (SkippedHeight (t.height + 1) height) (DetachedBlock height) is in
+    let low : nat_lt (t.height + 1) height ≡ false = tests.0 in
+    let high : nat_le height t.height ≡ false = tests.1 in
+    grind (arith, nat_tests, low, high)
+
+-- A block in the window of a life that takes part is of its epoch.
+of_epoch : (s : Stage) (p q : Bool) → (s ≡ Following → ⊥) → is_in_window_by s p q ≡ true → p ≡ true
+of_epoch Dealing true q part is = refl
+of_epoch Dealing false q part is = absurd cc
+of_epoch Including true q part is = refl
+of_epoch Including false q part is = absurd cc
+of_epoch Following p q part is = absurd (part refl)
+
+-- A BLOCK THAT IS APPLIED
+
+module _ {Dir : Type 0} (n : ℕ) (old : Life Dir) (placed : IsPlaced n old) (b : Block Dir) where
+  epoch_by : (tip : Option Tip) → (old.stage ≡ Following → ⊥) → old.epoch ≡ epoch_of n (option_map_or (λ t. t.height + 1) tip 0) → judged tip b.height b.digest b.parent ≡ Ok New
+      → (tip ≡ None → is_in_window_by old.stage (epoch_of n b.height == old.epoch) (is_early_in n b.height) ≡ true) → epoch_of n b.height ≡ old.epoch
+  unfolding judged
+  epoch_by None part epoch is window = let same : (epoch_of n b.height == old.epoch) ≡ true = of_epoch old.stage (epoch_of n b.height == old.epoch) (is_early_in n b.height) part (window refl) in grind (arith, nat_tests, same)
+  epoch_by (Some t) part epoch is window = ap (epoch_of n) (new_height t b.height b.digest b.parent is) ∙ sym epoch
+
+  module _ (its : IsApplied n old b) where
+    -- it is of the life's epoch, unless that follows
+    pub its_epoch : (old.stage ≡ Following → ⊥) → epoch_of n b.height ≡ old.epoch
+    its_epoch part = epoch_by old.tip part (placed.epoch_is part) its.is_new its.in_window
+
+    middle_by : (tip : Option Tip) → IsSomeAnd tip (λ t. old.midpoint ≤ t.height + 1) → judged tip b.height b.digest b.parent ≡ Ok New → old.midpoint ≤ b.height
+    unfolding judged
+    middle_by None past is = absurd past
+    middle_by (Some t) past is = subst (λ (h : ℕ). old.midpoint ≤ h) (sym (new_height t b.height b.digest b.parent is)) past
+
+    -- it is below the midpoint where it is taken by a life that takes part
+    pub is_early : TakesBlock n old b → (old.stage ≡ Following → ⊥) → b.height < old.midpoint
+    is_early takes part = by_case (takes its)
+      where
+        by_case : (old.stage ≡ Following) ⊎ (b.height < midpoint n (epoch_of n b.height)) → b.height < old.midpoint
+        by_case (inl follows) = absurd (part follows)
+        by_case (inr early) = subst (λ (m : ℕ). b.height < m) (ap (midpoint n) (its_epoch part) ∙ sym (placed.midpoint_is part)) early
+
+    apart : (s : Stage) → s ≡ Including → s ≡ Following → ⊥
+    apart Dealing a e = cc
+    apart Including a e = let h : ◌≡◌ {A = Stage} Including Following = e in cc
+    apart Following a e = let h : ◌≡◌ {A = Stage} Following Including = a in cc
+
+    -- so a life that includes takes none
+    pub not_including : TakesBlock n old b → old.stage ≡ Including → ⊥
+    not_including takes including =
+        let early : b.height < old.midpoint = is_early takes (apart old.stage including) in
+        let late : old.midpoint ≤ b.height = middle_by old.tip (placed.ended including) its.is_new in
+        absurd (omega (arith, early, late))
+
+-- WHERE A LIFE STANDS THEN
+
+module _ {Dir : Type 0} (n : ℕ) (height : ℕ) (digest : List ℕ) where
+  -- behind an early block of its epoch
+  pub placed_behind : 2 ≤ n → (new : Life Dir) → new.tip ≡ Some (record { height = height; digest = digest }) → epoch_of n height ≡ new.epoch → new.midpoint ≡ midpoint n new.epoch → height < new.midpoint
+      → (new.stage ≡ Including → new.midpoint ≤ height + 1) → IsPlaced n new
+  placed_behind long new tip epoch middle early ended = record {
+    epoch_is = λ part. sym (next_in n new.epoch height long epoch (subst (λ (m : ℕ). height < m) middle early)) ∙ sym (ap (λ (o : Option Tip). epoch_of n (option_map_or (λ t. t.height + 1) o 0)) tip);
+    midpoint_is = λ part. middle;
+    ended = λ including. subst (λ (o : Option Tip). IsSomeAnd o (λ t. new.midpoint ≤ t.height + 1)) (sym tip) (ended including);
+  }
+
+  -- .. and while it follows, anywhere
+  pub placed_following : (new : Life Dir) → new.stage ≡ Following → IsPlaced n new
+  placed_following new follows = record {
+    epoch_is = λ part. absurd (part follows);
+    midpoint_is = λ part. absurd (part follows);
+    ended = λ including. absurd (let h : ◌≡◌ {A = Stage} Including Following = sym including ∙ follows in cc);
+  }
+
+-- what a test of heights says
+pub height_is : (a b : ℕ) → (a == b) ≡ true → a ≡ b
+height_is a b is = grind (arith, nat_tests, is)

@@ -1,0 +1,113 @@
+use Rattle.std.proofs.Common.{◌≡◌, ℕ, Some, true, false, ap, arith, sym, subst, refl, ◌∙◌}
+use Rattle.std.specs.Prelude.{◌==◌}
+use Rattle.std.proofs.lemmas.Bool.Decides.{nat_tests}
+use Rattle.std.proofs.lemmas.Grind.{common_steps}
+use Rattle.std.proofs.lemmas.Result.{err_from_is_err_and}
+use Rattle.std.specs.Int.NonZero.{non_zero_u64_get}
+use Rattle.dkg_ceremony.specs.declared.epocher.Bounds.{Bounds}
+use Rattle.dkg_store.specs.Acts.{went}
+use Rattle.dkg_core.specs.Blocks as blocks
+use Rattle.dkg_core.specs.Live.{with_tip}
+use Rattle.dkg_reshare.specs.declared.stop.Stop.TheVariants.{Fault as Faulted}
+use Rattle.dkg_reshare.specs.Ends.{by_stop, ends_in}
+use Rattle.dkg_reshare.specs.LiveOf.{live_of}
+use Rattle.dkg_reshare.proofs.Applying.{at_its_last, before_last, carried_caused, carried_next, not_carried, tipped}
+use Rattle.dkg_reshare.proofs.Beginning.{makes_as, tells_as}
+use Rattle.dkg_reshare.proofs.Beside.{beside_as, none_beside, took_none}
+use Rattle.dkg_reshare.proofs.Burning.{speaks_makes}
+use Rattle.dkg_reshare.proofs.Caused.{caused_around}
+use Rattle.dkg_reshare.proofs.Kept.{moved_none}
+use Rattle.dkg_reshare.proofs.Readying.{ready_following}
+use Rattle.dkg_reshare.proofs.Said.{speaks_tells}
+use Rattle.dkg_reshare.proofs.Speaking.{goes_speaks}
+use Rattle.dkg_reshare.proofs.Standing.{behind_last, epoch_below}
+use Rattle.dkg_reshare.proofs.blocks.follow_block.Goals as goal
+
+pub returns-then-ne-clause-acts : goal.returns-then-ne-clause-acts
+returns-then-ne-clause-acts g c = λ disk secrets fixed beside of reads by.
+    let is : (c.args.block.now.height == c.args.bounds.now.last) ≡ false = grind (arith, nat_tests, common_steps) in
+    none_beside beside _ _ (took_none g.R.Registrar.tells (g.R.Registrar.taken c.args.registrar.now)) (speaks_makes (blocks.follows_at fixed c.args.block.now (live_of beside c.args.fence.now c.args.life.now)) (went (live_of beside c.args.fence.now (record c.args.life.now { tip = Some c.tip_of.result }))) _ _ (goes_speaks (blocks.follows_at fixed c.args.block.now (live_of beside c.args.fence.now c.args.life.now)) (live_of beside c.args.fence.now (record c.args.life.now { tip = Some c.tip_of.result })) (with_tip c.args.block.now (live_of beside c.args.fence.now c.args.life.now)) (before_last fixed c.args.block.now (live_of beside c.args.fence.now c.args.life.now) (non_zero_u64_get c.args.terms.now.blocks_per_epoch) of.of.blocks of.of.reshare c.args.bounds.now c.requires.bounds is) (tipped c.args.block.now beside c.args.fence.now c.args.life.now c.tip_of.result c.tip_of.ensures) c.args.out.now.entries))
+
+pub returns-then-ne-clause-tells : goal.returns-then-ne-clause-tells
+returns-then-ne-clause-tells g c = λ fixed beside of reads by.
+    let is : (c.args.block.now.height == c.args.bounds.now.last) ≡ false = grind (arith, nat_tests, common_steps) in
+    none_beside beside _ _ (took_none g.R.Registrar.tells (g.R.Registrar.taken c.args.registrar.now)) (speaks_tells (blocks.follows_at fixed c.args.block.now (live_of beside c.args.fence.now c.args.life.now)) (went (live_of beside c.args.fence.now (record c.args.life.now { tip = Some c.tip_of.result }))) (goes_speaks (blocks.follows_at fixed c.args.block.now (live_of beside c.args.fence.now c.args.life.now)) (live_of beside c.args.fence.now (record c.args.life.now { tip = Some c.tip_of.result })) (with_tip c.args.block.now (live_of beside c.args.fence.now c.args.life.now)) (before_last fixed c.args.block.now (live_of beside c.args.fence.now c.args.life.now) (non_zero_u64_get c.args.terms.now.blocks_per_epoch) of.of.blocks of.of.reshare c.args.bounds.now c.requires.bounds is) (tipped c.args.block.now beside c.args.fence.now c.args.life.now c.tip_of.result c.tip_of.ensures) c.args.out.now.entries))
+
+pub returns-then-ne-clause-ready : goal.returns-then-ne-clause-ready
+returns-then-ne-clause-ready g c =
+    ready_following g.D.Disk.tells g.D.Disk.files g.D.Disk.image g.C.Ceremony.ack_of g.C.Ceremony.deal_of g.C.Ceremony.check_ack_of c.args.terms.now c.args.devices.now c.args.life.now c.requires.following c.requires.ready 0 c.tip_of.result
+
+pub returns-then-ne-clause-moved : goal.returns-then-ne-clause-moved
+returns-then-ne-clause-moved g c = moved_none g.D.Disk.tells g.D.Disk.made g.X.SecretStore.made g.D.Disk.faults g.X.SecretStore.faults g.met.D.Disk.made_none g.met.X.SecretStore.made_none c.args.devices.now
+
+pub carried_info-requires : goal.carried_info-requires
+carried_info-requires g c = record { below = epoch_below (non_zero_u64_get c.args.terms.now.blocks_per_epoch) c.args.block.now.height c.args.bounds.now c.args.terms.now.long c.requires.bounds }
+
+pub returns-in_err-info-clause-acts : goal.returns-in_err-info-clause-acts
+returns-in_err-info-clause-acts g c = λ disk secrets fixed beside of reads by.
+    let p = err_from_is_err_and c.from_residual.result c.from_residual.ensures.1 in
+    let is : (c.args.block.now.height == c.args.bounds.now.last) ≡ true = grind (arith, nat_tests, common_steps) in
+    rw (p.1, p.2) (none_beside beside _ _ tt (speaks_makes (blocks.follows_at fixed c.args.block.now (live_of beside c.args.fence.now c.args.life.now)) (by_stop (Faulted c.in_err-info.field-0.0)) _ _ (not_carried fixed c.args.block.now (live_of beside c.args.fence.now c.args.life.now) (non_zero_u64_get c.args.terms.now.blocks_per_epoch) of.of.blocks of.of.reshare c.args.bounds.now c.requires.bounds is c.in_err-info.field-0.0 c.in_err-info.ensures.err c.args.out.now.entries)))
+
+pub returns-in_err-info-clause-tells : goal.returns-in_err-info-clause-tells
+returns-in_err-info-clause-tells g c = λ fixed beside of reads by.
+    let p = err_from_is_err_and c.from_residual.result c.from_residual.ensures.1 in
+    let is : (c.args.block.now.height == c.args.bounds.now.last) ≡ true = grind (arith, nat_tests, common_steps) in
+    rw (p.1, p.2) (none_beside beside _ _ tt (speaks_tells (blocks.follows_at fixed c.args.block.now (live_of beside c.args.fence.now c.args.life.now)) (by_stop (Faulted c.in_err-info.field-0.0)) (not_carried fixed c.args.block.now (live_of beside c.args.fence.now c.args.life.now) (non_zero_u64_get c.args.terms.now.blocks_per_epoch) of.of.blocks of.of.reshare c.args.bounds.now c.requires.bounds is c.in_err-info.field-0.0 c.in_err-info.ensures.err c.args.out.now.entries)))
+
+pub returns-in_err-info-clause-moved : goal.returns-in_err-info-clause-moved
+returns-in_err-info-clause-moved g c = moved_none g.D.Disk.tells g.D.Disk.made g.X.SecretStore.made g.D.Disk.faults g.X.SecretStore.faults g.met.D.Disk.made_none g.met.X.SecretStore.made_none c.args.devices.now
+
+pub returns-in_err-info-clause-causes : goal.returns-in_err-info-clause-causes
+returns-in_err-info-clause-causes g c =
+    let p = err_from_is_err_and c.from_residual.result c.from_residual.ensures.1 in
+    rw (p.1, p.2) (caused_around g.D.Disk.tells (λ x. absurd x) (λ x. absurd x) (λ x. absurd x) (Faulted c.in_err-info.field-0.0)
+    (carried_caused c.args.block.now c.args.bounds.now.epoch c.in_err-info.field-0.0 c.in_err-info.ensures.err))
+
+pub take_over-requires-clause-next : goal.take_over-requires-clause-next
+take_over-requires-clause-next g c =
+    let at : c.args.block.now.height ≡ c.args.bounds.now.last = grind (arith, nat_tests, common_steps) in
+    carried_next c.args.block.now c.args.bounds.now.epoch c.in_ok-info.info.now c.in_ok-info.ensures.ok ∙ sym (behind_last (non_zero_u64_get c.args.terms.now.blocks_per_epoch) c.args.block.now.height c.args.bounds.now c.args.terms.now.long c.requires.bounds at)
+
+pub returns-clause-acts : goal.returns-clause-acts
+returns-clause-acts g c = λ disk secrets fixed beside of reads by.
+    let is : (c.args.block.now.height == c.args.bounds.now.last) ≡ true = grind (arith, nat_tests, common_steps) in
+    beside_as (λ more took. took) (λ now made. makes_as (at_its_last fixed c.args.block.now (live_of beside c.args.fence.now c.args.life.now) (non_zero_u64_get c.args.terms.now.blocks_per_epoch) of.of.blocks of.of.reshare c.args.bounds.now c.requires.bounds is c.in_ok-info.info.now c.in_ok-info.ensures.ok) (ends_in (live_of now c.take_over.new.fence c.take_over.new.life) c.take_over.result) made) (c.take_over.ensures.acts disk secrets fixed beside of reads by)
+
+pub returns-clause-tells : goal.returns-clause-tells
+returns-clause-tells g c = λ fixed beside of reads by.
+    let is : (c.args.block.now.height == c.args.bounds.now.last) ≡ true = grind (arith, nat_tests, common_steps) in
+    beside_as (λ more took. took) (λ now told. tells_as (at_its_last fixed c.args.block.now (live_of beside c.args.fence.now c.args.life.now) (non_zero_u64_get c.args.terms.now.blocks_per_epoch) of.of.blocks of.of.reshare c.args.bounds.now c.requires.bounds is c.in_ok-info.info.now c.in_ok-info.ensures.ok) (ends_in (live_of now c.take_over.new.fence c.take_over.new.life) c.take_over.result) told) (c.take_over.ensures.tells fixed beside of reads by)
+
+pub take_over-requires-clause-me : goal.take_over-requires-clause-me
+take_over-requires-clause-me g c = c.requires.me
+
+pub take_over-requires-clause-ready : goal.take_over-requires-clause-ready
+take_over-requires-clause-ready g c = c.requires.ready
+
+pub returns-then-ne-clause-word : goal.returns-then-ne-clause-word
+returns-then-ne-clause-word g c = refl
+
+pub returns-then-ne-clause-fit : goal.returns-then-ne-clause-fit
+returns-then-ne-clause-fit g c = λ told fit. fit
+
+pub returns-in_err-info-clause-word : goal.returns-in_err-info-clause-word
+returns-in_err-info-clause-word g c = refl
+
+pub returns-in_err-info-clause-fit : goal.returns-in_err-info-clause-fit
+returns-in_err-info-clause-fit g c = λ told fit. fit
+
+pub returns-clause-ready : goal.returns-clause-ready
+returns-clause-ready g c = c.take_over.ensures.ready
+
+pub returns-clause-word : goal.returns-clause-word
+returns-clause-word g c = c.take_over.ensures.word
+
+pub returns-clause-moved : goal.returns-clause-moved
+returns-clause-moved g c = c.take_over.ensures.moved
+
+pub returns-clause-causes : goal.returns-clause-causes
+returns-clause-causes g c = c.take_over.ensures.causes
+
+pub returns-clause-fit : goal.returns-clause-fit
+returns-clause-fit g c = c.take_over.ensures.fit
