@@ -1,5 +1,5 @@
 -- A transcript in order over the script as it was cut: each front of it comes as far, and stands in order.
-use Rattle.std.proofs.Common.{ℕ, zero, suc, ◌≤◌, ◌⊎◌, inl, inr, List, [], ◌∷◌, ◌++◌, ◌≡◌, refl, sym, ap, subst, ◌∙◌, Option, Some, None, Bool, true, false, length, take, arith, append_assoc, append-nil, length-take}
+use Rattle.std.proofs.Common.{ℕ, zero, suc, ◌≤◌, inl, inr, List, [], ◌∷◌, ◌++◌, ◌≡◌, refl, sym, ap, subst, ◌∙◌, Option, Some, None, Bool, true, false, length, take, arith, append_assoc, append-nil, length-take}
 use Rattle.std.specs.Prelude.{fold, cond, slice_get, min, IsSomeAnd, option_map, ◌==◌}
 use Rattle.std.specs.List.{AllByRecursion}
 use Rattle.std.specs.Option.{option_map_or}
@@ -9,13 +9,12 @@ use Rattle.dkg_types.specs.declared.entry.Entry.TheVariants.{Opened, Cut, Step, 
 use Rattle.dkg_text.specs.declared.script.BlockLine.{BlockLine}
 use Rattle.dkg_text.specs.declared.script.Event.{Event}
 use Rattle.dkg_text.specs.declared.script.Life.{Life}
-use Rattle.dkg_text.specs.declared.script.Script.{Script}
-use Rattle.dkg_script.specs.Form.{IsEventOfToday, IsFormOfToday, IsLifeOfToday, midpoint_of}
+use Rattle.dkg_script.specs.Form.{IsEventOfToday, IsLifeOfToday, midpoint_of}
 use Rattle.dkg_script.specs.Setting.{Setting, CutAt, life_at}
 use Rattle.dkg_script.specs.Position.{cut_of}
 use Rattle.dkg_script.specs.Progress.{Progress, read, at_start, progress, is_last_step, with_life_ended}
 use Rattle.dkg_script.specs.Order.{InLife, IsInOrder, InOrder, IsOrderedCut, IsOrderedStep, Begins}
-use Rattle.dkg_script.specs.AsCut.{cut_within, life_as_cut, lives_as_cut, as_cut, with_cuts}
+use Rattle.dkg_script.specs.AsCut.{cut_within, life_as_cut, lives_as_cut, with_cuts}
 use Rattle.dkg_script.specs.AsCutLaws.{ComesAsFar, StaysInOrderAsCut, StaysOfToday}
 use Rattle.dkg_script.proofs.EachEntry.{EachAfter, all_splits}
 

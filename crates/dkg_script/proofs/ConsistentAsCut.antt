@@ -1,30 +1,33 @@
 -- A consistent script is consistent as it was cut, and a valid one valid: it uses no other block, and each life comes as far by the events that it has.
-use Rattle.std.proofs.Common.{ℕ, zero, suc, ◌<◌, ◌≤◌, ◌⊎◌, inl, inr, List, [], ◌∷◌, ◌++◌, ◌≡◌, refl, sym, ap, subst, ◌∙◌, Option, Some, None, Bool, true, false, length, take, arith, take-take}
-use Rattle.std.specs.Prelude.{cond, fold, find, filter_map, flat_map, map, max, slice_get, option_map, option_to_list, IfSome, IsSomeAnd, ◌==◌, ◌-◌}
+use Rattle.std.proofs.Common.{ℕ, zero, suc, ◌+◌, ◌<◌, ◌≤◌, ◌⊎◌, inl, inr, List, [], ◌∷◌, ◌++◌, ◌≡◌, refl, sym, ap, subst, ◌∙◌, Option, Some, None, Bool, true, false, length, take, arith, take-take}
+use Rattle.std.specs.Prelude.{cond, fold, find, filter_map, map, max, slice_get, option_map, option_to_list, IfSome, IsSomeAnd, ◌==◌, ◌-◌}
 use Rattle.std.specs.List.{AllByRecursion, cons_option}
+use Rattle.std.specs.Option.{option_map_or}
 use Rattle.std.proofs.lemmas.Bool.{cases_lt}
+use Rattle.std.proofs.lemmas.Option.{slice_get_within}
 use Rattle.dkg_journal.specs.Names.{Files}
-use Rattle.dkg_secrets.specs.Secrets.{Secrets}
 use Rattle.dkg_types.specs.declared.entry.Entry.{Entry}
 use Rattle.dkg_text.specs.declared.script.Cut.{Cut as ScriptCut}
 use Rattle.dkg_text.specs.declared.script.Event.{Event}
 use Rattle.dkg_text.specs.declared.script.Event.TheVariants.{Final}
 use Rattle.dkg_text.specs.declared.script.Life.{Life}
 use Rattle.dkg_script.specs.Readings.{Info, Material}
-use Rattle.dkg_script.specs.Setting.{Setting, CutAt, life_at, found, setting_of}
+use Rattle.dkg_script.specs.Schedule.{epoch_of}
+use Rattle.dkg_script.specs.Setting.{Setting, CutAt, blocks_per_epoch, life_at, found, setting_of}
 use Rattle.dkg_script.specs.Blocks.{Block, block_at, carried_infos, chain, chain_below, delivered_number, events_come_to, handed_in, held_at_opening, info_at_boundary, provided, used, used_in}
-use Rattle.dkg_script.specs.Position.{IsLeft, IsPlanHistory, awaited_height, cut_of, delivered, event_of_step, height_after_anchor, start_height}
+use Rattle.dkg_script.specs.Position.{IsLeft, IsPlanHistory, awaited_before, awaited_epoch, awaited_epoch_in, awaited_height, cut_of, delivered, event_of_step, events_taken, last_awaited, start_height}
 use Rattle.dkg_script.specs.Progress.{Progress, progress}
 use Rattle.dkg_script.specs.Consistent.{IsConsistentScript, IsFromAnother}
 use Rattle.dkg_script.specs.Order.{InOrder}
-use Rattle.dkg_script.specs.Promise.{IsBuilt, IsHonestRun, with_plans}
+use Rattle.dkg_script.specs.Promise.{IsHonestRun, with_plans}
 use Rattle.dkg_script.specs.Valid.{CarriesFirstInfo, DeliversInTurn, IsFirstInfo, IsValidCase, IsValidScript}
 use Rattle.dkg_script.specs.AsCut.{cut_within, life_as_cut, lives_as_cut, with_cuts}
 use Rattle.dkg_script.specs.AsCutLaws.{HonestAnyhow, ValidAnyhow, ValidAsCut}
-use Rattle.dkg_script.proofs.AsCut.{all_within, form_as_cut, its_life, same_progress}
+use Rattle.dkg_script.proofs.AsCut.{all_within, its_life, same_progress}
 use Rattle.dkg_script.proofs.Members.{IsIn, all_of, found_within, in_either, in_first, in_joined, in_mapped, in_second, in_taken, joined_in, map_in, named_within, of_all}
 use Rattle.dkg_script.proofs.ScriptedCuts.{ends_as_scripted}
-use Rattle.dkg_script.proofs.Today.{life_today, never_back, start_is}
+use Rattle.dkg_script.proofs.Plain.{IsPlain, all_at, finds_none}
+use Rattle.dkg_script.proofs.Today.{plain_of, start_is}
 
 -- EVENTS of a life as it was cut
 
@@ -145,9 +148,6 @@ module _ (s : Setting) (ends : List (Option CutAt)) where
   still_others me (end ∷ ends) [] all = tt
   still_others me (end ∷ ends) (life ∷ lives) all = (all_within (IsFromAnother me) end life.events all.0, still_others me ends lives all.1)
 
-  pub built_as_cut : IsBuilt s → IsBuilt (with_cuts ends s)
-  built_as_cut built = record { form = form_as_cut ends s.script built.form; no_plan = built.no_plan }
-
   pub history_of : (cuts : List (Option CutAt)) → IsPlanHistory (with_cuts ends s) cuts → IsPlanHistory s cuts
   history_of cuts history = record { first = history.first; next = λ l below. by_life l (life_at s l) (at_life l (history.next l below)) }
     where
@@ -159,17 +159,6 @@ module _ (s : Setting) (ends : List (Option CutAt)) where
           → IfSome o (λ life. IsLeft s l life (cut_of cuts l) (found s (suc l)))
       by_life l None left = tt
       by_life l (Some life) left = left
-
-  pub consistent_as_cut : (cuts : List (Option CutAt)) → IsBuilt s → IsPlanHistory (with_cuts ends s) cuts → IsConsistentScript s cuts → IsConsistentScript (with_cuts ends s) cuts
-  consistent_as_cut cuts built history c = record {
-    one_chain = named_within (λ b. b.height) (used (with_cuts ends s)) (used s) used_within c.one_chain;
-    linked = all_of (λ b. IfSome (chain_below (with_cuts ends s) b.height) (λ below. b.parent ≡ below.digest)) (used (with_cuts ends s))
-        (λ b is. linked_below c.one_chain b.height (λ below. b.parent ≡ below.digest)
-        (of_all (λ b. IfSome (chain_below s b.height) (λ below. b.parent ≡ below.digest)) (used s) b c.linked (used_within b is)));
-    one_info = named_within (λ i. i.epoch) (carried_infos (with_cuts ends s)) (carried_infos s) carried_within c.one_info;
-    never_back = λ l below began. never_back (with_cuts ends s) cuts (built_as_cut built) history l began;
-    others = still_others s.script.config.me ends s.script.lives c.others;
-  }
 
 -- DELIVERIES
 
@@ -242,11 +231,12 @@ same_comes n (Some cut) (Some at) events before = by_calls (cut.call == 0) (at.c
     by_calls true false (inr not) = absurd (differ not)
     by_calls false false (inr not) = absurd (differ not)
 
-module _ (s : Setting) (ends cuts : List (Option CutAt)) (built : IsBuilt s) (history : IsPlanHistory (with_cuts ends s) cuts) (l : ℕ) (begun : l ≤ length cuts) where
+module _ (s : Setting) (ends cuts : List (Option CutAt)) (plain : IsPlain s) (history : IsPlanHistory (with_cuts ends s) cuts) (l : ℕ) (begun : l ≤ length cuts) where
   same_start : (end : Option CutAt) (life : Life) → life_at s l ≡ Some life → start_height (with_cuts ends s) l (life_as_cut end life) ≡ start_height s l life
   same_start end life is =
-      let today = life_today s cuts built (history_of s ends cuts history) l life begun is in
-      start_is (with_cuts ends s) l (life_as_cut end life) today.0.no_sync today.1 ∙ sym (start_is s l life today.0.no_sync today.1)
+      let no_sync = all_at (λ life. life.sync ≡ None) s.script.lives l life plain.no_sync is in
+      let none = finds_none s cuts plain (history_of s ends cuts history) l begun (slice_get_within s.script.lives l life is) in
+      start_is (with_cuts ends s) l (life_as_cut end life) no_sync none ∙ sym (start_is s l life no_sync none)
 
   pub same_height : (end : Option CutAt) (life : Life) (n : ℕ) → life_at s l ≡ Some life → IsBefore n end
       → awaited_height (with_cuts ends s) l (life_as_cut end life) n ≡ awaited_height s l life n
@@ -273,10 +263,71 @@ module _ (s : Setting) (ends cuts : List (Option CutAt)) (built : IsBuilt s) (hi
       by_life None is turn = tt
       by_life (Some life) is turn = turn_as_cut (cut_of ends l) life is turn
 
+  -- .. so it begins as far, and comes as far until it ends
+  same_first : awaited_epoch_in (with_cuts ends s) l 0 ≡ awaited_epoch_in s l 0
+  same_first = ap (λ (o : Option Life). option_map_or (λ life. awaited_epoch (with_cuts ends s) l life 0) o 0) (its_life ends s.script.lives l) ∙ by_life (life_at s l) refl
+    where
+      before : (end : Option CutAt) → IsBefore 0 end
+      before None = tt
+      before (Some at) = inl (omega arith)
+
+      by_life : (o : Option Life) → life_at s l ≡ o
+          → option_map_or (λ life. awaited_epoch (with_cuts ends s) l life 0) (option_map (life_as_cut (cut_of ends l)) o) 0 ≡ option_map_or (λ life. awaited_epoch s l life 0) o 0
+      by_life None is = refl
+      by_life (Some life) is = ap (λ (height : ℕ). epoch_of (blocks_per_epoch s) height) (same_height (cut_of ends l) life 0 is (before (cut_of ends l)))
+
+  same_last : last_awaited (with_cuts ends s) ends l ≡ last_awaited s ends l
+  same_last =
+      ap (λ (o : Option Life). option_map_or (λ life. awaited_epoch (with_cuts ends s) l life (events_taken life (cut_of ends l))) o 0) (its_life ends s.script.lives l) ∙ by_life (life_at s l) refl
+    where
+      taken : (end : Option CutAt) (life : Life) → events_taken (life_as_cut end life) end ≡ events_taken life end
+      taken None life = refl
+      taken (Some at) life = refl
+
+      before : (end : Option CutAt) (life : Life) → IsBefore (events_taken life end) end
+      before None life = tt
+      before (Some at) life = by_call (at.call == 0)
+        where
+          by_call : (b : Bool) → (cond b (at.step - 1) at.step ≤ at.step) ⊎ ((at.call == 0) ≡ true)
+          by_call true = inl (omega arith)
+          by_call false = inl (omega arith)
+
+      by_life : (o : Option Life) → life_at s l ≡ o
+          → option_map_or (λ life. awaited_epoch (with_cuts ends s) l life (events_taken life (cut_of ends l))) (option_map (life_as_cut (cut_of ends l)) o) 0
+          ≡ option_map_or (λ life. awaited_epoch s l life (events_taken life (cut_of ends l))) o 0
+      by_life None is = refl
+      by_life (Some life) is =
+          ap (λ (n : ℕ). awaited_epoch (with_cuts ends s) l (life_as_cut (cut_of ends l) life) n) (taken (cut_of ends l) life)
+          ∙ ap (λ (height : ℕ). epoch_of (blocks_per_epoch s) height) (same_height (cut_of ends l) life (events_taken life (cut_of ends l)) is (before (cut_of ends l) life))
+
 as_many : (ends : List (Option CutAt)) (lives : List Life) → length (lives_as_cut ends lives) ≡ length lives
 as_many [] lives = refl
 as_many (end ∷ ends) [] = refl
 as_many (end ∷ ends) (life ∷ lives) = ap suc (as_many ends lives)
+
+module _ (s : Setting) (ends : List (Option CutAt)) (plain : IsPlain s) (history : IsPlanHistory (with_cuts ends s) ends) where
+  same_before : (l : ℕ) → l ≤ length ends → awaited_before (with_cuts ends s) ends l ≡ awaited_before s ends l
+  same_before zero begun = refl
+  same_before (suc l) begun =
+      let before : awaited_before (with_cuts ends s) ends l ≡ awaited_before s ends l = same_before l (omega arith) in
+      let last : last_awaited (with_cuts ends s) ends l ≡ last_awaited s ends l = same_last s ends ends plain history l (omega arith) in
+      ap (λ (n : ℕ). max n (last_awaited (with_cuts ends s) ends l)) before ∙ ap (λ (n : ℕ). max (awaited_before s ends l) n) last
+
+  pub consistent_as_cut : IsConsistentScript s ends → IsConsistentScript (with_cuts ends s) ends
+  consistent_as_cut c = record {
+    one_chain = named_within (λ b. b.height) (used (with_cuts ends s)) (used s) (used_within s ends) c.one_chain;
+    linked = all_of (λ b. IfSome (chain_below (with_cuts ends s) b.height) (λ below. b.parent ≡ below.digest)) (used (with_cuts ends s))
+        (λ b is. linked_below s ends c.one_chain b.height (λ below. b.parent ≡ below.digest)
+        (of_all (λ b. IfSome (chain_below s b.height) (λ below. b.parent ≡ below.digest)) (used s) b c.linked (used_within s ends b is)));
+    one_info = named_within (λ i. i.epoch) (carried_infos (with_cuts ends s)) (carried_infos s) (carried_within s ends) c.one_info;
+    never_back = λ l below began.
+        let there : l < length s.script.lives = subst (λ (n : ℕ). l < n) (as_many ends s.script.lives) below in
+        let its : awaited_before s ends l ≤ awaited_epoch_in s l 0 + 1 = c.never_back l there began in
+        let first : awaited_epoch_in (with_cuts ends s) l 0 ≡ awaited_epoch_in s l 0 = same_first s ends ends plain history l began in
+        let before : awaited_before (with_cuts ends s) ends l ≡ awaited_before s ends l = same_before l began in
+        omega (arith, its, first, before);
+    others = still_others s ends s.script.config.me ends s.script.lives c.others;
+  }
 
 module _ (s : Setting) (ends : List (Option CutAt)) where
   first_as_cut : IsSomeAnd (block_at s 0) (CarriesFirstInfo s) → IsSomeAnd (block_at s 0) (CarriesFirstInfo (with_cuts ends s))
@@ -290,10 +341,10 @@ module _ (s : Setting) (ends : List (Option CutAt)) where
       by_block None none = absurd none
       by_block (Some b) is = by_info b.info is
 
-  pub valid_case_as_cut : (cuts : List (Option CutAt)) → IsBuilt s → IsPlanHistory (with_cuts ends s) cuts → IsValidCase s cuts → IsValidCase (with_cuts ends s) cuts
-  valid_case_as_cut cuts built history valid = record {
-    consistent = consistent_as_cut s ends cuts built history valid.consistent;
-    in_turn = λ l began. in_turn_as_cut s ends cuts built history l began (valid.in_turn l began);
+  pub valid_case_as_cut : IsPlain s → IsPlanHistory (with_cuts ends s) ends → IsValidCase s ends → IsValidCase (with_cuts ends s) ends
+  valid_case_as_cut plain history valid = record {
+    consistent = consistent_as_cut s ends plain history valid.consistent;
+    in_turn = λ l began. in_turn_as_cut s ends ends plain history l began (valid.in_turn l began);
     starts = λ some. first_as_cut (valid.starts (subst (λ (n : ℕ). 0 < n) (as_many ends s.script.lives) some));
   }
 
@@ -302,18 +353,18 @@ module _ (s : Setting) (ends : List (Option CutAt)) where
 same_ends : (s : Setting) (out : List Entry) → InOrder s out → (progress (with_cuts (progress s out).cuts s) out).cuts ≡ (progress s out).cuts
 same_ends s out ordered = ap (λ (p : Progress). p.cuts) (same_progress s (progress s out).cuts out ordered refl)
 
-built_case : (s : Setting) (plans : List (Option Material)) → IsBuilt s → IsBuilt (with_plans s plans)
-built_case s plans built = record { form = built.form; no_plan = built.no_plan }
+plain_case : (s : Setting) (plans : List (Option Material)) → IsPlain s → IsPlain (with_plans s plans)
+plain_case s plans plain = record { no_record = plain.no_record; no_sync = plain.no_sync }
 
-pub honest_as_cut : (s : Setting) (image : Files → Type 0) (ends : List (Option CutAt)) → IsBuilt s → IsHonestRun s image ends → IsHonestRun (with_cuts ends s) image ends
-honest_as_cut s image ends built honest = record {
+pub honest_as_cut : (s : Setting) (image : Files → Type 0) (ends : List (Option CutAt)) → IsPlain s → IsHonestRun s image ends → IsHonestRun (with_cuts ends s) image ends
+honest_as_cut s image ends plain honest = record {
   stores = record { whole = honest.stores.whole; nothing_loose = honest.stores.nothing_loose };
-  source = λ plans history. consistent_as_cut (with_plans s plans) ends ends (built_case s plans built) history (honest.source plans (history_of (with_plans s plans) ends ends history));
+  source = λ plans history. consistent_as_cut (with_plans s plans) ends (plain_case s plans plain) history (honest.source plans (history_of (with_plans s plans) ends ends history));
 }
 
-pub valid_as_cut : (s : Setting) (ends : List (Option CutAt)) → IsBuilt s → IsValidScript s ends → IsValidScript (with_cuts ends s) ends
-valid_as_cut s ends built valid = record {
-  source = λ plans history. valid_case_as_cut (with_plans s plans) ends ends (built_case s plans built) history (valid.source plans (history_of (with_plans s plans) ends ends history));
+pub valid_as_cut : (s : Setting) (ends : List (Option CutAt)) → IsPlain s → IsValidScript s ends → IsValidScript (with_cuts ends s) ends
+valid_as_cut s ends plain valid = record {
+  source = λ plans history. valid_case_as_cut (with_plans s plans) ends (plain_case s plans plain) history (valid.source plans (history_of (with_plans s plans) ends ends history));
 }
 
 pub honest_anyhow : {D : Type 0} (image : D → Files → Type 0) → HonestAnyhow image
@@ -321,13 +372,13 @@ honest_anyhow image script files secrets out disk built each ordered =
     let s : Setting = setting_of script files secrets in
     let ends = (progress s out).cuts in
     subst (λ (cs : List (Option CutAt)). IsHonestRun (with_cuts ends s) (image disk) cs) (sym (same_ends s out ordered))
-    (honest_as_cut s (image disk) ends built (each ends (ends_as_scripted s out ordered)))
+    (honest_as_cut s (image disk) ends (plain_of s built) (each ends (ends_as_scripted s out ordered)))
 
 pub valid_anyhow : ValidAnyhow
 valid_anyhow script files secrets out built each ordered =
     let s : Setting = setting_of script files secrets in
     let ends = (progress s out).cuts in
-    subst (λ (cs : List (Option CutAt)). IsValidScript (with_cuts ends s) cs) (sym (same_ends s out ordered)) (valid_as_cut s ends built (each ends (ends_as_scripted s out ordered)))
+    subst (λ (cs : List (Option CutAt)). IsValidScript (with_cuts ends s) cs) (sym (same_ends s out ordered)) (valid_as_cut s ends (plain_of s built) (each ends (ends_as_scripted s out ordered)))
 
 pub valid_if_cut : ValidAsCut
 valid_if_cut script files secrets out each ordered =

@@ -1,6 +1,6 @@
 -- What is in a list, and what a search finds there.
 use Rattle.std.proofs.Common.{ℕ, zero, suc, ◌⊎◌, inl, inr, List, [], ◌∷◌, ◌++◌, ◌≡◌, refl, sym, ap, subst, ◌∙◌, Option, Some, None, Bool, true, false, take}
-use Rattle.std.specs.Prelude.{cond, find, filter_map, flat_map, unwrap_or, IfSome, ◌==◌}
+use Rattle.std.specs.Prelude.{cond, find, filter_map, flat_map, unwrap_or, ◌==◌}
 use Rattle.std.specs.List.{AllByRecursion, cons_option}
 use Rattle.std.proofs.lemmas.Bool.{eq-eqb, eqb-true}
 

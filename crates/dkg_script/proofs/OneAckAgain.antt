@@ -1,21 +1,18 @@
 -- What keeping the dealings means for a dealer over two runs: the second finds what the first acknowledged, and answers as it did.
-use Rattle.std.proofs.Common.{ℕ, ◌+◌, ◌<◌, List, [], ◌∷◌, ◌++◌, ◌≡◌, refl, sym, ◌∙◌, ap, subst, Option, Some, None, Bool, true, false, length}
-use Rattle.std.specs.Prelude.{cond, fold, option_map, nat_eq, unwrap_or, ◌&&◌}
-use Rattle.std.specs.FinMap.{get}
+use Rattle.std.proofs.Common.{ℕ, List, [], ◌∷◌, ◌≡◌, refl, sym, ◌∙◌, ap, subst, Option, Some, None, Bool, true, false}
+use Rattle.std.specs.Prelude.{cond, option_map, nat_eq, unwrap_or, ◌&&◌}
 use Rattle.std.proofs.lemmas.Bool.{eqb-true}
 use Rattle.dkg_ceremony.specs.Acks.{ack_of}
 use Rattle.dkg_ceremony.specs.declared.round.Round.{Round}
 use Rattle.dkg_journal.specs.Names.{Files}
 use Rattle.dkg_store.specs.Pairs.{Pairs}
 use Rattle.dkg_secrets.specs.Secrets.{Secrets}
-use Rattle.dkg_types.specs.declared.entry.Entry.{Entry}
 use Rattle.dkg_types.specs.declared.entry.Entry.TheVariants.{Ack}
 use Rattle.dkg_types.specs.declared.entry.Restored.{Restored}
-use Rattle.dkg_script.specs.Blocks.{round_at}
 use Rattle.dkg_script.specs.Kept.{Gives}
 use Rattle.dkg_script.specs.Laws.{AcknowledgesOnceAgain, StandsFor}
-use Rattle.dkg_script.specs.Progress.{at_start, has_pair_key, pair_of, progress, read}
-use Rattle.dkg_script.specs.Setting.{Setting, listed, me, recovered_from}
+use Rattle.dkg_script.specs.Progress.{at_start, has_pair_key, pair_of, progress}
+use Rattle.dkg_script.specs.Setting.{listed, me, recovered_from}
 use Rattle.dkg_script.proofs.Beginning.{pair_of-listed, restored_of}
 use Rattle.dkg_script.proofs.OneAck.{of_sound, stays_along}
 use Rattle.dkg_script.proofs.Survives.{survives}

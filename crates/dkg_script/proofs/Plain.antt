@@ -12,7 +12,7 @@ pub record IsPlain (s : Setting) : Type 0 where
   pub no_record : handed_in s ≡ None
   pub no_sync : AllByRecursion (λ life. life.sync ≡ None) s.script.lives
 
-all_at : (P : Life → Type 0) (lives : List Life) (l : ℕ) (life : Life) → AllByRecursion P lives → slice_get lives l ≡ Some life → P life
+pub all_at : (P : Life → Type 0) (lives : List Life) (l : ℕ) (life : Life) → AllByRecursion P lives → slice_get lives l ≡ Some life → P life
 all_at P [] l life all e = absurd (none_is_not_some e)
   where
     none_is_not_some : None ≡ Some life → ⊥

@@ -11,7 +11,7 @@ use Rattle.dkg_text.specs.declared.script.Cut.{Cut}
 use Rattle.dkg_text.specs.declared.script.Event.{Event}
 use Rattle.dkg_text.specs.declared.script.Event.TheVariants.{Peer, Final}
 use Rattle.dkg_text.specs.declared.script.Life.{Life}
-use Rattle.dkg_script.specs.Form.{IsAnchorOfToday, IsEarly, IsEventOfToday, IsLifeOfToday, midpoint_of}
+use Rattle.dkg_script.specs.Form.{IsAnchorOfToday, IsEarly, IsEventOfToday, IsFormOfToday, IsLifeOfToday, midpoint_of}
 use Rattle.dkg_script.specs.Promise.{IsBuilt}
 use Rattle.dkg_script.specs.Readings.{Material, material_in}
 use Rattle.dkg_script.specs.Setting.{Setting, CutAt, limits, blocks_per_epoch, is_oneshot, life_at, found}
@@ -61,7 +61,7 @@ module _ (s : Setting) where
       by_block (Some b) early rest = (early, rest)
   deliver_early (event ∷ events) today = absurd today.0
 
-no_material : (s : Setting) (l : ℕ) (life : Life) → life.sync ≡ None → found s l ≡ None → material s l life ≡ None
+pub no_material : (s : Setting) (l : ℕ) (life : Life) → life.sync ≡ None → found s l ≡ None → material s l life ≡ None
 no_material s l life no_sync none = by_mode (is_oneshot s)
   where
     by_mode : (oneshot : Bool) → cond oneshot None (unless_outdated s life (option_or (provided s life) (found s l))) ≡ None
@@ -124,14 +124,14 @@ awaits_epoch_zero s l life n today none = no_part (awaited_height s l life n) (b
 
 -- WHAT IS BUILT TODAY has no start material, so no life finds any
 
-no_syncs : (early : ℕ) (lines : List BlockLine) (lives : List Life) → AllByRecursion (IsLifeOfToday early lines) lives → AllByRecursion (λ life. life.sync ≡ None) lives
-no_syncs early lines [] today = tt
-no_syncs early lines (life ∷ lives) today = (today.0.no_sync, no_syncs early lines lives today.1)
+no_syncs : (lives : List Life) → ((l : ℕ) (life : Life) → slice_get lives l ≡ Some life → life.sync ≡ None) → AllByRecursion (λ life. life.sync ≡ None) lives
+no_syncs [] none = tt
+no_syncs (life ∷ lives) none = (none zero life refl, no_syncs lives (λ l other is. none (suc l) other is))
 
 pub plain_of : (s : Setting) → IsBuilt s → IsPlain s
 plain_of s built = record {
   no_record = ap (λ o. option_and_then (material_in (limits s)) o) built.no_plan;
-  no_sync = no_syncs (midpoint_of s.script) s.script.blocks s.script.lives built.form.lives;
+  no_sync = no_syncs s.script.lives (λ l life is. (built.form.lives l life is).no_sync);
 }
 
 none_there : {X : Type 0} (x : X) → None ≡ Some x → ⊥
@@ -145,11 +145,12 @@ its_form P (first ∷ lives) zero life today is = (omega arith, subst P (same fi
     same first life e = ap (λ (o : Option Life). unwrap_or o first) e
 its_form P (first ∷ lives) (suc l) life today is = let rest = its_form P lives l life today.1 is in (let below : l < length lives = rest.0 in omega arith, rest.1)
 
-module _ (s : Setting) (cuts : List (Option CutAt)) (built : IsBuilt s) (history : IsPlanHistory s cuts) where
+-- .. and a script of today's form never leaves epoch 0
+module _ (s : Setting) (cuts : List (Option CutAt)) (today : IsFormOfToday s.script) (plain : IsPlain s) (history : IsPlanHistory s cuts) where
   pub life_today : (l : ℕ) (life : Life) → l ≤ length cuts → life_at s l ≡ Some life → IsLifeOfToday (midpoint_of s.script) s.script.blocks life × (found s l ≡ None)
   life_today l life begun is =
-      let form = its_form (IsLifeOfToday (midpoint_of s.script) s.script.blocks) s.script.lives l life built.form.lives is in
-      (form.1, finds_none s cuts (plain_of s built) history l begun form.0)
+      let form = its_form (IsLifeOfToday (midpoint_of s.script) s.script.blocks) s.script.lives l life today.lives is in
+      (form.1, finds_none s cuts plain history l begun form.0)
 
   -- in any life so far, after any number of its events
   pub epoch_zero : (l n : ℕ) → l ≤ length cuts → awaited_epoch_in s l n ≡ 0

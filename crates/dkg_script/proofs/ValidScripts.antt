@@ -17,6 +17,7 @@ use Rattle.dkg_types.specs.Validation.{validation}
 use Rattle.dkg_text.specs.declared.script.Event.TheVariants.{Peer, Final}
 use Rattle.dkg_text.specs.declared.script.Life.{Life}
 use Rattle.dkg_text.specs.declared.script.Script.{Script}
+use Rattle.dkg_script.specs.Form.{IsFormOfToday}
 use Rattle.dkg_script.specs.Readings.{Material, info_in}
 use Rattle.dkg_script.specs.Setting.{Setting, CutAt, life_at}
 use Rattle.dkg_script.specs.Blocks.{Block, block_at, used}
@@ -26,7 +27,8 @@ use Rattle.dkg_script.specs.Promise.{IsBuilt, with_plans}
 use Rattle.dkg_script.specs.Valid.{CarriesFirstInfo, DeliversInTurn, IsValidScript}
 use Rattle.dkg_script.proofs.Honest.{consistent_in, genesis_of_today}
 use Rattle.dkg_script.proofs.OneDealing.{first_life, second_life, two}
-use Rattle.dkg_script.proofs.Today.{never_back}
+use Rattle.dkg_script.proofs.Today.{never_back, plain_of}
+use Rattle.dkg_script.proofs.TodayWithin.{today_within}
 use Rattle.dkg_script.proofs.Worked.{script_of, genesis, life_of, line, setting}
 
 -- EVENTS
@@ -97,22 +99,22 @@ module _ (plans : List (Option Material)) where
   abbrev case : Setting
   case = with_plans (setting delivering) plans
 
-  delivering_is_built : IsBuilt case
-  delivering_is_built = record {
-    form = record {
-      plain = refl;
-      reshares = refl;
-      own = lit< tt;
-      few = lit≤ tt;
-      long = lit≤ tt;
-      short = lit< tt;
-      supported = refl;
-      blocks = (genesis_of_today [], ((lit< tt, tt), tt));
-      first = refl;
-      lives = (record { anchor = tt; holds = refl; no_sync = refl; events = (lit< tt, (lit< tt, tt)) }, tt);
-    };
-    no_plan = get-empty name_cmp Plan;
+  delivering_of_today : IsFormOfToday delivering
+  delivering_of_today = record {
+    plain = refl;
+    reshares = refl;
+    own = lit< tt;
+    few = lit≤ tt;
+    long = lit≤ tt;
+    short = lit< tt;
+    supported = refl;
+    blocks = (genesis_of_today [], ((lit< tt, tt), tt));
+    first = refl;
+    lives = (record { anchor = tt; holds = refl; no_sync = refl; events = (lit< tt, (lit< tt, tt)) }, tt);
   }
+
+  delivering_is_built : IsBuilt case
+  delivering_is_built = record { form = today_within delivering delivering_of_today; no_plan = get-empty name_cmp Plan }
 
   delivering_consistent : (ends : List (Option CutAt)) → IsPlanHistory case ends → IsConsistentScript case ends
   unfolding used info_in payload_after carried_at parts_at held_at outcome_after mode_at byte_at many_at keys_at groups_at
@@ -120,7 +122,7 @@ module _ (plans : List (Option Material)) where
     one_chain = (refl, (refl, (refl, tt)));
     linked = (tt, (tt, (refl, tt)));
     one_info = rw (get-empty name_cmp Plan) (refl, (refl, tt));
-    never_back = λ l below began. never_back case ends delivering_is_built history l began;
+    never_back = λ l below began. never_back case ends delivering_of_today (plain_of case delivering_is_built) history l began;
     others = ((tt, (tt, tt)), tt);
   }
 

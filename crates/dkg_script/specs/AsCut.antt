@@ -1,5 +1,5 @@
 -- A script as it was cut: what lies behind the step within which a life was cut never came, so it is none of the script's.
-use Rattle.std.specs.Prelude.{ℕ, List, [], ◌∷◌, Option, None, Some, ◌==◌, if◌then◌else◌, take}
+use Rattle.std.specs.Prelude.{List, [], ◌∷◌, Option, None, Some, ◌==◌, if◌then◌else◌, take}
 use Rattle.dkg_journal.specs.Names.{Files}
 use Rattle.dkg_secrets.specs.Secrets.{Secrets}
 use Rattle.dkg_types.specs.declared.entry.Entry.{Entry}

@@ -1,14 +1,11 @@
 -- Whether a script is of the form that is run so far, as a test, and what reading such a script answers.
-use Rattle.std.specs.Prelude.{◌≡◌, ℕ, ◌+◌, ◌^◌, ◌==◌, ◌&&◌, not, nat_le, nat_lt, Bool, true, false}
-use Rattle.std.specs.Prelude.{List, [], ◌∷◌, length, slice_get, is_some, Result, Ok, Err}
+use Rattle.std.specs.Prelude.{◌≡◌, ℕ, suc, ◌<◌, ◌^◌, ◌==◌, ◌&&◌, not, nat_le, nat_lt, Bool, true, false}
+use Rattle.std.specs.Prelude.{List, [], ◌∷◌, length, is_none, is_some, Option, None, Some, option_map, IfSome, Result, Ok, Err}
 use Rattle.std.specs.Int.NonZero.{non_zero_u32_get, non_zero_u64_get}
+use Rattle.std.specs.List.{AllByRecursion}
 use Rattle.std.specs.Option.{option_map_or}
-use Rattle.dkg_ceremony.specs.declared.mode.Mode.{Mode}
-use Rattle.dkg_ceremony.specs.declared.mode.Mode.TheVariants.{NonZeroCounter, RootsOfUnity}
 use Rattle.dkg_text.specs.declared.error.ScriptError.{ScriptError}
 use Rattle.dkg_text.specs.declared.error.ScriptError.TheVariants as error
-use Rattle.dkg_text.specs.declared.script.Anchor.{Anchor}
-use Rattle.dkg_text.specs.declared.script.Anchor.TheVariants.{Processed, Absent}
 use Rattle.dkg_text.specs.declared.script.BlockLine.{BlockLine}
 use Rattle.dkg_text.specs.declared.script.Event.{Event}
 use Rattle.dkg_text.specs.declared.script.Event.TheVariants.{Peer, Final}
@@ -18,91 +15,70 @@ use Rattle.dkg_text.specs.declared.script.ScriptConfig.{ScriptConfig}
 use Rattle.dkg_text.specs.Laws.{IsPlace}
 use Rattle.dkg_script.specs.declared.read.ReadError.{ReadError}
 use Rattle.dkg_script.specs.declared.read.ReadError.TheVariants.{Bad, Unsupported, NoMemory}
-use Rattle.dkg_script.specs.Form.{midpoint_of}
-use Rattle.dkg_script.specs.Starts.{is_start_of}
+use Rattle.dkg_script.specs.Epochs.{IsAnchorIn, IsBlockIn}
+use Rattle.dkg_script.specs.Walk.{late_event}
 
 -- THE CONFIGURATION
 
-abbrev pub is_counter : Mode → Bool
-is_counter NonZeroCounter = true
-is_counter RootsOfUnity = false
-
--- a reshare whose epochs have two blocks at least, of the first mode, without a namespace
-abbrev pub is_simple : ScriptConfig → Bool
-is_simple config =
-    nat_lt 1 (non_zero_u64_get config.blocks_per_epoch) && is_counter config.mode && (config.max_mode.0 == 0)
-    && (length config.namespace == 0) && not (is_some config.oneshot)
-
--- a node that is told nothing but the script's blocks
+-- a reshare whose node is told nothing but the script's blocks and the players that are to come
 abbrev pub is_alone : ScriptConfig → Bool
-is_alone config = (length config.players == 0) && (length config.addresses == 0) && not (is_some config.probe)
+is_alone config = not (is_some config.oneshot) && (length config.addresses == 0) && not (is_some config.probe)
 
 abbrev pub is_limit : ScriptConfig → Bool
 is_limit config = nat_le (non_zero_u32_get config.limit) (2 ^ 30)
+
+-- there is neither an address nor a probe
+abbrev pub IsToldNothing : ScriptConfig → Type 0
+IsToldNothing config = (config.addresses ≡ []) × (config.probe ≡ None)
 
 -- a key, which has 32 bits
 abbrev pub is_key : ℕ → Bool
 is_key key = nat_lt key (2 ^ 32)
 
 abbrev pub is_plain : ScriptConfig → Bool
-is_plain config = is_simple config && is_alone config && is_limit config && is_key config.me
-
--- THE BLOCKS
-
-abbrev pub is_first : ScriptConfig → BlockLine → Bool
-is_first config block =
-    (block.height == 0) && not (is_some block.parent) && option_map_or (is_start_of (non_zero_u32_get config.limit) config.max_mode.0) block.payload false
-
-abbrev pub is_later : ScriptConfig → BlockLine → Bool
-is_later config block = nat_lt block.height (non_zero_u64_get config.blocks_per_epoch) && not (is_some block.payload)
-
-abbrev pub are_later : ScriptConfig → List BlockLine → Bool
-are_later config [] = true
-are_later config (block ∷ blocks) = is_later config block && are_later config blocks
-
-abbrev pub are_first : ScriptConfig → List BlockLine → Bool
-are_first config [] = true
-are_first config (block ∷ blocks) = is_first config block && are_later config blocks
+is_plain config = is_alone config && is_limit config && is_key config.me
 
 -- THE LIVES
 
--- a block below the midpoint
-abbrev pub is_early : (midpoint : ℕ) → List BlockLine → ℕ → Bool
-is_early midpoint blocks number = option_map_or (λ block. nat_lt block.height midpoint) (slice_get blocks number) false
+-- a message of the dealing channel, or one of so many blocks
+abbrev pub is_event : (blocks : ℕ) → Event → Bool
+is_event blocks (Peer from bytes) = is_key from
+is_event blocks (Final number) = nat_lt number blocks
+is_event blocks _ = false
 
-abbrev pub is_anchor : (midpoint : ℕ) → List BlockLine → Anchor → Bool
-is_anchor midpoint blocks (Processed number) = option_map_or (λ block. nat_lt (block.height + 1) midpoint) (slice_get blocks number) false
-is_anchor midpoint blocks (Absent number) = option_map_or (λ block. nat_lt 0 block.height && nat_lt block.height midpoint) (slice_get blocks number) false
+abbrev pub are_events : (blocks : ℕ) → List Event → Bool
+are_events blocks [] = true
+are_events blocks (event ∷ events) = is_event blocks event && are_events blocks events
 
-abbrev pub is_event : (midpoint : ℕ) → List BlockLine → Event → Bool
-is_event midpoint blocks (Peer from bytes) = is_key from
-is_event midpoint blocks (Final number) = is_early midpoint blocks number
-is_event midpoint blocks _ = false
+-- a life without material, to which no late block is delivered unless it follows
+abbrev pub is_life : (blocks_per_epoch : ℕ) → List BlockLine → Life → Bool
+is_life n blocks life = not (is_some life.sync) && are_events (length blocks) life.events && is_none (late_event n blocks life)
 
-abbrev pub are_events : (midpoint : ℕ) → List BlockLine → List Event → Bool
-are_events midpoint blocks [] = true
-are_events midpoint blocks (event ∷ events) = is_event midpoint blocks event && are_events midpoint blocks events
-
--- whether the first is block 0
-abbrev pub begins_at_zero : List ℕ → Bool
-begins_at_zero [] = false
-begins_at_zero (n ∷ ns) = n == 0
-
-abbrev pub is_life : (midpoint : ℕ) → List BlockLine → Life → Bool
-is_life midpoint blocks life =
-    option_map_or (is_anchor midpoint blocks) life.anchor true && begins_at_zero life.held
-    && not (is_some life.sync) && are_events midpoint blocks life.events
-
-abbrev pub are_lives : (midpoint : ℕ) → List BlockLine → List Life → Bool
-are_lives midpoint blocks [] = true
-are_lives midpoint blocks (life ∷ lives) = is_life midpoint blocks life && are_lives midpoint blocks lives
+abbrev pub are_lives : (blocks_per_epoch : ℕ) → List BlockLine → List Life → Bool
+are_lives n blocks [] = true
+are_lives n blocks (life ∷ lives) = is_life n blocks life && are_lives n blocks lives
 
 -- THE SCRIPT
 
 unfoldable pub is_built : Script → Bool
 is_built script =
-    not script.addressed && is_plain script.config && are_first script.config script.blocks
-    && are_lives (midpoint_of script) script.blocks script.lives
+    not script.addressed && is_plain script.config && are_lives (non_zero_u64_get script.config.blocks_per_epoch) script.blocks script.lives
+
+-- What the script of any text has: its blocks' payloads are read, their heights are numbers of 64 bits, and no position lies below height 0.
+pub record IsOfText (script : Script) : Type 0 where
+  pub blocks : AllByRecursion (IsBlockIn script) script.blocks
+  pub placed : AllByRecursion (λ block. block.height < 2 ^ 64) script.blocks
+  pub anchors : AllByRecursion (λ life. IfSome life.anchor (IsAnchorIn script.blocks)) script.lives
+
+-- THE FIRST LATE EVENT: the numbers of its life and of the event in it
+
+abbrev pub first_in : (blocks_per_epoch : ℕ) → List BlockLine → List Life → Option (ℕ × ℕ)
+first_in n blocks [] = None
+first_in n blocks (life ∷ lives) =
+    option_map_or (λ event. Some (0, event)) (late_event n blocks life) (option_map (λ place. (suc place.0, place.1)) (first_in n blocks lives))
+
+unfoldable pub first_late : Script → Option (ℕ × ℕ)
+first_late script = first_in (non_zero_u64_get script.config.blocks_per_epoch) script.blocks script.lives
 
 -- READING
 

@@ -40,7 +40,7 @@ IsRefusalOfToday _ = ⊥
 
 -- The faults that a run of a script of today's form (see Form) can tell: those of a device, a record that is none, an info of
 -- block 0 that is missing, is of another epoch or is refused, a stored dealing that is refused, and a delivered block that does not
--- belong to the chain. Want of memory is never told.
+-- belong to the chain. Want of memory is never told. (A script whose lives go over many epochs, see Epochs, can meet others.)
 abbrev pub IsFaultOfToday : Fault → Type 0
 IsFaultOfToday Disk = ⊤
 IsFaultOfToday Secrets = ⊤

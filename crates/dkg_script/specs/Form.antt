@@ -1,5 +1,5 @@
--- The one form of script that is read and run so far: within epoch 0 and below its midpoint, nothing happens but messages of the
--- dealing channel and finalized blocks.
+-- The form of scripts within the first epoch: below the midpoint of epoch 0 nothing happens but messages of the dealing channel and finalized blocks. It
+-- lies within the form that is read and run (see Epochs).
 use Rattle.std.specs.Prelude.{ℕ, ◌+◌, ◌<◌, ◌≡◌, ◌≤◌, ◌^◌, ◌/◌, List, None, Some, true, false, IfSome, IsSome, IsSomeAnd, slice_get}
 use Rattle.std.specs.Int.NonZero.{non_zero_u32_get, non_zero_u64_get}
 use Rattle.std.specs.List.{AllByRecursion}

@@ -5,6 +5,7 @@ pub mod Built
 pub mod Consistent
 pub mod Due
 pub mod Ends
+pub mod Epochs
 pub mod Form
 pub mod Kept
 pub mod Laws
@@ -14,8 +15,10 @@ pub mod Position
 pub mod Progress
 pub mod Promise
 pub mod Readings
+pub mod SameOffers
 pub mod Setting
 pub mod Starts
 pub mod Valid
 pub mod Views
+pub mod Walk
 pub use Rattle.dkg_ceremony.specs.Schedule

@@ -1,7 +1,8 @@
 //! What the promise of a run means, over every script, every transcript and every crash.
 //!
 //! Each law is a call without a body, whose contract is the law. Whoever relies on the promise cites them.
-ghost use Rattle.dkg_script.specs.AsCutLaws.{ComesAsFar, HonestAnyhow, StaysInOrderAsCut, StaysOfToday, ValidAnyhow, ValidAsCut};
+ghost use Rattle.dkg_script.specs.AsCutLaws.{ComesAsFar, HonestAnyhow, StaysInOrderAsCut, StaysOfEpochs, StaysOfToday, ValidAnyhow, ValidAsCut};
+ghost use Rattle.dkg_script.specs.Epochs.{TodayIsOfEpochs};
 ghost use Rattle.dkg_script.specs.Laws.{AcknowledgesOnce, AcknowledgesOnceAgain, AcknowledgedSurvives, EndsAsScripted, OwnMarksStandBefore, StaysInOrder, StaysKept};
 
 use dkg_journal::Disk;
@@ -54,6 +55,16 @@ pub fn stays_in_order_as_cut()
 /// A script of today's form is of it as it was cut.
 pub fn stays_of_today()
     ensures { StaysOfToday }
+{}
+
+/// .. and so is one of the form of epochs.
+pub fn stays_of_epochs()
+    ensures { StaysOfEpochs }
+{}
+
+/// A script of today's form is of the form of epochs.
+pub fn lies_within_epochs()
+    ensures { TodayIsOfEpochs }
 {}
 
 /// A script that is consistent wherever its cuts fall is consistent as it was cut.

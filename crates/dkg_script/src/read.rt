@@ -1,13 +1,11 @@
 //! The reading of a script that is to be run; the program calls it on the bytes that it was given.
 //!
-//! There is one form yet that is run: a configuration without a namespace, blocks of epoch 0 of which the first one alone carries
-//! something, the epoch's info, and lives that hold that block, begin before the midpoint, and receive messages of the dealing
-//! channel and blocks below the midpoint.
+//! There is one form yet that is run: a reshare of any blocks, whose lives begin anywhere and receive messages of the dealing channel and
+//! blocks, but none at or above the midpoint of an epoch that the life awaits and takes part in.
 ghost use Rattle.std.specs.Prelude.{◌≡◌, IfOk};
 ghost use Rattle.dkg_text.specs.Grammar.{script_or_place};
 ghost use Rattle.dkg_script.specs.Built.{ReadsBuilt, TellsPlace, refusal_of};
-ghost use Rattle.dkg_script.specs.Form.{IsFormOfToday};
-ghost use Rattle.dkg_script.specs.Starts.{AreFirst};
+ghost use Rattle.dkg_script.specs.Epochs.{IsFormOfEpochs};
 ghost use Rattle.dkg_script.specs.declared.read.ReadError.TheVariants.{NoMemory as OutOfMemory};
 
 use crate::built::is_built;
@@ -61,9 +59,7 @@ pub fn read_built(alloc: Global, bytes: &[u8], addressed: bool) -> Result<Script
     ensures reads { ReadsBuilt (script_or_place addressed bytes.now) result }
     // Some script's text begins with the lines before the place that is told, and none's goes on with the line there.
     ensures place { TellsPlace addressed bytes.now result }
-    // The first block, if there is one, carries an info of epoch 0 that passes.
-    ensures first { IfOk result (λ script. AreFirst script.config script.blocks) }
-    ensures form { IfOk result IsFormOfToday }
+    ensures form { IfOk result IsFormOfEpochs }
 {
     let script = read_script(alloc, bytes, addressed)?;
     if is_built(alloc, &script)? {

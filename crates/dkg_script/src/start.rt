@@ -1,6 +1,4 @@
-//! Whether a block's payload starts the lives of a script: an info of epoch 0 under the script's limits.
-//!
-//! Whether a script is of the form that is run asks it of the first block.
+//! Whether a block's payload starts the lives of a script within the first epoch: an info of epoch 0 under the script's limits.
 ghost use Rattle.std.specs.Bool.{OnTrue};
 ghost use Rattle.std.specs.Prelude.{◌≡◌, ◌↔◌, IfOk, IfSome, IsOk, IsTrue, Ok, Some, []};
 ghost use Rattle.std.specs.Int.NonZero.{non_zero_u32_get};

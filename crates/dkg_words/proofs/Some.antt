@@ -2,14 +2,8 @@
 use Rattle.std.proofs.Common.{◌≡◌, ℕ, List, Option, Result, Ok, Err}
 use Rattle.std.specs.Prelude.{IfOk}
 use Rattle.dkg_words.specs.declared.chain.Pair.{Pair}
-use Rattle.dkg_words.specs.declared.unbuilt.Why.{Why}
 use Rattle.dkg_words.specs.Chain.{IsChainWarning, chain_told}
-use Rattle.dkg_words.specs.Unbuilt.{IsUnbuiltLine, unbuilt_told}
 
 pub some_pair : {V E : Type 0} (items : V → List ℕ) (text : List ℕ) (pair : Option Pair) (r : Result V E) → IfOk r (λ v. items v ≡ chain_told text pair) → IfOk r (λ v. IsChainWarning text (items v))
 some_pair items text pair (Ok v) is = record { pair = pair; parts = is }
 some_pair items text pair (Err e) is = tt
-
-pub some_line : {V E : Type 0} (items : V → List ℕ) (text : List ℕ) (place : ℕ) (why : Why) (r : Result V E) → IfOk r (λ v. items v ≡ unbuilt_told text place why) → IfOk r (λ v. IsUnbuiltLine text (items v))
-some_line items text place why (Ok v) is = record { place = place; why = why; parts = is }
-some_line items text place why (Err e) is = tt

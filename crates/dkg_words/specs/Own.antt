@@ -1,5 +1,5 @@
 -- The warning of a message that has this node's own key.
-use Rattle.std.specs.Prelude.{ℕ, ◌+◌, List, [], ◌++◌, Option, Some, None, codes, decimal, option_map}
+use Rattle.std.specs.Prelude.{ℕ, List, [], ◌++◌, Option, Some, None, codes, decimal, option_map}
 use Rattle.memchr.specs.Find.{first_of, matches}
 use Rattle.dkg_words.specs.Before.{counted}
 use Rattle.dkg_words.specs.Lines.{behind, first_number, until}

@@ -1,30 +1,86 @@
--- What is said of a script of a form that isn't run yet.
-use Rattle.std.specs.Prelude.{ℕ, ◌≡◌, List, [], ◌∷◌, ◌++◌, codes}
+-- What is said of a script of a form that isn't run yet: its first line that isn't run, and what of it.
+use Rattle.std.specs.Prelude.{ℕ, ◌+◌, ◌-◌, ◌^◌, min, nat_lt, if◌then◌else◌, List, [], ◌∷◌, ◌++◌, length, codes, Option, Some, None, Result, Ok, Err, false}
+use Rattle.std.specs.Prelude.{option_and_then}
+use Rattle.dkg_text.specs.declared.script.Script.{Script}
+use Rattle.dkg_text.specs.Grammar.{script_or_place}
+use Rattle.dkg_script.specs.Built.{first_late}
+use Rattle.dkg_words.specs.declared.names.Name.{Name}
+use Rattle.dkg_words.specs.declared.names.Name.TheVariants as name
+use Rattle.dkg_words.specs.declared.unbuilt.Named.{Named}
 use Rattle.dkg_words.specs.declared.unbuilt.Why.{Why}
-use Rattle.dkg_words.specs.declared.unbuilt.Why.TheVariants.{OneBlock, Mode, Namespace, Oneshot, Players, Addresses, Probe, FirstBlock, LaterBlock, Held, Midpoint, Sync, Event}
+use Rattle.dkg_words.specs.declared.unbuilt.Why.TheVariants.{Oneshot, Addresses, Probe, Late, Sync, Event}
+use Rattle.dkg_words.specs.Before.{counted}
+use Rattle.dkg_words.specs.Lines.{name_in, over_lines}
+use Rattle.dkg_words.specs.Names.{is_event, name_by}
+use Rattle.dkg_words.specs.Seek.{place_of}
 use Rattle.dkg_words.specs.Told.{line_told}
 
 -- what isn't run yet
 abbrev pub why_words : Why → List ℕ
-why_words OneBlock = codes "epochs of one block"
-why_words Mode = codes "a mode other than 0 0"
-why_words Namespace = codes "a namespace"
 why_words Oneshot = codes "one-shot mode"
-why_words Players = codes "players of later epochs"
 why_words Addresses = codes "addresses"
 why_words Probe = codes "a probe"
-why_words FirstBlock = codes "a first block that isn't at height 0, has a parent, or carries no info of epoch 0 that makes a round"
-why_words LaterBlock = codes "a later block with a payload, or of another epoch"
-why_words Held = codes "a life that doesn't hold block 0 first"
-why_words Midpoint = codes "heights from the epoch's midpoint on"
+why_words Late = codes "a block from its epoch's midpoint on, where the node takes part in the epoch"
 why_words Sync = codes "a state sync"
 why_words Event = codes "this event"
 
-abbrev pub unbuilt_told : (text : List ℕ) (place : ℕ) → Why → List ℕ
-unbuilt_told text place why = line_told text place ++ codes ": not run yet: " ++ why_words why ++ 10 ∷ []
+-- BY ITS NAME
 
--- some line of the text, and what of it isn't run yet
-pub record IsUnbuiltLine (text line : List ℕ) : Type 0 where
-  pub place : ℕ
-  pub why : Why
-  pub parts : line ≡ unbuilt_told text place why
+-- Why no line of a name is run: of the events a message and a block are.
+abbrev pub why_named : Name → Option Why
+why_named name.Oneshot = Some Oneshot
+why_named name.Address = Some Addresses
+why_named name.Probe = Some Probe
+why_named name.Sync = Some Sync
+why_named name.Peer = None
+why_named name.Final = None
+why_named its = if is_event its then Some Event else None
+
+abbrev pub why_line : (line : List ℕ) → Option Why
+why_line line = option_and_then why_named (name_by (name_in line))
+
+-- what is found behind a line that begins at a place
+abbrev pub found_after : (found : Option (ℕ × Why)) → (at : ℕ) → Option Why → Option (ℕ × Why)
+found_after (Some found) at why = Some found
+found_after None at (Some why) = Some (at, why)
+found_after None at None = None
+
+abbrev pub named_after : Named → (line : List ℕ) → Named
+named_after named line = record { at = counted (min (named.at + length line) (2 ^ 64 - 1)); found = found_after named.found named.at (why_line line) }
+
+-- where the first such line of a text begins, and why it isn't run
+abbrev pub named_place : (text : List ℕ) → Option (ℕ × Why)
+named_place text = (over_lines named_after (record { at = 0; found = None }) [] text).found
+
+-- BY WHERE THE NODE STANDS
+
+-- where the line of an event begins, by the number of its life and its own in it
+abbrev pub event_place : (text : List ℕ) → Option (ℕ × ℕ) → Option ℕ
+event_place text (Some its) = place_of text its.0 (counted its.1)
+event_place text None = None
+
+abbrev pub late_place_in : (text : List ℕ) → Result Script ℕ → Option ℕ
+late_place_in text (Ok script) = event_place text (first_late script)
+late_place_in text (Err place) = None
+
+-- where the first line begins that delivers a block for which the node isn't built yet (of a script whose directories hold addresses none is looked for)
+abbrev pub late_place : (text : List ℕ) → Option ℕ
+late_place text = late_place_in text (script_or_place false text)
+
+-- WHICH LINE IS TOLD
+
+-- the earlier of the two; where there is neither, the script's directories hold addresses
+abbrev pub earlier : Option (ℕ × Why) → Option ℕ → ℕ × Why
+earlier (Some its) (Some late) = if nat_lt its.0 late then its else (late, Late)
+earlier None (Some late) = (late, Late)
+earlier (Some its) None = its
+earlier None None = (0, Addresses)
+
+unfoldable pub unbuilt_of : (text : List ℕ) → ℕ × Why
+unbuilt_of text = earlier (named_place text) (late_place text)
+
+abbrev pub told_of : (text : List ℕ) → ℕ × Why → List ℕ
+told_of text its = line_told text its.0 ++ codes ": not run yet: " ++ why_words its.1 ++ 10 ∷ []
+
+abbrev pub unbuilt_text : (text : List ℕ) → List ℕ
+unbuilt_text text = told_of text (unbuilt_of text)

@@ -1,8 +1,8 @@
-use Rattle.std.proofs.Common.{◌∙◌, ◌/◌, ℕ, ap, sym, arith}
-use Rattle.dkg_script.proofs.Formed.{lives_form}
+use Rattle.dkg_script.proofs.Formed.{told_form, told_other}
 use Rattle.dkg_script.proofs.built.is_built.Goals as goal
 
 pub returns-clause-form : goal.returns-clause-form
-returns-clause-form c =
-    lives_form c.args.script.now (c.get-midpoint.result / 2) c.as_slice-blocks.result.now c.as_slice.result.now c.in_ok-are_first.field-0 c.are_lives.result c.if-script.false (sym c.is_plain.ensures ∙ c.if-not-is_plain.false)
-    c.as_slice-blocks.ensures c.as_slice.ensures (ap (λ (n : ℕ). n / 2) c.get-midpoint.ensures.value) c.if-not-branch.false c.in_ok-are_first.ensures.first c.are_lives.ensures (rw (← c.get-midpoint.ensures.value) (omega arith))
+returns-clause-form c = told_form c.args.script.now c.passes.result c.passes.ensures.exact c.passes.ensures.short
+
+pub returns-clause-refused : goal.returns-clause-refused
+returns-clause-refused c = told_other c.args.script.now c.passes.result c.passes.ensures.exact

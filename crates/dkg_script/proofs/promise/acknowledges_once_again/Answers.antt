@@ -1,4 +1,3 @@
-use Rattle.dkg_script.proofs.TwoRuns.{later_is_kept}
 use Rattle.dkg_script.proofs.OneAckAgain.{one_ack_again}
 use Rattle.dkg_script.proofs.promise.acknowledges_once_again.Goals as goal
 
