@@ -1,6 +1,6 @@
 -- The height that a life awaits from step to step, as its state has it and as the script says.
 use Rattle.std.proofs.Common.{◌≡◌, ℕ, zero, suc, ◌+◌, ◌-◌, ◌<◌, ◌≤◌, ◌==◌, List, [], ◌∷◌, ◌++◌, Option, Some, None, Bool, true, false, cond, arith, refl, sym, ap, subst, ◌∙◌, take, filter_map}
-use Rattle.std.specs.Prelude.{fold, max, nat_le, option_map, slice_get, IfSome, IsSomeAnd, if◌then◌else◌}
+use Rattle.std.specs.Prelude.{fold, max, nat_le, slice_get, IfSome, IsSomeAnd, if◌then◌else◌}
 use Rattle.std.specs.Option.{option_map_or}
 use Rattle.std.proofs.lemmas.Bool.Decides.{nat_tests}
 use Rattle.std.proofs.lemmas.List.Elements.{filter_map-append}
@@ -8,27 +8,21 @@ use Rattle.std.proofs.lemmas.List.Sums.{fold-append}
 use Rattle.dkg_journal.specs.Burn.{Burn}
 use Rattle.dkg_types.specs.Blocks as made
 use Rattle.dkg_types.specs.declared.directory.Unit as directory
-use Rattle.dkg_text.specs.declared.script.Anchor.{Anchor}
-use Rattle.dkg_text.specs.declared.script.Anchor.TheVariants.{Processed, Absent}
 use Rattle.dkg_text.specs.declared.script.BlockLine.{BlockLine}
 use Rattle.dkg_text.specs.declared.script.Cut.{Cut}
 use Rattle.dkg_text.specs.declared.script.Event.{Event}
 use Rattle.dkg_text.specs.declared.script.Event.TheVariants.{Peer, Final}
 use Rattle.dkg_text.specs.declared.script.Life.{Life}
 use Rattle.dkg_script.specs.Blocks.{Block, block_at, block_of, blocks, delivered_number, events_come_to}
-use Rattle.dkg_script.specs.Form.{IsAnchorOfToday, midpoint_of}
-use Rattle.dkg_script.specs.Position.{awaited_height, delivered, height_after_anchor, start_height}
-use Rattle.dkg_script.specs.Setting.{Setting, life_at}
+use Rattle.dkg_script.specs.Position.{awaited_height, delivered, start_height}
+use Rattle.dkg_script.specs.Setting.{Setting}
 use Rattle.dkg_script.proofs.LineBlocks.{of_line}
-use Rattle.dkg_script.proofs.Today.{start_is}
-use Rattle.dkg_core.specs.Live as core
-use Rattle.dkg_core.specs.Live.{Finalized, Live}
-use Rattle.dkg_core.specs.Sources.{Tip, position, position_of}
+use Rattle.dkg_core.specs.Live.{Finalized}
+use Rattle.dkg_core.specs.Sources.{Tip}
 use Rattle.dkg_core.specs.Today.{tip_behind}
-use Rattle.dkg_run.specs.Given.{anchor_at, anchor_in, blocks_in}
+use Rattle.dkg_run.specs.Given.{blocks_in}
 use Rattle.dkg_run.specs.Lives.{fuse_for, fuse_within, never}
-use Rattle.dkg_run.proofs.Resting.{IsTodays, finds_none, life_today}
-use Rattle.dkg_run.proofs.Today.{IsMade, made_at}
+use Rattle.dkg_run.proofs.LineHeights.{made_at}
 
 none_there : {A : Type 0} (x : A) → ◌≡◌ {A = Option A} None (Some x) → ⊥
 none_there x e = cc
@@ -102,7 +96,7 @@ module _ (s : Setting) (l : ℕ) (life : Life) (i : ℕ) (one : Event) (event_is
   abbrev events : List Event
   events = events_come_to life.cut life.events
 
-  delivered_more : delivered s life (suc i) ≡ delivered s life i ++ filter_map (block_at s) (filter_map delivered_number (one ∷ []))
+  pub delivered_more : delivered s life (suc i) ≡ delivered s life i ++ filter_map (block_at s) (filter_map delivered_number (one ∷ []))
   delivered_more =
       ap (λ (es : List Event). filter_map (block_at s) (filter_map delivered_number es)) (one_more events i one (comes_to life.cut life.events i reached ∙ event_is))
       ∙ ap (λ (ns : List ℕ). filter_map (block_at s) ns) (filter_map-append delivered_number (take i events) (one ∷ []))
@@ -117,7 +111,7 @@ module _ (s : Setting) (l : ℕ) (life : Life) (i : ℕ) (one : Event) (event_is
 pub message_behind : (s : Setting) (l : ℕ) (life : Life) (i from : ℕ) (bytes : List ℕ) → slice_get life.events i ≡ Some (Peer from bytes) → IsReached life.cut (suc i) → awaited_height s l life (suc i) ≡ awaited_height s l life i
 message_behind s l life i from bytes is reached = height_more s l life i (Peer from bytes) is reached
 
-block_behind : (s : Setting) (l : ℕ) (life : Life) (i number : ℕ) (b : Block) → slice_get life.events i ≡ Some (Final number) → IsReached life.cut (suc i) → block_at s number ≡ Some b
+pub block_behind : (s : Setting) (l : ℕ) (life : Life) (i number : ℕ) (b : Block) → slice_get life.events i ≡ Some (Final number) → IsReached life.cut (suc i) → block_at s number ≡ Some b
     → awaited_height s l life (suc i) ≡ max (awaited_height s l life i) (b.height + 1)
 block_behind s l life i number b is reached there = height_more s l life i (Final number) is reached ∙ (rw there (rest (awaited_height s l life i) b.height))
   where
@@ -164,45 +158,3 @@ pub block_awaits : (s : Setting) (l : ℕ) (life : Life) (i number : ℕ) (its :
     → awaited tip ≡ awaited_height s l life i → awaited (tip_behind (Finalized its) tip) ≡ awaited_height s l life (suc i)
 block_awaits s l life i number its tip has is reached height =
     tip_awaits tip its (has.b).height has.same ∙ ap (λ (n : ℕ). max n ((has.b).height + 1)) height ∙ sym (block_behind s l life i number has.b is reached has.there)
-
--- AN OPENING
-
-module _ (s : Setting) where
-  starts_at : (at : Option Anchor) → IfSome at (IsAnchorOfToday (midpoint_of s.script) s.script.blocks) → awaited (position (anchor_in (blocks_in s.script) at)) ≡ height_after_anchor s at
-  starts_at None today = refl
-  starts_at (Some (Processed number)) today = by_line (slice_get s.script.blocks number) refl today
-    where
-      by_line : (o : Option BlockLine) → slice_get s.script.blocks number ≡ o → IsSomeAnd o (λ line. line.height + 1 < midpoint_of s.script) → awaited (position (anchor_in (blocks_in s.script) (Some (Processed number)))) ≡ height_after_anchor s (Some (Processed number))
-      by_line None line_is early = absurd early
-      by_line (Some line) line_is early =
-          let made = made_at s.script number (λ (h : ℕ). h ≡ line.height) (subst (λ (o : Option BlockLine). IsSomeAnd o (λ l. l.height ≡ line.height)) (sym line_is) refl) in
-          let there = of_line s number line line_is in
-          rw (made.is, there) (after (made.block).height line.height made.so)
-        where
-          after : (h k : ℕ) → h ≡ k → h + 1 ≡ suc k
-          after h k same = omega (arith, same)
-  starts_at (Some (Absent number)) today = by_line (slice_get s.script.blocks number) refl today
-    where
-      by_line : (o : Option BlockLine) → slice_get s.script.blocks number ≡ o → IsSomeAnd o (λ line. (0 < line.height) × (line.height < midpoint_of s.script)) → awaited (position (anchor_in (blocks_in s.script) (Some (Absent number)))) ≡ height_after_anchor s (Some (Absent number))
-      by_line None line_is early = absurd early
-      by_line (Some line) line_is early =
-          let made = made_at s.script number (λ (h : ℕ). h ≡ line.height) (subst (λ (o : Option BlockLine). IsSomeAnd o (λ l. l.height ≡ line.height)) (sym line_is) refl) in
-          let there = of_line s number line line_is in
-          rw (made.is, there) (before (made.block).height line.height made.so early.0)
-        where
-          before : (h k : ℕ) → h ≡ k → 0 < k → h - 1 + 1 ≡ k
-          before h k same some = omega (arith, same, some)
-
-nothing_delivered : (s : Setting) (l : ℕ) (life : Life) → awaited_height s l life 0 ≡ start_height s l life
-unfolding awaited_height
-nothing_delivered s l life = by_events (events_come_to life.cut life.events)
-  where
-    by_events : (events : List Event) → fold (λ height b. max height (suc b.height)) (start_height s l life) (filter_map (block_at s) (filter_map delivered_number (take 0 events))) ≡ start_height s l life
-    by_events [] = refl
-    by_events (event ∷ rest) = refl
-
--- a life that stands at its anchor
-pub awaits_first : (s : Setting) (l : ℕ) (life : Life) → IsTodays s → life_at s l ≡ Some life → awaited (position (anchor_in (blocks_in s.script) life.anchor)) ≡ awaited_height s l life 0
-awaits_first s l life today is =
-    let its = life_today s l life today is in
-    starts_at s life.anchor its.anchor ∙ sym (nothing_delivered s l life ∙ start_is s l life its.no_sync (finds_none s l today))

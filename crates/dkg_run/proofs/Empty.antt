@@ -1,11 +1,10 @@
 -- An empty disk and an empty secret store are fresh.
 use Rattle.std.proofs.Common.{◌≡◌, ℕ, List, [], Option, Some, None, refl, ap, sym, subst, ◌∙◌}
-use Rattle.std.specs.Prelude.{filter, nat_lt, ◌&&◌, ◌==◌, ◌^◌}
-use Rattle.std.specs.FinMap.{get, get-empty, same_map}
+use Rattle.std.specs.FinMap.{empty, get, get-empty, same_map}
+use Rattle.std.specs.Int.NonZero.{non_zero_u32_get}
+use Rattle.std.specs.Ordering.{nat_cmp}
 use Rattle.dkg_values.specs.declared.name.Name.{Name}
 use Rattle.dkg_values.specs.declared.name.Name.TheVariants.{Flat, Plan}
-use Rattle.dkg_ceremony.specs.Dealings.{dealing_of}
-use Rattle.dkg_ceremony.specs.declared.round.Round.{Round}
 use Rattle.dkg_journal.specs.Names.{Files, name_cmp}
 use Rattle.dkg_journal.specs.Opening.{broken, broken_rows, broken_with}
 use Rattle.dkg_journal.specs.Segments.{segment_rows}
@@ -14,16 +13,15 @@ use Rattle.dkg_journal.specs.Table.{MatchFile, Rows, RowsImage, contents}
 use Rattle.dkg_journal.proofs.Steps.{names_total, exact_names}
 use Rattle.dkg_store.specs.Corrupt.{AreEvents}
 use Rattle.dkg_secrets.specs.Keys.{key_cmp}
-use Rattle.dkg_store.specs.Pairs.{IsWhole, recovered}
-use Rattle.dkg_store.specs.Recorded.{Pair, first_refused, of_epoch}
+use Rattle.dkg_store.specs.Pairs.{IsWhole, Pairs}
 use Rattle.dkg_secrets.specs.Secrets.{Secrets}
 use Rattle.dkg_text.specs.declared.script.Script.{Script}
 use Rattle.dkg_script.specs.Promise.{AreHonestStores}
-use Rattle.dkg_script.specs.Setting.{recovered_from, setting_of}
-use Rattle.dkg_script.proofs.Worked.{no_pairs, nothing_there}
+use Rattle.dkg_script.specs.Setting.{Setting, me, recovered_from, setting_of}
+use Rattle.dkg_script.proofs.Worked.{no_pairs, nothing_recovered, nothing_there}
 use Rattle.dkg_run.specs.Complete.{AreValidDevices}
-use Rattle.dkg_run.specs.Found.{Reader, reader_in}
 use Rattle.dkg_run.specs.Fresh.{AreFresh}
+use Rattle.dkg_run.specs.ValidOver.{AreValidOver}
 
 none_there : (file : Option (List ℕ)) → MatchFile None file → file ≡ None
 none_there None here = refl
@@ -43,30 +41,35 @@ nothing_broken = ap (λ (o : Option (List ℕ)). broken_with o (contents [])) (g
 none_left : (c : Files) → RowsImage [] c → entries c ≡ []
 none_left c here = ap entries (only_these c here) ∙ nothing_there
 
-none_refused : (reader : Reader) (round : Round) (c : Files) (held : Secrets) → entries c ≡ [] → first_refused (dealing_of round reader.me) (of_epoch 0 (recovered_from c held)) ≡ None
-none_refused reader round c held none =
-    ap (λ (es : List Entry). first_refused (dealing_of round reader.me) (of_epoch 0 (recovered es held))) none
-    ∙ ap (λ (ps : List Pair). first_refused (dealing_of round reader.me) (filter (λ p. (p.0.0 == 0) && nat_lt p.0.1 (2 ^ 32)) ps)) (no_pairs key_cmp)
+-- an empty store holds nothing, and with a disk of no files gives nothing back
+abbrev none_held : Secrets
+none_held = record { shares = empty; seeds = empty; privates = empty }
 
-valid : (script : Script) (held : Secrets) → AreValidDevices (setting_of script (contents []) held) (RowsImage [])
-valid script held = record {
-  stores = honest script held;
+none_some : {A : Type 0} {x : A} → ◌≡◌ {A = Option A} None (Some x) → ⊥
+none_some e = cc
+
+no_dealing : (held : Secrets) (key : ℕ × ℕ) (pair : List ℕ × ℕ) → get (recovered_from (contents []) held) key ≡ Some pair → ⊥
+no_dealing held key pair got = none_some (sym (ap (λ (pairs : Pairs). get pairs key) (nothing_recovered held) ∙ get-empty key_cmp key) ∙ got)
+
+agree : (s : Setting) → AreValidOver s (contents []) none_held
+agree s = record {
+  shares = λ epoch share info got known. absurd (none_some (sym (get-empty nat_cmp epoch) ∙ got));
+  dealings = λ epoch dealer public private round small got made. absurd (no_dealing none_held (epoch, dealer) (public, private) got);
+  own = λ epoch public private round got made. absurd (no_dealing none_held (epoch, me s) (public, private) got);
+}
+
+valid : (script : Script) → AreValidDevices (setting_of script (contents []) none_held) (RowsImage [])
+valid script = record {
+  stores = honest script none_held;
   fit = record {
     whole = record { each = λ c here. ap broken (only_these c here) ∙ nothing_broken };
-    events = λ c here. subst (AreEvents (reader_in script).limit) (sym (none_left c here)) tt;
+    events = λ c here. subst (AreEvents (non_zero_u32_get script.config.limit)) (sym (none_left c here)) tt;
   };
-  passing = record {
-    whole = λ c here. subst (λ (es : List Entry). IsWhole es held) (sym (none_left c here)) tt;
-    each = λ round made c here. none_refused (reader_in script) round c held (none_left c here);
-  };
+  agree = agree (setting_of script (contents []) none_held);
 }
 
-fresh : (held : Secrets) → AreFresh (contents []) (RowsImage []) held
-fresh held = record {
-  honest = λ script. honest script held;
-  valid = λ script. valid script held;
-  no_plan = get-empty name_cmp Plan;
-}
+fresh : AreFresh (contents []) (RowsImage []) none_held
+fresh = record { honest = λ script. honest script none_held; valid = valid; no_plan = get-empty name_cmp Plan }
 
-pub empty_fresh : (rows : Rows) (held : Secrets) → rows ≡ [] → AreFresh (contents rows) (RowsImage rows) held
-empty_fresh rows held is = subst (λ (r : Rows). AreFresh (contents r) (RowsImage r) held) (sym is) (fresh held)
+pub empty_fresh : (rows : Rows) (held : Secrets) → rows ≡ [] → held ≡ none_held → AreFresh (contents rows) (RowsImage rows) held
+empty_fresh rows held none_there is = subst (λ (h : Secrets). AreFresh (contents rows) (RowsImage rows) h) (sym is) (subst (λ (r : Rows). AreFresh (contents r) (RowsImage r) none_held) (sym none_there) fresh)

@@ -1,44 +1,21 @@
 -- The fence is ready where a life's half enters its epoch.
-use Rattle.std.proofs.Common.{◌≡◌, ℕ, ◌+◌, ◌++◌, ◌∷◌, [], arith, Bool, true, false, List, Option, Some, None, Result, Ok, Err, refl, sym, ◌∙◌, ap, subst}
-use Rattle.std.specs.Prelude.{◌==◌, ◌<◌, nat_lt, IsSome, IsSomeAnd, is_some, option_and_then, if◌then◌else◌}
+use Rattle.std.proofs.Common.{◌≡◌, ℕ, arith, Bool, true, false, Option, Some, None, Result, Ok, Err, refl, sym, ◌∙◌, ap, subst}
+use Rattle.std.specs.Prelude.{◌==◌, IsSomeAnd, if◌then◌else◌}
 use Rattle.std.specs.Option.{option_map_or}
-use Rattle.std.specs.Result.{result_ok}
 use Rattle.std.proofs.lemmas.Bool.Decides.{nat_tests}
-use Rattle.dkg_ceremony.specs.Schedule.{boundary, first, last}
+use Rattle.dkg_ceremony.specs.Schedule.{boundary, first}
 use Rattle.dkg_ceremony.specs.declared.epocher.Bounds.{Bounds}
-use Rattle.dkg_fence.specs.Fence.{waited}
 use Rattle.dkg_fence.specs.Readiness.{Readiness}
-use Rattle.dkg_fence.specs.declared.fence.Waited.{Waited}
-use Rattle.dkg_fence.specs.declared.fence.Waited.TheVariants as waits
-use Rattle.dkg_journal.specs.Burn.{Burn}
 use Rattle.dkg_types.specs.Blocks.{Block}
 use Rattle.dkg_types.specs.BlockCodes.{info_of}
 use Rattle.dkg_types.specs.declared.directory.Unit as directory
-use Rattle.dkg_types.specs.declared.entry.Entry.{Entry as Line}
-use Rattle.dkg_types.specs.declared.entry.Entry.TheVariants as lines
 use Rattle.dkg_types.specs.declared.fault.Fault.{Fault}
-use Rattle.dkg_types.specs.declared.fault.Fault.TheVariants as fault
-use Rattle.dkg_types.specs.declared.fault.Fault.TheVariants.{HeightRange, MissingEpochInfo, WrongEpoch}
+use Rattle.dkg_types.specs.declared.fault.Fault.TheVariants.{MissingEpochInfo, WrongEpoch}
 use Rattle.dkg_types.specs.declared.info.EpochInfo.{EpochInfo}
-use Rattle.dkg_types.specs.declared.scheme.SchemeInfo.{SchemeInfo}
-use Rattle.dkg_types.specs.declared.participants.TrackedPeers.{TrackedPeers}
-use Rattle.dkg_store.specs.Acts as acts_of
-use Rattle.dkg_store.specs.Acts.{Acts, Cause, Ended, Held, IsBetween, Runs, World, broken, by_want, stopped, went}
-use Rattle.dkg_store.proofs.Acts.{breaks_none}
-use Rattle.dkg_values.specs.Codec.{whole}
-use Rattle.dkg_values.specs.Rising.{lookup}
-use Rattle.dkg_core.specs.Courses.{Course, Say, Goes, Stops, Ask, Genesis, bind, on_devices}
-use Rattle.dkg_core.specs.Entering as half
-use Rattle.dkg_core.specs.Entering.{Half, acked_at, active, delivered, is_ready, opens_half}
+use Rattle.dkg_core.specs.Entering.{is_ready}
 use Rattle.dkg_core.specs.Fixed.{Fixed}
-use Rattle.dkg_core.specs.Laws.{start_of}
-use Rattle.dkg_core.specs.Live.{Live, NodeStop, Faulted, Orchestrator, Waiting, with_orchestrator}
-use Rattle.dkg_core.specs.Node.{kept_material}
-use Rattle.dkg_core.specs.Plans.{material_at}
-use Rattle.dkg_core.specs.Setup.{is_past_range}
 use Rattle.dkg_core.specs.Sources.{Source}
 use Rattle.dkg_core.specs.Today.{first_block, first_epoch}
-use Rattle.dkg_reshare.specs.Made.{Speaks}
 use Rattle.dkg_run.specs.Halves.{AreStart, beginning_of}
 use Rattle.dkg_run.specs.Nodes.{IsFenceReady, IsHalfGiven}
 

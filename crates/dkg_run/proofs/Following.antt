@@ -16,6 +16,7 @@ use Rattle.dkg_store.specs.Acts.{Held}
 use Rattle.dkg_core.specs.Seen.{Seen}
 use Rattle.dkg_reshare.specs.declared.stop.Stop.{Stop}
 use Rattle.dkg_reshare.specs.declared.stop.Stop.TheVariants.{Cut, Failed, Fault as FaultOf}
+use Rattle.dkg_run.specs.Epochs.{refused_config}
 use Rattle.dkg_run.specs.Given.{lived}
 use Rattle.dkg_run.specs.Lives.{AnyFiles, EndsLife, LivesFrom, LivesSo, RunsAllSo}
 use Rattle.dkg_run.specs.Ways.{ReadsSomething, Trace, by_lines}
@@ -123,8 +124,11 @@ module _ (E : Setting → Progress → Entry → Type 0) (Told : Fault → Setti
         at : slice_get script.lives l ≡ Some life
         at = item_at script.lives l life lives rest
 
-    pub all_move : (first : Files → Type 0) (t new : Trace) (result : Result (Unit {0}) Fault) → RunsAllSo by_lines script first t result new
-        → Moves E (IsBetweenOf script 0) (RunEndsBy Told script result) t.out new.out
-    all_move first t new result (inl wants) = subst (λ (r : Result (Unit {0}) Fault). Moves E (IsBetweenOf script 0) (RunEndsBy Told script r) t.out new.out) (sym wants.0)
+    -- .. of a script whose configuration is refused, only where that may be told
+    pub all_move : ((its : Fault) → refused_config script ≡ Some its → (s : Setting) (p : Progress) → IsBetweenOf script 0 s p → Told its s p) → (first : Files → Type 0) (t new : Trace) (result : Result (Unit {0}) Fault)
+        → RunsAllSo by_lines script first t result new → Moves E (IsBetweenOf script 0) (RunEndsBy Told script result) t.out new.out
+    all_move refusal first t new result (inl (its, refused, is, same)) = subst (λ (r : Result (Unit {0}) Fault). Moves E (IsBetweenOf script 0) (RunEndsBy Told script r) t.out new.out) (sym is)
+        (moves_none E (IsBetweenOf script 0) (Told its) t.out new.out (ap (λ (x : Trace). x.out) same) (refusal its refused))
+    all_move refusal first t new result (inr (checked, inl wants)) = subst (λ (r : Result (Unit {0}) Fault). Moves E (IsBetweenOf script 0) (RunEndsBy Told script r) t.out new.out) (sym wants.0)
         (moves_none E (IsBetweenOf script 0) (Told NoMemory) t.out new.out (ap (λ (x : Trace). x.out) wants.1) (λ s p at. untold s p))
-    all_move first t new result (inr lives) = from_moves first 0 script.lives t new result (omega arith) refl lives
+    all_move refusal first t new result (inr (checked, inr lives)) = from_moves first 0 script.lives t new result (omega arith) refl lives

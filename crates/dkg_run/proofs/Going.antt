@@ -1,6 +1,5 @@
 -- What lives make of the devices, one call behind another.
-use Rattle.std.proofs.Common.{◌≡◌, ◌≤◌, ◌++◌, ◌∷◌, [], ℕ, Bool, List, Option, Some, None, refl, sym, ◌∙◌, ap, arith}
-use Rattle.std.specs.Prelude.{IsTrue}
+use Rattle.std.proofs.Common.{◌≡◌, ◌++◌, ◌∷◌, [], ℕ, Bool, List, Option, Some, None, refl, ◌∙◌, ap, arith}
 use Rattle.dkg_journal.specs.Burn.{Burn}
 use Rattle.dkg_journal.specs.DeviceCall.{DeviceCall, Makes, CutIn, Crashes, call_at}
 use Rattle.dkg_journal.specs.Fuse.{calls_in, pick_now, spent_once}
@@ -10,7 +9,7 @@ use Rattle.dkg_store.specs.declared.devices.Devices.{Devices}
 use Rattle.dkg_secrets.specs.declared.secrets.SecretOp.{SecretOp}
 use Rattle.dkg_reshare.specs.Moved.{Moved}
 use Rattle.dkg_run.specs.Moving.{Went}
-use Rattle.dkg_run.specs.Stopped.{Stopped, stops_in}
+use Rattle.dkg_run.specs.Stopped.{stops_in}
 
 -- STOPS AMONG CALLS
 

@@ -1,12 +1,16 @@
 -- What a life's end leaves, and what the fault that ended it blames.
-use Rattle.std.proofs.Common.{◌≡◌, ◌⊎◌, inl, inr, ℕ, ◌+◌, ◌<◌, ◌++◌, ◌∷◌, [], List, Option, Some, None, Result, Ok, Err, refl, sym, ◌∙◌, ap, subst, arith}
-use Rattle.std.specs.Prelude.{IfErr, IsSome, IsSomeAnd}
+use Rattle.std.proofs.Common.{◌≡◌, ◌⊎◌, inl, inr, ℕ, ◌+◌, ◌<◌, ◌++◌, Bool, ◌∷◌, [], List, Option, Some, None, Result, Ok, Err, refl, sym, ◌∙◌, ap, subst, arith}
+use Rattle.std.specs.Prelude.{IfErr, IsSome}
 use Rattle.dkg_journal.specs.Burn.{Burn}
+use Rattle.dkg_journal.specs.DeviceCall.{DeviceCall}
+use Rattle.dkg_journal.specs.Disk.{Rose}
 use Rattle.dkg_journal.specs.Names.{Files}
+use Rattle.dkg_journal.specs.declared.disk.Op.{Op}
 use Rattle.dkg_types.specs.declared.directory.Unit as directory
 use Rattle.dkg_types.specs.declared.entry.Entry.{Entry as Line}
 use Rattle.dkg_types.specs.declared.entry.Entry.TheVariants as entry
 use Rattle.dkg_types.specs.declared.fault.Fault.{Fault}
+use Rattle.dkg_types.specs.declared.fault.Fault.TheVariants as fault
 use Rattle.dkg_types.specs.declared.fault.Fault.TheVariants.{NoMemory}
 use Rattle.dkg_text.specs.declared.script.Cut as cut
 use Rattle.dkg_text.specs.declared.script.Event.{Event}
@@ -15,6 +19,7 @@ use Rattle.dkg_text.specs.declared.script.Script.{Script}
 use Rattle.dkg_store.specs.Acts.{Held, at, moment}
 use Rattle.dkg_store.specs.Corrupt.{AreFit}
 use Rattle.dkg_secrets.specs.Secrets.{Secrets}
+use Rattle.dkg_secrets.specs.declared.secrets.SecretOp.{SecretOp}
 use Rattle.dkg_store.specs.declared.devices.Devices.{Devices}
 use Rattle.dkg_core.specs.Courses.{Course}
 use Rattle.dkg_core.specs.Live.{Live, NodeStop}
@@ -22,15 +27,15 @@ use Rattle.dkg_core.specs.Node.{node_opening}
 use Rattle.dkg_core.specs.Seen.{Seen}
 use Rattle.dkg_reshare.specs.Today.{seen_today}
 use Rattle.dkg_reshare.specs.declared.stop.Stop.{Stop}
-use Rattle.dkg_reshare.specs.declared.stop.Stop.TheVariants.{Cut, Failed, Fault as FaultOf}
-use Rattle.dkg_run.specs.Causes.{HasCause, IfFault, StopHasCause}
+use Rattle.dkg_reshare.specs.declared.stop.Stop.TheVariants.{Cut, Fault as FaultOf}
+use Rattle.dkg_run.specs.Causes.{HasCause}
 use Rattle.dkg_run.specs.Ended.{by_node_stop}
-use Rattle.dkg_run.specs.Found.{Reader}
 use Rattle.dkg_run.specs.Given.{Lived, at_step, lived, step_of}
+use Rattle.dkg_run.specs.Moving.{Blames, StopBlames, Went}
 use Rattle.dkg_run.specs.Lives.{AnyFiles, EndsLife, LivesHere, LivesSo, Steps, TakesAll, fuse_for, never}
-use Rattle.dkg_run.specs.Passing.{ArePassing}
 use Rattle.dkg_run.specs.Stopped.{picks_at_end}
 use Rattle.dkg_run.specs.Ways.{Trace, by_lines, by_worlds, trace}
+use Rattle.dkg_run.proofs.Living.{rose_around}
 use Rattle.dkg_run.proofs.Running.{ends_over}
 
 -- OF FEWER IMAGES
@@ -41,11 +46,31 @@ narrowed_fit most image next narrows fit = record {
   events = λ c here. fit.events c (narrows c here);
 }
 
-pub narrowed_passing : (reader : Reader) (image next : Files → Type 0) (held now : Secrets) → ((c : Files) → next c → image c) → now ≡ held → ArePassing reader image held → ArePassing reader next now
-narrowed_passing reader image next held now narrows same are = subst (λ (s : Secrets). ArePassing reader next s) (sym same) (record {
-  whole = λ c here. are.whole c (narrows c here);
-  each = λ round made c here. are.each round made c (narrows c here);
-})
+-- WHAT A FAULT BLAMES: one that ended a life leaves the devices as they were
+
+module _ {D X : Type 0} (disk_faults : D → ℕ) (secret_faults : X → ℕ) where
+  pub life_blames : (old mid new : Devices D X) (how : Result (Unit {0}) Stop) (result : Result (Unit {0}) Fault) → IfErr how (StopBlames disk_faults secret_faults old mid)
+      → IfErr result (λ fault. (how ≡ Err (FaultOf fault)) ⊎ (fault ≡ NoMemory)) → ((fault : Fault) → how ≡ Err (FaultOf fault) → new ≡ mid)
+      → IfErr result (Blames disk_faults secret_faults old new)
+  life_blames old mid new how (Ok done) caused faulted same = tt
+  life_blames old mid new how (Err its) caused (inl is) same = subst (λ (d : Devices D X). Blames disk_faults secret_faults old d its) (sym (same its is))
+      (subst (λ (r : Result (Unit {0}) Stop). IfErr r (StopBlames disk_faults secret_faults old mid)) is caused)
+  life_blames old mid new how (Err its) caused (inr is) same = subst (Blames disk_faults secret_faults old new) (sym is) tt
+
+-- .. and what it blames in a part of a run, it blames in all of it
+faults_around : (its : Fault) (P Q R S : Type 0) → (P → R) → (Q → S) → HasCause its P Q → HasCause its R S
+faults_around fault.Disk P Q R S disk secrets is = disk is
+faults_around fault.Secrets P Q R S disk secrets is = secrets is
+faults_around its P Q R S disk secrets is = tt
+
+module _ {D X : Type 0} (tells : Bool) (disk : D → D → List (DeviceCall Op) → Type 0) (secrets : X → X → List (DeviceCall SecretOp) → Type 0) (disk_faults : D → ℕ) (secret_faults : X → ℕ) where
+  pub blames_behind : (old mid new : Devices D X) (picks more : List ℕ) → Went tells disk secrets disk_faults secret_faults old mid picks → Went tells disk secrets disk_faults secret_faults mid new more → (its : Fault)
+      → Blames disk_faults secret_faults mid new its → Blames disk_faults secret_faults old new its
+  blames_behind old mid new picks more first behind its = faults_around its
+      (Rose (disk_faults mid.disk.now) (disk_faults new.disk.now)) (Rose (secret_faults mid.secrets.now) (secret_faults new.secrets.now))
+      (Rose (disk_faults old.disk.now) (disk_faults new.disk.now)) (Rose (secret_faults old.secrets.now) (secret_faults new.secrets.now))
+      (rose_around (disk_faults old.disk.now) (disk_faults mid.disk.now) (disk_faults new.disk.now) (disk_faults new.disk.now) first.later_disk behind.later_disk (omega arith))
+      (rose_around (secret_faults old.secrets.now) (secret_faults mid.secrets.now) (secret_faults new.secrets.now) (secret_faults new.secrets.now) first.later_secrets behind.later_secrets (omega arith))
 
 -- ONLY A LIFE THAT THE SCRIPT CUTS ends by a cut
 

@@ -1,5 +1,5 @@
 -- The steps of a life, and lives, by what their calls answered.
-use Rattle.std.proofs.Common.{◌≡◌, ◌⊎◌, ◌<◌, ◌≤◌, ◌+◌, ◌^◌, ◌++◌, [], ◌∷◌, ℕ, zero, suc, Bool, true, false, List, Option, Some, None, inl, inr, get_or, length, refl, sym, ◌∙◌, ap, subst, arith}
+use Rattle.std.proofs.Common.{◌≡◌, ◌⊎◌, ◌<◌, ◌≤◌, ◌+◌, ◌^◌, [], ◌∷◌, ℕ, zero, suc, Bool, true, false, List, Option, Some, None, inl, inr, get_or, length, refl, sym, ◌∙◌, ap, subst, arith}
 use Rattle.std.specs.Prelude.{⊤, nat_lt, slice_get}
 use Rattle.std.proofs.lemmas.Bool.Decides.{nat_tests}
 use Rattle.std.specs.List.{AllByRecursion}
@@ -7,18 +7,15 @@ use Rattle.std.proofs.lemmas.Option.{slice_get-get_or}
 use Rattle.dkg_journal.specs.Disk.{Rose}
 use Rattle.dkg_types.specs.Blocks.{Block}
 use Rattle.dkg_types.specs.declared.directory.Unit as directory
-use Rattle.dkg_types.specs.declared.fault.Fault.{Fault}
 use Rattle.dkg_types.specs.declared.fault.Fault.TheVariants as fault
 use Rattle.dkg_text.specs.declared.script.Life.{Life}
-use Rattle.dkg_reshare.specs.Given.{IsOf}
-use Rattle.dkg_reshare.specs.declared.config.Terms.{Terms}
 use Rattle.dkg_store.specs.declared.devices.Devices.{Devices}
-use Rattle.dkg_reshare.specs.Ends.{IsCaused}
+use Rattle.dkg_reshare.specs.Ends.{IsCausedBy}
 use Rattle.dkg_reshare.specs.declared.stop.Stop.{Stop}
 use Rattle.dkg_reshare.specs.declared.stop.Stop.TheVariants.{Cut, Failed, Fault as FaultOf}
-use Rattle.dkg_run.specs.Causes.{HasCause, StopHasCause}
-use Rattle.dkg_run.specs.Moving.{Blames, StepBlames}
-use Rattle.dkg_run.specs.Given.{Lived, at_step}
+use Rattle.dkg_run.specs.Causes.{StopHasCause}
+use Rattle.dkg_run.specs.Moving.{StepBlames}
+use Rattle.dkg_run.specs.Given.{Lived}
 use Rattle.dkg_run.specs.Nodes.{IsOfLife, IsStepHere}
 use Rattle.dkg_run.specs.declared.node.Node.{Node}
 
@@ -35,10 +32,10 @@ holds_at {A} P (y ∷ ys) zero x all is = subst P (the_item is) all.0
     the_item e = cc
 holds_at P (y ∷ ys) (suc i) x all is = holds_at P ys i x all.1 is
 
--- A node with the same terms is of the same life.
-pub step_here : (g : Lived) (a b : Node) (blocks now : List (Block directory.Unit)) (life : Life) → b.actor.terms ≡ a.actor.terms → now ≡ blocks → IsStepHere g a blocks life → IsStepHere g b now life
-step_here g a b blocks now life terms same is = record {
-  of = record { of = λ taken. subst (λ (t : Terms). IsOf t (at_step g taken)) (sym terms) (is.of.of taken) };
+-- A node that is of each life of which it was before is in the same one's next step.
+pub step_here : (g : Lived) (a b : Node) (blocks now : List (Block directory.Unit)) (life : Life) → ((g : Lived) → IsOfLife g a → IsOfLife g b) → now ≡ blocks → IsStepHere g a blocks life → IsStepHere g b now life
+step_here g a b blocks now life of same is = record {
+  of = of g is.of;
   blocks_are = same ∙ is.blocks_are;
   life_is = is.life_is;
 }
@@ -58,30 +55,30 @@ rose_around a b c d ab bc cd rose = rises (2 ^ 64) a b c d ab bc cd rose
         by_order false e = inr (grind (arith, nat_tests))
 
 -- .. so that what a step's stop blames in a part of a call, it blames in all of it
-stop_caused_around : (stop : Stop) (P Q R S U : Type 0) → (P → R) → (Q → S) → IsCaused stop P Q U → IsCaused stop R S ⊤
-stop_caused_around Cut P Q R S U disk secrets is = tt
-stop_caused_around Failed P Q R S U disk secrets is = absurd is
-stop_caused_around (FaultOf fault.Disk) P Q R S U disk secrets is = disk is
-stop_caused_around (FaultOf fault.Secrets) P Q R S U disk secrets is = secrets is
-stop_caused_around (FaultOf (fault.Corrupt name place)) P Q R S U disk secrets is = absurd is
-stop_caused_around (FaultOf its) P Q R S U disk secrets is = tt
+stop_caused_around : (tells : Bool) (stop : Stop) (P Q R S U : Type 0) → (P → R) → (Q → S) → IsCausedBy tells stop P Q U → IsCausedBy tells stop R S ⊤
+stop_caused_around tells Cut P Q R S U disk secrets is = tt
+stop_caused_around tells Failed P Q R S U disk secrets is = absurd is
+stop_caused_around tells (FaultOf fault.Disk) P Q R S U disk secrets is = disk is
+stop_caused_around tells (FaultOf fault.Secrets) P Q R S U disk secrets is = secrets is
+stop_caused_around tells (FaultOf (fault.Corrupt name place)) P Q R S U disk secrets is = is
+stop_caused_around tells (FaultOf its) P Q R S U disk secrets is = tt
 
-module _ {D X : Type 0} (disk_faults : D → ℕ) (secret_faults : X → ℕ) where
+module _ {D X : Type 0} (tells : Bool) (disk_faults : D → ℕ) (secret_faults : X → ℕ) where
   pub step_blames_around : (old before after new : Devices D X) → disk_faults old.disk.now ≤ disk_faults before.disk.now → secret_faults old.secrets.now ≤ secret_faults before.secrets.now
       → disk_faults before.disk.now ≤ disk_faults after.disk.now → secret_faults before.secrets.now ≤ secret_faults after.secrets.now
       → disk_faults after.disk.now ≤ disk_faults new.disk.now → secret_faults after.secrets.now ≤ secret_faults new.secrets.now
-      → (stop : Stop) (U : Type 0) → IsCaused stop (Rose (disk_faults before.disk.now) (disk_faults after.disk.now)) (Rose (secret_faults before.secrets.now) (secret_faults after.secrets.now)) U
-      → StepBlames disk_faults secret_faults old new stop
-  step_blames_around old before after new d1 s1 d2 s2 d3 s3 stop U is = stop_caused_around stop
+      → (stop : Stop) (U : Type 0) → IsCausedBy tells stop (Rose (disk_faults before.disk.now) (disk_faults after.disk.now)) (Rose (secret_faults before.secrets.now) (secret_faults after.secrets.now)) U
+      → StepBlames tells disk_faults secret_faults old new stop
+  step_blames_around old before after new d1 s1 d2 s2 d3 s3 stop U is = stop_caused_around tells stop
       (Rose (disk_faults before.disk.now) (disk_faults after.disk.now)) (Rose (secret_faults before.secrets.now) (secret_faults after.secrets.now))
       (Rose (disk_faults old.disk.now) (disk_faults new.disk.now)) (Rose (secret_faults old.secrets.now) (secret_faults new.secrets.now)) U
       (rose_around (disk_faults old.disk.now) (disk_faults before.disk.now) (disk_faults after.disk.now) (disk_faults new.disk.now) d1 d2 d3)
       (rose_around (secret_faults old.secrets.now) (secret_faults before.secrets.now) (secret_faults after.secrets.now) (secret_faults new.secrets.now) s1 s2 s3) is
 
 -- a step's causes are a life's
-pub step_stop_cause : (stop : Stop) (P Q U : Type 0) → IsCaused stop P Q U → StopHasCause stop P Q
-step_stop_cause Cut P Q U is = tt
-step_stop_cause Failed P Q U is = is
-step_stop_cause (FaultOf fault.Disk) P Q U is = is
-step_stop_cause (FaultOf fault.Secrets) P Q U is = is
-step_stop_cause (FaultOf its) P Q U is = tt
+pub step_stop_cause : (tells : Bool) (stop : Stop) (P Q U : Type 0) → IsCausedBy tells stop P Q U → StopHasCause stop P Q
+step_stop_cause tells Cut P Q U is = tt
+step_stop_cause tells Failed P Q U is = is
+step_stop_cause tells (FaultOf fault.Disk) P Q U is = is
+step_stop_cause tells (FaultOf fault.Secrets) P Q U is = is
+step_stop_cause tells (FaultOf its) P Q U is = tt

@@ -1,6 +1,6 @@
 -- A node's opening from the actor's, as a life of a script gives it.
-use Rattle.std.proofs.Common.{◌≡◌, ℕ, ◌-◌, Bool, List, [], Option, Some, None, Result, Ok, Err, refl, sym, ◌∙◌, ap, subst}
-use Rattle.std.specs.Prelude.{IsTrue, IfErr, slice_get}
+use Rattle.std.proofs.Common.{◌≡◌, ℕ, ◌-◌, Bool, List, Some, Ok, Err, refl, ◌∙◌, ap, subst}
+use Rattle.std.specs.Prelude.{slice_get}
 use Rattle.std.specs.Int.NonZero.{non_zero_u64_get}
 use Rattle.std.specs.declared.num.NonZeroU32.{NonZeroU32}
 use Rattle.std.specs.declared.num.NonZeroU64.{NonZeroU64}
@@ -18,11 +18,11 @@ use Rattle.dkg_types.specs.declared.scheme.SchemeInfo.{SchemeInfo}
 use Rattle.dkg_text.specs.declared.script.Life.{Life}
 use Rattle.dkg_text.specs.declared.script.Script.{Script}
 use Rattle.dkg_text.specs.declared.script.ScriptConfig.{ScriptConfig}
-use Rattle.dkg_script.specs.Form.{IsFormOfToday}
+use Rattle.dkg_script.specs.Epochs.{IsFormOfEpochs}
 use Rattle.dkg_store.specs.Acts.{Ended, Held, Moment, Stands, moment, went}
 use Rattle.dkg_secrets.specs.Secrets.{Secrets}
 use Rattle.dkg_core.specs.Core.{opening}
-use Rattle.dkg_core.specs.Courses.{Course, on_devices}
+use Rattle.dkg_core.specs.Courses.{on_devices}
 use Rattle.dkg_core.specs.Fixed.{Fixed}
 use Rattle.dkg_core.specs.Live.{Live}
 use Rattle.dkg_core.specs.Node.{kept_material, node_opening}
@@ -30,7 +30,7 @@ use Rattle.dkg_core.specs.Said.{Said}
 use Rattle.dkg_core.specs.Seen.{Seen}
 use Rattle.dkg_core.specs.Sources.{Source, source_over}
 use Rattle.dkg_reshare.specs.Actors.{AreTerms, EndsAt, IsFoundAt, lives}
-use Rattle.dkg_reshare.specs.Ends.{IsCaused, by_stop, ends}
+use Rattle.dkg_reshare.specs.Ends.{IsCaused, by_stop}
 use Rattle.dkg_reshare.specs.Given.{AreGivenFrom, HasRead, IsLent, IsOf, reading}
 use Rattle.dkg_reshare.specs.LiveOf.{Beside, EndsBeside, live_of, nothing_beside}
 use Rattle.dkg_reshare.specs.Made.{MakesAt, Speaks, Tells, UnlessBroken}
@@ -38,21 +38,21 @@ use Rattle.dkg_reshare.specs.Moved.{StaysAbove}
 use Rattle.dkg_reshare.specs.Opened.{IsInGrammar, IsOpeningOf, epoch_at}
 use Rattle.dkg_reshare.specs.Today.{IsOpeningOfToday, seen_today}
 use Rattle.dkg_reshare.specs.declared.actor.State.{State}
-use Rattle.dkg_reshare.specs.declared.actor.State.TheVariants.{Living}
 use Rattle.dkg_reshare.specs.declared.config.Terms.{Terms}
 use Rattle.dkg_reshare.specs.declared.life.Life as reshare
 use Rattle.dkg_reshare.specs.declared.stop.Stop.{Stop}
 use Rattle.dkg_reshare.specs.declared.stop.Stop.TheVariants.{Cut, Failed, Fault as FaultOf}
 use Rattle.dkg_reshare.proofs.Burning.{burns_next, burns_none, unless}
 use Rattle.dkg_run.specs.Ended.{by_node_stop}
-use Rattle.dkg_run.specs.Given.{IsLifeHere, Lived, ReadsNeither, anchor_in, at_step, blocks_in, limits_of, lived, numbered, unsealed}
-use Rattle.dkg_run.specs.Nodes.{IsFenceReady, IsHalfGiven, IsView, MayEnter, ViewedNew, ended_new, ends_half, with_half}
+use Rattle.dkg_core.specs.Today.{first_epoch}
+use Rattle.dkg_run.specs.Epochs.{IsChecked, IsLifeOver}
+use Rattle.dkg_run.specs.Given.{IsUnplanned, Lived, anchor_in, at_step, blocks_in, limits_of, lived, numbered, starts_above, unsealed}
+use Rattle.dkg_run.specs.Nodes.{IsFenceReady, IsHalfGiven, MayEnter, ViewedNew, ended_new, ends_half}
 use Rattle.dkg_run.specs.Sources.{IsSourceOf}
-use Rattle.dkg_run.specs.declared.half.Half.{Half}
 use Rattle.dkg_run.specs.declared.held.HeldBlocks.{HeldBlocks}
 use Rattle.dkg_run.specs.declared.node.Node.{Node}
-use Rattle.dkg_run.proofs.Early.{starts_first}
-use Rattle.dkg_run.proofs.Noding.{at_oneshot, is_of, unsaid}
+use Rattle.dkg_run.proofs.Checked.{life_over}
+use Rattle.dkg_run.proofs.Noding.{at_oneshot, is_of}
 use Rattle.dkg_run.proofs.Opening.{Lives, end_of, ended_makes, ended_says, epoch_is, fence_ready, half_given, halted_makes, halted_says, lent_at, lives_at, lives_err, made_there, may_enter, may_enter_made, opened_made, opened_says, opened_view, opening_of, reading_as, today_at, number_at, unless_named, went_burns}
 use Rattle.dkg_run.proofs.Sourced.{source_is}
 
@@ -99,13 +99,18 @@ found_nothing limit tells files (FaultOf fault.FloorBlockMissing) disk secrets r
 found_nothing limit tells files Cut disk secrets reached is = absurd is
 found_nothing limit tells files Failed disk secrets reached is = absurd is
 
-pub reads_today : ReadsNeither seen_today
-reads_today = record { shareless = λ h. refl; unplanned = λ h. refl }
+pub found_as : (limit most : ℕ) → limit ≡ most → (tells : Bool) (files : Files) (stop : Stop) (disk secrets reached : Type 0) → IsFoundAt limit tells files stop disk secrets reached → IsFoundAt most tells files stop disk secrets reached
+found_as limit most same tells files stop disk secrets reached = subst (λ (n : ℕ). IsFoundAt n tells files stop disk secrets reached) same
 
-pub reads_seen : (s : Seen) → s.shares ≡ [] → s.plan ≡ None → ReadsNeither (λ h. s)
-reads_seen s shareless unplanned = record { shareless = λ h. shareless; unplanned = λ h. unplanned }
+pub reads_today : IsUnplanned seen_today
+reads_today = λ h. refl
 
-module _ (script : Script) (number : ℕ) (life : Life) (source : HeldBlocks) (files : Files) (form : IsFormOfToday script) (life_is : slice_get script.lives number ≡ Some life)
+-- it starts in the same epoch over any files
+pub starts_alike : (script : Script) (number : ℕ) (life : Life) (files : Files) → first_epoch (at_step (lived script number life seen_today files) 0) - 1 ≡ starts_above script number life
+unfolding at_step
+starts_alike script number life files = refl
+
+module _ (script : Script) (number : ℕ) (life : Life) (source : HeldBlocks) (files : Files) (form : IsFormOfEpochs script) (checked : IsChecked script) (life_is : slice_get script.lives number ≡ Some life)
     (from : IsSourceOf (blocks_in script) life 0 source) (terms : Terms)
     (are : AreTerms terms script.config.me script.config.blocks_per_epoch script.config.limit script.config.max_mode script.config.mode V1 script.config.namespace)
   where
@@ -118,10 +123,10 @@ module _ (script : Script) (number : ℕ) (life : Life) (source : HeldBlocks) (f
     abbrev pub answers : Source directory.Unit
     answers = source_over unsealed (anchor_in source.blocks.now source.anchor) (numbered source.blocks.now source.numbers.items)
 
-    here_with : (seen : Held → Seen) → ReadsNeither seen → IsLifeHere (life_with seen)
-    here_with seen reads = record { form = form; life_is = life_is; reads = reads }
+    here_with : (seen : Held → Seen) → IsUnplanned seen → IsLifeOver (life_with seen)
+    here_with seen reads = life_over script number life seen files form checked life_is reads
 
-    of_with : (seen : Held → Seen) → ReadsNeither seen → IsOf terms (at_step (life_with seen) 0)
+    of_with : (seen : Held → Seen) → IsUnplanned seen → IsOf terms (at_step (life_with seen) 0)
     of_with seen reads = is_of (life_with seen) terms script.config refl reads are 0
 
     -- what the actor's opening asks
@@ -138,17 +143,16 @@ module _ (script : Script) (number : ℕ) (life : Life) (source : HeldBlocks) (f
     pub today_is : IsOpeningOfToday its
     today_is = today_at (life_with seen_today) terms answers 0 (of_with seen_today reads_today) (source_is (life_with seen_today) source from)
 
-    -- it starts in the first epoch
-    pub least_is : epoch_at answers terms - 1 ≡ 0
-    least_is = ap (λ (e : ℕ). e - 1)
-        (epoch_is (life_with seen_today) terms answers 0 (of_with seen_today reads_today) (source_is (life_with seen_today) source from) ∙ starts_first (life_with seen_today) (here_with seen_today reads_today) 0)
+    -- the epoch before the one in which it starts
+    pub least_is : epoch_at answers terms - 1 ≡ starts_above script number life
+    least_is = ap (λ (e : ℕ). e - 1) (epoch_is (life_with seen_today) terms answers 0 (of_with seen_today reads_today) (source_is (life_with seen_today) source from)) ∙ starts_alike script number life files
 
-    given_with : (seen : Held → Seen) → ReadsNeither seen → IsHalfGiven (non_zero_u64_get terms.blocks_per_epoch) answers (at_step (life_with seen) 0)
-    given_with seen reads = half_given (life_with seen) terms answers 0 (of_with seen reads) (source_is (life_with seen) source from) (here_with seen reads)
+    given_with : (seen : Held → Seen) → IsUnplanned seen → IsHalfGiven (non_zero_u64_get terms.blocks_per_epoch) answers (at_step (life_with seen) 0)
+    given_with seen reads = half_given (life_with seen) terms answers 0 (of_with seen reads) (source_is (life_with seen) source from)
 
     -- with what was read
     read_as : (s : Seen) → reading s its ≡ at_step (life_with (λ h. s)) 0
-    read_as s = reading_as (life_with seen_today) s 0
+    read_as s = reading_as (life_with seen_today) s
 
     module _ (Took : List (ℕ × SchemeInfo) → Type 0) (fence : Readiness) (state : State directory.Unit) (P : reshare.Life directory.Unit → Type 0) where
       -- THE ACTOR'S OPENING WENT, and the half's speaks
@@ -166,8 +170,8 @@ module _ (script : Script) (number : ℕ) (life : Life) (source : HeldBlocks) (f
             abbrev now_is : Beside directory.Unit
             now_is = said.so.now
 
-            reads_it : ReadsNeither (λ h. said.seen)
-            reads_it = reads_seen said.seen said.shareless said.unplanned
+            reads_it : IsUnplanned (λ h. said.seen)
+            reads_it = λ h. said.unplanned
 
             lines_are : Said (on_devices (opening (at_step (life_with (λ h. said.seen)) 0))) (went (live_of now_is fence living.life)) out mid
             lines_are = subst (λ (c : Fixed directory.Unit). Said (on_devices (opening c)) (went (live_of now_is fence living.life)) out mid) (read_as said.seen)
@@ -190,7 +194,6 @@ module _ (script : Script) (number : ℕ) (life : Life) (source : HeldBlocks) (f
                 → HasRead Asked (λ s. ViewedNew (Ok n) (λ ended. Tells (node_opening (at_step (life_with (λ h. s)) 0)) ended out out_now))
             opened_lines n same out_now Asked so speaks = record {
               seen = said.seen;
-              shareless = said.shareless;
               unplanned = said.unplanned;
               listed = said.listed;
               given = so said.seen said.given;
@@ -204,7 +207,6 @@ module _ (script : Script) (number : ℕ) (life : Life) (source : HeldBlocks) (f
                 → HasRead Asked (λ s. Tells (node_opening (at_step (life_with (λ h. s)) 0)) (by_node_stop stop) out out_now)
             halted_lines stop out_now half_fence Asked so speaks = record {
               seen = said.seen;
-              shareless = said.shareless;
               unplanned = said.unplanned;
               listed = said.listed;
               given = so said.seen said.given;
@@ -262,7 +264,6 @@ module _ (script : Script) (number : ℕ) (life : Life) (source : HeldBlocks) (f
             → HasRead Asked (λ s. Tells (node_opening (at_step (life_with (λ h. s)) 0)) (by_node_stop stop) out new)
         ended_lines {out} {new} Asked so said = record {
           seen = said.seen;
-          shareless = said.shareless;
           unplanned = said.unplanned;
           listed = said.listed;
           given = so said.seen said.given;
@@ -271,21 +272,21 @@ module _ (script : Script) (number : ℕ) (life : Life) (source : HeldBlocks) (f
               (subst (λ (how : Ended _ _). Said (on_devices (opening (reading said.seen its))) how out new) (lives_err (live_of said.so.now fence) state stop) said.so.holds));
         }
 
-    -- WHAT WAS GIVEN lies at or above the first epoch
-    pub given_from : (image : Files → Type 0) (held : Secrets) (s : Seen) → AreGivenFrom (epoch_at answers terms - 1) s.dealings image held → AreGivenFrom 0 s.dealings image held
+    -- WHAT WAS GIVEN lies at or above the epoch before the one in which it starts
+    pub given_from : (image : Files → Type 0) (held : Secrets) (s : Seen) → AreGivenFrom (epoch_at answers terms - 1) s.dealings image held → AreGivenFrom (starts_above script number life) s.dealings image held
     given_from image held s given = subst (λ (n : ℕ). AreGivenFrom n s.dealings image held) least_is given
 
-    pub above_from : (image next : Files → Type 0) (held now : Secrets) → StaysAbove (epoch_at answers terms - 1) image next held now → StaysAbove 0 image next held now
+    pub above_from : (image next : Files → Type 0) (held now : Secrets) → StaysAbove (epoch_at answers terms - 1) image next held now → StaysAbove (starts_above script number life) image next held now
     above_from image next held now above = subst (λ (n : ℕ). StaysAbove n image next held now) least_is above
 
     module _ (A B : Type 0) (image : Files → Type 0) (held : Secrets) where
-      pub given_opened : (s : Seen) → (A → B → AreGivenFrom (epoch_at answers terms - 1) s.dealings image held) → A → B → AreGivenFrom 0 s.dealings image held
+      pub given_opened : (s : Seen) → (A → B → AreGivenFrom (epoch_at answers terms - 1) s.dealings image held) → A → B → AreGivenFrom (starts_above script number life) s.dealings image held
       given_opened s given a b = given_from image held s (given a b)
 
       pub given_halted : (stop : Stop) (s : Seen) → (A → B → AreGivenFrom (epoch_at answers terms - 1) s.dealings image held)
-          → UnlessBroken (ended_new (Err stop)) (A → B → AreGivenFrom 0 s.dealings image held)
-      given_halted stop s given = unless (ended_new (Err stop)) (A → B → AreGivenFrom 0 s.dealings image held) (given_opened s given)
+          → UnlessBroken (ended_new (Err stop)) (A → B → AreGivenFrom (starts_above script number life) s.dealings image held)
+      given_halted stop s given = unless (ended_new (Err stop)) (A → B → AreGivenFrom (starts_above script number life) s.dealings image held) (given_opened s given)
 
       pub given_ended : (stop : Stop) (s : Seen) → UnlessBroken (by_stop {S = Unit {0}} stop) (A → B → AreGivenFrom (epoch_at answers terms - 1) s.dealings image held)
-          → UnlessBroken (ended_new (Err stop)) (A → B → AreGivenFrom 0 s.dealings image held)
-      given_ended stop s given = unless_named (Unit {0}) Node stop (A → B → AreGivenFrom (epoch_at answers terms - 1) s.dealings image held) (A → B → AreGivenFrom 0 s.dealings image held) (given_opened s) given
+          → UnlessBroken (ended_new (Err stop)) (A → B → AreGivenFrom (starts_above script number life) s.dealings image held)
+      given_ended stop s given = unless_named (Unit {0}) Node stop (A → B → AreGivenFrom (epoch_at answers terms - 1) s.dealings image held) (A → B → AreGivenFrom (starts_above script number life) s.dealings image held) (given_opened s) given

@@ -1,5 +1,5 @@
 -- A node's opening: the actor's, and then the orchestrator's half.
-use Rattle.std.proofs.Common.{◌≡◌, ℕ, arith, Bool, true, false, List, [], ◌∷◌, Option, Some, None, Result, Ok, Err, refl, sym, ◌∙◌, ap, subst}
+use Rattle.std.proofs.Common.{◌≡◌, ℕ, arith, Bool, true, false, List, [], ◌∷◌, Option, Some, None, Ok, Err, refl, sym, ap, subst}
 use Rattle.std.specs.Prelude.{◌==◌, ◌+◌, if◌then◌else◌, IsSome, IsSomeAnd, length, nat_le}
 use Rattle.std.specs.Option.{option_map_or}
 use Rattle.std.specs.Int.NonZero.{non_zero_u64_get}
@@ -17,7 +17,7 @@ use Rattle.dkg_types.specs.declared.entry.Entry.{Entry as Line}
 use Rattle.dkg_types.specs.declared.fault.Fault.{Fault}
 use Rattle.dkg_types.specs.declared.info.EpochInfo.{EpochInfo}
 use Rattle.dkg_types.specs.declared.scheme.SchemeInfo.{SchemeInfo}
-use Rattle.dkg_store.specs.Acts.{Acts, Cause, Ended, IfWent, Moment, Stands, at, broken, moment, stopped, went}
+use Rattle.dkg_store.specs.Acts.{Acts, Cause, Ended, Held, IfWent, Moment, Stands, at, broken, moment, stopped, went}
 use Rattle.dkg_secrets.specs.Secrets.{Secrets}
 use Rattle.dkg_values.specs.Rising.{lookup}
 use Rattle.dkg_core.specs.Core.{no_orchestrator, opening}
@@ -28,11 +28,12 @@ use Rattle.dkg_core.specs.Live.{Faulted, Live, NodeStop, Orchestrator}
 use Rattle.dkg_core.specs.Node.{kept_material, node_opening, unless_once}
 use Rattle.dkg_core.specs.Said.{Said}
 use Rattle.dkg_core.specs.Seen.{Seen}
-use Rattle.dkg_core.specs.Setup.{scheme_for}
+use Rattle.dkg_core.specs.Setup.{Uncommitted, scheme_for}
 use Rattle.dkg_core.specs.Sources.{Source, startup}
 use Rattle.dkg_core.specs.Splitting.{named}
-use Rattle.dkg_core.specs.Today.{IsOpenedToday, IsSeatedBy, IsSetUpBy, OnInfo, OnValid, first_block, first_epoch, registered_by, validity}
-use Rattle.dkg_core.proofs.Today.{openings_come_to}
+use Rattle.dkg_core.specs.Forms.{IsOpened, IsSeated, IsSetUpIn, registered_with, seed_read, share_read, started}
+use Rattle.dkg_core.specs.Today.{OnInfo, first_block, first_epoch}
+use Rattle.dkg_core.proofs.Openings.{openings_lead}
 use Rattle.dkg_reshare.specs.Actors.{EndsAt, lives}
 use Rattle.dkg_reshare.specs.Ends.{by_cause, by_stop, cause_in}
 use Rattle.dkg_reshare.specs.Given.{IsLent, IsOf, reading}
@@ -48,11 +49,12 @@ use Rattle.dkg_reshare.specs.declared.stop.Stop.{Stop}
 use Rattle.dkg_reshare.specs.declared.stop.Stop.TheVariants as stops
 use Rattle.dkg_reshare.proofs.Said.{said_of_runs}
 use Rattle.dkg_run.specs.Ended.{by_node_stop}
-use Rattle.dkg_run.specs.Given.{IsLifeHere, Lived, at_step, limits_of, source_at}
+use Rattle.dkg_run.specs.Epochs.{IsLifeOver}
+use Rattle.dkg_run.specs.Given.{Lived, at_step, limits_of, seen_at, source_at}
 use Rattle.dkg_run.specs.Nodes.{IsFenceReady, IsHalfGiven, IsView, MayEnter, ViewedNew, with_half}
 use Rattle.dkg_run.specs.declared.node.Node.{Node}
 use Rattle.dkg_run.proofs.Naming.{node_ends, node_goes, node_says, node_says_early}
-use Rattle.dkg_run.proofs.Today.{form_at, lacks_nobody}
+use Rattle.dkg_run.proofs.Former.{form_over, lacks_nobody}
 use Rattle.dkg_run.proofs.Noding.{speaks_makes, speaks_says, unless_reshare}
 
 -- WHERE A LIFE STARTS, the fence is ready and a scheme is registered
@@ -81,25 +83,29 @@ lookup_at e first scheme is = found (e == first) (equal e first is)
     found true e = refl
     found false e = absurd (let wrong : false ≡ true = e in cc)
 
-module _ (c : Fixed directory.Unit) (seen : Seen) (st : Live directory.Unit) where
-  -- the info that was registered
-  registered_in : (o : Option (Block directory.Unit)) → first_block c ≡ o → IsSetUpBy c seen st o → OnInfo c (OfEpoch c)
-      → (info : EpochInfo directory.Unit) × OfEpoch c info × (st.orchestrator ≡ registered_by c info)
+module _ (c : Fixed directory.Unit) (seen : Seen) (k : Held) (st : Live directory.Unit) where
+  -- the info that was registered, with a share or without one
+  record Registered : Type 0 where
+    info : EpochInfo directory.Unit
+    of_epoch : OfEpoch c info
+    share : Option ℕ
+    is : st.orchestrator ≡ registered_with c info share (no_orchestrator {Dir = directory.Unit})
+
+  registered_in : (o : Option (Block directory.Unit)) → first_block c ≡ o → IsSetUpIn c seen k st o → OnInfo c (OfEpoch c) → Registered
   registered_in None none set_up carried = absurd (subst (λ (o : Option (Block directory.Unit)). IsSomeAnd o (λ b. IsSomeAnd (info_of b.payload) (OfEpoch c))) none carried)
   registered_in (Some b) at set_up carried =
-      let block = some_and (λ (b : Block directory.Unit). IsSomeAnd (info_of b.payload) (λ info. (info.epoch ≡ first_epoch c) × (validity c info ≡ Ok tt) × IsSeatedBy c seen st info)) (first_block c) set_up in
-      let info = some_and (λ (info : EpochInfo directory.Unit). (info.epoch ≡ first_epoch c) × (validity c info ≡ Ok tt) × IsSeatedBy c seen st info) (info_of (block.0).payload) block.2 in
-      (info.0, info.2.0, (info.2.2).orchestrator)
+      let info = some_and (λ (info : EpochInfo directory.Unit). IsSeated c Uncommitted info (share_read c info k) (seed_read c info k) (started c seen) st) (info_of b.payload) set_up in
+      record { info = info.0; of_epoch = (info.2).of_epoch; share = share_read c info.0 k; is = (info.2).orchestrator }
 
-  pub ready_behind : IsOpenedToday c seen st → IsFenceReady c st.orchestrator.fence
+  pub ready_behind : IsOpened c seen k st → IsFenceReady c st.orchestrator.fence
   ready_behind opened carried =
       let its = registered_in (first_block c) refl opened.set_up carried in
-      subst (λ (o : Orchestrator directory.Unit). is_ready o.fence.ready (first_epoch c) ≡ true) (sym its.2) (ready_at (its.0).epoch (first_epoch c) its.1)
+      subst (λ (o : Orchestrator directory.Unit). is_ready o.fence.ready (first_epoch c) ≡ true) (sym its.is) (ready_at (its.info).epoch (first_epoch c) its.of_epoch)
 
-  pub scheme_behind : IsOpenedToday c seen st → OnInfo c (OfEpoch c) → IsSome (lookup (first_epoch c) st.orchestrator.schemes)
+  pub scheme_behind : IsOpened c seen k st → OnInfo c (OfEpoch c) → IsSome (lookup (first_epoch c) st.orchestrator.schemes)
   scheme_behind opened carried =
       let its = registered_in (first_block c) refl opened.set_up carried in
-      subst (λ (o : Orchestrator directory.Unit). IsSome (lookup (first_epoch c) o.schemes)) (sym its.2) (lookup_at (its.0).epoch (first_epoch c) (scheme_for c its.0 None) its.1)
+      subst (λ (o : Orchestrator directory.Unit). IsSome (lookup (first_epoch c) o.schemes)) (sym its.is) (lookup_at (its.info).epoch (first_epoch c) (scheme_for c its.info its.share) its.of_epoch)
 
 -- .. which is a matter of the epochs' length and of the source alone
 pub ready_alike : (c d : Fixed directory.Unit) (fence : Readiness) → c.blocks_per_epoch ≡ d.blocks_per_epoch → c.source ≡ d.source → IsFenceReady c fence → IsFenceReady d fence
@@ -222,9 +228,9 @@ made_there how {files} {files_now} {image} {now} burns so = record {
 abbrev pub with_reads : Lived → Seen → Lived
 with_reads g s = record g { seen = λ h. s }
 
-pub reading_as : (g : Lived) (s : Seen) (taken : ℕ) → reading s (at_step g taken) ≡ at_step (with_reads g s) taken
+pub reading_as : (g : Lived) (s : Seen) → reading s (at_step g 0) ≡ at_step (with_reads g s) 0
 unfolding at_step
-reading_as g s taken = refl
+reading_as g s = refl
 
 module _ (g : Lived) (terms : Terms) (source : Source directory.Unit) (taken : ℕ) (of : IsOf terms (at_step g taken)) (lent : source_at g taken ≡ source) where
   source_at_is : (at_step g taken).source ≡ source
@@ -246,7 +252,7 @@ module _ (g : Lived) (terms : Terms) (source : Source directory.Unit) (taken : �
   unfolding at_step
   today_at = record { reshare = refl; bare = refl }
 
-  pub opening_of : (files : Files) → g.seen ≡ seen_today → g.calls ≡ length (open_calls files) → IsInGrammar (limits_of g.script).most files
+  pub opening_of : (files : Files) → seen_at g taken ≡ seen_today → g.calls ≡ length (open_calls files) → IsInGrammar (limits_of g.script).most files
       → IsOpeningOf terms source g.number g.life.word files (at_step g taken)
   unfolding at_step
   opening_of files reads calls grammar = record { lent = lent_at; today = today_at; reads = reads; life_is = number_at; calls_are = calls; grammar = grammar }
@@ -255,25 +261,24 @@ module _ (g : Lived) (terms : Terms) (source : Source directory.Unit) (taken : �
   pub epoch_is : epoch_at source terms ≡ first_epoch (at_step g taken)
   epoch_is = λ i. epoch_of (sym of.blocks i) (option_map_or (λ t. t.height + 1) (startup ((sym (lent_at.lent) i).anchor) None) 0)
 
-  pub half_given : (here : IsLifeHere g) → IsHalfGiven (non_zero_u64_get terms.blocks_per_epoch) source (at_step g taken)
-  half_given here = record { blocks_are = of.blocks; lent = lent_at.lent; today = form_at g here taken; lacks = lacks_nobody g here taken }
+  pub half_given : IsHalfGiven (non_zero_u64_get terms.blocks_per_epoch) source (at_step g taken)
+  half_given = record { blocks_are = of.blocks; lent = lent_at.lent; unplanned = of.unplanned; lacks = lacks_nobody g taken }
 
 -- BEHIND THE ACTOR'S OPENING the half may enter
 
-module _ (g : Lived) (here : IsLifeHere g) (now : Beside directory.Unit) (fence : Readiness) (life : reshare.Life directory.Unit)
+module _ (g : Lived) (here : IsLifeOver g) (now : Beside directory.Unit) (fence : Readiness) (life : reshare.Life directory.Unit)
     (same : now.orchestrator ≡ record (nothing_beside {Dir = directory.Unit}).orchestrator { schemes = now.orchestrator.schemes })
   where
     abbrev behind : Live directory.Unit
     behind = live_of now fence life
 
-    opened_behind : {out new : List Line} → Said (on_devices (opening (at_step g 0))) (went behind) out new
-        → (seen : Seen) × IsOpenedToday (at_step g 0) seen behind
+    opened_behind : {out new : List Line} → Said (on_devices (opening (at_step g 0))) (went behind) out new → (seen : Seen) × (k : Held) × IsOpened (at_step g 0) seen k behind
     opened_behind {out} {new} said =
-        let came = openings_come_to (at_step g 0) (went behind) out new (form_at g here 0) said in
-        ((at_step g 0).seen came.0, came.1)
+        let came = openings_lead (at_step g 0) (went behind) out new (form_over g here 0) said in
+        ((at_step g 0).seen came.0, came.1, came.2)
 
     pub fence_ready : {out new : List Line} → Said (on_devices (opening (at_step g 0))) (went behind) out new → IsFenceReady (at_step g 0) fence
-    fence_ready said = let its = opened_behind said in ready_behind (at_step g 0) its.0 behind its.1
+    fence_ready said = let its = opened_behind said in ready_behind (at_step g 0) its.0 its.1 behind its.2
 
     pub may_enter : {out new : List Line} → Said (on_devices (opening (at_step g 0))) (went behind) out new → MayEnter (at_step g 0) fence behind
     may_enter said =
@@ -283,7 +288,7 @@ module _ (g : Lived) (here : IsLifeHere g) (now : Beside directory.Unit) (fence 
           going = ap (λ (o : Orchestrator directory.Unit). o.halted) same;
           unawaited = ap (λ (o : Orchestrator directory.Unit). o.waiting) same;
           fence_is = refl;
-          registered = scheme_behind (at_step g 0) its.0 behind its.1;
+          registered = scheme_behind (at_step g 0) its.0 its.1 behind its.2;
         }
 
     -- .. where the opening was made

@@ -1,7 +1,7 @@
 -- Entries that are a node run stand in their order, whatever the devices tell.
-use Rattle.std.proofs.Common.{◌≡◌, ◌⊎◌, inl, inr, ℕ, zero, suc, ◌+◌, ◌++◌, ◌∷◌, [], ◌<◌, ◌≤◌, Bool, true, false, List, Option, Some, None, Result, Ok, Err, refl, sym, ◌∙◌, ap, subst, length, drop, arith, add-one, append-nil}
+use Rattle.std.proofs.Common.{◌≡◌, inl, inr, ℕ, suc, ◌+◌, ◌++◌, ◌∷◌, [], ◌<◌, ◌≤◌, Bool, true, false, List, Option, Some, None, Result, Ok, Err, refl, sym, ◌∙◌, ap, subst, length, drop, arith, add-one, append-nil}
 use Rattle.std.specs.Option.{option_map_or}
-use Rattle.std.specs.Prelude.{◌==◌, ◌-◌, IsSomeAnd, if◌then◌else◌, option_map, slice_get}
+use Rattle.std.specs.Prelude.{◌==◌, ◌-◌, if◌then◌else◌, option_map, slice_get}
 use Rattle.std.specs.List.{AllByRecursion}
 use Rattle.std.proofs.lemmas.Bool.Decides.{nat_tests}
 use Rattle.std.proofs.lemmas.List.{length-drop}
@@ -21,7 +21,7 @@ use Rattle.dkg_text.specs.declared.script.Script.{Script}
 use Rattle.dkg_script.specs.Order.{IsInOrder}
 use Rattle.dkg_script.specs.Progress.{Progress}
 use Rattle.dkg_script.specs.Promise.{Adds, RunsAll, RunsInOrder}
-use Rattle.dkg_script.specs.Setting.{Setting}
+use Rattle.dkg_script.specs.Setting.{CutAt, Setting}
 use Rattle.dkg_store.specs.Acts.{Ended, Held, broken, by_cut, stopped, went}
 use Rattle.dkg_core.specs.Courses.{Course, Goes, on_devices}
 use Rattle.dkg_core.specs.Laws.{IsQuiet}
@@ -34,15 +34,15 @@ use Rattle.dkg_reshare.specs.declared.stop.Stop.{Stop}
 use Rattle.dkg_reshare.specs.declared.stop.Stop.TheVariants.{Cut, Failed, Fault as FaultOf}
 use Rattle.dkg_run.specs.Ended.{by_node_stop}
 use Rattle.dkg_run.specs.Given.{Lived, at_step, blocks_in, lived, step_of}
-use Rattle.dkg_run.specs.Lives.{AnyFiles, EndsLife, LivesFrom, LivesHere, LivesSo, RunsAllSo, RunsSo, Steps, TakesAll, TellsEnd, fuse_for, fuse_within, never}
+use Rattle.dkg_run.specs.Lives.{LivesSo, RunsAllSo, RunsSo, Steps, TakesAll, TellsEnd, fuse_for, fuse_within, never}
 use Rattle.dkg_run.specs.Ways.{Trace, by_lines}
 use Rattle.dkg_run.proofs.Ended.{told_in_order}
-use Rattle.dkg_run.proofs.Following.{EndsBy, RunEndsBy, all_move, item_at, rest_at}
+use Rattle.dkg_run.proofs.Following.{EndsBy, RunEndsBy, all_move, rest_at}
 use Rattle.dkg_run.proofs.InPlace.{moves_cut}
 use Rattle.dkg_core.proofs.NodeToday.{node_openings_are_quiet, node_steps_are_quiet}
 use Rattle.dkg_run.proofs.Places.{moves_none, moves_then, moves_within, quiet_none}
 use Rattle.dkg_run.proofs.Runs.{runs_all, runs_in_order}
-use Rattle.dkg_run.proofs.Standing.{AddsOpening, AddsQuiet, IsAtCut, IsBefore, IsBehind, IsBetween, IsBetweenOf, IsCutBefore, IsStopped, IsWithin, MayTell, Moves, TellsFault, IsCutWithin}
+use Rattle.dkg_run.proofs.Standing.{AddsOpening, AddsQuiet, IsBefore, IsBehind, IsBetween, IsBetweenOf, IsCutBefore, IsStopped, IsWithin, MayTell, Moves, TellsFault, IsCutWithin}
 use Rattle.dkg_run.proofs.Steps.{Opening, opened_so_far, opening_step, opening_stops, quiet_so_far, quiet_step, quiet_stops, stops_before}
 
 -- FUSES AND CUTS
@@ -248,7 +248,12 @@ module _ (script : Script) where
 
   pub all_in_order : (first : Files → Type 0) (t new : Trace) (result : Result (Unit {0}) Fault) → RunsAllSo by_lines script first t result new
       → Moves IsInOrder (IsBetweenOf script 0) (RunEndsIn script result) t.out new.out
-  all_in_order first t new result runs = all_move IsInOrder MayTell (λ s p. inl refl) moves_cut script (λ l life seen files at reads. life_in_order l life seen files) first t new result runs
+  all_in_order first t new result runs = all_move IsInOrder MayTell (λ s p. inl refl) moves_cut script (λ l life seen files at reads. life_in_order l life seen files)
+      (λ its refused s p is. inr (inl (none_ended p.cuts is.between.lives, is.between.step, is.between.nothing))) first t new result runs
+    where
+      none_ended : (cuts : List (Option CutAt)) → length cuts ≡ 0 → cuts ≡ []
+      none_ended [] none = refl
+      none_ended (c ∷ cuts) none = absurd (omega (arith, none))
 
 -- THE CLAUSES of order
 

@@ -1,16 +1,15 @@
 -- How entries that are added in their places follow each other, from any entry predicate E.
-use Rattle.std.proofs.Common.{ℕ, Bool, true, false, List, [], ◌∷◌, ◌++◌, ◌≡◌, refl, sym, ap, ◌∙◌, append_assoc, append-nil}
-use Rattle.std.specs.Prelude.{fold, if◌then◌else◌, Result, Ok, Err, OnOk, OnErr}
+use Rattle.std.proofs.Common.{false, List, [], ◌∷◌, ◌++◌, ◌≡◌, refl, sym, ap, ◌∙◌, append_assoc, append-nil}
+use Rattle.std.specs.Prelude.{fold}
 use Rattle.std.specs.List.{AllByRecursion}
 use Rattle.std.proofs.lemmas.List.Folds.{list_any-append}
 use Rattle.std.proofs.lemmas.List.Sums.{fold-append}
 use Rattle.dkg_types.specs.declared.entry.Entry.{Entry}
-use Rattle.dkg_types.specs.declared.entry.Entry.TheVariants as entry
 use Rattle.dkg_script.specs.Ends.{EndsWell, is_fault}
 use Rattle.dkg_script.specs.Progress.{Progress, read}
 use Rattle.dkg_script.specs.Setting.{Setting}
 use Rattle.dkg_core.specs.Laws.{IsQuiet}
-use Rattle.dkg_run.proofs.Standing.{Each, Moves, AddsQuiet, AddsOpening}
+use Rattle.dkg_run.proofs.Standing.{Each, Moves, AddsQuiet}
 
 -- LISTS
 

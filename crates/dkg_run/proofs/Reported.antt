@@ -5,23 +5,24 @@ use Rattle.std.proofs.Math.Seq.{drop-append_seam}
 use Rattle.std.specs.Result.{result_ok}
 use Rattle.dkg_types.specs.declared.entry.Entry.{Entry}
 use Rattle.dkg_types.specs.declared.fault.Fault.{Fault}
-use Rattle.dkg_types.specs.declared.fault.Fault.TheVariants.{NoMemory, Disk, Secrets}
+use Rattle.dkg_types.specs.declared.fault.ConfigCause.{ConfigCause}
+use Rattle.dkg_types.specs.declared.fault.Fault.TheVariants.{NoMemory, Disk, Secrets, InvalidConfig}
 use Rattle.dkg_text.specs.Grammar.{reading_of, script_of, script_or_place, with_place}
 use Rattle.dkg_text.specs.Printing.{lines_of}
 use Rattle.dkg_text.specs.declared.script.Script.{Script}
 use Rattle.dkg_script.specs.Built.{is_built}
-use Rattle.dkg_script.specs.Ends.{IsNodeFault}
 use Rattle.dkg_script.specs.Promise.{Adds}
 use Rattle.dkg_run.specs.Command.{IsTold}
 use Rattle.dkg_run.specs.Complete.{IsSoundRun, IsValidAnyhow}
-use Rattle.dkg_run.specs.Found.{reader_in}
-use Rattle.dkg_run.specs.GivesBack.{GivesBack}
+use Rattle.dkg_run.specs.EndsOver.{EndsFaultedOver, EndsScript, IsNodeFaultOver}
+use Rattle.dkg_run.specs.Epochs.{refused_config}
 use Rattle.dkg_run.specs.Outside.{TookAll, TookMore}
 use Rattle.dkg_run.specs.Over.{Over}
 use Rattle.dkg_run.specs.Promised.{DoesRun, Promised, RunsLives, SaysRun}
 use Rattle.dkg_run.specs.Reports.{Blamed, Ran, RanNothing, Reads, Runs, fault_status, last_of}
 use Rattle.dkg_run.specs.declared.command.Status.{Status}
 use Rattle.dkg_run.specs.declared.command.Status.TheVariants as status
+use Rattle.dkg_run.proofs.Checked.{refused_so}
 use Rattle.dkg_run.proofs.Completing.{valid_as_cut}
 
 -- the entries from a place on, where it is the end of what was there
@@ -34,21 +35,41 @@ reads Tells old mid new bytes HasBack same all short back = record { all = λ te
 
 -- WHAT RUNNING THE LIVES PROMISES, of the entries that were added
 pub runs_lives : (script : Script) (o : Over) (out new : List Entry) (result : Result (Unit {0}) Fault) (told : Adds out new (Promised script o result)) → SaysRun script o out result new → DoesRun script o out result new
-    → (o.tells → GivesBack (reader_in script) result o.before o.now) → RunsLives script o out result told.0
-runs_lives script o out new result told lines run gives_back = record {
+    → RunsLives script o out result told.0
+runs_lives script o out new result told lines run = record {
   lines = subst (λ (es : List Entry). SaysRun script o out result es) told.1 lines;
   run = subst (λ (es : List Entry). DoesRun script o out result es) told.1 run;
   promise = told.2;
-  gives_back = gives_back;
 }
 
 -- A RUN THAT A FAULT ENDED
 
+-- the configuration was refused, memory ran out, or a life ended so
+abbrev EndedSo : Fault → List Entry → (disk_rose secrets_rose : Type 0) → Type 0
+EndedSo its entries disk_rose secrets_rose = ((cause : ConfigCause) × (its ≡ InvalidConfig cause)) ⊎ ((its ≡ NoMemory) ⊎ EndsFaultedOver its entries disk_rose secrets_rose)
+
+ended_so : (script : Script) (its : Fault) (entries : List Entry) (disk_rose secrets_rose : Type 0) → EndsScript (refused_config script) (Err its) entries disk_rose secrets_rose → EndedSo its entries disk_rose secrets_rose
+ended_so script its entries disk_rose secrets_rose ends = by_config (refused_config script) refl ends
+  where
+    same_fault : {x y : Fault} → ◌≡◌ {A = Result (Unit {0}) Fault} (Err x) (Err y) → x ≡ y
+    same_fault e = cc
+
+    by_config : (o : Option Fault) → refused_config script ≡ o → EndsScript o (Err its) entries disk_rose secrets_rose → EndedSo its entries disk_rose secrets_rose
+    by_config None checked ends = inr (inr ends)
+    by_config (Some why) refused (inr wants) = inr (inl (same_fault wants.0))
+    by_config (Some why) refused (inl told) = inl (refused_so script why refused (λ (x : Fault). its ≡ x → (cause : ConfigCause) × (its ≡ InvalidConfig cause)) (λ cause is. (cause, is)) (same_fault told.0))
+
 pub runs_faulted : (Gave : List ℕ → Type 0) (o : Over) (out entries : List Entry) (its : Fault) → Ran Gave o out (Err its) entries → Runs Gave o out (fault_status its) entries
-runs_faulted Gave o out entries NoMemory ran = inr ran
-runs_faulted Gave o out entries Disk ran = inl ran
-runs_faulted Gave o out entries Secrets ran = inr ran
-runs_faulted Gave o out entries _ ran = (ran.lives.promise.ends.1, ran)
+runs_faulted Gave o out entries its ran = by_its its ran (ended_so ran.script its entries o.disk_rose o.secrets_rose ran.lives.promise.ends)
+  where
+    by_its : (its : Fault) → Ran Gave o out (Err its) entries → EndedSo its entries o.disk_rose o.secrets_rose → Runs Gave o out (fault_status its) entries
+    by_its NoMemory ran ended = inr ran
+    by_its Disk ran ended = inl ran
+    by_its Secrets ran ended = inr ran
+    by_its (InvalidConfig cause) ran ended = (tt, ran)
+    by_its its ran (inl refused) = absurd (let wrong : its ≡ InvalidConfig refused.0 = refused.1 in cc)
+    by_its its ran (inr (inl wants)) = absurd (let wrong : its ≡ NoMemory = wants in cc)
+    by_its its ran (inr (inr ends)) = (ends.1, ran)
 
 -- HOW A STATUS IS TOLD
 
@@ -76,8 +97,18 @@ pub device_rose : (Gave : List ℕ → Type 0) (o : Over) (out entries : List En
 device_rose Gave o out entries ended is runs = rose (subst (λ (x : Status). Runs Gave o out x entries) is runs)
   where
     rose : Ran Gave o out (Err Disk) entries ⊎ Ran Gave o out (Err Secrets) entries → o.disk_rose ⊎ o.secrets_rose
-    rose (inl ran) = inl ran.lives.promise.ends.1
-    rose (inr ran) = inr ran.lives.promise.ends.1
+    rose (inl ran) = inl (by_disk (ended_so ran.script Disk entries o.disk_rose o.secrets_rose ran.lives.promise.ends))
+      where
+        by_disk : EndedSo Disk entries o.disk_rose o.secrets_rose → o.disk_rose
+        by_disk (inl refused) = absurd (let wrong : Disk ≡ InvalidConfig refused.0 = refused.1 in cc)
+        by_disk (inr (inl wants)) = absurd (let wrong : Disk ≡ NoMemory = wants in cc)
+        by_disk (inr (inr ends)) = ends.1
+    rose (inr ran) = inr (by_secrets (ended_so ran.script Secrets entries o.disk_rose o.secrets_rose ran.lives.promise.ends))
+      where
+        by_secrets : EndedSo Secrets entries o.disk_rose o.secrets_rose → o.secrets_rose
+        by_secrets (inl refused) = absurd (let wrong : Secrets ≡ InvalidConfig refused.0 = refused.1 in cc)
+        by_secrets (inr (inl wants)) = absurd (let wrong : Secrets ≡ NoMemory = wants in cc)
+        by_secrets (inr (inr ends)) = ends.1
 
 -- what blames the outside blames it rightly, where what the sink was told of does
 pub blamed : (o : Over) (source_rose sink_rose TooMany : Type 0) (ended result : Status) (text : List ℕ) (Tells : Type 0) (old new : List ℕ) → IsTold ended result text Tells old new
@@ -140,7 +171,7 @@ module _ (Gave : List ℕ → Type 0) (o : Over) (out entries : List Entry) (scr
   by_status status.Unsupported runs not_failed not_long =
       let same : runs.script ≡ script = some_same runs.script script (script_of false runs.bytes) runs.spells (spells runs.bytes runs.gave) in
       absurd (true_false (ap is_built same ∙ built) runs.not_built)
-  by_status (status.Fault its) runs not_failed not_long = absurd (subst (λ (x : Fault). IsNodeFault x) (only_memory its runs.1) runs.0)
+  by_status (status.Fault its) runs not_failed not_long = absurd (subst (λ (x : Fault). IsNodeFaultOver x) (only_memory its runs.1) runs.0)
   by_status status.Device runs not_failed not_long = absurd (by_device runs)
     where
       by_device : Ran Gave o out (Err Disk) entries ⊎ Ran Gave o out (Err Secrets) entries → ⊥

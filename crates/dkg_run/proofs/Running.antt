@@ -1,5 +1,5 @@
 -- Lives, one after another, in either way.
-use Rattle.std.proofs.Common.{◌≡◌, ◌⊎◌, inl, inr, ℕ, zero, suc, ◌+◌, ◌++◌, ◌∷◌, [], ◌≤◌, List, Option, Some, None, Result, Ok, Err, refl, sym, ◌∙◌, ap, subst, drop, length, add-one, append-nil}
+use Rattle.std.proofs.Common.{◌≡◌, ◌⊎◌, inl, inr, ℕ, suc, ◌+◌, ◌++◌, ◌∷◌, [], ◌≤◌, List, Option, Some, None, Result, Ok, Err, refl, sym, ◌∙◌, ap, subst, drop, length, add-one}
 use Rattle.std.specs.Prelude.{IsSomeAnd, slice_get}
 use Rattle.std.proofs.Math.ListN.{drop_of_length-le}
 use Rattle.dkg_journal.specs.Burn.{Burn}
@@ -16,7 +16,6 @@ use Rattle.dkg_secrets.specs.Secrets.{Secrets}
 use Rattle.dkg_reshare.specs.declared.stop.Stop.{Stop}
 use Rattle.dkg_reshare.specs.declared.stop.Stop.TheVariants.{Cut, Failed, Fault as FaultOf}
 use Rattle.dkg_run.specs.Lives.{AnyFiles, EndsLife, LivesFrom, LivesHere, RunsAllSo, RunsSo, TellsEnd}
-use Rattle.dkg_run.specs.Stopped.{picks_at_end}
 use Rattle.dkg_run.specs.Ways.{Way, Trace, by_lines, by_worlds, trace}
 use Rattle.dkg_run.proofs.Stepping.{drop_item}
 

@@ -1,7 +1,6 @@
 -- What the entries of a whole run are, over all that the devices may have held.
-use Rattle.std.proofs.Common.{ℕ, ◌+◌, Some, List, [], ◌∷◌, ◌++◌, ◌≡◌, ◌≢◌, ◌<◌, get_or, inl, inr, refl, sym, ap, ◌∙◌, append_assoc, length, add-one}
+use Rattle.std.proofs.Common.{ℕ, ◌+◌, Some, List, [], ◌∷◌, ◌++◌, ◌≡◌, ◌≢◌, inl, inr, refl, ap, ◌∙◌, append_assoc, length, add-one}
 use Rattle.std.specs.Prelude.{slice_get, fold}
-use Rattle.std.proofs.lemmas.Option.{slice_get-get_or}
 use Rattle.dkg_journal.specs.Names.{Files}
 use Rattle.dkg_secrets.specs.Secrets.{Secrets}
 use Rattle.dkg_types.specs.declared.entry.Entry.{Entry}
@@ -17,9 +16,8 @@ use Rattle.dkg_script.specs.Progress.{Progress, read, at_start, progress}
 use Rattle.dkg_script.specs.Promise.{Adds, RunsInOrder, RunsAll}
 use Rattle.dkg_script.specs.Setting.{Setting, setting_of}
 use Rattle.dkg_script.proofs.EachEntry.{EachAfter, at_each}
-use Rattle.dkg_run.proofs.Standing.{Each, Moves, MayTell, IsBetween, IsBetweenOf, IsBefore}
-use Rattle.dkg_run.proofs.Places.{each_of_both, moves_none, moves_within}
-use Rattle.dkg_run.proofs.InPlace.{life_begins}
+use Rattle.dkg_run.proofs.Standing.{Each, Moves, MayTell, IsBetweenOf}
+use Rattle.dkg_run.proofs.Places.{each_of_both, moves_none}
 
 -- the event of the next step
 pub at_event : (life : Life) (i : ℕ) (event : Event) → slice_get life.events i ≡ Some event → event_of_step life (i + 1) ≡ Some event

@@ -1,6 +1,5 @@
 -- What an opening leaves of a journal that it doesn't open.
 use Rattle.std.proofs.Common.{◌≡◌, ◌⊎◌, inl, inr, ℕ, ◌++◌, Bool, true, false, List, [], ◌∷◌, Option, Some, None, Err, refl, sym, ◌∙◌, ap, subst}
-use Rattle.std.specs.Prelude.{IsTrue}
 use Rattle.dkg_journal.specs.Names.{Files}
 use Rattle.dkg_journal.specs.Opening.{broken}
 use Rattle.dkg_journal.specs.Records.{Entry, entries}
@@ -8,10 +7,9 @@ use Rattle.dkg_journal.specs.Steps.{Keeps}
 use Rattle.dkg_values.specs.declared.name.Name.{Name}
 use Rattle.dkg_types.specs.declared.directory.Unit as directory
 use Rattle.dkg_types.specs.declared.entry.Entry.{Entry as Line}
-use Rattle.dkg_types.specs.declared.entry.Entry.TheVariants as entry
 use Rattle.dkg_types.specs.declared.fault.Fault.{Fault}
 use Rattle.dkg_types.specs.declared.fault.Fault.TheVariants as fault
-use Rattle.dkg_store.specs.Acts.{Cause, Ended, Held, Stands, broken as broken_off, by_cut, by_disk, by_secrets, by_want, held_in, notes, stopped}
+use Rattle.dkg_store.specs.Acts.{Ended, Held, Stands, by_cut, by_disk, by_secrets, by_want, held_in, notes, stopped}
 use Rattle.dkg_store.specs.Corrupt.{AreEvents}
 use Rattle.dkg_store.specs.Events.{is_event}
 use Rattle.dkg_store.specs.Noted.{logs_in}
@@ -29,9 +27,8 @@ use Rattle.dkg_reshare.specs.Opened.{IsInGrammar, OpensReadable, StaysShut}
 use Rattle.dkg_reshare.specs.declared.stop.Stop.{Stop}
 use Rattle.dkg_reshare.specs.declared.stop.Stop.TheVariants.{Cut, Failed, Fault as FaultOf}
 use Rattle.dkg_run.specs.Ended.{by_node_stop}
-use Rattle.dkg_run.specs.Refused.{IsOutside}
 use Rattle.dkg_run.specs.Ways.{IsBroken, StaysHeld}
-use Rattle.dkg_run.proofs.Faults.{own_or_outside}
+use Rattle.dkg_run.proofs.OwnFaults.{IsOutside, own_or_outside}
 
 shut_none : (image : Files → Type 0) (held : Secrets) → StaysShut image image held held
 shut_none image held = record { images = record { each = λ c here. (c, here, record { plan = refl; same = refl }) }; same = refl }

@@ -1,14 +1,13 @@
 -- What a life's source answers as the life opens.
-use Rattle.std.proofs.Common.{◌≡◌, ◌++◌, [], ◌∷◌, List, ℕ, Option, Some, None, refl, sym, ◌∙◌, ap, subst, append-nil}
-use Rattle.std.specs.Prelude.{filter_map, option_map, slice_get}
+use Rattle.std.proofs.Common.{◌≡◌, ◌++◌, [], List, ℕ, Option, Some, None, refl, sym, ◌∙◌, ap}
+use Rattle.std.specs.Prelude.{option_map, slice_get}
 use Rattle.std.specs.List.{cons_option}
 use Rattle.std.proofs.lemmas.List.Elements.{filter_map-append}
 use Rattle.dkg_types.specs.Blocks.{Block}
 use Rattle.dkg_types.specs.declared.directory.Unit as directory
 use Rattle.dkg_text.specs.declared.script.Anchor as declared
 use Rattle.dkg_text.specs.declared.script.Anchor.TheVariants as anchor
-use Rattle.dkg_text.specs.declared.script.Life.{Life}
-use Rattle.dkg_core.specs.Sources.{Source, anchored, source_over}
+use Rattle.dkg_core.specs.Sources.{anchored, source_over}
 use Rattle.dkg_run.specs.Given.{Lived, anchor_at, anchor_in, blocks_in, numbered, source_at, unsealed}
 use Rattle.dkg_run.specs.Sources.{IsSourceOf, anchor_numbers}
 use Rattle.dkg_run.specs.declared.held.HeldBlocks.{HeldBlocks}

@@ -2,7 +2,7 @@
 use Rattle.std.specs.Prelude.{ℕ, ◌+◌, ◌<◌, ◌≤◌, Bool, List, [], ◌∷◌, ◌++◌, ◌≡◌, ◌≢◌, ◌⊎◌, Option, Some, IfSome, IsSomeAnd, length, fold}
 use Rattle.std.specs.List.{AllByRecursion, list_any}
 use Rattle.dkg_types.specs.declared.entry.Entry.{Entry}
-use Rattle.dkg_types.specs.declared.entry.Entry.TheVariants.{Opened, Cut, Step, Fault}
+use Rattle.dkg_types.specs.declared.entry.Entry.TheVariants.{Opened, Fault}
 use Rattle.dkg_types.specs.declared.entry.Restored.{Restored}
 use Rattle.dkg_types.specs.declared.fault.Fault as fault
 use Rattle.dkg_types.specs.declared.fault.Fault.TheVariants.{NoMemory}

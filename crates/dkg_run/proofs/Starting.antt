@@ -1,9 +1,7 @@
 -- A life from its opening on, by what its calls answered: over the lines; and what it blames.
-use Rattle.std.proofs.Common.{MutBor, ◌≡◌, ◌⊎◌, inl, inr, ℕ, ◌<◌, ◌++◌, ◌∷◌, [], List, Option, Some, None, Result, Ok, Err, refl, sym, ◌∙◌, ap, subst, append-nil, arith}
-use Rattle.std.specs.Prelude.{⊤, Bool, IfErr, IsSomeAnd, slice_get}
-use Rattle.std.specs.Int.NonZero.{non_zero_u32_get, non_zero_u64_get}
-use Rattle.std.specs.List.{AllByRecursion}
-use Rattle.dkg_ceremony.specs.Schedule.{midpoint}
+use Rattle.std.proofs.Common.{MutBor, ◌≡◌, inl, ℕ, ◌<◌, ◌++◌, ◌∷◌, [], List, Some, None, Result, Ok, Err, refl, sym, ◌∙◌, ap, subst, append-nil, arith}
+use Rattle.std.specs.Prelude.{⊤, Bool, IfErr, slice_get}
+use Rattle.std.specs.Int.NonZero.{non_zero_u32_get}
 use Rattle.dkg_journal.specs.Burn.{Burn}
 use Rattle.dkg_journal.specs.DeviceCall.{DeviceCall}
 use Rattle.dkg_journal.specs.Disk.{Rose}
@@ -15,19 +13,18 @@ use Rattle.dkg_types.specs.declared.entry.Entry.{Entry as Line}
 use Rattle.dkg_types.specs.declared.entry.Entry.TheVariants as entry
 use Rattle.dkg_types.specs.declared.fault.Fault.TheVariants as fault
 use Rattle.dkg_types.specs.declared.fault.Fault.TheVariants.{NoMemory}
-use Rattle.dkg_store.specs.Acts.{Held}
+use Rattle.dkg_store.specs.Acts.{Held, went}
 use Rattle.dkg_store.specs.Corrupt.{AreFit}
 use Rattle.dkg_store.specs.declared.devices.Devices.{Devices}
 use Rattle.dkg_secrets.specs.declared.secrets.SecretOp.{SecretOp}
-use Rattle.dkg_text.specs.declared.script.Event.{Event}
-use Rattle.dkg_text.specs.declared.script.Event.TheVariants as event
 use Rattle.dkg_text.specs.declared.script.Life.{Life}
 use Rattle.dkg_text.specs.declared.script.Script.{Script}
-use Rattle.dkg_script.specs.Form.{IsEventOfToday, IsFormOfToday, midpoint_of}
+use Rattle.dkg_script.specs.Epochs.{IsFormOfEpochs}
 use Rattle.dkg_core.specs.Live.{Live}
 use Rattle.dkg_core.specs.Node.{node_opening}
 use Rattle.dkg_core.specs.Seen.{Seen}
 use Rattle.dkg_reshare.specs.Actors.{IsFoundAt}
+use Rattle.dkg_reshare.specs.Ends.{IsCausedBy}
 use Rattle.dkg_reshare.specs.Given.{HasRead, IsOf}
 use Rattle.dkg_reshare.specs.Made.{Tells}
 use Rattle.dkg_reshare.specs.Today.{seen_today}
@@ -35,19 +32,20 @@ use Rattle.dkg_reshare.specs.declared.stop.Stop.{Stop}
 use Rattle.dkg_reshare.specs.declared.stop.Stop.TheVariants.{Cut, Failed, Fault as FaultOf}
 use Rattle.dkg_reshare.proofs.Said.{nothing_held}
 use Rattle.dkg_run.specs.Causes.{StopHasCause}
-use Rattle.dkg_run.specs.Ended.{by_node_stop}
-use Rattle.dkg_run.specs.Given.{IsLifeHere, Lived, ReadsNeither, at_step, blocks_in, lived}
+use Rattle.dkg_run.specs.Epochs.{IsAt, IsChecked, IsLifeOver}
+use Rattle.dkg_run.specs.Given.{IsUnplanned, Lived, at_step, blocks_in, lived}
 use Rattle.dkg_run.specs.Lives.{LivesSo, TakesAll, fuse_for}
 use Rattle.dkg_run.specs.Moving.{StepBlames, StopBlames, Went}
-use Rattle.dkg_run.specs.Nodes.{IsEventOfBlocks, IsOfLife, IsStepHere, IsView, ViewedNew}
+use Rattle.dkg_run.specs.Nodes.{HasOpened, IsOfLife, IsStepHere, IsView, ViewedNew}
 use Rattle.dkg_run.specs.Sources.{IsToOpen, anchor_numbers}
 use Rattle.dkg_run.specs.Ways.{ReadsSomething, by_lines, trace}
 use Rattle.dkg_run.specs.declared.held.HeldBlocks.{HeldBlocks}
 use Rattle.dkg_run.specs.declared.node.Node.{Node}
 use Rattle.dkg_run.proofs.Living.{step_blames_around, step_stop_cause}
-use Rattle.dkg_run.proofs.Stepping.{step_wants}
-use Rattle.dkg_run.proofs.Today.{life_form, made_at, middle_is}
-use Rattle.dkg_run.proofs.Turns.{cut_lines, stopped_lines, told_lines, untold_lines}
+use Rattle.dkg_run.proofs.Checked.{life_over}
+use Rattle.dkg_run.proofs.LivesStand.{lines_lead, opened_at}
+use Rattle.dkg_run.proofs.Stepping.{lines_go, step_wants}
+use Rattle.dkg_run.proofs.Turns.{cut_lines, stopped_lines, told_lines, untold_lines, went_uncut}
 
 -- OVER LINES: something was read, and it is a life of the node
 
@@ -60,7 +58,7 @@ abbrev nothing : Held → Seen
 nothing h = seen_today nothing_held
 
 reads_nothing : ReadsSomething nothing
-reads_nothing = record { read = seen_today nothing_held; each = refl; shareless = refl; unplanned = refl }
+reads_nothing = record { read = seen_today nothing_held; each = refl; unplanned = refl }
 
 module _ (script : Script) (number : ℕ) (life : Life) (files : Files) (out : List Line) where
   -- The life is cut before it opens.
@@ -89,7 +87,7 @@ module _ (script : Script) (number : ℕ) (life : Life) (files : Files) (out : L
           → LinesSo script number life out (Err stop) now files
       stopped_first stop cuts read = (
         λ h. read.seen,
-        record { read = read.seen; each = refl; shareless = read.shareless; unplanned = read.unplanned },
+        record { read = read.seen; each = refl; unplanned = read.unplanned },
         λ picks. inl (stopped_lines (entry.Step 0) life.cut 0 f lit (node_opening (at_step (lived script number life (λ h. read.seen) files) 0))
             (λ end mid. TakesAll by_lines (lived script number life (λ h. read.seen) files) 1 life.events end mid (Err stop) (trace now picks)) out now picks stop cuts read.so),
       )
@@ -99,7 +97,7 @@ module _ (script : Script) (number : ℕ) (life : Life) (files : Files) (out : L
         its = lived script number life (λ h. read.seen) files
 
         reads_it : ReadsSomething (λ h. read.seen)
-        reads_it = record { read = read.seen; each = refl; shareless = read.shareless; unplanned = read.unplanned }
+        reads_it = record { read = read.seen; each = refl; unplanned = read.unplanned }
 
         -- Its line found no memory.
         pub untold_first : LinesSo script number life out (Err (FaultOf NoMemory)) now files
@@ -111,75 +109,64 @@ module _ (script : Script) (number : ℕ) (life : Life) (files : Files) (out : L
         )
 
         -- .. or was told, and the steps of the life came then
-        pub told_first : (how : Result (Unit {0}) Stop) (behind now_then : List Line) → behind ≡ now ++ entry.Step 0 ∷ []
-            → ((g : Lived) → g.script ≡ script → ReadsNeither g.seen → IsOfLife g node) → (blocks : List (Block directory.Unit)) → blocks ≡ blocks_in script
-            → ((g : Lived) (st : Live directory.Unit) (picks : List ℕ) → IsStepHere g node blocks life → IsView node st → TakesAll by_lines g 1 life.events st (trace behind picks) how (trace now_then picks))
-            → LinesSo script number life out how now_then files
-        told_first how behind now_then is of blocks same takes = (
-          λ h. read.seen,
-          reads_it,
-          λ picks. inl (told_lines (entry.Step 0) life.cut 0 f lit (node_opening (at_step its 0))
-              (λ end mid. TakesAll by_lines its 1 life.events end mid how (trace now_then picks)) out now picks (read.so).0 (read.so).2 how (trace now_then picks)
-              (subst (λ (l : List Line). TakesAll by_lines its 1 life.events (read.so).0 (trace l picks) how (trace now_then picks)) is
-              (takes its (read.so).0 picks (record { of = of its refl (record { shareless = λ h. read.shareless; unplanned = λ h. read.unplanned }); blocks_are = same; life_is = refl }) (read.so).1))),
-        )
+        module _ (form : IsFormOfEpochs script) (checked : IsChecked script) (life_is : slice_get script.lives number ≡ Some life)
+            (of : (g : Lived) → g.script ≡ script → g.life ≡ life → IsUnplanned g.seen → IsOfLife g node) (blocks : List (Block directory.Unit)) (same : blocks ≡ blocks_in script)
+          where
+            over_it : IsLifeOver its
+            over_it = life_over script number life (λ h. read.seen) files form checked life_is (λ h. read.unplanned)
+
+            step_of_it : IsStepHere its node blocks life
+            step_of_it = record { of = of its refl refl (λ h. read.unplanned); blocks_are = same; life_is = refl }
+
+            at_first : IsAt its 0 (read.so).0
+            at_first = (opened_at by_lines lines_lead its over_it (read.so).0 f (trace out []) (trace now [])
+                (lines_go (node_opening (at_step its 0)) (went (read.so).0) f out now [] (read.so).2 (λ is. absurd (went_uncut (read.so).0 is)))).3
+
+            pub has_opened : HasOpened node blocks life
+            has_opened = record { g = its; here = over_it; of = step_of_it; st = (read.so).0; view = (read.so).1; at = at_first }
+
+            pub told_first : (how : Result (Unit {0}) Stop) (behind now_then : List Line) → behind ≡ now ++ entry.Step 0 ∷ []
+                → ((g : Lived) (st : Live directory.Unit) (picks : List ℕ) → IsLifeOver g → IsStepHere g node blocks life → IsView node st → IsAt g 0 st
+                → TakesAll by_lines g 1 life.events st (trace behind picks) how (trace now_then picks))
+                → LinesSo script number life out how now_then files
+            told_first how behind now_then is takes = (
+              λ h. read.seen,
+              reads_it,
+              λ picks. inl (told_lines (entry.Step 0) life.cut 0 f lit (node_opening (at_step its 0))
+                  (λ end mid. TakesAll by_lines its 1 life.events end mid how (trace now_then picks)) out now picks (read.so).0 (read.so).2 how (trace now_then picks)
+                  (subst (λ (l : List Line). TakesAll by_lines its 1 life.events (read.so).0 (trace l picks) how (trace now_then picks)) is
+                  (takes its (read.so).0 picks over_it step_of_it (read.so).1 at_first))),
+            )
 
 -- the same files of a disk whose fuse was set
 pub lines_over : {D : Type 0} (files : D → Files) (old begun : MutBor D) → begun ≡ old → (script : Script) (number : ℕ) (life : Life) (out : List Line) (how : Result (Unit {0}) Stop) (now : List Line)
     → LinesSo script number life out how now (files begun.now) → LinesSo script number life out how now (files old.now)
 lines_over files old begun same script number life out how now = subst (λ d. LinesSo script number life out how now (files d.now)) same
 
--- EVENTS
+-- THE LIFE that is opened
 
-all_so : {A : Type 0} (P Q : A → Type 0) → ((x : A) → P x → Q x) → (xs : List A) → AllByRecursion P xs → AllByRecursion Q xs
-all_so P Q so [] all = tt
-all_so P Q so (x ∷ xs) all = (so x all.0, all_so P Q so xs all.1)
-
-of_blocks : (script : Script) (its : Event) → IsEventOfToday (midpoint_of script) script.blocks its → IsEventOfBlocks (non_zero_u64_get script.config.blocks_per_epoch) (blocks_in script) its
-of_blocks script (event.Peer from bytes) today = tt
-of_blocks script (event.Final number) today =
-    let made = made_at script number (λ height. height < midpoint_of script) today in
-    subst (λ (o : Option (Block directory.Unit)). IsSomeAnd o (λ b. b.height < midpoint (non_zero_u64_get script.config.blocks_per_epoch) 0)) (sym made.is)
-    (subst (λ (n : ℕ). (made.block).height < n) (middle_is (non_zero_u64_get script.config.blocks_per_epoch)) made.so)
-of_blocks script other today = absurd today
-
-pub to_open : (script : Script) (number : ℕ) (life : Life) (source : HeldBlocks) → IsFormOfToday script → slice_get script.lives number ≡ Some life → source.blocks.now ≡ blocks_in script
+pub to_open : (script : Script) (number : ℕ) (life : Life) (source : HeldBlocks) → IsFormOfEpochs script → IsChecked script → slice_get script.lives number ≡ Some life → source.blocks.now ≡ blocks_in script
     → source.anchor ≡ life.anchor → source.numbers.items ≡ life.held ++ anchor_numbers life.anchor → IsToOpen script number life source
-to_open script number life source form here blocks anchor numbers = record {
+to_open script number life source form checked here blocks anchor numbers = record {
   form = form;
+  checked = checked;
   life_is = here;
   source_is = record { blocks_are = blocks; anchor_is = anchor; numbers_are = numbers ∙ ap (λ (l : List ℕ). life.held ++ l) (sym (append-nil (anchor_numbers life.anchor))) };
 }
-
-at_blocks : (g : Lived) → (at_step g 0).blocks_per_epoch ≡ non_zero_u64_get g.script.config.blocks_per_epoch
-unfolding at_step
-at_blocks g = refl
 
 at_limit : (g : Lived) → (at_step g 0).limit ≡ non_zero_u32_get g.script.config.limit
 unfolding at_step
 at_limit g = refl
 
-module _ (script : Script) (number : ℕ) (life : Life) (node : Node) (of : (g : Lived) → g.script ≡ script → ReadsNeither g.seen → IsOfLife g node) where
+module _ (script : Script) (number : ℕ) (life : Life) (node : Node) (of : (g : Lived) → g.script ≡ script → g.life ≡ life → IsUnplanned g.seen → IsOfLife g node) where
   abbrev a_life : Files → Lived
   a_life files = lived script number life nothing files
 
   its_terms : (files : Files) → IsOf node.actor.terms (at_step (a_life files) 0)
-  its_terms files = (of (a_life files) refl (record { shareless = λ h. refl; unplanned = λ h. refl })).of 0
+  its_terms files = (of (a_life files) refl refl (λ h. refl)).of 0
 
   pub limit_is : (files : Files) → non_zero_u32_get node.actor.terms.limit ≡ non_zero_u32_get script.config.limit
   limit_is files = sym (its_terms files).limit ∙ at_limit (a_life files)
-
-  pub blocks_are : (files : Files) → non_zero_u64_get node.actor.terms.blocks_per_epoch ≡ non_zero_u64_get script.config.blocks_per_epoch
-  blocks_are files = sym (its_terms files).blocks ∙ at_blocks (a_life files)
-
-  -- The life's events are those of its source.
-  pub events_of : Files → IsFormOfToday script → slice_get script.lives number ≡ Some life → (blocks : List (Block directory.Unit)) → blocks ≡ blocks_in script
-      → AllByRecursion (IsEventOfBlocks (non_zero_u64_get node.actor.terms.blocks_per_epoch) blocks) life.events
-  events_of files form here blocks same =
-      subst (λ (n : ℕ). AllByRecursion (IsEventOfBlocks n blocks) life.events) (sym (blocks_are files))
-      (subst (λ (bs : List (Block directory.Unit)). AllByRecursion (IsEventOfBlocks (non_zero_u64_get script.config.blocks_per_epoch) bs) life.events) (sym same)
-      (all_so (IsEventOfToday (midpoint_of script) script.blocks) (IsEventOfBlocks (non_zero_u64_get script.config.blocks_per_epoch) (blocks_in script)) (of_blocks script) life.events
-      (life_form (a_life files) (record { form = form; life_is = here; reads = record { shareless = λ h. refl; unplanned = λ h. refl } })).events))
 
   -- What a crash leaves stays within the script's limit.
   pub fit_then : (files : Files) (image mid next : Files → Type 0)
@@ -202,10 +189,23 @@ found_cause limit tells files (FaultOf fault.Disk) P Q R is = is
 found_cause limit tells files (FaultOf fault.Secrets) P Q R is = is
 found_cause limit tells files (FaultOf its) P Q R is = tt
 
+-- (a fuse that was set is no part of it)
+pub opening_blames : {D X : Type 0} (disk_faults : D → ℕ) (secret_faults : X → ℕ) (old begun new : Devices D X) → begun.disk ≡ old.disk → begun.secrets ≡ old.secrets → (stop : Stop)
+    → StopHasCause stop (Rose (disk_faults begun.disk.now) (disk_faults new.disk.now)) (Rose (secret_faults begun.secrets.now) (secret_faults new.secrets.now)) → StopBlames disk_faults secret_faults old new stop
+opening_blames {D} {X} disk_faults secret_faults old begun new same_disk same_secrets stop is =
+    subst (λ (d : MutBor D). StopHasCause stop (Rose (disk_faults d.now) (disk_faults new.disk.now)) (Rose (secret_faults old.secrets.now) (secret_faults new.secrets.now))) same_disk
+    (subst (λ (x : MutBor X). StopHasCause stop (Rose (disk_faults begun.disk.now) (disk_faults new.disk.now)) (Rose (secret_faults x.now) (secret_faults new.secrets.now))) same_secrets is)
+
 module _ {D X : Type 0} (tells : Bool) (disk : D → D → List (DeviceCall Op) → Type 0) (secrets : X → X → List (DeviceCall SecretOp) → Type 0) (disk_faults : D → ℕ) (secret_faults : X → ℕ) where
   pub blames_from : (old mid new : Devices D X) → Went tells disk secrets disk_faults secret_faults old mid [] → Went tells disk secrets disk_faults secret_faults mid new [] → (how : Result (Unit {0}) Stop)
-      → IfErr how (StepBlames disk_faults secret_faults mid new) → IfErr how (StopBlames disk_faults secret_faults old new)
+      → IfErr how (StepBlames tells disk_faults secret_faults mid new) → IfErr how (StopBlames disk_faults secret_faults old new)
   blames_from old mid new first behind (Ok done) is = tt
   blames_from old mid new first behind (Err stop) is =
-      step_stop_cause stop (Rose (disk_faults old.disk.now) (disk_faults new.disk.now)) (Rose (secret_faults old.secrets.now) (secret_faults new.secrets.now)) ⊤
-      (step_blames_around disk_faults secret_faults old mid new new first.later_disk first.later_secrets behind.later_disk behind.later_secrets (omega arith) (omega arith) stop ⊤ is)
+      step_stop_cause tells stop (Rose (disk_faults old.disk.now) (disk_faults new.disk.now)) (Rose (secret_faults old.secrets.now) (secret_faults new.secrets.now)) ⊤
+      (step_blames_around tells disk_faults secret_faults old mid new new first.later_disk first.later_secrets behind.later_disk behind.later_secrets (omega arith) (omega arith) stop ⊤ is)
+
+  -- .. of a step, behind what went before it
+  pub step_blames_from : (old mid new : Devices D X) → Went tells disk secrets disk_faults secret_faults old mid [] → Went tells disk secrets disk_faults secret_faults mid new [] → (stop : Stop) (U : Type 0)
+      → IsCausedBy tells stop (Rose (disk_faults mid.disk.now) (disk_faults new.disk.now)) (Rose (secret_faults mid.secrets.now) (secret_faults new.secrets.now)) U → StepBlames tells disk_faults secret_faults old new stop
+  step_blames_from old mid new first behind stop U is =
+      step_blames_around tells disk_faults secret_faults old mid new new first.later_disk first.later_secrets behind.later_disk behind.later_secrets (omega arith) (omega arith) stop U is

@@ -1,10 +1,8 @@
 -- How a step of a life went, by what its parts answered; in either way.
-use Rattle.std.proofs.Common.{◌≡◌, ◌⊎◌, inl, inr, Bool, true, false, ℕ, zero, suc, ◌+◌, ◌<◌, ◌≤◌, ◌==◌, List, [], ◌∷◌, drop, length, Option, Some, None, Result, Ok, Err, refl, sym, ◌∙◌, ap, subst, add-one, arith}
-use Rattle.std.specs.Prelude.{slice_get, if◌then◌else◌}
-use Rattle.std.proofs.lemmas.Bool.Decides.{nat_tests}
+use Rattle.std.proofs.Common.{◌≡◌, inl, inr, ℕ, zero, suc, ◌+◌, ◌<◌, ◌≤◌, List, [], ◌∷◌, drop, length, Option, Some, None, Result, Ok, Err, refl, sym, ap, subst, add-one}
+use Rattle.std.specs.Prelude.{slice_get}
 use Rattle.std.proofs.Math.ListN.{drop_of_length-le}
 use Rattle.dkg_journal.specs.Burn.{Burn}
-use Rattle.dkg_journal.specs.Fuse.{Reached}
 use Rattle.dkg_journal.specs.Names.{Files}
 use Rattle.dkg_types.specs.declared.directory.Unit as directory
 use Rattle.dkg_types.specs.declared.entry.Entry.{Entry as Line}
@@ -12,21 +10,19 @@ use Rattle.dkg_types.specs.declared.entry.Entry.TheVariants as entry
 use Rattle.dkg_types.specs.declared.fault.Fault.{Fault}
 use Rattle.dkg_types.specs.declared.fault.Fault.TheVariants as fault
 use Rattle.dkg_types.specs.declared.fault.Fault.TheVariants.{NoMemory}
-use Rattle.dkg_store.specs.Acts.{Ended, Moment, Stands, at, by_cut, by_want, broken, moment, went}
+use Rattle.dkg_store.specs.Acts.{Ended, Moment, Stands, at, by_cut, by_want, broken, went}
 use Rattle.dkg_core.specs.Courses.{Course, on_devices}
 use Rattle.dkg_core.specs.Live.{Faulted, Live, NodeStop}
-use Rattle.dkg_core.specs.Said.{Said}
 use Rattle.dkg_core.specs.Splitting.{named}
 use Rattle.dkg_reshare.specs.Ends.{by_fault}
-use Rattle.dkg_reshare.specs.Made.{Burns, MakesAt, Tells}
+use Rattle.dkg_reshare.specs.Made.{MakesAt, Tells}
 use Rattle.dkg_reshare.specs.declared.stop.Stop.{Stop}
 use Rattle.dkg_reshare.specs.declared.stop.Stop.TheVariants.{Cut, Failed, Fault as FaultOf}
-use Rattle.dkg_text.specs.declared.script.Cut as cut
 use Rattle.dkg_text.specs.declared.script.Event.{Event}
 use Rattle.dkg_run.specs.Ended.{by_node_stop}
 use Rattle.dkg_run.specs.Given.{Lived, step_of}
-use Rattle.dkg_run.specs.Lives.{Steps, TakesAll, Wants, fuse_for, fuse_within, never}
-use Rattle.dkg_run.specs.Ways.{Trace, Way, by_lines, by_worlds, trace}
+use Rattle.dkg_run.specs.Lives.{Steps, TakesAll, fuse_for}
+use Rattle.dkg_run.specs.Ways.{Way, by_lines, by_worlds, trace}
 
 -- it was answered Ok
 abbrev pub IsDone : Result (Unit {0}) Stop → Type 0

@@ -1,20 +1,14 @@
 -- What a step, an opening and a life make of where a run stands, by how each of them ends.
-use Rattle.std.proofs.Common.{ℕ, ◌+◌, ◌<◌, true, false, Option, Some, None, List, [], ◌∷◌, ◌++◌, ◌≡◌, refl, ◌⊎◌, inl, inr, arith, length}
-use Rattle.std.specs.Prelude.{IfSome}
+use Rattle.std.proofs.Common.{ℕ, ◌<◌, true, false, List, [], ◌∷◌, ◌++◌, ◌≡◌, refl, ◌⊎◌, inl, inr, arith}
 use Rattle.dkg_types.specs.declared.entry.Entry.{Entry}
 use Rattle.dkg_types.specs.declared.entry.Entry.TheVariants as entry
-use Rattle.dkg_types.specs.declared.fault.Fault.{Fault}
-use Rattle.dkg_types.specs.declared.fault.Fault.TheVariants.{NoMemory}
-use Rattle.dkg_text.specs.declared.script.Cut as cut
 use Rattle.dkg_text.specs.declared.script.Life.{Life}
 use Rattle.dkg_script.specs.Order.{IsInOrder}
-use Rattle.dkg_script.specs.Progress.{Progress}
-use Rattle.dkg_script.specs.Setting.{Setting}
 use Rattle.dkg_reshare.specs.declared.stop.Stop.{Stop}
-use Rattle.dkg_reshare.specs.declared.stop.Stop.TheVariants.{Cut, Fault as Faulted}
-use Rattle.dkg_run.proofs.Standing.{Moves, AddsQuiet, AddsOpening, IsBetween, IsBefore, IsWithin, IsAtCut, IsStopped, IsBehind, MayTell, IsCutBefore, IsCutWithin}
+use Rattle.dkg_reshare.specs.declared.stop.Stop.TheVariants.{Cut}
+use Rattle.dkg_run.proofs.Standing.{Moves, AddsQuiet, AddsOpening, IsBefore, IsWithin, IsAtCut, IsStopped, IsBehind, IsCutBefore, IsCutWithin}
 use Rattle.dkg_run.proofs.Places.{moves_none, moves_then, moves_within}
-use Rattle.dkg_run.proofs.InPlace.{begins, cut_before, stopped_within, moves_quiet, moves_opening, moves_step, moves_cut}
+use Rattle.dkg_run.proofs.InPlace.{begins, cut_before, stopped_within, moves_quiet, moves_opening, moves_step}
 
 -- A STEP
 

@@ -1,18 +1,17 @@
 -- A step of a life, by what its calls answered: over the lines, and over both devices.
-use Rattle.std.proofs.Common.{MutBor, ◌≡◌, ◌⊎◌, inl, inr, ℕ, ◌<◌, ◌==◌, ◌++◌, [], ◌∷◌, Bool, true, false, List, Option, Some, None, Result, Ok, Err, refl, sym, ◌∙◌, ap, subst, append-nil, arith}
-use Rattle.std.specs.Prelude.{Contains, IsTrue, filter_map, if◌then◌else◌}
+use Rattle.std.proofs.Common.{MutBor, ◌≡◌, inl, inr, ℕ, ◌<◌, ◌++◌, [], ◌∷◌, Bool, List, Option, Some, None, Result, Ok, Err, refl, sym, subst, arith}
+use Rattle.std.specs.Prelude.{Contains, IsTrue, filter_map}
 use Rattle.std.proofs.lemmas.List.Elements.{Contains-append_right}
 use Rattle.std.specs.Int.NonZero.{non_zero_u32_get, non_zero_u64_get}
-use Rattle.std.proofs.lemmas.Bool.Decides.{nat_tests}
-use Rattle.dkg_ceremony.specs.Acks.{ack_of}
+use Rattle.dkg_ceremony.specs.Acks.{ack_of, check_ack_of}
+use Rattle.dkg_ceremony.specs.Deals.{deal_of}
 use Rattle.dkg_journal.specs.Burn.{Burn}
 use Rattle.dkg_journal.specs.Disk.{Lands}
-use Rattle.dkg_journal.specs.Fuse.{Reached}
 use Rattle.dkg_journal.specs.Names.{Files}
 use Rattle.dkg_types.specs.declared.directory.Unit as directory
 use Rattle.dkg_types.specs.declared.entry.Entry.{Entry as Line}
 use Rattle.dkg_types.specs.declared.fault.Fault.TheVariants.{NoMemory}
-use Rattle.dkg_store.specs.Acts.{Ended, Moment, Stands, World, at, broken, by_cut, by_want, moment, says, went}
+use Rattle.dkg_store.specs.Acts.{Ended, Stands, World, at, broken, by_cut, by_want, moment, went}
 use Rattle.dkg_store.specs.Corrupt.{AreFit}
 use Rattle.dkg_secrets.specs.Secrets.{Secrets}
 use Rattle.dkg_store.specs.declared.devices.Devices.{Devices}
@@ -25,22 +24,21 @@ use Rattle.dkg_text.specs.declared.script.Event.{Event}
 use Rattle.dkg_text.specs.declared.script.Event.TheVariants.{Final, Peer}
 use Rattle.dkg_core.specs.Courses.{Course, on_devices}
 use Rattle.dkg_core.specs.Live.{Live, NodeStop}
-use Rattle.dkg_core.specs.Said.{Said}
 use Rattle.dkg_reshare.specs.Actors.{IfLiving, IsReadyLife}
-use Rattle.dkg_reshare.specs.Made.{Burns, MakesAt, MakesOn, Tells}
+use Rattle.dkg_reshare.specs.LiveOf.{IsPlaced}
+use Rattle.dkg_reshare.specs.Made.{MakesAt, MakesOn, Tells}
+use Rattle.dkg_reshare.specs.Moved.{IsFirm}
 use Rattle.dkg_reshare.specs.declared.actor.State.{State}
-use Rattle.dkg_reshare.specs.declared.actor.State.TheVariants.{Living}
-use Rattle.dkg_reshare.specs.declared.life.Life as reshare
+use Rattle.dkg_reshare.specs.declared.actor.State.TheVariants.{Failed as HadFailed, Living, New}
 use Rattle.dkg_reshare.specs.declared.config.Terms.{Terms}
 use Rattle.dkg_reshare.specs.declared.stop.Stop.{Stop}
-use Rattle.dkg_reshare.specs.declared.stop.Stop.TheVariants.{Cut, Failed, Fault as FaultOf}
+use Rattle.dkg_reshare.specs.declared.stop.Stop.TheVariants.{Cut, Fault as FaultOf}
 use Rattle.dkg_reshare.proofs.Burning.{burns_none}
-use Rattle.dkg_reshare.proofs.Said.{none_first}
 use Rattle.dkg_run.specs.Ended.{by_node_stop}
-use Rattle.dkg_run.specs.Lives.{Steps, fuse_for, fuse_within, never}
-use Rattle.dkg_reshare.specs.Ends.{IsCaused}
+use Rattle.dkg_run.specs.Lives.{Steps, fuse_for}
+use Rattle.dkg_reshare.specs.Ends.{IsCausedBy}
 use Rattle.dkg_run.specs.Moving.{world_of}
-use Rattle.dkg_run.specs.Nodes.{IsEventHere, IsEventOfBlocks, IsReadyNode, IsView}
+use Rattle.dkg_run.specs.Nodes.{IsEventHere, IsEventOfBlocks, IsReadyNode}
 use Rattle.dkg_run.specs.declared.held.HeldBlocks.{HeldBlocks}
 use Rattle.dkg_run.specs.Given.{Lived}
 use Rattle.dkg_run.specs.Ways.{Trace, Way, by_lines, by_worlds, trace}
@@ -52,13 +50,23 @@ use Rattle.dkg_run.proofs.Stepping.{lines_go, step_cut, step_stops, step_told, s
 pub node_lands : {D X : Type 0} (tells : Bool) (files : D → Files) (image : D → Files → Type 0) (node : Node) (devices : Devices D X) → IsReadyNode tells files image node devices → IsTrue tells
     → Lands (files devices.disk.now) (image devices.disk.now)
 node_lands tells files image node devices ready told =
-    let its : IsReadyLife tells files image ack_of node.actor.terms (ready.viewed.1).life devices =
-    subst (λ (s : State directory.Unit). IfLiving s (λ life. IsReadyLife tells files image ack_of node.actor.terms life devices)) (ready.viewed.1).lives ready.at.ready in
+    let its : IsReadyLife tells files image ack_of deal_of check_ack_of node.actor.terms (ready.viewed.1).life devices =
+    subst (λ (s : State directory.Unit). IfLiving s (λ life. IsReadyLife tells files image ack_of deal_of check_ack_of node.actor.terms life devices)) (ready.viewed.1).lives ready.at.ready in
     (its.firm told).lands
+
+-- .. and its life stands in its epoch
+pub node_placed : {D X : Type 0} (tells : Bool) (files : D → Files) (image : D → Files → Type 0) (node : Node) (devices : Devices D X) → IsReadyNode tells files image node devices
+    → IfLiving node.actor.state (IsPlaced (non_zero_u64_get node.actor.terms.blocks_per_epoch))
+node_placed tells files image node devices ready = in_state node.actor.state ready.at.ready
+  where
+    in_state : (s : State directory.Unit) → IfLiving s (λ life. IsReadyLife tells files image ack_of deal_of check_ack_of node.actor.terms life devices) → IfLiving s (IsPlaced (non_zero_u64_get node.actor.terms.blocks_per_epoch))
+    in_state New is = tt
+    in_state (Living life) is = is.placed
+    in_state HadFailed is = tt
 
 -- A STEP WITH ITS FUSE
 
-went_uncut : (end : Live directory.Unit) → ◌≡◌ {A = Ended NodeStop (Live directory.Unit)} (went end) (broken by_cut) → ⊥
+pub went_uncut : (end : Live directory.Unit) → ◌≡◌ {A = Ended NodeStop (Live directory.Unit)} (went end) (broken by_cut) → ⊥
 went_uncut end is = cc
 
 module _ (line : Line) (its : Option cut.Cut) (number : ℕ) (f : Burn) (lit : fuse_for its number ≡ Some f) (course : Course directory.Unit NodeStop (Live directory.Unit)) where
@@ -125,21 +133,29 @@ module _ (line : Line) (its : Option cut.Cut) (number : ℕ) (none : fuse_for it
       (subst (λ (x : Stop). Steps by_worlds line (fuse_for its number) course (at (moment out s f) files) (Err x) (at (moment out s f) files) next) (sym at_cut)
       (step_cut by_worlds line (fuse_for its number) course (at (moment out s f) files) next none))
 
+  -- .. whose devices stayed as they were
+  pub cut_over : {D X : Type 0} (files : D → Files) (image : D → Files → Type 0) (held : X → Secrets) (old begun : Devices D X) → begun ≡ old → Stands (files old.disk.now) (image old.disk.now)
+      → (next : Live directory.Unit → World → Type 0) (out : List Line) (c : Files) → image begun.disk.now c
+      → Steps by_worlds line (fuse_for its number) course (world_of held old out (files old.disk.now)) (Err stop) (world_of held begun out c) next
+  cut_over {D} {X} files image held old begun same stands next out c here =
+      subst (λ (d : Devices D X). image d.disk.now c → Steps by_worlds line (fuse_for its number) course (world_of held old out (files old.disk.now)) (Err stop) (world_of held d out c) next) (sym same)
+      (cut_worlds next (files old.disk.now) (image old.disk.now) stands out (held old.secrets.now) old.fuse c) here
+
 -- THE BLOCK that an event delivers is held
 
-pub event_here : (per_epoch : ℕ) (old now : HeldBlocks) (event : Event) → now.blocks ≡ old.blocks → now.numbers.items ≡ old.numbers.items ++ filter_map delivered_number (event ∷ [])
-    → IsEventOfBlocks per_epoch old.blocks.now event → IsEventHere per_epoch now event
-event_here per_epoch old now (Final number) blocks numbers is = (
+pub event_here : (per_epoch : ℕ) (old now : HeldBlocks) (state : State directory.Unit) (event : Event) → now.blocks ≡ old.blocks → now.numbers.items ≡ old.numbers.items ++ filter_map delivered_number (event ∷ [])
+    → IsEventOfBlocks per_epoch old.blocks.now state event → IsEventHere per_epoch now state event
+event_here per_epoch old now state (Final number) blocks numbers is = (
   subst (λ (l : List ℕ). Contains l number) (sym numbers) (Contains-append_right old.numbers.items (number ∷ []) number (0, omega arith, refl)),
   rw blocks is,
 )
-event_here per_epoch old now (Peer from bytes) blocks numbers is = tt
-event_here per_epoch old now event blocks numbers is = absurd is
+event_here per_epoch old now state (Peer from bytes) blocks numbers is = tt
+event_here per_epoch old now state event blocks numbers is = absurd is
 
 -- A CUT is one of the fuse
 
-pub cut_reached : (stop : Stop) (P Q R : Type 0) → IsCaused stop P Q R → stop ≡ Cut → R
-cut_reached stop P Q R caused is = subst (λ (s : Stop). IsCaused s P Q R) is caused
+pub cut_reached : (tells : Bool) (stop : Stop) (P Q R : Type 0) → IsCausedBy tells stop P Q R → stop ≡ Cut → R
+cut_reached tells stop P Q R caused is = subst (λ (s : Stop). IsCausedBy tells s P Q R) is caused
 
 pub blocks_held : (old now : HeldBlocks) (blocks : List (Block directory.Unit)) → now.blocks ≡ old.blocks → old.blocks.now ≡ blocks → now.blocks.now ≡ blocks
 blocks_held old now blocks same is = rw same is
@@ -184,16 +200,30 @@ module _ {D X : Type 0} (files : D → Files) (image : D → Files → Type 0) (
             (told_worlds line its number begun.fuse lit course next (files begun.disk.now) (image begun.disk.now) stood out (held begun.secrets.now) old.fuse
             (files new.disk.now) (image new.disk.now) now (held new.secrets.now) new.fuse c here end makes how w more)
 
+-- A NODE goes on over the same disk, whatever its fuse
+
+pub ready_over : {D X : Type 0} (tells : Bool) (files : D → Files) (image : D → Files → Type 0) (node : Node) (old begun : Devices D X) → begun.disk ≡ old.disk → IsReadyNode tells files image node old → IsReadyNode tells files image node begun
+ready_over {D} {X} tells files image node old begun same ready = record {
+  at = record { opened = ready.at.opened; ready = in_state node.actor.state ready.at.ready };
+  viewed = ready.viewed;
+}
+  where
+    in_state : (s : State directory.Unit) → IfLiving s (λ life. IsReadyLife tells files image ack_of deal_of check_ack_of node.actor.terms life old)
+        → IfLiving s (λ life. IsReadyLife tells files image ack_of deal_of check_ack_of node.actor.terms life begun)
+    in_state New is = tt
+    in_state (Living life) is = record {
+      seated = is.seated;
+      dealing = is.dealing;
+      placed = is.placed;
+      within = is.within;
+      firm = λ told. subst (λ (d : MutBor D). IsFirm life.store.journal (files d.now) (image d.now)) (sym same) (is.firm told);
+    }
+    in_state HadFailed is = tt
+
 -- A LOOP over a life's events
 
 pub blocks_same : (old now : HeldBlocks) → now.blocks ≡ old.blocks → now.blocks.now ≡ old.blocks.now
 blocks_same old now same = rw same refl
-
-pub event_of : (a b : Node) (old now : HeldBlocks) (event : Event) → b.actor.terms ≡ a.actor.terms → now.blocks ≡ old.blocks
-    → IsEventOfBlocks (non_zero_u64_get a.actor.terms.blocks_per_epoch) old.blocks.now event → IsEventOfBlocks (non_zero_u64_get b.actor.terms.blocks_per_epoch) now.blocks.now event
-event_of a b old now event terms blocks is =
-    subst (λ (t : Terms). IsEventOfBlocks (non_zero_u64_get t.blocks_per_epoch) now.blocks.now event) (sym terms)
-    (subst (λ (bs : List (Block directory.Unit)). IsEventOfBlocks (non_zero_u64_get a.actor.terms.blocks_per_epoch) bs event) (sym (blocks_same old now blocks)) is)
 
 pub fit_on : (a b : Node) → b.actor.terms ≡ a.actor.terms → (image next : Files → Type 0)
     → (AreFit (non_zero_u32_get b.actor.terms.limit) image → AreFit (non_zero_u32_get b.actor.terms.limit) next)

@@ -8,7 +8,7 @@ use Rattle.dkg_text.specs.declared.script.Event.TheVariants.{Final}
 use Rattle.dkg_text.specs.declared.script.Life.{Life}
 use Rattle.dkg_script.specs.Blocks.{Block, anchor_number, block_at, chain, chain_in, delivered_number, events_come_to, held_at_opening, used, used_in}
 use Rattle.dkg_script.specs.Setting.{Setting, life_at}
-use Rattle.dkg_run.proofs.Resting.{IsTodays, form_at, life_today}
+use Rattle.dkg_run.proofs.Living.{holds_at}
 
 -- WHAT HOLDS OF ALL of a longer list
 
@@ -41,14 +41,10 @@ module _ (s : Setting) (l : ℕ) (life : Life) (P : Block → Type 0) (life_is :
 
   in_life : AllByRecursion P (used_in s life)
   unfolding used
-  in_life = form_at (λ its. AllByRecursion P (used_in s its)) s.script.lives l life (all_parts P (used_in s) s.script.lives all) life_is
+  in_life = holds_at (λ its. AllByRecursion P (used_in s its)) s.script.lives l life (all_parts P (used_in s) s.script.lives all) life_is
 
-  held : AllByRecursion Numbered (option_to_list (option_map anchor_number life.anchor) ++ life.held)
+  pub held : AllByRecursion Numbered (option_to_list (option_map anchor_number life.anchor) ++ life.held)
   held = all_sources P (block_at s) (option_to_list (option_map anchor_number life.anchor) ++ life.held) (all_front P (held_at_opening s life) _ in_life)
-
-  -- .. holds of block 0
-  pub of_block_zero : IsTodays s → IfSome (block_at s 0) P
-  of_block_zero today = form_at Numbered life.held 0 0 (all_back Numbered (option_to_list (option_map anchor_number life.anchor)) life.held held) (life_today s l life today life_is).holds
 
   -- .. of its anchor's
   pub of_anchor : (anchor : Anchor) → life.anchor ≡ Some anchor → IfSome (block_at s (anchor_number anchor)) P
@@ -60,7 +56,7 @@ module _ (s : Setting) (l : ℕ) (life : Life) (P : Block → Type 0) (life_is :
       let later = all_sources P (block_at s) _ (all_back P (held_at_opening s life) _ in_life) in
       let numbers = all_back Numbered _ (filter_map delivered_number (events_come_to life.cut life.events)) later in
       let events = all_sources Numbered delivered_number (events_come_to life.cut life.events) numbers in
-      form_at (λ event. IfSome (delivered_number event) Numbered) (events_come_to life.cut life.events) i (Final number) events is
+      holds_at (λ event. IfSome (delivered_number event) Numbered) (events_come_to life.cut life.events) i (Final number) events is
 
 -- A BLOCK OF THE CHAIN is one that is used, at its height
 

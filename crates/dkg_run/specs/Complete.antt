@@ -1,5 +1,6 @@
 -- When a run comes to its end: a valid script over valid devices, of which none fails.
 use Rattle.std.specs.Prelude.{List, Option}
+use Rattle.std.specs.Int.NonZero.{non_zero_u32_get}
 use Rattle.dkg_journal.specs.Names.{Files}
 use Rattle.dkg_store.specs.Corrupt.{AreFit}
 use Rattle.dkg_types.specs.declared.entry.Entry.{Entry}
@@ -8,22 +9,21 @@ use Rattle.dkg_script.specs.AsCut.{as_cut, setting_as_cut}
 use Rattle.dkg_script.specs.Consistent.{MayEndSo}
 use Rattle.dkg_script.specs.Promise.{AreHonestStores, IsBuilt, cuts_in}
 use Rattle.dkg_script.specs.Setting.{CutAt, Setting, setting_of}
-use Rattle.dkg_script.specs.Valid.{IsValidScript}
-use Rattle.dkg_run.specs.Found.{reader_in}
+use Rattle.dkg_run.specs.Epochs.{IsChecked}
 use Rattle.dkg_run.specs.Over.{Over, Standing}
-use Rattle.dkg_run.specs.Passing.{ArePassing}
+use Rattle.dkg_run.specs.ValidOver.{AreValidOver, IsValidScriptOver}
 
--- The devices handed in are whole, with nothing loose. Their records are events within the script's limit, and the dealings that they give
--- back pass the first round's check.
+-- The devices handed in are whole, with nothing loose. Their records are events within the script's limit, and what they hold agrees with the script.
 pub record AreValidDevices (s : Setting) (image : Files → Type 0) : Type 0 where
   pub stores : AreHonestStores s image
-  pub fit : AreFit (reader_in s.script).limit image
-  pub passing : ArePassing (reader_in s.script) image s.secrets
+  pub fit : AreFit (non_zero_u32_get s.script.config.limit) image
+  pub agree : AreValidOver s s.files s.secrets
 
--- a valid script, of what is built today, whose first lives ended so, over valid devices
+-- a valid script, of what is built, whose configuration is not refused and whose first lives ended so, over valid devices
 pub record IsValidRun (s : Setting) (image : Files → Type 0) (ends : List (Option CutAt)) : Type 0 where
   pub built : IsBuilt s
-  pub script : IsValidScript s ends
+  pub checked : IsChecked s.script
+  pub script : IsValidScriptOver s ends
   pub devices : AreValidDevices s image
 
 -- .. of a script as it was cut, by these entries

@@ -1,6 +1,5 @@
 -- How a node's course ended, by what its call answered.
 use Rattle.std.specs.Prelude.{Result, Ok, Err}
-use Rattle.dkg_types.specs.declared.fault.Fault.{Fault}
 use Rattle.dkg_store.specs.Acts.{Ended, went}
 use Rattle.dkg_core.specs.Live.{NodeStop, Faulted}
 use Rattle.dkg_core.specs.Splitting.{named}

@@ -1,6 +1,7 @@
 -- What a life of a script is given: the blocks that its source holds, and the configuration of its node.
-use Rattle.std.specs.Prelude.{ℕ, ◌-◌, ◌++◌, ◌∷◌, [], List, true, false, Option, None, Some, filter_map, fold, option_and_then, option_map, slice_get, take, length, ◌≡◌, IfSome}
+use Rattle.std.specs.Prelude.{ℕ, zero, suc, ◌-◌, ◌++◌, ◌∷◌, [], List, true, false, Option, None, Some, filter_map, fold, option_and_then, option_map, slice_get, take, length, ◌≡◌, IfSome}
 use Rattle.std.specs.Int.NonZero.{non_zero_u32_get, non_zero_u64_get}
+use Rattle.std.specs.FinMap.{empty}
 use Rattle.std.specs.List.{AllByRecursion}
 use Rattle.std.specs.Option.{option_map_or}
 use Rattle.sha2.specs.Sha256.{sha256}
@@ -27,7 +28,6 @@ use Rattle.dkg_text.specs.declared.script.Life.{Life}
 use Rattle.dkg_text.specs.declared.script.Script.{Script}
 use Rattle.dkg_text.specs.declared.script.ScriptConfig.{ScriptConfig}
 use Rattle.dkg_script.specs.Blocks.{delivered_number, zeros}
-use Rattle.dkg_script.specs.Form.{IsFormOfToday}
 use Rattle.dkg_script.specs.Readings.{Limits, unit_payload}
 use Rattle.dkg_core.specs.Courses.{Course, Goes}
 use Rattle.dkg_core.specs.Fixed.{Directories, Fixed, Inner, Probed, stand_in}
@@ -35,6 +35,7 @@ use Rattle.dkg_core.specs.Live.{Event, Live, NodeStop, Delivers, Peer, Reshare}
 use Rattle.dkg_core.specs.Node.{node_step}
 use Rattle.dkg_core.specs.Seen.{Seen}
 use Rattle.dkg_core.specs.Sources.{Anchor, AtBlock, Absent, Source, source_of}
+use Rattle.dkg_core.specs.Today.{first_epoch}
 use Rattle.dkg_reshare.specs.Today.{seen_today}
 
 -- BLOCKS
@@ -105,7 +106,7 @@ unsealed b = None
 
 -- A LIFE
 
--- a life of a script: its number, what its reads give, and the calls of its journal's opening
+-- a life of a script: its number, what the reads of its opening give, and the calls of its journal's opening
 pub record Lived : Type 0 where
   pub script : Script
   pub number : ℕ
@@ -136,6 +137,11 @@ no_inner = record { prepared = λ b payload. None; proposed = λ b payload. None
 abbrev pub no_probed : Probed directory.Unit
 no_probed = record { snapshot = None; certifies = λ finalization. false }
 
+-- what its steps read: its opening what is given, and the ones behind it what the devices hold
+abbrev pub seen_at : Lived → (taken : ℕ) → Held → Seen
+seen_at g zero = g.seen
+seen_at g (suc taken) = seen_today
+
 -- what a step of the life is given
 unfoldable pub at_step : Lived → (taken : ℕ) → Fixed directory.Unit
 at_step g taken = record {
@@ -150,7 +156,7 @@ at_step g taken = record {
   rules = stand_in;
   directories = unit_directories;
   provided = no_provider;
-  seen = g.seen;
+  seen = seen_at g taken;
   inner = no_inner;
   probed = no_probed;
   life = g.number;
@@ -170,13 +176,10 @@ event_in blocks other = None
 abbrev pub step_of : Lived → (number : ℕ) → script.Event → Live directory.Unit → Course directory.Unit NodeStop (Live directory.Unit)
 step_of g number event st = option_map_or (λ its. node_step (at_step g number) its st) (event_in (blocks_in g.script) event) (Goes st)
 
--- Neither a share nor a plan is read.
-pub record ReadsNeither (seen : Held → Seen) : Type 0 where
-  pub shareless : (h : Held) → (seen h).shares ≡ []
-  pub unplanned : (h : Held) → (seen h).plan ≡ None
+-- No plan is read.
+abbrev pub IsUnplanned : (Held → Seen) → Type 0
+IsUnplanned seen = (h : Held) → (seen h).plan ≡ None
 
--- It is a life of a script of today's form.
-pub record IsLifeHere (g : Lived) : Type 0 where
-  pub form : IsFormOfToday g.script
-  pub life_is : slice_get g.script.lives g.number ≡ Some g.life
-  pub reads : ReadsNeither g.seen
+-- the epoch before the one in which a life starts, below which its opening leaves nothing
+abbrev pub starts_above : Script → (number : ℕ) → Life → ℕ
+starts_above script number life = first_epoch (at_step (lived script number life seen_today empty) 0) - 1

@@ -1,9 +1,12 @@
 pub mod Again
+pub mod Blamed
 pub mod Causes
 pub mod Command
 pub mod Complete
 pub mod Ended
-pub mod Found
+pub mod EndsOver
+pub mod Epochs
+pub mod FoundOver
 pub mod Fresh
 pub mod Given
 pub mod GivesBack
@@ -13,11 +16,10 @@ pub mod Moving
 pub mod Nodes
 pub mod Outside
 pub mod Over
-pub mod Passing
 pub mod Promised
 pub mod Refusals
-pub mod Refused
 pub mod Reports
 pub mod Sources
 pub mod Stopped
+pub mod ValidOver
 pub mod Ways

@@ -20,6 +20,7 @@ use Rattle.dkg_reshare.specs.Opened.{IsInGrammar}
 use Rattle.dkg_reshare.specs.declared.stop.Stop.{Stop}
 use Rattle.dkg_reshare.specs.declared.stop.Stop.TheVariants.{Cut, Failed, Fault as FaultOf}
 use Rattle.dkg_run.specs.Ended.{by_node_stop}
+use Rattle.dkg_run.specs.Epochs.{IsChecked, refused_config}
 use Rattle.dkg_run.specs.Given.{Lived, at_step, limits_of, lived, step_of}
 use Rattle.dkg_run.specs.Ways.{Way, by_worlds}
 
@@ -96,8 +97,18 @@ LivesFrom way script first l (life ∷ lives) w result new =
     LivesHere way script first l life w result new (λ mid. LivesFrom way script AnyFiles (l + 1) lives mid result new)
 
 -- .. or memory is wanting before the first
+abbrev pub LivesAllSo : {W : Type 0} → Way W → Script → (first : Files → Type 0) → W → Result (Unit {0}) Fault → W → Type 0
+LivesAllSo way script first w result new = ((result ≡ Err NoMemory) × (new ≡ w)) ⊎ LivesFrom way script first 0 script.lives w result new
+
+-- A configuration that is refused ends the run before its lives, by the fault that says why.
 abbrev pub RunsAllSo : {W : Type 0} → Way W → Script → (first : Files → Type 0) → W → Result (Unit {0}) Fault → W → Type 0
-RunsAllSo way script first w result new = ((result ≡ Err NoMemory) × (new ≡ w)) ⊎ LivesFrom way script first 0 script.lives w result new
+RunsAllSo way script first w result new =
+    ((fault : Fault) × (refused_config script ≡ Some fault) × (result ≡ Err fault) × (new ≡ w)) ⊎ (IsChecked script × LivesAllSo way script first w result new)
+
+-- NO LIFE BEGAN: memory ran out before the first, or the configuration is refused; and all is as it was.
+pub record BeganNone (script : Script) (result : Result (Unit {0}) Fault) (Same : Type 0) : Type 0 where
+  pub why : (result ≡ Err NoMemory) ⊎ ((fault : Fault) × (refused_config script ≡ Some fault) × (result ≡ Err fault))
+  pub same : Same
 
 -- the line of the fault that ended the lives, which want of memory has not
 abbrev pub TellsEnd : {W : Type 0} → Way W → (its answered : Result (Unit {0}) Fault) → W → W → Type 0

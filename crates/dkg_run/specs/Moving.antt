@@ -10,7 +10,7 @@ use Rattle.dkg_store.specs.Acts.{World, at, moment}
 use Rattle.dkg_secrets.specs.Secrets.{Secrets}
 use Rattle.dkg_store.specs.declared.devices.Devices.{Devices}
 use Rattle.dkg_secrets.specs.declared.secrets.SecretOp.{SecretOp}
-use Rattle.dkg_reshare.specs.Ends.{IsCaused}
+use Rattle.dkg_reshare.specs.Ends.{IsCausedBy}
 use Rattle.dkg_reshare.specs.declared.stop.Stop.{Stop}
 use Rattle.dkg_run.specs.Causes.{HasCause, StopHasCause}
 use Rattle.dkg_run.specs.Stopped.{Stopped}
@@ -38,7 +38,7 @@ abbrev pub StopBlames : {D X : Type 0} → (D → ℕ) → (X → ℕ) → (old 
 StopBlames disk_faults secret_faults old new stop =
     StopHasCause stop (Rose (disk_faults old.disk.now) (disk_faults new.disk.now)) (Rose (secret_faults old.secrets.now) (secret_faults new.secrets.now))
 
--- .. in a step, which reads no record
-abbrev pub StepBlames : {D X : Type 0} → (D → ℕ) → (X → ℕ) → (old new : Devices D X) → Stop → Type 0
-StepBlames disk_faults secret_faults old new stop =
-    IsCaused stop (Rose (disk_faults old.disk.now) (disk_faults new.disk.now)) (Rose (secret_faults old.secrets.now) (secret_faults new.secrets.now)) ⊤
+-- .. in a step, which blames a record of a disk that tells none alone
+abbrev pub StepBlames : {D X : Type 0} → (tells : Bool) → (D → ℕ) → (X → ℕ) → (old new : Devices D X) → Stop → Type 0
+StepBlames tells disk_faults secret_faults old new stop =
+    IsCausedBy tells stop (Rose (disk_faults old.disk.now) (disk_faults new.disk.now)) (Rose (secret_faults old.secrets.now) (secret_faults new.secrets.now)) ⊤

@@ -1,8 +1,8 @@
 -- A node between two steps, as the relation's Live.
-use Rattle.std.specs.Prelude.{ℕ, ◌<◌, ◌≡◌, ⊤, Bool, true, false, Contains, List, None, Option, Some, Result, Ok, Err, IsSome, IsSomeAnd, slice_get}
-use Rattle.std.specs.Int.NonZero.{non_zero_u64_get}
-use Rattle.dkg_ceremony.specs.Acks.{ack_of}
-use Rattle.dkg_ceremony.specs.Schedule.{midpoint}
+use Rattle.std.specs.Prelude.{ℕ, ◌<◌, ◌≡◌, ⊤, Bool, true, false, Contains, List, None, Some, Result, Ok, Err, IsSome, IsSomeAnd, slice_get}
+use Rattle.dkg_ceremony.specs.Acks.{ack_of, check_ack_of}
+use Rattle.dkg_ceremony.specs.Deals.{deal_of}
+use Rattle.dkg_ceremony.specs.Schedule.{last}
 use Rattle.dkg_fence.specs.Readiness.{Readiness}
 use Rattle.dkg_journal.specs.Names.{Files}
 use Rattle.dkg_store.specs.Acts.{Ended, went}
@@ -18,15 +18,17 @@ use Rattle.dkg_core.specs.Entering.{is_ready}
 use Rattle.dkg_core.specs.Fixed.{Fixed}
 use Rattle.dkg_core.specs.Live.{Live, NodeStop, with_orchestrator}
 use Rattle.dkg_core.specs.Sources.{Source}
-use Rattle.dkg_core.specs.Today.{IsFormOfToday, OnInfo, first_epoch}
-use Rattle.dkg_reshare.specs.Actors.{IsAt}
+use Rattle.dkg_core.specs.Today.{OnInfo, first_epoch}
+use Rattle.dkg_reshare.specs.Actors.{IfLiving, IsAt, TakesBlock}
 use Rattle.dkg_reshare.specs.Given.{IsOf}
 use Rattle.dkg_reshare.specs.LiveOf.{Beside, live_of}
+use Rattle.dkg_reshare.specs.declared.actor.State.{State}
 use Rattle.dkg_reshare.specs.declared.actor.State.TheVariants.{Living}
 use Rattle.dkg_reshare.specs.declared.life.Life as reshare
 use Rattle.dkg_reshare.specs.declared.stop.Stop.{Stop}
 use Rattle.dkg_run.specs.Ended.{by_node_stop}
-use Rattle.dkg_run.specs.Given.{Lived, at_step, blocks_in}
+use Rattle.dkg_run.specs.Epochs.{IsAt as StandsAt, IsLifeOver}
+use Rattle.dkg_run.specs.Given.{IsUnplanned, Lived, at_step, blocks_in}
 use Rattle.dkg_run.specs.declared.half.Half.{Half}
 use Rattle.dkg_run.specs.declared.held.HeldBlocks.{HeldBlocks}
 use Rattle.dkg_run.specs.declared.node.Node.{Node}
@@ -48,11 +50,11 @@ abbrev pub ends_half : Readiness → Live directory.Unit → Result Half Stop �
 ends_half fence st (Ok half) = went (with_half half fence st)
 ends_half fence st (Err stop) = by_node_stop stop
 
--- A Fixed of today's form that this half's opening is given.
+-- A Fixed that this half's opening is given: no plan is read.
 pub record IsHalfGiven (blocks : ℕ) (source : Source directory.Unit) (c : Fixed directory.Unit) : Type 0 where
   pub blocks_are : c.blocks_per_epoch ≡ blocks
   pub lent : c.source ≡ source
-  pub today : IsFormOfToday c
+  pub unplanned : IsUnplanned c.seen
   pub lacks : (d : directory.Unit) (peers : TrackedPeers) → c.directories.lacking d peers ≡ None
 
 -- Where its boundary block carries the epoch's info, the fence is ready for the epoch in which the life starts.
@@ -79,12 +81,17 @@ pub record IsView (node : Node) (st : Live directory.Unit) : Type 0 where
 
 -- It goes on over these devices.
 pub record IsReadyNode {D X : Type 0} (tells : Bool) (files : D → Files) (image : D → Files → Type 0) (node : Node) (devices : Devices D X) : Type 0 where
-  pub at : IsAt tells files image ack_of node.actor.terms node.actor.state devices
+  pub at : IsAt tells files image ack_of deal_of check_ack_of node.actor.terms node.actor.state devices
   pub viewed : (st : Live directory.Unit) × IsView node st
 
--- Its configuration is that of the life.
+-- Its configuration is that of the life, and so is its random word.
 pub record IsOfLife (g : Lived) (node : Node) : Type 0 where
   pub of : (taken : ℕ) → IsOf node.actor.terms (at_step g taken)
+  pub word : IfLiving node.actor.state (λ its. its.word ≡ g.life.word)
+
+-- This half has entered no epoch whose last block this height is, or stands below.
+abbrev pub IsBelow : (per_epoch : ℕ) → Half → (height : ℕ) → Type 0
+IsBelow per_epoch half height = (epoch : ℕ) → half.halted ≡ false → half.entered ≡ Some epoch → height < last per_epoch epoch
 
 -- how a call of a node ended, in a view of what it left
 abbrev pub Viewed : Node → Result (Unit {0}) Stop → (Ended NodeStop (Live directory.Unit) → Type 0) → Type 0
@@ -107,15 +114,24 @@ pub record IsStepHere (g : Lived) (node : Node) (blocks : List (Block directory.
   pub blocks_are : blocks ≡ blocks_in g.script
   pub life_is : g.life ≡ life
 
+-- There is a life of a script behind whose opening it goes on.
+pub record HasOpened (node : Node) (blocks : List (Block directory.Unit)) (life : Life) : Type 0 where
+  pub g : Lived
+  pub here : IsLifeOver g
+  pub of : IsStepHere g node blocks life
+  pub st : Live directory.Unit
+  pub view : IsView node st
+  pub at : StandsAt g 0 st
+
 -- EVENTS
 
--- An event of today: a message, or one of these blocks that lies below the midpoint.
-abbrev pub IsEventOfBlocks : (per_epoch : ℕ) → List (Block directory.Unit) → Event → Type 0
-IsEventOfBlocks per_epoch blocks (Peer from bytes) = ⊤
-IsEventOfBlocks per_epoch blocks (Final number) = IsSomeAnd (slice_get blocks number) (λ b. b.height < midpoint per_epoch 0)
-IsEventOfBlocks per_epoch blocks event = ⊥
+-- A message, or one of these blocks that the actor takes.
+abbrev pub IsEventOfBlocks : (per_epoch : ℕ) → List (Block directory.Unit) → State directory.Unit → Event → Type 0
+IsEventOfBlocks per_epoch blocks state (Peer from bytes) = ⊤
+IsEventOfBlocks per_epoch blocks state (Final number) = IsSomeAnd (slice_get blocks number) (λ b. IfLiving state (λ life. TakesBlock per_epoch life b))
+IsEventOfBlocks per_epoch blocks state event = ⊥
 
 -- .. which is held by then.
-abbrev pub IsEventHere : (per_epoch : ℕ) → HeldBlocks → Event → Type 0
-IsEventHere per_epoch source (Final number) = Contains source.numbers.items number × IsEventOfBlocks per_epoch source.blocks.now (Final number)
-IsEventHere per_epoch source event = IsEventOfBlocks per_epoch source.blocks.now event
+abbrev pub IsEventHere : (per_epoch : ℕ) → HeldBlocks → State directory.Unit → Event → Type 0
+IsEventHere per_epoch source state (Final number) = Contains source.numbers.items number × IsEventOfBlocks per_epoch source.blocks.now state (Final number)
+IsEventHere per_epoch source state event = IsEventOfBlocks per_epoch source.blocks.now state event

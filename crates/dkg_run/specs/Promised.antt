@@ -6,16 +6,18 @@ use Rattle.dkg_types.specs.declared.entry.Entry.{Entry}
 use Rattle.dkg_types.specs.declared.fault.Fault.{Fault}
 use Rattle.dkg_types.specs.declared.fault.Fault.TheVariants.{NoMemory}
 use Rattle.dkg_text.specs.declared.script.Script.{Script}
-use Rattle.dkg_script.specs.Ends.{EndsRun}
 use Rattle.dkg_script.specs.AsCut.{setting_as_cut}
+use Rattle.dkg_script.specs.SameOffers.{OffersTheSame}
 use Rattle.dkg_script.specs.Promise.{AnswersDealings, KeepsDealings, RunsAll, RunsInOrder, cuts_in}
 use Rattle.dkg_run.specs.Complete.{IsSoundRun, IsValidAsCut}
-use Rattle.dkg_run.specs.Found.{AreFound, reader_in}
-use Rattle.dkg_run.specs.GivesBack.{GivesBack}
+use Rattle.dkg_run.specs.Blamed.{BlamesSo}
+use Rattle.dkg_run.specs.EndsOver.{EndsScript}
+use Rattle.dkg_run.specs.Epochs.{IsChecked, refused_config}
+use Rattle.dkg_run.specs.FoundOver.{EachFault, IsFoundRecord, ShowsOver}
+use Rattle.dkg_run.specs.GivesBack.{GivesBack, limit_in}
 use Rattle.dkg_run.specs.Lives.{AnyFiles, RunsOver, RunsSo, never}
 use Rattle.dkg_run.specs.Over.{Over}
 use Rattle.dkg_run.specs.Refusals.{BlamesOnlySkips}
-use Rattle.dkg_run.specs.Refused.{RefusesSo}
 use Rattle.dkg_run.specs.Ways.{by_lines, trace}
 
 -- THE ENTRIES are those of a node run of the script, whatever the devices tell: a step that is ended early gives a front of its lines. Each life's end
@@ -36,23 +38,27 @@ pub record Promised (script : Script) (o : Over) (result : Result (Unit {0}) Fau
   -- Whatever ends the run, the entries are in order, and at Ok every life was run.
   pub in_order : RunsInOrder script added
   pub all : OnOk result (RunsAll script added)
-  -- A fault is the last of them, the only one, and one that has its cause.
-  pub ends : EndsRun result added o.disk_rose o.secrets_rose
-  -- A corrupt record or a refused dealing that it blames is found on the devices as the call leaves them.
-  pub found : o.tells → AreFound (reader_in script) o.now.files o.now.held added
-  -- From here on the script is judged as it was cut. In a consistent one no block is refused but one that skips a height.
+  -- A fault is the last of them, the only one, and one that can be told; a device's is told where its count rose, and a configuration that is refused before all lives.
+  pub ends : EndsScript (refused_config script) result added o.disk_rose o.secrets_rose
+  -- Whatever the devices tell, each fault has its cause in the step in hand, by the script or by the node's own state, and no completed step has one by the script.
+  pub blamed : IsChecked script → BlamesSo script added
+  -- A corrupt record that a fault names is found on the devices as the call leaves them, and so are the dealings that it blames.
+  pub corrupt : o.disk_tells → EachFault (IsFoundRecord (limit_in script) o.now.files) added
+  pub found : o.tells → Stands o.before.files o.before.image → EachFault (ShowsOver script o.now.files o.now.held) added
+  -- From here on the script is judged as it was cut. In a consistent one no block is refused but one that skips a height, or that lies outside the window.
   pub skips : IfErr result (λ fault. o.tells → (let s = setting_as_cut script o.before.files o.before.held added in BlamesOnlySkips s o.before.image (cuts_in s added) fault))
-  -- Whatever the script is and the devices tell, a fault blames a block just where the step in hand refuses it, by the tip that its life had.
-  pub refused : RefusesSo script added
   -- The transcript and the devices keep each recorded dealing; and at Ok each dealing that was due was acknowledged.
   pub kept : o.tells → KeepsDealings script o.before.files o.before.held o.before.image o.now.image o.now.held added
   pub answered : OnOk result (o.tells → AnswersDealings script o.before.files o.before.held o.before.image added)
+  -- To a player of an epoch one half alone is offered.
+  pub offers : o.tells → Stands o.before.files o.before.image → OffersTheSame script o.before.files o.before.held added
   -- A valid script over valid devices, of which no count rises, is run to its end, unless memory runs out.
   pub complete : IfErr result (λ fault. IsSoundRun o (IsValidAsCut script added) → fault ≡ NoMemory)
+  -- A second call stands under what this one leaves.
+  pub gives_back : o.tells → GivesBack script result o.before o.now added
 
 -- ALL OF IT, for whoever hands it on
 pub record RunsLives (script : Script) (o : Over) (out : List Entry) (result : Result (Unit {0}) Fault) (added : List Entry) : Type 0 where
   pub lines : SaysRun script o out result (out ++ added)
   pub run : DoesRun script o out result (out ++ added)
   pub promise : Promised script o result added
-  pub gives_back : o.tells → GivesBack (reader_in script) result o.before o.now

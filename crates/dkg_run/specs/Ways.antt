@@ -47,11 +47,10 @@ by_worlds = record {
   refuses = λ stop w new. IsBroken stop × (new.out ≡ w.out) × StaysHeld w.held new.held;
 }
 
--- something was read, but neither a share nor a plan
+-- something was read, but no plan
 pub record ReadsSomething (seen : Held → Seen) : Type 0 where
   pub read : Seen
   pub each : seen ≡ (λ h. read)
-  pub shareless : read.shares ≡ []
   pub unplanned : read.plan ≡ None
 
 -- a transcript, and the picks with which both devices have stopped

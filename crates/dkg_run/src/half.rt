@@ -1,10 +1,11 @@
 //! The orchestrator's half of a node: which epoch it has entered, and which blocks it acknowledges.
 //!
-//! It enters the epoch of the height above its source's position, and a life ends within that epoch.
+//! It enters the epoch of the height above its source's position, or halts without that epoch's boundary block. In an epoch that
+//! was entered, a life ends below its last block.
 ghost use Rattle.std.specs.Prelude.{◌≡◌, ◌<◌, ◌+◌, ◌++◌, ◌∷◌, [], ◌^◌, ℕ, IfErr, IfNone, IfOk, IfSome, true, false, None, Some};
 ghost use Rattle.std.specs.Int.NonZero.{non_zero_u64_get};
 ghost use Rattle.std.specs.Option.{option_map_or};
-ghost use Rattle.dkg_ceremony.specs.Schedule.{boundary, first, midpoint};
+ghost use Rattle.dkg_ceremony.specs.Schedule.{boundary, first};
 ghost use Rattle.dkg_fence.specs.Fence.{waited};
 ghost use Rattle.dkg_fence.specs.declared.fence.Waited.TheVariants as waits;
 ghost use Rattle.dkg_types.specs.Blocks as blocks;
@@ -21,7 +22,7 @@ ghost use Rattle.dkg_reshare.specs.declared.stop.Stop.TheVariants.{Fault as Faul
 ghost use Rattle.dkg_types.specs.declared.fault.Fault.TheVariants.{NoMemory};
 ghost use Rattle.dkg_run.specs.Ended.{ends_node};
 ghost use Rattle.dkg_run.specs.Halves.{IsStartOf, beginning_of};
-ghost use Rattle.dkg_run.specs.Nodes.{HasHalf, IsFenceReady, IsHalfGiven, MayEnter, ends_half};
+ghost use Rattle.dkg_run.specs.Nodes.{HasHalf, IsBelow, IsFenceReady, IsHalfGiven, MayEnter, ends_half};
 
 use dkg_ceremony::{Bounds, Epoch, Epocher, Height};
 use dkg_fence::{Fence, Waited};
@@ -135,11 +136,10 @@ impl Half {
         enter(bounds.epoch, fence, out)
     }
 
-    /// Acknowledges a block below the first midpoint.
+    /// Acknowledges a block below the last one of the epoch that was entered.
     pub fn acknowledge(&self, height: Height, out: &mut Transcript) -> Result<(), Stop>
         ensures speaks { (c : Fixed directory.Unit) (st : Live directory.Unit) (b : blocks.Block directory.Unit) → b.height ≡ height
-            → height < midpoint c.blocks_per_epoch 0
-            → HasHalf self.now st
+            → IsBelow c.blocks_per_epoch self.now height → HasHalf self.now st
             → Speaks (bind (delivered c b st) (λ half. acked_at b.height half.answer half.live)) (ends_node st result) out.old.entries out.new.entries }
         ensures memory { IfErr result (λ stop. stop ≡ FaultOf NoMemory) }
     {

@@ -4,7 +4,7 @@
 //! other life ends by its stop. Either way both devices crash.
 ghost use Rattle.std.specs.Prelude.{◌≡◌, ◌⊎◌, ◌++◌, ◌∷◌, [], ℕ, IfErr, IsSome, IsTrue, OnOk, None, Some, Ok, Err, List, filter_map, slice_get};
 ghost use Rattle.std.specs.Int.NonZero.{non_zero_u32_get, non_zero_u64_get};
-ghost use Rattle.std.specs.List.{AllByRecursion};
+ghost use Rattle.dkg_journal.specs.Burn.{Burn};
 ghost use Rattle.dkg_journal.specs.Disk.{Lands};
 ghost use Rattle.dkg_journal.specs.Names.{Files};
 ghost use Rattle.dkg_types.specs.declared.directory.Unit as directory;
@@ -15,21 +15,19 @@ ghost use Rattle.dkg_store.specs.Corrupt.{AreFit};
 ghost use Rattle.dkg_core.specs.Live.{Live};
 ghost use Rattle.dkg_core.specs.Seen.{Seen};
 ghost use Rattle.dkg_script.specs.Blocks.{delivered_number};
-ghost use Rattle.dkg_script.specs.Form.{IsFormOfToday};
+ghost use Rattle.dkg_script.specs.Epochs.{IsFormOfEpochs};
 ghost use Rattle.dkg_script.specs.Promise.{Adds};
 ghost use Rattle.dkg_reshare.specs.Today.{seen_today};
 ghost use Rattle.dkg_reshare.specs.declared.stop.Stop.TheVariants.{Cut as AtCut, Failed as HadFailed, Fault as FaultOf};
 ghost use Rattle.dkg_run.specs.Causes.{HasCause, IfFault};
-ghost use Rattle.dkg_run.specs.Found.{IsFound, reader_in};
-ghost use Rattle.dkg_run.specs.Given.{AreBytes, Lived, blocks_in, limits_of, lived, step_of};
-ghost use Rattle.dkg_run.specs.GivesBack.{GivesBack};
-ghost use Rattle.dkg_run.specs.Lives.{AnyFiles, EndsLife, LivesHere, LivesSo, RunsAllSo, Steps, TakesAll, TellsEnd, fuse_for};
+ghost use Rattle.dkg_run.specs.FoundOver.{IsFoundRecord};
+ghost use Rattle.dkg_run.specs.Epochs.{IsAt, IsChecked, IsEarlyEvent, IsLifeOver, MayStep};
+ghost use Rattle.dkg_run.specs.Given.{AreBytes, Lived, at_step, blocks_in, limits_of, lived, step_of};
+ghost use Rattle.dkg_run.specs.Lives.{AnyFiles, BeganNone, EndsLife, LivesHere, LivesSo, RunsAllSo, Steps, TakesAll, TellsEnd, fuse_for};
 ghost use Rattle.dkg_run.specs.Moving.{Blames, StepBlames, StopBlames, Went, world_of};
-ghost use Rattle.dkg_run.specs.Nodes.{IsEventOfBlocks, IsReadyNode, IsStepHere, IsView};
-ghost use Rattle.dkg_run.specs.Over.{over, standing};
-ghost use Rattle.dkg_run.specs.Passing.{ArePassing};
+ghost use Rattle.dkg_run.specs.Nodes.{HasOpened, IsEventOfBlocks, IsOfLife, IsReadyNode, IsStepHere, IsView};
+ghost use Rattle.dkg_run.specs.Over.{over};
 ghost use Rattle.dkg_run.specs.Promised.{DoesRun, Promised, SaysRun};
-ghost use Rattle.dkg_run.specs.Sources.{IsSourceOf};
 ghost use Rattle.dkg_run.specs.Stopped.{picks_at_end};
 ghost use Rattle.dkg_run.specs.Ways.{by_lines, by_worlds, trace};
 
@@ -38,7 +36,7 @@ use crate::held::HeldBlocks;
 use crate::node::Node;
 use dkg_ceremony::{Mem, Value};
 use dkg_journal::{Disk, Fuse};
-use dkg_reshare::Stop;
+use dkg_reshare::{Stop, check_config};
 use dkg_script::{Cut, Event, Life, Script};
 use dkg_store::{Devices, SecretStore};
 use dkg_types::{Block, Entry, Fault, Transcript, Unit};
@@ -102,24 +100,30 @@ fn take_step<D: Disk, X: SecretStore>(
     devices: &mut Devices<'_, D, X>,
     out: &mut Transcript,
 ) -> Result<(), Stop>
-    requires here { IsEventOfBlocks (non_zero_u64_get node.old.actor.terms.blocks_per_epoch) source.old.blocks.now event.now }
+    requires here { (f : Burn) → fuse_for life.now.cut number ≡ Some f
+        → IsEventOfBlocks (non_zero_u64_get node.old.actor.terms.blocks_per_epoch) source.old.blocks.now node.old.actor.state event.now }
     requires ready { IsReadyNode D.tells D.files D.image node.old devices.old }
     ensures ready { OnOk result (IsReadyNode D.tells D.files D.image node.new devices.new) }
     ensures terms { node.new.actor.terms ≡ node.old.actor.terms }
+    ensures of { (g : Lived) → IsOfLife g node.old → IsOfLife g node.new }
     ensures source { (source.new.blocks ≡ source.old.blocks) × (source.new.anchor ≡ source.old.anchor)
         × OnOk result (source.new.numbers.items ≡ source.old.numbers.items ++ filter_map delivered_number (event.now ∷ [])) }
     // It is the relation's step with its fuse, over the lines, and over both devices, whatever image a crash leaves.
-    ensures lines { (g : Lived) (st : Live directory.Unit) (picks : List ℕ) → IsStepHere g node.old source.old.blocks.now life.now → IsView node.old st
+    ensures lines { (g : Lived) (st : Live directory.Unit) (picks : List ℕ) → IsStepHere g node.old source.old.blocks.now life.now → MayStep g number st
+        → ((f : Burn) → fuse_for life.now.cut number ≡ Some f → IsEarlyEvent (at_step g number).blocks_per_epoch (blocks_in g.script) st event.now)
+        → IsView node.old st
         → Steps by_lines (entry.Step number) (fuse_for life.now.cut number) (step_of g number event.now st)
         (trace out.old.entries picks) result (trace out.new.entries picks)
         (λ end now. (result ≡ Ok tt) × IsView node.new end × (now ≡ trace out.new.entries picks)) }
     ensures run { IsTrue D.tells → IsTrue X.tells → (g : Lived) (st : Live directory.Unit) → IsStepHere g node.old source.old.blocks.now life.now
+        → MayStep g number st
+        → ((f : Burn) → fuse_for life.now.cut number ≡ Some f → IsEarlyEvent (at_step g number).blocks_per_epoch (blocks_in g.script) st event.now)
         → IsView node.old st → (c : Files) → D.image devices.new.disk.now c
         → Steps by_worlds (entry.Step number) (fuse_for life.now.cut number) (step_of g number event.now st)
         (world_of X.held devices.old out.old.entries (D.files devices.old.disk.now)) result (world_of X.held devices.new out.new.entries c)
         (λ end w. (result ≡ Ok tt) × IsView node.new end × (w ≡ world_of X.held devices.new out.new.entries c)) }
     ensures went { Went D.tells D.made X.made D.faults X.faults devices.old devices.new [] }
-    ensures causes { IfErr result (StepBlames D.faults X.faults devices.old devices.new) }
+    ensures causes { IfErr result (StepBlames D.tells D.faults X.faults devices.old devices.new) }
     ensures fit { IsTrue D.tells → AreFit (non_zero_u32_get node.old.actor.terms.limit) (D.image devices.old.disk.now)
         → AreFit (non_zero_u32_get node.old.actor.terms.limit) (D.image devices.new.disk.now) }
 {
@@ -138,17 +142,19 @@ fn take_steps<D: Disk, X: SecretStore>(
     devices: &mut Devices<'_, D, X>,
     out: &mut Transcript,
 ) -> Result<(), Stop>
-    requires here { AllByRecursion (IsEventOfBlocks (non_zero_u64_get node.old.actor.terms.blocks_per_epoch) source.old.blocks.now) life.now.events }
+    requires here { HasOpened node.old source.old.blocks.now life.now }
+    requires begun { (f : Burn) × (fuse_for life.now.cut 0 ≡ Some f) }
     requires ready { IsReadyNode D.tells D.files D.image node.old devices.old }
-    ensures lines { (g : Lived) (st : Live directory.Unit) (picks : List ℕ) → IsStepHere g node.old source.old.blocks.now life.now → IsView node.old st
+    ensures lines { (g : Lived) (st : Live directory.Unit) (picks : List ℕ) → IsLifeOver g → IsStepHere g node.old source.old.blocks.now life.now
+        → IsView node.old st → IsAt g 0 st
         → TakesAll by_lines g 1 life.now.events st (trace out.old.entries picks) result (trace out.new.entries picks) }
-    ensures run { IsTrue D.tells → IsTrue X.tells → (g : Lived) (st : Live directory.Unit) → IsStepHere g node.old source.old.blocks.now life.now
-        → IsView node.old st → (c : Files) → D.image devices.new.disk.now c
+    ensures run { IsTrue D.tells → IsTrue X.tells → (g : Lived) (st : Live directory.Unit) → IsLifeOver g
+        → IsStepHere g node.old source.old.blocks.now life.now → IsView node.old st → IsAt g 0 st → (c : Files) → D.image devices.new.disk.now c
         → TakesAll by_worlds g 1 life.now.events st
         (world_of X.held devices.old out.old.entries (D.files devices.old.disk.now)) result (world_of X.held devices.new out.new.entries c) }
     ensures firm { OnOk result (IsTrue D.tells → Lands (D.files devices.new.disk.now) (D.image devices.new.disk.now)) }
     ensures went { Went D.tells D.made X.made D.faults X.faults devices.old devices.new [] }
-    ensures causes { IfErr result (StepBlames D.faults X.faults devices.old devices.new) }
+    ensures causes { IfErr result (StepBlames D.tells D.faults X.faults devices.old devices.new) }
     ensures fit { IsTrue D.tells → AreFit (non_zero_u32_get node.old.actor.terms.limit) (D.image devices.old.disk.now)
         → AreFit (non_zero_u32_get node.old.actor.terms.limit) (D.image devices.new.disk.now) }
 {
@@ -177,7 +183,8 @@ fn live<D: Disk, X: SecretStore>(
     devices: &mut Devices<'_, D, X>,
     out: &mut Transcript,
 ) -> Result<(), Stop>
-    requires form { IsFormOfToday script.now }
+    requires form { IsFormOfEpochs script.now }
+    requires checked { IsChecked script.now }
     requires here { (slice_get script.now.lives number ≡ Some life.now) × (blocks.now ≡ blocks_in script.now) }
     // It is a life of the node, over the lines and over both devices, whatever image a crash leaves.
     ensures lines { (seen : Held → Seen) × by_lines.reads seen × ((picks : List ℕ)
@@ -190,13 +197,10 @@ fn live<D: Disk, X: SecretStore>(
     ensures firm { OnOk result (IsTrue D.tells → Lands (D.files devices.new.disk.now) (D.image devices.new.disk.now)) }
     ensures went { Went D.tells D.made X.made D.faults X.faults devices.old devices.new [] }
     ensures causes { IfErr result (StopBlames D.faults X.faults devices.old devices.new) }
-    // A corrupt record or a refused dealing that it blames is found on the devices as they stand.
-    ensures found { IfErr result (λ stop. IsTrue D.tells → IsTrue X.tells
-        → IfFault stop (IsFound (reader_in script.now) (D.files devices.new.disk.now) (X.held devices.new.secrets.now))) }
+    // A corrupt record that it names stands on the devices as they are left.
+    ensures found { IfErr result (λ stop. IsTrue D.tells → IfFault stop (IsFoundRecord (limits_of script.now).most (D.files devices.new.disk.now))) }
     ensures fit { IsTrue D.tells → AreFit (limits_of script.now).most (D.image devices.old.disk.now)
         → AreFit (limits_of script.now).most (D.image devices.new.disk.now) }
-    ensures passing { IsTrue D.tells → IsTrue X.tells → ArePassing (reader_in script.now) (D.image devices.old.disk.now) (X.held devices.old.secrets.now)
-        → ArePassing (reader_in script.now) (D.image devices.new.disk.now) (X.held devices.new.secrets.now) }
 {
     begin_step(devices, &life.cut, 0)?;
     let mut source = HeldBlocks::new(alloc, blocks, life)?;
@@ -264,7 +268,8 @@ fn run_life<D: Disk, X: SecretStore>(
     devices: &mut Devices<'_, D, X>,
     out: &mut Transcript,
 ) -> Result<(), Fault>
-    requires form { IsFormOfToday script.now }
+    requires form { IsFormOfEpochs script.now }
+    requires checked { IsChecked script.now }
     requires here { (slice_get script.now.lives number ≡ Some life.now) × (blocks.now ≡ blocks_in script.now) }
     ensures lines { (added : List ℕ) × Went D.tells D.made X.made D.faults X.faults devices.old devices.new added
         × ((picks : List ℕ) → LivesHere by_lines script.now AnyFiles number life.now (trace out.old.entries picks) result
@@ -277,12 +282,9 @@ fn run_life<D: Disk, X: SecretStore>(
         (λ w. (result ≡ Ok tt) × (w ≡ world_of X.held devices.new out.new.entries c)) }
     ensures stands { OnOk result (IsTrue D.tells → Stands (D.files devices.new.disk.now) (D.image devices.new.disk.now)) }
     ensures causes { IfErr result (Blames D.faults X.faults devices.old devices.new) }
-    ensures found { IfErr result (λ fault. IsTrue D.tells → IsTrue X.tells
-        → IsFound (reader_in script.now) (D.files devices.new.disk.now) (X.held devices.new.secrets.now) fault) }
+    ensures found { IfErr result (λ fault. IsTrue D.tells → IsFoundRecord (limits_of script.now).most (D.files devices.new.disk.now) fault) }
     ensures fit { IsTrue D.tells → AreFit (limits_of script.now).most (D.image devices.old.disk.now)
         → AreFit (limits_of script.now).most (D.image devices.new.disk.now) }
-    ensures passing { IsTrue D.tells → IsTrue X.tells → ArePassing (reader_in script.now) (D.image devices.old.disk.now) (X.held devices.old.secrets.now)
-        → ArePassing (reader_in script.now) (D.image devices.new.disk.now) (X.held devices.new.secrets.now) }
 {
     let how = live(alloc, script, blocks, number, life, devices, out);
     end_life(life, how, devices, out)
@@ -295,7 +297,7 @@ fn run_all<D: Disk, X: SecretStore>(
     devices: &mut Devices<'_, D, X>,
     out: &mut Transcript,
 ) -> Result<(), Fault>
-    requires form { IsFormOfToday script.now }
+    requires form { IsFormOfEpochs script.now }
     ensures lines { (picks : List ℕ) × Went D.tells D.made X.made D.faults X.faults devices.old devices.new picks
         × RunsAllSo by_lines script.now AnyFiles (trace out.old.entries []) result (trace out.new.entries picks) }
     ensures run { IsTrue D.tells → IsTrue X.tells → Stands (D.files devices.old.disk.now) (D.image devices.old.disk.now) → (c : Files)
@@ -305,14 +307,18 @@ fn run_all<D: Disk, X: SecretStore>(
     ensures stands { OnOk result (IsTrue D.tells → Stands (D.files devices.old.disk.now) (D.image devices.old.disk.now)
         → Stands (D.files devices.new.disk.now) (D.image devices.new.disk.now)) }
     ensures causes { IfErr result (Blames D.faults X.faults devices.old devices.new) }
-    ensures found { IfErr result (λ fault. IsTrue D.tells → IsTrue X.tells
-        → IsFound (reader_in script.now) (D.files devices.new.disk.now) (X.held devices.new.secrets.now) fault) }
+    ensures found { IfErr result (λ fault. IsTrue D.tells → IsFoundRecord (limits_of script.now).most (D.files devices.new.disk.now) fault) }
     ensures fit { IsTrue D.tells → AreFit (limits_of script.now).most (D.image devices.old.disk.now)
         → AreFit (limits_of script.now).most (D.image devices.new.disk.now) }
-    ensures passing { IsTrue D.tells → IsTrue X.tells → ArePassing (reader_in script.now) (D.image devices.old.disk.now) (X.held devices.old.secrets.now)
-        → ArePassing (reader_in script.now) (D.image devices.new.disk.now) (X.held devices.new.secrets.now) }
-    ensures bytes { IfErr result (λ fault. (fault ≡ NoMemory) ⊎ AreBytes script.now.blocks) }
+    // Lives begin where the configuration is not refused and there is memory for the blocks. Else all is as it was.
+    ensures begun { (IsChecked script.now × AreBytes script.now.blocks)
+        ⊎ BeganNone script.now result ((devices.new ≡ devices.old) × (out.new.entries ≡ out.old.entries)) }
 {
+    check_config(
+        script.config.mode,
+        script.config.max_mode,
+        script.config.blocks_per_epoch,
+    )?;
     let blocks = blocks_of(alloc, script)?;
     for (i, life) in script.lives.as_slice().iter().enumerate() {
         run_life(alloc, script, &blocks, i as u64, life, devices, out)?;
@@ -345,7 +351,7 @@ pub fn run_lives<D: Disk, X: SecretStore>(
     secrets: &mut X,
     out: &mut Transcript,
 ) -> Result<(), Fault>
-    requires form { IsFormOfToday script.now }
+    requires form { IsFormOfEpochs script.now }
     // The entries of each life are those of a node run of the script, whatever the devices tell; a step that is ended early gives a front of its lines.
     // Each life's end stopped both devices, each with its pick.
     ensures lines { SaysRun script.now
@@ -356,12 +362,9 @@ pub fn run_lives<D: Disk, X: SecretStore>(
     ensures run { DoesRun script.now
         (over D.tells D.files D.image D.faults D.made X.tells X.held X.faults X.made (disk.old, secrets.old) (disk.new, secrets.new))
         out.old.entries result out.new.entries }
-    // What follows of the dealings, the order and the faults.
+    // What follows of the dealings, the offers, the order and the faults, and that a second call stands under what this one leaves.
     ensures promise { Adds out.old.entries out.new.entries (Promised script.now
         (over D.tells D.files D.image D.faults D.made X.tells X.held X.faults X.made (disk.old, secrets.old) (disk.new, secrets.new)) result) }
-    // A second call stands under what this one leaves.
-    ensures gives_back { IsTrue D.tells → IsTrue X.tells → GivesBack (reader_in script.now) result
-        (standing (D.files disk.old) (D.image disk.old) (X.held secrets.old)) (standing (D.files disk.new) (D.image disk.new) (X.held secrets.new)) }
 {
     let mut devices = Devices {
         disk,

@@ -1,7 +1,6 @@
 //! A node in one life: the reshare actor, and the orchestrator's half behind it.
-ghost use Rattle.std.specs.Prelude.{◌≡◌, ◌<◌, ℕ, IfErr, IfOk, IsTrue, OnOk};
+ghost use Rattle.std.specs.Prelude.{◌≡◌, ℕ, IfErr, IfOk, IsTrue, OnOk};
 ghost use Rattle.std.specs.Int.NonZero.{non_zero_u32_get, non_zero_u64_get};
-ghost use Rattle.dkg_ceremony.specs.Schedule.{midpoint};
 ghost use Rattle.dkg_ceremony.specs.declared.mode.Reveal.TheVariants.{V1};
 ghost use Rattle.dkg_journal.specs.Disk.{Rose};
 ghost use Rattle.dkg_journal.specs.Fuse.{Reached};
@@ -10,14 +9,15 @@ ghost use Rattle.dkg_types.specs.declared.directory.Unit as directory;
 ghost use Rattle.dkg_text.specs.declared.script.Event.TheVariants as event;
 ghost use Rattle.dkg_core.specs.Live.{Delivers, Live};
 ghost use Rattle.dkg_core.specs.Node.{node_opening, node_step};
-ghost use Rattle.dkg_reshare.specs.Actors.{IsFoundAt};
-ghost use Rattle.dkg_reshare.specs.Ends.{IsCaused};
+ghost use Rattle.dkg_reshare.specs.Actors.{IfLiving, IsFoundAt, TakesBlock};
+ghost use Rattle.dkg_reshare.specs.Ends.{IsCausedBy};
 ghost use Rattle.dkg_reshare.specs.Given.{AreGivenFrom, HasRead};
 ghost use Rattle.dkg_reshare.specs.Made.{Makes, Tells, UnlessBroken};
 ghost use Rattle.dkg_reshare.specs.Moved.{Moved, StaysAbove};
 ghost use Rattle.dkg_reshare.specs.Opened.{IsInGrammar, OpensReadable};
 ghost use Rattle.dkg_reshare.specs.Today.{seen_today};
-ghost use Rattle.dkg_run.specs.Given.{Lived, ReadsNeither, at_step, blocks_in, limits_of, lived, step_of};
+ghost use Rattle.dkg_run.specs.Epochs.{IsEarly, IsEarlyEvent, MayStep};
+ghost use Rattle.dkg_run.specs.Given.{IsUnplanned, Lived, at_step, blocks_in, limits_of, lived, starts_above, step_of};
 ghost use Rattle.dkg_run.specs.Nodes.{IsEventHere, IsOfLife, IsReadyNode, IsView, Viewed, ViewedNew, ended_new};
 ghost use Rattle.dkg_run.specs.Sources.{IsToOpen};
 
@@ -85,15 +85,16 @@ impl Node {
         requires here { IsToOpen script.now number life.now source.now }
         // It goes on over these devices alone, as a node of this life.
         ensures ready { IfOk result (λ node. IsReadyNode D.tells D.files D.image node devices.new) }
-        ensures of { IfOk result (λ node. (g : Lived) → g.script ≡ script.now → ReadsNeither g.seen → IsOfLife g node) }
+        ensures of { IfOk result (λ node. (g : Lived) → g.script ≡ script.now → g.life ≡ life.now → IsUnplanned g.seen → IsOfLife g node) }
         // It is the relation's opening of a journal in its grammar, and each act was made, whatever image a crash leaves.
         ensures acts { IsTrue D.tells → IsTrue X.tells → IsInGrammar (limits_of script.now).most (D.files devices.old.disk.now)
             → ViewedNew result (λ ended. Makes D.files D.image X.held
             (node_opening (at_step (lived script.now number life.now seen_today (D.files devices.old.disk.now)) 0))
             ended devices.old devices.new out.old.entries out.new.entries) }
-        // Whatever the devices tell, its lines are those of an opening that has read something.
+        // Whatever the devices tell, its lines are those of an opening that has read something: where they tell, of the epoch before the one in which it
+        // starts and later ones the dealings that each image gives back.
         ensures tells { HasRead (λ s. UnlessBroken (ended_new result) (IsTrue D.tells → IsTrue X.tells
-            → AreGivenFrom 0 s.dealings (D.image devices.new.disk.now) (X.held devices.new.secrets.now)))
+            → AreGivenFrom (starts_above script.now number life.now) s.dealings (D.image devices.new.disk.now) (X.held devices.new.secrets.now)))
             (λ s. ViewedNew result (λ ended. Tells (node_opening (at_step (lived script.now number life.now (λ h. s) (D.files devices.old.disk.now)) 0))
             ended out.old.entries out.new.entries)) }
         // A journal that is not in its grammar is not opened: nothing is told, and all stays.
@@ -105,8 +106,8 @@ impl Node {
         ensures causes { IfErr result (λ stop. IsFoundAt (limits_of script.now).most D.tells (D.files devices.new.disk.now) stop
             (Rose (D.faults devices.old.disk.now) (D.faults devices.new.disk.now)) (Rose (X.faults devices.old.secrets.now) (X.faults devices.new.secrets.now))
             (Reached devices.old.fuse devices.new.fuse)) }
-        // Where something was loose: what a crash leaves stays in its grammar, and gives the same dealings back.
-        ensures loose { IsTrue D.tells → StaysAbove 0 (D.image devices.old.disk.now) (D.image devices.new.disk.now)
+        // Where something was loose: what a crash leaves stays in its grammar, and gives the same dealings of those epochs back.
+        ensures loose { IsTrue D.tells → StaysAbove (starts_above script.now number life.now) (D.image devices.old.disk.now) (D.image devices.new.disk.now)
             (X.held devices.old.secrets.now) (X.held devices.new.secrets.now) }
     {
         let config = config_of(alloc, &script.config)?;
@@ -130,13 +131,15 @@ impl Node {
         requires ready { IsReadyNode D.tells D.files D.image self.old devices.old }
         ensures ready { OnOk result (IsReadyNode D.tells D.files D.image self.new devices.new) }
         ensures terms { self.new.actor.terms ≡ self.old.actor.terms }
-        ensures acts { IsTrue D.tells → IsTrue X.tells → (g : Lived) (number : ℕ) (st : Live directory.Unit) → IsOfLife g self.old → IsView self.old st
+        ensures of { (g : Lived) → IsOfLife g self.old → IsOfLife g self.new }
+        ensures acts { IsTrue D.tells → IsTrue X.tells → (g : Lived) (number : ℕ) (st : Live directory.Unit) → IsOfLife g self.old → MayStep g number st
+            → IsView self.old st
             → Viewed self.new result (λ ended. Makes D.files D.image X.held (step_of g number (event.Peer from bytes.now) st) ended
             devices.old devices.new out.old.entries out.new.entries) }
-        ensures tells { (g : Lived) (number : ℕ) (st : Live directory.Unit) → IsOfLife g self.old → IsView self.old st
+        ensures tells { (g : Lived) (number : ℕ) (st : Live directory.Unit) → IsOfLife g self.old → MayStep g number st → IsView self.old st
             → Viewed self.new result (λ ended. Tells (step_of g number (event.Peer from bytes.now) st) ended out.old.entries out.new.entries) }
         ensures moved { Moved D.tells D.made X.made D.faults X.faults devices.old devices.new }
-        ensures causes { IfErr result (λ stop. IsCaused stop (Rose (D.faults devices.old.disk.now) (D.faults devices.new.disk.now))
+        ensures causes { IfErr result (λ stop. IsCausedBy D.tells stop (Rose (D.faults devices.old.disk.now) (D.faults devices.new.disk.now))
             (Rose (X.faults devices.old.secrets.now) (X.faults devices.new.secrets.now)) (Reached devices.old.fuse devices.new.fuse)) }
         ensures fit { IsTrue D.tells → AreFit (non_zero_u32_get self.old.actor.terms.limit) (D.image devices.old.disk.now)
             → AreFit (non_zero_u32_get self.old.actor.terms.limit) (D.image devices.new.disk.now) }
@@ -156,17 +159,20 @@ impl Node {
         devices: &mut Devices<'_, D, X>,
         out: &mut Transcript,
     ) -> Result<(), Stop>
-        requires early { block.now.height < midpoint (non_zero_u64_get self.old.actor.terms.blocks_per_epoch) 0 }
+        requires taken { IfLiving self.old.actor.state (λ life. TakesBlock (non_zero_u64_get self.old.actor.terms.blocks_per_epoch) life block.now) }
         requires ready { IsReadyNode D.tells D.files D.image self.old devices.old }
         ensures ready { OnOk result (IsReadyNode D.tells D.files D.image self.new devices.new) }
         ensures terms { self.new.actor.terms ≡ self.old.actor.terms }
-        ensures acts { IsTrue D.tells → IsTrue X.tells → (g : Lived) (number : ℕ) (st : Live directory.Unit) → IsOfLife g self.old → IsView self.old st
+        ensures of { (g : Lived) → IsOfLife g self.old → IsOfLife g self.new }
+        ensures acts { IsTrue D.tells → IsTrue X.tells → (g : Lived) (number : ℕ) (st : Live directory.Unit) → IsOfLife g self.old → MayStep g number st
+            → IsEarly (at_step g number).blocks_per_epoch st block.now → IsView self.old st
             → Viewed self.new result (λ ended. Makes D.files D.image X.held (node_step (at_step g number) (Delivers block.now) st) ended
             devices.old devices.new out.old.entries out.new.entries) }
-        ensures tells { (g : Lived) (number : ℕ) (st : Live directory.Unit) → IsOfLife g self.old → IsView self.old st
+        ensures tells { (g : Lived) (number : ℕ) (st : Live directory.Unit) → IsOfLife g self.old → MayStep g number st
+            → IsEarly (at_step g number).blocks_per_epoch st block.now → IsView self.old st
             → Viewed self.new result (λ ended. Tells (node_step (at_step g number) (Delivers block.now) st) ended out.old.entries out.new.entries) }
         ensures moved { Moved D.tells D.made X.made D.faults X.faults devices.old devices.new }
-        ensures causes { IfErr result (λ stop. IsCaused stop (Rose (D.faults devices.old.disk.now) (D.faults devices.new.disk.now))
+        ensures causes { IfErr result (λ stop. IsCausedBy D.tells stop (Rose (D.faults devices.old.disk.now) (D.faults devices.new.disk.now))
             (Rose (X.faults devices.old.secrets.now) (X.faults devices.new.secrets.now)) (Reached devices.old.fuse devices.new.fuse)) }
         ensures fit { IsTrue D.tells → AreFit (non_zero_u32_get self.old.actor.terms.limit) (D.image devices.old.disk.now)
             → AreFit (non_zero_u32_get self.old.actor.terms.limit) (D.image devices.new.disk.now) }
@@ -187,19 +193,22 @@ impl Node {
         devices: &mut Devices<'_, D, X>,
         out: &mut Transcript,
     ) -> Result<(), Stop>
-        requires here { IsEventHere (non_zero_u64_get self.old.actor.terms.blocks_per_epoch) source.now event.now }
+        requires here { IsEventHere (non_zero_u64_get self.old.actor.terms.blocks_per_epoch) source.now self.old.actor.state event.now }
         requires ready { IsReadyNode D.tells D.files D.image self.old devices.old }
         ensures ready { OnOk result (IsReadyNode D.tells D.files D.image self.new devices.new) }
         ensures terms { self.new.actor.terms ≡ self.old.actor.terms }
+        ensures of { (g : Lived) → IsOfLife g self.old → IsOfLife g self.new }
         // It is the relation's step, and each act was made, whatever image a crash leaves.
         ensures acts { IsTrue D.tells → IsTrue X.tells → (g : Lived) (number : ℕ) (st : Live directory.Unit) → IsOfLife g self.old
-            → source.now.blocks.now ≡ blocks_in g.script → IsView self.old st
+            → source.now.blocks.now ≡ blocks_in g.script → MayStep g number st
+            → IsEarlyEvent (at_step g number).blocks_per_epoch (blocks_in g.script) st event.now → IsView self.old st
             → Viewed self.new result (λ ended. Makes D.files D.image X.held (step_of g number event.now st) ended
             devices.old devices.new out.old.entries out.new.entries) }
         ensures tells { (g : Lived) (number : ℕ) (st : Live directory.Unit) → IsOfLife g self.old → source.now.blocks.now ≡ blocks_in g.script
-            → IsView self.old st → Viewed self.new result (λ ended. Tells (step_of g number event.now st) ended out.old.entries out.new.entries) }
+            → MayStep g number st → IsEarlyEvent (at_step g number).blocks_per_epoch (blocks_in g.script) st event.now → IsView self.old st
+            → Viewed self.new result (λ ended. Tells (step_of g number event.now st) ended out.old.entries out.new.entries) }
         ensures moved { Moved D.tells D.made X.made D.faults X.faults devices.old devices.new }
-        ensures causes { IfErr result (λ stop. IsCaused stop (Rose (D.faults devices.old.disk.now) (D.faults devices.new.disk.now))
+        ensures causes { IfErr result (λ stop. IsCausedBy D.tells stop (Rose (D.faults devices.old.disk.now) (D.faults devices.new.disk.now))
             (Rose (X.faults devices.old.secrets.now) (X.faults devices.new.secrets.now)) (Reached devices.old.fuse devices.new.fuse)) }
         ensures fit { IsTrue D.tells → AreFit (non_zero_u32_get self.old.actor.terms.limit) (D.image devices.old.disk.now)
             → AreFit (non_zero_u32_get self.old.actor.terms.limit) (D.image devices.new.disk.now) }

@@ -1,4 +1,4 @@
-use Rattle.std.proofs.Common.{[], ◌∙◌, ap, false, inl, refl, sym}
+use Rattle.std.proofs.Common.{[], inl, refl, sym}
 use Rattle.std.proofs.lemmas.List.{append-nil}
 use Rattle.dkg_run.proofs.Reported.{is_spelled, reads, runs_faulted, runs_lives}
 use Rattle.dkg_run.proofs.command.run.Goals as goal
@@ -57,7 +57,7 @@ returns-in-Ok-run_lives-clause-ends g c =
         spells = is_spelled _ _ _ c.in-Ok-script_in.ensures.reads.0;
         built = c.in-Ok-script_in.ensures.reads.1;
         form = c.in-Ok-script_in.ensures.form;
-        lives = runs_lives _ _ _ _ _ its.promise its.lines its.run (λ told. its.gives_back told.0 told.1);
+        lives = runs_lives _ _ _ _ _ its.promise its.lines its.run;
       },
     )
 
@@ -73,6 +73,6 @@ returns-clause-ends g c =
         spells = is_spelled _ _ _ c.in-Ok-script_in.ensures.reads.0;
         built = c.in-Ok-script_in.ensures.reads.1;
         form = c.in-Ok-script_in.ensures.form;
-        lives = runs_lives _ _ _ _ _ its.promise its.lines its.run (λ told. its.gives_back told.0 told.1);
+        lives = runs_lives _ _ _ _ _ its.promise its.lines its.run;
       })),
     )

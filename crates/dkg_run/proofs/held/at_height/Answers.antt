@@ -1,4 +1,4 @@
-use Rattle.std.proofs.Common.{◌≡◌, ℕ, sym, ◌∙◌, ap}
+use Rattle.std.proofs.Common.{ℕ, sym, ◌∙◌, ap}
 use Rattle.std.specs.Prelude.{◌==◌}
 use Rattle.dkg_run.proofs.Finding.{found_here, none_here, not_here}
 use Rattle.dkg_run.proofs.held.at_height.Goals as goal

@@ -1,4 +1,4 @@
-use Rattle.std.proofs.Common.{◌≡◌, ℕ, List, sym, ◌∙◌, ap}
+use Rattle.std.proofs.Common.{ℕ, List, sym, ◌∙◌, ap}
 use Rattle.std.specs.Str.{bytes_eq}
 use Rattle.dkg_run.proofs.Finding.{found_here, none_here, not_here}
 use Rattle.dkg_run.proofs.held.of_digest.Goals as goal

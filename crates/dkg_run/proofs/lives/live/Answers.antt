@@ -1,20 +1,14 @@
-use Rattle.std.proofs.Common.{[], refl, ◌∙◌, ap, sym}
+use Rattle.std.proofs.Common.{[], refl, ◌∙◌}
 use Rattle.std.proofs.lemmas.Result.{err_from_is_err_and}
-use Rattle.dkg_types.specs.declared.directory.Unit as directory
-use Rattle.dkg_store.specs.Acts.{moment}
 use Rattle.dkg_store.proofs.Counts.{reached_cuts}
-use Rattle.dkg_core.specs.Live.{Live}
 use Rattle.dkg_reshare.specs.Today.{seen_today}
-use Rattle.dkg_run.specs.Found.{IsFound, reader_in}
 use Rattle.dkg_run.specs.Given.{Lived, at_step, limits_of, lived}
 use Rattle.dkg_run.specs.Moving.{Went, world_of}
-use Rattle.dkg_run.specs.Ways.{trace}
-use Rattle.dkg_run.proofs.Founding.{given_there, seen_at, steps_found, stop_found}
-use Rattle.dkg_run.proofs.Giving.{reads_today}
-use Rattle.dkg_run.proofs.GivingPassing.{above_passing, here_today, opened_passing, passes_all, steps_passing}
-use Rattle.dkg_run.proofs.Opened.{above_begun, cut_behind, stopped_ran, told_ran, unsourced_ran, untold_ran}
+use Rattle.dkg_run.proofs.Opened.{at_first, cut_behind, cut_ran, stopped_ran, told_ran, unsourced_ran, untold_ran}
+use Rattle.dkg_run.proofs.Checked.{life_over}
 use Rattle.dkg_run.proofs.Going.{went_moved, went_none, went_then}
-use Rattle.dkg_run.proofs.Starting.{blames_from, cut_first, events_of, fit_over, fit_then, lines_over, stopped_first, to_open, told_first, unsourced_first, untold_first}
+use Rattle.dkg_run.proofs.RecordsFound.{opening_finds, steps_find}
+use Rattle.dkg_run.proofs.Starting.{blames_from, cut_first, fit_over, fit_then, found_cause, has_opened, lines_over, opening_blames, stopped_first, to_open, told_first, unsourced_first, untold_first}
 use Rattle.dkg_run.proofs.lives.live.Goals as goal
 
 -- OVER THE LINES
@@ -48,23 +42,27 @@ pub returns-clause-lines : goal.returns-clause-lines
 returns-clause-lines g c =
     lines_over g.D.Disk.files c.args.devices.now.disk c.begin_step.new.devices.disk c.begin_step.ensures.same.0 c.args.script.now c.args.number c.args.life.now c.args.out.now.entries _ _
     (told_first c.args.script.now c.args.number c.args.life.now (g.D.Disk.files c.begin_step.new.devices.disk.now) c.args.out.now.entries c.begin_step.new.devices.fuse c.in_ok-begin_step.ensures.lit
-    _ c.open.new.out.entries c.in_ok-node.node c.in_ok-node.ensures.tells c.take_steps.result c.push.new.self.entries c.take_steps.new.out.entries c.in_ok-push.ensures.ok c.in_ok-node.ensures.of
-    c.in_ok-source.source.blocks.now (c.in_ok-source.ensures.blocks ∙ c.requires.here.1) c.take_steps.ensures.lines)
+    _ c.open.new.out.entries c.in_ok-node.node c.in_ok-node.ensures.tells c.requires.form c.requires.checked c.requires.here.0 c.in_ok-node.ensures.of
+    c.in_ok-source.source.blocks.now (c.in_ok-source.ensures.blocks ∙ c.requires.here.1) c.take_steps.result c.push.new.self.entries c.take_steps.new.out.entries c.in_ok-push.ensures.ok c.take_steps.ensures.lines)
 
 -- THE NODE'S OPENING
 
 pub open-requires : goal.open-requires
 open-requires g c = record {
-  here = to_open c.args.script.now c.args.number c.args.life.now c.in_ok-source.source c.requires.form c.requires.here.0 (c.in_ok-source.ensures.blocks ∙ c.requires.here.1)
+  here = to_open c.args.script.now c.args.number c.args.life.now c.in_ok-source.source c.requires.form c.requires.checked c.requires.here.0 (c.in_ok-source.ensures.blocks ∙ c.requires.here.1)
       c.in_ok-source.ensures.anchor c.in_ok-source.ensures.numbers;
 }
 
--- THE STEPS are those of its source
+-- THE STEPS are those of a life that was opened
 
 pub take_steps-requires-clause-here : goal.take_steps-requires-clause-here
 take_steps-requires-clause-here g c =
-    events_of c.args.script.now c.args.number c.args.life.now c.in_ok-node.node c.in_ok-node.ensures.of (g.D.Disk.files c.args.devices.now.disk.now) c.requires.form c.requires.here.0
+    has_opened c.args.script.now c.args.number c.args.life.now (g.D.Disk.files c.begin_step.new.devices.disk.now) c.args.out.now.entries c.begin_step.new.devices.fuse c.in_ok-begin_step.ensures.lit
+    _ c.open.new.out.entries c.in_ok-node.node c.in_ok-node.ensures.tells c.requires.form c.requires.checked c.requires.here.0 c.in_ok-node.ensures.of
     c.in_ok-source.source.blocks.now (c.in_ok-source.ensures.blocks ∙ c.requires.here.1)
+
+pub take_steps-requires-clause-begun : goal.take_steps-requires-clause-begun
+take_steps-requires-clause-begun g c = (c.begin_step.new.devices.fuse, c.in_ok-begin_step.ensures.lit)
 
 -- WHAT THE DEVICES MADE
 
@@ -151,48 +149,74 @@ returns-clause-run g c = λ disk secrets stands left image.
     told_ran g.D.Disk.files g.D.Disk.image g.X.SecretStore.held c.args.devices.now c.begin_step.new.devices c.begin_step.ensures.same.0 c.begin_step.ensures.same.1 stands c.args.script.now c.args.number c.args.life.now c.in_ok-begin_step.ensures.lit c.args.out.now.entries c.open.new.devices c.open.new.out.entries (g.D.Disk.files c.open.new.devices.disk.now) (g.met.D.Disk.reads c.open.new.devices.disk.now disk)
     its.0 its.2 c.take_steps.result (world_of g.X.SecretStore.held c.take_steps.new.devices c.take_steps.new.out.entries left) c.push.new.self.entries c.in_ok-push.ensures.ok
     (c.take_steps.ensures.run disk secrets today its.0
-    (record { of = c.in_ok-node.ensures.of today refl (reads_today seen_today refl); blocks_are = c.in_ok-source.ensures.blocks ∙ c.requires.here.1; life_is = refl }) its.1 left image)
+    (life_over c.args.script.now c.args.number c.args.life.now seen_today (g.D.Disk.files c.args.devices.now.disk.now) c.requires.form c.requires.checked c.requires.here.0 (λ h. refl))
+    (record { of = c.in_ok-node.ensures.of today refl refl (λ h. refl); blocks_are = c.in_ok-source.ensures.blocks ∙ c.requires.here.1; life_is = refl }) its.1
+    (at_first g.D.Disk.files g.D.Disk.image g.X.SecretStore.held c.args.devices.now c.begin_step.new.devices c.begin_step.ensures.same.0 c.begin_step.ensures.same.1 stands c.args.script.now c.args.number c.args.life.now c.in_ok-begin_step.ensures.lit c.args.out.now.entries c.open.new.devices c.open.new.out.entries (g.D.Disk.files c.open.new.devices.disk.now) (g.met.D.Disk.reads c.open.new.devices.disk.now disk)
+    its.0 its.2 c.requires.form c.requires.checked c.requires.here.0)
+    left image)
 
--- WHAT THE STOP SHOWS
+-- A CORRUPT RECORD that the stop names
+
+pub returns-in_err-begin_step-clause-found : goal.returns-in_err-begin_step-clause-found
+returns-in_err-begin_step-clause-found g c = let p = err_from_is_err_and c.from_residual.result c.from_residual.ensures.1 in rw (p.1, p.2, c.in_err-begin_step.ensures.ends.0) (λ told. tt)
+
+pub returns-in_err-source-clause-found : goal.returns-in_err-source-clause-found
+returns-in_err-source-clause-found g c = let p = err_from_is_err_and c.from_residual-in_err-source.result c.from_residual-in_err-source.ensures.1 in rw (p.1, p.2) (λ told. record { so = tt })
 
 pub returns-in_err-node-clause-found : goal.returns-in_err-node-clause-found
-returns-in_err-node-clause-found g c =
-    let p = err_from_is_err_and c.from_residual-in_err-node.result c.from_residual-in_err-node.ensures.1 in
-    let read = c.in_err-node.ensures.tells in
-    rw (p.1, p.2) (λ told known. stop_found (lived c.args.script.now c.args.number c.args.life.now (λ h. read.seen) (g.D.Disk.files c.begin_step.new.devices.disk.now)) (record { form = c.requires.form; life_is = c.requires.here.0; reads = record { shareless = λ h. read.shareless; unplanned = λ h. read.unplanned } }) (g.D.Disk.files c.open.new.devices.disk.now) (g.X.SecretStore.held c.open.new.devices.secrets.now) read.seen read.listed.0 (λ h. seen_at (lived c.args.script.now c.args.number c.args.life.now (λ h. read.seen) (g.D.Disk.files c.begin_step.new.devices.disk.now)) h) read.listed.1 c.args.out.now.entries c.open.new.out.entries (limits_of c.args.script.now).most refl g.D.Disk.tells told
-    c.in_err-node.field-0.0 _ _ _ c.in_err-node.ensures.causes read.so
-    (λ its own is key above. given_there c.in_err-node.field-0.0 its _ own is read.given told known (g.D.Disk.files c.open.new.devices.disk.now) (g.met.D.Disk.reads c.open.new.devices.disk.now told) key above))
+returns-in_err-node-clause-found g c = let p = err_from_is_err_and c.from_residual-in_err-node.result c.from_residual-in_err-node.ensures.1 in
+    rw (p.1, p.2) (opening_finds (limits_of c.args.script.now).most g.D.Disk.tells (g.D.Disk.files c.open.new.devices.disk.now) c.in_err-node.field-0.0 _ _ _ c.in_err-node.ensures.causes)
+
+pub returns-in_err-push-clause-found : goal.returns-in_err-push-clause-found
+returns-in_err-push-clause-found g c = let p = err_from_is_err_and c.from_residual-in_err-push.result c.from_residual-in_err-push.ensures.1 in rw (p.1, p.2) (λ told. record { so = tt })
 
 pub returns-clause-found : goal.returns-clause-found
 returns-clause-found g c =
-    let read = c.in_ok-node.ensures.tells in
-    steps_found (lived c.args.script.now c.args.number c.args.life.now (λ h. read.seen) (g.D.Disk.files c.begin_step.new.devices.disk.now)) (record { form = c.requires.form; life_is = c.requires.here.0; reads = record { shareless = λ h. read.shareless; unplanned = λ h. read.unplanned } }) (g.D.Disk.files c.take_steps.new.devices.disk.now) (g.X.SecretStore.held c.take_steps.new.devices.secrets.now) c.args.out.now.entries c.open.new.out.entries read.so.0 read.so.2
-    (trace c.push.new.self.entries []) (trace c.take_steps.new.out.entries []) c.take_steps.result _ _ _ _ _ c.take_steps.ensures.causes
-    (c.take_steps.ensures.lines (lived c.args.script.now c.args.number c.args.life.now (λ h. read.seen) (g.D.Disk.files c.begin_step.new.devices.disk.now)) read.so.0 []
-    (record { of = c.in_ok-node.ensures.of (lived c.args.script.now c.args.number c.args.life.now (λ h. read.seen) (g.D.Disk.files c.begin_step.new.devices.disk.now)) refl (record { shareless = λ h. read.shareless; unplanned = λ h. read.unplanned }); blocks_are = c.in_ok-source.ensures.blocks ∙ c.requires.here.1; life_is = refl }) read.so.1)
+    steps_find g.D.Disk.tells g.D.Disk.faults g.X.SecretStore.faults c.open.new.devices c.take_steps.new.devices (limits_of c.args.script.now).most (g.D.Disk.files c.take_steps.new.devices.disk.now) c.take_steps.result c.take_steps.ensures.causes
 
--- WHAT PASSES
+-- BLAME, before the steps
 
-pub returns-in_err-node-clause-passing : goal.returns-in_err-node-clause-passing
-returns-in_err-node-clause-passing g c = λ disk secrets. above_passing (reader_in c.args.script.now) (g.D.Disk.image c.args.devices.now.disk.now) (g.D.Disk.image c.open.new.devices.disk.now)
-    (g.X.SecretStore.held c.args.devices.now.secrets.now) (g.X.SecretStore.held c.open.new.devices.secrets.now) (above_begun g.D.Disk.files g.D.Disk.image g.X.SecretStore.held c.args.devices.now c.begin_step.new.devices c.begin_step.ensures.same.0 c.begin_step.ensures.same.1 (g.D.Disk.image c.open.new.devices.disk.now) (g.X.SecretStore.held c.open.new.devices.secrets.now) (c.open.ensures.loose disk))
+pub returns-in_err-begin_step-clause-causes : goal.returns-in_err-begin_step-clause-causes
+returns-in_err-begin_step-clause-causes g c = let p = err_from_is_err_and c.from_residual.result c.from_residual.ensures.1 in rw (p.1, p.2, c.in_err-begin_step.ensures.ends.0) tt
 
-pub returns-in_err-push-clause-passing : goal.returns-in_err-push-clause-passing
-returns-in_err-push-clause-passing g c = λ disk secrets are.
-    let read = c.in_ok-node.ensures.tells in
-    passes_all (reader_in c.args.script.now) (g.D.Disk.image c.open.new.devices.disk.now) (g.X.SecretStore.held c.open.new.devices.secrets.now) (λ left image.
-    (opened_passing c.args.script.now c.args.number c.args.life.now (g.D.Disk.files c.begin_step.new.devices.disk.now) c.requires.form c.requires.here.0 read.seen read.shareless read.unplanned read.so.0 (read.so.1).life.store.dealings (ap (λ (x : Live directory.Unit). x.records.dealings) (read.so.1).is)
-    c.args.out.now.entries c.open.new.out.entries read.so.2 (g.D.Disk.image c.args.devices.now.disk.now) (g.D.Disk.image c.open.new.devices.disk.now) (g.X.SecretStore.held c.args.devices.now.secrets.now) (g.X.SecretStore.held c.open.new.devices.secrets.now)
-    (above_begun g.D.Disk.files g.D.Disk.image g.X.SecretStore.held c.args.devices.now c.begin_step.new.devices c.begin_step.ensures.same.0 c.begin_step.ensures.same.1 (g.D.Disk.image c.open.new.devices.disk.now) (g.X.SecretStore.held c.open.new.devices.secrets.now) (c.open.ensures.loose disk)) (read.given disk secrets) are left image).pass)
+pub returns-in_err-source-clause-causes : goal.returns-in_err-source-clause-causes
+returns-in_err-source-clause-causes g c = let p = err_from_is_err_and c.from_residual-in_err-source.result c.from_residual-in_err-source.ensures.1 in rw (p.1, p.2) tt
 
-pub returns-clause-passing : goal.returns-clause-passing
-returns-clause-passing g c = λ disk secrets are.
-    let read = c.in_ok-node.ensures.tells in
-    let today : Lived = lived c.args.script.now c.args.number c.args.life.now seen_today (g.D.Disk.files c.begin_step.new.devices.disk.now) in
-    steps_passing today (here_today c.args.script.now c.args.number c.args.life.now (g.D.Disk.files c.begin_step.new.devices.disk.now) c.requires.form c.requires.here.0) read.so.0 (moment c.push.new.self.entries (g.X.SecretStore.held c.open.new.devices.secrets.now) c.open.new.devices.fuse)
-    (moment c.take_steps.new.out.entries (g.X.SecretStore.held c.take_steps.new.devices.secrets.now) c.take_steps.new.devices.fuse) (g.D.Disk.files c.open.new.devices.disk.now) (g.D.Disk.image c.take_steps.new.devices.disk.now) c.take_steps.result
-    (opened_passing c.args.script.now c.args.number c.args.life.now (g.D.Disk.files c.begin_step.new.devices.disk.now) c.requires.form c.requires.here.0 read.seen read.shareless read.unplanned read.so.0 (read.so.1).life.store.dealings (ap (λ (x : Live directory.Unit). x.records.dealings) (read.so.1).is)
-    c.args.out.now.entries c.open.new.out.entries read.so.2 (g.D.Disk.image c.args.devices.now.disk.now) (g.D.Disk.image c.open.new.devices.disk.now) (g.X.SecretStore.held c.args.devices.now.secrets.now) (g.X.SecretStore.held c.open.new.devices.secrets.now)
-    (above_begun g.D.Disk.files g.D.Disk.image g.X.SecretStore.held c.args.devices.now c.begin_step.new.devices c.begin_step.ensures.same.0 c.begin_step.ensures.same.1 (g.D.Disk.image c.open.new.devices.disk.now) (g.X.SecretStore.held c.open.new.devices.secrets.now) (c.open.ensures.loose disk)) (read.given disk secrets) are (g.D.Disk.files c.open.new.devices.disk.now) (g.met.D.Disk.reads c.open.new.devices.disk.now disk))
-    (λ left image. c.take_steps.ensures.run disk secrets today read.so.0
-    (record { of = c.in_ok-node.ensures.of today refl (reads_today seen_today refl); blocks_are = c.in_ok-source.ensures.blocks ∙ c.requires.here.1; life_is = refl }) read.so.1 left image)
+pub returns-in_err-node-clause-causes : goal.returns-in_err-node-clause-causes
+returns-in_err-node-clause-causes g c = let p = err_from_is_err_and c.from_residual-in_err-node.result c.from_residual-in_err-node.ensures.1 in
+    rw (p.1, p.2) (opening_blames g.D.Disk.faults g.X.SecretStore.faults c.args.devices.now c.begin_step.new.devices c.open.new.devices c.begin_step.ensures.same.0 c.begin_step.ensures.same.1 c.in_err-node.field-0.0
+    (found_cause (limits_of c.args.script.now).most g.D.Disk.tells (g.D.Disk.files c.open.new.devices.disk.now) c.in_err-node.field-0.0 _ _ _ c.in_err-node.ensures.causes))
+
+pub returns-in_err-push-clause-causes : goal.returns-in_err-push-clause-causes
+returns-in_err-push-clause-causes g c = let p = err_from_is_err_and c.from_residual-in_err-push.result c.from_residual-in_err-push.ensures.1 in rw (p.1, p.2) tt
+
+-- WHAT ELSE is handed on
+
+pub returns-in_err-begin_step-clause-firm : goal.returns-in_err-begin_step-clause-firm
+returns-in_err-begin_step-clause-firm g c = let p = err_from_is_err_and c.from_residual.result c.from_residual.ensures.1 in rw p.1 tt
+
+pub returns-in_err-source-clause-firm : goal.returns-in_err-source-clause-firm
+returns-in_err-source-clause-firm g c = let p = err_from_is_err_and c.from_residual-in_err-source.result c.from_residual-in_err-source.ensures.1 in rw p.1 tt
+
+pub returns-in_err-node-clause-firm : goal.returns-in_err-node-clause-firm
+returns-in_err-node-clause-firm g c = let p = err_from_is_err_and c.from_residual-in_err-node.result c.from_residual-in_err-node.ensures.1 in rw p.1 tt
+
+pub returns-in_err-push-clause-firm : goal.returns-in_err-push-clause-firm
+returns-in_err-push-clause-firm g c = let p = err_from_is_err_and c.from_residual-in_err-push.result c.from_residual-in_err-push.ensures.1 in rw p.1 tt
+
+pub returns-clause-firm : goal.returns-clause-firm
+returns-clause-firm g c = c.take_steps.ensures.firm
+
+pub returns-in_err-begin_step-clause-fit : goal.returns-in_err-begin_step-clause-fit
+returns-in_err-begin_step-clause-fit g c = λ told. fit_over g.D.Disk.image c.args.devices.now.disk c.begin_step.new.devices.disk c.begin_step.ensures.same.0 (limits_of c.args.script.now).most (g.D.Disk.image c.begin_step.new.devices.disk.now) (λ fit. fit)
+
+pub returns-in_err-source-clause-fit : goal.returns-in_err-source-clause-fit
+returns-in_err-source-clause-fit g c = λ told. fit_over g.D.Disk.image c.args.devices.now.disk c.begin_step.new.devices.disk c.begin_step.ensures.same.0 (limits_of c.args.script.now).most (g.D.Disk.image c.begin_step.new.devices.disk.now) (λ fit. fit)
+
+pub returns-in_err-begin_step-clause-run : goal.returns-in_err-begin_step-clause-run
+returns-in_err-begin_step-clause-run g c = λ disk secrets stands left image.
+    let p = err_from_is_err_and c.from_residual.result c.from_residual.ensures.1 in
+    rw (p.1, p.2) (cut_ran g.D.Disk.files g.D.Disk.image g.X.SecretStore.held c.args.devices.now c.begin_step.new.devices c.begin_step.ensures.same.0 c.begin_step.ensures.same.1 c.in_err-begin_step.ensures.ends.2 stands c.args.script.now c.args.number c.args.life.now c.in_err-begin_step.ensures.ends.1 c.in_err-begin_step.field-0.0 c.in_err-begin_step.ensures.ends.0 c.args.out.now.entries left image)
+
+pub take_steps-requires-clause-ready : goal.take_steps-requires-clause-ready
+take_steps-requires-clause-ready g c = c.in_ok-node.ensures.ready

@@ -1,14 +1,11 @@
 -- Between two lives: to live the rest from here is to live all, over the lines and over both devices, and nothing of the disk is loose.
 use Rattle.std.proofs.Common.{◌≡◌, [], ℕ, List}
 use Rattle.std.specs.Prelude.{IsTrue}
-use Rattle.dkg_journal.specs.Names.{Files}
 use Rattle.dkg_store.specs.Acts.{Stands}
 use Rattle.dkg_store.specs.Corrupt.{AreFit}
-use Rattle.dkg_run.specs.Found.{reader_in}
 use Rattle.dkg_run.specs.Given.{limits_of}
 use Rattle.dkg_run.specs.Lives.{AnyFiles}
 use Rattle.dkg_run.specs.Moving.{Went, world_of}
-use Rattle.dkg_run.specs.Passing.{ArePassing}
 use Rattle.dkg_run.specs.Ways.{by_lines, by_worlds, trace}
 use Rattle.dkg_run.proofs.Running.{LivesOn}
 use Rattle.dkg_run.proofs.lives.run_all.Given as goal
@@ -24,6 +21,4 @@ invariant-loop-i g l = record {
   stands : IsTrue g.D.Disk.tells → Stands (g.D.Disk.files l.initial.devices.disk.now) (g.D.Disk.image l.initial.devices.disk.now)
       → Stands (g.D.Disk.files l.devices.disk.now) (g.D.Disk.image l.devices.disk.now);
   fit : IsTrue g.D.Disk.tells → AreFit (limits_of l.script).most (g.D.Disk.image l.initial.devices.disk.now) → AreFit (limits_of l.script).most (g.D.Disk.image l.devices.disk.now);
-  passing : IsTrue g.D.Disk.tells → IsTrue g.X.SecretStore.tells → ArePassing (reader_in l.script) (g.D.Disk.image l.initial.devices.disk.now) (g.X.SecretStore.held l.initial.devices.secrets.now)
-      → ArePassing (reader_in l.script) (g.D.Disk.image l.devices.disk.now) (g.X.SecretStore.held l.devices.secrets.now);
 }

@@ -1,7 +1,9 @@
-use Rattle.std.proofs.Common.{◌≡◌, [], List, ℕ}
+use Rattle.std.proofs.Common.{[]}
+use Rattle.dkg_run.specs.Given.{limits_of}
 use Rattle.dkg_run.specs.Stopped.{picks_at_end}
 use Rattle.dkg_run.proofs.Going.{went_then}
-use Rattle.dkg_run.proofs.Lasting.{life_lines, life_over, life_scripted}
+use Rattle.dkg_run.proofs.Lasting.{life_blames, life_lines, life_over, life_scripted, narrowed_fit}
+use Rattle.dkg_run.proofs.RecordsFound.{life_finds}
 use Rattle.dkg_run.proofs.lives.run_life.Goals as goal
 
 pub end_life-requires-clause-scripted : goal.end_life-requires-clause-scripted
@@ -19,3 +21,26 @@ returns-clause-lines g c =
 pub returns-clause-run : goal.returns-clause-run
 returns-clause-run g c = λ disk secrets stands image here.
     life_over _ _ _ _ _ _ _ _ _ image _ _ _ _ _ _ c.end_life.ensures.held c.end_life.ensures.fuse (c.live-how.ensures.run disk secrets stands image (c.end_life.ensures.narrows image here)) (c.end_life.ensures.ends [])
+
+-- WHAT ELSE is handed on
+
+pub live-how-requires-clause-form : goal.live-how-requires-clause-form
+live-how-requires-clause-form g c = c.requires.form
+
+pub live-how-requires-clause-checked : goal.live-how-requires-clause-checked
+live-how-requires-clause-checked g c = c.requires.checked
+
+pub live-how-requires-clause-here : goal.live-how-requires-clause-here
+live-how-requires-clause-here g c = c.requires.here
+
+pub returns-clause-stands : goal.returns-clause-stands
+returns-clause-stands g c = c.end_life.ensures.stands
+
+pub returns-clause-causes : goal.returns-clause-causes
+returns-clause-causes g c = life_blames g.D.Disk.faults g.X.SecretStore.faults c.args.devices.now c.live-how.new.devices c.end_life.new.devices c.live-how.result c.end_life.result c.live-how.ensures.causes c.end_life.ensures.faulted c.end_life.ensures.same
+
+pub returns-clause-found : goal.returns-clause-found
+returns-clause-found g c = life_finds g.D.Disk.files (limits_of c.args.script.now).most g.D.Disk.tells c.live-how.new.devices c.end_life.new.devices c.live-how.result c.end_life.result c.live-how.ensures.found c.end_life.ensures.faulted c.end_life.ensures.same
+
+pub returns-clause-fit : goal.returns-clause-fit
+returns-clause-fit g c = λ told fit. narrowed_fit (limits_of c.args.script.now).most (g.D.Disk.image c.live-how.new.devices.disk.now) (g.D.Disk.image c.end_life.new.devices.disk.now) c.end_life.ensures.narrows (c.live-how.ensures.fit told fit)

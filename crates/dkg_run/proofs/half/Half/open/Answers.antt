@@ -1,4 +1,4 @@
-use Rattle.std.proofs.Common.{◌≡◌, sym}
+use Rattle.std.proofs.Common.{sym}
 use Rattle.dkg_run.proofs.Entering.{ready_at}
 use Rattle.dkg_run.proofs.half.Half.open.Goals as goal
 

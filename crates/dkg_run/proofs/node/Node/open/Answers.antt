@@ -1,22 +1,26 @@
-use Rattle.std.proofs.Common.{ℕ, Err, Ok, ap, refl, subst, sym}
+use Rattle.std.proofs.Common.{Err, Ok, ap, refl, subst, sym}
 use Rattle.std.specs.Int.NonZero.{non_zero_u32_get, non_zero_u64_get}
 use Rattle.std.proofs.lemmas.Result.{err_from_is_err_and}
 use Rattle.dkg_store.specs.Acts.{by_want}
 use Rattle.dkg_core.specs.Heard.{recovered_in}
 use Rattle.std.specs.Prelude.{IsTrue}
+use Rattle.dkg_ceremony.specs.declared.mode.ModeVersion.{ModeVersion}
 use Rattle.dkg_ceremony.specs.declared.mode.Reveal.TheVariants.{V1}
+use Rattle.dkg_text.specs.declared.script.Life.{Life}
 use Rattle.dkg_text.specs.declared.script.Script.{Script}
 use Rattle.dkg_reshare.specs.Actors.{AreTerms}
 use Rattle.dkg_reshare.specs.Given.{AreGivenFrom}
 use Rattle.dkg_reshare.specs.Made.{UnlessBroken}
-use Rattle.dkg_reshare.specs.Opened.{IsInGrammar}
 use Rattle.dkg_reshare.specs.Today.{seen_today}
 use Rattle.dkg_reshare.specs.declared.config.Terms.{Terms}
 use Rattle.dkg_reshare.proofs.Burning.{makes_none}
+use Rattle.dkg_reshare.proofs.Kept.{above_itself, moved_none}
 use Rattle.dkg_reshare.proofs.Openings.{was_readable}
 use Rattle.dkg_reshare.proofs.Said.{nothing_held}
+use Rattle.dkg_run.specs.Given.{starts_above}
 use Rattle.dkg_run.specs.Nodes.{ended_new}
-use Rattle.dkg_run.proofs.NodeOpens.{above_from, are_of, ended_acts, ended_lines, found_nothing, given_ended, given_halted, given_opened, half_as, halted_acts, halted_lines, its, lent_is, life_with, number_is, opened_acts, opened_lines, opening_is, ready_is, today_is}
+use Rattle.dkg_run.proofs.Checked.{not_refused}
+use Rattle.dkg_run.proofs.NodeOpens.{above_from, are_of, ended_acts, ended_lines, found_as, found_nothing, given_ended, given_halted, given_opened, half_as, halted_acts, halted_lines, its, lent_is, life_with, number_is, opened_acts, opened_lines, opening_is, ready_is, today_is}
 use Rattle.dkg_run.proofs.Noding.{at_rules, of_terms, ready_node, unsaid}
 use Rattle.dkg_run.proofs.Shutting.{grammar_as, readable_ended, unopened}
 use Rattle.dkg_run.proofs.node.Node.open.Goals as goal
@@ -29,44 +33,44 @@ returns-in_err-config-clause-acts g c = λ disk secrets grammar.
 pub returns-in_err-config-clause-tells : goal.returns-in_err-config-clause-tells
 returns-in_err-config-clause-tells g c =
     let p = err_from_is_err_and c.from_residual.result c.from_residual.ensures.1 in
-    rw (p.1, p.2) (record { seen = seen_today nothing_held; shareless = refl; unplanned = refl; listed = (recovered_in nothing_held, refl); given = tt; so = unsaid _ by_want c.args.out.now.entries })
+    rw (p.1, p.2) (record { seen = seen_today nothing_held; unplanned = refl; listed = (recovered_in nothing_held, refl); given = tt; so = unsaid _ by_want c.args.out.now.entries })
 
 pub returns-in_err-open-clause-acts : goal.returns-in_err-open-clause-acts
 returns-in_err-open-clause-acts g c = λ disk secrets grammar.
     let p = err_from_is_err_and c.from_residual-in_err-open.result c.from_residual-in_err-open.ensures.1 in
     let are = (are_of (c.in_ok-actor.actor).terms c.args.script.now.config _ _ _ _ _ _ _ c.in_ok-actor.ensures.terms c.in_ok-config.ensures.0 c.in_ok-config.ensures.1 c.in_ok-config.ensures.2 c.in_ok-config.ensures.3 c.in_ok-config.ensures.4 c.in_ok-config.ensures.5 c.in_ok-config.ensures.6) in
-    rw (p.1, p.2) (ended_acts c.args.script.now c.args.number c.args.life.now c.args.source.now (g.D.Disk.files c.args.devices.now.disk.now) c.requires.here.form c.requires.here.life_is c.requires.here.source_is (c.in_ok-actor.actor).terms are _ c.open.new.fence (c.open.new.self).state c.in_err-open.field-0.0 (c.in_err-open.ensures.acts disk secrets (its c.args.script.now c.args.number c.args.life.now c.args.source.now (g.D.Disk.files c.args.devices.now.disk.now) c.requires.here.form c.requires.here.life_is c.requires.here.source_is (c.in_ok-actor.actor).terms are) (opening_is c.args.script.now c.args.number c.args.life.now c.args.source.now (g.D.Disk.files c.args.devices.now.disk.now) c.requires.here.form c.requires.here.life_is c.requires.here.source_is (c.in_ok-actor.actor).terms are grammar) (at_rules (life_with c.args.script.now c.args.number c.args.life.now c.args.source.now (g.D.Disk.files c.args.devices.now.disk.now) c.requires.here.form c.requires.here.life_is c.requires.here.source_is (c.in_ok-actor.actor).terms are seen_today) 0) c.new-fence.ensures.fresh))
+    rw (p.1, p.2) (ended_acts c.args.script.now c.args.number c.args.life.now c.args.source.now (g.D.Disk.files c.args.devices.now.disk.now) c.requires.here.form c.requires.here.checked c.requires.here.life_is c.requires.here.source_is (c.in_ok-actor.actor).terms are _ c.open.new.fence (c.open.new.self).state c.in_err-open.field-0.0 (c.in_err-open.ensures.acts disk secrets (its c.args.script.now c.args.number c.args.life.now c.args.source.now (g.D.Disk.files c.args.devices.now.disk.now) c.requires.here.form c.requires.here.checked c.requires.here.life_is c.requires.here.source_is (c.in_ok-actor.actor).terms are) (opening_is c.args.script.now c.args.number c.args.life.now c.args.source.now (g.D.Disk.files c.args.devices.now.disk.now) c.requires.here.form c.requires.here.checked c.requires.here.life_is c.requires.here.source_is (c.in_ok-actor.actor).terms are grammar) (at_rules (life_with c.args.script.now c.args.number c.args.life.now c.args.source.now (g.D.Disk.files c.args.devices.now.disk.now) c.requires.here.form c.requires.here.checked c.requires.here.life_is c.requires.here.source_is (c.in_ok-actor.actor).terms are seen_today) 0) c.new-fence.ensures.fresh))
 
 pub returns-in_err-open-clause-tells : goal.returns-in_err-open-clause-tells
 returns-in_err-open-clause-tells g c =
     let p = err_from_is_err_and c.from_residual-in_err-open.result c.from_residual-in_err-open.ensures.1 in
     let are = (are_of (c.in_ok-actor.actor).terms c.args.script.now.config _ _ _ _ _ _ _ c.in_ok-actor.ensures.terms c.in_ok-config.ensures.0 c.in_ok-config.ensures.1 c.in_ok-config.ensures.2 c.in_ok-config.ensures.3 c.in_ok-config.ensures.4 c.in_ok-config.ensures.5 c.in_ok-config.ensures.6) in
-    rw (p.1, p.2) (ended_lines c.args.script.now c.args.number c.args.life.now c.args.source.now (g.D.Disk.files c.args.devices.now.disk.now) c.requires.here.form c.requires.here.life_is c.requires.here.source_is (c.in_ok-actor.actor).terms are _ c.open.new.fence (c.open.new.self).state c.in_err-open.field-0.0 (λ s. UnlessBroken (ended_new (Err c.in_err-open.field-0.0)) (IsTrue g.D.Disk.tells → IsTrue g.X.SecretStore.tells → AreGivenFrom 0 s.dealings (g.D.Disk.image c.open.new.devices.disk.now) (g.X.SecretStore.held c.open.new.devices.secrets.now)))
-    (given_ended c.args.script.now c.args.number c.args.life.now c.args.source.now (g.D.Disk.files c.args.devices.now.disk.now) c.requires.here.form c.requires.here.life_is c.requires.here.source_is (c.in_ok-actor.actor).terms are (IsTrue g.D.Disk.tells) (IsTrue g.X.SecretStore.tells) (g.D.Disk.image c.open.new.devices.disk.now) (g.X.SecretStore.held c.open.new.devices.secrets.now) c.in_err-open.field-0.0) (c.in_err-open.ensures.tells (its c.args.script.now c.args.number c.args.life.now c.args.source.now (g.D.Disk.files c.args.devices.now.disk.now) c.requires.here.form c.requires.here.life_is c.requires.here.source_is (c.in_ok-actor.actor).terms are) (lent_is c.args.script.now c.args.number c.args.life.now c.args.source.now (g.D.Disk.files c.args.devices.now.disk.now) c.requires.here.form c.requires.here.life_is c.requires.here.source_is (c.in_ok-actor.actor).terms are) (number_is c.args.script.now c.args.number c.args.life.now c.args.source.now (g.D.Disk.files c.args.devices.now.disk.now) c.requires.here.form c.requires.here.life_is c.requires.here.source_is (c.in_ok-actor.actor).terms are) (today_is c.args.script.now c.args.number c.args.life.now c.args.source.now (g.D.Disk.files c.args.devices.now.disk.now) c.requires.here.form c.requires.here.life_is c.requires.here.source_is (c.in_ok-actor.actor).terms are) (at_rules (life_with c.args.script.now c.args.number c.args.life.now c.args.source.now (g.D.Disk.files c.args.devices.now.disk.now) c.requires.here.form c.requires.here.life_is c.requires.here.source_is (c.in_ok-actor.actor).terms are seen_today) 0) c.new-fence.ensures.fresh))
+    rw (p.1, p.2) (ended_lines c.args.script.now c.args.number c.args.life.now c.args.source.now (g.D.Disk.files c.args.devices.now.disk.now) c.requires.here.form c.requires.here.checked c.requires.here.life_is c.requires.here.source_is (c.in_ok-actor.actor).terms are _ c.open.new.fence (c.open.new.self).state c.in_err-open.field-0.0 (λ s. UnlessBroken (ended_new (Err c.in_err-open.field-0.0)) (IsTrue g.D.Disk.tells → IsTrue g.X.SecretStore.tells → AreGivenFrom (starts_above c.args.script.now c.args.number c.args.life.now) s.dealings (g.D.Disk.image c.open.new.devices.disk.now) (g.X.SecretStore.held c.open.new.devices.secrets.now)))
+    (given_ended c.args.script.now c.args.number c.args.life.now c.args.source.now (g.D.Disk.files c.args.devices.now.disk.now) c.requires.here.form c.requires.here.checked c.requires.here.life_is c.requires.here.source_is (c.in_ok-actor.actor).terms are (IsTrue g.D.Disk.tells) (IsTrue g.X.SecretStore.tells) (g.D.Disk.image c.open.new.devices.disk.now) (g.X.SecretStore.held c.open.new.devices.secrets.now) c.in_err-open.field-0.0) (c.in_err-open.ensures.tells (its c.args.script.now c.args.number c.args.life.now c.args.source.now (g.D.Disk.files c.args.devices.now.disk.now) c.requires.here.form c.requires.here.checked c.requires.here.life_is c.requires.here.source_is (c.in_ok-actor.actor).terms are) (lent_is c.args.script.now c.args.number c.args.life.now c.args.source.now (g.D.Disk.files c.args.devices.now.disk.now) c.requires.here.form c.requires.here.checked c.requires.here.life_is c.requires.here.source_is (c.in_ok-actor.actor).terms are) (number_is c.args.script.now c.args.number c.args.life.now c.args.source.now (g.D.Disk.files c.args.devices.now.disk.now) c.requires.here.form c.requires.here.checked c.requires.here.life_is c.requires.here.source_is (c.in_ok-actor.actor).terms are) (today_is c.args.script.now c.args.number c.args.life.now c.args.source.now (g.D.Disk.files c.args.devices.now.disk.now) c.requires.here.form c.requires.here.checked c.requires.here.life_is c.requires.here.source_is (c.in_ok-actor.actor).terms are) (at_rules (life_with c.args.script.now c.args.number c.args.life.now c.args.source.now (g.D.Disk.files c.args.devices.now.disk.now) c.requires.here.form c.requires.here.checked c.requires.here.life_is c.requires.here.source_is (c.in_ok-actor.actor).terms are seen_today) 0) c.new-fence.ensures.fresh))
 
 pub returns-in_err-open-clause-loose : goal.returns-in_err-open-clause-loose
 returns-in_err-open-clause-loose g c = λ told.
     let are = (are_of (c.in_ok-actor.actor).terms c.args.script.now.config _ _ _ _ _ _ _ c.in_ok-actor.ensures.terms c.in_ok-config.ensures.0 c.in_ok-config.ensures.1 c.in_ok-config.ensures.2 c.in_ok-config.ensures.3 c.in_ok-config.ensures.4 c.in_ok-config.ensures.5 c.in_ok-config.ensures.6) in
-    above_from c.args.script.now c.args.number c.args.life.now c.args.source.now (g.D.Disk.files c.args.devices.now.disk.now) c.requires.here.form c.requires.here.life_is c.requires.here.source_is (c.in_ok-actor.actor).terms are _ _ _ _ (c.in_err-open.ensures.loose told)
+    above_from c.args.script.now c.args.number c.args.life.now c.args.source.now (g.D.Disk.files c.args.devices.now.disk.now) c.requires.here.form c.requires.here.checked c.requires.here.life_is c.requires.here.source_is (c.in_ok-actor.actor).terms are _ _ _ _ (c.in_err-open.ensures.loose told)
 
 pub open-requires-2 : goal.open-requires-2
 open-requires-2 g c =
     let are = (are_of (c.in_ok-actor.actor).terms c.args.script.now.config _ _ _ _ _ _ _ c.in_ok-actor.ensures.terms c.in_ok-config.ensures.0 c.in_ok-config.ensures.1 c.in_ok-config.ensures.2 c.in_ok-config.ensures.3 c.in_ok-config.ensures.4 c.in_ok-config.ensures.5 c.in_ok-config.ensures.6) in
-    record { ready = ready_is c.args.script.now c.args.number c.args.life.now c.args.source.now (g.D.Disk.files c.args.devices.now.disk.now) c.requires.here.form c.requires.here.life_is c.requires.here.source_is (c.in_ok-actor.actor).terms are _ c.open.new.fence (c.open.new.self).state _ c.in_ok-open.ensures.ends (c.in_ok-open.ensures.tells (its c.args.script.now c.args.number c.args.life.now c.args.source.now (g.D.Disk.files c.args.devices.now.disk.now) c.requires.here.form c.requires.here.life_is c.requires.here.source_is (c.in_ok-actor.actor).terms are) (lent_is c.args.script.now c.args.number c.args.life.now c.args.source.now (g.D.Disk.files c.args.devices.now.disk.now) c.requires.here.form c.requires.here.life_is c.requires.here.source_is (c.in_ok-actor.actor).terms are) (number_is c.args.script.now c.args.number c.args.life.now c.args.source.now (g.D.Disk.files c.args.devices.now.disk.now) c.requires.here.form c.requires.here.life_is c.requires.here.source_is (c.in_ok-actor.actor).terms are) (today_is c.args.script.now c.args.number c.args.life.now c.args.source.now (g.D.Disk.files c.args.devices.now.disk.now) c.requires.here.form c.requires.here.life_is c.requires.here.source_is (c.in_ok-actor.actor).terms are) (at_rules (life_with c.args.script.now c.args.number c.args.life.now c.args.source.now (g.D.Disk.files c.args.devices.now.disk.now) c.requires.here.form c.requires.here.life_is c.requires.here.source_is (c.in_ok-actor.actor).terms are seen_today) 0) c.new-fence.ensures.fresh) _ (ap non_zero_u64_get are.blocks_are) }
+    record { ready = ready_is c.args.script.now c.args.number c.args.life.now c.args.source.now (g.D.Disk.files c.args.devices.now.disk.now) c.requires.here.form c.requires.here.checked c.requires.here.life_is c.requires.here.source_is (c.in_ok-actor.actor).terms are _ c.open.new.fence (c.open.new.self).state _ c.in_ok-open.ensures.ends (c.in_ok-open.ensures.tells (its c.args.script.now c.args.number c.args.life.now c.args.source.now (g.D.Disk.files c.args.devices.now.disk.now) c.requires.here.form c.requires.here.checked c.requires.here.life_is c.requires.here.source_is (c.in_ok-actor.actor).terms are) (lent_is c.args.script.now c.args.number c.args.life.now c.args.source.now (g.D.Disk.files c.args.devices.now.disk.now) c.requires.here.form c.requires.here.checked c.requires.here.life_is c.requires.here.source_is (c.in_ok-actor.actor).terms are) (number_is c.args.script.now c.args.number c.args.life.now c.args.source.now (g.D.Disk.files c.args.devices.now.disk.now) c.requires.here.form c.requires.here.checked c.requires.here.life_is c.requires.here.source_is (c.in_ok-actor.actor).terms are) (today_is c.args.script.now c.args.number c.args.life.now c.args.source.now (g.D.Disk.files c.args.devices.now.disk.now) c.requires.here.form c.requires.here.checked c.requires.here.life_is c.requires.here.source_is (c.in_ok-actor.actor).terms are) (at_rules (life_with c.args.script.now c.args.number c.args.life.now c.args.source.now (g.D.Disk.files c.args.devices.now.disk.now) c.requires.here.form c.requires.here.checked c.requires.here.life_is c.requires.here.source_is (c.in_ok-actor.actor).terms are seen_today) 0) c.new-fence.ensures.fresh) _ (ap non_zero_u64_get are.blocks_are) }
 
 pub returns-in_err-half-clause-acts : goal.returns-in_err-half-clause-acts
 returns-in_err-half-clause-acts g c = λ disk secrets grammar.
     let p = err_from_is_err_and c.from_residual-in_err-half.result c.from_residual-in_err-half.ensures.1 in
     let are = (are_of (c.in_ok-actor.actor).terms c.args.script.now.config _ _ _ _ _ _ _ c.in_ok-actor.ensures.terms c.in_ok-config.ensures.0 c.in_ok-config.ensures.1 c.in_ok-config.ensures.2 c.in_ok-config.ensures.3 c.in_ok-config.ensures.4 c.in_ok-config.ensures.5 c.in_ok-config.ensures.6) in
-    rw (p.1, p.2) (halted_acts c.args.script.now c.args.number c.args.life.now c.args.source.now (g.D.Disk.files c.args.devices.now.disk.now) c.requires.here.form c.requires.here.life_is c.requires.here.source_is (c.in_ok-actor.actor).terms are _ c.open.new.fence (c.open.new.self).state _ c.in_ok-open.ensures.ends (c.in_ok-open.ensures.acts disk secrets (its c.args.script.now c.args.number c.args.life.now c.args.source.now (g.D.Disk.files c.args.devices.now.disk.now) c.requires.here.form c.requires.here.life_is c.requires.here.source_is (c.in_ok-actor.actor).terms are) (opening_is c.args.script.now c.args.number c.args.life.now c.args.source.now (g.D.Disk.files c.args.devices.now.disk.now) c.requires.here.form c.requires.here.life_is c.requires.here.source_is (c.in_ok-actor.actor).terms are grammar) (at_rules (life_with c.args.script.now c.args.number c.args.life.now c.args.source.now (g.D.Disk.files c.args.devices.now.disk.now) c.requires.here.form c.requires.here.life_is c.requires.here.source_is (c.in_ok-actor.actor).terms are seen_today) 0) c.new-fence.ensures.fresh) c.in_err-half.field-0.0 _ c.open-2.new.fence
+    rw (p.1, p.2) (halted_acts c.args.script.now c.args.number c.args.life.now c.args.source.now (g.D.Disk.files c.args.devices.now.disk.now) c.requires.here.form c.requires.here.checked c.requires.here.life_is c.requires.here.source_is (c.in_ok-actor.actor).terms are _ c.open.new.fence (c.open.new.self).state _ c.in_ok-open.ensures.ends (c.in_ok-open.ensures.acts disk secrets (its c.args.script.now c.args.number c.args.life.now c.args.source.now (g.D.Disk.files c.args.devices.now.disk.now) c.requires.here.form c.requires.here.checked c.requires.here.life_is c.requires.here.source_is (c.in_ok-actor.actor).terms are) (opening_is c.args.script.now c.args.number c.args.life.now c.args.source.now (g.D.Disk.files c.args.devices.now.disk.now) c.requires.here.form c.requires.here.checked c.requires.here.life_is c.requires.here.source_is (c.in_ok-actor.actor).terms are grammar) (at_rules (life_with c.args.script.now c.args.number c.args.life.now c.args.source.now (g.D.Disk.files c.args.devices.now.disk.now) c.requires.here.form c.requires.here.checked c.requires.here.life_is c.requires.here.source_is (c.in_ok-actor.actor).terms are seen_today) 0) c.new-fence.ensures.fresh) c.in_err-half.field-0.0 _ c.open-2.new.fence
     (λ fixed st half may. c.in_err-half.ensures.speaks fixed st (half_as half (ap non_zero_u64_get are.blocks_are)) may))
 
 pub returns-in_err-half-clause-tells : goal.returns-in_err-half-clause-tells
 returns-in_err-half-clause-tells g c =
     let p = err_from_is_err_and c.from_residual-in_err-half.result c.from_residual-in_err-half.ensures.1 in
     let are = (are_of (c.in_ok-actor.actor).terms c.args.script.now.config _ _ _ _ _ _ _ c.in_ok-actor.ensures.terms c.in_ok-config.ensures.0 c.in_ok-config.ensures.1 c.in_ok-config.ensures.2 c.in_ok-config.ensures.3 c.in_ok-config.ensures.4 c.in_ok-config.ensures.5 c.in_ok-config.ensures.6) in
-    rw (p.1, p.2) (halted_lines c.args.script.now c.args.number c.args.life.now c.args.source.now (g.D.Disk.files c.args.devices.now.disk.now) c.requires.here.form c.requires.here.life_is c.requires.here.source_is (c.in_ok-actor.actor).terms are _ c.open.new.fence (c.open.new.self).state _ c.in_ok-open.ensures.ends (c.in_ok-open.ensures.tells (its c.args.script.now c.args.number c.args.life.now c.args.source.now (g.D.Disk.files c.args.devices.now.disk.now) c.requires.here.form c.requires.here.life_is c.requires.here.source_is (c.in_ok-actor.actor).terms are) (lent_is c.args.script.now c.args.number c.args.life.now c.args.source.now (g.D.Disk.files c.args.devices.now.disk.now) c.requires.here.form c.requires.here.life_is c.requires.here.source_is (c.in_ok-actor.actor).terms are) (number_is c.args.script.now c.args.number c.args.life.now c.args.source.now (g.D.Disk.files c.args.devices.now.disk.now) c.requires.here.form c.requires.here.life_is c.requires.here.source_is (c.in_ok-actor.actor).terms are) (today_is c.args.script.now c.args.number c.args.life.now c.args.source.now (g.D.Disk.files c.args.devices.now.disk.now) c.requires.here.form c.requires.here.life_is c.requires.here.source_is (c.in_ok-actor.actor).terms are) (at_rules (life_with c.args.script.now c.args.number c.args.life.now c.args.source.now (g.D.Disk.files c.args.devices.now.disk.now) c.requires.here.form c.requires.here.life_is c.requires.here.source_is (c.in_ok-actor.actor).terms are seen_today) 0) c.new-fence.ensures.fresh) c.in_err-half.field-0.0 _ c.open-2.new.fence (λ s. UnlessBroken (ended_new (Err c.in_err-half.field-0.0)) (IsTrue g.D.Disk.tells → IsTrue g.X.SecretStore.tells → AreGivenFrom 0 s.dealings (g.D.Disk.image c.open.new.devices.disk.now) (g.X.SecretStore.held c.open.new.devices.secrets.now)))
-    (given_halted c.args.script.now c.args.number c.args.life.now c.args.source.now (g.D.Disk.files c.args.devices.now.disk.now) c.requires.here.form c.requires.here.life_is c.requires.here.source_is (c.in_ok-actor.actor).terms are (IsTrue g.D.Disk.tells) (IsTrue g.X.SecretStore.tells) (g.D.Disk.image c.open.new.devices.disk.now) (g.X.SecretStore.held c.open.new.devices.secrets.now) c.in_err-half.field-0.0)
+    rw (p.1, p.2) (halted_lines c.args.script.now c.args.number c.args.life.now c.args.source.now (g.D.Disk.files c.args.devices.now.disk.now) c.requires.here.form c.requires.here.checked c.requires.here.life_is c.requires.here.source_is (c.in_ok-actor.actor).terms are _ c.open.new.fence (c.open.new.self).state _ c.in_ok-open.ensures.ends (c.in_ok-open.ensures.tells (its c.args.script.now c.args.number c.args.life.now c.args.source.now (g.D.Disk.files c.args.devices.now.disk.now) c.requires.here.form c.requires.here.checked c.requires.here.life_is c.requires.here.source_is (c.in_ok-actor.actor).terms are) (lent_is c.args.script.now c.args.number c.args.life.now c.args.source.now (g.D.Disk.files c.args.devices.now.disk.now) c.requires.here.form c.requires.here.checked c.requires.here.life_is c.requires.here.source_is (c.in_ok-actor.actor).terms are) (number_is c.args.script.now c.args.number c.args.life.now c.args.source.now (g.D.Disk.files c.args.devices.now.disk.now) c.requires.here.form c.requires.here.checked c.requires.here.life_is c.requires.here.source_is (c.in_ok-actor.actor).terms are) (today_is c.args.script.now c.args.number c.args.life.now c.args.source.now (g.D.Disk.files c.args.devices.now.disk.now) c.requires.here.form c.requires.here.checked c.requires.here.life_is c.requires.here.source_is (c.in_ok-actor.actor).terms are) (at_rules (life_with c.args.script.now c.args.number c.args.life.now c.args.source.now (g.D.Disk.files c.args.devices.now.disk.now) c.requires.here.form c.requires.here.checked c.requires.here.life_is c.requires.here.source_is (c.in_ok-actor.actor).terms are seen_today) 0) c.new-fence.ensures.fresh) c.in_err-half.field-0.0 _ c.open-2.new.fence (λ s. UnlessBroken (ended_new (Err c.in_err-half.field-0.0)) (IsTrue g.D.Disk.tells → IsTrue g.X.SecretStore.tells → AreGivenFrom (starts_above c.args.script.now c.args.number c.args.life.now) s.dealings (g.D.Disk.image c.open.new.devices.disk.now) (g.X.SecretStore.held c.open.new.devices.secrets.now)))
+    (given_halted c.args.script.now c.args.number c.args.life.now c.args.source.now (g.D.Disk.files c.args.devices.now.disk.now) c.requires.here.form c.requires.here.checked c.requires.here.life_is c.requires.here.source_is (c.in_ok-actor.actor).terms are (IsTrue g.D.Disk.tells) (IsTrue g.X.SecretStore.tells) (g.D.Disk.image c.open.new.devices.disk.now) (g.X.SecretStore.held c.open.new.devices.secrets.now) c.in_err-half.field-0.0)
     (λ fixed st half may. c.in_err-half.ensures.speaks fixed st (half_as half (ap non_zero_u64_get are.blocks_are)) may))
 
 pub returns-in_err-half-clause-readable : goal.returns-in_err-half-clause-readable
@@ -82,33 +86,34 @@ returns-in_err-half-clause-causes g c =
 pub returns-in_err-half-clause-loose : goal.returns-in_err-half-clause-loose
 returns-in_err-half-clause-loose g c = λ told.
     let are = (are_of (c.in_ok-actor.actor).terms c.args.script.now.config _ _ _ _ _ _ _ c.in_ok-actor.ensures.terms c.in_ok-config.ensures.0 c.in_ok-config.ensures.1 c.in_ok-config.ensures.2 c.in_ok-config.ensures.3 c.in_ok-config.ensures.4 c.in_ok-config.ensures.5 c.in_ok-config.ensures.6) in
-    above_from c.args.script.now c.args.number c.args.life.now c.args.source.now (g.D.Disk.files c.args.devices.now.disk.now) c.requires.here.form c.requires.here.life_is c.requires.here.source_is (c.in_ok-actor.actor).terms are _ _ _ _ (c.in_ok-open.ensures.loose told)
+    above_from c.args.script.now c.args.number c.args.life.now c.args.source.now (g.D.Disk.files c.args.devices.now.disk.now) c.requires.here.form c.requires.here.checked c.requires.here.life_is c.requires.here.source_is (c.in_ok-actor.actor).terms are _ _ _ _ (c.in_ok-open.ensures.loose told)
 
 pub returns-clause-ready : goal.returns-clause-ready
 returns-clause-ready g c = ready_node g.D.Disk.tells g.D.Disk.files g.D.Disk.image (record { actor = c.open.new.self; fence = c.open-2.new.fence; half = c.in_ok-half.half }) c.open.new.devices c.in_ok-open.ensures.ends
 
 pub returns-clause-of : goal.returns-clause-of
-returns-clause-of g c = λ lived same reads.
+returns-clause-of g c = λ lived same same_life none.
     let are = (are_of (c.in_ok-actor.actor).terms c.args.script.now.config _ _ _ _ _ _ _ c.in_ok-actor.ensures.terms c.in_ok-config.ensures.0 c.in_ok-config.ensures.1 c.in_ok-config.ensures.2 c.in_ok-config.ensures.3 c.in_ok-config.ensures.4 c.in_ok-config.ensures.5 c.in_ok-config.ensures.6) in
-    of_terms lived (record { actor = c.open.new.self; fence = c.open-2.new.fence; half = c.in_ok-half.half }) c.args.script.now.config (ap (λ (s : Script). s.config) same) reads (subst (λ (t : Terms). AreTerms t c.args.script.now.config.me c.args.script.now.config.blocks_per_epoch c.args.script.now.config.limit c.args.script.now.config.max_mode c.args.script.now.config.mode V1 c.args.script.now.config.namespace) (sym c.in_ok-open.ensures.rest.4) are)
+    of_terms lived (record { actor = c.open.new.self; fence = c.open-2.new.fence; half = c.in_ok-half.half }) c.args.script.now.config (ap (λ (s : Script). s.config) same) none (subst (λ (t : Terms). AreTerms t c.args.script.now.config.me c.args.script.now.config.blocks_per_epoch c.args.script.now.config.limit c.args.script.now.config.max_mode c.args.script.now.config.mode V1 c.args.script.now.config.namespace) (sym c.in_ok-open.ensures.rest.4) are)
+    c.args.life.now.word (ap (λ (l : Life). l.word) same_life) c.in_ok-open.ensures.word
 
 pub returns-clause-acts : goal.returns-clause-acts
 returns-clause-acts g c = λ disk secrets grammar.
     let are = (are_of (c.in_ok-actor.actor).terms c.args.script.now.config _ _ _ _ _ _ _ c.in_ok-actor.ensures.terms c.in_ok-config.ensures.0 c.in_ok-config.ensures.1 c.in_ok-config.ensures.2 c.in_ok-config.ensures.3 c.in_ok-config.ensures.4 c.in_ok-config.ensures.5 c.in_ok-config.ensures.6) in
-    opened_acts c.args.script.now c.args.number c.args.life.now c.args.source.now (g.D.Disk.files c.args.devices.now.disk.now) c.requires.here.form c.requires.here.life_is c.requires.here.source_is (c.in_ok-actor.actor).terms are _ c.open.new.fence (c.open.new.self).state _ c.in_ok-open.ensures.ends (c.in_ok-open.ensures.acts disk secrets (its c.args.script.now c.args.number c.args.life.now c.args.source.now (g.D.Disk.files c.args.devices.now.disk.now) c.requires.here.form c.requires.here.life_is c.requires.here.source_is (c.in_ok-actor.actor).terms are) (opening_is c.args.script.now c.args.number c.args.life.now c.args.source.now (g.D.Disk.files c.args.devices.now.disk.now) c.requires.here.form c.requires.here.life_is c.requires.here.source_is (c.in_ok-actor.actor).terms are grammar) (at_rules (life_with c.args.script.now c.args.number c.args.life.now c.args.source.now (g.D.Disk.files c.args.devices.now.disk.now) c.requires.here.form c.requires.here.life_is c.requires.here.source_is (c.in_ok-actor.actor).terms are seen_today) 0) c.new-fence.ensures.fresh) (record { actor = c.open.new.self; fence = c.open-2.new.fence; half = c.in_ok-half.half }) refl _
+    opened_acts c.args.script.now c.args.number c.args.life.now c.args.source.now (g.D.Disk.files c.args.devices.now.disk.now) c.requires.here.form c.requires.here.checked c.requires.here.life_is c.requires.here.source_is (c.in_ok-actor.actor).terms are _ c.open.new.fence (c.open.new.self).state _ c.in_ok-open.ensures.ends (c.in_ok-open.ensures.acts disk secrets (its c.args.script.now c.args.number c.args.life.now c.args.source.now (g.D.Disk.files c.args.devices.now.disk.now) c.requires.here.form c.requires.here.checked c.requires.here.life_is c.requires.here.source_is (c.in_ok-actor.actor).terms are) (opening_is c.args.script.now c.args.number c.args.life.now c.args.source.now (g.D.Disk.files c.args.devices.now.disk.now) c.requires.here.form c.requires.here.checked c.requires.here.life_is c.requires.here.source_is (c.in_ok-actor.actor).terms are grammar) (at_rules (life_with c.args.script.now c.args.number c.args.life.now c.args.source.now (g.D.Disk.files c.args.devices.now.disk.now) c.requires.here.form c.requires.here.checked c.requires.here.life_is c.requires.here.source_is (c.in_ok-actor.actor).terms are seen_today) 0) c.new-fence.ensures.fresh) (record { actor = c.open.new.self; fence = c.open-2.new.fence; half = c.in_ok-half.half }) refl _
     (λ fixed st half may. c.in_ok-half.ensures.speaks fixed st (half_as half (ap non_zero_u64_get are.blocks_are)) may)
 
 pub returns-clause-tells : goal.returns-clause-tells
 returns-clause-tells g c =
     let are = (are_of (c.in_ok-actor.actor).terms c.args.script.now.config _ _ _ _ _ _ _ c.in_ok-actor.ensures.terms c.in_ok-config.ensures.0 c.in_ok-config.ensures.1 c.in_ok-config.ensures.2 c.in_ok-config.ensures.3 c.in_ok-config.ensures.4 c.in_ok-config.ensures.5 c.in_ok-config.ensures.6) in
-    opened_lines c.args.script.now c.args.number c.args.life.now c.args.source.now (g.D.Disk.files c.args.devices.now.disk.now) c.requires.here.form c.requires.here.life_is c.requires.here.source_is (c.in_ok-actor.actor).terms are _ c.open.new.fence (c.open.new.self).state _ c.in_ok-open.ensures.ends (c.in_ok-open.ensures.tells (its c.args.script.now c.args.number c.args.life.now c.args.source.now (g.D.Disk.files c.args.devices.now.disk.now) c.requires.here.form c.requires.here.life_is c.requires.here.source_is (c.in_ok-actor.actor).terms are) (lent_is c.args.script.now c.args.number c.args.life.now c.args.source.now (g.D.Disk.files c.args.devices.now.disk.now) c.requires.here.form c.requires.here.life_is c.requires.here.source_is (c.in_ok-actor.actor).terms are) (number_is c.args.script.now c.args.number c.args.life.now c.args.source.now (g.D.Disk.files c.args.devices.now.disk.now) c.requires.here.form c.requires.here.life_is c.requires.here.source_is (c.in_ok-actor.actor).terms are) (today_is c.args.script.now c.args.number c.args.life.now c.args.source.now (g.D.Disk.files c.args.devices.now.disk.now) c.requires.here.form c.requires.here.life_is c.requires.here.source_is (c.in_ok-actor.actor).terms are) (at_rules (life_with c.args.script.now c.args.number c.args.life.now c.args.source.now (g.D.Disk.files c.args.devices.now.disk.now) c.requires.here.form c.requires.here.life_is c.requires.here.source_is (c.in_ok-actor.actor).terms are seen_today) 0) c.new-fence.ensures.fresh) (record { actor = c.open.new.self; fence = c.open-2.new.fence; half = c.in_ok-half.half }) refl _ (λ s. UnlessBroken (ended_new (Ok (record { actor = c.open.new.self; fence = c.open-2.new.fence; half = c.in_ok-half.half }))) (IsTrue g.D.Disk.tells → IsTrue g.X.SecretStore.tells → AreGivenFrom 0 s.dealings (g.D.Disk.image c.open.new.devices.disk.now) (g.X.SecretStore.held c.open.new.devices.secrets.now)))
-    (given_opened c.args.script.now c.args.number c.args.life.now c.args.source.now (g.D.Disk.files c.args.devices.now.disk.now) c.requires.here.form c.requires.here.life_is c.requires.here.source_is (c.in_ok-actor.actor).terms are (IsTrue g.D.Disk.tells) (IsTrue g.X.SecretStore.tells) (g.D.Disk.image c.open.new.devices.disk.now) (g.X.SecretStore.held c.open.new.devices.secrets.now))
+    opened_lines c.args.script.now c.args.number c.args.life.now c.args.source.now (g.D.Disk.files c.args.devices.now.disk.now) c.requires.here.form c.requires.here.checked c.requires.here.life_is c.requires.here.source_is (c.in_ok-actor.actor).terms are _ c.open.new.fence (c.open.new.self).state _ c.in_ok-open.ensures.ends (c.in_ok-open.ensures.tells (its c.args.script.now c.args.number c.args.life.now c.args.source.now (g.D.Disk.files c.args.devices.now.disk.now) c.requires.here.form c.requires.here.checked c.requires.here.life_is c.requires.here.source_is (c.in_ok-actor.actor).terms are) (lent_is c.args.script.now c.args.number c.args.life.now c.args.source.now (g.D.Disk.files c.args.devices.now.disk.now) c.requires.here.form c.requires.here.checked c.requires.here.life_is c.requires.here.source_is (c.in_ok-actor.actor).terms are) (number_is c.args.script.now c.args.number c.args.life.now c.args.source.now (g.D.Disk.files c.args.devices.now.disk.now) c.requires.here.form c.requires.here.checked c.requires.here.life_is c.requires.here.source_is (c.in_ok-actor.actor).terms are) (today_is c.args.script.now c.args.number c.args.life.now c.args.source.now (g.D.Disk.files c.args.devices.now.disk.now) c.requires.here.form c.requires.here.checked c.requires.here.life_is c.requires.here.source_is (c.in_ok-actor.actor).terms are) (at_rules (life_with c.args.script.now c.args.number c.args.life.now c.args.source.now (g.D.Disk.files c.args.devices.now.disk.now) c.requires.here.form c.requires.here.checked c.requires.here.life_is c.requires.here.source_is (c.in_ok-actor.actor).terms are seen_today) 0) c.new-fence.ensures.fresh) (record { actor = c.open.new.self; fence = c.open-2.new.fence; half = c.in_ok-half.half }) refl _ (λ s. UnlessBroken (ended_new (Ok (record { actor = c.open.new.self; fence = c.open-2.new.fence; half = c.in_ok-half.half }))) (IsTrue g.D.Disk.tells → IsTrue g.X.SecretStore.tells → AreGivenFrom (starts_above c.args.script.now c.args.number c.args.life.now) s.dealings (g.D.Disk.image c.open.new.devices.disk.now) (g.X.SecretStore.held c.open.new.devices.secrets.now)))
+    (given_opened c.args.script.now c.args.number c.args.life.now c.args.source.now (g.D.Disk.files c.args.devices.now.disk.now) c.requires.here.form c.requires.here.checked c.requires.here.life_is c.requires.here.source_is (c.in_ok-actor.actor).terms are (IsTrue g.D.Disk.tells) (IsTrue g.X.SecretStore.tells) (g.D.Disk.image c.open.new.devices.disk.now) (g.X.SecretStore.held c.open.new.devices.secrets.now))
     (λ fixed st half may. c.in_ok-half.ensures.speaks fixed st (half_as half (ap non_zero_u64_get are.blocks_are)) may)
 
 pub returns-clause-loose : goal.returns-clause-loose
 returns-clause-loose g c = λ told.
     let are = (are_of (c.in_ok-actor.actor).terms c.args.script.now.config _ _ _ _ _ _ _ c.in_ok-actor.ensures.terms c.in_ok-config.ensures.0 c.in_ok-config.ensures.1 c.in_ok-config.ensures.2 c.in_ok-config.ensures.3 c.in_ok-config.ensures.4 c.in_ok-config.ensures.5 c.in_ok-config.ensures.6) in
-    above_from c.args.script.now c.args.number c.args.life.now c.args.source.now (g.D.Disk.files c.args.devices.now.disk.now) c.requires.here.form c.requires.here.life_is c.requires.here.source_is (c.in_ok-actor.actor).terms are _ _ _ _ (c.in_ok-open.ensures.loose told)
+    above_from c.args.script.now c.args.number c.args.life.now c.args.source.now (g.D.Disk.files c.args.devices.now.disk.now) c.requires.here.form c.requires.here.checked c.requires.here.life_is c.requires.here.source_is (c.in_ok-actor.actor).terms are _ _ _ _ (c.in_ok-open.ensures.loose told)
 
 -- WHETHER IT WAS READABLE
 
@@ -132,3 +137,73 @@ pub returns-clause-readable : goal.returns-clause-readable
 returns-clause-readable g c = λ told.
     let are = (are_of (c.in_ok-actor.actor).terms c.args.script.now.config _ _ _ _ _ _ _ c.in_ok-actor.ensures.terms c.in_ok-config.ensures.0 c.in_ok-config.ensures.1 c.in_ok-config.ensures.2 c.in_ok-config.ensures.3 c.in_ok-config.ensures.4 c.in_ok-config.ensures.5 c.in_ok-config.ensures.6) in
     was_readable (grammar_as _ _ (ap non_zero_u32_get are.limit_is) _ (c.in_ok-open.ensures.readable told).ok) _
+
+-- THE CONFIGURATION is one that was checked
+
+pub returns-in_err-actor-clause-acts : goal.returns-in_err-actor-clause-acts
+returns-in_err-actor-clause-acts g c = absurd (not_refused c.args.script.now c.requires.here.checked _ _ _ c.in_ok-config.ensures.2 (ap (λ (v : ModeVersion). v.0) c.in_ok-config.ensures.3) (ap non_zero_u64_get c.in_ok-config.ensures.6) _ c.in_err-actor.ensures.refused)
+
+pub returns-in_err-actor-clause-tells : goal.returns-in_err-actor-clause-tells
+returns-in_err-actor-clause-tells g c = absurd (not_refused c.args.script.now c.requires.here.checked _ _ _ c.in_ok-config.ensures.2 (ap (λ (v : ModeVersion). v.0) c.in_ok-config.ensures.3) (ap non_zero_u64_get c.in_ok-config.ensures.6) _ c.in_err-actor.ensures.refused)
+
+pub returns-in_err-actor-clause-causes : goal.returns-in_err-actor-clause-causes
+returns-in_err-actor-clause-causes g c = absurd (not_refused c.args.script.now c.requires.here.checked _ _ _ c.in_ok-config.ensures.2 (ap (λ (v : ModeVersion). v.0) c.in_ok-config.ensures.3) (ap non_zero_u64_get c.in_ok-config.ensures.6) _ c.in_err-actor.ensures.refused)
+
+pub returns-in_err-actor-clause-moved : goal.returns-in_err-actor-clause-moved
+returns-in_err-actor-clause-moved g c = absurd (not_refused c.args.script.now c.requires.here.checked _ _ _ c.in_ok-config.ensures.2 (ap (λ (v : ModeVersion). v.0) c.in_ok-config.ensures.3) (ap non_zero_u64_get c.in_ok-config.ensures.6) _ c.in_err-actor.ensures.refused)
+
+pub returns-in_err-actor-clause-loose : goal.returns-in_err-actor-clause-loose
+returns-in_err-actor-clause-loose g c = absurd (not_refused c.args.script.now c.requires.here.checked _ _ _ c.in_ok-config.ensures.2 (ap (λ (v : ModeVersion). v.0) c.in_ok-config.ensures.3) (ap non_zero_u64_get c.in_ok-config.ensures.6) _ c.in_err-actor.ensures.refused)
+
+pub returns-in_err-open-clause-moved : goal.returns-in_err-open-clause-moved
+returns-in_err-open-clause-moved g c = c.in_err-open.ensures.moved
+
+pub returns-in_err-half-clause-moved : goal.returns-in_err-half-clause-moved
+returns-in_err-half-clause-moved g c = c.in_ok-open.ensures.moved
+
+pub returns-clause-moved : goal.returns-clause-moved
+returns-clause-moved g c = c.in_ok-open.ensures.moved
+
+pub returns-in_err-open-clause-causes : goal.returns-in_err-open-clause-causes
+returns-in_err-open-clause-causes g c =
+    let p = err_from_is_err_and c.from_residual-in_err-open.result c.from_residual-in_err-open.ensures.1 in
+    let are = (are_of (c.in_ok-actor.actor).terms c.args.script.now.config _ _ _ _ _ _ _ c.in_ok-actor.ensures.terms c.in_ok-config.ensures.0 c.in_ok-config.ensures.1 c.in_ok-config.ensures.2 c.in_ok-config.ensures.3 c.in_ok-config.ensures.4 c.in_ok-config.ensures.5 c.in_ok-config.ensures.6) in
+    rw (p.1, p.2) (found_as _ _ (ap non_zero_u32_get are.limit_is) g.D.Disk.tells _ c.in_err-open.field-0.0 _ _ _ c.in_err-open.ensures.causes)
+
+-- WHAT ELSE is handed on
+
+pub returns-in_err-config-clause-ready : goal.returns-in_err-config-clause-ready
+returns-in_err-config-clause-ready g c = let p = err_from_is_err_and c.from_residual.result c.from_residual.ensures.1 in rw p.1 tt
+
+pub returns-in_err-config-clause-of : goal.returns-in_err-config-clause-of
+returns-in_err-config-clause-of g c = let p = err_from_is_err_and c.from_residual.result c.from_residual.ensures.1 in rw p.1 tt
+
+pub returns-in_err-actor-clause-ready : goal.returns-in_err-actor-clause-ready
+returns-in_err-actor-clause-ready g c = let p = err_from_is_err_and c.from_residual-in_err-actor.result c.from_residual-in_err-actor.ensures.1 in rw p.1 tt
+
+pub returns-in_err-actor-clause-of : goal.returns-in_err-actor-clause-of
+returns-in_err-actor-clause-of g c = let p = err_from_is_err_and c.from_residual-in_err-actor.result c.from_residual-in_err-actor.ensures.1 in rw p.1 tt
+
+pub returns-in_err-open-clause-ready : goal.returns-in_err-open-clause-ready
+returns-in_err-open-clause-ready g c = let p = err_from_is_err_and c.from_residual-in_err-open.result c.from_residual-in_err-open.ensures.1 in rw p.1 tt
+
+pub returns-in_err-open-clause-of : goal.returns-in_err-open-clause-of
+returns-in_err-open-clause-of g c = let p = err_from_is_err_and c.from_residual-in_err-open.result c.from_residual-in_err-open.ensures.1 in rw p.1 tt
+
+pub returns-in_err-half-clause-ready : goal.returns-in_err-half-clause-ready
+returns-in_err-half-clause-ready g c = let p = err_from_is_err_and c.from_residual-in_err-half.result c.from_residual-in_err-half.ensures.1 in rw p.1 tt
+
+pub returns-in_err-half-clause-of : goal.returns-in_err-half-clause-of
+returns-in_err-half-clause-of g c = let p = err_from_is_err_and c.from_residual-in_err-half.result c.from_residual-in_err-half.ensures.1 in rw p.1 tt
+
+pub returns-in_err-config-clause-moved : goal.returns-in_err-config-clause-moved
+returns-in_err-config-clause-moved g c = moved_none g.D.Disk.tells g.D.Disk.made g.X.SecretStore.made g.D.Disk.faults g.X.SecretStore.faults g.met.D.Disk.made_none g.met.X.SecretStore.made_none c.args.devices.now
+
+pub returns-in_err-config-clause-causes : goal.returns-in_err-config-clause-causes
+returns-in_err-config-clause-causes g c = let p = err_from_is_err_and c.from_residual.result c.from_residual.ensures.1 in rw (p.1, p.2) tt
+
+pub returns-in_err-config-clause-loose : goal.returns-in_err-config-clause-loose
+returns-in_err-config-clause-loose g c = λ told. above_itself (starts_above c.args.script.now c.args.number c.args.life.now) (g.D.Disk.image c.args.devices.now.disk.now) (g.X.SecretStore.held c.args.devices.now.secrets.now)
+
+pub returns-clause-causes : goal.returns-clause-causes
+returns-clause-causes g c = tt

@@ -1,0 +1,155 @@
+-- What a dealer deals stays the same over a step that takes no epoch over: acknowledgements come in, and its log is signed.
+use Rattle.std.proofs.Common.{◌≡◌, inl, inr, Bool, true, false, ℕ, List, Option, Some, None, Result, Ok, Err, refl, sym, ◌∙◌, ap, subst}
+use Rattle.std.specs.Prelude.{◌+◌, ◌==◌, if◌then◌else◌, is_some, option_and_then, option_map}
+use Rattle.std.specs.Option.{option_map_or}
+use Rattle.dkg_values.specs.Rising.{lookup}
+use Rattle.dkg_ceremony.specs.declared.ceremony.AckError.{AckError}
+use Rattle.dkg_ceremony.specs.declared.round.Round.{Round}
+use Rattle.dkg_ceremony.specs.Schedule.{midpoint}
+use Rattle.dkg_types.specs.Blocks.{Block}
+use Rattle.dkg_store.specs.Acts.{Held}
+use Rattle.dkg_core.specs.Dealing.{counts, with_ack}
+use Rattle.dkg_core.specs.Fixed.{Fixed}
+use Rattle.dkg_core.specs.Forms.{Judged, Refusal, Passed, Applied, judged_block}
+use Rattle.dkg_core.specs.Live.{Live, Dealer, Seat, Plays, Watches, Stage, Deals, Includes, Follows, Ends, Message, Sent, Peer, Finalized, NextLog, ReleaseLog, EpochInfoOf, Feed, Over, Cancel, Work, is_last_height, recorded_at, with_tip}
+use Rattle.dkg_core.specs.Setup.{begins_inclusion, signed}
+use Rattle.dkg_core.specs.Stepping.{IsAppliedEnd, IsBlockEnd, IsFollowedEnd, IsHeardBy, IsNextIn, TakesNothingOver, dealt_behind, given_in, given_itself, own_given, own_half, with_own_ack, with_own_dealing, with_taken}
+
+some_is : {A : Type 0} {x y : A} → ◌≡◌ {A = Option A} (Some x) (Some y) → x ≡ y
+some_is e = cc
+
+none_some : {A : Type 0} {x : A} → ◌≡◌ {A = Option A} None (Some x) → ⊥
+none_some e = cc
+
+-- the dealer of before, with the same halves
+pub record WasDealer {Dir : Type 0} (st : Live Dir) (d : Dealer) : Type 0 where
+  pub was : Dealer
+  pub there : st.participation.dealer ≡ Some was
+  pub public : d.public ≡ was.public
+  pub privates : d.privates ≡ was.privates
+
+abbrev pub StaysDealt : {Dir : Type 0} → (st end : Live Dir) → Type 0
+StaysDealt st end = (d : Dealer) → end.participation.dealer ≡ Some d → WasDealer st d
+
+module _ {Dir : Type 0} where
+  -- the same dealer
+  same : (st end : Live Dir) → end.participation.dealer ≡ st.participation.dealer → StaysDealt st end
+  same st end is d there = record { was = d; there = sym is ∙ there; public = refl; privates = refl }
+
+  -- one of these halves
+  with_halves : (st : Live Dir) (was next d : Dealer) → st.participation.dealer ≡ Some was → next.public ≡ was.public → next.privates ≡ was.privates → ◌≡◌ {A = Option Dealer} (Some next) (Some d) → WasDealer st d
+  with_halves st was next d there public privates is = record {
+    was = was;
+    there = there;
+    public = ap (λ (x : Dealer). x.public) (sym (some_is is)) ∙ public;
+    privates = ap (λ (x : Dealer). x.privates) (sym (some_is is)) ∙ privates;
+  }
+
+  both : (st mid end : Live Dir) → StaysDealt st mid → StaysDealt mid end → StaysDealt st end
+  both st mid end one two d there =
+      let second : WasDealer mid d = two d there in
+      let first : WasDealer st second.was = one second.was second.there in
+      record { was = first.was; there = first.there; public = second.public ∙ first.public; privates = second.privates ∙ first.privates }
+
+  -- ACKNOWLEDGEMENTS
+
+  taken : (epoch : ℕ) (its : Dealer) (player : ℕ) (ack : List ℕ) (st : Live Dir) → st.participation.dealer ≡ Some its → StaysDealt st (with_taken epoch its player ack st)
+  taken epoch its player ack st is = by_tests (is_some (lookup player its.acks)) (is_some (recorded_at st.records.acks epoch player))
+    where
+      by_tests : (one two : Bool) → StaysDealt st (if one then st else if two then counts its player ack st else counts its player ack (with_ack epoch player ack st))
+      by_tests true two d there = same st st refl d there
+      by_tests false true d there = with_halves st its _ d is refl refl there
+      by_tests false false d there = with_halves st its _ d is refl refl there
+
+  heard : (c : Fixed Dir) (from : ℕ) (st end : Live Dir) → IsHeardBy c st from end → StaysDealt st end
+  heard c from st end (inl is) = same st end (ap (λ (x : Live Dir). x.participation.dealer) is)
+  heard c from st end (inr (inl its)) = same st end (ap (λ (x : Live Dir). x.participation.dealer) its.is)
+  heard c from st end (inr (inr its)) = subst (λ (x : Live Dir). StaysDealt st x) (sym its.is) (taken (its.round).number its.dealer from its.ack st its.of_dealer)
+
+  module _ (c : Fixed Dir) where
+    -- ITS OWN DEALING
+
+    own_dealing : (round : Round) (public : List ℕ) (private : ℕ) (st : Live Dir) (found : Option (List ℕ × ℕ)) → StaysDealt st (with_own_dealing c round public private st found)
+    own_dealing round public private st None = same st (with_own_dealing c round public private st None) refl
+    own_dealing round public private st (Some kept) = same st st refl
+
+    dealer_there : (round : Round) (public : List ℕ) (private : ℕ) (st : Live Dir) (found : Option (List ℕ × ℕ)) → (with_own_dealing c round public private st found).participation.dealer ≡ st.participation.dealer
+    dealer_there round public private st None = refl
+    dealer_there round public private st (Some kept) = refl
+
+    own_ack : (round : Round) (its : Dealer) (st : Live Dir) (check : Result (Unit {0}) AckError) → st.participation.dealer ≡ Some its → StaysDealt st (with_own_ack c round its st check)
+    own_ack round its st (Err e) is = same st st refl
+    own_ack round its st (Ok passed) is = taken round.number its c.me (c.rules.ack_of c.me round c.me its.public) st is
+
+    own : (round : Round) (its : Dealer) (private : ℕ) (st : Live Dir) → st.participation.dealer ≡ Some its → StaysDealt st (own_given c round its private st)
+    own round its private st is =
+        let found : Option (List ℕ × ℕ) = recorded_at st.records.dealings round.number c.me in
+        let mid : Live Dir = with_own_dealing c round its.public private st found in
+        both st mid (own_given c round its private st) (own_dealing round its.public private st found)
+        (own_ack round its mid (c.rules.check_ack_of round c.me its.public c.me (c.rules.ack_of c.me round c.me its.public)) (dealer_there round its.public private st found ∙ is))
+
+    given : (round : Round) (its : Dealer) (st : Live Dir) (seat : Seat) (half : Option ℕ) → st.participation.dealer ≡ Some its → StaysDealt st (given_in c round its st seat half)
+    given round its st Plays (Some private) is = own round its private st is
+    given round its st Plays None is = same st st refl
+    given round its st Watches half is = same st st refl
+
+    itself : (st : Live Dir) → StaysDealt st (given_itself c st)
+    itself st = by_round st.participation.round
+      where
+        by_dealer : (round : Round) (o : Option Dealer) → st.participation.dealer ≡ o → StaysDealt st (option_map_or (λ its. given_in c round its st st.participation.seat (own_half c round its)) o st)
+        by_dealer round None is = same st st refl
+        by_dealer round (Some its) is = given round its st st.participation.seat (own_half c round its) is
+
+        by_round : (o : Option Round) → StaysDealt st (option_map_or (λ round. option_map_or (λ its. given_in c round its st st.participation.seat (own_half c round its)) st.participation.dealer st) o st)
+        by_round None = same st st refl
+        by_round (Some round) = by_dealer round st.participation.dealer refl
+
+    -- ITS LOG
+
+    included : (st : Live Dir) → StaysDealt st (begins_inclusion c st)
+    included st d there = by_round st.participation.round there
+      where
+        by_dealer : (round : Round) (o : Option Dealer) → st.participation.dealer ≡ o → option_map (signed c round) o ≡ Some d → WasDealer st d
+        by_dealer round None is there = absurd (none_some there)
+        by_dealer round (Some its) is there = with_halves st its (signed c round its) d is refl refl there
+
+        by_round : (o : Option Round) → option_and_then (λ round. option_map (signed c round) st.participation.dealer) o ≡ Some d → WasDealer st d
+        by_round None there = absurd (none_some there)
+        by_round (Some round) there = by_dealer round st.participation.dealer refl there
+
+    dealt : (b : Block Dir) (st : Live Dir) → StaysDealt st (dealt_behind c b st)
+    dealt b st = by_test (b.height + 1 == midpoint c.blocks_per_epoch st.participation.epoch)
+      where
+        by_test : (t : Bool) → StaysDealt st (if t then begins_inclusion c (with_tip b st) else with_tip b st)
+        by_test true = both st (with_tip b st) (begins_inclusion c (with_tip b st)) (same st (with_tip b st) refl) (included (with_tip b st))
+        by_test false = same st (with_tip b st) refl
+
+    -- A BLOCK that takes nothing over
+
+    module _ (b : Block Dir) (st end : Live Dir) (h k : Held) where
+      followed : (last : Bool) → (last ≡ true → ⊥) → IsFollowedEnd c b st h k last end → StaysDealt st end
+      followed true apart is = absurd (apart refl)
+      followed false apart is = same st end (ap (λ (x : Live Dir). x.participation.dealer) is)
+
+      applied : (stage : Stage) → (stage ≡ Follows → is_last_height c b.height ≡ true → ⊥) → IsAppliedEnd c b st h k stage end → StaysDealt st end
+      applied Deals apart is = subst (λ (x : Live Dir). StaysDealt st x) (sym is) (both st (given_itself c st) (dealt_behind c b (given_itself c st)) (itself st) (dealt b (given_itself c st)))
+      applied Follows apart is = followed (is_last_height c b.height) (apart refl) is
+      applied Includes apart is = absurd is
+      applied Ends apart is = absurd is
+
+      block : (j : Judged) → (j ≡ Applied → st.participation.stage ≡ Follows → is_last_height c b.height ≡ true → ⊥) → IsBlockEnd c b st h k j end → StaysDealt st end
+      block (Refusal fault) apart is = absurd is
+      block Passed apart is = same st end (ap (λ (x : Live Dir). x.participation.dealer) is)
+      block Applied apart is = applied st.participation.stage (apart refl) is
+
+    -- ANY STEP that takes nothing over
+    pub next_dealt : (st : Live Dir) (message : Message Dir) (h k : Held) (end : Live Dir) → TakesNothingOver c st message → IsNextIn c st message h k end → StaysDealt st end
+    next_dealt st (Finalized b) h k end nothing next = block b st end h k (judged_block c b st) nothing next.is
+    next_dealt st (Sent (Peer from bytes)) h k end nothing next = heard c from st end next.is
+    next_dealt st (Sent (NextLog request height)) h k end nothing next = absurd next.is
+    next_dealt st (Sent (ReleaseLog height)) h k end nothing next = absurd next.is
+    next_dealt st (Sent (EpochInfoOf request)) h k end nothing next = absurd next.is
+    next_dealt st (Sent (Feed request block)) h k end nothing next = absurd next.is
+    next_dealt st (Sent (Over request)) h k end nothing next = absurd next.is
+    next_dealt st (Sent (Cancel request)) h k end nothing next = absurd next.is
+    next_dealt st (Sent (Work result)) h k end nothing next = absurd next.is

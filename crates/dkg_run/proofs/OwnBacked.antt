@@ -1,0 +1,219 @@
+-- This node's own dealings that the devices give back stay what the stored share and seed deal: over an opening of the form, over a block and over a message, wherever each ends.
+use Rattle.std.proofs.Common.{◌≡◌, inl, inr, ◌≤◌, ℕ, List, Option, Some, None, Result, Ok, Err, refl, sym, ◌∙◌, ap, subst, arith}
+use Rattle.std.specs.Prelude.{◌-◌, IfOk, if◌then◌else◌, not, option_and_then}
+use Rattle.std.specs.Result.{result_ok}
+use Rattle.std.specs.FinMap.{get}
+use Rattle.dkg_values.specs.Rising.{lookup}
+use Rattle.dkg_ceremony.specs.Deals.{deal_of, is_share_of}
+use Rattle.dkg_ceremony.specs.RoundLaws as rounds
+use Rattle.dkg_ceremony.specs.Rounds.{round_of}
+use Rattle.dkg_ceremony.specs.Schedule.{epoch_of}
+use Rattle.dkg_ceremony.specs.declared.deal.DealError.{DealError}
+use Rattle.dkg_ceremony.specs.declared.deal.DealError.TheVariants as deal
+use Rattle.dkg_ceremony.specs.declared.mode.Reveal.TheVariants.{V1}
+use Rattle.dkg_ceremony.specs.declared.output.Output.{Output}
+use Rattle.dkg_ceremony.specs.declared.round.Round.{Round}
+use Rattle.dkg_ceremony.specs.declared.round.RoundError.{RoundError}
+use Rattle.dkg_journal.specs.Operations.{Journaled, Prunes}
+use Rattle.dkg_journal.specs.Records.{Entry as JournalEntry, from_section}
+use Rattle.dkg_secrets.specs.Secrets.{Secrets}
+use Rattle.dkg_secrets.specs.declared.secrets.SecretOp.TheVariants.{Prune}
+use Rattle.dkg_types.specs.declared.entry.Entry.{Entry as Line}
+use Rattle.dkg_types.specs.declared.info.EpochInfo.{EpochInfo}
+use Rattle.dkg_script.specs.Blocks.{known_info, reshare_round, round_at}
+use Rattle.dkg_script.specs.Epochs.{IsFormOfEpochs}
+use Rattle.dkg_script.specs.Readings.{Info}
+use Rattle.dkg_script.specs.Setting.{Setting, me}
+use Rattle.dkg_store.specs.Acts.{Cause, Changes, Ended, Held, OnDisk, Tears, World, does, notes, says}
+use Rattle.dkg_store.specs.Pairs.{IsWhole, Pairs, recovered}
+use Rattle.dkg_store.proofs.Acts.{along_runs}
+use Rattle.dkg_core.specs.Behind.{RunsBehind}
+use Rattle.dkg_core.specs.Core.{opening}
+use Rattle.dkg_core.specs.Courses.{Ask, Call, Course, Do, EndsSo, Goes, Say, Stops, Throughout, on_devices}
+use Rattle.dkg_core.specs.Fixed.{Fixed}
+use Rattle.dkg_core.specs.Forms.{IsForm}
+use Rattle.dkg_core.specs.Heard.{recovered_in}
+use Rattle.dkg_core.specs.Live.{Live, NodeStop, awaited_height}
+use Rattle.dkg_core.specs.Node.{node_opening}
+use Rattle.dkg_core.specs.Setup as setup
+use Rattle.dkg_core.specs.Storing.{ReadsSecrets}
+use Rattle.dkg_core.specs.Today.{first_epoch}
+use Rattle.dkg_core.proofs.Behind.{openings_run_behind}
+use Rattle.dkg_core.proofs.Walking as walk
+use Rattle.dkg_run.proofs.NoOthers as others
+use Rattle.dkg_run.proofs.NoOthers.{IsNoOther, pruned_before}
+use Rattle.dkg_run.proofs.OpeningsLeave.{opening_walks}
+use Rattle.dkg_run.proofs.OpeningsStore as store
+use Rattle.dkg_run.proofs.OpeningsStore.{IsUpkept}
+
+none_some : {A : Type 0} {x : A} → ◌≡◌ {A = Option A} None (Some x) → ⊥
+none_some e = cc
+
+some_is : {A : Type 0} {x y : A} → ◌≡◌ {A = Option A} (Some x) (Some y) → x ≡ y
+some_is e = cc
+
+-- both of two throughout a course
+pub along_both : {Dir F S : Type 0} (A B P : World → Type 0) → ((x : World) → A x → B x → P x) → (course : Course Dir F S) (w : World) → Throughout A course w → Throughout B course w → Throughout P course w
+along_both A B P so (Say line course) w a b = (so w a.0 b.0, along_both A B P so course (says w line) a.1 b.1)
+along_both A B P so (Do op course) w a b = (λ cause new tears. so new (a.0 cause new tears) (b.0 cause new tears), along_both A B P so course (does w op) a.1 b.1)
+along_both A B P so (Call outer course) w a b = along_both A B P so course w a b
+along_both A B P so (Ask f) w a b = along_both A B P so (f w.held) w a b
+along_both A B P so (Goes end) w a b = so w a b
+along_both A B P so (Stops fault) w a b = so w a b
+
+-- A ROUND of the script carries an output on, so it deals with a share alone
+
+of_answer : {T E : Type 0} (P : T → Type 0) (r : Result T E) (t : T) → IfOk r P → r ≡ Ok t → P t
+of_answer P (Ok x) t so is = subst P (let same : x ≡ t = cc in same) so
+of_answer {T} {E} P (Err e) t so is = absurd (let no : ◌≡◌ {A = Result T E} (Err e) (Ok t) = is in cc)
+
+module _ (s : Setting) (form : IsFormOfEpochs s.script) where
+  round_is : (epoch : ℕ) → round_at s epoch ≡ option_and_then (reshare_round s epoch) (known_info s epoch)
+  unfolding round_at
+  round_is epoch = rw form.reshares refl
+
+  has_previous : (epoch : ℕ) (round : Round) → round_at s epoch ≡ Some round → (o : Output) × (round.previous ≡ Some o)
+  has_previous epoch round made = by_info (known_info s epoch) (sym (round_is epoch) ∙ made)
+    where
+      by_round : (info : Info) (r : Result Round RoundError) → round_of s.script.config.namespace epoch (Some info.output) s.script.config.mode V1 info.output.players info.players ≡ r → result_ok r ≡ Some round → (o : Output) × (round.previous ≡ Some o)
+      by_round info (Err e) drawn is = absurd (none_some is)
+      by_round info (Ok its) drawn is =
+          let same : its ≡ round = some_is is in (
+            info.output,
+            of_answer (λ (r : Round). r.previous ≡ Some info.output) (round_of s.script.config.namespace epoch (Some info.output) s.script.config.mode V1 info.output.players info.players) round
+                (all (round_of s.script.config.namespace epoch (Some info.output) s.script.config.mode V1 info.output.players info.players) (rounds.round_has s.script.config.namespace epoch (Some info.output) s.script.config.mode V1 info.output.players info.players)) (drawn ∙ ap (λ (r : Round). Ok r) same),
+          )
+        where
+          all : (r : Result Round RoundError) → IfOk r (λ x. x ≡ record { namespace = s.script.config.namespace; number = epoch; previous = Some info.output; mode = s.script.config.mode; reveal = V1; dealers = info.output.players; players = info.players })
+              → IfOk r (λ x. x.previous ≡ Some info.output)
+          all (Ok x) is = ap (λ (r : Round). r.previous) is
+          all (Err e) is = tt
+
+      by_info : (o : Option Info) → option_and_then (reshare_round s epoch) o ≡ Some round → (o : Output) × (round.previous ≡ Some o)
+      by_info None is = absurd (none_some is)
+      by_info (Some info) is = by_round info (round_of s.script.config.namespace epoch (Some info.output) s.script.config.mode V1 info.output.players info.players) refl is
+
+  no_deal : (round : Round) (o : Output) (seed : List ℕ) (dealt : List ℕ × List (ℕ × ℕ)) → round.previous ≡ Some o → deal_of round (me s) None seed ≡ Ok dealt → ⊥
+  unfolding deal_of
+  no_deal round o seed dealt is deals = refused _ round.previous is deals
+    where
+      refused : (x : List ℕ × List (ℕ × ℕ)) (p : Option Output) → p ≡ Some o → ◌≡◌ {A = Result (List ℕ × List (ℕ × ℕ)) DealError} (if not (is_share_of p (me s) None) then Err deal.ShareRefused else Ok x) (Ok dealt) → ⊥
+      refused x None same deals = none_some same
+      refused x (Some other) same deals = let no : ◌≡◌ {A = Result (List ℕ × List (ℕ × ℕ)) DealError} (Err deal.ShareRefused) (Ok dealt) = deals in cc
+
+  -- ITS OWN DEALINGS among these are what these secrets deal
+
+  abbrev pub IsBackedBy : Secrets → (key : ℕ × ℕ) → (pair : List ℕ × ℕ) → Type 0
+  IsBackedBy t key pair = (round : Round) → round_at s key.0 ≡ Some round → (seed : List ℕ) × (privates : List (ℕ × ℕ)) × (get t.seeds key.0 ≡ Some seed) × (deal_of round (me s) (get t.shares key.0) seed ≡ Ok (pair.0, privates))
+
+  abbrev pub AreBacked : Pairs → Secrets → Type 0
+  AreBacked pairs t = (key : ℕ × ℕ) (pair : List ℕ × ℕ) → key.1 ≡ me s → get pairs key ≡ Some pair → IsBackedBy t key pair
+
+  -- what is held of an epoch is held
+  pub record HoldsStill (t u : Secrets) (epoch : ℕ) : Type 0 where
+    pub seeds : (seed : List ℕ) → get t.seeds epoch ≡ Some seed → get u.seeds epoch ≡ Some seed
+    pub shares : (share : ℕ) → get t.shares epoch ≡ Some share → get u.shares epoch ≡ Some share
+
+  pub still_backed : (t u : Secrets) (key : ℕ × ℕ) (pair : List ℕ × ℕ) → HoldsStill t u key.0 → IsBackedBy t key pair → IsBackedBy u key pair
+  still_backed t u key pair still backed round made =
+      let its = backed round made in
+      (its.0, its.1, still.seeds its.0 its.2, by_share its.0 its.1 its.3 (get t.shares key.0) refl)
+    where
+      by_share : (seed : List ℕ) (privates : List (ℕ × ℕ)) → deal_of round (me s) (get t.shares key.0) seed ≡ Ok (pair.0, privates) → (o : Option ℕ) → get t.shares key.0 ≡ o → deal_of round (me s) (get u.shares key.0) seed ≡ Ok (pair.0, privates)
+      by_share seed privates deals None none =
+          let previous = has_previous key.0 round made in
+          absurd (no_deal round previous.0 seed (pair.0, privates) previous.1 (subst (λ (o : Option ℕ). deal_of round (me s) o seed ≡ Ok (pair.0, privates)) none deals))
+      by_share seed privates deals (Some share) is =
+          ap (λ (o : Option ℕ). deal_of round (me s) o seed) (still.shares share is ∙ sym is) ∙ deals
+
+  -- .. over whole devices
+  pub record IsBacked (w : World) : Type 0 where
+    pub whole : IsWhole (notes w.held) w.held.secrets
+    pub own : AreBacked (recovered_in w.held) w.held.secrets
+
+  -- what is given back was so before, over secrets that hold still
+  pub backed_less : (w new : World) → IsWhole (notes new.held) new.held.secrets
+      → ((key : ℕ × ℕ) (pair : List ℕ × ℕ) → get (recovered_in new.held) key ≡ Some pair → (get (recovered_in w.held) key ≡ Some pair) × HoldsStill w.held.secrets new.held.secrets key.0) → IsBacked w → IsBacked new
+  backed_less w new whole less q = record { whole = whole; own = λ key pair mine got. let its = less key pair got in still_backed w.held.secrets new.held.secrets key pair its.1 (q.own key pair mine its.0) }
+
+  same_still : (t u : Secrets) (epoch : ℕ) → u ≡ t → HoldsStill t u epoch
+  same_still t u epoch is = record { seeds = λ seed got. ap (λ (x : Secrets). get x.seeds epoch) is ∙ got; shares = λ share got. ap (λ (x : Secrets). get x.shares epoch) is ∙ got }
+
+  pub same_backed : (w new : World) → notes new.held ≡ notes w.held → new.held.secrets ≡ w.held.secrets → IsBacked w → IsBacked new
+  same_backed w new is_es is_t q =
+      backed_less w new (subst (λ (t : Secrets). IsWhole (notes new.held) t) (sym is_t) (subst (λ (es : List JournalEntry). IsWhole es w.held.secrets) (sym is_es) q.whole))
+      (λ key pair got. (sym (ap (λ (es : List JournalEntry). get (recovered es new.held.secrets) key) is_es ∙ ap (λ (t : Secrets). get (recovered (notes w.held) t) key) is_t) ∙ got, same_still w.held.secrets new.held.secrets key.0 is_t)) q
+
+  pub said_backed : (w : World) (line : Line) → IsBacked w → IsBacked (says w line)
+  said_backed w line q = record { whole = q.whole; own = q.own }
+
+  abbrev NoOwn : ℕ × ℕ → List ℕ × ℕ → Type 0
+  NoOwn key pair = ⊥
+
+  module _ {Dir : Type 0} (c : Fixed Dir) (reads : ReadsSecrets c.seen) where
+    -- A COMMIT and A PRUNE
+
+    from_least : (w : World) (x : World) → IsBacked w → IsNoOther (recovered_in w.held) NoOwn x → IsUpkept c reads 0 w x → IsBacked x
+    from_least w x q a b = backed_less w x a.whole (λ key pair got. elim (a.gives key pair got) [
+      | inl was ↦ (was, record { seeds = λ seed has. b.seeds_held key.0 seed (least key.0) has; shares = λ share has. b.shares_held key.0 share (least key.0) has })
+      | inr none ↦ absurd none
+    ]) q
+      where
+        least : (n : ℕ) → 0 ≤ n
+        least n = omega arith
+
+    begins : (w : World) → IsBacked w → IsNoOther (recovered_in w.held) NoOwn w
+    begins w q = record { whole = q.whole; gives = λ key pair got. inl got }
+
+    pub commits_backed : (info : EpochInfo Dir) (st : Live Dir) (w : World) → IsBacked w
+        → Throughout {Dir = Dir} IsBacked (setup.commits info (setup.seed_for c info.epoch (lookup info.epoch (c.seen w.held).seeds)) (setup.recovered_share c (c.seen w.held) info) st) w
+    commits_backed info st w q =
+        along_both (IsNoOther (recovered_in w.held) NoOwn) (IsUpkept c reads 0 w) IsBacked (λ x a b. from_least w x q a b)
+        (setup.commits info (setup.seed_for c info.epoch (lookup info.epoch (c.seen w.held).seeds)) (setup.recovered_share c (c.seen w.held) info) st) w
+        (others.commits (recovered_in w.held) NoOwn info (setup.seed_for c info.epoch (lookup info.epoch (c.seen w.held).seeds)) (setup.recovered_share c (c.seen w.held) info) st w (begins w q))
+        (store.commits_read c reads 0 w info st w (store.nothing_lost c reads 0 w))
+
+    -- behind the journal's prune nothing below is given back
+    from_pruned : (min : ℕ) (w x : World) → IsBacked w → notes x.held ≡ from_section min (notes w.held) → IsNoOther (recovered_in w.held) NoOwn x → IsUpkept c reads min w x → IsBacked x
+    from_pruned min w x q is a b = backed_less w x a.whole (λ key pair got. elim (a.gives key pair got) [
+      | inl was ↦ (was, at_least key pair got)
+      | inr none ↦ absurd none
+    ]) q
+      where
+        at_least : (key : ℕ × ℕ) (pair : List ℕ × ℕ) → get (recovered_in x.held) key ≡ Some pair → HoldsStill w.held.secrets x.held.secrets key.0
+        at_least key pair got =
+            let above : min ≤ key.0 = (pruned_before min (notes w.held) x.held.secrets key pair (sym (ap (λ (es : List JournalEntry). get (recovered es x.held.secrets) key) is) ∙ got)).0 in
+            record { seeds = λ seed has. b.seeds_held key.0 seed above has; shares = λ share has. b.shares_held key.0 share above has }
+
+    pub prunes_backed : (min : ℕ) (st : Live Dir) (w : World) → IsBacked w → Throughout IsBacked (setup.prunes min st) w
+    prunes_backed min st w q =
+        let a = others.prunes (recovered_in w.held) NoOwn min st w (begins w q) in
+        let b = store.prunes c reads min w min (itself min) st w (store.nothing_lost c reads min w) in
+        let mid : World = does w (OnDisk (Prunes min)) in (
+          λ cause new tears. torn cause new tears (a.0 cause new tears),
+          (
+            λ cause new tears. from_pruned min w new q (ap (λ (j : Journaled). j.entries) tears.torn.0) (a.1.0 cause new tears) (b.1.0 cause new tears),
+            from_pruned min w (does mid (Changes (Prune min))) q refl a.1.1 b.1.1,
+          ),
+        )
+      where
+        itself : (n : ℕ) → n ≤ n
+        itself n = omega arith
+
+        torn : (cause : Cause) (new : World) → Tears cause (OnDisk (Prunes min)) w new → IsNoOther (recovered_in w.held) NoOwn new → IsBacked new
+        torn cause new tears a = backed_less w new a.whole (λ key pair got. elim (a.gives key pair got) [
+          | inl was ↦ (was, same_still w.held.secrets new.held.secrets key.0 tears.torn.0)
+          | inr none ↦ absurd none
+        ]) q
+
+    -- AN OPENING of the form, wherever it ends
+    module _ (form_is : IsForm c) (w new : World) (ended : Ended NodeStop (Live Dir)) (q : IsBacked w) (run : EndsSo (node_opening c) ended w new) where
+      sets_up : (st : Live Dir) (x : World) → epoch_of c.blocks_per_epoch (awaited_height st) ≡ first_epoch c → IsBacked x → Throughout IsBacked (setup.setup c None st) x
+      sets_up st x is q =
+          walk.setup c IsBacked (λ x line aside q. said_backed x line q) (epoch_of c.blocks_per_epoch (awaited_height st) - 1) commits_backed (λ min low at x q. prunes_backed min at x q) None st x (omega arith) q
+
+      pub opening_backed : IsBacked new
+      opening_backed =
+          let its : RunsBehind (opening c) ended w new = openings_run_behind c ended w new run in
+          let mid : IsBacked its.mid = along_runs IsBacked (on_devices (opening c)) its.half w its.mid (opening_walks c form_is IsBacked said_backed same_backed sets_up w q) its.run in
+          same_backed its.mid new (ap (λ (h : Held). notes h) its.held) (ap (λ (h : Held). h.secrets) its.held) mid

@@ -1,0 +1,231 @@
+-- The dealer of a life over many epochs deals from the share and the seed that are stored at its epoch: behind an opening and behind each step, over devices that tell.
+use Rattle.std.proofs.Common.{◌≡◌, ◌⊎◌, inl, inr, Bool, true, false, ℕ, List, Option, Some, None, Result, Ok, Err, refl, sym, ◌∙◌, ap, subst}
+use Rattle.std.specs.Prelude.{◌&&◌, ◌||◌, IfOk, IfSome, IsSomeAnd, is_some, is_none, if◌then◌else◌, option_map}
+use Rattle.std.specs.Option.{option_map_or}
+use Rattle.std.specs.FinMap.{get}
+use Rattle.dkg_values.specs.Rising.{lookup}
+use Rattle.dkg_ceremony.specs.Deals.{deal_of}
+use Rattle.dkg_ceremony.specs.RoundLaws as rounds
+use Rattle.dkg_ceremony.specs.Rounds.{round_of}
+use Rattle.dkg_ceremony.specs.declared.deal.DealError.{DealError}
+use Rattle.dkg_ceremony.specs.declared.output.Output.{Output}
+use Rattle.dkg_ceremony.specs.declared.phase.Phase.{Phase}
+use Rattle.dkg_ceremony.specs.declared.phase.Phase.TheVariants.{Early, Midpoint, Late}
+use Rattle.dkg_ceremony.specs.declared.round.Round.{Round}
+use Rattle.dkg_types.specs.BlockCodes.{info_of}
+use Rattle.dkg_types.specs.Blocks.{Block}
+use Rattle.dkg_types.specs.declared.info.EpochInfo.{EpochInfo}
+use Rattle.dkg_store.specs.Acts.{Held}
+use Rattle.dkg_core.specs.Fixed.{Fixed, Rules, has, stand_in}
+use Rattle.dkg_core.specs.Forms.{IsLiveIn, IsNodeBegun, IsSeated, IsSetUpIn, LeavesHeld, StoresBoth, dealer_by, seed_read, set_up_by, share_read, signed_in, started}
+use Rattle.dkg_core.specs.Live.{Live, Dealer, Message, awaited_height, phase_of}
+use Rattle.dkg_core.specs.Logs.{logs_of}
+use Rattle.dkg_core.specs.Seen.{Seen}
+use Rattle.dkg_core.specs.Setup.{Standing, Uncommitted, WasCommitted, dealer_for, dealer_from, has_quorum, may_deal, signed}
+use Rattle.dkg_core.specs.Stepping.{IsNextIn, LeavesTaken, held_at_setup, held_committed, next_epoch, taken_over}
+use Rattle.dkg_core.specs.Storing.{ReadsSecrets}
+use Rattle.dkg_core.specs.Today.{first_block, first_epoch}
+use Rattle.dkg_core.proofs.Setups.{setups_store}
+use Rattle.dkg_core.proofs.Storing.{commits_are_read}
+use Rattle.dkg_run.proofs.DealersStay.{WasDealer, next_dealt}
+use Rattle.dkg_run.proofs.NextLives.{GoesOn, TakesOver, next_so}
+
+some_is : {A : Type 0} {x y : A} → ◌≡◌ {A = Option A} (Some x) (Some y) → x ≡ y
+some_is e = cc
+
+none_some : {A : Type 0} {x : A} → ◌≡◌ {A = Option A} None (Some x) → ⊥
+none_some e = cc
+
+of_answer : {T E : Type 0} (P : T → Type 0) (r : Result T E) (t : T) → IfOk r P → r ≡ Ok t → P t
+of_answer P (Ok x) t so is = subst P (let same : x ≡ t = cc in same) so
+of_answer {T} {E} P (Err e) t so is = absurd (let no : ◌≡◌ {A = Result T E} (Err e) (Ok t) = is in cc)
+
+-- This dealer deals in the life's round from a share and a seed that are stored at the round's epoch.
+pub record IsStoredDealer {Dir : Type 0} (me : ℕ) (st : Live Dir) (d : Dealer) (h : Held) : Type 0 where
+  pub round : Round
+  pub of_epoch : st.participation.round ≡ Some round
+  pub share : ℕ
+  pub seed : List ℕ
+  pub dealt : deal_of round me (Some share) seed ≡ Ok (d.public, d.privates)
+  pub share_is : get h.secrets.shares round.number ≡ Some share
+  pub seed_is : get h.secrets.seeds round.number ≡ Some seed
+
+abbrev pub DealsStored : {Dir : Type 0} → (me : ℕ) → Live Dir → Held → Type 0
+DealsStored me st h = (d : Dealer) → st.participation.dealer ≡ Some d → IsStoredDealer me st d h
+
+-- the same participation over devices that keep both
+pub stored_on : {Dir : Type 0} (me : ℕ) (st end : Live Dir) (was d : Dealer) (h k : Held) → end.participation.round ≡ st.participation.round → d.public ≡ was.public → d.privates ≡ was.privates
+    → ((round : Round) → st.participation.round ≡ Some round → (share : ℕ) → get h.secrets.shares round.number ≡ Some share → get k.secrets.shares round.number ≡ Some share)
+    → ((round : Round) → st.participation.round ≡ Some round → (seed : List ℕ) → get h.secrets.seeds round.number ≡ Some seed → get k.secrets.seeds round.number ≡ Some seed)
+    → IsStoredDealer me st was h → IsStoredDealer me end d k
+stored_on me st end was d h k same public privates shares seeds its = record {
+  round = its.round;
+  of_epoch = same ∙ its.of_epoch;
+  share = its.share;
+  seed = its.seed;
+  dealt = its.dealt ∙ ap (λ (x : List ℕ). Ok (x, was.privates)) (sym public) ∙ ap (λ (x : List (ℕ × ℕ)). Ok (d.public, x)) (sym privates);
+  share_is = shares its.round its.of_epoch its.share its.share_is;
+  seed_is = seeds its.round its.of_epoch its.seed its.seed_is;
+}
+
+module _ {Dir : Type 0} (c : Fixed Dir) (rules_are : c.rules ≡ stand_in) where
+  -- A SETUP
+
+  module _ (standing : Standing) (info : EpochInfo Dir) (share : Option ℕ) (seed : List ℕ) (st end : Live Dir) (seated : IsSeated c standing info share seed st end) where
+    abbrev round : Round
+    round = seated.round
+
+    round_is : round ≡ record { namespace = c.namespace; number = st.participation.epoch; previous = Some info.output; mode = c.mode; reveal = c.reveal; dealers = info.output.players; players = info.players }
+    round_is =
+        of_answer (λ (r : Round). r ≡ record { namespace = c.namespace; number = st.participation.epoch; previous = Some info.output; mode = c.mode; reveal = c.reveal; dealers = info.output.players; players = info.players })
+        (round_of c.namespace st.participation.epoch (Some info.output) c.mode c.reveal info.output.players info.players) round
+        (rounds.round_has c.namespace st.participation.epoch (Some info.output) c.mode c.reveal info.output.players info.players)
+        (sym (ap (λ (r : Rules). r.round_of c.namespace st.participation.epoch (Some info.output) c.mode c.reveal info.output.players info.players) rules_are) ∙ seated.drawn)
+
+    number_is : round.number ≡ info.epoch
+    number_is = ap (λ (r : Round). r.number) round_is ∙ sym seated.of_epoch
+
+    previous_is : round.previous ≡ Some info.output
+    previous_is = ap (λ (r : Round). r.previous) round_is
+
+    lacks_share : (m x : Bool) → (m && false && x) ≡ true → ⊥
+    lacks_share true x e = let wrong : false ≡ true = e in cc
+    lacks_share false x e = let wrong : false ≡ true = e in cc
+
+    -- a dealer has a share
+    has_share : may_deal c round share end ≡ true → (its : ℕ) × (share ≡ Some its)
+    has_share may = by_share share refl may
+      where
+        by_share : (o : Option ℕ) → share ≡ o → may_deal c round o end ≡ true → (its : ℕ) × (share ≡ Some its)
+        by_share None is may =
+            absurd (lacks_share (has round.dealers c.me) (is_none (lookup c.me (logs_of end round.number)))
+            (subst (λ (o : Option Output). (has round.dealers c.me && (is_some {T = ℕ} None || is_none o) && is_none (lookup c.me (logs_of end round.number))) ≡ true) previous_is may))
+        by_share (Some its) is may = (its, is)
+
+    module _ (d : Dealer) (dealt : List ℕ × List (ℕ × ℕ)) where
+      abbrev Halves : Dealer → Type 0
+      Halves x = (x.public ≡ dealt.0) × (x.privates ≡ dealt.1)
+
+      its_own : (x : Dealer) → dealer_from c round end dealt ≡ x → Halves x
+      its_own x is = (ap (λ (y : Dealer). y.public) (sym is), ap (λ (y : Dealer). y.privates) (sym is))
+
+      its_log : (o : Option Dealer) → ((x : Dealer) → o ≡ Some x → Halves x) → option_map (signed c round) o ≡ Some d → Halves d
+      its_log None all is = absurd (none_some is)
+      its_log (Some x) all is = let its = all x refl in (ap (λ (y : Dealer). y.public) (sym (some_is is)) ∙ its.0, ap (λ (y : Dealer). y.privates) (sym (some_is is)) ∙ its.1)
+
+      by_quorum : (t : Bool) (x : Dealer) → (if t then Some (dealer_from c round end dealt) else None) ≡ Some x → Halves x
+      by_quorum true x is = its_own x (some_is is)
+      by_quorum false x is = absurd (none_some is)
+
+      by_phase : (phase : Phase) → signed_in c round phase (dealer_for phase round (dealer_from c round end dealt)) ≡ Some d → Halves d
+      by_phase Early is = its_own d (some_is is)
+      by_phase Midpoint is = its_log (dealer_for Midpoint round (dealer_from c round end dealt)) (by_quorum (has_quorum round (dealer_from c round end dealt))) is
+      by_phase Late is = its_log (dealer_for Late round (dealer_from c round end dealt)) (by_quorum (has_quorum round (dealer_from c round end dealt))) is
+
+    pub seated_stored : (h : Held) → StoresBoth info.epoch share seed h → DealsStored c.me end h
+    seated_stored h stores d there = by_may (may_deal c round share end) refl (sym seated.dealer ∙ there)
+      where
+        phase : Phase
+        phase = phase_of c (awaited_height end)
+
+        with_share : (its : ℕ) (halves : List ℕ × List (ℕ × ℕ)) → share ≡ Some its → c.rules.deal_of round c.me share seed ≡ Ok halves → (d.public ≡ halves.0) × (d.privates ≡ halves.1) → IsStoredDealer c.me end d h
+        with_share its halves is deals same = record {
+          round = round;
+          of_epoch = seated.in_round;
+          share = its;
+          seed = seed;
+          dealt = ap (λ (o : Option ℕ). deal_of round c.me o seed) (sym is) ∙ sym (ap (λ (r : Rules). r.deal_of round c.me share seed) rules_are) ∙ deals
+              ∙ ap (λ (x : List ℕ). Ok (x, halves.1)) (sym same.0) ∙ ap (λ (x : List (ℕ × ℕ)). Ok (d.public, x)) (sym same.1);
+          share_is = ap (get h.secrets.shares) number_is ∙ subst (λ (o : Option ℕ). IfSome o (λ x. get h.secrets.shares info.epoch ≡ Some x)) is stores.share_is;
+          seed_is = ap (get h.secrets.seeds) number_is ∙ stores.seed_is;
+        }
+
+        by_deal : may_deal c round share end ≡ true → (r : Result (List ℕ × List (ℕ × ℕ)) DealError) → c.rules.deal_of round c.me share seed ≡ r → dealer_by c round phase end r ≡ Some d → IsStoredDealer c.me end d h
+        by_deal may (Err e) deals is = absurd (none_some is)
+        by_deal may (Ok halves) deals is = let its = has_share may in with_share its.0 halves its.1 deals (by_phase d halves phase is)
+
+        by_may : (t : Bool) → may_deal c round share end ≡ t → (if t then dealer_by c round phase end (c.rules.deal_of round c.me share seed) else None) ≡ Some d → IsStoredDealer c.me end d h
+        by_may false may is = absurd (none_some is)
+        by_may true may is = by_deal may (c.rules.deal_of round c.me share seed) refl is
+
+  -- AN OPENING
+
+  module _ (read : Seen) (k now : Held) (st : Live Dir) (begun : IsNodeBegun c read k st) (left : LeavesHeld c k now (first_block c)) where
+    abbrev before : Live Dir
+    before = begun.before
+
+    by_info : (o : Option (EpochInfo Dir)) → IsSomeAnd o (λ info. IsSeated c Uncommitted info (share_read c info k) (seed_read c info k) (started c read) before)
+        → IsSomeAnd o (λ info. now ≡ set_up_by Uncommitted (first_epoch c) info (share_read c info k) (seed_read c info k) k) → DealsStored c.me before now
+    by_info None none left = absurd none
+    by_info (Some info) seated left =
+        seated_stored Uncommitted info (share_read c info k) (seed_read c info k) (started c read) before seated now
+        (subst (λ (h : Held). StoresBoth info.epoch (share_read c info k) (seed_read c info k) h) (sym left)
+        (subst (λ (e : ℕ). StoresBoth e (share_read c info k) (seed_read c info k) (set_up_by Uncommitted (first_epoch c) info (share_read c info k) (seed_read c info k) k)) (sym seated.of_epoch)
+        (setups_store (first_epoch c) info (share_read c info k) (seed_read c info k) k seated.of_epoch)))
+
+    by_block : (o : Option (Block Dir)) → IsSetUpIn c read k before o → LeavesHeld c k now o → DealsStored c.me before now
+    by_block None set_up left = λ d there. absurd (none_some (sym (((begun.opened).live).without set_up.0).1 ∙ there))
+    by_block (Some b) set_up left = by_info (info_of b.payload) set_up left
+
+    pub begun_stored : DealsStored c.me st now
+    begun_stored d there =
+        let same : st.participation ≡ before.participation = ap (λ (x : Live Dir). x.participation) (begun.entered).same in
+        stored_on c.me before st d d now now (ap (λ p. p.round) same) refl refl (λ round of share is. is) (λ round of seed is. is)
+        (by_block (first_block c) (begun.opened).set_up left d (sym (ap (λ p. p.dealer) same) ∙ there))
+
+  -- A STEP, over devices that held h and hold now
+  module _ (reads : ReadsSecrets c.seen) (st : Live Dir) (message : Message Dir) (h now : Held) (end : Live Dir) (live : IsLiveIn c st) (next : IsNextIn c st message h (held_at_setup c message h) end)
+      (left : LeavesTaken c st message (held_at_setup c message h) now) (deals : DealsStored c.me st h)
+      (seeds : (round : Round) → end.participation.round ≡ Some round → (seed : List ℕ) → get h.secrets.seeds round.number ≡ Some seed → get now.secrets.seeds round.number ≡ Some seed)
+      (shares : (round : Round) → end.participation.round ≡ Some round → (share : ℕ) → get h.secrets.shares round.number ≡ Some share → get now.secrets.shares round.number ≡ Some share) where
+    abbrev k : Held
+    k = held_at_setup c message h
+
+    goes_stored : GoesOn c st message end → DealsStored c.me end now
+    goes_stored goes d there =
+        let its : WasDealer st d = next_dealt c st message h k end goes.nothing next d there in
+        stored_on c.me st end its.was d h now (goes.same).round its.public its.privates (λ round of share is. shares round ((goes.same).round ∙ of) share is) (λ round of seed is. seeds round ((goes.same).round ∙ of) seed is)
+        (deals its.was its.there)
+
+    over_stored : TakesOver c st message h k end → DealsStored c.me end now
+    over_stored over = seated_stored WasCommitted info (share_read c info k) (seed_read c info k) (taken_over c b info (share_read c info h) st) end (over.taken).seated now both
+      where
+        b : Block Dir
+        b = over.block
+
+        info : EpochInfo Dir
+        info = (over.taken).info
+
+        k_is : k ≡ held_committed c info h
+        k_is = ap (λ (m : Message Dir). held_at_setup c m h) over.is ∙ ap (λ (o : Option (EpochInfo Dir)). option_map_or (λ i. held_committed c i h) o h) (over.taken).carried
+
+        now_is : now ≡ set_up_by WasCommitted (next_epoch c b) info (share_read c info k) (seed_read c info k) k
+        now_is = subst (λ (o : Option (EpochInfo Dir)). IsSomeAnd o (λ i. now ≡ set_up_by WasCommitted (next_epoch c b) i (share_read c i k) (seed_read c i k) k)) (over.taken).carried
+            (subst (λ (m : Message Dir). LeavesTaken c st m k now) over.is left over.applied over.follows over.last)
+
+        stands : now ≡ set_up_by Uncommitted (next_epoch c b) info (share_read c info h) (seed_read c info h) h
+        stands = now_is ∙ ap (λ (x : Held). set_up_by WasCommitted (next_epoch c b) info (share_read c info k) (seed_read c info k) x) k_is
+
+        read_again : (share_read c info (held_committed c info h) ≡ share_read c info h) × (seed_read c info (held_committed c info h) ≡ seed_read c info h)
+        read_again = commits_are_read c info h reads
+
+        share_same : share_read c info k ≡ share_read c info h
+        share_same = ap (share_read c info) k_is ∙ read_again.0
+
+        seed_same : seed_read c info k ≡ seed_read c info h
+        seed_same = ap (seed_read c info) k_is ∙ read_again.1
+
+        both : StoresBoth info.epoch (share_read c info k) (seed_read c info k) now
+        both =
+            subst (λ (share : Option ℕ). StoresBoth info.epoch share (seed_read c info k) now) (sym share_same)
+            (subst (λ (seed : List ℕ). StoresBoth info.epoch (share_read c info h) seed now) (sym seed_same)
+            (subst (λ (x : Held). StoresBoth info.epoch (share_read c info h) (seed_read c info h) x) (sym stands)
+            (subst (λ (e : ℕ). StoresBoth e (share_read c info h) (seed_read c info h) (set_up_by Uncommitted (next_epoch c b) info (share_read c info h) (seed_read c info h) h)) (sym (over.taken).of_next)
+            (setups_store (next_epoch c b) info (share_read c info h) (seed_read c info h) h (over.taken).of_next))))
+
+    pub step_stored : DealsStored c.me end now
+    step_stored = either (next_so c st message h k end live next)
+      where
+        either : GoesOn c st message end ⊎ TakesOver c st message h k end → DealsStored c.me end now
+        either (inl goes) = goes_stored goes
+        either (inr over) = over_stored over

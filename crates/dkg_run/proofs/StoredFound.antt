@@ -1,0 +1,104 @@
+-- What a fault of the node's own state blames is among what the devices give back, where memory has what they do.
+use Rattle.std.proofs.Common.{◌≡◌, ℕ, ◌==◌, ◌&&◌, ◌^◌, Bool, true, false, List, Option, Some, None, Result, Ok, Err, sym, ap, subst, ◌∙◌, filter, nat_lt}
+use Rattle.std.specs.FinMap as maps
+use Rattle.std.specs.FinMap.{get, get-entries}
+use Rattle.dkg_values.specs.Rising.{lookup}
+use Rattle.dkg_ceremony.specs.Dealings.{dealing_of}
+use Rattle.dkg_ceremony.specs.Deals.{deal_of}
+use Rattle.dkg_ceremony.specs.RoundLaws as rounds
+use Rattle.dkg_ceremony.specs.Schedule.{boundary}
+use Rattle.dkg_ceremony.specs.declared.mode.Reveal.TheVariants.{V1}
+use Rattle.dkg_ceremony.specs.declared.output.Output.{Output}
+use Rattle.dkg_ceremony.specs.declared.round.Round.{Round}
+use Rattle.dkg_ceremony.specs.declared.round.RoundError.{RoundError}
+use Rattle.std.specs.Prelude.{◌||◌, IfOk, IfSome, is_none, is_some, slice_get}
+use Rattle.dkg_types.specs.BlockCodes.{info_of}
+use Rattle.dkg_types.specs.Blocks.{Block}
+use Rattle.dkg_types.specs.declared.directory.Unit as directory
+use Rattle.dkg_types.specs.declared.fault.Fault.TheVariants.{LocalState}
+use Rattle.dkg_types.specs.declared.fault.LocalCause.TheVariants.{ShareRefused, StoredDealing}
+use Rattle.dkg_types.specs.declared.info.EpochInfo.{EpochInfo}
+use Rattle.dkg_store.specs.Acts.{Held}
+use Rattle.dkg_store.specs.Recorded.{Pair, first_refused, of_epoch}
+use Rattle.dkg_core.specs.Fixed.{has}
+use Rattle.dkg_core.specs.Forms.{IsSetupFault, StoresBoth}
+use Rattle.dkg_core.specs.Heard.{recovered_in}
+use Rattle.dkg_core.specs.Live.{Live, recorded_at}
+use Rattle.dkg_core.specs.Logs.{logs_of}
+use Rattle.dkg_core.specs.Setup.{may_deal}
+use Rattle.dkg_core.specs.Stepping.{OwnDiffers}
+use Rattle.dkg_core.proofs.Sound.{first_of_three}
+use Rattle.dkg_run.specs.Blamed.{per_epoch, round_by}
+use Rattle.dkg_run.specs.FoundOver.{IsBegunBy, IsFirstRefusedIn, IsRefusedBy}
+use Rattle.dkg_run.specs.Given.{Lived, at_step, blocks_in}
+use Rattle.dkg_run.proofs.Former.{is_ceremony}
+
+module _ (g : Lived) (taken : ℕ) (st : Live directory.Unit) (now : Held) (same : st.records.dealings ≡ maps.entries (recovered_in now)) where
+  -- a stored dealing, by the block that the info stands in
+  pub stored_found : (epoch : ℕ) (info : EpochInfo directory.Unit) (share : Option ℕ) (seed : List ℕ) (number dealer : ℕ) → IsSetupFault (at_step g taken) epoch info share seed st (LocalState (StoredDealing number dealer))
+      → (at : ℕ) (b : Block directory.Unit) → slice_get (blocks_in g.script) at ≡ Some b → b.height ≡ boundary (per_epoch g.script) epoch → info_of b.payload ≡ Some info → IsFirstRefusedIn g.script (recovered_in now) number dealer
+  unfolding at_step
+  stored_found epoch info share seed number dealer why at b there begins carries =
+      subst (λ (e : ℕ). IsFirstRefusedIn g.script (recovered_in now) e dealer) (sym why.0)
+      (record { number = at; block = b; is = there; begins = begins; info = info; carries = carries; refused = (why.1.0, why.1.1, (round, why.1.2.1, refused)) })
+    where
+      round : Round
+      round = why.1.2.0
+
+      number_is : round.number ≡ epoch
+      number_is = (is_ceremony g taken).round_has _ epoch _ _ _ _ _ round why.1.2.1
+
+      refused : first_refused (dealing_of round g.script.config.me) (of_epoch epoch (recovered_in now)) ≡ Some dealer
+      refused = ap (λ (e : ℕ). first_refused (dealing_of round g.script.config.me) (filter (λ (p : Pair). (p.0.0 == e) && nat_lt p.0.1 (2 ^ 32)) (maps.entries (recovered_in now)))) (sym number_is)
+          ∙ ap (λ (ps : List Pair). first_refused (dealing_of round g.script.config.me) (filter (λ (p : Pair). (p.0.0 == round.number) && nat_lt p.0.1 (2 ^ 32)) ps)) (sym same)
+          ∙ why.1.2.2.2
+
+  -- this node's own
+  pub own_found : (epoch : ℕ) (kept dealt : List ℕ) → OwnDiffers (at_step g taken) st epoch kept dealt → (private : ℕ) × (get (recovered_in now) (epoch, g.script.config.me) ≡ Some (kept, private))
+  unfolding at_step
+  own_found epoch kept dealt why = (
+    why.private,
+    get-entries (recovered_in now) (epoch, g.script.config.me)
+        ∙ ap (λ (ps : List Pair). recorded_at ps epoch g.script.config.me) (sym same) ∙ ap (λ (e : ℕ). recorded_at st.records.dealings e g.script.config.me) why.number ∙ why.recorded,
+  )
+
+module _ (g : Lived) (taken : ℕ) (st : Live directory.Unit) (now : Held) where
+  -- a share that is refused, where it is stored with its seed
+  pub refused_found : (epoch : ℕ) (info : EpochInfo directory.Unit) (share : Option ℕ) (seed : List ℕ) (number : ℕ) → IsSetupFault (at_step g taken) epoch info share seed st (LocalState (ShareRefused number))
+      → StoresBoth epoch share seed now → (at : ℕ) (b : Block directory.Unit) → slice_get (blocks_in g.script) at ≡ Some b → b.height ≡ boundary (per_epoch g.script) epoch → info_of b.payload ≡ Some info
+      → IsBegunBy g.script number (IsRefusedBy g.script now.secrets number)
+  unfolding at_step
+  refused_found epoch info share seed number why stores at b there begins carries =
+      subst (λ (e : ℕ). IsBegunBy g.script e (IsRefusedBy g.script now.secrets e)) (sym why.0)
+      (record { number = at; block = b; is = there; begins = begins; info = info; carries = carries; draws = (why.1.0, why.1.1, (round, why.1.2.1, (dealer, (seed, why.1.2.2.1.0, stores.seed_is, refuses)))) })
+    where
+      round : Round
+      round = why.1.2.0
+
+      dealer : has round.dealers g.script.config.me ≡ true
+      dealer = first_of_three (has round.dealers g.script.config.me) (is_some share || is_none round.previous) (is_none (lookup g.script.config.me (logs_of st round.number))) why.1.2.2.0
+
+      previous_is : round.previous ≡ Some info.output
+      previous_is = of_answer (round_by g.script epoch info) (rounds.round_has g.script.config.namespace epoch (Some info.output) g.script.config.mode V1 info.output.players info.players) why.1.2.1
+        where
+          of_answer : (r : Result Round RoundError) → IfOk r (λ x. x ≡ record { namespace = g.script.config.namespace; number = epoch; previous = Some info.output; mode = g.script.config.mode; reveal = V1; dealers = info.output.players; players = info.players }) → r ≡ Ok round → round.previous ≡ Some info.output
+          of_answer (Ok x) so is = ap (λ (r : Round). r.previous) (sym (the_ok is) ∙ so)
+            where
+              the_ok : {x y : Round} → ◌≡◌ {A = Result Round RoundError} (Ok x) (Ok y) → x ≡ y
+              the_ok e = cc
+          of_answer (Err e) so is = absurd (let no : ◌≡◌ {A = Result Round RoundError} (Err e) (Ok round) = is in cc)
+
+      share_is : get now.secrets.shares epoch ≡ share
+      share_is = by_share share stores.share_is why.1.2.2.0
+        where
+          lacks : (m x : Bool) → (m && false && x) ≡ true → ⊥
+          lacks true x e = let wrong : ◌≡◌ {A = Bool} false true = e in cc
+          lacks false x e = let wrong : ◌≡◌ {A = Bool} false true = e in cc
+
+          by_share : (o : Option ℕ) → IfSome o (λ its. get now.secrets.shares epoch ≡ Some its) → may_deal (at_step g taken) round o st ≡ true → get now.secrets.shares epoch ≡ o
+          by_share (Some its) is may = is
+          by_share None is may = absurd (lacks (has round.dealers g.script.config.me) (is_none (lookup g.script.config.me (logs_of st round.number)))
+              (subst (λ (o : Option Output). (has round.dealers g.script.config.me && (is_some {T = ℕ} None || is_none o) && is_none (lookup g.script.config.me (logs_of st round.number))) ≡ true) previous_is may))
+
+      refuses : deal_of round g.script.config.me (get now.secrets.shares epoch) seed ≡ Err why.1.2.2.1.0
+      refuses = ap (λ (o : Option ℕ). deal_of round g.script.config.me o seed) share_is ∙ why.1.2.2.1.1
