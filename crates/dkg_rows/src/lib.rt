@@ -8,6 +8,8 @@ mod appends;
 #[cfg(test)]
 mod devices;
 #[cfg(test)]
+mod epochs;
+#[cfg(test)]
 mod lives;
 #[cfg(test)]
 mod observer;

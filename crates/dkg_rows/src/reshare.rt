@@ -1,9 +1,10 @@
 //! One life over memory devices: it opens, a dealing is heard, a block is taken, and a block that doesn't fit ends it.
 ghost use Rattle.std.specs.Prelude.{◌≡◌, ℕ, IfOk, OnOk, None, Some, if◌then◌else◌, ◌==◌};
 ghost use Rattle.std.specs.Int.NonZero.{non_zero_u64_get};
-ghost use Rattle.dkg_ceremony.specs.Schedule.{midpoint};
 ghost use Rattle.dkg_core.specs.Sources.{AtBlock};
-ghost use Rattle.dkg_reshare.specs.Actors.{IsAt, IsNew, IsTakenToday};
+ghost use Rattle.dkg_reshare.specs.Actors.{IfLiving, IsAt, IsNew, IsTaken};
+ghost use Rattle.dkg_reshare.specs.declared.life.Life as life;
+ghost use Rattle.dkg_types.specs.declared.directory.Unit as directory;
 
 use dkg_ceremony::{
     Blob, Ceremony, Mode, ModeVersion, Reveal, StandCeremony, StandSigner, decode_cfg,
@@ -100,7 +101,7 @@ fn block_at(
 /// An actor with epochs of eight blocks.
 fn actor_of(alloc: Global) -> Result<Actor<StandCeremony, Unit, NoopRegistrar, Unit, Unit>, Fail>
     ensures new { IfOk result (λ actor. IsNew actor.state) }
-    ensures early { IfOk result (λ actor. midpoint (non_zero_u64_get actor.terms.blocks_per_epoch) 0 ≡ 4) }
+    ensures blocks { IfOk result (λ actor. non_zero_u64_get actor.terms.blocks_per_epoch ≡ 8) }
 {
     let config = Config {
         ceremony: StandCeremony,
@@ -131,7 +132,7 @@ fn open<C: Ceremony, P, R: Registrar, M, D: Disk, X: SecretStore, B: BlockSource
     out: &mut Transcript,
 ) -> Result<(), Stop>
     requires { IsNew actor.old.state }
-    ensures at { IsAt D.tells D.files D.image C.ack_of actor.new.terms actor.new.state devices.new }
+    ensures at { IsAt D.tells D.files D.image C.ack_of C.deal_of C.check_ack_of actor.new.terms actor.new.state devices.new }
     ensures terms { actor.new.terms ≡ actor.old.terms }
 {
     actor.open(alloc, devices, source, 0, 9, fence, out)
@@ -147,9 +148,9 @@ fn step<C: Ceremony, P, R: Registrar, M, D: Disk, X: SecretStore, B: BlockSource
     fence: &mut Fence,
     out: &mut Transcript,
 ) -> Result<(), Stop>
-    requires at { IsAt D.tells D.files D.image C.ack_of actor.old.terms actor.old.state devices.old }
-    requires today { IsTakenToday (non_zero_u64_get actor.old.terms.blocks_per_epoch) message }
-    ensures at { IsAt D.tells D.files D.image C.ack_of actor.new.terms actor.new.state devices.new }
+    requires at { IsAt D.tells D.files D.image C.ack_of C.deal_of C.check_ack_of actor.old.terms actor.old.state devices.old }
+    requires taken { IfLiving actor.old.state (λ its. IsTaken (non_zero_u64_get actor.old.terms.blocks_per_epoch) its message) }
+    ensures at { IsAt D.tells D.files D.image C.ack_of C.deal_of C.check_ack_of actor.new.terms actor.new.state devices.new }
     ensures terms { actor.new.terms ≡ actor.old.terms }
 {
     actor.step(alloc, devices, source, message, fence, out)
@@ -157,7 +158,7 @@ fn step<C: Ceremony, P, R: Registrar, M, D: Disk, X: SecretStore, B: BlockSource
 
 /// The dealing, from its dealer.
 fn dealing(alloc: Global) -> Result<Message<Unit>, Fail>
-    ensures { (blocks : ℕ) → IfOk result (IsTakenToday blocks) }
+    ensures { (blocks : ℕ) (its : life.Life directory.Unit) → IfOk result (IsTaken blocks its) }
 {
     let bytes = Blob::new(Vec::from_slice(alloc, &DEALING)?);
     Ok(Message::Peer {
@@ -197,7 +198,7 @@ fn heard<C: Ceremony, P, R: Registrar, M, D: Disk, X: SecretStore, B: BlockSourc
     out: &mut Transcript,
 ) -> Result<[usize; 2], Fail>
     requires { IsNew actor.old.state }
-    ensures at { OnOk result (IsAt D.tells D.files D.image C.ack_of actor.new.terms actor.new.state devices.new) }
+    ensures at { OnOk result (IsAt D.tells D.files D.image C.ack_of C.deal_of C.check_ack_of actor.new.terms actor.new.state devices.new) }
     ensures terms { actor.new.terms ≡ actor.old.terms }
 {
     if open(alloc, actor, devices, source, fence, out).is_err() {
@@ -221,8 +222,8 @@ fn taken<C: Ceremony, P, R: Registrar, M, D: Disk, X: SecretStore, B: BlockSourc
     fence: &mut Fence,
     out: &mut Transcript,
 ) -> Result<u64, Fail>
-    requires at { IsAt D.tells D.files D.image C.ack_of actor.old.terms actor.old.state devices.old }
-    requires early { midpoint (non_zero_u64_get actor.old.terms.blocks_per_epoch) 0 ≡ 4 }
+    requires at { IsAt D.tells D.files D.image C.ack_of C.deal_of C.check_ack_of actor.old.terms actor.old.state devices.old }
+    requires blocks { non_zero_u64_get actor.old.terms.blocks_per_epoch ≡ 8 }
 {
     let block = Message::Finalized(block_at(alloc, parent, Height(1), None)?);
     if step(alloc, actor, devices, source, block, fence, out).is_err() {

@@ -2,4 +2,4 @@ use Rattle.dkg_reshare.proofs.Ending.{stands_again}
 use Rattle.dkg_rows.proofs.reshare.step.Goals as goal
 
 pub returns-clause-at : goal.returns-clause-at
-returns-clause-at g c = stands_again g.D.Disk.tells g.D.Disk.files g.D.Disk.image g.C.Ceremony.ack_of c.step.new.self.terms c.step.new.self.state c.step.new.devices c.step.result c.step.ensures.ends
+returns-clause-at g c = stands_again g.D.Disk.tells g.D.Disk.files g.D.Disk.image g.C.Ceremony.ack_of g.C.Ceremony.deal_of g.C.Ceremony.check_ack_of c.step.new.self.terms c.step.new.self.state c.step.new.devices c.step.result c.step.ensures.ends
