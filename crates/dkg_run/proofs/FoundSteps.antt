@@ -125,7 +125,7 @@ module _ (most : ℕ) (held : Held) where
   commits info seed None st w q =
       let t : Secrets = of_secrets.after (PutSeed info.epoch seed) w.held.secrets in
       let done : K (does w (Changes (PutSeed info.epoch seed)))
-          = same_halves w (does w (Changes (PutSeed info.epoch seed))) refl (seed_halves info.epoch seed w.held.secrets t (all_done (PutSeed info.epoch seed) w.held.secrets t refl)) q in
+      = same_halves w (does w (Changes (PutSeed info.epoch seed))) refl (seed_halves info.epoch seed w.held.secrets t (all_done (PutSeed info.epoch seed) w.held.secrets t refl)) q in
       (λ cause new tears. same_halves w new (ap (λ (j : Journaled). j.entries) tears.torn.0) (seed_halves info.epoch seed w.held.secrets new.held.secrets tears.torn.1) q, (done, done))
   commits info seed (Some share) st w q =
       let mid : World = does w (Changes (PutShare info.epoch share)) in
@@ -133,7 +133,7 @@ module _ (most : ℕ) (held : Held) where
       let t : Secrets = of_secrets.after (PutSeed info.epoch seed) shared in
       let first : K mid = same_halves w mid refl (share_halves info.epoch share w.held.secrets shared (all_done (PutShare info.epoch share) w.held.secrets shared refl)) q in
       let done : K (does mid (Changes (PutSeed info.epoch seed)))
-          = same_halves mid (does mid (Changes (PutSeed info.epoch seed))) refl (seed_halves info.epoch seed shared t (all_done (PutSeed info.epoch seed) shared t refl)) first in (
+      = same_halves mid (does mid (Changes (PutSeed info.epoch seed))) refl (seed_halves info.epoch seed shared t (all_done (PutSeed info.epoch seed) shared t refl)) first in (
         λ cause new tears. same_halves w new (ap (λ (j : Journaled). j.entries) tears.torn.0) (share_halves info.epoch share w.held.secrets new.held.secrets tears.torn.1) q,
         (λ cause new tears. same_halves mid new (ap (λ (j : Journaled). j.entries) tears.torn.0) (seed_halves info.epoch seed shared new.held.secrets tears.torn.1) first, (done, done)),
       )

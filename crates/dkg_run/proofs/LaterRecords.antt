@@ -125,7 +125,7 @@ pub recorded_later : (epoch dealer private : ℕ) (public : List ℕ) → IsEven
 recorded_later epoch dealer private public is_event held es above = same_map keys_total exact_keys _ _ (λ k. elim (same_key k (epoch, dealer)) [
   | inl is ↦ ap (get (recovered (placed es e) now)) is ∙ placed_here now e (epoch, dealer) (public, private) refl puts es 0 empty above ∙ sym (get_at (recovered es held) (epoch, dealer) k (public, private) is)
   | inr apart ↦ placed_else now e k (λ d is same. apart (same ∙ ap (λ (x : Dealing). x.key) (some_is (sym is ∙ its)))) es empty
-    ∙ recovered_at held now k es (get_other held.privates (epoch, dealer) k private apart) ∙ sym (get_other (recovered es held) (epoch, dealer) k (public, private) apart)
+      ∙ recovered_at held now k es (get_other held.privates (epoch, dealer) k private apart) ∙ sym (get_other (recovered es held) (epoch, dealer) k (public, private) apart)
 ])
   where
     e : Entry
