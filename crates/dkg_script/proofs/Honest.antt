@@ -34,12 +34,12 @@ use Rattle.dkg_script.proofs.TodayWithin.{today_within}
 use Rattle.dkg_script.proofs.CutWrites.{at_install, at_gate}
 use Rattle.dkg_script.proofs.Worked.{script_of, genesis, setting, files_of, secrets_of, flat, OnlyThese, nothing_there}
 
--- BLOCK 0 is of today's form
+-- BLOCK 0 is one of a script within the first epoch
 pub genesis_of_today : (lives : List Life) → IsBlockOfToday (script_of 8 (lit< tt) (genesis ∷ []) lives) genesis
 unfolding payload_after carried_at parts_at held_at outcome_after mode_at byte_at many_at keys_at groups_at
 genesis_of_today lives = (lit< tt, refl)
 
--- what is built reads the stored run, which is of today's form
+-- what is built reads the stored run, which stays within the first epoch
 two_of_today : IsFormOfToday two
 two_of_today = record {
   plain = refl;

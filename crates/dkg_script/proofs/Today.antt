@@ -1,4 +1,4 @@
--- Scripts of the form of today: no life leaves epoch 0 or awaits a block above its midpoint.
+-- Scripts within the first epoch: no life leaves epoch 0 or awaits a block above its midpoint.
 use Rattle.std.proofs.Common.{◌≡◌, ℕ, zero, suc, ◌+◌, ◌<◌, ◌≤◌, ◌/◌, List, [], ◌∷◌, Option, Some, None, Bool, true, false, cond, refl, ap, subst, ◌∙◌, arith, length, take, lit<}
 use Rattle.std.specs.Prelude.{filter_map, fold, max, slice_get, option_and_then, unwrap_or, ◌-◌, ◌==◌, IfSome, IsSomeAnd}
 use Rattle.std.specs.List.{AllByRecursion, cons_option}
@@ -68,7 +68,7 @@ no_material s l life no_sync none = by_mode (is_oneshot s)
     by_mode true = refl
     by_mode false = rw (no_sync, none) refl
 
--- A POSITION OF TODAY is one from which a block below the midpoint is awaited
+-- A POSITION WITHIN THE FIRST EPOCH is one from which a block below the midpoint is awaited
 
 module _ (s : Setting) where
   abbrev m : ℕ
@@ -122,7 +122,7 @@ no_part k (suc n) low = let half : suc n / 2 < suc n = div-lt_self {n = suc n} {
 pub awaits_epoch_zero : (s : Setting) (l : ℕ) (life : Life) (n : ℕ) → IsLifeOfToday (midpoint_of s.script) s.script.blocks life → found s l ≡ None → awaited_epoch s l life n ≡ 0
 awaits_epoch_zero s l life n today none = no_part (awaited_height s l life n) (blocks_per_epoch s) (awaits_early s l life n today none)
 
--- WHAT IS BUILT TODAY has no start material, so no life finds any
+-- WHAT IS BUILT has no start material, so no life finds any
 
 no_syncs : (lives : List Life) → ((l : ℕ) (life : Life) → slice_get lives l ≡ Some life → life.sync ≡ None) → AllByRecursion (λ life. life.sync ≡ None) lives
 no_syncs [] none = tt
@@ -145,7 +145,7 @@ its_form P (first ∷ lives) zero life today is = (omega arith, subst P (same fi
     same first life e = ap (λ (o : Option Life). unwrap_or o first) e
 its_form P (first ∷ lives) (suc l) life today is = let rest = its_form P lives l life today.1 is in (let below : l < length lives = rest.0 in omega arith, rest.1)
 
--- .. and a script of today's form never leaves epoch 0
+-- .. and a script within the first epoch never leaves epoch 0
 module _ (s : Setting) (cuts : List (Option CutAt)) (today : IsFormOfToday s.script) (plain : IsPlain s) (history : IsPlanHistory s cuts) where
   pub life_today : (l : ℕ) (life : Life) → l ≤ length cuts → life_at s l ≡ Some life → IsLifeOfToday (midpoint_of s.script) s.script.blocks life × (found s l ≡ None)
   life_today l life begun is =

@@ -1,4 +1,4 @@
--- Today's form lies within the one of epochs: of its blocks none stands at a midpoint or above.
+-- The form of scripts within the first epoch lies within the one of epochs: of its blocks none stands at a midpoint or above.
 use Rattle.std.proofs.Common.{ℕ, ◌+◌, ◌<◌, ◌^◌, List, [], ◌∷◌, Option, Some, None, arith, refl, subst}
 use Rattle.std.specs.Prelude.{slice_get, IfSome, IsSome, IsSomeAnd}
 use Rattle.std.specs.Int.NonZero.{non_zero_u64_get}

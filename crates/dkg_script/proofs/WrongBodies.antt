@@ -241,7 +241,7 @@ stopped_is_not_complete complete = one_not_two (sym (ap (λ (p : Progress). leng
 pub fault_is_no_success : EndsRun (Ok tt) (opening ++ Fault Disk ∷ []) (Unit {0}) (Unit {0}) → ⊥
 fault_is_no_success ends = true_not_false ends
 
--- A FAULT that no run of today's form can meet
+-- A FAULT that no run within the first epoch can meet
 pub invented_fault_is_no_end : EndsRun (Err HeightRange) (opening ++ Fault HeightRange ∷ []) (Unit {0}) (Unit {0}) → ⊥
 invented_fault_is_no_end ends = ends.1
 

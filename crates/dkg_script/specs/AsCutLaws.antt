@@ -23,11 +23,11 @@ ComesAsFar = (s : Setting) (front rest : List Entry) → InOrder s (front ++ res
 abbrev pub StaysInOrderAsCut : Type 0
 StaysInOrderAsCut = (s : Setting) (out : List Entry) → InOrder s out → InOrder (with_cuts (progress s out).cuts s) out
 
--- Of today's form is a script however its lives were cut.
+-- Within the first epoch stays a script however its lives were cut.
 abbrev pub StaysOfToday : Type 0
 StaysOfToday = (ends : List (Option CutAt)) (script : Script) → IsFormOfToday script → IsFormOfToday (as_cut ends script)
 
--- .. and so is one of the form of epochs.
+-- .. and one of the form of epochs is of it.
 abbrev pub StaysOfEpochs : Type 0
 StaysOfEpochs = (ends : List (Option CutAt)) (script : Script) → IsFormOfEpochs script → IsFormOfEpochs (as_cut ends script)
 

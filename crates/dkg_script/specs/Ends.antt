@@ -27,7 +27,7 @@ pub record EndsInFault (entries : List Entry) (fault : Fault) : Type 0 where
   pub last : entries ≡ before ++ entry.Fault fault ∷ []
   pub only : IsFalse (has_fault before)
 
--- What a node's own state can contradict in a script of today's form: a stored dealing is refused.
+-- What a node's own state can contradict in a script within the first epoch (see Form): a stored dealing is refused.
 abbrev pub IsLocalOfToday : LocalCause → Type 0
 IsLocalOfToday (StoredDealing epoch dealer) = ⊤
 IsLocalOfToday _ = ⊥
@@ -38,7 +38,7 @@ IsRefusalOfToday (Refused why) = ⊤
 IsRefusalOfToday (Round why) = ⊤
 IsRefusalOfToday _ = ⊥
 
--- The faults that a run of a script of today's form (see Form) can tell: those of a device, a record that is none, an info of
+-- The faults that a run of a script within the first epoch can tell: those of a device, a record that is none, an info of
 -- block 0 that is missing, is of another epoch or is refused, a stored dealing that is refused, and a delivered block that does not
 -- belong to the chain. Want of memory is never told. (A script whose lives go over many epochs, see Epochs, can meet others.)
 abbrev pub IsFaultOfToday : Fault → Type 0

@@ -69,6 +69,6 @@ pub record IsFormOfEpochs (script : Script) : Type 0 where
   pub placed : AllByRecursion (λ block. block.height < 2 ^ 64) script.blocks
   pub lives : (l : ℕ) (life : Life) → slice_get script.lives l ≡ Some life → IsLifeIn script l life
 
--- Today's form lies within it.
+-- A script within the first epoch (see Form) is of it.
 abbrev pub TodayIsOfEpochs : Type 0
 TodayIsOfEpochs = (script : Script) → IsFormOfToday script → IsFormOfEpochs script

@@ -45,7 +45,7 @@ pub record AreHonestStores (s : Setting) (image : Files → Type 0) : Type 0 whe
   pub whole : IsWhole (entries s.files) s.secrets
   pub nothing_loose : Lands s.files image
 
--- What is built today: the form of script that is read, and no plan.
+-- What is built so far: the form of script that is read, and no plan.
 pub record IsBuilt (s : Setting) : Type 0 where
   pub form : IsFormOfEpochs s.script
   pub no_plan : get s.files Plan ≡ None

@@ -1,7 +1,7 @@
 -- Which scripts are valid: those that a node over sound devices runs to their end.
 --
--- Of a script within the first epoch, of today's form (see Form), this asks all that a run needs; of the form that is read (see Epochs) it says nothing of
--- later epochs. Of what these need some holds of every script of today's form: its lives all begin in epoch 0, so no start epoch falls; its heights lie in
+-- Of a script within the first epoch (see Form) this asks all that a run needs; of the form that is read (see Epochs) it says nothing of later epochs. Of
+-- what these need some holds of every script within the first one: its lives all begin in epoch 0, so no start epoch falls; its heights lie in
 -- that epoch, so each has a successor below 2^64; no configuration is refused; a life has no start material and no end of an epoch, and no ceremony is
 -- one-shot. And some is not needed: where a log bears an acknowledgement of this node's that it never gave, the node takes no part, and its run goes on.
 use Rattle.std.specs.Prelude.{ℕ, ◌-◌, ◌<◌, ◌≤◌, ◌≡◌, List, Option, Some, Ok, IfSome, IsSome, IsSomeAnd, length}

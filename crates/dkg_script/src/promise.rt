@@ -52,17 +52,17 @@ pub fn stays_in_order_as_cut()
     ensures { StaysInOrderAsCut }
 {}
 
-/// A script of today's form is of it as it was cut.
+/// A script within the first epoch is so as it was cut.
 pub fn stays_of_today()
     ensures { StaysOfToday }
 {}
 
-/// .. and so is one of the form of epochs.
+/// .. and one of the form of epochs is of it.
 pub fn stays_of_epochs()
     ensures { StaysOfEpochs }
 {}
 
-/// A script of today's form is of the form of epochs.
+/// A script within the first epoch is of the form of epochs.
 pub fn lies_within_epochs()
     ensures { TodayIsOfEpochs }
 {}
