@@ -1,5 +1,6 @@
 //! Requests for a final block's payload, in the order in which they came, each with the ancestry that it was fed.
-ghost use Rattle.std.specs.Prelude.{◌≡◌, ◌++◌, ◌∷◌, [], OnOk, OnErr, IfSome, IfNone};
+ghost use Rattle.std.specs.Prelude.{◌≡◌, ◌++◌, ◌∷◌, [], OnOk, OnErr, IfSome, IfNone, filter, length, map};
+ghost use Rattle.dkg_artifact.specs.Requested.{ended_for, fed_for, is_other};
 
 use dkg_ceremony::Mem;
 use dkg_types::{Block, Directory};
@@ -69,6 +70,24 @@ impl<Dir: Directory> Requests<Dir> {
     {
         self.waiting.pop_front()
     }
+
+    /// How many requests wait.
+    pub fn len(&self) -> usize
+        ensures { result ≡ length self.now }
+    {
+        self.waiting.len()
+    }
+
+    /// The ancestry of the requests of a number has ended.
+    pub fn end(&mut self, number: u64)
+        ensures { self.new ≡ map (ended_for number) self.old }
+    {
+        for request in self.waiting.iter_mut() {
+            if request.number == number {
+                request.ended = true;
+            }
+        }
+    }
 }
 
 impl<Dir: Directory + Drop> Requests<Dir> {
@@ -89,6 +108,25 @@ impl<Dir: Directory + Drop> Requests<Dir> {
     {
         self.waiting.push_front(request)?;
         Ok(())
+    }
+
+    /// Feeds a block to the requests of a number whose ancestry has not ended.
+    pub fn feed(&mut self, alloc: Global, number: u64, block: &Block<Dir>) -> Mem<()>
+        ensures ok { OnOk result (self.new ≡ map (fed_for number block.now) self.old) }
+    {
+        for request in self.waiting.iter_mut() {
+            if request.number == number && !request.ended {
+                request.blocks.0.push(block.copy(alloc)?)?;
+            }
+        }
+        Ok(())
+    }
+
+    /// Takes the requests of a number away.
+    pub fn remove(&mut self, number: u64)
+        ensures { self.new ≡ filter (is_other number) self.old }
+    {
+        self.waiting.retain(|request| request.number != number);
     }
 }
 

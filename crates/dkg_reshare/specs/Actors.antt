@@ -1,5 +1,5 @@
 -- An actor between two calls, by its state.
-use Rattle.std.specs.Prelude.{List, ◌≡◌, ◌<◌, ◌==◌, ◌&&◌, ◌⊎◌, not, nat_lt, ℕ, ⊤, None, Bool, true, if◌then◌else◌, IsTrue, Result, Ok, Err, IsErrOf}
+use Rattle.std.specs.Prelude.{List, ◌≡◌, ◌==◌, ◌&&◌, not, nat_lt, ℕ, ⊤, Option, None, Bool, true, if◌then◌else◌, IsTrue, Result, Ok, Err, IsErrOf}
 use Rattle.std.specs.Int.NonZero.{non_zero_u32_get, non_zero_u64_get}
 use Rattle.std.specs.declared.num.NonZeroU32.{NonZeroU32}
 use Rattle.std.specs.declared.num.NonZeroU64.{NonZeroU64}
@@ -24,12 +24,16 @@ use Rattle.dkg_core.specs.Live.{Live, Sent}
 use Rattle.dkg_reshare.specs.declared.actor.State.{State}
 use Rattle.dkg_reshare.specs.declared.actor.State.TheVariants.{New, Living, Failed as HadFailed}
 use Rattle.dkg_reshare.specs.declared.config.Terms.{Terms}
+use Rattle.dkg_reshare.specs.declared.inclusion.Inclusion.{Inclusion}
 use Rattle.dkg_reshare.specs.declared.life.Life.{Life}
 use Rattle.dkg_reshare.specs.declared.life.Stage.{Stage}
 use Rattle.dkg_reshare.specs.declared.life.Stage.TheVariants as stage
 use Rattle.dkg_reshare.specs.declared.message.Message.{Message}
 use Rattle.dkg_reshare.specs.declared.message.Message.TheVariants as message
 use Rattle.dkg_reshare.specs.declared.stop.Stop.{Stop}
+use Rattle.dkg_reshare.specs.declared.told.Told.{Told}
+use Rattle.dkg_artifact.specs.declared.job.Job.{Job}
+use Rattle.std.specs.FinMap as maps
 use Rattle.dkg_reshare.specs.declared.stop.Stop.TheVariants.{Cut, Failed, Fault as Faulted}
 use Rattle.dkg_reshare.specs.Ends.{by_stop, IsCaused}
 use Rattle.dkg_reshare.specs.declared.tip.Judged.TheVariants.{New as IsNewBlock}
@@ -41,21 +45,40 @@ use Rattle.dkg_reshare.specs.Steps.{stage_in}
 
 -- STATES
 
-abbrev pub IsNew : {Dir : Type 0} → State Dir → Type 0
+abbrev pub IsNew : {C Dir Signer Cfg : Type 0} → State C Dir Signer Cfg → Type 0
 IsNew New = ⊤
-IsNew (Living life) = ⊥
+IsNew (Living life inclusion) = ⊥
 IsNew HadFailed = ⊥
 
-abbrev pub HasFailed : {Dir : Type 0} → State Dir → Type 0
+abbrev pub HasFailed : {C Dir Signer Cfg : Type 0} → State C Dir Signer Cfg → Type 0
 HasFailed New = ⊥
-HasFailed (Living life) = ⊥
+HasFailed (Living life inclusion) = ⊥
 HasFailed HadFailed = ⊤
 
--- of a life, if it has one
-abbrev pub IfLiving : {Dir : Type 0} → State Dir → (Life Dir → Type 0) → Type 0
-IfLiving New P = ⊤
-IfLiving (Living life) P = P life
-IfLiving HadFailed P = ⊤
+abbrev pub IsLiving : {C Dir Signer Cfg : Type 0} → State C Dir Signer Cfg → Type 0
+IsLiving New = ⊥
+IsLiving (Living life inclusion) = ⊤
+IsLiving HadFailed = ⊥
+
+-- of a life and what its inclusion has, if there is one
+abbrev pub IfIncluding : {C Dir Signer Cfg : Type 0} → State C Dir Signer Cfg → (Life Dir → Inclusion C Dir Signer Cfg → Type 0) → Type 0
+IfIncluding New P = ⊤
+IfIncluding (Living life inclusion) P = P life inclusion
+IfIncluding HadFailed P = ⊤
+
+-- .. of the life alone
+abbrev pub IfLiving : {C Dir Signer Cfg : Type 0} → State C Dir Signer Cfg → (Life Dir → Type 0) → Type 0
+IfLiving state P = IfIncluding state (λ life inclusion. P life)
+
+-- the verification that runs, if one does
+abbrev pub running_in : {C Dir Signer Cfg : Type 0} → State C Dir Signer Cfg → Option Job
+running_in (Living life inclusion) = inclusion.verification.running
+running_in state = None
+
+-- what a request was told last, if it was made
+abbrev pub told_in : {C Dir Signer Cfg : Type 0} → State C Dir Signer Cfg → (request : ℕ) → Option (Told Dir)
+told_in (Living life inclusion) request = maps.get inclusion.told request
+told_in state request = None
 
 -- BETWEEN TWO CALLS
 
@@ -78,8 +101,8 @@ pub record IsSetUp {Dir D X : Type 0} (tells : Bool) (files : D → Files) (imag
   pub firm : IsTrue tells → IsFirm life.store.journal (files devices.disk.now) (image devices.disk.now)
 
 -- It was opened, and its life, if it goes on, stands on these devices.
-pub record IsAt {Dir D X : Type 0} (tells : Bool) (files : D → Files) (image : D → Files → Type 0) (ack_of : AckOf) (deal_of : DealOf) (check_ack_of : CheckAckOf)
-    (terms : Terms) (state : State Dir) (devices : Devices D X) : Type 0 where
+pub record IsAt {C Dir Signer Cfg D X : Type 0} (tells : Bool) (files : D → Files) (image : D → Files → Type 0) (ack_of : AckOf) (deal_of : DealOf) (check_ack_of : CheckAckOf)
+    (terms : Terms) (state : State C Dir Signer Cfg) (devices : Devices D X) : Type 0 where
   pub opened : IsNew state → ⊥
   pub ready : IfLiving state (λ life. IsReadyLife tells files image ack_of deal_of check_ack_of terms life devices)
 
@@ -89,27 +112,27 @@ pub record IsSoundAt {D X : Type 0} (files : D → Files) (image : D → Files �
   pub whole : IsWhole (entries (files devices.disk.now)) (held devices.secrets.now)
 
 -- Memory has what the devices give back.
-abbrev pub IsAgreed : {Dir : Type 0} → State Dir → Files → Secrets → Type 0
+abbrev pub IsAgreed : {C Dir Signer Cfg : Type 0} → State C Dir Signer Cfg → Files → Secrets → Type 0
 IsAgreed state files s = IfLiving state (λ life. AreAgreed (records_of life.store) (held_in files s))
 
 -- HOW A CALL ENDS
 
 -- At Ok there is a life.
-abbrev pub lives : {Dir : Type 0} → (Life Dir → Live Dir) → State Dir → Result (Unit {0}) Stop → Ended Fault (Live Dir)
-lives view (Living life) (Ok done) = went (view life)
+abbrev pub lives : {C Dir Signer Cfg : Type 0} → (Life Dir → Live Dir) → State C Dir Signer Cfg → Result (Unit {0}) Stop → Ended Fault (Live Dir)
+lives view (Living life inclusion) (Ok done) = went (view life)
 lives view New (Ok done) = broken by_want
 lives view HadFailed (Ok done) = broken by_want
 lives view state (Err stop) = by_stop stop
 
 -- At Ok there is a life of which P holds, and at an error the actor has failed.
-abbrev pub EndsAt : {Dir : Type 0} → State Dir → Result (Unit {0}) Stop → (Life Dir → Type 0) → Type 0
-EndsAt (Living life) (Ok done) P = P life
+abbrev pub EndsAt : {C Dir Signer Cfg : Type 0} → State C Dir Signer Cfg → Result (Unit {0}) Stop → (Life Dir → Type 0) → Type 0
+EndsAt (Living life inclusion) (Ok done) P = P life
 EndsAt New (Ok done) P = ⊥
 EndsAt HadFailed (Ok done) P = ⊥
 EndsAt state (Err stop) P = HasFailed state
 
 -- A call that ends in an error is the last one that does anything: nothing is done where one did before, and Failed comes exactly there.
-pub record FailsStop {Dir : Type 0} (state : State Dir) (result : Result (Unit {0}) Stop) (same : Type 0) : Type 0 where
+pub record FailsStop {C Dir Signer Cfg : Type 0} (state : State C Dir Signer Cfg) (result : Result (Unit {0}) Stop) (same : Type 0) : Type 0 where
   pub stopped : HasFailed state → (result ≡ Err Failed) × same
   pub only : IsErrOf result Failed → HasFailed state
 
@@ -140,16 +163,6 @@ is_early_in blocks height = nat_lt height (midpoint blocks (epoch_of blocks heig
 pub record IsApplied {Dir : Type 0} (blocks : ℕ) (life : Life Dir) (b : Block Dir) : Type 0 where
   pub is_new : judged life.tip b.height b.digest b.parent ≡ Ok IsNewBlock
   pub in_window : life.tip ≡ None → is_in_window_by life.stage (epoch_of blocks b.height == life.epoch) (is_early_in blocks b.height) ≡ true
-
--- A block is taken, unless it is applied at or above the midpoint of its epoch in a life that doesn't follow.
-abbrev pub TakesBlock : {Dir : Type 0} → (blocks : ℕ) → Life Dir → Block Dir → Type 0
-TakesBlock blocks life b = IsApplied blocks life b → (life.stage ≡ stage.Following) ⊎ (b.height < midpoint blocks (epoch_of blocks b.height))
-
--- What is taken: a peer's message, and a block.
-abbrev pub IsTaken : {Dir Cfg : Type 0} → (blocks : ℕ) → Life Dir → Message Dir Cfg → Type 0
-IsTaken blocks life (message.Peer from bytes) = ⊤
-IsTaken blocks life (message.Finalized b) = TakesBlock blocks life b
-IsTaken blocks life its = ⊥
 
 -- TERMS
 

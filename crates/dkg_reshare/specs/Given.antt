@@ -67,6 +67,10 @@ abbrev pub GivesBoth : {Dir : Type 0} → Fixed Dir → EpochInfo Dir → (share
 GivesBoth c info share seed h = (s : Seen) → s.shares ≡ maps.entries h.secrets.shares → s.seeds ≡ maps.entries h.secrets.seeds
     → (recovered_share c s info ≡ share) × (seed_for c info.epoch (lookup info.epoch s.seeds) ≡ seed)
 
+-- .. and this is the seed
+abbrev pub GivesSeed : {Dir : Type 0} → Fixed Dir → EpochInfo Dir → (seed : List ℕ) → Held → Type 0
+GivesSeed c info seed h = (s : Seen) → s.seeds ≡ maps.entries h.secrets.seeds → seed_for c info.epoch (lookup info.epoch s.seeds) ≡ seed
+
 -- Of this epoch and later ones the dealings are those that whatever a crash leaves gives back.
 abbrev pub AreGivenFrom : (min : ℕ) → List Pair → (image : Files → Type 0) → Secrets → Type 0
 AreGivenFrom min dealings image held = (c : Files) → image c → (key : ℕ × ℕ) → min ≤ key.0 → find key_cmp key dealings ≡ get (recovered (entries c) held) key

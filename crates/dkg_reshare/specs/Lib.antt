@@ -4,6 +4,8 @@ pub mod Configured
 pub mod Ends
 pub mod Given
 pub mod Heard
+pub mod Including
+pub mod InclusionOf
 pub mod Judged
 pub mod LiveOf
 pub mod Made

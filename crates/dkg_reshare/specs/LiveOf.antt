@@ -1,9 +1,9 @@
 -- What an actor has in memory, as the relation's Live.
-use Rattle.std.specs.Prelude.{ℕ, Bool, true, false, ◌∷◌, ◌++◌, reverse, IsTrue, List, ◌≡◌, ◌≤◌, ◌+◌, Contains, Option, Some, None, option_map, IfSome, IsSomeAnd, length}
+use Rattle.std.specs.Prelude.{ℕ, Bool, true, false, [], ◌∷◌, ◌++◌, reverse, IsTrue, List, ◌≡◌, ◌≤◌, ◌<◌, ◌+◌, ◌^◌, Contains, Option, Some, None, option_map, IfSome, IsSomeAnd, length}
 use Rattle.std.specs.FinMap as maps
 use Rattle.dkg_ceremony.specs.declared.round.Round.{Round}
 use Rattle.std.specs.Option.{option_map_or}
-use Rattle.dkg_ceremony.specs.Schedule.{epoch_of, midpoint}
+use Rattle.dkg_ceremony.specs.Schedule.{epoch_of, last, midpoint}
 use Rattle.dkg_fence.specs.Readiness.{Readiness}
 use Rattle.dkg_types.specs.Schemes.{scheme_of}
 use Rattle.dkg_types.specs.declared.info.EpochInfo.{EpochInfo}
@@ -14,7 +14,7 @@ use Rattle.dkg_store.specs.Player.{IsPlayerOf}
 use Rattle.dkg_store.specs.declared.dealer.Dealer.{Dealer}
 use Rattle.dkg_store.specs.declared.player.Player.{Player}
 use Rattle.dkg_core.specs.Core.{no_inclusion, no_orchestrator, no_probe}
-use Rattle.dkg_core.specs.Live.{Live, Records, Participation, Stage, Seat, Plays, Watches, Orchestrator, Probe}
+use Rattle.dkg_core.specs.Live.{Live, Records, Participation, Stage, Seat, Plays, Watches, Inclusion, Orchestrator, Probe}
 use Rattle.dkg_core.specs.Live.{Deals, Includes, Follows}
 use Rattle.dkg_core.specs.Live as live
 use Rattle.dkg_reshare.specs.declared.life.Life.{Life}
@@ -77,14 +77,15 @@ IsWithin limit has = IfSome has (λ round. length round.players ≤ limit)
 abbrev pub no_fence : Readiness
 no_fence = record { ready = None; closed = false; awaited = None }
 
--- what of a node's memory is not the actor's: the orchestrator's half but the fence, and the probe
+-- what of a node's memory is not the life's: what inclusion has, the orchestrator's half but the fence, and the probe
 pub record Beside (Dir : Type 0) : Type 0 where
+  pub inclusion : Inclusion Dir
   pub orchestrator : Orchestrator Dir
   pub probe : Probe Dir
 
 -- at the start of a life
 abbrev pub nothing_beside : {Dir : Type 0} → Beside Dir
-nothing_beside = record { orchestrator = no_orchestrator; probe = no_probe }
+nothing_beside = record { inclusion = no_inclusion; orchestrator = no_orchestrator; probe = no_probe }
 
 abbrev pub records_of : {Dir : Type 0} → Store Dir → Records
 records_of store = record { dealings = maps.entries store.dealings; acks = maps.entries store.acks; logs = maps.entries store.logs }
@@ -118,7 +119,7 @@ live_of beside fence l = record {
   records = records_of l.store;
   tip = l.tip;
   participation = participation_of l;
-  inclusion = no_inclusion;
+  inclusion = beside.inclusion;
   orchestrator = record beside.orchestrator { fence = fence };
   probe = beside.probe;
 }
@@ -138,15 +139,36 @@ with_scheme_of me info share beside = with_scheme info.epoch (scheme_of me info.
 abbrev pub Took : Bool → (old new schemes : List (ℕ × SchemeInfo)) → Type 0
 Took tells old new schemes = IsTrue tells → new ≡ old ++ reverse schemes
 
--- What is not the actor's is as it was, but for schemes that were registered, and the registrar took just these.
+-- What is not the life's is as it was, but for schemes that were registered, and the registrar took just these.
 pub record EndsBeside {Dir : Type 0} (old : Beside Dir) (TookThese : List (ℕ × SchemeInfo) → Type 0) (P : Beside Dir → Type 0) : Type 0 where
   pub now : Beside Dir
+  pub inclusion : now.inclusion ≡ old.inclusion
   pub more : List (ℕ × SchemeInfo)
   pub schemes : now.orchestrator.schemes ≡ more ++ old.orchestrator.schemes
   pub took : TookThese more
   pub probe : now.probe ≡ old.probe
   pub orchestrator : now.orchestrator ≡ record old.orchestrator { schemes = now.orchestrator.schemes }
   pub holds : P now
+
+-- .. where what inclusion has became such
+pub record EndsWith {Dir : Type 0} (old : Beside Dir) (IsNow : Inclusion Dir → Type 0) (TookThese : List (ℕ × SchemeInfo) → Type 0) (P : Beside Dir → Type 0) : Type 0 where
+  pub now : Beside Dir
+  pub inclusion : IsNow now.inclusion
+  pub more : List (ℕ × SchemeInfo)
+  pub schemes : now.orchestrator.schemes ≡ more ++ old.orchestrator.schemes
+  pub took : TookThese more
+  pub probe : now.probe ≡ old.probe
+  pub orchestrator : now.orchestrator ≡ record old.orchestrator { schemes = now.orchestrator.schemes }
+  pub holds : P now
+
+-- Nothing of an epoch is in what inclusion has: an epoch's setup begins so.
+pub record IsFresh {Dir : Type 0} (i : Inclusion Dir) : Type 0 where
+  pub served : i.served ≡ None
+  pub queue : i.queue ≡ []
+  pub running : i.running ≡ None
+  pub waiter : i.waiter ≡ None
+  pub retained : i.retained ≡ None
+  pub cached : i.cached ≡ None
 
 -- the height above a life's position
 abbrev pub awaited_of : {Dir : Type 0} → Life Dir → ℕ
@@ -156,4 +178,5 @@ awaited_of l = option_map_or (λ t. t.height + 1) l.tip 0
 pub record IsPlaced {Dir : Type 0} (blocks : ℕ) (l : Life Dir) : Type 0 where
   pub epoch_is : (l.stage ≡ stage.Following → ⊥) → l.epoch ≡ epoch_of blocks (awaited_of l)
   pub midpoint_is : (l.stage ≡ stage.Following → ⊥) → l.midpoint ≡ midpoint blocks l.epoch
+  pub in_range : (l.stage ≡ stage.Following → ⊥) → last blocks l.epoch < 2 ^ 64
   pub ended : l.stage ≡ stage.Including → IsSomeAnd l.tip (λ t. l.midpoint ≤ t.height + 1)

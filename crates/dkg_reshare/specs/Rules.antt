@@ -10,7 +10,10 @@ use Rattle.dkg_ceremony.specs.declared.output.Output.{Output}
 use Rattle.dkg_ceremony.specs.declared.round.Round.{Round}
 use Rattle.dkg_ceremony.specs.declared.round.RoundError.{RoundError}
 use Rattle.dkg_ceremony.specs.declared.signed_log.SignedDealerLog.{SignedDealerLog}
-use Rattle.dkg_core.specs.Fixed.{Rules}
+use Rattle.dkg_ceremony.specs.declared.finish.FinishError.{FinishError}
+use Rattle.dkg_ceremony.specs.Finishes.{DealingMap}
+use Rattle.dkg_ceremony.specs.Outcomes.{LogMap}
+use Rattle.dkg_core.specs.Fixed.{Fixed, Rules}
 
 abbrev pub RoundOf : Type 0
 RoundOf = List ℕ → ℕ → Option Output → Mode → Reveal → List ℕ → List ℕ → Result Round RoundError
@@ -69,3 +72,27 @@ pub record IsRuledBy (round_of : RoundOf) (deal_of : DealOf) (dealing_of : Deali
   pub seats : SeatsBy round_of dealing_of bears_ack_of rules
   pub deals : DealsBy deal_of check_ack_of sign_log_of rules
   pub shares : SharesBy share_public_of partial_public_of rules
+
+abbrev pub CheckLogOf : Type 0
+CheckLogOf = Round → SignedDealerLog → Bool
+
+abbrev pub OutcomeOf : Type 0
+OutcomeOf = Round → LogMap → Option Output
+
+abbrev pub FinishOf : Type 0
+FinishOf = Round → (me : ℕ) → DealingMap → LogMap → Result (Option (Output × ℕ)) FinishError
+
+-- Logs are checked, and their outcome found, by these; and the provider and its directories are these.
+pub record IncludesBy {Dir : Type 0} (check_log_of : CheckLogOf) (outcome_of : OutcomeOf) (finish_of : FinishOf) (participants : ℕ → List ℕ) (directory : ℕ → List ℕ → Dir)
+    (spelling : Dir → List ℕ) (matches : Dir → List ℕ → Bool) (c : Fixed Dir) : Type 0 where
+  pub check_log : c.rules.check_log_of ≡ check_log_of
+  pub outcome : c.rules.outcome_of ≡ outcome_of
+  pub finish : c.rules.finish_of ≡ finish_of
+  pub participants_are : (epoch : ℕ) → c.provided.participants epoch ≡ participants epoch
+  pub directory_is : (epoch : ℕ) (peers : List ℕ) → c.provided.directory epoch peers ≡ directory epoch peers
+  pub spelling_is : c.directories.spelling ≡ spelling
+  pub matches_are : c.directories.matches ≡ matches
+
+-- A provider says still what it said.
+abbrev pub SameProvided : {Dir : Type 0} → (old new : ℕ → List ℕ) → (before now : ℕ → List ℕ → Dir) → Type 0
+SameProvided old new before now = ((epoch : ℕ) → new epoch ≡ old epoch) × ((epoch : ℕ) (peers : List ℕ) → now epoch peers ≡ before epoch peers)

@@ -43,6 +43,10 @@ use Rattle.dkg_store.specs.declared.player.Player.{Player}
 abbrev pub reads_secrets : {Dir : Type 0} → Fixed Dir → EpochInfo Dir → Course Dir Fault (Option ℕ × List ℕ)
 reads_secrets c info = looks c (λ s. Goes (recovered_share c s info, seed_for c info.epoch (lookup info.epoch s.seeds)))
 
+-- .. the seed alone
+abbrev pub reads_seed : {Dir : Type 0} → Fixed Dir → EpochInfo Dir → Course Dir Fault (List ℕ)
+reads_seed c info = looks c (λ s. Goes (seed_for c info.epoch (lookup info.epoch s.seeds)))
+
 -- whether a setup's info was committed before
 abbrev pub standing_of : declared.Standing → setup.Standing
 standing_of standing.Uncommitted = setup.Uncommitted

@@ -1,42 +1,50 @@
 //! The reshare actor: one opening and then steps, over devices and a source that each call is lent.
-ghost use Rattle.std.specs.Prelude.{◌≡◌, ◌≤◌, ◌-◌, ◌^◌, IfErr, IfOk, IsTrue, None, OnOk, Some};
+ghost use Rattle.std.specs.Prelude.{◌≡◌, ◌≤◌, ◌-◌, ◌^◌, IfErr, IfOk, IsTrue, None, OnOk, Some, option_map};
+ghost use Rattle.std.specs.Option.{option_copied};
 ghost use Rattle.std.specs.Int.NonZero.{non_zero_u32_get, non_zero_u64_get};
 ghost use Rattle.dkg_journal.specs.Disk.{Rose};
 ghost use Rattle.dkg_journal.specs.Fuse.{Reached};
 ghost use Rattle.dkg_store.specs.Corrupt.{AreFit};
-ghost use Rattle.dkg_core.specs.Core.{opening, step};
+ghost use Rattle.dkg_core.specs.Core.{no_inclusion, opening, step};
 ghost use Rattle.dkg_core.specs.Fixed.{Fixed};
-ghost use Rattle.dkg_reshare.specs.Actors.{AreTerms, EndsAt, FailsStop, IfLiving, IsAgreed, IsAt, IsFoundAt, IsNew, IsReadyLife, IsSoundAt, IsTaken, lives, message_of};
+ghost use Rattle.dkg_core.specs.Including.{works};
+ghost use Rattle.dkg_reshare.specs.Actors.{AreTerms, EndsAt, FailsStop, IfIncluding, IfLiving, IsAgreed, IsAt, IsFoundAt, IsNew, IsReadyLife, IsSoundAt, lives, message_of, running_in, told_in};
 ghost use Rattle.dkg_reshare.specs.Configured.{config_fault};
 ghost use Rattle.dkg_reshare.specs.Ends.{IsCausedBy, IsCausedInStep, ends, ends_in};
 ghost use Rattle.dkg_reshare.specs.Given.{AreGivenFrom, HasRead, IsIn, IsLent, ReadsToday, reading};
-ghost use Rattle.dkg_reshare.specs.LiveOf.{Beside, EndsBeside, Took, live_of, no_fence, nothing_beside};
+ghost use Rattle.dkg_reshare.specs.InclusionOf.{IsReadyInclusion, IsSeen, result_of};
+ghost use Rattle.dkg_reshare.specs.LiveOf.{Beside, EndsBeside, EndsWith, Took, live_of, no_fence, nothing_beside};
 ghost use Rattle.dkg_reshare.specs.Made.{Makes, Tells, UnlessBroken};
 ghost use Rattle.dkg_reshare.specs.Moved.{Moved, StaysAbove};
 ghost use Rattle.dkg_reshare.specs.Opened.{IsInGrammar, IsOpeningOf, OpensReadable, epoch_at};
-ghost use Rattle.dkg_reshare.specs.Rules.{IsRuledBy};
+ghost use Rattle.dkg_reshare.specs.Rules.{IncludesBy, IsRuledBy, SameProvided};
 ghost use Rattle.dkg_reshare.specs.Today.{IsOpeningOfToday};
 
 use crate::blocks::take_block;
 use crate::config::{Config, Terms, check_config};
 use crate::dealing::hear_peer;
+use crate::inclusion::Inclusion;
 use crate::life::Life;
+use crate::logs::{release, serve};
 use crate::message::Message;
 use crate::opening::open_life;
+use crate::requests::{ask, cancel, end, feed, work};
 use crate::source::BlockSource;
 use crate::stop::Stop;
+use crate::told::Told;
+use dkg_artifact::{Job, VerifiedLogs};
 use dkg_ceremony::{Ceremony, Signer};
 use dkg_fence::Fence;
 use dkg_journal::Disk;
 use dkg_store::{Devices, SecretStore};
-use dkg_types::{Directory, Fault, Registrar, Transcript};
+use dkg_types::{Directory, Fault, ParticipantsProvider, Registrar, Transcript};
 use std::alloc::Global;
 
 /// Where an actor stands in its life.
 #[derive(Drop)]
-enum State<Dir> {
+enum State<C: Ceremony, Dir: Directory> {
     New,
-    Living(Life<Dir>),
+    Living(Life<Dir>, Inclusion<C, Dir>),
     Failed,
 }
 
@@ -49,43 +57,60 @@ pub struct Actor<C: Ceremony, P, R, M, Dir: Directory> {
     registrar: R,
     manager: M,
     terms: Terms,
-    state: State<Dir>,
+    state: State<C, Dir>,
     ghost me: { terms.me ≡ C.Signer.key_of signer },
 }
 
-/// Takes a message: a peer's, or a block (`step`).
-fn take<C: Ceremony, R: Registrar, Dir: Directory + Drop, D: Disk, X: SecretStore>(
+/// Takes a message (`step`).
+fn take<
+    C: Ceremony + Drop,
+    P: ParticipantsProvider<Dir = Dir>,
+    R: Registrar,
+    Dir: Directory + Drop,
+    D: Disk,
+    X: SecretStore,
+>(
     alloc: Global,
     ceremony: &C,
     signer: &C::Signer,
+    provider: &mut P,
     registrar: &mut R,
     terms: &Terms,
     life: &mut Life<Dir>,
+    inclusion: &mut Inclusion<C, Dir>,
     devices: &mut Devices<'_, D, X>,
     message: Message<Dir>,
     fence: &mut Fence,
     out: &mut Transcript,
 ) -> Result<(), Stop>
-    requires taken { IsTaken (non_zero_u64_get terms.now.blocks_per_epoch) life.old message }
     requires me { terms.now.me ≡ C.Signer.key_of signer.now }
     requires ready { IsReadyLife D.tells D.files D.image C.ack_of C.deal_of C.check_ack_of terms.now life.old devices.old }
+    requires including { IsReadyInclusion C.check_log_of C.dealing_of C.finish_of (non_zero_u64_get terms.now.blocks_per_epoch) life.old inclusion.old }
     ensures ready { OnOk result (IsReadyLife D.tells D.files D.image C.ack_of C.deal_of C.check_ack_of terms.now life.new devices.new) }
     ensures word { life.new.word ≡ life.old.word }
-    ensures acts { IsTrue D.tells → IsTrue X.tells → (c : Fixed Dir) (beside : Beside Dir) → IsIn terms.now life.old.word c → ReadsToday c
-        → IsRuledBy C.round_of C.deal_of C.dealing_of C.ack_of C.check_ack_of C.sign_log_of C.bears_ack_of C.share_public_of C.partial_public_of c.rules
-        → EndsBeside beside (λ more. OnOk result (Took R.tells (R.taken registrar.old) (R.taken registrar.new) more))
-        (λ now. Makes D.files D.image X.held (step c (message_of message) (live_of beside fence.old life.old)) (ends_in (live_of now fence.new life.new) result)
-        devices.old devices.new out.old.entries out.new.entries) }
-    ensures tells { (c : Fixed Dir) (beside : Beside Dir) → IsIn terms.now life.old.word c → ReadsToday c
-        → IsRuledBy C.round_of C.deal_of C.dealing_of C.ack_of C.check_ack_of C.sign_log_of C.bears_ack_of C.share_public_of C.partial_public_of c.rules
-        → EndsBeside beside (λ more. OnOk result (Took R.tells (R.taken registrar.old) (R.taken registrar.new) more))
-        (λ now. Tells (step c (message_of message) (live_of beside fence.old life.old)) (ends_in (live_of now fence.new life.new) result)
-        out.old.entries out.new.entries) }
     ensures moved { Moved D.tells D.made X.made D.faults X.faults devices.old devices.new }
     ensures causes { IfErr result (λ stop. IsCausedBy D.tells stop (Rose (D.faults devices.old.disk.now) (D.faults devices.new.disk.now))
         (Rose (X.faults devices.old.secrets.now) (X.faults devices.new.secrets.now)) (Reached devices.old.fuse devices.new.fuse)) }
     ensures fit { IsTrue D.tells → AreFit (non_zero_u32_get terms.now.limit) (D.image devices.old.disk.now)
         → AreFit (non_zero_u32_get terms.now.limit) (D.image devices.new.disk.now) }
+    ensures including { OnOk result (IsReadyInclusion C.check_log_of C.dealing_of C.finish_of (non_zero_u64_get terms.now.blocks_per_epoch) life.new
+        inclusion.new) }
+    ensures provider { IsTrue P.tells → SameProvided (P.participants_of provider.old) (P.participants_of provider.new)
+        (P.directory_of provider.old) (P.directory_of provider.new) }
+    ensures acts { IsTrue D.tells → IsTrue X.tells → IsTrue P.tells → (c : Fixed Dir) (beside : Beside Dir) → IsIn terms.now life.old.word c → ReadsToday c
+        → IsRuledBy C.round_of C.deal_of C.dealing_of C.ack_of C.check_ack_of C.sign_log_of C.bears_ack_of C.share_public_of C.partial_public_of c.rules
+        → IncludesBy C.check_log_of C.outcome_of C.finish_of (P.participants_of provider.old) (P.directory_of provider.old) Dir.spelling Dir.matches_of c
+        → IsSeen inclusion.old beside.inclusion → EndsWith beside (λ i. OnOk result (IsSeen inclusion.new i))
+        (λ more. OnOk result (Took R.tells (R.taken registrar.old) (R.taken registrar.new) more))
+        (λ now. Makes D.files D.image X.held (step c (message_of message) (live_of beside fence.old life.old)) (ends_in (live_of now fence.new life.new) result)
+        devices.old devices.new out.old.entries out.new.entries) }
+    ensures tells { IsTrue P.tells → (c : Fixed Dir) (beside : Beside Dir) → IsIn terms.now life.old.word c → ReadsToday c
+        → IsRuledBy C.round_of C.deal_of C.dealing_of C.ack_of C.check_ack_of C.sign_log_of C.bears_ack_of C.share_public_of C.partial_public_of c.rules
+        → IncludesBy C.check_log_of C.outcome_of C.finish_of (P.participants_of provider.old) (P.directory_of provider.old) Dir.spelling Dir.matches_of c
+        → IsSeen inclusion.old beside.inclusion → EndsWith beside (λ i. OnOk result (IsSeen inclusion.new i))
+        (λ more. OnOk result (Took R.tells (R.taken registrar.old) (R.taken registrar.new) more))
+        (λ now. Tells (step c (message_of message) (live_of beside fence.old life.old)) (ends_in (live_of now fence.new life.new) result)
+        out.old.entries out.new.entries) }
 {
     match message {
         Message::Peer { from, bytes } => hear_peer(
@@ -100,9 +125,31 @@ fn take<C: Ceremony, R: Registrar, Dir: Directory + Drop, D: Disk, X: SecretStor
             out,
         ),
         Message::Finalized(block) => take_block(
-            alloc, ceremony, signer, registrar, terms, life, devices, &block, fence, out,
+            alloc, ceremony, signer, provider, registrar, terms, life, inclusion, devices, &block,
+            fence, out,
         ),
-        _ => unreachable!(),
+        Message::NextLog { request, height } => {
+            serve(alloc, life, inclusion, request, height, out)
+        }
+        Message::ReleaseLog { height } => {
+            release(life, inclusion, height);
+            Ok(())
+        }
+        Message::EpochInfo { request } => ask(
+            alloc, ceremony, provider, terms, life, inclusion, devices, request, out,
+        ),
+        Message::Feed { request, block } => feed(
+            alloc, ceremony, provider, terms, life, inclusion, devices, request, block, out,
+        ),
+        Message::Over { request } => end(
+            alloc, ceremony, provider, terms, life, inclusion, devices, request, out,
+        ),
+        Message::Cancel { request } => cancel(
+            alloc, ceremony, provider, terms, life, inclusion, devices, request, out,
+        ),
+        Message::Work => work(
+            alloc, ceremony, provider, terms, life, inclusion, devices, None, out,
+        ),
     }
 }
 
@@ -145,7 +192,13 @@ where
     }
 }
 
-impl<C: Ceremony, P, R: Registrar, M, Dir: Directory + Drop> Actor<C, P, R, M, Dir> {
+impl<
+    C: Ceremony + Drop,
+    P: ParticipantsProvider<Dir = Dir>,
+    R: Registrar,
+    M,
+    Dir: Directory + Drop,
+> Actor<C, P, R, M, Dir> {
     /// Opens a life: its number and its random word are the caller's. The dealings are restored, and the epoch above the source's position is
     /// set up.
     ///
@@ -165,12 +218,14 @@ impl<C: Ceremony, P, R: Registrar, M, Dir: Directory + Drop> Actor<C, P, R, M, D
         ensures acts { IsTrue D.tells → IsTrue X.tells → (c : Fixed Dir)
             → IsOpeningOf self.old.terms (B.answers source.now) life word (D.files devices.old.disk.now) c
             → IsRuledBy C.round_of C.deal_of C.dealing_of C.ack_of C.check_ack_of C.sign_log_of C.bears_ack_of C.share_public_of C.partial_public_of c.rules
-            → fence.old ≡ no_fence → EndsBeside nothing_beside (λ more. OnOk result (Took R.tells (R.taken self.old.registrar) (R.taken self.new.registrar) more))
+            → fence.old ≡ no_fence → EndsBeside nothing_beside
+            (λ more. OnOk result (Took R.tells (R.taken self.old.registrar) (R.taken self.new.registrar) more))
             (λ now. Makes D.files D.image X.held (opening c) (lives (live_of now fence.new) self.new.state result)
             devices.old devices.new out.old.entries out.new.entries) }
         // Whatever the devices tell, its lines are those of an opening that has read something: where they tell, dealings that each image gives back.
         ensures tells { (c : Fixed Dir) → IsLent self.old.terms (B.answers source.now) word c → c.life ≡ life → IsOpeningOfToday c
-            → IsRuledBy C.round_of C.deal_of C.dealing_of C.ack_of C.check_ack_of C.sign_log_of C.bears_ack_of C.share_public_of C.partial_public_of c.rules → fence.old ≡ no_fence
+            → IsRuledBy C.round_of C.deal_of C.dealing_of C.ack_of C.check_ack_of C.sign_log_of C.bears_ack_of C.share_public_of C.partial_public_of c.rules
+            → fence.old ≡ no_fence
             → HasRead (λ s. UnlessBroken (ends (λ done. done) result) (IsTrue D.tells → IsTrue X.tells
             → AreGivenFrom (epoch_at (B.answers source.now) self.old.terms - 1) s.dealings (D.image devices.new.disk.now) (X.held devices.new.secrets.now)))
             (λ s. EndsBeside nothing_beside (λ more. OnOk result (Took R.tells (R.taken self.old.registrar) (R.taken self.new.registrar) more))
@@ -181,8 +236,12 @@ impl<C: Ceremony, P, R: Registrar, M, Dir: Directory + Drop> Actor<C, P, R, M, D
             out.old.entries out.new.entries
             (D.image devices.old.disk.now) (D.image devices.new.disk.now) (X.held devices.old.secrets.now) (X.held devices.new.secrets.now) }
         // It may go on over these devices alone, or it has failed.
-        ensures ends { EndsAt self.new.state result (λ life. IsReadyLife D.tells D.files D.image C.ack_of C.deal_of C.check_ack_of self.new.terms life devices.new) }
+        ensures ends { EndsAt self.new.state result (λ life. IsReadyLife D.tells D.files D.image C.ack_of C.deal_of C.check_ack_of self.new.terms life
+            devices.new) }
         ensures word { IfLiving self.new.state (λ its. its.word ≡ word) }
+        // No request was made yet.
+        ensures including { IfIncluding self.new.state (λ life its. IsReadyInclusion C.check_log_of C.dealing_of C.finish_of
+            (non_zero_u64_get self.new.terms.blocks_per_epoch) life its × IsSeen its no_inclusion) }
         ensures rest { (self.new.ceremony ≡ self.old.ceremony) × (self.new.signer ≡ self.old.signer) × (self.new.provider ≡ self.old.provider)
             × (self.new.manager ≡ self.old.manager) × (self.new.terms ≡ self.old.terms) }
         // Memory has what the devices give back, where they were whole and nothing of them was loose.
@@ -211,7 +270,7 @@ impl<C: Ceremony, P, R: Registrar, M, Dir: Directory + Drop> Actor<C, P, R, M, D
             fence,
             out,
         )?;
-        self.state = State::Living(life);
+        self.state = State::Living(life, Inclusion::new(alloc));
         Ok(())
     }
 
@@ -228,22 +287,34 @@ impl<C: Ceremony, P, R: Registrar, M, Dir: Directory + Drop> Actor<C, P, R, M, D
         out: &mut Transcript,
     ) -> Result<(), Stop>
         requires at { IsAt D.tells D.files D.image C.ack_of C.deal_of C.check_ack_of self.old.terms self.old.state devices.old }
-        requires taken { IfLiving self.old.state (λ life. IsTaken (non_zero_u64_get self.old.terms.blocks_per_epoch) life message) }
+        requires including { IfIncluding self.old.state (IsReadyInclusion C.check_log_of C.dealing_of C.finish_of (non_zero_u64_get self.old.terms.blocks_per_epoch)) }
+        ensures including { OnOk result (IfIncluding self.new.state (IsReadyInclusion C.check_log_of C.dealing_of C.finish_of
+            (non_zero_u64_get self.new.terms.blocks_per_epoch))) }
         // It is the relation's step, and each act was made, whatever image a crash leaves.
-        ensures acts { IsTrue D.tells → IsTrue X.tells → (c : Fixed Dir) (beside : Beside Dir) → IfLiving self.old.state (λ old. IsIn self.old.terms old.word c
-            → ReadsToday c → IsRuledBy C.round_of C.deal_of C.dealing_of C.ack_of C.check_ack_of C.sign_log_of C.bears_ack_of C.share_public_of C.partial_public_of c.rules
-            → EndsBeside beside (λ more. OnOk result (Took R.tells (R.taken self.old.registrar) (R.taken self.new.registrar) more))
+        ensures acts { IsTrue D.tells → IsTrue X.tells → IsTrue P.tells → (c : Fixed Dir) (beside : Beside Dir) → IfIncluding self.old.state
+            (λ old its. IsIn self.old.terms old.word c
+            → ReadsToday c → IsRuledBy C.round_of C.deal_of C.dealing_of C.ack_of C.check_ack_of C.sign_log_of C.bears_ack_of C.share_public_of
+            C.partial_public_of c.rules
+            → IncludesBy C.check_log_of C.outcome_of C.finish_of (P.participants_of self.old.provider) (P.directory_of self.old.provider) Dir.spelling
+            Dir.matches_of c
+            → IsSeen its beside.inclusion → EndsWith beside (λ i. OnOk result (IfIncluding self.new.state (λ life now. IsSeen now i)))
+            (λ more. OnOk result (Took R.tells (R.taken self.old.registrar) (R.taken self.new.registrar) more))
             (λ now. Makes D.files D.image X.held (step c (message_of message) (live_of beside fence.old old))
             (lives (live_of now fence.new) self.new.state result) devices.old devices.new out.old.entries out.new.entries)) }
-        ensures tells { (c : Fixed Dir) (beside : Beside Dir) → IfLiving self.old.state (λ old. IsIn self.old.terms old.word c
-            → ReadsToday c → IsRuledBy C.round_of C.deal_of C.dealing_of C.ack_of C.check_ack_of C.sign_log_of C.bears_ack_of C.share_public_of C.partial_public_of c.rules
-            → EndsBeside beside (λ more. OnOk result (Took R.tells (R.taken self.old.registrar) (R.taken self.new.registrar) more))
+        ensures tells { IsTrue P.tells → (c : Fixed Dir) (beside : Beside Dir) → IfIncluding self.old.state (λ old its. IsIn self.old.terms old.word c
+            → ReadsToday c → IsRuledBy C.round_of C.deal_of C.dealing_of C.ack_of C.check_ack_of C.sign_log_of C.bears_ack_of C.share_public_of
+            C.partial_public_of c.rules
+            → IncludesBy C.check_log_of C.outcome_of C.finish_of (P.participants_of self.old.provider) (P.directory_of self.old.provider) Dir.spelling
+            Dir.matches_of c
+            → IsSeen its beside.inclusion → EndsWith beside (λ i. OnOk result (IfIncluding self.new.state (λ life now. IsSeen now i)))
+            (λ more. OnOk result (Took R.tells (R.taken self.old.registrar) (R.taken self.new.registrar) more))
             (λ now. Tells (step c (message_of message) (live_of beside fence.old old))
             (lives (live_of now fence.new) self.new.state result) out.old.entries out.new.entries)) }
         // It may go on over these devices alone, or it has failed.
-        ensures ends { EndsAt self.new.state result (λ life. IsReadyLife D.tells D.files D.image C.ack_of C.deal_of C.check_ack_of self.new.terms life devices.new) }
+        ensures ends { EndsAt self.new.state result (λ life. IsReadyLife D.tells D.files D.image C.ack_of C.deal_of C.check_ack_of self.new.terms life
+            devices.new) }
         ensures word { IfLiving self.old.state (λ old. IfLiving self.new.state (λ life. life.word ≡ old.word)) }
-        ensures rest { (self.new.ceremony ≡ self.old.ceremony) × (self.new.signer ≡ self.old.signer) × (self.new.provider ≡ self.old.provider)
+        ensures rest { (self.new.ceremony ≡ self.old.ceremony) × (self.new.signer ≡ self.old.signer)
             × (self.new.manager ≡ self.old.manager) × (self.new.terms ≡ self.old.terms) }
         ensures fails { FailsStop self.old.state result ((self.new.state ≡ self.old.state) × (self.new.registrar ≡ self.old.registrar)
             × (devices.new ≡ devices.old) × (out.new ≡ out.old) × (fence.new ≡ fence.old)) }
@@ -253,17 +324,21 @@ impl<C: Ceremony, P, R: Registrar, M, Dir: Directory + Drop> Actor<C, P, R, M, D
         // No record that a crash leaves is out of its grammar, or past the limit, where none was.
         ensures fit { IsTrue D.tells → AreFit (non_zero_u32_get self.old.terms.limit) (D.image devices.old.disk.now)
             → AreFit (non_zero_u32_get self.old.terms.limit) (D.image devices.new.disk.now) }
+        ensures provider { IsTrue P.tells → SameProvided (P.participants_of self.old.provider) (P.participants_of self.new.provider)
+            (P.directory_of self.old.provider) (P.directory_of self.new.provider) }
     {
-        let State::Living(life) = &mut self.state else {
+        let State::Living(life, inclusion) = &mut self.state else {
             return Err(Stop::Failed);
         };
         match take(
             alloc,
             &self.ceremony,
             &self.signer,
+            &mut self.provider,
             &mut self.registrar,
             &self.terms,
             life,
+            inclusion,
             devices,
             message,
             fence,
@@ -274,6 +349,103 @@ impl<C: Ceremony, P, R: Registrar, M, Dir: Directory + Drop> Actor<C, P, R, M, D
                 self.state = State::Failed;
                 Err(stop)
             }
+        }
+    }
+
+    /// Ends the running verification: by this result, where it is of its round, player and logs, else by the actor's own work. Where none runs,
+    /// the result is dropped.
+    ///
+    /// Failed: exactly where a call before ended in a fault or a cut.
+    pub fn work<D: Disk, X: SecretStore, B: BlockSource<Dir>>(
+        &mut self,
+        alloc: Global,
+        devices: &mut Devices<'_, D, X>,
+        _source: &B,
+        done: Option<VerifiedLogs<C>>,
+        _fence: &mut Fence,
+        out: &mut Transcript,
+    ) -> Result<(), Stop>
+        requires at { IsAt D.tells D.files D.image C.ack_of C.deal_of C.check_ack_of self.old.terms self.old.state devices.old }
+        requires including { IfIncluding self.old.state (IsReadyInclusion C.check_log_of C.dealing_of C.finish_of (non_zero_u64_get self.old.terms.blocks_per_epoch)) }
+        ensures including { OnOk result (IfIncluding self.new.state (IsReadyInclusion C.check_log_of C.dealing_of C.finish_of
+            (non_zero_u64_get self.new.terms.blocks_per_epoch))) }
+        // It is the relation's step of that message, and each act was made, whatever image a crash leaves.
+        ensures acts { IsTrue D.tells → IsTrue X.tells → IsTrue P.tells → (c : Fixed Dir) (beside : Beside Dir) → IfIncluding self.old.state
+            (λ old its. IsIn self.old.terms old.word c
+            → ReadsToday c → IsRuledBy C.round_of C.deal_of C.dealing_of C.ack_of C.check_ack_of C.sign_log_of C.bears_ack_of C.share_public_of
+            C.partial_public_of c.rules
+            → IncludesBy C.check_log_of C.outcome_of C.finish_of (P.participants_of self.old.provider) (P.directory_of self.old.provider) Dir.spelling
+            Dir.matches_of c
+            → IsSeen its beside.inclusion → EndsWith beside (λ i. OnOk result (IfIncluding self.new.state (λ life now. IsSeen now i)))
+            (λ more. OnOk result (Took R.tells (R.taken self.old.registrar) (R.taken self.new.registrar) more))
+            (λ now. Makes D.files D.image X.held (works c (option_map result_of done) (live_of beside _fence.now old))
+            (lives (live_of now _fence.now) self.new.state result) devices.old devices.new out.old.entries out.new.entries)) }
+        ensures tells { IsTrue P.tells → (c : Fixed Dir) (beside : Beside Dir) → IfIncluding self.old.state (λ old its. IsIn self.old.terms old.word c
+            → ReadsToday c → IsRuledBy C.round_of C.deal_of C.dealing_of C.ack_of C.check_ack_of C.sign_log_of C.bears_ack_of C.share_public_of
+            C.partial_public_of c.rules
+            → IncludesBy C.check_log_of C.outcome_of C.finish_of (P.participants_of self.old.provider) (P.directory_of self.old.provider) Dir.spelling
+            Dir.matches_of c
+            → IsSeen its beside.inclusion → EndsWith beside (λ i. OnOk result (IfIncluding self.new.state (λ life now. IsSeen now i)))
+            (λ more. OnOk result (Took R.tells (R.taken self.old.registrar) (R.taken self.new.registrar) more))
+            (λ now. Tells (works c (option_map result_of done) (live_of beside _fence.now old))
+            (lives (live_of now _fence.now) self.new.state result) out.old.entries out.new.entries)) }
+        // It may go on over these devices alone, or it has failed.
+        ensures ends { EndsAt self.new.state result (λ life. IsReadyLife D.tells D.files D.image C.ack_of C.deal_of C.check_ack_of self.new.terms life
+            devices.new) }
+        ensures word { IfLiving self.old.state (λ old. IfLiving self.new.state (λ life. life.word ≡ old.word)) }
+        ensures rest { (self.new.ceremony ≡ self.old.ceremony) × (self.new.signer ≡ self.old.signer)
+            × (self.new.manager ≡ self.old.manager) × (self.new.terms ≡ self.old.terms) }
+        ensures fails { FailsStop self.old.state result ((self.new.state ≡ self.old.state) × (self.new.registrar ≡ self.old.registrar)
+            × (devices.new ≡ devices.old) × (out.new ≡ out.old)) }
+        ensures moved { Moved D.tells D.made X.made D.faults X.faults devices.old devices.new }
+        ensures causes { IfErr result (λ stop. IsCausedInStep D.tells stop (Rose (D.faults devices.old.disk.now) (D.faults devices.new.disk.now))
+            (Rose (X.faults devices.old.secrets.now) (X.faults devices.new.secrets.now)) (Reached devices.old.fuse devices.new.fuse)) }
+        // No record that a crash leaves is out of its grammar, or past the limit, where none was.
+        ensures fit { IsTrue D.tells → AreFit (non_zero_u32_get self.old.terms.limit) (D.image devices.old.disk.now)
+            → AreFit (non_zero_u32_get self.old.terms.limit) (D.image devices.new.disk.now) }
+        ensures registrar { self.new.registrar ≡ self.old.registrar }
+        ensures provider { IsTrue P.tells → SameProvided (P.participants_of self.old.provider) (P.participants_of self.new.provider)
+            (P.directory_of self.old.provider) (P.directory_of self.new.provider) }
+    {
+        let State::Living(life, inclusion) = &mut self.state else {
+            return Err(Stop::Failed);
+        };
+        match work(
+            alloc,
+            &self.ceremony,
+            &mut self.provider,
+            &self.terms,
+            life,
+            inclusion,
+            devices,
+            done,
+            out,
+        ) {
+            Ok(()) => Ok(()),
+            Err(stop) => {
+                self.state = State::Failed;
+                Err(stop)
+            }
+        }
+    }
+
+    /// The verification that runs, if one does.
+    pub fn running(&self) -> Option<&Job>
+        ensures { option_copied result ≡ running_in self.now.state }
+    {
+        match &self.state {
+            State::Living(_, inclusion) => inclusion.verification.running(),
+            State::New | State::Failed => None,
+        }
+    }
+
+    /// What a request of this life was told last, if it was made.
+    pub fn told(&self, request: u64) -> Option<&Told<Dir>>
+        ensures { option_copied result ≡ told_in self.now.state request }
+    {
+        match &self.state {
+            State::Living(_, inclusion) => inclusion.told.get(request),
+            State::New | State::Failed => None,
         }
     }
 

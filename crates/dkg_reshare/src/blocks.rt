@@ -1,30 +1,36 @@
-//! Delivered blocks. While dealing an early block offers the dealings, and the one before the midpoint ends that; a node that follows takes
-//! over at an epoch's last block.
+//! Delivered blocks. While dealing an early block offers the dealings, and the one before the midpoint ends that; while including a block's log
+//! is recorded; the last block of an epoch leads into the next one.
 //!
-//! These are the relation's `delivers`, `over_tip` and `applies`, but for what is applied from the midpoint on in an epoch that the node takes
-//! part in.
-ghost use Rattle.std.specs.Prelude.{◌≡◌, ◌<◌, ◌+◌, ◌^◌, ◌==◌, ◌||◌, IfErr, IfOk, IsTrue, OnOk, is_some};
+//! These are the relation's `delivers`, `over_tip` and `applies`.
+ghost use Rattle.std.specs.Prelude.{◌≡◌, ◌<◌, ◌+◌, ◌^◌, ◌==◌, ◌||◌, [], IfErr, IfOk, IsTrue, None, OnOk, Some, is_some};
 ghost use Rattle.std.specs.Int.NonZero.{non_zero_u32_get, non_zero_u64_get};
 ghost use Rattle.dkg_ceremony.specs.Schedule.{epoch_of};
+ghost use Rattle.dkg_ceremony.specs.declared.round.Round.{Round};
 ghost use Rattle.dkg_fence.specs.Readiness.{Readiness};
 ghost use Rattle.dkg_journal.specs.Disk.{Rose};
 ghost use Rattle.dkg_journal.specs.Fuse.{Reached};
 ghost use Rattle.dkg_store.specs.Corrupt.{AreFit};
 ghost use Rattle.dkg_core.specs.Blocks as blocks;
 ghost use Rattle.dkg_core.specs.Fixed.{Fixed};
-ghost use Rattle.dkg_reshare.specs.Actors.{IsApplied, IsReadyLife, TakesBlock, is_in_window_by};
+ghost use Rattle.dkg_reshare.specs.Actors.{IsApplied, IsReadyLife, is_in_window_by};
 ghost use Rattle.dkg_reshare.specs.Ends.{IsCaused, IsCausedBy, ends_in};
 ghost use Rattle.dkg_reshare.specs.Given.{IsIn, IsOf, ReadsToday};
-ghost use Rattle.dkg_reshare.specs.LiveOf.{Beside, EndsBeside, Took, live_of};
+ghost use Rattle.dkg_reshare.specs.Including.{IsNextBlock, applies_included};
+ghost use Rattle.dkg_reshare.specs.InclusionOf.{IsReadyInclusion, IsSeen};
+ghost use Rattle.dkg_reshare.specs.LiveOf.{Beside, EndsBeside, EndsWith, IsFresh, Took, live_of};
 ghost use Rattle.dkg_reshare.specs.Made.{Makes, Tells};
 ghost use Rattle.dkg_reshare.specs.Moved.{Moved};
-ghost use Rattle.dkg_reshare.specs.Rules.{IsRuledBy};
+ghost use Rattle.dkg_reshare.specs.Rules.{IncludesBy, IsRuledBy, SameProvided};
 ghost use Rattle.dkg_reshare.specs.Steps.{AreBoundsAt, carried_in};
+ghost use Rattle.dkg_reshare.specs.declared.life.Stage.TheVariants.{Including};
 
 use crate::config::Terms;
-use crate::inclusion::begin_inclusion;
+use crate::final_block::{derive, take_over};
+use crate::inclusion::{Inclusion, begin_inclusion};
 use crate::life::{Life, Stage};
+use crate::logs::{observe, unserve};
 use crate::offers::deal;
+use crate::scanning::advance;
 use crate::setup::{commit_and_register, secrets_of, set_up_committed};
 use crate::stop::Stop;
 use crate::tip::{Judged, judge, tip_of};
@@ -32,7 +38,7 @@ use dkg_ceremony::{Bounds, Ceremony, Epocher, Phase};
 use dkg_fence::Fence;
 use dkg_journal::Disk;
 use dkg_store::{Devices, SecretStore};
-use dkg_types::{Block, Directory, EpochInfo, Fault, Registrar, Transcript};
+use dkg_types::{Block, Directory, EpochInfo, Fault, ParticipantsProvider, Registrar, Transcript};
 use dkg_values::{Epoch, Height};
 use std::alloc::Global;
 
@@ -54,13 +60,22 @@ fn ends_dealing(midpoint: Height, height: Height) -> bool
     midpoint.0.checked_sub(height.0) == Some(1)
 }
 
-/// Applies a block while dealing: the dealings are offered, and the last early block ends dealing (`deals_at`).
-fn apply_dealing<C: Ceremony, Dir: Directory + Drop, D: Disk, X: SecretStore>(
+/// Applies a block while dealing: the dealings are offered, and the last early block ends dealing; then the requests that
+/// wait are read (`deals_at`).
+fn apply_dealing<
+    C: Ceremony + Drop,
+    P: ParticipantsProvider<Dir = Dir>,
+    Dir: Directory + Drop,
+    D: Disk,
+    X: SecretStore,
+>(
     alloc: Global,
     ceremony: &C,
     signer: &C::Signer,
+    provider: &mut P,
     terms: &Terms,
     life: &mut Life<Dir>,
+    inclusion: &mut Inclusion<C, Dir>,
     devices: &mut Devices<'_, D, X>,
     block: &Block<Dir>,
     out: &mut Transcript,
@@ -70,26 +85,40 @@ fn apply_dealing<C: Ceremony, Dir: Directory + Drop, D: Disk, X: SecretStore>(
     requires next { epoch_of (non_zero_u64_get terms.now.blocks_per_epoch) block.now.height ≡ life.old.epoch }
     requires me { terms.now.me ≡ C.Signer.key_of signer.now }
     requires ready { IsReadyLife D.tells D.files D.image C.ack_of C.deal_of C.check_ack_of terms.now life.old devices.old }
+    requires including { IsReadyInclusion C.check_log_of C.dealing_of C.finish_of (non_zero_u64_get terms.now.blocks_per_epoch) life.old inclusion.old }
     ensures ready { OnOk result (IsReadyLife D.tells D.files D.image C.ack_of C.deal_of C.check_ack_of terms.now life.new devices.new) }
     ensures word { life.new.word ≡ life.old.word }
-    ensures acts { IsTrue D.tells → IsTrue X.tells → (c : Fixed Dir) (beside : Beside Dir) (fence : Readiness)
-        → IsOf terms.now c → IsRuledBy C.round_of C.deal_of C.dealing_of C.ack_of C.check_ack_of C.sign_log_of C.bears_ack_of C.share_public_of C.partial_public_of c.rules
-        → Makes D.files D.image X.held (blocks.deals_at c block.now (live_of beside fence life.old))
-        (ends_in (live_of beside fence life.new) result) devices.old devices.new out.old.entries out.new.entries }
-    ensures tells { (c : Fixed Dir) (beside : Beside Dir) (fence : Readiness)
-        → IsOf terms.now c → IsRuledBy C.round_of C.deal_of C.dealing_of C.ack_of C.check_ack_of C.sign_log_of C.bears_ack_of C.share_public_of C.partial_public_of c.rules
-        → Tells (blocks.deals_at c block.now (live_of beside fence life.old))
-        (ends_in (live_of beside fence life.new) result) out.old.entries out.new.entries }
     ensures moved { Moved D.tells D.made X.made D.faults X.faults devices.old devices.new }
     ensures causes { IfErr result (λ stop. IsCaused stop (Rose (D.faults devices.old.disk.now) (D.faults devices.new.disk.now))
         (Rose (X.faults devices.old.secrets.now) (X.faults devices.new.secrets.now)) (Reached devices.old.fuse devices.new.fuse)) }
     ensures fit { IsTrue D.tells → AreFit (non_zero_u32_get terms.now.limit) (D.image devices.old.disk.now)
         → AreFit (non_zero_u32_get terms.now.limit) (D.image devices.new.disk.now) }
+    ensures including { OnOk result (IsReadyInclusion C.check_log_of C.dealing_of C.finish_of (non_zero_u64_get terms.now.blocks_per_epoch) life.new
+        inclusion.new) }
+    ensures provider { IsTrue P.tells → SameProvided (P.participants_of provider.old) (P.participants_of provider.new)
+        (P.directory_of provider.old) (P.directory_of provider.new) }
+    ensures acts { IsTrue D.tells → IsTrue X.tells → IsTrue P.tells → (c : Fixed Dir) (beside : Beside Dir) (fence : Readiness) → IsOf terms.now c
+        → ReadsToday c
+        → IsRuledBy C.round_of C.deal_of C.dealing_of C.ack_of C.check_ack_of C.sign_log_of C.bears_ack_of C.share_public_of C.partial_public_of c.rules
+        → IncludesBy C.check_log_of C.outcome_of C.finish_of (P.participants_of provider.old) (P.directory_of provider.old) Dir.spelling Dir.matches_of c
+        → IsSeen inclusion.old beside.inclusion → EndsWith beside (λ i. OnOk result (IsSeen inclusion.new i)) (λ more. more ≡ [])
+        (λ now. Makes D.files D.image X.held (blocks.deals_at c block.now (live_of beside fence life.old)) (ends_in (live_of now fence life.new) result)
+        devices.old devices.new out.old.entries out.new.entries) }
+    ensures tells { IsTrue P.tells → (c : Fixed Dir) (beside : Beside Dir) (fence : Readiness) → IsOf terms.now c → ReadsToday c
+        → IsRuledBy C.round_of C.deal_of C.dealing_of C.ack_of C.check_ack_of C.sign_log_of C.bears_ack_of C.share_public_of C.partial_public_of c.rules
+        → IncludesBy C.check_log_of C.outcome_of C.finish_of (P.participants_of provider.old) (P.directory_of provider.old) Dir.spelling Dir.matches_of c
+        → IsSeen inclusion.old beside.inclusion → EndsWith beside (λ i. OnOk result (IsSeen inclusion.new i)) (λ more. more ≡ [])
+        (λ now. Tells (blocks.deals_at c block.now (live_of beside fence life.old)) (ends_in
+        (live_of now fence life.new) result) out.old.entries out.new.entries) }
 {
     deal(alloc, ceremony, signer, terms, life, devices, out)?;
     life.tip = Some(tip_of(block));
     if ends_dealing(life.midpoint, block.height()) {
-        return begin_inclusion(alloc, ceremony, signer, life);
+        begin_inclusion(alloc, ceremony, signer, life)?;
+        inclusion.served = None;
+        return advance(
+            alloc, ceremony, provider, terms, life, inclusion, devices, out,
+        );
     }
     Ok(())
 }
@@ -122,7 +151,7 @@ fn carried_info<'a, Dir: Directory + Drop>(
 
 /// Takes part from the next epoch on: its info, which a last block carries, is committed and registered, and the epoch is set up
 /// (`follows_into`).
-fn take_over<C: Ceremony, R: Registrar, Dir: Directory + Drop, D: Disk, X: SecretStore>(
+fn follow_into<C: Ceremony, R: Registrar, Dir: Directory + Drop, D: Disk, X: SecretStore>(
     alloc: Global,
     ceremony: &C,
     signer: &C::Signer,
@@ -140,12 +169,14 @@ fn take_over<C: Ceremony, R: Registrar, Dir: Directory + Drop, D: Disk, X: Secre
     requires ready { IsReadyLife D.tells D.files D.image C.ack_of C.deal_of C.check_ack_of terms.now life.old devices.old }
     ensures ready { OnOk result (IsReadyLife D.tells D.files D.image C.ack_of C.deal_of C.check_ack_of terms.now life.new devices.new) }
     ensures word { life.new.word ≡ life.old.word }
-    ensures acts { IsTrue D.tells → IsTrue X.tells → (c : Fixed Dir) (beside : Beside Dir) → IsIn terms.now life.old.word c → ReadsToday c
+    ensures acts { IsTrue D.tells → IsTrue X.tells → (c : Fixed Dir) (beside : Beside Dir) → IsFresh beside.inclusion → IsIn terms.now life.old.word c
+        → ReadsToday c
         → IsRuledBy C.round_of C.deal_of C.dealing_of C.ack_of C.check_ack_of C.sign_log_of C.bears_ack_of C.share_public_of C.partial_public_of c.rules
         → EndsBeside beside (λ more. OnOk result (Took R.tells (R.taken registrar.old) (R.taken registrar.new) more))
-        (λ now. Makes D.files D.image X.held (blocks.follows_into c block.now info.now (live_of beside fence.old life.old)) (ends_in (live_of now fence.new life.new) result)
+        (λ now. Makes D.files D.image X.held (blocks.follows_into c block.now info.now (live_of beside fence.old life.old)) (ends_in
+        (live_of now fence.new life.new) result)
         devices.old devices.new out.old.entries out.new.entries) }
-    ensures tells { (c : Fixed Dir) (beside : Beside Dir) → IsIn terms.now life.old.word c → ReadsToday c
+    ensures tells { (c : Fixed Dir) (beside : Beside Dir) → IsFresh beside.inclusion → IsIn terms.now life.old.word c → ReadsToday c
         → IsRuledBy C.round_of C.deal_of C.dealing_of C.ack_of C.check_ack_of C.sign_log_of C.bears_ack_of C.share_public_of C.partial_public_of c.rules
         → EndsBeside beside (λ more. OnOk result (Took R.tells (R.taken registrar.old) (R.taken registrar.new) more))
         (λ now. Tells (blocks.follows_into c block.now info.now (live_of beside fence.old life.old)) (ends_in (live_of now fence.new life.new) result)
@@ -168,13 +199,14 @@ fn take_over<C: Ceremony, R: Registrar, Dir: Directory + Drop, D: Disk, X: Secre
 }
 
 /// Applies a block while following: an epoch's last one begins the next epoch (`follows_at`).
-fn follow_block<C: Ceremony, R: Registrar, Dir: Directory + Drop, D: Disk, X: SecretStore>(
+fn follow_block<C: Ceremony + Drop, R: Registrar, Dir: Directory + Drop, D: Disk, X: SecretStore>(
     alloc: Global,
     ceremony: &C,
     signer: &C::Signer,
     registrar: &mut R,
     terms: &Terms,
     life: &mut Life<Dir>,
+    inclusion: &mut Inclusion<C, Dir>,
     devices: &mut Devices<'_, D, X>,
     block: &Block<Dir>,
     bounds: &Bounds,
@@ -185,17 +217,150 @@ fn follow_block<C: Ceremony, R: Registrar, Dir: Directory + Drop, D: Disk, X: Se
     requires bounds { AreBoundsAt (non_zero_u64_get terms.now.blocks_per_epoch) bounds.now block.now.height }
     requires me { terms.now.me ≡ C.Signer.key_of signer.now }
     requires ready { IsReadyLife D.tells D.files D.image C.ack_of C.deal_of C.check_ack_of terms.now life.old devices.old }
+    requires including { IsReadyInclusion C.check_log_of C.dealing_of C.finish_of (non_zero_u64_get terms.now.blocks_per_epoch) life.old inclusion.old }
     ensures ready { OnOk result (IsReadyLife D.tells D.files D.image C.ack_of C.deal_of C.check_ack_of terms.now life.new devices.new) }
     ensures word { life.new.word ≡ life.old.word }
+    ensures moved { Moved D.tells D.made X.made D.faults X.faults devices.old devices.new }
+    ensures causes { IfErr result (λ stop. IsCausedBy D.tells stop (Rose (D.faults devices.old.disk.now) (D.faults devices.new.disk.now))
+        (Rose (X.faults devices.old.secrets.now) (X.faults devices.new.secrets.now)) (Reached devices.old.fuse devices.new.fuse)) }
+    ensures fit { IsTrue D.tells → AreFit (non_zero_u32_get terms.now.limit) (D.image devices.old.disk.now)
+        → AreFit (non_zero_u32_get terms.now.limit) (D.image devices.new.disk.now) }
+    ensures including { OnOk result (IsReadyInclusion C.check_log_of C.dealing_of C.finish_of (non_zero_u64_get terms.now.blocks_per_epoch) life.new
+        inclusion.new) }
     ensures acts { IsTrue D.tells → IsTrue X.tells → (c : Fixed Dir) (beside : Beside Dir) → IsIn terms.now life.old.word c → ReadsToday c
         → IsRuledBy C.round_of C.deal_of C.dealing_of C.ack_of C.check_ack_of C.sign_log_of C.bears_ack_of C.share_public_of C.partial_public_of c.rules
-        → EndsBeside beside (λ more. OnOk result (Took R.tells (R.taken registrar.old) (R.taken registrar.new) more))
-        (λ now. Makes D.files D.image X.held (blocks.follows_at c block.now (live_of beside fence.old life.old)) (ends_in (live_of now fence.new life.new) result)
+        → IsSeen inclusion.old beside.inclusion → EndsWith beside (λ i. OnOk result (IsSeen inclusion.new i))
+        (λ more. OnOk result (Took R.tells (R.taken registrar.old) (R.taken registrar.new) more))
+        (λ now. Makes D.files D.image X.held (blocks.follows_at c block.now (live_of beside fence.old life.old)) (ends_in
+        (live_of now fence.new life.new) result)
         devices.old devices.new out.old.entries out.new.entries) }
     ensures tells { (c : Fixed Dir) (beside : Beside Dir) → IsIn terms.now life.old.word c → ReadsToday c
         → IsRuledBy C.round_of C.deal_of C.dealing_of C.ack_of C.check_ack_of C.sign_log_of C.bears_ack_of C.share_public_of C.partial_public_of c.rules
-        → EndsBeside beside (λ more. OnOk result (Took R.tells (R.taken registrar.old) (R.taken registrar.new) more))
+        → IsSeen inclusion.old beside.inclusion → EndsWith beside (λ i. OnOk result (IsSeen inclusion.new i))
+        (λ more. OnOk result (Took R.tells (R.taken registrar.old) (R.taken registrar.new) more))
         (λ now. Tells (blocks.follows_at c block.now (live_of beside fence.old life.old)) (ends_in (live_of now fence.new life.new) result)
+        out.old.entries out.new.entries) }
+{
+    if block.height() != bounds.last {
+        life.tip = Some(tip_of(block));
+        return Ok(());
+    }
+    let info = carried_info(block, bounds)?;
+    inclusion.renew(alloc);
+    follow_into(
+        alloc, ceremony, signer, registrar, terms, life, devices, block, info, fence, out,
+    )
+}
+
+/// Applies a block while including: its log is recorded where it counts, the tip goes on, and the requests that wait are read again over the new
+/// tip (`includes`).
+fn include<
+    C: Ceremony + Drop,
+    P: ParticipantsProvider<Dir = Dir>,
+    Dir: Directory + Drop,
+    D: Disk,
+    X: SecretStore,
+>(
+    alloc: Global,
+    ceremony: &C,
+    provider: &mut P,
+    terms: &Terms,
+    life: &mut Life<Dir>,
+    inclusion: &mut Inclusion<C, Dir>,
+    devices: &mut Devices<'_, D, X>,
+    block: &Block<Dir>,
+    out: &mut Transcript,
+) -> Result<(), Stop>
+    requires ready { IsReadyLife D.tells D.files D.image C.ack_of C.deal_of C.check_ack_of terms.now life.old devices.old }
+    requires including { IsReadyInclusion C.check_log_of C.dealing_of C.finish_of (non_zero_u64_get terms.now.blocks_per_epoch) life.old inclusion.old }
+    requires includes { life.old.stage ≡ Including }
+    requires next { IsNextBlock life.old block.now }
+    requires idle { inclusion.old.hand ≡ None }
+    ensures ready { OnOk result (IsReadyLife D.tells D.files D.image C.ack_of C.deal_of C.check_ack_of terms.now life.new devices.new) }
+    ensures including { OnOk result (IsReadyInclusion C.check_log_of C.dealing_of C.finish_of (non_zero_u64_get terms.now.blocks_per_epoch) life.new
+        inclusion.new) }
+    ensures word { life.new.word ≡ life.old.word }
+    ensures provider { IsTrue P.tells → SameProvided (P.participants_of provider.old) (P.participants_of provider.new)
+        (P.directory_of provider.old) (P.directory_of provider.new) }
+    ensures acts { IsTrue D.tells → IsTrue X.tells → IsTrue P.tells → (c : Fixed Dir) (round : Round) (beside : Beside Dir) (fence : Readiness)
+        → IsOf terms.now c → ReadsToday c
+        → IsRuledBy C.round_of C.deal_of C.dealing_of C.ack_of C.check_ack_of C.sign_log_of C.bears_ack_of C.share_public_of C.partial_public_of c.rules
+        → IncludesBy C.check_log_of C.outcome_of C.finish_of (P.participants_of provider.old) (P.directory_of provider.old) Dir.spelling Dir.matches_of c
+        → life.old.round ≡ Some round → IsSeen inclusion.old beside.inclusion → EndsWith beside (λ i. OnOk result (IsSeen inclusion.new i)) (λ more. more ≡ [])
+        (λ now. Makes D.files D.image X.held (blocks.includes c round block.now (live_of beside fence life.old)) (ends_in (live_of now fence life.new) result)
+        devices.old devices.new out.old.entries out.new.entries) }
+    ensures tells { IsTrue P.tells → (c : Fixed Dir) (round : Round) (beside : Beside Dir) (fence : Readiness) → IsOf terms.now c → ReadsToday c
+        → IsRuledBy C.round_of C.deal_of C.dealing_of C.ack_of C.check_ack_of C.sign_log_of C.bears_ack_of C.share_public_of C.partial_public_of c.rules
+        → IncludesBy C.check_log_of C.outcome_of C.finish_of (P.participants_of provider.old) (P.directory_of provider.old) Dir.spelling Dir.matches_of c
+        → life.old.round ≡ Some round → IsSeen inclusion.old beside.inclusion → EndsWith beside (λ i. OnOk result (IsSeen inclusion.new i)) (λ more. more ≡ [])
+        (λ now. Tells (blocks.includes c round block.now (live_of beside fence life.old)) (ends_in
+        (live_of now fence life.new) result) out.old.entries out.new.entries) }
+    ensures moved { Moved D.tells D.made X.made D.faults X.faults devices.old devices.new }
+    ensures causes { IfErr result (λ stop. IsCaused stop (Rose (D.faults devices.old.disk.now) (D.faults devices.new.disk.now))
+        (Rose (X.faults devices.old.secrets.now) (X.faults devices.new.secrets.now)) (Reached devices.old.fuse devices.new.fuse)) }
+    ensures fit { IsTrue D.tells → AreFit (non_zero_u32_get terms.now.limit) (D.image devices.old.disk.now)
+        → AreFit (non_zero_u32_get terms.now.limit) (D.image devices.new.disk.now) }
+{
+    observe(alloc, ceremony, terms.me, life, devices, block)?;
+    unserve(inclusion, block.height());
+    life.tip = Some(tip_of(block));
+    advance(
+        alloc, ceremony, provider, terms, life, inclusion, devices, out,
+    )
+}
+
+/// Applies the last block of an epoch that the node takes part in (`final_block`).
+fn take_final_block<
+    C: Ceremony + Drop,
+    P: ParticipantsProvider<Dir = Dir>,
+    R: Registrar,
+    Dir: Directory + Drop,
+    D: Disk,
+    X: SecretStore,
+>(
+    alloc: Global,
+    ceremony: &C,
+    signer: &C::Signer,
+    provider: &mut P,
+    registrar: &mut R,
+    terms: &Terms,
+    life: &mut Life<Dir>,
+    inclusion: &mut Inclusion<C, Dir>,
+    devices: &mut Devices<'_, D, X>,
+    block: &Block<Dir>,
+    bounds: &Bounds,
+    fence: &mut Fence,
+    out: &mut Transcript,
+) -> Result<(), Stop>
+    requires me { terms.now.me ≡ C.Signer.key_of signer.now }
+    requires ready { IsReadyLife D.tells D.files D.image C.ack_of C.deal_of C.check_ack_of terms.now life.old devices.old }
+    requires including { IsReadyInclusion C.check_log_of C.dealing_of C.finish_of (non_zero_u64_get terms.now.blocks_per_epoch) life.old inclusion.old }
+    requires includes { life.old.stage ≡ Including }
+    requires bounds { AreBoundsAt (non_zero_u64_get terms.now.blocks_per_epoch) bounds.now block.now.height }
+    requires next { IsNextBlock life.old block.now }
+    requires last { block.now.height ≡ bounds.now.last }
+    requires idle { inclusion.old.hand ≡ None }
+    ensures ready { OnOk result (IsReadyLife D.tells D.files D.image C.ack_of C.deal_of C.check_ack_of terms.now life.new devices.new) }
+    ensures including { OnOk result (IsReadyInclusion C.check_log_of C.dealing_of C.finish_of (non_zero_u64_get terms.now.blocks_per_epoch) life.new
+        inclusion.new) }
+    ensures word { life.new.word ≡ life.old.word }
+    ensures provider { IsTrue P.tells → SameProvided (P.participants_of provider.old) (P.participants_of provider.new)
+        (P.directory_of provider.old) (P.directory_of provider.new) }
+    ensures acts { IsTrue D.tells → IsTrue X.tells → IsTrue P.tells → (c : Fixed Dir) (round : Round) (beside : Beside Dir) → IsIn terms.now life.old.word c
+        → ReadsToday c
+        → IsRuledBy C.round_of C.deal_of C.dealing_of C.ack_of C.check_ack_of C.sign_log_of C.bears_ack_of C.share_public_of C.partial_public_of c.rules
+        → IncludesBy C.check_log_of C.outcome_of C.finish_of (P.participants_of provider.old) (P.directory_of provider.old) Dir.spelling Dir.matches_of c
+        → life.old.round ≡ Some round → IsSeen inclusion.old beside.inclusion → EndsWith beside (λ i. OnOk result (IsSeen inclusion.new i))
+        (λ more. OnOk result (Took R.tells (R.taken registrar.old) (R.taken registrar.new) more))
+        (λ now. Makes D.files D.image X.held (blocks.final_block c round block.now (live_of beside fence.old life.old)) (ends_in
+        (live_of now fence.new life.new) result)
+        devices.old devices.new out.old.entries out.new.entries) }
+    ensures tells { IsTrue P.tells → (c : Fixed Dir) (round : Round) (beside : Beside Dir) → IsIn terms.now life.old.word c → ReadsToday c
+        → IsRuledBy C.round_of C.deal_of C.dealing_of C.ack_of C.check_ack_of C.sign_log_of C.bears_ack_of C.share_public_of C.partial_public_of c.rules
+        → IncludesBy C.check_log_of C.outcome_of C.finish_of (P.participants_of provider.old) (P.directory_of provider.old) Dir.spelling Dir.matches_of c
+        → life.old.round ≡ Some round → IsSeen inclusion.old beside.inclusion → EndsWith beside (λ i. OnOk result (IsSeen inclusion.new i))
+        (λ more. OnOk result (Took R.tells (R.taken registrar.old) (R.taken registrar.new) more))
+        (λ now. Tells (blocks.final_block c round block.now (live_of beside fence.old life.old)) (ends_in (live_of now fence.new life.new) result)
         out.old.entries out.new.entries) }
     ensures moved { Moved D.tells D.made X.made D.faults X.faults devices.old devices.new }
     ensures causes { IfErr result (λ stop. IsCausedBy D.tells stop (Rose (D.faults devices.old.disk.now) (D.faults devices.new.disk.now))
@@ -203,24 +368,101 @@ fn follow_block<C: Ceremony, R: Registrar, Dir: Directory + Drop, D: Disk, X: Se
     ensures fit { IsTrue D.tells → AreFit (non_zero_u32_get terms.now.limit) (D.image devices.old.disk.now)
         → AreFit (non_zero_u32_get terms.now.limit) (D.image devices.new.disk.now) }
 {
-    if block.height() != bounds.last {
-        life.tip = Some(tip_of(block));
-        return Ok(());
-    }
+    let artifact = derive(
+        alloc, ceremony, provider, terms, life, inclusion, devices, out,
+    )?;
     let info = carried_info(block, bounds)?;
     take_over(
-        alloc, ceremony, signer, registrar, terms, life, devices, block, info, fence, out,
+        alloc, ceremony, signer, registrar, terms, life, inclusion, devices, block, info,
+        &artifact, fence, out,
+    )
+}
+
+/// Applies a block from the midpoint on in an epoch that the node takes part in (`applies_in`, where the stage is that of inclusion).
+fn apply_included<
+    C: Ceremony + Drop,
+    P: ParticipantsProvider<Dir = Dir>,
+    R: Registrar,
+    Dir: Directory + Drop,
+    D: Disk,
+    X: SecretStore,
+>(
+    alloc: Global,
+    ceremony: &C,
+    signer: &C::Signer,
+    provider: &mut P,
+    registrar: &mut R,
+    terms: &Terms,
+    life: &mut Life<Dir>,
+    inclusion: &mut Inclusion<C, Dir>,
+    devices: &mut Devices<'_, D, X>,
+    block: &Block<Dir>,
+    bounds: &Bounds,
+    fence: &mut Fence,
+    out: &mut Transcript,
+) -> Result<(), Stop>
+    requires me { terms.now.me ≡ C.Signer.key_of signer.now }
+    requires ready { IsReadyLife D.tells D.files D.image C.ack_of C.deal_of C.check_ack_of terms.now life.old devices.old }
+    requires including { IsReadyInclusion C.check_log_of C.dealing_of C.finish_of (non_zero_u64_get terms.now.blocks_per_epoch) life.old inclusion.old }
+    requires includes { life.old.stage ≡ Including }
+    requires bounds { AreBoundsAt (non_zero_u64_get terms.now.blocks_per_epoch) bounds.now block.now.height }
+    requires next { IsNextBlock life.old block.now }
+    ensures ready { OnOk result (IsReadyLife D.tells D.files D.image C.ack_of C.deal_of C.check_ack_of terms.now life.new devices.new) }
+    ensures including { OnOk result (IsReadyInclusion C.check_log_of C.dealing_of C.finish_of (non_zero_u64_get terms.now.blocks_per_epoch) life.new
+        inclusion.new) }
+    ensures word { life.new.word ≡ life.old.word }
+    ensures provider { IsTrue P.tells → SameProvided (P.participants_of provider.old) (P.participants_of provider.new)
+        (P.directory_of provider.old) (P.directory_of provider.new) }
+    ensures acts { IsTrue D.tells → IsTrue X.tells → IsTrue P.tells → (c : Fixed Dir) (beside : Beside Dir) → IsIn terms.now life.old.word c → ReadsToday c
+        → IsRuledBy C.round_of C.deal_of C.dealing_of C.ack_of C.check_ack_of C.sign_log_of C.bears_ack_of C.share_public_of C.partial_public_of c.rules
+        → IncludesBy C.check_log_of C.outcome_of C.finish_of (P.participants_of provider.old) (P.directory_of provider.old) Dir.spelling Dir.matches_of c
+        → IsSeen inclusion.old beside.inclusion → EndsWith beside (λ i. OnOk result (IsSeen inclusion.new i))
+        (λ more. OnOk result (Took R.tells (R.taken registrar.old) (R.taken registrar.new) more))
+        (λ now. Makes D.files D.image X.held (applies_included c block.now (live_of beside fence.old life.old)) (ends_in
+        (live_of now fence.new life.new) result)
+        devices.old devices.new out.old.entries out.new.entries) }
+    ensures tells { IsTrue P.tells → (c : Fixed Dir) (beside : Beside Dir) → IsIn terms.now life.old.word c → ReadsToday c
+        → IsRuledBy C.round_of C.deal_of C.dealing_of C.ack_of C.check_ack_of C.sign_log_of C.bears_ack_of C.share_public_of C.partial_public_of c.rules
+        → IncludesBy C.check_log_of C.outcome_of C.finish_of (P.participants_of provider.old) (P.directory_of provider.old) Dir.spelling Dir.matches_of c
+        → IsSeen inclusion.old beside.inclusion → EndsWith beside (λ i. OnOk result (IsSeen inclusion.new i))
+        (λ more. OnOk result (Took R.tells (R.taken registrar.old) (R.taken registrar.new) more))
+        (λ now. Tells (applies_included c block.now (live_of beside fence.old life.old)) (ends_in (live_of now fence.new life.new) result)
+        out.old.entries out.new.entries) }
+    ensures moved { Moved D.tells D.made X.made D.faults X.faults devices.old devices.new }
+    ensures causes { IfErr result (λ stop. IsCausedBy D.tells stop (Rose (D.faults devices.old.disk.now) (D.faults devices.new.disk.now))
+        (Rose (X.faults devices.old.secrets.now) (X.faults devices.new.secrets.now)) (Reached devices.old.fuse devices.new.fuse)) }
+    ensures fit { IsTrue D.tells → AreFit (non_zero_u32_get terms.now.limit) (D.image devices.old.disk.now)
+        → AreFit (non_zero_u32_get terms.now.limit) (D.image devices.new.disk.now) }
+{
+    inclusion.put_back()?;
+    if block.height() == bounds.last {
+        return take_final_block(
+            alloc, ceremony, signer, provider, registrar, terms, life, inclusion, devices, block,
+            bounds, fence, out,
+        );
+    }
+    include(
+        alloc, ceremony, provider, terms, life, inclusion, devices, block, out,
     )
 }
 
 /// Applies a block that was awaited (`applies`).
-fn apply<C: Ceremony, R: Registrar, Dir: Directory + Drop, D: Disk, X: SecretStore>(
+fn apply<
+    C: Ceremony + Drop,
+    P: ParticipantsProvider<Dir = Dir>,
+    R: Registrar,
+    Dir: Directory + Drop,
+    D: Disk,
+    X: SecretStore,
+>(
     alloc: Global,
     ceremony: &C,
     signer: &C::Signer,
+    provider: &mut P,
     registrar: &mut R,
     terms: &Terms,
     life: &mut Life<Dir>,
+    inclusion: &mut Inclusion<C, Dir>,
     devices: &mut Devices<'_, D, X>,
     block: &Block<Dir>,
     bounds: &Bounds,
@@ -228,33 +470,47 @@ fn apply<C: Ceremony, R: Registrar, Dir: Directory + Drop, D: Disk, X: SecretSto
     out: &mut Transcript,
 ) -> Result<(), Stop>
     requires taken { IsApplied (non_zero_u64_get terms.now.blocks_per_epoch) life.old block.now }
-    requires form { TakesBlock (non_zero_u64_get terms.now.blocks_per_epoch) life.old block.now }
     requires bounds { AreBoundsAt (non_zero_u64_get terms.now.blocks_per_epoch) bounds.now block.now.height }
     requires me { terms.now.me ≡ C.Signer.key_of signer.now }
     requires ready { IsReadyLife D.tells D.files D.image C.ack_of C.deal_of C.check_ack_of terms.now life.old devices.old }
+    requires including { IsReadyInclusion C.check_log_of C.dealing_of C.finish_of (non_zero_u64_get terms.now.blocks_per_epoch) life.old inclusion.old }
     ensures ready { OnOk result (IsReadyLife D.tells D.files D.image C.ack_of C.deal_of C.check_ack_of terms.now life.new devices.new) }
     ensures word { life.new.word ≡ life.old.word }
-    ensures acts { IsTrue D.tells → IsTrue X.tells → (c : Fixed Dir) (beside : Beside Dir) → IsIn terms.now life.old.word c → ReadsToday c
-        → IsRuledBy C.round_of C.deal_of C.dealing_of C.ack_of C.check_ack_of C.sign_log_of C.bears_ack_of C.share_public_of C.partial_public_of c.rules
-        → EndsBeside beside (λ more. OnOk result (Took R.tells (R.taken registrar.old) (R.taken registrar.new) more))
-        (λ now. Makes D.files D.image X.held (blocks.applies c block.now (live_of beside fence.old life.old)) (ends_in (live_of now fence.new life.new) result)
-        devices.old devices.new out.old.entries out.new.entries) }
-    ensures tells { (c : Fixed Dir) (beside : Beside Dir) → IsIn terms.now life.old.word c → ReadsToday c
-        → IsRuledBy C.round_of C.deal_of C.dealing_of C.ack_of C.check_ack_of C.sign_log_of C.bears_ack_of C.share_public_of C.partial_public_of c.rules
-        → EndsBeside beside (λ more. OnOk result (Took R.tells (R.taken registrar.old) (R.taken registrar.new) more))
-        (λ now. Tells (blocks.applies c block.now (live_of beside fence.old life.old)) (ends_in (live_of now fence.new life.new) result)
-        out.old.entries out.new.entries) }
     ensures moved { Moved D.tells D.made X.made D.faults X.faults devices.old devices.new }
     ensures causes { IfErr result (λ stop. IsCausedBy D.tells stop (Rose (D.faults devices.old.disk.now) (D.faults devices.new.disk.now))
         (Rose (X.faults devices.old.secrets.now) (X.faults devices.new.secrets.now)) (Reached devices.old.fuse devices.new.fuse)) }
     ensures fit { IsTrue D.tells → AreFit (non_zero_u32_get terms.now.limit) (D.image devices.old.disk.now)
         → AreFit (non_zero_u32_get terms.now.limit) (D.image devices.new.disk.now) }
+    ensures including { OnOk result (IsReadyInclusion C.check_log_of C.dealing_of C.finish_of (non_zero_u64_get terms.now.blocks_per_epoch) life.new
+        inclusion.new) }
+    ensures provider { IsTrue P.tells → SameProvided (P.participants_of provider.old) (P.participants_of provider.new)
+        (P.directory_of provider.old) (P.directory_of provider.new) }
+    ensures acts { IsTrue D.tells → IsTrue X.tells → IsTrue P.tells → (c : Fixed Dir) (beside : Beside Dir) → IsIn terms.now life.old.word c → ReadsToday c
+        → IsRuledBy C.round_of C.deal_of C.dealing_of C.ack_of C.check_ack_of C.sign_log_of C.bears_ack_of C.share_public_of C.partial_public_of c.rules
+        → IncludesBy C.check_log_of C.outcome_of C.finish_of (P.participants_of provider.old) (P.directory_of provider.old) Dir.spelling Dir.matches_of c
+        → IsSeen inclusion.old beside.inclusion → EndsWith beside (λ i. OnOk result (IsSeen inclusion.new i))
+        (λ more. OnOk result (Took R.tells (R.taken registrar.old) (R.taken registrar.new) more))
+        (λ now. Makes D.files D.image X.held (blocks.applies c block.now (live_of beside fence.old life.old)) (ends_in (live_of now fence.new life.new) result)
+        devices.old devices.new out.old.entries out.new.entries) }
+    ensures tells { IsTrue P.tells → (c : Fixed Dir) (beside : Beside Dir) → IsIn terms.now life.old.word c → ReadsToday c
+        → IsRuledBy C.round_of C.deal_of C.dealing_of C.ack_of C.check_ack_of C.sign_log_of C.bears_ack_of C.share_public_of C.partial_public_of c.rules
+        → IncludesBy C.check_log_of C.outcome_of C.finish_of (P.participants_of provider.old) (P.directory_of provider.old) Dir.spelling Dir.matches_of c
+        → IsSeen inclusion.old beside.inclusion → EndsWith beside (λ i. OnOk result (IsSeen inclusion.new i))
+        (λ more. OnOk result (Took R.tells (R.taken registrar.old) (R.taken registrar.new) more))
+        (λ now. Tells (blocks.applies c block.now (live_of beside fence.old life.old)) (ends_in (live_of now fence.new life.new) result)
+        out.old.entries out.new.entries) }
 {
     match life.stage {
-        Stage::Dealing => apply_dealing(alloc, ceremony, signer, terms, life, devices, block, out),
-        Stage::Including => unreachable!(),
+        Stage::Dealing => apply_dealing(
+            alloc, ceremony, signer, provider, terms, life, inclusion, devices, block, out,
+        ),
+        Stage::Including => apply_included(
+            alloc, ceremony, signer, provider, registrar, terms, life, inclusion, devices, block,
+            bounds, fence, out,
+        ),
         Stage::Following => follow_block(
-            alloc, ceremony, signer, registrar, terms, life, devices, block, bounds, fence, out,
+            alloc, ceremony, signer, registrar, terms, life, inclusion, devices, block, bounds,
+            fence, out,
         ),
     }
 }
@@ -267,38 +523,55 @@ fn looks_at<Dir: Directory + Drop>(life: &Life<Dir>, bounds: &Bounds) -> bool
 }
 
 /// Takes a delivered block (`delivers`).
-pub(crate) fn take_block<C: Ceremony, R: Registrar, Dir: Directory + Drop, D: Disk, X: SecretStore>(
+pub(crate) fn take_block<
+    C: Ceremony + Drop,
+    P: ParticipantsProvider<Dir = Dir>,
+    R: Registrar,
+    Dir: Directory + Drop,
+    D: Disk,
+    X: SecretStore,
+>(
     alloc: Global,
     ceremony: &C,
     signer: &C::Signer,
+    provider: &mut P,
     registrar: &mut R,
     terms: &Terms,
     life: &mut Life<Dir>,
+    inclusion: &mut Inclusion<C, Dir>,
     devices: &mut Devices<'_, D, X>,
     block: &Block<Dir>,
     fence: &mut Fence,
     out: &mut Transcript,
 ) -> Result<(), Stop>
-    requires taken { TakesBlock (non_zero_u64_get terms.now.blocks_per_epoch) life.old block.now }
     requires me { terms.now.me ≡ C.Signer.key_of signer.now }
     requires ready { IsReadyLife D.tells D.files D.image C.ack_of C.deal_of C.check_ack_of terms.now life.old devices.old }
+    requires including { IsReadyInclusion C.check_log_of C.dealing_of C.finish_of (non_zero_u64_get terms.now.blocks_per_epoch) life.old inclusion.old }
     ensures ready { OnOk result (IsReadyLife D.tells D.files D.image C.ack_of C.deal_of C.check_ack_of terms.now life.new devices.new) }
     ensures word { life.new.word ≡ life.old.word }
-    ensures acts { IsTrue D.tells → IsTrue X.tells → (c : Fixed Dir) (beside : Beside Dir) → IsIn terms.now life.old.word c → ReadsToday c
-        → IsRuledBy C.round_of C.deal_of C.dealing_of C.ack_of C.check_ack_of C.sign_log_of C.bears_ack_of C.share_public_of C.partial_public_of c.rules
-        → EndsBeside beside (λ more. OnOk result (Took R.tells (R.taken registrar.old) (R.taken registrar.new) more))
-        (λ now. Makes D.files D.image X.held (blocks.delivers c block.now (live_of beside fence.old life.old)) (ends_in (live_of now fence.new life.new) result)
-        devices.old devices.new out.old.entries out.new.entries) }
-    ensures tells { (c : Fixed Dir) (beside : Beside Dir) → IsIn terms.now life.old.word c → ReadsToday c
-        → IsRuledBy C.round_of C.deal_of C.dealing_of C.ack_of C.check_ack_of C.sign_log_of C.bears_ack_of C.share_public_of C.partial_public_of c.rules
-        → EndsBeside beside (λ more. OnOk result (Took R.tells (R.taken registrar.old) (R.taken registrar.new) more))
-        (λ now. Tells (blocks.delivers c block.now (live_of beside fence.old life.old)) (ends_in (live_of now fence.new life.new) result)
-        out.old.entries out.new.entries) }
     ensures moved { Moved D.tells D.made X.made D.faults X.faults devices.old devices.new }
     ensures causes { IfErr result (λ stop. IsCausedBy D.tells stop (Rose (D.faults devices.old.disk.now) (D.faults devices.new.disk.now))
         (Rose (X.faults devices.old.secrets.now) (X.faults devices.new.secrets.now)) (Reached devices.old.fuse devices.new.fuse)) }
     ensures fit { IsTrue D.tells → AreFit (non_zero_u32_get terms.now.limit) (D.image devices.old.disk.now)
         → AreFit (non_zero_u32_get terms.now.limit) (D.image devices.new.disk.now) }
+    ensures including { OnOk result (IsReadyInclusion C.check_log_of C.dealing_of C.finish_of (non_zero_u64_get terms.now.blocks_per_epoch) life.new
+        inclusion.new) }
+    ensures provider { IsTrue P.tells → SameProvided (P.participants_of provider.old) (P.participants_of provider.new)
+        (P.directory_of provider.old) (P.directory_of provider.new) }
+    ensures acts { IsTrue D.tells → IsTrue X.tells → IsTrue P.tells → (c : Fixed Dir) (beside : Beside Dir) → IsIn terms.now life.old.word c → ReadsToday c
+        → IsRuledBy C.round_of C.deal_of C.dealing_of C.ack_of C.check_ack_of C.sign_log_of C.bears_ack_of C.share_public_of C.partial_public_of c.rules
+        → IncludesBy C.check_log_of C.outcome_of C.finish_of (P.participants_of provider.old) (P.directory_of provider.old) Dir.spelling Dir.matches_of c
+        → IsSeen inclusion.old beside.inclusion → EndsWith beside (λ i. OnOk result (IsSeen inclusion.new i))
+        (λ more. OnOk result (Took R.tells (R.taken registrar.old) (R.taken registrar.new) more))
+        (λ now. Makes D.files D.image X.held (blocks.delivers c block.now (live_of beside fence.old life.old)) (ends_in (live_of now fence.new life.new) result)
+        devices.old devices.new out.old.entries out.new.entries) }
+    ensures tells { IsTrue P.tells → (c : Fixed Dir) (beside : Beside Dir) → IsIn terms.now life.old.word c → ReadsToday c
+        → IsRuledBy C.round_of C.deal_of C.dealing_of C.ack_of C.check_ack_of C.sign_log_of C.bears_ack_of C.share_public_of C.partial_public_of c.rules
+        → IncludesBy C.check_log_of C.outcome_of C.finish_of (P.participants_of provider.old) (P.directory_of provider.old) Dir.spelling Dir.matches_of c
+        → IsSeen inclusion.old beside.inclusion → EndsWith beside (λ i. OnOk result (IsSeen inclusion.new i))
+        (λ more. OnOk result (Took R.tells (R.taken registrar.old) (R.taken registrar.new) more))
+        (λ now. Tells (blocks.delivers c block.now (live_of beside fence.old life.old)) (ends_in (live_of now fence.new life.new) result)
+        out.old.entries out.new.entries) }
 {
     let height = block.height();
     let Some(bounds) = Epocher::new(terms.blocks_per_epoch).containing(height) else {
@@ -310,7 +583,8 @@ pub(crate) fn take_block<C: Ceremony, R: Registrar, Dir: Directory + Drop, D: Di
     match judge(&life.tip, block)? {
         Judged::Again => Ok(()),
         Judged::New => apply(
-            alloc, ceremony, signer, registrar, terms, life, devices, block, &bounds, fence, out,
+            alloc, ceremony, signer, provider, registrar, terms, life, inclusion, devices, block,
+            &bounds, fence, out,
         ),
     }
 }

@@ -27,13 +27,13 @@ ghost use Rattle.dkg_core.specs.Live as live;
 ghost use Rattle.dkg_core.specs.Setup as setup;
 ghost use Rattle.dkg_reshare.specs.Actors.{IsReadyLife, IsSetUp};
 ghost use Rattle.dkg_reshare.specs.Ends.{IsCaused, IsCausedBy, IsOutside, by_stop, ends, ends_in};
-ghost use Rattle.dkg_reshare.specs.Given.{CanRead, GivesBoth, GivesShare, IsIn, IsLent, IsOf, ReadsToday};
-ghost use Rattle.dkg_reshare.specs.LiveOf.{Beside, DealsFor, EndsBeside, IsDealing, IsSeated, IsToSign, IsWithin, SitsIn, Took, awaited_of, dealer_of, live_of, records_of, scheme_by, seat_of, with_scheme_of};
+ghost use Rattle.dkg_reshare.specs.Given.{CanRead, GivesBoth, GivesSeed, GivesShare, IsIn, IsLent, IsOf, ReadsToday};
+ghost use Rattle.dkg_reshare.specs.LiveOf.{Beside, DealsFor, EndsBeside, IsDealing, IsFresh, IsSeated, IsToSign, IsWithin, SitsIn, Took, awaited_of, dealer_of, live_of, records_of, scheme_by, seat_of, with_scheme_of};
 ghost use Rattle.dkg_reshare.specs.Made.{Makes, Speaks, Tells, UnlessBroken};
 ghost use Rattle.dkg_reshare.specs.Moved.{IsFirm, Moved, StaysAbove, StaysFrom, StaysWhole};
 ghost use Rattle.dkg_reshare.specs.Opened.{epoch_above};
 ghost use Rattle.dkg_reshare.specs.Rules.{DealsBy, IsRuledBy, SeatsBy, SharesBy};
-ghost use Rattle.dkg_reshare.specs.Steps.{AreBoundsAt, IsFaultOrWant, MakesDealer, MakesPlayer, StandsIn, kept_for, no_round, reads_secrets, refusal_of, stage_in, standing_of};
+ghost use Rattle.dkg_reshare.specs.Steps.{AreBoundsAt, IsFaultOrWant, MakesDealer, MakesPlayer, StandsIn, kept_for, no_round, reads_secrets, reads_seed, refusal_of, stage_in, standing_of};
 ghost use Rattle.dkg_reshare.specs.declared.life.Life.{Life};
 ghost use Rattle.dkg_reshare.specs.declared.stop.Stop.TheVariants.{Fault as Faulted};
 
@@ -188,6 +188,30 @@ pub(crate) fn secrets_of<C: Ceremony, Dir: Directory + Drop, D: Disk, X: SecretS
         (Reached devices.old.fuse devices.new.fuse)) }
 {
     let share = recovered_share(alloc, ceremony, me, &mut life.store, devices, info)?;
+    let seed = seed_for(alloc, &mut life.store, devices, life.word, info.epoch)?;
+    Ok(EpochSecrets { share, seed })
+}
+
+/// An epoch's secrets with a share that is known: its seed is read (the `looks` of `takes_over`).
+pub(crate) fn secrets_with<Dir: Directory + Drop, D: Disk, X: SecretStore>(
+    alloc: Global,
+    life: &mut Life<Dir>,
+    devices: &mut Devices<'_, D, X>,
+    info: &EpochInfo<Dir>,
+    share: Option<Share>,
+) -> Result<EpochSecrets, Stop>
+    ensures life { life.new ≡ life.old }
+    ensures disk { devices.new.disk.now ≡ devices.old.disk.now }
+    ensures same { X.held devices.new.secrets.now ≡ X.held devices.old.secrets.now }
+    ensures share { IfOk result (λ it. it.share ≡ share) }
+    ensures acts { IsTrue D.tells → IsTrue X.tells → (c : Fixed Dir) → c.word ≡ life.old.word → ReadsToday c → (out : List Line)
+        → Makes D.files D.image X.held (reads_seed c info.now) (ends (λ it. it.seed) result) devices.old devices.new out out }
+    ensures read { IfOk result (λ it. (h : Held) × ((c : Fixed Dir) → c.word ≡ life.old.word → GivesSeed c info.now it.seed h)) }
+    ensures unread { IfErr result (λ stop. (c : Fixed Dir) (out : List Line) → Tells (reads_seed c info.now) (by_stop stop) out out) }
+    ensures moved { Moved D.tells D.made X.made D.faults X.faults devices.old devices.new }
+    ensures causes { IfErr result (λ stop. IsOutside stop × IsCaused stop ⊥ (Rose (X.faults devices.old.secrets.now) (X.faults devices.new.secrets.now))
+        (Reached devices.old.fuse devices.new.fuse)) }
+{
     let seed = seed_for(alloc, &mut life.store, devices, life.word, info.epoch)?;
     Ok(EpochSecrets { share, seed })
 }
@@ -505,7 +529,7 @@ fn begin_stage<C: Ceremony, Dir: Directory + Drop>(
 ) -> Result<(), Stop>
     requires signs { IfSome life.old.dealer (IsToSign C.deal_of C.check_ack_of (C.Signer.key_of signer.now) life.old.round) }
     requires unsigned { IfSome life.old.dealer (λ dealer. dealer.finalized ≡ None) }
-    ensures begun { OnOk result ((c : Fixed Dir) (beside : Beside Dir) (fence : Readiness) → c.me ≡ C.Signer.key_of signer.now
+    ensures begun { OnOk result ((c : Fixed Dir) (beside : Beside Dir) (fence : Readiness) → IsFresh beside.inclusion → c.me ≡ C.Signer.key_of signer.now
         → DealsBy C.deal_of C.check_ack_of C.sign_log_of c.rules → live_of beside fence life.new ≡ setup.in_stage c phase (live_of beside fence life.old)) }
     ensures rest { life.new ≡ record life.old { stage = life.new.stage; dealer = life.new.dealer } }
     ensures stage { OnOk result (life.new.stage ≡ stage_in phase) }
@@ -539,7 +563,7 @@ fn draw_up<C: Ceremony, Dir: Directory + Drop>(
     ensures rest { life.new ≡ record life.old { stage = life.new.stage; round = life.new.round; dealer = life.new.dealer; player = life.new.player } }
     ensures sits { OnOk result (IsSeated C.ack_of terms.now.me life.new × IsDealing C.deal_of C.check_ack_of terms.now.me life.new
         × IsWithin (non_zero_u32_get terms.now.limit) life.new.round × (life.new.stage ≡ stage_in phase)) }
-    ensures speaks { (c : Fixed Dir) (beside : Beside Dir) (fence : Readiness) → IsOf terms.now c
+    ensures speaks { (c : Fixed Dir) (beside : Beside Dir) (fence : Readiness) → IsFresh beside.inclusion → IsOf terms.now c
         → IsRuledBy C.round_of C.deal_of C.dealing_of C.ack_of C.check_ack_of C.sign_log_of C.bears_ack_of C.share_public_of C.partial_public_of c.rules
         → StandsIn c (live_of beside fence life.old) phase → Speaks (setup.draws_up c (setup.participants_of info.now) (Some info.now.output)
         secrets.now.share secrets.now.seed (live_of beside fence life.old)) (ends_in (live_of beside fence life.new) result)
@@ -630,13 +654,13 @@ fn set_up_by<C: Ceremony, R: Registrar, Dir: Directory + Drop, D: Disk, X: Secre
     requires open { IsTrue D.tells → IsFirm life.old.store.journal (D.files devices.old.disk.now) (D.image devices.old.disk.now) }
     ensures done { OnOk result (IsSetUp D.tells D.files D.image C.ack_of C.deal_of C.check_ack_of terms.now.me (non_zero_u32_get terms.now.limit) phase life.new devices.new) }
     ensures rest { life.new ≡ record life.old { store = life.new.store; stage = life.new.stage; round = life.new.round; dealer = life.new.dealer; player = life.new.player } }
-    ensures acts { IsTrue D.tells → IsTrue X.tells → (c : Fixed Dir) (beside : Beside Dir) → IsIn terms.now life.old.word c → ReadsToday c
+    ensures acts { IsTrue D.tells → IsTrue X.tells → (c : Fixed Dir) (beside : Beside Dir) → IsFresh beside.inclusion → IsIn terms.now life.old.word c → ReadsToday c
         → IsRuledBy C.round_of C.deal_of C.dealing_of C.ack_of C.check_ack_of C.sign_log_of C.bears_ack_of C.share_public_of C.partial_public_of c.rules → StandsIn c (live_of beside fence.old life.old) phase
         → EndsBeside beside (λ more. OnOk result (Took R.tells (R.taken registrar.old) (R.taken registrar.new) more))
         (λ now. Makes D.files D.image X.held (setup.with_info c None (standing_of standing) info.now (live_of beside fence.old life.old)) (ends_in (live_of now fence.new life.new) result)
         devices.old devices.new out.old.entries out.new.entries) }
     // Whatever the devices tell, its lines are those of one that has read some shares and seeds.
-    ensures tells { (h : Held) × ((c : Fixed Dir) (beside : Beside Dir) → IsIn terms.now life.old.word c → CanRead c h
+    ensures tells { (h : Held) × ((c : Fixed Dir) (beside : Beside Dir) → IsFresh beside.inclusion → IsIn terms.now life.old.word c → CanRead c h
         → IsRuledBy C.round_of C.deal_of C.dealing_of C.ack_of C.check_ack_of C.sign_log_of C.bears_ack_of C.share_public_of C.partial_public_of c.rules → StandsIn c (live_of beside fence.old life.old) phase
         → EndsBeside beside (λ more. OnOk result (Took R.tells (R.taken registrar.old) (R.taken registrar.new) more))
         (λ now. Tells (setup.with_info c None (standing_of standing) info.now (live_of beside fence.old life.old)) (ends_in (live_of now fence.new life.new) result)
@@ -733,13 +757,13 @@ pub(crate) fn set_up<
     requires uncommitted { life.old.store.current ≡ None }
     ensures ready { OnOk result (IsReadyLife D.tells D.files D.image C.ack_of C.deal_of C.check_ack_of terms.now life.new devices.new) }
     ensures word { life.new.word ≡ life.old.word }
-    ensures acts { IsTrue D.tells → IsTrue X.tells → (c : Fixed Dir) (beside : Beside Dir) → IsLent terms.now (B.answers source.now) life.old.word c → ReadsToday c
+    ensures acts { IsTrue D.tells → IsTrue X.tells → (c : Fixed Dir) (beside : Beside Dir) → IsFresh beside.inclusion → IsLent terms.now (B.answers source.now) life.old.word c → ReadsToday c
         → IsRuledBy C.round_of C.deal_of C.dealing_of C.ack_of C.check_ack_of C.sign_log_of C.bears_ack_of C.share_public_of C.partial_public_of c.rules
         → EndsBeside beside (λ more. OnOk result (Took R.tells (R.taken registrar.old) (R.taken registrar.new) more))
         (λ now. Makes D.files D.image X.held (setup.setup c None (live_of beside fence.old life.old)) (ends_in (live_of now fence.new life.new) result)
         devices.old devices.new out.old.entries out.new.entries) }
     // Whatever the devices tell, its lines are those of one that has read some shares and seeds.
-    ensures tells { (h : Held) × ((c : Fixed Dir) (beside : Beside Dir) → IsLent terms.now (B.answers source.now) life.old.word c → CanRead c h
+    ensures tells { (h : Held) × ((c : Fixed Dir) (beside : Beside Dir) → IsFresh beside.inclusion → IsLent terms.now (B.answers source.now) life.old.word c → CanRead c h
         → IsRuledBy C.round_of C.deal_of C.dealing_of C.ack_of C.check_ack_of C.sign_log_of C.bears_ack_of C.share_public_of C.partial_public_of c.rules
         → EndsBeside beside (λ more. OnOk result (Took R.tells (R.taken registrar.old) (R.taken registrar.new) more))
         (λ now. Tells (setup.setup c None (live_of beside fence.old life.old)) (ends_in (live_of now fence.new life.new) result)
@@ -806,13 +830,13 @@ pub(crate) fn set_up_committed<
     requires awaited { info.now.epoch ≡ epoch_above terms.now life.old.tip }
     ensures ready { OnOk result (IsReadyLife D.tells D.files D.image C.ack_of C.deal_of C.check_ack_of terms.now life.new devices.new) }
     ensures word { life.new.word ≡ life.old.word }
-    ensures acts { IsTrue D.tells → IsTrue X.tells → (c : Fixed Dir) (beside : Beside Dir) → IsIn terms.now life.old.word c → ReadsToday c
+    ensures acts { IsTrue D.tells → IsTrue X.tells → (c : Fixed Dir) (beside : Beside Dir) → IsFresh beside.inclusion → IsIn terms.now life.old.word c → ReadsToday c
         → IsRuledBy C.round_of C.deal_of C.dealing_of C.ack_of C.check_ack_of C.sign_log_of C.bears_ack_of C.share_public_of C.partial_public_of c.rules
         → EndsBeside beside (λ more. OnOk result (Took R.tells (R.taken registrar.old) (R.taken registrar.new) more))
         (λ now. Makes D.files D.image X.held (setup.setup c None (live_of beside fence.old life.old)) (ends_in (live_of now fence.new life.new) result)
         devices.old devices.new out.old.entries out.new.entries) }
     // Whatever the devices tell, its lines are those of one that has read some shares and seeds.
-    ensures tells { (h : Held) × ((c : Fixed Dir) (beside : Beside Dir) → IsIn terms.now life.old.word c → CanRead c h
+    ensures tells { (h : Held) × ((c : Fixed Dir) (beside : Beside Dir) → IsFresh beside.inclusion → IsIn terms.now life.old.word c → CanRead c h
         → IsRuledBy C.round_of C.deal_of C.dealing_of C.ack_of C.check_ack_of C.sign_log_of C.bears_ack_of C.share_public_of C.partial_public_of c.rules
         → EndsBeside beside (λ more. OnOk result (Took R.tells (R.taken registrar.old) (R.taken registrar.new) more))
         (λ now. Tells (setup.setup c None (live_of beside fence.old life.old)) (ends_in (live_of now fence.new life.new) result)

@@ -2,9 +2,8 @@
 ghost use Rattle.std.specs.Prelude.{◌≡◌, ℕ, IfOk, OnOk, None, Some, if◌then◌else◌, ◌==◌};
 ghost use Rattle.std.specs.Int.NonZero.{non_zero_u64_get};
 ghost use Rattle.dkg_core.specs.Sources.{AtBlock};
-ghost use Rattle.dkg_reshare.specs.Actors.{IfLiving, IsAt, IsNew, IsTaken};
-ghost use Rattle.dkg_reshare.specs.declared.life.Life as life;
-ghost use Rattle.dkg_types.specs.declared.directory.Unit as directory;
+ghost use Rattle.dkg_reshare.specs.Actors.{IfIncluding, IsAt, IsNew};
+ghost use Rattle.dkg_reshare.specs.InclusionOf.{IsReadyInclusion};
 
 use dkg_ceremony::{
     Blob, Ceremony, Mode, ModeVersion, Reveal, StandCeremony, StandSigner, decode_cfg,
@@ -14,9 +13,10 @@ use dkg_journal::{Disk, Fuse, MemoryDisk};
 use dkg_reshare::{Actor, BlockSource, Config, Message, Processed, Stop};
 use dkg_store::{Devices, MemorySecrets, SecretStore};
 use dkg_types::{
-    Block, Context, Fault, Finalization, NoopRegistrar, Payload, Registrar, Transcript, Unit,
+    Block, Context, Fault, Finalization, NoopRegistrar, ParticipantsProvider, Payload, Registrar,
+    StaticParticipants, Transcript, Unit,
 };
-use dkg_values::{Digest, Epoch, Height, Key, Mem};
+use dkg_values::{Digest, Epoch, Height, Key, Mem, Set};
 use std::alloc::Global;
 use std::num::{NonZeroU32, NonZeroU64};
 use std::test::Fail;
@@ -99,14 +99,16 @@ fn block_at(
 }
 
 /// An actor with epochs of eight blocks.
-fn actor_of(alloc: Global) -> Result<Actor<StandCeremony, Unit, NoopRegistrar, Unit, Unit>, Fail>
+fn actor_of(
+    alloc: Global,
+) -> Result<Actor<StandCeremony, StaticParticipants<Unit>, NoopRegistrar, Unit, Unit>, Fail>
     ensures new { IfOk result (λ actor. IsNew actor.state) }
     ensures blocks { IfOk result (λ actor. non_zero_u64_get actor.terms.blocks_per_epoch ≡ 8) }
 {
     let config = Config {
         ceremony: StandCeremony,
         signer: StandSigner::new(Key(1)),
-        provider: Unit,
+        provider: StaticParticipants::new(Set::from_any(alloc, &[])?, Unit),
         registrar: NoopRegistrar,
         manager: Unit,
         namespace: Blob::new(Vec::new(alloc)),
@@ -123,7 +125,15 @@ fn actor_of(alloc: Global) -> Result<Actor<StandCeremony, Unit, NoopRegistrar, U
 }
 
 /// An actor's opening.
-fn open<C: Ceremony, P, R: Registrar, M, D: Disk, X: SecretStore, B: BlockSource<Unit>>(
+fn open<
+    C: Ceremony + Drop,
+    P: ParticipantsProvider<Dir = Unit>,
+    R: Registrar,
+    M,
+    D: Disk,
+    X: SecretStore,
+    B: BlockSource<Unit>,
+>(
     alloc: Global,
     actor: &mut Actor<C, P, R, M, Unit>,
     devices: &mut Devices<'_, D, X>,
@@ -133,13 +143,23 @@ fn open<C: Ceremony, P, R: Registrar, M, D: Disk, X: SecretStore, B: BlockSource
 ) -> Result<(), Stop>
     requires { IsNew actor.old.state }
     ensures at { IsAt D.tells D.files D.image C.ack_of C.deal_of C.check_ack_of actor.new.terms actor.new.state devices.new }
+    ensures including { IfIncluding actor.new.state (IsReadyInclusion C.check_log_of C.dealing_of C.finish_of
+        (non_zero_u64_get actor.new.terms.blocks_per_epoch)) }
     ensures terms { actor.new.terms ≡ actor.old.terms }
 {
     actor.open(alloc, devices, source, 0, 9, fence, out)
 }
 
 /// .. and a step.
-fn step<C: Ceremony, P, R: Registrar, M, D: Disk, X: SecretStore, B: BlockSource<Unit>>(
+fn step<
+    C: Ceremony + Drop,
+    P: ParticipantsProvider<Dir = Unit>,
+    R: Registrar,
+    M,
+    D: Disk,
+    X: SecretStore,
+    B: BlockSource<Unit>,
+>(
     alloc: Global,
     actor: &mut Actor<C, P, R, M, Unit>,
     devices: &mut Devices<'_, D, X>,
@@ -149,17 +169,17 @@ fn step<C: Ceremony, P, R: Registrar, M, D: Disk, X: SecretStore, B: BlockSource
     out: &mut Transcript,
 ) -> Result<(), Stop>
     requires at { IsAt D.tells D.files D.image C.ack_of C.deal_of C.check_ack_of actor.old.terms actor.old.state devices.old }
-    requires taken { IfLiving actor.old.state (λ its. IsTaken (non_zero_u64_get actor.old.terms.blocks_per_epoch) its message) }
+    requires including { IfIncluding actor.old.state (IsReadyInclusion C.check_log_of C.dealing_of C.finish_of (non_zero_u64_get actor.old.terms.blocks_per_epoch)) }
     ensures at { IsAt D.tells D.files D.image C.ack_of C.deal_of C.check_ack_of actor.new.terms actor.new.state devices.new }
+    ensures including { OnOk result (IfIncluding actor.new.state (IsReadyInclusion C.check_log_of C.dealing_of C.finish_of
+        (non_zero_u64_get actor.new.terms.blocks_per_epoch))) }
     ensures terms { actor.new.terms ≡ actor.old.terms }
 {
     actor.step(alloc, devices, source, message, fence, out)
 }
 
 /// The dealing, from its dealer.
-fn dealing(alloc: Global) -> Result<Message<Unit>, Fail>
-    ensures { (blocks : ℕ) (its : life.Life directory.Unit) → IfOk result (IsTaken blocks its) }
-{
+fn dealing(alloc: Global) -> Result<Message<Unit>, Fail> {
     let bytes = Blob::new(Vec::from_slice(alloc, &DEALING)?);
     Ok(Message::Peer {
         from: Key(2),
@@ -189,7 +209,15 @@ fn first_block(alloc: Global) -> Result<Block<Unit>, Fail> {
 }
 
 /// An opening, and the step of a dealing. How many lines were told behind each.
-fn heard<C: Ceremony, P, R: Registrar, M, D: Disk, X: SecretStore, B: BlockSource<Unit>>(
+fn heard<
+    C: Ceremony + Drop,
+    P: ParticipantsProvider<Dir = Unit>,
+    R: Registrar,
+    M,
+    D: Disk,
+    X: SecretStore,
+    B: BlockSource<Unit>,
+>(
     alloc: Global,
     actor: &mut Actor<C, P, R, M, Unit>,
     devices: &mut Devices<'_, D, X>,
@@ -199,6 +227,8 @@ fn heard<C: Ceremony, P, R: Registrar, M, D: Disk, X: SecretStore, B: BlockSourc
 ) -> Result<[usize; 2], Fail>
     requires { IsNew actor.old.state }
     ensures at { OnOk result (IsAt D.tells D.files D.image C.ack_of C.deal_of C.check_ack_of actor.new.terms actor.new.state devices.new) }
+    ensures including { OnOk result (IfIncluding actor.new.state (IsReadyInclusion C.check_log_of C.dealing_of C.finish_of
+        (non_zero_u64_get actor.new.terms.blocks_per_epoch))) }
     ensures terms { actor.new.terms ≡ actor.old.terms }
 {
     if open(alloc, actor, devices, source, fence, out).is_err() {
@@ -213,7 +243,15 @@ fn heard<C: Ceremony, P, R: Registrar, M, D: Disk, X: SecretStore, B: BlockSourc
 }
 
 /// The steps of the block behind this one, of one that doesn't stand on that, and one more. The height of the block that doesn't fit.
-fn taken<C: Ceremony, P, R: Registrar, M, D: Disk, X: SecretStore, B: BlockSource<Unit>>(
+fn taken<
+    C: Ceremony + Drop,
+    P: ParticipantsProvider<Dir = Unit>,
+    R: Registrar,
+    M,
+    D: Disk,
+    X: SecretStore,
+    B: BlockSource<Unit>,
+>(
     alloc: Global,
     actor: &mut Actor<C, P, R, M, Unit>,
     devices: &mut Devices<'_, D, X>,
@@ -223,6 +261,7 @@ fn taken<C: Ceremony, P, R: Registrar, M, D: Disk, X: SecretStore, B: BlockSourc
     out: &mut Transcript,
 ) -> Result<u64, Fail>
     requires at { IsAt D.tells D.files D.image C.ack_of C.deal_of C.check_ack_of actor.old.terms actor.old.state devices.old }
+    requires including { IfIncluding actor.old.state (IsReadyInclusion C.check_log_of C.dealing_of C.finish_of (non_zero_u64_get actor.old.terms.blocks_per_epoch)) }
     requires blocks { non_zero_u64_get actor.old.terms.blocks_per_epoch ≡ 8 }
 {
     let block = Message::Finalized(block_at(alloc, parent, Height(1), None)?);

@@ -14,7 +14,8 @@ use Rattle.dkg_text.specs.declared.script.Event.TheVariants.{Final}
 use Rattle.dkg_text.specs.declared.script.Script.{Script}
 use Rattle.dkg_reshare.specs.Configured.{config_fault}
 use Rattle.dkg_reshare.specs.Today.{seen_today}
-use Rattle.dkg_script.specs.Epochs.{IsFormOfEpochs, alone}
+use Rattle.dkg_script.specs.Epochs.{alone}
+use Rattle.dkg_script.specs.Inclusion.{IsFormOfInclusion}
 use Rattle.dkg_script.specs.Position.{awaited_epoch, awaited_height, follows}
 use Rattle.dkg_store.specs.Acts.{Held}
 use Rattle.dkg_core.specs.Forms.{IsActiveIn, IsForm, IsLiveIn}
@@ -31,7 +32,7 @@ IsAnchorOver blocks (Absent number) = IfSome (slice_get blocks number) (λ line.
 
 -- It is a life of a script of this form, whose mode is supported and whose epochs have two blocks at least, and no plan is read.
 pub record IsLifeOver (g : Lived) : Type 0 where
-  pub form : IsFormOfEpochs g.script
+  pub form : IsFormOfInclusion g.script
   pub life_is : slice_get g.script.lives g.number ≡ Some g.life
   pub anchor : IfSome g.life.anchor (IsAnchorOver g.script.blocks)
   pub unplanned : (h : Held) → (g.seen h).plan ≡ None

@@ -1,5 +1,6 @@
 -- A node between two steps, as the relation's Live.
-use Rattle.std.specs.Prelude.{ℕ, ◌<◌, ◌≡◌, ⊤, Bool, true, false, Contains, List, None, Some, Result, Ok, Err, IsSome, IsSomeAnd, slice_get}
+use Rattle.std.specs.Prelude.{ℕ, ◌+◌, ◌<◌, ◌≡◌, ⊤, Bool, true, false, Contains, List, None, Option, Some, Result, Ok, Err, IsSome, slice_get}
+use Rattle.std.specs.Int.NonZero.{non_zero_u64_get}
 use Rattle.dkg_ceremony.specs.Acks.{ack_of, check_ack_of}
 use Rattle.dkg_ceremony.specs.Deals.{deal_of}
 use Rattle.dkg_ceremony.specs.Schedule.{last}
@@ -8,22 +9,25 @@ use Rattle.dkg_journal.specs.Names.{Files}
 use Rattle.dkg_store.specs.Acts.{Ended, went}
 use Rattle.dkg_store.specs.declared.devices.Devices.{Devices}
 use Rattle.dkg_text.specs.declared.script.Event.{Event}
-use Rattle.dkg_text.specs.declared.script.Event.TheVariants.{Peer, Final}
+use Rattle.dkg_text.specs.declared.script.Event.TheVariants.{Peer, Final, Info, Feed, Over, Cancel, Work}
 use Rattle.dkg_text.specs.declared.script.Life.{Life}
 use Rattle.dkg_types.specs.Blocks.{Block}
 use Rattle.dkg_types.specs.declared.directory.Unit as directory
 use Rattle.dkg_types.specs.declared.participants.TrackedPeers.{TrackedPeers}
 use Rattle.dkg_values.specs.Rising.{lookup}
+use Rattle.dkg_core.specs.Entering as core
 use Rattle.dkg_core.specs.Entering.{is_ready}
 use Rattle.dkg_core.specs.Fixed.{Fixed}
+use Rattle.dkg_core.specs.Live as core_live
 use Rattle.dkg_core.specs.Live.{Live, NodeStop, with_orchestrator}
+use Rattle.dkg_reshare.specs.declared.message.Message.{Message}
+use Rattle.dkg_reshare.specs.declared.message.Message.TheVariants as message
 use Rattle.dkg_core.specs.Sources.{Source}
 use Rattle.dkg_core.specs.Today.{OnInfo, first_epoch}
-use Rattle.dkg_reshare.specs.Actors.{IfLiving, IsAt, TakesBlock}
+use Rattle.dkg_reshare.specs.Actors.{IfIncluding, IfLiving, IsAt, IsLiving, message_of}
 use Rattle.dkg_reshare.specs.Given.{IsOf}
+use Rattle.dkg_reshare.specs.InclusionOf.{IsSeen}
 use Rattle.dkg_reshare.specs.LiveOf.{Beside, live_of}
-use Rattle.dkg_reshare.specs.declared.actor.State.{State}
-use Rattle.dkg_reshare.specs.declared.actor.State.TheVariants.{Living}
 use Rattle.dkg_reshare.specs.declared.life.Life as reshare
 use Rattle.dkg_reshare.specs.declared.stop.Stop.{Stop}
 use Rattle.dkg_run.specs.Ended.{by_node_stop}
@@ -69,13 +73,25 @@ pub record MayEnter (c : Fixed directory.Unit) (fence : Readiness) (st : Live di
   pub fence_is : st.orchestrator.fence ≡ fence
   pub registered : OnInfo c (λ info. info.epoch ≡ first_epoch c) → IsSome (lookup (first_epoch c) st.orchestrator.schemes)
 
+-- The fence is the half's, and where the block is the last of the epoch that was entered, the next one was registered, and no peer lacks an address.
+pub record MayGoOn (c : Fixed directory.Unit) (fence : Readiness) (b : Block directory.Unit) (epoch : ℕ) (st : Live directory.Unit) : Type 0 where
+  pub fence_is : st.orchestrator.fence ≡ fence
+  pub registered : b.height ≡ last c.blocks_per_epoch epoch → IsSome (lookup (epoch + 1) st.orchestrator.schemes)
+  pub lacks : (d : directory.Unit) (peers : TrackedPeers) → c.directories.lacking d peers ≡ None
+
+-- how a half's step ended, whatever it answered
+abbrev pub ends_on : Live directory.Unit → Result (Unit {0}) Stop → Ended NodeStop (core.Half directory.Unit)
+ends_on st (Ok done) = went (record { live = st; answer = core.Acknowledges })
+ends_on st (Err stop) = by_node_stop stop
+
 -- A NODE
 
 -- what it has in memory
 pub record IsView (node : Node) (st : Live directory.Unit) : Type 0 where
   pub life : reshare.Life directory.Unit
   pub beside : Beside directory.Unit
-  pub lives : node.actor.state ≡ Living life
+  pub lives : IfIncluding node.actor.state (λ its inclusion. (its ≡ life) × IsSeen inclusion beside.inclusion)
+  pub living : IsLiving node.actor.state
   pub is : st ≡ live_of beside node.fence life
   pub half : HasHalf node.half st
 
@@ -123,15 +139,34 @@ pub record HasOpened (node : Node) (blocks : List (Block directory.Unit)) (life 
   pub view : IsView node st
   pub at : StandsAt g 0 st
 
+-- MESSAGES
+
+-- what is sent to the actor: no finalized block
+abbrev pub IsMail : Message directory.Unit (Unit {0}) → Type 0
+IsMail (message.Finalized b) = ⊥
+IsMail its = ⊤
+
+abbrev pub event_of : core_live.Message directory.Unit → core_live.Event directory.Unit
+event_of (core_live.Sent mail) = core_live.Reshare mail
+event_of (core_live.Finalized b) = core_live.Delivers b
+
+abbrev pub sent_event : Message directory.Unit (Unit {0}) → core_live.Event directory.Unit
+sent_event its = event_of (message_of its)
+
 -- EVENTS
 
--- A message, or one of these blocks that the actor takes.
-abbrev pub IsEventOfBlocks : (per_epoch : ℕ) → List (Block directory.Unit) → State directory.Unit → Event → Type 0
-IsEventOfBlocks per_epoch blocks state (Peer from bytes) = ⊤
-IsEventOfBlocks per_epoch blocks state (Final number) = IsSomeAnd (slice_get blocks number) (λ b. IfLiving state (λ life. TakesBlock per_epoch life b))
-IsEventOfBlocks per_epoch blocks state event = ⊥
+-- A message, or one of these blocks.
+abbrev pub IsEventOfBlocks : List (Block directory.Unit) → Event → Type 0
+IsEventOfBlocks blocks (Peer from bytes) = ⊤
+IsEventOfBlocks blocks (Final number) = IsSome (slice_get blocks number)
+IsEventOfBlocks blocks (Info request) = ⊤
+IsEventOfBlocks blocks (Feed request number) = IsSome (slice_get blocks number)
+IsEventOfBlocks blocks (Over request) = ⊤
+IsEventOfBlocks blocks (Cancel request) = ⊤
+IsEventOfBlocks blocks Work = ⊤
+IsEventOfBlocks blocks event = ⊥
 
--- .. which is held by then.
-abbrev pub IsEventHere : (per_epoch : ℕ) → HeldBlocks → State directory.Unit → Event → Type 0
-IsEventHere per_epoch source state (Final number) = Contains source.numbers.items number × IsEventOfBlocks per_epoch source.blocks.now state (Final number)
-IsEventHere per_epoch source state event = IsEventOfBlocks per_epoch source.blocks.now state event
+-- .. which is held by then, where it is delivered.
+abbrev pub IsEventHere : HeldBlocks → Event → Type 0
+IsEventHere source (Final number) = Contains source.numbers.items number × IsEventOfBlocks source.blocks.now (Final number)
+IsEventHere source event = IsEventOfBlocks source.blocks.now event

@@ -8,7 +8,7 @@ use Rattle.dkg_text.specs.Fields.{number_field}
 use Rattle.dkg_text.specs.Grammar.{script_of, script_or_place}
 use Rattle.dkg_text.specs.Printing.{lines_of}
 use Rattle.dkg_script.specs.Built.{is_built}
-use Rattle.dkg_script.specs.Epochs.{IsFormOfEpochs}
+use Rattle.dkg_script.specs.Inclusion.{IsFormOfInclusion}
 use Rattle.dkg_run.specs.Command.{IsTold}
 use Rattle.dkg_run.specs.EndsOver.{IsNodeFaultOver}
 use Rattle.dkg_run.specs.Outside.{TookAll}
@@ -61,7 +61,7 @@ pub record Ran (Gave : List ℕ → Type 0) (o : Over) (out : List Entry) (resul
   pub script : Script
   pub spells : script_of false bytes ≡ Some script
   pub built : is_built script ≡ true
-  pub form : IsFormOfEpochs script
+  pub form : IsFormOfInclusion script
   pub lives : RunsLives script o out result entries
 
 -- no entry was written, and no device was called

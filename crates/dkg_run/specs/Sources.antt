@@ -6,7 +6,7 @@ use Rattle.dkg_text.specs.declared.script.Anchor.{Anchor}
 use Rattle.dkg_text.specs.declared.script.Life.{Life}
 use Rattle.dkg_text.specs.declared.script.Script.{Script}
 use Rattle.dkg_script.specs.Blocks.{anchor_number, delivered_number}
-use Rattle.dkg_script.specs.Epochs.{IsFormOfEpochs}
+use Rattle.dkg_script.specs.Inclusion.{IsFormOfInclusion}
 use Rattle.dkg_run.specs.Epochs.{IsChecked}
 use Rattle.dkg_run.specs.Given.{blocks_in}
 use Rattle.dkg_run.specs.declared.held.HeldBlocks.{HeldBlocks}
@@ -24,7 +24,7 @@ pub record IsSourceOf (blocks : List (Block directory.Unit)) (life : Life) (take
 
 -- It is the life of this number of a script of the form of epochs, which was checked, and this the source of its opening.
 pub record IsToOpen (script : Script) (number : ℕ) (life : Life) (source : HeldBlocks) : Type 0 where
-  pub form : IsFormOfEpochs script
+  pub form : IsFormOfInclusion script
   pub checked : IsChecked script
   pub life_is : slice_get script.lives number ≡ Some life
   pub source_is : IsSourceOf (blocks_in script) life 0 source

@@ -9,7 +9,7 @@ ghost use Rattle.dkg_text.specs.Printing.{lines_of};
 ghost use Rattle.dkg_text.specs.Writing.{text_of as script_text_of};
 ghost use Rattle.dkg_text.specs.declared.script.Script.{Script};
 ghost use Rattle.dkg_script.specs.Built.{ReadsBuilt, is_built};
-ghost use Rattle.dkg_script.specs.Epochs.{IsFormOfEpochs};
+ghost use Rattle.dkg_script.specs.Inclusion.{IsFormOfInclusion};
 ghost use Rattle.dkg_script.specs.Promise.{Adds};
 ghost use Rattle.dkg_run.specs.Command.{IsMake, IsRun, IsTold};
 ghost use Rattle.dkg_run.specs.Complete.{IsSoundRun, IsValidAnyhow};
@@ -142,7 +142,7 @@ fn script_in<S: Source>(
     bytes: Vec<u8>,
 ) -> Result<dkg_script::Script, BuiltError>
     ensures reads { ReadsBuilt (script_or_place false bytes.items) result }
-    ensures form { IfOk result IsFormOfEpochs }
+    ensures form { IfOk result IsFormOfInclusion }
     ensures left { S.left source.new ≡ S.left source.old }
     ensures back { S.has_back source.new bytes.items }
 {

@@ -1,18 +1,18 @@
 //! The orchestrator's half of a node: which epoch it has entered, and which blocks it acknowledges.
 //!
-//! It enters the epoch of the height above its source's position, or halts without that epoch's boundary block. In an epoch that
-//! was entered, a life ends below its last block.
-ghost use Rattle.std.specs.Prelude.{◌≡◌, ◌<◌, ◌+◌, ◌++◌, ◌∷◌, [], ◌^◌, ℕ, IfErr, IfNone, IfOk, IfSome, true, false, None, Some};
+//! It enters the epoch of the height above its source's position, or halts without that epoch's boundary block. From then on it enters the next
+//! epoch at the last block of each.
+ghost use Rattle.std.specs.Prelude.{◌≡◌, ◌<◌, ◌+◌, ◌++◌, ◌∷◌, [], ◌^◌, ℕ, IfErr, IfNone, IfOk, IfSome, if◌then◌else◌, true, false, None, Some};
 ghost use Rattle.std.specs.Int.NonZero.{non_zero_u64_get};
 ghost use Rattle.std.specs.Option.{option_map_or};
-ghost use Rattle.dkg_ceremony.specs.Schedule.{boundary, first};
+ghost use Rattle.dkg_ceremony.specs.Schedule.{boundary, first, last};
 ghost use Rattle.dkg_fence.specs.Fence.{waited};
 ghost use Rattle.dkg_fence.specs.declared.fence.Waited.TheVariants as waits;
 ghost use Rattle.dkg_types.specs.Blocks as blocks;
 ghost use Rattle.dkg_types.specs.declared.directory.Unit as directory;
 ghost use Rattle.dkg_types.specs.declared.entry.Entry.TheVariants as entry;
 ghost use Rattle.dkg_core.specs.Courses.{bind};
-ghost use Rattle.dkg_core.specs.Entering.{acked_at, delivered, is_ready};
+ghost use Rattle.dkg_core.specs.Entering.{acked_at, delivered, delivered_in, is_ready};
 ghost use Rattle.dkg_core.specs.Fixed.{Fixed};
 ghost use Rattle.dkg_core.specs.Live.{Live};
 ghost use Rattle.dkg_core.specs.Node.{kept_material};
@@ -22,7 +22,7 @@ ghost use Rattle.dkg_reshare.specs.declared.stop.Stop.TheVariants.{Fault as Faul
 ghost use Rattle.dkg_types.specs.declared.fault.Fault.TheVariants.{NoMemory};
 ghost use Rattle.dkg_run.specs.Ended.{ends_node};
 ghost use Rattle.dkg_run.specs.Halves.{IsStartOf, beginning_of};
-ghost use Rattle.dkg_run.specs.Nodes.{HasHalf, IsBelow, IsFenceReady, IsHalfGiven, MayEnter, ends_half};
+ghost use Rattle.dkg_run.specs.Nodes.{HasHalf, IsFenceReady, IsHalfGiven, MayEnter, MayGoOn, ends_half, ends_on, with_half};
 
 use dkg_ceremony::{Bounds, Epoch, Epocher, Height};
 use dkg_fence::{Fence, Waited};
@@ -136,16 +136,72 @@ impl Half {
         enter(bounds.epoch, fence, out)
     }
 
-    /// Acknowledges a block below the last one of the epoch that was entered.
-    pub fn acknowledge(&self, height: Height, out: &mut Transcript) -> Result<(), Stop>
-        ensures speaks { (c : Fixed directory.Unit) (st : Live directory.Unit) (b : blocks.Block directory.Unit) → b.height ≡ height
-            → IsBelow c.blocks_per_epoch self.now height → HasHalf self.now st
-            → Speaks (bind (delivered c b st) (λ half. acked_at b.height half.answer half.live)) (ends_node st result) out.old.entries out.new.entries }
-        ensures memory { IfErr result (λ stop. stop ≡ FaultOf NoMemory) }
+    /// The epoch that was entered last, unless this half halted (`active`).
+    fn active(&self) -> Option<Epoch>
+        ensures { result ≡ (if self.now.halted then None else self.now.entered) }
     {
-        if self.halted || self.entered.is_none() {
-            return Ok(());
+        if self.halted { None } else { self.entered }
+    }
+
+    /// Goes on by a block of the epoch that was entered: its last one begins the next (`delivered_in`).
+    fn go_on(
+        &mut self,
+        blocks_per_epoch: NonZeroU64,
+        epoch: Epoch,
+        block: &Block<Unit>,
+        fence: &mut Fence,
+        out: &mut Transcript,
+    ) -> Result<(), Stop>
+        requires range { last (non_zero_u64_get blocks_per_epoch) epoch < 2 ^ 64 }
+        requires next { epoch + 1 < 2 ^ 64 }
+        requires ready { block.now.height ≡ last (non_zero_u64_get blocks_per_epoch) epoch → is_ready fence.old.ready (epoch + 1) ≡ true }
+        requires active { (self.old.halted ≡ false) × (self.old.entered ≡ Some epoch) }
+        ensures speaks { (c : Fixed directory.Unit) (st : Live directory.Unit) → c.blocks_per_epoch ≡ non_zero_u64_get blocks_per_epoch → HasHalf self.old st
+            → MayGoOn c fence.old block.now epoch st
+            → Speaks (delivered_in c block.now st (Some epoch)) (ends_on (with_half self.new fence.new st) result) out.old.entries out.new.entries }
+        ensures causes { IfErr result (λ stop. IsCaused stop ⊥ ⊥ ⊥) }
+    {
+        let Some(last) = Epocher::new(blocks_per_epoch).last(epoch) else {
+            return Err(Stop::Fault(Fault::HeightRange));
+        };
+        let height = block.height();
+        if height > last {
+            return Err(Stop::Fault(Fault::SkippedHeight {
+                awaited: last,
+                got: height,
+            }));
         }
-        Ok(out.push(Entry::Acked { height })?)
+        if height == last {
+            let next = Epoch(epoch.0 + 1);
+            check_info(block, next)?;
+            *self = enter(next, fence, out)?;
+        }
+        Ok(())
+    }
+
+    /// Takes a finalized block, and acknowledges it, where this half is active: an epoch's last one once the next epoch was entered
+    /// (`delivered`, `acked_at`).
+    pub fn deliver(
+        &mut self,
+        blocks_per_epoch: NonZeroU64,
+        block: &Block<Unit>,
+        fence: &mut Fence,
+        out: &mut Transcript,
+    ) -> Result<(), Stop>
+        requires range { IfSome self.old.entered (λ epoch. (last (non_zero_u64_get blocks_per_epoch) epoch < 2 ^ 64) × (epoch + 1 < 2 ^ 64)
+            × (block.now.height ≡ last (non_zero_u64_get blocks_per_epoch) epoch → is_ready fence.old.ready (epoch + 1) ≡ true)) }
+        ensures speaks { (c : Fixed directory.Unit) (st : Live directory.Unit) → c.blocks_per_epoch ≡ non_zero_u64_get blocks_per_epoch → HasHalf self.old st
+            → IfSome self.old.entered (λ epoch. MayGoOn c fence.old block.now epoch st)
+            → Speaks (bind (delivered c block.now st) (λ half. acked_at block.now.height half.answer half.live))
+            (ends_node (with_half self.new fence.new st) result) out.old.entries out.new.entries }
+        ensures causes { IfErr result (λ stop. IsCaused stop ⊥ ⊥ ⊥) }
+    {
+        let Some(epoch) = self.active() else {
+            return Ok(());
+        };
+        self.go_on(blocks_per_epoch, epoch, block, fence, out)?;
+        Ok(out.push(Entry::Acked {
+            height: block.height(),
+        })?)
     }
 }

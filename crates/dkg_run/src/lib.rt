@@ -12,6 +12,7 @@ mod held;
 mod lives;
 mod memory;
 mod node;
+mod players;
 mod sink;
 mod source;
 mod standard;

@@ -15,14 +15,14 @@ ghost use Rattle.dkg_store.specs.Corrupt.{AreFit};
 ghost use Rattle.dkg_core.specs.Live.{Live};
 ghost use Rattle.dkg_core.specs.Seen.{Seen};
 ghost use Rattle.dkg_script.specs.Blocks.{delivered_number};
-ghost use Rattle.dkg_script.specs.Epochs.{IsFormOfEpochs};
+ghost use Rattle.dkg_script.specs.Inclusion.{IsFormOfInclusion};
 ghost use Rattle.dkg_script.specs.Promise.{Adds};
 ghost use Rattle.dkg_reshare.specs.Today.{seen_today};
 ghost use Rattle.dkg_reshare.specs.declared.stop.Stop.TheVariants.{Cut as AtCut, Failed as HadFailed, Fault as FaultOf};
 ghost use Rattle.dkg_run.specs.Causes.{HasCause, IfFault};
 ghost use Rattle.dkg_run.specs.FoundOver.{IsFoundRecord};
-ghost use Rattle.dkg_run.specs.Epochs.{IsAt, IsChecked, IsEarlyEvent, IsLifeOver, MayStep};
-ghost use Rattle.dkg_run.specs.Given.{AreBytes, Lived, at_step, blocks_in, limits_of, lived, step_of};
+ghost use Rattle.dkg_run.specs.Epochs.{IsAt, IsChecked, IsLifeOver, MayStep};
+ghost use Rattle.dkg_run.specs.Given.{AreBytes, Lived, blocks_in, limits_of, lived, step_of};
 ghost use Rattle.dkg_run.specs.Lives.{AnyFiles, BeganNone, EndsLife, LivesHere, LivesSo, RunsAllSo, Steps, TakesAll, TellsEnd, fuse_for};
 ghost use Rattle.dkg_run.specs.Moving.{Blames, StepBlames, StopBlames, Went, world_of};
 ghost use Rattle.dkg_run.specs.Nodes.{HasOpened, IsEventOfBlocks, IsOfLife, IsReadyNode, IsStepHere, IsView};
@@ -92,7 +92,7 @@ fn hold(source: &mut HeldBlocks<'_>, event: &Event<'_>) -> Mem<()>
 /// Takes the step of an event, where the life is not cut before it, and tells its end.
 fn take_step<D: Disk, X: SecretStore>(
     alloc: Global,
-    node: &mut Node,
+    node: &mut Node<'_>,
     source: &mut HeldBlocks<'_>,
     event: &Event<'_>,
     number: u64,
@@ -101,7 +101,7 @@ fn take_step<D: Disk, X: SecretStore>(
     out: &mut Transcript,
 ) -> Result<(), Stop>
     requires here { (f : Burn) → fuse_for life.now.cut number ≡ Some f
-        → IsEventOfBlocks (non_zero_u64_get node.old.actor.terms.blocks_per_epoch) source.old.blocks.now node.old.actor.state event.now }
+        → IsEventOfBlocks source.old.blocks.now event.now }
     requires ready { IsReadyNode D.tells D.files D.image node.old devices.old }
     ensures ready { OnOk result (IsReadyNode D.tells D.files D.image node.new devices.new) }
     ensures terms { node.new.actor.terms ≡ node.old.actor.terms }
@@ -110,14 +110,12 @@ fn take_step<D: Disk, X: SecretStore>(
         × OnOk result (source.new.numbers.items ≡ source.old.numbers.items ++ filter_map delivered_number (event.now ∷ [])) }
     // It is the relation's step with its fuse, over the lines, and over both devices, whatever image a crash leaves.
     ensures lines { (g : Lived) (st : Live directory.Unit) (picks : List ℕ) → IsStepHere g node.old source.old.blocks.now life.now → MayStep g number st
-        → ((f : Burn) → fuse_for life.now.cut number ≡ Some f → IsEarlyEvent (at_step g number).blocks_per_epoch (blocks_in g.script) st event.now)
         → IsView node.old st
         → Steps by_lines (entry.Step number) (fuse_for life.now.cut number) (step_of g number event.now st)
         (trace out.old.entries picks) result (trace out.new.entries picks)
         (λ end now. (result ≡ Ok tt) × IsView node.new end × (now ≡ trace out.new.entries picks)) }
     ensures run { IsTrue D.tells → IsTrue X.tells → (g : Lived) (st : Live directory.Unit) → IsStepHere g node.old source.old.blocks.now life.now
         → MayStep g number st
-        → ((f : Burn) → fuse_for life.now.cut number ≡ Some f → IsEarlyEvent (at_step g number).blocks_per_epoch (blocks_in g.script) st event.now)
         → IsView node.old st → (c : Files) → D.image devices.new.disk.now c
         → Steps by_worlds (entry.Step number) (fuse_for life.now.cut number) (step_of g number event.now st)
         (world_of X.held devices.old out.old.entries (D.files devices.old.disk.now)) result (world_of X.held devices.new out.new.entries c)
@@ -136,7 +134,7 @@ fn take_step<D: Disk, X: SecretStore>(
 /// Takes the steps of a life's events, which begin with step 1.
 fn take_steps<D: Disk, X: SecretStore>(
     alloc: Global,
-    node: &mut Node,
+    node: &mut Node<'_>,
     source: &mut HeldBlocks<'_>,
     life: &Life,
     devices: &mut Devices<'_, D, X>,
@@ -183,7 +181,7 @@ fn live<D: Disk, X: SecretStore>(
     devices: &mut Devices<'_, D, X>,
     out: &mut Transcript,
 ) -> Result<(), Stop>
-    requires form { IsFormOfEpochs script.now }
+    requires form { IsFormOfInclusion script.now }
     requires checked { IsChecked script.now }
     requires here { (slice_get script.now.lives number ≡ Some life.now) × (blocks.now ≡ blocks_in script.now) }
     // It is a life of the node, over the lines and over both devices, whatever image a crash leaves.
@@ -268,7 +266,7 @@ fn run_life<D: Disk, X: SecretStore>(
     devices: &mut Devices<'_, D, X>,
     out: &mut Transcript,
 ) -> Result<(), Fault>
-    requires form { IsFormOfEpochs script.now }
+    requires form { IsFormOfInclusion script.now }
     requires checked { IsChecked script.now }
     requires here { (slice_get script.now.lives number ≡ Some life.now) × (blocks.now ≡ blocks_in script.now) }
     ensures lines { (added : List ℕ) × Went D.tells D.made X.made D.faults X.faults devices.old devices.new added
@@ -297,7 +295,7 @@ fn run_all<D: Disk, X: SecretStore>(
     devices: &mut Devices<'_, D, X>,
     out: &mut Transcript,
 ) -> Result<(), Fault>
-    requires form { IsFormOfEpochs script.now }
+    requires form { IsFormOfInclusion script.now }
     ensures lines { (picks : List ℕ) × Went D.tells D.made X.made D.faults X.faults devices.old devices.new picks
         × RunsAllSo by_lines script.now AnyFiles (trace out.old.entries []) result (trace out.new.entries picks) }
     ensures run { IsTrue D.tells → IsTrue X.tells → Stands (D.files devices.old.disk.now) (D.image devices.old.disk.now) → (c : Files)
@@ -351,7 +349,7 @@ pub fn run_lives<D: Disk, X: SecretStore>(
     secrets: &mut X,
     out: &mut Transcript,
 ) -> Result<(), Fault>
-    requires form { IsFormOfEpochs script.now }
+    requires form { IsFormOfInclusion script.now }
     // The entries of each life are those of a node run of the script, whatever the devices tell; a step that is ended early gives a front of its lines.
     // Each life's end stopped both devices, each with its pick.
     ensures lines { SaysRun script.now

@@ -7,22 +7,23 @@ ghost use Rattle.dkg_journal.specs.Fuse.{Reached};
 ghost use Rattle.dkg_store.specs.Corrupt.{AreFit};
 ghost use Rattle.dkg_types.specs.declared.directory.Unit as directory;
 ghost use Rattle.dkg_text.specs.declared.script.Event.TheVariants as event;
-ghost use Rattle.dkg_core.specs.Live.{Delivers, Live};
+ghost use Rattle.dkg_core.specs.Live.{Delivers, Feed, Live, Reshare};
 ghost use Rattle.dkg_core.specs.Node.{node_opening, node_step};
-ghost use Rattle.dkg_reshare.specs.Actors.{IfLiving, IsFoundAt, TakesBlock};
+ghost use Rattle.dkg_reshare.specs.Actors.{IsFoundAt};
 ghost use Rattle.dkg_reshare.specs.Ends.{IsCausedBy};
 ghost use Rattle.dkg_reshare.specs.Given.{AreGivenFrom, HasRead};
 ghost use Rattle.dkg_reshare.specs.Made.{Makes, Tells, UnlessBroken};
 ghost use Rattle.dkg_reshare.specs.Moved.{Moved, StaysAbove};
 ghost use Rattle.dkg_reshare.specs.Opened.{IsInGrammar, OpensReadable};
 ghost use Rattle.dkg_reshare.specs.Today.{seen_today};
-ghost use Rattle.dkg_run.specs.Epochs.{IsEarly, IsEarlyEvent, MayStep};
+ghost use Rattle.dkg_run.specs.Epochs.{MayStep};
 ghost use Rattle.dkg_run.specs.Given.{IsUnplanned, Lived, at_step, blocks_in, limits_of, lived, starts_above, step_of};
-ghost use Rattle.dkg_run.specs.Nodes.{IsEventHere, IsOfLife, IsReadyNode, IsView, Viewed, ViewedNew, ended_new};
+ghost use Rattle.dkg_run.specs.Nodes.{IsEventHere, IsMail, IsOfLife, IsReadyNode, IsView, Viewed, ViewedNew, ended_new, sent_event};
 ghost use Rattle.dkg_run.specs.Sources.{IsToOpen};
 
 use crate::half::Half;
 use crate::held::HeldBlocks;
+use crate::players::Players;
 use dkg_ceremony::{Blob, Key, Mem, Reveal, StandCeremony, StandSigner, Value};
 use dkg_fence::Fence;
 use dkg_journal::Disk;
@@ -31,20 +32,22 @@ use dkg_script::{Event, Life, Script, ScriptConfig};
 use dkg_store::{Devices, SecretStore};
 use dkg_types::{Block, NoopRegistrar, Transcript, Unit};
 use std::alloc::Global;
+use std::num::NonZeroU64;
 
 /// A node between two steps of a life.
 #[derive(Drop)]
-pub(crate) struct Node {
-    actor: Actor<StandCeremony, (), NoopRegistrar, (), Unit>,
+pub(crate) struct Node<'a> {
+    actor: Actor<StandCeremony, Players<'a>, NoopRegistrar, (), Unit>,
     fence: Fence,
     half: Half,
+    blocks_per_epoch: NonZeroU64,
 }
 
 /// What the actor of a script's lives is made with.
-fn config_of(
+fn config_of<'a>(
     alloc: Global,
-    config: &ScriptConfig,
-) -> Mem<Config<StandCeremony, (), NoopRegistrar, ()>>
+    config: &'a ScriptConfig,
+) -> Mem<Config<StandCeremony, Players<'a>, NoopRegistrar, ()>>
     ensures { IfOk result (λ made. (made.signer ≡ config.now.me) × (made.namespace ≡ config.now.namespace) × (made.mode ≡ config.now.mode)
         × (made.max_mode ≡ config.now.max_mode) × (made.reveal ≡ V1) × (made.max_participants ≡ config.now.limit)
         × (made.blocks_per_epoch ≡ config.now.blocks_per_epoch)) }
@@ -52,7 +55,7 @@ fn config_of(
     Ok(Config {
         ceremony: StandCeremony,
         signer: StandSigner::new(config.me),
-        provider: (),
+        provider: Players::new(config.players.as_slice()),
         registrar: NoopRegistrar,
         manager: (),
         namespace: config.namespace.copy(alloc)?,
@@ -71,17 +74,17 @@ fn copied(alloc: Global, bytes: &[u8]) -> Mem<Blob>
     Ok(Blob::new(Vec::from_slice(alloc, bytes)?))
 }
 
-impl Node {
+impl<'a> Node<'a> {
     /// Opens the life of a number: the actor's half, and then the orchestrator's.
     pub fn open<D: Disk, X: SecretStore>(
         alloc: Global,
-        script: &Script,
+        script: &'a Script,
         number: u64,
         life: &Life,
         source: &HeldBlocks<'_>,
         devices: &mut Devices<'_, D, X>,
         out: &mut Transcript,
-    ) -> Result<Node, Stop>
+    ) -> Result<Node<'a>, Stop>
         requires here { IsToOpen script.now number life.now source.now }
         // It goes on over these devices alone, as a node of this life.
         ensures ready { IfOk result (λ node. IsReadyNode D.tells D.files D.image node devices.new) }
@@ -114,8 +117,14 @@ impl Node {
         let mut actor = Actor::new(config)?;
         let mut fence = Fence::new();
         actor.open(alloc, devices, source, number, life.word, &mut fence, out)?;
-        let half = Half::open(script.config.blocks_per_epoch, source, &mut fence, out)?;
-        Ok(Node { actor, fence, half })
+        let blocks_per_epoch = script.config.blocks_per_epoch;
+        let half = Half::open(blocks_per_epoch, source, &mut fence, out)?;
+        Ok(Node {
+            actor,
+            fence,
+            half,
+            blocks_per_epoch,
+        })
     }
 
     /// Takes a message of the dealing channel.
@@ -159,17 +168,16 @@ impl Node {
         devices: &mut Devices<'_, D, X>,
         out: &mut Transcript,
     ) -> Result<(), Stop>
-        requires taken { IfLiving self.old.actor.state (λ life. TakesBlock (non_zero_u64_get self.old.actor.terms.blocks_per_epoch) life block.now) }
         requires ready { IsReadyNode D.tells D.files D.image self.old devices.old }
         ensures ready { OnOk result (IsReadyNode D.tells D.files D.image self.new devices.new) }
         ensures terms { self.new.actor.terms ≡ self.old.actor.terms }
         ensures of { (g : Lived) → IsOfLife g self.old → IsOfLife g self.new }
         ensures acts { IsTrue D.tells → IsTrue X.tells → (g : Lived) (number : ℕ) (st : Live directory.Unit) → IsOfLife g self.old → MayStep g number st
-            → IsEarly (at_step g number).blocks_per_epoch st block.now → IsView self.old st
+            → IsView self.old st
             → Viewed self.new result (λ ended. Makes D.files D.image X.held (node_step (at_step g number) (Delivers block.now) st) ended
             devices.old devices.new out.old.entries out.new.entries) }
         ensures tells { (g : Lived) (number : ℕ) (st : Live directory.Unit) → IsOfLife g self.old → MayStep g number st
-            → IsEarly (at_step g number).blocks_per_epoch st block.now → IsView self.old st
+            → IsView self.old st
             → Viewed self.new result (λ ended. Tells (node_step (at_step g number) (Delivers block.now) st) ended out.old.entries out.new.entries) }
         ensures moved { Moved D.tells D.made X.made D.faults X.faults devices.old devices.new }
         ensures causes { IfErr result (λ stop. IsCausedBy D.tells stop (Rose (D.faults devices.old.disk.now) (D.faults devices.new.disk.now))
@@ -177,11 +185,77 @@ impl Node {
         ensures fit { IsTrue D.tells → AreFit (non_zero_u32_get self.old.actor.terms.limit) (D.image devices.old.disk.now)
             → AreFit (non_zero_u32_get self.old.actor.terms.limit) (D.image devices.new.disk.now) }
     {
-        let height = block.height();
         let message = Message::Finalized(block.copy(alloc)?);
         self.actor
             .step(alloc, devices, source, message, &mut self.fence, out)?;
-        self.half.acknowledge(height, out)
+        self.half
+            .deliver(self.blocks_per_epoch, block, &mut self.fence, out)
+    }
+
+    /// Takes a message of a request.
+    fn send<D: Disk, X: SecretStore>(
+        &mut self,
+        alloc: Global,
+        source: &HeldBlocks<'_>,
+        message: Message<Unit>,
+        devices: &mut Devices<'_, D, X>,
+        out: &mut Transcript,
+    ) -> Result<(), Stop>
+        requires mail { IsMail message }
+        requires ready { IsReadyNode D.tells D.files D.image self.old devices.old }
+        ensures ready { OnOk result (IsReadyNode D.tells D.files D.image self.new devices.new) }
+        ensures terms { self.new.actor.terms ≡ self.old.actor.terms }
+        ensures of { (g : Lived) → IsOfLife g self.old → IsOfLife g self.new }
+        ensures acts { IsTrue D.tells → IsTrue X.tells → (g : Lived) (number : ℕ) (st : Live directory.Unit) → IsOfLife g self.old → MayStep g number st
+            → IsView self.old st
+            → Viewed self.new result (λ ended. Makes D.files D.image X.held (node_step (at_step g number) (sent_event message) st) ended
+            devices.old devices.new out.old.entries out.new.entries) }
+        ensures tells { (g : Lived) (number : ℕ) (st : Live directory.Unit) → IsOfLife g self.old → MayStep g number st → IsView self.old st
+            → Viewed self.new result (λ ended. Tells (node_step (at_step g number) (sent_event message) st) ended out.old.entries out.new.entries) }
+        ensures moved { Moved D.tells D.made X.made D.faults X.faults devices.old devices.new }
+        ensures causes { IfErr result (λ stop. IsCausedBy D.tells stop (Rose (D.faults devices.old.disk.now) (D.faults devices.new.disk.now))
+            (Rose (X.faults devices.old.secrets.now) (X.faults devices.new.secrets.now)) (Reached devices.old.fuse devices.new.fuse)) }
+        ensures fit { IsTrue D.tells → AreFit (non_zero_u32_get self.old.actor.terms.limit) (D.image devices.old.disk.now)
+            → AreFit (non_zero_u32_get self.old.actor.terms.limit) (D.image devices.new.disk.now) }
+    {
+        self.actor
+            .step(alloc, devices, source, message, &mut self.fence, out)
+    }
+
+    /// Takes one more block of a request's ancestry.
+    fn feed<D: Disk, X: SecretStore>(
+        &mut self,
+        alloc: Global,
+        source: &HeldBlocks<'_>,
+        request: u64,
+        block: &Block<Unit>,
+        devices: &mut Devices<'_, D, X>,
+        out: &mut Transcript,
+    ) -> Result<(), Stop>
+        requires ready { IsReadyNode D.tells D.files D.image self.old devices.old }
+        ensures ready { OnOk result (IsReadyNode D.tells D.files D.image self.new devices.new) }
+        ensures terms { self.new.actor.terms ≡ self.old.actor.terms }
+        ensures of { (g : Lived) → IsOfLife g self.old → IsOfLife g self.new }
+        ensures acts { IsTrue D.tells → IsTrue X.tells → (g : Lived) (number : ℕ) (st : Live directory.Unit) → IsOfLife g self.old → MayStep g number st
+            → IsView self.old st
+            → Viewed self.new result (λ ended. Makes D.files D.image X.held (node_step (at_step g number) (Reshare (Feed request block.now)) st) ended
+            devices.old devices.new out.old.entries out.new.entries) }
+        ensures tells { (g : Lived) (number : ℕ) (st : Live directory.Unit) → IsOfLife g self.old → MayStep g number st → IsView self.old st
+            → Viewed self.new result (λ ended. Tells (node_step (at_step g number) (Reshare (Feed request block.now)) st) ended out.old.entries out.new.entries) }
+        ensures moved { Moved D.tells D.made X.made D.faults X.faults devices.old devices.new }
+        ensures causes { IfErr result (λ stop. IsCausedBy D.tells stop (Rose (D.faults devices.old.disk.now) (D.faults devices.new.disk.now))
+            (Rose (X.faults devices.old.secrets.now) (X.faults devices.new.secrets.now)) (Reached devices.old.fuse devices.new.fuse)) }
+        ensures fit { IsTrue D.tells → AreFit (non_zero_u32_get self.old.actor.terms.limit) (D.image devices.old.disk.now)
+            → AreFit (non_zero_u32_get self.old.actor.terms.limit) (D.image devices.new.disk.now) }
+    {
+        let block = block.copy(alloc)?;
+        self.send(
+            alloc,
+            source,
+            Message::Feed { request, block },
+            devices,
+            out,
+        )
     }
 
     /// Takes an event. A block that is delivered is held by then.
@@ -193,7 +267,7 @@ impl Node {
         devices: &mut Devices<'_, D, X>,
         out: &mut Transcript,
     ) -> Result<(), Stop>
-        requires here { IsEventHere (non_zero_u64_get self.old.actor.terms.blocks_per_epoch) source.now self.old.actor.state event.now }
+        requires here { IsEventHere source.now event.now }
         requires ready { IsReadyNode D.tells D.files D.image self.old devices.old }
         ensures ready { OnOk result (IsReadyNode D.tells D.files D.image self.new devices.new) }
         ensures terms { self.new.actor.terms ≡ self.old.actor.terms }
@@ -201,11 +275,11 @@ impl Node {
         // It is the relation's step, and each act was made, whatever image a crash leaves.
         ensures acts { IsTrue D.tells → IsTrue X.tells → (g : Lived) (number : ℕ) (st : Live directory.Unit) → IsOfLife g self.old
             → source.now.blocks.now ≡ blocks_in g.script → MayStep g number st
-            → IsEarlyEvent (at_step g number).blocks_per_epoch (blocks_in g.script) st event.now → IsView self.old st
+            → IsView self.old st
             → Viewed self.new result (λ ended. Makes D.files D.image X.held (step_of g number event.now st) ended
             devices.old devices.new out.old.entries out.new.entries) }
         ensures tells { (g : Lived) (number : ℕ) (st : Live directory.Unit) → IsOfLife g self.old → source.now.blocks.now ≡ blocks_in g.script
-            → MayStep g number st → IsEarlyEvent (at_step g number).blocks_per_epoch (blocks_in g.script) st event.now → IsView self.old st
+            → MayStep g number st → IsView self.old st
             → Viewed self.new result (λ ended. Tells (step_of g number event.now st) ended out.old.entries out.new.entries) }
         ensures moved { Moved D.tells D.made X.made D.faults X.faults devices.old devices.new }
         ensures causes { IfErr result (λ stop. IsCausedBy D.tells stop (Rose (D.faults devices.old.disk.now) (D.faults devices.new.disk.now))
@@ -226,6 +300,23 @@ impl Node {
                 Some(block) => self.deliver(alloc, source, block, devices, out),
                 None => unreachable!(),
             },
+            Event::Info { request } => {
+                let message = Message::EpochInfo { request: *request };
+                self.send(alloc, source, message, devices, out)
+            }
+            Event::Feed { request, block } => match source.of_number(*block) {
+                Some(block) => self.feed(alloc, source, *request, block, devices, out),
+                None => unreachable!(),
+            },
+            Event::Over { request } => {
+                let message = Message::Over { request: *request };
+                self.send(alloc, source, message, devices, out)
+            }
+            Event::Cancel { request } => {
+                let message = Message::Cancel { request: *request };
+                self.send(alloc, source, message, devices, out)
+            }
+            Event::Work => self.send(alloc, source, Message::Work, devices, out),
             _ => unreachable!(),
         }
     }

@@ -1,14 +1,13 @@
 -- Whether a script is of the form that is run so far, as a test, and what reading such a script answers.
-use Rattle.std.specs.Prelude.{◌≡◌, ℕ, suc, ◌<◌, ◌^◌, ◌==◌, ◌&&◌, not, nat_le, nat_lt, Bool, true, false}
-use Rattle.std.specs.Prelude.{List, [], ◌∷◌, length, is_none, is_some, Option, None, Some, option_map, IfSome, Result, Ok, Err}
-use Rattle.std.specs.Int.NonZero.{non_zero_u32_get, non_zero_u64_get}
+use Rattle.std.specs.Prelude.{◌≡◌, ℕ, ◌<◌, ◌^◌, ◌==◌, ◌&&◌, not, nat_le, nat_lt, Bool, true, false}
+use Rattle.std.specs.Prelude.{List, [], ◌∷◌, length, is_some, None, IfSome, Result, Ok, Err}
+use Rattle.std.specs.Int.NonZero.{non_zero_u32_get}
 use Rattle.std.specs.List.{AllByRecursion}
-use Rattle.std.specs.Option.{option_map_or}
 use Rattle.dkg_text.specs.declared.error.ScriptError.{ScriptError}
 use Rattle.dkg_text.specs.declared.error.ScriptError.TheVariants as error
 use Rattle.dkg_text.specs.declared.script.BlockLine.{BlockLine}
 use Rattle.dkg_text.specs.declared.script.Event.{Event}
-use Rattle.dkg_text.specs.declared.script.Event.TheVariants.{Peer, Final}
+use Rattle.dkg_text.specs.declared.script.Event.TheVariants.{Peer, Final, Info, Feed, Over, Cancel, Work}
 use Rattle.dkg_text.specs.declared.script.Life.{Life}
 use Rattle.dkg_text.specs.declared.script.Script.{Script}
 use Rattle.dkg_text.specs.declared.script.ScriptConfig.{ScriptConfig}
@@ -16,7 +15,6 @@ use Rattle.dkg_text.specs.Laws.{IsPlace}
 use Rattle.dkg_script.specs.declared.read.ReadError.{ReadError}
 use Rattle.dkg_script.specs.declared.read.ReadError.TheVariants.{Bad, Unsupported, NoMemory}
 use Rattle.dkg_script.specs.Epochs.{IsAnchorIn, IsBlockIn}
-use Rattle.dkg_script.specs.Walk.{late_event}
 
 -- THE CONFIGURATION
 
@@ -40,45 +38,40 @@ is_plain config = is_alone config && is_limit config && is_key config.me
 
 -- THE LIVES
 
--- a message of the dealing channel, or one of so many blocks
+-- a message of the dealing channel, one of so many blocks, or a message of a final-block request
 abbrev pub is_event : (blocks : ℕ) → Event → Bool
 is_event blocks (Peer from bytes) = is_key from
 is_event blocks (Final number) = nat_lt number blocks
+is_event blocks (Info request) = true
+is_event blocks (Feed request number) = nat_lt number blocks
+is_event blocks (Over request) = true
+is_event blocks (Cancel request) = true
+is_event blocks Work = true
 is_event blocks _ = false
 
 abbrev pub are_events : (blocks : ℕ) → List Event → Bool
 are_events blocks [] = true
 are_events blocks (event ∷ events) = is_event blocks event && are_events blocks events
 
--- a life without material, to which no late block is delivered unless it follows
-abbrev pub is_life : (blocks_per_epoch : ℕ) → List BlockLine → Life → Bool
-is_life n blocks life = not (is_some life.sync) && are_events (length blocks) life.events && is_none (late_event n blocks life)
+-- a life without material
+abbrev pub is_life : (blocks : ℕ) → Life → Bool
+is_life blocks life = not (is_some life.sync) && are_events blocks life.events
 
-abbrev pub are_lives : (blocks_per_epoch : ℕ) → List BlockLine → List Life → Bool
-are_lives n blocks [] = true
-are_lives n blocks (life ∷ lives) = is_life n blocks life && are_lives n blocks lives
+abbrev pub are_lives : (blocks : ℕ) → List Life → Bool
+are_lives blocks [] = true
+are_lives blocks (life ∷ lives) = is_life blocks life && are_lives blocks lives
 
 -- THE SCRIPT
 
 unfoldable pub is_built : Script → Bool
 is_built script =
-    not script.addressed && is_plain script.config && are_lives (non_zero_u64_get script.config.blocks_per_epoch) script.blocks script.lives
+    not script.addressed && is_plain script.config && are_lives (length script.blocks) script.lives
 
 -- What the script of any text has: its blocks' payloads are read, their heights are numbers of 64 bits, and no position lies below height 0.
 pub record IsOfText (script : Script) : Type 0 where
   pub blocks : AllByRecursion (IsBlockIn script) script.blocks
   pub placed : AllByRecursion (λ block. block.height < 2 ^ 64) script.blocks
   pub anchors : AllByRecursion (λ life. IfSome life.anchor (IsAnchorIn script.blocks)) script.lives
-
--- THE FIRST LATE EVENT: the numbers of its life and of the event in it
-
-abbrev pub first_in : (blocks_per_epoch : ℕ) → List BlockLine → List Life → Option (ℕ × ℕ)
-first_in n blocks [] = None
-first_in n blocks (life ∷ lives) =
-    option_map_or (λ event. Some (0, event)) (late_event n blocks life) (option_map (λ place. (suc place.0, place.1)) (first_in n blocks lives))
-
-unfoldable pub first_late : Script → Option (ℕ × ℕ)
-first_late script = first_in (non_zero_u64_get script.config.blocks_per_epoch) script.blocks script.lives
 
 -- READING
 

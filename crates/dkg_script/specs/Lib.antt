@@ -7,6 +7,7 @@ pub mod Due
 pub mod Ends
 pub mod Epochs
 pub mod Form
+pub mod Inclusion
 pub mod Kept
 pub mod Laws
 pub mod Order
@@ -20,5 +21,4 @@ pub mod Setting
 pub mod Starts
 pub mod Valid
 pub mod Views
-pub mod Walk
 pub use Rattle.dkg_ceremony.specs.Schedule

@@ -11,7 +11,7 @@ use Rattle.dkg_types.specs.declared.entry.Entry.{Entry}
 use Rattle.dkg_types.specs.declared.entry.Entry.TheVariants.{Step}
 use Rattle.dkg_text.specs.declared.script.Script.{Script}
 use Rattle.dkg_script.specs.Readings.{Material}
-use Rattle.dkg_script.specs.Epochs.{IsFormOfEpochs}
+use Rattle.dkg_script.specs.Inclusion.{IsFormOfInclusion}
 use Rattle.dkg_script.specs.Setting.{Setting, CutAt, setting_of}
 use Rattle.dkg_script.specs.Position.{IsPlanHistory}
 use Rattle.dkg_script.specs.Progress.{progress}
@@ -47,7 +47,7 @@ pub record AreHonestStores (s : Setting) (image : Files → Type 0) : Type 0 whe
 
 -- What is built so far: the form of script that is read, and no plan.
 pub record IsBuilt (s : Setting) : Type 0 where
-  pub form : IsFormOfEpochs s.script
+  pub form : IsFormOfInclusion s.script
   pub no_plan : get s.files Plan ≡ None
 
 -- The premise of the whole promise, of the stores and of the script, whose first lives ended so.

@@ -7,7 +7,7 @@ use Rattle.dkg_types.specs.declared.entry.Entry.TheVariants.{Offer}
 use Rattle.dkg_text.specs.declared.script.Script.{Script}
 use Rattle.dkg_script.specs.AsCut.{setting_as_cut}
 use Rattle.dkg_script.specs.Consistent.{IsConsistentScript}
-use Rattle.dkg_script.specs.Epochs.{IsFormOfEpochs}
+use Rattle.dkg_script.specs.Inclusion.{IsFormOfInclusion}
 use Rattle.dkg_script.specs.Progress.{progress}
 
 -- Whatever is offered to a player in an epoch is the same at each time.
@@ -17,4 +17,4 @@ pub record SameOffers (out : List Entry) : Type 0 where
 
 -- Over the entries that a run adds, whatever ends it: so it is of a script of the form that is consistent where its lives ended so. (It is judged as it was cut.)
 abbrev pub OffersTheSame : Script → Files → Secrets → List Entry → Type 0
-OffersTheSame script files secrets out = let s = setting_as_cut script files secrets out in IsFormOfEpochs s.script → IsConsistentScript s (progress s out).cuts → SameOffers out
+OffersTheSame script files secrets out = let s = setting_as_cut script files secrets out in IsFormOfInclusion s.script → IsConsistentScript s (progress s out).cuts → SameOffers out

@@ -2,10 +2,9 @@
 ghost use Rattle.std.specs.Bool.{OnFalse, OnTrue};
 ghost use Rattle.std.specs.Prelude.{◌≡◌, ◌<◌, ◌^◌, IfOk, length};
 ghost use Rattle.std.specs.Int.NonZero.{non_zero_u64_get};
-ghost use Rattle.dkg_script.specs.Built.{IsOfText, IsToldNothing, are_events as are_events_of, are_lives as are_lives_of, first_late as first_late_of, is_alone as is_alone_of, is_built as is_built_of, is_event as is_event_of, is_key as is_key_of, is_life as is_life_of, is_limit as is_limit_of, is_plain as is_plain_of};
-ghost use Rattle.dkg_script.specs.Epochs.{IsFormOfEpochs};
+ghost use Rattle.dkg_script.specs.Built.{IsOfText, IsToldNothing, are_events as are_events_of, are_lives as are_lives_of, is_alone as is_alone_of, is_built as is_built_of, is_event as is_event_of, is_key as is_key_of, is_life as is_life_of, is_limit as is_limit_of, is_plain as is_plain_of};
+ghost use Rattle.dkg_script.specs.Inclusion.{IsFormOfInclusion};
 
-use crate::walk::late_event;
 use dkg_ceremony::Mem;
 use dkg_text::{BlockLine, Event, Events, Life, Script, ScriptConfig};
 use std::alloc::Global;
@@ -36,13 +35,14 @@ fn is_plain(config: &ScriptConfig) -> bool
     is_alone(config) && is_limit(config) && is_key(config.me.0)
 }
 
-/// A message of the dealing channel, or a block.
+/// A message of the dealing channel, a block, or a message of a final-block request.
 fn is_event(blocks: &[BlockLine], event: &Event<'_>) -> bool
     ensures { result ≡ is_event_of (length blocks.now) event.now }
 {
     match event {
         Event::Peer { from, .. } => is_key(from.0),
-        Event::Final { block } => (*block as usize) < blocks.len(),
+        Event::Final { block } | Event::Feed { block, .. } => (*block as usize) < blocks.len(),
+        Event::Info { .. } | Event::Over { .. } | Event::Cancel { .. } | Event::Work => true,
         _ => false,
     }
 }
@@ -58,22 +58,18 @@ fn are_events(blocks: &[BlockLine], events: &Events) -> bool
     true
 }
 
-/// A life without material, in which from the midpoint of an epoch on no block of it is delivered while the node takes part in it.
-fn is_life(blocks_per_epoch: u64, blocks: &[BlockLine], life: &Life) -> bool
-    requires some { 0 < blocks_per_epoch }
-    ensures { result ≡ is_life_of blocks_per_epoch blocks.now life.now }
+/// A life without material.
+fn is_life(blocks: &[BlockLine], life: &Life) -> bool
+    ensures { result ≡ is_life_of (length blocks.now) life.now }
 {
-    !life.sync.is_some()
-        && are_events(blocks, &life.events)
-        && late_event(blocks_per_epoch, blocks, life).is_none()
+    !life.sync.is_some() && are_events(blocks, &life.events)
 }
 
-fn are_lives(blocks_per_epoch: u64, blocks: &[BlockLine], lives: &[Life]) -> bool
-    requires some { 0 < blocks_per_epoch }
-    ensures { result ≡ are_lives_of blocks_per_epoch blocks.now lives.now }
+fn are_lives(blocks: &[BlockLine], lives: &[Life]) -> bool
+    ensures { result ≡ are_lives_of (length blocks.now) lives.now }
 {
     for life in lives {
-        if !is_life(blocks_per_epoch, blocks, life) {
+        if !is_life(blocks, life) {
             return false;
         }
     }
@@ -85,14 +81,10 @@ fn passes(script: &Script) -> bool
     ensures exact { result ≡ is_built_of script.now }
     ensures short { non_zero_u64_get script.now.config.blocks_per_epoch < 2 ^ 64 }
 {
-    let blocks_per_epoch = script.config.blocks_per_epoch.get();
+    let _blocks_per_epoch = script.config.blocks_per_epoch.get();
     !script.addressed
         && is_plain(&script.config)
-        && are_lives(
-            blocks_per_epoch,
-            script.blocks.as_slice(),
-            script.lives.as_slice(),
-        )
+        && are_lives(script.blocks.as_slice(), script.lives.as_slice())
 }
 
 /// Whether a script is of the form that is run so far.
@@ -101,24 +93,9 @@ fn passes(script: &Script) -> bool
 pub fn is_built(_alloc: Global, script: &Script) -> Mem<bool>
     ensures exact { IfOk result (λ yes. yes ≡ is_built_of script.now) }
     // What it asks of a script of a text is the form's.
-    ensures form { IfOk result (λ yes. OnTrue yes (IsOfText script.now → IsFormOfEpochs script.now)) }
+    ensures form { IfOk result (λ yes. OnTrue yes (IsOfText script.now → IsFormOfInclusion script.now)) }
     // .. and nothing else, where the node is told nothing besides.
-    ensures refused { IfOk result (λ yes. OnFalse yes (IsFormOfEpochs script.now → IsToldNothing script.now.config → ⊥)) }
+    ensures refused { IfOk result (λ yes. OnFalse yes (IsFormOfInclusion script.now → IsToldNothing script.now.config → ⊥)) }
 {
     Ok(passes(script))
-}
-
-/// The first event for which the node is not built yet: the numbers of its life and of the event in it. It delivers a block at or above the
-/// midpoint of an epoch that the life awaits and takes part in.
-#[tactic(auto, unfolding(crate::specs::Built::first_late))]
-pub fn first_late(script: &Script) -> Option<(usize, usize)>
-    ensures { result ≡ first_late_of script.now }
-{
-    let blocks_per_epoch = script.config.blocks_per_epoch.get();
-    for (number, life) in script.lives.as_slice().iter().enumerate() {
-        if let Some(event) = late_event(blocks_per_epoch, script.blocks.as_slice(), life) {
-            return Some((number, event));
-        }
-    }
-    None
 }

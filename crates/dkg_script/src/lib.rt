@@ -6,7 +6,7 @@
 //! `specs/Laws.antt` has what follows for a dealer and for the node; the calls below prove it. From there one goes down as far as one
 //! wants: `Order` (where an entry may stand), `Due` (when an acknowledgement is owed), `Consistent`, `OwnMarks` and `Valid` (what is
 //! presumed of a script), `AsCut` and `AsCutLaws` (a script as its lives were cut, and what stays of it), `Ends` (how entries end), and
-//! below these `Progress`, `Position`, `Blocks`, `Setting` and `Readings`. Which scripts are run so far is `Epochs`, which the promise
+//! below these `Progress`, `Position`, `Blocks`, `Setting` and `Readings`. Which scripts are run so far is `Inclusion`, which the promise
 //! presumes, and `Built`, by which `read_built` answers.
 #![tactic(auto)]
 
@@ -14,16 +14,15 @@ mod built;
 mod promise;
 mod read;
 mod start;
-mod walk;
 
-pub use built::{first_late, is_built};
+pub use built::is_built;
 pub use dkg_text::{
     Anchor, BlockLine, BlockLines, Cut, Event, Events, Indexes, Life, Lives, PlayerLine,
     PlayerLines, ProbeLine, Script, ScriptConfig, SyncLine, print_of,
 };
 pub use promise::{
     acknowledged_survives, acknowledges_once, comes_as_far, ends_as_scripted, honest_anyhow,
-    lies_within_epochs, own_marks_stand_before, stays_in_order, stays_in_order_as_cut, stays_kept,
-    stays_of_epochs, stays_of_today, valid_anyhow, valid_as_cut,
+    lies_within_epochs, lies_within_inclusion, own_marks_stand_before, stays_in_order,
+    stays_in_order_as_cut, stays_kept, stays_of_epochs, stays_of_today, valid_anyhow, valid_as_cut,
 };
 pub use read::{ReadError, read_built};

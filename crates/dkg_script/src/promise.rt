@@ -3,6 +3,7 @@
 //! Each law is a call without a body, whose contract is the law. Whoever relies on the promise cites them.
 ghost use Rattle.dkg_script.specs.AsCutLaws.{ComesAsFar, HonestAnyhow, StaysInOrderAsCut, StaysOfEpochs, StaysOfToday, ValidAnyhow, ValidAsCut};
 ghost use Rattle.dkg_script.specs.Epochs.{TodayIsOfEpochs};
+ghost use Rattle.dkg_script.specs.Inclusion.{EpochsIsOfInclusion};
 ghost use Rattle.dkg_script.specs.Laws.{AcknowledgesOnce, AcknowledgesOnceAgain, AcknowledgedSurvives, EndsAsScripted, OwnMarksStandBefore, StaysInOrder, StaysKept};
 
 use dkg_journal::Disk;
@@ -65,6 +66,11 @@ pub fn stays_of_epochs()
 /// A script within the first epoch is of the form of epochs.
 pub fn lies_within_epochs()
     ensures { TodayIsOfEpochs }
+{}
+
+/// A script of the form of epochs is of the form of inclusion.
+pub fn lies_within_inclusion()
+    ensures { EpochsIsOfInclusion }
 {}
 
 /// A script that is consistent wherever its cuts fall is consistent as it was cut.

@@ -1,11 +1,11 @@
 //! The reading of a script that is to be run; the program calls it on the bytes that it was given.
 //!
-//! There is one form yet that is run: a reshare of any blocks, whose lives begin anywhere and receive messages of the dealing channel and
-//! blocks, but none at or above the midpoint of an epoch that the life awaits and takes part in.
+//! There is one form yet that is run: a reshare of any blocks, whose lives begin anywhere and receive messages of the dealing channel, blocks,
+//! and messages of final-block requests.
 ghost use Rattle.std.specs.Prelude.{◌≡◌, IfOk};
 ghost use Rattle.dkg_text.specs.Grammar.{script_or_place};
 ghost use Rattle.dkg_script.specs.Built.{ReadsBuilt, TellsPlace, refusal_of};
-ghost use Rattle.dkg_script.specs.Epochs.{IsFormOfEpochs};
+ghost use Rattle.dkg_script.specs.Inclusion.{IsFormOfInclusion};
 ghost use Rattle.dkg_script.specs.declared.read.ReadError.TheVariants.{NoMemory as OutOfMemory};
 
 use crate::built::is_built;
@@ -59,7 +59,7 @@ pub fn read_built(alloc: Global, bytes: &[u8], addressed: bool) -> Result<Script
     ensures reads { ReadsBuilt (script_or_place addressed bytes.now) result }
     // Some script's text begins with the lines before the place that is told, and none's goes on with the line there.
     ensures place { TellsPlace addressed bytes.now result }
-    ensures form { IfOk result IsFormOfEpochs }
+    ensures form { IfOk result IsFormOfInclusion }
 {
     let script = read_script(alloc, bytes, addressed)?;
     if is_built(alloc, &script)? {

@@ -1,18 +1,14 @@
 -- What is said of a script of a form that isn't run yet: its first line that isn't run, and what of it.
-use Rattle.std.specs.Prelude.{ℕ, ◌+◌, ◌-◌, ◌^◌, min, nat_lt, if◌then◌else◌, List, [], ◌∷◌, ◌++◌, length, codes, Option, Some, None, Result, Ok, Err, false}
+use Rattle.std.specs.Prelude.{ℕ, ◌+◌, ◌-◌, ◌^◌, min, if◌then◌else◌, List, [], ◌∷◌, ◌++◌, length, codes, Option, Some, None}
 use Rattle.std.specs.Prelude.{option_and_then}
-use Rattle.dkg_text.specs.declared.script.Script.{Script}
-use Rattle.dkg_text.specs.Grammar.{script_or_place}
-use Rattle.dkg_script.specs.Built.{first_late}
 use Rattle.dkg_words.specs.declared.names.Name.{Name}
 use Rattle.dkg_words.specs.declared.names.Name.TheVariants as name
 use Rattle.dkg_words.specs.declared.unbuilt.Named.{Named}
 use Rattle.dkg_words.specs.declared.unbuilt.Why.{Why}
-use Rattle.dkg_words.specs.declared.unbuilt.Why.TheVariants.{Oneshot, Addresses, Probe, Late, Sync, Event}
+use Rattle.dkg_words.specs.declared.unbuilt.Why.TheVariants.{Oneshot, Addresses, Probe, Sync, Event}
 use Rattle.dkg_words.specs.Before.{counted}
 use Rattle.dkg_words.specs.Lines.{name_in, over_lines}
 use Rattle.dkg_words.specs.Names.{is_event, name_by}
-use Rattle.dkg_words.specs.Seek.{place_of}
 use Rattle.dkg_words.specs.Told.{line_told}
 
 -- what isn't run yet
@@ -20,13 +16,12 @@ abbrev pub why_words : Why → List ℕ
 why_words Oneshot = codes "one-shot mode"
 why_words Addresses = codes "addresses"
 why_words Probe = codes "a probe"
-why_words Late = codes "a block from its epoch's midpoint on, where the node takes part in the epoch"
 why_words Sync = codes "a state sync"
 why_words Event = codes "this event"
 
 -- BY ITS NAME
 
--- Why no line of a name is run: of the events a message and a block are.
+-- Why no line of a name is run: of the events a message, a block, and the messages of a final-block request are.
 abbrev pub why_named : Name → Option Why
 why_named name.Oneshot = Some Oneshot
 why_named name.Address = Some Addresses
@@ -34,6 +29,11 @@ why_named name.Probe = Some Probe
 why_named name.Sync = Some Sync
 why_named name.Peer = None
 why_named name.Final = None
+why_named name.Info = None
+why_named name.Feed = None
+why_named name.Over = None
+why_named name.Cancel = None
+why_named name.Work = None
 why_named its = if is_event its then Some Event else None
 
 abbrev pub why_line : (line : List ℕ) → Option Why
@@ -52,32 +52,15 @@ named_after named line = record { at = counted (min (named.at + length line) (2 
 abbrev pub named_place : (text : List ℕ) → Option (ℕ × Why)
 named_place text = (over_lines named_after (record { at = 0; found = None }) [] text).found
 
--- BY WHERE THE NODE STANDS
-
--- where the line of an event begins, by the number of its life and its own in it
-abbrev pub event_place : (text : List ℕ) → Option (ℕ × ℕ) → Option ℕ
-event_place text (Some its) = place_of text its.0 (counted its.1)
-event_place text None = None
-
-abbrev pub late_place_in : (text : List ℕ) → Result Script ℕ → Option ℕ
-late_place_in text (Ok script) = event_place text (first_late script)
-late_place_in text (Err place) = None
-
--- where the first line begins that delivers a block for which the node isn't built yet (of a script whose directories hold addresses none is looked for)
-abbrev pub late_place : (text : List ℕ) → Option ℕ
-late_place text = late_place_in text (script_or_place false text)
-
 -- WHICH LINE IS TOLD
 
--- the earlier of the two; where there is neither, the script's directories hold addresses
-abbrev pub earlier : Option (ℕ × Why) → Option ℕ → ℕ × Why
-earlier (Some its) (Some late) = if nat_lt its.0 late then its else (late, Late)
-earlier None (Some late) = (late, Late)
-earlier (Some its) None = its
-earlier None None = (0, Addresses)
+-- where there is none, the script's directories hold addresses
+abbrev pub named_or : Option (ℕ × Why) → ℕ × Why
+named_or (Some its) = its
+named_or None = (0, Addresses)
 
 unfoldable pub unbuilt_of : (text : List ℕ) → ℕ × Why
-unbuilt_of text = earlier (named_place text) (late_place text)
+unbuilt_of text = named_or (named_place text)
 
 abbrev pub told_of : (text : List ℕ) → ℕ × Why → List ℕ
 told_of text its = line_told text its.0 ++ codes ": not run yet: " ++ why_words its.1 ++ 10 ∷ []

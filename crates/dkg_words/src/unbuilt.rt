@@ -1,16 +1,12 @@
 //! The line that is said of a script of a form that isn't run yet.
 ghost use Rattle.std.specs.Prelude.{◌≡◌, IfOk};
-ghost use Rattle.dkg_words.specs.Unbuilt.{earlier as earlier_of, event_place as event_place_of, found_after, late_place as late_place_of, named_place as named_place_of, told_of, unbuilt_of, unbuilt_text, why_line as why_line_of, why_named as why_named_of, why_words};
+ghost use Rattle.dkg_words.specs.Unbuilt.{found_after, named_or as named_or_of, named_place as named_place_of, told_of, unbuilt_of, unbuilt_text, why_line as why_line_of, why_named as why_named_of, why_words};
 
 use crate::bad::put_line;
-use crate::before::counted;
 use crate::lines::{Walk, go_over, until};
 use crate::names::{Name, is_event, name_of};
 use crate::put::put;
-use crate::seek::place;
-use dkg_script::first_late;
-use dkg_text::{ScriptError, read_script};
-use dkg_values::{Mem, NoMemory};
+use dkg_values::Mem;
 use std::alloc::Global;
 
 /// What isn't run yet.
@@ -19,7 +15,6 @@ pub(crate) enum Why {
     Oneshot,
     Addresses,
     Probe,
-    Late,
     Sync,
     Event,
 }
@@ -31,8 +26,6 @@ fn words(why: Why) -> &'static [u8]
         Why::Oneshot => b"one-shot mode",
         Why::Addresses => b"addresses",
         Why::Probe => b"a probe",
-        Why::Late =>
-            b"a block from its epoch's midpoint on, where the node takes part in the epoch",
         Why::Sync => b"a state sync",
         Why::Event => b"this event",
     }
@@ -47,7 +40,13 @@ fn why_named(name: Name) -> Option<Why>
         Name::Address => Some(Why::Addresses),
         Name::Probe => Some(Why::Probe),
         Name::Sync => Some(Why::Sync),
-        Name::Peer | Name::Final => None,
+        Name::Peer
+        | Name::Final
+        | Name::Info
+        | Name::Feed
+        | Name::Over
+        | Name::Cancel
+        | Name::Work => None,
         _ => {
             if is_event(name) {
                 Some(Why::Event)
@@ -110,52 +109,22 @@ fn named_place(text: &[u8]) -> Option<(u64, Why)>
     named.found
 }
 
-/// Where the line of an event begins, by the number of its life and its own in it.
-fn event_place(text: &[u8], event: Option<(usize, usize)>) -> Option<u64>
-    ensures { result ≡ event_place_of text.now event }
+/// What was found. Where nothing was, the script's directories hold addresses.
+fn named_or(named: Option<(u64, Why)>) -> (u64, Why)
+    ensures { result ≡ named_or_of named }
 {
-    match event {
-        Some((life, number)) => place(text, life as u64, counted(number as u64)),
-        None => None,
-    }
-}
-
-/// Where the first line of an event begins for which the node isn't built yet, of all lines that deliver blocks.
-fn late_place(alloc: Global, text: &[u8]) -> Mem<Option<u64>>
-    ensures { IfOk result (λ found. found ≡ late_place_of text.now) }
-{
-    match read_script(alloc, text, false) {
-        Ok(script) => Ok(event_place(text, first_late(&script))),
-        Err(ScriptError::NoMemory) => Err(NoMemory),
-        Err(ScriptError::Bad { .. }) => Ok(None),
-    }
-}
-
-/// The earlier of the two. Where there is neither, the script's directories hold addresses.
-fn earlier(named: Option<(u64, Why)>, late: Option<u64>) -> (u64, Why)
-    ensures { result ≡ earlier_of named late }
-{
-    match (named, late) {
-        (Some((place, why)), Some(late)) => {
-            if place < late {
-                (place, why)
-            } else {
-                (late, Why::Late)
-            }
-        }
-        (None, Some(late)) => (late, Why::Late),
-        (Some(found), None) => found,
-        (None, None) => (0, Why::Addresses),
+    match named {
+        Some(found) => found,
+        None => (0, Why::Addresses),
     }
 }
 
 /// The first line of a script that isn't run: where it begins, and why.
 #[tactic(auto, unfolding(crate::specs::Unbuilt::unbuilt_of))]
-fn first(alloc: Global, text: &[u8]) -> Mem<(u64, Why)>
-    ensures { IfOk result (λ its. its ≡ unbuilt_of text.now) }
+fn first(text: &[u8]) -> (u64, Why)
+    ensures { result ≡ unbuilt_of text.now }
 {
-    let late = late_place(alloc, text)?;
-    Ok(earlier(named_place(text), late))
+    named_or(named_place(text))
 }
 
 fn line_of(alloc: Global, text: &[u8], its: (u64, Why)) -> Mem<Vec<u8>>
@@ -173,6 +142,5 @@ fn line_of(alloc: Global, text: &[u8], its: (u64, Why)) -> Mem<Vec<u8>>
 pub fn unbuilt_line(alloc: Global, text: &[u8]) -> Mem<Vec<u8>>
     ensures { IfOk result (λ line. line.items ≡ unbuilt_text text.now) }
 {
-    let its = first(alloc, text)?;
-    line_of(alloc, text, its)
+    line_of(alloc, text, first(text))
 }

@@ -1,0 +1,435 @@
+//! The last block of an epoch that the node takes part in: the epoch's artifact is derived, what the block carries is committed and
+//! registered, the requests that are left are answered, and the next epoch is set up, all in one step.
+//!
+//! Each function here is a part of the relation's `final_block`, and names it.
+ghost use Rattle.std.specs.Prelude.{◌≡◌, ◌+◌, [], IfErr, IfOk, IsSomeAnd, IsTrue, None, OnOk, Some, option_map};
+ghost use Rattle.std.specs.Int.NonZero.{non_zero_u32_get};
+ghost use Rattle.std.specs.Int.NonZero.{non_zero_u64_get};
+ghost use Rattle.dkg_ceremony.specs.declared.round.Round.{Round};
+ghost use Rattle.dkg_fence.specs.Readiness.{Readiness};
+ghost use Rattle.dkg_journal.specs.Disk.{Rose};
+ghost use Rattle.dkg_journal.specs.Fuse.{Reached};
+ghost use Rattle.dkg_core.specs.Fixed.{Fixed};
+ghost use Rattle.dkg_core.specs.Including as including;
+ghost use Rattle.dkg_reshare.specs.Actors.{IsReadyLife};
+ghost use Rattle.dkg_reshare.specs.Ends.{IsCaused, ends_in};
+ghost use Rattle.dkg_reshare.specs.Given.{IsOf, ReadsToday};
+ghost use Rattle.dkg_reshare.specs.LiveOf.{Beside, EndsWith, live_of};
+ghost use Rattle.dkg_reshare.specs.Made.{Makes, Tells};
+ghost use Rattle.dkg_reshare.specs.Moved.{Moved};
+ghost use Rattle.dkg_reshare.specs.Rules.{IncludesBy, IsRuledBy, SameProvided};
+ghost use Rattle.dkg_ceremony.specs.Schedule.{epoch_of};
+ghost use Rattle.dkg_store.specs.Corrupt.{AreFit};
+ghost use Rattle.dkg_core.specs.Blocks as blocks;
+ghost use Rattle.dkg_reshare.specs.Ends.{IsCausedBy, ends};
+ghost use Rattle.dkg_reshare.specs.Given.{IsIn};
+ghost use Rattle.dkg_reshare.specs.Including.{derives_by, derives_final, derives_now};
+ghost use Rattle.dkg_reshare.specs.InclusionOf.{IsReadyInclusion, IsSeen, artifact_of, cached_of};
+ghost use Rattle.dkg_reshare.specs.LiveOf.{Took};
+ghost use Rattle.dkg_reshare.specs.Made.{Speaks};
+ghost use Rattle.dkg_reshare.specs.declared.life.Life.{Life};
+ghost use Rattle.dkg_reshare.specs.declared.life.Stage.TheVariants.{Including};
+
+use crate::answers::answer_none;
+use crate::artifacts::keep_artifact;
+use crate::config::Terms;
+use crate::inclusion::Inclusion;
+use crate::life::Life;
+use crate::setup::{EpochSecrets, commit_and_register, secrets_with, set_up_committed};
+use crate::stop::Stop;
+use crate::tip::tip_of;
+use crate::verifying::{canonical, end_verifying, job_for, retain, verify};
+use dkg_artifact::{Artifact, ArtifactCache};
+use dkg_ceremony::{Ceremony, DealerLog, Share};
+use dkg_fence::Fence;
+use dkg_journal::Disk;
+use dkg_store::{Devices, SecretStore};
+use dkg_types::{Block, Directory, EpochInfo, ParticipantsProvider, Registrar, Transcript, Why};
+use dkg_values::{Map, Mem, Value};
+use std::alloc::Global;
+
+/// A copy of the artifact that is kept for some logs, if one is (`cached_for`).
+fn kept_for<Dir: Directory + Drop>(
+    alloc: Global,
+    cache: &ArtifactCache<Dir>,
+    logs: &Map<DealerLog>,
+) -> Mem<Option<Artifact<Dir>>>
+    ensures { IfOk result (λ made. option_map artifact_of made ≡ including.cached_for (option_map cached_of cache.now) logs.now) }
+{
+    match cache.get(logs) {
+        None => Ok(None),
+        Some(artifact) => Ok(Some(artifact.copy(alloc)?)),
+    }
+}
+
+/// Verifies the canonical logs within the step, and keeps the result (`verifies_now` but its end).
+fn verify_now<C: Ceremony + Drop, Dir: Directory + Drop>(
+    alloc: Global,
+    ceremony: &C,
+    terms: &Terms,
+    life: &Life<Dir>,
+    inclusion: &mut Inclusion<C, Dir>,
+    logs: &Map<DealerLog>,
+) -> Result<(), Stop>
+    requires includes { life.now.stage ≡ Including }
+    requires idle { inclusion.old.verification.running ≡ None }
+    ensures rest { inclusion.new ≡ record inclusion.old { verification = inclusion.new.verification; waiter = inclusion.new.waiter } }
+    ensures ready { OnOk result (IsSomeAnd inclusion.new.verification.kept (λ r. r.logs ≡ logs.now)) }
+    ensures causes { IfErr result (λ stop. IsCaused stop ⊥ ⊥ ⊥) }
+{
+    let Some(round) = &life.round else {
+        return Ok(());
+    };
+    let job = job_for(
+        alloc,
+        ceremony,
+        terms.me,
+        &life.store,
+        round,
+        logs.copy(alloc)?,
+    )?;
+    let verified = verify(alloc, ceremony, job)?;
+    Ok(retain(alloc, life, inclusion, verified)?)
+}
+
+/// Sees to it that the result of the canonical logs is the one that is kept (`derives_now` but its end).
+fn see_verified<C: Ceremony + Drop, Dir: Directory + Drop>(
+    alloc: Global,
+    ceremony: &C,
+    terms: &Terms,
+    life: &Life<Dir>,
+    inclusion: &mut Inclusion<C, Dir>,
+    logs: &Map<DealerLog>,
+) -> Result<(), Stop>
+    requires includes { life.now.stage ≡ Including }
+    requires idle { inclusion.old.verification.running ≡ None }
+    ensures rest { inclusion.new ≡ record inclusion.old { verification = inclusion.new.verification; waiter = inclusion.new.waiter } }
+    ensures ready { OnOk result (IsSomeAnd inclusion.new.verification.kept (λ r. r.logs ≡ logs.now)) }
+    ensures causes { IfErr result (λ stop. IsCaused stop ⊥ ⊥ ⊥) }
+{
+    if inclusion.verification.ready(logs).is_some() {
+        return Ok(());
+    }
+    verify_now(alloc, ceremony, terms, life, inclusion, logs)
+}
+
+/// The artifact of the canonical logs by their result, which is found now where none is kept (`derives_now` but its end).
+fn derive_now<
+    C: Ceremony + Drop,
+    P: ParticipantsProvider<Dir = Dir>,
+    Dir: Directory + Drop,
+    D: Disk,
+    X: SecretStore,
+>(
+    alloc: Global,
+    ceremony: &C,
+    provider: &mut P,
+    terms: &Terms,
+    life: &mut Life<Dir>,
+    inclusion: &mut Inclusion<C, Dir>,
+    devices: &mut Devices<'_, D, X>,
+    logs: &Map<DealerLog>,
+) -> Result<Artifact<Dir>, Stop>
+    requires ready { IsReadyLife D.tells D.files D.image C.ack_of C.deal_of C.check_ack_of terms.now life.old devices.old }
+    requires including { IsReadyInclusion C.check_log_of C.dealing_of C.finish_of (non_zero_u64_get terms.now.blocks_per_epoch) life.old inclusion.old }
+    requires includes { life.old.stage ≡ Including }
+    requires idle { inclusion.old.verification.running ≡ None }
+    ensures same { life.new ≡ life.old }
+    ensures provider { IsTrue P.tells → SameProvided (P.participants_of provider.old) (P.participants_of provider.new)
+        (P.directory_of provider.old) (P.directory_of provider.new) }
+    ensures disk { devices.new.disk.now ≡ devices.old.disk.now }
+    ensures held { X.held devices.new.secrets.now ≡ X.held devices.old.secrets.now }
+    ensures acts { IsTrue D.tells → IsTrue X.tells → IsTrue P.tells → (c : Fixed Dir) (round : Round) (beside : Beside Dir) (fence : Readiness)
+        → IsOf terms.now c → ReadsToday c
+        → IsRuledBy C.round_of C.deal_of C.dealing_of C.ack_of C.check_ack_of C.sign_log_of C.bears_ack_of C.share_public_of C.partial_public_of c.rules
+        → IncludesBy C.check_log_of C.outcome_of C.finish_of (P.participants_of provider.old) (P.directory_of provider.old) Dir.spelling Dir.matches_of c
+        → life.old.round ≡ Some round → IsSeen inclusion.old beside.inclusion → EndsWith beside (λ i. OnOk result (IsSeen inclusion.new i)) (λ more. more ≡ [])
+        (λ now. Makes D.files D.image X.held (derives_now c round logs.now (live_of beside fence life.old)) (ends
+        (λ made. (artifact_of made, live_of now fence life.new)) result)
+        devices.old devices.new out.old.entries out.new.entries) }
+    ensures tells { IsTrue P.tells → (c : Fixed Dir) (round : Round) (beside : Beside Dir) (fence : Readiness) → IsOf terms.now c → ReadsToday c
+        → IsRuledBy C.round_of C.deal_of C.dealing_of C.ack_of C.check_ack_of C.sign_log_of C.bears_ack_of C.share_public_of C.partial_public_of c.rules
+        → IncludesBy C.check_log_of C.outcome_of C.finish_of (P.participants_of provider.old) (P.directory_of provider.old) Dir.spelling Dir.matches_of c
+        → life.old.round ≡ Some round → IsSeen inclusion.old beside.inclusion → EndsWith beside (λ i. OnOk result (IsSeen inclusion.new i)) (λ more. more ≡ [])
+        (λ now. Tells (derives_now c round logs.now (live_of beside fence life.old)) (ends
+        (λ made. (artifact_of made, live_of now fence life.new)) result) out.old.entries out.new.entries) }
+    ensures moved { Moved D.tells D.made X.made D.faults X.faults devices.old devices.new }
+    ensures causes { IfErr result (λ stop. IsCaused stop (Rose (D.faults devices.old.disk.now) (D.faults devices.new.disk.now))
+        (Rose (X.faults devices.old.secrets.now) (X.faults devices.new.secrets.now)) (Reached devices.old.fuse devices.new.fuse)) }
+{
+    see_verified(alloc, ceremony, terms, life, inclusion, logs)?;
+    let Some(ready) = inclusion.verification.ready(logs) else {
+        unreachable!();
+    };
+    keep_artifact(
+        alloc,
+        provider,
+        terms,
+        &mut life.store,
+        devices,
+        &mut inclusion.cache,
+        ready,
+    )?;
+    match kept_for(alloc, &inclusion.cache, logs)? {
+        Some(artifact) => Ok(artifact),
+        None => unreachable!(),
+    }
+}
+
+/// The artifact of the canonical logs: the one that was kept before the verification ended, else the one that is kept now, or that of a result
+/// (`concludes_by` but its end).
+fn artifact_by<
+    C: Ceremony + Drop,
+    P: ParticipantsProvider<Dir = Dir>,
+    Dir: Directory + Drop,
+    D: Disk,
+    X: SecretStore,
+>(
+    alloc: Global,
+    ceremony: &C,
+    provider: &mut P,
+    terms: &Terms,
+    life: &mut Life<Dir>,
+    inclusion: &mut Inclusion<C, Dir>,
+    devices: &mut Devices<'_, D, X>,
+    logs: &Map<DealerLog>,
+    before: Option<Artifact<Dir>>,
+) -> Result<Artifact<Dir>, Stop>
+    requires ready { IsReadyLife D.tells D.files D.image C.ack_of C.deal_of C.check_ack_of terms.now life.old devices.old }
+    requires including { IsReadyInclusion C.check_log_of C.dealing_of C.finish_of (non_zero_u64_get terms.now.blocks_per_epoch) life.old inclusion.old }
+    requires includes { life.old.stage ≡ Including }
+    requires idle { inclusion.old.verification.running ≡ None }
+    ensures same { life.new ≡ life.old }
+    ensures provider { IsTrue P.tells → SameProvided (P.participants_of provider.old) (P.participants_of provider.new)
+        (P.directory_of provider.old) (P.directory_of provider.new) }
+    ensures disk { devices.new.disk.now ≡ devices.old.disk.now }
+    ensures held { X.held devices.new.secrets.now ≡ X.held devices.old.secrets.now }
+    ensures acts { IsTrue D.tells → IsTrue X.tells → IsTrue P.tells → (c : Fixed Dir) (round : Round) (beside : Beside Dir) (fence : Readiness)
+        → IsOf terms.now c → ReadsToday c
+        → IsRuledBy C.round_of C.deal_of C.dealing_of C.ack_of C.check_ack_of C.sign_log_of C.bears_ack_of C.share_public_of C.partial_public_of c.rules
+        → IncludesBy C.check_log_of C.outcome_of C.finish_of (P.participants_of provider.old) (P.directory_of provider.old) Dir.spelling Dir.matches_of c
+        → life.old.round ≡ Some round → IsSeen inclusion.old beside.inclusion → EndsWith beside (λ i. OnOk result (IsSeen inclusion.new i)) (λ more. more ≡ [])
+        (λ now. Makes D.files D.image X.held (derives_by c round logs.now (option_map artifact_of before) (live_of beside fence life.old)) (ends
+        (λ made. (artifact_of made, live_of now fence life.new)) result)
+        devices.old devices.new out.old.entries out.new.entries) }
+    ensures tells { IsTrue P.tells → (c : Fixed Dir) (round : Round) (beside : Beside Dir) (fence : Readiness) → IsOf terms.now c → ReadsToday c
+        → IsRuledBy C.round_of C.deal_of C.dealing_of C.ack_of C.check_ack_of C.sign_log_of C.bears_ack_of C.share_public_of C.partial_public_of c.rules
+        → IncludesBy C.check_log_of C.outcome_of C.finish_of (P.participants_of provider.old) (P.directory_of provider.old) Dir.spelling Dir.matches_of c
+        → life.old.round ≡ Some round → IsSeen inclusion.old beside.inclusion → EndsWith beside (λ i. OnOk result (IsSeen inclusion.new i)) (λ more. more ≡ [])
+        (λ now. Tells (derives_by c round logs.now (option_map artifact_of before) (live_of beside fence life.old)) (ends
+        (λ made. (artifact_of made, live_of now fence life.new)) result) out.old.entries out.new.entries) }
+    ensures moved { Moved D.tells D.made X.made D.faults X.faults devices.old devices.new }
+    ensures causes { IfErr result (λ stop. IsCaused stop (Rose (D.faults devices.old.disk.now) (D.faults devices.new.disk.now))
+        (Rose (X.faults devices.old.secrets.now) (X.faults devices.new.secrets.now)) (Reached devices.old.fuse devices.new.fuse)) }
+{
+    if let Some(artifact) = before {
+        return Ok(artifact);
+    }
+    if let Some(artifact) = kept_for(alloc, &inclusion.cache, logs)? {
+        return Ok(artifact);
+    }
+    derive_now(
+        alloc, ceremony, provider, terms, life, inclusion, devices, logs,
+    )
+}
+
+/// Ends the running verification, and derives the artifact of the canonical logs (`final_block` but its end).
+pub(crate) fn derive<
+    C: Ceremony + Drop,
+    P: ParticipantsProvider<Dir = Dir>,
+    Dir: Directory + Drop,
+    D: Disk,
+    X: SecretStore,
+>(
+    alloc: Global,
+    ceremony: &C,
+    provider: &mut P,
+    terms: &Terms,
+    life: &mut Life<Dir>,
+    inclusion: &mut Inclusion<C, Dir>,
+    devices: &mut Devices<'_, D, X>,
+    out: &mut Transcript,
+) -> Result<Artifact<Dir>, Stop>
+    requires ready { IsReadyLife D.tells D.files D.image C.ack_of C.deal_of C.check_ack_of terms.now life.old devices.old }
+    requires including { IsReadyInclusion C.check_log_of C.dealing_of C.finish_of (non_zero_u64_get terms.now.blocks_per_epoch) life.old inclusion.old }
+    requires includes { life.old.stage ≡ Including }
+    ensures same { life.new ≡ life.old }
+    ensures provider { IsTrue P.tells → SameProvided (P.participants_of provider.old) (P.participants_of provider.new)
+        (P.directory_of provider.old) (P.directory_of provider.new) }
+    ensures disk { devices.new.disk.now ≡ devices.old.disk.now }
+    ensures held { X.held devices.new.secrets.now ≡ X.held devices.old.secrets.now }
+    ensures acts { IsTrue D.tells → IsTrue X.tells → IsTrue P.tells → (c : Fixed Dir) (round : Round) (beside : Beside Dir) (fence : Readiness)
+        → IsOf terms.now c → ReadsToday c
+        → IsRuledBy C.round_of C.deal_of C.dealing_of C.ack_of C.check_ack_of C.sign_log_of C.bears_ack_of C.share_public_of C.partial_public_of c.rules
+        → IncludesBy C.check_log_of C.outcome_of C.finish_of (P.participants_of provider.old) (P.directory_of provider.old) Dir.spelling Dir.matches_of c
+        → life.old.round ≡ Some round → IsSeen inclusion.old beside.inclusion → EndsWith beside (λ i. OnOk result (IsSeen inclusion.new i)) (λ more. more ≡ [])
+        (λ now. Makes D.files D.image X.held (derives_final c round (live_of beside fence life.old)) (ends
+        (λ made. (artifact_of made, live_of now fence life.new)) result)
+        devices.old devices.new out.old.entries out.new.entries) }
+    ensures tells { IsTrue P.tells → (c : Fixed Dir) (round : Round) (beside : Beside Dir) (fence : Readiness) → IsOf terms.now c → ReadsToday c
+        → IsRuledBy C.round_of C.deal_of C.dealing_of C.ack_of C.check_ack_of C.sign_log_of C.bears_ack_of C.share_public_of C.partial_public_of c.rules
+        → IncludesBy C.check_log_of C.outcome_of C.finish_of (P.participants_of provider.old) (P.directory_of provider.old) Dir.spelling Dir.matches_of c
+        → life.old.round ≡ Some round → IsSeen inclusion.old beside.inclusion → EndsWith beside (λ i. OnOk result (IsSeen inclusion.new i)) (λ more. more ≡ [])
+        (λ now. Tells (derives_final c round (live_of beside fence life.old)) (ends
+        (λ made. (artifact_of made, live_of now fence life.new)) result) out.old.entries out.new.entries) }
+    ensures moved { Moved D.tells D.made X.made D.faults X.faults devices.old devices.new }
+    ensures causes { IfErr result (λ stop. IsCaused stop (Rose (D.faults devices.old.disk.now) (D.faults devices.new.disk.now))
+        (Rose (X.faults devices.old.secrets.now) (X.faults devices.new.secrets.now)) (Reached devices.old.fuse devices.new.fuse)) }
+{
+    let logs = canonical(alloc, life)?;
+    let before = kept_for(alloc, &inclusion.cache, &logs)?;
+    end_verifying(
+        alloc, ceremony, provider, terms, life, inclusion, devices, None, out,
+    )?;
+    artifact_by(
+        alloc, ceremony, provider, terms, life, inclusion, devices, &logs, before,
+    )
+}
+
+/// The artifact's share, where its info is the one that the block carries (`share_for`).
+fn share_for<Dir: Directory + Drop>(
+    info: &EpochInfo<Dir>,
+    artifact: &Artifact<Dir>,
+) -> Option<Share>
+    ensures { (c : Fixed Dir) → c.directories.spelling ≡ Dir.spelling → result ≡ blocks.share_for c info.now (artifact_of artifact.now) }
+{
+    match &artifact.info {
+        Some(derived) if derived.same(info) => artifact.share,
+        _ => None,
+    }
+}
+
+/// Answers the requests that are left: the final block came first (`answers_all`).
+fn answer_all<C: Ceremony, Dir: Directory + Drop>(
+    inclusion: &mut Inclusion<C, Dir>,
+    out: &mut Transcript,
+) -> Result<(), Stop>
+    requires { inclusion.old.hand ≡ None }
+    ensures speaks { (beside : Beside Dir) (fence : Readiness) (life : Life Dir) → IsSeen inclusion.old beside.inclusion
+        → EndsWith beside (λ i. OnOk result (IsSeen inclusion.new i)) (λ more. more ≡ [])
+        (λ now. Speaks (blocks.answers_all beside.inclusion.queue (live_of beside fence life)) (ends_in (live_of now fence life) result)
+        out.old.entries out.new.entries) }
+    ensures memory { IfErr result (λ stop. stop ≡ Faulted OutOfMemory) }
+{
+    for _ in 0..inclusion.requests.len() {
+        if let Some(request) = inclusion.requests.pop() {
+            answer_none(&mut inclusion.told, request.number, Why::Finished, out)?;
+        }
+    }
+    Ok(())
+}
+
+/// Goes on to the next epoch: the tip, the requests that are left, and then the setup (`passes_on`).
+fn pass_on<C: Ceremony + Drop, R: Registrar, Dir: Directory + Drop, D: Disk, X: SecretStore>(
+    alloc: Global,
+    ceremony: &C,
+    signer: &C::Signer,
+    registrar: &mut R,
+    terms: &Terms,
+    life: &mut Life<Dir>,
+    inclusion: &mut Inclusion<C, Dir>,
+    devices: &mut Devices<'_, D, X>,
+    block: &Block<Dir>,
+    info: &EpochInfo<Dir>,
+    fence: &mut Fence,
+    out: &mut Transcript,
+) -> Result<(), Stop>
+    requires next { info.now.epoch ≡ epoch_of (non_zero_u64_get terms.now.blocks_per_epoch) (block.now.height + 1) }
+    requires current { life.old.store.current ≡ Some info.now }
+    requires idle { inclusion.old.hand ≡ None }
+    requires me { terms.now.me ≡ C.Signer.key_of signer.now }
+    requires ready { IsReadyLife D.tells D.files D.image C.ack_of C.deal_of C.check_ack_of terms.now life.old devices.old }
+    requires including { IsReadyInclusion C.check_log_of C.dealing_of C.finish_of (non_zero_u64_get terms.now.blocks_per_epoch) life.old inclusion.old }
+    ensures ready { OnOk result (IsReadyLife D.tells D.files D.image C.ack_of C.deal_of C.check_ack_of terms.now life.new devices.new) }
+    ensures including { OnOk result (IsReadyInclusion C.check_log_of C.dealing_of C.finish_of (non_zero_u64_get terms.now.blocks_per_epoch) life.new
+        inclusion.new) }
+    ensures word { life.new.word ≡ life.old.word }
+    ensures acts { IsTrue D.tells → IsTrue X.tells → (c : Fixed Dir) (beside : Beside Dir) → IsIn terms.now life.old.word c → ReadsToday c
+        → IsRuledBy C.round_of C.deal_of C.dealing_of C.ack_of C.check_ack_of C.sign_log_of C.bears_ack_of C.share_public_of C.partial_public_of c.rules
+        → IsSeen inclusion.old beside.inclusion → EndsWith beside (λ i. OnOk result (IsSeen inclusion.new i))
+        (λ more. OnOk result (Took R.tells (R.taken registrar.old) (R.taken registrar.new) more))
+        (λ now. Makes D.files D.image X.held (blocks.passes_on c block.now (Some info.now) (live_of beside fence.old life.old)) (ends_in
+        (live_of now fence.new life.new) result)
+        devices.old devices.new out.old.entries out.new.entries) }
+    ensures tells { (c : Fixed Dir) (beside : Beside Dir) → IsIn terms.now life.old.word c → ReadsToday c
+        → IsRuledBy C.round_of C.deal_of C.dealing_of C.ack_of C.check_ack_of C.sign_log_of C.bears_ack_of C.share_public_of C.partial_public_of c.rules
+        → IsSeen inclusion.old beside.inclusion → EndsWith beside (λ i. OnOk result (IsSeen inclusion.new i))
+        (λ more. OnOk result (Took R.tells (R.taken registrar.old) (R.taken registrar.new) more))
+        (λ now. Tells (blocks.passes_on c block.now (Some info.now) (live_of beside fence.old life.old)) (ends_in (live_of now fence.new life.new) result)
+        out.old.entries out.new.entries) }
+    ensures moved { Moved D.tells D.made X.made D.faults X.faults devices.old devices.new }
+    ensures causes { IfErr result (λ stop. IsCausedBy D.tells stop (Rose (D.faults devices.old.disk.now) (D.faults devices.new.disk.now))
+        (Rose (X.faults devices.old.secrets.now) (X.faults devices.new.secrets.now)) (Reached devices.old.fuse devices.new.fuse)) }
+    ensures fit { IsTrue D.tells → AreFit (non_zero_u32_get terms.now.limit) (D.image devices.old.disk.now)
+        → AreFit (non_zero_u32_get terms.now.limit) (D.image devices.new.disk.now) }
+{
+    life.tip = Some(tip_of(block));
+    answer_all(inclusion, out)?;
+    inclusion.renew(alloc);
+    set_up_committed(
+        alloc, ceremony, signer, registrar, terms, life, devices, info, fence, out,
+    )
+}
+
+/// Commits and registers the info that the epoch's last block carries, with the artifact's share where that is its own, and goes on
+/// (`takes_over`).
+pub(crate) fn take_over<
+    C: Ceremony + Drop,
+    R: Registrar,
+    Dir: Directory + Drop,
+    D: Disk,
+    X: SecretStore,
+>(
+    alloc: Global,
+    ceremony: &C,
+    signer: &C::Signer,
+    registrar: &mut R,
+    terms: &Terms,
+    life: &mut Life<Dir>,
+    inclusion: &mut Inclusion<C, Dir>,
+    devices: &mut Devices<'_, D, X>,
+    block: &Block<Dir>,
+    info: &EpochInfo<Dir>,
+    artifact: &Artifact<Dir>,
+    fence: &mut Fence,
+    out: &mut Transcript,
+) -> Result<(), Stop>
+    requires next { info.now.epoch ≡ epoch_of (non_zero_u64_get terms.now.blocks_per_epoch) (block.now.height + 1) }
+    requires idle { inclusion.old.hand ≡ None }
+    requires me { terms.now.me ≡ C.Signer.key_of signer.now }
+    requires ready { IsReadyLife D.tells D.files D.image C.ack_of C.deal_of C.check_ack_of terms.now life.old devices.old }
+    requires including { IsReadyInclusion C.check_log_of C.dealing_of C.finish_of (non_zero_u64_get terms.now.blocks_per_epoch) life.old inclusion.old }
+    ensures ready { OnOk result (IsReadyLife D.tells D.files D.image C.ack_of C.deal_of C.check_ack_of terms.now life.new devices.new) }
+    ensures including { OnOk result (IsReadyInclusion C.check_log_of C.dealing_of C.finish_of (non_zero_u64_get terms.now.blocks_per_epoch) life.new
+        inclusion.new) }
+    ensures word { life.new.word ≡ life.old.word }
+    ensures acts { IsTrue D.tells → IsTrue X.tells → (c : Fixed Dir) (beside : Beside Dir) → IsIn terms.now life.old.word c → ReadsToday c
+        → IsRuledBy C.round_of C.deal_of C.dealing_of C.ack_of C.check_ack_of C.sign_log_of C.bears_ack_of C.share_public_of C.partial_public_of c.rules
+        → c.directories.spelling ≡ Dir.spelling → IsSeen inclusion.old beside.inclusion → EndsWith beside (λ i. OnOk result (IsSeen inclusion.new i))
+        (λ more. OnOk result (Took R.tells (R.taken registrar.old) (R.taken registrar.new) more))
+        (λ now. Makes D.files D.image X.held (blocks.takes_over c block.now info.now (blocks.share_for c info.now (artifact_of artifact.now))
+        (live_of beside fence.old life.old)) (ends_in (live_of now fence.new life.new) result)
+        devices.old devices.new out.old.entries out.new.entries) }
+    ensures tells { (c : Fixed Dir) (beside : Beside Dir) → IsIn terms.now life.old.word c → ReadsToday c
+        → IsRuledBy C.round_of C.deal_of C.dealing_of C.ack_of C.check_ack_of C.sign_log_of C.bears_ack_of C.share_public_of C.partial_public_of c.rules
+        → c.directories.spelling ≡ Dir.spelling → IsSeen inclusion.old beside.inclusion → EndsWith beside (λ i. OnOk result (IsSeen inclusion.new i))
+        (λ more. OnOk result (Took R.tells (R.taken registrar.old) (R.taken registrar.new) more))
+        (λ now. Tells (blocks.takes_over c block.now info.now (blocks.share_for c info.now (artifact_of artifact.now)) (live_of beside fence.old life.old))
+        (ends_in (live_of now fence.new life.new) result)
+        out.old.entries out.new.entries) }
+    ensures moved { Moved D.tells D.made X.made D.faults X.faults devices.old devices.new }
+    ensures causes { IfErr result (λ stop. IsCausedBy D.tells stop (Rose (D.faults devices.old.disk.now) (D.faults devices.new.disk.now))
+        (Rose (X.faults devices.old.secrets.now) (X.faults devices.new.secrets.now)) (Reached devices.old.fuse devices.new.fuse)) }
+    ensures fit { IsTrue D.tells → AreFit (non_zero_u32_get terms.now.limit) (D.image devices.old.disk.now)
+        → AreFit (non_zero_u32_get terms.now.limit) (D.image devices.new.disk.now) }
+{
+    let share = share_for(info, artifact);
+    let secrets: EpochSecrets = secrets_with(alloc, life, devices, info, share)?;
+    commit_and_register(
+        alloc, registrar, terms.me, life, devices, info, &secrets, fence, out,
+    )?;
+    pass_on(
+        alloc, ceremony, signer, registrar, terms, life, inclusion, devices, block, info, fence,
+        out,
+    )
+}

@@ -1,0 +1,246 @@
+//! Dealers' logs: which log a block records, and whom this node's own is served to.
+ghost use Rattle.std.specs.Prelude.{◌≡◌, ◌<◌, ◌^◌, ℕ, [], IfErr, IfOk, IsTrue, List, None, OnOk, Some, if◌then◌else◌, length, nat_le, option_and_then, option_map};
+ghost use Rattle.std.specs.Option.{option_copied};
+ghost use Rattle.dkg_ceremony.specs.declared.round.Round.{Round};
+ghost use Rattle.dkg_fence.specs.Readiness.{Readiness};
+ghost use Rattle.dkg_journal.specs.Disk.{Rose};
+ghost use Rattle.dkg_journal.specs.Fuse.{Reached};
+ghost use Rattle.dkg_store.specs.Corrupt.{AreFit};
+ghost use Rattle.dkg_store.specs.Events.{event_spelling};
+ghost use Rattle.dkg_store.specs.declared.event.Event.TheVariants.{LogAt};
+ghost use Rattle.dkg_types.specs.PayloadCodes.{its_log, log_payload};
+ghost use Rattle.dkg_types.specs.declared.entry.Entry.{Entry as Line};
+ghost use Rattle.dkg_types.specs.declared.fault.Fault.TheVariants.{NoMemory as OutOfMemory};
+ghost use Rattle.dkg_core.specs.Blocks as blocks;
+ghost use Rattle.dkg_core.specs.Fixed.{Fixed};
+ghost use Rattle.dkg_core.specs.Including as including;
+ghost use Rattle.dkg_core.specs.Logs as recorded;
+ghost use Rattle.dkg_reshare.specs.Ends.{IsCaused, ends_in};
+ghost use Rattle.dkg_reshare.specs.InclusionOf.{IsSeen};
+ghost use Rattle.dkg_reshare.specs.LiveOf.{Beside, EndsWith, live_of};
+ghost use Rattle.dkg_reshare.specs.Made.{Makes, Speaks, Tells};
+ghost use Rattle.dkg_reshare.specs.Moved.{IsFirm, Moved};
+ghost use Rattle.dkg_reshare.specs.declared.life.Life.{Life};
+ghost use Rattle.dkg_reshare.specs.declared.life.Stage.TheVariants.{Including};
+ghost use Rattle.dkg_reshare.specs.declared.stop.Stop.TheVariants.{Fault as Faulted};
+
+use crate::answers::{bytes_of, told_as};
+use crate::inclusion::Inclusion;
+use crate::life::{Life, Stage};
+use crate::stop::Stop;
+use crate::told::Told;
+use dkg_ceremony::{Ceremony, Round, SignedDealerLog};
+use dkg_journal::Disk;
+use dkg_store::{Devices, SecretStore, Store};
+use dkg_types::{Block, Directory, Entry, Payload, ReshareBlock, Transcript};
+use dkg_values::{Epoch, Height, Key, Mem, Value};
+use std::alloc::Global;
+
+/// The log that a block carries, if it carries one.
+fn log_in<Dir: Directory>(block: &Block<Dir>) -> Option<&SignedDealerLog>
+    ensures { option_copied result ≡ option_and_then its_log block.now.payload }
+{
+    match block.payload() {
+        Some(Payload::DealerLog(signed)) => Some(signed),
+        Some(Payload::EpochInfo(_)) | None => None,
+    }
+}
+
+/// Whether a log counts in the round: it is of one of its dealers, and the check accepts it (`is_accepted`).
+fn is_accepted<C: Ceremony>(
+    alloc: Global,
+    ceremony: &C,
+    round: &Round,
+    signed: &SignedDealerLog,
+) -> Mem<bool>
+    ensures { IfOk result (λ yes. {Dir : Type 0} (c : Fixed Dir) → c.rules.check_log_of ≡ C.check_log_of → yes ≡ recorded.is_accepted c round.now signed.now) }
+{
+    if !round.dealers.has(signed.dealer) {
+        return Ok(false);
+    }
+    ceremony.check_log(alloc, round, signed)
+}
+
+/// Records a dealer's first log, with the height of its block (`records_log`).
+fn record<Dir: Directory + Drop, D: Disk, X: SecretStore>(
+    alloc: Global,
+    store: &mut Store<Dir>,
+    devices: &mut Devices<'_, D, X>,
+    epoch: Epoch,
+    height: Height,
+    signed: &SignedDealerLog,
+) -> Result<(), Stop>
+    requires firm { IsTrue D.tells → IsFirm store.old.journal (D.files devices.old.disk.now) (D.image devices.old.disk.now) }
+    requires short { length (event_spelling (LogAt signed.now.dealer height signed.now.log)) < 2 ^ 32 }
+    ensures firm { OnOk result (IsTrue D.tells → IsFirm store.new.journal (D.files devices.new.disk.now) (D.image devices.new.disk.now)) }
+    ensures rest { store.new ≡ record store.old { journal = store.new.journal; logs = store.new.logs } }
+    ensures acts { IsTrue D.tells → IsTrue X.tells → (life : Life Dir) (beside : Beside Dir) (fence : Readiness) (out : List Line) → life.store ≡ store.old
+        → Makes D.files D.image X.held (blocks.records_log epoch height signed.now (live_of beside fence life))
+        (ends_in (live_of beside fence (record life { store = store.new })) result) devices.old devices.new out out }
+    ensures tells { (life : Life Dir) (beside : Beside Dir) (fence : Readiness) (out : List Line) → life.store ≡ store.old
+        → Tells (blocks.records_log epoch height signed.now (live_of beside fence life))
+        (ends_in (live_of beside fence (record life { store = store.new })) result) out out }
+    ensures moved { Moved D.tells D.made X.made D.faults X.faults devices.old devices.new }
+    ensures causes { IfErr result (λ stop. IsCaused stop (Rose (D.faults devices.old.disk.now) (D.faults devices.new.disk.now))
+        (Rose (X.faults devices.old.secrets.now) (X.faults devices.new.secrets.now)) (Reached devices.old.fuse devices.new.fuse)) }
+    ensures fit { IsTrue D.tells → (most : ℕ) → AreFit most (D.image devices.old.disk.now) → AreFit most (D.image devices.new.disk.now) }
+{
+    if store.has_log(epoch, signed.dealer) {
+        return Ok(());
+    }
+    let log = signed.log.copy(alloc)?;
+    store.append_log(alloc, devices, epoch, signed.dealer, height, log)?;
+    Ok(())
+}
+
+/// Offers this node's log no more, once a block carries it (`without_own_log`).
+fn clear_own<Dir: Directory + Drop>(me: Key, life: &mut Life<Dir>, dealer: Key)
+    ensures rest { life.new ≡ record life.old { dealer = life.new.dealer } }
+    ensures cleared { (c : Fixed Dir) (beside : Beside Dir) (fence : Readiness) → c.me ≡ me
+        → live_of beside fence life.new ≡ blocks.without_own_log c dealer (live_of beside fence life.old) }
+{
+    if dealer != me {
+        return;
+    }
+    if let Some(dealer) = &mut life.dealer {
+        dealer.clear_finalized();
+    }
+}
+
+/// Takes the log that a block carries, where it counts (`observes`).
+pub(crate) fn observe<C: Ceremony, Dir: Directory + Drop, D: Disk, X: SecretStore>(
+    alloc: Global,
+    ceremony: &C,
+    me: Key,
+    life: &mut Life<Dir>,
+    devices: &mut Devices<'_, D, X>,
+    block: &Block<Dir>,
+) -> Result<(), Stop>
+    requires includes { life.old.stage ≡ Including }
+    requires ready { IsTrue D.tells → IsFirm life.old.store.journal (D.files devices.old.disk.now) (D.image devices.old.disk.now) }
+    ensures ready { OnOk result (IsTrue D.tells → IsFirm life.new.store.journal (D.files devices.new.disk.now) (D.image devices.new.disk.now)) }
+    ensures rest { life.new ≡ record life.old { store = life.new.store; dealer = life.new.dealer } }
+    ensures acts { IsTrue D.tells → IsTrue X.tells → (c : Fixed Dir) (round : Round) (beside : Beside Dir) (fence : Readiness) (out : List Line) → c.me ≡ me
+        → c.rules.check_log_of ≡ C.check_log_of → life.old.round ≡ Some round
+        → Makes D.files D.image X.held (blocks.observes c round block.now (live_of beside fence life.old) (option_and_then its_log block.now.payload))
+        (ends_in (live_of beside fence life.new) result) devices.old devices.new out out }
+    ensures tells { (c : Fixed Dir) (round : Round) (beside : Beside Dir) (fence : Readiness) (out : List Line) → c.me ≡ me
+        → c.rules.check_log_of ≡ C.check_log_of → life.old.round ≡ Some round
+        → Tells (blocks.observes c round block.now (live_of beside fence life.old) (option_and_then its_log block.now.payload))
+        (ends_in (live_of beside fence life.new) result) out out }
+    ensures moved { Moved D.tells D.made X.made D.faults X.faults devices.old devices.new }
+    ensures causes { IfErr result (λ stop. IsCaused stop (Rose (D.faults devices.old.disk.now) (D.faults devices.new.disk.now))
+        (Rose (X.faults devices.old.secrets.now) (X.faults devices.new.secrets.now)) (Reached devices.old.fuse devices.new.fuse)) }
+    ensures fit { IsTrue D.tells → (most : ℕ) → AreFit most (D.image devices.old.disk.now) → AreFit most (D.image devices.new.disk.now) }
+{
+    let Some(round) = &life.round else {
+        return Ok(());
+    };
+    let Some(signed) = log_in(block) else {
+        return Ok(());
+    };
+    if !is_accepted(alloc, ceremony, round, signed)? {
+        return Ok(());
+    }
+    let epoch = Epoch(round.number);
+    record(
+        alloc,
+        &mut life.store,
+        devices,
+        epoch,
+        block.height(),
+        signed,
+    )?;
+    clear_own(me, life, signed.dealer);
+    Ok(())
+}
+
+/// This node's log, while inclusion offers it (`own_log`).
+fn own_log<Dir: Directory + Drop>(life: &Life<Dir>) -> Option<&SignedDealerLog>
+    ensures { (beside : Beside Dir) (fence : Readiness) → option_copied result ≡ including.own_log (live_of beside fence life.now) }
+{
+    match &life.dealer {
+        Some(dealer) => dealer.finalized(),
+        None => None,
+    }
+}
+
+/// This node's log, where inclusion offers it and none counts as served (`served_now`).
+fn offered<C: Ceremony, Dir: Directory + Drop>(
+    alloc: Global,
+    life: &Life<Dir>,
+    inclusion: &Inclusion<C, Dir>,
+) -> Mem<Option<Payload<Dir>>>
+    ensures { IfOk result (λ made. (beside : Beside Dir) (fence : Readiness) → IsSeen inclusion.now beside.inclusion
+        → made ≡ option_map log_payload (including.served_now (live_of beside fence life.now))) }
+{
+    if life.stage != Stage::Including || inclusion.served.is_some() {
+        return Ok(None);
+    }
+    match own_log(life) {
+        Some(signed) => Ok(Some(Payload::DealerLog(signed.copy(alloc)?))),
+        None => Ok(None),
+    }
+}
+
+/// Takes a log request: what is served counts as served from then on (`serves_log`).
+pub(crate) fn serve<C: Ceremony, Dir: Directory + Drop>(
+    alloc: Global,
+    life: &Life<Dir>,
+    inclusion: &mut Inclusion<C, Dir>,
+    request: u64,
+    height: Height,
+    out: &mut Transcript,
+) -> Result<(), Stop>
+    ensures speaks { (c : Fixed Dir) (beside : Beside Dir) (fence : Readiness) → c.directories.spelling ≡ Dir.spelling → IsSeen inclusion.old beside.inclusion
+        → EndsWith beside (λ i. OnOk result (IsSeen inclusion.new i)) (λ more. more ≡ [])
+        (λ now. Speaks (including.serves_log c request height (live_of beside fence life.now)) (ends_in (live_of now fence life.now) result)
+        out.old.entries out.new.entries) }
+    ensures rest { inclusion.new ≡ record inclusion.old { served = inclusion.new.served; told = inclusion.new.told } }
+    ensures memory { IfErr result (λ stop. stop ≡ Faulted OutOfMemory) }
+{
+    let payload = offered(alloc, life, inclusion)?;
+    let line = bytes_of(alloc, &payload)?;
+    let serves = payload.is_some();
+    out.push(Entry::Log {
+        request,
+        payload: line,
+    })?;
+    told_as(&mut inclusion.told, request, Told::Log(payload))?;
+    if serves {
+        inclusion.served = Some(height);
+    }
+    Ok(())
+}
+
+/// Takes a log back that was served for this height (`releases`).
+pub(crate) fn release<C: Ceremony, Dir: Directory + Drop>(
+    life: &Life<Dir>,
+    inclusion: &mut Inclusion<C, Dir>,
+    height: Height,
+)
+    ensures released { (beside : Beside Dir) (fence : Readiness) → IsSeen inclusion.old beside.inclusion
+        → IsSeen inclusion.new (including.releases height (live_of beside fence life.now)).inclusion }
+    ensures rest { inclusion.new ≡ record inclusion.old { served = inclusion.new.served } }
+{
+    if life.stage == Stage::Including
+        && inclusion.served == Some(height)
+        && own_log(life).is_some()
+    {
+        inclusion.served = None;
+    }
+}
+
+/// Takes a log back that was served for this height or one below (`unserved`).
+pub(crate) fn unserve<C: Ceremony, Dir: Directory>(
+    inclusion: &mut Inclusion<C, Dir>,
+    height: Height,
+)
+    ensures { inclusion.new ≡ record inclusion.old { served = option_and_then (λ at. if nat_le at height then None else Some at) inclusion.old.served } }
+{
+    let served = inclusion.served;
+    match served {
+        Some(at) if at <= height => inclusion.served = None,
+        _ => {}
+    }
+}
