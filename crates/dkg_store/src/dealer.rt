@@ -286,7 +286,7 @@ impl Dealer {
         ensures first { IfOk result (λ first. first ≡ self.old.is_open) }
         ensures closed { OnOk result (self.new.is_open ≡ false) }
         ensures log { IfOk result (λ first. self.new.finalized ≡ (if first
-            then Some (C.sign_log_of self.old.me self.old.round self.old.public self.old.privates (held_acks self.old.acks self.old.round.parts().players))
+            then Some (C.sign_log_of self.old.me self.old.round self.old.public self.old.privates (held_acks self.old.acks self.old.round.players))
             else self.old.finalized)) }
         ensures me { self.new.me ≡ self.old.me }
         ensures round { self.new.round ≡ self.old.round }
