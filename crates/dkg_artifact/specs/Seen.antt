@@ -1,6 +1,6 @@
 -- Scans and verifications as contracts see them.
 use Rattle.std.specs.Prelude.{ℕ, List, Option}
-use Rattle.dkg_ceremony.specs.declared.round.Round.{Round}
+use Rattle.dkg_ceremony.specs.declared.round.RoundParts.{RoundParts as Round}
 use Rattle.dkg_ceremony.specs.Outcomes.{LogMap}
 use Rattle.dkg_artifact.specs.declared.job.Job.{Job}
 use Rattle.dkg_artifact.specs.Results.{Checked}

@@ -167,7 +167,7 @@ fn counted_log<C: Ceremony, Dir: Directory>(
     let Some(signed) = log_in(block) else {
         return Ok(None);
     };
-    if !round.dealers.has(signed.dealer) || !ceremony.check_log(alloc, round, signed)? {
+    if !round.parts().dealers.has(signed.dealer) || !ceremony.check_log(alloc, round, signed)? {
         return Ok(None);
     }
     Ok(Some((signed.dealer, signed.log.copy(alloc)?)))

@@ -290,7 +290,7 @@ fn player<C: Ceremony>(
     ensures none { IfOk result (λ p. IfSome p (λ p. p.dealings ≡ [])) }
 {
     let me = Key(1);
-    if !round.players.has(me) {
+    if !round.parts().players.has(me) {
         return Err(Fail::from("the key is no player"));
     }
     let dealings = Map::from_any(alloc, Vec::new(alloc))?;

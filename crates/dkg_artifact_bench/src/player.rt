@@ -17,7 +17,7 @@ fn dealing(alloc: Global, round: &Round, dealer: Key, me: Key) -> Option<(Public
 /// The player with this key.
 pub fn of(alloc: Global, round: &Round, me: Key) -> Option<Dealings> {
     let mut pairs = Vec::new(alloc);
-    for dealer in round.dealers.as_slice() {
+    for dealer in round.parts().dealers.as_slice() {
         pairs
             .push((*dealer, dealing(alloc, round, *dealer, me)?))
             .ok()?;
@@ -60,7 +60,7 @@ pub fn may_verify<C: Ceremony>(
     ensures checked { IsTrue result → (dealer : ℕ) → IfSome (lookup dealer player.now.dealings)
         (λ d. C.dealing_of round.now player.now.me dealer d.0 d.1 ≡ Ok tt) }
 {
-    if !round.players.has(player.me) {
+    if !round.parts().players.has(player.me) {
         return false;
     }
     if !are_checked(ceremony, round, player.me, &player.dealings) {

@@ -57,7 +57,7 @@ fn deal<C: Ceremony>(
     signer: &C::Signer,
     seed: &Seed,
 ) -> Option<(Public, Map<Private>)> {
-    if !round.dealers.has(signer.public_key()) {
+    if !round.parts().dealers.has(signer.public_key()) {
         return None;
     }
     ceremony.deal(alloc, round, signer, None, seed).ok()
@@ -77,7 +77,7 @@ fn ack<C: Ceremony>(
     dealer: Key,
     public: &Public,
 ) -> Option<Ack> {
-    if !round.players.has(signer.public_key()) {
+    if !round.parts().players.has(signer.public_key()) {
         return None;
     }
     ceremony.ack(alloc, signer, round, dealer, public).ok()
@@ -91,7 +91,7 @@ fn ack_by(alloc: Global, round: &Round, player: Key, dealer: Key, public: &Publi
 /// The acknowledgements of all players.
 fn acks(alloc: Global, round: &Round, dealer: Key, public: &Public) -> Option<Map<Ack>> {
     let mut pairs = Vec::new(alloc);
-    for key in round.players.as_slice() {
+    for key in round.parts().players.as_slice() {
         pairs
             .push((*key, ack_by(alloc, round, *key, dealer, public)?))
             .ok()?;
@@ -120,10 +120,10 @@ fn sign<C: Ceremony>(
     privates: &Map<Private>,
     acks: &Map<Ack>,
 ) -> Option<SignedDealerLog> {
-    if !round.dealers.has(signer.public_key()) {
+    if !round.parts().dealers.has(signer.public_key()) {
         return None;
     }
-    if !have_entries(&round.players, privates, acks) {
+    if !have_entries(&round.parts().players, privates, acks) {
         return None;
     }
     ceremony
@@ -159,7 +159,7 @@ fn log_by(alloc: Global, round: &Round, dealer: Key) -> Option<SignedDealerLog> 
 /// The log of each dealer.
 pub fn logs(alloc: Global, round: &Round) -> Option<Vec<SignedDealerLog>> {
     let mut logs = Vec::new(alloc);
-    for dealer in round.dealers.as_slice() {
+    for dealer in round.parts().dealers.as_slice() {
         logs.push(log_by(alloc, round, *dealer)?).ok()?;
     }
     Some(logs)

@@ -189,7 +189,7 @@ fn check<C: Ceremony>(
 ) -> Option<DealingError> {
     let me = Key(1);
     let private = Private(Element::new(value)?);
-    if !round.players.has(me) {
+    if !round.parts().players.has(me) {
         return None;
     }
     ceremony
@@ -264,7 +264,7 @@ fn acknowledge<C: Ceremony>(
     round: &Round,
     public: &Public,
 ) -> Mem<Option<Ack>> {
-    if !round.players.has(signer.public_key()) {
+    if !round.parts().players.has(signer.public_key()) {
         return Ok(None);
     }
     Ok(Some(ceremony.ack(alloc, signer, round, Key(2), public)?))

@@ -34,7 +34,7 @@ pub(crate) fn deal<C: Ceremony>(
     share: Option<&Share>,
     seed: &Seed,
 ) -> Result<Result<(Public, Map<Private>), DealError>, Fail> {
-    if !round.dealers.has(signer.public_key()) {
+    if !round.parts().dealers.has(signer.public_key()) {
         return Err(Fail::from("the key doesn't deal"));
     }
     Ok(ceremony.deal(alloc, round, signer, share, seed))
@@ -61,7 +61,7 @@ fn ack_by(
     public: &Public,
 ) -> Result<Ack, Fail> {
     let signer = StandSigner::new(player);
-    if !round.players.has(signer.public_key()) {
+    if !round.parts().players.has(signer.public_key()) {
         return Err(Fail::from("the key is no player"));
     }
     Ok(StandCeremony.ack(alloc, &signer, round, dealer, public)?)
@@ -83,7 +83,7 @@ fn acks_for(
     skip: u8,
 ) -> Result<Map<Ack>, Fail> {
     let mut pairs = Vec::new(alloc);
-    for key in round.players.as_slice() {
+    for key in round.parts().players.as_slice() {
         if key.0 > u32::from(skip) {
             pairs.push((*key, ack_by(alloc, round, *key, dealer, public)?))?;
         }
@@ -113,10 +113,10 @@ fn sign<C: Ceremony>(
     privates: &Map<Private>,
     acks: &Map<Ack>,
 ) -> Result<SignedDealerLog, Fail> {
-    if !round.dealers.has(signer.public_key()) {
+    if !round.parts().dealers.has(signer.public_key()) {
         return Err(Fail::from("the key doesn't deal"));
     }
-    if !have_entries(&round.players, privates, acks) {
+    if !have_entries(&round.parts().players, privates, acks) {
         return Err(Fail::from("a player has no entry"));
     }
     Ok(ceremony.sign_log(alloc, signer, round, public, privates, acks)?)
@@ -240,7 +240,7 @@ pub(crate) fn finish<C: Ceremony>(
     dealings: &Map<(Public, Private)>,
     logs: &Map<DealerLog>,
 ) -> Result<Result<Option<(Output, Share)>, FinishError>, Fail> {
-    if !round.players.has(me) || !are_checked(ceremony, round, me, dealings) {
+    if !round.parts().players.has(me) || !are_checked(ceremony, round, me, dealings) {
         return Err(Fail::from("the player or a dealing isn't the round's"));
     }
     Ok(ceremony.finish(alloc, round, me, dealings, logs))

@@ -9,7 +9,7 @@ use Rattle.std.proofs.lemmas.List.{take_all}
 use Rattle.std.proofs.lemmas.List.FromFn.{length-map-range_with_len}
 use Rattle.dkg_values.specs.Rising.{IsSet, keys_of, lookup, place_of}
 use Rattle.dkg_values.specs.Places.{place_of-Contains}
-use Rattle.dkg_ceremony.specs.declared.round.Round.{Round}
+use Rattle.dkg_ceremony.specs.declared.round.RoundParts.{RoundParts as Round}
 use Rattle.dkg_ceremony.specs.declared.output.Output.{Output}
 use Rattle.dkg_ceremony.specs.declared.deal.DealError.TheVariants.{ShareRefused}
 use Rattle.dkg_ceremony.specs.Polynomials.{value_at}

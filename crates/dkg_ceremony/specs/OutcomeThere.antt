@@ -5,7 +5,7 @@ use Rattle.std.specs.List.{list_any}
 use Rattle.std.proofs.lemmas.Bool.{and_from, and_parts}
 use Rattle.dkg_values.specs.Places.{place_of-Contains}
 use Rattle.dkg_values.specs.Rising.{place_of, with_key, set_of}
-use Rattle.dkg_ceremony.specs.declared.round.Round.{Round}
+use Rattle.dkg_ceremony.specs.declared.round.RoundParts.{RoundParts as Round}
 use Rattle.dkg_ceremony.specs.Agreement.{all_in, PartsAgree}
 use Rattle.dkg_ceremony.specs.Thresholds.{quorum_of}
 use Rattle.dkg_ceremony.specs.Outcomes.{LogMap, reveals_at, revealed_from, revealed_of}

@@ -1,7 +1,7 @@
 -- A round that is drawn up has the parts that it was asked for.
 use Rattle.std.specs.Prelude.{◌≡◌, ℕ, Bool, true, false, ◌==◌, ◌||◌, not, nat_lt, List, length, Option, Ok, Err, IfOk, refl}
 use Rattle.std.proofs.Common.{cond}
-use Rattle.dkg_ceremony.specs.declared.round.Round.{Round}
+use Rattle.dkg_ceremony.specs.declared.round.RoundParts.{RoundParts as Round}
 use Rattle.dkg_ceremony.specs.declared.round.RoundError.{RoundError}
 use Rattle.dkg_ceremony.specs.declared.round.RoundError.TheVariants.{NoDealers, NoPlayers, TooMany, DealersNotPrevious}
 use Rattle.dkg_ceremony.specs.declared.output.Output.{Output}

@@ -1,6 +1,6 @@
 -- Rounds: which may be held, and their bytes.
 use Rattle.std.specs.Prelude.{ℕ, ◌==◌, ◌||◌, not, nat_lt, List, [], ◌∷◌, ◌++◌, length, Option, Some, None, Result, Ok, Err, Bool, true, false, if◌then◌else◌, ◌≡◌}
-use Rattle.dkg_ceremony.specs.declared.round.Round.{Round}
+use Rattle.dkg_ceremony.specs.declared.round.RoundParts.{RoundParts as Round}
 use Rattle.dkg_ceremony.specs.declared.round.RoundError.{RoundError}
 use Rattle.dkg_ceremony.specs.declared.round.RoundError.TheVariants.{NoDealers, NoPlayers, TooMany, DealersNotPrevious, NoMemory}
 use Rattle.dkg_ceremony.specs.declared.output.Output.{Output}

@@ -5,7 +5,7 @@ use Rattle.std.specs.Option.{option_map_or}
 use Rattle.std.specs.Str.{bytes_eq}
 use Rattle.dkg_values.specs.Rising.{lookup, place_of}
 use Rattle.dkg_ceremony.specs.declared.sign.Domain.TheVariants as domains
-use Rattle.dkg_ceremony.specs.declared.round.Round.{Round}
+use Rattle.dkg_ceremony.specs.declared.round.RoundParts.{RoundParts as Round}
 use Rattle.dkg_ceremony.specs.declared.log_entry.LogEntry.{LogEntry}
 use Rattle.dkg_ceremony.specs.declared.log_entry.LogEntry.TheVariants.{Ack, Reveal}
 use Rattle.dkg_ceremony.specs.declared.dealer_log.DealerLog.{DealerLog}

@@ -5,7 +5,7 @@ ghost use Rattle.std.specs.Prelude.{◌≡◌, ◌≤◌, ◌↔◌, ℕ, true, 
 ghost use Rattle.dkg_values.specs.Rising.{lookup};
 ghost use Rattle.dkg_ceremony.specs.declared.ceremony.AckError.TheVariants.{NoMemory as NoMemoryLeft};
 ghost use Rattle.dkg_ceremony.specs.declared.dealer_log.DealerLog.{DealerLog};
-ghost use Rattle.dkg_ceremony.specs.declared.round.Round.{Round};
+ghost use Rattle.dkg_ceremony.specs.declared.round.RoundParts.{RoundParts as Round};
 ghost use Rattle.dkg_ceremony.specs.Finishes.{IsMissing};
 
 use crate::deal::DealError;
@@ -75,7 +75,7 @@ pub trait Ceremony {
     ghost use Rattle.std.specs.Prelude.{◌≡◌, ◌↔◌, ℕ, Bool, true, List, Option, Some, option_map, Result, Ok, Err, IfErr, IfOk, IfSome, IsSomeAnd, IsTrue, Contains};
     ghost use Rattle.std.specs.Option.{option_copied};
     ghost use Rattle.dkg_values.specs.Rising.{lookup};
-    ghost use Rattle.dkg_ceremony.specs.declared.round.Round.{Round};
+    ghost use Rattle.dkg_ceremony.specs.declared.round.RoundParts.{RoundParts as Round};
     ghost use Rattle.dkg_ceremony.specs.declared.round.RoundError.{RoundError};
     ghost use Rattle.dkg_ceremony.specs.declared.output.Output.{Output};
     ghost use Rattle.dkg_ceremony.specs.declared.mode.Mode.{Mode};

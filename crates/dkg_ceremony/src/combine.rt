@@ -12,13 +12,12 @@ use crate::dealer_log::DealerLog;
 use crate::log_entry::LogEntry;
 use crate::output::Output;
 use crate::public::Public;
-use crate::round::{Round, write_round};
+use crate::round::Round;
 use crate::select::select;
 use crate::sharing::Sharing;
 use crate::sign::{Domain, mark_of};
 use crate::threshold::quorum;
 use crate::weigh::weigh;
-use bytes::BytesMut;
 use dkg_values::{Element, Key, Map, Mark, Mem, Set, Value};
 use std::alloc::Global;
 
@@ -128,7 +127,7 @@ fn revealed_players(
 fn reveal(alloc: Global, round: &Round, logs: &Map<DealerLog>, selected: &[Key]) -> Mem<Set>
     ensures { IfOk result (λ keys. keys ≡ revealed_of round.now logs.now selected.now) }
 {
-    let keys = revealed_players(alloc, &round.players, logs, selected)?;
+    let keys = revealed_players(alloc, &round.parts().players, logs, selected)?;
     Ok(Set::from_any(alloc, &keys)?)
 }
 
@@ -147,12 +146,10 @@ fn keeps(previous: &Option<Output>, poly: &Public) -> bool
 
 /// What an output says of its round: a mark on the round's bytes.
 #[tactic(auto, unfolding(crate::specs::Outcomes::summary_of))]
-fn summarize(alloc: Global, round: &Round) -> Mem<Mark>
-    ensures { IfOk result (λ mark. mark ≡ summary_of round.now) }
+fn summarize(round: &Round) -> Mark
+    ensures { result ≡ summary_of round.now }
 {
-    let mut bytes = BytesMut::new(alloc);
-    write_round(round, &mut bytes)?;
-    Ok(mark_of(Key(0), Domain::Round, &bytes))
+    mark_of(Key(0), Domain::Round, round.bytes())
 }
 
 /// The output of a polynomial and the revealed players.
@@ -162,15 +159,15 @@ fn output_of(alloc: Global, round: &Round, poly: Public, revealed: Set) -> Mem<O
     ensures { IfOk result (λ output. Some output ≡ output_with round.now poly revealed) }
 {
     let sharing = Sharing {
-        mode: round.mode,
-        total: round.players.len(),
+        mode: round.parts().mode,
+        total: round.parts().players.len(),
         poly,
     };
     Ok(Output {
-        summary: summarize(alloc, round)?,
+        summary: summarize(round),
         sharing,
-        dealers: round.dealers.copy(alloc)?,
-        players: round.players.copy(alloc)?,
+        dealers: round.parts().dealers.copy(alloc)?,
+        players: round.parts().players.copy(alloc)?,
         revealed,
     })
 }
@@ -189,11 +186,17 @@ pub(crate) fn combine(
     ensures { IfOk result (λ output. output ≡ combined_of round.now logs.now selected.now) }
 {
     // No ceremony draws up such a round.
-    if round.players.is_empty() {
+    if round.parts().players.is_empty() {
         return Ok(None);
     }
-    let poly = sum(alloc, quorum(round.players.len()), logs, weights, selected)?;
-    if !keeps(&round.previous, &poly) {
+    let poly = sum(
+        alloc,
+        quorum(round.parts().players.len()),
+        logs,
+        weights,
+        selected,
+    )?;
+    if !keeps(&round.parts().previous, &poly) {
         return Ok(None);
     }
     let revealed = reveal(alloc, round, logs, selected)?;
@@ -208,6 +211,6 @@ pub(crate) fn observe(alloc: Global, round: &Round, logs: &Map<DealerLog>) -> Me
     let Some(selected) = select(alloc, round, logs)? else {
         return Ok(None);
     };
-    let weights = weigh(alloc, &round.previous, &selected)?;
+    let weights = weigh(alloc, &round.parts().previous, &selected)?;
     Ok(combine(alloc, round, logs, &weights, &selected)?)
 }

@@ -147,12 +147,12 @@ pub(crate) fn deal(
 ) -> Result<(Public, Map<Private>), DealError>
     ensures { Deals (deal_of round.now dealer (option_copied share.entry) seed.now) result }
 {
-    if !is_share(&round.previous, dealer, share) {
+    if !is_share(&round.parts().previous, dealer, share) {
         return Err(DealError::ShareRefused);
     }
-    let again = share_again(&round.previous, share);
-    let count = quorum(round.players.len()).max(1);
+    let again = share_again(&round.parts().previous, share);
+    let count = quorum(round.parts().players.len()).max(1);
     let poly = polynomial(alloc, &again, seed, count)?;
-    let map = halves(alloc, &poly, &round.players)?;
+    let map = halves(alloc, &poly, &round.parts().players)?;
     Ok((poly, map))
 }

@@ -125,7 +125,7 @@ fn gather(
     ensures all { IfOk result (λ privates. (first_that (lacks_dealing round.now me dealings.now logs.now) selected.now ≡ None) × (privates.items ≡ known_privates (private_in round.now.players me dealings.now logs.now) selected.now)) }
     ensures missing { IfErr result (λ e. Lacks (first_that (lacks_dealing round.now me dealings.now logs.now) selected.now) e) }
 {
-    privates_of(alloc, &round.players, me, dealings, logs, selected)
+    privates_of(alloc, &round.parts().players, me, dealings, logs, selected)
 }
 
 /// The weighted sum of the private halves.
@@ -160,7 +160,7 @@ pub(crate) fn finish(
         return Ok(None);
     };
     let privates = gather(alloc, round, me, dealings, logs, &selected)?;
-    let weights = weigh(alloc, &round.previous, &selected)?;
+    let weights = weigh(alloc, &round.parts().previous, &selected)?;
     let Some(output) = combine(alloc, round, logs, &weights, &selected)? else {
         return Ok(None);
     };

@@ -49,7 +49,7 @@ pub use output::Output;
 pub use phase::Phase;
 pub use private::{Ack, Private, Share};
 pub use public::Public;
-pub use round::{Round, RoundError};
+pub use round::{Round, RoundError, RoundParts};
 pub use sharing::Sharing;
 pub use sign::{Domain, Signer, StandSigner, mark_of};
 pub use signed_log::SignedDealerLog;

@@ -1,40 +1,39 @@
 //! How a dealer signs its log, and how others check the signature.
 ghost use Rattle.std.specs.Prelude.{◌≡◌, ℕ, IfOk, IsTrue, Contains, map, length};
-ghost use Rattle.dkg_ceremony.specs.ValidLogs.{check_log_of, entry_for, has_entry, log_content, sign_log_of};
+ghost use Rattle.dkg_ceremony.specs.Logs.{log_spelling};
+ghost use Rattle.dkg_ceremony.specs.ValidLogs.{check_log_of, entry_for, has_entry, sign_log_of};
 
 use crate::dealer_log::DealerLog;
 use crate::log_entries::LogEntries;
 use crate::log_entry::LogEntry;
 use crate::private::{Ack, Private};
 use crate::public::Public;
-use crate::round::{Round, write_round};
-use crate::sign::{Domain, Signer, StandSigner, mark_of};
+use crate::round::Round;
+use crate::sign::{Domain, Signer, StandSigner};
 use crate::signed_log::SignedDealerLog;
 use bytes::BytesMut;
 use dkg_values::{Key, Map, Mem, Set, Value, Write};
 use std::alloc::Global;
 
-/// What a log's mark is on: the round and the log.
-#[tactic(auto, unfolding(crate::specs::ValidLogs::log_content))]
-fn content_of_log(alloc: Global, round: &Round, log: &DealerLog) -> Mem<BytesMut>
-    ensures { IfOk result (λ content. content.items ≡ log_content round.now log.now) }
+/// What comes behind the round in what a log's mark is on.
+fn bytes_of(alloc: Global, log: &DealerLog) -> Mem<BytesMut>
+    ensures { IfOk result (λ bytes. bytes.items ≡ log_spelling log.now) }
 {
-    let mut content = BytesMut::new(alloc);
-    write_round(round, &mut content)?;
-    log.put(&mut content)?;
-    Ok(content)
+    let mut bytes = BytesMut::new(alloc);
+    log.put(&mut bytes)?;
+    Ok(bytes)
 }
 
 /// Whether a log comes from a dealer of the round, and bears its mark.
-#[tactic(auto, unfolding(crate::specs::ValidLogs::check_log_of))]
+#[tactic(auto, unfolding(crate::specs::ValidLogs::check_log_of, crate::specs::ValidLogs::log_content))]
 pub(crate) fn check_log(alloc: Global, round: &Round, signed: &SignedDealerLog) -> Mem<bool>
     ensures { IfOk result (λ b. b ≡ check_log_of round.now signed.now) }
 {
-    if !round.dealers.has(signed.dealer) {
+    if !round.parts().dealers.has(signed.dealer) {
         return Ok(false);
     }
-    let content = content_of_log(alloc, round, &signed.log)?;
-    Ok(mark_of(signed.dealer, Domain::Log, &content) == signed.mark)
+    let bytes = bytes_of(alloc, &signed.log)?;
+    Ok(round.mark(signed.dealer, Domain::Log, &bytes) == signed.mark)
 }
 
 /// What a log has for a player: its acknowledgement where there is one, or else its private half.
@@ -69,7 +68,7 @@ fn entries_of(
 }
 
 /// The log of a dealing, signed by its dealer.
-#[tactic(auto, unfolding(crate::specs::ValidLogs::sign_log_of))]
+#[tactic(auto, unfolding(crate::specs::ValidLogs::sign_log_of, crate::specs::ValidLogs::log_content))]
 pub(crate) fn sign_log(
     alloc: Global,
     signer: &StandSigner,
@@ -83,10 +82,10 @@ pub(crate) fn sign_log(
 {
     let log = DealerLog {
         public: public.copy(alloc)?,
-        entries: entries_of(alloc, &round.players, privates, acks)?,
+        entries: entries_of(alloc, &round.parts().players, privates, acks)?,
     };
-    let content = content_of_log(alloc, round, &log)?;
-    let mark = signer.sign(Domain::Log, &content);
+    let bytes = bytes_of(alloc, &log)?;
     let dealer = signer.public_key();
+    let mark = round.mark(dealer, Domain::Log, &bytes);
     Ok(SignedDealerLog { dealer, log, mark })
 }

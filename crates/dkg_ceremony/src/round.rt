@@ -1,21 +1,28 @@
 //! What one round of a ceremony is about, and its bytes, which marks bind.
 //!
-//! A ceremony draws up a round, and each of its other calls takes one.
-ghost use Rattle.std.specs.Prelude.{◌≡◌, ◌++◌, ◌↔◌, IfOk, OnOk, IsTrue};
+//! A ceremony draws up a round, and each of its other calls takes one. The bytes are written once, when it is drawn up.
+ghost use Rattle.std.specs.Prelude.{◌≡◌, ◌∷◌, [], ◌++◌, ◌↔◌, IfOk, OnOk, IsTrue};
+ghost use Rattle.std.specs.Int.{w32, to_be_bytes};
 ghost use Rattle.std.specs.Option.{option_copied};
+ghost use Rattle.sha2.specs.Hashers.{Holds256};
+ghost use Rattle.dkg_ceremony.specs.declared.sign.Domain.TheVariants as domains;
+ghost use Rattle.dkg_ceremony.specs.Marks.{domain_byte, mark_of as mark_from};
 ghost use Rattle.dkg_ceremony.specs.Rounds.{round_bytes, previous_bytes};
 ghost use Rattle.dkg_ceremony.specs.declared.round.RoundError.TheVariants.{NoMemory as NoMemoryLeft};
 
 use crate::mode::{Mode, Reveal, byte_of_mode, byte_of_reveal};
 use crate::output::Output;
+use crate::sign::{Domain, hash_behind, mark_behind};
 use bytes::{BufMut, BytesMut};
-use dkg_values::{Blob, Mem, NoMemory, Set, Value, Write, write_uint};
+use dkg_values::{Blob, Key, Mark, Mem, NoMemory, Set, Value, Write, write_uint};
+use sha2::Sha256;
 use std::alloc::{AllocError, AllocFailed, Global};
+use std::marker::Model;
 use thiserror::Error;
 
 /// Who deals to whom, after which output, under which name and number.
 #[derive(Drop)]
-pub struct Round {
+pub struct RoundParts {
     /// What keeps the marks of two chains apart.
     pub namespace: Blob,
     pub number: u64,
@@ -25,6 +32,38 @@ pub struct Round {
     pub reveal: Reveal,
     pub dealers: Set,
     pub players: Set,
+}
+
+/// What all acknowledgements of a player begin with, hashed.
+#[derive(Drop)]
+struct Begun {
+    player: Key,
+    hash: Sha256,
+}
+
+/// A round with its bytes, which contracts see as its parts.
+#[derive(Drop)]
+pub struct Round {
+    parts: RoundParts,
+    bytes: BytesMut,
+    begun: Option<Begun>,
+}
+
+impl Model for Round {
+    ghost use Rattle.std.specs.Prelude.{◌≡◌, ◌∷◌, [], ◌++◌, IfSome};
+    ghost use Rattle.std.specs.Int.{w32, to_be_bytes};
+    ghost use Rattle.sha2.specs.Hashers.{Holds256};
+    ghost use Rattle.dkg_ceremony.specs.declared.round.RoundParts.{RoundParts};
+    ghost use Rattle.dkg_ceremony.specs.declared.sign.Domain.TheVariants as domains;
+    ghost use Rattle.dkg_ceremony.specs.Marks.{domain_byte};
+    ghost use Rattle.dkg_ceremony.specs.Rounds.{round_bytes};
+
+    ghost Value = { RoundParts };
+
+    ghost view = { λ r. r.parts };
+
+    ghost invariant = { λ r. (r.bytes.items ≡ round_bytes r.parts)
+        × IfSome r.begun (λ b. Holds256 b.hash (to_be_bytes w32 b.player ++ domain_byte domains.Ack ∷ [] ++ r.bytes.items)) };
 }
 
 /// Why no round is drawn up; of several, the first.
@@ -87,9 +126,9 @@ fn is_same_previous(one: &Option<Output>, other: &Option<Output>) -> bool
     }
 }
 
-impl Value for Round {
-    fn copy(&self, alloc: Global) -> Mem<Round> {
-        Ok(Round {
+impl Value for RoundParts {
+    fn copy(&self, alloc: Global) -> Mem<RoundParts> {
+        Ok(RoundParts {
             namespace: self.namespace.copy(alloc)?,
             number: self.number,
             previous: copy_of_previous(alloc, self.previous.as_ref())?,
@@ -100,7 +139,7 @@ impl Value for Round {
         })
     }
 
-    fn same(&self, other: &Round) -> bool {
+    fn same(&self, other: &RoundParts) -> bool {
         self.number == other.number
             && self.mode == other.mode
             && self.reveal == other.reveal
@@ -108,6 +147,23 @@ impl Value for Round {
             && is_same_previous(&self.previous, &other.previous)
             && self.dealers.same(&other.dealers)
             && self.players.same(&other.players)
+    }
+}
+
+impl Value for Round {
+    /// The copy has hashed nothing.
+    fn copy(&self, alloc: Global) -> Mem<Round> {
+        let mut bytes = BytesMut::new(alloc);
+        bytes.put_slice(&self.bytes)?;
+        Ok(Round {
+            parts: self.parts.copy(alloc)?,
+            bytes,
+            begun: None,
+        })
+    }
+
+    fn same(&self, other: &Round) -> bool {
+        self.parts.same(&other.parts)
     }
 }
 
@@ -126,7 +182,7 @@ fn write_previous(previous: &Option<Output>, out: &mut BytesMut) -> Mem<()>
 
 /// Writes the bytes of a round, on which its marks are made.
 #[tactic(auto, unfolding(crate::specs::Rounds::round_bytes))]
-pub(crate) fn write_round(round: &Round, out: &mut BytesMut) -> Mem<()>
+fn write_round(round: &RoundParts, out: &mut BytesMut) -> Mem<()>
     ensures { OnOk result (out.new.items ≡ out.old.items ++ round_bytes round.now) }
 {
     let namespace = round.namespace.as_slice();
@@ -137,4 +193,74 @@ pub(crate) fn write_round(round: &Round, out: &mut BytesMut) -> Mem<()>
     out.put_slice(&[byte_of_mode(round.mode), byte_of_reveal(round.reveal)])?;
     round.dealers.put(out)?;
     round.players.put(out)
+}
+
+impl Round {
+    /// The round of these parts, with its bytes.
+    pub fn new(alloc: Global, parts: RoundParts) -> Mem<Round>
+        ensures { IfOk result (λ round. round ≡ parts) }
+    {
+        let mut bytes = BytesMut::new(alloc);
+        write_round(&parts, &mut bytes)?;
+        Ok(Round {
+            parts,
+            bytes,
+            begun: None,
+        })
+    }
+
+    /// What the round is about.
+    pub fn parts(&self) -> &RoundParts
+        ensures { result.now ≡ self.now }
+    {
+        &self.parts
+    }
+
+    /// Its bytes.
+    pub(crate) fn bytes(&self) -> &[u8]
+        ensures { result.now ≡ round_bytes self.now }
+    {
+        &self.bytes
+    }
+
+    /// Hashes what all acknowledgements of a player begin with, so that each of them hashes the rest alone.
+    pub fn begin_acks(&mut self, player: Key)
+        ensures { self.new ≡ self.old }
+    {
+        self.begun = Some(Begun {
+            player,
+            hash: hash_behind(player, Domain::Ack, &self.bytes),
+        });
+    }
+
+    /// The hash of a key's marks in a domain, as far as the round goes.
+    fn hash_of(&self, key: Key, domain: Domain) -> Sha256
+        ensures { Holds256 result (to_be_bytes w32 key ++ domain_byte domain ∷ [] ++ round_bytes self.now) }
+    {
+        hash_behind(key, domain, self.bytes())
+    }
+
+    /// A key's mark on the round and on what comes behind it.
+    pub(crate) fn mark(&self, key: Key, domain: Domain, rest: &[u8]) -> Mark
+        ensures { result ≡ mark_from key domain (round_bytes self.now ++ rest.now) }
+    {
+        mark_behind(self.hash_of(key, domain), rest)
+    }
+
+    /// The hash of a player's acknowledgements, as far as the round goes.
+    fn ack_hash(&self, player: Key) -> Mem<Sha256>
+        ensures { IfOk result (λ hash. Holds256 hash (to_be_bytes w32 player ++ domain_byte domains.Ack ∷ [] ++ round_bytes self.now)) }
+    {
+        match &self.begun {
+            Some(begun) if begun.player == player => Ok(begun.hash.clone()?),
+            _ => Ok(self.hash_of(player, Domain::Ack)),
+        }
+    }
+
+    /// A player's acknowledgement of the round and of what comes behind it.
+    pub(crate) fn ack_mark(&self, player: Key, rest: &[u8]) -> Mem<Mark>
+        ensures { IfOk result (λ mark. mark ≡ mark_from player domains.Ack (round_bytes self.now ++ rest.now)) }
+    {
+        Ok(mark_behind(self.ack_hash(player)?, rest))
+    }
 }

@@ -24,9 +24,9 @@ fn is_to_select(alloc: Global, round: &Round, logs: &Map<DealerLog>, dealer: Key
 pub(crate) fn select(alloc: Global, round: &Round, logs: &Map<DealerLog>) -> Mem<Option<Vec<Key>>>
     ensures { IfOk result (λ selected. option_map (λ keys. keys.items) selected ≡ selected_of round.now logs.now) }
 {
-    let enough = quorum(round.dealers.len()) as usize;
+    let enough = quorum(round.parts().dealers.len()) as usize;
     let mut selected = Vec::new(alloc);
-    for dealer in round.dealers.as_slice() {
+    for dealer in round.parts().dealers.as_slice() {
         if selected.len() == enough {
             return Ok(Some(selected));
         }

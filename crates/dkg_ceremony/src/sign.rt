@@ -1,7 +1,10 @@
 //! Marks: what stands for a signature in the small ceremony, and who makes them.
 //!
 //! Acknowledgements, logs, round summaries and finalizations each bear one.
-ghost use Rattle.std.specs.Prelude.{◌≡◌, ℕ, List};
+ghost use Rattle.std.specs.Prelude.{◌≡◌, ℕ, List, [], ◌∷◌, ◌++◌, take};
+ghost use Rattle.std.specs.Int.{w32, to_be_bytes};
+ghost use Rattle.sha2.specs.Hashers.{Holds256};
+ghost use Rattle.sha2.specs.Sha256.{sha256};
 ghost use Rattle.dkg_ceremony.specs.Marks.{domain_byte, mark_of as mark_from};
 
 use dkg_values::{Key, Mark};
@@ -32,19 +35,34 @@ fn byte_of(domain: Domain) -> u8
     }
 }
 
+/// The hash of a key, a domain and what comes first of a content.
+pub(crate) fn hash_behind(key: Key, domain: Domain, first: &[u8]) -> Sha256
+    ensures { Holds256 result (to_be_bytes w32 key ++ domain_byte domain ∷ [] ++ first.now) }
+{
+    let mut hasher = Sha256::new();
+    hasher.update(&key.0.to_be_bytes());
+    hasher.update(&[byte_of(domain)]);
+    hasher.update(first);
+    hasher
+}
+
+/// The mark that a hash comes to with the rest of a content: the first eight bytes of the digest.
+pub(crate) fn mark_behind(mut hasher: Sha256, rest: &[u8]) -> Mark
+    ensures { (m : List ℕ) → Holds256 hasher m → result ≡ take 8 (sha256 (m ++ rest.now)) }
+{
+    hasher.update(rest);
+    let digest: [u8; 32] = hasher.finalize();
+    Mark([
+        digest[0], digest[1], digest[2], digest[3], digest[4], digest[5], digest[6], digest[7],
+    ])
+}
+
 /// The mark of a key on a content: the first eight bytes of SHA-256 over the key, the domain's byte and the content.
 #[tactic(auto, unfolding(crate::specs::Marks::mark_of))]
 pub fn mark_of(key: Key, domain: Domain, content: &[u8]) -> Mark
     ensures { result ≡ mark_from key domain content.now }
 {
-    let mut hasher = Sha256::new();
-    hasher.update(&key.0.to_be_bytes());
-    hasher.update(&[byte_of(domain)]);
-    hasher.update(content);
-    let digest: [u8; 32] = hasher.finalize();
-    Mark([
-        digest[0], digest[1], digest[2], digest[3], digest[4], digest[5], digest[6], digest[7],
-    ])
+    mark_behind(hash_behind(key, domain, &[]), content)
 }
 
 /// Who makes marks under a key.

@@ -1,9 +1,10 @@
 //! A small ceremony in place of a real one: elements of a field of 65,521, and digests for signatures.
 //!
 //! It keeps all of a ceremony's rules and none of its secrets: public halves are the polynomials themselves.
-ghost use Rattle.std.specs.Prelude.{◌≡◌, IfOk};
+ghost use Rattle.std.specs.Prelude.{◌≡◌, ◌++◌, IfOk};
+ghost use Rattle.std.specs.Int.{w32, to_be_bytes};
 ghost use Rattle.std.specs.Option.{option_copied};
-ghost use Rattle.dkg_ceremony.specs.Acks.{ack_content};
+ghost use Rattle.dkg_values.specs.Lists.{public_spelling};
 ghost use Rattle.dkg_ceremony.specs.Rounds.{Draws, has_too_many, are_previous};
 
 use crate::ceremony::{AckError, Ceremony, DealingError};
@@ -17,8 +18,8 @@ use crate::mode::{Mode, Reveal};
 use crate::output::{Output, are_all_in};
 use crate::private::{Ack, Private, Share};
 use crate::public::Public;
-use crate::round::{Round, RoundError, copy_of_previous, write_round};
-use crate::sign::{Domain, Signer, StandSigner, mark_of};
+use crate::round::{Round, RoundError, RoundParts, copy_of_previous};
+use crate::sign::{Signer, StandSigner};
 use crate::signed_log::SignedDealerLog;
 use crate::threshold::quorum;
 use crate::valid_log::bears_ack;
@@ -53,21 +54,14 @@ fn come_from(dealers: &Set, previous: &Option<&Output>) -> bool
     }
 }
 
-/// What an acknowledgement is a mark on: the round, the dealer and the public half.
-#[tactic(auto, unfolding(crate::specs::Acks::ack_content))]
-pub(crate) fn content_of(
-    alloc: Global,
-    round: &Round,
-    dealer: Key,
-    public: &Public,
-) -> Mem<BytesMut>
-    ensures { IfOk result (λ content. content.items ≡ ack_content round.now dealer public.now) }
+/// What comes behind the round in what an acknowledgement is a mark on: the dealer and the public half.
+pub(crate) fn rest_of(alloc: Global, dealer: Key, public: &Public) -> Mem<BytesMut>
+    ensures { IfOk result (λ rest. rest.items ≡ to_be_bytes w32 dealer ++ public_spelling public.now) }
 {
-    let mut content = BytesMut::new(alloc);
-    write_round(round, &mut content)?;
-    content.put_u32(dealer.0)?;
-    public.put(&mut content)?;
-    Ok(content)
+    let mut rest = BytesMut::new(alloc);
+    rest.put_u32(dealer.0)?;
+    public.put(&mut rest)?;
+    Ok(rest)
 }
 
 impl Ceremony for StandCeremony {
@@ -155,7 +149,7 @@ impl Ceremony for StandCeremony {
         if !come_from(dealers, &previous) {
             return Err(RoundError::DealersNotPrevious);
         }
-        Ok(Round {
+        let parts = RoundParts {
             namespace: Blob::new(Vec::from_slice(alloc, namespace)?),
             number,
             previous: copy_of_previous(alloc, previous)?,
@@ -163,7 +157,8 @@ impl Ceremony for StandCeremony {
             reveal,
             dealers: dealers.copy(alloc)?,
             players: players.copy(alloc)?,
-        })
+        };
+        Ok(Round::new(alloc, parts)?)
     }
 
     #[tactic(auto, unfolding(crate::specs::Dealings::dealing_of))]
@@ -175,21 +170,22 @@ impl Ceremony for StandCeremony {
         public: &Public,
         private: &Private,
     ) -> Result<(), DealingError> {
-        if !round.dealers.has(dealer) {
+        if !round.parts().dealers.has(dealer) {
             return Err(DealingError::UnexpectedDealer);
         }
-        if public.as_slice().len() != quorum(round.players.len()) as usize {
+        if public.as_slice().len() != quorum(round.parts().players.len()) as usize {
             return Err(DealingError::InvalidCommitmentDegree);
         }
-        if !is_reshare(&round.previous, dealer, public) {
+        if !is_reshare(&round.parts().previous, dealer, public) {
             return Err(DealingError::MismatchedReshareCommitment);
         }
-        if !fits(&round.players, me, public, private.0) {
+        if !fits(&round.parts().players, me, public, private.0) {
             return Err(DealingError::InvalidDealerShare);
         }
         Ok(())
     }
 
+    #[tactic(auto, unfolding(crate::specs::Acks::ack_content))]
     fn ack(
         &self,
         alloc: Global,
@@ -198,8 +194,8 @@ impl Ceremony for StandCeremony {
         dealer: Key,
         public: &Public,
     ) -> Mem<Ack> {
-        let content = content_of(alloc, round, dealer, public)?;
-        Ok(Ack(signer.sign(Domain::Ack, &content)))
+        let rest = rest_of(alloc, dealer, public)?;
+        Ok(Ack(round.ack_mark(signer.public_key(), &rest)?))
     }
 
     #[tactic(auto, unfolding(crate::specs::Acks::ack_content, crate::specs::Acks::check_ack_of))]
@@ -212,11 +208,11 @@ impl Ceremony for StandCeremony {
         player: Key,
         ack: &Ack,
     ) -> Result<(), AckError> {
-        if !round.players.has(player) {
+        if !round.parts().players.has(player) {
             return Err(AckError::UnexpectedPlayer);
         }
-        let content = content_of(alloc, round, dealer, public)?;
-        if mark_of(player, Domain::Ack, &content) != ack.0 {
+        let rest = rest_of(alloc, dealer, public)?;
+        if round.ack_mark(player, &rest)? != ack.0 {
             return Err(AckError::InvalidAck);
         }
         Ok(())

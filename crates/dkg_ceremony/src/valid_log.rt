@@ -3,6 +3,7 @@
 //! An outcome is made of valid logs alone; a node looks in logs for its own acknowledgements.
 ghost use Rattle.std.specs.Prelude.{◌≡◌, length, IfOk};
 ghost use Rattle.std.specs.List.{count_by};
+ghost use Rattle.dkg_ceremony.specs.Acks.{ack_content};
 ghost use Rattle.dkg_ceremony.specs.ValidLogs.{ack_at as ack_from_log, bears_ack_of, entries_pass, entry_of as entry_from_log, entry_passes, is_reveal, is_valid};
 
 use crate::ceremony::{AckError, Ceremony};
@@ -13,10 +14,22 @@ use crate::private::Ack;
 use crate::public::Public;
 use crate::round::Round;
 use crate::sign::{Domain, mark_of};
-use crate::stand::{StandCeremony, content_of};
+use crate::stand::{StandCeremony, rest_of};
 use crate::threshold::{max_faults, quorum};
+use bytes::{BufMut, BytesMut};
 use dkg_values::{Key, Mem, NoMemory, Set};
 use std::alloc::Global;
+
+/// What an acknowledgement is a mark on: the round, the dealer and the public half.
+#[tactic(auto, unfolding(crate::specs::Acks::ack_content))]
+fn content_of(alloc: Global, round: &Round, dealer: Key, public: &Public) -> Mem<BytesMut>
+    ensures { IfOk result (λ content. content.items ≡ ack_content round.now dealer public.now) }
+{
+    let mut content = BytesMut::new(alloc);
+    content.put_slice(round.bytes())?;
+    content.put_slice(&rest_of(alloc, dealer, public)?)?;
+    Ok(content)
+}
 
 /// Whether an entry is its player's acknowledgement of the content, or the polynomial's value at the player's point.
 fn is_entry(content: &[u8], public: &Public, place: u32, player: Key, entry: &LogEntry) -> bool
@@ -61,17 +74,17 @@ fn revealed(entries: &[LogEntry]) -> usize
 pub(crate) fn is_valid_log(alloc: Global, round: &Round, dealer: Key, log: &DealerLog) -> Mem<bool>
     ensures { IfOk result (λ b. b ≡ is_valid round.now dealer log.now) }
 {
-    let players = round.players.len();
+    let players = round.parts().players.len();
     let entries = log.entries.as_slice();
     if log.public.as_slice().len() != quorum(players) as usize
-        || !is_reshare(&round.previous, dealer, &log.public)
+        || !is_reshare(&round.parts().previous, dealer, &log.public)
         || entries.len() != players as usize
         || revealed(entries) > max_faults(players) as usize
     {
         return Ok(false);
     }
     let content = content_of(alloc, round, dealer, &log.public)?;
-    Ok(are_entries(&content, &log.public, &round.players, entries))
+    Ok(are_entries(&content, &log.public, &round.parts().players, entries))
 }
 
 /// What a log has for a player.
@@ -103,7 +116,7 @@ pub(crate) fn bears_ack(
 ) -> Mem<bool>
     ensures { IfOk result (λ b. b ≡ bears_ack_of round.now dealer log.now player) }
 {
-    let Some(ack) = ack_at(&round.players, player, log) else {
+    let Some(ack) = ack_at(&round.parts().players, player, log) else {
         return Ok(false);
     };
     match StandCeremony.check_ack(alloc, round, dealer, &log.public, player, &ack) {

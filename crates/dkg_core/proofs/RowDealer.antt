@@ -7,7 +7,7 @@ use Rattle.dkg_values.specs.Uint.{groups, groups_at}
 use Rattle.dkg_ceremony.specs.declared.mode.Mode.TheVariants.{NonZeroCounter}
 use Rattle.dkg_ceremony.specs.declared.mode.Reveal.TheVariants.{V1}
 use Rattle.dkg_ceremony.specs.declared.phase.Phase.TheVariants.{Early}
-use Rattle.dkg_ceremony.specs.declared.round.Round.{Round}
+use Rattle.dkg_ceremony.specs.declared.round.RoundParts.{RoundParts as Round}
 use Rattle.dkg_ceremony.specs.declared.signed_log.SignedDealerLog.{SignedDealerLog}
 use Rattle.dkg_ceremony.specs.Acks.{ack_content, ack_of, check_ack_of}
 use Rattle.dkg_ceremony.specs.Deals.{deal_of, coefficient_of, dealt_poly}

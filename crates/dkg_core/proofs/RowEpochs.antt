@@ -6,7 +6,7 @@ use Rattle.dkg_values.specs.Uint.{groups}
 use Rattle.dkg_ceremony.specs.declared.mode.Mode.TheVariants.{NonZeroCounter}
 use Rattle.dkg_ceremony.specs.declared.mode.Reveal.TheVariants.{V1}
 use Rattle.dkg_ceremony.specs.declared.phase.Phase.TheVariants.{Early}
-use Rattle.dkg_ceremony.specs.declared.round.Round.{Round}
+use Rattle.dkg_ceremony.specs.declared.round.RoundParts.{RoundParts as Round}
 use Rattle.dkg_ceremony.specs.Deals.{deal_of, coefficient_of}
 use Rattle.dkg_ceremony.specs.PartialPublics.{partial_public_of}
 use Rattle.dkg_ceremony.specs.Polynomials.{value_at}

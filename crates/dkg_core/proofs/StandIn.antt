@@ -11,7 +11,7 @@ use Rattle.dkg_ceremony.specs.Rounds.{round_of}
 use Rattle.dkg_ceremony.specs.declared.mode.Mode.{Mode}
 use Rattle.dkg_ceremony.specs.declared.mode.Reveal.{Reveal}
 use Rattle.dkg_ceremony.specs.declared.output.Output.{Output}
-use Rattle.dkg_ceremony.specs.declared.round.Round.{Round}
+use Rattle.dkg_ceremony.specs.declared.round.RoundParts.{RoundParts as Round}
 use Rattle.dkg_core.specs.Fixed.{Fixed, Rules, has}
 use Rattle.dkg_core.specs.Laws.{StandInsAreCeremonies}
 

@@ -1,7 +1,7 @@
 -- Memory has what the devices give back, behind every completed opening and step.
 use Rattle.std.specs.Prelude.{ℕ, List, ◌≡◌, Option, Some, option_and_then}
 use Rattle.std.specs.FinMap as maps
-use Rattle.dkg_ceremony.specs.declared.round.Round.{Round}
+use Rattle.dkg_ceremony.specs.declared.round.RoundParts.{RoundParts as Round}
 use Rattle.dkg_ceremony.specs.declared.signed_log.SignedDealerLog.{SignedDealerLog}
 use Rattle.dkg_types.specs.PayloadCodes.{its_log}
 use Rattle.dkg_types.specs.declared.info.EpochInfo.{EpochInfo}

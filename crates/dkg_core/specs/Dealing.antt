@@ -10,7 +10,7 @@ use Rattle.dkg_ceremony.specs.declared.ceremony.AckError.{AckError}
 use Rattle.dkg_ceremony.specs.declared.ceremony.AckError.TheVariants.{UnexpectedPlayer, InvalidAck, NoMemory}
 use Rattle.dkg_ceremony.specs.declared.ceremony.DealingError.{DealingError}
 use Rattle.dkg_ceremony.specs.declared.ceremony.DealingError.TheVariants.{UnexpectedDealer, InvalidCommitmentDegree, MismatchedReshareCommitment, InvalidDealerShare}
-use Rattle.dkg_ceremony.specs.declared.round.Round.{Round}
+use Rattle.dkg_ceremony.specs.declared.round.RoundParts.{RoundParts as Round}
 use Rattle.dkg_types.specs.declared.entry.BlockedWhy.{BlockedWhy}
 use Rattle.dkg_types.specs.declared.entry.BlockedWhy.TheVariants as why
 use Rattle.dkg_types.specs.declared.entry.Entry.TheVariants.{Recorded, Ack, Offer, Blocked}

@@ -7,7 +7,7 @@ use Rattle.dkg_values.specs.Codec.{Reading}
 use Rattle.dkg_values.specs.Rising.{place_of}
 use Rattle.dkg_ceremony.specs.declared.mode.Mode.{Mode}
 use Rattle.dkg_ceremony.specs.declared.mode.Reveal.{Reveal}
-use Rattle.dkg_ceremony.specs.declared.round.Round.{Round}
+use Rattle.dkg_ceremony.specs.declared.round.RoundParts.{RoundParts as Round}
 use Rattle.dkg_ceremony.specs.declared.round.RoundError.{RoundError}
 use Rattle.dkg_ceremony.specs.declared.output.Output.{Output}
 use Rattle.dkg_ceremony.specs.declared.ceremony.DealingError.{DealingError}

@@ -2,7 +2,7 @@
 use Rattle.std.specs.Prelude.{ℕ, Bool, true, false, ◌&&◌, ◌==◌, [], ◌∷◌, option_map, Some}
 use Rattle.std.specs.Str.{bytes_eq}
 use Rattle.dkg_ceremony.specs.declared.dealer_log.DealerLog.{DealerLog}
-use Rattle.dkg_ceremony.specs.declared.round.Round.{Round}
+use Rattle.dkg_ceremony.specs.declared.round.RoundParts.{RoundParts as Round}
 use Rattle.dkg_ceremony.specs.declared.signed_log.SignedDealerLog.{SignedDealerLog}
 use Rattle.dkg_ceremony.specs.Logs.{log_spelling}
 use Rattle.dkg_ceremony.specs.Outcomes.{LogMap}

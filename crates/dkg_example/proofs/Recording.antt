@@ -7,7 +7,7 @@ use Rattle.dkg_journal.specs.declared.journal.Journal.{Journal}
 use Rattle.dkg_example.specs.declared.Answer.TheVariants.{Block}
 use Rattle.std.specs.FinMap.{FinMap, get, insert, empty, get-empty}
 use Rattle.std.specs.Ordering.{nat_cmp}
-use Rattle.dkg_ceremony.specs.declared.round.Round.{Round}
+use Rattle.dkg_ceremony.specs.declared.round.RoundParts.{RoundParts as Round}
 use Rattle.dkg_store.specs.Pairs.{Pairs}
 use Rattle.dkg_store.specs.Player.{Acknowledges, IsPlayerOf}
 use Rattle.dkg_store.specs.declared.player.Player.{Player}

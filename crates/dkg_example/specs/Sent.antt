@@ -2,7 +2,7 @@
 use Rattle.std.specs.Prelude.{◌≡◌, ◌-◌, ◌<◌, ◌⊎◌, ℕ, nat_le, List, length, Contains, IsErr, IsSome, None, Result}
 use Rattle.std.specs.FinMap.{get, retain_keys}
 use Rattle.dkg_ceremony.specs.declared.ceremony.DealingError.{DealingError}
-use Rattle.dkg_ceremony.specs.declared.round.Round.{Round}
+use Rattle.dkg_ceremony.specs.declared.round.RoundParts.{RoundParts as Round}
 use Rattle.dkg_store.specs.Pairs.{Pairs}
 use Rattle.dkg_store.specs.Player.{Acknowledges, IsPlayerOf}
 use Rattle.dkg_example.specs.declared.Answer.{Answer}

@@ -76,7 +76,7 @@ fn live_over(
     heard: [&[u8]; 3],
 ) -> Result<Result<[Option<Ack>; 3], StoreError>, Fail> {
     let round = round_of(alloc)?;
-    if !round.players.has(ME) {
+    if !round.parts().players.has(ME) {
         return Err(Fail::from("the key is no player"));
     }
     let me = StandSigner::new(ME);

@@ -6,7 +6,7 @@ use Rattle.std.specs.Result.{result_ok}
 use Rattle.std.proofs.lemmas.List.FromFn.{get_or-range_with_len, length-range_with_len}
 use Rattle.dkg_values.specs.declared.codec.CodecError.{CodecError}
 use Rattle.dkg_ceremony.specs.declared.output.Output.{Output}
-use Rattle.dkg_ceremony.specs.declared.round.Round.{Round}
+use Rattle.dkg_ceremony.specs.declared.round.RoundParts.{RoundParts as Round}
 use Rattle.dkg_ceremony.specs.OutputGrammar.{parts_of_output}
 use Rattle.dkg_ceremony.specs.Outcomes.{LogMap, combined_of, keeps_key, outcome_of, outcome_parts, output_with, revealed_of, selected_of, sum_of}
 use Rattle.dkg_ceremony.specs.Outputs.{OutputParts, do_parts_agree, output_from}

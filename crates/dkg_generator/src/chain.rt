@@ -12,7 +12,7 @@ ghost use Rattle.dkg_generator.specs.Chain.{acks_of as acks_from, by_dealer as b
 
 use dkg_ceremony::{
     Ack, Blob, Ceremony, DealError, DealerLog, Element, Epoch, Key, Map, Mark, Mem, Mode, NoMemory,
-    Output, Private, Public, Reveal, Round, Seed, Set, Share, Sharing, SignedDealerLog,
+    Output, Private, Public, Reveal, Round, RoundParts, Seed, Set, Share, Sharing, SignedDealerLog,
     StandCeremony, StandSigner, Value,
 };
 use dkg_types::{EpochInfo, EpochOutcome, Unit};
@@ -88,7 +88,7 @@ pub(crate) fn genesis(alloc: Global, number: u64) -> Mem<EpochInfo<Unit>>
 pub(crate) fn round_after(alloc: Global, info: &EpochInfo<Unit>) -> Mem<Round>
     ensures { IfOk result (λ round. round ≡ round_from info.now) }
 {
-    Ok(Round {
+    let parts = RoundParts {
         namespace: Blob::new(Vec::new(alloc)),
         number: info.epoch.0,
         previous: Some(info.output.copy(alloc)?),
@@ -96,7 +96,8 @@ pub(crate) fn round_after(alloc: Global, info: &EpochInfo<Unit>) -> Mem<Round>
         reveal: Reveal::V1,
         dealers: everybody(alloc)?,
         players: everybody(alloc)?,
-    })
+    };
+    Round::new(alloc, parts)
 }
 
 /// What a dealer but this node draws its coefficients from.

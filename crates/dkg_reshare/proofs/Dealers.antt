@@ -9,7 +9,7 @@ use Rattle.dkg_ceremony.specs.Thresholds.{max_faults_of}
 use Rattle.dkg_ceremony.specs.declared.deal.DealError.TheVariants.{ShareRefused as DealRefused}
 use Rattle.dkg_ceremony.specs.declared.phase.Phase.{Phase}
 use Rattle.dkg_ceremony.specs.declared.phase.Phase.TheVariants.{Early, Midpoint, Late}
-use Rattle.dkg_ceremony.specs.declared.round.Round.{Round}
+use Rattle.dkg_ceremony.specs.declared.round.RoundParts.{RoundParts as Round}
 use Rattle.dkg_ceremony.specs.declared.signed_log.SignedDealerLog.{SignedDealerLog}
 use Rattle.dkg_fence.specs.Readiness.{Readiness}
 use Rattle.dkg_types.specs.declared.fault.Fault.{Fault}

@@ -1,7 +1,7 @@
 -- A life's dealer, and all that holds of a life, between two calls.
 use Rattle.std.proofs.Common.{◌≡◌, ℕ, Bool, List, Option, Some, None, Result, Ok, Err, refl, sym, ◌∙◌, ap, subst}
 use Rattle.std.specs.Prelude.{IfSome, IsSomeAnd, IsTrue, OnOk, option_map, if◌then◌else◌}
-use Rattle.dkg_ceremony.specs.declared.round.Round.{Round}
+use Rattle.dkg_ceremony.specs.declared.round.RoundParts.{RoundParts as Round}
 use Rattle.dkg_journal.specs.Names.{Files}
 use Rattle.dkg_store.specs.Dealer.{IsDealerOf}
 use Rattle.dkg_store.specs.Pairs.{Pairs}

@@ -9,7 +9,7 @@ use Rattle.std.proofs.lemmas.Slice.Eq.{bytes_eq-Decides}
 use Rattle.dkg_values.specs.Rising.{lookup}
 use Rattle.dkg_ceremony.specs.declared.ceremony.DealingError.{DealingError}
 use Rattle.dkg_ceremony.specs.declared.deal.DealError.{DealError}
-use Rattle.dkg_ceremony.specs.declared.round.Round.{Round}
+use Rattle.dkg_ceremony.specs.declared.round.RoundParts.{RoundParts as Round}
 use Rattle.dkg_fence.specs.Readiness.{Readiness}
 use Rattle.dkg_journal.specs.Names.{Files}
 use Rattle.dkg_types.specs.declared.entry.Entry.{Entry as Line}

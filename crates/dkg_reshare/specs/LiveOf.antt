@@ -1,7 +1,7 @@
 -- What an actor has in memory, as the relation's Live.
 use Rattle.std.specs.Prelude.{ℕ, Bool, true, false, [], ◌∷◌, ◌++◌, reverse, IsTrue, List, ◌≡◌, ◌≤◌, ◌<◌, ◌+◌, ◌^◌, Contains, Option, Some, None, option_map, IfSome, IsSomeAnd, length}
 use Rattle.std.specs.FinMap as maps
-use Rattle.dkg_ceremony.specs.declared.round.Round.{Round}
+use Rattle.dkg_ceremony.specs.declared.round.RoundParts.{RoundParts as Round}
 use Rattle.std.specs.Option.{option_map_or}
 use Rattle.dkg_ceremony.specs.Schedule.{epoch_of, last, midpoint}
 use Rattle.dkg_fence.specs.Readiness.{Readiness}

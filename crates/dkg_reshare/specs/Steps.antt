@@ -2,7 +2,7 @@
 use Rattle.std.specs.Prelude.{◌≡◌, ◌⊎◌, ◌+◌, ◌<◌, ◌^◌, ◌==◌, ⊤, nat_le, ℕ, Bool, true, false, List, length, map, Option, Some, None, option_map, option_and_then, Result, Ok, Err, if◌then◌else◌}
 use Rattle.dkg_ceremony.specs.declared.phase.Phase.{Phase}
 use Rattle.dkg_ceremony.specs.declared.phase.Phase.TheVariants as phase
-use Rattle.dkg_ceremony.specs.declared.round.Round.{Round}
+use Rattle.dkg_ceremony.specs.declared.round.RoundParts.{RoundParts as Round}
 use Rattle.dkg_ceremony.specs.declared.round.RoundError.{RoundError}
 use Rattle.dkg_ceremony.specs.declared.epocher.Bounds.{Bounds}
 use Rattle.dkg_ceremony.specs.Schedule.{bounds_at, epoch_of, first, last, midpoint}

@@ -6,7 +6,7 @@ ghost use Rattle.std.specs.FinMap as map;
 ghost use Rattle.std.specs.Int.NonZero.{non_zero_u32_get};
 ghost use Rattle.std.specs.Result.{result_ok};
 ghost use Rattle.dkg_values.specs.Codec.{whole};
-ghost use Rattle.dkg_ceremony.specs.declared.round.Round.{Round};
+ghost use Rattle.dkg_ceremony.specs.declared.round.RoundParts.{RoundParts as Round};
 ghost use Rattle.dkg_fence.specs.Readiness.{Readiness};
 ghost use Rattle.dkg_journal.specs.Disk.{Rose};
 ghost use Rattle.dkg_journal.specs.Fuse.{Reached};
@@ -289,7 +289,7 @@ fn round_dealt<Dir: Directory + Drop>(life: &Life<Dir>) -> Option<Epoch>
     ensures { result ≡ round_dealt life.now }
 {
     match life.stage {
-        Stage::Dealing => life.round.as_ref().map(|round| Epoch(round.number)),
+        Stage::Dealing => life.round.as_ref().map(|round| Epoch(round.parts().number)),
         Stage::Including | Stage::Following => None,
     }
 }

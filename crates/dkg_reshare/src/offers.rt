@@ -7,7 +7,7 @@ ghost use Rattle.std.specs.FinMap as map;
 ghost use Rattle.std.specs.Int.NonZero.{non_zero_u32_get};
 ghost use Rattle.std.specs.List.{AllByRecursion};
 ghost use Rattle.dkg_values.specs.Rising.{lookup};
-ghost use Rattle.dkg_ceremony.specs.declared.round.Round.{Round};
+ghost use Rattle.dkg_ceremony.specs.declared.round.RoundParts.{RoundParts as Round};
 ghost use Rattle.dkg_fence.specs.Readiness.{Readiness};
 ghost use Rattle.dkg_journal.specs.Disk.{Rose};
 ghost use Rattle.dkg_journal.specs.Fuse.{Reached};
@@ -282,7 +282,7 @@ pub(crate) fn deal<C: Ceremony, Dir: Directory + Drop, D: Disk, X: SecretStore>(
     let Some(dealer) = &life.dealer else {
         return Ok(());
     };
-    let epoch = Epoch(round.number);
+    let epoch = Epoch(round.parts().number);
     let unsent = unsent_of(alloc, dealer)?;
     offer_all(
         alloc, ceremony, signer, terms, life, devices, epoch, unsent, out,

@@ -443,10 +443,10 @@ fn player_of<C: Ceremony, Dir: Directory + Drop>(
         → SeatsBy C.round_of C.dealing_of C.bears_ack_of c.rules → st.records ≡ records_of store.now → MakesPlayer c round.now phase dealer st result }
     ensures causes { IfErr result (λ stop. IsCaused stop ⊥ ⊥ ⊥) }
 {
-    if !round.players.has(me) {
+    if !round.parts().players.has(me) {
         return Ok(None);
     }
-    let epoch = Epoch(round.number);
+    let epoch = Epoch(round.parts().number);
     Ok(store.create_player(alloc, ceremony, epoch, me, round)?)
 }
 
@@ -469,7 +469,7 @@ fn is_dealer(me: Key, round: &Round, share: Option<Share>) -> bool
     ensures may { result ≡ (has round.now.dealers me && (is_some share || is_none round.now.previous)) }
     ensures among { IsTrue result → Contains round.now.dealers me }
 {
-    round.dealers.has(me) && (share.is_some() || round.previous.is_none())
+    round.parts().dealers.has(me) && (share.is_some() || round.parts().previous.is_none())
 }
 
 /// The node's dealer, where it may deal in the round (`may_deal`, `dealt_by` but for what follows).
@@ -498,13 +498,13 @@ fn dealer_of<C: Ceremony, Dir: Directory + Drop>(
     let dealer = store.create_dealer(
         alloc,
         ceremony,
-        Epoch(round.number),
+        Epoch(round.parts().number),
         signer,
         round,
         secrets.share.as_ref(),
         &secrets.seed,
     )?;
-    Ok(dealer_for_phase(phase, round.players.len(), dealer))
+    Ok(dealer_for_phase(phase, round.parts().players.len(), dealer))
 }
 
 /// The node's part in the round.

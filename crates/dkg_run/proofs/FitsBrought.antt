@@ -17,7 +17,7 @@ use Rattle.dkg_ceremony.specs.LogEntries.{EntriesFit}
 use Rattle.dkg_ceremony.specs.Logs.{LogFits, SignedFits}
 use Rattle.dkg_ceremony.specs.Marks.{domain_byte, mark_of}
 use Rattle.dkg_ceremony.specs.declared.dealer_log.DealerLog.{DealerLog}
-use Rattle.dkg_ceremony.specs.declared.round.Round.{Round}
+use Rattle.dkg_ceremony.specs.declared.round.RoundParts.{RoundParts as Round}
 use Rattle.dkg_ceremony.specs.declared.sign.Domain.{Domain}
 use Rattle.dkg_ceremony.specs.declared.sign.Domain.TheVariants as domains
 use Rattle.dkg_ceremony.specs.declared.signed_log.SignedDealerLog.{SignedDealerLog}

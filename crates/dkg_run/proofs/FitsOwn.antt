@@ -13,7 +13,7 @@ use Rattle.dkg_ceremony.specs.Thresholds.{quorum_of}
 use Rattle.dkg_ceremony.specs.declared.deal.DealError.{DealError}
 use Rattle.dkg_ceremony.specs.declared.deal.DealError.TheVariants.{ShareRefused}
 use Rattle.dkg_ceremony.specs.declared.output.Output.{Output}
-use Rattle.dkg_ceremony.specs.declared.round.Round.{Round}
+use Rattle.dkg_ceremony.specs.declared.round.RoundParts.{RoundParts as Round}
 use Rattle.dkg_store.specs.Events.{no_limit}
 
 -- ITS COEFFICIENTS are below the prime

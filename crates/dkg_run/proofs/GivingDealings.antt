@@ -4,7 +4,7 @@ use Rattle.std.specs.Prelude.{Contains, slice_get}
 use Rattle.std.specs.FinMap.{get}
 use Rattle.dkg_values.specs.Places.{place_of-Contains}
 use Rattle.dkg_ceremony.specs.Dealings.{dealing_of}
-use Rattle.dkg_ceremony.specs.declared.round.Round.{Round}
+use Rattle.dkg_ceremony.specs.declared.round.RoundParts.{RoundParts as Round}
 use Rattle.dkg_journal.specs.Names.{Files}
 use Rattle.dkg_journal.specs.Records.{Entry}
 use Rattle.dkg_secrets.specs.Secrets.{Secrets}

@@ -13,7 +13,7 @@ use Rattle.dkg_values.specs.declared.name.Name.TheVariants.{Plan}
 use Rattle.dkg_ceremony.specs.Acks.{ack_content}
 use Rattle.dkg_ceremony.specs.Marks.{domain_byte, mark_of}
 use Rattle.dkg_ceremony.specs.Modes.{supports_of}
-use Rattle.dkg_ceremony.specs.declared.round.Round.{Round}
+use Rattle.dkg_ceremony.specs.declared.round.RoundParts.{RoundParts as Round}
 use Rattle.dkg_ceremony.specs.declared.sign.Domain.{Domain}
 use Rattle.dkg_ceremony.specs.declared.sign.Domain.TheVariants as domains
 use Rattle.dkg_journal.specs.Names.{Files}

@@ -7,7 +7,7 @@ use Rattle.std.specs.Option.{option_map_or}
 use Rattle.std.proofs.lemmas.Bool.{and_parts, eqb-true}
 use Rattle.dkg_ceremony.specs.Dealings.{dealing_of}
 use Rattle.dkg_ceremony.specs.Schedule.{epoch_of, midpoint}
-use Rattle.dkg_ceremony.specs.declared.round.Round.{Round}
+use Rattle.dkg_ceremony.specs.declared.round.RoundParts.{RoundParts as Round}
 use Rattle.dkg_journal.specs.Names.{Files}
 use Rattle.dkg_journal.specs.Records.{entries}
 use Rattle.dkg_types.specs.Blocks as made

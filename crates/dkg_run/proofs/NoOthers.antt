@@ -9,7 +9,7 @@ use Rattle.std.specs.FinMap.{FinMap, find, get, empty, insert, get-retain_keys, 
 use Rattle.std.proofs.lemmas.Bool.Decides.{nat_tests}
 use Rattle.dkg_values.specs.Rising.{lookup}
 use Rattle.dkg_ceremony.specs.declared.ceremony.AckError.{AckError}
-use Rattle.dkg_ceremony.specs.declared.round.Round.{Round}
+use Rattle.dkg_ceremony.specs.declared.round.RoundParts.{RoundParts as Round}
 use Rattle.dkg_journal.specs.Operations.{Appends, Prunes, Journaled}
 use Rattle.dkg_journal.specs.Records.{Entry, placed, from_section}
 use Rattle.dkg_secrets.proofs.Map.{exact_keys, below_or}

@@ -10,7 +10,7 @@ use Rattle.dkg_ceremony.specs.PartialPublics.{partial_public_of, share_public_of
 use Rattle.dkg_ceremony.specs.Rounds.{round_of}
 use Rattle.dkg_ceremony.specs.Schedule.{boundary, epoch_of, last}
 use Rattle.dkg_ceremony.specs.declared.mode.Reveal.TheVariants.{V1}
-use Rattle.dkg_ceremony.specs.declared.round.Round.{Round}
+use Rattle.dkg_ceremony.specs.declared.round.RoundParts.{RoundParts as Round}
 use Rattle.dkg_journal.specs.Names.{Files}
 use Rattle.dkg_types.specs.BlockCodes.{info_of}
 use Rattle.dkg_types.specs.Blocks as made

@@ -9,7 +9,7 @@ use Rattle.dkg_values.specs.RisingLaws.{has_key-to}
 use Rattle.dkg_ceremony.specs.Dealings.{dealing_of}
 use Rattle.dkg_ceremony.specs.Schedule.{epoch_of, midpoint, phase_at}
 use Rattle.dkg_ceremony.specs.declared.phase.Phase.TheVariants.{Early, Midpoint, Late}
-use Rattle.dkg_ceremony.specs.declared.round.Round.{Round}
+use Rattle.dkg_ceremony.specs.declared.round.RoundParts.{RoundParts as Round}
 use Rattle.dkg_types.specs.BlockCodes.{info_of}
 use Rattle.dkg_types.specs.Blocks.{Block}
 use Rattle.dkg_types.specs.declared.directory.Unit as directory

@@ -6,7 +6,7 @@ use Rattle.std.specs.Str.{bytes_eq}
 use Rattle.std.proofs.lemmas.Bool.Decides.{nat_tests}
 use Rattle.dkg_ceremony.specs.declared.deal.DealError.{DealError}
 use Rattle.dkg_ceremony.specs.declared.phase.Phase.{Phase}
-use Rattle.dkg_ceremony.specs.declared.round.Round.{Round}
+use Rattle.dkg_ceremony.specs.declared.round.RoundParts.{RoundParts as Round}
 use Rattle.dkg_ceremony.specs.declared.round.RoundError.{RoundError}
 use Rattle.dkg_types.specs.Blocks.{Block}
 use Rattle.dkg_types.specs.BlockCodes.{info_of}

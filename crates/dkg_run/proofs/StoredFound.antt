@@ -9,7 +9,7 @@ use Rattle.dkg_ceremony.specs.RoundLaws as rounds
 use Rattle.dkg_ceremony.specs.Schedule.{boundary}
 use Rattle.dkg_ceremony.specs.declared.mode.Reveal.TheVariants.{V1}
 use Rattle.dkg_ceremony.specs.declared.output.Output.{Output}
-use Rattle.dkg_ceremony.specs.declared.round.Round.{Round}
+use Rattle.dkg_ceremony.specs.declared.round.RoundParts.{RoundParts as Round}
 use Rattle.dkg_ceremony.specs.declared.round.RoundError.{RoundError}
 use Rattle.std.specs.Prelude.{◌||◌, IfOk, IfSome, is_none, is_some, slice_get}
 use Rattle.dkg_types.specs.BlockCodes.{info_of}

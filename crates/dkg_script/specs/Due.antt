@@ -1,7 +1,7 @@
 -- When an acknowledgement is owed.
 use Rattle.std.specs.Prelude.{ℕ, List, ◌≡◌, ◌<◌, ◌-◌, ◌⊎◌, Bool, true, false, Ok, IsTrue, IsFalse, IsSome, IsSomeAnd, length}
 use Rattle.std.specs.List.{list_any}
-use Rattle.dkg_ceremony.specs.declared.round.Round.{Round}
+use Rattle.dkg_ceremony.specs.declared.round.RoundParts.{RoundParts as Round}
 use Rattle.dkg_ceremony.specs.Dealings.{dealing_of}
 use Rattle.dkg_values.specs.Rising.{has_key}
 use Rattle.dkg_types.specs.declared.entry.Entry.{Entry}

@@ -1,6 +1,6 @@
 -- What keeping the dealings means, for a dealer and for this node, and for whoever writes a transcript entry by entry.
 use Rattle.std.specs.Prelude.{ℕ, ◌+◌, ◌<◌, List, [], ◌∷◌, ◌++◌, ◌≡◌, Some, length}
-use Rattle.dkg_ceremony.specs.declared.round.Round.{Round}
+use Rattle.dkg_ceremony.specs.declared.round.RoundParts.{RoundParts as Round}
 use Rattle.dkg_ceremony.specs.Acks.{ack_of}
 use Rattle.dkg_journal.specs.Names.{Files}
 use Rattle.dkg_secrets.specs.Secrets.{Secrets}

@@ -5,7 +5,7 @@ use Rattle.std.specs.Result.{result_ok}
 use Rattle.std.proofs.lemmas.Bool.{cases_Bool, eqb-true}
 use Rattle.dkg_values.specs.declared.codec.CodecError.{CodecError}
 use Rattle.dkg_ceremony.specs.declared.output.Output.{Output}
-use Rattle.dkg_ceremony.specs.declared.round.Round.{Round}
+use Rattle.dkg_ceremony.specs.declared.round.RoundParts.{RoundParts as Round}
 use Rattle.dkg_ceremony.specs.Outputs.{OutputParts, do_parts_agree, output_from}
 use Rattle.dkg_ceremony.specs.OutputGrammar.{parts_of_output}
 use Rattle.dkg_ceremony.specs.Outcomes.{LogMap, begin_alike, keeps_key, outcome_parts, output_with, output_for, revealed_of, selected_of, sum_of, combined_of, outcome_of}

@@ -11,7 +11,7 @@ use Rattle.dkg_values.specs.Rising.{IsSet, keys_of, lookup}
 use Rattle.dkg_ceremony.specs.ValidLogs.{has_entry}
 use Rattle.dkg_ceremony.specs.declared.ceremony.AckError.{AckError}
 use Rattle.dkg_ceremony.specs.declared.deal.DealError.{DealError}
-use Rattle.dkg_ceremony.specs.declared.round.Round.{Round}
+use Rattle.dkg_ceremony.specs.declared.round.RoundParts.{RoundParts as Round}
 use Rattle.dkg_store.specs.Dealer.{AckMap, held_acks, with_held, passing, with_passed, unsent, with_unsent, to_send, IsDealerOf}
 use Rattle.dkg_store.specs.declared.dealer.Dealer.{Dealer}
 use Rattle.dkg_secrets.proofs.Map as map

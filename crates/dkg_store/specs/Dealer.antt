@@ -5,7 +5,7 @@ use Rattle.std.specs.FinMap.{FinMap, contains_key, get, insert, empty}
 use Rattle.dkg_values.specs.Rising.{lookup}
 use Rattle.dkg_ceremony.specs.declared.ceremony.AckError.{AckError}
 use Rattle.dkg_ceremony.specs.declared.deal.DealError.{DealError}
-use Rattle.dkg_ceremony.specs.declared.round.Round.{Round}
+use Rattle.dkg_ceremony.specs.declared.round.RoundParts.{RoundParts as Round}
 use Rattle.dkg_ceremony.specs.declared.ceremony.AckError.TheVariants.{NoMemory}
 use Rattle.dkg_store.specs.Called.{IsDue, if_made, made_in}
 use Rattle.dkg_store.specs.Noted.{Notes}

@@ -254,7 +254,7 @@ impl Dealer {
             public: &self.public,
             privates: &self.privates,
             acks: &self.acks,
-            rest: self.round.players.as_slice(),
+            rest: self.round.parts().players.as_slice(),
         }
     }
 
@@ -265,7 +265,7 @@ impl Dealer {
     pub fn has_acknowledgement_quorum(&self, players: u32) -> bool
         ensures { IsTrue result ↔ (length (unsent self.now.acks self.now.privates self.now.round.players) ≤ max_faults_of players) }
     {
-        let _keys = self.round.players.as_slice();
+        let _keys = self.round.parts().players.as_slice();
         let mut count = 0u32;
         for _ in self.shares_to_distribute() {
             count += 1;
@@ -299,7 +299,7 @@ impl Dealer {
         if !self.is_open {
             return Ok(false);
         }
-        let acks = acks_of(alloc, &self.acks, &self.round.players)?;
+        let acks = acks_of(alloc, &self.acks, &self.round.parts().players)?;
         let log = ceremony.sign_log(
             alloc,
             signer,

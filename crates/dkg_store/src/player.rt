@@ -262,7 +262,8 @@ fn acknowledge<C: Ceremony>(
 }
 
 impl Player {
-    /// A player that has not been asked for an acknowledgement in this life, with these dealings. It keeps the round.
+    /// A player that has not been asked for an acknowledgement in this life, with these dealings. It keeps the round, and
+    /// hashes once what all its acknowledgements begin with.
     pub(crate) fn new(
         alloc: Global,
         me: Key,
@@ -274,9 +275,11 @@ impl Player {
         ensures acks { IfOk result (λ player. player.acks ≡ map.empty) }
         ensures dealings { IfOk result (λ player. player.dealings ≡ dealings) }
     {
+        let mut round = round.copy(alloc)?;
+        round.begin_acks(me);
         Ok(Player {
             me,
-            round: round.copy(alloc)?,
+            round,
             acks: NumberMap::new(alloc),
             dealings,
         })

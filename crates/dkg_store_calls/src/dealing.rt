@@ -42,7 +42,7 @@ fn made<C: Ceremony>(
     ensures me { IfOk result (λ dealer. dealer.me ≡ C.Signer.key_of signer.now) }
     ensures dealer { IfOk result (λ dealer. IsDealerOf C.deal_of C.check_ack_of dealer) }
 {
-    if !round.dealers.has(signer.public_key()) {
+    if !round.parts().dealers.has(signer.public_key()) {
         return Err(Fail::from("the key doesn't deal"));
     }
     let dealer = store.create_dealer(alloc, ceremony, Epoch(0), signer, round, None, &SEED)?;
@@ -76,7 +76,7 @@ fn acknowledged<C: Ceremony, D: Disk, X: SecretStore>(
     ensures open { OnOk result (IsTrue D.tells → IsOpen store.new.journal (D.files devices.new.disk.now) (D.image devices.new.disk.now)) }
 {
     let player = signer.public_key();
-    if !round.players.has(player) {
+    if !round.parts().players.has(player) {
         return Err(Fail::from("the key is no player"));
     }
     let public = public_of(alloc, dealer)?;
@@ -328,7 +328,7 @@ fn finished(
     round: &Round,
     logs: &Map<DealerLog>,
 ) -> Result<(Output, Share), Fail> {
-    if !round.players.has(ME) {
+    if !round.parts().players.has(ME) {
         return Err(Fail::from("the key is no player"));
     }
     let player = store.create_player_with_logs(alloc, &StandCeremony, Epoch(0), ME, round, logs)?;

@@ -159,7 +159,7 @@ fn logs_in_memory(alloc: Global, round: &Round) -> Result<Map<DealerLog>, Fail> 
 
 /// What this dealer deals to this node.
 fn dealing_from(alloc: Global, dealer: Key, round: &Round) -> Result<Heard, Fail> {
-    if !round.dealers.has(dealer) {
+    if !round.parts().dealers.has(dealer) {
         return Err(Fail::from("the key doesn't deal"));
     }
     let signer = StandSigner::new(dealer);
@@ -180,7 +180,7 @@ fn ended_in<D: Disk, X: SecretStore>(
     dealers: &[Key],
     logs: &Map<DealerLog>,
 ) -> Result<Result<Option<(Output, Share)>, FinishError>, Fail> {
-    if !round.players.has(ME) {
+    if !round.parts().players.has(ME) {
         return Err(Fail::from("the key is no player"));
     }
     let limit = NonZeroU32::new(4).ok_or("no limit")?;

@@ -1,7 +1,7 @@
 -- The info of the epoch after an epoch, by the logs of its ceremony. What the logs make is a ceremony's `outcome_of`.
 use Rattle.std.specs.Prelude.{ℕ, ◌+◌, List, [], Option, Some, None, option_map}
 use Rattle.dkg_ceremony.specs.declared.output.Output.{Output}
-use Rattle.dkg_ceremony.specs.declared.round.Round.{Round}
+use Rattle.dkg_ceremony.specs.declared.round.RoundParts.{RoundParts as Round}
 use Rattle.dkg_ceremony.specs.Outcomes.{LogMap}
 use Rattle.dkg_types.specs.declared.info.EpochInfo.{EpochInfo}
 use Rattle.dkg_types.specs.declared.outcome.EpochOutcome.{EpochOutcome}

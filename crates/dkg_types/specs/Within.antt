@@ -12,7 +12,7 @@ use Rattle.dkg_values.specs.Lists.{SetFits, values_of}
 use Rattle.dkg_values.specs.Rising.{keys_of}
 use Rattle.dkg_ceremony.specs.declared.output.Output.{Output}
 use Rattle.dkg_ceremony.specs.declared.signed_log.SignedDealerLog.{SignedDealerLog}
-use Rattle.dkg_ceremony.specs.declared.round.Round.{Round}
+use Rattle.dkg_ceremony.specs.declared.round.RoundParts.{RoundParts as Round}
 use Rattle.dkg_ceremony.specs.Outcomes.{LogMap}
 use Rattle.dkg_ceremony.specs.Modes.{supports_of}
 use Rattle.dkg_ceremony.specs.Outputs.{OutputFits}

@@ -1,7 +1,7 @@
 use Rattle.std.proofs.Common.{◌≡◌, ℕ, List, Option, Result, Some, Ok, Err, sym, ap, ◌∙◌}
 use Rattle.dkg_ceremony.specs.declared.deal.DealError.{DealError}
 use Rattle.dkg_ceremony.specs.declared.deal.DealError.TheVariants.{ShareRefused}
-use Rattle.dkg_ceremony.specs.declared.round.Round.{Round}
+use Rattle.dkg_ceremony.specs.declared.round.RoundParts.{RoundParts as Round}
 use Rattle.dkg_ceremony.specs.Deals.{deal_of}
 use Rattle.dkg_generator.specs.Chain.{Halves, round_after}
 use Rattle.dkg_generator.specs.Made.{Shown}
