@@ -5,7 +5,7 @@
 ghost use Rattle.std.specs.Prelude.{◌≡◌, ◌<◌, ◌+◌, ◌^◌, ◌==◌, ◌||◌, [], IfErr, IfOk, IsTrue, None, OnOk, Some, is_some};
 ghost use Rattle.std.specs.Int.NonZero.{non_zero_u32_get, non_zero_u64_get};
 ghost use Rattle.dkg_ceremony.specs.Schedule.{epoch_of};
-ghost use Rattle.dkg_ceremony.specs.declared.round.Round.{Round};
+ghost use Rattle.dkg_ceremony.specs.declared.round.RoundParts.{RoundParts as Round};
 ghost use Rattle.dkg_fence.specs.Readiness.{Readiness};
 ghost use Rattle.dkg_journal.specs.Disk.{Rose};
 ghost use Rattle.dkg_journal.specs.Fuse.{Reached};

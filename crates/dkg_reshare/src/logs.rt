@@ -1,7 +1,7 @@
 //! Dealers' logs: which log a block records, and whom this node's own is served to.
 ghost use Rattle.std.specs.Prelude.{◌≡◌, ◌<◌, ◌^◌, ℕ, [], IfErr, IfOk, IsTrue, List, None, OnOk, Some, if◌then◌else◌, length, nat_le, option_and_then, option_map};
 ghost use Rattle.std.specs.Option.{option_copied};
-ghost use Rattle.dkg_ceremony.specs.declared.round.Round.{Round};
+ghost use Rattle.dkg_ceremony.specs.declared.round.RoundParts.{RoundParts as Round};
 ghost use Rattle.dkg_fence.specs.Readiness.{Readiness};
 ghost use Rattle.dkg_journal.specs.Disk.{Rose};
 ghost use Rattle.dkg_journal.specs.Fuse.{Reached};
@@ -55,7 +55,7 @@ fn is_accepted<C: Ceremony>(
 ) -> Mem<bool>
     ensures { IfOk result (λ yes. {Dir : Type 0} (c : Fixed Dir) → c.rules.check_log_of ≡ C.check_log_of → yes ≡ recorded.is_accepted c round.now signed.now) }
 {
-    if !round.dealers.has(signed.dealer) {
+    if !round.parts().dealers.has(signed.dealer) {
         return Ok(false);
     }
     ceremony.check_log(alloc, round, signed)
@@ -142,7 +142,7 @@ pub(crate) fn observe<C: Ceremony, Dir: Directory + Drop, D: Disk, X: SecretStor
     if !is_accepted(alloc, ceremony, round, signed)? {
         return Ok(());
     }
-    let epoch = Epoch(round.number);
+    let epoch = Epoch(round.parts().number);
     record(
         alloc,
         &mut life.store,

@@ -3,7 +3,7 @@
 //! Each function here is a part of the relation's `reads_mail`, and names it.
 ghost use Rattle.std.specs.Prelude.{◌≡◌, ◌++◌, ◌∷◌, [], IfErr, IfOk, IfSome, IsSomeAnd, IsTrue, OnErr, OnOk, Some, false, filter, option_map};
 ghost use Rattle.std.specs.Int.NonZero.{non_zero_u64_get};
-ghost use Rattle.dkg_ceremony.specs.declared.round.Round.{Round};
+ghost use Rattle.dkg_ceremony.specs.declared.round.RoundParts.{RoundParts as Round};
 ghost use Rattle.dkg_fence.specs.Readiness.{Readiness};
 ghost use Rattle.dkg_journal.specs.Disk.{Rose};
 ghost use Rattle.dkg_journal.specs.Fuse.{Reached};

@@ -4,7 +4,7 @@
 ghost use Rattle.std.specs.Prelude.{◌≡◌, ◌⊎◌, ℕ, [], IfErr, IfOk, IfSome, IsSome, IsSomeAnd, IsTrue, List, None, OnOk, Some, option_map, true};
 ghost use Rattle.std.specs.FinMap as maps;
 ghost use Rattle.std.specs.Int.NonZero.{non_zero_u64_get};
-ghost use Rattle.dkg_ceremony.specs.declared.round.Round.{Round};
+ghost use Rattle.dkg_ceremony.specs.declared.round.RoundParts.{RoundParts as Round};
 ghost use Rattle.dkg_fence.specs.Readiness.{Readiness};
 ghost use Rattle.dkg_journal.specs.Disk.{Rose};
 ghost use Rattle.dkg_journal.specs.Fuse.{Reached};
@@ -91,10 +91,10 @@ fn player_for<C: Ceremony, Dir: Directory + Drop>(
         ≡ records_of store.now
         → (including.can_finish c round.now logs.now st ≡ true) × (setup.refused_in c round.now st ≡ Some refused)))) }
 {
-    if !round.players.has(me) {
+    if !round.parts().players.has(me) {
         return Ok(None);
     }
-    let epoch = Epoch(round.number);
+    let epoch = Epoch(round.parts().number);
     match store.create_player_with_logs(alloc, ceremony, epoch, me, round, logs)? {
         None => Ok(None),
         Some(_) => Ok(Some(Dealings {
