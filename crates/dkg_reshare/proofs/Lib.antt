@@ -1,4 +1,5 @@
 pub mod Acked
+pub mod Answering
 pub mod Applying
 pub mod Beginning
 pub mod Beside
@@ -12,6 +13,8 @@ pub mod Committing
 pub mod Counted
 pub mod Dealers
 pub mod Dealt
+pub mod Derived
+pub mod Deriving
 pub mod Drawing
 pub mod Ending
 pub mod Giving

@@ -1,6 +1,7 @@
 pub mod Actors
 pub mod Anchors
 pub mod Configured
+pub mod Derived
 pub mod Ends
 pub mod Given
 pub mod Heard
