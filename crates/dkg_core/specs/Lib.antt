@@ -19,7 +19,6 @@ pub mod Including
 pub mod Joining
 pub mod Laws
 pub mod Live
-pub mod Lives
 pub mod Logs
 pub mod Meant
 pub mod Node
