@@ -1,4 +1,4 @@
--- What openings and steps of the form that is built leave of the plan and of the recorded logs.
+-- What openings and steps leave of the plan, and which laws of operations alone a peer's message keeps.
 use Rattle.std.proofs.Common.{◌≡◌, inl, inr, ℕ, false, List, [], Option, Some, None, Ok, refl, sym, ◌∙◌, ap, subst}
 use Rattle.std.specs.Prelude.{◌+◌, if◌then◌else◌, Result, Err, is_some}
 use Rattle.std.specs.Option.{option_map_or}

@@ -23,7 +23,7 @@ pub mod Logs
 pub mod Meant
 pub mod Node
 pub mod NodeKept
-pub mod NodeToday
+pub mod NodeEndings
 pub mod Offering
 pub mod OneShots
 pub mod Plans
@@ -37,5 +37,5 @@ pub mod Spared
 pub mod Splitting
 pub mod Stepping
 pub mod Storing
-pub mod Today
+pub mod Endings
 pub mod Transcripts

@@ -21,7 +21,7 @@ ghost use Rattle.dkg_core.specs.Laws.{DuesAreAnswered, OpeningsPrune, OthersAckn
 ghost use Rattle.dkg_core.specs.Counted.{CutsFall, RunsCount};
 ghost use Rattle.dkg_core.specs.NodeKept.{NodeOpeningsAgree, NodeOpeningsKeep, NodeOpeningsRestore};
 ghost use Rattle.dkg_core.specs.NodeKept.{NodePeersAreKept, NodeStepsAgree, NodeStepsGiveBack};
-ghost use Rattle.dkg_core.specs.NodeToday.{NodeDuesAreAnswered, NodeOpeningsAreQuiet, NodeStepsAreQuiet};
+ghost use Rattle.dkg_core.specs.NodeEndings.{NodeDuesAreAnswered, NodeOpeningsAreQuiet, NodeStepsAreQuiet};
 ghost use Rattle.dkg_core.specs.Probes.{ProbesStep};
 ghost use Rattle.dkg_core.specs.Said.{RunsSay};
 ghost use Rattle.dkg_core.specs.Spared.{NodeOpeningsKeepNotes, NodeOpeningsKeepPlans};

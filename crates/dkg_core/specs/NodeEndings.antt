@@ -1,4 +1,4 @@
--- A node's opening and its steps: how they end in the form that is built, what they say, and what they answer.
+-- A node's opening and its steps: in which words it is told how they end, what they say, and what they answer.
 use Rattle.std.specs.Prelude.{◌≡◌, ℕ, List, [], ◌∷◌, ◌++◌, None}
 use Rattle.std.specs.List.{AllByRecursion}
 use Rattle.dkg_types.specs.declared.entry.Entry.{Entry as Line}

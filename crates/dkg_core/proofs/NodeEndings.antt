@@ -28,8 +28,8 @@ use Rattle.dkg_core.specs.Laws.{IsQuiet}
 use Rattle.dkg_core.specs.Transcripts.{lines_of, BeginsOpened}
 use Rattle.dkg_core.specs.Splitting.{IsEarly, named}
 use Rattle.dkg_core.specs.Behind.{EndsBehind, IfEarly, IsAside}
-use Rattle.dkg_core.specs.Today.{ComesTo}
-use Rattle.dkg_core.specs.NodeToday.{NodeOpeningsAreQuiet, NodeStepsAreQuiet, NodeDuesAreAnswered}
+use Rattle.dkg_core.specs.Endings.{ComesTo}
+use Rattle.dkg_core.specs.NodeEndings.{NodeOpeningsAreQuiet, NodeStepsAreQuiet, NodeDuesAreAnswered}
 use Rattle.dkg_core.proofs.Answering.{answered}
 use Rattle.dkg_core.proofs.Behind.{openings_say_behind, steps_say_behind}
 use Rattle.dkg_core.proofs.Lines.{runs_add_deeds}

@@ -1,5 +1,4 @@
--- How openings and steps end in the form that is built: a reshare without shares and material, up to the block before an epoch's midpoint. Each own fault
--- has its exact cause, and so has each state that is left.
+-- The words in which it is told how openings and steps end: where a course comes to, what an opening begins with, and what a step leaves of the tip.
 use Rattle.std.specs.Prelude.{◌≡◌, ◌||◌, ℕ, true, false, not, nat_le, [], Option, Some, None, IsSomeAnd, Result, if◌then◌else◌}
 use Rattle.std.specs.Option.{option_map_or}
 use Rattle.dkg_ceremony.specs.declared.phase.Phase.{Phase}
@@ -37,7 +36,7 @@ CameTo stops goes (went end) = goes end
 CameTo stops goes (stopped fault) = stops fault
 CameTo stops goes (broken cause) = Unit {0}
 
--- THE FORM
+-- AN EPOCH
 
 -- the stage that a phase begins with
 abbrev pub stage_in : Phase → Stage
@@ -66,13 +65,13 @@ OnInfo {Dir} c P = IsSomeAnd (first_block c) (λ b. IsSomeAnd (info_of b.payload
 abbrev pub seat_in : {Dir : Type 0} → Fixed Dir → Round → Live Dir → Seat
 seat_in c round st = if not (has round.players c.me) || is_lost c round (of_epoch round.number st.records.dealings) (logs_of st round.number) then Watches else Plays
 
--- the orchestrator behind it: it halted without that block, and else has entered the awaited epoch
+-- the orchestrator behind an opening: it halted without the boundary block, and else has entered the awaited epoch
 abbrev pub HasEntered : {Dir : Type 0} → Fixed Dir → Orchestrator Dir → Option (Block Dir) → Type 0
 HasEntered c o None = o.halted ≡ true
 HasEntered c o (Some b) = (o.entered ≡ Some (first_epoch c)) × (o.halted ≡ false)
 
 -- .. which waits for nothing, and nothing else was changed
-pub record IsEnteredToday {Dir : Type 0} (c : Fixed Dir) (st end : Live Dir) : Type 0 where
+pub record IsEntered {Dir : Type 0} (c : Fixed Dir) (st end : Live Dir) : Type 0 where
   pub entered : HasEntered c end.orchestrator (first_block c)
   pub unawaited : end.orchestrator.waiting ≡ None
   pub same : end ≡ with_orchestrator end.orchestrator st
