@@ -201,5 +201,3 @@ pub node_steps_give_back : {Dir : Type 0} → NodeStepsGiveBack Dir
 node_steps_give_back c st message ended most w new low agreed can run key pair above got =
     let b = steps_run_behind c st message ended w new run in
     ap (λ (h : Held). get (recovered_in h) key) b.held ∙ steps_give_back c st message b.half most w b.mid low agreed can b.run key pair above got
-
--- THE PLAN AND THE LOGS

@@ -91,8 +91,6 @@ plan_in_part ClearsPlan j new spares part = absurd part
 pub plan_spared : {Dir F S : Type 0} (course : Course Dir F S) (w : World) → Holds (sparing SparesPlan) [] course → Throughout (λ new. plan new.held ≡ plan w.held) course w
 plan_spared course w holds = spared SparesPlan (λ j. j.plan) plan_kept plan_in_part course w holds
 
--- THE LOGS
-
 -- AN OPENING
 
 prunes_spare : {Dir : Type 0} (most : ℕ) (past : List (Deed Dir)) (op : Operation) → PrunesAtMost most past op → SparesPlan op
