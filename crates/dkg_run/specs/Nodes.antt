@@ -18,7 +18,7 @@ use Rattle.dkg_core.specs.Entering.{is_ready}
 use Rattle.dkg_core.specs.Fixed.{Fixed}
 use Rattle.dkg_core.specs.Live.{Live, NodeStop, with_orchestrator}
 use Rattle.dkg_core.specs.Sources.{Source}
-use Rattle.dkg_core.specs.Today.{OnInfo, first_epoch}
+use Rattle.dkg_core.specs.Endings.{OnInfo, first_epoch}
 use Rattle.dkg_reshare.specs.Actors.{IfLiving, IsAt, TakesBlock}
 use Rattle.dkg_reshare.specs.Given.{IsOf}
 use Rattle.dkg_reshare.specs.LiveOf.{Beside, live_of}
