@@ -14,7 +14,6 @@ pub mod Counted
 pub mod Dealers
 pub mod Dealt
 pub mod Derived
-pub mod Deriving
 pub mod Drawing
 pub mod Ending
 pub mod Giving
@@ -22,6 +21,7 @@ pub mod Handed
 pub mod Heard
 pub mod Hearing
 pub mod Judging
+pub mod Keeping
 pub mod Kept
 pub mod Lines
 pub mod Making

@@ -1,90 +1,38 @@
--- How the artifact of a result is derived, and which one is kept: the relation's `artifact` over its parts.
+-- Which artifact is kept, what it is derived from, and the faults that a course stops by.
 use Rattle.std.proofs.Common.{◌≡◌, inl, inr, ℕ, ◌+◌, ◌^◌, ◌==◌, Bool, true, false, nat_le, nat_lt, List, length, Option, Some, None, refl, sym, ◌∙◌, ap}
 use Rattle.std.specs.Prelude.{IfSome, IsSomeAnd, option_map, if◌then◌else◌}
 use Rattle.std.specs.Option.{option_map_or}
-use Rattle.dkg_values.specs.Rising.{lookup}
 use Rattle.dkg_ceremony.specs.declared.output.Output.{Output}
 use Rattle.dkg_ceremony.specs.Outcomes.{LogMap}
 use Rattle.dkg_types.specs.InfoCodes.{peers_of}
 use Rattle.dkg_types.specs.NextInfos.{Provided, info_by, info_with}
 use Rattle.dkg_types.specs.declared.entry.Entry.{Entry as Line}
 use Rattle.dkg_types.specs.declared.fault.Fault.{Fault}
-use Rattle.dkg_types.specs.declared.fault.Fault.TheVariants.{HeightRange, InvalidParticipants, DirectoryMismatch}
+use Rattle.dkg_types.specs.declared.fault.Fault.TheVariants.{HeightRange, InvalidParticipants}
 use Rattle.dkg_types.specs.declared.fault.ParticipantsCause.TheVariants.{ProviderEmpty, ProviderAbove}
 use Rattle.dkg_types.specs.declared.info.EpochInfo.{EpochInfo}
 use Rattle.dkg_types.specs.declared.outcome.EpochOutcome.{EpochOutcome}
 use Rattle.dkg_types.specs.declared.outcome.EpochOutcome.TheVariants.{Success, Failure}
-use Rattle.dkg_artifact.specs.Fitted.{AreFitLogs}
 use Rattle.dkg_artifact.specs.declared.artifact.Artifact as kept
 use Rattle.dkg_artifact.specs.declared.verified.Verified as verified
 use Rattle.dkg_core.specs.Courses.{Course, Goes, Stops, bind}
-use Rattle.dkg_core.specs.Fixed.{Fixed, OneShot, has}
+use Rattle.dkg_core.specs.Fixed.{Fixed, OneShot}
 use Rattle.dkg_core.specs.Including as including
 use Rattle.dkg_core.specs.Including.{Next}
-use Rattle.dkg_core.specs.Live.{Live, Artifact, Verified, VerifiedLogs}
-use Rattle.dkg_core.specs.Logs.{same_logs}
-use Rattle.dkg_core.specs.Setup.{looks}
+use Rattle.dkg_core.specs.Live.{Live, Artifact, VerifiedLogs}
+use Rattle.dkg_core.specs.Same.{same_logs}
+use Rattle.dkg_core.proofs.Same.{logs_again, one_logs}
 use Rattle.dkg_reshare.specs.declared.stop.Stop.{Stop}
 use Rattle.dkg_reshare.specs.Ends.{by_stop, cause_in}
-use Rattle.dkg_reshare.specs.Including.{derives_in, ended_by, mismatch_of, reads_share, stops_by, unprovided}
+use Rattle.dkg_reshare.specs.Including.{derives_in, ended_by, stops_by, unprovided}
 use Rattle.dkg_reshare.specs.InclusionOf.{artifact_of, cached_of, verified_of}
 use Rattle.dkg_reshare.specs.Made.{Speaks}
 use Rattle.dkg_reshare.specs.Rules.{SameProvided}
 use Rattle.dkg_reshare.specs.Steps.{IsFaultOrWant}
-use Rattle.dkg_reshare.proofs.Fitting.{is_same, same_is}
-use Rattle.dkg_reshare.proofs.Offered.{bind_again}
+use Rattle.dkg_reshare.proofs.Deriving.{derived}
 use Rattle.dkg_reshare.proofs.Speaking.{gives_speaks, wants_speaks}
 
-bind_stops : {Dir F S T : Type 0} (o : Option F) (course : Course Dir F S) (next : S → Course Dir F T) → bind (stops_by o course) next ≡ stops_by o (bind course next)
-bind_stops None course next = refl
-bind_stops (Some fault) course next = refl
-
 module _ {Dir : Type 0} (c : Fixed Dir) where
-  provided_as : (epoch : ℕ) (acts : Course Dir Fault (Live Dir)) → including.with_provided c (epoch + 2) acts ≡ stops_by (unprovided c.provided.participants c.limit epoch) acts
-  provided_as epoch acts = by_test (nat_le (2 ^ 64) (epoch + 2)) (length (c.provided.participants (epoch + 2)) == 0) (nat_lt c.limit (length (c.provided.participants (epoch + 2))))
-    where
-      abbrev above_by : Fault
-      above_by = InvalidParticipants (ProviderAbove (length (c.provided.participants (epoch + 2))) c.limit)
-
-      by_test : (past none above : Bool)
-          → (if past then Stops HeightRange else if none then Stops (InvalidParticipants ProviderEmpty) else if above then Stops above_by else acts)
-          ≡ stops_by (if past then Some HeightRange else if none then Some (InvalidParticipants ProviderEmpty) else if above then Some above_by else None) acts
-      by_test true none above = refl
-      by_test false true above = refl
-      by_test false false true = refl
-      by_test false false false = refl
-
-  directory_as : (info : EpochInfo Dir) (acts : Course Dir Fault (Live Dir)) → including.with_directory c info acts ≡ stops_by (mismatch_of c info) acts
-  directory_as info acts = by_test (c.directories.matches info.directory (including.info_peers info))
-    where
-      by_test : (matches : Bool) → (if matches then acts else Stops (DirectoryMismatch info.epoch)) ≡ stops_by (if matches then None else Some (DirectoryMismatch info.epoch)) acts
-      by_test true = refl
-      by_test false = refl
-
-  share_as : (info : EpochInfo Dir) (found : Option Verified) (f : Option ℕ → Course Dir Fault (Live Dir)) → including.share_by c info found f ≡ bind (reads_share c info found) f
-  share_as info (Some found) f = refl
-  share_as info None f = by_test (has info.output.players c.me)
-    where
-      by_test : (holds : Bool) → (if holds then looks c (λ s. f (lookup info.epoch s.shares)) else f None) ≡ bind (if holds then looks c (λ s. Goes (lookup info.epoch s.shares)) else Goes None) f
-      by_test true = refl
-      by_test false = refl
-
-  -- an artifact is derived, and then the rest is done
-  pub derives_as : (info : EpochInfo Dir) (r : VerifiedLogs) (st : Live Dir) (next : Next Dir) → including.derives_next c info r st next ≡ bind (derives_in c info r) (λ made. next made st)
-  derives_as info r st next =
-      let made = info_by c.provided info (option_map (λ found. found.output) r.result) in
-      let art : Option ℕ → Artifact Dir = λ share. record { info = Some made; share = share } in
-      let stops : Option Fault = unprovided c.provided.participants c.limit info.epoch in
-      let reads : Course Dir Fault (Option ℕ) = reads_share c info r.result in
-      let ends : Option ℕ → Course Dir Fault (Artifact Dir) = λ share. stops_by (mismatch_of c made) (Goes (art share)) in
-      let goes : Artifact Dir → Course Dir Fault (Live Dir) = λ its. next its st in
-      provided_as info.epoch (including.share_by c info r.result (λ share. including.with_directory c made (next (art share) st)))
-      ∙ ap (λ (acts : Course Dir Fault (Live Dir)). stops_by stops acts)
-      (share_as info r.result (λ share. including.with_directory c made (next (art share) st))
-      ∙ (λ i. bind reads (λ share. (directory_as made (next (art share) st) ∙ sym (bind_stops (mismatch_of c made) (Goes (art share)) goes)) i))
-      ∙ sym (bind_again reads ends goes))
-      ∙ sym (bind_stops stops (bind reads ends) goes)
-
   -- what is cached is not derived again
   pub artifact_cached : (r : VerifiedLogs) (st : Live Dir) (next : Next Dir) (made : Artifact Dir) → including.cached_for st.inclusion.cached r.logs ≡ Some made → including.artifact c r st next ≡ next made st
   artifact_cached r st next made is = ap (λ (o : Option (Artifact Dir)). including.artifact_by c r o st next) is
@@ -97,9 +45,7 @@ module _ {Dir : Type 0} (c : Fixed Dir) where
       ap (λ (o : Option (Artifact Dir)). including.artifact_by c r o st next) is
       ∙ ap (λ (o : Option (OneShot Dir)). including.derives c o r st next) reshare
       ∙ ap (λ (o : Option (EpochInfo Dir)). option_map_or (λ info. including.derives_next c info r st (including.keeping r.logs next)) o (Stops HeightRange)) current
-      ∙ derives_as info r st (including.keeping r.logs next)
-
--- WHAT IS KEPT
+      ∙ derived c info r st (including.keeping r.logs next)
 
 module _ {Dir : Type 0} (logs : LogMap) where
   abbrev found_by : LogMap × kept.Artifact Dir → Bool → Option (Artifact Dir)
@@ -110,16 +56,16 @@ module _ {Dir : Type 0} (logs : LogMap) where
       → including.cached_for (option_map cached_of cache) logs ≡ Some (artifact_of its.1)
   cached_there cache its is same =
       ap (λ (o : Option (LogMap × kept.Artifact Dir)). including.cached_for (option_map cached_of o) logs) is
-      ∙ ap (found_by its) (ap (λ (l : LogMap). same_logs l logs) same ∙ is_same logs)
+      ∙ ap (found_by its) (ap (λ (l : LogMap). same_logs l logs) same ∙ logs_again logs)
 
   -- .. and none, where it is of others
-  pub none_cached : (cache : Option (LogMap × kept.Artifact Dir)) → AreFitLogs logs → IfSome cache (λ its. AreFitLogs its.0) → (IsSomeAnd cache (λ its. its.0 ≡ logs) → ⊥)
+  pub none_cached : (cache : Option (LogMap × kept.Artifact Dir)) → (IsSomeAnd cache (λ its. its.0 ≡ logs) → ⊥)
       → including.cached_for (option_map cached_of cache) logs ≡ None
-  none_cached None fit fits apart = refl
-  none_cached (Some its) fit fits apart = by_test (same_logs its.0 logs) refl
+  none_cached None apart = refl
+  none_cached (Some its) apart = by_test (same_logs its.0 logs) refl
     where
       by_test : (same : Bool) → same_logs its.0 logs ≡ same → found_by its same ≡ None
-      by_test true is = absurd (apart (same_is its.0 logs fits fit is))
+      by_test true is = absurd (apart (one_logs its.0 logs is))
       by_test false is = refl
 
 -- WHAT IS DERIVED, from what the provider says
