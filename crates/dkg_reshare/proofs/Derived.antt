@@ -30,7 +30,7 @@ use Rattle.dkg_reshare.specs.Made.{MakesAt, Tells}
 use Rattle.dkg_reshare.specs.Steps.{IsFaultOrWant}
 use Rattle.dkg_reshare.proofs.Burning.{makes_nothing, speaks_makes}
 use Rattle.dkg_reshare.proofs.Chained.{early_makes, early_told, then_makes, then_told}
-use Rattle.dkg_reshare.proofs.Keeping.{fault_speaks}
+use Rattle.dkg_reshare.proofs.Caching.{fault_speaks}
 use Rattle.dkg_reshare.proofs.Said.{nothing_held, speaks_tells}
 use Rattle.dkg_reshare.proofs.Setting.{looked_up}
 use Rattle.dkg_reshare.proofs.Shares.{one_at, one_is, still_makes}

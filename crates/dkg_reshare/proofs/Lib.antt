@@ -1,5 +1,5 @@
 pub mod Acked
-pub mod Answering
+pub mod AnswerLines
 pub mod Applying
 pub mod Beginning
 pub mod Beside
@@ -7,6 +7,7 @@ pub mod Blamed
 pub mod Blaming
 pub mod Burning
 pub mod Calls
+pub mod Caching
 pub mod Caused
 pub mod Chained
 pub mod Committing
@@ -21,7 +22,6 @@ pub mod Handed
 pub mod Heard
 pub mod Hearing
 pub mod Judging
-pub mod Keeping
 pub mod Kept
 pub mod Lines
 pub mod Making
