@@ -40,7 +40,5 @@ pub mod Short
 pub mod Speaking
 pub mod Standing
 pub mod Stopping
-pub mod Takeable
-pub mod Takes
 pub mod Taking
 pub mod Under

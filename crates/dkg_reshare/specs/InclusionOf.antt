@@ -1,5 +1,5 @@
 -- What inclusion has in memory, as the relation's Inclusion.
-use Rattle.std.specs.Prelude.{ℕ, Bool, false, true, List, [], ◌∷◌, ◌≡◌, ◌↔◌, Contains, Option, Some, None, IfSome, IsOk, IsSome, map, option_map, option_and_then, Ok}
+use Rattle.std.specs.Prelude.{ℕ, Bool, false, true, List, [], ◌∷◌, ◌≡◌, ◌⊎◌, ◌↔◌, Contains, Option, Some, None, IfSome, IsOk, IsSome, map, option_map, option_and_then, Ok}
 use Rattle.std.specs.Ordering.{nat_cmp}
 use Rattle.std.specs.FinMap as maps
 use Rattle.std.specs.FinMap.{FinMap}
@@ -86,7 +86,7 @@ pub record IsSeen {C Dir Signer Cfg : Type 0} (its : Inclusion C Dir Signer Cfg)
   pub retained : i.retained ≡ option_map result_of its.verification.kept
   pub cached : i.cached ≡ option_map cached_of its.cache
   pub told : (request : ℕ) → lookup request i.told ≡ option_and_then kept_of (maps.get its.told request)
-  pub used : (request : ℕ) → Contains i.used request ↔ IsSome (maps.get its.told request)
+  pub used : (request : ℕ) → (Contains i.used request ⊎ IsSome (lookup request i.told)) ↔ IsSome (maps.get its.told request)
 
 -- A verification can be run to its end: of its player no dealing lacks, and each passes the check.
 pub record IsRunnable (dealing_of : DealingOf) (finish_of : FinishOf) (j : job.Job) : Type 0 where
@@ -109,3 +109,9 @@ pub record IsReadyInclusion {C Dir Signer Cfg : Type 0} (check_log_of : CheckLog
   pub idle : life.stage ≡ stage.Following → its.requests ≡ []
   pub current : (life.stage ≡ stage.Following → ⊥) → IsSome life.store.current
   pub unserved : (life.stage ≡ stage.Including → ⊥) → its.served ≡ None
+
+-- Behind a call no request waits that could be read: one is in hand, or a verification runs.
+pub record IsSettledInclusion {C Dir Signer Cfg : Type 0} (check_log_of : CheckLogOf) (dealing_of : DealingOf) (finish_of : FinishOf) (blocks_per_epoch : ℕ)
+    (life : Life Dir) (its : Inclusion C Dir Signer Cfg) : Type 0 where
+  pub ready : IsReadyInclusion check_log_of dealing_of finish_of blocks_per_epoch life its
+  pub settled : life.stage ≡ stage.Including → IsSome life.round → its.hand ≡ None → its.verification.running ≡ None → its.requests ≡ []

@@ -174,9 +174,10 @@ pub record IsFresh {Dir : Type 0} (i : Inclusion Dir) : Type 0 where
 abbrev pub awaited_of : {Dir : Type 0} → Life Dir → ℕ
 awaited_of l = option_map_or (λ t. t.height + 1) l.tip 0
 
--- Unless it follows, a life's epoch is that of the awaited height. Its dealing ends at the epoch's midpoint, and has ended where its blocks came that far.
+-- Unless it follows, a life's epoch is that of the awaited height. It deals as long as that is below the epoch's midpoint, and includes from there on.
 pub record IsPlaced {Dir : Type 0} (blocks : ℕ) (l : Life Dir) : Type 0 where
   pub epoch_is : (l.stage ≡ stage.Following → ⊥) → l.epoch ≡ epoch_of blocks (awaited_of l)
   pub midpoint_is : (l.stage ≡ stage.Following → ⊥) → l.midpoint ≡ midpoint blocks l.epoch
   pub in_range : (l.stage ≡ stage.Following → ⊥) → last blocks l.epoch < 2 ^ 64
+  pub early : l.stage ≡ stage.Dealing → awaited_of l < l.midpoint
   pub ended : l.stage ≡ stage.Including → IsSomeAnd l.tip (λ t. l.midpoint ≤ t.height + 1)

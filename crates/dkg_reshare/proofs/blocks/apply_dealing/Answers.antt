@@ -90,7 +90,7 @@ returns-clause-ready g c =
     let stage = ap (λ (l : Life g.row.Dir.Denot). l.stage) c.deal.ensures.rest ∙ c.requires.dealing in
     ready_dealing g.D.Disk.tells g.D.Disk.files g.D.Disk.image g.C.Ceremony.ack_of g.C.Ceremony.deal_of g.C.Ceremony.check_ack_of c.args.terms.now c.deal.new.devices c.args.block.now c.deal.new.life stage c.in_ok-deal.ensures.ready
     (c.requires.next ∙ sym (ap (λ (l : Life g.row.Dir.Denot). l.epoch) c.deal.ensures.rest)) (subst (λ (m : ℕ). c.args.block.now.height < m) (sym (ap (λ (l : Life g.row.Dir.Denot). l.midpoint) c.deal.ensures.rest)) c.requires.early)
-    c.tip_of.result c.tip_of.ensures
+    c.tip_of.result c.tip_of.ensures (ap (λ (h : ℕ). h + 1 == c.deal.new.life.midpoint) (sym c.height.ensures) ∙ sym c.ends_dealing.ensures ∙ c.if-ends_dealing.false)
 
 pub returns-clause-word : goal.returns-clause-word
 returns-clause-word g c = ap (λ (l : Life g.row.Dir.Denot). l.word) c.deal.ensures.rest
