@@ -14,7 +14,7 @@ ghost use Rattle.dkg_core.specs.Blocks as blocks;
 ghost use Rattle.dkg_core.specs.Fixed.{Fixed, has};
 ghost use Rattle.dkg_core.specs.Including as including;
 ghost use Rattle.dkg_reshare.specs.Actors.{IsReadyLife};
-ghost use Rattle.dkg_reshare.specs.Carried.{CarriesWithin};
+ghost use Rattle.dkg_reshare.specs.Carried.{CarriesWithin, cleared_of};
 ghost use Rattle.dkg_reshare.specs.Ends.{IsCaused, ends_in};
 ghost use Rattle.dkg_reshare.specs.InclusionOf.{IsSeen};
 ghost use Rattle.dkg_reshare.specs.LiveOf.{Beside, EndsWith, live_of};
@@ -106,7 +106,7 @@ fn record<Dir: Directory + Drop, D: Disk, X: SecretStore>(
 
 /// Offers this node's log no more, once a block carries it (`without_own_log`).
 fn clear_own<Dir: Directory + Drop>(me: Key, life: &mut Life<Dir>, dealer: Key)
-    ensures rest { life.new ≡ record life.old { dealer = life.new.dealer } }
+    ensures rest { life.new ≡ record life.old { dealer = cleared_of me dealer life.old.dealer } }
     ensures cleared { (c : Fixed Dir) (beside : Beside Dir) (fence : Readiness) → c.me ≡ me
         → live_of beside fence life.new ≡ blocks.without_own_log c dealer (live_of beside fence life.old) }
 {
@@ -127,7 +127,6 @@ pub(crate) fn observe<C: Ceremony, Dir: Directory + Drop, D: Disk, X: SecretStor
     devices: &mut Devices<'_, D, X>,
     block: &Block<Dir>,
 ) -> Result<(), Stop>
-    requires includes { life.old.stage ≡ Including }
     requires ready { IsReadyLife D.tells D.files D.image C.ack_of C.deal_of C.check_ack_of terms.now life.old devices.old }
     ensures ready { OnOk result (IsReadyLife D.tells D.files D.image C.ack_of C.deal_of C.check_ack_of terms.now life.new devices.new) }
     ensures rest { life.new ≡ record life.old {
@@ -253,7 +252,10 @@ fn is_served_at<Dir: Directory + Drop>(
         → result ≡ including.is_served_at height (live_of beside fence life.now) }
 {
     match life.stage {
-        Stage::Including => served == Some(height) && own_log(life).is_some(),
+        Stage::Including => match served {
+            Some(at) if at == height => own_log(life).is_some(),
+            _ => false,
+        },
         Stage::Dealing | Stage::Following => false,
     }
 }
