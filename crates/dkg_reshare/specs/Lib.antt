@@ -1,6 +1,7 @@
 pub mod Actors
 pub mod Anchors
 pub mod Carried
+pub mod Concluded
 pub mod Configured
 pub mod Ends
 pub mod Given
