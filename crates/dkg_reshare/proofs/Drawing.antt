@@ -1,6 +1,6 @@
 -- How a round is drawn up, and the dealer and the player are made.
 use Rattle.std.proofs.Common.{◌≡◌, inl, inr, ℕ, ◌+◌, ◌≤◌, nat_lt, [], ◌∷◌, ◌++◌, ◌==◌, Bool, true, false, List, length, Option, Some, None, Result, Ok, Err, refl, sym, ◌∙◌, ap, subst, arith}
-use Rattle.std.specs.Prelude.{IfErr, IfOk, OnOk, option_map, if◌then◌else◌}
+use Rattle.std.specs.Prelude.{IfErr, IfOk, IsSome, OnOk, option_map, if◌then◌else◌}
 use Rattle.std.specs.Option.{option_map_or}
 use Rattle.std.proofs.lemmas.Bool.Decides.{nat_tests}
 use Rattle.dkg_ceremony.specs.declared.output.Output.{Output}
@@ -167,10 +167,10 @@ few_players epoch limit info none players is =
 
 -- what holds of a life behind it
 pub sits_drawn : {Dir : Type 0} (ack_of : AckOf) (deal_of : DealOf) (check_ack_of : CheckAckOf) (me key : ℕ) → me ≡ key → (limit : ℕ) (phase : Phase) (new : Life Dir) (r : Result (Unit {0}) Stop)
-    → IsSeated ack_of me new → OnOk r (IsDealing deal_of check_ack_of key new) → IsWithin limit new.round → OnOk r (new.stage ≡ stage_in phase)
-    → OnOk r (IsSeated ack_of me new × IsDealing deal_of check_ack_of me new × IsWithin limit new.round × (new.stage ≡ stage_in phase))
-sits_drawn ack_of deal_of check_ack_of me key same limit phase new (Ok done) seated dealing within stage = (seated, subst (λ (k : ℕ). IsDealing deal_of check_ack_of k new) (sym same) dealing, within, stage)
-sits_drawn ack_of deal_of check_ack_of me key same limit phase new (Err stop) seated dealing within stage = tt
+    → IsSeated ack_of me new → OnOk r (IsDealing deal_of check_ack_of key new) → IsWithin limit new.round → IsSome new.round → OnOk r (new.stage ≡ stage_in phase)
+    → OnOk r (IsSeated ack_of me new × IsDealing deal_of check_ack_of me new × IsWithin limit new.round × IsSome new.round × (new.stage ≡ stage_in phase))
+sits_drawn ack_of deal_of check_ack_of me key same limit phase new (Ok done) seated dealing within joins stage = (seated, subst (λ (k : ℕ). IsDealing deal_of check_ack_of k new) (sym same) dealing, within, joins, stage)
+sits_drawn ack_of deal_of check_ack_of me key same limit phase new (Err stop) seated dealing within joins stage = tt
 
 -- what is in memory, where the stage began
 pub begun_here : {Dir : Type 0} (c : Fixed Dir) (beside : Beside Dir) (fence : Readiness) (phase : Phase) (old new : Life Dir) (key : ℕ) (deal_of : DealOf) (check_ack_of : CheckAckOf) (sign_log_of : SignLogOf) (r : Result (Unit {0}) Stop)

@@ -1,6 +1,6 @@
 -- A setup at a life's position: the epoch that is awaited there, and the info that it is set up by.
 use Rattle.std.proofs.Common.{◌≡◌, ℕ, ◌+◌, ◌^◌, ◌<◌, ◌≤◌, nat_le, nat_lt, Bool, true, false, [], Option, Some, None, Result, Ok, Err, refl, sym, ◌∙◌, ap, subst, arith}
-use Rattle.std.specs.Prelude.{IsSomeAnd, IsTrue, OnOk, nat_eq, option_and_then, if◌then◌else◌, ◌==◌}
+use Rattle.std.specs.Prelude.{IsSome, IsSomeAnd, IsTrue, OnOk, nat_eq, option_and_then, if◌then◌else◌, ◌==◌}
 use Rattle.std.specs.Option.{option_map_or}
 use Rattle.std.specs.Int.NonZero.{non_zero_u32_get, non_zero_u64_get}
 use Rattle.std.proofs.lemmas.Bool.Decides.{nat_tests}
@@ -150,14 +150,15 @@ ended_at n long None height middle at is past = absurd (middle_above n long (sub
 ended_at n long (Some t) height middle at is past = subst (λ (h : ℕ). middle ≤ h) at past
 
 set_placed : {Dir : Type 0} (n : ℕ) → 2 ≤ n → (life : Life Dir) (height : ℕ) → height ≡ awaited_of life → (bounds : Bounds) → AreBoundsAt n bounds height
-    → life.epoch ≡ bounds.epoch → life.midpoint ≡ bounds.midpoint → (life.stage ≡ Dealing → stage_in bounds.phase ≡ Dealing) → (life.stage ≡ Including → stage_in bounds.phase ≡ Including) → IsPlaced n life
-set_placed n long life height at bounds lies epoch middle deals stage =
+    → life.epoch ≡ bounds.epoch → life.midpoint ≡ bounds.midpoint → ((life.stage ≡ Following → ⊥) → IsSome life.round) → (life.stage ≡ Dealing → stage_in bounds.phase ≡ Dealing) → (life.stage ≡ Including → stage_in bounds.phase ≡ Including) → IsPlaced n life
+set_placed n long life height at bounds lies epoch middle joins deals stage =
     let epoch_is : life.epoch ≡ epoch_of n height = epoch ∙ ap (λ (b : Bounds). b.epoch) lies.are in
     let midpoint_is : life.midpoint ≡ midpoint n (epoch_of n height) = middle ∙ ap (λ (b : Bounds). b.midpoint) lies.are in
     record {
       epoch_is = λ apart. epoch_is ∙ ap (epoch_of n) at;
       midpoint_is = λ apart. midpoint_is ∙ sym (ap (midpoint n) epoch_is);
       in_range = λ apart. subst (λ (e : ℕ). last n e < 2 ^ 64) (sym epoch_is) lies.in_range;
+      joins = joins;
       early = λ dealing. subst (λ (h : ℕ). h < life.midpoint) at
           (subst (λ (m : ℕ). height < m) (sym midpoint_is) (below_middle (midpoint n (epoch_of n height)) height (sym (ap (λ (b : Bounds). stage_in b.phase) lies.are) ∙ deals dealing)));
       ended = λ including. ended_at n long life.tip height life.midpoint at midpoint_is
@@ -175,7 +176,7 @@ module _ {Dir D X : Type 0} (tells : Bool) (files : D → Files) (image : D → 
       seated = subst (λ (l : Life Dir). IsSeated ack_of terms.me l) (sym now) tt;
       dealing = subst (λ (l : Life Dir). IsDealing deal_of check_ack_of terms.me l) (sym now) tt;
       placed = set_placed (non_zero_u64_get terms.blocks_per_epoch) terms.long life (awaited_of old) (ap (λ (l : Life Dir). awaited_of l) (sym now)) bounds at (ap (λ (l : Life Dir). l.epoch) now) (ap (λ (l : Life Dir). l.midpoint) now)
-          (λ dealing. absurd (let e : ◌≡◌ {A = Stage} Following Dealing = sym (ap (λ (l : Life Dir). l.stage) now) ∙ dealing in cc))
+          (λ apart. absurd (apart (ap (λ (l : Life Dir). l.stage) now))) (λ dealing. absurd (let e : ◌≡◌ {A = Stage} Following Dealing = sym (ap (λ (l : Life Dir). l.stage) now) ∙ dealing in cc))
           (λ including. absurd (let e : ◌≡◌ {A = Stage} Following Including = sym (ap (λ (l : Life Dir). l.stage) now) ∙ including in cc));
       within = subst (λ (l : Life Dir). IsWithin (non_zero_u32_get terms.limit) l.round) (sym now) tt;
       firm = λ told. subst (λ (s : Store Dir). IsFirm s.journal (files devices.disk.now) (image devices.disk.now)) (sym (ap (λ (l : Life Dir). l.store) now)) (firm told);
@@ -188,7 +189,7 @@ module _ {Dir D X : Type 0} (tells : Bool) (files : D → Files) (image : D → 
       seated = done.seated;
       dealing = done.dealing;
       placed = set_placed (non_zero_u64_get terms.blocks_per_epoch) terms.long new (awaited_of old) (ap (λ (l : Life Dir). awaited_of l) (sym now) ∙ ap (λ (l : Life Dir). awaited_of l) (sym rest)) bounds at
-          (ap (λ (l : Life Dir). l.epoch) rest ∙ ap (λ (l : Life Dir). l.epoch) now) (ap (λ (l : Life Dir). l.midpoint) rest ∙ ap (λ (l : Life Dir). l.midpoint) now) (λ dealing. sym done.stage ∙ dealing) (λ including. sym done.stage ∙ including);
+          (ap (λ (l : Life Dir). l.epoch) rest ∙ ap (λ (l : Life Dir). l.epoch) now) (ap (λ (l : Life Dir). l.midpoint) rest ∙ ap (λ (l : Life Dir). l.midpoint) now) (λ apart. done.joins) (λ dealing. sym done.stage ∙ dealing) (λ including. sym done.stage ∙ including);
       within = done.within;
       firm = done.firm;
     }
@@ -196,13 +197,14 @@ module _ {Dir D X : Type 0} (tells : Bool) (files : D → Files) (image : D → 
 -- as its last part leaves it
 pub drawn_up : {Dir D X T E : Type 0} (tells : Bool) (files : D → Files) (image : D → Files → Type 0) (ack_of : AckOf) (deal_of : DealOf) (check_ack_of : CheckAckOf) (me limit : ℕ) (phase : Phase) (life new : Life Dir) (devices : Devices D X)
     → new ≡ record life { stage = new.stage; round = new.round; dealer = new.dealer; player = new.player } → (IsTrue tells → IsFirm life.store.journal (files devices.disk.now) (image devices.disk.now))
-    → (r : Result T E) → OnOk r (IsSeated ack_of me new × IsDealing deal_of check_ack_of me new × IsWithin limit new.round × (new.stage ≡ stage_in phase))
+    → (r : Result T E) → OnOk r (IsSeated ack_of me new × IsDealing deal_of check_ack_of me new × IsWithin limit new.round × IsSome new.round × (new.stage ≡ stage_in phase))
     → OnOk r (IsSetUp tells files image ack_of deal_of check_ack_of me limit phase new devices)
 drawn_up {Dir} tells files image ack_of deal_of check_ack_of me limit phase life new devices rest firm (Ok x) sits = record {
   seated = sits.0;
   dealing = sits.1;
   within = sits.2;
-  stage = sits.3;
+  joins = sits.3;
+  stage = sits.4;
   firm = subst (λ (j : Journal). IsTrue tells → IsFirm j (files devices.disk.now) (image devices.disk.now)) (sym (ap (λ (l : Life Dir). l.store.journal) rest)) firm;
 }
 drawn_up tells files image ack_of deal_of check_ack_of me limit phase life new devices rest firm (Err e) sits = tt

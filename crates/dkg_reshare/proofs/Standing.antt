@@ -1,6 +1,6 @@
 -- Where a life stands, and where the blocks lie that it applies.
 use Rattle.std.proofs.Common.{◌≡◌, ◌⊎◌, inl, inr, ℕ, ◌+◌, ◌*◌, ◌/◌, ◌-◌, ◌<◌, ◌≤◌, ◌^◌, nat_lt, nat_le, Bool, true, false, Option, Some, None, Result, Ok, Err, refl, sym, ◌∙◌, ap, subst, arith}
-use Rattle.std.specs.Prelude.{IsSomeAnd, List, ◌==◌, ◌&&◌, ◌||◌, is_some, not, if◌then◌else◌}
+use Rattle.std.specs.Prelude.{IsSome, IsSomeAnd, List, ◌==◌, ◌&&◌, ◌||◌, is_some, not, if◌then◌else◌}
 use Rattle.std.specs.Option.{option_map_or}
 use Rattle.std.specs.Str.{bytes_eq}
 use Rattle.std.proofs.lemmas.Bool.Decides.{nat_tests}
@@ -133,12 +133,13 @@ module _ {Dir : Type 0} (n : ℕ) (old : Life Dir) (placed : IsPlaced n old) (b 
 
 module _ {Dir : Type 0} (n : ℕ) (height : ℕ) (digest : List ℕ) where
   -- behind an early block of its epoch
-  pub placed_behind : 2 ≤ n → (new : Life Dir) → new.tip ≡ Some (record { height = height; digest = digest }) → epoch_of n height ≡ new.epoch → new.midpoint ≡ midpoint n new.epoch → last n new.epoch < 2 ^ 64 → height < new.midpoint
+  pub placed_behind : 2 ≤ n → (new : Life Dir) → new.tip ≡ Some (record { height = height; digest = digest }) → epoch_of n height ≡ new.epoch → new.midpoint ≡ midpoint n new.epoch → last n new.epoch < 2 ^ 64 → IsSome new.round → height < new.midpoint
       → (new.stage ≡ Dealing → height + 1 < new.midpoint) → (new.stage ≡ Including → new.midpoint ≤ height + 1) → IsPlaced n new
-  placed_behind long new tip epoch middle range low early ended = record {
+  placed_behind long new tip epoch middle range joins low early ended = record {
     epoch_is = λ part. sym (next_in n new.epoch height long epoch (subst (λ (m : ℕ). height < m) middle low)) ∙ sym (ap (λ (o : Option Tip). epoch_of n (option_map_or (λ t. t.height + 1) o 0)) tip);
     midpoint_is = λ part. middle;
     in_range = λ part. range;
+    joins = λ part. joins;
     early = λ deals. subst (λ (o : Option Tip). option_map_or (λ t. t.height + 1) o 0 < new.midpoint) (sym tip) (early deals);
     ended = λ including. subst (λ (o : Option Tip). IsSomeAnd o (λ t. new.midpoint ≤ t.height + 1)) (sym tip) (ended including);
   }
@@ -149,6 +150,7 @@ module _ {Dir : Type 0} (n : ℕ) (height : ℕ) (digest : List ℕ) where
     epoch_is = λ part. absurd (part follows);
     midpoint_is = λ part. absurd (part follows);
     in_range = λ part. absurd (part follows);
+    joins = λ part. absurd (part follows);
     early = λ deals. absurd (let h : ◌≡◌ {A = Stage} Dealing Following = sym deals ∙ follows in cc);
     ended = λ including. absurd (let h : ◌≡◌ {A = Stage} Including Following = sym including ∙ follows in cc);
   }

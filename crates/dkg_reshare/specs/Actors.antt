@@ -1,5 +1,5 @@
 -- An actor between two calls, by its state.
-use Rattle.std.specs.Prelude.{List, ◌≡◌, ◌==◌, ◌&&◌, not, nat_lt, ℕ, ⊤, Option, None, Bool, true, if◌then◌else◌, IsTrue, Result, Ok, Err, IsErrOf}
+use Rattle.std.specs.Prelude.{List, ◌≡◌, ◌==◌, ◌&&◌, not, nat_lt, ℕ, ⊤, Option, None, Bool, true, if◌then◌else◌, IsSome, IsTrue, Result, Ok, Err, IsErrOf}
 use Rattle.std.specs.Int.NonZero.{non_zero_u32_get, non_zero_u64_get}
 use Rattle.std.specs.declared.num.NonZeroU32.{NonZeroU32}
 use Rattle.std.specs.declared.num.NonZeroU64.{NonZeroU64}
@@ -97,6 +97,7 @@ pub record IsSetUp {Dir D X : Type 0} (tells : Bool) (files : D → Files) (imag
   pub seated : IsSeated ack_of me life
   pub dealing : IsDealing deal_of check_ack_of me life
   pub within : IsWithin limit life.round
+  pub joins : IsSome life.round
   pub stage : life.stage ≡ stage_in phase
   pub firm : IsTrue tells → IsFirm life.store.journal (files devices.disk.now) (image devices.disk.now)
 

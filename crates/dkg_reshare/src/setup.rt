@@ -1,7 +1,7 @@
 //! Setup of an epoch: its info, share and seed, their commit and registration, the prune, and this node's parts in the round.
 //!
 //! Each function here is a part of the relation's `setup`, and names it.
-ghost use Rattle.std.specs.Prelude.{◌≡◌, ◌<◌, ◌≤◌, ◌-◌, ◌^◌, ◌++◌, ◌∷◌, ◌&&◌, ◌||◌, [], ⊤, ℕ, Contains, IfErr, IfOk, IfSome, IsTrue, List, Option, Some, None, OnErr, OnOk, Ok, is_none, is_some, option_map, true};
+ghost use Rattle.std.specs.Prelude.{◌≡◌, ◌<◌, ◌≤◌, ◌-◌, ◌^◌, ◌++◌, ◌∷◌, ◌&&◌, ◌||◌, [], ⊤, ℕ, Contains, IfErr, IfOk, IfSome, IsSome, IsTrue, List, Option, Some, None, OnErr, OnOk, Ok, is_none, is_some, option_map, true};
 ghost use Rattle.std.specs.FinMap as maps;
 ghost use Rattle.std.specs.FinMap.{FinMap};
 ghost use Rattle.std.specs.Int.NonZero.{non_zero_u32_get, non_zero_u64_get};
@@ -562,7 +562,7 @@ fn draw_up<C: Ceremony, Dir: Directory + Drop>(
     requires valid { refusal_of life.old.epoch (non_zero_u32_get terms.now.limit) info.now ≡ None }
     ensures rest { life.new ≡ record life.old { stage = life.new.stage; round = life.new.round; dealer = life.new.dealer; player = life.new.player } }
     ensures sits { OnOk result (IsSeated C.ack_of terms.now.me life.new × IsDealing C.deal_of C.check_ack_of terms.now.me life.new
-        × IsWithin (non_zero_u32_get terms.now.limit) life.new.round × (life.new.stage ≡ stage_in phase)) }
+        × IsWithin (non_zero_u32_get terms.now.limit) life.new.round × IsSome life.new.round × (life.new.stage ≡ stage_in phase)) }
     ensures speaks { (c : Fixed Dir) (beside : Beside Dir) (fence : Readiness) → IsFresh beside.inclusion → IsOf terms.now c
         → IsRuledBy C.round_of C.deal_of C.dealing_of C.ack_of C.check_ack_of C.sign_log_of C.bears_ack_of C.share_public_of C.partial_public_of c.rules
         → StandsIn c (live_of beside fence life.old) phase → Speaks (setup.draws_up c (setup.participants_of info.now) (Some info.now.output)

@@ -1,5 +1,5 @@
 use Rattle.std.proofs.Common.{Some, [], ◌∷◌, ◌++◌, ◌∙◌, ap, refl, subst, sym}
-use Rattle.std.specs.Prelude.{option_map}
+use Rattle.std.specs.Prelude.{IsSome, option_map}
 use Rattle.std.specs.Int.NonZero.{non_zero_u32_get}
 use Rattle.std.proofs.lemmas.Result.{err_from_is_err_and}
 use Rattle.dkg_types.specs.declared.entry.Entry.TheVariants.{Setup}
@@ -73,6 +73,7 @@ returns-clause-sits g c =
     (subst (λ (l : Life g.row.Dir.Denot). IsWithin (non_zero_u32_get c.args.terms.now.limit) l.round) (sym c.begin_stage.ensures.rest)
     (few_players c.args.life.now.epoch (non_zero_u32_get c.args.terms.now.limit) c.args.info.now c.requires.valid round.players
     (players_of _ _ (g.met.C.Ceremony.round_has c.args.terms.now.namespace c.args.life.now.epoch (Some c.args.info.now.output) c.args.terms.now.mode c.args.terms.now.reveal c.args.info.now.output.players c.args.info.now.players) round c.in_ok-round.ensures.ok)))
+    (subst (λ (l : Life g.row.Dir.Denot). IsSome l.round) (sym c.begin_stage.ensures.rest) tt)
     c.begin_stage.ensures.stage
 
 pub returns-in_err-round-clause-causes : goal.returns-in_err-round-clause-causes
