@@ -21,8 +21,10 @@ pub mod Hearing
 pub mod Judging
 pub mod Kept
 pub mod Lines
+pub mod Logged
 pub mod Making
 pub mod Newest
+pub mod Observed
 pub mod Offered
 pub mod Openings
 pub mod Owned
@@ -41,4 +43,5 @@ pub mod Speaking
 pub mod Standing
 pub mod Stopping
 pub mod Taking
+pub mod Telling
 pub mod Under
