@@ -12,5 +12,6 @@ pub mod Made
 pub mod Moved
 pub mod Opened
 pub mod Rules
+pub mod Scanned
 pub mod Steps
 pub mod Today
