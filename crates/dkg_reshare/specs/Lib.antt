@@ -1,5 +1,6 @@
 pub mod Actors
 pub mod Anchors
+pub mod Carried
 pub mod Configured
 pub mod Ends
 pub mod Given

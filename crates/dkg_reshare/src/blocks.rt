@@ -301,7 +301,7 @@ fn include<
     ensures fit { IsTrue D.tells → AreFit (non_zero_u32_get terms.now.limit) (D.image devices.old.disk.now)
         → AreFit (non_zero_u32_get terms.now.limit) (D.image devices.new.disk.now) }
 {
-    observe(alloc, ceremony, terms.me, life, devices, block)?;
+    observe(alloc, ceremony, terms, life, devices, block)?;
     unserve(inclusion, block.height());
     life.tip = Some(tip_of(block));
     advance(
