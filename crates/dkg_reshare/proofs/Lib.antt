@@ -18,6 +18,7 @@ pub mod Giving
 pub mod Handed
 pub mod Heard
 pub mod Hearing
+pub mod Included
 pub mod Judging
 pub mod Kept
 pub mod Lines
