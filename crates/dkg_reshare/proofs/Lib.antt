@@ -12,6 +12,7 @@ pub mod Committing
 pub mod Counted
 pub mod Dealers
 pub mod Dealt
+pub mod Deriving
 pub mod Drawing
 pub mod Ending
 pub mod Giving
