@@ -12,12 +12,14 @@ pub mod Committing
 pub mod Counted
 pub mod Dealers
 pub mod Dealt
+pub mod Deriving
 pub mod Drawing
 pub mod Ending
 pub mod Giving
 pub mod Handed
 pub mod Heard
 pub mod Hearing
+pub mod Included
 pub mod Judging
 pub mod Kept
 pub mod Lines

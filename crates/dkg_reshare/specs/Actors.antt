@@ -37,6 +37,7 @@ use Rattle.std.specs.FinMap as maps
 use Rattle.dkg_reshare.specs.declared.stop.Stop.TheVariants.{Cut, Failed, Fault as Faulted}
 use Rattle.dkg_reshare.specs.Ends.{by_stop, IsCaused}
 use Rattle.dkg_reshare.specs.declared.tip.Judged.TheVariants.{New as IsNewBlock}
+use Rattle.dkg_reshare.specs.Carried.{CarriesWithin}
 use Rattle.dkg_reshare.specs.Judged.{judged}
 use Rattle.dkg_reshare.specs.LiveOf.{IsDealing, IsPlaced, IsSeated, IsWithin, records_of}
 use Rattle.dkg_reshare.specs.Moved.{IsFirm}
@@ -149,6 +150,11 @@ message_of (message.Feed request b) = Sent (core.Feed request b)
 message_of (message.Over request) = Sent (core.Over request)
 message_of (message.Cancel request) = Sent (core.Cancel request)
 message_of message.Work = Sent (core.Work None)
+
+-- What is delivered is within this limit.
+abbrev pub BringsWithin : {Dir Cfg : Type 0} → (limit : ℕ) → Message Dir Cfg → Type 0
+BringsWithin limit (message.Finalized b) = CarriesWithin limit b
+BringsWithin limit its = ⊤
 
 -- A life without a tip takes a block of its epoch and window, and any while it follows.
 abbrev pub is_in_window_by : Stage → (of_epoch early : Bool) → Bool

@@ -1,5 +1,5 @@
 -- What inclusion has in memory, as the relation's Inclusion.
-use Rattle.std.specs.Prelude.{ℕ, Bool, false, true, List, [], ◌∷◌, ◌≡◌, ◌⊎◌, ◌↔◌, Contains, Option, Some, None, IfSome, IsOk, IsSome, map, option_map, option_and_then, Ok}
+use Rattle.std.specs.Prelude.{ℕ, Bool, false, true, List, [], ◌∷◌, ◌≡◌, ◌⊎◌, ◌↔◌, Contains, Option, Some, None, IfSome, IsOk, IsSome, IsSomeAnd, map, option_map, option_and_then, Ok}
 use Rattle.std.specs.Ordering.{nat_cmp}
 use Rattle.std.specs.FinMap as maps
 use Rattle.std.specs.FinMap.{FinMap}
@@ -7,7 +7,6 @@ use Rattle.dkg_values.specs.Rising.{lookup}
 use Rattle.dkg_ceremony.specs.declared.round.RoundParts.{RoundParts as Round}
 use Rattle.dkg_ceremony.specs.Outcomes.{LogMap}
 use Rattle.dkg_ceremony.specs.Schedule.{bounds_at}
-use Rattle.dkg_artifact.specs.Ancestries.{Stands}
 use Rattle.dkg_artifact.specs.Requested as requested
 use Rattle.dkg_artifact.specs.Results.{Checked}
 use Rattle.dkg_artifact.specs.declared.artifact.Artifact as artifact
@@ -26,6 +25,7 @@ use Rattle.dkg_reshare.specs.declared.told.Told.{Told}
 use Rattle.dkg_reshare.specs.declared.told.Told.TheVariants as told
 use Rattle.dkg_reshare.specs.LiveOf.{awaited_of}
 use Rattle.dkg_reshare.specs.Rules.{CheckLogOf, DealingOf, FinishOf}
+use Rattle.dkg_reshare.specs.Scanned.{IsFed}
 
 -- WHAT REQUESTS WERE TOLD
 
@@ -98,7 +98,7 @@ pub record IsRunnable (dealing_of : DealingOf) (finish_of : FinishOf) (j : job.J
 pub record IsInHand {Dir Cfg : Type 0} (check_log_of : CheckLogOf) (blocks_per_epoch : ℕ) (life : Life Dir) (hand : Hand Dir Cfg) : Type 0 where
   pub includes : life.stage ≡ stage.Including
   pub goes_on : hand.request.ended ≡ false
-  pub stands : IfSome life.round (λ round. Stands check_log_of round (bounds_at blocks_per_epoch (awaited_of life)) (option_map tip_of life.tip) hand.request.blocks hand.scan)
+  pub stands : IsSomeAnd life.round (λ round. IsFed check_log_of round (bounds_at blocks_per_epoch (awaited_of life)) (option_map tip_of life.tip) hand.request.blocks hand.scan)
 
 -- What holds of it between two calls of a life: a request is in hand only while no verification runs, and without a round nothing waits.
 pub record IsReadyInclusion {C Dir Signer Cfg : Type 0} (check_log_of : CheckLogOf) (dealing_of : DealingOf) (finish_of : FinishOf) (blocks_per_epoch : ℕ)

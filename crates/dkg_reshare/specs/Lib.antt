@@ -14,5 +14,6 @@ pub mod Made
 pub mod Moved
 pub mod Opened
 pub mod Rules
+pub mod Scanned
 pub mod Steps
 pub mod Today

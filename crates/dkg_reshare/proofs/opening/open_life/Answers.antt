@@ -129,3 +129,6 @@ returns-clause-live g c = λ disk secrets sound.
     c.in_ok-set_up.ensures.agrees disk secrets (made.made.stands sound.stands)
     (subst (λ (s : Store g.row.Dir.Denot). AreAgreed (records_of s) (held_in (g.D.Disk.files c.open_store.new.devices.disk.now) (g.X.SecretStore.held c.open_store.new.devices.secrets.now))) (sym (ap (λ (l : Life g.row.Dir.Denot). l.store) c.begin-life.ensures))
     (store_agrees g.row.Dir.Denot c.args.number (length (open_calls (g.D.Disk.files c.args.devices.now.disk.now))) (records_of c.in_ok-store.store) made (g.met.D.Disk.reads c.open_store.new.devices.disk.now disk) sound.stands sound.whole))
+
+pub returns-clause-current : goal.returns-clause-current
+returns-clause-current g c = c.in_ok-set_up.ensures.current

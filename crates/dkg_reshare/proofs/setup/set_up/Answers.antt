@@ -1,4 +1,7 @@
-use Rattle.std.proofs.Common.{◌-◌, ℕ, None, ap, refl, subst, sym, ◌∙◌}
+use Rattle.dkg_reshare.proofs.Committing.{in_any}
+use Rattle.dkg_reshare.specs.declared.setup.Standing.TheVariants.{Uncommitted, WasCommitted}
+use Rattle.dkg_reshare.specs.declared.setup.Standing.{Standing}
+use Rattle.std.proofs.Common.{◌-◌, ℕ, None, ap, refl, subst, sym, ◌∙◌, ◌≡◌}
 use Rattle.std.specs.Prelude.{IsTrue}
 use Rattle.std.specs.Option.{option_copied}
 use Rattle.std.specs.Int.NonZero.{non_zero_u64_get}
@@ -16,7 +19,7 @@ use Rattle.dkg_reshare.specs.LiveOf.{Beside, live_of, nothing_beside, records_of
 use Rattle.dkg_reshare.specs.Made.{UnlessBroken}
 use Rattle.dkg_reshare.specs.Moved.{StaysAbove, StaysFrom}
 use Rattle.dkg_reshare.proofs.Beginning.{makes_as, tells_as}
-use Rattle.dkg_reshare.proofs.Beside.{beside_as, none_beside, nothing_fresh, took_none}
+use Rattle.dkg_reshare.proofs.Beside.{beside_as, none_beside, nothing_fresh, took_none, then_well}
 use Rattle.dkg_reshare.proofs.Burning.{speaks_makes, unless}
 use Rattle.dkg_reshare.proofs.Caused.{of_result}
 use Rattle.dkg_reshare.proofs.Kept.{above_itself, moved_none}
@@ -136,3 +139,12 @@ returns-clause-agrees g c =
     let ends = c.set_up_by.ensures.acts disk secrets fixed beside fresh (record { of = lent.of; word_is = lent.word_is ∙ ap (λ (l : Life g.row.Dir.Denot). l.word) (sym c.in_ok-bounds.ensures.begun) }) (any_reads c.args.terms.now (g.B.BlockSource.answers c.args.source.now) c.args.life.now.word (any_rules g.C.Ceremony.round_of g.C.Ceremony.deal_of g.C.Ceremony.dealing_of g.C.Ceremony.ack_of g.C.Ceremony.check_ack_of g.C.Ceremony.sign_log_of g.C.Ceremony.bears_ack_of g.C.Ceremony.share_public_of g.C.Ceremony.partial_public_of) c.in-Some-epoch_info.info.now.directory) (any_ruled_by c.args.terms.now (g.B.BlockSource.answers c.args.source.now) c.args.life.now.word (any_rules g.C.Ceremony.round_of g.C.Ceremony.deal_of g.C.Ceremony.dealing_of g.C.Ceremony.ack_of g.C.Ceremony.check_ack_of g.C.Ceremony.sign_log_of g.C.Ceremony.bears_ack_of g.C.Ceremony.share_public_of g.C.Ceremony.partial_public_of) c.in-Some-epoch_info.info.now.directory (any_ruled g.C.Ceremony.round_of g.C.Ceremony.deal_of g.C.Ceremony.dealing_of g.C.Ceremony.ack_of g.C.Ceremony.check_ack_of g.C.Ceremony.sign_log_of g.C.Ceremony.bears_ack_of g.C.Ceremony.share_public_of g.C.Ceremony.partial_public_of)) (stands_there fixed (non_zero_u64_get c.args.terms.now.blocks_per_epoch) lent.of.blocks beside fresh c.args.fence.now c.args.life.now c.in_ok-bounds.bounds c.in_ok-bounds.ensures.lies c.begin_awaited.new.life c.in_ok-bounds.ensures.begun) in
     let now = ends.now in
     setup_agrees fixed (live_of beside c.args.fence.now c.args.life.now) (live_of now c.set_up_by.new.fence c.set_up_by.new.life) c.set_up_by.result (makes_as (by_block fixed (non_zero_u64_get c.args.terms.now.blocks_per_epoch) lent.of.blocks beside fresh c.args.fence.now c.args.life.now c.in_ok-bounds.bounds c.in_ok-bounds.ensures.lies c.begin_awaited.new.life c.in_ok-bounds.ensures.begun c.requires.uncommitted (g.B.BlockSource.answers c.args.source.now) lent.lent c.boundary_of.result (c.boundary_of.ensures (non_zero_u64_get c.args.terms.now.blocks_per_epoch) (first_is (non_zero_u64_get c.args.terms.now.blocks_per_epoch) _ c.in_ok-bounds.bounds c.in_ok-bounds.ensures.lies)) (option_copied c.block.result) c.block.ensures c.in-Some.block.now (ap option_copied c.in-Some.is) c.in-Some-epoch_info.info.now (sym c.epoch_info.ensures ∙ ap option_copied c.in-Some-epoch_info.is)) (ends_in (live_of now c.set_up_by.new.fence c.set_up_by.new.life) c.set_up_by.result) ends.holds) (g.met.D.Disk.reads c.set_up_by.new.devices.disk.now disk))
+
+pub set_up_by-requires-clause-known : goal.set_up_by-requires-clause-known
+set_up_by-requires-clause-known g c = λ was. absurd (let h : ◌≡◌ {A = Standing} Uncommitted WasCommitted = was in cc)
+
+pub returns-in_default-clause-current : goal.returns-in_default-clause-current
+returns-in_default-clause-current g c = in_any c.follow.result (λ apart. absurd (apart (ap (λ (l : Life g.row.Dir.Denot). l.stage) c.in_ok-bounds.ensures.begun)))
+
+pub returns-clause-current : goal.returns-clause-current
+returns-clause-current g c = then_well c.set_up_by.result (λ is apart. is) c.set_up_by.ensures.current

@@ -1,4 +1,7 @@
-use Rattle.std.proofs.Common.{◌-◌, ◌∙◌, None, ap, arith}
+use Rattle.dkg_reshare.proofs.Committing.{in_any}
+use Rattle.dkg_types.specs.declared.info.EpochInfo.{EpochInfo}
+use Rattle.std.specs.Prelude.{IsSome}
+use Rattle.std.proofs.Common.{◌-◌, ◌∙◌, None, ap, arith, Option, subst, sym}
 use Rattle.std.proofs.lemmas.Result.{err_from_is_err_and}
 use Rattle.std.specs.Int.NonZero.{non_zero_u32_get}
 use Rattle.dkg_store.proofs.Counts.{reached_behind}
@@ -187,3 +190,7 @@ draw_up-requires-clause-valid g c =
 
 pub prune-requires : goal.prune-requires
 prune-requires g c = λ told. rw (c.commit_new.ensures.rest, c.secrets_of.ensures.life, c.commit_new.ensures.disk, c.secrets_of.ensures.disk) (c.requires.open told)
+
+pub returns-clause-current : goal.returns-clause-current
+returns-clause-current g c = in_any c.draw_up.result (subst (λ (o : Option (EpochInfo g.row.Dir.Denot)). IsSome o) (sym (ap (λ (l : Life g.row.Dir.Denot). l.store.current) c.draw_up.ensures.rest ∙ c.in_ok-prune.ensures.current))
+    (c.in_ok-commit_new.ensures.current (λ was. subst (λ (o : Option (EpochInfo g.row.Dir.Denot)). IsSome o) (sym (ap (λ (l : Life g.row.Dir.Denot). l.store.current) c.secrets_of.ensures.life)) (c.requires.known was))))

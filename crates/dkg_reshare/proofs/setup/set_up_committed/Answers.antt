@@ -1,4 +1,6 @@
-use Rattle.std.proofs.Common.{None, ap, refl, sym, ◌∙◌}
+use Rattle.dkg_types.specs.declared.info.EpochInfo.{EpochInfo}
+use Rattle.std.specs.Prelude.{IsSome}
+use Rattle.std.proofs.Common.{None, ap, refl, sym, ◌∙◌, Option, subst}
 use Rattle.std.specs.Int.NonZero.{non_zero_u32_get, non_zero_u64_get}
 use Rattle.std.proofs.lemmas.Result.{err_from_is_err_and}
 use Rattle.dkg_types.specs.declared.fault.Fault.TheVariants.{HeightRange}
@@ -51,3 +53,9 @@ returns-clause-word g c = ap (λ (l : Life g.row.Dir.Denot). l.word) c.set_up_by
 
 pub returns-clause-fit : goal.returns-clause-fit
 returns-clause-fit g c = λ told. (c.set_up_by.ensures.above told).fit (non_zero_u32_get c.args.terms.now.limit)
+
+pub set_up_by-requires-clause-known : goal.set_up_by-requires-clause-known
+set_up_by-requires-clause-known g c = λ was. subst (λ (o : Option (EpochInfo g.row.Dir.Denot)). IsSome o) (sym (ap (λ (l : Life g.row.Dir.Denot). l.store.current) c.in_ok-bounds.ensures.begun ∙ c.requires.current)) tt
+
+pub returns-clause-current : goal.returns-clause-current
+returns-clause-current g c = c.set_up_by.ensures.current
