@@ -11,7 +11,7 @@ use Rattle.dkg_core.specs.Courses.{Course, Say, Do, Call, Ask, Goes, Stops}
 use Rattle.dkg_core.specs.Fixed.{Fixed}
 use Rattle.dkg_core.specs.Live.{Live, Records, Dealer, Stage, recorded_at}
 use Rattle.dkg_core.specs.Dealing as d
-use Rattle.dkg_core.specs.Today.{ComesTo}
+use Rattle.dkg_core.specs.Endings.{ComesTo}
 use Rattle.dkg_core.specs.Forms.{IsMine, IsLiveIn}
 use Rattle.dkg_core.specs.Stepping.{with_taken}
 

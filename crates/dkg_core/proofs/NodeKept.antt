@@ -10,8 +10,7 @@ use Rattle.dkg_types.specs.declared.entry.Restored.{Restored}
 use Rattle.dkg_types.specs.declared.fault.Fault.{Fault}
 use Rattle.dkg_types.specs.declared.info.EpochInfo.{EpochInfo}
 use Rattle.dkg_journal.specs.Operations.{Bars, Opens}
-use Rattle.dkg_store.specs.Acts.{Held, World, OnDisk, says, does, Cause, Ended, went, stopped, broken, notes, plan}
-use Rattle.dkg_store.specs.Noted.{logs_in}
+use Rattle.dkg_store.specs.Acts.{Held, World, OnDisk, says, does, Cause, Ended, went, stopped, broken, notes}
 use Rattle.dkg_store.specs.Pairs.{Pairs, IsWhole}
 use Rattle.dkg_store.specs.Recorded.{Pair, restored_of, restored_list}
 use Rattle.dkg_store.proofs.Acts.{along_runs}
@@ -19,20 +18,18 @@ use Rattle.dkg_core.specs.Courses.{Course, on_devices, Deed, EndsSo}
 use Rattle.dkg_core.specs.Behind.{EndsBehind, IfEarly, IsAside}
 use Rattle.dkg_core.specs.Seen.{Seen}
 use Rattle.dkg_core.specs.Fixed.{Fixed}
-use Rattle.dkg_core.specs.Live.{Live, NodeStop, Faulted, Message, Sent, Peer, Finalized, NextLog, ReleaseLog, EpochInfoOf, Feed, Over, Cancel, Work, awaited_height}
+use Rattle.dkg_core.specs.Live.{Live, NodeStop, Faulted, Message, Sent, Peer, awaited_height}
 use Rattle.dkg_core.specs.Setup.{setup}
 use Rattle.dkg_core.specs.Core.{opening, step, opens_in, begun}
 use Rattle.dkg_core.specs.Laws.{Law, Holds, Anything, IsSilent, prune_law}
 use Rattle.dkg_core.specs.Meant.{ReadsRecords}
 use Rattle.dkg_core.specs.Heard.{recovered_in, KeepsFrom, IsSaid, MayHave, IsKeptAt}
-use Rattle.dkg_core.specs.Agreeing.{AreAgreed, BringsRecords}
+use Rattle.dkg_core.specs.Agreeing.{AreAgreed}
 use Rattle.dkg_core.specs.Enduring.{IsKeptFrom}
-use Rattle.dkg_core.specs.Today.{IsLiveToday, IsTakenToday}
 use Rattle.dkg_core.specs.Transcripts.{lines_of}
-use Rattle.dkg_core.specs.NodeKept.{BeginsRestored, NodeOpeningsRestore, NodeOpeningsKeep, NodeOpeningsAgree, NodeOpeningsSparePlans, NodeOpeningsSpareLogs, NodePeersAreKept, NodeStepsAgree, NodeStepsGiveBack, NodeStepsSparePlans, NodeStepsSpareLogs, IsAckedLine}
+use Rattle.dkg_core.specs.NodeKept.{BeginsRestored, NodeOpeningsRestore, NodeOpeningsKeep, NodeOpeningsAgree, NodePeersAreKept, NodeStepsAgree, NodeStepsGiveBack}
 use Rattle.dkg_core.proofs.Agreeing.{openings_agree, steps_agree}
-use Rattle.dkg_core.proofs.Behind.{openings_run_behind, steps_run_behind, leaves_devices}
-use Rattle.dkg_core.proofs.Delivering.{Same, silent_block}
+use Rattle.dkg_core.proofs.Behind.{openings_run_behind, steps_run_behind}
 use Rattle.dkg_core.proofs.Holding.{holds_as}
 use Rattle.dkg_core.proofs.Keeping.{kept}
 use Rattle.dkg_core.proofs.Lasting.{openings_keep}
@@ -42,7 +39,6 @@ use Rattle.dkg_core.proofs.Pruning.{setups_prune}
 use Rattle.dkg_core.proofs.Reopening.{openings_endure}
 use Rattle.dkg_core.proofs.Returning.{steps_give_back}
 use Rattle.dkg_core.proofs.Said.{runs_say}
-use Rattle.dkg_core.proofs.Sparing.{SparesPlan, opening_plan, opening_logs, plan_spared, logs_spared, peer_spares, peer_spares_logs}
 
 all_of_both : {A : Type 0} (P : A → Type 0) (xs ys : List A) → AllByRecursion P xs → AllByRecursion P ys → AllByRecursion P (xs ++ ys)
 all_of_both P [] ys all more = more
@@ -205,52 +201,3 @@ pub node_steps_give_back : {Dir : Type 0} → NodeStepsGiveBack Dir
 node_steps_give_back c st message ended most w new low agreed can run key pair above got =
     let b = steps_run_behind c st message ended w new run in
     ap (λ (h : Held). get (recovered_in h) key) b.held ∙ steps_give_back c st message b.half most w b.mid low agreed can b.run key pair above got
-
--- THE PLAN AND THE LOGS
-
-pub node_openings_spare_plans : {Dir : Type 0} → NodeOpeningsSparePlans Dir
-node_openings_spare_plans c ended w new form run =
-    let b = openings_run_behind c ended w new run in
-    ap plan b.held ∙ along_runs (λ (x : World). plan x.held ≡ plan w.held) (on_devices (opening c)) b.half w b.mid (plan_spared (opening c) w (opening_plan c form.reshare form.bare form.unplanned)) b.run
-
-pub node_openings_spare_logs : {Dir : Type 0} → NodeOpeningsSpareLogs Dir
-node_openings_spare_logs c ended w new starts run =
-    let b = openings_run_behind c ended w new run in
-    ap (λ (h : Held). logs_in (notes h)) b.held
-    ∙ along_runs (λ (x : World). logs_in (notes x.held) ≡ logs_in (notes w.held)) (on_devices (opening c)) b.half w b.mid (logs_spared (opening c) w (opening_logs c starts)) b.run
-
-module _ {Dir : Type 0} (c : Fixed Dir) (st : Live Dir) (half : Ended Fault (Live Dir)) (w mid : World) (live : IsLiveToday c st) where
-  step_plan : (message : Message Dir) → IsTakenToday c message → EndsSo (step c message st) half w mid → plan mid.held ≡ plan w.held
-  step_plan (Sent (Peer from bytes)) taken run =
-      along_runs (λ (x : World). plan x.held ≡ plan w.held) (on_devices (step c (Sent (Peer from bytes)) st)) half w mid (plan_spared (step c (Sent (Peer from bytes)) st) w
-      (peer_spares c SparesPlan from bytes (λ epoch dealer private. tt) (λ epoch public private is. tt) (λ epoch ack is. tt) st)) run
-  step_plan (Finalized b) taken run = ap plan (leaves_devices IsAckedLine (Same c b taken st live) (step c (Finalized b) st) half w mid (silent_block c b taken st live) run).held
-  step_plan (Sent (NextLog request height)) taken run = absurd taken
-  step_plan (Sent (ReleaseLog height)) taken run = absurd taken
-  step_plan (Sent (EpochInfoOf request)) taken run = absurd taken
-  step_plan (Sent (Feed request b)) taken run = absurd taken
-  step_plan (Sent (Over request)) taken run = absurd taken
-  step_plan (Sent (Cancel request)) taken run = absurd taken
-  step_plan (Sent (Work handed)) taken run = absurd taken
-
-  step_logs : (message : Message Dir) → IsTakenToday c message → BringsRecords c message → EndsSo (step c message st) half w mid → logs_in (notes mid.held) ≡ logs_in (notes w.held)
-  step_logs (Sent (Peer from bytes)) taken brings run =
-      along_runs (λ (x : World). logs_in (notes x.held) ≡ logs_in (notes w.held)) (on_devices (step c (Sent (Peer from bytes)) st)) half w mid
-      (logs_spared (step c (Sent (Peer from bytes)) st) w (peer_spares_logs c st from bytes brings)) run
-  step_logs (Finalized b) taken brings run =
-      ap (λ (h : Held). logs_in (notes h)) (leaves_devices IsAckedLine (Same c b taken st live) (step c (Finalized b) st) half w mid (silent_block c b taken st live) run).held
-  step_logs (Sent (NextLog request height)) taken brings run = absurd taken
-  step_logs (Sent (ReleaseLog height)) taken brings run = absurd taken
-  step_logs (Sent (EpochInfoOf request)) taken brings run = absurd taken
-  step_logs (Sent (Feed request b)) taken brings run = absurd taken
-  step_logs (Sent (Over request)) taken brings run = absurd taken
-  step_logs (Sent (Cancel request)) taken brings run = absurd taken
-  step_logs (Sent (Work handed)) taken brings run = absurd taken
-
-pub node_steps_spare_plans : {Dir : Type 0} → NodeStepsSparePlans Dir
-node_steps_spare_plans c st message ended w new taken live run =
-    let b = steps_run_behind c st message ended w new run in ap plan b.held ∙ step_plan c st b.half w b.mid live message taken b.run
-
-pub node_steps_spare_logs : {Dir : Type 0} → NodeStepsSpareLogs Dir
-node_steps_spare_logs c st message ended w new taken live brings run =
-    let b = steps_run_behind c st message ended w new run in ap (λ (h : Held). logs_in (notes h)) b.held ∙ step_logs c st b.half w b.mid live message taken brings b.run

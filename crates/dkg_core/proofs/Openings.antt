@@ -34,8 +34,8 @@ use Rattle.dkg_core.specs.Entering.{Half}
 use Rattle.dkg_core.specs.Core.{opening, opens_in, begun}
 use Rattle.dkg_core.specs.Node.{unless_once, kept_material, node_opening}
 use Rattle.dkg_core.specs.Laws.{start_of}
-use Rattle.dkg_core.specs.Today.{stage_in, first_epoch, first_block, OnInfo, HasEntered, IsEnteredToday}
-use Rattle.dkg_core.specs.NodeToday.{LacksNobody, IsFaultBy}
+use Rattle.dkg_core.specs.Endings.{stage_in, first_epoch, first_block, OnInfo, HasEntered, IsEntered}
+use Rattle.dkg_core.specs.NodeEndings.{LacksNobody, IsFaultBy}
 use Rattle.dkg_core.specs.Forms.{IsForm, IsLiveIn, IsActiveIn, ComesOver, Finds, IsSetupFault, IsSeated, share_read, seed_read, started, IsOpeningStop, IsSetUpIn, IsOpened, OpeningsLead, held_behind, LeavesHeld, set_up_by, OpeningsLeadOver, HalvesBegin, IsNodeBegun, NodeOpeningsLead, NodeOpeningsLeadOver}
 use Rattle.dkg_core.proofs.Splitting.{came_to}
 use Rattle.dkg_core.proofs.Setups.{over_if, over_asks, comes_anywhere, came_over, over_as, over_behind, over_under, records_again, setups_come_to}
@@ -218,7 +218,7 @@ module _ {Dir : Type 0} (c : Fixed Dir) (st : Live Dir) (seen : Seen) (k : Held)
 
   -- no device is touched
   abbrev Entered : Half Dir → Option Held → Type 0
-  Entered half left = IsEnteredToday c st half.live × (left ≡ devices)
+  Entered half left = IsEntered c st half.live × (left ≡ devices)
 
   module _ (block : Block Dir) (is : first_block c ≡ Some block) (info : EpochInfo Dir) (seated : IsSeated c s.Uncommitted info (share_read c info k) (seed_read c info k) (started c seen) st) where
     same : info.epoch ≡ first_epoch c
@@ -287,8 +287,8 @@ module _ {Dir : Type 0} (c : Fixed Dir) (st : Live Dir) (seen : Seen) (k : Held)
 
 pub halves_begin : {Dir : Type 0} → HalvesBegin Dir
 halves_begin c st seen k opened full =
-    comes_anywhere (λ (stop : NodeStop). ⊥) (λ half left. IsEnteredToday c st half.live) (half.opens_half c None st)
-    (over_as (λ (stop : NodeStop). ⊥) (λ (stop : NodeStop). ⊥) (λ half left. IsEnteredToday c st half.live × (left ≡ None)) (λ half left. IsEnteredToday c st half.live) (half.opens_half c None st) None
+    comes_anywhere (λ (stop : NodeStop). ⊥) (λ half left. IsEntered c st half.live) (half.opens_half c None st)
+    (over_as (λ (stop : NodeStop). ⊥) (λ (stop : NodeStop). ⊥) (λ half left. IsEntered c st half.live × (left ≡ None)) (λ half left. IsEntered c st half.live) (half.opens_half c None st) None
     (λ stop never. never) (λ half left entered. entered.0) (halves c st seen k opened full None))
 
 -- A NODE
@@ -321,7 +321,7 @@ module _ {Dir : Type 0} (c : Fixed Dir) (seen : Seen) (k : Held) (before : Live 
   active_by None o set_up halted = inl halted
   active_by (Some block) o set_up entered = let its = at_info (info_of block.payload) set_up in inr (entered.0 ∙ ap (λ (e : ℕ). Some e) its.0, its.1)
 
-  begins : (st : Live Dir) → IsEnteredToday c before st → IsNodeBegun c seen k st
+  begins : (st : Live Dir) → IsEntered c before st → IsNodeBegun c seen k st
   begins st entered = record {
     before = before;
     opened = opened;
@@ -340,8 +340,8 @@ module _ {Dir : Type 0} (c : Fixed Dir) (form : IsForm c) (full : LacksNobody c)
 
   half_behind : (before : Live Dir) (left : Option Held) → G c form devices before left → ComesOver Node_stops Node_goes (bind (half.opens_half c None before) (λ half. Goes half.live)) left
   half_behind before left found =
-      over_behind Node_stops (λ half held. IsEnteredToday c before half.live × (held ≡ left)) Node_goes (half.opens_half c None before) (λ half. Goes half.live) left
-      (over_as (λ (stop : NodeStop). ⊥) Node_stops (λ half held. IsEnteredToday c before half.live × (held ≡ left)) (λ half held. IsEnteredToday c before half.live × (held ≡ left)) (half.opens_half c None before) left
+      over_behind Node_stops (λ half held. IsEntered c before half.live × (held ≡ left)) Node_goes (half.opens_half c None before) (λ half. Goes half.live) left
+      (over_as (λ (stop : NodeStop). ⊥) Node_stops (λ half held. IsEntered c before half.live × (held ≡ left)) (λ half held. IsEntered c before half.live × (held ≡ left)) (half.opens_half c None before) left
       (λ stop never. absurd never) (λ half held entered. entered) (halves c before (c.seen found.0) found.1 found.4 full left))
       (λ half held entered. (
         found.0,

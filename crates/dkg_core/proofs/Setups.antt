@@ -30,7 +30,7 @@ use Rattle.dkg_core.specs.Live.{Live, Records, Dealer, Inclusion, Stage, Deals, 
 use Rattle.dkg_core.specs.Logs.{logs_of}
 use Rattle.dkg_core.specs.Setup as s
 use Rattle.dkg_core.specs.Core.{no_inclusion}
-use Rattle.dkg_core.specs.Today.{ComesTo, CameTo, stage_in, validity, seat_in}
+use Rattle.dkg_core.specs.Endings.{ComesTo, CameTo, stage_in, validity, seat_in}
 use Rattle.dkg_core.specs.Forms.{IsForm, IsMine, ComesOver, Finds, round_for, signed_in, dealer_by, dealer_in, IsDealable, IsSetupFault, current_by, orchestrator_by, IsSeated, share_read, seed_read, set_up_by, StoresBoth, SetupsStore, SetupsComeTo}
 use Rattle.dkg_core.proofs.Sound.{first_of_three}
 

@@ -1,8 +1,7 @@
--- What openings and steps of the form that is built leave of the plan and of the recorded logs.
-use Rattle.std.proofs.Common.{◌≡◌, ◌≤◌, inl, inr, ℕ, cond, Bool, true, false, nat_le, List, [], ◌∷◌, Option, Some, None, Ok, refl, sym, ◌∙◌, ap, subst, arith}
+-- What openings and steps leave of the plan, and which laws of operations alone a peer's message keeps.
+use Rattle.std.proofs.Common.{◌≡◌, inl, inr, ℕ, false, List, [], Option, Some, None, Ok, refl, sym, ◌∙◌, ap, subst}
 use Rattle.std.specs.Prelude.{◌+◌, if◌then◌else◌, Result, Err, is_some}
 use Rattle.std.specs.Option.{option_map_or}
-use Rattle.std.proofs.lemmas.Bool.Decides.{nat_tests}
 use Rattle.dkg_values.specs.Codec.{whole as all_of}
 use Rattle.dkg_values.specs.Rising.{lookup}
 use Rattle.dkg_values.specs.declared.codec.CodecError.{CodecError}
@@ -12,18 +11,15 @@ use Rattle.dkg_ceremony.specs.declared.round.RoundParts.{RoundParts as Round}
 use Rattle.dkg_ceremony.specs.Schedule.{epoch_of}
 use Rattle.dkg_journal.specs.Operations as of_journal
 use Rattle.dkg_journal.specs.Operations.{Bars, Opens, Appends, Prunes, PutsPlan, ClearsPlan, Journaled, InPart}
-use Rattle.dkg_journal.specs.Records.{Entry, from_section}
 use Rattle.dkg_types.specs.declared.fault.Fault.{Fault}
 use Rattle.dkg_types.specs.declared.fault.Fault.TheVariants.{HeightRange}
 use Rattle.dkg_types.specs.declared.message.Message.{Message as Channel}
 use Rattle.dkg_types.specs.declared.message.Message.TheVariants.{Dealer as ADealing, Ack as AnAck}
 use Rattle.dkg_types.specs.MessageCodes.{message_at}
-use Rattle.dkg_store.specs.Acts.{Held, Operation, OnDisk, Changes, World, does, Cause, Tears, IsLeft, notes, plan}
+use Rattle.dkg_store.specs.Acts.{Held, Operation, OnDisk, Changes, World, does, Cause, Tears, IsLeft, plan}
 use Rattle.dkg_store.specs.Events.{event_spelling}
-use Rattle.dkg_store.specs.Noted.{noted_log, logs_in}
 use Rattle.dkg_store.specs.declared.event.Event.TheVariants as events
 use Rattle.dkg_secrets.specs.declared.secrets.SecretOp.TheVariants.{PutDealing}
-use Rattle.dkg_store.proofs.Noted.{says_log, noted_silent}
 use Rattle.dkg_core.specs.Courses.{Course, Goes, Stops, Deed, Throughout}
 use Rattle.dkg_core.specs.Sources.{startup}
 use Rattle.dkg_core.specs.Fixed.{Fixed, Material, start}
@@ -32,10 +28,8 @@ use Rattle.dkg_core.specs.Setup as s
 use Rattle.dkg_core.specs.Dealing as d
 use Rattle.dkg_core.specs.Plans as p
 use Rattle.dkg_core.specs.Core.{opening, step, opens_in, begun}
-use Rattle.dkg_core.specs.Laws.{Law, Holds, Keeps, Anything, PrunesAtMost, prune_law, OpeningOperation, opening_law, StartsWithin}
-use Rattle.dkg_core.specs.Heard.{Fits}
+use Rattle.dkg_core.specs.Laws.{Law, Holds, Keeps, Anything, PrunesAtMost, prune_law}
 use Rattle.dkg_core.proofs.Holding.{holds_as, holds_if, holds_option, along}
-use Rattle.dkg_core.proofs.Opening.{openings_prune}
 use Rattle.dkg_core.proofs.Pruning.{setups_prune}
 
 -- a law of operations alone
@@ -97,39 +91,6 @@ plan_in_part ClearsPlan j new spares part = absurd part
 pub plan_spared : {Dir F S : Type 0} (course : Course Dir F S) (w : World) → Holds (sparing SparesPlan) [] course → Throughout (λ new. plan new.held ≡ plan w.held) course w
 plan_spared course w holds = spared SparesPlan (λ j. j.plan) plan_kept plan_in_part course w holds
 
--- THE LOGS
-
-abbrev pub SparesLogs : Operation → Type 0
-SparesLogs (OnDisk (Appends e)) = noted_log e ≡ None
-SparesLogs (OnDisk (Prunes min)) = min ≤ 0
-SparesLogs op = Unit {0}
-
-all_from : (min : ℕ) (es : List Entry) → min ≤ 0 → from_section min es ≡ es
-all_from min [] low = refl
-all_from min (e ∷ es) low =
-    let is : nat_le min e.0 ≡ true = grind (arith, nat_tests, low) in
-    ap (λ (t : Bool). cond t (e ∷ from_section min es) (from_section min es)) is ∙ ap (λ (rest : List Entry). e ∷ rest) (all_from min es low)
-
-logs_kept : (op : of_journal.Operation) (j : Journaled) → SparesLogs (OnDisk op) → logs_in (of_journal.after_operation op j).entries ≡ logs_in j.entries
-logs_kept Bars j spares = refl
-logs_kept (Opens calls) j spares = refl
-logs_kept (Appends e) j spares = noted_silent noted_log e j.entries spares
-logs_kept (Prunes min) j spares = ap logs_in (all_from min j.entries spares)
-logs_kept (PutsPlan bytes) j spares = refl
-logs_kept ClearsPlan j spares = refl
-
-logs_in_part : (op : of_journal.Operation) (j new : Journaled) → SparesLogs (OnDisk op) → InPart op j new → logs_in new.entries ≡ logs_in j.entries
-logs_in_part Bars j new spares part = absurd part
-logs_in_part (Opens calls) j new spares part = ap logs_in part.0
-logs_in_part (Appends e) j new spares part = ap (λ (x : Journaled). logs_in x.entries) part
-logs_in_part (Prunes min) j new spares part =
-    ap (λ (x : Journaled). logs_in x.entries) part.2 ∙ ap logs_in (all_from part.0 j.entries (let least = part.1 in omega (arith, least, spares)))
-logs_in_part (PutsPlan bytes) j new spares part = absurd part
-logs_in_part ClearsPlan j new spares part = absurd part
-
-pub logs_spared : {Dir F S : Type 0} (course : Course Dir F S) (w : World) → Holds (sparing SparesLogs) [] course → Throughout (λ new. logs_in (notes new.held) ≡ logs_in (notes w.held)) course w
-logs_spared course w holds = spared SparesLogs (λ j. logs_in j.entries) logs_kept logs_in_part course w holds
-
 -- AN OPENING
 
 prunes_spare : {Dir : Type 0} (most : ℕ) (past : List (Deed Dir)) (op : Operation) → PrunesAtMost most past op → SparesPlan op
@@ -140,15 +101,6 @@ prunes_spare most past (OnDisk (Prunes min)) h = tt
 prunes_spare most past (OnDisk (PutsPlan bytes)) h = absurd h
 prunes_spare most past (OnDisk ClearsPlan) h = absurd h
 prunes_spare most past (Changes op) h = tt
-
-opening_spares : {Dir : Type 0} (past : List (Deed Dir)) (op : Operation) → OpeningOperation 0 past op → SparesLogs op
-opening_spares past (OnDisk Bars) h = tt
-opening_spares past (OnDisk (Opens calls)) h = tt
-opening_spares past (OnDisk (Appends e)) h = absurd h
-opening_spares past (OnDisk (Prunes min)) h = h
-opening_spares past (OnDisk (PutsPlan bytes)) h = tt
-opening_spares past (OnDisk ClearsPlan) h = tt
-opening_spares past (Changes op) h = tt
 
 module _ {Dir : Type 0} (c : Fixed Dir) (reshare : c.oneshot ≡ None) (bare : c.material ≡ None) (unplanned : (h : Held) → (c.seen h).plan ≡ None) where
   abbrev plans : Law Dir (Live Dir)
@@ -174,9 +126,6 @@ module _ {Dir : Type 0} (c : Fixed Dir) (reshare : c.oneshot ≡ None) (bare : c
 
   pub opening_plan : Holds plans [] (opening c)
   opening_plan = (tt, (tt, λ h. (tt, opens _ (begun (c.seen h)))))
-
-pub opening_logs : {Dir : Type 0} (c : Fixed Dir) → StartsWithin c 0 → Holds (sparing SparesLogs) [] (opening c)
-opening_logs c starts = holds_as (opening_law c 0) (sparing SparesLogs) [] (opening c) (λ past line h. tt) opening_spares (λ past end h. tt) (openings_prune c 0 starts)
 
 -- A PEER'S MESSAGE puts a private half, and appends the record of a dealing or of an acknowledgement of its sender
 
@@ -231,8 +180,3 @@ module _ {Dir : Type 0} (c : Fixed Dir) (Spares : Operation → Type 0) (from : 
 
   pub peer_spares : (st : Live Dir) → Holds law [] (step c (Sent (Peer from bytes)) st)
   peer_spares st = hears st st.participation.stage
-
--- a dealing's record and an acknowledgement's say nothing of a log
-pub peer_spares_logs : {Dir : Type 0} (c : Fixed Dir) (st : Live Dir) (from : ℕ) (bytes : List ℕ) → Fits c (from, bytes) → Holds (sparing SparesLogs) [] (step c (Sent (Peer from bytes)) st)
-peer_spares_logs c st from bytes fits = peer_spares c SparesLogs from bytes (λ epoch dealer private. tt)
-    (λ epoch public private is. says_log epoch (events.Dealing from public) (fits.0 public private is)) (λ epoch ack is. says_log epoch (events.Ack from ack) (fits.1 ack is)) st

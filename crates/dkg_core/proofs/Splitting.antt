@@ -5,7 +5,7 @@ use Rattle.dkg_store.specs.Acts.{World, says, does, Cause, Ended, went, stopped,
 use Rattle.dkg_core.specs.Courses.{Course, Say, Do, Call, Ask, Goes, Stops, bind, under, on_devices}
 use Rattle.dkg_core.specs.Said.{Said, SaysAll, SaysUpTo, SaysFirst}
 use Rattle.dkg_core.specs.Splitting.{IsEarly, RunsSplit, RunsUnder, SaidSplit, SaidUnder}
-use Rattle.dkg_core.specs.Today.{CameTo, ComesTo}
+use Rattle.dkg_core.specs.Endings.{CameTo, ComesTo}
 
 -- RUNS
 

@@ -29,7 +29,7 @@ use Rattle.dkg_core.specs.Setup as s
 use Rattle.dkg_core.specs.Dealing as d
 use Rattle.dkg_core.specs.Including as i
 use Rattle.dkg_core.specs.Blocks as b
-use Rattle.dkg_core.specs.Today.{ComesTo, stage_in}
+use Rattle.dkg_core.specs.Endings.{ComesTo, stage_in}
 use Rattle.dkg_core.specs.Forms.{IsForm, IsMine, IsLiveIn}
 use Rattle.dkg_core.specs.Stepping.{with_taken, own_half, with_own_dealing, with_own_ack, given_in, given_itself, IsDealingStop, dealt_behind, IsSameLife}
 use Rattle.dkg_core.proofs.Counting.{some_is, comes_if, comes_as, found_pair, recorded_live, taken_live, takes_ack}

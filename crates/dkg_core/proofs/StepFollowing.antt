@@ -18,7 +18,7 @@ use Rattle.dkg_core.specs.Live.{Live, Inclusion, Follows, awaited_height, phase_
 use Rattle.dkg_core.specs.Setup as s
 use Rattle.dkg_core.specs.Blocks as b
 use Rattle.dkg_core.specs.Core.{no_inclusion}
-use Rattle.dkg_core.specs.Today.{stage_in}
+use Rattle.dkg_core.specs.Endings.{stage_in}
 use Rattle.dkg_core.specs.Forms.{IsForm, IsLiveIn, ComesOver, Finds, IsSetupFault, IsSeated, share_read, seed_read, committed_by, set_up_by}
 use Rattle.dkg_core.specs.Stepping.{next_epoch, taken_over, held_committed, held_behind_commit, IsTakeoverStop, IsTakenOver, IsFollowedEnd}
 use Rattle.dkg_core.proofs.Heights.{next_last}

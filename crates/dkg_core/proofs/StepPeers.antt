@@ -16,7 +16,7 @@ use Rattle.dkg_core.specs.Fixed.{Fixed}
 use Rattle.dkg_core.specs.Live.{Live, Dealer, Seat, Plays, Watches, Stage, Deals, Includes, Follows, Ends, Sent, Peer, recorded_at}
 use Rattle.dkg_core.specs.Dealing as d
 use Rattle.dkg_core.specs.Core.{step}
-use Rattle.dkg_core.specs.Today.{ComesTo}
+use Rattle.dkg_core.specs.Endings.{ComesTo}
 use Rattle.dkg_core.specs.Forms.{IsLiveIn}
 use Rattle.dkg_core.specs.Stepping.{IsHeardBy, with_taken}
 use Rattle.dkg_core.proofs.Counting.{comes_as, recorded_live, taken_live, takes_ack}

@@ -26,8 +26,8 @@ use Rattle.dkg_core.specs.Entering as half
 use Rattle.dkg_core.specs.Entering.{Half, HalfAnswer}
 use Rattle.dkg_core.specs.Node.{node_step, unless_once}
 use Rattle.dkg_core.specs.Behind.{OnlySays, IsAside, IsSameBeside, event_of}
-use Rattle.dkg_core.specs.Today.{ComesTo, CameTo, stage_in, answer_in}
-use Rattle.dkg_core.specs.NodeToday.{IsFaultBy}
+use Rattle.dkg_core.specs.Endings.{ComesTo, CameTo, stage_in, answer_in}
+use Rattle.dkg_core.specs.NodeEndings.{IsFaultBy}
 use Rattle.dkg_core.specs.Forms.{IsForm, IsLiveIn, IsActiveIn, Judged, Refusal, Passed, Applied, judged_over, judged_block, IsTakenIn, ComesOver, Finds}
 use Rattle.dkg_core.specs.Stepping.{with_taken, held_at_setup, given_itself, dealt_behind, IsDealingStop, IsFollowedEnd, IsAppliedStop, IsBlockStop, IsAppliedEnd, IsBlockEnd, IsStepStop, IsNextIn, IsHeardBy, LeavesTaken, StepsLead, StepsLeadOver, HalvesGoOn, NodeStepsLead, NodeStepsLeadOver, IsSameLife, NextLivesStay}
 use Rattle.dkg_core.proofs.Behind.{heard_aside, block_aside}

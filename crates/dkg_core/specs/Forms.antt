@@ -35,8 +35,8 @@ use Rattle.dkg_core.specs.Core.{opening, begun, no_participation, no_inclusion, 
 use Rattle.dkg_core.specs.Entering.{opens_half}
 use Rattle.dkg_core.specs.Node.{node_opening}
 use Rattle.dkg_core.specs.Laws.{IsCeremony, start_of}
-use Rattle.dkg_core.specs.Today.{ComesTo, CameTo, stage_in, first_epoch, first_block, validity, OnInfo, seat_in, IsEnteredToday}
-use Rattle.dkg_core.specs.NodeToday.{LacksNobody, IsFaultBy}
+use Rattle.dkg_core.specs.Endings.{ComesTo, CameTo, stage_in, first_epoch, first_block, validity, OnInfo, seat_in, IsEntered}
+use Rattle.dkg_core.specs.NodeEndings.{LacksNobody, IsFaultBy}
 
 -- THE FORM
 
@@ -271,13 +271,13 @@ OpeningsLeadOver Dir = (c : Fixed Dir) (ended : Ended Fault (Live Dir)) (w new :
 -- THE ORCHESTRATOR'S HALF behind such an opening never stops, where directories lack nobody: it enters the awaited epoch, or halts without its boundary block.
 abbrev pub HalvesBegin : Type 0 → Type 0
 HalvesBegin Dir = (c : Fixed Dir) (st : Live Dir) (seen : Seen) (k : Held) → IsOpened c seen k st → LacksNobody c
-    → ComesTo (λ (stop : NodeStop). ⊥) (λ half. IsEnteredToday c st half.live) (opens_half c None st)
+    → ComesTo (λ (stop : NodeStop). ⊥) (λ half. IsEntered c st half.live) (opens_half c None st)
 
 -- the reshare half's end, and behind it the orchestrator's
 pub record IsNodeBegun {Dir : Type 0} (c : Fixed Dir) (seen : Seen) (k : Held) (st : Live Dir) : Type 0 where
   pub before : Live Dir
   pub opened : IsOpened c seen k before
-  pub entered : IsEnteredToday c before st
+  pub entered : IsEntered c before st
   pub live : IsLiveIn c st
   pub active : IsActiveIn st
 

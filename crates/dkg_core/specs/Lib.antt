@@ -19,12 +19,11 @@ pub mod Including
 pub mod Joining
 pub mod Laws
 pub mod Live
-pub mod Lives
 pub mod Logs
 pub mod Meant
 pub mod Node
 pub mod NodeKept
-pub mod NodeToday
+pub mod NodeEndings
 pub mod Offering
 pub mod OneShots
 pub mod Plans
@@ -39,5 +38,5 @@ pub mod Spared
 pub mod Splitting
 pub mod Stepping
 pub mod Storing
-pub mod Today
+pub mod Endings
 pub mod Transcripts

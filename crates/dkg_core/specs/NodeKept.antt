@@ -1,27 +1,23 @@
 -- What a node's opening and its steps leave on the devices, wherever they end.
-use Rattle.std.specs.Prelude.{ℕ, List, [], ◌∷◌, ◌++◌, ◌≤◌, ◌<◌, ◌≡◌, None, Some}
+use Rattle.std.specs.Prelude.{ℕ, List, [], ◌∷◌, ◌++◌, ◌≤◌, ◌≡◌, Some}
 use Rattle.std.specs.List.{AllByRecursion}
 use Rattle.std.specs.FinMap.{get}
-use Rattle.dkg_ceremony.specs.Schedule.{midpoint}
 use Rattle.dkg_ceremony.specs.declared.round.RoundParts.{RoundParts as Round}
-use Rattle.dkg_types.specs.Blocks.{Block}
 use Rattle.dkg_types.specs.declared.entry.Entry.{Entry as Line}
-use Rattle.dkg_types.specs.declared.entry.Entry.TheVariants.{Opened, Acked}
+use Rattle.dkg_types.specs.declared.entry.Entry.TheVariants.{Opened}
 use Rattle.dkg_types.specs.declared.entry.Restored.{Restored}
-use Rattle.dkg_store.specs.Acts.{World, Ended, went, broken, notes, plan}
-use Rattle.dkg_store.specs.Noted.{logs_in}
+use Rattle.dkg_store.specs.Acts.{World, Ended, went, broken, notes}
 use Rattle.dkg_store.specs.Pairs.{Pairs, IsWhole}
 use Rattle.dkg_store.specs.Recorded.{restored_list}
 use Rattle.dkg_core.specs.Courses.{EndsSo}
 use Rattle.dkg_core.specs.Fixed.{Fixed}
 use Rattle.dkg_core.specs.Behind.{event_of, IsAside}
-use Rattle.dkg_core.specs.Live.{Live, NodeStop, Message, Peer, Reshare, Delivers}
+use Rattle.dkg_core.specs.Live.{Live, NodeStop, Message, Peer, Reshare}
 use Rattle.dkg_core.specs.Node.{node_opening, node_step}
 use Rattle.dkg_core.specs.Laws.{StartsWithin, reach_of}
 use Rattle.dkg_core.specs.Meant.{ReadsRecords}
 use Rattle.dkg_core.specs.Heard.{recovered_in, KeepsFrom, Agrees, IsKeptAt}
-use Rattle.dkg_core.specs.Agreeing.{AreAgreed, CanRecord, BringsRecords}
-use Rattle.dkg_core.specs.Today.{IsFormOfToday, IsLiveToday, IsTakenToday}
+use Rattle.dkg_core.specs.Agreeing.{AreAgreed, CanRecord}
 
 -- AN OPENING
 
@@ -46,15 +42,6 @@ abbrev pub NodeOpeningsAgree : Type 0 → Type 0
 NodeOpeningsAgree Dir = (c : Fixed Dir) (end : Live Dir) (w new : World) → ReadsRecords c.seen → IsWhole (notes w.held) w.held.secrets
     → EndsSo (node_opening c) (went end) w new → AreAgreed end.records new.held
 
--- In the form that is built it leaves the plan as it was,
-abbrev pub NodeOpeningsSparePlans : Type 0 → Type 0
-NodeOpeningsSparePlans Dir = (c : Fixed Dir) (ended : Ended NodeStop (Live Dir)) (w new : World) → IsFormOfToday c → EndsSo (node_opening c) ended w new → plan new.held ≡ plan w.held
-
--- .. and the recorded logs, where it starts in epoch 0 or 1.
-abbrev pub NodeOpeningsSpareLogs : Type 0 → Type 0
-NodeOpeningsSpareLogs Dir = (c : Fixed Dir) (ended : Ended NodeStop (Live Dir)) (w new : World) → StartsWithin c 0
-    → EndsSo (node_opening c) ended w new → logs_in (notes new.held) ≡ logs_in (notes w.held)
-
 -- A STEP
 
 -- A PEER'S MESSAGE keeps the promise, wherever the step ends and whatever an operation in hand leaves.
@@ -72,23 +59,3 @@ abbrev pub NodeStepsGiveBack : Type 0 → Type 0
 NodeStepsGiveBack Dir = (c : Fixed Dir) (st : Live Dir) (message : Message Dir) (ended : Ended NodeStop (Live Dir)) (most : ℕ) (w new : World) → reach_of c message ≤ most
     → AreAgreed st.records w.held → CanRecord c st message → EndsSo (node_step c (event_of message) st) ended w new
     → (key : ℕ × ℕ) (pair : List ℕ × ℕ) → most ≤ key.0 → get (recovered_in w.held) key ≡ Some pair → get (recovered_in new.held) key ≡ Some pair
-
--- A BLOCK below the first midpoint touches no device, and tells no more than that it is acknowledged, where the orchestrator's half doesn't wait.
-abbrev pub IsAckedLine : Line → Type 0
-IsAckedLine (Acked height) = Unit {0}
-IsAckedLine line = ⊥
-
-abbrev pub DeliveriesAreIdle : Type 0 → Type 0
-DeliveriesAreIdle Dir = (c : Fixed Dir) (b : Block Dir) (st : Live Dir) (ended : Ended NodeStop (Live Dir)) (w new : World) → b.height < midpoint c.blocks_per_epoch 0
-    → IsLiveToday c st → st.orchestrator.waiting ≡ None → EndsSo (node_step c (Delivers b) st) ended w new
-    → (new.held ≡ w.held) × (new.fuse ≡ w.fuse) × ((added : List Line) × (new.out ≡ w.out ++ added) × AllByRecursion IsAckedLine added)
-
--- A step of the form that is built leaves the plan as it was,
-abbrev pub NodeStepsSparePlans : Type 0 → Type 0
-NodeStepsSparePlans Dir = (c : Fixed Dir) (st : Live Dir) (message : Message Dir) (ended : Ended NodeStop (Live Dir)) (w new : World) → IsTakenToday c message → IsLiveToday c st
-    → EndsSo (node_step c (event_of message) st) ended w new → plan new.held ≡ plan w.held
-
--- .. and the recorded logs, where what it takes fits a record.
-abbrev pub NodeStepsSpareLogs : Type 0 → Type 0
-NodeStepsSpareLogs Dir = (c : Fixed Dir) (st : Live Dir) (message : Message Dir) (ended : Ended NodeStop (Live Dir)) (w new : World) → IsTakenToday c message → IsLiveToday c st
-    → BringsRecords c message → EndsSo (node_step c (event_of message) st) ended w new → logs_in (notes new.held) ≡ logs_in (notes w.held)

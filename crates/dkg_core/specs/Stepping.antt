@@ -25,8 +25,8 @@ use Rattle.dkg_core.specs.Node.{node_step}
 use Rattle.dkg_core.specs.Behind.{event_of}
 use Rattle.dkg_core.specs.Laws.{IsAccepted}
 use Rattle.dkg_core.specs.Storing.{ReadsSecrets}
-use Rattle.dkg_core.specs.Today.{ComesTo, CameTo, answer_in}
-use Rattle.dkg_core.specs.NodeToday.{IsFaultBy}
+use Rattle.dkg_core.specs.Endings.{ComesTo, CameTo, answer_in}
+use Rattle.dkg_core.specs.NodeEndings.{IsFaultBy}
 use Rattle.dkg_core.specs.Forms.{IsForm, IsLiveIn, IsActiveIn, Judged, Refusal, Passed, Applied, judged_block, IsTakenIn, IsSetupFault, IsSeated, share_read, seed_read, committed_by, set_up_by}
 
 -- A PEER'S MESSAGE

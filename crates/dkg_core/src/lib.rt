@@ -19,10 +19,9 @@ ghost use Rattle.dkg_core.specs.Heard.{OpeningsKeep, OpeningsRestore, PeersAgree
 ghost use Rattle.dkg_core.specs.Joining.{JoinsTrack, ProbesJoin};
 ghost use Rattle.dkg_core.specs.Laws.{DuesAreAnswered, OpeningsPrune, OthersAcknowledgeNothing, PeersAreHeard, SetupsAreSound, SetupsPrune, StandInsAreCeremonies};
 ghost use Rattle.dkg_core.specs.Counted.{CutsFall, RunsCount};
-ghost use Rattle.dkg_core.specs.Lives.{LivesKeep};
-ghost use Rattle.dkg_core.specs.NodeKept.{NodeOpeningsAgree, NodeOpeningsKeep, NodeOpeningsRestore, NodeOpeningsSpareLogs, NodeOpeningsSparePlans};
-ghost use Rattle.dkg_core.specs.NodeKept.{DeliveriesAreIdle, NodePeersAreKept, NodeStepsAgree, NodeStepsGiveBack, NodeStepsSpareLogs, NodeStepsSparePlans};
-ghost use Rattle.dkg_core.specs.NodeToday.{NodeDuesAreAnswered, NodeOpeningsAreQuiet, NodeOpeningsComeTo, NodeStepsAreQuiet, NodeStepsComeTo};
+ghost use Rattle.dkg_core.specs.NodeKept.{NodeOpeningsAgree, NodeOpeningsKeep, NodeOpeningsRestore};
+ghost use Rattle.dkg_core.specs.NodeKept.{NodePeersAreKept, NodeStepsAgree, NodeStepsGiveBack};
+ghost use Rattle.dkg_core.specs.NodeEndings.{NodeDuesAreAnswered, NodeOpeningsAreQuiet, NodeStepsAreQuiet};
 ghost use Rattle.dkg_core.specs.Probes.{ProbesStep};
 ghost use Rattle.dkg_core.specs.Said.{RunsSay};
 ghost use Rattle.dkg_core.specs.Spared.{NodeOpeningsKeepNotes, NodeOpeningsKeepPlans};
@@ -30,7 +29,6 @@ ghost use Rattle.dkg_core.specs.Storing.{NodeOpeningsKeepSecrets, NodeStepsKeepS
 ghost use Rattle.dkg_core.specs.Offering.{NodeOffersAreDealt, OffersAreDealt};
 ghost use Rattle.dkg_core.specs.Stepping.{CommitsAreRead, HalvesGoOn, NextLivesStay, NodeStepsLead, NodeStepsLeadOver, StepsLead, StepsLeadOver};
 ghost use Rattle.dkg_core.specs.BlocksKept.{BlocksKeep, NodeStepsKeepNotes, NodeStepsKeepPlans, NodeStepsSpareTheirLogs};
-ghost use Rattle.dkg_core.specs.Today.{HalvesDeliver, HalvesOpen, OpeningsComeTo, StepsComeTo};
 ghost use Rattle.dkg_core.specs.Transcripts.{OpeningsAreQuiet, RunsAddDeeds, StepsAreQuiet, TranscriptsMove};
 
 /// A peer's message records a valid dealing of its sender under a new key alone, behind its private half, and acknowledges only
@@ -184,30 +182,6 @@ pub fn cuts_fall<Dir, F, S>()
     ensures { CutsFall Dir F S }
 {}
 
-/// In the form that is built an opening stops by faults of its own alone that have their cause in the boundary block, the heights or the
-/// dealings that were read; or it leaves a life that follows, or takes part in the round of the info that the block carries.
-pub fn openings_come_to<Dir>()
-    ensures { OpeningsComeTo Dir }
-{}
-
-/// Behind such an opening the orchestrator's half never stops, where directories lack nobody: it enters the awaited epoch, or halts
-/// without its boundary block.
-pub fn halves_open<Dir>()
-    ensures { HalvesOpen Dir }
-{}
-
-/// In the form that is built a step stops by the fault that the block in hand is refused for, by the tip that the life had, and by no
-/// other; or the life goes on in the same round and seat.
-pub fn steps_come_to<Dir>()
-    ensures { StepsComeTo Dir }
-{}
-
-/// The orchestrator's half of such a block never stops where it doesn't wait: it acknowledges where it has entered an epoch, and changes
-/// nothing.
-pub fn halves_deliver<Dir>()
-    ensures { HalvesDeliver Dir }
-{}
-
 /// In the form of epochs a setup by an info, of any epoch, stops by faults of its own alone, each with its cause in the info, this node's share and
 /// seed or what is recorded; or it leaves a life that takes part in the info's round, with the dealer that share and seed make. It reads once at most.
 pub fn setups_come_to<Dir>()
@@ -258,13 +232,6 @@ pub fn node_openings_keep_notes<Dir>()
     ensures { NodeOpeningsKeepNotes Dir }
 {}
 
-/// At every exit of a life of the form that is built, whatever an operation in hand leaves: the devices are whole, and each
-/// acknowledgement and each recorded dealing that was told, of the epoch that it starts in and of the one before on, is that of a dealing
-/// that they give back.
-pub fn lives_keep<Dir>()
-    ensures { LivesKeep Dir }
-{}
-
 /// Whatever runs as a probe's acts runs as the course that joins them to a node's, over any devices, which it leaves as they were, and with
 /// the same lines. What broke a probe off is want of memory.
 pub fn probes_join<Dir, F, G, S, T>()
@@ -299,16 +266,6 @@ pub fn node_openings_agree<Dir>()
     ensures { NodeOpeningsAgree Dir }
 {}
 
-/// At every exit of a node's opening in the form that is built the plan is as it was.
-pub fn node_openings_spare_plans<Dir>()
-    ensures { NodeOpeningsSparePlans Dir }
-{}
-
-/// At every exit of a node's opening in epoch 0 or 1 the devices give back the logs that they did.
-pub fn node_openings_spare_logs<Dir>()
-    ensures { NodeOpeningsSpareLogs Dir }
-{}
-
 /// At every exit of a node's step for a peer's message, whatever an operation in hand leaves: the devices are whole and give back the dealings from
 /// before or with the sender's, and an acknowledgement is that of a dealing that they give back.
 pub fn node_peers_are_kept<Dir>()
@@ -324,34 +281,6 @@ pub fn node_steps_agree<Dir>()
 /// At every exit of a node's step the devices give back each dealing that they gave back before it, of the epochs that the step prunes nothing of.
 pub fn node_steps_give_back<Dir>()
     ensures { NodeStepsGiveBack Dir }
-{}
-
-/// At every exit of a node's step for a block below the first midpoint no device was touched and no call counted, and nothing was told but that a
-/// block is acknowledged, where the orchestrator's half doesn't wait.
-pub fn deliveries_are_idle<Dir>()
-    ensures { DeliveriesAreIdle Dir }
-{}
-
-/// At every exit of a node's step in the form that is built the plan is as it was.
-pub fn node_steps_spare_plans<Dir>()
-    ensures { NodeStepsSparePlans Dir }
-{}
-
-/// At every exit of such a step the devices give back the logs that they did, if what it takes fits a record.
-pub fn node_steps_spare_logs<Dir>()
-    ensures { NodeStepsSpareLogs Dir }
-{}
-
-/// In the form that is built a node's opening stops by the faults of its reshare half alone, each with its cause, where directories lack
-/// nobody; or it leaves the life that this half left, with the awaited epoch entered, or halted without its boundary block.
-pub fn node_openings_come_to<Dir>()
-    ensures { NodeOpeningsComeTo Dir }
-{}
-
-/// In the form that is built a node's step stops by the fault that the block in hand is refused for, and by no other; or the life goes on in
-/// the same round and seat, with its orchestrator as it was. The orchestrator's half doesn't wait before it.
-pub fn node_steps_come_to<Dir>()
-    ensures { NodeStepsComeTo Dir }
 {}
 
 /// A node's opening says first that the life is opened, and then lines of its own alone; where it ended by itself it has said so.

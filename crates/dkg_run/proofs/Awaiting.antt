@@ -19,7 +19,7 @@ use Rattle.dkg_script.specs.Setting.{Setting}
 use Rattle.dkg_script.proofs.LineBlocks.{of_line}
 use Rattle.dkg_core.specs.Live.{Finalized}
 use Rattle.dkg_core.specs.Sources.{Tip}
-use Rattle.dkg_core.specs.Today.{tip_behind}
+use Rattle.dkg_core.specs.Endings.{tip_behind}
 use Rattle.dkg_run.specs.Given.{blocks_in}
 use Rattle.dkg_run.specs.Lives.{fuse_for, fuse_within, never}
 use Rattle.dkg_run.proofs.LineHeights.{made_at}

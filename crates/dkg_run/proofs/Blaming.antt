@@ -35,7 +35,7 @@ use Rattle.dkg_core.specs.Said.{Said}
 use Rattle.dkg_core.specs.Seen.{Seen}
 use Rattle.dkg_core.specs.Sources.{Tip, position}
 use Rattle.dkg_core.specs.Stepping.{IsNextIn, IsStepEnd, IsStepStop}
-use Rattle.dkg_core.specs.Today.{CameTo, tip_behind}
+use Rattle.dkg_core.specs.Endings.{CameTo, tip_behind}
 use Rattle.dkg_core.specs.Forms.{IsActiveIn}
 use Rattle.dkg_core.proofs.Openings.{node_openings_lead}
 use Rattle.dkg_core.proofs.Stepping.{node_steps_lead}

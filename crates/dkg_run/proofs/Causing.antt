@@ -34,7 +34,7 @@ use Rattle.dkg_core.specs.Seen.{Seen}
 use Rattle.dkg_core.specs.Setup.{Standing, Uncommitted, WasCommitted, is_past_range, may_deal, pairs_of}
 use Rattle.dkg_core.specs.Sources.{Tip}
 use Rattle.dkg_core.specs.Stepping.{IsAppliedEnd, IsAppliedStop, IsBlockEnd, IsBlockStop, IsDealingStop, IsFollowedEnd, IsStepStop, IsTakenOver, IsTakeoverStop, taken_over}
-use Rattle.dkg_core.specs.Today.{OnInfo, first_block, first_epoch, seat_in, stage_in}
+use Rattle.dkg_core.specs.Endings.{OnInfo, first_block, first_epoch, seat_in, stage_in}
 use Rattle.dkg_run.specs.Blamed.{IsBlockCause, IsBlockOwn, IsCause, IsClear, IsInfoCause, IsNextCause, IsOwn, IsOwnCause, IsTakenLast, OnCarried, first_epoch_in, is_beyond, is_first_taken, next_epoch, opening_block, per_epoch, refusal_by, refusal_in, round_by, tip_in}
 use Rattle.dkg_run.specs.Epochs.{IsLifeOver, Stands, awaited_by, epoch_by}
 use Rattle.dkg_run.specs.Given.{Lived, at_step}

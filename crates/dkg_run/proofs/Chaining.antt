@@ -25,7 +25,7 @@ use Rattle.dkg_script.specs.Position.{awaited_height}
 use Rattle.dkg_script.specs.Setting.{CutAt, Setting, found, life_at}
 use Rattle.dkg_core.specs.Live.{Finalized}
 use Rattle.dkg_core.specs.Sources.{Tip, position}
-use Rattle.dkg_core.specs.Today.{tip_behind}
+use Rattle.dkg_core.specs.Endings.{tip_behind}
 use Rattle.dkg_run.specs.Blamed.{is_beyond, is_first_taken, refusal_by, refusal_in, refusal_over, tip_in, tip_over}
 use Rattle.dkg_run.specs.Epochs.{IsAnchorOver}
 use Rattle.dkg_run.specs.Given.{AreBytes, anchor_at, anchor_in, blocks_in}

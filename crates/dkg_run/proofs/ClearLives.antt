@@ -37,9 +37,9 @@ use Rattle.dkg_core.specs.Node.{node_opening}
 use Rattle.dkg_core.specs.Seen.{Seen}
 use Rattle.dkg_core.specs.Stepping.{IsAppliedStop, IsBlockStop, IsNextIn, IsStepStop, IsTakeoverStop, LeavesTaken, OwnDiffers, held_at_setup, held_committed, next_epoch as next_of}
 use Rattle.dkg_core.specs.Forms.{IsActiveIn}
-use Rattle.dkg_core.specs.NodeToday.{IsFaultBy}
+use Rattle.dkg_core.specs.NodeEndings.{IsFaultBy}
 use Rattle.dkg_core.specs.Storing.{ReadsSecrets}
-use Rattle.dkg_core.specs.Today.{CameTo, first_block}
+use Rattle.dkg_core.specs.Endings.{CameTo, first_block}
 use Rattle.dkg_core.proofs.Openings.{node_openings_lead_over}
 use Rattle.dkg_core.proofs.Stepping.{node_steps_lead_over}
 use Rattle.dkg_reshare.specs.declared.stop.Stop.{Stop}

@@ -33,7 +33,7 @@ use Rattle.dkg_core.specs.Live.{Finalized, Live, Message, Peer, Sent}
 use Rattle.dkg_core.specs.Seen.{Seen}
 use Rattle.dkg_core.specs.Setup.{Uncommitted}
 use Rattle.dkg_core.specs.Stepping.{IsNextIn}
-use Rattle.dkg_core.specs.Today.{first_block, first_epoch}
+use Rattle.dkg_core.specs.Endings.{first_block, first_epoch}
 use Rattle.dkg_run.specs.Given.{Lived, at_step, blocks_in, limits_of, lived, numbered, payload_in}
 use Rattle.dkg_run.proofs.Awaiting.{IsReached, comes_to}
 use Rattle.dkg_run.proofs.Former.{Brings, IsMadeOf, IsMessage, is_ceremony, made_there}

@@ -15,7 +15,7 @@ use Rattle.dkg_types.specs.declared.info.EpochInfo.{EpochInfo}
 use Rattle.dkg_core.specs.Entering.{is_ready}
 use Rattle.dkg_core.specs.Fixed.{Fixed}
 use Rattle.dkg_core.specs.Sources.{Source}
-use Rattle.dkg_core.specs.Today.{first_block, first_epoch}
+use Rattle.dkg_core.specs.Endings.{first_block, first_epoch}
 use Rattle.dkg_run.specs.Halves.{AreStart, beginning_of}
 use Rattle.dkg_run.specs.Nodes.{IsFenceReady, IsHalfGiven}
 

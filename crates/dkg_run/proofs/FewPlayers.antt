@@ -25,7 +25,7 @@ use Rattle.dkg_core.specs.Live.{Dealer, Live}
 use Rattle.dkg_core.specs.Seen.{Seen}
 use Rattle.dkg_core.specs.Setup.{Standing, Uncommitted}
 use Rattle.dkg_core.specs.Stepping.{IsNextIn}
-use Rattle.dkg_core.specs.Today.{first_block}
+use Rattle.dkg_core.specs.Endings.{first_block}
 use Rattle.dkg_run.specs.Epochs.{IsLifeOver}
 use Rattle.dkg_run.specs.Given.{Lived, at_step}
 use Rattle.dkg_run.proofs.FitsOwn.{dealt_fits}

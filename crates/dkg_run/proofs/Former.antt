@@ -20,7 +20,7 @@ use Rattle.dkg_core.specs.Forms.{IsForm, IsLiveIn}
 use Rattle.dkg_core.specs.Laws.{IsCeremony}
 use Rattle.dkg_core.specs.Live.{Delivers, Finalized, Live, Message, Peer, Sent}
 use Rattle.dkg_core.specs.Node.{node_step}
-use Rattle.dkg_core.specs.NodeToday.{LacksNobody}
+use Rattle.dkg_core.specs.NodeEndings.{LacksNobody}
 use Rattle.dkg_core.proofs.StandIn.{stand_ins_are_ceremonies}
 use Rattle.dkg_run.specs.Epochs.{IsLifeOver}
 use Rattle.dkg_run.specs.Given.{IsUnplanned, Lived, at_step, seen_at, block_on, blocks_in, parent_in, payload_in, step_of, with_block}

@@ -46,7 +46,7 @@ use Rattle.dkg_core.specs.Setup.{Uncommitted, WasCommitted}
 use Rattle.dkg_core.specs.Sources.{Tip}
 use Rattle.dkg_core.specs.Stepping.{IsAppliedEnd, IsAppliedStop, IsBlockEnd, IsBlockStop, IsDealingStop, IsFollowedEnd, IsNextIn, IsStepStop, IsTakenOver, IsTakeoverStop, LeavesTaken, held_at_setup, held_committed, next_epoch, taken_over}
 use Rattle.dkg_core.specs.Storing.{ReadsSecrets}
-use Rattle.dkg_core.specs.Today.{first_block, first_epoch}
+use Rattle.dkg_core.specs.Endings.{first_block, first_epoch}
 use Rattle.dkg_core.proofs.Behind.{openings_run_behind, steps_run_behind}
 use Rattle.dkg_core.proofs.Heights.{next_last}
 use Rattle.dkg_core.proofs.Lasting.{pruned_at}

@@ -31,7 +31,7 @@ use Rattle.dkg_core.specs.Meant.{ReadsRecords}
 use Rattle.dkg_core.specs.Node.{node_opening, node_step}
 use Rattle.dkg_core.specs.Seen.{Seen}
 use Rattle.dkg_core.specs.Stepping.{IsNextIn, LeavesTaken, held_at_setup}
-use Rattle.dkg_core.specs.Today.{first_block}
+use Rattle.dkg_core.specs.Endings.{first_block}
 use Rattle.dkg_core.proofs.Behind.{steps_run_behind}
 use Rattle.dkg_core.proofs.BlocksKept.{blocks_keep}
 use Rattle.dkg_core.proofs.NodeKept.{node_openings_agree, node_peers_are_kept, node_steps_agree}

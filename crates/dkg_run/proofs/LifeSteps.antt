@@ -51,7 +51,7 @@ use Rattle.dkg_core.specs.NodeKept.{BeginsRestored}
 use Rattle.dkg_core.specs.Seen.{Seen}
 use Rattle.dkg_core.specs.Setup.{WasCommitted}
 use Rattle.dkg_core.specs.Stepping.{IsNextIn, held_at_setup}
-use Rattle.dkg_core.specs.Today.{first_epoch, stage_in}
+use Rattle.dkg_core.specs.Endings.{first_epoch, stage_in}
 use Rattle.dkg_core.specs.Transcripts.{IfWentTo}
 use Rattle.dkg_core.proofs.BlocksKept.{node_steps_spare_their_logs}
 use Rattle.dkg_core.proofs.NodeKept.{node_openings_agree, node_openings_restore, node_steps_agree}

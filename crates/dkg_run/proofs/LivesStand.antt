@@ -21,7 +21,7 @@ use Rattle.dkg_core.specs.Fixed.{Fixed}
 use Rattle.dkg_core.specs.Forms.{IsActiveIn, IsForm, IsLiveIn, IsNodeBegun, IsTakenIn, held_behind}
 use Rattle.dkg_core.specs.Live.{Follows, Live, Message, NodeStop}
 use Rattle.dkg_core.specs.Node.{node_opening, node_step}
-use Rattle.dkg_core.specs.NodeToday.{LacksNobody}
+use Rattle.dkg_core.specs.NodeEndings.{LacksNobody}
 use Rattle.dkg_core.specs.Seen.{Seen}
 use Rattle.dkg_core.specs.Stepping.{IsNextIn, held_at_setup}
 use Rattle.dkg_core.proofs.Openings.{node_openings_lead, node_openings_lead_over}

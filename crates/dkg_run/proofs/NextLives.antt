@@ -19,7 +19,7 @@ use Rattle.dkg_core.specs.Live.{Live, Dealer, Stage, Deals, Includes, Follows, E
 use Rattle.dkg_core.specs.Setup.{begins_inclusion, is_past_range}
 use Rattle.dkg_core.specs.Blocks.{is_early, is_in_window, is_in_window_in}
 use Rattle.dkg_core.specs.Dealing.{counts, with_ack}
-use Rattle.dkg_core.specs.Today.{stage_in, tip_behind}
+use Rattle.dkg_core.specs.Endings.{stage_in, tip_behind}
 use Rattle.dkg_core.specs.Forms.{IsLiveIn, IsTakenIn, Judged, Refusal, Passed, Applied, judged_block, judged_over}
 use Rattle.dkg_core.specs.Stepping.{IsBlockEnd, IsAppliedEnd, IsFollowedEnd, IsHeardBy, IsNextIn, IsSameLife, IsStepEnd, IsTakenOver, TakesNothingOver, dealt_behind, given_itself, with_taken}
 use Rattle.dkg_core.proofs.Stepping.{next_lives_stay}

@@ -44,7 +44,7 @@ use Rattle.dkg_reshare.specs.declared.stop.Stop.{Stop}
 use Rattle.dkg_reshare.specs.declared.stop.Stop.TheVariants.{Cut, Failed, Fault as FaultOf}
 use Rattle.dkg_reshare.proofs.Burning.{burns_next, burns_none, unless}
 use Rattle.dkg_run.specs.Ended.{by_node_stop}
-use Rattle.dkg_core.specs.Today.{first_epoch}
+use Rattle.dkg_core.specs.Endings.{first_epoch}
 use Rattle.dkg_run.specs.Epochs.{IsChecked, IsLifeOver}
 use Rattle.dkg_run.specs.Given.{IsUnplanned, Lived, anchor_in, at_step, blocks_in, limits_of, lived, numbered, starts_above, unsealed}
 use Rattle.dkg_run.specs.Nodes.{IsFenceReady, IsHalfGiven, MayEnter, ViewedNew, ended_new, ends_half}

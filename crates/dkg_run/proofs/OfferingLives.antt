@@ -33,7 +33,7 @@ use Rattle.dkg_core.specs.Seen.{Seen}
 use Rattle.dkg_core.specs.Offering.{IsOfferOf}
 use Rattle.dkg_core.specs.Stepping.{IsNextIn, LeavesTaken, held_at_setup}
 use Rattle.dkg_core.specs.Storing.{KeepsSeeds, KeepsShares, ReadsSecrets}
-use Rattle.dkg_core.specs.Today.{first_block}
+use Rattle.dkg_core.specs.Endings.{first_block}
 use Rattle.dkg_core.proofs.Counted.{cuts_fall}
 use Rattle.dkg_core.proofs.Offering.{node_offers_are_dealt}
 use Rattle.dkg_core.proofs.Openings.{node_openings_lead_over}

@@ -32,7 +32,7 @@ use Rattle.dkg_core.specs.Setup.{Uncommitted, scheme_for}
 use Rattle.dkg_core.specs.Sources.{Source, startup}
 use Rattle.dkg_core.specs.Splitting.{named}
 use Rattle.dkg_core.specs.Forms.{IsOpened, IsSeated, IsSetUpIn, registered_with, seed_read, share_read, started}
-use Rattle.dkg_core.specs.Today.{OnInfo, first_block, first_epoch}
+use Rattle.dkg_core.specs.Endings.{OnInfo, first_block, first_epoch}
 use Rattle.dkg_core.proofs.Openings.{openings_lead}
 use Rattle.dkg_reshare.specs.Actors.{EndsAt, lives}
 use Rattle.dkg_reshare.specs.Ends.{by_cause, by_stop, cause_in}

@@ -36,7 +36,7 @@ use Rattle.dkg_core.specs.Behind.{RunsBehind}
 use Rattle.dkg_core.specs.Heard.{recovered_in, KeepsFrom}
 use Rattle.dkg_core.specs.Forms.{IsForm}
 use Rattle.dkg_core.specs.Seen.{Seen}
-use Rattle.dkg_core.specs.Today.{first_epoch}
+use Rattle.dkg_core.specs.Endings.{first_epoch}
 use Rattle.dkg_core.specs.Transcripts.{AddsDeeds}
 use Rattle.dkg_core.proofs.Behind.{openings_run_behind}
 use Rattle.dkg_core.proofs.Lasting.{setups_keep}

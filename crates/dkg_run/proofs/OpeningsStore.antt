@@ -37,7 +37,7 @@ use Rattle.dkg_core.specs.Plans as p
 use Rattle.dkg_core.specs.Setup as s
 use Rattle.dkg_core.specs.Sources.{startup}
 use Rattle.dkg_core.specs.Storing.{ReadsSecrets, KeepsSeeds, KeepsShares}
-use Rattle.dkg_core.specs.Today.{first_epoch}
+use Rattle.dkg_core.specs.Endings.{first_epoch}
 use Rattle.dkg_core.proofs.Behind.{openings_run_behind, steps_run_behind}
 use Rattle.dkg_core.proofs.Stepping.{not_included}
 use Rattle.dkg_core.proofs.Storing.{looked_up, node_steps_keep_secrets}

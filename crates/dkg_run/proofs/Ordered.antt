@@ -39,7 +39,7 @@ use Rattle.dkg_run.specs.Ways.{Trace, by_lines}
 use Rattle.dkg_run.proofs.Ended.{told_in_order}
 use Rattle.dkg_run.proofs.Following.{EndsBy, RunEndsBy, all_move, rest_at}
 use Rattle.dkg_run.proofs.InPlace.{moves_cut}
-use Rattle.dkg_core.proofs.NodeToday.{node_openings_are_quiet, node_steps_are_quiet}
+use Rattle.dkg_core.proofs.NodeEndings.{node_openings_are_quiet, node_steps_are_quiet}
 use Rattle.dkg_run.proofs.Places.{moves_none, moves_then, moves_within, quiet_none}
 use Rattle.dkg_run.proofs.Runs.{runs_all, runs_in_order}
 use Rattle.dkg_run.proofs.Standing.{AddsOpening, AddsQuiet, IsBefore, IsBehind, IsBetween, IsBetweenOf, IsCutBefore, IsStopped, IsWithin, MayTell, Moves, TellsFault, IsCutWithin}

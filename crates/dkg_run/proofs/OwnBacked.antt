@@ -37,7 +37,7 @@ use Rattle.dkg_core.specs.Live.{Live, NodeStop, awaited_height}
 use Rattle.dkg_core.specs.Node.{node_opening}
 use Rattle.dkg_core.specs.Setup as setup
 use Rattle.dkg_core.specs.Storing.{ReadsSecrets}
-use Rattle.dkg_core.specs.Today.{first_epoch}
+use Rattle.dkg_core.specs.Endings.{first_epoch}
 use Rattle.dkg_core.proofs.Behind.{openings_run_behind}
 use Rattle.dkg_core.proofs.Walking as walk
 use Rattle.dkg_run.proofs.NoOthers as others

@@ -33,7 +33,7 @@ use Rattle.dkg_core.specs.Heard.{recovered_in}
 use Rattle.dkg_core.specs.Live.{Live}
 use Rattle.dkg_core.specs.Seen.{Seen}
 use Rattle.dkg_core.specs.Stepping.{IsTakeoverStop, next_epoch as next_of, taken_over}
-use Rattle.dkg_core.specs.Today.{OnInfo, first_block, first_epoch}
+use Rattle.dkg_core.specs.Endings.{OnInfo, first_block, first_epoch}
 use Rattle.dkg_run.specs.Given.{Lived, at_step, blocks_in, lived}
 use Rattle.dkg_run.proofs.Awaiting.{IsReached, comes_to}
 use Rattle.dkg_run.proofs.Drawn.{Begins, Numbered, found_number, held_begin, info_known, round_is, used_begin}

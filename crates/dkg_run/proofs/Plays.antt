@@ -29,7 +29,7 @@ use Rattle.dkg_core.specs.Live.{Dealer, Deals, Live, Plays, Records, Stage, awai
 use Rattle.dkg_core.specs.Seen.{Seen}
 use Rattle.dkg_core.specs.Setup.{Standing, Uncommitted}
 use Rattle.dkg_core.specs.Stepping.{IsSameLife}
-use Rattle.dkg_core.specs.Today.{first_block, stage_in}
+use Rattle.dkg_core.specs.Endings.{first_block, stage_in}
 use Rattle.dkg_run.specs.Given.{Lived, at_step, lived}
 use Rattle.dkg_run.proofs.Drawn.{HasRoundOf}
 use Rattle.dkg_run.proofs.Former.{is_ceremony}

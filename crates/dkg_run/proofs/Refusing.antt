@@ -31,7 +31,7 @@ use Rattle.dkg_core.specs.Setup as s
 use Rattle.dkg_core.specs.Setup.{Standing, Uncommitted, WasCommitted}
 use Rattle.dkg_core.specs.Sources.{Tip, startup}
 use Rattle.dkg_core.specs.Stepping.{held_committed, next_epoch, taken_over}
-use Rattle.dkg_core.specs.Today.{first_block, first_epoch, validity}
+use Rattle.dkg_core.specs.Endings.{first_block, first_epoch, validity}
 use Rattle.dkg_core.proofs.Heights.{next_last}
 
 -- X where a share is refused

@@ -36,7 +36,7 @@ use Rattle.dkg_core.specs.Live.{Deals, Ends, Finalized, Follows, Includes, Live,
 use Rattle.dkg_core.specs.Node.{node_opening, node_step}
 use Rattle.dkg_core.specs.Setup as s
 use Rattle.dkg_core.specs.Sources.{Tip}
-use Rattle.dkg_core.specs.Today.{first_epoch}
+use Rattle.dkg_core.specs.Endings.{first_epoch}
 use Rattle.dkg_core.proofs.Behind.{openings_run_behind, steps_run_behind}
 use Rattle.dkg_core.proofs.Running.{along_as}
 use Rattle.dkg_core.proofs.Stepping.{not_included}

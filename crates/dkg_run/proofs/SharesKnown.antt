@@ -34,7 +34,7 @@ use Rattle.dkg_core.specs.Seen.{Seen}
 use Rattle.dkg_core.specs.Setup.{recovered_share}
 use Rattle.dkg_core.specs.Sources.{anchored}
 use Rattle.dkg_core.specs.Storing.{ReadsSecrets}
-use Rattle.dkg_core.specs.Today.{first_epoch}
+use Rattle.dkg_core.specs.Endings.{first_epoch}
 use Rattle.dkg_run.specs.Epochs.{IsAt, IsLifeOver}
 use Rattle.dkg_run.specs.Given.{Lived, anchor_in, at_step, blocks_in, delivered_by, lived, numbered, step_of}
 use Rattle.dkg_run.proofs.Awaiting.{IsReached, comes_to, one_more}

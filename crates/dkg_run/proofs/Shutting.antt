@@ -22,7 +22,7 @@ use Rattle.dkg_core.specs.Live.{Faulted, Live, NodeStop}
 use Rattle.dkg_core.specs.Node.{node_opening}
 use Rattle.dkg_core.specs.Said.{Said}
 use Rattle.dkg_core.specs.Transcripts.{BeginsOpened}
-use Rattle.dkg_core.proofs.NodeToday.{node_openings_are_quiet}
+use Rattle.dkg_core.proofs.NodeEndings.{node_openings_are_quiet}
 use Rattle.dkg_reshare.specs.Opened.{IsInGrammar, OpensReadable, StaysShut}
 use Rattle.dkg_reshare.specs.declared.stop.Stop.{Stop}
 use Rattle.dkg_reshare.specs.declared.stop.Stop.TheVariants.{Cut, Failed, Fault as FaultOf}

@@ -20,7 +20,7 @@ use Rattle.dkg_script.specs.Position.{awaited_epoch, floor_block, height_after_a
 use Rattle.dkg_script.specs.Readings.{Material}
 use Rattle.dkg_script.specs.Setting.{Setting, blocks_per_epoch, found, is_oneshot}
 use Rattle.dkg_core.specs.Sources.{anchored, position}
-use Rattle.dkg_core.specs.Today.{first_block, first_epoch}
+use Rattle.dkg_core.specs.Endings.{first_block, first_epoch}
 use Rattle.dkg_run.specs.Epochs.{IsAnchorOver, IsLifeOver}
 use Rattle.dkg_run.specs.Given.{Lived, anchor_at, anchor_in, at_step, blocks_in, delivered_by, numbered}
 use Rattle.dkg_run.proofs.Awaiting.{awaited}

@@ -21,7 +21,7 @@ use Rattle.dkg_core.specs.Seen.{Seen}
 use Rattle.dkg_core.specs.Setup.{Uncommitted}
 use Rattle.dkg_core.specs.Sources.{Tip, startup}
 use Rattle.dkg_core.specs.Stepping.{IsBlockEnd, IsNextIn, IsStepEnd, TakesNothingOver}
-use Rattle.dkg_core.specs.Today.{first_block, tip_behind}
+use Rattle.dkg_core.specs.Endings.{first_block, tip_behind}
 use Rattle.dkg_core.proofs.Heights.{epoch_from, epoch_is, epoch_to, next_last}
 use Rattle.dkg_run.specs.Epochs.{IsEarly, IsLifeOver, Stands, awaited_by, epoch_by}
 use Rattle.dkg_run.specs.Given.{Lived, at_step}

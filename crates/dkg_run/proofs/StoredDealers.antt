@@ -24,7 +24,7 @@ use Rattle.dkg_core.specs.Seen.{Seen}
 use Rattle.dkg_core.specs.Setup.{Standing, Uncommitted, WasCommitted, dealer_for, dealer_from, has_quorum, may_deal, signed}
 use Rattle.dkg_core.specs.Stepping.{IsNextIn, LeavesTaken, held_at_setup, held_committed, next_epoch, taken_over}
 use Rattle.dkg_core.specs.Storing.{ReadsSecrets}
-use Rattle.dkg_core.specs.Today.{first_block, first_epoch}
+use Rattle.dkg_core.specs.Endings.{first_block, first_epoch}
 use Rattle.dkg_core.proofs.Setups.{setups_store}
 use Rattle.dkg_core.proofs.Storing.{commits_are_read}
 use Rattle.dkg_run.proofs.DealersStay.{WasDealer, next_dealt}

@@ -38,7 +38,7 @@ use Rattle.dkg_script.specs.Setting.{blocks_per_epoch, setting_of}
 use Rattle.dkg_core.specs.Fixed.{has}
 use Rattle.dkg_core.specs.Live.{Finalized}
 use Rattle.dkg_core.specs.Sources.{Tip, position}
-use Rattle.dkg_core.specs.Today.{tip_behind}
+use Rattle.dkg_core.specs.Endings.{tip_behind}
 use Rattle.dkg_run.specs.Given.{anchor_in, blocks_in, numbered}
 
 abbrev pub per_epoch : Script → ℕ

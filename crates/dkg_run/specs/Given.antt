@@ -36,7 +36,7 @@ use Rattle.dkg_core.specs.Live.{Event, Live, NodeStop, Delivers, Peer, EpochInfo
 use Rattle.dkg_core.specs.Node.{node_step}
 use Rattle.dkg_core.specs.Seen.{Seen}
 use Rattle.dkg_core.specs.Sources.{Anchor, AtBlock, Absent, Source, source_of}
-use Rattle.dkg_core.specs.Today.{first_epoch}
+use Rattle.dkg_core.specs.Endings.{first_epoch}
 use Rattle.dkg_reshare.specs.Today.{seen_today}
 
 -- BLOCKS

@@ -11,7 +11,7 @@ use Rattle.dkg_types.specs.declared.fault.Fault.TheVariants.{HeightRange, Missin
 use Rattle.dkg_core.specs.Fixed.{Fixed}
 use Rattle.dkg_core.specs.Laws.{start_of}
 use Rattle.dkg_core.specs.Setup.{is_past_range}
-use Rattle.dkg_core.specs.Today.{first_epoch}
+use Rattle.dkg_core.specs.Endings.{first_epoch}
 
 -- The bounds of the epoch in which the life starts.
 pub record AreStart (c : Fixed directory.Unit) (bounds : Bounds) : Type 0 where

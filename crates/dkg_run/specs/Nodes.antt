@@ -23,7 +23,7 @@ use Rattle.dkg_core.specs.Live.{Live, NodeStop, with_orchestrator}
 use Rattle.dkg_reshare.specs.declared.message.Message.{Message}
 use Rattle.dkg_reshare.specs.declared.message.Message.TheVariants as message
 use Rattle.dkg_core.specs.Sources.{Source}
-use Rattle.dkg_core.specs.Today.{OnInfo, first_epoch}
+use Rattle.dkg_core.specs.Endings.{OnInfo, first_epoch}
 use Rattle.dkg_reshare.specs.Actors.{IfIncluding, IfLiving, IsAt, IsLiving, message_of}
 use Rattle.dkg_reshare.specs.Given.{IsOf}
 use Rattle.dkg_reshare.specs.InclusionOf.{IsSeen}

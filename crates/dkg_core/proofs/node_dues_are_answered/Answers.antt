@@ -1,4 +1,4 @@
-use Rattle.dkg_core.proofs.NodeToday.{node_dues_are_answered as law}
+use Rattle.dkg_core.proofs.NodeEndings.{node_dues_are_answered as law}
 use Rattle.dkg_core.proofs.node_dues_are_answered.Goals as goal
 
 pub returns : goal.returns

@@ -1,4 +1,4 @@
-use Rattle.dkg_core.proofs.NodeToday.{node_steps_are_quiet as law}
+use Rattle.dkg_core.proofs.NodeEndings.{node_steps_are_quiet as law}
 use Rattle.dkg_core.proofs.node_steps_are_quiet.Goals as goal
 
 pub returns : goal.returns

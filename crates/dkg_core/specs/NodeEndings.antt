@@ -1,47 +1,28 @@
--- A node's opening and its steps: how they end in the form that is built, what they say, and what they answer.
-use Rattle.std.specs.Prelude.{◌≡◌, ℕ, List, [], ◌∷◌, ◌++◌, Some, None}
+-- A node's opening and its steps: in which words it is told how they end, what they say, and what they answer.
+use Rattle.std.specs.Prelude.{◌≡◌, ℕ, List, [], ◌∷◌, ◌++◌, None}
 use Rattle.std.specs.List.{AllByRecursion}
 use Rattle.dkg_types.specs.declared.entry.Entry.{Entry as Line}
 use Rattle.dkg_types.specs.declared.entry.Entry.TheVariants.{Ack}
 use Rattle.dkg_types.specs.declared.fault.Fault.{Fault}
 use Rattle.dkg_types.specs.declared.participants.TrackedPeers.{TrackedPeers}
-use Rattle.dkg_store.specs.Acts.{Held, World, Ended, went}
+use Rattle.dkg_store.specs.Acts.{World, Ended, went}
 use Rattle.dkg_core.specs.Courses.{on_devices, EndsSo}
 use Rattle.dkg_core.specs.Said.{Said}
-use Rattle.dkg_core.specs.Seen.{Seen}
 use Rattle.dkg_core.specs.Fixed.{Fixed}
 use Rattle.dkg_core.specs.Live.{Live, NodeStop, Faulted, Message, Peer, Reshare}
 use Rattle.dkg_core.specs.Node.{node_opening, node_step}
 use Rattle.dkg_core.specs.Behind.{event_of}
 use Rattle.dkg_core.specs.Laws.{IsQuiet, IsDue}
 use Rattle.dkg_core.specs.Transcripts.{BeginsOpened}
-use Rattle.dkg_core.specs.Today.{CameTo, IsFormOfToday, IsOpeningFault, IsOpenedToday, IsEnteredToday, IsLiveToday, IsTakenToday, refusal_of, IsNextToday}
 
 -- HOW THEY END
 
 abbrev pub LacksNobody : {Dir : Type 0} → Fixed Dir → Type 0
 LacksNobody {Dir} c = (directory : Dir) (peers : TrackedPeers) → c.directories.lacking directory peers ≡ None
 
--- the reshare half's end, and behind it the orchestrator's
-pub record IsNodeOpened {Dir : Type 0} (c : Fixed Dir) (seen : Seen) (st : Live Dir) : Type 0 where
-  pub before : Live Dir
-  pub opened : IsOpenedToday c seen before
-  pub entered : IsEnteredToday c before st
-
 -- It is a fault, with this cause.
 abbrev pub IsFaultBy : (Fault → Type 0) → NodeStop → Type 0
 IsFaultBy P stop = (fault : Fault) × (stop ≡ Faulted fault) × P fault
-
--- A NODE'S OPENING stops by faults of its reshare half alone, each of which has its cause; or it leaves such a life, where directories lack nobody.
-abbrev pub NodeOpeningsComeTo : Type 0 → Type 0
-NodeOpeningsComeTo Dir = (c : Fixed Dir) (ended : Ended NodeStop (Live Dir)) (old new : List Line) → IsFormOfToday c → LacksNobody c → Said (on_devices (node_opening c)) ended old new
-    → CameTo (IsFaultBy (λ fault. (h : Held) × IsOpeningFault c (c.seen h) fault)) (λ st. (h : Held) × IsNodeOpened c (c.seen h) st) ended
-
--- A NODE'S STEP stops by the fault that the block in hand is refused for, and by no other; or the life goes on, where its orchestrator's half doesn't wait.
-abbrev pub NodeStepsComeTo : Type 0 → Type 0
-NodeStepsComeTo Dir = (c : Fixed Dir) (st : Live Dir) (message : Message Dir) (ended : Ended NodeStop (Live Dir)) (old new : List Line) → IsTakenToday c message → IsLiveToday c st
-    → st.orchestrator.waiting ≡ None → Said (on_devices (node_step c (event_of message) st)) ended old new
-    → CameTo (IsFaultBy (λ fault. refusal_of c message st ≡ Some fault)) (λ end. IsNextToday c st end message) ended
 
 -- WHAT THEY SAY, whatever the devices tell
 

@@ -1,48 +1,41 @@
--- How a node's opening and its steps end and what they say, by their halves.
-use Rattle.std.proofs.Common.{◌≡◌, ◌<◌, ◌⊎◌, inl, inr, ℕ, List, [], ◌∷◌, ◌++◌, Bool, true, false, Option, Some, None, refl, sym, ◌∙◌, ap, subst, append_assoc, append-nil}
-use Rattle.std.specs.Prelude.{is_some, if◌then◌else◌, option_and_then, Result, Ok, Err}
+-- What a node's opening and its steps say and answer, by their halves.
+use Rattle.std.proofs.Common.{◌≡◌, inl, inr, ℕ, List, [], ◌∷◌, ◌++◌, Bool, true, false, Option, Some, None, refl, sym, ◌∙◌, ap, subst, append_assoc, append-nil}
+use Rattle.std.specs.Prelude.{is_some, if◌then◌else◌, Result, Ok, Err}
 use Rattle.std.specs.List.{AllByRecursion}
 use Rattle.std.specs.Option.{option_map_or}
-use Rattle.std.specs.Result.{result_ok}
 use Rattle.dkg_values.specs.Codec.{whole}
 use Rattle.dkg_values.specs.Rising.{lookup}
 use Rattle.dkg_values.specs.declared.codec.CodecError.{CodecError}
 use Rattle.dkg_ceremony.specs.declared.ceremony.AckError.{AckError}
 use Rattle.dkg_ceremony.specs.declared.ceremony.DealingError.{DealingError}
 use Rattle.dkg_ceremony.specs.declared.round.RoundParts.{RoundParts as Round}
-use Rattle.dkg_ceremony.specs.Schedule.{midpoint}
-use Rattle.dkg_types.specs.Blocks.{Block}
 use Rattle.dkg_types.specs.declared.entry.Entry.{Entry as Line}
-use Rattle.dkg_types.specs.declared.entry.Entry.TheVariants.{Opened, Recorded, Ack, Offer, Acked}
+use Rattle.dkg_types.specs.declared.entry.Entry.TheVariants.{Opened, Recorded, Ack, Offer}
 use Rattle.dkg_types.specs.declared.fault.Fault.{Fault}
 use Rattle.dkg_types.specs.declared.message.Message.{Message as Channel}
 use Rattle.dkg_types.specs.declared.message.Message.TheVariants.{Dealer as ADealing, Ack as AnAck}
 use Rattle.dkg_types.specs.MessageCodes.{message_at}
-use Rattle.dkg_store.specs.Acts.{Held, World, Ended, went, stopped, broken}
+use Rattle.dkg_store.specs.Acts.{World, Ended, went, stopped, broken}
 use Rattle.dkg_store.specs.declared.event.Event.TheVariants as events
-use Rattle.dkg_core.specs.Courses.{Course, Say, Goes, bind, under, on_devices, Deed, Said as Spoke, Did, Called, EndsSo}
-use Rattle.dkg_core.specs.Said.{Said}
+use Rattle.dkg_core.specs.Courses.{Course, Goes, bind, under, on_devices, Deed, Said as Spoke, Did, Called, EndsSo}
 use Rattle.dkg_core.specs.Fixed.{Fixed}
-use Rattle.dkg_core.specs.Live.{Live, Dealer, NodeStop, Faulted, Seat, Plays, Watches, Stage, Deals, Includes, Follows, Ends, Message, Sent, Peer, Finalized, recorded_at}
+use Rattle.dkg_core.specs.Live.{Live, Dealer, NodeStop, Faulted, Seat, Plays, Watches, Stage, Deals, Includes, Follows, Ends, Sent, Peer, recorded_at}
 use Rattle.dkg_core.specs.Dealing as d
-use Rattle.dkg_core.specs.Plans.{material_at}
-use Rattle.dkg_core.specs.Core.{opening, step}
+use Rattle.dkg_core.specs.Core.{step}
 use Rattle.dkg_core.specs.Entering as half
-use Rattle.dkg_core.specs.Entering.{HalfAnswer}
-use Rattle.dkg_core.specs.Node.{unless_once, kept_material}
+use Rattle.dkg_core.specs.Node.{unless_once}
 use Rattle.dkg_core.specs.Laws.{IsQuiet}
 use Rattle.dkg_core.specs.Transcripts.{lines_of, BeginsOpened}
 use Rattle.dkg_core.specs.Splitting.{IsEarly, named}
 use Rattle.dkg_core.specs.Behind.{EndsBehind, IfEarly, IsAside}
-use Rattle.dkg_core.specs.Today.{ComesTo, CameTo, IsFormOfToday, IsOpeningFault, IsOpenedToday, IsEnteredToday, refusal_of, IsNextToday, answer_in}
-use Rattle.dkg_core.specs.NodeToday.{LacksNobody, IsNodeOpened, IsFaultBy, NodeOpeningsComeTo, NodeStepsComeTo, NodeOpeningsAreQuiet, NodeStepsAreQuiet, NodeDuesAreAnswered}
+use Rattle.dkg_core.specs.Endings.{ComesTo}
+use Rattle.dkg_core.specs.NodeEndings.{NodeOpeningsAreQuiet, NodeStepsAreQuiet, NodeDuesAreAnswered}
 use Rattle.dkg_core.proofs.Answering.{answered}
 use Rattle.dkg_core.proofs.Behind.{openings_say_behind, steps_say_behind}
 use Rattle.dkg_core.proofs.Lines.{runs_add_deeds}
 use Rattle.dkg_core.proofs.Quiet.{openings_are_quiet, steps_are_quiet}
 use Rattle.dkg_core.proofs.Said.{runs_say}
-use Rattle.dkg_core.proofs.Splitting.{runs_split, runs_under, said_split, said_under, came_to, comes_behind}
-use Rattle.dkg_core.proofs.Today.{openings_come_to, halves_open, steps_come_to, halves_deliver}
+use Rattle.dkg_core.proofs.Splitting.{runs_split, runs_under, came_to}
 
 -- THE RESHARE HALF, AND WHAT COMES BEHIND IT
 
@@ -61,101 +54,10 @@ of_went P end (broken cause) is p = absurd (apart end is)
     apart : {S : Type 0} (end : S) → ◌≡◌ {A = Ended NodeStop S} (went end) (broken cause) → ⊥
     apart end e = cc
 
-module _ {Dir : Type 0} (course : Course Dir Fault (Live Dir)) (next : Live Dir → Course Dir NodeStop (Live Dir)) where
-  parted : (ended : Ended NodeStop (Live Dir)) (old new : List Line) → Said (on_devices (bind (under Faulted course) next)) ended old new
-      → ((end : Live Dir) × (mid : List Line) × Said (on_devices course) (went end) old mid × Said (on_devices (next end)) ended mid new)
-      ⊎ ((its : Ended Fault (Live Dir)) × IsEarly (named {S = Live Dir} Faulted its) ended × Said (on_devices course) its old new)
-  parted ended old new said = elim (said_split (under Faulted course) next ended old new said) [
-    | inl both ↦ (let its = said_under Faulted course (went both.0) old both.1 both.2 in
-        inl (both.0, both.1, of_went (λ its. Said (on_devices course) its old both.1) both.0 its.0 its.1 its.2, both.3))
-    | inr early ↦ (let its = said_under Faulted course early.0 old new early.2 in inr (its.0, subst (λ (x : Ended NodeStop (Live Dir)). IsEarly x ended) its.1 early.1, its.2))
-  ]
-
--- HOW THEY END
-
-abbrev Never : NodeStop → Type 0
-Never stop = ⊥
-
-came_on : {S : Type 0} (stops : NodeStop → Type 0) (goes : S → Type 0) (ended : Ended NodeStop S) → CameTo Never goes ended → CameTo stops goes ended
-came_on stops goes (went end) came = came
-came_on stops goes (stopped stop) came = absurd came
-came_on stops goes (broken cause) came = tt
-
-came_early : {S T : Type 0} (stops : Fault → Type 0) (between : S → Type 0) (goes : T → Type 0) (its : Ended Fault S) (ended : Ended NodeStop T) → IsEarly (named {S = S} Faulted its) ended
-    → CameTo stops between its → CameTo (IsFaultBy stops) goes ended
-came_early stops between goes (stopped fault) (stopped stop) is came = (fault, sym is, came)
-came_early stops between goes its (broken cause) is came = tt
-came_early stops between goes its ended is came = absurd is
-
-module _ {Dir : Type 0} (stops : Fault → Type 0) (between goes : Live Dir → Type 0) (course : Course Dir Fault (Live Dir)) (next : Live Dir → Course Dir NodeStop (Live Dir)) where
-  -- where the first half came to, and where what is behind it comes to
-  came_behind : (ended : Ended NodeStop (Live Dir)) (old new : List Line)
-      → ((its : Ended Fault (Live Dir)) (mid : List Line) → Said (on_devices course) its old mid → CameTo stops between its) → ((end : Live Dir) → between end → ComesTo Never goes (next end))
-      → Said (on_devices (bind (under Faulted course) next)) ended old new → CameTo (IsFaultBy stops) goes ended
-  came_behind ended old new first more said = elim (parted course next ended old new said) [
-    | inl both ↦ came_on (IsFaultBy stops) goes ended (came_to Never goes (next both.0) ended both.1 new (more both.0 (first (went both.0) both.1 both.2)) both.3)
-    | inr early ↦ came_early stops between goes early.0 ended early.1 (first early.0 new early.2)
-  ]
-
-module _ {Dir : Type 0} (c : Fixed Dir) (form : IsFormOfToday c) (full : LacksNobody c) where
-  abbrev Opens : Live Dir → Type 0
-  Opens st = (h : Held) × IsNodeOpened c (c.seen h) st
-
-  -- no plan is read
-  enters : (before : Live Dir) → (h : Held) × IsOpenedToday c (c.seen h) before → ComesTo Never Opens (kept_material c before)
-  enters before opened = λ k.
-      subst (λ (plan : Option (List ℕ)). ComesTo Never Opens (bind (half.opens_half c (option_and_then (λ bytes. result_ok (whole (material_at c bytes))) plan) before) (λ left. Goes left.live)))
-      (sym (form.unplanned k))
-      (comes_behind Never (λ left. IsEnteredToday c before left.live) Opens (half.opens_half c None before) (λ left. Goes left.live) (halves_open c before (c.seen opened.0) opened.1 full)
-      (λ left entered. (opened.0, record { before = before; opened = opened.1; entered = entered })))
-
-pub node_openings_come_to : {Dir : Type 0} → NodeOpeningsComeTo Dir
-node_openings_come_to {Dir} c ended old new form full said =
-    came_behind (λ fault. (h : Held) × IsOpeningFault c (c.seen h) fault) (λ st. (h : Held) × IsOpenedToday c (c.seen h) st) (λ st. (h : Held) × IsNodeOpened c (c.seen h) st)
-    (opening c) (λ st. unless_once c (kept_material c st) (Goes st)) ended old new (λ its mid said. openings_come_to c its old mid form said)
-    (λ before opened. subst (λ (o : _). ComesTo Never (Opens c form full) (if is_some o then Goes before else kept_material c before)) (sym form.reshare) (enters c form full before opened)) said
-
 module _ {Dir : Type 0} (c : Fixed Dir) where
-  comes_unless : (goes : Live Dir → Type 0) (course once : Course Dir NodeStop (Live Dir)) → ComesTo Never goes course → ComesTo Never goes once → ComesTo Never goes (unless_once c course once)
-  comes_unless goes course once comes other = either (is_some c.oneshot)
-    where
-      either : (t : Bool) → ComesTo Never goes (if t then once else course)
-      either true = other
-      either false = comes
-
   -- a half that doesn't wait has nothing to ask
   asks_nothing : (st : Live Dir) → st.orchestrator.waiting ≡ None → half.asks_again c st ≡ Goes st
   asks_nothing st none = ap (λ (o : _). option_map_or (λ w. bind (half.enters c w st) (half.acked_late w.block)) o (Goes st)) none
-
-  module _ (st : Live Dir) (none : st.orchestrator.waiting ≡ None) (message : Message Dir) where
-    abbrev Next : Live Dir → Type 0
-    Next end = IsNextToday c st end message
-
-    still : (end : Live Dir) → Next end → end.orchestrator.waiting ≡ None
-    still end next = ap (λ (o : _). o.waiting) next.orchestrator ∙ none
-
-    behind_mail : (end : Live Dir) → Next end → ComesTo Never Next (unless_once c (half.asks_again c end) (Goes end))
-    behind_mail end next = comes_unless Next (half.asks_again c end) (Goes end) (subst (ComesTo Never Next) (sym (asks_nothing end (still end next))) next) next
-
-    acks : (height : ℕ) (answer : HalfAnswer) (end : Live Dir) → Next end → ComesTo Never Next (half.acked_at height answer end)
-    acks height half.Acknowledges end next = next
-    acks height half.Withholds end next = next
-
-    behind_block : (b : Block Dir) → b.height < midpoint c.blocks_per_epoch 0 → (end : Live Dir) → Next end
-        → ComesTo Never Next (unless_once c (bind (half.delivered c b end) (λ left. half.acked_at b.height left.answer left.live)) (Say (Acked b.height) (Goes end)))
-    behind_block b early end next =
-        comes_unless Next (bind (half.delivered c b end) (λ left. half.acked_at b.height left.answer left.live)) (Say (Acked b.height) (Goes end))
-        (comes_behind Never (λ left. (left.live ≡ end) × (left.answer ≡ answer_in (half.active end.orchestrator))) Next (half.delivered c b end) (λ left. half.acked_at b.height left.answer left.live)
-        (halves_deliver c end b early (still end next)) (λ left is. acks b.height left.answer left.live (subst Next (sym is.0) next))) next
-
-pub node_steps_come_to : {Dir : Type 0} → NodeStepsComeTo Dir
-node_steps_come_to c st (Sent mail) ended old new taken live none said =
-    came_behind (λ fault. refusal_of c (Sent mail) st ≡ Some fault) (λ end. IsNextToday c st end (Sent mail)) (λ end. IsNextToday c st end (Sent mail)) (step c (Sent mail) st)
-    (λ st. unless_once c (half.asks_again c st) (Goes st)) ended old new (λ its mid said. steps_come_to c st (Sent mail) its old mid taken live said) (behind_mail c st none (Sent mail)) said
-node_steps_come_to c st (Finalized b) ended old new taken live none said =
-    came_behind (λ fault. refusal_of c (Finalized b) st ≡ Some fault) (λ end. IsNextToday c st end (Finalized b)) (λ end. IsNextToday c st end (Finalized b)) (step c (Finalized b) st)
-    (λ st. unless_once c (bind (half.delivered c b st) (λ left. half.acked_at b.height left.answer left.live)) (Say (Acked b.height) (Goes st))) ended old new
-    (λ its mid said. steps_come_to c st (Finalized b) its old mid taken live said) (behind_block c st none (Finalized b) b taken) said
 
 -- WHAT THEY SAY
 
