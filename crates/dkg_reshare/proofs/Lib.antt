@@ -1,4 +1,5 @@
 pub mod Acked
+pub mod Advancing
 pub mod Applying
 pub mod Beginning
 pub mod Beside
@@ -34,8 +35,10 @@ pub mod Placing
 pub mod Ranges
 pub mod Read
 pub mod Reading
+pub mod Requesting
 pub mod Readying
 pub mod Said
+pub mod Scanning
 pub mod Seated
 pub mod Setting
 pub mod SettingUp
@@ -47,3 +50,4 @@ pub mod Stopping
 pub mod Taking
 pub mod Telling
 pub mod Under
+pub mod Within

@@ -17,3 +17,4 @@ pub mod Rules
 pub mod Scanned
 pub mod Steps
 pub mod Today
+pub mod Verifying
