@@ -19,7 +19,6 @@ use Rattle.dkg_core.specs.Live as core
 use Rattle.dkg_core.specs.Live.{Live}
 use Rattle.dkg_core.specs.Logs.{canonical}
 use Rattle.dkg_core.specs.Same.{same_logs}
-use Rattle.dkg_core.specs.Setup as setup
 use Rattle.dkg_core.proofs.Same.{logs_again}
 use Rattle.dkg_fence.specs.Readiness.{Readiness}
 use Rattle.dkg_ceremony.specs.Schedule.{midpoint}
@@ -28,6 +27,7 @@ use Rattle.dkg_reshare.specs.Ends.{by_stop}
 use Rattle.dkg_reshare.specs.Including.{artifact_in, artifact_over, derives_by, derives_by_in, derives_final, derives_in, derives_now, derives_now_by, with_cached_in}
 use Rattle.dkg_reshare.specs.LiveOf.{Beside, live_of}
 use Rattle.dkg_reshare.specs.Made.{MakesAt, Speaks, Tells}
+use Rattle.dkg_reshare.specs.Verifying.{refusal_for}
 use Rattle.dkg_reshare.specs.declared.life.Life.{Life}
 use Rattle.dkg_reshare.specs.declared.stop.Stop.{Stop}
 use Rattle.dkg_reshare.specs.declared.stop.Stop.TheVariants.{Fault as Faulted}
@@ -51,20 +51,17 @@ module _ {Dir : Type 0} (c : Fixed Dir) (round : Round) (logs : LogMap) (st : Li
   abbrev pub its_found : core.VerifiedLogs
   its_found = including.verified c (including.job_for c round logs st)
 
-  abbrev refusal : Option ℕ
-  refusal = if including.can_finish c round logs st then setup.refused_in c round st else None
-
   abbrev pub found_live : Live Dir
   found_live = including.retains c its_found (including.verifying (including.job_for c round logs st) None st)
 
-  pub verifies_well : refusal ≡ None → verifies c round logs st ≡ Goes found_live
+  pub verifies_well : refusal_for c round logs st ≡ None → verifies c round logs st ≡ Goes found_live
   verifies_well passes =
       ap (λ (o : Option ℕ). bind (including.starts_unless (including.job_for c round logs st) None o st) (λ s. Goes (including.retains c its_found s))) passes
 
-  pub verifies_ill : (refused : ℕ) → including.can_finish c round logs st ≡ true → setup.refused_in c round st ≡ Some refused → verifies c round logs st ≡ Stops (LocalState (StoredDealing round.number refused))
-  verifies_ill refused can is =
+  pub verifies_ill : (refused : ℕ) → refusal_for c round logs st ≡ Some refused → verifies c round logs st ≡ Stops (LocalState (StoredDealing round.number refused))
+  verifies_ill refused is =
       ap (λ (o : Option ℕ). bind (including.starts_unless (including.job_for c round logs st) None o st) (λ s. Goes (including.retains c its_found s)))
-      (ap (λ (b : Bool). if b then setup.refused_in c round st else None) can ∙ is)
+      is
 
   -- what is retained for these logs then, where they are the canonical ones
   pub found_kept : logs ≡ canonical c st → found_live.inclusion.retained ≡ Some its_found
@@ -83,7 +80,7 @@ module _ {Dir : Type 0} (c : Fixed Dir) (round : Round) (logs : LogMap) (st : Li
       retained_some None r is = absurd cc
       retained_some (Some k) r is = by_test k r (same_logs k.logs logs) is
   derives_as None is same =
-      by_refusal refusal
+      by_refusal (refusal_for c round logs st)
     where
       abbrev its_job : core.Job
       its_job = including.job_for c round logs st
