@@ -197,11 +197,12 @@ of_dealing NoMemory is = tt
 
 -- ITS LOG
 
-module _ {Dir : Type 0} (c : Fixed Dir) (beside : Beside Dir) (fence : Readiness) (life : Life Dir) where
+module _ {Dir : Type 0} (c : Fixed Dir) (beside : Beside Dir) (unserved : beside.inclusion.served ≡ None) (fence : Readiness) (life : Life Dir) where
   -- Inclusion begins without a dealer.
   pub begun_bare : life.dealer ≡ None → live_of beside fence (record life { stage = Including }) ≡ setup.begins_inclusion c (live_of beside fence life)
   begun_bare none = λ i. record (live_of beside fence life) {
     participation = record (live_of beside fence life).participation { stage = live.Includes; dealer = no_log life.round i };
+    inclusion = record beside.inclusion { served = unserved i };
   }
     where
       no_one : (o : Option Round) → None ≡ option_and_then (λ round. option_map (setup.signed c round) None) o
@@ -228,6 +229,7 @@ module _ {Dir : Type 0} (c : Fixed Dir) (beside : Beside Dir) (fence : Readiness
       pub begun_signed : live_of beside fence (record life { dealer = Some now; stage = Including }) ≡ setup.begins_inclusion c (live_of beside fence life)
       begun_signed = λ i. record (live_of beside fence life) {
         participation = record (live_of beside fence life).participation { stage = live.Includes; dealer = one_log i };
+        inclusion = record beside.inclusion { served = unserved i };
       }
         where
           one_log : ◌≡◌ {A = Option live.Dealer} (Some (dealer_of now)) (option_and_then (λ r. option_map (setup.signed c r) (option_map dealer_of life.dealer)) life.round)

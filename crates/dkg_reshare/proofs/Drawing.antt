@@ -1,6 +1,6 @@
 -- How a round is drawn up, and the dealer and the player are made.
 use Rattle.std.proofs.Common.{◌≡◌, inl, inr, ℕ, ◌+◌, ◌≤◌, nat_lt, [], ◌∷◌, ◌++◌, ◌==◌, Bool, true, false, List, length, Option, Some, None, Result, Ok, Err, refl, sym, ◌∙◌, ap, subst, arith}
-use Rattle.std.specs.Prelude.{IfErr, IfOk, OnOk, option_map, if◌then◌else◌}
+use Rattle.std.specs.Prelude.{IfErr, IfOk, IsSome, OnOk, option_map, if◌then◌else◌}
 use Rattle.std.specs.Option.{option_map_or}
 use Rattle.std.proofs.lemmas.Bool.Decides.{nat_tests}
 use Rattle.dkg_ceremony.specs.declared.output.Output.{Output}
@@ -34,7 +34,7 @@ use Rattle.dkg_reshare.specs.Ends.{IsCaused, by_stop, ends_in}
 use Rattle.dkg_reshare.specs.Given.{IsOf}
 use Rattle.dkg_fence.specs.Readiness.{Readiness}
 use Rattle.dkg_reshare.specs.declared.life.Life.{Life}
-use Rattle.dkg_reshare.specs.LiveOf.{Beside, IsDealing, IsSeated, IsWithin, dealer_of, live_of, seat_of}
+use Rattle.dkg_reshare.specs.LiveOf.{Beside, IsDealing, IsFresh, IsSeated, IsWithin, dealer_of, live_of, seat_of}
 use Rattle.dkg_reshare.specs.Made.{Speaks}
 use Rattle.dkg_reshare.specs.Rules.{AckOf, CheckAckOf, DealOf, DealsBy, RoundOf, SignLogOf}
 use Rattle.dkg_reshare.specs.Steps.{IsFaultOrWant, MakesDealer, MakesPlayer, StandsIn, no_round, refusal_of, refused_by, stage_in}
@@ -167,17 +167,17 @@ few_players epoch limit info none players is =
 
 -- what holds of a life behind it
 pub sits_drawn : {Dir : Type 0} (ack_of : AckOf) (deal_of : DealOf) (check_ack_of : CheckAckOf) (me key : ℕ) → me ≡ key → (limit : ℕ) (phase : Phase) (new : Life Dir) (r : Result (Unit {0}) Stop)
-    → IsSeated ack_of me new → OnOk r (IsDealing deal_of check_ack_of key new) → IsWithin limit new.round → OnOk r (new.stage ≡ stage_in phase)
-    → OnOk r (IsSeated ack_of me new × IsDealing deal_of check_ack_of me new × IsWithin limit new.round × (new.stage ≡ stage_in phase))
-sits_drawn ack_of deal_of check_ack_of me key same limit phase new (Ok done) seated dealing within stage = (seated, subst (λ (k : ℕ). IsDealing deal_of check_ack_of k new) (sym same) dealing, within, stage)
-sits_drawn ack_of deal_of check_ack_of me key same limit phase new (Err stop) seated dealing within stage = tt
+    → IsSeated ack_of me new → OnOk r (IsDealing deal_of check_ack_of key new) → IsWithin limit new.round → IsSome new.round → OnOk r (new.stage ≡ stage_in phase)
+    → OnOk r (IsSeated ack_of me new × IsDealing deal_of check_ack_of me new × IsWithin limit new.round × IsSome new.round × (new.stage ≡ stage_in phase))
+sits_drawn ack_of deal_of check_ack_of me key same limit phase new (Ok done) seated dealing within joins stage = (seated, subst (λ (k : ℕ). IsDealing deal_of check_ack_of k new) (sym same) dealing, within, joins, stage)
+sits_drawn ack_of deal_of check_ack_of me key same limit phase new (Err stop) seated dealing within joins stage = tt
 
 -- what is in memory, where the stage began
 pub begun_here : {Dir : Type 0} (c : Fixed Dir) (beside : Beside Dir) (fence : Readiness) (phase : Phase) (old new : Life Dir) (key : ℕ) (deal_of : DealOf) (check_ack_of : CheckAckOf) (sign_log_of : SignLogOf) (r : Result (Unit {0}) Stop)
-    → OnOk r ((f : Fixed Dir) (b : Beside Dir) (w : Readiness) → f.me ≡ key → DealsBy deal_of check_ack_of sign_log_of f.rules → live_of b w new ≡ setup.in_stage f phase (live_of b w old))
-    → c.me ≡ key → DealsBy deal_of check_ack_of sign_log_of c.rules → OnOk r (live_of beside fence new ≡ setup.in_stage c phase (live_of beside fence old))
-begun_here c beside fence phase old new key deal_of check_ack_of sign_log_of (Ok done) begun mine deals = begun c beside fence mine deals
-begun_here c beside fence phase old new key deal_of check_ack_of sign_log_of (Err stop) begun mine deals = tt
+    → OnOk r ((f : Fixed Dir) (b : Beside Dir) (w : Readiness) → IsFresh b.inclusion → f.me ≡ key → DealsBy deal_of check_ack_of sign_log_of f.rules → live_of b w new ≡ setup.in_stage f phase (live_of b w old))
+    → IsFresh beside.inclusion → c.me ≡ key → DealsBy deal_of check_ack_of sign_log_of c.rules → OnOk r (live_of beside fence new ≡ setup.in_stage c phase (live_of beside fence old))
+begun_here c beside fence phase old new key deal_of check_ack_of sign_log_of (Ok done) begun fresh mine deals = begun c beside fence fresh mine deals
+begun_here c beside fence phase old new key deal_of check_ack_of sign_log_of (Err stop) begun fresh mine deals = tt
 
 -- Want of memory blames no device.
 pub causes_none : {T : Type 0} (r : Result T Stop) → IfErr r (λ stop. stop ≡ Faulted NoMemory) → IfErr r (λ stop. IsCaused stop ⊥ ⊥ ⊥)

@@ -1,6 +1,6 @@
 -- A setup at a life's position: the epoch that is awaited there, and the info that it is set up by.
-use Rattle.std.proofs.Common.{◌≡◌, ℕ, ◌+◌, ◌^◌, ◌≤◌, nat_le, nat_lt, Bool, true, false, [], Option, Some, None, Result, Ok, Err, refl, sym, ◌∙◌, ap, subst, arith}
-use Rattle.std.specs.Prelude.{IsSomeAnd, IsTrue, OnOk, nat_eq, option_and_then, if◌then◌else◌, ◌==◌}
+use Rattle.std.proofs.Common.{◌≡◌, ℕ, ◌+◌, ◌^◌, ◌<◌, ◌≤◌, nat_le, nat_lt, Bool, true, false, [], Option, Some, None, Result, Ok, Err, refl, sym, ◌∙◌, ap, subst, arith}
+use Rattle.std.specs.Prelude.{IsSome, IsSomeAnd, IsTrue, OnOk, nat_eq, option_and_then, if◌then◌else◌, ◌==◌}
 use Rattle.std.specs.Option.{option_map_or}
 use Rattle.std.specs.Int.NonZero.{non_zero_u32_get, non_zero_u64_get}
 use Rattle.std.proofs.lemmas.Bool.Decides.{nat_tests}
@@ -25,10 +25,10 @@ use Rattle.dkg_core.specs.Setup.{Uncommitted, WasCommitted}
 use Rattle.dkg_core.specs.Sources.{Source, Tip}
 use Rattle.dkg_reshare.specs.declared.life.Life.{Life}
 use Rattle.dkg_reshare.specs.declared.life.Stage.{Stage}
-use Rattle.dkg_reshare.specs.declared.life.Stage.TheVariants.{Including, Following}
+use Rattle.dkg_reshare.specs.declared.life.Stage.TheVariants.{Dealing, Including, Following}
 use Rattle.dkg_reshare.specs.declared.config.Terms.{Terms}
 use Rattle.dkg_reshare.specs.Actors.{IsReadyLife, IsSetUp}
-use Rattle.dkg_reshare.specs.LiveOf.{Beside, IsDealing, IsPlaced, IsSeated, IsWithin, awaited_of, live_of}
+use Rattle.dkg_reshare.specs.LiveOf.{Beside, IsDealing, IsFresh, IsPlaced, IsSeated, IsWithin, awaited_of, live_of}
 use Rattle.dkg_reshare.specs.Moved.{IsFirm}
 use Rattle.dkg_reshare.specs.Given.{IsIn, IsLent, IsOf, ReadsToday}
 use Rattle.dkg_reshare.specs.Rules.{AckOf, BearsAckOf, CheckAckOf, DealOf, DealingOf, IsRuledBy, PartialPublicOf, RoundOf, SharePublicOf, SignLogOf}
@@ -36,6 +36,7 @@ use Rattle.dkg_reshare.specs.Today.{seen_today}
 use Rattle.dkg_values.specs.declared.codec.CodecError.TheVariants.{EndOfBuffer}
 use Rattle.dkg_reshare.specs.Steps.{AreBoundsAt, StandsIn, stage_in}
 use Rattle.dkg_reshare.proofs.Beginning.{out_of_range, sets_up_as}
+use Rattle.dkg_reshare.proofs.Beside.{fresh_stays}
 use Rattle.dkg_reshare.proofs.Ranges.{is_past, not_past}
 
 pub first_is : (n height : ℕ) (bounds : Bounds) → AreBoundsAt n bounds height → bounds.first ≡ first n bounds.epoch
@@ -46,7 +47,7 @@ equal a b same = grind (arith, nat_tests, same)
 
 -- NO EPOCH IN RANGE
 
-module _ {Dir : Type 0} (c : Fixed Dir) (n : ℕ) (same : c.blocks_per_epoch ≡ n) (beside : Beside Dir) (fence : Readiness) (old : Life Dir) where
+module _ {Dir : Type 0} (c : Fixed Dir) (n : ℕ) (same : c.blocks_per_epoch ≡ n) (beside : Beside Dir) (fresh : IsFresh beside.inclusion) (fence : Readiness) (old : Life Dir) where
   abbrev st : Live Dir
   st = live_of beside fence old
 
@@ -66,8 +67,8 @@ module _ {Dir : Type 0} (c : Fixed Dir) (n : ℕ) (same : c.blocks_per_epoch ≡
 
       epoch_as : setup.anew c st ≡ live_of beside fence life
       epoch_as =
-          (λ i. record (setup.anew c st) { participation = record (setup.anew c st).participation { epoch = epoch_of (same i) (awaited_of old) } })
-          ∙ (λ i. record (setup.anew c st) { participation = record (setup.anew c st).participation { epoch = (sym at.are i).epoch } })
+          (λ i. record (setup.anew c st) { participation = record (setup.anew c st).participation { epoch = epoch_of (same i) (awaited_of old) }; inclusion = fresh_stays beside.inclusion fresh i })
+          ∙ (λ i. record (setup.anew c st) { participation = record (setup.anew c st).participation { epoch = (sym at.are i).epoch }; inclusion = beside.inclusion })
           ∙ sym (ap (live_of beside fence) now)
 
       its_epoch : life.epoch ≡ bounds.epoch
@@ -120,7 +121,19 @@ pub epoch_there : {Dir : Type 0} (n : ℕ) (old life : Life Dir) (bounds : Bound
     → life ≡ record old { epoch = bounds.epoch; midpoint = bounds.midpoint; stage = Following; round = None; dealer = None; player = None } → life.epoch ≡ epoch_of n (awaited_of old)
 epoch_there {Dir} n old life bounds at now = ap (λ (l : Life Dir). l.epoch) now ∙ ap (λ (b : Bounds). b.epoch) at.are
 
--- an epoch that begins with inclusion is past its midpoint
+-- an epoch that begins with dealing is below its midpoint
+below_middle : (middle height : ℕ) → stage_in (phase_at middle height) ≡ Dealing → height < middle
+below_middle middle height dealing = by_test (nat_lt height middle) refl dealing
+  where
+    by_late : (q : Bool) → stage_in (if q then Midpoint else Late) ≡ Dealing → ⊥
+    by_late true e = let h : ◌≡◌ {A = Stage} Including Dealing = e in cc
+    by_late false e = let h : ◌≡◌ {A = Stage} Including Dealing = e in cc
+
+    by_test : (b : Bool) → nat_lt height middle ≡ b → stage_in (if b then Early else (if nat_eq height middle then Midpoint else Late)) ≡ Dealing → height < middle
+    by_test true is e = grind (arith, nat_tests, is)
+    by_test false is e = absurd (by_late (nat_eq height middle) e)
+
+-- .. and one that begins with inclusion is past it
 past_middle : (middle height : ℕ) → stage_in (phase_at middle height) ≡ Including → middle ≤ height
 past_middle middle height including = by_test (nat_lt height middle) refl including
   where
@@ -137,13 +150,17 @@ ended_at n long None height middle at is past = absurd (middle_above n long (sub
 ended_at n long (Some t) height middle at is past = subst (λ (h : ℕ). middle ≤ h) at past
 
 set_placed : {Dir : Type 0} (n : ℕ) → 2 ≤ n → (life : Life Dir) (height : ℕ) → height ≡ awaited_of life → (bounds : Bounds) → AreBoundsAt n bounds height
-    → life.epoch ≡ bounds.epoch → life.midpoint ≡ bounds.midpoint → (life.stage ≡ Including → stage_in bounds.phase ≡ Including) → IsPlaced n life
-set_placed n long life height at bounds lies epoch middle stage =
+    → life.epoch ≡ bounds.epoch → life.midpoint ≡ bounds.midpoint → ((life.stage ≡ Following → ⊥) → IsSome life.round) → (life.stage ≡ Dealing → stage_in bounds.phase ≡ Dealing) → (life.stage ≡ Including → stage_in bounds.phase ≡ Including) → IsPlaced n life
+set_placed n long life height at bounds lies epoch middle joins deals stage =
     let epoch_is : life.epoch ≡ epoch_of n height = epoch ∙ ap (λ (b : Bounds). b.epoch) lies.are in
     let midpoint_is : life.midpoint ≡ midpoint n (epoch_of n height) = middle ∙ ap (λ (b : Bounds). b.midpoint) lies.are in
     record {
       epoch_is = λ apart. epoch_is ∙ ap (epoch_of n) at;
       midpoint_is = λ apart. midpoint_is ∙ sym (ap (midpoint n) epoch_is);
+      in_range = λ apart. subst (λ (e : ℕ). last n e < 2 ^ 64) (sym epoch_is) lies.in_range;
+      joins = joins;
+      early = λ dealing. subst (λ (h : ℕ). h < life.midpoint) at
+          (subst (λ (m : ℕ). height < m) (sym midpoint_is) (below_middle (midpoint n (epoch_of n height)) height (sym (ap (λ (b : Bounds). stage_in b.phase) lies.are) ∙ deals dealing)));
       ended = λ including. ended_at n long life.tip height life.midpoint at midpoint_is
           (subst (λ (m : ℕ). m ≤ height) (sym midpoint_is) (past_middle (midpoint n (epoch_of n height)) height (sym (ap (λ (b : Bounds). stage_in b.phase) lies.are) ∙ stage including)));
     }
@@ -159,6 +176,7 @@ module _ {Dir D X : Type 0} (tells : Bool) (files : D → Files) (image : D → 
       seated = subst (λ (l : Life Dir). IsSeated ack_of terms.me l) (sym now) tt;
       dealing = subst (λ (l : Life Dir). IsDealing deal_of check_ack_of terms.me l) (sym now) tt;
       placed = set_placed (non_zero_u64_get terms.blocks_per_epoch) terms.long life (awaited_of old) (ap (λ (l : Life Dir). awaited_of l) (sym now)) bounds at (ap (λ (l : Life Dir). l.epoch) now) (ap (λ (l : Life Dir). l.midpoint) now)
+          (λ apart. absurd (apart (ap (λ (l : Life Dir). l.stage) now))) (λ dealing. absurd (let e : ◌≡◌ {A = Stage} Following Dealing = sym (ap (λ (l : Life Dir). l.stage) now) ∙ dealing in cc))
           (λ including. absurd (let e : ◌≡◌ {A = Stage} Following Including = sym (ap (λ (l : Life Dir). l.stage) now) ∙ including in cc));
       within = subst (λ (l : Life Dir). IsWithin (non_zero_u32_get terms.limit) l.round) (sym now) tt;
       firm = λ told. subst (λ (s : Store Dir). IsFirm s.journal (files devices.disk.now) (image devices.disk.now)) (sym (ap (λ (l : Life Dir). l.store) now)) (firm told);
@@ -171,7 +189,7 @@ module _ {Dir D X : Type 0} (tells : Bool) (files : D → Files) (image : D → 
       seated = done.seated;
       dealing = done.dealing;
       placed = set_placed (non_zero_u64_get terms.blocks_per_epoch) terms.long new (awaited_of old) (ap (λ (l : Life Dir). awaited_of l) (sym now) ∙ ap (λ (l : Life Dir). awaited_of l) (sym rest)) bounds at
-          (ap (λ (l : Life Dir). l.epoch) rest ∙ ap (λ (l : Life Dir). l.epoch) now) (ap (λ (l : Life Dir). l.midpoint) rest ∙ ap (λ (l : Life Dir). l.midpoint) now) (λ including. sym done.stage ∙ including);
+          (ap (λ (l : Life Dir). l.epoch) rest ∙ ap (λ (l : Life Dir). l.epoch) now) (ap (λ (l : Life Dir). l.midpoint) rest ∙ ap (λ (l : Life Dir). l.midpoint) now) (λ apart. done.joins) (λ dealing. sym done.stage ∙ dealing) (λ including. sym done.stage ∙ including);
       within = done.within;
       firm = done.firm;
     }
@@ -179,13 +197,14 @@ module _ {Dir D X : Type 0} (tells : Bool) (files : D → Files) (image : D → 
 -- as its last part leaves it
 pub drawn_up : {Dir D X T E : Type 0} (tells : Bool) (files : D → Files) (image : D → Files → Type 0) (ack_of : AckOf) (deal_of : DealOf) (check_ack_of : CheckAckOf) (me limit : ℕ) (phase : Phase) (life new : Life Dir) (devices : Devices D X)
     → new ≡ record life { stage = new.stage; round = new.round; dealer = new.dealer; player = new.player } → (IsTrue tells → IsFirm life.store.journal (files devices.disk.now) (image devices.disk.now))
-    → (r : Result T E) → OnOk r (IsSeated ack_of me new × IsDealing deal_of check_ack_of me new × IsWithin limit new.round × (new.stage ≡ stage_in phase))
+    → (r : Result T E) → OnOk r (IsSeated ack_of me new × IsDealing deal_of check_ack_of me new × IsWithin limit new.round × IsSome new.round × (new.stage ≡ stage_in phase))
     → OnOk r (IsSetUp tells files image ack_of deal_of check_ack_of me limit phase new devices)
 drawn_up {Dir} tells files image ack_of deal_of check_ack_of me limit phase life new devices rest firm (Ok x) sits = record {
   seated = sits.0;
   dealing = sits.1;
   within = sits.2;
-  stage = sits.3;
+  joins = sits.3;
+  stage = sits.4;
   firm = subst (λ (j : Journal). IsTrue tells → IsFirm j (files devices.disk.now) (image devices.disk.now)) (sym (ap (λ (l : Life Dir). l.store.journal) rest)) firm;
 }
 drawn_up tells files image ack_of deal_of check_ack_of me limit phase life new devices rest firm (Err e) sits = tt

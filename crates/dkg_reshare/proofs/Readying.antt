@@ -1,9 +1,9 @@
 -- A life whose tip moved, and which may have begun inclusion, is ready still.
-use Rattle.std.proofs.Common.{◌≡◌, ℕ, ◌+◌, ◌<◌, ◌≤◌, Bool, true, false, Option, Some, None, Result, Ok, Err, refl, sym, ◌∙◌, ap, subst, arith}
-use Rattle.std.specs.Prelude.{IfSome, IsTrue, OnOk, ◌==◌}
+use Rattle.std.proofs.Common.{◌≡◌, ℕ, ◌+◌, ◌<◌, ◌≤◌, ◌^◌, Bool, true, false, Option, Some, None, Result, Ok, Err, refl, sym, ◌∙◌, ap, subst, arith}
+use Rattle.std.specs.Prelude.{IfSome, IsSome, IsTrue, OnOk, ◌==◌}
 use Rattle.std.specs.Int.NonZero.{non_zero_u32_get, non_zero_u64_get}
 use Rattle.std.proofs.lemmas.Bool.Decides.{nat_tests}
-use Rattle.dkg_ceremony.specs.Schedule.{epoch_of, midpoint}
+use Rattle.dkg_ceremony.specs.Schedule.{epoch_of, last, midpoint}
 use Rattle.dkg_ceremony.specs.declared.round.RoundParts.{RoundParts as Round}
 use Rattle.dkg_journal.specs.Names.{Files}
 use Rattle.dkg_types.specs.Blocks.{Block}
@@ -54,6 +54,14 @@ to_sign {Dir} deal_of check_ack_of me its mine life stage dealing = subst (λ (k
 pub middle_at : {Dir : Type 0} (n : ℕ) (life : Life Dir) → life.stage ≡ Dealing → IsPlaced n life → life.midpoint ≡ midpoint n life.epoch
 middle_at n life stage placed = placed.midpoint_is (λ follows. absurd (let h : ◌≡◌ {A = Stage} Dealing Following = sym stage ∙ follows in cc))
 
+-- .. which lies within 64 bits
+pub range_at : {Dir : Type 0} (n : ℕ) (life : Life Dir) → life.stage ≡ Dealing → IsPlaced n life → last n life.epoch < 2 ^ 64
+range_at n life stage placed = placed.in_range (λ follows. absurd (let h : ◌≡◌ {A = Stage} Dealing Following = sym stage ∙ follows in cc))
+
+-- .. and has its round
+pub joins_at : {Dir : Type 0} (n : ℕ) (life : Life Dir) → life.stage ≡ Dealing → IsPlaced n life → IsSome life.round
+joins_at n life stage placed = placed.joins (λ follows. absurd (let h : ◌≡◌ {A = Stage} Dealing Following = sym stage ∙ follows in cc))
+
 -- ALL OF IT
 
 module _ {Dir D X : Type 0} (tells : Bool) (files : D → Files) (image : D → Files → Type 0) (ack_of : AckOf) (deal_of : DealOf) (check_ack_of : CheckAckOf) (terms : Terms) (devices : Devices D X) where
@@ -83,10 +91,16 @@ module _ {Dir D X : Type 0} (tells : Bool) (files : D → Files) (image : D → 
       middle_is : old.midpoint ≡ midpoint n old.epoch
       middle_is = middle_at n old stage ready.placed
 
-      pub ready_dealing : IsReadyLife tells files image ack_of deal_of check_ack_of terms (record old { tip = Some tip }) devices
-      ready_dealing = ready_at old ready tip
-          (placed_behind n b.height b.digest terms.long (record old { tip = Some tip }) (ap (λ (t : Tip). Some t) tip_is) at middle_is early
-          (λ including. absurd (let h : ◌≡◌ {A = Stage} Dealing Including = sym stage ∙ including in cc)))
+      range_is : last n old.epoch < 2 ^ 64
+      range_is = range_at n old stage ready.placed
+
+      joins_is : IsSome old.round
+      joins_is = joins_at n old stage ready.placed
+
+      pub ready_dealing : (b.height + 1 == old.midpoint) ≡ false → IsReadyLife tells files image ack_of deal_of check_ack_of terms (record old { tip = Some tip }) devices
+      ready_dealing apart = ready_at old ready tip
+          (placed_behind n b.height b.digest terms.long (record old { tip = Some tip }) (ap (λ (t : Tip). Some t) tip_is) at middle_is range_is joins_is early
+          (λ dealing. grind (arith, nat_tests, early, apart)) (λ including. absurd (let h : ◌≡◌ {A = Stage} Dealing Including = sym stage ∙ including in cc)))
 
       -- and one that begins inclusion then
       pub ready_including : (b.height + 1 == old.midpoint) ≡ true → (its : ℕ) → terms.me ≡ its → (new : Life Dir) → new ≡ record old { tip = Some tip; stage = new.stage; dealer = new.dealer }
@@ -99,8 +113,8 @@ module _ {Dir D X : Type 0} (tells : Bool) (files : D → Files) (image : D → 
           record {
             seated = seated_with old new ack_of terms.me (ap (λ (l : Life Dir). l.round) rest) (ap (λ (l : Life Dir). l.store) rest) (ap (λ (l : Life Dir). l.player) rest) ready.seated;
             dealing = subst (λ (k : ℕ). IsDealing deal_of check_ack_of k new) (sym mine) dealing;
-            placed = placed_behind n b.height b.digest terms.long new (ap (λ (l : Life Dir). l.tip) rest ∙ ap (λ (t : Tip). Some t) tip_is) (at ∙ sym epoch) (middle ∙ middle_is ∙ ap (midpoint n) (sym epoch))
-                (subst (λ (m : ℕ). b.height < m) (sym middle) early) (λ including. omega (arith, end, middle));
+            placed = placed_behind n b.height b.digest terms.long new (ap (λ (l : Life Dir). l.tip) rest ∙ ap (λ (t : Tip). Some t) tip_is) (at ∙ sym epoch) (middle ∙ middle_is ∙ ap (midpoint n) (sym epoch)) (subst (λ (e : ℕ). last n e < 2 ^ 64) (sym epoch) range_is) (subst (λ (o : Option Round). IsSome o) (sym (ap (λ (l : Life Dir). l.round) rest)) joins_is)
+                (subst (λ (m : ℕ). b.height < m) (sym middle) early) (λ dealing. absurd (let h : ◌≡◌ {A = Stage} Including Dealing = sym is ∙ dealing in cc)) (λ including. omega (arith, end, middle));
             within = subst (λ (o : Option Round). IsWithin (non_zero_u32_get terms.limit) o) (sym (ap (λ (l : Life Dir). l.round) rest)) ready.within;
             firm = λ told. subst (λ (s : Store Dir). IsFirm s.journal (files devices.disk.now) (image devices.disk.now)) (sym (ap (λ (l : Life Dir). l.store) rest)) (ready.firm told);
           }

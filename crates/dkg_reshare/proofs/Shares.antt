@@ -28,10 +28,10 @@ use Rattle.dkg_core.specs.Fixed.{Fixed}
 use Rattle.dkg_core.specs.Seen.{Seen}
 use Rattle.dkg_core.specs.Setup as setup
 use Rattle.dkg_reshare.specs.Ends.{by_stop, stop_of}
-use Rattle.dkg_reshare.specs.Given.{GivesBoth, GivesShare, ReadsToday}
+use Rattle.dkg_reshare.specs.Given.{GivesBoth, GivesSeed, GivesShare, ReadsToday}
 use Rattle.dkg_reshare.specs.Made.{MakesAt}
 use Rattle.dkg_reshare.specs.Rules.{PartialPublicOf, SharePublicOf}
-use Rattle.dkg_reshare.specs.Steps.{reads_secrets}
+use Rattle.dkg_reshare.specs.Steps.{reads_secrets, reads_seed}
 use Rattle.dkg_reshare.specs.Today.{seen_today}
 use Rattle.dkg_reshare.proofs.Burning.{burns_still}
 use Rattle.dkg_reshare.proofs.Newest.{newest_is, newest_none}
@@ -187,6 +187,29 @@ module _ {Dir : Type 0} (c : Fixed Dir) (info : EpochInfo Dir) (share : Option �
         ∙ ap (λ (o : Option (List ℕ)). setup.seed_for c info.epoch o) (looked_up info.epoch (one_at info.epoch kept) ∙ one_is info.epoch kept)
         ∙ seeded,
   )
+
+-- THE SEED ALONE IS READ
+
+module _ {Dir : Type 0} (c : Fixed Dir) (info : EpochInfo Dir) (seed : List ℕ) where
+  abbrev seed_in : Held → List ℕ
+  seed_in h = setup.seed_for c info.epoch (lookup info.epoch (c.seen h).seeds)
+
+  pub seed_read : {D : Type 0} (files : D → Files) (image : D → Files → Type 0) → ReadsToday c
+      → {old new : D} {out : List Line} {s t : Secrets} {f g : Burn} → new ≡ old → t ≡ s → g ≡ f → setup.seed_for c info.epoch (get s.seeds info.epoch) ≡ seed
+      → MakesAt (on_devices (reads_seed c info)) (went seed) (files old) (image old) (files new) (image new) (moment out s f) (moment out t g)
+  seed_read files image reads {old} {s = s} same kept still seeded =
+      let h = held_in (files old) s in
+      let is : seed ≡ setup.seed_for c info.epoch (lookup info.epoch (c.seen h).seeds) =
+      sym seeded ∙ sym (ap (λ (o : Option (List ℕ)). setup.seed_for c info.epoch o) (ap (λ (seen : Held → Seen). lookup info.epoch (seen h).seeds) reads ∙ looked_up info.epoch s.seeds)) in
+      still_makes files image (on_devices (reads_seed c info)) (went seed) same still (made_read (files old) (image old) seed_in kept is)
+
+  -- whatever is told: by this seed or none
+  pub seed_given : (kept : Option (List ℕ)) (h : Held) → h.secrets.seeds ≡ one_at info.epoch kept → setup.seed_for c info.epoch kept ≡ seed → GivesSeed c info seed h
+  seed_given kept h seeds seeded = λ s are.
+      ap (λ (l : List (ℕ × List ℕ)). setup.seed_for c info.epoch (lookup info.epoch l)) are
+      ∙ ap (λ (m : FinMap nat_cmp (List ℕ)). setup.seed_for c info.epoch (lookup info.epoch (maps.entries m))) seeds
+      ∙ ap (λ (o : Option (List ℕ)). setup.seed_for c info.epoch o) (looked_up info.epoch (one_at info.epoch kept) ∙ one_is info.epoch kept)
+      ∙ seeded
 
 -- TESTS
 

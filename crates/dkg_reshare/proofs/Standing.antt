@@ -1,6 +1,6 @@
 -- Where a life stands, and where the blocks lie that it applies.
 use Rattle.std.proofs.Common.{◌≡◌, ◌⊎◌, inl, inr, ℕ, ◌+◌, ◌*◌, ◌/◌, ◌-◌, ◌<◌, ◌≤◌, ◌^◌, nat_lt, nat_le, Bool, true, false, Option, Some, None, Result, Ok, Err, refl, sym, ◌∙◌, ap, subst, arith}
-use Rattle.std.specs.Prelude.{IsSomeAnd, List, ◌==◌, ◌&&◌, ◌||◌, is_some, not, if◌then◌else◌}
+use Rattle.std.specs.Prelude.{IsSome, IsSomeAnd, List, ◌==◌, ◌&&◌, ◌||◌, is_some, not, if◌then◌else◌}
 use Rattle.std.specs.Option.{option_map_or}
 use Rattle.std.specs.Str.{bytes_eq}
 use Rattle.std.proofs.lemmas.Bool.Decides.{nat_tests}
@@ -17,7 +17,7 @@ use Rattle.dkg_reshare.specs.declared.life.Stage.{Stage}
 use Rattle.dkg_reshare.specs.declared.life.Stage.TheVariants.{Dealing, Including, Following}
 use Rattle.dkg_reshare.specs.declared.tip.Judged.{Judged}
 use Rattle.dkg_reshare.specs.declared.tip.Judged.TheVariants.{New, Again}
-use Rattle.dkg_reshare.specs.Actors.{IsApplied, TakesBlock, is_early_in, is_in_window_by}
+use Rattle.dkg_reshare.specs.Actors.{IsApplied, is_early_in, is_in_window_by}
 use Rattle.dkg_reshare.specs.Judged.{judged, judged_over}
 use Rattle.dkg_reshare.specs.LiveOf.{IsPlaced, awaited_of}
 use Rattle.dkg_reshare.specs.Steps.{AreBoundsAt}
@@ -99,40 +99,48 @@ module _ {Dir : Type 0} (n : ℕ) (old : Life Dir) (placed : IsPlaced n old) (b 
     pub its_epoch : (old.stage ≡ Following → ⊥) → epoch_of n b.height ≡ old.epoch
     its_epoch part = epoch_by old.tip part (placed.epoch_is part) its.is_new its.in_window
 
-    middle_by : (tip : Option Tip) → IsSomeAnd tip (λ t. old.midpoint ≤ t.height + 1) → judged tip b.height b.digest b.parent ≡ Ok New → old.midpoint ≤ b.height
+    deals_early : (s : Stage) (p q : Bool) → s ≡ Dealing → is_in_window_by s p q ≡ true → q ≡ true
+    deals_early Dealing true q at is = is
+    deals_early Dealing false q at is = absurd cc
+    deals_early Including p q at is = absurd (let h : ◌≡◌ {A = Stage} Including Dealing = at in cc)
+    deals_early Following p q at is = absurd (let h : ◌≡◌ {A = Stage} Following Dealing = at in cc)
+
+    early_by : (tip : Option Tip) → old.stage ≡ Dealing → epoch_of n b.height ≡ old.epoch → old.midpoint ≡ midpoint n old.epoch → option_map_or (λ t. t.height + 1) tip 0 < old.midpoint
+        → judged tip b.height b.digest b.parent ≡ Ok New → (tip ≡ None → is_in_window_by old.stage (epoch_of n b.height == old.epoch) (is_early_in n b.height) ≡ true) → b.height < old.midpoint
     unfolding judged
-    middle_by None past is = absurd past
-    middle_by (Some t) past is = subst (λ (h : ℕ). old.midpoint ≤ h) (sym (new_height t b.height b.digest b.parent is)) past
+    early_by None deals epoch middle low is window =
+        let early : nat_lt b.height (midpoint n (epoch_of n b.height)) ≡ true = deals_early old.stage (epoch_of n b.height == old.epoch) (is_early_in n b.height) deals (window refl) in
+        let below : b.height < midpoint n (epoch_of n b.height) = grind (arith, nat_tests, early) in
+        subst (λ (m : ℕ). b.height < m) (ap (midpoint n) epoch ∙ sym middle) below
+    early_by (Some t) deals epoch middle low is window = subst (λ (h : ℕ). h < old.midpoint) (sym (new_height t b.height b.digest b.parent is)) low
 
-    -- it is below the midpoint where it is taken by a life that takes part
-    pub is_early : TakesBlock n old b → (old.stage ≡ Following → ⊥) → b.height < old.midpoint
-    is_early takes part = by_case (takes its)
-      where
-        by_case : (old.stage ≡ Following) ⊎ (b.height < midpoint n (epoch_of n b.height)) → b.height < old.midpoint
-        by_case (inl follows) = absurd (part follows)
-        by_case (inr early) = subst (λ (m : ℕ). b.height < m) (ap (midpoint n) (its_epoch part) ∙ sym (placed.midpoint_is part)) early
+    -- it is below the midpoint while the life deals
+    pub is_early : old.stage ≡ Dealing → b.height < old.midpoint
+    is_early deals =
+        let part : old.stage ≡ Following → ⊥ = λ follows. let h : ◌≡◌ {A = Stage} Dealing Following = sym deals ∙ follows in cc in
+        early_by old.tip deals (its_epoch part) (placed.midpoint_is part) (placed.early deals) its.is_new its.in_window
 
-    apart : (s : Stage) → s ≡ Including → s ≡ Following → ⊥
-    apart Dealing a e = cc
-    apart Including a e = let h : ◌≡◌ {A = Stage} Including Following = e in cc
-    apart Following a e = let h : ◌≡◌ {A = Stage} Following Including = a in cc
+    next_by : (tip : Option Tip) → IsSomeAnd tip (λ t. old.midpoint ≤ t.height + 1) → judged tip b.height b.digest b.parent ≡ Ok New → b.height ≡ option_map_or (λ t. t.height + 1) tip 0
+    unfolding judged
+    next_by None past is = absurd past
+    next_by (Some t) past is = new_height t b.height b.digest b.parent is
 
-    -- so a life that includes takes none
-    pub not_including : TakesBlock n old b → old.stage ≡ Including → ⊥
-    not_including takes including =
-        let early : b.height < old.midpoint = is_early takes (apart old.stage including) in
-        let late : old.midpoint ≤ b.height = middle_by old.tip (placed.ended including) its.is_new in
-        absurd (omega (arith, early, late))
+    -- and it is the awaited one while the life includes
+    pub is_next : old.stage ≡ Including → b.height ≡ awaited_of old
+    is_next includes = next_by old.tip (placed.ended includes) its.is_new
 
 -- WHERE A LIFE STANDS THEN
 
 module _ {Dir : Type 0} (n : ℕ) (height : ℕ) (digest : List ℕ) where
   -- behind an early block of its epoch
-  pub placed_behind : 2 ≤ n → (new : Life Dir) → new.tip ≡ Some (record { height = height; digest = digest }) → epoch_of n height ≡ new.epoch → new.midpoint ≡ midpoint n new.epoch → height < new.midpoint
-      → (new.stage ≡ Including → new.midpoint ≤ height + 1) → IsPlaced n new
-  placed_behind long new tip epoch middle early ended = record {
-    epoch_is = λ part. sym (next_in n new.epoch height long epoch (subst (λ (m : ℕ). height < m) middle early)) ∙ sym (ap (λ (o : Option Tip). epoch_of n (option_map_or (λ t. t.height + 1) o 0)) tip);
+  pub placed_behind : 2 ≤ n → (new : Life Dir) → new.tip ≡ Some (record { height = height; digest = digest }) → epoch_of n height ≡ new.epoch → new.midpoint ≡ midpoint n new.epoch → last n new.epoch < 2 ^ 64 → IsSome new.round → height < new.midpoint
+      → (new.stage ≡ Dealing → height + 1 < new.midpoint) → (new.stage ≡ Including → new.midpoint ≤ height + 1) → IsPlaced n new
+  placed_behind long new tip epoch middle range joins low early ended = record {
+    epoch_is = λ part. sym (next_in n new.epoch height long epoch (subst (λ (m : ℕ). height < m) middle low)) ∙ sym (ap (λ (o : Option Tip). epoch_of n (option_map_or (λ t. t.height + 1) o 0)) tip);
     midpoint_is = λ part. middle;
+    in_range = λ part. range;
+    joins = λ part. joins;
+    early = λ deals. subst (λ (o : Option Tip). option_map_or (λ t. t.height + 1) o 0 < new.midpoint) (sym tip) (early deals);
     ended = λ including. subst (λ (o : Option Tip). IsSomeAnd o (λ t. new.midpoint ≤ t.height + 1)) (sym tip) (ended including);
   }
 
@@ -141,8 +149,27 @@ module _ {Dir : Type 0} (n : ℕ) (height : ℕ) (digest : List ℕ) where
   placed_following new follows = record {
     epoch_is = λ part. absurd (part follows);
     midpoint_is = λ part. absurd (part follows);
+    in_range = λ part. absurd (part follows);
+    joins = λ part. absurd (part follows);
+    early = λ deals. absurd (let h : ◌≡◌ {A = Stage} Dealing Following = sym deals ∙ follows in cc);
     ended = λ including. absurd (let h : ◌≡◌ {A = Stage} Including Following = sym including ∙ follows in cc);
   }
+
+-- while it includes, behind a block of its epoch that isn't the last
+pub placed_included : {Dir : Type 0} (n : ℕ) (old : Life Dir) → IsPlaced n old → old.stage ≡ Including → (height : ℕ) → height ≡ awaited_of old → epoch_of n (height + 1) ≡ old.epoch → (tip : Tip) → tip.height ≡ height
+    → IsPlaced n (record old { tip = Some tip })
+placed_included n old placed includes height next epoch tip at = record {
+  epoch_is = λ part. sym epoch ∙ ap (λ (h : ℕ). epoch_of n (h + 1)) (sym at);
+  midpoint_is = placed.midpoint_is;
+  in_range = placed.in_range;
+  joins = placed.joins;
+  early = λ deals. absurd (let h : ◌≡◌ {A = Stage} Including Dealing = sym includes ∙ deals in cc);
+  ended = λ still. above old.tip (placed.ended includes) next;
+}
+  where
+    above : (o : Option Tip) → IsSomeAnd o (λ t. old.midpoint ≤ t.height + 1) → height ≡ option_map_or (λ t. t.height + 1) o 0 → old.midpoint ≤ tip.height + 1
+    above None past is = absurd past
+    above (Some t) past is = omega (arith, past, is, at)
 
 -- what a test of heights says
 pub height_is : (a b : ℕ) → (a == b) ≡ true → a ≡ b

@@ -5,8 +5,9 @@ use Rattle.dkg_reshare.specs.declared.stop.Stop.{Stop}
 use Rattle.dkg_reshare.specs.declared.stop.Stop.TheVariants.{Cut, Failed, Fault as Faulted}
 use Rattle.dkg_reshare.specs.declared.actor.State.{State}
 use Rattle.dkg_reshare.specs.declared.actor.State.TheVariants.{Living}
+use Rattle.dkg_reshare.specs.declared.inclusion.Inclusion.{Inclusion}
 use Rattle.dkg_reshare.specs.declared.life.Life.{Life}
-use Rattle.dkg_reshare.specs.Actors.{HasFailed, IfLiving}
+use Rattle.dkg_reshare.specs.Actors.{HasFailed, IfIncluding}
 use Rattle.dkg_reshare.specs.Ends.{IsCausedBy, IsCausedInStep}
 
 module _ (tells : Bool) (disk secrets reached : Type 0) where
@@ -25,9 +26,9 @@ no_error x e is = cc
 pub same_error : (T : Type 0) (s e : Stop) → IsErrOf {T = T} (Err s) e → s ≡ e
 same_error T s e is = cc
 
-module _ {Dir : Type 0} (state : State Dir) (life : Life Dir) (is : state ≡ Living life) where
+module _ {C Dir Signer Cfg : Type 0} (state : State C Dir Signer Cfg) (life : Life Dir) (its : Inclusion C Dir Signer Cfg) (is : state ≡ Living life its) where
   pub lives_on : HasFailed state → ⊥
-  lives_on failed = subst (λ (s : State Dir). HasFailed s) is failed
+  lives_on failed = subst (λ (s : State C Dir Signer Cfg). HasFailed s) is failed
 
-  pub of_living : (P : Life Dir → Type 0) → IfLiving state P → P life
-  of_living P so = subst (λ (s : State Dir). IfLiving s P) is so
+  pub of_living : (P : Life Dir → Inclusion C Dir Signer Cfg → Type 0) → IfIncluding state P → P life its
+  of_living P so = subst (λ (s : State C Dir Signer Cfg). IfIncluding s P) is so

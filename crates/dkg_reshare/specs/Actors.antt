@@ -1,5 +1,5 @@
 -- An actor between two calls, by its state.
-use Rattle.std.specs.Prelude.{List, ◌≡◌, ◌==◌, ◌&&◌, not, nat_lt, ℕ, ⊤, Option, None, Bool, true, if◌then◌else◌, IsTrue, Result, Ok, Err, IsErrOf}
+use Rattle.std.specs.Prelude.{List, ◌≡◌, ◌==◌, ◌&&◌, not, nat_lt, ℕ, ⊤, Option, None, Bool, true, if◌then◌else◌, IsSome, IsTrue, Result, Ok, Err, IsErrOf}
 use Rattle.std.specs.Int.NonZero.{non_zero_u32_get, non_zero_u64_get}
 use Rattle.std.specs.declared.num.NonZeroU32.{NonZeroU32}
 use Rattle.std.specs.declared.num.NonZeroU64.{NonZeroU64}
@@ -37,6 +37,7 @@ use Rattle.std.specs.FinMap as maps
 use Rattle.dkg_reshare.specs.declared.stop.Stop.TheVariants.{Cut, Failed, Fault as Faulted}
 use Rattle.dkg_reshare.specs.Ends.{by_stop, IsCaused}
 use Rattle.dkg_reshare.specs.declared.tip.Judged.TheVariants.{New as IsNewBlock}
+use Rattle.dkg_reshare.specs.Carried.{CarriesWithin}
 use Rattle.dkg_reshare.specs.Judged.{judged}
 use Rattle.dkg_reshare.specs.LiveOf.{IsDealing, IsPlaced, IsSeated, IsWithin, records_of}
 use Rattle.dkg_reshare.specs.Moved.{IsFirm}
@@ -97,6 +98,7 @@ pub record IsSetUp {Dir D X : Type 0} (tells : Bool) (files : D → Files) (imag
   pub seated : IsSeated ack_of me life
   pub dealing : IsDealing deal_of check_ack_of me life
   pub within : IsWithin limit life.round
+  pub joins : IsSome life.round
   pub stage : life.stage ≡ stage_in phase
   pub firm : IsTrue tells → IsFirm life.store.journal (files devices.disk.now) (image devices.disk.now)
 
@@ -148,6 +150,11 @@ message_of (message.Feed request b) = Sent (core.Feed request b)
 message_of (message.Over request) = Sent (core.Over request)
 message_of (message.Cancel request) = Sent (core.Cancel request)
 message_of message.Work = Sent (core.Work None)
+
+-- What is delivered is within this limit.
+abbrev pub BringsWithin : {Dir Cfg : Type 0} → (limit : ℕ) → Message Dir Cfg → Type 0
+BringsWithin limit (message.Finalized b) = CarriesWithin limit b
+BringsWithin limit its = ⊤
 
 -- A life without a tip takes a block of its epoch and window, and any while it follows.
 abbrev pub is_in_window_by : Stage → (of_epoch early : Bool) → Bool

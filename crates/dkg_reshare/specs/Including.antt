@@ -1,5 +1,5 @@
 -- The parts of the relation's inclusion that the functions here are, one by one.
-use Rattle.std.specs.Prelude.{ℕ, Bool, true, false, not, List, [], ◌∷◌, ◌++◌, ◌+◌, ◌^◌, ◌==◌, ◌≡◌, nat_le, nat_lt, length, Option, Some, None, IsSome, is_some, option_map, option_and_then, Result, Ok, Err, if◌then◌else◌}
+use Rattle.std.specs.Prelude.{ℕ, Bool, true, false, not, List, [], ◌∷◌, ◌++◌, ◌+◌, ◌^◌, ◌==◌, ◌≡◌, nat_le, nat_lt, length, Option, Some, None, IsSome, IsSomeAnd, is_some, option_map, option_and_then, Result, Ok, Err, if◌then◌else◌}
 use Rattle.dkg_values.specs.Rising.{lookup}
 use Rattle.dkg_ceremony.specs.declared.output.Output.{Output}
 use Rattle.dkg_ceremony.specs.declared.round.RoundParts.{RoundParts as Round}
@@ -30,10 +30,12 @@ use Rattle.dkg_core.specs.Including.{Fed, Need, Found, Lacks}
 use Rattle.dkg_core.specs.Live as core
 use Rattle.dkg_core.specs.Live.{Live, GaveInfo, with_inclusion, with_queue, with_told}
 use Rattle.dkg_core.specs.Logs.{canonical}
+use Rattle.dkg_core.specs.Dealing.{with_round}
 use Rattle.dkg_core.specs.Setup.{looks, refused_in}
 use Rattle.dkg_reshare.specs.declared.inclusion.Hand.{Hand}
 use Rattle.dkg_reshare.specs.declared.inclusion.Inclusion.{Inclusion}
 use Rattle.dkg_reshare.specs.declared.life.Life.{Life}
+use Rattle.dkg_reshare.specs.declared.life.Stage.TheVariants as stage
 use Rattle.dkg_reshare.specs.InclusionOf.{artifact_of, cached_of}
 use Rattle.dkg_reshare.specs.LiveOf.{awaited_of}
 
@@ -44,12 +46,6 @@ abbrev pub fed_of : scan.Fed → Fed
 fed_of fed.Need = Need
 fed_of (fed.Logs found) = Found found
 fed_of (fed.Unavailable why) = Lacks why
-
--- A scan takes these blocks as long as it needs one.
-abbrev pub fed_all : {Dir : Type 0} → Check → seen.Scan → scan.Fed → List (Block Dir) → scan.Fed × seen.Scan
-fed_all check s its [] = (its, s)
-fed_all check s fed.Need (b ∷ bs) = fed_all check (feeds check s b).1 (feeds check s b).0 bs
-fed_all check s its (b ∷ bs) = (its, s)
 
 -- what a block is to the request in hand, where it has this number
 abbrev pub feeds_hand : {C Dir Signer Cfg : Type 0} → Check → (request : ℕ) → Block Dir → (old : Inclusion C Dir Signer Cfg) → Option (Hand Dir Cfg) → scan.Fed × Inclusion C Dir Signer Cfg
@@ -76,15 +72,37 @@ EndsHand request old new its = ends_hand request old old.hand ≡ (its, new)
 abbrev pub on_fed : {Dir : Type 0} → Fixed Dir → Round → (request : ℕ) → Fed → Live Dir → Course Dir Fault (Live Dir)
 on_fed c round request its st = including.fed c round request st its
 
-abbrev pub behind_first : {Dir : Type 0} → List (core.Request Dir) → List (core.Request Dir)
+abbrev pub behind_first : {A : Type 0} → List A → List A
 behind_first [] = []
 behind_first (r ∷ rs) = rs
 
--- The first request is read to its end, and then those behind it are.
-abbrev pub goes_on : {Dir : Type 0} → Fixed Dir → Round → (request : ℕ) → Fed → Live Dir → Course Dir Fault (Live Dir)
-goes_on c round request Need st = Goes st
-goes_on c round request its st =
-    bind (including.fed c round request (with_queue (behind_first st.inclusion.queue) st) its) (λ st. including.advanced c st)
+-- The first request that waits is read.
+abbrev pub reads_next : {Dir : Type 0} → Fixed Dir → Live Dir → Course Dir Fault (Live Dir)
+reads_next c st = with_round st (λ round. including.reads_first c round (λ st. Goes st) st)
+
+-- .. by what its scan answers, and then those behind it are
+abbrev pub answers_first : {Dir : Type 0} → Fixed Dir → (request : ℕ) → Fed → Live Dir → Course Dir Fault (Live Dir)
+answers_first c request its st = with_round st (λ round.
+    bind (including.fed c round request (with_queue (behind_first st.inclusion.queue) st) its) (λ now. including.advances c (length (behind_first st.inclusion.queue)) now))
+
+-- .. unless that needs more
+abbrev pub goes_on : {Dir : Type 0} → Fixed Dir → (request : ℕ) → Fed → Live Dir → Course Dir Fault (Live Dir)
+goes_on c request Need st = Goes st
+goes_on c request (Found logs) st = answers_first c request (Found logs) st
+goes_on c request (Lacks why) st = answers_first c request (Lacks why) st
+
+-- what inclusion has, without the request that a scan has answered
+abbrev pub behind_answer : {C Dir Signer Cfg : Type 0} → scan.Fed → Inclusion C Dir Signer Cfg → Inclusion C Dir Signer Cfg
+behind_answer fed.Need old = old
+behind_answer (fed.Logs found) old = record old { hand = None }
+behind_answer (fed.Unavailable why) old = record old { hand = None }
+
+-- The request in hand has this number, while requests are read.
+pub record IsHandOf {C Dir Signer Cfg : Type 0} (life : Life Dir) (its : Inclusion C Dir Signer Cfg) (request : ℕ) : Type 0 where
+  pub hand : IsSomeAnd its.hand (λ hand. hand.request.number ≡ request)
+  pub includes : life.stage ≡ stage.Including
+  pub round : IsSome life.round
+  pub free : its.verification.running ≡ None
 
 -- THE ARTIFACT
 

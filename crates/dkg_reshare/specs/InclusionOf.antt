@@ -1,5 +1,5 @@
 -- What inclusion has in memory, as the relation's Inclusion.
-use Rattle.std.specs.Prelude.{ℕ, Bool, false, true, List, [], ◌∷◌, ◌≡◌, ◌↔◌, Contains, Option, Some, None, IfSome, IsOk, IsSome, map, option_map, option_and_then, Ok}
+use Rattle.std.specs.Prelude.{ℕ, Bool, false, true, List, [], ◌∷◌, ◌≡◌, ◌⊎◌, ◌↔◌, Contains, Option, Some, None, IfSome, IsOk, IsSome, IsSomeAnd, map, option_map, option_and_then, Ok}
 use Rattle.std.specs.Ordering.{nat_cmp}
 use Rattle.std.specs.FinMap as maps
 use Rattle.std.specs.FinMap.{FinMap}
@@ -7,7 +7,6 @@ use Rattle.dkg_values.specs.Rising.{lookup}
 use Rattle.dkg_ceremony.specs.declared.round.RoundParts.{RoundParts as Round}
 use Rattle.dkg_ceremony.specs.Outcomes.{LogMap}
 use Rattle.dkg_ceremony.specs.Schedule.{bounds_at}
-use Rattle.dkg_artifact.specs.Ancestries.{Stands}
 use Rattle.dkg_artifact.specs.Requested as requested
 use Rattle.dkg_artifact.specs.Results.{Checked}
 use Rattle.dkg_artifact.specs.declared.artifact.Artifact as artifact
@@ -26,6 +25,7 @@ use Rattle.dkg_reshare.specs.declared.told.Told.{Told}
 use Rattle.dkg_reshare.specs.declared.told.Told.TheVariants as told
 use Rattle.dkg_reshare.specs.LiveOf.{awaited_of}
 use Rattle.dkg_reshare.specs.Rules.{CheckLogOf, DealingOf, FinishOf}
+use Rattle.dkg_reshare.specs.Scanned.{IsFed}
 
 -- WHAT REQUESTS WERE TOLD
 
@@ -86,7 +86,7 @@ pub record IsSeen {C Dir Signer Cfg : Type 0} (its : Inclusion C Dir Signer Cfg)
   pub retained : i.retained ≡ option_map result_of its.verification.kept
   pub cached : i.cached ≡ option_map cached_of its.cache
   pub told : (request : ℕ) → lookup request i.told ≡ option_and_then kept_of (maps.get its.told request)
-  pub used : (request : ℕ) → Contains i.used request ↔ IsSome (maps.get its.told request)
+  pub used : (request : ℕ) → (Contains i.used request ⊎ IsSome (lookup request i.told)) ↔ IsSome (maps.get its.told request)
 
 -- A verification can be run to its end: of its player no dealing lacks, and each passes the check.
 pub record IsRunnable (dealing_of : DealingOf) (finish_of : FinishOf) (j : job.Job) : Type 0 where
@@ -98,7 +98,7 @@ pub record IsRunnable (dealing_of : DealingOf) (finish_of : FinishOf) (j : job.J
 pub record IsInHand {Dir Cfg : Type 0} (check_log_of : CheckLogOf) (blocks_per_epoch : ℕ) (life : Life Dir) (hand : Hand Dir Cfg) : Type 0 where
   pub includes : life.stage ≡ stage.Including
   pub goes_on : hand.request.ended ≡ false
-  pub stands : IfSome life.round (λ round. Stands check_log_of round (bounds_at blocks_per_epoch (awaited_of life)) (option_map tip_of life.tip) hand.request.blocks hand.scan)
+  pub stands : IsSomeAnd life.round (λ round. IsFed check_log_of round (bounds_at blocks_per_epoch (awaited_of life)) (option_map tip_of life.tip) hand.request.blocks hand.scan)
 
 -- What holds of it between two calls of a life: a request is in hand only while no verification runs, and without a round nothing waits.
 pub record IsReadyInclusion {C Dir Signer Cfg : Type 0} (check_log_of : CheckLogOf) (dealing_of : DealingOf) (finish_of : FinishOf) (blocks_per_epoch : ℕ)
@@ -109,3 +109,9 @@ pub record IsReadyInclusion {C Dir Signer Cfg : Type 0} (check_log_of : CheckLog
   pub idle : life.stage ≡ stage.Following → its.requests ≡ []
   pub current : (life.stage ≡ stage.Following → ⊥) → IsSome life.store.current
   pub unserved : (life.stage ≡ stage.Including → ⊥) → its.served ≡ None
+
+-- Behind a call no request waits that could be read: one is in hand, or a verification runs.
+pub record IsSettledInclusion {C Dir Signer Cfg : Type 0} (check_log_of : CheckLogOf) (dealing_of : DealingOf) (finish_of : FinishOf) (blocks_per_epoch : ℕ)
+    (life : Life Dir) (its : Inclusion C Dir Signer Cfg) : Type 0 where
+  pub ready : IsReadyInclusion check_log_of dealing_of finish_of blocks_per_epoch life its
+  pub settled : life.stage ≡ stage.Including → IsSome life.round → its.hand ≡ None → its.verification.running ≡ None → its.requests ≡ []

@@ -1,5 +1,7 @@
 pub mod Actors
 pub mod Anchors
+pub mod Carried
+pub mod Concluded
 pub mod Configured
 pub mod Derived
 pub mod Ends
@@ -13,5 +15,7 @@ pub mod Made
 pub mod Moved
 pub mod Opened
 pub mod Rules
+pub mod Scanned
 pub mod Steps
 pub mod Today
+pub mod Verifying

@@ -1,5 +1,5 @@
 -- What an actor has in memory, as the relation's Live.
-use Rattle.std.specs.Prelude.{ℕ, Bool, true, false, [], ◌∷◌, ◌++◌, reverse, IsTrue, List, ◌≡◌, ◌≤◌, ◌<◌, ◌+◌, ◌^◌, Contains, Option, Some, None, option_map, IfSome, IsSomeAnd, length}
+use Rattle.std.specs.Prelude.{ℕ, Bool, true, false, [], ◌∷◌, ◌++◌, reverse, IsTrue, List, ◌≡◌, ◌≤◌, ◌<◌, ◌+◌, ◌^◌, Contains, Option, Some, None, option_map, IfSome, IsSome, IsSomeAnd, length}
 use Rattle.std.specs.FinMap as maps
 use Rattle.dkg_ceremony.specs.declared.round.RoundParts.{RoundParts as Round}
 use Rattle.std.specs.Option.{option_map_or}
@@ -174,9 +174,11 @@ pub record IsFresh {Dir : Type 0} (i : Inclusion Dir) : Type 0 where
 abbrev pub awaited_of : {Dir : Type 0} → Life Dir → ℕ
 awaited_of l = option_map_or (λ t. t.height + 1) l.tip 0
 
--- Unless it follows, a life's epoch is that of the awaited height. Its dealing ends at the epoch's midpoint, and has ended where its blocks came that far.
+-- Unless it follows, a life has a round, and its epoch is that of the awaited height. It deals as long as that is below the epoch's midpoint, and includes from there on.
 pub record IsPlaced {Dir : Type 0} (blocks : ℕ) (l : Life Dir) : Type 0 where
   pub epoch_is : (l.stage ≡ stage.Following → ⊥) → l.epoch ≡ epoch_of blocks (awaited_of l)
   pub midpoint_is : (l.stage ≡ stage.Following → ⊥) → l.midpoint ≡ midpoint blocks l.epoch
   pub in_range : (l.stage ≡ stage.Following → ⊥) → last blocks l.epoch < 2 ^ 64
+  pub joins : (l.stage ≡ stage.Following → ⊥) → IsSome l.round
+  pub early : l.stage ≡ stage.Dealing → awaited_of l < l.midpoint
   pub ended : l.stage ≡ stage.Including → IsSomeAnd l.tip (λ t. l.midpoint ≤ t.height + 1)

@@ -8,11 +8,11 @@ ghost use Rattle.dkg_store.specs.Corrupt.{AreFit};
 ghost use Rattle.dkg_core.specs.Core.{no_inclusion, opening, step};
 ghost use Rattle.dkg_core.specs.Fixed.{Fixed};
 ghost use Rattle.dkg_core.specs.Including.{works};
-ghost use Rattle.dkg_reshare.specs.Actors.{AreTerms, EndsAt, FailsStop, IfIncluding, IfLiving, IsAgreed, IsAt, IsFoundAt, IsNew, IsReadyLife, IsSoundAt, lives, message_of, running_in, told_in};
+ghost use Rattle.dkg_reshare.specs.Actors.{AreTerms, BringsWithin, EndsAt, FailsStop, IfIncluding, IfLiving, IsAgreed, IsAt, IsFoundAt, IsNew, IsReadyLife, IsSoundAt, lives, message_of, running_in, told_in};
 ghost use Rattle.dkg_reshare.specs.Configured.{config_fault};
 ghost use Rattle.dkg_reshare.specs.Ends.{IsCausedBy, IsCausedInStep, ends, ends_in};
 ghost use Rattle.dkg_reshare.specs.Given.{AreGivenFrom, HasRead, IsIn, IsLent, ReadsToday, reading};
-ghost use Rattle.dkg_reshare.specs.InclusionOf.{IsReadyInclusion, IsSeen, result_of};
+ghost use Rattle.dkg_reshare.specs.InclusionOf.{IsSeen, IsSettledInclusion, result_of};
 ghost use Rattle.dkg_reshare.specs.LiveOf.{Beside, EndsBeside, EndsWith, Took, live_of, no_fence, nothing_beside};
 ghost use Rattle.dkg_reshare.specs.Made.{Makes, Tells, UnlessBroken};
 ghost use Rattle.dkg_reshare.specs.Moved.{Moved, StaysAbove};
@@ -85,7 +85,8 @@ fn take<
 ) -> Result<(), Stop>
     requires me { terms.now.me ≡ C.Signer.key_of signer.now }
     requires ready { IsReadyLife D.tells D.files D.image C.ack_of C.deal_of C.check_ack_of terms.now life.old devices.old }
-    requires including { IsReadyInclusion C.check_log_of C.dealing_of C.finish_of (non_zero_u64_get terms.now.blocks_per_epoch) life.old inclusion.old }
+    requires within { BringsWithin (non_zero_u32_get terms.now.limit) message }
+    requires including { IsSettledInclusion C.check_log_of C.dealing_of C.finish_of (non_zero_u64_get terms.now.blocks_per_epoch) life.old inclusion.old }
     ensures ready { OnOk result (IsReadyLife D.tells D.files D.image C.ack_of C.deal_of C.check_ack_of terms.now life.new devices.new) }
     ensures word { life.new.word ≡ life.old.word }
     ensures moved { Moved D.tells D.made X.made D.faults X.faults devices.old devices.new }
@@ -93,7 +94,7 @@ fn take<
         (Rose (X.faults devices.old.secrets.now) (X.faults devices.new.secrets.now)) (Reached devices.old.fuse devices.new.fuse)) }
     ensures fit { IsTrue D.tells → AreFit (non_zero_u32_get terms.now.limit) (D.image devices.old.disk.now)
         → AreFit (non_zero_u32_get terms.now.limit) (D.image devices.new.disk.now) }
-    ensures including { OnOk result (IsReadyInclusion C.check_log_of C.dealing_of C.finish_of (non_zero_u64_get terms.now.blocks_per_epoch) life.new
+    ensures including { OnOk result (IsSettledInclusion C.check_log_of C.dealing_of C.finish_of (non_zero_u64_get terms.now.blocks_per_epoch) life.new
         inclusion.new) }
     ensures provider { IsTrue P.tells → SameProvided (P.participants_of provider.old) (P.participants_of provider.new)
         (P.directory_of provider.old) (P.directory_of provider.new) }
@@ -240,7 +241,7 @@ impl<
             devices.new) }
         ensures word { IfLiving self.new.state (λ its. its.word ≡ word) }
         // No request was made yet.
-        ensures including { IfIncluding self.new.state (λ life its. IsReadyInclusion C.check_log_of C.dealing_of C.finish_of
+        ensures including { IfIncluding self.new.state (λ life its. IsSettledInclusion C.check_log_of C.dealing_of C.finish_of
             (non_zero_u64_get self.new.terms.blocks_per_epoch) life its × IsSeen its no_inclusion) }
         ensures rest { (self.new.ceremony ≡ self.old.ceremony) × (self.new.signer ≡ self.old.signer) × (self.new.provider ≡ self.old.provider)
             × (self.new.manager ≡ self.old.manager) × (self.new.terms ≡ self.old.terms) }
@@ -287,8 +288,9 @@ impl<
         out: &mut Transcript,
     ) -> Result<(), Stop>
         requires at { IsAt D.tells D.files D.image C.ack_of C.deal_of C.check_ack_of self.old.terms self.old.state devices.old }
-        requires including { IfIncluding self.old.state (IsReadyInclusion C.check_log_of C.dealing_of C.finish_of (non_zero_u64_get self.old.terms.blocks_per_epoch)) }
-        ensures including { OnOk result (IfIncluding self.new.state (IsReadyInclusion C.check_log_of C.dealing_of C.finish_of
+        requires within { BringsWithin (non_zero_u32_get self.old.terms.limit) message }
+        requires including { IfIncluding self.old.state (IsSettledInclusion C.check_log_of C.dealing_of C.finish_of (non_zero_u64_get self.old.terms.blocks_per_epoch)) }
+        ensures including { OnOk result (IfIncluding self.new.state (IsSettledInclusion C.check_log_of C.dealing_of C.finish_of
             (non_zero_u64_get self.new.terms.blocks_per_epoch))) }
         // It is the relation's step, and each act was made, whatever image a crash leaves.
         ensures acts { IsTrue D.tells → IsTrue X.tells → IsTrue P.tells → (c : Fixed Dir) (beside : Beside Dir) → IfIncluding self.old.state
@@ -366,8 +368,8 @@ impl<
         out: &mut Transcript,
     ) -> Result<(), Stop>
         requires at { IsAt D.tells D.files D.image C.ack_of C.deal_of C.check_ack_of self.old.terms self.old.state devices.old }
-        requires including { IfIncluding self.old.state (IsReadyInclusion C.check_log_of C.dealing_of C.finish_of (non_zero_u64_get self.old.terms.blocks_per_epoch)) }
-        ensures including { OnOk result (IfIncluding self.new.state (IsReadyInclusion C.check_log_of C.dealing_of C.finish_of
+        requires including { IfIncluding self.old.state (IsSettledInclusion C.check_log_of C.dealing_of C.finish_of (non_zero_u64_get self.old.terms.blocks_per_epoch)) }
+        ensures including { OnOk result (IfIncluding self.new.state (IsSettledInclusion C.check_log_of C.dealing_of C.finish_of
             (non_zero_u64_get self.new.terms.blocks_per_epoch))) }
         // It is the relation's step of that message, and each act was made, whatever image a crash leaves.
         ensures acts { IsTrue D.tells → IsTrue X.tells → IsTrue P.tells → (c : Fixed Dir) (beside : Beside Dir) → IfIncluding self.old.state

@@ -2,7 +2,7 @@
 //! is recorded; the last block of an epoch leads into the next one.
 //!
 //! These are the relation's `delivers`, `over_tip` and `applies`.
-ghost use Rattle.std.specs.Prelude.{◌≡◌, ◌<◌, ◌+◌, ◌^◌, ◌==◌, ◌||◌, [], IfErr, IfOk, IsTrue, None, OnOk, Some, is_some};
+ghost use Rattle.std.specs.Prelude.{◌≡◌, ◌<◌, ◌+◌, ◌^◌, ◌==◌, ◌||◌, [], IfErr, IfOk, IsSome, IsTrue, None, OnOk, Some, is_some};
 ghost use Rattle.std.specs.Int.NonZero.{non_zero_u32_get, non_zero_u64_get};
 ghost use Rattle.dkg_ceremony.specs.Schedule.{epoch_of};
 ghost use Rattle.dkg_ceremony.specs.declared.round.RoundParts.{RoundParts as Round};
@@ -13,10 +13,11 @@ ghost use Rattle.dkg_store.specs.Corrupt.{AreFit};
 ghost use Rattle.dkg_core.specs.Blocks as blocks;
 ghost use Rattle.dkg_core.specs.Fixed.{Fixed};
 ghost use Rattle.dkg_reshare.specs.Actors.{IsApplied, IsReadyLife, is_in_window_by};
+ghost use Rattle.dkg_reshare.specs.Carried.{CarriesWithin};
 ghost use Rattle.dkg_reshare.specs.Ends.{IsCaused, IsCausedBy, ends_in};
 ghost use Rattle.dkg_reshare.specs.Given.{IsIn, IsOf, ReadsToday};
 ghost use Rattle.dkg_reshare.specs.Including.{IsNextBlock, applies_included};
-ghost use Rattle.dkg_reshare.specs.InclusionOf.{IsReadyInclusion, IsSeen};
+ghost use Rattle.dkg_reshare.specs.InclusionOf.{IsReadyInclusion, IsSeen, IsSettledInclusion};
 ghost use Rattle.dkg_reshare.specs.LiveOf.{Beside, EndsBeside, EndsWith, IsFresh, Took, live_of};
 ghost use Rattle.dkg_reshare.specs.Made.{Makes, Tells};
 ghost use Rattle.dkg_reshare.specs.Moved.{Moved};
@@ -93,7 +94,7 @@ fn apply_dealing<
         (Rose (X.faults devices.old.secrets.now) (X.faults devices.new.secrets.now)) (Reached devices.old.fuse devices.new.fuse)) }
     ensures fit { IsTrue D.tells → AreFit (non_zero_u32_get terms.now.limit) (D.image devices.old.disk.now)
         → AreFit (non_zero_u32_get terms.now.limit) (D.image devices.new.disk.now) }
-    ensures including { OnOk result (IsReadyInclusion C.check_log_of C.dealing_of C.finish_of (non_zero_u64_get terms.now.blocks_per_epoch) life.new
+    ensures including { OnOk result (IsSettledInclusion C.check_log_of C.dealing_of C.finish_of (non_zero_u64_get terms.now.blocks_per_epoch) life.new
         inclusion.new) }
     ensures provider { IsTrue P.tells → SameProvided (P.participants_of provider.old) (P.participants_of provider.new)
         (P.directory_of provider.old) (P.directory_of provider.new) }
@@ -169,6 +170,7 @@ fn follow_into<C: Ceremony, R: Registrar, Dir: Directory + Drop, D: Disk, X: Sec
     requires ready { IsReadyLife D.tells D.files D.image C.ack_of C.deal_of C.check_ack_of terms.now life.old devices.old }
     ensures ready { OnOk result (IsReadyLife D.tells D.files D.image C.ack_of C.deal_of C.check_ack_of terms.now life.new devices.new) }
     ensures word { life.new.word ≡ life.old.word }
+    ensures current { OnOk result (IsSome life.new.store.current) }
     ensures acts { IsTrue D.tells → IsTrue X.tells → (c : Fixed Dir) (beside : Beside Dir) → IsFresh beside.inclusion → IsIn terms.now life.old.word c
         → ReadsToday c
         → IsRuledBy C.round_of C.deal_of C.dealing_of C.ack_of C.check_ack_of C.sign_log_of C.bears_ack_of C.share_public_of C.partial_public_of c.rules
@@ -225,7 +227,7 @@ fn follow_block<C: Ceremony + Drop, R: Registrar, Dir: Directory + Drop, D: Disk
         (Rose (X.faults devices.old.secrets.now) (X.faults devices.new.secrets.now)) (Reached devices.old.fuse devices.new.fuse)) }
     ensures fit { IsTrue D.tells → AreFit (non_zero_u32_get terms.now.limit) (D.image devices.old.disk.now)
         → AreFit (non_zero_u32_get terms.now.limit) (D.image devices.new.disk.now) }
-    ensures including { OnOk result (IsReadyInclusion C.check_log_of C.dealing_of C.finish_of (non_zero_u64_get terms.now.blocks_per_epoch) life.new
+    ensures including { OnOk result (IsSettledInclusion C.check_log_of C.dealing_of C.finish_of (non_zero_u64_get terms.now.blocks_per_epoch) life.new
         inclusion.new) }
     ensures acts { IsTrue D.tells → IsTrue X.tells → (c : Fixed Dir) (beside : Beside Dir) → IsIn terms.now life.old.word c → ReadsToday c
         → IsRuledBy C.round_of C.deal_of C.dealing_of C.ack_of C.check_ack_of C.sign_log_of C.bears_ack_of C.share_public_of C.partial_public_of c.rules
@@ -275,9 +277,11 @@ fn include<
     requires including { IsReadyInclusion C.check_log_of C.dealing_of C.finish_of (non_zero_u64_get terms.now.blocks_per_epoch) life.old inclusion.old }
     requires includes { life.old.stage ≡ Including }
     requires next { IsNextBlock life.old block.now }
+    requires inside { epoch_of (non_zero_u64_get terms.now.blocks_per_epoch) (block.now.height + 1) ≡ life.old.epoch }
+    requires within { CarriesWithin (non_zero_u32_get terms.now.limit) block.now }
     requires idle { inclusion.old.hand ≡ None }
     ensures ready { OnOk result (IsReadyLife D.tells D.files D.image C.ack_of C.deal_of C.check_ack_of terms.now life.new devices.new) }
-    ensures including { OnOk result (IsReadyInclusion C.check_log_of C.dealing_of C.finish_of (non_zero_u64_get terms.now.blocks_per_epoch) life.new
+    ensures including { OnOk result (IsSettledInclusion C.check_log_of C.dealing_of C.finish_of (non_zero_u64_get terms.now.blocks_per_epoch) life.new
         inclusion.new) }
     ensures word { life.new.word ≡ life.old.word }
     ensures provider { IsTrue P.tells → SameProvided (P.participants_of provider.old) (P.participants_of provider.new)
@@ -301,7 +305,7 @@ fn include<
     ensures fit { IsTrue D.tells → AreFit (non_zero_u32_get terms.now.limit) (D.image devices.old.disk.now)
         → AreFit (non_zero_u32_get terms.now.limit) (D.image devices.new.disk.now) }
 {
-    observe(alloc, ceremony, terms.me, life, devices, block)?;
+    observe(alloc, ceremony, terms, life, devices, block)?;
     unserve(inclusion, block.height());
     life.tip = Some(tip_of(block));
     advance(
@@ -341,7 +345,7 @@ fn take_final_block<
     requires last { block.now.height ≡ bounds.now.last }
     requires idle { inclusion.old.hand ≡ None }
     ensures ready { OnOk result (IsReadyLife D.tells D.files D.image C.ack_of C.deal_of C.check_ack_of terms.now life.new devices.new) }
-    ensures including { OnOk result (IsReadyInclusion C.check_log_of C.dealing_of C.finish_of (non_zero_u64_get terms.now.blocks_per_epoch) life.new
+    ensures including { OnOk result (IsSettledInclusion C.check_log_of C.dealing_of C.finish_of (non_zero_u64_get terms.now.blocks_per_epoch) life.new
         inclusion.new) }
     ensures word { life.new.word ≡ life.old.word }
     ensures provider { IsTrue P.tells → SameProvided (P.participants_of provider.old) (P.participants_of provider.new)
@@ -407,8 +411,9 @@ fn apply_included<
     requires includes { life.old.stage ≡ Including }
     requires bounds { AreBoundsAt (non_zero_u64_get terms.now.blocks_per_epoch) bounds.now block.now.height }
     requires next { IsNextBlock life.old block.now }
+    requires within { CarriesWithin (non_zero_u32_get terms.now.limit) block.now }
     ensures ready { OnOk result (IsReadyLife D.tells D.files D.image C.ack_of C.deal_of C.check_ack_of terms.now life.new devices.new) }
-    ensures including { OnOk result (IsReadyInclusion C.check_log_of C.dealing_of C.finish_of (non_zero_u64_get terms.now.blocks_per_epoch) life.new
+    ensures including { OnOk result (IsSettledInclusion C.check_log_of C.dealing_of C.finish_of (non_zero_u64_get terms.now.blocks_per_epoch) life.new
         inclusion.new) }
     ensures word { life.new.word ≡ life.old.word }
     ensures provider { IsTrue P.tells → SameProvided (P.participants_of provider.old) (P.participants_of provider.new)
@@ -471,6 +476,7 @@ fn apply<
 ) -> Result<(), Stop>
     requires taken { IsApplied (non_zero_u64_get terms.now.blocks_per_epoch) life.old block.now }
     requires bounds { AreBoundsAt (non_zero_u64_get terms.now.blocks_per_epoch) bounds.now block.now.height }
+    requires within { CarriesWithin (non_zero_u32_get terms.now.limit) block.now }
     requires me { terms.now.me ≡ C.Signer.key_of signer.now }
     requires ready { IsReadyLife D.tells D.files D.image C.ack_of C.deal_of C.check_ack_of terms.now life.old devices.old }
     requires including { IsReadyInclusion C.check_log_of C.dealing_of C.finish_of (non_zero_u64_get terms.now.blocks_per_epoch) life.old inclusion.old }
@@ -481,7 +487,7 @@ fn apply<
         (Rose (X.faults devices.old.secrets.now) (X.faults devices.new.secrets.now)) (Reached devices.old.fuse devices.new.fuse)) }
     ensures fit { IsTrue D.tells → AreFit (non_zero_u32_get terms.now.limit) (D.image devices.old.disk.now)
         → AreFit (non_zero_u32_get terms.now.limit) (D.image devices.new.disk.now) }
-    ensures including { OnOk result (IsReadyInclusion C.check_log_of C.dealing_of C.finish_of (non_zero_u64_get terms.now.blocks_per_epoch) life.new
+    ensures including { OnOk result (IsSettledInclusion C.check_log_of C.dealing_of C.finish_of (non_zero_u64_get terms.now.blocks_per_epoch) life.new
         inclusion.new) }
     ensures provider { IsTrue P.tells → SameProvided (P.participants_of provider.old) (P.participants_of provider.new)
         (P.directory_of provider.old) (P.directory_of provider.new) }
@@ -546,7 +552,8 @@ pub(crate) fn take_block<
 ) -> Result<(), Stop>
     requires me { terms.now.me ≡ C.Signer.key_of signer.now }
     requires ready { IsReadyLife D.tells D.files D.image C.ack_of C.deal_of C.check_ack_of terms.now life.old devices.old }
-    requires including { IsReadyInclusion C.check_log_of C.dealing_of C.finish_of (non_zero_u64_get terms.now.blocks_per_epoch) life.old inclusion.old }
+    requires within { CarriesWithin (non_zero_u32_get terms.now.limit) block.now }
+    requires including { IsSettledInclusion C.check_log_of C.dealing_of C.finish_of (non_zero_u64_get terms.now.blocks_per_epoch) life.old inclusion.old }
     ensures ready { OnOk result (IsReadyLife D.tells D.files D.image C.ack_of C.deal_of C.check_ack_of terms.now life.new devices.new) }
     ensures word { life.new.word ≡ life.old.word }
     ensures moved { Moved D.tells D.made X.made D.faults X.faults devices.old devices.new }
@@ -554,7 +561,7 @@ pub(crate) fn take_block<
         (Rose (X.faults devices.old.secrets.now) (X.faults devices.new.secrets.now)) (Reached devices.old.fuse devices.new.fuse)) }
     ensures fit { IsTrue D.tells → AreFit (non_zero_u32_get terms.now.limit) (D.image devices.old.disk.now)
         → AreFit (non_zero_u32_get terms.now.limit) (D.image devices.new.disk.now) }
-    ensures including { OnOk result (IsReadyInclusion C.check_log_of C.dealing_of C.finish_of (non_zero_u64_get terms.now.blocks_per_epoch) life.new
+    ensures including { OnOk result (IsSettledInclusion C.check_log_of C.dealing_of C.finish_of (non_zero_u64_get terms.now.blocks_per_epoch) life.new
         inclusion.new) }
     ensures provider { IsTrue P.tells → SameProvided (P.participants_of provider.old) (P.participants_of provider.new)
         (P.directory_of provider.old) (P.directory_of provider.new) }

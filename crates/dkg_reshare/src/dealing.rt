@@ -153,6 +153,7 @@ fn hear_dealing<C: Ceremony, Dir: Directory + Drop, D: Disk, X: SecretStore>(
     requires ready { IsReadyLife D.tells D.files D.image C.ack_of C.deal_of C.check_ack_of terms.now life.old devices.old }
     ensures ready { OnOk result (IsReadyLife D.tells D.files D.image C.ack_of C.deal_of C.check_ack_of terms.now life.new devices.new) }
     ensures rest { life.new ≡ record life.old { store = life.new.store; dealer = life.new.dealer; player = life.new.player } }
+    ensures current { life.new.store.current ≡ life.old.store.current }
     ensures acts { IsTrue D.tells → IsTrue X.tells → (c : Fixed Dir) (round : Round) (beside : Beside Dir) (fence : Readiness)
         → IsOf terms.now c → AnswersBy C.dealing_of C.ack_of C.check_ack_of c.rules → life.old.round ≡ Some round
         → Makes D.files D.image X.held (dealing.seats_dealing_in c round from public private (live_of beside fence life.old) (seat_of life.old.player))
@@ -254,6 +255,7 @@ fn hear_ack<C: Ceremony, Dir: Directory + Drop, D: Disk, X: SecretStore>(
     ensures ready { OnOk result (IsReadyLife D.tells D.files D.image C.ack_of C.deal_of C.check_ack_of terms.now life.new devices.new) }
     ensures word { life.new.word ≡ life.old.word }
     ensures rest { life.new ≡ record life.old { store = life.new.store; dealer = life.new.dealer } }
+    ensures current { life.new.store.current ≡ life.old.store.current }
     ensures acts { IsTrue D.tells → IsTrue X.tells → (c : Fixed Dir) (round : Round) (beside : Beside Dir) (fence : Readiness)
         → IsOf terms.now c → AnswersBy C.dealing_of C.ack_of C.check_ack_of c.rules → life.old.round ≡ Some round
         → Makes D.files D.image X.held (dealing.hears_ack c round (option_map dealer_of life.old.dealer) from ack (live_of beside fence life.old))
@@ -310,6 +312,8 @@ pub(crate) fn hear_peer<C: Ceremony, Dir: Directory + Drop, D: Disk, X: SecretSt
     requires ready { IsReadyLife D.tells D.files D.image C.ack_of C.deal_of C.check_ack_of terms.now life.old devices.old }
     ensures ready { OnOk result (IsReadyLife D.tells D.files D.image C.ack_of C.deal_of C.check_ack_of terms.now life.new devices.new) }
     ensures word { life.new.word ≡ life.old.word }
+    ensures rest { life.new ≡ record life.old { store = life.new.store; dealer = life.new.dealer; player = life.new.player } }
+    ensures current { life.new.store.current ≡ life.old.store.current }
     ensures acts { IsTrue D.tells → IsTrue X.tells → (c : Fixed Dir) (beside : Beside Dir) (fence : Readiness)
         → IsOf terms.now c → AnswersBy C.dealing_of C.ack_of C.check_ack_of c.rules
         → Makes D.files D.image X.held (dealing.hears_peer c from bytes.now (live_of beside fence life.old))

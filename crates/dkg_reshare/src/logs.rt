@@ -1,20 +1,20 @@
 //! Dealers' logs: which log a block records, and whom this node's own is served to.
-ghost use Rattle.std.specs.Prelude.{◌≡◌, ◌<◌, ◌^◌, ℕ, [], IfErr, IfOk, IsTrue, List, None, OnOk, Some, if◌then◌else◌, length, nat_le, option_and_then, option_map};
+ghost use Rattle.std.specs.Prelude.{◌≡◌, ◌<◌, ◌&&◌, ◌^◌, ℕ, [], IfErr, IfOk, IsTrue, List, None, OnOk, Some, if◌then◌else◌, length, nat_le, option_and_then, option_map};
 ghost use Rattle.std.specs.Option.{option_copied};
+ghost use Rattle.dkg_ceremony.specs.Logs.{LogFits, log_spelling};
 ghost use Rattle.dkg_ceremony.specs.declared.round.RoundParts.{RoundParts as Round};
 ghost use Rattle.dkg_fence.specs.Readiness.{Readiness};
 ghost use Rattle.dkg_journal.specs.Disk.{Rose};
 ghost use Rattle.dkg_journal.specs.Fuse.{Reached};
 ghost use Rattle.dkg_store.specs.Corrupt.{AreFit};
-ghost use Rattle.dkg_store.specs.Events.{event_spelling};
-ghost use Rattle.dkg_store.specs.declared.event.Event.TheVariants.{LogAt};
 ghost use Rattle.dkg_types.specs.PayloadCodes.{its_log, log_payload};
 ghost use Rattle.dkg_types.specs.declared.entry.Entry.{Entry as Line};
 ghost use Rattle.dkg_types.specs.declared.fault.Fault.TheVariants.{NoMemory as OutOfMemory};
 ghost use Rattle.dkg_core.specs.Blocks as blocks;
-ghost use Rattle.dkg_core.specs.Fixed.{Fixed};
+ghost use Rattle.dkg_core.specs.Fixed.{Fixed, has};
 ghost use Rattle.dkg_core.specs.Including as including;
-ghost use Rattle.dkg_core.specs.Logs as recorded;
+ghost use Rattle.dkg_reshare.specs.Actors.{IsReadyLife};
+ghost use Rattle.dkg_reshare.specs.Carried.{CarriesWithin, cleared_of};
 ghost use Rattle.dkg_reshare.specs.Ends.{IsCaused, ends_in};
 ghost use Rattle.dkg_reshare.specs.InclusionOf.{IsSeen};
 ghost use Rattle.dkg_reshare.specs.LiveOf.{Beside, EndsWith, live_of};
@@ -25,15 +25,16 @@ ghost use Rattle.dkg_reshare.specs.declared.life.Stage.TheVariants.{Including};
 ghost use Rattle.dkg_reshare.specs.declared.stop.Stop.TheVariants.{Fault as Faulted};
 
 use crate::answers::{bytes_of, told_as};
+use crate::config::Terms;
 use crate::inclusion::Inclusion;
 use crate::life::{Life, Stage};
 use crate::stop::Stop;
 use crate::told::Told;
-use dkg_ceremony::{Ceremony, Round, SignedDealerLog};
+use dkg_ceremony::{Ceremony, DealerLog, Round, SignedDealerLog};
 use dkg_journal::Disk;
 use dkg_store::{Devices, SecretStore, Store};
-use dkg_types::{Block, Directory, Entry, Payload, ReshareBlock, Transcript};
-use dkg_values::{Epoch, Height, Key, Mem, Value};
+use dkg_types::{Block, Directory, Entry, Fault, Payload, ReshareBlock, Transcript};
+use dkg_values::{EncodeSize, Epoch, Height, Key, Mem, Value};
 use std::alloc::Global;
 
 /// The log that a block carries, if it carries one.
@@ -53,7 +54,7 @@ fn is_accepted<C: Ceremony>(
     round: &Round,
     signed: &SignedDealerLog,
 ) -> Mem<bool>
-    ensures { IfOk result (λ yes. {Dir : Type 0} (c : Fixed Dir) → c.rules.check_log_of ≡ C.check_log_of → yes ≡ recorded.is_accepted c round.now signed.now) }
+    ensures { IfOk result (λ yes. yes ≡ (has round.now.dealers signed.now.dealer && C.check_log_of round.now signed.now)) }
 {
     if !round.parts().dealers.has(signed.dealer) {
         return Ok(false);
@@ -61,7 +62,14 @@ fn is_accepted<C: Ceremony>(
     ceremony.check_log(alloc, round, signed)
 }
 
-/// Records a dealer's first log, with the height of its block (`records_log`).
+/// Whether a record of the journal has room for a log, with what stands before it.
+fn has_room(log: &DealerLog) -> bool
+    ensures { IsTrue result → length (log_spelling log.now) < 2 ^ 31 }
+{
+    log.encode_size() < 0x8000_0000
+}
+
+/// Records a dealer's first log, with the height of its block (`records_log`). A log of 2^31 bytes or more is answered by want of memory.
 fn record<Dir: Directory + Drop, D: Disk, X: SecretStore>(
     alloc: Global,
     store: &mut Store<Dir>,
@@ -71,7 +79,6 @@ fn record<Dir: Directory + Drop, D: Disk, X: SecretStore>(
     signed: &SignedDealerLog,
 ) -> Result<(), Stop>
     requires firm { IsTrue D.tells → IsFirm store.old.journal (D.files devices.old.disk.now) (D.image devices.old.disk.now) }
-    requires short { length (event_spelling (LogAt signed.now.dealer height signed.now.log)) < 2 ^ 32 }
     ensures firm { OnOk result (IsTrue D.tells → IsFirm store.new.journal (D.files devices.new.disk.now) (D.image devices.new.disk.now)) }
     ensures rest { store.new ≡ record store.old { journal = store.new.journal; logs = store.new.logs } }
     ensures acts { IsTrue D.tells → IsTrue X.tells → (life : Life Dir) (beside : Beside Dir) (fence : Readiness) (out : List Line) → life.store ≡ store.old
@@ -83,10 +90,14 @@ fn record<Dir: Directory + Drop, D: Disk, X: SecretStore>(
     ensures moved { Moved D.tells D.made X.made D.faults X.faults devices.old devices.new }
     ensures causes { IfErr result (λ stop. IsCaused stop (Rose (D.faults devices.old.disk.now) (D.faults devices.new.disk.now))
         (Rose (X.faults devices.old.secrets.now) (X.faults devices.new.secrets.now)) (Reached devices.old.fuse devices.new.fuse)) }
-    ensures fit { IsTrue D.tells → (most : ℕ) → AreFit most (D.image devices.old.disk.now) → AreFit most (D.image devices.new.disk.now) }
+    ensures fit { IsTrue D.tells → (most : ℕ) → LogFits most signed.now.log → AreFit most (D.image devices.old.disk.now)
+        → AreFit most (D.image devices.new.disk.now) }
 {
     if store.has_log(epoch, signed.dealer) {
         return Ok(());
+    }
+    if !has_room(&signed.log) {
+        return Err(Stop::Fault(Fault::NoMemory));
     }
     let log = signed.log.copy(alloc)?;
     store.append_log(alloc, devices, epoch, signed.dealer, height, log)?;
@@ -95,7 +106,7 @@ fn record<Dir: Directory + Drop, D: Disk, X: SecretStore>(
 
 /// Offers this node's log no more, once a block carries it (`without_own_log`).
 fn clear_own<Dir: Directory + Drop>(me: Key, life: &mut Life<Dir>, dealer: Key)
-    ensures rest { life.new ≡ record life.old { dealer = life.new.dealer } }
+    ensures rest { life.new ≡ record life.old { dealer = cleared_of me dealer life.old.dealer } }
     ensures cleared { (c : Fixed Dir) (beside : Beside Dir) (fence : Readiness) → c.me ≡ me
         → live_of beside fence life.new ≡ blocks.without_own_log c dealer (live_of beside fence life.old) }
 {
@@ -111,27 +122,31 @@ fn clear_own<Dir: Directory + Drop>(me: Key, life: &mut Life<Dir>, dealer: Key)
 pub(crate) fn observe<C: Ceremony, Dir: Directory + Drop, D: Disk, X: SecretStore>(
     alloc: Global,
     ceremony: &C,
-    me: Key,
+    terms: &Terms,
     life: &mut Life<Dir>,
     devices: &mut Devices<'_, D, X>,
     block: &Block<Dir>,
 ) -> Result<(), Stop>
-    requires includes { life.old.stage ≡ Including }
-    requires ready { IsTrue D.tells → IsFirm life.old.store.journal (D.files devices.old.disk.now) (D.image devices.old.disk.now) }
-    ensures ready { OnOk result (IsTrue D.tells → IsFirm life.new.store.journal (D.files devices.new.disk.now) (D.image devices.new.disk.now)) }
-    ensures rest { life.new ≡ record life.old { store = life.new.store; dealer = life.new.dealer } }
-    ensures acts { IsTrue D.tells → IsTrue X.tells → (c : Fixed Dir) (round : Round) (beside : Beside Dir) (fence : Readiness) (out : List Line) → c.me ≡ me
+    requires ready { IsReadyLife D.tells D.files D.image C.ack_of C.deal_of C.check_ack_of terms.now life.old devices.old }
+    ensures ready { OnOk result (IsReadyLife D.tells D.files D.image C.ack_of C.deal_of C.check_ack_of terms.now life.new devices.new) }
+    ensures rest { life.new ≡ record life.old {
+      store = record life.old.store { journal = life.new.store.journal; logs = life.new.store.logs };
+      dealer = life.new.dealer;
+    } }
+    ensures acts { IsTrue D.tells → IsTrue X.tells → (c : Fixed Dir) (round : Round) (beside : Beside Dir) (fence : Readiness) (out : List Line)
+        → c.me ≡ terms.now.me
         → c.rules.check_log_of ≡ C.check_log_of → life.old.round ≡ Some round
         → Makes D.files D.image X.held (blocks.observes c round block.now (live_of beside fence life.old) (option_and_then its_log block.now.payload))
         (ends_in (live_of beside fence life.new) result) devices.old devices.new out out }
-    ensures tells { (c : Fixed Dir) (round : Round) (beside : Beside Dir) (fence : Readiness) (out : List Line) → c.me ≡ me
+    ensures tells { (c : Fixed Dir) (round : Round) (beside : Beside Dir) (fence : Readiness) (out : List Line) → c.me ≡ terms.now.me
         → c.rules.check_log_of ≡ C.check_log_of → life.old.round ≡ Some round
         → Tells (blocks.observes c round block.now (live_of beside fence life.old) (option_and_then its_log block.now.payload))
         (ends_in (live_of beside fence life.new) result) out out }
     ensures moved { Moved D.tells D.made X.made D.faults X.faults devices.old devices.new }
     ensures causes { IfErr result (λ stop. IsCaused stop (Rose (D.faults devices.old.disk.now) (D.faults devices.new.disk.now))
         (Rose (X.faults devices.old.secrets.now) (X.faults devices.new.secrets.now)) (Reached devices.old.fuse devices.new.fuse)) }
-    ensures fit { IsTrue D.tells → (most : ℕ) → AreFit most (D.image devices.old.disk.now) → AreFit most (D.image devices.new.disk.now) }
+    ensures fit { IsTrue D.tells → (most : ℕ) → CarriesWithin most block.now → AreFit most (D.image devices.old.disk.now)
+        → AreFit most (D.image devices.new.disk.now) }
 {
     let Some(round) = &life.round else {
         return Ok(());
@@ -151,7 +166,7 @@ pub(crate) fn observe<C: Ceremony, Dir: Directory + Drop, D: Disk, X: SecretStor
         block.height(),
         signed,
     )?;
-    clear_own(me, life, signed.dealer);
+    clear_own(terms.me, life, signed.dealer);
     Ok(())
 }
 
@@ -165,6 +180,19 @@ fn own_log<Dir: Directory + Drop>(life: &Life<Dir>) -> Option<&SignedDealerLog>
     }
 }
 
+/// A copy of a log as a block carries it, if there is one.
+fn log_of<Dir: Directory>(
+    alloc: Global,
+    log: Option<&SignedDealerLog>,
+) -> Mem<Option<Payload<Dir>>>
+    ensures { IfOk result (λ made. made ≡ option_map log_payload (option_copied log)) }
+{
+    match log {
+        Some(signed) => Ok(Some(Payload::DealerLog(signed.copy(alloc)?))),
+        None => Ok(None),
+    }
+}
+
 /// This node's log, where inclusion offers it and none counts as served (`served_now`).
 fn offered<C: Ceremony, Dir: Directory + Drop>(
     alloc: Global,
@@ -174,12 +202,12 @@ fn offered<C: Ceremony, Dir: Directory + Drop>(
     ensures { IfOk result (λ made. (beside : Beside Dir) (fence : Readiness) → IsSeen inclusion.now beside.inclusion
         → made ≡ option_map log_payload (including.served_now (live_of beside fence life.now))) }
 {
-    if life.stage != Stage::Including || inclusion.served.is_some() {
+    if inclusion.served.is_some() {
         return Ok(None);
     }
-    match own_log(life) {
-        Some(signed) => Ok(Some(Payload::DealerLog(signed.copy(alloc)?))),
-        None => Ok(None),
+    match life.stage {
+        Stage::Including => log_of(alloc, own_log(life)),
+        Stage::Dealing | Stage::Following => Ok(None),
     }
 }
 
@@ -197,6 +225,7 @@ pub(crate) fn serve<C: Ceremony, Dir: Directory + Drop>(
         (λ now. Speaks (including.serves_log c request height (live_of beside fence life.now)) (ends_in (live_of now fence life.now) result)
         out.old.entries out.new.entries) }
     ensures rest { inclusion.new ≡ record inclusion.old { served = inclusion.new.served; told = inclusion.new.told } }
+    ensures unserved { (life.now.stage ≡ Including → ⊥) → inclusion.new.served ≡ inclusion.old.served }
     ensures memory { IfErr result (λ stop. stop ≡ Faulted OutOfMemory) }
 {
     let payload = offered(alloc, life, inclusion)?;
@@ -213,6 +242,24 @@ pub(crate) fn serve<C: Ceremony, Dir: Directory + Drop>(
     Ok(())
 }
 
+/// Whether this node's log counts as served for this height (`is_served_at`).
+fn is_served_at<Dir: Directory + Drop>(
+    life: &Life<Dir>,
+    served: Option<Height>,
+    height: Height,
+) -> bool
+    ensures { (beside : Beside Dir) (fence : Readiness) → beside.inclusion.served ≡ served
+        → result ≡ including.is_served_at height (live_of beside fence life.now) }
+{
+    match life.stage {
+        Stage::Including => match served {
+            Some(at) if at == height => own_log(life).is_some(),
+            _ => false,
+        },
+        Stage::Dealing | Stage::Following => false,
+    }
+}
+
 /// Takes a log back that was served for this height (`releases`).
 pub(crate) fn release<C: Ceremony, Dir: Directory + Drop>(
     life: &Life<Dir>,
@@ -222,11 +269,9 @@ pub(crate) fn release<C: Ceremony, Dir: Directory + Drop>(
     ensures released { (beside : Beside Dir) (fence : Readiness) → IsSeen inclusion.old beside.inclusion
         → IsSeen inclusion.new (including.releases height (live_of beside fence life.now)).inclusion }
     ensures rest { inclusion.new ≡ record inclusion.old { served = inclusion.new.served } }
+    ensures unserved { (life.now.stage ≡ Including → ⊥) → inclusion.new.served ≡ inclusion.old.served }
 {
-    if life.stage == Stage::Including
-        && inclusion.served == Some(height)
-        && own_log(life).is_some()
-    {
+    if is_served_at(life, inclusion.served, height) {
         inclusion.served = None;
     }
 }

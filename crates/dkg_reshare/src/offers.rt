@@ -105,6 +105,7 @@ fn offer_to_itself<C: Ceremony, Dir: Directory + Drop, D: Disk, X: SecretStore>(
     requires half { IsSomeAnd life.old.dealer (λ dealer. (dealer.public ≡ public) × (lookup terms.now.me dealer.privates ≡ Some private)) }
     ensures ready { OnOk result (IsReadyLife D.tells D.files D.image C.ack_of C.deal_of C.check_ack_of terms.now life.new devices.new) }
     ensures rest { life.new ≡ record life.old { store = life.new.store; dealer = life.new.dealer; player = life.new.player } }
+    ensures current { life.new.store.current ≡ life.old.store.current }
     ensures stays { SameHalves life.old.dealer life.new.dealer }
     ensures acts { IsTrue D.tells → IsTrue X.tells → (c : Fixed Dir) (round : Round) (beside : Beside Dir) (fence : Readiness)
         → IsOf terms.now c → AnswersBy C.dealing_of C.ack_of C.check_ack_of c.rules → life.old.round ≡ Some round
@@ -178,6 +179,7 @@ fn offer<C: Ceremony, Dir: Directory + Drop, D: Disk, X: SecretStore>(
     requires half { IsSomeAnd life.old.dealer (λ dealer. (dealer.public ≡ public) × (lookup player dealer.privates ≡ Some private)) }
     ensures ready { OnOk result (IsReadyLife D.tells D.files D.image C.ack_of C.deal_of C.check_ack_of terms.now life.new devices.new) }
     ensures rest { life.new ≡ record life.old { store = life.new.store; dealer = life.new.dealer; player = life.new.player } }
+    ensures current { life.new.store.current ≡ life.old.store.current }
     ensures stays { SameHalves life.old.dealer life.new.dealer }
     ensures acts { IsTrue D.tells → IsTrue X.tells → (c : Fixed Dir) (round : Round) (beside : Beside Dir) (fence : Readiness)
         → IsOf terms.now c → AnswersBy C.dealing_of C.ack_of C.check_ack_of c.rules → life.old.round ≡ Some round
@@ -225,6 +227,7 @@ fn offer_all<C: Ceremony, Dir: Directory + Drop, D: Disk, X: SecretStore>(
         unsent.items) }
     ensures ready { OnOk result (IsReadyLife D.tells D.files D.image C.ack_of C.deal_of C.check_ack_of terms.now life.new devices.new) }
     ensures rest { life.new ≡ record life.old { store = life.new.store; dealer = life.new.dealer; player = life.new.player } }
+    ensures current { life.new.store.current ≡ life.old.store.current }
     ensures acts { IsTrue D.tells → IsTrue X.tells → (c : Fixed Dir) (round : Round) (dealer : Dealer) (beside : Beside Dir) (fence : Readiness)
         → IsOf terms.now c → AnswersBy C.dealing_of C.ack_of C.check_ack_of c.rules → life.old.round ≡ Some round → life.old.dealer ≡ Some dealer
         → Makes D.files D.image X.held (dealing.offers c round dealer.public (halves_of unsent.items) (live_of beside fence life.old))
@@ -262,6 +265,7 @@ pub(crate) fn deal<C: Ceremony, Dir: Directory + Drop, D: Disk, X: SecretStore>(
     requires ready { IsReadyLife D.tells D.files D.image C.ack_of C.deal_of C.check_ack_of terms.now life.old devices.old }
     ensures ready { OnOk result (IsReadyLife D.tells D.files D.image C.ack_of C.deal_of C.check_ack_of terms.now life.new devices.new) }
     ensures rest { life.new ≡ record life.old { store = life.new.store; dealer = life.new.dealer; player = life.new.player } }
+    ensures current { life.new.store.current ≡ life.old.store.current }
     ensures acts { IsTrue D.tells → IsTrue X.tells → (c : Fixed Dir) (beside : Beside Dir) (fence : Readiness)
         → IsOf terms.now c → AnswersBy C.dealing_of C.ack_of C.check_ack_of c.rules
         → Makes D.files D.image X.held (dealing.deals c (live_of beside fence life.old))

@@ -1,5 +1,5 @@
 //! The opening of a life: the store, the line with what it restored, and the setup of the epoch at the position of its source.
-ghost use Rattle.std.specs.Prelude.{◌≡◌, ◌-◌, ℕ, IfErr, IfOk, IsTrue, None, OnOk, length};
+ghost use Rattle.std.specs.Prelude.{◌≡◌, ◌-◌, ℕ, IfErr, IfOk, IsSome, IsTrue, None, OnOk, length};
 ghost use Rattle.std.specs.Int.NonZero.{non_zero_u32_get};
 ghost use Rattle.dkg_journal.specs.Disk.{Rose};
 ghost use Rattle.dkg_journal.specs.Fuse.{Reached};
@@ -135,6 +135,7 @@ pub(crate) fn open_life<
     requires me { terms.now.me ≡ C.Signer.key_of signer.now }
     ensures ready { IfOk result (λ life. IsReadyLife D.tells D.files D.image C.ack_of C.deal_of C.check_ack_of terms.now life devices.new) }
     ensures word { IfOk result (λ life. life.word ≡ word) }
+    ensures current { IfOk result (λ life. (life.stage ≡ Stage.Following → ⊥) → IsSome life.store.current) }
     ensures readable { IsTrue D.tells → OpensReadable (IsInGrammar (non_zero_u32_get terms.now.limit) (D.files devices.old.disk.now)) result
         out.old.entries out.new.entries
         (D.image devices.old.disk.now) (D.image devices.new.disk.now) (X.held devices.old.secrets.now) (X.held devices.new.secrets.now) }

@@ -1,9 +1,8 @@
 //! The messages of final-block requests.
 //!
 //! Each function here is a part of the relation's `reads_mail`, and names it.
-ghost use Rattle.std.specs.Prelude.{◌≡◌, ◌++◌, ◌∷◌, [], IfErr, IfOk, IfSome, IsSomeAnd, IsTrue, OnErr, OnOk, Some, false, filter, option_map};
+ghost use Rattle.std.specs.Prelude.{◌≡◌, ◌++◌, ◌∷◌, [], IfErr, IfOk, IfSome, IsTrue, OnErr, OnOk, Some, false, filter, option_map};
 ghost use Rattle.std.specs.Int.NonZero.{non_zero_u64_get};
-ghost use Rattle.dkg_ceremony.specs.declared.round.RoundParts.{RoundParts as Round};
 ghost use Rattle.dkg_fence.specs.Readiness.{Readiness};
 ghost use Rattle.dkg_journal.specs.Disk.{Rose};
 ghost use Rattle.dkg_journal.specs.Fuse.{Reached};
@@ -18,8 +17,8 @@ ghost use Rattle.dkg_reshare.specs.Moved.{Moved};
 ghost use Rattle.dkg_reshare.specs.Rules.{IncludesBy, IsRuledBy, SameProvided};
 ghost use Rattle.dkg_artifact.specs.Requested.{is_other};
 ghost use Rattle.dkg_artifact.specs.Scans.{IsAwaiting};
-ghost use Rattle.dkg_reshare.specs.Including.{EndsHand, FeedsHand, fed_of, goes_on};
-ghost use Rattle.dkg_reshare.specs.InclusionOf.{IsReadyInclusion, IsSeen, in_front, result_of};
+ghost use Rattle.dkg_reshare.specs.Including.{EndsHand, FeedsHand, IsHandOf, behind_answer, fed_of, goes_on};
+ghost use Rattle.dkg_reshare.specs.InclusionOf.{IsReadyInclusion, IsSeen, IsSettledInclusion, in_front, result_of};
 
 use crate::answers::answer_none;
 use crate::config::Terms;
@@ -78,9 +77,9 @@ pub(crate) fn ask<
     out: &mut Transcript,
 ) -> Result<(), Stop>
     requires ready { IsReadyLife D.tells D.files D.image C.ack_of C.deal_of C.check_ack_of terms.now life.old devices.old }
-    requires including { IsReadyInclusion C.check_log_of C.dealing_of C.finish_of (non_zero_u64_get terms.now.blocks_per_epoch) life.old inclusion.old }
+    requires including { IsSettledInclusion C.check_log_of C.dealing_of C.finish_of (non_zero_u64_get terms.now.blocks_per_epoch) life.old inclusion.old }
     ensures ready { OnOk result (IsReadyLife D.tells D.files D.image C.ack_of C.deal_of C.check_ack_of terms.now life.new devices.new) }
-    ensures including { OnOk result (IsReadyInclusion C.check_log_of C.dealing_of C.finish_of (non_zero_u64_get terms.now.blocks_per_epoch) life.new
+    ensures including { OnOk result (IsSettledInclusion C.check_log_of C.dealing_of C.finish_of (non_zero_u64_get terms.now.blocks_per_epoch) life.new
         inclusion.new) }
     ensures same { life.new ≡ life.old }
     ensures provider { IsTrue P.tells → SameProvided (P.participants_of provider.old) (P.participants_of provider.new)
@@ -169,29 +168,33 @@ fn go_on<
     out: &mut Transcript,
 ) -> Result<(), Stop>
     requires ready { IsReadyLife D.tells D.files D.image C.ack_of C.deal_of C.check_ack_of terms.now life.old devices.old }
-    requires including { IsReadyInclusion C.check_log_of C.dealing_of C.finish_of (non_zero_u64_get terms.now.blocks_per_epoch) life.old inclusion.old }
-    requires hand { (fed ≡ Fed.Need → ⊥) → IsSomeAnd inclusion.old.hand (λ hand. hand.request.number ≡ request) }
+    requires needs { fed ≡ Fed.Need → IsSettledInclusion C.check_log_of C.dealing_of C.finish_of (non_zero_u64_get terms.now.blocks_per_epoch) life.old
+        inclusion.old }
+    requires answers { IsReadyInclusion C.check_log_of C.dealing_of C.finish_of (non_zero_u64_get terms.now.blocks_per_epoch) life.old
+        (behind_answer fed inclusion.old) }
+    requires hand { (fed ≡ Fed.Need → ⊥) → IsHandOf life.old inclusion.old request }
     ensures ready { OnOk result (IsReadyLife D.tells D.files D.image C.ack_of C.deal_of C.check_ack_of terms.now life.new devices.new) }
-    ensures including { OnOk result (IsReadyInclusion C.check_log_of C.dealing_of C.finish_of (non_zero_u64_get terms.now.blocks_per_epoch) life.new
+    ensures including { OnOk result (IsSettledInclusion C.check_log_of C.dealing_of C.finish_of (non_zero_u64_get terms.now.blocks_per_epoch) life.new
         inclusion.new) }
     ensures same { life.new ≡ life.old }
     ensures provider { IsTrue P.tells → SameProvided (P.participants_of provider.old) (P.participants_of provider.new)
         (P.directory_of provider.old) (P.directory_of provider.new) }
     ensures disk { devices.new.disk.now ≡ devices.old.disk.now }
     ensures held { X.held devices.new.secrets.now ≡ X.held devices.old.secrets.now }
-    ensures acts { IsTrue D.tells → IsTrue X.tells → IsTrue P.tells → (c : Fixed Dir) (round : Round) (beside : Beside Dir) (fence : Readiness)
-        → IsOf terms.now c → ReadsToday c
+    ensures acts { IsTrue D.tells → IsTrue X.tells → IsTrue P.tells → (c : Fixed Dir) (beside : Beside Dir) (fence : Readiness) → IsOf terms.now c
+        → ReadsToday c
         → IsRuledBy C.round_of C.deal_of C.dealing_of C.ack_of C.check_ack_of C.sign_log_of C.bears_ack_of C.share_public_of C.partial_public_of c.rules
         → IncludesBy C.check_log_of C.outcome_of C.finish_of (P.participants_of provider.old) (P.directory_of provider.old) Dir.spelling Dir.matches_of c
-        → life.old.round ≡ Some round → IsSeen inclusion.old beside.inclusion → EndsWith beside (λ i. OnOk result (IsSeen inclusion.new i)) (λ more. more ≡ [])
-        (λ now. Makes D.files D.image X.held (goes_on c round request (fed_of fed) (live_of beside fence life.old)) (ends_in
+        → IsSeen inclusion.old beside.inclusion → EndsWith beside (λ i. OnOk result (IsSeen inclusion.new i)) (λ more. more ≡ [])
+        (λ now. Makes D.files D.image X.held (goes_on c request (fed_of fed) (live_of beside fence life.old)) (ends_in
         (live_of now fence life.new) result)
         devices.old devices.new out.old.entries out.new.entries) }
-    ensures tells { IsTrue P.tells → (c : Fixed Dir) (round : Round) (beside : Beside Dir) (fence : Readiness) → IsOf terms.now c → ReadsToday c
+    ensures tells { IsTrue P.tells → (c : Fixed Dir) (beside : Beside Dir) (fence : Readiness) → IsOf terms.now c
+        → ReadsToday c
         → IsRuledBy C.round_of C.deal_of C.dealing_of C.ack_of C.check_ack_of C.sign_log_of C.bears_ack_of C.share_public_of C.partial_public_of c.rules
         → IncludesBy C.check_log_of C.outcome_of C.finish_of (P.participants_of provider.old) (P.directory_of provider.old) Dir.spelling Dir.matches_of c
-        → life.old.round ≡ Some round → IsSeen inclusion.old beside.inclusion → EndsWith beside (λ i. OnOk result (IsSeen inclusion.new i)) (λ more. more ≡ [])
-        (λ now. Tells (goes_on c round request (fed_of fed) (live_of beside fence life.old)) (ends_in
+        → IsSeen inclusion.old beside.inclusion → EndsWith beside (λ i. OnOk result (IsSeen inclusion.new i)) (λ more. more ≡ [])
+        (λ now. Tells (goes_on c request (fed_of fed) (live_of beside fence life.old)) (ends_in
         (live_of now fence life.new) result) out.old.entries out.new.entries) }
     ensures moved { Moved D.tells D.made X.made D.faults X.faults devices.old devices.new }
     ensures causes { IfErr result (λ stop. IsCaused stop (Rose (D.faults devices.old.disk.now) (D.faults devices.new.disk.now))
@@ -231,9 +234,9 @@ pub(crate) fn feed<
     out: &mut Transcript,
 ) -> Result<(), Stop>
     requires ready { IsReadyLife D.tells D.files D.image C.ack_of C.deal_of C.check_ack_of terms.now life.old devices.old }
-    requires including { IsReadyInclusion C.check_log_of C.dealing_of C.finish_of (non_zero_u64_get terms.now.blocks_per_epoch) life.old inclusion.old }
+    requires including { IsSettledInclusion C.check_log_of C.dealing_of C.finish_of (non_zero_u64_get terms.now.blocks_per_epoch) life.old inclusion.old }
     ensures ready { OnOk result (IsReadyLife D.tells D.files D.image C.ack_of C.deal_of C.check_ack_of terms.now life.new devices.new) }
-    ensures including { OnOk result (IsReadyInclusion C.check_log_of C.dealing_of C.finish_of (non_zero_u64_get terms.now.blocks_per_epoch) life.new
+    ensures including { OnOk result (IsSettledInclusion C.check_log_of C.dealing_of C.finish_of (non_zero_u64_get terms.now.blocks_per_epoch) life.new
         inclusion.new) }
     ensures same { life.new ≡ life.old }
     ensures provider { IsTrue P.tells → SameProvided (P.participants_of provider.old) (P.participants_of provider.new)
@@ -283,9 +286,9 @@ pub(crate) fn end<
     out: &mut Transcript,
 ) -> Result<(), Stop>
     requires ready { IsReadyLife D.tells D.files D.image C.ack_of C.deal_of C.check_ack_of terms.now life.old devices.old }
-    requires including { IsReadyInclusion C.check_log_of C.dealing_of C.finish_of (non_zero_u64_get terms.now.blocks_per_epoch) life.old inclusion.old }
+    requires including { IsSettledInclusion C.check_log_of C.dealing_of C.finish_of (non_zero_u64_get terms.now.blocks_per_epoch) life.old inclusion.old }
     ensures ready { OnOk result (IsReadyLife D.tells D.files D.image C.ack_of C.deal_of C.check_ack_of terms.now life.new devices.new) }
-    ensures including { OnOk result (IsReadyInclusion C.check_log_of C.dealing_of C.finish_of (non_zero_u64_get terms.now.blocks_per_epoch) life.new
+    ensures including { OnOk result (IsSettledInclusion C.check_log_of C.dealing_of C.finish_of (non_zero_u64_get terms.now.blocks_per_epoch) life.new
         inclusion.new) }
     ensures same { life.new ≡ life.old }
     ensures provider { IsTrue P.tells → SameProvided (P.participants_of provider.old) (P.participants_of provider.new)
@@ -347,9 +350,9 @@ pub(crate) fn cancel<
     out: &mut Transcript,
 ) -> Result<(), Stop>
     requires ready { IsReadyLife D.tells D.files D.image C.ack_of C.deal_of C.check_ack_of terms.now life.old devices.old }
-    requires including { IsReadyInclusion C.check_log_of C.dealing_of C.finish_of (non_zero_u64_get terms.now.blocks_per_epoch) life.old inclusion.old }
+    requires including { IsSettledInclusion C.check_log_of C.dealing_of C.finish_of (non_zero_u64_get terms.now.blocks_per_epoch) life.old inclusion.old }
     ensures ready { OnOk result (IsReadyLife D.tells D.files D.image C.ack_of C.deal_of C.check_ack_of terms.now life.new devices.new) }
-    ensures including { OnOk result (IsReadyInclusion C.check_log_of C.dealing_of C.finish_of (non_zero_u64_get terms.now.blocks_per_epoch) life.new
+    ensures including { OnOk result (IsSettledInclusion C.check_log_of C.dealing_of C.finish_of (non_zero_u64_get terms.now.blocks_per_epoch) life.new
         inclusion.new) }
     ensures same { life.new ≡ life.old }
     ensures provider { IsTrue P.tells → SameProvided (P.participants_of provider.old) (P.participants_of provider.new)
@@ -402,9 +405,9 @@ pub(crate) fn work<
     out: &mut Transcript,
 ) -> Result<(), Stop>
     requires ready { IsReadyLife D.tells D.files D.image C.ack_of C.deal_of C.check_ack_of terms.now life.old devices.old }
-    requires including { IsReadyInclusion C.check_log_of C.dealing_of C.finish_of (non_zero_u64_get terms.now.blocks_per_epoch) life.old inclusion.old }
+    requires including { IsSettledInclusion C.check_log_of C.dealing_of C.finish_of (non_zero_u64_get terms.now.blocks_per_epoch) life.old inclusion.old }
     ensures ready { OnOk result (IsReadyLife D.tells D.files D.image C.ack_of C.deal_of C.check_ack_of terms.now life.new devices.new) }
-    ensures including { OnOk result (IsReadyInclusion C.check_log_of C.dealing_of C.finish_of (non_zero_u64_get terms.now.blocks_per_epoch) life.new
+    ensures including { OnOk result (IsSettledInclusion C.check_log_of C.dealing_of C.finish_of (non_zero_u64_get terms.now.blocks_per_epoch) life.new
         inclusion.new) }
     ensures same { life.new ≡ life.old }
     ensures provider { IsTrue P.tells → SameProvided (P.participants_of provider.old) (P.participants_of provider.new)

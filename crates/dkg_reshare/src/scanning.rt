@@ -1,7 +1,7 @@
 //! Requests are read one at a time, over the ancestry that they are fed: its logs fill in for dealers that have no recorded one.
 //!
 //! Each function here is a part of the relation's `advanced`, and names it.
-ghost use Rattle.std.specs.Prelude.{◌≡◌, ◌↔◌, ◌⊎◌, [], IfErr, IfOk, IsTrue, None, OnOk, Some, false, option_map};
+ghost use Rattle.std.specs.Prelude.{◌≡◌, ◌↔◌, ◌⊎◌, [], IfErr, IfOk, IsSome, IsTrue, None, OnOk, Some, false, option_map};
 ghost use Rattle.std.specs.Int.NonZero.{non_zero_u64_get};
 ghost use Rattle.dkg_ceremony.specs.declared.round.RoundParts.{RoundParts as Round};
 ghost use Rattle.dkg_fence.specs.Readiness.{Readiness};
@@ -17,12 +17,11 @@ ghost use Rattle.dkg_reshare.specs.Made.{Makes, Tells};
 ghost use Rattle.dkg_reshare.specs.Moved.{Moved};
 ghost use Rattle.dkg_reshare.specs.Rules.{IncludesBy, IsRuledBy, SameProvided};
 ghost use Rattle.dkg_ceremony.specs.Schedule.{bounds_at};
-ghost use Rattle.dkg_artifact.specs.Ancestries.{Stands};
 ghost use Rattle.dkg_artifact.specs.Scans.{IsAwaiting};
-ghost use Rattle.dkg_core.specs.Courses.{Goes};
 ghost use Rattle.dkg_core.specs.Logs as recorded;
-ghost use Rattle.dkg_reshare.specs.Including.{fed_all, fed_of, on_fed};
-ghost use Rattle.dkg_reshare.specs.InclusionOf.{IsReadyInclusion, IsSeen, request_of, tip_of};
+ghost use Rattle.dkg_reshare.specs.Including.{fed_of, behind_first, on_fed, reads_next};
+ghost use Rattle.dkg_reshare.specs.Scanned.{IsFed, fed_all};
+ghost use Rattle.dkg_reshare.specs.InclusionOf.{IsReadyInclusion, IsSeen, IsSettledInclusion, request_of, tip_of};
 ghost use Rattle.dkg_reshare.specs.Steps.{AreBoundsAt};
 ghost use Rattle.dkg_reshare.specs.declared.life.Stage.TheVariants.{Including};
 
@@ -39,7 +38,7 @@ use dkg_ceremony::{Bounds, Ceremony, DealerLog, Epocher, Round};
 use dkg_journal::Disk;
 use dkg_store::{Devices, SecretStore};
 use dkg_types::{Directory, ParticipantsProvider, Transcript};
-use dkg_values::{Map, Mem, Value};
+use dkg_values::{Map, Mem, NoMemory, Value};
 use std::alloc::Global;
 
 /// The bounds of the epoch that is awaited while inclusion lasts.
@@ -117,7 +116,7 @@ fn read<C: Ceremony, Dir: Directory + Drop>(
         ≡ non_zero_u64_get terms.now.blocks_per_epoch
         → c.rules.check_log_of ≡ C.check_log_of → including.read_of c round.now (live_of beside fence life.now) (request_of request.now) ≡ fed_of it.1) }
     // While it needs more, its ancestry goes on, and the scan stands behind what it was fed.
-    ensures stands { IfOk result (λ it. it.1 ≡ Fed.Need → (request.now.ended ≡ false) × Stands C.check_log_of round.now
+    ensures stands { IfOk result (λ it. it.1 ≡ Fed.Need → (request.now.ended ≡ false) × IsFed C.check_log_of round.now
         (bounds_at (non_zero_u64_get terms.now.blocks_per_epoch) (awaited_of life.now)) (option_map tip_of life.now.tip) request.now.blocks it.0) }
 {
     let bounds = bounds_of(terms, life);
@@ -140,14 +139,15 @@ fn read<C: Ceremony, Dir: Directory + Drop>(
 fn filled_by(alloc: Global, logs: Map<DealerLog>, others: &Map<DealerLog>) -> Mem<Map<DealerLog>>
     ensures { IfOk result (λ made. made ≡ recorded.filled_by logs others.now) }
 {
-    let mut pairs = Vec::with_capacity(alloc, logs.as_slice().len())?;
+    let mut pairs = Vec::new(alloc);
     for (dealer, log) in logs.as_slice() {
         pairs.push((*dealer, log.copy(alloc)?))?;
     }
     for (dealer, log) in others.as_slice() {
-        if logs.get(*dealer).is_none() {
-            pairs.push((*dealer, log.copy(alloc)?))?;
-        }
+        pairs.push((*dealer, log.copy(alloc)?))?;
+    }
+    if pairs.len() > u32::MAX as usize {
+        return Err(NoMemory);
     }
     Map::from_any(alloc, pairs)
 }
@@ -175,6 +175,13 @@ fn ask_for<
     requires including { IsReadyInclusion C.check_log_of C.dealing_of C.finish_of (non_zero_u64_get terms.now.blocks_per_epoch) life.old inclusion.old }
     requires includes { life.old.stage ≡ Including }
     requires free { (inclusion.old.hand ≡ None) × (inclusion.old.verification.running ≡ None) }
+    requires round { IsSome life.old.round }
+    ensures rest { inclusion.new ≡ record inclusion.old {
+      verification = inclusion.new.verification;
+      waiter = inclusion.new.waiter;
+      cache = inclusion.new.cache;
+      told = inclusion.new.told;
+    } }
     ensures ready { OnOk result (IsReadyLife D.tells D.files D.image C.ack_of C.deal_of C.check_ack_of terms.now life.new devices.new) }
     ensures including { OnOk result (IsReadyInclusion C.check_log_of C.dealing_of C.finish_of (non_zero_u64_get terms.now.blocks_per_epoch) life.new
         inclusion.new) }
@@ -249,6 +256,13 @@ pub(crate) fn take_answer<
     requires including { IsReadyInclusion C.check_log_of C.dealing_of C.finish_of (non_zero_u64_get terms.now.blocks_per_epoch) life.old inclusion.old }
     requires includes { life.old.stage ≡ Including }
     requires free { (inclusion.old.hand ≡ None) × (inclusion.old.verification.running ≡ None) }
+    requires round { IsSome life.old.round }
+    ensures rest { inclusion.new ≡ record inclusion.old {
+      verification = inclusion.new.verification;
+      waiter = inclusion.new.waiter;
+      cache = inclusion.new.cache;
+      told = inclusion.new.told;
+    } }
     ensures ready { OnOk result (IsReadyLife D.tells D.files D.image C.ack_of C.deal_of C.check_ack_of terms.now life.new devices.new) }
     ensures including { OnOk result (IsReadyInclusion C.check_log_of C.dealing_of C.finish_of (non_zero_u64_get terms.now.blocks_per_epoch) life.new
         inclusion.new) }
@@ -306,6 +320,7 @@ fn read_first<
     requires ready { IsReadyLife D.tells D.files D.image C.ack_of C.deal_of C.check_ack_of terms.now life.old devices.old }
     requires including { IsReadyInclusion C.check_log_of C.dealing_of C.finish_of (non_zero_u64_get terms.now.blocks_per_epoch) life.old inclusion.old }
     requires may { (life.old.stage ≡ Including) × (inclusion.old.hand ≡ None) × (inclusion.old.verification.running ≡ None) }
+    ensures left { OnOk result (IsSome life.old.round → inclusion.new.requests ≡ behind_first inclusion.old.requests) }
     ensures ready { OnOk result (IsReadyLife D.tells D.files D.image C.ack_of C.deal_of C.check_ack_of terms.now life.new devices.new) }
     ensures including { OnOk result (IsReadyInclusion C.check_log_of C.dealing_of C.finish_of (non_zero_u64_get terms.now.blocks_per_epoch) life.new
         inclusion.new) }
@@ -314,19 +329,20 @@ fn read_first<
         (P.directory_of provider.old) (P.directory_of provider.new) }
     ensures disk { devices.new.disk.now ≡ devices.old.disk.now }
     ensures held { X.held devices.new.secrets.now ≡ X.held devices.old.secrets.now }
-    ensures acts { IsTrue D.tells → IsTrue X.tells → IsTrue P.tells → (c : Fixed Dir) (round : Round) (beside : Beside Dir) (fence : Readiness)
-        → IsOf terms.now c → ReadsToday c
+    ensures acts { IsTrue D.tells → IsTrue X.tells → IsTrue P.tells → (c : Fixed Dir) (beside : Beside Dir) (fence : Readiness) → IsOf terms.now c
+        → ReadsToday c
         → IsRuledBy C.round_of C.deal_of C.dealing_of C.ack_of C.check_ack_of C.sign_log_of C.bears_ack_of C.share_public_of C.partial_public_of c.rules
         → IncludesBy C.check_log_of C.outcome_of C.finish_of (P.participants_of provider.old) (P.directory_of provider.old) Dir.spelling Dir.matches_of c
-        → life.old.round ≡ Some round → IsSeen inclusion.old beside.inclusion → EndsWith beside (λ i. OnOk result (IsSeen inclusion.new i)) (λ more. more ≡ [])
-        (λ now. Makes D.files D.image X.held (including.reads_first c round (λ st. Goes st) (live_of beside fence life.old)) (ends_in
+        → IsSeen inclusion.old beside.inclusion → EndsWith beside (λ i. OnOk result (IsSeen inclusion.new i)) (λ more. more ≡ [])
+        (λ now. Makes D.files D.image X.held (reads_next c (live_of beside fence life.old)) (ends_in
         (live_of now fence life.new) result)
         devices.old devices.new out.old.entries out.new.entries) }
-    ensures tells { IsTrue P.tells → (c : Fixed Dir) (round : Round) (beside : Beside Dir) (fence : Readiness) → IsOf terms.now c → ReadsToday c
+    ensures tells { IsTrue P.tells → (c : Fixed Dir) (beside : Beside Dir) (fence : Readiness) → IsOf terms.now c
+        → ReadsToday c
         → IsRuledBy C.round_of C.deal_of C.dealing_of C.ack_of C.check_ack_of C.sign_log_of C.bears_ack_of C.share_public_of C.partial_public_of c.rules
         → IncludesBy C.check_log_of C.outcome_of C.finish_of (P.participants_of provider.old) (P.directory_of provider.old) Dir.spelling Dir.matches_of c
-        → life.old.round ≡ Some round → IsSeen inclusion.old beside.inclusion → EndsWith beside (λ i. OnOk result (IsSeen inclusion.new i)) (λ more. more ≡ [])
-        (λ now. Tells (including.reads_first c round (λ st. Goes st) (live_of beside fence life.old)) (ends_in
+        → IsSeen inclusion.old beside.inclusion → EndsWith beside (λ i. OnOk result (IsSeen inclusion.new i)) (λ more. more ≡ [])
+        (λ now. Tells (reads_next c (live_of beside fence life.old)) (ends_in
         (live_of now fence life.new) result) out.old.entries out.new.entries) }
     ensures moved { Moved D.tells D.made X.made D.faults X.faults devices.old devices.new }
     ensures causes { IfErr result (λ stop. IsCaused stop (Rose (D.faults devices.old.disk.now) (D.faults devices.new.disk.now))
@@ -386,7 +402,7 @@ pub(crate) fn advance<
     requires ready { IsReadyLife D.tells D.files D.image C.ack_of C.deal_of C.check_ack_of terms.now life.old devices.old }
     requires including { IsReadyInclusion C.check_log_of C.dealing_of C.finish_of (non_zero_u64_get terms.now.blocks_per_epoch) life.old inclusion.old }
     ensures ready { OnOk result (IsReadyLife D.tells D.files D.image C.ack_of C.deal_of C.check_ack_of terms.now life.new devices.new) }
-    ensures including { OnOk result (IsReadyInclusion C.check_log_of C.dealing_of C.finish_of (non_zero_u64_get terms.now.blocks_per_epoch) life.new
+    ensures including { OnOk result (IsSettledInclusion C.check_log_of C.dealing_of C.finish_of (non_zero_u64_get terms.now.blocks_per_epoch) life.new
         inclusion.new) }
     ensures same { life.new ≡ life.old }
     ensures provider { IsTrue P.tells → SameProvided (P.participants_of provider.old) (P.participants_of provider.new)

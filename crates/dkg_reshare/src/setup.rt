@@ -1,7 +1,7 @@
 //! Setup of an epoch: its info, share and seed, their commit and registration, the prune, and this node's parts in the round.
 //!
 //! Each function here is a part of the relation's `setup`, and names it.
-ghost use Rattle.std.specs.Prelude.{◌≡◌, ◌<◌, ◌≤◌, ◌-◌, ◌^◌, ◌++◌, ◌∷◌, ◌&&◌, ◌||◌, [], ⊤, ℕ, Contains, IfErr, IfOk, IfSome, IsTrue, List, Option, Some, None, OnErr, OnOk, Ok, is_none, is_some, option_map, true};
+ghost use Rattle.std.specs.Prelude.{◌≡◌, ◌<◌, ◌≤◌, ◌-◌, ◌^◌, ◌++◌, ◌∷◌, ◌&&◌, ◌||◌, [], ⊤, ℕ, Contains, IfErr, IfOk, IfSome, IsSome, IsTrue, List, Option, Some, None, OnErr, OnOk, Ok, is_none, is_some, option_map, true};
 ghost use Rattle.std.specs.FinMap as maps;
 ghost use Rattle.std.specs.FinMap.{FinMap};
 ghost use Rattle.std.specs.Int.NonZero.{non_zero_u32_get, non_zero_u64_get};
@@ -353,6 +353,7 @@ fn commit_new<R: Registrar, Dir: Directory + Drop, D: Disk, X: SecretStore>(
 ) -> Result<(), Stop>
     ensures disk { devices.new.disk.now ≡ devices.old.disk.now }
     ensures rest { life.new ≡ record life.old { store = record life.old.store { current = life.new.store.current } } }
+    ensures current { OnOk result ((standing ≡ Standing.WasCommitted → IsSome life.old.store.current) → IsSome life.new.store.current) }
     ensures acts { IsTrue D.tells → IsTrue X.tells → (c : Fixed Dir) (beside : Beside Dir) → c.me ≡ me
         → EndsBeside beside (λ more. OnOk result (Took R.tells (R.taken registrar.old) (R.taken registrar.new) more))
         (λ now. Makes D.files D.image X.held (setup.commits_new (standing_of standing) c info.now secrets.now.seed secrets.now.share (live_of beside fence.old life.old))
@@ -385,6 +386,7 @@ fn prune<Dir: Directory + Drop, D: Disk, X: SecretStore>(
     requires { IsTrue D.tells → IsFirm life.old.store.journal (D.files devices.old.disk.now) (D.image devices.old.disk.now) }
     ensures open { OnOk result (IsTrue D.tells → IsFirm life.new.store.journal (D.files devices.new.disk.now) (D.image devices.new.disk.now)) }
     ensures rest { life.new ≡ record life.old { store = life.new.store } }
+    ensures current { OnOk result (life.new.store.current ≡ life.old.store.current) }
     ensures acts { IsTrue D.tells → IsTrue X.tells → (beside : Beside Dir) (fence : Readiness) (out : List Line)
         → Makes D.files D.image X.held (setup.prunes min (live_of beside fence life.old)) (ends_in (live_of beside fence life.new) result)
         devices.old devices.new out out }
@@ -562,7 +564,7 @@ fn draw_up<C: Ceremony, Dir: Directory + Drop>(
     requires valid { refusal_of life.old.epoch (non_zero_u32_get terms.now.limit) info.now ≡ None }
     ensures rest { life.new ≡ record life.old { stage = life.new.stage; round = life.new.round; dealer = life.new.dealer; player = life.new.player } }
     ensures sits { OnOk result (IsSeated C.ack_of terms.now.me life.new × IsDealing C.deal_of C.check_ack_of terms.now.me life.new
-        × IsWithin (non_zero_u32_get terms.now.limit) life.new.round × (life.new.stage ≡ stage_in phase)) }
+        × IsWithin (non_zero_u32_get terms.now.limit) life.new.round × IsSome life.new.round × (life.new.stage ≡ stage_in phase)) }
     ensures speaks { (c : Fixed Dir) (beside : Beside Dir) (fence : Readiness) → IsFresh beside.inclusion → IsOf terms.now c
         → IsRuledBy C.round_of C.deal_of C.dealing_of C.ack_of C.check_ack_of C.sign_log_of C.bears_ack_of C.share_public_of C.partial_public_of c.rules
         → StandsIn c (live_of beside fence life.old) phase → Speaks (setup.draws_up c (setup.participants_of info.now) (Some info.now.output)
@@ -652,8 +654,10 @@ fn set_up_by<C: Ceremony, R: Registrar, Dir: Directory + Drop, D: Disk, X: Secre
 ) -> Result<(), Stop>
     requires me { terms.now.me ≡ C.Signer.key_of signer.now }
     requires open { IsTrue D.tells → IsFirm life.old.store.journal (D.files devices.old.disk.now) (D.image devices.old.disk.now) }
+    requires known { standing ≡ Standing.WasCommitted → IsSome life.old.store.current }
     ensures done { OnOk result (IsSetUp D.tells D.files D.image C.ack_of C.deal_of C.check_ack_of terms.now.me (non_zero_u32_get terms.now.limit) phase life.new devices.new) }
     ensures rest { life.new ≡ record life.old { store = life.new.store; stage = life.new.stage; round = life.new.round; dealer = life.new.dealer; player = life.new.player } }
+    ensures current { OnOk result (IsSome life.new.store.current) }
     ensures acts { IsTrue D.tells → IsTrue X.tells → (c : Fixed Dir) (beside : Beside Dir) → IsFresh beside.inclusion → IsIn terms.now life.old.word c → ReadsToday c
         → IsRuledBy C.round_of C.deal_of C.dealing_of C.ack_of C.check_ack_of C.sign_log_of C.bears_ack_of C.share_public_of C.partial_public_of c.rules → StandsIn c (live_of beside fence.old life.old) phase
         → EndsBeside beside (λ more. OnOk result (Took R.tells (R.taken registrar.old) (R.taken registrar.new) more))
@@ -757,6 +761,7 @@ pub(crate) fn set_up<
     requires uncommitted { life.old.store.current ≡ None }
     ensures ready { OnOk result (IsReadyLife D.tells D.files D.image C.ack_of C.deal_of C.check_ack_of terms.now life.new devices.new) }
     ensures word { life.new.word ≡ life.old.word }
+    ensures current { OnOk result ((life.new.stage ≡ Stage.Following → ⊥) → IsSome life.new.store.current) }
     ensures acts { IsTrue D.tells → IsTrue X.tells → (c : Fixed Dir) (beside : Beside Dir) → IsFresh beside.inclusion → IsLent terms.now (B.answers source.now) life.old.word c → ReadsToday c
         → IsRuledBy C.round_of C.deal_of C.dealing_of C.ack_of C.check_ack_of C.sign_log_of C.bears_ack_of C.share_public_of C.partial_public_of c.rules
         → EndsBeside beside (λ more. OnOk result (Took R.tells (R.taken registrar.old) (R.taken registrar.new) more))
@@ -830,6 +835,7 @@ pub(crate) fn set_up_committed<
     requires awaited { info.now.epoch ≡ epoch_above terms.now life.old.tip }
     ensures ready { OnOk result (IsReadyLife D.tells D.files D.image C.ack_of C.deal_of C.check_ack_of terms.now life.new devices.new) }
     ensures word { life.new.word ≡ life.old.word }
+    ensures current { OnOk result (IsSome life.new.store.current) }
     ensures acts { IsTrue D.tells → IsTrue X.tells → (c : Fixed Dir) (beside : Beside Dir) → IsFresh beside.inclusion → IsIn terms.now life.old.word c → ReadsToday c
         → IsRuledBy C.round_of C.deal_of C.dealing_of C.ack_of C.check_ack_of C.sign_log_of C.bears_ack_of C.share_public_of C.partial_public_of c.rules
         → EndsBeside beside (λ more. OnOk result (Took R.tells (R.taken registrar.old) (R.taken registrar.new) more))

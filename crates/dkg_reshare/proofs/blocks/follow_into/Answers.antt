@@ -15,16 +15,16 @@ use Rattle.dkg_reshare.proofs.Beside.{none_beside, then_beside, then_well, took_
 use Rattle.dkg_reshare.proofs.Blaming.{result_caused_by}
 use Rattle.dkg_reshare.proofs.Caused.{caused_around, rose_around}
 use Rattle.dkg_reshare.proofs.Kept.{moved_then}
-use Rattle.dkg_reshare.proofs.blocks.take_over.Goals as goal
+use Rattle.dkg_reshare.proofs.blocks.follow_into.Goals as goal
 
 pub returns-in_err-secrets-clause-acts : goal.returns-in_err-secrets-clause-acts
-returns-in_err-secrets-clause-acts g c = λ disk secrets fixed beside of reads by.
+returns-in_err-secrets-clause-acts g c = λ disk secrets fixed beside fresh of reads by.
     let p = err_from_is_err_and c.from_residual.result c.from_residual.ensures.1 in
     rw (p.1, p.2) (none_beside beside _ _ tt (unread_makes fixed c.args.block.now c.args.info.now (live_of beside c.args.fence.now c.args.life.now) c.in_err-secrets.field-0.0
     (c.in_err-secrets.ensures.acts disk secrets fixed of.of.me of.word_is by.shares reads c.args.out.now.entries)))
 
 pub returns-in_err-secrets-clause-tells : goal.returns-in_err-secrets-clause-tells
-returns-in_err-secrets-clause-tells g c = λ fixed beside of reads by.
+returns-in_err-secrets-clause-tells g c = λ fixed beside fresh of reads by.
     let p = err_from_is_err_and c.from_residual.result c.from_residual.ensures.1 in
     rw (p.1, p.2) (none_beside beside _ _ tt (unread_told fixed c.args.block.now c.args.info.now (live_of beside c.args.fence.now c.args.life.now) c.in_err-secrets.field-0.0
     (c.in_err-secrets.ensures.unread fixed c.args.out.now.entries)))
@@ -38,7 +38,7 @@ pub returns-in_err-secrets-clause-fit : goal.returns-in_err-secrets-clause-fit
 returns-in_err-secrets-clause-fit g c = λ told fit. rw c.secrets_of.ensures.disk fit
 
 pub returns-in_err-commit_and_register-clause-acts : goal.returns-in_err-commit_and_register-clause-acts
-returns-in_err-commit_and_register-clause-acts g c = λ disk secrets fixed beside of reads by.
+returns-in_err-commit_and_register-clause-acts g c = λ disk secrets fixed beside fresh of reads by.
     let p = err_from_is_err_and c.from_residual-in_err-commit_and_register.result c.from_residual-in_err-commit_and_register.ensures.1 in
     rw (p.1, p.2) (none_beside beside _ _ tt (makes_as (as_it_was fixed c.args.block.now c.args.info.now beside c.args.fence.now c.args.life.now c.secrets_of.new.life c.secrets_of.ensures.life) _
     (uncommitted_makes fixed c.args.block.now c.args.info.now (live_of beside c.args.fence.now c.secrets_of.new.life) c.in_ok-secrets.secrets.share c.in_ok-secrets.secrets.seed
@@ -46,7 +46,7 @@ returns-in_err-commit_and_register-clause-acts g c = λ disk secrets fixed besid
     (c.in_err-commit_and_register.ensures.acts disk secrets fixed beside of.of.me))))
 
 pub returns-in_err-commit_and_register-clause-tells : goal.returns-in_err-commit_and_register-clause-tells
-returns-in_err-commit_and_register-clause-tells g c = λ fixed beside of reads by.
+returns-in_err-commit_and_register-clause-tells g c = λ fixed beside fresh of reads by.
     let p = err_from_is_err_and c.from_residual-in_err-commit_and_register.result c.from_residual-in_err-commit_and_register.ensures.1 in
     rw (p.1, p.2) (none_beside beside _ _ tt (tells_as (as_it_was fixed c.args.block.now c.args.info.now beside c.args.fence.now c.args.life.now c.secrets_of.new.life c.secrets_of.ensures.life) _
     (uncommitted_told fixed c.args.block.now c.args.info.now (live_of beside c.args.fence.now c.secrets_of.new.life) c.in_ok-secrets.secrets.share c.in_ok-secrets.secrets.seed
@@ -80,7 +80,7 @@ pub set_up_committed-requires-clause-awaited : goal.set_up_committed-requires-cl
 set_up_committed-requires-clause-awaited g c = c.requires.next ∙ ap (λ (t : Tip). epoch_of (non_zero_u64_get c.args.terms.now.blocks_per_epoch) (t.height + 1)) (sym c.tip_of.ensures)
 
 pub returns-clause-acts : goal.returns-clause-acts
-returns-clause-acts g c = λ disk secrets fixed beside of reads by.
+returns-clause-acts g c = λ disk secrets fixed beside fresh of reads by.
     let share = c.in_ok-secrets.secrets.share in
     let word : c.commit_and_register.new.life.word ≡ c.args.life.now.word = ap (λ (l : Life g.row.Dir.Denot). l.word) c.commit_and_register.ensures.rest ∙ ap (λ (l : Life g.row.Dir.Denot). l.word) c.secrets_of.ensures.life in
     then_beside beside c.args.terms.now.me c.args.info.now share
@@ -92,10 +92,10 @@ returns-clause-acts g c = λ disk secrets fixed beside of reads by.
     (live_of (with_scheme_of c.args.terms.now.me c.args.info.now share beside) c.commit_and_register.new.fence c.commit_and_register.new.life) _
     (c.in_ok-commit_and_register.ensures.acts disk secrets fixed beside of.of.me)
     (makes_as (set_up_behind fixed c.args.block.now (with_scheme_of c.args.terms.now.me c.args.info.now share beside) c.commit_and_register.new.fence c.commit_and_register.new.life c.tip_of.result c.tip_of.ensures) _ made)))
-    (c.set_up_committed.ensures.acts disk secrets fixed (with_scheme_of c.args.terms.now.me c.args.info.now share beside) (in_word c.args.terms.now c.args.life.now.word c.commit_and_register.new.life.word fixed word of) reads by)
+    (c.set_up_committed.ensures.acts disk secrets fixed (with_scheme_of c.args.terms.now.me c.args.info.now share beside) fresh (in_word c.args.terms.now c.args.life.now.word c.commit_and_register.new.life.word fixed word of) reads by)
 
 pub returns-clause-tells : goal.returns-clause-tells
-returns-clause-tells g c = λ fixed beside of reads by.
+returns-clause-tells g c = λ fixed beside fresh of reads by.
     let share = c.in_ok-secrets.secrets.share in
     let word : c.commit_and_register.new.life.word ≡ c.args.life.now.word = ap (λ (l : Life g.row.Dir.Denot). l.word) c.commit_and_register.ensures.rest ∙ ap (λ (l : Life g.row.Dir.Denot). l.word) c.secrets_of.ensures.life in
     then_beside beside c.args.terms.now.me c.args.info.now share
@@ -107,7 +107,7 @@ returns-clause-tells g c = λ fixed beside of reads by.
     (live_of (with_scheme_of c.args.terms.now.me c.args.info.now share beside) c.commit_and_register.new.fence c.commit_and_register.new.life) _
     (c.in_ok-commit_and_register.ensures.tells c.in_ok-secrets.secrets.seed fixed beside of.of.me)
     (tells_as (set_up_behind fixed c.args.block.now (with_scheme_of c.args.terms.now.me c.args.info.now share beside) c.commit_and_register.new.fence c.commit_and_register.new.life c.tip_of.result c.tip_of.ensures) _ told)))
-    (c.set_up_committed.ensures.tells.1 fixed (with_scheme_of c.args.terms.now.me c.args.info.now share beside) (in_word c.args.terms.now c.args.life.now.word c.commit_and_register.new.life.word fixed word of)
+    (c.set_up_committed.ensures.tells.1 fixed (with_scheme_of c.args.terms.now.me c.args.info.now share beside) fresh (in_word c.args.terms.now c.args.life.now.word c.commit_and_register.new.life.word fixed word of)
     (can_read fixed c.set_up_committed.ensures.tells.0 reads) by)
 
 pub returns-clause-moved : goal.returns-clause-moved
@@ -143,3 +143,6 @@ returns-in_err-secrets-clause-moved g c = c.secrets_of.ensures.moved
 
 pub returns-in_err-secrets-clause-word : goal.returns-in_err-secrets-clause-word
 returns-in_err-secrets-clause-word g c = ap (λ (l : Life g.row.Dir.Denot). l.word) c.secrets_of.ensures.life
+
+pub returns-clause-current : goal.returns-clause-current
+returns-clause-current g c = c.set_up_committed.ensures.current

@@ -40,3 +40,9 @@ returns-clause-fit g c = λ told fit. c.take_ack.ensures.fit told (non_zero_u32_
 
 pub returns-in_default-clause-moved : goal.returns-in_default-clause-moved
 returns-in_default-clause-moved g c = moved_none g.D.Disk.tells g.D.Disk.made g.X.SecretStore.made g.D.Disk.faults g.X.SecretStore.faults g.met.D.Disk.made_none g.met.X.SecretStore.made_none c.args.devices.now
+
+pub returns-in_default-clause-current : goal.returns-in_default-clause-current
+returns-in_default-clause-current g c = refl
+
+pub returns-clause-current : goal.returns-clause-current
+returns-clause-current g c = ap (λ (s : Store g.row.Dir.Denot). s.current) c.take_ack.ensures.store

@@ -1,3 +1,4 @@
+use Rattle.std.proofs.Common.{refl}
 use Rattle.std.proofs.lemmas.Result.{err_from_is_err_and}
 use Rattle.std.specs.Int.NonZero.{non_zero_u32_get}
 use Rattle.dkg_reshare.proofs.Heard.{heard_made, heard_said, heard_stopped, heard_unsaid, of_round}
@@ -55,3 +56,12 @@ pub returns-clause-ready : goal.returns-clause-ready
 returns-clause-ready g c =
     on_ok c.tell_answer.result (ready_heard g.D.Disk.tells g.D.Disk.files g.D.Disk.image g.C.Ceremony.ack_of g.C.Ceremony.deal_of g.C.Ceremony.check_ack_of c.args.terms.now c.args.life.now c.args.devices.now c.requires.ready
     c.handle.new.devices _ c.in-Some.player c.handle.new.player c.handle.new.store c.in-Some.is c.requires.me c.in_ok-answer.ensures.keeps.sits c.in_ok-answer.ensures.firm)
+
+pub returns-in_default-clause-current : goal.returns-in_default-clause-current
+returns-in_default-clause-current g c = refl
+
+pub returns-in_err-answer-clause-current : goal.returns-in_err-answer-clause-current
+returns-in_err-answer-clause-current g c = c.handle.ensures.keeps.rest.current
+
+pub returns-clause-current : goal.returns-clause-current
+returns-clause-current g c = c.handle.ensures.keeps.rest.current

@@ -3,6 +3,7 @@ use Rattle.dkg_types.specs.declared.message.Message.{Message as Channel}
 use Rattle.dkg_types.specs.declared.message.Message.TheVariants.{Dealer as ADealing, Ack as AnAck}
 use Rattle.std.proofs.lemmas.Result.{err_from_is_err_and}
 use Rattle.dkg_store.specs.Acts.{by_want}
+use Rattle.dkg_reshare.specs.declared.life.Life.{Life}
 use Rattle.dkg_store.specs.declared.call.StoreError.TheVariants.{NoMemory as Wanting}
 use Rattle.dkg_reshare.proofs.Burning.{makes_none}
 use Rattle.dkg_reshare.proofs.Kept.{moved_none}
@@ -52,3 +53,33 @@ returns-in_err-message-clause-moved g c = moved_none g.D.Disk.tells g.D.Disk.mad
 
 pub returns-in_default-2-clause-moved : goal.returns-in_default-2-clause-moved
 returns-in_default-2-clause-moved g c = moved_none g.D.Disk.tells g.D.Disk.made g.X.SecretStore.made g.D.Disk.faults g.X.SecretStore.faults g.met.D.Disk.made_none g.met.X.SecretStore.made_none c.args.devices.now
+
+pub returns-in_default-clause-current : goal.returns-in_default-clause-current
+returns-in_default-clause-current g c = refl
+
+pub returns-in_err-message-clause-current : goal.returns-in_err-message-clause-current
+returns-in_err-message-clause-current g c = refl
+
+pub returns-in_default-2-clause-current : goal.returns-in_default-2-clause-current
+returns-in_default-2-clause-current g c = refl
+
+pub returns-in-Dealer-clause-current : goal.returns-in-Dealer-clause-current
+returns-in-Dealer-clause-current g c = c.hear_dealing.ensures.current
+
+pub returns-in-Ack-clause-current : goal.returns-in-Ack-clause-current
+returns-in-Ack-clause-current g c = c.hear_ack.ensures.current
+
+pub returns-in_default-clause-rest : goal.returns-in_default-clause-rest
+returns-in_default-clause-rest g c = refl
+
+pub returns-in_err-message-clause-rest : goal.returns-in_err-message-clause-rest
+returns-in_err-message-clause-rest g c = refl
+
+pub returns-in_default-2-clause-rest : goal.returns-in_default-2-clause-rest
+returns-in_default-2-clause-rest g c = refl
+
+pub returns-in-Dealer-clause-rest : goal.returns-in-Dealer-clause-rest
+returns-in-Dealer-clause-rest g c = c.hear_dealing.ensures.rest
+
+pub returns-in-Ack-clause-rest : goal.returns-in-Ack-clause-rest
+returns-in-Ack-clause-rest g c = c.hear_ack.ensures.rest ∙ (λ i. record c.args.life.now { store = c.hear_ack.new.life.store; dealer = c.hear_ack.new.life.dealer; player = sym (ap (λ (l : Life g.row.Dir.Denot). l.player) c.hear_ack.ensures.rest) i })

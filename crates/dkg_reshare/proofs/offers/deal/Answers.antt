@@ -70,3 +70,15 @@ returns-clause-tells g c = λ fixed beside fence of by.
     let has = c.in-Some.is in
     deals_told fixed beside fence c.args.life.now round c.in-Some-dealer.dealer has c.in-Some-dealer.is (deals_round g.C.Ceremony.deal_of g.C.Ceremony.check_ack_of c.args.terms.now.me c.args.life.now c.in-Some-dealer.dealer deals round has) c.in_ok-unsent.unsent.items c.in_ok-unsent.ensures _
     (c.offer_all.ensures.tells fixed round c.in-Some-dealer.dealer beside fence of by has c.in-Some-dealer.is)
+
+pub returns-in_default-clause-current : goal.returns-in_default-clause-current
+returns-in_default-clause-current g c = refl
+
+pub returns-in_default-dealer-clause-current : goal.returns-in_default-dealer-clause-current
+returns-in_default-dealer-clause-current g c = refl
+
+pub returns-in_err-unsent-clause-current : goal.returns-in_err-unsent-clause-current
+returns-in_err-unsent-clause-current g c = refl
+
+pub returns-clause-current : goal.returns-clause-current
+returns-clause-current g c = c.offer_all.ensures.current

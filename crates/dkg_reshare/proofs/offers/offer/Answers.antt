@@ -1,4 +1,4 @@
-use Rattle.std.proofs.Common.{◌≡◌, sym, ◌∙◌, rules}
+use Rattle.std.proofs.Common.{◌≡◌, refl, sym, ◌∙◌, rules}
 use Rattle.std.proofs.lemmas.Result.{err_from_is_err_and}
 use Rattle.dkg_store.specs.declared.call.StoreError.TheVariants.{NoMemory as Wanting}
 use Rattle.dkg_reshare.specs.LiveOf.{live_of}
@@ -24,3 +24,9 @@ returns-in_err-push-clause-tells g c = λ fixed round beside fence of by has.
 
 pub returns-in_err-push-clause-moved : goal.returns-in_err-push-clause-moved
 returns-in_err-push-clause-moved g c = moved_none g.D.Disk.tells g.D.Disk.made g.X.SecretStore.made g.D.Disk.faults g.X.SecretStore.faults g.met.D.Disk.made_none g.met.X.SecretStore.made_none c.args.devices.now
+
+pub returns-then-eq-clause-current : goal.returns-then-eq-clause-current
+returns-then-eq-clause-current g c = c.offer_to_itself.ensures.current
+
+pub returns-in_err-push-clause-current : goal.returns-in_err-push-clause-current
+returns-in_err-push-clause-current g c = refl

@@ -17,6 +17,7 @@ loop-player-init g c =
     record {
       ready = c.requires.ready;
       rest = refl;
+      current = refl;
       stays = halves_same c.args.life.now.dealer;
       halves = subst (λ (l : List (ℕ × List ℕ × ℕ)). IsSomeAnd c.args.life.now.dealer (λ d. AllByRecursion (IsHalf d.public d.privates) l)) (sym is) c.requires.halves;
       are = is;
@@ -45,6 +46,7 @@ loop-player-preserved g c =
     record {
       ready = c.in_ok-offer.ensures.ready;
       rest = rest_then c.args.life.now c.loop-player.life c.offer.new.life inv.rest c.offer.ensures.rest;
+      current = c.offer.ensures.current ∙ inv.current;
       stays = halves_then c.args.life.now.dealer c.loop-player.life.dealer c.offer.new.life.dealer inv.stays c.offer.ensures.stays;
       halves = halves_next c.loop-player.life.dealer c.offer.new.life.dealer c.in-Some.player c.in-Some.public c.in-Some.private (into_iter_items c.next.new.self) c.offer.ensures.stays (halves_at c.loop-player.life.dealer _ _ step inv.halves);
       count = omega (arith, inv.count, c.in-Some.ensures.steps.1, ap (λ (l : List (ℕ × List ℕ × ℕ)). length l) step);
@@ -108,3 +110,9 @@ returns-clause-tells g c = λ fixed round dealer beside fence of by has deals.
     let none : into_iter_items c.loop-player.player-iterator ≡ [] = nothing_left _ (sym c.loop-player.invariant.count ∙ c.in-None.ensures.steps.0) in
     all_told fixed round dealer.public (live_of beside fence c.args.life.now) c.loop-player.yielded c.args.unsent.items (sym (append-nil c.loop-player.yielded) ∙ ap (λ (l : List (ℕ × List ℕ × ℕ)). c.loop-player.yielded ++ l) (sym none) ∙ c.loop-player.invariant.are) _
     (c.loop-player.invariant.tells fixed round dealer beside fence of by has deals)
+
+pub returns-in_err-offer-clause-current : goal.returns-in_err-offer-clause-current
+returns-in_err-offer-clause-current g c = c.offer.ensures.current ∙ c.loop-player.invariant.current
+
+pub returns-clause-current : goal.returns-clause-current
+returns-clause-current g c = c.loop-player.invariant.current

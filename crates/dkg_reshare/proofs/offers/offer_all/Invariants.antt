@@ -24,6 +24,7 @@ abbrev pub invariant-loop-player : goal.invariant-loop-player
 invariant-loop-player g l = record {
   ready : IsReadyLife g.D.Disk.tells g.D.Disk.files g.D.Disk.image g.C.Ceremony.ack_of g.C.Ceremony.deal_of g.C.Ceremony.check_ack_of l.terms l.life l.devices;
   rest : l.life ≡ record l.initial.life { store = l.life.store; dealer = l.life.dealer; player = l.life.player };
+  current : l.life.store.current ≡ l.initial.life.store.current;
   stays : SameHalves l.initial.life.dealer l.life.dealer;
   halves : IsSomeAnd l.life.dealer (λ dealer. AllByRecursion (IsHalf dealer.public dealer.privates) (into_iter_items l.player-iterator));
   are : l.yielded ++ into_iter_items l.player-iterator ≡ l.fn.unsent.items;

@@ -1,4 +1,4 @@
-use Rattle.std.proofs.Common.{Some, ap, refl, arith, length, ◌≤◌}
+use Rattle.std.proofs.Common.{Some, ap, refl, arith, length, ◌≤◌, ◌∙◌}
 use Rattle.std.proofs.lemmas.Result.{err_from_is_err_and}
 use Rattle.std.specs.Int.NonZero.{non_zero_u32_get}
 use Rattle.dkg_store.specs.declared.store.Store.{Store}
@@ -150,3 +150,18 @@ returns-clause-fit g c = λ told fit.
     c.take_ack.ensures.fit told limit (c.handle.ensures.fit told limit (own_few g.C.Ceremony.dealing_of g.C.Ceremony.ack_of g.C.Ceremony.deal_of g.C.Ceremony.check_ack_of _ c.args.terms.now c.args.life.now c.in-Some.dealer c.in-Some-player.player c.args.epoch c.args.public c.args.private
     c.in-Some.is c.in-Some-player.is c.requires.ready.seated c.requires.ready.dealing c.requires.me c.requires.dealt c.requires.half g.met.C.Ceremony.deals_pass
     g.met.C.Ceremony.deals_are_short c.requires.ready.within) fit)
+
+pub returns-in_default-clause-current : goal.returns-in_default-clause-current
+returns-in_default-clause-current g c = refl
+
+pub returns-in_default-player-clause-current : goal.returns-in_default-player-clause-current
+returns-in_default-player-clause-current g c = refl
+
+pub returns-in_err-check_own-clause-current : goal.returns-in_err-check_own-clause-current
+returns-in_err-check_own-clause-current g c = refl
+
+pub returns-in_err-answer-clause-current : goal.returns-in_err-answer-clause-current
+returns-in_err-answer-clause-current g c = c.handle.ensures.keeps.rest.current
+
+pub returns-clause-current : goal.returns-clause-current
+returns-clause-current g c = ap (λ (s : Store g.row.Dir.Denot). s.current) c.take_ack.ensures.store ∙ c.handle.ensures.keeps.rest.current

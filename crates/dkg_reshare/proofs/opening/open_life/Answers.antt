@@ -17,7 +17,7 @@ use Rattle.dkg_reshare.specs.Today.{seen_today}
 use Rattle.dkg_reshare.proofs.Caused.{rose_around}
 use Rattle.dkg_store.proofs.Counts.{reached_behind}
 use Rattle.dkg_reshare.proofs.Kept.{above_then, moved_then}
-use Rattle.dkg_reshare.proofs.Beside.{beside_as, none_beside}
+use Rattle.dkg_reshare.proofs.Beside.{beside_as, none_beside, nothing_fresh}
 use Rattle.dkg_reshare.proofs.Openings.{can_read, found_around, lent_to, given_behind, given_stopped, given_untold, opening_failed, opening_made, opening_told, opening_untold, reading_lent, store_agrees, was_readable, with_secrets}
 use Rattle.dkg_reshare.proofs.opening.open_life.Goals as goal
 
@@ -59,7 +59,7 @@ returns-in_err-set_up-clause-readable g c = λ told.
 pub returns-in_err-set_up-clause-acts : goal.returns-in_err-set_up-clause-acts
 returns-in_err-set_up-clause-acts g c = λ disk secrets fixed opening by fresh.
     let p = err_from_is_err_and c.from_residual-in_err-set_up.result c.from_residual-in_err-set_up.ensures.1 in
-    rw (p.1, p.2) (beside_as (λ more took. took) (λ now made. opening_made fixed opening.today opening.lent.of.unplanned seen_today opening.reads c.args.number (length (open_calls (g.D.Disk.files c.args.devices.now.disk.now))) opening.life_is opening.calls_are (g.B.BlockSource.answers c.args.source.now) opening.lent.lent c.args.fence.now fresh c.args.word c.in_ok-store.store c.in_ok-store.ensures.current c.begin-life.result c.begin-life.ensures (by_stop c.in_err-set_up.field-0.0) (c.in_ok-store.ensures.acts disk secrets (subst (λ (n : ℕ). IsInGrammar n (g.D.Disk.files c.args.devices.now.disk.now)) opening.lent.of.limit opening.grammar)) made) (c.in_err-set_up.ensures.acts disk secrets fixed nothing_beside (lent_to c.args.terms.now (g.B.BlockSource.answers c.args.source.now) c.args.word c.begin-life.result.word fixed (ap (λ (l : Life g.row.Dir.Denot). l.word) c.begin-life.ensures) opening.lent) opening.reads by))
+    rw (p.1, p.2) (beside_as (λ more took. took) (λ now made. opening_made fixed opening.today opening.lent.of.unplanned seen_today opening.reads c.args.number (length (open_calls (g.D.Disk.files c.args.devices.now.disk.now))) opening.life_is opening.calls_are (g.B.BlockSource.answers c.args.source.now) opening.lent.lent c.args.fence.now fresh c.args.word c.in_ok-store.store c.in_ok-store.ensures.current c.begin-life.result c.begin-life.ensures (by_stop c.in_err-set_up.field-0.0) (c.in_ok-store.ensures.acts disk secrets (subst (λ (n : ℕ). IsInGrammar n (g.D.Disk.files c.args.devices.now.disk.now)) opening.lent.of.limit opening.grammar)) made) (c.in_err-set_up.ensures.acts disk secrets fixed nothing_beside nothing_fresh (lent_to c.args.terms.now (g.B.BlockSource.answers c.args.source.now) c.args.word c.begin-life.result.word fixed (ap (λ (l : Life g.row.Dir.Denot). l.word) c.begin-life.ensures) opening.lent) opening.reads by))
 
 pub returns-in_err-set_up-clause-tells : goal.returns-in_err-set_up-clause-tells
 returns-in_err-set_up-clause-tells g c = λ fixed lent life today by fresh.
@@ -71,7 +71,7 @@ returns-in_err-set_up-clause-tells g c = λ fixed lent life today by fresh.
       listed = read.listed;
       given = given_stopped (IsTrue g.D.Disk.tells) (IsTrue g.X.SecretStore.tells) _ (epoch_at (g.B.BlockSource.answers c.args.source.now) c.args.terms.now - 1) (ap (λ (l : Life g.row.Dir.Denot). epoch_above c.args.terms.now l.tip - 1) c.begin-life.ensures) read.seen.dealings (g.D.Disk.files c.open_store.new.devices.disk.now) (g.D.Disk.image c.open_store.new.devices.disk.now) (g.D.Disk.image c.set_up.new.devices.disk.now) (g.X.SecretStore.held c.open_store.new.devices.secrets.now) (g.X.SecretStore.held c.set_up.new.devices.secrets.now) (λ told. g.met.D.Disk.reads c.open_store.new.devices.disk.now told) read.given (Unit {0}) (Life g.row.Dir.Denot) c.in_err-set_up.field-0.0 c.in_err-set_up.ensures.gives;
       so = beside_as (λ more took. took) (λ now told. opening_told (reading (with_secrets read.seen c.in_err-set_up.ensures.tells.0) fixed) (record { reshare = today.reshare; bare = today.bare }) (λ h. read.unplanned) (λ h. with_secrets read.seen c.in_err-set_up.ensures.tells.0) refl c.args.number fixed.opening_calls life refl (g.B.BlockSource.answers c.args.source.now) lent.lent c.args.fence.now fresh c.args.word c.in_ok-store.store c.in_ok-store.ensures.current c.begin-life.result c.begin-life.ensures (by_stop c.in_err-set_up.field-0.0) read.so told)
-          (c.in_err-set_up.ensures.tells.1 (reading (with_secrets read.seen c.in_err-set_up.ensures.tells.0) fixed) nothing_beside (reading_lent c.args.terms.now (g.B.BlockSource.answers c.args.source.now) c.args.word c.begin-life.result.word fixed (with_secrets read.seen c.in_err-set_up.ensures.tells.0) (ap (λ (l : Life g.row.Dir.Denot). l.word) c.begin-life.ensures) read.unplanned lent) (can_read read.seen c.in_err-set_up.ensures.tells.0 fixed) by);
+          (c.in_err-set_up.ensures.tells.1 (reading (with_secrets read.seen c.in_err-set_up.ensures.tells.0) fixed) nothing_beside nothing_fresh (reading_lent c.args.terms.now (g.B.BlockSource.answers c.args.source.now) c.args.word c.begin-life.result.word fixed (with_secrets read.seen c.in_err-set_up.ensures.tells.0) (ap (λ (l : Life g.row.Dir.Denot). l.word) c.begin-life.ensures) read.unplanned lent) (can_read read.seen c.in_err-set_up.ensures.tells.0 fixed) by);
     })
 
 pub returns-in_err-set_up-clause-moved : goal.returns-in_err-set_up-clause-moved
@@ -88,7 +88,7 @@ returns-clause-readable g c = λ told.
 
 pub returns-clause-acts : goal.returns-clause-acts
 returns-clause-acts g c = λ disk secrets fixed opening by fresh.
-    (beside_as (λ more took. took) (λ now made. opening_made fixed opening.today opening.lent.of.unplanned seen_today opening.reads c.args.number (length (open_calls (g.D.Disk.files c.args.devices.now.disk.now))) opening.life_is opening.calls_are (g.B.BlockSource.answers c.args.source.now) opening.lent.lent c.args.fence.now fresh c.args.word c.in_ok-store.store c.in_ok-store.ensures.current c.begin-life.result c.begin-life.ensures (went (live_of now c.set_up.new.fence c.set_up.new.life)) (c.in_ok-store.ensures.acts disk secrets (subst (λ (n : ℕ). IsInGrammar n (g.D.Disk.files c.args.devices.now.disk.now)) opening.lent.of.limit opening.grammar)) made) (c.in_ok-set_up.ensures.acts disk secrets fixed nothing_beside (lent_to c.args.terms.now (g.B.BlockSource.answers c.args.source.now) c.args.word c.begin-life.result.word fixed (ap (λ (l : Life g.row.Dir.Denot). l.word) c.begin-life.ensures) opening.lent) opening.reads by))
+    (beside_as (λ more took. took) (λ now made. opening_made fixed opening.today opening.lent.of.unplanned seen_today opening.reads c.args.number (length (open_calls (g.D.Disk.files c.args.devices.now.disk.now))) opening.life_is opening.calls_are (g.B.BlockSource.answers c.args.source.now) opening.lent.lent c.args.fence.now fresh c.args.word c.in_ok-store.store c.in_ok-store.ensures.current c.begin-life.result c.begin-life.ensures (went (live_of now c.set_up.new.fence c.set_up.new.life)) (c.in_ok-store.ensures.acts disk secrets (subst (λ (n : ℕ). IsInGrammar n (g.D.Disk.files c.args.devices.now.disk.now)) opening.lent.of.limit opening.grammar)) made) (c.in_ok-set_up.ensures.acts disk secrets fixed nothing_beside nothing_fresh (lent_to c.args.terms.now (g.B.BlockSource.answers c.args.source.now) c.args.word c.begin-life.result.word fixed (ap (λ (l : Life g.row.Dir.Denot). l.word) c.begin-life.ensures) opening.lent) opening.reads by))
 
 pub returns-clause-tells : goal.returns-clause-tells
 returns-clause-tells g c = λ fixed lent life today by fresh.
@@ -99,7 +99,7 @@ returns-clause-tells g c = λ fixed lent life today by fresh.
       listed = read.listed;
       given = given_behind (IsTrue g.D.Disk.tells) (IsTrue g.X.SecretStore.tells) _ (epoch_at (g.B.BlockSource.answers c.args.source.now) c.args.terms.now - 1) (ap (λ (l : Life g.row.Dir.Denot). epoch_above c.args.terms.now l.tip - 1) c.begin-life.ensures) read.seen.dealings (g.D.Disk.files c.open_store.new.devices.disk.now) (g.D.Disk.image c.open_store.new.devices.disk.now) (g.D.Disk.image c.set_up.new.devices.disk.now) (g.X.SecretStore.held c.open_store.new.devices.secrets.now) (g.X.SecretStore.held c.set_up.new.devices.secrets.now) (λ told. g.met.D.Disk.reads c.open_store.new.devices.disk.now told) read.given c.in_ok-set_up.ensures.gives;
       so = beside_as (λ more took. took) (λ now told. opening_told (reading (with_secrets read.seen c.in_ok-set_up.ensures.tells.0) fixed) (record { reshare = today.reshare; bare = today.bare }) (λ h. read.unplanned) (λ h. with_secrets read.seen c.in_ok-set_up.ensures.tells.0) refl c.args.number fixed.opening_calls life refl (g.B.BlockSource.answers c.args.source.now) lent.lent c.args.fence.now fresh c.args.word c.in_ok-store.store c.in_ok-store.ensures.current c.begin-life.result c.begin-life.ensures (went (live_of now c.set_up.new.fence c.set_up.new.life)) read.so told)
-          (c.in_ok-set_up.ensures.tells.1 (reading (with_secrets read.seen c.in_ok-set_up.ensures.tells.0) fixed) nothing_beside (reading_lent c.args.terms.now (g.B.BlockSource.answers c.args.source.now) c.args.word c.begin-life.result.word fixed (with_secrets read.seen c.in_ok-set_up.ensures.tells.0) (ap (λ (l : Life g.row.Dir.Denot). l.word) c.begin-life.ensures) read.unplanned lent) (can_read read.seen c.in_ok-set_up.ensures.tells.0 fixed) by);
+          (c.in_ok-set_up.ensures.tells.1 (reading (with_secrets read.seen c.in_ok-set_up.ensures.tells.0) fixed) nothing_beside nothing_fresh (reading_lent c.args.terms.now (g.B.BlockSource.answers c.args.source.now) c.args.word c.begin-life.result.word fixed (with_secrets read.seen c.in_ok-set_up.ensures.tells.0) (ap (λ (l : Life g.row.Dir.Denot). l.word) c.begin-life.ensures) read.unplanned lent) (can_read read.seen c.in_ok-set_up.ensures.tells.0 fixed) by);
     })
 
 pub returns-clause-moved : goal.returns-clause-moved
@@ -129,3 +129,6 @@ returns-clause-live g c = λ disk secrets sound.
     c.in_ok-set_up.ensures.agrees disk secrets (made.made.stands sound.stands)
     (subst (λ (s : Store g.row.Dir.Denot). AreAgreed (records_of s) (held_in (g.D.Disk.files c.open_store.new.devices.disk.now) (g.X.SecretStore.held c.open_store.new.devices.secrets.now))) (sym (ap (λ (l : Life g.row.Dir.Denot). l.store) c.begin-life.ensures))
     (store_agrees g.row.Dir.Denot c.args.number (length (open_calls (g.D.Disk.files c.args.devices.now.disk.now))) (records_of c.in_ok-store.store) made (g.met.D.Disk.reads c.open_store.new.devices.disk.now disk) sound.stands sound.whole))
+
+pub returns-clause-current : goal.returns-clause-current
+returns-clause-current g c = c.in_ok-set_up.ensures.current

@@ -6,7 +6,7 @@ use Rattle.dkg_reshare.proofs.setup.begin_stage.Goals as goal
 
 pub returns-in-Midpoint : goal.returns-in-Midpoint
 returns-in-Midpoint g c = record {
-  begun = then_well c.begin_inclusion.result (λ begun fixed beside fence mine deals. begun fixed beside fence mine deals ∙ begins_later fixed c.args.phase (live_of beside fence c.args.life.now) c.in-Midpoint.is) c.begin_inclusion.ensures.begun;
+  begun = then_well c.begin_inclusion.result (λ begun fixed beside fence fresh mine deals. begun fixed beside fence fresh.served mine deals ∙ begins_later fixed c.args.phase (live_of beside fence c.args.life.now) c.in-Midpoint.is) c.begin_inclusion.ensures.begun;
   rest = c.begin_inclusion.ensures.rest;
   stage = then_well c.begin_inclusion.result (λ is. is ∙ later_stage c.args.phase c.in-Midpoint.is) c.begin_inclusion.ensures.stage;
   dealing = c.begin_inclusion.ensures.dealing;

@@ -1,6 +1,8 @@
-use Rattle.std.proofs.Common.{refl}
+use Rattle.dkg_types.specs.declared.info.EpochInfo.{EpochInfo}
+use Rattle.std.specs.Prelude.{IsSome}
+use Rattle.std.proofs.Common.{refl, Option, subst, sym}
 use Rattle.dkg_reshare.specs.LiveOf.{live_of}
-use Rattle.dkg_reshare.proofs.Beside.{none_beside, one_beside, took_none}
+use Rattle.dkg_reshare.proofs.Beside.{none_beside, one_beside, took_none, then_well}
 use Rattle.dkg_reshare.proofs.Burning.{makes_nothing}
 use Rattle.dkg_reshare.proofs.Committing.{committed_by, goes_told, kept_by, same_made, same_told}
 use Rattle.dkg_reshare.proofs.Kept.{moved_none}
@@ -30,3 +32,9 @@ returns-in-Uncommitted-clause-tells g c = λ any fixed beside mine.
     one_beside beside _ _ c.args.me c.args.info.now c.args.secrets.now.share c.commit_and_register.ensures.taken
     (same_told (committed_by fixed c.args.info.now any c.args.secrets.now.share (live_of beside c.args.fence.now c.args.life.now) c.args.standing c.in-Uncommitted.is)
     (c.commit_and_register.ensures.tells any fixed beside mine))
+
+pub returns-in-WasCommitted-clause-current : goal.returns-in-WasCommitted-clause-current
+returns-in-WasCommitted-clause-current g c = λ known. known c.in-WasCommitted.is
+
+pub returns-in-Uncommitted-clause-current : goal.returns-in-Uncommitted-clause-current
+returns-in-Uncommitted-clause-current g c = then_well c.commit_and_register.result (λ is known. subst (λ (o : Option (EpochInfo g.row.Dir.Denot)). IsSome o) (sym is) tt) c.commit_and_register.ensures.current

@@ -64,3 +64,6 @@ returns-clause-gives g c = λ told. pruned_gives c.args.min _ _ _ _ (c.in_ok-pru
 
 pub returns-clause-open : goal.returns-clause-open
 returns-clause-open g c = λ told. record { open_on = c.in_ok-prune.ensures.open told; lands = (c.in_ok-prune.ensures.shrinks told).lands (c.requires told).lands }
+
+pub returns-clause-current : goal.returns-clause-current
+returns-clause-current g c = c.in_ok-prune.ensures.kept.current

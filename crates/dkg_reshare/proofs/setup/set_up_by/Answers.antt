@@ -1,4 +1,7 @@
-use Rattle.std.proofs.Common.{◌-◌, ◌∙◌, None, ap, arith}
+use Rattle.dkg_reshare.proofs.Committing.{in_any}
+use Rattle.dkg_types.specs.declared.info.EpochInfo.{EpochInfo}
+use Rattle.std.specs.Prelude.{IsSome}
+use Rattle.std.proofs.Common.{◌-◌, ◌∙◌, None, ap, arith, Option, subst, sym}
 use Rattle.std.proofs.lemmas.Result.{err_from_is_err_and}
 use Rattle.std.specs.Int.NonZero.{non_zero_u32_get}
 use Rattle.dkg_store.proofs.Counts.{reached_behind}
@@ -7,7 +10,7 @@ use Rattle.dkg_reshare.specs.declared.life.Life.{Life}
 use Rattle.dkg_reshare.specs.Ends.{by_stop, ends, ends_in}
 use Rattle.dkg_reshare.specs.LiveOf.{live_of}
 use Rattle.dkg_reshare.specs.Steps.{refusal_of, standing_of}
-use Rattle.dkg_reshare.proofs.Beside.{beside_as, none_beside}
+use Rattle.dkg_reshare.proofs.Beside.{beside_as, beside_kept, fresh_as, none_beside}
 use Rattle.dkg_reshare.proofs.Burning.{speaks_makes, unless, unless_outside}
 use Rattle.dkg_reshare.proofs.Caused.{caused_around, caused_by_around, of_result, rose_around}
 use Rattle.dkg_reshare.proofs.Drawing.{stands_on}
@@ -19,34 +22,34 @@ use Rattle.dkg_reshare.proofs.SettingUp.{commit_ended, commit_unsaid, draw_ended
 use Rattle.dkg_reshare.proofs.setup.set_up_by.Goals as goal
 
 pub returns-in_err-judge_info-clause-acts : goal.returns-in_err-judge_info-clause-acts
-returns-in_err-judge_info-clause-acts g c = λ disk secrets fixed beside inn reads ruled stands.
+returns-in_err-judge_info-clause-acts g c = λ disk secrets fixed beside fresh inn reads ruled stands.
     let p = err_from_is_err_and c.from_residual.result c.from_residual.ensures.1 in
     rw (p.1, p.2) (none_beside beside _ _ tt (speaks_makes (setup.with_info fixed None (standing_of c.args.standing) c.args.info.now (live_of beside c.args.fence.now c.args.life.now)) (by_stop c.in_err-judge_info.field-0.0) _ _ (judge_failed fixed (standing_of c.args.standing) c.args.info.now (live_of beside c.args.fence.now c.args.life.now) (non_zero_u32_get c.args.terms.now.limit) inn.of.limit c.in_err-judge_info.field-0.0 c.in_err-judge_info.ensures.err c.args.out.now.entries)))
 
 pub returns-in_err-secrets-clause-acts : goal.returns-in_err-secrets-clause-acts
-returns-in_err-secrets-clause-acts g c = λ disk secrets fixed beside inn reads ruled stands.
+returns-in_err-secrets-clause-acts g c = λ disk secrets fixed beside fresh inn reads ruled stands.
     let p = err_from_is_err_and c.from_residual-in_err-secrets.result c.from_residual-in_err-secrets.ensures.1 in
     rw (p.1, p.2) (none_beside beside _ _ tt (secrets_ended fixed (standing_of c.args.standing) c.args.info.now (live_of beside c.args.fence.now c.secrets_of.new.life) (setup.with_info fixed None (standing_of c.args.standing) c.args.info.now (live_of beside c.args.fence.now c.args.life.now)) (passed_over fixed (standing_of c.args.standing) c.args.info.now beside c.args.fence.now c.args.life.now c.secrets_of.new.life c.secrets_of.ensures.life (non_zero_u32_get c.args.terms.now.limit) inn.of.limit c.in_ok-judge_info.ensures.ok) c.in_err-secrets.field-0.0 (c.in_err-secrets.ensures.acts disk secrets fixed inn.of.me inn.word_is ruled.shares reads c.args.out.now.entries)))
 
 pub returns-in_err-commit_new-clause-acts : goal.returns-in_err-commit_new-clause-acts
-returns-in_err-commit_new-clause-acts g c = λ disk secrets fixed beside inn reads ruled stands.
+returns-in_err-commit_new-clause-acts g c = λ disk secrets fixed beside fresh inn reads ruled stands.
     let p = err_from_is_err_and c.from_residual-in_err-commit_new.result c.from_residual-in_err-commit_new.ensures.1 in
     rw (p.1, p.2) (beside_as (λ more took. tt) (λ now made. commit_ended fixed (standing_of c.args.standing) c.args.info.now (live_of beside c.args.fence.now c.secrets_of.new.life) (setup.with_info fixed None (standing_of c.args.standing) c.args.info.now (live_of beside c.args.fence.now c.args.life.now)) (passed_over fixed (standing_of c.args.standing) c.args.info.now beside c.args.fence.now c.args.life.now c.secrets_of.new.life c.secrets_of.ensures.life (non_zero_u32_get c.args.terms.now.limit) inn.of.limit c.in_ok-judge_info.ensures.ok) c.in_ok-secrets.secrets.share c.in_ok-secrets.secrets.seed (c.in_ok-secrets.ensures.acts disk secrets fixed inn.of.me inn.word_is ruled.shares reads c.args.out.now.entries) c.in_err-commit_new.field-0.0 made) (c.in_err-commit_new.ensures.acts disk secrets fixed beside inn.of.me))
 
 pub returns-in_err-prune-clause-acts : goal.returns-in_err-prune-clause-acts
-returns-in_err-prune-clause-acts g c = λ disk secrets fixed beside inn reads ruled stands.
+returns-in_err-prune-clause-acts g c = λ disk secrets fixed beside fresh inn reads ruled stands.
     let p = err_from_is_err_and c.from_residual-in_err-prune.result c.from_residual-in_err-prune.ensures.1 in
     rw (p.1, p.2) (beside_as (λ more took. tt) (λ now made. prune_ended fixed (standing_of c.args.standing) c.args.info.now (live_of beside c.args.fence.now c.secrets_of.new.life) (setup.with_info fixed None (standing_of c.args.standing) c.args.info.now (live_of beside c.args.fence.now c.args.life.now)) (passed_over fixed (standing_of c.args.standing) c.args.info.now beside c.args.fence.now c.args.life.now c.secrets_of.new.life c.secrets_of.ensures.life (non_zero_u32_get c.args.terms.now.limit) inn.of.limit c.in_ok-judge_info.ensures.ok) c.in_ok-secrets.secrets.share c.in_ok-secrets.secrets.seed (c.in_ok-secrets.ensures.acts disk secrets fixed inn.of.me inn.word_is ruled.shares reads c.args.out.now.entries) (live_of now c.commit_new.new.fence c.commit_new.new.life) made c.saturating_sub.result (c.saturating_sub.ensures ∙ ap (λ (l : Life g.row.Dir.Denot). l.epoch - 1) c.life.view_is) c.in_err-prune.field-0.0 (c.in_err-prune.ensures.acts disk secrets now c.commit_new.new.fence c.commit_new.new.out.entries)) (c.in_ok-commit_new.ensures.acts disk secrets fixed beside inn.of.me))
 
 pub returns-clause-acts : goal.returns-clause-acts
-returns-clause-acts g c = λ disk secrets fixed beside inn reads ruled stands.
-    beside_as (λ more took. on_ok c.draw_up.result took) (λ now made. draw_ended fixed (standing_of c.args.standing) c.args.info.now (live_of beside c.args.fence.now c.secrets_of.new.life) (setup.with_info fixed None (standing_of c.args.standing) c.args.info.now (live_of beside c.args.fence.now c.args.life.now)) (passed_over fixed (standing_of c.args.standing) c.args.info.now beside c.args.fence.now c.args.life.now c.secrets_of.new.life c.secrets_of.ensures.life (non_zero_u32_get c.args.terms.now.limit) inn.of.limit c.in_ok-judge_info.ensures.ok) c.in_ok-secrets.secrets.share c.in_ok-secrets.secrets.seed (c.in_ok-secrets.ensures.acts disk secrets fixed inn.of.me inn.word_is ruled.shares reads c.args.out.now.entries) (live_of now c.commit_new.new.fence c.commit_new.new.life) made c.saturating_sub.result (c.saturating_sub.ensures ∙ ap (λ (l : Life g.row.Dir.Denot). l.epoch - 1) c.life.view_is) (live_of now c.commit_new.new.fence c.prune.new.life) (ends_in (live_of now c.commit_new.new.fence c.draw_up.new.life) c.draw_up.result) (c.in_ok-prune.ensures.acts disk secrets now c.commit_new.new.fence c.commit_new.new.out.entries)
-    (speaks_makes (drawing fixed (standing_of c.args.standing) c.args.info.now c.in_ok-secrets.secrets.share c.in_ok-secrets.secrets.seed (live_of now c.commit_new.new.fence c.prune.new.life)) (ends_in (live_of now c.commit_new.new.fence c.draw_up.new.life) c.draw_up.result) _ _ (c.draw_up.ensures.speaks fixed now c.commit_new.new.fence inn.of ruled (stands_on fixed (live_of beside c.args.fence.now c.args.life.now) (live_of now c.commit_new.new.fence c.prune.new.life) c.args.phase (ap (λ (l : Life g.row.Dir.Denot). l.tip) c.prune.ensures.rest ∙ ap (λ (l : Life g.row.Dir.Denot). l.tip) c.commit_new.ensures.rest ∙ ap (λ (l : Life g.row.Dir.Denot). l.tip) c.secrets_of.ensures.life) stands)))) (c.in_ok-commit_new.ensures.acts disk secrets fixed beside inn.of.me)
+returns-clause-acts g c = λ disk secrets fixed beside fresh inn reads ruled stands.
+    beside_kept (λ more took. on_ok c.draw_up.result took) (λ now same made. draw_ended fixed (standing_of c.args.standing) c.args.info.now (live_of beside c.args.fence.now c.secrets_of.new.life) (setup.with_info fixed None (standing_of c.args.standing) c.args.info.now (live_of beside c.args.fence.now c.args.life.now)) (passed_over fixed (standing_of c.args.standing) c.args.info.now beside c.args.fence.now c.args.life.now c.secrets_of.new.life c.secrets_of.ensures.life (non_zero_u32_get c.args.terms.now.limit) inn.of.limit c.in_ok-judge_info.ensures.ok) c.in_ok-secrets.secrets.share c.in_ok-secrets.secrets.seed (c.in_ok-secrets.ensures.acts disk secrets fixed inn.of.me inn.word_is ruled.shares reads c.args.out.now.entries) (live_of now c.commit_new.new.fence c.commit_new.new.life) made c.saturating_sub.result (c.saturating_sub.ensures ∙ ap (λ (l : Life g.row.Dir.Denot). l.epoch - 1) c.life.view_is) (live_of now c.commit_new.new.fence c.prune.new.life) (ends_in (live_of now c.commit_new.new.fence c.draw_up.new.life) c.draw_up.result) (c.in_ok-prune.ensures.acts disk secrets now c.commit_new.new.fence c.commit_new.new.out.entries)
+    (speaks_makes (drawing fixed (standing_of c.args.standing) c.args.info.now c.in_ok-secrets.secrets.share c.in_ok-secrets.secrets.seed (live_of now c.commit_new.new.fence c.prune.new.life)) (ends_in (live_of now c.commit_new.new.fence c.draw_up.new.life) c.draw_up.result) _ _ (c.draw_up.ensures.speaks fixed now c.commit_new.new.fence (fresh_as beside.inclusion now.inclusion same fresh) inn.of ruled (stands_on fixed (live_of beside c.args.fence.now c.args.life.now) (live_of now c.commit_new.new.fence c.prune.new.life) c.args.phase (ap (λ (l : Life g.row.Dir.Denot). l.tip) c.prune.ensures.rest ∙ ap (λ (l : Life g.row.Dir.Denot). l.tip) c.commit_new.ensures.rest ∙ ap (λ (l : Life g.row.Dir.Denot). l.tip) c.secrets_of.ensures.life) stands)))) (c.in_ok-commit_new.ensures.acts disk secrets fixed beside inn.of.me)
 
 pub returns-in_err-judge_info-clause-tells : goal.returns-in_err-judge_info-clause-tells
 returns-in_err-judge_info-clause-tells g c = (
   nothing_held,
-  λ fixed beside inn can ruled stands.
+  λ fixed beside fresh inn can ruled stands.
       let p = err_from_is_err_and c.from_residual.result c.from_residual.ensures.1 in
       rw (p.1, p.2) (none_beside beside _ _ tt (speaks_tells (setup.with_info fixed None (standing_of c.args.standing) c.args.info.now (live_of beside c.args.fence.now c.args.life.now)) (by_stop c.in_err-judge_info.field-0.0) (judge_failed fixed (standing_of c.args.standing) c.args.info.now (live_of beside c.args.fence.now c.args.life.now) (non_zero_u32_get c.args.terms.now.limit) inn.of.limit c.in_err-judge_info.field-0.0 c.in_err-judge_info.ensures.err c.args.out.now.entries))),
 )
@@ -54,7 +57,7 @@ returns-in_err-judge_info-clause-tells g c = (
 pub returns-in_err-secrets-clause-tells : goal.returns-in_err-secrets-clause-tells
 returns-in_err-secrets-clause-tells g c = (
   nothing_held,
-  λ fixed beside inn can ruled stands.
+  λ fixed beside fresh inn can ruled stands.
       let p = err_from_is_err_and c.from_residual-in_err-secrets.result c.from_residual-in_err-secrets.ensures.1 in
       rw (p.1, p.2) (none_beside beside _ _ tt (secrets_unsaid fixed (standing_of c.args.standing) c.args.info.now (live_of beside c.args.fence.now c.secrets_of.new.life) (setup.with_info fixed None (standing_of c.args.standing) c.args.info.now (live_of beside c.args.fence.now c.args.life.now)) (passed_over fixed (standing_of c.args.standing) c.args.info.now beside c.args.fence.now c.args.life.now c.secrets_of.new.life c.secrets_of.ensures.life (non_zero_u32_get c.args.terms.now.limit) inn.of.limit c.in_ok-judge_info.ensures.ok) c.in_err-secrets.field-0.0 (c.in_err-secrets.ensures.unread fixed c.args.out.now.entries))),
 )
@@ -62,7 +65,7 @@ returns-in_err-secrets-clause-tells g c = (
 pub returns-in_err-commit_new-clause-tells : goal.returns-in_err-commit_new-clause-tells
 returns-in_err-commit_new-clause-tells g c = (
   (c.in_ok-secrets.ensures.read).0,
-  λ fixed beside inn can ruled stands.
+  λ fixed beside fresh inn can ruled stands.
       let p = err_from_is_err_and c.from_residual-in_err-commit_new.result c.from_residual-in_err-commit_new.ensures.1 in
       rw (p.1, p.2) (beside_as (λ more took. tt) (λ now said. commit_unsaid fixed (standing_of c.args.standing) c.args.info.now (live_of beside c.args.fence.now c.secrets_of.new.life) (setup.with_info fixed None (standing_of c.args.standing) c.args.info.now (live_of beside c.args.fence.now c.args.life.now)) (passed_over fixed (standing_of c.args.standing) c.args.info.now beside c.args.fence.now c.args.life.now c.secrets_of.new.life c.secrets_of.ensures.life (non_zero_u32_get c.args.terms.now.limit) inn.of.limit c.in_ok-judge_info.ensures.ok) c.in_ok-secrets.secrets.share c.in_ok-secrets.secrets.seed (secrets_told fixed c.args.info.now c.in_ok-secrets.secrets.share c.in_ok-secrets.secrets.seed (c.in_ok-secrets.ensures.read).0 ((c.in_ok-secrets.ensures.read).1 fixed inn.of.me inn.word_is ruled.shares) can c.args.out.now.entries) c.in_err-commit_new.field-0.0 said) (c.in_err-commit_new.ensures.tells c.in_ok-secrets.secrets.seed fixed beside inn.of.me)),
 )
@@ -70,7 +73,7 @@ returns-in_err-commit_new-clause-tells g c = (
 pub returns-in_err-prune-clause-tells : goal.returns-in_err-prune-clause-tells
 returns-in_err-prune-clause-tells g c = (
   (c.in_ok-secrets.ensures.read).0,
-  λ fixed beside inn can ruled stands.
+  λ fixed beside fresh inn can ruled stands.
       let p = err_from_is_err_and c.from_residual-in_err-prune.result c.from_residual-in_err-prune.ensures.1 in
       rw (p.1, p.2) (beside_as (λ more took. tt) (λ now said. prune_unsaid fixed (standing_of c.args.standing) c.args.info.now (live_of beside c.args.fence.now c.secrets_of.new.life) (setup.with_info fixed None (standing_of c.args.standing) c.args.info.now (live_of beside c.args.fence.now c.args.life.now)) (passed_over fixed (standing_of c.args.standing) c.args.info.now beside c.args.fence.now c.args.life.now c.secrets_of.new.life c.secrets_of.ensures.life (non_zero_u32_get c.args.terms.now.limit) inn.of.limit c.in_ok-judge_info.ensures.ok) c.in_ok-secrets.secrets.share c.in_ok-secrets.secrets.seed (secrets_told fixed c.args.info.now c.in_ok-secrets.secrets.share c.in_ok-secrets.secrets.seed (c.in_ok-secrets.ensures.read).0 ((c.in_ok-secrets.ensures.read).1 fixed inn.of.me inn.word_is ruled.shares) can c.args.out.now.entries) (live_of now c.commit_new.new.fence c.commit_new.new.life) said c.saturating_sub.result (c.saturating_sub.ensures ∙ ap (λ (l : Life g.row.Dir.Denot). l.epoch - 1) c.life.view_is) c.in_err-prune.field-0.0 (c.in_err-prune.ensures.tells now c.commit_new.new.fence c.commit_new.new.out.entries)) (c.in_ok-commit_new.ensures.tells c.in_ok-secrets.secrets.seed fixed beside inn.of.me)),
 )
@@ -78,9 +81,9 @@ returns-in_err-prune-clause-tells g c = (
 pub returns-clause-tells : goal.returns-clause-tells
 returns-clause-tells g c = (
   (c.in_ok-secrets.ensures.read).0,
-  λ fixed beside inn can ruled stands.
-      beside_as (λ more took. on_ok c.draw_up.result took) (λ now said. draw_said fixed (standing_of c.args.standing) c.args.info.now (live_of beside c.args.fence.now c.secrets_of.new.life) (setup.with_info fixed None (standing_of c.args.standing) c.args.info.now (live_of beside c.args.fence.now c.args.life.now)) (passed_over fixed (standing_of c.args.standing) c.args.info.now beside c.args.fence.now c.args.life.now c.secrets_of.new.life c.secrets_of.ensures.life (non_zero_u32_get c.args.terms.now.limit) inn.of.limit c.in_ok-judge_info.ensures.ok) c.in_ok-secrets.secrets.share c.in_ok-secrets.secrets.seed (secrets_told fixed c.args.info.now c.in_ok-secrets.secrets.share c.in_ok-secrets.secrets.seed (c.in_ok-secrets.ensures.read).0 ((c.in_ok-secrets.ensures.read).1 fixed inn.of.me inn.word_is ruled.shares) can c.args.out.now.entries) (live_of now c.commit_new.new.fence c.commit_new.new.life) said c.saturating_sub.result (c.saturating_sub.ensures ∙ ap (λ (l : Life g.row.Dir.Denot). l.epoch - 1) c.life.view_is) (live_of now c.commit_new.new.fence c.prune.new.life) (ends_in (live_of now c.commit_new.new.fence c.draw_up.new.life) c.draw_up.result) (c.in_ok-prune.ensures.tells now c.commit_new.new.fence c.commit_new.new.out.entries)
-      (speaks_tells (drawing fixed (standing_of c.args.standing) c.args.info.now c.in_ok-secrets.secrets.share c.in_ok-secrets.secrets.seed (live_of now c.commit_new.new.fence c.prune.new.life)) (ends_in (live_of now c.commit_new.new.fence c.draw_up.new.life) c.draw_up.result) (c.draw_up.ensures.speaks fixed now c.commit_new.new.fence inn.of ruled (stands_on fixed (live_of beside c.args.fence.now c.args.life.now) (live_of now c.commit_new.new.fence c.prune.new.life) c.args.phase (ap (λ (l : Life g.row.Dir.Denot). l.tip) c.prune.ensures.rest ∙ ap (λ (l : Life g.row.Dir.Denot). l.tip) c.commit_new.ensures.rest ∙ ap (λ (l : Life g.row.Dir.Denot). l.tip) c.secrets_of.ensures.life) stands)))) (c.in_ok-commit_new.ensures.tells c.in_ok-secrets.secrets.seed fixed beside inn.of.me),
+  λ fixed beside fresh inn can ruled stands.
+      beside_kept (λ more took. on_ok c.draw_up.result took) (λ now same said. draw_said fixed (standing_of c.args.standing) c.args.info.now (live_of beside c.args.fence.now c.secrets_of.new.life) (setup.with_info fixed None (standing_of c.args.standing) c.args.info.now (live_of beside c.args.fence.now c.args.life.now)) (passed_over fixed (standing_of c.args.standing) c.args.info.now beside c.args.fence.now c.args.life.now c.secrets_of.new.life c.secrets_of.ensures.life (non_zero_u32_get c.args.terms.now.limit) inn.of.limit c.in_ok-judge_info.ensures.ok) c.in_ok-secrets.secrets.share c.in_ok-secrets.secrets.seed (secrets_told fixed c.args.info.now c.in_ok-secrets.secrets.share c.in_ok-secrets.secrets.seed (c.in_ok-secrets.ensures.read).0 ((c.in_ok-secrets.ensures.read).1 fixed inn.of.me inn.word_is ruled.shares) can c.args.out.now.entries) (live_of now c.commit_new.new.fence c.commit_new.new.life) said c.saturating_sub.result (c.saturating_sub.ensures ∙ ap (λ (l : Life g.row.Dir.Denot). l.epoch - 1) c.life.view_is) (live_of now c.commit_new.new.fence c.prune.new.life) (ends_in (live_of now c.commit_new.new.fence c.draw_up.new.life) c.draw_up.result) (c.in_ok-prune.ensures.tells now c.commit_new.new.fence c.commit_new.new.out.entries)
+      (speaks_tells (drawing fixed (standing_of c.args.standing) c.args.info.now c.in_ok-secrets.secrets.share c.in_ok-secrets.secrets.seed (live_of now c.commit_new.new.fence c.prune.new.life)) (ends_in (live_of now c.commit_new.new.fence c.draw_up.new.life) c.draw_up.result) (c.draw_up.ensures.speaks fixed now c.commit_new.new.fence (fresh_as beside.inclusion now.inclusion same fresh) inn.of ruled (stands_on fixed (live_of beside c.args.fence.now c.args.life.now) (live_of now c.commit_new.new.fence c.prune.new.life) c.args.phase (ap (λ (l : Life g.row.Dir.Denot). l.tip) c.prune.ensures.rest ∙ ap (λ (l : Life g.row.Dir.Denot). l.tip) c.commit_new.ensures.rest ∙ ap (λ (l : Life g.row.Dir.Denot). l.tip) c.secrets_of.ensures.life) stands)))) (c.in_ok-commit_new.ensures.tells c.in_ok-secrets.secrets.seed fixed beside inn.of.me),
 )
 
 pub returns-in_err-judge_info-clause-above : goal.returns-in_err-judge_info-clause-above
@@ -187,3 +190,7 @@ draw_up-requires-clause-valid g c =
 
 pub prune-requires : goal.prune-requires
 prune-requires g c = λ told. rw (c.commit_new.ensures.rest, c.secrets_of.ensures.life, c.commit_new.ensures.disk, c.secrets_of.ensures.disk) (c.requires.open told)
+
+pub returns-clause-current : goal.returns-clause-current
+returns-clause-current g c = in_any c.draw_up.result (subst (λ (o : Option (EpochInfo g.row.Dir.Denot)). IsSome o) (sym (ap (λ (l : Life g.row.Dir.Denot). l.store.current) c.draw_up.ensures.rest ∙ c.in_ok-prune.ensures.current))
+    (c.in_ok-commit_new.ensures.current (λ was. subst (λ (o : Option (EpochInfo g.row.Dir.Denot)). IsSome o) (sym (ap (λ (l : Life g.row.Dir.Denot). l.store.current) c.secrets_of.ensures.life)) (c.requires.known was))))
