@@ -38,7 +38,7 @@ use Rattle.dkg_reshare.proofs.Caching.{artifact_cached, artifact_derived, fault_
 use Rattle.dkg_reshare.proofs.Keeping.{cached_none, cached_some}
 use Rattle.dkg_reshare.proofs.Said.{nothing_held, speaks_tells}
 use Rattle.dkg_reshare.proofs.Setting.{looked_up}
-use Rattle.dkg_reshare.proofs.Speaking.{wants_speaks}
+use Rattle.dkg_reshare.proofs.Speaking.{want_speaks, wants_speaks}
 use Rattle.dkg_reshare.proofs.Shares.{one_at, one_is, still_makes}
 
 -- THE PROVIDER'S SET
@@ -208,6 +208,14 @@ module _ {Dir : Type 0} (c : Fixed Dir) (info : EpochInfo Dir) (r : VerifiedLogs
           subst (λ (x : Course Dir Fault (Artifact Dir)). Tells x (went end) out now) (sym as_read)
           (then_told reads goes_on share (went end) first
           (subst (λ (x : Course Dir Fault (Artifact Dir)). Tells x (went end) now now) (sym as_done) (record { lines = []; added = sym (append-nil now); by = (refl, is) })))
+
+-- There was no memory, before anything was done.
+module _ {Dir S : Type 0} (course : Course Dir Fault S) where
+  pub want_made : (files : Files) (image : Files → Type 0) {out : List Line} {s : Secrets} {f : Burn} → MakesAt (on_devices course) (by_stop (Faulted NoMemory)) files image files image (moment out s f) (moment out s f)
+  want_made files image {out} = speaks_makes course (by_stop (Faulted NoMemory)) files image (want_speaks course out)
+
+  pub want_told : (out : List Line) → Tells course (by_stop (Faulted NoMemory)) out out
+  want_told out = speaks_tells course (by_stop (Faulted NoMemory)) (want_speaks course out)
 
 -- WHICH ONE IS KEPT
 
