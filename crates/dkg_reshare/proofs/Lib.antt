@@ -10,6 +10,7 @@ pub mod Calls
 pub mod Caused
 pub mod Chained
 pub mod Committing
+pub mod Completing
 pub mod Counted
 pub mod Dealers
 pub mod Dealt
@@ -50,4 +51,5 @@ pub mod Stopping
 pub mod Taking
 pub mod Telling
 pub mod Under
+pub mod Verifying
 pub mod Within
