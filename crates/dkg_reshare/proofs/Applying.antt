@@ -41,6 +41,7 @@ use Rattle.dkg_reshare.specs.Moved.{IsFirm}
 use Rattle.dkg_reshare.specs.Steps.{AreBoundsAt, carried_in, reads_secrets}
 use Rattle.dkg_reshare.specs.Today.{seen_today}
 use Rattle.dkg_reshare.proofs.Beginning.{makes_as, tells_as}
+use Rattle.dkg_reshare.proofs.Beside.{emptied}
 use Rattle.dkg_reshare.proofs.Chained.{early_makes, early_told, then_makes, then_told}
 use Rattle.dkg_reshare.proofs.Speaking.{goes_speaks, stops_speaks, wants_speaks}
 
@@ -55,6 +56,10 @@ pub tipped : {Dir : Type 0} (b : Block Dir) (beside : Beside Dir) (fence : Readi
 tipped b beside fence life tip is = ap (λ (t : Tip). live_of beside fence (record life { tip = Some t })) is
 
 -- WHILE DEALING
+
+-- No height counts as served.
+abbrev pub unserving : {Dir : Type 0} → Beside Dir → Beside Dir
+unserving beside = record beside { inclusion = record beside.inclusion { served = None } }
 
 module _ {Dir : Type 0} (c : Fixed Dir) (b : Block Dir) where
   -- what follows the offers
@@ -75,13 +80,10 @@ module _ {Dir : Type 0} (c : Fixed Dir) (b : Block Dir) where
     pub goes_on : (b.height + 1 == mid.midpoint) ≡ false → (tip : Tip) → tip ≡ tip_at b → (out : List Line) → Speaks (ends_offers st) (went (live_of beside fence (record mid { tip = Some tip }))) out out
     goes_on is tip at out = goes_speaks (ends_offers st) (live_of beside fence (record mid { tip = Some tip })) (with_tip b st) (ap at_test (test_is false is)) (tipped b beside fence mid tip at) out
 
-    -- or ends, where its log finds memory
-    pub begun_or_not : (b.height + 1 == mid.midpoint) ≡ true → (tip : Tip) → tip ≡ tip_at b → (new : Life Dir) (r : Result (Unit {0}) Stop)
-        → OnOk r (live_of beside fence new ≡ begins_inclusion c (live_of beside fence (record mid { tip = Some tip }))) → IfErr r (λ stop. stop ≡ Faulted NoMemory)
-        → (out : List Line) → Speaks (ends_offers st) (ends_in (live_of beside fence new) r) out out
-    begun_or_not is tip at new (Ok done) begun memory out =
-        goes_speaks (ends_offers st) (live_of beside fence new) (begins_inclusion c (with_tip b st)) (ap at_test (test_is true is)) (begun ∙ ap (begins_inclusion c) (tipped b beside fence mid tip at)) out
-    begun_or_not is tip at new (Err stop) begun memory out = wants_speaks (ends_offers st) stop memory out out refl
+    -- or ends, and what waits is read
+    pub dealing_ended : (b.height + 1 == mid.midpoint) ≡ true → (tip : Tip) → tip ≡ tip_at b → (new : Life Dir)
+        → live_of (unserving beside) fence new ≡ begins_inclusion c (live_of (unserving beside) fence (record mid { tip = Some tip })) → ends_offers st ≡ advanced c (live_of (unserving beside) fence new)
+    dealing_ended is tip at new begun = ap at_test (test_is true is) ∙ ap (advanced c) (sym (begun ∙ ap (begins_inclusion c) (tipped b (unserving beside) fence mid tip at)))
 
   -- BOTH
 
@@ -149,7 +151,7 @@ module _ {Dir : Type 0} (b : Block Dir) (epoch : ℕ) where
   pub carried_caused : (e : Fault) → carried_in epoch b ≡ Err e → IsCaused (Faulted e) ⊥ ⊥ ⊥
   carried_caused e is = let P : Result (EpochInfo Dir) Fault → Type 0 = λ r. IfErr r (λ its. IsCaused (Faulted its) ⊥ ⊥ ⊥) in subst P is (blames (info_of b.payload))
 
-  own_cause : (e : Fault) → carried_in epoch b ≡ Err e → cause_in e ≡ None
+  pub own_cause : (e : Fault) → carried_in epoch b ≡ Err e → cause_in e ≡ None
   own_cause e is = let P : Result (EpochInfo Dir) Fault → Type 0 = λ r. IfErr r (λ its. cause_in its ≡ None) in subst P is (cause_of (info_of b.payload))
 
   same_ok : (x y : EpochInfo Dir) → ◌≡◌ {A = Result (EpochInfo Dir) Fault} (Ok x) (Ok y) → x ≡ y
@@ -167,21 +169,11 @@ module _ {Dir : Type 0} (b : Block Dir) (epoch : ℕ) where
   pub carried_next : (info : EpochInfo Dir) → carried_in epoch b ≡ Ok info → info.epoch ≡ epoch + 1
   carried_next info is = of_next (info_of b.payload) info is
 
--- WHILE FOLLOWING
+-- AT AN EPOCH'S LAST BLOCK, and before it
 
-module _ {Dir : Type 0} (c : Fixed Dir) (b : Block Dir) (st : Live Dir) (n : ℕ) (same : c.blocks_per_epoch ≡ n) (reshare : c.oneshot ≡ None) (bounds : Bounds) (are : AreBoundsAt n bounds b.height) where
-  abbrev goes_in : EpochInfo Dir → Course Dir Fault (Live Dir)
-  goes_in info = blocks.follows_into c b info st
-
-  last_is : (q : Bool) → (b.height == bounds.last) ≡ q → is_last_height c b.height ≡ q
+module _ {Dir : Type 0} (c : Fixed Dir) (b : Block Dir) (n : ℕ) (same : c.blocks_per_epoch ≡ n) (reshare : c.oneshot ≡ None) (bounds : Bounds) (are : AreBoundsAt n bounds b.height) where
+  pub last_is : (q : Bool) → (b.height == bounds.last) ≡ q → is_last_height c b.height ≡ q
   last_is q is = ap (λ (m : ℕ). b.height == last m (epoch_of m b.height)) same ∙ ap (λ (x : Bounds). b.height == x.last) (sym are.are) ∙ is
-
-  abbrev at_last : Bool → Course Dir Fault (Live Dir)
-  at_last q = if q then blocks.carried c b goes_in else Goes (with_tip b st)
-
-  -- below an epoch's last block its tip moves
-  pub before_last : (b.height == bounds.last) ≡ false → blocks.follows_at c b st ≡ Goes (with_tip b st)
-  before_last is = ap at_last (last_is false is)
 
   expected_is : blocks.expected_epoch c b.height ≡ bounds.epoch + 1
   expected_is =
@@ -189,32 +181,54 @@ module _ {Dir : Type 0} (c : Fixed Dir) (b : Block Dir) (st : Live Dir) (n : ℕ
       ∙ ap (λ (m : ℕ). epoch_of m b.height + 1) same
       ∙ ap (λ (x : Bounds). x.epoch + 1) (sym are.are)
 
-  abbrev by_carried : Result (EpochInfo Dir) Fault → Course Dir Fault (Live Dir)
-  by_carried (Ok info) = goes_in info
-  by_carried (Err e) = Stops e
+  -- how it goes on by what it carries
+  module _ (goes_in : EpochInfo Dir → Course Dir Fault (Live Dir)) where
+    abbrev by_carried : Result (EpochInfo Dir) Fault → Course Dir Fault (Live Dir)
+    by_carried (Ok info) = goes_in info
+    by_carried (Err e) = Stops e
 
-  nested : (e : ℕ) (o : Option (EpochInfo Dir))
-      → option_map_or (λ (info : EpochInfo Dir). if info.epoch == e then goes_in info else Stops (WrongEpoch e info.epoch)) o (Stops (MissingEpochInfo b.height))
-      ≡ by_carried (option_map_or (λ (info : EpochInfo Dir). if info.epoch == e then Ok info else Err (WrongEpoch e info.epoch)) o (Err (MissingEpochInfo b.height)))
-  nested e None = refl
-  nested e (Some info) = by_test (info.epoch == e)
-    where
-      by_test : (p : Bool) → (if p then goes_in info else Stops (WrongEpoch e info.epoch)) ≡ by_carried (if p then Ok info else Err (WrongEpoch e info.epoch))
-      by_test true = refl
-      by_test false = refl
+    nested : (e : ℕ) (o : Option (EpochInfo Dir))
+        → option_map_or (λ (info : EpochInfo Dir). if info.epoch == e then goes_in info else Stops (WrongEpoch e info.epoch)) o (Stops (MissingEpochInfo b.height))
+        ≡ by_carried (option_map_or (λ (info : EpochInfo Dir). if info.epoch == e then Ok info else Err (WrongEpoch e info.epoch)) o (Err (MissingEpochInfo b.height)))
+    nested e None = refl
+    nested e (Some info) = by_test (info.epoch == e)
+      where
+        by_test : (p : Bool) → (if p then goes_in info else Stops (WrongEpoch e info.epoch)) ≡ by_carried (if p then Ok info else Err (WrongEpoch e info.epoch))
+        by_test true = refl
+        by_test false = refl
 
-  carried_is : blocks.carried c b goes_in ≡ by_carried (carried_in bounds.epoch b)
-  carried_is =
-      ap (λ (e : ℕ). option_map_or (λ (info : EpochInfo Dir). if info.epoch == e then goes_in info else Stops (WrongEpoch e info.epoch)) (info_of b.payload) (Stops (MissingEpochInfo b.height))) expected_is
-      ∙ nested (bounds.epoch + 1) (info_of b.payload)
+    carried_is : blocks.carried c b goes_in ≡ by_carried (carried_in bounds.epoch b)
+    carried_is =
+        ap (λ (e : ℕ). option_map_or (λ (info : EpochInfo Dir). if info.epoch == e then goes_in info else Stops (WrongEpoch e info.epoch)) (info_of b.payload) (Stops (MissingEpochInfo b.height))) expected_is
+        ∙ nested (bounds.epoch + 1) (info_of b.payload)
+
+    pub carried_well : (info : EpochInfo Dir) → carried_in bounds.epoch b ≡ Ok info → blocks.carried c b goes_in ≡ goes_in info
+    carried_well info is = carried_is ∙ ap by_carried is
+
+    pub carried_ill : (e : Fault) → carried_in bounds.epoch b ≡ Err e → blocks.carried c b goes_in ≡ Stops e
+    carried_ill e is = carried_is ∙ ap by_carried is
+
+-- WHILE FOLLOWING
+
+module _ {Dir : Type 0} (c : Fixed Dir) (b : Block Dir) (st : Live Dir) (n : ℕ) (same : c.blocks_per_epoch ≡ n) (reshare : c.oneshot ≡ None) (bounds : Bounds) (are : AreBoundsAt n bounds b.height) where
+  abbrev goes_in : EpochInfo Dir → Course Dir Fault (Live Dir)
+  goes_in info = blocks.follows_into c b info st
+
+  abbrev at_last : Bool → Course Dir Fault (Live Dir)
+  at_last q = if q then blocks.carried c b goes_in else Goes (with_tip b st)
+
+  -- below an epoch's last block its tip moves
+  pub before_last : (b.height == bounds.last) ≡ false → blocks.follows_at c b st ≡ Goes (with_tip b st)
+  before_last is = ap at_last (last_is c b n same reshare bounds are false is)
 
   module _ (at : (b.height == bounds.last) ≡ true) where
     -- at the last one it is looked at what it carries
     pub at_its_last : (info : EpochInfo Dir) → carried_in bounds.epoch b ≡ Ok info → blocks.follows_at c b st ≡ blocks.follows_into c b info st
-    at_its_last info is = ap at_last (last_is true at) ∙ carried_is ∙ ap by_carried is
+    at_its_last info is = ap at_last (last_is c b n same reshare bounds are true at) ∙ carried_well c b n same reshare bounds are goes_in info is
 
     pub not_carried : (e : Fault) → carried_in bounds.epoch b ≡ Err e → (out : List Line) → Speaks (blocks.follows_at c b st) (by_stop (Faulted e)) out out
-    not_carried e is out = stops_speaks (blocks.follows_at c b st) e (ap at_last (last_is true at) ∙ carried_is ∙ ap by_carried is) (own_cause b bounds.epoch e is) out
+    not_carried e is out =
+        stops_speaks (blocks.follows_at c b st) e (ap at_last (last_is c b n same reshare bounds are true at) ∙ carried_ill c b n same reshare bounds are goes_in e is) (own_cause b bounds.epoch e is) out
 
 -- INTO THE NEXT EPOCH
 
@@ -291,6 +305,17 @@ can_read c h reads = (h, ap (λ (seen : Held → Seen). (seen h).shares) reads, 
 pub as_it_was : {Dir : Type 0} (c : Fixed Dir) (b : Block Dir) (info : EpochInfo Dir) (beside : Beside Dir) (fence : Readiness) (old new : Life Dir) → new ≡ old
     → blocks.follows_into c b info (live_of beside fence old) ≡ blocks.follows_into c b info (live_of beside fence new)
 as_it_was {Dir} c b info beside fence old new same = ap (λ (l : Life Dir). blocks.follows_into c b info (live_of beside fence l)) (sym same)
+
+-- one of which inclusion has nothing of the epoch before
+pub follows_anew : {Dir : Type 0} (c : Fixed Dir) (b : Block Dir) (info : EpochInfo Dir) (beside : Beside Dir) (fence : Readiness) (life : Life Dir)
+    → blocks.follows_into c b info (live_of beside fence life) ≡ blocks.follows_into c b info (live_of (record beside { inclusion = emptied beside.inclusion }) fence life)
+follows_anew c b info beside fence life = λ i. Ask (λ h. anew_by (setup.recovered_share c (c.seen h) info) (setup.seed_for c info.epoch (lookup info.epoch (c.seen h).seeds)) i)
+  where
+    anew_by : (share : Option ℕ) (seed : List ℕ)
+        → bind (setup.commits info seed share (live_of beside fence life)) (λ s. bind (setup.registers c info share s) (λ s. setup.setup c None (with_tip b s)))
+        ≡ bind (setup.commits info seed share (live_of (record beside { inclusion = emptied beside.inclusion }) fence life)) (λ s. bind (setup.registers c info share s) (λ s. setup.setup c None (with_tip b s)))
+    anew_by None seed = refl
+    anew_by (Some share) seed = refl
 
 -- the setup behind a block
 pub set_up_behind : {Dir : Type 0} (c : Fixed Dir) (b : Block Dir) (beside : Beside Dir) (fence : Readiness) (life : Life Dir) (tip : Tip) → tip ≡ tip_at b

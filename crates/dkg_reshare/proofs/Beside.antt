@@ -4,7 +4,7 @@ use Rattle.std.specs.Prelude.{IsTrue, OnOk, reverse}
 use Rattle.std.proofs.lemmas.List.{reverse-append}
 use Rattle.dkg_types.specs.declared.info.EpochInfo.{EpochInfo}
 use Rattle.dkg_types.specs.declared.scheme.SchemeInfo.{SchemeInfo}
-use Rattle.dkg_core.specs.Live.{Inclusion}
+use Rattle.dkg_core.specs.Live.{Inclusion, Orchestrator}
 use Rattle.dkg_reshare.specs.LiveOf.{Beside, EndsBeside, EndsWith, IsFresh, Took, nothing_beside, scheme_by, with_scheme_of}
 
 module _ {Dir : Type 0} (beside : Beside Dir) (TookThese : List (ℕ × SchemeInfo) → Type 0) (P : Beside Dir → Type 0) where
@@ -72,6 +72,9 @@ fresh_as {Dir} old now same fresh = subst (λ (i : Inclusion Dir). IsFresh i) (s
 abbrev pub emptied : {Dir : Type 0} → Inclusion Dir → Inclusion Dir
 emptied i = record i { served = None; queue = []; running = None; waiter = None; retained = None; cached = None }
 
+pub emptied_fresh : {Dir : Type 0} (i : Inclusion Dir) → IsFresh (emptied i)
+emptied_fresh i = record { served = refl; queue = refl; running = refl; waiter = refl; retained = refl; cached = refl }
+
 pub fresh_stays : {Dir : Type 0} (i : Inclusion Dir) → IsFresh i → emptied i ≡ i
 fresh_stays i fresh = λ k. record i {
   served = sym fresh.served k;
@@ -116,4 +119,20 @@ module _ {Dir : Type 0} (beside : Beside Dir) where
       probe = ends.probe;
       orchestrator = ends.orchestrator;
       holds = so ends.now ends.holds;
+    }
+
+-- two calls, of which the first registered nothing
+pub with_then : {Dir : Type 0} (beside : Beside Dir) {M N : Inclusion Dir → Type 0} {T : List (ℕ × SchemeInfo) → Type 0} {P Q : Beside Dir → Type 0}
+    → EndsWith beside M (λ more. more ≡ []) P → ((now : Beside Dir) → M now.inclusion → P now → EndsWith now N T Q) → EndsWith beside N T Q
+with_then {Dir} beside first next =
+    let second = next first.now first.inclusion first.holds in
+    record {
+      now = second.now;
+      inclusion = second.inclusion;
+      more = second.more;
+      schemes = second.schemes ∙ ap (λ (l : List (ℕ × SchemeInfo)). second.more ++ l) (first.schemes ∙ ap (λ (l : List (ℕ × SchemeInfo)). l ++ beside.orchestrator.schemes) first.took);
+      took = second.took;
+      probe = second.probe ∙ first.probe;
+      orchestrator = second.orchestrator ∙ ap (λ (o : Orchestrator Dir). record o { schemes = second.now.orchestrator.schemes }) first.orchestrator;
+      holds = second.holds;
     }

@@ -19,21 +19,25 @@ use Rattle.dkg_reshare.proofs.Beside.{emptied}
 
 -- SEEN
 
+pub seen_as : {C Dir Signer Cfg : Type 0} (old new : Inclusion C Dir Signer Cfg) (i : core.Inclusion Dir) → new ≡ old → IsSeen old i → IsSeen new i
+seen_as {C} {Dir} {Signer} {Cfg} old new i same seen = subst (λ (its : Inclusion C Dir Signer Cfg). IsSeen its i) (sym same) seen
+
+-- what an epoch begins with
+abbrev pub renewed : {C Dir Signer Cfg : Type 0} → Inclusion C Dir Signer Cfg → Inclusion C Dir Signer Cfg
+renewed its = record its { served = None; hand = None; requests = []; verification = record { running = None; kept = None }; waiter = None; cache = None }
+
 module _ {C Dir Signer Cfg : Type 0} (its : Inclusion C Dir Signer Cfg) (i : core.Inclusion Dir) (seen : IsSeen its i) where
   -- The own log counts as served for another height, or for none.
   pub seen_served : (there here : Option ℕ) → there ≡ here → IsSeen (record its { served = here }) (record i { served = there })
   seen_served there here same = record { served = same; queue = seen.queue; running = seen.running; waiter = seen.waiter; retained = seen.retained; cached = seen.cached; told = seen.told; used = seen.used }
 
   -- The request in hand is put back.
-  pub seen_back : IsSeen (record its { hand = None; requests = in_front its.hand its.requests }) i
-  seen_back = record { served = seen.served; queue = seen.queue; running = seen.running; waiter = seen.waiter; retained = seen.retained; cached = seen.cached; told = seen.told; used = seen.used }
+  pub seen_back : (new : Inclusion C Dir Signer Cfg) → new ≡ record its { hand = None; requests = in_front its.hand its.requests } → IsSeen new i
+  seen_back new same = seen_as (record its { hand = None; requests = in_front its.hand its.requests }) new i same (record { served = seen.served; queue = seen.queue; running = seen.running; waiter = seen.waiter; retained = seen.retained; cached = seen.cached; told = seen.told; used = seen.used })
 
   -- An epoch begins.
-  pub seen_anew : IsSeen (record its { served = None; hand = None; requests = []; verification = record { running = None; kept = None }; waiter = None; cache = None }) (emptied i)
-  seen_anew = record { served = refl; queue = refl; running = refl; waiter = refl; retained = refl; cached = refl; told = seen.told; used = seen.used }
-
-pub seen_as : {C Dir Signer Cfg : Type 0} (old new : Inclusion C Dir Signer Cfg) (i : core.Inclusion Dir) → new ≡ old → IsSeen old i → IsSeen new i
-seen_as {C} {Dir} {Signer} {Cfg} old new i same seen = subst (λ (its : Inclusion C Dir Signer Cfg). IsSeen its i) (sym same) seen
+  pub seen_anew : (new : Inclusion C Dir Signer Cfg) → new ≡ renewed its → IsSeen new (emptied i)
+  seen_anew new same = seen_as (renewed its) new (emptied i) same (record { served = refl; queue = refl; running = refl; waiter = refl; retained = refl; cached = refl; told = seen.told; used = seen.used })
 
 -- WHAT HOLDS OF IT
 
@@ -87,6 +91,10 @@ module _ {C Dir Signer Cfg : Type 0} (check_log_of : CheckLogOf) (dealing_of : D
     };
     settled = λ includes has free idle. requests;
   }
+
+  -- .. as an epoch begins
+  pub anew_settled : (life : Life Dir) (old new : Inclusion C Dir Signer Cfg) → new ≡ renewed old → ((life.stage ≡ Following → ⊥) → IsSome life.store.current) → IsSettled life new
+  anew_settled life old new same current = settled_as life (renewed old) new same (empty_settled life (renewed old) refl refl refl refl current)
 
   -- IN ANOTHER LIFE
 
@@ -184,15 +192,15 @@ module _ {C Dir Signer Cfg : Type 0} (check_log_of : CheckLogOf) (dealing_of : D
 
   module _ (life : Life Dir) (its : Inclusion C Dir Signer Cfg) (ready : IsReady life its) where
     -- the request in hand is put back
-    pub back_ready : IsReady life (record its { hand = None; requests = in_front its.hand its.requests })
-    back_ready = record {
+    pub back_ready : (new : Inclusion C Dir Signer Cfg) → new ≡ record its { hand = None; requests = in_front its.hand its.requests } → IsReady life new
+    back_ready new same = ready_as life (record its { hand = None; requests = in_front its.hand its.requests }) new same (record {
       hand = tt;
       free = λ some. absurd some;
       runs = ready.runs;
       idle = λ follows. waits its.hand ready.hand follows;
       current = ready.current;
       unserved = ready.unserved;
-    }
+    })
       where
         waits : (hand : Option (Hand Dir Cfg)) → IfSome hand (IsInHand check_log_of blocks_per_epoch life) → life.stage ≡ Following → in_front hand its.requests ≡ []
         waits None is follows = ready.idle follows

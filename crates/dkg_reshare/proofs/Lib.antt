@@ -1,5 +1,7 @@
 pub mod Acked
 pub mod Advancing
+pub mod Alike
+pub mod Answering
 pub mod Applying
 pub mod Beginning
 pub mod Beside
@@ -10,9 +12,11 @@ pub mod Calls
 pub mod Caused
 pub mod Chained
 pub mod Committing
+pub mod Concluding
 pub mod Counted
 pub mod Dealers
 pub mod Dealt
+pub mod Deriving
 pub mod Drawing
 pub mod Ending
 pub mod Giving
@@ -21,6 +25,7 @@ pub mod Heard
 pub mod Hearing
 pub mod Included
 pub mod Judging
+pub mod Keeping
 pub mod Kept
 pub mod Lines
 pub mod Logged
@@ -30,12 +35,13 @@ pub mod Observed
 pub mod Offered
 pub mod Openings
 pub mod Owned
+pub mod PassingOn
 pub mod Placing
 pub mod Ranges
 pub mod Read
 pub mod Reading
-pub mod Requesting
 pub mod Readying
+pub mod Requesting
 pub mod Said
 pub mod Scanning
 pub mod Seated

@@ -155,6 +155,22 @@ module _ {Dir : Type 0} (n : ℕ) (height : ℕ) (digest : List ℕ) where
     ended = λ including. absurd (let h : ◌≡◌ {A = Stage} Including Following = sym including ∙ follows in cc);
   }
 
+-- while it includes, behind a block of its epoch that isn't the last
+pub placed_included : {Dir : Type 0} (n : ℕ) (old : Life Dir) → IsPlaced n old → old.stage ≡ Including → (height : ℕ) → height ≡ awaited_of old → epoch_of n (height + 1) ≡ old.epoch → (tip : Tip) → tip.height ≡ height
+    → IsPlaced n (record old { tip = Some tip })
+placed_included n old placed includes height next epoch tip at = record {
+  epoch_is = λ part. sym epoch ∙ ap (λ (h : ℕ). epoch_of n (h + 1)) (sym at);
+  midpoint_is = placed.midpoint_is;
+  in_range = placed.in_range;
+  joins = placed.joins;
+  early = λ deals. absurd (let h : ◌≡◌ {A = Stage} Including Dealing = sym includes ∙ deals in cc);
+  ended = λ still. above old.tip (placed.ended includes) next;
+}
+  where
+    above : (o : Option Tip) → IsSomeAnd o (λ t. old.midpoint ≤ t.height + 1) → height ≡ option_map_or (λ t. t.height + 1) o 0 → old.midpoint ≤ tip.height + 1
+    above None past is = absurd past
+    above (Some t) past is = omega (arith, past, is, at)
+
 -- what a test of heights says
 pub height_is : (a b : ℕ) → (a == b) ≡ true → a ≡ b
 height_is a b is = grind (arith, nat_tests, is)

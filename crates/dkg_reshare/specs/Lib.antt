@@ -1,6 +1,7 @@
 pub mod Actors
 pub mod Anchors
 pub mod Carried
+pub mod Concluded
 pub mod Configured
 pub mod Ends
 pub mod Given
@@ -16,3 +17,4 @@ pub mod Rules
 pub mod Scanned
 pub mod Steps
 pub mod Today
+pub mod Verifying
