@@ -193,23 +193,23 @@ module _ {Dir : Type 0} (c : Fixed Dir) (round : Round) (st : Live Dir) where
     found_is s logs bs ended = ap (λ (p : declared.Fed × Scan). closed_by ended p.0) (fed_done check s (answer.Logs logs) bs (λ e. cc))
 
     module _ (ended : Bool) where
+      abbrev goes : (above : Option (Block Dir)) → LogMap → Block Dir → List (Block Dir) → Stand → Fed
+      goes above found b bs stand = closed_by ended (fed_all check (scans.answers check (at_scan above found) b stand).1 (scans.answers check (at_scan above found) b stand).0 bs).0
+
       pub scan_is : (above : Option (Block Dir)) (found : LogMap) (bs : List (Block Dir)) → including.scan c round st above found bs ended ≡ closed_by ended (fed_all check (at_scan above found) answer.Need bs).0
       scan_is above found [] = refl
       scan_is above found (b ∷ bs) =
           by_tests (including.is_final c st above b) (not (b.height == including.next_height c st above)) (including.is_unlinked above b) (nat_lt (including.lowest c st) b.height) (including.is_detached c st b)
-          ∙ ap (λ (stand : Stand). goes stand) (sym (stand_is above found b))
+          ∙ ap (λ (stand : Stand). goes above found b bs stand) (sym (stand_is above found b))
         where
-          abbrev goes : Stand → Fed
-          goes stand = closed_by ended (fed_all check (scans.answers check (at_scan above found) b stand).1 (scans.answers check (at_scan above found) b stand).0 bs).0
-
-          higher_is : including.scan c round st (Some b) (including.with_lower c round st b found) bs ended ≡ goes Between
+          higher_is : including.scan c round st (Some b) (including.with_lower c round st b found) bs ended ≡ goes above found b bs Between
           higher_is = scan_is (Some b) (including.with_lower c round st b found) bs
               ∙ ap (λ (l : LogMap). closed_by ended (fed_all check (at_scan (Some b) l) answer.Need bs).0) (sym (lower_is above b found))
 
-          lowest_found : Found (including.with_lower c round st b found) ≡ goes Lowest
+          lowest_found : Found (including.with_lower c round st b found) ≡ goes above found b bs Lowest
           lowest_found = ap Found (sym (lower_is above b found)) ∙ sym (found_is (scans.closes (at_scan above found)) (scans.with_lower check (at_scan above found) b) bs ended)
 
-          by_tests : (final wrong unlinked higher detached : Bool) → rest_by final wrong unlinked higher detached above found b bs ended ≡ goes (stand_by final wrong unlinked higher detached above b)
+          by_tests : (final wrong unlinked higher detached : Bool) → rest_by final wrong unlinked higher detached above found b bs ended ≡ goes above found b bs (stand_by final wrong unlinked higher detached above b)
           by_tests true wrong unlinked higher detached = scan_is (Some b) found bs
           by_tests false true unlinked higher detached = sym (refused_is (scans.closes (at_scan above found)) (WrongHeight (including.next_height c st above) b.height) bs ended)
           by_tests false false true higher detached = sym (refused_is (scans.closes (at_scan above found)) (Unlinked b.height) bs ended)

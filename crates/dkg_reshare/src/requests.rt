@@ -143,7 +143,10 @@ fn end_hand<C: Ceremony, Dir: Directory>(inclusion: &mut Inclusion<C, Dir>, requ
     ensures { EndsHand request inclusion.old inclusion.new result }
 {
     match &mut inclusion.hand {
-        Some(hand) if hand.request.number == request => hand.scan.end(),
+        Some(hand) if hand.request.number == request => {
+            hand.request.ended = true;
+            hand.scan.end()
+        }
         _ => Fed::Need,
     }
 }
