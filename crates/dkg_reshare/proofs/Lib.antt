@@ -31,6 +31,7 @@ pub mod Included
 pub mod Judging
 pub mod Keeping
 pub mod Kept
+pub mod LastApplied
 pub mod Lines
 pub mod Logged
 pub mod Making
