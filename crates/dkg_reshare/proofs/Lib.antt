@@ -31,7 +31,6 @@ pub mod Included
 pub mod Judging
 pub mod Keeping
 pub mod Kept
-pub mod LastApplied
 pub mod Lines
 pub mod Logged
 pub mod Making
