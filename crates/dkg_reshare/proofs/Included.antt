@@ -39,6 +39,10 @@ module _ {C Dir Signer Cfg : Type 0} (its : Inclusion C Dir Signer Cfg) (i : cor
   pub seen_anew : (new : Inclusion C Dir Signer Cfg) → new ≡ renewed its → IsSeen new (emptied i)
   seen_anew new same = seen_as (renewed its) new (emptied i) same (record { served = refl; queue = refl; running = refl; waiter = refl; retained = refl; cached = refl; told = seen.told; used = seen.used })
 
+-- no request is in hand then
+pub back_idle : {C Dir Signer Cfg : Type 0} (its new : Inclusion C Dir Signer Cfg) → new ≡ record its { hand = None; requests = in_front its.hand its.requests } → new.hand ≡ None
+back_idle {C} {Dir} {Signer} {Cfg} its new same = ap (λ (i : Inclusion C Dir Signer Cfg). i.hand) same
+
 -- WHAT HOLDS OF IT
 
 apart_stages : {A : Type 0} (s : Stage) → s ≡ Dealing → s ≡ Following → A

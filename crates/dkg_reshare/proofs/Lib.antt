@@ -9,6 +9,7 @@ pub mod Calls
 pub mod Caused
 pub mod Chained
 pub mod Committing
+pub mod Concluding
 pub mod Counted
 pub mod Dealers
 pub mod Dealt
