@@ -3,6 +3,7 @@ pub mod Advancing
 pub mod Alike
 pub mod Answering
 pub mod Applying
+pub mod Asking
 pub mod Beginning
 pub mod Beside
 pub mod Blamed
