@@ -1,6 +1,7 @@
 pub mod Acked
 pub mod Advancing
 pub mod Alike
+pub mod AnswerLines
 pub mod Answering
 pub mod Applying
 pub mod Asking
@@ -9,14 +10,17 @@ pub mod Beside
 pub mod Blamed
 pub mod Blaming
 pub mod Burning
+pub mod Caching
 pub mod Calls
 pub mod Caused
 pub mod Chained
 pub mod Committing
+pub mod Completing
 pub mod Concluding
 pub mod Counted
 pub mod Dealers
 pub mod Dealt
+pub mod Derived
 pub mod Deriving
 pub mod Drawing
 pub mod Ending
@@ -56,4 +60,5 @@ pub mod Stopping
 pub mod Taking
 pub mod Telling
 pub mod Under
+pub mod Verifying
 pub mod Within

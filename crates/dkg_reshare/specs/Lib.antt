@@ -3,6 +3,7 @@ pub mod Anchors
 pub mod Carried
 pub mod Concluded
 pub mod Configured
+pub mod Derived
 pub mod Ends
 pub mod Given
 pub mod Heard
