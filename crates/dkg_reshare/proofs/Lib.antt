@@ -4,6 +4,7 @@ pub mod Alike
 pub mod AnswerLines
 pub mod Answering
 pub mod Applying
+pub mod Asking
 pub mod Beginning
 pub mod Beside
 pub mod Blamed
