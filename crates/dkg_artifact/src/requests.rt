@@ -38,6 +38,29 @@ impl<Dir: Directory> Model for Request<Dir> {
     ghost view = { λ r. record { number = r.number; blocks = r.blocks; ended = r.ended } };
 }
 
+impl<Dir: Directory> Request<Dir> {
+    /// Ends the ancestry, where the request is of this number.
+    fn end(&mut self, number: u64)
+        ensures { self.new ≡ ended_for number self.old }
+    {
+        if self.number == number {
+            self.ended = true;
+        }
+    }
+}
+
+impl<Dir: Directory + Drop> Request<Dir> {
+    /// Feeds a block, where the request is of this number and its ancestry has not ended.
+    fn feed(&mut self, alloc: Global, number: u64, block: &Block<Dir>) -> Mem<()>
+        ensures { OnOk result (self.new ≡ fed_for number block.now self.old) }
+    {
+        if self.number == number && !self.ended {
+            self.blocks.0.push(block.copy(alloc)?)?;
+        }
+        Ok(())
+    }
+}
+
 /// Requests that wait, the first first.
 #[derive(Drop)]
 pub struct Requests<Dir: Directory> {
@@ -82,10 +105,9 @@ impl<Dir: Directory> Requests<Dir> {
     pub fn end(&mut self, number: u64)
         ensures { self.new ≡ map (ended_for number) self.old }
     {
-        for request in self.waiting.iter_mut() {
-            if request.number == number {
-                request.ended = true;
-            }
+        let waiting = self.waiting.make_contiguous();
+        for request in waiting.iter_mut() {
+            request.end(number);
         }
     }
 }
@@ -114,10 +136,9 @@ impl<Dir: Directory + Drop> Requests<Dir> {
     pub fn feed(&mut self, alloc: Global, number: u64, block: &Block<Dir>) -> Mem<()>
         ensures ok { OnOk result (self.new ≡ map (fed_for number block.now) self.old) }
     {
-        for request in self.waiting.iter_mut() {
-            if request.number == number && !request.ended {
-                request.blocks.0.push(block.copy(alloc)?)?;
-            }
+        let waiting = self.waiting.make_contiguous();
+        for request in waiting.iter_mut() {
+            request.feed(alloc, number, block)?;
         }
         Ok(())
     }

@@ -1,19 +1,14 @@
 -- Requests are read one after another, until one needs more or a verification runs.
-use Rattle.std.proofs.Common.{◌≡◌, ℕ, zero, suc, ◌+◌, Bool, true, false, List, [], ◌∷◌, Option, Some, None, refl, sym, ◌∙◌, ap, subst, arith}
+use Rattle.std.proofs.Common.{◌≡◌, ℕ, zero, suc, ◌+◌, Bool, true, false, List, [], ◌∷◌, length, Option, Some, None, refl, sym, ◌∙◌, ap, subst, arith}
 use Rattle.std.specs.Prelude.{if◌then◌else◌}
 use Rattle.std.specs.Option.{option_map_or}
-use Rattle.dkg_journal.specs.Names.{Files}
 use Rattle.dkg_ceremony.specs.declared.round.RoundParts.{RoundParts as Round}
-use Rattle.dkg_types.specs.declared.entry.Entry.{Entry as Line}
 use Rattle.dkg_types.specs.declared.fault.Fault.{Fault}
-use Rattle.dkg_secrets.specs.Secrets.{Secrets}
-use Rattle.dkg_store.specs.Acts.{went}
-use Rattle.dkg_store.specs.declared.devices.Devices.{Devices}
 use Rattle.dkg_core.specs.Courses.{Course, Say, Do, Call, Ask, Goes, Stops, bind}
 use Rattle.dkg_core.specs.Fixed.{Fixed}
-use Rattle.dkg_core.specs.Including.{advances, advanced, fed, is_need, read_of, reads_first, reads_first_in}
+use Rattle.dkg_core.specs.Including.{Fed, Need, Found, Lacks, advances, advanced, fed, is_need, read_of, reads_first, reads_first_in}
 use Rattle.dkg_core.specs.Live.{Live, Stage, Deals, Includes, Follows, Ends, Request, Job, with_queue}
-use Rattle.dkg_reshare.specs.Including.{reads_next}
+use Rattle.dkg_reshare.specs.Including.{answers_first, behind_first, goes_on, reads_next}
 use Rattle.dkg_reshare.proofs.Offered.{bind_goes}
 
 -- one behind another, and a third behind both
@@ -100,7 +95,50 @@ module _ {Dir : Type 0} (c : Fixed Dir) where
     pub advances_more : advances c (suc most) st ≡ bind (reads_next c st) next
     advances_more = more_in st.participation.round refl
 
-  -- so many, and then so many more
+  -- IT IS READ
+
+  -- The first request is read: inclusion lasts, and no verification runs.
+  pub record ReadsFirst (st : Live Dir) (round : Round) (r : Request Dir) (rs : List (Request Dir)) : Type 0 where
+    pub round_is : st.participation.round ≡ Some round
+    pub includes : st.participation.stage ≡ Includes
+    pub free : st.inclusion.running ≡ None
+    pub queue : st.inclusion.queue ≡ r ∷ rs
+
+  module _ (st : Live Dir) (round : Round) (r : Request Dir) (rs : List (Request Dir)) (first : ReadsFirst st round r rs) (its : Fed) (is : read_of c round st r ≡ its) (answered : is_need its ≡ false) where
+    first_is : (next : Live Dir → Course Dir Fault (Live Dir)) → option_map_or (λ (round : Round). reads_first c round next st) st.participation.round (Goes st) ≡ bind (fed c round r.number (with_queue rs st) its) next
+    first_is next =
+        ap (λ (o : Option Round). option_map_or (λ (round : Round). reads_first c round next st) o (Goes st)) first.round_is
+        ∙ (λ i. reads_first_in c round next st (first.includes i) (first.free i) (first.queue i))
+        ∙ (λ i. if is_need (is i) then Goes st else bind (fed c round r.number (with_queue rs st) (is i)) next)
+        ∙ ap (λ (b : Bool). if b then Goes st else bind (fed c round r.number (with_queue rs st) its) next) answered
+
+    pub next_is : reads_next c st ≡ fed c round r.number (with_queue rs st) its
+    next_is = first_is (λ st. Goes st) ∙ bind_goes (fed c round r.number (with_queue rs st) its)
+
+    -- .. and those behind it are
+    pub advanced_is : advanced c st ≡ bind (fed c round r.number (with_queue rs st) its) (λ st. advances c (length rs) st)
+    advanced_is = ap (λ (q : List (Request Dir)). advances c (length q) st) first.queue ∙ first_is (λ st. advances c (length rs) st)
+
+    pub answers_is : (request : ℕ) → r.number ≡ request → answers_first c request its st ≡ bind (fed c round r.number (with_queue rs st) its) (λ st. advances c (length rs) st)
+    answers_is request same =
+        ap (λ (o : Option Round). option_map_or (λ (round : Round). answers_in round request st.inclusion.queue) o (Goes st)) first.round_is
+        ∙ (λ i. answers_in round (sym same i) (first.queue i))
+      where
+        abbrev answers_in : Round → ℕ → List (Request Dir) → Course Dir Fault (Live Dir)
+        answers_in round request queue = bind (fed c round request (with_queue (behind_first queue) st) its) (λ now. advances c (length (behind_first queue)) now)
+
+  goes_by : (request : ℕ) (st : Live Dir) (its : Fed) → is_need its ≡ false → goes_on c request its st ≡ answers_first c request its st
+  goes_by request st Need answered = absurd (let e : true ≡ false = answered in cc)
+  goes_by request st (Found logs) answered = refl
+  goes_by request st (Lacks why) answered = refl
+
+  -- What the first request's scan answered goes on as all of them do.
+  pub goes_as : (st : Live Dir) (round : Round) (r : Request Dir) (rs : List (Request Dir)) → ReadsFirst st round r rs → (its : Fed) → read_of c round st r ≡ its → is_need its ≡ false → (request : ℕ) → r.number ≡ request
+      → advanced c st ≡ goes_on c request its st
+  goes_as st round r rs first its is answered request same =
+      advanced_is st round r rs first its is answered ∙ sym (answers_is st round r rs first its is answered request same) ∙ sym (goes_by request st its answered)
+
+  -- SO MANY, and then so many more
   pub advances_over : (i k n : ℕ) → n ≡ i + k → (st : Live Dir) → advances c n st ≡ bind (advances c i st) (λ st. advances c k st)
   advances_over zero k n is st = ap (λ (m : ℕ). advances c m st) (let e : n ≡ k = omega (arith, is) in e)
   advances_over (suc i) k n is st =

@@ -1,10 +1,16 @@
 pub mod Acked
+pub mod Advancing
+pub mod Alike
+pub mod AnswerLines
+pub mod Answering
+pub mod Applied
 pub mod Applying
 pub mod Beginning
 pub mod Beside
 pub mod Blamed
 pub mod Blaming
 pub mod Burning
+pub mod Caching
 pub mod Calls
 pub mod Caused
 pub mod Chained
@@ -13,6 +19,7 @@ pub mod Concluding
 pub mod Counted
 pub mod Dealers
 pub mod Dealt
+pub mod Derived
 pub mod Deriving
 pub mod Drawing
 pub mod Ending
@@ -22,6 +29,7 @@ pub mod Heard
 pub mod Hearing
 pub mod Included
 pub mod Judging
+pub mod Keeping
 pub mod Kept
 pub mod Lines
 pub mod Logged
@@ -31,12 +39,15 @@ pub mod Observed
 pub mod Offered
 pub mod Openings
 pub mod Owned
+pub mod PassingOn
 pub mod Placing
 pub mod Ranges
 pub mod Read
 pub mod Reading
 pub mod Readying
+pub mod Requesting
 pub mod Said
+pub mod Scanning
 pub mod Seated
 pub mod Setting
 pub mod SettingUp
@@ -48,3 +59,4 @@ pub mod Stopping
 pub mod Taking
 pub mod Telling
 pub mod Under
+pub mod Within

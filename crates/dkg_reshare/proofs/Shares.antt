@@ -136,7 +136,7 @@ none_found epoch = newest_none empty epoch (λ j below. get-empty nat_cmp j)
 -- BOTH ARE READ
 
 -- acts that left the disk and the fuse as they were
-still_makes : {D S : Type 0} (files : D → Files) (image : D → Files → Type 0) (acts : Acts Fault S) (how : Ended Fault S) {old new : D} {out : List Line} {s t : Secrets} {f g : Burn} → new ≡ old → g ≡ f
+pub still_makes : {D S : Type 0} (files : D → Files) (image : D → Files → Type 0) (acts : Acts Fault S) (how : Ended Fault S) {old new : D} {out : List Line} {s t : Secrets} {f g : Burn} → new ≡ old → g ≡ f
     → MadeAt acts how (files old) (image old) (files old) (image old) (moment out s f) (moment out t f)
     → MakesAt acts how (files old) (image old) (files new) (image new) (moment out s f) (moment out t g)
 still_makes {D} files image acts how {old} {new} {out} {s} {t} {f} {g} same still made =

@@ -22,10 +22,6 @@ abbrev pub NoMore : List (ℕ × SchemeInfo) → Type 0
 NoMore more = more ≡ []
 
 module _ {Dir : Type 0} where
-  -- at once, where inclusion has this
-  pub within_none : (beside : Beside Dir) (i : Inclusion Dir) {I : Inclusion Dir → Type 0} {P : Beside Dir → Type 0} → I i → P (record beside { inclusion = i }) → EndsWith beside I NoMore P
-  within_none beside i is holds = record { now = record beside { inclusion = i }; inclusion = is; more = []; schemes = refl; took = refl; probe = refl; orchestrator = refl; holds = holds }
-
   -- the same, of which more is known
   pub within_as : {beside : Beside Dir} {I J : Inclusion Dir → Type 0} {T : List (ℕ × SchemeInfo) → Type 0} {P Q : Beside Dir → Type 0} → ((i : Inclusion Dir) → I i → J i)
       → ((now : Beside Dir) → I now.inclusion → P now → Q now) → EndsWith beside I T P → EndsWith beside J T Q

@@ -1,7 +1,9 @@
 pub mod Actors
 pub mod Anchors
 pub mod Carried
+pub mod Concluded
 pub mod Configured
+pub mod Derived
 pub mod Ends
 pub mod Given
 pub mod Heard
@@ -16,3 +18,4 @@ pub mod Rules
 pub mod Scanned
 pub mod Steps
 pub mod Today
+pub mod Verifying

@@ -1,19 +1,19 @@
 //! The artifact that follows some logs: the next epoch's info, and this node's share of its output.
 //!
 //! Each function here is a part of the relation's `artifact`, and names it.
-ghost use Rattle.std.specs.Prelude.{◌≡◌, ◌⊎◌, ◌+◌, ◌++◌, ◌<◌, ◌≤◌, ◌^◌, IfErr, IfOk, IsSome, IsSomeAnd, IsTrue, List, OnOk, Some, length, option_map, true};
+ghost use Rattle.std.specs.Prelude.{◌≡◌, ◌⊎◌, ◌+◌, ◌++◌, ◌<◌, ◌≤◌, ◌^◌, IfErr, IfOk, IsSome, IsSomeAnd, IsTrue, List, OnOk, Some, false, length, option_map, true};
 ghost use Rattle.std.specs.Int.NonZero.{non_zero_u32_get};
 ghost use Rattle.dkg_values.specs.Rising.{set_of};
 ghost use Rattle.dkg_journal.specs.Disk.{Rose};
 ghost use Rattle.dkg_journal.specs.Fuse.{Reached};
 ghost use Rattle.dkg_types.specs.InfoCodes.{peers_of as peers_from};
-ghost use Rattle.dkg_types.specs.NextInfos.{info_with};
 ghost use Rattle.dkg_types.specs.declared.entry.Entry.{Entry as Line};
 ghost use Rattle.dkg_types.specs.declared.fault.Fault.TheVariants.{DirectoryMismatch, NoMemory as OutOfMemory};
 ghost use Rattle.dkg_core.specs.Courses.{Goes};
 ghost use Rattle.dkg_core.specs.Fixed.{Fixed};
 ghost use Rattle.dkg_core.specs.Including as including;
 ghost use Rattle.dkg_core.specs.Live.{Live};
+ghost use Rattle.dkg_reshare.specs.Derived.{follows_with};
 ghost use Rattle.dkg_reshare.specs.Ends.{IsCaused, ends, ends_in};
 ghost use Rattle.dkg_reshare.specs.Given.{IsOf, ReadsToday};
 ghost use Rattle.dkg_reshare.specs.Including.{EndsCaching, derives_in, ended_by, reads_share, unprovided};
@@ -66,9 +66,10 @@ fn provided<P: ParticipantsProvider>(
 ) -> Result<Set, Stop>
     ensures provider { IsTrue P.tells → SameProvided (P.participants_of provider.old) (P.participants_of provider.new)
         (P.directory_of provider.old) (P.directory_of provider.new) }
-    ensures ok { IfOk result (λ set. IsTrue P.tells → (set ≡ P.participants_of provider.old (epoch + 2))
-        × (epoch + 2 < 2 ^ 64) × (0 < length set) × (length set ≤ non_zero_u32_get limit)) }
+    ensures ok { IfOk result (λ set. IsTrue P.tells → set ≡ P.participants_of provider.old (epoch + 2)) }
+    ensures within { IfOk result (λ set. (epoch + 2 < 2 ^ 64) × (0 < length set) × (length set ≤ non_zero_u32_get limit)) }
     ensures err { IfErr result (λ stop. IsTrue P.tells → IsFaultOrWant (unprovided (P.participants_of provider.old) (non_zero_u32_get limit) epoch) stop) }
+    ensures causes { IfErr result (λ stop. IsCaused stop ⊥ ⊥ ⊥) }
 {
     let Some(after) = epoch.0.checked_add(2) else {
         return Err(Stop::Fault(Fault::HeightRange));
@@ -141,11 +142,11 @@ where
     requires below { info.epoch + 1 < 2 ^ 64 }
     ensures provider { IsTrue P.tells → SameProvided (P.participants_of provider.old) (P.participants_of provider.new)
         (P.directory_of provider.old) (P.directory_of provider.new) }
-    ensures ok { IfOk result (λ made. IsTrue P.tells
-        → (made ≡ info_with (P.directory_of provider.old (info.epoch + 1)) (ended_by info.output found.now).0 (info.epoch + 1) (ended_by info.output
-        found.now).1
-        info.next_players next_players) × (P.Dir.matches_of made.directory (including.info_peers made) ≡ true)) }
-    ensures err { IfErr result (λ stop. IsTrue P.tells → (stop ≡ Faulted OutOfMemory) ⊎ (stop ≡ Faulted (DirectoryMismatch (info.epoch + 1)))) }
+    ensures ok { IfOk result (λ made. IsTrue P.tells → (made ≡ follows_with (P.directory_of provider.old) info found.now next_players)
+        × (P.Dir.matches_of made.directory (including.info_peers made) ≡ true)) }
+    ensures err { IfErr result (λ stop. IsTrue P.tells → (stop ≡ Faulted OutOfMemory) ⊎ ((stop ≡ Faulted (DirectoryMismatch (info.epoch + 1)))
+        × (let made = follows_with (P.directory_of provider.old) info found.now next_players in P.Dir.matches_of made.directory (including.info_peers made) ≡ false))) }
+    ensures causes { IfErr result (λ stop. IsCaused stop ⊥ ⊥ ⊥) }
 {
     let epoch = Epoch(info.epoch.0 + 1);
     let players = info.next_players;
@@ -197,15 +198,15 @@ fn derive<
         (P.directory_of provider.old) (P.directory_of provider.new) }
     ensures disk { devices.new.disk.now ≡ devices.old.disk.now }
     ensures held { X.held devices.new.secrets.now ≡ X.held devices.old.secrets.now }
-    ensures acts { IsTrue D.tells → IsTrue X.tells → IsTrue P.tells → (info : EpochInfo Dir) (c : Fixed Dir) (st : Live Dir) → store.old.current ≡ Some info
+    ensures acts { IsTrue D.tells → IsTrue X.tells → IsTrue P.tells → (info : EpochInfo Dir) (c : Fixed Dir) → store.old.current ≡ Some info
         → IsOf terms.now c
         → ReadsToday c
         → IncludesBy C.check_log_of C.outcome_of C.finish_of (P.participants_of provider.old) (P.directory_of provider.old) Dir.spelling Dir.matches_of c
-        → (out : List Line) → Makes D.files D.image X.held (derives_in c info (result_of verified.now) st) (ends artifact_of result)
+        → (out : List Line) → Makes D.files D.image X.held (derives_in c info (result_of verified.now)) (ends artifact_of result)
         devices.old devices.new out out }
-    ensures tells { IsTrue P.tells → (info : EpochInfo Dir) (c : Fixed Dir) (st : Live Dir) → store.old.current ≡ Some info → IsOf terms.now c → ReadsToday c
+    ensures tells { IsTrue P.tells → (info : EpochInfo Dir) (c : Fixed Dir) → store.old.current ≡ Some info → IsOf terms.now c → ReadsToday c
         → IncludesBy C.check_log_of C.outcome_of C.finish_of (P.participants_of provider.old) (P.directory_of provider.old) Dir.spelling Dir.matches_of c
-        → (out : List Line) → Tells (derives_in c info (result_of verified.now) st) (ends artifact_of result) out out }
+        → (out : List Line) → Tells (derives_in c info (result_of verified.now)) (ends artifact_of result) out out }
     ensures moved { Moved D.tells D.made X.made D.faults X.faults devices.old devices.new }
     ensures causes { IfErr result (λ stop. IsCaused stop (Rose (D.faults devices.old.disk.now) (D.faults devices.new.disk.now))
         (Rose (X.faults devices.old.secrets.now) (X.faults devices.new.secrets.now)) (Reached devices.old.fuse devices.new.fuse)) }

@@ -2,7 +2,7 @@
 //! registered, the requests that are left are answered, and the next epoch is set up, all in one step.
 //!
 //! Each function here is a part of the relation's `final_block`, and names it.
-ghost use Rattle.std.specs.Prelude.{◌≡◌, ◌+◌, [], IfErr, IfOk, IsSomeAnd, IsTrue, None, OnOk, Some, option_map};
+ghost use Rattle.std.specs.Prelude.{◌≡◌, ◌↔◌, ◌+◌, [], IfErr, IfOk, IsSome, IsSomeAnd, IsTrue, List, None, OnOk, Some, option_map};
 ghost use Rattle.std.specs.Int.NonZero.{non_zero_u32_get};
 ghost use Rattle.std.specs.Int.NonZero.{non_zero_u64_get};
 ghost use Rattle.dkg_ceremony.specs.declared.round.RoundParts.{RoundParts as Round};
@@ -18,17 +18,22 @@ ghost use Rattle.dkg_reshare.specs.LiveOf.{Beside, EndsWith, live_of};
 ghost use Rattle.dkg_reshare.specs.Made.{Makes, Tells};
 ghost use Rattle.dkg_reshare.specs.Moved.{Moved};
 ghost use Rattle.dkg_reshare.specs.Rules.{IncludesBy, IsRuledBy, SameProvided};
-ghost use Rattle.dkg_ceremony.specs.Schedule.{epoch_of};
+ghost use Rattle.dkg_ceremony.specs.Schedule.{epoch_of, midpoint};
+ghost use Rattle.dkg_types.specs.declared.entry.Entry.{Entry as Line};
+ghost use Rattle.dkg_types.specs.declared.fault.Fault.TheVariants.{NoMemory as OutOfMemory};
+ghost use Rattle.dkg_core.specs.Same.{same_info};
 ghost use Rattle.dkg_store.specs.Corrupt.{AreFit};
 ghost use Rattle.dkg_core.specs.Blocks as blocks;
+ghost use Rattle.dkg_reshare.specs.Concluded.{FindsBy, HaveSameParts, canonical_in, sees_verified, verifies};
 ghost use Rattle.dkg_reshare.specs.Ends.{IsCausedBy, ends};
 ghost use Rattle.dkg_reshare.specs.Given.{IsIn};
 ghost use Rattle.dkg_reshare.specs.Including.{derives_by, derives_final, derives_now};
-ghost use Rattle.dkg_reshare.specs.InclusionOf.{IsReadyInclusion, IsSeen, artifact_of, cached_of};
+ghost use Rattle.dkg_reshare.specs.InclusionOf.{IsReadyInclusion, IsSeen, IsSettledInclusion, artifact_of, cached_of};
 ghost use Rattle.dkg_reshare.specs.LiveOf.{Took};
 ghost use Rattle.dkg_reshare.specs.Made.{Speaks};
 ghost use Rattle.dkg_reshare.specs.declared.life.Life.{Life};
 ghost use Rattle.dkg_reshare.specs.declared.life.Stage.TheVariants.{Including};
+ghost use Rattle.dkg_reshare.specs.declared.stop.Stop.TheVariants.{Fault as Faulted};
 
 use crate::answers::answer_none;
 use crate::artifacts::keep_artifact;
@@ -40,7 +45,7 @@ use crate::stop::Stop;
 use crate::tip::tip_of;
 use crate::verifying::{canonical, end_verifying, job_for, retain, verify};
 use dkg_artifact::{Artifact, ArtifactCache};
-use dkg_ceremony::{Ceremony, DealerLog, Share};
+use dkg_ceremony::{Ceremony, DealerLog, Share, encode};
 use dkg_fence::Fence;
 use dkg_journal::Disk;
 use dkg_store::{Devices, SecretStore};
@@ -71,14 +76,20 @@ fn verify_now<C: Ceremony + Drop, Dir: Directory + Drop>(
     inclusion: &mut Inclusion<C, Dir>,
     logs: &Map<DealerLog>,
 ) -> Result<(), Stop>
-    requires includes { life.now.stage ≡ Including }
+    requires round { IsSome life.now.round }
+    requires canonical { logs.now ≡ canonical_in life.now }
     requires idle { inclusion.old.verification.running ≡ None }
     ensures rest { inclusion.new ≡ record inclusion.old { verification = inclusion.new.verification; waiter = inclusion.new.waiter } }
+    ensures idle { OnOk result (inclusion.new.verification.running ≡ None) }
     ensures ready { OnOk result (IsSomeAnd inclusion.new.verification.kept (λ r. r.logs ≡ logs.now)) }
+    ensures speaks { (c : Fixed Dir) (round : Round) (beside : Beside Dir) (fence : Readiness) → c.me ≡ terms.now.me
+        → FindsBy C.bears_ack_of C.dealing_of C.outcome_of C.finish_of c → midpoint c.blocks_per_epoch life.now.epoch ≡ life.now.midpoint
+        → life.now.round ≡ Some round → IsSeen inclusion.old beside.inclusion → EndsWith beside (λ i. OnOk result (IsSeen inclusion.new i)) (λ more. more ≡ [])
+        (λ now. (out : List Line) → Speaks (verifies c round logs.now (live_of beside fence life.now)) (ends_in (live_of now fence life.now) result) out out) }
     ensures causes { IfErr result (λ stop. IsCaused stop ⊥ ⊥ ⊥) }
 {
     let Some(round) = &life.round else {
-        return Ok(());
+        unreachable!();
     };
     let job = job_for(
         alloc,
@@ -101,10 +112,16 @@ fn see_verified<C: Ceremony + Drop, Dir: Directory + Drop>(
     inclusion: &mut Inclusion<C, Dir>,
     logs: &Map<DealerLog>,
 ) -> Result<(), Stop>
-    requires includes { life.now.stage ≡ Including }
+    requires round { IsSome life.now.round }
+    requires canonical { logs.now ≡ canonical_in life.now }
     requires idle { inclusion.old.verification.running ≡ None }
     ensures rest { inclusion.new ≡ record inclusion.old { verification = inclusion.new.verification; waiter = inclusion.new.waiter } }
+    ensures idle { OnOk result (inclusion.new.verification.running ≡ None) }
     ensures ready { OnOk result (IsSomeAnd inclusion.new.verification.kept (λ r. r.logs ≡ logs.now)) }
+    ensures speaks { (c : Fixed Dir) (round : Round) (beside : Beside Dir) (fence : Readiness) → c.me ≡ terms.now.me
+        → FindsBy C.bears_ack_of C.dealing_of C.outcome_of C.finish_of c → midpoint c.blocks_per_epoch life.now.epoch ≡ life.now.midpoint
+        → life.now.round ≡ Some round → IsSeen inclusion.old beside.inclusion → EndsWith beside (λ i. OnOk result (IsSeen inclusion.new i)) (λ more. more ≡ [])
+        (λ now. (out : List Line) → Speaks (sees_verified c round logs.now (live_of beside fence life.now)) (ends_in (live_of now fence life.now) result) out out) }
     ensures causes { IfErr result (λ stop. IsCaused stop ⊥ ⊥ ⊥) }
 {
     if inclusion.verification.ready(logs).is_some() {
@@ -131,28 +148,35 @@ fn derive_now<
     logs: &Map<DealerLog>,
 ) -> Result<Artifact<Dir>, Stop>
     requires ready { IsReadyLife D.tells D.files D.image C.ack_of C.deal_of C.check_ack_of terms.now life.old devices.old }
-    requires including { IsReadyInclusion C.check_log_of C.dealing_of C.finish_of (non_zero_u64_get terms.now.blocks_per_epoch) life.old inclusion.old }
+    requires current { IsSome life.old.store.current }
     requires includes { life.old.stage ≡ Including }
+    requires canonical { logs.now ≡ canonical_in life.old }
     requires idle { inclusion.old.verification.running ≡ None }
     ensures same { life.new ≡ life.old }
+    ensures rest { inclusion.new ≡ record inclusion.old {
+      verification = inclusion.new.verification;
+      waiter = inclusion.new.waiter;
+      cache = inclusion.new.cache;
+    } }
+    ensures idle { OnOk result (inclusion.new.verification.running ≡ None) }
     ensures provider { IsTrue P.tells → SameProvided (P.participants_of provider.old) (P.participants_of provider.new)
         (P.directory_of provider.old) (P.directory_of provider.new) }
     ensures disk { devices.new.disk.now ≡ devices.old.disk.now }
     ensures held { X.held devices.new.secrets.now ≡ X.held devices.old.secrets.now }
     ensures acts { IsTrue D.tells → IsTrue X.tells → IsTrue P.tells → (c : Fixed Dir) (round : Round) (beside : Beside Dir) (fence : Readiness)
-        → IsOf terms.now c → ReadsToday c
+        (out : List Line) → IsOf terms.now c → ReadsToday c
         → IsRuledBy C.round_of C.deal_of C.dealing_of C.ack_of C.check_ack_of C.sign_log_of C.bears_ack_of C.share_public_of C.partial_public_of c.rules
         → IncludesBy C.check_log_of C.outcome_of C.finish_of (P.participants_of provider.old) (P.directory_of provider.old) Dir.spelling Dir.matches_of c
         → life.old.round ≡ Some round → IsSeen inclusion.old beside.inclusion → EndsWith beside (λ i. OnOk result (IsSeen inclusion.new i)) (λ more. more ≡ [])
         (λ now. Makes D.files D.image X.held (derives_now c round logs.now (live_of beside fence life.old)) (ends
         (λ made. (artifact_of made, live_of now fence life.new)) result)
-        devices.old devices.new out.old.entries out.new.entries) }
-    ensures tells { IsTrue P.tells → (c : Fixed Dir) (round : Round) (beside : Beside Dir) (fence : Readiness) → IsOf terms.now c → ReadsToday c
+        devices.old devices.new out out) }
+    ensures tells { IsTrue P.tells → (c : Fixed Dir) (round : Round) (beside : Beside Dir) (fence : Readiness) (out : List Line) → IsOf terms.now c → ReadsToday c
         → IsRuledBy C.round_of C.deal_of C.dealing_of C.ack_of C.check_ack_of C.sign_log_of C.bears_ack_of C.share_public_of C.partial_public_of c.rules
         → IncludesBy C.check_log_of C.outcome_of C.finish_of (P.participants_of provider.old) (P.directory_of provider.old) Dir.spelling Dir.matches_of c
         → life.old.round ≡ Some round → IsSeen inclusion.old beside.inclusion → EndsWith beside (λ i. OnOk result (IsSeen inclusion.new i)) (λ more. more ≡ [])
         (λ now. Tells (derives_now c round logs.now (live_of beside fence life.old)) (ends
-        (λ made. (artifact_of made, live_of now fence life.new)) result) out.old.entries out.new.entries) }
+        (λ made. (artifact_of made, live_of now fence life.new)) result) out out) }
     ensures moved { Moved D.tells D.made X.made D.faults X.faults devices.old devices.new }
     ensures causes { IfErr result (λ stop. IsCaused stop (Rose (D.faults devices.old.disk.now) (D.faults devices.new.disk.now))
         (Rose (X.faults devices.old.secrets.now) (X.faults devices.new.secrets.now)) (Reached devices.old.fuse devices.new.fuse)) }
@@ -196,28 +220,35 @@ fn artifact_by<
     before: Option<Artifact<Dir>>,
 ) -> Result<Artifact<Dir>, Stop>
     requires ready { IsReadyLife D.tells D.files D.image C.ack_of C.deal_of C.check_ack_of terms.now life.old devices.old }
-    requires including { IsReadyInclusion C.check_log_of C.dealing_of C.finish_of (non_zero_u64_get terms.now.blocks_per_epoch) life.old inclusion.old }
+    requires current { IsSome life.old.store.current }
     requires includes { life.old.stage ≡ Including }
+    requires canonical { logs.now ≡ canonical_in life.old }
     requires idle { inclusion.old.verification.running ≡ None }
     ensures same { life.new ≡ life.old }
+    ensures rest { inclusion.new ≡ record inclusion.old {
+      verification = inclusion.new.verification;
+      waiter = inclusion.new.waiter;
+      cache = inclusion.new.cache;
+    } }
+    ensures idle { OnOk result (inclusion.new.verification.running ≡ None) }
     ensures provider { IsTrue P.tells → SameProvided (P.participants_of provider.old) (P.participants_of provider.new)
         (P.directory_of provider.old) (P.directory_of provider.new) }
     ensures disk { devices.new.disk.now ≡ devices.old.disk.now }
     ensures held { X.held devices.new.secrets.now ≡ X.held devices.old.secrets.now }
     ensures acts { IsTrue D.tells → IsTrue X.tells → IsTrue P.tells → (c : Fixed Dir) (round : Round) (beside : Beside Dir) (fence : Readiness)
-        → IsOf terms.now c → ReadsToday c
+        (out : List Line) → IsOf terms.now c → ReadsToday c
         → IsRuledBy C.round_of C.deal_of C.dealing_of C.ack_of C.check_ack_of C.sign_log_of C.bears_ack_of C.share_public_of C.partial_public_of c.rules
         → IncludesBy C.check_log_of C.outcome_of C.finish_of (P.participants_of provider.old) (P.directory_of provider.old) Dir.spelling Dir.matches_of c
         → life.old.round ≡ Some round → IsSeen inclusion.old beside.inclusion → EndsWith beside (λ i. OnOk result (IsSeen inclusion.new i)) (λ more. more ≡ [])
         (λ now. Makes D.files D.image X.held (derives_by c round logs.now (option_map artifact_of before) (live_of beside fence life.old)) (ends
         (λ made. (artifact_of made, live_of now fence life.new)) result)
-        devices.old devices.new out.old.entries out.new.entries) }
-    ensures tells { IsTrue P.tells → (c : Fixed Dir) (round : Round) (beside : Beside Dir) (fence : Readiness) → IsOf terms.now c → ReadsToday c
+        devices.old devices.new out out) }
+    ensures tells { IsTrue P.tells → (c : Fixed Dir) (round : Round) (beside : Beside Dir) (fence : Readiness) (out : List Line) → IsOf terms.now c → ReadsToday c
         → IsRuledBy C.round_of C.deal_of C.dealing_of C.ack_of C.check_ack_of C.sign_log_of C.bears_ack_of C.share_public_of C.partial_public_of c.rules
         → IncludesBy C.check_log_of C.outcome_of C.finish_of (P.participants_of provider.old) (P.directory_of provider.old) Dir.spelling Dir.matches_of c
         → life.old.round ≡ Some round → IsSeen inclusion.old beside.inclusion → EndsWith beside (λ i. OnOk result (IsSeen inclusion.new i)) (λ more. more ≡ [])
         (λ now. Tells (derives_by c round logs.now (option_map artifact_of before) (live_of beside fence life.old)) (ends
-        (λ made. (artifact_of made, live_of now fence life.new)) result) out.old.entries out.new.entries) }
+        (λ made. (artifact_of made, live_of now fence life.new)) result) out out) }
     ensures moved { Moved D.tells D.made X.made D.faults X.faults devices.old devices.new }
     ensures causes { IfErr result (λ stop. IsCaused stop (Rose (D.faults devices.old.disk.now) (D.faults devices.new.disk.now))
         (Rose (X.faults devices.old.secrets.now) (X.faults devices.new.secrets.now)) (Reached devices.old.fuse devices.new.fuse)) }
@@ -253,6 +284,9 @@ pub(crate) fn derive<
     requires ready { IsReadyLife D.tells D.files D.image C.ack_of C.deal_of C.check_ack_of terms.now life.old devices.old }
     requires including { IsReadyInclusion C.check_log_of C.dealing_of C.finish_of (non_zero_u64_get terms.now.blocks_per_epoch) life.old inclusion.old }
     requires includes { life.old.stage ≡ Including }
+    ensures including { OnOk result (IsReadyInclusion C.check_log_of C.dealing_of C.finish_of (non_zero_u64_get terms.now.blocks_per_epoch) life.new
+        inclusion.new) }
+    ensures hand { inclusion.new.hand ≡ inclusion.old.hand }
     ensures same { life.new ≡ life.old }
     ensures provider { IsTrue P.tells → SameProvided (P.participants_of provider.old) (P.participants_of provider.new)
         (P.directory_of provider.old) (P.directory_of provider.new) }
@@ -286,17 +320,48 @@ pub(crate) fn derive<
     )
 }
 
+/// Whether two infos are one in all but their directories.
+fn has_same_parts<Dir: Directory + Drop>(one: &EpochInfo<Dir>, other: &EpochInfo<Dir>) -> bool
+    ensures { IsTrue result ↔ HaveSameParts one.now other.now }
+{
+    one.outcome == other.outcome
+        && one.epoch == other.epoch
+        && one.output.same(&other.output)
+        && one.players.same(&other.players)
+        && one.next_players.same(&other.next_players)
+}
+
+/// Whether two infos are one (`same_info`): their directories are where their spellings are.
+fn is_same_info<Dir: Directory + Drop>(
+    alloc: Global,
+    one: &EpochInfo<Dir>,
+    other: &EpochInfo<Dir>,
+) -> Mem<bool>
+    ensures { IfOk result (λ yes. (c : Fixed Dir) → c.directories.spelling ≡ Dir.spelling → yes ≡ same_info c.directories one.now other.now) }
+{
+    if !has_same_parts(one, other) {
+        return Ok(false);
+    }
+    let spelled = encode(alloc, one)?;
+    Ok(spelled.same(&encode(alloc, other)?))
+}
+
 /// The artifact's share, where its info is the one that the block carries (`share_for`).
 fn share_for<Dir: Directory + Drop>(
+    alloc: Global,
     info: &EpochInfo<Dir>,
     artifact: &Artifact<Dir>,
-) -> Option<Share>
-    ensures { (c : Fixed Dir) → c.directories.spelling ≡ Dir.spelling → result ≡ blocks.share_for c info.now (artifact_of artifact.now) }
+) -> Mem<Option<Share>>
+    ensures { IfOk result (λ share. (c : Fixed Dir) → c.directories.spelling ≡ Dir.spelling
+        → share ≡ blocks.share_for c info.now (artifact_of artifact.now)) }
 {
-    match &artifact.info {
-        Some(derived) if derived.same(info) => artifact.share,
-        _ => None,
+    let Some(derived) = &artifact.info else {
+        return Ok(None);
+    };
+    if is_same_info(alloc, derived, info)? {
+        return Ok(artifact.share);
     }
+    Ok(None)
 }
 
 /// Answers the requests that are left: the final block came first (`answers_all`).
@@ -341,7 +406,7 @@ fn pass_on<C: Ceremony + Drop, R: Registrar, Dir: Directory + Drop, D: Disk, X: 
     requires ready { IsReadyLife D.tells D.files D.image C.ack_of C.deal_of C.check_ack_of terms.now life.old devices.old }
     requires including { IsReadyInclusion C.check_log_of C.dealing_of C.finish_of (non_zero_u64_get terms.now.blocks_per_epoch) life.old inclusion.old }
     ensures ready { OnOk result (IsReadyLife D.tells D.files D.image C.ack_of C.deal_of C.check_ack_of terms.now life.new devices.new) }
-    ensures including { OnOk result (IsReadyInclusion C.check_log_of C.dealing_of C.finish_of (non_zero_u64_get terms.now.blocks_per_epoch) life.new
+    ensures including { OnOk result (IsSettledInclusion C.check_log_of C.dealing_of C.finish_of (non_zero_u64_get terms.now.blocks_per_epoch) life.new
         inclusion.new) }
     ensures word { life.new.word ≡ life.old.word }
     ensures acts { IsTrue D.tells → IsTrue X.tells → (c : Fixed Dir) (beside : Beside Dir) → IsIn terms.now life.old.word c → ReadsToday c
@@ -400,7 +465,7 @@ pub(crate) fn take_over<
     requires ready { IsReadyLife D.tells D.files D.image C.ack_of C.deal_of C.check_ack_of terms.now life.old devices.old }
     requires including { IsReadyInclusion C.check_log_of C.dealing_of C.finish_of (non_zero_u64_get terms.now.blocks_per_epoch) life.old inclusion.old }
     ensures ready { OnOk result (IsReadyLife D.tells D.files D.image C.ack_of C.deal_of C.check_ack_of terms.now life.new devices.new) }
-    ensures including { OnOk result (IsReadyInclusion C.check_log_of C.dealing_of C.finish_of (non_zero_u64_get terms.now.blocks_per_epoch) life.new
+    ensures including { OnOk result (IsSettledInclusion C.check_log_of C.dealing_of C.finish_of (non_zero_u64_get terms.now.blocks_per_epoch) life.new
         inclusion.new) }
     ensures word { life.new.word ≡ life.old.word }
     ensures acts { IsTrue D.tells → IsTrue X.tells → (c : Fixed Dir) (beside : Beside Dir) → IsIn terms.now life.old.word c → ReadsToday c
@@ -423,7 +488,7 @@ pub(crate) fn take_over<
     ensures fit { IsTrue D.tells → AreFit (non_zero_u32_get terms.now.limit) (D.image devices.old.disk.now)
         → AreFit (non_zero_u32_get terms.now.limit) (D.image devices.new.disk.now) }
 {
-    let share = share_for(info, artifact);
+    let share = share_for(alloc, info, artifact)?;
     let secrets: EpochSecrets = secrets_with(alloc, life, devices, info, share)?;
     commit_and_register(
         alloc, registrar, terms.me, life, devices, info, &secrets, fence, out,

@@ -18,7 +18,9 @@ ghost use Rattle.dkg_reshare.specs.Made.{Makes, Tells};
 ghost use Rattle.dkg_reshare.specs.Moved.{Moved};
 ghost use Rattle.dkg_reshare.specs.Rules.{IncludesBy, IsRuledBy, SameProvided};
 ghost use Rattle.dkg_ceremony.specs.Schedule.{midpoint};
-ghost use Rattle.dkg_artifact.specs.Results.{checked};
+ghost use Rattle.dkg_artifact.specs.Results.{IsAnswered, checked};
+ghost use Rattle.dkg_store.specs.Recorded.{at_epoch, reached_logs};
+ghost use Rattle.dkg_reshare.specs.Verifying.{refusal_for};
 ghost use Rattle.dkg_types.specs.PayloadCodes.{info_payload};
 ghost use Rattle.dkg_types.specs.declared.entry.Entry.{Entry as Line};
 ghost use Rattle.dkg_types.specs.declared.fault.Fault.TheVariants.{LocalState, NoMemory as OutOfMemory};
@@ -40,7 +42,7 @@ use crate::life::Life;
 use crate::stop::Stop;
 use crate::told::Told;
 use dkg_artifact::{ArtifactCache, Dealings, Job, VerifiedLogs, verify_logs};
-use dkg_ceremony::{Ceremony, DealerLog, Round};
+use dkg_ceremony::{Ceremony, DealerLog, Round, finishes_agree};
 use dkg_journal::Disk;
 use dkg_secrets::NumberMap;
 use dkg_store::{Devices, SecretStore, Store};
@@ -63,8 +65,10 @@ pub(crate) fn canonical<Dir: Directory + Drop>(
     alloc: Global,
     life: &Life<Dir>,
 ) -> Mem<Map<DealerLog>>
-    ensures { IfOk result (λ made. (c : Fixed Dir) (beside : Beside Dir) (fence : Readiness) → midpoint c.blocks_per_epoch life.now.epoch ≡ life.now.midpoint
-        → made ≡ recorded.canonical c (live_of beside fence life.now)) }
+    ensures canonical { IfOk result (λ made. (c : Fixed Dir) (beside : Beside Dir) (fence : Readiness)
+        → midpoint c.blocks_per_epoch life.now.epoch ≡ life.now.midpoint → made ≡ recorded.canonical c (live_of beside fence life.now)) }
+    ensures reached { IfOk result (λ made. made ≡ reached_logs life.now.midpoint (option_map (λ t. t.height) life.now.tip)
+        (at_epoch life.now.epoch life.now.store.logs)) }
 {
     life.store
         .logs(alloc, life.epoch, life.midpoint, tip_height(life))
@@ -85,15 +89,17 @@ fn player_for<C: Ceremony, Dir: Directory + Drop>(
         ≡ C.dealing_of → st.records ≡ records_of store.now
         → option_map dealings_of made ≡ (including.job_for c round.now logs.now st).player) }
     ensures runs { IfOk result (λ made. IsRunnable C.dealing_of C.finish_of (record { round = round.now; player = made; logs = logs.now })) }
+    ensures passes { IfOk result (λ made. (c : Fixed Dir) (st : Live Dir) → c.me ≡ me → c.rules.bears_ack_of ≡ C.bears_ack_of → c.rules.dealing_of
+        ≡ C.dealing_of → st.records ≡ records_of store.now → refusal_for c round.now logs.now st ≡ None) }
     ensures causes { IfErr result (λ stop. (stop ≡ Faulted OutOfMemory) ⊎ ((refused : ℕ) × (stop
         ≡ Faulted (LocalState (StoredDealing round.now.number refused)))
         × ((c : Fixed Dir) (st : Live Dir) → c.me ≡ me → c.rules.bears_ack_of ≡ C.bears_ack_of → c.rules.dealing_of ≡ C.dealing_of → st.records
-        ≡ records_of store.now
-        → (including.can_finish c round.now logs.now st ≡ true) × (setup.refused_in c round.now st ≡ Some refused)))) }
+        ≡ records_of store.now → refusal_for c round.now logs.now st ≡ Some refused))) }
 {
     if !round.parts().players.has(me) {
         return Ok(None);
     }
+    finishes_agree::<C>();
     let epoch = Epoch(round.parts().number);
     match store.create_player_with_logs(alloc, ceremony, epoch, me, round, logs)? {
         None => Ok(None),
@@ -117,11 +123,12 @@ pub(crate) fn job_for<C: Ceremony, Dir: Directory + Drop>(
         ≡ C.dealing_of → st.records ≡ records_of store.now → job_of made ≡ including.job_for c round.now logs st) }
     ensures parts { IfOk result (λ made. (made.round ≡ round.now) × (made.logs ≡ logs)) }
     ensures runs { IfOk result (IsRunnable C.dealing_of C.finish_of) }
+    ensures passes { IfOk result (λ made. (c : Fixed Dir) (st : Live Dir) → c.me ≡ me → c.rules.bears_ack_of ≡ C.bears_ack_of → c.rules.dealing_of
+        ≡ C.dealing_of → st.records ≡ records_of store.now → refusal_for c round.now logs st ≡ None) }
     ensures causes { IfErr result (λ stop. (stop ≡ Faulted OutOfMemory) ⊎ ((refused : ℕ) × (stop
         ≡ Faulted (LocalState (StoredDealing round.now.number refused)))
         × ((c : Fixed Dir) (st : Live Dir) → c.me ≡ me → c.rules.bears_ack_of ≡ C.bears_ack_of → c.rules.dealing_of ≡ C.dealing_of → st.records
-        ≡ records_of store.now
-        → (including.can_finish c round.now logs st ≡ true) × (setup.refused_in c round.now st ≡ Some refused)))) }
+        ≡ records_of store.now → refusal_for c round.now logs st ≡ Some refused))) }
 {
     let player = player_for(alloc, ceremony, me, store, round, &logs)?;
     Ok(Job {
@@ -179,8 +186,9 @@ fn result_of<C: Ceremony + Drop>(
     done: Option<VerifiedLogs<C>>,
 ) -> Mem<VerifiedLogs<C>>
     requires { IsRunnable C.dealing_of C.finish_of job.now }
-    ensures { IfOk result (λ made. {Dir : Type 0} (c : Fixed Dir) → c.rules.outcome_of ≡ C.outcome_of → c.rules.finish_of ≡ C.finish_of
-        → result_of made ≡ including.result_of c (option_map result_of done) (job_of job.now)) }
+    ensures handed { IfSome done (λ its. IsAnswered job.now its → IfOk result (λ made. made ≡ its)) }
+    ensures own { (IsSomeAnd done (IsAnswered job.now) → ⊥)
+        → IfOk result (λ made. made ≡ checked C.outcome_of C.finish_of job.now.round job.now.player job.now.logs) }
 {
     match done {
         Some(done) if job.is_answered_by(&done) => Ok(done),
@@ -247,6 +255,9 @@ pub(crate) fn retain<C: Ceremony + Drop, Dir: Directory + Drop>(
         → IsSeen inclusion.old beside.inclusion
         → IsSeen inclusion.new (including.retains c (result_of verified) (live_of beside fence life.now)).inclusion) }
     ensures rest { inclusion.new ≡ record inclusion.old { verification = inclusion.new.verification; waiter = inclusion.new.waiter } }
+    ensures idle { OnOk result ((inclusion.new.verification.running ≡ None) × (inclusion.new.waiter ≡ None)) }
+    ensures keeps { OnOk result (verified.logs ≡ reached_logs life.now.midpoint (option_map (λ t. t.height) life.now.tip)
+        (at_epoch life.now.epoch life.now.store.logs) → inclusion.new.verification.kept ≡ Some verified) }
 {
     let canonical = canonical(alloc, life)?;
     inclusion.verification.retain(verified, &canonical);
@@ -273,10 +284,18 @@ fn complete<
 ) -> Result<(), Stop>
     requires ready { IsReadyLife D.tells D.files D.image C.ack_of C.deal_of C.check_ack_of terms.now life.old devices.old }
     requires including { IsReadyInclusion C.check_log_of C.dealing_of C.finish_of (non_zero_u64_get terms.now.blocks_per_epoch) life.old inclusion.old }
+    requires runs { IsSome inclusion.old.verification.running }
     ensures ready { OnOk result (IsReadyLife D.tells D.files D.image C.ack_of C.deal_of C.check_ack_of terms.now life.new devices.new) }
     ensures including { OnOk result (IsReadyInclusion C.check_log_of C.dealing_of C.finish_of (non_zero_u64_get terms.now.blocks_per_epoch) life.new
         inclusion.new) }
     ensures same { life.new ≡ life.old }
+    ensures rest { inclusion.new ≡ record inclusion.old {
+      verification = inclusion.new.verification;
+      waiter = inclusion.new.waiter;
+      cache = inclusion.new.cache;
+      told = inclusion.new.told;
+    } }
+    ensures idle { OnOk result (inclusion.new.verification.running ≡ None) }
     ensures provider { IsTrue P.tells → SameProvided (P.participants_of provider.old) (P.participants_of provider.new)
         (P.directory_of provider.old) (P.directory_of provider.new) }
     ensures disk { devices.new.disk.now ≡ devices.old.disk.now }
@@ -340,6 +359,13 @@ pub(crate) fn end_verifying<
     ensures including { OnOk result (IsReadyInclusion C.check_log_of C.dealing_of C.finish_of (non_zero_u64_get terms.now.blocks_per_epoch) life.new
         inclusion.new) }
     ensures same { life.new ≡ life.old }
+    ensures rest { inclusion.new ≡ record inclusion.old {
+      verification = inclusion.new.verification;
+      waiter = inclusion.new.waiter;
+      cache = inclusion.new.cache;
+      told = inclusion.new.told;
+    } }
+    ensures idle { OnOk result (inclusion.new.verification.running ≡ None) }
     ensures provider { IsTrue P.tells → SameProvided (P.participants_of provider.old) (P.participants_of provider.new)
         (P.directory_of provider.old) (P.directory_of provider.new) }
     ensures disk { devices.new.disk.now ≡ devices.old.disk.now }
