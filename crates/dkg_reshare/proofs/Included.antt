@@ -167,6 +167,12 @@ module _ {C Dir Signer Cfg : Type 0} (check_log_of : CheckLogOf) (dealing_of : D
       unserved = λ not_in. absurd (not_in (stage ∙ includes));
     }
 
+    abbrev Stands : Option Round → Option Tip → Hand Dir Cfg → Type 0
+    Stands o t hand = IsSomeAnd o (λ round. IsFed check_log_of round (bounds_at blocks_per_epoch (option_map_or (λ x. x.height + 1) t 0)) (option_map tip_of t) hand.request.blocks hand.scan)
+
+    stands_then : (o p : Option Round) → p ≡ o → (t u : Option Tip) → u ≡ t → (hand : Hand Dir Cfg) → Stands o t hand → Stands p u hand
+    stands_then o p same t u alike hand is = subst (λ (x : Option Round). Stands x u hand) (sym same) (subst (λ (x : Option Tip). Stands o x hand) (sym alike) is)
+
     hand_then : new.stage ≡ old.stage → new.round ≡ old.round → new.tip ≡ old.tip → (hand : Option (Hand Dir Cfg)) → IfSome hand (IsInHand check_log_of blocks_per_epoch old)
         → IfSome hand (IsInHand check_log_of blocks_per_epoch new)
     hand_then stage round tip None is = tt
@@ -175,13 +181,6 @@ module _ {C Dir Signer Cfg : Type 0} (check_log_of : CheckLogOf) (dealing_of : D
       goes_on = is.goes_on;
       stands = stands_then old.round new.round round old.tip new.tip tip hand is.stands;
     }
-      where
-        abbrev Stands : Option Round → Option Tip → Hand Dir Cfg → Type 0
-        Stands o t hand = IsSomeAnd o (λ round. IsFed check_log_of round (bounds_at blocks_per_epoch (option_map_or (λ x. x.height + 1) t 0)) (option_map tip_of t) hand.request.blocks hand.scan)
-
-        stands_then : (o p : Option Round) → p ≡ o → (t u : Option Tip) → u ≡ t → (hand : Hand Dir Cfg) → Stands o t hand → Stands p u hand
-        stands_then o p same t u alike hand is = subst (λ (x : Option Round). Stands x u hand) (sym same) (subst (λ (x : Option Tip). Stands o x hand) (sym alike) is)
-
     -- where nothing of its place changed
     pub stays_settled : new.stage ≡ old.stage → new.round ≡ old.round → new.tip ≡ old.tip → (IsSome old.store.current → IsSome new.store.current) → IsSettled old its → IsSettled new its
     stays_settled stage round tip current settled = record {
@@ -230,12 +229,8 @@ pub released_live : {Dir : Type 0} (height : ℕ) (beside : Beside Dir) (fence :
     → live_of (record beside { inclusion = (including.releases height (live_of beside fence life)).inclusion }) fence life ≡ including.releases height (live_of beside fence life)
 released_live {Dir} height beside fence life = by_test (including.is_served_at height (live_of beside fence life))
   where
-    abbrev st : Live Dir
-    st = live_of beside fence life
-
-    abbrev released : Bool → Live Dir
-    released is = if is then core.with_inclusion (record st.inclusion { served = None }) st else st
-
-    by_test : (is : Bool) → live_of (record beside { inclusion = (released is).inclusion }) fence life ≡ released is
+    by_test : (is : Bool)
+        → live_of (record beside { inclusion = (if is then core.with_inclusion (record beside.inclusion { served = None }) (live_of beside fence life) else live_of beside fence life).inclusion }) fence life
+        ≡ (if is then core.with_inclusion (record beside.inclusion { served = None }) (live_of beside fence life) else live_of beside fence life)
     by_test true = refl
     by_test false = refl

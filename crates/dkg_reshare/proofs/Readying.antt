@@ -126,7 +126,7 @@ module _ {Dir D X : Type 0} (tells : Bool) (files : D → Files) (image : D → 
             seated = seated_with old new ack_of terms.me (ap (λ (l : Life Dir). l.round) rest) (ap (λ (l : Life Dir). l.store) rest) (ap (λ (l : Life Dir). l.player) rest) ready.seated;
             dealing = subst (λ (k : ℕ). IsDealing deal_of check_ack_of k new) (sym mine) dealing;
             placed = placed_behind n b.height b.digest terms.long new (ap (λ (l : Life Dir). l.tip) rest ∙ ap (λ (t : Tip). Some t) tip_is) (at ∙ sym epoch) (middle ∙ middle_is ∙ ap (midpoint n) (sym epoch)) (subst (λ (e : ℕ). last n e < 2 ^ 64) (sym epoch) range_is) (subst (λ (o : Option Round). IsSome o) (sym (ap (λ (l : Life Dir). l.round) rest)) joins_is)
-                (subst (λ (m : ℕ). b.height < m) (sym middle) early) (λ dealing. absurd (let h : ◌≡◌ {A = Stage} Including Dealing = sym is ∙ dealing in cc)) (λ including. omega (arith, end, middle));
+                (subst (λ (m : ℕ). b.height < m) (sym middle) early) (λ deals. absurd (let at : new.stage ≡ Including = is in let h : ◌≡◌ {A = Stage} Including Dealing = sym at ∙ deals in cc)) (λ including. omega (arith, end, middle));
             within = subst (λ (o : Option Round). IsWithin (non_zero_u32_get terms.limit) o) (sym (ap (λ (l : Life Dir). l.round) rest)) ready.within;
             firm = λ told. subst (λ (s : Store Dir). IsFirm s.journal (files devices.disk.now) (image devices.disk.now)) (sym (ap (λ (l : Life Dir). l.store) rest)) (ready.firm told);
           }
