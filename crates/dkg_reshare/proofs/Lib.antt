@@ -41,6 +41,7 @@ pub mod Openings
 pub mod Owned
 pub mod PassingOn
 pub mod Placing
+pub mod Posted
 pub mod Ranges
 pub mod Read
 pub mod Reading
