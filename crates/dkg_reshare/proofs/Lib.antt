@@ -5,6 +5,7 @@ pub mod AnswerLines
 pub mod Answering
 pub mod Applied
 pub mod Applying
+pub mod Asking
 pub mod Beginning
 pub mod Beside
 pub mod Blamed

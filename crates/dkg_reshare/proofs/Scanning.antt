@@ -196,26 +196,30 @@ module _ {Dir : Type 0} (c : Fixed Dir) (round : Round) (st : Live Dir) where
       abbrev goes : (above : Option (Block Dir)) → LogMap → Block Dir → List (Block Dir) → Stand → Fed
       goes above found b bs stand = closed_by ended (fed_all check (scans.answers check (at_scan above found) b stand).1 (scans.answers check (at_scan above found) b stand).0 bs).0
 
-      pub scan_is : (above : Option (Block Dir)) (found : LogMap) (bs : List (Block Dir)) → including.scan c round st above found bs ended ≡ closed_by ended (fed_all check (at_scan above found) answer.Need bs).0
-      scan_is above found [] = refl
-      scan_is above found (b ∷ bs) =
-          by_tests (including.is_final c st above b) (not (b.height == including.next_height c st above)) (including.is_unlinked above b) (nat_lt (including.lowest c st) b.height) (including.is_detached c st b)
-          ∙ ap (λ (stand : Stand). goes above found b bs stand) (sym (stand_is above found b))
+      module _ (above : Option (Block Dir)) (found : LogMap) (b : Block Dir) (bs : List (Block Dir))
+          (below : (a : Option (Block Dir)) (l : LogMap) → including.scan c round st a l bs ended ≡ closed_by ended (fed_all check (at_scan a l) answer.Need bs).0)
         where
           higher_is : including.scan c round st (Some b) (including.with_lower c round st b found) bs ended ≡ goes above found b bs Between
-          higher_is = scan_is (Some b) (including.with_lower c round st b found) bs
+          higher_is = below (Some b) (including.with_lower c round st b found)
               ∙ ap (λ (l : LogMap). closed_by ended (fed_all check (at_scan (Some b) l) answer.Need bs).0) (sym (lower_is above b found))
 
           lowest_found : Found (including.with_lower c round st b found) ≡ goes above found b bs Lowest
           lowest_found = ap Found (sym (lower_is above b found)) ∙ sym (found_is (scans.closes (at_scan above found)) (scans.with_lower check (at_scan above found) b) bs ended)
 
           by_tests : (final wrong unlinked higher detached : Bool) → rest_by final wrong unlinked higher detached above found b bs ended ≡ goes above found b bs (stand_by final wrong unlinked higher detached above b)
-          by_tests true wrong unlinked higher detached = scan_is (Some b) found bs
+          by_tests true wrong unlinked higher detached = below (Some b) found
           by_tests false true unlinked higher detached = sym (refused_is (scans.closes (at_scan above found)) (WrongHeight (including.next_height c st above) b.height) bs ended)
           by_tests false false true higher detached = sym (refused_is (scans.closes (at_scan above found)) (Unlinked b.height) bs ended)
           by_tests false false false true detached = higher_is
           by_tests false false false false true = sym (refused_is (scans.closes (at_scan above found)) (Detached b.height) bs ended)
           by_tests false false false false false = lowest_found
+
+      pub scan_is : (above : Option (Block Dir)) (found : LogMap) (bs : List (Block Dir)) → including.scan c round st above found bs ended ≡ closed_by ended (fed_all check (at_scan above found) answer.Need bs).0
+      scan_is above found [] = refl
+      scan_is above found (b ∷ bs) =
+          by_tests above found b bs (λ a l. scan_is a l bs) (including.is_final c st above b) (not (b.height == including.next_height c st above)) (including.is_unlinked above b) (nat_lt (including.lowest c st) b.height)
+          (including.is_detached c st b)
+          ∙ ap (λ (stand : Stand). goes above found b bs stand) (sym (stand_is above found b))
 
     -- A REQUEST, from the start of its ancestry
 

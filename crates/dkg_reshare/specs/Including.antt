@@ -69,6 +69,11 @@ ends_hand request old (Some hand) =
 abbrev pub EndsHand : {C Dir Signer Cfg : Type 0} → (request : ℕ) → (old new : Inclusion C Dir Signer Cfg) → scan.Fed → Type 0
 EndsHand request old new its = ends_hand request old old.hand ≡ (its, new)
 
+-- the request in hand, unless it has this number
+abbrev pub unless_of : {Dir Cfg : Type 0} → (request : ℕ) → Option (Hand Dir Cfg) → Option (Hand Dir Cfg)
+unless_of request None = None
+unless_of request (Some hand) = if hand.request.number == request then None else Some hand
+
 -- REQUESTS
 
 abbrev pub on_fed : {Dir : Type 0} → Fixed Dir → Round → (request : ℕ) → Fed → Live Dir → Course Dir Fault (Live Dir)
