@@ -42,7 +42,7 @@ use Rattle.dkg_reshare.specs.Including.{caching, telling}
 use Rattle.dkg_reshare.specs.InclusionOf.{IsSeen, artifact_of, cached_of, job_of, kept_of, result_of}
 use Rattle.dkg_reshare.specs.LiveOf.{Beside, EndsWith, live_of}
 use Rattle.dkg_reshare.specs.Made.{Makes, Speaks, Tells}
-use Rattle.dkg_reshare.specs.Verifying.{refusal_for}
+use Rattle.dkg_reshare.specs.Refusing.{refusal_for}
 use Rattle.dkg_reshare.proofs.Burning.{makes_nothing, speaks_makes}
 use Rattle.dkg_reshare.proofs.Chained.{early_makes, early_told, then_makes, then_told}
 use Rattle.dkg_reshare.proofs.Committing.{goes_told, same_made, same_told}

@@ -62,5 +62,5 @@ pub mod Stopping
 pub mod Taking
 pub mod Telling
 pub mod Under
-pub mod Verifying
+pub mod Verified
 pub mod Within
