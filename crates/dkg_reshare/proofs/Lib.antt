@@ -5,6 +5,7 @@ pub mod AnswerLines
 pub mod Answering
 pub mod Applied
 pub mod Applying
+pub mod Asking
 pub mod Beginning
 pub mod Beside
 pub mod Blamed
@@ -15,6 +16,7 @@ pub mod Calls
 pub mod Caused
 pub mod Chained
 pub mod Committing
+pub mod Completing
 pub mod Concluding
 pub mod Counted
 pub mod Dealers
@@ -60,4 +62,5 @@ pub mod Stopping
 pub mod Taking
 pub mod Telling
 pub mod Under
+pub mod Verified
 pub mod Within
