@@ -1,11 +1,14 @@
 -- What inclusion has between the parts of a call: what it is seen as, and what holds of it.
-use Rattle.std.proofs.Common.{◌≡◌, ℕ, List, [], Option, Some, None, refl, sym, ◌∙◌, ap, subst}
-use Rattle.std.specs.Prelude.{◌+◌, IfSome, IsSome, IsSomeAnd, option_map}
+use Rattle.std.proofs.Common.{◌≡◌, ℕ, Bool, true, false, List, [], Option, Some, None, refl, sym, ◌∙◌, ap, subst}
+use Rattle.std.specs.Prelude.{◌+◌, IfSome, IsSome, IsSomeAnd, if◌then◌else◌, option_map}
 use Rattle.std.specs.Option.{option_map_or}
 use Rattle.dkg_ceremony.specs.Schedule.{bounds_at}
 use Rattle.dkg_ceremony.specs.declared.round.RoundParts.{RoundParts as Round}
 use Rattle.dkg_artifact.specs.declared.job.Job.{Job}
+use Rattle.dkg_fence.specs.Readiness.{Readiness}
+use Rattle.dkg_core.specs.Including as including
 use Rattle.dkg_core.specs.Live as core
+use Rattle.dkg_core.specs.Live.{Live}
 use Rattle.dkg_core.specs.Sources.{Tip}
 use Rattle.dkg_reshare.specs.declared.inclusion.Hand.{Hand}
 use Rattle.dkg_reshare.specs.declared.inclusion.Inclusion.{Inclusion}
@@ -13,6 +16,7 @@ use Rattle.dkg_reshare.specs.declared.life.Life.{Life}
 use Rattle.dkg_reshare.specs.declared.life.Stage.{Stage}
 use Rattle.dkg_reshare.specs.declared.life.Stage.TheVariants.{Dealing, Including, Following}
 use Rattle.dkg_reshare.specs.InclusionOf.{IsInHand, IsReadyInclusion, IsRunnable, IsSeen, IsSettledInclusion, in_front, tip_of}
+use Rattle.dkg_reshare.specs.LiveOf.{Beside, live_of}
 use Rattle.dkg_reshare.specs.Rules.{CheckLogOf, DealingOf, FinishOf}
 use Rattle.dkg_reshare.specs.Scanned.{IsFed}
 use Rattle.dkg_reshare.proofs.Beside.{emptied}
@@ -38,6 +42,10 @@ module _ {C Dir Signer Cfg : Type 0} (its : Inclusion C Dir Signer Cfg) (i : cor
   -- An epoch begins.
   pub seen_anew : (new : Inclusion C Dir Signer Cfg) → new ≡ renewed its → IsSeen new (emptied i)
   seen_anew new same = seen_as (renewed its) new (emptied i) same (record { served = refl; queue = refl; running = refl; waiter = refl; retained = refl; cached = refl; told = seen.told; used = seen.used })
+
+-- no request is in hand then
+pub back_idle : {C Dir Signer Cfg : Type 0} (its new : Inclusion C Dir Signer Cfg) → new ≡ record its { hand = None; requests = in_front its.hand its.requests } → new.hand ≡ None
+back_idle {C} {Dir} {Signer} {Cfg} its new same = ap (λ (i : Inclusion C Dir Signer Cfg). i.hand) same
 
 -- WHAT HOLDS OF IT
 
@@ -212,3 +220,22 @@ module _ {C Dir Signer Cfg : Type 0} (check_log_of : CheckLogOf) (dealing_of : D
       ready = record { hand = ready.hand; free = ready.free; runs = ready.runs; idle = ready.idle; current = ready.current; unserved = λ apart. served apart ∙ ready.unserved apart };
       settled = settled.settled;
     })
+
+    pub released_settled : (new : Inclusion C Dir Signer Cfg) → new ≡ record its { served = new.served } → ((life.stage ≡ Including → ⊥) → new.served ≡ its.served) → IsSettled life its → IsSettled life new
+    released_settled new rest served settled =
+        served_settled new (rest ∙ (λ i. record its { served = new.served; told = sym (ap (λ (x : Inclusion C Dir Signer Cfg). x.told) rest) i })) served settled
+
+-- A height counts as served no more.
+pub released_live : {Dir : Type 0} (height : ℕ) (beside : Beside Dir) (fence : Readiness) (life : Life Dir)
+    → live_of (record beside { inclusion = (including.releases height (live_of beside fence life)).inclusion }) fence life ≡ including.releases height (live_of beside fence life)
+released_live {Dir} height beside fence life = by_test (including.is_served_at height (live_of beside fence life))
+  where
+    abbrev st : Live Dir
+    st = live_of beside fence life
+
+    abbrev released : Bool → Live Dir
+    released is = if is then core.with_inclusion (record st.inclusion { served = None }) st else st
+
+    by_test : (is : Bool) → live_of (record beside { inclusion = (released is).inclusion }) fence life ≡ released is
+    by_test true = refl
+    by_test false = refl

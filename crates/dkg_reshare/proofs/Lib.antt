@@ -3,6 +3,7 @@ pub mod Advancing
 pub mod Alike
 pub mod AnswerLines
 pub mod Answering
+pub mod Applied
 pub mod Applying
 pub mod Asking
 pub mod Beginning

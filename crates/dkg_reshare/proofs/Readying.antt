@@ -62,6 +62,18 @@ range_at n life stage placed = placed.in_range (λ follows. absurd (let h : ◌�
 pub joins_at : {Dir : Type 0} (n : ℕ) (life : Life Dir) → life.stage ≡ Dealing → IsPlaced n life → IsSome life.round
 joins_at n life stage placed = placed.joins (λ follows. absurd (let h : ◌≡◌ {A = Stage} Dealing Following = sym stage ∙ follows in cc))
 
+-- where the life and the disk are as they were
+pub ready_still : {Dir D X : Type 0} (tells : Bool) (files : D → Files) (image : D → Files → Type 0) (ack_of : AckOf) (deal_of : DealOf) (check_ack_of : CheckAckOf) (terms : Terms) (life now : Life Dir) → now ≡ life
+    → (old new : Devices D X) → new.disk.now ≡ old.disk.now → IsReadyLife tells files image ack_of deal_of check_ack_of terms life old → IsReadyLife tells files image ack_of deal_of check_ack_of terms now new
+ready_still {Dir} {D} {X} tells files image ack_of deal_of check_ack_of terms life now same old new disk ready =
+    subst (λ (l : Life Dir). IsReadyLife tells files image ack_of deal_of check_ack_of terms l new) (sym same) (record {
+      seated = ready.seated;
+      dealing = ready.dealing;
+      placed = ready.placed;
+      within = ready.within;
+      firm = λ told. subst (λ (d : D). IsFirm life.store.journal (files d) (image d)) (sym disk) (ready.firm told);
+    })
+
 -- ALL OF IT
 
 module _ {Dir D X : Type 0} (tells : Bool) (files : D → Files) (image : D → Files → Type 0) (ack_of : AckOf) (deal_of : DealOf) (check_ack_of : CheckAckOf) (terms : Terms) (devices : Devices D X) where
