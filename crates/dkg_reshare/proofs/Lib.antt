@@ -50,7 +50,7 @@ pub mod Reading
 pub mod Readying
 pub mod Requesting
 pub mod Said
-pub mod Scanning
+pub mod Scans
 pub mod Seated
 pub mod Setting
 pub mod SettingUp

@@ -31,7 +31,7 @@ use Rattle.dkg_reshare.specs.LiveOf.{Beside, IsPlaced, awaited_of, live_of, stag
 use Rattle.dkg_reshare.specs.Rules.{CheckLogOf, DealingOf, FinishOf}
 use Rattle.dkg_reshare.specs.Scanned.{IsFed}
 use Rattle.dkg_reshare.proofs.Advancing.{ReadsFirst, Waits, WaitsBy, goes_as, waits_advances}
-use Rattle.dkg_reshare.proofs.Scanning.{fed_behind, feeds_awaits, read_more, read_on, read_short}
+use Rattle.dkg_reshare.proofs.Scans.{fed_behind, feeds_awaits, read_more, read_on, read_short}
 
 -- WORDS
 
