@@ -118,7 +118,7 @@ module _ {Dir : Type 0} (c : Fixed Dir) where
         ap (λ (o : Option Round). option_map_or (λ (round : Round). answers_in round request st.inclusion.queue) o (Goes st)) first.round_is
         ∙ (λ i. answers_in round (sym same i) (first.queue i))
 
-  goes_by : (request : ℕ) (st : Live Dir) (its : Fed) → is_need its ≡ false → goes_on c request its st ≡ answers_first c request its st
+  pub goes_by : (request : ℕ) (st : Live Dir) (its : Fed) → is_need its ≡ false → goes_on c request its st ≡ answers_first c request its st
   goes_by request st Need answered = absurd (let e : true ≡ false = answered in cc)
   goes_by request st (Found logs) answered = refl
   goes_by request st (Lacks why) answered = refl

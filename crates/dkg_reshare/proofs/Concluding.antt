@@ -34,7 +34,7 @@ use Rattle.dkg_reshare.specs.InclusionOf.{artifact_of, cached_of, job_of, result
 use Rattle.dkg_reshare.specs.LiveOf.{Beside, live_of}
 use Rattle.dkg_reshare.specs.Made.{MakesAt, Speaks, Tells}
 use Rattle.dkg_reshare.specs.Rules.{FinishOf, OutcomeOf}
-use Rattle.dkg_reshare.specs.Verifying.{refusal_for}
+use Rattle.dkg_reshare.specs.Refusing.{refusal_for}
 use Rattle.dkg_reshare.specs.declared.life.Life.{Life}
 use Rattle.dkg_reshare.specs.declared.stop.Stop.{Stop}
 use Rattle.dkg_reshare.specs.declared.stop.Stop.TheVariants.{Fault as Faulted}
@@ -90,14 +90,11 @@ module _ {Dir : Type 0} (c : Fixed Dir) (round : Round) (logs : LogMap) (st : Li
   derives_as None is same =
       by_refusal (refusal_for c round logs st)
     where
-      abbrev its_job : core.Job
-      its_job = including.job_for c round logs st
-
       kept_goes : artifact_in c its_found found_live ≡ derives_kept c found_live
       kept_goes = ap (λ (o : Option core.VerifiedLogs). option_map_or (λ r. artifact_in c r found_live) o (Stops HeightRange)) (sym (found_kept same))
 
-      by_refusal : (o : Option ℕ) → bind (including.starts_unless its_job None o st) (λ s. artifact_in c its_found (including.retains c its_found s))
-          ≡ bind (bind (including.starts_unless its_job None o st) (λ s. Goes (including.retains c its_found s))) (derives_kept c)
+      by_refusal : (o : Option ℕ) → bind (including.starts_unless (including.job_for c round logs st) None o st) (λ s. artifact_in c its_found (including.retains c its_found s))
+          ≡ bind (bind (including.starts_unless (including.job_for c round logs st) None o st) (λ s. Goes (including.retains c its_found s))) (derives_kept c)
       by_refusal None = kept_goes
       by_refusal (Some refused) = refl
 

@@ -3,6 +3,7 @@ pub mod Advancing
 pub mod Alike
 pub mod AnswerLines
 pub mod Answering
+pub mod Applied
 pub mod Applying
 pub mod Asking
 pub mod Beginning
@@ -42,13 +43,14 @@ pub mod Openings
 pub mod Owned
 pub mod PassingOn
 pub mod Placing
+pub mod Posted
 pub mod Ranges
 pub mod Read
 pub mod Reading
 pub mod Readying
 pub mod Requesting
 pub mod Said
-pub mod Scanning
+pub mod Scans
 pub mod Seated
 pub mod Setting
 pub mod SettingUp
@@ -60,5 +62,5 @@ pub mod Stopping
 pub mod Taking
 pub mod Telling
 pub mod Under
-pub mod Verifying
+pub mod Verified
 pub mod Within

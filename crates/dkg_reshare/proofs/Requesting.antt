@@ -16,8 +16,6 @@ use Rattle.dkg_artifact.specs.Seen.{Next, Scan}
 use Rattle.dkg_artifact.specs.declared.job.Job as job
 use Rattle.dkg_artifact.specs.declared.scan.Fed as scan
 use Rattle.dkg_artifact.specs.declared.scan.Fed.TheVariants as fed
-use Rattle.dkg_artifact.specs.declared.scan.Stand.{Stand}
-use Rattle.dkg_artifact.specs.declared.scan.Stand.TheVariants as stand
 use Rattle.dkg_core.specs.Fixed.{Fixed}
 use Rattle.dkg_core.specs.Including as including
 use Rattle.dkg_core.specs.Live as core
@@ -33,7 +31,7 @@ use Rattle.dkg_reshare.specs.LiveOf.{Beside, IsPlaced, awaited_of, live_of, stag
 use Rattle.dkg_reshare.specs.Rules.{CheckLogOf, DealingOf, FinishOf}
 use Rattle.dkg_reshare.specs.Scanned.{IsFed}
 use Rattle.dkg_reshare.proofs.Advancing.{ReadsFirst, Waits, WaitsBy, goes_as, waits_advances}
-use Rattle.dkg_reshare.proofs.Scanning.{fed_behind, read_more, read_on, read_short}
+use Rattle.dkg_reshare.proofs.Scans.{fed_behind, feeds_awaits, read_more, read_on, read_short}
 
 -- WORDS
 
@@ -48,27 +46,7 @@ some_and P None has = absurd has
 some_and P (Some x) has = refl
 
 pub none_some : {A : Type 0} (P : Type 0) (o : Option A) → o ≡ None → IsSome o → P
-none_some {A} P o none some = absurd (let e : IsSome {A = A} None = subst (λ (q : Option A). IsSome q) none some in cc)
-
--- A scan that needs more awaits a block.
-module _ {Dir : Type 0} (check : scans.Check) where
-  answer_awaits : (s : Scan) (b : Block Dir) (its : Stand) → (scans.answers check s b its).0 ≡ fed.Need → IsAwaiting (scans.answers check s b its).1
-  answer_awaits s b stand.Final needs = refl
-  answer_awaits s b stand.Between needs = refl
-  answer_awaits s b stand.Lowest needs = absurd cc
-  answer_awaits s b (stand.Refused why) needs = absurd cc
-
-  abbrev fed_by : Scan → Block Dir → Option Next → scan.Fed × Scan
-  fed_by s b next = option_map_or (λ n. scans.answers check s b (scans.stand_of s n b)) next (fed.Unavailable Short, s)
-
-  pub feeds_awaits : (s : Scan) (b : Block Dir) → IsAwaiting s → (feeds check s b).0 ≡ fed.Need → IsAwaiting (feeds check s b).1
-  feeds_awaits s b awaits needs = by_next s.next refl
-    where
-      by_next : (next : Option Next) → s.next ≡ next → IsAwaiting (feeds check s b).1
-      by_next None is = none_some (IsAwaiting (feeds check s b).1) s.next is awaits
-      by_next (Some n) is =
-          subst (λ (o : Option Next). IsAwaiting (fed_by s b o).1) (sym is)
-          (answer_awaits s b (scans.stand_of s n b) (subst (λ (o : Option Next). (fed_by s b o).0 ≡ fed.Need) is needs))
+none_some {A} P o none some = absurd (let e : false ≡ true = subst (λ (q : Option A). IsSome q) none some in cc)
 
 -- AS THE RELATION HAS THEM
 
@@ -118,6 +96,24 @@ module _ {Dir : Type 0} (request : ℕ) where
 
 -- WHERE NOTHING CAN BE READ
 
+module _ {Dir : Type 0} (check : CheckLogOf) (n : ℕ) (life : Life Dir) (placed : IsPlaced n life) where
+  includes_is : life.stage ≡ stage.Including → life.epoch ≡ epoch_of n (awaited_of life)
+  includes_is is = placed.epoch_is (λ follows. let e : stage.Including ≡ stage.Following = sym is ∙ follows in cc)
+
+  module _ (c : Fixed Dir) (blocks : c.blocks_per_epoch ≡ n) (checks : c.rules.check_log_of ≡ check) (beside : Beside Dir) (fence : Readiness) where
+    last_is : life.stage ≡ stage.Including → (bounds_at n (awaited_of life)).last ≡ including.final_height c (live_of beside fence life)
+    last_is is = λ i. last (sym blocks i) (sym (includes_is is) i)
+
+    middle_is : life.stage ≡ stage.Including → (bounds_at n (awaited_of life)).midpoint ≡ midpoint c.blocks_per_epoch life.epoch
+    middle_is is = λ i. midpoint (sym blocks i) (sym (includes_is is) i)
+
+    -- The request in hand needs more.
+    pub hand_needs : {Cfg : Type 0} (hand : Hand Dir Cfg) → IsInHand check n life hand → (round : Round) → life.round ≡ Some round → including.read_of c round (live_of beside fence life) (request_of hand.request) ≡ including.Need
+    hand_needs hand in_hand round has =
+        let its = at_some_and (λ (r : Round). IsFed check r (bounds_at n (awaited_of life)) (option_map tip_of life.tip) hand.request.blocks hand.scan) life.round round has in_hand.stands in
+        ap (λ (ended : Bool). including.read_of c round (live_of beside fence life) (record { number = hand.request.number; blocks = hand.request.blocks; ended = ended })) in_hand.goes_on
+        ∙ read_on c round (live_of beside fence life) check checks (bounds_at n (awaited_of life)) (last_is in_hand.includes) (middle_is in_hand.includes) hand.request.number hand.request.blocks hand.scan its.fed
+
 module _ {C Dir Signer Cfg : Type 0} (check : CheckLogOf) (dealing_of : DealingOf) (finish_of : FinishOf) (n : ℕ) (life : Life Dir) (placed : IsPlaced n life) where
   abbrev Ready : Inclusion C Dir Signer Cfg → Type 0
   Ready its = IsReadyInclusion check dealing_of finish_of n life its
@@ -125,45 +121,26 @@ module _ {C Dir Signer Cfg : Type 0} (check : CheckLogOf) (dealing_of : DealingO
   abbrev Settled : Inclusion C Dir Signer Cfg → Type 0
   Settled its = IsSettledInclusion check dealing_of finish_of n life its
 
-  includes_is : life.stage ≡ stage.Including → life.epoch ≡ epoch_of n (awaited_of life)
-  includes_is is = placed.epoch_is (λ follows. let e : stage.Including ≡ stage.Following = sym is ∙ follows in cc)
-
   module _ (c : Fixed Dir) (blocks : c.blocks_per_epoch ≡ n) (checks : c.rules.check_log_of ≡ check) (beside : Beside Dir) (fence : Readiness) where
-    abbrev st : Live Dir
-    st = live_of beside fence life
-
-    last_is : life.stage ≡ stage.Including → (bounds_at n (awaited_of life)).last ≡ including.final_height c st
-    last_is is = λ i. last (sym blocks i) (sym (includes_is is) i)
-
-    middle_is : life.stage ≡ stage.Including → (bounds_at n (awaited_of life)).midpoint ≡ midpoint c.blocks_per_epoch st.participation.epoch
-    middle_is is = λ i. midpoint (sym blocks i) (sym (includes_is is) i)
-
-    -- The request in hand needs more.
-    pub hand_needs : (hand : Hand Dir Cfg) → IsInHand check n life hand → (round : Round) → life.round ≡ Some round → including.read_of c round st (request_of hand.request) ≡ including.Need
-    hand_needs hand in_hand round has =
-        let its = at_some_and (λ (r : Round). IsFed check r (bounds_at n (awaited_of life)) (option_map tip_of life.tip) hand.request.blocks hand.scan) life.round round has in_hand.stands in
-        ap (λ (ended : Bool). including.read_of c round st (record { number = hand.request.number; blocks = hand.request.blocks; ended = ended })) in_hand.goes_on
-        ∙ read_on c round st check checks (bounds_at n (awaited_of life)) (last_is in_hand.includes) (middle_is in_hand.includes) hand.request.number hand.request.blocks hand.scan its.fed
-
-    pub settled_waits : (its : Inclusion C Dir Signer Cfg) → IsSeen its beside.inclusion → Settled its → Waits c st
+    pub settled_waits : (its : Inclusion C Dir Signer Cfg) → IsSeen its beside.inclusion → Settled its → Waits c (live_of beside fence life)
     settled_waits its seen settled = λ round has. by_stage round has life.stage refl
       where
         by_hand : (round : Round) → life.round ≡ Some round → life.stage ≡ stage.Including → its.verification.running ≡ None → (hand : Option (Hand Dir Cfg)) → its.hand ≡ hand
-            → WaitsBy c round st Includes None (map request_of (in_front hand its.requests))
+            → WaitsBy c round (live_of beside fence life) Includes None (map request_of (in_front hand its.requests))
         by_hand round has includes free None is =
-            subst (λ (rs : List (requested.Request Dir)). WaitsBy c round st Includes None (map request_of rs)) (sym (settled.settled includes (subst (λ (o : Option Round). IsSome o) (sym has) refl) is free)) tt
-        by_hand round has includes free (Some hand) is = ap including.is_need (hand_needs hand (at_some (IsInHand check n life) its.hand hand is settled.ready.hand) round has)
+            subst (λ (rs : List (requested.Request Dir)). WaitsBy c round (live_of beside fence life) Includes None (map request_of rs)) (sym (settled.settled includes (subst (λ (o : Option Round). IsSome o) (sym has) refl) is free)) tt
+        by_hand round has includes free (Some hand) is = ap including.is_need (hand_needs check n life placed c blocks checks beside fence hand (at_some (IsInHand check n life) its.hand hand is settled.ready.hand) round has)
 
         by_running : (round : Round) → life.round ≡ Some round → life.stage ≡ stage.Including → (running : Option job.Job) → its.verification.running ≡ running
-            → WaitsBy c round st Includes (option_map job_of running) (map request_of (in_front its.hand its.requests))
+            → WaitsBy c round (live_of beside fence life) Includes (option_map job_of running) (map request_of (in_front its.hand its.requests))
         by_running round has includes None free = by_hand round has includes free its.hand refl
         by_running round has includes (Some j) is = tt
 
-        by_stage : (round : Round) → life.round ≡ Some round → (s : Stage) → life.stage ≡ s → WaitsBy c round st (stage_of s) beside.inclusion.running beside.inclusion.queue
+        by_stage : (round : Round) → life.round ≡ Some round → (s : Stage) → life.stage ≡ s → WaitsBy c round (live_of beside fence life) (stage_of s) beside.inclusion.running beside.inclusion.queue
         by_stage round has stage.Dealing is = tt
         by_stage round has stage.Including is =
-            subst (λ (j : Option core.Job). WaitsBy c round st Includes j beside.inclusion.queue) (sym seen.running)
-            (subst (λ (q : List (core.Request Dir)). WaitsBy c round st Includes (option_map job_of its.verification.running) q) (sym seen.queue) (by_running round has is its.verification.running refl))
+            subst (λ (j : Option core.Job). WaitsBy c round (live_of beside fence life) Includes j beside.inclusion.queue) (sym seen.running)
+            (subst (λ (q : List (core.Request Dir)). WaitsBy c round (live_of beside fence life) Includes (option_map job_of its.verification.running) q) (sym seen.queue) (by_running round has is its.verification.running refl))
         by_stage round has stage.Following is = tt
 
   -- A REQUEST THAT IS FED, or whose ancestry has ended
@@ -272,8 +249,8 @@ module _ {C Dir Signer Cfg : Type 0} (check : CheckLogOf) (dealing_of : DealingO
       subst (λ (p : scan.Fed × Inclusion C Dir Signer Cfg). Answers request p.0 p.1) is (by_hand its.hand refl)
     where
       by_number : (hand : Hand Dir Cfg) → its.hand ≡ Some hand → (same : Bool) → (hand.request.number == request) ≡ same
-          → let old = record its { requests = map (fed_for request b) its.requests } in
-          let p = (if same then ((feeds check hand.scan b).0, record old { hand = Some (record hand { request = record hand.request { blocks = hand.request.blocks ++ b ∷ [] }; scan = (feeds check hand.scan b).1 }) }) else (fed.Need, old)) in
+          → let old : Inclusion C Dir Signer Cfg = record its { requests = map (fed_for request b) its.requests } in
+          let p : scan.Fed × Inclusion C Dir Signer Cfg = (if same then ((feeds check hand.scan b).0, record old { hand = Some (record hand { request = record hand.request { blocks = hand.request.blocks ++ b ∷ [] }; scan = (feeds check hand.scan b).1 }) }) else (fed.Need, old)) in
           Answers request p.0 p.1
       by_number hand has true same =
           answers_by request its hand has settled (fed_for request b) (fed_hand request its hand has settled b) (eqb-true hand.request.number request same) (feeds check hand.scan b).0
@@ -292,8 +269,8 @@ module _ {C Dir Signer Cfg : Type 0} (check : CheckLogOf) (dealing_of : DealingO
       subst (λ (p : scan.Fed × Inclusion C Dir Signer Cfg). Answers request p.0 p.1) is (by_hand its.hand refl)
     where
       by_number : (hand : Hand Dir Cfg) → its.hand ≡ Some hand → (same : Bool) → (hand.request.number == request) ≡ same
-          → let old = record its { requests = map (ended_for request) its.requests } in
-          let p = (if same then (fed.Unavailable Short, record old { hand = Some (record hand { request = record hand.request { ended = true }; scan = scans.closes hand.scan }) }) else (fed.Need, old)) in
+          → let old : Inclusion C Dir Signer Cfg = record its { requests = map (ended_for request) its.requests } in
+          let p : scan.Fed × Inclusion C Dir Signer Cfg = (if same then (fed.Unavailable Short, record old { hand = Some (record hand { request = record hand.request { ended = true }; scan = scans.closes hand.scan }) }) else (fed.Need, old)) in
           Answers request p.0 p.1
       by_number hand has true same =
           answers_by request its hand has settled (ended_for request) (record hand { request = record hand.request { ended = true }; scan = scans.closes hand.scan }) (eqb-true hand.request.number request same) (fed.Unavailable Short)
@@ -361,7 +338,7 @@ module _ {C Dir Signer Cfg : Type 0} (check : CheckLogOf) (dealing_of : DealingO
             }
 
             goes_answered : including.is_need (fed_of x) ≡ false → (o : Option Round) → life.round ≡ o → IsSome o → including.advanced c (live_changed f) ≡ goes_on c request (fed_of x) (live_changed f)
-            goes_answered answered None is some = absurd (let e : IsSome {A = Round} None = some in cc)
+            goes_answered answered None is some = absurd (let e : false ≡ true = some in cc)
             goes_answered answered (Some round) is some =
                 goes_as c (live_changed f) round (request_of now.request) (map request_of (map g its.requests)) (reads_first round is) (fed_of x) (reads round is) answered request number
 
@@ -385,8 +362,8 @@ module _ {C Dir Signer Cfg : Type 0} (check : CheckLogOf) (dealing_of : DealingO
           let is_in = in_hand request its hand has settled in
           let at = at_some_and (λ (r : Round). IsFed check r (bounds_at n (awaited_of life)) (option_map tip_of life.tip) hand.request.blocks hand.scan) life.round round is is_in.stands in
           ap (λ (ended : Bool). including.read_of c round (live_changed (feeding request b)) (record { number = hand.request.number; blocks = hand.request.blocks ++ b ∷ []; ended = ended })) is_in.goes_on
-          ∙ read_more c round (live_changed (feeding request b)) check checks (bounds_at n (awaited_of life)) (last_is c blocks checks (beside_changed (feeding request b)) fence is_in.includes)
-          (middle_is c blocks checks (beside_changed (feeding request b)) fence is_in.includes) hand.request.number hand.request.blocks b hand.scan at.fed
+          ∙ read_more c round (live_changed (feeding request b)) check checks (bounds_at n (awaited_of life)) (last_is check n life placed c blocks checks (beside_changed (feeding request b)) fence is_in.includes)
+          (middle_is check n life placed c blocks checks (beside_changed (feeding request b)) fence is_in.includes) hand.request.number hand.request.blocks b hand.scan at.fed
 
       same_fed : (b : Block Dir) (hand : Hand Dir Cfg) → hand.request.ended ≡ false → (hand.request.number == request) ≡ true → fed_for request b hand.request ≡ record hand.request { blocks = hand.request.blocks ++ b ∷ [] }
       same_fed b hand on same = λ i. if same i && not (on i) then record hand.request { blocks = hand.request.blocks ++ b ∷ [] } else hand.request
@@ -399,8 +376,8 @@ module _ {C Dir Signer Cfg : Type 0} (check : CheckLogOf) (dealing_of : DealingO
       block_goes b x new is = subst (λ (p : scan.Fed × Inclusion C Dir Signer Cfg). GoesBy c request (live_changed (feeding request b)) p.0 p.1) is (by_hand its.hand refl)
         where
           by_number : (hand : Hand Dir Cfg) → its.hand ≡ Some hand → (same : Bool) → (hand.request.number == request) ≡ same
-              → let old = record its { requests = map (fed_for request b) its.requests } in
-              let p = (if same then ((feeds check hand.scan b).0, record old { hand = Some (record hand { request = record hand.request { blocks = hand.request.blocks ++ b ∷ [] }; scan = (feeds check hand.scan b).1 }) }) else (fed.Need, old)) in
+              → let old : Inclusion C Dir Signer Cfg = record its { requests = map (fed_for request b) its.requests } in
+              let p : scan.Fed × Inclusion C Dir Signer Cfg = (if same then ((feeds check hand.scan b).0, record old { hand = Some (record hand { request = record hand.request { blocks = hand.request.blocks ++ b ∷ [] }; scan = (feeds check hand.scan b).1 }) }) else (fed.Need, old)) in
               GoesBy c request (live_changed (feeding request b)) p.0 p.1
           by_number hand has true same =
               goes_hand (feeding request b) (fed_for request b) (fed_alike request b) hand has (fed_hand request its hand has settled b) (same_fed b hand (in_hand request its hand has settled).goes_on same)
@@ -427,16 +404,16 @@ module _ {C Dir Signer Cfg : Type 0} (check : CheckLogOf) (dealing_of : DealingO
       end_reads hand has round is =
           let is_in = in_hand request its hand has settled in
           let at = at_some_and (λ (r : Round). IsFed check r (bounds_at n (awaited_of life)) (option_map tip_of life.tip) hand.request.blocks hand.scan) life.round round is is_in.stands in
-          read_short c round (live_changed (ending request)) check checks (bounds_at n (awaited_of life)) (last_is c blocks checks (beside_changed (ending request)) fence is_in.includes)
-          (middle_is c blocks checks (beside_changed (ending request)) fence is_in.includes) hand.request.number hand.request.blocks hand.scan at.fed
+          read_short c round (live_changed (ending request)) check checks (bounds_at n (awaited_of life)) (last_is check n life placed c blocks checks (beside_changed (ending request)) fence is_in.includes)
+          (middle_is check n life placed c blocks checks (beside_changed (ending request)) fence is_in.includes) hand.request.number hand.request.blocks hand.scan at.fed
 
       pub end_goes : (x : scan.Fed) (new : Inclusion C Dir Signer Cfg)
           → ends_hand request (record its { requests = map (ended_for request) its.requests }) its.hand ≡ (x, new) → GoesBy c request (live_changed (ending request)) x new
       end_goes x new is = subst (λ (p : scan.Fed × Inclusion C Dir Signer Cfg). GoesBy c request (live_changed (ending request)) p.0 p.1) is (by_hand its.hand refl)
         where
           by_number : (hand : Hand Dir Cfg) → its.hand ≡ Some hand → (same : Bool) → (hand.request.number == request) ≡ same
-              → let old = record its { requests = map (ended_for request) its.requests } in
-              let p = (if same then (fed.Unavailable Short, record old { hand = Some (record hand { request = record hand.request { ended = true }; scan = scans.closes hand.scan }) }) else (fed.Need, old)) in
+              → let old : Inclusion C Dir Signer Cfg = record its { requests = map (ended_for request) its.requests } in
+              let p : scan.Fed × Inclusion C Dir Signer Cfg = (if same then (fed.Unavailable Short, record old { hand = Some (record hand { request = record hand.request { ended = true }; scan = scans.closes hand.scan }) }) else (fed.Need, old)) in
               GoesBy c request (live_changed (ending request)) p.0 p.1
           by_number hand has true same =
               goes_hand (ending request) (ended_for request) (ended_alike request) hand has (over_hand hand) (ap (λ (v : Bool). if v then record hand.request { ended = true } else hand.request) same)

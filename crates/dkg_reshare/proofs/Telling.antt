@@ -136,8 +136,8 @@ module _ {Dir S : Type 0} (course : Course Dir Fault S) (line : Line) (its : S) 
   said_wants stop ends out now told =
       subst (λ (s : Stop). Speaks course (by_stop {S = S} s) out now) (sym ends)
       (subst (λ (x : Course Dir Fault S). Speaks x (broken by_want) out now) (sym is)
-      (subst (λ (l : List Line). Speaks {Dir = Dir} (Say line (Goes its)) (broken by_want) out l) (sym told)
-      (λ h f. inr (breaks_none by_want tt (acts_of.Goes its) (record { out = out ++ line ∷ []; held = h; fuse = f })))))
+      (subst (λ (l : List Line). Speaks {Dir = Dir} {F = Fault} (Say line (Goes its)) (broken by_want) out l) (sym told)
+      (λ h f. inr (breaks_none {F = Fault} by_want tt (acts_of.Goes its) (record { out = out ++ line ∷ []; held = h; fuse = f })))))
 
 -- THE OWN LOG IS SERVED
 
@@ -168,7 +168,7 @@ module _ {C Dir Signer Cfg : Type 0} (c : Fixed Dir) (spelling : Dir → List �
 
     gives_as : (o : Option SignedDealerLog) → including.gives_log c request height o (core.with_used request st) ≡ Say (line_of o) (Goes (record st { inclusion = given o }))
     gives_as None = refl
-    gives_as (Some log) = ap (λ (line : Line). Say line (Goes {F = Fault} (record st { inclusion = given (Some log) }))) (sym (lines_alike (Some log)))
+    gives_as (Some log) = ap (λ (line : Line). let its : Course Dir Fault (Live Dir) = Say line (Goes (record st { inclusion = given (Some log) })) in its) (sym (lines_alike (Some log)))
 
     seen_given : (o : Option SignedDealerLog) → IsSeen (record its { served = served_by o its.served; told = insert its.told request (told.Log (payload_in o)) }) (given o)
     seen_given o =

@@ -16,7 +16,7 @@ use Rattle.dkg_reshare.proofs.Beginning.{makes_as, tells_as}
 use Rattle.dkg_reshare.proofs.Beside.{none_with, took_nothing, with_as}
 use Rattle.dkg_reshare.proofs.Blaming.{result_caused}
 use Rattle.dkg_reshare.proofs.Burning.{makes_none}
-use Rattle.dkg_reshare.proofs.Concluding.{is_final, its_round, not_final}
+use Rattle.dkg_reshare.proofs.Applied.{is_final, its_round, not_final}
 use Rattle.dkg_reshare.proofs.Included.{back_idle, back_ready, seen_back}
 use Rattle.dkg_reshare.proofs.Kept.{moved_none}
 use Rattle.dkg_reshare.proofs.Said.{said_none}

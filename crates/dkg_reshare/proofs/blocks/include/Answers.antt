@@ -12,7 +12,7 @@ use Rattle.dkg_reshare.specs.LiveOf.{awaited_of, live_of}
 use Rattle.dkg_reshare.proofs.Beginning.{makes_as, tells_as}
 use Rattle.dkg_reshare.proofs.Beside.{none_with, with_as}
 use Rattle.dkg_reshare.proofs.Blamed.{blamed_behind}
-use Rattle.dkg_reshare.proofs.Concluding.{behind_log, log_behind, still_served, unserved_seen, unserving_at}
+use Rattle.dkg_reshare.proofs.Applied.{behind_log, log_behind, still_served, unserved_seen, unserving_at}
 use Rattle.dkg_reshare.proofs.Included.{moved_ready, ready_as}
 use Rattle.dkg_reshare.proofs.Kept.{moved_then}
 use Rattle.dkg_reshare.proofs.Readying.{ready_at}

@@ -15,7 +15,7 @@ use Rattle.dkg_reshare.proofs.Beside.{with_as, with_then}
 use Rattle.dkg_reshare.proofs.Blaming.{result_caused_by}
 use Rattle.dkg_reshare.proofs.Burning.{speaks_makes}
 use Rattle.dkg_reshare.proofs.Caused.{caused_around, rose_around}
-use Rattle.dkg_reshare.proofs.Concluding.{concluded_ill, concluded_well}
+use Rattle.dkg_reshare.proofs.Applied.{concluded_ill, concluded_well}
 use Rattle.dkg_reshare.proofs.Deriving.{final_block_is}
 use Rattle.dkg_reshare.proofs.Kept.{moved_then}
 use Rattle.dkg_reshare.proofs.Readying.{ready_still}

@@ -32,7 +32,7 @@ use Rattle.dkg_core.proofs.Same.{logs_again, one_logs, one_round, round_again}
 use Rattle.dkg_reshare.specs.InclusionOf.{IsRunnable, dealings_of, job_of, result_of, verified_of}
 use Rattle.dkg_reshare.specs.LiveOf.{records_of}
 use Rattle.dkg_reshare.specs.Rules.{BearsAckOf, DealingOf, FinishOf, OutcomeOf}
-use Rattle.dkg_reshare.specs.Verifying.{refusal_for}
+use Rattle.dkg_reshare.specs.Refusing.{refusal_for}
 
 -- TESTS
 
