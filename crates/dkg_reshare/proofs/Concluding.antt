@@ -1,6 +1,6 @@
 -- The artifact of an epoch's last block: its parts, one behind another.
 use Rattle.std.proofs.Common.{◌≡◌, inl, inr, ℕ, Bool, true, false, List, [], Option, Some, None, Result, Ok, Err, refl, sym, ◌∙◌, ap, subst}
-use Rattle.std.specs.Prelude.{◌⊎◌, IsSome, IsSomeAnd, is_some, if◌then◌else◌, option_map}
+use Rattle.std.specs.Prelude.{◌⊎◌, IfSome, IsSome, IsSomeAnd, is_some, if◌then◌else◌, option_map}
 use Rattle.std.specs.Option.{option_map_or}
 use Rattle.dkg_ceremony.specs.Outcomes.{LogMap}
 use Rattle.dkg_ceremony.specs.declared.round.RoundParts.{RoundParts as Round}
@@ -30,11 +30,13 @@ use Rattle.dkg_ceremony.specs.Schedule.{midpoint}
 use Rattle.dkg_reshare.specs.Concluded.{FindsBy, canonical_in, derives_kept, sees_verified, sees_verified_by, takes_cached, verifies}
 use Rattle.dkg_reshare.specs.Ends.{by_stop}
 use Rattle.dkg_reshare.specs.Including.{artifact_in, artifact_over, derives_by, derives_by_in, derives_final, derives_in, derives_now, derives_now_by, with_cached_in}
-use Rattle.dkg_reshare.specs.InclusionOf.{artifact_of, cached_of, job_of, result_of}
+use Rattle.dkg_reshare.specs.InclusionOf.{IsInHand, IsReadyInclusion, IsRunnable, artifact_of, cached_of, job_of, result_of}
 use Rattle.dkg_reshare.specs.LiveOf.{Beside, IsPlaced, live_of}
 use Rattle.dkg_reshare.specs.Made.{MakesAt, Speaks, Tells}
 use Rattle.dkg_reshare.specs.Rules.{AckOf, BearsAckOf, CheckAckOf, CheckLogOf, DealOf, DealingOf, FinishOf, IncludesBy, IsRuledBy, OutcomeOf, PartialPublicOf, RoundOf, SameProvided, SharePublicOf, SignLogOf}
 use Rattle.dkg_reshare.specs.Refusing.{refusal_for}
+use Rattle.dkg_reshare.specs.declared.inclusion.Hand.{Hand}
+use Rattle.dkg_reshare.specs.declared.inclusion.Inclusion.{Inclusion}
 use Rattle.dkg_reshare.specs.declared.life.Life.{Life}
 use Rattle.dkg_reshare.specs.declared.life.Stage.{Stage}
 use Rattle.dkg_reshare.specs.declared.life.Stage.TheVariants.{Following, Including}
@@ -302,7 +304,7 @@ provides_then c same provides = record {
 }
 
 module _ {Dir : Type 0} (n : ℕ) (life : Life Dir) (includes : life.stage ≡ Including) (placed : IsPlaced n life) where
-  not_following : life.stage ≡ Following → ⊥
+  pub not_following : life.stage ≡ Following → ⊥
   not_following follows = absurd (let h : ◌≡◌ {A = Stage} Including Following = sym includes ∙ follows in cc)
 
   pub middle_in : (c : Fixed Dir) → c.blocks_per_epoch ≡ n → midpoint c.blocks_per_epoch life.epoch ≡ life.midpoint
@@ -316,3 +318,18 @@ and_some {A} o x P is p = let Q : Option A → Type 0 = λ q. IsSomeAnd q P in s
 
 pub none_apart : {A B : Type 0} (o : Option A) → o ≡ None → IsSome o → B
 none_apart {A} o none some = absurd (let h : false ≡ true = sym (ap (λ (x : Option A). is_some x) none) ∙ some in cc)
+
+-- WHAT HOLDS OF INCLUSION behind it
+
+module _ {C Dir Signer Cfg : Type 0} (check_log_of : CheckLogOf) (dealing_of : DealingOf) (finish_of : FinishOf) (n : ℕ) where
+  pub derived_ready : (old new : Life Dir) → new ≡ old → (its now : Inclusion C Dir Signer Cfg) → now ≡ record its { verification = now.verification; waiter = now.waiter; cache = now.cache } → now.verification.running ≡ None
+      → IsReadyInclusion check_log_of dealing_of finish_of n old its → IsReadyInclusion check_log_of dealing_of finish_of n new now
+  derived_ready old new same its now rest running ready =
+      subst (λ (l : Life Dir). IsReadyInclusion check_log_of dealing_of finish_of n l now) (sym same) (record {
+        hand = subst (λ (h : Option (Hand Dir Cfg)). IfSome h (IsInHand check_log_of n old)) (sym (ap (λ (x : Inclusion C Dir Signer Cfg). x.hand) rest)) ready.hand;
+        free = λ some. running;
+        runs = subst (λ (j : Option job.Job). IfSome j (λ its. (old.stage ≡ Including) × (old.round ≡ Some its.round) × IsRunnable dealing_of finish_of its)) (sym running) tt;
+        idle = λ follows. ap (λ (x : Inclusion C Dir Signer Cfg). x.requests) rest ∙ ready.idle follows;
+        current = ready.current;
+        unserved = λ apart. ap (λ (x : Inclusion C Dir Signer Cfg). x.served) rest ∙ ready.unserved apart;
+      })
