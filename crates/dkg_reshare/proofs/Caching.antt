@@ -1,9 +1,8 @@
 -- Which artifact is kept, what it is derived from, and the faults that a course stops by.
 use Rattle.std.proofs.Common.{◌≡◌, inl, inr, ℕ, ◌+◌, ◌^◌, ◌==◌, Bool, true, false, nat_le, nat_lt, List, length, Option, Some, None, refl, sym, ◌∙◌, ap}
-use Rattle.std.specs.Prelude.{IfSome, IsSomeAnd, option_map, if◌then◌else◌}
+use Rattle.std.specs.Prelude.{IfSome, option_map, if◌then◌else◌}
 use Rattle.std.specs.Option.{option_map_or}
 use Rattle.dkg_ceremony.specs.declared.output.Output.{Output}
-use Rattle.dkg_ceremony.specs.Outcomes.{LogMap}
 use Rattle.dkg_types.specs.InfoCodes.{peers_of}
 use Rattle.dkg_types.specs.NextInfos.{Provided, info_by, info_with}
 use Rattle.dkg_types.specs.declared.entry.Entry.{Entry as Line}
@@ -13,19 +12,16 @@ use Rattle.dkg_types.specs.declared.fault.ParticipantsCause.TheVariants.{Provide
 use Rattle.dkg_types.specs.declared.info.EpochInfo.{EpochInfo}
 use Rattle.dkg_types.specs.declared.outcome.EpochOutcome.{EpochOutcome}
 use Rattle.dkg_types.specs.declared.outcome.EpochOutcome.TheVariants.{Success, Failure}
-use Rattle.dkg_artifact.specs.declared.artifact.Artifact as kept
 use Rattle.dkg_artifact.specs.declared.verified.Verified as verified
 use Rattle.dkg_core.specs.Courses.{Course, Goes, Stops, bind}
 use Rattle.dkg_core.specs.Fixed.{Fixed, OneShot}
 use Rattle.dkg_core.specs.Including as including
 use Rattle.dkg_core.specs.Including.{Next}
 use Rattle.dkg_core.specs.Live.{Live, Artifact, VerifiedLogs}
-use Rattle.dkg_core.specs.Same.{same_logs}
-use Rattle.dkg_core.proofs.Same.{logs_again, one_logs}
 use Rattle.dkg_reshare.specs.declared.stop.Stop.{Stop}
 use Rattle.dkg_reshare.specs.Ends.{by_stop, cause_in}
 use Rattle.dkg_reshare.specs.Including.{derives_in, ended_by, stops_by, unprovided}
-use Rattle.dkg_reshare.specs.InclusionOf.{artifact_of, cached_of, verified_of}
+use Rattle.dkg_reshare.specs.InclusionOf.{verified_of}
 use Rattle.dkg_reshare.specs.Made.{Speaks}
 use Rattle.dkg_reshare.specs.Rules.{SameProvided}
 use Rattle.dkg_reshare.specs.Steps.{IsFaultOrWant}
@@ -46,27 +42,6 @@ module _ {Dir : Type 0} (c : Fixed Dir) where
       ∙ ap (λ (o : Option (OneShot Dir)). including.derives c o r st next) reshare
       ∙ ap (λ (o : Option (EpochInfo Dir)). option_map_or (λ info. including.derives_next c info r st (including.keeping r.logs next)) o (Stops HeightRange)) current
       ∙ derived c info r st (including.keeping r.logs next)
-
-module _ {Dir : Type 0} (logs : LogMap) where
-  abbrev found_by : LogMap × kept.Artifact Dir → Bool → Option (Artifact Dir)
-  found_by its same = if same then Some (artifact_of its.1) else None
-
-  -- the kept artifact, where it is of these logs
-  pub cached_there : (cache : Option (LogMap × kept.Artifact Dir)) (its : LogMap × kept.Artifact Dir) → cache ≡ Some its → its.0 ≡ logs
-      → including.cached_for (option_map cached_of cache) logs ≡ Some (artifact_of its.1)
-  cached_there cache its is same =
-      ap (λ (o : Option (LogMap × kept.Artifact Dir)). including.cached_for (option_map cached_of o) logs) is
-      ∙ ap (found_by its) (ap (λ (l : LogMap). same_logs l logs) same ∙ logs_again logs)
-
-  -- .. and none, where it is of others
-  pub none_cached : (cache : Option (LogMap × kept.Artifact Dir)) → (IsSomeAnd cache (λ its. its.0 ≡ logs) → ⊥)
-      → including.cached_for (option_map cached_of cache) logs ≡ None
-  none_cached None apart = refl
-  none_cached (Some its) apart = by_test (same_logs its.0 logs) refl
-    where
-      by_test : (same : Bool) → same_logs its.0 logs ≡ same → found_by its same ≡ None
-      by_test true is = absurd (apart (one_logs its.0 logs is))
-      by_test false is = refl
 
 -- WHAT IS DERIVED, from what the provider says
 
@@ -117,5 +92,5 @@ own_unprovided participants limit epoch = by_test (nat_le (2 ^ 64) (epoch + 2)) 
 module _ {Dir S : Type 0} (acts : Course Dir Fault S) where
   pub fault_speaks : (o : Option Fault) (stop : Stop) → IsFaultOrWant o stop → IfSome o (λ its. cause_in its ≡ None) → (out : List Line) → Speaks (stops_by o acts) (by_stop stop) out out
   fault_speaks None stop want own out = wants_speaks acts stop want out out refl
-  fault_speaks (Some its) stop (inl want) own out = wants_speaks (Stops its) stop want out out refl
-  fault_speaks (Some its) stop (inr ends) own out = gives_speaks (Stops its) stop its ends refl own out
+  fault_speaks (Some its) stop (inl want) own out = let stops : Course Dir Fault S = Stops its in wants_speaks stops stop want out out refl
+  fault_speaks (Some its) stop (inr ends) own out = let stops : Course Dir Fault S = Stops its in gives_speaks stops stop its ends refl own out

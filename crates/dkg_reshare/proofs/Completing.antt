@@ -42,7 +42,7 @@ use Rattle.dkg_reshare.specs.Including.{caching, telling}
 use Rattle.dkg_reshare.specs.InclusionOf.{IsSeen, artifact_of, cached_of, job_of, kept_of, result_of}
 use Rattle.dkg_reshare.specs.LiveOf.{Beside, EndsWith, live_of}
 use Rattle.dkg_reshare.specs.Made.{Makes, Speaks, Tells}
-use Rattle.dkg_reshare.specs.Verifying.{refusal_for}
+use Rattle.dkg_reshare.specs.Refusing.{refusal_for}
 use Rattle.dkg_reshare.proofs.Burning.{makes_nothing, speaks_makes}
 use Rattle.dkg_reshare.proofs.Chained.{early_makes, early_told, then_makes, then_told}
 use Rattle.dkg_reshare.proofs.Committing.{goes_told, same_made, same_told}
@@ -54,7 +54,7 @@ use Rattle.dkg_reshare.proofs.Within.{NoMore}
 
 -- IT STARTS
 
-module _ {C Dir Signer Cfg : Type 0} (c : Fixed Dir) (round : Round) (logs : LogMap) (request : ℕ) (beside : Beside Dir) (fence : Readiness) (life : Life Dir) where
+module _ {Dir : Type 0} (c : Fixed Dir) (round : Round) (logs : LogMap) (request : ℕ) (beside : Beside Dir) (fence : Readiness) (life : Life Dir) where
   abbrev starting : Course Dir Fault (Live Dir)
   starting = including.starts_verifying c round logs (Some request) (live_of beside fence life)
 
@@ -63,7 +63,7 @@ module _ {C Dir Signer Cfg : Type 0} (c : Fixed Dir) (round : Round) (logs : Log
   starts_as refused is =
       ap (λ (r : Option ℕ). including.starts_unless (including.job_for c round logs (live_of beside fence life)) (Some request) r (live_of beside fence life)) is
 
-  module _ (its : Inclusion C Dir Signer Cfg) (seen : IsSeen its beside.inclusion) (j : job.Job) (v : Verification) (runs : v.running ≡ Some j) (kept : v.kept ≡ its.verification.kept) where
+  module _ {C Signer Cfg : Type 0} (its : Inclusion C Dir Signer Cfg) (seen : IsSeen its beside.inclusion) (j : job.Job) (v : Verification) (runs : v.running ≡ Some j) (kept : v.kept ≡ its.verification.kept) where
     abbrev running_now : core.Inclusion Dir
     running_now = record beside.inclusion { running = Some (job_of j); waiter = Some request }
 
@@ -84,8 +84,8 @@ module _ {C Dir Signer Cfg : Type 0} (c : Fixed Dir) (round : Round) (logs : Log
     started is passes =
         ends_with beside running_now seen_started refl
         (λ out. goes_speaks starting (live_of (record beside { inclusion = running_now }) fence life)
-          (including.verifying (including.job_for c round logs (live_of beside fence life)) (Some request) (live_of beside fence life)) (starts_as None passes)
-          (ap (λ (x : core.Job). including.verifying x (Some request) (live_of beside fence life)) is) out)
+        (including.verifying (including.job_for c round logs (live_of beside fence life)) (Some request) (live_of beside fence life)) (starts_as None passes)
+        (ap (λ (x : core.Job). including.verifying x (Some request) (live_of beside fence life)) is) out)
 
   pub unstarted : {IsNow : core.Inclusion Dir → Type 0} (stop : Stop)
       → (stop ≡ Faulted NoMemory) ⊎ ((dealer : ℕ) × (stop ≡ Faulted (LocalState (StoredDealing round.number dealer))) × (refusal_for c round logs (live_of beside fence life) ≡ Some dealer))
@@ -109,9 +109,9 @@ module _ {Dir : Type 0} (c : Fixed Dir) (reshare : c.oneshot ≡ None) (r : core
   answers_kept : answering ≡ bind keeping behind
   answers_kept = artifact_kept c reshare r st (including.answers c request)
 
-  module _ {D X : Type 0} (files : D → Files) (image : D → Files → Type 0) (held : X → Secrets) {old new : Devices D X} where
-    pub unkept_makes : (stop : Stop) {out now : List Line} → Makes files image held keeping (by_stop stop) old new out now → Makes files image held answering (by_stop stop) old new out now
-    unkept_makes stop made = same_made answers_kept (early_makes keeping behind stop made)
+  module _ {D X : Type 0} (files : D → Files) (image : D → Files → Type 0) (held : X → Secrets) (old new : Devices D X) where
+    pub unkept_makes : (stop : Stop) (out now : List Line) → Makes files image held keeping (by_stop stop) old new out now → Makes files image held answering (by_stop stop) old new out now
+    unkept_makes stop out now made = same_made answers_kept (early_makes keeping behind stop made)
 
   pub unkept_told : (stop : Stop) {out now : List Line} → Tells keeping (by_stop stop) out now → Tells answering (by_stop stop) out now
   unkept_told stop told = same_told answers_kept (early_told keeping behind stop told)
@@ -135,26 +135,26 @@ module _ {Dir : Type 0} (c : Fixed Dir) (reshare : c.oneshot ≡ None) (r : core
     abbrev said_of : Live Dir → Result (Unit {0}) Stop → List Line → List Line → Type 0
     said_of end result out now = Speaks (including.answers c request (artifact_of k.1) kept_st) (ends_in end result) out now
 
-    says_behind : (result : Result (Unit {0}) Stop) {out now : List Line} → said_of (with_told request (GaveInfo (option_map info_payload k.1.info)) kept_st) result out now
+    says_behind : (result : Result (Unit {0}) Stop) (out now : List Line) → said_of (with_told request (GaveInfo (option_map info_payload k.1.info)) kept_st) result out now
         → Speaks (behind kept_st) (ends_in (telling request kept_st) result) out now
-    says_behind result {out} {now} says =
+    says_behind result out now says =
         subst (λ (x : Course Dir Fault (Live Dir)). Speaks x (ends_in (telling request kept_st) result) out now) (sym behind_is)
         (subst (λ (end : Live Dir). said_of end result out now) (sym telling_is) says)
 
-    module _ {D X : Type 0} (files : D → Files) (image : D → Files → Type 0) (held : X → Secrets) {old new : Devices D X} where
-      pub answered_makes : (result : Result (Unit {0}) Stop) {out mid now : List Line} → Makes files image held keeping (went kept_st) old new out mid
+    module _ {D X : Type 0} (files : D → Files) (image : D → Files → Type 0) (held : X → Secrets) (old new : Devices D X) where
+      pub answered_makes : (result : Result (Unit {0}) Stop) (out mid now : List Line) → Makes files image held keeping (went kept_st) old new out mid
           → Speaks (including.answers c request (artifact_of k.1) kept_st) (ends_in (with_told request (GaveInfo (option_map info_payload k.1.info)) kept_st) result) mid now
           → Makes files image held answering (ends_in (telling request kept_st) result) old new out now
-      answered_makes result made says =
+      answered_makes result out mid now made says =
           let how = ends_in (telling request kept_st) result in
-          same_made answers_kept (then_makes keeping behind kept_st how made (speaks_makes (behind kept_st) how (files new.disk.now) (image new.disk.now) (says_behind result says)))
+          same_made answers_kept (then_makes keeping behind kept_st how made (speaks_makes (behind kept_st) how (files new.disk.now) (image new.disk.now) (says_behind result mid now says)))
 
-    pub answered_told : (result : Result (Unit {0}) Stop) {out mid now : List Line} → Tells keeping (went kept_st) out mid
+    pub answered_told : (result : Result (Unit {0}) Stop) (out mid now : List Line) → Tells keeping (went kept_st) out mid
         → Speaks (including.answers c request (artifact_of k.1) kept_st) (ends_in (with_told request (GaveInfo (option_map info_payload k.1.info)) kept_st) result) mid now
         → Tells answering (ends_in (telling request kept_st) result) out now
-    answered_told result told says =
+    answered_told result out mid now told says =
         let how = ends_in (telling request kept_st) result in
-        same_told answers_kept (then_told keeping behind kept_st how told (speaks_tells (behind kept_st) how (says_behind result says)))
+        same_told answers_kept (then_told keeping behind kept_st how told (speaks_tells (behind kept_st) how (says_behind result mid now says)))
 
 -- .. and memory has it
 module _ {C Dir Signer Cfg : Type 0} (its : Inclusion C Dir Signer Cfg) (beside : Beside Dir) (fence : Readiness) (life : Life Dir) (seen : IsSeen its beside.inclusion)
@@ -174,7 +174,7 @@ module _ {C Dir Signer Cfg : Type 0} (its : Inclusion C Dir Signer Cfg) (beside 
     seen_by k is tells =
         subst (λ (m : FinMap nat_cmp (Told Dir)). IsSeen (record its { cache = cache; told = m }) (telling request (caching cache (live_of beside fence life))).inclusion) (sym tells)
         (seen_told (record its { cache = cache }) cached_now request (told.Info (Available (option_map info_payload k.1.info))) (GaveInfo (told_by cache))
-          (ap (λ (q : Option (LogMap × artifact.Artifact Dir)). Some (GaveInfo (told_by q))) (sym is)) seen_cached)
+        (ap (λ (q : Option (LogMap × artifact.Artifact Dir)). Some (GaveInfo (told_by q))) (sym is)) seen_cached)
 
     pub seen_answered : IsSomeAnd cache (λ k. (k.0 ≡ logs) × (answers ≡ maps.insert its.told request (told.Info (Available (option_map info_payload k.1.info)))))
         → IsSeen (record its { cache = cache; told = answers }) (telling request (caching cache (live_of beside fence life))).inclusion
@@ -289,14 +289,14 @@ module _ {Dir : Type 0} (c : Fixed Dir) (reshare : c.oneshot ≡ None) (r : core
     for_request : completing ≡ bind answers keeps
     for_request = ap (λ (w : Option ℕ). including.completes_in c r st w) waits ∙ artifact_then c reshare r st (including.answers c request) keeps
 
-    module _ {IsNow : core.Inclusion Dir → Type 0} (cache : Option (LogMap × artifact.Artifact Dir)) where
+    module _ (cache : Option (LogMap × artifact.Artifact Dir)) where
       abbrev answered : Live Dir
       answered = telling request (caching cache st)
 
       abbrev ended : core.Inclusion Dir
       ended = (including.retains c r answered).inclusion
 
-      module _ {D X : Type 0} (files : D → Files) (image : D → Files → Type 0) (held : X → Secrets) {old new : Devices D X} {out now : List Line} where
+      module _ {D X : Type 0} (files : D → Files) (image : D → Files → Type 0) (held : X → Secrets) (old new : Devices D X) (out now : List Line) {IsNow : core.Inclusion Dir → Type 0} where
         pub completed_makes : IsNow ended → Makes files image held answers (went answered) old new out now
             → EndsWith beside IsNow NoMore (λ b. Makes files image held completing (went (live_of b fence life)) old new out now)
         completed_makes is made =
@@ -313,18 +313,18 @@ module _ {Dir : Type 0} (c : Fixed Dir) (reshare : c.oneshot ≡ None) (r : core
             → EndsWith beside IsNow NoMore (λ b. Makes files image held completing (by_stop stop) old new out now)
         unanswered_makes stop now_is made = ends_beside beside now_is refl (same_made for_request (early_makes answers keeps stop made))
 
-      pub completed_told : {out now : List Line} → IsNow ended → Tells answers (went answered) out now → EndsWith beside IsNow NoMore (λ b. Tells completing (went (live_of b fence life)) out now)
-      completed_told {out} {now} is told =
+      pub completed_told : {IsNow : core.Inclusion Dir → Type 0} (out now : List Line) → IsNow ended → Tells answers (went answered) out now → EndsWith beside IsNow NoMore (λ b. Tells completing (went (live_of b fence life)) out now)
+      completed_told out now is told =
           ends_with beside ended is refl (same_told for_request (then_told answers keeps answered (went (including.retains c r answered)) told (goes_told Dir (including.retains c r answered) now)))
 
-      pub forgotten_told : (stop : Stop) → stop ≡ Faulted NoMemory → {out now : List Line} → IsNow beside.inclusion → Tells answers (went answered) out now
+      pub forgotten_told : {IsNow : core.Inclusion Dir → Type 0} (stop : Stop) → stop ≡ Faulted NoMemory → (out now : List Line) → IsNow beside.inclusion → Tells answers (went answered) out now
           → EndsWith beside IsNow NoMore (λ b. Tells completing (by_stop stop) out now)
-      forgotten_told stop is {out} {now} now_is told =
+      forgotten_told stop is out now now_is told =
           ends_beside beside now_is refl (same_told for_request (then_told answers keeps answered (by_stop stop) told
           (speaks_tells (keeps answered) (by_stop stop) (wants_speaks (keeps answered) stop is now now refl))))
 
-      pub unanswered_told : (stop : Stop) {out now : List Line} → IsNow beside.inclusion → Tells answers (by_stop stop) out now → EndsWith beside IsNow NoMore (λ b. Tells completing (by_stop stop) out now)
-      unanswered_told stop now_is told = ends_beside beside now_is refl (same_told for_request (early_told answers keeps stop told))
+      pub unanswered_told : {IsNow : core.Inclusion Dir → Type 0} (stop : Stop) (out now : List Line) → IsNow beside.inclusion → Tells answers (by_stop stop) out now → EndsWith beside IsNow NoMore (λ b. Tells completing (by_stop stop) out now)
+      unanswered_told stop out now now_is told = ends_beside beside now_is refl (same_told for_request (early_told answers keeps stop told))
 
 -- THE RUNNING ONE
 

@@ -1,6 +1,6 @@
 -- An artifact that is derived over the devices, and what is said of it: step by step as the code derives it.
 use Rattle.std.proofs.Common.{◌≡◌, inl, inr, ℕ, ◌+◌, ◌<◌, ◌≤◌, ◌^◌, ◌==◌, arith, Bool, true, false, nat_le, nat_lt, List, [], length, Option, Some, None, refl, sym, ◌∙◌, ap, subst, append-nil}
-use Rattle.std.specs.Prelude.{IfSome, option_map, if◌then◌else◌}
+use Rattle.std.specs.Prelude.{IfSome, IsSomeAnd, option_map, if◌then◌else◌}
 use Rattle.std.specs.FinMap.{get}
 use Rattle.std.specs.FinMap as maps
 use Rattle.std.proofs.lemmas.Bool.Decides.{nat_tests}
@@ -8,9 +8,11 @@ use Rattle.dkg_values.specs.Rising.{lookup}
 use Rattle.dkg_journal.specs.Burn.{Burn}
 use Rattle.dkg_journal.specs.Names.{Files}
 use Rattle.dkg_secrets.specs.Secrets.{Secrets}
+use Rattle.dkg_ceremony.specs.Outcomes.{LogMap}
+use Rattle.dkg_artifact.specs.declared.artifact.Artifact as artifact
 use Rattle.dkg_types.specs.declared.entry.Entry.{Entry as Line}
 use Rattle.dkg_types.specs.declared.fault.Fault.{Fault}
-use Rattle.dkg_types.specs.declared.fault.Fault.TheVariants.{HeightRange, InvalidParticipants, DirectoryMismatch}
+use Rattle.dkg_types.specs.declared.fault.Fault.TheVariants.{HeightRange, InvalidParticipants, DirectoryMismatch, NoMemory}
 use Rattle.dkg_types.specs.declared.fault.ParticipantsCause.TheVariants.{ProviderEmpty, ProviderAbove}
 use Rattle.dkg_types.specs.declared.info.EpochInfo.{EpochInfo}
 use Rattle.dkg_types.specs.NextInfos.{info_by}
@@ -19,20 +21,24 @@ use Rattle.dkg_store.proofs.Acts.{made_read}
 use Rattle.dkg_core.specs.Courses.{Course, Goes, bind, on_devices}
 use Rattle.dkg_core.specs.Fixed.{Fixed, has}
 use Rattle.dkg_core.specs.Including as including
-use Rattle.dkg_core.specs.Live.{Artifact, Verified, VerifiedLogs}
+use Rattle.dkg_core.specs.Live.{Artifact, Cached, Live, VerifiedLogs}
 use Rattle.dkg_core.specs.Seen.{Seen}
 use Rattle.dkg_core.specs.Setup.{looks}
 use Rattle.dkg_reshare.specs.declared.stop.Stop.{Stop}
+use Rattle.dkg_reshare.specs.declared.stop.Stop.TheVariants.{Fault as Faulted}
 use Rattle.dkg_reshare.specs.Ends.{by_stop, cause_in}
 use Rattle.dkg_reshare.specs.Given.{ReadsToday}
-use Rattle.dkg_reshare.specs.Including.{derives_in, mismatch_of, reads_share, stops_by, unprovided}
+use Rattle.dkg_reshare.specs.Including.{caching, derives_in, mismatch_of, reads_share, stops_by, unprovided}
+use Rattle.dkg_reshare.specs.InclusionOf.{artifact_of, cached_of}
 use Rattle.dkg_reshare.specs.Made.{MakesAt, Tells}
 use Rattle.dkg_reshare.specs.Steps.{IsFaultOrWant}
 use Rattle.dkg_reshare.proofs.Burning.{makes_nothing, speaks_makes}
 use Rattle.dkg_reshare.proofs.Chained.{early_makes, early_told, then_makes, then_told}
-use Rattle.dkg_reshare.proofs.Caching.{fault_speaks}
+use Rattle.dkg_reshare.proofs.Caching.{artifact_cached, artifact_derived, fault_speaks}
+use Rattle.dkg_reshare.proofs.Keeping.{cached_none, cached_some}
 use Rattle.dkg_reshare.proofs.Said.{nothing_held, speaks_tells}
 use Rattle.dkg_reshare.proofs.Setting.{looked_up}
+use Rattle.dkg_reshare.proofs.Speaking.{want_speaks, wants_speaks}
 use Rattle.dkg_reshare.proofs.Shares.{one_at, one_is, still_makes}
 
 -- THE PROVIDER'S SET
@@ -202,3 +208,79 @@ module _ {Dir : Type 0} (c : Fixed Dir) (info : EpochInfo Dir) (r : VerifiedLogs
           subst (λ (x : Course Dir Fault (Artifact Dir)). Tells x (went end) out now) (sym as_read)
           (then_told reads goes_on share (went end) first
           (subst (λ (x : Course Dir Fault (Artifact Dir)). Tells x (went end) now now) (sym as_done) (record { lines = []; added = sym (append-nil now); by = (refl, is) })))
+
+-- There was no memory, before anything was done.
+module _ {Dir S : Type 0} (course : Course Dir Fault S) where
+  pub want_made : (files : Files) (image : Files → Type 0) {out : List Line} {s : Secrets} {f : Burn} → MakesAt (on_devices course) (by_stop (Faulted NoMemory)) files image files image (moment out s f) (moment out s f)
+  want_made files image {out} = speaks_makes course (by_stop (Faulted NoMemory)) files image (want_speaks course out)
+
+  pub want_told : (out : List Line) → Tells course (by_stop (Faulted NoMemory)) out out
+  want_told out = speaks_tells course (by_stop (Faulted NoMemory)) (want_speaks course out)
+
+-- WHICH ONE IS KEPT
+
+module _ {Dir : Type 0} (c : Fixed Dir) (r : VerifiedLogs) (st : Live Dir) (cache : Option (LogMap × artifact.Artifact Dir)) (cached : st.inclusion.cached ≡ option_map cached_of cache) where
+  abbrev keeps : Course Dir Fault (Live Dir)
+  keeps = including.artifact c r st (λ made st. Goes st)
+
+  -- the life, with what it had
+  pub still_caching : caching cache st ≡ st
+  still_caching = λ i. record st { inclusion = record st.inclusion { cached = sym cached i } }
+
+  module _ (has_it : IsSomeAnd cache (λ k. k.0 ≡ r.logs)) where
+    there : (its : Option (LogMap × artifact.Artifact Dir)) → IsSomeAnd its (λ k. k.0 ≡ r.logs) → (made : Artifact Dir) × (including.cached_for (option_map cached_of its) r.logs ≡ Some made)
+    there None is = absurd is
+    there (Some k) is = (artifact_of k.1, sym (cached_some r.logs (Some k) is k.1 refl))
+
+    as_kept : keeps ≡ Goes st
+    as_kept =
+        let t = there cache has_it in
+        artifact_cached c r st (λ made st. Goes st) t.0 (ap (λ (o : Option (Cached Dir)). including.cached_for o r.logs) cached ∙ t.1)
+
+    pub kept_made : (files : Files) (image : Files → Type 0) (m : Moment) → MakesAt (on_devices keeps) (went (caching cache st)) files image files image m m
+    kept_made files image m =
+        subst (λ (x : Course Dir Fault (Live Dir)). MakesAt (on_devices x) (went (caching cache st)) files image files image m m) (sym as_kept) (makes_nothing files image m still_caching)
+
+    pub kept_told : (out : List Line) → Tells keeps (went (caching cache st)) out out
+    kept_told out = subst (λ (x : Course Dir Fault (Live Dir)). Tells x (went (caching cache st)) out out) (sym as_kept) (record { lines = []; added = sym (append-nil out); by = (refl, still_caching) })
+
+  module _ (reshare : c.oneshot ≡ None) (info : EpochInfo Dir) (current : st.participation.current ≡ Some info) (apart : IsSomeAnd cache (λ k. k.0 ≡ r.logs) → ⊥) where
+    abbrev keeps_it : Artifact Dir → Course Dir Fault (Live Dir)
+    keeps_it made = Goes (including.with_cached r.logs made st)
+
+    as_derived : keeps ≡ bind (derives_in c info r) keeps_it
+    as_derived =
+        artifact_derived c info r st (λ made st. Goes st) reshare current (ap (λ (o : Option (Cached Dir)). including.cached_for o r.logs) cached ∙ sym (cached_none r.logs cache apart))
+
+    -- it wasn't derived
+    pub underived_made : (stop : Stop) {files files_now : Files} {image now : Files → Type 0} {old new : Moment} → MakesAt (on_devices (derives_in c info r)) (by_stop stop) files image files_now now old new
+        → MakesAt (on_devices keeps) (by_stop stop) files image files_now now old new
+    underived_made stop {files} {files_now} {image} {now} {old} {new} first =
+        subst (λ (x : Course Dir Fault (Live Dir)). MakesAt (on_devices x) (by_stop stop) files image files_now now old new) (sym as_derived) (early_makes (derives_in c info r) keeps_it stop first)
+
+    pub underived_told : (stop : Stop) {out now : List Line} → Tells (derives_in c info r) (by_stop stop) out now → Tells keeps (by_stop stop) out now
+    underived_told stop {out} {now} first = subst (λ (x : Course Dir Fault (Live Dir)). Tells x (by_stop stop) out now) (sym as_derived) (early_told (derives_in c info r) keeps_it stop first)
+
+    -- it was, and there was no memory for its logs
+    pub unkept_made : (made : Artifact Dir) (stop : Stop) → stop ≡ Faulted NoMemory → {files files_now : Files} {image now : Files → Type 0} {old : Moment} {out : List Line} {s : Secrets} {f : Burn}
+        → MakesAt (on_devices (derives_in c info r)) (went made) files image files_now now old (moment out s f) → MakesAt (on_devices keeps) (by_stop stop) files image files_now now old (moment out s f)
+    unkept_made made stop want {files} {files_now} {image} {now} {old} {out} {s} {f} first =
+        subst (λ (x : Course Dir Fault (Live Dir)). MakesAt (on_devices x) (by_stop stop) files image files_now now old (moment out s f)) (sym as_derived)
+        (then_makes (derives_in c info r) keeps_it made (by_stop stop) first (speaks_makes (keeps_it made) (by_stop stop) files_now now (wants_speaks (keeps_it made) stop want out out refl)))
+
+    pub unkept_told : (made : Artifact Dir) (stop : Stop) → stop ≡ Faulted NoMemory → {out now : List Line} → Tells (derives_in c info r) (went made) out now → Tells keeps (by_stop stop) out now
+    unkept_told made stop want {out} {now} first =
+        subst (λ (x : Course Dir Fault (Live Dir)). Tells x (by_stop stop) out now) (sym as_derived)
+        (then_told (derives_in c info r) keeps_it made (by_stop stop) first (speaks_tells (keeps_it made) (by_stop stop) (wants_speaks (keeps_it made) stop want now now refl)))
+
+    -- it is kept
+    pub newly_made : (made : Artifact Dir) (end : Live Dir) → end ≡ including.with_cached r.logs made st → {files files_now : Files} {image now : Files → Type 0} {old new : Moment}
+        → MakesAt (on_devices (derives_in c info r)) (went made) files image files_now now old new → MakesAt (on_devices keeps) (went end) files image files_now now old new
+    newly_made made end is {files} {files_now} {image} {now} {old} {new} first =
+        subst (λ (x : Course Dir Fault (Live Dir)). MakesAt (on_devices x) (went end) files image files_now now old new) (sym as_derived)
+        (then_makes (derives_in c info r) keeps_it made (went end) first (makes_nothing files_now now new is))
+
+    pub newly_told : (made : Artifact Dir) (end : Live Dir) → end ≡ including.with_cached r.logs made st → {out now : List Line} → Tells (derives_in c info r) (went made) out now → Tells keeps (went end) out now
+    newly_told made end is {out} {now} first =
+        subst (λ (x : Course Dir Fault (Live Dir)). Tells x (went end) out now) (sym as_derived)
+        (then_told (derives_in c info r) keeps_it made (went end) first (record { lines = []; added = sym (append-nil now); by = (refl, is) }))

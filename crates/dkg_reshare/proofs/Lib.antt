@@ -43,6 +43,7 @@ pub mod Openings
 pub mod Owned
 pub mod PassingOn
 pub mod Placing
+pub mod Posted
 pub mod Ranges
 pub mod Read
 pub mod Reading
@@ -62,5 +63,5 @@ pub mod Stopping
 pub mod Taking
 pub mod Telling
 pub mod Under
-pub mod Verifying
+pub mod Verified
 pub mod Within

@@ -293,8 +293,8 @@ module _ {Dir : Type 0} (c : Fixed Dir) (round : Round) (st : Live Dir) where
           by_test : (none : Bool)
               → (if none then Found [] else including.scan c round st None [] blocks ended)
               ≡ closed_by ended (fed_all check
-                  (record (at_scan None []) { next = (if none then None else Some (record { height = including.final_height c st - 1; digest = None })) })
-                  (if none then answer.Logs [] else answer.Need) blocks).0
+              (record (at_scan None []) { next = (if none then None else Some (record { height = including.final_height c st - 1; digest = None })) })
+              (if none then answer.Logs [] else answer.Need) blocks).0
           by_test true = sym (found_is (record (at_scan None []) { next = None }) [] blocks ended)
           by_test false = scan_is ended None [] blocks
 

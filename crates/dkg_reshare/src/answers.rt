@@ -12,8 +12,9 @@ ghost use Rattle.dkg_reshare.specs.Ends.{ends_in};
 ghost use Rattle.dkg_reshare.specs.InclusionOf.{artifact_of};
 ghost use Rattle.dkg_reshare.specs.Made.{Speaks};
 ghost use Rattle.dkg_reshare.specs.declared.stop.Stop.TheVariants.{Fault as Faulted};
+ghost use Rattle.dkg_reshare.specs.declared.told.EpochInfoResponse.TheVariants.{Available, Unavailable};
+ghost use Rattle.dkg_reshare.specs.declared.told.Told.TheVariants.{Info as ToldInfo};
 
-use crate::inclusion::Inclusion;
 use crate::stop::Stop;
 use crate::told::{EpochInfoResponse, Told};
 use dkg_artifact::Artifact;
@@ -30,7 +31,7 @@ pub(crate) fn answer_none<Dir: Directory + Drop>(
     why: Why,
     out: &mut Transcript,
 ) -> Result<(), Stop>
-    ensures told { OnOk result (told.new ≡ maps.insert told.old request (Told.Info (EpochInfoResponse.Unavailable why))) }
+    ensures told { OnOk result (told.new ≡ maps.insert told.old request (ToldInfo (Unavailable why))) }
     ensures speaks { (st : Live Dir) → Speaks (including.answers_none request why st) (ends_in (with_told request (GaveNone why) st) result)
         out.old.entries out.new.entries }
     ensures memory { IfErr result (λ stop. stop ≡ Faulted OutOfMemory) }
@@ -90,7 +91,7 @@ pub(crate) fn answer<Dir: Directory + Drop>(
     artifact: &Artifact<Dir>,
     out: &mut Transcript,
 ) -> Result<(), Stop>
-    ensures told { OnOk result (told.new ≡ maps.insert told.old request (Told.Info (EpochInfoResponse.Available (option_map info_payload artifact.now.info)))) }
+    ensures told { OnOk result (told.new ≡ maps.insert told.old request (ToldInfo (Available (option_map info_payload artifact.now.info)))) }
     ensures speaks { (c : Fixed Dir) (st : Live Dir) → c.directories.spelling ≡ Dir.spelling
         → Speaks (including.answers c request (artifact_of artifact.now) st)
         (ends_in (with_told request (GaveInfo (option_map info_payload artifact.now.info)) st) result) out.old.entries out.new.entries }

@@ -20,7 +20,7 @@ ghost use Rattle.dkg_reshare.specs.Rules.{IncludesBy, IsRuledBy, SameProvided};
 ghost use Rattle.dkg_ceremony.specs.Schedule.{midpoint};
 ghost use Rattle.dkg_artifact.specs.Results.{IsAnswered, checked};
 ghost use Rattle.dkg_reshare.specs.Concluded.{canonical_in};
-ghost use Rattle.dkg_reshare.specs.Verifying.{refusal_for};
+ghost use Rattle.dkg_reshare.specs.Refusing.{refusal_for};
 ghost use Rattle.dkg_types.specs.PayloadCodes.{info_payload};
 ghost use Rattle.dkg_types.specs.declared.entry.Entry.{Entry as Line};
 ghost use Rattle.dkg_types.specs.declared.fault.Fault.TheVariants.{LocalState, NoMemory as OutOfMemory};
