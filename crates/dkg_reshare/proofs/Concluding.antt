@@ -1,6 +1,6 @@
 -- The artifact of an epoch's last block: its parts, one behind another.
 use Rattle.std.proofs.Common.{◌≡◌, inl, inr, ℕ, Bool, true, false, List, [], Option, Some, None, Result, Ok, Err, refl, sym, ◌∙◌, ap, subst}
-use Rattle.std.specs.Prelude.{◌⊎◌, IsSomeAnd, if◌then◌else◌, option_map}
+use Rattle.std.specs.Prelude.{◌⊎◌, IfSome, IsSome, IsSomeAnd, is_some, if◌then◌else◌, option_map}
 use Rattle.std.specs.Option.{option_map_or}
 use Rattle.dkg_ceremony.specs.Outcomes.{LogMap}
 use Rattle.dkg_ceremony.specs.declared.round.RoundParts.{RoundParts as Round}
@@ -27,15 +27,19 @@ use Rattle.dkg_core.specs.Same.{same_logs}
 use Rattle.dkg_core.proofs.Same.{logs_again}
 use Rattle.dkg_fence.specs.Readiness.{Readiness}
 use Rattle.dkg_ceremony.specs.Schedule.{midpoint}
-use Rattle.dkg_reshare.specs.Concluded.{canonical_in, derives_kept, sees_verified, sees_verified_by, takes_cached, verifies}
+use Rattle.dkg_reshare.specs.Concluded.{FindsBy, canonical_in, derives_kept, sees_verified, sees_verified_by, takes_cached, verifies}
 use Rattle.dkg_reshare.specs.Ends.{by_stop}
 use Rattle.dkg_reshare.specs.Including.{artifact_in, artifact_over, derives_by, derives_by_in, derives_final, derives_in, derives_now, derives_now_by, with_cached_in}
-use Rattle.dkg_reshare.specs.InclusionOf.{artifact_of, cached_of, job_of, result_of}
-use Rattle.dkg_reshare.specs.LiveOf.{Beside, live_of}
+use Rattle.dkg_reshare.specs.InclusionOf.{IsInHand, IsReadyInclusion, IsRunnable, artifact_of, cached_of, job_of, result_of}
+use Rattle.dkg_reshare.specs.LiveOf.{Beside, IsPlaced, live_of}
 use Rattle.dkg_reshare.specs.Made.{MakesAt, Speaks, Tells}
-use Rattle.dkg_reshare.specs.Rules.{FinishOf, OutcomeOf}
+use Rattle.dkg_reshare.specs.Rules.{AckOf, BearsAckOf, CheckAckOf, CheckLogOf, DealOf, DealingOf, FinishOf, IncludesBy, IsRuledBy, OutcomeOf, PartialPublicOf, RoundOf, SameProvided, SharePublicOf, SignLogOf}
 use Rattle.dkg_reshare.specs.Refusing.{refusal_for}
+use Rattle.dkg_reshare.specs.declared.inclusion.Hand.{Hand}
+use Rattle.dkg_reshare.specs.declared.inclusion.Inclusion.{Inclusion}
 use Rattle.dkg_reshare.specs.declared.life.Life.{Life}
+use Rattle.dkg_reshare.specs.declared.life.Stage.{Stage}
+use Rattle.dkg_reshare.specs.declared.life.Stage.TheVariants.{Following, Including}
 use Rattle.dkg_reshare.specs.declared.stop.Stop.{Stop}
 use Rattle.dkg_reshare.specs.declared.stop.Stop.TheVariants.{Fault as Faulted}
 use Rattle.dkg_reshare.proofs.Beginning.{makes_as, tells_as}
@@ -132,7 +136,7 @@ module _ {Dir : Type 0} (c : Fixed Dir) (reshare : c.oneshot ≡ None) (r : core
 -- what is taken of the cache
 module _ {Dir : Type 0} (logs : LogMap) (st : Live Dir) where
   pub taken_as : (made : core.Artifact Dir) → Some made ≡ including.cached_for st.inclusion.cached logs → takes_cached logs st ≡ Goes (made, st)
-  taken_as made is = ap (λ (o : Option (core.Artifact Dir)). option_map_or (λ a. Goes {F = Fault} (a, st)) o (Stops HeightRange)) (sym is)
+  taken_as made is = ap (λ (o : Option (core.Artifact Dir)). let its : Course Dir Fault (core.Artifact Dir × Live Dir) = option_map_or (λ a. Goes (a, st)) o (Stops HeightRange) in its) (sym is)
 
 -- a course that goes on at once, or finds no memory
 module _ {Dir S : Type 0} (course : Course Dir Fault S) where
@@ -224,15 +228,17 @@ module _ {Dir : Type 0} (c : Fixed Dir) (round : Round) (logs : LogMap) (st : Li
 
       -- one is, and it is what the cache has
       module _ (last : Live Dir) where
-        pub kept_makes : (made : core.Artifact Dir) → Some made ≡ including.cached_for last.inclusion.cached r.logs → {files files_now : Files} {image now : Files → Type 0} {s : Secrets} {f : Burn} {new : Moment}
-            → MakesAt (on_devices (sees_artifact c reshare r mid)) (went last) files image files_now now (moment out s f) new → MakesAt (on_devices (derives_now c round logs st)) (went (made, last)) files image files_now now (moment out s f) new
-        kept_makes made is {files} {files_now} {image} {now} {s} {f} {new} first =
-            behind_makes (went (made, last)) (then_makes (sees_artifact c reshare r mid) (takes_cached r.logs) last (went (made, last)) first (goes_makes (takes_cached r.logs last) (made, last) (taken_as r.logs last made is) files_now now new))
+        pub kept_makes : (end : Live Dir) → end ≡ last → (made : core.Artifact Dir) → Some made ≡ including.cached_for last.inclusion.cached r.logs → {files files_now : Files} {image now : Files → Type 0} {s : Secrets} {f : Burn} {new : Moment}
+            → MakesAt (on_devices (sees_artifact c reshare r mid)) (went last) files image files_now now (moment out s f) new → MakesAt (on_devices (derives_now c round logs st)) (went (made, end)) files image files_now now (moment out s f) new
+        kept_makes end at_last made is {files} {files_now} {image} {now} {s} {f} {new} first =
+            subst (λ (x : Live Dir). MakesAt (on_devices (derives_now c round logs st)) (went (made, x)) files image files_now now (moment out s f) new) (sym at_last)
+            (behind_makes (went (made, last)) (then_makes (sees_artifact c reshare r mid) (takes_cached r.logs) last (went (made, last)) first (goes_makes (takes_cached r.logs last) (made, last) (taken_as r.logs last made is) files_now now new)))
 
-        pub kept_told : (made : core.Artifact Dir) → Some made ≡ including.cached_for last.inclusion.cached r.logs → {now : List Line}
-            → Tells (sees_artifact c reshare r mid) (went last) out now → Tells (derives_now c round logs st) (went (made, last)) out now
-        kept_told made is {now} first =
-            behind_told (went (made, last)) (then_told (sees_artifact c reshare r mid) (takes_cached r.logs) last (went (made, last)) first (goes_tells (takes_cached r.logs last) (made, last) (taken_as r.logs last made is) now))
+        pub kept_told : (end : Live Dir) → end ≡ last → (made : core.Artifact Dir) → Some made ≡ including.cached_for last.inclusion.cached r.logs → {now : List Line}
+            → Tells (sees_artifact c reshare r mid) (went last) out now → Tells (derives_now c round logs st) (went (made, end)) out now
+        kept_told end at_last made is {now} first =
+            subst (λ (x : Live Dir). Tells (derives_now c round logs st) (went (made, x)) out now) (sym at_last)
+            (behind_told (went (made, last)) (then_told (sees_artifact c reshare r mid) (takes_cached r.logs) last (went (made, last)) first (goes_tells (takes_cached r.logs last) (made, last) (taken_as r.logs last made is) now)))
 
         -- .. of which no copy is made
         pub uncopied_makes : (stop : Stop) → stop ≡ Faulted NoMemory → {files files_now : Files} {image now : Files → Type 0} {s : Secrets} {f : Burn} {new : Moment}
@@ -275,3 +281,55 @@ final_as {Dir} c round st logs same cache cached before found =
     ap (λ (l : LogMap). bind (including.ends_verifying c None st) (λ s. derives_by c round l (including.cached_for st.inclusion.cached l) s)) (sym same)
     ∙ ap (λ (d : Option (core.Cached Dir)). bind (including.ends_verifying c None st) (λ s. derives_by c round logs (including.cached_for d logs) s)) cached
     ∙ ap (λ (m : Option (core.Artifact Dir)). bind (including.ends_verifying c None st) (λ s. derives_by c round logs m s)) (sym found)
+
+-- WHAT A CALL IS GIVEN
+
+pub finds_by : {Dir : Type 0} {round_of : RoundOf} {deal_of : DealOf} {dealing_of : DealingOf} {ack_of : AckOf} {check_ack_of : CheckAckOf} {sign_log_of : SignLogOf} {bears_ack_of : BearsAckOf} {share_public_of : SharePublicOf}
+    {partial_public_of : PartialPublicOf} {check_log_of : CheckLogOf} {outcome_of : OutcomeOf} {finish_of : FinishOf} {participants : ℕ → List ℕ} {directory : ℕ → List ℕ → Dir} {spelling : Dir → List ℕ} {matches : Dir → List ℕ → Bool}
+    (c : Fixed Dir) → IsRuledBy round_of deal_of dealing_of ack_of check_ack_of sign_log_of bears_ack_of share_public_of partial_public_of c.rules
+    → IncludesBy check_log_of outcome_of finish_of participants directory spelling matches c → FindsBy bears_ack_of dealing_of outcome_of finish_of c
+finds_by c by provides = record { bears = by.seats.bears; dealing = by.answers.dealing; outcome = provides.outcome; finish = provides.finish }
+
+-- .. by a provider that says still what it said
+pub provides_then : {Dir : Type 0} {check_log_of : CheckLogOf} {outcome_of : OutcomeOf} {finish_of : FinishOf} {old new : ℕ → List ℕ} {before now : ℕ → List ℕ → Dir} {spelling : Dir → List ℕ} {matches : Dir → List ℕ → Bool}
+    (c : Fixed Dir) → SameProvided old new before now → IncludesBy check_log_of outcome_of finish_of old before spelling matches c → IncludesBy check_log_of outcome_of finish_of new now spelling matches c
+provides_then c same provides = record {
+  check_log = provides.check_log;
+  outcome = provides.outcome;
+  finish = provides.finish;
+  participants_are = λ epoch. provides.participants_are epoch ∙ sym (same.0 epoch);
+  directory_is = λ epoch peers. provides.directory_is epoch peers ∙ sym (same.1 epoch peers);
+  spelling_is = provides.spelling_is;
+  matches_are = provides.matches_are;
+}
+
+module _ {Dir : Type 0} (n : ℕ) (life : Life Dir) (includes : life.stage ≡ Including) (placed : IsPlaced n life) where
+  pub not_following : life.stage ≡ Following → ⊥
+  not_following follows = absurd (let h : ◌≡◌ {A = Stage} Including Following = sym includes ∙ follows in cc)
+
+  pub middle_in : (c : Fixed Dir) → c.blocks_per_epoch ≡ n → midpoint c.blocks_per_epoch life.epoch ≡ life.midpoint
+  middle_in c same = ap (λ (m : ℕ). midpoint m life.epoch) same ∙ sym (placed.midpoint_is not_following)
+
+  pub has_round : IsSome life.round
+  has_round = placed.joins not_following
+
+pub and_some : {A : Type 0} (o : Option A) (x : A) (P : A → Type 0) → o ≡ Some x → IsSomeAnd o P → P x
+and_some {A} o x P is p = let Q : Option A → Type 0 = λ q. IsSomeAnd q P in subst Q is p
+
+pub none_apart : {A B : Type 0} (o : Option A) → o ≡ None → IsSome o → B
+none_apart {A} o none some = absurd (let h : false ≡ true = sym (ap (λ (x : Option A). is_some x) none) ∙ some in cc)
+
+-- WHAT HOLDS OF INCLUSION behind it
+
+module _ {C Dir Signer Cfg : Type 0} (check_log_of : CheckLogOf) (dealing_of : DealingOf) (finish_of : FinishOf) (n : ℕ) where
+  pub derived_ready : (old new : Life Dir) → new ≡ old → (its now : Inclusion C Dir Signer Cfg) → now ≡ record its { verification = now.verification; waiter = now.waiter; cache = now.cache } → now.verification.running ≡ None
+      → IsReadyInclusion check_log_of dealing_of finish_of n old its → IsReadyInclusion check_log_of dealing_of finish_of n new now
+  derived_ready old new same its now rest running ready =
+      subst (λ (l : Life Dir). IsReadyInclusion check_log_of dealing_of finish_of n l now) (sym same) (record {
+        hand = subst (λ (h : Option (Hand Dir Cfg)). IfSome h (IsInHand check_log_of n old)) (sym (ap (λ (x : Inclusion C Dir Signer Cfg). x.hand) rest)) ready.hand;
+        free = λ some. running;
+        runs = subst (λ (j : Option job.Job). IfSome j (λ its. (old.stage ≡ Including) × (old.round ≡ Some its.round) × IsRunnable dealing_of finish_of its)) (sym running) tt;
+        idle = λ follows. ap (λ (x : Inclusion C Dir Signer Cfg). x.requests) rest ∙ ready.idle follows;
+        current = ready.current;
+        unserved = λ apart. ap (λ (x : Inclusion C Dir Signer Cfg). x.served) rest ∙ ready.unserved apart;
+      })

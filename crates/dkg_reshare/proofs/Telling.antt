@@ -8,7 +8,9 @@ use Rattle.std.proofs.lemmas.Bool.Decides.{nat_tests}
 use Rattle.std.proofs.lemmas.List.Elements.{Contains-append_right}
 use Rattle.std.proofs.lemmas.Map.Made.{Contains-tail}
 use Rattle.dkg_values.specs.Rising.{lookup}
+use Rattle.dkg_ceremony.specs.Outcomes.{LogMap}
 use Rattle.dkg_ceremony.specs.declared.signed_log.SignedDealerLog.{SignedDealerLog}
+use Rattle.dkg_artifact.specs.declared.artifact.Artifact as artifact
 use Rattle.dkg_fence.specs.Readiness.{Readiness}
 use Rattle.dkg_journal.specs.Burn.{Burn}
 use Rattle.dkg_types.specs.PayloadCodes.{log_payload, payload_spelling}
@@ -35,7 +37,7 @@ use Rattle.dkg_reshare.specs.declared.stop.Stop.TheVariants.{Fault as Faulted}
 use Rattle.dkg_reshare.specs.declared.told.Told.{Told}
 use Rattle.dkg_reshare.specs.declared.told.Told.TheVariants as told
 use Rattle.dkg_reshare.specs.Ends.{by_stop}
-use Rattle.dkg_reshare.specs.InclusionOf.{IsSeen, kept_of}
+use Rattle.dkg_reshare.specs.InclusionOf.{IsSeen, cached_of, kept_of}
 use Rattle.dkg_reshare.specs.LiveOf.{Beside, EndsWith, live_of, stage_of}
 use Rattle.dkg_reshare.specs.Made.{Speaks}
 use Rattle.dkg_reshare.proofs.Speaking.{says_speaks, wants_speaks}
@@ -115,6 +117,20 @@ seen_served its i here there same seen = record {
   waiter = seen.waiter;
   retained = seen.retained;
   cached = seen.cached;
+  told = seen.told;
+  used = seen.used;
+}
+
+-- .. with this cache
+pub seen_cached : {C Dir Signer Cfg : Type 0} (its : Inclusion C Dir Signer Cfg) (i : core.Inclusion Dir) (cache : Option (LogMap × artifact.Artifact Dir)) → IsSeen its i
+    → IsSeen (record its { cache = cache }) (record i { cached = option_map cached_of cache })
+seen_cached its i cache seen = record {
+  served = seen.served;
+  queue = seen.queue;
+  running = seen.running;
+  waiter = seen.waiter;
+  retained = seen.retained;
+  cached = refl;
   told = seen.told;
   used = seen.used;
 }
@@ -242,9 +258,9 @@ module _ {Dir : Type 0} (beside : Beside Dir) (fence : Readiness) (life : Life D
 
   -- its own
   pub own_offers : life.stage ≡ stage.Including → (served : Option ℕ) → beside.inclusion.served ≡ served → is_some served ≡ false → (own : Option SignedDealerLog) → own ≡ including.own_log (live_of beside fence life)
-      → option_map log_payload own ≡ option_map log_payload (including.served_now (live_of beside fence life))
+      → ◌≡◌ {A = Option (Payload Dir)} (option_map log_payload own) (option_map log_payload (including.served_now (live_of beside fence life)))
   own_offers is served same none own owns =
-      ap (λ (o : Option SignedDealerLog). option_map log_payload o) owns
+      ap (λ (o : Option SignedDealerLog). option_map (log_payload {Dir = Dir}) o) owns
       ∙ ap (offer_in core.Includes) (sym (not_some served none) ∙ sym same)
       ∙ ap (λ (s : declared.Stage). offer_in (stage_of s) beside.inclusion.served) (sym is)
     where
