@@ -4,21 +4,12 @@ use Rattle.std.specs.Prelude.{if◌then◌else◌}
 use Rattle.std.specs.Option.{option_map_or}
 use Rattle.dkg_ceremony.specs.declared.round.RoundParts.{RoundParts as Round}
 use Rattle.dkg_types.specs.declared.fault.Fault.{Fault}
-use Rattle.dkg_core.specs.Courses.{Course, Say, Do, Call, Ask, Goes, Stops, bind}
+use Rattle.dkg_core.specs.Courses.{Course, Goes, bind}
 use Rattle.dkg_core.specs.Fixed.{Fixed}
 use Rattle.dkg_core.specs.Including.{Fed, Need, Found, Lacks, advances, advanced, fed, is_need, read_of, reads_first, reads_first_in}
 use Rattle.dkg_core.specs.Live.{Live, Stage, Deals, Includes, Follows, Ends, Request, Job, with_queue}
 use Rattle.dkg_reshare.specs.Including.{answers_first, behind_first, goes_on, reads_next}
-use Rattle.dkg_reshare.proofs.Offered.{bind_goes}
-
--- one behind another, and a third behind both
-pub bind_bind : {Dir F S T U : Type 0} (course : Course Dir F S) (f : S → Course Dir F T) (g : T → Course Dir F U) → bind (bind course f) g ≡ bind course (λ s. bind (f s) g)
-bind_bind (Say line course) f g = ap (λ x. Say line x) (bind_bind course f g)
-bind_bind (Do op course) f g = ap (λ x. Do op x) (bind_bind course f g)
-bind_bind (Call outer course) f g = ap (λ x. Call outer x) (bind_bind course f g)
-bind_bind (Ask h) f g = λ i. Ask (λ held. bind_bind (h held) f g i)
-bind_bind (Goes end) f g = refl
-bind_bind (Stops fault) f g = refl
+use Rattle.dkg_reshare.proofs.Offered.{bind_again, bind_goes}
 
 module _ {Dir : Type 0} (c : Fixed Dir) where
   -- No request can be read: the first needs more, or a verification runs, or nothing waits.
@@ -119,15 +110,15 @@ module _ {Dir : Type 0} (c : Fixed Dir) where
     pub advanced_is : advanced c st ≡ bind (fed c round r.number (with_queue rs st) its) (λ st. advances c (length rs) st)
     advanced_is = ap (λ (q : List (Request Dir)). advances c (length q) st) first.queue ∙ first_is (λ st. advances c (length rs) st)
 
+    abbrev answers_in : Round → ℕ → List (Request Dir) → Course Dir Fault (Live Dir)
+    answers_in round request queue = bind (fed c round request (with_queue (behind_first queue) st) its) (λ now. advances c (length (behind_first queue)) now)
+
     pub answers_is : (request : ℕ) → r.number ≡ request → answers_first c request its st ≡ bind (fed c round r.number (with_queue rs st) its) (λ st. advances c (length rs) st)
     answers_is request same =
         ap (λ (o : Option Round). option_map_or (λ (round : Round). answers_in round request st.inclusion.queue) o (Goes st)) first.round_is
         ∙ (λ i. answers_in round (sym same i) (first.queue i))
-      where
-        abbrev answers_in : Round → ℕ → List (Request Dir) → Course Dir Fault (Live Dir)
-        answers_in round request queue = bind (fed c round request (with_queue (behind_first queue) st) its) (λ now. advances c (length (behind_first queue)) now)
 
-  goes_by : (request : ℕ) (st : Live Dir) (its : Fed) → is_need its ≡ false → goes_on c request its st ≡ answers_first c request its st
+  pub goes_by : (request : ℕ) (st : Live Dir) (its : Fed) → is_need its ≡ false → goes_on c request its st ≡ answers_first c request its st
   goes_by request st Need answered = absurd (let e : true ≡ false = answered in cc)
   goes_by request st (Found logs) answered = refl
   goes_by request st (Lacks why) answered = refl
@@ -145,7 +136,7 @@ module _ {Dir : Type 0} (c : Fixed Dir) where
       ap (λ (m : ℕ). advances c m st) (let e : n ≡ suc (i + k) = omega (arith, is) in e)
       ∙ advances_more (i + k) st
       ∙ (λ p. bind (reads_next c st) (λ st. advances_over i k (i + k) refl st p))
-      ∙ sym (bind_bind (reads_next c st) (λ st. advances c i st) (λ st. advances c k st))
+      ∙ sym (bind_again (reads_next c st) (λ st. advances c i st) (λ st. advances c k st))
       ∙ ap (λ (x : Course Dir Fault (Live Dir)). bind x (λ st. advances c k st)) (sym (advances_more i st))
 
   -- and then one more

@@ -2,7 +2,9 @@ pub mod Acked
 pub mod Advancing
 pub mod Alike
 pub mod Answering
+pub mod Applied
 pub mod Applying
+pub mod Asking
 pub mod Beginning
 pub mod Beside
 pub mod Blamed
@@ -13,6 +15,7 @@ pub mod Calls
 pub mod Caused
 pub mod Chained
 pub mod Committing
+pub mod Completing
 pub mod Concluding
 pub mod Counted
 pub mod Dealers
@@ -46,7 +49,7 @@ pub mod Reading
 pub mod Readying
 pub mod Requesting
 pub mod Said
-pub mod Scanning
+pub mod Scans
 pub mod Seated
 pub mod Setting
 pub mod SettingUp
@@ -54,8 +57,10 @@ pub mod Shares
 pub mod Short
 pub mod Speaking
 pub mod Standing
+pub mod Staying
 pub mod Stopping
 pub mod Taking
 pub mod Telling
 pub mod Under
+pub mod Verified
 pub mod Within

@@ -53,7 +53,7 @@ bind_again (Ask h) f g = λ i. Ask (λ held. bind_again (h held) f g i)
 bind_again (Goes end) f g = refl
 bind_again (Stops fault) f g = refl
 
-bind_alike : {Dir F S T : Type 0} (course : Course Dir F S) (f g : S → Course Dir F T) → ((s : S) → f s ≡ g s) → bind course f ≡ bind course g
+pub bind_alike : {Dir F S T : Type 0} (course : Course Dir F S) (f g : S → Course Dir F T) → ((s : S) → f s ≡ g s) → bind course f ≡ bind course g
 bind_alike course f g same = λ i. bind course (λ s. same s i)
 
 -- OFFERS

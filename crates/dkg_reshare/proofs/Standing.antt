@@ -36,6 +36,22 @@ next_in n e height long at early =
     let from : e * n ≤ height = subst (λ (x : ℕ). x * n ≤ height) at (div-mul-le_self height n) in
     same_epoch n e (height + 1) (omega (arith, long)) (omega (arith, from)) (omega (arith, early, long))
 
+-- .. and that above any but the last one
+pub next_inside : (n e height : ℕ) → 2 ≤ n → epoch_of n height ≡ e → (height ≡ last n e → ⊥) → epoch_of n (height + 1) ≡ e
+next_inside n e height long at apart = by_order (nat_lt height (e * n + n)) refl
+  where
+    from : e * n ≤ height
+    from = subst (λ (x : ℕ). x * n ≤ height) at (div-mul-le_self height n)
+
+    by_order : (b : Bool) → nat_lt height (e * n + n) ≡ b → epoch_of n (height + 1) ≡ e
+    by_order true is =
+        let below : height < e * n + n = grind (arith, nat_tests, is) in
+        same_epoch n e (height + 1) (omega (arith, long)) (omega (arith, from)) (omega (arith, below, apart, long))
+    by_order false is =
+        let above : e * n + n ≤ height = grind (arith, nat_tests, is) in
+        let more : e + 1 ≤ epoch_of n height = le-div (e + 1) height n (omega (arith, long)) (omega (arith, above)) in
+        absurd (omega (arith, more, at))
+
 -- .. and that behind a last one lies in the next
 pub next_behind : (n e height : ℕ) → 2 ≤ n → height ≡ last n e → epoch_of n (height + 1) ≡ e + 1
 next_behind n e height long at = same_epoch n (e + 1) (height + 1) (omega (arith, long)) (omega (arith, at, long)) (omega (arith, at, long))

@@ -62,10 +62,17 @@ FeedsHand check request b old new its = feeds_hand check request b old old.hand 
 abbrev pub ends_hand : {C Dir Signer Cfg : Type 0} → (request : ℕ) → (old : Inclusion C Dir Signer Cfg) → Option (Hand Dir Cfg) → scan.Fed × Inclusion C Dir Signer Cfg
 ends_hand request old None = (fed.Need, old)
 ends_hand request old (Some hand) =
-    if hand.request.number == request then (fed.Unavailable Short, record old { hand = Some (record hand { scan = scans.closes hand.scan }) }) else (fed.Need, old)
+    if hand.request.number == request
+    then (fed.Unavailable Short, record old { hand = Some (record hand { request = record hand.request { ended = true }; scan = scans.closes hand.scan }) })
+    else (fed.Need, old)
 
 abbrev pub EndsHand : {C Dir Signer Cfg : Type 0} → (request : ℕ) → (old new : Inclusion C Dir Signer Cfg) → scan.Fed → Type 0
 EndsHand request old new its = ends_hand request old old.hand ≡ (its, new)
+
+-- the request in hand, unless it has this number
+abbrev pub unless_of : {Dir Cfg : Type 0} → (request : ℕ) → Option (Hand Dir Cfg) → Option (Hand Dir Cfg)
+unless_of request None = None
+unless_of request (Some hand) = if hand.request.number == request then None else Some hand
 
 -- REQUESTS
 

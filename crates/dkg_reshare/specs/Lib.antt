@@ -14,8 +14,8 @@ pub mod LiveOf
 pub mod Made
 pub mod Moved
 pub mod Opened
+pub mod Refusing
 pub mod Rules
 pub mod Scanned
 pub mod Steps
 pub mod Today
-pub mod Verifying

@@ -17,8 +17,8 @@ ghost use Rattle.dkg_reshare.specs.Moved.{Moved};
 ghost use Rattle.dkg_reshare.specs.Rules.{IncludesBy, IsRuledBy, SameProvided};
 ghost use Rattle.dkg_artifact.specs.Requested.{is_other};
 ghost use Rattle.dkg_artifact.specs.Scans.{IsAwaiting};
-ghost use Rattle.dkg_reshare.specs.Including.{EndsHand, FeedsHand, IsHandOf, behind_answer, fed_of, goes_on};
-ghost use Rattle.dkg_reshare.specs.InclusionOf.{IsReadyInclusion, IsSeen, IsSettledInclusion, in_front, result_of};
+ghost use Rattle.dkg_reshare.specs.Including.{EndsHand, FeedsHand, IsHandOf, behind_answer, fed_of, goes_on, unless_of};
+ghost use Rattle.dkg_reshare.specs.InclusionOf.{IsReadyInclusion, IsSeen, IsSettledInclusion, result_of};
 
 use crate::answers::answer_none;
 use crate::config::Terms;
@@ -143,7 +143,10 @@ fn end_hand<C: Ceremony, Dir: Directory>(inclusion: &mut Inclusion<C, Dir>, requ
     ensures { EndsHand request inclusion.old inclusion.new result }
 {
     match &mut inclusion.hand {
-        Some(hand) if hand.request.number == request => hand.scan.end(),
+        Some(hand) if hand.request.number == request => {
+            hand.request.ended = true;
+            hand.scan.end()
+        }
         _ => Fed::Need,
     }
 }
@@ -321,8 +324,10 @@ pub(crate) fn end<
 
 /// Takes the requests of a number away from those that wait.
 fn withdraw<C: Ceremony, Dir: Directory + Drop>(inclusion: &mut Inclusion<C, Dir>, request: u64)
-    ensures rest { inclusion.new ≡ record inclusion.old { hand = inclusion.new.hand; requests = inclusion.new.requests } }
-    ensures queue { in_front inclusion.new.hand inclusion.new.requests ≡ filter (is_other request) (in_front inclusion.old.hand inclusion.old.requests) }
+    ensures { inclusion.new ≡ record inclusion.old {
+      hand = unless_of request inclusion.old.hand;
+      requests = filter (is_other request) inclusion.old.requests;
+    } }
 {
     inclusion.requests.remove(request);
     match &inclusion.hand {

@@ -19,8 +19,8 @@ ghost use Rattle.dkg_reshare.specs.Moved.{Moved};
 ghost use Rattle.dkg_reshare.specs.Rules.{IncludesBy, IsRuledBy, SameProvided};
 ghost use Rattle.dkg_ceremony.specs.Schedule.{midpoint};
 ghost use Rattle.dkg_artifact.specs.Results.{IsAnswered, checked};
-ghost use Rattle.dkg_store.specs.Recorded.{at_epoch, reached_logs};
-ghost use Rattle.dkg_reshare.specs.Verifying.{refusal_for};
+ghost use Rattle.dkg_reshare.specs.Concluded.{canonical_in};
+ghost use Rattle.dkg_reshare.specs.Refusing.{refusal_for};
 ghost use Rattle.dkg_types.specs.PayloadCodes.{info_payload};
 ghost use Rattle.dkg_types.specs.declared.entry.Entry.{Entry as Line};
 ghost use Rattle.dkg_types.specs.declared.fault.Fault.TheVariants.{LocalState, NoMemory as OutOfMemory};
@@ -33,6 +33,7 @@ ghost use Rattle.dkg_reshare.specs.InclusionOf.{IsReadyInclusion, IsRunnable, Is
 ghost use Rattle.dkg_reshare.specs.LiveOf.{records_of};
 ghost use Rattle.dkg_reshare.specs.Made.{Speaks};
 ghost use Rattle.dkg_reshare.specs.declared.stop.Stop.TheVariants.{Fault as Faulted};
+ghost use Rattle.dkg_reshare.specs.declared.told.EpochInfoResponse.TheVariants.{Available};
 
 use crate::answers::answer;
 use crate::artifacts::keep_artifact;
@@ -67,8 +68,7 @@ pub(crate) fn canonical<Dir: Directory + Drop>(
 ) -> Mem<Map<DealerLog>>
     ensures canonical { IfOk result (λ made. (c : Fixed Dir) (beside : Beside Dir) (fence : Readiness)
         → midpoint c.blocks_per_epoch life.now.epoch ≡ life.now.midpoint → made ≡ recorded.canonical c (live_of beside fence life.now)) }
-    ensures reached { IfOk result (λ made. made ≡ reached_logs life.now.midpoint (option_map (λ t. t.height) life.now.tip)
-        (at_epoch life.now.epoch life.now.store.logs)) }
+    ensures logs { IfOk result (λ made. made ≡ canonical_in life.now) }
 {
     life.store
         .logs(alloc, life.epoch, life.midpoint, tip_height(life))
@@ -222,7 +222,7 @@ pub(crate) fn answer_by<
     ensures disk { devices.new.disk.now ≡ devices.old.disk.now }
     ensures held { X.held devices.new.secrets.now ≡ X.held devices.old.secrets.now }
     ensures told { OnOk result (IsSomeAnd cache.new (λ k. (k.0 ≡ verified.now.logs)
-        × (told.new ≡ maps.insert told.old request (Told.Info (EpochInfoResponse.Available (option_map info_payload k.1.info)))))) }
+        × (told.new ≡ maps.insert told.old request (Told.Info (Available (option_map info_payload k.1.info)))))) }
     ensures acts { IsTrue D.tells → IsTrue X.tells → IsTrue P.tells → (c : Fixed Dir) (st : Live Dir) → IsOf terms.now c → ReadsToday c
         → IncludesBy C.check_log_of C.outcome_of C.finish_of (P.participants_of provider.old) (P.directory_of provider.old) Dir.spelling Dir.matches_of c
         → st.participation.current ≡ store.old.current → st.inclusion.cached ≡ option_map cached_of cache.old
@@ -255,9 +255,9 @@ pub(crate) fn retain<C: Ceremony + Drop, Dir: Directory + Drop>(
         → IsSeen inclusion.old beside.inclusion
         → IsSeen inclusion.new (including.retains c (result_of verified) (live_of beside fence life.now)).inclusion) }
     ensures rest { inclusion.new ≡ record inclusion.old { verification = inclusion.new.verification; waiter = inclusion.new.waiter } }
-    ensures idle { OnOk result ((inclusion.new.verification.running ≡ None) × (inclusion.new.waiter ≡ None)) }
-    ensures keeps { OnOk result (verified.logs ≡ reached_logs life.now.midpoint (option_map (λ t. t.height) life.now.tip)
-        (at_epoch life.now.epoch life.now.store.logs) → inclusion.new.verification.kept ≡ Some verified) }
+    ensures free { OnOk result (inclusion.new.verification.running ≡ None) }
+    ensures alone { OnOk result (inclusion.new.waiter ≡ None) }
+    ensures keeps { OnOk result (verified.logs ≡ canonical_in life.now → inclusion.new.verification.kept ≡ Some verified) }
 {
     let canonical = canonical(alloc, life)?;
     inclusion.verification.retain(verified, &canonical);

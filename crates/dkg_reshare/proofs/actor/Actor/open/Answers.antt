@@ -1,6 +1,8 @@
+use Rattle.std.specs.Int.NonZero.{non_zero_u64_get}
 use Rattle.std.proofs.lemmas.Result.{err_from_is_err_and}
 use Rattle.dkg_reshare.specs.declared.life.Life.{Life}
 use Rattle.dkg_reshare.proofs.Burning.{by_stop_alike}
+use Rattle.dkg_reshare.proofs.Included.{empty_settled}
 use Rattle.dkg_reshare.proofs.actor.Actor.open.Goals as goal
 
 pub returns-in_err-life-clause-acts : goal.returns-in_err-life-clause-acts
@@ -29,3 +31,10 @@ returns-clause-tells g c = λ fixed lent life today by fresh.
 
 pub returns-clause-readable : goal.returns-clause-readable
 returns-clause-readable g c = λ told. let its = c.in_ok-life.ensures.readable told in record { ok = its.ok; untold = its.untold; shut = its.shut }
+
+pub returns-clause-including : goal.returns-clause-including
+returns-clause-including g c = (
+  empty_settled g.C.Ceremony.check_log_of g.C.Ceremony.dealing_of g.C.Ceremony.finish_of (non_zero_u64_get c.args.self.now.terms.blocks_per_epoch) c.in_ok-life.life c.new.result
+      c.new.ensures.empty.0 c.new.ensures.empty.1 c.new.ensures.empty.2 c.new.ensures.empty.3 c.in_ok-life.ensures.current,
+  c.new.ensures.seen,
+)

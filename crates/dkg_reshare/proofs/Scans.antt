@@ -1,10 +1,10 @@
 -- What a scan answers is what the relation reads.
-use Rattle.std.proofs.Common.{◌≡◌, ℕ, Bool, true, false, List, [], ◌∷◌, ◌++◌, Option, Some, None, refl, sym, ◌∙◌, ap, subst}
-use Rattle.std.specs.Prelude.{◌+◌, ◌-◌, ◌==◌, ◌&&◌, nat_lt, not, is_some, is_none, IsSome, option_map, option_and_then, if◌then◌else◌}
+use Rattle.std.proofs.Common.{◌≡◌, ℕ, Bool, true, false, List, [], ◌∷◌, ◌++◌, Option, Some, None, Result, Ok, Err, refl, sym, ◌∙◌, ap, subst}
+use Rattle.std.specs.Prelude.{◌+◌, ◌-◌, ◌==◌, ◌&&◌, nat_lt, not, is_some, is_none, IfOk, IsSome, option_map, option_and_then, if◌then◌else◌}
 use Rattle.std.specs.Option.{option_map_or}
 use Rattle.std.specs.Str.{bytes_eq}
 use Rattle.std.proofs.lemmas.Slice.Eq.{bytes_eq-Decides}
-use Rattle.dkg_values.specs.Rising.{place_of, with_pair}
+use Rattle.dkg_values.specs.Rising.{map_of, place_of, with_pair}
 use Rattle.dkg_ceremony.specs.declared.dealer_log.DealerLog.{DealerLog}
 use Rattle.dkg_ceremony.specs.declared.epocher.Bounds.{Bounds}
 use Rattle.dkg_ceremony.specs.declared.round.RoundParts.{RoundParts as Round}
@@ -21,14 +21,12 @@ use Rattle.dkg_artifact.specs.Scans.{Check, counted, feeds, first_answer, starts
 use Rattle.dkg_artifact.specs.Seen.{Next, Scan}
 use Rattle.dkg_artifact.specs.declared.scan.Fed as declared
 use Rattle.dkg_artifact.specs.declared.scan.Fed.TheVariants as answer
-use Rattle.dkg_artifact.specs.declared.scan.Stand.{Stand}
-use Rattle.dkg_artifact.specs.declared.scan.Stand.TheVariants.{Final, Between, Lowest, Refused}
 use Rattle.dkg_artifact.specs.declared.scan.Tip.{Tip}
 use Rattle.dkg_core.specs.Fixed.{Fixed, has}
 use Rattle.dkg_core.specs.Including as including
 use Rattle.dkg_core.specs.Including.{Fed, Need, Found, Lacks}
 use Rattle.dkg_core.specs.Live.{Live, Request}
-use Rattle.dkg_core.specs.Logs.{is_accepted}
+use Rattle.dkg_core.specs.Logs.{filled_by, is_accepted}
 use Rattle.dkg_core.specs.Sources as placed
 use Rattle.dkg_reshare.specs.Including.{fed_of}
 use Rattle.dkg_reshare.specs.InclusionOf.{tip_of}
@@ -61,6 +59,61 @@ module _ {Dir : Type 0} (check : Check) where
   fed_then s now answer.Need end (b ∷ bs) more done is = fed_then (feeds check s b).1 now (feeds check s b).0 end bs more done is
   fed_then s now (answer.Logs found) end (b ∷ bs) more done is = is
   fed_then s now (answer.Unavailable why) end (b ∷ bs) more done is = is
+
+  -- WHAT ONE BLOCK IS
+
+  module _ (s : Scan) (n : Next) (b : Block Dir) where
+    abbrev its_answer : declared.Fed × Scan
+    its_answer = scans.answers check s b (scans.stand_of s n b)
+
+    pub feeds_is : s.next ≡ Some n → feeds check s b ≡ its_answer
+    feeds_is has = ap (λ (o : Option Next). option_map_or (λ n. scans.answers check s b (scans.stand_of s n b)) o (answer.Unavailable Short, s)) has
+
+    pub at_final : scans.is_final s n b ≡ true → its_answer ≡ (answer.Need, scans.passes s b s.found)
+    at_final is = rw is refl
+
+    module _ (is_final : scans.is_final s n b ≡ false) where
+      pub at_wrong : not (b.height == n.height) ≡ true → its_answer ≡ (answer.Unavailable (WrongHeight n.height b.height), scans.closes s)
+      at_wrong is = rw (is_final, is) refl
+
+      module _ (wrong : not (b.height == n.height) ≡ false) where
+        pub at_unlinked : scans.is_other n.digest b.digest ≡ true → its_answer ≡ (answer.Unavailable (Unlinked b.height), scans.closes s)
+        at_unlinked is = rw (is_final, wrong, is) refl
+
+        module _ (unlinked : scans.is_other n.digest b.digest ≡ false) where
+          pub at_higher : nat_lt s.down_to b.height ≡ true → its_answer ≡ (answer.Need, scans.passes s b (scans.with_lower check s b))
+          at_higher is = rw (is_final, wrong, unlinked, is) refl
+
+          module _ (higher : nat_lt s.down_to b.height ≡ false) where
+            pub at_detached : scans.is_other s.below (scans.link_of s.down_to b) ≡ true → its_answer ≡ (answer.Unavailable (Detached b.height), scans.closes s)
+            at_detached is = rw (is_final, wrong, unlinked, higher, is) refl
+
+            pub at_lowest : scans.is_other s.below (scans.link_of s.down_to b) ≡ false → its_answer ≡ (answer.Logs (scans.with_lower check s b), scans.closes s)
+            at_lowest is = rw (is_final, wrong, unlinked, higher, is) refl
+
+  -- A scan that needs more awaits a block.
+  module _ (s : Scan) (b : Block Dir) where
+    answered_so : (n : Next) (final wrong unlinked higher detached : Bool) → scans.is_final s n b ≡ final → not (b.height == n.height) ≡ wrong → scans.is_other n.digest b.digest ≡ unlinked → nat_lt s.down_to b.height ≡ higher
+        → scans.is_other s.below (scans.link_of s.down_to b) ≡ detached → (P : declared.Fed × Scan → Type 0) → ((now : Scan) → IsSome now.next → P (answer.Need, now)) → ((why : Why) (now : Scan) → P (answer.Unavailable why, now))
+        → ((found : LogMap) (now : Scan) → P (answer.Logs found, now)) → P (its_answer s n b)
+    answered_so n true wrong unlinked higher detached f w u h d P needs lacks found = subst P (sym (at_final s n b f)) (needs (scans.passes s b s.found) refl)
+    answered_so n false true unlinked higher detached f w u h d P needs lacks found = subst P (sym (at_wrong s n b f w)) (lacks (WrongHeight n.height b.height) (scans.closes s))
+    answered_so n false false true higher detached f w u h d P needs lacks found = subst P (sym (at_unlinked s n b f w u)) (lacks (Unlinked b.height) (scans.closes s))
+    answered_so n false false false true detached f w u h d P needs lacks found = subst P (sym (at_higher s n b f w u h)) (needs (scans.passes s b (scans.with_lower check s b)) refl)
+    answered_so n false false false false true f w u h d P needs lacks found = subst P (sym (at_detached s n b f w u h d)) (lacks (Detached b.height) (scans.closes s))
+    answered_so n false false false false false f w u h d P needs lacks found = subst P (sym (at_lowest s n b f w u h d)) (found (scans.with_lower check s b) (scans.closes s))
+
+    by_next : (next : Option Next) → s.next ≡ next → IsSome next → (P : declared.Fed × Scan → Type 0) → ((now : Scan) → IsSome now.next → P (answer.Need, now)) → ((why : Why) (now : Scan) → P (answer.Unavailable why, now))
+        → ((found : LogMap) (now : Scan) → P (answer.Logs found, now)) → P (feeds check s b)
+    by_next None is some P needs lacks found = absurd (let e : false ≡ true = some in cc)
+    by_next (Some n) is some P needs lacks found =
+        subst P (sym (feeds_is s n b is))
+        (answered_so n (scans.is_final s n b) (not (b.height == n.height)) (scans.is_other n.digest b.digest) (nat_lt s.down_to b.height) (scans.is_other s.below (scans.link_of s.down_to b)) refl refl refl refl refl P needs lacks found)
+
+    pub feeds_awaits : IsSome s.next → (feeds check s b).0 ≡ answer.Need → IsSome (feeds check s b).1.next
+    feeds_awaits awaits =
+        by_next s.next refl awaits (λ (p : declared.Fed × Scan). p.0 ≡ answer.Need → IsSome p.1.next) (λ now some is. some) (λ why now is. absurd (let e : answer.Unavailable why ≡ answer.Need = is in cc))
+        (λ found now is. absurd (let e : answer.Logs found ≡ answer.Need = is in cc))
 
 -- THE RELATION'S TESTS
 
@@ -152,15 +205,6 @@ module _ {Dir : Type 0} (c : Fixed Dir) (round : Round) (st : Live Dir) where
 
     -- ONE BLOCK
 
-    abbrev stand_by : (final wrong unlinked higher detached : Bool) → Option (Block Dir) → Block Dir → Stand
-    stand_by final wrong unlinked higher detached above b =
-        if final then Final
-        else (if wrong then Refused (WrongHeight (including.next_height c st above) b.height)
-        else (if unlinked then Refused (Unlinked b.height)
-        else (if higher then Between
-        else (if detached then Refused (Detached b.height)
-        else Lowest))))
-
     unlinked_is : (above : Option (Block Dir)) (b : Block Dir) → scans.is_other (option_map (λ (b : Block Dir). b.parent) above) b.digest ≡ including.is_unlinked above b
     unlinked_is None b = refl
     unlinked_is (Some a) b = ap not (same_either a.parent b.digest)
@@ -168,12 +212,6 @@ module _ {Dir : Type 0} (c : Fixed Dir) (round : Round) (st : Live Dir) where
     final_is : (above : Option (Block Dir)) (b : Block Dir) → (is_none (option_map (λ (b : Block Dir). b.parent) above) && (b.height == including.final_height c st)) ≡ including.is_final c st above b
     final_is None b = refl
     final_is (Some a) b = refl
-
-    stand_is : (above : Option (Block Dir)) (found : LogMap) (b : Block Dir)
-        → scans.stand_of (at_scan above found) (record { height = including.next_height c st above; digest = option_map (λ (b : Block Dir). b.parent) above }) b
-        ≡ stand_by (including.is_final c st above b) (not (b.height == including.next_height c st above)) (including.is_unlinked above b) (nat_lt (including.lowest c st) b.height) (including.is_detached c st b) above b
-    stand_is above found b = λ i.
-        stand_by (final_is above b i) (not (b.height == including.next_height c st above)) (unlinked_is above b i) (nat_lt (lowest_is st.tip i) b.height) (detached_is b i) above b
 
     -- ALL OF THEM
 
@@ -192,30 +230,54 @@ module _ {Dir : Type 0} (c : Fixed Dir) (round : Round) (st : Live Dir) where
     found_is : (s : Scan) (logs : LogMap) (bs : List (Block Dir)) (ended : Bool) → closed_by ended (fed_all check s (answer.Logs logs) bs).0 ≡ Found logs
     found_is s logs bs ended = ap (λ (p : declared.Fed × Scan). closed_by ended p.0) (fed_done check s (answer.Logs logs) bs (λ e. cc))
 
-    module _ (ended : Bool) where
-      pub scan_is : (above : Option (Block Dir)) (found : LogMap) (bs : List (Block Dir)) → including.scan c round st above found bs ended ≡ closed_by ended (fed_all check (at_scan above found) answer.Need bs).0
-      scan_is above found [] = refl
-      scan_is above found (b ∷ bs) =
-          by_tests (including.is_final c st above b) (not (b.height == including.next_height c st above)) (including.is_unlinked above b) (nat_lt (including.lowest c st) b.height) (including.is_detached c st b)
-          ∙ ap (λ (stand : Stand). goes stand) (sym (stand_is above found b))
-        where
-          abbrev goes : Stand → Fed
-          goes stand = closed_by ended (fed_all check (scans.answers check (at_scan above found) b stand).1 (scans.answers check (at_scan above found) b stand).0 bs).0
+    module _ (ended : Bool) (above : Option (Block Dir)) (found : LogMap) (b : Block Dir) (bs : List (Block Dir))
+        (below : (a : Option (Block Dir)) (l : LogMap) → including.scan c round st a l bs ended ≡ closed_by ended (fed_all check (at_scan a l) answer.Need bs).0)
+      where
+        abbrev next : Next
+        next = record { height = including.next_height c st above; digest = option_map (λ (b : Block Dir). b.parent) above }
 
-          higher_is : including.scan c round st (Some b) (including.with_lower c round st b found) bs ended ≡ goes Between
-          higher_is = scan_is (Some b) (including.with_lower c round st b found) bs
-              ∙ ap (λ (l : LogMap). closed_by ended (fed_all check (at_scan (Some b) l) answer.Need bs).0) (sym (lower_is above b found))
+        abbrev ends_as : declared.Fed × Scan → Fed
+        ends_as p = closed_by ended (fed_all check p.1 p.0 bs).0
 
-          lowest_found : Found (including.with_lower c round st b found) ≡ goes Lowest
-          lowest_found = ap Found (sym (lower_is above b found)) ∙ sym (found_is (scans.closes (at_scan above found)) (scans.with_lower check (at_scan above found) b) bs ended)
+        abbrev here : declared.Fed × Scan
+        here = its_answer check (at_scan above found) next b
 
-          by_tests : (final wrong unlinked higher detached : Bool) → rest_by final wrong unlinked higher detached above found b bs ended ≡ goes (stand_by final wrong unlinked higher detached above b)
-          by_tests true wrong unlinked higher detached = scan_is (Some b) found bs
-          by_tests false true unlinked higher detached = sym (refused_is (scans.closes (at_scan above found)) (WrongHeight (including.next_height c st above) b.height) bs ended)
-          by_tests false false true higher detached = sym (refused_is (scans.closes (at_scan above found)) (Unlinked b.height) bs ended)
-          by_tests false false false true detached = higher_is
-          by_tests false false false false true = sym (refused_is (scans.closes (at_scan above found)) (Detached b.height) bs ended)
-          by_tests false false false false false = lowest_found
+        higher_is : including.scan c round st (Some b) (including.with_lower c round st b found) bs ended ≡ ends_as (answer.Need, scans.passes (at_scan above found) b (scans.with_lower check (at_scan above found) b))
+        higher_is = below (Some b) (including.with_lower c round st b found)
+            ∙ ap (λ (l : LogMap). closed_by ended (fed_all check (at_scan (Some b) l) answer.Need bs).0) (sym (lower_is above b found))
+
+        lowest_found : Found (including.with_lower c round st b found) ≡ ends_as (answer.Logs (scans.with_lower check (at_scan above found) b), scans.closes (at_scan above found))
+        lowest_found = ap Found (sym (lower_is above b found)) ∙ sym (found_is (scans.closes (at_scan above found)) (scans.with_lower check (at_scan above found) b) bs ended)
+
+        by_tests : (final wrong unlinked higher detached : Bool) → including.is_final c st above b ≡ final → not (b.height == including.next_height c st above) ≡ wrong → including.is_unlinked above b ≡ unlinked
+            → nat_lt (including.lowest c st) b.height ≡ higher → including.is_detached c st b ≡ detached → rest_by final wrong unlinked higher detached above found b bs ended ≡ ends_as here
+        by_tests true wrong unlinked higher detached f w u h d =
+            below (Some b) found ∙ ap (λ (p : declared.Fed × Scan). ends_as p) (sym (at_final check (at_scan above found) next b (final_is above b ∙ f)))
+        by_tests false true unlinked higher detached f w u h d =
+            sym (refused_is (scans.closes (at_scan above found)) (WrongHeight (including.next_height c st above) b.height) bs ended)
+            ∙ ap (λ (p : declared.Fed × Scan). ends_as p) (sym (at_wrong check (at_scan above found) next b (final_is above b ∙ f) w))
+        by_tests false false true higher detached f w u h d =
+            sym (refused_is (scans.closes (at_scan above found)) (Unlinked b.height) bs ended)
+            ∙ ap (λ (p : declared.Fed × Scan). ends_as p) (sym (at_unlinked check (at_scan above found) next b (final_is above b ∙ f) w (unlinked_is above b ∙ u)))
+        by_tests false false false true detached f w u h d =
+            higher_is
+            ∙ ap (λ (p : declared.Fed × Scan). ends_as p)
+            (sym (at_higher check (at_scan above found) next b (final_is above b ∙ f) w (unlinked_is above b ∙ u) (ap (λ (l : ℕ). nat_lt l b.height) (lowest_is st.tip) ∙ h)))
+        by_tests false false false false true f w u h d =
+            sym (refused_is (scans.closes (at_scan above found)) (Detached b.height) bs ended)
+            ∙ ap (λ (p : declared.Fed × Scan). ends_as p)
+            (sym (at_detached check (at_scan above found) next b (final_is above b ∙ f) w (unlinked_is above b ∙ u) (ap (λ (l : ℕ). nat_lt l b.height) (lowest_is st.tip) ∙ h) (detached_is b ∙ d)))
+        by_tests false false false false false f w u h d =
+            lowest_found
+            ∙ ap (λ (p : declared.Fed × Scan). ends_as p)
+            (sym (at_lowest check (at_scan above found) next b (final_is above b ∙ f) w (unlinked_is above b ∙ u) (ap (λ (l : ℕ). nat_lt l b.height) (lowest_is st.tip) ∙ h) (detached_is b ∙ d)))
+
+    pub scan_is : (ended : Bool) (above : Option (Block Dir)) (found : LogMap) (bs : List (Block Dir))
+        → including.scan c round st above found bs ended ≡ closed_by ended (fed_all check (at_scan above found) answer.Need bs).0
+    scan_is ended above found [] = refl
+    scan_is ended above found (b ∷ bs) =
+        by_tests ended above found b bs (λ a l. scan_is ended a l bs) (including.is_final c st above b) (not (b.height == including.next_height c st above)) (including.is_unlinked above b)
+        (nat_lt (including.lowest c st) b.height) (including.is_detached c st b) refl refl refl refl refl
 
     -- A REQUEST, from the start of its ancestry
 
@@ -231,8 +293,8 @@ module _ {Dir : Type 0} (c : Fixed Dir) (round : Round) (st : Live Dir) where
           by_test : (none : Bool)
               → (if none then Found [] else including.scan c round st None [] blocks ended)
               ≡ closed_by ended (fed_all check
-                  (record (at_scan None []) { next = (if none then None else Some (record { height = including.final_height c st - 1; digest = None })) })
-                  (if none then answer.Logs [] else answer.Need) blocks).0
+              (record (at_scan None []) { next = (if none then None else Some (record { height = including.final_height c st - 1; digest = None })) })
+              (if none then answer.Logs [] else answer.Need) blocks).0
           by_test true = sym (found_is (record (at_scan None []) { next = None }) [] blocks ended)
           by_test false = scan_is ended None [] blocks
 
@@ -258,3 +320,34 @@ module _ {Dir : Type 0} (c : Fixed Dir) (round : Round) (st : Live Dir) where
 pub fed_behind : {Dir : Type 0} (check : Check) (round : Round) (bounds : Bounds) (tip : Option Tip) (blocks : List (Block Dir)) (b : Block Dir) (s now : Scan) → IsFed check round bounds tip blocks s
     → feeds check s b ≡ (answer.Need, now) → IsSome now.next → IsFed check round bounds tip (blocks ++ b ∷ []) now
 fed_behind check round bounds tip blocks b s now is fed awaits = record { fed = fed_more check (starts round bounds tip) s (first_answer bounds.last) blocks b is.fed ∙ fed; awaits = awaits }
+
+-- WHAT WAS ANSWERED
+
+pub needs_is : (x : declared.Fed) → including.is_need (fed_of x) ≡ true → x ≡ answer.Need
+needs_is answer.Need is = refl
+needs_is (answer.Logs found) is = absurd (let e : false ≡ true = is in cc)
+needs_is (answer.Unavailable why) is = absurd (let e : false ≡ true = is in cc)
+
+pub not_need : (x : declared.Fed) → including.is_need (fed_of x) ≡ false → x ≡ answer.Need → ⊥
+not_need x none is = let e : true ≡ false = sym (ap (λ (f : declared.Fed). including.is_need (fed_of f)) is) ∙ none in cc
+
+pub is_answered : (x : declared.Fed) → (x ≡ answer.Need → ⊥) → including.is_need (fed_of x) ≡ false
+is_answered answer.Need apart = absurd (apart refl)
+is_answered (answer.Logs found) apart = refl
+is_answered (answer.Unavailable why) apart = refl
+
+-- FOUND LOGS FILL IN
+
+pub filled_is : (logs others : LogMap) → map_of others ≡ others → map_of (logs ++ others) ≡ filled_by logs others
+filled_is [] others is = is
+filled_is (p ∷ logs) others is = ap (λ (l : LogMap). with_pair p l) (filled_is logs others is)
+
+pub if_ok : {A E : Type 0} {P Q : A → Type 0} (r : Result A E) → ((x : A) → P x → Q x) → IfOk r P → IfOk r Q
+if_ok (Ok x) so is = so x is
+if_ok (Err e) so is = tt
+
+-- It stays as it was answered, unless it needs more and its ancestry has ended.
+pub open_by : (ended : Bool) (x : declared.Fed) → (true ≡ including.is_need (fed_of x) → ended ≡ false) → closed_by ended x ≡ fed_of x
+open_by ended answer.Need on = ap (λ (b : Bool). if b then Lacks Short else Need) (on refl)
+open_by ended (answer.Logs found) on = refl
+open_by ended (answer.Unavailable why) on = refl
