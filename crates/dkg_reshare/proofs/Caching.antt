@@ -92,5 +92,5 @@ own_unprovided participants limit epoch = by_test (nat_le (2 ^ 64) (epoch + 2)) 
 module _ {Dir S : Type 0} (acts : Course Dir Fault S) where
   pub fault_speaks : (o : Option Fault) (stop : Stop) → IsFaultOrWant o stop → IfSome o (λ its. cause_in its ≡ None) → (out : List Line) → Speaks (stops_by o acts) (by_stop stop) out out
   fault_speaks None stop want own out = wants_speaks acts stop want out out refl
-  fault_speaks (Some its) stop (inl want) own out = wants_speaks (Stops its) stop want out out refl
-  fault_speaks (Some its) stop (inr ends) own out = gives_speaks (Stops its) stop its ends refl own out
+  fault_speaks (Some its) stop (inl want) own out = let stops : Course Dir Fault S = Stops its in wants_speaks stops stop want out out refl
+  fault_speaks (Some its) stop (inr ends) own out = let stops : Course Dir Fault S = Stops its in gives_speaks stops stop its ends refl own out
