@@ -52,7 +52,7 @@ module _ {Dir S T : Type 0} (line : Line) (its : S) (next : Course Dir Fault T) 
       behind_line how (world_of out h f) (world_of now h f)
       (subst (λ (l : List Line). Runs (on_devices next) how (world_of l h f) (world_of now h f)) (told_line end out mid first) (second h f))
 
-  wanting : (w new : World) → Breaks by_want (acts_of.Say {F = Fault} line (acts_of.Goes its)) w new → Breaks by_want (acts_of.Say line (on_devices next)) w new
+  wanting : (w new : World) → Breaks {F = Fault} by_want (acts_of.Say line (acts_of.Goes its)) w new → Breaks by_want (acts_of.Say line (on_devices next)) w new
   wanting w new (inl none) = inl none
   wanting w new (inr more) = inr (subst (λ (x : World). Breaks by_want (on_devices next) (acts_of.says w line) x) (sym more.1) (breaks_none by_want tt (on_devices next) (acts_of.says w line)))
 
@@ -63,18 +63,15 @@ module _ {Dir S T : Type 0} (line : Line) (its : S) (next : Course Dir Fault T) 
 
 -- SOME REQUESTS ARE LEFT: of those before them each was told, and to answer these is to answer all.
 
+-- with this in the relation's memory
+abbrev pub with_its : {Dir : Type 0} → Beside Dir → Readiness → Life Dir → core.Inclusion Dir → Live Dir
+with_its beside fence life i = live_of (record beside { inclusion = i }) fence life
+
 module _ {C Dir Signer Cfg : Type 0} (beside : Beside Dir) (fence : Readiness) (life : Life Dir) where
-  -- with this in the relation's memory
-  abbrev pub at_inclusion : core.Inclusion Dir → Live Dir
-  at_inclusion i = live_of (record beside { inclusion = i }) fence life
-
-  abbrev pub seen_left : Inclusion C Dir Signer Cfg → core.Inclusion Dir → Type 0
-  seen_left its i = IsSeen its (record i { queue = map request_of its.requests })
-
   pub record IsLeft (its : Inclusion C Dir Signer Cfg) (out told : List Line) : Type 0 where
     pub now : core.Inclusion Dir
-    pub seen : seen_left its now
-    pub on : (how : Ended Fault (Live Dir)) (last : List Line) → Speaks (blocks.answers_all (map request_of its.requests) (at_inclusion now)) how told last
+    pub seen : IsSeen its (record now { queue = map request_of its.requests })
+    pub on : (how : Ended Fault (Live Dir)) (last : List Line) → Speaks (blocks.answers_all (map request_of its.requests) (with_its beside fence life now)) how told last
         → Speaks (blocks.answers_all beside.inclusion.queue (live_of beside fence life)) how out last
 
   -- all of them
@@ -89,15 +86,15 @@ module _ {C Dir Signer Cfg : Type 0} (beside : Beside Dir) (fence : Readiness) (
 
   module _ (its : Inclusion C Dir Signer Cfg) (out told : List Line) (left : IsLeft its out told) (none : its.hand ≡ None) (request : Request Dir) (rest : List (Request Dir)) (are : its.requests ≡ request ∷ rest) where
     abbrev then_live : Live Dir
-    then_live = with_told request.number (GaveNone Finished) (at_inclusion left.now)
+    then_live = with_told request.number (GaveNone Finished) (with_its beside fence life left.now)
 
-    first_on : (how : Ended Fault (Live Dir)) (last : List Line) → Speaks (blocks.answers_all (map request_of (request ∷ rest)) (at_inclusion left.now)) how told last
+    first_on : (how : Ended Fault (Live Dir)) (last : List Line) → Speaks (blocks.answers_all (map request_of (request ∷ rest)) (with_its beside fence life left.now)) how told last
         → Speaks (blocks.answers_all beside.inclusion.queue (live_of beside fence life)) how out last
-    first_on how last speaks = left.on how last (subst (λ (rs : List (Request Dir)). Speaks (blocks.answers_all (map request_of rs) (at_inclusion left.now)) how told last) (sym are) speaks)
+    first_on how last speaks = left.on how last (subst (λ (rs : List (Request Dir)). Speaks (blocks.answers_all (map request_of rs) (with_its beside fence life left.now)) how told last) (sym are) speaks)
 
     -- the first was told, ..
     pub one_less : (new : Inclusion C Dir Signer Cfg) → new ≡ record its { requests = rest; told = insert its.told request.number (Info (Unavailable Finished)) } → (more : List Line)
-        → Speaks (including.answers_none request.number Finished (at_inclusion left.now)) (went then_live) told more → IsLeft new out more
+        → Speaks (including.answers_none request.number Finished (with_its beside fence life left.now)) (went then_live) told more → IsLeft new out more
     one_less new same more speaks = subst (λ (x : Inclusion C Dir Signer Cfg). IsLeft x out more) (sym same) (record {
       now = record left.now { told = (request.number, GaveNone Finished) ∷ left.now.told };
       seen = shorter (seen_told its (record left.now { queue = map request_of its.requests }) request.number (Info (Unavailable Finished)) (GaveNone Finished) refl left.seen);
@@ -118,7 +115,7 @@ module _ {C Dir Signer Cfg : Type 0} (beside : Beside Dir) (fence : Readiness) (
         }
 
     -- .. or found no memory
-    pub none_more : (stop : Stop) → stop ≡ Faulted NoMemory → (more : List Line) → Speaks (including.answers_none request.number Finished (at_inclusion left.now)) (by_stop stop) told more
+    pub none_more : (stop : Stop) → stop ≡ Faulted NoMemory → (more : List Line) → Speaks (including.answers_none request.number Finished (with_its beside fence life left.now)) (by_stop stop) told more
         → Speaks (blocks.answers_all beside.inclusion.queue (live_of beside fence life)) (by_stop stop) out more
     none_more stop ends more speaks = first_on (by_stop stop) more (line_wants _ then_live (blocks.answers_all (map request_of rest) then_live) stop ends told more speaks)
 
@@ -128,6 +125,6 @@ module _ {C Dir Signer Cfg : Type 0} (beside : Beside Dir) (fence : Readiness) (
   none_left its out told left empty =
       ends_with beside (record left.now { queue = [] })
       (subst (λ (rs : List (Request Dir)). IsSeen its (record left.now { queue = map request_of rs })) empty left.seen) refl
-      (left.on (went (at_inclusion (record left.now { queue = [] }))) told
-      (subst (λ (rs : List (Request Dir)). Speaks (blocks.answers_all (map request_of rs) (at_inclusion left.now)) (went (at_inclusion (record left.now { queue = [] }))) told told) (sym empty)
-      (goes_speaks (blocks.answers_all [] (at_inclusion left.now)) (at_inclusion (record left.now { queue = [] })) (at_inclusion (record left.now { queue = [] })) refl refl told)))
+      (left.on (went (with_its beside fence life (record left.now { queue = [] }))) told
+      (subst (λ (rs : List (Request Dir)). Speaks (blocks.answers_all (map request_of rs) (with_its beside fence life left.now)) (went (with_its beside fence life (record left.now { queue = [] }))) told told) (sym empty)
+      (goes_speaks (blocks.answers_all [] (with_its beside fence life left.now)) (with_its beside fence life (record left.now { queue = [] })) (with_its beside fence life (record left.now { queue = [] })) refl refl told)))

@@ -56,7 +56,7 @@ module _ {Dir : Type 0} (c : Fixed Dir) (b : Block Dir) where
 
 -- a round that is there
 pub its_round : (o : Option Round) → IsSome o → (round : Round) × (o ≡ Some round)
-its_round None some = absurd some
+its_round None some = absurd (let e : ◌≡◌ {A = Bool} false true = some in cc)
 its_round (Some round) some = (round, refl)
 
 module _ {Dir : Type 0} (c : Fixed Dir) (b : Block Dir) (n : ℕ) (same : c.blocks_per_epoch ≡ n) (reshare : c.oneshot ≡ None) (bounds : Bounds) (are : AreBoundsAt n bounds b.height) where

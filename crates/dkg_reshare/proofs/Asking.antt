@@ -43,11 +43,12 @@ use Rattle.dkg_reshare.specs.LiveOf.{Beside, EndsWith, live_of, stage_of}
 use Rattle.dkg_reshare.specs.Made.{Makes, Tells}
 use Rattle.dkg_reshare.proofs.Advancing.{ReadsFirst, Waits, WaitsBy, advances_next, advances_over, goes_by, next_is, waits_advances, waits_next}
 use Rattle.dkg_reshare.proofs.Burning.{makes_nothing}
+use Rattle.dkg_reshare.proofs.Chained.{early_makes, early_told, then_makes, then_told}
 use Rattle.dkg_reshare.proofs.Committing.{goes_told}
 use Rattle.dkg_reshare.proofs.Keeping.{cached_none, cached_some, kept_none, kept_some}
 use Rattle.dkg_reshare.proofs.Requesting.{seen_queue}
 use Rattle.dkg_reshare.proofs.Telling.{ends_with, seen_told}
-use Rattle.dkg_reshare.proofs.Within.{NoMore, bound_early, bound_makes, bound_tells, bound_unsaid, within_as, within_behind, within_then}
+use Rattle.dkg_reshare.proofs.Within.{NoMore, within_as, within_behind, within_then}
 
 -- COURSES THAT WERE MADE, over devices or by their lines alone
 
@@ -65,8 +66,8 @@ module _ {Dir D X : Type 0} (files : D → Files) (image : D → Files → Type 
   pub makes_joins : Joins MakesOver
   makes_joins = record {
     nothing = λ st x. makes_nothing (files x.0.disk.now) (image x.0.disk.now) _ refl;
-    next = λ course f end how x y z first second. bound_makes files image held course f end how first second;
-    early = λ course f its x y first. bound_early files image held course f its first;
+    next = λ course f end how x y z first second. then_makes course f end how first second;
+    early = λ course f its x y first. early_makes course f its first;
   }
 
 module _ {Dir : Type 0} where
@@ -76,8 +77,8 @@ module _ {Dir : Type 0} where
   pub tells_joins : Joins TellsOver
   tells_joins = record {
     nothing = λ st x. goes_told Dir st x;
-    next = λ course f end how x y z first second. bound_tells course f end how first second;
-    early = λ course f its x y first. bound_unsaid course f its first;
+    next = λ course f end how x y z first second. then_told course f end how first second;
+    early = λ course f its x y first. early_told course f its first;
   }
 
 module _ {Dir W : Type 0} (R : Course Dir Fault (Live Dir) → Ended Fault (Live Dir) → W → W → Type 0) where

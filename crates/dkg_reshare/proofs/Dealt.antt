@@ -111,7 +111,14 @@ module _ {Dir D X : Type 0} (tells : Bool) (files : D → Files) (image : D → 
     ready_acked dealer now store has same more pairs firm = record {
       seated = seated_beside ack_of terms.me life store (Some now) pairs ready.seated;
       dealing = deals_on deal_of check_ack_of terms.me life dealer deals store life.player now same more;
-      placed = record { epoch_is = ready.placed.epoch_is; midpoint_is = ready.placed.midpoint_is; ended = ready.placed.ended };
+      placed = record {
+        epoch_is = ready.placed.epoch_is;
+        midpoint_is = ready.placed.midpoint_is;
+        in_range = ready.placed.in_range;
+        joins = ready.placed.joins;
+        early = ready.placed.early;
+        ended = ready.placed.ended;
+      };
       within = ready.within;
       firm = firm;
     }
@@ -130,7 +137,14 @@ module _ {Dir D X : Type 0} (tells : Bool) (files : D → Files) (image : D → 
         sits = subst (λ (r : Round). SitsIn ack_of terms.me store r now) sits.sits.round_is (subst (λ (k : ℕ). SitsIn ack_of k store player.round now) (sym mine) sitting);
       };
       dealing = dealing_on deal_of check_ack_of terms.me life store (Some now) ready.dealing;
-      placed = record { epoch_is = ready.placed.epoch_is; midpoint_is = ready.placed.midpoint_is; ended = ready.placed.ended };
+      placed = record {
+        epoch_is = ready.placed.epoch_is;
+        midpoint_is = ready.placed.midpoint_is;
+        in_range = ready.placed.in_range;
+        joins = ready.placed.joins;
+        early = ready.placed.early;
+        ended = ready.placed.ended;
+      };
       within = ready.within;
       firm = firm;
     }

@@ -58,15 +58,26 @@ includes_deals s includes deals = absurd (let h : ◌≡◌ {A = Stage} Includin
 includes_follows : {A : Type 0} (s : Stage) → s ≡ Including → s ≡ Following → A
 includes_follows s includes follows = absurd (let h : ◌≡◌ {A = Stage} Including Following = sym includes ∙ follows in cc)
 
+pub none_in : {A : Type 0} (P : Type 0) (o : Option A) → o ≡ None → IsSome o → P
+none_in P None none some = absurd (let e : ◌≡◌ {A = Bool} false true = some in cc)
+none_in {A} P (Some x) none some = absurd (let e : ◌≡◌ {A = Option A} (Some x) None = none in cc)
+
+no_hand : {Dir Cfg : Type 0} (check_log_of : CheckLogOf) (blocks_per_epoch : ℕ) (life : Life Dir) (hand : Option (Hand Dir Cfg)) → hand ≡ None → IfSome hand (IsInHand check_log_of blocks_per_epoch life)
+no_hand {Dir} {Cfg} check_log_of blocks_per_epoch life hand none = subst (λ (o : Option (Hand Dir Cfg)). IfSome o (IsInHand check_log_of blocks_per_epoch life)) (sym none) tt
+
+-- the running verification is one of this life
+abbrev RunsIn : {Dir : Type 0} → DealingOf → FinishOf → Life Dir → Job → Type 0
+RunsIn dealing_of finish_of life j = (life.stage ≡ Including) × (life.round ≡ Some j.round) × IsRunnable dealing_of finish_of j
+
+no_job : {Dir : Type 0} (dealing_of : DealingOf) (finish_of : FinishOf) (life : Life Dir) (job : Option Job) → job ≡ None → IfSome job (RunsIn dealing_of finish_of life)
+no_job dealing_of finish_of life job none = subst (λ (o : Option Job). IfSome o (RunsIn dealing_of finish_of life)) (sym none) tt
+
 module _ {C Dir Signer Cfg : Type 0} (check_log_of : CheckLogOf) (dealing_of : DealingOf) (finish_of : FinishOf) (blocks_per_epoch : ℕ) where
   abbrev IsReady : Life Dir → Inclusion C Dir Signer Cfg → Type 0
   IsReady life its = IsReadyInclusion check_log_of dealing_of finish_of blocks_per_epoch life its
 
   abbrev IsSettled : Life Dir → Inclusion C Dir Signer Cfg → Type 0
   IsSettled life its = IsSettledInclusion check_log_of dealing_of finish_of blocks_per_epoch life its
-
-  abbrev Runs : Life Dir → Job → Type 0
-  Runs life j = (life.stage ≡ Including) × (life.round ≡ Some j.round) × IsRunnable dealing_of finish_of j
 
   pub ready_as : (life : Life Dir) (old new : Inclusion C Dir Signer Cfg) → new ≡ old → IsReady life old → IsReady life new
   ready_as life old new same ready = subst (λ (its : Inclusion C Dir Signer Cfg). IsReady life its) (sym same) ready
@@ -76,23 +87,13 @@ module _ {C Dir Signer Cfg : Type 0} (check_log_of : CheckLogOf) (dealing_of : D
 
   -- NOTHING WAITS
 
-  no_hand : (life : Life Dir) (hand : Option (Hand Dir Cfg)) → hand ≡ None → IfSome hand (IsInHand check_log_of blocks_per_epoch life)
-  no_hand life hand none = subst (λ (o : Option (Hand Dir Cfg)). IfSome o (IsInHand check_log_of blocks_per_epoch life)) (sym none) tt
-
-  none_in : {A : Type 0} (P : Type 0) (o : Option A) → o ≡ None → IsSome o → P
-  none_in P None none some = absurd some
-  none_in P (Some x) none some = absurd cc
-
-  no_job : (life : Life Dir) (job : Option Job) → job ≡ None → IfSome job (Runs life)
-  no_job life job none = subst (λ (o : Option Job). IfSome o (Runs life)) (sym none) tt
-
   pub empty_settled : (life : Life Dir) (its : Inclusion C Dir Signer Cfg) → its.hand ≡ None → its.requests ≡ [] → its.verification.running ≡ None → its.served ≡ None
       → ((life.stage ≡ Following → ⊥) → IsSome life.store.current) → IsSettled life its
   empty_settled life its hand requests running served current = record {
     ready = record {
-      hand = no_hand life its.hand hand;
+      hand = no_hand check_log_of blocks_per_epoch life its.hand hand;
       free = λ some. running;
-      runs = no_job life its.verification.running running;
+      runs = no_job dealing_of finish_of life its.verification.running running;
       idle = λ follows. requests;
       current = current;
       unserved = λ apart. served;
@@ -117,7 +118,7 @@ module _ {C Dir Signer Cfg : Type 0} (check_log_of : CheckLogOf) (dealing_of : D
     pub none_in_hand : (old.stage ≡ Including → ⊥) → its.hand ≡ None
     none_in_hand apart = out_of_hand apart its.hand ready.hand
 
-    out_of_work : (old.stage ≡ Including → ⊥) → (job : Option Job) → IfSome job (Runs old) → job ≡ None
+    out_of_work : (old.stage ≡ Including → ⊥) → (job : Option Job) → IfSome job (RunsIn dealing_of finish_of old) → job ≡ None
     out_of_work apart None is = refl
     out_of_work apart (Some job) is = absurd (apart is.0)
 
@@ -128,9 +129,9 @@ module _ {C Dir Signer Cfg : Type 0} (check_log_of : CheckLogOf) (dealing_of : D
     pub apart_settled : (old.stage ≡ Including → ⊥) → new.stage ≡ old.stage → (IsSome old.store.current → IsSome new.store.current) → IsSettled new its
     apart_settled apart stage current = record {
       ready = record {
-        hand = no_hand new its.hand (none_in_hand apart);
+        hand = no_hand check_log_of blocks_per_epoch new its.hand (none_in_hand apart);
         free = λ some. none_runs apart;
-        runs = no_job new its.verification.running (none_runs apart);
+        runs = no_job dealing_of finish_of new its.verification.running (none_runs apart);
         idle = λ follows. ready.idle (sym stage ∙ follows);
         current = current_then stage current;
         unserved = λ not_in. ready.unserved apart;
@@ -143,15 +144,15 @@ module _ {C Dir Signer Cfg : Type 0} (check_log_of : CheckLogOf) (dealing_of : D
     begun_ready deals includes current =
         let apart : old.stage ≡ Including → ⊥ = λ is. includes_deals old.stage is deals in
         record {
-          hand = no_hand new its.hand (none_in_hand apart);
+          hand = no_hand check_log_of blocks_per_epoch new its.hand (none_in_hand apart);
           free = λ some. none_runs apart;
-          runs = no_job new its.verification.running (none_runs apart);
+          runs = no_job dealing_of finish_of new its.verification.running (none_runs apart);
           idle = λ follows. includes_follows new.stage includes follows;
           current = λ part. current (ready.current (λ follows. apart_stages old.stage deals follows));
           unserved = λ not_in. refl;
         }
 
-    job_then : new.stage ≡ old.stage → new.round ≡ old.round → (job : Option Job) → IfSome job (Runs old) → IfSome job (Runs new)
+    job_then : new.stage ≡ old.stage → new.round ≡ old.round → (job : Option Job) → IfSome job (RunsIn dealing_of finish_of old) → IfSome job (RunsIn dealing_of finish_of new)
     job_then stage round None is = tt
     job_then stage round (Some job) is = (stage ∙ is.0, round ∙ is.1, is.2)
 
@@ -159,13 +160,19 @@ module _ {C Dir Signer Cfg : Type 0} (check_log_of : CheckLogOf) (dealing_of : D
     pub moved_ready : old.stage ≡ Including → its.hand ≡ None → (served : Option ℕ) → new.stage ≡ old.stage → new.round ≡ old.round → (IsSome old.store.current → IsSome new.store.current)
         → IsReady new (record its { served = served })
     moved_ready includes hand served stage round current = record {
-      hand = no_hand new its.hand hand;
+      hand = no_hand check_log_of blocks_per_epoch new its.hand hand;
       free = λ some. none_in (its.verification.running ≡ None) its.hand hand some;
       runs = job_then stage round its.verification.running ready.runs;
       idle = λ follows. includes_follows old.stage includes (sym stage ∙ follows);
       current = current_then stage current;
       unserved = λ not_in. absurd (not_in (stage ∙ includes));
     }
+
+    abbrev Stands : Option Round → Option Tip → Hand Dir Cfg → Type 0
+    Stands o t hand = IsSomeAnd o (λ round. IsFed check_log_of round (bounds_at blocks_per_epoch (option_map_or (λ x. x.height + 1) t 0)) (option_map tip_of t) hand.request.blocks hand.scan)
+
+    stands_then : (o p : Option Round) → p ≡ o → (t u : Option Tip) → u ≡ t → (hand : Hand Dir Cfg) → Stands o t hand → Stands p u hand
+    stands_then o p same t u alike hand is = subst (λ (x : Option Round). Stands x u hand) (sym same) (subst (λ (x : Option Tip). Stands o x hand) (sym alike) is)
 
     hand_then : new.stage ≡ old.stage → new.round ≡ old.round → new.tip ≡ old.tip → (hand : Option (Hand Dir Cfg)) → IfSome hand (IsInHand check_log_of blocks_per_epoch old)
         → IfSome hand (IsInHand check_log_of blocks_per_epoch new)
@@ -175,12 +182,6 @@ module _ {C Dir Signer Cfg : Type 0} (check_log_of : CheckLogOf) (dealing_of : D
       goes_on = is.goes_on;
       stands = stands_then old.round new.round round old.tip new.tip tip hand is.stands;
     }
-      where
-        abbrev Stands : Option Round → Option Tip → Hand Dir Cfg → Type 0
-        Stands o t hand = IsSomeAnd o (λ round. IsFed check_log_of round (bounds_at blocks_per_epoch (option_map_or (λ x. x.height + 1) t 0)) (option_map tip_of t) hand.request.blocks hand.scan)
-
-        stands_then : (o p : Option Round) → p ≡ o → (t u : Option Tip) → u ≡ t → (hand : Hand Dir Cfg) → Stands o t hand → Stands p u hand
-        stands_then o p same t u alike hand is = subst (λ (x : Option Round). Stands x u hand) (sym same) (subst (λ (x : Option Tip). Stands o x hand) (sym alike) is)
 
     -- where nothing of its place changed
     pub stays_settled : new.stage ≡ old.stage → new.round ≡ old.round → new.tip ≡ old.tip → (IsSome old.store.current → IsSome new.store.current) → IsSettled old its → IsSettled new its
@@ -203,7 +204,7 @@ module _ {C Dir Signer Cfg : Type 0} (check_log_of : CheckLogOf) (dealing_of : D
     pub back_ready : (new : Inclusion C Dir Signer Cfg) → new ≡ record its { hand = None; requests = in_front its.hand its.requests } → IsReady life new
     back_ready new same = ready_as life (record its { hand = None; requests = in_front its.hand its.requests }) new same (record {
       hand = tt;
-      free = λ some. absurd some;
+      free = λ some. none_in {A = Hand Dir Cfg} (its.verification.running ≡ None) None refl some;
       runs = ready.runs;
       idle = λ follows. waits its.hand ready.hand follows;
       current = ready.current;
@@ -230,12 +231,8 @@ pub released_live : {Dir : Type 0} (height : ℕ) (beside : Beside Dir) (fence :
     → live_of (record beside { inclusion = (including.releases height (live_of beside fence life)).inclusion }) fence life ≡ including.releases height (live_of beside fence life)
 released_live {Dir} height beside fence life = by_test (including.is_served_at height (live_of beside fence life))
   where
-    abbrev st : Live Dir
-    st = live_of beside fence life
-
-    abbrev released : Bool → Live Dir
-    released is = if is then core.with_inclusion (record st.inclusion { served = None }) st else st
-
-    by_test : (is : Bool) → live_of (record beside { inclusion = (released is).inclusion }) fence life ≡ released is
+    by_test : (is : Bool)
+        → live_of (record beside { inclusion = (if is then core.with_inclusion (record beside.inclusion { served = None }) (live_of beside fence life) else live_of beside fence life).inclusion }) fence life
+        ≡ (if is then core.with_inclusion (record beside.inclusion { served = None }) (live_of beside fence life) else live_of beside fence life)
     by_test true = refl
     by_test false = refl

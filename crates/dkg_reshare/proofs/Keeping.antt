@@ -41,6 +41,11 @@ module _ {Dir : Type 0} (logs : LogMap) where
   cached_none None apart = refl
   cached_none (Some k) apart = ap (λ (b : Bool). if b then Some (artifact_of k.1) else None) (sym (same_or k.0 logs apart))
 
+  -- of what is kept there is one
+  pub cached_there : (cache : Option (LogMap × artifact.Artifact Dir)) → IsSomeAnd cache (λ k. k.0 ≡ logs) → IsSome (including.cached_for (option_map cached_of cache) logs)
+  cached_there None is = absurd is
+  cached_there (Some k) is = ap (λ (b : Bool). is_some (if b then Some (artifact_of k.1) else None)) (subst (λ (l : LogMap). same_logs k.0 l ≡ true) is (logs_again k.0))
+
 -- A result that is kept.
 module _ (logs : LogMap) where
   pub kept_some : (kept : Option Checked) → IsSomeAnd kept (λ r. r.logs ≡ logs) → including.retained_for (option_map result_of kept) logs ≡ option_map result_of kept

@@ -49,7 +49,7 @@ pub mod Reading
 pub mod Readying
 pub mod Requesting
 pub mod Said
-pub mod Scanning
+pub mod Scans
 pub mod Seated
 pub mod Setting
 pub mod SettingUp
@@ -57,6 +57,7 @@ pub mod Shares
 pub mod Short
 pub mod Speaking
 pub mod Standing
+pub mod Staying
 pub mod Stopping
 pub mod Taking
 pub mod Telling

@@ -98,7 +98,7 @@ module _ {Dir : Type 0} (life : Life Dir) (beside : Beside Dir) (fence : Readine
   pub known_speaks : recorded ≡ true → (out : List Line) → Speaks course (went (live_of beside fence (record life { store = old }))) out out
   known_speaks is out =
       goes_speaks course (live_of beside fence (record life { store = old })) st
-      (ap (λ (r : Bool). if r then Goes {F = Fault} st else appends epoch (log_event signed.dealer height signed.log) (Goes (blocks.with_log epoch signed.dealer height signed.log st))) (recorded_is ∙ is))
+      (ap (λ (r : Bool). let its : Course Dir Fault (Live Dir) = if r then Goes st else appends epoch (log_event signed.dealer height signed.log) (Goes (blocks.with_log epoch signed.dealer height signed.log st)) in its) (recorded_is ∙ is))
       (λ i. live_of beside fence (record life { store = sym stored i })) out
 
   module _ (store : Store Dir) (kept : store ≡ record old { journal = store.journal; logs = store.logs }) where

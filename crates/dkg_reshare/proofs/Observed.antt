@@ -108,9 +108,9 @@ module _ {Dir D X : Type 0} (tells : Bool) (files : D → Files) (image : D → 
 
 -- WHETHER IT COUNTS
 
-pub counts_as : {Dir : Type 0} (c : Fixed Dir) (check_log_of : CheckLogOf) (checks : c.rules.check_log_of ≡ check_log_of) (round : Round) (signed : SignedDealerLog) (yes : Bool)
-    → yes ≡ (has round.dealers signed.dealer && check_log_of round signed) → recorded.is_accepted c round signed ≡ yes
-counts_as c check_log_of checks round signed yes is = ap (λ (check : CheckLogOf). has round.dealers signed.dealer && check round signed) checks ∙ sym is
+pub counts_as : {Dir : Type 0} (c : Fixed Dir) (check_log_of : CheckLogOf) (checks : c.rules.check_log_of ≡ check_log_of) (round : Round) (signed : SignedDealerLog) (test : Bool)
+    → test ≡ (has round.dealers signed.dealer && check_log_of round signed) → recorded.is_accepted c round signed ≡ test
+counts_as c check_log_of checks round signed test is = ap (λ (check : CheckLogOf). has round.dealers signed.dealer && check round signed) checks ∙ sym is
 
 module _ {Dir : Type 0} (c : Fixed Dir) (round : Round) (b : Block Dir) (st : Live Dir) where
   abbrev pub whole : Course Dir Fault (Live Dir)
@@ -127,8 +127,8 @@ module _ {Dir : Type 0} (c : Fixed Dir) (round : Round) (b : Block Dir) (st : Li
     abbrev clearing : Live Dir → Course Dir Fault (Live Dir)
     clearing mid = Goes (blocks.without_own_log c signed.dealer mid)
 
-    observes_as : (yes : Bool) → recorded.is_accepted c round signed ≡ yes → whole ≡ (if yes then bind recording clearing else Goes st)
-    observes_as yes counts = ap (λ (o : Option SignedDealerLog). blocks.observes c round b st o) carried ∙ ap (λ (t : Bool). if t then bind recording clearing else Goes st) counts
+    observes_as : (test : Bool) → recorded.is_accepted c round signed ≡ test → whole ≡ (if test then bind recording clearing else Goes st)
+    observes_as test counts = ap (λ (o : Option SignedDealerLog). blocks.observes c round b st o) carried ∙ ap (λ (t : Bool). if t then bind recording clearing else Goes st) counts
 
     -- it doesn't count
     pub passed_over : (end : Live Dir) → end ≡ st → recorded.is_accepted c round signed ≡ false → (out : List Line) → Speaks whole (went end) out out

@@ -20,7 +20,7 @@ use Rattle.dkg_core.specs.Setup as setup
 use Rattle.dkg_core.specs.Sources.{Tip}
 use Rattle.dkg_reshare.specs.Ends.{by_stop}
 use Rattle.dkg_reshare.specs.Given.{GivesSeed, ReadsToday}
-use Rattle.dkg_reshare.specs.LiveOf.{Beside, EndsBeside, EndsWith, live_of, scheme_by, with_scheme_of}
+use Rattle.dkg_reshare.specs.LiveOf.{Beside, EndsWith, live_of, scheme_by, with_scheme_of}
 use Rattle.dkg_reshare.specs.Made.{MakesAt, Tells}
 use Rattle.dkg_reshare.specs.Steps.{reads_seed}
 use Rattle.dkg_reshare.specs.declared.life.Life.{Life}
@@ -32,48 +32,6 @@ use Rattle.dkg_reshare.proofs.Chained.{early_makes, early_told, then_makes, then
 use Rattle.dkg_reshare.proofs.Offered.{bind_again}
 
 -- WHAT IS NOT THE LIFE'S
-
--- behind a change of what inclusion has, what a call registered
-pub with_then_beside : {Dir : Type 0} (beside : Beside Dir) {IsMid IsNow : core.Inclusion Dir → Type 0} {T : List (ℕ × SchemeInfo) → Type 0} {P Q R : Beside Dir → Type 0}
-    (first : EndsWith beside IsMid (λ more. more ≡ []) P) (j : core.Inclusion Dir) → IsNow j → ((now : Beside Dir) → R now → Q now) → EndsBeside (record first.now { inclusion = j }) T R → EndsWith beside IsNow T Q
-with_then_beside {Dir} beside {IsNow = IsNow} first j is so second = record {
-  now = second.now;
-  inclusion = subst IsNow (sym second.inclusion) is;
-  more = second.more;
-  schemes = second.schemes ∙ ap (λ (l : List (ℕ × SchemeInfo)). second.more ++ l) (first.schemes ∙ ap (λ (l : List (ℕ × SchemeInfo)). l ++ beside.orchestrator.schemes) first.took);
-  took = second.took;
-  probe = second.probe ∙ first.probe;
-  orchestrator = second.orchestrator ∙ (λ i. record (first.orchestrator i) { schemes = second.now.orchestrator.schemes });
-  holds = so second.now second.holds;
-}
-
--- .. another change of it
-pub with_then_with : {Dir : Type 0} (beside : Beside Dir) {IsMid IsNow : core.Inclusion Dir → Type 0} {T : List (ℕ × SchemeInfo) → Type 0} {P Q R : Beside Dir → Type 0}
-    (first : EndsWith beside IsMid (λ more. more ≡ []) P) → ((now : Beside Dir) → R now → Q now) → EndsWith first.now IsNow T R → EndsWith beside IsNow T Q
-with_then_with {Dir} beside first so second = record {
-  now = second.now;
-  inclusion = second.inclusion;
-  more = second.more;
-  schemes = second.schemes ∙ ap (λ (l : List (ℕ × SchemeInfo)). second.more ++ l) (first.schemes ∙ ap (λ (l : List (ℕ × SchemeInfo)). l ++ beside.orchestrator.schemes) first.took);
-  took = second.took;
-  probe = second.probe ∙ first.probe;
-  orchestrator = second.orchestrator ∙ (λ i. record (first.orchestrator i) { schemes = second.now.orchestrator.schemes });
-  holds = so second.now second.holds;
-}
-
--- what is known of it otherwise
-pub with_as : {Dir : Type 0} {beside : Beside Dir} {IsMid IsNow : core.Inclusion Dir → Type 0} {T U : List (ℕ × SchemeInfo) → Type 0} {P Q : Beside Dir → Type 0} → ((i : core.Inclusion Dir) → IsMid i → IsNow i)
-    → ((more : List (ℕ × SchemeInfo)) → T more → U more) → ((now : Beside Dir) → P now → Q now) → EndsWith beside IsMid T P → EndsWith beside IsNow U Q
-with_as known took so ends = record {
-  now = ends.now;
-  inclusion = known ends.now.inclusion ends.inclusion;
-  more = ends.more;
-  schemes = ends.schemes;
-  took = took ends.more ends.took;
-  probe = ends.probe;
-  orchestrator = ends.orchestrator;
-  holds = so ends.now ends.holds;
-}
 
 -- an info's scheme, and then what another call came to
 pub then_with : {Dir : Type 0} (beside : Beside Dir) (me : ℕ) (info : EpochInfo Dir) (share : Option ℕ) {IsNow : core.Inclusion Dir → Type 0} {T U : List (ℕ × SchemeInfo) → Type 0} {P Q : Beside Dir → Type 0}

@@ -103,7 +103,10 @@ module _ {Dir D X : Type 0} (tells : Bool) (files : D → Files) (image : D → 
       middle_is : old.midpoint ≡ midpoint n old.epoch
       middle_is = middle_at n old stage ready.placed
 
-      range_is : last n old.epoch < 2 ^ 64
+      abbrev LiesWithin : ℕ → Type 0
+      LiesWithin e = last n e < 2 ^ 64
+
+      range_is : LiesWithin old.epoch
       range_is = range_at n old stage ready.placed
 
       joins_is : IsSome old.round
@@ -125,8 +128,8 @@ module _ {Dir D X : Type 0} (tells : Bool) (files : D → Files) (image : D → 
           record {
             seated = seated_with old new ack_of terms.me (ap (λ (l : Life Dir). l.round) rest) (ap (λ (l : Life Dir). l.store) rest) (ap (λ (l : Life Dir). l.player) rest) ready.seated;
             dealing = subst (λ (k : ℕ). IsDealing deal_of check_ack_of k new) (sym mine) dealing;
-            placed = placed_behind n b.height b.digest terms.long new (ap (λ (l : Life Dir). l.tip) rest ∙ ap (λ (t : Tip). Some t) tip_is) (at ∙ sym epoch) (middle ∙ middle_is ∙ ap (midpoint n) (sym epoch)) (subst (λ (e : ℕ). last n e < 2 ^ 64) (sym epoch) range_is) (subst (λ (o : Option Round). IsSome o) (sym (ap (λ (l : Life Dir). l.round) rest)) joins_is)
-                (subst (λ (m : ℕ). b.height < m) (sym middle) early) (λ dealing. absurd (let h : ◌≡◌ {A = Stage} Including Dealing = sym is ∙ dealing in cc)) (λ including. omega (arith, end, middle));
+            placed = placed_behind n b.height b.digest terms.long new (ap (λ (l : Life Dir). l.tip) rest ∙ ap (λ (t : Tip). Some t) tip_is) (at ∙ sym epoch) (middle ∙ middle_is ∙ ap (midpoint n) (sym epoch)) (subst LiesWithin (sym epoch) range_is) (subst (λ (o : Option Round). IsSome o) (sym (ap (λ (l : Life Dir). l.round) rest)) joins_is)
+                (subst (λ (m : ℕ). b.height < m) (sym middle) early) (λ deals. absurd (let at : new.stage ≡ Including = is in let h : ◌≡◌ {A = Stage} Including Dealing = sym at ∙ deals in cc)) (λ including. omega (arith, end, middle));
             within = subst (λ (o : Option Round). IsWithin (non_zero_u32_get terms.limit) o) (sym (ap (λ (l : Life Dir). l.round) rest)) ready.within;
             firm = λ told. subst (λ (s : Store Dir). IsFirm s.journal (files devices.disk.now) (image devices.disk.now)) (sym (ap (λ (l : Life Dir). l.store) rest)) (ready.firm told);
           }

@@ -8,7 +8,9 @@ use Rattle.std.proofs.lemmas.Bool.Decides.{nat_tests}
 use Rattle.std.proofs.lemmas.List.Elements.{Contains-append_right}
 use Rattle.std.proofs.lemmas.Map.Made.{Contains-tail}
 use Rattle.dkg_values.specs.Rising.{lookup}
+use Rattle.dkg_ceremony.specs.Outcomes.{LogMap}
 use Rattle.dkg_ceremony.specs.declared.signed_log.SignedDealerLog.{SignedDealerLog}
+use Rattle.dkg_artifact.specs.declared.artifact.Artifact as artifact
 use Rattle.dkg_fence.specs.Readiness.{Readiness}
 use Rattle.dkg_journal.specs.Burn.{Burn}
 use Rattle.dkg_types.specs.PayloadCodes.{log_payload, payload_spelling}
@@ -28,13 +30,15 @@ use Rattle.dkg_core.specs.Live as core
 use Rattle.dkg_core.specs.Live.{Live}
 use Rattle.dkg_reshare.specs.declared.inclusion.Inclusion.{Inclusion}
 use Rattle.dkg_reshare.specs.declared.life.Life.{Life}
+use Rattle.dkg_reshare.specs.declared.life.Stage as declared
+use Rattle.dkg_reshare.specs.declared.life.Stage.TheVariants as stage
 use Rattle.dkg_reshare.specs.declared.stop.Stop.{Stop}
 use Rattle.dkg_reshare.specs.declared.stop.Stop.TheVariants.{Fault as Faulted}
 use Rattle.dkg_reshare.specs.declared.told.Told.{Told}
 use Rattle.dkg_reshare.specs.declared.told.Told.TheVariants as told
 use Rattle.dkg_reshare.specs.Ends.{by_stop}
-use Rattle.dkg_reshare.specs.InclusionOf.{IsSeen, kept_of}
-use Rattle.dkg_reshare.specs.LiveOf.{Beside, EndsWith, live_of}
+use Rattle.dkg_reshare.specs.InclusionOf.{IsSeen, cached_of, kept_of}
+use Rattle.dkg_reshare.specs.LiveOf.{Beside, EndsWith, live_of, stage_of}
 use Rattle.dkg_reshare.specs.Made.{Speaks}
 use Rattle.dkg_reshare.proofs.Speaking.{says_speaks, wants_speaks}
 
@@ -117,6 +121,20 @@ seen_served its i here there same seen = record {
   used = seen.used;
 }
 
+-- .. with this cache
+pub seen_cached : {C Dir Signer Cfg : Type 0} (its : Inclusion C Dir Signer Cfg) (i : core.Inclusion Dir) (cache : Option (LogMap × artifact.Artifact Dir)) → IsSeen its i
+    → IsSeen (record its { cache = cache }) (record i { cached = option_map cached_of cache })
+seen_cached its i cache seen = record {
+  served = seen.served;
+  queue = seen.queue;
+  running = seen.running;
+  waiter = seen.waiter;
+  retained = seen.retained;
+  cached = refl;
+  told = seen.told;
+  used = seen.used;
+}
+
 -- WHAT IT BECAME
 
 module _ {Dir : Type 0} (beside : Beside Dir) {IsNow : core.Inclusion Dir → Type 0} {TookThese : List (ℕ × SchemeInfo) → Type 0} {P : Beside Dir → Type 0} where
@@ -134,8 +152,8 @@ module _ {Dir S : Type 0} (course : Course Dir Fault S) (line : Line) (its : S) 
   said_wants stop ends out now told =
       subst (λ (s : Stop). Speaks course (by_stop {S = S} s) out now) (sym ends)
       (subst (λ (x : Course Dir Fault S). Speaks x (broken by_want) out now) (sym is)
-      (subst (λ (l : List Line). Speaks {Dir = Dir} (Say line (Goes its)) (broken by_want) out l) (sym told)
-      (λ h f. inr (breaks_none by_want tt (acts_of.Goes its) (record { out = out ++ line ∷ []; held = h; fuse = f })))))
+      (subst (λ (l : List Line). Speaks {Dir = Dir} {F = Fault} (Say line (Goes its)) (broken by_want) out l) (sym told)
+      (λ h f. inr (breaks_none {F = Fault} by_want tt (acts_of.Goes its) (record { out = out ++ line ∷ []; held = h; fuse = f })))))
 
 -- THE OWN LOG IS SERVED
 
@@ -166,7 +184,7 @@ module _ {C Dir Signer Cfg : Type 0} (c : Fixed Dir) (spelling : Dir → List �
 
     gives_as : (o : Option SignedDealerLog) → including.gives_log c request height o (core.with_used request st) ≡ Say (line_of o) (Goes (record st { inclusion = given o }))
     gives_as None = refl
-    gives_as (Some log) = ap (λ (line : Line). Say line (Goes {F = Fault} (record st { inclusion = given (Some log) }))) (sym (lines_alike (Some log)))
+    gives_as (Some log) = ap (λ (line : Line). let its : Course Dir Fault (Live Dir) = Say line (Goes (record st { inclusion = given (Some log) })) in its) (sym (lines_alike (Some log)))
 
     seen_given : (o : Option SignedDealerLog) → IsSeen (record its { served = served_by o its.served; told = insert its.told request (told.Log (payload_in o)) }) (given o)
     seen_given o =
@@ -208,3 +226,53 @@ module _ {C Dir Signer Cfg : Type 0} (height : ℕ) (beside : Beside Dir) (fence
       alike : (is : Bool) → IsSeen (record its { served = (if is then None else its.served) }) (taken_back is)
       alike true = seen_served its beside.inclusion None None refl seen
       alike false = seen_served its beside.inclusion its.served beside.inclusion.served seen.served seen
+
+-- WHAT IS OFFERED
+
+module _ {Dir : Type 0} (beside : Beside Dir) (fence : Readiness) (life : Life Dir) where
+  abbrev offer_in : core.Stage → Option ℕ → Option (Payload Dir)
+  offer_in stage served = option_map log_payload (including.served_now_in (live_of beside fence life) stage served)
+
+  none_served : (stage : core.Stage) (served : Option ℕ) → is_some served ≡ true → ◌≡◌ {A = Option (Payload Dir)} None (offer_in stage served)
+  none_served stage None is = absurd cc
+  none_served core.Deals (Some height) is = refl
+  none_served core.Includes (Some height) is = refl
+  none_served core.Follows (Some height) is = refl
+  none_served core.Ends (Some height) is = refl
+
+  -- it is served already
+  pub served_offers : (served : Option ℕ) → beside.inclusion.served ≡ served → is_some served ≡ true → ◌≡◌ {A = Option (Payload Dir)} None (option_map log_payload (including.served_now (live_of beside fence life)))
+  served_offers served same is = none_served (stage_of life.stage) beside.inclusion.served (ap (λ (o : Option ℕ). is_some o) same ∙ is)
+
+  -- another stage
+  pub apart_offers : (its : declared.Stage) → life.stage ≡ its → (its ≡ stage.Including → ⊥) → ◌≡◌ {A = Option (Payload Dir)} None (option_map log_payload (including.served_now (live_of beside fence life)))
+  apart_offers stage.Dealing is apart = dealing ∙ ap (λ (s : declared.Stage). offer_in (stage_of s) beside.inclusion.served) (sym is)
+    where
+      dealing : ◌≡◌ {A = Option (Payload Dir)} None (offer_in core.Deals beside.inclusion.served)
+      dealing = refl
+  apart_offers stage.Following is apart = following ∙ ap (λ (s : declared.Stage). offer_in (stage_of s) beside.inclusion.served) (sym is)
+    where
+      following : ◌≡◌ {A = Option (Payload Dir)} None (offer_in core.Follows beside.inclusion.served)
+      following = refl
+  apart_offers stage.Including is apart = absurd (apart refl)
+
+  -- its own
+  pub own_offers : life.stage ≡ stage.Including → (served : Option ℕ) → beside.inclusion.served ≡ served → is_some served ≡ false → (own : Option SignedDealerLog) → own ≡ including.own_log (live_of beside fence life)
+      → ◌≡◌ {A = Option (Payload Dir)} (option_map log_payload own) (option_map log_payload (including.served_now (live_of beside fence life)))
+  own_offers is served same none own owns =
+      ap (λ (o : Option SignedDealerLog). option_map (log_payload {Dir = Dir}) o) owns
+      ∙ ap (offer_in core.Includes) (sym (not_some served none) ∙ sym same)
+      ∙ ap (λ (s : declared.Stage). offer_in (stage_of s) beside.inclusion.served) (sym is)
+    where
+      not_some : (o : Option ℕ) → is_some o ≡ false → o ≡ None
+      not_some None is = refl
+      not_some (Some x) is = absurd cc
+
+  -- WHETHER IT IS SERVED FOR A HEIGHT
+
+  abbrev test_in : ℕ → core.Stage → Option ℕ → Bool
+  test_in height stage served = including.is_served_at_in height (live_of beside fence life) stage served
+
+  pub tested_in : (height : ℕ) (served : Option ℕ) → beside.inclusion.served ≡ served → (result : Bool) (its : declared.Stage) → life.stage ≡ its → result ≡ test_in height (stage_of its) served
+      → result ≡ including.is_served_at height (live_of beside fence life)
+  tested_in height served same result its is tests = tests ∙ (λ i. test_in height (stage_of (sym is i)) (sym same i))

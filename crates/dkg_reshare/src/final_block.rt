@@ -91,14 +91,8 @@ fn verify_now<C: Ceremony + Drop, Dir: Directory + Drop>(
     let Some(round) = &life.round else {
         unreachable!();
     };
-    let job = job_for(
-        alloc,
-        ceremony,
-        terms.me,
-        &life.store,
-        round,
-        logs.copy(alloc)?,
-    )?;
+    let copied = logs.copy(alloc)?;
+    let job = job_for(alloc, ceremony, terms.me, &life.store, round, copied)?;
     let verified = verify(alloc, ceremony, job)?;
     Ok(retain(alloc, life, inclusion, verified)?)
 }
@@ -194,7 +188,8 @@ fn derive_now<
         &mut inclusion.cache,
         ready,
     )?;
-    match kept_for(alloc, &inclusion.cache, logs)? {
+    let kept = kept_for(alloc, &inclusion.cache, logs)?;
+    match kept {
         Some(artifact) => Ok(artifact),
         None => unreachable!(),
     }
@@ -256,7 +251,8 @@ fn artifact_by<
     if let Some(artifact) = before {
         return Ok(artifact);
     }
-    if let Some(artifact) = kept_for(alloc, &inclusion.cache, logs)? {
+    let kept = kept_for(alloc, &inclusion.cache, logs)?;
+    if let Some(artifact) = kept {
         return Ok(artifact);
     }
     derive_now(
@@ -376,10 +372,8 @@ fn answer_all<C: Ceremony, Dir: Directory + Drop>(
         out.old.entries out.new.entries) }
     ensures memory { IfErr result (λ stop. stop ≡ Faulted OutOfMemory) }
 {
-    for _ in 0..inclusion.requests.len() {
-        if let Some(request) = inclusion.requests.pop() {
-            answer_none(&mut inclusion.told, request.number, Why::Finished, out)?;
-        }
+    while let Some(request) = inclusion.requests.pop() {
+        answer_none(&mut inclusion.told, request.number, Why::Finished, out)?;
     }
     Ok(())
 }

@@ -154,7 +154,8 @@ pub(crate) fn observe<C: Ceremony, Dir: Directory + Drop, D: Disk, X: SecretStor
     let Some(signed) = log_in(block) else {
         return Ok(());
     };
-    if !is_accepted(alloc, ceremony, round, signed)? {
+    let counts = is_accepted(alloc, ceremony, round, signed)?;
+    if !counts {
         return Ok(());
     }
     let epoch = Epoch(round.parts().number);
@@ -181,10 +182,7 @@ fn own_log<Dir: Directory + Drop>(life: &Life<Dir>) -> Option<&SignedDealerLog>
 }
 
 /// A copy of a log as a block carries it, if there is one.
-fn log_of<Dir: Directory>(
-    alloc: Global,
-    log: Option<&SignedDealerLog>,
-) -> Mem<Option<Payload<Dir>>>
+fn log_of<Dir: Directory>(alloc: Global, log: Option<&SignedDealerLog>) -> Mem<Option<Payload<Dir>>>
     ensures { IfOk result (λ made. made ≡ option_map log_payload (option_copied log)) }
 {
     match log {
@@ -199,8 +197,9 @@ fn offered<C: Ceremony, Dir: Directory + Drop>(
     life: &Life<Dir>,
     inclusion: &Inclusion<C, Dir>,
 ) -> Mem<Option<Payload<Dir>>>
-    ensures { IfOk result (λ made. (beside : Beside Dir) (fence : Readiness) → IsSeen inclusion.now beside.inclusion
+    ensures made { IfOk result (λ made. (beside : Beside Dir) (fence : Readiness) → IsSeen inclusion.now beside.inclusion
         → made ≡ option_map log_payload (including.served_now (live_of beside fence life.now))) }
+    ensures includes { IfOk result (λ made. (life.now.stage ≡ Including → ⊥) → made ≡ None) }
 {
     if inclusion.served.is_some() {
         return Ok(None);
@@ -236,9 +235,10 @@ pub(crate) fn serve<C: Ceremony, Dir: Directory + Drop>(
         payload: line,
     })?;
     told_as(&mut inclusion.told, request, Told::Log(payload))?;
-    if serves {
-        inclusion.served = Some(height);
+    if !serves {
+        return Ok(());
     }
+    inclusion.served = Some(height);
     Ok(())
 }
 
@@ -271,9 +271,10 @@ pub(crate) fn release<C: Ceremony, Dir: Directory + Drop>(
     ensures rest { inclusion.new ≡ record inclusion.old { served = inclusion.new.served } }
     ensures unserved { (life.now.stage ≡ Including → ⊥) → inclusion.new.served ≡ inclusion.old.served }
 {
-    if is_served_at(life, inclusion.served, height) {
-        inclusion.served = None;
+    if !is_served_at(life, inclusion.served, height) {
+        return;
     }
+    inclusion.served = None;
 }
 
 /// Takes a log back that was served for this height or one below (`unserved`).

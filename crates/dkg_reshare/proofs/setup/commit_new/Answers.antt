@@ -37,4 +37,4 @@ pub returns-in-WasCommitted-clause-current : goal.returns-in-WasCommitted-clause
 returns-in-WasCommitted-clause-current g c = λ known. known c.in-WasCommitted.is
 
 pub returns-in-Uncommitted-clause-current : goal.returns-in-Uncommitted-clause-current
-returns-in-Uncommitted-clause-current g c = then_well c.commit_and_register.result (λ is known. subst (λ (o : Option (EpochInfo g.row.Dir.Denot)). IsSome o) (sym is) tt) c.commit_and_register.ensures.current
+returns-in-Uncommitted-clause-current g c = then_well c.commit_and_register.result (λ is known. subst (λ (o : Option (EpochInfo g.row.Dir.Denot)). IsSome o) (sym is) refl) c.commit_and_register.ensures.current

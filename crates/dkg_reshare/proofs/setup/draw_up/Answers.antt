@@ -73,7 +73,7 @@ returns-clause-sits g c =
     (subst (λ (l : Life g.row.Dir.Denot). IsWithin (non_zero_u32_get c.args.terms.now.limit) l.round) (sym c.begin_stage.ensures.rest)
     (few_players c.args.life.now.epoch (non_zero_u32_get c.args.terms.now.limit) c.args.info.now c.requires.valid round.players
     (players_of _ _ (g.met.C.Ceremony.round_has c.args.terms.now.namespace c.args.life.now.epoch (Some c.args.info.now.output) c.args.terms.now.mode c.args.terms.now.reveal c.args.info.now.output.players c.args.info.now.players) round c.in_ok-round.ensures.ok)))
-    (subst (λ (l : Life g.row.Dir.Denot). IsSome l.round) (sym c.begin_stage.ensures.rest) tt)
+    (subst (λ (l : Life g.row.Dir.Denot). IsSome l.round) (sym c.begin_stage.ensures.rest) refl)
     c.begin_stage.ensures.stage
 
 pub returns-in_err-round-clause-causes : goal.returns-in_err-round-clause-causes

@@ -55,7 +55,7 @@ pub returns-clause-fit : goal.returns-clause-fit
 returns-clause-fit g c = λ told. (c.set_up_by.ensures.above told).fit (non_zero_u32_get c.args.terms.now.limit)
 
 pub set_up_by-requires-clause-known : goal.set_up_by-requires-clause-known
-set_up_by-requires-clause-known g c = λ was. subst (λ (o : Option (EpochInfo g.row.Dir.Denot)). IsSome o) (sym (ap (λ (l : Life g.row.Dir.Denot). l.store.current) c.in_ok-bounds.ensures.begun ∙ c.requires.current)) tt
+set_up_by-requires-clause-known g c = λ was. subst (λ (o : Option (EpochInfo g.row.Dir.Denot)). IsSome o) (sym (ap (λ (l : Life g.row.Dir.Denot). l.store.current) c.in_ok-bounds.ensures.begun ∙ c.requires.current)) refl
 
 pub returns-clause-current : goal.returns-clause-current
 returns-clause-current g c = c.set_up_by.ensures.current

@@ -1,0 +1,112 @@
+use Rattle.std.proofs.Common.{◌≡◌, None, Some, ap, refl, sym, ◌∙◌}
+use Rattle.std.specs.Prelude.{option_map}
+use Rattle.std.proofs.lemmas.Result.{err_from_is_err_and}
+use Rattle.dkg_reshare.specs.Including.{derives_by}
+use Rattle.dkg_reshare.specs.InclusionOf.{artifact_of}
+use Rattle.dkg_reshare.specs.LiveOf.{live_of}
+use Rattle.dkg_reshare.proofs.Beginning.{makes_as, tells_as}
+use Rattle.dkg_reshare.proofs.Concluding.{by_before, by_cache, by_neither, goes_makes, goes_tells, wants_makes}
+use Rattle.dkg_reshare.proofs.Kept.{moved_none}
+use Rattle.dkg_reshare.proofs.Said.{speaks_tells}
+use Rattle.dkg_reshare.proofs.Speaking.{wants_speaks}
+use Rattle.dkg_reshare.proofs.Telling.{ends_beside}
+use Rattle.dkg_reshare.proofs.Within.{within_as}
+use Rattle.dkg_reshare.proofs.final_block.artifact_by.Goals as goal
+
+-- IT WAS CACHED BEFORE
+
+pub returns-in-Some-clause-acts : goal.returns-in-Some-clause-acts
+returns-in-Some-clause-acts g c = λ disk secrets provided fixed round beside fence out of reads by provides has seen.
+    let st = live_of beside fence c.args.life.now in
+    ends_beside beside seen refl (goes_makes (derives_by fixed round c.args.logs.now (option_map artifact_of c.args.before) st) (artifact_of c.in-Some.artifact, st) (by_before fixed round c.args.logs.now st c.args.before c.in-Some.artifact c.in-Some.is) _ _ _)
+
+pub returns-in-Some-clause-tells : goal.returns-in-Some-clause-tells
+returns-in-Some-clause-tells g c = λ provided fixed round beside fence out of reads by provides has seen.
+    let st = live_of beside fence c.args.life.now in
+    ends_beside beside seen refl (goes_tells (derives_by fixed round c.args.logs.now (option_map artifact_of c.args.before) st) (artifact_of c.in-Some.artifact, st) (by_before fixed round c.args.logs.now st c.args.before c.in-Some.artifact c.in-Some.is) out)
+
+pub returns-in-Some-clause-moved : goal.returns-in-Some-clause-moved
+returns-in-Some-clause-moved g c = moved_none g.D.Disk.tells g.D.Disk.made g.X.SecretStore.made g.D.Disk.faults g.X.SecretStore.faults g.met.D.Disk.made_none g.met.X.SecretStore.made_none c.args.devices.now
+
+pub returns-in-Some-clause-provider : goal.returns-in-Some-clause-provider
+returns-in-Some-clause-provider g c = λ told. (λ epoch. refl, λ epoch peers. refl)
+
+pub returns-in-Some-clause-idle : goal.returns-in-Some-clause-idle
+returns-in-Some-clause-idle g c = c.requires.idle
+
+-- NO COPY
+
+pub returns-in_err-kept-clause-acts : goal.returns-in_err-kept-clause-acts
+returns-in_err-kept-clause-acts g c = λ disk secrets provided fixed round beside fence out of reads by provides has seen.
+    let p = err_from_is_err_and c.from_residual.result c.from_residual.ensures.1 in
+    rw (p.1, p.2) (ends_beside beside tt refl (wants_makes (derives_by fixed round c.args.logs.now (option_map artifact_of c.args.before) (live_of beside fence c.args.life.now)) _ refl _ _ _))
+
+pub returns-in_err-kept-clause-tells : goal.returns-in_err-kept-clause-tells
+returns-in_err-kept-clause-tells g c = λ provided fixed round beside fence out of reads by provides has seen.
+    let p = err_from_is_err_and c.from_residual.result c.from_residual.ensures.1 in
+    let course = derives_by fixed round c.args.logs.now (option_map artifact_of c.args.before) (live_of beside fence c.args.life.now) in
+    rw (p.1, p.2) (ends_beside beside tt refl (speaks_tells course _ (wants_speaks course _ refl out out refl)))
+
+pub returns-in_err-kept-clause-moved : goal.returns-in_err-kept-clause-moved
+returns-in_err-kept-clause-moved g c = moved_none g.D.Disk.tells g.D.Disk.made g.X.SecretStore.made g.D.Disk.faults g.X.SecretStore.faults g.met.D.Disk.made_none g.met.X.SecretStore.made_none c.args.devices.now
+
+pub returns-in_err-kept-clause-provider : goal.returns-in_err-kept-clause-provider
+returns-in_err-kept-clause-provider g c = λ told. (λ epoch. refl, λ epoch peers. refl)
+
+-- IT IS CACHED NOW
+
+pub returns-in-Some-2-clause-acts : goal.returns-in-Some-2-clause-acts
+returns-in-Some-2-clause-acts g c = λ disk secrets provided fixed round beside fence out of reads by provides has seen.
+    let st = live_of beside fence c.args.life.now in
+    ends_beside beside seen refl (goes_makes (derives_by fixed round c.args.logs.now (option_map artifact_of c.args.before) st) (artifact_of c.in-Some-2.artifact, st)
+    (by_cache fixed round c.args.logs.now st c.args.before c.in_default.is c.args.inclusion.now.cache seen.cached c.in_ok-kept.kept c.in_ok-kept.ensures c.in-Some-2.artifact c.in-Some-2.is) _ _ _)
+
+pub returns-in-Some-2-clause-tells : goal.returns-in-Some-2-clause-tells
+returns-in-Some-2-clause-tells g c = λ provided fixed round beside fence out of reads by provides has seen.
+    let st = live_of beside fence c.args.life.now in
+    ends_beside beside seen refl (goes_tells (derives_by fixed round c.args.logs.now (option_map artifact_of c.args.before) st) (artifact_of c.in-Some-2.artifact, st)
+    (by_cache fixed round c.args.logs.now st c.args.before c.in_default.is c.args.inclusion.now.cache seen.cached c.in_ok-kept.kept c.in_ok-kept.ensures c.in-Some-2.artifact c.in-Some-2.is) out)
+
+pub returns-in-Some-2-clause-moved : goal.returns-in-Some-2-clause-moved
+returns-in-Some-2-clause-moved g c = moved_none g.D.Disk.tells g.D.Disk.made g.X.SecretStore.made g.D.Disk.faults g.X.SecretStore.faults g.met.D.Disk.made_none g.met.X.SecretStore.made_none c.args.devices.now
+
+pub returns-in-Some-2-clause-provider : goal.returns-in-Some-2-clause-provider
+returns-in-Some-2-clause-provider g c = λ told. (λ epoch. refl, λ epoch peers. refl)
+
+pub returns-in-Some-2-clause-idle : goal.returns-in-Some-2-clause-idle
+returns-in-Some-2-clause-idle g c = c.requires.idle
+
+-- IT IS DERIVED
+
+pub derive_now-requires : goal.derive_now-requires
+derive_now-requires g c = record {
+  ready = c.requires.ready;
+  current = c.requires.current;
+  includes = c.requires.includes;
+  canonical = c.requires.canonical;
+  idle = c.requires.idle;
+}
+
+pub returns-clause-acts : goal.returns-clause-acts
+returns-clause-acts g c = λ disk secrets provided fixed round beside fence out of reads by provides has seen.
+    within_as (λ i known. known)
+    (λ now known made. makes_as (by_neither fixed round c.args.logs.now (live_of beside fence c.args.life.now) c.args.before c.in_default.is c.args.inclusion.now.cache seen.cached c.in_ok-kept.kept c.in_ok-kept.ensures c.in_default-2.is) _ made)
+    (c.derive_now.ensures.acts disk secrets provided fixed round beside fence out of reads by provides has seen)
+
+pub returns-clause-tells : goal.returns-clause-tells
+returns-clause-tells g c = λ provided fixed round beside fence out of reads by provides has seen.
+    within_as (λ i known. known)
+    (λ now known told. tells_as (by_neither fixed round c.args.logs.now (live_of beside fence c.args.life.now) c.args.before c.in_default.is c.args.inclusion.now.cache seen.cached c.in_ok-kept.kept c.in_ok-kept.ensures c.in_default-2.is) _ told)
+    (c.derive_now.ensures.tells provided fixed round beside fence out of reads by provides has seen)
+
+pub returns-clause-moved : goal.returns-clause-moved
+returns-clause-moved g c = c.derive_now.ensures.moved
+
+pub returns-clause-causes : goal.returns-clause-causes
+returns-clause-causes g c = c.derive_now.ensures.causes
+
+pub returns-clause-provider : goal.returns-clause-provider
+returns-clause-provider g c = c.derive_now.ensures.provider
+
+pub returns-clause-rest : goal.returns-clause-rest
+returns-clause-rest g c = c.derive_now.ensures.rest

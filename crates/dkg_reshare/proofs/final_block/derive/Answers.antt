@@ -1,0 +1,158 @@
+use Rattle.std.proofs.Common.{◌≡◌, None, Some, ap, refl, sym, subst, ◌∙◌}
+use Rattle.std.specs.Prelude.{IsSome, option_map}
+use Rattle.std.specs.Int.NonZero.{non_zero_u64_get}
+use Rattle.std.proofs.lemmas.Result.{err_from_is_err_and}
+use Rattle.dkg_core.specs.Including as including
+use Rattle.dkg_reshare.specs.Including.{derives_by, derives_final}
+use Rattle.dkg_reshare.specs.InclusionOf.{artifact_of}
+use Rattle.dkg_reshare.specs.LiveOf.{live_of}
+use Rattle.dkg_reshare.specs.declared.life.Life.{Life}
+use Rattle.dkg_reshare.proofs.Beginning.{makes_as, tells_as}
+use Rattle.dkg_reshare.proofs.Beside.{then_well, with_then}
+use Rattle.dkg_reshare.proofs.Blamed.{blamed_behind}
+use Rattle.dkg_reshare.proofs.Caching.{same_provided}
+use Rattle.dkg_reshare.proofs.Concluding.{derived_ready, final_as, middle_in, not_following, provides_then, wants_makes}
+use Rattle.dkg_reshare.proofs.Kept.{moved_none, moved_then}
+use Rattle.dkg_reshare.proofs.Said.{speaks_tells}
+use Rattle.dkg_reshare.proofs.Speaking.{wants_speaks}
+use Rattle.dkg_reshare.proofs.Telling.{ends_beside}
+use Rattle.dkg_reshare.proofs.Within.{bound_early, bound_makes, bound_tells, bound_unsaid, within_as}
+use Rattle.dkg_reshare.proofs.final_block.derive.Goals as goal
+
+-- NO MEMORY
+
+pub returns-in_err-logs-clause-acts : goal.returns-in_err-logs-clause-acts
+returns-in_err-logs-clause-acts g c = λ disk secrets provided fixed round beside fence of reads by provides has seen.
+    let p = err_from_is_err_and c.from_residual.result c.from_residual.ensures.1 in
+    rw (p.1, p.2) (ends_beside beside tt refl (wants_makes (derives_final fixed round (live_of beside fence c.args.life.now)) _ refl _ _ _))
+
+pub returns-in_err-logs-clause-tells : goal.returns-in_err-logs-clause-tells
+returns-in_err-logs-clause-tells g c = λ provided fixed round beside fence of reads by provides has seen.
+    let p = err_from_is_err_and c.from_residual.result c.from_residual.ensures.1 in
+    let course = derives_final fixed round (live_of beside fence c.args.life.now) in
+    rw (p.1, p.2) (ends_beside beside tt refl (speaks_tells course _ (wants_speaks course _ refl _ _ refl)))
+
+pub returns-in_err-logs-clause-moved : goal.returns-in_err-logs-clause-moved
+returns-in_err-logs-clause-moved g c = moved_none g.D.Disk.tells g.D.Disk.made g.X.SecretStore.made g.D.Disk.faults g.X.SecretStore.faults g.met.D.Disk.made_none g.met.X.SecretStore.made_none c.args.devices.now
+
+pub returns-in_err-logs-clause-provider : goal.returns-in_err-logs-clause-provider
+returns-in_err-logs-clause-provider g c = λ told. (λ epoch. refl, λ epoch peers. refl)
+
+pub returns-in_err-before-clause-acts : goal.returns-in_err-before-clause-acts
+returns-in_err-before-clause-acts g c = λ disk secrets provided fixed round beside fence of reads by provides has seen.
+    let p = err_from_is_err_and c.from_residual-in_err-before.result c.from_residual-in_err-before.ensures.1 in
+    rw (p.1, p.2) (ends_beside beside tt refl (wants_makes (derives_final fixed round (live_of beside fence c.args.life.now)) _ refl _ _ _))
+
+pub returns-in_err-before-clause-tells : goal.returns-in_err-before-clause-tells
+returns-in_err-before-clause-tells g c = λ provided fixed round beside fence of reads by provides has seen.
+    let p = err_from_is_err_and c.from_residual-in_err-before.result c.from_residual-in_err-before.ensures.1 in
+    let course = derives_final fixed round (live_of beside fence c.args.life.now) in
+    rw (p.1, p.2) (ends_beside beside tt refl (speaks_tells course _ (wants_speaks course _ refl _ _ refl)))
+
+pub returns-in_err-before-clause-moved : goal.returns-in_err-before-clause-moved
+returns-in_err-before-clause-moved g c = moved_none g.D.Disk.tells g.D.Disk.made g.X.SecretStore.made g.D.Disk.faults g.X.SecretStore.faults g.met.D.Disk.made_none g.met.X.SecretStore.made_none c.args.devices.now
+
+pub returns-in_err-before-clause-provider : goal.returns-in_err-before-clause-provider
+returns-in_err-before-clause-provider g c = λ told. (λ epoch. refl, λ epoch peers. refl)
+
+-- THE VERIFICATION DOESN'T END
+
+pub end_verifying-requires : goal.end_verifying-requires
+end_verifying-requires g c = record { ready = c.requires.ready; including = c.requires.including }
+
+pub returns-in_err-end_verifying-clause-acts : goal.returns-in_err-end_verifying-clause-acts
+returns-in_err-end_verifying-clause-acts g c = λ disk secrets provided fixed round beside fence of reads by provides has seen.
+    let p = err_from_is_err_and c.from_residual-in_err-end_verifying.result c.from_residual-in_err-end_verifying.ensures.1 in
+    let st = live_of beside fence c.args.life.now in
+    let middle = middle_in (non_zero_u64_get c.args.terms.now.blocks_per_epoch) c.args.life.now c.requires.includes c.requires.ready.placed fixed of.blocks in
+    rw (p.1, p.2) (within_as (λ i known. tt)
+    (λ now known made. makes_as (final_as fixed round st c.in_ok-logs.logs (c.in_ok-logs.ensures.canonical fixed beside fence middle) c.args.inclusion.now.cache seen.cached c.in_ok-before.before c.in_ok-before.ensures) _
+    (bound_early g.D.Disk.files g.D.Disk.image g.X.SecretStore.held (including.ends_verifying fixed None st) (λ s. derives_by fixed round c.in_ok-logs.logs (option_map artifact_of c.in_ok-before.before) s) c.in_err-end_verifying.field-0.0 made))
+    (c.in_err-end_verifying.ensures.acts disk secrets provided fixed beside fence of reads by provides seen))
+
+pub returns-in_err-end_verifying-clause-tells : goal.returns-in_err-end_verifying-clause-tells
+returns-in_err-end_verifying-clause-tells g c = λ provided fixed round beside fence of reads by provides has seen.
+    let p = err_from_is_err_and c.from_residual-in_err-end_verifying.result c.from_residual-in_err-end_verifying.ensures.1 in
+    let st = live_of beside fence c.args.life.now in
+    let middle = middle_in (non_zero_u64_get c.args.terms.now.blocks_per_epoch) c.args.life.now c.requires.includes c.requires.ready.placed fixed of.blocks in
+    rw (p.1, p.2) (within_as (λ i known. tt)
+    (λ now known told. tells_as (final_as fixed round st c.in_ok-logs.logs (c.in_ok-logs.ensures.canonical fixed beside fence middle) c.args.inclusion.now.cache seen.cached c.in_ok-before.before c.in_ok-before.ensures) _
+    (bound_unsaid (including.ends_verifying fixed None st) (λ s. derives_by fixed round c.in_ok-logs.logs (option_map artifact_of c.in_ok-before.before) s) c.in_err-end_verifying.field-0.0 told))
+    (c.in_err-end_verifying.ensures.tells provided fixed beside fence of reads by provides seen))
+
+pub returns-in_err-end_verifying-clause-moved : goal.returns-in_err-end_verifying-clause-moved
+returns-in_err-end_verifying-clause-moved g c = c.end_verifying.ensures.moved
+
+pub returns-in_err-end_verifying-clause-causes : goal.returns-in_err-end_verifying-clause-causes
+returns-in_err-end_verifying-clause-causes g c =
+    let p = err_from_is_err_and c.from_residual-in_err-end_verifying.result c.from_residual-in_err-end_verifying.ensures.1 in
+    rw (p.1, p.2) c.in_err-end_verifying.ensures.causes
+
+pub returns-in_err-end_verifying-clause-provider : goal.returns-in_err-end_verifying-clause-provider
+returns-in_err-end_verifying-clause-provider g c = c.end_verifying.ensures.provider
+
+pub returns-in_err-end_verifying-clause-hand : goal.returns-in_err-end_verifying-clause-hand
+returns-in_err-end_verifying-clause-hand g c = ap (λ its. its.hand) c.end_verifying.ensures.rest
+
+-- IT ENDS, and the artifact is derived
+
+pub artifact_by-requires : goal.artifact_by-requires
+artifact_by-requires g c = record {
+  ready = c.in_ok-end_verifying.ensures.ready;
+  current = subst (λ (l : Life g.row.Dir.Denot). IsSome l.store.current) (sym c.end_verifying.ensures.same) (c.requires.including.current (not_following (non_zero_u64_get c.args.terms.now.blocks_per_epoch) c.args.life.now c.requires.includes c.requires.ready.placed));
+  includes = ap (λ (l : Life g.row.Dir.Denot). l.stage) c.end_verifying.ensures.same ∙ c.requires.includes;
+  canonical = rw c.end_verifying.ensures.same c.in_ok-logs.ensures.reached;
+  idle = c.in_ok-end_verifying.ensures.idle;
+}
+
+pub returns-clause-acts : goal.returns-clause-acts
+returns-clause-acts g c = λ disk secrets provided fixed round beside fence of reads by provides has seen.
+    let st = live_of beside fence c.args.life.now in
+    let middle = middle_in (non_zero_u64_get c.args.terms.now.blocks_per_epoch) c.args.life.now c.requires.includes c.requires.ready.placed fixed of.blocks in
+    with_then beside (c.in_ok-end_verifying.ensures.acts disk secrets provided fixed beside fence of reads by provides seen)
+    (λ mid known ended. within_as (λ i seen. seen)
+    (λ now then made. makes_as (final_as fixed round st c.in_ok-logs.logs (c.in_ok-logs.ensures.canonical fixed beside fence middle) c.args.inclusion.now.cache seen.cached c.in_ok-before.before c.in_ok-before.ensures) _
+    (bound_makes g.D.Disk.files g.D.Disk.image g.X.SecretStore.held (including.ends_verifying fixed None st) (λ s. derives_by fixed round c.in_ok-logs.logs (option_map artifact_of c.in_ok-before.before) s)
+    (live_of mid fence c.end_verifying.new.life) _ ended made))
+    (c.artifact_by.ensures.acts disk secrets provided fixed round mid fence c.end_verifying.new.out.entries of reads by (provides_then fixed (c.end_verifying.ensures.provider provided) provides)
+    (ap (λ (l : Life g.row.Dir.Denot). l.round) c.end_verifying.ensures.same ∙ has) known))
+
+pub returns-clause-tells : goal.returns-clause-tells
+returns-clause-tells g c = λ provided fixed round beside fence of reads by provides has seen.
+    let st = live_of beside fence c.args.life.now in
+    let middle = middle_in (non_zero_u64_get c.args.terms.now.blocks_per_epoch) c.args.life.now c.requires.includes c.requires.ready.placed fixed of.blocks in
+    with_then beside (c.in_ok-end_verifying.ensures.tells provided fixed beside fence of reads by provides seen)
+    (λ mid known ended. within_as (λ i seen. seen)
+    (λ now then told. tells_as (final_as fixed round st c.in_ok-logs.logs (c.in_ok-logs.ensures.canonical fixed beside fence middle) c.args.inclusion.now.cache seen.cached c.in_ok-before.before c.in_ok-before.ensures) _
+    (bound_tells (including.ends_verifying fixed None st) (λ s. derives_by fixed round c.in_ok-logs.logs (option_map artifact_of c.in_ok-before.before) s) (live_of mid fence c.end_verifying.new.life) _ ended told))
+    (c.artifact_by.ensures.tells provided fixed round mid fence c.end_verifying.new.out.entries of reads by (provides_then fixed (c.end_verifying.ensures.provider provided) provides)
+    (ap (λ (l : Life g.row.Dir.Denot). l.round) c.end_verifying.ensures.same ∙ has) known))
+
+pub returns-clause-same : goal.returns-clause-same
+returns-clause-same g c = c.artifact_by.ensures.same ∙ c.end_verifying.ensures.same
+
+pub returns-clause-disk : goal.returns-clause-disk
+returns-clause-disk g c = c.artifact_by.ensures.disk ∙ c.end_verifying.ensures.disk
+
+pub returns-clause-held : goal.returns-clause-held
+returns-clause-held g c = c.artifact_by.ensures.held ∙ c.end_verifying.ensures.held
+
+pub returns-clause-hand : goal.returns-clause-hand
+returns-clause-hand g c = ap (λ its. its.hand) c.artifact_by.ensures.rest ∙ ap (λ its. its.hand) c.end_verifying.ensures.rest
+
+pub returns-clause-provider : goal.returns-clause-provider
+returns-clause-provider g c = λ provided. same_provided (c.end_verifying.ensures.provider provided) (c.artifact_by.ensures.provider provided)
+
+pub returns-clause-moved : goal.returns-clause-moved
+returns-clause-moved g c =
+    moved_then g.D.Disk.tells g.D.Disk.made g.X.SecretStore.made g.D.Disk.faults g.X.SecretStore.faults g.met.D.Disk.made_more g.met.X.SecretStore.made_more _ _ _ c.end_verifying.ensures.moved c.artifact_by.ensures.moved
+
+pub returns-clause-causes : goal.returns-clause-causes
+returns-clause-causes g c =
+    blamed_behind g.D.Disk.tells g.D.Disk.made g.X.SecretStore.made g.D.Disk.faults g.X.SecretStore.faults c.args.devices.now c.end_verifying.new.devices c.artifact_by.new.devices
+    c.end_verifying.ensures.moved c.artifact_by.ensures.moved c.artifact_by.result c.artifact_by.ensures.causes
+
+pub returns-clause-including : goal.returns-clause-including
+returns-clause-including g c =
+    then_well c.artifact_by.result (λ idle. derived_ready g.C.Ceremony.check_log_of g.C.Ceremony.dealing_of g.C.Ceremony.finish_of (non_zero_u64_get c.args.terms.now.blocks_per_epoch) c.end_verifying.new.life c.artifact_by.new.life c.artifact_by.ensures.same
+    c.end_verifying.new.inclusion c.artifact_by.new.inclusion c.artifact_by.ensures.rest idle c.in_ok-end_verifying.ensures.including) c.artifact_by.ensures.idle

@@ -1,0 +1,171 @@
+use Rattle.std.proofs.Common.{◌≡◌, None, Option, Some, ap, is_some, refl, sym, subst, ◌∙◌}
+use Rattle.std.specs.Prelude.{option_map}
+use Rattle.std.specs.Option.{option_copied}
+use Rattle.std.specs.Int.NonZero.{non_zero_u64_get}
+use Rattle.std.proofs.lemmas.Result.{err_from_is_err_and}
+use Rattle.dkg_ceremony.specs.Outcomes.{LogMap}
+use Rattle.dkg_artifact.specs.Results.{Checked}
+use Rattle.dkg_store.specs.declared.store.Store.{Store}
+use Rattle.dkg_core.specs.Including as including
+use Rattle.dkg_core.specs.Live as core
+use Rattle.dkg_reshare.specs.Including.{caching}
+use Rattle.dkg_reshare.specs.InclusionOf.{artifact_of, cached_of, result_of}
+use Rattle.dkg_reshare.specs.LiveOf.{live_of}
+use Rattle.dkg_reshare.proofs.Beside.{with_then}
+use Rattle.dkg_reshare.proofs.Blamed.{caused_more}
+use Rattle.dkg_reshare.proofs.Concluding.{and_some, canonical_is, finds_by, has_round, kept_makes, kept_told, middle_in, none_apart, uncopied_makes, uncopied_told, unkept_makes, unkept_told, unseen_makes, unseen_told}
+use Rattle.dkg_reshare.proofs.Kept.{moved_none}
+use Rattle.dkg_reshare.proofs.Keeping.{cached_there}
+use Rattle.dkg_reshare.proofs.Telling.{ends_with, seen_cached}
+use Rattle.dkg_reshare.proofs.Within.{within_as}
+use Rattle.dkg_reshare.proofs.final_block.derive_now.Goals as goal
+
+pub see_verified-requires : goal.see_verified-requires
+see_verified-requires g c = record {
+  round = has_round (non_zero_u64_get c.args.terms.now.blocks_per_epoch) c.args.life.now c.requires.includes c.requires.ready.placed;
+  canonical = c.requires.canonical;
+  idle = c.requires.idle;
+}
+
+-- NO RESULT
+
+pub returns-in_err-see_verified-clause-acts : goal.returns-in_err-see_verified-clause-acts
+returns-in_err-see_verified-clause-acts g c = λ disk secrets provided fixed round beside fence out of reads by provides has seen.
+    let p = err_from_is_err_and c.from_residual.result c.from_residual.ensures.1 in
+    let middle = middle_in (non_zero_u64_get c.args.terms.now.blocks_per_epoch) c.args.life.now c.requires.includes c.requires.ready.placed fixed of.blocks in
+    let same = c.requires.canonical ∙ canonical_is fixed beside fence c.args.life.now middle in
+    rw (p.1, p.2) (within_as (λ i known. tt) (λ now known speaks. unseen_makes fixed round c.args.logs.now (live_of beside fence c.args.life.now) same c.in_err-see_verified.field-0.0 (speaks out) _ _ _ _)
+    (c.in_err-see_verified.ensures.speaks fixed round beside fence of.me (finds_by fixed by provides) middle has seen))
+
+pub returns-in_err-see_verified-clause-tells : goal.returns-in_err-see_verified-clause-tells
+returns-in_err-see_verified-clause-tells g c = λ provided fixed round beside fence out of reads by provides has seen.
+    let p = err_from_is_err_and c.from_residual.result c.from_residual.ensures.1 in
+    let middle = middle_in (non_zero_u64_get c.args.terms.now.blocks_per_epoch) c.args.life.now c.requires.includes c.requires.ready.placed fixed of.blocks in
+    let same = c.requires.canonical ∙ canonical_is fixed beside fence c.args.life.now middle in
+    rw (p.1, p.2) (within_as (λ i known. tt) (λ now known speaks. unseen_told fixed round c.args.logs.now (live_of beside fence c.args.life.now) same c.in_err-see_verified.field-0.0 (speaks out))
+    (c.in_err-see_verified.ensures.speaks fixed round beside fence of.me (finds_by fixed by provides) middle has seen))
+
+pub returns-in_err-see_verified-clause-moved : goal.returns-in_err-see_verified-clause-moved
+returns-in_err-see_verified-clause-moved g c = moved_none g.D.Disk.tells g.D.Disk.made g.X.SecretStore.made g.D.Disk.faults g.X.SecretStore.faults g.met.D.Disk.made_none g.met.X.SecretStore.made_none c.args.devices.now
+
+pub returns-in_err-see_verified-clause-causes : goal.returns-in_err-see_verified-clause-causes
+returns-in_err-see_verified-clause-causes g c =
+    let p = err_from_is_err_and c.from_residual.result c.from_residual.ensures.1 in
+    rw (p.1, p.2) (caused_more (λ x. absurd x) (λ x. absurd x) (λ x. absurd x) c.in_err-see_verified.field-0.0 c.in_err-see_verified.ensures.causes)
+
+pub returns-in_err-see_verified-clause-rest : goal.returns-in_err-see_verified-clause-rest
+returns-in_err-see_verified-clause-rest g c = c.see_verified.ensures.rest
+
+pub prove-unreachable-requires : goal.prove-unreachable-requires
+prove-unreachable-requires g c = none_apart c.ready.result c.in_default.is (c.ready.ensures.exactly.1 c.in_ok-see_verified.ensures.ready)
+
+pub keep_artifact-requires : goal.keep_artifact-requires
+keep_artifact-requires g c = c.requires.current
+
+-- NO ARTIFACT
+
+pub returns-in_err-keep_artifact-clause-acts : goal.returns-in_err-keep_artifact-clause-acts
+returns-in_err-keep_artifact-clause-acts g c = λ disk secrets provided fixed round beside fence out of reads by provides has seen.
+    let p = err_from_is_err_and c.from_residual-in_err-keep_artifact.result c.from_residual-in_err-keep_artifact.ensures.1 in
+    let middle = middle_in (non_zero_u64_get c.args.terms.now.blocks_per_epoch) c.args.life.now c.requires.includes c.requires.ready.placed fixed of.blocks in
+    let same = c.requires.canonical ∙ canonical_is fixed beside fence c.args.life.now middle in
+    let kept = sym (c.ready.ensures.kept (ap (λ o. is_some o) c.in-Some.is)) ∙ ap option_copied c.in-Some.is in
+    rw (p.1, p.2) (within_as (λ i known. tt) (λ now known speaks. unkept_makes fixed round c.args.logs.now (live_of beside fence c.args.life.now) same of.reshare (live_of now fence c.args.life.now) (result_of c.in-Some.ready.now)
+    (known.retained ∙ ap (option_map result_of) kept) (speaks out) c.in_err-keep_artifact.field-0.0
+    (c.in_err-keep_artifact.ensures.acts disk secrets provided fixed (live_of now fence c.args.life.now) of reads provides refl known.cached out))
+    (c.in_ok-see_verified.ensures.speaks fixed round beside fence of.me (finds_by fixed by provides) middle has seen))
+
+pub returns-in_err-keep_artifact-clause-tells : goal.returns-in_err-keep_artifact-clause-tells
+returns-in_err-keep_artifact-clause-tells g c = λ provided fixed round beside fence out of reads by provides has seen.
+    let p = err_from_is_err_and c.from_residual-in_err-keep_artifact.result c.from_residual-in_err-keep_artifact.ensures.1 in
+    let middle = middle_in (non_zero_u64_get c.args.terms.now.blocks_per_epoch) c.args.life.now c.requires.includes c.requires.ready.placed fixed of.blocks in
+    let same = c.requires.canonical ∙ canonical_is fixed beside fence c.args.life.now middle in
+    let kept = sym (c.ready.ensures.kept (ap (λ o. is_some o) c.in-Some.is)) ∙ ap option_copied c.in-Some.is in
+    rw (p.1, p.2) (within_as (λ i known. tt) (λ now known speaks. unkept_told fixed round c.args.logs.now (live_of beside fence c.args.life.now) same of.reshare (live_of now fence c.args.life.now) (result_of c.in-Some.ready.now)
+    (known.retained ∙ ap (option_map result_of) kept) (speaks out) c.in_err-keep_artifact.field-0.0
+    (c.in_err-keep_artifact.ensures.tells provided fixed (live_of now fence c.args.life.now) of reads provides refl known.cached out))
+    (c.in_ok-see_verified.ensures.speaks fixed round beside fence of.me (finds_by fixed by provides) middle has seen))
+
+pub returns-in_err-keep_artifact-clause-moved : goal.returns-in_err-keep_artifact-clause-moved
+returns-in_err-keep_artifact-clause-moved g c = c.keep_artifact.ensures.moved
+
+pub returns-in_err-keep_artifact-clause-causes : goal.returns-in_err-keep_artifact-clause-causes
+returns-in_err-keep_artifact-clause-causes g c =
+    let p = err_from_is_err_and c.from_residual-in_err-keep_artifact.result c.from_residual-in_err-keep_artifact.ensures.1 in
+    rw (p.1, p.2) c.in_err-keep_artifact.ensures.causes
+
+pub returns-in_err-keep_artifact-clause-same : goal.returns-in_err-keep_artifact-clause-same
+returns-in_err-keep_artifact-clause-same g c = λ i. record c.args.life.now { store = c.keep_artifact.ensures.store i }
+
+-- NO COPY
+
+pub returns-in_err-kept-clause-acts : goal.returns-in_err-kept-clause-acts
+returns-in_err-kept-clause-acts g c = λ disk secrets provided fixed round beside fence out of reads by provides has seen.
+    let p = err_from_is_err_and c.from_residual-in_err-kept.result c.from_residual-in_err-kept.ensures.1 in
+    let middle = middle_in (non_zero_u64_get c.args.terms.now.blocks_per_epoch) c.args.life.now c.requires.includes c.requires.ready.placed fixed of.blocks in
+    let same = c.requires.canonical ∙ canonical_is fixed beside fence c.args.life.now middle in
+    let kept = sym (c.ready.ensures.kept (ap (λ o. is_some o) c.in-Some.is)) ∙ ap option_copied c.in-Some.is in
+    rw (p.1, p.2) (within_as (λ i known. tt) (λ now known speaks. uncopied_makes fixed round c.args.logs.now (live_of beside fence c.args.life.now) same of.reshare (live_of now fence c.args.life.now) (result_of c.in-Some.ready.now)
+    (known.retained ∙ ap (option_map result_of) kept) (speaks out) (caching c.keep_artifact.new.cache (live_of now fence c.args.life.now)) _ refl
+    (c.in_ok-keep_artifact.ensures.acts disk secrets provided fixed (live_of now fence c.args.life.now) of reads provides refl known.cached out))
+    (c.in_ok-see_verified.ensures.speaks fixed round beside fence of.me (finds_by fixed by provides) middle has seen))
+
+pub returns-in_err-kept-clause-tells : goal.returns-in_err-kept-clause-tells
+returns-in_err-kept-clause-tells g c = λ provided fixed round beside fence out of reads by provides has seen.
+    let p = err_from_is_err_and c.from_residual-in_err-kept.result c.from_residual-in_err-kept.ensures.1 in
+    let middle = middle_in (non_zero_u64_get c.args.terms.now.blocks_per_epoch) c.args.life.now c.requires.includes c.requires.ready.placed fixed of.blocks in
+    let same = c.requires.canonical ∙ canonical_is fixed beside fence c.args.life.now middle in
+    let kept = sym (c.ready.ensures.kept (ap (λ o. is_some o) c.in-Some.is)) ∙ ap option_copied c.in-Some.is in
+    rw (p.1, p.2) (within_as (λ i known. tt) (λ now known speaks. uncopied_told fixed round c.args.logs.now (live_of beside fence c.args.life.now) same of.reshare (live_of now fence c.args.life.now) (result_of c.in-Some.ready.now)
+    (known.retained ∙ ap (option_map result_of) kept) (speaks out) (caching c.keep_artifact.new.cache (live_of now fence c.args.life.now)) _ refl
+    (c.in_ok-keep_artifact.ensures.tells provided fixed (live_of now fence c.args.life.now) of reads provides refl known.cached out))
+    (c.in_ok-see_verified.ensures.speaks fixed round beside fence of.me (finds_by fixed by provides) middle has seen))
+
+pub returns-in_err-kept-clause-moved : goal.returns-in_err-kept-clause-moved
+returns-in_err-kept-clause-moved g c = c.keep_artifact.ensures.moved
+
+pub returns-in_err-kept-clause-same : goal.returns-in_err-kept-clause-same
+returns-in_err-kept-clause-same g c = λ i. record c.args.life.now { store = c.keep_artifact.ensures.store i }
+
+-- IT IS MADE
+
+pub returns-in-Some-2-clause-acts : goal.returns-in-Some-2-clause-acts
+returns-in-Some-2-clause-acts g c = λ disk secrets provided fixed round beside fence out of reads by provides has seen.
+    let middle = middle_in (non_zero_u64_get c.args.terms.now.blocks_per_epoch) c.args.life.now c.requires.includes c.requires.ready.placed fixed of.blocks in
+    let same = c.requires.canonical ∙ canonical_is fixed beside fence c.args.life.now middle in
+    let kept = sym (c.ready.ensures.kept (ap (λ o. is_some o) c.in-Some.is)) ∙ ap option_copied c.in-Some.is in
+    let logs = and_some c.see_verified.new.inclusion.verification.kept c.in-Some.ready.now (λ r. r.logs ≡ c.args.logs.now) kept c.in_ok-see_verified.ensures.ready in
+    with_then beside (c.in_ok-see_verified.ensures.speaks fixed round beside fence of.me (finds_by fixed by provides) middle has seen)
+    (λ now known speaks. ends_with now (record now.inclusion { cached = option_map cached_of c.keep_artifact.new.cache }) (seen_cached c.see_verified.new.inclusion now.inclusion c.keep_artifact.new.cache known) refl
+    (kept_makes fixed round c.args.logs.now (live_of beside fence c.args.life.now) same of.reshare (live_of now fence c.args.life.now) (result_of c.in-Some.ready.now)
+    (known.retained ∙ ap (option_map result_of) kept) (speaks out) (caching c.keep_artifact.new.cache (live_of now fence c.args.life.now)) _
+    (λ i. caching c.keep_artifact.new.cache (live_of now fence (record c.args.life.now { store = c.keep_artifact.ensures.store i })))
+    (artifact_of c.in-Some-2.artifact)
+    (subst (λ (l : LogMap). Some (artifact_of c.in-Some-2.artifact) ≡ including.cached_for (option_map cached_of c.keep_artifact.new.cache) l) (sym logs) (sym (ap (option_map artifact_of) c.in-Some-2.is) ∙ c.in_ok-kept.ensures))
+    (c.in_ok-keep_artifact.ensures.acts disk secrets provided fixed (live_of now fence c.args.life.now) of reads provides refl known.cached out)))
+
+pub returns-in-Some-2-clause-tells : goal.returns-in-Some-2-clause-tells
+returns-in-Some-2-clause-tells g c = λ provided fixed round beside fence out of reads by provides has seen.
+    let middle = middle_in (non_zero_u64_get c.args.terms.now.blocks_per_epoch) c.args.life.now c.requires.includes c.requires.ready.placed fixed of.blocks in
+    let same = c.requires.canonical ∙ canonical_is fixed beside fence c.args.life.now middle in
+    let kept = sym (c.ready.ensures.kept (ap (λ o. is_some o) c.in-Some.is)) ∙ ap option_copied c.in-Some.is in
+    let logs = and_some c.see_verified.new.inclusion.verification.kept c.in-Some.ready.now (λ r. r.logs ≡ c.args.logs.now) kept c.in_ok-see_verified.ensures.ready in
+    with_then beside (c.in_ok-see_verified.ensures.speaks fixed round beside fence of.me (finds_by fixed by provides) middle has seen)
+    (λ now known speaks. ends_with now (record now.inclusion { cached = option_map cached_of c.keep_artifact.new.cache }) (seen_cached c.see_verified.new.inclusion now.inclusion c.keep_artifact.new.cache known) refl
+    (kept_told fixed round c.args.logs.now (live_of beside fence c.args.life.now) same of.reshare (live_of now fence c.args.life.now) (result_of c.in-Some.ready.now)
+    (known.retained ∙ ap (option_map result_of) kept) (speaks out) (caching c.keep_artifact.new.cache (live_of now fence c.args.life.now)) _
+    (λ i. caching c.keep_artifact.new.cache (live_of now fence (record c.args.life.now { store = c.keep_artifact.ensures.store i })))
+    (artifact_of c.in-Some-2.artifact)
+    (subst (λ (l : LogMap). Some (artifact_of c.in-Some-2.artifact) ≡ including.cached_for (option_map cached_of c.keep_artifact.new.cache) l) (sym logs) (sym (ap (option_map artifact_of) c.in-Some-2.is) ∙ c.in_ok-kept.ensures))
+    (c.in_ok-keep_artifact.ensures.tells provided fixed (live_of now fence c.args.life.now) of reads provides refl known.cached out)))
+
+pub returns-in-Some-2-clause-moved : goal.returns-in-Some-2-clause-moved
+returns-in-Some-2-clause-moved g c = c.keep_artifact.ensures.moved
+
+pub returns-in-Some-2-clause-same : goal.returns-in-Some-2-clause-same
+returns-in-Some-2-clause-same g c = λ i. record c.args.life.now { store = c.keep_artifact.ensures.store i }
+
+-- There is one.
+pub prove-unreachable-in-None-requires : goal.prove-unreachable-in-None-requires
+prove-unreachable-in-None-requires g c =
+    none_apart (including.cached_for (option_map cached_of c.keep_artifact.new.cache) c.in-Some.ready.now.logs) ? (cached_there c.in-Some.ready.now.logs c.keep_artifact.new.cache c.in_ok-keep_artifact.ensures.kept)
