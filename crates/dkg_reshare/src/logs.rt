@@ -186,7 +186,7 @@ fn log_of<Dir: Directory>(
     alloc: Global,
     log: Option<&SignedDealerLog>,
 ) -> Mem<Option<Payload<Dir>>>
-    ensures { IfOk result (λ made. made ≡ option_map log_payload (option_copied log)) }
+    ensures { IfOk result (λ made. made ≡ option_map log_payload (option_copied log.entry)) }
 {
     match log {
         Some(signed) => Ok(Some(Payload::DealerLog(signed.copy(alloc)?))),
