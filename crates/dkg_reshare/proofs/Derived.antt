@@ -1,6 +1,6 @@
 -- An artifact that is derived over the devices, and what is said of it: step by step as the code derives it.
 use Rattle.std.proofs.Common.{◌≡◌, inl, inr, ℕ, ◌+◌, ◌<◌, ◌≤◌, ◌^◌, ◌==◌, arith, Bool, true, false, nat_le, nat_lt, List, [], length, Option, Some, None, refl, sym, ◌∙◌, ap, subst, append-nil}
-use Rattle.std.specs.Prelude.{IfSome, IsSomeAnd, option_map, if◌then◌else◌}
+use Rattle.std.specs.Prelude.{◌⊎◌, IfSome, IsSome, IsSomeAnd, option_map, if◌then◌else◌}
 use Rattle.std.specs.FinMap.{get}
 use Rattle.std.specs.FinMap as maps
 use Rattle.std.proofs.lemmas.Bool.Decides.{nat_tests}
@@ -9,14 +9,16 @@ use Rattle.dkg_journal.specs.Burn.{Burn}
 use Rattle.dkg_journal.specs.Names.{Files}
 use Rattle.dkg_secrets.specs.Secrets.{Secrets}
 use Rattle.dkg_ceremony.specs.Outcomes.{LogMap}
+use Rattle.dkg_ceremony.specs.declared.output.Output.{Output}
 use Rattle.dkg_artifact.specs.declared.artifact.Artifact as artifact
+use Rattle.dkg_artifact.specs.declared.verified.Verified as verified
 use Rattle.dkg_types.specs.declared.entry.Entry.{Entry as Line}
 use Rattle.dkg_types.specs.declared.fault.Fault.{Fault}
 use Rattle.dkg_types.specs.declared.fault.Fault.TheVariants.{HeightRange, InvalidParticipants, DirectoryMismatch, NoMemory}
 use Rattle.dkg_types.specs.declared.fault.ParticipantsCause.TheVariants.{ProviderEmpty, ProviderAbove}
 use Rattle.dkg_types.specs.declared.info.EpochInfo.{EpochInfo}
 use Rattle.dkg_types.specs.NextInfos.{info_by}
-use Rattle.dkg_store.specs.Acts.{Held, MadeAt, Moment, held_in, moment, went}
+use Rattle.dkg_store.specs.Acts.{Ended, Held, Moment, held_in, moment, went}
 use Rattle.dkg_store.proofs.Acts.{made_read}
 use Rattle.dkg_core.specs.Courses.{Course, Goes, bind, on_devices}
 use Rattle.dkg_core.specs.Fixed.{Fixed, has}
@@ -29,7 +31,7 @@ use Rattle.dkg_reshare.specs.declared.stop.Stop.TheVariants.{Fault as Faulted}
 use Rattle.dkg_reshare.specs.Ends.{by_stop, cause_in}
 use Rattle.dkg_reshare.specs.Given.{ReadsToday}
 use Rattle.dkg_reshare.specs.Including.{caching, derives_in, mismatch_of, reads_share, stops_by, unprovided}
-use Rattle.dkg_reshare.specs.InclusionOf.{artifact_of, cached_of}
+use Rattle.dkg_reshare.specs.InclusionOf.{artifact_of, cached_of, verified_of}
 use Rattle.dkg_reshare.specs.Made.{MakesAt, Tells}
 use Rattle.dkg_reshare.specs.Steps.{IsFaultOrWant}
 use Rattle.dkg_reshare.proofs.Burning.{makes_nothing, speaks_makes}
@@ -102,28 +104,60 @@ module _ {Dir : Type 0} (c : Fixed Dir) (info : EpochInfo Dir) where
   share_in h = lookup info.epoch (c.seen h).shares
 
   -- behind a failure a player of the output reads its share
-  pub reads_holder : has info.output.players c.me ≡ true → reads_share c info None ≡ looking
+  reads_holder : has info.output.players c.me ≡ true → reads_share c info None ≡ looking
   reads_holder holds = ap (λ (t : Bool). if t then looking else Goes None) holds
 
-  pub reads_none : has info.output.players c.me ≡ false → reads_share c info None ≡ Goes None
+  reads_none : has info.output.players c.me ≡ false → reads_share c info None ≡ Goes None
   reads_none apart = ap (λ (t : Bool). if t then looking else Goes None) apart
 
-  pub share_made : {D : Type 0} (files : D → Files) (image : D → Files → Type 0) (share : Option ℕ) → has info.output.players c.me ≡ true → ReadsToday c
-      → {old new : D} {out : List Line} {s t : Secrets} {f g : Burn} → new ≡ old → t ≡ s → g ≡ f → share ≡ get s.shares info.epoch
-      → MakesAt (on_devices (reads_share c info None)) (went share) (files old) (image old) (files new) (image new) (moment out s f) (moment out t g)
-  share_made files image share holds reads {old} {new} {out} {s} {t} {f} {g} same kept still is =
-      let h = held_in (files old) s in
-      let one : share ≡ share_in h = is ∙ sym (looked_up info.epoch s.shares) ∙ sym (ap (λ (seen : Held → Seen). lookup info.epoch (seen h).shares) reads) in
-      subst (λ (x : Course Dir Fault (Option ℕ)). MakesAt (on_devices x) (went share) (files old) (image old) (files new) (image new) (moment out s f) (moment out t g)) (sym (reads_holder holds))
-      (still_makes files image (on_devices looking) (went share) same still (made_read (files old) (image old) share_in kept one))
+  module _ (found : Option verified.Verified) where
+    abbrev reads_its : Course Dir Fault (Option ℕ)
+    reads_its = reads_share c info (option_map verified_of found)
 
-  -- whatever is told: one such share is held somewhere
-  pub share_told : (share : Option ℕ) → has info.output.players c.me ≡ true → ReadsToday c → (out : List Line) → Tells (reads_share c info None) (went share) out out
-  share_told share holds reads out =
-      let h : Held = record { journaled = nothing_held.journaled; secrets = record { shares = one_at info.epoch share; seeds = maps.empty; privates = maps.empty } } in
-      let one : share ≡ share_in h = sym (one_is info.epoch share) ∙ sym (looked_up info.epoch (one_at info.epoch share)) ∙ sym (ap (λ (seen : Held → Seen). lookup info.epoch (seen h).shares) reads) in
-      subst (λ (x : Course Dir Fault (Option ℕ)). Tells x (went share) out out) (sym (reads_holder holds))
-      (record { lines = []; added = sym (append-nil out); by = (h, (refl, one)) })
+    -- a result's own share
+    pub own_made : (its : verified.Verified) → found ≡ Some its → (files : Files) (image : Files → Type 0) (m : Moment) → MakesAt (on_devices reads_its) (went its.share) files image files image m m
+    own_made its is files image m =
+        subst (λ (o : Option verified.Verified). MakesAt (on_devices (reads_share c info (option_map verified_of o))) (went its.share) files image files image m m) (sym is) (makes_nothing files image m refl)
+
+    pub own_told : (its : verified.Verified) → found ≡ Some its → (out : List Line) → Tells reads_its (went its.share) out out
+    own_told its is out =
+        subst (λ (o : Option verified.Verified). Tells (reads_share c info (option_map verified_of o)) (went its.share) out out) (sym is) (record { lines = []; added = sym (append-nil out); by = (refl, refl) })
+
+    module _ (none : found ≡ None) where
+      as_none : reads_its ≡ reads_share c info None
+      as_none = ap (λ (o : Option verified.Verified). reads_share c info (option_map verified_of o)) none
+
+      -- none, where this node is no player of the output
+      module _ (apart : has info.output.players c.me ≡ false) where
+        pub none_made : (files : Files) (image : Files → Type 0) (m : Moment) → MakesAt (on_devices reads_its) (went None) files image files image m m
+        none_made files image m =
+            subst (λ (x : Course Dir Fault (Option ℕ)). MakesAt (on_devices x) (went None) files image files image m m) (sym (as_none ∙ reads_none apart)) (makes_nothing files image m refl)
+
+        pub none_told : (out : List Line) → Tells reads_its (went None) out out
+        none_told out =
+            subst (λ (x : Course Dir Fault (Option ℕ)). Tells x (went None) out out) (sym (as_none ∙ reads_none apart)) (record { lines = []; added = sym (append-nil out); by = (refl, refl) })
+
+      -- .. else the stored one
+      module _ (holds : has info.output.players c.me ≡ true) (today : ReadsToday c) where
+        as_looked : reads_its ≡ looking
+        as_looked = as_none ∙ reads_holder holds
+
+        pub share_made : {D : Type 0} (files : D → Files) (image : D → Files → Type 0) (share : Option ℕ)
+            → {old new : D} {out : List Line} {s t : Secrets} {f g : Burn} → new ≡ old → t ≡ s → g ≡ f → share ≡ get s.shares info.epoch
+            → MakesAt (on_devices reads_its) (went share) (files old) (image old) (files new) (image new) (moment out s f) (moment out t g)
+        share_made files image share {old} {new} {out} {s} {t} {f} {g} same kept still is =
+            let h = held_in (files old) s in
+            let one : share ≡ share_in h = is ∙ sym (looked_up info.epoch s.shares) ∙ sym (ap (λ (seen : Held → Seen). lookup info.epoch (seen h).shares) today) in
+            subst (λ (x : Course Dir Fault (Option ℕ)). MakesAt (on_devices x) (went share) (files old) (image old) (files new) (image new) (moment out s f) (moment out t g)) (sym as_looked)
+            (still_makes files image (on_devices looking) (went share) same still (made_read (files old) (image old) share_in kept one))
+
+        -- whatever is told: one such share is held somewhere
+        pub share_told : (share : Option ℕ) (out : List Line) → Tells reads_its (went share) out out
+        share_told share out =
+            let h : Held = record { journaled = nothing_held.journaled; secrets = record { shares = one_at info.epoch share; seeds = maps.empty; privates = maps.empty } } in
+            let one : share ≡ share_in h = sym (one_is info.epoch share) ∙ sym (looked_up info.epoch (one_at info.epoch share)) ∙ sym (ap (λ (seen : Held → Seen). lookup info.epoch (seen h).shares) today) in
+            subst (λ (x : Course Dir Fault (Option ℕ)). Tells x (went share) out out) (sym as_looked)
+            (record { lines = []; added = sym (append-nil out); by = (h, (refl, one)) })
 
 -- ALL OF IT
 
@@ -208,6 +242,40 @@ module _ {Dir : Type 0} (c : Fixed Dir) (info : EpochInfo Dir) (r : VerifiedLogs
           subst (λ (x : Course Dir Fault (Artifact Dir)). Tells x (went end) out now) (sym as_read)
           (then_told reads goes_on share (went end) first
           (subst (λ (x : Course Dir Fault (Artifact Dir)). Tells x (went end) now now) (sym as_done) (record { lines = []; added = sym (append-nil now); by = (refl, is) })))
+
+module _ {Dir : Type 0} (c : Fixed Dir) (info : EpochInfo Dir) (r : VerifiedLogs) where
+  epoch_is : (o : Option Output) → (info_by c.provided info o).epoch ≡ info.epoch + 1
+  epoch_is None = refl
+  epoch_is (Some output) = refl
+
+  want_or : (o : Option Fault) (stop : Stop) → stop ≡ Faulted NoMemory → IsFaultOrWant o stop
+  want_or None stop want = want
+  want_or (Some its) stop want = inl want
+
+  -- why the info that was made is refused
+  pub refused_info : (stop : Stop) (made : EpochInfo Dir) → made ≡ its_info c info r → (matches : Dir → List ℕ → Bool) → c.directories.matches ≡ matches
+      → (stop ≡ Faulted NoMemory) ⊎ ((stop ≡ Faulted (DirectoryMismatch (info.epoch + 1))) × (matches made.directory (including.info_peers made) ≡ false))
+      → IsFaultOrWant (mismatch_of c (its_info c info r)) stop
+  refused_info stop made is matches are (inl want) = want_or (mismatch_of c (its_info c info r)) stop want
+  refused_info stop made is matches are (inr other) =
+      subst (λ (o : Option Fault). IsFaultOrWant o stop) (sym (mismatch_is c info r matches made false are is other.1))
+      (inr (other.0 ∙ ap (λ (n : ℕ). Faulted (DirectoryMismatch n)) (sym (epoch_is (option_map (λ found. found.output) r.result)))))
+
+  -- of the info that was copied it is that of the info
+  module _ (its : EpochInfo Dir) (same : its ≡ info) {how : Ended Fault (Artifact Dir)} where
+    pub for_info_made : {files files_now : Files} {image now : Files → Type 0} {old new : Moment} → MakesAt (on_devices (derives_in c its r)) how files image files_now now old new
+        → MakesAt (on_devices (derives_in c info r)) how files image files_now now old new
+    for_info_made {files} {files_now} {image} {now} {old} {new} made = subst (λ (x : EpochInfo Dir). MakesAt (on_devices (derives_in c x r)) how files image files_now now old new) same made
+
+    pub for_info_told : {out now : List Line} → Tells (derives_in c its r) how out now → Tells (derives_in c info r) how out now
+    for_info_told {out} {now} told = subst (λ (x : EpochInfo Dir). Tells (derives_in c x r) how out now) same told
+
+pub one_value : {A : Type 0} (a b : A) → Some a ≡ Some b → a ≡ b
+one_value a b same = cc
+
+pub has_one : {A : Type 0} (o : Option A) → IsSome o → (a : A) × (o ≡ Some a)
+has_one None some = absurd cc
+has_one (Some a) some = (a, refl)
 
 -- There was no memory, before anything was done.
 module _ {Dir S : Type 0} (course : Course Dir Fault S) where

@@ -1,7 +1,6 @@
 pub mod Acked
 pub mod Advancing
 pub mod Alike
-pub mod AnswerLines
 pub mod Answering
 pub mod Applied
 pub mod Applying
