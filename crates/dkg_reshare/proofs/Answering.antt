@@ -128,3 +128,9 @@ module _ {C Dir Signer Cfg : Type 0} (beside : Beside Dir) (fence : Readiness) (
       (left.on (went (with_its beside fence life (record left.now { queue = [] }))) told
       (subst (λ (rs : List (Request Dir)). Speaks (blocks.answers_all (map request_of rs) (with_its beside fence life left.now)) (went (with_its beside fence life (record left.now { queue = [] }))) told told) (sym empty)
       (goes_speaks (blocks.answers_all [] (with_its beside fence life left.now)) (with_its beside fence life (record left.now { queue = [] })) (with_its beside fence life (record left.now { queue = [] })) refl refl told)))
+
+  pub none_behind : (its new : Inclusion C Dir Signer Cfg) (out told : List Line) → IsLeft its out told → its.requests ≡ [] → new ≡ record its { requests = [] }
+      → EndsWith beside (λ i. IsSeen new i) (λ more. more ≡ []) (λ now. Speaks (blocks.answers_all beside.inclusion.queue (live_of beside fence life)) (went (live_of now fence life)) out told)
+  none_behind its new out told left empty same =
+      subst (λ (x : Inclusion C Dir Signer Cfg). EndsWith beside (λ i. IsSeen x i) (λ more. more ≡ []) (λ now. Speaks (blocks.answers_all beside.inclusion.queue (live_of beside fence life)) (went (live_of now fence life)) out told))
+      (sym (same ∙ (λ i. record its { requests = sym empty i }))) (none_left its out told left empty)

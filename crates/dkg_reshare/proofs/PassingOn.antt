@@ -125,7 +125,7 @@ seed_told c info seed h reads gives out =
     let given : setup.seed_for c info.epoch (lookup info.epoch (c.seen h).seeds) ≡ seed = gives (c.seen h) (ap (λ (seen : Held → Seen). (seen h).seeds) reads) in
     record { lines = []; added = sym (append-nil out); by = (h, (refl, sym given)) }
 
--- a life that is as it was
-pub taken_as_it_was : {Dir : Type 0} (c : Fixed Dir) (b : Block Dir) (info : EpochInfo Dir) (share : Option ℕ) (beside : Beside Dir) (fence : Readiness) (old new : Life Dir) → new ≡ old
-    → blocks.takes_over c b info share (live_of beside fence old) ≡ blocks.takes_over c b info share (live_of beside fence new)
-taken_as_it_was {Dir} c b info share beside fence old new same = ap (λ (l : Life Dir). blocks.takes_over c b info share (live_of beside fence l)) (sym same)
+-- a life that is as it was, and this share
+pub taken_with : {Dir : Type 0} (c : Fixed Dir) (b : Block Dir) (info : EpochInfo Dir) (share its : Option ℕ) → its ≡ share → (beside : Beside Dir) (fence : Readiness) (old new : Life Dir) → new ≡ old
+    → blocks.takes_over c b info share (live_of beside fence old) ≡ blocks.takes_over c b info its (live_of beside fence new)
+taken_with {Dir} c b info share its shares beside fence old new same = λ i. blocks.takes_over c b info (sym shares i) (live_of beside fence (sym same i))

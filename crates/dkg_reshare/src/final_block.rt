@@ -16,7 +16,7 @@ ghost use Rattle.dkg_reshare.specs.Ends.{IsCaused, ends_in};
 ghost use Rattle.dkg_reshare.specs.Given.{IsOf, ReadsToday};
 ghost use Rattle.dkg_reshare.specs.LiveOf.{Beside, EndsWith, live_of};
 ghost use Rattle.dkg_reshare.specs.Made.{Makes, Tells};
-ghost use Rattle.dkg_reshare.specs.Moved.{Moved};
+ghost use Rattle.dkg_reshare.specs.Moved.{IsFirm, Moved};
 ghost use Rattle.dkg_reshare.specs.Rules.{IncludesBy, IsRuledBy, SameProvided};
 ghost use Rattle.dkg_ceremony.specs.Schedule.{epoch_of, midpoint};
 ghost use Rattle.dkg_types.specs.declared.entry.Entry.{Entry as Line};
@@ -397,8 +397,7 @@ fn pass_on<C: Ceremony + Drop, R: Registrar, Dir: Directory + Drop, D: Disk, X: 
     requires current { life.old.store.current ≡ Some info.now }
     requires idle { inclusion.old.hand ≡ None }
     requires me { terms.now.me ≡ C.Signer.key_of signer.now }
-    requires ready { IsReadyLife D.tells D.files D.image C.ack_of C.deal_of C.check_ack_of terms.now life.old devices.old }
-    requires including { IsReadyInclusion C.check_log_of C.dealing_of C.finish_of (non_zero_u64_get terms.now.blocks_per_epoch) life.old inclusion.old }
+    requires open { IsTrue D.tells → IsFirm life.old.store.journal (D.files devices.old.disk.now) (D.image devices.old.disk.now) }
     ensures ready { OnOk result (IsReadyLife D.tells D.files D.image C.ack_of C.deal_of C.check_ack_of terms.now life.new devices.new) }
     ensures including { OnOk result (IsSettledInclusion C.check_log_of C.dealing_of C.finish_of (non_zero_u64_get terms.now.blocks_per_epoch) life.new
         inclusion.new) }
