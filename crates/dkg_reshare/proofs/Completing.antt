@@ -84,8 +84,8 @@ module _ {Dir : Type 0} (c : Fixed Dir) (round : Round) (logs : LogMap) (request
     started is passes =
         ends_with beside running_now seen_started refl
         (λ out. goes_speaks starting (live_of (record beside { inclusion = running_now }) fence life)
-          (including.verifying (including.job_for c round logs (live_of beside fence life)) (Some request) (live_of beside fence life)) (starts_as None passes)
-          (ap (λ (x : core.Job). including.verifying x (Some request) (live_of beside fence life)) is) out)
+        (including.verifying (including.job_for c round logs (live_of beside fence life)) (Some request) (live_of beside fence life)) (starts_as None passes)
+        (ap (λ (x : core.Job). including.verifying x (Some request) (live_of beside fence life)) is) out)
 
   pub unstarted : {IsNow : core.Inclusion Dir → Type 0} (stop : Stop)
       → (stop ≡ Faulted NoMemory) ⊎ ((dealer : ℕ) × (stop ≡ Faulted (LocalState (StoredDealing round.number dealer))) × (refusal_for c round logs (live_of beside fence life) ≡ Some dealer))
@@ -174,7 +174,7 @@ module _ {C Dir Signer Cfg : Type 0} (its : Inclusion C Dir Signer Cfg) (beside 
     seen_by k is tells =
         subst (λ (m : FinMap nat_cmp (Told Dir)). IsSeen (record its { cache = cache; told = m }) (telling request (caching cache (live_of beside fence life))).inclusion) (sym tells)
         (seen_told (record its { cache = cache }) cached_now request (told.Info (Available (option_map info_payload k.1.info))) (GaveInfo (told_by cache))
-          (ap (λ (q : Option (LogMap × artifact.Artifact Dir)). Some (GaveInfo (told_by q))) (sym is)) seen_cached)
+        (ap (λ (q : Option (LogMap × artifact.Artifact Dir)). Some (GaveInfo (told_by q))) (sym is)) seen_cached)
 
     pub seen_answered : IsSomeAnd cache (λ k. (k.0 ≡ logs) × (answers ≡ maps.insert its.told request (told.Info (Available (option_map info_payload k.1.info)))))
         → IsSeen (record its { cache = cache; told = answers }) (telling request (caching cache (live_of beside fence life))).inclusion

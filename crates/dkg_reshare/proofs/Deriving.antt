@@ -121,7 +121,7 @@ module _ {Dir : Type 0} (c : Fixed Dir) where
           let makes = derives_in c info r in
           bind_again makes (with_cached_in r.logs st) (λ it. next it.0 it.1)
           ∙ bind_alike makes (λ made. next made (including.with_cached r.logs made st)) (λ made. by_cached r.logs next (including.with_cached r.logs made st))
-            (λ made. goes_by made (including.with_cached r.logs made st) (cached_now made))
+          (λ made. goes_by made (including.with_cached r.logs made st) (cached_now made))
           ∙ sym (bind_again makes (λ made. bind (with_cached_in r.logs st made) (λ it. Goes it.1)) (by_cached r.logs next))
           ∙ ap (λ (x : Course Dir Fault (Live Dir)). bind x (by_cached r.logs next)) (sym (bind_again makes (with_cached_in r.logs st) (λ it. Goes it.1)))
 

@@ -57,6 +57,7 @@ pub mod Shares
 pub mod Short
 pub mod Speaking
 pub mod Standing
+pub mod Staying
 pub mod Stopping
 pub mod Taking
 pub mod Telling

@@ -3,6 +3,7 @@ use Rattle.std.proofs.Common.{◌≡◌, ℕ, Bool, true, false, List, [], ◌�
 use Rattle.std.specs.Prelude.{◌==◌, ◌&&◌, not, map, IfSome, IsSome, IsSomeAnd, option_map, if◌then◌else◌}
 use Rattle.std.specs.Option.{option_map_or}
 use Rattle.std.proofs.lemmas.Bool.{eqb-true}
+use Rattle.dkg_ceremony.specs.declared.epocher.Bounds.{Bounds}
 use Rattle.dkg_ceremony.specs.declared.round.RoundParts.{RoundParts as Round}
 use Rattle.dkg_ceremony.specs.Schedule.{bounds_at, epoch_of, last, midpoint}
 use Rattle.dkg_fence.specs.Readiness.{Readiness}
@@ -16,6 +17,7 @@ use Rattle.dkg_artifact.specs.Seen.{Next, Scan}
 use Rattle.dkg_artifact.specs.declared.job.Job as job
 use Rattle.dkg_artifact.specs.declared.scan.Fed as scan
 use Rattle.dkg_artifact.specs.declared.scan.Fed.TheVariants as fed
+use Rattle.dkg_artifact.specs.declared.scan.Tip.{Tip}
 use Rattle.dkg_core.specs.Fixed.{Fixed}
 use Rattle.dkg_core.specs.Including as including
 use Rattle.dkg_core.specs.Live as core
@@ -29,9 +31,9 @@ use Rattle.dkg_reshare.specs.Including.{IsHandOf, behind_answer, ends_hand, fed_
 use Rattle.dkg_reshare.specs.InclusionOf.{IsInHand, IsReadyInclusion, IsSeen, IsSettledInclusion, in_front, job_of, request_of, tip_of}
 use Rattle.dkg_reshare.specs.LiveOf.{Beside, IsPlaced, awaited_of, live_of, stage_of}
 use Rattle.dkg_reshare.specs.Rules.{CheckLogOf, DealingOf, FinishOf}
-use Rattle.dkg_reshare.specs.Scanned.{IsFed}
+use Rattle.dkg_reshare.specs.Scanned.{IsFed, fed_all}
 use Rattle.dkg_reshare.proofs.Advancing.{ReadsFirst, Waits, WaitsBy, goes_as, waits_advances}
-use Rattle.dkg_reshare.proofs.Scans.{fed_behind, feeds_awaits, read_more, read_on, read_short}
+use Rattle.dkg_reshare.proofs.Scans.{closed_by, fed_behind, feeds_awaits, read_is, read_more, read_on, read_short}
 
 -- WORDS
 
@@ -113,6 +115,15 @@ module _ {Dir : Type 0} (check : CheckLogOf) (n : ℕ) (life : Life Dir) (placed
         let its = at_some_and (λ (r : Round). IsFed check r (bounds_at n (awaited_of life)) (option_map tip_of life.tip) hand.request.blocks hand.scan) life.round round has in_hand.stands in
         ap (λ (ended : Bool). including.read_of c round (live_of beside fence life) (record { number = hand.request.number; blocks = hand.request.blocks; ended = ended })) in_hand.goes_on
         ∙ read_on c round (live_of beside fence life) check checks (bounds_at n (awaited_of life)) (last_is in_hand.includes) (middle_is in_hand.includes) hand.request.number hand.request.blocks hand.scan its.fed
+
+    -- A request is read from the start of its ancestry.
+    pub read_by : life.stage ≡ stage.Including → (round : Round) (number : ℕ) (blocks : List (Block Dir)) (ended : Bool) (bounds : Bounds) → bounds ≡ bounds_at n (awaited_of life) → (tip : Option Tip) → tip ≡ option_map tip_of life.tip
+        → (s : Scan) (first : scan.Fed) → s ≡ scans.starts round bounds tip → first ≡ scans.first_answer bounds.last → (its : scan.Fed) (now : Scan) → (its, now) ≡ fed_all check s first blocks
+        → including.read_of c round (live_of beside fence life) (record { number = number; blocks = blocks; ended = ended }) ≡ closed_by ended its
+    read_by includes round number blocks ended bounds at tip above s first starts answers its now fed =
+        read_is c round (live_of beside fence life) check checks (bounds_at n (awaited_of life)) (last_is includes) (middle_is includes) number blocks ended
+        ∙ ap (λ (p : scan.Fed × Scan). closed_by ended p.0)
+        (sym (fed ∙ (λ i. fed_all check (starts i) (answers i) blocks) ∙ (λ i. fed_all check (scans.starts round (at i) (above i)) (scans.first_answer (at i).last) blocks)))
 
 module _ {C Dir Signer Cfg : Type 0} (check : CheckLogOf) (dealing_of : DealingOf) (finish_of : FinishOf) (n : ℕ) (life : Life Dir) (placed : IsPlaced n life) where
   abbrev Ready : Inclusion C Dir Signer Cfg → Type 0

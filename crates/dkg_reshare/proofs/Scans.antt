@@ -1,10 +1,10 @@
 -- What a scan answers is what the relation reads.
-use Rattle.std.proofs.Common.{◌≡◌, ℕ, Bool, true, false, List, [], ◌∷◌, ◌++◌, Option, Some, None, refl, sym, ◌∙◌, ap, subst}
-use Rattle.std.specs.Prelude.{◌+◌, ◌-◌, ◌==◌, ◌&&◌, nat_lt, not, is_some, is_none, IsSome, option_map, option_and_then, if◌then◌else◌}
+use Rattle.std.proofs.Common.{◌≡◌, ℕ, Bool, true, false, List, [], ◌∷◌, ◌++◌, Option, Some, None, Result, Ok, Err, refl, sym, ◌∙◌, ap, subst}
+use Rattle.std.specs.Prelude.{◌+◌, ◌-◌, ◌==◌, ◌&&◌, nat_lt, not, is_some, is_none, IfOk, IsSome, option_map, option_and_then, if◌then◌else◌}
 use Rattle.std.specs.Option.{option_map_or}
 use Rattle.std.specs.Str.{bytes_eq}
 use Rattle.std.proofs.lemmas.Slice.Eq.{bytes_eq-Decides}
-use Rattle.dkg_values.specs.Rising.{place_of, with_pair}
+use Rattle.dkg_values.specs.Rising.{map_of, place_of, with_pair}
 use Rattle.dkg_ceremony.specs.declared.dealer_log.DealerLog.{DealerLog}
 use Rattle.dkg_ceremony.specs.declared.epocher.Bounds.{Bounds}
 use Rattle.dkg_ceremony.specs.declared.round.RoundParts.{RoundParts as Round}
@@ -26,7 +26,7 @@ use Rattle.dkg_core.specs.Fixed.{Fixed, has}
 use Rattle.dkg_core.specs.Including as including
 use Rattle.dkg_core.specs.Including.{Fed, Need, Found, Lacks}
 use Rattle.dkg_core.specs.Live.{Live, Request}
-use Rattle.dkg_core.specs.Logs.{is_accepted}
+use Rattle.dkg_core.specs.Logs.{filled_by, is_accepted}
 use Rattle.dkg_core.specs.Sources as placed
 use Rattle.dkg_reshare.specs.Including.{fed_of}
 use Rattle.dkg_reshare.specs.InclusionOf.{tip_of}
@@ -293,8 +293,8 @@ module _ {Dir : Type 0} (c : Fixed Dir) (round : Round) (st : Live Dir) where
           by_test : (none : Bool)
               → (if none then Found [] else including.scan c round st None [] blocks ended)
               ≡ closed_by ended (fed_all check
-                  (record (at_scan None []) { next = (if none then None else Some (record { height = including.final_height c st - 1; digest = None })) })
-                  (if none then answer.Logs [] else answer.Need) blocks).0
+              (record (at_scan None []) { next = (if none then None else Some (record { height = including.final_height c st - 1; digest = None })) })
+              (if none then answer.Logs [] else answer.Need) blocks).0
           by_test true = sym (found_is (record (at_scan None []) { next = None }) [] blocks ended)
           by_test false = scan_is ended None [] blocks
 
@@ -320,3 +320,34 @@ module _ {Dir : Type 0} (c : Fixed Dir) (round : Round) (st : Live Dir) where
 pub fed_behind : {Dir : Type 0} (check : Check) (round : Round) (bounds : Bounds) (tip : Option Tip) (blocks : List (Block Dir)) (b : Block Dir) (s now : Scan) → IsFed check round bounds tip blocks s
     → feeds check s b ≡ (answer.Need, now) → IsSome now.next → IsFed check round bounds tip (blocks ++ b ∷ []) now
 fed_behind check round bounds tip blocks b s now is fed awaits = record { fed = fed_more check (starts round bounds tip) s (first_answer bounds.last) blocks b is.fed ∙ fed; awaits = awaits }
+
+-- WHAT WAS ANSWERED
+
+pub needs_is : (x : declared.Fed) → including.is_need (fed_of x) ≡ true → x ≡ answer.Need
+needs_is answer.Need is = refl
+needs_is (answer.Logs found) is = absurd (let e : false ≡ true = is in cc)
+needs_is (answer.Unavailable why) is = absurd (let e : false ≡ true = is in cc)
+
+pub not_need : (x : declared.Fed) → including.is_need (fed_of x) ≡ false → x ≡ answer.Need → ⊥
+not_need x none is = let e : true ≡ false = sym (ap (λ (f : declared.Fed). including.is_need (fed_of f)) is) ∙ none in cc
+
+pub is_answered : (x : declared.Fed) → (x ≡ answer.Need → ⊥) → including.is_need (fed_of x) ≡ false
+is_answered answer.Need apart = absurd (apart refl)
+is_answered (answer.Logs found) apart = refl
+is_answered (answer.Unavailable why) apart = refl
+
+-- FOUND LOGS FILL IN
+
+pub filled_is : (logs others : LogMap) → map_of others ≡ others → map_of (logs ++ others) ≡ filled_by logs others
+filled_is [] others is = is
+filled_is (p ∷ logs) others is = ap (λ (l : LogMap). with_pair p l) (filled_is logs others is)
+
+pub if_ok : {A E : Type 0} {P Q : A → Type 0} (r : Result A E) → ((x : A) → P x → Q x) → IfOk r P → IfOk r Q
+if_ok (Ok x) so is = so x is
+if_ok (Err e) so is = tt
+
+-- It stays as it was answered, unless it needs more and its ancestry has ended.
+pub open_by : (ended : Bool) (x : declared.Fed) → (true ≡ including.is_need (fed_of x) → ended ≡ false) → closed_by ended x ≡ fed_of x
+open_by ended answer.Need on = ap (λ (b : Bool). if b then Lacks Short else Need) (on refl)
+open_by ended (answer.Logs found) on = refl
+open_by ended (answer.Unavailable why) on = refl

@@ -102,7 +102,7 @@ module _ {Dir : Type 0} (c : Fixed Dir) (round : Round) (logs : LogMap) (st : Li
         → Some (dealings_of (record { me = me; dealings = dealings })) ≡ (including.job_for c round logs st).player
     seated plays some dealings is =
         let parts : ◌≡◌ {A = core.Dealings} (record { me = me; dealings = dealings }) (record { me = c.me; dealings = of_epoch round.number st.records.dealings }) =
-          (λ i. record { me = sym mine i; dealings = (is ∙ (λ j. of_epoch round.number (sym records j).dealings)) i }) in
+        (λ i. record { me = sym mine i; dealings = (is ∙ (λ j. of_epoch round.number (sym records j).dealings)) i }) in
         ap (λ (p : core.Dealings). Some p) parts ∙ ap seat (sym (finishes_by true false plays (at_one orphan some)))
 
     pub seated_passes : has round.players me ≡ true → true ≡ not orphan → refusal ≡ None → refusal_for c round logs st ≡ None
@@ -126,7 +126,7 @@ module _ (dealing_of : DealingOf) (finish_of : FinishOf) (round : Round) (logs :
       runs_seated plays some passes =
           let bears = λ (dealer : ℕ) (log : DealerLog). bears_ack_of round dealer log me in
           let none : list_any (is_orphan bears dealings) logs ≡ false =
-            ap (λ (d : DealingMap). has_orphan bears d logs) is ∙ at_one (has_orphan bears (at_epoch round.number store.dealings) logs) some in
+          ap (λ (d : DealingMap). has_orphan bears d logs) is ∙ at_one (has_orphan bears (at_epoch round.number store.dealings) logs) some in
           record {
             has_dealings = none_missing bears dealings logs selected (finish_of round me dealings logs) (none_any (is_orphan bears dealings) logs none) missing;
             plays = plays;

@@ -380,8 +380,8 @@ impl<
             Dir.matches_of c
             → IsSeen its beside.inclusion → EndsWith beside (λ i. OnOk result (IfIncluding self.new.state (λ life now. IsSeen now i)))
             (λ more. OnOk result (Took R.tells (R.taken self.old.registrar) (R.taken self.new.registrar) more))
-            (λ now. Makes D.files D.image X.held (works c (option_map result_of done) (live_of beside _fence.now old))
-            (lives (live_of now _fence.now) self.new.state result) devices.old devices.new out.old.entries out.new.entries)) }
+            (λ now. Makes D.files D.image X.held (works c (option_map result_of done) (live_of beside _fence.old old))
+            (lives (live_of now _fence.new) self.new.state result) devices.old devices.new out.old.entries out.new.entries)) }
         ensures tells { IsTrue P.tells → (c : Fixed Dir) (beside : Beside Dir) → IfIncluding self.old.state (λ old its. IsIn self.old.terms old.word c
             → ReadsToday c → IsRuledBy C.round_of C.deal_of C.dealing_of C.ack_of C.check_ack_of C.sign_log_of C.bears_ack_of C.share_public_of
             C.partial_public_of c.rules
@@ -389,8 +389,8 @@ impl<
             Dir.matches_of c
             → IsSeen its beside.inclusion → EndsWith beside (λ i. OnOk result (IfIncluding self.new.state (λ life now. IsSeen now i)))
             (λ more. OnOk result (Took R.tells (R.taken self.old.registrar) (R.taken self.new.registrar) more))
-            (λ now. Tells (works c (option_map result_of done) (live_of beside _fence.now old))
-            (lives (live_of now _fence.now) self.new.state result) out.old.entries out.new.entries)) }
+            (λ now. Tells (works c (option_map result_of done) (live_of beside _fence.old old))
+            (lives (live_of now _fence.new) self.new.state result) out.old.entries out.new.entries)) }
         // It may go on over these devices alone, or it has failed.
         ensures ends { EndsAt self.new.state result (λ life. IsReadyLife D.tells D.files D.image C.ack_of C.deal_of C.check_ack_of self.new.terms life
             devices.new) }

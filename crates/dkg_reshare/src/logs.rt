@@ -182,10 +182,7 @@ fn own_log<Dir: Directory + Drop>(life: &Life<Dir>) -> Option<&SignedDealerLog>
 }
 
 /// A copy of a log as a block carries it, if there is one.
-fn log_of<Dir: Directory>(
-    alloc: Global,
-    log: Option<&SignedDealerLog>,
-) -> Mem<Option<Payload<Dir>>>
+fn log_of<Dir: Directory>(alloc: Global, log: Option<&SignedDealerLog>) -> Mem<Option<Payload<Dir>>>
     ensures { IfOk result (λ made. made ≡ option_map log_payload (option_copied log.entry)) }
 {
     match log {

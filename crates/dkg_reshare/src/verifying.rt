@@ -33,6 +33,7 @@ ghost use Rattle.dkg_reshare.specs.InclusionOf.{IsReadyInclusion, IsRunnable, Is
 ghost use Rattle.dkg_reshare.specs.LiveOf.{records_of};
 ghost use Rattle.dkg_reshare.specs.Made.{Speaks};
 ghost use Rattle.dkg_reshare.specs.declared.stop.Stop.TheVariants.{Fault as Faulted};
+ghost use Rattle.dkg_reshare.specs.declared.told.EpochInfoResponse.TheVariants.{Available};
 
 use crate::answers::answer;
 use crate::artifacts::keep_artifact;
@@ -221,7 +222,7 @@ pub(crate) fn answer_by<
     ensures disk { devices.new.disk.now ≡ devices.old.disk.now }
     ensures held { X.held devices.new.secrets.now ≡ X.held devices.old.secrets.now }
     ensures told { OnOk result (IsSomeAnd cache.new (λ k. (k.0 ≡ verified.now.logs)
-        × (told.new ≡ maps.insert told.old request (Told.Info (EpochInfoResponse.Available (option_map info_payload k.1.info)))))) }
+        × (told.new ≡ maps.insert told.old request (Told.Info (Available (option_map info_payload k.1.info)))))) }
     ensures acts { IsTrue D.tells → IsTrue X.tells → IsTrue P.tells → (c : Fixed Dir) (st : Live Dir) → IsOf terms.now c → ReadsToday c
         → IncludesBy C.check_log_of C.outcome_of C.finish_of (P.participants_of provider.old) (P.directory_of provider.old) Dir.spelling Dir.matches_of c
         → st.participation.current ≡ store.old.current → st.inclusion.cached ≡ option_map cached_of cache.old

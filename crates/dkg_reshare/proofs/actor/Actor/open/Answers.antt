@@ -35,6 +35,6 @@ returns-clause-readable g c = λ told. let its = c.in_ok-life.ensures.readable t
 pub returns-clause-including : goal.returns-clause-including
 returns-clause-including g c = (
   empty_settled g.C.Ceremony.check_log_of g.C.Ceremony.dealing_of g.C.Ceremony.finish_of (non_zero_u64_get c.args.self.now.terms.blocks_per_epoch) c.in_ok-life.life c.new.result
-  c.new.ensures.empty.0 c.new.ensures.empty.1 c.new.ensures.empty.2 c.new.ensures.empty.3 c.in_ok-life.ensures.current,
+      c.new.ensures.empty.0 c.new.ensures.empty.1 c.new.ensures.empty.2 c.new.ensures.empty.3 c.in_ok-life.ensures.current,
   c.new.ensures.seen,
 )

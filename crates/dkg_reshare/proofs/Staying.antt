@@ -1,0 +1,94 @@
+-- What stays of a life, of its inclusion and of a provider, where requests are read.
+use Rattle.std.proofs.Common.{◌≡◌, ℕ, Bool, true, false, List, Option, Some, None, Result, Ok, Err, refl, sym, ◌∙◌, ap, subst}
+use Rattle.std.specs.Prelude.{IfErr, IfSome, IsSome}
+use Rattle.std.specs.FinMap.{FinMap}
+use Rattle.std.specs.Ordering.{nat_cmp}
+use Rattle.dkg_journal.specs.Names.{Files}
+use Rattle.dkg_ceremony.specs.Outcomes.{LogMap}
+use Rattle.dkg_ceremony.specs.Schedule.{midpoint}
+use Rattle.dkg_ceremony.specs.declared.round.RoundParts.{RoundParts as Round}
+use Rattle.dkg_types.specs.declared.fault.Fault.TheVariants.{NoMemory}
+use Rattle.dkg_artifact.specs.Seen.{Verification}
+use Rattle.dkg_artifact.specs.declared.artifact.Artifact as artifact
+use Rattle.dkg_artifact.specs.declared.job.Job.{Job}
+use Rattle.dkg_store.specs.declared.devices.Devices.{Devices}
+use Rattle.dkg_core.specs.Fixed.{Fixed}
+use Rattle.dkg_reshare.specs.declared.config.Terms.{Terms}
+use Rattle.dkg_reshare.specs.declared.inclusion.Inclusion.{Inclusion}
+use Rattle.dkg_reshare.specs.declared.life.Life.{Life}
+use Rattle.dkg_reshare.specs.declared.life.Stage.TheVariants as stage
+use Rattle.dkg_reshare.specs.declared.stop.Stop.{Stop}
+use Rattle.dkg_reshare.specs.declared.stop.Stop.TheVariants.{Fault as Faulted}
+use Rattle.dkg_reshare.specs.declared.told.Told.{Told}
+use Rattle.dkg_reshare.specs.Actors.{IsReadyLife}
+use Rattle.dkg_reshare.specs.Ends.{IsCaused}
+use Rattle.dkg_reshare.specs.InclusionOf.{IsReadyInclusion, IsRunnable, IsSettledInclusion}
+use Rattle.dkg_reshare.specs.LiveOf.{IsPlaced}
+use Rattle.dkg_reshare.specs.Moved.{IsFirm}
+use Rattle.dkg_reshare.specs.Rules.{AckOf, CheckAckOf, CheckLogOf, DealOf, DealingOf, FinishOf, IncludesBy, OutcomeOf, SameProvided}
+
+-- A life on devices whose disk is as it was.
+pub ready_on : {Dir D X : Type 0} (tells : Bool) (files : D → Files) (image : D → Files → Type 0) (ack_of : AckOf) (deal_of : DealOf) (check_ack_of : CheckAckOf) (terms : Terms) (old new : Life Dir) (before now : Devices D X)
+    → new ≡ old → now.disk.now ≡ before.disk.now → IsReadyLife tells files image ack_of deal_of check_ack_of terms old before → IsReadyLife tells files image ack_of deal_of check_ack_of terms new now
+ready_on {Dir} {D} {X} tells files image ack_of deal_of check_ack_of terms old new before now same disk ready =
+    subst (λ (l : Life Dir). IsReadyLife tells files image ack_of deal_of check_ack_of terms l now) (sym same) (record {
+      seated = ready.seated;
+      dealing = ready.dealing;
+      placed = ready.placed;
+      within = ready.within;
+      firm = λ told. subst (λ (d : D). IsFirm old.store.journal (files d) (image d)) (sym disk) (ready.firm told);
+    })
+
+-- A provider that says the same includes by the same.
+pub includes_on : {Dir : Type 0} {check_log_of : CheckLogOf} {outcome_of : OutcomeOf} {finish_of : FinishOf} {old new : ℕ → List ℕ} {before now : ℕ → List ℕ → Dir} {spelling : Dir → List ℕ} {matches : Dir → List ℕ → Bool}
+    (c : Fixed Dir) → SameProvided old new before now → IncludesBy check_log_of outcome_of finish_of old before spelling matches c → IncludesBy check_log_of outcome_of finish_of new now spelling matches c
+includes_on c same by = record {
+  check_log = by.check_log;
+  outcome = by.outcome;
+  finish = by.finish;
+  participants_are = λ epoch. by.participants_are epoch ∙ sym (same.0 epoch);
+  directory_is = λ epoch peers. by.directory_is epoch peers ∙ sym (same.1 epoch peers);
+  spelling_is = by.spelling_is;
+  matches_are = by.matches_are;
+}
+
+-- want of memory blames nothing
+pub want_blames : {T : Type 0} (disk secrets reached : Type 0) (r : Result T Stop) → IfErr r (λ stop. stop ≡ Faulted NoMemory) → IfErr r (λ stop. IsCaused stop disk secrets reached)
+want_blames disk secrets reached (Ok x) is = tt
+want_blames disk secrets reached (Err stop) is = let P : Stop → Type 0 = λ its. IsCaused its disk secrets reached in subst P (sym is) tt
+
+-- the midpoint, while requests are read
+pub middle_of : {Dir : Type 0} (n : ℕ) (life : Life Dir) (c : Fixed Dir) → c.blocks_per_epoch ≡ n → IsPlaced n life → life.stage ≡ stage.Including → midpoint c.blocks_per_epoch life.epoch ≡ life.midpoint
+middle_of n life c blocks placed includes = λ i. (ap (λ (b : ℕ). midpoint b life.epoch) blocks ∙ sym (placed.midpoint_is (λ follows. let e : stage.Including ≡ stage.Following = sym includes ∙ follows in cc))) i
+
+module _ {C Dir Signer Cfg : Type 0} (check_log_of : CheckLogOf) (dealing_of : DealingOf) (finish_of : FinishOf) (n : ℕ) (life : Life Dir) (its : Inclusion C Dir Signer Cfg) where
+  -- other answers
+  pub ready_answered : (cache : Option (LogMap × artifact.Artifact Dir)) (told : FinMap nat_cmp (Told Dir)) → IsReadyInclusion check_log_of dealing_of finish_of n life its
+      → IsReadyInclusion check_log_of dealing_of finish_of n life (record its { cache = cache; told = told })
+  ready_answered cache told ready = record { hand = ready.hand; free = ready.free; runs = ready.runs; idle = ready.idle; current = ready.current; unserved = ready.unserved }
+
+  pub settled_answered : (cache : Option (LogMap × artifact.Artifact Dir)) (told : FinMap nat_cmp (Told Dir)) → IsSettledInclusion check_log_of dealing_of finish_of n life its
+      → IsSettledInclusion check_log_of dealing_of finish_of n life (record its { cache = cache; told = told })
+  settled_answered cache told settled = record { ready = ready_answered cache told settled.ready; settled = settled.settled }
+
+  -- A verification runs, while none is in hand.
+  pub ready_verifying : (new : Inclusion C Dir Signer Cfg) → new ≡ record its { verification = new.verification; waiter = new.waiter } → its.hand ≡ None → life.stage ≡ stage.Including
+      → (round : Round) → life.round ≡ Some round → IfSome new.verification.running (λ j. (j.round ≡ round) × IsRunnable dealing_of finish_of j) → IsReadyInclusion check_log_of dealing_of finish_of n life its
+      → IsReadyInclusion check_log_of dealing_of finish_of n life new
+  ready_verifying new rest none includes round has runs ready =
+      subst (λ (x : Inclusion C Dir Signer Cfg). IsReadyInclusion check_log_of dealing_of finish_of n life x) (sym rest) (record {
+        hand = ready.hand;
+        free = λ some. no_hand its.hand none some;
+        runs = by_job new.verification.running runs;
+        idle = ready.idle;
+        current = ready.current;
+        unserved = ready.unserved;
+      })
+    where
+      no_hand : {A : Type 0} {P : Type 0} (o : Option A) → o ≡ None → IsSome o → P
+      no_hand None none some = absurd (let e : false ≡ true = some in cc)
+      no_hand (Some x) none some = absurd (let e : ◌≡◌ {A = Option A} (Some x) None = none in cc)
+
+      by_job : (job : Option Job) → IfSome job (λ j. (j.round ≡ round) × IsRunnable dealing_of finish_of j) → IfSome job (λ j. (life.stage ≡ stage.Including) × (life.round ≡ Some j.round) × IsRunnable dealing_of finish_of j)
+      by_job None is = tt
+      by_job (Some j) is = (includes, has ∙ ap (λ (r : Round). Some r) (sym is.0), is.1)
