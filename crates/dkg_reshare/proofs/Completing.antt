@@ -156,6 +156,12 @@ module _ {Dir : Type 0} (c : Fixed Dir) (reshare : c.oneshot ≡ None) (r : core
         let how = ends_in (telling request kept_st) result in
         same_told answers_kept (then_told keeping behind kept_st how told (speaks_tells (behind kept_st) how (says_behind result mid now says)))
 
+-- the artifact of some logs that is kept
+pub kept_here : {Dir : Type 0} (cache : Option (LogMap × artifact.Artifact Dir)) (logs : LogMap) (made : artifact.Artifact Dir) → IsSomeAnd cache (λ k. k.0 ≡ logs)
+    → Some made ≡ option_map (λ k. k.1) cache → cache ≡ Some (logs, made)
+kept_here None logs made has is = absurd has
+kept_here {Dir} (Some k) logs made has is = let same : made ≡ k.1 = cc in λ i. Some (has i, sym same i)
+
 -- .. and memory has it
 module _ {C Dir Signer Cfg : Type 0} (its : Inclusion C Dir Signer Cfg) (beside : Beside Dir) (fence : Readiness) (life : Life Dir) (seen : IsSeen its beside.inclusion)
     (cache : Option (LogMap × artifact.Artifact Dir)) (answers : FinMap nat_cmp (Told Dir)) (request : ℕ) (logs : LogMap)
