@@ -339,7 +339,9 @@ fn is_same_info<Dir: Directory + Drop>(
         return Ok(false);
     }
     let spelled = encode(alloc, one)?;
-    Ok(spelled.same(&encode(alloc, other)?))
+    let twin = encode(alloc, other)?;
+    let same = spelled.same(&twin);
+    Ok(same)
 }
 
 /// The artifact's share, where its info is the one that the block carries (`share_for`).

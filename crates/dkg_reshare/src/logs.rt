@@ -30,7 +30,7 @@ use crate::inclusion::Inclusion;
 use crate::life::{Life, Stage};
 use crate::stop::Stop;
 use crate::told::Told;
-use dkg_ceremony::{Ceremony, DealerLog, Round, SignedDealerLog};
+use dkg_ceremony::{Ceremony, Round, SignedDealerLog};
 use dkg_journal::Disk;
 use dkg_store::{Devices, SecretStore, Store};
 use dkg_types::{Block, Directory, Entry, Fault, Payload, ReshareBlock, Transcript};
@@ -63,10 +63,12 @@ fn is_accepted<C: Ceremony>(
 }
 
 /// Whether a record of the journal has room for a log, with what stands before it.
-fn has_room(log: &DealerLog) -> bool
-    ensures { IsTrue result → length (log_spelling log.now) < 2 ^ 31 }
+fn has_room(signed: &SignedDealerLog) -> bool
+    ensures room { IsTrue result → length (log_spelling signed.now.log) < 2 ^ 31 }
+    ensures dealer { signed.now.dealer < 2 ^ 32 }
 {
-    log.encode_size() < 0x8000_0000
+    let _number = signed.dealer.number();
+    signed.log.encode_size() < 0x8000_0000
 }
 
 /// Records a dealer's first log, with the height of its block (`records_log`). A log of 2^31 bytes or more is answered by want of memory.
@@ -96,7 +98,7 @@ fn record<Dir: Directory + Drop, D: Disk, X: SecretStore>(
     if store.has_log(epoch, signed.dealer) {
         return Ok(());
     }
-    if !has_room(&signed.log) {
+    if !has_room(signed) {
         return Err(Stop::Fault(Fault::NoMemory));
     }
     let log = signed.log.copy(alloc)?;
@@ -182,10 +184,7 @@ fn own_log<Dir: Directory + Drop>(life: &Life<Dir>) -> Option<&SignedDealerLog>
 }
 
 /// A copy of a log as a block carries it, if there is one.
-fn log_of<Dir: Directory>(
-    alloc: Global,
-    log: Option<&SignedDealerLog>,
-) -> Mem<Option<Payload<Dir>>>
+fn log_of<Dir: Directory>(alloc: Global, log: Option<&SignedDealerLog>) -> Mem<Option<Payload<Dir>>>
     ensures { IfOk result (λ made. made ≡ option_map log_payload (option_copied log.entry)) }
 {
     match log {

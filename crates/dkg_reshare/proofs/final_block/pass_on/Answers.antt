@@ -12,13 +12,12 @@ use Rattle.dkg_store.specs.Acts.{went}
 use Rattle.dkg_reshare.proofs.Applying.{can_read}
 use Rattle.dkg_reshare.proofs.Beginning.{makes_as, tells_as}
 use Rattle.dkg_reshare.proofs.Beside.{emptied, emptied_fresh, then_well, with_as, with_in, with_then}
-use Rattle.dkg_reshare.proofs.Blaming.{want_caused}
 use Rattle.dkg_reshare.proofs.Burning.{speaks_makes}
 use Rattle.dkg_reshare.proofs.Chained.{early_makes, early_told, then_makes, then_told}
 use Rattle.dkg_reshare.proofs.Committing.{in_any}
 use Rattle.dkg_reshare.proofs.Included.{anew_settled, seen_anew}
 use Rattle.dkg_reshare.proofs.Kept.{moved_none}
-use Rattle.dkg_reshare.proofs.PassingOn.{passes_as, sets_up, sets_up_anew}
+use Rattle.dkg_reshare.proofs.PassingOn.{passes_as, sets_up, sets_up_anew, wanted}
 use Rattle.dkg_reshare.proofs.Said.{speaks_tells}
 use Rattle.dkg_reshare.proofs.final_block.pass_on.Goals as goal
 
@@ -64,7 +63,7 @@ returns-in_err-answer_all-clause-moved g c = moved_none g.D.Disk.tells g.D.Disk.
 pub returns-in_err-answer_all-clause-causes : goal.returns-in_err-answer_all-clause-causes
 returns-in_err-answer_all-clause-causes g c =
     let p = err_from_is_err_and c.from_residual.result c.from_residual.ensures.1 in
-    rw (p.1, p.2) (want_caused _ _ _ c.answer_all.result c.answer_all.ensures.memory)
+    rw (p.1, p.2) (wanted g.D.Disk.tells c.in_err-answer_all.field-0.0 c.in_err-answer_all.ensures.memory)
 
 -- IT GOES ON
 

@@ -8,7 +8,7 @@ use Rattle.dkg_reshare.specs.declared.life.Life.{Life}
 use Rattle.dkg_reshare.proofs.Applying.{firm_on, in_word}
 use Rattle.dkg_reshare.proofs.Beginning.{makes_as, tells_as}
 use Rattle.dkg_reshare.proofs.Beside.{then_well, took_then}
-use Rattle.dkg_reshare.proofs.Blaming.{result_caused_by, want_caused}
+use Rattle.dkg_reshare.proofs.Blaming.{result_caused_by}
 use Rattle.dkg_reshare.proofs.Burning.{speaks_makes}
 use Rattle.dkg_reshare.proofs.Caused.{caused_around, rose_around}
 use Rattle.dkg_reshare.proofs.Kept.{moved_none, moved_then}

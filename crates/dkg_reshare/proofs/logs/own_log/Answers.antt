@@ -6,6 +6,3 @@ use Rattle.dkg_reshare.proofs.logs.own_log.Goals as goal
 
 pub returns-in-Some : goal.returns-in-Some
 returns-in-Some g c = λ beside fence. c.finalized.ensures ∙ sym (ap (λ (o : Option Dealer). option_and_then (λ d. d.log) (option_map dealer_of o)) c.in-Some.is)
-
-pub returns-in_default : goal.returns-in_default
-returns-in_default g c = λ beside fence. sym (ap (λ (o : Option Dealer). option_and_then (λ d. d.log) (option_map dealer_of o)) c.in_default.is)

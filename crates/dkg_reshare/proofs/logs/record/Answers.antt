@@ -78,7 +78,7 @@ returns-in_err-log-clause-fit g c = λ told most fits fit. fit
 pub append_log-requires-clause-short : goal.append_log-requires-clause-short
 append_log-requires-clause-short g c =
     let yes : c.has_room.result ≡ true = grind (arith, common_steps) in
-    rw c.in_ok-log.ensures (log_short c.args.signed.now.dealer c.args.height c.args.signed.now.log (c.has_room.ensures yes))
+    rw c.in_ok-log.ensures (log_short c.args.signed.now.dealer c.args.height c.args.signed.now.log (c.has_room.ensures.room yes))
 
 pub append_log-requires-clause-open : goal.append_log-requires-clause-open
 append_log-requires-clause-open g c = λ told. (c.requires.firm told).open_on
@@ -111,7 +111,7 @@ returns-in_err-append_log-clause-causes g c =
 
 pub returns-in_err-append_log-clause-fit : goal.returns-in_err-append_log-clause-fit
 returns-in_err-append_log-clause-fit g c = λ told most fits fit.
-    (rw c.in_ok-log.ensures at (c.append_log.ensures.extends told)).fit most (fits_event most (events.LogAt c.args.signed.now.dealer c.args.height c.args.signed.now.log) (record { one = search rules; other = record { one = search rules; other = fits } })) fit
+    (rw c.in_ok-log.ensures at (c.append_log.ensures.extends told)).fit most (fits_event most (events.LogAt c.args.signed.now.dealer c.args.height c.args.signed.now.log) (record { one = c.has_room.ensures.dealer; other = record { one = search rules; other = fits } })) fit
 
 -- .. or not
 
@@ -138,4 +138,4 @@ returns-clause-moved g c = moved_called g.D.Disk.tells g.D.Disk.made g.X.SecretS
 
 pub returns-clause-fit : goal.returns-clause-fit
 returns-clause-fit g c = λ told most fits fit.
-    (rw c.in_ok-log.ensures at (c.append_log.ensures.extends told)).fit most (fits_event most (events.LogAt c.args.signed.now.dealer c.args.height c.args.signed.now.log) (record { one = search rules; other = record { one = search rules; other = fits } })) fit
+    (rw c.in_ok-log.ensures at (c.append_log.ensures.extends told)).fit most (fits_event most (events.LogAt c.args.signed.now.dealer c.args.height c.args.signed.now.log) (record { one = c.has_room.ensures.dealer; other = record { one = search rules; other = fits } })) fit
