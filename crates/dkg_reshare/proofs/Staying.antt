@@ -25,6 +25,7 @@ use Rattle.dkg_reshare.specs.Ends.{IsCaused}
 use Rattle.dkg_reshare.specs.InclusionOf.{IsReadyInclusion, IsRunnable, IsSettledInclusion}
 use Rattle.dkg_reshare.specs.LiveOf.{IsPlaced}
 use Rattle.dkg_reshare.specs.Moved.{IsFirm}
+use Rattle.dkg_reshare.proofs.Blamed.{caused_more}
 use Rattle.dkg_reshare.specs.Rules.{AckOf, CheckAckOf, CheckLogOf, DealOf, DealingOf, FinishOf, IncludesBy, OutcomeOf, SameProvided}
 
 -- A life on devices whose disk is as it was.
@@ -86,9 +87,32 @@ module _ {C Dir Signer Cfg : Type 0} (check_log_of : CheckLogOf) (dealing_of : D
       })
     where
       no_hand : {A : Type 0} {P : Type 0} (o : Option A) → o ≡ None → IsSome o → P
-      no_hand None none some = absurd (let e : false ≡ true = some in cc)
-      no_hand (Some x) none some = absurd (let e : ◌≡◌ {A = Option A} (Some x) None = none in cc)
+      no_hand {A = A} None none some = absurd (let e : false ≡ true = some in cc)
+      no_hand {A = A} (Some x) none some = absurd (let e : ◌≡◌ {A = Option A} (Some x) None = none in cc)
 
       by_job : (job : Option Job) → IfSome job (λ j. (j.round ≡ round) × IsRunnable dealing_of finish_of j) → IfSome job (λ j. (life.stage ≡ stage.Including) × (life.round ≡ Some j.round) × IsRunnable dealing_of finish_of j)
       by_job None is = tt
       by_job (Some j) is = (includes, has ∙ ap (λ (r : Round). Some r) (sym is.0), is.1)
+
+-- one value
+pub some_value : {A : Type 0} (a b : A) → ◌≡◌ {A = Option A} (Some a) (Some b) → a ≡ b
+some_value {A} a b is = ap (λ (o : Option A). by_one o) is
+  where
+    by_one : Option A → A
+    by_one None = a
+    by_one (Some x) = x
+
+-- What was caused by nothing is caused by anything.
+pub nothing_blames : {T : Type 0} {disk secrets reached : Type 0} (r : Result T Stop) → IfErr r (λ stop. IsCaused stop ⊥ ⊥ ⊥) → IfErr r (λ stop. IsCaused stop disk secrets reached)
+nothing_blames (Ok x) is = tt
+nothing_blames (Err stop) is = caused_more (λ x. absurd x) (λ x. absurd x) (λ x. absurd x) stop is
+
+pub verifying_rest : {C Dir Signer Cfg : Type 0} (old new : Inclusion C Dir Signer Cfg) → new ≡ record old { verification = new.verification; waiter = new.waiter }
+    → new ≡ record old { verification = new.verification; waiter = new.waiter; cache = new.cache; told = new.told }
+verifying_rest {C} {Dir} {Signer} {Cfg} old new rest =
+    rest ∙ (λ i. record old {
+      verification = new.verification;
+      waiter = new.waiter;
+      cache = sym (ap (λ (x : Inclusion C Dir Signer Cfg). x.cache) rest) i;
+      told = sym (ap (λ (x : Inclusion C Dir Signer Cfg). x.told) rest) i;
+    })
