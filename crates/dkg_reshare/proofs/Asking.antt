@@ -123,6 +123,9 @@ module _ {C Dir Signer Cfg : Type 0} (its : Inclusion C Dir Signer Cfg) (i : cor
     used = seen.used;
   }
 
+  pub seen_requests : (requests : List (requested.Request Dir)) → requests ≡ its.requests → IsSeen (record its { requests = requests }) i
+  seen_requests requests same = seen_queue its i its.hand requests i.queue (seen.queue ∙ ap (λ (rs : List (requested.Request Dir)). map request_of (in_front its.hand rs)) (sym same)) seen
+
   -- nobody waits for the verification
   pub seen_nobody : IsSeen (record its { waiter = None }) (record i { waiter = None })
   seen_nobody = record {

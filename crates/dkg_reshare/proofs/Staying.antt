@@ -1,19 +1,20 @@
 -- What stays of a life, of its inclusion and of a provider, where requests are read.
 use Rattle.std.proofs.Common.{◌≡◌, ℕ, Bool, true, false, List, Option, Some, None, Result, Ok, Err, refl, sym, ◌∙◌, ap, subst}
-use Rattle.std.specs.Prelude.{IfErr, IfSome, IsSome}
+use Rattle.std.specs.Prelude.{[], IfErr, IfNone, IfSome, IsSome, IsSomeAnd, option_map}
 use Rattle.std.specs.FinMap.{FinMap}
 use Rattle.std.specs.Ordering.{nat_cmp}
 use Rattle.dkg_journal.specs.Names.{Files}
 use Rattle.dkg_ceremony.specs.Outcomes.{LogMap}
-use Rattle.dkg_ceremony.specs.Schedule.{midpoint}
+use Rattle.dkg_ceremony.specs.Schedule.{bounds_at, midpoint}
 use Rattle.dkg_ceremony.specs.declared.round.RoundParts.{RoundParts as Round}
 use Rattle.dkg_types.specs.declared.fault.Fault.TheVariants.{NoMemory}
-use Rattle.dkg_artifact.specs.Seen.{Verification}
+use Rattle.dkg_artifact.specs.Requested as requested
 use Rattle.dkg_artifact.specs.declared.artifact.Artifact as artifact
 use Rattle.dkg_artifact.specs.declared.job.Job.{Job}
 use Rattle.dkg_store.specs.declared.devices.Devices.{Devices}
 use Rattle.dkg_core.specs.Fixed.{Fixed}
 use Rattle.dkg_reshare.specs.declared.config.Terms.{Terms}
+use Rattle.dkg_reshare.specs.declared.inclusion.Hand.{Hand}
 use Rattle.dkg_reshare.specs.declared.inclusion.Inclusion.{Inclusion}
 use Rattle.dkg_reshare.specs.declared.life.Life.{Life}
 use Rattle.dkg_reshare.specs.declared.life.Stage.TheVariants as stage
@@ -22,11 +23,12 @@ use Rattle.dkg_reshare.specs.declared.stop.Stop.TheVariants.{Fault as Faulted}
 use Rattle.dkg_reshare.specs.declared.told.Told.{Told}
 use Rattle.dkg_reshare.specs.Actors.{IsReadyLife}
 use Rattle.dkg_reshare.specs.Ends.{IsCaused}
-use Rattle.dkg_reshare.specs.InclusionOf.{IsReadyInclusion, IsRunnable, IsSettledInclusion}
-use Rattle.dkg_reshare.specs.LiveOf.{IsPlaced}
+use Rattle.dkg_reshare.specs.InclusionOf.{IsReadyInclusion, IsRunnable, IsSettledInclusion, tip_of}
+use Rattle.dkg_reshare.specs.LiveOf.{IsPlaced, awaited_of}
 use Rattle.dkg_reshare.specs.Moved.{IsFirm}
 use Rattle.dkg_reshare.proofs.Blamed.{caused_more}
 use Rattle.dkg_reshare.specs.Rules.{AckOf, CheckAckOf, CheckLogOf, DealOf, DealingOf, FinishOf, IncludesBy, OutcomeOf, SameProvided}
+use Rattle.dkg_reshare.specs.Scanned.{IsFed}
 
 -- A life on devices whose disk is as it was.
 pub ready_on : {Dir D X : Type 0} (tells : Bool) (files : D → Files) (image : D → Files → Type 0) (ack_of : AckOf) (deal_of : DealOf) (check_ack_of : CheckAckOf) (terms : Terms) (old new : Life Dir) (before now : Devices D X)
@@ -103,9 +105,9 @@ some_value {A} a b is = ap (λ (o : Option A). by_one o) is
     by_one (Some x) = x
 
 -- What was caused by nothing is caused by anything.
-pub nothing_blames : {T : Type 0} {disk secrets reached : Type 0} (r : Result T Stop) → IfErr r (λ stop. IsCaused stop ⊥ ⊥ ⊥) → IfErr r (λ stop. IsCaused stop disk secrets reached)
-nothing_blames (Ok x) is = tt
-nothing_blames (Err stop) is = caused_more (λ x. absurd x) (λ x. absurd x) (λ x. absurd x) stop is
+pub nothing_blames : {T : Type 0} (disk secrets reached : Type 0) (r : Result T Stop) → IfErr r (λ stop. IsCaused stop ⊥ ⊥ ⊥) → IfErr r (λ stop. IsCaused stop disk secrets reached)
+nothing_blames disk secrets reached (Ok x) is = tt
+nothing_blames disk secrets reached (Err stop) is = caused_more (λ x. absurd x) (λ x. absurd x) (λ x. absurd x) stop is
 
 pub verifying_rest : {C Dir Signer Cfg : Type 0} (old new : Inclusion C Dir Signer Cfg) → new ≡ record old { verification = new.verification; waiter = new.waiter }
     → new ≡ record old { verification = new.verification; waiter = new.waiter; cache = new.cache; told = new.told }
@@ -116,3 +118,43 @@ verifying_rest {C} {Dir} {Signer} {Cfg} old new rest =
       cache = sym (ap (λ (x : Inclusion C Dir Signer Cfg). x.cache) rest) i;
       told = sym (ap (λ (x : Inclusion C Dir Signer Cfg). x.told) rest) i;
     })
+
+pub none_of : {A : Type 0} (o : Option A) → ((x : A) → o ≡ Some x → ⊥) → o ≡ None
+none_of None apart = refl
+none_of (Some x) apart = absurd (apart x refl)
+
+pub at_none : {A : Type 0} (P : Type 0) (o : Option A) → o ≡ None → IfNone o P → P
+at_none {A} P o is has = let Q : Option A → Type 0 = λ q. IfNone q P in subst Q is has
+
+pub some_is : {A : Type 0} (o : Option A) (x : A) → o ≡ Some x → IsSome o
+some_is {A} o x is = subst (λ (q : Option A). IsSome q) (sym is) refl
+
+pub unless_none : {A P : Type 0} (o : Option A) → o ≡ None → IsSome o → P
+unless_none {A} {P} o none some = absurd (let e : false ≡ true = subst (λ (q : Option A). IsSome q) none some in cc)
+
+module _ {C Dir Signer Cfg : Type 0} (check_log_of : CheckLogOf) (dealing_of : DealingOf) (finish_of : FinishOf) (n : ℕ) (life : Life Dir) (its : Inclusion C Dir Signer Cfg) (includes : life.stage ≡ stage.Including)
+    (ready : IsReadyInclusion check_log_of dealing_of finish_of n life its)
+  where
+    not_idle : (requests : List (requested.Request Dir)) → life.stage ≡ stage.Following → requests ≡ []
+    not_idle requests follows = absurd (let e : stage.Including ≡ stage.Following = sym includes ∙ follows in cc)
+
+    -- other requests wait
+    pub ready_requests : (requests : List (requested.Request Dir)) → IsReadyInclusion check_log_of dealing_of finish_of n life (record its { requests = requests })
+    ready_requests requests = record { hand = ready.hand; free = ready.free; runs = ready.runs; idle = not_idle requests; current = ready.current; unserved = ready.unserved }
+
+    -- .. and one is in hand
+    pub ready_held : (hand : Hand Dir Cfg) (requests : List (requested.Request Dir)) → its.verification.running ≡ None → hand.request.ended ≡ false
+        → (round : Round) → life.round ≡ Some round → IsFed check_log_of round (bounds_at n (awaited_of life)) (option_map tip_of life.tip) hand.request.blocks hand.scan
+        → IsReadyInclusion check_log_of dealing_of finish_of n life (record its { hand = Some hand; requests = requests })
+    ready_held hand requests free on round has fed = record {
+      hand = record {
+        includes = includes;
+        goes_on = on;
+        stands = subst (λ (o : Option Round). IsSomeAnd o (λ r. IsFed check_log_of r (bounds_at n (awaited_of life)) (option_map tip_of life.tip) hand.request.blocks hand.scan)) (sym has) fed;
+      };
+      free = λ some. free;
+      runs = ready.runs;
+      idle = not_idle requests;
+      current = ready.current;
+      unserved = ready.unserved;
+    }

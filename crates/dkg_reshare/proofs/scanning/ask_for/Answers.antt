@@ -130,4 +130,4 @@ pub returns-clause-moved : goal.returns-clause-moved
 returns-clause-moved g c = moved_none g.D.Disk.tells g.D.Disk.made g.X.SecretStore.made g.D.Disk.faults g.X.SecretStore.faults g.met.D.Disk.made_none g.met.X.SecretStore.made_none c.args.devices.now
 
 pub returns-clause-causes : goal.returns-clause-causes
-returns-clause-causes g c = nothing_blames c.start_verifying.result c.start_verifying.ensures.causes
+returns-clause-causes g c = nothing_blames _ _ _ c.start_verifying.result c.start_verifying.ensures.causes
