@@ -340,3 +340,14 @@ module _ {C Dir Signer Cfg W : Type 0} (R : Course Dir Fault (Live Dir) → Ende
         (joins.next (on_fed c round request (fed_of x) (live_of behind_hand fence life)) (λ now. advances c (length (map request_of its.requests)) now) (live_of now fence later) how a b z first
         (subst (λ (q : List (core.Request Dir)). R (advances c (length q) (live_of now fence later)) how b z)
         (seen_now.queue ∙ (λ i. map request_of (in_front (none i) (same i)))) second))
+
+-- THOSE THAT WAIT are no more than there are in all
+
+pub front_length : {Dir Cfg : Type 0} (hand : Option (Hand Dir Cfg)) (requests : List (requested.Request Dir)) → length requests ≤ length (map request_of (in_front hand requests))
+front_length None requests = omega (arith, length-map requests request_of)
+front_length (Some hand) requests = omega (arith, length-map requests request_of)
+
+-- one fewer waits behind the first
+pub behind_length : {A : Type 0} (rs now : List A) (turn count : ℕ) → now ≡ behind_first rs → length rs + turn ≤ count → turn < count → length now + (turn + 1) ≤ count
+behind_length [] now turn count is left in_time = let e : length now ≡ 0 = ap length is in omega (arith, e, left, in_time)
+behind_length (r ∷ rs) now turn count is left in_time = let e : length now ≡ length rs = ap length is in omega (arith, e, left, in_time)
