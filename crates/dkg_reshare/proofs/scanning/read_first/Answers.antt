@@ -40,24 +40,24 @@ returns-in_default-clause-left g c = λ some. unless_none c.args.life.now.round 
 
 -- NOTHING WAITS
 
-pub returns-in_default-request-clause-acts : goal.returns-in_default-request-clause-acts
-returns-in_default-request-clause-acts g c = λ disk secrets provider fixed beside fence of reads by includes seen.
-    ends_beside beside (seen_requests c.args.inclusion.now beside.inclusion seen c.pop.new.self ((at_none _ c.pop.result (none_of c.pop.result c.in_default-request.not-Some) c.pop.ensures.none).1 ∙ sym (at_none _ c.pop.result (none_of c.pop.result c.in_default-request.not-Some) c.pop.ensures.none).0)) refl (joined_as (MakesOver g.D.Disk.files g.D.Disk.image g.X.SecretStore.held) {x = (c.args.devices.now, c.args.out.now.entries)} {y = (c.args.devices.now, c.args.out.now.entries)} (waits_next fixed (live_of beside fence c.args.life.now) (settled_waits g.C.Ceremony.check_log_of g.C.Ceremony.dealing_of g.C.Ceremony.finish_of (non_zero_u64_get c.args.terms.now.blocks_per_epoch) c.args.life.now c.requires.ready.placed fixed of.blocks includes.check_log beside fence c.args.inclusion.now seen
-    (record { ready = c.requires.including; settled = λ is round none free. (at_none _ c.pop.result (none_of c.pop.result c.in_default-request.not-Some) c.pop.ensures.none).0 }))) (makes_nothing (g.D.Disk.files c.args.devices.now.disk.now) (g.D.Disk.image c.args.devices.now.disk.now) _ refl))
+pub returns-in_default-pop-clause-acts : goal.returns-in_default-pop-clause-acts
+returns-in_default-pop-clause-acts g c = λ disk secrets provider fixed beside fence of reads by includes seen.
+    ends_beside beside (seen_requests c.args.inclusion.now beside.inclusion seen c.pop.new.self ((at_none _ c.pop.result (none_of c.pop.result c.in_default-pop.not-Some) c.pop.ensures.none).1 ∙ sym (at_none _ c.pop.result (none_of c.pop.result c.in_default-pop.not-Some) c.pop.ensures.none).0)) refl (joined_as (MakesOver g.D.Disk.files g.D.Disk.image g.X.SecretStore.held) {x = (c.args.devices.now, c.args.out.now.entries)} {y = (c.args.devices.now, c.args.out.now.entries)} (waits_next fixed (live_of beside fence c.args.life.now) (settled_waits g.C.Ceremony.check_log_of g.C.Ceremony.dealing_of g.C.Ceremony.finish_of (non_zero_u64_get c.args.terms.now.blocks_per_epoch) c.args.life.now c.requires.ready.placed fixed of.blocks includes.check_log beside fence c.args.inclusion.now seen
+    (record { ready = c.requires.including; settled = λ is round none free. (at_none _ c.pop.result (none_of c.pop.result c.in_default-pop.not-Some) c.pop.ensures.none).0 }))) (makes_nothing (g.D.Disk.files c.args.devices.now.disk.now) (g.D.Disk.image c.args.devices.now.disk.now) _ refl))
 
-pub returns-in_default-request-clause-tells : goal.returns-in_default-request-clause-tells
-returns-in_default-request-clause-tells g c = λ provider fixed beside fence of reads by includes seen.
-    ends_beside beside (seen_requests c.args.inclusion.now beside.inclusion seen c.pop.new.self ((at_none _ c.pop.result (none_of c.pop.result c.in_default-request.not-Some) c.pop.ensures.none).1 ∙ sym (at_none _ c.pop.result (none_of c.pop.result c.in_default-request.not-Some) c.pop.ensures.none).0)) refl (joined_as TellsOver {x = c.args.out.now.entries} {y = c.args.out.now.entries} (waits_next fixed (live_of beside fence c.args.life.now) (settled_waits g.C.Ceremony.check_log_of g.C.Ceremony.dealing_of g.C.Ceremony.finish_of (non_zero_u64_get c.args.terms.now.blocks_per_epoch) c.args.life.now c.requires.ready.placed fixed of.blocks includes.check_log beside fence c.args.inclusion.now seen
-    (record { ready = c.requires.including; settled = λ is round none free. (at_none _ c.pop.result (none_of c.pop.result c.in_default-request.not-Some) c.pop.ensures.none).0 }))) (goes_told g.row.Dir.Denot (live_of beside fence c.args.life.now) c.args.out.now.entries))
+pub returns-in_default-pop-clause-tells : goal.returns-in_default-pop-clause-tells
+returns-in_default-pop-clause-tells g c = λ provider fixed beside fence of reads by includes seen.
+    ends_beside beside (seen_requests c.args.inclusion.now beside.inclusion seen c.pop.new.self ((at_none _ c.pop.result (none_of c.pop.result c.in_default-pop.not-Some) c.pop.ensures.none).1 ∙ sym (at_none _ c.pop.result (none_of c.pop.result c.in_default-pop.not-Some) c.pop.ensures.none).0)) refl (joined_as TellsOver {x = c.args.out.now.entries} {y = c.args.out.now.entries} (waits_next fixed (live_of beside fence c.args.life.now) (settled_waits g.C.Ceremony.check_log_of g.C.Ceremony.dealing_of g.C.Ceremony.finish_of (non_zero_u64_get c.args.terms.now.blocks_per_epoch) c.args.life.now c.requires.ready.placed fixed of.blocks includes.check_log beside fence c.args.inclusion.now seen
+    (record { ready = c.requires.including; settled = λ is round none free. (at_none _ c.pop.result (none_of c.pop.result c.in_default-pop.not-Some) c.pop.ensures.none).0 }))) (goes_told g.row.Dir.Denot (live_of beside fence c.args.life.now) c.args.out.now.entries))
 
-pub returns-in_default-request-clause-moved : goal.returns-in_default-request-clause-moved
-returns-in_default-request-clause-moved g c = moved_none g.D.Disk.tells g.D.Disk.made g.X.SecretStore.made g.D.Disk.faults g.X.SecretStore.faults g.met.D.Disk.made_none g.met.X.SecretStore.made_none c.args.devices.now
+pub returns-in_default-pop-clause-moved : goal.returns-in_default-pop-clause-moved
+returns-in_default-pop-clause-moved g c = moved_none g.D.Disk.tells g.D.Disk.made g.X.SecretStore.made g.D.Disk.faults g.X.SecretStore.faults g.met.D.Disk.made_none g.met.X.SecretStore.made_none c.args.devices.now
 
-pub returns-in_default-request-clause-including : goal.returns-in_default-request-clause-including
-returns-in_default-request-clause-including g c = ready_requests g.C.Ceremony.check_log_of g.C.Ceremony.dealing_of g.C.Ceremony.finish_of (non_zero_u64_get c.args.terms.now.blocks_per_epoch) c.args.life.now c.args.inclusion.now c.requires.may.0 c.requires.including c.pop.new.self
+pub returns-in_default-pop-clause-including : goal.returns-in_default-pop-clause-including
+returns-in_default-pop-clause-including g c = ready_requests g.C.Ceremony.check_log_of g.C.Ceremony.dealing_of g.C.Ceremony.finish_of (non_zero_u64_get c.args.terms.now.blocks_per_epoch) c.args.life.now c.args.inclusion.now c.requires.may.0 c.requires.including c.pop.new.self
 
-pub returns-in_default-request-clause-left : goal.returns-in_default-request-clause-left
-returns-in_default-request-clause-left g c = λ some. (at_none _ c.pop.result (none_of c.pop.result c.in_default-request.not-Some) c.pop.ensures.none).1 ∙ ap (λ (rs : List (requested.Request g.row.Dir.Denot)). behind_first rs) (sym (at_none _ c.pop.result (none_of c.pop.result c.in_default-request.not-Some) c.pop.ensures.none).0)
+pub returns-in_default-pop-clause-left : goal.returns-in_default-pop-clause-left
+returns-in_default-pop-clause-left g c = λ some. (at_none _ c.pop.result (none_of c.pop.result c.in_default-pop.not-Some) c.pop.ensures.none).1 ∙ ap (λ (rs : List (requested.Request g.row.Dir.Denot)). behind_first rs) (sym (at_none _ c.pop.result (none_of c.pop.result c.in_default-pop.not-Some) c.pop.ensures.none).0)
 
 -- NO MEMORY
 
@@ -83,11 +83,11 @@ returns-in_err-scan-clause-causes g c =
 
 pub returns-then-is_need-clause-acts : goal.returns-then-is_need-clause-acts
 returns-then-is_need-clause-acts g c = λ disk secrets provider fixed beside fence of reads by includes seen.
-    ends_beside beside (seen_held fixed beside fence c.args.life.now c.args.inclusion.now seen c.requires.may.0 c.requires.may.1 c.requires.may.2 c.in-Some-request.request c.pop.new.self c.in-Some-request.ensures.first (record { request = c.in-Some-request.request; scan = c.in_ok-scan.scan }) refl) refl (joined_as (MakesOver g.D.Disk.files g.D.Disk.image g.X.SecretStore.held) {x = (c.args.devices.now, c.args.out.now.entries)} {y = (c.args.devices.now, c.args.out.now.entries)} (needed_next fixed beside fence c.args.life.now c.args.inclusion.now seen c.requires.may.0 c.requires.may.1 c.requires.may.2 c.in-Some-request.request c.pop.new.self c.in-Some-request.ensures.first c.in-Some.round c.in-Some.is c.in_ok-scan.fed (c.in_ok-scan.ensures.read fixed beside fence of.blocks includes.check_log) (sym c.is_need.ensures ∙ c.if-is_need.true)) (makes_nothing (g.D.Disk.files c.args.devices.now.disk.now) (g.D.Disk.image c.args.devices.now.disk.now) _ refl))
+    ends_beside beside (seen_held fixed beside fence c.args.life.now c.args.inclusion.now seen c.requires.may.0 c.requires.may.1 c.requires.may.2 c.in-Some-pop.request c.pop.new.self c.in-Some-pop.ensures.first (record { request = c.in-Some-pop.request; scan = c.in_ok-scan.scan }) refl) refl (joined_as (MakesOver g.D.Disk.files g.D.Disk.image g.X.SecretStore.held) {x = (c.args.devices.now, c.args.out.now.entries)} {y = (c.args.devices.now, c.args.out.now.entries)} (needed_next fixed beside fence c.args.life.now c.args.inclusion.now seen c.requires.may.0 c.requires.may.1 c.requires.may.2 c.in-Some-pop.request c.pop.new.self c.in-Some-pop.ensures.first c.in-Some.round c.in-Some.is c.in_ok-scan.fed (c.in_ok-scan.ensures.read fixed beside fence of.blocks includes.check_log) (sym c.is_need.ensures ∙ c.if-is_need.true)) (makes_nothing (g.D.Disk.files c.args.devices.now.disk.now) (g.D.Disk.image c.args.devices.now.disk.now) _ refl))
 
 pub returns-then-is_need-clause-tells : goal.returns-then-is_need-clause-tells
 returns-then-is_need-clause-tells g c = λ provider fixed beside fence of reads by includes seen.
-    ends_beside beside (seen_held fixed beside fence c.args.life.now c.args.inclusion.now seen c.requires.may.0 c.requires.may.1 c.requires.may.2 c.in-Some-request.request c.pop.new.self c.in-Some-request.ensures.first (record { request = c.in-Some-request.request; scan = c.in_ok-scan.scan }) refl) refl (joined_as TellsOver {x = c.args.out.now.entries} {y = c.args.out.now.entries} (needed_next fixed beside fence c.args.life.now c.args.inclusion.now seen c.requires.may.0 c.requires.may.1 c.requires.may.2 c.in-Some-request.request c.pop.new.self c.in-Some-request.ensures.first c.in-Some.round c.in-Some.is c.in_ok-scan.fed (c.in_ok-scan.ensures.read fixed beside fence of.blocks includes.check_log) (sym c.is_need.ensures ∙ c.if-is_need.true)) (goes_told g.row.Dir.Denot (live_of beside fence c.args.life.now) c.args.out.now.entries))
+    ends_beside beside (seen_held fixed beside fence c.args.life.now c.args.inclusion.now seen c.requires.may.0 c.requires.may.1 c.requires.may.2 c.in-Some-pop.request c.pop.new.self c.in-Some-pop.ensures.first (record { request = c.in-Some-pop.request; scan = c.in_ok-scan.scan }) refl) refl (joined_as TellsOver {x = c.args.out.now.entries} {y = c.args.out.now.entries} (needed_next fixed beside fence c.args.life.now c.args.inclusion.now seen c.requires.may.0 c.requires.may.1 c.requires.may.2 c.in-Some-pop.request c.pop.new.self c.in-Some-pop.ensures.first c.in-Some.round c.in-Some.is c.in_ok-scan.fed (c.in_ok-scan.ensures.read fixed beside fence of.blocks includes.check_log) (sym c.is_need.ensures ∙ c.if-is_need.true)) (goes_told g.row.Dir.Denot (live_of beside fence c.args.life.now) c.args.out.now.entries))
 
 pub returns-then-is_need-clause-moved : goal.returns-then-is_need-clause-moved
 returns-then-is_need-clause-moved g c = moved_none g.D.Disk.tells g.D.Disk.made g.X.SecretStore.made g.D.Disk.faults g.X.SecretStore.faults g.met.D.Disk.made_none g.met.X.SecretStore.made_none c.args.devices.now
@@ -95,23 +95,23 @@ returns-then-is_need-clause-moved g c = moved_none g.D.Disk.tells g.D.Disk.made 
 pub returns-then-is_need-clause-including : goal.returns-then-is_need-clause-including
 returns-then-is_need-clause-including g c = 
     let stands = c.in_ok-scan.ensures.stands (needs_is c.in_ok-scan.fed (sym c.is_need.ensures ∙ c.if-is_need.true)) in
-    ready_held g.C.Ceremony.check_log_of g.C.Ceremony.dealing_of g.C.Ceremony.finish_of (non_zero_u64_get c.args.terms.now.blocks_per_epoch) c.args.life.now c.args.inclusion.now c.requires.may.0 c.requires.including (record { request = c.in-Some-request.request; scan = c.in_ok-scan.scan }) c.pop.new.self
+    ready_held g.C.Ceremony.check_log_of g.C.Ceremony.dealing_of g.C.Ceremony.finish_of (non_zero_u64_get c.args.terms.now.blocks_per_epoch) c.args.life.now c.args.inclusion.now c.requires.may.0 c.requires.including (record { request = c.in-Some-pop.request; scan = c.in_ok-scan.scan }) c.pop.new.self
     c.requires.may.2 stands.0 c.in-Some.round c.in-Some.is stands.1
 
 pub returns-then-is_need-clause-left : goal.returns-then-is_need-clause-left
-returns-then-is_need-clause-left g c = λ some. ap (λ (rs : List (requested.Request g.row.Dir.Denot)). behind_first rs) (sym c.in-Some-request.ensures.first)
+returns-then-is_need-clause-left g c = λ some. ap (λ (rs : List (requested.Request g.row.Dir.Denot)). behind_first rs) (sym c.in-Some-pop.ensures.first)
 
 -- IT IS ANSWERED
 
 pub returns-clause-acts : goal.returns-clause-acts
 returns-clause-acts g c = λ disk secrets provider fixed beside fence of reads by includes seen.
-    within_behind beside (behind_it fixed beside fence c.args.life.now c.args.inclusion.now seen c.requires.may.0 c.requires.may.1 c.requires.may.2 c.in-Some-request.request c.pop.new.self c.in-Some-request.ensures.first).inclusion (within_as (λ i is. is) (λ now is made. joined_as (MakesOver g.D.Disk.files g.D.Disk.image g.X.SecretStore.held) {x = (c.args.devices.now, c.args.out.now.entries)} {y = (c.take_answer.new.devices, c.take_answer.new.out.entries)} (answered_next fixed beside fence c.args.life.now c.args.inclusion.now seen c.requires.may.0 c.requires.may.1 c.requires.may.2 c.in-Some-request.request c.pop.new.self c.in-Some-request.ensures.first c.in-Some.round c.in-Some.is c.in_ok-scan.fed (c.in_ok-scan.ensures.read fixed beside fence of.blocks includes.check_log) (sym c.is_need.ensures ∙ c.if-is_need.false)) made)
-    (c.take_answer.ensures.acts disk secrets provider fixed c.in-Some.round (behind_it fixed beside fence c.args.life.now c.args.inclusion.now seen c.requires.may.0 c.requires.may.1 c.requires.may.2 c.in-Some-request.request c.pop.new.self c.in-Some-request.ensures.first) fence of reads by includes c.in-Some.is (seen_popped fixed beside fence c.args.life.now c.args.inclusion.now seen c.requires.may.0 c.requires.may.1 c.requires.may.2 c.in-Some-request.request c.pop.new.self c.in-Some-request.ensures.first)))
+    within_behind beside (behind_it fixed beside fence c.args.life.now c.args.inclusion.now seen c.requires.may.0 c.requires.may.1 c.requires.may.2 c.in-Some-pop.request c.pop.new.self c.in-Some-pop.ensures.first).inclusion (within_as (λ i is. is) (λ now is made. joined_as (MakesOver g.D.Disk.files g.D.Disk.image g.X.SecretStore.held) {x = (c.args.devices.now, c.args.out.now.entries)} {y = (c.take_answer.new.devices, c.take_answer.new.out.entries)} (answered_next fixed beside fence c.args.life.now c.args.inclusion.now seen c.requires.may.0 c.requires.may.1 c.requires.may.2 c.in-Some-pop.request c.pop.new.self c.in-Some-pop.ensures.first c.in-Some.round c.in-Some.is c.in_ok-scan.fed (c.in_ok-scan.ensures.read fixed beside fence of.blocks includes.check_log) (sym c.is_need.ensures ∙ c.if-is_need.false)) made)
+    (c.take_answer.ensures.acts disk secrets provider fixed c.in-Some.round (behind_it fixed beside fence c.args.life.now c.args.inclusion.now seen c.requires.may.0 c.requires.may.1 c.requires.may.2 c.in-Some-pop.request c.pop.new.self c.in-Some-pop.ensures.first) fence of reads by includes c.in-Some.is (seen_popped fixed beside fence c.args.life.now c.args.inclusion.now seen c.requires.may.0 c.requires.may.1 c.requires.may.2 c.in-Some-pop.request c.pop.new.self c.in-Some-pop.ensures.first)))
 
 pub returns-clause-tells : goal.returns-clause-tells
 returns-clause-tells g c = λ provider fixed beside fence of reads by includes seen.
-    within_behind beside (behind_it fixed beside fence c.args.life.now c.args.inclusion.now seen c.requires.may.0 c.requires.may.1 c.requires.may.2 c.in-Some-request.request c.pop.new.self c.in-Some-request.ensures.first).inclusion (within_as (λ i is. is) (λ now is made. joined_as TellsOver {x = c.args.out.now.entries} {y = c.take_answer.new.out.entries} (answered_next fixed beside fence c.args.life.now c.args.inclusion.now seen c.requires.may.0 c.requires.may.1 c.requires.may.2 c.in-Some-request.request c.pop.new.self c.in-Some-request.ensures.first c.in-Some.round c.in-Some.is c.in_ok-scan.fed (c.in_ok-scan.ensures.read fixed beside fence of.blocks includes.check_log) (sym c.is_need.ensures ∙ c.if-is_need.false)) made)
-    (c.take_answer.ensures.tells provider fixed c.in-Some.round (behind_it fixed beside fence c.args.life.now c.args.inclusion.now seen c.requires.may.0 c.requires.may.1 c.requires.may.2 c.in-Some-request.request c.pop.new.self c.in-Some-request.ensures.first) fence of reads by includes c.in-Some.is (seen_popped fixed beside fence c.args.life.now c.args.inclusion.now seen c.requires.may.0 c.requires.may.1 c.requires.may.2 c.in-Some-request.request c.pop.new.self c.in-Some-request.ensures.first)))
+    within_behind beside (behind_it fixed beside fence c.args.life.now c.args.inclusion.now seen c.requires.may.0 c.requires.may.1 c.requires.may.2 c.in-Some-pop.request c.pop.new.self c.in-Some-pop.ensures.first).inclusion (within_as (λ i is. is) (λ now is made. joined_as TellsOver {x = c.args.out.now.entries} {y = c.take_answer.new.out.entries} (answered_next fixed beside fence c.args.life.now c.args.inclusion.now seen c.requires.may.0 c.requires.may.1 c.requires.may.2 c.in-Some-pop.request c.pop.new.self c.in-Some-pop.ensures.first c.in-Some.round c.in-Some.is c.in_ok-scan.fed (c.in_ok-scan.ensures.read fixed beside fence of.blocks includes.check_log) (sym c.is_need.ensures ∙ c.if-is_need.false)) made)
+    (c.take_answer.ensures.tells provider fixed c.in-Some.round (behind_it fixed beside fence c.args.life.now c.args.inclusion.now seen c.requires.may.0 c.requires.may.1 c.requires.may.2 c.in-Some-pop.request c.pop.new.self c.in-Some-pop.ensures.first) fence of reads by includes c.in-Some.is (seen_popped fixed beside fence c.args.life.now c.args.inclusion.now seen c.requires.may.0 c.requires.may.1 c.requires.may.2 c.in-Some-pop.request c.pop.new.self c.in-Some-pop.ensures.first)))
 
 pub returns-clause-ready : goal.returns-clause-ready
 returns-clause-ready g c = c.take_answer.ensures.ready
@@ -139,7 +139,7 @@ returns-clause-causes g c = c.take_answer.ensures.causes
 
 pub returns-clause-left : goal.returns-clause-left
 returns-clause-left g c = in_any c.take_answer.result (λ some. ap (λ (x : Inclusion g.row.C.Denot g.row.Dir.Denot g.row.C-Signer.Denot g.row.Dir-Cfg.Denot). x.requests) c.take_answer.ensures.rest
-    ∙ ap (λ (rs : List (requested.Request g.row.Dir.Denot)). behind_first rs) (sym c.in-Some-request.ensures.first))
+    ∙ ap (λ (rs : List (requested.Request g.row.Dir.Denot)). behind_first rs) (sym c.in-Some-pop.ensures.first))
 
 pub take_answer-requires-clause-ready : goal.take_answer-requires-clause-ready
 take_answer-requires-clause-ready g c = c.requires.ready
