@@ -11,6 +11,8 @@ use Rattle.dkg_types.specs.declared.fault.Fault.TheVariants.{NoMemory}
 use Rattle.dkg_artifact.specs.Requested as requested
 use Rattle.dkg_artifact.specs.declared.artifact.Artifact as artifact
 use Rattle.dkg_artifact.specs.declared.job.Job.{Job}
+use Rattle.dkg_artifact.specs.declared.scan.Fed as scan
+use Rattle.dkg_artifact.specs.declared.scan.Fed.TheVariants as fed
 use Rattle.dkg_store.specs.declared.devices.Devices.{Devices}
 use Rattle.dkg_core.specs.Fixed.{Fixed}
 use Rattle.dkg_reshare.specs.declared.config.Terms.{Terms}
@@ -23,6 +25,7 @@ use Rattle.dkg_reshare.specs.declared.stop.Stop.TheVariants.{Fault as Faulted}
 use Rattle.dkg_reshare.specs.declared.told.Told.{Told}
 use Rattle.dkg_reshare.specs.Actors.{IsReadyLife}
 use Rattle.dkg_reshare.specs.Ends.{IsCaused}
+use Rattle.dkg_reshare.specs.Including.{behind_answer}
 use Rattle.dkg_reshare.specs.InclusionOf.{IsReadyInclusion, IsRunnable, IsSettledInclusion, tip_of}
 use Rattle.dkg_reshare.specs.LiveOf.{IsPlaced, awaited_of}
 use Rattle.dkg_reshare.specs.Moved.{IsFirm}
@@ -158,3 +161,20 @@ module _ {C Dir Signer Cfg : Type 0} (check_log_of : CheckLogOf) (dealing_of : D
       current = ready.current;
       unserved = ready.unserved;
     }
+
+-- WHAT IS THERE
+
+pub some_of : {A : Type 0} (o : Option A) → IsSome o → (x : A) × (o ≡ Some x)
+some_of None some = absurd (let e : false ≡ true = some in cc)
+some_of (Some x) some = (x, refl)
+
+pub some_in : {A : Type 0} {P : A → Type 0} (o : Option A) → IsSomeAnd o P → (x : A) × (o ≡ Some x)
+some_in None has = absurd has
+some_in (Some x) has = (x, refl)
+
+-- what inclusion has, without the request that was answered
+pub behind_ready : {C Dir Signer Cfg : Type 0} (check_log_of : CheckLogOf) (dealing_of : DealingOf) (finish_of : FinishOf) (n : ℕ) (life : Life Dir) (its : Inclusion C Dir Signer Cfg) (x : scan.Fed) → (x ≡ fed.Need → ⊥)
+    → IsReadyInclusion check_log_of dealing_of finish_of n life (behind_answer x its) → IsReadyInclusion check_log_of dealing_of finish_of n life (record its { hand = None })
+behind_ready check_log_of dealing_of finish_of n life its fed.Need apart ready = absurd (apart refl)
+behind_ready check_log_of dealing_of finish_of n life its (fed.Logs found) apart ready = ready
+behind_ready check_log_of dealing_of finish_of n life its (fed.Unavailable why) apart ready = ready
