@@ -1,5 +1,5 @@
 -- Requests that are read and answered: what a call makes of them, from what its parts made.
-use Rattle.std.proofs.Common.{◌≡◌, inl, inr, ℕ, ◌+◌, ◌-◌, ◌≤◌, ◌<◌, Bool, true, false, List, [], ◌∷◌, ◌++◌, length, Option, Some, None, Result, Ok, Err, refl, sym, ◌∙◌, ap, subst, arith}
+use Rattle.std.proofs.Common.{◌≡◌, inl, inr, ℕ, ◌+◌, ◌-◌, ◌≤◌, ◌<◌, Bool, true, false, List, [], ◌∷◌, ◌++◌, length, Option, Some, None, is_some, Result, Ok, Err, refl, sym, ◌∙◌, ap, subst, arith}
 use Rattle.std.specs.Prelude.{◌==◌, ◌⊎◌, ◌↔◌, Contains, map, filter, not, IsSome, IsSomeAnd, OnOk, option_and_then, option_map, if◌then◌else◌}
 use Rattle.std.specs.Option.{option_map_or}
 use Rattle.std.specs.FinMap as maps
@@ -396,3 +396,12 @@ module _ {C Dir Signer Cfg : Type 0} (its : Inclusion C Dir Signer Cfg) (i : cor
           → (Contains (request ∷ i.used) q ⊎ IsSome (lookup q i.told)) ↔ IsSome (if same then Some (answer_or (maps.get its.told request)) else maps.get its.told q)
       used_by q true same = (λ any. refl, λ any. inl (first_used q (eqb-true request q same)))
       used_by q false same = (there q same, λ has. back q ((seen.used q).1 has))
+
+-- A VERIFICATION ENDS, if one runs
+
+module _ {Dir : Type 0} (c : Fixed Dir) (handed : Option core.VerifiedLogs) (st : Live Dir) where
+  abbrev works_in : Bool → Course Dir Fault (Live Dir)
+  works_in runs = if runs then bind (including.ends_verifying c handed st) (λ st. advanced c st) else Goes st
+
+  pub works_by : (runs : Bool) → is_some st.inclusion.running ≡ runs → including.works c handed st ≡ works_in runs
+  works_by runs is = ap (λ (b : Bool). works_in b) is

@@ -1,4 +1,4 @@
-use Rattle.std.proofs.Common.{◌≡◌, List, Some, [], ap, refl, sym, ◌∙◌, rules, subst}
+use Rattle.std.proofs.Common.{◌≡◌, ℕ, List, Some, [], ap, refl, sym, ◌∙◌, rules, subst}
 use Rattle.std.proofs.lemmas.Result.{err_from_is_err_and}
 use Rattle.std.specs.Int.NonZero.{non_zero_u64_get}
 use Rattle.dkg_artifact.specs.Requested as requested
@@ -6,7 +6,7 @@ use Rattle.dkg_store.specs.Acts.{by_want}
 use Rattle.dkg_store.specs.declared.call.StoreError.TheVariants.{NoMemory as Wanting}
 use Rattle.dkg_artifact.specs.declared.scan.Fed.TheVariants.{Need}
 use Rattle.dkg_reshare.specs.declared.inclusion.Inclusion.{Inclusion}
-use Rattle.dkg_reshare.specs.Including.{behind_first, fed_of}
+use Rattle.dkg_reshare.specs.Including.{behind_first, fed_of, on_fed}
 use Rattle.dkg_reshare.specs.LiveOf.{live_of}
 use Rattle.dkg_reshare.proofs.Advancing.{waits_next}
 use Rattle.dkg_reshare.proofs.Asking.{MakesOver, TellsOver, answered_next, behind_it, joined_as, needed_next, roundless_next, seen_held, seen_popped, seen_requests}
@@ -105,12 +105,16 @@ returns-then-is_need-clause-left g c = λ some. ap (λ (rs : List (requested.Req
 
 pub returns-clause-acts : goal.returns-clause-acts
 returns-clause-acts g c = λ disk secrets provider fixed beside fence of reads by includes seen.
-    within_behind beside (behind_it fixed beside fence c.args.life.now c.args.inclusion.now seen c.requires.may.0 c.requires.may.1 c.requires.may.2 c.in-Some-pop.request c.pop.new.self c.in-Some-pop.ensures.first).inclusion (within_as (λ i is. is) (λ now is made. joined_as (MakesOver g.D.Disk.files g.D.Disk.image g.X.SecretStore.held) {x = (c.args.devices.now, c.args.out.now.entries)} {y = (c.take_answer.new.devices, c.take_answer.new.out.entries)} (answered_next fixed beside fence c.args.life.now c.args.inclusion.now seen c.requires.may.0 c.requires.may.1 c.requires.may.2 c.in-Some-pop.request c.pop.new.self c.in-Some-pop.ensures.first c.in-Some.round c.in-Some.is c.in_ok-scan.fed (c.in_ok-scan.ensures.read fixed beside fence of.blocks includes.check_log) (sym c.is_need.ensures ∙ c.if-is_need.false)) made)
+    let number : c.in-Some-pop.request.number ≡ c.request.inside.number = search rules in
+    within_behind beside (behind_it fixed beside fence c.args.life.now c.args.inclusion.now seen c.requires.may.0 c.requires.may.1 c.requires.may.2 c.in-Some-pop.request c.pop.new.self c.in-Some-pop.ensures.first).inclusion (within_as (λ i is. is) (λ now is made. joined_as (MakesOver g.D.Disk.files g.D.Disk.image g.X.SecretStore.held) {x = (c.args.devices.now, c.args.out.now.entries)} {y = (c.take_answer.new.devices, c.take_answer.new.out.entries)} (answered_next fixed beside fence c.args.life.now c.args.inclusion.now seen c.requires.may.0 c.requires.may.1 c.requires.may.2 c.in-Some-pop.request c.pop.new.self c.in-Some-pop.ensures.first c.in-Some.round c.in-Some.is c.in_ok-scan.fed (c.in_ok-scan.ensures.read fixed beside fence of.blocks includes.check_log) (sym c.is_need.ensures ∙ c.if-is_need.false)
+    ∙ ap (λ (k : ℕ). on_fed fixed c.in-Some.round k (fed_of c.in_ok-scan.fed) (live_of (behind_it fixed beside fence c.args.life.now c.args.inclusion.now seen c.requires.may.0 c.requires.may.1 c.requires.may.2 c.in-Some-pop.request c.pop.new.self c.in-Some-pop.ensures.first) fence c.args.life.now)) number) made)
     (c.take_answer.ensures.acts disk secrets provider fixed c.in-Some.round (behind_it fixed beside fence c.args.life.now c.args.inclusion.now seen c.requires.may.0 c.requires.may.1 c.requires.may.2 c.in-Some-pop.request c.pop.new.self c.in-Some-pop.ensures.first) fence of reads by includes c.in-Some.is (seen_popped fixed beside fence c.args.life.now c.args.inclusion.now seen c.requires.may.0 c.requires.may.1 c.requires.may.2 c.in-Some-pop.request c.pop.new.self c.in-Some-pop.ensures.first)))
 
 pub returns-clause-tells : goal.returns-clause-tells
 returns-clause-tells g c = λ provider fixed beside fence of reads by includes seen.
-    within_behind beside (behind_it fixed beside fence c.args.life.now c.args.inclusion.now seen c.requires.may.0 c.requires.may.1 c.requires.may.2 c.in-Some-pop.request c.pop.new.self c.in-Some-pop.ensures.first).inclusion (within_as (λ i is. is) (λ now is made. joined_as TellsOver {x = c.args.out.now.entries} {y = c.take_answer.new.out.entries} (answered_next fixed beside fence c.args.life.now c.args.inclusion.now seen c.requires.may.0 c.requires.may.1 c.requires.may.2 c.in-Some-pop.request c.pop.new.self c.in-Some-pop.ensures.first c.in-Some.round c.in-Some.is c.in_ok-scan.fed (c.in_ok-scan.ensures.read fixed beside fence of.blocks includes.check_log) (sym c.is_need.ensures ∙ c.if-is_need.false)) made)
+    let number : c.in-Some-pop.request.number ≡ c.request.inside.number = search rules in
+    within_behind beside (behind_it fixed beside fence c.args.life.now c.args.inclusion.now seen c.requires.may.0 c.requires.may.1 c.requires.may.2 c.in-Some-pop.request c.pop.new.self c.in-Some-pop.ensures.first).inclusion (within_as (λ i is. is) (λ now is made. joined_as TellsOver {x = c.args.out.now.entries} {y = c.take_answer.new.out.entries} (answered_next fixed beside fence c.args.life.now c.args.inclusion.now seen c.requires.may.0 c.requires.may.1 c.requires.may.2 c.in-Some-pop.request c.pop.new.self c.in-Some-pop.ensures.first c.in-Some.round c.in-Some.is c.in_ok-scan.fed (c.in_ok-scan.ensures.read fixed beside fence of.blocks includes.check_log) (sym c.is_need.ensures ∙ c.if-is_need.false)
+    ∙ ap (λ (k : ℕ). on_fed fixed c.in-Some.round k (fed_of c.in_ok-scan.fed) (live_of (behind_it fixed beside fence c.args.life.now c.args.inclusion.now seen c.requires.may.0 c.requires.may.1 c.requires.may.2 c.in-Some-pop.request c.pop.new.self c.in-Some-pop.ensures.first) fence c.args.life.now)) number) made)
     (c.take_answer.ensures.tells provider fixed c.in-Some.round (behind_it fixed beside fence c.args.life.now c.args.inclusion.now seen c.requires.may.0 c.requires.may.1 c.requires.may.2 c.in-Some-pop.request c.pop.new.self c.in-Some-pop.ensures.first) fence of reads by includes c.in-Some.is (seen_popped fixed beside fence c.args.life.now c.args.inclusion.now seen c.requires.may.0 c.requires.may.1 c.requires.may.2 c.in-Some-pop.request c.pop.new.self c.in-Some-pop.ensures.first)))
 
 pub returns-clause-ready : goal.returns-clause-ready
