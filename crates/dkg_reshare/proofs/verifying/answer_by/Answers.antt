@@ -22,7 +22,7 @@ returns-in_err-keep_artifact-clause-tells g c = λ provided fixed st of reads by
 pub returns-clause-acts : goal.returns-clause-acts
 returns-clause-acts g c = λ disk secrets provided fixed st of reads by current cached.
     let its = kept_here c.keep_artifact.new.cache c.args.verified.now.logs c.in-Some.artifact.now c.in_ok-keep_artifact.ensures.kept
-      (sym (ap option_copied c.in-Some.is) ∙ c.get.ensures.kept (ap is_some c.in-Some.is)) in
+    (sym (ap option_copied c.in-Some.is) ∙ c.get.ensures.kept (ap is_some c.in-Some.is)) in
     answered_makes fixed of.reshare (result_of c.args.verified.now) c.args.request st c.keep_artifact.new.cache (c.args.verified.now.logs, c.in-Some.artifact.now) its refl
     g.D.Disk.files g.D.Disk.image g.X.SecretStore.held c.args.devices.now c.keep_artifact.new.devices c.answer.result c.args.out.now.entries c.args.out.now.entries c.answer.new.out.entries
     (c.in_ok-keep_artifact.ensures.acts disk secrets provided fixed st of reads by current cached c.args.out.now.entries)
@@ -31,7 +31,7 @@ returns-clause-acts g c = λ disk secrets provided fixed st of reads by current 
 pub returns-clause-tells : goal.returns-clause-tells
 returns-clause-tells g c = λ provided fixed st of reads by current cached.
     let its = kept_here c.keep_artifact.new.cache c.args.verified.now.logs c.in-Some.artifact.now c.in_ok-keep_artifact.ensures.kept
-      (sym (ap option_copied c.in-Some.is) ∙ c.get.ensures.kept (ap is_some c.in-Some.is)) in
+    (sym (ap option_copied c.in-Some.is) ∙ c.get.ensures.kept (ap is_some c.in-Some.is)) in
     answered_told fixed of.reshare (result_of c.args.verified.now) c.args.request st c.keep_artifact.new.cache (c.args.verified.now.logs, c.in-Some.artifact.now) its refl
     c.answer.result c.args.out.now.entries c.args.out.now.entries c.answer.new.out.entries
     (c.in_ok-keep_artifact.ensures.tells provided fixed st of reads by current cached c.args.out.now.entries)

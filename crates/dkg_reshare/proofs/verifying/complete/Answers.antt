@@ -89,9 +89,9 @@ returns-clause-acts g c = λ disk secrets provided fixed beside fence of reads b
     let middle = middle_now fixed n c.args.life.now of.blocks includes c.requires.ready.placed in
     let same = ap (λ (s : Store g.row.Dir.Denot). record c.args.life.now { store = s }) c.in_ok-answer_by.ensures.store in
     let answered = answered_beside fixed of.reshare (result_of c.args.verified) beside fence c.args.life.now (record c.args.life.now { store = c.answer_by.new.store }) same c.in-Some.request
-      (seen.waiter ∙ c.in-Some.is) c.answer_by.new.cache c.retain-2.new.inclusion in
+    (seen.waiter ∙ c.in-Some.is) c.answer_by.new.cache c.retain-2.new.inclusion in
     let kept = c.in_ok-retain-2.ensures.kept fixed answered fence middle
-      (seen_answered c.args.inclusion.now beside fence c.args.life.now seen c.answer_by.new.cache c.answer_by.new.told c.in-Some.request c.args.verified.logs c.in_ok-answer_by.ensures.told) in
+    (seen_answered c.args.inclusion.now beside fence c.args.life.now seen c.answer_by.new.cache c.answer_by.new.told c.in-Some.request c.args.verified.logs c.in_ok-answer_by.ensures.told) in
     ended_makes fixed of.reshare (result_of c.args.verified) beside fence c.args.life.now (record c.args.life.now { store = c.answer_by.new.store }) same c.in-Some.request (seen.waiter ∙ c.in-Some.is) c.answer_by.new.cache c.retain-2.new.inclusion
     g.D.Disk.files g.D.Disk.image g.X.SecretStore.held c.args.devices.now c.answer_by.new.devices c.args.out.now.entries c.answer_by.new.out.entries kept
     (c.in_ok-answer_by.ensures.acts disk secrets provided fixed (live_of beside fence c.args.life.now) of reads provides refl seen.cached)
@@ -103,9 +103,9 @@ returns-clause-tells g c = λ provided fixed beside fence of reads by provides s
     let middle = middle_now fixed n c.args.life.now of.blocks includes c.requires.ready.placed in
     let same = ap (λ (s : Store g.row.Dir.Denot). record c.args.life.now { store = s }) c.in_ok-answer_by.ensures.store in
     let answered = answered_beside fixed of.reshare (result_of c.args.verified) beside fence c.args.life.now (record c.args.life.now { store = c.answer_by.new.store }) same c.in-Some.request
-      (seen.waiter ∙ c.in-Some.is) c.answer_by.new.cache c.retain-2.new.inclusion in
+    (seen.waiter ∙ c.in-Some.is) c.answer_by.new.cache c.retain-2.new.inclusion in
     let kept = c.in_ok-retain-2.ensures.kept fixed answered fence middle
-      (seen_answered c.args.inclusion.now beside fence c.args.life.now seen c.answer_by.new.cache c.answer_by.new.told c.in-Some.request c.args.verified.logs c.in_ok-answer_by.ensures.told) in
+    (seen_answered c.args.inclusion.now beside fence c.args.life.now seen c.answer_by.new.cache c.answer_by.new.told c.in-Some.request c.args.verified.logs c.in_ok-answer_by.ensures.told) in
     ended_told fixed of.reshare (result_of c.args.verified) beside fence c.args.life.now (record c.args.life.now { store = c.answer_by.new.store }) same c.in-Some.request (seen.waiter ∙ c.in-Some.is) c.answer_by.new.cache c.retain-2.new.inclusion
     c.args.out.now.entries c.answer_by.new.out.entries kept
     (c.in_ok-answer_by.ensures.tells provided fixed (live_of beside fence c.args.life.now) of reads provides refl seen.cached)

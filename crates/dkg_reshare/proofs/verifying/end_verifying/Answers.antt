@@ -43,14 +43,14 @@ pub returns-clause-acts : goal.returns-clause-acts
 returns-clause-acts g c = λ disk secrets provided fixed beside fence of reads by provides seen.
     let its = sym c.running.ensures ∙ ap option_copied c.in-Some.is in
     let course = one_ends fixed (option_map result_of c.args.done) beside fence c.args.life.now (job_of c.in-Some.job.now) (result_of c.in_ok-verified.verified) (seen.running ∙ ap (option_map job_of) its)
-      (result_is fixed g.C.Ceremony.outcome_of g.C.Ceremony.finish_of provides.outcome provides.finish c.in-Some.job.now c.args.done c.in_ok-verified.verified c.in_ok-verified.ensures.handed
-        c.in_ok-verified.ensures.own) in
+    (result_is fixed g.C.Ceremony.outcome_of g.C.Ceremony.finish_of provides.outcome provides.finish c.in-Some.job.now c.args.done c.in_ok-verified.verified c.in_ok-verified.ensures.handed
+    c.in_ok-verified.ensures.own) in
     within_as (λ i is. is) (λ now is made. same_made course made) (c.complete.ensures.acts disk secrets provided fixed beside fence of reads by provides seen)
 
 pub returns-clause-tells : goal.returns-clause-tells
 returns-clause-tells g c = λ provided fixed beside fence of reads by provides seen.
     let its = sym c.running.ensures ∙ ap option_copied c.in-Some.is in
     let course = one_ends fixed (option_map result_of c.args.done) beside fence c.args.life.now (job_of c.in-Some.job.now) (result_of c.in_ok-verified.verified) (seen.running ∙ ap (option_map job_of) its)
-      (result_is fixed g.C.Ceremony.outcome_of g.C.Ceremony.finish_of provides.outcome provides.finish c.in-Some.job.now c.args.done c.in_ok-verified.verified c.in_ok-verified.ensures.handed
-        c.in_ok-verified.ensures.own) in
+    (result_is fixed g.C.Ceremony.outcome_of g.C.Ceremony.finish_of provides.outcome provides.finish c.in-Some.job.now c.args.done c.in_ok-verified.verified c.in_ok-verified.ensures.handed
+    c.in_ok-verified.ensures.own) in
     within_as (λ i is. is) (λ now is told. same_told course told) (c.complete.ensures.tells provided fixed beside fence of reads by provides seen)

@@ -44,8 +44,8 @@ returns-clause-runs g c =
           (dealings_here round logs store me bears_ack_of dealing_of c.parts-2.result.now.number number _ w.in_ok-dealings-in-Some.ensures)
           (c.finishes_agree.ensures.missing round me _ logs) plays (sym (ap is_some w.in-Some.is) ∙ some)
           (passes_here round logs store me bears_ack_of dealing_of c.parts-2.result.now.number number
-            (at_some (λ player. first_refused (dealing_of round me) (of_epoch c.parts-2.result.now.number store.dealings) ≡ None) c.in_ok-create_player_with_logs.field-0 _ w.in-Some.is
-              c.in_ok-create_player_with_logs.ensures.passes)))
+          (at_some (λ player. first_refused (dealing_of round me) (of_epoch c.parts-2.result.now.number store.dealings) ≡ None) c.in_ok-create_player_with_logs.field-0 _ w.in-Some.is
+          c.in_ok-create_player_with_logs.ensures.passes)))
     ]
 
 pub returns-clause-passes : goal.returns-clause-passes
@@ -65,6 +65,6 @@ returns-clause-passes g c =
       | in-Some+in_ok-dealings-in-Some w ↦ rw w.result-is (λ fixed st mine bears checks records.
           seated_passes fixed round logs st store me bears_ack_of dealing_of mine bears checks records plays (sym (ap is_some w.in-Some.is) ∙ some)
           (passes_here round logs store me bears_ack_of dealing_of c.parts-2.result.now.number number
-            (at_some (λ player. first_refused (dealing_of round me) (of_epoch c.parts-2.result.now.number store.dealings) ≡ None) c.in_ok-create_player_with_logs.field-0 _ w.in-Some.is
-              c.in_ok-create_player_with_logs.ensures.passes)))
+          (at_some (λ player. first_refused (dealing_of round me) (of_epoch c.parts-2.result.now.number store.dealings) ≡ None) c.in_ok-create_player_with_logs.field-0 _ w.in-Some.is
+          c.in_ok-create_player_with_logs.ensures.passes)))
     ]
