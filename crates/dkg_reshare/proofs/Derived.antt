@@ -261,14 +261,17 @@ module _ {Dir : Type 0} (c : Fixed Dir) (info : EpochInfo Dir) (r : VerifiedLogs
       subst (λ (o : Option Fault). IsFaultOrWant o stop) (sym (mismatch_is c info r matches made false are is other.1))
       (inr (other.0 ∙ ap (λ (n : ℕ). Faulted (DirectoryMismatch n)) (sym (epoch_is (option_map (λ found. found.output) r.result)))))
 
-  -- of the info that was copied it is that of the info
-  module _ (its : EpochInfo Dir) (same : its ≡ info) {how : Ended Fault (Artifact Dir)} where
-    pub for_info_made : {files files_now : Files} {image now : Files → Type 0} {old new : Moment} → MakesAt (on_devices (derives_in c its r)) how files image files_now now old new
-        → MakesAt (on_devices (derives_in c info r)) how files image files_now now old new
-    for_info_made {files} {files_now} {image} {now} {old} {new} made = subst (λ (x : EpochInfo Dir). MakesAt (on_devices (derives_in c x r)) how files image files_now now old new) same made
+-- of an info and a result that are copied it is what it is of themselves
+module _ {Dir : Type 0} (c : Fixed Dir) (info its : EpochInfo Dir) (r read : VerifiedLogs) (same : its ≡ info) (as_read : read ≡ r) {how : Ended Fault (Artifact Dir)} where
+  pub for_info_made : {files files_now : Files} {image now : Files → Type 0} {old new : Moment} → MakesAt (on_devices (derives_in c its read)) how files image files_now now old new
+      → MakesAt (on_devices (derives_in c info r)) how files image files_now now old new
+  for_info_made {files} {files_now} {image} {now} {old} {new} made =
+      subst (λ (x : EpochInfo Dir). MakesAt (on_devices (derives_in c x r)) how files image files_now now old new) same
+      (subst (λ (x : VerifiedLogs). MakesAt (on_devices (derives_in c its x)) how files image files_now now old new) as_read made)
 
-    pub for_info_told : {out now : List Line} → Tells (derives_in c its r) how out now → Tells (derives_in c info r) how out now
-    for_info_told {out} {now} told = subst (λ (x : EpochInfo Dir). Tells (derives_in c x r) how out now) same told
+  pub for_info_told : {out now : List Line} → Tells (derives_in c its read) how out now → Tells (derives_in c info r) how out now
+  for_info_told {out} {now} told =
+      subst (λ (x : EpochInfo Dir). Tells (derives_in c x r) how out now) same (subst (λ (x : VerifiedLogs). Tells (derives_in c its x) how out now) as_read told)
 
 pub one_value : {A : Type 0} (a b : A) → Some a ≡ Some b → a ≡ b
 one_value a b same = cc

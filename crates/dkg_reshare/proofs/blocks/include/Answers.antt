@@ -17,7 +17,7 @@ use Rattle.dkg_reshare.proofs.Included.{moved_ready, ready_as}
 use Rattle.dkg_reshare.proofs.Kept.{moved_then}
 use Rattle.dkg_reshare.proofs.Readying.{ready_at}
 use Rattle.dkg_reshare.proofs.Standing.{placed_included}
-use Rattle.dkg_reshare.proofs.Within.{bound_early, bound_makes, bound_tells, bound_unsaid}
+use Rattle.dkg_reshare.proofs.Chained.{early_makes, early_told, then_makes, then_told}
 use Rattle.dkg_reshare.proofs.blocks.include.Goals as goal
 
 pub observe-requires-clause-includes : goal.observe-requires-clause-includes
@@ -31,13 +31,13 @@ observe-requires-clause-ready g c = c.requires.ready
 pub returns-in_err-observe-clause-acts : goal.returns-in_err-observe-clause-acts
 returns-in_err-observe-clause-acts g c = λ disk secrets provided fixed round beside fence of reads by provides has seen.
     let p = err_from_is_err_and c.from_residual.result c.from_residual.ensures.1 in
-    rw (p.1, p.2) (none_with beside _ _ _ beside.inclusion tt refl (bound_early g.D.Disk.files g.D.Disk.image g.X.SecretStore.held (blocks.observes fixed round c.args.block.now (live_of beside fence c.args.life.now) (option_and_then its_log c.args.block.now.payload)) (behind_log fixed c.args.block.now) c.in_err-observe.field-0.0
+    rw (p.1, p.2) (none_with beside _ _ _ beside.inclusion tt refl (early_makes (blocks.observes fixed round c.args.block.now (live_of beside fence c.args.life.now) (option_and_then its_log c.args.block.now.payload)) (behind_log fixed c.args.block.now) c.in_err-observe.field-0.0
     (c.in_err-observe.ensures.acts disk secrets fixed round beside fence c.args.out.now.entries of.me provides.check_log has)))
 
 pub returns-in_err-observe-clause-tells : goal.returns-in_err-observe-clause-tells
 returns-in_err-observe-clause-tells g c = λ provided fixed round beside fence of reads by provides has seen.
     let p = err_from_is_err_and c.from_residual.result c.from_residual.ensures.1 in
-    rw (p.1, p.2) (none_with beside _ _ _ beside.inclusion tt refl (bound_unsaid (blocks.observes fixed round c.args.block.now (live_of beside fence c.args.life.now) (option_and_then its_log c.args.block.now.payload)) (behind_log fixed c.args.block.now) c.in_err-observe.field-0.0
+    rw (p.1, p.2) (none_with beside _ _ _ beside.inclusion tt refl (early_told (blocks.observes fixed round c.args.block.now (live_of beside fence c.args.life.now) (option_and_then its_log c.args.block.now.payload)) (behind_log fixed c.args.block.now) c.in_err-observe.field-0.0
     (c.in_err-observe.ensures.tells fixed round beside fence c.args.out.now.entries of.me provides.check_log has)))
 
 pub returns-in_err-observe-clause-causes : goal.returns-in_err-observe-clause-causes
@@ -78,7 +78,7 @@ advance-requires-clause-including g c =
 pub returns-clause-acts : goal.returns-clause-acts
 returns-clause-acts g c = λ disk secrets provided fixed round beside fence of reads by provides has seen.
     with_as beside (unserving_at c.args.block.now.height beside).inclusion (λ more none. none)
-    (λ now made. bound_makes g.D.Disk.files g.D.Disk.image g.X.SecretStore.held (blocks.observes fixed round c.args.block.now (live_of beside fence c.args.life.now) (option_and_then its_log c.args.block.now.payload)) (behind_log fixed c.args.block.now) (live_of beside fence c.observe.new.life) (ends_in (live_of now fence c.advance.new.life) c.advance.result)
+    (λ now made. then_makes (blocks.observes fixed round c.args.block.now (live_of beside fence c.args.life.now) (option_and_then its_log c.args.block.now.payload)) (behind_log fixed c.args.block.now) (live_of beside fence c.observe.new.life) (ends_in (live_of now fence c.advance.new.life) c.advance.result)
     (c.in_ok-observe.ensures.acts disk secrets fixed round beside fence c.args.out.now.entries of.me provides.check_log has)
     (makes_as (log_behind fixed c.args.block.now beside fence c.observe.new.life c.tip_of.result c.tip_of.ensures) _ made))
     (λ its is. is)
@@ -88,7 +88,7 @@ returns-clause-acts g c = λ disk secrets provided fixed round beside fence of r
 pub returns-clause-tells : goal.returns-clause-tells
 returns-clause-tells g c = λ provided fixed round beside fence of reads by provides has seen.
     with_as beside (unserving_at c.args.block.now.height beside).inclusion (λ more none. none)
-    (λ now told. bound_tells (blocks.observes fixed round c.args.block.now (live_of beside fence c.args.life.now) (option_and_then its_log c.args.block.now.payload)) (behind_log fixed c.args.block.now) (live_of beside fence c.observe.new.life) (ends_in (live_of now fence c.advance.new.life) c.advance.result)
+    (λ now told. then_told (blocks.observes fixed round c.args.block.now (live_of beside fence c.args.life.now) (option_and_then its_log c.args.block.now.payload)) (behind_log fixed c.args.block.now) (live_of beside fence c.observe.new.life) (ends_in (live_of now fence c.advance.new.life) c.advance.result)
     (c.in_ok-observe.ensures.tells fixed round beside fence c.args.out.now.entries of.me provides.check_log has)
     (tells_as (log_behind fixed c.args.block.now beside fence c.observe.new.life c.tip_of.result c.tip_of.ensures) _ told))
     (λ its is. is)

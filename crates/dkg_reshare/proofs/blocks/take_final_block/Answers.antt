@@ -22,7 +22,7 @@ use Rattle.dkg_reshare.proofs.Readying.{ready_still}
 use Rattle.dkg_reshare.proofs.Said.{speaks_tells}
 use Rattle.dkg_reshare.proofs.Speaking.{stops_speaks}
 use Rattle.dkg_reshare.proofs.Standing.{behind_last, epoch_below}
-use Rattle.dkg_reshare.proofs.Within.{bound_early, bound_makes, bound_tells, bound_unsaid}
+use Rattle.dkg_reshare.proofs.Chained.{early_makes, early_told, then_makes, then_told}
 use Rattle.dkg_reshare.proofs.blocks.take_final_block.Goals as goal
 
 -- NO ARTIFACT
@@ -31,14 +31,14 @@ pub returns-in_err-artifact-clause-acts : goal.returns-in_err-artifact-clause-ac
 returns-in_err-artifact-clause-acts g c = λ disk secrets provided fixed round beside of reads by provides has seen.
     let p = err_from_is_err_and c.from_residual.result c.from_residual.ensures.1 in
     rw (p.1, p.2) (with_as beside beside.inclusion (λ more none. tt)
-    (λ now made. makes_as (final_block_is fixed of.of.reshare round c.args.block.now (live_of beside c.args.fence.now c.args.life.now)) _ (bound_early g.D.Disk.files g.D.Disk.image g.X.SecretStore.held (derives_final fixed round (live_of beside c.args.fence.now c.args.life.now)) (λ it. blocks.concludes fixed c.args.block.now it.0 it.1) c.in_err-artifact.field-0.0 made)) (λ its is. tt)
+    (λ now made. makes_as (final_block_is fixed of.of.reshare round c.args.block.now (live_of beside c.args.fence.now c.args.life.now)) _ (early_makes (derives_final fixed round (live_of beside c.args.fence.now c.args.life.now)) (λ it. blocks.concludes fixed c.args.block.now it.0 it.1) c.in_err-artifact.field-0.0 made)) (λ its is. tt)
     (c.in_err-artifact.ensures.acts disk secrets provided fixed round beside c.args.fence.now of.of reads by provides has seen))
 
 pub returns-in_err-artifact-clause-tells : goal.returns-in_err-artifact-clause-tells
 returns-in_err-artifact-clause-tells g c = λ provided fixed round beside of reads by provides has seen.
     let p = err_from_is_err_and c.from_residual.result c.from_residual.ensures.1 in
     rw (p.1, p.2) (with_as beside beside.inclusion (λ more none. tt)
-    (λ now told. tells_as (final_block_is fixed of.of.reshare round c.args.block.now (live_of beside c.args.fence.now c.args.life.now)) _ (bound_unsaid (derives_final fixed round (live_of beside c.args.fence.now c.args.life.now)) (λ it. blocks.concludes fixed c.args.block.now it.0 it.1) c.in_err-artifact.field-0.0 told)) (λ its is. tt)
+    (λ now told. tells_as (final_block_is fixed of.of.reshare round c.args.block.now (live_of beside c.args.fence.now c.args.life.now)) _ (early_told (derives_final fixed round (live_of beside c.args.fence.now c.args.life.now)) (λ it. blocks.concludes fixed c.args.block.now it.0 it.1) c.in_err-artifact.field-0.0 told)) (λ its is. tt)
     (c.in_err-artifact.ensures.tells provided fixed round beside c.args.fence.now of.of reads by provides has seen))
 
 pub returns-in_err-artifact-clause-causes : goal.returns-in_err-artifact-clause-causes
@@ -67,7 +67,7 @@ pub returns-in_err-info-clause-acts : goal.returns-in_err-info-clause-acts
 returns-in_err-info-clause-acts g c = λ disk secrets provided fixed round beside of reads by provides has seen.
     let p = err_from_is_err_and c.from_residual-in_err-info.result c.from_residual-in_err-info.ensures.1 in
     rw (p.1, p.2) (with_as beside beside.inclusion (λ more none. tt)
-    (λ now made. makes_as (final_block_is fixed of.of.reshare round c.args.block.now (live_of beside c.args.fence.now c.args.life.now)) _ (bound_makes g.D.Disk.files g.D.Disk.image g.X.SecretStore.held (derives_final fixed round (live_of beside c.args.fence.now c.args.life.now)) (λ it. blocks.concludes fixed c.args.block.now it.0 it.1) (artifact_of c.in_ok-artifact.artifact, live_of now c.args.fence.now c.derive.new.life) (by_stop (Faulted c.in_err-info.field-0.0)) made
+    (λ now made. makes_as (final_block_is fixed of.of.reshare round c.args.block.now (live_of beside c.args.fence.now c.args.life.now)) _ (then_makes (derives_final fixed round (live_of beside c.args.fence.now c.args.life.now)) (λ it. blocks.concludes fixed c.args.block.now it.0 it.1) (artifact_of c.in_ok-artifact.artifact, live_of now c.args.fence.now c.derive.new.life) (by_stop (Faulted c.in_err-info.field-0.0)) made
     (speaks_makes (blocks.concludes fixed c.args.block.now (artifact_of c.in_ok-artifact.artifact) (live_of now c.args.fence.now c.derive.new.life)) (by_stop (Faulted c.in_err-info.field-0.0)) _ _ (stops_speaks (blocks.concludes fixed c.args.block.now (artifact_of c.in_ok-artifact.artifact) (live_of now c.args.fence.now c.derive.new.life)) c.in_err-info.field-0.0
     (concluded_ill fixed c.args.block.now (non_zero_u64_get c.args.terms.now.blocks_per_epoch) of.of.blocks of.of.reshare c.args.bounds.now c.requires.bounds (artifact_of c.in_ok-artifact.artifact) (live_of now c.args.fence.now c.derive.new.life) c.in_err-info.field-0.0 c.in_err-info.ensures.err)
     (own_cause c.args.block.now c.args.bounds.now.epoch c.in_err-info.field-0.0 c.in_err-info.ensures.err) c.derive.new.out.entries))))
@@ -78,7 +78,7 @@ pub returns-in_err-info-clause-tells : goal.returns-in_err-info-clause-tells
 returns-in_err-info-clause-tells g c = λ provided fixed round beside of reads by provides has seen.
     let p = err_from_is_err_and c.from_residual-in_err-info.result c.from_residual-in_err-info.ensures.1 in
     rw (p.1, p.2) (with_as beside beside.inclusion (λ more none. tt)
-    (λ now told. tells_as (final_block_is fixed of.of.reshare round c.args.block.now (live_of beside c.args.fence.now c.args.life.now)) _ (bound_tells (derives_final fixed round (live_of beside c.args.fence.now c.args.life.now)) (λ it. blocks.concludes fixed c.args.block.now it.0 it.1) (artifact_of c.in_ok-artifact.artifact, live_of now c.args.fence.now c.derive.new.life) (by_stop (Faulted c.in_err-info.field-0.0)) told
+    (λ now told. tells_as (final_block_is fixed of.of.reshare round c.args.block.now (live_of beside c.args.fence.now c.args.life.now)) _ (then_told (derives_final fixed round (live_of beside c.args.fence.now c.args.life.now)) (λ it. blocks.concludes fixed c.args.block.now it.0 it.1) (artifact_of c.in_ok-artifact.artifact, live_of now c.args.fence.now c.derive.new.life) (by_stop (Faulted c.in_err-info.field-0.0)) told
     (speaks_tells (blocks.concludes fixed c.args.block.now (artifact_of c.in_ok-artifact.artifact) (live_of now c.args.fence.now c.derive.new.life)) (by_stop (Faulted c.in_err-info.field-0.0)) (stops_speaks (blocks.concludes fixed c.args.block.now (artifact_of c.in_ok-artifact.artifact) (live_of now c.args.fence.now c.derive.new.life)) c.in_err-info.field-0.0
     (concluded_ill fixed c.args.block.now (non_zero_u64_get c.args.terms.now.blocks_per_epoch) of.of.blocks of.of.reshare c.args.bounds.now c.requires.bounds (artifact_of c.in_ok-artifact.artifact) (live_of now c.args.fence.now c.derive.new.life) c.in_err-info.field-0.0 c.in_err-info.ensures.err)
     (own_cause c.args.block.now c.args.bounds.now.epoch c.in_err-info.field-0.0 c.in_err-info.ensures.err) c.derive.new.out.entries))))
@@ -134,7 +134,7 @@ pub returns-clause-acts : goal.returns-clause-acts
 returns-clause-acts g c = λ disk secrets provided fixed round beside of reads by provides has seen.
     with_then beside (c.in_ok-artifact.ensures.acts disk secrets provided fixed round beside c.args.fence.now of.of reads by provides has seen) (λ now its made.
     with_as now now.inclusion (λ more took. took)
-    (λ last taken. makes_as (final_block_is fixed of.of.reshare round c.args.block.now (live_of beside c.args.fence.now c.args.life.now)) _ (bound_makes g.D.Disk.files g.D.Disk.image g.X.SecretStore.held (derives_final fixed round (live_of beside c.args.fence.now c.args.life.now)) (λ it. blocks.concludes fixed c.args.block.now it.0 it.1) (artifact_of c.in_ok-artifact.artifact, live_of now c.args.fence.now c.derive.new.life) (ends_in (live_of last c.take_over.new.fence c.take_over.new.life) c.take_over.result) made
+    (λ last taken. makes_as (final_block_is fixed of.of.reshare round c.args.block.now (live_of beside c.args.fence.now c.args.life.now)) _ (then_makes (derives_final fixed round (live_of beside c.args.fence.now c.args.life.now)) (λ it. blocks.concludes fixed c.args.block.now it.0 it.1) (artifact_of c.in_ok-artifact.artifact, live_of now c.args.fence.now c.derive.new.life) (ends_in (live_of last c.take_over.new.fence c.take_over.new.life) c.take_over.result) made
     (makes_as (concluded_well fixed c.args.block.now (non_zero_u64_get c.args.terms.now.blocks_per_epoch) of.of.blocks of.of.reshare c.args.bounds.now c.requires.bounds (artifact_of c.in_ok-artifact.artifact) (live_of now c.args.fence.now c.derive.new.life) c.in_ok-info.info.now c.in_ok-info.ensures.ok) _ taken)))
     (λ i is. is)
     (c.take_over.ensures.acts disk secrets fixed now (in_word c.args.terms.now c.args.life.now.word c.derive.new.life.word fixed (ap (λ (l : Life g.row.Dir.Denot). l.word) c.derive.ensures.same) of) reads by provides.spelling_is its))
@@ -143,7 +143,7 @@ pub returns-clause-tells : goal.returns-clause-tells
 returns-clause-tells g c = λ provided fixed round beside of reads by provides has seen.
     with_then beside (c.in_ok-artifact.ensures.tells provided fixed round beside c.args.fence.now of.of reads by provides has seen) (λ now its told.
     with_as now now.inclusion (λ more took. took)
-    (λ last taken. tells_as (final_block_is fixed of.of.reshare round c.args.block.now (live_of beside c.args.fence.now c.args.life.now)) _ (bound_tells (derives_final fixed round (live_of beside c.args.fence.now c.args.life.now)) (λ it. blocks.concludes fixed c.args.block.now it.0 it.1) (artifact_of c.in_ok-artifact.artifact, live_of now c.args.fence.now c.derive.new.life) (ends_in (live_of last c.take_over.new.fence c.take_over.new.life) c.take_over.result) told
+    (λ last taken. tells_as (final_block_is fixed of.of.reshare round c.args.block.now (live_of beside c.args.fence.now c.args.life.now)) _ (then_told (derives_final fixed round (live_of beside c.args.fence.now c.args.life.now)) (λ it. blocks.concludes fixed c.args.block.now it.0 it.1) (artifact_of c.in_ok-artifact.artifact, live_of now c.args.fence.now c.derive.new.life) (ends_in (live_of last c.take_over.new.fence c.take_over.new.life) c.take_over.result) told
     (tells_as (concluded_well fixed c.args.block.now (non_zero_u64_get c.args.terms.now.blocks_per_epoch) of.of.blocks of.of.reshare c.args.bounds.now c.requires.bounds (artifact_of c.in_ok-artifact.artifact) (live_of now c.args.fence.now c.derive.new.life) c.in_ok-info.info.now c.in_ok-info.ensures.ok) _ taken)))
     (λ i is. is)
     (c.take_over.ensures.tells fixed now (in_word c.args.terms.now c.args.life.now.word c.derive.new.life.word fixed (ap (λ (l : Life g.row.Dir.Denot). l.word) c.derive.ensures.same) of) reads by provides.spelling_is its))
