@@ -1,11 +1,16 @@
 -- Requests that are read and answered: what a call makes of them, from what its parts made.
-use Rattle.std.proofs.Common.{◌≡◌, ℕ, ◌+◌, ◌-◌, ◌≤◌, ◌<◌, Bool, true, false, List, [], ◌∷◌, ◌++◌, length, Option, Some, None, Result, Ok, Err, refl, sym, ◌∙◌, ap, subst, arith}
-use Rattle.std.specs.Prelude.{◌==◌, map, filter, not, IsSome, IsSomeAnd, OnOk, option_and_then, option_map, if◌then◌else◌}
+use Rattle.std.proofs.Common.{◌≡◌, inl, inr, ℕ, ◌+◌, ◌-◌, ◌≤◌, ◌<◌, Bool, true, false, List, [], ◌∷◌, ◌++◌, length, Option, Some, None, is_some, Result, Ok, Err, refl, sym, ◌∙◌, ap, subst, arith}
+use Rattle.std.specs.Prelude.{◌==◌, ◌⊎◌, ◌↔◌, Contains, map, filter, not, IsSome, IsSomeAnd, OnOk, option_and_then, option_map, if◌then◌else◌}
 use Rattle.std.specs.Option.{option_map_or}
 use Rattle.std.specs.FinMap as maps
 use Rattle.std.specs.FinMap.{FinMap}
 use Rattle.std.specs.Ordering.{nat_cmp}
+use Rattle.std.proofs.lemmas.Bool.{eqb-true}
+use Rattle.std.proofs.lemmas.Bool.Decides.{nat_tests}
 use Rattle.std.proofs.lemmas.List.{length-map, map-append}
+use Rattle.std.proofs.lemmas.List.Elements.{Contains-append_left, Contains-append_right, Contains-push}
+use Rattle.std.proofs.lemmas.Map.Made.{Contains-tail}
+use Rattle.dkg_values.specs.Rising.{lookup}
 use Rattle.dkg_journal.specs.Names.{Files}
 use Rattle.dkg_ceremony.specs.declared.round.RoundParts.{RoundParts as Round}
 use Rattle.dkg_ceremony.specs.Outcomes.{LogMap}
@@ -38,7 +43,7 @@ use Rattle.dkg_reshare.specs.declared.told.Told.{Told}
 use Rattle.dkg_reshare.specs.declared.told.Told.TheVariants.{Info}
 use Rattle.dkg_reshare.specs.Ends.{by_stop, ends_in}
 use Rattle.dkg_reshare.specs.Including.{EndsCaching, behind_first, caching, fed_of, goes_on, on_fed, reads_next, telling, unless_of}
-use Rattle.dkg_reshare.specs.InclusionOf.{IsSeen, artifact_of, cached_of, in_front, job_of, kept_of, request_of, result_of}
+use Rattle.dkg_reshare.specs.InclusionOf.{IsSeen, answer_or, artifact_of, cached_of, in_front, job_of, kept_of, posted_in, request_of, result_of}
 use Rattle.dkg_reshare.specs.LiveOf.{Beside, EndsWith, live_of, stage_of}
 use Rattle.dkg_reshare.specs.Made.{Makes, Tells}
 use Rattle.dkg_reshare.proofs.Advancing.{ReadsFirst, Waits, WaitsBy, advances_next, advances_over, goes_by, next_is, waits_advances, waits_next}
@@ -47,7 +52,7 @@ use Rattle.dkg_reshare.proofs.Chained.{early_makes, early_told, then_makes, then
 use Rattle.dkg_reshare.proofs.Committing.{goes_told}
 use Rattle.dkg_reshare.proofs.Keeping.{cached_none, cached_some, kept_none, kept_some}
 use Rattle.dkg_reshare.proofs.Requesting.{seen_queue}
-use Rattle.dkg_reshare.proofs.Telling.{ends_with, seen_told}
+use Rattle.dkg_reshare.proofs.Telling.{ends_with, got_then, seen_told}
 use Rattle.dkg_reshare.proofs.Within.{NoMore, within_as, within_behind, within_then}
 
 -- COURSES THAT WERE MADE, over devices or by their lines alone
@@ -122,6 +127,9 @@ module _ {C Dir Signer Cfg : Type 0} (its : Inclusion C Dir Signer Cfg) (i : cor
     told = seen.told;
     used = seen.used;
   }
+
+  pub seen_requests : (requests : List (requested.Request Dir)) → requests ≡ its.requests → IsSeen (record its { requests = requests }) i
+  seen_requests requests same = seen_queue its i its.hand requests i.queue (seen.queue ∙ ap (λ (rs : List (requested.Request Dir)). map request_of (in_front its.hand rs)) (sym same)) seen
 
   -- nobody waits for the verification
   pub seen_nobody : IsSeen (record its { waiter = None }) (record i { waiter = None })
@@ -337,3 +345,63 @@ module _ {C Dir Signer Cfg W : Type 0} (R : Course Dir Fault (Live Dir) → Ende
         (joins.next (on_fed c round request (fed_of x) (live_of behind_hand fence life)) (λ now. advances c (length (map request_of its.requests)) now) (live_of now fence later) how a b z first
         (subst (λ (q : List (core.Request Dir)). R (advances c (length q) (live_of now fence later)) how b z)
         (seen_now.queue ∙ (λ i. map request_of (in_front (none i) (same i)))) second))
+
+-- THOSE THAT WAIT are no more than there are in all
+
+pub front_length : {Dir Cfg : Type 0} (hand : Option (Hand Dir Cfg)) (requests : List (requested.Request Dir)) → length requests ≤ length (map request_of (in_front hand requests))
+front_length None requests = omega (arith, length-map requests request_of)
+front_length (Some hand) requests = omega (arith, length-map requests request_of)
+
+-- one fewer waits behind the first
+pub behind_length : {A : Type 0} (rs now : List A) (turn count : ℕ) → now ≡ behind_first rs → length rs + turn ≤ count → turn < count → length now + (turn + 1) ≤ count
+behind_length [] now turn count is left in_time = let e : length now ≡ 0 = ap length is in omega (arith, e, left, in_time)
+behind_length (r ∷ rs) now turn count is left in_time = let e : length now ≡ length rs = ap length is in omega (arith, e, left, in_time)
+
+-- A REQUEST IS MADE
+
+module _ {C Dir Signer Cfg : Type 0} (its : Inclusion C Dir Signer Cfg) (i : core.Inclusion Dir) (seen : IsSeen its i) (request : ℕ) where
+  kept_or : (o : Option (Told Dir)) → kept_of (answer_or o) ≡ option_and_then kept_of o
+  kept_or None = refl
+  kept_or (Some its) = refl
+
+  -- What it was told before stays.
+  pub seen_posted : IsSeen (record its { told = posted_in request its.told }) (record i { used = request ∷ i.used })
+  seen_posted = record {
+    served = seen.served;
+    queue = seen.queue;
+    running = seen.running;
+    waiter = seen.waiter;
+    retained = seen.retained;
+    cached = seen.cached;
+    told = λ q. told_by q (request == q) refl ∙ ap (λ (o : Option (Told Dir)). option_and_then kept_of o) (sym (got_then its.told request (answer_or (maps.get its.told request)) q));
+    used = λ q. subst (λ (o : Option (Told Dir)). (Contains (request ∷ i.used) q ⊎ IsSome (lookup q i.told)) ↔ IsSome o) (sym (got_then its.told request (answer_or (maps.get its.told request)) q)) (used_by q (request == q) refl);
+  }
+    where
+      told_by : (q : ℕ) (same : Bool) → (request == q) ≡ same → lookup q i.told ≡ option_and_then kept_of (if same then Some (answer_or (maps.get its.told request)) else maps.get its.told q)
+      told_by q true same = subst (λ (k : ℕ). lookup k i.told ≡ kept_of (answer_or (maps.get its.told request))) (eqb-true request q same) (seen.told request ∙ sym (kept_or (maps.get its.told request)))
+      told_by q false same = seen.told q
+
+      first_used : (q : ℕ) → request ≡ q → Contains (request ∷ i.used) q
+      first_used q same = subst (λ (k : ℕ). Contains (request ∷ i.used) k) same (Contains-append_left (request ∷ []) i.used request (Contains-push [] request))
+
+      there : (q : ℕ) → (request == q) ≡ false → Contains (request ∷ i.used) q ⊎ IsSome (lookup q i.told) → IsSome (maps.get its.told q)
+      there q same (inl has) = (seen.used q).0 (inl (Contains-tail request i.used q (λ e. grind (arith, nat_tests)) has))
+      there q same (inr has) = (seen.used q).0 (inr has)
+
+      back : (q : ℕ) → Contains i.used q ⊎ IsSome (lookup q i.told) → Contains (request ∷ i.used) q ⊎ IsSome (lookup q i.told)
+      back q (inl has) = inl (Contains-append_right (request ∷ []) i.used q has)
+      back q (inr has) = inr has
+
+      used_by : (q : ℕ) (same : Bool) → (request == q) ≡ same
+          → (Contains (request ∷ i.used) q ⊎ IsSome (lookup q i.told)) ↔ IsSome (if same then Some (answer_or (maps.get its.told request)) else maps.get its.told q)
+      used_by q true same = (λ any. refl, λ any. inl (first_used q (eqb-true request q same)))
+      used_by q false same = (there q same, λ has. back q ((seen.used q).1 has))
+
+-- A VERIFICATION ENDS, if one runs
+
+module _ {Dir : Type 0} (c : Fixed Dir) (handed : Option core.VerifiedLogs) (st : Live Dir) where
+  abbrev works_in : Bool → Course Dir Fault (Live Dir)
+  works_in runs = if runs then bind (including.ends_verifying c handed st) (λ st. advanced c st) else Goes st
+
+  pub works_by : (runs : Bool) → is_some st.inclusion.running ≡ runs → including.works c handed st ≡ works_in runs
+  works_by runs is = ap (λ (b : Bool). works_in b) is

@@ -1,12 +1,13 @@
 -- How a verification starts, answers its request and ends, in memory and in the relation.
 use Rattle.std.proofs.Common.{◌≡◌, ◌≢◌, inl, inr, ℕ, Bool, true, false, List, [], ◌∷◌, Option, Some, None, Result, Ok, Err, is_some, refl, sym, ◌∙◌, ap, subst}
-use Rattle.std.specs.Prelude.{◌⊎◌, ◌&&◌, not, IsSomeAnd, option_and_then, option_map, if◌then◌else◌}
+use Rattle.std.specs.Prelude.{◌⊎◌, ◌&&◌, not, IfSome, IsSome, IsSomeAnd, option_and_then, option_map, if◌then◌else◌}
 use Rattle.std.specs.FinMap as maps
 use Rattle.std.specs.FinMap.{FinMap}
 use Rattle.std.specs.Option.{option_map_or}
 use Rattle.std.specs.Ordering.{nat_cmp}
 use Rattle.dkg_ceremony.specs.declared.round.RoundParts.{RoundParts as Round}
 use Rattle.dkg_ceremony.specs.Outcomes.{LogMap}
+use Rattle.dkg_ceremony.specs.Schedule.{midpoint}
 use Rattle.dkg_fence.specs.Readiness.{Readiness}
 use Rattle.dkg_journal.specs.Names.{Files}
 use Rattle.dkg_types.specs.PayloadCodes.{info_payload}
@@ -32,6 +33,8 @@ use Rattle.dkg_core.specs.Same.{same_logs}
 use Rattle.dkg_core.proofs.Same.{logs_again, logs_decide, one_logs}
 use Rattle.dkg_reshare.specs.declared.inclusion.Inclusion.{Inclusion}
 use Rattle.dkg_reshare.specs.declared.life.Life.{Life}
+use Rattle.dkg_reshare.specs.declared.life.Stage.{Stage}
+use Rattle.dkg_reshare.specs.declared.life.Stage.TheVariants.{Including, Following}
 use Rattle.dkg_reshare.specs.declared.stop.Stop.{Stop}
 use Rattle.dkg_reshare.specs.declared.stop.Stop.TheVariants.{Fault as Faulted}
 use Rattle.dkg_reshare.specs.declared.told.EpochInfoResponse.TheVariants.{Available}
@@ -39,10 +42,11 @@ use Rattle.dkg_reshare.specs.declared.told.Told.{Told}
 use Rattle.dkg_reshare.specs.declared.told.Told.TheVariants as told
 use Rattle.dkg_reshare.specs.Ends.{by_stop, ends_in}
 use Rattle.dkg_reshare.specs.Including.{caching, telling}
-use Rattle.dkg_reshare.specs.InclusionOf.{IsSeen, artifact_of, cached_of, job_of, kept_of, result_of}
-use Rattle.dkg_reshare.specs.LiveOf.{Beside, EndsWith, live_of}
+use Rattle.dkg_reshare.specs.InclusionOf.{IsReadyInclusion, IsRunnable, IsSeen, artifact_of, cached_of, job_of, kept_of, result_of}
+use Rattle.dkg_reshare.specs.LiveOf.{Beside, EndsWith, IsPlaced, live_of}
 use Rattle.dkg_reshare.specs.Made.{Makes, Speaks, Tells}
 use Rattle.dkg_reshare.specs.Refusing.{refusal_for}
+use Rattle.dkg_reshare.specs.Rules.{CheckLogOf, DealingOf, FinishOf}
 use Rattle.dkg_reshare.proofs.Burning.{makes_nothing, speaks_makes}
 use Rattle.dkg_reshare.proofs.Chained.{early_makes, early_told, then_makes, then_told}
 use Rattle.dkg_reshare.proofs.Committing.{goes_told, same_made, same_told}
@@ -346,3 +350,35 @@ module _ {Dir : Type 0} (c : Fixed Dir) (handed : Option core.VerifiedLogs) (bes
 
   pub one_ends : (j : core.Job) (r : core.VerifiedLogs) → beside.inclusion.running ≡ Some j → r ≡ including.result_of c handed j → ending ≡ including.completes c r (live_of beside fence life)
   one_ends j r runs is = ending_as (Some j) runs ∙ ap (λ (x : core.VerifiedLogs). including.completes c x (live_of beside fence life)) (sym is)
+
+-- WHAT HOLDS WHILE ONE RUNS, AND BEHIND IT
+
+apart_stages : {A : Type 0} (s : Stage) → s ≡ Including → s ≡ Following → A
+apart_stages s includes follows = absurd (let h : ◌≡◌ {A = Stage} Including Following = sym includes ∙ follows in cc)
+
+pub middle_now : {Dir : Type 0} (c : Fixed Dir) (n : ℕ) (life : Life Dir) → c.blocks_per_epoch ≡ n → life.stage ≡ Including → IsPlaced n life → midpoint c.blocks_per_epoch life.epoch ≡ life.midpoint
+middle_now c n life same includes placed = ap (λ (m : ℕ). midpoint m life.epoch) same ∙ sym (placed.midpoint_is (λ follows. apart_stages life.stage includes follows))
+
+module _ {C Dir Signer Cfg : Type 0} (check_log_of : CheckLogOf) (dealing_of : DealingOf) (finish_of : FinishOf) (n : ℕ) (life : Life Dir) (its : Inclusion C Dir Signer Cfg)
+    (ready : IsReadyInclusion check_log_of dealing_of finish_of n life its)
+  where
+    running_includes : (o : Option job.Job) → IsSome o → IfSome o (λ j. (life.stage ≡ Including) × (life.round ≡ Some j.round) × IsRunnable dealing_of finish_of j) → life.stage ≡ Including
+    running_includes None some runs = absurd (let h : false ≡ true = some in cc)
+    running_includes (Some j) some runs = runs.0
+
+    pub includes_now : IsSome its.verification.running → life.stage ≡ Including
+    includes_now some = running_includes its.verification.running some ready.runs
+
+    pub current_now : IsSome its.verification.running → IsSome life.store.current
+    current_now some = ready.current (λ follows. apart_stages life.stage (includes_now some) follows)
+
+    pub ready_behind : (v : Verification) (waiter : Option ℕ) (cache : Option (LogMap × artifact.Artifact Dir)) (answers : FinMap nat_cmp (Told Dir)) → v.running ≡ None
+        → IsReadyInclusion check_log_of dealing_of finish_of n life (record its { verification = v; waiter = waiter; cache = cache; told = answers })
+    ready_behind v waiter cache answers idle = record {
+      hand = ready.hand;
+      free = λ some. idle;
+      runs = subst (λ (o : Option job.Job). IfSome o (λ j. (life.stage ≡ Including) × (life.round ≡ Some j.round) × IsRunnable dealing_of finish_of j)) (sym idle) tt;
+      idle = ready.idle;
+      current = ready.current;
+      unserved = ready.unserved;
+    }

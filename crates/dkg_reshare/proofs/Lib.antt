@@ -15,6 +15,7 @@ pub mod Calls
 pub mod Caused
 pub mod Chained
 pub mod Committing
+pub mod Completed
 pub mod Completing
 pub mod Concluding
 pub mod Counted

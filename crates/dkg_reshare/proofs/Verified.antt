@@ -111,6 +111,18 @@ module _ {Dir : Type 0} (c : Fixed Dir) (round : Round) (logs : LogMap) (st : Li
     pub refused_for : (dealer : ℕ) → has round.players me ≡ true → orphan ≡ false → refusal ≡ Some dealer → refusal_for c round logs st ≡ Some dealer
     refused_for dealer plays some is = ap refused_where (finishes_by true false plays some) ∙ refused_is ∙ is
 
+-- the same, of a number that is the round's
+module _ {Dir : Type 0} (round : Round) (logs : LogMap) (store : Store Dir) (me : ℕ) (bears_ack_of : BearsAckOf) (dealing_of : DealingOf) (number : ℕ) (is : number ≡ round.number) where
+  pub some_at : (b : Bool) → b ≡ not (has_orphan (λ dealer log. bears_ack_of round dealer log me) (at_epoch number store.dealings) logs)
+      → b ≡ not (has_orphan (λ dealer log. bears_ack_of round dealer log me) (at_epoch round.number store.dealings) logs)
+  some_at b some = some ∙ ap (λ (n : ℕ). not (has_orphan (λ dealer log. bears_ack_of round dealer log me) (at_epoch n store.dealings) logs)) is
+
+  pub passes_here : first_refused (dealing_of round me) (of_store.of_epoch number store.dealings) ≡ None → first_refused (dealing_of round me) (of_store.of_epoch round.number store.dealings) ≡ None
+  passes_here passes = ap (λ (n : ℕ). first_refused (dealing_of round me) (of_store.of_epoch n store.dealings)) (sym is) ∙ passes
+
+  pub dealings_here : (dealings : DealingMap) → dealings ≡ at_epoch number store.dealings → dealings ≡ at_epoch round.number store.dealings
+  dealings_here dealings same = same ∙ ap (λ (n : ℕ). at_epoch n store.dealings) is
+
 -- IT CAN BE RUN TO ITS END
 
 module _ (dealing_of : DealingOf) (finish_of : FinishOf) (round : Round) (logs : LogMap) where

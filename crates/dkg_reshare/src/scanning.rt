@@ -425,7 +425,8 @@ pub(crate) fn advance<
     ensures causes { IfErr result (λ stop. IsCaused stop (Rose (D.faults devices.old.disk.now) (D.faults devices.new.disk.now))
         (Rose (X.faults devices.old.secrets.now) (X.faults devices.new.secrets.now)) (Reached devices.old.fuse devices.new.fuse)) }
 {
-    for _ in 0..inclusion.requests.len() {
+    let count = inclusion.requests.len();
+    for _turn in 0..count {
         if !may_read(life, inclusion) {
             return Ok(());
         }

@@ -318,20 +318,21 @@ fn complete<
     ensures causes { IfErr result (λ stop. IsCaused stop (Rose (D.faults devices.old.disk.now) (D.faults devices.new.disk.now))
         (Rose (X.faults devices.old.secrets.now) (X.faults devices.new.secrets.now)) (Reached devices.old.fuse devices.new.fuse)) }
 {
-    if let Some(request) = inclusion.waiter {
-        answer_by(
-            alloc,
-            provider,
-            terms,
-            &mut life.store,
-            devices,
-            &mut inclusion.cache,
-            &mut inclusion.told,
-            request,
-            &verified,
-            out,
-        )?;
-    }
+    let Some(request) = inclusion.waiter else {
+        return Ok(retain(alloc, life, inclusion, verified)?);
+    };
+    answer_by(
+        alloc,
+        provider,
+        terms,
+        &mut life.store,
+        devices,
+        &mut inclusion.cache,
+        &mut inclusion.told,
+        request,
+        &verified,
+        out,
+    )?;
     Ok(retain(alloc, life, inclusion, verified)?)
 }
 

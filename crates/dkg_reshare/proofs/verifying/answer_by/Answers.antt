@@ -16,7 +16,7 @@ returns-in_err-keep_artifact-clause-acts g c = λ disk secrets provided fixed st
 pub returns-in_err-keep_artifact-clause-tells : goal.returns-in_err-keep_artifact-clause-tells
 returns-in_err-keep_artifact-clause-tells g c = λ provided fixed st of reads by current cached.
     let p = err_from_is_err_and c.from_residual.result c.from_residual.ensures.1 in
-    rw (p.1, p.2) (unkept_told fixed of.reshare (result_of c.args.verified.now) c.args.request st c.in_err-keep_artifact.field-0.0 c.args.out.now.entries c.args.out.now.entries
+    rw (p.1, p.2) (unkept_told fixed of.reshare (result_of c.args.verified.now) c.args.request st c.in_err-keep_artifact.field-0.0
     (c.in_err-keep_artifact.ensures.tells provided fixed st of reads by current cached c.args.out.now.entries))
 
 pub returns-clause-acts : goal.returns-clause-acts
