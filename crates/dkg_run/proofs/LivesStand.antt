@@ -27,14 +27,14 @@ use Rattle.dkg_core.specs.Stepping.{IsNextIn, held_at_setup}
 use Rattle.dkg_core.proofs.Openings.{node_openings_lead, node_openings_lead_over}
 use Rattle.dkg_core.proofs.Stepping.{node_steps_lead, node_steps_lead_over}
 use Rattle.dkg_reshare.specs.declared.stop.Stop.{Stop}
-use Rattle.dkg_run.specs.Epochs.{IsAt, IsLifeOver}
+use Rattle.dkg_run.specs.Epochs.{IsAt, IsLifeInForm}
 use Rattle.dkg_run.specs.Given.{Lived, at_step, limits_of, lived, step_of}
 use Rattle.dkg_run.specs.Lives.{IsRefused, LivesSo, Steps, TakesAll, fuse_for}
 use Rattle.dkg_run.specs.Ways.{Way, by_lines, by_worlds}
 use Rattle.dkg_run.proofs.Alone.{epoch_alike, follows_alike}
 use Rattle.dkg_run.proofs.Awaiting.{IsBefore, IsReached, before_all, reached_lit}
 use Rattle.dkg_run.proofs.Drawn.{HasRoundOf, begun_round, step_round}
-use Rattle.dkg_run.proofs.Former.{IsMessage, event_in_form, form_over, lacks_nobody, life_in, live_at, message_in}
+use Rattle.dkg_run.proofs.Former.{IsMessage, event_in_form, form_at, lacks_nobody, life_in, live_at, message_in}
 use Rattle.dkg_run.proofs.NextLives.{has_round}
 use Rattle.dkg_run.proofs.Stood.{begun_stands, step_stands, step_taken}
 
@@ -99,12 +99,12 @@ pub record Keeps (g : Lived) (Q : ℕ → Live directory.Unit → Type 0) : Type
   pub next : (i : ℕ) (its : Event) → slice_get g.life.events i ≡ Some its → IsReached g.life.cut (suc i) → (m : IsMessage g its) (st : Live directory.Unit) → IsAt g i st → Q i st
       → (h k : Held) (end : Live directory.Unit) → IsNextIn (at_step g (suc i)) st m.message h k end → IsAt g (suc i) end → Q (suc i) end
 
-module _ {W : Type 0} (way : Way W) (leads : Leads way) (g : Lived) (here : IsLifeOver g) where
+module _ {W : Type 0} (way : Way W) (leads : Leads way) (g : Lived) (here : IsLifeInForm g) where
   -- ONE STEP, in a way
 
   pub opened_at : (st : Live directory.Unit) (f : Burn) (w new : W) → way.goes (node_opening (at_step g 0)) (went st) f w new → (seen : Seen) × (k : Held) × IsNodeBegun (at_step g 0) seen k st × IsAt g 0 st
   opened_at st f w new goes =
-      let its = leads.opens (at_step g 0) st f w new (form_over g here 0) (lacks_nobody g 0) goes in
+      let its = leads.opens (at_step g 0) st f w new (form_at g here 0) (lacks_nobody g 0) goes in
       (its.0, its.1, its.2, record { live = (its.2).live; active = (its.2).active; stands = begun_stands g here its.0 its.1 st its.2 })
 
   module _ (i : ℕ) (its : Event) (is : slice_get g.life.events i ≡ Some its) (reached : IsReached g.life.cut (suc i)) (st : Live directory.Unit) (at : IsAt g i st) where
@@ -120,7 +120,7 @@ module _ {W : Type 0} (way : Way W) (leads : Leads way) (g : Lived) (here : IsLi
     pub stepped_at : (end : Live directory.Unit) (f : Burn) (w new : W) → way.goes (step_of g (suc i) its st) (went end) f w new
         → (h k : Held) × IsNextIn (at_step g (suc i)) st message.message h k end × IsAt g (suc i) end
     stepped_at end f w new goes =
-        let led = leads.steps (at_step g (suc i)) st end message.message f w new (form_over g here (suc i)) taken_here live_here at.active
+        let led = leads.steps (at_step g (suc i)) st end message.message f w new (form_at g here (suc i)) taken_here live_here at.active
         (subst (λ (course : Course directory.Unit NodeStop (Live directory.Unit)). way.goes course (went end) f w new) (message.course (suc i) st) goes) in
         (led.0, led.1, led.2, record { live = (led.2).live; active = led.3; stands = step_stands g here i its is reached message st live_here at.stands led.0 led.1 end led.2 })
 
@@ -193,7 +193,7 @@ module _ (s : Setting) (l : ℕ) (life : Life) (seen : Held → Seen) (files : F
   }
 
   -- unless it follows it takes part in the round of the epoch that is awaited
-  pub takes_part_at : IsLifeOver life_of → found s l ≡ None → (j : ℕ) (st : Live directory.Unit) → IsAt life_of j st → HasRoundOf s st → follows s l life (awaited_epoch s l life j) ≡ false
+  pub takes_part_at : IsLifeInForm life_of → found s l ≡ None → (j : ℕ) (st : Live directory.Unit) → IsAt life_of j st → HasRoundOf s st → follows s l life (awaited_epoch s l life j) ≡ false
       → (round : Round) × (st.participation.round ≡ Some round) × (round.number ≡ awaited_epoch s l life j) × (round_at s (awaited_epoch s l life j) ≡ Some round)
   takes_part_at here none_found j st at of_round part =
       let its = has_round (at_step life_of j) st at.live apart in

@@ -22,7 +22,7 @@ use Rattle.dkg_core.specs.Heard.{recovered_in}
 use Rattle.dkg_core.specs.Laws.{IsAmong}
 use Rattle.dkg_core.specs.Live.{Live}
 use Rattle.dkg_core.specs.Setup.{refused_in}
-use Rattle.dkg_run.proofs.HeardOver.{Knows}
+use Rattle.dkg_run.proofs.Heard.{Knows}
 use Rattle.dkg_run.proofs.NoOthers.{IsOwnDealt}
 
 not_there : {A : Type 0} (x : A) → ◌≡◌ {A = Option A} None (Some x) → ⊥

@@ -23,7 +23,7 @@ use Rattle.dkg_core.specs.Sources.{Tip, startup}
 use Rattle.dkg_core.specs.Stepping.{IsBlockEnd, IsNextIn, IsStepEnd, TakesNothingOver}
 use Rattle.dkg_core.specs.Endings.{first_block, tip_behind}
 use Rattle.dkg_core.proofs.Heights.{epoch_from, epoch_is, epoch_to, next_last}
-use Rattle.dkg_run.specs.Epochs.{IsEarly, IsLifeOver, Stands, awaited_by, epoch_by}
+use Rattle.dkg_run.specs.Epochs.{IsEarly, IsLifeInForm, Stands, awaited_by, epoch_by}
 use Rattle.dkg_run.specs.Given.{Lived, at_step}
 use Rattle.dkg_run.proofs.Awaiting.{HasHeight, IsReached, awaited, block_awaits, block_behind, has_height, message_behind}
 use Rattle.dkg_run.proofs.Delivered.{enters_here, enters_not, epochs_rise, first_not, starts}
@@ -59,7 +59,7 @@ bools_apart t e f = let wrong : true ≡ false = sym e ∙ f in cc
 the_block : {A : Type 0} {x y : made.Block A} → ◌≡◌ {A = Message A} (Finalized x) (Finalized y) → x ≡ y
 the_block e = cc
 
-module _ (g : Lived) (here : IsLifeOver g) where
+module _ (g : Lived) (here : IsLifeInForm g) where
   abbrev s : Setting
   s = alone g.script
 

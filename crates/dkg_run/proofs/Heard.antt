@@ -55,7 +55,7 @@ use Rattle.dkg_core.proofs.Behind.{leaves_devices}
 use Rattle.dkg_core.proofs.Keeping.{fold_silent, left_entries, silent_whole}
 use Rattle.dkg_core.proofs.Lines.{runs_add_deeds}
 use Rattle.dkg_core.proofs.Upkeep.{along_if}
-use Rattle.dkg_run.proofs.PeersOver.{BringsDealing, IsUndue, by_form}
+use Rattle.dkg_run.proofs.PeerForms.{BringsDealing, IsUndue, by_form}
 use Rattle.dkg_run.proofs.Recorded.{gives_one, restored_at, with_pair_finds}
 use Rattle.dkg_run.proofs.Currently.{AreKept, IsKeptEntry, current_as, current_with, not_kept}
 

@@ -45,9 +45,9 @@ use Rattle.dkg_core.proofs.BlocksKept.{blocks_keep}
 use Rattle.dkg_core.proofs.Enduring.{steps_keep}
 use Rattle.dkg_run.proofs.BlocksLeave.{AreTold, gives_before, gives_no_other, says_aside, tells_own}
 use Rattle.dkg_run.proofs.Currently.{AreKept, HandsOn, IsKeptEntry, MayBeKept, current_as, current_later, current_with, found_current, grown, grown_all, may_of, may_still}
-use Rattle.dkg_run.proofs.HeardOver.{Carries, IsHeard, IsSameStep, IsUnchanged, ValidAt, each_aside, heard, own_found, read_aside}
+use Rattle.dkg_run.proofs.Heard.{Carries, IsHeard, IsSameStep, IsUnchanged, ValidAt, each_aside, heard, own_found, read_aside}
 use Rattle.dkg_run.proofs.NoOthers.{IsOwnDealt, IsToldSince}
-use Rattle.dkg_run.proofs.PeersOver.{IsUndue}
+use Rattle.dkg_run.proofs.PeerForms.{IsUndue}
 use Rattle.dkg_run.proofs.Recorded.{gives_one, restored_at, with_pair_finds}
 use Rattle.dkg_run.proofs.Seated.{own_valid}
 
