@@ -19,7 +19,6 @@ use Rattle.dkg_types.specs.declared.fault.Fault.{Fault}
 use Rattle.dkg_types.specs.declared.fault.Fault.TheVariants.{ConflictingBlock, DetachedBlock, SkippedHeight, OutOfWindow, HeightRange, MissingEpochInfo, WrongEpoch, LocalState}
 use Rattle.dkg_types.specs.declared.fault.LocalCause.TheVariants.{OutcomeOmitted}
 use Rattle.dkg_types.specs.declared.info.EpochInfo.{EpochInfo}
-use Rattle.dkg_types.specs.InfoCodes.{info_spelling}
 use Rattle.dkg_types.specs.PayloadCodes.{its_log, info_payload}
 use Rattle.dkg_core.specs.Courses.{Course, Say, Goes, Stops, bind}
 use Rattle.dkg_secrets.specs.Keys.{key_cmp}
@@ -27,6 +26,7 @@ use Rattle.dkg_core.specs.Fixed.{Fixed}
 use Rattle.dkg_core.specs.Sources.{Tip}
 use Rattle.dkg_core.specs.Live.{Live, Dealer, Stage, Deals, Includes, Follows, Ends, Request, VerifiedLogs, Artifact, with_tip, with_participation, with_inclusion, with_queue, phase_of, is_last_height, recorded_at}
 use Rattle.dkg_core.specs.Logs.{canonical, is_accepted, log_event, recorded_log}
+use Rattle.dkg_core.specs.Same.{same_info}
 use Rattle.dkg_core.specs.Setup.{looks, is_past_range, begins_inclusion, seed_for, recovered_share, commits, registers, setup}
 use Rattle.dkg_core.specs.Dealing.{appends, deals, with_round}
 use Rattle.dkg_core.specs.Including.{advanced, answers_none, artifact, cached_for, retained_for, retains, starts_verifying, job_for, verified, ends_verifying, payload_bytes}
@@ -78,13 +78,9 @@ abbrev pub answers_all : {Dir : Type 0} → List (Request Dir) → Live Dir → 
 answers_all [] st = Goes (with_queue [] st)
 answers_all (r ∷ rs) st = bind (answers_none r.number Finished st) (λ st. answers_all rs st)
 
--- two infos are one: their spellings are
-abbrev pub same_info : {Dir : Type 0} → Fixed Dir → EpochInfo Dir → EpochInfo Dir → Bool
-same_info c a b = bytes_eq (info_spelling c.directories.spelling a) (info_spelling c.directories.spelling b)
-
 -- the artifact's share, where its info is the carried one
 abbrev pub share_for : {Dir : Type 0} → Fixed Dir → EpochInfo Dir → Artifact Dir → Option ℕ
-share_for c info made = if option_map_or (λ derived. same_info c derived info) made.info false then made.share else None
+share_for c info made = if option_map_or (λ derived. same_info c.directories derived info) made.info false then made.share else None
 
 -- The one-shot ceremony ends.
 abbrev pub ends_once : {Dir : Type 0} → Fixed Dir → Option (EpochInfo Dir) → Live Dir → Course Dir Fault (Live Dir)

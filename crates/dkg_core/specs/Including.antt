@@ -8,7 +8,6 @@ use Rattle.dkg_ceremony.specs.declared.output.Output.{Output}
 use Rattle.dkg_ceremony.specs.declared.round.RoundParts.{RoundParts as Round}
 use Rattle.dkg_ceremony.specs.declared.signed_log.SignedDealerLog.{SignedDealerLog}
 use Rattle.dkg_ceremony.specs.Outcomes.{LogMap}
-use Rattle.dkg_ceremony.specs.Rounds.{round_bytes}
 use Rattle.dkg_ceremony.specs.Schedule.{midpoint, last}
 use Rattle.dkg_types.specs.Blocks.{Block}
 use Rattle.dkg_types.specs.declared.entry.Entry.TheVariants.{Log, Answer}
@@ -28,7 +27,8 @@ use Rattle.dkg_types.specs.PayloadCodes.{payload_spelling, its_log, log_payload,
 use Rattle.dkg_core.specs.Courses.{Course, Say, Goes, Stops, bind}
 use Rattle.dkg_core.specs.Fixed.{Fixed, OneShot, has}
 use Rattle.dkg_core.specs.Live.{Live, Stage, Deals, Includes, Follows, Ends, Request, Dealings, Job, Verified, VerifiedLogs, Artifact, Cached, GaveLog, GaveInfo, GaveNone, of_epoch, with_inclusion, with_queue, with_used, with_told}
-use Rattle.dkg_core.specs.Logs.{canonical, is_accepted, same_logs, filled_by}
+use Rattle.dkg_core.specs.Logs.{canonical, is_accepted, filled_by}
+use Rattle.dkg_core.specs.Same.{same_logs, same_round}
 use Rattle.dkg_core.specs.Setup.{looks, is_lost, refused_in}
 use Rattle.dkg_core.specs.Dealing.{with_round}
 
@@ -165,7 +165,7 @@ same_key a b = false
 
 -- A result that is handed in is of a job: of its round, key and logs.
 abbrev pub is_of_job : VerifiedLogs → Job → Bool
-is_of_job handed job = bytes_eq (round_bytes handed.round) (round_bytes job.round) && same_key handed.me (its_key job) && same_logs handed.logs job.logs
+is_of_job handed job = same_round handed.round job.round && same_key handed.me (its_key job) && same_logs handed.logs job.logs
 
 -- The result of a job: the one that is handed in, where it is of that job, else what this node finds.
 abbrev pub result_of : {Dir : Type 0} → Fixed Dir → Option VerifiedLogs → Job → VerifiedLogs

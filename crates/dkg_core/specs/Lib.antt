@@ -30,6 +30,7 @@ pub mod Plans
 pub mod Probes
 pub mod Probing
 pub mod Said
+pub mod Same
 pub mod Seen
 pub mod Setup
 pub mod Sources

@@ -1,10 +1,8 @@
 -- Dealers' logs as they are recorded, and which of them count.
 use Rattle.std.specs.Prelude.{ℕ, Bool, true, false, ◌&&◌, ◌==◌, [], ◌∷◌, option_map, Some}
-use Rattle.std.specs.Str.{bytes_eq}
 use Rattle.dkg_ceremony.specs.declared.dealer_log.DealerLog.{DealerLog}
 use Rattle.dkg_ceremony.specs.declared.round.RoundParts.{RoundParts as Round}
 use Rattle.dkg_ceremony.specs.declared.signed_log.SignedDealerLog.{SignedDealerLog}
-use Rattle.dkg_ceremony.specs.Logs.{log_spelling}
 use Rattle.dkg_ceremony.specs.Outcomes.{LogMap}
 use Rattle.dkg_ceremony.specs.Schedule.{midpoint}
 use Rattle.dkg_values.specs.Rising.{with_pair}
@@ -36,11 +34,6 @@ canonical c st =
     reached_logs (midpoint c.blocks_per_epoch st.participation.epoch) (option_map (λ t. t.height) st.tip) (of_epoch st.participation.epoch st.records.logs)
 
 -- WORDS ON LOGS BY DEALER
-
-abbrev pub same_logs : LogMap → LogMap → Bool
-same_logs [] [] = true
-same_logs (a ∷ as') (b ∷ bs) = (a.0 == b.0) && bytes_eq (log_spelling a.1) (log_spelling b.1) && same_logs as' bs
-same_logs _ _ = false
 
 -- these, and others of dealers that have none among them
 abbrev pub filled_by : LogMap → LogMap → LogMap
