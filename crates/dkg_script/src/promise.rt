@@ -51,7 +51,7 @@ pub fn stays_in_order_as_cut()
     ensures { StaysInOrderAsCut }
 {}
 
-/// A script of the form that is run is of it as it was cut.
+/// A script of the form of epochs is of it as it was cut.
 pub fn stays_of_epochs()
     ensures { StaysOfEpochs }
 {}
