@@ -29,7 +29,7 @@ use Rattle.dkg_core.specs.Fixed.{has}
 use Rattle.dkg_core.specs.Forms.{IsLiveIn, IsNodeBegun, IsOpeningStop, IsSeated, IsSetUpIn, IsSetupFault, Judged, Refusal, Passed, Applied, judged_block, judged_over, share_read, seed_read, started}
 use Rattle.dkg_core.specs.Laws.{start_of}
 use Rattle.dkg_core.specs.Live as core
-use Rattle.dkg_core.specs.Live.{Deals, Ends, Finalized, Follows, Includes, Live, Message, Peer, Plays, Sent, Stage, Watches, is_last_height, phase_of}
+use Rattle.dkg_core.specs.Live.{Deals, Ends, Finalized, Follows, Includes, Live, Plays, Stage, Watches, is_last_height, phase_of}
 use Rattle.dkg_core.specs.Seen.{Seen}
 use Rattle.dkg_core.specs.Setup.{Standing, Uncommitted, WasCommitted, is_past_range, may_deal, pairs_of}
 use Rattle.dkg_core.specs.Sources.{Tip}
@@ -57,11 +57,6 @@ some_is e = cc
 
 ok_err : {A E : Type 0} (x : A) (e : E) → ◌≡◌ {A = Result A E} (Ok x) (Err e) → ⊥
 ok_err x e is = cc
-
--- nothing holds of nothing
-never : {A : Type 0} (o : Option A) → IsSomeAnd o (λ x. ⊥) → ⊥
-never None none = none
-never (Some x) none = none
 
 -- OF A DEALING THAT IS REFUSED
 

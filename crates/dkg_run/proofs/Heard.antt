@@ -59,10 +59,6 @@ use Rattle.dkg_run.proofs.PeerForms.{BringsDealing, IsUndue, by_form}
 use Rattle.dkg_run.proofs.Recorded.{gives_one, restored_at, with_pair_finds}
 use Rattle.dkg_run.proofs.Currently.{AreKept, IsKeptEntry, current_as, current_with, not_kept}
 
-each_front : (s : Setting) (E : Progress → Entry → Type 0) (xs ys : List Entry) (p : Progress) → EachAfter s E p (xs ++ ys) → EachAfter s E p xs
-each_front s E [] ys p each = tt
-each_front s E (x ∷ xs) ys p each = (each.0, each_front s E xs ys (read s p x) each.1)
-
 -- ONE DEALING MORE
 
 still_given : (m : Pairs) (key : ℕ × ℕ) (v : List ℕ × ℕ) (x : Restored) → get m key ≡ None → Gives m x → Gives (insert m key v) x

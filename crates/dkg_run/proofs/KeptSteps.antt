@@ -124,9 +124,6 @@ last_cut (x ∷ cuts) (suc l) its is = last_cut cuts l its (omega (arith, is))
 none_some : {A : Type 0} (a : A) → ◌≡◌ {A = Option A} None (Some a) → ⊥
 none_some a e = cc
 
-some_is : {A : Type 0} (a b : A) → ◌≡◌ {A = Option A} (Some a) (Some b) → a ≡ b
-some_is a b e = cc
-
 -- what is on the devices and not recorded was brought by this step
 may_at_cut : (b : ℕ) (s : Setting) (p : Progress) (l : ℕ) (life : Life) (j call : ℕ) (m : Pairs) → life_at s l ≡ Some life → length p.cuts ≡ l → p.opened ≡ Some l → 0 < call
     → AllCurrent b (Gives m) p.recorded

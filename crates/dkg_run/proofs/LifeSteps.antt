@@ -40,7 +40,7 @@ use Rattle.dkg_core.specs.Heard.{recovered_in}
 use Rattle.dkg_core.specs.Laws as node
 use Rattle.dkg_core.specs.Laws.{reach_of}
 use Rattle.dkg_core.specs.Live as core
-use Rattle.dkg_core.specs.Live.{Stage, Deals, Includes, Follows, Ends, Finalized, Live, Message, NodeStop, Peer, Plays, Sent, phase_of}
+use Rattle.dkg_core.specs.Live.{Stage, Deals, Includes, Follows, Ends, Finalized, Live, Message, NodeStop, Peer, Sent, phase_of}
 use Rattle.dkg_core.specs.Blocks.{is_in_window_in}
 use Rattle.dkg_core.specs.Sources.{Tip}
 use Rattle.dkg_ceremony.specs.declared.phase.Phase.{Phase}
@@ -406,9 +406,6 @@ module _ (s : Setting) (ends : List (Option CutAt)) (l : ℕ) (life : Life) (see
 
         dealing : judged_block (c (suc i)) block st ≡ Applied → (round : Round) → st.participation.round ≡ Some round → b (suc i) < e i + 2
         dealing applied round there = block_current s reshares l life life_is cuts some never_back i number block its_height its_is reached (same_epoch_as applied round there)
-
-        block_live : IsLiveIn (c (suc i)) st
-        block_live = live
 
         -- recorded dealings of the epoch that is awaited behind it pass
         valid_then : (end : Live U) → ended ≡ went end → IsFollowed end → ValidAt (e (suc i)) end new.held s

@@ -67,12 +67,6 @@ none_some e = cc
 same_number : (n m : ℕ) → (n == m) ≡ true → n ≡ m
 same_number n m e = grind (arith, nat_tests)
 
-apart_number : (n : ℕ) → 0 < n → (n == 0) ≡ false
-apart_number n some = grind (arith, nat_tests)
-
-is_number : (n : ℕ) → n ≡ 0 → (n == 0) ≡ true
-is_number n is = grind (arith, nat_tests)
-
 rest_at : {A : Type 0} (all : List A) (i : ℕ) (its : A) (more : List A) → its ∷ more ≡ drop i all → more ≡ drop (suc i) all
 rest_at [] zero its more is = absurd (let wrong : its ∷ more ≡ [] = is in cc)
 rest_at [] (suc i) its more is = absurd (let wrong : its ∷ more ≡ [] = is in cc)

@@ -19,7 +19,6 @@ use Rattle.dkg_core.specs.Node.{node_opening}
 use Rattle.dkg_core.specs.Said.{Said}
 use Rattle.dkg_reshare.specs.Actors.{IsFoundAt}
 use Rattle.dkg_reshare.specs.Made.{MakesOn}
-use Rattle.dkg_reshare.specs.Moved.{StaysAbove}
 use Rattle.dkg_reshare.specs.Opened.{IsInGrammar, StaysShut}
 use Rattle.dkg_reshare.specs.Planless.{seen_planless}
 use Rattle.dkg_reshare.specs.declared.stop.Stop.{Stop}
@@ -41,12 +40,6 @@ pub cut_behind : (limit : ℕ) (tells : Bool) (files : Files) (stop : Stop) (P Q
 cut_behind limit tells files stop P Q R caused is = subst (λ (s : Stop). IsFoundAt limit tells files s P Q R) is caused
 
 module _ {D X : Type 0} (files : D → Files) (image : D → Files → Type 0) (held : X → Secrets) (old begun : Devices D X) (same_disk : begun.disk ≡ old.disk) (same_secrets : begun.secrets ≡ old.secrets) where
-  -- what is kept from where the fuse was set is kept from before
-  pub above_begun : (least : ℕ) (next : Files → Type 0) (now : Secrets) → StaysAbove least (image begun.disk.now) next (held begun.secrets.now) now → StaysAbove least (image old.disk.now) next (held old.secrets.now) now
-  above_begun least next now stays =
-      subst (λ (d : MutBor D). StaysAbove least (image d.now) next (held old.secrets.now) now) same_disk
-      (subst (λ (x : MutBor X). StaysAbove least (image begun.disk.now) next (held x.now) now) same_secrets stays)
-
   -- The life is cut before it opens.
   pub cut_ran : begun ≡ old → Stands (files old.disk.now) (image old.disk.now) → (script : Script) (number : ℕ) (life : Life) → fuse_for life.cut 0 ≡ None → (stop : Stop) → stop ≡ Cut → (out : List Line) (c : Files) → image begun.disk.now c
       → LivesSo by_worlds (lived script number life seen_planless (files old.disk.now)) (files old.disk.now) (world_of held old out (files old.disk.now)) (Err stop) (world_of held begun out c)

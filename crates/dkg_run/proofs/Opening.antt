@@ -107,12 +107,6 @@ module _ (c : Fixed directory.Unit) (seen : Seen) (k : Held) (st : Live director
       let its = registered_in (first_block c) refl opened.set_up carried in
       subst (λ (o : Orchestrator directory.Unit). IsSome (lookup (first_epoch c) o.schemes)) (sym its.is) (lookup_at (its.info).epoch (first_epoch c) (scheme_for c its.info its.share) its.of_epoch)
 
--- .. which is a matter of the epochs' length and of the source alone
-pub ready_alike : (c d : Fixed directory.Unit) (fence : Readiness) → c.blocks_per_epoch ≡ d.blocks_per_epoch → c.source ≡ d.source → IsFenceReady c fence → IsFenceReady d fence
-ready_alike c d fence blocks source ready =
-    subst (λ (n : ℕ). IsFenceReady (record d { blocks_per_epoch = n }) fence) blocks
-    (subst (λ (s : Source directory.Unit). IsFenceReady (record d { blocks_per_epoch = c.blocks_per_epoch; source = s }) fence) source ready)
-
 -- THE NODE, once both halves have opened
 
 module _ (n : Node) (c : Fixed directory.Unit) (reshare_is : c.oneshot ≡ None) (now : Beside directory.Unit) (fence : Readiness) (life : reshare.Life directory.Unit) (lives : n.actor.state ≡ Living life) where

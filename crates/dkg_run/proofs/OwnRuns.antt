@@ -64,9 +64,6 @@ use Rattle.dkg_run.proofs.Stood.{step_taken}
 some_is : {A : Type 0} {x y : A} → ◌≡◌ {A = Option A} (Some x) (Some y) → x ≡ y
 some_is e = cc
 
-went_is : (a b : Live directory.Unit) → ◌≡◌ {A = Ended NodeStop (Live directory.Unit)} (went a) (went b) → a ≡ b
-went_is a b e = cc
-
 module _ (s : Setting) (cuts : List (Option CutAt)) (form : IsFormOfEpochs s.script) (consistent : IsConsistentScript s cuts) where
   -- whole devices give back dealings that pass, and own ones that the secrets deal
   abbrev pub ValidHeld : Held → Type 0
@@ -80,10 +77,6 @@ module _ (s : Setting) (cuts : List (Option CutAt)) (form : IsFormOfEpochs s.scr
     unfolding at_step
     reads_at zero = secrets
     reads_at (suc j) = record { shares = λ h. refl; seeds = λ h. refl }
-
-    me_at : (j : ℕ) → (at_step g j).me ≡ me s
-    unfolding at_step
-    me_at j = refl
 
     abbrev Passing : ℕ → Live directory.Unit → Held → Type 0
     Passing j st h = IsPassing s cuts form consistent l life seen files life_is here records j st h

@@ -42,9 +42,6 @@ use Rattle.dkg_run.proofs.KeptSteps.{Reaches, reaches_none, reaches_one}
 abbrev U : Type 0
 U = directory.Unit
 
-some_is : {A : Type 0} {x y : A} → ◌≡◌ {A = Option A} (Some x) (Some y) → x ≡ y
-some_is e = cc
-
 -- A TRANSCRIPT GROWS
 
 abbrev pub Grows : World → World → Type 0

@@ -26,7 +26,7 @@ use Rattle.dkg_script.specs.Promise.{cuts_in}
 use Rattle.dkg_script.specs.Setting.{CutAt, Setting, found, life_at, setting_of}
 use Rattle.dkg_script.proofs.EachEntry.{progress-more}
 use Rattle.dkg_script.proofs.EpochsAsCut.{epochs_as_cut}
-use Rattle.dkg_run.specs.Blamed.{IsBlockCause, IsBlockOwn, IsFromOutside, IsInfoCause, IsNextCause, IsOpeningCause, IsOwnCause, IsOwnDealing, IsWhy, IsWhyNow, OnBlock, OnCarried, first_epoch_in, is_beyond, next_epoch, opening_block, refusal_in}
+use Rattle.dkg_run.specs.Blamed.{IsBlockCause, IsBlockOwn, IsFromOutside, IsNextCause, IsOpeningCause, IsOwnCause, IsOwnDealing, IsWhy, IsWhyNow, OnBlock, OnCarried, first_epoch_in, is_beyond, next_epoch, opening_block, refusal_in}
 use Rattle.dkg_run.specs.Epochs.{IsAnchorAbove, IsChecked}
 use Rattle.dkg_run.specs.Given.{AreBytes, blocks_in}
 use Rattle.dkg_run.specs.Lives.{AnyFiles, RunsSo, TellsEnd}
@@ -44,13 +44,6 @@ use Rattle.dkg_run.proofs.Runs.{starts}
 use Rattle.dkg_run.proofs.Standing.{IsBetweenOf, MayTell, Moves, TellsFault}
 
 -- NO INFO, no share and no dealing is a reason for a block's refusal
-
-info_apart : (script : Script) (epoch : ℕ) (info : EpochInfo directory.Unit) (its : Fault) → IsRefusal its → IsInfoCause script epoch info its → ⊥
-info_apart script epoch info (fault.ConflictingBlock height) refusal why = why
-info_apart script epoch info (fault.DetachedBlock height) refusal why = why
-info_apart script epoch info (fault.SkippedHeight awaited got) refusal why = why
-info_apart script epoch info (fault.OutOfWindow height) refusal why = why
-info_apart script epoch info its refusal why = refusal
 
 own_apart : (script : Script) (epoch : ℕ) (info : EpochInfo directory.Unit) (its : Fault) → IsRefusal its → IsOwnCause script epoch info its → ⊥
 own_apart script epoch info (fault.ConflictingBlock height) refusal why = why

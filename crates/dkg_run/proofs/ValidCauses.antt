@@ -49,12 +49,6 @@ use Rattle.dkg_run.proofs.Former.{IsMadeOf, made_there}
 use Rattle.dkg_run.proofs.Started.{starts_at_anchor}
 use Rattle.dkg_run.proofs.Used.{all_back, all_front, held as held_in, of_anchor, of_delivered}
 
-not_there : {A : Type 0} (x : A) → ◌≡◌ {A = Option A} None (Some x) → ⊥
-not_there x e = cc
-
-some_is : {A : Type 0} {x y : A} → ◌≡◌ {A = Option A} (Some x) (Some y) → x ≡ y
-some_is e = cc
-
 ok_err : {A E : Type 0} (x : A) (e : E) → ◌≡◌ {A = Result A E} (Ok x) (Err e) → ⊥
 ok_err x e is = cc
 
