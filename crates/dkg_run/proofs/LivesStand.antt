@@ -32,18 +32,18 @@ before_suc (Some cut) j reached = λ none. let low : j < cut.step = reached none
 -- WHERE THE COURSES OF A WAY LEAD
 
 -- an opening leaves such a life, and so does a step of the form
-pub record Leads {W : Type 0} (way : Way W) : Type 0 where
+pub record LeadsAlong {W : Type 0} (way : Way W) : Type 0 where
   pub opens : (c : Fixed directory.Unit) (st : Live directory.Unit) (f : Burn) (w new : W) → IsForm c → LacksNobody c → way.goes (node_opening c) (went st) f w new → (seen : Seen) × (k : Held) × IsNodeBegun c seen k st
   pub steps : (c : Fixed directory.Unit) (st end : Live directory.Unit) (message : Message directory.Unit) (f : Burn) (w new : W) → IsForm c → IsTakenIn c message st → IsLiveIn c st → IsActiveIn st
       → way.goes (node_step c (event_of message) st) (went end) f w new → (h k : Held) × IsNextIn c st message h k end × IsActiveIn end
 
-pub lines_lead : Leads by_lines
+pub lines_lead : LeadsAlong by_lines
 lines_lead = record {
   opens = λ c st f t new form lacks goes. let its = node_openings_lead c (went st) t.out new.out form lacks goes.0 in (c.seen its.0, its.1, its.2);
   steps = λ c st end message f t new form taken live active goes. node_steps_lead c st message (went end) t.out new.out form taken live active goes.0;
 }
 
-pub worlds_lead : Leads by_worlds
+pub worlds_lead : LeadsAlong by_worlds
 worlds_lead = record {
   opens = λ c st f w new form lacks goes.
       let its = node_openings_lead_over c (went st) (record w { fuse = f }) new form lacks goes.0 in
@@ -53,7 +53,7 @@ worlds_lead = record {
       (w.held, held_at_setup c message w.held, its.0, its.1);
 }
 
-module _ {W : Type 0} (way : Way W) (leads : Leads way) (g : Lived) (here : IsLifeInForm g) where
+module _ {W : Type 0} (way : Way W) (leads : LeadsAlong way) (g : Lived) (here : IsLifeInForm g) where
   -- ONE STEP, in a way
 
   pub opened_at : (st : Live directory.Unit) (f : Burn) (w new : W) → way.goes (node_opening (at_step g 0)) (went st) f w new → (seen : Seen) × (k : Held) × IsNodeBegun (at_step g 0) seen k st × IsAt g 0 st

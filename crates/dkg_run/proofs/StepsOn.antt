@@ -31,7 +31,7 @@ use Rattle.dkg_run.specs.Ways.{Way}
 use Rattle.dkg_run.specs.declared.node.Node.{Node}
 use Rattle.dkg_run.proofs.Awaiting.{IsBefore, IsReached, before_all, reached_lit}
 use Rattle.dkg_run.proofs.Former.{IsMessage, event_in_form, form_at, live_at, made_of, made_there, message_in, per_epoch_is}
-use Rattle.dkg_run.proofs.LivesStand.{Leads, before_suc, stepped_at}
+use Rattle.dkg_run.proofs.LivesStand.{LeadsAlong, before_suc, stepped_at}
 use Rattle.dkg_run.proofs.Stood.{block_early}
 
 -- A NODE behind the first i events
@@ -147,7 +147,7 @@ module _ (g : Lived) (here : IsLifeInForm g) (i : ℕ) (its : Event) (life : Lif
 
   -- BEHIND A STEP that was answered Ok stands the next state
 
-  module _ {W : Type 0} (way : Way W) (leads : Leads way) (line : Line) (next : Node) (w mid : W) where
+  module _ {W : Type 0} (way : Way W) (leads : LeadsAlong way) (line : Line) (next : Node) (w mid : W) where
     abbrev Before : Live directory.Unit → W → Type 0
     Before end m = (◌≡◌ {A = Result (Unit {0}) Stop} (Ok tt) (Ok tt)) × IsView next end × (m ≡ mid)
 
