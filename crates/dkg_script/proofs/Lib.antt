@@ -1,6 +1,6 @@
 pub mod AnyDevices
 pub mod AsCut
-pub mod Beginning
+pub mod Listed
 pub mod Bridges
 pub mod ConsistentAsCut
 pub mod CutWrites
