@@ -4,7 +4,6 @@ pub mod Listed
 pub mod Bridges
 pub mod ConsistentAsCut
 pub mod CutWrites
-pub mod Durable
 pub mod EachEntry
 pub mod Early
 pub mod EarlyScripts
