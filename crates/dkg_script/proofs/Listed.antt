@@ -1,4 +1,4 @@
--- A run that has written nothing yet keeps each dealing that the devices handed in give back.
+-- What the devices give back, as the list that an opening tells: each dealing of it is given, and what is given stands in it.
 use Rattle.std.proofs.Common.{ℕ, List, [], ◌∷◌, ◌≡◌, refl, Option, Some, Bool, true, false, cond, sym, subst, ap, ◌∙◌, arith}
 use Rattle.std.specs.Prelude.{map, T, option_map, ◌==◌, ◌&&◌}
 use Rattle.std.specs.Cmp.{IsTotalOrder}
@@ -11,7 +11,6 @@ use Rattle.std.specs.declared.cmp.Ordering.TheVariants.{Less, Equal, Greater}
 use Rattle.std.proofs.lemmas.Bool.{and_parts, eqb-true}
 use Rattle.std.proofs.lemmas.Bool.Decides.{nat_tests}
 use Rattle.std.proofs.lemmas.Cmp.{tied_itself}
-use Rattle.dkg_journal.specs.Records as journal
 use Rattle.dkg_secrets.specs.Keys.{key_cmp}
 use Rattle.dkg_store.specs.Pairs.{Pairs}
 use Rattle.dkg_secrets.proofs.Map.{keys_total}
@@ -81,5 +80,3 @@ found_in epoch dealer (e ∷ es) =
 
 pub pair_of-listed : (m : Pairs) (epoch dealer : ℕ) → pair_of (listed m) epoch dealer ≡ option_map (λ v. restored_of ((epoch, dealer), v)) (get m (epoch, dealer))
 pair_of-listed m epoch dealer = found_in epoch dealer (pairs_in m) ∙ ap (option_map (λ v. restored_of ((epoch, dealer), v))) (sym (get-entries m (epoch, dealer)))
-
--- THE FIRST ENTRY IS STILL TO COME
