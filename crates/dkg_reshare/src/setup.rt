@@ -431,8 +431,11 @@ fn player_of<C: Ceremony, Dir: Directory + Drop>(
 pub fn dealer_for_phase(phase: Phase, players: u32, dealer: Option<Dealer>) -> Option<Dealer>
     ensures { result ≡ kept_for phase players dealer }
 {
+    if phase == Phase::Early {
+        return dealer;
+    }
     let dealer = dealer?;
-    if phase == Phase::Early || dealer.has_acknowledgement_quorum(players) {
+    if dealer.has_acknowledgement_quorum(players) {
         Some(dealer)
     } else {
         None
