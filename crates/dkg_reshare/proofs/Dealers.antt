@@ -178,6 +178,23 @@ module _ {Dir : Type 0} (c : Fixed Dir) (round : Round) (phase : Phase) (share :
     deals_stop e here (inl none) = inl (ap (λ (x : StoreError). stop_of x) none)
     deals_stop e here (inr a) = inr (ap (λ (x : StoreError). stop_of x) a.0, ap made_with (may_is true false here a.2) ∙ ap (setup.dealt_by c round phase st) (dealt_is ∙ a.1))
 
+    -- The store was asked of the round's epoch.
+    pub makes_dealer_at : (n : ℕ) → n ≡ round.number → (players : ℕ) (made : Option Dealer) → (has round.dealers me && (is_some share || is_none round.previous)) ≡ true → players ≡ length round.players
+        → is_some made ≡ not (contains_key store.logs (n, me)) → IfSome made (λ d. d.round ≡ round)
+        → IfSome made (λ d. deal_of round me share seed ≡ Ok (d.public, d.privates))
+        → IfSome made (λ d. maps.entries d.acks ≡ passing_acks (check_ack_of round me d.public) (at_epoch n store.acks))
+        → IfSome made (λ d. d.finalized ≡ None)
+        → MakesDealer c round phase share seed st (Ok (kept_for phase players made))
+    makes_dealer_at n at players made here counted some round_is dealt acks unsigned =
+        makes_dealer players made here counted (some ∙ ap (λ (m : ℕ). not (contains_key store.logs (m, me))) at) round_is dealt
+        (subst (λ (m : ℕ). IfSome made (λ d. maps.entries d.acks ≡ passing_acks (check_ack_of round me d.public) (at_epoch m store.acks))) at acks) unsigned
+
+    pub deals_stop_at : (n : ℕ) → n ≡ round.number → (e : StoreError) → (has round.dealers me && (is_some share || is_none round.previous)) ≡ true
+        → (e ≡ NoMemory) ⊎ ((e ≡ LocalState (ShareRefused n)) × (deal_of round me share seed ≡ Err DealRefused) × (contains_key store.logs (n, me) ≡ false))
+        → MakesDealer c round phase share seed st (Err (stop_of e))
+    deals_stop_at n at e here refused =
+        deals_stop e here (subst (λ (m : ℕ). (e ≡ NoMemory) ⊎ ((e ≡ LocalState (ShareRefused m)) × (deal_of round me share seed ≡ Err DealRefused) × (contains_key store.logs (m, me) ≡ false))) at refused)
+
 -- whose it is
 pub deals_for : (deal_of : DealOf) (check_ack_of : CheckAckOf) (me : ℕ) (round : Round) (made : Option Dealer)
     → IfSome made (λ d. d.me ≡ me) → IfSome made (λ d. d.round ≡ round) → IfSome made (λ d. IsDealerOf deal_of check_ack_of d) → IfSome made (λ d. d.is_open ≡ true) → IfSome made (λ d. d.finalized ≡ None)

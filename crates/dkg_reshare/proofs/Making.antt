@@ -85,6 +85,25 @@ module _ {Dir : Type 0} (c : Fixed Dir) (round : Round) (phase : Phase) (dealer 
     makes_stop e plays (inl none) = inl (ap (λ (x : StoreError). stop_of x) none)
     makes_stop e plays (inr a) = inr (a.0, ap (λ (x : StoreError). stop_of x) a.1, refused_is ∙ a.2, refused a.0 plays a.3 a.2)
 
+    -- the store's tests of an epoch
+    abbrev orphan_at : ℕ → Bool
+    orphan_at n = has_orphan (λ dealer log. bears_ack_of round dealer log me) (at_epoch n store.dealings) (bare_logs (at_epoch n store.logs))
+
+    abbrev refusal_at : ℕ → Option ℕ
+    refusal_at n = first_refused (dealing_of round me) (of_store.of_epoch n store.dealings)
+
+    -- The store was asked of the round's epoch.
+    pub makes_seat_at : (n : ℕ) → n ≡ round.number → (player : Option Player) → has round.players me ≡ true → is_some player ≡ not (orphan_at n) → IfSome player (λ p. refusal_at n ≡ None)
+        → MakesPlayer c round phase dealer st (Ok player)
+    makes_seat_at n at player plays some passes =
+        makes_seat player plays (some ∙ ap (λ (m : ℕ). not (orphan_at m)) at) (subst (λ (m : ℕ). IfSome player (λ p. refusal_at m ≡ None)) at passes)
+
+    pub makes_stop_at : (n : ℕ) → n ≡ round.number → (e : StoreError) → has round.players me ≡ true
+        → (e ≡ NoMemory) ⊎ ((by : ℕ) × (e ≡ LocalState (StoredDealing n by)) × (refusal_at n ≡ Some by) × (orphan_at n ≡ false))
+        → MakesPlayer c round phase dealer st (Err (stop_of e))
+    makes_stop_at n at e plays stored =
+        makes_stop e plays (subst (λ (m : ℕ). (e ≡ NoMemory) ⊎ ((by : ℕ) × (e ≡ LocalState (StoredDealing m by)) × (refusal_at m ≡ Some by) × (orphan_at m ≡ false))) at stored)
+
 -- A player that was just made sits in its round: it keeps no acknowledgement yet.
 pub sits_new : {Dir : Type 0} (ack_of : AckOf) (me : ℕ) (store : Store Dir) (round : Round) → Contains round.players me → (player : Option Player)
     → IfSome player (λ p. p.me ≡ me) → IfSome player (λ p. p.round ≡ round) → IfSome player (λ p. p.acks ≡ empty) → IfSome player (SitsIn ack_of me store round)

@@ -166,7 +166,7 @@ module _ {Dir : Type 0} (c : Fixed Dir) (info : EpochInfo Dir) (share : Option �
   abbrev both_in : Held → Option ℕ × List ℕ
   both_in h = (setup.recovered_share c (c.seen h) info, setup.seed_for c info.epoch (lookup info.epoch (c.seen h).seeds))
 
-  pub both_read : {D : Type 0} (files : D → Files) (image : D → Files → Type 0) → ReadsToday c
+  pub both_read : {D : Type 0} (files : D → Files) (image : D → Files → Type 0) → ReadsPlanless c
       → {old new : D} {out : List Line} {s t : Secrets} {f g : Burn} → new ≡ old → t ≡ s → g ≡ f
       → ((seen : Seen) → seen.shares ≡ maps.entries s.shares → setup.recovered_share c seen info ≡ share) → setup.seed_for c info.epoch (get s.seeds info.epoch) ≡ seed
       → MakesAt (on_devices (reads_secrets c info)) (went (share, seed)) (files old) (image old) (files new) (image new) (moment out s f) (moment out t g)

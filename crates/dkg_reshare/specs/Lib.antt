@@ -18,4 +18,4 @@ pub mod Refusing
 pub mod Rules
 pub mod Scanned
 pub mod Steps
-pub mod Today
+pub mod Planless

@@ -236,7 +236,7 @@ fn follow_block<C: Ceremony + Drop, R: Registrar, Dir: Directory + Drop, D: Disk
         (λ now. Makes D.files D.image X.held (blocks.follows_at c block.now (live_of beside fence.old life.old)) (ends_in
         (live_of now fence.new life.new) result)
         devices.old devices.new out.old.entries out.new.entries) }
-    ensures tells { (c : Fixed Dir) (beside : Beside Dir) → IsIn terms.now life.old.word c → ReadsToday c
+    ensures tells { (c : Fixed Dir) (beside : Beside Dir) → IsIn terms.now life.old.word c → ReadsPlanless c
         → IsRuledBy C.round_of C.deal_of C.dealing_of C.ack_of C.check_ack_of C.sign_log_of C.bears_ack_of C.share_public_of C.partial_public_of c.rules
         → IsSeen inclusion.old beside.inclusion → EndsWith beside (λ i. OnOk result (IsSeen inclusion.new i))
         (λ more. OnOk result (Took R.tells (R.taken registrar.old) (R.taken registrar.new) more))

@@ -177,7 +177,7 @@ pub(crate) fn secrets_of<C: Ceremony, Dir: Directory + Drop, D: Disk, X: SecretS
     ensures disk { devices.new.disk.now ≡ devices.old.disk.now }
     ensures same { X.held devices.new.secrets.now ≡ X.held devices.old.secrets.now }
     ensures acts { IsTrue D.tells → IsTrue X.tells → (c : Fixed Dir) → c.me ≡ me → c.word ≡ life.old.word
-        → SharesBy C.share_public_of C.partial_public_of c.rules → ReadsToday c → (out : List Line)
+        → SharesBy C.share_public_of C.partial_public_of c.rules → ReadsPlanless c → (out : List Line)
         → Makes D.files D.image X.held (reads_secrets c info.now) (ends (λ it. (it.share, it.seed)) result) devices.old devices.new out out }
     // Whatever the devices tell, these are what some stored shares and seeds come to; and where nothing is read, nothing is said.
     ensures read { IfOk result (λ it. (h : Held) × ((c : Fixed Dir) → c.me ≡ me → c.word ≡ life.old.word
@@ -457,8 +457,11 @@ fn player_of<C: Ceremony, Dir: Directory + Drop>(
 pub fn dealer_for_phase(phase: Phase, players: u32, dealer: Option<Dealer>) -> Option<Dealer>
     ensures { result ≡ kept_for phase players dealer }
 {
+    if phase == Phase::Early {
+        return dealer;
+    }
     let dealer = dealer?;
-    if phase == Phase::Early || dealer.has_acknowledgement_quorum(players) {
+    if dealer.has_acknowledgement_quorum(players) {
         Some(dealer)
     } else {
         None

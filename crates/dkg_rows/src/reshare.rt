@@ -28,6 +28,25 @@ const INFO: [u8; 89] =
 /// A dealing, as its bytes.
 const DEALING: [u8; 10] = *b"\0\x03\0\x0f\0\x07\0\x01\0\x17";
 
+/// Who takes schemes and counts them.
+#[derive(Clone, Copy)]
+struct Counter {
+    count: u32,
+}
+
+impl Registrar for Counter {
+    ghost use Rattle.std.specs.Prelude.{false, []};
+
+    ghost tells = { false };
+
+    ghost taken = { λ _. [] };
+
+    fn register(&mut self, _alloc: Global, _epoch: Epoch, _info: SchemeInfo) -> Mem<()> {
+        self.count = self.count.saturating_add(1);
+        Ok(())
+    }
+}
+
 /// A source that holds one block, and has processed it.
 #[derive(Drop)]
 struct Single {
@@ -313,6 +332,9 @@ fn lived(alloc: Global) -> Result<([usize; 2], usize, u64), Fail> {
         &mut fence,
         &mut out,
     )?;
+    if actor.registrar().count != 1 {
+        return Err(Fail::from("not one scheme was registered"));
+    }
     Ok((told, out.entries().len(), height))
 }
 

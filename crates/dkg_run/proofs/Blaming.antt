@@ -46,14 +46,14 @@ use Rattle.dkg_reshare.specs.Ends.{by_fault}
 use Rattle.dkg_run.specs.Blamed.{BlamesSo, IsBlamedSo, IsBlockCause, IsBlockOwn, IsClear, IsFromOutside, IsWhy, IsWhyNow, OnBlock, tip_in, tip_over}
 use Rattle.dkg_run.specs.Causes.{IfFault}
 use Rattle.dkg_run.specs.Ended.{by_node_stop}
-use Rattle.dkg_run.specs.Epochs.{IsAt, IsChecked, IsLifeOver}
+use Rattle.dkg_run.specs.Epochs.{IsAt, IsChecked, IsLifeInForm}
 use Rattle.dkg_run.specs.Given.{Lived, anchor_in, at_step, blocks_in, lived, step_of}
 use Rattle.dkg_run.specs.Lives.{LivesSo, RunsAllSo, RunsSo, Steps, TakesAll, TellsEnd, fuse_for}
 use Rattle.dkg_run.specs.Ways.{ReadsSomething, Trace, by_lines}
 use Rattle.dkg_run.proofs.Awaiting.{IsBefore as IsUncut, IsReached, before_all, one_more, reached_lit}
 use Rattle.dkg_run.proofs.Causing.{block_cause, block_clear, opening_cause, opening_clear}
 use Rattle.dkg_run.proofs.Following.{EndsBy, RunEndsBy, all_move, item_at, rest_at}
-use Rattle.dkg_run.proofs.Former.{Brings, IsMessage, event_in_form, form_over, lacks_nobody, live_at, message_in}
+use Rattle.dkg_run.proofs.Former.{Brings, IsMessage, event_in_form, form_at, lacks_nobody, live_at, message_in}
 use Rattle.dkg_run.proofs.InPlace.{begins, cut_before, cut_within, moves_cut, moves_step}
 use Rattle.dkg_run.proofs.LivesStand.{before_suc}
 use Rattle.dkg_run.proofs.NextLives.{next_tip}
@@ -84,7 +84,7 @@ at_there P o x is so = subst (λ (o : Option _). IsSomeAnd o P) is so
 
 -- A LIFE, step by step
 
-module _ (g : Lived) (here : IsLifeOver g) where
+module _ (g : Lived) (here : IsLifeInForm g) where
   abbrev pub Why : (step : ℕ) → Fault → Type 0
   Why step its = IsWhy g.script g.number g.life step its
 
@@ -116,7 +116,7 @@ module _ (g : Lived) (here : IsLifeOver g) where
   }
 
   opening_comes : (ended : Ended NodeStop (Live directory.Unit)) (out now : List Entry) → Said (on_devices (node_opening (at_step g 0))) ended out now → Came (Why 0) (λ end. Stood 0 end × Clear 0) ended
-  opening_comes ended out now said = by_end ended (node_openings_lead (at_step g 0) ended out now (form_over g here 0) (lacks_nobody g 0) said)
+  opening_comes ended out now said = by_end ended (node_openings_lead (at_step g 0) ended out now (form_at g here 0) (lacks_nobody g 0) said)
     where
       by_end : (ended : Ended NodeStop (Live directory.Unit))
           → CameTo (λ stop. (own : Fault) × (stop ≡ Faulted own) × ((h k : Held) × IsOpeningStop (at_step g 0) ((at_step g 0).seen h) k own)) (λ st. (h k : Held) × IsNodeBegun (at_step g 0) ((at_step g 0).seen h) k st) ended
@@ -186,7 +186,7 @@ module _ (g : Lived) (here : IsLifeOver g) where
 
     step_comes : (ended : Ended NodeStop (Live directory.Unit)) (out now : List Entry) → Said (on_devices (step_of g (suc i) e st)) ended out now → Came (Why (suc i)) (λ end. Stood (suc i) end × Clear (suc i)) ended
     step_comes ended out now said =
-        by_end ended (node_steps_lead (at_step g (suc i)) st m.message ended out now (form_over g here (suc i)) (step_taken g here i e e_is reached m st its_live (stood.at).stands) its_live (stood.at).active
+        by_end ended (node_steps_lead (at_step g (suc i)) st m.message ended out now (form_at g here (suc i)) (step_taken g here i e e_is reached m st its_live (stood.at).stands) its_live (stood.at).active
         (subst (λ (k : Course directory.Unit NodeStop (Live directory.Unit)). Said (on_devices k) ended out now) (m.course (suc i) st) said))
       where
         by_end : (ended : Ended NodeStop (Live directory.Unit))
@@ -225,8 +225,8 @@ all_quiet script s p [] quiet = tt
 all_quiet script s p (one ∷ added) quiet = (one_quiet script p one quiet.0, all_quiet script s (read s p one) added quiet.1)
 
 -- where a fault is told
-abbrev pub Tells : Script → Fault → Setting → Progress → Type 0
-Tells script its s p = IsWhyNow script p its
+abbrev pub TellsWhy : Script → Fault → Setting → Progress → Type 0
+TellsWhy script its s p = IsWhyNow script p its
 
 -- a course that stops by its own faults for this reason is ended for it, or from outside
 stop_why : (Reason : Fault → Type 0) (outside : (its : Fault) → IsFromOutside its → Reason its) (course : Course directory.Unit NodeStop (Live directory.Unit)) (Next : Live directory.Unit → Type 0)
@@ -253,7 +253,7 @@ module _ (script : Script) (life : Life) (l : ℕ) (life_is : slice_get script.l
   why_now j p its lives step why = inr (here_now (λ n x k. IsWhy script n x k its) j p lives step why)
 
   abbrev Ends : Result (Unit {0}) Stop → Setting → Progress → Type 0
-  Ends how s p = EndsBy (Tells script) life l how s p
+  Ends how s p = EndsBy (TellsWhy script) life l how s p
 
   stops_in : (j : ℕ) (opened : Bool) (stop : Stop) (s : Setting) (p : Progress) → (stop ≡ AtCut → IsCutWithin life.cut j) → IfFault stop (IsWhy script l life j) → IsWithin life l j opened s p → Ends (Err stop) s p
   stops_in j opened AtCut s p cuts why is = cut_within life l j opened s p (cuts refl) is
@@ -308,9 +308,9 @@ module _ (script : Script) (life : Life) (l : ℕ) (life_is : slice_get script.l
 
 -- A LIFE
 
-module _ (g : Lived) (here : IsLifeOver g) where
+module _ (g : Lived) (here : IsLifeInForm g) where
   abbrev EndsHere : Result (Unit {0}) Stop → Setting → Progress → Type 0
-  EndsHere how s p = EndsBy (Tells g.script) g.life g.number how s p
+  EndsHere how s p = EndsBy (TellsWhy g.script) g.life g.number how s p
 
   event_judged : (i : ℕ) (e : Event) (st : Live directory.Unit) → slice_get g.life.events i ≡ Some e → IsUncut g.life.cut (suc i) → Stood g here i st → (t new : Trace) (how : Result (Unit {0}) Stop) (next : Live directory.Unit → Trace → Type 0)
       → (IsReached g.life.cut (suc i) → (end : Live directory.Unit) (mid : Trace) → Stood g here (suc i) end → next end mid → Moves (Judges g.script) (IsBehind g.life g.number (suc i)) (EndsHere how) mid.out new.out)
@@ -360,13 +360,13 @@ module _ (g : Lived) (here : IsLifeOver g) where
 
 -- ALL LIVES of a script, each of which is of the form
 
-module _ (script : Script) (checked : IsChecked script) (each_over : (l : ℕ) (life : Life) (seen : Held → Seen) (files : Files) → slice_get script.lives l ≡ Some life → ReadsSomething seen → IsLifeOver (lived script l life seen files)) where
+module _ (script : Script) (checked : IsChecked script) (each_over : (l : ℕ) (life : Life) (seen : Held → Seen) (files : Files) → slice_get script.lives l ≡ Some life → ReadsSomething seen → IsLifeInForm (lived script l life seen files)) where
   cut_judged : (life : Life) (l : ℕ) (its : cut.Cut) (out now : List Entry) → life.cut ≡ Some its → now ≡ out ++ entry.Cut its.step its.call ∷ [] → Moves (Judges script) (IsAtCut life l) (IsBetween (l + 1)) out now
   cut_judged life l its out now cut_is is = judged_by script (IsAtCut life l) (IsBetween (l + 1)) out now (entry.Cut its.step its.call ∷ []) is (λ s p at. (tt, tt)) (moves_cut life l its out now cut_is is)
 
   pub all_judged : (first : Files → Type 0) (t new : Trace) (result : Result (Unit {0}) Fault) → RunsAllSo by_lines script first t result new
-      → Moves (Judges script) (IsBetweenOf script 0) (RunEndsBy (Tells script) script result) t.out new.out
-  all_judged first t new result runs = all_move (Judges script) (Tells script) (λ s p. inl tt) cut_judged script
+      → Moves (Judges script) (IsBetweenOf script 0) (RunEndsBy (TellsWhy script) script result) t.out new.out
+  all_judged first t new result runs = all_move (Judges script) (TellsWhy script) (λ s p. inl tt) cut_judged script
       (λ l life seen files at reads t mid how so. life_judged (lived script l life seen files) (each_over l life seen files at reads) files t mid how so)
       (λ its refused s p is. absurd (none_some (sym checked ∙ refused))) first t new result runs
     where
@@ -389,15 +389,15 @@ module _ (script : Script) (checked : IsChecked script) (each_over : (l : ℕ) (
       unchanged : (Q : Setting → Progress → Type 0) → Moves (Judges script) (IsBetweenOf script 0) Q t.out run.mid.out → new.out ≡ run.mid.out → Adds t.out new.out (BlamesSo script)
       unchanged Q moves same = (moves.added, same ∙ moves.parts, blames_so moves.added moves.each)
 
-      faulted : (its : Fault) → Moves (Judges script) (IsBetweenOf script 0) (Tells script its) t.out run.mid.out → (answered : Fault) → TellsFault its answered run.mid.out new.out → Adds t.out new.out (BlamesSo script)
-      faulted its moves answered (inl none) = unchanged (Tells script its) moves none.1
+      faulted : (its : Fault) → Moves (Judges script) (IsBetweenOf script 0) (TellsWhy script its) t.out run.mid.out → (answered : Fault) → TellsFault its answered run.mid.out new.out → Adds t.out new.out (BlamesSo script)
+      faulted its moves answered (inl none) = unchanged (TellsWhy script its) moves none.1
       faulted its moves answered (inr told) = (
         moves.added ++ entry.Fault its ∷ [],
         told.2 ∙ ap (λ (xs : List Entry). xs ++ entry.Fault its ∷ []) moves.parts ∙ append_assoc t.out moves.added (entry.Fault its ∷ []),
         blames_so (moves.added ++ entry.Fault its ∷ []) (λ s p is. each_of_both s (Judges script s) moves.added (entry.Fault its ∷ []) p (moves.each s p is) (moves.to s p is, tt)),
       )
 
-      by_result : (result : Result (Unit {0}) Fault) → Moves (Judges script) (IsBetweenOf script 0) (RunEndsBy (Tells script) script result) t.out run.mid.out
+      by_result : (result : Result (Unit {0}) Fault) → Moves (Judges script) (IsBetweenOf script 0) (RunEndsBy (TellsWhy script) script result) t.out run.mid.out
           → (answered : Result (Unit {0}) Fault) → TellsEnd by_lines result answered run.mid new → Adds t.out new.out (BlamesSo script)
       by_result (Ok done) moves answered told = unchanged (IsBetweenOf script (length script.lives)) moves (ap (λ (x : Trace). x.out) told.1)
       by_result (Err its) moves (Ok done) told = absurd (not_ok its told)

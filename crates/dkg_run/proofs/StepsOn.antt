@@ -16,22 +16,22 @@ use Rattle.dkg_core.specs.Live.{Deals, Follows, Includes, Live, NodeStop, awaite
 use Rattle.dkg_core.specs.Live as core
 use Rattle.dkg_reshare.specs.Actors.{IfLiving, TakesBlock}
 use Rattle.dkg_reshare.specs.LiveOf.{IsPlaced, awaited_of, stage_of}
-use Rattle.dkg_reshare.specs.Today.{seen_today}
+use Rattle.dkg_reshare.specs.Planless.{seen_planless}
 use Rattle.dkg_reshare.specs.declared.actor.State.{State}
 use Rattle.dkg_reshare.specs.declared.life.Life as reshare
 use Rattle.dkg_reshare.specs.declared.life.Stage.{Stage}
 use Rattle.dkg_reshare.specs.declared.life.Stage.TheVariants as stage
 use Rattle.dkg_reshare.specs.declared.stop.Stop.{Stop}
 use Rattle.dkg_reshare.proofs.Standing.{its_epoch}
-use Rattle.dkg_run.specs.Epochs.{IsAt, IsEarly, IsEarlyEvent, IsLifeOver, MayStep}
+use Rattle.dkg_run.specs.Epochs.{IsAt, IsEarlyBlock, IsEarlyEvent, IsLifeInForm, MayStep}
 use Rattle.dkg_run.specs.Given.{Lived, at_step, blocks_in, step_of}
 use Rattle.dkg_run.specs.Lives.{Steps, fuse_for}
 use Rattle.dkg_run.specs.Nodes.{IsEventOfBlocks, IsView}
 use Rattle.dkg_run.specs.Ways.{Way}
 use Rattle.dkg_run.specs.declared.node.Node.{Node}
 use Rattle.dkg_run.proofs.Awaiting.{IsBefore, IsReached, before_all, reached_lit}
-use Rattle.dkg_run.proofs.Former.{IsMessage, event_in_form, form_over, live_at, made_of, made_there, message_in, per_epoch_is}
-use Rattle.dkg_run.proofs.LivesStand.{Leads, before_suc, stepped_at}
+use Rattle.dkg_run.proofs.Former.{IsMessage, event_in_form, form_at, live_at, made_of, made_there, message_in, per_epoch_is}
+use Rattle.dkg_run.proofs.LivesStand.{LeadsAlong, before_suc, stepped_at}
 use Rattle.dkg_run.proofs.Stood.{block_early}
 
 -- A NODE behind the first i events
@@ -51,16 +51,16 @@ here_first g node st life same f lit view at = record {
 
 -- WHAT A STEP IS GIVEN
 
-reads_today : (g : Lived) (i : ℕ) → (at_step g (suc i)).seen ≡ seen_today
+reads_planless : (g : Lived) (i : ℕ) → (at_step g (suc i)).seen ≡ seen_planless
 unfolding at_step
-reads_today g i = refl
+reads_planless g i = refl
 
-module _ (g : Lived) (here : IsLifeOver g) (i : ℕ) (its : Event) (life : Life) (same : g.life ≡ life) (of_life : slice_get life.events i ≡ Some its) (node : Node) (st : Live directory.Unit) (at : IsHere g node i st) where
+module _ (g : Lived) (here : IsLifeInForm g) (i : ℕ) (its : Event) (life : Life) (same : g.life ≡ life) (of_life : slice_get life.events i ≡ Some its) (node : Node) (st : Live directory.Unit) (at : IsHere g node i st) where
   is : slice_get g.life.events i ≡ Some its
   is = ap (λ (l : Life). slice_get l.events i) same ∙ of_life
 
   pub may_step : MayStep g (i + 1) st
-  may_step = subst (λ (k : ℕ). MayStep g k st) (sym (add-one i)) (record { reads = reads_today g i; form = form_over g here (suc i); live = live_at g i (suc i) st at.at.live; active = at.at.active })
+  may_step = subst (λ (k : ℕ). MayStep g k st) (sym (add-one i)) (record { reads = reads_planless g i; form = form_at g here (suc i); live = live_at g i (suc i) st at.at.live; active = at.at.active })
 
   lit_suc : (f : Burn) → fuse_for life.cut (i + 1) ≡ Some f → fuse_for g.life.cut (suc i) ≡ Some f
   lit_suc f lit = ap (λ (l : Life). fuse_for l.cut (suc i)) same ∙ ap (fuse_for life.cut) (sym (add-one i)) ∙ lit
@@ -72,10 +72,10 @@ module _ (g : Lived) (here : IsLifeOver g) (i : ℕ) (its : Event) (life : Life)
     m : IsMessage g its
     m = message_in g its (event_in_form g here i its is)
 
-    early_at : (number : ℕ) (b : Block directory.Unit) → its ≡ event.Final number → slice_get (blocks_in g.script) number ≡ Some b → IsEarly (blocks_per_epoch (alone g.script)) st b
+    early_at : (number : ℕ) (b : Block directory.Unit) → its ≡ event.Final number → slice_get (blocks_in g.script) number ≡ Some b → IsEarlyBlock (blocks_per_epoch (alone g.script)) st b
     early_at number b brings there =
         let made = made_there g.script number b there in
-        subst (IsEarly (blocks_per_epoch (alone g.script)) st) made.1
+        subst (IsEarlyBlock (blocks_per_epoch (alone g.script)) st) made.1
         (block_early g here i its is reached m st (live_at g i (suc i) st at.at.live) at.at.stands number made.0 (is ∙ ap (λ (e : Event). Some e) brings))
 
     -- a block that it brings is early
@@ -85,7 +85,7 @@ module _ (g : Lived) (here : IsLifeOver g) (i : ℕ) (its : Event) (life : Life)
         by_event : (e : Event) → its ≡ e → IsEarlyEvent (blocks_per_epoch (alone g.script)) (blocks_in g.script) st e
         by_event (event.Final number) brings = by_block (slice_get (blocks_in g.script) number) refl
           where
-            by_block : (o : Option (Block directory.Unit)) → slice_get (blocks_in g.script) number ≡ o → IfSome o (IsEarly (blocks_per_epoch (alone g.script)) st)
+            by_block : (o : Option (Block directory.Unit)) → slice_get (blocks_in g.script) number ≡ o → IfSome o (IsEarlyBlock (blocks_per_epoch (alone g.script)) st)
             by_block None none = tt
             by_block (Some b) there = early_at number b brings there
         by_event other brings = tt
@@ -107,7 +107,7 @@ module _ (g : Lived) (here : IsLifeOver g) (i : ℕ) (its : Event) (life : Life)
       awaits_is : awaited_height st ≡ awaited_of its_life
       awaits_is = ap (λ (s : Live directory.Unit). awaited_height s) at.view.is
 
-      takes_early : (b : Block directory.Unit) → IsEarly per_epoch st b → TakesBlock per_epoch its_life b
+      takes_early : (b : Block directory.Unit) → IsEarlyBlock per_epoch st b → TakesBlock per_epoch its_life b
       takes_early b early applied = by_stage its_life.stage refl
         where
           low : (its_life.stage ≡ stage.Following → ⊥) → (st.participation.stage ≡ Follows → ⊥) → b.height < midpoint per_epoch (epoch_of per_epoch b.height)
@@ -130,7 +130,7 @@ module _ (g : Lived) (here : IsLifeOver g) (i : ℕ) (its : Event) (life : Life)
               includes_apart : ◌≡◌ {A = core.Stage} Includes Follows → ⊥
               includes_apart e = cc
 
-      taken_by : (b : Block directory.Unit) → IsEarly per_epoch st b → IfLiving node.actor.state (λ life. TakesBlock per_epoch life b)
+      taken_by : (b : Block directory.Unit) → IsEarlyBlock per_epoch st b → IfLiving node.actor.state (λ life. TakesBlock per_epoch life b)
       taken_by b early = let P : State directory.Unit → Type 0 = λ s. IfLiving s (λ life. TakesBlock per_epoch life b) in subst P (sym at.view.lives) (takes_early b early)
 
       pub taken_event : IsEventOfBlocks per_epoch blocks node.actor.state its
@@ -142,12 +142,12 @@ module _ (g : Lived) (here : IsLifeOver g) (i : ℕ) (its : Event) (life : Life)
               let made = made_of g.script number form in
               subst (λ (o : Option (Block directory.Unit)). IsSomeAnd o (λ b. IfLiving node.actor.state (λ life. TakesBlock per_epoch life b)))
               (sym (ap (λ (bs : List (Block directory.Unit)). slice_get bs number) blocks_are ∙ made.is))
-              (taken_by made.block (subst (λ (n : ℕ). IsEarly n st made.block) (sym length_is) (early_at number made.block brings made.is)))
+              (taken_by made.block (subst (λ (n : ℕ). IsEarlyBlock n st made.block) (sym length_is) (early_at number made.block brings made.is)))
           by_event other brings form = absurd form
 
   -- BEHIND A STEP that was answered Ok stands the next state
 
-  module _ {W : Type 0} (way : Way W) (leads : Leads way) (line : Line) (next : Node) (w mid : W) where
+  module _ {W : Type 0} (way : Way W) (leads : LeadsAlong way) (line : Line) (next : Node) (w mid : W) where
     abbrev Before : Live directory.Unit → W → Type 0
     Before end m = (◌≡◌ {A = Result (Unit {0}) Stop} (Ok tt) (Ok tt)) × IsView next end × (m ≡ mid)
 

@@ -17,7 +17,7 @@ ghost use Rattle.dkg_core.specs.Seen.{Seen};
 ghost use Rattle.dkg_script.specs.Blocks.{delivered_number};
 ghost use Rattle.dkg_script.specs.Inclusion.{IsFormOfInclusion};
 ghost use Rattle.dkg_script.specs.Promise.{Adds};
-ghost use Rattle.dkg_reshare.specs.Today.{seen_today};
+ghost use Rattle.dkg_reshare.specs.Planless.{seen_planless};
 ghost use Rattle.dkg_reshare.specs.declared.stop.Stop.TheVariants.{Cut as AtCut, Failed as HadFailed, Fault as FaultOf};
 ghost use Rattle.dkg_run.specs.Causes.{HasCause, IfFault};
 ghost use Rattle.dkg_run.specs.FoundOver.{IsFoundRecord};
@@ -143,10 +143,10 @@ fn take_steps<D: Disk, X: SecretStore>(
     requires here { HasOpened node.old source.old.blocks.now life.now }
     requires begun { (f : Burn) × (fuse_for life.now.cut 0 ≡ Some f) }
     requires ready { IsReadyNode D.tells D.files D.image node.old devices.old }
-    ensures lines { (g : Lived) (st : Live directory.Unit) (picks : List ℕ) → IsLifeOver g → IsStepHere g node.old source.old.blocks.now life.now
+    ensures lines { (g : Lived) (st : Live directory.Unit) (picks : List ℕ) → IsLifeInForm g → IsStepHere g node.old source.old.blocks.now life.now
         → IsView node.old st → IsAt g 0 st
         → TakesAll by_lines g 1 life.now.events st (trace out.old.entries picks) result (trace out.new.entries picks) }
-    ensures run { IsTrue D.tells → IsTrue X.tells → (g : Lived) (st : Live directory.Unit) → IsLifeOver g
+    ensures run { IsTrue D.tells → IsTrue X.tells → (g : Lived) (st : Live directory.Unit) → IsLifeInForm g
         → IsStepHere g node.old source.old.blocks.now life.now → IsView node.old st → IsAt g 0 st → (c : Files) → D.image devices.new.disk.now c
         → TakesAll by_worlds g 1 life.now.events st
         (world_of X.held devices.old out.old.entries (D.files devices.old.disk.now)) result (world_of X.held devices.new out.new.entries c) }
@@ -190,7 +190,7 @@ fn live<D: Disk, X: SecretStore>(
         (trace out.old.entries picks) result (trace out.new.entries picks)) }
     ensures run { IsTrue D.tells → IsTrue X.tells → Stands (D.files devices.old.disk.now) (D.image devices.old.disk.now) → (c : Files)
         → D.image devices.new.disk.now c
-        → LivesSo by_worlds (lived script.now number life.now seen_today (D.files devices.old.disk.now)) (D.files devices.old.disk.now)
+        → LivesSo by_worlds (lived script.now number life.now seen_planless (D.files devices.old.disk.now)) (D.files devices.old.disk.now)
         (world_of X.held devices.old out.old.entries (D.files devices.old.disk.now)) result (world_of X.held devices.new out.new.entries c) }
     ensures firm { OnOk result (IsTrue D.tells → Lands (D.files devices.new.disk.now) (D.image devices.new.disk.now)) }
     ensures went { Went D.tells D.made X.made D.faults X.faults devices.old devices.new [] }

@@ -5,7 +5,6 @@ use Rattle.dkg_secrets.specs.Secrets.{Secrets}
 use Rattle.dkg_types.specs.declared.entry.Entry.{Entry}
 use Rattle.dkg_text.specs.declared.script.Script.{Script}
 use Rattle.dkg_script.specs.Setting.{Setting, CutAt, setting_of}
-use Rattle.dkg_script.specs.Form.{IsFormOfToday}
 use Rattle.dkg_script.specs.Epochs.{IsFormOfEpochs}
 use Rattle.dkg_script.specs.Progress.{progress}
 use Rattle.dkg_script.specs.Order.{InOrder}
@@ -23,11 +22,7 @@ ComesAsFar = (s : Setting) (front rest : List Entry) → InOrder s (front ++ res
 abbrev pub StaysInOrderAsCut : Type 0
 StaysInOrderAsCut = (s : Setting) (out : List Entry) → InOrder s out → InOrder (with_cuts (progress s out).cuts s) out
 
--- Within the first epoch stays a script however its lives were cut.
-abbrev pub StaysOfToday : Type 0
-StaysOfToday = (ends : List (Option CutAt)) (script : Script) → IsFormOfToday script → IsFormOfToday (as_cut ends script)
-
--- .. and one of the form of epochs is of it.
+-- Of the form of epochs stays a script however its lives were cut.
 abbrev pub StaysOfEpochs : Type 0
 StaysOfEpochs = (ends : List (Option CutAt)) (script : Script) → IsFormOfEpochs script → IsFormOfEpochs (as_cut ends script)
 

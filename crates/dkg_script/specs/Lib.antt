@@ -18,7 +18,6 @@ pub mod Promise
 pub mod Readings
 pub mod SameOffers
 pub mod Setting
-pub mod Starts
 pub mod Valid
 pub mod Views
 pub use Rattle.dkg_ceremony.specs.Schedule

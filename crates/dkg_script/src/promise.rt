@@ -53,12 +53,7 @@ pub fn stays_in_order_as_cut()
     ensures { StaysInOrderAsCut }
 {}
 
-/// A script within the first epoch is so as it was cut.
-pub fn stays_of_today()
-    ensures { StaysOfToday }
-{}
-
-/// .. and one of the form of epochs is of it.
+/// A script of the form of epochs is of it as it was cut.
 pub fn stays_of_epochs()
     ensures { StaysOfEpochs }
 {}

@@ -1,4 +1,5 @@
-use Rattle.std.proofs.Common.{refl}
+use Rattle.std.proofs.Common.{Some, refl, sym, ap, ◌∙◌}
+use Rattle.dkg_ceremony.specs.declared.round.RoundParts.{RoundParts as Round}
 use Rattle.std.proofs.lemmas.Result.{err_from_is_err_and}
 use Rattle.dkg_store.specs.Acts.{by_want}
 use Rattle.dkg_store.specs.declared.call.StoreError.TheVariants.{NoMemory as Wanting}
@@ -49,7 +50,7 @@ returns-in_err-unsent-clause-moved g c = moved_none g.D.Disk.tells g.D.Disk.made
 -- OFFERS
 
 pub offer_all-requires-clause-dealt : goal.offer_all-requires-clause-dealt
-offer_all-requires-clause-dealt g c = is_dealt c.args.life.now c.in-Some.round c.requires.dealing c.in-Some.is
+offer_all-requires-clause-dealt g c = is_dealt c.args.life.now c.in-Some.round c.requires.dealing c.in-Some.is ∙ ap (λ (r : Round). Some r.number) (sym c.parts.ensures)
 
 pub offer_all-requires-clause-halves : goal.offer_all-requires-clause-halves
 offer_all-requires-clause-halves g c =

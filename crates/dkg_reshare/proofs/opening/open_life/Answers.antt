@@ -13,7 +13,7 @@ use Rattle.dkg_reshare.specs.Given.{reading}
 use Rattle.dkg_reshare.specs.LiveOf.{live_of, nothing_beside, records_of}
 use Rattle.dkg_reshare.specs.Moved.{StaysAbove}
 use Rattle.dkg_reshare.specs.Opened.{IsInGrammar, epoch_above, epoch_at}
-use Rattle.dkg_reshare.specs.Today.{seen_today}
+use Rattle.dkg_reshare.specs.Planless.{seen_planless}
 use Rattle.dkg_reshare.proofs.Caused.{rose_around}
 use Rattle.dkg_store.proofs.Counts.{reached_behind}
 use Rattle.dkg_reshare.proofs.Kept.{above_then, moved_then}
@@ -29,7 +29,7 @@ returns-in_err-store-clause-readable g c = λ told.
 pub returns-in_err-store-clause-acts : goal.returns-in_err-store-clause-acts
 returns-in_err-store-clause-acts g c = λ disk secrets fixed opening by fresh.
     let p = err_from_is_err_and c.from_residual.result c.from_residual.ensures.1 in
-    rw (p.1, p.2) (none_beside nothing_beside _ _ tt (opening_failed fixed opening.today opening.lent.of.unplanned seen_today opening.reads c.args.number (length (open_calls (g.D.Disk.files c.args.devices.now.disk.now))) opening.life_is opening.calls_are c.in_err-store.field-0.0 (c.in_err-store.ensures.acts disk secrets (subst (λ (n : ℕ). IsInGrammar n (g.D.Disk.files c.args.devices.now.disk.now)) opening.lent.of.limit opening.grammar))))
+    rw (p.1, p.2) (none_beside nothing_beside _ _ tt (opening_failed fixed opening.today opening.lent.of.unplanned seen_planless opening.reads c.args.number (length (open_calls (g.D.Disk.files c.args.devices.now.disk.now))) opening.life_is opening.calls_are c.in_err-store.field-0.0 (c.in_err-store.ensures.acts disk secrets (subst (λ (n : ℕ). IsInGrammar n (g.D.Disk.files c.args.devices.now.disk.now)) opening.lent.of.limit opening.grammar))))
 
 pub returns-in_err-store-clause-tells : goal.returns-in_err-store-clause-tells
 returns-in_err-store-clause-tells g c = λ fixed lent life today by fresh.
