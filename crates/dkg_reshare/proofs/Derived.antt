@@ -29,7 +29,7 @@ use Rattle.dkg_core.specs.Setup.{looks}
 use Rattle.dkg_reshare.specs.declared.stop.Stop.{Stop}
 use Rattle.dkg_reshare.specs.declared.stop.Stop.TheVariants.{Fault as Faulted}
 use Rattle.dkg_reshare.specs.Ends.{by_stop, cause_in}
-use Rattle.dkg_reshare.specs.Given.{ReadsToday}
+use Rattle.dkg_reshare.specs.Given.{ReadsPlanless}
 use Rattle.dkg_reshare.specs.Including.{caching, derives_in, mismatch_of, reads_share, stops_by, unprovided}
 use Rattle.dkg_reshare.specs.InclusionOf.{artifact_of, cached_of, verified_of}
 use Rattle.dkg_reshare.specs.Made.{MakesAt, Tells}
@@ -138,7 +138,7 @@ module _ {Dir : Type 0} (c : Fixed Dir) (info : EpochInfo Dir) where
             subst (λ (x : Course Dir Fault (Option ℕ)). Tells x (went None) out out) (sym (as_none ∙ reads_none apart)) (record { lines = []; added = sym (append-nil out); by = (refl, refl) })
 
       -- .. else the stored one
-      module _ (holds : has info.output.players c.me ≡ true) (today : ReadsToday c) where
+      module _ (holds : has info.output.players c.me ≡ true) (today : ReadsPlanless c) where
         as_looked : reads_its ≡ looking
         as_looked = as_none ∙ reads_holder holds
 

@@ -20,7 +20,7 @@ use Rattle.dkg_core.specs.Seen.{Seen}
 use Rattle.dkg_core.specs.Setup as setup
 use Rattle.dkg_core.specs.Sources.{Tip}
 use Rattle.dkg_reshare.specs.Ends.{IsCausedBy, by_stop}
-use Rattle.dkg_reshare.specs.Given.{GivesSeed, ReadsToday}
+use Rattle.dkg_reshare.specs.Given.{GivesSeed, ReadsPlanless}
 use Rattle.dkg_reshare.specs.LiveOf.{Beside, EndsWith, live_of, scheme_by, with_scheme_of}
 use Rattle.dkg_reshare.specs.Made.{MakesAt, Tells}
 use Rattle.dkg_reshare.specs.Steps.{reads_seed}
@@ -122,7 +122,7 @@ module _ {Dir : Type 0} (c : Fixed Dir) (b : Block Dir) (info : EpochInfo Dir) (
       taken_told mid how committed told = tells_as takes_is how (then_told (reads_seed c info) behind_seed seed how read (then_told (commits_with seed) then_passes mid how committed told))
 
 -- What some held seeds give, a read of today can give.
-pub seed_told : {Dir : Type 0} (c : Fixed Dir) (info : EpochInfo Dir) (seed : List ℕ) (h : Held) → ReadsToday c → GivesSeed c info seed h → (out : List Line) → Tells (reads_seed c info) (went seed) out out
+pub seed_told : {Dir : Type 0} (c : Fixed Dir) (info : EpochInfo Dir) (seed : List ℕ) (h : Held) → ReadsPlanless c → GivesSeed c info seed h → (out : List Line) → Tells (reads_seed c info) (went seed) out out
 seed_told c info seed h reads gives out =
     let given : setup.seed_for c info.epoch (lookup info.epoch (c.seen h).seeds) ≡ seed = gives (c.seen h) (ap (λ (seen : Held → Seen). (seen h).seeds) reads) in
     record { lines = []; added = sym (append-nil out); by = (h, (refl, sym given)) }

@@ -28,11 +28,11 @@ use Rattle.dkg_core.specs.Fixed.{Fixed}
 use Rattle.dkg_core.specs.Seen.{Seen}
 use Rattle.dkg_core.specs.Setup as setup
 use Rattle.dkg_reshare.specs.Ends.{by_stop, stop_of}
-use Rattle.dkg_reshare.specs.Given.{GivesBoth, GivesSeed, GivesShare, ReadsToday}
+use Rattle.dkg_reshare.specs.Given.{GivesBoth, GivesSeed, GivesShare, ReadsPlanless}
 use Rattle.dkg_reshare.specs.Made.{MakesAt}
 use Rattle.dkg_reshare.specs.Rules.{PartialPublicOf, SharePublicOf}
 use Rattle.dkg_reshare.specs.Steps.{reads_secrets, reads_seed}
-use Rattle.dkg_reshare.specs.Today.{seen_today}
+use Rattle.dkg_reshare.specs.Planless.{seen_planless}
 use Rattle.dkg_reshare.proofs.Burning.{burns_still}
 use Rattle.dkg_reshare.proofs.Newest.{newest_is, newest_none}
 use Rattle.dkg_reshare.proofs.Setting.{looked_up}
@@ -194,7 +194,7 @@ module _ {Dir : Type 0} (c : Fixed Dir) (info : EpochInfo Dir) (seed : List ℕ)
   abbrev seed_in : Held → List ℕ
   seed_in h = setup.seed_for c info.epoch (lookup info.epoch (c.seen h).seeds)
 
-  pub seed_read : {D : Type 0} (files : D → Files) (image : D → Files → Type 0) → ReadsToday c
+  pub seed_read : {D : Type 0} (files : D → Files) (image : D → Files → Type 0) → ReadsPlanless c
       → {old new : D} {out : List Line} {s t : Secrets} {f g : Burn} → new ≡ old → t ≡ s → g ≡ f → setup.seed_for c info.epoch (get s.seeds info.epoch) ≡ seed
       → MakesAt (on_devices (reads_seed c info)) (went seed) (files old) (image old) (files new) (image new) (moment out s f) (moment out t g)
   seed_read files image reads {old} {s = s} same kept still seeded =

@@ -11,14 +11,14 @@ ghost use Rattle.dkg_core.specs.Including.{works};
 ghost use Rattle.dkg_reshare.specs.Actors.{AreTerms, BringsWithin, EndsAt, FailsStop, IfIncluding, IfLiving, IsAgreed, IsAt, IsFoundAt, IsNew, IsReadyLife, IsSoundAt, lives, message_of, running_in, told_in};
 ghost use Rattle.dkg_reshare.specs.Configured.{config_fault};
 ghost use Rattle.dkg_reshare.specs.Ends.{IsCausedBy, IsCausedInStep, ends, ends_in};
-ghost use Rattle.dkg_reshare.specs.Given.{AreGivenFrom, HasRead, IsIn, IsLent, ReadsToday, reading};
+ghost use Rattle.dkg_reshare.specs.Given.{AreGivenFrom, HasRead, IsIn, IsLent, ReadsPlanless, reading};
 ghost use Rattle.dkg_reshare.specs.InclusionOf.{IsSeen, IsSettledInclusion, result_of};
 ghost use Rattle.dkg_reshare.specs.LiveOf.{Beside, EndsBeside, EndsWith, Took, live_of, no_fence, nothing_beside};
 ghost use Rattle.dkg_reshare.specs.Made.{Makes, Tells, UnlessBroken};
 ghost use Rattle.dkg_reshare.specs.Moved.{Moved, StaysAbove};
 ghost use Rattle.dkg_reshare.specs.Opened.{IsInGrammar, IsOpeningOf, OpensReadable, epoch_at};
 ghost use Rattle.dkg_reshare.specs.Rules.{IncludesBy, IsRuledBy, SameProvided};
-ghost use Rattle.dkg_reshare.specs.Today.{IsOpeningOfToday};
+ghost use Rattle.dkg_reshare.specs.Planless.{IsBareOpening};
 
 use crate::blocks::take_block;
 use crate::config::{Config, Terms, check_config};
@@ -98,14 +98,14 @@ fn take<
         inclusion.new) }
     ensures provider { IsTrue P.tells → SameProvided (P.participants_of provider.old) (P.participants_of provider.new)
         (P.directory_of provider.old) (P.directory_of provider.new) }
-    ensures acts { IsTrue D.tells → IsTrue X.tells → IsTrue P.tells → (c : Fixed Dir) (beside : Beside Dir) → IsIn terms.now life.old.word c → ReadsToday c
+    ensures acts { IsTrue D.tells → IsTrue X.tells → IsTrue P.tells → (c : Fixed Dir) (beside : Beside Dir) → IsIn terms.now life.old.word c → ReadsPlanless c
         → IsRuledBy C.round_of C.deal_of C.dealing_of C.ack_of C.check_ack_of C.sign_log_of C.bears_ack_of C.share_public_of C.partial_public_of c.rules
         → IncludesBy C.check_log_of C.outcome_of C.finish_of (P.participants_of provider.old) (P.directory_of provider.old) Dir.spelling Dir.matches_of c
         → IsSeen inclusion.old beside.inclusion → EndsWith beside (λ i. OnOk result (IsSeen inclusion.new i))
         (λ more. OnOk result (Took R.tells (R.taken registrar.old) (R.taken registrar.new) more))
         (λ now. Makes D.files D.image X.held (step c (message_of message) (live_of beside fence.old life.old)) (ends_in (live_of now fence.new life.new) result)
         devices.old devices.new out.old.entries out.new.entries) }
-    ensures tells { IsTrue P.tells → (c : Fixed Dir) (beside : Beside Dir) → IsIn terms.now life.old.word c → ReadsToday c
+    ensures tells { IsTrue P.tells → (c : Fixed Dir) (beside : Beside Dir) → IsIn terms.now life.old.word c → ReadsPlanless c
         → IsRuledBy C.round_of C.deal_of C.dealing_of C.ack_of C.check_ack_of C.sign_log_of C.bears_ack_of C.share_public_of C.partial_public_of c.rules
         → IncludesBy C.check_log_of C.outcome_of C.finish_of (P.participants_of provider.old) (P.directory_of provider.old) Dir.spelling Dir.matches_of c
         → IsSeen inclusion.old beside.inclusion → EndsWith beside (λ i. OnOk result (IsSeen inclusion.new i))
@@ -224,7 +224,7 @@ impl<
             (λ now. Makes D.files D.image X.held (opening c) (lives (live_of now fence.new) self.new.state result)
             devices.old devices.new out.old.entries out.new.entries) }
         // Whatever the devices tell, its lines are those of an opening that has read something: where they tell, dealings that each image gives back.
-        ensures tells { (c : Fixed Dir) → IsLent self.old.terms (B.answers source.now) word c → c.life ≡ life → IsOpeningOfToday c
+        ensures tells { (c : Fixed Dir) → IsLent self.old.terms (B.answers source.now) word c → c.life ≡ life → IsBareOpening c
             → IsRuledBy C.round_of C.deal_of C.dealing_of C.ack_of C.check_ack_of C.sign_log_of C.bears_ack_of C.share_public_of C.partial_public_of c.rules
             → fence.old ≡ no_fence
             → HasRead (λ s. UnlessBroken (ends (λ done. done) result) (IsTrue D.tells → IsTrue X.tells
@@ -295,7 +295,7 @@ impl<
         // It is the relation's step, and each act was made, whatever image a crash leaves.
         ensures acts { IsTrue D.tells → IsTrue X.tells → IsTrue P.tells → (c : Fixed Dir) (beside : Beside Dir) → IfIncluding self.old.state
             (λ old its. IsIn self.old.terms old.word c
-            → ReadsToday c → IsRuledBy C.round_of C.deal_of C.dealing_of C.ack_of C.check_ack_of C.sign_log_of C.bears_ack_of C.share_public_of
+            → ReadsPlanless c → IsRuledBy C.round_of C.deal_of C.dealing_of C.ack_of C.check_ack_of C.sign_log_of C.bears_ack_of C.share_public_of
             C.partial_public_of c.rules
             → IncludesBy C.check_log_of C.outcome_of C.finish_of (P.participants_of self.old.provider) (P.directory_of self.old.provider) Dir.spelling
             Dir.matches_of c
@@ -304,7 +304,7 @@ impl<
             (λ now. Makes D.files D.image X.held (step c (message_of message) (live_of beside fence.old old))
             (lives (live_of now fence.new) self.new.state result) devices.old devices.new out.old.entries out.new.entries)) }
         ensures tells { IsTrue P.tells → (c : Fixed Dir) (beside : Beside Dir) → IfIncluding self.old.state (λ old its. IsIn self.old.terms old.word c
-            → ReadsToday c → IsRuledBy C.round_of C.deal_of C.dealing_of C.ack_of C.check_ack_of C.sign_log_of C.bears_ack_of C.share_public_of
+            → ReadsPlanless c → IsRuledBy C.round_of C.deal_of C.dealing_of C.ack_of C.check_ack_of C.sign_log_of C.bears_ack_of C.share_public_of
             C.partial_public_of c.rules
             → IncludesBy C.check_log_of C.outcome_of C.finish_of (P.participants_of self.old.provider) (P.directory_of self.old.provider) Dir.spelling
             Dir.matches_of c
@@ -374,7 +374,7 @@ impl<
         // It is the relation's step of that message, and each act was made, whatever image a crash leaves.
         ensures acts { IsTrue D.tells → IsTrue X.tells → IsTrue P.tells → (c : Fixed Dir) (beside : Beside Dir) → IfIncluding self.old.state
             (λ old its. IsIn self.old.terms old.word c
-            → ReadsToday c → IsRuledBy C.round_of C.deal_of C.dealing_of C.ack_of C.check_ack_of C.sign_log_of C.bears_ack_of C.share_public_of
+            → ReadsPlanless c → IsRuledBy C.round_of C.deal_of C.dealing_of C.ack_of C.check_ack_of C.sign_log_of C.bears_ack_of C.share_public_of
             C.partial_public_of c.rules
             → IncludesBy C.check_log_of C.outcome_of C.finish_of (P.participants_of self.old.provider) (P.directory_of self.old.provider) Dir.spelling
             Dir.matches_of c
@@ -383,7 +383,7 @@ impl<
             (λ now. Makes D.files D.image X.held (works c (option_map result_of done) (live_of beside _fence.old old))
             (lives (live_of now _fence.new) self.new.state result) devices.old devices.new out.old.entries out.new.entries)) }
         ensures tells { IsTrue P.tells → (c : Fixed Dir) (beside : Beside Dir) → IfIncluding self.old.state (λ old its. IsIn self.old.terms old.word c
-            → ReadsToday c → IsRuledBy C.round_of C.deal_of C.dealing_of C.ack_of C.check_ack_of C.sign_log_of C.bears_ack_of C.share_public_of
+            → ReadsPlanless c → IsRuledBy C.round_of C.deal_of C.dealing_of C.ack_of C.check_ack_of C.sign_log_of C.bears_ack_of C.share_public_of
             C.partial_public_of c.rules
             → IncludesBy C.check_log_of C.outcome_of C.finish_of (P.participants_of self.old.provider) (P.directory_of self.old.provider) Dir.spelling
             Dir.matches_of c

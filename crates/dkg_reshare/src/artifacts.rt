@@ -15,7 +15,7 @@ ghost use Rattle.dkg_core.specs.Including as including;
 ghost use Rattle.dkg_core.specs.Live.{Live};
 ghost use Rattle.dkg_reshare.specs.Derived.{follows_with};
 ghost use Rattle.dkg_reshare.specs.Ends.{IsCaused, ends, ends_in};
-ghost use Rattle.dkg_reshare.specs.Given.{IsOf, ReadsToday};
+ghost use Rattle.dkg_reshare.specs.Given.{IsOf, ReadsPlanless};
 ghost use Rattle.dkg_reshare.specs.Including.{EndsCaching, derives_in, ended_by, reads_share, unprovided};
 ghost use Rattle.dkg_reshare.specs.InclusionOf.{artifact_of, cached_of, result_of, verified_of};
 ghost use Rattle.dkg_reshare.specs.Made.{Makes, Tells};
@@ -101,10 +101,10 @@ fn share_by<Dir: Directory + Drop, D: Disk, X: SecretStore>(
     ensures store { store.new ≡ store.old }
     ensures disk { devices.new.disk.now ≡ devices.old.disk.now }
     ensures held { X.held devices.new.secrets.now ≡ X.held devices.old.secrets.now }
-    ensures acts { IsTrue D.tells → IsTrue X.tells → (c : Fixed Dir) → c.me ≡ me → ReadsToday c → (out : List Line)
+    ensures acts { IsTrue D.tells → IsTrue X.tells → (c : Fixed Dir) → c.me ≡ me → ReadsPlanless c → (out : List Line)
         → Makes D.files D.image X.held (reads_share c info.now (option_map verified_of found.now)) (ends (λ share. share) result)
         devices.old devices.new out out }
-    ensures tells { (c : Fixed Dir) → c.me ≡ me → ReadsToday c → (out : List Line)
+    ensures tells { (c : Fixed Dir) → c.me ≡ me → ReadsPlanless c → (out : List Line)
         → Tells (reads_share c info.now (option_map verified_of found.now)) (ends (λ share. share) result) out out }
     ensures moved { Moved D.tells D.made X.made D.faults X.faults devices.old devices.new }
     ensures causes { IfErr result (λ stop. IsCaused stop (Rose (D.faults devices.old.disk.now) (D.faults devices.new.disk.now))
@@ -200,11 +200,11 @@ fn derive<
     ensures held { X.held devices.new.secrets.now ≡ X.held devices.old.secrets.now }
     ensures acts { IsTrue D.tells → IsTrue X.tells → IsTrue P.tells → (info : EpochInfo Dir) (c : Fixed Dir) → store.old.current ≡ Some info
         → IsOf terms.now c
-        → ReadsToday c
+        → ReadsPlanless c
         → IncludesBy C.check_log_of C.outcome_of C.finish_of (P.participants_of provider.old) (P.directory_of provider.old) Dir.spelling Dir.matches_of c
         → (out : List Line) → Makes D.files D.image X.held (derives_in c info (result_of verified.now)) (ends artifact_of result)
         devices.old devices.new out out }
-    ensures tells { IsTrue P.tells → (info : EpochInfo Dir) (c : Fixed Dir) → store.old.current ≡ Some info → IsOf terms.now c → ReadsToday c
+    ensures tells { IsTrue P.tells → (info : EpochInfo Dir) (c : Fixed Dir) → store.old.current ≡ Some info → IsOf terms.now c → ReadsPlanless c
         → IncludesBy C.check_log_of C.outcome_of C.finish_of (P.participants_of provider.old) (P.directory_of provider.old) Dir.spelling Dir.matches_of c
         → (out : List Line) → Tells (derives_in c info (result_of verified.now)) (ends artifact_of result) out out }
     ensures moved { Moved D.tells D.made X.made D.faults X.faults devices.old devices.new }
@@ -244,12 +244,12 @@ pub(crate) fn keep_artifact<
         (P.directory_of provider.old) (P.directory_of provider.new) }
     ensures disk { devices.new.disk.now ≡ devices.old.disk.now }
     ensures held { X.held devices.new.secrets.now ≡ X.held devices.old.secrets.now }
-    ensures acts { IsTrue D.tells → IsTrue X.tells → IsTrue P.tells → (c : Fixed Dir) (st : Live Dir) → IsOf terms.now c → ReadsToday c
+    ensures acts { IsTrue D.tells → IsTrue X.tells → IsTrue P.tells → (c : Fixed Dir) (st : Live Dir) → IsOf terms.now c → ReadsPlanless c
         → IncludesBy C.check_log_of C.outcome_of C.finish_of (P.participants_of provider.old) (P.directory_of provider.old) Dir.spelling Dir.matches_of c
         → st.participation.current ≡ store.old.current → st.inclusion.cached ≡ option_map cached_of cache.old
         → (out : List Line) → EndsCaching cache.new st (λ now. Makes D.files D.image X.held
         (including.artifact c (result_of verified.now) st (λ made st. Goes st)) (ends_in now result) devices.old devices.new out out) }
-    ensures tells { IsTrue P.tells → (c : Fixed Dir) (st : Live Dir) → IsOf terms.now c → ReadsToday c
+    ensures tells { IsTrue P.tells → (c : Fixed Dir) (st : Live Dir) → IsOf terms.now c → ReadsPlanless c
         → IncludesBy C.check_log_of C.outcome_of C.finish_of (P.participants_of provider.old) (P.directory_of provider.old) Dir.spelling Dir.matches_of c
         → st.participation.current ≡ store.old.current → st.inclusion.cached ≡ option_map cached_of cache.old
         → (out : List Line) → EndsCaching cache.new st (λ now. Tells

@@ -10,7 +10,7 @@ ghost use Rattle.dkg_core.specs.Fixed.{Fixed};
 ghost use Rattle.dkg_core.specs.Including as including;
 ghost use Rattle.dkg_reshare.specs.Actors.{IsReadyLife};
 ghost use Rattle.dkg_reshare.specs.Ends.{IsCaused, ends_in};
-ghost use Rattle.dkg_reshare.specs.Given.{IsOf, ReadsToday};
+ghost use Rattle.dkg_reshare.specs.Given.{IsOf, ReadsPlanless};
 ghost use Rattle.dkg_reshare.specs.LiveOf.{Beside, EndsWith, live_of};
 ghost use Rattle.dkg_reshare.specs.Made.{Makes, Tells};
 ghost use Rattle.dkg_reshare.specs.Moved.{Moved};
@@ -87,13 +87,13 @@ pub(crate) fn ask<
     ensures disk { devices.new.disk.now ≡ devices.old.disk.now }
     ensures held { X.held devices.new.secrets.now ≡ X.held devices.old.secrets.now }
     ensures acts { IsTrue D.tells → IsTrue X.tells → IsTrue P.tells → (c : Fixed Dir) (beside : Beside Dir) (fence : Readiness) → IsOf terms.now c
-        → ReadsToday c
+        → ReadsPlanless c
         → IsRuledBy C.round_of C.deal_of C.dealing_of C.ack_of C.check_ack_of C.sign_log_of C.bears_ack_of C.share_public_of C.partial_public_of c.rules
         → IncludesBy C.check_log_of C.outcome_of C.finish_of (P.participants_of provider.old) (P.directory_of provider.old) Dir.spelling Dir.matches_of c
         → IsSeen inclusion.old beside.inclusion → EndsWith beside (λ i. OnOk result (IsSeen inclusion.new i)) (λ more. more ≡ [])
         (λ now. Makes D.files D.image X.held (including.asks c request (live_of beside fence life.old)) (ends_in (live_of now fence life.new) result)
         devices.old devices.new out.old.entries out.new.entries) }
-    ensures tells { IsTrue P.tells → (c : Fixed Dir) (beside : Beside Dir) (fence : Readiness) → IsOf terms.now c → ReadsToday c
+    ensures tells { IsTrue P.tells → (c : Fixed Dir) (beside : Beside Dir) (fence : Readiness) → IsOf terms.now c → ReadsPlanless c
         → IsRuledBy C.round_of C.deal_of C.dealing_of C.ack_of C.check_ack_of C.sign_log_of C.bears_ack_of C.share_public_of C.partial_public_of c.rules
         → IncludesBy C.check_log_of C.outcome_of C.finish_of (P.participants_of provider.old) (P.directory_of provider.old) Dir.spelling Dir.matches_of c
         → IsSeen inclusion.old beside.inclusion → EndsWith beside (λ i. OnOk result (IsSeen inclusion.new i)) (λ more. more ≡ [])
@@ -185,7 +185,7 @@ fn go_on<
     ensures disk { devices.new.disk.now ≡ devices.old.disk.now }
     ensures held { X.held devices.new.secrets.now ≡ X.held devices.old.secrets.now }
     ensures acts { IsTrue D.tells → IsTrue X.tells → IsTrue P.tells → (c : Fixed Dir) (beside : Beside Dir) (fence : Readiness) → IsOf terms.now c
-        → ReadsToday c
+        → ReadsPlanless c
         → IsRuledBy C.round_of C.deal_of C.dealing_of C.ack_of C.check_ack_of C.sign_log_of C.bears_ack_of C.share_public_of C.partial_public_of c.rules
         → IncludesBy C.check_log_of C.outcome_of C.finish_of (P.participants_of provider.old) (P.directory_of provider.old) Dir.spelling Dir.matches_of c
         → IsSeen inclusion.old beside.inclusion → EndsWith beside (λ i. OnOk result (IsSeen inclusion.new i)) (λ more. more ≡ [])
@@ -193,7 +193,7 @@ fn go_on<
         (live_of now fence life.new) result)
         devices.old devices.new out.old.entries out.new.entries) }
     ensures tells { IsTrue P.tells → (c : Fixed Dir) (beside : Beside Dir) (fence : Readiness) → IsOf terms.now c
-        → ReadsToday c
+        → ReadsPlanless c
         → IsRuledBy C.round_of C.deal_of C.dealing_of C.ack_of C.check_ack_of C.sign_log_of C.bears_ack_of C.share_public_of C.partial_public_of c.rules
         → IncludesBy C.check_log_of C.outcome_of C.finish_of (P.participants_of provider.old) (P.directory_of provider.old) Dir.spelling Dir.matches_of c
         → IsSeen inclusion.old beside.inclusion → EndsWith beside (λ i. OnOk result (IsSeen inclusion.new i)) (λ more. more ≡ [])
@@ -247,13 +247,13 @@ pub(crate) fn feed<
     ensures disk { devices.new.disk.now ≡ devices.old.disk.now }
     ensures held { X.held devices.new.secrets.now ≡ X.held devices.old.secrets.now }
     ensures acts { IsTrue D.tells → IsTrue X.tells → IsTrue P.tells → (c : Fixed Dir) (beside : Beside Dir) (fence : Readiness) → IsOf terms.now c
-        → ReadsToday c
+        → ReadsPlanless c
         → IsRuledBy C.round_of C.deal_of C.dealing_of C.ack_of C.check_ack_of C.sign_log_of C.bears_ack_of C.share_public_of C.partial_public_of c.rules
         → IncludesBy C.check_log_of C.outcome_of C.finish_of (P.participants_of provider.old) (P.directory_of provider.old) Dir.spelling Dir.matches_of c
         → IsSeen inclusion.old beside.inclusion → EndsWith beside (λ i. OnOk result (IsSeen inclusion.new i)) (λ more. more ≡ [])
         (λ now. Makes D.files D.image X.held (including.feeds c request block (live_of beside fence life.old)) (ends_in (live_of now fence life.new) result)
         devices.old devices.new out.old.entries out.new.entries) }
-    ensures tells { IsTrue P.tells → (c : Fixed Dir) (beside : Beside Dir) (fence : Readiness) → IsOf terms.now c → ReadsToday c
+    ensures tells { IsTrue P.tells → (c : Fixed Dir) (beside : Beside Dir) (fence : Readiness) → IsOf terms.now c → ReadsPlanless c
         → IsRuledBy C.round_of C.deal_of C.dealing_of C.ack_of C.check_ack_of C.sign_log_of C.bears_ack_of C.share_public_of C.partial_public_of c.rules
         → IncludesBy C.check_log_of C.outcome_of C.finish_of (P.participants_of provider.old) (P.directory_of provider.old) Dir.spelling Dir.matches_of c
         → IsSeen inclusion.old beside.inclusion → EndsWith beside (λ i. OnOk result (IsSeen inclusion.new i)) (λ more. more ≡ [])
@@ -299,13 +299,13 @@ pub(crate) fn end<
     ensures disk { devices.new.disk.now ≡ devices.old.disk.now }
     ensures held { X.held devices.new.secrets.now ≡ X.held devices.old.secrets.now }
     ensures acts { IsTrue D.tells → IsTrue X.tells → IsTrue P.tells → (c : Fixed Dir) (beside : Beside Dir) (fence : Readiness) → IsOf terms.now c
-        → ReadsToday c
+        → ReadsPlanless c
         → IsRuledBy C.round_of C.deal_of C.dealing_of C.ack_of C.check_ack_of C.sign_log_of C.bears_ack_of C.share_public_of C.partial_public_of c.rules
         → IncludesBy C.check_log_of C.outcome_of C.finish_of (P.participants_of provider.old) (P.directory_of provider.old) Dir.spelling Dir.matches_of c
         → IsSeen inclusion.old beside.inclusion → EndsWith beside (λ i. OnOk result (IsSeen inclusion.new i)) (λ more. more ≡ [])
         (λ now. Makes D.files D.image X.held (including.ends c request (live_of beside fence life.old)) (ends_in (live_of now fence life.new) result)
         devices.old devices.new out.old.entries out.new.entries) }
-    ensures tells { IsTrue P.tells → (c : Fixed Dir) (beside : Beside Dir) (fence : Readiness) → IsOf terms.now c → ReadsToday c
+    ensures tells { IsTrue P.tells → (c : Fixed Dir) (beside : Beside Dir) (fence : Readiness) → IsOf terms.now c → ReadsPlanless c
         → IsRuledBy C.round_of C.deal_of C.dealing_of C.ack_of C.check_ack_of C.sign_log_of C.bears_ack_of C.share_public_of C.partial_public_of c.rules
         → IncludesBy C.check_log_of C.outcome_of C.finish_of (P.participants_of provider.old) (P.directory_of provider.old) Dir.spelling Dir.matches_of c
         → IsSeen inclusion.old beside.inclusion → EndsWith beside (λ i. OnOk result (IsSeen inclusion.new i)) (λ more. more ≡ [])
@@ -365,13 +365,13 @@ pub(crate) fn cancel<
     ensures disk { devices.new.disk.now ≡ devices.old.disk.now }
     ensures held { X.held devices.new.secrets.now ≡ X.held devices.old.secrets.now }
     ensures acts { IsTrue D.tells → IsTrue X.tells → IsTrue P.tells → (c : Fixed Dir) (beside : Beside Dir) (fence : Readiness) → IsOf terms.now c
-        → ReadsToday c
+        → ReadsPlanless c
         → IsRuledBy C.round_of C.deal_of C.dealing_of C.ack_of C.check_ack_of C.sign_log_of C.bears_ack_of C.share_public_of C.partial_public_of c.rules
         → IncludesBy C.check_log_of C.outcome_of C.finish_of (P.participants_of provider.old) (P.directory_of provider.old) Dir.spelling Dir.matches_of c
         → IsSeen inclusion.old beside.inclusion → EndsWith beside (λ i. OnOk result (IsSeen inclusion.new i)) (λ more. more ≡ [])
         (λ now. Makes D.files D.image X.held (including.cancels c request (live_of beside fence life.old)) (ends_in (live_of now fence life.new) result)
         devices.old devices.new out.old.entries out.new.entries) }
-    ensures tells { IsTrue P.tells → (c : Fixed Dir) (beside : Beside Dir) (fence : Readiness) → IsOf terms.now c → ReadsToday c
+    ensures tells { IsTrue P.tells → (c : Fixed Dir) (beside : Beside Dir) (fence : Readiness) → IsOf terms.now c → ReadsPlanless c
         → IsRuledBy C.round_of C.deal_of C.dealing_of C.ack_of C.check_ack_of C.sign_log_of C.bears_ack_of C.share_public_of C.partial_public_of c.rules
         → IncludesBy C.check_log_of C.outcome_of C.finish_of (P.participants_of provider.old) (P.directory_of provider.old) Dir.spelling Dir.matches_of c
         → IsSeen inclusion.old beside.inclusion → EndsWith beside (λ i. OnOk result (IsSeen inclusion.new i)) (λ more. more ≡ [])
@@ -420,14 +420,14 @@ pub(crate) fn work<
     ensures disk { devices.new.disk.now ≡ devices.old.disk.now }
     ensures held { X.held devices.new.secrets.now ≡ X.held devices.old.secrets.now }
     ensures acts { IsTrue D.tells → IsTrue X.tells → IsTrue P.tells → (c : Fixed Dir) (beside : Beside Dir) (fence : Readiness) → IsOf terms.now c
-        → ReadsToday c
+        → ReadsPlanless c
         → IsRuledBy C.round_of C.deal_of C.dealing_of C.ack_of C.check_ack_of C.sign_log_of C.bears_ack_of C.share_public_of C.partial_public_of c.rules
         → IncludesBy C.check_log_of C.outcome_of C.finish_of (P.participants_of provider.old) (P.directory_of provider.old) Dir.spelling Dir.matches_of c
         → IsSeen inclusion.old beside.inclusion → EndsWith beside (λ i. OnOk result (IsSeen inclusion.new i)) (λ more. more ≡ [])
         (λ now. Makes D.files D.image X.held (including.works c (option_map result_of done) (live_of beside fence life.old)) (ends_in
         (live_of now fence life.new) result)
         devices.old devices.new out.old.entries out.new.entries) }
-    ensures tells { IsTrue P.tells → (c : Fixed Dir) (beside : Beside Dir) (fence : Readiness) → IsOf terms.now c → ReadsToday c
+    ensures tells { IsTrue P.tells → (c : Fixed Dir) (beside : Beside Dir) (fence : Readiness) → IsOf terms.now c → ReadsPlanless c
         → IsRuledBy C.round_of C.deal_of C.dealing_of C.ack_of C.check_ack_of C.sign_log_of C.bears_ack_of C.share_public_of C.partial_public_of c.rules
         → IncludesBy C.check_log_of C.outcome_of C.finish_of (P.participants_of provider.old) (P.directory_of provider.old) Dir.spelling Dir.matches_of c
         → IsSeen inclusion.old beside.inclusion → EndsWith beside (λ i. OnOk result (IsSeen inclusion.new i)) (λ more. more ≡ [])

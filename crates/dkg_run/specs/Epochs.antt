@@ -13,7 +13,7 @@ use Rattle.dkg_text.specs.declared.script.Event.{Event}
 use Rattle.dkg_text.specs.declared.script.Event.TheVariants.{Final}
 use Rattle.dkg_text.specs.declared.script.Script.{Script}
 use Rattle.dkg_reshare.specs.Configured.{config_fault}
-use Rattle.dkg_reshare.specs.Today.{seen_today}
+use Rattle.dkg_reshare.specs.Planless.{seen_planless}
 use Rattle.dkg_script.specs.Epochs.{alone}
 use Rattle.dkg_script.specs.Inclusion.{IsFormOfInclusion}
 use Rattle.dkg_script.specs.Position.{awaited_epoch, awaited_height, follows}
@@ -31,7 +31,7 @@ IsAnchorAbove blocks (Processed number) = Unit {0}
 IsAnchorAbove blocks (Absent number) = IfSome (slice_get blocks number) (λ line. 0 < line.height)
 
 -- It is a life of a script of this form, whose mode is supported and whose epochs have two blocks at least, and no plan is read.
-pub record IsLifeOver (g : Lived) : Type 0 where
+pub record IsLifeInForm (g : Lived) : Type 0 where
   pub form : IsFormOfInclusion g.script
   pub life_is : slice_get g.script.lives g.number ≡ Some g.life
   pub anchor : IfSome g.life.anchor (IsAnchorAbove g.script.blocks)

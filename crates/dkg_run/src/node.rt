@@ -15,7 +15,7 @@ ghost use Rattle.dkg_reshare.specs.Given.{AreGivenFrom, HasRead};
 ghost use Rattle.dkg_reshare.specs.Made.{Makes, Tells, UnlessBroken};
 ghost use Rattle.dkg_reshare.specs.Moved.{Moved, StaysAbove};
 ghost use Rattle.dkg_reshare.specs.Opened.{IsInGrammar, OpensReadable};
-ghost use Rattle.dkg_reshare.specs.Today.{seen_today};
+ghost use Rattle.dkg_reshare.specs.Planless.{seen_planless};
 ghost use Rattle.dkg_run.specs.Epochs.{MayStep};
 ghost use Rattle.dkg_run.specs.Given.{IsUnplanned, Lived, at_step, blocks_in, limits_of, lived, starts_above, step_of};
 ghost use Rattle.dkg_run.specs.Nodes.{IsEventHere, IsMail, IsOfLife, IsReadyNode, IsView, Viewed, ViewedNew, ended_new, sent_event};
