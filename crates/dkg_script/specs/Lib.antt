@@ -6,7 +6,6 @@ pub mod Consistent
 pub mod Due
 pub mod Ends
 pub mod Epochs
-pub mod Form
 pub mod Inclusion
 pub mod Kept
 pub mod Laws

@@ -58,11 +58,6 @@ pub fn stays_of_epochs()
     ensures { StaysOfEpochs }
 {}
 
-/// A script within the first epoch is of the form of epochs.
-pub fn lies_within_epochs()
-    ensures { TodayIsOfEpochs }
-{}
-
 /// A script of the form of epochs is of the form of inclusion.
 pub fn lies_within_inclusion()
     ensures { EpochsIsOfInclusion }
