@@ -1,7 +1,7 @@
 //! What one round of a ceremony is about, and its bytes, which marks bind.
 //!
 //! A ceremony draws up a round, and each of its other calls takes one. The bytes are written once, when it is drawn up.
-ghost use Rattle.std.specs.Prelude.{◌≡◌, ◌∷◌, [], ◌++◌, ◌↔◌, IfOk, OnOk, IsTrue};
+ghost use Rattle.std.specs.Prelude.{◌≡◌, ◌∷◌, [], ◌+◌, ◌++◌, ◌^◌, ◌≤◌, ◌↔◌, IfOk, OnOk, IsTrue};
 ghost use Rattle.std.specs.Int.{w32, to_be_bytes};
 ghost use Rattle.std.specs.Option.{option_copied};
 ghost use Rattle.sha2.specs.Hashers.{Holds256};
@@ -14,7 +14,9 @@ use crate::mode::{Mode, Reveal, byte_of_mode, byte_of_reveal};
 use crate::output::Output;
 use crate::sign::{Domain, hash_behind, mark_behind};
 use bytes::{BufMut, BytesMut};
-use dkg_values::{Blob, Key, Mark, Mem, NoMemory, Set, Value, Write, write_uint};
+use dkg_values::{
+    Blob, EncodeSize, Key, Mark, Mem, NoMemory, Set, Value, Write, uint_size, write_uint,
+};
 use sha2::Sha256;
 use std::alloc::{AllocError, AllocFailed, Global};
 use std::marker::Model;
@@ -153,11 +155,9 @@ impl Value for RoundParts {
 impl Value for Round {
     /// The copy has hashed nothing.
     fn copy(&self, alloc: Global) -> Mem<Round> {
-        let mut bytes = BytesMut::new(alloc);
-        bytes.put_slice(&self.bytes)?;
         Ok(Round {
             parts: self.parts.copy(alloc)?,
-            bytes,
+            bytes: BytesMut::copy_from_slice(alloc, &self.bytes)?,
             begun: None,
         })
     }
@@ -165,6 +165,28 @@ impl Value for Round {
     fn same(&self, other: &Round) -> bool {
         self.parts.same(&other.parts)
     }
+}
+
+/// How many bytes a flag takes and the output behind it.
+fn size_of_previous(previous: &Option<Output>) -> usize
+    ensures { result ≤ 2 ^ 38 + 1 }
+{
+    match previous {
+        None => 1,
+        Some(output) => 1 + output.encode_size(),
+    }
+}
+
+/// How many bytes a round takes.
+fn size_of_round(round: &RoundParts) -> usize {
+    let namespace = round.namespace.as_slice().len();
+    uint_size(namespace as u64)
+        + namespace
+        + uint_size(round.number)
+        + size_of_previous(&round.previous)
+        + 2
+        + round.dealers.encode_size()
+        + round.players.encode_size()
 }
 
 /// Writes the flag of an output that may be there, and the output.
@@ -200,7 +222,7 @@ impl Round {
     pub fn new(alloc: Global, parts: RoundParts) -> Mem<Round>
         ensures { IfOk result (λ round. round ≡ parts) }
     {
-        let mut bytes = BytesMut::new(alloc);
+        let mut bytes = BytesMut::with_capacity(alloc, size_of_round(&parts))?;
         write_round(&parts, &mut bytes)?;
         Ok(Round {
             parts,
@@ -227,10 +249,15 @@ impl Round {
     pub fn begin_acks(&mut self, player: Key)
         ensures { self.new ≡ self.old }
     {
-        self.begun = Some(Begun {
-            player,
-            hash: hash_behind(player, Domain::Ack, &self.bytes),
-        });
+        match &self.begun {
+            Some(begun) if begun.player == player => {}
+            _ => {
+                self.begun = Some(Begun {
+                    player,
+                    hash: hash_behind(player, Domain::Ack, &self.bytes),
+                });
+            }
+        }
     }
 
     /// The hash of a key's marks in a domain, as far as the round goes.
