@@ -20,6 +20,7 @@ use dkg_values::{
 use sha2::Sha256;
 use std::alloc::{AllocError, AllocFailed, Global};
 use std::marker::Model;
+use std::sync::Arc;
 use thiserror::Error;
 
 /// Who deals to whom, after which output, under which name and number.
@@ -43,16 +44,35 @@ struct Begun {
     hash: Sha256,
 }
 
+/// What a round and its copies share: its parts, and their bytes.
+#[derive(Drop)]
+struct Drawn {
+    parts: RoundParts,
+    bytes: BytesMut,
+}
+
+impl Model for Drawn {
+    ghost use Rattle.std.specs.Prelude.{◌≡◌};
+    ghost use Rattle.dkg_ceremony.specs.declared.round.RoundParts.{RoundParts};
+    ghost use Rattle.dkg_ceremony.specs.Rounds.{round_bytes};
+
+    ghost Value = { RoundParts };
+
+    ghost view = { λ d. d.parts };
+
+    ghost invariant = { λ d. d.bytes.items ≡ round_bytes d.parts };
+}
+
 /// A round with its bytes, which contracts see as its parts.
 #[derive(Drop)]
 pub struct Round {
-    parts: RoundParts,
-    bytes: BytesMut,
+    drawn: Arc<Drawn, Global>,
     begun: Option<Begun>,
 }
 
 impl Model for Round {
-    ghost use Rattle.std.specs.Prelude.{◌≡◌, ◌∷◌, [], ◌++◌, IfSome};
+    ghost use Rattle.std.specs.Prelude.{◌∷◌, [], ◌++◌, IfSome};
+    ghost use Rattle.std.specs.Arc.{arc_value};
     ghost use Rattle.std.specs.Int.{w32, to_be_bytes};
     ghost use Rattle.sha2.specs.Hashers.{Holds256};
     ghost use Rattle.dkg_ceremony.specs.declared.round.RoundParts.{RoundParts};
@@ -62,10 +82,9 @@ impl Model for Round {
 
     ghost Value = { RoundParts };
 
-    ghost view = { λ r. r.parts };
+    ghost view = { λ r. arc_value r.drawn };
 
-    ghost invariant = { λ r. (r.bytes.items ≡ round_bytes r.parts)
-        × IfSome r.begun (λ b. Holds256 b.hash (to_be_bytes w32 b.player ++ domain_byte domains.Ack ∷ [] ++ r.bytes.items)) };
+    ghost invariant = { λ r. IfSome r.begun (λ b. Holds256 b.hash (to_be_bytes w32 b.player ++ domain_byte domains.Ack ∷ [] ++ round_bytes (arc_value r.drawn))) };
 }
 
 /// Why no round is drawn up; of several, the first.
@@ -153,17 +172,16 @@ impl Value for RoundParts {
 }
 
 impl Value for Round {
-    /// The copy has hashed nothing.
-    fn copy(&self, alloc: Global) -> Mem<Round> {
+    /// The copy shares the parts and their bytes, and has hashed nothing.
+    fn copy(&self, _alloc: Global) -> Mem<Round> {
         Ok(Round {
-            parts: self.parts.copy(alloc)?,
-            bytes: BytesMut::copy_from_slice(alloc, &self.bytes)?,
+            drawn: Arc::try_clone(&self.drawn)?,
             begun: None,
         })
     }
 
     fn same(&self, other: &Round) -> bool {
-        self.parts.same(&other.parts)
+        self.parts().same(other.parts())
     }
 }
 
@@ -225,8 +243,7 @@ impl Round {
         let mut bytes = BytesMut::with_capacity(alloc, size_of_round(&parts))?;
         write_round(&parts, &mut bytes)?;
         Ok(Round {
-            parts,
-            bytes,
+            drawn: Arc::new(alloc, Drawn { parts, bytes })?,
             begun: None,
         })
     }
@@ -235,14 +252,14 @@ impl Round {
     pub fn parts(&self) -> &RoundParts
         ensures { result.now ≡ self.now }
     {
-        &self.parts
+        &self.drawn.parts
     }
 
     /// Its bytes.
     pub(crate) fn bytes(&self) -> &[u8]
         ensures { result.now ≡ round_bytes self.now }
     {
-        &self.bytes
+        &self.drawn.bytes
     }
 
     /// Hashes what all acknowledgements of a player begin with, so that each of them hashes the rest alone.
@@ -254,7 +271,7 @@ impl Round {
             _ => {
                 self.begun = Some(Begun {
                     player,
-                    hash: hash_behind(player, Domain::Ack, &self.bytes),
+                    hash: hash_behind(player, Domain::Ack, self.bytes()),
                 });
             }
         }
