@@ -34,12 +34,12 @@ use Rattle.dkg_reshare.specs.declared.life.Stage.{Stage}
 use Rattle.dkg_reshare.specs.declared.stop.Stop.{Stop}
 use Rattle.dkg_reshare.specs.declared.stop.Stop.TheVariants.{Fault as Faulted}
 use Rattle.dkg_reshare.specs.Ends.{IsCaused, by_stop, cause_in, ends_in}
-use Rattle.dkg_reshare.specs.Given.{CanRead, GivesBoth, IsIn, ReadsToday}
+use Rattle.dkg_reshare.specs.Given.{CanRead, GivesBoth, IsIn, ReadsPlanless}
 use Rattle.dkg_reshare.specs.LiveOf.{Beside, live_of, stage_of}
 use Rattle.dkg_reshare.specs.Made.{MakesAt, Speaks, Tells}
 use Rattle.dkg_reshare.specs.Moved.{IsFirm}
 use Rattle.dkg_reshare.specs.Steps.{AreBoundsAt, carried_in, reads_secrets}
-use Rattle.dkg_reshare.specs.Today.{seen_today}
+use Rattle.dkg_reshare.specs.Planless.{seen_planless}
 use Rattle.dkg_reshare.proofs.Beginning.{makes_as, tells_as}
 use Rattle.dkg_reshare.proofs.Chained.{early_makes, early_told, then_makes, then_told}
 use Rattle.dkg_reshare.proofs.Speaking.{goes_speaks, stops_speaks, wants_speaks}
@@ -275,14 +275,14 @@ module _ {Dir : Type 0} (c : Fixed Dir) (b : Block Dir) (info : EpochInfo Dir) (
     took_over_told mid how committed told = behind_told how (then_told (commits_both (share, seed)) sets_up_next mid how committed told)
 
 -- What some held shares and seeds give, a read of today can give.
-pub secrets_told : {Dir : Type 0} (c : Fixed Dir) (info : EpochInfo Dir) (share : Option ℕ) (seed : List ℕ) (h : Held) → ReadsToday c → GivesBoth c info share seed h → (out : List Line)
+pub secrets_told : {Dir : Type 0} (c : Fixed Dir) (info : EpochInfo Dir) (share : Option ℕ) (seed : List ℕ) (h : Held) → ReadsPlanless c → GivesBoth c info share seed h → (out : List Line)
     → Tells (reads_secrets c info) (went (share, seed)) out out
 secrets_told c info share seed h reads gives out =
     let given : (setup.recovered_share c (c.seen h) info ≡ share) × (setup.seed_for c info.epoch (lookup info.epoch (c.seen h).seeds) ≡ seed) =
     gives (c.seen h) (ap (λ (seen : Held → Seen). (seen h).shares) reads) (ap (λ (seen : Held → Seen). (seen h).seeds) reads) in
     record { lines = []; added = sym (append-nil out); by = (h, (refl, λ i. (sym given.0 i, sym given.1 i))) }
 
-pub can_read : {Dir : Type 0} (c : Fixed Dir) (h : Held) → ReadsToday c → CanRead c h
+pub can_read : {Dir : Type 0} (c : Fixed Dir) (h : Held) → ReadsPlanless c → CanRead c h
 can_read c h reads = (h, ap (λ (seen : Held → Seen). (seen h).shares) reads, ap (λ (seen : Held → Seen). (seen h).seeds) reads)
 
 -- THE SAME LIFE

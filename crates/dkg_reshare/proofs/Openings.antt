@@ -58,7 +58,7 @@ use Rattle.dkg_reshare.specs.LiveOf.{live_of, no_fence, nothing_beside, records_
 use Rattle.dkg_reshare.specs.Made.{MakesAt, Tells, UnlessBroken}
 use Rattle.dkg_reshare.specs.Moved.{StaysFrom}
 use Rattle.dkg_reshare.specs.Opened.{IsInGrammar, OpensReadable, opens_store, startup_of}
-use Rattle.dkg_reshare.specs.Today.{IsOpeningOfToday, seen_today}
+use Rattle.dkg_reshare.specs.Planless.{IsBareOpening, seen_planless}
 use Rattle.dkg_reshare.proofs.Beginning.{begun_at, begun_live, makes_as, opening_as, recorded, sets_up_over, tells_as}
 use Rattle.dkg_reshare.proofs.Burning.{burns_counted, by_stop_alike, line_makes, makes_early, makes_error, makes_next, makes_under, outside_of_pruning, unless_outside, unless_so}
 use Rattle.dkg_reshare.proofs.Chained.{early_makes, early_told, then_makes, then_told}
@@ -154,7 +154,7 @@ module _ (Dir : Type 0) (life calls : ℕ) {files files_now : Files} {image now 
   where
     -- it failed
     pub store_failed : (e : StoreError) → IsOfDevices e → MadeAt (calls_of.opening None calls None) (by_error e) files image files_now now old new
-        → MakesAt (on_devices (opens_store {Dir = Dir} seen_today life calls)) (by_stop (stop_of e)) files image files_now now old new
+        → MakesAt (on_devices (opens_store {Dir = Dir} seen_planless life calls)) (by_stop (stop_of e)) files image files_now now old new
     store_failed e kind opened =
         makes_early (tells_line life) (stop_of e) (makes_error e kind opened counts.call counts.pick)
 
@@ -162,7 +162,7 @@ module _ (Dir : Type 0) (life calls : ℕ) {files files_now : Files} {image now 
     pub store_opened : (g : Pairs × Notes (List ℕ) × Notes RecordedLog) → MadeAt (calls_of.opening None calls None) (went g) files image files_now now old new → (Reached old.fuse new.fuse → ⊥)
         → (result : Result (Unit {0}) Stop) {out : List Line} → OnOk result (out ≡ new.out ++ Opened life (restored_list g.0) ∷ []) → OnErr result (out ≡ new.out)
         → IfErr result (λ stop. stop ≡ Faulted fault.NoMemory)
-        → MakesAt (on_devices (opens_store {Dir = Dir} seen_today life calls)) (ends_in (recorded g) result) files image files_now now old (acts_of.moment out new.secrets new.fuse)
+        → MakesAt (on_devices (opens_store {Dir = Dir} seen_planless life calls)) (ends_in (recorded g) result) files image files_now now old (acts_of.moment out new.secrets new.fuse)
     store_opened g opened uncut result {out} told untold memory =
         makes_next (tells_line life) (makes_under (went g) opened (burns_counted (went g) counts uncut))
         (line_makes (Opened life (restored_list g.0)) (recorded g) result files_now now new.secrets new.fuse told untold memory)
@@ -255,7 +255,7 @@ module _ {Dir F S : Type 0} (course : Course Dir F S) where
 
 -- AN OPENING OF A LIFE
 
-module _ {Dir : Type 0} (c : Fixed Dir) (today : IsOpeningOfToday c) (unplanned : (h : Held) → (c.seen h).plan ≡ None) (seen : Held → Seen) (reads : c.seen ≡ seen) (number calls : ℕ) (life_is : c.life ≡ number) (calls_are : c.opening_calls ≡ calls) where
+module _ {Dir : Type 0} (c : Fixed Dir) (today : IsBareOpening c) (unplanned : (h : Held) → (c.seen h).plan ≡ None) (seen : Held → Seen) (reads : c.seen ≡ seen) (number calls : ℕ) (life_is : c.life ≡ number) (calls_are : c.opening_calls ≡ calls) where
   store_first : opening c ≡ bind (opens_store seen number calls) (sets_up_over c)
   store_first = opening_as c today.reshare today.bare unplanned ∙ (λ i. bind (opens_store (reads i) (life_is i) (calls_are i)) (sets_up_over c))
 
@@ -322,7 +322,7 @@ can_read s h c = (h, refl, refl)
 
 -- behind the store's opening
 pub store_agrees : (Dir : Type 0) (life calls : ℕ) (r : Records) {files files_now : Files} {image now : Files → Type 0} {old new : Moment}
-    → MakesAt (on_devices (opens_store {Dir = Dir} seen_today life calls)) (went r) files image files_now now old new → now files_now → Stands files image → IsWhole (entries files) old.secrets
+    → MakesAt (on_devices (opens_store {Dir = Dir} seen_planless life calls)) (went r) files image files_now now old new → now files_now → Stands files image → IsWhole (entries files) old.secrets
     → AreAgreed r (held_in files_now new.secrets)
 store_agrees Dir life calls r {files} {old = old} it here stands whole =
     let done = it.made.made stands _ here in

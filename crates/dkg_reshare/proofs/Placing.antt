@@ -30,9 +30,9 @@ use Rattle.dkg_reshare.specs.declared.config.Terms.{Terms}
 use Rattle.dkg_reshare.specs.Actors.{IsReadyLife, IsSetUp}
 use Rattle.dkg_reshare.specs.LiveOf.{Beside, IsDealing, IsPlaced, IsSeated, IsWithin, awaited_of, live_of}
 use Rattle.dkg_reshare.specs.Moved.{IsFirm}
-use Rattle.dkg_reshare.specs.Given.{IsIn, IsLent, IsOf, ReadsToday}
+use Rattle.dkg_reshare.specs.Given.{IsIn, IsLent, IsOf, ReadsPlanless}
 use Rattle.dkg_reshare.specs.Rules.{AckOf, BearsAckOf, CheckAckOf, DealOf, DealingOf, IsRuledBy, PartialPublicOf, RoundOf, SharePublicOf, SignLogOf}
-use Rattle.dkg_reshare.specs.Today.{seen_today}
+use Rattle.dkg_reshare.specs.Planless.{seen_planless}
 use Rattle.dkg_values.specs.declared.codec.CodecError.TheVariants.{EndOfBuffer}
 use Rattle.dkg_reshare.specs.Steps.{AreBoundsAt, StandsIn, stage_in}
 use Rattle.dkg_reshare.proofs.Beginning.{out_of_range, sets_up_as}
@@ -266,7 +266,7 @@ any_fixed terms source word rules directory = record {
   rules = rules;
   directories = record { spelling = λ d. []; read = λ peers bytes. Err EndOfBuffer; matches = λ d peers. false; lacking = λ d peers. None };
   provided = record { participants = λ epoch. []; directory = λ epoch peers. directory };
-  seen = seen_today;
+  seen = seen_planless;
   inner = record { prepared = λ b payload. None; proposed = λ b payload. None; accepts = λ blocks. false };
   probed = record { snapshot = None; certifies = λ f. false };
   life = 0;
@@ -292,7 +292,7 @@ module _ {Dir : Type 0} (terms : Terms) (source : Source Dir) (word : ℕ) (rule
   unfolding any_fixed
   any_in = record { of = any_of; word_is = refl }
 
-  pub any_reads : ReadsToday its
+  pub any_reads : ReadsPlanless its
   unfolding any_fixed
   any_reads = refl
 

@@ -28,11 +28,11 @@ use Rattle.dkg_core.specs.Fixed.{Fixed}
 use Rattle.dkg_core.specs.Seen.{Seen}
 use Rattle.dkg_core.specs.Setup as setup
 use Rattle.dkg_reshare.specs.Ends.{by_stop, stop_of}
-use Rattle.dkg_reshare.specs.Given.{GivesBoth, GivesShare, ReadsToday}
+use Rattle.dkg_reshare.specs.Given.{GivesBoth, GivesShare, ReadsPlanless}
 use Rattle.dkg_reshare.specs.Made.{MakesAt}
 use Rattle.dkg_reshare.specs.Rules.{PartialPublicOf, SharePublicOf}
 use Rattle.dkg_reshare.specs.Steps.{reads_secrets}
-use Rattle.dkg_reshare.specs.Today.{seen_today}
+use Rattle.dkg_reshare.specs.Planless.{seen_planless}
 use Rattle.dkg_reshare.proofs.Burning.{burns_still}
 use Rattle.dkg_reshare.proofs.Newest.{newest_is, newest_none}
 use Rattle.dkg_reshare.proofs.Setting.{looked_up}
@@ -166,7 +166,7 @@ module _ {Dir : Type 0} (c : Fixed Dir) (info : EpochInfo Dir) (share : Option �
   abbrev both_in : Held → Option ℕ × List ℕ
   both_in h = (setup.recovered_share c (c.seen h) info, setup.seed_for c info.epoch (lookup info.epoch (c.seen h).seeds))
 
-  pub both_read : {D : Type 0} (files : D → Files) (image : D → Files → Type 0) → ReadsToday c
+  pub both_read : {D : Type 0} (files : D → Files) (image : D → Files → Type 0) → ReadsPlanless c
       → {old new : D} {out : List Line} {s t : Secrets} {f g : Burn} → new ≡ old → t ≡ s → g ≡ f
       → ((seen : Seen) → seen.shares ≡ maps.entries s.shares → setup.recovered_share c seen info ≡ share) → setup.seed_for c info.epoch (get s.seeds info.epoch) ≡ seed
       → MakesAt (on_devices (reads_secrets c info)) (went (share, seed)) (files old) (image old) (files new) (image new) (moment out s f) (moment out t g)

@@ -19,7 +19,7 @@ use Rattle.dkg_values.specs.Rising.{lookup}
 use Rattle.dkg_core.specs.Sources.{Source}
 use Rattle.dkg_reshare.specs.declared.config.Terms.{Terms}
 use Rattle.dkg_reshare.specs.Rules.{PartialPublicOf, SharePublicOf, SharesBy}
-use Rattle.dkg_reshare.specs.Today.{seen_today}
+use Rattle.dkg_reshare.specs.Planless.{seen_planless}
 
 -- It has these terms, and no plan is read. The rules are a premise of their own (see Rules), and so is what else is read.
 pub record IsOf {Dir : Type 0} (terms : Terms) (c : Fixed Dir) : Type 0 where
@@ -46,8 +46,8 @@ pub record IsLent {Dir : Type 0} (terms : Terms) (source : Source Dir) (word : �
   pub word_is : c.word ≡ word
 
 -- What is read is what the devices hold, but for the plan.
-abbrev pub ReadsToday : {Dir : Type 0} → Fixed Dir → Type 0
-ReadsToday c = c.seen ≡ seen_today
+abbrev pub ReadsPlanless : {Dir : Type 0} → Fixed Dir → Type 0
+ReadsPlanless c = c.seen ≡ seen_planless
 
 -- the same, of which each read gives this
 abbrev pub reading : {Dir : Type 0} → Seen → Fixed Dir → Fixed Dir

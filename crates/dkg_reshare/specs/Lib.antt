@@ -11,4 +11,4 @@ pub mod Moved
 pub mod Opened
 pub mod Rules
 pub mod Steps
-pub mod Today
+pub mod Planless

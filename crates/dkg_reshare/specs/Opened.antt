@@ -22,8 +22,8 @@ use Rattle.dkg_core.specs.Live.{Records}
 use Rattle.dkg_core.specs.Sources.{Source, Tip, startup}
 use Rattle.dkg_reshare.specs.declared.config.Terms.{Terms}
 use Rattle.dkg_reshare.specs.declared.stop.Stop.{Stop}
-use Rattle.dkg_reshare.specs.Given.{IsLent, ReadsToday}
-use Rattle.dkg_reshare.specs.Today.{IsOpeningOfToday}
+use Rattle.dkg_reshare.specs.Given.{IsLent, ReadsPlanless}
+use Rattle.dkg_reshare.specs.Planless.{IsBareOpening}
 
 -- Every record is whole, and every body an event within the limit. (Where one isn't, the journal is not opened: `corrupt` says which.)
 pub record IsInGrammar (limit : ℕ) (files : Files) : Type 0 where
@@ -51,8 +51,8 @@ epoch_at source terms = epoch_above terms (startup_of source)
 -- A Fixed of an opening of today, over files in their grammar, whose opening makes as many mending calls as the Fixed says.
 pub record IsOpeningOf {Dir : Type 0} (terms : Terms) (source : Source Dir) (life word : ℕ) (files : Files) (c : Fixed Dir) : Type 0 where
   pub lent : IsLent terms source word c
-  pub today : IsOpeningOfToday c
-  pub reads : ReadsToday c
+  pub today : IsBareOpening c
+  pub reads : ReadsPlanless c
   pub life_is : c.life ≡ life
   pub calls_are : c.opening_calls ≡ length (open_calls files)
   pub grammar : IsInGrammar c.limit files

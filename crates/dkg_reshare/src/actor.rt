@@ -9,13 +9,13 @@ ghost use Rattle.dkg_core.specs.Fixed.{Fixed};
 ghost use Rattle.dkg_reshare.specs.Actors.{AreTerms, EndsAt, FailsStop, IfLiving, IsAgreed, IsAt, IsFoundAt, IsNew, IsReadyLife, IsSoundAt, IsTaken, lives, message_of};
 ghost use Rattle.dkg_reshare.specs.Configured.{config_fault};
 ghost use Rattle.dkg_reshare.specs.Ends.{IsCausedBy, IsCausedInStep, ends, ends_in};
-ghost use Rattle.dkg_reshare.specs.Given.{AreGivenFrom, HasRead, IsIn, IsLent, ReadsToday, reading};
+ghost use Rattle.dkg_reshare.specs.Given.{AreGivenFrom, HasRead, IsIn, IsLent, ReadsPlanless, reading};
 ghost use Rattle.dkg_reshare.specs.LiveOf.{Beside, EndsBeside, Took, live_of, no_fence, nothing_beside};
 ghost use Rattle.dkg_reshare.specs.Made.{Makes, Tells, UnlessBroken};
 ghost use Rattle.dkg_reshare.specs.Moved.{Moved, StaysAbove};
 ghost use Rattle.dkg_reshare.specs.Opened.{IsInGrammar, IsOpeningOf, OpensReadable, epoch_at};
 ghost use Rattle.dkg_reshare.specs.Rules.{IsRuledBy};
-ghost use Rattle.dkg_reshare.specs.Today.{IsOpeningOfToday};
+ghost use Rattle.dkg_reshare.specs.Planless.{IsBareOpening};
 
 use crate::blocks::take_block;
 use crate::config::{Config, Terms, check_config};
@@ -71,12 +71,12 @@ fn take<C: Ceremony, R: Registrar, Dir: Directory + Drop, D: Disk, X: SecretStor
     requires ready { IsReadyLife D.tells D.files D.image C.ack_of C.deal_of C.check_ack_of terms.now life.old devices.old }
     ensures ready { OnOk result (IsReadyLife D.tells D.files D.image C.ack_of C.deal_of C.check_ack_of terms.now life.new devices.new) }
     ensures word { life.new.word ≡ life.old.word }
-    ensures acts { IsTrue D.tells → IsTrue X.tells → (c : Fixed Dir) (beside : Beside Dir) → IsIn terms.now life.old.word c → ReadsToday c
+    ensures acts { IsTrue D.tells → IsTrue X.tells → (c : Fixed Dir) (beside : Beside Dir) → IsIn terms.now life.old.word c → ReadsPlanless c
         → IsRuledBy C.round_of C.deal_of C.dealing_of C.ack_of C.check_ack_of C.sign_log_of C.bears_ack_of C.share_public_of C.partial_public_of c.rules
         → EndsBeside beside (λ more. OnOk result (Took R.tells (R.taken registrar.old) (R.taken registrar.new) more))
         (λ now. Makes D.files D.image X.held (step c (message_of message) (live_of beside fence.old life.old)) (ends_in (live_of now fence.new life.new) result)
         devices.old devices.new out.old.entries out.new.entries) }
-    ensures tells { (c : Fixed Dir) (beside : Beside Dir) → IsIn terms.now life.old.word c → ReadsToday c
+    ensures tells { (c : Fixed Dir) (beside : Beside Dir) → IsIn terms.now life.old.word c → ReadsPlanless c
         → IsRuledBy C.round_of C.deal_of C.dealing_of C.ack_of C.check_ack_of C.sign_log_of C.bears_ack_of C.share_public_of C.partial_public_of c.rules
         → EndsBeside beside (λ more. OnOk result (Took R.tells (R.taken registrar.old) (R.taken registrar.new) more))
         (λ now. Tells (step c (message_of message) (live_of beside fence.old life.old)) (ends_in (live_of now fence.new life.new) result)
@@ -169,7 +169,7 @@ impl<C: Ceremony, P, R: Registrar, M, Dir: Directory + Drop> Actor<C, P, R, M, D
             (λ now. Makes D.files D.image X.held (opening c) (lives (live_of now fence.new) self.new.state result)
             devices.old devices.new out.old.entries out.new.entries) }
         // Whatever the devices tell, its lines are those of an opening that has read something: where they tell, dealings that each image gives back.
-        ensures tells { (c : Fixed Dir) → IsLent self.old.terms (B.answers source.now) word c → c.life ≡ life → IsOpeningOfToday c
+        ensures tells { (c : Fixed Dir) → IsLent self.old.terms (B.answers source.now) word c → c.life ≡ life → IsBareOpening c
             → IsRuledBy C.round_of C.deal_of C.dealing_of C.ack_of C.check_ack_of C.sign_log_of C.bears_ack_of C.share_public_of C.partial_public_of c.rules → fence.old ≡ no_fence
             → HasRead (λ s. UnlessBroken (ends (λ done. done) result) (IsTrue D.tells → IsTrue X.tells
             → AreGivenFrom (epoch_at (B.answers source.now) self.old.terms - 1) s.dealings (D.image devices.new.disk.now) (X.held devices.new.secrets.now)))
@@ -231,12 +231,12 @@ impl<C: Ceremony, P, R: Registrar, M, Dir: Directory + Drop> Actor<C, P, R, M, D
         requires taken { IfLiving self.old.state (λ life. IsTaken (non_zero_u64_get self.old.terms.blocks_per_epoch) life message) }
         // It is the relation's step, and each act was made, whatever image a crash leaves.
         ensures acts { IsTrue D.tells → IsTrue X.tells → (c : Fixed Dir) (beside : Beside Dir) → IfLiving self.old.state (λ old. IsIn self.old.terms old.word c
-            → ReadsToday c → IsRuledBy C.round_of C.deal_of C.dealing_of C.ack_of C.check_ack_of C.sign_log_of C.bears_ack_of C.share_public_of C.partial_public_of c.rules
+            → ReadsPlanless c → IsRuledBy C.round_of C.deal_of C.dealing_of C.ack_of C.check_ack_of C.sign_log_of C.bears_ack_of C.share_public_of C.partial_public_of c.rules
             → EndsBeside beside (λ more. OnOk result (Took R.tells (R.taken self.old.registrar) (R.taken self.new.registrar) more))
             (λ now. Makes D.files D.image X.held (step c (message_of message) (live_of beside fence.old old))
             (lives (live_of now fence.new) self.new.state result) devices.old devices.new out.old.entries out.new.entries)) }
         ensures tells { (c : Fixed Dir) (beside : Beside Dir) → IfLiving self.old.state (λ old. IsIn self.old.terms old.word c
-            → ReadsToday c → IsRuledBy C.round_of C.deal_of C.dealing_of C.ack_of C.check_ack_of C.sign_log_of C.bears_ack_of C.share_public_of C.partial_public_of c.rules
+            → ReadsPlanless c → IsRuledBy C.round_of C.deal_of C.dealing_of C.ack_of C.check_ack_of C.sign_log_of C.bears_ack_of C.share_public_of C.partial_public_of c.rules
             → EndsBeside beside (λ more. OnOk result (Took R.tells (R.taken self.old.registrar) (R.taken self.new.registrar) more))
             (λ now. Tells (step c (message_of message) (live_of beside fence.old old))
             (lives (live_of now fence.new) self.new.state result) out.old.entries out.new.entries)) }

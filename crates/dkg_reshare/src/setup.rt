@@ -27,7 +27,7 @@ ghost use Rattle.dkg_core.specs.Live as live;
 ghost use Rattle.dkg_core.specs.Setup as setup;
 ghost use Rattle.dkg_reshare.specs.Actors.{IsReadyLife, IsSetUp};
 ghost use Rattle.dkg_reshare.specs.Ends.{IsCaused, IsCausedBy, IsOutside, by_stop, ends, ends_in};
-ghost use Rattle.dkg_reshare.specs.Given.{CanRead, GivesBoth, GivesShare, IsIn, IsLent, IsOf, ReadsToday};
+ghost use Rattle.dkg_reshare.specs.Given.{CanRead, GivesBoth, GivesShare, IsIn, IsLent, IsOf, ReadsPlanless};
 ghost use Rattle.dkg_reshare.specs.LiveOf.{Beside, DealsFor, EndsBeside, IsDealing, IsSeated, IsToSign, IsWithin, SitsIn, Took, awaited_of, dealer_of, live_of, records_of, scheme_by, seat_of, with_scheme_of};
 ghost use Rattle.dkg_reshare.specs.Made.{Makes, Speaks, Tells, UnlessBroken};
 ghost use Rattle.dkg_reshare.specs.Moved.{IsFirm, Moved, StaysAbove, StaysFrom, StaysWhole};
@@ -177,7 +177,7 @@ pub(crate) fn secrets_of<C: Ceremony, Dir: Directory + Drop, D: Disk, X: SecretS
     ensures disk { devices.new.disk.now ≡ devices.old.disk.now }
     ensures same { X.held devices.new.secrets.now ≡ X.held devices.old.secrets.now }
     ensures acts { IsTrue D.tells → IsTrue X.tells → (c : Fixed Dir) → c.me ≡ me → c.word ≡ life.old.word
-        → SharesBy C.share_public_of C.partial_public_of c.rules → ReadsToday c → (out : List Line)
+        → SharesBy C.share_public_of C.partial_public_of c.rules → ReadsPlanless c → (out : List Line)
         → Makes D.files D.image X.held (reads_secrets c info.now) (ends (λ it. (it.share, it.seed)) result) devices.old devices.new out out }
     // Whatever the devices tell, these are what some stored shares and seeds come to; and where nothing is read, nothing is said.
     ensures read { IfOk result (λ it. (h : Held) × ((c : Fixed Dir) → c.me ≡ me → c.word ≡ life.old.word
@@ -630,7 +630,7 @@ fn set_up_by<C: Ceremony, R: Registrar, Dir: Directory + Drop, D: Disk, X: Secre
     requires open { IsTrue D.tells → IsFirm life.old.store.journal (D.files devices.old.disk.now) (D.image devices.old.disk.now) }
     ensures done { OnOk result (IsSetUp D.tells D.files D.image C.ack_of C.deal_of C.check_ack_of terms.now.me (non_zero_u32_get terms.now.limit) phase life.new devices.new) }
     ensures rest { life.new ≡ record life.old { store = life.new.store; stage = life.new.stage; round = life.new.round; dealer = life.new.dealer; player = life.new.player } }
-    ensures acts { IsTrue D.tells → IsTrue X.tells → (c : Fixed Dir) (beside : Beside Dir) → IsIn terms.now life.old.word c → ReadsToday c
+    ensures acts { IsTrue D.tells → IsTrue X.tells → (c : Fixed Dir) (beside : Beside Dir) → IsIn terms.now life.old.word c → ReadsPlanless c
         → IsRuledBy C.round_of C.deal_of C.dealing_of C.ack_of C.check_ack_of C.sign_log_of C.bears_ack_of C.share_public_of C.partial_public_of c.rules → StandsIn c (live_of beside fence.old life.old) phase
         → EndsBeside beside (λ more. OnOk result (Took R.tells (R.taken registrar.old) (R.taken registrar.new) more))
         (λ now. Makes D.files D.image X.held (setup.with_info c None (standing_of standing) info.now (live_of beside fence.old life.old)) (ends_in (live_of now fence.new life.new) result)
@@ -733,7 +733,7 @@ pub(crate) fn set_up<
     requires uncommitted { life.old.store.current ≡ None }
     ensures ready { OnOk result (IsReadyLife D.tells D.files D.image C.ack_of C.deal_of C.check_ack_of terms.now life.new devices.new) }
     ensures word { life.new.word ≡ life.old.word }
-    ensures acts { IsTrue D.tells → IsTrue X.tells → (c : Fixed Dir) (beside : Beside Dir) → IsLent terms.now (B.answers source.now) life.old.word c → ReadsToday c
+    ensures acts { IsTrue D.tells → IsTrue X.tells → (c : Fixed Dir) (beside : Beside Dir) → IsLent terms.now (B.answers source.now) life.old.word c → ReadsPlanless c
         → IsRuledBy C.round_of C.deal_of C.dealing_of C.ack_of C.check_ack_of C.sign_log_of C.bears_ack_of C.share_public_of C.partial_public_of c.rules
         → EndsBeside beside (λ more. OnOk result (Took R.tells (R.taken registrar.old) (R.taken registrar.new) more))
         (λ now. Makes D.files D.image X.held (setup.setup c None (live_of beside fence.old life.old)) (ends_in (live_of now fence.new life.new) result)
@@ -806,7 +806,7 @@ pub(crate) fn set_up_committed<
     requires awaited { info.now.epoch ≡ epoch_above terms.now life.old.tip }
     ensures ready { OnOk result (IsReadyLife D.tells D.files D.image C.ack_of C.deal_of C.check_ack_of terms.now life.new devices.new) }
     ensures word { life.new.word ≡ life.old.word }
-    ensures acts { IsTrue D.tells → IsTrue X.tells → (c : Fixed Dir) (beside : Beside Dir) → IsIn terms.now life.old.word c → ReadsToday c
+    ensures acts { IsTrue D.tells → IsTrue X.tells → (c : Fixed Dir) (beside : Beside Dir) → IsIn terms.now life.old.word c → ReadsPlanless c
         → IsRuledBy C.round_of C.deal_of C.dealing_of C.ack_of C.check_ack_of C.sign_log_of C.bears_ack_of C.share_public_of C.partial_public_of c.rules
         → EndsBeside beside (λ more. OnOk result (Took R.tells (R.taken registrar.old) (R.taken registrar.new) more))
         (λ now. Makes D.files D.image X.held (setup.setup c None (live_of beside fence.old life.old)) (ends_in (live_of now fence.new life.new) result)

@@ -25,21 +25,21 @@ use Rattle.dkg_run.specs.GivesBack.{StaysValid}
 use Rattle.dkg_run.specs.Lives.{RunsOver, never}
 use Rattle.dkg_run.specs.Over.{Over}
 use Rattle.dkg_run.specs.Promised.{DoesRun}
-use Rattle.dkg_run.proofs.Checked.{anchor_over, long_epochs, supported_mode}
+use Rattle.dkg_run.proofs.Checked.{anchor_above, long_epochs, supported_mode}
 use Rattle.dkg_run.proofs.CutLives.{worlds_cut}
-use Rattle.dkg_run.proofs.DealingsOver.{answers_dealings, keeps_dealings}
+use Rattle.dkg_run.proofs.Dealings.{answers_dealings, keeps_dealings}
 use Rattle.dkg_run.proofs.EachLife.{worlds_over}
 use Rattle.dkg_run.proofs.GivingLives.{run_keeps_plan}
-use Rattle.dkg_run.proofs.GivingOver.{stays_valid}
+use Rattle.dkg_run.proofs.GivingValid.{stays_valid}
 use Rattle.dkg_run.proofs.GivingWhole.{stays_whole}
-use Rattle.dkg_run.proofs.KeepingOver.{IsBuiltOver}
+use Rattle.dkg_run.proofs.Keeping.{IsBuiltSetting}
 use Rattle.dkg_run.proofs.OfferingSame.{offers_the_same}
 use Rattle.dkg_run.proofs.PlanlessReads.{planless_records, planless_secrets}
 
-pub built_over : (script : Script) (files : Files) (secrets : Secrets) → IsFormOfEpochs script → IsChecked script → AreBytes script.blocks → get files Plan ≡ None → IsBuiltOver (setting_of script files secrets)
-built_over script files secrets form checked bytes no_plan = record {
+pub built_setting : (script : Script) (files : Files) (secrets : Secrets) → IsFormOfEpochs script → IsChecked script → AreBytes script.blocks → get files Plan ≡ None → IsBuiltSetting (setting_of script files secrets)
+built_setting script files secrets form checked bytes no_plan = record {
   form = form;
-  anchored = λ l life is. anchor_over script.blocks life.anchor (form.lives l life is).anchor;
+  anchored = λ l life is. anchor_above script.blocks life.anchor (form.lives l life is).anchor;
   supported = supported_mode script checked;
   long = long_epochs script checked;
   no_plan = no_plan;
@@ -74,12 +74,12 @@ module _ (script : Script) (form : IsFormOfEpochs script) (checked : IsChecked s
   pub begun_keeps : o.tells → KeepsDealings script o.before.files o.before.held o.before.image o.now.image o.now.held added
   begun_keeps told built honest =
       keeps_dealings script o.before.files o.before.image o.before.held o.now.image o.now.held answered old new added is (runs told) (itself (disk_of told)) o.now.files (left (disk_of told))
-      (built_over script o.before.files o.before.held form checked bytes built.no_plan) cut_form honest
+      (built_setting script o.before.files o.before.held form checked bytes built.no_plan) cut_form honest
 
   pub begun_answers : RunsAll cut_script added → o.tells → AnswersDealings script o.before.files o.before.held o.before.image added
   begun_answers all told built honest =
       answers_dealings script o.before.files o.before.image o.before.held o.now.image o.now.held answered old new added is (runs told) (itself (disk_of told)) o.now.files (left (disk_of told))
-      (built_over script o.before.files o.before.held form checked bytes built.no_plan) cut_form all honest
+      (built_setting script o.before.files o.before.held form checked bytes built.no_plan) cut_form all honest
 
   -- OFFERS
 

@@ -34,13 +34,13 @@ use Rattle.dkg_core.specs.Endings.{first_block, first_epoch}
 use Rattle.dkg_core.proofs.Openings.{node_openings_lead_over}
 use Rattle.dkg_core.proofs.Stepping.{node_steps_lead_over}
 use Rattle.dkg_run.specs.Blamed.{per_epoch}
-use Rattle.dkg_run.specs.Epochs.{IsAt, IsLifeOver, awaited_by, epoch_by}
-use Rattle.dkg_run.specs.FoundOver.{IsBegunBy, IsDealtBy}
+use Rattle.dkg_run.specs.Epochs.{IsAt, IsLifeInForm, awaited_by, epoch_by}
+use Rattle.dkg_run.specs.Found.{IsBegunBy, IsDealtBy}
 use Rattle.dkg_run.specs.Given.{Lived, at_step, blocks_in, step_of}
 use Rattle.dkg_run.proofs.Awaiting.{HasHeight, IsReached, block_behind, has_height}
 use Rattle.dkg_run.proofs.Delivered.{epochs_rise}
 use Rattle.dkg_run.proofs.Drawn.{found_number}
-use Rattle.dkg_run.proofs.Former.{Brings, IsMadeOf, IsMessage, event_in_form, form_over, is_ceremony, lacks_nobody, live_at, message_in}
+use Rattle.dkg_run.proofs.Former.{Brings, IsMadeOf, IsMessage, event_in_form, form_at, is_ceremony, lacks_nobody, live_at, message_in}
 use Rattle.dkg_run.proofs.NextLives.{GoesOn, TakesOver, next_so, with_round}
 use Rattle.dkg_run.proofs.OpeningsStore.{steps_upkeep}
 use Rattle.dkg_run.proofs.Started.{source_is}
@@ -96,7 +96,7 @@ module _ (g : Lived) (taken : ℕ) (st : Live directory.Unit) (h : Held) (drawn 
 
 -- A LIFE
 
-module _ (g : Lived) (here : IsLifeOver g) where
+module _ (g : Lived) (here : IsLifeInForm g) where
   me_is : (taken : ℕ) → (at_step g taken).me ≡ g.script.config.me
   unfolding at_step
   me_is taken = refl
@@ -156,7 +156,7 @@ module _ (g : Lived) (here : IsLifeOver g) where
   pub opening_deals : (st : Live directory.Unit) (w new : World) → EndsSo (node_opening (at_step g 0)) (went st) w new → HasDrawn g.script st × DealsStored g.script.config.me st new.held
   opening_deals st w new run =
       let k : Held = held_behind (at_step g 0) w.held in
-      let led : IsNodeBegun (at_step g 0) ((at_step g 0).seen k) k st × LeavesHeld (at_step g 0) k new.held (first_block (at_step g 0)) = node_openings_lead_over (at_step g 0) (went st) w new (form_over g here 0) (lacks_nobody g 0) run in (
+      let led : IsNodeBegun (at_step g 0) ((at_step g 0).seen k) k st × LeavesHeld (at_step g 0) k new.held (first_block (at_step g 0)) = node_openings_lead_over (at_step g 0) (went st) w new (form_at g here 0) (lacks_nobody g 0) run in (
         begun_drawn ((at_step g 0).seen k) k st led.0,
         subst (λ (n : ℕ). DealsStored n st new.held) (me_is 0) (begun_stored (at_step g 0) (rules_at 0) ((at_step g 0).seen k) k new.held st led.0 led.1),
       )
@@ -232,10 +232,10 @@ module _ (g : Lived) (here : IsLifeOver g) where
         = subst (λ (course : Course directory.Unit NodeStop (Live directory.Unit)). EndsSo course (went end) w new) (m.course (suc i) st) run in
         let k : Held = held_at_setup (at_step g (suc i)) m.message w.held in
         let led : IsNextIn (at_step g (suc i)) st m.message w.held k end × IsActiveIn end × LeavesTaken (at_step g (suc i)) st m.message k new.held
-        = node_steps_lead_over (at_step g (suc i)) st m.message (went end) w new (form_over g here (suc i)) taken live at.active run_here in
+        = node_steps_lead_over (at_step g (suc i)) st m.message (went end) w new (form_at g here (suc i)) taken live at.active run_here in
         let stands = step_stands g here i its is reached m st live at.stands w.held k end led.0 in
         let kept : KeepsSeeds (epoch_by g (suc i) - 1) w.held new × KeepsShares (epoch_by g (suc i) - 1) w.held new
-        = steps_upkeep (at_step g (suc i)) reads (epoch_by g (suc i) - 1) w (form_over g here (suc i)) st live m.message (went end) new taken reach_low run_here in
+        = steps_upkeep (at_step g (suc i)) reads (epoch_by g (suc i) - 1) w (form_at g here (suc i)) st live m.message (went end) new taken reach_low run_here in
         let low : (round : Round) → end.participation.round ≡ Some round → epoch_by g (suc i) - 1 ≤ round.number
         = λ round of. upto round.number (epoch_by g (suc i)) ((led.0).live.numbered round of ∙ stands.epoch (with_round (at_step g (suc i)) end round (led.0).live of)) in (
           next_drawn w.held k end led.0 drawn,

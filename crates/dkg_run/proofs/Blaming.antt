@@ -46,14 +46,14 @@ use Rattle.dkg_reshare.specs.Ends.{by_fault}
 use Rattle.dkg_run.specs.Blamed.{BlamesSo, IsBlamedSo, IsBlockCause, IsBlockOwn, IsClear, IsFromOutside, IsWhy, IsWhyNow, OnBlock, tip_in, tip_over}
 use Rattle.dkg_run.specs.Causes.{IfFault}
 use Rattle.dkg_run.specs.Ended.{by_node_stop}
-use Rattle.dkg_run.specs.Epochs.{IsAt, IsChecked, IsLifeOver}
+use Rattle.dkg_run.specs.Epochs.{IsAt, IsChecked, IsLifeInForm}
 use Rattle.dkg_run.specs.Given.{Lived, anchor_in, at_step, blocks_in, lived, step_of}
 use Rattle.dkg_run.specs.Lives.{LivesSo, RunsAllSo, RunsSo, Steps, TakesAll, TellsEnd, fuse_for}
 use Rattle.dkg_run.specs.Ways.{ReadsSomething, Trace, by_lines}
 use Rattle.dkg_run.proofs.Awaiting.{IsBefore as IsUncut, IsReached, before_all, one_more, reached_lit}
 use Rattle.dkg_run.proofs.Causing.{block_cause, block_clear, opening_cause, opening_clear}
 use Rattle.dkg_run.proofs.Following.{EndsBy, RunEndsBy, all_move, item_at, rest_at}
-use Rattle.dkg_run.proofs.Former.{Brings, IsMessage, event_in_form, form_over, lacks_nobody, live_at, message_in}
+use Rattle.dkg_run.proofs.Former.{Brings, IsMessage, event_in_form, form_at, lacks_nobody, live_at, message_in}
 use Rattle.dkg_run.proofs.InPlace.{begins, cut_before, cut_within, moves_cut, moves_step}
 use Rattle.dkg_run.proofs.LivesStand.{before_suc}
 use Rattle.dkg_run.proofs.NextLives.{next_tip}
@@ -84,7 +84,7 @@ at_there P o x is so = subst (λ (o : Option _). IsSomeAnd o P) is so
 
 -- A LIFE, step by step
 
-module _ (g : Lived) (here : IsLifeOver g) where
+module _ (g : Lived) (here : IsLifeInForm g) where
   abbrev pub Why : (step : ℕ) → Fault → Type 0
   Why step its = IsWhy g.script g.number g.life step its
 
@@ -116,7 +116,7 @@ module _ (g : Lived) (here : IsLifeOver g) where
   }
 
   opening_comes : (ended : Ended NodeStop (Live directory.Unit)) (out now : List Entry) → Said (on_devices (node_opening (at_step g 0))) ended out now → Came (Why 0) (λ end. Stood 0 end × Clear 0) ended
-  opening_comes ended out now said = by_end ended (node_openings_lead (at_step g 0) ended out now (form_over g here 0) (lacks_nobody g 0) said)
+  opening_comes ended out now said = by_end ended (node_openings_lead (at_step g 0) ended out now (form_at g here 0) (lacks_nobody g 0) said)
     where
       by_end : (ended : Ended NodeStop (Live directory.Unit))
           → CameTo (λ stop. (own : Fault) × (stop ≡ Faulted own) × ((h k : Held) × IsOpeningStop (at_step g 0) ((at_step g 0).seen h) k own)) (λ st. (h k : Held) × IsNodeBegun (at_step g 0) ((at_step g 0).seen h) k st) ended
@@ -186,7 +186,7 @@ module _ (g : Lived) (here : IsLifeOver g) where
 
     step_comes : (ended : Ended NodeStop (Live directory.Unit)) (out now : List Entry) → Said (on_devices (step_of g (suc i) e st)) ended out now → Came (Why (suc i)) (λ end. Stood (suc i) end × Clear (suc i)) ended
     step_comes ended out now said =
-        by_end ended (node_steps_lead (at_step g (suc i)) st m.message ended out now (form_over g here (suc i)) (step_taken g here i e e_is reached m st its_live (stood.at).stands) its_live (stood.at).active
+        by_end ended (node_steps_lead (at_step g (suc i)) st m.message ended out now (form_at g here (suc i)) (step_taken g here i e e_is reached m st its_live (stood.at).stands) its_live (stood.at).active
         (subst (λ (k : Course directory.Unit NodeStop (Live directory.Unit)). Said (on_devices k) ended out now) (m.course (suc i) st) said))
       where
         by_end : (ended : Ended NodeStop (Live directory.Unit))
@@ -308,7 +308,7 @@ module _ (script : Script) (life : Life) (l : ℕ) (life_is : slice_get script.l
 
 -- A LIFE
 
-module _ (g : Lived) (here : IsLifeOver g) where
+module _ (g : Lived) (here : IsLifeInForm g) where
   abbrev EndsHere : Result (Unit {0}) Stop → Setting → Progress → Type 0
   EndsHere how s p = EndsBy (Tells g.script) g.life g.number how s p
 
@@ -360,7 +360,7 @@ module _ (g : Lived) (here : IsLifeOver g) where
 
 -- ALL LIVES of a script, each of which is of the form
 
-module _ (script : Script) (checked : IsChecked script) (each_over : (l : ℕ) (life : Life) (seen : Held → Seen) (files : Files) → slice_get script.lives l ≡ Some life → ReadsSomething seen → IsLifeOver (lived script l life seen files)) where
+module _ (script : Script) (checked : IsChecked script) (each_over : (l : ℕ) (life : Life) (seen : Held → Seen) (files : Files) → slice_get script.lives l ≡ Some life → ReadsSomething seen → IsLifeInForm (lived script l life seen files)) where
   cut_judged : (life : Life) (l : ℕ) (its : cut.Cut) (out now : List Entry) → life.cut ≡ Some its → now ≡ out ++ entry.Cut its.step its.call ∷ [] → Moves (Judges script) (IsAtCut life l) (IsBetween (l + 1)) out now
   cut_judged life l its out now cut_is is = judged_by script (IsAtCut life l) (IsBetween (l + 1)) out now (entry.Cut its.step its.call ∷ []) is (λ s p at. (tt, tt)) (moves_cut life l its out now cut_is is)
 

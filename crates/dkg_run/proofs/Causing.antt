@@ -29,14 +29,14 @@ use Rattle.dkg_core.specs.Fixed.{has}
 use Rattle.dkg_core.specs.Forms.{IsLiveIn, IsNodeBegun, IsOpeningStop, IsSeated, IsSetUpIn, IsSetupFault, Judged, Refusal, Passed, Applied, judged_block, judged_over, share_read, seed_read, started}
 use Rattle.dkg_core.specs.Laws.{start_of}
 use Rattle.dkg_core.specs.Live as core
-use Rattle.dkg_core.specs.Live.{Deals, Ends, Finalized, Follows, Includes, Live, Message, Peer, Plays, Sent, Stage, Watches, is_last_height, phase_of}
+use Rattle.dkg_core.specs.Live.{Deals, Ends, Finalized, Follows, Includes, Live, Plays, Stage, Watches, is_last_height, phase_of}
 use Rattle.dkg_core.specs.Seen.{Seen}
 use Rattle.dkg_core.specs.Setup.{Standing, Uncommitted, WasCommitted, is_past_range, may_deal, pairs_of}
 use Rattle.dkg_core.specs.Sources.{Tip}
 use Rattle.dkg_core.specs.Stepping.{IsAppliedEnd, IsAppliedStop, IsBlockEnd, IsBlockStop, IsDealingStop, IsFollowedEnd, IsStepStop, IsTakenOver, IsTakeoverStop, taken_over}
 use Rattle.dkg_core.specs.Endings.{OnInfo, first_block, first_epoch, seat_in, stage_in}
 use Rattle.dkg_run.specs.Blamed.{IsBlockCause, IsBlockOwn, IsCause, IsClear, IsInfoCause, IsNextCause, IsOwn, IsOwnCause, IsTakenLast, OnCarried, first_epoch_in, is_beyond, is_first_taken, next_epoch, opening_block, per_epoch, refusal_by, refusal_in, round_by, tip_in}
-use Rattle.dkg_run.specs.Epochs.{IsLifeOver, Stands, awaited_by, epoch_by}
+use Rattle.dkg_run.specs.Epochs.{IsLifeInForm, Stands, awaited_by, epoch_by}
 use Rattle.dkg_run.specs.Given.{Lived, at_step}
 use Rattle.dkg_run.proofs.Awaiting.{IsReached, awaited}
 use Rattle.dkg_run.proofs.Delivered.{starts}
@@ -57,11 +57,6 @@ some_is e = cc
 
 ok_err : {A E : Type 0} (x : A) (e : E) → ◌≡◌ {A = Result A E} (Ok x) (Err e) → ⊥
 ok_err x e is = cc
-
--- nothing holds of nothing
-never : {A : Type 0} (o : Option A) → IsSomeAnd o (λ x. ⊥) → ⊥
-never None none = none
-never (Some x) none = none
 
 -- OF A DEALING THAT IS REFUSED
 
@@ -119,7 +114,7 @@ module _ (g : Lived) (taken : ℕ) where
       ok_err seated.round e (sym (subst (λ (n : ℕ). round_by g.script n info ≡ Ok seated.round) at seated.drawn) ∙ why.2)
   seated_clear epoch standing info share seed st end seated at its why = absurd why
 
-module _ (g : Lived) (here : IsLifeOver g) where
+module _ (g : Lived) (here : IsLifeInForm g) where
   -- AN OPENING
 
   first_block_same : first_block (at_step g 0) ≡ opening_block g.script g.number g.life

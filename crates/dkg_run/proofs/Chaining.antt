@@ -27,7 +27,7 @@ use Rattle.dkg_core.specs.Live.{Finalized}
 use Rattle.dkg_core.specs.Sources.{Tip, position}
 use Rattle.dkg_core.specs.Endings.{tip_behind}
 use Rattle.dkg_run.specs.Blamed.{is_beyond, is_first_taken, refusal_by, refusal_in, refusal_over, tip_in, tip_over}
-use Rattle.dkg_run.specs.Epochs.{IsAnchorOver}
+use Rattle.dkg_run.specs.Epochs.{IsAnchorAbove}
 use Rattle.dkg_run.specs.Given.{AreBytes, anchor_at, anchor_in, blocks_in}
 use Rattle.dkg_run.proofs.Awaiting.{IsReached, awaited, block_awaits, comes_to, message_behind, one_more}
 use Rattle.dkg_run.proofs.BlocksMade.{IsOf, each_is}
@@ -154,7 +154,7 @@ module _ (s : Setting) (ends : List (Option CutAt)) (consistent : IsConsistentSc
   below_made : (b : Block) (its : made.Block directory.Unit) → IsOf b its → IsOnChain s (record { height = b.height - 1; digest = b.parent }) → IsOnChain s (record { height = its.height - 1; digest = its.parent })
   below_made b its same on = subst (λ (h : ℕ). IsOnChain s (record { height = h - 1; digest = its.parent })) (sym same.height) (subst (λ (d : List ℕ). IsOnChain s (record { height = b.height - 1; digest = d })) (sym same.parent) on)
 
-  module _ (form : IsFormOfEpochs s.script) (bytes : AreBytes s.script.blocks) (l : ℕ) (life : Life) (life_is : life_at s l ≡ Some life) (anchored : IfSome life.anchor (IsAnchorOver s.script.blocks)) where
+  module _ (form : IsFormOfEpochs s.script) (bytes : AreBytes s.script.blocks) (l : ℕ) (life : Life) (life_is : life_at s l ≡ Some life) (anchored : IfSome life.anchor (IsAnchorAbove s.script.blocks)) where
     -- a block as the node holds it is one of the script's
     pub record HasBlock (number : ℕ) (its : made.Block directory.Unit) : Type 0 where
       pub b : Block
@@ -208,7 +208,7 @@ module _ (s : Setting) (ends : List (Option CutAt)) (consistent : IsConsistentSc
                 let same : b.height - 1 ≡ k = omega (arith, height) in
                 subst (λ (n : ℕ). IsOnChain s (record { height = n; digest = b.parent })) (sym same) (chained_below b k height used links)
 
-        by_anchor : (at : Option Anchor) → life.anchor ≡ at → IfSome at (IsAnchorOver s.script.blocks) → Chained (position (anchor_in (blocks_in s.script) at))
+        by_anchor : (at : Option Anchor) → life.anchor ≡ at → IfSome at (IsAnchorAbove s.script.blocks) → Chained (position (anchor_in (blocks_in s.script) at))
         by_anchor None anchor_is above = tt
         by_anchor (Some (Processed number)) anchor_is above = processed number anchor_is (slice_get (blocks_in s.script) number) refl
         by_anchor (Some (Absent number)) anchor_is above = absent number anchor_is above (slice_get (blocks_in s.script) number) refl

@@ -21,7 +21,7 @@ use Rattle.dkg_store.specs.Acts.{Held}
 use Rattle.dkg_core.specs.Seen.{Seen}
 use Rattle.dkg_reshare.specs.Configured.{config_fault}
 use Rattle.dkg_run.specs.Causes.{HasCause}
-use Rattle.dkg_run.specs.Epochs.{IsAnchorOver, IsChecked, IsLifeOver, refused_config}
+use Rattle.dkg_run.specs.Epochs.{IsAnchorAbove, IsChecked, IsLifeInForm, refused_config}
 use Rattle.dkg_run.specs.Given.{IsUnplanned, lived}
 
 passes : (t u : Bool) (a b : Fault) → (if not t then Some a else if u then Some b else None) ≡ None → (t ≡ true) × (u ≡ false)
@@ -44,21 +44,21 @@ pub long_epochs : (script : Script) → IsChecked script → 2 ≤ non_zero_u64_
 long_epochs script checked = two_at_least (non_zero_u64_get script.config.blocks_per_epoch) (some_blocks script.config.blocks_per_epoch)
     (passes (supports_of script.config.max_mode.0 script.config.mode) (non_zero_u64_get script.config.blocks_per_epoch == 1) (InvalidConfig ModeCause) (InvalidConfig OneBlock) checked).1
 
-pub anchor_over : (blocks : List BlockLine) (at : Option Anchor) → IfSome at (IsAnchorIn blocks) → IfSome at (IsAnchorOver blocks)
-anchor_over blocks None is = tt
-anchor_over blocks (Some (Processed number)) is = tt
-anchor_over blocks (Some (Absent number)) is = by_line (slice_get blocks number) is
+pub anchor_above : (blocks : List BlockLine) (at : Option Anchor) → IfSome at (IsAnchorIn blocks) → IfSome at (IsAnchorAbove blocks)
+anchor_above blocks None is = tt
+anchor_above blocks (Some (Processed number)) is = tt
+anchor_above blocks (Some (Absent number)) is = by_line (slice_get blocks number) is
   where
     by_line : (o : Option BlockLine) → IsSomeAnd o (λ line. 0 < line.height) → IfSome o (λ line. 0 < line.height)
     by_line None is = absurd is
     by_line (Some line) is = is
 
-pub life_over : (script : Script) (number : ℕ) (life : Life) (seen : Held → Seen) (files : Files) → IsFormOfEpochs script → IsChecked script → slice_get script.lives number ≡ Some life → IsUnplanned seen
-    → IsLifeOver (lived script number life seen files)
-life_over script number life seen files form checked life_is none = record {
+pub life_in_form : (script : Script) (number : ℕ) (life : Life) (seen : Held → Seen) (files : Files) → IsFormOfEpochs script → IsChecked script → slice_get script.lives number ≡ Some life → IsUnplanned seen
+    → IsLifeInForm (lived script number life seen files)
+life_in_form script number life seen files form checked life_is none = record {
   form = form;
   life_is = life_is;
-  anchor = anchor_over script.blocks life.anchor (form.lives number life life_is).anchor;
+  anchor = anchor_above script.blocks life.anchor (form.lives number life life_is).anchor;
   unplanned = none;
   supported = supported_mode script checked;
   long = long_epochs script checked;

@@ -44,16 +44,16 @@ use Rattle.dkg_core.proofs.Openings.{node_openings_lead_over}
 use Rattle.dkg_core.proofs.Stepping.{node_steps_lead_over}
 use Rattle.dkg_reshare.specs.declared.stop.Stop.{Stop}
 use Rattle.dkg_run.specs.Blamed.{IsBlockOwn, IsCause, IsFromOutside, IsOwn, IsOwnCause, IsTakenLast, IsWhy, OnBlock, OnCarried, first_epoch_in, next_epoch, opening_block, refusal_in}
-use Rattle.dkg_run.specs.Epochs.{IsLifeOver}
+use Rattle.dkg_run.specs.Epochs.{IsLifeInForm}
 use Rattle.dkg_run.specs.Given.{AreBytes, Lived, at_step, blocks_in, lived, step_of}
 use Rattle.dkg_run.specs.GivesBack.{PassesAll}
 use Rattle.dkg_run.specs.Lives.{LivesSo}
-use Rattle.dkg_run.specs.ValidOver.{ComesInTurn, IsValidCaseOver}
+use Rattle.dkg_script.specs.Valid.{ComesInTurn, IsValidCase}
 use Rattle.dkg_run.specs.Ways.{by_worlds}
 use Rattle.dkg_run.proofs.Awaiting.{IsReached}
 use Rattle.dkg_run.proofs.Blaming.{Stood, at_there, opened_stood, step_next, step_why}
 use Rattle.dkg_run.proofs.Causing.{follows_of, judged_so, new_of, opening_cause, refusal}
-use Rattle.dkg_run.proofs.Former.{Brings, IsMessage, event_in_form, form_over, lacks_nobody, life_in, live_at, message_in}
+use Rattle.dkg_run.proofs.Former.{Brings, IsMessage, event_in_form, form_at, lacks_nobody, life_in, live_at, message_in}
 use Rattle.dkg_run.proofs.GivingDealings.{FitsRecords}
 use Rattle.dkg_run.proofs.GivingLives.{LeavesSo}
 use Rattle.dkg_run.proofs.LivesClear.{EndsOutside, IsClear, KeepsClear, LeavesClear, life_clear}
@@ -117,7 +117,7 @@ module _ (c : Fixed directory.Unit) (info : EpochInfo directory.Unit) (h : Held)
       by_share None such = seeded h fits
       by_share (Some share) such = seeded (with_share info.epoch (Some share) h) (share_put (IsMineAt s) h (with_share info.epoch (Some share) h) info.epoch share such refl fits)
 
-module _ (s : Setting) (ends : List (Option CutAt)) (valid : IsValidCaseOver s ends) (form : IsFormOfEpochs s.script) (bytes : AreBytes s.script.blocks) (unfound : (l : ℕ) → found s l ≡ None) where
+module _ (s : Setting) (ends : List (Option CutAt)) (valid : IsValidCase s ends) (form : IsFormOfEpochs s.script) (bytes : AreBytes s.script.blocks) (unfound : (l : ℕ) → found s l ≡ None) where
   -- whole devices give back dealings that pass, own ones that the secrets deal, and hold shares that fit
   pub record HoldsAll (h : Held) : Type 0 where
     pub given : ValidHeld s ends form valid.consistent h
@@ -129,7 +129,7 @@ module _ (s : Setting) (ends : List (Option CutAt)) (valid : IsValidCaseOver s e
     dealings = λ round dealer pair made low got. all.given.0.1 (round.number, dealer) pair round low got made;
   }
 
-  module _ (l : ℕ) (life : Life) (seen : Held → Seen) (files : Files) (life_is : life_at s l ≡ Some life) (here : IsLifeOver (lived s.script l life seen files)) (records : ReadsRecords seen) (secrets : ReadsSecrets seen)
+  module _ (l : ℕ) (life : Life) (seen : Held → Seen) (files : Files) (life_is : life_at s l ≡ Some life) (here : IsLifeInForm (lived s.script l life seen files)) (records : ReadsRecords seen) (secrets : ReadsSecrets seen)
       (fits : FitsRecords s ends form valid.consistent l life seen files life_is here records) (begun : l ≤ length ends) where
     abbrev g : Lived
     g = lived s.script l life seen files
@@ -183,7 +183,7 @@ module _ (s : Setting) (ends : List (Option CutAt)) (valid : IsValidCaseOver s e
       opening_leaves : (ended : Ended NodeStop (Live directory.Unit)) (new : World) → EndsSo (node_opening (at_step g 0)) ended w new
           → LeavesSo (ValidHeld s ends form valid.consistent) (IsOwning s ends form valid.consistent l life seen files life_is here records secrets 0) ended new.held → LeavesClear HoldsAll (IsClearAt 0) ended new.held
       opening_leaves ended new run left = by_end ended left (opening_fits s ends form valid.consistent l life seen files life_is secrets here ended w new all.shares run)
-          (node_openings_lead_over (at_step g 0) ended w new (form_over g here 0) (lacks_nobody g 0) run)
+          (node_openings_lead_over (at_step g 0) ended w new (form_at g here 0) (lacks_nobody g 0) run)
         where
           by_end : (ended : Ended NodeStop (Live directory.Unit)) → LeavesSo (ValidHeld s ends form valid.consistent) (IsOwning s ends form valid.consistent l life seen files life_is here records secrets 0) ended new.held → SharesFit s new.held
               → CameTo (IsFaultBy (IsOpeningStop (at_step g 0) ((at_step g 0).seen k) k)) (λ st. IsNodeBegun (at_step g 0) ((at_step g 0).seen k) k st × LeavesHeld (at_step g 0) k new.held (first_block (at_step g 0))) ended
@@ -351,7 +351,7 @@ module _ (s : Setting) (ends : List (Option CutAt)) (valid : IsValidCaseOver s e
       step_leaves : (ended : Ended NodeStop (Live directory.Unit)) (new : World) → EndsSo (step_of g (suc i) its st) ended w new
           → LeavesSo (ValidHeld s ends form valid.consistent) (IsOwning s ends form valid.consistent l life seen files life_is here records secrets (suc i)) ended new.held → LeavesClear HoldsAll (IsClearAt (suc i)) ended new.held
       step_leaves ended new run left = by_end ended left (step_fits s ends form valid.consistent l life seen files life_is secrets here i its is reached st (clear.stood).at w clear.shares ended new run)
-          (node_steps_lead_over c st m.message ended w new (form_over g here (suc i)) taken live ((clear.stood).at).active (subst (λ (course : Course directory.Unit NodeStop (Live directory.Unit)). EndsSo course ended w new) (m.course (suc i) st) run))
+          (node_steps_lead_over c st m.message ended w new (form_at g here (suc i)) taken live ((clear.stood).at).active (subst (λ (course : Course directory.Unit NodeStop (Live directory.Unit)). EndsSo course ended w new) (m.course (suc i) st) run))
         where
           by_end : (ended : Ended NodeStop (Live directory.Unit)) → LeavesSo (ValidHeld s ends form valid.consistent) (IsOwning s ends form valid.consistent l life seen files life_is here records secrets (suc i)) ended new.held → SharesFit s new.held
               → CameTo (IsFaultBy (IsStepStop c st m.message w.held (held_at_setup c m.message w.held)))

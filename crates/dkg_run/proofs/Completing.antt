@@ -23,7 +23,7 @@ use Rattle.dkg_script.specs.Setting.{CutAt, Setting, setting_of}
 use Rattle.dkg_script.proofs.AsCut.{same_progress}
 use Rattle.dkg_script.proofs.ScriptedCuts.{ends_as_scripted}
 use Rattle.dkg_run.specs.Complete.{IsValidAnyhow, IsValidAsCut, IsValidRun}
-use Rattle.dkg_run.specs.FoundOver.{IsFoundRecord}
+use Rattle.dkg_run.specs.Found.{IsFoundRecord}
 use Rattle.dkg_run.specs.GivesBack.{NamesNoRecord}
 use Rattle.dkg_run.specs.Over.{Standing}
 

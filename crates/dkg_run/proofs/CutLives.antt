@@ -34,9 +34,9 @@ use Rattle.dkg_run.specs.Given.{Lived, anchor_in, at_step, blocks_in, delivered_
 use Rattle.dkg_run.specs.Lives.{AnyFiles, EndsLife, LivesFrom, LivesSo, RunsAllSo, RunsOver, RunsSo, Steps, TakesAll, TellsEnd, fuse_for, never}
 use Rattle.dkg_run.specs.Ways.{Way, by_lines, by_worlds, trace}
 use Rattle.dkg_run.proofs.Ordered.{lit_within, unlit}
-use Rattle.dkg_run.proofs.KeepingOver.{lives_of, same_behind}
+use Rattle.dkg_run.proofs.Keeping.{lives_of, same_behind}
 use Rattle.dkg_run.proofs.Leading.{After, IsIn, Leads, Tells, leads_none, leads_then, life_leads, lines_tell, worlds_tell}
-use Rattle.dkg_run.proofs.RunKeptOver.{AreLives}
+use Rattle.dkg_run.proofs.RunKept.{AreLives}
 
 abbrev U : Type 0
 U = directory.Unit

@@ -7,17 +7,17 @@ use Rattle.dkg_text.specs.declared.script.Script.{Script}
 use Rattle.dkg_script.specs.Epochs.{IsFormOfEpochs}
 use Rattle.dkg_store.specs.Acts.{Held}
 use Rattle.dkg_core.specs.Seen.{Seen}
-use Rattle.dkg_run.specs.Epochs.{IsChecked, IsLifeOver}
+use Rattle.dkg_run.specs.Epochs.{IsChecked, IsLifeInForm}
 use Rattle.dkg_run.specs.Given.{lived}
 use Rattle.dkg_run.specs.Ways.{ReadsSomething, by_worlds}
-use Rattle.dkg_run.proofs.Checked.{life_over}
+use Rattle.dkg_run.proofs.Checked.{life_in_form}
 use Rattle.dkg_run.proofs.PlanlessReads.{planless}
 
 module _ (script : Script) (form : IsFormOfEpochs script) (checked : IsChecked script) where
   -- over lines
-  pub lives_over : (l : ℕ) (life : Life) (seen : Held → Seen) (files : Files) → slice_get script.lives l ≡ Some life → ReadsSomething seen → IsLifeOver (lived script l life seen files)
-  lives_over l life seen files at reads = life_over script l life seen files form checked at (λ h. ap (λ (f : Held → Seen). (f h).plan) reads.each ∙ reads.unplanned)
+  pub lives_over : (l : ℕ) (life : Life) (seen : Held → Seen) (files : Files) → slice_get script.lives l ≡ Some life → ReadsSomething seen → IsLifeInForm (lived script l life seen files)
+  lives_over l life seen files at reads = life_in_form script l life seen files form checked at (λ h. ap (λ (f : Held → Seen). (f h).plan) reads.each ∙ reads.unplanned)
 
   -- over worlds
-  pub worlds_over : (l : ℕ) (life : Life) (seen : Held → Seen) (files : Files) → slice_get script.lives l ≡ Some life → by_worlds.reads seen → IsLifeOver (lived script l life seen files)
-  worlds_over l life seen files at reads = life_over script l life seen files form checked at (planless seen reads)
+  pub worlds_over : (l : ℕ) (life : Life) (seen : Held → Seen) (files : Files) → slice_get script.lives l ≡ Some life → by_worlds.reads seen → IsLifeInForm (lived script l life seen files)
+  worlds_over l life seen files at reads = life_in_form script l life seen files form checked at (planless seen reads)

@@ -21,7 +21,7 @@ use Rattle.dkg_script.specs.Setting.{Setting, me, recovered_from, setting_of}
 use Rattle.dkg_script.proofs.Worked.{no_pairs, nothing_recovered, nothing_there}
 use Rattle.dkg_run.specs.Complete.{AreValidDevices}
 use Rattle.dkg_run.specs.Fresh.{AreFresh}
-use Rattle.dkg_run.specs.ValidOver.{AreValidOver}
+use Rattle.dkg_script.specs.Valid.{AgreesWith}
 
 none_there : (file : Option (List ℕ)) → MatchFile None file → file ≡ None
 none_there None here = refl
@@ -51,7 +51,7 @@ none_some e = cc
 no_dealing : (held : Secrets) (key : ℕ × ℕ) (pair : List ℕ × ℕ) → get (recovered_from (contents []) held) key ≡ Some pair → ⊥
 no_dealing held key pair got = none_some (sym (ap (λ (pairs : Pairs). get pairs key) (nothing_recovered held) ∙ get-empty key_cmp key) ∙ got)
 
-agree : (s : Setting) → AreValidOver s (contents []) none_held
+agree : (s : Setting) → AgreesWith s (contents []) none_held
 agree s = record {
   shares = λ epoch share info got known. absurd (none_some (sym (get-empty nat_cmp epoch) ∙ got));
   dealings = λ epoch dealer public private round small got made. absurd (no_dealing none_held (epoch, dealer) (public, private) got);

@@ -3,11 +3,8 @@ use Rattle.std.proofs.Common.{List, inl, inr}
 use Rattle.dkg_types.specs.declared.entry.Entry.{Entry}
 use Rattle.dkg_types.specs.declared.fault.Fault.{Fault}
 use Rattle.dkg_text.specs.declared.script.Script.{Script}
-use Rattle.dkg_script.specs.Ends.{EndsWell}
 use Rattle.dkg_script.specs.Order.{IsInOrder}
-use Rattle.dkg_script.specs.Progress.{Progress}
 use Rattle.dkg_script.specs.Promise.{Adds, RunsInOrder}
-use Rattle.dkg_script.specs.Setting.{Setting}
 use Rattle.dkg_run.proofs.Standing.{Moves, MayTell, IsBetweenOf, TellsFault}
 use Rattle.dkg_run.proofs.Runs.{runs_in_order, faulted_in_order}
 use Rattle.dkg_run.proofs.Places.{moves_then, moves_none}
@@ -18,6 +15,3 @@ told_in_order script fault answered old mid new a (inl none) = runs_in_order scr
     (moves_then IsInOrder (IsBetweenOf script 0) (MayTell fault) (MayTell fault) old mid new a
     (moves_none IsInOrder (MayTell fault) (MayTell fault) mid new none.1 (λ s p is. is)))
 told_in_order script fault answered old mid new a (inr told) = faulted_in_order script fault old mid new told.1 a told.2
-
-pub ends_well : (script : Script) (Q : Setting → Progress → Type 0) (old new : List Entry) → Moves IsInOrder (IsBetweenOf script 0) Q old new → Adds old new EndsWell
-ends_well script Q old new a = (a.added, a.parts, a.no_fault)

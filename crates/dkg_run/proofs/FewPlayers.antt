@@ -26,7 +26,7 @@ use Rattle.dkg_core.specs.Seen.{Seen}
 use Rattle.dkg_core.specs.Setup.{Standing, Uncommitted}
 use Rattle.dkg_core.specs.Stepping.{IsNextIn}
 use Rattle.dkg_core.specs.Endings.{first_block}
-use Rattle.dkg_run.specs.Epochs.{IsLifeOver}
+use Rattle.dkg_run.specs.Epochs.{IsLifeInForm}
 use Rattle.dkg_run.specs.Given.{Lived, at_step}
 use Rattle.dkg_run.proofs.FitsOwn.{dealt_fits}
 use Rattle.dkg_run.proofs.NextLives.{GoesOn, TakesOver, next_so}
@@ -72,7 +72,7 @@ players_are namespace number previous mode reveal dealers players round made =
 abbrev pub HasFew : Live directory.Unit → Type 0
 HasFew st = (round : Round) → st.participation.round ≡ Some round → length round.players ≤ 2 ^ 30
 
-module _ (g : Lived) (here : IsLifeOver g) where
+module _ (g : Lived) (here : IsLifeInForm g) where
   pub seated_few : (taken : ℕ) (standing : Standing) (info : EpochInfo directory.Unit) (share : Option ℕ) (seed : List ℕ) (st end : Live directory.Unit) → IsSeated (at_step g taken) standing info share seed st end → HasFew end
   unfolding at_step
   seated_few taken standing info share seed st end seated round is =

@@ -34,7 +34,7 @@ use Rattle.dkg_store.specs.Events.{IsEvent, no_limit}
 use Rattle.dkg_store.specs.declared.event.Event.TheVariants as events
 use Rattle.dkg_core.specs.Agreeing.{BringsRecords}
 use Rattle.dkg_core.specs.Live.{Message}
-use Rattle.dkg_run.specs.Epochs.{IsLifeOver}
+use Rattle.dkg_run.specs.Epochs.{IsLifeInForm}
 use Rattle.dkg_run.specs.Given.{AreBytes, Lived, at_step}
 use Rattle.dkg_run.proofs.FitsRead.{message_fits}
 use Rattle.dkg_run.proofs.Former.{Brings, IsMadeOf, IsMessage, event_in_form}
@@ -85,7 +85,7 @@ log_event most height log few low fit = record { one = fit.one; other = record {
 
 -- A LIFE
 
-module _ (g : Lived) (here : IsLifeOver g) where
+module _ (g : Lived) (here : IsLifeInForm g) where
   is_mark : (key : ℕ) (domain : Domain) (content : List ℕ) → length (mark_of key domain content) ≡ 8
   unfolding mark_of
   is_mark key domain content =

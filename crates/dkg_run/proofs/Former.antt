@@ -22,7 +22,7 @@ use Rattle.dkg_core.specs.Live.{Delivers, Finalized, Live, Message, Peer, Sent}
 use Rattle.dkg_core.specs.Node.{node_step}
 use Rattle.dkg_core.specs.NodeEndings.{LacksNobody}
 use Rattle.dkg_core.proofs.StandIn.{stand_ins_are_ceremonies}
-use Rattle.dkg_run.specs.Epochs.{IsLifeOver}
+use Rattle.dkg_run.specs.Epochs.{IsLifeInForm}
 use Rattle.dkg_run.specs.Given.{IsUnplanned, Lived, at_step, seen_at, block_on, blocks_in, parent_in, payload_in, step_of, with_block}
 use Rattle.dkg_run.proofs.Living.{holds_at}
 
@@ -107,10 +107,10 @@ pub unplanned_at : (g : Lived) → IsUnplanned g.seen → (taken : ℕ) → IsUn
 unplanned_at g none zero = none
 unplanned_at g none (suc taken) = λ h. refl
 
-module _ (g : Lived) (here : IsLifeOver g) where
-  pub form_over : (taken : ℕ) → IsForm (at_step g taken)
+module _ (g : Lived) (here : IsLifeInForm g) where
+  pub form_at : (taken : ℕ) → IsForm (at_step g taken)
   unfolding at_step
-  form_over taken = record { reshare = refl; bare = refl; unplanned = unplanned_at g here.unplanned taken; ceremony = is_ceremony g taken; counted = one (non_zero_u64_get g.script.config.blocks_per_epoch) here.long }
+  form_at taken = record { reshare = refl; bare = refl; unplanned = unplanned_at g here.unplanned taken; ceremony = is_ceremony g taken; counted = one (non_zero_u64_get g.script.config.blocks_per_epoch) here.long }
     where
       one : (n : ℕ) → 2 ≤ n → 1 ≤ n
       one n long = omega (arith, long)

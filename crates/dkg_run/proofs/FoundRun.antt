@@ -34,15 +34,15 @@ use Rattle.dkg_reshare.specs.declared.stop.Stop.TheVariants.{Cut, Failed, Fault 
 use Rattle.dkg_run.specs.Blamed.{IsFromOutside}
 use Rattle.dkg_run.specs.Causes.{IfFault}
 use Rattle.dkg_run.specs.Ended.{by_node_stop}
-use Rattle.dkg_run.specs.EndsOver.{EndsFaultedOver, EndsRunOver}
-use Rattle.dkg_run.specs.Epochs.{IsAt, IsChecked, IsLifeOver}
-use Rattle.dkg_run.specs.FoundOver.{EachFault, OfFault, ShowsOver}
+use Rattle.dkg_script.specs.Ends.{EndsFaulted, EndsRun}
+use Rattle.dkg_run.specs.Epochs.{IsAt, IsChecked, IsLifeInForm}
+use Rattle.dkg_run.specs.Found.{EachFault, OfFault, ShowsCause}
 use Rattle.dkg_run.specs.Given.{Lived, at_step, lived, step_of}
 use Rattle.dkg_run.specs.Lives.{AnyFiles, EndsLife, LivesFrom, LivesSo, RunsAllSo, RunsOver, RunsSo, Steps, TakesAll, TellsEnd, fuse_for, never}
 use Rattle.dkg_run.specs.Ways.{by_worlds}
 use Rattle.dkg_run.proofs.Awaiting.{IsBefore, IsReached, before_all, reached_lit}
 use Rattle.dkg_run.proofs.BegunRounds.{HasDrawn, opening_deals, step_deals}
-use Rattle.dkg_run.proofs.Checked.{life_over}
+use Rattle.dkg_run.proofs.Checked.{life_in_form}
 use Rattle.dkg_run.proofs.Drawn.{all_join}
 use Rattle.dkg_run.proofs.FewPlayers.{HasFew, begun_few, next_few}
 use Rattle.dkg_run.proofs.Following.{item_at, rest_at}
@@ -100,7 +100,7 @@ module _ (script : Script) where
 
 -- A LIFE
 
-module _ (g : Lived) (here : IsLifeOver g) where
+module _ (g : Lived) (here : IsLifeInForm g) where
   -- where a step begins
   record Stands (i : ℕ) (st : Live directory.Unit) (h : Held) : Type 0 where
     at : IsAt g i st
@@ -182,7 +182,7 @@ module _ (script : Script) (form : IsFormOfEpochs script) (checked : IsChecked s
   from_shows first l [] is w new result run = subst (λ (r : Result (Unit {0}) Fault). ShowsEnd r new.held) (sym run.0) tt
   from_shows first l (life ∷ rest) is w new result (seen, files, how, mid, reads, known, begins, so, ends) =
       ends_show life how mid new result (λ w. LivesFrom by_worlds script AnyFiles (l + 1) rest w result new)
-      (life_shows (lived script l life seen files) (life_over script l life seen files form checked (item_at script.lives l life rest is) (planless seen reads)) (planless_records seen reads).dealings w
+      (life_shows (lived script l life seen files) (life_in_form script l life seen files form checked (item_at script.lives l life rest is) (planless seen reads)) (planless_records seen reads).dealings w
       (subst (λ (es : List Noted). Above 0 es) (ap (λ (j : Journaled). j.entries) begins) (entries_above files)) files mid how so)
       (λ w more. from_shows AnyFiles (l + 1) rest (subst (λ (k : ℕ). rest ≡ drop k script.lives) (sym (add-one l)) (rest_at script.lives l life rest is)) w new result more)
       ends
@@ -206,11 +206,11 @@ module _ (script : Script) (form : IsFormOfEpochs script) (checked : IsChecked s
 
   -- THE CLAUSE: each fault that its entries tell is the one that ended it
 
-  shows_over : (files : Files) (held : Secrets) (its : Fault) → ShowsIn script (recovered_from files held) held its → ShowsOver script files held its
-  shows_over files held (fault.LocalState (local.ShareRefused epoch)) so = so
-  shows_over files held (fault.LocalState (local.StoredDealing epoch dealer)) so = so
-  shows_over files held (fault.LocalState (local.OwnDealing epoch kept dealt)) so = so
-  shows_over files held its so = tt
+  shows_cause : (files : Files) (held : Secrets) (its : Fault) → ShowsIn script (recovered_from files held) held its → ShowsCause script files held its
+  shows_cause files held (fault.LocalState (local.ShareRefused epoch)) so = so
+  shows_cause files held (fault.LocalState (local.StoredDealing epoch dealer)) so = so
+  shows_cause files held (fault.LocalState (local.OwnDealing epoch kept dealt)) so = so
+  shows_cause files held its so = tt
 
   module _ (P : Fault → Type 0) where
     none_told : (es : List Entry) → EndsWell es → AllByRecursion (OfFault P) es
@@ -221,11 +221,11 @@ module _ (script : Script) (form : IsFormOfEpochs script) (checked : IsChecked s
     last_told : (its : Fault) (es : List Entry) → EndsInFault es its → P its → AllByRecursion (OfFault P) es
     last_told its es ends so = subst (AllByRecursion (OfFault P)) (sym ends.last) (all_join (OfFault P) ends.before (entry.Fault its ∷ []) (none_told ends.before ends.only) (so, tt))
 
-    ended_told : (its : Fault) (es : List Entry) (disk_rose secrets_rose : Type 0) → EndsFaultedOver its es disk_rose secrets_rose → P its → AllByRecursion (OfFault P) es
+    ended_told : (its : Fault) (es : List Entry) (disk_rose secrets_rose : Type 0) → EndsFaulted its es disk_rose secrets_rose → P its → AllByRecursion (OfFault P) es
     ended_told fault.NoMemory es disk_rose secrets_rose ends so = none_told es ends
     ended_told its es disk_rose secrets_rose ends so = last_told its es ends.0 so
 
-    all_told : (answered : Result (Unit {0}) Fault) (es : List Entry) (disk_rose secrets_rose : Type 0) → EndsRunOver answered es disk_rose secrets_rose → IfErr answered P → AllByRecursion (OfFault P) es
+    all_told : (answered : Result (Unit {0}) Fault) (es : List Entry) (disk_rose secrets_rose : Type 0) → EndsRun answered es disk_rose secrets_rose → IfErr answered P → AllByRecursion (OfFault P) es
     all_told (Ok done) es disk_rose secrets_rose ends so = none_told es ends
     all_told (Err its) es disk_rose secrets_rose ends so = ended_told its es disk_rose secrets_rose ends so
 
@@ -234,9 +234,9 @@ module _ (script : Script) (form : IsFormOfEpochs script) (checked : IsChecked s
   if_err (Err its) P Q so is = so its is
 
   -- (`c` is what a read gives of the devices as the call leaves them.)
-  pub run_found : (answered : Result (Unit {0}) Fault) (files c : Files) (held held_now : Secrets) (out new added : List Entry) (disk_rose secrets_rose : Type 0) → new ≡ out ++ added → EndsRunOver answered added disk_rose secrets_rose
-      → RunsOver script answered files (at (moment out held never) files) (λ f. at (moment new held_now f) c) → EachFault (ShowsOver script c held_now) added
+  pub run_found : (answered : Result (Unit {0}) Fault) (files c : Files) (held held_now : Secrets) (out new added : List Entry) (disk_rose secrets_rose : Type 0) → new ≡ out ++ added → EndsRun answered added disk_rose secrets_rose
+      → RunsOver script answered files (at (moment out held never) files) (λ f. at (moment new held_now f) c) → EachFault (ShowsCause script c held_now) added
   run_found answered files c held held_now out new added disk_rose secrets_rose is ends run = record {
-    each = all_told (ShowsOver script c held_now) answered added disk_rose secrets_rose ends
-        (if_err answered (ShowsIn script (recovered_from c held_now) held_now) (ShowsOver script c held_now) (shows_over c held_now) (run_shows (λ its. its ≡ files) (at (moment out held never) files) (at (moment new held_now run.fuse) c) answered run.so));
+    each = all_told (ShowsCause script c held_now) answered added disk_rose secrets_rose ends
+        (if_err answered (ShowsIn script (recovered_from c held_now) held_now) (ShowsCause script c held_now) (shows_cause c held_now) (run_shows (λ its. its ≡ files) (at (moment out held never) files) (at (moment new held_now run.fuse) c) answered run.so));
   }

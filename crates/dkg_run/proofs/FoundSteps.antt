@@ -55,15 +55,15 @@ use Rattle.dkg_core.proofs.Setups.{setups_store}
 use Rattle.dkg_core.proofs.Stepping.{node_steps_lead_over, steps_lead_over}
 use Rattle.dkg_core.proofs.Storing.{commits_are_read}
 use Rattle.dkg_core.proofs.Walking as walk
-use Rattle.dkg_run.specs.Epochs.{IsAt, IsLifeOver}
-use Rattle.dkg_run.specs.FoundOver.{IsBegunBy, IsDealtBy, IsFirstRefusedIn, IsRefusedBy}
+use Rattle.dkg_run.specs.Epochs.{IsAt, IsLifeInForm}
+use Rattle.dkg_run.specs.Found.{IsBegunBy, IsDealtBy, IsFirstRefusedIn, IsRefusedBy}
 use Rattle.dkg_run.specs.Given.{Lived, at_step, blocks_in, step_of}
 use Rattle.dkg_run.proofs.Awaiting.{IsReached}
 use Rattle.dkg_run.proofs.BegunRounds.{HasDrawn, first_there, last_begins, own_dealt}
 use Rattle.dkg_run.proofs.FewPlayers.{HasFew, own_fits}
 use Rattle.dkg_run.proofs.FitsBrought.{acks_fit}
 use Rattle.dkg_run.proofs.FitsRead.{message_fits}
-use Rattle.dkg_run.proofs.Former.{Brings, IsMessage, event_in_form, form_over, lacks_nobody, live_at, message_in}
+use Rattle.dkg_run.proofs.Former.{Brings, IsMessage, event_in_form, form_at, lacks_nobody, live_at, message_in}
 use Rattle.dkg_run.proofs.Knowing.{Comes, IsKnown, Knows, Persists, committed_first, deals_at, delivered, hears, lands_at, lands_stopped, lands_went, set_up}
 use Rattle.dkg_run.proofs.LaterRecords.{of_epoch_same}
 use Rattle.dkg_run.proofs.OpeningsLeave.{opening_keeps}
@@ -220,7 +220,7 @@ module _ {Dir : Type 0} (c : Fixed Dir) (block : Block Dir) (st : Live Dir) (cau
 
 -- A LIFE
 
-module _ (g : Lived) (here : IsLifeOver g) where
+module _ (g : Lived) (here : IsLifeInForm g) where
   -- AN OPENING that reads the dealings that the devices give back
 
   module _ (reads : (h : Held) → (g.seen h).dealings ≡ maps.entries (recovered_in h)) (w new : World) where
@@ -236,7 +236,7 @@ module _ (g : Lived) (here : IsLifeOver g) where
 
     pub opening_knows : Above 0 (notes w.held) → (st : Live directory.Unit) → EndsSo (node_opening c0) (went st) w new → Knows st.records new.held
     opening_knows rising st run =
-        let led = node_openings_lead_over c0 (went st) w new (form_over g here 0) (lacks_nobody g 0) run in
+        let led = node_openings_lead_over c0 (went st) w new (form_at g here 0) (lacks_nobody g 0) run in
         subst (λ (r : Records). Knows r new.held) (sym (ap (λ (x : Live directory.Unit). x.records) ((led.0).entered).same)) (by_block (led.0).before (first_block c0) ((led.0).opened).set_up led.1)
       where
         first : Knows (started c0 (c0.seen k)).records k
@@ -275,18 +275,18 @@ module _ (g : Lived) (here : IsLifeOver g) where
 
           by_half : (half : Ended Fault (Live directory.Unit)) → EndsBehind half (stopped (Faulted (fault.LocalState (local.ShareRefused number)))) → EndsSo (opening c0) half w behind.mid → Stored behind.mid.held
           by_half (went st) ends half_run =
-              let left : LeavesHeld c0 k behind.mid.held (first_block c0) = (openings_lead_over c0 (went st) w behind.mid (form_over g here 0) half_run).1 in
+              let left : LeavesHeld c0 k behind.mid.held (first_block c0) = (openings_lead_over c0 (went st) w behind.mid (form_at g here 0) half_run).1 in
               subst Stored (sym (subst (λ (o : Option (EpochInfo directory.Unit)). IsSomeAnd o (λ i. behind.mid.held ≡ set_up_by Uncommitted (first_epoch c0) i (share_read c0 i k) (seed_read c0 i k) k)) carries
               (subst (LeavesHeld c0 k behind.mid.held) there left))) set_up_stored
           by_half (stopped own) ends half_run = subst (λ (x : Fault). IfRefused x (Stored behind.mid.held)) (sym (the_fault ends))
-              (halted Stored (opening c0) w behind.mid own (opening_halts Stored c0 (form_over g here 0) w block there info carries (λ e. set_up_stored)) half_run)
+              (halted Stored (opening c0) w behind.mid own (opening_halts Stored c0 (form_at g here 0) w block there info carries (λ e. set_up_stored)) half_run)
           by_half (broken cause) ends half_run = absurd (let no : ◌≡◌ {A = Ended NodeStop (Live directory.Unit)} (stopped (Faulted (fault.LocalState (local.ShareRefused number)))) (broken cause) = ends in cc)
 
     pub opening_shows : (its : Fault) → EndsSo (node_opening c0) (stopped (Faulted its)) w new → ShowsIn g.script (recovered_in new.held) new.held.secrets its
-    opening_shows its run = by_stop (node_openings_lead_over c0 (stopped (Faulted its)) w new (form_over g here 0) (lacks_nobody g 0) run)
+    opening_shows its run = by_stop (node_openings_lead_over c0 (stopped (Faulted its)) w new (form_at g here 0) (lacks_nobody g 0) run)
       where
         kept : (number : ℕ) → number ≡ first_epoch c0 → (key : ℕ × ℕ) → key.0 ≡ number → get (recovered_in new.held) key ≡ get (recovered_in k) key
-        kept number is key at = opening_keeps c0 (form_over g here 0) w (stopped (Faulted its)) new run key (under (first_epoch c0) number key.0 is at)
+        kept number is key at = opening_keeps c0 (form_at g here 0) w (stopped (Faulted its)) new run key (under (first_epoch c0) number key.0 is at)
           where
             under : (a n m : ℕ) → n ≡ a → m ≡ n → a - 1 ≤ m
             under a n m one two = omega (arith, one, two)
@@ -477,10 +477,10 @@ module _ (g : Lived) (here : IsLifeOver g) where
 
               by_half : (half : Ended Fault (Live directory.Unit)) → EndsBehind half (stopped (Faulted (fault.LocalState (local.ShareRefused number)))) → EndsSo (step c (Finalized block) st) half w behind.mid → Kept behind.mid.held
               by_half (went x) so half_run =
-                  let left = (steps_lead_over c st (Finalized block) (went x) w behind.mid (form_over g here (suc i)) its_taken live half_run).1 applied follows ends in
+                  let left = (steps_lead_over c st (Finalized block) (went x) w behind.mid (form_at g here (suc i)) its_taken live half_run).1 applied follows ends in
                   subst Kept (sym (subst (Left info) at_setup (subst (λ (o : Option (EpochInfo directory.Unit)). IsSomeAnd o (λ i. Left i setup_held)) carries left))) kept_at
               by_half (stopped own) so half_run = subst (λ (x : Fault). IfRefused x (Kept behind.mid.held)) (sym (the_fault so))
-                  (halted Kept (step c (Finalized block) st) w behind.mid own (block_halts Kept c (form_over g here (suc i)) block st w.held follows ends info carries of_next kept_at) half_run)
+                  (halted Kept (step c (Finalized block) st) w behind.mid own (block_halts Kept c (form_at g here (suc i)) block st w.held follows ends info carries of_next kept_at) half_run)
               by_half (broken cause) so half_run = absurd (let no : ◌≡◌ {A = Ended NodeStop (Live directory.Unit)} (stopped (Faulted (fault.LocalState (local.ShareRefused number)))) (broken cause) = so in cc)
 
         last_shows : (own : Fault) → IsTakeoverStop c block st w.held setup_held own → (stop : NodeStop) → stop ≡ Faulted own → EndsSo (node_step c (event_of (Finalized block)) st) (stopped stop) w new → ShowsIn g.script (recovered_in new.held) new.held.secrets own
@@ -498,7 +498,7 @@ module _ (g : Lived) (here : IsLifeOver g) where
             behind = steps_run_behind c st (Finalized block) (stopped stop) w new run
 
             next_is : epoch_of c.blocks_per_epoch (block.height + 1) ≡ next_epoch c block
-            next_is = next_last c.blocks_per_epoch block.height (form_over g here (suc i)).counted ends
+            next_is = next_last c.blocks_per_epoch block.height (form_at g here (suc i)).counted ends
 
             keeps : (key : ℕ × ℕ) → key.0 ≡ next_epoch c block → get (recovered_in new.held) key ≡ get (recovered_in w.held) key
             keeps key same = ap (λ (h : Held). get (recovered_in h) key) behind.held
@@ -525,7 +525,7 @@ module _ (g : Lived) (here : IsLifeOver g) where
       block_goes end run = by_judged (judged_block c block st) refl (led.0).is
         where
           led : IsNextIn c st (Finalized block) w.held setup_held end × IsActiveIn end × LeavesTaken c st (Finalized block) setup_held new.held
-          led = node_steps_lead_over c st (Finalized block) (went end) w new (form_over g here (suc i)) its_taken live at.active run
+          led = node_steps_lead_over c st (Finalized block) (went end) w new (form_at g here (suc i)) its_taken live at.active run
 
           by_last : judged_block c block st ≡ Applied → st.participation.stage ≡ Follows → (t : Bool) → is_last_height c block.height ≡ t → IsFollowedEnd c block st w.held setup_held t end → Knows end.records new.held
           by_last applied follows true ends over = last_knows applied follows ends end over (led.2 applied follows ends)
@@ -598,7 +598,7 @@ module _ (g : Lived) (here : IsLifeOver g) where
         By message = (x : Fault) × (Faulted own ≡ Faulted x) × IsStepStop c st message w.held (held_at_setup c message w.held) x
 
         by : (message : Message directory.Unit) → IsTakenIn c message st → EndsSo (node_step c (event_of message) st) (stopped (Faulted own)) w new → By message
-        by message its_taken its_run = node_steps_lead_over c st message (stopped (Faulted own)) w new (form_over g here (suc i)) its_taken live at.active its_run
+        by message its_taken its_run = node_steps_lead_over c st message (stopped (Faulted own)) w new (form_at g here (suc i)) its_taken live at.active its_run
 
         of_block : (number : ℕ) (block : Block directory.Unit) → slice_get (blocks_in g.script) number ≡ Some block → IsTakenIn c (Finalized block) st → EndsSo (node_step c (event_of (Finalized block)) st) (stopped (Faulted own)) w new
             → ShowsIn g.script (recovered_in new.held) new.held.secrets own

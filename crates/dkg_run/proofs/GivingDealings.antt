@@ -1,13 +1,11 @@
 -- Where the dealings that the devices give back pass their rounds' checks, they do so behind each step and each life over many epochs, wherever it ends.
-use Rattle.std.proofs.Common.{◌≡◌, inl, inr, true, ℕ, zero, suc, ◌<◌, ◌≤◌, List, [], ◌∷◌, Option, Some, None, Result, Ok, refl, sym, ◌∙◌, ap, subst, length, arith}
+use Rattle.std.proofs.Common.{◌≡◌, inl, inr, true, ℕ, zero, suc, ◌<◌, ◌≤◌, List, [], ◌∷◌, Option, Some, None, Ok, refl, sym, ◌∙◌, ap, subst, length, arith}
 use Rattle.std.specs.Prelude.{Contains, slice_get}
 use Rattle.std.specs.FinMap.{get}
 use Rattle.dkg_values.specs.Places.{place_of-Contains}
 use Rattle.dkg_ceremony.specs.Dealings.{dealing_of}
 use Rattle.dkg_ceremony.specs.declared.round.RoundParts.{RoundParts as Round}
 use Rattle.dkg_journal.specs.Names.{Files}
-use Rattle.dkg_journal.specs.Records.{Entry}
-use Rattle.dkg_secrets.specs.Secrets.{Secrets}
 use Rattle.dkg_types.specs.Blocks.{Block}
 use Rattle.dkg_types.specs.declared.directory.Unit as directory
 use Rattle.dkg_types.specs.declared.fault.Fault.{Fault}
@@ -20,7 +18,7 @@ use Rattle.dkg_script.specs.Epochs.{IsFormOfEpochs}
 use Rattle.dkg_script.specs.Setting.{Setting, CutAt, life_at, me}
 use Rattle.dkg_store.specs.Acts.{Ended, Held, World, broken, notes, stopped, went}
 use Rattle.dkg_store.specs.Events.{IsEvent}
-use Rattle.dkg_store.specs.Pairs.{IsWhole, Pairs, recovered}
+use Rattle.dkg_store.specs.Pairs.{IsWhole, Pairs}
 use Rattle.dkg_store.specs.declared.event.Event.TheVariants as events
 use Rattle.dkg_core.specs.Agreeing.{AreAgreed, BringsRecords, CanRecord}
 use Rattle.dkg_core.specs.Behind.{RunsBehind, event_of}
@@ -42,18 +40,15 @@ use Rattle.dkg_core.proofs.BlocksKept.{blocks_keep}
 use Rattle.dkg_core.proofs.NodeKept.{node_openings_agree, node_peers_are_kept, node_steps_agree}
 use Rattle.dkg_core.proofs.Openings.{node_openings_lead_over}
 use Rattle.dkg_core.proofs.Stepping.{node_steps_lead_over}
-use Rattle.dkg_reshare.specs.declared.stop.Stop.{Stop}
-use Rattle.dkg_run.specs.Epochs.{IsAt, IsLifeOver}
+use Rattle.dkg_run.specs.Epochs.{IsAt, IsLifeInForm}
 use Rattle.dkg_run.specs.Given.{Lived, at_step, lived, step_of}
 use Rattle.dkg_run.specs.GivesBack.{PassesAll}
-use Rattle.dkg_run.specs.Lives.{LivesSo, RunsSo}
-use Rattle.dkg_run.specs.Ways.{by_worlds}
 use Rattle.dkg_run.proofs.Awaiting.{IsReached}
 use Rattle.dkg_run.proofs.BlocksLeave.{gives_no_other}
 use Rattle.dkg_run.proofs.Drawn.{HasRoundOf, begun_round, step_round}
 use Rattle.dkg_run.proofs.FewPlayers.{HasFew, begun_few, next_few, own_fits}
-use Rattle.dkg_run.proofs.Former.{Brings, IsMessage, event_in_form, form_over, lacks_nobody, live_at, message_in}
-use Rattle.dkg_run.proofs.GivingLives.{KeepsSo, LeavesSo, life_holds, run_holds}
+use Rattle.dkg_run.proofs.Former.{Brings, IsMessage, event_in_form, form_at, lacks_nobody, live_at, message_in}
+use Rattle.dkg_run.proofs.GivingLives.{KeepsSo, LeavesSo}
 use Rattle.dkg_run.proofs.NoOthers.{IsOwnDealt, inserted}
 use Rattle.dkg_run.proofs.OpeningsLeave.{opening_gives, opening_whole}
 use Rattle.dkg_run.proofs.Stood.{begun_stands, step_stands, step_taken}
@@ -80,7 +75,7 @@ goes_nothing st (stopped its) w new run = absurd run
 goes_nothing st (broken cause) w new run = run.1
 
 module _ (s : Setting) (cuts : List (Option CutAt)) (form : IsFormOfEpochs s.script) (consistent : IsConsistentScript s cuts) (l : ℕ) (life : Life) (seen : Held → Seen) (files : Files) (life_is : life_at s l ≡ Some life)
-    (here : IsLifeOver (lived s.script l life seen files)) (reads : ReadsRecords seen) where
+    (here : IsLifeInForm (lived s.script l life seen files)) (reads : ReadsRecords seen) where
   abbrev g : Lived
   g = lived s.script l life seen files
 
@@ -114,9 +109,6 @@ module _ (s : Setting) (cuts : List (Option CutAt)) (form : IsFormOfEpochs s.scr
     pub agreed : AreAgreed st.records h
     pub passes : PassesAll s (recovered_in h)
 
-  so : (j : ℕ) (st : Live directory.Unit) (h : Held) → IsPassing j st h → PassHeld s h
-  so j st h its = ((its.agreed).whole, its.passes)
-
   leaves : (j : ℕ) (ended : Ended NodeStop (Live directory.Unit)) (h : Held) → PassHeld s h → ((end : Live directory.Unit) → ended ≡ went end → IsPassing j end h) → LeavesSo (PassHeld s) (IsPassing j) ended h
   leaves j (went end) h pass goes = goes end refl
   leaves j (stopped stop) h pass goes = pass
@@ -126,14 +118,14 @@ module _ (s : Setting) (cuts : List (Option CutAt)) (form : IsFormOfEpochs s.scr
   module _ (w new : World) (pass : PassHeld s w.held) where
     opens_passing : (ended : Ended NodeStop (Live directory.Unit)) → EndsSo (node_opening (at_step g 0)) ended w new → PassHeld s new.held
     opens_passing ended run = (
-      opening_whole (at_step g 0) (form_over g here 0) w ended new run pass.0,
-      λ key pair round small got made. pass.1 key pair round small (opening_gives (at_step g 0) (form_over g here 0) w ended new run pass.0 key pair got) made,
+      opening_whole (at_step g 0) (form_at g here 0) w ended new run pass.0,
+      λ key pair round small got made. pass.1 key pair round small (opening_gives (at_step g 0) (form_at g here 0) w ended new run pass.0 key pair got) made,
     )
 
     opened_passing : (st : Live directory.Unit) → EndsSo (node_opening (at_step g 0)) (went st) w new → IsPassing 0 st new.held
     opened_passing st run =
         let k : Held = held_behind (at_step g 0) w.held in
-        let led : IsNodeBegun (at_step g 0) ((at_step g 0).seen k) k st × LeavesHeld (at_step g 0) k new.held (first_block (at_step g 0)) = node_openings_lead_over (at_step g 0) (went st) w new (form_over g here 0) (lacks_nobody g 0) run in
+        let led : IsNodeBegun (at_step g 0) ((at_step g 0).seen k) k st × LeavesHeld (at_step g 0) k new.held (first_block (at_step g 0)) = node_openings_lead_over (at_step g 0) (went st) w new (form_at g here 0) (lacks_nobody g 0) run in
         record {
           at = record { live = (led.0).live; active = (led.0).active; stands = begun_stands g here ((at_step g 0).seen k) k st led.0 };
           rounds = begun_round s cuts form consistent l life seen files life_is ((at_step g 0).seen k) k st led.0;
@@ -207,7 +199,7 @@ module _ (s : Setting) (cuts : List (Option CutAt)) (form : IsFormOfEpochs s.scr
           (sym (ap (λ (r : Rules). r.dealing_of own.round c.me c.me pair.0 pair.1) (rules_at (suc i)))
           ∙ subst (λ (public : List ℕ). c.rules.dealing_of own.round c.me c.me public pair.1 ≡ Ok tt) (sym own.public)
           (subst (λ (r : Round). c.rules.dealing_of r c.me c.me (own.dealer).public pair.1 ≡ Ok tt) same
-          ((form_over g here (suc i)).ceremony.deals_pass mine.0 mine.2.share mine.2.seed (own.dealer).public (own.dealer).privates pair.1 mine.2.member plays mine.2.dealt own.private)))
+          ((form_at g here (suc i)).ceremony.deals_pass mine.0 mine.2.share mine.2.seed (own.dealer).public (own.dealer).privates pair.1 mine.2.member plays mine.2.dealt own.private)))
         where
           mine : (round : Round) × (st.participation.round ≡ Some round) × IsMine c round st.participation.stage own.dealer
           mine = live.mine own.dealer own.of_dealer
@@ -221,7 +213,7 @@ module _ (s : Setting) (cuts : List (Option CutAt)) (form : IsFormOfEpochs s.scr
       block_passes : PassHeld s new.held
       block_passes = (
         (blocks_keep c block st ended (reach_of c (Finalized block)) w new (itself (reach_of c (Finalized block))) passing.agreed its_can run).whole,
-        λ key pair round small got made. elim (gives_no_other c (form_over g here (suc i)) st live block its_taken w passing.agreed its_can ended new run key pair got) [
+        λ key pair round small got made. elim (gives_no_other c (form_at g here (suc i)) st live block its_taken w passing.agreed its_can ended new run key pair got) [
           | inl was ↦ passing.passes key pair round small was made
           | inr own ↦ of_own key pair round own made
         ],
@@ -258,7 +250,7 @@ module _ (s : Setting) (cuts : List (Option CutAt)) (form : IsFormOfEpochs s.scr
         let its_run : EndsSo (node_step c (event_of m.message) st) (went end) w new = run_here (went end) run in
         let k : Held = held_at_setup c m.message w.held in
         let led : IsNextIn c st m.message w.held k end × IsActiveIn end × LeavesTaken c st m.message k new.held
-        = node_steps_lead_over c st m.message (went end) w new (form_over g here (suc i)) taken live (passing.at).active its_run in
+        = node_steps_lead_over c st m.message (went end) w new (form_at g here (suc i)) taken live (passing.at).active its_run in
         record {
           at = record { live = (led.0).live; active = led.1; stands = step_stands g here i its is reached m st live (passing.at).stands w.held k end led.0 };
           rounds = step_round s cuts form consistent l life seen files life_is i its is reached m st live w.held k end led.0 passing.rounds;
@@ -272,24 +264,3 @@ module _ (s : Setting) (cuts : List (Option CutAt)) (form : IsFormOfEpochs s.scr
       let before : IsPassing i st w.held = subst (IsPassing i st) (sym at) passing in
       leaves (suc i) ended new.held (step_passes fits i its is reached st w new before ended run)
       (λ end went_to. step_goes fits i its is reached st w new before end (subst (λ (e : Ended NodeStop (Live directory.Unit)). EndsSo (step_of g (suc i) its st) e w new) went_to run))
-
-  -- A LIFE, wherever it ends
-  pub life_passes : FitsRecords → (w new : World) (how : Result (Unit {0}) Stop) → PassHeld s w.held → LivesSo by_worlds g files w how new → PassHeld s new.held
-  life_passes fits w new how pass lives =
-      life_holds (PassHeld s) IsPassing so g (step_keeps fits) files w new how pass (opening_keeps w.held pass) (λ stop now refused. same_devices w.held now.held refused.2.entries refused.2.secrets pass) lives
-    where
-      same_devices : (h k : Held) → notes k ≡ notes h → k.secrets ≡ h.secrets → PassHeld s h → PassHeld s k
-      same_devices h k entries secrets pass =
-          let same : recovered_in k ≡ recovered_in h = ap (λ (es : List Entry). recovered es k.secrets) entries ∙ ap (recovered (notes h)) secrets in
-          (subst (λ (t : Secrets). IsWhole (notes k) t) (sym secrets) (subst (λ (es : List Entry). IsWhole es h.secrets) (sym entries) pass.0), subst (PassesAll s) (sym same) pass.1)
-
--- A RUN gives back dealings that pass, where those before it did.
-pub run_passes : (s : Setting) (cuts : List (Option CutAt)) (form : IsFormOfEpochs s.script) (consistent : IsConsistentScript s cuts)
-    → (over : (l : ℕ) (life : Life) (seen : Held → Seen) (files : Files) → slice_get s.script.lives l ≡ Some life → by_worlds.reads seen → IsLifeOver (lived s.script l life seen files))
-    → (reads : (seen : Held → Seen) → by_worlds.reads seen → ReadsRecords seen)
-    → ((l : ℕ) (life : Life) (seen : Held → Seen) (files : Files) (life_is : life_at s l ≡ Some life) (here : IsLifeOver (lived s.script l life seen files)) (read : ReadsRecords seen) → FitsRecords s cuts form consistent l life seen files life_is here read)
-    → (first : Files → Type 0) (w new : World) (answered : Result (Unit {0}) Fault) → PassHeld s w.held → RunsSo by_worlds s.script first w answered new → PassHeld s new.held
-run_passes s cuts form consistent over reads fits first w new answered pass run =
-    run_holds (PassHeld s) s.script over
-    (λ l life seen files there read here w new how pass lives. life_passes s cuts form consistent l life seen files there here (reads seen read) (fits l life seen files there here (reads seen read)) w new how pass lives)
-    first w new answered pass run

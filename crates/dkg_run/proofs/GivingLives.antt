@@ -21,12 +21,12 @@ use Rattle.dkg_core.proofs.BlocksKept.{node_steps_keep_plans}
 use Rattle.dkg_core.proofs.Spared.{node_openings_keep_plans}
 use Rattle.dkg_reshare.specs.declared.stop.Stop.{Stop}
 use Rattle.dkg_reshare.specs.declared.stop.Stop.TheVariants.{Cut, Failed, Fault as FaultOf}
-use Rattle.dkg_run.specs.Epochs.{IsLifeOver}
+use Rattle.dkg_run.specs.Epochs.{IsLifeInForm}
 use Rattle.dkg_run.specs.Given.{Lived, at_step, lived, step_of}
 use Rattle.dkg_run.specs.Lives.{AnyFiles, EndsLife, LivesFrom, LivesSo, RunsAllSo, RunsSo, Steps, TakesAll, TellsEnd, fuse_for}
 use Rattle.dkg_run.specs.Ways.{by_worlds}
 use Rattle.dkg_run.proofs.Awaiting.{IsBefore, IsReached, before_all, reached_lit}
-use Rattle.dkg_run.proofs.Former.{IsMessage, event_in_form, form_over, message_in}
+use Rattle.dkg_run.proofs.Former.{IsMessage, event_in_form, form_at, message_in}
 
 rest_at : {A : Type 0} (all : List A) (i : ℕ) (its : A) (more : List A) → its ∷ more ≡ drop i all → more ≡ drop (suc i) all
 rest_at [] zero its more is = absurd (let wrong : its ∷ more ≡ [] = is in cc)
@@ -94,8 +94,8 @@ module _ (P : Held → Type 0) (Here : ℕ → Live directory.Unit → Held → 
 
 -- ALL LIVES
 
-module _ (P : Held → Type 0) (script : Script) (over : (l : ℕ) (life : Life) (seen : Held → Seen) (files : Files) → slice_get script.lives l ≡ Some life → by_worlds.reads seen → IsLifeOver (lived script l life seen files))
-    (lives : (l : ℕ) (life : Life) (seen : Held → Seen) (files : Files) → slice_get script.lives l ≡ Some life → by_worlds.reads seen → IsLifeOver (lived script l life seen files) → (w new : World) (how : Result (Unit {0}) Stop) → P w.held
+module _ (P : Held → Type 0) (script : Script) (over : (l : ℕ) (life : Life) (seen : Held → Seen) (files : Files) → slice_get script.lives l ≡ Some life → by_worlds.reads seen → IsLifeInForm (lived script l life seen files))
+    (lives : (l : ℕ) (life : Life) (seen : Held → Seen) (files : Files) → slice_get script.lives l ≡ Some life → by_worlds.reads seen → IsLifeInForm (lived script l life seen files) → (w new : World) (how : Result (Unit {0}) Stop) → P w.held
     → LivesSo by_worlds (lived script l life seen files) files w how new → P new.held) where
   ends_hold : (life : Life) (how : Result (Unit {0}) Stop) (mid new : World) (result : Result (Unit {0}) Fault) (next : World → Type 0) → P mid.held → ((w : World) → P w.held → next w → P new.held)
       → EndsLife by_worlds life how mid result new next → P new.held
@@ -143,11 +143,11 @@ module _ (before : Option (List ℕ)) where
   leaves_plan (stopped stop) h same = same
   leaves_plan (broken cause) h same = same
 
-  life_keeps_plan : (script : Script) (l : ℕ) (life : Life) (seen : Held → Seen) (files : Files) → slice_get script.lives l ≡ Some life → by_worlds.reads seen → IsLifeOver (lived script l life seen files) → (w new : World)
+  life_keeps_plan : (script : Script) (l : ℕ) (life : Life) (seen : Held → Seen) (files : Files) → slice_get script.lives l ≡ Some life → by_worlds.reads seen → IsLifeInForm (lived script l life seen files) → (w new : World)
       (how : Result (Unit {0}) Stop) → SamePlan w.held → LivesSo by_worlds (lived script l life seen files) files w how new → SamePlan new.held
   life_keeps_plan script l life seen files there reads here w new how same lives =
       life_holds SamePlan (λ j st h. SamePlan h) (λ j st h its. its) g step files w new how same
-      (λ ended old now at run. leaves_plan ended now.held (node_openings_keep_plans (at_step g 0) ended old now (form_over g here 0) run ∙ ap (λ (h : Held). plan h) at ∙ same))
+      (λ ended old now at run. leaves_plan ended now.held (node_openings_keep_plans (at_step g 0) ended old now (form_at g here 0) run ∙ ap (λ (h : Held). plan h) at ∙ same))
       (λ stop now its. (its.2).plan ∙ same) lives
     where
       g : Lived
@@ -160,7 +160,7 @@ module _ (before : Option (List ℕ)) where
           (node_steps_keep_plans (at_step g (suc i)) st m.message ended old now (subst (λ (course : Course directory.Unit NodeStop (Live directory.Unit)). EndsSo course ended old now) (m.course (suc i) st) run)
           ∙ ap (λ (h : Held). plan h) at ∙ same)
 
-pub run_keeps_plan : (script : Script) → ((l : ℕ) (life : Life) (seen : Held → Seen) (files : Files) → slice_get script.lives l ≡ Some life → by_worlds.reads seen → IsLifeOver (lived script l life seen files)) → (first : Files → Type 0) (w new : World)
+pub run_keeps_plan : (script : Script) → ((l : ℕ) (life : Life) (seen : Held → Seen) (files : Files) → slice_get script.lives l ≡ Some life → by_worlds.reads seen → IsLifeInForm (lived script l life seen files)) → (first : Files → Type 0) (w new : World)
     (answered : Result (Unit {0}) Fault) → RunsSo by_worlds script first w answered new → plan new.held ≡ plan w.held
 run_keeps_plan script over first w new answered run =
     run_holds (SamePlan (plan w.held)) script over (λ l life seen files there reads here old now how same lives. life_keeps_plan (plan w.held) script l life seen files there reads here old now how same lives) first w new answered refl run

@@ -38,7 +38,7 @@ use Rattle.dkg_core.proofs.NodeKept.{node_openings_agree, node_peers_are_kept, n
 use Rattle.dkg_core.proofs.Openings.{node_openings_lead_over}
 use Rattle.dkg_core.proofs.Stepping.{node_steps_lead_over}
 use Rattle.dkg_reshare.specs.declared.stop.Stop.{Stop}
-use Rattle.dkg_run.specs.Epochs.{IsAt, IsLifeOver}
+use Rattle.dkg_run.specs.Epochs.{IsAt, IsLifeInForm}
 use Rattle.dkg_run.specs.Given.{AreBytes, Lived, at_step, lived, step_of}
 use Rattle.dkg_run.specs.Lives.{LivesSo, RunsOver, RunsSo, never}
 use Rattle.dkg_run.specs.Over.{Standing}
@@ -46,7 +46,7 @@ use Rattle.dkg_run.specs.Ways.{by_worlds}
 use Rattle.dkg_run.proofs.Awaiting.{IsReached}
 use Rattle.dkg_run.proofs.FewPlayers.{HasFew, begun_few, next_few, own_fits}
 use Rattle.dkg_run.proofs.FitsBrought.{acks_fit, brings_fit}
-use Rattle.dkg_run.proofs.Former.{Brings, IsMessage, event_in_form, form_over, lacks_nobody, live_at, message_in}
+use Rattle.dkg_run.proofs.Former.{Brings, IsMessage, event_in_form, form_at, lacks_nobody, live_at, message_in}
 use Rattle.dkg_run.proofs.GivingDealings.{goes_nothing}
 use Rattle.dkg_run.proofs.GivingLives.{KeepsSo, LeavesSo, life_holds, run_holds}
 use Rattle.dkg_run.proofs.OpeningsLeave.{opening_whole}
@@ -57,7 +57,7 @@ abbrev pub WholeHeld : Held → Type 0
 WholeHeld h = IsWhole (notes h) h.secrets
 
 -- A LIFE whose blocks are bytes at heights of 64 bits
-module _ (g : Lived) (here : IsLifeOver g) (reads : ReadsRecords g.seen) (bytes : AreBytes g.script.blocks) (heights : AllByRecursion (λ line. line.height < 2 ^ 64) g.script.blocks) where
+module _ (g : Lived) (here : IsLifeInForm g) (reads : ReadsRecords g.seen) (bytes : AreBytes g.script.blocks) (heights : AllByRecursion (λ line. line.height < 2 ^ 64) g.script.blocks) where
   reads_at : (j : ℕ) → ReadsRecords (at_step g j).seen
   unfolding at_step
   reads_at zero = reads
@@ -81,7 +81,7 @@ module _ (g : Lived) (here : IsLifeOver g) (reads : ReadsRecords g.seen) (bytes 
   opened : (w new : World) → WholeHeld w.held → (st : Live directory.Unit) → EndsSo (node_opening (at_step g 0)) (went st) w new → IsWholeAt 0 st new.held
   opened w new whole st run =
       let k : Held = held_behind (at_step g 0) w.held in
-      let led : IsNodeBegun (at_step g 0) ((at_step g 0).seen k) k st × LeavesHeld (at_step g 0) k new.held (first_block (at_step g 0)) = node_openings_lead_over (at_step g 0) (went st) w new (form_over g here 0) (lacks_nobody g 0) run in
+      let led : IsNodeBegun (at_step g 0) ((at_step g 0).seen k) k st × LeavesHeld (at_step g 0) k new.held (first_block (at_step g 0)) = node_openings_lead_over (at_step g 0) (went st) w new (form_at g here 0) (lacks_nobody g 0) run in
       record {
         at = record { live = (led.0).live; active = (led.0).active; stands = begun_stands g here ((at_step g 0).seen k) k st led.0 };
         few = begun_few g here ((at_step g 0).seen k) k st led.0;
@@ -91,7 +91,7 @@ module _ (g : Lived) (here : IsLifeOver g) (reads : ReadsRecords g.seen) (bytes 
   opening_keeps : (h : Held) → WholeHeld h → KeepsSo WholeHeld (IsWholeAt 0) (node_opening (at_step g 0)) h
   opening_keeps h whole ended w new at run =
       let before : WholeHeld w.held = subst WholeHeld (sym at) whole in
-      leaves 0 ended new.held (opening_whole (at_step g 0) (form_over g here 0) w ended new run before)
+      leaves 0 ended new.held (opening_whole (at_step g 0) (form_at g here 0) w ended new run before)
       (λ end is. opened w new before end (subst (λ (e : Ended NodeStop (Live directory.Unit)). EndsSo (node_opening (at_step g 0)) e w new) is run))
 
   -- A STEP
@@ -152,7 +152,7 @@ module _ (g : Lived) (here : IsLifeOver g) (reads : ReadsRecords g.seen) (bytes 
         let its_run : EndsSo (node_step c (event_of m.message) st) (went end) w new = run_here (went end) run in
         let k : Held = held_at_setup c m.message w.held in
         let led : IsNextIn c st m.message w.held k end × IsActiveIn end × LeavesTaken c st m.message k new.held
-        = node_steps_lead_over c st m.message (went end) w new (form_over g here (suc i)) taken live (here_at.at).active its_run in
+        = node_steps_lead_over c st m.message (went end) w new (form_at g here (suc i)) taken live (here_at.at).active its_run in
         record {
           at = record { live = (led.0).live; active = led.1; stands = step_stands g here i its is reached m st live (here_at.at).stands w.held k end led.0 };
           few = next_few g here (suc i) st end m.message w.held k live led.0 here_at.few;
@@ -174,7 +174,7 @@ module _ (g : Lived) (here : IsLifeOver g) (reads : ReadsRecords g.seen) (bytes 
       same_devices h k records secrets whole = subst (λ (t : Secrets). IsWhole (notes k) t) (sym secrets) (subst (λ (es : List Entry). IsWhole es h.secrets) (sym records) whole)
 
 -- A RUN leaves whole devices whole
-pub run_whole : (script : Script) → ((l : ℕ) (life : Life) (seen : Held → Seen) (files : Files) → slice_get script.lives l ≡ Some life → by_worlds.reads seen → IsLifeOver (lived script l life seen files))
+pub run_whole : (script : Script) → ((l : ℕ) (life : Life) (seen : Held → Seen) (files : Files) → slice_get script.lives l ≡ Some life → by_worlds.reads seen → IsLifeInForm (lived script l life seen files))
     → ((seen : Held → Seen) → by_worlds.reads seen → ReadsRecords seen) → AreBytes script.blocks → AllByRecursion (λ line. line.height < 2 ^ 64) script.blocks
     → (first : Files → Type 0) (w new : World) (answered : Result (Unit {0}) Fault) → WholeHeld w.held → RunsSo by_worlds script first w answered new → WholeHeld new.held
 run_whole script over reads bytes heights first w new answered whole run =
@@ -183,7 +183,7 @@ run_whole script over reads bytes heights first w new answered whole run =
     first w new answered whole run
 
 -- .. so does what a crash may leave behind it, where what a read gave before was one of what a crash might have left
-pub stays_whole : (script : Script) → ((l : ℕ) (life : Life) (seen : Held → Seen) (files : Files) → slice_get script.lives l ≡ Some life → by_worlds.reads seen → IsLifeOver (lived script l life seen files))
+pub stays_whole : (script : Script) → ((l : ℕ) (life : Life) (seen : Held → Seen) (files : Files) → slice_get script.lives l ≡ Some life → by_worlds.reads seen → IsLifeInForm (lived script l life seen files))
     → ((seen : Held → Seen) → by_worlds.reads seen → ReadsRecords seen) → AreBytes script.blocks → AllByRecursion (λ line. line.height < 2 ^ 64) script.blocks
     → (answered : Result (Unit {0}) Fault) (before now : Standing) (out out_now : List Line) → before.image before.files
     → (Stands before.files before.image → (c : Files) → now.image c → RunsOver script answered before.files (at (moment out before.held never) before.files) (λ f. at (moment out_now now.held f) c))

@@ -25,7 +25,7 @@ use Rattle.dkg_core.specs.Courses.{Course}
 use Rattle.dkg_core.specs.Live.{Live, NodeStop}
 use Rattle.dkg_core.specs.Node.{node_opening}
 use Rattle.dkg_core.specs.Seen.{Seen}
-use Rattle.dkg_reshare.specs.Today.{seen_today}
+use Rattle.dkg_reshare.specs.Planless.{seen_planless}
 use Rattle.dkg_reshare.specs.declared.stop.Stop.{Stop}
 use Rattle.dkg_reshare.specs.declared.stop.Stop.TheVariants.{Cut, Fault as FaultOf}
 use Rattle.dkg_run.specs.Causes.{HasCause}
@@ -124,12 +124,12 @@ module _ (script : Script) (number : ℕ) (life : Life) (files : Files) (how : R
       → (picks : List ℕ) → LivesHere by_lines script AnyFiles number life (trace out picks) result (trace new (picks ++ picks_at_end life how)) (λ now. (result ≡ Ok tt) × (now ≡ trace new (picks ++ picks_at_end life how)))
   life_lines seen reads so ends picks = (seen, files, how, trace mid picks, reads, tt, tt, so picks, ends picks)
 
-  pub life_over : (c : Files) (held held_mid held_new : Secrets) (f f_mid f_new : Burn) → held_new ≡ held_mid → f_new ≡ f_mid
-      → LivesSo by_worlds (lived script number life seen_today files) files (at (moment out held f) files) how (at (moment mid held_mid f_mid) c)
+  pub life_closes : (c : Files) (held held_mid held_new : Secrets) (f f_mid f_new : Burn) → held_new ≡ held_mid → f_new ≡ f_mid
+      → LivesSo by_worlds (lived script number life seen_planless files) files (at (moment out held f) files) how (at (moment mid held_mid f_mid) c)
       → EndsLife by_lines life how (trace mid []) result (trace new (picks_at_end life how)) (λ now. (result ≡ Ok tt) × (now ≡ trace new (picks_at_end life how)))
       → LivesHere by_worlds script (λ its. its ≡ files) number life (at (moment out held f) files) result (at (moment new held_new f_new) c) (λ w. (result ≡ Ok tt) × (w ≡ at (moment new held_new f_new) c))
-  life_over c held held_mid held_new f f_mid f_new same_held same_fuse so ends = (
-    seen_today,
+  life_closes c held held_mid held_new f f_mid f_new same_held same_fuse so ends = (
+    seen_planless,
     files,
     how,
     at (moment mid held_mid f_mid) c,

@@ -31,7 +31,7 @@ use Rattle.dkg_run.specs.Ways.{Way, by_lines, by_worlds}
 use Rattle.dkg_run.proofs.Ordered.{opened_in, opening_added, step_is_quiet}
 use Rattle.dkg_run.proofs.Standing.{AddsQuiet}
 use Rattle.dkg_run.proofs.Steps.{Opening}
-use Rattle.dkg_run.proofs.LivesKeptOver.{Rest, all_rest}
+use Rattle.dkg_run.proofs.LivesKept.{Rest, all_rest}
 
 abbrev U : Type 0
 U = directory.Unit

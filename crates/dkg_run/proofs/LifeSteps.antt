@@ -40,7 +40,7 @@ use Rattle.dkg_core.specs.Heard.{recovered_in}
 use Rattle.dkg_core.specs.Laws as node
 use Rattle.dkg_core.specs.Laws.{reach_of}
 use Rattle.dkg_core.specs.Live as core
-use Rattle.dkg_core.specs.Live.{Stage, Deals, Includes, Follows, Ends, Finalized, Live, Message, NodeStop, Peer, Plays, Sent, phase_of}
+use Rattle.dkg_core.specs.Live.{Stage, Deals, Includes, Follows, Ends, Finalized, Live, Message, NodeStop, Peer, Sent, phase_of}
 use Rattle.dkg_core.specs.Blocks.{is_in_window_in}
 use Rattle.dkg_core.specs.Sources.{Tip}
 use Rattle.dkg_ceremony.specs.declared.phase.Phase.{Phase}
@@ -57,7 +57,7 @@ use Rattle.dkg_core.proofs.BlocksKept.{node_steps_spare_their_logs}
 use Rattle.dkg_core.proofs.NodeKept.{node_openings_agree, node_openings_restore, node_steps_agree}
 use Rattle.dkg_core.proofs.Openings.{node_openings_lead_over}
 use Rattle.dkg_core.proofs.Stepping.{node_steps_lead_over}
-use Rattle.dkg_run.specs.Epochs.{IsAt, IsLifeOver}
+use Rattle.dkg_run.specs.Epochs.{IsAt, IsLifeInForm}
 use Rattle.dkg_run.specs.Given.{Lived, at_step, lived}
 use Rattle.dkg_run.proofs.Alone.{epoch_alike, follows_alike, height_alike}
 use Rattle.dkg_run.proofs.Awaiting.{HasHeight, IsReached, has_height}
@@ -65,20 +65,20 @@ use Rattle.dkg_run.proofs.BlocksLeave.{gives_no_other}
 use Rattle.dkg_run.proofs.Currently.{HandsOn, RestsIn, begun_more}
 use Rattle.dkg_run.proofs.Drawn.{HasRoundOf, begun_round, step_round}
 use Rattle.dkg_run.proofs.FewPlayers.{HasFew, begun_few, next_few, own_fits}
-use Rattle.dkg_run.proofs.Former.{Brings, IsMadeOf, IsMessage, event_in_form, form_over, lacks_nobody, life_in, live_at}
-use Rattle.dkg_run.proofs.HeardOver.{Knows, ValidAt}
+use Rattle.dkg_run.proofs.Former.{Brings, IsMadeOf, IsMessage, event_in_form, form_at, lacks_nobody, life_in, live_at}
+use Rattle.dkg_run.proofs.Heard.{Knows, ValidAt}
 use Rattle.dkg_run.proofs.MarksAt.{has_handed}
 use Rattle.dkg_run.proofs.NextLives.{GoesOn, IsApplied, TakesOver, applied_so, has_round, next_so, with_round}
 use Rattle.dkg_run.proofs.NoOthers.{IsOwnDealt}
-use Rattle.dkg_run.proofs.OpenedOver.{IsOpenedBy, Opens, opening_kept}
+use Rattle.dkg_run.proofs.KeptOpenings.{IsOpenedBy, Opens, opening_kept}
 use Rattle.dkg_run.proofs.OpeningsLeave.{opening_gives, opening_keeps, opening_logs, opening_unsaid, opening_whole}
-use Rattle.dkg_run.proofs.OwedOver.{no_block_due, owed}
-use Rattle.dkg_run.proofs.PeersOver.{IsUndue}
+use Rattle.dkg_run.proofs.Owed.{no_block_due, owed}
+use Rattle.dkg_run.proofs.PeerForms.{IsUndue}
 use Rattle.dkg_run.proofs.Plays.{HoldsHanded, PlaysWhere, begun_plays, begun_valid, deals_early, plays_on, seated_plays, seated_valid}
-use Rattle.dkg_run.proofs.RisesOver.{awaited_begun, begun_rises, block_current, block_reach, is_current, message_begun, message_epoch}
+use Rattle.dkg_run.proofs.AwaitedRises.{awaited_begun, begun_rises, block_current, block_reach, is_current, message_begun, message_epoch}
 use Rattle.dkg_run.proofs.Seated.{own_valid}
 use Rattle.dkg_run.proofs.Started.{first_epoch_is}
-use Rattle.dkg_run.proofs.StepsOver.{AnyCall, CarriesAt, IsAtStep, IsBehindStep, IsLeftBy, IsSaved, Reaches, WithinCall, block_kept, message_kept, reaches_as}
+use Rattle.dkg_run.proofs.KeptSteps.{AnyCall, CarriesAt, IsAtStep, IsBehindStep, IsLeftBy, IsSaved, Reaches, WithinCall, block_kept, message_kept, reaches_as}
 use Rattle.dkg_run.proofs.Stood.{begun_stands, step_stands, step_taken}
 
 abbrev U : Type 0
@@ -96,7 +96,7 @@ abbrev pub IsSettled : Setting → Progress → Type 0
 IsSettled s q = AreKnownHandedIn s → IsDue s q → WroteAck q.written
 
 -- WHAT A LIFE IS GIVEN, of this setting: its script is consistent where its first lives ended so
-pub record IsMeantOver (s : Setting) (ends : List (Option CutAt)) (g : Lived) : Type 0 where
+pub record IsLifeOfSetting (s : Setting) (ends : List (Option CutAt)) (g : Lived) : Type 0 where
   pub script_is : g.script ≡ s.script
   pub consistent : IsConsistentScript s ends
   pub none_found : found s g.number ≡ None
@@ -109,7 +109,7 @@ module _ (s : Setting) (ends : List (Option CutAt)) (l : ℕ) (life : Life) (see
   abbrev g : Lived
   g = lived s.script l life seen files
 
-  module _ (here : IsLifeOver g) (meant : IsMeantOver s ends g) (cuts : List (Option CutAt)) (never_back : awaited_before s cuts l ≤ awaited_epoch s l life 0 + 1) where
+  module _ (here : IsLifeInForm g) (meant : IsLifeOfSetting s ends g) (cuts : List (Option CutAt)) (never_back : awaited_before s cuts l ≤ awaited_epoch s l life 0 + 1) where
     abbrev n : ℕ
     n = blocks_per_epoch s
 
@@ -213,7 +213,7 @@ module _ (s : Setting) (ends : List (Option CutAt)) (l : ℕ) (life : Life) (see
         where
           by_end : (its_end : Ended NodeStop (Live U)) → EndsSo (node_step (c (suc i)) (event_of m.message) st) its_end w new → IfWentTo its_end IsFollowed
           by_end (went end) run =
-              let led = node_steps_lead_over (c (suc i)) st m.message (went end) w new (form_over g here (suc i)) taken live going.at.active run in
+              let led = node_steps_lead_over (c (suc i)) st m.message (went end) w new (form_at g here (suc i)) taken live going.at.active run in
               record {
                 h = w.held;
                 k = held_at_setup (c (suc i)) m.message w.held;
@@ -232,7 +232,7 @@ module _ (s : Setting) (ends : List (Option CutAt)) (l : ℕ) (life : Life) (see
       reach : reach_of (c (suc i)) m.message ≤ b (suc i) - 1 → LogsAre s (b (suc i)) new.held
       reach low = λ key log now there.
           let above : b (suc i) - 1 ≤ key.0 = omega (arith, now) in
-          let same = node_steps_spare_their_logs (c (suc i)) st m.message ended (b (suc i) - 1) w new (form_over g here (suc i)) taken live low going.carries.half.agreed can run key above in
+          let same = node_steps_spare_their_logs (c (suc i)) st m.message ended (b (suc i) - 1) w new (form_at g here (suc i)) taken live low going.carries.half.agreed can run key above in
           let rises : b i ≤ b (suc i) = begun_rises s reshares l life life_is cuts some never_back i in
           going.logs key log (omega (arith, rises, now)) (sym same ∙ there)
 
@@ -407,9 +407,6 @@ module _ (s : Setting) (ends : List (Option CutAt)) (l : ℕ) (life : Life) (see
         dealing : judged_block (c (suc i)) block st ≡ Applied → (round : Round) → st.participation.round ≡ Some round → b (suc i) < e i + 2
         dealing applied round there = block_current s reshares l life life_is cuts some never_back i number block its_height its_is reached (same_epoch_as applied round there)
 
-        block_live : IsLiveIn (c (suc i)) st
-        block_live = live
-
         -- recorded dealings of the epoch that is awaited behind it pass
         valid_then : (end : Live U) → ended ≡ went end → IsFollowed end → ValidAt (e (suc i)) end new.held s
         valid_then end same its_end = either (next_so (c (suc i)) st m.message its_end.h its_end.k end live its_end.next)
@@ -420,7 +417,7 @@ module _ (s : Setting) (ends : List (Option CutAt)) (l : ℕ) (life : Life) (see
                 let now_is : round.number ≡ e (suc i) = number_is (suc i) end its_end.at its_end.of_round round there in
                 let was_is : round.number ≡ e i = number_is i st going.at going.of_round round before in
                 let same_epoch : e (suc i) ≡ e i = sym now_is ∙ was_is in
-                elim (gives_no_other (c (suc i)) (form_over g here (suc i)) st live block block_taken w going.carries.half.agreed block_can ended new block_run (e (suc i), dealer) pair got) [
+                elim (gives_no_other (c (suc i)) (form_at g here (suc i)) st live block block_taken w going.carries.half.agreed block_can ended new block_run (e (suc i), dealer) pair got) [
                   | inl was ↦ going.carries.half.valid round dealer pair before (sym (goes.same).seat ∙ plays) small (subst (λ (x : ℕ). get (recovered_in w.held) (x, dealer) ≡ Some pair) same_epoch was)
                   | inr own ↦ own_passes round dealer pair before own
                 ]
@@ -430,7 +427,7 @@ module _ (s : Setting) (ends : List (Option CutAt)) (l : ℕ) (life : Life) (see
                     let dealer_is : dealer ≡ me s = ap (λ (k : ℕ × ℕ). k.1) own.at ∙ (knows (suc i)).me_is in
                     subst (λ (x : ℕ). dealing_of round (me s) x pair.0 pair.1 ≡ Ok tt) (sym dealer_is)
                     (subst (λ (r : Round). dealing_of r (me s) (me s) pair.0 pair.1 ≡ Ok tt) (some_is (sym own.of_epoch ∙ before))
-                    (own_valid (c (suc i)) s st (e (suc i), dealer) pair (form_over g here (suc i)) live (knows (suc i)) own))
+                    (own_valid (c (suc i)) s st (e (suc i), dealer) pair (form_at g here (suc i)) live (knows (suc i)) own))
             either (inr taken_over) round dealer pair there plays small got =
                 seated_valid s l life seen files (suc i) WasCommitted _ _ _ _ end (taken_over.taken).seated new.held (agreed_then end same) round dealer pair there plays small
                 (subst (λ (x : ℕ). get (recovered_in new.held) (x, dealer) ≡ Some pair) (sym (number_is (suc i) end its_end.at its_end.of_round round there)) got)
@@ -449,7 +446,7 @@ module _ (s : Setting) (ends : List (Option CutAt)) (l : ℕ) (life : Life) (see
             by_end (broken cause) same its_end = tt
 
         block_left : Reaches s p w.out new.out (IsLeftBy (c (suc i)) (b (suc i)) (e (suc i)) l (Unit {0}) ended new.held s p)
-        block_left = block_kept (c (suc i)) (b i) (e i) (b (suc i)) (e (suc i)) l life (suc i) number block st ended w new s p (form_over g here (suc i)) stands its_is awaits block_carries block_can block_taken
+        block_left = block_kept (c (suc i)) (b i) (e i) (b (suc i)) (e (suc i)) l life (suc i) number block st ended w new s p (form_at g here (suc i)) stands its_is awaits block_carries block_can block_taken
             (begun_rises s reshares l life life_is cuts some never_back i) low (is_current s reshares l life life_is cuts some never_back (suc i)) dealing behind_it block_run
 
         pub block_goes : Reaches s p w.out new.out (StepLeaves i ended new.held p)
@@ -512,7 +509,7 @@ module _ (s : Setting) (ends : List (Option CutAt)) (l : ℕ) (life : Life) (see
         where
           by_end : (x : Ended NodeStop (Live U)) → EndsSo (node_opening (c 0)) x w new → IfWentTo x IsBegun
           by_end (went end) run =
-              let led = (node_openings_lead_over (c 0) (went end) w new (form_over g here 0) (lacks_nobody g 0) run).0 in
+              let led = (node_openings_lead_over (c 0) (went end) w new (form_at g here 0) (lacks_nobody g 0) run).0 in
               record {
                 read = (c 0).seen (held_behind (c 0) w.held);
                 k = held_behind (c 0) w.held;
@@ -526,7 +523,7 @@ module _ (s : Setting) (ends : List (Option CutAt)) (l : ℕ) (life : Life) (see
           by_end (broken cause) run = tt
 
       logs_opened : LogsAre s (b 0) new.held
-      logs_opened key log now there = logs key log (before (begun_before s p.cuts (length p.cuts)) (b 0) key.0 later now) (opening_logs (c 0) (form_over g here 0) w ended new run key log there)
+      logs_opened key log now there = logs key log (before (begun_before s p.cuts (length p.cuts)) (b 0) key.0 later now) (opening_logs (c 0) (form_at g here 0) w ended new run key log there)
         where
           before : (x y z : ℕ) → x ≤ y → y < z + 2 → x < z + 2
           before x y z p q = omega (arith, p, q)
@@ -552,8 +549,8 @@ module _ (s : Setting) (ends : List (Option CutAt)) (l : ℕ) (life : Life) (see
       opened =
           let listed = node_openings_restore (c 0) ended w new reads run in
           opening_kept (c 0) (b 0) (e 0) l ended w new s p lives rests (knows 0) (first_epoch (c 0) - 1) prunes_low later (is_current s reshares l life life_is cuts some never_back 0)
-          (opening_keeps (c 0) (form_over g here 0) w ended new run) (opening_gives (c 0) (form_over g here 0) w ended new run rests.whole) (opening_whole (c 0) (form_over g here 0) w ended new run rests.whole)
-          (opening_unsaid (c 0) (form_over g here 0) w ended new run) behind_opening listed.0 listed.1
+          (opening_keeps (c 0) (form_at g here 0) w ended new run) (opening_gives (c 0) (form_at g here 0) w ended new run rests.whole) (opening_whole (c 0) (form_at g here 0) w ended new run rests.whole)
+          (opening_unsaid (c 0) (form_at g here 0) w ended new run) behind_opening listed.0 listed.1
           (subst (λ (x : ℕ). BeginsRestored x (restored_list (recovered_in w.held)) listed.0 ended) number_of listed.2)
 
       pub opening_goes : Reaches s p w.out new.out (OpeningLeaves ended new.held p)

@@ -35,9 +35,6 @@ includes_apart e = cc
 ends_apart : ◌≡◌ {A = Stage} Ends Follows → ⊥
 ends_apart e = cc
 
-some_apart : {A : Type 0} (x : A) → ◌≡◌ {A = Option A} (Some x) None → ⊥
-some_apart x e = cc
-
 refusal_apart : (fault : Fault) → ◌≡◌ {A = Judged} (Refusal fault) Applied → ⊥
 refusal_apart fault e = cc
 

@@ -36,7 +36,7 @@ use Rattle.dkg_reshare.specs.LiveOf.{Beside, EndsBeside, live_of, nothing_beside
 use Rattle.dkg_reshare.specs.Made.{MakesAt, Speaks, Tells, UnlessBroken}
 use Rattle.dkg_reshare.specs.Moved.{StaysAbove}
 use Rattle.dkg_reshare.specs.Opened.{IsInGrammar, IsOpeningOf, epoch_at}
-use Rattle.dkg_reshare.specs.Today.{IsOpeningOfToday, seen_today}
+use Rattle.dkg_reshare.specs.Planless.{IsBareOpening, seen_planless}
 use Rattle.dkg_reshare.specs.declared.actor.State.{State}
 use Rattle.dkg_reshare.specs.declared.config.Terms.{Terms}
 use Rattle.dkg_reshare.specs.declared.life.Life as reshare
@@ -45,15 +45,15 @@ use Rattle.dkg_reshare.specs.declared.stop.Stop.TheVariants.{Cut, Failed, Fault 
 use Rattle.dkg_reshare.proofs.Burning.{burns_next, burns_none, unless}
 use Rattle.dkg_run.specs.Ended.{by_node_stop}
 use Rattle.dkg_core.specs.Endings.{first_epoch}
-use Rattle.dkg_run.specs.Epochs.{IsChecked, IsLifeOver}
+use Rattle.dkg_run.specs.Epochs.{IsChecked, IsLifeInForm}
 use Rattle.dkg_run.specs.Given.{IsUnplanned, Lived, anchor_in, at_step, blocks_in, limits_of, lived, numbered, starts_above, unsealed}
 use Rattle.dkg_run.specs.Nodes.{IsFenceReady, IsHalfGiven, MayEnter, ViewedNew, ended_new, ends_half}
 use Rattle.dkg_run.specs.Sources.{IsSourceOf}
 use Rattle.dkg_run.specs.declared.held.HeldBlocks.{HeldBlocks}
 use Rattle.dkg_run.specs.declared.node.Node.{Node}
-use Rattle.dkg_run.proofs.Checked.{life_over}
+use Rattle.dkg_run.proofs.Checked.{life_in_form}
 use Rattle.dkg_run.proofs.Noding.{at_oneshot, is_of}
-use Rattle.dkg_run.proofs.Opening.{Lives, end_of, ended_makes, ended_says, epoch_is, fence_ready, half_given, halted_makes, halted_says, lent_at, lives_at, lives_err, made_there, may_enter, may_enter_made, opened_made, opened_says, opened_view, opening_of, reading_as, today_at, number_at, unless_named, went_burns}
+use Rattle.dkg_run.proofs.Opening.{Lives, end_of, ended_makes, ended_says, epoch_is, fence_ready, half_given, halted_makes, halted_says, lent_at, lives_at, lives_err, made_there, may_enter, may_enter_made, opened_made, opened_says, opened_view, opening_of, reading_as, planless_at, number_at, unless_named, went_burns}
 use Rattle.dkg_run.proofs.Sourced.{source_is}
 
 -- the terms that a script's configuration comes to
@@ -102,11 +102,11 @@ found_nothing limit tells files Failed disk secrets reached is = absurd is
 pub found_as : (limit most : ℕ) → limit ≡ most → (tells : Bool) (files : Files) (stop : Stop) (disk secrets reached : Type 0) → IsFoundAt limit tells files stop disk secrets reached → IsFoundAt most tells files stop disk secrets reached
 found_as limit most same tells files stop disk secrets reached = subst (λ (n : ℕ). IsFoundAt n tells files stop disk secrets reached) same
 
-pub reads_today : IsUnplanned seen_today
-reads_today = λ h. refl
+pub reads_planless : IsUnplanned seen_planless
+reads_planless = λ h. refl
 
 -- it starts in the same epoch over any files
-pub starts_alike : (script : Script) (number : ℕ) (life : Life) (files : Files) → first_epoch (at_step (lived script number life seen_today files) 0) - 1 ≡ starts_above script number life
+pub starts_alike : (script : Script) (number : ℕ) (life : Life) (files : Files) → first_epoch (at_step (lived script number life seen_planless files) 0) - 1 ≡ starts_above script number life
 unfolding at_step
 starts_alike script number life files = refl
 
@@ -118,13 +118,13 @@ module _ (script : Script) (number : ℕ) (life : Life) (source : HeldBlocks) (f
     life_with seen = lived script number life seen files
 
     abbrev pub its : Fixed directory.Unit
-    its = at_step (life_with seen_today) 0
+    its = at_step (life_with seen_planless) 0
 
     abbrev pub answers : Source directory.Unit
     answers = source_over unsealed (anchor_in source.blocks.now source.anchor) (numbered source.blocks.now source.numbers.items)
 
-    here_with : (seen : Held → Seen) → IsUnplanned seen → IsLifeOver (life_with seen)
-    here_with seen reads = life_over script number life seen files form checked life_is reads
+    here_with : (seen : Held → Seen) → IsUnplanned seen → IsLifeInForm (life_with seen)
+    here_with seen reads = life_in_form script number life seen files form checked life_is reads
 
     of_with : (seen : Held → Seen) → IsUnplanned seen → IsOf terms (at_step (life_with seen) 0)
     of_with seen reads = is_of (life_with seen) terms script.config refl reads are 0
@@ -132,27 +132,27 @@ module _ (script : Script) (number : ℕ) (life : Life) (source : HeldBlocks) (f
     -- what the actor's opening asks
     pub opening_is : IsInGrammar (limits_of script).most files → IsOpeningOf terms answers number life.word files its
     opening_is grammar =
-        opening_of (life_with seen_today) terms answers 0 (of_with seen_today reads_today) (source_is (life_with seen_today) source from) files refl refl grammar
+        opening_of (life_with seen_planless) terms answers 0 (of_with seen_planless reads_planless) (source_is (life_with seen_planless) source from) files refl refl grammar
 
     pub lent_is : IsLent terms answers life.word its
-    lent_is = lent_at (life_with seen_today) terms answers 0 (of_with seen_today reads_today) (source_is (life_with seen_today) source from)
+    lent_is = lent_at (life_with seen_planless) terms answers 0 (of_with seen_planless reads_planless) (source_is (life_with seen_planless) source from)
 
     pub number_is : its.life ≡ number
-    number_is = number_at (life_with seen_today) terms answers 0 (of_with seen_today reads_today) (source_is (life_with seen_today) source from)
+    number_is = number_at (life_with seen_planless) terms answers 0 (of_with seen_planless reads_planless) (source_is (life_with seen_planless) source from)
 
-    pub today_is : IsOpeningOfToday its
-    today_is = today_at (life_with seen_today) terms answers 0 (of_with seen_today reads_today) (source_is (life_with seen_today) source from)
+    pub planless_is : IsBareOpening its
+    planless_is = planless_at (life_with seen_planless) terms answers 0 (of_with seen_planless reads_planless) (source_is (life_with seen_planless) source from)
 
     -- the epoch before the one in which it starts
     pub least_is : epoch_at answers terms - 1 ≡ starts_above script number life
-    least_is = ap (λ (e : ℕ). e - 1) (epoch_is (life_with seen_today) terms answers 0 (of_with seen_today reads_today) (source_is (life_with seen_today) source from)) ∙ starts_alike script number life files
+    least_is = ap (λ (e : ℕ). e - 1) (epoch_is (life_with seen_planless) terms answers 0 (of_with seen_planless reads_planless) (source_is (life_with seen_planless) source from)) ∙ starts_alike script number life files
 
     given_with : (seen : Held → Seen) → IsUnplanned seen → IsHalfGiven (non_zero_u64_get terms.blocks_per_epoch) answers (at_step (life_with seen) 0)
     given_with seen reads = half_given (life_with seen) terms answers 0 (of_with seen reads) (source_is (life_with seen) source from)
 
     -- with what was read
     read_as : (s : Seen) → reading s its ≡ at_step (life_with (λ h. s)) 0
-    read_as s = reading_as (life_with seen_today) s
+    read_as s = reading_as (life_with seen_planless) s
 
     module _ (Took : List (ℕ × SchemeInfo) → Type 0) (fence : Readiness) (state : State directory.Unit) (P : reshare.Life directory.Unit → Type 0) where
       -- THE ACTOR'S OPENING WENT, and the half's speaks
@@ -225,21 +225,21 @@ module _ (script : Script) (number : ℕ) (life : Life) (source : HeldBlocks) (f
             acts_are = subst (λ (how : Ended _ _). MakesAt (on_devices (opening its)) how files image files_now between old (moment mid s f)) (went_to (live_of made.now fence)) made.holds
 
             given_is : IsHalfGiven (non_zero_u64_get terms.blocks_per_epoch) answers its
-            given_is = given_with seen_today reads_today
+            given_is = given_with seen_planless reads_planless
 
             enters_made : Stands files image → MayEnter its fence end_is
-            enters_made stands = may_enter_made (life_with seen_today) (here_with seen_today reads_today) made.now fence living.life made.orchestrator stands acts_are
+            enters_made stands = may_enter_made (life_with seen_planless) (here_with seen_planless reads_planless) made.now fence living.life made.orchestrator stands acts_are
 
             pub opened_acts : (n : Node) → n.actor.state ≡ state → (out : List Line)
                 → ((c : Fixed directory.Unit) (st : Live directory.Unit) → IsHalfGiven (non_zero_u64_get terms.blocks_per_epoch) answers c → MayEnter c fence st
                 → Speaks (kept_material c st) (ends_half n.fence st (Ok n.half)) mid out)
                 → ViewedNew (Ok n) (λ ended. MakesAt (on_devices (node_opening its)) ended files image files_now between old (moment out s f))
             opened_acts n same out speaks =
-                let end = end_of n its (at_oneshot (life_with seen_today) 0) made.now fence living.life (same ∙ living.is) in (
+                let end = end_of n its (at_oneshot (life_with seen_planless) 0) made.now fence living.life (same ∙ living.is) in (
                   end,
-                  opened_view n its (at_oneshot (life_with seen_today) 0) made.now fence living.life (same ∙ living.is),
+                  opened_view n its (at_oneshot (life_with seen_planless) 0) made.now fence living.life (same ∙ living.is),
                   made_there (went end) (burns_next (went end) (went_burns {S = Live directory.Unit} {T = Live directory.Unit} {y = end_is} acts_are.burns) (burns_none (went end) f)) (λ stands.
-                      opened_made n its (at_oneshot (life_with seen_today) 0) made.now fence living.life (same ∙ living.is) acts_are (speaks its end_is given_is (enters_made stands))),
+                      opened_made n its (at_oneshot (life_with seen_planless) 0) made.now fence living.life (same ∙ living.is) acts_are (speaks its end_is given_is (enters_made stands))),
                 )
 
             pub halted_acts : (stop : Stop) (out : List Line) (half_fence : Readiness)
@@ -248,7 +248,7 @@ module _ (script : Script) (number : ℕ) (life : Life) (source : HeldBlocks) (f
                 → MakesAt (on_devices (node_opening its)) (by_node_stop stop) files image files_now between old (moment out s f)
             halted_acts stop out half_fence speaks =
                 made_there (by_node_stop stop) (burns_next (by_node_stop stop) (went_burns {S = Live directory.Unit} {T = Live directory.Unit} {y = end_is} acts_are.burns) (burns_none (by_node_stop stop) f)) (λ stands.
-                halted_makes its (at_oneshot (life_with seen_today) 0) end_is stop acts_are (speaks its end_is given_is (enters_made stands)))
+                halted_makes its (at_oneshot (life_with seen_planless) 0) end_is stop acts_are (speaks its end_is given_is (enters_made stands)))
 
     module _ (Took : List (ℕ × SchemeInfo) → Type 0) (fence : Readiness) (state : State directory.Unit) where
       -- IT ENDED in the actor's

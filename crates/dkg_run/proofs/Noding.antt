@@ -37,7 +37,7 @@ use Rattle.dkg_reshare.specs.Actors.{AreTerms, EndsAt, FailsStop, HasFailed, IfL
 use Rattle.dkg_types.specs.declared.fault.Fault.TheVariants.{NoMemory}
 use Rattle.dkg_reshare.specs.declared.stop.Stop.TheVariants.{Cut, Failed, Fault as FaultOf}
 use Rattle.dkg_reshare.specs.Ends.{IsCausedBy, IsCausedInStep}
-use Rattle.dkg_reshare.specs.Given.{IsIn, IsOf, ReadsToday}
+use Rattle.dkg_reshare.specs.Given.{IsIn, IsOf, ReadsPlanless}
 use Rattle.dkg_reshare.specs.LiveOf.{Beside, EndsBeside, live_of}
 use Rattle.dkg_reshare.specs.Made.{MakesAt, Speaks, Tells}
 use Rattle.dkg_reshare.specs.Rules.{IsRuledBy}
@@ -323,7 +323,7 @@ module _ (before n : Node) (half : n.half ≡ before.half) (g : Lived) (number :
 
   -- what a call of the actor promises of the life that it had
   abbrev Promises : (Took : List (ℕ × SchemeInfo) → Type 0) → (reshare.Life directory.Unit → Beside directory.Unit → Type 0) → Type 0
-  Promises Took Q = IfLiving before.actor.state (λ life. IsIn before.actor.terms life.word given_at → ReadsToday given_at
+  Promises Took Q = IfLiving before.actor.state (λ life. IsIn before.actor.terms life.word given_at → ReadsPlanless given_at
       → IsRuledBy rounds.round_of deals.deal_of dealings.dealing_of acks.ack_of acks.check_ack_of logs.sign_log_of logs.bears_ack_of publics.share_public_of publics.partial_public_of given_at.rules
       → EndsBeside view.beside Took (Q life))
 
@@ -336,7 +336,7 @@ module _ (before n : Node) (half : n.half ≡ before.half) (g : Lived) (number :
   behind : IsOfLife g before → MayStep g number st → (Took : List (ℕ × SchemeInfo) → Type 0) (Q : reshare.Life directory.Unit → Beside directory.Unit → Type 0) → Promises Took Q → Behind (Q view.life)
   behind of may Took Q its =
       let ends : EndsBeside view.beside Took (Q view.life) =
-      living (λ life. IsIn before.actor.terms life.word given_at → ReadsToday given_at
+      living (λ life. IsIn before.actor.terms life.word given_at → ReadsPlanless given_at
       → IsRuledBy rounds.round_of deals.deal_of dealings.dealing_of acks.ack_of acks.check_ack_of logs.sign_log_of logs.bears_ack_of publics.share_public_of publics.partial_public_of given_at.rules
       → EndsBeside view.beside Took (Q life)) its
       (record { of = of.of number; word_is = at_word g number ∙ sym (living (λ its. its.word ≡ g.life.word) of.word) }) may.reads (at_rules g number) in

@@ -42,14 +42,14 @@ use Rattle.dkg_core.proofs.Stepping.{node_steps_lead_over}
 use Rattle.dkg_reshare.specs.declared.stop.Stop.{Stop}
 use Rattle.dkg_reshare.specs.declared.stop.Stop.TheVariants.{Cut, Failed, Fault as FaultOf}
 use Rattle.dkg_run.specs.Ended.{by_node_stop}
-use Rattle.dkg_run.specs.Epochs.{IsAt, IsLifeOver, awaited_by, epoch_by}
+use Rattle.dkg_run.specs.Epochs.{IsAt, IsLifeInForm, awaited_by, epoch_by}
 use Rattle.dkg_run.specs.Given.{Lived, at_step, lived, step_of}
 use Rattle.dkg_run.specs.Lives.{LivesSo, Steps, TakesAll, fuse_for, fuse_within, never}
 use Rattle.dkg_run.specs.Ways.{by_worlds}
 use Rattle.dkg_run.proofs.Awaiting.{HasHeight, IsBefore, IsReached, before_all, block_behind, has_height, reached_lit}
 use Rattle.dkg_run.proofs.Delivered.{epochs_rise, from_first}
 use Rattle.dkg_run.proofs.Drawn.{HasRoundOf, begun_round, step_round}
-use Rattle.dkg_run.proofs.Former.{Brings, IsMadeOf, IsMessage, event_in_form, form_over, lacks_nobody, live_at, message_in}
+use Rattle.dkg_run.proofs.Former.{Brings, IsMadeOf, IsMessage, event_in_form, form_at, lacks_nobody, live_at, message_in}
 use Rattle.dkg_run.proofs.HeightsRise.{awaited_rise}
 use Rattle.dkg_run.proofs.NextLives.{with_round}
 use Rattle.dkg_run.proofs.OfferedHalves.{HasOffered, IsDealtAt, IsOfferedNow, more_offered, unoffered_now}
@@ -66,12 +66,6 @@ none_some e = cc
 
 same_number : (n m : ℕ) → (n == m) ≡ true → n ≡ m
 same_number n m e = grind (arith, nat_tests)
-
-apart_number : (n : ℕ) → 0 < n → (n == 0) ≡ false
-apart_number n some = grind (arith, nat_tests)
-
-is_number : (n : ℕ) → n ≡ 0 → (n == 0) ≡ true
-is_number n is = grind (arith, nat_tests)
 
 rest_at : {A : Type 0} (all : List A) (i : ℕ) (its : A) (more : List A) → its ∷ more ≡ drop i all → more ≡ drop (suc i) all
 rest_at [] zero its more is = absurd (let wrong : its ∷ more ≡ [] = is in cc)
@@ -135,7 +129,7 @@ stop_top life j Failed so = tt
 stop_top life j (FaultOf fault) so = tt
 
 module _ (s : Setting) (cuts : List (Option CutAt)) (form : IsFormOfEpochs s.script) (consistent : IsConsistentScript s cuts) (l : ℕ) (life : Life) (seen : Held → Seen) (files : Files) (life_is : life_at s l ≡ Some life)
-    (here : IsLifeOver (lived s.script l life seen files)) (reads : ReadsSecrets seen) where
+    (here : IsLifeInForm (lived s.script l life seen files)) (reads : ReadsSecrets seen) where
   abbrev g : Lived
   g = lived s.script l life seen files
 
@@ -169,7 +163,7 @@ module _ (s : Setting) (cuts : List (Option CutAt)) (form : IsFormOfEpochs s.scr
   pub opening_stands : (st : Live directory.Unit) (w new : World) → EndsSo (node_opening (at_step g 0)) (went st) w new → IsStanding 0 st new.held
   opening_stands st w new run =
       let k : Held = held_behind (at_step g 0) w.held in
-      let led : IsNodeBegun (at_step g 0) ((at_step g 0).seen k) k st × LeavesHeld (at_step g 0) k new.held (first_block (at_step g 0)) = node_openings_lead_over (at_step g 0) (went st) w new (form_over g here 0) (lacks_nobody g 0) run in
+      let led : IsNodeBegun (at_step g 0) ((at_step g 0).seen k) k st × LeavesHeld (at_step g 0) k new.held (first_block (at_step g 0)) = node_openings_lead_over (at_step g 0) (went st) w new (form_at g here 0) (lacks_nobody g 0) run in
       record {
         at = record { live = (led.0).live; active = (led.0).active; stands = begun_stands g here ((at_step g 0).seen k) k st led.0 };
         rounds = begun_round s cuts form consistent l life seen files life_is ((at_step g 0).seen k) k st led.0;
@@ -180,7 +174,7 @@ module _ (s : Setting) (cuts : List (Option CutAt)) (form : IsFormOfEpochs s.scr
       → EndsSo (node_opening (at_step g 0)) ended w new → HasOffered s next base new
   opening_offers most next base ended w new rises low before run =
       let kept : IsUpkept (at_step g 0) (reads_at 0) next w new
-      = openings_upkeep (at_step g 0) (reads_at 0) next w (form_over g here 0) (subst (λ (e : ℕ). e - 1 ≤ next) (sym (first_epoch_is g here 0)) low) ended new run in
+      = openings_upkeep (at_step g 0) (reads_at 0) next w (form_at g here 0) (subst (λ (e : ℕ). e - 1 ≤ next) (sym (first_epoch_is g here 0)) low) ended new run in
       more_offered s most next rises base w new before kept.lines kept.out kept.seeds_held kept.shares_held (unoffered_now s most w.held kept.lines kept.unoffered)
 
   -- A STEP
@@ -223,7 +217,7 @@ module _ (s : Setting) (cuts : List (Option CutAt)) (form : IsFormOfEpochs s.scr
       run_here = subst (λ (course : Course directory.Unit NodeStop (Live directory.Unit)). EndsSo course ended w new) (m.course (suc i) st) run
 
       kept : (next : ℕ) → epoch_by g (suc i) - 1 ≤ next → KeepsSeeds next w.held new × KeepsShares next w.held new
-      kept next low = steps_upkeep (at_step g (suc i)) (reads_at (suc i)) next w (form_over g here (suc i)) st live m.message ended new taken (upto (reach_of (at_step g (suc i)) m.message) (epoch_by g (suc i) - 1) next reach_low low) run_here
+      kept next low = steps_upkeep (at_step g (suc i)) (reads_at (suc i)) next w (form_at g here (suc i)) st live m.message ended new taken (upto (reach_of (at_step g (suc i)) m.message) (epoch_by g (suc i) - 1) next reach_low low) run_here
         where
           upto : (a b c : ℕ) → a ≤ b → b ≤ c → a ≤ c
           upto a b c one two = omega (arith, one, two)
@@ -276,7 +270,7 @@ module _ (s : Setting) (cuts : List (Option CutAt)) (form : IsFormOfEpochs s.scr
     step_keeps end new run =
         let k : Held = held_at_setup (at_step g (suc i)) m.message w.held in
         let led : IsNextIn (at_step g (suc i)) st m.message w.held k end × IsActiveIn end × LeavesTaken (at_step g (suc i)) st m.message k new.held
-        = node_steps_lead_over (at_step g (suc i)) st m.message (went end) w new (form_over g here (suc i)) taken live (standing.at).active (run_here (went end) new run) in
+        = node_steps_lead_over (at_step g (suc i)) st m.message (went end) w new (form_at g here (suc i)) taken live (standing.at).active (run_here (went end) new run) in
         let at : IsAt g (suc i) end = record { live = (led.0).live; active = led.1; stands = step_stands g here i its is reached m st live (standing.at).stands w.held k end led.0 } in
         let held = kept (went end) new run (epoch_by g (suc i) - 1) (omega arith) in
         let low : (round : Round) → end.participation.round ≡ Some round → epoch_by g (suc i) - 1 ≤ round.number

@@ -20,7 +20,7 @@ use Rattle.dkg_core.specs.Seen.{Seen}
 use Rattle.dkg_core.specs.Storing.{ReadsSecrets}
 use Rattle.dkg_reshare.specs.declared.stop.Stop.{Stop}
 use Rattle.dkg_reshare.specs.declared.stop.Stop.TheVariants.{Cut, Failed, Fault as FaultOf}
-use Rattle.dkg_run.specs.Epochs.{IsLifeOver, epoch_by}
+use Rattle.dkg_run.specs.Epochs.{IsLifeInForm, epoch_by}
 use Rattle.dkg_run.specs.Given.{Lived, lived}
 use Rattle.dkg_run.specs.Lives.{AnyFiles, EndsLife, LivesFrom, LivesSo, RunsAllSo, RunsSo, TellsEnd}
 use Rattle.dkg_run.specs.Ways.{by_worlds}
@@ -83,11 +83,11 @@ script_lives s front (life ∷ lives) is =
 
 -- ALL LIVES, of a script that is consistent where they ended so
 module _ (s : Setting) (cuts : List (Option CutAt)) (form : IsFormOfEpochs s.script) (consistent : IsConsistentScript s cuts) (unfound : (l : ℕ) → found s l ≡ None)
-    (over : (l : ℕ) (life : Life) (seen : Held → Seen) (files : Files) → life_at s l ≡ Some life → by_worlds.reads seen → IsLifeOver (lived s.script l life seen files) × ReadsSecrets seen) (base : List Line) where
+    (over : (l : ℕ) (life : Life) (seen : Held → Seen) (files : Files) → life_at s l ≡ Some life → by_worlds.reads seen → IsLifeInForm (lived s.script l life seen files) × ReadsSecrets seen) (base : List Line) where
   abbrev Offers : World → Type 0
   Offers new = (most : ℕ) × HasOffered s most base new
 
-  module _ (l : ℕ) (life : Life) (seen : Held → Seen) (files : Files) (life_is : life_at s l ≡ Some life) (here : IsLifeOver (lived s.script l life seen files)) where
+  module _ (l : ℕ) (life : Life) (seen : Held → Seen) (files : Files) (life_is : life_at s l ≡ Some life) (here : IsLifeInForm (lived s.script l life seen files)) where
     abbrev g : Lived
     g = lived s.script l life seen files
 
@@ -139,7 +139,7 @@ module _ (s : Setting) (cuts : List (Option CutAt)) (form : IsFormOfEpochs s.scr
       mid : World
       mid = run.3
 
-      its : IsLifeOver (lived s.script l life seen files) × ReadsSecrets seen
+      its : IsLifeInForm (lived s.script l life seen files) × ReadsSecrets seen
       its = over l life seen files are.0 run.4
 
       Rests : World → Type 0
@@ -194,7 +194,7 @@ pub record OffersSame (old new : List Line) : Type 0 where
   pub same : SameOffers added
 
 module _ (s : Setting) (form : IsFormOfEpochs s.script) (unfound : (l : ℕ) → found s l ≡ None)
-    (over : (l : ℕ) (life : Life) (seen : Held → Seen) (files : Files) → life_at s l ≡ Some life → by_worlds.reads seen → IsLifeOver (lived s.script l life seen files) × ReadsSecrets seen) where
+    (over : (l : ℕ) (life : Life) (seen : Held → Seen) (files : Files) → life_at s l ≡ Some life → by_worlds.reads seen → IsLifeInForm (lived s.script l life seen files) × ReadsSecrets seen) where
   pub run_offers : (first : Files → Type 0) (w : World) (answered : Result (Unit {0}) Fault) (new : World) (run : RunsSo by_worlds s.script first w answered new)
       → IsConsistentScript s (run_ends s.script first w run.result run.mid run.lives) → OffersSame w.out new.out
   run_offers first w answered new run consistent = by_told run.result run.told (by_lives run.lives consistent)

@@ -16,7 +16,7 @@ use Rattle.dkg_script.specs.Setting.{Setting, found, life_at, setting_of}
 use Rattle.dkg_store.specs.Acts.{Held, World, at, moment}
 use Rattle.dkg_core.specs.Seen.{Seen}
 use Rattle.dkg_core.specs.Storing.{ReadsSecrets}
-use Rattle.dkg_run.specs.Epochs.{IsLifeOver}
+use Rattle.dkg_run.specs.Epochs.{IsLifeInForm}
 use Rattle.dkg_run.specs.Given.{lived}
 use Rattle.dkg_run.specs.Lives.{RunsOver, never}
 use Rattle.dkg_run.specs.Ways.{by_worlds}
@@ -34,7 +34,7 @@ module _ (script : Script) (files : Files) (secrets : Secrets) where
 
   -- what is known of each life that begins, by what it reads
   abbrev pub KnowsLives : Type 0
-  KnowsLives = (l : ℕ) (life : Life) (seen : Held → Seen) (its : Files) → life_at s l ≡ Some life → by_worlds.reads seen → IsLifeOver (lived script l life seen its) × ReadsSecrets seen
+  KnowsLives = (l : ℕ) (life : Life) (seen : Held → Seen) (its : Files) → life_at s l ≡ Some life → by_worlds.reads seen → IsLifeInForm (lived script l life seen its) × ReadsSecrets seen
 
   pub same_offers : (form : IsFormOfEpochs script) → KnowsLives → (answered : Result (Unit {0}) Fault) (old new added : List Entry) (secrets_now : Secrets) (c : Files) → new ≡ old ++ added
       → RunsOver script answered files (at (moment old secrets never) files) (λ f. at (moment new secrets_now f) c) → IsConsistentScript s (progress s added).cuts → SameOffers added

@@ -19,9 +19,8 @@ use Rattle.dkg_core.specs.Node.{node_opening}
 use Rattle.dkg_core.specs.Said.{Said}
 use Rattle.dkg_reshare.specs.Actors.{IsFoundAt}
 use Rattle.dkg_reshare.specs.Made.{MakesOn}
-use Rattle.dkg_reshare.specs.Moved.{StaysAbove}
 use Rattle.dkg_reshare.specs.Opened.{IsInGrammar, StaysShut}
-use Rattle.dkg_reshare.specs.Today.{seen_today}
+use Rattle.dkg_reshare.specs.Planless.{seen_planless}
 use Rattle.dkg_reshare.specs.declared.stop.Stop.{Stop}
 use Rattle.dkg_reshare.specs.declared.stop.Stop.TheVariants.{Cut, Fault as FaultOf}
 use Rattle.dkg_run.specs.Ended.{by_node_stop}
@@ -30,7 +29,7 @@ use Rattle.dkg_run.specs.Given.{Lived, at_step, limits_of, lived}
 use Rattle.dkg_run.specs.Lives.{LivesSo, TakesAll, fuse_for}
 use Rattle.dkg_run.specs.Moving.{world_of}
 use Rattle.dkg_run.specs.Ways.{StaysHeld, by_worlds}
-use Rattle.dkg_run.proofs.Checked.{life_over}
+use Rattle.dkg_run.proofs.Checked.{life_in_form}
 use Rattle.dkg_run.proofs.LivesStand.{opened_at, worlds_lead}
 use Rattle.dkg_run.proofs.Stepping.{worlds_go}
 use Rattle.dkg_run.proofs.Shutting.{grammar_or, shut_holds, unsaid_stop}
@@ -41,23 +40,17 @@ pub cut_behind : (limit : ℕ) (tells : Bool) (files : Files) (stop : Stop) (P Q
 cut_behind limit tells files stop P Q R caused is = subst (λ (s : Stop). IsFoundAt limit tells files s P Q R) is caused
 
 module _ {D X : Type 0} (files : D → Files) (image : D → Files → Type 0) (held : X → Secrets) (old begun : Devices D X) (same_disk : begun.disk ≡ old.disk) (same_secrets : begun.secrets ≡ old.secrets) where
-  -- what is kept from where the fuse was set is kept from before
-  pub above_begun : (least : ℕ) (next : Files → Type 0) (now : Secrets) → StaysAbove least (image begun.disk.now) next (held begun.secrets.now) now → StaysAbove least (image old.disk.now) next (held old.secrets.now) now
-  above_begun least next now stays =
-      subst (λ (d : MutBor D). StaysAbove least (image d.now) next (held old.secrets.now) now) same_disk
-      (subst (λ (x : MutBor X). StaysAbove least (image begun.disk.now) next (held x.now) now) same_secrets stays)
-
   -- The life is cut before it opens.
   pub cut_ran : begun ≡ old → Stands (files old.disk.now) (image old.disk.now) → (script : Script) (number : ℕ) (life : Life) → fuse_for life.cut 0 ≡ None → (stop : Stop) → stop ≡ Cut → (out : List Line) (c : Files) → image begun.disk.now c
-      → LivesSo by_worlds (lived script number life seen_today (files old.disk.now)) (files old.disk.now) (world_of held old out (files old.disk.now)) (Err stop) (world_of held begun out c)
+      → LivesSo by_worlds (lived script number life seen_planless (files old.disk.now)) (files old.disk.now) (world_of held old out (files old.disk.now)) (Err stop) (world_of held begun out c)
   cut_ran same stands script number life none stop at_cut out c here =
-      let today : Lived = lived script number life seen_today (files old.disk.now) in
+      let today : Lived = lived script number life seen_planless (files old.disk.now) in
       inl (cut_over (entry.Step 0) life.cut 0 none (node_opening (at_step today 0)) stop at_cut files image held old begun same stands
       (λ end mid. TakesAll by_worlds today 1 life.events end mid (Err stop) (world_of held begun out c)) out c here)
 
   module _ (stands : Stands (files old.disk.now) (image old.disk.now)) (script : Script) (number : ℕ) (life : Life) (lit : fuse_for life.cut 0 ≡ Some begun.fuse) (out : List Line) where
     abbrev pub its : Lived
-    its = lived script number life seen_today (files old.disk.now)
+    its = lived script number life seen_planless (files old.disk.now)
 
     abbrev course : Course directory.Unit NodeStop (Live directory.Unit)
     course = node_opening (at_step its 0)
@@ -69,7 +62,7 @@ module _ {D X : Type 0} (files : D → Files) (image : D → Files → Type 0) (
     Next how w end mid = TakesAll by_worlds its 1 life.events end mid how w
 
     abbrev Acted : Ended NodeStop (Live directory.Unit) → (at : MutBor D) (new : Devices D X) (now : List Line) → Type 0
-    Acted ended at new now = MakesOn files image held (on_devices (node_opening (at_step (lived script number life seen_today (files at.now)) 0))) ended begun new out now
+    Acted ended at new now = MakesOn files image held (on_devices (node_opening (at_step (lived script number life seen_planless (files at.now)) 0))) ended begun new out now
 
     stood : Stands (files begun.disk.now) (image begun.disk.now)
     stood = subst (λ (d : MutBor D). Stands (files d.now) (image d.now)) (sym same_disk) stands
@@ -119,7 +112,7 @@ module _ {D X : Type 0} (files : D → Files) (image : D → Files → Type 0) (
 
         -- .. the node stands at its life's first state,
         pub at_first : IsFormOfEpochs script → IsChecked script → slice_get script.lives number ≡ Some life → IsAt its 0 end
-        at_first form checked life_is = (opened_at by_worlds worlds_lead its (life_over script number life seen_today (files old.disk.now) form checked life_is (λ h. refl)) end begun.fuse
+        at_first form checked life_is = (opened_at by_worlds worlds_lead its (life_in_form script number life seen_planless (files old.disk.now) form checked life_is (λ h. refl)) end begun.fuse
             (record (at (moment out (held begun.secrets.now) begun.fuse) (files begun.disk.now)) { fuse = begun.fuse }) (at (moment now (held new.secrets.now) new.fuse) c)
             (worlds_go course (went end) (files begun.disk.now) (files new.disk.now) (image begun.disk.now) (image new.disk.now) (moment out (held begun.secrets.now) begun.fuse) (moment now (held new.secrets.now) new.fuse)
             (acts_over (went end) new now acts) stood c here begun.fuse)).3

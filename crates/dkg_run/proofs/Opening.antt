@@ -40,7 +40,7 @@ use Rattle.dkg_reshare.specs.Given.{IsLent, IsOf, reading}
 use Rattle.dkg_reshare.specs.LiveOf.{Beside, live_of, nothing_beside}
 use Rattle.dkg_reshare.specs.Made.{Burns, MakesAt, Speaks, Tells, UnlessBroken}
 use Rattle.dkg_reshare.specs.Opened.{IsInGrammar, IsOpeningOf, epoch_at}
-use Rattle.dkg_reshare.specs.Today.{IsOpeningOfToday, seen_today}
+use Rattle.dkg_reshare.specs.Planless.{IsBareOpening, seen_planless}
 use Rattle.dkg_reshare.specs.declared.actor.State.{State}
 use Rattle.dkg_reshare.specs.declared.actor.State.TheVariants.{New, Living, Failed as HadFailed}
 use Rattle.dkg_reshare.specs.declared.config.Terms.{Terms}
@@ -49,12 +49,12 @@ use Rattle.dkg_reshare.specs.declared.stop.Stop.{Stop}
 use Rattle.dkg_reshare.specs.declared.stop.Stop.TheVariants as stops
 use Rattle.dkg_reshare.proofs.Said.{said_of_runs}
 use Rattle.dkg_run.specs.Ended.{by_node_stop}
-use Rattle.dkg_run.specs.Epochs.{IsLifeOver}
+use Rattle.dkg_run.specs.Epochs.{IsLifeInForm}
 use Rattle.dkg_run.specs.Given.{Lived, at_step, limits_of, seen_at, source_at}
 use Rattle.dkg_run.specs.Nodes.{IsFenceReady, IsHalfGiven, IsView, MayEnter, ViewedNew, with_half}
 use Rattle.dkg_run.specs.declared.node.Node.{Node}
 use Rattle.dkg_run.proofs.Naming.{node_ends, node_goes, node_says, node_says_early}
-use Rattle.dkg_run.proofs.Former.{form_over, lacks_nobody}
+use Rattle.dkg_run.proofs.Former.{form_at, lacks_nobody}
 use Rattle.dkg_run.proofs.Noding.{speaks_makes, speaks_says, unless_reshare}
 
 -- WHERE A LIFE STARTS, the fence is ready and a scheme is registered
@@ -106,12 +106,6 @@ module _ (c : Fixed directory.Unit) (seen : Seen) (k : Held) (st : Live director
   scheme_behind opened carried =
       let its = registered_in (first_block c) refl opened.set_up carried in
       subst (λ (o : Orchestrator directory.Unit). IsSome (lookup (first_epoch c) o.schemes)) (sym its.is) (lookup_at (its.info).epoch (first_epoch c) (scheme_for c its.info its.share) its.of_epoch)
-
--- .. which is a matter of the epochs' length and of the source alone
-pub ready_alike : (c d : Fixed directory.Unit) (fence : Readiness) → c.blocks_per_epoch ≡ d.blocks_per_epoch → c.source ≡ d.source → IsFenceReady c fence → IsFenceReady d fence
-ready_alike c d fence blocks source ready =
-    subst (λ (n : ℕ). IsFenceReady (record d { blocks_per_epoch = n }) fence) blocks
-    (subst (λ (s : Source directory.Unit). IsFenceReady (record d { blocks_per_epoch = c.blocks_per_epoch; source = s }) fence) source ready)
 
 -- THE NODE, once both halves have opened
 
@@ -248,14 +242,14 @@ module _ (g : Lived) (terms : Terms) (source : Source directory.Unit) (taken : �
   unfolding at_step
   number_at = refl
 
-  pub today_at : IsOpeningOfToday (at_step g taken)
+  pub planless_at : IsBareOpening (at_step g taken)
   unfolding at_step
-  today_at = record { reshare = refl; bare = refl }
+  planless_at = record { reshare = refl; bare = refl }
 
-  pub opening_of : (files : Files) → seen_at g taken ≡ seen_today → g.calls ≡ length (open_calls files) → IsInGrammar (limits_of g.script).most files
+  pub opening_of : (files : Files) → seen_at g taken ≡ seen_planless → g.calls ≡ length (open_calls files) → IsInGrammar (limits_of g.script).most files
       → IsOpeningOf terms source g.number g.life.word files (at_step g taken)
   unfolding at_step
-  opening_of files reads calls grammar = record { lent = lent_at; today = today_at; reads = reads; life_is = number_at; calls_are = calls; grammar = grammar }
+  opening_of files reads calls grammar = record { lent = lent_at; today = planless_at; reads = reads; life_is = number_at; calls_are = calls; grammar = grammar }
 
   -- the epoch that is awaited
   pub epoch_is : epoch_at source terms ≡ first_epoch (at_step g taken)
@@ -266,7 +260,7 @@ module _ (g : Lived) (terms : Terms) (source : Source directory.Unit) (taken : �
 
 -- BEHIND THE ACTOR'S OPENING the half may enter
 
-module _ (g : Lived) (here : IsLifeOver g) (now : Beside directory.Unit) (fence : Readiness) (life : reshare.Life directory.Unit)
+module _ (g : Lived) (here : IsLifeInForm g) (now : Beside directory.Unit) (fence : Readiness) (life : reshare.Life directory.Unit)
     (same : now.orchestrator ≡ record (nothing_beside {Dir = directory.Unit}).orchestrator { schemes = now.orchestrator.schemes })
   where
     abbrev behind : Live directory.Unit
@@ -274,7 +268,7 @@ module _ (g : Lived) (here : IsLifeOver g) (now : Beside directory.Unit) (fence 
 
     opened_behind : {out new : List Line} → Said (on_devices (opening (at_step g 0))) (went behind) out new → (seen : Seen) × (k : Held) × IsOpened (at_step g 0) seen k behind
     opened_behind {out} {new} said =
-        let came = openings_lead (at_step g 0) (went behind) out new (form_over g here 0) said in
+        let came = openings_lead (at_step g 0) (went behind) out new (form_at g here 0) said in
         ((at_step g 0).seen came.0, came.1, came.2)
 
     pub fence_ready : {out new : List Line} → Said (on_devices (opening (at_step g 0))) (went behind) out new → IsFenceReady (at_step g 0) fence

@@ -40,13 +40,13 @@ use Rattle.dkg_core.proofs.NodeKept.{node_peers_are_kept}
 use Rattle.dkg_core.proofs.Stepping.{not_included}
 use Rattle.dkg_core.proofs.Walking as walk
 use Rattle.dkg_reshare.specs.declared.stop.Stop.{Stop}
-use Rattle.dkg_run.specs.Epochs.{IsLifeOver}
+use Rattle.dkg_run.specs.Epochs.{IsLifeInForm}
 use Rattle.dkg_run.specs.Given.{Lived, at_step, lived, step_of}
 use Rattle.dkg_run.specs.GivesBack.{PassesAll}
 use Rattle.dkg_run.specs.Lives.{LivesSo, RunsSo}
 use Rattle.dkg_run.specs.Ways.{by_worlds}
 use Rattle.dkg_run.proofs.Awaiting.{IsReached}
-use Rattle.dkg_run.proofs.Former.{Brings, IsMessage, event_in_form, form_over, live_at, message_in}
+use Rattle.dkg_run.proofs.Former.{Brings, IsMessage, event_in_form, form_at, live_at, message_in}
 use Rattle.dkg_run.proofs.GivingDealings as giving
 use Rattle.dkg_run.proofs.GivingDealings.{FitsRecords, IsPassing, PassHeld}
 use Rattle.dkg_run.proofs.GivingLives.{KeepsSo, LeavesSo, life_holds, run_holds}
@@ -64,15 +64,12 @@ use Rattle.dkg_run.proofs.Stood.{step_taken}
 some_is : {A : Type 0} {x y : A} → ◌≡◌ {A = Option A} (Some x) (Some y) → x ≡ y
 some_is e = cc
 
-went_is : (a b : Live directory.Unit) → ◌≡◌ {A = Ended NodeStop (Live directory.Unit)} (went a) (went b) → a ≡ b
-went_is a b e = cc
-
 module _ (s : Setting) (cuts : List (Option CutAt)) (form : IsFormOfEpochs s.script) (consistent : IsConsistentScript s cuts) where
   -- whole devices give back dealings that pass, and own ones that the secrets deal
   abbrev pub ValidHeld : Held → Type 0
   ValidHeld h = PassHeld s h × AreBacked s form (recovered_in h) h.secrets
 
-  module _ (l : ℕ) (life : Life) (seen : Held → Seen) (files : Files) (life_is : life_at s l ≡ Some life) (here : IsLifeOver (lived s.script l life seen files)) (records : ReadsRecords seen) (secrets : ReadsSecrets seen) where
+  module _ (l : ℕ) (life : Life) (seen : Held → Seen) (files : Files) (life_is : life_at s l ≡ Some life) (here : IsLifeInForm (lived s.script l life seen files)) (records : ReadsRecords seen) (secrets : ReadsSecrets seen) where
     abbrev g : Lived
     g = lived s.script l life seen files
 
@@ -80,10 +77,6 @@ module _ (s : Setting) (cuts : List (Option CutAt)) (form : IsFormOfEpochs s.scr
     unfolding at_step
     reads_at zero = secrets
     reads_at (suc j) = record { shares = λ h. refl; seeds = λ h. refl }
-
-    me_at : (j : ℕ) → (at_step g j).me ≡ me s
-    unfolding at_step
-    me_at j = refl
 
     abbrev Passing : ℕ → Live directory.Unit → Held → Type 0
     Passing j st h = IsPassing s cuts form consistent l life seen files life_is here records j st h
@@ -111,7 +104,7 @@ module _ (s : Setting) (cuts : List (Option CutAt)) (form : IsFormOfEpochs s.scr
         let before : ValidHeld w.held = subst ValidHeld (sym at) valid in
         joined 0 ended new.held (giving.opening_keeps s cuts form consistent l life seen files life_is here records h valid.0 ended w new at run)
         (λ end is. offering.opening_stands s cuts form consistent l life seen files life_is here secrets end w new (subst (λ (e : Ended NodeStop (Live directory.Unit)). EndsSo (node_opening (at_step g 0)) e w new) is run))
-        (opening_backed s form (at_step g 0) (reads_at 0) (form_over g here 0) w new ended (record { whole = before.0.0; own = before.1 }) run).own
+        (opening_backed s form (at_step g 0) (reads_at 0) (form_at g here 0) w new ended (record { whole = before.0.0; own = before.1 }) run).own
 
     -- A STEP
     module _ (fits : FitsRecords s cuts form consistent l life seen files life_is here records) (i : ℕ) (its : Event) (is : slice_get life.events i ≡ Some its) (reached : IsReached life.cut (suc i)) (st : Live directory.Unit) (w new : World)
@@ -177,7 +170,7 @@ module _ (s : Setting) (cuts : List (Option CutAt)) (form : IsFormOfEpochs s.scr
             walk.ends_dealing c Backed (λ x line aside q. said_backed s form x line q) most (commits_backed s form c (reads_at (suc i))) (λ min low at x q. prunes_backed s form c (reads_at (suc i)) min at x q) block (itself most) st w before deals_backed
         applies judged Follows at =
             walk.follows_at c Backed (λ x line aside q. said_backed s form x line q) most (commits_backed s form c (reads_at (suc i))) (λ min low at x q. prunes_backed s form c (reads_at (suc i)) min at x q) block (itself most) st w before
-        applies judged Includes at = absurd (not_included c (form_over g here (suc i)) st live None block its_taken judged at)
+        applies judged Includes at = absurd (not_included c (form_at g here (suc i)) st live None block its_taken judged at)
         applies judged Ends at = before
 
         block_backed : (ended : Ended NodeStop (Live directory.Unit)) → EndsSo (node_step c (event_of (Finalized block)) st) ended w new → Backed new
@@ -192,7 +185,7 @@ module _ (s : Setting) (cuts : List (Option CutAt)) (form : IsFormOfEpochs s.scr
       module _ (from : ℕ) (bytes : List ℕ) (other : from ≡ me s → ⊥) (fit : Fits c (from, bytes)) (its_taken : IsTakenIn c (Sent (Peer from bytes)) st) (ended : Ended NodeStop (Live directory.Unit))
           (run : EndsSo (node_step c (event_of (Sent (Peer from bytes))) st) ended w new) where
         kept : KeepsSeeds 0 w.held new × KeepsShares 0 w.held new
-        kept = steps_upkeep c (reads_at (suc i)) 0 w (form_over g here (suc i)) st live (Sent (Peer from bytes)) ended new its_taken (omega arith) run
+        kept = steps_upkeep c (reads_at (suc i)) 0 w (form_at g here (suc i)) st live (Sent (Peer from bytes)) ended new its_taken (omega arith) run
 
         still : (epoch : ℕ) → HoldsStill s form w.held.secrets new.held.secrets epoch
         still epoch = record { seeds = λ seed got. kept.0 epoch seed (omega arith) got; shares = λ share got. kept.1 epoch share (omega arith) got }
@@ -255,9 +248,9 @@ module _ (s : Setting) (cuts : List (Option CutAt)) (form : IsFormOfEpochs s.scr
 
 -- A RUN
 pub run_valid : (s : Setting) (cuts : List (Option CutAt)) (form : IsFormOfEpochs s.script) (consistent : IsConsistentScript s cuts)
-    → (over : (l : ℕ) (life : Life) (seen : Held → Seen) (files : Files) → slice_get s.script.lives l ≡ Some life → by_worlds.reads seen → IsLifeOver (lived s.script l life seen files))
+    → (over : (l : ℕ) (life : Life) (seen : Held → Seen) (files : Files) → slice_get s.script.lives l ≡ Some life → by_worlds.reads seen → IsLifeInForm (lived s.script l life seen files))
     → (records : (seen : Held → Seen) → by_worlds.reads seen → ReadsRecords seen) (secrets : (seen : Held → Seen) → by_worlds.reads seen → ReadsSecrets seen)
-    → ((l : ℕ) (life : Life) (seen : Held → Seen) (files : Files) (life_is : life_at s l ≡ Some life) (here : IsLifeOver (lived s.script l life seen files)) (read : ReadsRecords seen) → FitsRecords s cuts form consistent l life seen files life_is here read)
+    → ((l : ℕ) (life : Life) (seen : Held → Seen) (files : Files) (life_is : life_at s l ≡ Some life) (here : IsLifeInForm (lived s.script l life seen files)) (read : ReadsRecords seen) → FitsRecords s cuts form consistent l life seen files life_is here read)
     → (first : Files → Type 0) (w new : World) (answered : Result (Unit {0}) Fault) → ValidHeld s cuts form consistent w.held → RunsSo by_worlds s.script first w answered new → ValidHeld s cuts form consistent new.held
 run_valid s cuts form consistent over records secrets fits first w new answered valid run =
     run_holds (ValidHeld s cuts form consistent) s.script over

@@ -8,7 +8,6 @@ use Rattle.dkg_types.specs.declared.entry.Entry.{Entry}
 use Rattle.dkg_script.specs.Ends.{EndsWell, is_fault}
 use Rattle.dkg_script.specs.Progress.{Progress, read}
 use Rattle.dkg_script.specs.Setting.{Setting}
-use Rattle.dkg_core.specs.Laws.{IsQuiet}
 use Rattle.dkg_run.proofs.Standing.{Each, Moves, AddsQuiet}
 
 -- LISTS
@@ -24,9 +23,6 @@ all_of_both P (x ∷ xs) ys all more = (all.0, all_of_both P xs ys all.1 more)
 
 pub quiet_none : (old new : List Entry) → new ≡ old → AddsQuiet old new
 quiet_none old new same = record { added = []; parts = same ∙ sym (append-nil old); quiet = tt }
-
-pub quiet_one : (old new : List Entry) (one : Entry) → new ≡ old ++ one ∷ [] → IsQuiet one → AddsQuiet old new
-quiet_one old new one is quiet = record { added = one ∷ []; parts = is; quiet = (quiet, tt) }
 
 -- MOVES
 

@@ -2,11 +2,9 @@
 use Rattle.std.proofs.Common.{◌≡◌, None, refl, sym, subst}
 use Rattle.dkg_store.specs.Acts.{Held}
 use Rattle.dkg_core.specs.Meant.{ReadsRecords}
-use Rattle.dkg_core.specs.Seen.{Seen, seen_in}
+use Rattle.dkg_core.specs.Seen.{Seen}
 use Rattle.dkg_core.specs.Storing.{ReadsSecrets}
-
-abbrev pub seen_planless : Held → Seen
-seen_planless h = record (seen_in h) { plan = None }
+use Rattle.dkg_reshare.specs.Planless.{seen_planless}
 
 pub planless_secrets : (seen : Held → Seen) → seen ≡ seen_planless → ReadsSecrets seen
 planless_secrets seen is = subst ReadsSecrets (sym is) (record { shares = λ h. refl; seeds = λ h. refl })

@@ -4,7 +4,7 @@ use Rattle.std.specs.Prelude.{nat_eq, nat_lt, if◌then◌else◌}
 use Rattle.std.specs.FinMap.{get}
 use Rattle.std.proofs.lemmas.Bool.Decides.{nat_tests}
 use Rattle.dkg_values.specs.Places.{place_of-Contains}
-use Rattle.dkg_values.specs.Rising.{has_key, lookup}
+use Rattle.dkg_values.specs.Rising.{has_key}
 use Rattle.dkg_values.specs.RisingLaws.{has_key-to}
 use Rattle.dkg_ceremony.specs.Dealings.{dealing_of}
 use Rattle.dkg_ceremony.specs.Schedule.{epoch_of, midpoint, phase_at}
@@ -23,16 +23,15 @@ use Rattle.dkg_script.specs.OwnMarks.{AreKnownHandedIn}
 use Rattle.dkg_script.specs.Setting.{Setting, me}
 use Rattle.dkg_core.specs.Agreeing.{AreAgreed}
 use Rattle.dkg_core.specs.Fixed.{Fixed}
-use Rattle.dkg_core.specs.Forms.{IsLiveIn, IsMine, IsNodeBegun, IsSeated, IsSetUpIn, seed_read, share_read, started}
+use Rattle.dkg_core.specs.Forms.{IsLiveIn, IsNodeBegun, IsSeated, IsSetUpIn, seed_read, share_read, started}
 use Rattle.dkg_core.specs.Heard.{recovered_in}
-use Rattle.dkg_core.specs.Live.{Dealer, Deals, Live, Plays, Records, Stage, awaited_height}
+use Rattle.dkg_core.specs.Live.{Deals, Live, Plays, Records, awaited_height}
 use Rattle.dkg_core.specs.Seen.{Seen}
 use Rattle.dkg_core.specs.Setup.{Standing, Uncommitted}
 use Rattle.dkg_core.specs.Stepping.{IsSameLife}
 use Rattle.dkg_core.specs.Endings.{first_block, stage_in}
 use Rattle.dkg_run.specs.Given.{Lived, at_step, lived}
 use Rattle.dkg_run.proofs.Drawn.{HasRoundOf}
-use Rattle.dkg_run.proofs.Former.{is_ceremony}
 use Rattle.dkg_run.proofs.MarksAt.{HasHanded, WereHandedIn, lacks_none}
 use Rattle.dkg_run.proofs.Seats.{plays_so, valid_so}
 
@@ -51,14 +50,6 @@ deals_early c st round live is low = live.in_round round is ∙ early_of (midpoi
     early_of middle height low =
         let is : nat_lt height middle ≡ true = grind (arith, nat_tests, low) in
         ap (λ (t : Bool). stage_in (if t then Early else (if nat_eq height middle then Midpoint else Late))) is
-
--- WHAT THIS NODE DEALS TO ITSELF passes its check, where it is a player
-pub own_valid : (g : Lived) (taken : ℕ) (round : Round) (stage : Stage) (d : Dealer) (private : ℕ) → IsMine (at_step g taken) round stage d → has_key g.script.config.me round.players ≡ true
-    → lookup g.script.config.me d.privates ≡ Some private → dealing_of round g.script.config.me g.script.config.me d.public private ≡ Ok tt
-unfolding at_step
-own_valid g taken round stage d private mine plays found =
-    (is_ceremony g taken).deals_pass round mine.share mine.seed d.public d.privates private mine.member
-    (place_of-Contains g.script.config.me round.players (has_key-to round.players g.script.config.me plays)) mine.dealt found
 
 -- ITS SEAT: it plays where it is one of the round's players, if no log that was handed in bears an acknowledgement that it never gave
 abbrev pub PlaysWhere : Setting → Live directory.Unit → Type 0

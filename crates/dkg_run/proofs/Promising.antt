@@ -20,9 +20,9 @@ use Rattle.dkg_script.specs.Setting.{Setting, setting_of}
 use Rattle.dkg_run.specs.Blamed.{BlamesSo}
 use Rattle.dkg_run.specs.Causes.{HasCause}
 use Rattle.dkg_run.specs.Complete.{IsSoundRun, IsValidAsCut}
-use Rattle.dkg_run.specs.EndsOver.{EndsFaultedOver, EndsRunOver, EndsScript}
+use Rattle.dkg_script.specs.Ends.{EndsFaulted, EndsRun, EndsScript}
 use Rattle.dkg_run.specs.Epochs.{IsChecked, refused_config}
-use Rattle.dkg_run.specs.FoundOver.{EachFault, IsFoundRecord, OfFault, ShowsOver}
+use Rattle.dkg_run.specs.Found.{EachFault, IsFoundRecord, OfFault, ShowsCause}
 use Rattle.dkg_run.specs.Given.{AreBytes}
 use Rattle.dkg_run.specs.GivesBack.{GivesBack, NamesNoRecord, limit_in}
 use Rattle.dkg_run.specs.Lives.{AnyFiles, RunsSo, TellsEnd}
@@ -33,13 +33,13 @@ use Rattle.dkg_run.specs.Ways.{by_lines, trace}
 use Rattle.dkg_run.proofs.Begun.{begun_answers, begun_keeps, begun_offers, begun_plans, begun_valid, begun_valid_uncut, begun_whole, cut_form, cut_runs, cut_script}
 use Rattle.dkg_run.proofs.Blaming.{run_blames}
 use Rattle.dkg_run.proofs.Completing.{unblamed}
-use Rattle.dkg_run.proofs.CompletingOver.{completes_over}
+use Rattle.dkg_run.proofs.Finishing.{completes}
 use Rattle.dkg_run.proofs.CutLives.{lines_cut}
 use Rattle.dkg_run.proofs.EachLife.{lives_over}
 use Rattle.dkg_run.proofs.FoundRun.{run_found}
 use Rattle.dkg_run.proofs.Ordered.{run_all_lives, run_in_order}
 use Rattle.dkg_run.proofs.Places.{all_of_both}
-use Rattle.dkg_run.proofs.SkippingOver.{run_skips}
+use Rattle.dkg_run.proofs.Skipping.{run_skips}
 use Rattle.dkg_run.proofs.Telling.{run_ends}
 use Rattle.dkg_run.proofs.Unbegun.{ToldNone, Unmoved, none_answers, none_completes, none_ends, none_keeps, none_offers, none_plans, none_shows, none_skips, none_valid, none_whole}
 
@@ -68,11 +68,11 @@ module _ (P : Fault → Type 0) where
   last_told : (its : Fault) (added : List Entry) → EndsInFault added its → P its → AllByRecursion (OfFault P) added
   last_told its added ends so = subst (AllByRecursion (OfFault P)) (sym ends.last) (all_of_both (OfFault P) ends.before (entry.Fault its ∷ []) (none_told ends.before ends.only) (so, tt))
 
-  ended_told : (its : Fault) (added : List Entry) (disk_rose secrets_rose : Type 0) → EndsFaultedOver its added disk_rose secrets_rose → P its → AllByRecursion (OfFault P) added
+  ended_told : (its : Fault) (added : List Entry) (disk_rose secrets_rose : Type 0) → EndsFaulted its added disk_rose secrets_rose → P its → AllByRecursion (OfFault P) added
   ended_told NoMemory added disk_rose secrets_rose ends so = none_told added ends
   ended_told its added disk_rose secrets_rose ends so = last_told its added ends.0 so
 
-  run_told : (answered : Result (Unit {0}) Fault) (added : List Entry) (disk_rose secrets_rose : Type 0) → EndsRunOver answered added disk_rose secrets_rose → IfErr answered P → AllByRecursion (OfFault P) added
+  run_told : (answered : Result (Unit {0}) Fault) (added : List Entry) (disk_rose secrets_rose : Type 0) → EndsRun answered added disk_rose secrets_rose → IfErr answered P → AllByRecursion (OfFault P) added
   run_told (Ok done) added disk_rose secrets_rose ends so = none_told added ends
   run_told (Err its) added disk_rose secrets_rose ends so = ended_told its added disk_rose secrets_rose ends so
 
@@ -111,7 +111,7 @@ module _ (script : Script) (form : IsFormOfEpochs script) (o : Over) (disk_of : 
   -- what the two cases show: the lives were begun, or not
   record Shown (added : List Entry) : Type 0 where
     pub ends : EndsScript (refused_config script) answered added o.disk_rose o.secrets_rose
-    pub found : o.tells → Stands o.before.files o.before.image → EachFault (ShowsOver script o.now.files o.now.held) added
+    pub found : o.tells → Stands o.before.files o.before.image → EachFault (ShowsCause script o.now.files o.now.held) added
     pub skips : IfErr answered (λ its. o.tells → (let s = setting_as_cut script o.before.files o.before.held added in BlamesOnlySkips s o.before.image (cuts_in s added) its))
     pub kept : o.tells → KeepsDealings script o.before.files o.before.held o.before.image o.now.image o.now.held added
     pub answers : OnOk answered (o.tells → AnswersDealings script o.before.files o.before.held o.before.image added)
@@ -138,7 +138,7 @@ module _ (script : Script) (form : IsFormOfEpochs script) (o : Over) (disk_of : 
       let ends = none_ends script o answered old new added is none in
       record {
         ends = ends;
-        found = λ told here. each_told (ShowsOver script o.now.files o.now.held) (refused_config script) answered added o.disk_rose o.secrets_rose ends (none_shows script o answered old new added is none);
+        found = λ told here. each_told (ShowsCause script o.now.files o.now.held) (refused_config script) answered added o.disk_rose o.secrets_rose ends (none_shows script o answered old new added is none);
         skips = none_skips script o answered old new added is none;
         kept = λ told. none_keeps script o answered old new added is none;
         answers = none_answers script o answered old new added is none (o.tells → AnswersDealings script o.before.files o.before.held o.before.image added);
@@ -169,8 +169,8 @@ module _ (script : Script) (form : IsFormOfEpochs script) (o : Over) (disk_of : 
     as_it_was : RunsSo by_lines its_script AnyFiles (trace old []) answered (trace new picks)
     as_it_was = lines_cut script o.before.files o.before.held answered old new added is AnyFiles picks run
 
-    run_ended : EndsRunOver answered added o.disk_rose o.secrets_rose
-    run_ended = added_so old new added (λ added. EndsRunOver answered added o.disk_rose o.secrets_rose) is
+    run_ended : EndsRun answered added o.disk_rose o.secrets_rose
+    run_ended = added_so old new added (λ added. EndsRun answered added o.disk_rose o.secrets_rose) is
         (run_ends script checked (lives_over script form checked) AnyFiles (trace old []) (trace new picks) answered o.disk_rose o.secrets_rose causes run)
 
     all_answered : OnOk answered (o.tells → AnswersDealings script o.before.files o.before.held o.before.image added)
@@ -179,7 +179,7 @@ module _ (script : Script) (form : IsFormOfEpochs script) (o : Over) (disk_of : 
 
     all_completed : o.tells → IfErr answered (λ its. IsValidAsCut script added o.before → (o.disk_rose → ⊥) → (o.secrets_rose → ⊥) → its ≡ NoMemory)
     all_completed told =
-        completes_over its_script its_form checked bytes o.before.files o.now.files o.before.image o.now.image o.before.held o.now.held o.disk_rose o.secrets_rose answered old new added is (itself (disk_of told)) (left (disk_of told))
+        completes its_script its_form checked bytes o.before.files o.now.files o.before.image o.now.image o.before.held o.now.held o.disk_rose o.secrets_rose answered old new added is (itself (disk_of told)) (left (disk_of told))
         (λ here. cut_runs script form checked bytes o disk_of answered old new added is runs itself left told here o.now.files (left (disk_of told))) run_ended
         (when_told answered o.disk_tells (IsFoundRecord (limit_in script) o.now.files) records (disk_of told)) (fits told)
 

@@ -8,7 +8,7 @@ use Rattle.std.proofs.lemmas.Bool.{and_parts, eqb-true}
 use Rattle.std.proofs.lemmas.List.Folds.{find-append}
 use Rattle.dkg_store.specs.Pairs.{Pairs}
 use Rattle.dkg_types.specs.declared.entry.Restored.{Restored}
-use Rattle.dkg_script.specs.Kept.{Gives, AllCurrent}
+use Rattle.dkg_script.specs.Kept.{Gives}
 use Rattle.dkg_script.specs.Progress.{pair_of, has_pair_key, with_pair}
 
 -- FOUND IN A LIST
@@ -120,19 +120,3 @@ gives_one m x y gx gy e d =
 
 abbrev pub restored_at : ℕ → ℕ → List ℕ × ℕ → Restored
 restored_at epoch dealer v = record { epoch = epoch; dealer = dealer; public = v.0; private = v.1 }
-
--- what no map has is not recorded
-pub not_recorded : (m : Pairs) (recorded : List Restored) (epoch dealer : ℕ) → AllByRecursion (Gives m) recorded → get m (epoch, dealer) ≡ None → pair_of recorded epoch dealer ≡ None
-not_recorded m recorded epoch dealer given none = by_found (pair_of recorded epoch dealer) refl
-  where
-    by_found : (o : Option Restored) → pair_of recorded epoch dealer ≡ o → o ≡ None
-    by_found None e = refl
-    by_found (Some x) e =
-        let found = found_is (Gives m) recorded epoch dealer x given e in
-        let there : get m (epoch, dealer) ≡ Some (x.public, x.private) = rw (← found.1, ← found.2) found.0 in
-        cc
-
--- also where only some are asked for
-pub all_current : (begun : ℕ) (P : Restored → Type 0) (xs : List Restored) → AllByRecursion P xs → AllCurrent begun P xs
-all_current begun P [] all = tt
-all_current begun P (x ∷ xs) all = ((λ current. all.0), all_current begun P xs all.1)

@@ -14,7 +14,7 @@ use Rattle.dkg_reshare.specs.Ends.{IsCausedBy}
 use Rattle.dkg_reshare.specs.declared.stop.Stop.{Stop}
 use Rattle.dkg_reshare.specs.declared.stop.Stop.TheVariants.{Cut, Failed, Fault as FaultOf}
 use Rattle.dkg_run.specs.Causes.{IfFault}
-use Rattle.dkg_run.specs.FoundOver.{IsFoundRecord}
+use Rattle.dkg_run.specs.Found.{IsFoundRecord}
 use Rattle.dkg_run.specs.Moving.{StepBlames}
 
 -- AN OPENING

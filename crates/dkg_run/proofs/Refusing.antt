@@ -24,7 +24,7 @@ use Rattle.dkg_ceremony.specs.Schedule.{epoch_of}
 use Rattle.dkg_core.specs.Fixed.{Fixed, Material, OneShot, has, start}
 use Rattle.dkg_core.specs.Forms.{IsForm, committed_by, current_by, held_behind, orchestrator_by, seed_read, set_up_by, share_read, started}
 use Rattle.dkg_core.specs.Laws.{start_of}
-use Rattle.dkg_core.specs.Live.{Dealer, Deals, Ends, Follows, Includes, Live, Seat, Stage, Watches, awaited_height, is_last_height, of_epoch, phase_of, with_participation, with_tip}
+use Rattle.dkg_core.specs.Live.{Dealer, Deals, Ends, Follows, Includes, Live, Stage, Watches, awaited_height, is_last_height, of_epoch, phase_of, with_participation, with_tip}
 use Rattle.dkg_core.specs.Logs.{logs_of}
 use Rattle.dkg_core.specs.Plans as p
 use Rattle.dkg_core.specs.Setup as s
@@ -64,9 +64,6 @@ module _ (X : Held → Type 0) where
   -- A SETUP
 
   module _ {Dir : Type 0} (c : Fixed Dir) where
-    takes : (round : Round) (phase : Phase) (dealer : Option Dealer) (seat : Seat) (st : Live Dir) (h : Held) → Halts (s.takes_part c round phase dealer seat st) h
-    takes round phase dealer seat st h = tt
-
     sits : (round : Round) (phase : Phase) (dealer : Option Dealer) (refused : Option ℕ) (st : Live Dir) (h : Held) → Halts (s.sits_down c round phase dealer refused st) h
     sits round phase dealer (Some who) st h = tt
     sits round phase dealer None st h = tt

@@ -14,7 +14,7 @@ use Rattle.dkg_script.specs.Built.{is_built}
 use Rattle.dkg_script.specs.Promise.{Adds}
 use Rattle.dkg_run.specs.Command.{IsTold}
 use Rattle.dkg_run.specs.Complete.{IsSoundRun, IsValidAnyhow}
-use Rattle.dkg_run.specs.EndsOver.{EndsFaultedOver, EndsScript, IsNodeFaultOver}
+use Rattle.dkg_script.specs.Ends.{EndsFaulted, EndsScript, IsNodeFault}
 use Rattle.dkg_run.specs.Epochs.{refused_config}
 use Rattle.dkg_run.specs.Outside.{TookAll, TookMore}
 use Rattle.dkg_run.specs.Over.{Over}
@@ -46,7 +46,7 @@ runs_lives script o out new result told lines run = record {
 
 -- the configuration was refused, memory ran out, or a life ended so
 abbrev EndedSo : Fault → List Entry → (disk_rose secrets_rose : Type 0) → Type 0
-EndedSo its entries disk_rose secrets_rose = ((cause : ConfigCause) × (its ≡ InvalidConfig cause)) ⊎ ((its ≡ NoMemory) ⊎ EndsFaultedOver its entries disk_rose secrets_rose)
+EndedSo its entries disk_rose secrets_rose = ((cause : ConfigCause) × (its ≡ InvalidConfig cause)) ⊎ ((its ≡ NoMemory) ⊎ EndsFaulted its entries disk_rose secrets_rose)
 
 ended_so : (script : Script) (its : Fault) (entries : List Entry) (disk_rose secrets_rose : Type 0) → EndsScript (refused_config script) (Err its) entries disk_rose secrets_rose → EndedSo its entries disk_rose secrets_rose
 ended_so script its entries disk_rose secrets_rose ends = by_config (refused_config script) refl ends
@@ -171,7 +171,7 @@ module _ (Gave : List ℕ → Type 0) (o : Over) (out entries : List Entry) (scr
   by_status status.Unsupported runs not_failed not_long =
       let same : runs.script ≡ script = some_same runs.script script (script_of false runs.bytes) runs.spells (spells runs.bytes runs.gave) in
       absurd (true_false (ap is_built same ∙ built) runs.not_built)
-  by_status (status.Fault its) runs not_failed not_long = absurd (subst (λ (x : Fault). IsNodeFaultOver x) (only_memory its runs.1) runs.0)
+  by_status (status.Fault its) runs not_failed not_long = absurd (subst (λ (x : Fault). IsNodeFault x) (only_memory its runs.1) runs.0)
   by_status status.Device runs not_failed not_long = absurd (by_device runs)
     where
       by_device : Ran Gave o out (Err Disk) entries ⊎ Ran Gave o out (Err Secrets) entries → ⊥

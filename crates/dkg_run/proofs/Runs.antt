@@ -1,15 +1,12 @@
 -- What the entries of a whole run are, over all that the devices may have held.
-use Rattle.std.proofs.Common.{ℕ, ◌+◌, Some, List, [], ◌∷◌, ◌++◌, ◌≡◌, ◌≢◌, inl, inr, refl, ap, ◌∙◌, append_assoc, length, add-one}
-use Rattle.std.specs.Prelude.{slice_get, fold}
+use Rattle.std.proofs.Common.{◌+◌, List, [], ◌∷◌, ◌++◌, ◌≡◌, ◌≢◌, inl, inr, refl, ap, ◌∙◌, append_assoc, length}
+use Rattle.std.specs.Prelude.{fold}
 use Rattle.dkg_journal.specs.Names.{Files}
 use Rattle.dkg_secrets.specs.Secrets.{Secrets}
 use Rattle.dkg_types.specs.declared.entry.Entry.{Entry}
 use Rattle.dkg_types.specs.declared.entry.Entry.TheVariants as entry
 use Rattle.dkg_types.specs.declared.fault.Fault.{Fault}
 use Rattle.dkg_types.specs.declared.fault.Fault.TheVariants.{NoMemory}
-use Rattle.dkg_text.specs.declared.script.Event.{Event}
-use Rattle.dkg_text.specs.declared.script.Life.{Life}
-use Rattle.dkg_script.specs.Position.{event_of_step}
 use Rattle.dkg_text.specs.declared.script.Script.{Script}
 use Rattle.dkg_script.specs.Order.{InOrder, IsInOrder}
 use Rattle.dkg_script.specs.Progress.{Progress, read, at_start, progress}
@@ -17,15 +14,7 @@ use Rattle.dkg_script.specs.Promise.{Adds, RunsInOrder, RunsAll}
 use Rattle.dkg_script.specs.Setting.{Setting, setting_of}
 use Rattle.dkg_script.proofs.EachEntry.{EachAfter, at_each}
 use Rattle.dkg_run.proofs.Standing.{Each, Moves, MayTell, IsBetweenOf}
-use Rattle.dkg_run.proofs.Places.{each_of_both, moves_none}
-
--- the event of the next step
-pub at_event : (life : Life) (i : ℕ) (event : Event) → slice_get life.events i ≡ Some event → event_of_step life (i + 1) ≡ Some event
-at_event life i event is = rw (add-one i) is
-
--- memory ran out before the first life
-pub untouched : (script : Script) (out : List Entry) → Moves IsInOrder (IsBetweenOf script 0) (MayTell NoMemory) out out
-untouched script out = moves_none IsInOrder (IsBetweenOf script 0) (MayTell NoMemory) out out refl (λ s p is. inl refl)
+use Rattle.dkg_run.proofs.Places.{each_of_both}
 
 -- THE WHOLE RUN
 

@@ -35,11 +35,11 @@ use Rattle.dkg_core.specs.Setup.{recovered_share}
 use Rattle.dkg_core.specs.Sources.{anchored}
 use Rattle.dkg_core.specs.Storing.{ReadsSecrets}
 use Rattle.dkg_core.specs.Endings.{first_epoch}
-use Rattle.dkg_run.specs.Epochs.{IsAt, IsLifeOver}
+use Rattle.dkg_run.specs.Epochs.{IsAt, IsLifeInForm}
 use Rattle.dkg_run.specs.Given.{Lived, anchor_in, at_step, blocks_in, delivered_by, lived, numbered, step_of}
 use Rattle.dkg_run.proofs.Awaiting.{IsReached, comes_to, one_more}
 use Rattle.dkg_run.proofs.Drawn.{Begins, Numbered, all_join, found_number, held_begin, used_begin}
-use Rattle.dkg_run.proofs.Former.{Brings, IsMessage, event_in_form, form_over, live_at, message_in}
+use Rattle.dkg_run.proofs.Former.{Brings, IsMessage, event_in_form, form_at, live_at, message_in}
 use Rattle.dkg_run.proofs.OwnClear.{recovered_fits}
 use Rattle.dkg_run.proofs.OwnValid.{known_at}
 use Rattle.dkg_run.proofs.SharesFit.{BoundaryServes, HoldsSuch, Serves, block_such, message_such, opening_such}
@@ -160,10 +160,10 @@ module _ (s : Setting) (cuts : List (Option CutAt)) (form : IsFormOfEpochs s.scr
       same_number x y e = grind (arith, nat_tests)
 
   -- AN OPENING, wherever it ends
-  module _ (here : IsLifeOver g) where
+  module _ (here : IsLifeInForm g) where
     pub opening_fits : (ended : Ended NodeStop (Live directory.Unit)) (w new : World) → SharesFit s w.held → EndsSo (node_opening (at_step g 0)) ended w new → SharesFit s new.held
     opening_fits ended w new q run =
-        opening_such (IsMineAt s) (at_step g 0) (form_over g here 0) ended w new (boundary_serves 0 (λ i low. absurd (omega (arith, low))) (first_epoch (at_step g 0))) q run
+        opening_such (IsMineAt s) (at_step g 0) (form_at g here 0) ended w new (boundary_serves 0 (λ i low. absurd (omega (arith, low))) (first_epoch (at_step g 0))) q run
 
     -- A STEP, wherever it ends
     module _ (i : ℕ) (its : Event) (is : slice_get life.events i ≡ Some its) (reached : IsReached life.cut (suc i))
@@ -192,5 +192,5 @@ module _ (s : Setting) (cuts : List (Option CutAt)) (form : IsFormOfEpochs s.scr
               message_such (IsMineAt s) c from bytes st ended w new q (subst (λ (x : Message directory.Unit). EndsSo (node_step c (event_of x) st) ended w new) brings its_run)
           by_event (event.Final number) there message brings its_taken its_run =
               block_such (IsMineAt s) c (brings.0).block (last_serves i number there reached (brings.0).block (brings.0).is) (λ ends. boundary_serves (suc i) came (epoch_of c.blocks_per_epoch (((brings.0).block).height + 1)))
-              (form_over g here (suc i)) st live (subst (λ (x : Message directory.Unit). IsTakenIn c x st) brings.1 its_taken) w q ended new (subst (λ (x : Message directory.Unit). EndsSo (node_step c (event_of x) st) ended w new) brings.1 its_run)
+              (form_at g here (suc i)) st live (subst (λ (x : Message directory.Unit). IsTakenIn c x st) brings.1 its_taken) w q ended new (subst (λ (x : Message directory.Unit). EndsSo (node_step c (event_of x) st) ended w new) brings.1 its_run)
           by_event other there message brings its_taken its_run = absurd brings

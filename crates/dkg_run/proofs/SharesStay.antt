@@ -19,7 +19,7 @@ use Rattle.dkg_core.specs.Node.{node_opening}
 use Rattle.dkg_core.specs.Seen.{Seen}
 use Rattle.dkg_core.specs.Storing.{ReadsSecrets}
 use Rattle.dkg_reshare.specs.declared.stop.Stop.{Stop}
-use Rattle.dkg_run.specs.Epochs.{IsLifeOver}
+use Rattle.dkg_run.specs.Epochs.{IsLifeInForm}
 use Rattle.dkg_run.specs.Given.{Lived, at_step, lived, step_of}
 use Rattle.dkg_run.specs.GivesBack.{PassesAll}
 use Rattle.dkg_run.specs.Lives.{LivesSo, RunsSo}
@@ -36,7 +36,7 @@ abbrev pub PassAndFit : Setting → Held → Type 0
 PassAndFit s h = PassHeld s h × SharesFit s h
 
 module _ (s : Setting) (cuts : List (Option CutAt)) (form : IsFormOfEpochs s.script) (consistent : IsConsistentScript s cuts) (l : ℕ) (life : Life) (seen : Held → Seen) (files : Files) (life_is : life_at s l ≡ Some life)
-    (here : IsLifeOver (lived s.script l life seen files)) (records : ReadsRecords seen) (secrets : ReadsSecrets seen) (fits : FitsRecords s cuts form consistent l life seen files life_is here records) where
+    (here : IsLifeInForm (lived s.script l life seen files)) (records : ReadsRecords seen) (secrets : ReadsSecrets seen) (fits : FitsRecords s cuts form consistent l life seen files life_is here records) where
   abbrev g : Lived
   g = lived s.script l life seen files
 
@@ -81,9 +81,9 @@ module _ (s : Setting) (cuts : List (Option CutAt)) (form : IsFormOfEpochs s.scr
 
 -- A RUN
 pub run_shares : (s : Setting) (cuts : List (Option CutAt)) (form : IsFormOfEpochs s.script) (consistent : IsConsistentScript s cuts)
-    → (over : (l : ℕ) (life : Life) (seen : Held → Seen) (files : Files) → slice_get s.script.lives l ≡ Some life → by_worlds.reads seen → IsLifeOver (lived s.script l life seen files))
+    → (over : (l : ℕ) (life : Life) (seen : Held → Seen) (files : Files) → slice_get s.script.lives l ≡ Some life → by_worlds.reads seen → IsLifeInForm (lived s.script l life seen files))
     → (records : (seen : Held → Seen) → by_worlds.reads seen → ReadsRecords seen) (secrets : (seen : Held → Seen) → by_worlds.reads seen → ReadsSecrets seen)
-    → ((l : ℕ) (life : Life) (seen : Held → Seen) (files : Files) (life_is : life_at s l ≡ Some life) (here : IsLifeOver (lived s.script l life seen files)) (read : ReadsRecords seen) → FitsRecords s cuts form consistent l life seen files life_is here read)
+    → ((l : ℕ) (life : Life) (seen : Held → Seen) (files : Files) (life_is : life_at s l ≡ Some life) (here : IsLifeInForm (lived s.script l life seen files)) (read : ReadsRecords seen) → FitsRecords s cuts form consistent l life seen files life_is here read)
     → (first : Files → Type 0) (w new : World) (answered : Result (Unit {0}) Fault) → PassAndFit s w.held → RunsSo by_worlds s.script first w answered new → PassAndFit s new.held
 run_shares s cuts form consistent over records secrets fits first w new answered its run =
     run_holds (PassAndFit s) s.script over

@@ -9,15 +9,12 @@ use Rattle.dkg_types.specs.declared.directory.Unit as directory
 use Rattle.dkg_types.specs.declared.entry.Entry.{Entry as Line}
 use Rattle.dkg_types.specs.declared.fault.Fault.{Fault}
 use Rattle.dkg_types.specs.declared.fault.Fault.TheVariants as fault
-use Rattle.dkg_store.specs.Acts.{Ended, Held, Stands, by_cut, by_disk, by_secrets, by_want, held_in, notes, stopped}
+use Rattle.dkg_store.specs.Acts.{Ended, Stands, by_cut, by_disk, by_secrets, by_want, held_in, stopped}
 use Rattle.dkg_store.specs.Corrupt.{AreEvents}
 use Rattle.dkg_store.specs.Events.{is_event}
-use Rattle.dkg_store.specs.Noted.{logs_in}
-use Rattle.dkg_store.specs.Pairs.{IsWhole, recovered}
 use Rattle.dkg_secrets.specs.Secrets.{Secrets}
 use Rattle.dkg_core.specs.Courses.{on_devices}
 use Rattle.dkg_core.specs.Fixed.{Fixed}
-use Rattle.dkg_core.specs.Heard.{recovered_in}
 use Rattle.dkg_core.specs.Live.{Faulted, Live, NodeStop}
 use Rattle.dkg_core.specs.Node.{node_opening}
 use Rattle.dkg_core.specs.Said.{Said}
@@ -116,13 +113,3 @@ shut_holds files image next held now stands shut c here = record {
 
     at : from.0 ≡ files
     at = stands.lands.only from.0 from.1
-
-module _ (old new : Held) (stays : StaysHeld old new) where
-  pub held_whole : IsWhole (notes old) old.secrets → IsWhole (notes new) new.secrets
-  held_whole whole = subst (λ (s : Secrets). IsWhole (notes new) s) (sym stays.secrets) (subst (λ (es : List Entry). IsWhole es old.secrets) (sym stays.entries) whole)
-
-  pub held_pairs : recovered_in new ≡ recovered_in old
-  held_pairs = λ i. recovered (stays.entries i) (stays.secrets i)
-
-  pub held_logs : logs_in (notes new) ≡ logs_in (notes old)
-  held_logs = ap logs_in stays.entries

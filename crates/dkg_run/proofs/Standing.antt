@@ -55,10 +55,6 @@ IsCutWithin its step = IsSomeAnd its (λ cut. (cut.step ≡ step) × (cut.call �
 
 -- WHERE A RUN STANDS
 
--- at both of two places
-abbrev pub Both : (P Q : Setting → Progress → Type 0) → Setting → Progress → Type 0
-Both P Q s p = P s p × Q s p
-
 -- so many lives have ended, and nothing of the next was written
 pub record IsBetween (ended : ℕ) (s : Setting) (p : Progress) : Type 0 where
   pub lives : length p.cuts ≡ ended

@@ -21,7 +21,7 @@ use Rattle.dkg_script.specs.Readings.{Material}
 use Rattle.dkg_script.specs.Setting.{Setting, blocks_per_epoch, found, is_oneshot}
 use Rattle.dkg_core.specs.Sources.{anchored, position}
 use Rattle.dkg_core.specs.Endings.{first_block, first_epoch}
-use Rattle.dkg_run.specs.Epochs.{IsAnchorOver, IsLifeOver}
+use Rattle.dkg_run.specs.Epochs.{IsAnchorAbove, IsLifeInForm}
 use Rattle.dkg_run.specs.Given.{Lived, anchor_at, anchor_in, at_step, blocks_in, delivered_by, numbered}
 use Rattle.dkg_run.proofs.Awaiting.{awaited}
 use Rattle.dkg_run.proofs.Delivered.{starts}
@@ -76,7 +76,7 @@ module _ (s : Setting) (l : ℕ) (life : Life) (no_sync : life.sync ≡ None) (n
 -- ITS HEIGHT
 
 module _ (s : Setting) where
-  pub at_anchor : (at : Option Anchor) → IfSome at (IsAnchorOver s.script.blocks) → awaited (position (anchor_in (blocks_in s.script) at)) ≡ height_after_anchor s at
+  pub at_anchor : (at : Option Anchor) → IfSome at (IsAnchorAbove s.script.blocks) → awaited (position (anchor_in (blocks_in s.script) at)) ≡ height_after_anchor s at
   at_anchor None above = refl
   at_anchor (Some (Processed number)) above = both (slice_get (blocks_in s.script) number) (block_at s number) (same_heights s number)
     where
@@ -192,7 +192,7 @@ module _ (s : Setting) (at : ℕ) where
 
 -- A LIFE
 
-module _ (g : Lived) (here : IsLifeOver g) where
+module _ (g : Lived) (here : IsLifeInForm g) where
   -- what it awaits at first
   pub awaits_at_first : awaited (position (anchor_in (blocks_in g.script) g.life.anchor)) ≡ start_height (alone g.script) g.number g.life
   awaits_at_first = at_anchor (alone g.script) g.life.anchor here.anchor ∙ sym (starts_at_anchor (alone g.script) g.number g.life (life_in g here).no_sync refl)

@@ -27,12 +27,12 @@ use Rattle.dkg_reshare.specs.Actors.{IsFoundAt}
 use Rattle.dkg_reshare.specs.Ends.{IsCausedBy}
 use Rattle.dkg_reshare.specs.Given.{HasRead, IsOf}
 use Rattle.dkg_reshare.specs.Made.{Tells}
-use Rattle.dkg_reshare.specs.Today.{seen_today}
+use Rattle.dkg_reshare.specs.Planless.{seen_planless}
 use Rattle.dkg_reshare.specs.declared.stop.Stop.{Stop}
 use Rattle.dkg_reshare.specs.declared.stop.Stop.TheVariants.{Cut, Failed, Fault as FaultOf}
 use Rattle.dkg_reshare.proofs.Said.{nothing_held}
 use Rattle.dkg_run.specs.Causes.{StopHasCause}
-use Rattle.dkg_run.specs.Epochs.{IsAt, IsChecked, IsLifeOver}
+use Rattle.dkg_run.specs.Epochs.{IsAt, IsChecked, IsLifeInForm}
 use Rattle.dkg_run.specs.Given.{IsUnplanned, Lived, at_step, blocks_in, lived}
 use Rattle.dkg_run.specs.Lives.{LivesSo, TakesAll, fuse_for}
 use Rattle.dkg_run.specs.Moving.{StepBlames, StopBlames, Went}
@@ -42,7 +42,7 @@ use Rattle.dkg_run.specs.Ways.{ReadsSomething, by_lines, trace}
 use Rattle.dkg_run.specs.declared.held.HeldBlocks.{HeldBlocks}
 use Rattle.dkg_run.specs.declared.node.Node.{Node}
 use Rattle.dkg_run.proofs.Living.{step_blames_around, step_stop_cause}
-use Rattle.dkg_run.proofs.Checked.{life_over}
+use Rattle.dkg_run.proofs.Checked.{life_in_form}
 use Rattle.dkg_run.proofs.LivesStand.{lines_lead, opened_at}
 use Rattle.dkg_run.proofs.Stepping.{lines_go, step_wants}
 use Rattle.dkg_run.proofs.Turns.{cut_lines, stopped_lines, told_lines, untold_lines, went_uncut}
@@ -55,10 +55,10 @@ LinesSo script number life out how now files =
 
 -- what is read of nothing
 abbrev nothing : Held → Seen
-nothing h = seen_today nothing_held
+nothing h = seen_planless nothing_held
 
 reads_nothing : ReadsSomething nothing
-reads_nothing = record { read = seen_today nothing_held; each = refl; unplanned = refl }
+reads_nothing = record { read = seen_planless nothing_held; each = refl; unplanned = refl }
 
 module _ (script : Script) (number : ℕ) (life : Life) (files : Files) (out : List Line) where
   -- The life is cut before it opens.
@@ -112,8 +112,8 @@ module _ (script : Script) (number : ℕ) (life : Life) (files : Files) (out : L
         module _ (form : IsFormOfEpochs script) (checked : IsChecked script) (life_is : slice_get script.lives number ≡ Some life)
             (of : (g : Lived) → g.script ≡ script → g.life ≡ life → IsUnplanned g.seen → IsOfLife g node) (blocks : List (Block directory.Unit)) (same : blocks ≡ blocks_in script)
           where
-            over_it : IsLifeOver its
-            over_it = life_over script number life (λ h. read.seen) files form checked life_is (λ h. read.unplanned)
+            over_it : IsLifeInForm its
+            over_it = life_in_form script number life (λ h. read.seen) files form checked life_is (λ h. read.unplanned)
 
             step_of_it : IsStepHere its node blocks life
             step_of_it = record { of = of its refl refl (λ h. read.unplanned); blocks_are = same; life_is = refl }
@@ -126,7 +126,7 @@ module _ (script : Script) (number : ℕ) (life : Life) (files : Files) (out : L
             has_opened = record { g = its; here = over_it; of = step_of_it; st = (read.so).0; view = (read.so).1; at = at_first }
 
             pub told_first : (how : Result (Unit {0}) Stop) (behind now_then : List Line) → behind ≡ now ++ entry.Step 0 ∷ []
-                → ((g : Lived) (st : Live directory.Unit) (picks : List ℕ) → IsLifeOver g → IsStepHere g node blocks life → IsView node st → IsAt g 0 st
+                → ((g : Lived) (st : Live directory.Unit) (picks : List ℕ) → IsLifeInForm g → IsStepHere g node blocks life → IsView node st → IsAt g 0 st
                 → TakesAll by_lines g 1 life.events st (trace behind picks) how (trace now_then picks))
                 → LinesSo script number life out how now_then files
             told_first how behind now_then is takes = (

@@ -16,22 +16,22 @@ use Rattle.dkg_core.specs.Live.{Deals, Follows, Includes, Live, NodeStop, awaite
 use Rattle.dkg_core.specs.Live as core
 use Rattle.dkg_reshare.specs.Actors.{IfLiving, TakesBlock}
 use Rattle.dkg_reshare.specs.LiveOf.{IsPlaced, awaited_of, stage_of}
-use Rattle.dkg_reshare.specs.Today.{seen_today}
+use Rattle.dkg_reshare.specs.Planless.{seen_planless}
 use Rattle.dkg_reshare.specs.declared.actor.State.{State}
 use Rattle.dkg_reshare.specs.declared.life.Life as reshare
 use Rattle.dkg_reshare.specs.declared.life.Stage.{Stage}
 use Rattle.dkg_reshare.specs.declared.life.Stage.TheVariants as stage
 use Rattle.dkg_reshare.specs.declared.stop.Stop.{Stop}
 use Rattle.dkg_reshare.proofs.Standing.{its_epoch}
-use Rattle.dkg_run.specs.Epochs.{IsAt, IsEarly, IsEarlyEvent, IsLifeOver, MayStep}
+use Rattle.dkg_run.specs.Epochs.{IsAt, IsEarly, IsEarlyEvent, IsLifeInForm, MayStep}
 use Rattle.dkg_run.specs.Given.{Lived, at_step, blocks_in, step_of}
 use Rattle.dkg_run.specs.Lives.{Steps, fuse_for}
 use Rattle.dkg_run.specs.Nodes.{IsEventOfBlocks, IsView}
 use Rattle.dkg_run.specs.Ways.{Way}
 use Rattle.dkg_run.specs.declared.node.Node.{Node}
 use Rattle.dkg_run.proofs.Awaiting.{IsBefore, IsReached, before_all, reached_lit}
-use Rattle.dkg_run.proofs.Former.{IsMessage, event_in_form, form_over, live_at, made_of, made_there, message_in, per_epoch_is}
-use Rattle.dkg_run.proofs.LivesStand.{Leads, before_suc, stepped_at}
+use Rattle.dkg_run.proofs.Former.{IsMessage, event_in_form, form_at, live_at, made_of, made_there, message_in, per_epoch_is}
+use Rattle.dkg_run.proofs.LivesStand.{LeadsAlong, before_suc, stepped_at}
 use Rattle.dkg_run.proofs.Stood.{block_early}
 
 -- A NODE behind the first i events
@@ -51,16 +51,16 @@ here_first g node st life same f lit view at = record {
 
 -- WHAT A STEP IS GIVEN
 
-reads_today : (g : Lived) (i : ℕ) → (at_step g (suc i)).seen ≡ seen_today
+reads_planless : (g : Lived) (i : ℕ) → (at_step g (suc i)).seen ≡ seen_planless
 unfolding at_step
-reads_today g i = refl
+reads_planless g i = refl
 
-module _ (g : Lived) (here : IsLifeOver g) (i : ℕ) (its : Event) (life : Life) (same : g.life ≡ life) (of_life : slice_get life.events i ≡ Some its) (node : Node) (st : Live directory.Unit) (at : IsHere g node i st) where
+module _ (g : Lived) (here : IsLifeInForm g) (i : ℕ) (its : Event) (life : Life) (same : g.life ≡ life) (of_life : slice_get life.events i ≡ Some its) (node : Node) (st : Live directory.Unit) (at : IsHere g node i st) where
   is : slice_get g.life.events i ≡ Some its
   is = ap (λ (l : Life). slice_get l.events i) same ∙ of_life
 
   pub may_step : MayStep g (i + 1) st
-  may_step = subst (λ (k : ℕ). MayStep g k st) (sym (add-one i)) (record { reads = reads_today g i; form = form_over g here (suc i); live = live_at g i (suc i) st at.at.live; active = at.at.active })
+  may_step = subst (λ (k : ℕ). MayStep g k st) (sym (add-one i)) (record { reads = reads_planless g i; form = form_at g here (suc i); live = live_at g i (suc i) st at.at.live; active = at.at.active })
 
   lit_suc : (f : Burn) → fuse_for life.cut (i + 1) ≡ Some f → fuse_for g.life.cut (suc i) ≡ Some f
   lit_suc f lit = ap (λ (l : Life). fuse_for l.cut (suc i)) same ∙ ap (fuse_for life.cut) (sym (add-one i)) ∙ lit
@@ -147,7 +147,7 @@ module _ (g : Lived) (here : IsLifeOver g) (i : ℕ) (its : Event) (life : Life)
 
   -- BEHIND A STEP that was answered Ok stands the next state
 
-  module _ {W : Type 0} (way : Way W) (leads : Leads way) (line : Line) (next : Node) (w mid : W) where
+  module _ {W : Type 0} (way : Way W) (leads : LeadsAlong way) (line : Line) (next : Node) (w mid : W) where
     abbrev Before : Live directory.Unit → W → Type 0
     Before end m = (◌≡◌ {A = Result (Unit {0}) Stop} (Ok tt) (Ok tt)) × IsView next end × (m ≡ mid)
 

@@ -23,12 +23,12 @@ use Rattle.dkg_core.specs.Sources.{Tip, startup}
 use Rattle.dkg_core.specs.Stepping.{IsBlockEnd, IsNextIn, IsStepEnd, TakesNothingOver}
 use Rattle.dkg_core.specs.Endings.{first_block, tip_behind}
 use Rattle.dkg_core.proofs.Heights.{epoch_from, epoch_is, epoch_to, next_last}
-use Rattle.dkg_run.specs.Epochs.{IsEarly, IsLifeOver, Stands, awaited_by, epoch_by}
+use Rattle.dkg_run.specs.Epochs.{IsEarly, IsLifeInForm, Stands, awaited_by, epoch_by}
 use Rattle.dkg_run.specs.Given.{Lived, at_step}
 use Rattle.dkg_run.proofs.Awaiting.{HasHeight, IsReached, awaited, block_awaits, block_behind, has_height, message_behind}
 use Rattle.dkg_run.proofs.Delivered.{enters_here, enters_not, epochs_rise, first_not, starts}
 use Rattle.dkg_run.proofs.Former.{Brings, IsMadeOf, IsMessage, life_in}
-use Rattle.dkg_run.proofs.NextLives.{GoesOn, IsApplied, TakesOver, applied_high, applied_so, applied_tip, next_so, next_tip, parts_behind, taken_if, taken_so, with_round}
+use Rattle.dkg_run.proofs.NextLives.{GoesOn, TakesOver, applied_high, applied_so, applied_tip, next_so, next_tip, parts_behind, taken_so, with_round}
 use Rattle.dkg_run.proofs.Started.{awaits_at_first, blind_is, first_block_is, first_epoch_is, not_late}
 
 -- OVER NUMBERS
@@ -50,16 +50,13 @@ not_last n h some apart = epoch_is n (epoch_of n h) (h + 1) (above (epoch_of n h
         by_order true test = grind (arith, nat_tests)
         by_order false test = absurd (apart (let more : m + n ≤ h + 1 = grind (arith, nat_tests) in omega (arith, more, less)))
 
-none_there : {A : Type 0} (x : A) → ◌≡◌ {A = Option A} None (Some x) → ⊥
-none_there x e = cc
-
 bools_apart : (t : Bool) → t ≡ true → t ≡ false → ⊥
 bools_apart t e f = let wrong : true ≡ false = sym e ∙ f in cc
 
 the_block : {A : Type 0} {x y : made.Block A} → ◌≡◌ {A = Message A} (Finalized x) (Finalized y) → x ≡ y
 the_block e = cc
 
-module _ (g : Lived) (here : IsLifeOver g) where
+module _ (g : Lived) (here : IsLifeInForm g) where
   abbrev s : Setting
   s = alone g.script
 
@@ -233,11 +230,6 @@ module _ (g : Lived) (here : IsLifeOver g) where
 
       block_taken : slice_get g.life.events i ≡ Some (Final number) → IsTakenIn (at_step g (suc i)) (Finalized made_it.block) st
       block_taken at = taken_so (at_step g (suc i)) made_it.block st live (early at)
-
-      -- also of one that is refused for its range: where it would be applied the life follows, or it lies below its epoch's midpoint
-      pub block_placed : slice_get g.life.events i ≡ Some (Final number) → IsApplied (at_step g (suc i)) made_it.block st
-          → (st.participation.stage ≡ Follows) ⊎ ((made_it.block).height < midpoint (at_step g (suc i)).blocks_per_epoch (epoch_of (at_step g (suc i)).blocks_per_epoch (made_it.block).height))
-      block_placed at = taken_if (at_step g (suc i)) made_it.block st live (early at)
 
     pub step_taken : IsTakenIn (at_step g (suc i)) m.message st
     step_taken = by_event its is m.message m.brings

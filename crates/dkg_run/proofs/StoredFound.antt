@@ -29,7 +29,7 @@ use Rattle.dkg_core.specs.Setup.{may_deal}
 use Rattle.dkg_core.specs.Stepping.{OwnDiffers}
 use Rattle.dkg_core.proofs.Sound.{first_of_three}
 use Rattle.dkg_run.specs.Blamed.{per_epoch, round_by}
-use Rattle.dkg_run.specs.FoundOver.{IsBegunBy, IsFirstRefusedIn, IsRefusedBy}
+use Rattle.dkg_run.specs.Found.{IsBegunBy, IsFirstRefusedIn, IsRefusedBy}
 use Rattle.dkg_run.specs.Given.{Lived, at_step, blocks_in}
 use Rattle.dkg_run.proofs.Former.{is_ceremony}
 

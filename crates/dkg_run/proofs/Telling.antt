@@ -29,8 +29,8 @@ use Rattle.dkg_core.specs.Seen.{Seen}
 use Rattle.dkg_core.specs.Sources.{Tip}
 use Rattle.dkg_run.specs.Blamed.{IsBlockCause, IsBlockOwn, IsFromOutside, IsInfoCause, IsNextCause, IsOpeningCause, IsOwnCause, IsOwnDealing, IsWhy, IsWhyNow, OnBlock, OnCarried, first_epoch_in, is_beyond, is_first_taken, next_epoch, opening_block, refusal_by, refusal_in, tip_in}
 use Rattle.dkg_run.specs.Causes.{HasCause}
-use Rattle.dkg_run.specs.EndsOver.{EndsFaultedOver, EndsRunOver, HasRisenOver, IsFaultOver}
-use Rattle.dkg_run.specs.Epochs.{IsChecked, IsLifeOver}
+use Rattle.dkg_script.specs.Ends.{EndsFaulted, EndsRun, HasRisen, IsToldFault}
+use Rattle.dkg_run.specs.Epochs.{IsChecked, IsLifeInForm}
 use Rattle.dkg_run.specs.Given.{blocks_in, lived}
 use Rattle.dkg_run.specs.Lives.{RunsSo, TellsEnd}
 use Rattle.dkg_run.specs.Ways.{ReadsSomething, Trace, by_lines}
@@ -42,7 +42,7 @@ use Rattle.dkg_run.proofs.Standing.{IsBetweenOf, Moves, TellsFault}
 
 -- the fault is one that can be told, or want of memory
 abbrev pub IsTellable : Fault → Type 0
-IsTellable its = (its ≡ fault.NoMemory) ⊎ IsFaultOver its
+IsTellable its = (its ≡ fault.NoMemory) ⊎ IsToldFault its
 
 outside_tellable : (its : Fault) → IsFromOutside its → IsTellable its
 outside_tellable fault.NoMemory is = inl refl
@@ -66,13 +66,13 @@ on_block script other P so leads = absurd so
 
 -- EACH CAUSE can be told
 
-info_tellable : (script : Script) (epoch : ℕ) (info : EpochInfo directory.Unit) (its : Fault) → IsInfoCause script epoch info its → IsFaultOver its
+info_tellable : (script : Script) (epoch : ℕ) (info : EpochInfo directory.Unit) (its : Fault) → IsInfoCause script epoch info its → IsToldFault its
 info_tellable script epoch info (fault.WrongEpoch expected got) why = λ same. why.2 (sym why.1 ∙ same ∙ why.0)
 info_tellable script epoch info (fault.InvalidParticipants (cause.Refused e)) why = tt
 info_tellable script epoch info (fault.InvalidParticipants (cause.Round e)) why = tt
 info_tellable script epoch info its why = absurd why
 
-own_tellable : (script : Script) (epoch : ℕ) (info : EpochInfo directory.Unit) (its : Fault) → IsOwnCause script epoch info its → IsFaultOver its
+own_tellable : (script : Script) (epoch : ℕ) (info : EpochInfo directory.Unit) (its : Fault) → IsOwnCause script epoch info its → IsToldFault its
 own_tellable script epoch info (fault.LocalState (local.ShareRefused number)) why = tt
 own_tellable script epoch info (fault.LocalState (local.StoredDealing number dealer)) why = tt
 own_tellable script epoch info its why = absurd why
@@ -83,22 +83,22 @@ none_some e = cc
 some_same : {x y : Fault} → Some x ≡ Some y → x ≡ y
 some_same e = cc
 
-one_of : (its : Fault) (u : Bool) (x : Fault) (o : Option Fault) → (u ≡ true → IsFaultOver x) → (o ≡ Some its → IsFaultOver its) → (if u then Some x else o) ≡ Some its → IsFaultOver its
-one_of its true x o here rest is = subst IsFaultOver (some_same is) (here refl)
+one_of : (its : Fault) (u : Bool) (x : Fault) (o : Option Fault) → (u ≡ true → IsToldFault x) → (o ≡ Some its → IsToldFault its) → (if u then Some x else o) ≡ Some its → IsToldFault its
+one_of its true x o here rest is = subst IsToldFault (some_same is) (here refl)
 one_of its false x o here rest is = rest is
 
 less : (n m : ℕ) → nat_lt n m ≡ true → n < m
 less n m test = grind (arith, nat_tests)
 
-refusal_tellable : (script : Script) (l : ℕ) (life : Life) (j : ℕ) (b : Block directory.Unit) (its : Fault) → refusal_in script l life j b ≡ Some its → IsFaultOver its
+refusal_tellable : (script : Script) (l : ℕ) (life : Life) (j : ℕ) (b : Block directory.Unit) (its : Fault) → refusal_in script l life j b ≡ Some its → IsToldFault its
 refusal_tellable script l life j b its is = one_of its (is_beyond script b.height) fault.HeightRange (refusal_by script l life b (tip_in script life j)) (λ e. tt) (by_tip (tip_in script life j)) is
   where
-    by_tip : (o : Option Tip) → refusal_by script l life b o ≡ Some its → IsFaultOver its
+    by_tip : (o : Option Tip) → refusal_by script l life b o ≡ Some its → IsToldFault its
     by_tip None is = by_window (is_first_taken script l life b) is
       where
-        by_window : (t : Bool) → (if t then None else Some (fault.OutOfWindow b.height)) ≡ Some its → IsFaultOver its
+        by_window : (t : Bool) → (if t then None else Some (fault.OutOfWindow b.height)) ≡ Some its → IsToldFault its
         by_window true e = absurd (none_some e)
-        by_window false e = subst IsFaultOver (some_same e) tt
+        by_window false e = subst IsToldFault (some_same e) tt
     by_tip (Some t) is =
         one_of its ((b.height == t.height) && not (bytes_eq b.digest t.digest)) (fault.ConflictingBlock b.height)
         (if nat_lt (t.height + 1) b.height then Some (fault.SkippedHeight (t.height + 1) b.height) else if (b.height == t.height + 1) && not (bytes_eq b.parent t.digest) then Some (fault.DetachedBlock b.height) else None)
@@ -107,26 +107,26 @@ refusal_tellable script l life j b its is = one_of its (is_beyond script b.heigh
         (if (b.height == t.height + 1) && not (bytes_eq b.parent t.digest) then Some (fault.DetachedBlock b.height) else None) (λ e. less (t.height + 1) b.height e)
         (one_of its ((b.height == t.height + 1) && not (bytes_eq b.parent t.digest)) (fault.DetachedBlock b.height) None (λ e. tt) (λ e. absurd (none_some e)))) is
 
-next_tellable : (script : Script) (b : Block directory.Unit) (its : Fault) → IsNextCause script b its → IsFaultOver its
+next_tellable : (script : Script) (b : Block directory.Unit) (its : Fault) → IsNextCause script b its → IsToldFault its
 next_tellable script b (fault.MissingEpochInfo height) why = tt
 next_tellable script b fault.HeightRange why = tt
 next_tellable script b its why = on_carried (λ info. IsInfoCause script (next_epoch script b) info its) (Some b) why (λ info so. info_tellable script (next_epoch script b) info its so)
 
-opening_tellable : (script : Script) (l : ℕ) (life : Life) (its : Fault) → IsOpeningCause script l life its → IsFaultOver its
+opening_tellable : (script : Script) (l : ℕ) (life : Life) (its : Fault) → IsOpeningCause script l life its → IsToldFault its
 opening_tellable script l life fault.HeightRange why = tt
 opening_tellable script l life (fault.MissingEpochInfo height) why = tt
 opening_tellable script l life its why =
     on_carried (λ info. IsInfoCause script (first_epoch_in script l life) info its) (opening_block script l life) why (λ info so. info_tellable script (first_epoch_in script l life) info its so)
 
-dealing_tellable : (script : Script) (l : ℕ) (life : Life) (j : ℕ) (its : Fault) → IsOwnDealing script l life j its → IsFaultOver its
+dealing_tellable : (script : Script) (l : ℕ) (life : Life) (j : ℕ) (its : Fault) → IsOwnDealing script l life j its → IsToldFault its
 dealing_tellable script l life j (fault.LocalState (local.OwnDealing number kept dealt)) why = why.2
 dealing_tellable script l life j its why = absurd why
 
-block_tellable : (script : Script) (l : ℕ) (life : Life) (j : ℕ) (b : Block directory.Unit) (its : Fault) → IsBlockCause script l life j b its → IsFaultOver its
+block_tellable : (script : Script) (l : ℕ) (life : Life) (j : ℕ) (b : Block directory.Unit) (its : Fault) → IsBlockCause script l life j b its → IsToldFault its
 block_tellable script l life j b its (inl refused) = refusal_tellable script l life j b its refused
 block_tellable script l life j b its (inr next) = next_tellable script b its next.1
 
-block_own_tellable : (script : Script) (l : ℕ) (life : Life) (j : ℕ) (b : Block directory.Unit) (its : Fault) → IsBlockOwn script l life j b its → IsFaultOver its
+block_own_tellable : (script : Script) (l : ℕ) (life : Life) (j : ℕ) (b : Block directory.Unit) (its : Fault) → IsBlockOwn script l life j b its → IsToldFault its
 block_own_tellable script l life j b its (inl next) = on_carried (λ info. IsOwnCause script (next_epoch script b) info its) (Some b) next.1 (λ info so. own_tellable script (next_epoch script b) info its so)
 block_own_tellable script l life j b its (inr dealing) = dealing_tellable script l life j its dealing.1
 
@@ -146,20 +146,20 @@ now_tellable script p its (inr so) = on_there (λ life. IsWhy script (length p.c
 
 -- THE CLAUSE of ends
 
-has_risen : (its : Fault) (disk_rose secrets_rose : Type 0) → its ≢ fault.NoMemory → IsTellable its → HasCause its disk_rose secrets_rose → HasRisenOver its disk_rose secrets_rose
+has_risen : (its : Fault) (disk_rose secrets_rose : Type 0) → its ≢ fault.NoMemory → IsTellable its → HasCause its disk_rose secrets_rose → HasRisen its disk_rose secrets_rose
 has_risen its disk_rose secrets_rose not (inl is) cause = absurd (not is)
 has_risen fault.Disk disk_rose secrets_rose not (inr today) cause = cause
 has_risen fault.Secrets disk_rose secrets_rose not (inr today) cause = cause
 has_risen its disk_rose secrets_rose not (inr today) cause = today
 
-ends_faulted : (its : Fault) (entries : List Entry) (disk_rose secrets_rose : Type 0) → its ≢ fault.NoMemory → EndsInFault entries its → HasRisenOver its disk_rose secrets_rose
-    → EndsFaultedOver its entries disk_rose secrets_rose
+ends_faulted : (its : Fault) (entries : List Entry) (disk_rose secrets_rose : Type 0) → its ≢ fault.NoMemory → EndsInFault entries its → HasRisen its disk_rose secrets_rose
+    → EndsFaulted its entries disk_rose secrets_rose
 ends_faulted fault.NoMemory entries disk_rose secrets_rose not ends cause = absurd (not refl)
 ends_faulted its entries disk_rose secrets_rose not ends cause = (ends, cause)
 
-module _ (script : Script) (checked : IsChecked script) (each_over : (l : ℕ) (life : Life) (seen : Held → Seen) (files : Files) → slice_get script.lives l ≡ Some life → ReadsSomething seen → IsLifeOver (lived script l life seen files)) where
+module _ (script : Script) (checked : IsChecked script) (each_over : (l : ℕ) (life : Life) (seen : Held → Seen) (files : Files) → slice_get script.lives l ≡ Some life → ReadsSomething seen → IsLifeInForm (lived script l life seen files)) where
   pub run_ends : (first : Files → Type 0) (t new : Trace) (answered : Result (Unit {0}) Fault) (disk_rose secrets_rose : Type 0)
-      → IfErr answered (λ its. HasCause its disk_rose secrets_rose) → RunsSo by_lines script first t answered new → Adds t.out new.out (λ added. EndsRunOver answered added disk_rose secrets_rose)
+      → IfErr answered (λ its. HasCause its disk_rose secrets_rose) → RunsSo by_lines script first t answered new → Adds t.out new.out (λ added. EndsRun answered added disk_rose secrets_rose)
   run_ends first t new answered disk_rose secrets_rose causes run = by_result run.result (all_judged script checked each_over first t run.mid run.result run.lives) answered causes run.told
     where
       not_ok : (its : Fault) → TellsEnd by_lines (Err its) (Ok tt) run.mid new → ⊥
@@ -173,21 +173,21 @@ module _ (script : Script) (checked : IsChecked script) (each_over : (l : ℕ) (
           now_tellable script (fold (read s) (at_start s) moves.added) its (moves.to s (at_start s) (starts script files held))
 
       faulted : (its answered : Fault) → Moves (Judges script) (IsBetweenOf script 0) (Tells script its) t.out run.mid.out → HasCause answered disk_rose secrets_rose
-          → TellsFault its answered run.mid.out new.out → Adds t.out new.out (λ added. EndsFaultedOver answered added disk_rose secrets_rose)
+          → TellsFault its answered run.mid.out new.out → Adds t.out new.out (λ added. EndsFaulted answered added disk_rose secrets_rose)
       faulted its answered moves cause (inl none) =
-          (moves.added, none.1 ∙ moves.parts, subst (λ (x : Fault). EndsFaultedOver x moves.added disk_rose secrets_rose) (sym none.0) moves.no_fault)
+          (moves.added, none.1 ∙ moves.parts, subst (λ (x : Fault). EndsFaulted x moves.added disk_rose secrets_rose) (sym none.0) moves.no_fault)
       faulted its answered moves cause (inr told) = (
         moves.added ++ entry.Fault its ∷ [],
         told.2 ∙ ap (λ (xs : List Entry). xs ++ entry.Fault its ∷ []) moves.parts ∙ append_assoc t.out moves.added (entry.Fault its ∷ []),
-        subst (λ (x : Fault). EndsFaultedOver x (moves.added ++ entry.Fault its ∷ []) disk_rose secrets_rose) (sym told.0)
+        subst (λ (x : Fault). EndsFaulted x (moves.added ++ entry.Fault its ∷ []) disk_rose secrets_rose) (sym told.0)
             (ends_faulted its (moves.added ++ entry.Fault its ∷ []) disk_rose secrets_rose told.1 (record { before = moves.added; last = refl; only = moves.no_fault })
             (has_risen its disk_rose secrets_rose told.1 (tellable its moves empty (record { shares = empty; seeds = empty; privates = empty })) (subst (λ (x : Fault). HasCause x disk_rose secrets_rose) told.0 cause))),
       )
 
       by_result : (result : Result (Unit {0}) Fault) → Moves (Judges script) (IsBetweenOf script 0) (RunEndsBy (Tells script) script result) t.out run.mid.out
           → (answered : Result (Unit {0}) Fault) → IfErr answered (λ its. HasCause its disk_rose secrets_rose) → TellsEnd by_lines result answered run.mid new
-          → Adds t.out new.out (λ added. EndsRunOver answered added disk_rose secrets_rose)
+          → Adds t.out new.out (λ added. EndsRun answered added disk_rose secrets_rose)
       by_result (Ok done) moves answered causes told =
-          (moves.added, ap (λ (x : Trace). x.out) told.1 ∙ moves.parts, subst (λ (r : Result (Unit {0}) Fault). EndsRunOver r moves.added disk_rose secrets_rose) (sym told.0) moves.no_fault)
+          (moves.added, ap (λ (x : Trace). x.out) told.1 ∙ moves.parts, subst (λ (r : Result (Unit {0}) Fault). EndsRun r moves.added disk_rose secrets_rose) (sym told.0) moves.no_fault)
       by_result (Err its) moves (Ok done) causes told = absurd (not_ok its told)
       by_result (Err its) moves (Err answered) causes told = faulted its answered moves causes (tells_fault its answered run.mid new told)

@@ -23,8 +23,8 @@ use Rattle.dkg_script.proofs.ConsistentAsCut.{known_within}
 use Rattle.dkg_run.specs.Again.{GaveBack, IsHonestCall, RunsAgain, StandsAgain}
 use Rattle.dkg_run.specs.Complete.{AreValidDevices}
 use Rattle.dkg_run.specs.GivesBack.{HoldsValid, limit_in}
-use Rattle.dkg_run.specs.ValidOver.{AreValidOver}
-use Rattle.dkg_run.proofs.KeepingOver.{history_of}
+use Rattle.dkg_script.specs.Valid.{AgreesWith}
+use Rattle.dkg_run.proofs.Keeping.{history_of}
 use Rattle.dkg_run.proofs.Lasting.{narrowed_fit}
 
 -- each image is one of what was left
@@ -76,7 +76,7 @@ module _ (s : Setting) (cuts : List (Option CutAt)) (reshares : s.script.config.
       by_info None is none = absurd (none_some none)
       by_info (Some info) is so = round_is s reshares epoch ∙ ap (λ (o : Option Info). option_and_then (reshare_round s epoch) o) (cut_info epoch info is) ∙ so
 
-  agrees_as_cut : (files : Files) (held : Secrets) → AreValidOver s files held → AreValidOver (with_cuts cuts s) files held
+  agrees_as_cut : (files : Files) (held : Secrets) → AgreesWith s files held → AgreesWith (with_cuts cuts s) files held
   agrees_as_cut files held agrees = record {
     shares = λ epoch share info got known. agrees.shares epoch share info got (cut_info epoch info known);
     dealings = λ epoch dealer public private round low got made. agrees.dealings epoch dealer public private round low got (cut_round epoch round made);
@@ -90,7 +90,7 @@ holds_valid s image valid = record {
   shares = λ epoch share info got known. (valid.agree).shares epoch share info got known;
 }
 
-agrees_if_held : (s : Setting) (files : Files) (held : Secrets) → HoldsValid s files held → AreValidOver s files held
+agrees_if_held : (s : Setting) (files : Files) (held : Secrets) → HoldsValid s files held → AgreesWith s files held
 agrees_if_held s files held valid = record {
   shares = λ epoch share info got known. valid.shares epoch share info got known;
   dealings = λ epoch dealer public private round low got made. (valid.passing).1 (epoch, dealer) (public, private) round low got made;
@@ -99,7 +99,7 @@ agrees_if_held s files held valid = record {
 
 -- WHAT THE NEXT CALL finds
 module _ (script : Script) (files other : Files) (held its : Secrets) (plan : get other Plan ≡ get files Plan) (image : Files → Type 0) (honest : AreHonestStores (setting_of script other its) image) (fit : AreFit (limit_in script) image) where
-  finds_valid : AreValidOver (setting_of script files held) other its → AreValidDevices (setting_of script other its) image
+  finds_valid : AgreesWith (setting_of script files held) other its → AreValidDevices (setting_of script other its) image
   finds_valid agrees = record {
     stores = honest;
     fit = fit;
@@ -133,10 +133,10 @@ module _ {D : Type 0} (files : D → Files) (image : D → Files → Type 0) (sc
   holds : HoldsValid s (files old) held → HoldsValid s (files next) held_now
   holds valid = gave.0.valid (honest.1.source [] (history_of s (cuts_in s added) honest.0.form honest.0.no_plan refl)) loose valid (files next) here
 
-  uncut : (ends : List (Option CutAt)) → IsConsistentScript t ends → AreValidDevices t (image old) → AreValidOver t (files next) held_now
+  uncut : (ends : List (Option CutAt)) → IsConsistentScript t ends → AreValidDevices t (image old) → AgreesWith t (files next) held_now
   uncut ends consistent valid = agrees_if_held t (files next) held_now (gave.0.valid_uncut ends consistent loose (holds_valid t (image old) valid) (files next) here)
 
-  finds : (other : Script) → AreFit (limit_in other) (image next) → AreValidOver (setting_of other (files old) held) (files next) held_now → AreValidDevices (setting_of other (files next) held_now) (image next)
+  finds : (other : Script) → AreFit (limit_in other) (image next) → AgreesWith (setting_of other (files old) held) (files next) held_now → AreValidDevices (setting_of other (files next) held_now) (image next)
   finds other fit agrees = finds_valid other (files old) (files next) held held_now plan (image next) (stores other) fit agrees
 
   stands_again : StandsAgain script (setting_as_cut script (files old) held added) (image old) (image next) (files next) held_now

@@ -29,9 +29,9 @@ use Rattle.dkg_script.specs.Setting.{Setting, listed, recovered_from}
 use Rattle.dkg_script.proofs.Beginning.{gives_all}
 use Rattle.dkg_script.proofs.EachEntry.{EachAfter, at_each}
 use Rattle.dkg_run.specs.Complete.{IsSoundRun, IsValidAsCut}
-use Rattle.dkg_run.specs.EndsOver.{EndsScript}
+use Rattle.dkg_script.specs.Ends.{EndsScript}
 use Rattle.dkg_run.specs.Epochs.{refused_config}
-use Rattle.dkg_run.specs.FoundOver.{ShowsOver}
+use Rattle.dkg_run.specs.Found.{ShowsCause}
 use Rattle.dkg_run.specs.GivesBack.{HoldsValid, StaysValid}
 use Rattle.dkg_run.specs.Lives.{BeganNone, TellsEnd}
 use Rattle.dkg_run.specs.Over.{Over, over}
@@ -39,7 +39,7 @@ use Rattle.dkg_run.specs.Refusals.{BlamesOnlySkips, IsRefusal}
 use Rattle.dkg_run.specs.Ways.{Trace, by_lines, trace}
 use Rattle.dkg_run.proofs.Checked.{refused_so}
 use Rattle.dkg_run.proofs.Currently.{current_all}
-use Rattle.dkg_run.proofs.KeepingOver.{history_of}
+use Rattle.dkg_run.proofs.Keeping.{history_of}
 use Rattle.dkg_run.proofs.OfferedHalves.{all_of}
 
 -- Both devices stand as they stood.
@@ -148,8 +148,8 @@ module _ (script : Script) (o : Over) (answered : Result (Unit {0}) Fault) (old 
       by_config None = refl
 
   -- what was answered shows nothing of the devices, refuses no block, and is of no valid script
-  pub none_shows : IfErr answered (ShowsOver script o.now.files o.now.held)
-  none_shows = by_why (λ r es. IfErr r (ShowsOver script o.now.files o.now.held)) tt (λ fault refused. refused_so script fault refused (ShowsOver script o.now.files o.now.held) (λ cause. tt))
+  pub none_shows : IfErr answered (ShowsCause script o.now.files o.now.held)
+  none_shows = by_why (λ r es. IfErr r (ShowsCause script o.now.files o.now.held)) tt (λ fault refused. refused_so script fault refused (ShowsCause script o.now.files o.now.held) (λ cause. tt))
 
   pub none_skips : IfErr answered (λ its. o.tells → BlamesOnlySkips s o.before.image (cuts_in s added) its)
   none_skips = by_why (λ r es. IfErr r (λ its. o.tells → BlamesOnlySkips s o.before.image (cuts_in s added) its)) (λ told built honest refusal. absurd refusal)

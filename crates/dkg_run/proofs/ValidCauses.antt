@@ -37,9 +37,9 @@ use Rattle.dkg_script.specs.Setting.{CutAt, Setting, blocks_per_epoch, found, li
 use Rattle.dkg_script.specs.Valid.{participants_in}
 use Rattle.dkg_script.proofs.LineBlocks.{of_line}
 use Rattle.dkg_run.specs.Blamed.{IsBlockCause, IsCause, IsInfoCause, IsNextCause, IsOpeningCause, IsTakenLast, OnBlock, refusal_in, first_epoch_in, is_beyond, is_first_taken, judged_by, next_epoch, opening_block, round_by}
-use Rattle.dkg_run.specs.Epochs.{IsAnchorOver}
+use Rattle.dkg_run.specs.Epochs.{IsAnchorAbove}
 use Rattle.dkg_run.specs.Given.{AreBytes, blocks_in, limits_of, payload_in}
-use Rattle.dkg_run.specs.ValidOver.{BeginsWell, ComesInTurn, IsValidCaseOver, LiesInRange, ServesIn}
+use Rattle.dkg_script.specs.Valid.{BeginsWell, ComesInTurn, IsValidCase, LiesInRange, ServesIn}
 use Rattle.dkg_run.proofs.Alone.{follows_alike, height_alike}
 use Rattle.dkg_run.proofs.Awaiting.{IsReached, comes_to}
 use Rattle.dkg_run.proofs.Chaining.{IsOutside, IsSkipped, Tips, refused_so, tips_so}
@@ -48,12 +48,6 @@ use Rattle.dkg_run.proofs.Drawn.{all_join, found_number, own_info, same_limits}
 use Rattle.dkg_run.proofs.Former.{IsMadeOf, made_there}
 use Rattle.dkg_run.proofs.Started.{starts_at_anchor}
 use Rattle.dkg_run.proofs.Used.{all_back, all_front, held as held_in, of_anchor, of_delivered}
-
-not_there : {A : Type 0} (x : A) → ◌≡◌ {A = Option A} None (Some x) → ⊥
-not_there x e = cc
-
-some_is : {A : Type 0} {x y : A} → ◌≡◌ {A = Option A} (Some x) (Some y) → x ≡ y
-some_is e = cc
 
 ok_err : {A E : Type 0} (x : A) (e : E) → ◌≡◌ {A = Result A E} (Ok x) (Err e) → ⊥
 ok_err x e is = cc
@@ -83,7 +77,7 @@ none_read script form (Some bytes) none =
     by_payload (Some (payload.EpochInfo i)) is none = absurd (let wrong : ◌≡◌ {A = Option (EpochInfo directory.Unit)} (Some i) None = none in cc)
     by_payload (Some (payload.DealerLog log)) is none = rw is refl
 
-module _ (s : Setting) (ends : List (Option CutAt)) (valid : IsValidCaseOver s ends) (form : IsFormOfEpochs s.script) where
+module _ (s : Setting) (ends : List (Option CutAt)) (valid : IsValidCase s ends) (form : IsFormOfEpochs s.script) where
   abbrev n : ℕ
   n = blocks_per_epoch s
 
@@ -143,7 +137,7 @@ module _ (s : Setting) (ends : List (Option CutAt)) (valid : IsValidCaseOver s e
     info_clear epoch info at carries its why = absurd why
 
   -- A LIFE that began
-  module _ (bytes : AreBytes s.script.blocks) (long : 2 ≤ blocks_per_epoch s) (l : ℕ) (life : Life) (life_is : life_at s l ≡ Some life) (anchored : IfSome life.anchor (IsAnchorOver s.script.blocks)) (no_sync : life.sync ≡ None) (none_found : found s l ≡ None)
+  module _ (bytes : AreBytes s.script.blocks) (long : 2 ≤ blocks_per_epoch s) (l : ℕ) (life : Life) (life_is : life_at s l ≡ Some life) (anchored : IfSome life.anchor (IsAnchorAbove s.script.blocks)) (no_sync : life.sync ≡ None) (none_found : found s l ≡ None)
       (events_in : AllByRecursion (IsEventIn s.script.blocks) life.events) (in_turn : ComesInTurn s l life) where
     abbrev Numbered : ℕ → Type 0
     Numbered number = IfSome (block_at s number) Good

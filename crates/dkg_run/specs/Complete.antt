@@ -11,19 +11,19 @@ use Rattle.dkg_script.specs.Promise.{AreHonestStores, IsBuilt, cuts_in}
 use Rattle.dkg_script.specs.Setting.{CutAt, Setting, setting_of}
 use Rattle.dkg_run.specs.Epochs.{IsChecked}
 use Rattle.dkg_run.specs.Over.{Over, Standing}
-use Rattle.dkg_run.specs.ValidOver.{AreValidOver, IsValidScriptOver}
+use Rattle.dkg_script.specs.Valid.{AgreesWith, IsValidScript}
 
 -- The devices handed in are whole, with nothing loose. Their records are events within the script's limit, and what they hold agrees with the script.
 pub record AreValidDevices (s : Setting) (image : Files → Type 0) : Type 0 where
   pub stores : AreHonestStores s image
   pub fit : AreFit (non_zero_u32_get s.script.config.limit) image
-  pub agree : AreValidOver s s.files s.secrets
+  pub agree : AgreesWith s s.files s.secrets
 
 -- a valid script, of what is built, whose configuration is not refused and whose first lives ended so, over valid devices
 pub record IsValidRun (s : Setting) (image : Files → Type 0) (ends : List (Option CutAt)) : Type 0 where
   pub built : IsBuilt s
   pub checked : IsChecked s.script
-  pub script : IsValidScriptOver s ends
+  pub script : IsValidScript s ends
   pub devices : AreValidDevices s image
 
 -- .. of a script as it was cut, by these entries

@@ -13,7 +13,7 @@ use Rattle.dkg_text.specs.declared.script.Event.{Event}
 use Rattle.dkg_text.specs.declared.script.Event.TheVariants.{Final}
 use Rattle.dkg_text.specs.declared.script.Script.{Script}
 use Rattle.dkg_reshare.specs.Configured.{config_fault}
-use Rattle.dkg_reshare.specs.Today.{seen_today}
+use Rattle.dkg_reshare.specs.Planless.{seen_planless}
 use Rattle.dkg_script.specs.Epochs.{IsFormOfEpochs, alone}
 use Rattle.dkg_script.specs.Position.{awaited_epoch, awaited_height, follows}
 use Rattle.dkg_store.specs.Acts.{Held}
@@ -25,15 +25,15 @@ use Rattle.dkg_run.specs.Given.{Lived, at_step}
 -- A LIFE
 
 -- A block that a node doesn't have stands above height 0.
-abbrev pub IsAnchorOver : List BlockLine → Anchor → Type 0
-IsAnchorOver blocks (Processed number) = Unit {0}
-IsAnchorOver blocks (Absent number) = IfSome (slice_get blocks number) (λ line. 0 < line.height)
+abbrev pub IsAnchorAbove : List BlockLine → Anchor → Type 0
+IsAnchorAbove blocks (Processed number) = Unit {0}
+IsAnchorAbove blocks (Absent number) = IfSome (slice_get blocks number) (λ line. 0 < line.height)
 
 -- It is a life of a script of this form, whose mode is supported and whose epochs have two blocks at least, and no plan is read.
-pub record IsLifeOver (g : Lived) : Type 0 where
+pub record IsLifeInForm (g : Lived) : Type 0 where
   pub form : IsFormOfEpochs g.script
   pub life_is : slice_get g.script.lives g.number ≡ Some g.life
-  pub anchor : IfSome g.life.anchor (IsAnchorOver g.script.blocks)
+  pub anchor : IfSome g.life.anchor (IsAnchorAbove g.script.blocks)
   pub unplanned : (h : Held) → (g.seen h).plan ≡ None
   pub supported : supports_of g.script.config.max_mode.0 g.script.config.mode ≡ true
   pub long : 2 ≤ non_zero_u64_get g.script.config.blocks_per_epoch
@@ -74,7 +74,7 @@ IsChecked script = refused_config script ≡ None
 
 -- The life goes on with this step, whose reads are those of the devices.
 pub record MayStep (g : Lived) (number : ℕ) (st : Live directory.Unit) : Type 0 where
-  pub reads : (at_step g number).seen ≡ seen_today
+  pub reads : (at_step g number).seen ≡ seen_planless
   pub form : IsForm (at_step g number)
   pub live : IsLiveIn (at_step g number) st
   pub active : IsActiveIn st

@@ -36,7 +36,7 @@ use Rattle.dkg_core.specs.Node.{node_step}
 use Rattle.dkg_core.specs.Seen.{Seen}
 use Rattle.dkg_core.specs.Sources.{Anchor, AtBlock, Absent, Source, source_of}
 use Rattle.dkg_core.specs.Endings.{first_epoch}
-use Rattle.dkg_reshare.specs.Today.{seen_today}
+use Rattle.dkg_reshare.specs.Planless.{seen_planless}
 
 -- BLOCKS
 
@@ -140,7 +140,7 @@ no_probed = record { snapshot = None; certifies = λ finalization. false }
 -- what its steps read: its opening what is given, and the ones behind it what the devices hold
 abbrev pub seen_at : Lived → (taken : ℕ) → Held → Seen
 seen_at g zero = g.seen
-seen_at g (suc taken) = seen_today
+seen_at g (suc taken) = seen_planless
 
 -- what a step of the life is given
 unfoldable pub at_step : Lived → (taken : ℕ) → Fixed directory.Unit
@@ -182,4 +182,4 @@ IsUnplanned seen = (h : Held) → (seen h).plan ≡ None
 
 -- the epoch before the one in which a life starts, below which its opening leaves nothing
 abbrev pub starts_above : Script → (number : ℕ) → Life → ℕ
-starts_above script number life = first_epoch (at_step (lived script number life seen_today empty) 0) - 1
+starts_above script number life = first_epoch (at_step (lived script number life seen_planless empty) 0) - 1

@@ -4,9 +4,8 @@ pub mod Causes
 pub mod Command
 pub mod Complete
 pub mod Ended
-pub mod EndsOver
 pub mod Epochs
-pub mod FoundOver
+pub mod Found
 pub mod Fresh
 pub mod Given
 pub mod GivesBack
@@ -21,5 +20,4 @@ pub mod Refusals
 pub mod Reports
 pub mod Sources
 pub mod Stopped
-pub mod ValidOver
 pub mod Ways

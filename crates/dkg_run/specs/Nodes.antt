@@ -27,7 +27,7 @@ use Rattle.dkg_reshare.specs.declared.actor.State.TheVariants.{Living}
 use Rattle.dkg_reshare.specs.declared.life.Life as reshare
 use Rattle.dkg_reshare.specs.declared.stop.Stop.{Stop}
 use Rattle.dkg_run.specs.Ended.{by_node_stop}
-use Rattle.dkg_run.specs.Epochs.{IsAt as StandsAt, IsLifeOver}
+use Rattle.dkg_run.specs.Epochs.{IsAt as StandsAt, IsLifeInForm}
 use Rattle.dkg_run.specs.Given.{IsUnplanned, Lived, at_step, blocks_in}
 use Rattle.dkg_run.specs.declared.half.Half.{Half}
 use Rattle.dkg_run.specs.declared.held.HeldBlocks.{HeldBlocks}
@@ -117,7 +117,7 @@ pub record IsStepHere (g : Lived) (node : Node) (blocks : List (Block directory.
 -- There is a life of a script behind whose opening it goes on.
 pub record HasOpened (node : Node) (blocks : List (Block directory.Unit)) (life : Life) : Type 0 where
   pub g : Lived
-  pub here : IsLifeOver g
+  pub here : IsLifeInForm g
   pub of : IsStepHere g node blocks life
   pub st : Live directory.Unit
   pub view : IsView node st

@@ -11,9 +11,9 @@ use Rattle.dkg_script.specs.SameOffers.{OffersTheSame}
 use Rattle.dkg_script.specs.Promise.{AnswersDealings, KeepsDealings, RunsAll, RunsInOrder, cuts_in}
 use Rattle.dkg_run.specs.Complete.{IsSoundRun, IsValidAsCut}
 use Rattle.dkg_run.specs.Blamed.{BlamesSo}
-use Rattle.dkg_run.specs.EndsOver.{EndsScript}
+use Rattle.dkg_script.specs.Ends.{EndsScript}
 use Rattle.dkg_run.specs.Epochs.{IsChecked, refused_config}
-use Rattle.dkg_run.specs.FoundOver.{EachFault, IsFoundRecord, ShowsOver}
+use Rattle.dkg_run.specs.Found.{EachFault, IsFoundRecord, ShowsCause}
 use Rattle.dkg_run.specs.GivesBack.{GivesBack, limit_in}
 use Rattle.dkg_run.specs.Lives.{AnyFiles, RunsOver, RunsSo, never}
 use Rattle.dkg_run.specs.Over.{Over}
@@ -44,7 +44,7 @@ pub record Promised (script : Script) (o : Over) (result : Result (Unit {0}) Fau
   pub blamed : IsChecked script → BlamesSo script added
   -- A corrupt record that a fault names is found on the devices as the call leaves them, and so are the dealings that it blames.
   pub corrupt : o.disk_tells → EachFault (IsFoundRecord (limit_in script) o.now.files) added
-  pub found : o.tells → Stands o.before.files o.before.image → EachFault (ShowsOver script o.now.files o.now.held) added
+  pub found : o.tells → Stands o.before.files o.before.image → EachFault (ShowsCause script o.now.files o.now.held) added
   -- From here on the script is judged as it was cut. In a consistent one no block is refused but one that skips a height, or that lies outside the window.
   pub skips : IfErr result (λ fault. o.tells → (let s = setting_as_cut script o.before.files o.before.held added in BlamesOnlySkips s o.before.image (cuts_in s added) fault))
   -- The transcript and the devices keep each recorded dealing; and at Ok each dealing that was due was acknowledged.

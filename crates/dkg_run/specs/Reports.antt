@@ -10,7 +10,7 @@ use Rattle.dkg_text.specs.Printing.{lines_of}
 use Rattle.dkg_script.specs.Built.{is_built}
 use Rattle.dkg_script.specs.Epochs.{IsFormOfEpochs}
 use Rattle.dkg_run.specs.Command.{IsTold}
-use Rattle.dkg_run.specs.EndsOver.{IsNodeFaultOver}
+use Rattle.dkg_script.specs.Ends.{IsNodeFault}
 use Rattle.dkg_run.specs.Outside.{TookAll}
 use Rattle.dkg_run.specs.Over.{Over}
 use Rattle.dkg_run.specs.Promised.{RunsLives}
@@ -88,7 +88,7 @@ pub record NotBuilt (Gave : List ℕ → Type 0) (o : Over) (entries : List Entr
 -- by the status
 abbrev pub Runs : (Gave : List ℕ → Type 0) → Over → (out : List Entry) → Status → (entries : List Entry) → Type 0
 Runs Gave o out status.Done entries = Ran Gave o out (Ok tt) entries
-Runs Gave o out (status.Fault its) entries = IsNodeFaultOver its × Ran Gave o out (Err its) entries
+Runs Gave o out (status.Fault its) entries = IsNodeFault its × Ran Gave o out (Err its) entries
 Runs Gave o out status.Device entries = Ran Gave o out (Err fault.Disk) entries ⊎ Ran Gave o out (Err fault.Secrets) entries
 Runs Gave o out status.NoMemory entries = RanNothing o entries ⊎ Ran Gave o out (Err fault.NoMemory) entries
 Runs Gave o out (status.BadScript place) entries = NoScript Gave o place entries

@@ -11,7 +11,7 @@ use Rattle.dkg_core.specs.Live.{Live, NodeStop}
 use Rattle.dkg_core.specs.Said.{Said}
 use Rattle.dkg_core.specs.Seen.{Seen}
 use Rattle.dkg_reshare.specs.Made.{Burns}
-use Rattle.dkg_reshare.specs.Today.{seen_today}
+use Rattle.dkg_reshare.specs.Planless.{seen_planless}
 use Rattle.dkg_reshare.specs.declared.stop.Stop.{Stop}
 use Rattle.dkg_run.specs.Ended.{by_node_stop}
 
@@ -42,7 +42,7 @@ by_worlds = record {
   goes = λ course ended f w new. EndsSo course ended (record w { fuse = f }) new × Burns ended f new.fuse;
   says = says;
   stops = λ w pick. w;
-  reads = λ seen. seen ≡ seen_today;
+  reads = λ seen. seen ≡ seen_planless;
   begins = λ files w. journaled files ≡ w.held.journaled;
   refuses = λ stop w new. IsBroken stop × (new.out ≡ w.out) × StaysHeld w.held new.held;
 }

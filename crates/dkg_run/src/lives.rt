@@ -17,11 +17,11 @@ ghost use Rattle.dkg_core.specs.Seen.{Seen};
 ghost use Rattle.dkg_script.specs.Blocks.{delivered_number};
 ghost use Rattle.dkg_script.specs.Epochs.{IsFormOfEpochs};
 ghost use Rattle.dkg_script.specs.Promise.{Adds};
-ghost use Rattle.dkg_reshare.specs.Today.{seen_today};
+ghost use Rattle.dkg_reshare.specs.Planless.{seen_planless};
 ghost use Rattle.dkg_reshare.specs.declared.stop.Stop.TheVariants.{Cut as AtCut, Failed as HadFailed, Fault as FaultOf};
 ghost use Rattle.dkg_run.specs.Causes.{HasCause, IfFault};
-ghost use Rattle.dkg_run.specs.FoundOver.{IsFoundRecord};
-ghost use Rattle.dkg_run.specs.Epochs.{IsAt, IsChecked, IsEarlyEvent, IsLifeOver, MayStep};
+ghost use Rattle.dkg_run.specs.Found.{IsFoundRecord};
+ghost use Rattle.dkg_run.specs.Epochs.{IsAt, IsChecked, IsEarlyEvent, IsLifeInForm, MayStep};
 ghost use Rattle.dkg_run.specs.Given.{AreBytes, Lived, at_step, blocks_in, limits_of, lived, step_of};
 ghost use Rattle.dkg_run.specs.Lives.{AnyFiles, BeganNone, EndsLife, LivesHere, LivesSo, RunsAllSo, Steps, TakesAll, TellsEnd, fuse_for};
 ghost use Rattle.dkg_run.specs.Moving.{Blames, StepBlames, StopBlames, Went, world_of};
@@ -145,10 +145,10 @@ fn take_steps<D: Disk, X: SecretStore>(
     requires here { HasOpened node.old source.old.blocks.now life.now }
     requires begun { (f : Burn) × (fuse_for life.now.cut 0 ≡ Some f) }
     requires ready { IsReadyNode D.tells D.files D.image node.old devices.old }
-    ensures lines { (g : Lived) (st : Live directory.Unit) (picks : List ℕ) → IsLifeOver g → IsStepHere g node.old source.old.blocks.now life.now
+    ensures lines { (g : Lived) (st : Live directory.Unit) (picks : List ℕ) → IsLifeInForm g → IsStepHere g node.old source.old.blocks.now life.now
         → IsView node.old st → IsAt g 0 st
         → TakesAll by_lines g 1 life.now.events st (trace out.old.entries picks) result (trace out.new.entries picks) }
-    ensures run { IsTrue D.tells → IsTrue X.tells → (g : Lived) (st : Live directory.Unit) → IsLifeOver g
+    ensures run { IsTrue D.tells → IsTrue X.tells → (g : Lived) (st : Live directory.Unit) → IsLifeInForm g
         → IsStepHere g node.old source.old.blocks.now life.now → IsView node.old st → IsAt g 0 st → (c : Files) → D.image devices.new.disk.now c
         → TakesAll by_worlds g 1 life.now.events st
         (world_of X.held devices.old out.old.entries (D.files devices.old.disk.now)) result (world_of X.held devices.new out.new.entries c) }
@@ -192,7 +192,7 @@ fn live<D: Disk, X: SecretStore>(
         (trace out.old.entries picks) result (trace out.new.entries picks)) }
     ensures run { IsTrue D.tells → IsTrue X.tells → Stands (D.files devices.old.disk.now) (D.image devices.old.disk.now) → (c : Files)
         → D.image devices.new.disk.now c
-        → LivesSo by_worlds (lived script.now number life.now seen_today (D.files devices.old.disk.now)) (D.files devices.old.disk.now)
+        → LivesSo by_worlds (lived script.now number life.now seen_planless (D.files devices.old.disk.now)) (D.files devices.old.disk.now)
         (world_of X.held devices.old out.old.entries (D.files devices.old.disk.now)) result (world_of X.held devices.new out.new.entries c) }
     ensures firm { OnOk result (IsTrue D.tells → Lands (D.files devices.new.disk.now) (D.image devices.new.disk.now)) }
     ensures went { Went D.tells D.made X.made D.faults X.faults devices.old devices.new [] }

@@ -15,7 +15,7 @@ ghost use Rattle.dkg_reshare.specs.Given.{AreGivenFrom, HasRead};
 ghost use Rattle.dkg_reshare.specs.Made.{Makes, Tells, UnlessBroken};
 ghost use Rattle.dkg_reshare.specs.Moved.{Moved, StaysAbove};
 ghost use Rattle.dkg_reshare.specs.Opened.{IsInGrammar, OpensReadable};
-ghost use Rattle.dkg_reshare.specs.Today.{seen_today};
+ghost use Rattle.dkg_reshare.specs.Planless.{seen_planless};
 ghost use Rattle.dkg_run.specs.Epochs.{IsEarly, IsEarlyEvent, MayStep};
 ghost use Rattle.dkg_run.specs.Given.{IsUnplanned, Lived, at_step, blocks_in, limits_of, lived, starts_above, step_of};
 ghost use Rattle.dkg_run.specs.Nodes.{IsEventHere, IsOfLife, IsReadyNode, IsView, Viewed, ViewedNew, ended_new};
@@ -89,7 +89,7 @@ impl Node {
         // It is the relation's opening of a journal in its grammar, and each act was made, whatever image a crash leaves.
         ensures acts { IsTrue D.tells → IsTrue X.tells → IsInGrammar (limits_of script.now).most (D.files devices.old.disk.now)
             → ViewedNew result (λ ended. Makes D.files D.image X.held
-            (node_opening (at_step (lived script.now number life.now seen_today (D.files devices.old.disk.now)) 0))
+            (node_opening (at_step (lived script.now number life.now seen_planless (D.files devices.old.disk.now)) 0))
             ended devices.old devices.new out.old.entries out.new.entries) }
         // Whatever the devices tell, its lines are those of an opening that has read something: where they tell, of the epoch before the one in which it
         // starts and later ones the dealings that each image gives back.

@@ -6,16 +6,14 @@ use Rattle.std.specs.Option.{option_map_or}
 use Rattle.std.proofs.lemmas.Bool.{eq-eqb, eqb-true}
 use Rattle.dkg_types.specs.declared.entry.Entry.{Entry}
 use Rattle.dkg_types.specs.declared.entry.Entry.TheVariants.{Opened, Cut, Step, Fault}
-use Rattle.dkg_text.specs.declared.script.BlockLine.{BlockLine}
 use Rattle.dkg_text.specs.declared.script.Event.{Event}
 use Rattle.dkg_text.specs.declared.script.Life.{Life}
-use Rattle.dkg_script.specs.Form.{IsEventOfToday, IsLifeOfToday, midpoint_of}
 use Rattle.dkg_script.specs.Setting.{Setting, CutAt, life_at}
 use Rattle.dkg_script.specs.Position.{cut_of}
 use Rattle.dkg_script.specs.Progress.{Progress, read, at_start, progress, is_last_step, with_life_ended}
 use Rattle.dkg_script.specs.Order.{InLife, IsInOrder, InOrder, IsOrderedCut, IsOrderedStep, Begins}
 use Rattle.dkg_script.specs.AsCut.{cut_within, life_as_cut, lives_as_cut, with_cuts}
-use Rattle.dkg_script.specs.AsCutLaws.{ComesAsFar, StaysInOrderAsCut, StaysOfToday}
+use Rattle.dkg_script.specs.AsCutLaws.{ComesAsFar, StaysInOrderAsCut}
 use Rattle.dkg_script.proofs.EachEntry.{EachAfter, all_splits}
 
 -- LIVES
@@ -210,26 +208,3 @@ all_within P (Some at) events all = by_call (at.call == 0)
     by_call : (b : Bool) → AllByRecursion P (cond b events (take at.step events))
     by_call true = all
     by_call false = all_taken P at.step events all
-
-pub lives_of_today : (early : ℕ) (blocks : List BlockLine) (ends : List (Option CutAt)) (lives : List Life) → AllByRecursion (IsLifeOfToday early blocks) lives
-    → AllByRecursion (IsLifeOfToday early blocks) (lives_as_cut ends lives)
-lives_of_today early blocks [] lives all = all
-lives_of_today early blocks (end ∷ ends) [] all = tt
-lives_of_today early blocks (end ∷ ends) (life ∷ lives) all = (
-  record { anchor = all.0.anchor; holds = all.0.holds; no_sync = all.0.no_sync; events = all_within (IsEventOfToday early blocks) end life.events all.0.events },
-  lives_of_today early blocks ends lives all.1,
-)
-
-pub form_as_cut : StaysOfToday
-form_as_cut ends script form = record {
-  plain = form.plain;
-  reshares = form.reshares;
-  own = form.own;
-  few = form.few;
-  long = form.long;
-  short = form.short;
-  supported = form.supported;
-  blocks = form.blocks;
-  first = form.first;
-  lives = lives_of_today (midpoint_of script) script.blocks ends script.lives form.lives;
-}

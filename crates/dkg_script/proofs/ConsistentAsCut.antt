@@ -1,6 +1,6 @@
--- A consistent script is consistent as it was cut, and a valid one valid: it uses no other block, and each life comes as far by the events that it has.
+-- A consistent script is consistent as it was cut: it uses no other block, and each life comes as far by the events that it has.
 use Rattle.std.proofs.Common.{ℕ, zero, suc, ◌+◌, ◌<◌, ◌≤◌, ◌⊎◌, inl, inr, List, [], ◌∷◌, ◌++◌, ◌≡◌, refl, sym, ap, subst, ◌∙◌, Option, Some, None, Bool, true, false, length, take, arith, take-take}
-use Rattle.std.specs.Prelude.{cond, fold, find, filter_map, map, max, slice_get, option_map, option_to_list, IfSome, IsSomeAnd, ◌==◌, ◌-◌}
+use Rattle.std.specs.Prelude.{cond, fold, find, filter_map, map, max, slice_get, option_map, option_to_list, IfSome, ◌==◌, ◌-◌}
 use Rattle.std.specs.List.{AllByRecursion, cons_option}
 use Rattle.std.specs.Option.{option_map_or}
 use Rattle.std.proofs.lemmas.Bool.{cases_lt}
@@ -9,7 +9,6 @@ use Rattle.dkg_journal.specs.Names.{Files}
 use Rattle.dkg_types.specs.declared.entry.Entry.{Entry}
 use Rattle.dkg_text.specs.declared.script.Cut.{Cut as ScriptCut}
 use Rattle.dkg_text.specs.declared.script.Event.{Event}
-use Rattle.dkg_text.specs.declared.script.Event.TheVariants.{Final}
 use Rattle.dkg_text.specs.declared.script.Life.{Life}
 use Rattle.dkg_script.specs.Readings.{Info, Material}
 use Rattle.dkg_script.specs.Schedule.{epoch_of}
@@ -20,14 +19,14 @@ use Rattle.dkg_script.specs.Progress.{Progress, progress}
 use Rattle.dkg_script.specs.Consistent.{IsConsistentScript, IsFromAnother}
 use Rattle.dkg_script.specs.Order.{InOrder}
 use Rattle.dkg_script.specs.Promise.{IsHonestRun, with_plans}
-use Rattle.dkg_script.specs.Valid.{CarriesFirstInfo, DeliversInTurn, IsFirstInfo, IsValidCase, IsValidScript}
+use Rattle.dkg_script.specs.Valid.{IsValidScript}
 use Rattle.dkg_script.specs.AsCut.{cut_within, life_as_cut, lives_as_cut, with_cuts}
-use Rattle.dkg_script.specs.AsCutLaws.{HonestAnyhow, ValidAnyhow, ValidAsCut}
+use Rattle.dkg_script.specs.AsCutLaws.{HonestAnyhow, ValidAsCut}
 use Rattle.dkg_script.proofs.AsCut.{all_within, its_life, same_progress}
 use Rattle.dkg_script.proofs.Members.{IsIn, all_of, found_within, in_either, in_first, in_joined, in_mapped, in_second, in_taken, joined_in, map_in, named_within, of_all}
 use Rattle.dkg_script.proofs.ScriptedCuts.{ends_as_scripted}
 use Rattle.dkg_script.proofs.Plain.{IsPlain, all_at, finds_none}
-use Rattle.dkg_script.proofs.Today.{plain_of, start_is}
+use Rattle.dkg_script.proofs.EarlyScripts.{plain_of, start_is}
 
 -- EVENTS of a life as it was cut
 
@@ -251,18 +250,6 @@ module _ (s : Setting) (ends cuts : List (Option CutAt)) (plain : IsPlain s) (hi
   one_less n (Some at) (inl below) = inl (omega arith)
   one_less n (Some at) (inr before) = inr before
 
-  turn_as_cut : (end : Option CutAt) (life : Life) → life_at s l ≡ Some life → DeliversInTurn s l life → DeliversInTurn (with_cuts ends s) l (life_as_cut end life)
-  turn_as_cut end life is turn step number b event reached there =
-      let its = step_of_life end life step (Final number) event in
-      subst (λ (n : ℕ). b.height ≤ n) (sym (same_height end life (step - 1) is (one_less step end its.1))) (turn step number b its.0 reached there)
-
-  pub in_turn_as_cut : IfSome (life_at s l) (DeliversInTurn s l) → IfSome (life_at (with_cuts ends s) l) (DeliversInTurn (with_cuts ends s) l)
-  in_turn_as_cut turn = subst (λ (o : Option Life). IfSome o (DeliversInTurn (with_cuts ends s) l)) (sym (its_life ends s.script.lives l)) (by_life (life_at s l) refl turn)
-    where
-      by_life : (o : Option Life) → life_at s l ≡ o → IfSome o (DeliversInTurn s l) → IfSome (option_map (life_as_cut (cut_of ends l)) o) (DeliversInTurn (with_cuts ends s) l)
-      by_life None is turn = tt
-      by_life (Some life) is turn = turn_as_cut (cut_of ends l) life is turn
-
   -- .. so it begins as far, and comes as far until it ends
   same_first : awaited_epoch_in (with_cuts ends s) l 0 ≡ awaited_epoch_in s l 0
   same_first = ap (λ (o : Option Life). option_map_or (λ life. awaited_epoch (with_cuts ends s) l life 0) o 0) (its_life ends s.script.lives l) ∙ by_life (life_at s l) refl
@@ -329,25 +316,6 @@ module _ (s : Setting) (ends : List (Option CutAt)) (plain : IsPlain s) (history
     others = still_others s ends s.script.config.me ends s.script.lives c.others;
   }
 
-module _ (s : Setting) (ends : List (Option CutAt)) where
-  first_as_cut : IsSomeAnd (block_at s 0) (CarriesFirstInfo s) → IsSomeAnd (block_at s 0) (CarriesFirstInfo (with_cuts ends s))
-  first_as_cut is = by_block (block_at s 0) is
-    where
-      by_info : (o : Option Info) → IsSomeAnd o (IsFirstInfo s) → IsSomeAnd o (IsFirstInfo (with_cuts ends s))
-      by_info None none = absurd none
-      by_info (Some info) is = record { first = is.first; accepted = is.accepted; round = is.round }
-
-      by_block : (o : Option Block) → IsSomeAnd o (CarriesFirstInfo s) → IsSomeAnd o (CarriesFirstInfo (with_cuts ends s))
-      by_block None none = absurd none
-      by_block (Some b) is = by_info b.info is
-
-  pub valid_case_as_cut : IsPlain s → IsPlanHistory (with_cuts ends s) ends → IsValidCase s ends → IsValidCase (with_cuts ends s) ends
-  valid_case_as_cut plain history valid = record {
-    consistent = consistent_as_cut s ends plain history valid.consistent;
-    in_turn = λ l began. in_turn_as_cut s ends ends plain history l began (valid.in_turn l began);
-    starts = λ some. first_as_cut (valid.starts (subst (λ (n : ℕ). 0 < n) (as_many ends s.script.lives) some));
-  }
-
 -- THE PREMISES, of a transcript in order
 
 same_ends : (s : Setting) (out : List Entry) → InOrder s out → (progress (with_cuts (progress s out).cuts s) out).cuts ≡ (progress s out).cuts
@@ -362,23 +330,12 @@ honest_as_cut s image ends plain honest = record {
   source = λ plans history. consistent_as_cut (with_plans s plans) ends (plain_case s plans plain) history (honest.source plans (history_of (with_plans s plans) ends ends history));
 }
 
-pub valid_as_cut : (s : Setting) (ends : List (Option CutAt)) → IsPlain s → IsValidScript s ends → IsValidScript (with_cuts ends s) ends
-valid_as_cut s ends plain valid = record {
-  source = λ plans history. valid_case_as_cut (with_plans s plans) ends (plain_case s plans plain) history (valid.source plans (history_of (with_plans s plans) ends ends history));
-}
-
 pub honest_anyhow : {D : Type 0} (image : D → Files → Type 0) → HonestAnyhow image
 honest_anyhow image script files secrets out disk built each ordered =
     let s : Setting = setting_of script files secrets in
     let ends = (progress s out).cuts in
     subst (λ (cs : List (Option CutAt)). IsHonestRun (with_cuts ends s) (image disk) cs) (sym (same_ends s out ordered))
     (honest_as_cut s (image disk) ends (plain_of s built) (each ends (ends_as_scripted s out ordered)))
-
-pub valid_anyhow : ValidAnyhow
-valid_anyhow script files secrets out built each ordered =
-    let s : Setting = setting_of script files secrets in
-    let ends = (progress s out).cuts in
-    subst (λ (cs : List (Option CutAt)). IsValidScript (with_cuts ends s) cs) (sym (same_ends s out ordered)) (valid_as_cut s ends (plain_of s built) (each ends (ends_as_scripted s out ordered)))
 
 pub valid_if_cut : ValidAsCut
 valid_if_cut script files secrets out each ordered =

@@ -24,7 +24,7 @@ use Rattle.dkg_script.specs.Position.{delivered as delivered_by, follows as foll
 use Rattle.dkg_script.specs.Epochs.{TakesEarly}
 use Rattle.dkg_script.specs.Walk.{after, awaited_at, below, boundary_at, delivered, delivered_height, follows, has_block, height_of, is_awaited, is_late, is_taken, late_event, late_in, position_of, stands_at, takes, walk_of}
 use Rattle.dkg_script.proofs.LineBlocks.{no_line, of_line}
-use Rattle.dkg_script.proofs.Today.{no_material, start_is}
+use Rattle.dkg_script.proofs.EarlyScripts.{no_material, start_is}
 use Rattle.dkg_script.proofs.Walked.{comes_to, step_come_to}
 
 -- LISTS AND OPTIONS

@@ -16,7 +16,7 @@ use Rattle.dkg_types.specs.PayloadCodes.{carried_at, payload_after}
 use Rattle.dkg_store.specs.Pairs.{IsWhole}
 use Rattle.dkg_text.specs.declared.script.Life.{Life}
 use Rattle.dkg_text.specs.declared.script.Script.{Script}
-use Rattle.dkg_script.specs.Form.{IsBlockOfToday, IsFormOfToday}
+use Rattle.dkg_script.proofs.Early.{IsBlockBelow, IsEarlyScript}
 use Rattle.dkg_script.specs.Readings.{Material, info_in}
 use Rattle.dkg_script.specs.Setting.{Setting, CutAt}
 use Rattle.dkg_script.specs.Blocks.{used}
@@ -29,19 +29,19 @@ use Rattle.dkg_script.specs.Consistent.{IsConsistentScript}
 use Rattle.dkg_script.proofs.OneDealing.{two, out_two, two_is_kept, two_is_complete, other_key}
 use Rattle.dkg_script.proofs.ConsistentAsCut.{honest_as_cut}
 use Rattle.dkg_script.proofs.Trials.{no_plan, progress_is}
-use Rattle.dkg_script.proofs.Today.{never_back, plain_of}
-use Rattle.dkg_script.proofs.TodayWithin.{today_within}
+use Rattle.dkg_script.proofs.EarlyScripts.{never_back, plain_of}
+use Rattle.dkg_script.proofs.EarlyWithin.{early_within}
 use Rattle.dkg_script.proofs.CutWrites.{at_install, at_gate}
 use Rattle.dkg_script.proofs.Worked.{script_of, genesis, setting, files_of, secrets_of, flat, OnlyThese, nothing_there}
 
 -- BLOCK 0 is one of a script within the first epoch
-pub genesis_of_today : (lives : List Life) → IsBlockOfToday (script_of 8 (lit< tt) (genesis ∷ []) lives) genesis
+pub genesis_is_early : (lives : List Life) → IsBlockBelow (script_of 8 (lit< tt) (genesis ∷ []) lives) genesis
 unfolding payload_after carried_at parts_at held_at outcome_after mode_at byte_at many_at keys_at groups_at
-genesis_of_today lives = (lit< tt, refl)
+genesis_is_early lives = (lit< tt, refl)
 
 -- what is built reads the stored run, which stays within the first epoch
-two_of_today : IsFormOfToday two
-two_of_today = record {
+two_is_early : IsEarlyScript two
+two_is_early = record {
   plain = refl;
   reshares = refl;
   own = lit< tt;
@@ -49,13 +49,13 @@ two_of_today = record {
   long = lit≤ tt;
   short = lit< tt;
   supported = refl;
-  blocks = (genesis_of_today two.lives, tt);
+  blocks = (genesis_is_early two.lives, tt);
   first = refl;
   lives = (record { anchor = tt; holds = refl; no_sync = refl; events = (lit< tt, tt) }, (record { anchor = tt; holds = refl; no_sync = refl; events = tt }, tt));
 }
 
 pub two_is_built : IsBuilt (setting two)
-two_is_built = record { form = today_within two two_of_today; no_plan = get-empty name_cmp Plan }
+two_is_built = record { form = early_within two two_is_early; no_plan = get-empty name_cmp Plan }
 
 -- THE SOURCE, in each case of the plan, however its lives end
 built_in : (plans : List (Option Material)) → IsBuilt (with_plans (setting two) plans)
@@ -67,7 +67,7 @@ consistent_in plans ends history = record {
   one_chain = (refl, (refl, tt));
   linked = (tt, (tt, tt));
   one_info = rw (get-empty name_cmp Plan) (refl, (refl, tt));
-  never_back = λ l below began. never_back (with_plans (setting two) plans) ends two_of_today (plain_of (with_plans (setting two) plans) (built_in plans)) history l began;
+  never_back = λ l below began. never_back (with_plans (setting two) plans) ends two_is_early (plain_of (with_plans (setting two) plans) (built_in plans)) history l began;
   others = ((other_key, tt), (tt, tt));
 }
 
@@ -84,8 +84,8 @@ two_is_honest ends = record {
 }
 
 -- OF CUTS WITHIN A STEP too, whether their call comes or not, and of these scripts as they were cut
-install_of_today : IsFormOfToday at_install
-install_of_today = record {
+install_is_early : IsEarlyScript at_install
+install_is_early = record {
   plain = refl;
   reshares = refl;
   own = lit< tt;
@@ -93,13 +93,13 @@ install_of_today = record {
   long = lit≤ tt;
   short = lit< tt;
   supported = refl;
-  blocks = (genesis_of_today at_install.lives, tt);
+  blocks = (genesis_is_early at_install.lives, tt);
   first = refl;
   lives = (record { anchor = tt; holds = refl; no_sync = refl; events = (lit< tt, tt) }, (record { anchor = tt; holds = refl; no_sync = refl; events = (lit< tt, tt) }, (record { anchor = tt; holds = refl; no_sync = refl; events = tt }, tt)));
 }
 
 install_is_built : (plans : List (Option Material)) → IsBuilt (with_plans (setting at_install) plans)
-install_is_built plans = record { form = today_within at_install install_of_today; no_plan = get-empty name_cmp Plan }
+install_is_built plans = record { form = early_within at_install install_is_early; no_plan = get-empty name_cmp Plan }
 
 install_in : (plans : List (Option Material)) (ends : List (Option CutAt)) → IsPlanHistory (with_plans (setting at_install) plans) ends → IsConsistentScript (with_plans (setting at_install) plans) ends
 unfolding used info_in payload_after carried_at parts_at held_at outcome_after mode_at byte_at many_at keys_at groups_at
@@ -107,7 +107,7 @@ install_in plans ends history = record {
   one_chain = (refl, (refl, (refl, tt)));
   linked = (tt, (tt, (tt, tt)));
   one_info = rw (get-empty name_cmp Plan) (refl, (refl, (refl, tt)));
-  never_back = λ l below began. never_back (with_plans (setting at_install) plans) ends install_of_today (plain_of (with_plans (setting at_install) plans) (install_is_built plans)) history l began;
+  never_back = λ l below began. never_back (with_plans (setting at_install) plans) ends install_is_early (plain_of (with_plans (setting at_install) plans) (install_is_built plans)) history l began;
   others = ((other_key, tt), ((other_key, tt), (tt, tt)));
 }
 
@@ -116,8 +116,8 @@ install_is_honest ends =
     honest_as_cut (setting at_install) (OnlyThese (files_of None)) ends (plain_of (setting at_install) (install_is_built []))
     (record { stores = empty_stores at_install; source = λ plans history. install_in plans ends history })
 
-gate_of_today : IsFormOfToday at_gate
-gate_of_today = record {
+gate_is_early : IsEarlyScript at_gate
+gate_is_early = record {
   plain = refl;
   reshares = refl;
   own = lit< tt;
@@ -125,13 +125,13 @@ gate_of_today = record {
   long = lit≤ tt;
   short = lit< tt;
   supported = refl;
-  blocks = (genesis_of_today at_gate.lives, tt);
+  blocks = (genesis_is_early at_gate.lives, tt);
   first = refl;
   lives = (record { anchor = tt; holds = refl; no_sync = refl; events = (lit< tt, tt) }, (record { anchor = tt; holds = refl; no_sync = refl; events = tt }, tt));
 }
 
 gate_is_built : (plans : List (Option Material)) → IsBuilt (with_plans (setting at_gate) plans)
-gate_is_built plans = record { form = today_within at_gate gate_of_today; no_plan = get-empty name_cmp Plan }
+gate_is_built plans = record { form = early_within at_gate gate_is_early; no_plan = get-empty name_cmp Plan }
 
 gate_in : (plans : List (Option Material)) (ends : List (Option CutAt)) → IsPlanHistory (with_plans (setting at_gate) plans) ends → IsConsistentScript (with_plans (setting at_gate) plans) ends
 unfolding used info_in payload_after carried_at parts_at held_at outcome_after mode_at byte_at many_at keys_at groups_at
@@ -139,7 +139,7 @@ gate_in plans ends history = record {
   one_chain = (refl, (refl, tt));
   linked = (tt, (tt, tt));
   one_info = rw (get-empty name_cmp Plan) (refl, (refl, tt));
-  never_back = λ l below began. never_back (with_plans (setting at_gate) plans) ends gate_of_today (plain_of (with_plans (setting at_gate) plans) (gate_is_built plans)) history l began;
+  never_back = λ l below began. never_back (with_plans (setting at_gate) plans) ends gate_is_early (plain_of (with_plans (setting at_gate) plans) (gate_is_built plans)) history l began;
   others = ((other_key, tt), (tt, tt));
 }
 

@@ -27,7 +27,7 @@ use Rattle.dkg_secrets.proofs.Map.{keys_total}
 use Rattle.dkg_types.specs.declared.entry.Entry.{Entry}
 use Rattle.dkg_types.specs.declared.entry.Entry.TheVariants.{Opened, Ack, Step, Fault}
 use Rattle.dkg_types.specs.declared.entry.Restored.{Restored}
-use Rattle.dkg_types.specs.declared.fault.Fault.TheVariants.{Disk, HeightRange, NoMemory}
+use Rattle.dkg_types.specs.declared.fault.Fault.TheVariants.{Disk, FloorBlockMissing, NoMemory}
 use Rattle.dkg_text.specs.declared.script.Event.TheVariants.{Peer}
 use Rattle.dkg_script.specs.Readings.{Material}
 use Rattle.dkg_script.specs.Setting.{recovered_from, listed}
@@ -241,8 +241,8 @@ stopped_is_not_complete complete = one_not_two (sym (ap (λ (p : Progress). leng
 pub fault_is_no_success : EndsRun (Ok tt) (opening ++ Fault Disk ∷ []) (Unit {0}) (Unit {0}) → ⊥
 fault_is_no_success ends = true_not_false ends
 
--- A FAULT that no run within the first epoch can meet
-pub invented_fault_is_no_end : EndsRun (Err HeightRange) (opening ++ Fault HeightRange ∷ []) (Unit {0}) (Unit {0}) → ⊥
+-- A FAULT that no run of lives can meet
+pub invented_fault_is_no_end : EndsRun (Err FloorBlockMissing) (opening ++ Fault FloorBlockMissing ∷ []) (Unit {0}) (Unit {0}) → ⊥
 invented_fault_is_no_end ends = ends.1
 
 -- and want of memory that is told

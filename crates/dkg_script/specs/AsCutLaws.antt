@@ -5,7 +5,6 @@ use Rattle.dkg_secrets.specs.Secrets.{Secrets}
 use Rattle.dkg_types.specs.declared.entry.Entry.{Entry}
 use Rattle.dkg_text.specs.declared.script.Script.{Script}
 use Rattle.dkg_script.specs.Setting.{Setting, CutAt, setting_of}
-use Rattle.dkg_script.specs.Form.{IsFormOfToday}
 use Rattle.dkg_script.specs.Epochs.{IsFormOfEpochs}
 use Rattle.dkg_script.specs.Progress.{progress}
 use Rattle.dkg_script.specs.Order.{InOrder}
@@ -23,28 +22,18 @@ ComesAsFar = (s : Setting) (front rest : List Entry) → InOrder s (front ++ res
 abbrev pub StaysInOrderAsCut : Type 0
 StaysInOrderAsCut = (s : Setting) (out : List Entry) → InOrder s out → InOrder (with_cuts (progress s out).cuts s) out
 
--- Within the first epoch stays a script however its lives were cut.
-abbrev pub StaysOfToday : Type 0
-StaysOfToday = (ends : List (Option CutAt)) (script : Script) → IsFormOfToday script → IsFormOfToday (as_cut ends script)
-
--- .. and one of the form of epochs is of it.
+-- Of the form of epochs stays a script however its lives were cut.
 abbrev pub StaysOfEpochs : Type 0
 StaysOfEpochs = (ends : List (Option CutAt)) (script : Script) → IsFormOfEpochs script → IsFormOfEpochs (as_cut ends script)
 
 -- WHAT IS PRESUMED of a script is asked of it as it was cut, with the ends that the transcript has. It holds there where it holds of the script wherever
--- its cuts fall, or of the script as it is cut, however that may be.
+-- its cuts fall; that the script is valid, where it holds of the script as it is cut, however that may be.
 
 abbrev pub HonestAnyhow : {D : Type 0} → (D → Files → Type 0) → Type 0
 HonestAnyhow {D} image = (script : Script) (files : Files) (secrets : Secrets) (out : List Entry) (disk : D) → IsBuilt (setting_of script files secrets)
     → ((ends : List (Option CutAt)) → MayEndSo script.lives ends → IsHonestRun (setting_of script files secrets) (image disk) ends)
     → InOrder (setting_of script files secrets) out
     → (let s = setting_as_cut script files secrets out in IsHonestRun s (image disk) (cuts_in s out))
-
-abbrev pub ValidAnyhow : Type 0
-ValidAnyhow = (script : Script) (files : Files) (secrets : Secrets) (out : List Entry) → IsBuilt (setting_of script files secrets)
-    → ((ends : List (Option CutAt)) → MayEndSo script.lives ends → IsValidScript (setting_of script files secrets) ends)
-    → InOrder (setting_of script files secrets) out
-    → (let s = setting_as_cut script files secrets out in IsValidScript s (cuts_in s out))
 
 abbrev pub ValidAsCut : Type 0
 ValidAsCut = (script : Script) (files : Files) (secrets : Secrets) (out : List Entry)

@@ -17,7 +17,6 @@ use Rattle.dkg_script.specs.Readings.{unit_payload}
 use Rattle.dkg_script.specs.Setting.{Setting, blocks_per_epoch}
 use Rattle.dkg_script.specs.Blocks.{Block, block_at}
 use Rattle.dkg_script.specs.Position.{event_of_step, awaited_epoch, follows}
-use Rattle.dkg_script.specs.Form.{IsFormOfToday}
 
 -- a script over devices that hold nothing: no plan is found
 abbrev pub alone : Script → Setting
@@ -68,7 +67,3 @@ pub record IsFormOfEpochs (script : Script) : Type 0 where
   pub blocks : AllByRecursion (IsBlockIn script) script.blocks
   pub placed : AllByRecursion (λ block. block.height < 2 ^ 64) script.blocks
   pub lives : (l : ℕ) (life : Life) → slice_get script.lives l ≡ Some life → IsLifeIn script l life
-
--- A script within the first epoch (see Form) is of it.
-abbrev pub TodayIsOfEpochs : Type 0
-TodayIsOfEpochs = (script : Script) → IsFormOfToday script → IsFormOfEpochs script

@@ -6,7 +6,6 @@ pub mod Consistent
 pub mod Due
 pub mod Ends
 pub mod Epochs
-pub mod Form
 pub mod Kept
 pub mod Laws
 pub mod Order
@@ -17,7 +16,6 @@ pub mod Promise
 pub mod Readings
 pub mod SameOffers
 pub mod Setting
-pub mod Starts
 pub mod Valid
 pub mod Views
 pub mod Walk

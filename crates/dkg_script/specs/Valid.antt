@@ -1,60 +1,68 @@
--- Which scripts are valid: those that a node over sound devices runs to their end.
---
--- Of a script within the first epoch (see Form) this asks all that a run needs; of the form that is read (see Epochs) it says nothing of later epochs. Of
--- what these need some holds of every script within the first one: its lives all begin in epoch 0, so no start epoch falls; its heights lie in
--- that epoch, so each has a successor below 2^64; no configuration is refused; a life has no start material and no end of an epoch, and no ceremony is
--- one-shot. And some is not needed: where a log bears an acknowledgement of this node's that it never gave, the node takes no part, and its run goes on.
-use Rattle.std.specs.Prelude.{ℕ, ◌-◌, ◌<◌, ◌≤◌, ◌≡◌, List, Option, Some, Ok, IfSome, IsSome, IsSomeAnd, length}
+-- Which scripts are valid, and over which devices: those that a node runs to their end, where no device fails.
+use Rattle.std.specs.Prelude.{ℕ, suc, ◌+◌, ◌<◌, ◌≤◌, ◌^◌, ◌≡◌, ◌⊎◌, List, Option, Some, Ok, true, IfSome, IsSome, IsSomeAnd, length}
+use Rattle.std.specs.FinMap.{get}
+use Rattle.std.specs.List.{AllByRecursion}
+use Rattle.dkg_ceremony.specs.Dealings.{dealing_of}
+use Rattle.dkg_ceremony.specs.Deals.{deal_of}
+use Rattle.dkg_ceremony.specs.PartialPublics.{partial_public_of, share_public_of}
+use Rattle.dkg_ceremony.specs.declared.round.RoundParts.{RoundParts as Round}
+use Rattle.dkg_journal.specs.Names.{Files}
+use Rattle.dkg_secrets.specs.Secrets.{Secrets}
 use Rattle.dkg_types.specs.Validation.{validation}
 use Rattle.dkg_types.specs.declared.participants.Participants.{Participants}
-use Rattle.dkg_text.specs.declared.script.Cut.{Cut}
 use Rattle.dkg_text.specs.declared.script.Event.TheVariants.{Final}
 use Rattle.dkg_text.specs.declared.script.Life.{Life}
-use Rattle.dkg_script.specs.Readings.{Info}
-use Rattle.dkg_script.specs.Setting.{Setting, CutAt, life_at, limits}
-use Rattle.dkg_script.specs.Blocks.{Block, block_at, reshare_round}
-use Rattle.dkg_script.specs.Position.{awaited_height, event_of_step}
+use Rattle.dkg_script.specs.Blocks.{Block, block_at, known_info, reshare_round, round_at, used}
 use Rattle.dkg_script.specs.Consistent.{IsConsistentScript}
+use Rattle.dkg_script.specs.Epochs.{ComesTo}
+use Rattle.dkg_script.specs.Position.{awaited_height, event_of_step, follows}
 use Rattle.dkg_script.specs.Promise.{InEachCase}
+use Rattle.dkg_script.specs.Readings.{Info}
+use Rattle.dkg_script.specs.Schedule.{boundary, epoch_of, last}
+use Rattle.dkg_script.specs.Setting.{Setting, CutAt, blocks_per_epoch, life_at, limits, me, recovered_from}
 
--- DELIVERIES
+-- DELIVERIES: each block that a life is brought stands at the height that is awaited, or at or below the position; a life that follows without a position takes any first block.
+abbrev pub ComesInTurn : Setting → (l : ℕ) → Life → Type 0
+ComesInTurn s l life =
+    (j number : ℕ) (b : Block) → event_of_step life (suc j) ≡ Some (Final number) → ComesTo life.cut (suc j) → block_at s number ≡ Some b
+    → (b.height ≤ awaited_height s l life j) ⊎ ((awaited_height s l life j ≡ 0) × (follows s l life 0 ≡ true))
 
--- the life is not cut before the step, nor before an earlier one
-abbrev pub IsReached : Option Cut → ℕ → Type 0
-IsReached cut step = IfSome cut (λ its. its.call ≡ 0 → step < its.step)
+-- RANGE: the heights of the epoch of this one are numbers of 64 bits.
+abbrev pub LiesInRange : Setting → (height : ℕ) → Type 0
+LiesInRange s height = last (blocks_per_epoch s) (epoch_of (blocks_per_epoch s) height) < 2 ^ 64
 
--- Each block that a step of the life delivers stands at the height that is awaited before that step, or at or below the position.
-abbrev pub DeliversInTurn : Setting → ℕ → Life → Type 0
-DeliversInTurn s l life =
-    (step number : ℕ) (b : Block) → event_of_step life step ≡ Some (Final number) → IsReached life.cut step → block_at s number ≡ Some b
-    → b.height ≤ awaited_height s l life (step - 1)
-
--- THE FIRST EPOCH
+-- INFOS
 
 -- who deals to whom by an info: the players of its output deal to its players
 abbrev pub participants_in : Info → Participants
 participants_in i = record { dealers = i.output.players; players = i.players; next_players = i.next_players }
 
--- The info is of the first epoch. Its participants may take part in the first round under the script's limit, and make one.
-pub record IsFirstInfo (s : Setting) (info : Info) : Type 0 where
-  pub first : info.epoch ≡ 0
-  pub accepted : validation (participants_in info) (limits s).most (Some info.output) 0 ≡ Ok tt
-  pub round : IsSome (reshare_round s 0 info)
+-- An info is of the epoch, its participants may take part in the epoch's round under the script's limit, and make one.
+pub record ServesIn (s : Setting) (epoch : ℕ) (info : Info) : Type 0 where
+  pub of_epoch : info.epoch ≡ epoch
+  pub accepted : validation (participants_in info) (limits s).most (Some info.output) epoch ≡ Ok tt
+  pub round : IsSome (reshare_round s epoch info)
 
-abbrev pub CarriesFirstInfo : Setting → Block → Type 0
-CarriesFirstInfo s b = IsSomeAnd b.info (IsFirstInfo s)
+-- a block that begins an epoch carries such an info of that epoch
+abbrev pub BeginsWell : Setting → Block → Type 0
+BeginsWell s b = (epoch : ℕ) → b.height ≡ boundary (blocks_per_epoch s) epoch → IsSomeAnd b.info (ServesIn s epoch)
 
--- THE SCRIPT
-
--- where its first lives ended so, in one case of what the plan held
+-- THE SCRIPT, where its first lives ended so, in one case of what the plan held
 pub record IsValidCase (s : Setting) (ends : List (Option CutAt)) : Type 0 where
-  -- one chain, one info for each epoch, no way back, no message from this node itself
   pub consistent : IsConsistentScript s ends
-  -- each life that began is brought its blocks in turn
-  pub in_turn : (l : ℕ) → l ≤ length ends → IfSome (life_at s l) (DeliversInTurn s l)
-  -- where there is a life, the block that each one holds first is there and carries the first epoch's info
-  pub starts : 0 < length s.script.lives → IsSomeAnd (block_at s 0) (CarriesFirstInfo s)
+  pub in_turn : (l : ℕ) → l ≤ length ends → IfSome (life_at s l) (ComesInTurn s l)
+  pub in_range : AllByRecursion (λ b. LiesInRange s b.height × LiesInRange s (b.height + 1)) (used s)
+  pub begins : AllByRecursion (BeginsWell s) (used s)
 
 -- .. in each such case
 pub record IsValidScript (s : Setting) (ends : List (Option CutAt)) : Type 0 where
   pub source : InEachCase s ends (λ case. IsValidCase case ends)
+
+-- THE DEVICES. Of the epochs whose infos and rounds the script has: each stored share is this node's in what the epoch's info carries on; each dealing that is given back passes its check, and
+-- this node's own is what the stored seed and share deal.
+pub record AgreesWith (s : Setting) (files : Files) (held : Secrets) : Type 0 where
+  pub shares : (epoch share : ℕ) (info : Info) → get held.shares epoch ≡ Some share → known_info s epoch ≡ Some info → partial_public_of info.output (me s) ≡ Some (share_public_of share)
+  pub dealings : (epoch dealer : ℕ) (public : List ℕ) (private : ℕ) (round : Round) → dealer < 2 ^ 32 → get (recovered_from files held) (epoch, dealer) ≡ Some (public, private) → round_at s epoch ≡ Some round
+      → dealing_of round (me s) dealer public private ≡ Ok tt
+  pub own : (epoch : ℕ) (public : List ℕ) (private : ℕ) (round : Round) → get (recovered_from files held) (epoch, me s) ≡ Some (public, private) → round_at s epoch ≡ Some round
+      → (seed : List ℕ) × (privates : List (ℕ × ℕ)) × (get held.seeds epoch ≡ Some seed) × (deal_of round (me s) (get held.shares epoch) seed ≡ Ok (public, privates))

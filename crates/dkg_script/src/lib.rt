@@ -13,7 +13,6 @@
 mod built;
 mod promise;
 mod read;
-mod start;
 mod walk;
 
 pub use built::{first_late, is_built};
@@ -23,7 +22,7 @@ pub use dkg_text::{
 };
 pub use promise::{
     acknowledged_survives, acknowledges_once, comes_as_far, ends_as_scripted, honest_anyhow,
-    lies_within_epochs, own_marks_stand_before, stays_in_order, stays_in_order_as_cut, stays_kept,
-    stays_of_epochs, stays_of_today, valid_anyhow, valid_as_cut,
+    own_marks_stand_before, stays_in_order, stays_in_order_as_cut, stays_kept, stays_of_epochs,
+    valid_as_cut,
 };
 pub use read::{ReadError, read_built};

@@ -1,8 +1,7 @@
 //! What the promise of a run means, over every script, every transcript and every crash.
 //!
 //! Each law is a call without a body, whose contract is the law. Whoever relies on the promise cites them.
-ghost use Rattle.dkg_script.specs.AsCutLaws.{ComesAsFar, HonestAnyhow, StaysInOrderAsCut, StaysOfEpochs, StaysOfToday, ValidAnyhow, ValidAsCut};
-ghost use Rattle.dkg_script.specs.Epochs.{TodayIsOfEpochs};
+ghost use Rattle.dkg_script.specs.AsCutLaws.{ComesAsFar, HonestAnyhow, StaysInOrderAsCut, StaysOfEpochs, ValidAsCut};
 ghost use Rattle.dkg_script.specs.Laws.{AcknowledgesOnce, AcknowledgesOnceAgain, AcknowledgedSurvives, EndsAsScripted, OwnMarksStandBefore, StaysInOrder, StaysKept};
 
 use dkg_journal::Disk;
@@ -52,29 +51,14 @@ pub fn stays_in_order_as_cut()
     ensures { StaysInOrderAsCut }
 {}
 
-/// A script within the first epoch is so as it was cut.
-pub fn stays_of_today()
-    ensures { StaysOfToday }
-{}
-
-/// .. and one of the form of epochs is of it.
+/// A script of the form of epochs is of it as it was cut.
 pub fn stays_of_epochs()
     ensures { StaysOfEpochs }
-{}
-
-/// A script within the first epoch is of the form of epochs.
-pub fn lies_within_epochs()
-    ensures { TodayIsOfEpochs }
 {}
 
 /// A script that is consistent wherever its cuts fall is consistent as it was cut.
 pub fn honest_anyhow<D: Disk>()
     ensures { HonestAnyhow D.image }
-{}
-
-/// A script that is valid wherever its cuts fall is valid as it was cut.
-pub fn valid_anyhow()
-    ensures { ValidAnyhow }
 {}
 
 /// A script that is valid as it is cut, however that may be, is valid as it was cut.

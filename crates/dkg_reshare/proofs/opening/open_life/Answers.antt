@@ -13,7 +13,7 @@ use Rattle.dkg_reshare.specs.Given.{reading}
 use Rattle.dkg_reshare.specs.LiveOf.{live_of, nothing_beside, records_of}
 use Rattle.dkg_reshare.specs.Moved.{StaysAbove}
 use Rattle.dkg_reshare.specs.Opened.{IsInGrammar, epoch_above, epoch_at}
-use Rattle.dkg_reshare.specs.Today.{seen_today}
+use Rattle.dkg_reshare.specs.Planless.{seen_planless}
 use Rattle.dkg_reshare.proofs.Caused.{rose_around}
 use Rattle.dkg_store.proofs.Counts.{reached_behind}
 use Rattle.dkg_reshare.proofs.Kept.{above_then, moved_then}
@@ -29,7 +29,7 @@ returns-in_err-store-clause-readable g c = λ told.
 pub returns-in_err-store-clause-acts : goal.returns-in_err-store-clause-acts
 returns-in_err-store-clause-acts g c = λ disk secrets fixed opening by fresh.
     let p = err_from_is_err_and c.from_residual.result c.from_residual.ensures.1 in
-    rw (p.1, p.2) (none_beside nothing_beside _ _ tt (opening_failed fixed opening.today opening.lent.of.unplanned seen_today opening.reads c.args.number (length (open_calls (g.D.Disk.files c.args.devices.now.disk.now))) opening.life_is opening.calls_are c.in_err-store.field-0.0 (c.in_err-store.ensures.acts disk secrets (subst (λ (n : ℕ). IsInGrammar n (g.D.Disk.files c.args.devices.now.disk.now)) opening.lent.of.limit opening.grammar))))
+    rw (p.1, p.2) (none_beside nothing_beside _ _ tt (opening_failed fixed opening.today opening.lent.of.unplanned seen_planless opening.reads c.args.number (length (open_calls (g.D.Disk.files c.args.devices.now.disk.now))) opening.life_is opening.calls_are c.in_err-store.field-0.0 (c.in_err-store.ensures.acts disk secrets (subst (λ (n : ℕ). IsInGrammar n (g.D.Disk.files c.args.devices.now.disk.now)) opening.lent.of.limit opening.grammar))))
 
 pub returns-in_err-store-clause-tells : goal.returns-in_err-store-clause-tells
 returns-in_err-store-clause-tells g c = λ fixed lent life today by fresh.
@@ -59,7 +59,7 @@ returns-in_err-set_up-clause-readable g c = λ told.
 pub returns-in_err-set_up-clause-acts : goal.returns-in_err-set_up-clause-acts
 returns-in_err-set_up-clause-acts g c = λ disk secrets fixed opening by fresh.
     let p = err_from_is_err_and c.from_residual-in_err-set_up.result c.from_residual-in_err-set_up.ensures.1 in
-    rw (p.1, p.2) (beside_as (λ more took. took) (λ now made. opening_made fixed opening.today opening.lent.of.unplanned seen_today opening.reads c.args.number (length (open_calls (g.D.Disk.files c.args.devices.now.disk.now))) opening.life_is opening.calls_are (g.B.BlockSource.answers c.args.source.now) opening.lent.lent c.args.fence.now fresh c.args.word c.in_ok-store.store c.in_ok-store.ensures.current c.begin-life.result c.begin-life.ensures (by_stop c.in_err-set_up.field-0.0) (c.in_ok-store.ensures.acts disk secrets (subst (λ (n : ℕ). IsInGrammar n (g.D.Disk.files c.args.devices.now.disk.now)) opening.lent.of.limit opening.grammar)) made) (c.in_err-set_up.ensures.acts disk secrets fixed nothing_beside (lent_to c.args.terms.now (g.B.BlockSource.answers c.args.source.now) c.args.word c.begin-life.result.word fixed (ap (λ (l : Life g.row.Dir.Denot). l.word) c.begin-life.ensures) opening.lent) opening.reads by))
+    rw (p.1, p.2) (beside_as (λ more took. took) (λ now made. opening_made fixed opening.today opening.lent.of.unplanned seen_planless opening.reads c.args.number (length (open_calls (g.D.Disk.files c.args.devices.now.disk.now))) opening.life_is opening.calls_are (g.B.BlockSource.answers c.args.source.now) opening.lent.lent c.args.fence.now fresh c.args.word c.in_ok-store.store c.in_ok-store.ensures.current c.begin-life.result c.begin-life.ensures (by_stop c.in_err-set_up.field-0.0) (c.in_ok-store.ensures.acts disk secrets (subst (λ (n : ℕ). IsInGrammar n (g.D.Disk.files c.args.devices.now.disk.now)) opening.lent.of.limit opening.grammar)) made) (c.in_err-set_up.ensures.acts disk secrets fixed nothing_beside (lent_to c.args.terms.now (g.B.BlockSource.answers c.args.source.now) c.args.word c.begin-life.result.word fixed (ap (λ (l : Life g.row.Dir.Denot). l.word) c.begin-life.ensures) opening.lent) opening.reads by))
 
 pub returns-in_err-set_up-clause-tells : goal.returns-in_err-set_up-clause-tells
 returns-in_err-set_up-clause-tells g c = λ fixed lent life today by fresh.
@@ -88,7 +88,7 @@ returns-clause-readable g c = λ told.
 
 pub returns-clause-acts : goal.returns-clause-acts
 returns-clause-acts g c = λ disk secrets fixed opening by fresh.
-    (beside_as (λ more took. took) (λ now made. opening_made fixed opening.today opening.lent.of.unplanned seen_today opening.reads c.args.number (length (open_calls (g.D.Disk.files c.args.devices.now.disk.now))) opening.life_is opening.calls_are (g.B.BlockSource.answers c.args.source.now) opening.lent.lent c.args.fence.now fresh c.args.word c.in_ok-store.store c.in_ok-store.ensures.current c.begin-life.result c.begin-life.ensures (went (live_of now c.set_up.new.fence c.set_up.new.life)) (c.in_ok-store.ensures.acts disk secrets (subst (λ (n : ℕ). IsInGrammar n (g.D.Disk.files c.args.devices.now.disk.now)) opening.lent.of.limit opening.grammar)) made) (c.in_ok-set_up.ensures.acts disk secrets fixed nothing_beside (lent_to c.args.terms.now (g.B.BlockSource.answers c.args.source.now) c.args.word c.begin-life.result.word fixed (ap (λ (l : Life g.row.Dir.Denot). l.word) c.begin-life.ensures) opening.lent) opening.reads by))
+    (beside_as (λ more took. took) (λ now made. opening_made fixed opening.today opening.lent.of.unplanned seen_planless opening.reads c.args.number (length (open_calls (g.D.Disk.files c.args.devices.now.disk.now))) opening.life_is opening.calls_are (g.B.BlockSource.answers c.args.source.now) opening.lent.lent c.args.fence.now fresh c.args.word c.in_ok-store.store c.in_ok-store.ensures.current c.begin-life.result c.begin-life.ensures (went (live_of now c.set_up.new.fence c.set_up.new.life)) (c.in_ok-store.ensures.acts disk secrets (subst (λ (n : ℕ). IsInGrammar n (g.D.Disk.files c.args.devices.now.disk.now)) opening.lent.of.limit opening.grammar)) made) (c.in_ok-set_up.ensures.acts disk secrets fixed nothing_beside (lent_to c.args.terms.now (g.B.BlockSource.answers c.args.source.now) c.args.word c.begin-life.result.word fixed (ap (λ (l : Life g.row.Dir.Denot). l.word) c.begin-life.ensures) opening.lent) opening.reads by))
 
 pub returns-clause-tells : goal.returns-clause-tells
 returns-clause-tells g c = λ fixed lent life today by fresh.

@@ -1,11 +1,11 @@
 use Rattle.std.proofs.Common.{[], refl, ◌∙◌}
 use Rattle.std.proofs.lemmas.Result.{err_from_is_err_and}
 use Rattle.dkg_store.proofs.Counts.{reached_cuts}
-use Rattle.dkg_reshare.specs.Today.{seen_today}
+use Rattle.dkg_reshare.specs.Planless.{seen_planless}
 use Rattle.dkg_run.specs.Given.{Lived, at_step, limits_of, lived}
 use Rattle.dkg_run.specs.Moving.{Went, world_of}
 use Rattle.dkg_run.proofs.Opened.{at_first, cut_behind, cut_ran, stopped_ran, told_ran, unsourced_ran, untold_ran}
-use Rattle.dkg_run.proofs.Checked.{life_over}
+use Rattle.dkg_run.proofs.Checked.{life_in_form}
 use Rattle.dkg_run.proofs.Going.{went_moved, went_none, went_then}
 use Rattle.dkg_run.proofs.RecordsFound.{opening_finds, steps_find}
 use Rattle.dkg_run.proofs.Starting.{blames_from, cut_first, fit_over, fit_then, found_cause, has_opened, lines_over, opening_blames, stopped_first, to_open, told_first, unsourced_first, untold_first}
@@ -145,11 +145,11 @@ returns-in_err-push-clause-run g c = λ disk secrets stands left image.
 pub returns-clause-run : goal.returns-clause-run
 returns-clause-run g c = λ disk secrets stands left image.
     let its = c.in_ok-node.ensures.acts disk secrets (c.in_ok-node.ensures.readable disk).ok in
-    let today : Lived = lived c.args.script.now c.args.number c.args.life.now seen_today (g.D.Disk.files c.args.devices.now.disk.now) in
+    let today : Lived = lived c.args.script.now c.args.number c.args.life.now seen_planless (g.D.Disk.files c.args.devices.now.disk.now) in
     told_ran g.D.Disk.files g.D.Disk.image g.X.SecretStore.held c.args.devices.now c.begin_step.new.devices c.begin_step.ensures.same.0 c.begin_step.ensures.same.1 stands c.args.script.now c.args.number c.args.life.now c.in_ok-begin_step.ensures.lit c.args.out.now.entries c.open.new.devices c.open.new.out.entries (g.D.Disk.files c.open.new.devices.disk.now) (g.met.D.Disk.reads c.open.new.devices.disk.now disk)
     its.0 its.2 c.take_steps.result (world_of g.X.SecretStore.held c.take_steps.new.devices c.take_steps.new.out.entries left) c.push.new.self.entries c.in_ok-push.ensures.ok
     (c.take_steps.ensures.run disk secrets today its.0
-    (life_over c.args.script.now c.args.number c.args.life.now seen_today (g.D.Disk.files c.args.devices.now.disk.now) c.requires.form c.requires.checked c.requires.here.0 (λ h. refl))
+    (life_in_form c.args.script.now c.args.number c.args.life.now seen_planless (g.D.Disk.files c.args.devices.now.disk.now) c.requires.form c.requires.checked c.requires.here.0 (λ h. refl))
     (record { of = c.in_ok-node.ensures.of today refl refl (λ h. refl); blocks_are = c.in_ok-source.ensures.blocks ∙ c.requires.here.1; life_is = refl }) its.1
     (at_first g.D.Disk.files g.D.Disk.image g.X.SecretStore.held c.args.devices.now c.begin_step.new.devices c.begin_step.ensures.same.0 c.begin_step.ensures.same.1 stands c.args.script.now c.args.number c.args.life.now c.in_ok-begin_step.ensures.lit c.args.out.now.entries c.open.new.devices c.open.new.out.entries (g.D.Disk.files c.open.new.devices.disk.now) (g.met.D.Disk.reads c.open.new.devices.disk.now disk)
     its.0 its.2 c.requires.form c.requires.checked c.requires.here.0)

@@ -2,7 +2,7 @@ use Rattle.std.proofs.Common.{[]}
 use Rattle.dkg_run.specs.Given.{limits_of}
 use Rattle.dkg_run.specs.Stopped.{picks_at_end}
 use Rattle.dkg_run.proofs.Going.{went_then}
-use Rattle.dkg_run.proofs.Lasting.{life_blames, life_lines, life_over, life_scripted, narrowed_fit}
+use Rattle.dkg_run.proofs.Lasting.{life_blames, life_lines, life_closes, life_scripted, narrowed_fit}
 use Rattle.dkg_run.proofs.RecordsFound.{life_finds}
 use Rattle.dkg_run.proofs.lives.run_life.Goals as goal
 
@@ -20,7 +20,7 @@ returns-clause-lines g c =
 
 pub returns-clause-run : goal.returns-clause-run
 returns-clause-run g c = λ disk secrets stands image here.
-    life_over _ _ _ _ _ _ _ _ _ image _ _ _ _ _ _ c.end_life.ensures.held c.end_life.ensures.fuse (c.live-how.ensures.run disk secrets stands image (c.end_life.ensures.narrows image here)) (c.end_life.ensures.ends [])
+    life_closes _ _ _ _ _ _ _ _ _ image _ _ _ _ _ _ c.end_life.ensures.held c.end_life.ensures.fuse (c.live-how.ensures.run disk secrets stands image (c.end_life.ensures.narrows image here)) (c.end_life.ensures.ends [])
 
 -- WHAT ELSE is handed on
 

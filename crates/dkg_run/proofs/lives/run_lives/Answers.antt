@@ -3,7 +3,7 @@ use Rattle.dkg_script.specs.Promise.{Adds}
 use Rattle.dkg_store.specs.declared.devices.Devices.{Devices}
 use Rattle.dkg_run.specs.Causes.{HasCause}
 use Rattle.dkg_run.specs.Epochs.{IsChecked}
-use Rattle.dkg_run.specs.FoundOver.{IsFoundRecord}
+use Rattle.dkg_run.specs.Found.{IsFoundRecord}
 use Rattle.dkg_run.specs.Given.{AreBytes}
 use Rattle.dkg_run.specs.GivesBack.{limit_in}
 use Rattle.dkg_run.specs.Lives.{AnyFiles}

@@ -11,7 +11,7 @@ use Rattle.dkg_text.specs.declared.script.Script.{Script}
 use Rattle.dkg_reshare.specs.Actors.{AreTerms}
 use Rattle.dkg_reshare.specs.Given.{AreGivenFrom}
 use Rattle.dkg_reshare.specs.Made.{UnlessBroken}
-use Rattle.dkg_reshare.specs.Today.{seen_today}
+use Rattle.dkg_reshare.specs.Planless.{seen_planless}
 use Rattle.dkg_reshare.specs.declared.config.Terms.{Terms}
 use Rattle.dkg_reshare.proofs.Burning.{makes_none}
 use Rattle.dkg_reshare.proofs.Kept.{above_itself, moved_none}
@@ -20,7 +20,7 @@ use Rattle.dkg_reshare.proofs.Said.{nothing_held}
 use Rattle.dkg_run.specs.Given.{starts_above}
 use Rattle.dkg_run.specs.Nodes.{ended_new}
 use Rattle.dkg_run.proofs.Checked.{not_refused}
-use Rattle.dkg_run.proofs.NodeOpens.{above_from, are_of, ended_acts, ended_lines, found_as, found_nothing, given_ended, given_halted, given_opened, half_as, halted_acts, halted_lines, its, lent_is, life_with, number_is, opened_acts, opened_lines, opening_is, ready_is, today_is}
+use Rattle.dkg_run.proofs.NodeOpens.{above_from, are_of, ended_acts, ended_lines, found_as, found_nothing, given_ended, given_halted, given_opened, half_as, halted_acts, halted_lines, its, lent_is, life_with, number_is, opened_acts, opened_lines, opening_is, ready_is, planless_is}
 use Rattle.dkg_run.proofs.Noding.{at_rules, of_terms, ready_node, unsaid}
 use Rattle.dkg_run.proofs.Shutting.{grammar_as, readable_ended, unopened}
 use Rattle.dkg_run.proofs.node.Node.open.Goals as goal
@@ -33,20 +33,20 @@ returns-in_err-config-clause-acts g c = λ disk secrets grammar.
 pub returns-in_err-config-clause-tells : goal.returns-in_err-config-clause-tells
 returns-in_err-config-clause-tells g c =
     let p = err_from_is_err_and c.from_residual.result c.from_residual.ensures.1 in
-    rw (p.1, p.2) (record { seen = seen_today nothing_held; unplanned = refl; listed = (recovered_in nothing_held, refl); given = tt; so = unsaid _ by_want c.args.out.now.entries })
+    rw (p.1, p.2) (record { seen = seen_planless nothing_held; unplanned = refl; listed = (recovered_in nothing_held, refl); given = tt; so = unsaid _ by_want c.args.out.now.entries })
 
 pub returns-in_err-open-clause-acts : goal.returns-in_err-open-clause-acts
 returns-in_err-open-clause-acts g c = λ disk secrets grammar.
     let p = err_from_is_err_and c.from_residual-in_err-open.result c.from_residual-in_err-open.ensures.1 in
     let are = (are_of (c.in_ok-actor.actor).terms c.args.script.now.config _ _ _ _ _ _ _ c.in_ok-actor.ensures.terms c.in_ok-config.ensures.0 c.in_ok-config.ensures.1 c.in_ok-config.ensures.2 c.in_ok-config.ensures.3 c.in_ok-config.ensures.4 c.in_ok-config.ensures.5 c.in_ok-config.ensures.6) in
-    rw (p.1, p.2) (ended_acts c.args.script.now c.args.number c.args.life.now c.args.source.now (g.D.Disk.files c.args.devices.now.disk.now) c.requires.here.form c.requires.here.checked c.requires.here.life_is c.requires.here.source_is (c.in_ok-actor.actor).terms are _ c.open.new.fence (c.open.new.self).state c.in_err-open.field-0.0 (c.in_err-open.ensures.acts disk secrets (its c.args.script.now c.args.number c.args.life.now c.args.source.now (g.D.Disk.files c.args.devices.now.disk.now) c.requires.here.form c.requires.here.checked c.requires.here.life_is c.requires.here.source_is (c.in_ok-actor.actor).terms are) (opening_is c.args.script.now c.args.number c.args.life.now c.args.source.now (g.D.Disk.files c.args.devices.now.disk.now) c.requires.here.form c.requires.here.checked c.requires.here.life_is c.requires.here.source_is (c.in_ok-actor.actor).terms are grammar) (at_rules (life_with c.args.script.now c.args.number c.args.life.now c.args.source.now (g.D.Disk.files c.args.devices.now.disk.now) c.requires.here.form c.requires.here.checked c.requires.here.life_is c.requires.here.source_is (c.in_ok-actor.actor).terms are seen_today) 0) c.new-fence.ensures.fresh))
+    rw (p.1, p.2) (ended_acts c.args.script.now c.args.number c.args.life.now c.args.source.now (g.D.Disk.files c.args.devices.now.disk.now) c.requires.here.form c.requires.here.checked c.requires.here.life_is c.requires.here.source_is (c.in_ok-actor.actor).terms are _ c.open.new.fence (c.open.new.self).state c.in_err-open.field-0.0 (c.in_err-open.ensures.acts disk secrets (its c.args.script.now c.args.number c.args.life.now c.args.source.now (g.D.Disk.files c.args.devices.now.disk.now) c.requires.here.form c.requires.here.checked c.requires.here.life_is c.requires.here.source_is (c.in_ok-actor.actor).terms are) (opening_is c.args.script.now c.args.number c.args.life.now c.args.source.now (g.D.Disk.files c.args.devices.now.disk.now) c.requires.here.form c.requires.here.checked c.requires.here.life_is c.requires.here.source_is (c.in_ok-actor.actor).terms are grammar) (at_rules (life_with c.args.script.now c.args.number c.args.life.now c.args.source.now (g.D.Disk.files c.args.devices.now.disk.now) c.requires.here.form c.requires.here.checked c.requires.here.life_is c.requires.here.source_is (c.in_ok-actor.actor).terms are seen_planless) 0) c.new-fence.ensures.fresh))
 
 pub returns-in_err-open-clause-tells : goal.returns-in_err-open-clause-tells
 returns-in_err-open-clause-tells g c =
     let p = err_from_is_err_and c.from_residual-in_err-open.result c.from_residual-in_err-open.ensures.1 in
     let are = (are_of (c.in_ok-actor.actor).terms c.args.script.now.config _ _ _ _ _ _ _ c.in_ok-actor.ensures.terms c.in_ok-config.ensures.0 c.in_ok-config.ensures.1 c.in_ok-config.ensures.2 c.in_ok-config.ensures.3 c.in_ok-config.ensures.4 c.in_ok-config.ensures.5 c.in_ok-config.ensures.6) in
     rw (p.1, p.2) (ended_lines c.args.script.now c.args.number c.args.life.now c.args.source.now (g.D.Disk.files c.args.devices.now.disk.now) c.requires.here.form c.requires.here.checked c.requires.here.life_is c.requires.here.source_is (c.in_ok-actor.actor).terms are _ c.open.new.fence (c.open.new.self).state c.in_err-open.field-0.0 (λ s. UnlessBroken (ended_new (Err c.in_err-open.field-0.0)) (IsTrue g.D.Disk.tells → IsTrue g.X.SecretStore.tells → AreGivenFrom (starts_above c.args.script.now c.args.number c.args.life.now) s.dealings (g.D.Disk.image c.open.new.devices.disk.now) (g.X.SecretStore.held c.open.new.devices.secrets.now)))
-    (given_ended c.args.script.now c.args.number c.args.life.now c.args.source.now (g.D.Disk.files c.args.devices.now.disk.now) c.requires.here.form c.requires.here.checked c.requires.here.life_is c.requires.here.source_is (c.in_ok-actor.actor).terms are (IsTrue g.D.Disk.tells) (IsTrue g.X.SecretStore.tells) (g.D.Disk.image c.open.new.devices.disk.now) (g.X.SecretStore.held c.open.new.devices.secrets.now) c.in_err-open.field-0.0) (c.in_err-open.ensures.tells (its c.args.script.now c.args.number c.args.life.now c.args.source.now (g.D.Disk.files c.args.devices.now.disk.now) c.requires.here.form c.requires.here.checked c.requires.here.life_is c.requires.here.source_is (c.in_ok-actor.actor).terms are) (lent_is c.args.script.now c.args.number c.args.life.now c.args.source.now (g.D.Disk.files c.args.devices.now.disk.now) c.requires.here.form c.requires.here.checked c.requires.here.life_is c.requires.here.source_is (c.in_ok-actor.actor).terms are) (number_is c.args.script.now c.args.number c.args.life.now c.args.source.now (g.D.Disk.files c.args.devices.now.disk.now) c.requires.here.form c.requires.here.checked c.requires.here.life_is c.requires.here.source_is (c.in_ok-actor.actor).terms are) (today_is c.args.script.now c.args.number c.args.life.now c.args.source.now (g.D.Disk.files c.args.devices.now.disk.now) c.requires.here.form c.requires.here.checked c.requires.here.life_is c.requires.here.source_is (c.in_ok-actor.actor).terms are) (at_rules (life_with c.args.script.now c.args.number c.args.life.now c.args.source.now (g.D.Disk.files c.args.devices.now.disk.now) c.requires.here.form c.requires.here.checked c.requires.here.life_is c.requires.here.source_is (c.in_ok-actor.actor).terms are seen_today) 0) c.new-fence.ensures.fresh))
+    (given_ended c.args.script.now c.args.number c.args.life.now c.args.source.now (g.D.Disk.files c.args.devices.now.disk.now) c.requires.here.form c.requires.here.checked c.requires.here.life_is c.requires.here.source_is (c.in_ok-actor.actor).terms are (IsTrue g.D.Disk.tells) (IsTrue g.X.SecretStore.tells) (g.D.Disk.image c.open.new.devices.disk.now) (g.X.SecretStore.held c.open.new.devices.secrets.now) c.in_err-open.field-0.0) (c.in_err-open.ensures.tells (its c.args.script.now c.args.number c.args.life.now c.args.source.now (g.D.Disk.files c.args.devices.now.disk.now) c.requires.here.form c.requires.here.checked c.requires.here.life_is c.requires.here.source_is (c.in_ok-actor.actor).terms are) (lent_is c.args.script.now c.args.number c.args.life.now c.args.source.now (g.D.Disk.files c.args.devices.now.disk.now) c.requires.here.form c.requires.here.checked c.requires.here.life_is c.requires.here.source_is (c.in_ok-actor.actor).terms are) (number_is c.args.script.now c.args.number c.args.life.now c.args.source.now (g.D.Disk.files c.args.devices.now.disk.now) c.requires.here.form c.requires.here.checked c.requires.here.life_is c.requires.here.source_is (c.in_ok-actor.actor).terms are) (planless_is c.args.script.now c.args.number c.args.life.now c.args.source.now (g.D.Disk.files c.args.devices.now.disk.now) c.requires.here.form c.requires.here.checked c.requires.here.life_is c.requires.here.source_is (c.in_ok-actor.actor).terms are) (at_rules (life_with c.args.script.now c.args.number c.args.life.now c.args.source.now (g.D.Disk.files c.args.devices.now.disk.now) c.requires.here.form c.requires.here.checked c.requires.here.life_is c.requires.here.source_is (c.in_ok-actor.actor).terms are seen_planless) 0) c.new-fence.ensures.fresh))
 
 pub returns-in_err-open-clause-loose : goal.returns-in_err-open-clause-loose
 returns-in_err-open-clause-loose g c = λ told.
@@ -56,20 +56,20 @@ returns-in_err-open-clause-loose g c = λ told.
 pub open-requires-2 : goal.open-requires-2
 open-requires-2 g c =
     let are = (are_of (c.in_ok-actor.actor).terms c.args.script.now.config _ _ _ _ _ _ _ c.in_ok-actor.ensures.terms c.in_ok-config.ensures.0 c.in_ok-config.ensures.1 c.in_ok-config.ensures.2 c.in_ok-config.ensures.3 c.in_ok-config.ensures.4 c.in_ok-config.ensures.5 c.in_ok-config.ensures.6) in
-    record { ready = ready_is c.args.script.now c.args.number c.args.life.now c.args.source.now (g.D.Disk.files c.args.devices.now.disk.now) c.requires.here.form c.requires.here.checked c.requires.here.life_is c.requires.here.source_is (c.in_ok-actor.actor).terms are _ c.open.new.fence (c.open.new.self).state _ c.in_ok-open.ensures.ends (c.in_ok-open.ensures.tells (its c.args.script.now c.args.number c.args.life.now c.args.source.now (g.D.Disk.files c.args.devices.now.disk.now) c.requires.here.form c.requires.here.checked c.requires.here.life_is c.requires.here.source_is (c.in_ok-actor.actor).terms are) (lent_is c.args.script.now c.args.number c.args.life.now c.args.source.now (g.D.Disk.files c.args.devices.now.disk.now) c.requires.here.form c.requires.here.checked c.requires.here.life_is c.requires.here.source_is (c.in_ok-actor.actor).terms are) (number_is c.args.script.now c.args.number c.args.life.now c.args.source.now (g.D.Disk.files c.args.devices.now.disk.now) c.requires.here.form c.requires.here.checked c.requires.here.life_is c.requires.here.source_is (c.in_ok-actor.actor).terms are) (today_is c.args.script.now c.args.number c.args.life.now c.args.source.now (g.D.Disk.files c.args.devices.now.disk.now) c.requires.here.form c.requires.here.checked c.requires.here.life_is c.requires.here.source_is (c.in_ok-actor.actor).terms are) (at_rules (life_with c.args.script.now c.args.number c.args.life.now c.args.source.now (g.D.Disk.files c.args.devices.now.disk.now) c.requires.here.form c.requires.here.checked c.requires.here.life_is c.requires.here.source_is (c.in_ok-actor.actor).terms are seen_today) 0) c.new-fence.ensures.fresh) _ (ap non_zero_u64_get are.blocks_are) }
+    record { ready = ready_is c.args.script.now c.args.number c.args.life.now c.args.source.now (g.D.Disk.files c.args.devices.now.disk.now) c.requires.here.form c.requires.here.checked c.requires.here.life_is c.requires.here.source_is (c.in_ok-actor.actor).terms are _ c.open.new.fence (c.open.new.self).state _ c.in_ok-open.ensures.ends (c.in_ok-open.ensures.tells (its c.args.script.now c.args.number c.args.life.now c.args.source.now (g.D.Disk.files c.args.devices.now.disk.now) c.requires.here.form c.requires.here.checked c.requires.here.life_is c.requires.here.source_is (c.in_ok-actor.actor).terms are) (lent_is c.args.script.now c.args.number c.args.life.now c.args.source.now (g.D.Disk.files c.args.devices.now.disk.now) c.requires.here.form c.requires.here.checked c.requires.here.life_is c.requires.here.source_is (c.in_ok-actor.actor).terms are) (number_is c.args.script.now c.args.number c.args.life.now c.args.source.now (g.D.Disk.files c.args.devices.now.disk.now) c.requires.here.form c.requires.here.checked c.requires.here.life_is c.requires.here.source_is (c.in_ok-actor.actor).terms are) (planless_is c.args.script.now c.args.number c.args.life.now c.args.source.now (g.D.Disk.files c.args.devices.now.disk.now) c.requires.here.form c.requires.here.checked c.requires.here.life_is c.requires.here.source_is (c.in_ok-actor.actor).terms are) (at_rules (life_with c.args.script.now c.args.number c.args.life.now c.args.source.now (g.D.Disk.files c.args.devices.now.disk.now) c.requires.here.form c.requires.here.checked c.requires.here.life_is c.requires.here.source_is (c.in_ok-actor.actor).terms are seen_planless) 0) c.new-fence.ensures.fresh) _ (ap non_zero_u64_get are.blocks_are) }
 
 pub returns-in_err-half-clause-acts : goal.returns-in_err-half-clause-acts
 returns-in_err-half-clause-acts g c = λ disk secrets grammar.
     let p = err_from_is_err_and c.from_residual-in_err-half.result c.from_residual-in_err-half.ensures.1 in
     let are = (are_of (c.in_ok-actor.actor).terms c.args.script.now.config _ _ _ _ _ _ _ c.in_ok-actor.ensures.terms c.in_ok-config.ensures.0 c.in_ok-config.ensures.1 c.in_ok-config.ensures.2 c.in_ok-config.ensures.3 c.in_ok-config.ensures.4 c.in_ok-config.ensures.5 c.in_ok-config.ensures.6) in
-    rw (p.1, p.2) (halted_acts c.args.script.now c.args.number c.args.life.now c.args.source.now (g.D.Disk.files c.args.devices.now.disk.now) c.requires.here.form c.requires.here.checked c.requires.here.life_is c.requires.here.source_is (c.in_ok-actor.actor).terms are _ c.open.new.fence (c.open.new.self).state _ c.in_ok-open.ensures.ends (c.in_ok-open.ensures.acts disk secrets (its c.args.script.now c.args.number c.args.life.now c.args.source.now (g.D.Disk.files c.args.devices.now.disk.now) c.requires.here.form c.requires.here.checked c.requires.here.life_is c.requires.here.source_is (c.in_ok-actor.actor).terms are) (opening_is c.args.script.now c.args.number c.args.life.now c.args.source.now (g.D.Disk.files c.args.devices.now.disk.now) c.requires.here.form c.requires.here.checked c.requires.here.life_is c.requires.here.source_is (c.in_ok-actor.actor).terms are grammar) (at_rules (life_with c.args.script.now c.args.number c.args.life.now c.args.source.now (g.D.Disk.files c.args.devices.now.disk.now) c.requires.here.form c.requires.here.checked c.requires.here.life_is c.requires.here.source_is (c.in_ok-actor.actor).terms are seen_today) 0) c.new-fence.ensures.fresh) c.in_err-half.field-0.0 _ c.open-2.new.fence
+    rw (p.1, p.2) (halted_acts c.args.script.now c.args.number c.args.life.now c.args.source.now (g.D.Disk.files c.args.devices.now.disk.now) c.requires.here.form c.requires.here.checked c.requires.here.life_is c.requires.here.source_is (c.in_ok-actor.actor).terms are _ c.open.new.fence (c.open.new.self).state _ c.in_ok-open.ensures.ends (c.in_ok-open.ensures.acts disk secrets (its c.args.script.now c.args.number c.args.life.now c.args.source.now (g.D.Disk.files c.args.devices.now.disk.now) c.requires.here.form c.requires.here.checked c.requires.here.life_is c.requires.here.source_is (c.in_ok-actor.actor).terms are) (opening_is c.args.script.now c.args.number c.args.life.now c.args.source.now (g.D.Disk.files c.args.devices.now.disk.now) c.requires.here.form c.requires.here.checked c.requires.here.life_is c.requires.here.source_is (c.in_ok-actor.actor).terms are grammar) (at_rules (life_with c.args.script.now c.args.number c.args.life.now c.args.source.now (g.D.Disk.files c.args.devices.now.disk.now) c.requires.here.form c.requires.here.checked c.requires.here.life_is c.requires.here.source_is (c.in_ok-actor.actor).terms are seen_planless) 0) c.new-fence.ensures.fresh) c.in_err-half.field-0.0 _ c.open-2.new.fence
     (λ fixed st half may. c.in_err-half.ensures.speaks fixed st (half_as half (ap non_zero_u64_get are.blocks_are)) may))
 
 pub returns-in_err-half-clause-tells : goal.returns-in_err-half-clause-tells
 returns-in_err-half-clause-tells g c =
     let p = err_from_is_err_and c.from_residual-in_err-half.result c.from_residual-in_err-half.ensures.1 in
     let are = (are_of (c.in_ok-actor.actor).terms c.args.script.now.config _ _ _ _ _ _ _ c.in_ok-actor.ensures.terms c.in_ok-config.ensures.0 c.in_ok-config.ensures.1 c.in_ok-config.ensures.2 c.in_ok-config.ensures.3 c.in_ok-config.ensures.4 c.in_ok-config.ensures.5 c.in_ok-config.ensures.6) in
-    rw (p.1, p.2) (halted_lines c.args.script.now c.args.number c.args.life.now c.args.source.now (g.D.Disk.files c.args.devices.now.disk.now) c.requires.here.form c.requires.here.checked c.requires.here.life_is c.requires.here.source_is (c.in_ok-actor.actor).terms are _ c.open.new.fence (c.open.new.self).state _ c.in_ok-open.ensures.ends (c.in_ok-open.ensures.tells (its c.args.script.now c.args.number c.args.life.now c.args.source.now (g.D.Disk.files c.args.devices.now.disk.now) c.requires.here.form c.requires.here.checked c.requires.here.life_is c.requires.here.source_is (c.in_ok-actor.actor).terms are) (lent_is c.args.script.now c.args.number c.args.life.now c.args.source.now (g.D.Disk.files c.args.devices.now.disk.now) c.requires.here.form c.requires.here.checked c.requires.here.life_is c.requires.here.source_is (c.in_ok-actor.actor).terms are) (number_is c.args.script.now c.args.number c.args.life.now c.args.source.now (g.D.Disk.files c.args.devices.now.disk.now) c.requires.here.form c.requires.here.checked c.requires.here.life_is c.requires.here.source_is (c.in_ok-actor.actor).terms are) (today_is c.args.script.now c.args.number c.args.life.now c.args.source.now (g.D.Disk.files c.args.devices.now.disk.now) c.requires.here.form c.requires.here.checked c.requires.here.life_is c.requires.here.source_is (c.in_ok-actor.actor).terms are) (at_rules (life_with c.args.script.now c.args.number c.args.life.now c.args.source.now (g.D.Disk.files c.args.devices.now.disk.now) c.requires.here.form c.requires.here.checked c.requires.here.life_is c.requires.here.source_is (c.in_ok-actor.actor).terms are seen_today) 0) c.new-fence.ensures.fresh) c.in_err-half.field-0.0 _ c.open-2.new.fence (λ s. UnlessBroken (ended_new (Err c.in_err-half.field-0.0)) (IsTrue g.D.Disk.tells → IsTrue g.X.SecretStore.tells → AreGivenFrom (starts_above c.args.script.now c.args.number c.args.life.now) s.dealings (g.D.Disk.image c.open.new.devices.disk.now) (g.X.SecretStore.held c.open.new.devices.secrets.now)))
+    rw (p.1, p.2) (halted_lines c.args.script.now c.args.number c.args.life.now c.args.source.now (g.D.Disk.files c.args.devices.now.disk.now) c.requires.here.form c.requires.here.checked c.requires.here.life_is c.requires.here.source_is (c.in_ok-actor.actor).terms are _ c.open.new.fence (c.open.new.self).state _ c.in_ok-open.ensures.ends (c.in_ok-open.ensures.tells (its c.args.script.now c.args.number c.args.life.now c.args.source.now (g.D.Disk.files c.args.devices.now.disk.now) c.requires.here.form c.requires.here.checked c.requires.here.life_is c.requires.here.source_is (c.in_ok-actor.actor).terms are) (lent_is c.args.script.now c.args.number c.args.life.now c.args.source.now (g.D.Disk.files c.args.devices.now.disk.now) c.requires.here.form c.requires.here.checked c.requires.here.life_is c.requires.here.source_is (c.in_ok-actor.actor).terms are) (number_is c.args.script.now c.args.number c.args.life.now c.args.source.now (g.D.Disk.files c.args.devices.now.disk.now) c.requires.here.form c.requires.here.checked c.requires.here.life_is c.requires.here.source_is (c.in_ok-actor.actor).terms are) (planless_is c.args.script.now c.args.number c.args.life.now c.args.source.now (g.D.Disk.files c.args.devices.now.disk.now) c.requires.here.form c.requires.here.checked c.requires.here.life_is c.requires.here.source_is (c.in_ok-actor.actor).terms are) (at_rules (life_with c.args.script.now c.args.number c.args.life.now c.args.source.now (g.D.Disk.files c.args.devices.now.disk.now) c.requires.here.form c.requires.here.checked c.requires.here.life_is c.requires.here.source_is (c.in_ok-actor.actor).terms are seen_planless) 0) c.new-fence.ensures.fresh) c.in_err-half.field-0.0 _ c.open-2.new.fence (λ s. UnlessBroken (ended_new (Err c.in_err-half.field-0.0)) (IsTrue g.D.Disk.tells → IsTrue g.X.SecretStore.tells → AreGivenFrom (starts_above c.args.script.now c.args.number c.args.life.now) s.dealings (g.D.Disk.image c.open.new.devices.disk.now) (g.X.SecretStore.held c.open.new.devices.secrets.now)))
     (given_halted c.args.script.now c.args.number c.args.life.now c.args.source.now (g.D.Disk.files c.args.devices.now.disk.now) c.requires.here.form c.requires.here.checked c.requires.here.life_is c.requires.here.source_is (c.in_ok-actor.actor).terms are (IsTrue g.D.Disk.tells) (IsTrue g.X.SecretStore.tells) (g.D.Disk.image c.open.new.devices.disk.now) (g.X.SecretStore.held c.open.new.devices.secrets.now) c.in_err-half.field-0.0)
     (λ fixed st half may. c.in_err-half.ensures.speaks fixed st (half_as half (ap non_zero_u64_get are.blocks_are)) may))
 
@@ -100,13 +100,13 @@ returns-clause-of g c = λ lived same same_life none.
 pub returns-clause-acts : goal.returns-clause-acts
 returns-clause-acts g c = λ disk secrets grammar.
     let are = (are_of (c.in_ok-actor.actor).terms c.args.script.now.config _ _ _ _ _ _ _ c.in_ok-actor.ensures.terms c.in_ok-config.ensures.0 c.in_ok-config.ensures.1 c.in_ok-config.ensures.2 c.in_ok-config.ensures.3 c.in_ok-config.ensures.4 c.in_ok-config.ensures.5 c.in_ok-config.ensures.6) in
-    opened_acts c.args.script.now c.args.number c.args.life.now c.args.source.now (g.D.Disk.files c.args.devices.now.disk.now) c.requires.here.form c.requires.here.checked c.requires.here.life_is c.requires.here.source_is (c.in_ok-actor.actor).terms are _ c.open.new.fence (c.open.new.self).state _ c.in_ok-open.ensures.ends (c.in_ok-open.ensures.acts disk secrets (its c.args.script.now c.args.number c.args.life.now c.args.source.now (g.D.Disk.files c.args.devices.now.disk.now) c.requires.here.form c.requires.here.checked c.requires.here.life_is c.requires.here.source_is (c.in_ok-actor.actor).terms are) (opening_is c.args.script.now c.args.number c.args.life.now c.args.source.now (g.D.Disk.files c.args.devices.now.disk.now) c.requires.here.form c.requires.here.checked c.requires.here.life_is c.requires.here.source_is (c.in_ok-actor.actor).terms are grammar) (at_rules (life_with c.args.script.now c.args.number c.args.life.now c.args.source.now (g.D.Disk.files c.args.devices.now.disk.now) c.requires.here.form c.requires.here.checked c.requires.here.life_is c.requires.here.source_is (c.in_ok-actor.actor).terms are seen_today) 0) c.new-fence.ensures.fresh) (record { actor = c.open.new.self; fence = c.open-2.new.fence; half = c.in_ok-half.half }) refl _
+    opened_acts c.args.script.now c.args.number c.args.life.now c.args.source.now (g.D.Disk.files c.args.devices.now.disk.now) c.requires.here.form c.requires.here.checked c.requires.here.life_is c.requires.here.source_is (c.in_ok-actor.actor).terms are _ c.open.new.fence (c.open.new.self).state _ c.in_ok-open.ensures.ends (c.in_ok-open.ensures.acts disk secrets (its c.args.script.now c.args.number c.args.life.now c.args.source.now (g.D.Disk.files c.args.devices.now.disk.now) c.requires.here.form c.requires.here.checked c.requires.here.life_is c.requires.here.source_is (c.in_ok-actor.actor).terms are) (opening_is c.args.script.now c.args.number c.args.life.now c.args.source.now (g.D.Disk.files c.args.devices.now.disk.now) c.requires.here.form c.requires.here.checked c.requires.here.life_is c.requires.here.source_is (c.in_ok-actor.actor).terms are grammar) (at_rules (life_with c.args.script.now c.args.number c.args.life.now c.args.source.now (g.D.Disk.files c.args.devices.now.disk.now) c.requires.here.form c.requires.here.checked c.requires.here.life_is c.requires.here.source_is (c.in_ok-actor.actor).terms are seen_planless) 0) c.new-fence.ensures.fresh) (record { actor = c.open.new.self; fence = c.open-2.new.fence; half = c.in_ok-half.half }) refl _
     (λ fixed st half may. c.in_ok-half.ensures.speaks fixed st (half_as half (ap non_zero_u64_get are.blocks_are)) may)
 
 pub returns-clause-tells : goal.returns-clause-tells
 returns-clause-tells g c =
     let are = (are_of (c.in_ok-actor.actor).terms c.args.script.now.config _ _ _ _ _ _ _ c.in_ok-actor.ensures.terms c.in_ok-config.ensures.0 c.in_ok-config.ensures.1 c.in_ok-config.ensures.2 c.in_ok-config.ensures.3 c.in_ok-config.ensures.4 c.in_ok-config.ensures.5 c.in_ok-config.ensures.6) in
-    opened_lines c.args.script.now c.args.number c.args.life.now c.args.source.now (g.D.Disk.files c.args.devices.now.disk.now) c.requires.here.form c.requires.here.checked c.requires.here.life_is c.requires.here.source_is (c.in_ok-actor.actor).terms are _ c.open.new.fence (c.open.new.self).state _ c.in_ok-open.ensures.ends (c.in_ok-open.ensures.tells (its c.args.script.now c.args.number c.args.life.now c.args.source.now (g.D.Disk.files c.args.devices.now.disk.now) c.requires.here.form c.requires.here.checked c.requires.here.life_is c.requires.here.source_is (c.in_ok-actor.actor).terms are) (lent_is c.args.script.now c.args.number c.args.life.now c.args.source.now (g.D.Disk.files c.args.devices.now.disk.now) c.requires.here.form c.requires.here.checked c.requires.here.life_is c.requires.here.source_is (c.in_ok-actor.actor).terms are) (number_is c.args.script.now c.args.number c.args.life.now c.args.source.now (g.D.Disk.files c.args.devices.now.disk.now) c.requires.here.form c.requires.here.checked c.requires.here.life_is c.requires.here.source_is (c.in_ok-actor.actor).terms are) (today_is c.args.script.now c.args.number c.args.life.now c.args.source.now (g.D.Disk.files c.args.devices.now.disk.now) c.requires.here.form c.requires.here.checked c.requires.here.life_is c.requires.here.source_is (c.in_ok-actor.actor).terms are) (at_rules (life_with c.args.script.now c.args.number c.args.life.now c.args.source.now (g.D.Disk.files c.args.devices.now.disk.now) c.requires.here.form c.requires.here.checked c.requires.here.life_is c.requires.here.source_is (c.in_ok-actor.actor).terms are seen_today) 0) c.new-fence.ensures.fresh) (record { actor = c.open.new.self; fence = c.open-2.new.fence; half = c.in_ok-half.half }) refl _ (λ s. UnlessBroken (ended_new (Ok (record { actor = c.open.new.self; fence = c.open-2.new.fence; half = c.in_ok-half.half }))) (IsTrue g.D.Disk.tells → IsTrue g.X.SecretStore.tells → AreGivenFrom (starts_above c.args.script.now c.args.number c.args.life.now) s.dealings (g.D.Disk.image c.open.new.devices.disk.now) (g.X.SecretStore.held c.open.new.devices.secrets.now)))
+    opened_lines c.args.script.now c.args.number c.args.life.now c.args.source.now (g.D.Disk.files c.args.devices.now.disk.now) c.requires.here.form c.requires.here.checked c.requires.here.life_is c.requires.here.source_is (c.in_ok-actor.actor).terms are _ c.open.new.fence (c.open.new.self).state _ c.in_ok-open.ensures.ends (c.in_ok-open.ensures.tells (its c.args.script.now c.args.number c.args.life.now c.args.source.now (g.D.Disk.files c.args.devices.now.disk.now) c.requires.here.form c.requires.here.checked c.requires.here.life_is c.requires.here.source_is (c.in_ok-actor.actor).terms are) (lent_is c.args.script.now c.args.number c.args.life.now c.args.source.now (g.D.Disk.files c.args.devices.now.disk.now) c.requires.here.form c.requires.here.checked c.requires.here.life_is c.requires.here.source_is (c.in_ok-actor.actor).terms are) (number_is c.args.script.now c.args.number c.args.life.now c.args.source.now (g.D.Disk.files c.args.devices.now.disk.now) c.requires.here.form c.requires.here.checked c.requires.here.life_is c.requires.here.source_is (c.in_ok-actor.actor).terms are) (planless_is c.args.script.now c.args.number c.args.life.now c.args.source.now (g.D.Disk.files c.args.devices.now.disk.now) c.requires.here.form c.requires.here.checked c.requires.here.life_is c.requires.here.source_is (c.in_ok-actor.actor).terms are) (at_rules (life_with c.args.script.now c.args.number c.args.life.now c.args.source.now (g.D.Disk.files c.args.devices.now.disk.now) c.requires.here.form c.requires.here.checked c.requires.here.life_is c.requires.here.source_is (c.in_ok-actor.actor).terms are seen_planless) 0) c.new-fence.ensures.fresh) (record { actor = c.open.new.self; fence = c.open-2.new.fence; half = c.in_ok-half.half }) refl _ (λ s. UnlessBroken (ended_new (Ok (record { actor = c.open.new.self; fence = c.open-2.new.fence; half = c.in_ok-half.half }))) (IsTrue g.D.Disk.tells → IsTrue g.X.SecretStore.tells → AreGivenFrom (starts_above c.args.script.now c.args.number c.args.life.now) s.dealings (g.D.Disk.image c.open.new.devices.disk.now) (g.X.SecretStore.held c.open.new.devices.secrets.now)))
     (given_opened c.args.script.now c.args.number c.args.life.now c.args.source.now (g.D.Disk.files c.args.devices.now.disk.now) c.requires.here.form c.requires.here.checked c.requires.here.life_is c.requires.here.source_is (c.in_ok-actor.actor).terms are (IsTrue g.D.Disk.tells) (IsTrue g.X.SecretStore.tells) (g.D.Disk.image c.open.new.devices.disk.now) (g.X.SecretStore.held c.open.new.devices.secrets.now))
     (λ fixed st half may. c.in_ok-half.ensures.speaks fixed st (half_as half (ap non_zero_u64_get are.blocks_are)) may)
 

@@ -11,7 +11,7 @@ use Rattle.dkg_text.specs.declared.script.Cut.{Cut}
 use Rattle.dkg_text.specs.declared.script.Event.{Event}
 use Rattle.dkg_text.specs.declared.script.Event.TheVariants.{Peer, Final}
 use Rattle.dkg_text.specs.declared.script.Life.{Life}
-use Rattle.dkg_script.specs.Form.{IsAnchorOfToday, IsEarly, IsEventOfToday, IsFormOfToday, IsLifeOfToday, midpoint_of}
+use Rattle.dkg_script.proofs.Early.{IsAnchorBelow, IsNumberBelow, IsEventBelow, IsEarlyScript, IsLifeBelow, midpoint_of}
 use Rattle.dkg_script.specs.Promise.{IsBuilt}
 use Rattle.dkg_script.specs.Readings.{Material, material_in}
 use Rattle.dkg_script.specs.Setting.{Setting, CutAt, limits, blocks_per_epoch, is_oneshot, life_at, found}
@@ -42,24 +42,24 @@ module _ (s : Setting) where
   middle = midpoint_of s.script
 
   -- the block of a number whose line lies below the midpoint
-  pub early_block : (number : ℕ) → IsEarly (midpoint_of s.script) s.script.blocks number → IsSomeAnd (block_at s number) (λ b. b.height < midpoint_of s.script)
+  pub early_block : (number : ℕ) → IsNumberBelow (midpoint_of s.script) s.script.blocks number → IsSomeAnd (block_at s number) (λ b. b.height < midpoint_of s.script)
   early_block number early = by_line (slice_get s.script.blocks number) refl early
     where
       by_line : (o : Option BlockLine) → slice_get s.script.blocks number ≡ o → IsSomeAnd o (λ line. line.height < middle) → IsSomeAnd (block_at s number) (λ b. b.height < middle)
       by_line None is early = absurd early
       by_line (Some line) is early = rw (of_line s number line is) early
 
-  deliver_early : (events : List Event) → AllByRecursion (IsEventOfToday (midpoint_of s.script) s.script.blocks) events
+  deliver_early : (events : List Event) → AllByRecursion (IsEventBelow (midpoint_of s.script) s.script.blocks) events
       → AllByRecursion (λ b. b.height < midpoint_of s.script) (filter_map (block_at s) (filter_map delivered_number events))
-  deliver_early [] today = tt
-  deliver_early (Peer from bytes ∷ events) today = deliver_early events today.1
-  deliver_early (Final number ∷ events) today = by_block (block_at s number) (early_block number today.0) (deliver_early events today.1)
+  deliver_early [] within = tt
+  deliver_early (Peer from bytes ∷ events) within = deliver_early events within.1
+  deliver_early (Final number ∷ events) within = by_block (block_at s number) (early_block number within.0) (deliver_early events within.1)
     where
       by_block : (o : Option Block) → IsSomeAnd o (λ b. b.height < middle) → AllByRecursion (λ b. b.height < middle) (filter_map (block_at s) (filter_map delivered_number events))
           → AllByRecursion (λ b. b.height < middle) (cons_option o (filter_map (block_at s) (filter_map delivered_number events)))
       by_block None early rest = absurd early
       by_block (Some b) early rest = (early, rest)
-  deliver_early (event ∷ events) today = absurd today.0
+  deliver_early (event ∷ events) within = absurd within.0
 
 pub no_material : (s : Setting) (l : ℕ) (life : Life) → life.sync ≡ None → found s l ≡ None → material s l life ≡ None
 no_material s l life no_sync none = by_mode (is_oneshot s)
@@ -74,14 +74,14 @@ module _ (s : Setting) where
   abbrev m : ℕ
   m = midpoint_of s.script
 
-  after_anchor : (anchor : Option Anchor) → IfSome anchor (IsAnchorOfToday m s.script.blocks) → height_after_anchor s anchor ≤ m
-  after_anchor None today = omega arith
-  after_anchor (Some (Processed number)) today = by_line (slice_get s.script.blocks number) refl today
+  after_anchor : (anchor : Option Anchor) → IfSome anchor (IsAnchorBelow m s.script.blocks) → height_after_anchor s anchor ≤ m
+  after_anchor None within = omega arith
+  after_anchor (Some (Processed number)) within = by_line (slice_get s.script.blocks number) refl within
     where
       by_line : (o : Option BlockLine) → slice_get s.script.blocks number ≡ o → IsSomeAnd o (λ line. line.height + 1 < m) → option_map_or (λ b. suc b.height) (block_at s number) 0 ≤ m
       by_line None is early = absurd early
       by_line (Some line) is early = rw (of_line s number line is) (omega (arith, early))
-  after_anchor (Some (Absent number)) today = by_line (slice_get s.script.blocks number) refl today
+  after_anchor (Some (Absent number)) within = by_line (slice_get s.script.blocks number) refl within
     where
       by_line : (o : Option BlockLine) → slice_get s.script.blocks number ≡ o → IsSomeAnd o (λ line. (0 < line.height) × (line.height < m)) → option_map_or (λ b. b.height) (block_at s number) 0 ≤ m
       by_line None is early = absurd early
@@ -95,8 +95,8 @@ module _ (s : Setting) where
       no_more : (n : ℕ) → max n 0 ≡ n
       no_more n = omega arith
 
-  starts_early : (l : ℕ) (life : Life) → IsLifeOfToday m s.script.blocks life → found s l ≡ None → start_height s l life ≤ m
-  starts_early l life today none = rw (start_is l life today.no_sync none) (after_anchor life.anchor today.anchor)
+  starts_early : (l : ℕ) (life : Life) → IsLifeBelow m s.script.blocks life → found s l ≡ None → start_height s l life ≤ m
+  starts_early l life within none = rw (start_is l life within.no_sync none) (after_anchor life.anchor within.anchor)
 
   stays_early : (bs : List Block) (n : ℕ) → n ≤ m → AllByRecursion (λ b. b.height < m) bs → fold (λ height b. max height (suc b.height)) n bs ≤ m
   stays_early [] n low early = low
@@ -105,22 +105,22 @@ module _ (s : Setting) where
       below : b.height < m → max n (suc b.height) ≤ m
       below its = omega arith
 
-  deliver_first : (n : ℕ) (life : Life) → IsLifeOfToday m s.script.blocks life → AllByRecursion (λ b. b.height < m) (delivered s life n)
-  deliver_first n life today = deliver_early s (take n (events_come_to life.cut life.events))
-      (all_taken (IsEventOfToday m s.script.blocks) n (events_come_to life.cut life.events) (all_come_to (IsEventOfToday m s.script.blocks) life.cut life.events today.events))
+  deliver_first : (n : ℕ) (life : Life) → IsLifeBelow m s.script.blocks life → AllByRecursion (λ b. b.height < m) (delivered s life n)
+  deliver_first n life within = deliver_early s (take n (events_come_to life.cut life.events))
+      (all_taken (IsEventBelow m s.script.blocks) n (events_come_to life.cut life.events) (all_come_to (IsEventBelow m s.script.blocks) life.cut life.events within.events))
 
   -- the midpoint at the most is awaited
-  pub awaits_early : (l : ℕ) (life : Life) (n : ℕ) → IsLifeOfToday (midpoint_of s.script) s.script.blocks life → found s l ≡ None → awaited_height s l life n ≤ midpoint_of s.script
+  pub awaits_early : (l : ℕ) (life : Life) (n : ℕ) → IsLifeBelow (midpoint_of s.script) s.script.blocks life → found s l ≡ None → awaited_height s l life n ≤ midpoint_of s.script
   unfolding awaited_height
-  awaits_early l life n today none = stays_early (delivered s life n) (start_height s l life) (starts_early l life today none) (deliver_first n life today)
+  awaits_early l life n within none = stays_early (delivered s life n) (start_height s l life) (starts_early l life within none) (deliver_first n life within)
 
 -- .. so epoch 0
 no_part : (k n : ℕ) → k ≤ n / 2 → k / n ≡ 0
 no_part k zero low = div-zero k
 no_part k (suc n) low = let half : suc n / 2 < suc n = div-lt_self {n = suc n} {k = 2} (omega arith) (lit< tt) in div-eq_of_lt (omega (arith, half, low))
 
-pub awaits_epoch_zero : (s : Setting) (l : ℕ) (life : Life) (n : ℕ) → IsLifeOfToday (midpoint_of s.script) s.script.blocks life → found s l ≡ None → awaited_epoch s l life n ≡ 0
-awaits_epoch_zero s l life n today none = no_part (awaited_height s l life n) (blocks_per_epoch s) (awaits_early s l life n today none)
+pub awaits_epoch_zero : (s : Setting) (l : ℕ) (life : Life) (n : ℕ) → IsLifeBelow (midpoint_of s.script) s.script.blocks life → found s l ≡ None → awaited_epoch s l life n ≡ 0
+awaits_epoch_zero s l life n within none = no_part (awaited_height s l life n) (blocks_per_epoch s) (awaits_early s l life n within none)
 
 -- WHAT IS BUILT has no start material, so no life finds any
 
@@ -138,18 +138,18 @@ none_there : {X : Type 0} (x : X) → None ≡ Some x → ⊥
 none_there x e = cc
 
 its_form : (P : Life → Type 0) (lives : List Life) (l : ℕ) (life : Life) → AllByRecursion P lives → slice_get lives l ≡ Some life → (l < length lives) × P life
-its_form P [] l life today is = absurd (none_there life is)
-its_form P (first ∷ lives) zero life today is = (omega arith, subst P (same first life is) today.0)
+its_form P [] l life within is = absurd (none_there life is)
+its_form P (first ∷ lives) zero life within is = (omega arith, subst P (same first life is) within.0)
   where
     same : (first life : Life) → Some first ≡ Some life → first ≡ life
     same first life e = ap (λ (o : Option Life). unwrap_or o first) e
-its_form P (first ∷ lives) (suc l) life today is = let rest = its_form P lives l life today.1 is in (let below : l < length lives = rest.0 in omega arith, rest.1)
+its_form P (first ∷ lives) (suc l) life within is = let rest = its_form P lives l life within.1 is in (let below : l < length lives = rest.0 in omega arith, rest.1)
 
 -- .. and a script within the first epoch never leaves epoch 0
-module _ (s : Setting) (cuts : List (Option CutAt)) (today : IsFormOfToday s.script) (plain : IsPlain s) (history : IsPlanHistory s cuts) where
-  pub life_today : (l : ℕ) (life : Life) → l ≤ length cuts → life_at s l ≡ Some life → IsLifeOfToday (midpoint_of s.script) s.script.blocks life × (found s l ≡ None)
-  life_today l life begun is =
-      let form = its_form (IsLifeOfToday (midpoint_of s.script) s.script.blocks) s.script.lives l life today.lives is in
+module _ (s : Setting) (cuts : List (Option CutAt)) (within : IsEarlyScript s.script) (plain : IsPlain s) (history : IsPlanHistory s cuts) where
+  pub early_life : (l : ℕ) (life : Life) → l ≤ length cuts → life_at s l ≡ Some life → IsLifeBelow (midpoint_of s.script) s.script.blocks life × (found s l ≡ None)
+  early_life l life begun is =
+      let form = its_form (IsLifeBelow (midpoint_of s.script) s.script.blocks) s.script.lives l life within.lives is in
       (form.1, finds_none s cuts plain history l begun form.0)
 
   -- in any life so far, after any number of its events
@@ -158,14 +158,14 @@ module _ (s : Setting) (cuts : List (Option CutAt)) (today : IsFormOfToday s.scr
     where
       by_life : (o : Option Life) → life_at s l ≡ o → option_map_or (λ life. awaited_epoch s l life n) o 0 ≡ 0
       by_life None is = refl
-      by_life (Some life) is = let t = life_today l life begun is in awaits_epoch_zero s l life n t.0 t.1
+      by_life (Some life) is = let t = early_life l life begun is in awaits_epoch_zero s l life n t.0 t.1
 
   last_zero : (l : ℕ) → l ≤ length cuts → last_awaited s cuts l ≡ 0
   last_zero l begun = by_life (life_at s l) refl
     where
       by_life : (o : Option Life) → life_at s l ≡ o → option_map_or (λ life. awaited_epoch s l life (events_taken life (cut_of cuts l))) o 0 ≡ 0
       by_life None is = refl
-      by_life (Some life) is = let t = life_today l life begun is in awaits_epoch_zero s l life (events_taken life (cut_of cuts l)) t.0 t.1
+      by_life (Some life) is = let t = early_life l life begun is in awaits_epoch_zero s l life (events_taken life (cut_of cuts l)) t.0 t.1
 
   before_zero : (l : ℕ) → l ≤ length cuts → awaited_before s cuts l ≡ 0
   before_zero zero begun = refl

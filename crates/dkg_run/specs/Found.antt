@@ -69,12 +69,12 @@ pub record IsFoundRecord (limit : ℕ) (files : Files) (its : Fault) : Type 0 wh
 -- WHAT THE DEVICES HOLD against the node's own state: a stored dealing that it names is among those that the devices give back, and is refused; so is this node's own, where what is held
 -- of its epoch deals another; and a share that is refused is held, with the seed that it doesn't deal by.
 -- (Of other faults nothing is to be found: the script shows their causes.)
-abbrev pub ShowsOver : Script → Files → Secrets → Fault → Type 0
-ShowsOver script files held (LocalState (ShareRefused epoch)) = IsBegunBy script epoch (IsRefusedBy script held epoch)
-ShowsOver script files held (LocalState (StoredDealing epoch dealer)) = IsFirstRefusedIn script (recovered_from files held) epoch dealer
-ShowsOver script files held (LocalState (OwnDealing epoch kept dealt)) =
+abbrev pub ShowsCause : Script → Files → Secrets → Fault → Type 0
+ShowsCause script files held (LocalState (ShareRefused epoch)) = IsBegunBy script epoch (IsRefusedBy script held epoch)
+ShowsCause script files held (LocalState (StoredDealing epoch dealer)) = IsFirstRefusedIn script (recovered_from files held) epoch dealer
+ShowsCause script files held (LocalState (OwnDealing epoch kept dealt)) =
     (private : ℕ) × (get (recovered_from files held) (epoch, script.config.me) ≡ Some (kept, private)) × IsBegunBy script epoch (IsDealtBy script held epoch dealt)
-ShowsOver script files held its = ⊤
+ShowsCause script files held its = ⊤
 
 -- P of each fault that these entries tell
 abbrev pub OfFault : (Fault → Type 0) → Entry → Type 0

@@ -30,7 +30,7 @@ use Rattle.dkg_core.specs.Heard.{recovered_in}
 use Rattle.dkg_core.specs.Laws.{IsDue}
 use Rattle.dkg_core.specs.Live.{Live, Deals, Plays, recorded_at}
 use Rattle.dkg_run.proofs.Currently.{found_current}
-use Rattle.dkg_run.proofs.HeardOver.{Carries}
+use Rattle.dkg_run.proofs.Heard.{Carries}
 
 not_there : {A : Type 0} (x : A) → ◌≡◌ {A = Option A} None (Some x) → ⊥
 not_there x e = cc

@@ -15,15 +15,15 @@ use Rattle.dkg_script.specs.Promise.{InACase, IsComplete, IsHonestRun, RunsAll, 
 use Rattle.dkg_script.specs.Setting.{setting_of}
 use Rattle.dkg_run.specs.Lives.{RunsOver, never}
 use Rattle.dkg_run.proofs.CutLives.{worlds_cut}
-use Rattle.dkg_run.proofs.KeepingOver.{IsBuiltOver, answered_of, built_as_cut, kept_of}
+use Rattle.dkg_run.proofs.Keeping.{IsBuiltSetting, answered_of, built_as_cut, kept_of}
 
 module _ (script : Script) (files : Files) (image : Files → Type 0) (secrets : Secrets) (now : Files → Type 0) (secrets_now : Secrets) (answered : Result (Unit {0}) Fault) (old new added : List Entry) (is : new ≡ old ++ added)
     (runs : Stands files image → (c : Files) → now c → RunsOver script answered files (at (moment old secrets never) files) (λ f. at (moment new secrets_now f) c)) (itself : image files) (left : Files) (is_left : now left)
-    (built : IsBuiltOver (setting_of script files secrets)) (form : IsFormOfEpochs (as_cut (progress (setting_of script files secrets) added).cuts script)) where
+    (built : IsBuiltSetting (setting_of script files secrets)) (form : IsFormOfEpochs (as_cut (progress (setting_of script files secrets) added).cuts script)) where
   abbrev cut_script : Script
   cut_script = as_cut (progress (setting_of script files secrets) added).cuts script
 
-  built_so : IsBuiltOver (setting_of cut_script files secrets)
+  built_so : IsBuiltSetting (setting_of cut_script files secrets)
   built_so = built_as_cut script files secrets (progress (setting_of script files secrets) added).cuts form built
 
   runs_so : Stands files image → (c : Files) → now c → RunsOver cut_script answered files (at (moment old secrets never) files) (λ f. at (moment new secrets_now f) c)

@@ -55,13 +55,9 @@ use Rattle.dkg_core.proofs.Behind.{leaves_devices}
 use Rattle.dkg_core.proofs.Keeping.{fold_silent, left_entries, silent_whole}
 use Rattle.dkg_core.proofs.Lines.{runs_add_deeds}
 use Rattle.dkg_core.proofs.Upkeep.{along_if}
-use Rattle.dkg_run.proofs.PeersOver.{BringsDealing, IsUndue, by_form}
+use Rattle.dkg_run.proofs.PeerForms.{BringsDealing, IsUndue, by_form}
 use Rattle.dkg_run.proofs.Recorded.{gives_one, restored_at, with_pair_finds}
 use Rattle.dkg_run.proofs.Currently.{AreKept, IsKeptEntry, current_as, current_with, not_kept}
-
-each_front : (s : Setting) (E : Progress → Entry → Type 0) (xs ys : List Entry) (p : Progress) → EachAfter s E p (xs ++ ys) → EachAfter s E p xs
-each_front s E [] ys p each = tt
-each_front s E (x ∷ xs) ys p each = (each.0, each_front s E xs ys (read s p x) each.1)
 
 -- ONE DEALING MORE
 

@@ -45,9 +45,9 @@ use Rattle.dkg_core.proofs.BlocksKept.{blocks_keep}
 use Rattle.dkg_core.proofs.Enduring.{steps_keep}
 use Rattle.dkg_run.proofs.BlocksLeave.{AreTold, gives_before, gives_no_other, says_aside, tells_own}
 use Rattle.dkg_run.proofs.Currently.{AreKept, HandsOn, IsKeptEntry, MayBeKept, current_as, current_later, current_with, found_current, grown, grown_all, may_of, may_still}
-use Rattle.dkg_run.proofs.HeardOver.{Carries, IsHeard, IsSameStep, IsUnchanged, ValidAt, each_aside, heard, own_found, read_aside}
+use Rattle.dkg_run.proofs.Heard.{Carries, IsHeard, IsSameStep, IsUnchanged, ValidAt, each_aside, heard, own_found, read_aside}
 use Rattle.dkg_run.proofs.NoOthers.{IsOwnDealt, IsToldSince}
-use Rattle.dkg_run.proofs.PeersOver.{IsUndue}
+use Rattle.dkg_run.proofs.PeerForms.{IsUndue}
 use Rattle.dkg_run.proofs.Recorded.{gives_one, restored_at, with_pair_finds}
 use Rattle.dkg_run.proofs.Seated.{own_valid}
 
@@ -123,9 +123,6 @@ last_cut (x ∷ cuts) (suc l) its is = last_cut cuts l its (omega (arith, is))
 
 none_some : {A : Type 0} (a : A) → ◌≡◌ {A = Option A} None (Some a) → ⊥
 none_some a e = cc
-
-some_is : {A : Type 0} (a b : A) → ◌≡◌ {A = Option A} (Some a) (Some b) → a ≡ b
-some_is a b e = cc
 
 -- what is on the devices and not recorded was brought by this step
 may_at_cut : (b : ℕ) (s : Setting) (p : Progress) (l : ℕ) (life : Life) (j call : ℕ) (m : Pairs) → life_at s l ≡ Some life → length p.cuts ≡ l → p.opened ≡ Some l → 0 < call

@@ -19,8 +19,8 @@ use Rattle.dkg_core.specs.Live.{Live}
 use Rattle.dkg_core.specs.NodeKept.{BeginsRestored}
 use Rattle.dkg_core.specs.Transcripts.{IfWentTo}
 use Rattle.dkg_run.proofs.Currently.{AreKept, HandsOn, IsKeptEntry, MayBeKept, RestsIn, are_opened, current_as, current_later, grown, keeps_opening, may_of, may_still}
-use Rattle.dkg_run.proofs.HeardOver.{IsUnchanged, Knows, each_aside, read_aside}
-use Rattle.dkg_run.proofs.StepsOver.{AnyCall, CarriesAt, IsBehindStep, IsSaved, Reaches}
+use Rattle.dkg_run.proofs.Heard.{IsUnchanged, Knows, each_aside, read_aside}
+use Rattle.dkg_run.proofs.KeptSteps.{AnyCall, CarriesAt, IsBehindStep, IsSaved, Reaches}
 
 -- what an opening leaves, how it ended
 pub record IsOpenedBy {F Dir : Type 0} (c : Fixed Dir) (begun epoch l : ℕ) (ended : Ended F (Live Dir)) (h : Held) (s : Setting) (p q : Progress) : Type 0 where

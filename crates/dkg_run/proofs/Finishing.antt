@@ -21,13 +21,13 @@ use Rattle.dkg_core.specs.Seen.{Seen}
 use Rattle.dkg_reshare.specs.declared.stop.Stop.{Stop}
 use Rattle.dkg_run.specs.Blamed.{IsFromOutside}
 use Rattle.dkg_run.specs.Complete.{IsValidRun}
-use Rattle.dkg_run.specs.EndsOver.{EndsRunOver}
-use Rattle.dkg_run.specs.Epochs.{IsChecked, IsLifeOver}
-use Rattle.dkg_run.specs.FoundOver.{IsFoundRecord}
+use Rattle.dkg_script.specs.Ends.{EndsRun}
+use Rattle.dkg_run.specs.Epochs.{IsChecked, IsLifeInForm}
+use Rattle.dkg_run.specs.Found.{IsFoundRecord}
 use Rattle.dkg_run.specs.Given.{AreBytes, lived}
 use Rattle.dkg_run.specs.GivesBack.{limit_in}
 use Rattle.dkg_run.specs.Lives.{LivesSo, RunsOver, never}
-use Rattle.dkg_run.specs.ValidOver.{IsValidCaseOver}
+use Rattle.dkg_script.specs.Valid.{IsValidCase}
 use Rattle.dkg_run.specs.Ways.{by_worlds}
 use Rattle.dkg_run.proofs.ClearLives.{HoldsAll, life_holds_all}
 use Rattle.dkg_run.proofs.Completing.{names_none}
@@ -35,7 +35,7 @@ use Rattle.dkg_run.proofs.EachLife.{worlds_over}
 use Rattle.dkg_run.proofs.EndsTold.{ends_are_told}
 use Rattle.dkg_run.proofs.FitsBrought.{acks_fit, brings_fit}
 use Rattle.dkg_run.proofs.GivingDealings.{FitsRecords}
-use Rattle.dkg_run.proofs.KeepingOver.{history_of}
+use Rattle.dkg_run.proofs.Keeping.{history_of}
 use Rattle.dkg_run.proofs.Leading.{Leads}
 use Rattle.dkg_run.proofs.LivesClear.{EndsOutside, run_clear}
 use Rattle.dkg_run.proofs.OfferingRuns.{run_ends}
@@ -53,7 +53,7 @@ module _ (script : Script) (form : IsFormOfEpochs script) (checked : IsChecked s
 
   module _ (ends : List (Option CutAt)) (valid : IsValidRun s image ends) where
     -- the case of no plan
-    its_case : IsValidCaseOver s ends
+    its_case : IsValidCase s ends
     its_case = valid.script.source [] (history_of s ends form valid.built.no_plan refl)
 
     abbrev All : Held → Type 0
@@ -64,7 +64,7 @@ module _ (script : Script) (form : IsFormOfEpochs script) (checked : IsChecked s
     lives_all l life seen its life_is reads begun w new how all so =
         life_holds_all s ends its_case form bytes none_found l life seen its life_is here (planless_records seen reads) (planless_secrets seen reads) fits begun w new how all so
       where
-        here : IsLifeOver (lived script l life seen its)
+        here : IsLifeInForm (lived script l life seen its)
         here = worlds_over script form checked l life seen its life_is reads
 
         fits : FitsRecords s ends form its_case.consistent l life seen its life_is here (planless_records seen reads)
@@ -103,20 +103,20 @@ module _ (script : Script) (form : IsFormOfEpochs script) (checked : IsChecked s
           ends_so = ends_are ∙ ap (λ (xs : List Entry). (fold (read s) (at_start s) xs).cuts) (append_cancel_left old added told.added (sym is ∙ told.out)) ∙ told.to
 
 -- THE CLAUSE of complete, where the devices tell: P and Q say that the disk's count rose, and that of the secret store
-pub completes_over : (script : Script) (form : IsFormOfEpochs script) (checked : IsChecked script) (bytes : AreBytes script.blocks) (files files_now : Files) (image now : Files → Type 0) (held held_now : store.Secrets) (P Q : Type 0)
+pub completes : (script : Script) (form : IsFormOfEpochs script) (checked : IsChecked script) (bytes : AreBytes script.blocks) (files files_now : Files) (image now : Files → Type 0) (held held_now : store.Secrets) (P Q : Type 0)
     (answered : Result (Unit {0}) Fault) (old new added : List Entry) → new ≡ old ++ added → image files → now files_now
     → (Stands files image → RunsOver script answered files (at (moment old held never) files) (λ f. at (moment new held_now f) files_now))
-    → EndsRunOver answered added P Q → IfErr answered (IsFoundRecord (limit_in script) files_now) → (AreFit (limit_in script) image → AreFit (limit_in script) now)
+    → EndsRun answered added P Q → IfErr answered (IsFoundRecord (limit_in script) files_now) → (AreFit (limit_in script) image → AreFit (limit_in script) now)
     → (let s = setting_of script files held in IfErr answered (λ its. IsValidRun s image (cuts_in s added) → (P → ⊥) → (Q → ⊥) → its ≡ NoMemory))
-completes_over script form checked bytes files files_now image now held held_now P Q (Ok done) old new added is itself left runs ends found fit = tt
-completes_over script form checked bytes files files_now image now held held_now P Q (Err its) old new added is itself left runs ends found fit = λ valid no_disk no_secrets.
+completes script form checked bytes files files_now image now held held_now P Q (Ok done) old new added is itself left runs ends found fit = tt
+completes script form checked bytes files files_now image now held held_now P Q (Err its) old new added is itself left runs ends found fit = λ valid no_disk no_secrets.
     by_fault valid no_disk no_secrets its
     (comes_outside script form checked bytes files image held itself (cuts_in (setting_of script files held) added) valid old new added is files_now held_now refl (Err its) runs) ends found
   where
     s : Setting
     s = setting_of script files held
 
-    by_fault : IsValidRun s image (cuts_in s added) → (P → ⊥) → (Q → ⊥) → (own : Fault) → IsFromOutside own → EndsRunOver (Err own) added P Q → IsFoundRecord (limit_in script) files_now own → own ≡ NoMemory
+    by_fault : IsValidRun s image (cuts_in s added) → (P → ⊥) → (Q → ⊥) → (own : Fault) → IsFromOutside own → EndsRun (Err own) added P Q → IsFoundRecord (limit_in script) files_now own → own ≡ NoMemory
     by_fault valid no_disk no_secrets NoMemory out ends found = refl
     by_fault valid no_disk no_secrets Disk out ends found = absurd (no_disk ends.1)
     by_fault valid no_disk no_secrets Secrets out ends found = absurd (no_secrets ends.1)

@@ -13,7 +13,7 @@ use Rattle.dkg_store.specs.Acts.{Held, Stands, at, moment}
 use Rattle.dkg_core.specs.Meant.{ReadsRecords}
 use Rattle.dkg_core.specs.Seen.{Seen}
 use Rattle.dkg_core.specs.Storing.{ReadsSecrets}
-use Rattle.dkg_run.specs.Epochs.{IsLifeOver}
+use Rattle.dkg_run.specs.Epochs.{IsLifeInForm}
 use Rattle.dkg_run.specs.Given.{AreBytes, lived}
 use Rattle.dkg_run.specs.GivesBack.{StaysValid}
 use Rattle.dkg_run.specs.Lives.{RunsOver, never}
@@ -27,7 +27,7 @@ use Rattle.dkg_run.proofs.SharesStay.{run_shares}
 -- WHAT THE DEVICES HOLD stays valid, where both devices tell and what a read gives is one of what a crash may leave: of a script whose lives are of the form, whose blocks are bytes at
 -- heights of 64 bits, and which has one info for each epoch
 pub stays_valid : (s : Setting) (cuts : List (Option CutAt)) (form : IsFormOfEpochs s.script) (consistent : IsConsistentScript s cuts)
-    → (over : (l : ℕ) (life : Life) (seen : Held → Seen) (files : Files) → slice_get s.script.lives l ≡ Some life → by_worlds.reads seen → IsLifeOver (lived s.script l life seen files))
+    → (over : (l : ℕ) (life : Life) (seen : Held → Seen) (files : Files) → slice_get s.script.lives l ≡ Some life → by_worlds.reads seen → IsLifeInForm (lived s.script l life seen files))
     → (reads : (seen : Held → Seen) → by_worlds.reads seen → ReadsRecords seen) (secrets : (seen : Held → Seen) → by_worlds.reads seen → ReadsSecrets seen)
     → (bytes : AreBytes s.script.blocks) (heights : AllByRecursion (λ line. line.height < 2 ^ 64) s.script.blocks)
     → (answered : Result (Unit {0}) Fault) (before now : Standing) (out out_now : List Entry) → before.image before.files
@@ -39,5 +39,5 @@ stays_valid s cuts form consistent over reads secrets bytes heights answered bef
     let shares = run_shares s cuts form consistent over reads secrets fits (λ files. files ≡ before.files) _ _ answered (valid.passing, λ epoch share got info known. valid.shares epoch share info got known) its.so in
     record { passing = held.0; own = held.1; shares = λ epoch share info got known. shares.1 epoch share got info known }
   where
-    fits : (l : ℕ) (life : Life) (seen : Held → Seen) (files : Files) (life_is : life_at s l ≡ Some life) (here : IsLifeOver (lived s.script l life seen files)) (read : ReadsRecords seen) → FitsRecords s cuts form consistent l life seen files life_is here read
+    fits : (l : ℕ) (life : Life) (seen : Held → Seen) (files : Files) (life_is : life_at s l ≡ Some life) (here : IsLifeInForm (lived s.script l life seen files)) (read : ReadsRecords seen) → FitsRecords s cuts form consistent l life seen files life_is here read
     fits l life seen files life_is here read = record { acks = acks_fit (lived s.script l life seen files) here; brings = brings_fit (lived s.script l life seen files) here bytes heights }

@@ -31,17 +31,17 @@ use Rattle.dkg_core.proofs.Counted.{cuts_fall}
 use Rattle.dkg_reshare.specs.declared.stop.Stop.{Stop}
 use Rattle.dkg_reshare.specs.declared.stop.Stop.TheVariants.{Cut, Fault as FaultOf}
 use Rattle.dkg_run.specs.Ended.{by_node_stop}
-use Rattle.dkg_run.specs.Epochs.{IsLifeOver}
+use Rattle.dkg_run.specs.Epochs.{IsLifeInForm}
 use Rattle.dkg_run.specs.Given.{Lived, at_step, lived, step_of}
 use Rattle.dkg_run.specs.Lives.{LivesSo, Steps, TakesAll, Wants, fuse_for, fuse_within, never}
 use Rattle.dkg_run.specs.Ways.{StaysHeld, by_worlds}
 use Rattle.dkg_run.proofs.Awaiting.{IsBefore, before_all, before_next, reached_lit}
 use Rattle.dkg_run.proofs.Currently.{HandsOn, IsKeptEntry, MayBeKept, RestsIn, begun_behind, begun_more, current_later, may_of, may_still}
 use Rattle.dkg_run.proofs.Former.{IsMessage, event_in_form, message_in}
-use Rattle.dkg_run.proofs.LifeSteps.{IsGoing, IsMeantOver, LogsAre, OpeningLeaves, StepLeaves, opening_goes, step_goes}
-use Rattle.dkg_run.proofs.OwedOver.{no_opening_due}
-use Rattle.dkg_run.proofs.RisesOver.{begun_rises}
-use Rattle.dkg_run.proofs.StepsOver.{AnyCall, IsAtStep, IsSaved, Reaches, WithinCall, each_both, reaches_as, reaches_none, reaches_one, reaches_then, saved_carried}
+use Rattle.dkg_run.proofs.LifeSteps.{IsGoing, IsLifeOfSetting, LogsAre, OpeningLeaves, StepLeaves, opening_goes, step_goes}
+use Rattle.dkg_run.proofs.Owed.{no_opening_due}
+use Rattle.dkg_run.proofs.AwaitedRises.{begun_rises}
+use Rattle.dkg_run.proofs.KeptSteps.{AnyCall, IsAtStep, IsSaved, Reaches, WithinCall, each_both, reaches_as, reaches_none, reaches_one, reaches_then, saved_carried}
 
 abbrev U : Type 0
 U = directory.Unit
@@ -245,7 +245,7 @@ module _ (s : Setting) (ends : List (Option CutAt)) (l : ℕ) (life : Life) (see
   abbrev g : Lived
   g = lived s.script l life seen files
 
-  module _ (here : IsLifeOver g) (meant : IsMeantOver s ends g) (cuts : List (Option CutAt)) (never_back : awaited_before s cuts l ≤ awaited_epoch s l life 0 + 1) (lives_before : length cuts ≡ l) (reshares : is_oneshot s ≡ false) where
+  module _ (here : IsLifeInForm g) (meant : IsLifeOfSetting s ends g) (cuts : List (Option CutAt)) (never_back : awaited_before s cuts l ≤ awaited_epoch s l life 0 + 1) (lives_before : length cuts ≡ l) (reshares : is_oneshot s ≡ false) where
     abbrev b : ℕ → ℕ
     b i = begun s cuts l i
 

@@ -26,8 +26,8 @@ use Rattle.dkg_script.specs.Promise.{cuts_in}
 use Rattle.dkg_script.specs.Setting.{CutAt, Setting, found, life_at, setting_of}
 use Rattle.dkg_script.proofs.EachEntry.{progress-more}
 use Rattle.dkg_script.proofs.EpochsAsCut.{epochs_as_cut}
-use Rattle.dkg_run.specs.Blamed.{IsBlockCause, IsBlockOwn, IsFromOutside, IsInfoCause, IsNextCause, IsOpeningCause, IsOwnCause, IsOwnDealing, IsWhy, IsWhyNow, OnBlock, OnCarried, first_epoch_in, is_beyond, next_epoch, opening_block, refusal_in}
-use Rattle.dkg_run.specs.Epochs.{IsAnchorOver, IsChecked}
+use Rattle.dkg_run.specs.Blamed.{IsBlockCause, IsBlockOwn, IsFromOutside, IsNextCause, IsOpeningCause, IsOwnCause, IsOwnDealing, IsWhy, IsWhyNow, OnBlock, OnCarried, first_epoch_in, is_beyond, next_epoch, opening_block, refusal_in}
+use Rattle.dkg_run.specs.Epochs.{IsAnchorAbove, IsChecked}
 use Rattle.dkg_run.specs.Given.{AreBytes, blocks_in}
 use Rattle.dkg_run.specs.Lives.{AnyFiles, RunsSo, TellsEnd}
 use Rattle.dkg_run.specs.Refusals.{BlamesOnlySkips, IsNoFirst, IsRefusal, Skips, SkipsIn, SkipsNow}
@@ -35,22 +35,15 @@ use Rattle.dkg_run.specs.Ways.{by_lines, trace}
 use Rattle.dkg_run.proofs.Awaiting.{IsReached}
 use Rattle.dkg_run.proofs.Blaming.{Judges, Tells, all_judged}
 use Rattle.dkg_run.proofs.Chaining.{IsOutside, IsSkipped, Tips, refused_so, tips_so}
-use Rattle.dkg_run.proofs.Checked.{anchor_over}
+use Rattle.dkg_run.proofs.Checked.{anchor_above}
 use Rattle.dkg_run.proofs.EachLife.{lives_over}
 use Rattle.dkg_run.proofs.Following.{RunEndsBy}
-use Rattle.dkg_run.proofs.KeepingOver.{history_of}
+use Rattle.dkg_run.proofs.Keeping.{history_of}
 use Rattle.dkg_run.proofs.Ordered.{all_in_order, tells_fault}
 use Rattle.dkg_run.proofs.Runs.{starts}
 use Rattle.dkg_run.proofs.Standing.{IsBetweenOf, MayTell, Moves, TellsFault}
 
 -- NO INFO, no share and no dealing is a reason for a block's refusal
-
-info_apart : (script : Script) (epoch : ℕ) (info : EpochInfo directory.Unit) (its : Fault) → IsRefusal its → IsInfoCause script epoch info its → ⊥
-info_apart script epoch info (fault.ConflictingBlock height) refusal why = why
-info_apart script epoch info (fault.DetachedBlock height) refusal why = why
-info_apart script epoch info (fault.SkippedHeight awaited got) refusal why = why
-info_apart script epoch info (fault.OutOfWindow height) refusal why = why
-info_apart script epoch info its refusal why = refusal
 
 own_apart : (script : Script) (epoch : ℕ) (info : EpochInfo directory.Unit) (its : Fault) → IsRefusal its → IsOwnCause script epoch info its → ⊥
 own_apart script epoch info (fault.ConflictingBlock height) refusal why = why
@@ -164,8 +157,8 @@ module _ (s : Setting) (ends : List (Option CutAt)) (form : IsFormOfEpochs s.scr
       none_found : found s l ≡ None
       none_found = rw no_plans refl
 
-      anchored : IfSome life.anchor (IsAnchorOver s.script.blocks)
-      anchored = anchor_over s.script.blocks life.anchor (form.lives l life life_is).anchor
+      anchored : IfSome life.anchor (IsAnchorAbove s.script.blocks)
+      anchored = anchor_above s.script.blocks life.anchor (form.lives l life life_is).anchor
 
       reached : IsReached life.cut (suc refuses.j)
       reached = subst (IsReached life.cut) refuses.step_is comes

@@ -49,26 +49,26 @@ use Rattle.dkg_core.specs.Agreeing.{BringsRecords}
 use Rattle.dkg_core.specs.Heard.{recovered_in}
 use Rattle.dkg_core.specs.Live.{Message}
 use Rattle.dkg_core.specs.Seen.{Seen}
-use Rattle.dkg_reshare.specs.Today.{seen_today}
-use Rattle.dkg_run.specs.Epochs.{IsAnchorOver, IsLifeOver}
+use Rattle.dkg_reshare.specs.Planless.{seen_planless}
+use Rattle.dkg_run.specs.Epochs.{IsAnchorAbove, IsLifeInForm}
 use Rattle.dkg_run.specs.Given.{AreBytes, Lived, at_step, lived}
 use Rattle.dkg_run.specs.Lives.{RunsOver, never}
 use Rattle.dkg_run.specs.Ways.{by_worlds}
 use Rattle.dkg_run.proofs.Currently.{IsKeptEntry, RestsIn, current_all}
 use Rattle.dkg_run.proofs.FitsRead.{message_fits}
 use Rattle.dkg_run.proofs.Former.{Brings, IsMessage, event_in_form}
-use Rattle.dkg_run.proofs.LifeSteps.{IsMeantOver}
+use Rattle.dkg_run.proofs.LifeSteps.{IsLifeOfSetting}
 use Rattle.dkg_run.proofs.LogsFit.{block_fits}
-use Rattle.dkg_run.proofs.RunKeptOver.{AreLives, LeavesRun, run_kept}
-use Rattle.dkg_run.proofs.StepsOver.{Reaches}
+use Rattle.dkg_run.proofs.RunKept.{AreLives, LeavesRun, run_kept}
+use Rattle.dkg_run.proofs.KeptSteps.{Reaches}
 
 abbrev U : Type 0
 U = directory.Unit
 
 -- What is built: a script of the form over many epochs, whose mode is supported and whose epochs have two blocks at least, and no plan.
-pub record IsBuiltOver (s : Setting) : Type 0 where
+pub record IsBuiltSetting (s : Setting) : Type 0 where
   pub form : IsFormOfEpochs s.script
-  pub anchored : (l : ℕ) (life : Life) → life_at s l ≡ Some life → IfSome life.anchor (IsAnchorOver s.script.blocks)
+  pub anchored : (l : ℕ) (life : Life) → life_at s l ≡ Some life → IfSome life.anchor (IsAnchorAbove s.script.blocks)
   pub supported : supports_of s.script.config.max_mode.0 s.script.config.mode ≡ true
   pub long : 2 ≤ non_zero_u64_get s.script.config.blocks_per_epoch
   pub no_plan : get s.files Plan ≡ None
@@ -78,12 +78,12 @@ pub record IsBuiltOver (s : Setting) : Type 0 where
 
 -- WHAT A LIFE IS GIVEN
 
-module _ (s : Setting) (ends : List (Option CutAt)) (built : IsBuiltOver s) (no_plans : s.plans ≡ []) (consistent : IsConsistentScript s ends) where
+module _ (s : Setting) (ends : List (Option CutAt)) (built : IsBuiltSetting s) (no_plans : s.plans ≡ []) (consistent : IsConsistentScript s ends) where
   module _ (l : ℕ) (life : Life) (files : Files) (life_is : life_at s l ≡ Some life) where
     abbrev g : Lived
-    g = lived s.script l life seen_today files
+    g = lived s.script l life seen_planless files
 
-    here : IsLifeOver g
+    here : IsLifeInForm g
     here = record { form = built.form; life_is = life_is; anchor = built.anchored l life life_is; unplanned = λ h. refl; supported = built.supported; long = built.long }
 
     is_mark : (key : ℕ) (domain : Domain) (content : List ℕ) → length (mark_of key domain content) ≡ 8
@@ -108,7 +108,7 @@ module _ (s : Setting) (ends : List (Option CutAt)) (built : IsBuiltOver s) (no_
         by_event (event.Final number) form message brings = subst (λ (y : Message U). BringsRecords (at_step g (suc i)) y) (sym brings.1) (block_fits g built.bytes built.heights built.form.few (suc i) number brings.0)
         by_event other form message brings = absurd brings
 
-    meant : IsMeantOver s ends g
+    meant : IsLifeOfSetting s ends g
     meant = record {
       script_is = refl;
       consistent = consistent;
@@ -118,8 +118,8 @@ module _ (s : Setting) (ends : List (Option CutAt)) (built : IsBuiltOver s) (no_
       brings = brings_given;
     }
 
-  given : (l : ℕ) (life : Life) (seen : Held → Seen) (files : Files) → life_at s l ≡ Some life → by_worlds.reads seen → IsLifeOver (lived s.script l life seen files) × IsMeantOver s ends (lived s.script l life seen files)
-  given l life seen files life_is reads = subst (λ (x : Held → Seen). IsLifeOver (lived s.script l life x files) × IsMeantOver s ends (lived s.script l life x files)) (sym reads) (here l life files life_is, meant l life files life_is)
+  given : (l : ℕ) (life : Life) (seen : Held → Seen) (files : Files) → life_at s l ≡ Some life → by_worlds.reads seen → IsLifeInForm (lived s.script l life seen files) × IsLifeOfSetting s ends (lived s.script l life seen files)
+  given l life seen files life_is reads = subst (λ (x : Held → Seen). IsLifeInForm (lived s.script l life x files) × IsLifeOfSetting s ends (lived s.script l life x files)) (sym reads) (here l life files life_is, meant l life files life_is)
 
 -- A SCRIPT AS IT WAS CUT is built where it is of the form
 
@@ -132,10 +132,10 @@ anchor_as_cut (end ∷ ends) (x ∷ xs) zero life is = (x, refl, ap (λ (y : Lif
     the_same e = cc
 anchor_as_cut (end ∷ ends) (x ∷ xs) (suc l) life is = anchor_as_cut ends xs l life is
 
-pub built_as_cut : (script : Script) (files : Files) (secrets : Secrets) (ends : List (Option CutAt)) → IsFormOfEpochs (as_cut ends script) → IsBuiltOver (setting_of script files secrets) → IsBuiltOver (setting_of (as_cut ends script) files secrets)
+pub built_as_cut : (script : Script) (files : Files) (secrets : Secrets) (ends : List (Option CutAt)) → IsFormOfEpochs (as_cut ends script) → IsBuiltSetting (setting_of script files secrets) → IsBuiltSetting (setting_of (as_cut ends script) files secrets)
 built_as_cut script files secrets ends form built = record {
   form = form;
-  anchored = λ l life is. let its = anchor_as_cut ends script.lives l life is in subst (λ (x : Option Anchor). IfSome x (IsAnchorOver script.blocks)) (sym its.2) (built.anchored l its.0 its.1);
+  anchored = λ l life is. let its = anchor_as_cut ends script.lives l life is in subst (λ (x : Option Anchor). IfSome x (IsAnchorAbove script.blocks)) (sym its.2) (built.anchored l its.0 its.1);
   supported = built.supported;
   long = built.long;
   no_plan = built.no_plan;
@@ -162,7 +162,7 @@ history_of s cuts form no_plan no_plans = record { first = none 0 ∙ sym no_rec
     by_life l None is = tt
     by_life l (Some life) is = inl (by_mode l (is_oneshot s) (unless_outdated s life (option_or (provided s life) (found s l))) (rw ((form.lives l life is).no_sync, none l) refl))
 
-pub plain_history : (s : Setting) (cuts : List (Option CutAt)) → IsBuiltOver s → s.plans ≡ [] → IsPlanHistory s cuts
+pub plain_history : (s : Setting) (cuts : List (Option CutAt)) → IsBuiltSetting s → s.plans ≡ [] → IsPlanHistory s cuts
 plain_history s cuts built no_plans = history_of s cuts built.form built.no_plan no_plans
 
 -- THE FIRST LIFE IS STILL TO COME
@@ -205,7 +205,7 @@ same_behind [] a b e = e
 same_behind (x ∷ old) a b e = same_behind old a b (let rest : old ++ a ≡ old ++ b = cc in rest)
 
 -- what follows of one image, where the entries tell that the script's lives ended so
-module _ (s : Setting) (built : IsBuiltOver s) (no_plans : s.plans ≡ []) (whole : IsWhole (entries s.files) s.secrets) (answered : Result (Unit {0}) Fault) (old_out new_out added : List Entry) (secrets_now : Secrets)
+module _ (s : Setting) (built : IsBuiltSetting s) (no_plans : s.plans ≡ []) (whole : IsWhole (entries s.files) s.secrets) (answered : Result (Unit {0}) Fault) (old_out new_out added : List Entry) (secrets_now : Secrets)
     (is : new_out ≡ old_out ++ added) (consistent : IsConsistentScript s (fold (read s) (at_start s) added).cuts) where
   pub goes_to : (c : Files) → RunsOver s.script answered s.files (at (moment old_out s.secrets never) s.files) (λ f. at (moment new_out secrets_now f) c)
       → EachAfter s (IsKeptEntry s) (at_start s) added × LeavesRun (at (moment new_out secrets_now never) c).held s (fold (read s) (at_start s) added)
@@ -239,7 +239,7 @@ module _ (script : Script) (files : Files) (image : Files → Type 0) (secrets :
   abbrev s : Setting
   s = setting_of script files secrets
 
-  module _ (built : IsBuiltOver s) (honest : IsHonestRun s image (cuts_in s added)) where
+  module _ (built : IsBuiltSetting s) (honest : IsHonestRun s image (cuts_in s added)) where
     consistent : IsConsistentScript s (fold (read s) (at_start s) added).cuts
     unfolding progress
     consistent = honest.source [] (plain_history s (cuts_in s added) built refl)

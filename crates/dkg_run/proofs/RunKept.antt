@@ -30,20 +30,17 @@ use Rattle.dkg_core.proofs.Lines.{runs_add_deeds}
 use Rattle.dkg_reshare.specs.declared.stop.Stop.{Stop}
 use Rattle.dkg_reshare.specs.declared.stop.Stop.TheVariants.{Cut, Failed, Fault as FaultOf}
 use Rattle.dkg_run.specs.Ended.{by_node_stop}
-use Rattle.dkg_run.specs.Epochs.{IsLifeOver}
+use Rattle.dkg_run.specs.Epochs.{IsLifeInForm}
 use Rattle.dkg_run.specs.Given.{Lived, at_step, lived, step_of}
 use Rattle.dkg_run.specs.Lives.{AnyFiles, EndsLife, LivesFrom, LivesSo, RunsAllSo, RunsSo, Steps, TakesAll, TellsEnd, Wants, fuse_for}
 use Rattle.dkg_run.specs.Ways.{by_worlds}
 use Rattle.dkg_run.proofs.Currently.{IsKeptEntry, RestsIn, before_front, begun_behind, current_later}
-use Rattle.dkg_run.proofs.LifeSteps.{IsMeantOver, LogsAre}
-use Rattle.dkg_run.proofs.LivesKeptOver.{IsBetween, IsStopped, LeavesLife, lives_kept, reaches_on, taken_by}
-use Rattle.dkg_run.proofs.StepsOver.{Reaches, reaches_none, reaches_one}
+use Rattle.dkg_run.proofs.LifeSteps.{IsLifeOfSetting, LogsAre}
+use Rattle.dkg_run.proofs.LivesKept.{IsBetween, IsStopped, LeavesLife, lives_kept, reaches_on, taken_by}
+use Rattle.dkg_run.proofs.KeptSteps.{Reaches, reaches_none, reaches_one}
 
 abbrev U : Type 0
 U = directory.Unit
-
-some_is : {A : Type 0} {x y : A} → ◌≡◌ {A = Option A} (Some x) (Some y) → x ≡ y
-some_is e = cc
 
 -- A TRANSCRIPT GROWS
 
@@ -138,7 +135,7 @@ LeavesRun h s p = IsWhole (notes h) h.secrets × AllCurrent (begun s p.cuts (len
 -- THE LIVES
 
 module _ (s : Setting) (ends : List (Option CutAt)) (reshares : is_oneshot s ≡ false) (consistent : IsConsistentScript s ends)
-    (meant : (l : ℕ) (life : Life) (seen : Held → Seen) (files : Files) → life_at s l ≡ Some life → by_worlds.reads seen → IsLifeOver (lived s.script l life seen files) × IsMeantOver s ends (lived s.script l life seen files)) where
+    (meant : (l : ℕ) (life : Life) (seen : Held → Seen) (files : Files) → life_at s l ≡ Some life → by_worlds.reads seen → IsLifeInForm (lived s.script l life seen files) × IsLifeOfSetting s ends (lived s.script l life seen files)) where
   -- the entries that come, whatever they are, tell these ends
   abbrev pub EndSo : World → World → Progress → Type 0
   EndSo w new p = (added : List Entry) → new.out ≡ w.out ++ added → (fold (read s) p added).cuts ≡ ends
@@ -207,7 +204,7 @@ module _ (s : Setting) (ends : List (Option CutAt)) (reshares : is_oneshot s ≡
       (record { life_is = are.0; lives = between.lives; step = between.step; nothing = between.nothing }) refl rests logs here.7)
       (λ added out leaves. by_how (λ q mid between rests logs fin more. from_kept lives AnyFiles (l + 1) mid result new q are.1 between rests logs fin more) here.2 (fold (read s) p added) (end_then w here.3 new p added out fin) leaves here.8)
     where
-      both : IsLifeOver (lived s.script l life here.0 here.1) × IsMeantOver s ends (lived s.script l life here.0 here.1)
+      both : IsLifeInForm (lived s.script l life here.0 here.1) × IsLifeOfSetting s ends (lived s.script l life here.0 here.1)
       both = meant l life here.0 here.1 are.0 here.4
 
       grows : Grows w new
