@@ -14,7 +14,7 @@ use dkg_journal::{Disk, Fuse, MemoryDisk};
 use dkg_reshare::{Actor, BlockSource, Config, Message, Processed, Stop};
 use dkg_store::{Devices, MemorySecrets, SecretStore};
 use dkg_types::{
-    Block, Context, Fault, Finalization, NoopRegistrar, Payload, Registrar, Transcript, Unit,
+    Block, Context, Fault, Finalization, Payload, Registrar, SchemeInfo, Transcript, Unit,
 };
 use dkg_values::{Digest, Epoch, Height, Key, Mem};
 use std::alloc::Global;
@@ -27,6 +27,25 @@ const INFO: [u8; 89] =
 
 /// A dealing, as its bytes.
 const DEALING: [u8; 10] = *b"\0\x03\0\x0f\0\x07\0\x01\0\x17";
+
+/// Who takes schemes and counts them.
+#[derive(Clone, Copy)]
+struct Counter {
+    count: u32,
+}
+
+impl Registrar for Counter {
+    ghost use Rattle.std.specs.Prelude.{false, []};
+
+    ghost tells = { false };
+
+    ghost taken = { λ _. [] };
+
+    fn register(&mut self, _alloc: Global, _epoch: Epoch, _info: SchemeInfo) -> Mem<()> {
+        self.count = self.count.saturating_add(1);
+        Ok(())
+    }
+}
 
 /// A source that holds one block, and has processed it.
 #[derive(Drop)]
@@ -99,7 +118,7 @@ fn block_at(
 }
 
 /// An actor with epochs of eight blocks.
-fn actor_of(alloc: Global) -> Result<Actor<StandCeremony, Unit, NoopRegistrar, Unit, Unit>, Fail>
+fn actor_of(alloc: Global) -> Result<Actor<StandCeremony, Unit, Counter, Unit, Unit>, Fail>
     ensures new { IfOk result (λ actor. IsNew actor.state) }
     ensures blocks { IfOk result (λ actor. non_zero_u64_get actor.terms.blocks_per_epoch ≡ 8) }
 {
@@ -107,7 +126,7 @@ fn actor_of(alloc: Global) -> Result<Actor<StandCeremony, Unit, NoopRegistrar, U
         ceremony: StandCeremony,
         signer: StandSigner::new(Key(1)),
         provider: Unit,
-        registrar: NoopRegistrar,
+        registrar: Counter { count: 0 },
         manager: Unit,
         namespace: Blob::new(Vec::new(alloc)),
         mode: Mode::NonZeroCounter,
@@ -274,6 +293,9 @@ fn lived(alloc: Global) -> Result<([usize; 2], usize, u64), Fail> {
         &mut fence,
         &mut out,
     )?;
+    if actor.registrar().count != 1 {
+        return Err(Fail::from("not one scheme was registered"));
+    }
     Ok((told, out.entries().len(), height))
 }
 

@@ -13,12 +13,12 @@ use Rattle.dkg_core.specs.Live.{Follows, Live, awaited_height}
 use Rattle.dkg_core.specs.Sources.{Tip}
 use Rattle.dkg_core.specs.Stepping.{IsBlockEnd}
 use Rattle.dkg_core.proofs.Heights.{below_middle, below_tip}
-use Rattle.dkg_run.specs.Epochs.{IsEarly}
+use Rattle.dkg_run.specs.Epochs.{IsEarlyBlock}
 use Rattle.dkg_run.specs.Nodes.{HasHalf, IsBelow}
 use Rattle.dkg_run.specs.declared.half.Half.{Half}
 use Rattle.dkg_run.proofs.NextLives.{applied_here, applied_so, passed_so}
 
-module _ (c : Fixed directory.Unit) (some : 1 ≤ c.blocks_per_epoch) (b : Block directory.Unit) (st : Live directory.Unit) (live : IsLiveIn c st) (active : IsActiveIn st) (early : IsEarly c.blocks_per_epoch st b) where
+module _ (c : Fixed directory.Unit) (some : 1 ≤ c.blocks_per_epoch) (b : Block directory.Unit) (st : Live directory.Unit) (live : IsLiveIn c st) (active : IsActiveIn st) (early : IsEarlyBlock c.blocks_per_epoch st b) where
   -- a height of the awaited epoch, in which the life takes part
   of_tip : (apart : st.participation.stage ≡ Follows → ⊥) (t : Tip) → st.tip ≡ Some t → nat_le b.height t.height ≡ true → b.height < last c.blocks_per_epoch st.participation.epoch
   of_tip apart t is low =

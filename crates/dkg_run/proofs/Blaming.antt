@@ -225,8 +225,8 @@ all_quiet script s p [] quiet = tt
 all_quiet script s p (one ∷ added) quiet = (one_quiet script p one quiet.0, all_quiet script s (read s p one) added quiet.1)
 
 -- where a fault is told
-abbrev pub Tells : Script → Fault → Setting → Progress → Type 0
-Tells script its s p = IsWhyNow script p its
+abbrev pub TellsWhy : Script → Fault → Setting → Progress → Type 0
+TellsWhy script its s p = IsWhyNow script p its
 
 -- a course that stops by its own faults for this reason is ended for it, or from outside
 stop_why : (Reason : Fault → Type 0) (outside : (its : Fault) → IsFromOutside its → Reason its) (course : Course directory.Unit NodeStop (Live directory.Unit)) (Next : Live directory.Unit → Type 0)
@@ -253,7 +253,7 @@ module _ (script : Script) (life : Life) (l : ℕ) (life_is : slice_get script.l
   why_now j p its lives step why = inr (here_now (λ n x k. IsWhy script n x k its) j p lives step why)
 
   abbrev Ends : Result (Unit {0}) Stop → Setting → Progress → Type 0
-  Ends how s p = EndsBy (Tells script) life l how s p
+  Ends how s p = EndsBy (TellsWhy script) life l how s p
 
   stops_in : (j : ℕ) (opened : Bool) (stop : Stop) (s : Setting) (p : Progress) → (stop ≡ AtCut → IsCutWithin life.cut j) → IfFault stop (IsWhy script l life j) → IsWithin life l j opened s p → Ends (Err stop) s p
   stops_in j opened AtCut s p cuts why is = cut_within life l j opened s p (cuts refl) is
@@ -310,7 +310,7 @@ module _ (script : Script) (life : Life) (l : ℕ) (life_is : slice_get script.l
 
 module _ (g : Lived) (here : IsLifeInForm g) where
   abbrev EndsHere : Result (Unit {0}) Stop → Setting → Progress → Type 0
-  EndsHere how s p = EndsBy (Tells g.script) g.life g.number how s p
+  EndsHere how s p = EndsBy (TellsWhy g.script) g.life g.number how s p
 
   event_judged : (i : ℕ) (e : Event) (st : Live directory.Unit) → slice_get g.life.events i ≡ Some e → IsUncut g.life.cut (suc i) → Stood g here i st → (t new : Trace) (how : Result (Unit {0}) Stop) (next : Live directory.Unit → Trace → Type 0)
       → (IsReached g.life.cut (suc i) → (end : Live directory.Unit) (mid : Trace) → Stood g here (suc i) end → next end mid → Moves (Judges g.script) (IsBehind g.life g.number (suc i)) (EndsHere how) mid.out new.out)
@@ -365,8 +365,8 @@ module _ (script : Script) (checked : IsChecked script) (each_over : (l : ℕ) (
   cut_judged life l its out now cut_is is = judged_by script (IsAtCut life l) (IsBetween (l + 1)) out now (entry.Cut its.step its.call ∷ []) is (λ s p at. (tt, tt)) (moves_cut life l its out now cut_is is)
 
   pub all_judged : (first : Files → Type 0) (t new : Trace) (result : Result (Unit {0}) Fault) → RunsAllSo by_lines script first t result new
-      → Moves (Judges script) (IsBetweenOf script 0) (RunEndsBy (Tells script) script result) t.out new.out
-  all_judged first t new result runs = all_move (Judges script) (Tells script) (λ s p. inl tt) cut_judged script
+      → Moves (Judges script) (IsBetweenOf script 0) (RunEndsBy (TellsWhy script) script result) t.out new.out
+  all_judged first t new result runs = all_move (Judges script) (TellsWhy script) (λ s p. inl tt) cut_judged script
       (λ l life seen files at reads t mid how so. life_judged (lived script l life seen files) (each_over l life seen files at reads) files t mid how so)
       (λ its refused s p is. absurd (none_some (sym checked ∙ refused))) first t new result runs
     where
@@ -389,15 +389,15 @@ module _ (script : Script) (checked : IsChecked script) (each_over : (l : ℕ) (
       unchanged : (Q : Setting → Progress → Type 0) → Moves (Judges script) (IsBetweenOf script 0) Q t.out run.mid.out → new.out ≡ run.mid.out → Adds t.out new.out (BlamesSo script)
       unchanged Q moves same = (moves.added, same ∙ moves.parts, blames_so moves.added moves.each)
 
-      faulted : (its : Fault) → Moves (Judges script) (IsBetweenOf script 0) (Tells script its) t.out run.mid.out → (answered : Fault) → TellsFault its answered run.mid.out new.out → Adds t.out new.out (BlamesSo script)
-      faulted its moves answered (inl none) = unchanged (Tells script its) moves none.1
+      faulted : (its : Fault) → Moves (Judges script) (IsBetweenOf script 0) (TellsWhy script its) t.out run.mid.out → (answered : Fault) → TellsFault its answered run.mid.out new.out → Adds t.out new.out (BlamesSo script)
+      faulted its moves answered (inl none) = unchanged (TellsWhy script its) moves none.1
       faulted its moves answered (inr told) = (
         moves.added ++ entry.Fault its ∷ [],
         told.2 ∙ ap (λ (xs : List Entry). xs ++ entry.Fault its ∷ []) moves.parts ∙ append_assoc t.out moves.added (entry.Fault its ∷ []),
         blames_so (moves.added ++ entry.Fault its ∷ []) (λ s p is. each_of_both s (Judges script s) moves.added (entry.Fault its ∷ []) p (moves.each s p is) (moves.to s p is, tt)),
       )
 
-      by_result : (result : Result (Unit {0}) Fault) → Moves (Judges script) (IsBetweenOf script 0) (RunEndsBy (Tells script) script result) t.out run.mid.out
+      by_result : (result : Result (Unit {0}) Fault) → Moves (Judges script) (IsBetweenOf script 0) (RunEndsBy (TellsWhy script) script result) t.out run.mid.out
           → (answered : Result (Unit {0}) Fault) → TellsEnd by_lines result answered run.mid new → Adds t.out new.out (BlamesSo script)
       by_result (Ok done) moves answered told = unchanged (IsBetweenOf script (length script.lives)) moves (ap (λ (x : Trace). x.out) told.1)
       by_result (Err its) moves (Ok done) told = absurd (not_ok its told)

@@ -36,7 +36,7 @@ use Rattle.dkg_core.specs.Sources.{Tip}
 use Rattle.dkg_core.specs.Stepping.{IsAppliedEnd, IsAppliedStop, IsBlockEnd, IsBlockStop, IsDealingStop, IsFollowedEnd, IsStepStop, IsTakenOver, IsTakeoverStop, taken_over}
 use Rattle.dkg_core.specs.Endings.{OnInfo, first_block, first_epoch, seat_in, stage_in}
 use Rattle.dkg_run.specs.Blamed.{IsBlockCause, IsBlockOwn, IsCause, IsClear, IsInfoCause, IsNextCause, IsOwn, IsOwnCause, IsTakenLast, OnCarried, first_epoch_in, is_beyond, is_first_taken, next_epoch, opening_block, per_epoch, refusal_by, refusal_in, round_by, tip_in}
-use Rattle.dkg_run.specs.Epochs.{IsLifeInForm, Stands, awaited_by, epoch_by}
+use Rattle.dkg_run.specs.Epochs.{IsLifeInForm, StandsInScript, awaited_by, epoch_by}
 use Rattle.dkg_run.specs.Given.{Lived, at_step}
 use Rattle.dkg_run.proofs.Awaiting.{IsReached, awaited}
 use Rattle.dkg_run.proofs.Delivered.{starts}
@@ -193,7 +193,7 @@ module _ (g : Lived) (here : IsLifeInForm g) where
 
   -- A STEP, of a life with the tip that is said
   module _ (i : ℕ) (its : Event) (is : slice_get g.life.events i ≡ Some its) (reached : IsReached g.life.cut (suc i)) (m : IsMessage g its) (st : Live directory.Unit) (live : IsLiveIn (at_step g (suc i)) st)
-      (stands : Stands g i st) (tip : st.tip ≡ tip_in g.script g.life i) where
+      (stands : StandsInScript g i st) (tip : st.tip ≡ tip_in g.script g.life i) where
     abbrev n : ℕ
     n = per_epoch g.script
 

@@ -16,7 +16,7 @@ use Rattle.dkg_script.specs.OwnMarks.{AreKnownHandedIn}
 use Rattle.dkg_script.specs.Position.{awaited_before, awaited_epoch, begun, begun_before, cut_of, events_taken, last_awaited}
 use Rattle.dkg_script.specs.Progress.{Progress, read, is_last_step, pair_of, with_life_ended, with_pair, IsBrought}
 use Rattle.dkg_script.specs.Setting.{Setting, CutAt, is_oneshot, life_at, listed, recovered_from}
-use Rattle.dkg_script.proofs.Beginning.{gives_all, pair_of-listed}
+use Rattle.dkg_script.proofs.Listed.{gives_all, pair_of-listed}
 use Rattle.dkg_script.proofs.Openings.{lists_them}
 use Rattle.dkg_core.specs.Heard.{recovered_in}
 use Rattle.dkg_run.proofs.Recorded.{all_with_all, all_with_pair, found_is, with_all_finds, with_pair_finds}

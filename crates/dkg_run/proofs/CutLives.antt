@@ -35,7 +35,7 @@ use Rattle.dkg_run.specs.Lives.{AnyFiles, EndsLife, LivesFrom, LivesSo, RunsAllS
 use Rattle.dkg_run.specs.Ways.{Way, by_lines, by_worlds, trace}
 use Rattle.dkg_run.proofs.Ordered.{lit_within, unlit}
 use Rattle.dkg_run.proofs.Keeping.{lives_of, same_behind}
-use Rattle.dkg_run.proofs.Leading.{After, IsIn, Leads, Tells, leads_none, leads_then, life_leads, lines_tell, worlds_tell}
+use Rattle.dkg_run.proofs.Leading.{After, IsInStep, Leads, TellsLines, leads_none, leads_then, life_leads, lines_tell, worlds_tell}
 use Rattle.dkg_run.proofs.RunKept.{AreLives}
 
 abbrev U : Type 0
@@ -104,7 +104,7 @@ module _ (script : Script) (lives : List Life) (l : ℕ) (life : Life) (seen : H
         (ap node_opening (sym (same_at life.events 0 refl))) (λ f lit end mid so. takes_as life.events 1 end mid how new so) steps)
 
     -- cut within a step: with the events up to it
-    module _ (tells : Tells way) (its : cut.Cut) (its_is : life.cut ≡ Some its) (some : 0 < its.call) where
+    module _ (tells : TellsLines way) (its : cut.Cut) (its_is : life.cut ≡ Some its) (some : 0 < its.call) where
       abbrev front : Lived
       front = with_events (take its.step life.events)
 
@@ -161,7 +161,7 @@ module _ (script : Script) (lives : List Life) (l : ℕ) (life : Life) (seen : H
               let up : suc k ≡ its.step = omega (arith, is) in subst (λ (n : ℕ). TakesAll way front 1 (take n life.events) end mid (Err Cut) new) up takes
 
     -- cut anyhow
-    lives_cut : (tells : Tells way) (its : cut.Cut) → life.cut ≡ Some its → (w new : W) → LivesSo way g files w (Err Cut) new
+    lives_cut : (tells : TellsLines way) (its : cut.Cut) → life.cut ≡ Some its → (w new : W) → LivesSo way g files w (Err Cut) new
         → LivesSo way (lived (record script { lives = lives }) l (life_as_cut (Some (record { step = its.step; call = its.call })) life) seen files) files w (Err Cut) new
     lives_cut tells its is w new so = by_call (its.call == 0) refl
       where
@@ -178,7 +178,7 @@ module _ (script : Script) (lives : List Life) (l : ℕ) (life : Life) (seen : H
 
 -- THE LIVES OF A RUN
 
-module _ {W : Type 0} (way : Way W) (tells : Tells way) (script : Script) (s : Setting) where
+module _ {W : Type 0} (way : Way W) (tells : TellsLines way) (script : Script) (s : Setting) where
   abbrev over : List Life → Script
   over lives = record script { lives = lives }
 
@@ -203,7 +203,7 @@ module _ {W : Type 0} (way : Way W) (tells : Tells way) (script : Script) (s : S
 
   -- one ended so, and the others behind it
   cut_more : (first : Files → Type 0) (l : ℕ) (life : Life) (lives : List Life) (w mid : W) (result : Result (Unit {0}) Fault) (new : W) (cs : List (Option CutAt)) (end : Option CutAt) (p : Progress)
-      (leads : Leads s p (tells.out w) (tells.out mid) (IsIn (cs ++ end ∷ []) 0)) → CutSo AnyFiles (l + 1) lives mid result new (cs ++ end ∷ []) (fold (read s) p leads.added)
+      (leads : Leads s p (tells.out w) (tells.out mid) (IsInStep (cs ++ end ∷ []) 0)) → CutSo AnyFiles (l + 1) lives mid result new (cs ++ end ∷ []) (fold (read s) p leads.added)
       → ((all more : List Life) → LivesFrom way (over all) AnyFiles (l + 1) more mid result new → LivesFrom way (over all) first l (life_as_cut end life ∷ more) w result new) → CutSo first l (life ∷ lives) w result new cs p
   cut_more first l life lives w mid result new cs end p leads rest one = record {
     added = leads.added ++ rest.added;
@@ -217,7 +217,7 @@ module _ {W : Type 0} (way : Way W) (tells : Tells way) (script : Script) (s : S
   longer [] end l is = let none : 0 ≡ l = is in omega (arith, none)
   longer (c ∷ cs) end l is = let rest : length (cs ++ end ∷ []) ≡ length cs + 1 = longer cs end (length cs) refl in let here : length (c ∷ cs) ≡ l = is in omega (arith, rest, here)
 
-  from_cut : (lives : List Life) (first : Files → Type 0) (l : ℕ) (w : W) (result : Result (Unit {0}) Fault) (new : W) (cs : List (Option CutAt)) (p : Progress) → AreLives s l lives → length cs ≡ l → IsIn cs 0 p
+  from_cut : (lives : List Life) (first : Files → Type 0) (l : ℕ) (w : W) (result : Result (Unit {0}) Fault) (new : W) (cs : List (Option CutAt)) (p : Progress) → AreLives s l lives → length cs ≡ l → IsInStep cs 0 p
       → LivesFrom way script first l lives w result new → CutSo first l lives w result new cs p
   from_cut [] first l w result new cs p are lives at ends =
       cut_none first l [] w result new cs p (leads_none s p (tells.out w) (tells.out new) (λ q. q.cuts ≡ cs) (ap tells.out ends.1) at.cuts) (λ all. ends)
@@ -232,7 +232,7 @@ module _ {W : Type 0} (way : Way W) (tells : Tells way) (script : Script) (s : S
       Rests mid = LivesFrom way script AnyFiles (l + 1) lives mid result new
 
       On : Type 0
-      On = (mid : W) (cs : List (Option CutAt)) (q : Progress) → length cs ≡ l + 1 → IsIn cs 0 q → Rests mid → CutSo AnyFiles (l + 1) lives mid result new cs q
+      On = (mid : W) (cs : List (Option CutAt)) (q : Progress) → length cs ≡ l + 1 → IsInStep cs 0 q → Rests mid → CutSo AnyFiles (l + 1) lives mid result new cs q
 
       -- the life as it is, which ends the run
       ends_here : (how : Result (Unit {0}) Stop) → LivesSo way (lived script l life seen files) files w how mid → ((next : W → Type 0) → EndsLife way life how mid result new next)
@@ -256,8 +256,8 @@ module _ {W : Type 0} (way : Way W) (tells : Tells way) (script : Script) (s : S
       by_cut on (Some its) is so leads (inr more) =
           let end : Option CutAt = Some (record { step = its.step; call = its.call }) in
           let here : W = way.says (way.stops mid its.pick) (entry.Cut its.step its.call) in
-          let cut_leads : Leads s p (tells.out w) (tells.out here) (IsIn (cs ++ end ∷ []) 0) =
-          leads_then s p (tells.out w) (tells.out mid) (tells.out here) (λ q. q.cuts ≡ cs) (IsIn (cs ++ end ∷ []) 0) leads
+          let cut_leads : Leads s p (tells.out w) (tells.out here) (IsInStep (cs ++ end ∷ []) 0) =
+          leads_then s p (tells.out w) (tells.out mid) (tells.out here) (λ q. q.cuts ≡ cs) (IsInStep (cs ++ end ∷ []) 0) leads
           (λ q cuts. record {
             added = entry.Cut its.step its.call ∷ [];
             out = tells.says (way.stops mid its.pick) (entry.Cut its.step its.call) ∙ ap (λ (xs : List Entry). xs ++ entry.Cut its.step its.call ∷ []) (tells.stops mid its.pick);
@@ -280,7 +280,7 @@ module _ {W : Type 0} (way : Way W) (tells : Tells way) (script : Script) (s : S
       by_how : On → (how : Result (Unit {0}) Stop) → LivesSo way (lived script l life seen files) files w how mid → Leads s p (tells.out w) (tells.out mid) (After s life cs life_is how)
           → EndsLife way life how mid result new Rests → CutSo first l (life ∷ lives) w result new cs p
       by_how on (Ok done) so leads ends =
-          let end_leads : Leads s p (tells.out w) (tells.out (way.stops mid life.pick)) (IsIn (cs ++ None ∷ []) 0) = record { added = leads.added; out = tells.stops mid life.pick ∙ leads.out; to = leads.to } in
+          let end_leads : Leads s p (tells.out w) (tells.out (way.stops mid life.pick)) (IsInStep (cs ++ None ∷ []) 0) = record { added = leads.added; out = tells.stops mid life.pick ∙ leads.out; to = leads.to } in
           cut_more first l life lives w (way.stops mid life.pick) result new cs None p end_leads
           (on (way.stops mid life.pick) (cs ++ None ∷ []) (fold (read s) p end_leads.added) (longer cs None l count) end_leads.to ends)
           (λ all others rest. (seen, files, Ok done, mid, reads, known, begins, lives_as script all l life seen files way w (Ok done) mid so, rest))
@@ -292,12 +292,12 @@ module _ {W : Type 0} (way : Way W) (tells : Tells way) (script : Script) (s : S
 -- THE RUN
 
 -- the run over the script as it was cut
-pub record RunsCut {W : Type 0} (way : Way W) (tells : Tells way) (script : Script) (files : Files) (held : Secrets) (first : Files → Type 0) (w : W) (answered : Result (Unit {0}) Fault) (new : W) : Type 0 where
+pub record RunsCut {W : Type 0} (way : Way W) (tells : TellsLines way) (script : Script) (files : Files) (held : Secrets) (first : Files → Type 0) (w : W) (answered : Result (Unit {0}) Fault) (new : W) : Type 0 where
   pub added : List Entry
   pub out : tells.out new ≡ tells.out w ++ added
   pub so : RunsSo way (as_cut (progress (setting_of script files held) added).cuts script) first w answered new
 
-module _ {W : Type 0} (way : Way W) (tells : Tells way) (script : Script) (files : Files) (held : Secrets) (first : Files → Type 0) (w : W) (answered : Result (Unit {0}) Fault) (new : W)
+module _ {W : Type 0} (way : Way W) (tells : TellsLines way) (script : Script) (files : Files) (held : Secrets) (first : Files → Type 0) (w : W) (answered : Result (Unit {0}) Fault) (new : W)
     (run : RunsSo way script first w answered new) where
   abbrev s : Setting
   s = setting_of script files held

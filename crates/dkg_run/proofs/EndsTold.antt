@@ -16,14 +16,14 @@ use Rattle.dkg_run.specs.Given.{lived}
 use Rattle.dkg_run.specs.Lives.{AnyFiles, EndsLife, LivesFrom, RunsAllSo, RunsSo, TellsEnd}
 use Rattle.dkg_run.specs.Ways.{by_worlds}
 use Rattle.dkg_run.proofs.OfferingRuns.{AreLivesFrom, ends_by, ends_cut, ends_of, run_ends, script_lives}
-use Rattle.dkg_run.proofs.Leading.{After, IsIn, Leads, leads_as, leads_none, leads_then, life_leads, worlds_tell}
+use Rattle.dkg_run.proofs.Leading.{After, IsInStep, Leads, leads_as, leads_none, leads_then, life_leads, worlds_tell}
 
 -- ALL LIVES
 module _ (s : Setting) where
   longer : (cs : List (Option CutAt)) (end : Option CutAt) (l : ℕ) → length cs ≡ l → length (cs ++ end ∷ []) ≡ l + 1
   longer cs end l is = length-append cs (end ∷ []) ∙ ap (λ (n : ℕ). n + 1) is
 
-  from_ends : (lives : List Life) (first : Files → Type 0) (l : ℕ) (w : World) (result : Result (Unit {0}) Fault) (new : World) (cs : List (Option CutAt)) (p : Progress) → AreLivesFrom s l lives → length cs ≡ l → IsIn cs 0 p
+  from_ends : (lives : List Life) (first : Files → Type 0) (l : ℕ) (w : World) (result : Result (Unit {0}) Fault) (new : World) (cs : List (Option CutAt)) (p : Progress) → AreLivesFrom s l lives → length cs ≡ l → IsInStep cs 0 p
       → (run : LivesFrom by_worlds s.script first l lives w result new) → Leads s p w.out new.out (λ q. q.cuts ≡ cs ++ ends_of s.script lives first l w result new run)
   unfolding worlds_tell
   from_ends [] first l w result new cs p are count at run = leads_none s p w.out new.out (λ q. q.cuts ≡ cs ++ []) (ap (λ (x : World). x.out) run.1) (at.cuts ∙ sym (append-nil cs))
@@ -41,7 +41,7 @@ module _ (s : Setting) where
       on now more = ends_of s.script lives AnyFiles (l + 1) now result new more
 
       On : Type 0
-      On = (now : World) (cs : List (Option CutAt)) (q : Progress) → AreLivesFrom s (l + 1) lives → length cs ≡ l + 1 → IsIn cs 0 q → (more : Rests now) → Leads s q now.out new.out (λ q. q.cuts ≡ cs ++ on now more)
+      On = (now : World) (cs : List (Option CutAt)) (q : Progress) → AreLivesFrom s (l + 1) lives → length cs ≡ l + 1 → IsInStep cs 0 q → (more : Rests now) → Leads s q now.out new.out (λ q. q.cuts ≡ cs ++ on now more)
 
       by_cut : (o : Option cut.Cut) (ends : IsSomeAnd o (λ its. ((result ≡ Err NoMemory) × (new ≡ mid)) ⊎ Rests (says mid (entry.Cut its.step its.call)))) → Leads s p w.out mid.out (λ q. q.cuts ≡ cs) → On
           → Leads s p w.out new.out (λ q. q.cuts ≡ cs ++ ends_cut life mid result new Rests on o ends)
@@ -50,8 +50,8 @@ module _ (s : Setting) where
       by_cut (Some its) (inr more) leads next =
           let end : Option CutAt = Some (record { step = its.step; call = its.call }) in
           let here : World = says mid (entry.Cut its.step its.call) in
-          leads_then s p w.out here.out new.out (IsIn (cs ++ end ∷ []) 0) (λ q. q.cuts ≡ cs ++ end ∷ on here more)
-          (leads_then s p w.out mid.out here.out (λ q. q.cuts ≡ cs) (IsIn (cs ++ end ∷ []) 0) leads
+          leads_then s p w.out here.out new.out (IsInStep (cs ++ end ∷ []) 0) (λ q. q.cuts ≡ cs ++ end ∷ on here more)
+          (leads_then s p w.out mid.out here.out (λ q. q.cuts ≡ cs) (IsInStep (cs ++ end ∷ []) 0) leads
           (λ q cuts. record { added = entry.Cut its.step its.call ∷ []; out = refl; to = record { cuts = ap (λ (xs : List (Option CutAt)). xs ++ end ∷ []) cuts; step = refl } }))
           (λ q there. leads_as s q here.out new.out (λ q. q.cuts ≡ (cs ++ end ∷ []) ++ on here more) (λ q. q.cuts ≡ cs ++ end ∷ on here more) (next here (cs ++ end ∷ []) q are.1 (longer cs end l count) there more)
           (λ q is. is ∙ append_assoc cs (end ∷ []) (on here more)))
@@ -59,7 +59,7 @@ module _ (s : Setting) where
       by_how : (how : Result (Unit {0}) Stop) (ends : EndsLife by_worlds life how mid result new Rests) → Leads s p w.out mid.out (After s life cs (ap (life_at s) count ∙ are.0) how) → On
           → Leads s p w.out new.out (λ q. q.cuts ≡ cs ++ ends_by life mid result new Rests on how ends)
       by_how (Ok done) ends leads next =
-          leads_then s p w.out mid.out new.out (IsIn (cs ++ None ∷ []) 0) (λ q. q.cuts ≡ cs ++ None ∷ on mid ends) leads
+          leads_then s p w.out mid.out new.out (IsInStep (cs ++ None ∷ []) 0) (λ q. q.cuts ≡ cs ++ None ∷ on mid ends) leads
           (λ q there. leads_as s q mid.out new.out (λ q. q.cuts ≡ (cs ++ None ∷ []) ++ on mid ends) (λ q. q.cuts ≡ cs ++ None ∷ on mid ends) (next mid (cs ++ None ∷ []) q are.1 (longer cs None l count) there ends)
           (λ q is. is ∙ append_assoc cs (None ∷ []) (on mid ends)))
       by_how (Err Cut) ends leads next = by_cut life.cut ends leads next

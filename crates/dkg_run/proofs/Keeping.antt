@@ -43,7 +43,7 @@ use Rattle.dkg_script.specs.Position.{IsLeft, IsPlanHistory, cut_of, unless_outd
 use Rattle.dkg_script.specs.Progress.{AtEachEntry, at_start, pair_of, progress, read}
 use Rattle.dkg_script.specs.Promise.{InACase, IsAnswered, IsComplete, IsHonestRun, RunsAll, cuts_in}
 use Rattle.dkg_script.specs.Setting.{CutAt, Setting, found, is_oneshot, life_at, listed, recovered_from, setting_of}
-use Rattle.dkg_script.proofs.Beginning.{gives_all, pair_of-listed}
+use Rattle.dkg_script.proofs.Listed.{gives_all, pair_of-listed}
 use Rattle.dkg_script.proofs.EachEntry.{EachAfter, at_each}
 use Rattle.dkg_core.specs.Agreeing.{BringsRecords}
 use Rattle.dkg_core.specs.Heard.{recovered_in}

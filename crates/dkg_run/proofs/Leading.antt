@@ -37,7 +37,7 @@ abbrev U : Type 0
 U = directory.Unit
 
 -- WHAT EITHER WAY TELLS: lines are those of the courses, and a cut is the fuse's
-pub record Tells {W : Type 0} (way : Way W) : Type 0 where
+pub record TellsLines {W : Type 0} (way : Way W) : Type 0 where
   pub out : W → List Entry
   pub said : (course : Course U NodeStop (Live U)) (ended : Ended NodeStop (Live U)) (f : Burn) (w new : W) → way.goes course ended f w new → Said (on_devices course) ended (out w) (out new)
   pub burns : (course : Course U NodeStop (Live U)) (f : Burn) (w new : W) → way.goes course (broken by_cut) f w new → 0 < f.call
@@ -45,7 +45,7 @@ pub record Tells {W : Type 0} (way : Way W) : Type 0 where
   pub stops : (w : W) (pick : ℕ) → out (way.stops w pick) ≡ out w
   pub refuses : (stop : Stop) (w new : W) → way.refuses stop w new → out new ≡ out w
 
-unfoldable pub lines_tell : Tells by_lines
+unfoldable pub lines_tell : TellsLines by_lines
 lines_tell = record {
   out = λ t. t.out;
   said = λ course ended f w new goes. goes.0;
@@ -55,7 +55,7 @@ lines_tell = record {
   refuses = λ stop w new refused. absurd refused;
 }
 
-unfoldable pub worlds_tell : Tells by_worlds
+unfoldable pub worlds_tell : TellsLines by_worlds
 worlds_tell = record {
   out = λ w. w.out;
   said = λ course ended f w new goes. runs_say (on_devices course) ended (record w { fuse = f }) new goes.0;
@@ -92,11 +92,11 @@ pub leads_as : (s : Setting) (p : Progress) (old new : List Entry) (P Q : Progre
 leads_as s p old new P Q a so = record { added = a.added; out = a.out; to = so (fold (read s) p a.added) a.to }
 
 -- so many lives ended so, and this step is in hand
-pub record IsIn (cs : List (Option CutAt)) (j : ℕ) (p : Progress) : Type 0 where
+pub record IsInStep (cs : List (Option CutAt)) (j : ℕ) (p : Progress) : Type 0 where
   pub cuts : p.cuts ≡ cs
   pub step : p.step ≡ j
 
-quiet_stays : (s : Setting) (cs : List (Option CutAt)) (j : ℕ) (lines : List Entry) (p : Progress) → AllByRecursion IsQuiet lines → IsIn cs j p → IsIn cs j (fold (read s) p lines)
+quiet_stays : (s : Setting) (cs : List (Option CutAt)) (j : ℕ) (lines : List Entry) (p : Progress) → AllByRecursion IsQuiet lines → IsInStep cs j p → IsInStep cs j (fold (read s) p lines)
 quiet_stays s cs j [] p quiet at = at
 quiet_stays s cs j (entry.Opened n restored ∷ lines) p quiet at = absurd quiet.0
 quiet_stays s cs j (entry.Cut step call ∷ lines) p quiet at = absurd quiet.0
@@ -104,11 +104,11 @@ quiet_stays s cs j (entry.Step step ∷ lines) p quiet at = absurd quiet.0
 quiet_stays s cs j (entry.Fault fault ∷ lines) p quiet at = absurd quiet.0
 quiet_stays s cs j (one ∷ lines) p quiet at = quiet_stays s cs j lines (read s p one) quiet.1 (record { cuts = at.cuts; step = at.step })
 
-quiet_leads : (s : Setting) (cs : List (Option CutAt)) (j : ℕ) (p : Progress) (old new : List Entry) → AddsQuiet old new → IsIn cs j p → Leads s p old new (IsIn cs j)
+quiet_leads : (s : Setting) (cs : List (Option CutAt)) (j : ℕ) (p : Progress) (old new : List Entry) → AddsQuiet old new → IsInStep cs j p → Leads s p old new (IsInStep cs j)
 quiet_leads s cs j p old new adds at = record { added = adds.added; out = adds.parts; to = quiet_stays s cs j adds.added p adds.quiet at }
 
-opening_leads : (s : Setting) (cs : List (Option CutAt)) (p : Progress) (l : ℕ) (old new : List Entry) → Opening l old new → IsIn cs 0 p → Leads s p old new (IsIn cs 0)
-opening_leads s cs p l old new (inl same) at = leads_none s p old new (IsIn cs 0) same at
+opening_leads : (s : Setting) (cs : List (Option CutAt)) (p : Progress) (l : ℕ) (old new : List Entry) → Opening l old new → IsInStep cs 0 p → Leads s p old new (IsInStep cs 0)
+opening_leads s cs p l old new (inl same) at = leads_none s p old new (IsInStep cs 0) same at
 opening_leads s cs p l old new (inr adds) at = record {
   added = entry.Opened l adds.restored ∷ adds.more;
   out = adds.parts;
@@ -119,15 +119,15 @@ opening_leads s cs p l old new (inr adds) at = record {
 
 module _ (s : Setting) (life : Life) (cs : List (Option CutAt)) (life_is : life_at s (length cs) ≡ Some life) where
   abbrev pub After : Result (Unit {0}) Stop → Progress → Type 0
-  After (Ok done) q = IsIn (cs ++ None ∷ []) 0 q
+  After (Ok done) q = IsInStep (cs ++ None ∷ []) 0 q
   After (Err stop) q = q.cuts ≡ cs
 
   -- before the first of these events, the first of which is step j, or behind the life
   abbrev Stands : ℕ → List Event → Progress → Type 0
-  Stands j [] p = IsIn (cs ++ None ∷ []) 0 p
-  Stands j (event ∷ events) p = IsIn cs j p
+  Stands j [] p = IsInStep (cs ++ None ∷ []) 0 p
+  Stands j (event ∷ events) p = IsInStep cs j p
 
-  module _ (j : ℕ) (q : Progress) (at : IsIn cs j q) where
+  module _ (j : ℕ) (q : Progress) (at : IsInStep cs j q) where
     last_is : is_last_step s q ≡ (j == length life.events)
     last_is = rw (at.cuts, life_is, at.step) refl
 
@@ -135,34 +135,34 @@ module _ (s : Setting) (life : Life) (cs : List (Option CutAt)) (life_is : life_
     Read last = cond last (with_life_ended q None) (record q { step = suc q.step; written = [] })
 
     behind : (events : List Event) → Rest life (j + 1) events → Stands (j + 1) events (read s q (entry.Step j))
-    behind [] rest = subst (λ (last : Bool). IsIn (cs ++ None ∷ []) 0 (Read last)) (sym (last_is ∙ eq-eqb j (length life.events) (omega (arith, rest))))
+    behind [] rest = subst (λ (last : Bool). IsInStep (cs ++ None ∷ []) 0 (Read last)) (sym (last_is ∙ eq-eqb j (length life.events) (omega (arith, rest))))
         (record { cuts = ap (λ (xs : List (Option CutAt)). xs ++ None ∷ []) at.cuts; step = refl })
-    behind (event ∷ events) rest = subst (λ (last : Bool). IsIn cs (j + 1) (Read last)) (sym (last_is ∙ differs (j == length life.events) refl))
+    behind (event ∷ events) rest = subst (λ (last : Bool). IsInStep cs (j + 1) (Read last)) (sym (last_is ∙ differs (j == length life.events) refl))
         (record { cuts = at.cuts; step = let is : q.step ≡ j = at.step in omega (arith, is) })
       where
         differs : (b : Bool) → (j == length life.events) ≡ b → b ≡ false
         differs false e = refl
         differs true e = let same : j ≡ length life.events = eqb-true j (length life.events) e in let low : j + 1 ≤ length life.events = rest.1 in absurd (omega (arith, same, low))
 
-  module _ {W : Type 0} (way : Way W) (tells : Tells way) where
+  module _ {W : Type 0} (way : Way W) (tells : TellsLines way) where
     steps_lead : (j : ℕ) (course : Course U NodeStop (Live U)) (events : List Event) → Rest life (j + 1) events
-        → ((q : Progress) (ended : Ended NodeStop (Live U)) (out now : List Entry) → IsIn cs j q → Said (on_devices course) ended out now → Leads s q out now (IsIn cs j))
+        → ((q : Progress) (ended : Ended NodeStop (Live U)) (out now : List Entry) → IsInStep cs j q → Said (on_devices course) ended out now → Leads s q out now (IsInStep cs j))
         → (o : Option Burn) (w : W) (how : Result (Unit {0}) Stop) (new : W) (next : Live U → W → Type 0)
         → ((end : Live U) (mid : W) (q : Progress) → Stands (j + 1) events q → next end mid → Leads s q (tells.out mid) (tells.out new) (After how))
-        → (p : Progress) → IsIn cs j p → Steps way (entry.Step j) o course w how new next → Leads s p (tells.out w) (tells.out new) (After how)
+        → (p : Progress) → IsInStep cs j p → Steps way (entry.Step j) o course w how new next → Leads s p (tells.out w) (tells.out new) (After how)
     steps_lead j course events rest leads None w how new next on p at its =
         subst (λ (r : Result (Unit {0}) Stop). Leads s p (tells.out w) (tells.out new) (After r)) (sym its.0) (leads_none s p (tells.out w) (tells.out new) (After (Err Cut)) (ap tells.out its.1) at.cuts)
     steps_lead j course events rest leads (Some f) w how new next on p at (inl wants) =
         subst (λ (r : Result (Unit {0}) Stop). Leads s p (tells.out w) (tells.out new) (After r)) (sym wants.0)
         (leads_none s p (tells.out w) (tells.out new) (After (Err (FaultOf NoMemory))) (ap tells.out wants.1) at.cuts)
     steps_lead j course events rest leads (Some f) w how new next on p at (inr (inl (stop, is, goes))) =
-        let a : Leads s p (tells.out w) (tells.out new) (IsIn cs j) = leads p (by_node_stop stop) (tells.out w) (tells.out new) at (tells.said course (by_node_stop stop) f w new goes) in
+        let a : Leads s p (tells.out w) (tells.out new) (IsInStep cs j) = leads p (by_node_stop stop) (tells.out w) (tells.out new) at (tells.said course (by_node_stop stop) f w new goes) in
         subst (λ (r : Result (Unit {0}) Stop). Leads s p (tells.out w) (tells.out new) (After r)) (sym is) (record { added = a.added; out = a.out; to = a.to.cuts })
     steps_lead j course events rest leads (Some f) w how new next on p at (inr (inr (end, mid, goes, inl wants))) =
-        let a : Leads s p (tells.out w) (tells.out mid) (IsIn cs j) = leads p (went end) (tells.out w) (tells.out mid) at (tells.said course (went end) f w mid goes) in
+        let a : Leads s p (tells.out w) (tells.out mid) (IsInStep cs j) = leads p (went end) (tells.out w) (tells.out mid) at (tells.said course (went end) f w mid goes) in
         subst (λ (r : Result (Unit {0}) Stop). Leads s p (tells.out w) (tells.out new) (After r)) (sym wants.0) (record { added = a.added; out = ap tells.out wants.1 ∙ a.out; to = a.to.cuts })
     steps_lead j course events rest leads (Some f) w how new next on p at (inr (inr (end, mid, goes, inr so))) =
-        leads_then s p (tells.out w) (tells.out mid) (tells.out new) (IsIn cs j) (After how) (leads p (went end) (tells.out w) (tells.out mid) at (tells.said course (went end) f w mid goes))
+        leads_then s p (tells.out w) (tells.out mid) (tells.out new) (IsInStep cs j) (After how) (leads p (went end) (tells.out w) (tells.out mid) at (tells.said course (went end) f w mid goes))
         (λ q here. leads_then s q (tells.out mid) (tells.out (way.says mid (entry.Step j))) (tells.out new) (Stands (j + 1) events) (After how)
         (record { added = entry.Step j ∷ []; out = tells.says mid (entry.Step j); to = behind j q here events rest })
         (λ r there. on end (way.says mid (entry.Step j)) r there so))
@@ -178,7 +178,7 @@ module _ (s : Setting) (life : Life) (cs : List (Option CutAt)) (life_is : life_
           (fuse_for g.life.cut j) w how new (λ end mid. TakesAll way g (j + 1) events end mid how new)
           (λ end mid q there so. events_lead events (j + 1) end mid how new q rest.2 there so) p stands takes
 
-      pub life_leads : (files : Files) (w : W) (how : Result (Unit {0}) Stop) (new : W) (p : Progress) → IsIn cs 0 p → LivesSo way g files w how new → Leads s p (tells.out w) (tells.out new) (After how)
+      pub life_leads : (files : Files) (w : W) (how : Result (Unit {0}) Stop) (new : W) (p : Progress) → IsInStep cs 0 p → LivesSo way g files w how new → Leads s p (tells.out w) (tells.out new) (After how)
       life_leads files w how new p at (inl steps) =
           steps_lead 0 (node_opening (at_step g 0)) g.life.events (subst (λ (its : Life). Rest its 1 g.life.events) same (all_rest g.life))
           (λ q ended out now at said. opening_leads s cs q g.number out now (opening_added g.number out now ended (opened_in g ended out now said)) at)

@@ -26,7 +26,7 @@ use Rattle.dkg_script.specs.Kept.{Gives}
 use Rattle.dkg_script.specs.OwnMarks.{AreKnownHandedIn, IsOwnMarkKnown}
 use Rattle.dkg_script.specs.Progress.{pair_of}
 use Rattle.dkg_script.specs.Setting.{Setting, me, listed, recovered_from}
-use Rattle.dkg_script.proofs.Beginning.{each_found, gives_all}
+use Rattle.dkg_script.proofs.Listed.{each_found, gives_all}
 use Rattle.dkg_run.proofs.Recorded.{found_is}
 
 -- WHAT HOLDS OF EACH RECORD holds of each that is found

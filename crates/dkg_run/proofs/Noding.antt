@@ -47,7 +47,7 @@ use Rattle.dkg_reshare.specs.declared.actor.State.TheVariants.{New, Living, Fail
 use Rattle.dkg_reshare.specs.declared.life.Life as reshare
 use Rattle.dkg_reshare.specs.declared.stop.Stop.{Stop}
 use Rattle.dkg_run.specs.Ended.{by_node_stop, ends_node}
-use Rattle.dkg_run.specs.Epochs.{IsEarly, IsEarlyEvent, MayStep}
+use Rattle.dkg_run.specs.Epochs.{IsEarlyBlock, IsEarlyEvent, MayStep}
 use Rattle.dkg_run.specs.Given.{IsUnplanned, Lived, at_step, blocks_in, step_of}
 use Rattle.dkg_run.specs.Lives.{never}
 use Rattle.dkg_run.specs.Nodes.{HasHalf, IsBelow, IsEventHere, IsEventOfBlocks, IsOfLife, IsReadyNode, IsView, Viewed}
@@ -404,7 +404,7 @@ module _ (before n : Node) (half : n.half ≡ before.half) (g : Lived) (number :
           (given_as b its same) e.so)
 
       -- A block that was taken lies below the last one of the epoch that was entered.
-      pub below_said : (b its : Block directory.Unit) → its ≡ b → IsEarly given_at.blocks_per_epoch st b → (P : reshare.Life directory.Unit → Type 0) → EndsAt n.actor.state (Ok tt) P
+      pub below_said : (b its : Block directory.Unit) → its ≡ b → IsEarlyBlock given_at.blocks_per_epoch st b → (P : reshare.Life directory.Unit → Type 0) → EndsAt n.actor.state (Ok tt) P
           → Promises Took (Told (Finalized its) (Ok tt)) → IsBelow given_at.blocks_per_epoch n.half b.height
       below_said b its same early P ends said = in_state n.actor.state refl ends (behind of may Took (Told (Finalized its) (Ok tt)) said)
         where
@@ -504,8 +504,8 @@ module _ (node : Node) (result : Result (Unit {0}) Stop) (g : Lived) (number n :
 
 -- the block that an event delivers is early where the event's is
 pub block_early : (g : Lived) (number n : ℕ) (st : Live directory.Unit) (b : Block directory.Unit) → slice_get (blocks_in g.script) n ≡ Some b
-    → IsEarlyEvent (at_step g number).blocks_per_epoch (blocks_in g.script) st (event.Final n) → IsEarly (at_step g number).blocks_per_epoch st b
-block_early g number n st b is = subst (λ (o : Option (Block directory.Unit)). IfSome o (IsEarly (at_step g number).blocks_per_epoch st)) is
+    → IsEarlyEvent (at_step g number).blocks_per_epoch (blocks_in g.script) st (event.Final n) → IsEarlyBlock (at_step g number).blocks_per_epoch st b
+block_early g number n st b is = subst (λ (o : Option (Block directory.Unit)). IfSome o (IsEarlyBlock (at_step g number).blocks_per_epoch st)) is
 
 -- .. and is taken where the event's is
 pub block_taken : (blocks : ℕ) (state : State directory.Unit) (all : List (Block directory.Unit)) (n : ℕ) (b : Block directory.Unit) → slice_get all n ≡ Some b → IsEventOfBlocks blocks all state (event.Final n)

@@ -30,7 +30,7 @@ use Rattle.dkg_secrets.specs.Keys.{key_cmp}
 use Rattle.dkg_secrets.proofs.Map.{keys_total}
 use Rattle.dkg_store.specs.Acts.{Held}
 use Rattle.dkg_store.specs.Recorded.{Pair, first_refused, refused_or}
-use Rattle.dkg_script.proofs.Beginning.{each_found}
+use Rattle.dkg_script.proofs.Listed.{each_found}
 use Rattle.dkg_core.specs.Forms.{IsSetupFault}
 use Rattle.dkg_core.specs.Heard.{recovered_in}
 use Rattle.dkg_core.specs.Live.{Live}

@@ -19,7 +19,7 @@ use Rattle.dkg_run.specs.Epochs.{refused_config}
 use Rattle.dkg_run.specs.Outside.{TookAll, TookMore}
 use Rattle.dkg_run.specs.Over.{Over}
 use Rattle.dkg_run.specs.Promised.{DoesRun, Promised, RunsLives, SaysRun}
-use Rattle.dkg_run.specs.Reports.{Blamed, Ran, RanNothing, Reads, Runs, fault_status, last_of}
+use Rattle.dkg_run.specs.Reports.{Blamed, Ran, RanNothing, WasRead, RanByStatus, fault_status, last_of}
 use Rattle.dkg_run.specs.declared.command.Status.{Status}
 use Rattle.dkg_run.specs.declared.command.Status.TheVariants as status
 use Rattle.dkg_run.proofs.Checked.{refused_so}
@@ -30,7 +30,7 @@ pub from_place : (old new added : List Entry) (place : ℕ) → place ≡ length
 from_place old new added place at is = rw (at, is) (drop-append_seam old added)
 
 -- what was read, by the source before it was given back the bytes
-pub reads : (Tells : Type 0) (old mid new bytes : List ℕ) (HasBack : List ℕ → Type 0) → new ≡ mid → (Tells → TookAll bytes old mid) → length bytes ≤ 16777216 → HasBack bytes → Reads Tells old new HasBack bytes
+pub reads : (Tells : Type 0) (old mid new bytes : List ℕ) (HasBack : List ℕ → Type 0) → new ≡ mid → (Tells → TookAll bytes old mid) → length bytes ≤ 16777216 → HasBack bytes → WasRead Tells old new HasBack bytes
 reads Tells old mid new bytes HasBack same all short back = record { all = λ tells. subst (λ (left : List ℕ). TookAll bytes old left) (sym same) (all tells); not_too_long = short; back = back }
 
 -- WHAT RUNNING THE LIVES PROMISES, of the entries that were added
@@ -59,10 +59,10 @@ ended_so script its entries disk_rose secrets_rose ends = by_config (refused_con
     by_config (Some why) refused (inr wants) = inr (inl (same_fault wants.0))
     by_config (Some why) refused (inl told) = inl (refused_so script why refused (λ (x : Fault). its ≡ x → (cause : ConfigCause) × (its ≡ InvalidConfig cause)) (λ cause is. (cause, is)) (same_fault told.0))
 
-pub runs_faulted : (Gave : List ℕ → Type 0) (o : Over) (out entries : List Entry) (its : Fault) → Ran Gave o out (Err its) entries → Runs Gave o out (fault_status its) entries
+pub runs_faulted : (Gave : List ℕ → Type 0) (o : Over) (out entries : List Entry) (its : Fault) → Ran Gave o out (Err its) entries → RanByStatus Gave o out (fault_status its) entries
 runs_faulted Gave o out entries its ran = by_its its ran (ended_so ran.script its entries o.disk_rose o.secrets_rose ran.lives.promise.ends)
   where
-    by_its : (its : Fault) → Ran Gave o out (Err its) entries → EndedSo its entries o.disk_rose o.secrets_rose → Runs Gave o out (fault_status its) entries
+    by_its : (its : Fault) → Ran Gave o out (Err its) entries → EndedSo its entries o.disk_rose o.secrets_rose → RanByStatus Gave o out (fault_status its) entries
     by_its NoMemory ran ended = inr ran
     by_its Disk ran ended = inl ran
     by_its Secrets ran ended = inr ran
@@ -82,19 +82,19 @@ status_told ended result its text Tells old new is not_write not_memory (inr (in
 
 -- a source that failed or has too much: there is nothing to write
 pub is_silent : (Gave : List ℕ → Type 0) (o : Over) (out entries : List Entry) (ended result : Status) (text : List ℕ) (Tells : Type 0) (old new : List ℕ)
-    → (result ≡ status.ReadFault) ⊎ (result ≡ status.TooLong) → IsTold ended result text Tells old new → Runs Gave o out ended entries → lines_of entries ++ last_of ended ≡ []
+    → (result ≡ status.ReadFault) ⊎ (result ≡ status.TooLong) → IsTold ended result text Tells old new → RanByStatus Gave o out ended entries → lines_of entries ++ last_of ended ≡ []
 is_silent Gave o out entries ended result text Tells old new (inl is) told runs =
     let its : ended ≡ status.ReadFault = status_told ended result status.ReadFault text Tells old new is (λ e. cc) (λ e. cc) told in
-    let nothing : RanNothing o entries = subst (λ (x : Status). Runs Gave o out x entries) its runs in
+    let nothing : RanNothing o entries = subst (λ (x : Status). RanByStatus Gave o out x entries) its runs in
     rw (its, nothing.no_entry) refl
 is_silent Gave o out entries ended result text Tells old new (inr is) told runs =
     let its : ended ≡ status.TooLong = status_told ended result status.TooLong text Tells old new is (λ e. cc) (λ e. cc) told in
-    let nothing : RanNothing o entries = subst (λ (x : Status). Runs Gave o out x entries) its runs in
+    let nothing : RanNothing o entries = subst (λ (x : Status). RanByStatus Gave o out x entries) its runs in
     rw (its, nothing.no_entry) refl
 
 -- what is answered as a device's failure ended the run so, and the device's count rose
-pub device_rose : (Gave : List ℕ → Type 0) (o : Over) (out entries : List Entry) (ended : Status) → ended ≡ status.Device → Runs Gave o out ended entries → o.disk_rose ⊎ o.secrets_rose
-device_rose Gave o out entries ended is runs = rose (subst (λ (x : Status). Runs Gave o out x entries) is runs)
+pub device_rose : (Gave : List ℕ → Type 0) (o : Over) (out entries : List Entry) (ended : Status) → ended ≡ status.Device → RanByStatus Gave o out ended entries → o.disk_rose ⊎ o.secrets_rose
+device_rose Gave o out entries ended is runs = rose (subst (λ (x : Status). RanByStatus Gave o out x entries) is runs)
   where
     rose : Ran Gave o out (Err Disk) entries ⊎ Ran Gave o out (Err Secrets) entries → o.disk_rose ⊎ o.secrets_rose
     rose (inl ran) = inl (by_disk (ended_so ran.script Disk entries o.disk_rose o.secrets_rose ran.lives.promise.ends))
@@ -160,7 +160,7 @@ module _ (Gave : List ℕ → Type 0) (o : Over) (out entries : List Entry) (scr
         no_secrets_rose = sound.no_secrets_rose;
       })
 
-  by_status : (ended : Status) → Runs Gave o out ended entries → (ended ≡ status.ReadFault → ⊥) → (ended ≡ status.TooLong → ⊥) → (ended ≡ status.Done) ⊎ (ended ≡ status.NoMemory)
+  by_status : (ended : Status) → RanByStatus Gave o out ended entries → (ended ≡ status.ReadFault → ⊥) → (ended ≡ status.TooLong → ⊥) → (ended ≡ status.Done) ⊎ (ended ≡ status.NoMemory)
   by_status status.Done runs not_failed not_long = inl refl
   by_status status.NoMemory runs not_failed not_long = inr refl
   by_status status.Usage runs not_failed not_long = absurd runs
@@ -179,7 +179,7 @@ module _ (Gave : List ℕ → Type 0) (o : Over) (out entries : List Entry) (scr
       by_device (inr ran) = let wrong : Secrets ≡ NoMemory = only_memory Secrets ran in cc
 
   -- Where the source gave the text of a script of which a sound run is due, and no outside failed, every life was run, or memory ran out.
-  pub done_or_memory : (ended result : Status) (text : List ℕ) (Tells : Type 0) (old new : List ℕ) → Runs Gave o out ended entries → IsTold ended result text Tells old new
+  pub done_or_memory : (ended result : Status) (text : List ℕ) (Tells : Type 0) (old new : List ℕ) → RanByStatus Gave o out ended entries → IsTold ended result text Tells old new
       → (result ≡ status.ReadFault → ⊥) → (result ≡ status.TooLong → ⊥) → (result ≡ status.WriteFault → ⊥) → (result ≡ status.Done) ⊎ (result ≡ status.NoMemory)
   done_or_memory ended result text Tells old new runs (inl told) not_failed not_long not_write =
       let by : (ended ≡ status.Done) ⊎ (ended ≡ status.NoMemory) = by_status ended runs (λ e. not_failed (told.0 ∙ e)) (λ e. not_long (told.0 ∙ e)) in rw told.0 by

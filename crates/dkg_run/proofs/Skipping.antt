@@ -33,7 +33,7 @@ use Rattle.dkg_run.specs.Lives.{AnyFiles, RunsSo, TellsEnd}
 use Rattle.dkg_run.specs.Refusals.{BlamesOnlySkips, IsNoFirst, IsRefusal, Skips, SkipsIn, SkipsNow}
 use Rattle.dkg_run.specs.Ways.{by_lines, trace}
 use Rattle.dkg_run.proofs.Awaiting.{IsReached}
-use Rattle.dkg_run.proofs.Blaming.{Judges, Tells, all_judged}
+use Rattle.dkg_run.proofs.Blaming.{Judges, TellsWhy, all_judged}
 use Rattle.dkg_run.proofs.Chaining.{IsOutside, IsSkipped, Tips, refused_so, tips_so}
 use Rattle.dkg_run.proofs.Checked.{anchor_above}
 use Rattle.dkg_run.proofs.EachLife.{lives_over}
@@ -196,7 +196,7 @@ module _ (script : Script) (form : IsFormOfEpochs script) (checked : IsChecked s
   run_skips run = by_result run.result (all_judged cut_script checked (lives_over cut_script cut_form checked) AnyFiles (trace old []) run.mid run.result run.lives) (all_in_order cut_script AnyFiles (trace old []) run.mid run.result run.lives) answered run.told
     where
       -- where the fault is told
-      told_here : (its : Fault) → (judged : Moves (Judges cut_script) (IsBetweenOf cut_script 0) (Tells cut_script its) old run.mid.out) → Moves IsInOrder (IsBetweenOf cut_script 0) (MayTell its) old run.mid.out → new ≡ run.mid.out ++ entry.Fault its ∷ []
+      told_here : (its : Fault) → (judged : Moves (Judges cut_script) (IsBetweenOf cut_script 0) (TellsWhy cut_script its) old run.mid.out) → Moves IsInOrder (IsBetweenOf cut_script 0) (MayTell its) old run.mid.out → new ≡ run.mid.out ++ entry.Fault its ∷ []
           → BlamesOnlySkips s image (cuts_in s added) its
       told_here its judged ordered told built honest refusal = by_life (life_at s (length p.cuts)) refl where_told placed
         where
@@ -243,7 +243,7 @@ module _ (script : Script) (form : IsFormOfEpochs script) (checked : IsChecked s
                 skips = subst (λ (l : ℕ). SkipsIn s l life its) same skips;
               }
 
-      by_result : (result : Result (Unit {0}) Fault) → Moves (Judges cut_script) (IsBetweenOf cut_script 0) (RunEndsBy (Tells cut_script) cut_script result) old run.mid.out → Moves IsInOrder (IsBetweenOf cut_script 0) (RunEndsBy MayTell cut_script result) old run.mid.out
+      by_result : (result : Result (Unit {0}) Fault) → Moves (Judges cut_script) (IsBetweenOf cut_script 0) (RunEndsBy (TellsWhy cut_script) cut_script result) old run.mid.out → Moves IsInOrder (IsBetweenOf cut_script 0) (RunEndsBy MayTell cut_script result) old run.mid.out
           → (answered : Result (Unit {0}) Fault) → TellsEnd by_lines result answered run.mid (trace new picks) → IfErr answered (BlamesOnlySkips s image (cuts_in s added))
       by_result (Ok done) judged ordered answered told = subst (λ (r : Result (Unit {0}) Fault). IfErr r (BlamesOnlySkips s image (cuts_in s added))) (sym told.0) tt
       by_result (Err its) judged ordered (Ok done) told = tt

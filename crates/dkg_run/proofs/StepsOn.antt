@@ -23,7 +23,7 @@ use Rattle.dkg_reshare.specs.declared.life.Stage.{Stage}
 use Rattle.dkg_reshare.specs.declared.life.Stage.TheVariants as stage
 use Rattle.dkg_reshare.specs.declared.stop.Stop.{Stop}
 use Rattle.dkg_reshare.proofs.Standing.{its_epoch}
-use Rattle.dkg_run.specs.Epochs.{IsAt, IsEarly, IsEarlyEvent, IsLifeInForm, MayStep}
+use Rattle.dkg_run.specs.Epochs.{IsAt, IsEarlyBlock, IsEarlyEvent, IsLifeInForm, MayStep}
 use Rattle.dkg_run.specs.Given.{Lived, at_step, blocks_in, step_of}
 use Rattle.dkg_run.specs.Lives.{Steps, fuse_for}
 use Rattle.dkg_run.specs.Nodes.{IsEventOfBlocks, IsView}
@@ -72,10 +72,10 @@ module _ (g : Lived) (here : IsLifeInForm g) (i : ℕ) (its : Event) (life : Lif
     m : IsMessage g its
     m = message_in g its (event_in_form g here i its is)
 
-    early_at : (number : ℕ) (b : Block directory.Unit) → its ≡ event.Final number → slice_get (blocks_in g.script) number ≡ Some b → IsEarly (blocks_per_epoch (alone g.script)) st b
+    early_at : (number : ℕ) (b : Block directory.Unit) → its ≡ event.Final number → slice_get (blocks_in g.script) number ≡ Some b → IsEarlyBlock (blocks_per_epoch (alone g.script)) st b
     early_at number b brings there =
         let made = made_there g.script number b there in
-        subst (IsEarly (blocks_per_epoch (alone g.script)) st) made.1
+        subst (IsEarlyBlock (blocks_per_epoch (alone g.script)) st) made.1
         (block_early g here i its is reached m st (live_at g i (suc i) st at.at.live) at.at.stands number made.0 (is ∙ ap (λ (e : Event). Some e) brings))
 
     -- a block that it brings is early
@@ -85,7 +85,7 @@ module _ (g : Lived) (here : IsLifeInForm g) (i : ℕ) (its : Event) (life : Lif
         by_event : (e : Event) → its ≡ e → IsEarlyEvent (blocks_per_epoch (alone g.script)) (blocks_in g.script) st e
         by_event (event.Final number) brings = by_block (slice_get (blocks_in g.script) number) refl
           where
-            by_block : (o : Option (Block directory.Unit)) → slice_get (blocks_in g.script) number ≡ o → IfSome o (IsEarly (blocks_per_epoch (alone g.script)) st)
+            by_block : (o : Option (Block directory.Unit)) → slice_get (blocks_in g.script) number ≡ o → IfSome o (IsEarlyBlock (blocks_per_epoch (alone g.script)) st)
             by_block None none = tt
             by_block (Some b) there = early_at number b brings there
         by_event other brings = tt
@@ -107,7 +107,7 @@ module _ (g : Lived) (here : IsLifeInForm g) (i : ℕ) (its : Event) (life : Lif
       awaits_is : awaited_height st ≡ awaited_of its_life
       awaits_is = ap (λ (s : Live directory.Unit). awaited_height s) at.view.is
 
-      takes_early : (b : Block directory.Unit) → IsEarly per_epoch st b → TakesBlock per_epoch its_life b
+      takes_early : (b : Block directory.Unit) → IsEarlyBlock per_epoch st b → TakesBlock per_epoch its_life b
       takes_early b early applied = by_stage its_life.stage refl
         where
           low : (its_life.stage ≡ stage.Following → ⊥) → (st.participation.stage ≡ Follows → ⊥) → b.height < midpoint per_epoch (epoch_of per_epoch b.height)
@@ -130,7 +130,7 @@ module _ (g : Lived) (here : IsLifeInForm g) (i : ℕ) (its : Event) (life : Lif
               includes_apart : ◌≡◌ {A = core.Stage} Includes Follows → ⊥
               includes_apart e = cc
 
-      taken_by : (b : Block directory.Unit) → IsEarly per_epoch st b → IfLiving node.actor.state (λ life. TakesBlock per_epoch life b)
+      taken_by : (b : Block directory.Unit) → IsEarlyBlock per_epoch st b → IfLiving node.actor.state (λ life. TakesBlock per_epoch life b)
       taken_by b early = let P : State directory.Unit → Type 0 = λ s. IfLiving s (λ life. TakesBlock per_epoch life b) in subst P (sym at.view.lives) (takes_early b early)
 
       pub taken_event : IsEventOfBlocks per_epoch blocks node.actor.state its
@@ -142,7 +142,7 @@ module _ (g : Lived) (here : IsLifeInForm g) (i : ℕ) (its : Event) (life : Lif
               let made = made_of g.script number form in
               subst (λ (o : Option (Block directory.Unit)). IsSomeAnd o (λ b. IfLiving node.actor.state (λ life. TakesBlock per_epoch life b)))
               (sym (ap (λ (bs : List (Block directory.Unit)). slice_get bs number) blocks_are ∙ made.is))
-              (taken_by made.block (subst (λ (n : ℕ). IsEarly n st made.block) (sym length_is) (early_at number made.block brings made.is)))
+              (taken_by made.block (subst (λ (n : ℕ). IsEarlyBlock n st made.block) (sym length_is) (early_at number made.block brings made.is)))
           by_event other brings form = absurd form
 
   -- BEHIND A STEP that was answered Ok stands the next state

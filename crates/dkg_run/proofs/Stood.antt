@@ -23,7 +23,7 @@ use Rattle.dkg_core.specs.Sources.{Tip, startup}
 use Rattle.dkg_core.specs.Stepping.{IsBlockEnd, IsNextIn, IsStepEnd, TakesNothingOver}
 use Rattle.dkg_core.specs.Endings.{first_block, tip_behind}
 use Rattle.dkg_core.proofs.Heights.{epoch_from, epoch_is, epoch_to, next_last}
-use Rattle.dkg_run.specs.Epochs.{IsEarly, IsLifeInForm, Stands, awaited_by, epoch_by}
+use Rattle.dkg_run.specs.Epochs.{IsEarlyBlock, IsLifeInForm, StandsInScript, awaited_by, epoch_by}
 use Rattle.dkg_run.specs.Given.{Lived, at_step}
 use Rattle.dkg_run.proofs.Awaiting.{HasHeight, IsReached, awaited, block_awaits, block_behind, has_height, message_behind}
 use Rattle.dkg_run.proofs.Delivered.{enters_here, enters_not, epochs_rise, first_not, starts}
@@ -150,7 +150,7 @@ module _ (g : Lived) (here : IsLifeInForm g) where
         by_info None none = absurd none
         by_info (Some info) seated = with_round (at_step g 0) st seated.round begun.live (ap (λ p. p.round) same_participation ∙ seated.in_round)
 
-    by_first : (o : Option (made.Block directory.Unit)) → first_block (at_step g 0) ≡ o → IsSetUpIn (at_step g 0) seen k begun.before o → Stands g 0 st
+    by_first : (o : Option (made.Block directory.Unit)) → first_block (at_step g 0) ≡ o → IsSetUpIn (at_step g 0) seen k begun.before o → StandsInScript g 0 st
     by_first None is set_up =
         let follows_it : st.participation.stage ≡ Follows = (begun.live.without (ap (λ p. p.round) same_participation ∙ set_up.0)).0 in
         let first : st.participation.epoch ≡ epoch_by g 0 = ap (λ p. p.epoch) same_participation ∙ set_up.1 ∙ first_epoch_is g here 0 in
@@ -186,12 +186,12 @@ module _ (g : Lived) (here : IsLifeInForm g) where
         no_more : (a b : ℕ) → a ≡ b → a ≤ b
         no_more a b same = omega (arith, same)
 
-    pub begun_stands : Stands g 0 st
+    pub begun_stands : StandsInScript g 0 st
     begun_stands = by_first (first_block (at_step g 0)) refl (begun.opened).set_up
 
   -- A STEP
 
-  module _ (i : ℕ) (its : Event) (is : slice_get g.life.events i ≡ Some its) (reached : IsReached g.life.cut (suc i)) (m : IsMessage g its) (st : Live directory.Unit) (live : IsLiveIn (at_step g (suc i)) st) (stands : Stands g i st) where
+  module _ (i : ℕ) (its : Event) (is : slice_get g.life.events i ≡ Some its) (reached : IsReached g.life.cut (suc i)) (m : IsMessage g its) (st : Live directory.Unit) (live : IsLiveIn (at_step g (suc i)) st) (stands : StandsInScript g i st) where
     stage_epoch : epoch_of (at_step g (suc i)).blocks_per_epoch (core.awaited_height st) ≡ epoch_by g i
     unfolding at_step
     stage_epoch = ap (epoch_of n) stands.awaits
@@ -220,11 +220,11 @@ module _ (g : Lived) (here : IsLifeInForm g) where
               absurd (bools_apart (follows s g.number g.life (epoch_by g i)) (ap (follows s g.number g.life) (sym there) ∙ yes) (stands.parts apart))
 
       -- a block of the epoch that is awaited lies below that epoch's midpoint, while the life takes part
-      pub block_early : slice_get g.life.events i ≡ Some (Final number) → IsEarly n st made_it.block
+      pub block_early : slice_get g.life.events i ≡ Some (Final number) → IsEarlyBlock n st made_it.block
       unfolding at_step
       block_early at apart same = low at apart (same ∙ stage_epoch)
 
-      early : slice_get g.life.events i ≡ Some (Final number) → IsEarly (at_step g (suc i)).blocks_per_epoch st made_it.block
+      early : slice_get g.life.events i ≡ Some (Final number) → IsEarlyBlock (at_step g (suc i)).blocks_per_epoch st made_it.block
       unfolding at_step
       early at = λ apart same. low at apart (same ∙ stage_epoch)
 
@@ -365,7 +365,7 @@ module _ (g : Lived) (here : IsLifeInForm g) where
                 by_judged Applied e = by_last e (is_last_height (at_step g (suc i)) (brings.0).block.height) refl
             by_event other at message brings same = absurd brings
 
-        on_stands : Stands g (suc i) end
+        on_stands : StandsInScript g (suc i) end
         on_stands = record {
           awaits = end_awaits;
           blind = followed_on;
@@ -393,7 +393,7 @@ module _ (g : Lived) (here : IsLifeInForm g) where
                 (subst (λ (b : made.Block directory.Unit). is_last_height (at_step g (suc i)) b.height ≡ true) block_is over.last)
             by_event other at message brings same = absurd brings
 
-        over_stands : Stands g (suc i) end
+        over_stands : StandsInScript g (suc i) end
         over_stands =
             let epoch : end.participation.epoch ≡ epoch_by g (suc i) = next.live.awaits apart ∙ end_epoch in
             record {
@@ -407,9 +407,9 @@ module _ (g : Lived) (here : IsLifeInForm g) where
             no_more : (a b : ℕ) → a ≡ b → a ≤ b
             no_more a b same = omega (arith, same)
 
-      pub step_stands : Stands g (suc i) end
+      pub step_stands : StandsInScript g (suc i) end
       step_stands = either (next_so (at_step g (suc i)) st m.message h k end live next)
         where
-          either : GoesOn (at_step g (suc i)) st m.message end ⊎ TakesOver (at_step g (suc i)) st m.message h k end → Stands g (suc i) end
+          either : GoesOn (at_step g (suc i)) st m.message end ⊎ TakesOver (at_step g (suc i)) st m.message h k end → StandsInScript g (suc i) end
           either (inl goes) = on_stands goes
           either (inr over) = over_stands over

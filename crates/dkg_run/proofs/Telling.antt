@@ -34,7 +34,7 @@ use Rattle.dkg_run.specs.Epochs.{IsChecked, IsLifeInForm}
 use Rattle.dkg_run.specs.Given.{blocks_in, lived}
 use Rattle.dkg_run.specs.Lives.{RunsSo, TellsEnd}
 use Rattle.dkg_run.specs.Ways.{ReadsSomething, Trace, by_lines}
-use Rattle.dkg_run.proofs.Blaming.{Judges, Tells, all_judged}
+use Rattle.dkg_run.proofs.Blaming.{Judges, TellsWhy, all_judged}
 use Rattle.dkg_run.proofs.Following.{RunEndsBy}
 use Rattle.dkg_run.proofs.Ordered.{tells_fault}
 use Rattle.dkg_run.proofs.Runs.{starts}
@@ -167,12 +167,12 @@ module _ (script : Script) (checked : IsChecked script) (each_over : (l : ℕ) (
       not_ok its (inr told) = let wrong : ◌≡◌ {A = Result (Unit {0}) Fault} (Ok tt) (Err its) = told.0 in cc
 
       -- of the setting over no devices
-      tellable : (its : Fault) → Moves (Judges script) (IsBetweenOf script 0) (Tells script its) t.out run.mid.out → (files : Files) (held : store.Secrets) → IsTellable its
+      tellable : (its : Fault) → Moves (Judges script) (IsBetweenOf script 0) (TellsWhy script its) t.out run.mid.out → (files : Files) (held : store.Secrets) → IsTellable its
       tellable its moves files held =
           let s = setting_of script files held in
           now_tellable script (fold (read s) (at_start s) moves.added) its (moves.to s (at_start s) (starts script files held))
 
-      faulted : (its answered : Fault) → Moves (Judges script) (IsBetweenOf script 0) (Tells script its) t.out run.mid.out → HasCause answered disk_rose secrets_rose
+      faulted : (its answered : Fault) → Moves (Judges script) (IsBetweenOf script 0) (TellsWhy script its) t.out run.mid.out → HasCause answered disk_rose secrets_rose
           → TellsFault its answered run.mid.out new.out → Adds t.out new.out (λ added. EndsFaulted answered added disk_rose secrets_rose)
       faulted its answered moves cause (inl none) =
           (moves.added, none.1 ∙ moves.parts, subst (λ (x : Fault). EndsFaulted x moves.added disk_rose secrets_rose) (sym none.0) moves.no_fault)
@@ -184,7 +184,7 @@ module _ (script : Script) (checked : IsChecked script) (each_over : (l : ℕ) (
             (has_risen its disk_rose secrets_rose told.1 (tellable its moves empty (record { shares = empty; seeds = empty; privates = empty })) (subst (λ (x : Fault). HasCause x disk_rose secrets_rose) told.0 cause))),
       )
 
-      by_result : (result : Result (Unit {0}) Fault) → Moves (Judges script) (IsBetweenOf script 0) (RunEndsBy (Tells script) script result) t.out run.mid.out
+      by_result : (result : Result (Unit {0}) Fault) → Moves (Judges script) (IsBetweenOf script 0) (RunEndsBy (TellsWhy script) script result) t.out run.mid.out
           → (answered : Result (Unit {0}) Fault) → IfErr answered (λ its. HasCause its disk_rose secrets_rose) → TellsEnd by_lines result answered run.mid new
           → Adds t.out new.out (λ added. EndsRun answered added disk_rose secrets_rose)
       by_result (Ok done) moves answered causes told =

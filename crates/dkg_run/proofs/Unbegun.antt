@@ -26,7 +26,7 @@ use Rattle.dkg_script.specs.Progress.{at_start, progress}
 use Rattle.dkg_script.specs.Promise.{AreHonestStores, KeepsDealings, cuts_in}
 use Rattle.dkg_script.specs.SameOffers.{SameOffers}
 use Rattle.dkg_script.specs.Setting.{Setting, listed, recovered_from}
-use Rattle.dkg_script.proofs.Beginning.{gives_all}
+use Rattle.dkg_script.proofs.Listed.{gives_all}
 use Rattle.dkg_script.proofs.EachEntry.{EachAfter, at_each}
 use Rattle.dkg_run.specs.Complete.{IsSoundRun, IsValidAsCut}
 use Rattle.dkg_script.specs.Ends.{EndsScript}

@@ -49,7 +49,7 @@ epoch_by g j = awaited_epoch (alone g.script) g.number g.life j
 
 -- Behind the first j events it awaits the height that is said, and it follows where it is said to follow the epoch of that height; else it takes part in that epoch. The epoch that it
 -- was set up for is no later one.
-pub record Stands (g : Lived) (j : ℕ) (st : Live directory.Unit) : Type 0 where
+pub record StandsInScript (g : Lived) (j : ℕ) (st : Live directory.Unit) : Type 0 where
   pub awaits : core.awaited_height st ≡ awaited_by g j
   pub blind : st.participation.stage ≡ Follows → follows (alone g.script) g.number g.life (epoch_by g j) ≡ true
   pub parts : (st.participation.stage ≡ Follows → ⊥) → follows (alone g.script) g.number g.life (epoch_by g j) ≡ false
@@ -60,7 +60,7 @@ pub record Stands (g : Lived) (j : ℕ) (st : Live directory.Unit) : Type 0 wher
 pub record IsAt (g : Lived) (j : ℕ) (st : Live directory.Unit) : Type 0 where
   pub live : IsLiveIn (at_step g j) st
   pub active : IsActiveIn st
-  pub stands : Stands g j st
+  pub stands : StandsInScript g j st
 
 -- what a script's configuration is refused for, before its first life
 abbrev pub refused_config : Script → Option Fault
@@ -80,10 +80,10 @@ pub record MayStep (g : Lived) (number : ℕ) (st : Live directory.Unit) : Type 
   pub active : IsActiveIn st
 
 -- A block of the epoch that is awaited lies below that epoch's midpoint, unless the life follows.
-abbrev pub IsEarly : (per_epoch : ℕ) → Live directory.Unit → Block directory.Unit → Type 0
-IsEarly per_epoch st b = (st.participation.stage ≡ Follows → ⊥) → epoch_of per_epoch b.height ≡ epoch_of per_epoch (core.awaited_height st) → b.height < midpoint per_epoch (epoch_of per_epoch b.height)
+abbrev pub IsEarlyBlock : (per_epoch : ℕ) → Live directory.Unit → Block directory.Unit → Type 0
+IsEarlyBlock per_epoch st b = (st.participation.stage ≡ Follows → ⊥) → epoch_of per_epoch b.height ≡ epoch_of per_epoch (core.awaited_height st) → b.height < midpoint per_epoch (epoch_of per_epoch b.height)
 
 -- .. one that an event delivers
 abbrev pub IsEarlyEvent : (per_epoch : ℕ) → List (Block directory.Unit) → Live directory.Unit → Event → Type 0
-IsEarlyEvent per_epoch blocks st (Final number) = IfSome (slice_get blocks number) (IsEarly per_epoch st)
+IsEarlyEvent per_epoch blocks st (Final number) = IfSome (slice_get blocks number) (IsEarlyBlock per_epoch st)
 IsEarlyEvent per_epoch blocks st event = Unit {0}

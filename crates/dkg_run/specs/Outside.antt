@@ -6,7 +6,7 @@ pub record Took (bytes old new : List ℕ) : Type 0 where
   pub parts : old ≡ bytes ++ new
 
 -- The n bytes that now stand in front of the piece were taken. None, for a piece that has room, is the end.
-pub record Gives (n : ℕ) (piece old new : List ℕ) : Type 0 where
+pub record TookPiece (n : ℕ) (piece old new : List ℕ) : Type 0 where
   pub parts : old ≡ take n piece ++ new
   pub end : n ≡ 0 → 0 < length piece → old ≡ []
 

@@ -48,7 +48,7 @@ last_of _ = []
 -- WHAT WAS READ AND RUN
 
 -- The source was read to its end, a script may be so long, and the source has these bytes back. (Where it tells, they are what it had left.)
-pub record Reads (Tells : Type 0) (old new : List ℕ) (HasBack : List ℕ → Type 0) (bytes : List ℕ) : Type 0 where
+pub record WasRead (Tells : Type 0) (old new : List ℕ) (HasBack : List ℕ → Type 0) (bytes : List ℕ) : Type 0 where
   pub all : Tells → TookAll bytes old new
   pub not_too_long : length bytes ≤ 16777216
   pub back : HasBack bytes
@@ -86,17 +86,17 @@ pub record NotBuilt (Gave : List ℕ → Type 0) (o : Over) (entries : List Entr
   pub nothing : RanNothing o entries
 
 -- by the status
-abbrev pub Runs : (Gave : List ℕ → Type 0) → Over → (out : List Entry) → Status → (entries : List Entry) → Type 0
-Runs Gave o out status.Done entries = Ran Gave o out (Ok tt) entries
-Runs Gave o out (status.Fault its) entries = IsNodeFault its × Ran Gave o out (Err its) entries
-Runs Gave o out status.Device entries = Ran Gave o out (Err fault.Disk) entries ⊎ Ran Gave o out (Err fault.Secrets) entries
-Runs Gave o out status.NoMemory entries = RanNothing o entries ⊎ Ran Gave o out (Err fault.NoMemory) entries
-Runs Gave o out (status.BadScript place) entries = NoScript Gave o place entries
-Runs Gave o out status.Unsupported entries = NotBuilt Gave o entries
-Runs Gave o out status.ReadFault entries = RanNothing o entries
-Runs Gave o out status.TooLong entries = RanNothing o entries
-Runs Gave o out status.Usage entries = ⊥
-Runs Gave o out status.WriteFault entries = ⊥
+abbrev pub RanByStatus : (Gave : List ℕ → Type 0) → Over → (out : List Entry) → Status → (entries : List Entry) → Type 0
+RanByStatus Gave o out status.Done entries = Ran Gave o out (Ok tt) entries
+RanByStatus Gave o out (status.Fault its) entries = IsNodeFault its × Ran Gave o out (Err its) entries
+RanByStatus Gave o out status.Device entries = Ran Gave o out (Err fault.Disk) entries ⊎ Ran Gave o out (Err fault.Secrets) entries
+RanByStatus Gave o out status.NoMemory entries = RanNothing o entries ⊎ Ran Gave o out (Err fault.NoMemory) entries
+RanByStatus Gave o out (status.BadScript place) entries = NoScript Gave o place entries
+RanByStatus Gave o out status.Unsupported entries = NotBuilt Gave o entries
+RanByStatus Gave o out status.ReadFault entries = RanNothing o entries
+RanByStatus Gave o out status.TooLong entries = RanNothing o entries
+RanByStatus Gave o out status.Usage entries = ⊥
+RanByStatus Gave o out status.WriteFault entries = ⊥
 
 -- HOW THE WORDS `run` END: the status says what was run, and the sink took the lines of the new entries and the status's last line. (`held` and `held_now`
 -- are what it held and holds, where it tells.)
@@ -104,7 +104,7 @@ pub record Reported (Gave : List ℕ → Type 0) (o : Over) (out new : List Entr
   pub entries : List Entry
   pub added : new ≡ out ++ entries
   pub ended : Status
-  pub runs : Runs Gave o out ended entries
+  pub runs : RanByStatus Gave o out ended entries
   pub told : IsTold ended result (lines_of entries ++ last_of ended) Tells held held_now
 
 -- WHAT A STATUS BLAMES, outside, is so. (The source's and the sink's rises, and that the source has too many bytes, are handed in as facts.)

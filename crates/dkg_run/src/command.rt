@@ -15,7 +15,7 @@ ghost use Rattle.dkg_run.specs.Command.{IsMake, IsRun, IsTold};
 ghost use Rattle.dkg_run.specs.Complete.{IsSoundRun, IsValidAnyhow};
 ghost use Rattle.dkg_run.specs.Outside.{TookFew, TookMore};
 ghost use Rattle.dkg_run.specs.Over.{over};
-ghost use Rattle.dkg_run.specs.Reports.{Blamed, Reads, Reported, Runs, fault_status, last_of, number_of};
+ghost use Rattle.dkg_run.specs.Reports.{Blamed, WasRead, Reported, RanByStatus, fault_status, last_of, number_of};
 
 use crate::lives::run_lives;
 use crate::sink::Sink;
@@ -162,7 +162,7 @@ fn run<S: Source, D: Disk, X: SecretStore>(
     ensures read_fault { result ≡ Status.ReadFault → Rose (S.faults source.old) (S.faults source.new) }
     ensures too_long { result ≡ Status.TooLong → IsTrue S.tells → TookMore 16777216 (S.left source.old) (S.left source.new) }
     ensures few { IsTrue S.tells → TookFew 16777217 (S.left source.old) (S.left source.new) }
-    ensures ends { Adds out.old.entries out.new.entries (Runs (Reads (IsTrue S.tells) (S.left source.old) (S.left source.new) (S.has_back source.new))
+    ensures ends { Adds out.old.entries out.new.entries (RanByStatus (WasRead (IsTrue S.tells) (S.left source.old) (S.left source.new) (S.has_back source.new))
         (over D.tells D.files D.image D.faults D.made X.tells X.held X.faults X.made (disk.old, secrets.old) (disk.new, secrets.new))
         out.old.entries result) }
 {
@@ -291,7 +291,7 @@ pub fn run_command<S: Source, K: Sink, D: Disk, X: SecretStore>(
     // However the words `run` end, the new entries, the devices and what was read are as the status says, with all that `run_lives` promises of the
     // script that the source gave, and the sink took the lines of the entries and the status's last line: all, or a front where a write failed, or
     // nothing where there was no memory for them.
-    ensures run { IsRun (map string_bytes words.now) → Reported (Reads (IsTrue S.tells) (S.left source.old) (S.left source.new) (S.has_back source.new))
+    ensures run { IsRun (map string_bytes words.now) → Reported (WasRead (IsTrue S.tells) (S.left source.old) (S.left source.new) (S.has_back source.new))
         (over D.tells D.files D.image D.faults D.made X.tells X.held X.faults X.made (disk.old, secrets.old) (disk.new, secrets.new))
         out.old.entries out.new.entries result (IsTrue K.tells) (K.held sink.old) (K.held sink.new) }
     ensures silent { (result ≡ Status.ReadFault) ⊎ (result ≡ Status.TooLong) → sink.new ≡ sink.old }

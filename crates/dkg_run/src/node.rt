@@ -16,7 +16,7 @@ ghost use Rattle.dkg_reshare.specs.Made.{Makes, Tells, UnlessBroken};
 ghost use Rattle.dkg_reshare.specs.Moved.{Moved, StaysAbove};
 ghost use Rattle.dkg_reshare.specs.Opened.{IsInGrammar, OpensReadable};
 ghost use Rattle.dkg_reshare.specs.Planless.{seen_planless};
-ghost use Rattle.dkg_run.specs.Epochs.{IsEarly, IsEarlyEvent, MayStep};
+ghost use Rattle.dkg_run.specs.Epochs.{IsEarlyBlock, IsEarlyEvent, MayStep};
 ghost use Rattle.dkg_run.specs.Given.{IsUnplanned, Lived, at_step, blocks_in, limits_of, lived, starts_above, step_of};
 ghost use Rattle.dkg_run.specs.Nodes.{IsEventHere, IsOfLife, IsReadyNode, IsView, Viewed, ViewedNew, ended_new};
 ghost use Rattle.dkg_run.specs.Sources.{IsToOpen};
@@ -165,11 +165,11 @@ impl Node {
         ensures terms { self.new.actor.terms ≡ self.old.actor.terms }
         ensures of { (g : Lived) → IsOfLife g self.old → IsOfLife g self.new }
         ensures acts { IsTrue D.tells → IsTrue X.tells → (g : Lived) (number : ℕ) (st : Live directory.Unit) → IsOfLife g self.old → MayStep g number st
-            → IsEarly (at_step g number).blocks_per_epoch st block.now → IsView self.old st
+            → IsEarlyBlock (at_step g number).blocks_per_epoch st block.now → IsView self.old st
             → Viewed self.new result (λ ended. Makes D.files D.image X.held (node_step (at_step g number) (Delivers block.now) st) ended
             devices.old devices.new out.old.entries out.new.entries) }
         ensures tells { (g : Lived) (number : ℕ) (st : Live directory.Unit) → IsOfLife g self.old → MayStep g number st
-            → IsEarly (at_step g number).blocks_per_epoch st block.now → IsView self.old st
+            → IsEarlyBlock (at_step g number).blocks_per_epoch st block.now → IsView self.old st
             → Viewed self.new result (λ ended. Tells (node_step (at_step g number) (Delivers block.now) st) ended out.old.entries out.new.entries) }
         ensures moved { Moved D.tells D.made X.made D.faults X.faults devices.old devices.new }
         ensures causes { IfErr result (λ stop. IsCausedBy D.tells stop (Rose (D.faults devices.old.disk.now) (D.faults devices.new.disk.now))

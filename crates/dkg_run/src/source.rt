@@ -1,7 +1,7 @@
 //! Where a command reads its script from: any reader of bytes that may fail, and two in memory.
 ghost use Rattle.std.specs.Prelude.{◌≡◌, ◌<◌, ◌≤◌, List, [], ℕ, Bool, IsTrue, IfOk, OnErr, length, take, drop};
 ghost use Rattle.dkg_journal.specs.Disk.{Rose};
-ghost use Rattle.dkg_run.specs.Outside.{Gives};
+ghost use Rattle.dkg_run.specs.Outside.{TookPiece};
 
 use crate::calls::Calls;
 use std::alloc::Global;
@@ -30,7 +30,7 @@ pub trait Source {
     /// Reads some bytes into the front of a piece, and says how many. None for a piece that has room is the end.
     fn read(&mut self, into: &mut [u8]) -> Result<usize, Failed>
         ensures within { IfOk result (λ n. n ≤ length into.new) }
-        ensures gives { IfOk result (λ n. IsTrue tells → Gives n into.new (left self.old) (left self.new)) }
+        ensures gives { IfOk result (λ n. IsTrue tells → TookPiece n into.new (left self.old) (left self.new)) }
         ensures lost { OnErr result (left self.new ≡ left self.old) }
         ensures later { faults self.old ≤ faults self.new }
         ensures failed { OnErr result (Rose (faults self.old) (faults self.new)) };
@@ -45,7 +45,7 @@ pub trait Source {
 /// Takes bytes from the front of what is left, at most as many as the piece has room for.
 fn take_front(left: &[u8], into: &mut [u8]) -> usize
     ensures within { result ≤ length into.new }
-    ensures gives { Gives result into.new left.now (drop result left.now) }
+    ensures gives { TookPiece result into.new left.now (drop result left.now) }
 {
     let count = left.len().min(into.len());
     into[..count].copy_from_slice(&left[..count]);

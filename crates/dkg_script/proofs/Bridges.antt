@@ -1,9 +1,8 @@
 -- What the code's readings and digests are in the words of the promise.
-use Rattle.std.proofs.Common.{◌≡◌, ℕ, List, ◌++◌, Option, Some, None, Ok, Err, refl, ap, false}
+use Rattle.std.proofs.Common.{◌≡◌, ℕ, List, ◌++◌, Option, Some, None, Ok, refl, ap, false}
 use Rattle.std.specs.Prelude.{option_map}
 use Rattle.sha2.specs.Sha256.{sha256}
 use Rattle.dkg_values.specs.Codec.{whole}
-use Rattle.dkg_values.specs.declared.codec.CodecError.{CodecError}
 use Rattle.dkg_values.specs.Uint.{uint}
 use Rattle.dkg_types.specs.BlockCodes.{block_bytes, context_bytes, flagged_bytes}
 use Rattle.dkg_types.specs.MessageCodes.{message_at}
@@ -12,7 +11,7 @@ use Rattle.dkg_types.specs.Units.{unit_spelling}
 use Rattle.dkg_types.specs.declared.block.Context.{Context}
 use Rattle.dkg_types.specs.declared.directory.Unit as directory
 use Rattle.dkg_types.specs.declared.info.EpochInfo.{EpochInfo}
-use Rattle.dkg_types.specs.declared.message.Message.TheVariants.{Dealer, Ack}
+use Rattle.dkg_types.specs.declared.message.Message.TheVariants.{Dealer}
 use Rattle.dkg_types.specs.declared.payload.Payload.{Payload}
 use Rattle.dkg_types.specs.declared.payload.Payload.TheVariants as payload
 use Rattle.dkg_script.specs.Blocks.{digest_of, flagged}
@@ -23,14 +22,6 @@ pub reads_dealing : (limits : Limits) (bytes public : List ℕ) (private : ℕ) 
     → dealing_in limits bytes ≡ Some (record { public = public; private = private })
 unfolding dealing_in
 reads_dealing limits bytes public private e = rw e refl
-
-pub reads_ack : (limits : Limits) (bytes ack : List ℕ) → whole (message_at limits.most bytes) ≡ Ok (Ack ack) → dealing_in limits bytes ≡ None
-unfolding dealing_in
-reads_ack limits bytes ack e = rw e refl
-
-pub reads_no_message : (limits : Limits) (bytes : List ℕ) (error : CodecError) → whole (message_at limits.most bytes) ≡ Err error → dealing_in limits bytes ≡ None
-unfolding dealing_in
-reads_no_message limits bytes error e = rw e refl
 
 -- PAYLOADS of a node whose directories say nothing
 pub reads_info : (limits : Limits) (bytes : List ℕ) (i : EpochInfo directory.Unit) → limits.addressed ≡ false → unit_payload limits bytes ≡ Some (payload.EpochInfo i)

@@ -152,14 +152,6 @@ module _ (s : Setting) (cuts : List (Option CutAt)) (within : IsEarlyScript s.sc
       let form = its_form (IsLifeBelow (midpoint_of s.script) s.script.blocks) s.script.lives l life within.lives is in
       (form.1, finds_none s cuts plain history l begun form.0)
 
-  -- in any life so far, after any number of its events
-  pub epoch_zero : (l n : ℕ) → l ≤ length cuts → awaited_epoch_in s l n ≡ 0
-  epoch_zero l n begun = by_life (life_at s l) refl
-    where
-      by_life : (o : Option Life) → life_at s l ≡ o → option_map_or (λ life. awaited_epoch s l life n) o 0 ≡ 0
-      by_life None is = refl
-      by_life (Some life) is = let t = early_life l life begun is in awaits_epoch_zero s l life n t.0 t.1
-
   last_zero : (l : ℕ) → l ≤ length cuts → last_awaited s cuts l ≡ 0
   last_zero l begun = by_life (life_at s l) refl
     where
@@ -176,10 +168,3 @@ module _ (s : Setting) (cuts : List (Option CutAt)) (within : IsEarlyScript s.sc
   -- so no life starts below what was awaited
   pub never_back : (l : ℕ) → l ≤ length cuts → awaited_before s cuts l ≤ awaited_epoch_in s l 0 + 1
   never_back l begun = let none : awaited_before s cuts l ≡ 0 = before_zero l begun in omega arith
-
-  pub begun_zero : (l j : ℕ) → l ≤ length cuts → begun s cuts l j ≡ 0
-  begun_zero l j lives = by_mode (is_oneshot s) (awaited_before s cuts l) (awaited_epoch_in s l j) (before_zero l lives) (epoch_zero l j lives)
-    where
-      by_mode : (oneshot : Bool) (a b : ℕ) → a ≡ 0 → b ≡ 0 → cond oneshot 0 (max a b) ≡ 0
-      by_mode true a b e f = refl
-      by_mode false a b e f = omega arith

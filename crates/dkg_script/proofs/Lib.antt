@@ -1,10 +1,9 @@
 pub mod AnyDevices
 pub mod AsCut
-pub mod Beginning
+pub mod Listed
 pub mod Bridges
 pub mod ConsistentAsCut
 pub mod CutWrites
-pub mod Durable
 pub mod EachEntry
 pub mod Early
 pub mod EarlyScripts

@@ -84,9 +84,6 @@ joined_in f a b (x ∷ xs) (inr later) its = in_second b (f x) (flat_map f xs) (
 -- FOUND by a number, where the number names one
 
 module _ {A : Type 0} (key : A → ℕ) where
-  abbrev of_key : ℕ → A → Bool
-  of_key k a = key a == k
-
   -- what is found is there, and has the number
   pub found_there : (k : ℕ) (a : A) (xs : List A) → find (λ x. key x == k) xs ≡ Some a → IsIn a xs × (key a ≡ k)
   found_there k a [] e = absurd (none_there a e)

@@ -13,7 +13,7 @@ use Rattle.dkg_script.specs.Kept.{Gives}
 use Rattle.dkg_script.specs.Laws.{AcknowledgesOnceAgain, StandsFor}
 use Rattle.dkg_script.specs.Progress.{at_start, has_pair_key, pair_of, progress}
 use Rattle.dkg_script.specs.Setting.{listed, me, recovered_from}
-use Rattle.dkg_script.proofs.Beginning.{pair_of-listed, restored_of}
+use Rattle.dkg_script.proofs.Listed.{pair_of-listed, restored_of}
 use Rattle.dkg_script.proofs.OneAck.{of_sound, stays_along}
 use Rattle.dkg_script.proofs.Survives.{survives}
 

@@ -15,7 +15,7 @@ use Rattle.dkg_script.specs.Setting.{Setting, listed}
 use Rattle.dkg_script.specs.Position.{begun_before}
 use Rattle.dkg_script.specs.Progress.{Progress, with_pair}
 use Rattle.dkg_script.specs.Kept.{AllCurrent, Gives, IsBroughtAtCut, IsLaterOpening, IsRecordedAs, Rises}
-use Rattle.dkg_script.proofs.Beginning.{gives_all, restored_of}
+use Rattle.dkg_script.proofs.Listed.{gives_all, restored_of}
 
 -- IT RISES
 

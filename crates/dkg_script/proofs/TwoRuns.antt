@@ -28,7 +28,7 @@ use Rattle.dkg_script.specs.Laws.{GoesOn}
 use Rattle.dkg_script.specs.Position.{awaited_height, begun}
 use Rattle.dkg_script.specs.Progress.{Progress, at_start, progress, read}
 use Rattle.dkg_script.specs.Setting.{Setting, listed, recovered_from, setting_of}
-use Rattle.dkg_script.proofs.Beginning.{restored_of}
+use Rattle.dkg_script.proofs.Listed.{restored_of}
 use Rattle.dkg_script.proofs.EachEntry.{EachAfter, at_each}
 use Rattle.dkg_script.proofs.OneAckAgain.{one_ack_again}
 use Rattle.dkg_script.proofs.OneDealing.{first_life, one, one_is_kept, out_one, pair, recorded}

@@ -1,5 +1,5 @@
--- A run that has written nothing yet keeps each dealing that the devices handed in give back.
-use Rattle.std.proofs.Common.{ℕ, ◌<◌, List, [], ◌∷◌, ◌≡◌, refl, Option, Some, Bool, true, false, cond, sym, subst, ap, ◌∙◌, arith}
+-- What the devices give back, as the list that an opening tells: each dealing of it is given, and what is given stands in it.
+use Rattle.std.proofs.Common.{ℕ, List, [], ◌∷◌, ◌≡◌, refl, Option, Some, Bool, true, false, cond, sym, subst, ap, ◌∙◌, arith}
 use Rattle.std.specs.Prelude.{map, T, option_map, ◌==◌, ◌&&◌}
 use Rattle.std.specs.Cmp.{IsTotalOrder}
 use Rattle.std.specs.FinMap.{get, entries as pairs_in, entries_sorted, get-entries, find, is_sorted}
@@ -11,24 +11,13 @@ use Rattle.std.specs.declared.cmp.Ordering.TheVariants.{Less, Equal, Greater}
 use Rattle.std.proofs.lemmas.Bool.{and_parts, eqb-true}
 use Rattle.std.proofs.lemmas.Bool.Decides.{nat_tests}
 use Rattle.std.proofs.lemmas.Cmp.{tied_itself}
-use Rattle.std.proofs.lemmas.List.{append-nil}
-use Rattle.dkg_journal.specs.Names.{Files}
-use Rattle.dkg_journal.specs.Records as journal
 use Rattle.dkg_secrets.specs.Keys.{key_cmp}
-use Rattle.dkg_store.specs.Pairs.{Pairs, IsWhole}
+use Rattle.dkg_store.specs.Pairs.{Pairs}
 use Rattle.dkg_secrets.proofs.Map.{keys_total}
-use Rattle.dkg_types.specs.declared.entry.Entry.{Entry}
 use Rattle.dkg_types.specs.declared.entry.Restored.{Restored}
-use Rattle.dkg_secrets.specs.Secrets.{Secrets}
-use Rattle.dkg_text.specs.declared.script.Script.{Script}
-use Rattle.dkg_script.specs.Setting.{Setting, setting_of, listed, recovered_from}
-use Rattle.dkg_script.specs.Blocks.{handed_in}
-use Rattle.dkg_script.specs.Position.{begun}
-use Rattle.dkg_script.specs.Progress.{at_start, progress, pair_of}
-use Rattle.dkg_script.specs.Order.{InOrder, IsInOrder}
-use Rattle.dkg_script.specs.Kept.{IsSound, IsDurable, AllCurrent, Gives}
-use Rattle.dkg_script.specs.Promise.{Adds, AreHonestStores, KeepsDealings, RunsInOrder, with_plans}
-use Rattle.dkg_script.proofs.EachEntry.{at_each}
+use Rattle.dkg_script.specs.Setting.{listed}
+use Rattle.dkg_script.specs.Progress.{pair_of}
+use Rattle.dkg_script.specs.Kept.{Gives}
 
 -- WHAT A MAP LISTS, IT GIVES
 
@@ -91,40 +80,3 @@ found_in epoch dealer (e ∷ es) =
 
 pub pair_of-listed : (m : Pairs) (epoch dealer : ℕ) → pair_of (listed m) epoch dealer ≡ option_map (λ v. restored_of ((epoch, dealer), v)) (get m (epoch, dealer))
 pair_of-listed m epoch dealer = found_in epoch dealer (pairs_in m) ∙ ap (option_map (λ v. restored_of ((epoch, dealer), v))) (sym (get-entries m (epoch, dealer)))
-
--- THE FIRST ENTRY IS STILL TO COME
-
-all_current : (begun : ℕ) (P : Restored → Type 0) (xs : List Restored) → AllByRecursion P xs → AllCurrent begun P xs
-all_current begun P [] all = tt
-all_current begun P (x ∷ xs) all = ((λ current. all.0), all_current begun P xs all.1)
-
-none_below : (l : ℕ) → l < 0 → ⊥
-none_below l below = omega arith
-
--- the case in which the plan held what was handed in as the first life opened
-abbrev in_case : Setting → Setting
-in_case s = with_plans s (handed_in s ∷ [])
-
-durable : (s : Setting) (image : Files → Type 0) → AreHonestStores s image → IsDurable (in_case s) (at_start (in_case s)) image s.secrets
-durable s image honest = record {
-  whole = λ c is. subst (λ (f : Files). IsWhole (journal.entries f) s.secrets) (sym (honest.nothing_loose.only c is)) honest.whole;
-  gives = λ c is. subst (λ (f : Files). AllCurrent (begun (in_case s) [] 0 0) (Gives (recovered_from f s.secrets)) (listed (recovered_from s.files s.secrets)))
-      (sym (honest.nothing_loose.only c is))
-      (all_current (begun (in_case s) [] 0 0) (Gives (recovered_from s.files s.secrets)) (listed (recovered_from s.files s.secrets)) (gives_all (recovered_from s.files s.secrets)));
-}
-
-pub keeps_nothing : (script : Script) (files : Files) (secrets : Secrets) (image : Files → Type 0) → KeepsDealings script files secrets image image secrets []
-unfolding progress
-keeps_nothing script files secrets image built honest =
-    let s : Setting = setting_of script files secrets in (
-      handed_in s ∷ [],
-      record { first = refl; next = λ l below. absurd (none_below l below) },
-      record { each = at_each (in_case s) (IsSound (in_case s)) [] tt; durable = durable s image honest.stores },
-    )
-
-pub orders_nothing : (script : Script) → RunsInOrder script []
-unfolding InOrder
-orders_nothing script files secrets = at_each (setting_of script files secrets) (IsInOrder (setting_of script files secrets)) [] tt
-
-pub adds_nothing : (out : List Entry) (P : List Entry → Type 0) → P [] → Adds out out P
-adds_nothing out P of_none = ([], sym (append-nil out), of_none)
