@@ -262,18 +262,21 @@ impl Round {
         &self.drawn.bytes
     }
 
-    /// Hashes what all acknowledgements of a player begin with, so that each of them hashes the rest alone.
+    /// Whether what a player's acknowledgements begin with is hashed.
+    fn has_begun(&self, player: Key) -> bool {
+        match &self.begun {
+            Some(begun) => begun.player == player,
+            None => false,
+        }
+    }
+
+    /// Hashes what all acknowledgements of a player begin with, unless it is hashed, so that each of them hashes the rest alone.
     pub fn begin_acks(&mut self, player: Key)
         ensures { self.new ≡ self.old }
     {
-        match &self.begun {
-            Some(begun) if begun.player == player => {}
-            _ => {
-                self.begun = Some(Begun {
-                    player,
-                    hash: hash_behind(player, Domain::Ack, self.bytes()),
-                });
-            }
+        if !self.has_begun(player) {
+            let hash = self.hash_of(player, Domain::Ack);
+            self.begun = Some(Begun { player, hash });
         }
     }
 
