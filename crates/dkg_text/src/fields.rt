@@ -79,7 +79,11 @@ pub(crate) fn cut(text: &[u8], at: u8) -> Option<(&[u8], &[u8])>
 fn is_lower(text: &[u8]) -> bool
     ensures { IsTrue result ↔ IsLower text.now }
 {
-    text.iter().all(|c| matches!(*c, b'0'..=b'9' | b'a'..=b'f'))
+    let mut others = false;
+    for byte in text {
+        others |= !matches!(*byte, b'0'..=b'9' | b'a'..=b'f');
+    }
+    !others
 }
 
 /// Some lower-case digits.
