@@ -274,7 +274,7 @@ module _ {Dir : Type 0} (c : Fixed Dir) (b : Block Dir) (info : EpochInfo Dir) (
         → Tells (blocks.follows_into c b info st) how out now
     took_over_told mid how committed told = behind_told how (then_told (commits_both (share, seed)) sets_up_next mid how committed told)
 
--- What some held shares and seeds give, a read of today can give.
+-- What some held shares and seeds give, a read without the plan can give.
 pub secrets_told : {Dir : Type 0} (c : Fixed Dir) (info : EpochInfo Dir) (share : Option ℕ) (seed : List ℕ) (h : Held) → ReadsPlanless c → GivesBoth c info share seed h → (out : List Line)
     → Tells (reads_secrets c info) (went (share, seed)) out out
 secrets_told c info share seed h reads gives out =

@@ -48,7 +48,7 @@ epoch_above terms tip = epoch_of (non_zero_u64_get terms.blocks_per_epoch) (opti
 abbrev pub epoch_at : {Dir : Type 0} → Source Dir → Terms → ℕ
 epoch_at source terms = epoch_above terms (startup_of source)
 
--- A Fixed of an opening of today, over files in their grammar, whose opening makes as many mending calls as the Fixed says.
+-- A Fixed of an opening without material, over files in their grammar, whose opening makes as many mending calls as the Fixed says.
 pub record IsOpeningOf {Dir : Type 0} (terms : Terms) (source : Source Dir) (life word : ℕ) (files : Files) (c : Fixed Dir) : Type 0 where
   pub lent : IsLent terms source word c
   pub today : IsBareOpening c

@@ -127,7 +127,7 @@ source_at g taken =
 abbrev pub unit_directories : Directories directory.Unit
 unit_directories = record { spelling = unit_spelling; read = λ peers. unit_at; matches = λ d peers. true; lacking = λ d peers. None }
 
--- what no step of today asks: a provider, an inner application and a probe
+-- what no step asks for yet: a provider, an inner application and a probe
 abbrev pub no_provider : Provided directory.Unit
 no_provider = record { participants = λ epoch. []; directory = λ epoch peers. record {} }
 

@@ -182,7 +182,7 @@ abbrev pub IsBefore : ℕ → Option CutAt → Type 0
 IsBefore n None = Unit {0}
 IsBefore n (Some at) = (n ≤ at.step) ⊎ ((at.call == 0) ≡ true)
 
-step_of_life : (end : Option CutAt) (life : Life) (step : ℕ) (event : Event) → event_of_step (life_as_cut end life) step ≡ Some event
+pub step_of_life : (end : Option CutAt) (life : Life) (step : ℕ) (event : Event) → event_of_step (life_as_cut end life) step ≡ Some event
     → (event_of_step life step ≡ Some event) × IsBefore step end
 step_of_life None life step event is = (by_step step is, tt)
   where
@@ -244,11 +244,6 @@ module _ (s : Setting) (ends cuts : List (Option CutAt)) (plain : IsPlain s) (hi
       ap (λ (events : List Event). fold (λ height b. max height (suc b.height)) (start_height (with_cuts ends s) l (life_as_cut end life)) (filter_map (block_at s) (filter_map delivered_number events)))
       (same_comes n life.cut end life.events before)
       ∙ ap (λ (height : ℕ). fold (λ height b. max height (suc b.height)) height (delivered s life n)) (same_start end life is)
-
-  one_less : (n : ℕ) (end : Option CutAt) → IsBefore n end → IsBefore (n - 1) end
-  one_less n None before = tt
-  one_less n (Some at) (inl below) = inl (omega arith)
-  one_less n (Some at) (inr before) = inr before
 
   -- .. so it begins as far, and comes as far until it ends
   same_first : awaited_epoch_in (with_cuts ends s) l 0 ≡ awaited_epoch_in s l 0
@@ -318,10 +313,10 @@ module _ (s : Setting) (ends : List (Option CutAt)) (plain : IsPlain s) (history
 
 -- THE PREMISES, of a transcript in order
 
-same_ends : (s : Setting) (out : List Entry) → InOrder s out → (progress (with_cuts (progress s out).cuts s) out).cuts ≡ (progress s out).cuts
+pub same_ends : (s : Setting) (out : List Entry) → InOrder s out → (progress (with_cuts (progress s out).cuts s) out).cuts ≡ (progress s out).cuts
 same_ends s out ordered = ap (λ (p : Progress). p.cuts) (same_progress s (progress s out).cuts out ordered refl)
 
-plain_case : (s : Setting) (plans : List (Option Material)) → IsPlain s → IsPlain (with_plans s plans)
+pub plain_case : (s : Setting) (plans : List (Option Material)) → IsPlain s → IsPlain (with_plans s plans)
 plain_case s plans plain = record { no_record = plain.no_record; no_sync = plain.no_sync }
 
 pub honest_as_cut : (s : Setting) (image : Files → Type 0) (ends : List (Option CutAt)) → IsPlain s → IsHonestRun s image ends → IsHonestRun (with_cuts ends s) image ends

@@ -34,6 +34,7 @@ pub mod ToldPlaces
 pub mod Turns
 pub mod TwoEpochs
 pub mod TwoRuns
+pub mod ValidAsCut
 pub mod Views
 pub mod Walked
 pub mod Worked

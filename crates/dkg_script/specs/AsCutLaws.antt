@@ -27,13 +27,19 @@ abbrev pub StaysOfEpochs : Type 0
 StaysOfEpochs = (ends : List (Option CutAt)) (script : Script) → IsFormOfEpochs script → IsFormOfEpochs (as_cut ends script)
 
 -- WHAT IS PRESUMED of a script is asked of it as it was cut, with the ends that the transcript has. It holds there where it holds of the script wherever
--- its cuts fall; that the script is valid, where it holds of the script as it is cut, however that may be.
+-- its cuts fall, or of the script as it is cut, however that may be.
 
 abbrev pub HonestAnyhow : {D : Type 0} → (D → Files → Type 0) → Type 0
 HonestAnyhow {D} image = (script : Script) (files : Files) (secrets : Secrets) (out : List Entry) (disk : D) → IsBuilt (setting_of script files secrets)
     → ((ends : List (Option CutAt)) → MayEndSo script.lives ends → IsHonestRun (setting_of script files secrets) (image disk) ends)
     → InOrder (setting_of script files secrets) out
     → (let s = setting_as_cut script files secrets out in IsHonestRun s (image disk) (cuts_in s out))
+
+abbrev pub ValidAnyhow : Type 0
+ValidAnyhow = (script : Script) (files : Files) (secrets : Secrets) (out : List Entry) → IsBuilt (setting_of script files secrets)
+    → ((ends : List (Option CutAt)) → MayEndSo script.lives ends → IsValidScript (setting_of script files secrets) ends)
+    → InOrder (setting_of script files secrets) out
+    → (let s = setting_as_cut script files secrets out in IsValidScript s (cuts_in s out))
 
 abbrev pub ValidAsCut : Type 0
 ValidAsCut = (script : Script) (files : Files) (secrets : Secrets) (out : List Entry)

@@ -1,7 +1,7 @@
 //! What the promise of a run means, over every script, every transcript and every crash.
 //!
 //! Each law is a call without a body, whose contract is the law. Whoever relies on the promise cites them.
-ghost use Rattle.dkg_script.specs.AsCutLaws.{ComesAsFar, HonestAnyhow, StaysInOrderAsCut, StaysOfEpochs, ValidAsCut};
+ghost use Rattle.dkg_script.specs.AsCutLaws.{ComesAsFar, HonestAnyhow, StaysInOrderAsCut, StaysOfEpochs, ValidAnyhow, ValidAsCut};
 ghost use Rattle.dkg_script.specs.Laws.{AcknowledgesOnce, AcknowledgesOnceAgain, AcknowledgedSurvives, EndsAsScripted, OwnMarksStandBefore, StaysInOrder, StaysKept};
 
 use dkg_journal::Disk;
@@ -59,6 +59,11 @@ pub fn stays_of_epochs()
 /// A script that is consistent wherever its cuts fall is consistent as it was cut.
 pub fn honest_anyhow<D: Disk>()
     ensures { HonestAnyhow D.image }
+{}
+
+/// A script that is valid wherever its cuts fall is valid as it was cut.
+pub fn valid_anyhow()
+    ensures { ValidAnyhow }
 {}
 
 /// A script that is valid as it is cut, however that may be, is valid as it was cut.
