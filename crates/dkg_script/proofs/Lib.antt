@@ -35,6 +35,7 @@ pub mod Turns
 pub mod TwoEpochs
 pub mod TwoRuns
 pub mod ValidAsCut
+pub mod ValidScripts
 pub mod Views
 pub mod Walked
 pub mod Worked

@@ -41,7 +41,7 @@ use Rattle.dkg_script.proofs.Stores.{pair_in, stored_next, is_durable, is_given}
 use Rattle.dkg_script.proofs.Trials.{opens, from_start, progress_is, all_answered, no_plan}
 use Rattle.dkg_script.proofs.Worked.{script_of, setting, genesis, line, payload, life_of, start, dealt, ack_of_dealt, ack_of_next, files_of, secrets_of, flat, OnlyThese}
 
-abbrev first : Life
+abbrev pub first : Life
 first = life_of (Peer 2 dealt ∷ Final 0 ∷ Final 1 ∷ Peer 2 dealt ∷ Final 2 ∷ Final 3 ∷ []) None
 
 abbrev second : Life

@@ -14,6 +14,7 @@ pub mod Events
 pub mod Fit
 pub mod Halves
 pub mod Handling
+pub mod Lacking
 pub mod Left
 pub mod Listed
 pub mod Logs
