@@ -1,7 +1,7 @@
 //! What one round of a ceremony is about, and its bytes, which marks bind.
 //!
 //! A ceremony draws up a round, and each of its other calls takes one. The bytes are written once, when it is drawn up.
-ghost use Rattle.std.specs.Prelude.{◌≡◌, ◌∷◌, [], ◌++◌, ◌↔◌, IfOk, OnOk, IsTrue};
+ghost use Rattle.std.specs.Prelude.{◌≡◌, ◌∷◌, [], ◌+◌, ◌++◌, ◌^◌, ◌≤◌, ◌↔◌, IfOk, OnOk, IsTrue};
 ghost use Rattle.std.specs.Int.{w32, to_be_bytes};
 ghost use Rattle.std.specs.Option.{option_copied};
 ghost use Rattle.sha2.specs.Hashers.{Holds256};
@@ -14,10 +14,13 @@ use crate::mode::{Mode, Reveal, byte_of_mode, byte_of_reveal};
 use crate::output::Output;
 use crate::sign::{Domain, hash_behind, mark_behind};
 use bytes::{BufMut, BytesMut};
-use dkg_values::{Blob, Key, Mark, Mem, NoMemory, Set, Value, Write, write_uint};
+use dkg_values::{
+    Blob, EncodeSize, Key, Mark, Mem, NoMemory, Set, Value, Write, uint_size, write_uint,
+};
 use sha2::Sha256;
 use std::alloc::{AllocError, AllocFailed, Global};
 use std::marker::Model;
+use std::sync::Arc;
 use thiserror::Error;
 
 /// Who deals to whom, after which output, under which name and number.
@@ -41,16 +44,35 @@ struct Begun {
     hash: Sha256,
 }
 
+/// What a round and its copies share: its parts, and their bytes.
+#[derive(Drop)]
+struct Drawn {
+    parts: RoundParts,
+    bytes: BytesMut,
+}
+
+impl Model for Drawn {
+    ghost use Rattle.std.specs.Prelude.{◌≡◌};
+    ghost use Rattle.dkg_ceremony.specs.declared.round.RoundParts.{RoundParts};
+    ghost use Rattle.dkg_ceremony.specs.Rounds.{round_bytes};
+
+    ghost Value = { RoundParts };
+
+    ghost view = { λ d. d.parts };
+
+    ghost invariant = { λ d. d.bytes.items ≡ round_bytes d.parts };
+}
+
 /// A round with its bytes, which contracts see as its parts.
 #[derive(Drop)]
 pub struct Round {
-    parts: RoundParts,
-    bytes: BytesMut,
+    drawn: Arc<Drawn, Global>,
     begun: Option<Begun>,
 }
 
 impl Model for Round {
-    ghost use Rattle.std.specs.Prelude.{◌≡◌, ◌∷◌, [], ◌++◌, IfSome};
+    ghost use Rattle.std.specs.Prelude.{◌∷◌, [], ◌++◌, IfSome};
+    ghost use Rattle.std.specs.Arc.{arc_value};
     ghost use Rattle.std.specs.Int.{w32, to_be_bytes};
     ghost use Rattle.sha2.specs.Hashers.{Holds256};
     ghost use Rattle.dkg_ceremony.specs.declared.round.RoundParts.{RoundParts};
@@ -60,10 +82,9 @@ impl Model for Round {
 
     ghost Value = { RoundParts };
 
-    ghost view = { λ r. r.parts };
+    ghost view = { λ r. arc_value r.drawn };
 
-    ghost invariant = { λ r. (r.bytes.items ≡ round_bytes r.parts)
-        × IfSome r.begun (λ b. Holds256 b.hash (to_be_bytes w32 b.player ++ domain_byte domains.Ack ∷ [] ++ r.bytes.items)) };
+    ghost invariant = { λ r. IfSome r.begun (λ b. Holds256 b.hash (to_be_bytes w32 b.player ++ domain_byte domains.Ack ∷ [] ++ round_bytes (arc_value r.drawn))) };
 }
 
 /// Why no round is drawn up; of several, the first.
@@ -151,20 +172,39 @@ impl Value for RoundParts {
 }
 
 impl Value for Round {
-    /// The copy has hashed nothing.
-    fn copy(&self, alloc: Global) -> Mem<Round> {
-        let mut bytes = BytesMut::new(alloc);
-        bytes.put_slice(&self.bytes)?;
+    /// The copy shares the parts and their bytes, and has hashed nothing.
+    fn copy(&self, _alloc: Global) -> Mem<Round> {
         Ok(Round {
-            parts: self.parts.copy(alloc)?,
-            bytes,
+            drawn: Arc::try_clone(&self.drawn)?,
             begun: None,
         })
     }
 
     fn same(&self, other: &Round) -> bool {
-        self.parts.same(&other.parts)
+        self.parts().same(other.parts())
     }
+}
+
+/// How many bytes a flag takes and the output behind it.
+fn size_of_previous(previous: &Option<Output>) -> usize
+    ensures { result ≤ 2 ^ 38 + 1 }
+{
+    match previous {
+        None => 1,
+        Some(output) => 1 + output.encode_size(),
+    }
+}
+
+/// How many bytes a round takes.
+fn size_of_round(round: &RoundParts) -> usize {
+    let namespace = round.namespace.as_slice().len();
+    uint_size(namespace as u64)
+        + namespace
+        + uint_size(round.number)
+        + size_of_previous(&round.previous)
+        + 2
+        + round.dealers.encode_size()
+        + round.players.encode_size()
 }
 
 /// Writes the flag of an output that may be there, and the output.
@@ -200,11 +240,10 @@ impl Round {
     pub fn new(alloc: Global, parts: RoundParts) -> Mem<Round>
         ensures { IfOk result (λ round. round ≡ parts) }
     {
-        let mut bytes = BytesMut::new(alloc);
+        let mut bytes = BytesMut::with_capacity(alloc, size_of_round(&parts))?;
         write_round(&parts, &mut bytes)?;
         Ok(Round {
-            parts,
-            bytes,
+            drawn: Arc::new(alloc, Drawn { parts, bytes })?,
             begun: None,
         })
     }
@@ -213,24 +252,32 @@ impl Round {
     pub fn parts(&self) -> &RoundParts
         ensures { result.now ≡ self.now }
     {
-        &self.parts
+        &self.drawn.parts
     }
 
     /// Its bytes.
     pub(crate) fn bytes(&self) -> &[u8]
         ensures { result.now ≡ round_bytes self.now }
     {
-        &self.bytes
+        &self.drawn.bytes
     }
 
-    /// Hashes what all acknowledgements of a player begin with, so that each of them hashes the rest alone.
+    /// Whether what a player's acknowledgements begin with is hashed.
+    fn has_begun(&self, player: Key) -> bool {
+        match &self.begun {
+            Some(begun) => begun.player == player,
+            None => false,
+        }
+    }
+
+    /// Hashes what all acknowledgements of a player begin with, unless it is hashed, so that each of them hashes the rest alone.
     pub fn begin_acks(&mut self, player: Key)
         ensures { self.new ≡ self.old }
     {
-        self.begun = Some(Begun {
-            player,
-            hash: hash_behind(player, Domain::Ack, &self.bytes),
-        });
+        if !self.has_begun(player) {
+            let hash = self.hash_of(player, Domain::Ack);
+            self.begun = Some(Begun { player, hash });
+        }
     }
 
     /// The hash of a key's marks in a domain, as far as the round goes.

@@ -23,8 +23,8 @@ use crate::sign::{Signer, StandSigner};
 use crate::signed_log::SignedDealerLog;
 use crate::threshold::quorum;
 use crate::valid_log::bears_ack;
-use bytes::{BufMut, BytesMut};
-use dkg_values::{Blob, Element, Key, Map, Mem, Seed, Set, Value, Write};
+use bytes::BytesMut;
+use dkg_values::{Blob, Element, EncodeSize, Key, Map, Mem, Seed, Set, Value, Write};
 use std::alloc::Global;
 
 /// How many points there are: every element but 0.
@@ -58,8 +58,8 @@ fn come_from(dealers: &Set, previous: &Option<&Output>) -> bool
 pub(crate) fn rest_of(alloc: Global, dealer: Key, public: &Public) -> Mem<BytesMut>
     ensures { IfOk result (λ rest. rest.items ≡ to_be_bytes w32 dealer ++ public_spelling public.now) }
 {
-    let mut rest = BytesMut::new(alloc);
-    rest.put_u32(dealer.0)?;
+    let mut rest = BytesMut::with_capacity(alloc, 4 + public.encode_size())?;
+    dealer.put(&mut rest)?;
     public.put(&mut rest)?;
     Ok(rest)
 }

@@ -100,7 +100,7 @@ fn bytes_behind(alloc: Global, body: &[u8]) -> Result<Vec<u8>, AllocError>
     ensures { IfOk result (λ v. v.items ≡ behind body.now) }
 {
     let len = body.len() as u32;
-    let mut bytes = Vec::new(alloc);
+    let mut bytes = Vec::with_capacity(alloc, body.len() + 5)?;
     bytes.extend_from_slice(&len.to_be_bytes())?;
     bytes.extend_from_slice(body)?;
     bytes.push(0)?;

@@ -75,18 +75,18 @@ fn put_log_at(out: &mut BytesMut, dealer: Key, height: Height, log: &DealerLog) 
 pub(crate) fn dealing_body(alloc: Global, dealer: Key, public: &Public) -> Mem<Vec<u8>>
     ensures { IfOk result (λ body. body.items ≡ event_spelling (events.Dealing dealer public.now)) }
 {
-    let mut body = BytesMut::new(alloc);
+    let mut body = BytesMut::with_capacity(alloc, 5 + public.encode_size())?;
     put_dealing(&mut body, dealer, public)?;
-    Ok(Vec::from_slice(alloc, &body)?)
+    Ok(body.into_vec()?)
 }
 
 /// The bytes of an acknowledgement's event.
 pub(crate) fn ack_body(alloc: Global, player: Key, ack: &Ack) -> Mem<Vec<u8>>
     ensures { IfOk result (λ body. body.items ≡ event_spelling (events.Ack player ack.now)) }
 {
-    let mut body = BytesMut::new(alloc);
+    let mut body = BytesMut::with_capacity(alloc, 5 + size_of_ack(ack))?;
     put_ack(&mut body, player, ack)?;
-    Ok(Vec::from_slice(alloc, &body)?)
+    Ok(body.into_vec()?)
 }
 
 /// The bytes of the event of a log at a height.
@@ -95,7 +95,7 @@ pub(crate) fn log_body(alloc: Global, dealer: Key, height: Height, log: &DealerL
 {
     let mut body = BytesMut::new(alloc);
     put_log_at(&mut body, dealer, height, log)?;
-    Ok(Vec::from_slice(alloc, &body)?)
+    Ok(body.into_vec()?)
 }
 
 /// How many bytes an acknowledgement takes.

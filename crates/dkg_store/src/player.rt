@@ -26,7 +26,7 @@ use crate::key_map::KeyMap;
 use crate::store::Store;
 use dkg_ceremony::{
     Ack, Ceremony, DealerLog, DealingError, FinishError, Output, Private, Public, Round, Share,
-    Value,
+    Signer, Value,
 };
 use dkg_journal::Disk;
 use dkg_secrets::{NumberMap, SecretStore};
@@ -222,18 +222,20 @@ fn ready_answer<C: Ceremony>(
     alloc: Global,
     ceremony: &C,
     signer: &C::Signer,
-    round: &Round,
+    round: &mut Round,
     out: &mut Transcript,
     dealer: Key,
     public: &Public,
 ) -> Result<(Ack, Public), StoreError>
-    requires { Contains round.now.players (C.Signer.key_of signer.now) }
-    ensures ack { IfOk result (λ r. r.0 ≡ C.ack_of (C.Signer.key_of signer.now) round.now dealer public.now) }
+    requires { Contains round.old.players (C.Signer.key_of signer.now) }
+    ensures ack { IfOk result (λ r. r.0 ≡ C.ack_of (C.Signer.key_of signer.now) round.old dealer public.now) }
     ensures told { IfOk result (λ r. r.1 ≡ public.now) }
     ensures room { OnOk result (0 < out.new.spare) }
     ensures same { out.new.entries ≡ out.old.entries }
+    ensures round { round.new ≡ round.old }
     ensures memory { IfErr result (λ e. e ≡ StoreError.NoMemory) }
 {
+    round.begin_acks(signer.public_key());
     let ack = ceremony.ack(alloc, signer, round, dealer, public)?;
     let told = public.copy(alloc)?;
     out.reserve(1)?;
@@ -246,24 +248,25 @@ fn acknowledge<C: Ceremony>(
     acks: &mut NumberMap<Ack>,
     ceremony: &C,
     signer: &C::Signer,
-    round: &Round,
+    round: &mut Round,
     dealer: Key,
     public: &Public,
 ) -> Result<Ack, StoreError>
-    requires { Contains round.now.players (C.Signer.key_of signer.now) }
-    ensures ack { IfOk result (λ ack. ack ≡ C.ack_of (C.Signer.key_of signer.now) round.now dealer public.now) }
+    requires { Contains round.old.players (C.Signer.key_of signer.now) }
+    ensures ack { IfOk result (λ ack. ack ≡ C.ack_of (C.Signer.key_of signer.now) round.old dealer public.now) }
     ensures kept { IfOk result (λ ack. acks.new ≡ map.insert acks.old dealer ack) }
     ensures same { OnErr result (acks.new ≡ acks.old) }
+    ensures round { round.new ≡ round.old }
     ensures memory { IfErr result (λ e. e ≡ StoreError.NoMemory) }
 {
+    round.begin_acks(signer.public_key());
     let ack = ceremony.ack(alloc, signer, round, dealer, public)?;
     keep_ack(acks, dealer, ack)?;
     Ok(ack)
 }
 
 impl Player {
-    /// A player that has not been asked for an acknowledgement in this life, with these dealings. It keeps the round, and
-    /// hashes once what all its acknowledgements begin with.
+    /// A player that has not been asked for an acknowledgement in this life, with these dealings. It keeps the round.
     pub(crate) fn new(
         alloc: Global,
         me: Key,
@@ -275,11 +278,9 @@ impl Player {
         ensures acks { IfOk result (λ player. player.acks ≡ map.empty) }
         ensures dealings { IfOk result (λ player. player.dealings ≡ dealings) }
     {
-        let mut round = round.copy(alloc)?;
-        round.begin_acks(me);
         Ok(Player {
             me,
-            round,
+            round: round.copy(alloc)?,
             acks: NumberMap::new(alloc),
             dealings,
         })
@@ -343,7 +344,15 @@ impl Player {
         ) {
             return Err(DealingHandleError::Refused(error));
         }
-        let (ack, told) = ready_answer(alloc, ceremony, signer, &self.round, out, dealer, &public)?;
+        let (ack, told) = ready_answer(
+            alloc,
+            ceremony,
+            signer,
+            &mut self.round,
+            out,
+            dealer,
+            &public,
+        )?;
         keep_dealing(
             alloc,
             &mut self.acks,
@@ -427,7 +436,7 @@ impl Player {
                 &mut self.acks,
                 ceremony,
                 signer,
-                &self.round,
+                &mut self.round,
                 dealer,
                 recorded,
             )?);

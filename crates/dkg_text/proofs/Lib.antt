@@ -11,6 +11,7 @@ pub mod LineLaws
 pub mod NonZeros
 pub mod Numbered
 pub mod Numbers
+pub mod Parsing
 pub mod Places
 pub mod ReadOn
 pub mod Rise

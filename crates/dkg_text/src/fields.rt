@@ -1,7 +1,7 @@
 //! The fields of a line: numbers and bytes, each with one spelling, parted by single spaces.
 //!
 //! `Field` is a kind of field, and `Row` what a line's fields spell together. The readers of lines say which row theirs is.
-ghost use Rattle.std.specs.Prelude.{◌≡◌, ◌≢◌, ℕ, ◌+◌, ◌<◌, ◌^◌, ◌↔◌, ◌++◌, ◌∷◌, [], List, Option, IfOk, IsErr, IfSome, IsTrue, MatchOption, All, decimal, length, option_map, slice_index};
+ghost use Rattle.std.specs.Prelude.{◌≡◌, ◌≢◌, ℕ, ◌+◌, ◌<◌, ◌^◌, ◌↔◌, ◌++◌, ◌∷◌, [], List, Option, IfOk, IsErr, IfSome, IsTrue, MatchOption, All, decimal, length, option_map};
 ghost use Rattle.std.specs.Str.Parse.{IsNumeral, digits_value};
 ghost use Rattle.hex.specs.Hex.{IsBytes, decode_of};
 ghost use Rattle.dkg_text.specs.Fields.{hex_text, IsPlain, IsLower, SpellsNumber, IsCutAt};
@@ -25,14 +25,21 @@ fn is_plain(text: &[u8]) -> bool
     }
 }
 
+/// The number that digits write, where it is below 2^64.
 fn parsed(text: &[u8]) -> Option<u64>
-    requires { slice_index text.now 0 ≢ 43 }
+    requires { 0 < length text.now }
     ensures { MatchOption result (SpellsNumber text.now → ⊥) (λ n. SpellsNumber text.now × (n ≡ digits_value 10 text.now)) }
 {
-    match std::str::from_utf8(text) {
-        Ok(digits) => digits.parse::<u64>().ok(),
-        Err(_) => None,
+    let mut number = 0u64;
+    for byte in text {
+        if !byte.is_ascii_digit() {
+            return None;
+        }
+        number = number
+            .checked_mul(10)?
+            .checked_add(u64::from(*byte - b'0'))?;
     }
+    Some(number)
 }
 
 /// The number that a field spells: decimal, without leading zeros, below 2^64.
@@ -72,7 +79,11 @@ pub(crate) fn cut(text: &[u8], at: u8) -> Option<(&[u8], &[u8])>
 fn is_lower(text: &[u8]) -> bool
     ensures { IsTrue result ↔ IsLower text.now }
 {
-    text.iter().all(|c| matches!(*c, b'0'..=b'9' | b'a'..=b'f'))
+    let mut others = false;
+    for byte in text {
+        others |= !matches!(*byte, b'0'..=b'9' | b'a'..=b'f');
+    }
+    !others
 }
 
 /// Some lower-case digits.

@@ -170,15 +170,6 @@ fn put_flagged<Dir: Directory>(payload: &Apart<Dir>, out: &mut BytesMut) -> Mem<
     }
 }
 
-fn copy_payload<Dir: Directory + Drop>(alloc: Global, payload: &Apart<Dir>) -> Mem<Apart<Dir>>
-    ensures { IfOk result (λ made. made ≡ payload.now) }
-{
-    match payload.get() {
-        None => Apart::of(alloc, None),
-        Some(payload) => Apart::of(alloc, Some(payload.copy(alloc)?)),
-    }
-}
-
 fn is_same_payload<Dir: Directory + Drop>(one: &Apart<Dir>, other: &Apart<Dir>) -> bool
     ensures { IsTrue result ↔ (one.now ≡ other.now) }
 {
@@ -315,12 +306,12 @@ impl<Dir: Directory> ReshareBlock<Dir> for Block<Dir> {
 }
 
 impl<Dir: Directory + Drop> Value for Block<Dir> {
-    fn copy(&self, alloc: Global) -> Mem<Block<Dir>> {
+    fn copy(&self, _alloc: Global) -> Mem<Block<Dir>> {
         Ok(Block {
             context: self.context,
             parent: self.parent,
             height: self.height,
-            payload: copy_payload(alloc, &self.payload)?,
+            payload: self.payload.share()?,
             digest: self.digest,
         })
     }

@@ -73,10 +73,14 @@ impl<Dir: Directory + Drop> Value for EpochInfo<Dir> {
     }
 }
 
-/// The union of two sets. One of 2^32 keys or more is answered by want of memory.
+/// The union of two sets, which mostly are the same. One of 2^32 keys or more is answered by want of memory.
 fn union_of(alloc: Global, one: &Set, other: &Set) -> Mem<Set>
     ensures { IfOk result (λ set. set ≡ set_of (one.now ++ other.now)) }
 {
+    if one.same(other) {
+        let _keys = one.as_slice();
+        return one.copy(alloc);
+    }
     match one.len().checked_add(other.len()) {
         Some(_) => one.union(alloc, other),
         None => Err(NoMemory),

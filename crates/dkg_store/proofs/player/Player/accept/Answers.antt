@@ -58,7 +58,7 @@ returns-in-Err-clause-called g c =
 pub returns-in_err-ack-clause-handled : goal.returns-in_err-ack-clause-handled
 returns-in_err-ack-clause-handled g c =
     let p = err_from_is_err_and c.from_residual.result c.from_residual.ensures.1 in
-    rw (p.1, p.2) (record { answers = tt; me = refl; round = refl; acks = refl; dealings = refl; pairs = refl; rest = record { acks = refl; logs = refl; restored = refl; current = refl }; says = c.ready_answer.ensures.same; fits = tt })
+    rw (p.1, p.2) (record { answers = tt; me = refl; round = c.ready_answer.ensures.round; acks = refl; dealings = refl; pairs = refl; rest = record { acks = refl; logs = refl; restored = refl; current = refl }; says = c.ready_answer.ensures.same; fits = tt })
 
 pub returns-in_err-ack-clause-untouched : goal.returns-in_err-ack-clause-untouched
 returns-in_err-ack-clause-untouched g c =
@@ -83,7 +83,7 @@ returns-in_err-ack-clause-called g c =
 pub returns-in_err-ack-clause-due : goal.returns-in_err-ack-clause-due
 returns-in_err-ack-clause-due g c =
     let p = err_from_is_err_and c.from_residual.result c.from_residual.ensures.1 in
-    rw (p.1, p.2) (due_want c.in_err-ack.field-0.0 _ _ _ _ _ c.in_err-ack.ensures.memory (record { so = inl (refl, refl, refl) }))
+    rw (p.1, p.2) (due_want c.in_err-ack.field-0.0 _ _ _ _ _ c.in_err-ack.ensures.memory (record { so = inl ((λ i. record c.args.self.now { round = c.ready_answer.ensures.round i }), refl, refl) }))
 
 pub returns-in_err-keep_dealing-clause-handled : goal.returns-in_err-keep_dealing-clause-handled
 returns-in_err-keep_dealing-clause-handled g c =
@@ -91,7 +91,7 @@ returns-in_err-keep_dealing-clause-handled g c =
     rw (p.1, p.2) (record {
       answers = tt;
       me = refl;
-      round = refl;
+      round = c.ready_answer.ensures.round;
       acks = c.in_err-keep_dealing.ensures.keeps.acks;
       dealings = c.in_err-keep_dealing.ensures.keeps.dealings;
       pairs = c.in_err-keep_dealing.ensures.keeps.pairs;
@@ -124,7 +124,7 @@ pub returns-in_err-keep_dealing-clause-due : goal.returns-in_err-keep_dealing-cl
 returns-in_err-keep_dealing-clause-due g c =
     let p = err_from_is_err_and c.from_residual-in_err-keep_dealing.result c.from_residual-in_err-keep_dealing.ensures.1 in
     rw (p.1, p.2) (due_around c.in_err-keep_dealing.field-0.0 c.in_err-keep_dealing.ensures.due (λ name place none. none) (λ rose. rose) (λ rose. rose) (λ cut. cut)
-    (λ want. record { so = ⊎_elim (λ same. inl ((λ i. record c.args.self.now { acks = same.0 i; dealings = same.1 i }), same.2, same.3)) (λ wanted. inr wanted) want.so }))
+    (λ want. record { so = ⊎_elim (λ same. inl ((λ i. record c.args.self.now { round = c.ready_answer.ensures.round i; acks = same.0 i; dealings = same.1 i }), same.2, same.3)) (λ wanted. inr wanted) want.so }))
 
 pub returns-clause-handled : goal.returns-clause-handled
 returns-clause-handled g c =
@@ -134,7 +134,7 @@ returns-clause-handled g c =
     record {
       answers = accepted_answer (g.C.Ceremony.ack_of c.args.self.now.me c.args.self.now.round c.args.dealer) (g.C.Ceremony.dealing_of c.args.self.now.round c.args.self.now.me c.args.dealer c.args.public c.args.private) c.args.public (map.get c.args.self.now.acks c.args.dealer) (map.get c.args.store.now.dealings (c.args.epoch, c.args.dealer)) c.in_ok-ack.ack c.requires.new.0 c.requires.new.1 (sym c.in_default.ensures) answer;
       me = refl;
-      round = refl;
+      round = c.ready_answer.ensures.round;
       acks = c.in_ok-keep_dealing.ensures.keeps.acks ∙ first_answer c.args.self.now.acks c.args.dealer c.in_ok-ack.ack c.requires.new.0;
       dealings = c.in_ok-keep_dealing.ensures.keeps.dealings ∙ made_new _ _ _ fresh;
       pairs = c.in_ok-keep_dealing.ensures.keeps.pairs ∙ made_new _ _ _ fresh;

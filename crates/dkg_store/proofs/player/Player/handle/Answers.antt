@@ -43,7 +43,7 @@ returns-in-Some-clause-called g c = called_unmade ⊤ g.D.Disk.made g.X.SecretSt
 pub returns-in_err-acknowledge-clause-handled : goal.returns-in_err-acknowledge-clause-handled
 returns-in_err-acknowledge-clause-handled g c =
     let p = err_from_is_err_and c.from_residual.result c.from_residual.ensures.1 in
-    rw (p.1, p.2) (record { answers = tt; me = refl; round = refl; acks = c.in_err-acknowledge.ensures.same; dealings = refl; pairs = refl; rest = record { acks = refl; logs = refl; restored = refl; current = refl }; says = refl; fits = tt })
+    rw (p.1, p.2) (record { answers = tt; me = refl; round = c.acknowledge.ensures.round; acks = c.in_err-acknowledge.ensures.same; dealings = refl; pairs = refl; rest = record { acks = refl; logs = refl; restored = refl; current = refl }; says = refl; fits = tt })
 
 pub returns-in_err-acknowledge-clause-untouched : goal.returns-in_err-acknowledge-clause-untouched
 returns-in_err-acknowledge-clause-untouched g c =
@@ -69,7 +69,7 @@ pub returns-in_err-acknowledge-clause-due : goal.returns-in_err-acknowledge-clau
 returns-in_err-acknowledge-clause-due g c =
     let p = err_from_is_err_and c.from_residual.result c.from_residual.ensures.1 in
     rw (p.1, p.2) (due_want c.in_err-acknowledge.field-0.0 _ _ _ _ _ c.in_err-acknowledge.ensures.memory
-    (record { so = inl ((λ i. record c.args.self.now { acks = c.in_err-acknowledge.ensures.same i }), refl, refl) }))
+    (record { so = inl ((λ i. record c.args.self.now { round = c.acknowledge.ensures.round i; acks = c.in_err-acknowledge.ensures.same i }), refl, refl) }))
 
 pub returns-in-Some-dealing-clause-handled : goal.returns-in-Some-dealing-clause-handled
 returns-in-Some-dealing-clause-handled g c =
@@ -79,7 +79,7 @@ returns-in-Some-dealing-clause-handled g c =
       answers = recorded_answer (g.C.Ceremony.ack_of c.args.self.now.me c.args.self.now.round c.args.dealer) (g.C.Ceremony.dealing_of c.args.self.now.round c.args.self.now.me c.args.dealer c.args.public c.args.private) c.args.public (map.get c.args.self.now.acks c.args.dealer) (map.get c.args.store.now.dealings (c.args.epoch, c.args.dealer)) c.in-Some-dealing.field-0.now c.in_ok-acknowledge.field-0 none (sym c.in-Some-dealing.ensures)
           (c.in_ok-acknowledge.ensures.ack ∙ ap (λ (k : ℕ). g.C.Ceremony.ack_of k c.args.self.now.round c.args.dealer c.in-Some-dealing.field-0.now.0) c.requires.seat.0);
       me = refl;
-      round = refl;
+      round = c.acknowledge.ensures.round;
       acks = c.in_ok-acknowledge.ensures.kept ∙ first_answer c.args.self.now.acks c.args.dealer c.in_ok-acknowledge.field-0 none;
       dealings = made_old _ _ _ known;
       pairs = made_old _ _ _ known;
