@@ -104,3 +104,75 @@ advance-requires-clause-ready g c = c.in_ok-take_answer.ensures.ready
 
 pub advance-requires-clause-including : goal.advance-requires-clause-including
 advance-requires-clause-including g c = c.in_ok-take_answer.ensures.including
+
+-- IT STOPPED
+
+pub returns-in_err-take_answer-clause-acts : goal.returns-in_err-take_answer-clause-acts
+returns-in_err-take_answer-clause-acts g c = λ disk secrets provider fixed beside fence of reads by includes seen.
+    let p = err_from_is_err_and c.from_residual.result c.from_residual.ensures.1 in
+    let its = c.requires.hand c.in_default.not-Need in
+    let hand = some_in c.args.inclusion.now.hand its.hand in
+    let round = some_of c.args.life.now.round its.round in
+    let answered = is_answered c.args.fed c.in_default.not-Need in
+    rw (p.1, p.2) (within_behind beside (behind_hand (MakesOver g.D.Disk.files g.D.Disk.image g.X.SecretStore.held) (makes_joins g.D.Disk.files g.D.Disk.image g.X.SecretStore.held) fixed c.args.request beside fence c.args.life.now c.args.inclusion.now seen hand.0 hand.1 round.0 round.1 c.args.fed answered).inclusion (within_as (λ i was. was) (λ later was made. answer_stopped (MakesOver g.D.Disk.files g.D.Disk.image g.X.SecretStore.held) (makes_joins g.D.Disk.files g.D.Disk.image g.X.SecretStore.held) fixed c.args.request beside fence c.args.life.now c.args.inclusion.now seen hand.0 hand.1 round.0 round.1 c.args.fed answered c.in_err-take_answer.field-0.0 (c.args.devices.now, c.args.out.now.entries) (c.take_answer.new.devices, c.take_answer.new.out.entries) made)
+    (c.in_err-take_answer.ensures.acts disk secrets provider fixed round.0 (behind_hand (MakesOver g.D.Disk.files g.D.Disk.image g.X.SecretStore.held) (makes_joins g.D.Disk.files g.D.Disk.image g.X.SecretStore.held) fixed c.args.request beside fence c.args.life.now c.args.inclusion.now seen hand.0 hand.1 round.0 round.1 c.args.fed answered) fence of reads by includes round.1 (seen_behind c.args.inclusion.now beside.inclusion seen))))
+
+pub returns-in_err-take_answer-clause-tells : goal.returns-in_err-take_answer-clause-tells
+returns-in_err-take_answer-clause-tells g c = λ provider fixed beside fence of reads by includes seen.
+    let p = err_from_is_err_and c.from_residual.result c.from_residual.ensures.1 in
+    let its = c.requires.hand c.in_default.not-Need in
+    let hand = some_in c.args.inclusion.now.hand its.hand in
+    let round = some_of c.args.life.now.round its.round in
+    let answered = is_answered c.args.fed c.in_default.not-Need in
+    rw (p.1, p.2) (within_behind beside (behind_hand TellsOver tells_joins fixed c.args.request beside fence c.args.life.now c.args.inclusion.now seen hand.0 hand.1 round.0 round.1 c.args.fed answered).inclusion (within_as (λ i was. was) (λ later was made. answer_stopped TellsOver tells_joins fixed c.args.request beside fence c.args.life.now c.args.inclusion.now seen hand.0 hand.1 round.0 round.1 c.args.fed answered c.in_err-take_answer.field-0.0 c.args.out.now.entries c.take_answer.new.out.entries made)
+    (c.in_err-take_answer.ensures.tells provider fixed round.0 (behind_hand TellsOver tells_joins fixed c.args.request beside fence c.args.life.now c.args.inclusion.now seen hand.0 hand.1 round.0 round.1 c.args.fed answered) fence of reads by includes round.1 (seen_behind c.args.inclusion.now beside.inclusion seen))))
+
+pub returns-in_err-take_answer-clause-ready : goal.returns-in_err-take_answer-clause-ready
+returns-in_err-take_answer-clause-ready g c = 
+    let p = err_from_is_err_and c.from_residual.result c.from_residual.ensures.1 in
+    rw (p.1, p.2) tt
+
+pub returns-in_err-take_answer-clause-including : goal.returns-in_err-take_answer-clause-including
+returns-in_err-take_answer-clause-including g c = 
+    let p = err_from_is_err_and c.from_residual.result c.from_residual.ensures.1 in
+    rw (p.1, p.2) tt
+
+pub returns-in_err-take_answer-clause-same : goal.returns-in_err-take_answer-clause-same
+returns-in_err-take_answer-clause-same g c = c.take_answer.ensures.same
+
+pub returns-in_err-take_answer-clause-provider : goal.returns-in_err-take_answer-clause-provider
+returns-in_err-take_answer-clause-provider g c = c.take_answer.ensures.provider
+
+pub returns-in_err-take_answer-clause-disk : goal.returns-in_err-take_answer-clause-disk
+returns-in_err-take_answer-clause-disk g c = c.take_answer.ensures.disk
+
+pub returns-in_err-take_answer-clause-held : goal.returns-in_err-take_answer-clause-held
+returns-in_err-take_answer-clause-held g c = c.take_answer.ensures.held
+
+pub returns-in_err-take_answer-clause-moved : goal.returns-in_err-take_answer-clause-moved
+returns-in_err-take_answer-clause-moved g c = c.take_answer.ensures.moved
+
+pub returns-in_err-take_answer-clause-causes : goal.returns-in_err-take_answer-clause-causes
+returns-in_err-take_answer-clause-causes g c = 
+    let p = err_from_is_err_and c.from_residual.result c.from_residual.ensures.1 in
+    rw (p.1, p.2) c.in_err-take_answer.ensures.causes
+
+-- NOTHING IS DONE
+
+pub returns-in-Need-clause-ready : goal.returns-in-Need-clause-ready
+returns-in-Need-clause-ready g c = c.requires.ready
+
+pub returns-in-Need-clause-same : goal.returns-in-Need-clause-same
+returns-in-Need-clause-same g c = refl
+
+pub returns-in-Need-clause-provider : goal.returns-in-Need-clause-provider
+returns-in-Need-clause-provider g c = λ provider. (λ epoch. refl, λ epoch peers. refl)
+
+pub returns-in-Need-clause-disk : goal.returns-in-Need-clause-disk
+returns-in-Need-clause-disk g c = refl
+
+pub returns-in-Need-clause-held : goal.returns-in-Need-clause-held
+returns-in-Need-clause-held g c = refl
+
+pub returns-in-Need-clause-causes : goal.returns-in-Need-clause-causes
+returns-in-Need-clause-causes g c = tt
