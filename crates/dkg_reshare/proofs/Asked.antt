@@ -1,11 +1,9 @@
 -- A request that is made or taken away: what inclusion has then, and the relation's course.
-use Rattle.std.proofs.Common.{◌≡◌, ℕ, Bool, true, false, List, [], ◌∷◌, ◌++◌, Option, Some, None, refl, sym, ◌∙◌, ap, subst, arith}
-use Rattle.std.specs.Prelude.{◌==◌, filter, not, IfSome, IsSome, if◌then◌else◌}
+use Rattle.std.proofs.Common.{◌≡◌, ℕ, Bool, true, false, List, [], ◌∷◌, ◌++◌, Option, Some, None, refl, sym, ◌∙◌, ap, subst}
+use Rattle.std.specs.Prelude.{◌==◌, nat_eq, filter, not, IfSome, IsSome, if◌then◌else◌}
 use Rattle.std.specs.FinMap.{FinMap}
-use Rattle.std.specs.Option.{option_map_or}
+use Rattle.std.specs.Option.{option_eq, option_map_or}
 use Rattle.std.specs.Ordering.{nat_cmp}
-use Rattle.std.proofs.lemmas.Bool.{eqb-true}
-use Rattle.std.proofs.lemmas.Bool.Decides.{nat_tests}
 use Rattle.dkg_fence.specs.Readiness.{Readiness}
 use Rattle.dkg_types.specs.declared.entry.Why.TheVariants as why
 use Rattle.dkg_types.specs.declared.fault.Fault.{Fault}
@@ -108,25 +106,16 @@ abbrev pub others_beside : {Dir : Type 0} → (request : ℕ) → Beside Dir →
 others_beside request beside = record beside { inclusion = record beside.inclusion { queue = filter (λ r. not (r.number == request)) beside.inclusion.queue } }
 
 module _ {Dir : Type 0} (c : Fixed Dir) (request : ℕ) (beside : Beside Dir) (fence : Readiness) (life : Life Dir) where
-  abbrev cancels_by : Bool → Course Dir Fault (Live Dir)
+  abbrev pub cancels_by : Bool → Course Dir Fault (Live Dir)
   cancels_by waits = if waits then Goes (live_of (alone_beside beside) fence life) else including.advanced c (live_of (others_beside request beside) fence life)
 
-  same_number : (request == request) ≡ true
-  same_number = grind (arith, nat_tests)
+  waits_is : (waiter : Option ℕ) → option_map_or (λ n. n == request) waiter false ≡ option_eq nat_eq waiter (Some request)
+  waits_is None = refl
+  waits_is (Some n) = refl
 
-  other_number : (n : ℕ) → (◌≡◌ {A = Option ℕ} (Some n) (Some request) → ⊥) → (b : Bool) → (n == request) ≡ b → b ≡ false
-  other_number n apart true same = absurd (apart (ap (λ (k : ℕ). let o : Option ℕ = Some k in o) (eqb-true n request same)))
-  other_number n apart false same = refl
-
-  not_waiting : (waiter : Option ℕ) → (waiter ≡ Some request → ⊥) → option_map_or (λ n. n == request) waiter false ≡ false
-  not_waiting None apart = refl
-  not_waiting (Some n) apart = other_number n apart (n == request) refl
-
-  pub cancels_waiter : beside.inclusion.waiter ≡ Some request → including.cancels c request (live_of beside fence life) ≡ Goes (live_of (alone_beside beside) fence life)
-  cancels_waiter is = ap (λ (o : Option ℕ). cancels_by (option_map_or (λ n. n == request) o false)) is ∙ ap cancels_by same_number
-
-  pub cancels_other : (beside.inclusion.waiter ≡ Some request → ⊥) → including.cancels c request (live_of beside fence life) ≡ including.advanced c (live_of (others_beside request beside) fence life)
-  cancels_other apart = ap cancels_by (not_waiting beside.inclusion.waiter apart)
+  -- by whether it waits for the verification
+  pub cancels_at : (waiter : Option ℕ) → beside.inclusion.waiter ≡ waiter → (waits : Bool) → option_eq nat_eq waiter (Some request) ≡ waits → including.cancels c request (live_of beside fence life) ≡ cancels_by waits
+  cancels_at waiter has waits is = ap (λ (o : Option ℕ). cancels_by (option_map_or (λ n. n == request) o false)) has ∙ ap cancels_by (waits_is waiter ∙ is)
 
 module _ {C Dir Signer Cfg : Type 0} (check_log_of : CheckLogOf) (dealing_of : DealingOf) (finish_of : FinishOf) (n : ℕ) (life : Life Dir) (its : Inclusion C Dir Signer Cfg) where
   pub settled_alone : IsSettledInclusion check_log_of dealing_of finish_of n life its → IsSettledInclusion check_log_of dealing_of finish_of n life (record its { waiter = None })

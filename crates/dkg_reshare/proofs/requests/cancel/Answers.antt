@@ -1,8 +1,7 @@
-use Rattle.std.proofs.Common.{◌≡◌, Some, None, ap, refl, sym, ◌∙◌, rules}
+use Rattle.std.proofs.Common.{◌≡◌, true, false, refl, sym, ◌∙◌}
 use Rattle.std.specs.Int.NonZero.{non_zero_u64_get}
-use Rattle.dkg_core.specs.Including as including
 use Rattle.dkg_reshare.specs.LiveOf.{live_of}
-use Rattle.dkg_reshare.proofs.Asked.{alone_beside, cancels_other, cancels_waiter, others_beside, ready_withdrawn, seen_withdrawn, settled_alone}
+use Rattle.dkg_reshare.proofs.Asked.{alone_beside, cancels_at, others_beside, ready_withdrawn, seen_withdrawn, settled_alone}
 use Rattle.dkg_reshare.proofs.Asking.{MakesOver, TellsOver, joined_as, seen_nobody}
 use Rattle.dkg_reshare.proofs.Burning.{makes_nothing}
 use Rattle.dkg_reshare.proofs.Committing.{goes_told}
@@ -15,16 +14,14 @@ use Rattle.dkg_reshare.proofs.requests.cancel.Goals as goal
 
 pub returns-then-eq-clause-acts : goal.returns-then-eq-clause-acts
 returns-then-eq-clause-acts g c = λ disk secrets provider fixed beside fence of reads by includes seen.
-    let is : c.args.inclusion.now.waiter ≡ Some c.args.request = search rules in
     ends_with beside (alone_beside beside).inclusion (seen_nobody c.args.inclusion.now beside.inclusion seen) refl
-    (joined_as (MakesOver g.D.Disk.files g.D.Disk.image g.X.SecretStore.held) {x = (c.args.devices.now, c.args.out.now.entries)} {y = (c.args.devices.now, c.args.out.now.entries)} (cancels_waiter fixed c.args.request beside fence c.args.life.now (seen.waiter ∙ is))
+    (joined_as (MakesOver g.D.Disk.files g.D.Disk.image g.X.SecretStore.held) {x = (c.args.devices.now, c.args.out.now.entries)} {y = (c.args.devices.now, c.args.out.now.entries)} (cancels_at fixed c.args.request beside fence c.args.life.now c.args.inclusion.now.waiter seen.waiter true (sym c.eq.ensures ∙ c.if-eq.true))
     (makes_nothing (g.D.Disk.files c.args.devices.now.disk.now) (g.D.Disk.image c.args.devices.now.disk.now) _ refl))
 
 pub returns-then-eq-clause-tells : goal.returns-then-eq-clause-tells
 returns-then-eq-clause-tells g c = λ provider fixed beside fence of reads by includes seen.
-    let is : c.args.inclusion.now.waiter ≡ Some c.args.request = search rules in
     ends_with beside (alone_beside beside).inclusion (seen_nobody c.args.inclusion.now beside.inclusion seen) refl
-    (joined_as TellsOver {x = c.args.out.now.entries} {y = c.args.out.now.entries} (cancels_waiter fixed c.args.request beside fence c.args.life.now (seen.waiter ∙ is))
+    (joined_as TellsOver {x = c.args.out.now.entries} {y = c.args.out.now.entries} (cancels_at fixed c.args.request beside fence c.args.life.now c.args.inclusion.now.waiter seen.waiter true (sym c.eq.ensures ∙ c.if-eq.true))
     (goes_told g.row.Dir.Denot (live_of (alone_beside beside) fence c.args.life.now) c.args.out.now.entries))
 
 pub returns-then-eq-clause-ready : goal.returns-then-eq-clause-ready
@@ -52,16 +49,14 @@ returns-then-eq-clause-moved g c = moved_none g.D.Disk.tells g.D.Disk.made g.X.S
 
 pub returns-clause-acts : goal.returns-clause-acts
 returns-clause-acts g c = λ disk secrets provider fixed beside fence of reads by includes seen.
-    let apart : c.args.inclusion.now.waiter ≡ Some c.args.request → ⊥ = λ is. search rules in
     within_behind beside (others_beside c.args.request beside).inclusion
-    (within_as (λ i is. is) (λ now is made. joined_as (MakesOver g.D.Disk.files g.D.Disk.image g.X.SecretStore.held) {x = (c.args.devices.now, c.args.out.now.entries)} {y = (c.advance.new.devices, c.advance.new.out.entries)} (cancels_other fixed c.args.request beside fence c.args.life.now (λ is. apart (sym seen.waiter ∙ is))) made)
+    (within_as (λ i is. is) (λ now is made. joined_as (MakesOver g.D.Disk.files g.D.Disk.image g.X.SecretStore.held) {x = (c.args.devices.now, c.args.out.now.entries)} {y = (c.advance.new.devices, c.advance.new.out.entries)} (cancels_at fixed c.args.request beside fence c.args.life.now c.args.inclusion.now.waiter seen.waiter false (sym c.eq.ensures ∙ c.if-eq.false)) made)
     (c.advance.ensures.acts disk secrets provider fixed (others_beside c.args.request beside) fence of reads by includes (seen_withdrawn g.C.Ceremony.check_log_of g.C.Ceremony.dealing_of g.C.Ceremony.finish_of (non_zero_u64_get c.args.terms.now.blocks_per_epoch) c.args.life.now c.args.inclusion.now c.args.request c.withdraw.new.inclusion c.withdraw.ensures beside.inclusion seen)))
 
 pub returns-clause-tells : goal.returns-clause-tells
 returns-clause-tells g c = λ provider fixed beside fence of reads by includes seen.
-    let apart : c.args.inclusion.now.waiter ≡ Some c.args.request → ⊥ = λ is. search rules in
     within_behind beside (others_beside c.args.request beside).inclusion
-    (within_as (λ i is. is) (λ now is made. joined_as TellsOver {x = c.args.out.now.entries} {y = c.advance.new.out.entries} (cancels_other fixed c.args.request beside fence c.args.life.now (λ is. apart (sym seen.waiter ∙ is))) made)
+    (within_as (λ i is. is) (λ now is made. joined_as TellsOver {x = c.args.out.now.entries} {y = c.advance.new.out.entries} (cancels_at fixed c.args.request beside fence c.args.life.now c.args.inclusion.now.waiter seen.waiter false (sym c.eq.ensures ∙ c.if-eq.false)) made)
     (c.advance.ensures.tells provider fixed (others_beside c.args.request beside) fence of reads by includes (seen_withdrawn g.C.Ceremony.check_log_of g.C.Ceremony.dealing_of g.C.Ceremony.finish_of (non_zero_u64_get c.args.terms.now.blocks_per_epoch) c.args.life.now c.args.inclusion.now c.args.request c.withdraw.new.inclusion c.withdraw.ensures beside.inclusion seen)))
 
 pub returns-clause-ready : goal.returns-clause-ready
