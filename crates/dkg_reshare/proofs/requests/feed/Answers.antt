@@ -105,12 +105,12 @@ returns-in_err-fed-clause-causes g c =
 pub returns-in_err-feed-clause-ready : goal.returns-in_err-feed-clause-ready
 returns-in_err-feed-clause-ready g c = 
     let p = err_from_is_err_and c.from_residual.result c.from_residual.ensures.1 in
-    rw (p.1, p.2) tt
+    rw p.1 tt
 
 pub returns-in_err-feed-clause-including : goal.returns-in_err-feed-clause-including
 returns-in_err-feed-clause-including g c = 
     let p = err_from_is_err_and c.from_residual.result c.from_residual.ensures.1 in
-    rw (p.1, p.2) tt
+    rw p.1 tt
 
 pub returns-in_err-feed-clause-same : goal.returns-in_err-feed-clause-same
 returns-in_err-feed-clause-same g c = refl
@@ -127,12 +127,12 @@ returns-in_err-feed-clause-held g c = refl
 pub returns-in_err-fed-clause-ready : goal.returns-in_err-fed-clause-ready
 returns-in_err-fed-clause-ready g c = 
     let p = err_from_is_err_and c.from_residual-in_err-fed.result c.from_residual-in_err-fed.ensures.1 in
-    rw (p.1, p.2) tt
+    rw p.1 tt
 
 pub returns-in_err-fed-clause-including : goal.returns-in_err-fed-clause-including
 returns-in_err-fed-clause-including g c = 
     let p = err_from_is_err_and c.from_residual-in_err-fed.result c.from_residual-in_err-fed.ensures.1 in
-    rw (p.1, p.2) tt
+    rw p.1 tt
 
 pub returns-in_err-fed-clause-same : goal.returns-in_err-fed-clause-same
 returns-in_err-fed-clause-same g c = refl

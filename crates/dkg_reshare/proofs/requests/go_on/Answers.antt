@@ -39,7 +39,7 @@ returns-in-Need-clause-moved g c = moved_none g.D.Disk.tells g.D.Disk.made g.X.S
 pub returns-clause-acts : goal.returns-clause-acts
 returns-clause-acts g c = λ disk secrets provider fixed beside fence of reads by includes seen.
     let its = c.requires.hand c.in_default.not-Need in
-    let hand = some_in c.args.inclusion.now.hand its.hand in
+    let hand = some_in _ c.args.inclusion.now.hand its.hand in
     let round = some_of c.args.life.now.round its.round in
     let answered = is_answered c.args.fed c.in_default.not-Need in
     let its_rest = c.take_answer.ensures.rest in
@@ -51,7 +51,7 @@ returns-clause-acts g c = λ disk secrets provider fixed beside fence of reads b
 pub returns-clause-tells : goal.returns-clause-tells
 returns-clause-tells g c = λ provider fixed beside fence of reads by includes seen.
     let its = c.requires.hand c.in_default.not-Need in
-    let hand = some_in c.args.inclusion.now.hand its.hand in
+    let hand = some_in _ c.args.inclusion.now.hand its.hand in
     let round = some_of c.args.life.now.round its.round in
     let answered = is_answered c.args.fed c.in_default.not-Need in
     let its_rest = c.take_answer.ensures.rest in
@@ -111,7 +111,7 @@ pub returns-in_err-take_answer-clause-acts : goal.returns-in_err-take_answer-cla
 returns-in_err-take_answer-clause-acts g c = λ disk secrets provider fixed beside fence of reads by includes seen.
     let p = err_from_is_err_and c.from_residual.result c.from_residual.ensures.1 in
     let its = c.requires.hand c.in_default.not-Need in
-    let hand = some_in c.args.inclusion.now.hand its.hand in
+    let hand = some_in _ c.args.inclusion.now.hand its.hand in
     let round = some_of c.args.life.now.round its.round in
     let answered = is_answered c.args.fed c.in_default.not-Need in
     rw (p.1, p.2) (within_behind beside (behind_hand (MakesOver g.D.Disk.files g.D.Disk.image g.X.SecretStore.held) (makes_joins g.D.Disk.files g.D.Disk.image g.X.SecretStore.held) fixed c.args.request beside fence c.args.life.now c.args.inclusion.now seen hand.0 hand.1 round.0 round.1 c.args.fed answered).inclusion (within_as (λ i was. was) (λ later was made. answer_stopped (MakesOver g.D.Disk.files g.D.Disk.image g.X.SecretStore.held) (makes_joins g.D.Disk.files g.D.Disk.image g.X.SecretStore.held) fixed c.args.request beside fence c.args.life.now c.args.inclusion.now seen hand.0 hand.1 round.0 round.1 c.args.fed answered c.in_err-take_answer.field-0.0 (c.args.devices.now, c.args.out.now.entries) (c.take_answer.new.devices, c.take_answer.new.out.entries) made)
@@ -121,7 +121,7 @@ pub returns-in_err-take_answer-clause-tells : goal.returns-in_err-take_answer-cl
 returns-in_err-take_answer-clause-tells g c = λ provider fixed beside fence of reads by includes seen.
     let p = err_from_is_err_and c.from_residual.result c.from_residual.ensures.1 in
     let its = c.requires.hand c.in_default.not-Need in
-    let hand = some_in c.args.inclusion.now.hand its.hand in
+    let hand = some_in _ c.args.inclusion.now.hand its.hand in
     let round = some_of c.args.life.now.round its.round in
     let answered = is_answered c.args.fed c.in_default.not-Need in
     rw (p.1, p.2) (within_behind beside (behind_hand TellsOver tells_joins fixed c.args.request beside fence c.args.life.now c.args.inclusion.now seen hand.0 hand.1 round.0 round.1 c.args.fed answered).inclusion (within_as (λ i was. was) (λ later was made. answer_stopped TellsOver tells_joins fixed c.args.request beside fence c.args.life.now c.args.inclusion.now seen hand.0 hand.1 round.0 round.1 c.args.fed answered c.in_err-take_answer.field-0.0 c.args.out.now.entries c.take_answer.new.out.entries made)
@@ -130,12 +130,12 @@ returns-in_err-take_answer-clause-tells g c = λ provider fixed beside fence of 
 pub returns-in_err-take_answer-clause-ready : goal.returns-in_err-take_answer-clause-ready
 returns-in_err-take_answer-clause-ready g c = 
     let p = err_from_is_err_and c.from_residual.result c.from_residual.ensures.1 in
-    rw (p.1, p.2) tt
+    rw p.1 tt
 
 pub returns-in_err-take_answer-clause-including : goal.returns-in_err-take_answer-clause-including
 returns-in_err-take_answer-clause-including g c = 
     let p = err_from_is_err_and c.from_residual.result c.from_residual.ensures.1 in
-    rw (p.1, p.2) tt
+    rw p.1 tt
 
 pub returns-in_err-take_answer-clause-same : goal.returns-in_err-take_answer-clause-same
 returns-in_err-take_answer-clause-same g c = c.take_answer.ensures.same

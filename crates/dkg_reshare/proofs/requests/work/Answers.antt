@@ -112,12 +112,12 @@ returns-in_err-end_verifying-clause-tells g c = λ provider fixed beside fence o
 pub returns-in_err-end_verifying-clause-ready : goal.returns-in_err-end_verifying-clause-ready
 returns-in_err-end_verifying-clause-ready g c = 
     let p = err_from_is_err_and c.from_residual.result c.from_residual.ensures.1 in
-    rw (p.1, p.2) tt
+    rw p.1 tt
 
 pub returns-in_err-end_verifying-clause-including : goal.returns-in_err-end_verifying-clause-including
 returns-in_err-end_verifying-clause-including g c = 
     let p = err_from_is_err_and c.from_residual.result c.from_residual.ensures.1 in
-    rw (p.1, p.2) tt
+    rw p.1 tt
 
 pub returns-in_err-end_verifying-clause-same : goal.returns-in_err-end_verifying-clause-same
 returns-in_err-end_verifying-clause-same g c = c.end_verifying.ensures.same

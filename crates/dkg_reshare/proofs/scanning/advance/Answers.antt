@@ -1,4 +1,4 @@
-use Rattle.std.proofs.Common.{◌≡◌, ◌+◌, ◌≤◌, Some, None, [], length, ap, refl, sym, ◌∙◌, rules, subst, arith}
+use Rattle.std.proofs.Common.{◌≡◌, ◌+◌, ◌≤◌, true, false, Some, None, [], length, ap, refl, sym, ◌∙◌, rules, subst, arith}
 use Rattle.std.proofs.lemmas.List.{nil_from_length}
 use Rattle.std.proofs.lemmas.Result.{err_from_is_err_and}
 use Rattle.std.specs.Prelude.{IsSome}
@@ -45,14 +45,14 @@ loop-turn-preserved g c = record {
   disk = c.read_first.ensures.disk ∙ c.loop-turn.invariant.disk;
   held = c.read_first.ensures.held ∙ c.loop-turn.invariant.held;
   left = λ some. let here = subst (λ l. IsSome l.round) c.read_first.ensures.same some in
-      behind_length c.loop-turn.inclusion.requests c.read_first.new.inclusion.requests c.loop-turn.turn c.len-count.result (c.in_ok-read_first.ensures.left here) (c.loop-turn.invariant.left here) c.loop-turn-test.true;
+      behind_length c.loop-turn.inclusion.requests c.read_first.new.inclusion.requests c.loop-turn._turn c.len-count.result (c.in_ok-read_first.ensures.left here) (c.loop-turn.invariant.left here) c.loop-turn-test.true;
   acts = λ disk secrets provider fixed beside fence of reads by includes seen.
     within_then beside (c.loop-turn.invariant.acts disk secrets provider fixed beside fence of reads by includes seen)
-    (λ now is made. within_as (λ i was. was) (λ later was next. one_more (MakesOver g.D.Disk.files g.D.Disk.image g.X.SecretStore.held) (makes_joins g.D.Disk.files g.D.Disk.image g.X.SecretStore.held) fixed c.loop-turn.turn (live_of beside fence c.args.life.now) (live_of now fence c.loop-turn.life) _ (c.args.devices.now, c.args.out.now.entries) (c.loop-turn.devices, c.loop-turn.out.entries) (c.read_first.new.devices, c.read_first.new.out.entries) made next)
+    (λ now is made. within_as (λ i was. was) (λ later was next. one_more (MakesOver g.D.Disk.files g.D.Disk.image g.X.SecretStore.held) (makes_joins g.D.Disk.files g.D.Disk.image g.X.SecretStore.held) fixed c.loop-turn._turn (live_of beside fence c.args.life.now) (live_of now fence c.loop-turn.life) _ (c.args.devices.now, c.args.out.now.entries) (c.loop-turn.devices, c.loop-turn.out.entries) (c.read_first.new.devices, c.read_first.new.out.entries) made next)
     (c.in_ok-read_first.ensures.acts disk secrets provider fixed now fence of reads by (includes_on fixed (c.loop-turn.invariant.provider provider) includes) is));
   tells = λ provider fixed beside fence of reads by includes seen.
     within_then beside (c.loop-turn.invariant.tells provider fixed beside fence of reads by includes seen)
-    (λ now is made. within_as (λ i was. was) (λ later was next. one_more TellsOver tells_joins fixed c.loop-turn.turn (live_of beside fence c.args.life.now) (live_of now fence c.loop-turn.life) _ c.args.out.now.entries c.loop-turn.out.entries c.read_first.new.out.entries made next)
+    (λ now is made. within_as (λ i was. was) (λ later was next. one_more TellsOver tells_joins fixed c.loop-turn._turn (live_of beside fence c.args.life.now) (live_of now fence c.loop-turn.life) _ c.args.out.now.entries c.loop-turn.out.entries c.read_first.new.out.entries made next)
     (c.in_ok-read_first.ensures.tells provider fixed now fence of reads by (includes_on fixed (c.loop-turn.invariant.provider provider) includes) is));
   moved = moved_then g.D.Disk.tells g.D.Disk.made g.X.SecretStore.made g.D.Disk.faults g.X.SecretStore.faults g.met.D.Disk.made_more g.met.X.SecretStore.made_more _ _ _ c.loop-turn.invariant.moved c.read_first.ensures.moved;
 }
@@ -61,16 +61,16 @@ loop-turn-preserved g c = record {
 
 pub returns-then-not-may_read-clause-acts : goal.returns-then-not-may_read-clause-acts
 returns-then-not-may_read-clause-acts g c = λ disk secrets provider fixed beside fence of reads by includes seen.
-    within_as (λ i is. is) (λ now is made. no_more (MakesOver g.D.Disk.files g.D.Disk.image g.X.SecretStore.held) (makes_joins g.D.Disk.files g.D.Disk.image g.X.SecretStore.held) fixed c.loop-turn.turn (length beside.inclusion.queue) (let few = front_length c.args.inclusion.now.hand c.args.inclusion.now.requests in rw seen.queue (omega (arith, few, c.len-count.ensures))) (live_of beside fence c.args.life.now) (live_of now fence c.loop-turn.life) (c.args.devices.now, c.args.out.now.entries) (c.loop-turn.devices, c.loop-turn.out.entries) made
-    (settled_waits g.C.Ceremony.check_log_of g.C.Ceremony.dealing_of g.C.Ceremony.finish_of (non_zero_u64_get c.args.terms.now.blocks_per_epoch) c.loop-turn.life c.loop-turn.invariant.ready.placed fixed of.blocks includes.check_log now fence c.loop-turn.inclusion is (record { ready = c.loop-turn.invariant.including; settled = λ is some none free. absurd (let e = c.may_read.ensures.1 (is, none, free) ∙ c.if-not-may_read.true in cc) }))) (c.loop-turn.invariant.acts disk secrets provider fixed beside fence of reads by includes seen)
+    within_as (λ i is. is) (λ now is made. no_more (MakesOver g.D.Disk.files g.D.Disk.image g.X.SecretStore.held) (makes_joins g.D.Disk.files g.D.Disk.image g.X.SecretStore.held) fixed c.loop-turn._turn (length beside.inclusion.queue) (let few = front_length c.args.inclusion.now.hand c.args.inclusion.now.requests in rw seen.queue (omega (arith, few, c.len-count.ensures))) (live_of beside fence c.args.life.now) (live_of now fence c.loop-turn.life) (c.args.devices.now, c.args.out.now.entries) (c.loop-turn.devices, c.loop-turn.out.entries) made
+    (settled_waits g.C.Ceremony.check_log_of g.C.Ceremony.dealing_of g.C.Ceremony.finish_of (non_zero_u64_get c.args.terms.now.blocks_per_epoch) c.loop-turn.life c.loop-turn.invariant.ready.placed fixed of.blocks includes.check_log now fence c.loop-turn.inclusion is (record { ready = c.loop-turn.invariant.including; settled = λ is some none free. absurd (let e : true ≡ false = sym (c.may_read.ensures.1 (is, none, free)) ∙ c.if-not-may_read.true in cc) }))) (c.loop-turn.invariant.acts disk secrets provider fixed beside fence of reads by includes seen)
 
 pub returns-then-not-may_read-clause-tells : goal.returns-then-not-may_read-clause-tells
 returns-then-not-may_read-clause-tells g c = λ provider fixed beside fence of reads by includes seen.
-    within_as (λ i is. is) (λ now is made. no_more TellsOver tells_joins fixed c.loop-turn.turn (length beside.inclusion.queue) (let few = front_length c.args.inclusion.now.hand c.args.inclusion.now.requests in rw seen.queue (omega (arith, few, c.len-count.ensures))) (live_of beside fence c.args.life.now) (live_of now fence c.loop-turn.life) c.args.out.now.entries c.loop-turn.out.entries made
-    (settled_waits g.C.Ceremony.check_log_of g.C.Ceremony.dealing_of g.C.Ceremony.finish_of (non_zero_u64_get c.args.terms.now.blocks_per_epoch) c.loop-turn.life c.loop-turn.invariant.ready.placed fixed of.blocks includes.check_log now fence c.loop-turn.inclusion is (record { ready = c.loop-turn.invariant.including; settled = λ is some none free. absurd (let e = c.may_read.ensures.1 (is, none, free) ∙ c.if-not-may_read.true in cc) }))) (c.loop-turn.invariant.tells provider fixed beside fence of reads by includes seen)
+    within_as (λ i is. is) (λ now is made. no_more TellsOver tells_joins fixed c.loop-turn._turn (length beside.inclusion.queue) (let few = front_length c.args.inclusion.now.hand c.args.inclusion.now.requests in rw seen.queue (omega (arith, few, c.len-count.ensures))) (live_of beside fence c.args.life.now) (live_of now fence c.loop-turn.life) c.args.out.now.entries c.loop-turn.out.entries made
+    (settled_waits g.C.Ceremony.check_log_of g.C.Ceremony.dealing_of g.C.Ceremony.finish_of (non_zero_u64_get c.args.terms.now.blocks_per_epoch) c.loop-turn.life c.loop-turn.invariant.ready.placed fixed of.blocks includes.check_log now fence c.loop-turn.inclusion is (record { ready = c.loop-turn.invariant.including; settled = λ is some none free. absurd (let e : true ≡ false = sym (c.may_read.ensures.1 (is, none, free)) ∙ c.if-not-may_read.true in cc) }))) (c.loop-turn.invariant.tells provider fixed beside fence of reads by includes seen)
 
 pub returns-then-not-may_read-clause-including : goal.returns-then-not-may_read-clause-including
-returns-then-not-may_read-clause-including g c = (record { ready = c.loop-turn.invariant.including; settled = λ is some none free. absurd (let e = c.may_read.ensures.1 (is, none, free) ∙ c.if-not-may_read.true in cc) })
+returns-then-not-may_read-clause-including g c = (record { ready = c.loop-turn.invariant.including; settled = λ is some none free. absurd (let e : true ≡ false = sym (c.may_read.ensures.1 (is, none, free)) ∙ c.if-not-may_read.true in cc) })
 
 pub returns-then-not-may_read-clause-ready : goal.returns-then-not-may_read-clause-ready
 returns-then-not-may_read-clause-ready g c = c.loop-turn.invariant.ready
@@ -94,12 +94,12 @@ returns-then-not-may_read-clause-moved g c = c.loop-turn.invariant.moved
 
 pub returns-clause-acts : goal.returns-clause-acts
 returns-clause-acts g c = λ disk secrets provider fixed beside fence of reads by includes seen.
-    within_as (λ i is. is) (λ now is made. no_more (MakesOver g.D.Disk.files g.D.Disk.image g.X.SecretStore.held) (makes_joins g.D.Disk.files g.D.Disk.image g.X.SecretStore.held) fixed c.loop-turn.turn (length beside.inclusion.queue) (let few = front_length c.args.inclusion.now.hand c.args.inclusion.now.requests in rw seen.queue (omega (arith, few, c.len-count.ensures))) (live_of beside fence c.args.life.now) (live_of now fence c.loop-turn.life) (c.args.devices.now, c.args.out.now.entries) (c.loop-turn.devices, c.loop-turn.out.entries) made
+    within_as (λ i is. is) (λ now is made. no_more (MakesOver g.D.Disk.files g.D.Disk.image g.X.SecretStore.held) (makes_joins g.D.Disk.files g.D.Disk.image g.X.SecretStore.held) fixed c.loop-turn._turn (length beside.inclusion.queue) (let few = front_length c.args.inclusion.now.hand c.args.inclusion.now.requests in rw seen.queue (omega (arith, few, c.len-count.ensures))) (live_of beside fence c.args.life.now) (live_of now fence c.loop-turn.life) (c.args.devices.now, c.args.out.now.entries) (c.loop-turn.devices, c.loop-turn.out.entries) made
     (settled_waits g.C.Ceremony.check_log_of g.C.Ceremony.dealing_of g.C.Ceremony.finish_of (non_zero_u64_get c.args.terms.now.blocks_per_epoch) c.loop-turn.life c.loop-turn.invariant.ready.placed fixed of.blocks includes.check_log now fence c.loop-turn.inclusion is (record { ready = c.loop-turn.invariant.including; settled = λ is some none free. nil_from_length c.loop-turn.inclusion.requests (let few = c.loop-turn.invariant.left some in omega (arith, few, c.loop-turn-test.false)) }))) (c.loop-turn.invariant.acts disk secrets provider fixed beside fence of reads by includes seen)
 
 pub returns-clause-tells : goal.returns-clause-tells
 returns-clause-tells g c = λ provider fixed beside fence of reads by includes seen.
-    within_as (λ i is. is) (λ now is made. no_more TellsOver tells_joins fixed c.loop-turn.turn (length beside.inclusion.queue) (let few = front_length c.args.inclusion.now.hand c.args.inclusion.now.requests in rw seen.queue (omega (arith, few, c.len-count.ensures))) (live_of beside fence c.args.life.now) (live_of now fence c.loop-turn.life) c.args.out.now.entries c.loop-turn.out.entries made
+    within_as (λ i is. is) (λ now is made. no_more TellsOver tells_joins fixed c.loop-turn._turn (length beside.inclusion.queue) (let few = front_length c.args.inclusion.now.hand c.args.inclusion.now.requests in rw seen.queue (omega (arith, few, c.len-count.ensures))) (live_of beside fence c.args.life.now) (live_of now fence c.loop-turn.life) c.args.out.now.entries c.loop-turn.out.entries made
     (settled_waits g.C.Ceremony.check_log_of g.C.Ceremony.dealing_of g.C.Ceremony.finish_of (non_zero_u64_get c.args.terms.now.blocks_per_epoch) c.loop-turn.life c.loop-turn.invariant.ready.placed fixed of.blocks includes.check_log now fence c.loop-turn.inclusion is (record { ready = c.loop-turn.invariant.including; settled = λ is some none free. nil_from_length c.loop-turn.inclusion.requests (let few = c.loop-turn.invariant.left some in omega (arith, few, c.loop-turn-test.false)) }))) (c.loop-turn.invariant.tells provider fixed beside fence of reads by includes seen)
 
 pub returns-clause-including : goal.returns-clause-including
@@ -129,31 +129,31 @@ pub returns-in_err-read_first-clause-acts : goal.returns-in_err-read_first-claus
 returns-in_err-read_first-clause-acts g c = λ disk secrets provider fixed beside fence of reads by includes seen.
     let p = err_from_is_err_and c.from_residual.result c.from_residual.ensures.1 in
     let few = front_length c.args.inclusion.now.hand c.args.inclusion.now.requests in
-    let within : c.loop-turn.turn + 1 ≤ length beside.inclusion.queue = rw seen.queue (omega (arith, few, c.len-count.ensures, c.loop-turn-test.true)) in
+    let within : c.loop-turn._turn + 1 ≤ length beside.inclusion.queue = rw seen.queue (omega (arith, few, c.len-count.ensures, c.loop-turn-test.true)) in
     rw (p.1, p.2) (within_then beside (c.loop-turn.invariant.acts disk secrets provider fixed beside fence of reads by includes seen)
-    (λ now is made. within_as (λ i was. was) (λ later was next. stopped_at (MakesOver g.D.Disk.files g.D.Disk.image g.X.SecretStore.held) (makes_joins g.D.Disk.files g.D.Disk.image g.X.SecretStore.held) fixed (c.loop-turn.turn + 1) (length beside.inclusion.queue) within (live_of beside fence c.args.life.now) c.in_err-read_first.field-0.0 (c.args.devices.now, c.args.out.now.entries) (c.read_first.new.devices, c.read_first.new.out.entries)
-    (one_more (MakesOver g.D.Disk.files g.D.Disk.image g.X.SecretStore.held) (makes_joins g.D.Disk.files g.D.Disk.image g.X.SecretStore.held) fixed c.loop-turn.turn (live_of beside fence c.args.life.now) (live_of now fence c.loop-turn.life) _ (c.args.devices.now, c.args.out.now.entries) (c.loop-turn.devices, c.loop-turn.out.entries) (c.read_first.new.devices, c.read_first.new.out.entries) made next))
+    (λ now is made. within_as (λ i was. was) (λ later was next. stopped_at (MakesOver g.D.Disk.files g.D.Disk.image g.X.SecretStore.held) (makes_joins g.D.Disk.files g.D.Disk.image g.X.SecretStore.held) fixed (c.loop-turn._turn + 1) (length beside.inclusion.queue) within (live_of beside fence c.args.life.now) c.in_err-read_first.field-0.0 (c.args.devices.now, c.args.out.now.entries) (c.read_first.new.devices, c.read_first.new.out.entries)
+    (one_more (MakesOver g.D.Disk.files g.D.Disk.image g.X.SecretStore.held) (makes_joins g.D.Disk.files g.D.Disk.image g.X.SecretStore.held) fixed c.loop-turn._turn (live_of beside fence c.args.life.now) (live_of now fence c.loop-turn.life) _ (c.args.devices.now, c.args.out.now.entries) (c.loop-turn.devices, c.loop-turn.out.entries) (c.read_first.new.devices, c.read_first.new.out.entries) made next))
     (c.in_err-read_first.ensures.acts disk secrets provider fixed now fence of reads by (includes_on fixed (c.loop-turn.invariant.provider provider) includes) is)))
 
 pub returns-in_err-read_first-clause-tells : goal.returns-in_err-read_first-clause-tells
 returns-in_err-read_first-clause-tells g c = λ provider fixed beside fence of reads by includes seen.
     let p = err_from_is_err_and c.from_residual.result c.from_residual.ensures.1 in
     let few = front_length c.args.inclusion.now.hand c.args.inclusion.now.requests in
-    let within : c.loop-turn.turn + 1 ≤ length beside.inclusion.queue = rw seen.queue (omega (arith, few, c.len-count.ensures, c.loop-turn-test.true)) in
+    let within : c.loop-turn._turn + 1 ≤ length beside.inclusion.queue = rw seen.queue (omega (arith, few, c.len-count.ensures, c.loop-turn-test.true)) in
     rw (p.1, p.2) (within_then beside (c.loop-turn.invariant.tells provider fixed beside fence of reads by includes seen)
-    (λ now is made. within_as (λ i was. was) (λ later was next. stopped_at TellsOver tells_joins fixed (c.loop-turn.turn + 1) (length beside.inclusion.queue) within (live_of beside fence c.args.life.now) c.in_err-read_first.field-0.0 c.args.out.now.entries c.read_first.new.out.entries
-    (one_more TellsOver tells_joins fixed c.loop-turn.turn (live_of beside fence c.args.life.now) (live_of now fence c.loop-turn.life) _ c.args.out.now.entries c.loop-turn.out.entries c.read_first.new.out.entries made next))
+    (λ now is made. within_as (λ i was. was) (λ later was next. stopped_at TellsOver tells_joins fixed (c.loop-turn._turn + 1) (length beside.inclusion.queue) within (live_of beside fence c.args.life.now) c.in_err-read_first.field-0.0 c.args.out.now.entries c.read_first.new.out.entries
+    (one_more TellsOver tells_joins fixed c.loop-turn._turn (live_of beside fence c.args.life.now) (live_of now fence c.loop-turn.life) _ c.args.out.now.entries c.loop-turn.out.entries c.read_first.new.out.entries made next))
     (c.in_err-read_first.ensures.tells provider fixed now fence of reads by (includes_on fixed (c.loop-turn.invariant.provider provider) includes) is)))
 
 pub returns-in_err-read_first-clause-ready : goal.returns-in_err-read_first-clause-ready
 returns-in_err-read_first-clause-ready g c = 
     let p = err_from_is_err_and c.from_residual.result c.from_residual.ensures.1 in
-    rw (p.1, p.2) tt
+    rw p.1 tt
 
 pub returns-in_err-read_first-clause-including : goal.returns-in_err-read_first-clause-including
 returns-in_err-read_first-clause-including g c = 
     let p = err_from_is_err_and c.from_residual.result c.from_residual.ensures.1 in
-    rw (p.1, p.2) tt
+    rw p.1 tt
 
 pub returns-in_err-read_first-clause-same : goal.returns-in_err-read_first-clause-same
 returns-in_err-read_first-clause-same g c = c.read_first.ensures.same ∙ c.loop-turn.invariant.same

@@ -204,17 +204,17 @@ returns-in_default-pop-clause-held g c = refl
 pub returns-in_err-scan-clause-ready : goal.returns-in_err-scan-clause-ready
 returns-in_err-scan-clause-ready g c = 
     let p = err_from_is_err_and c.from_residual.result c.from_residual.ensures.1 in
-    rw (p.1, p.2) tt
+    rw p.1 tt
 
 pub returns-in_err-scan-clause-including : goal.returns-in_err-scan-clause-including
 returns-in_err-scan-clause-including g c = 
     let p = err_from_is_err_and c.from_residual.result c.from_residual.ensures.1 in
-    rw (p.1, p.2) tt
+    rw p.1 tt
 
 pub returns-in_err-scan-clause-left : goal.returns-in_err-scan-clause-left
 returns-in_err-scan-clause-left g c = 
     let p = err_from_is_err_and c.from_residual.result c.from_residual.ensures.1 in
-    rw (p.1, p.2) tt
+    rw p.1 tt
 
 pub returns-in_err-scan-clause-same : goal.returns-in_err-scan-clause-same
 returns-in_err-scan-clause-same g c = refl

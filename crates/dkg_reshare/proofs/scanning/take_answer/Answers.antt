@@ -213,12 +213,12 @@ returns-in-Unavailable-clause-rest g c = refl
 pub returns-in_err-canonical-in-Logs-clause-ready : goal.returns-in_err-canonical-in-Logs-clause-ready
 returns-in_err-canonical-in-Logs-clause-ready g c = 
     let p = err_from_is_err_and c.from_residual.result c.from_residual.ensures.1 in
-    rw (p.1, p.2) tt
+    rw p.1 tt
 
 pub returns-in_err-canonical-in-Logs-clause-including : goal.returns-in_err-canonical-in-Logs-clause-including
 returns-in_err-canonical-in-Logs-clause-including g c = 
     let p = err_from_is_err_and c.from_residual.result c.from_residual.ensures.1 in
-    rw (p.1, p.2) tt
+    rw p.1 tt
 
 pub returns-in_err-canonical-in-Logs-clause-same : goal.returns-in_err-canonical-in-Logs-clause-same
 returns-in_err-canonical-in-Logs-clause-same g c = refl
@@ -238,12 +238,12 @@ returns-in_err-canonical-in-Logs-clause-rest g c = refl
 pub returns-in_err-logs-in-Logs-clause-ready : goal.returns-in_err-logs-in-Logs-clause-ready
 returns-in_err-logs-in-Logs-clause-ready g c = 
     let p = err_from_is_err_and c.from_residual-in_err-logs-in-Logs.result c.from_residual-in_err-logs-in-Logs.ensures.1 in
-    rw (p.1, p.2) tt
+    rw p.1 tt
 
 pub returns-in_err-logs-in-Logs-clause-including : goal.returns-in_err-logs-in-Logs-clause-including
 returns-in_err-logs-in-Logs-clause-including g c = 
     let p = err_from_is_err_and c.from_residual-in_err-logs-in-Logs.result c.from_residual-in_err-logs-in-Logs.ensures.1 in
-    rw (p.1, p.2) tt
+    rw p.1 tt
 
 pub returns-in_err-logs-in-Logs-clause-same : goal.returns-in_err-logs-in-Logs-clause-same
 returns-in_err-logs-in-Logs-clause-same g c = refl
