@@ -424,9 +424,9 @@ impl<
             out,
         ) {
             Ok(()) => Ok(()),
-            Err(stop) => {
+            Err(why) => {
                 self.state = State::Failed;
-                Err(stop)
+                Err(why)
             }
         }
     }

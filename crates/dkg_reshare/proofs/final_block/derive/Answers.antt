@@ -11,12 +11,13 @@ use Rattle.dkg_reshare.proofs.Beginning.{makes_as, tells_as}
 use Rattle.dkg_reshare.proofs.Beside.{then_well, with_then}
 use Rattle.dkg_reshare.proofs.Blamed.{blamed_behind}
 use Rattle.dkg_reshare.proofs.Caching.{same_provided}
+use Rattle.dkg_reshare.proofs.Chained.{early_makes, early_told, then_makes, then_told}
 use Rattle.dkg_reshare.proofs.Concluding.{derived_ready, final_as, middle_in, not_following, provides_then, wants_makes}
 use Rattle.dkg_reshare.proofs.Kept.{moved_none, moved_then}
 use Rattle.dkg_reshare.proofs.Said.{speaks_tells}
 use Rattle.dkg_reshare.proofs.Speaking.{wants_speaks}
 use Rattle.dkg_reshare.proofs.Telling.{ends_beside}
-use Rattle.dkg_reshare.proofs.Within.{bound_early, bound_makes, bound_tells, bound_unsaid, within_as}
+use Rattle.dkg_reshare.proofs.Within.{within_as}
 use Rattle.dkg_reshare.proofs.final_block.derive.Goals as goal
 
 -- NO MEMORY
@@ -67,7 +68,7 @@ returns-in_err-end_verifying-clause-acts g c = λ disk secrets provided fixed ro
     let middle = middle_in (non_zero_u64_get c.args.terms.now.blocks_per_epoch) c.args.life.now c.requires.includes c.requires.ready.placed fixed of.blocks in
     rw (p.1, p.2) (within_as (λ i known. tt)
     (λ now known made. makes_as (final_as fixed round st c.in_ok-logs.logs (c.in_ok-logs.ensures.canonical fixed beside fence middle) c.args.inclusion.now.cache seen.cached c.in_ok-before.before c.in_ok-before.ensures) _
-    (bound_early g.D.Disk.files g.D.Disk.image g.X.SecretStore.held (including.ends_verifying fixed None st) (λ s. derives_by fixed round c.in_ok-logs.logs (option_map artifact_of c.in_ok-before.before) s) c.in_err-end_verifying.field-0.0 made))
+    (early_makes (including.ends_verifying fixed None st) (λ s. derives_by fixed round c.in_ok-logs.logs (option_map artifact_of c.in_ok-before.before) s) c.in_err-end_verifying.field-0.0 made))
     (c.in_err-end_verifying.ensures.acts disk secrets provided fixed beside fence of reads by provides seen))
 
 pub returns-in_err-end_verifying-clause-tells : goal.returns-in_err-end_verifying-clause-tells
@@ -77,7 +78,7 @@ returns-in_err-end_verifying-clause-tells g c = λ provided fixed round beside f
     let middle = middle_in (non_zero_u64_get c.args.terms.now.blocks_per_epoch) c.args.life.now c.requires.includes c.requires.ready.placed fixed of.blocks in
     rw (p.1, p.2) (within_as (λ i known. tt)
     (λ now known told. tells_as (final_as fixed round st c.in_ok-logs.logs (c.in_ok-logs.ensures.canonical fixed beside fence middle) c.args.inclusion.now.cache seen.cached c.in_ok-before.before c.in_ok-before.ensures) _
-    (bound_unsaid (including.ends_verifying fixed None st) (λ s. derives_by fixed round c.in_ok-logs.logs (option_map artifact_of c.in_ok-before.before) s) c.in_err-end_verifying.field-0.0 told))
+    (early_told (including.ends_verifying fixed None st) (λ s. derives_by fixed round c.in_ok-logs.logs (option_map artifact_of c.in_ok-before.before) s) c.in_err-end_verifying.field-0.0 told))
     (c.in_err-end_verifying.ensures.tells provided fixed beside fence of reads by provides seen))
 
 pub returns-in_err-end_verifying-clause-moved : goal.returns-in_err-end_verifying-clause-moved
@@ -112,7 +113,7 @@ returns-clause-acts g c = λ disk secrets provided fixed round beside fence of r
     with_then beside (c.in_ok-end_verifying.ensures.acts disk secrets provided fixed beside fence of reads by provides seen)
     (λ mid known ended. within_as (λ i seen. seen)
     (λ now then made. makes_as (final_as fixed round st c.in_ok-logs.logs (c.in_ok-logs.ensures.canonical fixed beside fence middle) c.args.inclusion.now.cache seen.cached c.in_ok-before.before c.in_ok-before.ensures) _
-    (bound_makes g.D.Disk.files g.D.Disk.image g.X.SecretStore.held (including.ends_verifying fixed None st) (λ s. derives_by fixed round c.in_ok-logs.logs (option_map artifact_of c.in_ok-before.before) s)
+    (then_makes (including.ends_verifying fixed None st) (λ s. derives_by fixed round c.in_ok-logs.logs (option_map artifact_of c.in_ok-before.before) s)
     (live_of mid fence c.end_verifying.new.life) _ ended made))
     (c.artifact_by.ensures.acts disk secrets provided fixed round mid fence c.end_verifying.new.out.entries of reads by (provides_then fixed (c.end_verifying.ensures.provider provided) provides)
     (ap (λ (l : Life g.row.Dir.Denot). l.round) c.end_verifying.ensures.same ∙ has) known))
@@ -124,7 +125,7 @@ returns-clause-tells g c = λ provided fixed round beside fence of reads by prov
     with_then beside (c.in_ok-end_verifying.ensures.tells provided fixed beside fence of reads by provides seen)
     (λ mid known ended. within_as (λ i seen. seen)
     (λ now then told. tells_as (final_as fixed round st c.in_ok-logs.logs (c.in_ok-logs.ensures.canonical fixed beside fence middle) c.args.inclusion.now.cache seen.cached c.in_ok-before.before c.in_ok-before.ensures) _
-    (bound_tells (including.ends_verifying fixed None st) (λ s. derives_by fixed round c.in_ok-logs.logs (option_map artifact_of c.in_ok-before.before) s) (live_of mid fence c.end_verifying.new.life) _ ended told))
+    (then_told (including.ends_verifying fixed None st) (λ s. derives_by fixed round c.in_ok-logs.logs (option_map artifact_of c.in_ok-before.before) s) (live_of mid fence c.end_verifying.new.life) _ ended told))
     (c.artifact_by.ensures.tells provided fixed round mid fence c.end_verifying.new.out.entries of reads by (provides_then fixed (c.end_verifying.ensures.provider provided) provides)
     (ap (λ (l : Life g.row.Dir.Denot). l.round) c.end_verifying.ensures.same ∙ has) known))
 

@@ -122,7 +122,7 @@ returns-in_err-record-clause-acts g c = λ disk secrets fixed round beside fence
     let same : round ≡ c.in-Some.round = same_some round c.in-Some.round (sym has ∙ c.in-Some.is) in
     rw (p.1, p.2) (unrecorded_makes fixed round c.args.block.now (live_of beside fence c.args.life.now) c.in-Some-signed.signed.now (sym c.log_in.ensures ∙ ap option_copied c.in-Some-signed.is)
     (counts_as fixed g.C.Ceremony.check_log_of by round c.in-Some-signed.signed.now c.in_ok-counts.counts (rw same c.in_ok-counts.ensures) ∙ yes) c.in_err-record.field-0.0
-    (rw (same, sym c.height.ensures) (c.in_err-record.ensures.acts disk secrets c.args.life.now beside fence out refl)))
+    (rw (same, ap (λ (r : Round). r.number) (sym c.parts.ensures), sym c.height.ensures) (c.in_err-record.ensures.acts disk secrets c.args.life.now beside fence out refl)))
 
 pub returns-in_err-record-clause-tells : goal.returns-in_err-record-clause-tells
 returns-in_err-record-clause-tells g c = λ fixed round beside fence out mine by has.
@@ -131,7 +131,7 @@ returns-in_err-record-clause-tells g c = λ fixed round beside fence out mine by
     let same : round ≡ c.in-Some.round = same_some round c.in-Some.round (sym has ∙ c.in-Some.is) in
     rw (p.1, p.2) (unrecorded_told fixed round c.args.block.now (live_of beside fence c.args.life.now) c.in-Some-signed.signed.now (sym c.log_in.ensures ∙ ap option_copied c.in-Some-signed.is)
     (counts_as fixed g.C.Ceremony.check_log_of by round c.in-Some-signed.signed.now c.in_ok-counts.counts (rw same c.in_ok-counts.ensures) ∙ yes) c.in_err-record.field-0.0
-    (rw (same, sym c.height.ensures) (c.in_err-record.ensures.tells c.args.life.now beside fence out refl)))
+    (rw (same, ap (λ (r : Round). r.number) (sym c.parts.ensures), sym c.height.ensures) (c.in_err-record.ensures.tells c.args.life.now beside fence out refl)))
 
 pub returns-in_err-record-clause-moved : goal.returns-in_err-record-clause-moved
 returns-in_err-record-clause-moved g c = c.record.ensures.moved
@@ -167,7 +167,7 @@ returns-clause-acts g c = λ disk secrets fixed round beside fence out mine by h
     observed_makes fixed round c.args.block.now (live_of beside fence c.args.life.now) c.in-Some-signed.signed.now (sym c.log_in.ensures ∙ ap option_copied c.in-Some-signed.is)
     (counts_as fixed g.C.Ceremony.check_log_of by round c.in-Some-signed.signed.now c.in_ok-counts.counts (rw same c.in_ok-counts.ensures) ∙ yes)
     (live_of beside fence (record c.args.life.now { store = c.record.new.store })) (live_of beside fence c.clear_own.new.life) (c.clear_own.ensures.cleared fixed beside fence mine)
-    (rw (same, sym c.height.ensures) (c.in_ok-record.ensures.acts disk secrets c.args.life.now beside fence out refl))
+    (rw (same, ap (λ (r : Round). r.number) (sym c.parts.ensures), sym c.height.ensures) (c.in_ok-record.ensures.acts disk secrets c.args.life.now beside fence out refl))
 
 pub returns-clause-tells : goal.returns-clause-tells
 returns-clause-tells g c = λ fixed round beside fence out mine by has.
@@ -176,7 +176,7 @@ returns-clause-tells g c = λ fixed round beside fence out mine by has.
     observed_told fixed round c.args.block.now (live_of beside fence c.args.life.now) c.in-Some-signed.signed.now (sym c.log_in.ensures ∙ ap option_copied c.in-Some-signed.is)
     (counts_as fixed g.C.Ceremony.check_log_of by round c.in-Some-signed.signed.now c.in_ok-counts.counts (rw same c.in_ok-counts.ensures) ∙ yes)
     (live_of beside fence (record c.args.life.now { store = c.record.new.store })) (live_of beside fence c.clear_own.new.life) (c.clear_own.ensures.cleared fixed beside fence mine)
-    (rw (same, sym c.height.ensures) (c.in_ok-record.ensures.tells c.args.life.now beside fence out refl))
+    (rw (same, ap (λ (r : Round). r.number) (sym c.parts.ensures), sym c.height.ensures) (c.in_ok-record.ensures.tells c.args.life.now beside fence out refl))
 
 pub returns-clause-moved : goal.returns-clause-moved
 returns-clause-moved g c = c.record.ensures.moved

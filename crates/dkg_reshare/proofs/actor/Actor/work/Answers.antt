@@ -122,14 +122,14 @@ returns-in-Err-clause-rest g c = (refl, refl, refl, refl)
 pub returns-in-Err-clause-fails : goal.returns-in-Err-clause-fails
 returns-in-Err-clause-fails g c = record {
   stopped = λ is. absurd (lives_on c.args.self.now.state _ _ c.in-Living.is is);
-  only = λ is. absurd (not_failed g.D.Disk.tells _ _ _ c.in-Err.stop (caused_around g.D.Disk.tells (λ x. x) (λ x. x) (λ x. x) c.in-Err.stop c.in-Err.ensures.causes) (same_error (Unit {0}) c.in-Err.stop Failed is));
+  only = λ is. absurd (not_failed g.D.Disk.tells _ _ _ c.in-Err.why (caused_around g.D.Disk.tells (λ x. x) (λ x. x) (λ x. x) c.in-Err.why c.in-Err.ensures.causes) (same_error (Unit {0}) c.in-Err.why Failed is));
 }
 
 pub returns-in-Err-clause-moved : goal.returns-in-Err-clause-moved
 returns-in-Err-clause-moved g c = c.work.ensures.moved
 
 pub returns-in-Err-clause-causes : goal.returns-in-Err-clause-causes
-returns-in-Err-clause-causes g c = caused_in_step g.D.Disk.tells _ _ _ c.in-Err.stop (caused_around g.D.Disk.tells (λ x. x) (λ x. x) (λ x. x) c.in-Err.stop c.in-Err.ensures.causes)
+returns-in-Err-clause-causes g c = caused_in_step g.D.Disk.tells _ _ _ c.in-Err.why (caused_around g.D.Disk.tells (λ x. x) (λ x. x) (λ x. x) c.in-Err.why c.in-Err.ensures.causes)
 
 pub returns-in-Err-clause-fit : goal.returns-in-Err-clause-fit
 returns-in-Err-clause-fit g c = λ told fit. rw c.work.ensures.disk fit
