@@ -92,10 +92,9 @@ module _ {C Dir Signer Cfg : Type 0} (beside : Beside Dir) (fence : Readiness) (
         → Speaks (blocks.answers_all beside.inclusion.queue (live_of beside fence life)) how out last
     first_on how last speaks = left.on how last (subst (λ (rs : List (Request Dir)). Speaks (blocks.answers_all (map request_of rs) (with_its beside fence life left.now)) how told last) (sym are) speaks)
 
-    -- the first was told, ..
-    pub one_less : (new : Inclusion C Dir Signer Cfg) → new ≡ record its { requests = rest; told = insert its.told request.number (Info (Unavailable Finished)) } → (more : List Line)
+    told_first : (new : Inclusion C Dir Signer Cfg) → new ≡ record its { requests = rest; told = insert its.told request.number (Info (Unavailable Finished)) } → (more : List Line)
         → Speaks (including.answers_none request.number Finished (with_its beside fence life left.now)) (went then_live) told more → IsLeft new out more
-    one_less new same more speaks = subst (λ (x : Inclusion C Dir Signer Cfg). IsLeft x out more) (sym same) (record {
+    told_first new same more speaks = subst (λ (x : Inclusion C Dir Signer Cfg). IsLeft x out more) (sym same) (record {
       now = record left.now { told = (request.number, GaveNone Finished) ∷ left.now.told };
       seen = shorter (seen_told its (record left.now { queue = map request_of its.requests }) request.number (Info (Unavailable Finished)) (GaveNone Finished) refl left.seen);
       on = λ how last behind. first_on how last (line_then _ then_live (blocks.answers_all (map request_of rest) then_live) then_live how told more last speaks behind);
@@ -114,10 +113,24 @@ module _ {C Dir Signer Cfg : Type 0} (beside : Beside Dir) (fence : Readiness) (
           used = seen.used;
         }
 
-    -- .. or found no memory
-    pub none_more : (stop : Stop) → stop ≡ Faulted NoMemory → (more : List Line) → Speaks (including.answers_none request.number Finished (with_its beside fence life left.now)) (by_stop stop) told more
+    found_none : (stop : Stop) → stop ≡ Faulted NoMemory → (more : List Line) → Speaks (including.answers_none request.number Finished (with_its beside fence life left.now)) (by_stop stop) told more
         → Speaks (blocks.answers_all beside.inclusion.queue (live_of beside fence life)) (by_stop stop) out more
-    none_more stop ends more speaks = first_on (by_stop stop) more (line_wants _ then_live (blocks.answers_all (map request_of rest) then_live) stop ends told more speaks)
+    found_none stop ends more speaks = first_on (by_stop stop) more (line_wants _ then_live (blocks.answers_all (map request_of rest) then_live) stop ends told more speaks)
+
+    -- the first, which has this number, was told, ..
+    pub one_less : (n : ℕ) → n ≡ request.number → (new : Inclusion C Dir Signer Cfg) → new ≡ record its { requests = rest; told = insert its.told n (Info (Unavailable Finished)) } → (more : List Line)
+        → Speaks (including.answers_none n Finished (with_its beside fence life left.now)) (went (with_told n (GaveNone Finished) (with_its beside fence life left.now))) told more → IsLeft new out more
+    one_less n number =
+        subst (λ (k : ℕ). (new : Inclusion C Dir Signer Cfg) → new ≡ record its { requests = rest; told = insert its.told k (Info (Unavailable Finished)) } → (more : List Line)
+        → Speaks (including.answers_none k Finished (with_its beside fence life left.now)) (went (with_told k (GaveNone Finished) (with_its beside fence life left.now))) told more → IsLeft new out more)
+        (sym number) told_first
+
+    -- .. or found no memory
+    pub none_more : (n : ℕ) → n ≡ request.number → (stop : Stop) → stop ≡ Faulted NoMemory → (more : List Line)
+        → Speaks (including.answers_none n Finished (with_its beside fence life left.now)) (by_stop stop) told more → Speaks (blocks.answers_all beside.inclusion.queue (live_of beside fence life)) (by_stop stop) out more
+    none_more n number =
+        subst (λ (k : ℕ). (stop : Stop) → stop ≡ Faulted NoMemory → (more : List Line) → Speaks (including.answers_none k Finished (with_its beside fence life left.now)) (by_stop stop) told more
+        → Speaks (blocks.answers_all beside.inclusion.queue (live_of beside fence life)) (by_stop stop) out more) (sym number) found_none
 
   -- NONE IS LEFT
   pub none_left : (its : Inclusion C Dir Signer Cfg) (out told : List Line) → IsLeft its out told → its.requests ≡ []

@@ -1,6 +1,7 @@
 -- What a request is told, in memory and in the relation.
-use Rattle.std.proofs.Common.{◌≡◌, inl, inr, ℕ, Bool, true, false, cond, List, [], ◌∷◌, ◌++◌, Option, Some, None, is_some, refl, sym, ◌∙◌, ap, subst, arith}
-use Rattle.std.specs.Prelude.{◌==◌, ◌⊎◌, ◌↔◌, Contains, IsSome, OnOk, if◌then◌else◌, option_and_then, option_map}
+use Rattle.std.proofs.Common.{◌≡◌, inl, inr, ℕ, Bool, true, false, cond, List, [], ◌∷◌, ◌++◌, Bor, Option, Some, None, Result, Ok, Err, is_some, refl, sym, ◌∙◌, ap, subst, arith}
+use Rattle.std.specs.Option.{option_copied}
+use Rattle.std.specs.Prelude.{◌==◌, ◌&&◌, ◌⊎◌, ◌↔◌, Contains, IfOk, IsSome, OnOk, if◌then◌else◌, option_and_then, option_map}
 use Rattle.std.specs.Cmp.{nat_cmp_total}
 use Rattle.std.specs.FinMap.{FinMap, get, get-insert, insert}
 use Rattle.std.specs.Ordering.{eq_by_cmp, nat_cmp}
@@ -23,6 +24,7 @@ use Rattle.dkg_types.specs.declared.scheme.SchemeInfo.{SchemeInfo}
 use Rattle.dkg_store.specs.Acts as acts_of
 use Rattle.dkg_store.specs.Acts.{Breaks, Held, World, broken, by_want, went}
 use Rattle.dkg_store.proofs.Acts.{breaks_none}
+use Rattle.dkg_core.specs.Core.{no_inclusion}
 use Rattle.dkg_core.specs.Courses.{Course, Goes, Say}
 use Rattle.dkg_core.specs.Fixed.{Fixed}
 use Rattle.dkg_core.specs.Including as including
@@ -38,7 +40,7 @@ use Rattle.dkg_reshare.specs.declared.told.Told.{Told}
 use Rattle.dkg_reshare.specs.declared.told.Told.TheVariants as told
 use Rattle.dkg_reshare.specs.Ends.{by_stop}
 use Rattle.dkg_reshare.specs.InclusionOf.{IsSeen, cached_of, kept_of}
-use Rattle.dkg_reshare.specs.LiveOf.{Beside, EndsWith, live_of, stage_of}
+use Rattle.dkg_reshare.specs.LiveOf.{Beside, EndsWith, live_of, no_fence, nothing_beside, stage_of}
 use Rattle.dkg_reshare.specs.Made.{Speaks}
 use Rattle.dkg_reshare.proofs.Speaking.{says_speaks, wants_speaks}
 
@@ -276,3 +278,34 @@ module _ {Dir : Type 0} (beside : Beside Dir) (fence : Readiness) (life : Life D
   pub tested_in : (height : ℕ) (served : Option ℕ) → beside.inclusion.served ≡ served → (result : Bool) (its : declared.Stage) → life.stage ≡ its → result ≡ test_in height (stage_of its) served
       → result ≡ including.is_served_at height (live_of beside fence life)
   tested_in height served same result its is tests = tests ∙ (λ i. test_in height (stage_of (sym is i)) (sym same i))
+
+  -- at this height, where a log is there
+  pub served_for : (height at : ℕ) (served : Option ℕ) → beside.inclusion.served ≡ served → served ≡ Some at → (at == height) ≡ true → (found : Option (Bor SignedDealerLog)) → option_copied found ≡ including.own_log (live_of beside fence life)
+      → (result : Bool) → result ≡ is_some found → life.stage ≡ stage.Including → result ≡ including.is_served_at height (live_of beside fence life)
+  served_for height at served same is equal found own result some includes =
+      tested_in height served same result stage.Including includes
+      (some ∙ copied found ∙ ap (λ (o : Option SignedDealerLog). is_some o) own ∙ ap (λ (t : Bool). t && is_some (including.own_log (live_of beside fence life))) (sym equal)
+      ∙ ap (test_in height core.Includes) (sym is))
+    where
+      copied : (o : Option (Bor SignedDealerLog)) → is_some o ≡ is_some (option_copied o)
+      copied None = refl
+      copied (Some x) = refl
+
+  -- outside of inclusion for none
+  pub unserved_apart : (height : ℕ) (its : declared.Stage) → life.stage ≡ its → (its ≡ stage.Including → ⊥) → including.is_served_at height (live_of beside fence life) ≡ false
+  unserved_apart height stage.Dealing is apart = ap (λ (s : declared.Stage). test_in height (stage_of s) beside.inclusion.served) is
+  unserved_apart height stage.Following is apart = ap (λ (s : declared.Stage). test_in height (stage_of s) beside.inclusion.served) is
+  unserved_apart height stage.Including is apart = absurd (apart refl)
+
+pub unserved_outside : {Dir : Type 0} (height : ℕ) (life : Life Dir) (served : Option ℕ) (test : Bool)
+    → ((beside : Beside Dir) (fence : Readiness) → beside.inclusion.served ≡ served → test ≡ including.is_served_at height (live_of beside fence life)) → (life.stage ≡ stage.Including → ⊥) → test ≡ false
+unserved_outside {Dir} height life served test tests apart =
+    let its : Beside Dir = record (nothing_beside {Dir = Dir}) { inclusion = record (no_inclusion {Dir = Dir}) { served = served } } in
+    tests its no_fence refl ∙ unserved_apart its no_fence life height life.stage refl apart
+
+-- What is copied of an offer is that offer.
+pub copied_offers : {Dir E : Type 0} (life : Life Dir) (Seen : Beside Dir → Type 0) (r : Result (Option (Payload Dir)) E) (offer : Option (Payload Dir))
+    → ((beside : Beside Dir) (fence : Readiness) → Seen beside → offer ≡ option_map log_payload (including.served_now (live_of beside fence life))) → IfOk r (λ made. made ≡ offer)
+    → IfOk r (λ made. (beside : Beside Dir) (fence : Readiness) → Seen beside → made ≡ option_map log_payload (including.served_now (live_of beside fence life)))
+copied_offers life Seen (Ok made) offer offers is = λ beside fence seen. is ∙ offers beside fence seen
+copied_offers life Seen (Err e) offer offers is = tt

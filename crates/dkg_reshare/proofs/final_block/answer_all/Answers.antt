@@ -1,4 +1,4 @@
-use Rattle.std.proofs.Common.{◌≡◌, None, ap, arith, length, refl, sym, ◌∙◌}
+use Rattle.std.proofs.Common.{◌≡◌, None, ap, arith, rules, length, refl, sym, ◌∙◌}
 use Rattle.std.proofs.lemmas.Result.{err_from_is_err_and}
 use Rattle.dkg_reshare.specs.LiveOf.{live_of}
 use Rattle.dkg_reshare.proofs.Answering.{all_left, none_behind, none_more, one_less, with_its}
@@ -13,7 +13,8 @@ loop-request-preserved g c = record {
   hand = c.loop-request.invariant.hand;
   left = λ beside fence life seen.
       let left = c.loop-request.invariant.left beside fence life seen in
-      one_less beside fence life c.loop-request.inclusion c.args.out.now.entries c.loop-request.out.entries left c.loop-request.invariant.hand c.in-Some.request c.pop.new.self c.in-Some.ensures.first _
+      let number : c.request.inside.number ≡ c.in-Some.request.number = search rules in
+      one_less beside fence life c.loop-request.inclusion c.args.out.now.entries c.loop-request.out.entries left c.loop-request.invariant.hand c.in-Some.request c.pop.new.self c.in-Some.ensures.first c.request.inside.number number _
       (λ i. record c.loop-request.inclusion { requests = c.pop.new.self; told = c.in_ok-answer_none.ensures.told i }) _ (c.in_ok-answer_none.ensures.speaks (with_its beside fence life left.now));
 }
 
@@ -21,7 +22,8 @@ pub returns-in_err-answer_none-clause-speaks : goal.returns-in_err-answer_none-c
 returns-in_err-answer_none-clause-speaks g c = λ beside fence life seen.
     let p = err_from_is_err_and c.from_residual.result c.from_residual.ensures.1 in
     let left = c.loop-request.invariant.left beside fence life seen in
-    rw (p.1, p.2) (ends_beside beside tt refl (none_more beside fence life c.loop-request.inclusion c.args.out.now.entries c.loop-request.out.entries left c.loop-request.invariant.hand c.in-Some.request c.pop.new.self c.in-Some.ensures.first
+    let number : c.request.inside.number ≡ c.in-Some.request.number = search rules in
+    rw (p.1, p.2) (ends_beside beside tt refl (none_more beside fence life c.loop-request.inclusion c.args.out.now.entries c.loop-request.out.entries left c.loop-request.invariant.hand c.in-Some.request c.pop.new.self c.in-Some.ensures.first c.request.inside.number number
     c.in_err-answer_none.field-0.0 c.in_err-answer_none.ensures.memory _ (c.in_err-answer_none.ensures.speaks (with_its beside fence life left.now))))
 
 pub returns-clause-speaks : goal.returns-clause-speaks

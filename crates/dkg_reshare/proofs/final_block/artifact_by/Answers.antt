@@ -55,26 +55,26 @@ returns-in_err-kept-clause-provider g c = λ told. (λ epoch. refl, λ epoch pee
 
 -- IT IS CACHED NOW
 
-pub returns-in-Some-2-clause-acts : goal.returns-in-Some-2-clause-acts
-returns-in-Some-2-clause-acts g c = λ disk secrets provided fixed round beside fence out of reads by provides has seen.
+pub returns-in-Some-kept-clause-acts : goal.returns-in-Some-kept-clause-acts
+returns-in-Some-kept-clause-acts g c = λ disk secrets provided fixed round beside fence out of reads by provides has seen.
     let st = live_of beside fence c.args.life.now in
-    ends_beside beside seen refl (goes_makes (derives_by fixed round c.args.logs.now (option_map artifact_of c.args.before) st) (artifact_of c.in-Some-2.artifact, st)
-    (by_cache fixed round c.args.logs.now st c.args.before c.in_default.is c.args.inclusion.now.cache seen.cached c.in_ok-kept.kept c.in_ok-kept.ensures c.in-Some-2.artifact c.in-Some-2.is) _ _ _)
+    ends_beside beside seen refl (goes_makes (derives_by fixed round c.args.logs.now (option_map artifact_of c.args.before) st) (artifact_of c.in-Some-kept.artifact, st)
+    (by_cache fixed round c.args.logs.now st c.args.before c.in_default.is c.args.inclusion.now.cache seen.cached c.in_ok-kept.kept c.in_ok-kept.ensures c.in-Some-kept.artifact c.in-Some-kept.is) _ _ _)
 
-pub returns-in-Some-2-clause-tells : goal.returns-in-Some-2-clause-tells
-returns-in-Some-2-clause-tells g c = λ provided fixed round beside fence out of reads by provides has seen.
+pub returns-in-Some-kept-clause-tells : goal.returns-in-Some-kept-clause-tells
+returns-in-Some-kept-clause-tells g c = λ provided fixed round beside fence out of reads by provides has seen.
     let st = live_of beside fence c.args.life.now in
-    ends_beside beside seen refl (goes_tells (derives_by fixed round c.args.logs.now (option_map artifact_of c.args.before) st) (artifact_of c.in-Some-2.artifact, st)
-    (by_cache fixed round c.args.logs.now st c.args.before c.in_default.is c.args.inclusion.now.cache seen.cached c.in_ok-kept.kept c.in_ok-kept.ensures c.in-Some-2.artifact c.in-Some-2.is) out)
+    ends_beside beside seen refl (goes_tells (derives_by fixed round c.args.logs.now (option_map artifact_of c.args.before) st) (artifact_of c.in-Some-kept.artifact, st)
+    (by_cache fixed round c.args.logs.now st c.args.before c.in_default.is c.args.inclusion.now.cache seen.cached c.in_ok-kept.kept c.in_ok-kept.ensures c.in-Some-kept.artifact c.in-Some-kept.is) out)
 
-pub returns-in-Some-2-clause-moved : goal.returns-in-Some-2-clause-moved
-returns-in-Some-2-clause-moved g c = moved_none g.D.Disk.tells g.D.Disk.made g.X.SecretStore.made g.D.Disk.faults g.X.SecretStore.faults g.met.D.Disk.made_none g.met.X.SecretStore.made_none c.args.devices.now
+pub returns-in-Some-kept-clause-moved : goal.returns-in-Some-kept-clause-moved
+returns-in-Some-kept-clause-moved g c = moved_none g.D.Disk.tells g.D.Disk.made g.X.SecretStore.made g.D.Disk.faults g.X.SecretStore.faults g.met.D.Disk.made_none g.met.X.SecretStore.made_none c.args.devices.now
 
-pub returns-in-Some-2-clause-provider : goal.returns-in-Some-2-clause-provider
-returns-in-Some-2-clause-provider g c = λ told. (λ epoch. refl, λ epoch peers. refl)
+pub returns-in-Some-kept-clause-provider : goal.returns-in-Some-kept-clause-provider
+returns-in-Some-kept-clause-provider g c = λ told. (λ epoch. refl, λ epoch peers. refl)
 
-pub returns-in-Some-2-clause-idle : goal.returns-in-Some-2-clause-idle
-returns-in-Some-2-clause-idle g c = c.requires.idle
+pub returns-in-Some-kept-clause-idle : goal.returns-in-Some-kept-clause-idle
+returns-in-Some-kept-clause-idle g c = c.requires.idle
 
 -- IT IS DERIVED
 
@@ -90,13 +90,13 @@ derive_now-requires g c = record {
 pub returns-clause-acts : goal.returns-clause-acts
 returns-clause-acts g c = λ disk secrets provided fixed round beside fence out of reads by provides has seen.
     within_as (λ i known. known)
-    (λ now known made. makes_as (by_neither fixed round c.args.logs.now (live_of beside fence c.args.life.now) c.args.before c.in_default.is c.args.inclusion.now.cache seen.cached c.in_ok-kept.kept c.in_ok-kept.ensures c.in_default-2.is) _ made)
+    (λ now known made. makes_as (by_neither fixed round c.args.logs.now (live_of beside fence c.args.life.now) c.args.before c.in_default.is c.args.inclusion.now.cache seen.cached c.in_ok-kept.kept c.in_ok-kept.ensures c.in_default-kept.is) _ made)
     (c.derive_now.ensures.acts disk secrets provided fixed round beside fence out of reads by provides has seen)
 
 pub returns-clause-tells : goal.returns-clause-tells
 returns-clause-tells g c = λ provided fixed round beside fence out of reads by provides has seen.
     within_as (λ i known. known)
-    (λ now known told. tells_as (by_neither fixed round c.args.logs.now (live_of beside fence c.args.life.now) c.args.before c.in_default.is c.args.inclusion.now.cache seen.cached c.in_ok-kept.kept c.in_ok-kept.ensures c.in_default-2.is) _ told)
+    (λ now known told. tells_as (by_neither fixed round c.args.logs.now (live_of beside fence c.args.life.now) c.args.before c.in_default.is c.args.inclusion.now.cache seen.cached c.in_ok-kept.kept c.in_ok-kept.ensures c.in_default-kept.is) _ told)
     (c.derive_now.ensures.tells provided fixed round beside fence out of reads by provides has seen)
 
 pub returns-clause-moved : goal.returns-clause-moved

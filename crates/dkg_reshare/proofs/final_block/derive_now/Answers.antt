@@ -56,8 +56,8 @@ returns-in_err-see_verified-clause-causes g c =
 pub returns-in_err-see_verified-clause-rest : goal.returns-in_err-see_verified-clause-rest
 returns-in_err-see_verified-clause-rest g c = c.see_verified.ensures.rest
 
-pub prove-unreachable-requires : goal.prove-unreachable-requires
-prove-unreachable-requires g c = none_apart c.ready.result c.in_default.is (c.ready.ensures.exactly.1 c.in_ok-see_verified.ensures.ready)
+pub unreachable-requires : goal.unreachable-requires
+unreachable-requires g c = none_apart c.ready.result c.in_default.is (c.ready.ensures.exactly.1 c.in_ok-see_verified.ensures.ready)
 
 pub keep_artifact-requires : goal.keep_artifact-requires
 keep_artifact-requires g c = c.requires.current
@@ -129,8 +129,8 @@ returns-in_err-kept-clause-same g c = λ i. record c.args.life.now { store = c.k
 
 -- IT IS MADE
 
-pub returns-in-Some-2-clause-acts : goal.returns-in-Some-2-clause-acts
-returns-in-Some-2-clause-acts g c = λ disk secrets provided fixed round beside fence out of reads by provides has seen.
+pub returns-in-Some-kept-clause-acts : goal.returns-in-Some-kept-clause-acts
+returns-in-Some-kept-clause-acts g c = λ disk secrets provided fixed round beside fence out of reads by provides has seen.
     let middle = middle_in (non_zero_u64_get c.args.terms.now.blocks_per_epoch) c.args.life.now c.requires.includes c.requires.ready.placed fixed of.blocks in
     let same = c.requires.canonical ∙ canonical_is fixed beside fence c.args.life.now middle in
     let kept = sym (c.ready.ensures.kept (ap (λ o. is_some o) c.in-Some.is)) ∙ ap option_copied c.in-Some.is in
@@ -140,12 +140,12 @@ returns-in-Some-2-clause-acts g c = λ disk secrets provided fixed round beside 
     (kept_makes fixed round c.args.logs.now (live_of beside fence c.args.life.now) same of.reshare (live_of now fence c.args.life.now) (result_of c.in-Some.ready.now)
     (known.retained ∙ ap (option_map result_of) kept) (speaks out) (caching c.keep_artifact.new.cache (live_of now fence c.args.life.now)) _
     (λ i. caching c.keep_artifact.new.cache (live_of now fence (record c.args.life.now { store = c.keep_artifact.ensures.store i })))
-    (artifact_of c.in-Some-2.artifact)
-    (subst (λ (l : LogMap). Some (artifact_of c.in-Some-2.artifact) ≡ including.cached_for (option_map cached_of c.keep_artifact.new.cache) l) (sym logs) (sym (ap (option_map artifact_of) c.in-Some-2.is) ∙ c.in_ok-kept.ensures))
+    (artifact_of c.in-Some-kept.artifact)
+    (subst (λ (l : LogMap). Some (artifact_of c.in-Some-kept.artifact) ≡ including.cached_for (option_map cached_of c.keep_artifact.new.cache) l) (sym logs) (sym (ap (option_map artifact_of) c.in-Some-kept.is) ∙ c.in_ok-kept.ensures))
     (c.in_ok-keep_artifact.ensures.acts disk secrets provided fixed (live_of now fence c.args.life.now) of reads provides refl known.cached out)))
 
-pub returns-in-Some-2-clause-tells : goal.returns-in-Some-2-clause-tells
-returns-in-Some-2-clause-tells g c = λ provided fixed round beside fence out of reads by provides has seen.
+pub returns-in-Some-kept-clause-tells : goal.returns-in-Some-kept-clause-tells
+returns-in-Some-kept-clause-tells g c = λ provided fixed round beside fence out of reads by provides has seen.
     let middle = middle_in (non_zero_u64_get c.args.terms.now.blocks_per_epoch) c.args.life.now c.requires.includes c.requires.ready.placed fixed of.blocks in
     let same = c.requires.canonical ∙ canonical_is fixed beside fence c.args.life.now middle in
     let kept = sym (c.ready.ensures.kept (ap (λ o. is_some o) c.in-Some.is)) ∙ ap option_copied c.in-Some.is in
@@ -155,17 +155,21 @@ returns-in-Some-2-clause-tells g c = λ provided fixed round beside fence out of
     (kept_told fixed round c.args.logs.now (live_of beside fence c.args.life.now) same of.reshare (live_of now fence c.args.life.now) (result_of c.in-Some.ready.now)
     (known.retained ∙ ap (option_map result_of) kept) (speaks out) (caching c.keep_artifact.new.cache (live_of now fence c.args.life.now)) _
     (λ i. caching c.keep_artifact.new.cache (live_of now fence (record c.args.life.now { store = c.keep_artifact.ensures.store i })))
-    (artifact_of c.in-Some-2.artifact)
-    (subst (λ (l : LogMap). Some (artifact_of c.in-Some-2.artifact) ≡ including.cached_for (option_map cached_of c.keep_artifact.new.cache) l) (sym logs) (sym (ap (option_map artifact_of) c.in-Some-2.is) ∙ c.in_ok-kept.ensures))
+    (artifact_of c.in-Some-kept.artifact)
+    (subst (λ (l : LogMap). Some (artifact_of c.in-Some-kept.artifact) ≡ including.cached_for (option_map cached_of c.keep_artifact.new.cache) l) (sym logs) (sym (ap (option_map artifact_of) c.in-Some-kept.is) ∙ c.in_ok-kept.ensures))
     (c.in_ok-keep_artifact.ensures.tells provided fixed (live_of now fence c.args.life.now) of reads provides refl known.cached out)))
 
-pub returns-in-Some-2-clause-moved : goal.returns-in-Some-2-clause-moved
-returns-in-Some-2-clause-moved g c = c.keep_artifact.ensures.moved
+pub returns-in-Some-kept-clause-moved : goal.returns-in-Some-kept-clause-moved
+returns-in-Some-kept-clause-moved g c = c.keep_artifact.ensures.moved
 
-pub returns-in-Some-2-clause-same : goal.returns-in-Some-2-clause-same
-returns-in-Some-2-clause-same g c = λ i. record c.args.life.now { store = c.keep_artifact.ensures.store i }
+pub returns-in-Some-kept-clause-same : goal.returns-in-Some-kept-clause-same
+returns-in-Some-kept-clause-same g c = λ i. record c.args.life.now { store = c.keep_artifact.ensures.store i }
 
 -- There is one.
-pub prove-unreachable-in-None-requires : goal.prove-unreachable-in-None-requires
-prove-unreachable-in-None-requires g c =
-    none_apart (including.cached_for (option_map cached_of c.keep_artifact.new.cache) c.in-Some.ready.now.logs) ? (cached_there c.in-Some.ready.now.logs c.keep_artifact.new.cache c.in_ok-keep_artifact.ensures.kept)
+pub unreachable-in-None-requires : goal.unreachable-in-None-requires
+unreachable-in-None-requires g c =
+    let kept = sym (c.ready.ensures.kept (ap (λ o. is_some o) c.in-Some.is)) ∙ ap option_copied c.in-Some.is in
+    let logs = and_some c.see_verified.new.inclusion.verification.kept c.in-Some.ready.now (λ r. r.logs ≡ c.args.logs.now) kept c.in_ok-see_verified.ensures.ready in
+    none_apart (including.cached_for (option_map cached_of c.keep_artifact.new.cache) c.in-Some.ready.now.logs)
+    (subst (λ (l : LogMap). including.cached_for (option_map cached_of c.keep_artifact.new.cache) l ≡ None) (sym logs) (sym c.in_ok-kept.ensures ∙ ap (option_map artifact_of) c.in-None.is))
+    (cached_there c.in-Some.ready.now.logs c.keep_artifact.new.cache c.in_ok-keep_artifact.ensures.kept)

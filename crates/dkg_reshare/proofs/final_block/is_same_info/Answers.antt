@@ -11,4 +11,4 @@ returns-then-not-has_same_parts g c = λ fixed spells.
 pub returns : goal.returns
 returns g c = λ fixed spells.
     let yes : c.has_same_parts.result ≡ true = grind (arith, common_steps) in
-    spellings_tell g.Dir.Spelled.spelling fixed.directories spells c.args.one.now c.args.other.now (c.has_same_parts.ensures.0 yes) c.same.result c.in_ok-spelled.spelled c.in_ok-twin.twin c.in_ok-spelled.ensures c.in_ok-twin.ensures c.same.ensures
+    spellings_tell g.Dir.Spelled.spelling fixed.directories spells c.args.one.now c.args.other.now (c.has_same_parts.ensures.0 yes) c.same-same.result c.in_ok-spelled.spelled c.in_ok-twin.twin c.in_ok-spelled.ensures c.in_ok-twin.ensures c.same-same.ensures

@@ -18,8 +18,8 @@ use Rattle.dkg_reshare.proofs.final_block.verify_now.Goals as goal
 none_some : (o : Option Round) → o ≡ None → IsSome o → ⊥
 none_some o none some = absurd (let h : false ≡ true = sym (ap (λ (x : Option Round). is_some x) none) ∙ some in cc)
 
-pub prove-unreachable-requires : goal.prove-unreachable-requires
-prove-unreachable-requires g c = none_some c.args.life.now.round c.in_default.is c.requires.round
+pub unreachable-requires : goal.unreachable-requires
+unreachable-requires g c = none_some c.args.life.now.round c.in_default.is c.requires.round
 
 pub verify-requires : goal.verify-requires
 verify-requires g c = c.in_ok-job.ensures.runs
@@ -65,7 +65,7 @@ pub returns-clause-rest : goal.returns-clause-rest
 returns-clause-rest g c = c.retain.ensures.rest
 
 pub returns-clause-idle : goal.returns-clause-idle
-returns-clause-idle g c = c.in_ok-retain.ensures.idle.0
+returns-clause-idle g c = c.in_ok-retain.ensures.free
 
 pub returns-clause-ready : goal.returns-clause-ready
 returns-clause-ready g c =

@@ -1,6 +1,6 @@
 use Rattle.std.proofs.Common.{◌≡◌, None, ap, refl, sym, ◌∙◌, true, false, arith}
 use Rattle.std.proofs.lemmas.Grind.{common_steps}
-use Rattle.dkg_reshare.proofs.Telling.{back_seen}
+use Rattle.dkg_reshare.proofs.Telling.{back_seen, unserved_outside}
 use Rattle.dkg_reshare.proofs.logs.release.Goals as goal
 
 pub returns-then-not-is_served_at-clause-released : goal.returns-then-not-is_served_at-clause-released
@@ -12,3 +12,8 @@ pub returns-clause-released : goal.returns-clause-released
 returns-clause-released g c = λ beside fence seen.
     let yes : c.is_served_at.result ≡ true = grind (arith, common_steps) in
     back_seen c.args.height beside fence c.args.life.now c.args.inclusion.now seen true (sym (c.is_served_at.ensures beside fence seen.served) ∙ yes)
+
+pub returns-clause-unserved : goal.returns-clause-unserved
+returns-clause-unserved g c = λ apart.
+    let yes : c.is_served_at.result ≡ true = grind (arith, common_steps) in
+    absurd (let h : true ≡ false = sym yes ∙ unserved_outside c.args.height c.args.life.now c.args.inclusion.now.served c.is_served_at.result c.is_served_at.ensures apart in cc)
