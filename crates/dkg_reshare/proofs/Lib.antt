@@ -4,6 +4,7 @@ pub mod Alike
 pub mod Answering
 pub mod Applied
 pub mod Applying
+pub mod Asked
 pub mod Asking
 pub mod Beginning
 pub mod Beside

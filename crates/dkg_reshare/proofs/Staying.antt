@@ -168,9 +168,9 @@ pub some_of : {A : Type 0} (o : Option A) → IsSome o → (x : A) × (o ≡ Som
 some_of None some = absurd (let e : false ≡ true = some in cc)
 some_of (Some x) some = (x, refl)
 
-pub some_in : {A : Type 0} {P : A → Type 0} (o : Option A) → IsSomeAnd o P → (x : A) × (o ≡ Some x)
-some_in None has = absurd has
-some_in (Some x) has = (x, refl)
+pub some_in : {A : Type 0} (P : A → Type 0) (o : Option A) → IsSomeAnd o P → (x : A) × (o ≡ Some x)
+some_in P None has = absurd has
+some_in P (Some x) has = (x, refl)
 
 -- what inclusion has, without the request that was answered
 pub behind_ready : {C Dir Signer Cfg : Type 0} (check_log_of : CheckLogOf) (dealing_of : DealingOf) (finish_of : FinishOf) (n : ℕ) (life : Life Dir) (its : Inclusion C Dir Signer Cfg) (x : scan.Fed) → (x ≡ fed.Need → ⊥)

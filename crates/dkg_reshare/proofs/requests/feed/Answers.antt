@@ -18,13 +18,13 @@ use Rattle.dkg_reshare.proofs.requests.feed.Goals as goal
 
 pub returns-clause-acts : goal.returns-clause-acts
 returns-clause-acts g c = λ disk secrets provider fixed beside fence of reads by includes seen.
-    let so = (block_goes g.C.Ceremony.check_log_of g.C.Ceremony.dealing_of g.C.Ceremony.finish_of (non_zero_u64_get c.args.terms.now.blocks_per_epoch) c.args.life.now c.requires.ready.placed fixed of.blocks includes.check_log beside fence c.args.request c.args.inclusion.now seen c.requires.including c.args.block c.in_ok-fed.fed c.feed_hand.new.inclusion (subst (λ rs. feeds_hand g.C.Ceremony.check_log_of c.args.request c.args.block (record c.args.inclusion.now { requests = rs }) c.args.inclusion.now.hand ≡ (c.in_ok-fed.fed, c.feed_hand.new.inclusion)) c.in_ok-feed.ensures c.in_ok-fed.ensures)) in
+    let so = (block_goes g.C.Ceremony.check_log_of g.C.Ceremony.dealing_of g.C.Ceremony.finish_of (non_zero_u64_get c.args.terms.now.blocks_per_epoch) c.args.life.now c.requires.ready.placed fixed of.blocks includes.check_log beside fence c.args.request c.args.inclusion.now seen c.requires.including c.args.block c.in_ok-fed.fed c.feed_hand.new.inclusion (subst (λ rs. feeds_hand g.C.Ceremony.check_log_of c.args.request c.args.block (record c.args.inclusion.now { requests = rs }) c.args.inclusion.now.hand ≡ (c.in_ok-fed.fed, c.feed_hand.new.inclusion)) c.in_ok-feed.ensures.ok c.in_ok-fed.ensures.fed)) in
     within_behind beside (record beside { inclusion = record beside.inclusion { queue = map (feeding c.args.request c.args.block) beside.inclusion.queue } }).inclusion (within_as (λ i is. is) (λ now is made. joined_as (MakesOver g.D.Disk.files g.D.Disk.image g.X.SecretStore.held) {x = (c.args.devices.now, c.args.out.now.entries)} {y = (c.go_on.new.devices, c.go_on.new.out.entries)} so.goes made)
     (c.go_on.ensures.acts disk secrets provider fixed (record beside { inclusion = record beside.inclusion { queue = map (feeding c.args.request c.args.block) beside.inclusion.queue } }) fence of reads by includes so.seen))
 
 pub returns-clause-tells : goal.returns-clause-tells
 returns-clause-tells g c = λ provider fixed beside fence of reads by includes seen.
-    let so = (block_goes g.C.Ceremony.check_log_of g.C.Ceremony.dealing_of g.C.Ceremony.finish_of (non_zero_u64_get c.args.terms.now.blocks_per_epoch) c.args.life.now c.requires.ready.placed fixed of.blocks includes.check_log beside fence c.args.request c.args.inclusion.now seen c.requires.including c.args.block c.in_ok-fed.fed c.feed_hand.new.inclusion (subst (λ rs. feeds_hand g.C.Ceremony.check_log_of c.args.request c.args.block (record c.args.inclusion.now { requests = rs }) c.args.inclusion.now.hand ≡ (c.in_ok-fed.fed, c.feed_hand.new.inclusion)) c.in_ok-feed.ensures c.in_ok-fed.ensures)) in
+    let so = (block_goes g.C.Ceremony.check_log_of g.C.Ceremony.dealing_of g.C.Ceremony.finish_of (non_zero_u64_get c.args.terms.now.blocks_per_epoch) c.args.life.now c.requires.ready.placed fixed of.blocks includes.check_log beside fence c.args.request c.args.inclusion.now seen c.requires.including c.args.block c.in_ok-fed.fed c.feed_hand.new.inclusion (subst (λ rs. feeds_hand g.C.Ceremony.check_log_of c.args.request c.args.block (record c.args.inclusion.now { requests = rs }) c.args.inclusion.now.hand ≡ (c.in_ok-fed.fed, c.feed_hand.new.inclusion)) c.in_ok-feed.ensures.ok c.in_ok-fed.ensures.fed)) in
     within_behind beside (record beside { inclusion = record beside.inclusion { queue = map (feeding c.args.request c.args.block) beside.inclusion.queue } }).inclusion (within_as (λ i is. is) (λ now is made. joined_as TellsOver {x = c.args.out.now.entries} {y = c.go_on.new.out.entries} so.goes made)
     (c.go_on.ensures.tells provider fixed (record beside { inclusion = record beside.inclusion { queue = map (feeding c.args.request c.args.block) beside.inclusion.queue } }) fence of reads by includes so.seen))
 
@@ -56,13 +56,13 @@ pub go_on-requires-clause-ready : goal.go_on-requires-clause-ready
 go_on-requires-clause-ready g c = c.requires.ready
 
 pub go_on-requires-clause-needs : goal.go_on-requires-clause-needs
-go_on-requires-clause-needs g c = (block_answers g.C.Ceremony.check_log_of g.C.Ceremony.dealing_of g.C.Ceremony.finish_of (non_zero_u64_get c.args.terms.now.blocks_per_epoch) c.args.life.now c.requires.ready.placed c.args.request c.args.block c.args.inclusion.now c.requires.including c.in_ok-fed.fed c.feed_hand.new.inclusion (subst (λ rs. feeds_hand g.C.Ceremony.check_log_of c.args.request c.args.block (record c.args.inclusion.now { requests = rs }) c.args.inclusion.now.hand ≡ (c.in_ok-fed.fed, c.feed_hand.new.inclusion)) c.in_ok-feed.ensures c.in_ok-fed.ensures)).needs
+go_on-requires-clause-needs g c = (block_answers g.C.Ceremony.check_log_of g.C.Ceremony.dealing_of g.C.Ceremony.finish_of (non_zero_u64_get c.args.terms.now.blocks_per_epoch) c.args.life.now c.requires.ready.placed c.args.request c.args.block c.args.inclusion.now c.requires.including c.in_ok-fed.fed c.feed_hand.new.inclusion (subst (λ rs. feeds_hand g.C.Ceremony.check_log_of c.args.request c.args.block (record c.args.inclusion.now { requests = rs }) c.args.inclusion.now.hand ≡ (c.in_ok-fed.fed, c.feed_hand.new.inclusion)) c.in_ok-feed.ensures.ok c.in_ok-fed.ensures.fed)).needs
 
 pub go_on-requires-clause-answers : goal.go_on-requires-clause-answers
-go_on-requires-clause-answers g c = (block_answers g.C.Ceremony.check_log_of g.C.Ceremony.dealing_of g.C.Ceremony.finish_of (non_zero_u64_get c.args.terms.now.blocks_per_epoch) c.args.life.now c.requires.ready.placed c.args.request c.args.block c.args.inclusion.now c.requires.including c.in_ok-fed.fed c.feed_hand.new.inclusion (subst (λ rs. feeds_hand g.C.Ceremony.check_log_of c.args.request c.args.block (record c.args.inclusion.now { requests = rs }) c.args.inclusion.now.hand ≡ (c.in_ok-fed.fed, c.feed_hand.new.inclusion)) c.in_ok-feed.ensures c.in_ok-fed.ensures)).answers
+go_on-requires-clause-answers g c = (block_answers g.C.Ceremony.check_log_of g.C.Ceremony.dealing_of g.C.Ceremony.finish_of (non_zero_u64_get c.args.terms.now.blocks_per_epoch) c.args.life.now c.requires.ready.placed c.args.request c.args.block c.args.inclusion.now c.requires.including c.in_ok-fed.fed c.feed_hand.new.inclusion (subst (λ rs. feeds_hand g.C.Ceremony.check_log_of c.args.request c.args.block (record c.args.inclusion.now { requests = rs }) c.args.inclusion.now.hand ≡ (c.in_ok-fed.fed, c.feed_hand.new.inclusion)) c.in_ok-feed.ensures.ok c.in_ok-fed.ensures.fed)).answers
 
 pub go_on-requires-clause-hand : goal.go_on-requires-clause-hand
-go_on-requires-clause-hand g c = (block_answers g.C.Ceremony.check_log_of g.C.Ceremony.dealing_of g.C.Ceremony.finish_of (non_zero_u64_get c.args.terms.now.blocks_per_epoch) c.args.life.now c.requires.ready.placed c.args.request c.args.block c.args.inclusion.now c.requires.including c.in_ok-fed.fed c.feed_hand.new.inclusion (subst (λ rs. feeds_hand g.C.Ceremony.check_log_of c.args.request c.args.block (record c.args.inclusion.now { requests = rs }) c.args.inclusion.now.hand ≡ (c.in_ok-fed.fed, c.feed_hand.new.inclusion)) c.in_ok-feed.ensures c.in_ok-fed.ensures)).hand
+go_on-requires-clause-hand g c = (block_answers g.C.Ceremony.check_log_of g.C.Ceremony.dealing_of g.C.Ceremony.finish_of (non_zero_u64_get c.args.terms.now.blocks_per_epoch) c.args.life.now c.requires.ready.placed c.args.request c.args.block c.args.inclusion.now c.requires.including c.in_ok-fed.fed c.feed_hand.new.inclusion (subst (λ rs. feeds_hand g.C.Ceremony.check_log_of c.args.request c.args.block (record c.args.inclusion.now { requests = rs }) c.args.inclusion.now.hand ≡ (c.in_ok-fed.fed, c.feed_hand.new.inclusion)) c.in_ok-feed.ensures.ok c.in_ok-fed.ensures.fed)).hand
 
 pub returns-in_err-feed-clause-acts : goal.returns-in_err-feed-clause-acts
 returns-in_err-feed-clause-acts g c = λ disk secrets provider fixed beside fence of reads by includes seen.
@@ -99,3 +99,49 @@ pub returns-in_err-fed-clause-causes : goal.returns-in_err-fed-clause-causes
 returns-in_err-fed-clause-causes g c = 
     let p = err_from_is_err_and c.from_residual-in_err-fed.result c.from_residual-in_err-fed.ensures.1 in
     rw (p.1, p.2) tt
+
+-- WHAT STAYS
+
+pub returns-in_err-feed-clause-ready : goal.returns-in_err-feed-clause-ready
+returns-in_err-feed-clause-ready g c = 
+    let p = err_from_is_err_and c.from_residual.result c.from_residual.ensures.1 in
+    rw p.1 tt
+
+pub returns-in_err-feed-clause-including : goal.returns-in_err-feed-clause-including
+returns-in_err-feed-clause-including g c = 
+    let p = err_from_is_err_and c.from_residual.result c.from_residual.ensures.1 in
+    rw p.1 tt
+
+pub returns-in_err-feed-clause-same : goal.returns-in_err-feed-clause-same
+returns-in_err-feed-clause-same g c = refl
+
+pub returns-in_err-feed-clause-provider : goal.returns-in_err-feed-clause-provider
+returns-in_err-feed-clause-provider g c = λ provider. (λ epoch. refl, λ epoch peers. refl)
+
+pub returns-in_err-feed-clause-disk : goal.returns-in_err-feed-clause-disk
+returns-in_err-feed-clause-disk g c = refl
+
+pub returns-in_err-feed-clause-held : goal.returns-in_err-feed-clause-held
+returns-in_err-feed-clause-held g c = refl
+
+pub returns-in_err-fed-clause-ready : goal.returns-in_err-fed-clause-ready
+returns-in_err-fed-clause-ready g c = 
+    let p = err_from_is_err_and c.from_residual-in_err-fed.result c.from_residual-in_err-fed.ensures.1 in
+    rw p.1 tt
+
+pub returns-in_err-fed-clause-including : goal.returns-in_err-fed-clause-including
+returns-in_err-fed-clause-including g c = 
+    let p = err_from_is_err_and c.from_residual-in_err-fed.result c.from_residual-in_err-fed.ensures.1 in
+    rw p.1 tt
+
+pub returns-in_err-fed-clause-same : goal.returns-in_err-fed-clause-same
+returns-in_err-fed-clause-same g c = refl
+
+pub returns-in_err-fed-clause-provider : goal.returns-in_err-fed-clause-provider
+returns-in_err-fed-clause-provider g c = λ provider. (λ epoch. refl, λ epoch peers. refl)
+
+pub returns-in_err-fed-clause-disk : goal.returns-in_err-fed-clause-disk
+returns-in_err-fed-clause-disk g c = refl
+
+pub returns-in_err-fed-clause-held : goal.returns-in_err-fed-clause-held
+returns-in_err-fed-clause-held g c = refl

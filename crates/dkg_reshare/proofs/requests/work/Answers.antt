@@ -1,4 +1,5 @@
 use Rattle.std.proofs.Common.{◌≡◌, Bool, true, false, Option, Some, None, is_some, ap, refl, sym, ◌∙◌, rules}
+use Rattle.std.proofs.lemmas.Result.{err_from_is_err_and}
 use Rattle.std.specs.Prelude.{option_map, if◌then◌else◌}
 use Rattle.std.specs.Int.NonZero.{non_zero_u64_get}
 use Rattle.dkg_artifact.specs.declared.job.Job.{Job}
@@ -89,3 +90,71 @@ advance-requires-clause-ready g c = c.in_ok-end_verifying.ensures.ready
 
 pub advance-requires-clause-including : goal.advance-requires-clause-including
 advance-requires-clause-including g c = c.in_ok-end_verifying.ensures.including
+
+-- IT STOPPED
+
+pub returns-in_err-end_verifying-clause-acts : goal.returns-in_err-end_verifying-clause-acts
+returns-in_err-end_verifying-clause-acts g c = λ disk secrets provider fixed beside fence of reads by includes seen.
+    let p = err_from_is_err_and c.from_residual.result c.from_residual.ensures.1 in
+    let some : is_some (option_map job_of c.args.inclusion.now.verification.running) ≡ true = search rules in
+    rw (p.1, p.2) (within_as (λ i was. was) (λ now was made. joined_as (MakesOver g.D.Disk.files g.D.Disk.image g.X.SecretStore.held) {x = (c.args.devices.now, c.args.out.now.entries)} {y = (c.end_verifying.new.devices, c.end_verifying.new.out.entries)} (works_by fixed (option_map result_of c.args.done) (live_of beside fence c.args.life.now) true (ap (λ (j : Option core.Job). is_some j) seen.running ∙ some))
+    ((makes_joins g.D.Disk.files g.D.Disk.image g.X.SecretStore.held).early (including.ends_verifying fixed (option_map result_of c.args.done) (live_of beside fence c.args.life.now)) (λ s. including.advanced fixed s) c.in_err-end_verifying.field-0.0 (c.args.devices.now, c.args.out.now.entries) (c.end_verifying.new.devices, c.end_verifying.new.out.entries) made))
+    (c.in_err-end_verifying.ensures.acts disk secrets provider fixed beside fence of reads by includes seen))
+
+pub returns-in_err-end_verifying-clause-tells : goal.returns-in_err-end_verifying-clause-tells
+returns-in_err-end_verifying-clause-tells g c = λ provider fixed beside fence of reads by includes seen.
+    let p = err_from_is_err_and c.from_residual.result c.from_residual.ensures.1 in
+    let some : is_some (option_map job_of c.args.inclusion.now.verification.running) ≡ true = search rules in
+    rw (p.1, p.2) (within_as (λ i was. was) (λ now was made. joined_as TellsOver {x = c.args.out.now.entries} {y = c.end_verifying.new.out.entries} (works_by fixed (option_map result_of c.args.done) (live_of beside fence c.args.life.now) true (ap (λ (j : Option core.Job). is_some j) seen.running ∙ some))
+    (tells_joins.early (including.ends_verifying fixed (option_map result_of c.args.done) (live_of beside fence c.args.life.now)) (λ s. including.advanced fixed s) c.in_err-end_verifying.field-0.0 c.args.out.now.entries c.end_verifying.new.out.entries made))
+    (c.in_err-end_verifying.ensures.tells provider fixed beside fence of reads by includes seen))
+
+pub returns-in_err-end_verifying-clause-ready : goal.returns-in_err-end_verifying-clause-ready
+returns-in_err-end_verifying-clause-ready g c = 
+    let p = err_from_is_err_and c.from_residual.result c.from_residual.ensures.1 in
+    rw p.1 tt
+
+pub returns-in_err-end_verifying-clause-including : goal.returns-in_err-end_verifying-clause-including
+returns-in_err-end_verifying-clause-including g c = 
+    let p = err_from_is_err_and c.from_residual.result c.from_residual.ensures.1 in
+    rw p.1 tt
+
+pub returns-in_err-end_verifying-clause-same : goal.returns-in_err-end_verifying-clause-same
+returns-in_err-end_verifying-clause-same g c = c.end_verifying.ensures.same
+
+pub returns-in_err-end_verifying-clause-provider : goal.returns-in_err-end_verifying-clause-provider
+returns-in_err-end_verifying-clause-provider g c = c.end_verifying.ensures.provider
+
+pub returns-in_err-end_verifying-clause-disk : goal.returns-in_err-end_verifying-clause-disk
+returns-in_err-end_verifying-clause-disk g c = c.end_verifying.ensures.disk
+
+pub returns-in_err-end_verifying-clause-held : goal.returns-in_err-end_verifying-clause-held
+returns-in_err-end_verifying-clause-held g c = c.end_verifying.ensures.held
+
+pub returns-in_err-end_verifying-clause-moved : goal.returns-in_err-end_verifying-clause-moved
+returns-in_err-end_verifying-clause-moved g c = c.end_verifying.ensures.moved
+
+pub returns-in_err-end_verifying-clause-causes : goal.returns-in_err-end_verifying-clause-causes
+returns-in_err-end_verifying-clause-causes g c = 
+    let p = err_from_is_err_and c.from_residual.result c.from_residual.ensures.1 in
+    rw (p.1, p.2) c.in_err-end_verifying.ensures.causes
+
+-- NOTHING IS DONE
+
+pub returns-then-is_none-clause-ready : goal.returns-then-is_none-clause-ready
+returns-then-is_none-clause-ready g c = c.requires.ready
+
+pub returns-then-is_none-clause-same : goal.returns-then-is_none-clause-same
+returns-then-is_none-clause-same g c = refl
+
+pub returns-then-is_none-clause-provider : goal.returns-then-is_none-clause-provider
+returns-then-is_none-clause-provider g c = λ provider. (λ epoch. refl, λ epoch peers. refl)
+
+pub returns-then-is_none-clause-disk : goal.returns-then-is_none-clause-disk
+returns-then-is_none-clause-disk g c = refl
+
+pub returns-then-is_none-clause-held : goal.returns-then-is_none-clause-held
+returns-then-is_none-clause-held g c = refl
+
+pub returns-then-is_none-clause-causes : goal.returns-then-is_none-clause-causes
+returns-then-is_none-clause-causes g c = tt

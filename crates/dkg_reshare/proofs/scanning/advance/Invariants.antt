@@ -24,20 +24,20 @@ invariant-loop-turn g l = record {
       (g.P.ParticipantsProvider.directory_of l.initial.provider) (g.P.ParticipantsProvider.directory_of l.provider);
   disk : l.devices.disk.now ≡ l.initial.devices.disk.now;
   held : g.X.SecretStore.held l.devices.secrets.now ≡ g.X.SecretStore.held l.initial.devices.secrets.now;
-  left : IsSome l.life.round → length l.inclusion.requests + l.turn ≤ l.count;
+  left : IsSome l.life.round → length l.inclusion.requests + l._turn ≤ l.count;
   acts : IsTrue g.D.Disk.tells → IsTrue g.X.SecretStore.tells → IsTrue g.P.ParticipantsProvider.tells → (c : Fixed g.row.Dir.Denot) (beside : Beside g.row.Dir.Denot) (fence : Readiness) → IsOf l.terms c → ReadsPlanless c
       → IsRuledBy g.C.Ceremony.round_of g.C.Ceremony.deal_of g.C.Ceremony.dealing_of g.C.Ceremony.ack_of g.C.Ceremony.check_ack_of g.C.Ceremony.sign_log_of g.C.Ceremony.bears_ack_of g.C.Ceremony.share_public_of
       g.C.Ceremony.partial_public_of c.rules
       → IncludesBy g.C.Ceremony.check_log_of g.C.Ceremony.outcome_of g.C.Ceremony.finish_of (g.P.ParticipantsProvider.participants_of l.initial.provider) (g.P.ParticipantsProvider.directory_of l.initial.provider)
       g.Dir.Spelled.spelling g.Dir.Directory.matches_of c
       → IsSeen l.initial.inclusion beside.inclusion → EndsWith beside (IsSeen l.inclusion) NoMore
-      (λ now. Makes g.D.Disk.files g.D.Disk.image g.X.SecretStore.held (advances c l.turn (live_of beside fence l.initial.life)) (went (live_of now fence l.life)) l.initial.devices l.devices l.initial.out.entries l.out.entries);
+      (λ now. Makes g.D.Disk.files g.D.Disk.image g.X.SecretStore.held (advances c l._turn (live_of beside fence l.initial.life)) (went (live_of now fence l.life)) l.initial.devices l.devices l.initial.out.entries l.out.entries);
   tells : IsTrue g.P.ParticipantsProvider.tells → (c : Fixed g.row.Dir.Denot) (beside : Beside g.row.Dir.Denot) (fence : Readiness) → IsOf l.terms c → ReadsPlanless c
       → IsRuledBy g.C.Ceremony.round_of g.C.Ceremony.deal_of g.C.Ceremony.dealing_of g.C.Ceremony.ack_of g.C.Ceremony.check_ack_of g.C.Ceremony.sign_log_of g.C.Ceremony.bears_ack_of g.C.Ceremony.share_public_of
       g.C.Ceremony.partial_public_of c.rules
       → IncludesBy g.C.Ceremony.check_log_of g.C.Ceremony.outcome_of g.C.Ceremony.finish_of (g.P.ParticipantsProvider.participants_of l.initial.provider) (g.P.ParticipantsProvider.directory_of l.initial.provider)
       g.Dir.Spelled.spelling g.Dir.Directory.matches_of c
       → IsSeen l.initial.inclusion beside.inclusion → EndsWith beside (IsSeen l.inclusion) NoMore
-      (λ now. Tells (advances c l.turn (live_of beside fence l.initial.life)) (went (live_of now fence l.life)) l.initial.out.entries l.out.entries);
+      (λ now. Tells (advances c l._turn (live_of beside fence l.initial.life)) (went (live_of now fence l.life)) l.initial.out.entries l.out.entries);
   moved : Moved g.D.Disk.tells g.D.Disk.made g.X.SecretStore.made g.D.Disk.faults g.X.SecretStore.faults l.initial.devices l.devices;
 }

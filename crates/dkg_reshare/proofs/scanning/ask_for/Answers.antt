@@ -131,3 +131,44 @@ returns-clause-moved g c = moved_none g.D.Disk.tells g.D.Disk.made g.X.SecretSto
 
 pub returns-clause-causes : goal.returns-clause-causes
 returns-clause-causes g c = nothing_blames _ _ _ c.start_verifying.result c.start_verifying.ensures.causes
+
+-- WHAT STAYS
+
+pub returns-in-Some-clause-same : goal.returns-in-Some-clause-same
+returns-in-Some-clause-same g c = refl
+
+pub returns-in-Some-clause-provider : goal.returns-in-Some-clause-provider
+returns-in-Some-clause-provider g c = λ provider. (λ epoch. refl, λ epoch peers. refl)
+
+pub returns-in-Some-clause-disk : goal.returns-in-Some-clause-disk
+returns-in-Some-clause-disk g c = refl
+
+pub returns-in-Some-clause-held : goal.returns-in-Some-clause-held
+returns-in-Some-clause-held g c = refl
+
+pub returns-in-Some-clause-rest : goal.returns-in-Some-clause-rest
+returns-in-Some-clause-rest g c = refl
+
+pub returns-in-Some-ready-clause-rest : goal.returns-in-Some-ready-clause-rest
+returns-in-Some-ready-clause-rest g c = refl
+
+pub returns-in-Some-ready-clause-provider : goal.returns-in-Some-ready-clause-provider
+returns-in-Some-ready-clause-provider g c = c.answer_by.ensures.provider
+
+pub returns-in-Some-ready-clause-disk : goal.returns-in-Some-ready-clause-disk
+returns-in-Some-ready-clause-disk g c = c.answer_by.ensures.disk
+
+pub returns-in-Some-ready-clause-held : goal.returns-in-Some-ready-clause-held
+returns-in-Some-ready-clause-held g c = c.answer_by.ensures.held
+
+pub returns-clause-same : goal.returns-clause-same
+returns-clause-same g c = refl
+
+pub returns-clause-provider : goal.returns-clause-provider
+returns-clause-provider g c = λ provider. (λ epoch. refl, λ epoch peers. refl)
+
+pub returns-clause-disk : goal.returns-clause-disk
+returns-clause-disk g c = refl
+
+pub returns-clause-held : goal.returns-clause-held
+returns-clause-held g c = refl

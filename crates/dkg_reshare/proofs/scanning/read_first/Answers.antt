@@ -159,3 +159,89 @@ take_answer-requires-clause-free g c = (c.requires.may.1, c.requires.may.2)
 
 pub take_answer-requires-clause-round : goal.take_answer-requires-clause-round
 take_answer-requires-clause-round g c = some_is c.args.life.now.round c.in-Some.round c.in-Some.is
+
+-- WHAT STAYS
+
+pub returns-in_default-clause-ready : goal.returns-in_default-clause-ready
+returns-in_default-clause-ready g c = c.requires.ready
+
+pub returns-in_default-clause-including : goal.returns-in_default-clause-including
+returns-in_default-clause-including g c = c.requires.including
+
+pub returns-in_default-clause-causes : goal.returns-in_default-clause-causes
+returns-in_default-clause-causes g c = tt
+
+pub returns-in_default-clause-same : goal.returns-in_default-clause-same
+returns-in_default-clause-same g c = refl
+
+pub returns-in_default-clause-provider : goal.returns-in_default-clause-provider
+returns-in_default-clause-provider g c = λ provider. (λ epoch. refl, λ epoch peers. refl)
+
+pub returns-in_default-clause-disk : goal.returns-in_default-clause-disk
+returns-in_default-clause-disk g c = refl
+
+pub returns-in_default-clause-held : goal.returns-in_default-clause-held
+returns-in_default-clause-held g c = refl
+
+pub returns-in_default-pop-clause-ready : goal.returns-in_default-pop-clause-ready
+returns-in_default-pop-clause-ready g c = c.requires.ready
+
+pub returns-in_default-pop-clause-causes : goal.returns-in_default-pop-clause-causes
+returns-in_default-pop-clause-causes g c = tt
+
+pub returns-in_default-pop-clause-same : goal.returns-in_default-pop-clause-same
+returns-in_default-pop-clause-same g c = refl
+
+pub returns-in_default-pop-clause-provider : goal.returns-in_default-pop-clause-provider
+returns-in_default-pop-clause-provider g c = λ provider. (λ epoch. refl, λ epoch peers. refl)
+
+pub returns-in_default-pop-clause-disk : goal.returns-in_default-pop-clause-disk
+returns-in_default-pop-clause-disk g c = refl
+
+pub returns-in_default-pop-clause-held : goal.returns-in_default-pop-clause-held
+returns-in_default-pop-clause-held g c = refl
+
+pub returns-in_err-scan-clause-ready : goal.returns-in_err-scan-clause-ready
+returns-in_err-scan-clause-ready g c = 
+    let p = err_from_is_err_and c.from_residual.result c.from_residual.ensures.1 in
+    rw p.1 tt
+
+pub returns-in_err-scan-clause-including : goal.returns-in_err-scan-clause-including
+returns-in_err-scan-clause-including g c = 
+    let p = err_from_is_err_and c.from_residual.result c.from_residual.ensures.1 in
+    rw p.1 tt
+
+pub returns-in_err-scan-clause-left : goal.returns-in_err-scan-clause-left
+returns-in_err-scan-clause-left g c = 
+    let p = err_from_is_err_and c.from_residual.result c.from_residual.ensures.1 in
+    rw p.1 tt
+
+pub returns-in_err-scan-clause-same : goal.returns-in_err-scan-clause-same
+returns-in_err-scan-clause-same g c = refl
+
+pub returns-in_err-scan-clause-provider : goal.returns-in_err-scan-clause-provider
+returns-in_err-scan-clause-provider g c = λ provider. (λ epoch. refl, λ epoch peers. refl)
+
+pub returns-in_err-scan-clause-disk : goal.returns-in_err-scan-clause-disk
+returns-in_err-scan-clause-disk g c = refl
+
+pub returns-in_err-scan-clause-held : goal.returns-in_err-scan-clause-held
+returns-in_err-scan-clause-held g c = refl
+
+pub returns-then-is_need-clause-ready : goal.returns-then-is_need-clause-ready
+returns-then-is_need-clause-ready g c = c.requires.ready
+
+pub returns-then-is_need-clause-causes : goal.returns-then-is_need-clause-causes
+returns-then-is_need-clause-causes g c = tt
+
+pub returns-then-is_need-clause-same : goal.returns-then-is_need-clause-same
+returns-then-is_need-clause-same g c = refl
+
+pub returns-then-is_need-clause-provider : goal.returns-then-is_need-clause-provider
+returns-then-is_need-clause-provider g c = λ provider. (λ epoch. refl, λ epoch peers. refl)
+
+pub returns-then-is_need-clause-disk : goal.returns-then-is_need-clause-disk
+returns-then-is_need-clause-disk g c = refl
+
+pub returns-then-is_need-clause-held : goal.returns-then-is_need-clause-held
+returns-then-is_need-clause-held g c = refl

@@ -168,3 +168,94 @@ ask_for-requires-clause-free g c = c.requires.free
 
 pub ask_for-requires-clause-round : goal.ask_for-requires-clause-round
 ask_for-requires-clause-round g c = c.requires.round
+
+-- WHAT STAYS
+
+pub returns-in-Need-clause-ready : goal.returns-in-Need-clause-ready
+returns-in-Need-clause-ready g c = c.requires.ready
+
+pub returns-in-Need-clause-including : goal.returns-in-Need-clause-including
+returns-in-Need-clause-including g c = c.requires.including
+
+pub returns-in-Need-clause-causes : goal.returns-in-Need-clause-causes
+returns-in-Need-clause-causes g c = tt
+
+pub returns-in-Need-clause-same : goal.returns-in-Need-clause-same
+returns-in-Need-clause-same g c = refl
+
+pub returns-in-Need-clause-provider : goal.returns-in-Need-clause-provider
+returns-in-Need-clause-provider g c = λ provider. (λ epoch. refl, λ epoch peers. refl)
+
+pub returns-in-Need-clause-disk : goal.returns-in-Need-clause-disk
+returns-in-Need-clause-disk g c = refl
+
+pub returns-in-Need-clause-held : goal.returns-in-Need-clause-held
+returns-in-Need-clause-held g c = refl
+
+pub returns-in-Need-clause-rest : goal.returns-in-Need-clause-rest
+returns-in-Need-clause-rest g c = refl
+
+pub returns-in-Unavailable-clause-same : goal.returns-in-Unavailable-clause-same
+returns-in-Unavailable-clause-same g c = refl
+
+pub returns-in-Unavailable-clause-provider : goal.returns-in-Unavailable-clause-provider
+returns-in-Unavailable-clause-provider g c = λ provider. (λ epoch. refl, λ epoch peers. refl)
+
+pub returns-in-Unavailable-clause-disk : goal.returns-in-Unavailable-clause-disk
+returns-in-Unavailable-clause-disk g c = refl
+
+pub returns-in-Unavailable-clause-held : goal.returns-in-Unavailable-clause-held
+returns-in-Unavailable-clause-held g c = refl
+
+pub returns-in-Unavailable-clause-rest : goal.returns-in-Unavailable-clause-rest
+returns-in-Unavailable-clause-rest g c = refl
+
+pub returns-in_err-canonical-in-Logs-clause-ready : goal.returns-in_err-canonical-in-Logs-clause-ready
+returns-in_err-canonical-in-Logs-clause-ready g c = 
+    let p = err_from_is_err_and c.from_residual.result c.from_residual.ensures.1 in
+    rw p.1 tt
+
+pub returns-in_err-canonical-in-Logs-clause-including : goal.returns-in_err-canonical-in-Logs-clause-including
+returns-in_err-canonical-in-Logs-clause-including g c = 
+    let p = err_from_is_err_and c.from_residual.result c.from_residual.ensures.1 in
+    rw p.1 tt
+
+pub returns-in_err-canonical-in-Logs-clause-same : goal.returns-in_err-canonical-in-Logs-clause-same
+returns-in_err-canonical-in-Logs-clause-same g c = refl
+
+pub returns-in_err-canonical-in-Logs-clause-provider : goal.returns-in_err-canonical-in-Logs-clause-provider
+returns-in_err-canonical-in-Logs-clause-provider g c = λ provider. (λ epoch. refl, λ epoch peers. refl)
+
+pub returns-in_err-canonical-in-Logs-clause-disk : goal.returns-in_err-canonical-in-Logs-clause-disk
+returns-in_err-canonical-in-Logs-clause-disk g c = refl
+
+pub returns-in_err-canonical-in-Logs-clause-held : goal.returns-in_err-canonical-in-Logs-clause-held
+returns-in_err-canonical-in-Logs-clause-held g c = refl
+
+pub returns-in_err-canonical-in-Logs-clause-rest : goal.returns-in_err-canonical-in-Logs-clause-rest
+returns-in_err-canonical-in-Logs-clause-rest g c = refl
+
+pub returns-in_err-logs-in-Logs-clause-ready : goal.returns-in_err-logs-in-Logs-clause-ready
+returns-in_err-logs-in-Logs-clause-ready g c = 
+    let p = err_from_is_err_and c.from_residual-in_err-logs-in-Logs.result c.from_residual-in_err-logs-in-Logs.ensures.1 in
+    rw p.1 tt
+
+pub returns-in_err-logs-in-Logs-clause-including : goal.returns-in_err-logs-in-Logs-clause-including
+returns-in_err-logs-in-Logs-clause-including g c = 
+    let p = err_from_is_err_and c.from_residual-in_err-logs-in-Logs.result c.from_residual-in_err-logs-in-Logs.ensures.1 in
+    rw p.1 tt
+
+pub returns-in_err-logs-in-Logs-clause-same : goal.returns-in_err-logs-in-Logs-clause-same
+returns-in_err-logs-in-Logs-clause-same g c = refl
+
+pub returns-in_err-logs-in-Logs-clause-provider : goal.returns-in_err-logs-in-Logs-clause-provider
+returns-in_err-logs-in-Logs-clause-provider g c = λ provider. (λ epoch. refl, λ epoch peers. refl)
+
+pub returns-in_err-logs-in-Logs-clause-disk : goal.returns-in_err-logs-in-Logs-clause-disk
+returns-in_err-logs-in-Logs-clause-disk g c = refl
+
+pub returns-in_err-logs-in-Logs-clause-held : goal.returns-in_err-logs-in-Logs-clause-held
+returns-in_err-logs-in-Logs-clause-held g c = refl
+
+pub returns-in_err-logs-in-Logs-clause-rest : goal.returns-in_err-logs-in-Logs-clause-rest
+returns-in_err-logs-in-Logs-clause-rest g c = refl
