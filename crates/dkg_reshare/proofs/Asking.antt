@@ -23,7 +23,6 @@ use Rattle.dkg_artifact.specs.Requested.{is_other}
 use Rattle.dkg_artifact.specs.Results.{Checked}
 use Rattle.dkg_artifact.specs.declared.artifact.Artifact as artifact
 use Rattle.dkg_artifact.specs.declared.scan.Fed as scan
-use Rattle.dkg_artifact.specs.declared.scan.Fed.TheVariants as fed
 use Rattle.dkg_secrets.specs.Secrets.{Secrets}
 use Rattle.dkg_store.specs.Acts.{Ended, went}
 use Rattle.dkg_store.specs.declared.devices.Devices.{Devices}
@@ -53,7 +52,7 @@ use Rattle.dkg_reshare.proofs.Committing.{goes_told}
 use Rattle.dkg_reshare.proofs.Keeping.{cached_none, cached_some, kept_none, kept_some}
 use Rattle.dkg_reshare.proofs.Requesting.{seen_queue}
 use Rattle.dkg_reshare.proofs.Telling.{ends_with, got_then, seen_told}
-use Rattle.dkg_reshare.proofs.Within.{NoMore, within_as, within_behind, within_then}
+use Rattle.dkg_reshare.proofs.Within.{NoMore}
 
 -- COURSES THAT WERE MADE, over devices or by their lines alone
 

@@ -1,7 +1,6 @@
 -- Requests in memory, and as the relation has them.
-use Rattle.std.proofs.Common.{◌≡◌, ℕ, Bool, true, false, List, [], ◌∷◌, ◌++◌, Option, Some, None, is_some, refl, sym, ◌∙◌, ap, subst}
+use Rattle.std.proofs.Common.{◌≡◌, ℕ, Bool, true, false, List, [], ◌∷◌, ◌++◌, Option, Some, None, refl, sym, ◌∙◌, ap, subst}
 use Rattle.std.specs.Prelude.{◌==◌, ◌&&◌, not, map, IfSome, IsSome, IsSomeAnd, option_map, if◌then◌else◌}
-use Rattle.std.specs.Option.{option_map_or}
 use Rattle.std.proofs.lemmas.Bool.{eqb-true}
 use Rattle.dkg_ceremony.specs.declared.epocher.Bounds.{Bounds}
 use Rattle.dkg_ceremony.specs.declared.round.RoundParts.{RoundParts as Round}
@@ -12,8 +11,8 @@ use Rattle.dkg_types.specs.declared.entry.Why.TheVariants.{Short}
 use Rattle.dkg_artifact.specs.Requested as requested
 use Rattle.dkg_artifact.specs.Requested.{ended_for, fed_for}
 use Rattle.dkg_artifact.specs.Scans as scans
-use Rattle.dkg_artifact.specs.Scans.{IsAwaiting, feeds}
-use Rattle.dkg_artifact.specs.Seen.{Next, Scan}
+use Rattle.dkg_artifact.specs.Scans.{feeds}
+use Rattle.dkg_artifact.specs.Seen.{Scan}
 use Rattle.dkg_artifact.specs.declared.job.Job as job
 use Rattle.dkg_artifact.specs.declared.scan.Fed as scan
 use Rattle.dkg_artifact.specs.declared.scan.Fed.TheVariants as fed

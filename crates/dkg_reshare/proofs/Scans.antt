@@ -1,16 +1,15 @@
 -- What a scan answers is what the relation reads.
 use Rattle.std.proofs.Common.{◌≡◌, ℕ, Bool, true, false, List, [], ◌∷◌, ◌++◌, Option, Some, None, Result, Ok, Err, refl, sym, ◌∙◌, ap, subst}
-use Rattle.std.specs.Prelude.{◌+◌, ◌-◌, ◌==◌, ◌&&◌, nat_lt, not, is_some, is_none, IfOk, IsSome, option_map, option_and_then, if◌then◌else◌}
+use Rattle.std.specs.Prelude.{◌+◌, ◌-◌, ◌==◌, ◌&&◌, nat_lt, not, is_none, IfOk, IsSome, option_map, option_and_then, if◌then◌else◌}
 use Rattle.std.specs.Option.{option_map_or}
 use Rattle.std.specs.Str.{bytes_eq}
 use Rattle.std.proofs.lemmas.Slice.Eq.{bytes_eq-Decides}
-use Rattle.dkg_values.specs.Rising.{map_of, place_of, with_pair}
-use Rattle.dkg_ceremony.specs.declared.dealer_log.DealerLog.{DealerLog}
+use Rattle.dkg_values.specs.Rising.{map_of, with_pair}
 use Rattle.dkg_ceremony.specs.declared.epocher.Bounds.{Bounds}
 use Rattle.dkg_ceremony.specs.declared.round.RoundParts.{RoundParts as Round}
 use Rattle.dkg_ceremony.specs.declared.signed_log.SignedDealerLog.{SignedDealerLog}
 use Rattle.dkg_ceremony.specs.Outcomes.{LogMap}
-use Rattle.dkg_ceremony.specs.Schedule.{bounds_at, midpoint, last}
+use Rattle.dkg_ceremony.specs.Schedule.{midpoint, last}
 use Rattle.dkg_types.specs.Blocks.{Block}
 use Rattle.dkg_types.specs.PayloadCodes.{its_log}
 use Rattle.dkg_types.specs.declared.entry.Why.{Why}
@@ -25,7 +24,7 @@ use Rattle.dkg_artifact.specs.declared.scan.Tip.{Tip}
 use Rattle.dkg_core.specs.Fixed.{Fixed, has}
 use Rattle.dkg_core.specs.Including as including
 use Rattle.dkg_core.specs.Including.{Fed, Need, Found, Lacks}
-use Rattle.dkg_core.specs.Live.{Live, Request}
+use Rattle.dkg_core.specs.Live.{Live}
 use Rattle.dkg_core.specs.Logs.{filled_by, is_accepted}
 use Rattle.dkg_core.specs.Sources as placed
 use Rattle.dkg_reshare.specs.Including.{fed_of}

@@ -1,4 +1,4 @@
-use Rattle.std.proofs.Common.{◌≡◌, ◌++◌, ◌∷◌, [], Some, None, ap, refl, sym, ◌∙◌, rules, subst}
+use Rattle.std.proofs.Common.{refl}
 use Rattle.std.proofs.lemmas.Result.{err_from_is_err_and}
 use Rattle.std.specs.Int.NonZero.{non_zero_u64_get}
 use Rattle.dkg_store.specs.Acts.{by_want}
@@ -33,17 +33,17 @@ returns-in_err-post-clause-tells g c = λ provider fixed beside fence of reads b
     rw (p.1, p.2) (ends_beside beside tt refl (said_none _ Wanting tt refl))
 
 pub returns-in_err-post-clause-ready : goal.returns-in_err-post-clause-ready
-returns-in_err-post-clause-ready g c = 
+returns-in_err-post-clause-ready g c =
     let p = err_from_is_err_and c.from_residual.result c.from_residual.ensures.1 in
     rw p.1 tt
 
 pub returns-in_err-post-clause-including : goal.returns-in_err-post-clause-including
-returns-in_err-post-clause-including g c = 
+returns-in_err-post-clause-including g c =
     let p = err_from_is_err_and c.from_residual.result c.from_residual.ensures.1 in
     rw p.1 tt
 
 pub returns-in_err-post-clause-causes : goal.returns-in_err-post-clause-causes
-returns-in_err-post-clause-causes g c = 
+returns-in_err-post-clause-causes g c =
     let p = err_from_is_err_and c.from_residual.result c.from_residual.ensures.1 in
     rw (p.1, p.2) tt
 
@@ -75,17 +75,17 @@ returns-in_err-queue-in-Dealing-clause-tells g c = λ provider fixed beside fenc
     rw (p.1, p.2) (ends_beside beside tt refl (said_none _ Wanting tt refl))
 
 pub returns-in_err-queue-in-Dealing-clause-ready : goal.returns-in_err-queue-in-Dealing-clause-ready
-returns-in_err-queue-in-Dealing-clause-ready g c = 
+returns-in_err-queue-in-Dealing-clause-ready g c =
     let p = err_from_is_err_and c.from_residual-in_err-queue-in-Dealing.result c.from_residual-in_err-queue-in-Dealing.ensures.1 in
     rw p.1 tt
 
 pub returns-in_err-queue-in-Dealing-clause-including : goal.returns-in_err-queue-in-Dealing-clause-including
-returns-in_err-queue-in-Dealing-clause-including g c = 
+returns-in_err-queue-in-Dealing-clause-including g c =
     let p = err_from_is_err_and c.from_residual-in_err-queue-in-Dealing.result c.from_residual-in_err-queue-in-Dealing.ensures.1 in
     rw p.1 tt
 
 pub returns-in_err-queue-in-Dealing-clause-causes : goal.returns-in_err-queue-in-Dealing-clause-causes
-returns-in_err-queue-in-Dealing-clause-causes g c = 
+returns-in_err-queue-in-Dealing-clause-causes g c =
     let p = err_from_is_err_and c.from_residual-in_err-queue-in-Dealing.result c.from_residual-in_err-queue-in-Dealing.ensures.1 in
     rw (p.1, p.2) tt
 
@@ -149,17 +149,17 @@ returns-in_err-queue-in-Including-clause-tells g c = λ provider fixed beside fe
     rw (p.1, p.2) (ends_beside beside tt refl (said_none _ Wanting tt refl))
 
 pub returns-in_err-queue-in-Including-clause-ready : goal.returns-in_err-queue-in-Including-clause-ready
-returns-in_err-queue-in-Including-clause-ready g c = 
+returns-in_err-queue-in-Including-clause-ready g c =
     let p = err_from_is_err_and c.from_residual-in_err-queue-in-Including.result c.from_residual-in_err-queue-in-Including.ensures.1 in
     rw p.1 tt
 
 pub returns-in_err-queue-in-Including-clause-including : goal.returns-in_err-queue-in-Including-clause-including
-returns-in_err-queue-in-Including-clause-including g c = 
+returns-in_err-queue-in-Including-clause-including g c =
     let p = err_from_is_err_and c.from_residual-in_err-queue-in-Including.result c.from_residual-in_err-queue-in-Including.ensures.1 in
     rw p.1 tt
 
 pub returns-in_err-queue-in-Including-clause-causes : goal.returns-in_err-queue-in-Including-clause-causes
-returns-in_err-queue-in-Including-clause-causes g c = 
+returns-in_err-queue-in-Including-clause-causes g c =
     let p = err_from_is_err_and c.from_residual-in_err-queue-in-Including.result c.from_residual-in_err-queue-in-Including.ensures.1 in
     rw (p.1, p.2) tt
 

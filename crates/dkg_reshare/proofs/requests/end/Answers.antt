@@ -1,18 +1,9 @@
-use Rattle.std.proofs.Common.{◌≡◌, List, Some, None, [], ap, refl, sym, ◌∙◌, rules, subst}
-use Rattle.std.proofs.lemmas.Result.{err_from_is_err_and}
+use Rattle.std.proofs.Common.{◌≡◌, subst}
 use Rattle.std.specs.Prelude.{map}
 use Rattle.std.specs.Int.NonZero.{non_zero_u64_get}
-use Rattle.dkg_store.specs.Acts.{by_want}
-use Rattle.dkg_store.specs.declared.call.StoreError.TheVariants.{NoMemory as Wanting}
-use Rattle.dkg_artifact.specs.declared.scan.Fed as declared
-use Rattle.dkg_reshare.specs.Including.{ends_hand, fed_of, goes_on}
-use Rattle.dkg_reshare.specs.LiveOf.{live_of}
+use Rattle.dkg_reshare.specs.Including.{ends_hand}
 use Rattle.dkg_reshare.proofs.Asking.{MakesOver, TellsOver, joined_as}
-use Rattle.dkg_reshare.proofs.Burning.{makes_none}
-use Rattle.dkg_reshare.proofs.Kept.{moved_none}
 use Rattle.dkg_reshare.proofs.Requesting.{end_answers, end_goes, ending}
-use Rattle.dkg_reshare.proofs.Said.{said_none}
-use Rattle.dkg_reshare.proofs.Telling.{ends_beside}
 use Rattle.dkg_reshare.proofs.Within.{within_as, within_behind}
 use Rattle.dkg_reshare.proofs.requests.end.Goals as goal
 

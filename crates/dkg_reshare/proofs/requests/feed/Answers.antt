@@ -1,12 +1,10 @@
-use Rattle.std.proofs.Common.{◌≡◌, List, Some, None, [], ap, refl, sym, ◌∙◌, rules, subst}
+use Rattle.std.proofs.Common.{◌≡◌, refl, subst}
 use Rattle.std.proofs.lemmas.Result.{err_from_is_err_and}
 use Rattle.std.specs.Prelude.{map}
 use Rattle.std.specs.Int.NonZero.{non_zero_u64_get}
 use Rattle.dkg_store.specs.Acts.{by_want}
 use Rattle.dkg_store.specs.declared.call.StoreError.TheVariants.{NoMemory as Wanting}
-use Rattle.dkg_artifact.specs.declared.scan.Fed as declared
-use Rattle.dkg_reshare.specs.Including.{fed_of, feeds_hand, goes_on}
-use Rattle.dkg_reshare.specs.LiveOf.{live_of}
+use Rattle.dkg_reshare.specs.Including.{feeds_hand}
 use Rattle.dkg_reshare.proofs.Asking.{MakesOver, TellsOver, joined_as}
 use Rattle.dkg_reshare.proofs.Burning.{makes_none}
 use Rattle.dkg_reshare.proofs.Kept.{moved_none}
@@ -78,7 +76,7 @@ pub returns-in_err-feed-clause-moved : goal.returns-in_err-feed-clause-moved
 returns-in_err-feed-clause-moved g c = moved_none g.D.Disk.tells g.D.Disk.made g.X.SecretStore.made g.D.Disk.faults g.X.SecretStore.faults g.met.D.Disk.made_none g.met.X.SecretStore.made_none c.args.devices.now
 
 pub returns-in_err-feed-clause-causes : goal.returns-in_err-feed-clause-causes
-returns-in_err-feed-clause-causes g c = 
+returns-in_err-feed-clause-causes g c =
     let p = err_from_is_err_and c.from_residual.result c.from_residual.ensures.1 in
     rw (p.1, p.2) tt
 
@@ -96,19 +94,19 @@ pub returns-in_err-fed-clause-moved : goal.returns-in_err-fed-clause-moved
 returns-in_err-fed-clause-moved g c = moved_none g.D.Disk.tells g.D.Disk.made g.X.SecretStore.made g.D.Disk.faults g.X.SecretStore.faults g.met.D.Disk.made_none g.met.X.SecretStore.made_none c.args.devices.now
 
 pub returns-in_err-fed-clause-causes : goal.returns-in_err-fed-clause-causes
-returns-in_err-fed-clause-causes g c = 
+returns-in_err-fed-clause-causes g c =
     let p = err_from_is_err_and c.from_residual-in_err-fed.result c.from_residual-in_err-fed.ensures.1 in
     rw (p.1, p.2) tt
 
 -- WHAT STAYS
 
 pub returns-in_err-feed-clause-ready : goal.returns-in_err-feed-clause-ready
-returns-in_err-feed-clause-ready g c = 
+returns-in_err-feed-clause-ready g c =
     let p = err_from_is_err_and c.from_residual.result c.from_residual.ensures.1 in
     rw p.1 tt
 
 pub returns-in_err-feed-clause-including : goal.returns-in_err-feed-clause-including
-returns-in_err-feed-clause-including g c = 
+returns-in_err-feed-clause-including g c =
     let p = err_from_is_err_and c.from_residual.result c.from_residual.ensures.1 in
     rw p.1 tt
 
@@ -125,12 +123,12 @@ pub returns-in_err-feed-clause-held : goal.returns-in_err-feed-clause-held
 returns-in_err-feed-clause-held g c = refl
 
 pub returns-in_err-fed-clause-ready : goal.returns-in_err-fed-clause-ready
-returns-in_err-fed-clause-ready g c = 
+returns-in_err-fed-clause-ready g c =
     let p = err_from_is_err_and c.from_residual-in_err-fed.result c.from_residual-in_err-fed.ensures.1 in
     rw p.1 tt
 
 pub returns-in_err-fed-clause-including : goal.returns-in_err-fed-clause-including
-returns-in_err-fed-clause-including g c = 
+returns-in_err-fed-clause-including g c =
     let p = err_from_is_err_and c.from_residual-in_err-fed.result c.from_residual-in_err-fed.ensures.1 in
     rw p.1 tt
 

@@ -1,13 +1,11 @@
-use Rattle.std.proofs.Common.{◌≡◌, List, Some, None, [], ap, refl, sym, ◌∙◌, rules, subst}
+use Rattle.std.proofs.Common.{ap, refl, ◌∙◌}
 use Rattle.std.proofs.lemmas.Result.{err_from_is_err_and}
 use Rattle.std.specs.Int.NonZero.{non_zero_u64_get}
-use Rattle.dkg_store.specs.Acts.{by_want}
-use Rattle.dkg_store.specs.declared.call.StoreError.TheVariants.{NoMemory as Wanting}
 use Rattle.dkg_artifact.specs.declared.scan.Fed as declared
-use Rattle.dkg_reshare.specs.Including.{behind_answer, fed_of, goes_on}
+use Rattle.dkg_reshare.specs.Including.{fed_of, goes_on}
 use Rattle.dkg_reshare.specs.LiveOf.{live_of}
 use Rattle.dkg_reshare.proofs.Asking.{MakesOver, TellsOver, answer_stopped, answer_then, behind_hand, joined_as, makes_joins, seen_behind, tells_joins}
-use Rattle.dkg_reshare.proofs.Blamed.{blamed_behind, caused_behind}
+use Rattle.dkg_reshare.proofs.Blamed.{blamed_behind}
 use Rattle.dkg_reshare.proofs.Burning.{makes_nothing}
 use Rattle.dkg_reshare.proofs.Caching.{same_provided}
 use Rattle.dkg_reshare.proofs.Committing.{goes_told}
@@ -128,12 +126,12 @@ returns-in_err-take_answer-in_default-clause-tells g c = λ provider fixed besid
     (c.in_err-take_answer-in_default.ensures.tells provider fixed round.0 (behind_hand TellsOver tells_joins fixed c.args.request beside fence c.args.life.now c.args.inclusion.now seen hand.0 hand.1 round.0 round.1 c.args.fed answered) fence of reads by includes round.1 (seen_behind c.args.inclusion.now beside.inclusion seen))))
 
 pub returns-in_err-take_answer-in_default-clause-ready : goal.returns-in_err-take_answer-in_default-clause-ready
-returns-in_err-take_answer-in_default-clause-ready g c = 
+returns-in_err-take_answer-in_default-clause-ready g c =
     let p = err_from_is_err_and c.from_residual.result c.from_residual.ensures.1 in
     rw p.1 tt
 
 pub returns-in_err-take_answer-in_default-clause-including : goal.returns-in_err-take_answer-in_default-clause-including
-returns-in_err-take_answer-in_default-clause-including g c = 
+returns-in_err-take_answer-in_default-clause-including g c =
     let p = err_from_is_err_and c.from_residual.result c.from_residual.ensures.1 in
     rw p.1 tt
 
@@ -153,7 +151,7 @@ pub returns-in_err-take_answer-in_default-clause-moved : goal.returns-in_err-tak
 returns-in_err-take_answer-in_default-clause-moved g c = c.take_answer.ensures.moved
 
 pub returns-in_err-take_answer-in_default-clause-causes : goal.returns-in_err-take_answer-in_default-clause-causes
-returns-in_err-take_answer-in_default-clause-causes g c = 
+returns-in_err-take_answer-in_default-clause-causes g c =
     let p = err_from_is_err_and c.from_residual.result c.from_residual.ensures.1 in
     rw (p.1, p.2) c.in_err-take_answer-in_default.ensures.causes
 

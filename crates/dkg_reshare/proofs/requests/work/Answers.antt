@@ -1,9 +1,7 @@
-use Rattle.std.proofs.Common.{◌≡◌, Bool, true, false, Option, Some, None, is_some, ap, refl, sym, ◌∙◌, rules}
+use Rattle.std.proofs.Common.{◌≡◌, true, false, Option, None, is_some, ap, refl, ◌∙◌, rules}
 use Rattle.std.proofs.lemmas.Result.{err_from_is_err_and}
-use Rattle.std.specs.Prelude.{option_map, if◌then◌else◌}
-use Rattle.std.specs.Int.NonZero.{non_zero_u64_get}
+use Rattle.std.specs.Prelude.{option_map}
 use Rattle.dkg_artifact.specs.declared.job.Job.{Job}
-use Rattle.dkg_core.specs.Courses.{Goes, bind}
 use Rattle.dkg_core.specs.Including as including
 use Rattle.dkg_core.specs.Live as core
 use Rattle.dkg_reshare.specs.InclusionOf.{job_of, result_of}
@@ -110,12 +108,12 @@ returns-in_err-end_verifying-clause-tells g c = λ provider fixed beside fence o
     (c.in_err-end_verifying.ensures.tells provider fixed beside fence of reads by includes seen))
 
 pub returns-in_err-end_verifying-clause-ready : goal.returns-in_err-end_verifying-clause-ready
-returns-in_err-end_verifying-clause-ready g c = 
+returns-in_err-end_verifying-clause-ready g c =
     let p = err_from_is_err_and c.from_residual.result c.from_residual.ensures.1 in
     rw p.1 tt
 
 pub returns-in_err-end_verifying-clause-including : goal.returns-in_err-end_verifying-clause-including
-returns-in_err-end_verifying-clause-including g c = 
+returns-in_err-end_verifying-clause-including g c =
     let p = err_from_is_err_and c.from_residual.result c.from_residual.ensures.1 in
     rw p.1 tt
 
@@ -135,7 +133,7 @@ pub returns-in_err-end_verifying-clause-moved : goal.returns-in_err-end_verifyin
 returns-in_err-end_verifying-clause-moved g c = c.end_verifying.ensures.moved
 
 pub returns-in_err-end_verifying-clause-causes : goal.returns-in_err-end_verifying-clause-causes
-returns-in_err-end_verifying-clause-causes g c = 
+returns-in_err-end_verifying-clause-causes g c =
     let p = err_from_is_err_and c.from_residual.result c.from_residual.ensures.1 in
     rw (p.1, p.2) c.in_err-end_verifying.ensures.causes
 

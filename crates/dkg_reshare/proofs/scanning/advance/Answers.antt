@@ -1,9 +1,8 @@
-use Rattle.std.proofs.Common.{◌≡◌, ◌+◌, ◌≤◌, true, false, Some, None, [], length, ap, refl, sym, ◌∙◌, rules, subst, arith}
+use Rattle.std.proofs.Common.{◌≡◌, ◌+◌, ◌≤◌, true, false, length, refl, sym, ◌∙◌, subst, arith}
 use Rattle.std.proofs.lemmas.List.{nil_from_length}
 use Rattle.std.proofs.lemmas.Result.{err_from_is_err_and}
 use Rattle.std.specs.Prelude.{IsSome}
 use Rattle.std.specs.Int.NonZero.{non_zero_u64_get}
-use Rattle.dkg_artifact.specs.Requested as requested
 use Rattle.dkg_reshare.specs.LiveOf.{live_of}
 use Rattle.dkg_reshare.proofs.Asking.{MakesOver, TellsOver, behind_length, front_length, makes_joins, no_more, one_more, stopped_at, tells_joins}
 use Rattle.dkg_reshare.proofs.Blamed.{caused_behind}
@@ -29,7 +28,7 @@ loop-turn-init g c = record {
   held = refl;
   left = λ some. omega (arith, c.len-count.ensures);
   acts = λ disk secrets provider fixed beside fence of reads by includes seen.
-    ends_beside beside seen refl (makes_nothing (g.D.Disk.files c.args.devices.now.disk.now) (g.D.Disk.image c.args.devices.now.disk.now) _ refl);
+      ends_beside beside seen refl (makes_nothing (g.D.Disk.files c.args.devices.now.disk.now) (g.D.Disk.image c.args.devices.now.disk.now) _ refl);
   tells = λ provider fixed beside fence of reads by includes seen. ends_beside beside seen refl (goes_told g.row.Dir.Denot (live_of beside fence c.args.life.now) c.args.out.now.entries);
   moved = moved_none g.D.Disk.tells g.D.Disk.made g.X.SecretStore.made g.D.Disk.faults g.X.SecretStore.faults g.met.D.Disk.made_none g.met.X.SecretStore.made_none c.args.devices.now;
 }
@@ -47,13 +46,13 @@ loop-turn-preserved g c = record {
   left = λ some. let here = subst (λ l. IsSome l.round) c.read_first.ensures.same some in
       behind_length c.loop-turn.inclusion.requests c.read_first.new.inclusion.requests c.loop-turn._turn c.len-count.result (c.in_ok-read_first.ensures.left here) (c.loop-turn.invariant.left here) c.loop-turn-test.true;
   acts = λ disk secrets provider fixed beside fence of reads by includes seen.
-    within_then beside (c.loop-turn.invariant.acts disk secrets provider fixed beside fence of reads by includes seen)
-    (λ now is made. within_as (λ i was. was) (λ later was next. one_more (MakesOver g.D.Disk.files g.D.Disk.image g.X.SecretStore.held) (makes_joins g.D.Disk.files g.D.Disk.image g.X.SecretStore.held) fixed c.loop-turn._turn (live_of beside fence c.args.life.now) (live_of now fence c.loop-turn.life) _ (c.args.devices.now, c.args.out.now.entries) (c.loop-turn.devices, c.loop-turn.out.entries) (c.read_first.new.devices, c.read_first.new.out.entries) made next)
-    (c.in_ok-read_first.ensures.acts disk secrets provider fixed now fence of reads by (includes_on fixed (c.loop-turn.invariant.provider provider) includes) is));
+      within_then beside (c.loop-turn.invariant.acts disk secrets provider fixed beside fence of reads by includes seen)
+      (λ now is made. within_as (λ i was. was) (λ later was next. one_more (MakesOver g.D.Disk.files g.D.Disk.image g.X.SecretStore.held) (makes_joins g.D.Disk.files g.D.Disk.image g.X.SecretStore.held) fixed c.loop-turn._turn (live_of beside fence c.args.life.now) (live_of now fence c.loop-turn.life) _ (c.args.devices.now, c.args.out.now.entries) (c.loop-turn.devices, c.loop-turn.out.entries) (c.read_first.new.devices, c.read_first.new.out.entries) made next)
+      (c.in_ok-read_first.ensures.acts disk secrets provider fixed now fence of reads by (includes_on fixed (c.loop-turn.invariant.provider provider) includes) is));
   tells = λ provider fixed beside fence of reads by includes seen.
-    within_then beside (c.loop-turn.invariant.tells provider fixed beside fence of reads by includes seen)
-    (λ now is made. within_as (λ i was. was) (λ later was next. one_more TellsOver tells_joins fixed c.loop-turn._turn (live_of beside fence c.args.life.now) (live_of now fence c.loop-turn.life) _ c.args.out.now.entries c.loop-turn.out.entries c.read_first.new.out.entries made next)
-    (c.in_ok-read_first.ensures.tells provider fixed now fence of reads by (includes_on fixed (c.loop-turn.invariant.provider provider) includes) is));
+      within_then beside (c.loop-turn.invariant.tells provider fixed beside fence of reads by includes seen)
+      (λ now is made. within_as (λ i was. was) (λ later was next. one_more TellsOver tells_joins fixed c.loop-turn._turn (live_of beside fence c.args.life.now) (live_of now fence c.loop-turn.life) _ c.args.out.now.entries c.loop-turn.out.entries c.read_first.new.out.entries made next)
+      (c.in_ok-read_first.ensures.tells provider fixed now fence of reads by (includes_on fixed (c.loop-turn.invariant.provider provider) includes) is));
   moved = moved_then g.D.Disk.tells g.D.Disk.made g.X.SecretStore.made g.D.Disk.faults g.X.SecretStore.faults g.met.D.Disk.made_more g.met.X.SecretStore.made_more _ _ _ c.loop-turn.invariant.moved c.read_first.ensures.moved;
 }
 
@@ -146,12 +145,12 @@ returns-in_err-read_first-clause-tells g c = λ provider fixed beside fence of r
     (c.in_err-read_first.ensures.tells provider fixed now fence of reads by (includes_on fixed (c.loop-turn.invariant.provider provider) includes) is)))
 
 pub returns-in_err-read_first-clause-ready : goal.returns-in_err-read_first-clause-ready
-returns-in_err-read_first-clause-ready g c = 
+returns-in_err-read_first-clause-ready g c =
     let p = err_from_is_err_and c.from_residual.result c.from_residual.ensures.1 in
     rw p.1 tt
 
 pub returns-in_err-read_first-clause-including : goal.returns-in_err-read_first-clause-including
-returns-in_err-read_first-clause-including g c = 
+returns-in_err-read_first-clause-including g c =
     let p = err_from_is_err_and c.from_residual.result c.from_residual.ensures.1 in
     rw p.1 tt
 
@@ -171,7 +170,7 @@ pub returns-in_err-read_first-clause-moved : goal.returns-in_err-read_first-clau
 returns-in_err-read_first-clause-moved g c = moved_then g.D.Disk.tells g.D.Disk.made g.X.SecretStore.made g.D.Disk.faults g.X.SecretStore.faults g.met.D.Disk.made_more g.met.X.SecretStore.made_more _ _ _ c.loop-turn.invariant.moved c.read_first.ensures.moved
 
 pub returns-in_err-read_first-clause-causes : goal.returns-in_err-read_first-clause-causes
-returns-in_err-read_first-clause-causes g c = 
+returns-in_err-read_first-clause-causes g c =
     let p = err_from_is_err_and c.from_residual.result c.from_residual.ensures.1 in
     rw (p.1, p.2) (caused_behind g.D.Disk.tells g.D.Disk.made g.X.SecretStore.made g.D.Disk.faults g.X.SecretStore.faults _ _ _ c.loop-turn.invariant.moved c.read_first.ensures.moved c.in_err-read_first.field-0.0 c.in_err-read_first.ensures.causes)
 

@@ -1,14 +1,12 @@
-use Rattle.std.proofs.Common.{◌≡◌, Some, ap, refl, sym, ◌∙◌, rules, subst}
-use Rattle.std.proofs.lemmas.Result.{err_from_is_err_and}
+use Rattle.std.proofs.Common.{◌≡◌, Some, ap, refl, sym, ◌∙◌}
 use Rattle.std.specs.Int.NonZero.{non_zero_u64_get}
 use Rattle.std.specs.Prelude.{option_map}
 use Rattle.dkg_ceremony.specs.declared.round.RoundParts.{RoundParts as Round}
 use Rattle.dkg_types.specs.PayloadCodes.{info_payload}
 use Rattle.dkg_core.specs.Including as including
 use Rattle.dkg_core.specs.Live.{GaveInfo}
-use Rattle.dkg_reshare.specs.InclusionOf.{artifact_of, result_of}
+use Rattle.dkg_reshare.specs.InclusionOf.{artifact_of}
 use Rattle.dkg_reshare.specs.LiveOf.{live_of}
-use Rattle.dkg_reshare.specs.declared.life.Life.{Life}
 use Rattle.dkg_reshare.specs.declared.told.EpochInfoResponse.TheVariants.{Available}
 use Rattle.dkg_reshare.specs.declared.told.Told.TheVariants.{Info}
 use Rattle.dkg_reshare.proofs.Asking.{MakesOver, TellsOver, cached_ends, from_cache, from_kept, from_none, joined_as, not_some, told_ends}
@@ -46,7 +44,7 @@ pub returns-in-Some-clause-ready : goal.returns-in-Some-clause-ready
 returns-in-Some-clause-ready g c = in_any c.answer.result c.requires.ready
 
 pub returns-in-Some-clause-including : goal.returns-in-Some-clause-including
-returns-in-Some-clause-including g c = 
+returns-in-Some-clause-including g c =
     in_any c.answer.result (ready_answered g.C.Ceremony.check_log_of g.C.Ceremony.dealing_of g.C.Ceremony.finish_of (non_zero_u64_get c.args.terms.now.blocks_per_epoch) c.args.life.now c.args.inclusion.now c.args.inclusion.now.cache c.answer.new.told c.requires.including)
 
 pub returns-in-Some-clause-moved : goal.returns-in-Some-clause-moved
@@ -78,12 +76,12 @@ returns-in-Some-ready-clause-tells g c = λ provider fixed round beside fence of
     (c.answer_by.ensures.tells provider fixed (live_of beside fence c.args.life.now) of reads includes refl seen.cached)))
 
 pub returns-in-Some-ready-clause-ready : goal.returns-in-Some-ready-clause-ready
-returns-in-Some-ready-clause-ready g c = 
+returns-in-Some-ready-clause-ready g c =
     rw c.answer_by.ensures.store (in_any c.answer_by.result (ready_on g.D.Disk.tells g.D.Disk.files g.D.Disk.image g.C.Ceremony.ack_of g.C.Ceremony.deal_of g.C.Ceremony.check_ack_of c.args.terms.now
     c.args.life.now c.args.life.now c.args.devices.now c.answer_by.new.devices refl c.answer_by.ensures.disk c.requires.ready))
 
 pub returns-in-Some-ready-clause-including : goal.returns-in-Some-ready-clause-including
-returns-in-Some-ready-clause-including g c = 
+returns-in-Some-ready-clause-including g c =
     rw c.answer_by.ensures.store (in_any c.answer_by.result (ready_answered g.C.Ceremony.check_log_of g.C.Ceremony.dealing_of g.C.Ceremony.finish_of (non_zero_u64_get c.args.terms.now.blocks_per_epoch) c.args.life.now c.args.inclusion.now c.answer_by.new.cache c.answer_by.new.told c.requires.including))
 
 pub returns-in-Some-ready-clause-same : goal.returns-in-Some-ready-clause-same

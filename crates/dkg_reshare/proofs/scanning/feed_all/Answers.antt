@@ -1,7 +1,6 @@
-use Rattle.std.proofs.Common.{◌≡◌, ◌++◌, ◌∷◌, [], List, ap, refl, sym, ◌∙◌, rules, take, drop, arith}
+use Rattle.std.proofs.Common.{◌≡◌, ◌++◌, ◌∷◌, [], List, ap, refl, sym, ◌∙◌, rules, take, drop}
 use Rattle.std.proofs.lemmas.List.{take_all, take_more, take-append-drop}
 use Rattle.dkg_types.specs.Blocks.{Block}
-use Rattle.dkg_artifact.specs.Seen.{Scan}
 use Rattle.dkg_artifact.specs.declared.scan.Fed as declared
 use Rattle.dkg_artifact.specs.declared.scan.Fed.TheVariants.{Need}
 use Rattle.dkg_reshare.specs.Scanned.{fed_all}

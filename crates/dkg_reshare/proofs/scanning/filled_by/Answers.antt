@@ -1,4 +1,4 @@
-use Rattle.std.proofs.Common.{◌≡◌, ◌++◌, ◌∷◌, [], ap, refl, sym, ◌∙◌, rules, take, append_assoc, append-nil}
+use Rattle.std.proofs.Common.{◌≡◌, ◌++◌, ◌∷◌, [], ap, refl, sym, ◌∙◌, take, append_assoc, append-nil}
 use Rattle.std.proofs.lemmas.List.{take_all, take_more}
 use Rattle.dkg_values.specs.RisingLaws.{map_of-map}
 use Rattle.dkg_values.specs.Rising.{map_of}
@@ -24,7 +24,7 @@ pub returns : goal.returns
 returns c =
     let one : c.loop-dealer.pairs.items ≡ c.args.logs = c.loop-dealer.invariant ∙ take_all c.loop-dealer.dealer-index c.as_slice-dealer-items.result.now c.loop-dealer-test.false ∙ c.as_slice-dealer-items.ensures.items in
     let two : take c.loop-dealer-2.dealer-index c.as_slice-dealer-items-2.result.now ≡ c.args.others.now =
-        take_all c.loop-dealer-2.dealer-index c.as_slice-dealer-items-2.result.now c.loop-dealer-2-test.false ∙ c.as_slice-dealer-items-2.ensures.items in
+    take_all c.loop-dealer-2.dealer-index c.as_slice-dealer-items-2.result.now c.loop-dealer-2-test.false ∙ c.as_slice-dealer-items-2.ensures.items in
     let all : c.loop-dealer-2.pairs.items ≡ c.args.logs ++ c.args.others.now = c.loop-dealer-2.invariant ∙ (λ i. one i ++ two i) in
     if_ok c.from_any.result
     (λ made is. is ∙ ap (λ (l : LogMap). map_of l) all ∙ filled_is c.args.logs c.args.others.now (map_of-map c.args.others.now c.as_slice-dealer-items-2.ensures.kept.rising))

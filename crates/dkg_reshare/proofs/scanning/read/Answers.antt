@@ -1,4 +1,4 @@
-use Rattle.std.proofs.Common.{◌≡◌, ap, refl, sym, ◌∙◌, rules}
+use Rattle.std.proofs.Common.{◌≡◌, ap, sym, ◌∙◌, rules}
 use Rattle.dkg_reshare.proofs.Scans.{needs_is, open_by}
 use Rattle.dkg_reshare.proofs.Requesting.{read_by}
 use Rattle.dkg_artifact.specs.declared.scan.Fed.TheVariants.{Need}
@@ -25,8 +25,8 @@ returns-clause-read g c = λ fixed beside fence blocks checks.
     c.args.request.now.number c.args.request.now.blocks c.args.request.now.ended c.bounds_of-bounds.result c.bounds_of-bounds.ensures.are c.tip_above.result c.tip_above.ensures c.in_ok-scan.scan c.in_ok-scan.first
     c.in_ok-scan.ensures.scan c.in_ok-scan.ensures.answer c.in_ok-fed.fed _ c.in_ok-fed.ensures.fed
     ∙ elim c.else-is_need.branch [
-    | else-is_need-via-then-is_need+else-request w ↦
-        let ended : c.args.request.now.ended ≡ c.request.inside.ended = search rules in
-        open_by c.args.request.now.ended c.in_ok-fed.fed (λ needs. ended ∙ w.if-request.false)
-    | else-is_need-via-else-is_need w ↦ open_by c.args.request.now.ended c.in_ok-fed.fed (λ needs. absurd (let e = needs ∙ sym c.is_need.ensures ∙ w.if-is_need.false in cc))
+      | else-is_need-via-then-is_need+else-request w ↦
+          let ended : c.args.request.now.ended ≡ c.request.inside.ended = search rules in
+          open_by c.args.request.now.ended c.in_ok-fed.fed (λ needs. ended ∙ w.if-request.false)
+      | else-is_need-via-else-is_need w ↦ open_by c.args.request.now.ended c.in_ok-fed.fed (λ needs. absurd (let e = needs ∙ sym c.is_need.ensures ∙ w.if-is_need.false in cc))
     ]

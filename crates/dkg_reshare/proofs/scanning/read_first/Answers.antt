@@ -1,16 +1,14 @@
-use Rattle.std.proofs.Common.{◌≡◌, ℕ, List, Some, [], ap, refl, sym, ◌∙◌, rules, subst}
+use Rattle.std.proofs.Common.{◌≡◌, ℕ, List, ap, refl, sym, ◌∙◌, rules}
 use Rattle.std.proofs.lemmas.Result.{err_from_is_err_and}
 use Rattle.std.specs.Int.NonZero.{non_zero_u64_get}
 use Rattle.dkg_artifact.specs.Requested as requested
 use Rattle.dkg_store.specs.Acts.{by_want}
 use Rattle.dkg_store.specs.declared.call.StoreError.TheVariants.{NoMemory as Wanting}
-use Rattle.dkg_artifact.specs.declared.scan.Fed.TheVariants.{Need}
 use Rattle.dkg_reshare.specs.declared.inclusion.Inclusion.{Inclusion}
 use Rattle.dkg_reshare.specs.Including.{behind_first, fed_of, on_fed}
 use Rattle.dkg_reshare.specs.LiveOf.{live_of}
 use Rattle.dkg_reshare.proofs.Advancing.{waits_next}
 use Rattle.dkg_reshare.proofs.Asking.{MakesOver, TellsOver, answered_next, behind_it, joined_as, needed_next, roundless_next, seen_held, seen_popped, seen_requests}
-use Rattle.dkg_reshare.proofs.Beside.{then_well}
 use Rattle.dkg_reshare.proofs.Burning.{makes_none, makes_nothing}
 use Rattle.dkg_reshare.proofs.Committing.{goes_told, in_any}
 use Rattle.dkg_reshare.proofs.Kept.{moved_none}
@@ -75,7 +73,7 @@ pub returns-in_err-scan-clause-moved : goal.returns-in_err-scan-clause-moved
 returns-in_err-scan-clause-moved g c = moved_none g.D.Disk.tells g.D.Disk.made g.X.SecretStore.made g.D.Disk.faults g.X.SecretStore.faults g.met.D.Disk.made_none g.met.X.SecretStore.made_none c.args.devices.now
 
 pub returns-in_err-scan-clause-causes : goal.returns-in_err-scan-clause-causes
-returns-in_err-scan-clause-causes g c = 
+returns-in_err-scan-clause-causes g c =
     let p = err_from_is_err_and c.from_residual.result c.from_residual.ensures.1 in
     rw (p.1, p.2) tt
 
@@ -93,7 +91,7 @@ pub returns-then-is_need-clause-moved : goal.returns-then-is_need-clause-moved
 returns-then-is_need-clause-moved g c = moved_none g.D.Disk.tells g.D.Disk.made g.X.SecretStore.made g.D.Disk.faults g.X.SecretStore.faults g.met.D.Disk.made_none g.met.X.SecretStore.made_none c.args.devices.now
 
 pub returns-then-is_need-clause-including : goal.returns-then-is_need-clause-including
-returns-then-is_need-clause-including g c = 
+returns-then-is_need-clause-including g c =
     let stands = c.in_ok-scan.ensures.stands (needs_is c.in_ok-scan.fed (sym c.is_need.ensures ∙ c.if-is_need.true)) in
     ready_held g.C.Ceremony.check_log_of g.C.Ceremony.dealing_of g.C.Ceremony.finish_of (non_zero_u64_get c.args.terms.now.blocks_per_epoch) c.args.life.now c.args.inclusion.now c.requires.may.0 c.requires.including (record { request = c.in-Some-pop.request; scan = c.in_ok-scan.scan }) c.pop.new.self
     c.requires.may.2 stands.0 c.in-Some.round c.in-Some.is stands.1
@@ -202,17 +200,17 @@ pub returns-in_default-pop-clause-held : goal.returns-in_default-pop-clause-held
 returns-in_default-pop-clause-held g c = refl
 
 pub returns-in_err-scan-clause-ready : goal.returns-in_err-scan-clause-ready
-returns-in_err-scan-clause-ready g c = 
+returns-in_err-scan-clause-ready g c =
     let p = err_from_is_err_and c.from_residual.result c.from_residual.ensures.1 in
     rw p.1 tt
 
 pub returns-in_err-scan-clause-including : goal.returns-in_err-scan-clause-including
-returns-in_err-scan-clause-including g c = 
+returns-in_err-scan-clause-including g c =
     let p = err_from_is_err_and c.from_residual.result c.from_residual.ensures.1 in
     rw p.1 tt
 
 pub returns-in_err-scan-clause-left : goal.returns-in_err-scan-clause-left
-returns-in_err-scan-clause-left g c = 
+returns-in_err-scan-clause-left g c =
     let p = err_from_is_err_and c.from_residual.result c.from_residual.ensures.1 in
     rw p.1 tt
 

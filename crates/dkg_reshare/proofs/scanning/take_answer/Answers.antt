@@ -1,4 +1,4 @@
-use Rattle.std.proofs.Common.{◌≡◌, ap, refl, sym, ◌∙◌, rules, subst}
+use Rattle.std.proofs.Common.{◌≡◌, ap, refl, sym, ◌∙◌}
 use Rattle.std.proofs.lemmas.Result.{err_from_is_err_and}
 use Rattle.std.specs.Int.NonZero.{non_zero_u64_get}
 use Rattle.dkg_ceremony.specs.Outcomes.{LogMap}
@@ -60,7 +60,7 @@ pub returns-in-Unavailable-clause-ready : goal.returns-in-Unavailable-clause-rea
 returns-in-Unavailable-clause-ready g c = in_any c.answer_none.result c.requires.ready
 
 pub returns-in-Unavailable-clause-including : goal.returns-in-Unavailable-clause-including
-returns-in-Unavailable-clause-including g c = 
+returns-in-Unavailable-clause-including g c =
     in_any c.answer_none.result (ready_answered g.C.Ceremony.check_log_of g.C.Ceremony.dealing_of g.C.Ceremony.finish_of (non_zero_u64_get c.args.terms.now.blocks_per_epoch) c.args.life.now c.args.inclusion.now c.args.inclusion.now.cache c.answer_none.new.told c.requires.including)
 
 pub returns-in-Unavailable-clause-moved : goal.returns-in-Unavailable-clause-moved
@@ -85,7 +85,7 @@ pub returns-in_err-canonical-in-Logs-clause-moved : goal.returns-in_err-canonica
 returns-in_err-canonical-in-Logs-clause-moved g c = moved_none g.D.Disk.tells g.D.Disk.made g.X.SecretStore.made g.D.Disk.faults g.X.SecretStore.faults g.met.D.Disk.made_none g.met.X.SecretStore.made_none c.args.devices.now
 
 pub returns-in_err-canonical-in-Logs-clause-causes : goal.returns-in_err-canonical-in-Logs-clause-causes
-returns-in_err-canonical-in-Logs-clause-causes g c = 
+returns-in_err-canonical-in-Logs-clause-causes g c =
     let p = err_from_is_err_and c.from_residual.result c.from_residual.ensures.1 in
     rw (p.1, p.2) tt
 
@@ -103,7 +103,7 @@ pub returns-in_err-logs-in-Logs-clause-moved : goal.returns-in_err-logs-in-Logs-
 returns-in_err-logs-in-Logs-clause-moved g c = moved_none g.D.Disk.tells g.D.Disk.made g.X.SecretStore.made g.D.Disk.faults g.X.SecretStore.faults g.met.D.Disk.made_none g.met.X.SecretStore.made_none c.args.devices.now
 
 pub returns-in_err-logs-in-Logs-clause-causes : goal.returns-in_err-logs-in-Logs-clause-causes
-returns-in_err-logs-in-Logs-clause-causes g c = 
+returns-in_err-logs-in-Logs-clause-causes g c =
     let p = err_from_is_err_and c.from_residual-in_err-logs-in-Logs.result c.from_residual-in_err-logs-in-Logs.ensures.1 in
     rw (p.1, p.2) tt
 
@@ -112,8 +112,8 @@ returns-in_err-logs-in-Logs-clause-causes g c =
 pub returns-in_ok-logs-in-Logs-clause-acts : goal.returns-in_ok-logs-in-Logs-clause-acts
 returns-in_ok-logs-in-Logs-clause-acts g c = λ disk secrets provider fixed round beside fence of reads by includes has seen.
     let of_logs : c.in_ok-logs-in-Logs.logs ≡ filled_by (canonical fixed (live_of beside fence c.args.life.now)) c.in-Logs.found =
-        c.in_ok-logs-in-Logs.ensures ∙ ap (λ (l : LogMap). filled_by l c.in-Logs.found)
-        (c.in_ok-canonical-in-Logs.ensures.canonical fixed beside fence (middle_of (non_zero_u64_get c.args.terms.now.blocks_per_epoch) c.args.life.now fixed of.blocks c.requires.ready.placed c.requires.includes)) in
+    c.in_ok-logs-in-Logs.ensures ∙ ap (λ (l : LogMap). filled_by l c.in-Logs.found)
+    (c.in_ok-canonical-in-Logs.ensures.canonical fixed beside fence (middle_of (non_zero_u64_get c.args.terms.now.blocks_per_epoch) c.args.life.now fixed of.blocks c.requires.ready.placed c.requires.includes)) in
     within_as (λ i is. is) (λ now is made. joined_as (MakesOver g.D.Disk.files g.D.Disk.image g.X.SecretStore.held) {x = (c.args.devices.now, c.args.out.now.entries)} {y = (c.ask_for.new.devices, c.ask_for.new.out.entries)} (ap (λ (x : declared.Fed). on_fed fixed round c.args.request (fed_of x) (live_of beside fence c.args.life.now)) c.in-Logs.is
     ∙ ap (λ (l : LogMap). including.asks_for fixed round c.args.request l (live_of beside fence c.args.life.now)) (sym of_logs)) made)
     (c.ask_for.ensures.acts disk secrets provider fixed round beside fence of reads by includes has seen)
@@ -121,8 +121,8 @@ returns-in_ok-logs-in-Logs-clause-acts g c = λ disk secrets provider fixed roun
 pub returns-in_ok-logs-in-Logs-clause-tells : goal.returns-in_ok-logs-in-Logs-clause-tells
 returns-in_ok-logs-in-Logs-clause-tells g c = λ provider fixed round beside fence of reads by includes has seen.
     let of_logs : c.in_ok-logs-in-Logs.logs ≡ filled_by (canonical fixed (live_of beside fence c.args.life.now)) c.in-Logs.found =
-        c.in_ok-logs-in-Logs.ensures ∙ ap (λ (l : LogMap). filled_by l c.in-Logs.found)
-        (c.in_ok-canonical-in-Logs.ensures.canonical fixed beside fence (middle_of (non_zero_u64_get c.args.terms.now.blocks_per_epoch) c.args.life.now fixed of.blocks c.requires.ready.placed c.requires.includes)) in
+    c.in_ok-logs-in-Logs.ensures ∙ ap (λ (l : LogMap). filled_by l c.in-Logs.found)
+    (c.in_ok-canonical-in-Logs.ensures.canonical fixed beside fence (middle_of (non_zero_u64_get c.args.terms.now.blocks_per_epoch) c.args.life.now fixed of.blocks c.requires.ready.placed c.requires.includes)) in
     within_as (λ i is. is) (λ now is made. joined_as TellsOver {x = c.args.out.now.entries} {y = c.ask_for.new.out.entries} (ap (λ (x : declared.Fed). on_fed fixed round c.args.request (fed_of x) (live_of beside fence c.args.life.now)) c.in-Logs.is
     ∙ ap (λ (l : LogMap). including.asks_for fixed round c.args.request l (live_of beside fence c.args.life.now)) (sym of_logs)) made)
     (c.ask_for.ensures.tells provider fixed round beside fence of reads by includes has seen)
@@ -211,12 +211,12 @@ pub returns-in-Unavailable-clause-rest : goal.returns-in-Unavailable-clause-rest
 returns-in-Unavailable-clause-rest g c = refl
 
 pub returns-in_err-canonical-in-Logs-clause-ready : goal.returns-in_err-canonical-in-Logs-clause-ready
-returns-in_err-canonical-in-Logs-clause-ready g c = 
+returns-in_err-canonical-in-Logs-clause-ready g c =
     let p = err_from_is_err_and c.from_residual.result c.from_residual.ensures.1 in
     rw p.1 tt
 
 pub returns-in_err-canonical-in-Logs-clause-including : goal.returns-in_err-canonical-in-Logs-clause-including
-returns-in_err-canonical-in-Logs-clause-including g c = 
+returns-in_err-canonical-in-Logs-clause-including g c =
     let p = err_from_is_err_and c.from_residual.result c.from_residual.ensures.1 in
     rw p.1 tt
 
@@ -236,12 +236,12 @@ pub returns-in_err-canonical-in-Logs-clause-rest : goal.returns-in_err-canonical
 returns-in_err-canonical-in-Logs-clause-rest g c = refl
 
 pub returns-in_err-logs-in-Logs-clause-ready : goal.returns-in_err-logs-in-Logs-clause-ready
-returns-in_err-logs-in-Logs-clause-ready g c = 
+returns-in_err-logs-in-Logs-clause-ready g c =
     let p = err_from_is_err_and c.from_residual-in_err-logs-in-Logs.result c.from_residual-in_err-logs-in-Logs.ensures.1 in
     rw p.1 tt
 
 pub returns-in_err-logs-in-Logs-clause-including : goal.returns-in_err-logs-in-Logs-clause-including
-returns-in_err-logs-in-Logs-clause-including g c = 
+returns-in_err-logs-in-Logs-clause-including g c =
     let p = err_from_is_err_and c.from_residual-in_err-logs-in-Logs.result c.from_residual-in_err-logs-in-Logs.ensures.1 in
     rw p.1 tt
 
