@@ -1,9 +1,12 @@
 use Rattle.std.proofs.Common.{◌≡◌, None, Some, ap, refl, sym, ◌∙◌}
 use Rattle.std.specs.Prelude.{option_map}
 use Rattle.std.proofs.lemmas.Result.{err_from_is_err_and}
+use Rattle.dkg_types.specs.declared.fault.Fault.TheVariants.{NoMemory}
+use Rattle.dkg_reshare.specs.Ends.{by_stop}
 use Rattle.dkg_reshare.specs.Including.{derives_by}
 use Rattle.dkg_reshare.specs.InclusionOf.{artifact_of}
 use Rattle.dkg_reshare.specs.LiveOf.{live_of}
+use Rattle.dkg_reshare.specs.declared.stop.Stop.TheVariants.{Fault as Faulted}
 use Rattle.dkg_reshare.proofs.Beginning.{makes_as, tells_as}
 use Rattle.dkg_reshare.proofs.Concluding.{by_before, by_cache, by_neither, goes_makes, goes_tells, wants_makes}
 use Rattle.dkg_reshare.proofs.Kept.{moved_none}
@@ -39,13 +42,13 @@ returns-in-Some-clause-idle g c = c.requires.idle
 pub returns-in_err-kept-clause-acts : goal.returns-in_err-kept-clause-acts
 returns-in_err-kept-clause-acts g c = λ disk secrets provided fixed round beside fence out of reads by provides has seen.
     let p = err_from_is_err_and c.from_residual.result c.from_residual.ensures.1 in
-    rw (p.1, p.2) (ends_beside beside tt refl (wants_makes (derives_by fixed round c.args.logs.now (option_map artifact_of c.args.before) (live_of beside fence c.args.life.now)) _ refl _ _ _))
+    rw (p.1, p.2) (ends_beside beside tt refl (wants_makes (derives_by fixed round c.args.logs.now (option_map artifact_of c.args.before) (live_of beside fence c.args.life.now)) (Faulted NoMemory) refl _ _ _))
 
 pub returns-in_err-kept-clause-tells : goal.returns-in_err-kept-clause-tells
 returns-in_err-kept-clause-tells g c = λ provided fixed round beside fence out of reads by provides has seen.
     let p = err_from_is_err_and c.from_residual.result c.from_residual.ensures.1 in
     let course = derives_by fixed round c.args.logs.now (option_map artifact_of c.args.before) (live_of beside fence c.args.life.now) in
-    rw (p.1, p.2) (ends_beside beside tt refl (speaks_tells course _ (wants_speaks course _ refl out out refl)))
+    rw (p.1, p.2) (ends_beside beside tt refl (speaks_tells course (by_stop (Faulted NoMemory)) (wants_speaks course (Faulted NoMemory) refl out out refl)))
 
 pub returns-in_err-kept-clause-moved : goal.returns-in_err-kept-clause-moved
 returns-in_err-kept-clause-moved g c = moved_none g.D.Disk.tells g.D.Disk.made g.X.SecretStore.made g.D.Disk.faults g.X.SecretStore.faults g.met.D.Disk.made_none g.met.X.SecretStore.made_none c.args.devices.now

@@ -3,6 +3,9 @@ use Rattle.std.specs.Prelude.{IsSome, option_map}
 use Rattle.std.specs.Int.NonZero.{non_zero_u64_get}
 use Rattle.std.proofs.lemmas.Result.{err_from_is_err_and}
 use Rattle.dkg_core.specs.Including as including
+use Rattle.dkg_types.specs.declared.fault.Fault.TheVariants.{NoMemory}
+use Rattle.dkg_reshare.specs.Ends.{by_stop}
+use Rattle.dkg_reshare.specs.declared.stop.Stop.TheVariants.{Fault as Faulted}
 use Rattle.dkg_reshare.specs.Including.{derives_by, derives_final}
 use Rattle.dkg_reshare.specs.InclusionOf.{artifact_of}
 use Rattle.dkg_reshare.specs.LiveOf.{live_of}
@@ -25,13 +28,13 @@ use Rattle.dkg_reshare.proofs.final_block.derive.Goals as goal
 pub returns-in_err-logs-clause-acts : goal.returns-in_err-logs-clause-acts
 returns-in_err-logs-clause-acts g c = λ disk secrets provided fixed round beside fence of reads by provides has seen.
     let p = err_from_is_err_and c.from_residual.result c.from_residual.ensures.1 in
-    rw (p.1, p.2) (ends_beside beside tt refl (wants_makes (derives_final fixed round (live_of beside fence c.args.life.now)) _ refl _ _ _))
+    rw (p.1, p.2) (ends_beside beside tt refl (wants_makes (derives_final fixed round (live_of beside fence c.args.life.now)) (Faulted NoMemory) refl _ _ _))
 
 pub returns-in_err-logs-clause-tells : goal.returns-in_err-logs-clause-tells
 returns-in_err-logs-clause-tells g c = λ provided fixed round beside fence of reads by provides has seen.
     let p = err_from_is_err_and c.from_residual.result c.from_residual.ensures.1 in
     let course = derives_final fixed round (live_of beside fence c.args.life.now) in
-    rw (p.1, p.2) (ends_beside beside tt refl (speaks_tells course _ (wants_speaks course _ refl _ _ refl)))
+    rw (p.1, p.2) (ends_beside beside tt refl (speaks_tells course (by_stop (Faulted NoMemory)) (wants_speaks course (Faulted NoMemory) refl _ _ refl)))
 
 pub returns-in_err-logs-clause-moved : goal.returns-in_err-logs-clause-moved
 returns-in_err-logs-clause-moved g c = moved_none g.D.Disk.tells g.D.Disk.made g.X.SecretStore.made g.D.Disk.faults g.X.SecretStore.faults g.met.D.Disk.made_none g.met.X.SecretStore.made_none c.args.devices.now
@@ -42,13 +45,13 @@ returns-in_err-logs-clause-provider g c = λ told. (λ epoch. refl, λ epoch pee
 pub returns-in_err-before-clause-acts : goal.returns-in_err-before-clause-acts
 returns-in_err-before-clause-acts g c = λ disk secrets provided fixed round beside fence of reads by provides has seen.
     let p = err_from_is_err_and c.from_residual-in_err-before.result c.from_residual-in_err-before.ensures.1 in
-    rw (p.1, p.2) (ends_beside beside tt refl (wants_makes (derives_final fixed round (live_of beside fence c.args.life.now)) _ refl _ _ _))
+    rw (p.1, p.2) (ends_beside beside tt refl (wants_makes (derives_final fixed round (live_of beside fence c.args.life.now)) (Faulted NoMemory) refl _ _ _))
 
 pub returns-in_err-before-clause-tells : goal.returns-in_err-before-clause-tells
 returns-in_err-before-clause-tells g c = λ provided fixed round beside fence of reads by provides has seen.
     let p = err_from_is_err_and c.from_residual-in_err-before.result c.from_residual-in_err-before.ensures.1 in
     let course = derives_final fixed round (live_of beside fence c.args.life.now) in
-    rw (p.1, p.2) (ends_beside beside tt refl (speaks_tells course _ (wants_speaks course _ refl _ _ refl)))
+    rw (p.1, p.2) (ends_beside beside tt refl (speaks_tells course (by_stop (Faulted NoMemory)) (wants_speaks course (Faulted NoMemory) refl _ _ refl)))
 
 pub returns-in_err-before-clause-moved : goal.returns-in_err-before-clause-moved
 returns-in_err-before-clause-moved g c = moved_none g.D.Disk.tells g.D.Disk.made g.X.SecretStore.made g.D.Disk.faults g.X.SecretStore.faults g.met.D.Disk.made_none g.met.X.SecretStore.made_none c.args.devices.now
@@ -102,7 +105,7 @@ artifact_by-requires g c = record {
   ready = c.in_ok-end_verifying.ensures.ready;
   current = subst (λ (l : Life g.row.Dir.Denot). IsSome l.store.current) (sym c.end_verifying.ensures.same) (c.requires.including.current (not_following (non_zero_u64_get c.args.terms.now.blocks_per_epoch) c.args.life.now c.requires.includes c.requires.ready.placed));
   includes = ap (λ (l : Life g.row.Dir.Denot). l.stage) c.end_verifying.ensures.same ∙ c.requires.includes;
-  canonical = rw c.end_verifying.ensures.same c.in_ok-logs.ensures.reached;
+  canonical = rw c.end_verifying.ensures.same c.in_ok-logs.ensures.logs;
   idle = c.in_ok-end_verifying.ensures.idle;
 }
 

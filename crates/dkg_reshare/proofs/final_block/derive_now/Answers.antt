@@ -8,9 +8,11 @@ use Rattle.dkg_artifact.specs.Results.{Checked}
 use Rattle.dkg_store.specs.declared.store.Store.{Store}
 use Rattle.dkg_core.specs.Including as including
 use Rattle.dkg_core.specs.Live as core
+use Rattle.dkg_types.specs.declared.fault.Fault.TheVariants.{NoMemory}
 use Rattle.dkg_reshare.specs.Including.{caching}
 use Rattle.dkg_reshare.specs.InclusionOf.{artifact_of, cached_of, result_of}
 use Rattle.dkg_reshare.specs.LiveOf.{live_of}
+use Rattle.dkg_reshare.specs.declared.stop.Stop.TheVariants.{Fault as Faulted}
 use Rattle.dkg_reshare.proofs.Beside.{with_then}
 use Rattle.dkg_reshare.proofs.Blamed.{caused_more}
 use Rattle.dkg_reshare.proofs.Concluding.{and_some, canonical_is, finds_by, has_round, kept_makes, kept_told, middle_in, none_apart, uncopied_makes, uncopied_told, unkept_makes, unkept_told, unseen_makes, unseen_told}
@@ -60,7 +62,7 @@ pub unreachable-requires : goal.unreachable-requires
 unreachable-requires g c = none_apart c.ready.result c.in_default.is (c.ready.ensures.exactly.1 c.in_ok-see_verified.ensures.ready)
 
 pub keep_artifact-requires : goal.keep_artifact-requires
-keep_artifact-requires g c = c.requires.current
+keep_artifact-requires g c = record { current = c.requires.current }
 
 -- NO ARTIFACT
 
@@ -106,7 +108,7 @@ returns-in_err-kept-clause-acts g c = λ disk secrets provided fixed round besid
     let same = c.requires.canonical ∙ canonical_is fixed beside fence c.args.life.now middle in
     let kept = sym (c.ready.ensures.kept (ap (λ o. is_some o) c.in-Some.is)) ∙ ap option_copied c.in-Some.is in
     rw (p.1, p.2) (within_as (λ i known. tt) (λ now known speaks. uncopied_makes fixed round c.args.logs.now (live_of beside fence c.args.life.now) same of.reshare (live_of now fence c.args.life.now) (result_of c.in-Some.ready.now)
-    (known.retained ∙ ap (option_map result_of) kept) (speaks out) (caching c.keep_artifact.new.cache (live_of now fence c.args.life.now)) _ refl
+    (known.retained ∙ ap (option_map result_of) kept) (speaks out) (caching c.keep_artifact.new.cache (live_of now fence c.args.life.now)) (Faulted NoMemory) refl
     (c.in_ok-keep_artifact.ensures.acts disk secrets provided fixed (live_of now fence c.args.life.now) of reads provides refl known.cached out))
     (c.in_ok-see_verified.ensures.speaks fixed round beside fence of.me (finds_by fixed by provides) middle has seen))
 
@@ -117,7 +119,7 @@ returns-in_err-kept-clause-tells g c = λ provided fixed round beside fence out 
     let same = c.requires.canonical ∙ canonical_is fixed beside fence c.args.life.now middle in
     let kept = sym (c.ready.ensures.kept (ap (λ o. is_some o) c.in-Some.is)) ∙ ap option_copied c.in-Some.is in
     rw (p.1, p.2) (within_as (λ i known. tt) (λ now known speaks. uncopied_told fixed round c.args.logs.now (live_of beside fence c.args.life.now) same of.reshare (live_of now fence c.args.life.now) (result_of c.in-Some.ready.now)
-    (known.retained ∙ ap (option_map result_of) kept) (speaks out) (caching c.keep_artifact.new.cache (live_of now fence c.args.life.now)) _ refl
+    (known.retained ∙ ap (option_map result_of) kept) (speaks out) (caching c.keep_artifact.new.cache (live_of now fence c.args.life.now)) (Faulted NoMemory) refl
     (c.in_ok-keep_artifact.ensures.tells provided fixed (live_of now fence c.args.life.now) of reads provides refl known.cached out))
     (c.in_ok-see_verified.ensures.speaks fixed round beside fence of.me (finds_by fixed by provides) middle has seen))
 

@@ -1,8 +1,10 @@
 use Rattle.std.proofs.Common.{◌≡◌, ◌∷◌, [], List, ℕ, Option, ap, arith, refl, sym, ◌∙◌}
 use Rattle.std.proofs.lemmas.Result.{err_from_is_err_and}
 use Rattle.dkg_store.proofs.Counts.{reached_behind}
+use Rattle.dkg_store.specs.Acts.{broken, by_want}
 use Rattle.dkg_core.specs.Blocks as blocks
 use Rattle.dkg_reshare.specs.Ends.{by_stop}
+use Rattle.dkg_reshare.specs.InclusionOf.{artifact_of}
 use Rattle.dkg_reshare.specs.LiveOf.{live_of, scheme_by, with_scheme_of}
 use Rattle.dkg_reshare.specs.declared.life.Life.{Life}
 use Rattle.dkg_reshare.proofs.Applying.{firm_on, in_word}
@@ -23,12 +25,14 @@ use Rattle.dkg_reshare.proofs.final_block.take_over.Goals as goal
 pub returns-in_err-share-clause-acts : goal.returns-in_err-share-clause-acts
 returns-in_err-share-clause-acts g c = λ disk secrets fixed beside of reads by spells seen.
     let p = err_from_is_err_and c.from_residual.result c.from_residual.ensures.1 in
-    rw (p.1, p.2) (ends_beside beside tt tt (speaks_makes _ _ _ _ (want_speaks _ c.args.out.now.entries)))
+    let course = blocks.takes_over fixed c.args.block.now c.args.info.now (blocks.share_for fixed c.args.info.now (artifact_of c.args.artifact.now)) (live_of beside c.args.fence.now c.args.life.now) in
+    rw (p.1, p.2) (ends_beside beside tt tt (speaks_makes course (broken by_want) _ _ (want_speaks course c.args.out.now.entries)))
 
 pub returns-in_err-share-clause-tells : goal.returns-in_err-share-clause-tells
 returns-in_err-share-clause-tells g c = λ fixed beside of reads by spells seen.
     let p = err_from_is_err_and c.from_residual.result c.from_residual.ensures.1 in
-    rw (p.1, p.2) (ends_beside beside tt tt (speaks_tells _ _ (want_speaks _ c.args.out.now.entries)))
+    let course = blocks.takes_over fixed c.args.block.now c.args.info.now (blocks.share_for fixed c.args.info.now (artifact_of c.args.artifact.now)) (live_of beside c.args.fence.now c.args.life.now) in
+    rw (p.1, p.2) (ends_beside beside tt tt (speaks_tells course (broken by_want) (want_speaks course c.args.out.now.entries)))
 
 pub returns-in_err-share-clause-moved : goal.returns-in_err-share-clause-moved
 returns-in_err-share-clause-moved g c = moved_none g.D.Disk.tells g.D.Disk.made g.X.SecretStore.made g.D.Disk.faults g.X.SecretStore.faults g.met.D.Disk.made_none g.met.X.SecretStore.made_none c.args.devices.now
@@ -38,13 +42,13 @@ returns-in_err-share-clause-moved g c = moved_none g.D.Disk.tells g.D.Disk.made 
 pub returns-in_err-secrets-clause-acts : goal.returns-in_err-secrets-clause-acts
 returns-in_err-secrets-clause-acts g c = λ disk secrets fixed beside of reads by spells seen.
     let p = err_from_is_err_and c.from_residual-in_err-secrets.result c.from_residual-in_err-secrets.ensures.1 in
-    rw (p.1, p.2) (ends_beside beside tt tt (seed_unread_makes fixed c.args.block.now c.args.info.now of.of.reshare _ (live_of beside c.args.fence.now c.args.life.now) c.in_err-secrets.field-0.0
+    rw (p.1, p.2) (ends_beside beside tt tt (seed_unread_makes fixed c.args.block.now c.args.info.now of.of.reshare (blocks.share_for fixed c.args.info.now (artifact_of c.args.artifact.now)) (live_of beside c.args.fence.now c.args.life.now) c.in_err-secrets.field-0.0
     (c.in_err-secrets.ensures.acts disk secrets fixed of.word_is reads c.args.out.now.entries)))
 
 pub returns-in_err-secrets-clause-tells : goal.returns-in_err-secrets-clause-tells
 returns-in_err-secrets-clause-tells g c = λ fixed beside of reads by spells seen.
     let p = err_from_is_err_and c.from_residual-in_err-secrets.result c.from_residual-in_err-secrets.ensures.1 in
-    rw (p.1, p.2) (ends_beside beside tt tt (seed_unread_told fixed c.args.block.now c.args.info.now of.of.reshare _ (live_of beside c.args.fence.now c.args.life.now) c.in_err-secrets.field-0.0
+    rw (p.1, p.2) (ends_beside beside tt tt (seed_unread_told fixed c.args.block.now c.args.info.now of.of.reshare (blocks.share_for fixed c.args.info.now (artifact_of c.args.artifact.now)) (live_of beside c.args.fence.now c.args.life.now) c.in_err-secrets.field-0.0
     (c.in_err-secrets.ensures.unread fixed c.args.out.now.entries)))
 
 pub returns-in_err-secrets-clause-moved : goal.returns-in_err-secrets-clause-moved
@@ -66,8 +70,8 @@ returns-in_err-secrets-clause-word g c = ap (λ (l : Life g.row.Dir.Denot). l.wo
 pub returns-in_err-commit_and_register-clause-acts : goal.returns-in_err-commit_and_register-clause-acts
 returns-in_err-commit_and_register-clause-acts g c = λ disk secrets fixed beside of reads by spells seen.
     let p = err_from_is_err_and c.from_residual-in_err-commit_and_register.result c.from_residual-in_err-commit_and_register.ensures.1 in
-    let share : c.in_ok-secrets.secrets.share ≡ blocks.share_for fixed c.args.info.now _ = c.in_ok-secrets.ensures.share ∙ c.in_ok-share.ensures fixed spells in
-    rw (p.1, p.2) (ends_beside beside tt tt (makes_as (taken_with fixed c.args.block.now c.args.info.now _ c.in_ok-secrets.secrets.share share beside c.args.fence.now c.args.life.now c.secrets_with.new.life c.secrets_with.ensures.life) _
+    let share : c.in_ok-secrets.secrets.share ≡ blocks.share_for fixed c.args.info.now (artifact_of c.args.artifact.now) = c.in_ok-secrets.ensures.share ∙ c.in_ok-share.ensures fixed spells in
+    rw (p.1, p.2) (ends_beside beside tt tt (makes_as (taken_with fixed c.args.block.now c.args.info.now (blocks.share_for fixed c.args.info.now (artifact_of c.args.artifact.now)) c.in_ok-secrets.secrets.share share beside c.args.fence.now c.args.life.now c.secrets_with.new.life c.secrets_with.ensures.life) _
     (untaken_makes fixed c.args.block.now c.args.info.now of.of.reshare c.in_ok-secrets.secrets.share (live_of beside c.args.fence.now c.secrets_with.new.life) c.in_ok-secrets.secrets.seed
     (c.in_ok-secrets.ensures.acts disk secrets fixed of.word_is reads c.args.out.now.entries) c.in_err-commit_and_register.field-0.0
     (c.in_err-commit_and_register.ensures.acts disk secrets fixed beside of.of.me))))
@@ -75,8 +79,8 @@ returns-in_err-commit_and_register-clause-acts g c = λ disk secrets fixed besid
 pub returns-in_err-commit_and_register-clause-tells : goal.returns-in_err-commit_and_register-clause-tells
 returns-in_err-commit_and_register-clause-tells g c = λ fixed beside of reads by spells seen.
     let p = err_from_is_err_and c.from_residual-in_err-commit_and_register.result c.from_residual-in_err-commit_and_register.ensures.1 in
-    let share : c.in_ok-secrets.secrets.share ≡ blocks.share_for fixed c.args.info.now _ = c.in_ok-secrets.ensures.share ∙ c.in_ok-share.ensures fixed spells in
-    rw (p.1, p.2) (ends_beside beside tt tt (tells_as (taken_with fixed c.args.block.now c.args.info.now _ c.in_ok-secrets.secrets.share share beside c.args.fence.now c.args.life.now c.secrets_with.new.life c.secrets_with.ensures.life) _
+    let share : c.in_ok-secrets.secrets.share ≡ blocks.share_for fixed c.args.info.now (artifact_of c.args.artifact.now) = c.in_ok-secrets.ensures.share ∙ c.in_ok-share.ensures fixed spells in
+    rw (p.1, p.2) (ends_beside beside tt tt (tells_as (taken_with fixed c.args.block.now c.args.info.now (blocks.share_for fixed c.args.info.now (artifact_of c.args.artifact.now)) c.in_ok-secrets.secrets.share share beside c.args.fence.now c.args.life.now c.secrets_with.new.life c.secrets_with.ensures.life) _
     (untaken_told fixed c.args.block.now c.args.info.now of.of.reshare c.in_ok-secrets.secrets.share (live_of beside c.args.fence.now c.secrets_with.new.life) c.in_ok-secrets.secrets.seed
     (seed_told fixed c.args.info.now c.in_ok-secrets.secrets.seed c.in_ok-secrets.ensures.read.0 reads (c.in_ok-secrets.ensures.read.1 fixed of.word_is) c.args.out.now.entries)
     c.in_err-commit_and_register.field-0.0 (c.in_err-commit_and_register.ensures.tells c.in_ok-secrets.secrets.seed fixed beside of.of.me))))
@@ -121,12 +125,12 @@ pass_on-requires-clause-me g c = c.requires.me
 pub returns-clause-acts : goal.returns-clause-acts
 returns-clause-acts g c = λ disk secrets fixed beside of reads by spells seen.
     let its = c.in_ok-secrets.secrets.share in
-    let share : its ≡ blocks.share_for fixed c.args.info.now _ = c.in_ok-secrets.ensures.share ∙ c.in_ok-share.ensures fixed spells in
+    let share : its ≡ blocks.share_for fixed c.args.info.now (artifact_of c.args.artifact.now) = c.in_ok-secrets.ensures.share ∙ c.in_ok-share.ensures fixed spells in
     let word : c.commit_and_register.new.life.word ≡ c.args.life.now.word = ap (λ (l : Life g.row.Dir.Denot). l.word) c.commit_and_register.ensures.rest ∙ ap (λ (l : Life g.row.Dir.Denot). l.word) c.secrets_with.ensures.life in
     then_with beside c.args.terms.now.me c.args.info.now its
     (λ more took. then_well c.pass_on.result (took_then g.R.Registrar.tells (g.R.Registrar.taken c.args.registrar.now) (g.R.Registrar.taken c.commit_and_register.new.registrar) (g.R.Registrar.taken c.pass_on.new.registrar)
     (scheme_by c.args.terms.now.me c.args.info.now its ∷ []) more c.in_ok-commit_and_register.ensures.taken) took)
-    (λ now made. makes_as (taken_with fixed c.args.block.now c.args.info.now _ its share beside c.args.fence.now c.args.life.now c.secrets_with.new.life c.secrets_with.ensures.life) _
+    (λ now made. makes_as (taken_with fixed c.args.block.now c.args.info.now (blocks.share_for fixed c.args.info.now (artifact_of c.args.artifact.now)) its share beside c.args.fence.now c.args.life.now c.secrets_with.new.life c.secrets_with.ensures.life) _
     (taken_makes fixed c.args.block.now c.args.info.now of.of.reshare its (live_of beside c.args.fence.now c.secrets_with.new.life) c.in_ok-secrets.secrets.seed
     (c.in_ok-secrets.ensures.acts disk secrets fixed of.word_is reads c.args.out.now.entries)
     (live_of (with_scheme_of c.args.terms.now.me c.args.info.now its beside) c.commit_and_register.new.fence c.commit_and_register.new.life) _
@@ -136,12 +140,12 @@ returns-clause-acts g c = λ disk secrets fixed beside of reads by spells seen.
 pub returns-clause-tells : goal.returns-clause-tells
 returns-clause-tells g c = λ fixed beside of reads by spells seen.
     let its = c.in_ok-secrets.secrets.share in
-    let share : its ≡ blocks.share_for fixed c.args.info.now _ = c.in_ok-secrets.ensures.share ∙ c.in_ok-share.ensures fixed spells in
+    let share : its ≡ blocks.share_for fixed c.args.info.now (artifact_of c.args.artifact.now) = c.in_ok-secrets.ensures.share ∙ c.in_ok-share.ensures fixed spells in
     let word : c.commit_and_register.new.life.word ≡ c.args.life.now.word = ap (λ (l : Life g.row.Dir.Denot). l.word) c.commit_and_register.ensures.rest ∙ ap (λ (l : Life g.row.Dir.Denot). l.word) c.secrets_with.ensures.life in
     then_with beside c.args.terms.now.me c.args.info.now its
     (λ more took. then_well c.pass_on.result (took_then g.R.Registrar.tells (g.R.Registrar.taken c.args.registrar.now) (g.R.Registrar.taken c.commit_and_register.new.registrar) (g.R.Registrar.taken c.pass_on.new.registrar)
     (scheme_by c.args.terms.now.me c.args.info.now its ∷ []) more c.in_ok-commit_and_register.ensures.taken) took)
-    (λ now told. tells_as (taken_with fixed c.args.block.now c.args.info.now _ its share beside c.args.fence.now c.args.life.now c.secrets_with.new.life c.secrets_with.ensures.life) _
+    (λ now told. tells_as (taken_with fixed c.args.block.now c.args.info.now (blocks.share_for fixed c.args.info.now (artifact_of c.args.artifact.now)) its share beside c.args.fence.now c.args.life.now c.secrets_with.new.life c.secrets_with.ensures.life) _
     (taken_told fixed c.args.block.now c.args.info.now of.of.reshare its (live_of beside c.args.fence.now c.secrets_with.new.life) c.in_ok-secrets.secrets.seed
     (seed_told fixed c.args.info.now c.in_ok-secrets.secrets.seed c.in_ok-secrets.ensures.read.0 reads (c.in_ok-secrets.ensures.read.1 fixed of.word_is) c.args.out.now.entries)
     (live_of (with_scheme_of c.args.terms.now.me c.args.info.now its beside) c.commit_and_register.new.fence c.commit_and_register.new.life) _
