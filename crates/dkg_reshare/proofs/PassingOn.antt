@@ -7,7 +7,6 @@ use Rattle.dkg_journal.specs.Names.{Files}
 use Rattle.dkg_types.specs.Blocks.{Block}
 use Rattle.dkg_types.specs.declared.entry.Entry.{Entry as Line}
 use Rattle.dkg_types.specs.declared.fault.Fault.{Fault}
-use Rattle.dkg_types.specs.declared.fault.Fault.TheVariants.{NoMemory}
 use Rattle.dkg_types.specs.declared.info.EpochInfo.{EpochInfo}
 use Rattle.dkg_types.specs.declared.scheme.SchemeInfo.{SchemeInfo}
 use Rattle.dkg_store.specs.Acts.{Ended, Held, Moment, went}
@@ -19,14 +18,13 @@ use Rattle.dkg_core.specs.Live.{Live, with_tip}
 use Rattle.dkg_core.specs.Seen.{Seen}
 use Rattle.dkg_core.specs.Setup as setup
 use Rattle.dkg_core.specs.Sources.{Tip}
-use Rattle.dkg_reshare.specs.Ends.{IsCausedBy, by_stop}
+use Rattle.dkg_reshare.specs.Ends.{by_stop}
 use Rattle.dkg_reshare.specs.Given.{GivesSeed, ReadsPlanless}
 use Rattle.dkg_reshare.specs.LiveOf.{Beside, EndsWith, live_of, scheme_by, with_scheme_of}
 use Rattle.dkg_reshare.specs.Made.{MakesAt, Tells}
 use Rattle.dkg_reshare.specs.Steps.{reads_seed}
 use Rattle.dkg_reshare.specs.declared.life.Life.{Life}
 use Rattle.dkg_reshare.specs.declared.stop.Stop.{Stop}
-use Rattle.dkg_reshare.specs.declared.stop.Stop.TheVariants.{Fault as Faulted}
 use Rattle.dkg_reshare.proofs.Applying.{tip_at, tipped}
 use Rattle.dkg_reshare.proofs.Beginning.{makes_as, tells_as}
 use Rattle.dkg_reshare.proofs.Beside.{emptied}
@@ -131,7 +129,3 @@ seed_told c info seed h reads gives out =
 pub taken_with : {Dir : Type 0} (c : Fixed Dir) (b : Block Dir) (info : EpochInfo Dir) (share its : Option ℕ) → its ≡ share → (beside : Beside Dir) (fence : Readiness) (old new : Life Dir) → new ≡ old
     → blocks.takes_over c b info share (live_of beside fence old) ≡ blocks.takes_over c b info its (live_of beside fence new)
 taken_with {Dir} c b info share its shares beside fence old new same = λ i. blocks.takes_over c b info (sym shares i) (live_of beside fence (sym same i))
-
--- want of memory blames none
-pub wanted : (tells : Bool) {disk secrets reached : Type 0} (stop : Stop) → stop ≡ Faulted NoMemory → IsCausedBy tells stop disk secrets reached
-wanted tells {disk} {secrets} {reached} stop is = subst (λ (s : Stop). IsCausedBy tells s disk secrets reached) (sym is) tt

@@ -56,7 +56,13 @@ returns-in_err-see_verified-clause-causes g c =
     rw (p.1, p.2) (caused_more (λ x. absurd x) (λ x. absurd x) (λ x. absurd x) c.in_err-see_verified.field-0.0 c.in_err-see_verified.ensures.causes)
 
 pub returns-in_err-see_verified-clause-rest : goal.returns-in_err-see_verified-clause-rest
-returns-in_err-see_verified-clause-rest g c = c.see_verified.ensures.rest
+returns-in_err-see_verified-clause-rest g c =
+    c.see_verified.ensures.rest
+    ∙ (λ i. record c.args.inclusion.now {
+      verification = c.see_verified.new.inclusion.verification;
+      waiter = c.see_verified.new.inclusion.waiter;
+      cache = (sym c.see_verified.ensures.rest i).cache;
+    })
 
 pub unreachable-requires : goal.unreachable-requires
 unreachable-requires g c = none_apart c.ready.result c.in_default.is (c.ready.ensures.exactly.1 c.in_ok-see_verified.ensures.ready)
@@ -131,8 +137,8 @@ returns-in_err-kept-clause-same g c = λ i. record c.args.life.now { store = c.k
 
 -- IT IS MADE
 
-pub returns-in-Some-kept-clause-acts : goal.returns-in-Some-kept-clause-acts
-returns-in-Some-kept-clause-acts g c = λ disk secrets provided fixed round beside fence out of reads by provides has seen.
+pub returns-clause-acts : goal.returns-clause-acts
+returns-clause-acts g c = λ disk secrets provided fixed round beside fence out of reads by provides has seen.
     let middle = middle_in (non_zero_u64_get c.args.terms.now.blocks_per_epoch) c.args.life.now c.requires.includes c.requires.ready.placed fixed of.blocks in
     let same = c.requires.canonical ∙ canonical_is fixed beside fence c.args.life.now middle in
     let kept = sym (c.ready.ensures.kept (ap (λ o. is_some o) c.in-Some.is)) ∙ ap option_copied c.in-Some.is in
@@ -146,8 +152,8 @@ returns-in-Some-kept-clause-acts g c = λ disk secrets provided fixed round besi
     (subst (λ (l : LogMap). Some (artifact_of c.in-Some-kept.artifact) ≡ including.cached_for (option_map cached_of c.keep_artifact.new.cache) l) (sym logs) (sym (ap (option_map artifact_of) c.in-Some-kept.is) ∙ c.in_ok-kept.ensures))
     (c.in_ok-keep_artifact.ensures.acts disk secrets provided fixed (live_of now fence c.args.life.now) of reads provides refl known.cached out)))
 
-pub returns-in-Some-kept-clause-tells : goal.returns-in-Some-kept-clause-tells
-returns-in-Some-kept-clause-tells g c = λ provided fixed round beside fence out of reads by provides has seen.
+pub returns-clause-tells : goal.returns-clause-tells
+returns-clause-tells g c = λ provided fixed round beside fence out of reads by provides has seen.
     let middle = middle_in (non_zero_u64_get c.args.terms.now.blocks_per_epoch) c.args.life.now c.requires.includes c.requires.ready.placed fixed of.blocks in
     let same = c.requires.canonical ∙ canonical_is fixed beside fence c.args.life.now middle in
     let kept = sym (c.ready.ensures.kept (ap (λ o. is_some o) c.in-Some.is)) ∙ ap option_copied c.in-Some.is in
@@ -161,15 +167,15 @@ returns-in-Some-kept-clause-tells g c = λ provided fixed round beside fence out
     (subst (λ (l : LogMap). Some (artifact_of c.in-Some-kept.artifact) ≡ including.cached_for (option_map cached_of c.keep_artifact.new.cache) l) (sym logs) (sym (ap (option_map artifact_of) c.in-Some-kept.is) ∙ c.in_ok-kept.ensures))
     (c.in_ok-keep_artifact.ensures.tells provided fixed (live_of now fence c.args.life.now) of reads provides refl known.cached out)))
 
-pub returns-in-Some-kept-clause-moved : goal.returns-in-Some-kept-clause-moved
-returns-in-Some-kept-clause-moved g c = c.keep_artifact.ensures.moved
+pub returns-clause-moved : goal.returns-clause-moved
+returns-clause-moved g c = c.keep_artifact.ensures.moved
 
-pub returns-in-Some-kept-clause-same : goal.returns-in-Some-kept-clause-same
-returns-in-Some-kept-clause-same g c = λ i. record c.args.life.now { store = c.keep_artifact.ensures.store i }
+pub returns-clause-same : goal.returns-clause-same
+returns-clause-same g c = λ i. record c.args.life.now { store = c.keep_artifact.ensures.store i }
 
 -- There is one.
-pub unreachable-in-None-requires : goal.unreachable-in-None-requires
-unreachable-in-None-requires g c =
+pub unreachable-requires-in-None : goal.unreachable-requires-in-None
+unreachable-requires-in-None g c =
     let kept = sym (c.ready.ensures.kept (ap (λ o. is_some o) c.in-Some.is)) ∙ ap option_copied c.in-Some.is in
     let logs = and_some c.see_verified.new.inclusion.verification.kept c.in-Some.ready.now (λ r. r.logs ≡ c.args.logs.now) kept c.in_ok-see_verified.ensures.ready in
     none_apart (including.cached_for (option_map cached_of c.keep_artifact.new.cache) c.in-Some.ready.now.logs)

@@ -10,5 +10,5 @@ returns-in-None g c = cached_none c.args.logs.now c.args.cache.now (λ kept. abs
 pub returns-in_ok-copy-in-Some : goal.returns-in_ok-copy-in-Some
 returns-in_ok-copy-in-Some g c =
     let some = ap (λ o. is_some o) c.in-Some.is in
-    ap (λ a. Some (artifact_of a)) c.in_ok-copy.ensures
+    ap (λ a. Some (artifact_of a)) c.in_ok-copy-in-Some.ensures
     ∙ cached_some c.args.logs.now c.args.cache.now (c.get.ensures.exactly.0 some) c.in-Some.artifact.now (sym (ap option_copied c.in-Some.is) ∙ c.get.ensures.kept some)

@@ -17,7 +17,7 @@ use Rattle.dkg_reshare.proofs.Chained.{early_makes, early_told, then_makes, then
 use Rattle.dkg_reshare.proofs.Committing.{in_any}
 use Rattle.dkg_reshare.proofs.Included.{anew_settled, seen_anew}
 use Rattle.dkg_reshare.proofs.Kept.{moved_none}
-use Rattle.dkg_reshare.proofs.PassingOn.{passes_as, sets_up, sets_up_anew, wanted}
+use Rattle.dkg_reshare.proofs.PassingOn.{passes_as, sets_up, sets_up_anew}
 use Rattle.dkg_reshare.proofs.Said.{speaks_tells}
 use Rattle.dkg_reshare.proofs.final_block.pass_on.Goals as goal
 
@@ -63,7 +63,7 @@ returns-in_err-answer_all-clause-moved g c = moved_none g.D.Disk.tells g.D.Disk.
 pub returns-in_err-answer_all-clause-causes : goal.returns-in_err-answer_all-clause-causes
 returns-in_err-answer_all-clause-causes g c =
     let p = err_from_is_err_and c.from_residual.result c.from_residual.ensures.1 in
-    rw (p.1, p.2) (wanted g.D.Disk.tells c.in_err-answer_all.field-0.0 c.in_err-answer_all.ensures.memory)
+    rw (p.1, p.2) (rw c.in_err-answer_all.ensures.memory tt)
 
 -- IT GOES ON
 
