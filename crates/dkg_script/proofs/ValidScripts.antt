@@ -131,6 +131,7 @@ module _ (plans : List (Option Material)) where
     long = lit≤ tt;
     short = lit< tt;
     supported = refl;
+    rising = refl;
     blocks = (genesis_is_early [], ((lit< tt, tt), tt));
     first = refl;
     lives = (record { anchor = tt; holds = refl; no_sync = refl; events = (lit< tt, (lit< tt, tt)) }, tt);

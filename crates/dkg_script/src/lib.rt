@@ -21,7 +21,7 @@ pub use dkg_text::{
 };
 pub use promise::{
     acknowledged_survives, acknowledges_once, comes_as_far, ends_as_scripted, honest_anyhow,
-    lies_within_inclusion, own_marks_stand_before, stays_in_order,
-    stays_in_order_as_cut, stays_kept, stays_of_epochs, valid_anyhow, valid_as_cut,
+    lies_within_inclusion, own_marks_stand_before, stays_in_order, stays_in_order_as_cut,
+    stays_kept, stays_of_epochs, stays_of_inclusion, valid_anyhow, valid_as_cut,
 };
 pub use read::{ReadError, read_built};
