@@ -40,7 +40,6 @@ IsToldRefusal (Refused why) = ⊤
 IsToldRefusal (Round why) = ⊤
 IsToldRefusal ProviderEmpty = ⊤
 IsToldRefusal (ProviderAbove count most) = most < count
-IsToldRefusal _ = ⊥
 
 -- The faults that lives over many epochs can tell: those of a device, a record that is none, a height past the range, an info that is missing, is of another epoch or is refused, what
 -- contradicts the node's own state, and a delivered block that doesn't belong to the chain, or to the window of a life without a position. Want of memory is never told.
