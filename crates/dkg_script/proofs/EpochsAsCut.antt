@@ -1,6 +1,5 @@
 -- A script of the form of epochs is of it however its lives were cut: up to there a life awaits the same epochs and follows the same of them.
 use Rattle.std.proofs.Common.{◌≡◌, ℕ, suc, List, Option, None, refl, subst, sym, true, ◌∙◌}
-use Rattle.std.specs.Prelude.{slice_get}
 use Rattle.dkg_text.specs.declared.script.Event.TheVariants.{Final}
 use Rattle.dkg_text.specs.declared.script.Life.{Life}
 use Rattle.dkg_text.specs.declared.script.Script.{Script}

@@ -1,5 +1,5 @@
 -- A text's script of the form of epochs is of the form of inclusion: none of its events asks for an info.
-use Rattle.std.proofs.Common.{◌≡◌, ℕ, List, [], ◌∷◌}
+use Rattle.std.proofs.Common.{List, [], ◌∷◌}
 use Rattle.std.specs.List.{AllByRecursion}
 use Rattle.dkg_text.specs.declared.script.BlockLine.{BlockLine}
 use Rattle.dkg_text.specs.declared.script.Event.{Event}

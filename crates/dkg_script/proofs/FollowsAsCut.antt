@@ -1,5 +1,5 @@
 -- Up to where it was cut, a life follows the epoch that it awaits just where it does as it was cut.
-use Rattle.std.proofs.Common.{ℕ, zero, suc, ◌+◌, ◌-◌, ◌≤◌, List, [], ◌∷◌, ◌++◌, ◌≡◌, refl, sym, ap, ◌∙◌, Option, Some, None, Bool, true, false, cond, arith, take, drop, length, length-take}
+use Rattle.std.proofs.Common.{ℕ, zero, suc, ◌-◌, ◌≤◌, List, [], ◌∷◌, ◌++◌, ◌≡◌, refl, sym, ap, ◌∙◌, Option, Some, None, Bool, true, false, cond, arith, take, drop, length, length-take}
 use Rattle.std.specs.Prelude.{filter_map, fold, is_none, max, not, option_and_then, slice_get, ◌==◌, ◌&&◌, ◌||◌, nat_lt}
 use Rattle.std.specs.List.{list_any}
 use Rattle.std.specs.Option.{option_map_or}

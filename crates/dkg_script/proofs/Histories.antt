@@ -1,5 +1,5 @@
 -- What is known of recorded logs, which blocks they come from, and which past is whole: what meets each notion, and what just misses it.
-use Rattle.std.proofs.Common.{ℕ, zero, suc, ◌+◌, ◌*◌, ◌-◌, ◌<◌, ◌≤◌, List, [], ◌∷◌, ◌≡◌, refl, sym, ap, subst, ◌∙◌, Option, Some, None, true, false, length, lit<, lit≤, arith}
+use Rattle.std.proofs.Common.{ℕ, zero, suc, ◌+◌, ◌*◌, ◌-◌, ◌<◌, ◌≤◌, List, [], ◌∷◌, ◌≡◌, refl, sym, ap, subst, ◌∙◌, Option, Some, None, true, length, lit<, lit≤, arith}
 use Rattle.std.specs.Prelude.{slice_get, IfSome, IsSomeAnd, IsTrue}
 use Rattle.std.specs.FinMap as maps
 use Rattle.std.specs.FinMap.{empty, get, get-empty, insert}

@@ -8,7 +8,7 @@ use Rattle.dkg_text.specs.declared.script.Script.{Script}
 use Rattle.dkg_script.specs.AsCut.{as_cut, cut_within, life_as_cut, lives_as_cut}
 use Rattle.dkg_script.specs.AsCutLaws.{StaysOfInclusion}
 use Rattle.dkg_script.specs.Asked.{AskAnew, IsAskedAnew}
-use Rattle.dkg_script.specs.Inclusion.{IsEventIn, IsFormOfInclusion, IsLifeIn}
+use Rattle.dkg_script.specs.Inclusion.{IsEventIn, IsLifeIn}
 use Rattle.dkg_script.specs.Position.{cut_of}
 use Rattle.dkg_script.specs.Setting.{CutAt}
 use Rattle.dkg_script.proofs.AsCut.{all_within, its_life}

@@ -1,5 +1,5 @@
 -- Scripts of the form of inclusion and others that just miss it, what their requests are fed, and what the provider has to say.
-use Rattle.std.proofs.Common.{ℕ, ◌<◌, ◌^◌, List, [], ◌∷◌, ◌≡◌, refl, Option, Some, None, Bool, true, false, lit<, lit≤, arith}
+use Rattle.std.proofs.Common.{ℕ, ◌<◌, ◌^◌, List, [], ◌∷◌, ◌≡◌, refl, Option, Some, None, true, false, lit<, lit≤, arith}
 use Rattle.std.specs.Prelude.{slice_get, IsSome}
 use Rattle.std.specs.List.{AllByRecursion}
 use Rattle.dkg_values.specs.Bytes.{byte_at}

@@ -1,23 +1,22 @@
 -- A valid script is valid as it was cut: up to there each life is brought the same blocks and asked the same, and each block that is used then is used anyhow.
-use Rattle.std.proofs.Common.{ℕ, zero, suc, ◌+◌, ◌≤◌, inl, inr, List, ◌≡◌, refl, sym, ap, subst, ◌∙◌, Option, Some, None, true, false, arith, length}
+use Rattle.std.proofs.Common.{ℕ, zero, suc, ◌+◌, ◌≤◌, inl, inr, List, ◌≡◌, refl, sym, ap, subst, ◌∙◌, Option, Some, None, false, arith, length}
 use Rattle.std.specs.Prelude.{option_map, IfSome, IsSomeAnd, ◌/◌}
-use Rattle.std.specs.List.{AllByRecursion}
 use Rattle.std.proofs.Math.Nat.{div-eq_of_lt, div-zero}
 use Rattle.dkg_text.specs.declared.script.Event.{Event}
 use Rattle.dkg_text.specs.declared.script.Event.TheVariants as kind
 use Rattle.dkg_text.specs.declared.script.Life.{Life}
 use Rattle.dkg_script.specs.AsCut.{life_as_cut, with_cuts}
 use Rattle.dkg_script.specs.AsCutLaws.{ValidAnyhow}
-use Rattle.dkg_script.specs.Blocks.{Block, block_at, used}
+use Rattle.dkg_script.specs.Blocks.{Block, used}
 use Rattle.dkg_script.specs.Position.{IsPlanHistory, awaited_epoch, awaited_height, cut_of, follows}
 use Rattle.dkg_script.specs.Progress.{progress}
 use Rattle.dkg_script.specs.Promise.{with_plans}
-use Rattle.dkg_script.specs.Readings.{Info, Material}
+use Rattle.dkg_script.specs.Readings.{Info}
 use Rattle.dkg_script.specs.Schedule.{epoch_of}
 use Rattle.dkg_script.specs.Setting.{Setting, CutAt, blocks_per_epoch, found, life_at, setting_of}
 use Rattle.dkg_script.specs.Valid.{BeginsWell, ComesInTurn, EndsEpoch, HasPlayers, IsValidCase, IsValidScript, LiesInRange, ProvidesNext, ServesIn}
 use Rattle.dkg_script.proofs.AsCut.{its_life}
-use Rattle.dkg_script.proofs.ConsistentAsCut.{IsBefore, before_it, consistent_as_cut, height_as_cut, history_of, is_plain, plain_case, same_ends, step_of_life, used_within}
+use Rattle.dkg_script.proofs.ConsistentAsCut.{before_it, consistent_as_cut, height_as_cut, history_of, is_plain, plain_case, same_ends, step_of_life, used_within}
 use Rattle.dkg_script.proofs.EarlyScripts.{plain_of}
 use Rattle.dkg_script.proofs.FollowsAsCut.{epoch_as_cut, follows_as_cut}
 use Rattle.dkg_script.proofs.Members.{all_of, of_all}

@@ -6,7 +6,6 @@ use Rattle.std.specs.List.{AllByRecursion}
 use Rattle.dkg_values.specs.Rising.{rises}
 use Rattle.dkg_text.specs.declared.error.ScriptError.{ScriptError}
 use Rattle.dkg_text.specs.declared.error.ScriptError.TheVariants as error
-use Rattle.dkg_text.specs.declared.script.BlockLine.{BlockLine}
 use Rattle.dkg_text.specs.declared.script.Event.{Event}
 use Rattle.dkg_text.specs.declared.script.Event.TheVariants.{Peer, Final, Next, Release, Info, Feed, Over, Cancel, Work}
 use Rattle.dkg_text.specs.declared.script.Life.{Life}

@@ -9,7 +9,7 @@ use Rattle.dkg_text.specs.declared.script.Event.TheVariants.{Peer, Final, Next, 
 use Rattle.dkg_text.specs.declared.script.Life.{Life}
 use Rattle.dkg_text.specs.declared.script.Script.{Script}
 use Rattle.dkg_script.specs.Asked.{AskAnew}
-use Rattle.dkg_script.specs.Epochs.{IsAnchorIn, IsBlockIn, IsFormOfEpochs}
+use Rattle.dkg_script.specs.Epochs.{IsAnchorIn, IsBlockIn}
 use Rattle.dkg_script.specs.Players.{epochs_of}
 
 -- a message of the dealing channel, of a key of 32 bits, a block of the script, a request for a log or its release, or a message of a final block's request
