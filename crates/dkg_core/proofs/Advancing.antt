@@ -59,7 +59,7 @@ some_of P None so = absurd so
 some_of P (Some a) so = (a, refl, so)
 
 -- a result that is retained for some logs is the retained one
-retained_is : (retained : Option VerifiedLogs) (logs : LogMap) (r : VerifiedLogs) → retained_for retained logs ≡ Some r → retained ≡ Some r
+pub retained_is : (retained : Option VerifiedLogs) (logs : LogMap) (r : VerifiedLogs) → retained_for retained logs ≡ Some r → retained ≡ Some r
 retained_is None logs r e = absurd (none_apart r e)
 retained_is (Some its) logs r e = either (same_logs its.logs logs) e
   where
@@ -68,11 +68,11 @@ retained_is (Some its) logs r e = either (same_logs its.logs logs) e
     either false e = absurd (none_apart r e)
 
 -- a test and what was found where it passed
-both_found : {A : Type 0} (t : Bool) (o : Option A) (a : A) → (if t then o else None) ≡ Some a → (t ≡ true) × (o ≡ Some a)
+pub both_found : {A : Type 0} (t : Bool) (o : Option A) (a : A) → (if t then o else None) ≡ Some a → (t ≡ true) × (o ≡ Some a)
 both_found true o a e = (refl, e)
 both_found false o a e = absurd (none_apart a e)
 
-none_found : {A : Type 0} (t : Bool) (o : Option A) → (if t then o else None) ≡ None → t ≡ true → o ≡ None
+pub none_found : {A : Type 0} (t : Bool) (o : Option A) → (if t then o else None) ≡ None → t ≡ true → o ≡ None
 none_found true o e is = e
 none_found false o e is = absurd (let no : ◌≡◌ {A = Bool} false true = is in cc)
 

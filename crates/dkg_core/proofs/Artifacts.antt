@@ -41,6 +41,32 @@ below a b e = grind (arith, nat_tests)
 none_of : (n : ℕ) → (n == 0) ≡ true → n ≡ 0
 none_of n e = grind (arith, nat_tests)
 
+-- WHAT IS CACHED
+
+module _ {Dir : Type 0} (c : Fixed Dir) (stored : OfShares) (round : Round) (info : EpochInfo Dir) (st : Live Dir) (asked : HasAsked c stored st) (of_epoch : st.participation.round ≡ Some round)
+    (of_info : st.participation.current ≡ Some info) where
+  all : (d : Cached Dir) → st.inclusion.cached ≡ Some d → IsArtifactIn c stored round info st d.logs d.artifact
+  all d is =
+      let its = asked.made d is in
+      subst (λ (x : EpochInfo Dir). IsArtifactIn c stored round x st d.logs d.artifact) (some_is its.1 info (sym its.3 ∙ of_info))
+      (subst (λ (x : Round). IsArtifactIn c stored x its.1 st d.logs d.artifact) (some_is its.0 round (sym its.2 ∙ of_epoch)) its.4)
+
+  of_cached : (logs : LogMap) (made : Artifact Dir) (cached : Option (Cached Dir)) → st.inclusion.cached ≡ cached → cached_for cached logs ≡ Some made → IsArtifactIn c stored round info st logs made
+  of_cached logs made None at e = absurd (none_apart made e)
+  of_cached logs made (Some d) at e = either (same_logs d.logs logs) refl e
+    where
+      either : (t : Bool) → same_logs d.logs logs ≡ t → (if t then Some d.artifact else None) ≡ Some made → IsArtifactIn c stored round info st logs made
+      either true is e =
+          subst (IsArtifactIn c stored round info st logs) (some_is d.artifact made e)
+          (subst (λ (logs : LogMap). IsArtifactIn c stored round info st logs d.artifact) (one_logs d.logs logs is) (all d at))
+      either false is e = absurd (none_apart made e)
+
+  -- what is cached for some logs is their artifact
+  pub cached_is : (logs : LogMap) (made : Artifact Dir) → cached_for st.inclusion.cached logs ≡ Some made → IsArtifactIn c stored round info st logs made
+  cached_is logs made is = of_cached logs made st.inclusion.cached refl is
+
+-- THE ARTIFACT OF A RESULT
+
 module _ {Dir : Type 0} (c : Fixed Dir) (stored : OfShares) (round : Round) (info : EpochInfo Dir) (r : VerifiedLogs) (st : Live Dir) (next : Next Dir) (devices : Option Held)
     (stops : Fault → Type 0) (goes : Live Dir → Option Held → Type 0) (form : IsForm c) (reads : Reads c stored devices) (asked : HasAsked c stored st)
     (of_epoch : st.participation.round ≡ Some round) (of_info : st.participation.current ≡ Some info) (result : IsResultIn c round st r)
@@ -48,22 +74,6 @@ module _ {Dir : Type 0} (c : Fixed Dir) (stored : OfShares) (round : Round) (inf
     (so : (made : Artifact Dir) (at : Live Dir) → IsMadeIn c stored round info st r.logs made at → ComesOver stops goes (next made at) devices) where
   abbrev OfLogs : LogMap → Artifact Dir → Type 0
   OfLogs logs made = IsArtifactIn c stored round info st logs made
-
-  -- WHAT IS CACHED
-
-  all : (d : Cached Dir) → st.inclusion.cached ≡ Some d → OfLogs d.logs d.artifact
-  all d is =
-      let its = asked.made d is in
-      subst (λ (x : EpochInfo Dir). IsArtifactIn c stored round x st d.logs d.artifact) (some_is its.1 info (sym its.3 ∙ of_info))
-      (subst (λ (x : Round). IsArtifactIn c stored x its.1 st d.logs d.artifact) (some_is its.0 round (sym its.2 ∙ of_epoch)) its.4)
-
-  of_cached : (made : Artifact Dir) (cached : Option (Cached Dir)) → st.inclusion.cached ≡ cached → cached_for cached r.logs ≡ Some made → OfLogs r.logs made
-  of_cached made None at e = absurd (none_apart made e)
-  of_cached made (Some d) at e = either (same_logs d.logs r.logs) refl e
-    where
-      either : (t : Bool) → same_logs d.logs r.logs ≡ t → (if t then Some d.artifact else None) ≡ Some made → OfLogs r.logs made
-      either true is e = subst (OfLogs r.logs) (some_is d.artifact made e) (subst (λ (logs : LogMap). OfLogs logs d.artifact) (one_logs d.logs r.logs is) (all d at))
-      either false is e = absurd (none_apart made e)
 
   -- WHAT IS MADE NOW
 
@@ -145,7 +155,7 @@ module _ {Dir : Type 0} (c : Fixed Dir) (stored : OfShares) (round : Round) (inf
       (λ e. stopped (InvalidParticipants (ProviderAbove count c.limit)) (refl, refl, below c.limit count e)) (λ e. by_result r.result refl)))
 
   by_cached : (cached : Option (Artifact Dir)) → cached_for st.inclusion.cached r.logs ≡ cached → ComesOver stops goes (i.artifact_by c r cached st next) devices
-  by_cached (Some made) is = so made st (record { artifact = of_cached made st.inclusion.cached refl is; same = refl; is = is; all = all })
+  by_cached (Some made) is = so made st (record { artifact = cached_is c stored round info st asked of_epoch of_info r.logs made is; same = refl; is = is; all = all c stored round info st asked of_epoch of_info })
   by_cached None is =
       subst (λ (o : Option (OneShot Dir)). ComesOver stops goes (i.derives c o r st next) devices) (sym form.reshare)
       (subst (λ (o : Option (EpochInfo Dir)). ComesOver stops goes (option_map_or (λ x. i.derives_next c x r st (i.keeping r.logs next)) o (Stops HeightRange)) devices) (sym of_info) derived)

@@ -129,7 +129,7 @@ module _ {Dir : Type 0} (c : Fixed Dir) (form : IsForm c) (stored : OfShares) (b
         either None found = refl
         either (Some held) found = ap (λ (x : Held). Some (committed_by s.Uncommitted info share (seed_read c info x) held)) found
 
-    carried_on : (k : Held) → Finds behind k → IsCarriedOn c stored block st devices
+    abbrev carried_on : (k : Held) → Finds behind k → IsCarriedOn c stored block st devices
     carried_on k between = record { info = info; carried = carries; of_next = of_next; h = h; found = found; share = share; shared = shared; k = k; between = between }
 
     -- the life behind the registration, with an inclusion
@@ -153,7 +153,7 @@ module _ {Dir : Type 0} (c : Fixed Dir) (form : IsForm c) (stored : OfShares) (b
 
       -- a fault of the setup is no other one of the info
       fault_at : (k : Held) → Finds behind k → (fault : Fault) → IsSetupFault c before.participation.epoch info (share_read c info k) (seed_read c info k) before fault → PassingStop fault
-      fault_at k between (WrongEpoch expected got) stop = absurd (stop.2 (of_next ∙ sym awaited))
+      fault_at k between (WrongEpoch epoch got) stop = absurd (stop.2 (of_next ∙ sym awaited))
       fault_at k between HeightRange stop = absurd stop
       fault_at k between (MissingEpochInfo height) stop = absurd stop
       fault_at k between fault stop =

@@ -202,7 +202,7 @@ module _ {Dir : Type 0} (c : Fixed Dir) (stored : OfShares) (st : Live Dir) (dev
         (its.0, its.1)
 
     -- retained, in a life with this inclusion
-    retained : (i : Inclusion Dir) → HasAsked c stored (with_inclusion i st) → i.queue ≡ st.inclusion.queue → i.served ≡ st.inclusion.served → i.used ≡ st.inclusion.used
+    pub retained : (i : Inclusion Dir) → HasAsked c stored (with_inclusion i st) → i.queue ≡ st.inclusion.queue → i.served ≡ st.inclusion.served → i.used ≡ st.inclusion.used
         → IsEndedIn c stored st (retains c r (with_inclusion i st))
     retained i kept queue served used = either (is_some (retained_for i.retained (canonical c st)) && not (same_logs r.logs (canonical c st)))
       where
