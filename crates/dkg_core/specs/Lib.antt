@@ -1,5 +1,6 @@
 pub mod Agreeing
 pub mod Applying
+pub mod Asked
 pub mod Behind
 pub mod Blocks
 pub mod BlocksKept
@@ -8,9 +9,11 @@ pub mod Counted
 pub mod Courses
 pub mod Dealing
 pub mod Desk
+pub mod Endings
 pub mod Enduring
 pub mod Entering
 pub mod Entry
+pub mod Finishing
 pub mod Fixed
 pub mod Forms
 pub mod Heard
@@ -22,8 +25,8 @@ pub mod Live
 pub mod Logs
 pub mod Meant
 pub mod Node
-pub mod NodeKept
 pub mod NodeEndings
+pub mod NodeKept
 pub mod Offering
 pub mod OneShots
 pub mod Plans
@@ -38,5 +41,5 @@ pub mod Spared
 pub mod Splitting
 pub mod Stepping
 pub mod Storing
-pub mod Endings
+pub mod Through
 pub mod Transcripts

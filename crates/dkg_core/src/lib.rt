@@ -14,6 +14,7 @@ ghost use Rattle.dkg_core.specs.Agreeing.{OpeningsAgree, SetupsAgree, StepsAgree
 ghost use Rattle.dkg_core.specs.Behind.{OpeningsRunBehind, OpeningsSayBehind, StepsRunBehind, StepsSayBehind};
 ghost use Rattle.dkg_core.specs.Enduring.{OpeningsEndure, StepsGiveBack, StepsKeep};
 ghost use Rattle.dkg_core.specs.Entry.{EntersRegistered, LastBlocksAreEntered};
+ghost use Rattle.dkg_core.specs.Finishing.{StandInsFinish};
 ghost use Rattle.dkg_core.specs.Forms.{HalvesBegin, NodeOpeningsLead, NodeOpeningsLeadOver, OpeningsLead, OpeningsLeadOver, SetupsComeTo, SetupsStore};
 ghost use Rattle.dkg_core.specs.Heard.{OpeningsKeep, OpeningsRestore, PeersAgree, PeersAreKept, RunsAreKept, SetupsKeep};
 ghost use Rattle.dkg_core.specs.Joining.{JoinsTrack, ProbesJoin};
@@ -104,6 +105,12 @@ pub fn runs_are_kept<Dir>()
 /// The stand-in's rules are those of a ceremony.
 pub fn stand_ins_are_ceremonies<Dir>()
     ensures { StandInsAreCeremonies Dir }
+{}
+
+/// .. and they promise what is asked of a round that is finished: a player that lacks no dealing finishes, with the round's outcome,
+/// and where all its dealings are valid, its share fits the output.
+pub fn stand_ins_finish<Dir>()
+    ensures { StandInsFinish Dir }
 {}
 
 /// Under what a ceremony promises: a setup leaves the life awaiting the epoch of the next height, and where it takes part in a

@@ -1,0 +1,165 @@
+-- The artifact of a result is that of its logs.
+use Rattle.std.proofs.Common.{◌≡◌, ◌≤◌, ◌<◌, ℕ, Bool, true, false, nat_le, List, Option, Some, None, refl, sym, ◌∙◌, ap, subst, arith}
+use Rattle.std.specs.Prelude.{◌+◌, ◌^◌, ◌==◌, nat_lt, if◌then◌else◌, length, option_map}
+use Rattle.std.specs.Option.{option_map_or}
+use Rattle.std.proofs.lemmas.Bool.Decides.{nat_tests}
+use Rattle.dkg_values.specs.Rising.{lookup}
+use Rattle.dkg_ceremony.specs.declared.output.Output.{Output}
+use Rattle.dkg_ceremony.specs.declared.round.RoundParts.{RoundParts as Round}
+use Rattle.dkg_ceremony.specs.Outcomes.{LogMap}
+use Rattle.dkg_types.specs.declared.fault.Fault.{Fault}
+use Rattle.dkg_types.specs.declared.fault.Fault.TheVariants.{HeightRange, InvalidParticipants, DirectoryMismatch}
+use Rattle.dkg_types.specs.declared.fault.ParticipantsCause.TheVariants.{ProviderEmpty, ProviderAbove}
+use Rattle.dkg_types.specs.declared.info.EpochInfo.{EpochInfo}
+use Rattle.dkg_types.specs.NextInfos.{info_by, next_info}
+use Rattle.dkg_store.specs.Acts.{Held}
+use Rattle.dkg_core.specs.Courses.{Course, Ask, Stops}
+use Rattle.dkg_core.specs.Fixed.{Fixed, OneShot, has}
+use Rattle.dkg_core.specs.Live.{Live, Verified, VerifiedLogs, Artifact, Cached}
+use Rattle.dkg_core.specs.Same.{same_logs}
+use Rattle.dkg_core.specs.Setup.{looks}
+use Rattle.dkg_core.specs.Including as i
+use Rattle.dkg_core.specs.Including.{Next, cached_for}
+use Rattle.dkg_core.specs.Forms.{IsForm, ComesOver, Finds}
+use Rattle.dkg_core.specs.Asked.{OfShares, Reads, IsArtifactIn, IsResultIn, HasAsked, IsDeriveStop, IsMadeIn, ArtifactsLead}
+use Rattle.dkg_core.proofs.Counting.{some_is}
+use Rattle.dkg_core.proofs.Same.{one_logs, logs_again}
+use Rattle.dkg_core.proofs.Setups.{over_if, over_asks}
+
+none_apart : {A : Type 0} (a : A) → ◌≡◌ {A = Option A} None (Some a) → ⊥
+none_apart a e = cc
+
+bool_apart : (t : Bool) → t ≡ true → t ≡ false → ⊥
+bool_apart t is other = cc
+
+at_most : (a b : ℕ) → nat_le a b ≡ true → a ≤ b
+at_most a b e = grind (arith, nat_tests)
+
+below : (a b : ℕ) → nat_lt a b ≡ true → a < b
+below a b e = grind (arith, nat_tests)
+
+none_of : (n : ℕ) → (n == 0) ≡ true → n ≡ 0
+none_of n e = grind (arith, nat_tests)
+
+-- WHAT IS CACHED
+
+module _ {Dir : Type 0} (c : Fixed Dir) (stored : OfShares) (round : Round) (info : EpochInfo Dir) (st : Live Dir) (asked : HasAsked c stored st) (of_epoch : st.participation.round ≡ Some round)
+    (of_info : st.participation.current ≡ Some info) where
+  all : (d : Cached Dir) → st.inclusion.cached ≡ Some d → IsArtifactIn c stored round info st d.logs d.artifact
+  all d is =
+      let its = asked.made d is in
+      subst (λ (x : EpochInfo Dir). IsArtifactIn c stored round x st d.logs d.artifact) (some_is its.1 info (sym its.3 ∙ of_info))
+      (subst (λ (x : Round). IsArtifactIn c stored x its.1 st d.logs d.artifact) (some_is its.0 round (sym its.2 ∙ of_epoch)) its.4)
+
+  of_cached : (logs : LogMap) (made : Artifact Dir) (cached : Option (Cached Dir)) → st.inclusion.cached ≡ cached → cached_for cached logs ≡ Some made → IsArtifactIn c stored round info st logs made
+  of_cached logs made None at e = absurd (none_apart made e)
+  of_cached logs made (Some d) at e = either (same_logs d.logs logs) refl e
+    where
+      either : (t : Bool) → same_logs d.logs logs ≡ t → (if t then Some d.artifact else None) ≡ Some made → IsArtifactIn c stored round info st logs made
+      either true is e =
+          subst (IsArtifactIn c stored round info st logs) (some_is d.artifact made e)
+          (subst (λ (logs : LogMap). IsArtifactIn c stored round info st logs d.artifact) (one_logs d.logs logs is) (all d at))
+      either false is e = absurd (none_apart made e)
+
+  -- what is cached for some logs is their artifact
+  pub cached_is : (logs : LogMap) (made : Artifact Dir) → cached_for st.inclusion.cached logs ≡ Some made → IsArtifactIn c stored round info st logs made
+  cached_is logs made is = of_cached logs made st.inclusion.cached refl is
+
+-- THE ARTIFACT OF A RESULT
+
+module _ {Dir : Type 0} (c : Fixed Dir) (stored : OfShares) (round : Round) (info : EpochInfo Dir) (r : VerifiedLogs) (st : Live Dir) (next : Next Dir) (devices : Option Held)
+    (stops : Fault → Type 0) (goes : Live Dir → Option Held → Type 0) (form : IsForm c) (reads : Reads c stored devices) (asked : HasAsked c stored st)
+    (of_epoch : st.participation.round ≡ Some round) (of_info : st.participation.current ≡ Some info) (result : IsResultIn c round st r)
+    (stopped : (fault : Fault) → IsDeriveStop c round info st fault → stops fault)
+    (so : (made : Artifact Dir) (at : Live Dir) → IsMadeIn c stored round info st r.logs made at → ComesOver stops goes (next made at) devices) where
+  abbrev OfLogs : LogMap → Artifact Dir → Type 0
+  OfLogs logs made = IsArtifactIn c stored round info st logs made
+
+  -- WHAT IS MADE NOW
+
+  abbrev outcome : Option Output
+  outcome = option_map (λ (v : Verified). v.output) r.result
+
+  abbrev its_info : EpochInfo Dir
+  its_info = info_by c.provided info outcome
+
+  is_next : its_info ≡ next_info c.rules.outcome_of c.provided info round r.logs
+  unfolding next_info
+  is_next = ap (info_by c.provided info) result.outcome
+
+  abbrev with_it : Option ℕ → Artifact Dir
+  with_it share = record { info = Some its_info; share = share }
+
+  by_outcome : (found : Option Verified) → r.result ≡ found → option_map (λ (v : Verified). v.output) found ≡ c.rules.outcome_of round r.logs
+  by_outcome found is = sym (ap (λ (o : Option Verified). option_map (λ (v : Verified). v.output) o) is) ∙ result.outcome
+
+  of_verified : (found : Verified) → r.result ≡ Some found → OfLogs r.logs (with_it found.share)
+  of_verified found is = record {
+    info_is = ap (λ (x : EpochInfo Dir). Some x) is_next;
+    success = λ output made. (
+      result.shared found is,
+      λ share has_it. subst (λ (o : Output). c.rules.partial_public_of o c.me ≡ Some (c.rules.share_public_of share)) (some_is found.output output (by_outcome (Some found) is ∙ made))
+          (result.fits found share is has_it),
+    );
+    failure = λ none. absurd (none_apart found.output (sym none ∙ sym (by_outcome (Some found) is)));
+  }
+
+  of_failed : (share : Option ℕ) → r.result ≡ None → (has info.output.players c.me ≡ true → stored info.epoch share) → (has info.output.players c.me ≡ false → share ≡ None) → OfLogs r.logs (with_it share)
+  of_failed share is carried other = record {
+    info_is = ap (λ (x : EpochInfo Dir). Some x) is_next;
+    success = λ output made. absurd (none_apart output (by_outcome None is ∙ made));
+    failure = λ none. (carried, other);
+  }
+
+  epoch_is : (o : Option Output) → (info_by c.provided info o).epoch ≡ info.epoch + 1
+  epoch_is None = refl
+  epoch_is (Some output) = refl
+
+  made_now : (share : Option ℕ) → OfLogs r.logs (with_it share) → ComesOver stops goes (i.with_directory c its_info (i.keeping r.logs next (with_it share) st)) devices
+  made_now share of =
+      over_if stops goes devices (c.directories.matches its_info.directory (i.info_peers its_info)) (i.keeping r.logs next (with_it share) st) (Stops (DirectoryMismatch its_info.epoch))
+      (λ e. so (with_it share) (i.with_cached r.logs (with_it share) st) (record {
+        artifact = of;
+        same = refl;
+        is = ap (λ (t : Bool). if t then Some (with_it share) else None) (logs_again r.logs);
+        all = λ d is. subst (λ (x : Cached Dir). OfLogs x.logs x.artifact) (some_is (record { logs = r.logs; artifact = with_it share }) d is) of;
+      }))
+      (λ e. stopped (DirectoryMismatch its_info.epoch) (
+        epoch_is outcome,
+        (r.logs, subst (λ (x : EpochInfo Dir). c.directories.matches x.directory (i.info_peers x) ≡ false) is_next e),
+      ))
+
+  by_result : (found : Option Verified) → r.result ≡ found → ComesOver stops goes (i.share_by c info found (λ share. i.with_directory c its_info (i.keeping r.logs next (with_it share) st))) devices
+  by_result (Some found) is = made_now found.share (of_verified found is)
+  by_result None is =
+      over_if stops goes devices (has info.output.players c.me) (looks c (λ s. i.with_directory c its_info (i.keeping r.logs next (with_it (lookup info.epoch s.shares)) st)))
+      (i.with_directory c its_info (i.keeping r.logs next (with_it None) st))
+      (λ e. over_asks stops goes devices (λ h. i.with_directory c its_info (i.keeping r.logs next (with_it (lookup info.epoch (c.seen h).shares)) st))
+      (λ h found. made_now (lookup info.epoch (c.seen h).shares)
+      (of_failed (lookup info.epoch (c.seen h).shares) is (λ plays. reads h info.epoch found) (λ other. absurd (bool_apart (has info.output.players c.me) e other)))))
+      (λ e. made_now None (of_failed None is (λ plays. absurd (bool_apart (has info.output.players c.me) plays e)) (λ other. refl)))
+
+  abbrev count : ℕ
+  count = length (c.provided.participants (info.epoch + 2))
+
+  derived : ComesOver stops goes (i.derives_next c info r st (i.keeping r.logs next)) devices
+  derived =
+      let acts : Course Dir Fault (Live Dir) = i.share_by c info r.result (λ share. i.with_directory c its_info (i.keeping r.logs next (with_it share) st)) in
+      let few : Course Dir Fault (Live Dir) = if nat_lt c.limit count then Stops (InvalidParticipants (ProviderAbove count c.limit)) else acts in
+      let some : Course Dir Fault (Live Dir) = if count == 0 then Stops (InvalidParticipants ProviderEmpty) else few in
+      over_if stops goes devices (nat_le (2 ^ 64) (info.epoch + 2)) (Stops HeightRange) some
+      (λ e. stopped HeightRange (at_most (2 ^ 64) (info.epoch + 2) e))
+      (λ e. over_if stops goes devices (count == 0) (Stops (InvalidParticipants ProviderEmpty)) few
+      (λ e. stopped (InvalidParticipants ProviderEmpty) (none_of count e))
+      (λ e. over_if stops goes devices (nat_lt c.limit count) (Stops (InvalidParticipants (ProviderAbove count c.limit))) acts
+      (λ e. stopped (InvalidParticipants (ProviderAbove count c.limit)) (refl, refl, below c.limit count e)) (λ e. by_result r.result refl)))
+
+  by_cached : (cached : Option (Artifact Dir)) → cached_for st.inclusion.cached r.logs ≡ cached → ComesOver stops goes (i.artifact_by c r cached st next) devices
+  by_cached (Some made) is = so made st (record { artifact = cached_is c stored round info st asked of_epoch of_info r.logs made is; same = refl; is = is; all = all c stored round info st asked of_epoch of_info })
+  by_cached None is =
+      subst (λ (o : Option (OneShot Dir)). ComesOver stops goes (i.derives c o r st next) devices) (sym form.reshare)
+      (subst (λ (o : Option (EpochInfo Dir)). ComesOver stops goes (option_map_or (λ x. i.derives_next c x r st (i.keeping r.logs next)) o (Stops HeightRange)) devices) (sym of_info) derived)
+
+pub artifacts_lead : {Dir : Type 0} → ArtifactsLead Dir
+artifacts_lead c stored round info r st next devices stops goes form reads asked of_epoch of_info result stopped so =
+    by_cached c stored round info r st next devices stops goes form reads asked of_epoch of_info result stopped so (cached_for st.inclusion.cached r.logs) refl
