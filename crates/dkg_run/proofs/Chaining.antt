@@ -20,7 +20,7 @@ use Rattle.dkg_text.specs.declared.script.Event.TheVariants as event
 use Rattle.dkg_text.specs.declared.script.Life.{Life}
 use Rattle.dkg_script.specs.Blocks.{Block, block_at, chain, chain_below}
 use Rattle.dkg_script.specs.Consistent.{IsConsistentScript}
-use Rattle.dkg_script.specs.Epochs.{IsEventIn, IsFormOfEpochs}
+use Rattle.dkg_script.specs.Inclusion.{IsEventIn, IsFormOfInclusion}
 use Rattle.dkg_script.specs.Position.{awaited_height}
 use Rattle.dkg_script.specs.Setting.{CutAt, Setting, found, life_at}
 use Rattle.dkg_core.specs.Live.{Finalized}
@@ -154,7 +154,7 @@ module _ (s : Setting) (ends : List (Option CutAt)) (consistent : IsConsistentSc
   below_made : (b : Block) (its : made.Block directory.Unit) → IsOf b its → IsOnChain s (record { height = b.height - 1; digest = b.parent }) → IsOnChain s (record { height = its.height - 1; digest = its.parent })
   below_made b its same on = subst (λ (h : ℕ). IsOnChain s (record { height = h - 1; digest = its.parent })) (sym same.height) (subst (λ (d : List ℕ). IsOnChain s (record { height = b.height - 1; digest = d })) (sym same.parent) on)
 
-  module _ (form : IsFormOfEpochs s.script) (bytes : AreBytes s.script.blocks) (l : ℕ) (life : Life) (life_is : life_at s l ≡ Some life) (anchored : IfSome life.anchor (IsAnchorAbove s.script.blocks)) where
+  module _ (form : IsFormOfInclusion s.script) (bytes : AreBytes s.script.blocks) (l : ℕ) (life : Life) (life_is : life_at s l ≡ Some life) (anchored : IfSome life.anchor (IsAnchorAbove s.script.blocks)) where
     -- a block as the node holds it is one of the script's
     pub record HasBlock (number : ℕ) (its : made.Block directory.Unit) : Type 0 where
       pub b : Block

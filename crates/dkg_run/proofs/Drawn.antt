@@ -22,7 +22,7 @@ use Rattle.dkg_text.specs.declared.script.Event.TheVariants as event
 use Rattle.dkg_text.specs.declared.script.Life.{Life}
 use Rattle.dkg_script.specs.Blocks.{Block, anchor_number, block_at, block_of, blocks, info_at_boundary, known_info, reshare_round, round_at, used}
 use Rattle.dkg_script.specs.Consistent.{IsConsistentScript}
-use Rattle.dkg_script.specs.Epochs.{IsFormOfEpochs}
+use Rattle.dkg_script.specs.Inclusion.{IsFormOfInclusion}
 use Rattle.dkg_script.specs.Readings.{Info, Limits, info_in, unit_payload, with_spelled}
 use Rattle.dkg_script.specs.Setting.{Setting, CutAt, blocks_per_epoch, life_at, limits}
 use Rattle.dkg_script.proofs.Bridges.{reads_info}
@@ -78,7 +78,7 @@ found_number bs at Q b (number ∷ numbers) all is = by_block (slice_get bs numb
 abbrev pub HasRoundOf : Setting → Live directory.Unit → Type 0
 HasRoundOf s st = (round : Round) → st.participation.round ≡ Some round → round_at s round.number ≡ Some round
 
-module _ (s : Setting) (cuts : List (Option CutAt)) (form : IsFormOfEpochs s.script) (consistent : IsConsistentScript s cuts) where
+module _ (s : Setting) (cuts : List (Option CutAt)) (form : IsFormOfInclusion s.script) (consistent : IsConsistentScript s cuts) where
   abbrev pub Known : Info → Type 0
   Known info = known_info s info.epoch ≡ Some info
 

@@ -12,13 +12,14 @@ use Rattle.dkg_text.specs.declared.script.Event.{Event}
 use Rattle.dkg_text.specs.declared.script.Event.TheVariants as event
 use Rattle.dkg_text.specs.declared.script.Script.{Script}
 use Rattle.dkg_text.specs.declared.script.ScriptConfig.{ScriptConfig}
-use Rattle.dkg_script.specs.Epochs.{IsEventIn, IsLifeIn, alone}
+use Rattle.dkg_script.specs.Epochs.{alone}
+use Rattle.dkg_script.specs.Inclusion.{IsEventIn, IsLifeIn}
 use Rattle.dkg_script.specs.Setting.{blocks_per_epoch}
 use Rattle.dkg_core.specs.Behind.{event_of}
 use Rattle.dkg_core.specs.Courses.{Goes}
 use Rattle.dkg_core.specs.Forms.{IsForm, IsLiveIn}
 use Rattle.dkg_core.specs.Laws.{IsCeremony}
-use Rattle.dkg_core.specs.Live.{Delivers, Finalized, Live, Message, Peer, Sent}
+use Rattle.dkg_core.specs.Live.{Cancel, Delivers, EpochInfoOf, Feed, Finalized, Live, Message, NextLog, Over, Peer, ReleaseLog, Reshare, Sent, Work}
 use Rattle.dkg_core.specs.Node.{node_step}
 use Rattle.dkg_core.specs.NodeEndings.{LacksNobody}
 use Rattle.dkg_core.proofs.StandIn.{stand_ins_are_ceremonies}
@@ -116,7 +117,7 @@ module _ (g : Lived) (here : IsLifeInForm g) where
       one n long = omega (arith, long)
 
   -- the life of the script
-  pub life_in : IsLifeIn g.script g.number g.life
+  pub life_in : IsLifeIn g.script g.life
   life_in = here.form.lives g.number g.life here.life_is
 
   pub event_in_form : (i : ℕ) (its : Event) → slice_get g.life.events i ≡ Some its → IsEventIn g.script.blocks its
@@ -136,10 +137,17 @@ live_at g i k st is = record {
 
 -- EVENTS
 
--- what an event brings: a message, or a block of the script's
+-- what an event brings: a message, with a block of the script's where it has one, or such a block
 abbrev pub Brings : Lived → Event → Message directory.Unit → Type 0
 Brings g (event.Peer from bytes) message = message ≡ Sent (Peer from bytes)
 Brings g (event.Final number) message = (made : IsMadeOf g.script number) × (message ≡ Finalized made.block)
+Brings g (event.Next request height) message = message ≡ Sent (NextLog request height)
+Brings g (event.Release height) message = message ≡ Sent (ReleaseLog height)
+Brings g (event.Info request) message = message ≡ Sent (EpochInfoOf request)
+Brings g (event.Feed request number) message = (made : IsMadeOf g.script number) × (message ≡ Sent (Feed request made.block))
+Brings g (event.Over request) message = message ≡ Sent (Over request)
+Brings g (event.Cancel request) message = message ≡ Sent (Cancel request)
+Brings g event.Work message = message ≡ Sent (Work None)
 Brings g other message = ⊥
 
 -- the message of an event
@@ -157,4 +165,17 @@ message_in g (event.Final number) form =
       brings = (made, refl);
       course = λ j st. ap (λ (o : Option (Block directory.Unit)). option_map_or (λ e. node_step (at_step g j) e st) (option_map Delivers o) (Goes st)) made.is;
     }
+message_in g (event.Next request height) form = record { message = Sent (NextLog request height); brings = refl; course = λ j st. refl }
+message_in g (event.Release height) form = record { message = Sent (ReleaseLog height); brings = refl; course = λ j st. refl }
+message_in g (event.Info request) form = record { message = Sent (EpochInfoOf request); brings = refl; course = λ j st. refl }
+message_in g (event.Feed request number) form =
+    let made = made_of g.script number form in
+    record {
+      message = Sent (Feed request made.block);
+      brings = (made, refl);
+      course = λ j st. ap (λ (o : Option (Block directory.Unit)). option_map_or (λ e. node_step (at_step g j) e st) (option_map (λ b. Reshare (Feed request b)) o) (Goes st)) made.is;
+    }
+message_in g (event.Over request) form = record { message = Sent (Over request); brings = refl; course = λ j st. refl }
+message_in g (event.Cancel request) form = record { message = Sent (Cancel request); brings = refl; course = λ j st. refl }
+message_in g event.Work form = record { message = Sent (Work None); brings = refl; course = λ j st. refl }
 message_in g other form = absurd form

@@ -37,7 +37,7 @@ use Rattle.dkg_store.specs.Pairs.{IsWhole}
 use Rattle.dkg_script.specs.AsCut.{as_cut, lives_as_cut}
 use Rattle.dkg_script.specs.Blocks.{handed_in, provided}
 use Rattle.dkg_script.specs.Consistent.{IsConsistentScript}
-use Rattle.dkg_script.specs.Epochs.{IsEventIn, IsFormOfEpochs}
+use Rattle.dkg_script.specs.Inclusion.{IsEventIn, IsFormOfInclusion}
 use Rattle.dkg_script.specs.Kept.{Gives, IsDurable, Kept}
 use Rattle.dkg_script.specs.Position.{IsLeft, IsPlanHistory, cut_of, unless_outdated}
 use Rattle.dkg_script.specs.Progress.{AtEachEntry, at_start, pair_of, progress, read}
@@ -67,7 +67,7 @@ U = directory.Unit
 
 -- What is built: a script of the form over many epochs, whose mode is supported and whose epochs have two blocks at least, and no plan.
 pub record IsBuiltSetting (s : Setting) : Type 0 where
-  pub form : IsFormOfEpochs s.script
+  pub form : IsFormOfInclusion s.script
   pub anchored : (l : ℕ) (life : Life) → life_at s l ≡ Some life → IfSome life.anchor (IsAnchorAbove s.script.blocks)
   pub supported : supports_of s.script.config.max_mode.0 s.script.config.mode ≡ true
   pub long : 2 ≤ non_zero_u64_get s.script.config.blocks_per_epoch
@@ -132,7 +132,7 @@ anchor_as_cut (end ∷ ends) (x ∷ xs) zero life is = (x, refl, ap (λ (y : Lif
     the_same e = cc
 anchor_as_cut (end ∷ ends) (x ∷ xs) (suc l) life is = anchor_as_cut ends xs l life is
 
-pub built_as_cut : (script : Script) (files : Files) (secrets : Secrets) (ends : List (Option CutAt)) → IsFormOfEpochs (as_cut ends script) → IsBuiltSetting (setting_of script files secrets) → IsBuiltSetting (setting_of (as_cut ends script) files secrets)
+pub built_as_cut : (script : Script) (files : Files) (secrets : Secrets) (ends : List (Option CutAt)) → IsFormOfInclusion (as_cut ends script) → IsBuiltSetting (setting_of script files secrets) → IsBuiltSetting (setting_of (as_cut ends script) files secrets)
 built_as_cut script files secrets ends form built = record {
   form = form;
   anchored = λ l life is. let its = anchor_as_cut ends script.lives l life is in subst (λ (x : Option Anchor). IfSome x (IsAnchorAbove script.blocks)) (sym its.2) (built.anchored l its.0 its.1);
@@ -145,7 +145,7 @@ built_as_cut script files secrets ends form built = record {
 
 -- THE PLAN'S ONE CASE
 
-pub history_of : (s : Setting) (cuts : List (Option CutAt)) → IsFormOfEpochs s.script → get s.files Plan ≡ None → s.plans ≡ [] → IsPlanHistory s cuts
+pub history_of : (s : Setting) (cuts : List (Option CutAt)) → IsFormOfInclusion s.script → get s.files Plan ≡ None → s.plans ≡ [] → IsPlanHistory s cuts
 history_of s cuts form no_plan no_plans = record { first = none 0 ∙ sym no_record; next = λ l below. by_life l (life_at s l) refl }
   where
     none : (l : ℕ) → found s l ≡ None

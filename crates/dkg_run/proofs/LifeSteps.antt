@@ -25,7 +25,8 @@ use Rattle.dkg_store.specs.Recorded.{restored_list}
 use Rattle.dkg_script.specs.Blocks.{round_at}
 use Rattle.dkg_script.specs.Consistent.{IsConsistentScript}
 use Rattle.dkg_script.specs.Due.{IsDue, WroteAck, is_ack}
-use Rattle.dkg_script.specs.Epochs.{IsEventIn, alone}
+use Rattle.dkg_script.specs.Epochs.{alone}
+use Rattle.dkg_script.specs.Inclusion.{IsEventIn}
 use Rattle.dkg_script.specs.Kept.{AllCurrent, Gives}
 use Rattle.dkg_script.specs.OwnMarks.{AreKnownHandedIn}
 use Rattle.dkg_script.specs.Position.{awaited_before, awaited_epoch, awaited_height, begun, begun_before, event_of_step, follows}
