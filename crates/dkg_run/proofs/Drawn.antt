@@ -36,7 +36,7 @@ use Rattle.dkg_core.specs.Stepping.{IsNextIn}
 use Rattle.dkg_core.specs.Endings.{first_block, first_epoch}
 use Rattle.dkg_run.specs.Given.{Lived, at_step, blocks_in, limits_of, lived, numbered, payload_in}
 use Rattle.dkg_run.proofs.Awaiting.{IsReached, comes_to}
-use Rattle.dkg_run.proofs.Former.{Brings, IsMadeOf, IsMessage, is_ceremony, made_there}
+use Rattle.dkg_run.proofs.Former.{BringsBlock, BringsMail, IsMadeOf, IsMessage, brings_so, is_ceremony, made_there}
 use Rattle.dkg_run.proofs.NextLives.{GoesOn, TakesOver, next_so}
 use Rattle.dkg_run.proofs.Started.{source_is}
 use Rattle.dkg_run.proofs.Used.{all_back, all_front, all_sources, held as held_in, of_delivered}
@@ -185,7 +185,7 @@ module _ (s : Setting) (cuts : List (Option CutAt)) (form : IsFormOfInclusion s.
         (h k : Held) (end : Live directory.Unit) (next : IsNextIn (at_step g (suc i)) st m.message h k end) (before : HasRoundOf s st) where
       over_round : (over : TakesOver (at_step g (suc i)) st m.message h k end) → HasRoundOf s end
       unfolding at_step
-      over_round over = by_event its is m.message m.brings refl
+      over_round over = by_brought (brings_so g its m.message m.brings)
         where
           by_number : (number : ℕ) (made_it : IsMadeOf s.script number) → slice_get life.events i ≡ Some (Final number) → m.message ≡ Finalized made_it.block → HasRoundOf s end
           by_number number made_it at message_is = λ round there.
@@ -200,10 +200,9 @@ module _ (s : Setting) (cuts : List (Option CutAt)) (form : IsFormOfInclusion s.
               (of_seat (suc i) number made_it info _ seated.round come (subst (λ (x : made.Block directory.Unit). info_of x.payload ≡ Some info) block_is (over.taken).carried) seated.of_epoch
               (subst (λ (x : made.Block directory.Unit). x.height ≡ boundary (blocks_per_epoch s) info.epoch) block_is at_boundary) seated.drawn)
 
-          by_event : (event : Event) → slice_get life.events i ≡ Some event → (message : Message directory.Unit) → Brings g event message → m.message ≡ message → HasRoundOf s end
-          by_event (event.Peer from bytes) at message brings same = absurd (let wrong : ◌≡◌ {A = Message directory.Unit} (Sent (Peer from bytes)) (Finalized over.block) = sym brings ∙ sym same ∙ over.is in cc)
-          by_event (event.Final number) at message brings same = by_number number brings.0 at (same ∙ brings.1)
-          by_event other at message brings same = absurd brings
+          by_brought : BringsBlock g its m.message ⊎ BringsMail its m.message → HasRoundOf s end
+          by_brought (inl b) = by_number b.0 b.1 (is ∙ ap (λ (e : Event). Some e) b.2) b.3
+          by_brought (inr mail) = absurd (let wrong : ◌≡◌ {A = Message directory.Unit} (Sent mail.0) (Finalized over.block) = sym mail.1 ∙ over.is in cc)
 
       pub step_round : HasRoundOf s end
       step_round = either (next_so (at_step g (suc i)) st m.message h k end live next)

@@ -1,5 +1,5 @@
 -- Lives of a script whose lives go over many epochs: what is given to their steps is of dkg_core's form, and what their events bring.
-use Rattle.std.proofs.Common.{◌≡◌, ◌++◌, ◌∷◌, [], ◌≤◌, ℕ, zero, suc, true, false, List, Option, Some, None, refl, sym, ◌∙◌, ap, subst, map, fold, arith, append_assoc, append-nil}
+use Rattle.std.proofs.Common.{◌≡◌, ◌⊎◌, inl, inr, ◌++◌, ◌∷◌, [], ◌≤◌, ℕ, zero, suc, true, false, List, Option, Some, None, refl, sym, ◌∙◌, ap, subst, map, fold, arith, append_assoc, append-nil}
 use Rattle.std.specs.Prelude.{IsSome, slice_get, option_map}
 use Rattle.std.specs.Option.{option_map_or}
 use Rattle.std.specs.Int.NonZero.{non_zero_u64_get}
@@ -12,6 +12,7 @@ use Rattle.dkg_text.specs.declared.script.Event.{Event}
 use Rattle.dkg_text.specs.declared.script.Event.TheVariants as event
 use Rattle.dkg_text.specs.declared.script.Script.{Script}
 use Rattle.dkg_text.specs.declared.script.ScriptConfig.{ScriptConfig}
+use Rattle.dkg_script.specs.Blocks.{delivered_number}
 use Rattle.dkg_script.specs.Epochs.{alone}
 use Rattle.dkg_script.specs.Inclusion.{IsEventIn, IsLifeIn}
 use Rattle.dkg_script.specs.Setting.{blocks_per_epoch}
@@ -19,7 +20,7 @@ use Rattle.dkg_core.specs.Behind.{event_of}
 use Rattle.dkg_core.specs.Courses.{Goes}
 use Rattle.dkg_core.specs.Forms.{IsForm, IsLiveIn}
 use Rattle.dkg_core.specs.Laws.{IsCeremony}
-use Rattle.dkg_core.specs.Live.{Cancel, Delivers, EpochInfoOf, Feed, Finalized, Live, Message, NextLog, Over, Peer, ReleaseLog, Reshare, Sent, Work}
+use Rattle.dkg_core.specs.Live.{Cancel, Delivers, EpochInfoOf, Feed, Finalized, Live, Mail, Message, NextLog, Over, Peer, ReleaseLog, Reshare, Sent, Work}
 use Rattle.dkg_core.specs.Node.{node_step}
 use Rattle.dkg_core.specs.NodeEndings.{LacksNobody}
 use Rattle.dkg_core.proofs.StandIn.{stand_ins_are_ceremonies}
@@ -149,6 +150,25 @@ Brings g (event.Over request) message = message ≡ Sent (Over request)
 Brings g (event.Cancel request) message = message ≡ Sent (Cancel request)
 Brings g event.Work message = message ≡ Sent (Work None)
 Brings g other message = ⊥
+
+-- it is a block of the script's that is delivered, or a message, and then no block is
+abbrev pub BringsBlock : Lived → Event → Message directory.Unit → Type 0
+BringsBlock g its message = (number : ℕ) × (made : IsMadeOf g.script number) × (its ≡ event.Final number) × (message ≡ Finalized made.block)
+
+abbrev pub BringsMail : Event → Message directory.Unit → Type 0
+BringsMail its message = (mail : Mail directory.Unit) × (message ≡ Sent mail) × (delivered_number its ≡ None)
+
+pub brings_so : (g : Lived) (its : Event) (message : Message directory.Unit) → Brings g its message → BringsBlock g its message ⊎ BringsMail its message
+brings_so g (event.Final number) message brings = inl (number, brings.0, refl, brings.1)
+brings_so g (event.Peer from bytes) message brings = inr (Peer from bytes, brings, refl)
+brings_so g (event.Next request height) message brings = inr (NextLog request height, brings, refl)
+brings_so g (event.Release height) message brings = inr (ReleaseLog height, brings, refl)
+brings_so g (event.Info request) message brings = inr (EpochInfoOf request, brings, refl)
+brings_so g (event.Feed request number) message brings = inr (Feed request (brings.0).block, brings.1, refl)
+brings_so g (event.Over request) message brings = inr (Over request, brings, refl)
+brings_so g (event.Cancel request) message brings = inr (Cancel request, brings, refl)
+brings_so g event.Work message brings = inr (Work None, brings, refl)
+brings_so g other message brings = absurd brings
 
 -- the message of an event
 pub record IsMessage (g : Lived) (its : Event) : Type 0 where

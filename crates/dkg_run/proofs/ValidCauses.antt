@@ -304,7 +304,7 @@ module _ (s : Setting) (ends : List (Option CutAt)) (valid : IsValidCase s ends)
       stands_next : IsTakenLast s.script l life j made_it.block → follows s l life (awaited_epoch s l life j) ≡ false → (made_it.block).height ≡ awaited_height s l life j
       stands_next taken takes_part = by_turn comes
         where
-          higher : (height tip : ℕ) → nat_le height tip ≡ false → suc tip ≤ height
+          higher : (height tip : ℕ) → nat_le height tip ≡ false → tip + 1 ≤ height
           higher height tip not = grind (arith, nat_tests)
 
           by_tip : (o : Option Tip) → option_map_or (λ t. nat_le (made_it.block).height t.height) o false ≡ false → awaited o ≤ (made_it.block).height
@@ -314,11 +314,11 @@ module _ (s : Setting) (ends : List (Option CutAt)) (valid : IsValidCase s ends)
           above : awaited_height s l life j ≤ (made_it.block).height
           above = subst (λ (n : ℕ). n ≤ (made_it.block).height) tips.height (by_tip (tip_in s.script life j) taken.above)
 
-          same : (height own awaited : ℕ) → height ≡ own → own ≤ awaited → awaited ≤ height → height ≡ awaited
-          same height own awaited is low high = omega (arith, is, low, high)
+          same : (here its next : ℕ) → here ≡ its → its ≤ next → next ≤ here → here ≡ next
+          same here its next is low high = omega (arith, is, low, high)
 
-          some : (n : ℕ) → 2 ≤ n → 0 < n
-          some n long = omega (arith, long)
+          some : (k : ℕ) → 2 ≤ k → 0 < k
+          some k long = omega (arith, long)
 
           by_turn : ((own number made_it good).height ≤ awaited_height s l life j) ⊎ ((awaited_height s l life j ≡ 0) × (follows s l life 0 ≡ true)) → (made_it.block).height ≡ awaited_height s l life j
           by_turn (inl low) = same (made_it.block).height (own number made_it good).height (awaited_height s l life j) same_height low above
