@@ -17,6 +17,7 @@ pub mod Finishing
 pub mod Fixed
 pub mod Forms
 pub mod Heard
+pub mod Idle
 pub mod Imaged
 pub mod Including
 pub mod Joining
@@ -27,6 +28,7 @@ pub mod Meant
 pub mod Node
 pub mod NodeEndings
 pub mod NodeKept
+pub mod NodeThrough
 pub mod Offering
 pub mod OneShots
 pub mod Plans
