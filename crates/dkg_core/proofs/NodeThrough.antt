@@ -1,6 +1,6 @@
 -- How a node's steps end, whose life passes through whole epochs.
 use Rattle.std.proofs.Common.{◌≡◌, ◌≤◌, ◌<◌, ◌⊎◌, inl, inr, ℕ, Bool, true, false, nat_le, List, Option, Some, None, IsSome, refl, sym, ◌∙◌, ap, subst, arith}
-use Rattle.std.specs.Prelude.{◌+◌, ◌-◌, ◌*◌, ◌==◌, ◌||◌, max, nat_lt, not, filter, if◌then◌else◌, is_some, IsSomeAnd, Ok}
+use Rattle.std.specs.Prelude.{◌+◌, ◌-◌, ◌*◌, ◌==◌, ◌||◌, max, nat_lt, if◌then◌else◌, is_some, IsSomeAnd, Ok}
 use Rattle.std.specs.Option.{option_map_or}
 use Rattle.std.proofs.Math.Nat.{le-max_right}
 use Rattle.std.proofs.lemmas.Bool.Decides.{nat_tests}
@@ -25,9 +25,8 @@ use Rattle.dkg_core.specs.Courses.{Course, Say, Goes, Stops, Genesis, bind, unde
 use Rattle.dkg_core.specs.Seen.{Seen}
 use Rattle.dkg_core.specs.Sources.{Tip}
 use Rattle.dkg_core.specs.Fixed.{Fixed, OneShot}
-use Rattle.dkg_core.specs.Live.{Live, Orchestrator, Inclusion, Waiting, NodeStop, Faulted, Stage, Deals, Includes, Follows, Ends, Mail, Peer, NextLog, ReleaseLog, EpochInfoOf, Feed, Over, Cancel, Work, Message, Sent, Finalized, awaited_height, phase_of, is_last_height, with_inclusion, with_orchestrator, with_queue, with_tip}
+use Rattle.dkg_core.specs.Live.{Live, Orchestrator, Inclusion, Waiting, NodeStop, Faulted, Stage, Deals, Includes, Follows, Ends, Mail, Peer, NextLog, ReleaseLog, EpochInfoOf, Feed, Over, Cancel, Work, Message, Sent, Finalized, awaited_height, phase_of, is_last_height, with_inclusion, with_orchestrator, with_tip}
 use Rattle.dkg_core.specs.Setup as s
-use Rattle.dkg_core.specs.Including as inc
 use Rattle.dkg_core.specs.Blocks as b
 use Rattle.dkg_core.specs.Core.{step, no_inclusion}
 use Rattle.dkg_core.specs.Entering as half
@@ -40,7 +39,7 @@ use Rattle.dkg_core.specs.Forms.{IsForm, IsLiveIn, IsActiveIn, Judged, Refusal, 
 use Rattle.dkg_core.specs.Stepping.{IsHeardBy, with_taken, given_itself, dealt_behind}
 use Rattle.dkg_core.specs.Dealing as d
 use Rattle.dkg_core.specs.Asked.{OfShares, read_somewhere, InRound, HasAsked, IsAsked, IsEmptied, IsInformed}
-use Rattle.dkg_core.specs.Through.{IsFormThrough, IsLiveThrough, IsTakenThrough, IsReadFrom, IsCarriedOn, IsPassedOn, IsAppliedThrough, IsBlockThrough, IsIncludedThrough, IsFollowedThrough, IsStopThrough, IsNextThrough, StepReads, asked_by, included, unasked, waits_for}
+use Rattle.dkg_core.specs.Through.{IsFormThrough, IsLiveThrough, IsTakenThrough, IsReadFrom, IsCarriedOn, IsPassedOn, IsAppliedThrough, IsBlockThrough, IsIncludedThrough, IsFollowedThrough, IsStopThrough, IsNextThrough, StepReads, asked_by, included, unasked}
 use Rattle.dkg_core.specs.NodeThrough.{OpeningsThrough, IsActiveThrough, NodeOpeningsThrough, HasPassedOn, HalvesPassOn, IsNodeThrough, NodeStepsComeThrough, NodeStepsLeadThrough, NodeStepsLeadThroughOver}
 use Rattle.dkg_core.proofs.Advancing.{needs_as}
 use Rattle.dkg_core.proofs.Applied.{deals_below, includes_above}
@@ -48,6 +47,7 @@ use Rattle.dkg_core.proofs.Behind.{heard_aside, block_aside}
 use Rattle.dkg_core.proofs.Counting.{some_is, comes_if, comes_as}
 use Rattle.dkg_core.proofs.Heights.{below_middle, below_tip, epoch_to, next_last}
 use Rattle.dkg_core.proofs.Including.{is_observed}
+use Rattle.dkg_core.proofs.Mailing.{asked_beside}
 use Rattle.dkg_core.proofs.Passing.{asked_none, seated_through}
 use Rattle.dkg_core.proofs.Setups.{over_as, over_behind, over_under, comes_anywhere, came_over}
 use Rattle.dkg_core.proofs.Splitting.{came_to, comes_behind}
@@ -243,29 +243,9 @@ module _ {Dir : Type 0} (c : Fixed Dir) (st : Live Dir) (is_active : IsActiveThr
 -- BEHIND MAIL
 
 module _ {Dir : Type 0} (c : Fixed Dir) (st : Live Dir) (is_active : IsActiveThrough st) where
-  -- an event changes nothing but what the life has of requests
-  asked_beside : (its : Mail Dir) → asked_by its st ≡ with_inclusion (asked_by its st).inclusion st
-  asked_beside (Peer from bytes) = refl
-  asked_beside (NextLog request height) = refl
-  asked_beside (ReleaseLog height) = either (inc.is_served_at height st)
-    where
-      either : (t : Bool) → (if t then with_inclusion (record st.inclusion { served = None }) st else st) ≡ with_inclusion (if t then with_inclusion (record st.inclusion { served = None }) st else st).inclusion st
-      either true = refl
-      either false = refl
-  asked_beside (EpochInfoOf request) = refl
-  asked_beside (Feed request block) = refl
-  asked_beside (Over request) = refl
-  asked_beside (Cancel request) = either (waits_for request st)
-    where
-      either : (t : Bool) → (if t then with_inclusion (record st.inclusion { waiter = None }) st else with_queue (filter (λ r. not (r.number == request)) st.inclusion.queue) st)
-          ≡ with_inclusion (if t then with_inclusion (record st.inclusion { waiter = None }) st else with_queue (filter (λ r. not (r.number == request)) st.inclusion.queue) st).inclusion st
-      either true = refl
-      either false = refl
-  asked_beside (Work handed) = refl
-
   mail_active : (its : Mail Dir) (end : Live Dir) → IsReadFrom c (asked_by its st) end → IsActiveThrough end
   mail_active its end read =
-      subst (λ (x : Live Dir). IsActiveThrough x) (sym (read.same ∙ ap (λ (x : Live Dir). with_inclusion end.inclusion x) (asked_beside its)))
+      subst (λ (x : Live Dir). IsActiveThrough x) (sym (read.same ∙ ap (λ (x : Live Dir). with_inclusion end.inclusion x) (asked_beside st its)))
       (active_as st (with_inclusion end.inclusion st) is_active refl refl (λ apart. apart))
 
   heard_active : (from : ℕ) (end : Live Dir) → IsHeardBy c st from end → IsActiveThrough end

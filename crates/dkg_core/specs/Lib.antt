@@ -24,6 +24,7 @@ pub mod Joining
 pub mod Laws
 pub mod Live
 pub mod Logs
+pub mod LogsRecorded
 pub mod Meant
 pub mod Node
 pub mod NodeEndings
