@@ -14,6 +14,7 @@ use Rattle.dkg_types.specs.declared.info.EpochInfo.{EpochInfo}
 use Rattle.dkg_types.specs.PayloadCodes.{info_payload}
 use Rattle.dkg_store.specs.Acts.{Held}
 use Rattle.dkg_core.specs.Courses.{Course, Goes, bind}
+use Rattle.dkg_core.specs.Sources.{Tip}
 use Rattle.dkg_core.specs.Fixed.{Fixed}
 use Rattle.dkg_core.specs.Live.{Live, Stage, Deals, Includes, Follows, Ends, Inclusion, Request, Job, VerifiedLogs, Artifact, Cached, Told, GaveInfo, GaveNone, with_inclusion, with_queue, with_told}
 use Rattle.dkg_core.specs.Logs.{canonical, filled_by}
@@ -81,32 +82,43 @@ pub of_round : {Dir : Type 0} (st : Live Dir) (P : Round → Type 0) (round : Ro
 of_round st P round of_epoch its = subst P (some_is its.0 round (sym its.1 ∙ of_epoch)) its.2
 
 -- What is read of a request follows from the tip and the epoch alone.
-module _ {Dir : Type 0} (c : Fixed Dir) (round : Round) (st : Live Dir) (i : Inclusion Dir) where
-  abbrev other : Live Dir
-  other = with_inclusion i st
+module _ {Dir : Type 0} (c : Fixed Dir) (round : Round) (st other : Live Dir) (tip : other.tip ≡ st.tip) (epoch : other.participation.epoch ≡ st.participation.epoch) where
+  abbrev with_these : Option Tip → ℕ → Live Dir
+  with_these its_tip its_epoch = record st { tip = its_tip; participation = record st.participation { epoch = its_epoch } }
 
-  scan_again : (above : Option (Block Dir)) (found : LogMap) (bs : List (Block Dir)) (ended : Bool) → inc.scan c round other above found bs ended ≡ inc.scan c round st above found bs ended
-  scan_again above found [] ended = refl
-  scan_again above found (b ∷ bs) ended =
-      ap (λ (f : Fed). if inc.is_final c st above b then f
-      else if not (b.height == inc.next_height c st above) then Lacks (WrongHeight (inc.next_height c st above) b.height)
+  -- one block, by what is found behind it
+  abbrev reads_block : Live Dir → Option (Block Dir) → LogMap → Block Dir → Fed → (LogMap → Fed) → Fed
+  reads_block now above found b final next =
+      if inc.is_final c now above b then final
+      else if not (b.height == inc.next_height c now above) then Lacks (WrongHeight (inc.next_height c now above) b.height)
       else if inc.is_unlinked above b then Lacks (Unlinked b.height)
-      else if nat_lt (inc.lowest c st) b.height then inc.scan c round other (Some b) (inc.with_lower c round st b found) bs ended
-      else if inc.is_detached c st b then Lacks (Detached b.height)
-      else Found (inc.with_lower c round st b found)) (scan_again (Some b) found bs ended)
-      ∙ ap (λ (f : Fed). if inc.is_final c st above b then inc.scan c round st (Some b) found bs ended
-      else if not (b.height == inc.next_height c st above) then Lacks (WrongHeight (inc.next_height c st above) b.height)
-      else if inc.is_unlinked above b then Lacks (Unlinked b.height)
-      else if nat_lt (inc.lowest c st) b.height then f
-      else if inc.is_detached c st b then Lacks (Detached b.height)
-      else Found (inc.with_lower c round st b found)) (scan_again (Some b) (inc.with_lower c round st b found) bs ended)
+      else if nat_lt (inc.lowest c now) b.height then next (inc.with_lower c round now b found)
+      else if inc.is_detached c now b then Lacks (Detached b.height)
+      else Found (inc.with_lower c round now b found)
 
-  pub read_again : (r : Request Dir) → read_of c round other r ≡ read_of c round st r
-  read_again r = ap (λ (f : Fed). if inc.final_height c st == 0 then Found [] else f) (scan_again None [] r.blocks r.ended)
+  scan_as : (above : Option (Block Dir)) (found : LogMap) (bs : List (Block Dir)) (ended : Bool) → inc.scan c round other above found bs ended ≡ inc.scan c round st above found bs ended
+  scan_as above found [] ended = refl
+  scan_as above found (b ∷ bs) ended =
+      ap (λ (f : Fed). reads_block other above found b f (λ l. inc.scan c round other (Some b) l bs ended)) (scan_as (Some b) found bs ended)
+      ∙ ap (λ (f : Fed). reads_block other above found b (inc.scan c round st (Some b) found bs ended) (λ l. f)) (scan_as (Some b) (inc.with_lower c round other b found) bs ended)
+      ∙ ap (λ (t : Option Tip). reads_block (with_these t other.participation.epoch) above found b (inc.scan c round st (Some b) found bs ended) (λ l. inc.scan c round st (Some b) l bs ended)) tip
+      ∙ ap (λ (e : ℕ). reads_block (with_these st.tip e) above found b (inc.scan c round st (Some b) found bs ended) (λ l. inc.scan c round st (Some b) l bs ended)) epoch
 
-  pub needs_again : (queue : List (Request Dir)) → FirstNeeds c round st queue → FirstNeeds c round other queue
-  needs_again [] needs = tt
-  needs_again (r ∷ rs) needs = ap is_need (read_again r) ∙ needs
+  pub read_as : (r : Request Dir) → read_of c round other r ≡ read_of c round st r
+  read_as r =
+      ap (λ (f : Fed). if inc.final_height c other == 0 then Found [] else f) (scan_as None [] r.blocks r.ended)
+      ∙ ap (λ (e : ℕ). if inc.final_height c (with_these st.tip e) == 0 then Found [] else inc.scan c round st None [] r.blocks r.ended) epoch
+
+  pub needs_as : (queue : List (Request Dir)) → FirstNeeds c round st queue → FirstNeeds c round other queue
+  needs_as [] needs = tt
+  needs_as (r ∷ rs) needs = ap is_need (read_as r) ∙ needs
+
+-- .. so whatever was asked, it is the same
+pub read_again : {Dir : Type 0} (c : Fixed Dir) (round : Round) (st : Live Dir) (i : Inclusion Dir) (r : Request Dir) → read_of c round (with_inclusion i st) r ≡ read_of c round st r
+read_again c round st i r = read_as c round st (with_inclusion i st) refl refl r
+
+pub needs_again : {Dir : Type 0} (c : Fixed Dir) (round : Round) (st : Live Dir) (i : Inclusion Dir) (queue : List (Request Dir)) → FirstNeeds c round st queue → FirstNeeds c round (with_inclusion i st) queue
+needs_again c round st i queue needs = needs_as c round st (with_inclusion i st) refl refl queue needs
 
 -- The life with an inclusion.
 module _ {Dir : Type 0} (c : Fixed Dir) (stored : OfShares) (st : Live Dir) where

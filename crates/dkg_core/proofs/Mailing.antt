@@ -63,6 +63,29 @@ IsRequest (NextLog request height) = ⊥
 IsRequest (ReleaseLog height) = ⊥
 IsRequest mail = Unit {0}
 
+-- EVENTS
+
+module _ {Dir : Type 0} (st : Live Dir) where
+  -- an event changes nothing but what the life has of requests
+  pub asked_beside : (its : Mail Dir) → asked_by its st ≡ with_inclusion (asked_by its st).inclusion st
+  asked_beside (Peer from bytes) = refl
+  asked_beside (NextLog request height) = refl
+  asked_beside (ReleaseLog height) = either (inc.is_served_at height st)
+    where
+      either : (t : Bool) → (if t then with_inclusion (record st.inclusion { served = None }) st else st) ≡ with_inclusion (if t then with_inclusion (record st.inclusion { served = None }) st else st).inclusion st
+      either true = refl
+      either false = refl
+  asked_beside (EpochInfoOf request) = refl
+  asked_beside (Feed request block) = refl
+  asked_beside (Over request) = refl
+  asked_beside (Cancel request) = either (waits_for request st)
+    where
+      either : (t : Bool) → (if t then with_inclusion (record st.inclusion { waiter = None }) st else with_queue (filter (λ r. not (r.number == request)) st.inclusion.queue) st)
+          ≡ with_inclusion (if t then with_inclusion (record st.inclusion { waiter = None }) st else with_queue (filter (λ r. not (r.number == request)) st.inclusion.queue) st).inclusion st
+      either true = refl
+      either false = refl
+  asked_beside (Work handed) = refl
+
 -- what is served is offered while including
 served_including : {Dir : Type 0} (st : Live Dir) (stage : Stage) (served : Option ℕ) (log : SignedDealerLog) → inc.served_now_in st stage served ≡ Some log → stage ≡ Includes
 served_including st Deals served log e = absurd (none_apart log e)

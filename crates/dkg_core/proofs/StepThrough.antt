@@ -400,7 +400,7 @@ pub steps_come_through : {Dir : Type 0} → StepsComeThrough Dir
 steps_come_through c stored st message devices form reads taken live = steps c form stored st live devices reads message taken
 
 -- whatever is read, something is
-reads_somewhere : {Dir : Type 0} (c : Fixed Dir) → StepReads c (read_somewhere c) None
+pub reads_somewhere : {Dir : Type 0} (c : Fixed Dir) → StepReads c (read_somewhere c) None
 reads_somewhere c h epoch found = (h, refl)
 
 pub steps_lead_through : {Dir : Type 0} → StepsLeadThrough Dir

@@ -332,7 +332,7 @@ halves_go_on c st block low none = by_half c st block st.orchestrator.waiting no
 -- A NODE'S STEP
 
 -- a course that touches no device leaves them
-still_over : {Dir F S : Type 0} (P : Line → Type 0) (Q : S → Type 0) (stops : F → Type 0) (goes : S → Type 0) (course : Course Dir F S) (devices : Option Held)
+pub still_over : {Dir F S : Type 0} (P : Line → Type 0) (Q : S → Type 0) (stops : F → Type 0) (goes : S → Type 0) (course : Course Dir F S) (devices : Option Held)
     → OnlySays P Q course → ComesTo stops goes course → ComesOver stops (λ end left. goes end × (left ≡ devices)) course devices
 still_over P Q stops goes (Say line course) devices only comes = still_over P Q stops goes course devices only.1 comes
 still_over P Q stops goes (Do op course) devices only comes = absurd only
@@ -343,7 +343,7 @@ still_over P Q stops goes (Goes end) devices only comes = (comes, refl)
 still_over P Q stops goes (Stops fault) devices only comes = comes
 
 -- which epoch is active, by what the orchestrator entered
-active_of : {Dir : Type 0} (o : Orchestrator Dir) (epoch : ℕ) → half.active o ≡ Some epoch → (o.halted ≡ false) × (o.entered ≡ Some epoch)
+pub active_of : {Dir : Type 0} (o : Orchestrator Dir) (epoch : ℕ) → half.active o ≡ Some epoch → (o.halted ≡ false) × (o.entered ≡ Some epoch)
 active_of o epoch is = either o.halted (is_some o.waiting) refl is
   where
     either : (halted waits : Bool) → o.halted ≡ halted → (if halted || waits then None else o.entered) ≡ Some epoch → (o.halted ≡ false) × (o.entered ≡ Some epoch)
@@ -431,7 +431,7 @@ module _ {Dir : Type 0} (c : Fixed Dir) (form : IsForm c) (st : Live Dir) (live 
         sym (live.awaits at.1 ∙ ap (λ (o : Option Tip). epoch_of c.blocks_per_epoch (option_map_or (λ t. t.height + 1) o 0)) is) ∙ at.0 in
         below_tip c.blocks_per_epoch epoch t.height block.height form.counted next (at_most block.height t.height low)
 
-    passed_below : (past : Bool) → (if past then Refusal HeightRange else judged_over c block st st.tip) ≡ Passed → IsBelow block st
+    pub passed_below : (past : Bool) → (if past then Refusal HeightRange else judged_over c block st st.tip) ≡ Passed → IsBelow block st
     passed_below true e = absurd (let no : ◌≡◌ {A = Judged} (Refusal HeightRange) Passed = e in cc)
     passed_below false e = passed_over st.tip refl e
 

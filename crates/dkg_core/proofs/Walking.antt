@@ -350,7 +350,7 @@ module _ {Dir : Type 0} (c : Fixed Dir) (P : World → Type 0) (tell : (w : Worl
         concludes_by round logs None (Some made) st w q = concludes made st w q
         concludes_by round logs None None st w q = derives_now round logs (i.retained_for st.inclusion.retained logs) st w q
 
-        final_block : (round : Round) (st : Live Dir) (w : World) → P w → Throughout P (b.final_block c round block st) w
+        pub final_block : (round : Round) (st : Live Dir) (w : World) → P w → Throughout P (b.final_block c round block st) w
         final_block round st w q =
             let logs = canonical c st in
             let before = i.cached_for st.inclusion.cached logs in

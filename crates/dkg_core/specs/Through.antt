@@ -242,3 +242,24 @@ abbrev pub StepsLeadThroughOver : Type 0 → Type 1
 StepsLeadThroughOver Dir = (c : Fixed Dir) (stored : OfShares) (st : Live Dir) (message : Message Dir) (ended : Ended Fault (Live Dir)) (w new : World) → IsFormThrough c
     → StepReads c stored (Some w.held) → IsTakenThrough c message st → IsLiveThrough c stored st → EndsSo (step c message st) ended w new
     → CameTo (IsStopThrough c stored st message (Some w.held)) (λ end. IsNextThrough c stored st message (Some w.held) end (Some new.held)) ended
+
+-- WHAT GOES ON
+
+-- no epoch's last block that is applied
+abbrev pub PassesNothingOn : {Dir : Type 0} → Fixed Dir → Live Dir → Message Dir → Type 0
+PassesNothingOn c st (Finalized b) = judged_block c b st ≡ Applied → is_last_height c b.height ≡ true → ⊥
+PassesNothingOn c st (Sent mail) = Unit {0}
+
+-- The life awaits the same epoch, in the same round and seat, by the same info. Records and requests may be others, and so may the own dealer.
+pub record IsStillThrough {Dir : Type 0} (st end : Live Dir) : Type 0 where
+  pub epoch : end.participation.epoch ≡ st.participation.epoch
+  pub round : end.participation.round ≡ st.participation.round
+  pub seat : end.participation.seat ≡ st.participation.seat
+  pub current : end.participation.current ≡ st.participation.current
+  pub orchestrator : end.orchestrator ≡ st.orchestrator
+  pub probe : end.probe ≡ st.probe
+
+-- THE SAME LIFE GOES ON, where no epoch is passed on.
+abbrev pub NextLivesStayThrough : Type 0 → Type 1
+NextLivesStayThrough Dir = (c : Fixed Dir) (stored : OfShares) (st : Live Dir) (message : Message Dir) (devices : Option Held) (end : Live Dir) (left : Option Held) → PassesNothingOn c st message
+    → IsNextThrough c stored st message devices end left → IsStillThrough st end
