@@ -68,12 +68,6 @@ among_has key (x ∷ xs) (inr there) = let c = among_has key xs there in (suc c.
 abbrev pub PassHeld : Setting → Held → Type 0
 PassHeld s h = IsWhole (notes h) h.secrets × PassesAll s (recovered_in h)
 
--- a course that does nothing
-pub goes_nothing : (st : Live directory.Unit) (ended : Ended Fault (Live directory.Unit)) (w new : World) → EndsSo {Dir = directory.Unit} {F = Fault} (Goes st) ended w new → new ≡ w
-goes_nothing st (went end) w new run = run.0
-goes_nothing st (stopped its) w new run = absurd run
-goes_nothing st (broken cause) w new run = run.1
-
 module _ (s : Setting) (cuts : List (Option CutAt)) (form : IsFormOfInclusion s.script) (consistent : IsConsistentScript s cuts) (l : ℕ) (life : Life) (seen : Held → Seen) (files : Files) (life_is : life_at s l ≡ Some life)
     (here : IsLifeInForm (lived s.script l life seen files)) (reads : ReadsRecords seen) where
   abbrev g : Lived
