@@ -39,6 +39,7 @@ pub mod Said
 pub mod Same
 pub mod Seen
 pub mod Setup
+pub mod SharesMoved
 pub mod Sources
 pub mod Spared
 pub mod Splitting

@@ -1,0 +1,5 @@
+use Rattle.dkg_core.proofs.NodeThrough.{node_openings_through as law}
+use Rattle.dkg_core.proofs.node_openings_through.Goals as goal
+
+pub returns : goal.returns
+returns g c = law
