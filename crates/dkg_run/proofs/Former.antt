@@ -1,12 +1,17 @@
 -- Lives of a script whose lives go over many epochs: what is given to their steps is of dkg_core's form, and what their events bring.
 use Rattle.std.proofs.Common.{◌≡◌, ◌⊎◌, inl, inr, ◌++◌, ◌∷◌, [], ◌≤◌, ℕ, zero, suc, true, false, List, Option, Some, None, refl, sym, ◌∙◌, ap, subst, map, fold, arith, append_assoc, append-nil}
-use Rattle.std.specs.Prelude.{IsSome, slice_get, option_map}
+use Rattle.std.specs.Prelude.{Bool, IsSome, slice_get, option_map, not, nat_lt, ◌==◌, if◌then◌else◌}
 use Rattle.std.specs.Option.{option_map_or}
 use Rattle.std.specs.Int.NonZero.{non_zero_u64_get}
 use Rattle.std.proofs.lemmas.List.{map-append}
 use Rattle.std.proofs.lemmas.Option.{slice_get-map}
+use Rattle.dkg_ceremony.specs.Outcomes.{LogMap}
+use Rattle.dkg_ceremony.specs.declared.round.RoundParts.{RoundParts as Round}
 use Rattle.dkg_types.specs.Blocks.{Block}
 use Rattle.dkg_types.specs.declared.directory.Unit as directory
+use Rattle.dkg_types.specs.declared.entry.Why.{Why}
+use Rattle.dkg_types.specs.declared.entry.Why.TheVariants.{WrongHeight, Unlinked, Detached}
+use Rattle.dkg_types.specs.declared.info.EpochInfo.{EpochInfo}
 use Rattle.dkg_text.specs.declared.script.BlockLine.{BlockLine}
 use Rattle.dkg_text.specs.declared.script.Event.{Event}
 use Rattle.dkg_text.specs.declared.script.Event.TheVariants as event
@@ -16,15 +21,20 @@ use Rattle.dkg_script.specs.Blocks.{delivered_number}
 use Rattle.dkg_script.specs.Epochs.{alone}
 use Rattle.dkg_script.specs.Inclusion.{IsEventIn, IsLifeIn}
 use Rattle.dkg_script.specs.Setting.{blocks_per_epoch}
+use Rattle.dkg_core.specs.Asked.{FirstNeeds, HasAsked, IsArtifactOf, IsResultOf}
 use Rattle.dkg_core.specs.Behind.{event_of}
 use Rattle.dkg_core.specs.Courses.{Goes}
 use Rattle.dkg_core.specs.Forms.{IsForm, IsLiveIn}
+use Rattle.dkg_core.specs.Fixed.{Fixed}
+use Rattle.dkg_core.specs.Including.{Fed, Found, Lacks, can_finish, final_height, is_detached, is_final, is_need, is_unlinked, lowest, next_height, scan, with_lower}
 use Rattle.dkg_core.specs.Laws.{IsCeremony}
-use Rattle.dkg_core.specs.Live.{Cancel, Delivers, EpochInfoOf, Feed, Finalized, Live, Mail, Message, NextLog, Over, Peer, ReleaseLog, Reshare, Sent, Work}
+use Rattle.dkg_core.specs.Live.{Artifact, Cancel, Delivers, EpochInfoOf, Feed, Finalized, Live, Mail, Message, NextLog, Over, Peer, ReleaseLog, Request, Reshare, Sent, VerifiedLogs, Work}
 use Rattle.dkg_core.specs.Node.{node_step}
 use Rattle.dkg_core.specs.NodeEndings.{LacksNobody}
+use Rattle.dkg_core.specs.Through.{IsFormThrough, IsLiveThrough, IsTakenThrough, unasked}
+use Rattle.dkg_core.proofs.Finishing.{stand_ins_finish}
 use Rattle.dkg_core.proofs.StandIn.{stand_ins_are_ceremonies}
-use Rattle.dkg_run.specs.Epochs.{IsLifeInForm}
+use Rattle.dkg_run.specs.Epochs.{IsLifeInForm, any_shares}
 use Rattle.dkg_run.specs.Given.{IsUnplanned, Lived, at_step, seen_at, block_on, blocks_in, parent_in, payload_in, step_of, with_block}
 use Rattle.dkg_run.proofs.Living.{holds_at}
 
@@ -117,6 +127,10 @@ module _ (g : Lived) (here : IsLifeInForm g) where
       one : (n : ℕ) → 2 ≤ n → 1 ≤ n
       one n long = omega (arith, long)
 
+  pub through_at : (taken : ℕ) → IsFormThrough (at_step g taken)
+  unfolding at_step
+  through_at taken = record { form = form_at taken; finishing = stand_ins_finish (at_step g taken) refl }
+
   -- the life of the script
   pub life_in : IsLifeIn g.script g.life
   life_in = here.form.lives g.number g.life here.life_is
@@ -125,15 +139,68 @@ module _ (g : Lived) (here : IsLifeInForm g) where
   event_in_form i its is = holds_at (IsEventIn g.script.blocks) g.life.events i its life_in.events is
 
 -- A state is of the form at each step alike.
-pub live_at : (g : Lived) (i k : ℕ) (st : Live directory.Unit) → IsLiveIn (at_step g i) st → IsLiveIn (at_step g k) st
+pub stands_at : (g : Lived) (i k : ℕ) (st : Live directory.Unit) → IsLiveIn (at_step g i) st → IsLiveIn (at_step g k) st
 unfolding at_step
-live_at g i k st is = record {
+stands_at g i k st is = record {
   awaits = is.awaits;
   in_round = is.in_round;
   without = is.without;
   mine = λ d there. let its = is.mine d there in (its.0, its.1, record { member = its.2.member; share = its.2.share; seed = its.2.seed; dealt = its.2.dealt; passed = its.2.passed; unsigned = its.2.unsigned });
   numbered = is.numbered;
   idle = is.idle;
+}
+
+-- a scan's step, by its parts
+abbrev scanned : (final other unlinked above detached : Bool) (wrong broken loose : Why) → LogMap → (one two : Fed) → Fed
+scanned final other unlinked above detached wrong broken loose found one two =
+    if final then one else if other then Lacks wrong else if unlinked then Lacks broken else if above then two else if detached then Lacks loose else Found found
+
+module _ (g : Lived) (i k : ℕ) where
+  same_scan : (round : Round) (st : Live directory.Unit) (above : Option (Block directory.Unit)) (found : LogMap) (bs : List (Block directory.Unit)) (ended : Bool)
+      → scan (at_step g i) round st above found bs ended ≡ scan (at_step g k) round st above found bs ended
+  unfolding at_step
+  same_scan round st above found [] ended = refl
+  same_scan round st above found (b ∷ bs) ended =
+      let c : Fixed directory.Unit = at_step g i in
+      let more : LogMap = with_lower c round st b found in
+      let step : Fed → Fed → Fed = scanned (is_final c st above b) (not (b.height == next_height c st above)) (is_unlinked above b) (nat_lt (lowest c st) b.height) (is_detached c st b)
+      (WrongHeight (next_height c st above) b.height) (Unlinked b.height) (Detached b.height) more in
+      ap (λ (one : Fed). step one (scan c round st (Some b) more bs ended)) (same_scan round st (Some b) found bs ended)
+      ∙ ap (λ (two : Fed). step (scan (at_step g k) round st (Some b) found bs ended) two) (same_scan round st (Some b) more bs ended)
+
+  same_need : (round : Round) (st : Live directory.Unit) (queue : List (Request directory.Unit)) → FirstNeeds (at_step g i) round st queue → FirstNeeds (at_step g k) round st queue
+  unfolding at_step
+  same_need round st [] needs = tt
+  same_need round st (r ∷ rs) needs =
+      ap (λ (fed : Fed). is_need (if final_height (at_step g i) st == 0 then Found [] else fed)) (sym (same_scan round st None [] r.blocks r.ended)) ∙ needs
+
+  same_result : (round : Round) (plays : Bool) (r : VerifiedLogs) → IsResultOf (at_step g i) round plays r → IsResultOf (at_step g k) round plays r
+  unfolding at_step
+  same_result round plays r is = record { me_is = is.me_is; outcome = is.outcome; shared = is.shared; fits = is.fits }
+
+  same_artifact : (round : Round) (info : EpochInfo directory.Unit) (plays : Bool) (logs : LogMap) (made : Artifact directory.Unit)
+      → IsArtifactOf (at_step g i) any_shares round info plays logs made → IsArtifactOf (at_step g k) any_shares round info plays logs made
+  unfolding at_step
+  same_artifact round info plays logs made is = record { info_is = is.info_is; success = is.success; failure = is.failure }
+
+  same_asked : (st : Live directory.Unit) → HasAsked (at_step g i) any_shares st → HasAsked (at_step g k) any_shares st
+  unfolding at_step
+  same_asked st is = record {
+    served = is.served;
+    none = is.none;
+    early = is.early;
+    waits = is.waits;
+    runs = is.runs;
+    kept = λ r there. let its = is.kept r there in (its.0, its.1, same_result its.0 (can_finish (at_step g i) its.0 r.logs st) r its.2);
+    made = λ d there. let its = is.made d there in (its.0, its.1, its.2, its.3, same_artifact its.0 its.1 (can_finish (at_step g i) its.0 d.logs st) d.logs d.artifact its.4);
+  }
+
+pub live_at : (g : Lived) (i k : ℕ) (st : Live directory.Unit) → IsLiveThrough (at_step g i) any_shares st → IsLiveThrough (at_step g k) any_shares st
+unfolding at_step
+live_at g i k st is = record {
+  stands = stands_at g i k (unasked st) is.stands;
+  informed = is.informed;
+  asked = record { has = same_asked g i k st is.asked.has; read = λ includes none round there. same_need g i k round st st.inclusion.queue (is.asked.read includes none round there) };
 }
 
 -- EVENTS
@@ -199,3 +266,22 @@ message_in g (event.Over request) form = record { message = Sent (Over request);
 message_in g (event.Cancel request) form = record { message = Sent (Cancel request); brings = refl; course = λ j st. refl }
 message_in g event.Work form = record { message = Sent (Work None); brings = refl; course = λ j st. refl }
 message_in g other form = absurd form
+
+-- No event hands in a result.
+pub step_taken : (g : Lived) (its : Event) (message : Message directory.Unit) → Brings g its message → (c : Fixed directory.Unit) (st : Live directory.Unit) → IsTakenThrough c message st
+step_taken g its message brings c st = by_event its brings
+  where
+    as : (other : Message directory.Unit) → message ≡ other → IsTakenThrough c other st → IsTakenThrough c message st
+    as other is taken = subst (λ (m : Message directory.Unit). IsTakenThrough c m st) (sym is) taken
+
+    by_event : (e : Event) → Brings g e message → IsTakenThrough c message st
+    by_event (event.Peer from bytes) brings = as (Sent (Peer from bytes)) brings tt
+    by_event (event.Final number) brings = as (Finalized (brings.0).block) brings.1 tt
+    by_event (event.Next request height) brings = as (Sent (NextLog request height)) brings tt
+    by_event (event.Release height) brings = as (Sent (ReleaseLog height)) brings tt
+    by_event (event.Info request) brings = as (Sent (EpochInfoOf request)) brings tt
+    by_event (event.Feed request number) brings = as (Sent (Feed request (brings.0).block)) brings.1 tt
+    by_event (event.Over request) brings = as (Sent (Over request)) brings tt
+    by_event (event.Cancel request) brings = as (Sent (Cancel request)) brings tt
+    by_event event.Work brings = as (Sent (Work None)) brings tt
+    by_event other brings = absurd brings
