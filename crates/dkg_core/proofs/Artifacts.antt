@@ -74,7 +74,7 @@ pub record IsOfCourses {Dir : Type 0} (c : Fixed Dir) (stored : OfShares) (stops
   pub stopped : (fault : Fault) → stops fault → C (Stops fault)
 
 module _ {Dir : Type 0} (c : Fixed Dir) (stored : OfShares) (round : Round) (info : EpochInfo Dir) (r : VerifiedLogs) (st : Live Dir) (next : Next Dir) (C : Course Dir Fault (Live Dir) → Type 0)
-    (of : IsOfCourses c stored (IsDeriveStop c round info st) C) (form : IsForm c) (asked : HasAsked c stored st)
+    (courses : IsOfCourses c stored (IsDeriveStop c round info st) C) (form : IsForm c) (asked : HasAsked c stored st)
     (of_epoch : st.participation.round ≡ Some round) (of_info : st.participation.current ≡ Some info) (result : IsResultIn c round st r)
     (so : (made : Artifact Dir) (at : Live Dir) → IsMadeIn c stored round info st r.logs made at → C (next made at)) where
   abbrev OfLogs : LogMap → Artifact Dir → Type 0
@@ -122,14 +122,14 @@ module _ {Dir : Type 0} (c : Fixed Dir) (stored : OfShares) (round : Round) (inf
 
   made_now : (share : Option ℕ) → OfLogs r.logs (with_it share) → C (i.with_directory c its_info (i.keeping r.logs next (with_it share) st))
   made_now share of =
-      of.if_so (c.directories.matches its_info.directory (i.info_peers its_info)) (i.keeping r.logs next (with_it share) st) (Stops (DirectoryMismatch its_info.epoch))
+      courses.if_so (c.directories.matches its_info.directory (i.info_peers its_info)) (i.keeping r.logs next (with_it share) st) (Stops (DirectoryMismatch its_info.epoch))
       (λ e. so (with_it share) (i.with_cached r.logs (with_it share) st) (record {
         artifact = of;
         same = refl;
         is = ap (λ (t : Bool). if t then Some (with_it share) else None) (logs_again r.logs);
         all = λ d is. subst (λ (x : Cached Dir). OfLogs x.logs x.artifact) (some_is (record { logs = r.logs; artifact = with_it share }) d is) of;
       }))
-      (λ e. of.stopped (DirectoryMismatch its_info.epoch) (
+      (λ e. courses.stopped (DirectoryMismatch its_info.epoch) (
         epoch_is outcome,
         (r.logs, subst (λ (x : EpochInfo Dir). c.directories.matches x.directory (i.info_peers x) ≡ false) is_next e),
       ))
@@ -137,9 +137,9 @@ module _ {Dir : Type 0} (c : Fixed Dir) (stored : OfShares) (round : Round) (inf
   by_result : (found : Option Verified) → r.result ≡ found → C (i.share_by c info found (λ share. i.with_directory c its_info (i.keeping r.logs next (with_it share) st)))
   by_result (Some found) is = made_now found.share (of_verified found is)
   by_result None is =
-      of.if_so (has info.output.players c.me) (looks c (λ s. i.with_directory c its_info (i.keeping r.logs next (with_it (lookup info.epoch s.shares)) st)))
+      courses.if_so (has info.output.players c.me) (looks c (λ s. i.with_directory c its_info (i.keeping r.logs next (with_it (lookup info.epoch s.shares)) st)))
       (i.with_directory c its_info (i.keeping r.logs next (with_it None) st))
-      (λ e. of.reads (λ h. i.with_directory c its_info (i.keeping r.logs next (with_it (lookup info.epoch (c.seen h).shares)) st))
+      (λ e. courses.reads (λ h. i.with_directory c its_info (i.keeping r.logs next (with_it (lookup info.epoch (c.seen h).shares)) st))
       (λ h found. made_now (lookup info.epoch (c.seen h).shares)
       (of_failed (lookup info.epoch (c.seen h).shares) is (λ plays. found info.epoch) (λ other. absurd (bool_apart (has info.output.players c.me) e other)))))
       (λ e. made_now None (of_failed None is (λ plays. absurd (bool_apart (has info.output.players c.me) plays e)) (λ other. refl)))
@@ -152,12 +152,12 @@ module _ {Dir : Type 0} (c : Fixed Dir) (stored : OfShares) (round : Round) (inf
       let acts : Course Dir Fault (Live Dir) = i.share_by c info r.result (λ share. i.with_directory c its_info (i.keeping r.logs next (with_it share) st)) in
       let few : Course Dir Fault (Live Dir) = if nat_lt c.limit count then Stops (InvalidParticipants (ProviderAbove count c.limit)) else acts in
       let some : Course Dir Fault (Live Dir) = if count == 0 then Stops (InvalidParticipants ProviderEmpty) else few in
-      of.if_so (nat_le (2 ^ 64) (info.epoch + 2)) (Stops HeightRange) some
-      (λ e. of.stopped HeightRange (at_most (2 ^ 64) (info.epoch + 2) e))
-      (λ e. of.if_so (count == 0) (Stops (InvalidParticipants ProviderEmpty)) few
-      (λ e. of.stopped (InvalidParticipants ProviderEmpty) (none_of count e))
-      (λ e. of.if_so (nat_lt c.limit count) (Stops (InvalidParticipants (ProviderAbove count c.limit))) acts
-      (λ e. of.stopped (InvalidParticipants (ProviderAbove count c.limit)) (refl, refl, below c.limit count e)) (λ e. by_result r.result refl)))
+      courses.if_so (nat_le (2 ^ 64) (info.epoch + 2)) (Stops HeightRange) some
+      (λ e. courses.stopped HeightRange (at_most (2 ^ 64) (info.epoch + 2) e))
+      (λ e. courses.if_so (count == 0) (Stops (InvalidParticipants ProviderEmpty)) few
+      (λ e. courses.stopped (InvalidParticipants ProviderEmpty) (none_of count e))
+      (λ e. courses.if_so (nat_lt c.limit count) (Stops (InvalidParticipants (ProviderAbove count c.limit))) acts
+      (λ e. courses.stopped (InvalidParticipants (ProviderAbove count c.limit)) (refl, refl, below c.limit count e)) (λ e. by_result r.result refl)))
 
   by_cached : (cached : Option (Artifact Dir)) → cached_for st.inclusion.cached r.logs ≡ cached → C (i.artifact_by c r cached st next)
   by_cached (Some made) is = so made st (record { artifact = cached_is c stored round info st asked of_epoch of_info r.logs made is; same = refl; is = is; all = all c stored round info st asked of_epoch of_info })

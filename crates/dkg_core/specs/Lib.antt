@@ -37,6 +37,7 @@ pub mod Probes
 pub mod Probing
 pub mod Said
 pub mod Same
+pub mod SayingThrough
 pub mod Seen
 pub mod Setup
 pub mod SharesMoved

@@ -28,7 +28,10 @@ MovesShares Such min h w =
     (epoch : ℕ) → min ≤ epoch → (get w.held.secrets.shares epoch ≡ get h.secrets.shares epoch) ⊎ ((share : ℕ) × (get w.held.secrets.shares epoch ≡ Some share) × Such epoch share)
 
 -- A BLOCK WHILE INCLUDING moves no share but such a one, of the epochs that it prunes nothing of, wherever the node's step ends.
-abbrev pub BlocksMoveShares : Type 0 → Type 1
-BlocksMoveShares Dir = (c : Fixed Dir) (stored : OfShares) (b : Block Dir) (st : Live Dir) (ended : Ended NodeStop (Live Dir)) (most : ℕ) (w new : World) → IsFormThrough c → ReadsSecrets c.seen
+abbrev pub BlocksMoveSharesAt : {Dir : Type 0} → Fixed Dir → OfShares → Type 0
+BlocksMoveSharesAt {Dir} c stored = (b : Block Dir) (st : Live Dir) (ended : Ended NodeStop (Live Dir)) (most : ℕ) (w new : World) → IsFormThrough c → ReadsSecrets c.seen
     → Reads c stored (Some w.held) → IsLiveThrough c stored st → st.participation.stage ≡ Includes → reach_of c (Finalized b) ≤ most → EndsSo (node_step c (Delivers b) st) ended w new
     → MovesShares (IsSuchShare c stored b st) most w.held new
+
+abbrev pub BlocksMoveShares : Type 0 → Type 1
+BlocksMoveShares Dir = (c : Fixed Dir) (stored : OfShares) → BlocksMoveSharesAt c stored

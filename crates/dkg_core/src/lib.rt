@@ -15,6 +15,7 @@ ghost use Rattle.dkg_core.specs.Behind.{OpeningsRunBehind, OpeningsSayBehind, St
 ghost use Rattle.dkg_core.specs.Enduring.{OpeningsEndure, StepsGiveBack, StepsKeep};
 ghost use Rattle.dkg_core.specs.Entry.{EntersRegistered, LastBlocksAreEntered};
 ghost use Rattle.dkg_core.specs.Finishing.{StandInsFinish};
+ghost use Rattle.dkg_core.specs.Fixed.{Fixed};
 ghost use Rattle.dkg_core.specs.Forms.{HalvesBegin, NodeOpeningsLead, NodeOpeningsLeadOver, OpeningsLead, OpeningsLeadOver, SetupsComeTo, SetupsStore};
 ghost use Rattle.dkg_core.specs.Heard.{OpeningsKeep, OpeningsRestore, PeersAgree, PeersAreKept, RunsAreKept, SetupsKeep};
 ghost use Rattle.dkg_core.specs.Joining.{JoinsTrack, ProbesJoin};
@@ -30,12 +31,12 @@ ghost use Rattle.dkg_core.specs.Storing.{NodeOpeningsKeepSecrets, NodeStepsKeepS
 ghost use Rattle.dkg_core.specs.Offering.{NodeOffersAreDealt, OffersAreDealt};
 ghost use Rattle.dkg_core.specs.Stepping.{CommitsAreRead, HalvesGoOn, NextLivesStay, NodeStepsLead, NodeStepsLeadOver, StepsLead, StepsLeadOver};
 ghost use Rattle.dkg_core.specs.BlocksKept.{BlocksKeep, NodeStepsKeepNotes, NodeStepsKeepPlans, NodeStepsSpareTheirLogs};
-ghost use Rattle.dkg_core.specs.Asked.{AdvancesLead, ArtifactsLead};
+ghost use Rattle.dkg_core.specs.Asked.{AdvancesLeadAt, read_somewhere};
 ghost use Rattle.dkg_core.specs.Idle.{MailsAreIdle};
 ghost use Rattle.dkg_core.specs.LogsRecorded.{NodeStepsRecordLogs};
-ghost use Rattle.dkg_core.specs.NodeThrough.{HalvesPassOn, NodeOpeningsThrough, NodeStepsComeThrough, OpeningsThrough};
-ghost use Rattle.dkg_core.specs.SharesMoved.{BlocksMoveShares};
-ghost use Rattle.dkg_core.specs.Through.{NextLivesStayThrough, SetupsComeThrough, StepsComeThrough};
+ghost use Rattle.dkg_core.specs.NodeThrough.{HalvesPassOn, NodeOpeningsThroughAt, NodeStepsComeThroughAt, OpeningsThroughAt};
+ghost use Rattle.dkg_core.specs.SharesMoved.{BlocksMoveSharesAt};
+ghost use Rattle.dkg_core.specs.Through.{NextLivesStayThroughAt, SetupsComeThrough, StepsComeThroughAt};
 ghost use Rattle.dkg_core.specs.Transcripts.{OpeningsAreQuiet, RunsAddDeeds, StepsAreQuiet, TranscriptsMove};
 
 /// A peer's message records a valid dealing of its sender under a new key alone, behind its private half, and acknowledges only
@@ -442,30 +443,25 @@ pub fn setups_come_through<Dir>()
     ensures { SetupsComeThrough Dir }
 {}
 
-/// The artifact of a result, cached or made now, is that of its logs; it can't be made for the causes of a next info alone.
-pub fn artifacts_lead<Dir>()
-    ensures { ArtifactsLead Dir }
-{}
-
 /// Requests are read until one needs more, none is left, or a verification runs: so no request is left unread while inclusion runs none, and a
 /// verification starts exactly where the logs that were found have neither a cached artifact nor a retained result.
 pub fn advances_lead<Dir>()
-    ensures { AdvancesLead Dir }
+    ensures { (c : Fixed Dir) → AdvancesLeadAt c (read_somewhere c) }
 {}
 
 /// In a life that passes through whole epochs any step stops by these faults alone, each of which has its cause; or it leaves such a life.
 pub fn steps_come_through<Dir>()
-    ensures { StepsComeThrough Dir }
+    ensures { (c : Fixed Dir) → StepsComeThroughAt c (read_somewhere c) }
 {}
 
 /// The life that an opening leaves is one that passes through whole epochs.
 pub fn openings_through<Dir>()
-    ensures { OpeningsThrough Dir }
+    ensures { (c : Fixed Dir) → OpeningsThroughAt c (read_somewhere c) }
 {}
 
 /// So is that of a node's opening, whose orchestrator waits for nothing.
 pub fn node_openings_through<Dir>()
-    ensures { NodeOpeningsThrough Dir }
+    ensures { (c : Fixed Dir) → NodeOpeningsThroughAt c (read_somewhere c) }
 {}
 
 /// At the last block of the entered epoch the orchestrator's half enters the next one, which is ready and registered, and acknowledges the block.
@@ -476,12 +472,12 @@ pub fn halves_pass_on<Dir>()
 /// In a life that passes through whole epochs a node's step stops by the faults of its reshare half alone, or leaves such a life, whose orchestrator
 /// waits for nothing.
 pub fn node_steps_come_through<Dir>()
-    ensures { NodeStepsComeThrough Dir }
+    ensures { (c : Fixed Dir) → NodeStepsComeThroughAt c (read_somewhere c) }
 {}
 
 /// Where no epoch is passed on, the life that a step leaves awaits the same epoch, in the same round and seat, by the same info.
 pub fn next_lives_stay_through<Dir>()
-    ensures { NextLivesStayThrough Dir }
+    ensures { (c : Fixed Dir) → NextLivesStayThroughAt c (read_somewhere c) }
 {}
 
 /// Mail but a peer's touches no device, and says what requests are answered alone.
@@ -498,5 +494,5 @@ pub fn node_steps_record_logs<Dir>()
 /// At every exit of a node's step that takes a block while including, each share is what it was, of the epochs that the step prunes nothing of, but
 /// for the artifact's: the share of the canonical logs' next info, where the block carries that.
 pub fn blocks_move_shares<Dir>()
-    ensures { BlocksMoveShares Dir }
+    ensures { (c : Fixed Dir) → BlocksMoveSharesAt c (read_somewhere c) }
 {}
