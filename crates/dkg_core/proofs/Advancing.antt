@@ -159,16 +159,16 @@ module _ {Dir : Type 0} (c : Fixed Dir) (stored : OfShares) (st : Live Dir) (dev
       × (cached_for now.cached job.logs ≡ None) × (retained_for now.retained job.logs ≡ None)
 
   -- a request was read, while none ran
-  record IsOn (round : Round) (r : Request Dir) (i : Inclusion Dir) (end : Live Dir) (left : Option Held) : Type 0 where
-    untouched : left ≡ devices
-    now : Inclusion Dir
-    is : end ≡ with now
-    has : HasAsked c stored (with now)
-    queue_is : now.queue ≡ i.queue
-    served : now.served ≡ i.served
-    used : now.used ≡ i.used
-    retained : now.retained ≡ i.retained
-    starts : (job : Job) → now.running ≡ Some job → Starts round r i now job
+  pub record IsOn (round : Round) (r : Request Dir) (i : Inclusion Dir) (end : Live Dir) (left : Option Held) : Type 0 where
+    pub untouched : left ≡ devices
+    pub now : Inclusion Dir
+    pub is : end ≡ with now
+    pub has : HasAsked c stored (with now)
+    pub queue_is : now.queue ≡ i.queue
+    pub served : now.served ≡ i.served
+    pub used : now.used ≡ i.used
+    pub retained : now.retained ≡ i.retained
+    pub starts : (job : Job) → now.running ≡ Some job → Starts round r i now job
 
   -- READING ONE
 
@@ -255,7 +255,7 @@ module _ {Dir : Type 0} (c : Fixed Dir) (stored : OfShares) (st : Live Dir) (dev
         asks found read logs_are None None is at = starts found read logs_are is at (if can_finish c round logs (with i) then refused_in c round (with i) else None) refl
 
       -- by what is read
-      fed : (f : Fed) → read_of c round (with i) r ≡ f → ComesOver Stop Next_to (inc.fed c round r.number (with i) f) devices
+      pub fed : (f : Fed) → read_of c round (with i) r ≡ f → ComesOver Stop Next_to (inc.fed c round r.number (with i) f) devices
       fed Need read =
           record { untouched = refl; now = i; is = refl; has = has; queue_is = refl; served = refl; used = refl; retained = refl; starts = λ job e. absurd (none_apart job (sym idle ∙ e)) }
       fed (Lacks reason) read = told (GaveNone reason)

@@ -58,13 +58,14 @@ module _ {Dir : Type 0} (c : Fixed Dir) (block : Block Dir) (st : Live Dir) wher
 
 -- HOW IT IS JUDGED
 
--- A delivered block is refused, does nothing, or is applied; a life that hasn't ended looks at it.
-module _ {Dir : Type 0} (c : Fixed Dir) (block : Block Dir) (st : Live Dir) (devices : Option Held) (stops : Fault → Type 0) (goes : Live Dir → Option Held → Type 0)
-    (refused : (fault : Fault) → judged_block c block st ≡ Refusal fault → stops fault) (passed : judged_block c block st ≡ Passed → goes st devices)
-    (applied : judged_block c block st ≡ Applied → ComesOver stops goes (b.applies c block st) devices) (not_ended : st.participation.stage ≡ Ends → ⊥) where
-  over_tip : (tip : Option Tip) → st.tip ≡ tip → judged_block c block st ≡ judged_over c block st tip → ComesOver stops goes (b.over_tip_in c block st tip) devices
+-- A delivered block is refused, does nothing, or is applied; a life that hasn't ended looks at it. So whatever holds of a course by its tests holds of the block's.
+module _ {Dir : Type 0} (c : Fixed Dir) (block : Block Dir) (st : Live Dir) (C : Course Dir Fault (Live Dir) → Type 0)
+    (if_so : (t : Bool) (x y : Course Dir Fault (Live Dir)) → (t ≡ true → C x) → (t ≡ false → C y) → C (if t then x else y))
+    (refused : (fault : Fault) → judged_block c block st ≡ Refusal fault → C (Stops fault)) (passed : judged_block c block st ≡ Passed → C (Goes st))
+    (applied : judged_block c block st ≡ Applied → C (b.applies c block st)) (ended : st.participation.stage ≡ Ends → C (Goes st)) where
+  over_tip : (tip : Option Tip) → st.tip ≡ tip → judged_block c block st ≡ judged_over c block st tip → C (b.over_tip_in c block st tip)
   over_tip None is_tip r =
-      over_if stops goes devices (b.is_in_window c block st) (b.applies c block st) (Stops (OutOfWindow block.height))
+      if_so (b.is_in_window c block st) (b.applies c block st) (Stops (OutOfWindow block.height))
       (λ e. applied (r ∙ ap (λ (t : Bool). if t then Applied else Refusal (OutOfWindow block.height)) e))
       (λ e. refused (OutOfWindow block.height) (r ∙ ap (λ (t : Bool). if t then Applied else Refusal (OutOfWindow block.height)) e))
   over_tip (Some t) is_tip r =
@@ -78,33 +79,40 @@ module _ {Dir : Type 0} (c : Fixed Dir) (block : Block Dir) (st : Live Dir) (dev
       let old_or_new : Course Dir Fault (Live Dir) = if low then Goes st else b.applies c block st in
       let child : Course Dir Fault (Live Dir) = if detached then Stops (DetachedBlock block.height) else old_or_new in
       let next : Course Dir Fault (Live Dir) = if skips then Stops (SkippedHeight (t.height + 1) block.height) else child in
-      over_if stops goes devices conflicts (Stops (ConflictingBlock block.height)) next
+      if_so conflicts (Stops (ConflictingBlock block.height)) next
       (λ e. refused (ConflictingBlock block.height) (r ∙ ap (λ (x : Bool). if x then Refusal (ConflictingBlock block.height) else first) e))
       (λ e. let r1 = r ∙ ap (λ (x : Bool). if x then Refusal (ConflictingBlock block.height) else first) e in
-      over_if stops goes devices skips (Stops (SkippedHeight (t.height + 1) block.height)) child
+      if_so skips (Stops (SkippedHeight (t.height + 1) block.height)) child
       (λ e1. refused (SkippedHeight (t.height + 1) block.height) (r1 ∙ ap (λ (x : Bool). if x then Refusal (SkippedHeight (t.height + 1) block.height) else second) e1))
       (λ e1. let r2 = r1 ∙ ap (λ (x : Bool). if x then Refusal (SkippedHeight (t.height + 1) block.height) else second) e1 in
-      over_if stops goes devices detached (Stops (DetachedBlock block.height)) old_or_new
+      if_so detached (Stops (DetachedBlock block.height)) old_or_new
       (λ e2. refused (DetachedBlock block.height) (r2 ∙ ap (λ (x : Bool). if x then Refusal (DetachedBlock block.height) else third) e2))
       (λ e2. let r3 = r2 ∙ ap (λ (x : Bool). if x then Refusal (DetachedBlock block.height) else third) e2 in
-      over_if stops goes devices low (Goes st) (b.applies c block st)
+      if_so low (Goes st) (b.applies c block st)
       (λ e3. passed (r3 ∙ ap (λ (x : Bool). if x then Passed else Applied) e3))
       (λ e3. applied (r3 ∙ ap (λ (x : Bool). if x then Passed else Applied) e3)))))
 
-  in_reach : ComesOver {Dir = Dir} stops goes (if s.is_past_range c block.height then Stops HeightRange else b.over_tip c block st) devices
+  in_reach : C (if s.is_past_range c block.height then Stops HeightRange else b.over_tip c block st)
   in_reach =
-      over_if stops goes devices (s.is_past_range c block.height) (Stops HeightRange) (b.over_tip c block st)
+      if_so (s.is_past_range c block.height) (Stops HeightRange) (b.over_tip c block st)
       (λ e. refused HeightRange (ap (λ (x : Bool). if x then Refusal HeightRange else judged_over c block st st.tip) e))
       (λ e. over_tip st.tip refl (ap (λ (x : Bool). if x then Refusal HeightRange else judged_over c block st st.tip) e))
 
-  by_stage : (stage : Stage) → st.participation.stage ≡ stage → ComesOver stops goes (b.delivers_in c block st stage) devices
+  by_stage : (stage : Stage) → st.participation.stage ≡ stage → C (b.delivers_in c block st stage)
   by_stage Deals is = in_reach
   by_stage Includes is = in_reach
   by_stage Follows is = in_reach
-  by_stage Ends is = absurd (not_ended is)
+  by_stage Ends is = ended is
 
-  pub judged_comes : ComesOver stops goes (b.delivers c block st) devices
-  judged_comes = by_stage st.participation.stage refl
+  pub judged_is : C (b.delivers c block st)
+  judged_is = by_stage st.participation.stage refl
+
+-- .. where it comes to
+pub judged_comes : {Dir : Type 0} (c : Fixed Dir) (block : Block Dir) (st : Live Dir) (devices : Option Held) (stops : Fault → Type 0) (goes : Live Dir → Option Held → Type 0)
+    → ((fault : Fault) → judged_block c block st ≡ Refusal fault → stops fault) → (judged_block c block st ≡ Passed → goes st devices)
+    → (judged_block c block st ≡ Applied → ComesOver stops goes (b.applies c block st) devices) → (st.participation.stage ≡ Ends → ⊥) → ComesOver stops goes (b.delivers c block st) devices
+judged_comes c block st devices stops goes refused passed applied not_ended =
+    judged_is c block st (λ course. ComesOver stops goes course devices) (λ t x y one other. over_if stops goes devices t x y one other) refused passed applied (λ is. absurd (not_ended is))
 
 -- PHASES
 

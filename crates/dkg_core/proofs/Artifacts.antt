@@ -21,7 +21,7 @@ use Rattle.dkg_core.specs.Setup.{looks}
 use Rattle.dkg_core.specs.Including as i
 use Rattle.dkg_core.specs.Including.{Next, cached_for}
 use Rattle.dkg_core.specs.Forms.{IsForm, ComesOver, Finds}
-use Rattle.dkg_core.specs.Asked.{OfShares, Reads, IsArtifactIn, IsResultIn, HasAsked, IsDeriveStop, IsMadeIn, ArtifactsLead}
+use Rattle.dkg_core.specs.Asked.{OfShares, IsArtifactIn, IsResultIn, HasAsked, IsDeriveStop, IsMadeIn, ArtifactsLead}
 use Rattle.dkg_core.proofs.Counting.{some_is}
 use Rattle.dkg_core.proofs.Same.{one_logs, logs_again}
 use Rattle.dkg_core.proofs.Setups.{over_if, over_asks}
@@ -67,11 +67,16 @@ module _ {Dir : Type 0} (c : Fixed Dir) (stored : OfShares) (round : Round) (inf
 
 -- THE ARTIFACT OF A RESULT
 
-module _ {Dir : Type 0} (c : Fixed Dir) (stored : OfShares) (round : Round) (info : EpochInfo Dir) (r : VerifiedLogs) (st : Live Dir) (next : Next Dir) (devices : Option Held)
-    (stops : Fault → Type 0) (goes : Live Dir → Option Held → Type 0) (form : IsForm c) (reads : Reads c stored devices) (asked : HasAsked c stored st)
+-- Whatever holds of a course by its tests, its reads and its stops holds of the artifact's, where it holds of how that goes on.
+pub record IsOfCourses {Dir : Type 0} (c : Fixed Dir) (stored : OfShares) (stops : Fault → Type 0) (C : Course Dir Fault (Live Dir) → Type 0) : Type 0 where
+  pub if_so : (t : Bool) (x y : Course Dir Fault (Live Dir)) → (t ≡ true → C x) → (t ≡ false → C y) → C (if t then x else y)
+  pub reads : (f : Held → Course Dir Fault (Live Dir)) → ((h : Held) → ((epoch : ℕ) → stored epoch (lookup epoch (c.seen h).shares)) → C (f h)) → C (Ask f)
+  pub stopped : (fault : Fault) → stops fault → C (Stops fault)
+
+module _ {Dir : Type 0} (c : Fixed Dir) (stored : OfShares) (round : Round) (info : EpochInfo Dir) (r : VerifiedLogs) (st : Live Dir) (next : Next Dir) (C : Course Dir Fault (Live Dir) → Type 0)
+    (courses : IsOfCourses c stored (IsDeriveStop c round info st) C) (form : IsForm c) (asked : HasAsked c stored st)
     (of_epoch : st.participation.round ≡ Some round) (of_info : st.participation.current ≡ Some info) (result : IsResultIn c round st r)
-    (stopped : (fault : Fault) → IsDeriveStop c round info st fault → stops fault)
-    (so : (made : Artifact Dir) (at : Live Dir) → IsMadeIn c stored round info st r.logs made at → ComesOver stops goes (next made at) devices) where
+    (so : (made : Artifact Dir) (at : Live Dir) → IsMadeIn c stored round info st r.logs made at → C (next made at)) where
   abbrev OfLogs : LogMap → Artifact Dir → Type 0
   OfLogs logs made = IsArtifactIn c stored round info st logs made
 
@@ -115,51 +120,59 @@ module _ {Dir : Type 0} (c : Fixed Dir) (stored : OfShares) (round : Round) (inf
   epoch_is None = refl
   epoch_is (Some output) = refl
 
-  made_now : (share : Option ℕ) → OfLogs r.logs (with_it share) → ComesOver stops goes (i.with_directory c its_info (i.keeping r.logs next (with_it share) st)) devices
+  made_now : (share : Option ℕ) → OfLogs r.logs (with_it share) → C (i.with_directory c its_info (i.keeping r.logs next (with_it share) st))
   made_now share of =
-      over_if stops goes devices (c.directories.matches its_info.directory (i.info_peers its_info)) (i.keeping r.logs next (with_it share) st) (Stops (DirectoryMismatch its_info.epoch))
+      courses.if_so (c.directories.matches its_info.directory (i.info_peers its_info)) (i.keeping r.logs next (with_it share) st) (Stops (DirectoryMismatch its_info.epoch))
       (λ e. so (with_it share) (i.with_cached r.logs (with_it share) st) (record {
         artifact = of;
         same = refl;
         is = ap (λ (t : Bool). if t then Some (with_it share) else None) (logs_again r.logs);
         all = λ d is. subst (λ (x : Cached Dir). OfLogs x.logs x.artifact) (some_is (record { logs = r.logs; artifact = with_it share }) d is) of;
       }))
-      (λ e. stopped (DirectoryMismatch its_info.epoch) (
+      (λ e. courses.stopped (DirectoryMismatch its_info.epoch) (
         epoch_is outcome,
         (r.logs, subst (λ (x : EpochInfo Dir). c.directories.matches x.directory (i.info_peers x) ≡ false) is_next e),
       ))
 
-  by_result : (found : Option Verified) → r.result ≡ found → ComesOver stops goes (i.share_by c info found (λ share. i.with_directory c its_info (i.keeping r.logs next (with_it share) st))) devices
+  by_result : (found : Option Verified) → r.result ≡ found → C (i.share_by c info found (λ share. i.with_directory c its_info (i.keeping r.logs next (with_it share) st)))
   by_result (Some found) is = made_now found.share (of_verified found is)
   by_result None is =
-      over_if stops goes devices (has info.output.players c.me) (looks c (λ s. i.with_directory c its_info (i.keeping r.logs next (with_it (lookup info.epoch s.shares)) st)))
+      courses.if_so (has info.output.players c.me) (looks c (λ s. i.with_directory c its_info (i.keeping r.logs next (with_it (lookup info.epoch s.shares)) st)))
       (i.with_directory c its_info (i.keeping r.logs next (with_it None) st))
-      (λ e. over_asks stops goes devices (λ h. i.with_directory c its_info (i.keeping r.logs next (with_it (lookup info.epoch (c.seen h).shares)) st))
+      (λ e. courses.reads (λ h. i.with_directory c its_info (i.keeping r.logs next (with_it (lookup info.epoch (c.seen h).shares)) st))
       (λ h found. made_now (lookup info.epoch (c.seen h).shares)
-      (of_failed (lookup info.epoch (c.seen h).shares) is (λ plays. reads h info.epoch found) (λ other. absurd (bool_apart (has info.output.players c.me) e other)))))
+      (of_failed (lookup info.epoch (c.seen h).shares) is (λ plays. found info.epoch) (λ other. absurd (bool_apart (has info.output.players c.me) e other)))))
       (λ e. made_now None (of_failed None is (λ plays. absurd (bool_apart (has info.output.players c.me) plays e)) (λ other. refl)))
 
   abbrev count : ℕ
   count = length (c.provided.participants (info.epoch + 2))
 
-  derived : ComesOver stops goes (i.derives_next c info r st (i.keeping r.logs next)) devices
+  derived : C (i.derives_next c info r st (i.keeping r.logs next))
   derived =
       let acts : Course Dir Fault (Live Dir) = i.share_by c info r.result (λ share. i.with_directory c its_info (i.keeping r.logs next (with_it share) st)) in
       let few : Course Dir Fault (Live Dir) = if nat_lt c.limit count then Stops (InvalidParticipants (ProviderAbove count c.limit)) else acts in
       let some : Course Dir Fault (Live Dir) = if count == 0 then Stops (InvalidParticipants ProviderEmpty) else few in
-      over_if stops goes devices (nat_le (2 ^ 64) (info.epoch + 2)) (Stops HeightRange) some
-      (λ e. stopped HeightRange (at_most (2 ^ 64) (info.epoch + 2) e))
-      (λ e. over_if stops goes devices (count == 0) (Stops (InvalidParticipants ProviderEmpty)) few
-      (λ e. stopped (InvalidParticipants ProviderEmpty) (none_of count e))
-      (λ e. over_if stops goes devices (nat_lt c.limit count) (Stops (InvalidParticipants (ProviderAbove count c.limit))) acts
-      (λ e. stopped (InvalidParticipants (ProviderAbove count c.limit)) (refl, refl, below c.limit count e)) (λ e. by_result r.result refl)))
+      courses.if_so (nat_le (2 ^ 64) (info.epoch + 2)) (Stops HeightRange) some
+      (λ e. courses.stopped HeightRange (at_most (2 ^ 64) (info.epoch + 2) e))
+      (λ e. courses.if_so (count == 0) (Stops (InvalidParticipants ProviderEmpty)) few
+      (λ e. courses.stopped (InvalidParticipants ProviderEmpty) (none_of count e))
+      (λ e. courses.if_so (nat_lt c.limit count) (Stops (InvalidParticipants (ProviderAbove count c.limit))) acts
+      (λ e. courses.stopped (InvalidParticipants (ProviderAbove count c.limit)) (refl, refl, below c.limit count e)) (λ e. by_result r.result refl)))
 
-  by_cached : (cached : Option (Artifact Dir)) → cached_for st.inclusion.cached r.logs ≡ cached → ComesOver stops goes (i.artifact_by c r cached st next) devices
+  by_cached : (cached : Option (Artifact Dir)) → cached_for st.inclusion.cached r.logs ≡ cached → C (i.artifact_by c r cached st next)
   by_cached (Some made) is = so made st (record { artifact = cached_is c stored round info st asked of_epoch of_info r.logs made is; same = refl; is = is; all = all c stored round info st asked of_epoch of_info })
   by_cached None is =
-      subst (λ (o : Option (OneShot Dir)). ComesOver stops goes (i.derives c o r st next) devices) (sym form.reshare)
-      (subst (λ (o : Option (EpochInfo Dir)). ComesOver stops goes (option_map_or (λ x. i.derives_next c x r st (i.keeping r.logs next)) o (Stops HeightRange)) devices) (sym of_info) derived)
+      subst (λ (o : Option (OneShot Dir)). C (i.derives c o r st next)) (sym form.reshare)
+      (subst (λ (o : Option (EpochInfo Dir)). C (option_map_or (λ x. i.derives_next c x r st (i.keeping r.logs next)) o (Stops HeightRange))) (sym of_info) derived)
+
+  -- .. so it holds of the artifact's
+  pub artifact_is : C (i.artifact c r st next)
+  artifact_is = by_cached (cached_for st.inclusion.cached r.logs) refl
 
 pub artifacts_lead : {Dir : Type 0} → ArtifactsLead Dir
-artifacts_lead c stored round info r st next devices stops goes form reads asked of_epoch of_info result stopped so =
-    by_cached c stored round info r st next devices stops goes form reads asked of_epoch of_info result stopped so (cached_for st.inclusion.cached r.logs) refl
+artifacts_lead {Dir} c stored round info r st next devices stops goes form reads asked of_epoch of_info result stopped so =
+    artifact_is c stored round info r st next (λ course. ComesOver stops goes course devices) (record {
+      if_so = λ t x y one other. over_if stops goes devices t x y one other;
+      reads = λ f each. over_asks stops goes devices f (λ h found. each h (λ epoch. reads h epoch found));
+      stopped = stopped;
+    }) form asked of_epoch of_info result so

@@ -33,7 +33,7 @@ none_apart : {A : Type 0} (a : A) → ◌≡◌ {A = Option A} None (Some a) →
 none_apart a e = cc
 
 -- a result that is retained for some logs is of these
-retained_logs : (retained : Option VerifiedLogs) (logs : LogMap) (r : VerifiedLogs) → retained_for retained logs ≡ Some r → r.logs ≡ logs
+pub retained_logs : (retained : Option VerifiedLogs) (logs : LogMap) (r : VerifiedLogs) → retained_for retained logs ≡ Some r → r.logs ≡ logs
 retained_logs None logs r e = absurd (none_apart r e)
 retained_logs (Some its) logs r e = either (same_logs its.logs logs) refl e
   where

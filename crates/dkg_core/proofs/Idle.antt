@@ -34,7 +34,7 @@ module _ {Dir : Type 0} (c : Fixed Dir) (st : Live Dir) where
   with i = with_inclusion i st
 
   -- beside what the life has of requests nothing changes
-  abbrev Beside : Live Dir → Type 0
+  abbrev pub Beside : Live Dir → Type 0
   Beside end = end ≡ with end.inclusion
 
   abbrev Only : Course Dir Fault (Live Dir) → Type 0
@@ -153,7 +153,7 @@ module _ {Dir : Type 0} (c : Fixed Dir) (st : Live Dir) where
   completes r (Some request) =
       artifact r st.inclusion (λ made now. bind (inc.answers c request made now) (λ now. Goes (inc.retains c r now))) (λ made i. (tt, refl))
 
-  ends : (handed : Option VerifiedLogs) (running : Option Job) → Only (inc.ends_verifying_in c handed st running)
+  pub ends : (handed : Option VerifiedLogs) (running : Option Job) → Only (inc.ends_verifying_in c handed st running)
   ends handed None = refl
   ends handed (Some job) = completes (inc.result_of c handed job) st.inclusion.waiter
 

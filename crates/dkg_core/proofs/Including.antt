@@ -146,10 +146,10 @@ module _ {Dir : Type 0} (c : Fixed Dir) (round : Round) (block : Block Dir) (st 
   is_observed = by_log (option_and_then its_log block.payload)
 
   -- The course touches the devices by one record at most.
-  abbrev Few : Option Held → Option Held → Type 0
+  abbrev pub Few : Option Held → Option Held → Type 0
   Few devices left = (left ≡ devices) ⊎ ((epoch : ℕ) × (bytes : List ℕ) × (left ≡ option_map (after (OnDisk (Appends (epoch, bytes)))) devices))
 
-  abbrev Never : Fault → Type 0
+  abbrev pub Never : Fault → Type 0
   Never fault = ⊥
 
   log_comes : (devices : Option Held) (log : SignedDealerLog) (accepted kept : Bool)
@@ -160,7 +160,7 @@ module _ {Dir : Type 0} (c : Fixed Dir) (round : Round) (block : Block Dir) (st 
   log_comes devices log true false = (refl, inr (round.number, event_spelling (log_event log.dealer block.height log.log), refl))
   log_comes devices log false kept = (refl, inl refl)
 
-  observes_comes : (devices : Option Held) (found : Option SignedDealerLog)
+  pub observes_comes : (devices : Option Held) (found : Option SignedDealerLog)
       → ComesOver Never (λ end left. (end ≡ observed_log c round block st found) × Few devices left) (b.observes c round block st found) devices
   observes_comes devices None = (refl, inl refl)
   observes_comes devices (Some log) = log_comes devices log (is_accepted c round log) (is_some (recorded_at st.records.logs round.number log.dealer))
@@ -214,11 +214,11 @@ module _ {Dir : Type 0} (c : Fixed Dir) (form : IsForm c) (stored : OfShares) (b
           let mine = live.stands.mine was.0 was.1 in
           (mine.0, same.round ∙ mine.1, as_before dealer was.0 was.2 mine.0 mine.2)
 
-  informed : IsInformed c (with_tip block mid)
+  pub informed : IsInformed c (with_tip block mid)
   informed = informed_as c st mid same.round same.current same.epoch live.informed
 
   -- what was asked is what it was: no dealing has changed
-  asked : (served : Option ℕ) → HasAsked c stored (over (record mid.inclusion { served = served }))
+  pub asked : (served : Option ℕ) → HasAsked c stored (over (record mid.inclusion { served = served }))
   asked served =
       let has = live.asked.has in
       asked_in c stored (with_tip block mid) (record mid.inclusion { served = served }) (same.stage ∙ includes)

@@ -225,7 +225,7 @@ module _ {Dir : Type 0} (c : Fixed Dir) (form : IsFormThrough c) (stored : OfSha
 
   -- A RESULT
 
-  handed_of : (handed : Option VerifiedLogs) → IsTakenThrough c (Sent (Work handed)) st → IsHanded c handed st
+  pub handed_of : (handed : Option VerifiedLogs) → IsTakenThrough c (Sent (Work handed)) st → IsHanded c handed st
   handed_of None taken r e = absurd (none_apart r e)
   handed_of (Some its) taken r e = λ job runs is.
       subst (λ (x : VerifiedLogs). InRound st (λ round. IsResultIn c round st x)) (some_is its r e) (taken job runs (subst (λ (x : VerifiedLogs). is_of_job x job ≡ true) (sym (some_is its r e)) is))

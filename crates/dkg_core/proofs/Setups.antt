@@ -123,7 +123,7 @@ over_under name stops goes (Goes end) devices comes = comes
 over_under name stops goes (Stops fault) devices comes = (fault, refl, comes)
 
 -- there are devices
-no_held : Held
+pub no_held : Held
 no_held = record { journaled = record { entries = []; plan = None; names = [] }; secrets = record { shares = empty; seeds = empty; privates = empty } }
 
 pub some_found : (devices : Option Held) → (h : Held) × Finds devices h

@@ -121,7 +121,7 @@ module _ {Dir : Type 0} (c : Fixed Dir) where
 
 module _ {Dir : Type 0} (c : Fixed Dir) (stored : OfShares) where
   -- of one that doesn't include nothing is asked but requests
-  early_has : (end : Live Dir) → end.inclusion.running ≡ None → end.inclusion.retained ≡ None → end.inclusion.cached ≡ None → end.inclusion.waiter ≡ None
+  pub early_has : (end : Live Dir) → end.inclusion.running ≡ None → end.inclusion.retained ≡ None → end.inclusion.cached ≡ None → end.inclusion.waiter ≡ None
       → ((end.participation.stage ≡ Includes → ⊥) → end.inclusion.served ≡ None) → (end.participation.stage ≡ Follows → end.inclusion.queue ≡ []) → HasAsked c stored end
   early_has end idle retained cached waiter served none = record {
     served = served;
@@ -134,7 +134,7 @@ module _ {Dir : Type 0} (c : Fixed Dir) (stored : OfShares) where
   }
 
   -- .. and what a life had that doesn't include, one with its inclusion has
-  still_has : (st end : Live Dir) → HasAsked c stored st → (st.participation.stage ≡ Includes → ⊥) → end.inclusion ≡ st.inclusion → end.participation.stage ≡ st.participation.stage → HasAsked c stored end
+  pub still_has : (st end : Live Dir) → HasAsked c stored st → (st.participation.stage ≡ Includes → ⊥) → end.inclusion ≡ st.inclusion → end.participation.stage ≡ st.participation.stage → HasAsked c stored end
   still_has st end has apart same stage =
       let early = has.early apart in
       let of : (P : Inclusion Dir → Type 0) → P st.inclusion → P end.inclusion = λ P p. subst P (sym same) p in

@@ -144,7 +144,7 @@ verified_is c finishing round st job its = subst (λ (x : Job). IsResultIn c rou
 abbrev pub IsHanded : {Dir : Type 0} → Fixed Dir → Option VerifiedLogs → Live Dir → Type 0
 IsHanded c handed st = (r : VerifiedLogs) → handed ≡ Some r → (job : Job) → st.inclusion.running ≡ Some job → is_of_job r job ≡ true → InRound st (λ round. IsResultIn c round st r)
 
-result_is : {Dir : Type 0} (c : Fixed Dir) (finishing : IsFinishing c) (round : Round) (st : Live Dir) (of_epoch : st.participation.round ≡ Some round) (job : Job) (handed : Option VerifiedLogs)
+pub result_is : {Dir : Type 0} (c : Fixed Dir) (finishing : IsFinishing c) (round : Round) (st : Live Dir) (of_epoch : st.participation.round ≡ Some round) (job : Job) (handed : Option VerifiedLogs)
     → IsJobIn c round st job → st.inclusion.running ≡ Some job → IsHanded c handed st → IsResultIn c round st (result_of c handed job)
 result_is c finishing round st of_epoch job None its runs taken = verified_is c finishing round st job its
 result_is c finishing round st of_epoch job (Some r) its runs taken = either (is_of_job r job) refl

@@ -174,7 +174,10 @@ pub record IsReadOn {Dir : Type 0} (c : Fixed Dir) (stored : OfShares) (st end :
 
 -- REQUESTS ARE READ until one needs more, none is left, or a verification runs. It stops where the next info can't be made alone, and touches no device: it
 -- reads them by a retained result alone.
-abbrev pub AdvancesLead : Type 0 → Type 1
-AdvancesLead Dir = (c : Fixed Dir) (stored : OfShares) (st : Live Dir) (devices : Option Held) → IsForm c
+abbrev pub AdvancesLeadAt : {Dir : Type 0} → Fixed Dir → OfShares → Type 0
+AdvancesLeadAt {Dir} c stored = (st : Live Dir) (devices : Option Held) → IsForm c
     → ((r : VerifiedLogs) → st.inclusion.retained ≡ Some r → Reads c stored devices) → IsInformed c st → HasAsked c stored st
     → ComesOver (IsAskStop c st) (λ end left. (left ≡ devices) × IsReadOn c stored st end) (advanced c st) devices
+
+abbrev pub AdvancesLead : Type 0 → Type 1
+AdvancesLead Dir = (c : Fixed Dir) (stored : OfShares) → AdvancesLeadAt c stored

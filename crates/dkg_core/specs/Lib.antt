@@ -37,8 +37,10 @@ pub mod Probes
 pub mod Probing
 pub mod Said
 pub mod Same
+pub mod SayingThrough
 pub mod Seen
 pub mod Setup
+pub mod SharesMoved
 pub mod Sources
 pub mod Spared
 pub mod Splitting

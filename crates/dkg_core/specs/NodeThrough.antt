@@ -24,8 +24,11 @@ use Rattle.dkg_core.specs.Through.{IsFormThrough, IsLiveThrough, IsTakenThrough,
 -- OPENINGS
 
 -- A life that an opening leaves is one that passes through whole epochs.
+abbrev pub OpeningsThroughAt : {Dir : Type 0} → Fixed Dir → OfShares → Type 0
+OpeningsThroughAt {Dir} c stored = (seen : Seen) (k : Held) (st : Live Dir) → IsForm c → IsOpened c seen k st → IsLiveThrough c stored st
+
 abbrev pub OpeningsThrough : Type 0 → Type 1
-OpeningsThrough Dir = (c : Fixed Dir) (stored : OfShares) (seen : Seen) (k : Held) (st : Live Dir) → IsForm c → IsOpened c seen k st → IsLiveThrough c stored st
+OpeningsThrough Dir = (c : Fixed Dir) (stored : OfShares) → OpeningsThroughAt c stored
 
 -- The orchestrator's half waits for nothing, and its fence is open: it halted, or it has entered the awaited epoch of a life that takes part.
 pub record IsActiveThrough {Dir : Type 0} (st : Live Dir) : Type 0 where
@@ -33,8 +36,11 @@ pub record IsActiveThrough {Dir : Type 0} (st : Live Dir) : Type 0 where
   pub unclosed : st.orchestrator.fence.closed ≡ false
 
 -- .. and so it is of a node's opening.
+abbrev pub NodeOpeningsThroughAt : {Dir : Type 0} → Fixed Dir → OfShares → Type 0
+NodeOpeningsThroughAt {Dir} c stored = (seen : Seen) (k : Held) (st : Live Dir) → IsForm c → IsNodeBegun c seen k st → IsLiveThrough c stored st × IsActiveThrough st
+
 abbrev pub NodeOpeningsThrough : Type 0 → Type 1
-NodeOpeningsThrough Dir = (c : Fixed Dir) (stored : OfShares) (seen : Seen) (k : Held) (st : Live Dir) → IsForm c → IsNodeBegun c seen k st → IsLiveThrough c stored st × IsActiveThrough st
+NodeOpeningsThrough Dir = (c : Fixed Dir) (stored : OfShares) → NodeOpeningsThroughAt c stored
 
 -- THE ORCHESTRATOR'S HALF of the last block of the entered epoch never stops where the next one is ready and its scheme registered, where the block carries that
 -- epoch's info, and directories lack nobody: it enters that epoch and acknowledges the block.
@@ -63,10 +69,13 @@ pub record IsNodeThrough {Dir : Type 0} (c : Fixed Dir) (stored : OfShares) (st 
   pub active : IsActiveThrough end
 
 -- A NODE'S STEP stops by the faults of its reshare half alone; or it leaves such a life, whose orchestrator waits for nothing.
-abbrev pub NodeStepsComeThrough : Type 0 → Type 1
-NodeStepsComeThrough Dir = (c : Fixed Dir) (stored : OfShares) (st : Live Dir) (message : Message Dir) (devices : Option Held) → IsFormThrough c → LacksNobody c → StepReads c stored devices
+abbrev pub NodeStepsComeThroughAt : {Dir : Type 0} → Fixed Dir → OfShares → Type 0
+NodeStepsComeThroughAt {Dir} c stored = (st : Live Dir) (message : Message Dir) (devices : Option Held) → IsFormThrough c → LacksNobody c → StepReads c stored devices
     → IsTakenThrough c message st → IsLiveThrough c stored st → IsActiveThrough st
     → ComesOver (IsFaultBy (IsStopThrough c stored st message devices)) (IsNodeThrough c stored st message devices) (node_step c (event_of message) st) devices
+
+abbrev pub NodeStepsComeThrough : Type 0 → Type 1
+NodeStepsComeThrough Dir = (c : Fixed Dir) (stored : OfShares) → NodeStepsComeThroughAt c stored
 
 -- .. whatever is read
 abbrev pub NodeStepsLeadThrough : Type 0 → Type 0

@@ -227,9 +227,12 @@ abbrev pub StepReads : {Dir : Type 0} → Fixed Dir → OfShares → Option Held
 StepReads c stored devices = (h : Held) (epoch : ℕ) → FindsOn devices h → stored epoch (lookup epoch (c.seen h).shares)
 
 -- ANY STEP stops by these faults alone, or leaves such a life.
-abbrev pub StepsComeThrough : Type 0 → Type 1
-StepsComeThrough Dir = (c : Fixed Dir) (stored : OfShares) (st : Live Dir) (message : Message Dir) (devices : Option Held) → IsFormThrough c → StepReads c stored devices
+abbrev pub StepsComeThroughAt : {Dir : Type 0} → Fixed Dir → OfShares → Type 0
+StepsComeThroughAt {Dir} c stored = (st : Live Dir) (message : Message Dir) (devices : Option Held) → IsFormThrough c → StepReads c stored devices
     → IsTakenThrough c message st → IsLiveThrough c stored st → ComesOver (IsStopThrough c stored st message devices) (IsNextThrough c stored st message devices) (step c message st) devices
+
+abbrev pub StepsComeThrough : Type 0 → Type 1
+StepsComeThrough Dir = (c : Fixed Dir) (stored : OfShares) → StepsComeThroughAt c stored
 
 -- .. whatever is read
 abbrev pub StepsLeadThrough : Type 0 → Type 0
@@ -260,6 +263,9 @@ pub record IsStillThrough {Dir : Type 0} (st end : Live Dir) : Type 0 where
   pub probe : end.probe ≡ st.probe
 
 -- THE SAME LIFE GOES ON, where no epoch is passed on.
-abbrev pub NextLivesStayThrough : Type 0 → Type 1
-NextLivesStayThrough Dir = (c : Fixed Dir) (stored : OfShares) (st : Live Dir) (message : Message Dir) (devices : Option Held) (end : Live Dir) (left : Option Held) → PassesNothingOn c st message
+abbrev pub NextLivesStayThroughAt : {Dir : Type 0} → Fixed Dir → OfShares → Type 0
+NextLivesStayThroughAt {Dir} c stored = (st : Live Dir) (message : Message Dir) (devices : Option Held) (end : Live Dir) (left : Option Held) → PassesNothingOn c st message
     → IsNextThrough c stored st message devices end left → IsStillThrough st end
+
+abbrev pub NextLivesStayThrough : Type 0 → Type 1
+NextLivesStayThrough Dir = (c : Fixed Dir) (stored : OfShares) → NextLivesStayThroughAt c stored

@@ -15,6 +15,7 @@ ghost use Rattle.dkg_core.specs.Behind.{OpeningsRunBehind, OpeningsSayBehind, St
 ghost use Rattle.dkg_core.specs.Enduring.{OpeningsEndure, StepsGiveBack, StepsKeep};
 ghost use Rattle.dkg_core.specs.Entry.{EntersRegistered, LastBlocksAreEntered};
 ghost use Rattle.dkg_core.specs.Finishing.{StandInsFinish};
+ghost use Rattle.dkg_core.specs.Fixed.{Fixed};
 ghost use Rattle.dkg_core.specs.Forms.{HalvesBegin, NodeOpeningsLead, NodeOpeningsLeadOver, OpeningsLead, OpeningsLeadOver, SetupsComeTo, SetupsStore};
 ghost use Rattle.dkg_core.specs.Heard.{OpeningsKeep, OpeningsRestore, PeersAgree, PeersAreKept, RunsAreKept, SetupsKeep};
 ghost use Rattle.dkg_core.specs.Joining.{JoinsTrack, ProbesJoin};
@@ -30,6 +31,12 @@ ghost use Rattle.dkg_core.specs.Storing.{NodeOpeningsKeepSecrets, NodeStepsKeepS
 ghost use Rattle.dkg_core.specs.Offering.{NodeOffersAreDealt, OffersAreDealt};
 ghost use Rattle.dkg_core.specs.Stepping.{CommitsAreRead, HalvesGoOn, NextLivesStay, NodeStepsLead, NodeStepsLeadOver, StepsLead, StepsLeadOver};
 ghost use Rattle.dkg_core.specs.BlocksKept.{BlocksKeep, NodeStepsKeepNotes, NodeStepsKeepPlans, NodeStepsSpareTheirLogs};
+ghost use Rattle.dkg_core.specs.Asked.{AdvancesLeadAt, read_somewhere};
+ghost use Rattle.dkg_core.specs.Idle.{MailsAreIdle};
+ghost use Rattle.dkg_core.specs.LogsRecorded.{NodeStepsRecordLogs};
+ghost use Rattle.dkg_core.specs.NodeThrough.{HalvesPassOn, NodeOpeningsThroughAt, NodeStepsComeThroughAt, OpeningsThroughAt};
+ghost use Rattle.dkg_core.specs.SharesMoved.{BlocksMoveSharesAt};
+ghost use Rattle.dkg_core.specs.Through.{NextLivesStayThroughAt, SetupsComeThrough, StepsComeThroughAt};
 ghost use Rattle.dkg_core.specs.Transcripts.{OpeningsAreQuiet, RunsAddDeeds, StepsAreQuiet, TranscriptsMove};
 
 /// A peer's message records a valid dealing of its sender under a new key alone, behind its private half, and acknowledges only
@@ -429,4 +436,63 @@ pub fn node_steps_keep_notes<Dir>()
 /// At every exit of a node's step the plan is as it was.
 pub fn node_steps_keep_plans<Dir>()
     ensures { NodeStepsKeepPlans Dir }
+{}
+
+/// A setup of a life that has nothing of requests stops by its faults alone, or leaves such a life; which requests were used, and what they were told, stays.
+pub fn setups_come_through<Dir>()
+    ensures { SetupsComeThrough Dir }
+{}
+
+/// Requests are read until one needs more, none is left, or a verification runs: so no request is left unread while inclusion runs none, and a
+/// verification starts exactly where the logs that were found have neither a cached artifact nor a retained result.
+pub fn advances_lead<Dir>()
+    ensures { (c : Fixed Dir) → AdvancesLeadAt c (read_somewhere c) }
+{}
+
+/// In a life that passes through whole epochs any step stops by these faults alone, each of which has its cause; or it leaves such a life.
+pub fn steps_come_through<Dir>()
+    ensures { (c : Fixed Dir) → StepsComeThroughAt c (read_somewhere c) }
+{}
+
+/// The life that an opening leaves is one that passes through whole epochs.
+pub fn openings_through<Dir>()
+    ensures { (c : Fixed Dir) → OpeningsThroughAt c (read_somewhere c) }
+{}
+
+/// So is that of a node's opening, whose orchestrator waits for nothing.
+pub fn node_openings_through<Dir>()
+    ensures { (c : Fixed Dir) → NodeOpeningsThroughAt c (read_somewhere c) }
+{}
+
+/// At the last block of the entered epoch the orchestrator's half enters the next one, which is ready and registered, and acknowledges the block.
+pub fn halves_pass_on<Dir>()
+    ensures { HalvesPassOn Dir }
+{}
+
+/// In a life that passes through whole epochs a node's step stops by the faults of its reshare half alone, or leaves such a life, whose orchestrator
+/// waits for nothing.
+pub fn node_steps_come_through<Dir>()
+    ensures { (c : Fixed Dir) → NodeStepsComeThroughAt c (read_somewhere c) }
+{}
+
+/// Where no epoch is passed on, the life that a step leaves awaits the same epoch, in the same round and seat, by the same info.
+pub fn next_lives_stay_through<Dir>()
+    ensures { (c : Fixed Dir) → NextLivesStayThroughAt c (read_somewhere c) }
+{}
+
+/// Mail but a peer's touches no device, and says what requests are answered alone.
+pub fn mails_are_idle<Dir>()
+    ensures { MailsAreIdle Dir }
+{}
+
+/// At every exit of a node's step the devices give back the logs that they gave back, of the epochs that the step prunes nothing of, but for one:
+/// that of an included block, of a dealer that had none.
+pub fn node_steps_record_logs<Dir>()
+    ensures { NodeStepsRecordLogs Dir }
+{}
+
+/// At every exit of a node's step that takes a block while including, each share is what it was, of the epochs that the step prunes nothing of, but
+/// for the artifact's: the share of the canonical logs' next info, where the block carries that.
+pub fn blocks_move_shares<Dir>()
+    ensures { (c : Fixed Dir) → BlocksMoveSharesAt c (read_somewhere c) }
 {}

@@ -271,17 +271,17 @@ message_in g other form = absurd form
 pub step_taken : (g : Lived) (its : Event) (message : Message directory.Unit) → Brings g its message → (c : Fixed directory.Unit) (st : Live directory.Unit) → IsTakenThrough c message st
 step_taken g its message brings c st = by_event its brings
   where
-    as : (other : Message directory.Unit) → message ≡ other → IsTakenThrough c other st → IsTakenThrough c message st
-    as other is taken = subst (λ (m : Message directory.Unit). IsTakenThrough c m st) (sym is) taken
+    turned : (other : Message directory.Unit) → message ≡ other → IsTakenThrough c other st → IsTakenThrough c message st
+    turned other is taken = subst (λ (m : Message directory.Unit). IsTakenThrough c m st) (sym is) taken
 
     by_event : (e : Event) → Brings g e message → IsTakenThrough c message st
-    by_event (event.Peer from bytes) brings = as (Sent (Peer from bytes)) brings tt
-    by_event (event.Final number) brings = as (Finalized (brings.0).block) brings.1 tt
-    by_event (event.Next request height) brings = as (Sent (NextLog request height)) brings tt
-    by_event (event.Release height) brings = as (Sent (ReleaseLog height)) brings tt
-    by_event (event.Info request) brings = as (Sent (EpochInfoOf request)) brings tt
-    by_event (event.Feed request number) brings = as (Sent (Feed request (brings.0).block)) brings.1 tt
-    by_event (event.Over request) brings = as (Sent (Over request)) brings tt
-    by_event (event.Cancel request) brings = as (Sent (Cancel request)) brings tt
-    by_event event.Work brings = as (Sent (Work None)) brings tt
+    by_event (event.Peer from bytes) brings = turned (Sent (Peer from bytes)) brings tt
+    by_event (event.Final number) brings = turned (Finalized (brings.0).block) brings.1 tt
+    by_event (event.Next request height) brings = turned (Sent (NextLog request height)) brings tt
+    by_event (event.Release height) brings = turned (Sent (ReleaseLog height)) brings tt
+    by_event (event.Info request) brings = turned (Sent (EpochInfoOf request)) brings tt
+    by_event (event.Feed request number) brings = turned (Sent (Feed request (brings.0).block)) brings.1 tt
+    by_event (event.Over request) brings = turned (Sent (Over request)) brings tt
+    by_event (event.Cancel request) brings = turned (Sent (Cancel request)) brings tt
+    by_event event.Work brings = turned (Sent (Work None)) brings tt
     by_event other brings = absurd brings
