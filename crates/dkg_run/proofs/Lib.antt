@@ -8,6 +8,7 @@ pub mod Behind
 pub mod Below
 pub mod Blaming
 pub mod BlocksLeave
+pub mod BlockLogs
 pub mod BlocksMade
 pub mod Causing
 pub mod Chaining
@@ -59,6 +60,7 @@ pub mod LivesStand
 pub mod Living
 pub mod LogsFit
 pub mod MarksAt
+pub mod Marked
 pub mod Naming
 pub mod NextLives
 pub mod NoOthers
