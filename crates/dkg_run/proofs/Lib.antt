@@ -1,5 +1,6 @@
 pub mod Alone
 pub mod Asked
+pub mod AwaitedRises
 pub mod Awaiting
 pub mod Begun
 pub mod BegunRounds
@@ -14,7 +15,6 @@ pub mod Chaining
 pub mod Checked
 pub mod ClearLives
 pub mod Completing
-pub mod Finishing
 pub mod Currently
 pub mod CutLives
 pub mod DealersStay
@@ -28,6 +28,7 @@ pub mod EndsTold
 pub mod Entering
 pub mod FewPlayers
 pub mod Finding
+pub mod Finishing
 pub mod FitsBrought
 pub mod FitsOwn
 pub mod FitsRead
@@ -42,8 +43,11 @@ pub mod GivingWhole
 pub mod Going
 pub mod Heard
 pub mod HeightsRise
+pub mod Idle
 pub mod InPlace
 pub mod Keeping
+pub mod KeptOpenings
+pub mod KeptSteps
 pub mod Knowing
 pub mod Lasting
 pub mod LaterRecords
@@ -67,7 +71,6 @@ pub mod OfferingLives
 pub mod OfferingRuns
 pub mod OfferingSame
 pub mod Opened
-pub mod KeptOpenings
 pub mod Opening
 pub mod OpeningsLeave
 pub mod OpeningsStore
@@ -88,7 +91,6 @@ pub mod Recorded
 pub mod RecordsFound
 pub mod Refusing
 pub mod Reported
-pub mod AwaitedRises
 pub mod RunKept
 pub mod Running
 pub mod Runs
@@ -106,7 +108,6 @@ pub mod Starting
 pub mod Stepping
 pub mod Steps
 pub mod StepsOn
-pub mod KeptSteps
 pub mod Stood
 pub mod StoredDealers
 pub mod StoredFound
