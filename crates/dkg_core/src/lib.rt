@@ -35,6 +35,7 @@ ghost use Rattle.dkg_core.specs.Asked.{AdvancesLeadAt, read_somewhere};
 ghost use Rattle.dkg_core.specs.Idle.{MailsAreIdle};
 ghost use Rattle.dkg_core.specs.LogsRecorded.{NodeStepsRecordLogs};
 ghost use Rattle.dkg_core.specs.NodeThrough.{HalvesPassOn, NodeOpeningsThroughAt, NodeStepsComeThroughAt, OpeningsThroughAt};
+ghost use Rattle.dkg_core.specs.SayingThrough.{StepsSayThroughAt};
 ghost use Rattle.dkg_core.specs.SharesMoved.{BlocksMoveSharesAt};
 ghost use Rattle.dkg_core.specs.Through.{NextLivesStayThroughAt, SetupsComeThrough, StepsComeThroughAt};
 ghost use Rattle.dkg_core.specs.Transcripts.{OpeningsAreQuiet, RunsAddDeeds, StepsAreQuiet, TranscriptsMove};
@@ -495,4 +496,10 @@ pub fn node_steps_record_logs<Dir>()
 /// for the artifact's: the share of the canonical logs' next info, where the block carries that.
 pub fn blocks_move_shares<Dir>()
     ensures { (c : Fixed Dir) → BlocksMoveSharesAt c (read_somewhere c) }
+{}
+
+/// Whatever is read: each answer of a step is that of a request that it reads, by the logs that were found or what lacks, or of the one that waited for
+/// the verification that ended, or the last block finished it; and what it tells as committed is the carried info's share.
+pub fn steps_say_through<Dir>()
+    ensures { (c : Fixed Dir) → StepsSayThroughAt c (read_somewhere c) }
 {}
