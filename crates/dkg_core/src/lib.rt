@@ -33,7 +33,8 @@ ghost use Rattle.dkg_core.specs.Stepping.{CommitsAreRead, HalvesGoOn, NextLivesS
 ghost use Rattle.dkg_core.specs.BlocksKept.{BlocksKeep, NodeStepsKeepNotes, NodeStepsKeepPlans, NodeStepsSpareTheirLogs};
 ghost use Rattle.dkg_core.specs.Asked.{AdvancesLeadAt, read_somewhere};
 ghost use Rattle.dkg_core.specs.Idle.{MailsAreIdle};
-ghost use Rattle.dkg_core.specs.LogsRecorded.{NodeStepsRecordLogs};
+ghost use Rattle.dkg_core.specs.LogsRecorded.{NodeStepsRecordLogs, ObservesFirst, ObservesNothingElse};
+ghost use Rattle.dkg_core.specs.NodeSaying.{NodeStepsSayThroughAt};
 ghost use Rattle.dkg_core.specs.NodeThrough.{HalvesPassOn, NodeOpeningsThroughAt, NodeStepsComeThroughAt, OpeningsThroughAt};
 ghost use Rattle.dkg_core.specs.SayingThrough.{StepsSayThroughAt};
 ghost use Rattle.dkg_core.specs.SharesMoved.{BlocksMoveSharesAt};
@@ -502,4 +503,19 @@ pub fn blocks_move_shares<Dir>()
 /// the verification that ended, or the last block finished it; and what it tells as committed is the carried info's share.
 pub fn steps_say_through<Dir>()
     ensures { (c : Fixed Dir) → StepsSayThroughAt c (read_somewhere c) }
+{}
+
+/// So it is of a node's step, whose orchestrator's half says that an epoch is entered, that it halted, or that a block is acknowledged.
+pub fn node_steps_say_through<Dir>()
+    ensures { (c : Fixed Dir) → NodeStepsSayThroughAt c (read_somewhere c) }
+{}
+
+/// The first log of a dealer that counts in the round stays recorded, with the height of the block that brought it first.
+pub fn observes_first<Dir>()
+    ensures { ObservesFirst Dir }
+{}
+
+/// A look at a block's log changes what is recorded of no other dealer and epoch.
+pub fn observes_nothing_else<Dir>()
+    ensures { ObservesNothingElse Dir }
 {}
