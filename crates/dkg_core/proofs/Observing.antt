@@ -67,11 +67,11 @@ module _ {Dir : Type 0} (c : Fixed Dir) (round : Round) (block : Block Dir) (st 
         ∙ first_in (recorded_at st.records.logs round.number log.dealer) refl
     first_so false is = absurd (let no : ◌≡◌ {A = Bool} false true = is in cc)
 
-    other_in : (kept : Bool) (epoch dealer : ℕ) → ((epoch, dealer) ≡ its_key → ⊥) → recorded_at (looked kept).records.logs epoch dealer ≡ recorded_at st.records.logs epoch dealer
+    other_in : (kept : Bool) (epoch dealer : ℕ) → (◌≡◌ {A = ℕ × ℕ} (epoch, dealer) its_key → ⊥) → recorded_at (looked kept).records.logs epoch dealer ≡ recorded_at st.records.logs epoch dealer
     other_in true epoch dealer apart = refl
     other_in false epoch dealer apart = put_other st.records.logs its_key now_recorded (epoch, dealer) apart
 
-    other_so : (accepted : Bool) (epoch dealer : ℕ) → (accepted ≡ true → (epoch, dealer) ≡ its_key → ⊥)
+    other_so : (accepted : Bool) (epoch dealer : ℕ) → (accepted ≡ true → ◌≡◌ {A = ℕ × ℕ} (epoch, dealer) its_key → ⊥)
         → recorded_at (if accepted then b.without_own_log c log.dealer (looked (is_some (recorded_at st.records.logs round.number log.dealer))) else st).records.logs epoch dealer
         ≡ recorded_at st.records.logs epoch dealer
     other_so true epoch dealer apart =
@@ -86,7 +86,7 @@ module _ {Dir : Type 0} (c : Fixed Dir) (round : Round) (block : Block Dir) (st 
       subst (λ (x : SignedDealerLog). recorded_at (observed_log c round block st (Some x)).records.logs round.number log.dealer
       ≡ Some (first_of_both (recorded_at st.records.logs round.number log.dealer) (recorded_log block.height log.log))) (sym (some_is its log is)) (first_so log (is_accepted c round log) accepted)
 
-  other_log : (found : Option SignedDealerLog) (epoch dealer : ℕ) → ((log : SignedDealerLog) → found ≡ Some log → is_accepted c round log ≡ true → (epoch, dealer) ≡ (round.number, log.dealer) → ⊥)
+  other_log : (found : Option SignedDealerLog) (epoch dealer : ℕ) → ((log : SignedDealerLog) → found ≡ Some log → is_accepted c round log ≡ true → ◌≡◌ {A = ℕ × ℕ} (epoch, dealer) (round.number, log.dealer) → ⊥)
       → recorded_at (observed_log c round block st found).records.logs epoch dealer ≡ recorded_at st.records.logs epoch dealer
   other_log None epoch dealer apart = refl
   other_log (Some log) epoch dealer apart = other_so log (is_accepted c round log) epoch dealer (λ accepted. apart log refl accepted)

@@ -61,5 +61,5 @@ ObservesFirst Dir = (c : Fixed Dir) (round : Round) (b : Block Dir) (st : Live D
 -- .. and of no other dealer and epoch anything changes.
 abbrev pub ObservesNothingElse : Type 0 → Type 0
 ObservesNothingElse Dir = (c : Fixed Dir) (round : Round) (b : Block Dir) (st : Live Dir) (epoch dealer : ℕ)
-    → ((log : SignedDealerLog) → option_and_then its_log b.payload ≡ Some log → is_accepted c round log ≡ true → (epoch, dealer) ≡ (round.number, log.dealer) → ⊥)
+    → ((log : SignedDealerLog) → option_and_then its_log b.payload ≡ Some log → is_accepted c round log ≡ true → ◌≡◌ {A = ℕ × ℕ} (epoch, dealer) (round.number, log.dealer) → ⊥)
     → recorded_at (observed c round b st).records.logs epoch dealer ≡ recorded_at st.records.logs epoch dealer

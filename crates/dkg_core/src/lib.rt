@@ -37,7 +37,7 @@ ghost use Rattle.dkg_core.specs.LogsRecorded.{NodeStepsRecordLogs, ObservesFirst
 ghost use Rattle.dkg_core.specs.NodeSaying.{NodeStepsSayThroughAt};
 ghost use Rattle.dkg_core.specs.NodeThrough.{HalvesPassOn, NodeOpeningsThroughAt, NodeStepsComeThroughAt, OpeningsThroughAt};
 ghost use Rattle.dkg_core.specs.SayingThrough.{StepsSayThroughAt};
-ghost use Rattle.dkg_core.specs.SharesMoved.{BlocksMoveSharesAt};
+ghost use Rattle.dkg_core.specs.SharesMoved.{BlocksMoveSharesAt, NodeStepsSpareShares};
 ghost use Rattle.dkg_core.specs.Through.{NextLivesStayThroughAt, SetupsComeThrough, StepsComeThroughAt};
 ghost use Rattle.dkg_core.specs.Transcripts.{OpeningsAreQuiet, RunsAddDeeds, StepsAreQuiet, TranscriptsMove};
 
@@ -518,4 +518,9 @@ pub fn observes_first<Dir>()
 /// A look at a block's log changes what is recorded of no other dealer and epoch.
 pub fn observes_nothing_else<Dir>()
     ensures { ObservesNothingElse Dir }
+{}
+
+/// At every exit of a node's step that passes no epoch on, each share that was stored is stored, of the epochs that the step prunes nothing of.
+pub fn node_steps_spare_shares<Dir>()
+    ensures { NodeStepsSpareShares Dir }
 {}
