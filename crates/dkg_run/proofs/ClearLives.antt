@@ -22,7 +22,7 @@ use Rattle.dkg_text.specs.declared.script.Event.{Event}
 use Rattle.dkg_text.specs.declared.script.Event.TheVariants as event
 use Rattle.dkg_text.specs.declared.script.Life.{Life}
 use Rattle.dkg_script.specs.Blocks.{round_at}
-use Rattle.dkg_script.specs.Epochs.{IsFormOfEpochs}
+use Rattle.dkg_script.specs.Inclusion.{IsFormOfInclusion}
 use Rattle.dkg_script.specs.Setting.{CutAt, Setting, found, life_at, me}
 use Rattle.dkg_store.specs.Acts.{Changes, Ended, Held, World, after, broken, notes, stopped, went}
 use Rattle.dkg_store.specs.Pairs.{IsWhole, Pairs, recovered}
@@ -48,7 +48,7 @@ use Rattle.dkg_run.specs.Epochs.{IsLifeInForm}
 use Rattle.dkg_run.specs.Given.{AreBytes, Lived, at_step, blocks_in, lived, step_of}
 use Rattle.dkg_run.specs.GivesBack.{PassesAll}
 use Rattle.dkg_run.specs.Lives.{LivesSo}
-use Rattle.dkg_script.specs.Valid.{ComesInTurn, IsValidCase}
+use Rattle.dkg_script.specs.Valid.{ComesInTurn, ProvidesNext, IsValidCase}
 use Rattle.dkg_run.specs.Ways.{by_worlds}
 use Rattle.dkg_run.proofs.Awaiting.{IsReached}
 use Rattle.dkg_run.proofs.Blaming.{Stood, at_there, opened_stood, step_next, step_why}
@@ -117,7 +117,7 @@ module _ (c : Fixed directory.Unit) (info : EpochInfo directory.Unit) (h : Held)
       by_share None such = seeded h fits
       by_share (Some share) such = seeded (with_share info.epoch (Some share) h) (share_put (IsMineAt s) h (with_share info.epoch (Some share) h) info.epoch share such refl fits)
 
-module _ (s : Setting) (ends : List (Option CutAt)) (valid : IsValidCase s ends) (form : IsFormOfEpochs s.script) (bytes : AreBytes s.script.blocks) (unfound : (l : ℕ) → found s l ≡ None) where
+module _ (s : Setting) (ends : List (Option CutAt)) (valid : IsValidCase s ends) (form : IsFormOfInclusion s.script) (bytes : AreBytes s.script.blocks) (unfound : (l : ℕ) → found s l ≡ None) where
   -- whole devices give back dealings that pass, own ones that the secrets deal, and hold shares that fit
   pub record HoldsAll (h : Held) : Type 0 where
     pub given : ValidHeld s ends form valid.consistent h
@@ -141,10 +141,13 @@ module _ (s : Setting) (ends : List (Option CutAt)) (valid : IsValidCase s ends)
     in_turn : ComesInTurn s l life
     in_turn = subst (λ (o : Option Life). IfSome o (ComesInTurn s l)) life_is (valid.in_turn l begun)
 
+    provides : ProvidesNext s l life
+    provides = subst (λ (o : Option Life). IfSome o (ProvidesNext s l)) life_is (valid.provided l begun)
+
     -- no step that is reached has a cause in the script
     cause_clear : (step : ℕ) → IsReached life.cut step → ((i : ℕ) → i < step → (e : Event) × (slice_get life.events i ≡ Some e)) → (its : Fault) → IsCause s.script l life step its → ⊥
     cause_clear step reached all its why =
-        valid_clear s ends valid form bytes here.long l life life_is here.anchor (life_in g here).no_sync (unfound l) (life_in g here).events in_turn step reached all its why
+        valid_clear s ends valid form bytes here.long l life life_is here.anchor (life_in g here).no_sync (unfound l) (life_in g here).events in_turn provides step reached all its why
 
     -- A STATE behind the first j events
     pub record IsClearAt (j : ℕ) (st : Live directory.Unit) (h : Held) : Type 0 where

@@ -20,7 +20,7 @@ use Rattle.dkg_text.specs.declared.script.Event.{Event}
 use Rattle.dkg_text.specs.declared.script.Life.{Life}
 use Rattle.dkg_text.specs.declared.script.Script.{Script}
 use Rattle.dkg_script.specs.Ends.{EndsInFault, EndsWell}
-use Rattle.dkg_script.specs.Epochs.{IsFormOfEpochs}
+use Rattle.dkg_script.specs.Inclusion.{IsFormOfInclusion}
 use Rattle.dkg_script.specs.Setting.{recovered_from}
 use Rattle.dkg_store.specs.Acts.{Cause, Ended, Held, World, at, broken, moment, notes, stopped, went}
 use Rattle.dkg_core.specs.Courses.{Course, EndsSo}
@@ -161,7 +161,7 @@ module _ (g : Lived) (here : IsLifeInForm g) where
 
 -- ALL LIVES
 
-module _ (script : Script) (form : IsFormOfEpochs script) (checked : IsChecked script) where
+module _ (script : Script) (form : IsFormOfInclusion script) (checked : IsChecked script) where
   abbrev ShowsEnd : Result (Unit {0}) Fault → Held → Type 0
   ShowsEnd result h = IfErr result (Shows script h)
 

@@ -21,7 +21,7 @@ use Rattle.dkg_secrets.specs.declared.secrets.SecretOp.TheVariants.{Prune}
 use Rattle.dkg_types.specs.declared.entry.Entry.{Entry as Line}
 use Rattle.dkg_types.specs.declared.info.EpochInfo.{EpochInfo}
 use Rattle.dkg_script.specs.Blocks.{known_info, reshare_round, round_at}
-use Rattle.dkg_script.specs.Epochs.{IsFormOfEpochs}
+use Rattle.dkg_script.specs.Inclusion.{IsFormOfInclusion}
 use Rattle.dkg_script.specs.Readings.{Info}
 use Rattle.dkg_script.specs.Setting.{Setting, me}
 use Rattle.dkg_store.specs.Acts.{Cause, Changes, Ended, Held, OnDisk, Tears, World, does, notes, says}
@@ -67,7 +67,7 @@ of_answer : {T E : Type 0} (P : T → Type 0) (r : Result T E) (t : T) → IfOk 
 of_answer P (Ok x) t so is = subst P (let same : x ≡ t = cc in same) so
 of_answer {T} {E} P (Err e) t so is = absurd (let no : ◌≡◌ {A = Result T E} (Err e) (Ok t) = is in cc)
 
-module _ (s : Setting) (form : IsFormOfEpochs s.script) where
+module _ (s : Setting) (form : IsFormOfInclusion s.script) where
   round_is : (epoch : ℕ) → round_at s epoch ≡ option_and_then (reshare_round s epoch) (known_info s epoch)
   unfolding round_at
   round_is epoch = rw form.reshares refl

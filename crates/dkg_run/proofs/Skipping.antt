@@ -19,13 +19,13 @@ use Rattle.dkg_text.specs.declared.script.Life.{Life}
 use Rattle.dkg_text.specs.declared.script.Script.{Script}
 use Rattle.dkg_script.specs.AsCut.{as_cut, setting_as_cut}
 use Rattle.dkg_script.specs.Consistent.{IsConsistentScript}
-use Rattle.dkg_script.specs.Epochs.{IsFormOfEpochs}
+use Rattle.dkg_script.specs.Inclusion.{IsFormOfInclusion}
 use Rattle.dkg_script.specs.Order.{Begins, InLife, IsInOrder}
 use Rattle.dkg_script.specs.Progress.{Progress, at_start, progress, read}
 use Rattle.dkg_script.specs.Promise.{cuts_in}
 use Rattle.dkg_script.specs.Setting.{CutAt, Setting, found, life_at, setting_of}
 use Rattle.dkg_script.proofs.EachEntry.{progress-more}
-use Rattle.dkg_script.proofs.EpochsAsCut.{epochs_as_cut}
+use Rattle.dkg_script.proofs.InclusionAsCut.{inclusion_as_cut}
 use Rattle.dkg_run.specs.Blamed.{IsBlockCause, IsBlockOwn, IsFromOutside, IsNextCause, IsOpeningCause, IsOwnCause, IsOwnDealing, IsWhy, IsWhyNow, OnBlock, OnCarried, first_epoch_in, is_beyond, next_epoch, opening_block, refusal_in}
 use Rattle.dkg_run.specs.Epochs.{IsAnchorAbove, IsChecked}
 use Rattle.dkg_run.specs.Given.{AreBytes, blocks_in}
@@ -139,7 +139,7 @@ reached_before : (its : Option Cut) (j : ℕ) → IsReached its (suc j) → IsRe
 reached_before None j reached = tt
 reached_before (Some cut) j reached = λ none. let more : suc j < cut.step = reached none in omega (arith, more)
 
-module _ (s : Setting) (ends : List (Option CutAt)) (form : IsFormOfEpochs s.script) (bytes : AreBytes s.script.blocks) (no_plans : s.plans ≡ []) (consistent : IsConsistentScript s ends) where
+module _ (s : Setting) (ends : List (Option CutAt)) (form : IsFormOfInclusion s.script) (bytes : AreBytes s.script.blocks) (no_plans : s.plans ≡ []) (consistent : IsConsistentScript s ends) where
   life_skips : (l : ℕ) (life : Life) → life_at s l ≡ Some life → (step : ℕ) → IsReached life.cut step → (its : Fault) → IsRefusal its → Refuses s.script l life step its → SkipsIn s l life its
   life_skips l life life_is step comes its refusal refuses = record {
     taken = refuses.j;
@@ -180,7 +180,7 @@ cuts_before s es its = ap (λ (q : Progress). q.cuts) (progress-more s es (entry
 
 -- IN A RUN of a script as it was cut
 
-module _ (script : Script) (form : IsFormOfEpochs script) (checked : IsChecked script) (bytes : AreBytes script.blocks) (files : Files) (image : Files → Type 0) (held : Secrets) (answered : Result (Unit {0}) Fault) (old new added : List Entry)
+module _ (script : Script) (form : IsFormOfInclusion script) (checked : IsChecked script) (bytes : AreBytes script.blocks) (files : Files) (image : Files → Type 0) (held : Secrets) (answered : Result (Unit {0}) Fault) (old new added : List Entry)
     (is : new ≡ old ++ added) (picks : List ℕ) where
   abbrev cut_script : Script
   cut_script = as_cut (progress (setting_of script files held) added).cuts script
@@ -188,8 +188,8 @@ module _ (script : Script) (form : IsFormOfEpochs script) (checked : IsChecked s
   abbrev s : Setting
   s = setting_as_cut script files held added
 
-  cut_form : IsFormOfEpochs cut_script
-  cut_form = epochs_as_cut (progress (setting_of script files held) added).cuts script form
+  cut_form : IsFormOfInclusion cut_script
+  cut_form = inclusion_as_cut (progress (setting_of script files held) added).cuts script form
 
   -- THE CLAUSE of skips
   pub run_skips : RunsSo by_lines cut_script AnyFiles (trace old []) answered (trace new picks) → IfErr answered (BlamesOnlySkips s image (cuts_in s added))
