@@ -27,7 +27,7 @@ use Rattle.dkg_core.specs.Courses.{Goes}
 use Rattle.dkg_core.specs.Forms.{IsForm, IsLiveIn}
 use Rattle.dkg_core.specs.Fixed.{Fixed}
 use Rattle.dkg_core.specs.Including.{Fed, Found, Lacks, can_finish, final_height, is_detached, is_final, is_need, is_unlinked, lowest, next_height, scan, with_lower}
-use Rattle.dkg_core.specs.Laws.{IsCeremony}
+use Rattle.dkg_core.specs.Laws.{IsCeremony, IsOther}
 use Rattle.dkg_core.specs.Live.{Artifact, Cancel, Delivers, EpochInfoOf, Feed, Finalized, Live, Mail, Message, NextLog, Over, Peer, ReleaseLog, Request, Reshare, Sent, VerifiedLogs, Work}
 use Rattle.dkg_core.specs.Node.{node_step}
 use Rattle.dkg_core.specs.NodeEndings.{LacksNobody}
@@ -237,6 +237,25 @@ brings_so g (event.Over request) message brings = inr (Over request, brings, ref
 brings_so g (event.Cancel request) message brings = inr (Cancel request, brings, refl)
 brings_so g event.Work message brings = inr (Work None, brings, refl)
 brings_so g other message brings = absurd brings
+
+-- .. of a peer, or another
+abbrev pub BringsPeer : Event → Message directory.Unit → Type 0
+BringsPeer its message = (from : ℕ) × (bytes : List ℕ) × (its ≡ event.Peer from bytes) × (message ≡ Sent (Peer from bytes))
+
+abbrev pub BringsOther : Event → Message directory.Unit → Type 0
+BringsOther its message = (mail : Mail directory.Unit) × (message ≡ Sent mail) × IsOther {Dir = directory.Unit} (Sent mail) × (delivered_number its ≡ None)
+
+pub brings_kind : (g : Lived) (its : Event) (message : Message directory.Unit) → Brings g its message → BringsBlock g its message ⊎ (BringsPeer its message ⊎ BringsOther its message)
+brings_kind g (event.Final number) message brings = inl (number, brings.0, refl, brings.1)
+brings_kind g (event.Peer from bytes) message brings = inr (inl (from, bytes, refl, brings))
+brings_kind g (event.Next request height) message brings = inr (inr (NextLog request height, brings, tt, refl))
+brings_kind g (event.Release height) message brings = inr (inr (ReleaseLog height, brings, tt, refl))
+brings_kind g (event.Info request) message brings = inr (inr (EpochInfoOf request, brings, tt, refl))
+brings_kind g (event.Feed request number) message brings = inr (inr (Feed request (brings.0).block, brings.1, tt, refl))
+brings_kind g (event.Over request) message brings = inr (inr (Over request, brings, tt, refl))
+brings_kind g (event.Cancel request) message brings = inr (inr (Cancel request, brings, tt, refl))
+brings_kind g event.Work message brings = inr (inr (Work None, brings, tt, refl))
+brings_kind g other message brings = absurd brings
 
 -- the message of an event
 pub record IsMessage (g : Lived) (its : Event) : Type 0 where

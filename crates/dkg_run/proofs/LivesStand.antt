@@ -68,14 +68,19 @@ worlds_lead = record {
   );
 }
 
+-- what an opening leaves stands where the script says
+pub begun_at : (g : Lived) → IsLifeInForm g → (seen : Seen) (k : Held) (st : Live directory.Unit) → IsNodeBegun (at_step g 0) seen k st → IsAt g 0 st
+begun_at g here seen k st begun =
+    let lives = node_openings_through (at_step g 0) any_shares seen k st (form_at g here 0) begun in
+    record { live = lives.0; active = lives.1; stands = begun_stands g here seen k st begun }
+
 module _ {W : Type 0} (way : Way W) (leads : LeadsAlong way) (g : Lived) (here : IsLifeInForm g) where
   -- ONE STEP, in a way
 
   pub opened_at : (st : Live directory.Unit) (f : Burn) (w new : W) → way.goes (node_opening (at_step g 0)) (went st) f w new → (seen : Seen) × (k : Held) × IsNodeBegun (at_step g 0) seen k st × IsAt g 0 st
   opened_at st f w new goes =
       let its = leads.opens (at_step g 0) st f w new (form_at g here 0) (lacks_nobody g 0) goes in
-      let lives = node_openings_through (at_step g 0) any_shares its.0 its.1 st (form_at g here 0) its.2 in
-      (its.0, its.1, its.2, record { live = lives.0; active = lives.1; stands = begun_stands g here its.0 its.1 st its.2 })
+      (its.0, its.1, its.2, begun_at g here its.0 its.1 st its.2)
 
   module _ (i : ℕ) (its : Event) (is : slice_get g.life.events i ≡ Some its) (st : Live directory.Unit) (at : IsAt g i st) where
     pub message : IsMessage g its
