@@ -684,17 +684,17 @@ module _ (g : Lived) (here : IsLifeInForm g) where
               (subst (λ (x : EpochInfo directory.Unit). IsInfoCause g.script (next_epoch g.script b) x own) (some_is there) why)
 
       -- the provider had the set that the artifact needs
-      provider_clear : (epoch : ℕ) (own : Fault) → IsProvided the_step (epoch + 2) → IsProviderCause g.script epoch own → ⊥
+      provider_clear : (info : EpochInfo directory.Unit) (own : Fault) → IsProvided the_step info → IsProviderCause g.script info.epoch own → ⊥
       unfolding at_step
-      provider_clear epoch (fault.InvalidParticipants cause.ProviderEmpty) has why = none _ has.some why
+      provider_clear info (fault.InvalidParticipants cause.ProviderEmpty) has why = none _ has.some why
         where
-          none : (k : ℕ) → 0 < k → k ≡ 0 → ⊥
+          none : (k : ℕ) → 1 ≤ k → k ≡ 0 → ⊥
           none k some is = omega (arith, some, is)
-      provider_clear epoch (fault.InvalidParticipants (cause.ProviderAbove count most)) has why = over count most _ _ has.few why.0 why.1 why.2
+      provider_clear info (fault.InvalidParticipants (cause.ProviderAbove count most)) has why = over count most _ _ has.few why.0 why.1 why.2
         where
           over : (count most k limit : ℕ) → k ≤ limit → count ≡ k → most ≡ limit → most < count → ⊥
           over count most k limit few one two high = omega (arith, few, one, two, high)
-      provider_clear epoch own has why = absurd why
+      provider_clear info own has why = absurd why
 
       ended_clear : IsTakenLast g.script g.number g.life i b → IsPassedOn the_step any_shares b st devices end left → follows (alone g.script) g.number g.life (epoch_by g i) ≡ false → (own : Fault)
           → IsProviderCause g.script (epoch_of n b.height) own → ⊥
@@ -702,7 +702,7 @@ module _ (g : Lived) (here : IsLifeInForm g) where
         where
           by_part : (st.participation.stage ≡ Follows) ⊎ (st.participation.stage ≡ Includes) → ⊥
           by_part (inl stage) = bools_apart (follows (alone g.script) g.number g.life (epoch_by g i)) (stands.blind stage) unfollowed
-          by_part (inr stage) = provider_clear (epoch_of n b.height) own (subst (λ (k : ℕ). IsProvided the_step (k + 2)) epoch (shared.4.1).provided) why
+          by_part (inr stage) = provider_clear shared.1 own (shared.4.1).provided (subst (λ (k : ℕ). IsProviderCause g.script k own) (sym epoch) why)
             where
               shared : IsShareTaken the_step any_shares st (over.on).h (over.on).info (over.on).share Includes
               shared = subst (λ (x : Stage). IsShareTaken the_step any_shares st (over.on).h (over.on).info (over.on).share x) stage (over.on).shared
