@@ -38,7 +38,7 @@ use Rattle.dkg_core.proofs.NodeThrough.{node_steps_lead_through_over}
 use Rattle.dkg_core.proofs.Storing.{node_steps_keep_secrets}
 use Rattle.dkg_run.specs.Blamed.{per_epoch}
 use Rattle.dkg_run.specs.Epochs.{IsAt, IsLifeInForm, any_shares, awaited_by, epoch_by}
-use Rattle.dkg_run.specs.Found.{IsBegunBy, IsCarriedShare, IsDealtBy, IsDealtFrom}
+use Rattle.dkg_run.specs.Found.{IsBegunBy, IsDealtBy}
 use Rattle.dkg_run.specs.Given.{Lived, at_step, blocks_in, step_of}
 use Rattle.dkg_run.proofs.Awaiting.{HasHeight, IsReached, block_behind, has_height}
 use Rattle.dkg_run.proofs.Delivered.{epochs_rise}
@@ -84,17 +84,13 @@ module _ (g : Lived) (taken : ℕ) (st : Live directory.Unit) (h : Held) (drawn 
       same_round : stored.round ≡ own.round
       same_round = some_is (sym stored.of_epoch ∙ own.of_epoch)
 
-      from_share : (get h.secrets.shares (stored.round).number ≡ Some stored.share) ⊎ IsCarriedShare g.script.config.me stored.round stored.share → IsDealtFrom g.script held (stored.round).number stored.round (Some stored.share)
-      from_share (inl is) = inl (ap (λ m. get m (stored.round).number) shares ∙ is)
-      from_share (inr carried) = inr carried
-
       there : IsDealtBy g.script held (stored.round).number dealt stored.round
       there = (
         stored.seed,
         Some stored.share,
         (own.dealer).privates,
         ap (λ m. get m (stored.round).number) seeds ∙ stored.seed_is,
-        from_share stored.share_is,
+        inr stored.fits,
         stored.dealt ∙ ap (λ (public : List ℕ). Ok (public, (own.dealer).privates)) (sym own.is_dealt),
       )
 
@@ -251,11 +247,10 @@ module _ (g : Lived) (here : IsLifeInForm g) where
             ∙ stands.epoch (λ follows. with_round (at_step g (suc i)) (unasked led.mid) round ((led.next).live).stands of (ap (λ (p : Participation directory.Unit). p.stage) (sym same) ∙ follows))) in
         let behind : DealsStored (at_step g (suc i)).me led.mid new.held
         = step_stored (at_step g (suc i)) (rules_at (suc i)) reads any_shares (form_at g here (suc i)) st m.message w.held new.held led.mid live led.next
-            (subst (λ (n : ℕ). DealsStored n st w.held) (sym (me_is (suc i))) deals) (λ round of seed got. kept.0 round.number seed (low round of) got)
-            (λ nothing round of share got. shares_stay nothing w new (went end) run_here round.number share (low round of) got) in (
+            (subst (λ (n : ℕ). DealsStored n st w.held) (sym (me_is (suc i))) deals) (λ round of seed got. kept.0 round.number seed (low round of) got) in (
           λ round there. next_drawn w.held new.held led.mid led.next drawn round (sym (ap (λ (p : Participation directory.Unit). p.round) same) ∙ there),
           λ d there. subst (λ (n : ℕ). IsStoredDealer n end d new.held) (me_is (suc i))
-            (stored_on (at_step g (suc i)).me led.mid end d d new.held new.held (ap (λ (p : Participation directory.Unit). p.round) same) refl refl (λ round of share is. is) (λ round of seed is. is)
+            (stored_on (at_step g (suc i)).me led.mid end d d new.held new.held (ap (λ (p : Participation directory.Unit). p.round) same) refl refl (λ round of seed is. is)
             (behind d (sym (ap (λ (p : Participation directory.Unit). p.dealer) same) ∙ there))),
         )
       where

@@ -155,7 +155,7 @@ module _ {Dir : Type 0} where
         by_log None = same st st refl
         by_log (Some log) = by_tests (is_accepted c round log) (is_some (recorded_at st.records.logs round.number log.dealer))
           where
-            abbrev with_it : Live Dir
+            with_it : Live Dir
             with_it = with_log round.number log.dealer b.height log.log st
 
             by_tests : (accepted kept : Bool) → StaysDealt st (if accepted then without_own_log c log.dealer (if kept then st else with_log round.number log.dealer b.height log.log st) else st)

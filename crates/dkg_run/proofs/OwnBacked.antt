@@ -1,4 +1,4 @@
--- This node's own dealings that the devices give back stay what the stored share and seed deal: over an opening of the form, over a block and over a message, wherever each ends.
+-- This node's own dealings that the devices give back stay what this node's share and the stored seed deal: over an opening of the form, over a block and over a message, wherever each ends.
 use Rattle.std.proofs.Common.{◌≡◌, inl, inr, ◌≤◌, ℕ, List, Option, Some, None, Result, Ok, Err, refl, sym, ◌∙◌, ap, subst, arith}
 use Rattle.std.specs.Prelude.{◌-◌, IfOk, if◌then◌else◌, not, option_and_then}
 use Rattle.std.specs.Result.{result_ok}
@@ -72,7 +72,7 @@ module _ (s : Setting) (form : IsFormOfInclusion s.script) where
   unfolding round_at
   round_is epoch = rw form.reshares refl
 
-  has_previous : (epoch : ℕ) (round : Round) → round_at s epoch ≡ Some round → (o : Output) × (round.previous ≡ Some o)
+  pub has_previous : (epoch : ℕ) (round : Round) → round_at s epoch ≡ Some round → (o : Output) × (round.previous ≡ Some o)
   has_previous epoch round made = by_info (known_info s epoch) (sym (round_is epoch) ∙ made)
     where
       by_round : (info : Info) (r : Result Round RoundError) → round_of s.script.config.namespace epoch (Some info.output) s.script.config.mode V1 info.output.players info.players ≡ r → result_ok r ≡ Some round → (o : Output) × (round.previous ≡ Some o)
@@ -101,30 +101,33 @@ module _ (s : Setting) (form : IsFormOfInclusion s.script) where
       refused x None same deals = none_some same
       refused x (Some other) same deals = let no : ◌≡◌ {A = Result (List ℕ × List (ℕ × ℕ)) DealError} (Err deal.ShareRefused) (Ok dealt) = deals in cc
 
-  -- ITS OWN DEALINGS among these are what these secrets deal
+  -- what the held share deals, a share deals
+  pub with_share : (t : Secrets) (key : ℕ × ℕ) (pair : List ℕ × ℕ)
+      → ((round : Round) → round_at s key.0 ≡ Some round → (seed : List ℕ) × (privates : List (ℕ × ℕ)) × (get t.seeds key.0 ≡ Some seed) × (deal_of round (me s) (get t.shares key.0) seed ≡ Ok (pair.0, privates)))
+      → (round : Round) → round_at s key.0 ≡ Some round → (seed : List ℕ) × (share : ℕ) × (privates : List (ℕ × ℕ)) × (get t.seeds key.0 ≡ Some seed) × (deal_of round (me s) (Some share) seed ≡ Ok (pair.0, privates))
+  with_share t key pair backed round made = let its = backed round made in by_share its.0 its.1 its.2 (get t.shares key.0) its.3
+    where
+      by_share : (seed : List ℕ) (privates : List (ℕ × ℕ)) → get t.seeds key.0 ≡ Some seed → (o : Option ℕ) → deal_of round (me s) o seed ≡ Ok (pair.0, privates)
+          → (seed : List ℕ) × (share : ℕ) × (privates : List (ℕ × ℕ)) × (get t.seeds key.0 ≡ Some seed) × (deal_of round (me s) (Some share) seed ≡ Ok (pair.0, privates))
+      by_share seed privates there None deals = let previous = has_previous key.0 round made in absurd (no_deal round previous.0 seed (pair.0, privates) previous.1 deals)
+      by_share seed privates there (Some share) deals = (seed, share, privates, there, deals)
+
+  -- ITS OWN DEALINGS among these are what a share deals, and the seed that these secrets hold. (There is one share that something is dealt with.)
 
   abbrev pub IsBackedBy : Secrets → (key : ℕ × ℕ) → (pair : List ℕ × ℕ) → Type 0
-  IsBackedBy t key pair = (round : Round) → round_at s key.0 ≡ Some round → (seed : List ℕ) × (privates : List (ℕ × ℕ)) × (get t.seeds key.0 ≡ Some seed) × (deal_of round (me s) (get t.shares key.0) seed ≡ Ok (pair.0, privates))
+  IsBackedBy t key pair = (round : Round) → round_at s key.0 ≡ Some round → (seed : List ℕ) × (share : ℕ) × (privates : List (ℕ × ℕ)) × (get t.seeds key.0 ≡ Some seed) × (deal_of round (me s) (Some share) seed ≡ Ok (pair.0, privates))
 
   abbrev pub AreBacked : Pairs → Secrets → Type 0
   AreBacked pairs t = (key : ℕ × ℕ) (pair : List ℕ × ℕ) → key.1 ≡ me s → get pairs key ≡ Some pair → IsBackedBy t key pair
 
-  -- what is held of an epoch is held
+  -- the seed that is held of an epoch is held
   pub record HoldsStill (t u : Secrets) (epoch : ℕ) : Type 0 where
     pub seeds : (seed : List ℕ) → get t.seeds epoch ≡ Some seed → get u.seeds epoch ≡ Some seed
-    pub shares : (share : ℕ) → get t.shares epoch ≡ Some share → get u.shares epoch ≡ Some share
 
   pub still_backed : (t u : Secrets) (key : ℕ × ℕ) (pair : List ℕ × ℕ) → HoldsStill t u key.0 → IsBackedBy t key pair → IsBackedBy u key pair
   still_backed t u key pair still backed round made =
       let its = backed round made in
-      (its.0, its.1, still.seeds its.0 its.2, by_share its.0 its.1 its.3 (get t.shares key.0) refl)
-    where
-      by_share : (seed : List ℕ) (privates : List (ℕ × ℕ)) → deal_of round (me s) (get t.shares key.0) seed ≡ Ok (pair.0, privates) → (o : Option ℕ) → get t.shares key.0 ≡ o → deal_of round (me s) (get u.shares key.0) seed ≡ Ok (pair.0, privates)
-      by_share seed privates deals None none =
-          let previous = has_previous key.0 round made in
-          absurd (no_deal round previous.0 seed (pair.0, privates) previous.1 (subst (λ (o : Option ℕ). deal_of round (me s) o seed ≡ Ok (pair.0, privates)) none deals))
-      by_share seed privates deals (Some share) is =
-          ap (λ (o : Option ℕ). deal_of round (me s) o seed) (still.shares share is ∙ sym is) ∙ deals
+      (its.0, its.1, its.2, still.seeds its.0 its.3, its.4)
 
   -- .. over whole devices
   pub record IsBacked (w : World) : Type 0 where
@@ -137,7 +140,7 @@ module _ (s : Setting) (form : IsFormOfInclusion s.script) where
   backed_less w new whole less q = record { whole = whole; own = λ key pair mine got. let its = less key pair got in still_backed w.held.secrets new.held.secrets key pair its.1 (q.own key pair mine its.0) }
 
   same_still : (t u : Secrets) (epoch : ℕ) → u ≡ t → HoldsStill t u epoch
-  same_still t u epoch is = record { seeds = λ seed got. ap (λ (x : Secrets). get x.seeds epoch) is ∙ got; shares = λ share got. ap (λ (x : Secrets). get x.shares epoch) is ∙ got }
+  same_still t u epoch is = record { seeds = λ seed got. ap (λ (x : Secrets). get x.seeds epoch) is ∙ got }
 
   pub same_backed : (w new : World) → notes new.held ≡ notes w.held → new.held.secrets ≡ w.held.secrets → IsBacked w → IsBacked new
   same_backed w new is_es is_t q =
@@ -155,7 +158,7 @@ module _ (s : Setting) (form : IsFormOfInclusion s.script) where
 
     from_least : (w : World) (x : World) → IsBacked w → IsNoOther (recovered_in w.held) NoOwn x → IsUpkept c reads 0 w x → IsBacked x
     from_least w x q a b = backed_less w x a.whole (λ key pair got. elim (a.gives key pair got) [
-      | inl was ↦ (was, record { seeds = λ seed has. b.seeds_held key.0 seed (least key.0) has; shares = λ share has. b.shares_held key.0 share (least key.0) has })
+      | inl was ↦ (was, record { seeds = λ seed has. b.seeds_held key.0 seed (least key.0) has })
       | inr none ↦ absurd none
     ]) q
       where
@@ -183,7 +186,7 @@ module _ (s : Setting) (form : IsFormOfInclusion s.script) where
         at_least : (key : ℕ × ℕ) (pair : List ℕ × ℕ) → get (recovered_in x.held) key ≡ Some pair → HoldsStill w.held.secrets x.held.secrets key.0
         at_least key pair got =
             let above : min ≤ key.0 = (pruned_before min (notes w.held) x.held.secrets key pair (sym (ap (λ (es : List JournalEntry). get (recovered es x.held.secrets) key) is) ∙ got)).0 in
-            record { seeds = λ seed has. b.seeds_held key.0 seed above has; shares = λ share has. b.shares_held key.0 share above has }
+            record { seeds = λ seed has. b.seeds_held key.0 seed above has }
 
     pub prunes_backed : (min : ℕ) (st : Live Dir) (w : World) → IsBacked w → Throughout IsBacked (setup.prunes min st) w
     prunes_backed min st w q =
