@@ -1,6 +1,6 @@
--- Seeds and shares that are stored stay what they are, of the epoch that a life of the form awaits and of the one before on: over an opening, whatever blocks its source has, which
--- offers nothing, and over each step that passes no epoch on.
-use Rattle.std.proofs.Common.{◌≡◌, ◌⊎◌, inl, inr, ◌≤◌, ℕ, false, List, [], ◌∷◌, ◌++◌, map, Option, Some, None, refl, sym, ◌∙◌, ap, subst, arith, append_assoc, append-nil}
+-- Seeds and shares that are stored stay what they are, of the epoch that a life of the form awaits and of the one before on, over an opening, whatever blocks its source has, which
+-- offers nothing; and a commit of any share keeps the seeds.
+use Rattle.std.proofs.Common.{◌≡◌, inl, inr, ◌≤◌, ℕ, false, List, [], ◌∷◌, ◌++◌, map, Option, Some, None, refl, sym, ◌∙◌, ap, subst, arith, append_assoc, append-nil}
 use Rattle.std.specs.Prelude.{◌+◌, ◌-◌}
 use Rattle.std.specs.List.{AllByRecursion}
 use Rattle.std.specs.Option.{option_map_or, option_or}
@@ -25,23 +25,20 @@ use Rattle.dkg_secrets.proofs.Tried.{all_done}
 use Rattle.dkg_store.specs.Acts.{World, Held, OnDisk, Changes, Ended, says, does}
 use Rattle.dkg_store.specs.Recorded.{restored_of}
 use Rattle.dkg_store.proofs.Acts.{along_runs}
-use Rattle.dkg_core.specs.Behind.{IsAside, RunsBehind, event_of}
+use Rattle.dkg_core.specs.Behind.{IsAside, RunsBehind}
 use Rattle.dkg_core.specs.Courses.{Course, Say, Do, Stops, Throughout, EndsSo, on_devices}
 use Rattle.dkg_core.specs.Core.{opening, opens_in, begun}
 use Rattle.dkg_core.specs.Fixed.{Fixed, Material, OneShot, start}
 use Rattle.dkg_core.specs.Forms.{IsForm}
-use Rattle.dkg_core.specs.Laws.{reach_of}
-use Rattle.dkg_core.specs.Live.{Live, NodeStop, Includes, Message, Sent, Finalized}
-use Rattle.dkg_core.specs.Node.{node_opening, node_step}
+use Rattle.dkg_core.specs.Live.{Live, NodeStop}
+use Rattle.dkg_core.specs.Node.{node_opening}
 use Rattle.dkg_core.specs.Plans as p
 use Rattle.dkg_core.specs.Setup as s
 use Rattle.dkg_core.specs.Sources.{startup}
 use Rattle.dkg_core.specs.Storing.{ReadsSecrets, KeepsSeeds, KeepsShares}
 use Rattle.dkg_core.specs.Endings.{first_epoch}
-use Rattle.dkg_core.specs.Through.{PassesNothingOn}
 use Rattle.dkg_core.proofs.Behind.{openings_run_behind}
-use Rattle.dkg_core.proofs.SparingShares.{node_steps_spare_shares}
-use Rattle.dkg_core.proofs.Storing.{looked_up, node_steps_keep_secrets}
+use Rattle.dkg_core.proofs.Storing.{looked_up}
 use Rattle.dkg_core.proofs.Upkeep.{along_if}
 use Rattle.dkg_core.proofs.Walking as walk
 
@@ -200,6 +197,42 @@ module _ {Dir : Type 0} (c : Fixed Dir) (reads : ReadsSecrets c.seen) (most : �
   pub commits_read : (info : EpochInfo Dir) (st : Live Dir) (w : World) → IsUpkept w → Throughout {Dir = Dir} IsUpkept (s.commits info (read_seed w info.epoch) (s.recovered_share c (c.seen w.held) info) st) w
   commits_read info st w q = commits info (s.recovered_share c (c.seen w.held) info) st w refl q
 
+  -- A COMMIT of any share keeps the seeds
+
+  abbrev pub SeedsHeld : World → Type 0
+  SeedsHeld w = KeepsSeeds most from.held w
+
+  seeds_same : (w new : World) → new.held.secrets.seeds ≡ w.held.secrets.seeds → SeedsHeld w → SeedsHeld new
+  seeds_same w new is q = still_same most seeds w.held.secrets.seeds new.held.secrets.seeds is q
+
+  seed_put : (epoch : ℕ) (seed : List ℕ) (w new : World) → seed ≡ s.seed_for c epoch (get w.held.secrets.seeds epoch) → Tries (PutSeed epoch seed) w.held.secrets new.held.secrets → SeedsHeld w → SeedsHeld new
+  seed_put epoch seed w new is tries q = elim tries.so [
+    | inl stays ↦ seeds_same w new (ap (λ (x : Secrets). x.seeds) stays) q
+    | inr done ↦ still_put most seeds w.held.secrets.seeds new.held.secrets.seeds epoch seed (λ stored has. seed_is c epoch seed stored (get w.held.secrets.seeds epoch) is has) (ap (λ (x : Secrets). x.seeds) done) q
+  ]
+
+  share_put : (epoch share : ℕ) (w new : World) → Tries (PutShare epoch share) w.held.secrets new.held.secrets → SeedsHeld w → SeedsHeld new
+  share_put epoch share w new tries q = elim tries.so [
+    | inl stays ↦ seeds_same w new (ap (λ (x : Secrets). x.seeds) stays) q
+    | inr done ↦ seeds_same w new (ap (λ (x : Secrets). x.seeds) done) q
+  ]
+
+  pub commits_any : (info : EpochInfo Dir) (share : Option ℕ) (st : Live Dir) (w : World) → SeedsHeld w → Throughout {Dir = Dir} SeedsHeld (s.commits info (read_seed w info.epoch) share st) w
+  commits_any info None st w q =
+      let seed = read_seed w info.epoch in
+      let new : World = does w (Changes (PutSeed info.epoch seed)) in
+      let done : SeedsHeld new = seed_put info.epoch seed w new (seed_is_stored w info.epoch) (all_done (PutSeed info.epoch seed) w.held.secrets (after (PutSeed info.epoch seed) w.held.secrets) refl) q in
+      (λ cause new tears. seed_put info.epoch seed w new (seed_is_stored w info.epoch) tears.torn.1 q, (done, done))
+  commits_any info (Some share) st w q =
+      let seed = read_seed w info.epoch in
+      let mid : World = does w (Changes (PutShare info.epoch share)) in
+      let new : World = does mid (Changes (PutSeed info.epoch seed)) in
+      let first : SeedsHeld mid = share_put info.epoch share w mid (all_done (PutShare info.epoch share) w.held.secrets (after (PutShare info.epoch share) w.held.secrets) refl) q in
+      let done : SeedsHeld new = seed_put info.epoch seed mid new (seed_is_stored w info.epoch) (all_done (PutSeed info.epoch seed) mid.held.secrets (after (PutSeed info.epoch seed) mid.held.secrets) refl) first in (
+        λ cause new tears. share_put info.epoch share w new tears.torn.1 q,
+        (λ cause new tears. seed_put info.epoch seed mid new (seed_is_stored w info.epoch) tears.torn.1 first, (done, done)),
+      )
+
   -- AN OPENING of the form
 
   module _ (form : IsForm c) (low : first_epoch c - 1 ≤ most) where
@@ -241,21 +274,3 @@ module _ {Dir : Type 0} (c : Fixed Dir) (reads : ReadsSecrets c.seen) (most : �
           out = its.out ∙ ap (λ (xs : List Line). xs ++ its.lines) mid.out ∙ append_assoc from.out mid.lines its.lines;
           unoffered = all_joined IsUnoffered mid.lines its.lines mid.unoffered (all_aside its.lines its.aside);
         }
-
-  -- A STEP that passes no epoch on, or of a life that doesn't include. (One that includes puts at an epoch's last block the share of its artifact, whatever is stored there.)
-  module _ (st : Live Dir) where
-    abbrev Kept : World → Type 0
-    Kept new = KeepsSeeds most from.held new × KeepsShares most from.held new
-
-    abbrev pub PutsNothing : Message Dir → Type 0
-    PutsNothing message = PassesNothingOn c st message ⊎ (st.participation.stage ≡ Includes → ⊥)
-
-    pub steps_upkeep : (message : Message Dir) (ended : Ended NodeStop (Live Dir)) (new : World) → PutsNothing message → reach_of c message ≤ most → EndsSo (node_step c (event_of message) st) ended from new → Kept new
-    steps_upkeep (Sent mail) ended new nothing within run = let its = node_steps_keep_secrets c st (Sent mail) ended most from new reads within run in (its.0, its.1 tt)
-    steps_upkeep (Finalized block) ended new (inl nothing) within run =
-        ((node_steps_keep_secrets c st (Finalized block) ended most from new reads within run).0, node_steps_spare_shares c st (Finalized block) ended most from new reads within nothing run)
-    steps_upkeep (Finalized block) ended new (inr apart) within run = let its = node_steps_keep_secrets c st (Finalized block) ended most from new reads within run in (its.0, its.1 apart)
-
-    -- seeds are kept by any
-    pub seeds_upkeep : (message : Message Dir) (ended : Ended NodeStop (Live Dir)) (new : World) → reach_of c message ≤ most → EndsSo (node_step c (event_of message) st) ended from new → KeepsSeeds most from.held new
-    seeds_upkeep message ended new within run = (node_steps_keep_secrets c st message ended most from new reads within run).0

@@ -28,16 +28,18 @@ use Rattle.dkg_core.specs.Core.{step}
 use Rattle.dkg_core.specs.Courses.{Course, EndsSo, Throughout, on_devices}
 use Rattle.dkg_core.specs.Dealing as d
 use Rattle.dkg_core.specs.Fixed.{Fixed}
-use Rattle.dkg_core.specs.Forms.{Applied, IsLiveIn, IsTakenIn, judged_block}
+use Rattle.dkg_core.specs.Forms.{Applied, judged_block}
 use Rattle.dkg_core.specs.Heard.{Fits, MayHave, recovered_in}
-use Rattle.dkg_core.specs.Live.{Deals, Ends, Finalized, Follows, Includes, Live, Message, NodeStop, Peer, Sent, Stage}
+use Rattle.dkg_core.specs.Laws.{IsOther}
+use Rattle.dkg_core.specs.Live.{Cancel, Deals, Ends, EpochInfoOf, Feed, Finalized, Follows, Includes, Live, Mail, Message, NextLog, NodeStop, Over, Peer, ReleaseLog, Sent, Stage, Work}
 use Rattle.dkg_core.specs.Meant.{ReadsRecords}
 use Rattle.dkg_core.specs.Node.{node_opening, node_step}
 use Rattle.dkg_core.specs.Seen.{Seen}
-use Rattle.dkg_core.specs.Storing.{KeepsSeeds, KeepsShares, ReadsSecrets}
+use Rattle.dkg_core.specs.Storing.{KeepsSeeds, ReadsSecrets}
 use Rattle.dkg_core.proofs.Behind.{steps_run_behind}
+use Rattle.dkg_core.proofs.Idle.{mails_are_idle}
 use Rattle.dkg_core.proofs.NodeKept.{node_peers_are_kept}
-use Rattle.dkg_core.proofs.Stepping.{not_included}
+use Rattle.dkg_core.proofs.Storing.{node_steps_keep_secrets}
 use Rattle.dkg_core.proofs.Walking as walk
 use Rattle.dkg_reshare.specs.declared.stop.Stop.{Stop}
 use Rattle.dkg_run.specs.Epochs.{IsLifeInForm}
@@ -46,7 +48,7 @@ use Rattle.dkg_run.specs.GivesBack.{PassesAll}
 use Rattle.dkg_run.specs.Lives.{LivesSo, RunsSo}
 use Rattle.dkg_run.specs.Ways.{by_worlds}
 use Rattle.dkg_run.proofs.Awaiting.{IsReached}
-use Rattle.dkg_run.proofs.Former.{Brings, IsMessage, event_in_form, form_at, live_at, message_in}
+use Rattle.dkg_run.proofs.Former.{Brings, IsMessage, event_in_form, form_at, message_in}
 use Rattle.dkg_run.proofs.GivingDealings as giving
 use Rattle.dkg_run.proofs.GivingDealings.{FitsRecords, IsPassing, PassHeld}
 use Rattle.dkg_run.proofs.GivingLives.{KeepsSo, LeavesSo, life_holds, run_holds}
@@ -55,11 +57,9 @@ use Rattle.dkg_run.proofs.NoOthers as others
 use Rattle.dkg_run.proofs.NoOthers.{IsNoOther, IsOwnDealt, inserted}
 use Rattle.dkg_run.proofs.OfferingLives as offering
 use Rattle.dkg_run.proofs.OfferingLives.{IsStanding}
-use Rattle.dkg_run.proofs.OpeningsStore.{steps_upkeep}
-use Rattle.dkg_run.proofs.OwnBacked.{AreBacked, HoldsStill, IsBacked, IsBackedBy, along_both, commits_backed, opening_backed, prunes_backed, said_backed, same_backed, still_backed}
+use Rattle.dkg_run.proofs.OwnBacked.{AreBacked, HoldsStill, IsBacked, IsBackedBy, along_both, commits_any_backed, commits_backed, opening_backed, prunes_backed, records_backed, said_backed, same_backed, still_backed}
 use Rattle.dkg_run.proofs.OwnSteps.{SameSecrets, deals_same}
 use Rattle.dkg_run.proofs.StoredDealers.{IsStoredDealer}
-use Rattle.dkg_run.proofs.Stood.{step_taken}
 
 some_is : {A : Type 0} {x y : A} → ◌≡◌ {A = Option A} (Some x) (Some y) → x ≡ y
 some_is e = cc
@@ -115,34 +115,27 @@ module _ (s : Setting) (cuts : List (Option CutAt)) (form : IsFormOfInclusion s.
       abbrev m : IsMessage g its
       m = message_in g its (event_in_form g here i its is)
 
-      live : IsLiveIn c st
-      live = live_at g i (suc i) st ((owning.passing).at).live
-
-      taken : IsTakenIn c m.message st
-      taken = step_taken g here i its is reached m st live ((owning.passing).at).stands
-
       before : IsBacked s form w
       before = record { whole = ((owning.passing).agreed).whole; own = owning.own }
 
       same_kept : (x : World) (epoch : ℕ) → SameSecrets c w x → HoldsStill s form w.held.secrets x.held.secrets epoch
-      same_kept x epoch same = record { seeds = λ seed got. ap (λ m. get m epoch) same.seeds ∙ got; shares = λ share got. ap (λ m. get m epoch) same.shares ∙ got }
+      same_kept x epoch same = record { seeds = λ seed got. ap (λ m. get m epoch) same.seeds ∙ got }
 
       -- what it deals to itself
       fresh : (x : World) → SameSecrets c w x → (key : ℕ × ℕ) (pair : List ℕ × ℕ) → IsOwnDealt c st key pair → IsBackedBy s form x.held.secrets key pair
       fresh x same key pair own round made =
           let stored : IsStoredDealer (me s) st own.dealer w.held = (owning.standing).deals own.dealer own.of_dealer in
           let number : key.0 ≡ (stored.round).number = ap (λ (k : ℕ × ℕ). k.0) own.at ∙ ap (λ (r : Round). r.number) (some_is (sym own.of_epoch ∙ stored.of_epoch)) in
-          let its_round : round ≡ stored.round = some_is (sym made ∙ ap (round_at s) number ∙ (owning.passing).rounds stored.round stored.of_epoch) in
-          let share : get x.held.secrets.shares key.0 ≡ Some stored.share = ap (λ m. get m key.0) same.shares ∙ ap (get w.held.secrets.shares) number ∙ stored.share_is in (
+          let its_round : round ≡ stored.round = some_is (sym made ∙ ap (round_at s) number ∙ (owning.passing).rounds stored.round stored.of_epoch) in (
             stored.seed,
+            stored.share,
             (own.dealer).privates,
             ap (λ m. get m key.0) same.seeds ∙ ap (get w.held.secrets.seeds) number ∙ stored.seed_is,
-            ap (λ (r : Round). deal_of r (me s) (get x.held.secrets.shares key.0) stored.seed) its_round ∙ ap (λ (o : Option ℕ). deal_of stored.round (me s) o stored.seed) share ∙ stored.dealt
-                ∙ ap (λ (public : List ℕ). Ok (public, (own.dealer).privates)) (sym own.public),
+            ap (λ (r : Round). deal_of r (me s) (Some stored.share) stored.seed) its_round ∙ stored.dealt ∙ ap (λ (public : List ℕ). Ok (public, (own.dealer).privates)) (sym own.public),
           )
 
       -- A BLOCK
-      module _ (block : Block directory.Unit) (its_taken : IsTakenIn c (Finalized block) st) (can : CanRecord c st (Finalized block)) where
+      module _ (block : Block directory.Unit) (can : CanRecord c st (Finalized block)) where
         abbrev Backed : World → Type 0
         Backed x = IsBacked s form x
 
@@ -170,7 +163,9 @@ module _ (s : Setting) (cuts : List (Option CutAt)) (form : IsFormOfInclusion s.
             walk.ends_dealing c Backed (λ x line aside q. said_backed s form x line q) most (commits_backed s form c (reads_at (suc i))) (λ min low at x q. prunes_backed s form c (reads_at (suc i)) min at x q) block (itself most) st w before deals_backed
         applies judged Follows at =
             walk.follows_at c Backed (λ x line aside q. said_backed s form x line q) most (commits_backed s form c (reads_at (suc i))) (λ min low at x q. prunes_backed s form c (reads_at (suc i)) min at x q) block (itself most) st w before
-        applies judged Includes at = absurd (not_included c (form_at g here (suc i)) st live None block its_taken judged at)
+        applies judged Includes at =
+            walk.including c Backed (λ x line aside q. said_backed s form x line q) most (commits_backed s form c (reads_at (suc i))) (λ min low at x q. prunes_backed s form c (reads_at (suc i)) min at x q) block (itself most)
+            (commits_any_backed s form c (reads_at (suc i))) st w (λ log carries epoch. records_backed s form c (reads_at (suc i)) block.height log st w (can.brings log carries) before epoch) before
         applies judged Ends at = before
 
         block_backed : (ended : Ended NodeStop (Live directory.Unit)) → EndsSo (node_step c (event_of (Finalized block)) st) ended w new → Backed new
@@ -182,13 +177,13 @@ module _ (s : Setting) (cuts : List (Option CutAt)) (form : IsFormOfInclusion s.
             same_backed s form behind.mid new (ap (λ (h : Held). notes h) behind.held) (ap (λ (h : Held). h.secrets) behind.held) mid
 
       -- A MESSAGE, of another node
-      module _ (from : ℕ) (bytes : List ℕ) (other : from ≡ me s → ⊥) (fit : Fits c (from, bytes)) (its_taken : IsTakenIn c (Sent (Peer from bytes)) st) (ended : Ended NodeStop (Live directory.Unit))
+      module _ (from : ℕ) (bytes : List ℕ) (other : from ≡ me s → ⊥) (fit : Fits c (from, bytes)) (ended : Ended NodeStop (Live directory.Unit))
           (run : EndsSo (node_step c (event_of (Sent (Peer from bytes))) st) ended w new) where
-        kept : KeepsSeeds 0 w.held new × KeepsShares 0 w.held new
-        kept = steps_upkeep c (reads_at (suc i)) 0 w (form_at g here (suc i)) st live (Sent (Peer from bytes)) ended new its_taken (omega arith) run
+        kept : KeepsSeeds 0 w.held new
+        kept = (node_steps_keep_secrets c st (Sent (Peer from bytes)) ended 0 w new (reads_at (suc i)) (omega arith) run).0
 
         still : (epoch : ℕ) → HoldsStill s form w.held.secrets new.held.secrets epoch
-        still epoch = record { seeds = λ seed got. kept.0 epoch seed (omega arith) got; shares = λ share got. kept.1 epoch share (omega arith) got }
+        still epoch = record { seeds = λ seed got. kept epoch seed (omega arith) got }
 
         was_there : (round : Round) → MayHave c st from round (recovered_in w.held) (recovered_in new.held) → (key : ℕ × ℕ) (pair : List ℕ × ℕ) → key.1 ≡ me s → get (recovered_in new.held) key ≡ Some pair → get (recovered_in w.held) key ≡ Some pair
         was_there round (inl same) key pair mine got = sym (ap (λ (pairs : Pairs). get pairs key) same) ∙ got
@@ -206,22 +201,36 @@ module _ (s : Setting) (cuts : List (Option CutAt)) (form : IsFormOfInclusion s.
             (record { records = ((owning.passing).agreed).dealings; whole = before.whole; gives = refl; fits = fit.0; fits_ack = fit.1 }) run).gives in
             still_backed s form w.held.secrets new.held.secrets key pair (still key.0) (owning.own key pair mine (was_there round gives key pair mine got))
 
+      -- ANY OTHER MAIL touches no device
+      idle_backed : (mail : Mail directory.Unit) → IsOther (Sent mail) → (ended : Ended NodeStop (Live directory.Unit)) → EndsSo (node_step c (event_of (Sent mail)) st) ended w new → AreBacked s form (recovered_in new.held) new.held.secrets
+      idle_backed mail other ended run =
+          subst (λ (h : Held). AreBacked s form (recovered_in h) h.secrets) (sym (mails_are_idle c mail st ended w new other ((((owning.passing).at).active).active).unawaited run).held) owning.own
+
       -- ANY STEP, wherever it ends
       step_backed : (ended : Ended NodeStop (Live directory.Unit)) → EndsSo (step_of g (suc i) its st) ended w new → AreBacked s form (recovered_in new.held) new.held.secrets
       step_backed ended run =
-          by_event its is m.message m.brings taken (giving.can s cuts form consistent l life seen files life_is here records fits i its is reached st w new owning.passing)
+          by_event its is m.message m.brings (giving.can s cuts form consistent l life seen files life_is here records fits i its is reached st w new owning.passing)
           (subst (λ (course : Course directory.Unit NodeStop (Live directory.Unit)). EndsSo course ended w new) (m.course (suc i) st) run)
         where
-          by_event : (e : Event) → slice_get life.events i ≡ Some e → (message : Message directory.Unit) → Brings g e message → IsTakenIn c message st → CanRecord c st message → EndsSo (node_step c (event_of message) st) ended w new
+          brought : (message other : Message directory.Unit) → message ≡ other → EndsSo (node_step c (event_of message) st) ended w new → EndsSo (node_step c (event_of other) st) ended w new
+          brought message other same its_run = subst (λ (x : Message directory.Unit). EndsSo (node_step c (event_of x) st) ended w new) same its_run
+
+          by_event : (e : Event) → slice_get life.events i ≡ Some e → (message : Message directory.Unit) → Brings g e message → CanRecord c st message → EndsSo (node_step c (event_of message) st) ended w new
               → AreBacked s form (recovered_in new.held) new.held.secrets
-          by_event (event.Peer from bytes) at message brings its_taken its_can its_run =
+          by_event (event.Peer from bytes) at message brings its_can its_run =
               heard_backed from bytes (holds_at (IsFromAnother (me s)) life.events i (event.Peer from bytes) (holds_at (λ (life : Life). AllByRecursion (IsFromAnother (me s)) life.events) s.script.lives l life consistent.others life_is) at)
-              (subst (BringsRecords c) brings its_can.brings) (subst (λ (x : Message directory.Unit). IsTakenIn c x st) brings its_taken) ended
-              (subst (λ (x : Message directory.Unit). EndsSo (node_step c (event_of x) st) ended w new) brings its_run) st.participation.round refl
-          by_event (event.Final number) at message brings its_taken its_can its_run =
-              (block_backed (brings.0).block (subst (λ (x : Message directory.Unit). IsTakenIn c x st) brings.1 its_taken) (subst (λ (x : Message directory.Unit). CanRecord c st x) brings.1 its_can) ended
-              (subst (λ (x : Message directory.Unit). EndsSo (node_step c (event_of x) st) ended w new) brings.1 its_run)).own
-          by_event other at message brings its_taken its_can its_run = absurd brings
+              (subst (BringsRecords c) brings its_can.brings) ended (brought message (Sent (Peer from bytes)) brings its_run) st.participation.round refl
+          by_event (event.Final number) at message brings its_can its_run =
+              (block_backed (brings.0).block (subst (λ (x : Message directory.Unit). CanRecord c st x) brings.1 its_can) ended (brought message (Finalized (brings.0).block) brings.1 its_run)).own
+          by_event (event.Next request height) at message brings its_can its_run = idle_backed (NextLog request height) tt ended (brought message (Sent (NextLog request height)) brings its_run)
+          by_event (event.Release height) at message brings its_can its_run = idle_backed (ReleaseLog height) tt ended (brought message (Sent (ReleaseLog height)) brings its_run)
+          by_event (event.Info request) at message brings its_can its_run = idle_backed (EpochInfoOf request) tt ended (brought message (Sent (EpochInfoOf request)) brings its_run)
+          by_event (event.Feed request number) at message brings its_can its_run =
+              idle_backed (Feed request (brings.0).block) tt ended (brought message (Sent (Feed request (brings.0).block)) brings.1 its_run)
+          by_event (event.Over request) at message brings its_can its_run = idle_backed (Over request) tt ended (brought message (Sent (Over request)) brings its_run)
+          by_event (event.Cancel request) at message brings its_can its_run = idle_backed (Cancel request) tt ended (brought message (Sent (Cancel request)) brings its_run)
+          by_event event.Work at message brings its_can its_run = idle_backed (Work None) tt ended (brought message (Sent (Work None)) brings its_run)
+          by_event other at message brings its_can its_run = absurd brings
 
     pub step_keeps : FitsRecords s cuts form consistent l life seen files life_is here records → (i : ℕ) (its : Event) (st : Live directory.Unit) (h : Held) → slice_get life.events i ≡ Some its → IsReached life.cut (suc i) → IsOwning i st h
         → KeepsSo ValidHeld (IsOwning (suc i)) (step_of g (suc i) its st) h
