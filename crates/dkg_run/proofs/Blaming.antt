@@ -27,6 +27,7 @@ use Rattle.dkg_script.specs.Promise.{Adds}
 use Rattle.dkg_script.specs.Setting.{Setting, setting_of}
 use Rattle.dkg_script.proofs.EachEntry.{at_each}
 use Rattle.dkg_store.specs.Acts.{Ended, Held, broken, by_cut, stopped, went}
+use Rattle.dkg_core.specs.Asked.{OfShares}
 use Rattle.dkg_core.specs.Courses.{Course, on_devices}
 use Rattle.dkg_core.specs.Forms.{IsNodeBegun, IsOpeningStop}
 use Rattle.dkg_core.specs.Laws.{IsQuiet}
@@ -159,19 +160,19 @@ module _ (g : Lived) (here : IsLifeInForm g) where
     reads_why own (may, inl provider) = inr (inl (inr (may, provider)))
     reads_why own (may, inr asked) = inr (inr (inr (may, asked)))
 
-    pub step_why : (devices : Option Held) (own : Fault) → IsStopThrough (at_step g (suc i)) any_shares st m.message devices own → Why (suc i) own
-    step_why devices own stop = by_event e refl m.message m.brings stop
+    pub step_why : (stored : OfShares) (devices : Option Held) (own : Fault) → IsStopThrough (at_step g (suc i)) stored st m.message devices own → Why (suc i) own
+    step_why stored devices own stop = by_event e refl m.message m.brings stop
       where
-        as_brought : (message other : Message directory.Unit) → message ≡ other → IsStopThrough (at_step g (suc i)) any_shares st message devices own → IsStopThrough (at_step g (suc i)) any_shares st other devices own
-        as_brought message other same stop = subst (λ (x : Message directory.Unit). IsStopThrough (at_step g (suc i)) any_shares st x devices own) same stop
+        as_brought : (message other : Message directory.Unit) → message ≡ other → IsStopThrough (at_step g (suc i)) stored st message devices own → IsStopThrough (at_step g (suc i)) stored st other devices own
+        as_brought message other same stop = subst (λ (x : Message directory.Unit). IsStopThrough (at_step g (suc i)) stored st x devices own) same stop
 
         reading : (its : Event) → e ≡ its → IsReadingEvent its → IsReadingEvent e
         reading its is so = subst IsReadingEvent (sym is) so
 
-        by_event : (its : Event) → e ≡ its → (message : Message directory.Unit) → Brings g its message → IsStopThrough (at_step g (suc i)) any_shares st message devices own → Why (suc i) own
-        by_event (event.Peer from bytes) is message brings stop = absurd (subst (λ (x : Message directory.Unit). IsStopThrough (at_step g (suc i)) any_shares st x devices own) brings stop)
+        by_event : (its : Event) → e ≡ its → (message : Message directory.Unit) → Brings g its message → IsStopThrough (at_step g (suc i)) stored st message devices own → Why (suc i) own
+        by_event (event.Peer from bytes) is message brings stop = absurd (subst (λ (x : Message directory.Unit). IsStopThrough (at_step g (suc i)) stored st x devices own) brings stop)
         by_event (event.Final number) is message brings stop =
-            either (block_cause g here i e e_is reached m st its_live (stood.at).stands stood.tip stood.carried number is (brings.0).block (brings.0).is stood.made devices own
+            either (block_cause g here i e e_is reached m st its_live (stood.at).stands stood.tip stood.carried number is (brings.0).block (brings.0).is stood.made stored devices own
             (as_brought message (Finalized (brings.0).block) brings.1 stop))
           where
             at_block : (P : Block directory.Unit → Type 0) → P (brings.0).block → IsSomeAnd (slice_get g.life.events i) (λ x. OnBlock g.script x P)
@@ -258,7 +259,7 @@ module _ (g : Lived) (here : IsLifeInForm g) where
             → CameTo (IsFaultBy (IsStopThrough (at_step g (suc i)) any_shares st m.message None)) (λ end. IsNodeThrough (at_step g (suc i)) any_shares st m.message None end None) ended
             → Came (Why (suc i)) (λ end. Stood (suc i) end × Clear (suc i)) ended
         by_end (went end) node = (step_next None end None node, step_clear None node.mid None (node.next).is)
-        by_end (stopped stop) (own, is, why) = (own, is, step_why None own why)
+        by_end (stopped stop) (own, is, why) = (own, is, step_why any_shares None own why)
         by_end (broken its) came = tt
 
 -- WHAT IS TOLD on the way

@@ -29,7 +29,7 @@ use Rattle.dkg_text.specs.declared.script.Event.{Event}
 use Rattle.dkg_text.specs.declared.script.Event.TheVariants as event
 use Rattle.dkg_core.specs.Blocks.{is_early, is_in_window, is_in_window_in}
 use Rattle.dkg_core.specs.Forms.{IsNodeBegun, IsOpeningStop, IsSeated, IsSetUpIn, IsSetupFault, Judged, Refusal, Passed, Applied, judged_block, judged_over, round_for, share_read, seed_read, started}
-use Rattle.dkg_core.specs.Asked.{IsArtifactIn, IsAskStop, IsDeriveStop, IsProvided}
+use Rattle.dkg_core.specs.Asked.{IsAskStop, IsDeriveStop, IsProvided, OfShares}
 use Rattle.dkg_core.specs.Fixed.{Fixed, has}
 use Rattle.dkg_core.specs.Laws.{start_of}
 use Rattle.dkg_core.specs.Live as core
@@ -558,20 +558,20 @@ module _ (g : Lived) (here : IsLifeInForm g) where
           taken last_one = record { accepted = accepted_by b Applied applied refl; above = above_by b applied; ends = sym (last_same b) ∙ last_one }
 
           -- the setup of the next epoch
-          next_cause : (devices : Option Held) (own : Fault) → IsPassingStop c any_shares b st devices own → IsNextCause g.script b own ⊎ OnCarried (Some b) (λ info. IsOwnCause g.script (next_epoch g.script b) info own)
+          next_cause : (stored : OfShares) (devices : Option Held) (own : Fault) → IsPassingStop c stored b st devices own → IsNextCause g.script b own ⊎ OnCarried (Some b) (λ info. IsOwnCause g.script (next_epoch g.script b) info own)
           unfolding at_step
-          next_cause devices (fault.MissingEpochInfo height) why = inl why
-          next_cause devices (fault.WrongEpoch expected got) why = inl (by_info (info_of b.payload) why.1)
+          next_cause stored devices (fault.MissingEpochInfo height) why = inl why
+          next_cause stored devices (fault.WrongEpoch expected got) why = inl (by_info (info_of b.payload) why.1)
             where
               by_info : (o : Option (EpochInfo directory.Unit)) → IsSomeAnd o (λ info. (got ≡ info.epoch) × (info.epoch ≡ next_epoch g.script b → ⊥))
                   → IsSomeAnd o (λ info. IsInfoCause g.script (next_epoch g.script b) info (fault.WrongEpoch expected got))
               by_info None none = absurd none
               by_info (Some info) its = (why.0, its.0, its.1)
-          next_cause devices fault.HeightRange why =
+          next_cause stored devices fault.HeightRange why =
               inl (subst (λ (o : Option (EpochInfo directory.Unit)). IsSomeAnd o (λ info. info.epoch ≡ next_epoch g.script b)) (sym (why.0).carried) (why.0).of_next, why.1)
-          next_cause devices own why = by_either (setup_cause g (suc i) (next_epoch g.script b) on.info (share_read c on.info on.k) (seed_read c on.info on.k) (taken_over c b on.info on.share st) own why.1)
+          next_cause stored devices own why = by_either (setup_cause g (suc i) (next_epoch g.script b) on.info (share_read c on.info on.k) (seed_read c on.info on.k) (taken_over c b on.info on.share st) own why.1)
             where
-              on : IsCarriedOn c any_shares b st devices
+              on : IsCarriedOn c stored b st devices
               on = why.0
 
               by_either : IsInfoCause g.script (next_epoch g.script b) on.info own ⊎ IsOwnCause g.script (next_epoch g.script b) on.info own
@@ -586,8 +586,8 @@ module _ (g : Lived) (here : IsLifeInForm g) where
                   of_info other its = absurd its
               by_either (inr its) = inr (subst (λ (o : Option (EpochInfo directory.Unit)). IsSomeAnd o (λ info. IsOwnCause g.script (next_epoch g.script b) info own)) (sym on.carried) its)
 
-          last_cause : is_last_height c b.height ≡ true → (devices : Option Held) (own : Fault) → IsPassingStop c any_shares b st devices own → Why own
-          last_cause last_one devices own stop = by_either (next_cause devices own stop)
+          last_cause : is_last_height c b.height ≡ true → (stored : OfShares) (devices : Option Held) (own : Fault) → IsPassingStop c stored b st devices own → Why own
+          last_cause last_one stored devices own stop = by_either (next_cause stored devices own stop)
             where
               by_either : IsNextCause g.script b own ⊎ OnCarried (Some b) (λ info. IsOwnCause g.script (next_epoch g.script b) info own) → Why own
               by_either (inl its) = inl (inr (taken last_one, inr its))
@@ -616,9 +616,9 @@ module _ (g : Lived) (here : IsLifeInForm g) where
               inr (accepted_by b Applied applied refl, (at, ap (follows (alone g.script) g.number g.life) at ∙ stands.parts apart, why.differs))
           deals_other stage own why = absurd why
 
-          by_stage : AreMade g i st → (devices : Option Held) (own : Fault) (stage : Stage) → st.participation.stage ≡ stage → IsAppliedStopThrough c any_shares b st devices stage own → Why own
-          by_stage made devices own Deals stage (inl dealing) = inr (inl (deals_other stage own dealing))
-          by_stage made devices own Deals stage (inr ask) = inr (inr (
+          by_stage : AreMade g i st → (stored : OfShares) (devices : Option Held) (own : Fault) (stage : Stage) → st.participation.stage ≡ stage → IsAppliedStopThrough c stored b st devices stage own → Why own
+          by_stage made stored devices own Deals stage (inl dealing) = inr (inl (deals_other stage own dealing))
+          by_stage made stored devices own Deals stage (inr ask) = inr (inr (
             of_made reading apart (height_behind (midpoint n e) (inr late)) (λ none. ask.1 none.1) made,
             asked_cause (given_itself c st) ((dealing.given_same c st).same).round ((dealing.given_same c st).same).current apart own ask.2,
           ))
@@ -632,22 +632,22 @@ module _ (g : Lived) (here : IsLifeInForm g) where
                 where
                   no_more : (x y : ℕ) → y ≡ x → x ≤ y
                   no_more x y same = omega (arith, same)
-          by_stage made devices own Includes stage (inl (inl last_one, ask)) = ended_cause stage last_one own ask
-          by_stage made devices own Includes stage (inl (inr some, ask)) = inr (inr (
+          by_stage made stored devices own Includes stage (inl (inl last_one, ask)) = ended_cause stage last_one own ask
+          by_stage made stored devices own Includes stage (inl (inr some, ask)) = inr (inr (
             of_made reading (apart stage) (height_behind (midpoint n e) (inl (late_here stage))) (λ none. some none.1) made,
             asked_cause st refl refl (apart stage) own ask,
           ))
-          by_stage made devices own Includes stage (inr (last_one, stop)) = last_cause last_one devices own stop
-          by_stage made devices own Follows stage (last_one, stop) = last_cause last_one devices own stop
-          by_stage made devices own Ends stage stop = absurd stop
+          by_stage made stored devices own Includes stage (inr (last_one, stop)) = last_cause last_one stored devices own stop
+          by_stage made stored devices own Follows stage (last_one, stop) = last_cause last_one stored devices own stop
+          by_stage made stored devices own Ends stage stop = absurd stop
 
-        pub block_cause : AreMade g i st → (devices : Option Held) (own : Fault) → IsStopThrough c any_shares st (Finalized b) devices own → Why own
-        block_cause made devices own stop = by_judged (judged_block c b st) refl stop
+        pub block_cause : AreMade g i st → (stored : OfShares) (devices : Option Held) (own : Fault) → IsStopThrough c stored st (Finalized b) devices own → Why own
+        block_cause made stored devices own stop = by_judged (judged_block c b st) refl stop
           where
-            by_judged : (j : Judged) → judged_block c b st ≡ j → IsBlockStopThrough c any_shares b st devices j own → Why own
+            by_judged : (j : Judged) → judged_block c b st ≡ j → IsBlockStopThrough c stored b st devices j own → Why own
             by_judged (Refusal refused) is why = inl (inl (sym (judged_so b) ∙ ap (refusal b) is ∙ ap (λ (f : Fault). Some f) (sym why)))
             by_judged Passed is why = absurd why
-            by_judged Applied is why = by_stage is made devices own st.participation.stage refl why
+            by_judged Applied is why = by_stage is made stored devices own st.participation.stage refl why
 
     -- AND WHAT DOESN'T
     module _ (b : Block directory.Unit) (devices : Option Held) (end : Live directory.Unit) (left : Option Held)

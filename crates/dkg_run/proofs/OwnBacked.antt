@@ -1,8 +1,14 @@
 -- This node's own dealings that the devices give back stay what this node's share and the stored seed deal: over an opening of the form, over a block and over a message, wherever each ends.
+<<<<<<< HEAD
 use Rattle.std.proofs.Common.{◌≡◌, inl, inr, ◌≤◌, ℕ, List, Option, Some, None, Result, Ok, Err, refl, sym, ◌∙◌, ap, subst, arith}
 use Rattle.std.specs.Prelude.{◌-◌, IfOk, if◌then◌else◌, is_some, not, option_and_then}
+=======
+use Rattle.std.proofs.Common.{◌≡◌, ◌⊎◌, inl, inr, ◌≤◌, ℕ, List, Option, Some, None, Result, Ok, Err, refl, sym, ◌∙◌, ap, subst, arith}
+use Rattle.std.specs.Prelude.{◌-◌, IfOk, if◌then◌else◌, not, option_and_then}
+>>>>>>> f1e8d65aacf07c2666ecb60042bebfbcd16098eb
 use Rattle.std.specs.Result.{result_ok}
-use Rattle.std.specs.FinMap.{get}
+use Rattle.std.specs.FinMap.{get, insert, nat_cmp-IsAntisymmetric}
+use Rattle.std.specs.Cmp.{nat_cmp_total}
 use Rattle.dkg_values.specs.Rising.{lookup}
 use Rattle.dkg_ceremony.specs.Deals.{deal_of, is_share_of}
 use Rattle.dkg_ceremony.specs.RoundLaws as rounds
@@ -17,8 +23,9 @@ use Rattle.dkg_ceremony.specs.declared.round.RoundError.{RoundError}
 use Rattle.dkg_ceremony.specs.declared.signed_log.SignedDealerLog.{SignedDealerLog}
 use Rattle.dkg_journal.specs.Operations.{Journaled, Prunes}
 use Rattle.dkg_journal.specs.Records.{Entry as JournalEntry, from_section}
-use Rattle.dkg_secrets.specs.Secrets.{Secrets}
-use Rattle.dkg_secrets.specs.declared.secrets.SecretOp.TheVariants.{Prune}
+use Rattle.dkg_secrets.specs.Secrets.{Secrets, after}
+use Rattle.dkg_secrets.specs.declared.secrets.SecretOp.TheVariants.{Prune, PutSeed, PutShare}
+use Rattle.dkg_secrets.proofs.Map.{get_here, get_other, same_key}
 use Rattle.dkg_types.specs.declared.entry.Entry.{Entry as Line}
 use Rattle.dkg_types.specs.declared.info.EpochInfo.{EpochInfo}
 use Rattle.dkg_script.specs.Blocks.{known_info, reshare_round, round_at}
@@ -42,10 +49,14 @@ use Rattle.dkg_core.specs.Live.{Live, NodeStop, awaited_height, recorded_at}
 use Rattle.dkg_core.specs.Logs.{log_event}
 use Rattle.dkg_core.specs.Node.{node_opening}
 use Rattle.dkg_core.specs.Setup as setup
-use Rattle.dkg_core.specs.Storing.{ReadsSecrets}
+use Rattle.dkg_core.specs.Storing.{KeepsSeeds, ReadsSecrets}
 use Rattle.dkg_core.specs.Endings.{first_epoch}
 use Rattle.dkg_core.proofs.Behind.{openings_run_behind}
+<<<<<<< HEAD
 use Rattle.dkg_core.proofs.Upkeep.{along_if}
+=======
+use Rattle.dkg_core.proofs.Storing.{looked_up}
+>>>>>>> f1e8d65aacf07c2666ecb60042bebfbcd16098eb
 use Rattle.dkg_core.proofs.Walking as walk
 use Rattle.dkg_run.proofs.BlocksLeave.{records_log}
 use Rattle.dkg_run.proofs.NoOthers as others
@@ -164,8 +175,13 @@ module _ (s : Setting) (form : IsFormOfInclusion s.script) where
   module _ {Dir : Type 0} (c : Fixed Dir) (reads : ReadsSecrets c.seen) where
     -- A COMMIT and A PRUNE
 
+<<<<<<< HEAD
     from_least : (w : World) (x : World) → IsBacked w → IsNoOther (recovered_in w.held) NoOwn x → store.SeedsHeld c reads 0 w x → IsBacked x
     from_least w x q a b = backed_less w x a.whole (λ key pair got. elim (a.gives key pair got) [
+=======
+    from_seeds : (w : World) (x : World) → IsBacked w → IsNoOther (recovered_in w.held) NoOwn x → KeepsSeeds 0 w.held x → IsBacked x
+    from_seeds w x q a b = backed_less w x a.whole (λ key pair got. elim (a.gives key pair got) [
+>>>>>>> f1e8d65aacf07c2666ecb60042bebfbcd16098eb
       | inl was ↦ (was, record { seeds = λ seed has. b key.0 seed (least key.0) has })
       | inr none ↦ absurd none
     ]) q
@@ -176,6 +192,7 @@ module _ (s : Setting) (form : IsFormOfInclusion s.script) where
     begins : (w : World) → IsBacked w → IsNoOther (recovered_in w.held) NoOwn w
     begins w q = record { whole = q.whole; gives = λ key pair got. inl got }
 
+<<<<<<< HEAD
     -- of any share: what deals is the seed
     pub commits_any_backed : (info : EpochInfo Dir) (share : Option ℕ) (st : Live Dir) (w : World) → IsBacked w
         → Throughout {Dir = Dir} IsBacked (setup.commits info (setup.seed_for c info.epoch (lookup info.epoch (c.seen w.held).seeds)) share st) w
@@ -184,10 +201,51 @@ module _ (s : Setting) (form : IsFormOfInclusion s.script) where
         (setup.commits info (setup.seed_for c info.epoch (lookup info.epoch (c.seen w.held).seeds)) share st) w
         (others.commits (recovered_in w.held) NoOwn info (setup.seed_for c info.epoch (lookup info.epoch (c.seen w.held).seeds)) share st w (begins w q))
         (store.commits_any c reads 0 w info share st w (λ epoch seed above got. got))
+=======
+    abbrev seed_of : World → (epoch : ℕ) → List ℕ
+    seed_of w epoch = setup.seed_for c epoch (lookup epoch (c.seen w.held).seeds)
+
+    -- what is put is the stored seed, if there is one
+    put_still : (w : World) (at epoch : ℕ) (value : List ℕ) → get w.held.secrets.seeds epoch ≡ Some value → get (insert w.held.secrets.seeds at (seed_of w at)) epoch ≡ Some value
+    put_still w at epoch value got = elim (same_key nat_cmp_total nat_cmp-IsAntisymmetric epoch at) [
+      | inl here ↦ (let read : lookup at (c.seen w.held).seeds ≡ Some value = ap (lookup at) (reads.seeds w.held) ∙ looked_up at w.held.secrets.seeds ∙ ap (get w.held.secrets.seeds) (sym here) ∙ got in
+          ap (get (insert w.held.secrets.seeds at (seed_of w at))) here ∙ get_here nat_cmp_total nat_cmp-IsAntisymmetric w.held.secrets.seeds at (seed_of w at) ∙ ap (λ (v : List ℕ). Some v) (ap (setup.seed_for c at) read))
+      | inr apart ↦ get_other nat_cmp_total nat_cmp-IsAntisymmetric w.held.secrets.seeds at epoch (seed_of w at) apart ∙ got
+    ]
+
+    -- the seed is put behind a world that holds the seeds of w
+    seed_tried : (w mid now : World) (at : ℕ) → mid.held.secrets.seeds ≡ w.held.secrets.seeds
+        → (now.held.secrets ≡ mid.held.secrets) ⊎ (now.held.secrets ≡ after (PutSeed at (seed_of w at)) mid.held.secrets) → KeepsSeeds 0 w.held now
+    seed_tried w mid now at same (inl stays) epoch value above got = ap (λ (x : Secrets). get x.seeds epoch) stays ∙ ap (λ m. get m epoch) same ∙ got
+    seed_tried w mid now at same (inr done) epoch value above got =
+        ap (λ (x : Secrets). get x.seeds epoch) done ∙ ap (λ m. get (insert m at (seed_of w at)) epoch) same ∙ put_still w at epoch value got
+
+    share_tried : (w now : World) (at share : ℕ) → (now.held.secrets ≡ w.held.secrets) ⊎ (now.held.secrets ≡ after (PutShare at share) w.held.secrets) → KeepsSeeds 0 w.held now
+    share_tried w now at share (inl stays) epoch value above got = ap (λ (x : Secrets). get x.seeds epoch) stays ∙ got
+    share_tried w now at share (inr done) epoch value above got = ap (λ (x : Secrets). get x.seeds epoch) done ∙ got
+
+    seeds_stay : (info : EpochInfo Dir) (share : Option ℕ) (st : Live Dir) (w : World) → Throughout {Dir = Dir} (KeepsSeeds 0 w.held) (setup.commits info (seed_of w info.epoch) share st) w
+    seeds_stay info None st w =
+        let new : World = does w (Changes (PutSeed info.epoch (seed_of w info.epoch))) in
+        let done : KeepsSeeds 0 w.held new = seed_tried w w new info.epoch refl (inr refl) in
+        (λ cause now tears. seed_tried w w now info.epoch refl tears.torn.1.so, (done, done))
+    seeds_stay info (Some share) st w =
+        let mid : World = does w (Changes (PutShare info.epoch share)) in
+        let new : World = does mid (Changes (PutSeed info.epoch (seed_of w info.epoch))) in
+        let done : KeepsSeeds 0 w.held new = seed_tried w mid new info.epoch refl (inr refl) in
+        (λ cause now tears. share_tried w now info.epoch share tears.torn.1.so, (λ cause now tears. seed_tried w mid now info.epoch refl tears.torn.1.so, (done, done)))
+
+    -- of any share
+    pub commits_any_backed : (info : EpochInfo Dir) (share : Option ℕ) (st : Live Dir) (w : World) → IsBacked w → Throughout {Dir = Dir} IsBacked (setup.commits info (setup.seed_for c info.epoch (lookup info.epoch (c.seen w.held).seeds)) share st) w
+    commits_any_backed info share st w q =
+        along_both (IsNoOther (recovered_in w.held) NoOwn) (KeepsSeeds 0 w.held) IsBacked (λ x a b. from_seeds w x q a b) (setup.commits info (seed_of w info.epoch) share st) w
+        (others.commits (recovered_in w.held) NoOwn info (seed_of w info.epoch) share st w (begins w q)) (seeds_stay info share st w)
+>>>>>>> f1e8d65aacf07c2666ecb60042bebfbcd16098eb
 
     pub commits_backed : (info : EpochInfo Dir) (st : Live Dir) (w : World) → IsBacked w
         → Throughout {Dir = Dir} IsBacked (setup.commits info (setup.seed_for c info.epoch (lookup info.epoch (c.seen w.held).seeds)) (setup.recovered_share c (c.seen w.held) info) st) w
     commits_backed info st w q = commits_any_backed info (setup.recovered_share c (c.seen w.held) info) st w q
+<<<<<<< HEAD
 
     -- A LOG that is recorded
     pub records_backed : (height : ℕ) (log : SignedDealerLog) (st : Live Dir) (w : World) → IsEvent (events.LogAt log.dealer height log.log) → IsBacked w → (epoch : ℕ)
@@ -200,6 +258,8 @@ module _ (s : Setting) (form : IsFormOfInclusion s.script) where
         ]) q) (blocks.records_log epoch height log st) w (records_log (recovered_in w.held) NoOwn height log st w is (begins w q) epoch)
         (along_if (λ x. x.held.secrets ≡ w.held.secrets) w (is_some (recorded_at st.records.logs epoch log.dealer)) (Goes st)
         (dealing.appends epoch (log_event log.dealer height log.log) (Goes (blocks.with_log epoch log.dealer height log.log st))) (λ e. refl) (λ e. (λ cause new tears. tears.torn.0, refl)))
+=======
+>>>>>>> f1e8d65aacf07c2666ecb60042bebfbcd16098eb
 
     -- behind the journal's prune nothing below is given back
     from_pruned : (min : ℕ) (w x : World) → IsBacked w → notes x.held ≡ from_section min (notes w.held) → IsNoOther (recovered_in w.held) NoOwn x → IsUpkept c reads min w x → IsBacked x

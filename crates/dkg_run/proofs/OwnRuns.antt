@@ -1,14 +1,16 @@
 -- A run over many epochs gives back dealings that pass their rounds' checks, and of this node's own those that the stored shares and seeds deal, where those before it were such.
-use Rattle.std.proofs.Common.{◌≡◌, inl, inr, ◌≤◌, ◌+◌, ℕ, zero, suc, List, Option, Some, None, Result, Ok, refl, sym, ◌∙◌, ap, subst, arith}
-use Rattle.std.specs.Prelude.{◌-◌, slice_get}
+use Rattle.std.proofs.Common.{◌≡◌, ◌⊎◌, inl, inr, ◌≤◌, ◌+◌, ℕ, zero, suc, List, Option, Some, None, Result, Ok, refl, sym, ◌∙◌, ap, subst, arith}
+use Rattle.std.specs.Prelude.{◌-◌, option_and_then, slice_get}
 use Rattle.std.specs.FinMap.{get}
 use Rattle.std.specs.List.{AllByRecursion}
 use Rattle.dkg_ceremony.specs.Deals.{deal_of}
 use Rattle.dkg_ceremony.specs.Schedule.{epoch_of}
 use Rattle.dkg_ceremony.specs.declared.round.RoundParts.{RoundParts as Round}
+use Rattle.dkg_ceremony.specs.declared.signed_log.SignedDealerLog.{SignedDealerLog}
 use Rattle.dkg_journal.specs.Names.{Files}
 use Rattle.dkg_secrets.specs.Secrets.{Secrets}
 use Rattle.dkg_types.specs.Blocks.{Block}
+use Rattle.dkg_types.specs.PayloadCodes.{its_log}
 use Rattle.dkg_types.specs.declared.directory.Unit as directory
 use Rattle.dkg_types.specs.declared.fault.Fault.{Fault}
 use Rattle.dkg_text.specs.declared.script.Event.{Event}
@@ -48,17 +50,28 @@ use Rattle.dkg_run.specs.GivesBack.{PassesAll}
 use Rattle.dkg_run.specs.Lives.{LivesSo, RunsSo}
 use Rattle.dkg_run.specs.Ways.{by_worlds}
 use Rattle.dkg_run.proofs.Awaiting.{IsReached}
+<<<<<<< HEAD
 use Rattle.dkg_run.proofs.Former.{Brings, IsMessage, event_in_form, form_at, message_in}
+=======
+use Rattle.dkg_run.proofs.BlocksLeave.{records_log}
+use Rattle.dkg_run.proofs.Former.{BringsBlock, BringsOther, BringsPeer, IsMessage, brings_kind, event_in_form, form_at, message_in}
+>>>>>>> f1e8d65aacf07c2666ecb60042bebfbcd16098eb
 use Rattle.dkg_run.proofs.GivingDealings as giving
 use Rattle.dkg_run.proofs.GivingDealings.{FitsRecords, IsPassing, PassHeld}
 use Rattle.dkg_run.proofs.GivingLives.{KeepsSo, LeavesSo, life_holds, run_holds}
+use Rattle.dkg_run.proofs.Idle.{idle_held}
 use Rattle.dkg_run.proofs.Living.{holds_at}
 use Rattle.dkg_run.proofs.NoOthers as others
 use Rattle.dkg_run.proofs.NoOthers.{IsNoOther, IsOwnDealt, inserted}
 use Rattle.dkg_run.proofs.OfferingLives as offering
 use Rattle.dkg_run.proofs.OfferingLives.{IsStanding}
+<<<<<<< HEAD
 use Rattle.dkg_run.proofs.OwnBacked.{AreBacked, HoldsStill, IsBacked, IsBackedBy, along_both, commits_any_backed, commits_backed, opening_backed, prunes_backed, records_backed, said_backed, same_backed, still_backed}
 use Rattle.dkg_run.proofs.OwnSteps.{SameSecrets, deals_same}
+=======
+use Rattle.dkg_run.proofs.OwnBacked.{AreBacked, HoldsStill, IsBacked, IsBackedBy, along_both, commits_any_backed, commits_backed, opening_backed, prunes_backed, said_backed, same_backed, still_backed}
+use Rattle.dkg_run.proofs.OwnSteps.{SameSecrets, deals_same, logs_same}
+>>>>>>> f1e8d65aacf07c2666ecb60042bebfbcd16098eb
 use Rattle.dkg_run.proofs.StoredDealers.{IsStoredDealer}
 
 some_is : {A : Type 0} {x y : A} → ◌≡◌ {A = Option A} (Some x) (Some y) → x ≡ y
@@ -126,7 +139,12 @@ module _ (s : Setting) (cuts : List (Option CutAt)) (form : IsFormOfInclusion s.
       fresh x same key pair own round made =
           let stored : IsStoredDealer (me s) st own.dealer w.held = (owning.standing).deals own.dealer own.of_dealer in
           let number : key.0 ≡ (stored.round).number = ap (λ (k : ℕ × ℕ). k.0) own.at ∙ ap (λ (r : Round). r.number) (some_is (sym own.of_epoch ∙ stored.of_epoch)) in
+<<<<<<< HEAD
           let its_round : round ≡ stored.round = some_is (sym made ∙ ap (round_at s) number ∙ (owning.passing).rounds stored.round stored.of_epoch) in (
+=======
+          let its_round : round ≡ stored.round = some_is (sym made ∙ ap (round_at s) number ∙ (owning.passing).rounds stored.round stored.of_epoch) in
+          (
+>>>>>>> f1e8d65aacf07c2666ecb60042bebfbcd16098eb
             stored.seed,
             stored.share,
             (own.dealer).privates,
@@ -158,6 +176,22 @@ module _ (s : Setting) (cuts : List (Option CutAt)) (form : IsFormOfInclusion s.
         itself : (n : ℕ) → n ≤ n
         itself n = omega arith
 
+        abbrev NoOwn : ℕ × ℕ → List ℕ × ℕ → Type 0
+        NoOwn key pair = ⊥
+
+        -- its log is silent of dealings
+        log_backed : (log : SignedDealerLog) → option_and_then its_log block.payload ≡ Some log → (epoch : ℕ) → Throughout {Dir = directory.Unit} Backed (b.records_log epoch block.height log st) w
+        log_backed log there epoch =
+            along_both (IsNoOther (recovered_in w.held) NoOwn) (SameSecrets c w) Backed (λ x a same. record {
+              whole = a.whole;
+              own = λ key pair mine got. elim (a.gives key pair got) [
+                | inl was ↦ still_backed s form w.held.secrets x.held.secrets key pair (same_kept x key.0 same) (owning.own key pair mine was)
+                | inr none ↦ absurd none
+              ];
+            }) (b.records_log epoch block.height log st) w
+            (records_log (recovered_in w.held) NoOwn block.height log st w (can.brings log there) (record { whole = before.whole; gives = λ key pair got. inl got }) epoch)
+            (logs_same c w block.height log st w (record { seeds = refl; shares = refl }) epoch)
+
         applies : judged_block c block st ≡ Applied → (stage : Stage) → st.participation.stage ≡ stage → Throughout Backed (b.applies_in c block st stage) w
         applies judged Deals at =
             walk.ends_dealing c Backed (λ x line aside q. said_backed s form x line q) most (commits_backed s form c (reads_at (suc i))) (λ min low at x q. prunes_backed s form c (reads_at (suc i)) min at x q) block (itself most) st w before deals_backed
@@ -165,7 +199,11 @@ module _ (s : Setting) (cuts : List (Option CutAt)) (form : IsFormOfInclusion s.
             walk.follows_at c Backed (λ x line aside q. said_backed s form x line q) most (commits_backed s form c (reads_at (suc i))) (λ min low at x q. prunes_backed s form c (reads_at (suc i)) min at x q) block (itself most) st w before
         applies judged Includes at =
             walk.including c Backed (λ x line aside q. said_backed s form x line q) most (commits_backed s form c (reads_at (suc i))) (λ min low at x q. prunes_backed s form c (reads_at (suc i)) min at x q) block (itself most)
+<<<<<<< HEAD
             (commits_any_backed s form c (reads_at (suc i))) st w (λ log carries epoch. records_backed s form c (reads_at (suc i)) block.height log st w (can.brings log carries) before epoch) before
+=======
+            (commits_any_backed s form c (reads_at (suc i))) st w log_backed before
+>>>>>>> f1e8d65aacf07c2666ecb60042bebfbcd16098eb
         applies judged Ends at = before
 
         block_backed : (ended : Ended NodeStop (Live directory.Unit)) → EndsSo (node_step c (event_of (Finalized block)) st) ended w new → Backed new
@@ -208,6 +246,7 @@ module _ (s : Setting) (cuts : List (Option CutAt)) (form : IsFormOfInclusion s.
 
       -- ANY STEP, wherever it ends
       step_backed : (ended : Ended NodeStop (Live directory.Unit)) → EndsSo (step_of g (suc i) its st) ended w new → AreBacked s form (recovered_in new.held) new.held.secrets
+<<<<<<< HEAD
       step_backed ended run =
           by_event its is m.message m.brings (giving.can s cuts form consistent l life seen files life_is here records fits i its is reached st w new owning.passing)
           (subst (λ (course : Course directory.Unit NodeStop (Live directory.Unit)). EndsSo course ended w new) (m.course (suc i) st) run)
@@ -231,6 +270,27 @@ module _ (s : Setting) (cuts : List (Option CutAt)) (form : IsFormOfInclusion s.
           by_event (event.Cancel request) at message brings its_can its_run = idle_backed (Cancel request) tt ended (brought message (Sent (Cancel request)) brings its_run)
           by_event event.Work at message brings its_can its_run = idle_backed (Work None) tt ended (brought message (Sent (Work None)) brings its_run)
           by_event other at message brings its_can its_run = absurd brings
+=======
+      step_backed ended run = by_kind (brings_kind g its m.message m.brings)
+        where
+          its_run : EndsSo (node_step c (event_of m.message) st) ended w new
+          its_run = subst (λ (course : Course directory.Unit NodeStop (Live directory.Unit)). EndsSo course ended w new) (m.course (suc i) st) run
+
+          its_can : CanRecord c st m.message
+          its_can = giving.can s cuts form consistent l life seen files life_is here records fits i its is reached st w new owning.passing
+
+          as_run : (message : Message directory.Unit) → m.message ≡ message → EndsSo (node_step c (event_of message) st) ended w new
+          as_run message is = subst (λ (x : Message directory.Unit). EndsSo (node_step c (event_of x) st) ended w new) is its_run
+
+          by_kind : BringsBlock g its m.message ⊎ (BringsPeer its m.message ⊎ BringsOther its m.message) → AreBacked s form (recovered_in new.held) new.held.secrets
+          by_kind (inl b) = (block_backed (b.1).block (subst (λ (x : Message directory.Unit). CanRecord c st x) b.3 its_can) ended (as_run (Finalized (b.1).block) b.3)).own
+          by_kind (inr (inl p)) =
+              heard_backed p.0 p.1
+              (holds_at (IsFromAnother (me s)) life.events i (event.Peer p.0 p.1) (holds_at (λ (life : Life). AllByRecursion (IsFromAnother (me s)) life.events) s.script.lives l life consistent.others life_is) (is ∙ ap (λ (e : Event). Some e) p.2))
+              (subst (BringsRecords c) p.3 its_can.brings) ended (as_run (Sent (Peer p.0 p.1)) p.3) st.participation.round refl
+          by_kind (inr (inr mail)) =
+              subst (λ (h : Held). AreBacked s form (recovered_in h) h.secrets) (sym (idle_held c mail.0 mail.2 st ended w new ((owning.passing).at).active (as_run (Sent mail.0) mail.1))) owning.own
+>>>>>>> f1e8d65aacf07c2666ecb60042bebfbcd16098eb
 
     pub step_keeps : FitsRecords s cuts form consistent l life seen files life_is here records → (i : ℕ) (its : Event) (st : Live directory.Unit) (h : Held) → slice_get life.events i ≡ Some its → IsReached life.cut (suc i) → IsOwning i st h
         → KeepsSo ValidHeld (IsOwning (suc i)) (step_of g (suc i) its st) h
