@@ -1,5 +1,5 @@
 -- Seeds and shares that are stored stay what they are, of the epoch that a life of the form awaits and of the one before on, over an opening, whatever blocks its source has, which
--- offers nothing; and a commit of any share keeps the seeds.
+-- offers nothing.
 use Rattle.std.proofs.Common.{◌≡◌, inl, inr, ◌≤◌, ℕ, false, List, [], ◌∷◌, ◌++◌, map, Option, Some, None, refl, sym, ◌∙◌, ap, subst, arith, append_assoc, append-nil}
 use Rattle.std.specs.Prelude.{◌+◌, ◌-◌}
 use Rattle.std.specs.List.{AllByRecursion}
@@ -196,42 +196,6 @@ module _ {Dir : Type 0} (c : Fixed Dir) (reads : ReadsSecrets c.seen) (most : �
 
   pub commits_read : (info : EpochInfo Dir) (st : Live Dir) (w : World) → IsUpkept w → Throughout {Dir = Dir} IsUpkept (s.commits info (read_seed w info.epoch) (s.recovered_share c (c.seen w.held) info) st) w
   commits_read info st w q = commits info (s.recovered_share c (c.seen w.held) info) st w refl q
-
-  -- A COMMIT of any share keeps the seeds
-
-  abbrev pub SeedsHeld : World → Type 0
-  SeedsHeld w = KeepsSeeds most from.held w
-
-  seeds_same : (w new : World) → new.held.secrets.seeds ≡ w.held.secrets.seeds → SeedsHeld w → SeedsHeld new
-  seeds_same w new is q = still_same most seeds w.held.secrets.seeds new.held.secrets.seeds is q
-
-  seed_put : (epoch : ℕ) (seed : List ℕ) (w new : World) → seed ≡ s.seed_for c epoch (get w.held.secrets.seeds epoch) → Tries (PutSeed epoch seed) w.held.secrets new.held.secrets → SeedsHeld w → SeedsHeld new
-  seed_put epoch seed w new is tries q = elim tries.so [
-    | inl stays ↦ seeds_same w new (ap (λ (x : Secrets). x.seeds) stays) q
-    | inr done ↦ still_put most seeds w.held.secrets.seeds new.held.secrets.seeds epoch seed (λ stored has. seed_is c epoch seed stored (get w.held.secrets.seeds epoch) is has) (ap (λ (x : Secrets). x.seeds) done) q
-  ]
-
-  share_put : (epoch share : ℕ) (w new : World) → Tries (PutShare epoch share) w.held.secrets new.held.secrets → SeedsHeld w → SeedsHeld new
-  share_put epoch share w new tries q = elim tries.so [
-    | inl stays ↦ seeds_same w new (ap (λ (x : Secrets). x.seeds) stays) q
-    | inr done ↦ seeds_same w new (ap (λ (x : Secrets). x.seeds) done) q
-  ]
-
-  pub commits_any : (info : EpochInfo Dir) (share : Option ℕ) (st : Live Dir) (w : World) → SeedsHeld w → Throughout {Dir = Dir} SeedsHeld (s.commits info (read_seed w info.epoch) share st) w
-  commits_any info None st w q =
-      let seed = read_seed w info.epoch in
-      let new : World = does w (Changes (PutSeed info.epoch seed)) in
-      let done : SeedsHeld new = seed_put info.epoch seed w new (seed_is_stored w info.epoch) (all_done (PutSeed info.epoch seed) w.held.secrets (after (PutSeed info.epoch seed) w.held.secrets) refl) q in
-      (λ cause new tears. seed_put info.epoch seed w new (seed_is_stored w info.epoch) tears.torn.1 q, (done, done))
-  commits_any info (Some share) st w q =
-      let seed = read_seed w info.epoch in
-      let mid : World = does w (Changes (PutShare info.epoch share)) in
-      let new : World = does mid (Changes (PutSeed info.epoch seed)) in
-      let first : SeedsHeld mid = share_put info.epoch share w mid (all_done (PutShare info.epoch share) w.held.secrets (after (PutShare info.epoch share) w.held.secrets) refl) q in
-      let done : SeedsHeld new = seed_put info.epoch seed mid new (seed_is_stored w info.epoch) (all_done (PutSeed info.epoch seed) mid.held.secrets (after (PutSeed info.epoch seed) mid.held.secrets) refl) first in (
-        λ cause new tears. share_put info.epoch share w new tears.torn.1 q,
-        (λ cause new tears. seed_put info.epoch seed mid new (seed_is_stored w info.epoch) tears.torn.1 first, (done, done)),
-      )
 
   -- AN OPENING of the form
 

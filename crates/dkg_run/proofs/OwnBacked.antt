@@ -1,11 +1,6 @@
 -- This node's own dealings that the devices give back stay what this node's share and the stored seed deal: over an opening of the form, over a block and over a message, wherever each ends.
-<<<<<<< HEAD
-use Rattle.std.proofs.Common.{◌≡◌, inl, inr, ◌≤◌, ℕ, List, Option, Some, None, Result, Ok, Err, refl, sym, ◌∙◌, ap, subst, arith}
-use Rattle.std.specs.Prelude.{◌-◌, IfOk, if◌then◌else◌, is_some, not, option_and_then}
-=======
 use Rattle.std.proofs.Common.{◌≡◌, ◌⊎◌, inl, inr, ◌≤◌, ℕ, List, Option, Some, None, Result, Ok, Err, refl, sym, ◌∙◌, ap, subst, arith}
 use Rattle.std.specs.Prelude.{◌-◌, IfOk, if◌then◌else◌, not, option_and_then}
->>>>>>> f1e8d65aacf07c2666ecb60042bebfbcd16098eb
 use Rattle.std.specs.Result.{result_ok}
 use Rattle.std.specs.FinMap.{get, insert, nat_cmp-IsAntisymmetric}
 use Rattle.std.specs.Cmp.{nat_cmp_total}
@@ -20,7 +15,6 @@ use Rattle.dkg_ceremony.specs.declared.mode.Reveal.TheVariants.{V1}
 use Rattle.dkg_ceremony.specs.declared.output.Output.{Output}
 use Rattle.dkg_ceremony.specs.declared.round.RoundParts.{RoundParts as Round}
 use Rattle.dkg_ceremony.specs.declared.round.RoundError.{RoundError}
-use Rattle.dkg_ceremony.specs.declared.signed_log.SignedDealerLog.{SignedDealerLog}
 use Rattle.dkg_journal.specs.Operations.{Journaled, Prunes}
 use Rattle.dkg_journal.specs.Records.{Entry as JournalEntry, from_section}
 use Rattle.dkg_secrets.specs.Secrets.{Secrets, after}
@@ -33,32 +27,22 @@ use Rattle.dkg_script.specs.Inclusion.{IsFormOfInclusion}
 use Rattle.dkg_script.specs.Readings.{Info}
 use Rattle.dkg_script.specs.Setting.{Setting, me}
 use Rattle.dkg_store.specs.Acts.{Cause, Changes, Ended, Held, OnDisk, Tears, World, does, notes, says}
-use Rattle.dkg_store.specs.Events.{IsEvent}
 use Rattle.dkg_store.specs.Pairs.{IsWhole, Pairs, recovered}
-use Rattle.dkg_store.specs.declared.event.Event.TheVariants as events
 use Rattle.dkg_store.proofs.Acts.{along_runs}
 use Rattle.dkg_core.specs.Behind.{RunsBehind}
-use Rattle.dkg_core.specs.Blocks as blocks
 use Rattle.dkg_core.specs.Core.{opening}
 use Rattle.dkg_core.specs.Courses.{Ask, Call, Course, Do, EndsSo, Goes, Say, Stops, Throughout, on_devices}
-use Rattle.dkg_core.specs.Dealing as dealing
 use Rattle.dkg_core.specs.Fixed.{Fixed}
 use Rattle.dkg_core.specs.Forms.{IsForm}
 use Rattle.dkg_core.specs.Heard.{recovered_in}
-use Rattle.dkg_core.specs.Live.{Live, NodeStop, awaited_height, recorded_at}
-use Rattle.dkg_core.specs.Logs.{log_event}
+use Rattle.dkg_core.specs.Live.{Live, NodeStop, awaited_height}
 use Rattle.dkg_core.specs.Node.{node_opening}
 use Rattle.dkg_core.specs.Setup as setup
 use Rattle.dkg_core.specs.Storing.{KeepsSeeds, ReadsSecrets}
 use Rattle.dkg_core.specs.Endings.{first_epoch}
 use Rattle.dkg_core.proofs.Behind.{openings_run_behind}
-<<<<<<< HEAD
-use Rattle.dkg_core.proofs.Upkeep.{along_if}
-=======
 use Rattle.dkg_core.proofs.Storing.{looked_up}
->>>>>>> f1e8d65aacf07c2666ecb60042bebfbcd16098eb
 use Rattle.dkg_core.proofs.Walking as walk
-use Rattle.dkg_run.proofs.BlocksLeave.{records_log}
 use Rattle.dkg_run.proofs.NoOthers as others
 use Rattle.dkg_run.proofs.NoOthers.{IsNoOther, pruned_before}
 use Rattle.dkg_run.proofs.OpeningsLeave.{opening_walks}
@@ -175,13 +159,8 @@ module _ (s : Setting) (form : IsFormOfInclusion s.script) where
   module _ {Dir : Type 0} (c : Fixed Dir) (reads : ReadsSecrets c.seen) where
     -- A COMMIT and A PRUNE
 
-<<<<<<< HEAD
-    from_least : (w : World) (x : World) → IsBacked w → IsNoOther (recovered_in w.held) NoOwn x → store.SeedsHeld c reads 0 w x → IsBacked x
-    from_least w x q a b = backed_less w x a.whole (λ key pair got. elim (a.gives key pair got) [
-=======
     from_seeds : (w : World) (x : World) → IsBacked w → IsNoOther (recovered_in w.held) NoOwn x → KeepsSeeds 0 w.held x → IsBacked x
     from_seeds w x q a b = backed_less w x a.whole (λ key pair got. elim (a.gives key pair got) [
->>>>>>> f1e8d65aacf07c2666ecb60042bebfbcd16098eb
       | inl was ↦ (was, record { seeds = λ seed has. b key.0 seed (least key.0) has })
       | inr none ↦ absurd none
     ]) q
@@ -192,16 +171,6 @@ module _ (s : Setting) (form : IsFormOfInclusion s.script) where
     begins : (w : World) → IsBacked w → IsNoOther (recovered_in w.held) NoOwn w
     begins w q = record { whole = q.whole; gives = λ key pair got. inl got }
 
-<<<<<<< HEAD
-    -- of any share: what deals is the seed
-    pub commits_any_backed : (info : EpochInfo Dir) (share : Option ℕ) (st : Live Dir) (w : World) → IsBacked w
-        → Throughout {Dir = Dir} IsBacked (setup.commits info (setup.seed_for c info.epoch (lookup info.epoch (c.seen w.held).seeds)) share st) w
-    commits_any_backed info share st w q =
-        along_both (IsNoOther (recovered_in w.held) NoOwn) (store.SeedsHeld c reads 0 w) IsBacked (λ x a b. from_least w x q a b)
-        (setup.commits info (setup.seed_for c info.epoch (lookup info.epoch (c.seen w.held).seeds)) share st) w
-        (others.commits (recovered_in w.held) NoOwn info (setup.seed_for c info.epoch (lookup info.epoch (c.seen w.held).seeds)) share st w (begins w q))
-        (store.commits_any c reads 0 w info share st w (λ epoch seed above got. got))
-=======
     abbrev seed_of : World → (epoch : ℕ) → List ℕ
     seed_of w epoch = setup.seed_for c epoch (lookup epoch (c.seen w.held).seeds)
 
@@ -240,26 +209,10 @@ module _ (s : Setting) (form : IsFormOfInclusion s.script) where
     commits_any_backed info share st w q =
         along_both (IsNoOther (recovered_in w.held) NoOwn) (KeepsSeeds 0 w.held) IsBacked (λ x a b. from_seeds w x q a b) (setup.commits info (seed_of w info.epoch) share st) w
         (others.commits (recovered_in w.held) NoOwn info (seed_of w info.epoch) share st w (begins w q)) (seeds_stay info share st w)
->>>>>>> f1e8d65aacf07c2666ecb60042bebfbcd16098eb
 
     pub commits_backed : (info : EpochInfo Dir) (st : Live Dir) (w : World) → IsBacked w
         → Throughout {Dir = Dir} IsBacked (setup.commits info (setup.seed_for c info.epoch (lookup info.epoch (c.seen w.held).seeds)) (setup.recovered_share c (c.seen w.held) info) st) w
     commits_backed info st w q = commits_any_backed info (setup.recovered_share c (c.seen w.held) info) st w q
-<<<<<<< HEAD
-
-    -- A LOG that is recorded
-    pub records_backed : (height : ℕ) (log : SignedDealerLog) (st : Live Dir) (w : World) → IsEvent (events.LogAt log.dealer height log.log) → IsBacked w → (epoch : ℕ)
-        → Throughout {Dir = Dir} IsBacked (blocks.records_log epoch height log st) w
-    records_backed height log st w is q epoch =
-        along_both (IsNoOther (recovered_in w.held) NoOwn) (λ x. x.held.secrets ≡ w.held.secrets) IsBacked
-        (λ x a same. backed_less w x a.whole (λ key pair got. elim (a.gives key pair got) [
-          | inl was ↦ (was, same_still w.held.secrets x.held.secrets key.0 same)
-          | inr none ↦ absurd none
-        ]) q) (blocks.records_log epoch height log st) w (records_log (recovered_in w.held) NoOwn height log st w is (begins w q) epoch)
-        (along_if (λ x. x.held.secrets ≡ w.held.secrets) w (is_some (recorded_at st.records.logs epoch log.dealer)) (Goes st)
-        (dealing.appends epoch (log_event log.dealer height log.log) (Goes (blocks.with_log epoch log.dealer height log.log st))) (λ e. refl) (λ e. (λ cause new tears. tears.torn.0, refl)))
-=======
->>>>>>> f1e8d65aacf07c2666ecb60042bebfbcd16098eb
 
     -- behind the journal's prune nothing below is given back
     from_pruned : (min : ℕ) (w x : World) → IsBacked w → notes x.held ≡ from_section min (notes w.held) → IsNoOther (recovered_in w.held) NoOwn x → IsUpkept c reads min w x → IsBacked x

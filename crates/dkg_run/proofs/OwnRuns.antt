@@ -32,14 +32,12 @@ use Rattle.dkg_core.specs.Dealing as d
 use Rattle.dkg_core.specs.Fixed.{Fixed}
 use Rattle.dkg_core.specs.Forms.{Applied, judged_block}
 use Rattle.dkg_core.specs.Heard.{Fits, MayHave, recovered_in}
-use Rattle.dkg_core.specs.Laws.{IsOther}
-use Rattle.dkg_core.specs.Live.{Cancel, Deals, Ends, EpochInfoOf, Feed, Finalized, Follows, Includes, Live, Mail, Message, NextLog, NodeStop, Over, Peer, ReleaseLog, Sent, Stage, Work}
+use Rattle.dkg_core.specs.Live.{Deals, Ends, Finalized, Follows, Includes, Live, Message, NodeStop, Peer, Sent, Stage}
 use Rattle.dkg_core.specs.Meant.{ReadsRecords}
 use Rattle.dkg_core.specs.Node.{node_opening, node_step}
 use Rattle.dkg_core.specs.Seen.{Seen}
 use Rattle.dkg_core.specs.Storing.{KeepsSeeds, ReadsSecrets}
 use Rattle.dkg_core.proofs.Behind.{steps_run_behind}
-use Rattle.dkg_core.proofs.Idle.{mails_are_idle}
 use Rattle.dkg_core.proofs.NodeKept.{node_peers_are_kept}
 use Rattle.dkg_core.proofs.Storing.{node_steps_keep_secrets}
 use Rattle.dkg_core.proofs.Walking as walk
@@ -50,12 +48,8 @@ use Rattle.dkg_run.specs.GivesBack.{PassesAll}
 use Rattle.dkg_run.specs.Lives.{LivesSo, RunsSo}
 use Rattle.dkg_run.specs.Ways.{by_worlds}
 use Rattle.dkg_run.proofs.Awaiting.{IsReached}
-<<<<<<< HEAD
-use Rattle.dkg_run.proofs.Former.{Brings, IsMessage, event_in_form, form_at, message_in}
-=======
 use Rattle.dkg_run.proofs.BlocksLeave.{records_log}
 use Rattle.dkg_run.proofs.Former.{BringsBlock, BringsOther, BringsPeer, IsMessage, brings_kind, event_in_form, form_at, message_in}
->>>>>>> f1e8d65aacf07c2666ecb60042bebfbcd16098eb
 use Rattle.dkg_run.proofs.GivingDealings as giving
 use Rattle.dkg_run.proofs.GivingDealings.{FitsRecords, IsPassing, PassHeld}
 use Rattle.dkg_run.proofs.GivingLives.{KeepsSo, LeavesSo, life_holds, run_holds}
@@ -65,13 +59,8 @@ use Rattle.dkg_run.proofs.NoOthers as others
 use Rattle.dkg_run.proofs.NoOthers.{IsNoOther, IsOwnDealt, inserted}
 use Rattle.dkg_run.proofs.OfferingLives as offering
 use Rattle.dkg_run.proofs.OfferingLives.{IsStanding}
-<<<<<<< HEAD
-use Rattle.dkg_run.proofs.OwnBacked.{AreBacked, HoldsStill, IsBacked, IsBackedBy, along_both, commits_any_backed, commits_backed, opening_backed, prunes_backed, records_backed, said_backed, same_backed, still_backed}
-use Rattle.dkg_run.proofs.OwnSteps.{SameSecrets, deals_same}
-=======
 use Rattle.dkg_run.proofs.OwnBacked.{AreBacked, HoldsStill, IsBacked, IsBackedBy, along_both, commits_any_backed, commits_backed, opening_backed, prunes_backed, said_backed, same_backed, still_backed}
 use Rattle.dkg_run.proofs.OwnSteps.{SameSecrets, deals_same, logs_same}
->>>>>>> f1e8d65aacf07c2666ecb60042bebfbcd16098eb
 use Rattle.dkg_run.proofs.StoredDealers.{IsStoredDealer}
 
 some_is : {A : Type 0} {x y : A} → ◌≡◌ {A = Option A} (Some x) (Some y) → x ≡ y
@@ -139,12 +128,8 @@ module _ (s : Setting) (cuts : List (Option CutAt)) (form : IsFormOfInclusion s.
       fresh x same key pair own round made =
           let stored : IsStoredDealer (me s) st own.dealer w.held = (owning.standing).deals own.dealer own.of_dealer in
           let number : key.0 ≡ (stored.round).number = ap (λ (k : ℕ × ℕ). k.0) own.at ∙ ap (λ (r : Round). r.number) (some_is (sym own.of_epoch ∙ stored.of_epoch)) in
-<<<<<<< HEAD
-          let its_round : round ≡ stored.round = some_is (sym made ∙ ap (round_at s) number ∙ (owning.passing).rounds stored.round stored.of_epoch) in (
-=======
           let its_round : round ≡ stored.round = some_is (sym made ∙ ap (round_at s) number ∙ (owning.passing).rounds stored.round stored.of_epoch) in
           (
->>>>>>> f1e8d65aacf07c2666ecb60042bebfbcd16098eb
             stored.seed,
             stored.share,
             (own.dealer).privates,
@@ -199,11 +184,7 @@ module _ (s : Setting) (cuts : List (Option CutAt)) (form : IsFormOfInclusion s.
             walk.follows_at c Backed (λ x line aside q. said_backed s form x line q) most (commits_backed s form c (reads_at (suc i))) (λ min low at x q. prunes_backed s form c (reads_at (suc i)) min at x q) block (itself most) st w before
         applies judged Includes at =
             walk.including c Backed (λ x line aside q. said_backed s form x line q) most (commits_backed s form c (reads_at (suc i))) (λ min low at x q. prunes_backed s form c (reads_at (suc i)) min at x q) block (itself most)
-<<<<<<< HEAD
-            (commits_any_backed s form c (reads_at (suc i))) st w (λ log carries epoch. records_backed s form c (reads_at (suc i)) block.height log st w (can.brings log carries) before epoch) before
-=======
             (commits_any_backed s form c (reads_at (suc i))) st w log_backed before
->>>>>>> f1e8d65aacf07c2666ecb60042bebfbcd16098eb
         applies judged Ends at = before
 
         block_backed : (ended : Ended NodeStop (Live directory.Unit)) → EndsSo (node_step c (event_of (Finalized block)) st) ended w new → Backed new
@@ -239,38 +220,8 @@ module _ (s : Setting) (cuts : List (Option CutAt)) (form : IsFormOfInclusion s.
             (record { records = ((owning.passing).agreed).dealings; whole = before.whole; gives = refl; fits = fit.0; fits_ack = fit.1 }) run).gives in
             still_backed s form w.held.secrets new.held.secrets key pair (still key.0) (owning.own key pair mine (was_there round gives key pair mine got))
 
-      -- ANY OTHER MAIL touches no device
-      idle_backed : (mail : Mail directory.Unit) → IsOther (Sent mail) → (ended : Ended NodeStop (Live directory.Unit)) → EndsSo (node_step c (event_of (Sent mail)) st) ended w new → AreBacked s form (recovered_in new.held) new.held.secrets
-      idle_backed mail other ended run =
-          subst (λ (h : Held). AreBacked s form (recovered_in h) h.secrets) (sym (mails_are_idle c mail st ended w new other ((((owning.passing).at).active).active).unawaited run).held) owning.own
-
       -- ANY STEP, wherever it ends
       step_backed : (ended : Ended NodeStop (Live directory.Unit)) → EndsSo (step_of g (suc i) its st) ended w new → AreBacked s form (recovered_in new.held) new.held.secrets
-<<<<<<< HEAD
-      step_backed ended run =
-          by_event its is m.message m.brings (giving.can s cuts form consistent l life seen files life_is here records fits i its is reached st w new owning.passing)
-          (subst (λ (course : Course directory.Unit NodeStop (Live directory.Unit)). EndsSo course ended w new) (m.course (suc i) st) run)
-        where
-          brought : (message other : Message directory.Unit) → message ≡ other → EndsSo (node_step c (event_of message) st) ended w new → EndsSo (node_step c (event_of other) st) ended w new
-          brought message other same its_run = subst (λ (x : Message directory.Unit). EndsSo (node_step c (event_of x) st) ended w new) same its_run
-
-          by_event : (e : Event) → slice_get life.events i ≡ Some e → (message : Message directory.Unit) → Brings g e message → CanRecord c st message → EndsSo (node_step c (event_of message) st) ended w new
-              → AreBacked s form (recovered_in new.held) new.held.secrets
-          by_event (event.Peer from bytes) at message brings its_can its_run =
-              heard_backed from bytes (holds_at (IsFromAnother (me s)) life.events i (event.Peer from bytes) (holds_at (λ (life : Life). AllByRecursion (IsFromAnother (me s)) life.events) s.script.lives l life consistent.others life_is) at)
-              (subst (BringsRecords c) brings its_can.brings) ended (brought message (Sent (Peer from bytes)) brings its_run) st.participation.round refl
-          by_event (event.Final number) at message brings its_can its_run =
-              (block_backed (brings.0).block (subst (λ (x : Message directory.Unit). CanRecord c st x) brings.1 its_can) ended (brought message (Finalized (brings.0).block) brings.1 its_run)).own
-          by_event (event.Next request height) at message brings its_can its_run = idle_backed (NextLog request height) tt ended (brought message (Sent (NextLog request height)) brings its_run)
-          by_event (event.Release height) at message brings its_can its_run = idle_backed (ReleaseLog height) tt ended (brought message (Sent (ReleaseLog height)) brings its_run)
-          by_event (event.Info request) at message brings its_can its_run = idle_backed (EpochInfoOf request) tt ended (brought message (Sent (EpochInfoOf request)) brings its_run)
-          by_event (event.Feed request number) at message brings its_can its_run =
-              idle_backed (Feed request (brings.0).block) tt ended (brought message (Sent (Feed request (brings.0).block)) brings.1 its_run)
-          by_event (event.Over request) at message brings its_can its_run = idle_backed (Over request) tt ended (brought message (Sent (Over request)) brings its_run)
-          by_event (event.Cancel request) at message brings its_can its_run = idle_backed (Cancel request) tt ended (brought message (Sent (Cancel request)) brings its_run)
-          by_event event.Work at message brings its_can its_run = idle_backed (Work None) tt ended (brought message (Sent (Work None)) brings its_run)
-          by_event other at message brings its_can its_run = absurd brings
-=======
       step_backed ended run = by_kind (brings_kind g its m.message m.brings)
         where
           its_run : EndsSo (node_step c (event_of m.message) st) ended w new
@@ -290,7 +241,6 @@ module _ (s : Setting) (cuts : List (Option CutAt)) (form : IsFormOfInclusion s.
               (subst (BringsRecords c) p.3 its_can.brings) ended (as_run (Sent (Peer p.0 p.1)) p.3) st.participation.round refl
           by_kind (inr (inr mail)) =
               subst (λ (h : Held). AreBacked s form (recovered_in h) h.secrets) (sym (idle_held c mail.0 mail.2 st ended w new ((owning.passing).at).active (as_run (Sent mail.0) mail.1))) owning.own
->>>>>>> f1e8d65aacf07c2666ecb60042bebfbcd16098eb
 
     pub step_keeps : FitsRecords s cuts form consistent l life seen files life_is here records → (i : ℕ) (its : Event) (st : Live directory.Unit) (h : Held) → slice_get life.events i ≡ Some its → IsReached life.cut (suc i) → IsOwning i st h
         → KeepsSo ValidHeld (IsOwning (suc i)) (step_of g (suc i) its st) h
