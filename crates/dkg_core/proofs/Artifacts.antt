@@ -21,7 +21,7 @@ use Rattle.dkg_core.specs.Setup.{looks}
 use Rattle.dkg_core.specs.Including as i
 use Rattle.dkg_core.specs.Including.{Next, cached_for}
 use Rattle.dkg_core.specs.Forms.{IsForm, ComesOver, Finds}
-use Rattle.dkg_core.specs.Asked.{OfShares, IsArtifactIn, IsResultIn, HasAsked, IsDeriveStop, IsMadeIn, ArtifactsLead}
+use Rattle.dkg_core.specs.Asked.{OfShares, IsProvided, IsArtifactIn, IsResultIn, HasAsked, IsDeriveStop, IsMadeIn, ArtifactsLead}
 use Rattle.dkg_core.proofs.Counting.{some_is}
 use Rattle.dkg_core.proofs.Same.{one_logs, logs_again}
 use Rattle.dkg_core.proofs.Setups.{over_if, over_asks}
@@ -37,6 +37,15 @@ at_most a b e = grind (arith, nat_tests)
 
 below : (a b : ℕ) → nat_lt a b ≡ true → a < b
 below a b e = grind (arith, nat_tests)
+
+not_at_most : (a b : ℕ) → nat_le a b ≡ false → b < a
+not_at_most a b e = grind (arith, nat_tests)
+
+not_below : (a b : ℕ) → nat_lt a b ≡ false → b ≤ a
+not_below a b e = grind (arith, nat_tests)
+
+some_of : (n : ℕ) → (n == 0) ≡ false → 1 ≤ n
+some_of n e = grind (arith, nat_tests)
 
 none_of : (n : ℕ) → (n == 0) ≡ true → n ≡ 0
 none_of n e = grind (arith, nat_tests)
@@ -98,8 +107,9 @@ module _ {Dir : Type 0} (c : Fixed Dir) (stored : OfShares) (round : Round) (inf
   by_outcome : (found : Option Verified) → r.result ≡ found → option_map (λ (v : Verified). v.output) found ≡ c.rules.outcome_of round r.logs
   by_outcome found is = sym (ap (λ (o : Option Verified). option_map (λ (v : Verified). v.output) o) is) ∙ result.outcome
 
-  of_verified : (found : Verified) → r.result ≡ Some found → OfLogs r.logs (with_it found.share)
-  of_verified found is = record {
+  of_verified : IsProvided c info → (found : Verified) → r.result ≡ Some found → OfLogs r.logs (with_it found.share)
+  of_verified known found is = record {
+    provided = known;
     info_is = ap (λ (x : EpochInfo Dir). Some x) is_next;
     success = λ output made. (
       result.shared found is,
@@ -109,8 +119,9 @@ module _ {Dir : Type 0} (c : Fixed Dir) (stored : OfShares) (round : Round) (inf
     failure = λ none. absurd (none_apart found.output (sym none ∙ sym (by_outcome (Some found) is)));
   }
 
-  of_failed : (share : Option ℕ) → r.result ≡ None → (has info.output.players c.me ≡ true → stored info.epoch share) → (has info.output.players c.me ≡ false → share ≡ None) → OfLogs r.logs (with_it share)
-  of_failed share is carried other = record {
+  of_failed : IsProvided c info → (share : Option ℕ) → r.result ≡ None → (has info.output.players c.me ≡ true → stored info.epoch share) → (has info.output.players c.me ≡ false → share ≡ None) → OfLogs r.logs (with_it share)
+  of_failed known share is carried other = record {
+    provided = known;
     info_is = ap (λ (x : EpochInfo Dir). Some x) is_next;
     success = λ output made. absurd (none_apart output (by_outcome None is ∙ made));
     failure = λ none. (carried, other);
@@ -134,15 +145,15 @@ module _ {Dir : Type 0} (c : Fixed Dir) (stored : OfShares) (round : Round) (inf
         (r.logs, subst (λ (x : EpochInfo Dir). c.directories.matches x.directory (i.info_peers x) ≡ false) is_next e),
       ))
 
-  by_result : (found : Option Verified) → r.result ≡ found → C (i.share_by c info found (λ share. i.with_directory c its_info (i.keeping r.logs next (with_it share) st)))
-  by_result (Some found) is = made_now found.share (of_verified found is)
-  by_result None is =
+  by_result : IsProvided c info → (found : Option Verified) → r.result ≡ found → C (i.share_by c info found (λ share. i.with_directory c its_info (i.keeping r.logs next (with_it share) st)))
+  by_result known (Some found) is = made_now found.share (of_verified known found is)
+  by_result known None is =
       courses.if_so (has info.output.players c.me) (looks c (λ s. i.with_directory c its_info (i.keeping r.logs next (with_it (lookup info.epoch s.shares)) st)))
       (i.with_directory c its_info (i.keeping r.logs next (with_it None) st))
       (λ e. courses.reads (λ h. i.with_directory c its_info (i.keeping r.logs next (with_it (lookup info.epoch (c.seen h).shares)) st))
       (λ h found. made_now (lookup info.epoch (c.seen h).shares)
-      (of_failed (lookup info.epoch (c.seen h).shares) is (λ plays. found info.epoch) (λ other. absurd (bool_apart (has info.output.players c.me) e other)))))
-      (λ e. made_now None (of_failed None is (λ plays. absurd (bool_apart (has info.output.players c.me) plays e)) (λ other. refl)))
+      (of_failed known (lookup info.epoch (c.seen h).shares) is (λ plays. found info.epoch) (λ other. absurd (bool_apart (has info.output.players c.me) e other)))))
+      (λ e. made_now None (of_failed known None is (λ plays. absurd (bool_apart (has info.output.players c.me) plays e)) (λ other. refl)))
 
   abbrev count : ℕ
   count = length (c.provided.participants (info.epoch + 2))
@@ -153,11 +164,12 @@ module _ {Dir : Type 0} (c : Fixed Dir) (stored : OfShares) (round : Round) (inf
       let few : Course Dir Fault (Live Dir) = if nat_lt c.limit count then Stops (InvalidParticipants (ProviderAbove count c.limit)) else acts in
       let some : Course Dir Fault (Live Dir) = if count == 0 then Stops (InvalidParticipants ProviderEmpty) else few in
       courses.if_so (nat_le (2 ^ 64) (info.epoch + 2)) (Stops HeightRange) some
-      (λ e. courses.stopped HeightRange (at_most (2 ^ 64) (info.epoch + 2) e))
-      (λ e. courses.if_so (count == 0) (Stops (InvalidParticipants ProviderEmpty)) few
-      (λ e. courses.stopped (InvalidParticipants ProviderEmpty) (none_of count e))
-      (λ e. courses.if_so (nat_lt c.limit count) (Stops (InvalidParticipants (ProviderAbove count c.limit))) acts
-      (λ e. courses.stopped (InvalidParticipants (ProviderAbove count c.limit)) (refl, refl, below c.limit count e)) (λ e. by_result r.result refl)))
+      (λ past. courses.stopped HeightRange (at_most (2 ^ 64) (info.epoch + 2) past))
+      (λ within. courses.if_so (count == 0) (Stops (InvalidParticipants ProviderEmpty)) few
+      (λ none. courses.stopped (InvalidParticipants ProviderEmpty) (none_of count none))
+      (λ there. courses.if_so (nat_lt c.limit count) (Stops (InvalidParticipants (ProviderAbove count c.limit))) acts
+      (λ many. courses.stopped (InvalidParticipants (ProviderAbove count c.limit)) (refl, refl, below c.limit count many))
+      (λ enough. by_result (record { in_range = not_at_most (2 ^ 64) (info.epoch + 2) within; some = some_of count there; few = not_below c.limit count enough }) r.result refl)))
 
   by_cached : (cached : Option (Artifact Dir)) → cached_for st.inclusion.cached r.logs ≡ cached → C (i.artifact_by c r cached st next)
   by_cached (Some made) is = so made st (record { artifact = cached_is c stored round info st asked of_epoch of_info r.logs made is; same = refl; is = is; all = all c stored round info st asked of_epoch of_info })

@@ -558,15 +558,15 @@ module _ {Dir : Type 0} (c : Fixed Dir) (form : IsFormThrough c) (stored : OfSha
   gives number height None = ((None, refl), tt)
   gives number height (Some log) = ((Some (payload_bytes c (log_payload log)), refl), tt)
 
-  asks : (number : ℕ) (stage : Stage) → st.participation.stage ≡ stage → SaysSo (IsMailLine c st (EpochInfoOf number)) (i.asks_in c number (with_used number st) stage)
-  asks number Deals is = tt
-  asks number Includes is =
+  asks_so : (number : ℕ) (stage : Stage) → st.participation.stage ≡ stage → SaysSo (IsMailLine c st (EpochInfoOf number)) (i.asks_in c number (with_used number st) stage)
+  asks_so number Deals is = tt
+  asks_so number Includes is =
       let now : Live Dir = i.queued number (with_used number st) in
       reads_so c form.form stored reads now live.informed
       (requeued c stored st st.inclusion now.inclusion.queue now.inclusion.used now.inclusion.told has_now (λ follows. absurd (let no : ◌≡◌ {A = Stage} Follows Includes = sym follows ∙ is in cc)))
       (IsMailLine c st (EpochInfoOf number)) (λ line its. inl its)
-  asks number Follows is = (inr (is, refl), tt)
-  asks number Ends is = absurd (not_ended c st live.stands is)
+  asks_so number Follows is = (inr (is, refl), tt)
+  asks_so number Ends is = absurd (not_ended c st live.stands is)
 
   changes : (its : Mail Dir) (number : ℕ) (f : Request Dir → Request Dir) → ((line : Line) → IsReadAnswer c (i.changed number f st) line → IsMailLine c st its line)
       → SaysSo (IsMailLine c st its) (i.advanced c (i.changed number f st))
@@ -612,7 +612,7 @@ module _ {Dir : Type 0} (c : Fixed Dir) (form : IsFormThrough c) (stored : OfSha
   mail_so (Peer from bytes) taken = hears_so c (IsMailLine c st (Peer from bytes)) (λ line is. is) from bytes st st.participation.stage
   mail_so (NextLog number height) taken = gives number height (i.served_now (with_used number st))
   mail_so (ReleaseLog height) taken = tt
-  mail_so (EpochInfoOf number) taken = asks number st.participation.stage refl
+  mail_so (EpochInfoOf number) taken = asks_so number st.participation.stage refl
   mail_so (Feed number block) taken = changes (Feed number block) number (λ r. if r.ended then r else record r { blocks = r.blocks ++ block ∷ [] }) (λ line its. its)
   mail_so (Over number) taken = changes (Over number) number (λ r. record r { ended = true }) (λ line its. its)
   mail_so (Cancel number) taken = cancels number

@@ -1,5 +1,5 @@
 -- How steps end in a life that passes through whole epochs.
-use Rattle.std.proofs.Common.{◌≡◌, ◌≤◌, ◌<◌, ◌⊎◌, inl, inr, ℕ, Bool, true, false, List, [], Option, Some, None, refl, sym, ◌∙◌, ap, subst, arith}
+use Rattle.std.proofs.Common.{◌≡◌, ◌≤◌, ◌<◌, ◌⊎◌, inl, inr, ℕ, Bool, true, false, List, [], ◌∷◌, Option, Some, None, refl, sym, ◌∙◌, ap, subst, arith}
 use Rattle.std.specs.Prelude.{◌+◌, ◌==◌, if◌then◌else◌, is_some, option_map, Result, Ok, Err}
 use Rattle.std.specs.Option.{option_map_or}
 use Rattle.std.proofs.lemmas.Bool.Decides.{nat_tests}
@@ -14,7 +14,7 @@ use Rattle.dkg_types.specs.declared.info.EpochInfo.{EpochInfo}
 use Rattle.dkg_store.specs.Acts.{Held}
 use Rattle.dkg_core.specs.Courses.{Course, Goes, bind}
 use Rattle.dkg_core.specs.Fixed.{Fixed}
-use Rattle.dkg_core.specs.Live.{Live, Dealer, Seat, Plays, Watches, Stage, Deals, Includes, Follows, Ends, Inclusion, Message, Sent, Finalized, Mail, Peer, NextLog, ReleaseLog, EpochInfoOf, Feed, Over, Cancel, Work, recorded_at, is_last_height, with_tip, with_used}
+use Rattle.dkg_core.specs.Live.{Live, Dealer, Seat, Plays, Watches, Stage, Deals, Includes, Follows, Ends, Inclusion, Request, Message, Sent, Finalized, Mail, Peer, NextLog, ReleaseLog, EpochInfoOf, Feed, Over, Cancel, Work, recorded_at, is_last_height, with_tip, with_used}
 use Rattle.dkg_core.specs.Setup as s
 use Rattle.dkg_core.specs.Dealing as d
 use Rattle.dkg_core.specs.Including.{advanced, served_now}
@@ -23,7 +23,7 @@ use Rattle.dkg_core.specs.Core.{step}
 use Rattle.dkg_core.specs.Forms.{IsLiveIn, Judged, Refusal, Passed, Applied, judged_block, ComesOver, share_read}
 use Rattle.dkg_core.specs.Stepping.{IsHeardBy, with_taken, own_half, with_own_dealing, with_own_ack, given_in, given_itself, IsDealingStop, dealt_behind}
 use Rattle.dkg_core.specs.Asked.{OfShares, read_somewhere, Reads, InRound, HasAsked, IsInformed, IsAskStop, IsReadOn}
-use Rattle.dkg_core.specs.Through.{IsFormThrough, IsLiveThrough, IsTakenThrough, IsReadFrom, IsShareTaken, IsPassedOn, IsAppliedStopThrough, IsBlockStopThrough, IsAppliedThrough, IsBlockThrough, IsFollowedThrough, IsIncludedThrough, IsStopThrough, IsEndThrough, IsNextThrough, StepReads, StepsComeThrough, StepsLeadThrough, StepsLeadThroughOver, asked_by, included, unasked}
+use Rattle.dkg_core.specs.Through.{IsFormThrough, IsLiveThrough, IsTakenThrough, IsReadFrom, IsShareTaken, IsPassedOn, IsAppliedStopThrough, IsBlockStopThrough, IsAppliedThrough, IsBlockThrough, IsFollowedThrough, IsIncludedThrough, IsStopThrough, IsEndThrough, IsNextThrough, StepReads, StepsComeThrough, StepsLeadThrough, StepsLeadThroughOver, WasAsked, asked_by, included, unasked}
 use Rattle.dkg_core.proofs.Advancing.{advances_lead}
 use Rattle.dkg_core.proofs.Applied.{judged_comes, deals_below, includes_above}
 use Rattle.dkg_core.proofs.Concluding as concluding
@@ -36,6 +36,10 @@ use Rattle.dkg_core.proofs.Splitting.{came_to}
 use Rattle.dkg_core.proofs.StepDealing as dealing
 use Rattle.dkg_core.proofs.StepFollowing as following
 use Rattle.dkg_core.proofs.StepPeers as peer
+use Rattle.dkg_core.proofs.Unasked.{Any, advanced_stays, includes_stay, mail_asked, over_never}
+
+cons_apart : {A : Type 0} {x : A} {xs : List A} → ◌≡◌ {A = List A} (x ∷ xs) [] → ⊥
+cons_apart e = cc
 
 none_apart : {A : Type 0} (a : A) → ◌≡◌ {A = Option A} None (Some a) → ⊥
 none_apart a e = cc
@@ -251,17 +255,30 @@ module _ {Dir : Type 0} (c : Fixed Dir) (form : IsFormThrough c) (stored : OfSha
         };
       }
 
-      begins : (block.height + 1 == midpoint c.blocks_per_epoch mid.participation.epoch) ≡ true → (left : Option Held)
-          → ComesOver (Stop Deals) (λ end left. IsLiveThrough c stored end × IsReadFrom c begun end) (advanced c begun) left
-      begins e left =
-          over_as (IsAskStop c begun) (Stop Deals) (λ end last. (last ≡ left) × IsReadOn c stored begun end) (λ end left. IsLiveThrough c stored end × IsReadFrom c begun end) (advanced c begun) left
-          (λ fault stop. inr (same_number (block.height + 1) (midpoint c.blocks_per_epoch mid.participation.epoch) e ∙ ap (λ (epoch : ℕ). midpoint c.blocks_per_epoch epoch) same.same.epoch, stop))
-          (λ end last its. (
-            live_read c stored begun end (dealing.begins c form.form block (unasked mid) stands (same.stage ∙ is) (same.same.epoch ∙ place.0) place.1 e) informed its.1,
-            read_from c stored begun end its.1,
-          ))
-          (advances_lead c stored begun left form.form (λ r at. absurd (none_apart r (sym early.1 ∙ at))) informed
-          (early_has c stored begun early.0 early.1 early.2 (has.waits early.0) (λ other. refl) (λ follows. absurd (includes_apart follows))))
+      abbrev Begun : Live Dir → Option Held → Type 0
+      Begun end left = IsLiveThrough c stored end × IsReadFrom c begun end
+
+      begins : (block.height + 1 == midpoint c.blocks_per_epoch mid.participation.epoch) ≡ true → (left : Option Held) → ComesOver (Stop Deals) Begun (advanced c begun) left
+      begins e left = by_queue st.inclusion.queue refl
+        where
+          comes : ComesOver (IsAskStop c begun) Begun (advanced c begun) left
+          comes =
+              over_as (IsAskStop c begun) (IsAskStop c begun) (λ end last. (last ≡ left) × IsReadOn c stored begun end) Begun (advanced c begun) left (λ fault stop. stop)
+              (λ end last its. (
+                live_read c stored begun end (dealing.begins c form.form block (unasked mid) stands (same.stage ∙ is) (same.same.epoch ∙ place.0) place.1 e) informed its.1,
+                read_from c stored begun end its.1,
+              ))
+              (advances_lead c stored begun left form.form (λ r at. absurd (none_apart r (sym early.1 ∙ at))) informed
+              (early_has c stored begun early.0 early.1 early.2 (has.waits early.0) (λ other. refl) (λ follows. absurd (includes_apart follows))))
+
+          at_middle : block.height + 1 ≡ midpoint c.blocks_per_epoch st.participation.epoch
+          at_middle = same_number (block.height + 1) (midpoint c.blocks_per_epoch mid.participation.epoch) e ∙ ap (λ (epoch : ℕ). midpoint c.blocks_per_epoch epoch) same.same.epoch
+
+          by_queue : (queue : List (Request Dir)) → st.inclusion.queue ≡ queue → ComesOver (Stop Deals) Begun (advanced c begun) left
+          by_queue [] none =
+              over_never (Any c) (IsAskStop c begun) (Stop Deals) Begun (advanced c begun) left (advanced_stays c begun left (inl (ap (λ (its : Inclusion Dir). its.queue) same.inclusion ∙ none))) comes
+          by_queue (r ∷ rs) there =
+              over_as (IsAskStop c begun) (Stop Deals) Begun Begun (advanced c begun) left (λ fault stop. inr (at_middle, (λ none. cons_apart (sym there ∙ none)), stop)) (λ end left its. its) comes
 
       deals : ComesOver (Stop Deals) (To Deals) (b.deals_at c block st) devices
       deals =
@@ -291,18 +308,26 @@ module _ {Dir : Type 0} (c : Fixed Dir) (form : IsFormThrough c) (stored : OfSha
           (concluding.final_comes c form stored block last st live is round of_epoch devices reads_now)
         where
           stop_at : (fault : Fault) → concluding.FinalStop c form stored block last st live is round of_epoch devices reads_now fault → Stop Includes fault
-          stop_at fault (inl stop) = inl stop
+          stop_at fault (inl stop) = inl (inl last, stop)
           stop_at fault (inr stop) = inr (last, stop)
 
       below_comes : is_last_height c block.height ≡ false → ComesOver (Stop Includes) (To Includes) (b.includes c round block st) devices
-      below_comes below =
-          let place = includes_above c block st live.stands accepted is in
-          over_as (IsAskStop c st) (Stop Includes) (λ end left. IsLiveThrough c stored end × InRound st (λ round. IsReadFrom c (included_at round) end)) (To Includes) (b.includes c round block st) devices (λ fault stop. inl stop)
-          (λ end left its. (its.0, subst (λ (t : Bool). IsIncludedThrough c stored block st devices t end left) (sym below) its.1))
-          (includes_comes c form.form stored block st live is place.0 place.1 below round of_epoch devices reads)
+      below_comes below = by_queue st.inclusion.queue refl
         where
           included_at : Round → Live Dir
           included_at its = included c its block st
+
+          comes : ComesOver (IsAskStop c st) (To Includes) (b.includes c round block st) devices
+          comes =
+              let place = includes_above c block st live.stands accepted is in
+              over_as (IsAskStop c st) (IsAskStop c st) (λ end left. IsLiveThrough c stored end × InRound st (λ round. IsReadFrom c (included_at round) end)) (To Includes) (b.includes c round block st) devices (λ fault stop. stop)
+              (λ end left its. (its.0, subst (λ (t : Bool). IsIncludedThrough c stored block st devices t end left) (sym below) its.1))
+              (includes_comes c form.form stored block st live is place.0 place.1 below round of_epoch devices reads)
+
+          by_queue : (queue : List (Request Dir)) → st.inclusion.queue ≡ queue → ComesOver (Stop Includes) (To Includes) (b.includes c round block st) devices
+          by_queue [] none = over_never (Any c) (IsAskStop c st) (Stop Includes) (To Includes) (b.includes c round block st) devices (includes_stay c round block st none devices) comes
+          by_queue (r ∷ rs) there =
+              over_as (IsAskStop c st) (Stop Includes) (To Includes) (To Includes) (b.includes c round block st) devices (λ fault stop. inl (inr (λ none. cons_apart (sym there ∙ none)), stop)) (λ end left its. its) comes
 
       includes : ComesOver (Stop Includes) (To Includes) (if is_last_height c block.height then b.final_block c round block st else b.includes c round block st) devices
       includes = over_if (Stop Includes) (To Includes) devices (is_last_height c block.height) (b.final_block c round block st) (b.includes c round block st) last_comes below_comes
@@ -375,10 +400,20 @@ module _ {Dir : Type 0} (c : Fixed Dir) (form : IsFormThrough c) (stored : OfSha
   abbrev ReadIn : Mail Dir → Live Dir → Option Held → Type 0
   ReadIn its = mail.ReadTo c form stored st live devices now_reads (asked_by its st)
 
-  requests : (its : Mail Dir) → IsRequest its → (stops : Fault → Type 0) → ((fault : Fault) → IsAskStop c st fault → stops fault) → ((end : Live Dir) (left : Option Held) → ReadIn its end left → Left (Sent its) end left)
-      → IsTakenThrough c (Sent its) st → ComesOver stops (Left (Sent its)) (step c (Sent its) st) devices
-  requests its is stops more most taken =
-      over_as (IsAskStop c st) stops (ReadIn its) (Left (Sent its)) (step c (Sent its) st) devices more most (mail.mail_comes c form stored st live devices now_reads its is taken)
+  -- an event of a request that stops was asked
+  requests : (its : Mail Dir) → IsRequest its → ((end : Live Dir) (left : Option Held) → ReadIn its end left → Left (Sent its) end left) → IsTakenThrough c (Sent its) st
+      → ComesOver (λ fault. WasAsked its st × IsAskStop c st fault) (Left (Sent its)) (step c (Sent its) st) devices
+  requests its is most taken = either (mail_asked c stored st live.asked.has devices its is)
+    where
+      comes : ComesOver (IsAskStop c st) (ReadIn its) (step c (Sent its) st) devices
+      comes = mail.mail_comes c form stored st live devices now_reads its is taken
+
+      either : WasAsked its st ⊎ ComesOver (λ fault. ⊥) (Any c) (step c (Sent its) st) devices → ComesOver (λ fault. WasAsked its st × IsAskStop c st fault) (Left (Sent its)) (step c (Sent its) st) devices
+      either (inl asked) =
+          over_as (IsAskStop c st) (λ fault. WasAsked its st × IsAskStop c st fault) (ReadIn its) (Left (Sent its)) (step c (Sent its) st) devices (λ fault stop. (asked, stop)) most comes
+      either (inr never) =
+          over_as (λ fault. WasAsked its st × IsAskStop c st fault) (λ fault. WasAsked its st × IsAskStop c st fault) (ReadIn its) (Left (Sent its)) (step c (Sent its) st) devices (λ fault stop. stop) most
+          (over_never (Any c) (IsAskStop c st) (λ fault. WasAsked its st × IsAskStop c st fault) (ReadIn its) (step c (Sent its) st) devices never comes)
 
   steps : (message : Message Dir) → IsTakenThrough c message st → ComesOver (IsStopThrough c stored st message devices) (Left message) (step c message st) devices
   steps (Finalized block) taken = block_comes c form stored st live block devices reads
@@ -390,11 +425,11 @@ module _ {Dir : Type 0} (c : Fixed Dir) (form : IsFormThrough c) (stored : OfSha
       (step c (Sent (NextLog request height)) st) devices (λ fault stop. stop) (λ end left its. record { live = its.0; is = (its.1, its.2) })
       (mail.serves c form stored st live devices now_reads (IsStopThrough c stored st (Sent (NextLog request height)) devices) request height (served_now (with_used request st)) refl)
   steps (Sent (ReleaseLog height)) taken = let its = mail.releases c form stored st live devices now_reads height in record { live = its.0; is = (its.1, its.2) }
-  steps (Sent (EpochInfoOf request)) taken = requests (EpochInfoOf request) tt (IsAskStop c st) (λ fault stop. stop) (λ end left its. record { live = its.0; is = (its.1, its.2) }) taken
-  steps (Sent (Feed request block)) taken = requests (Feed request block) tt (IsAskStop c st) (λ fault stop. stop) (λ end left its. record { live = its.0; is = (its.1, its.2) }) taken
-  steps (Sent (Over request)) taken = requests (Over request) tt (IsAskStop c st) (λ fault stop. stop) (λ end left its. record { live = its.0; is = (its.1, its.2) }) taken
-  steps (Sent (Cancel request)) taken = requests (Cancel request) tt (IsAskStop c st) (λ fault stop. stop) (λ end left its. record { live = its.0; is = (its.1, its.2) }) taken
-  steps (Sent (Work handed)) taken = requests (Work handed) tt (IsAskStop c st) (λ fault stop. stop) (λ end left its. record { live = its.0; is = (its.1, its.2) }) taken
+  steps (Sent (EpochInfoOf request)) taken = requests (EpochInfoOf request) tt (λ end left its. record { live = its.0; is = (its.1, its.2) }) taken
+  steps (Sent (Feed request block)) taken = requests (Feed request block) tt (λ end left its. record { live = its.0; is = (its.1, its.2) }) taken
+  steps (Sent (Over request)) taken = requests (Over request) tt (λ end left its. record { live = its.0; is = (its.1, its.2) }) taken
+  steps (Sent (Cancel request)) taken = requests (Cancel request) tt (λ end left its. record { live = its.0; is = (its.1, its.2) }) taken
+  steps (Sent (Work handed)) taken = requests (Work handed) tt (λ end left its. record { live = its.0; is = (its.1, its.2) }) taken
 
 pub steps_come_through : {Dir : Type 0} → StepsComeThrough Dir
 steps_come_through c stored st message devices form reads taken live = steps c form stored st live devices reads message taken

@@ -36,9 +36,16 @@ read_somewhere c epoch share = (h : Held) × (share ≡ lookup epoch (c.seen h).
 abbrev pub Reads : {Dir : Type 0} → Fixed Dir → OfShares → Option Held → Type 0
 Reads c stored devices = (h : Held) (epoch : ℕ) → Finds devices h → stored epoch (lookup epoch (c.seen h).shares)
 
+-- The epoch after the next is in range, and the provider names somebody for it, and not too many.
+pub record IsProvided {Dir : Type 0} (c : Fixed Dir) (info : EpochInfo Dir) : Type 0 where
+  pub in_range : info.epoch + 2 < 2 ^ 64
+  pub some : 1 ≤ length (c.provided.participants (info.epoch + 2))
+  pub few : length (c.provided.participants (info.epoch + 2)) ≤ c.limit
+
 -- What an artifact is, of some logs of the epoch: the info that follows. Its share fits the outcome, and is there where this node has a player for the logs (plays);
 -- or it is what is stored and carried on.
 pub record IsArtifactOf {Dir : Type 0} (c : Fixed Dir) (stored : OfShares) (round : Round) (info : EpochInfo Dir) (plays : Bool) (logs : LogMap) (made : Artifact Dir) : Type 0 where
+  pub provided : IsProvided c info
   pub info_is : made.info ≡ Some (next_info c.rules.outcome_of c.provided info round logs)
   pub success : (output : Output) → c.rules.outcome_of round logs ≡ Some output
       → (is_some made.share ≡ plays) × ((share : ℕ) → made.share ≡ Some share → c.rules.partial_public_of output c.me ≡ Some (c.rules.share_public_of share))

@@ -29,6 +29,7 @@ pub mod Meant
 pub mod Node
 pub mod NodeEndings
 pub mod NodeKept
+pub mod NodeSaying
 pub mod NodeThrough
 pub mod Offering
 pub mod OneShots

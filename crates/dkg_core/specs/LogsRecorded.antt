@@ -17,6 +17,7 @@ use Rattle.dkg_core.specs.Behind.{event_of}
 use Rattle.dkg_core.specs.Laws.{reach_of}
 use Rattle.dkg_core.specs.Agreeing.{AreAgreed, CanRecord}
 use Rattle.dkg_core.specs.Forms.{Applied, judged_block}
+use Rattle.dkg_core.specs.Through.{observed}
 
 -- The log of an applied block is recorded, with the block's height: it counts in the round of a life that includes, none of its dealer was recorded, and the block isn't
 -- the epoch's last.
@@ -43,3 +44,22 @@ abbrev pub NodeStepsRecordLogs : Type 0 → Type 0
 NodeStepsRecordLogs Dir = (c : Fixed Dir) (st : Live Dir) (message : Message Dir) (ended : Ended NodeStop (Live Dir)) (most : ℕ) (w new : World) → reach_of c message ≤ most
     → AreAgreed st.records w.held → CanRecord c st message → EndsSo (node_step c (event_of message) st) ended w new
     → (key : ℕ × ℕ) → most ≤ key.0 → IsNotedNow c st message key (get (logs_in (notes w.held)) key) (get (logs_in (notes new.held)) key)
+
+-- IN MEMORY
+
+-- the first of two
+abbrev pub first_of_both : Option RecordedLog → RecordedLog → RecordedLog
+first_of_both None now = now
+first_of_both (Some before) now = before
+
+-- The first log of a dealer that counts in the round stays: it is recorded behind a look at such a block, with the height of the block that brought it first,
+abbrev pub ObservesFirst : Type 0 → Type 0
+ObservesFirst Dir = (c : Fixed Dir) (round : Round) (b : Block Dir) (st : Live Dir) (log : SignedDealerLog) → option_and_then its_log b.payload ≡ Some log → is_accepted c round log ≡ true
+    → recorded_at (observed c round b st).records.logs round.number log.dealer
+    ≡ Some (first_of_both (recorded_at st.records.logs round.number log.dealer) (recorded_log b.height log.log))
+
+-- .. and of no other dealer and epoch anything changes.
+abbrev pub ObservesNothingElse : Type 0 → Type 0
+ObservesNothingElse Dir = (c : Fixed Dir) (round : Round) (b : Block Dir) (st : Live Dir) (epoch dealer : ℕ)
+    → ((log : SignedDealerLog) → option_and_then its_log b.payload ≡ Some log → is_accepted c round log ≡ true → ◌≡◌ {A = ℕ × ℕ} (epoch, dealer) (round.number, log.dealer) → ⊥)
+    → recorded_at (observed c round b st).records.logs epoch dealer ≡ recorded_at st.records.logs epoch dealer

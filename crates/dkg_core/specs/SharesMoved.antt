@@ -6,14 +6,15 @@ use Rattle.dkg_types.specs.BlockCodes.{info_of}
 use Rattle.dkg_store.specs.Acts.{Held, World, Ended}
 use Rattle.dkg_core.specs.Courses.{EndsSo}
 use Rattle.dkg_core.specs.Fixed.{Fixed}
-use Rattle.dkg_core.specs.Live.{Live, NodeStop, Artifact, Includes, Finalized, Delivers}
+use Rattle.dkg_core.specs.Live.{Live, NodeStop, Artifact, Includes, Message, Finalized, Delivers}
 use Rattle.dkg_core.specs.Logs.{canonical}
 use Rattle.dkg_core.specs.Blocks.{share_for}
 use Rattle.dkg_core.specs.Node.{node_step}
+use Rattle.dkg_core.specs.Behind.{event_of}
 use Rattle.dkg_core.specs.Laws.{reach_of}
-use Rattle.dkg_core.specs.Storing.{ReadsSecrets}
+use Rattle.dkg_core.specs.Storing.{ReadsSecrets, KeepsShares}
 use Rattle.dkg_core.specs.Asked.{OfShares, Reads, IsArtifactIn, InEpoch}
-use Rattle.dkg_core.specs.Through.{IsFormThrough, IsLiveThrough}
+use Rattle.dkg_core.specs.Through.{IsFormThrough, IsLiveThrough, PassesNothingOn}
 use Rattle.dkg_types.specs.declared.info.EpochInfo.{EpochInfo}
 
 -- The share is that of the artifact of the canonical logs, and the carried info, of this epoch, is the artifact's.
@@ -35,3 +36,8 @@ BlocksMoveSharesAt {Dir} c stored = (b : Block Dir) (st : Live Dir) (ended : End
 
 abbrev pub BlocksMoveShares : Type 0 → Type 1
 BlocksMoveShares Dir = (c : Fixed Dir) (stored : OfShares) → BlocksMoveSharesAt c stored
+
+-- A STEP THAT PASSES NO EPOCH ON keeps the shares, of the epochs that it prunes nothing of, wherever it ends, whatever the life and the form.
+abbrev pub NodeStepsSpareShares : Type 0 → Type 0
+NodeStepsSpareShares Dir = (c : Fixed Dir) (st : Live Dir) (message : Message Dir) (ended : Ended NodeStop (Live Dir)) (most : ℕ) (w new : World) → ReadsSecrets c.seen → reach_of c message ≤ most
+    → PassesNothingOn c st message → EndsSo (node_step c (event_of message) st) ended w new → KeepsShares most w.held new

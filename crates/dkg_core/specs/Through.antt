@@ -162,11 +162,12 @@ IsPassingStop c stored b st devices fault =
 
 -- ANY BLOCK
 
--- what an applied block stops a life by, by its stage
+-- what an applied block stops a life by, by its stage: requests are read where there is one, and an epoch's last block needs the artifact in any case
 abbrev pub IsAppliedStopThrough : {Dir : Type 0} → Fixed Dir → OfShares → Block Dir → Live Dir → Option Held → Stage → Fault → Type 0
 IsAppliedStopThrough c stored b st devices Deals fault =
-    IsDealingStop c st fault ⊎ ((b.height + 1 ≡ midpoint c.blocks_per_epoch st.participation.epoch) × IsAskStop c (given_itself c st) fault)
-IsAppliedStopThrough c stored b st devices Includes fault = IsAskStop c st fault ⊎ ((is_last_height c b.height ≡ true) × IsPassingStop c stored b st devices fault)
+    IsDealingStop c st fault ⊎ ((b.height + 1 ≡ midpoint c.blocks_per_epoch st.participation.epoch) × (st.inclusion.queue ≡ [] → ⊥) × IsAskStop c (given_itself c st) fault)
+IsAppliedStopThrough c stored b st devices Includes fault =
+    (((is_last_height c b.height ≡ true) ⊎ (st.inclusion.queue ≡ [] → ⊥)) × IsAskStop c st fault) ⊎ ((is_last_height c b.height ≡ true) × IsPassingStop c stored b st devices fault)
 IsAppliedStopThrough c stored b st devices Follows fault = (is_last_height c b.height ≡ true) × IsPassingStop c stored b st devices fault
 IsAppliedStopThrough c stored b st devices Ends fault = ⊥
 
@@ -199,13 +200,18 @@ IsBlockThrough c stored b st devices Applied end left = IsAppliedThrough c store
 
 -- A STEP
 
+-- An event of a request is read while including: by it there is one, or one waits, or it is a new one.
+abbrev pub WasAsked : {Dir : Type 0} → Mail Dir → Live Dir → Type 0
+WasAsked (EpochInfoOf request) st = st.participation.stage ≡ Includes
+WasAsked mail st = (st.participation.stage ≡ Includes) × ((st.inclusion.waiter ≡ None) × (st.inclusion.queue ≡ []) → ⊥)
+
 -- what it stops by, over what the devices hold where that is known
 abbrev pub IsStopThrough : {Dir : Type 0} → Fixed Dir → OfShares → Live Dir → Message Dir → Option Held → Fault → Type 0
 IsStopThrough c stored st (Finalized b) devices fault = IsBlockStopThrough c stored b st devices (judged_block c b st) fault
 IsStopThrough c stored st (Sent (Peer from bytes)) devices fault = ⊥
 IsStopThrough c stored st (Sent (NextLog request height)) devices fault = ⊥
 IsStopThrough c stored st (Sent (ReleaseLog height)) devices fault = ⊥
-IsStopThrough c stored st (Sent mail) devices fault = IsAskStop c st fault
+IsStopThrough c stored st (Sent mail) devices fault = WasAsked mail st × IsAskStop c st fault
 
 -- .. and what it leaves, of the life and of the devices
 abbrev pub IsEndThrough : {Dir : Type 0} → Fixed Dir → OfShares → Live Dir → Message Dir → Option Held → Live Dir → Option Held → Type 0

@@ -33,9 +33,11 @@ ghost use Rattle.dkg_core.specs.Stepping.{CommitsAreRead, HalvesGoOn, NextLivesS
 ghost use Rattle.dkg_core.specs.BlocksKept.{BlocksKeep, NodeStepsKeepNotes, NodeStepsKeepPlans, NodeStepsSpareTheirLogs};
 ghost use Rattle.dkg_core.specs.Asked.{AdvancesLeadAt, read_somewhere};
 ghost use Rattle.dkg_core.specs.Idle.{MailsAreIdle};
-ghost use Rattle.dkg_core.specs.LogsRecorded.{NodeStepsRecordLogs};
+ghost use Rattle.dkg_core.specs.LogsRecorded.{NodeStepsRecordLogs, ObservesFirst, ObservesNothingElse};
+ghost use Rattle.dkg_core.specs.NodeSaying.{NodeStepsSayThroughAt};
 ghost use Rattle.dkg_core.specs.NodeThrough.{HalvesPassOn, NodeOpeningsThroughAt, NodeStepsComeThroughAt, OpeningsThroughAt};
-ghost use Rattle.dkg_core.specs.SharesMoved.{BlocksMoveSharesAt};
+ghost use Rattle.dkg_core.specs.SayingThrough.{StepsSayThroughAt};
+ghost use Rattle.dkg_core.specs.SharesMoved.{BlocksMoveSharesAt, NodeStepsSpareShares};
 ghost use Rattle.dkg_core.specs.Through.{NextLivesStayThroughAt, SetupsComeThrough, StepsComeThroughAt};
 ghost use Rattle.dkg_core.specs.Transcripts.{OpeningsAreQuiet, RunsAddDeeds, StepsAreQuiet, TranscriptsMove};
 
@@ -495,4 +497,30 @@ pub fn node_steps_record_logs<Dir>()
 /// for the artifact's: the share of the canonical logs' next info, where the block carries that.
 pub fn blocks_move_shares<Dir>()
     ensures { (c : Fixed Dir) → BlocksMoveSharesAt c (read_somewhere c) }
+{}
+
+/// Whatever is read: each answer of a step is that of a request that it reads, by the logs that were found or what lacks, or of the one that waited for
+/// the verification that ended, or the last block finished it; and what it tells as committed is the carried info's share.
+pub fn steps_say_through<Dir>()
+    ensures { (c : Fixed Dir) → StepsSayThroughAt c (read_somewhere c) }
+{}
+
+/// So it is of a node's step, whose orchestrator's half says that an epoch is entered, that it halted, or that a block is acknowledged.
+pub fn node_steps_say_through<Dir>()
+    ensures { (c : Fixed Dir) → NodeStepsSayThroughAt c (read_somewhere c) }
+{}
+
+/// The first log of a dealer that counts in the round stays recorded, with the height of the block that brought it first.
+pub fn observes_first<Dir>()
+    ensures { ObservesFirst Dir }
+{}
+
+/// A look at a block's log changes what is recorded of no other dealer and epoch.
+pub fn observes_nothing_else<Dir>()
+    ensures { ObservesNothingElse Dir }
+{}
+
+/// At every exit of a node's step that passes no epoch on, each share that was stored is stored, of the epochs that the step prunes nothing of.
+pub fn node_steps_spare_shares<Dir>()
+    ensures { NodeStepsSpareShares Dir }
 {}

@@ -181,7 +181,8 @@ module _ (g : Lived) (i k : ℕ) where
   same_artifact : (round : Round) (info : EpochInfo directory.Unit) (plays : Bool) (logs : LogMap) (made : Artifact directory.Unit)
       → IsArtifactOf (at_step g i) any_shares round info plays logs made → IsArtifactOf (at_step g k) any_shares round info plays logs made
   unfolding at_step
-  same_artifact round info plays logs made is = record { info_is = is.info_is; success = is.success; failure = is.failure }
+  same_artifact round info plays logs made is =
+      record { info_is = is.info_is; provided = record { in_range = is.provided.in_range; some = is.provided.some; few = is.provided.few }; success = is.success; failure = is.failure }
 
   same_asked : (st : Live directory.Unit) → HasAsked (at_step g i) any_shares st → HasAsked (at_step g k) any_shares st
   unfolding at_step
