@@ -31,7 +31,7 @@ use Rattle.dkg_core.specs.Fixed.{Fixed, Material, OneShot, has, start}
 use Rattle.dkg_core.specs.Forms.{IsForm, committed_by, current_by, held_behind, orchestrator_by, round_for, seed_read, set_up_by, share_read, started}
 use Rattle.dkg_core.specs.Including as inc
 use Rattle.dkg_core.specs.Laws.{start_of}
-use Rattle.dkg_core.specs.Live.{Artifact, Dealer, Deals, Ends, Follows, GaveNone, Includes, Inclusion, Job, Live, Request, Stage, Verified, VerifiedLogs, Watches, awaited_height, is_last_height, of_epoch, phase_of, with_inclusion, with_participation, with_tip}
+use Rattle.dkg_core.specs.Live.{Artifact, Dealer, Deals, Ends, Follows, GaveNone, Includes, Inclusion, Job, Live, Request, Stage, Verified, VerifiedLogs, Watches, awaited_height, is_last_height, of_epoch, phase_of, with_inclusion, with_participation, with_tip, with_told}
 use Rattle.dkg_core.specs.Logs.{canonical, logs_of}
 use Rattle.dkg_core.specs.Plans as p
 use Rattle.dkg_core.specs.Setup as s
@@ -294,7 +294,7 @@ module _ (X : Held → Type 0) where
 
         answered : (share : Option ℕ) (rs : List (Request Dir)) (i : Inclusion Dir) → Halts (bind (b.answers_all rs (unset share i)) (λ now. rests now)) (at_setup share)
         answered share [] i = rest_sets_up share (record i { queue = [] })
-        answered share (r ∷ rs) i = answered share rs (inc.with_told r.number (GaveNone Finished) (unset share i)).inclusion
+        answered share (r ∷ rs) i = answered share rs (with_told r.number (GaveNone Finished) (unset share i)).inclusion
 
         registered : (share : Option ℕ) (i : Inclusion Dir)
             → Halts (bind (if is_some c.oneshot then Goes (with_inclusion i (with_participation (record st.participation { current = Some info }) st))

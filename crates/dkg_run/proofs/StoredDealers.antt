@@ -261,6 +261,36 @@ module _ {Dir : Type 0} (c : Fixed Dir) (rules_are : c.rules ≡ stand_in) where
         by_stored None there = inr (carried_fits now info.outcome its (read None there))
         by_stored (Some x) there = inl (there ∙ read (Some x) there)
 
+    -- behind the setup of such a commit: the seed that was read is stored, and the share that was read is, or it fits
+    module _ (e : ℕ) (of_epoch : info.epoch ≡ e) (share : Option ℕ) (h now : Held) (is : now ≡ set_up_by Uncommitted e info share (seed_read c info h) h) where
+      abbrev behind : Held
+      behind = committed_by Uncommitted info share (seed_read c info h) h
+
+      both : StoresBoth info.epoch share (seed_read c info h) now
+      both =
+          subst (λ (x : Held). StoresBoth info.epoch share (seed_read c info h) x) (sym is)
+          (subst (λ (n : ℕ). StoresBoth n share (seed_read c info h) (set_up_by Uncommitted e info share (seed_read c info h) h)) (sym of_epoch) (setups_store e info share (seed_read c info h) h of_epoch))
+
+      pub seed_stored : get now.secrets.seeds info.epoch ≡ Some (seed_read c info behind)
+      seed_stored = both.seed_is ∙ ap (λ (x : List ℕ). Some x) (sym (seed_again h (seed_read c info h) share))
+
+      abbrev pub StoredSo : ℕ → Type 0
+      StoredSo its = (get now.secrets.shares info.epoch ≡ Some its) ⊎ (c.rules.partial_public_of info.output c.me ≡ Some (c.rules.share_public_of its))
+
+      -- where no share is committed, that of the epoch stays
+      unmoved : (share : Option ℕ) → now ≡ set_up_by Uncommitted e info share (seed_read c info h) h → share ≡ None → get now.secrets.shares info.epoch ≡ get h.secrets.shares info.epoch
+      unmoved (Some its) is none = absurd (none_some (sym none))
+      unmoved None is none = ap (λ (x : Held). get x.secrets.shares info.epoch) is
+          ∙ subst (λ (n : ℕ). get (retain_keys h.secrets.shares (nat_le (n - 1))) info.epoch ≡ get h.secrets.shares info.epoch) of_epoch (pruned_stays h.secrets.shares info.epoch)
+
+      by_read : (its : ℕ) → ReadSo h share its → StoredSo its
+      by_read its (inl committed) = inl (subst (λ (o : Option ℕ). IfSome o (λ x. get now.secrets.shares info.epoch ≡ Some x)) committed both.share_is)
+      by_read its (inr (none, inl there)) = inl (unmoved share is none ∙ there)
+      by_read its (inr (none, inr fits)) = inr fits
+
+      pub share_stored : (its : ℕ) → share_read c info behind ≡ Some its → StoredSo its
+      share_stored its read = by_read its (share_again h (seed_read c info h) share its read)
+
   -- A STEP, over devices that held h and hold now
   module _ (reads : ReadsSecrets c.seen) (stored : OfShares) (form : IsForm c) (st : Live Dir) (message : Message Dir) (h now : Held) (end : Live Dir) (live : IsLiveThrough c stored st)
       (next : IsNextThrough c stored st message (Some h) end (Some now)) (deals : DealsStored c.me st h)
@@ -300,31 +330,11 @@ module _ {Dir : Type 0} (c : Fixed Dir) (rules_are : c.rules ≡ stand_in) where
         stands : now ≡ set_up_by Uncommitted (next_epoch c b) info share (seed_read c info h) h
         stands = now_is
 
-        both : StoresBoth info.epoch share (seed_read c info h) now
-        both =
-            subst (λ (x : Held). StoresBoth info.epoch share (seed_read c info h) x) (sym stands)
-            (subst (λ (e : ℕ). StoresBoth e share (seed_read c info h) (set_up_by Uncommitted (next_epoch c b) info share (seed_read c info h) h)) (sym (over.taken).on.of_next)
-            (setups_store (next_epoch c b) info share (seed_read c info h) h (over.taken).on.of_next))
-
         seed_there : get now.secrets.seeds info.epoch ≡ Some (seed_read c info k)
-        seed_there = both.seed_is ∙ ap (λ (x : List ℕ). Some x) (sym (ap (seed_read c info) k_is ∙ seed_again reads info h (seed_read c info h) share))
+        seed_there = seed_stored reads info (next_epoch c b) (over.taken).on.of_next share h now stands ∙ ap (λ (x : Held). Some (seed_read c info x)) (sym k_is)
 
-        abbrev Stored : ℕ → Type 0
-        Stored its = (get now.secrets.shares info.epoch ≡ Some its) ⊎ (c.rules.partial_public_of info.output c.me ≡ Some (c.rules.share_public_of its))
-
-        -- where no share is committed, that of the epoch stays
-        unmoved : (share : Option ℕ) → now ≡ set_up_by Uncommitted (next_epoch c b) info share (seed_read c info h) h → share ≡ None → get now.secrets.shares info.epoch ≡ get h.secrets.shares info.epoch
-        unmoved (Some its) is none = absurd (none_some (sym none))
-        unmoved None is none = ap (λ (x : Held). get x.secrets.shares info.epoch) is
-            ∙ subst (λ (e : ℕ). get (retain_keys h.secrets.shares (nat_le (e - 1))) info.epoch ≡ get h.secrets.shares info.epoch) (over.taken).on.of_next (pruned_stays h.secrets.shares info.epoch)
-
-        by_read : (its : ℕ) → ReadSo reads info h share its → Stored its
-        by_read its (inl committed) = inl (subst (λ (o : Option ℕ). IfSome o (λ x. get now.secrets.shares info.epoch ≡ Some x)) committed both.share_is)
-        by_read its (inr (none, inl there)) = inl (unmoved share stands none ∙ there)
-        by_read its (inr (none, inr fits)) = inr fits
-
-        shared : (its : ℕ) → share_read c info k ≡ Some its → Stored its
-        shared its is = by_read its (share_again reads info h (seed_read c info h) share its (ap (share_read c info) (sym k_is) ∙ is))
+        shared : (its : ℕ) → share_read c info k ≡ Some its → StoredSo reads info (next_epoch c b) (over.taken).on.of_next share h now stands its
+        shared its is = share_stored reads info (next_epoch c b) (over.taken).on.of_next share h now stands its (ap (share_read c info) (sym k_is) ∙ is)
 
     pub step_stored : DealsStored c.me end now
     step_stored = either (next_so c stored st message (Some h) end (Some now) form live next)
