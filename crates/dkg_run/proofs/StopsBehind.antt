@@ -4,19 +4,22 @@ use Rattle.std.specs.Prelude.{◌+◌, ◌==◌, ⊤, if◌then◌else◌, nat_l
 use Rattle.std.specs.Option.{option_map_or}
 use Rattle.dkg_values.specs.Rising.{lookup}
 use Rattle.dkg_ceremony.specs.Schedule.{last}
+use Rattle.dkg_fence.specs.declared.fence.Waited.{Waited}
+use Rattle.dkg_fence.specs.declared.fence.Waited.TheVariants as waits
 use Rattle.dkg_types.specs.BlockCodes.{info_of}
 use Rattle.dkg_types.specs.Blocks.{Block}
+use Rattle.dkg_types.specs.declared.entry.Entry.TheVariants.{Acked}
 use Rattle.dkg_types.specs.declared.fault.Fault.{Fault}
 use Rattle.dkg_types.specs.declared.fault.Fault.TheVariants.{LocalState, MissingEpochInfo, SkippedHeight, WrongEpoch}
 use Rattle.dkg_types.specs.declared.fault.LocalCause.{LocalCause}
 use Rattle.dkg_types.specs.declared.info.EpochInfo.{EpochInfo}
+use Rattle.dkg_types.specs.declared.scheme.SchemeInfo.{SchemeInfo}
 use Rattle.dkg_core.specs.Courses.{Ask, Call, Course, Do, EndsSo, Goes, Say, Stops, bind, under}
 use Rattle.dkg_core.specs.Core.{step}
 use Rattle.dkg_core.specs.Entering as half
-use Rattle.dkg_core.specs.Entering.{Half, HalfAnswer, Acknowledges, Withholds, Waited}
-use Rattle.dkg_core.specs.Entering.waits as waits
+use Rattle.dkg_core.specs.Entering.{Half, HalfAnswer, Acknowledges, Withholds}
 use Rattle.dkg_core.specs.Fixed.{Fixed}
-use Rattle.dkg_core.specs.Live.{Delivers, Faulted, Finalized, Live, MissingScheme, NodeStop, Orchestrator, PeerSet, SchemeInfo, Waiting}
+use Rattle.dkg_core.specs.Live.{Delivers, Faulted, Finalized, Live, MissingScheme, NodeStop, Orchestrator, PeerSet, Waiting}
 use Rattle.dkg_core.specs.Node.{node_step, unless_once}
 use Rattle.dkg_store.specs.Acts.{Held, World, does, says, stopped}
 
