@@ -16,7 +16,7 @@ use Rattle.dkg_core.specs.Forms.{Judged, Refusal, Passed, Applied, judged_block}
 use Rattle.dkg_core.specs.Live.{Live, Dealer, Seat, Plays, Watches, Stage, Deals, Includes, Follows, Ends, Mail, Message, Sent, Peer, Finalized, NextLog, ReleaseLog, EpochInfoOf, Feed, Over, Cancel, Work, is_last_height, recorded_at, with_participation, with_tip}
 use Rattle.dkg_core.specs.Setup.{begins_inclusion, signed}
 use Rattle.dkg_core.specs.Asked.{OfShares}
-use Rattle.dkg_core.specs.Blocks.{unoffered, with_log}
+use Rattle.dkg_core.specs.Blocks.{unoffered, with_log, without_own_log}
 use Rattle.dkg_core.specs.Logs.{is_accepted}
 use Rattle.dkg_core.specs.Through.{IsAppliedThrough, IsBlockThrough, IsFollowedThrough, IsIncludedThrough, IsNextThrough, IsReadFrom, PassesNothingOn, asked_by, observed, observed_log}
 use Rattle.dkg_core.specs.Through.{included as included_over}
@@ -141,25 +141,27 @@ module _ {Dir : Type 0} where
         by_dealer None none there = absurd (none_some there)
         by_dealer (Some its) is there = with_halves st its (unoffered its) d is refl refl there
 
+    no_more : (dealer : ℕ) (st : Live Dir) → StaysDealt st (without_own_log c dealer st)
+    no_more dealer st = by_test (dealer == c.me)
+      where
+        by_test : (own : Bool) → StaysDealt st (if own then with_participation (record st.participation { dealer = option_map unoffered st.participation.dealer }) st else st)
+        by_test true = offered_no_more st (with_participation (record st.participation { dealer = option_map unoffered st.participation.dealer }) st) refl
+        by_test false = same st st refl
+
     looked_at : (round : Round) (b : Block Dir) (st : Live Dir) → StaysDealt st (observed c round b st)
     looked_at round b st = by_log (option_and_then its_log b.payload)
       where
         by_log : (o : Option SignedDealerLog) → StaysDealt st (observed_log c round b st o)
         by_log None = same st st refl
-        by_log (Some log) = by_tests (is_accepted c round log) (is_some (recorded_at st.records.logs round.number log.dealer)) (log.dealer == c.me)
+        by_log (Some log) = by_tests (is_accepted c round log) (is_some (recorded_at st.records.logs round.number log.dealer))
           where
-            by_tests : (accepted kept own : Bool)
-                → StaysDealt st (if accepted
-                then (if own
-                then with_participation (record (if kept then st else with_log round.number log.dealer b.height log.log st).participation {
-                  dealer = option_map unoffered (if kept then st else with_log round.number log.dealer b.height log.log st).participation.dealer;
-                }) (if kept then st else with_log round.number log.dealer b.height log.log st)
-                else (if kept then st else with_log round.number log.dealer b.height log.log st)) else st)
-            by_tests false kept own = same st st refl
-            by_tests true true false = same st st refl
-            by_tests true false false = same st (with_log round.number log.dealer b.height log.log st) refl
-            by_tests true true true = offered_no_more st _ refl
-            by_tests true false true = offered_no_more st _ refl
+            with_it : Live Dir
+            with_it = with_log round.number log.dealer b.height log.log st
+
+            by_tests : (accepted kept : Bool) → StaysDealt st (if accepted then without_own_log c log.dealer (if kept then st else with_log round.number log.dealer b.height log.log st) else st)
+            by_tests false kept = same st st refl
+            by_tests true true = no_more log.dealer st
+            by_tests true false = both st with_it (without_own_log c log.dealer with_it) (same st with_it refl) (no_more log.dealer with_it)
 
     -- A BLOCK by which no epoch is passed on
 

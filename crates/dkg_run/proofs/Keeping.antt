@@ -105,19 +105,19 @@ module _ (s : Setting) (ends : List (Option CutAt)) (built : IsBuiltSetting s) (
     brings_given : (i : ℕ) (its : script_event.Event) → slice_get g.life.events i ≡ Some its → (m : IsMessage g its) → BringsRecords (at_step g (suc i)) m.message
     brings_given i its is m = by_event its (event_in_form g here i its is) m.message m.brings
       where
-        as : (message other : Message U) → message ≡ other → BringsRecords (at_step g (suc i)) other → BringsRecords (at_step g (suc i)) message
-        as message other is brings = subst (λ (y : Message U). BringsRecords (at_step g (suc i)) y) (sym is) brings
+        brought_as : (message other : Message U) → message ≡ other → BringsRecords (at_step g (suc i)) other → BringsRecords (at_step g (suc i)) message
+        brought_as message other is brings = subst (λ (y : Message U). BringsRecords (at_step g (suc i)) y) (sym is) brings
 
         by_event : (x : script_event.Event) → IsEventIn s.script.blocks x → (message : Message U) → Brings g x message → BringsRecords (at_step g (suc i)) message
-        by_event (event.Peer from bytes) form message brings = as message (Sent (Peer from bytes)) brings (message_fits (at_step g (suc i)) from bytes (limit_given (suc i)) form)
-        by_event (event.Final number) form message brings = as message (Finalized (brings.0).block) brings.1 (block_fits g built.bytes built.heights built.form.few (suc i) number brings.0)
-        by_event (event.Next request height) form message brings = as message (Sent (NextLog request height)) brings tt
-        by_event (event.Release height) form message brings = as message (Sent (ReleaseLog height)) brings tt
-        by_event (event.Info request) form message brings = as message (Sent (EpochInfoOf request)) brings tt
-        by_event (event.Feed request number) form message brings = as message (Sent (Feed request (brings.0).block)) brings.1 tt
-        by_event (event.Over request) form message brings = as message (Sent (Over request)) brings tt
-        by_event (event.Cancel request) form message brings = as message (Sent (Cancel request)) brings tt
-        by_event event.Work form message brings = as message (Sent (Work None)) brings tt
+        by_event (event.Peer from bytes) form message brings = brought_as message (Sent (Peer from bytes)) brings (message_fits (at_step g (suc i)) from bytes (limit_given (suc i)) form)
+        by_event (event.Final number) form message brings = brought_as message (Finalized (brings.0).block) brings.1 (block_fits g built.bytes built.heights built.form.few (suc i) number brings.0)
+        by_event (event.Next request height) form message brings = brought_as message (Sent (NextLog request height)) brings tt
+        by_event (event.Release height) form message brings = brought_as message (Sent (ReleaseLog height)) brings tt
+        by_event (event.Info request) form message brings = brought_as message (Sent (EpochInfoOf request)) brings tt
+        by_event (event.Feed request number) form message brings = brought_as message (Sent (Feed request (brings.0).block)) brings.1 tt
+        by_event (event.Over request) form message brings = brought_as message (Sent (Over request)) brings tt
+        by_event (event.Cancel request) form message brings = brought_as message (Sent (Cancel request)) brings tt
+        by_event event.Work form message brings = brought_as message (Sent (Work None)) brings tt
         by_event other form message brings = absurd brings
 
     meant : IsLifeOfSetting s ends g

@@ -1,7 +1,6 @@
 -- What is known of logs as a run goes on: no log so far bears an acknowledgement that this node never gave. An acknowledgement that was due was written where that holds.
-use Rattle.std.proofs.Common.{◌≡◌, ◌⊎◌, inl, inr, List, [], ◌∷◌, ◌++◌, Option, Some, None, refl, sym, ◌∙◌, ap, subst, ℕ, ◌+◌, ◌<◌, append_assoc, append-nil, IsTrue}
+use Rattle.std.proofs.Common.{◌≡◌, ℕ, List, [], ◌∷◌, ◌++◌, Option, Some, None, refl, sym, ◌∙◌, ap, subst, append_assoc, append-nil, IsTrue}
 use Rattle.std.specs.Prelude.{fold, IfSome, IsSomeAnd}
-use Rattle.std.specs.FinMap.{get}
 use Rattle.std.specs.List.{AllByRecursion}
 use Rattle.std.proofs.lemmas.List.Sums.{fold-append}
 use Rattle.dkg_ceremony.specs.ValidLogs.{bears_ack_of}

@@ -173,7 +173,7 @@ module _ (s : Setting) (cuts : List (Option CutAt)) (form : IsFormOfInclusion s.
           let bound : behind.top ≤ taken_by at = subst (λ (o : Option cut.Cut). IfSome o (λ own. behind.top ≤ taken_by own)) cut_is behind.bound in
           let least : ℕ = least_at s cuts form consistent l life seen files are.0 its.0 its.1 most behind.top in
           next here (cs ++ end ∷ []) are.1 (longer cs end ∙ ap (λ (n : ℕ). n + 1) count) least (next_low l life seen files are.0 its.0 most behind.top cs end (on here more) count is bound low)
-          (more_offered s least least (omega arith) base mid here behind.offered (entry.Cut at.step at.call ∷ []) refl (λ epoch seed above got. got) (λ epoch share above got. got) (tt, tt)) more
+          (more_offered s least least (omega arith) base mid here behind.offered (entry.Cut at.step at.call ∷ []) refl (λ epoch seed above got. got) (tt, tt)) more
           (is ∙ sym (append_assoc cs (end ∷ []) (on here more)))
 
       by_how : (how : Result (Unit {0}) Stop) (so : LivesSo by_worlds (lived s.script l life seen files) files w how mid) (ends : EndsLife by_worlds life how mid result new Rests)
@@ -211,5 +211,5 @@ module _ (s : Setting) (form : IsFormOfInclusion s.script) (unfound : (l : ℕ) 
       by_told (Ok done) told its = record { added = (its.1).added; out = ap (λ (x : World). x.out) told.1 ∙ (its.1).out; same = (its.1).same }
       by_told (Err fault) (inl wants) its = record { added = (its.1).added; out = ap (λ (x : World). x.out) wants.1 ∙ (its.1).out; same = (its.1).same }
       by_told (Err fault) (inr told) its =
-          let more = more_offered s its.0 its.0 (omega arith) w.out run.mid (says run.mid (entry.Fault fault)) its.1 (entry.Fault fault ∷ []) refl (λ epoch seed above got. got) (λ epoch share above got. got) (tt, tt) in
+          let more = more_offered s its.0 its.0 (omega arith) w.out run.mid (says run.mid (entry.Fault fault)) its.1 (entry.Fault fault ∷ []) refl (λ epoch seed above got. got) (tt, tt) in
           record { added = more.added; out = ap (λ (x : World). x.out) told.2 ∙ more.out; same = more.same }

@@ -47,14 +47,14 @@ pub record IsBegunBy (script : Script) (epoch : ℕ) (P : Round → Type 0) : Ty
   pub carries : info_of block.payload ≡ Some info
   pub draws : Draws script epoch info P
 
--- By its public half this is this node's share of the output that the round carries on.
-abbrev pub IsCarriedShare : Script → Round → (share : ℕ) → Type 0
-IsCarriedShare script round share = IsSomeAnd round.previous (λ output. stand_in.partial_public_of output script.config.me ≡ Some (stand_in.share_public_of share))
+-- By its public half this is that node's share of the output that the round carries on.
+abbrev pub IsCarriedShare : (me : ℕ) → Round → (share : ℕ) → Type 0
+IsCarriedShare me round share = IsSomeAnd round.previous (λ output. stand_in.partial_public_of output me ≡ Some (stand_in.share_public_of share))
 
 -- In the round of an epoch this share is dealt from: that which is held of the epoch, or one that the round carries on. (A last block that a life includes commits no share where its info isn't
 -- the one that the life derived. Where that info carries an output on, the setup deals from the share of an epoch below, which it may prune.)
 abbrev pub IsDealtFrom : Script → Secrets → (epoch : ℕ) → Round → (share : Option ℕ) → Type 0
-IsDealtFrom script held epoch round share = (get held.shares epoch ≡ share) ⊎ IsSomeAnd share (IsCarriedShare script round)
+IsDealtFrom script held epoch round share = (get held.shares epoch ≡ share) ⊎ IsSomeAnd share (IsCarriedShare script.config.me round)
 
 -- Of this round this node is a dealer, and the share and the seed that it deals from don't deal in it.
 abbrev pub IsRefusedBy : Script → Secrets → (epoch : ℕ) → Round → Type 0
