@@ -19,6 +19,7 @@ use Rattle.dkg_types.specs.declared.fault.Fault.TheVariants.{LocalState}
 use Rattle.dkg_types.specs.declared.fault.LocalCause.TheVariants.{StoredDealing}
 use Rattle.dkg_types.specs.declared.info.EpochInfo.{EpochInfo}
 use Rattle.dkg_store.specs.Acts.{Held}
+use Rattle.dkg_store.specs.Pairs.{Pairs}
 use Rattle.dkg_store.specs.Recorded.{Pair, first_refused, of_epoch}
 use Rattle.dkg_ceremony.specs.declared.deal.DealError.{DealError}
 use Rattle.dkg_core.specs.Fixed.{has, stand_in}
@@ -27,7 +28,7 @@ use Rattle.dkg_core.specs.Endings.{validity}
 use Rattle.dkg_core.specs.Heard.{recovered_in}
 use Rattle.dkg_core.specs.Live.{Live, recorded_at}
 use Rattle.dkg_core.specs.Logs.{logs_of}
-use Rattle.dkg_core.specs.Setup.{may_deal}
+use Rattle.dkg_core.specs.Setup.{may_deal, refused_in}
 use Rattle.dkg_core.specs.Stepping.{OwnDiffers}
 use Rattle.dkg_core.proofs.Sound.{first_of_three}
 use Rattle.dkg_run.specs.Blamed.{Draws, per_epoch, round_by}
@@ -63,6 +64,27 @@ module _ (g : Lived) (taken : ℕ) (st : Live directory.Unit) (now : Held) (same
     get-entries (recovered_in now) (epoch, g.script.config.me)
         ∙ ap (λ (ps : List Pair). recorded_at ps epoch g.script.config.me) (sym same) ∙ ap (λ (e : ℕ). recorded_at st.records.dealings e g.script.config.me) why.number ∙ why.recorded,
   )
+
+module _ (g : Lived) (taken : ℕ) (st : Live directory.Unit) (pairs : Pairs) (same : st.records.dealings ≡ maps.entries pairs) where
+  -- .. and one that is refused as a request is read, by the block whose info draws the life's round
+  pub asked_found : (round : Round) (dealer : ℕ) → IsBegunBy g.script round.number (λ its. its ≡ round) → refused_in (at_step g taken) round st ≡ Some dealer → IsFirstRefusedIn g.script pairs round.number dealer
+  unfolding at_step
+  asked_found round dealer drawn refused = record {
+    number = drawn.number;
+    block = drawn.block;
+    is = drawn.is;
+    begins = drawn.begins;
+    info = drawn.info;
+    carries = drawn.carries;
+    refused = (
+      (drawn.draws).0,
+      (drawn.draws).1,
+      ((drawn.draws).2.0, (drawn.draws).2.1, subst (λ (r : Round). first_refused (dealing_of r g.script.config.me) (of_epoch round.number pairs) ≡ Some dealer) (sym (drawn.draws).2.2) here),
+    );
+  }
+    where
+      here : first_refused (dealing_of round g.script.config.me) (of_epoch round.number pairs) ≡ Some dealer
+      here = ap (λ (ps : List Pair). first_refused (dealing_of round g.script.config.me) (filter (λ (p : Pair). (p.0.0 == round.number) && nat_lt p.0.1 (2 ^ 32)) ps)) (sym same) ∙ refused
 
 module _ (g : Lived) (taken : ℕ) (now : Held) where
   -- A share that is refused: its seed is stored, and so is it, or the round carries it on.
