@@ -5,7 +5,6 @@ use Rattle.std.specs.Prelude.{◌-◌, ◌==◌, IsSomeAnd, Ok, find, option_map
 use Rattle.std.specs.FinMap.{get}
 use Rattle.std.specs.List.{AllByRecursion}
 use Rattle.std.proofs.lemmas.Bool.Decides.{nat_tests}
-use Rattle.dkg_ceremony.specs.Deals.{deal_of}
 use Rattle.dkg_ceremony.specs.Schedule.{boundary, epoch_of, last}
 use Rattle.dkg_ceremony.specs.declared.round.RoundParts.{RoundParts as Round}
 use Rattle.dkg_secrets.specs.Secrets.{Secrets}

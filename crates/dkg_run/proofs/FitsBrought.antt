@@ -33,7 +33,6 @@ use Rattle.dkg_script.specs.Readings.{Limits, unit_payload}
 use Rattle.dkg_store.specs.Events.{IsEvent, no_limit}
 use Rattle.dkg_store.specs.declared.event.Event.TheVariants as events
 use Rattle.dkg_core.specs.Agreeing.{BringsRecords}
-use Rattle.dkg_core.specs.Live.{Message}
 use Rattle.dkg_run.specs.Epochs.{IsLifeInForm}
 use Rattle.dkg_run.specs.Given.{AreBytes, Lived, at_step}
 use Rattle.dkg_run.proofs.FitsRead.{message_fits}

@@ -8,7 +8,6 @@ use Rattle.dkg_ceremony.specs.declared.round.RoundParts.{RoundParts as Round}
 use Rattle.dkg_journal.specs.Names.{Files}
 use Rattle.dkg_types.specs.Blocks.{Block}
 use Rattle.dkg_types.specs.declared.directory.Unit as directory
-use Rattle.dkg_types.specs.declared.fault.Fault.{Fault}
 use Rattle.dkg_text.specs.declared.script.Event.{Event}
 use Rattle.dkg_text.specs.declared.script.Life.{Life}
 use Rattle.dkg_script.specs.Blocks.{round_at}
@@ -22,7 +21,7 @@ use Rattle.dkg_store.specs.declared.event.Event.TheVariants as events
 use Rattle.dkg_core.specs.Agreeing.{AreAgreed, BringsRecords, CanRecord}
 use Rattle.dkg_core.specs.Behind.{RunsBehind, event_of}
 use Rattle.dkg_core.specs.Core.{step}
-use Rattle.dkg_core.specs.Courses.{Course, EndsSo, Goes}
+use Rattle.dkg_core.specs.Courses.{Course, EndsSo}
 use Rattle.dkg_core.specs.Dealing.{hears_peer_in}
 use Rattle.dkg_core.specs.Fixed.{Fixed, Rules, has, stand_in}
 use Rattle.dkg_core.specs.Forms.{IsMine, IsNodeBegun, LeavesHeld, held_behind}

@@ -1,5 +1,5 @@
 -- What is asked of a node beside its peers' messages and blocks touches no device, and brings nothing that is recorded.
-use Rattle.std.proofs.Common.{◌≡◌, ap}
+use Rattle.std.proofs.Common.{◌≡◌}
 use Rattle.dkg_types.specs.declared.fault.Fault.{Fault}
 use Rattle.dkg_types.specs.declared.directory.Unit as directory
 use Rattle.dkg_store.specs.Acts.{Ended, World, broken, stopped, went}

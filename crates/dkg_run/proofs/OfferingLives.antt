@@ -28,7 +28,7 @@ use Rattle.dkg_core.specs.Courses.{Course, EndsSo, on_devices}
 use Rattle.dkg_core.specs.Fixed.{stand_in}
 use Rattle.dkg_core.specs.Forms.{IsNodeBegun, LeavesHeld, held_behind}
 use Rattle.dkg_core.specs.Laws.{reach_of}
-use Rattle.dkg_core.specs.Live.{Live, Message, NodeStop, Participation, Sent}
+use Rattle.dkg_core.specs.Live.{Live, Message, NodeStop, Participation}
 use Rattle.dkg_core.specs.Node.{node_opening, node_step}
 use Rattle.dkg_core.specs.NodeThrough.{IsNodeThrough}
 use Rattle.dkg_core.specs.Through.{IsLiveThrough, IsTakenThrough, unasked}

@@ -11,7 +11,6 @@ use Rattle.std.specs.Cmp.{nat_cmp_total}
 use Rattle.dkg_values.specs.Rising.{lookup}
 use Rattle.dkg_journal.specs.Operations as of_journal
 use Rattle.dkg_journal.specs.Operations.{Bars, Opens}
-use Rattle.dkg_types.specs.Blocks.{Block}
 use Rattle.dkg_types.specs.declared.entry.Entry.{Entry as Line}
 use Rattle.dkg_types.specs.declared.entry.Entry.TheVariants.{Offer, Opened}
 use Rattle.dkg_types.specs.declared.fault.Fault.{Fault}
