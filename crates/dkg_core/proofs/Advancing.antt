@@ -1,15 +1,12 @@
 -- Requests are read until one needs more.
-use Rattle.std.proofs.Common.{◌≡◌, ◌≤◌, ◌⊎◌, inl, inr, ℕ, zero, suc, Bool, true, false, List, [], ◌∷◌, Option, Some, None, refl, sym, ◌∙◌, ap, subst, arith}
-use Rattle.std.specs.Prelude.{◌++◌, ◌==◌, nat_lt, not, if◌then◌else◌, length, IsSomeAnd, option_and_then, option_map, Ok}
+use Rattle.std.proofs.Common.{◌≡◌, ◌≤◌, inl, inr, ℕ, zero, suc, Bool, true, false, List, [], ◌∷◌, Option, Some, None, refl, sym, ◌∙◌, ap, subst, arith}
+use Rattle.std.specs.Prelude.{◌==◌, nat_lt, not, if◌then◌else◌, length, IsSomeAnd, option_map, Ok}
 use Rattle.std.specs.Option.{option_map_or}
 use Rattle.dkg_ceremony.specs.declared.round.RoundParts.{RoundParts as Round}
 use Rattle.dkg_ceremony.specs.Outcomes.{LogMap}
 use Rattle.dkg_types.specs.Blocks.{Block}
-use Rattle.dkg_types.specs.declared.entry.Why.{Why}
 use Rattle.dkg_types.specs.declared.entry.Why.TheVariants.{WrongHeight, Unlinked, Detached}
 use Rattle.dkg_types.specs.declared.fault.Fault.{Fault}
-use Rattle.dkg_types.specs.declared.fault.Fault.TheVariants.{LocalState}
-use Rattle.dkg_types.specs.declared.fault.LocalCause.TheVariants.{StoredDealing}
 use Rattle.dkg_types.specs.declared.info.EpochInfo.{EpochInfo}
 use Rattle.dkg_types.specs.PayloadCodes.{info_payload}
 use Rattle.dkg_store.specs.Acts.{Held}
@@ -25,7 +22,7 @@ use Rattle.dkg_core.specs.Including.{Fed, Need, Found, Lacks, can_finish, job_fo
 use Rattle.dkg_core.specs.Laws.{IsAmong}
 use Rattle.dkg_core.specs.Endings.{validity}
 use Rattle.dkg_core.specs.Forms.{IsForm, ComesOver, round_for}
-use Rattle.dkg_core.specs.Asked.{OfShares, Reads, IsArtifactIn, IsResultIn, IsJobIn, InRound, InEpoch, FirstNeeds, HasAsked, IsAsked, IsInformed, IsAskStop, IsMadeIn, IsStarted, IsReadOn, AdvancesLead}
+use Rattle.dkg_core.specs.Asked.{OfShares, Reads, IsArtifactIn, IsResultIn, IsJobIn, InRound, InEpoch, FirstNeeds, HasAsked, IsInformed, IsAskStop, IsMadeIn, IsStarted, IsReadOn, AdvancesLead}
 use Rattle.dkg_core.proofs.Artifacts.{artifacts_lead}
 use Rattle.dkg_core.proofs.Counting.{some_is}
 use Rattle.dkg_core.proofs.Setups.{over_if, over_as, over_behind}

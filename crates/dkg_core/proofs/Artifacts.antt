@@ -1,5 +1,5 @@
 -- The artifact of a result is that of its logs.
-use Rattle.std.proofs.Common.{◌≡◌, ◌≤◌, ◌<◌, ℕ, Bool, true, false, nat_le, List, Option, Some, None, refl, sym, ◌∙◌, ap, subst, arith}
+use Rattle.std.proofs.Common.{◌≡◌, ◌≤◌, ◌<◌, ℕ, Bool, true, false, nat_le, Option, Some, None, refl, sym, ◌∙◌, ap, subst, arith}
 use Rattle.std.specs.Prelude.{◌+◌, ◌^◌, ◌==◌, nat_lt, if◌then◌else◌, length, option_map}
 use Rattle.std.specs.Option.{option_map_or}
 use Rattle.std.proofs.lemmas.Bool.Decides.{nat_tests}
@@ -20,7 +20,7 @@ use Rattle.dkg_core.specs.Same.{same_logs}
 use Rattle.dkg_core.specs.Setup.{looks}
 use Rattle.dkg_core.specs.Including as i
 use Rattle.dkg_core.specs.Including.{Next, cached_for}
-use Rattle.dkg_core.specs.Forms.{IsForm, ComesOver, Finds}
+use Rattle.dkg_core.specs.Forms.{IsForm, ComesOver}
 use Rattle.dkg_core.specs.Asked.{OfShares, IsProvided, IsArtifactIn, IsResultIn, HasAsked, IsDeriveStop, IsMadeIn, ArtifactsLead}
 use Rattle.dkg_core.proofs.Counting.{some_is}
 use Rattle.dkg_core.proofs.Same.{one_logs, logs_again}

@@ -1,6 +1,6 @@
 -- What an epoch's last block leaves of a life that includes: the artifact of the canonical logs is found, and by it the carried info is taken over.
-use Rattle.std.proofs.Common.{◌≡◌, ◌⊎◌, inl, inr, ℕ, Bool, true, false, List, [], ◌∷◌, Option, Some, None, refl, sym, ◌∙◌, ap, subst}
-use Rattle.std.specs.Prelude.{if◌then◌else◌, option_and_then, Ok}
+use Rattle.std.proofs.Common.{◌≡◌, ◌⊎◌, inl, inr, ℕ, Bool, true, false, Option, Some, None, refl, sym, ◌∙◌, ap, subst}
+use Rattle.std.specs.Prelude.{if◌then◌else◌, Ok}
 use Rattle.dkg_ceremony.specs.declared.round.RoundParts.{RoundParts as Round}
 use Rattle.dkg_ceremony.specs.Outcomes.{LogMap}
 use Rattle.dkg_types.specs.Blocks.{Block}
@@ -9,7 +9,7 @@ use Rattle.dkg_types.specs.declared.info.EpochInfo.{EpochInfo}
 use Rattle.dkg_store.specs.Acts.{Held}
 use Rattle.dkg_core.specs.Courses.{Course, bind}
 use Rattle.dkg_core.specs.Fixed.{Fixed}
-use Rattle.dkg_core.specs.Live.{Live, Stage, Includes, Inclusion, Job, VerifiedLogs, Artifact, Cached, is_last_height, with_inclusion}
+use Rattle.dkg_core.specs.Live.{Live, Stage, Includes, Inclusion, Job, VerifiedLogs, Artifact, is_last_height, with_inclusion}
 use Rattle.dkg_core.specs.Logs.{canonical}
 use Rattle.dkg_core.specs.Same.{same_logs}
 use Rattle.dkg_core.specs.Setup.{refused_in}
@@ -18,7 +18,7 @@ use Rattle.dkg_core.specs.Including.{can_finish, job_for, verified, cached_for, 
 use Rattle.dkg_core.specs.Blocks as b
 use Rattle.dkg_core.specs.Endings.{validity}
 use Rattle.dkg_core.specs.Forms.{ComesOver, round_for}
-use Rattle.dkg_core.specs.Asked.{OfShares, Reads, IsArtifactIn, IsResultIn, IsJobIn, InRound, InEpoch, HasAsked, IsAskStop, IsDeriveStop, IsMadeIn}
+use Rattle.dkg_core.specs.Asked.{OfShares, Reads, IsArtifactIn, IsResultIn, IsJobIn, HasAsked, IsAskStop, IsMadeIn}
 use Rattle.dkg_core.specs.Through.{IsFormThrough, IsLiveThrough, IsShareTaken}
 use Rattle.dkg_core.proofs.Advancing.{included, of_round, some_of, retained_is, both_found, none_found}
 use Rattle.dkg_core.proofs.Artifacts.{artifacts_lead, cached_is}

@@ -1,6 +1,6 @@
 -- An event of a request, or of the own log, touches no device.
-use Rattle.std.proofs.Common.{◌≡◌, ℕ, zero, suc, Bool, true, false, nat_le, List, [], ◌∷◌, Option, Some, None, refl, sym, ◌∙◌, ap, subst}
-use Rattle.std.specs.Prelude.{◌+◌, ◌++◌, ◌^◌, ◌==◌, nat_lt, if◌then◌else◌, length, is_some, not, filter, map, option_map}
+use Rattle.std.proofs.Common.{◌≡◌, ℕ, zero, suc, Bool, true, false, nat_le, List, [], ◌∷◌, Option, Some, None, refl, sym, subst}
+use Rattle.std.specs.Prelude.{◌+◌, ◌++◌, ◌^◌, ◌==◌, nat_lt, if◌then◌else◌, length, is_some, not, filter, option_map}
 use Rattle.std.specs.Option.{option_map_or}
 use Rattle.dkg_values.specs.Rising.{lookup}
 use Rattle.dkg_ceremony.specs.declared.output.Output.{Output}
@@ -26,7 +26,7 @@ use Rattle.dkg_core.specs.Node.{unless_once}
 use Rattle.dkg_core.specs.Behind.{OnlySays}
 use Rattle.dkg_core.specs.Laws.{IsOther}
 use Rattle.dkg_core.specs.Endings.{CameTo}
-use Rattle.dkg_core.specs.Idle.{IsAskedLine, LeavesIdle, MailsAreIdle}
+use Rattle.dkg_core.specs.Idle.{IsAskedLine, MailsAreIdle}
 use Rattle.dkg_core.proofs.Behind.{IfGoes, leaves_devices, only_behind, only_if, only_option, only_under}
 
 module _ {Dir : Type 0} (c : Fixed Dir) (st : Live Dir) where

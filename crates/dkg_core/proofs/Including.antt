@@ -1,5 +1,5 @@
 -- What a block leaves of a life that includes: its log is looked at, and requests are read over the new tip.
-use Rattle.std.proofs.Common.{◌≡◌, ◌≤◌, ◌<◌, ◌⊎◌, inl, inr, ℕ, Bool, true, false, List, [], ◌∷◌, Option, Some, None, refl, sym, ◌∙◌, ap, subst, arith}
+use Rattle.std.proofs.Common.{◌≡◌, ◌≤◌, ◌<◌, ◌⊎◌, inl, inr, ℕ, Bool, true, false, List, Option, Some, None, refl, sym, ◌∙◌, ap, subst, arith}
 use Rattle.std.specs.Prelude.{◌+◌, ◌-◌, ◌*◌, ◌==◌, nat_le, if◌then◌else◌, is_some, option_map, option_and_then, IsSomeAnd, Ok}
 use Rattle.std.proofs.lemmas.Bool.Decides.{nat_tests}
 use Rattle.dkg_ceremony.specs.declared.round.RoundParts.{RoundParts as Round}
@@ -15,14 +15,14 @@ use Rattle.dkg_store.specs.Events.{event_spelling}
 use Rattle.dkg_store.specs.Recorded.{Pair}
 use Rattle.dkg_core.specs.Courses.{Course, Goes, bind}
 use Rattle.dkg_core.specs.Fixed.{Fixed}
-use Rattle.dkg_core.specs.Live.{Live, Records, Dealer, Inclusion, Request, Job, VerifiedLogs, Cached, Stage, Includes, Follows, Deals, recorded_at, phase_of, is_last_height, with_tip, with_inclusion, with_participation}
+use Rattle.dkg_core.specs.Live.{Live, Records, Dealer, Inclusion, Stage, Includes, Follows, Deals, recorded_at, phase_of, is_last_height, with_tip, with_inclusion, with_participation}
 use Rattle.dkg_core.specs.Logs.{is_accepted, log_event}
 use Rattle.dkg_core.specs.Dealing as d
 use Rattle.dkg_core.specs.Including.{advanced}
 use Rattle.dkg_core.specs.Blocks as b
 use Rattle.dkg_core.specs.Endings.{stage_in, validity}
 use Rattle.dkg_core.specs.Forms.{IsForm, IsMine, IsLiveIn, ComesOver, Finds, round_for}
-use Rattle.dkg_core.specs.Asked.{OfShares, Reads, IsArtifactIn, IsResultIn, IsJobIn, InRound, InEpoch, HasAsked, IsInformed, IsDeriveStop, IsAskStop, IsReadOn}
+use Rattle.dkg_core.specs.Asked.{OfShares, Reads, IsArtifactIn, IsResultIn, IsJobIn, InRound, HasAsked, IsInformed, IsDeriveStop, IsAskStop, IsReadOn}
 use Rattle.dkg_core.specs.Through.{unasked, IsLiveThrough, IsReadFrom, observed_log, observed, included, StepReads}
 use Rattle.dkg_core.proofs.Advancing.{advances_lead, included as asked_in}
 use Rattle.dkg_core.proofs.Counting.{some_is}

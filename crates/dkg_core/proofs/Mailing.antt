@@ -1,19 +1,17 @@
 -- What an event of a request, or of the own log, leaves of a life that passes through whole epochs.
-use Rattle.std.proofs.Common.{◌≡◌, ◌⊎◌, inl, inr, ℕ, Bool, true, false, List, [], ◌∷◌, Option, Some, None, refl, sym, ◌∙◌, ap, subst}
-use Rattle.std.specs.Prelude.{◌++◌, ◌==◌, if◌then◌else◌, is_some, not, filter, map, option_and_then}
-use Rattle.std.specs.Option.{option_map_or}
+use Rattle.std.proofs.Common.{◌≡◌, ℕ, Bool, true, false, List, [], ◌∷◌, Option, Some, None, refl, sym, ◌∙◌, ap, subst}
+use Rattle.std.specs.Prelude.{◌++◌, ◌==◌, if◌then◌else◌, is_some, not, filter, map}
 use Rattle.dkg_ceremony.specs.declared.phase.Phase.{Phase}
 use Rattle.dkg_ceremony.specs.declared.phase.Phase.TheVariants.{Early, Midpoint, Late}
 use Rattle.dkg_ceremony.specs.declared.round.RoundParts.{RoundParts as Round}
 use Rattle.dkg_ceremony.specs.declared.signed_log.SignedDealerLog.{SignedDealerLog}
-use Rattle.dkg_types.specs.Blocks.{Block}
 use Rattle.dkg_types.specs.declared.entry.Why.TheVariants.{Following}
 use Rattle.dkg_types.specs.declared.fault.Fault.{Fault}
 use Rattle.dkg_types.specs.PayloadCodes.{log_payload}
 use Rattle.dkg_store.specs.Acts.{Held}
-use Rattle.dkg_core.specs.Courses.{Course, Goes, bind}
+use Rattle.dkg_core.specs.Courses.{Goes, bind}
 use Rattle.dkg_core.specs.Fixed.{Fixed}
-use Rattle.dkg_core.specs.Live.{Live, Stage, Deals, Includes, Follows, Ends, Inclusion, Request, Job, VerifiedLogs, GaveLog, GaveNone, Mail, Peer, NextLog, ReleaseLog, EpochInfoOf, Feed, Over, Cancel, Work, Message, Sent, awaited_height, phase_of, with_inclusion, with_queue, with_used}
+use Rattle.dkg_core.specs.Live.{Live, Stage, Deals, Includes, Follows, Ends, Inclusion, Request, Job, VerifiedLogs, GaveLog, GaveNone, Mail, Peer, NextLog, ReleaseLog, EpochInfoOf, Feed, Over, Cancel, Work, Sent, awaited_height, phase_of, with_inclusion, with_queue, with_used}
 use Rattle.dkg_core.specs.Including as inc
 use Rattle.dkg_core.specs.Including.{advanced, changed, queued, is_of_job}
 use Rattle.dkg_core.specs.Core.{step}

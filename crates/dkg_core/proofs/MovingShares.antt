@@ -1,13 +1,12 @@
 -- Which share an epoch's last block puts, of a life that includes, wherever the node's step ends.
-use Rattle.std.proofs.Common.{◌≡◌, ◌≤◌, ◌<◌, ◌⊎◌, inl, inr, ℕ, Bool, true, false, List, [], ◌∷◌, Option, Some, None, refl, sym, ◌∙◌, ap, subst, arith}
-use Rattle.std.specs.Prelude.{◌+◌, ◌-◌, ◌==◌, ◌&&◌, if◌then◌else◌, is_some, is_none, IsSomeAnd, Ok, Err, Result, option_and_then, option_map}
+use Rattle.std.proofs.Common.{◌≡◌, ◌≤◌, ◌<◌, ◌⊎◌, inl, inr, ℕ, Bool, true, List, [], ◌∷◌, Option, Some, None, refl, sym, ◌∙◌, ap, subst, arith}
+use Rattle.std.specs.Prelude.{◌+◌, ◌-◌, ◌==◌, ◌&&◌, if◌then◌else◌, is_some, is_none, IsSomeAnd, Ok, Err, Result, option_and_then}
 use Rattle.std.specs.Option.{option_map_or}
 use Rattle.std.specs.FinMap as maps
 use Rattle.std.specs.FinMap.{FinMap, get, nat_cmp-IsAntisymmetric}
 use Rattle.std.specs.Ordering.{nat_cmp}
 use Rattle.std.specs.Cmp.{nat_cmp_total}
 use Rattle.std.proofs.lemmas.Bool.Decides.{nat_tests}
-use Rattle.dkg_values.specs.Rising.{lookup}
 use Rattle.dkg_ceremony.specs.declared.round.RoundParts.{RoundParts as Round}
 use Rattle.dkg_ceremony.specs.declared.signed_log.SignedDealerLog.{SignedDealerLog}
 use Rattle.dkg_ceremony.specs.Outcomes.{LogMap}
@@ -27,12 +26,12 @@ use Rattle.dkg_secrets.specs.Secrets.{Secrets, Tries, after}
 use Rattle.dkg_secrets.specs.declared.secrets.SecretOp.TheVariants.{PutShare, PutSeed, Prune}
 use Rattle.dkg_secrets.proofs.Map.{same_key, get_here, get_other}
 use Rattle.dkg_secrets.proofs.Tried.{all_done}
-use Rattle.dkg_store.specs.Acts.{Held, OnDisk, Changes, World, does, says, Cause, Tears}
+use Rattle.dkg_store.specs.Acts.{Held, OnDisk, World, says, Cause, Tears}
 use Rattle.dkg_store.proofs.Acts.{along_runs}
 use Rattle.dkg_core.specs.Courses.{Course, Say, Do, Call, Ask, Goes, Stops, bind, on_devices, Throughout}
 use Rattle.dkg_core.specs.Sources.{Tip}
 use Rattle.dkg_core.specs.Fixed.{Fixed, OneShot}
-use Rattle.dkg_core.specs.Live.{Live, Stage, Deals, Includes, Inclusion, Request, Job, VerifiedLogs, Artifact, Cached, GaveNone, Finalized, awaited_height, is_last_height, recorded_at, with_tip, with_participation, with_inclusion, with_told}
+use Rattle.dkg_core.specs.Live.{Live, Stage, Includes, Inclusion, Request, Job, VerifiedLogs, Artifact, GaveNone, Finalized, awaited_height, is_last_height, recorded_at, with_tip, with_participation, with_inclusion, with_told}
 use Rattle.dkg_core.specs.Logs.{canonical, is_accepted, log_event}
 use Rattle.dkg_core.specs.Setup as s
 use Rattle.dkg_core.specs.Dealing as d
@@ -41,15 +40,14 @@ use Rattle.dkg_core.specs.Including.{can_finish, cached_for, job_for, retained_f
 use Rattle.dkg_core.specs.Blocks as b
 use Rattle.dkg_core.specs.Core.{step}
 use Rattle.dkg_core.specs.Behind.{OnlySays}
-use Rattle.dkg_core.specs.Laws.{reach_of}
 use Rattle.dkg_core.specs.Endings.{validity}
-use Rattle.dkg_core.specs.Forms.{Applied, judged_block, ComesOver, Finds, round_for, share_read, seed_read}
+use Rattle.dkg_core.specs.Forms.{ComesOver, round_for, share_read, seed_read}
 use Rattle.dkg_core.specs.Idle.{IsAskedLine}
 use Rattle.dkg_core.specs.Stepping.{next_epoch}
 use Rattle.dkg_core.specs.Storing.{ReadsSecrets}
 use Rattle.dkg_core.specs.Asked.{OfShares, Reads, IsArtifactIn, IsResultIn, IsJobIn, HasAsked, IsAskStop, IsMadeIn}
 use Rattle.dkg_core.specs.Through.{IsFormThrough, IsLiveThrough}
-use Rattle.dkg_core.specs.SharesMoved.{IsSuchShare, MovesShares, BlocksMoveShares}
+use Rattle.dkg_core.specs.SharesMoved.{IsSuchShare, BlocksMoveShares}
 use Rattle.dkg_core.proofs.Advancing.{included, none_found, of_round, retained_is, some_of}
 use Rattle.dkg_core.proofs.Applied.{judged_is}
 use Rattle.dkg_core.proofs.Artifacts.{artifact_is, cached_is}

@@ -1,5 +1,5 @@
 -- How a node's steps end, whose life passes through whole epochs.
-use Rattle.std.proofs.Common.{◌≡◌, ◌≤◌, ◌<◌, ◌⊎◌, inl, inr, ℕ, Bool, true, false, nat_le, List, Option, Some, None, IsSome, refl, sym, ◌∙◌, ap, subst, arith}
+use Rattle.std.proofs.Common.{◌≡◌, ◌≤◌, ◌<◌, ◌⊎◌, inl, inr, ℕ, Bool, true, false, nat_le, Option, Some, None, IsSome, refl, sym, ◌∙◌, ap, subst, arith}
 use Rattle.std.specs.Prelude.{◌+◌, ◌-◌, ◌*◌, ◌==◌, ◌||◌, max, nat_lt, if◌then◌else◌, is_some, IsSomeAnd, Ok}
 use Rattle.std.specs.Option.{option_map_or}
 use Rattle.std.proofs.Math.Nat.{le-max_right}
@@ -12,22 +12,18 @@ use Rattle.dkg_ceremony.specs.Schedule.{epoch_of, midpoint, last}
 use Rattle.dkg_fence.specs.declared.fence.Waited.{Waited}
 use Rattle.dkg_fence.specs.declared.fence.Waited.TheVariants as waits
 use Rattle.dkg_fence.specs.Fence.{marked, raised, unreached, waited}
-use Rattle.dkg_fence.specs.Readiness.{Readiness}
 use Rattle.dkg_types.specs.Blocks.{Block}
 use Rattle.dkg_types.specs.BlockCodes.{info_of}
 use Rattle.dkg_types.specs.declared.entry.Entry.TheVariants.{Acked, Entered}
-use Rattle.dkg_types.specs.declared.fault.Fault.{Fault}
 use Rattle.dkg_types.specs.declared.fault.Fault.TheVariants.{MissingEpochInfo, WrongEpoch, SkippedHeight}
 use Rattle.dkg_types.specs.declared.info.EpochInfo.{EpochInfo}
 use Rattle.dkg_types.specs.declared.scheme.SchemeInfo.{SchemeInfo}
 use Rattle.dkg_store.specs.Acts.{Held}
 use Rattle.dkg_core.specs.Courses.{Course, Say, Goes, Stops, Genesis, bind, under}
 use Rattle.dkg_core.specs.Seen.{Seen}
-use Rattle.dkg_core.specs.Sources.{Tip}
 use Rattle.dkg_core.specs.Fixed.{Fixed, OneShot}
 use Rattle.dkg_core.specs.Live.{Live, Orchestrator, Inclusion, Waiting, NodeStop, Faulted, Stage, Deals, Includes, Follows, Ends, Mail, Peer, NextLog, ReleaseLog, EpochInfoOf, Feed, Over, Cancel, Work, Message, Sent, Finalized, awaited_height, phase_of, is_last_height, with_inclusion, with_orchestrator, with_tip}
 use Rattle.dkg_core.specs.Setup as s
-use Rattle.dkg_core.specs.Blocks as b
 use Rattle.dkg_core.specs.Core.{step, no_inclusion}
 use Rattle.dkg_core.specs.Entering as half
 use Rattle.dkg_core.specs.Entering.{Half, HalfAnswer, Acknowledges, Withholds, active, delivered, is_ready}
@@ -35,17 +31,17 @@ use Rattle.dkg_core.specs.Node.{node_step, unless_once}
 use Rattle.dkg_core.specs.Behind.{OnlySays, IsAside, IsSameBeside, event_of}
 use Rattle.dkg_core.specs.Endings.{ComesTo, stage_in, first_block, validity, answer_in}
 use Rattle.dkg_core.specs.NodeEndings.{LacksNobody, IsFaultBy}
-use Rattle.dkg_core.specs.Forms.{IsForm, IsLiveIn, IsActiveIn, Judged, Refusal, Passed, Applied, judged_block, ComesOver, round_for, registered_with, IsSeated, IsSetUpIn, IsOpened, IsNodeBegun, share_read, seed_read, started}
+use Rattle.dkg_core.specs.Forms.{IsForm, Judged, Refusal, Passed, Applied, judged_block, ComesOver, round_for, registered_with, IsSeated, IsSetUpIn, IsOpened, share_read, seed_read, started}
 use Rattle.dkg_core.specs.Stepping.{IsHeardBy, with_taken, given_itself, dealt_behind}
 use Rattle.dkg_core.specs.Dealing as d
-use Rattle.dkg_core.specs.Asked.{OfShares, read_somewhere, InRound, HasAsked, IsAsked, IsEmptied, IsInformed}
-use Rattle.dkg_core.specs.Through.{IsFormThrough, IsLiveThrough, IsTakenThrough, IsReadFrom, IsCarriedOn, IsPassedOn, IsAppliedThrough, IsBlockThrough, IsIncludedThrough, IsFollowedThrough, IsStopThrough, IsNextThrough, StepReads, asked_by, included, unasked}
+use Rattle.dkg_core.specs.Asked.{OfShares, read_somewhere, IsEmptied}
+use Rattle.dkg_core.specs.Through.{IsFormThrough, IsLiveThrough, IsTakenThrough, IsReadFrom, IsPassedOn, IsAppliedThrough, IsBlockThrough, IsIncludedThrough, IsFollowedThrough, IsStopThrough, IsNextThrough, StepReads, asked_by, included, unasked}
 use Rattle.dkg_core.specs.NodeThrough.{OpeningsThrough, IsActiveThrough, NodeOpeningsThrough, HasPassedOn, HalvesPassOn, IsNodeThrough, NodeStepsComeThrough, NodeStepsLeadThrough, NodeStepsLeadThroughOver}
 use Rattle.dkg_core.proofs.Advancing.{needs_as}
 use Rattle.dkg_core.proofs.Applied.{deals_below, includes_above}
 use Rattle.dkg_core.proofs.Behind.{heard_aside, block_aside}
-use Rattle.dkg_core.proofs.Counting.{some_is, comes_if, comes_as}
-use Rattle.dkg_core.proofs.Heights.{below_middle, below_tip, epoch_to, next_last}
+use Rattle.dkg_core.proofs.Counting.{some_is, comes_if}
+use Rattle.dkg_core.proofs.Heights.{below_middle, epoch_to}
 use Rattle.dkg_core.proofs.Including.{is_observed}
 use Rattle.dkg_core.proofs.Mailing.{asked_beside}
 use Rattle.dkg_core.proofs.Passing.{asked_none, seated_through}

@@ -16,7 +16,7 @@ use Rattle.dkg_core.specs.Fixed.{Fixed}
 use Rattle.dkg_core.specs.Live.{Live, recorded_at, with_participation}
 use Rattle.dkg_core.specs.Logs.{is_accepted, recorded_log}
 use Rattle.dkg_core.specs.Blocks as b
-use Rattle.dkg_core.specs.Through.{observed, observed_log}
+use Rattle.dkg_core.specs.Through.{observed_log}
 use Rattle.dkg_core.proofs.Counting.{some_is}
 use Rattle.dkg_core.specs.LogsRecorded.{first_of_both, ObservesFirst, ObservesNothingElse}
 

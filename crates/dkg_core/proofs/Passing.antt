@@ -15,13 +15,13 @@ use Rattle.dkg_types.specs.declared.info.EpochInfo.{EpochInfo}
 use Rattle.dkg_store.specs.Acts.{Held}
 use Rattle.dkg_core.specs.Courses.{Course, Goes, Stops, bind}
 use Rattle.dkg_core.specs.Fixed.{Fixed, OneShot}
-use Rattle.dkg_core.specs.Live.{Live, Inclusion, Request, Job, VerifiedLogs, Artifact, Cached, Told, GaveNone, is_last_height, with_tip, with_participation, with_inclusion, with_told}
+use Rattle.dkg_core.specs.Live.{Live, Inclusion, Request, Artifact, Told, GaveNone, is_last_height, with_tip, with_participation, with_inclusion, with_told}
 use Rattle.dkg_core.specs.Setup as s
 use Rattle.dkg_core.specs.Blocks as b
 use Rattle.dkg_core.specs.Endings.{validity}
-use Rattle.dkg_core.specs.Forms.{IsForm, IsLiveIn, ComesOver, Finds, round_for, current_by, IsSetupFault, IsSeated, share_read, seed_read, committed_by, set_up_by}
-use Rattle.dkg_core.specs.Stepping.{next_epoch, taken_over}
-use Rattle.dkg_core.specs.Asked.{OfShares, FirstNeeds, HasAsked, IsAsked, IsEmptied, IsInformed}
+use Rattle.dkg_core.specs.Forms.{IsForm, ComesOver, Finds, round_for, current_by, IsSetupFault, IsSeated, share_read, seed_read, committed_by, set_up_by}
+use Rattle.dkg_core.specs.Stepping.{next_epoch}
+use Rattle.dkg_core.specs.Asked.{OfShares, FirstNeeds, IsAsked, IsEmptied, IsInformed}
 use Rattle.dkg_core.specs.Through.{unasked, IsLiveThrough, IsShareTaken, held_with, IsCarriedOn, IsPassedOn, IsPassingStop}
 use Rattle.dkg_core.proofs.Counting.{some_is}
 use Rattle.dkg_core.proofs.Heights.{next_last}

@@ -1,5 +1,5 @@
 -- What is said of the shares that are read: what follows from it, and by what it holds in a step.
-use Rattle.std.proofs.Common.{◌≡◌, ◌⊎◌, inl, inr, ℕ, List, Option, Some, None, refl, sym, ◌∙◌, ap, subst}
+use Rattle.std.proofs.Common.{inl, inr, ℕ, List, Option, Some, sym, ◌∙◌, ap, subst}
 use Rattle.dkg_values.specs.Rising.{lookup}
 use Rattle.dkg_ceremony.specs.declared.round.RoundParts.{RoundParts as Round}
 use Rattle.dkg_ceremony.specs.Outcomes.{LogMap}
@@ -7,11 +7,10 @@ use Rattle.dkg_types.specs.declared.info.EpochInfo.{EpochInfo}
 use Rattle.dkg_store.specs.Acts.{Held}
 use Rattle.dkg_core.specs.Seen.{seen_in}
 use Rattle.dkg_core.specs.Fixed.{Fixed}
-use Rattle.dkg_core.specs.Live.{Live, Artifact, Cached}
-use Rattle.dkg_core.specs.Forms.{Finds}
+use Rattle.dkg_core.specs.Live.{Live, Artifact}
 use Rattle.dkg_core.specs.Storing.{ReadsSecrets}
-use Rattle.dkg_core.specs.Asked.{OfShares, read_somewhere, Reads, IsArtifactIn, InEpoch, HasAsked, IsAsked}
-use Rattle.dkg_core.specs.Through.{IsLiveThrough, FindsOn, StepReads}
+use Rattle.dkg_core.specs.Asked.{OfShares, IsArtifactIn}
+use Rattle.dkg_core.specs.Through.{IsLiveThrough, StepReads}
 
 -- A record more changes no share: what is said of these devices' shares is said in the whole step.
 pub step_reads : {Dir : Type 0} (c : Fixed Dir) (stored : OfShares) (h : Held) → ReadsSecrets c.seen → ((epoch : ℕ) → stored epoch (lookup epoch (c.seen h).shares)) → StepReads c stored (Some h)

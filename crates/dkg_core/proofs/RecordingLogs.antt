@@ -1,7 +1,6 @@
 -- Which dealers' logs a step records, wherever it ends.
 use Rattle.std.proofs.Common.{◌≡◌, ◌≤◌, ◌⊎◌, inl, inr, ℕ, true, false, List, Option, Some, None, refl, sym, ◌∙◌, ap, subst, arith}
 use Rattle.std.specs.Prelude.{◌+◌, ◌-◌, if◌then◌else◌, is_some, option_and_then}
-use Rattle.std.specs.Option.{option_map_or}
 use Rattle.std.specs.FinMap.{get, insert}
 use Rattle.dkg_values.specs.Rising.{lookup}
 use Rattle.dkg_ceremony.specs.declared.round.RoundParts.{RoundParts as Round}
@@ -12,14 +11,14 @@ use Rattle.dkg_secrets.proofs.Map.{keys_total, exact_keys, same_key, get_here, g
 use Rattle.dkg_types.specs.Blocks.{Block}
 use Rattle.dkg_types.specs.PayloadCodes.{its_log}
 use Rattle.dkg_store.specs.Acts.{Held, World, notes}
-use Rattle.dkg_store.specs.Events.{event_spelling, IsEvent}
+use Rattle.dkg_store.specs.Events.{event_spelling}
 use Rattle.dkg_store.specs.Noted.{Notes, noted, noted_log, logs_in}
 use Rattle.dkg_store.specs.declared.event.Event.TheVariants as events
 use Rattle.dkg_store.specs.declared.recorded_log.RecordedLog.{RecordedLog}
 use Rattle.dkg_store.proofs.Acts.{along_runs}
 use Rattle.dkg_store.proofs.Noted.{says_log, noted_placed, noted_silent}
 use Rattle.dkg_store.proofs.Pruned.{logs_from}
-use Rattle.dkg_core.specs.Courses.{Course, Goes, bind, on_devices, Throughout}
+use Rattle.dkg_core.specs.Courses.{Goes, bind, on_devices, Throughout}
 use Rattle.dkg_core.specs.Fixed.{Fixed}
 use Rattle.dkg_core.specs.Live.{Live, Stage, Deals, Includes, Follows, Ends, Mail, Message, Sent, Finalized, recorded_at, is_last_height, with_tip}
 use Rattle.dkg_core.specs.Logs.{is_accepted, log_event, recorded_log}
@@ -28,7 +27,6 @@ use Rattle.dkg_core.specs.Dealing as d
 use Rattle.dkg_core.specs.Including as i
 use Rattle.dkg_core.specs.Blocks as b
 use Rattle.dkg_core.specs.Core.{step}
-use Rattle.dkg_core.specs.Laws.{reach_of}
 use Rattle.dkg_core.specs.Agreeing.{AreAgreed, CanRecord}
 use Rattle.dkg_core.specs.Forms.{Applied, judged_block}
 use Rattle.dkg_core.specs.LogsRecorded.{IsRecordedNow, IsNotedNow, NodeStepsRecordLogs}

@@ -1,5 +1,5 @@
 -- What is said in a life that passes through whole epochs.
-use Rattle.std.proofs.Common.{◌≡◌, ◌≤◌, ◌⊎◌, inl, inr, ℕ, zero, suc, Bool, true, false, List, [], ◌∷◌, Option, Some, None, refl, sym, ◌∙◌, ap, subst, arith}
+use Rattle.std.proofs.Common.{◌≡◌, ◌≤◌, inl, inr, ℕ, zero, suc, Bool, true, false, List, [], ◌∷◌, Option, Some, None, refl, sym, ◌∙◌, ap, subst, arith}
 use Rattle.std.specs.Prelude.{◌+◌, ◌-◌, ◌==◌, ◌++◌, ◌&&◌, ◌||◌, if◌then◌else◌, length, is_some, is_none, IsSomeAnd, Ok, Err, Result, option_and_then, option_map, map, filter, not}
 use Rattle.std.specs.List.{AllByRecursion}
 use Rattle.std.specs.Option.{option_map_or}
@@ -11,7 +11,6 @@ use Rattle.dkg_values.specs.declared.codec.CodecError.{CodecError}
 use Rattle.dkg_ceremony.specs.declared.ceremony.AckError.{AckError}
 use Rattle.dkg_ceremony.specs.declared.ceremony.DealingError.{DealingError}
 use Rattle.dkg_ceremony.specs.declared.deal.DealError.{DealError}
-use Rattle.dkg_ceremony.specs.declared.output.Output.{Output}
 use Rattle.dkg_ceremony.specs.declared.phase.Phase.{Phase}
 use Rattle.dkg_ceremony.specs.declared.round.RoundError.{RoundError}
 use Rattle.dkg_ceremony.specs.declared.round.RoundParts.{RoundParts as Round}
@@ -21,10 +20,10 @@ use Rattle.dkg_ceremony.specs.Schedule.{epoch_of, midpoint}
 use Rattle.dkg_types.specs.Blocks.{Block}
 use Rattle.dkg_types.specs.BlockCodes.{info_of}
 use Rattle.dkg_types.specs.declared.entry.Entry.{Entry as Line}
-use Rattle.dkg_types.specs.declared.entry.Entry.TheVariants.{Answer, Log, Committed, Registered, Setup, Offer}
+use Rattle.dkg_types.specs.declared.entry.Entry.TheVariants.{Answer, Committed, Setup, Offer}
 use Rattle.dkg_types.specs.declared.entry.AnswerLine.TheVariants.{Available, Unavailable}
 use Rattle.dkg_types.specs.declared.entry.Why.{Why}
-use Rattle.dkg_types.specs.declared.entry.Why.TheVariants.{Finished, Following}
+use Rattle.dkg_types.specs.declared.entry.Why.TheVariants.{Finished}
 use Rattle.dkg_types.specs.declared.fault.Fault.{Fault}
 use Rattle.dkg_types.specs.declared.fault.Fault.TheVariants.{HeightRange, MissingEpochInfo, WrongEpoch, LocalState}
 use Rattle.dkg_types.specs.declared.fault.LocalCause.TheVariants.{OutcomeOmitted, OwnDealing}
@@ -40,7 +39,7 @@ use Rattle.dkg_core.specs.Courses.{Course, Say, Do, Call, Ask, Goes, Stops, bind
 use Rattle.dkg_core.specs.Said.{Said, SaysAll, SaysUpTo, SaysFirst}
 use Rattle.dkg_core.specs.Sources.{Tip}
 use Rattle.dkg_core.specs.Fixed.{Fixed, OneShot, has}
-use Rattle.dkg_core.specs.Live.{Live, Dealer, Seat, Plays, Watches, Stage, Deals, Includes, Follows, Ends, Inclusion, Request, Job, VerifiedLogs, Artifact, Mail, Peer, NextLog, ReleaseLog, EpochInfoOf, Feed, Over, Cancel, Work, Message, Sent, Finalized, GaveNone, awaited_height, phase_of, is_last_height, of_epoch, recorded_at, with_tip, with_participation, with_inclusion, with_queue, with_told, with_used}
+use Rattle.dkg_core.specs.Live.{Live, Dealer, Seat, Plays, Watches, Stage, Deals, Includes, Follows, Ends, Inclusion, Request, Job, VerifiedLogs, Artifact, Mail, Peer, NextLog, ReleaseLog, EpochInfoOf, Feed, Over, Cancel, Work, Sent, Finalized, GaveNone, awaited_height, phase_of, is_last_height, of_epoch, recorded_at, with_tip, with_participation, with_inclusion, with_queue, with_told, with_used}
 use Rattle.dkg_core.specs.Logs.{canonical, filled_by, is_accepted, log_event, logs_of}
 use Rattle.dkg_core.specs.Same.{same_logs, same_round}
 use Rattle.dkg_core.specs.Setup as s
@@ -51,11 +50,11 @@ use Rattle.dkg_core.specs.Blocks as b
 use Rattle.dkg_core.specs.Core.{step}
 use Rattle.dkg_core.specs.Laws.{IsAmong}
 use Rattle.dkg_core.specs.Endings.{validity}
-use Rattle.dkg_core.specs.Forms.{IsForm, Applied, judged_block, ComesOver, Finds, round_for, share_read, seed_read}
-use Rattle.dkg_core.specs.Stepping.{IsDealingStop, given_itself, dealt_behind, next_epoch}
-use Rattle.dkg_core.specs.Asked.{OfShares, Reads, IsArtifactIn, IsResultIn, IsJobIn, InRound, InEpoch, HasAsked, IsInformed, IsAskStop, IsMadeIn}
+use Rattle.dkg_core.specs.Forms.{IsForm, Applied, judged_block, ComesOver, round_for, share_read, seed_read}
+use Rattle.dkg_core.specs.Stepping.{IsDealingStop, given_itself, next_epoch}
+use Rattle.dkg_core.specs.Asked.{OfShares, Reads, IsArtifactIn, IsResultIn, IsJobIn, HasAsked, IsInformed, IsAskStop, IsMadeIn}
 use Rattle.dkg_core.specs.Through.{IsFormThrough, IsLiveThrough, IsTakenThrough, IsShareTaken, cancelled, finished, included as included_life, observed, waits_for}
-use Rattle.dkg_core.specs.SayingThrough.{SaysSo, payload_by, IsAskedAnswer, IsReadAnswer, IsWaitedAnswer, IsUnasked, IsMailLine, IsFinalAnswer, IsBlockAnswer, IsBlockLineThrough, StepsSayThrough}
+use Rattle.dkg_core.specs.SayingThrough.{SaysSo, payload_by, IsAskedAnswer, IsReadAnswer, IsUnasked, IsMailLine, IsFinalAnswer, IsBlockAnswer, IsBlockLineThrough, StepsSayThrough}
 use Rattle.dkg_core.proofs.Advancing as adv
 use Rattle.dkg_core.proofs.Advancing.{included, none_found, of_round, read_again, requeued, retained_is, some_of}
 use Rattle.dkg_core.proofs.Applied.{includes_above, judged_is}

@@ -1,7 +1,6 @@
 -- A step that passes no epoch on keeps the shares.
-use Rattle.std.proofs.Common.{◌≡◌, ℕ, Bool, true, false, Option, Some, None, refl, sym, ◌∙◌, ap, subst}
+use Rattle.std.proofs.Common.{◌≡◌, ℕ, Option, Some, None, refl, sym, ◌∙◌, ap, subst}
 use Rattle.std.specs.Prelude.{if◌then◌else◌, is_some, option_and_then}
-use Rattle.std.specs.Option.{option_map_or}
 use Rattle.std.specs.FinMap.{get}
 use Rattle.dkg_ceremony.specs.declared.round.RoundParts.{RoundParts as Round}
 use Rattle.dkg_ceremony.specs.declared.signed_log.SignedDealerLog.{SignedDealerLog}
@@ -10,7 +9,7 @@ use Rattle.dkg_types.specs.PayloadCodes.{its_log}
 use Rattle.dkg_secrets.specs.Secrets.{Secrets}
 use Rattle.dkg_store.specs.Acts.{Held, World}
 use Rattle.dkg_store.proofs.Acts.{along_runs}
-use Rattle.dkg_core.specs.Courses.{Course, Goes, bind, on_devices, Throughout}
+use Rattle.dkg_core.specs.Courses.{Goes, bind, on_devices, Throughout}
 use Rattle.dkg_core.specs.Fixed.{Fixed}
 use Rattle.dkg_core.specs.Live.{Live, Stage, Deals, Includes, Follows, Ends, Sent, Finalized, is_last_height, recorded_at, with_tip}
 use Rattle.dkg_core.specs.Logs.{is_accepted, log_event}
@@ -18,7 +17,6 @@ use Rattle.dkg_core.specs.Dealing as d
 use Rattle.dkg_core.specs.Including as i
 use Rattle.dkg_core.specs.Blocks as b
 use Rattle.dkg_core.specs.Core.{step}
-use Rattle.dkg_core.specs.Forms.{Applied, judged_block}
 use Rattle.dkg_core.specs.Storing.{KeepsShares}
 use Rattle.dkg_core.specs.Through.{PassesNothingOn}
 use Rattle.dkg_core.specs.SharesMoved.{NodeStepsSpareShares}

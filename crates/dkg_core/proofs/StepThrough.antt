@@ -1,6 +1,6 @@
 -- How steps end in a life that passes through whole epochs.
-use Rattle.std.proofs.Common.{◌≡◌, ◌≤◌, ◌<◌, ◌⊎◌, inl, inr, ℕ, Bool, true, false, List, [], ◌∷◌, Option, Some, None, refl, sym, ◌∙◌, ap, subst, arith}
-use Rattle.std.specs.Prelude.{◌+◌, ◌==◌, if◌then◌else◌, is_some, option_map, Result, Ok, Err}
+use Rattle.std.proofs.Common.{◌≡◌, ◌<◌, ◌⊎◌, inl, inr, ℕ, Bool, true, false, List, [], ◌∷◌, Option, Some, None, refl, sym, ◌∙◌, ap, subst, arith}
+use Rattle.std.specs.Prelude.{◌+◌, ◌==◌, if◌then◌else◌, is_some, Result, Ok, Err}
 use Rattle.std.specs.Option.{option_map_or}
 use Rattle.std.proofs.lemmas.Bool.Decides.{nat_tests}
 use Rattle.dkg_values.specs.Rising.{lookup}
@@ -8,11 +8,9 @@ use Rattle.dkg_ceremony.specs.declared.ceremony.AckError.{AckError}
 use Rattle.dkg_ceremony.specs.declared.round.RoundParts.{RoundParts as Round}
 use Rattle.dkg_ceremony.specs.Schedule.{epoch_of, midpoint}
 use Rattle.dkg_types.specs.Blocks.{Block}
-use Rattle.dkg_types.specs.BlockCodes.{info_of}
 use Rattle.dkg_types.specs.declared.fault.Fault.{Fault}
-use Rattle.dkg_types.specs.declared.info.EpochInfo.{EpochInfo}
 use Rattle.dkg_store.specs.Acts.{Held}
-use Rattle.dkg_core.specs.Courses.{Course, Goes, bind}
+use Rattle.dkg_core.specs.Courses.{Course, Goes}
 use Rattle.dkg_core.specs.Fixed.{Fixed}
 use Rattle.dkg_core.specs.Live.{Live, Dealer, Seat, Plays, Watches, Stage, Deals, Includes, Follows, Ends, Inclusion, Request, Message, Sent, Finalized, Mail, Peer, NextLog, ReleaseLog, EpochInfoOf, Feed, Over, Cancel, Work, recorded_at, is_last_height, with_tip, with_used}
 use Rattle.dkg_core.specs.Setup as s
@@ -20,10 +18,10 @@ use Rattle.dkg_core.specs.Dealing as d
 use Rattle.dkg_core.specs.Including.{advanced, served_now}
 use Rattle.dkg_core.specs.Blocks as b
 use Rattle.dkg_core.specs.Core.{step}
-use Rattle.dkg_core.specs.Forms.{IsLiveIn, Judged, Refusal, Passed, Applied, judged_block, ComesOver, share_read}
-use Rattle.dkg_core.specs.Stepping.{IsHeardBy, with_taken, own_half, with_own_dealing, with_own_ack, given_in, given_itself, IsDealingStop, dealt_behind}
+use Rattle.dkg_core.specs.Forms.{IsLiveIn, Judged, Applied, judged_block, ComesOver, share_read}
+use Rattle.dkg_core.specs.Stepping.{IsHeardBy, with_taken, own_half, with_own_dealing, with_own_ack, given_in, given_itself, IsDealingStop}
 use Rattle.dkg_core.specs.Asked.{OfShares, read_somewhere, Reads, InRound, HasAsked, IsInformed, IsAskStop, IsReadOn}
-use Rattle.dkg_core.specs.Through.{IsFormThrough, IsLiveThrough, IsTakenThrough, IsReadFrom, IsShareTaken, IsPassedOn, IsAppliedStopThrough, IsBlockStopThrough, IsAppliedThrough, IsBlockThrough, IsFollowedThrough, IsIncludedThrough, IsStopThrough, IsEndThrough, IsNextThrough, StepReads, StepsComeThrough, StepsLeadThrough, StepsLeadThroughOver, WasAsked, asked_by, included, unasked}
+use Rattle.dkg_core.specs.Through.{IsFormThrough, IsLiveThrough, IsTakenThrough, IsReadFrom, IsShareTaken, IsAppliedStopThrough, IsBlockStopThrough, IsAppliedThrough, IsBlockThrough, IsFollowedThrough, IsIncludedThrough, IsStopThrough, IsNextThrough, StepReads, StepsComeThrough, StepsLeadThrough, StepsLeadThroughOver, WasAsked, asked_by, included, unasked}
 use Rattle.dkg_core.proofs.Advancing.{advances_lead}
 use Rattle.dkg_core.proofs.Applied.{judged_comes, deals_below, includes_above}
 use Rattle.dkg_core.proofs.Concluding as concluding

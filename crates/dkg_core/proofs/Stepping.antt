@@ -34,7 +34,7 @@ use Rattle.dkg_core.proofs.Applied.{place_of, judged_comes}
 use Rattle.dkg_core.proofs.Behind.{heard_aside, block_aside}
 use Rattle.dkg_core.proofs.Counting.{comes_if}
 use Rattle.dkg_core.proofs.Heights.{next_below, below_middle, below_tip}
-use Rattle.dkg_core.proofs.Setups.{over_if, over_as, over_behind, over_under, anywhere_over, comes_anywhere, came_over, some_found}
+use Rattle.dkg_core.proofs.Setups.{over_as, over_behind, over_under, anywhere_over, comes_anywhere, came_over, some_found}
 use Rattle.dkg_core.proofs.Splitting.{came_to, comes_behind}
 use Rattle.dkg_core.proofs.StepDealing.{IsSameBut, taken_same, given_same, dealing_comes}
 use Rattle.dkg_core.proofs.StepFollowing as follow

@@ -1,12 +1,12 @@
 -- What goes on of a life that passes through whole epochs, where no epoch is passed on.
-use Rattle.std.proofs.Common.{◌≡◌, ◌⊎◌, inl, inr, ℕ, Bool, true, false, Option, refl, sym, ◌∙◌, ap, subst}
+use Rattle.std.proofs.Common.{◌≡◌, inl, inr, ℕ, Bool, true, false, Option, refl, sym, subst}
 use Rattle.std.specs.Prelude.{◌+◌, ◌==◌, if◌then◌else◌}
 use Rattle.dkg_ceremony.specs.declared.round.RoundParts.{RoundParts as Round}
 use Rattle.dkg_ceremony.specs.Schedule.{midpoint}
 use Rattle.dkg_types.specs.Blocks.{Block}
 use Rattle.dkg_store.specs.Acts.{Held}
 use Rattle.dkg_core.specs.Fixed.{Fixed}
-use Rattle.dkg_core.specs.Live.{Live, Stage, Deals, Includes, Follows, Ends, Mail, Peer, NextLog, ReleaseLog, EpochInfoOf, Feed, Over, Cancel, Work, Message, Sent, Finalized, is_last_height, with_inclusion, with_tip}
+use Rattle.dkg_core.specs.Live.{Live, Stage, Deals, Includes, Follows, Ends, Mail, Peer, NextLog, ReleaseLog, EpochInfoOf, Feed, Over, Cancel, Work, Sent, Finalized, is_last_height, with_inclusion, with_tip}
 use Rattle.dkg_core.specs.Setup as s
 use Rattle.dkg_core.specs.Forms.{Judged, Refusal, Passed, Applied, judged_block}
 use Rattle.dkg_core.specs.Stepping.{IsHeardBy, given_itself, dealt_behind}

@@ -1,5 +1,5 @@
 -- What a life has of requests, verifications and artifacts, and what stops it where it reads a request.
-use Rattle.std.specs.Prelude.{◌≡◌, ◌<◌, ◌≤◌, ◌+◌, ◌++◌, ◌^◌, ℕ, Bool, true, false, List, [], ◌∷◌, length, Option, Some, None, IsSome, IsSomeAnd, is_some, if◌then◌else◌, option_map, Ok}
+use Rattle.std.specs.Prelude.{◌≡◌, ◌<◌, ◌≤◌, ◌+◌, ◌++◌, ◌^◌, ℕ, Bool, true, false, List, [], ◌∷◌, length, Option, Some, None, IsSomeAnd, is_some, if◌then◌else◌, option_map, Ok}
 use Rattle.dkg_values.specs.Rising.{lookup}
 use Rattle.dkg_ceremony.specs.declared.output.Output.{Output}
 use Rattle.dkg_ceremony.specs.declared.round.RoundParts.{RoundParts as Round}
@@ -11,16 +11,14 @@ use Rattle.dkg_types.specs.declared.fault.ParticipantsCause.TheVariants.{Provide
 use Rattle.dkg_types.specs.declared.info.EpochInfo.{EpochInfo}
 use Rattle.dkg_types.specs.NextInfos.{next_info}
 use Rattle.dkg_store.specs.Acts.{Held}
-use Rattle.dkg_core.specs.Courses.{Course}
 use Rattle.dkg_core.specs.Fixed.{Fixed, has}
-use Rattle.dkg_core.specs.Live.{Live, Stage, Includes, Follows, Inclusion, Request, Job, Verified, VerifiedLogs, Artifact, Cached, with_inclusion}
+use Rattle.dkg_core.specs.Live.{Live, Includes, Follows, Inclusion, Request, Job, Verified, VerifiedLogs, Artifact, Cached, with_inclusion}
 use Rattle.dkg_core.specs.Setup.{refused_in}
 use Rattle.dkg_core.specs.Logs.{canonical, filled_by}
-use Rattle.dkg_core.specs.Including.{Found, is_need, read_of, can_finish, job_for, its_key, cached_for, retained_for, info_peers, artifact, advanced, Next}
+use Rattle.dkg_core.specs.Including.{Found, is_need, read_of, can_finish, job_for, cached_for, retained_for, info_peers, artifact, advanced, Next}
 use Rattle.dkg_core.specs.Laws.{IsAmong}
 use Rattle.dkg_core.specs.Endings.{validity}
 use Rattle.dkg_core.specs.Forms.{IsForm, ComesOver, Finds, round_for}
-use Rattle.dkg_core.specs.Finishing.{IsFinishing}
 
 -- RESULTS AND ARTIFACTS
 

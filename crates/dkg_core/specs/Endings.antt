@@ -1,5 +1,5 @@
 -- The words in which it is told how openings and steps end: where a course comes to, what an opening begins with, and what a step leaves of the tip.
-use Rattle.std.specs.Prelude.{◌≡◌, ◌||◌, ℕ, true, false, not, nat_le, [], Option, Some, None, IsSomeAnd, Result, if◌then◌else◌}
+use Rattle.std.specs.Prelude.{◌≡◌, ◌||◌, ℕ, true, false, not, nat_le, Option, Some, None, IsSomeAnd, Result, if◌then◌else◌}
 use Rattle.std.specs.Option.{option_map_or}
 use Rattle.dkg_ceremony.specs.declared.phase.Phase.{Phase}
 use Rattle.dkg_ceremony.specs.declared.phase.Phase.TheVariants.{Early, Midpoint, Late}

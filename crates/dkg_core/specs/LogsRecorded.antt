@@ -6,7 +6,7 @@ use Rattle.dkg_ceremony.specs.declared.signed_log.SignedDealerLog.{SignedDealerL
 use Rattle.dkg_types.specs.Blocks.{Block}
 use Rattle.dkg_types.specs.PayloadCodes.{its_log}
 use Rattle.dkg_store.specs.Acts.{World, Ended, notes}
-use Rattle.dkg_store.specs.Noted.{Notes, logs_in}
+use Rattle.dkg_store.specs.Noted.{logs_in}
 use Rattle.dkg_store.specs.declared.recorded_log.RecordedLog.{RecordedLog}
 use Rattle.dkg_core.specs.Courses.{EndsSo}
 use Rattle.dkg_core.specs.Fixed.{Fixed}

@@ -15,7 +15,6 @@ use Rattle.dkg_core.specs.Laws.{reach_of}
 use Rattle.dkg_core.specs.Storing.{ReadsSecrets, KeepsShares}
 use Rattle.dkg_core.specs.Asked.{OfShares, Reads, IsArtifactIn, InEpoch}
 use Rattle.dkg_core.specs.Through.{IsFormThrough, IsLiveThrough, PassesNothingOn}
-use Rattle.dkg_types.specs.declared.info.EpochInfo.{EpochInfo}
 
 -- The share is that of the artifact of the canonical logs, and the carried info, of this epoch, is the artifact's.
 abbrev pub IsSuchShare : {Dir : Type 0} → Fixed Dir → OfShares → Block Dir → Live Dir → (epoch share : ℕ) → Type 0

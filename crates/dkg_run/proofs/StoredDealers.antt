@@ -162,16 +162,18 @@ module _ {Dir : Type 0} (c : Fixed Dir) (rules_are : c.rules ≡ stand_in) where
         phase = phase_of c (awaited_height end)
 
         with_share : (its : ℕ) (halves : List ℕ × List (ℕ × ℕ)) → share ≡ Some its → c.rules.deal_of round c.me share seed ≡ Ok halves → (d.public ≡ halves.0) × (d.privates ≡ halves.1) → IsStoredDealer c.me end d h
-        with_share its halves is deals same = let deals_it : deal_of round c.me (Some its) seed ≡ Ok (d.public, d.privates)
-        = ap (λ (o : Option ℕ). deal_of round c.me o seed) (sym is) ∙ sym (ap (λ (r : Rules). r.deal_of round c.me share seed) rules_are) ∙ deals ∙ ap (λ (x : List ℕ). Ok (x, halves.1)) (sym same.0) ∙ ap (λ (x : List (ℕ × ℕ)). Ok (d.public, x)) (sym same.1) in record {
-          round = round;
-          of_epoch = seated.in_round;
-          share = its;
-          seed = seed;
-          dealt = deals_it;
-          fits = fits_dealt round c.me its seed (d.public, d.privates) info.output previous_is deals_it;
-          seed_is = ap (get h.secrets.seeds) number_is ∙ seed_there;
-        }
+        with_share its halves is deals same =
+            let deals_it : deal_of round c.me (Some its) seed ≡ Ok (d.public, d.privates)
+            = ap (λ (o : Option ℕ). deal_of round c.me o seed) (sym is) ∙ sym (ap (λ (r : Rules). r.deal_of round c.me share seed) rules_are) ∙ deals ∙ ap (λ (x : List ℕ). Ok (x, halves.1)) (sym same.0) ∙ ap (λ (x : List (ℕ × ℕ)). Ok (d.public, x)) (sym same.1) in
+            record {
+              round = round;
+              of_epoch = seated.in_round;
+              share = its;
+              seed = seed;
+              dealt = deals_it;
+              fits = fits_dealt round c.me its seed (d.public, d.privates) info.output previous_is deals_it;
+              seed_is = ap (get h.secrets.seeds) number_is ∙ seed_there;
+            }
 
         by_deal : may_deal c round share end ≡ true → (r : Result (List ℕ × List (ℕ × ℕ)) DealError) → c.rules.deal_of round c.me share seed ≡ r → dealer_by c round phase end r ≡ Some d → IsStoredDealer c.me end d h
         by_deal may (Err e) deals is = absurd (none_some is)

@@ -1,4 +1,3 @@
-use Rattle.dkg_core.proofs.Reading as reading
 use Rattle.dkg_core.proofs.Observing.{observes_nothing_else as law}
 use Rattle.dkg_core.proofs.observes_nothing_else.Goals as goal
 
