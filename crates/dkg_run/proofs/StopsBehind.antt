@@ -4,6 +4,7 @@ use Rattle.std.specs.Prelude.{◌+◌, ◌==◌, ⊤, if◌then◌else◌, nat_l
 use Rattle.std.specs.Option.{option_map_or}
 use Rattle.dkg_values.specs.Rising.{lookup}
 use Rattle.dkg_ceremony.specs.Schedule.{last}
+use Rattle.dkg_fence.specs.Fence as fence
 use Rattle.dkg_fence.specs.declared.fence.Waited.{Waited}
 use Rattle.dkg_fence.specs.declared.fence.Waited.TheVariants as waits
 use Rattle.dkg_types.specs.BlockCodes.{info_of}
@@ -14,7 +15,7 @@ use Rattle.dkg_types.specs.declared.fault.Fault.TheVariants.{LocalState, Missing
 use Rattle.dkg_types.specs.declared.fault.LocalCause.{LocalCause}
 use Rattle.dkg_types.specs.declared.info.EpochInfo.{EpochInfo}
 use Rattle.dkg_types.specs.declared.scheme.SchemeInfo.{SchemeInfo}
-use Rattle.dkg_core.specs.Courses.{Ask, Call, Course, Do, EndsSo, Goes, Say, Stops, bind, under}
+use Rattle.dkg_core.specs.Courses.{Ask, Call, Course, Do, EndsSo, Genesis, Goes, Say, Stops, bind, under}
 use Rattle.dkg_core.specs.Core.{step}
 use Rattle.dkg_core.specs.Entering as half
 use Rattle.dkg_core.specs.Entering.{Half, HalfAnswer, Acknowledges, Withholds}
@@ -94,12 +95,15 @@ module _ {Dir : Type 0} (c : Fixed Dir) where
   waited o w waits.Closed st = tt
 
   enters : (w : Waiting Dir) (st : Live Dir) → NoLocal (half.enters c w st)
-  enters w st = waited _ w (half.wait_for st.orchestrator.fence w.epoch) st
+  enters w st = waited (record st.orchestrator { fence = fence.waited w.epoch (half.wait_for st.orchestrator.fence w.epoch) st.orchestrator.fence }) w (half.wait_for st.orchestrator.fence w.epoch) st
 
   enters_at : (b : Block Dir) (epoch : ℕ) (block : Option ℕ) (st : Live Dir) → NoLocal (half.enters_at c b epoch block st)
   enters_at b epoch block st =
-      no_option (info_of b.payload) (λ (info : EpochInfo Dir). if info.epoch == epoch then half.enters c _ st else Stops (Faulted (WrongEpoch epoch info.epoch))) (Stops (Faulted (MissingEpochInfo b.height)))
-      (λ info. no_if (info.epoch == epoch) (half.enters c _ st) (Stops (Faulted (WrongEpoch epoch info.epoch))) (enters _ st) tt) tt
+      no_option (info_of b.payload) (λ (info : EpochInfo Dir). if info.epoch == epoch then half.enters c (begins info) st else Stops (Faulted (WrongEpoch epoch info.epoch))) (Stops (Faulted (MissingEpochInfo b.height)))
+      (λ info. no_if (info.epoch == epoch) (half.enters c (begins info) st) (Stops (Faulted (WrongEpoch epoch info.epoch))) (enters (begins info) st) tt) tt
+    where
+      begins : EpochInfo Dir → Waiting Dir
+      begins info = record { epoch = epoch; info = info; floor = Genesis b.digest; block = block }
 
   acked : (height : ℕ) (answer : HalfAnswer) (st : Live Dir) → NoLocal (half.acked_at height answer st)
   acked height Acknowledges st = tt
