@@ -686,7 +686,7 @@ module _ (g : Lived) (here : IsLifeInForm g) (bytes : AreBytes g.script.blocks) 
                 let led = node_steps_lead_through_over c any_shares st message (stopped (Faulted (fault.LocalState cause))) w new (through_at g here (suc i)) (lacks_nobody g (suc i)) (λ h epoch found. tt) taken live at.active its_run in
                 subst (λ (x : Fault). IsStopThrough c any_shares st message (Some w.held) x) (sym (the_fault led.1)) led.2
 
-            abbrev End : Ended NodeStop (Live directory.Unit)
+            End : Ended NodeStop (Live directory.Unit)
             End = stopped (Faulted (fault.LocalState cause))
 
             asks_show : (mail : Mail directory.Unit) → IsOther {Dir = directory.Unit} (Sent mail) → IsTakenThrough c (Sent mail) st → EndsSo (node_step c (event_of (Sent mail)) st) End w new → Shows (fault.LocalState cause)

@@ -314,7 +314,7 @@ module _ (X : Held → Type 0) where
             else b.carried c block (λ its. b.takes_over c block its (b.share_for c its made) (with_inclusion i st))) h) (sym form.reshare)
             (carried (λ its. b.takes_over c block its (b.share_for c its made) (with_inclusion i st)) (taken (b.share_for c info made) i))
 
-        Beside : Live Dir → Held → Type 0
+        abbrev Beside : Live Dir → Held → Type 0
         Beside now k = (k ≡ h) × (now ≡ with_inclusion now.inclusion st)
 
         verifies : (round : Round) (logs : LogMap) (job : Job) (refused : Option ℕ) (i : Inclusion Dir)

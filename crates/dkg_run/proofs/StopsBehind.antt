@@ -4,6 +4,7 @@ use Rattle.std.specs.Prelude.{◌+◌, ◌==◌, ⊤, if◌then◌else◌, nat_l
 use Rattle.std.specs.Option.{option_map_or}
 use Rattle.dkg_values.specs.Rising.{lookup}
 use Rattle.dkg_ceremony.specs.Schedule.{last}
+use Rattle.dkg_fence.specs.Fence as fence
 use Rattle.dkg_fence.specs.declared.fence.Waited.{Waited}
 use Rattle.dkg_fence.specs.declared.fence.Waited.TheVariants as waits
 use Rattle.dkg_types.specs.BlockCodes.{info_of}
@@ -14,7 +15,7 @@ use Rattle.dkg_types.specs.declared.fault.Fault.TheVariants.{LocalState, Missing
 use Rattle.dkg_types.specs.declared.fault.LocalCause.{LocalCause}
 use Rattle.dkg_types.specs.declared.info.EpochInfo.{EpochInfo}
 use Rattle.dkg_types.specs.declared.scheme.SchemeInfo.{SchemeInfo}
-use Rattle.dkg_core.specs.Courses.{Ask, Call, Course, Do, EndsSo, Goes, Say, Stops, bind, under}
+use Rattle.dkg_core.specs.Courses.{Ask, Call, Course, Do, EndsSo, Genesis, Goes, Say, Stops, bind, under}
 use Rattle.dkg_core.specs.Core.{step}
 use Rattle.dkg_core.specs.Entering as half
 use Rattle.dkg_core.specs.Entering.{Half, HalfAnswer, Acknowledges, Withholds}
@@ -37,22 +38,22 @@ NoLocal (Goes end) = ⊤
 NoLocal (Stops stop) = IsElse stop
 
 never : {Dir S : Type 0} (course : Course Dir NodeStop S) (cause : LocalCause) (w new : World) → NoLocal course → EndsSo course (stopped (Faulted (LocalState cause))) w new → ⊥
-never (Say line course) cause w new no run = never course cause (says w line) new no run
-never (Do op course) cause w new no run = never course cause (does w op) new no run
-never (Call outer course) cause w new no run = never course cause w new no run
-never (Ask f) cause w new no run = never (f w.held) cause w new (no w.held) run
-never (Goes end) cause w new no run = run
-never (Stops stop) cause w new no run = subst (λ (x : NodeStop). IsElse x) (sym run.1) no
+never (Say line course) cause w new clear run = never course cause (says w line) new clear run
+never (Do op course) cause w new clear run = never course cause (does w op) new clear run
+never (Call outer course) cause w new clear run = never course cause w new clear run
+never (Ask f) cause w new clear run = never (f w.held) cause w new (clear w.held) run
+never (Goes end) cause w new clear run = run
+never (Stops stop) cause w new clear run = subst (λ (x : NodeStop). IsElse x) (sym run.1) clear
 
 -- .. so the half did
 stopped_half : {Dir S T : Type 0} (course : Course Dir Fault S) (behind : S → Course Dir NodeStop T) (cause : LocalCause) (w new : World) → ((end : S) → NoLocal (behind end))
     → EndsSo (bind (under Faulted course) behind) (stopped (Faulted (LocalState cause))) w new → EndsSo course (stopped (LocalState cause)) w new
-stopped_half (Say line course) behind cause w new no run = stopped_half course behind cause (says w line) new no run
-stopped_half (Do op course) behind cause w new no run = stopped_half course behind cause (does w op) new no run
-stopped_half (Call outer course) behind cause w new no run = stopped_half course behind cause w new no run
-stopped_half (Ask f) behind cause w new no run = stopped_half (f w.held) behind cause w new no run
-stopped_half (Goes end) behind cause w new no run = absurd (never (behind end) cause w new (no end) run)
-stopped_half (Stops own) behind cause w new no run = (run.0, the_fault run.1)
+stopped_half (Say line course) behind cause w new clear run = stopped_half course behind cause (says w line) new clear run
+stopped_half (Do op course) behind cause w new clear run = stopped_half course behind cause (does w op) new clear run
+stopped_half (Call outer course) behind cause w new clear run = stopped_half course behind cause w new clear run
+stopped_half (Ask f) behind cause w new clear run = stopped_half (f w.held) behind cause w new clear run
+stopped_half (Goes end) behind cause w new clear run = absurd (never (behind end) cause w new (clear end) run)
+stopped_half (Stops own) behind cause w new clear run = (run.0, the_fault run.1)
   where
     the_fault : {x y : Fault} → ◌≡◌ {A = NodeStop} (Faulted x) (Faulted y) → x ≡ y
     the_fault e = cc
@@ -60,12 +61,12 @@ stopped_half (Stops own) behind cause w new no run = (run.0, the_fault run.1)
 -- THE ORCHESTRATOR'S HALF
 
 no_bind : {Dir S T : Type 0} (course : Course Dir NodeStop S) (next : S → Course Dir NodeStop T) → NoLocal course → ((end : S) → NoLocal (next end)) → NoLocal (bind course next)
-no_bind (Say line course) next no more = no_bind course next no more
-no_bind (Do op course) next no more = no_bind course next no more
-no_bind (Call outer course) next no more = no_bind course next no more
-no_bind (Ask f) next no more = λ h. no_bind (f h) next (no h) more
-no_bind (Goes end) next no more = more end
-no_bind (Stops stop) next no more = no
+no_bind (Say line course) next clear more = no_bind course next clear more
+no_bind (Do op course) next clear more = no_bind course next clear more
+no_bind (Call outer course) next clear more = no_bind course next clear more
+no_bind (Ask f) next clear more = λ h. no_bind (f h) next (clear h) more
+no_bind (Goes end) next clear more = more end
+no_bind (Stops stop) next clear more = clear
 
 no_if : {Dir S : Type 0} (t : Bool) (x y : Course Dir NodeStop S) → NoLocal x → NoLocal y → NoLocal (if t then x else y)
 no_if true x y one other = one
@@ -77,8 +78,8 @@ no_option (Some a) f none some without = some a
 
 module _ {Dir : Type 0} (c : Fixed Dir) where
   stops : (entered : Option ℕ) (course : Course Dir NodeStop (Half Dir)) → NoLocal course → NoLocal (half.stops_engine entered course)
-  stops None course no = no
-  stops (Some epoch) course no = no
+  stops None course clear = clear
+  stops (Some epoch) course clear = clear
 
   starts : (o : Orchestrator Dir) (w : Waiting Dir) (scheme : Option SchemeInfo) (st : Live Dir) → NoLocal (half.starts_engine o w scheme st)
   starts o w None st = tt
@@ -94,12 +95,15 @@ module _ {Dir : Type 0} (c : Fixed Dir) where
   waited o w waits.Closed st = tt
 
   enters : (w : Waiting Dir) (st : Live Dir) → NoLocal (half.enters c w st)
-  enters w st = waited _ w (half.wait_for st.orchestrator.fence w.epoch) st
+  enters w st = waited (record st.orchestrator { fence = fence.waited w.epoch (half.wait_for st.orchestrator.fence w.epoch) st.orchestrator.fence }) w (half.wait_for st.orchestrator.fence w.epoch) st
 
   enters_at : (b : Block Dir) (epoch : ℕ) (block : Option ℕ) (st : Live Dir) → NoLocal (half.enters_at c b epoch block st)
   enters_at b epoch block st =
-      no_option (info_of b.payload) (λ (info : EpochInfo Dir). if info.epoch == epoch then half.enters c _ st else Stops (Faulted (WrongEpoch epoch info.epoch))) (Stops (Faulted (MissingEpochInfo b.height)))
-      (λ info. no_if (info.epoch == epoch) (half.enters c _ st) (Stops (Faulted (WrongEpoch epoch info.epoch))) (enters _ st) tt) tt
+      no_option (info_of b.payload) (λ (info : EpochInfo Dir). if info.epoch == epoch then half.enters c (begins info) st else Stops (Faulted (WrongEpoch epoch info.epoch))) (Stops (Faulted (MissingEpochInfo b.height)))
+      (λ info. no_if (info.epoch == epoch) (half.enters c (begins info) st) (Stops (Faulted (WrongEpoch epoch info.epoch))) (enters (begins info) st) tt) tt
+    where
+      begins : EpochInfo Dir → Waiting Dir
+      begins info = record { epoch = epoch; info = info; floor = Genesis b.digest; block = block }
 
   acked : (height : ℕ) (answer : HalfAnswer) (st : Live Dir) → NoLocal (half.acked_at height answer st)
   acked height Acknowledges st = tt
