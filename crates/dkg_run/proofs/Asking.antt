@@ -19,7 +19,7 @@ use Rattle.dkg_store.specs.Acts.{Held}
 use Rattle.dkg_script.specs.Blocks.{anchor_number}
 use Rattle.dkg_script.specs.Epochs.{alone}
 use Rattle.dkg_core.specs.Asked.{IsEmptied, InRound}
-use Rattle.dkg_core.specs.Blocks.{without_own_log, with_log}
+use Rattle.dkg_core.specs.Blocks.{unoffered, without_own_log, with_log}
 use Rattle.dkg_core.specs.Dealing.{counts, with_ack}
 use Rattle.dkg_core.specs.Endings.{first_block, first_epoch, validity}
 use Rattle.dkg_core.specs.Fixed.{Fixed}
@@ -87,11 +87,11 @@ module _ (P : ℕ → Type 0) where
 
   each_left : (keep : Request U → Bool) (xs : List (Request U)) → Each xs → Each (filter keep xs)
   each_left keep [] each = tt
-  each_left keep (x ∷ xs) each = by_test (keep x)
+  each_left keep (x ∷ xs) each = by_test (keep x) (each_left keep xs each.1)
     where
-      by_test : (t : Bool) → Each (if t then x ∷ filter keep xs else filter keep xs)
-      by_test true = (each.0, each_left keep xs each.1)
-      by_test false = each_left keep xs each.1
+      by_test : (t : Bool) → Each (filter keep xs) → Each (if t then x ∷ filter keep xs else filter keep xs)
+      by_test true rest = (each.0, rest)
+      by_test false rest = rest
 
   -- P of each request, and of the one that waits
   pub record IsOfAll (i : Inclusion U) : Type 0 where
@@ -184,7 +184,7 @@ module _ (c : Fixed U) (st : Live U) where
   cleared : (dealer : ℕ) (x : Live U) → (without_own_log c dealer x).inclusion ≡ x.inclusion
   cleared dealer x = by_test (dealer == c.me)
     where
-      by_test : (t : Bool) → (if t then with_participation (record x.participation { dealer = option_map (λ d. record d { log = None }) x.participation.dealer }) x else x).inclusion ≡ x.inclusion
+      by_test : (t : Bool) → (if t then with_participation (record x.participation { dealer = option_map unoffered x.participation.dealer }) x else x).inclusion ≡ x.inclusion
       by_test true = refl
       by_test false = refl
 
@@ -418,15 +418,16 @@ module _ (g : Lived) (here : IsLifeInForm g) where
   -- one that is found among numbered blocks is the block of some number
   found_at : (blocks : List (Block U)) (p : Block U → Bool) (b : Block U) (numbers : List ℕ) → find p (numbered blocks numbers) ≡ Some b → (number : ℕ) × (slice_get blocks number ≡ Some b) × (p b ≡ true)
   found_at blocks p b [] found = absurd (none_some b found)
-  found_at blocks p b (n ∷ ns) found = by_block (slice_get blocks n) refl found
+  found_at blocks p b (n ∷ ns) found = by_block (λ rest. found_at blocks p b ns rest) (slice_get blocks n) refl found
     where
-      by_block : (o : Option (Block U)) → slice_get blocks n ≡ o → find p (cons_option o (numbered blocks ns)) ≡ Some b → (number : ℕ) × (slice_get blocks number ≡ Some b) × (p b ≡ true)
-      by_block None there found = found_at blocks p b ns found
-      by_block (Some x) there found = by_test (p x) refl found
+      by_block : (find p (numbered blocks ns) ≡ Some b → (number : ℕ) × (slice_get blocks number ≡ Some b) × (p b ≡ true)) → (o : Option (Block U)) → slice_get blocks n ≡ o → find p (cons_option o (numbered blocks ns)) ≡ Some b
+          → (number : ℕ) × (slice_get blocks number ≡ Some b) × (p b ≡ true)
+      by_block again None there found = again found
+      by_block again (Some x) there found = by_test (p x) refl found
         where
           by_test : (t : Bool) → p x ≡ t → (if t then Some x else find p (numbered blocks ns)) ≡ Some b → (number : ℕ) × (slice_get blocks number ≡ Some b) × (p b ≡ true)
           by_test true e found = (n, there ∙ found, subst (λ (y : Block U). p y ≡ true) (some_is found) e)
-          by_test false e found = found_at blocks p b ns found
+          by_test false e found = again found
 
   pub first_block_same : first_block (at_step g 0) ≡ opening_block g.script g.number g.life
   unfolding at_step
