@@ -32,7 +32,7 @@ use Rattle.dkg_core.specs.Logs.{is_accepted}
 use Rattle.dkg_core.specs.NodeThrough.{IsNodeThrough}
 use Rattle.dkg_core.specs.Seen.{Seen}
 use Rattle.dkg_core.specs.Setup.{Uncommitted, begins_inclusion}
-use Rattle.dkg_core.specs.Stepping.{IsHeardBy, dealt_behind, given_itself, with_taken}
+use Rattle.dkg_core.specs.Stepping.{IsHeardBy, dealt_behind, given_itself, next_epoch, with_taken}
 use Rattle.dkg_core.specs.Through.{IsAppliedThrough, IsBlockThrough, IsCarriedOn, IsEndThrough, IsFollowedThrough, IsIncludedThrough, IsLiveThrough, IsNextThrough, IsPassedOn, IsReadFrom, asked_by, cancelled, finished, included, observed, observed_log, waits_for}
 use Rattle.dkg_core.proofs.Heights.{next_last}
 use Rattle.dkg_core.proofs.StepDealing as dealing
@@ -351,6 +351,28 @@ module _ (g : Lived) (here : IsLifeInForm g) where
         either (inl on) = of_stage on mid.participation.stage refl
         either (inr over) = emptied Q mid.inclusion (over.taken).emptied
 
+    begins_next : (n height epoch : ℕ) → (height == last n (epoch_of n height)) ≡ true → epoch ≡ epoch_of n height + 1 → height ≡ boundary n epoch
+    begins_next n height epoch ends next = same_number height (last n (epoch_of n height)) ends ∙ sym (ap (boundary n) (next ∙ plus_one (epoch_of n height)))
+      where
+        same_number : (a b : ℕ) → (a == b) ≡ true → a ≡ b
+        same_number a b e = grind (arith, nat_tests)
+
+        plus_one : (a : ℕ) → a + 1 ≡ suc a
+        plus_one a = omega arith
+
+    -- a last block begins the epoch whose info it carries
+    of_last : (block : Block U) (info : EpochInfo U) (epoch : ℕ) → is_last_height c block.height ≡ true → info.epoch ≡ next_epoch c block → info_of block.payload ≡ Some info → info.epoch ≡ epoch → (number : ℕ)
+        → slice_get (blocks_in g.script) number ≡ Some block → IsInfoOf g.script epoch info
+    unfolding at_step
+    of_last block info epoch last_one of_next carries same number there = record {
+      number = number;
+      block = block;
+      is = there;
+      begins = begins_next (per_epoch g.script) block.height epoch last_one (sym same ∙ of_next);
+      carries = carries;
+      of_epoch = same;
+    }
+
     -- .. and the info by which it takes part is carried
     pub step_carried : IsCarried g st → IsCarried g end
     step_carried was round of_end = subst (λ (x : Live U). IsSomeAnd x.participation.current (λ info. IsInfoOf g.script x.participation.epoch info)) (sym node.same) (either goes)
@@ -362,15 +384,6 @@ module _ (g : Lived) (here : IsLifeInForm g) where
         still on =
             subst (λ (o : Option (EpochInfo U)). IsSomeAnd o (λ info. IsInfoOf g.script mid.participation.epoch info)) (sym (on.same).current)
             (subst (λ (epoch : ℕ). IsSomeAnd st.participation.current (λ info. IsInfoOf g.script epoch info)) (sym (on.same).epoch) (was round (sym (on.same).round ∙ of)))
-
-        begins_next : (n height epoch : ℕ) → (height == last n (epoch_of n height)) ≡ true → epoch ≡ epoch_of n height + 1 → height ≡ boundary n epoch
-        begins_next n height epoch ends next = same_number height (last n (epoch_of n height)) ends ∙ sym (ap (boundary n) (next ∙ plus_one (epoch_of n height)))
-          where
-            same_number : (a b : ℕ) → (a == b) ≡ true → a ≡ b
-            same_number a b e = grind (arith, nat_tests)
-
-            plus_one : (a : ℕ) → a + 1 ≡ suc a
-            plus_one a = omega arith
 
         taken : TakesOver c any_shares st m.message devices mid left → IsSomeAnd mid.participation.current (λ info. IsInfoOf g.script mid.participation.epoch info)
         taken over = by_brought (brings_so g its m.message m.brings)
@@ -386,15 +399,7 @@ module _ (g : Lived) (here : IsLifeInForm g) where
                 (((node.next).live).informed round of)).0
 
             of_block : (number : ℕ) → slice_get (blocks_in g.script) number ≡ Some over.block → IsInfoOf g.script mid.participation.epoch on.info
-            unfolding at_step
-            of_block number there = record {
-              number = number;
-              block = over.block;
-              is = there;
-              begins = begins_next (per_epoch g.script) (over.block).height mid.participation.epoch over.last (sym epoch ∙ on.of_next);
-              carries = on.carried;
-              of_epoch = epoch;
-            }
+            of_block number there = of_last over.block on.info mid.participation.epoch over.last on.of_next on.carried epoch number there
 
             the_block : {x y : Block U} → ◌≡◌ {A = Message U} (Finalized x) (Finalized y) → x ≡ y
             the_block e = cc

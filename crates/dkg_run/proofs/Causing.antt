@@ -29,7 +29,7 @@ use Rattle.dkg_text.specs.declared.script.Event.{Event}
 use Rattle.dkg_text.specs.declared.script.Event.TheVariants as event
 use Rattle.dkg_core.specs.Blocks.{is_early, is_in_window, is_in_window_in}
 use Rattle.dkg_core.specs.Forms.{IsNodeBegun, IsOpeningStop, IsSeated, IsSetUpIn, IsSetupFault, Judged, Refusal, Passed, Applied, judged_block, judged_over, round_for, share_read, seed_read, started}
-use Rattle.dkg_core.specs.Asked.{IsArtifactIn, IsAskStop, IsDeriveStop, IsProvided}
+use Rattle.dkg_core.specs.Asked.{IsAskStop, IsDeriveStop, IsProvided, OfShares}
 use Rattle.dkg_core.specs.Fixed.{Fixed, has}
 use Rattle.dkg_core.specs.Laws.{start_of}
 use Rattle.dkg_core.specs.Live as core
@@ -338,6 +338,17 @@ module _ (g : Lived) (here : IsLifeInForm g) where
               (ap (λ (o : Option Tip). option_map_or (λ t. nat_le b.height t.height) o false) (sym so.1) ∙ ap (λ (o : Option Tip). option_map_or (λ t. nat_le b.height t.height) o false) tip ∙ its.above))
           by_judged Applied is = is
 
+      -- a block that is taken while dealing lies below the midpoint
+      too_low : IsTakenLast g.script g.number g.life i b → st.participation.stage ≡ Deals → ⊥
+      unfolding at_step
+      too_low its stage = below b.height (last n (epoch_of n b.height)) its.ends (below_middle n (epoch_of n b.height) b.height (some n here.long) (deals_below (at_step g (suc i)) b st live.stands (new_of its) stage).1)
+        where
+          some : (n : ℕ) → 2 ≤ n → 1 ≤ n
+          some n long = omega (arith, long)
+
+          below : (h k : ℕ) → (h == k) ≡ true → h < k → ⊥
+          below h k same low = grind (arith, nat_tests)
+
       -- a last block is taken while it follows or includes
       pub stage_of : IsTakenLast g.script g.number g.life i b → (st.participation.stage ≡ Follows) ⊎ (st.participation.stage ≡ Includes)
       stage_of its = by_stage st.participation.stage refl
@@ -345,17 +356,7 @@ module _ (g : Lived) (here : IsLifeInForm g) where
           by_stage : (stage : Stage) → st.participation.stage ≡ stage → (st.participation.stage ≡ Follows) ⊎ (st.participation.stage ≡ Includes)
           by_stage Follows stage = inl stage
           by_stage Includes stage = inr stage
-          by_stage Deals stage = absurd (too_low stage)
-            where
-              too_low : st.participation.stage ≡ Deals → ⊥
-              unfolding at_step
-              too_low stage = below b.height (last n (epoch_of n b.height)) its.ends (below_middle n (epoch_of n b.height) b.height (some n here.long) (deals_below (at_step g (suc i)) b st live.stands (new_of its) stage).1)
-                where
-                  some : (n : ℕ) → 2 ≤ n → 1 ≤ n
-                  some n long = omega (arith, long)
-
-                  below : (h k : ℕ) → (h == k) ≡ true → h < k → ⊥
-                  below h k same low = grind (arith, nat_tests)
+          by_stage Deals stage = absurd (too_low its stage)
           by_stage Ends stage = absurd (never stage)
             where
               no_end : (phase : _) → stage_in phase ≡ Ends → ⊥
@@ -411,58 +412,55 @@ module _ (g : Lived) (here : IsLifeInForm g) where
           wide n zero its height line long begins same height_is placed high = let low : its ≡ 0 = same in omega (arith, low, high)
           wide n (suc k) its height line long begins same height_is placed high = over n k (k * n) its height line (double n k long) begins same height_is placed high long
 
+      both : (a b : Bool) → (a && b) ≡ true → a ≡ true
+      both true b e = refl
+      both false b e = absurd (bools_apart false e refl)
+
+      -- why the info that ends the epoch can't be made
+      module _ (at : Live directory.Unit) (of_round : at.participation.round ≡ st.participation.round) (of_info : at.participation.current ≡ st.participation.current) (apart : st.participation.stage ≡ Follows → ⊥) (round : Round)
+          (info : EpochInfo directory.Unit) (at_round : at.participation.round ≡ Some round) (at_info : at.participation.current ≡ Some info) where
+        its_round : st.participation.round ≡ Some round
+        its_round = sym of_round ∙ at_round
+
+        its_info : st.participation.current ≡ Some info
+        its_info = sym of_info ∙ at_info
+
+        informed : (info.epoch ≡ st.participation.epoch) × (validity (at_step g (suc i)) info ≡ Ok tt) × (round_for (at_step g (suc i)) st.participation.epoch info ≡ Ok round)
+        informed = subst (λ (o : Option (EpochInfo directory.Unit)). IsSomeAnd o (λ x. (x.epoch ≡ st.participation.epoch) × (validity (at_step g (suc i)) x ≡ Ok tt) × (round_for (at_step g (suc i)) st.participation.epoch x ≡ Ok round))) its_info
+            (live.informed round its_round)
+
+        of : IsInfoOf g.script st.participation.epoch info
+        of = subst (λ (o : Option (EpochInfo directory.Unit)). IsSomeAnd o (λ x. IsInfoOf g.script st.participation.epoch x)) its_info (carried round its_round)
+
+        here_now : st.participation.epoch ≡ e
+        here_now = stands.epoch apart
+
+        stored_cause : (number dealer : ℕ) → IsDeriveStop (at_step g (suc i)) round info at (fault.LocalState (local.StoredDealing number dealer)) → IsOwnCause g.script st.participation.epoch info (fault.LocalState (local.StoredDealing number dealer))
+        unfolding at_step
+        stored_cause number dealer why =
+            let refused = refused_here (λ d. dealing_of round g.script.config.me d) dealer (pairs_of at round.number) why.2 in (
+              why.0 ∙ (live.stands).numbered round its_round,
+              (
+                informed.0,
+                informed.1,
+                (round, informed.2, (both (has round.players g.script.config.me) _ why.1.1, (refused.0, refused.1, refused.2, refused.3))),
+              ),
+            )
+
+        derive_cause : (own : Fault) → IsDeriveStop (at_step g (suc i)) round info at own → IsEither own
+        unfolding at_step
+        derive_cause fault.HeightRange why = absurd (in_range info of why)
+        derive_cause (fault.InvalidParticipants cause.ProviderEmpty) why = inl (subst (λ (k : ℕ). IsProviderCause g.script k (fault.InvalidParticipants cause.ProviderEmpty)) (informed.0 ∙ here_now) why)
+        derive_cause (fault.InvalidParticipants (cause.ProviderAbove count most)) why =
+            inl (subst (λ (k : ℕ). IsProviderCause g.script k (fault.InvalidParticipants (cause.ProviderAbove count most))) (informed.0 ∙ here_now) (why.0, why.1, subst (λ (k : ℕ). k < count) (sym why.1) why.2))
+        derive_cause (fault.DirectoryMismatch epoch) why = absurd (let wrong : ◌≡◌ {A = Bool} true false = why.1.1 in cc)
+        derive_cause (fault.LocalState (local.StoredDealing number dealer)) why =
+            inr (subst (λ (k : ℕ). IsAskedOwn g.script k (fault.LocalState (local.StoredDealing number dealer))) here_now (info, of, stored_cause number dealer why))
+        derive_cause own why = absurd why
+
       asked_cause : (at : Live directory.Unit) → at.participation.round ≡ st.participation.round → at.participation.current ≡ st.participation.current → (st.participation.stage ≡ Follows → ⊥) → (own : Fault)
           → IsAskStop (at_step g (suc i)) at own → IsEither own
-      asked_cause at of_round of_info apart own stop = by_fault own stop.4
-        where
-          round : Round
-          round = stop.0
-
-          info : EpochInfo directory.Unit
-          info = stop.1
-
-          its_round : st.participation.round ≡ Some round
-          its_round = sym of_round ∙ stop.2
-
-          its_info : st.participation.current ≡ Some info
-          its_info = sym of_info ∙ stop.3
-
-          informed : (info.epoch ≡ st.participation.epoch) × (validity (at_step g (suc i)) info ≡ Ok tt) × (round_for (at_step g (suc i)) st.participation.epoch info ≡ Ok round)
-          informed = subst (λ (o : Option (EpochInfo directory.Unit)). IsSomeAnd o (λ x. (x.epoch ≡ st.participation.epoch) × (validity (at_step g (suc i)) x ≡ Ok tt) × (round_for (at_step g (suc i)) st.participation.epoch x ≡ Ok round))) its_info
-              (live.informed round its_round)
-
-          of : IsInfoOf g.script st.participation.epoch info
-          of = subst (λ (o : Option (EpochInfo directory.Unit)). IsSomeAnd o (λ x. IsInfoOf g.script st.participation.epoch x)) its_info (carried round its_round)
-
-          here_now : st.participation.epoch ≡ e
-          here_now = stands.epoch apart
-
-          both : (a b : Bool) → (a && b) ≡ true → a ≡ true
-          both true b e = refl
-          both false b e = absurd (bools_apart false e refl)
-
-          stored : (number dealer : ℕ) → IsDeriveStop (at_step g (suc i)) round info at (fault.LocalState (local.StoredDealing number dealer)) → IsOwnCause g.script st.participation.epoch info (fault.LocalState (local.StoredDealing number dealer))
-          unfolding at_step
-          stored number dealer why =
-              let refused = refused_here (λ d. dealing_of round g.script.config.me d) dealer (pairs_of at round.number) why.2 in (
-                why.0 ∙ (live.stands).numbered round its_round,
-                (
-                  informed.0,
-                  informed.1,
-                  (round, informed.2, (both (has round.players g.script.config.me) _ why.1.1, (refused.0, refused.1, refused.2, refused.3))),
-                ),
-              )
-
-          by_fault : (own : Fault) → IsDeriveStop (at_step g (suc i)) round info at own → IsEither own
-          unfolding at_step
-          by_fault fault.HeightRange why = absurd (in_range info of why)
-          by_fault (fault.InvalidParticipants cause.ProviderEmpty) why = inl (subst (λ (k : ℕ). IsProviderCause g.script k (fault.InvalidParticipants cause.ProviderEmpty)) (informed.0 ∙ here_now) why)
-          by_fault (fault.InvalidParticipants (cause.ProviderAbove count most)) why =
-              inl (subst (λ (k : ℕ). IsProviderCause g.script k (fault.InvalidParticipants (cause.ProviderAbove count most))) (informed.0 ∙ here_now) (why.0, why.1, subst (λ (k : ℕ). k < count) (sym why.1) why.2))
-          by_fault (fault.DirectoryMismatch epoch) why = absurd (let wrong : ◌≡◌ {A = Bool} true false = why.1.1 in cc)
-          by_fault (fault.LocalState (local.StoredDealing number dealer)) why =
-              inr (subst (λ (k : ℕ). IsAskedOwn g.script k (fault.LocalState (local.StoredDealing number dealer))) here_now (info, of, stored number dealer why))
-          by_fault own why = absurd why
+      asked_cause at of_round of_info apart own stop = derive_cause at of_round of_info apart stop.0 stop.1 stop.2 stop.3 own stop.4
 
       -- A STEP IN WHICH REQUESTS ARE READ
 
@@ -558,20 +556,20 @@ module _ (g : Lived) (here : IsLifeInForm g) where
           taken last_one = record { accepted = accepted_by b Applied applied refl; above = above_by b applied; ends = sym (last_same b) ∙ last_one }
 
           -- the setup of the next epoch
-          next_cause : (devices : Option Held) (own : Fault) → IsPassingStop c any_shares b st devices own → IsNextCause g.script b own ⊎ OnCarried (Some b) (λ info. IsOwnCause g.script (next_epoch g.script b) info own)
+          next_cause : (stored : OfShares) (devices : Option Held) (own : Fault) → IsPassingStop c stored b st devices own → IsNextCause g.script b own ⊎ OnCarried (Some b) (λ info. IsOwnCause g.script (next_epoch g.script b) info own)
           unfolding at_step
-          next_cause devices (fault.MissingEpochInfo height) why = inl why
-          next_cause devices (fault.WrongEpoch expected got) why = inl (by_info (info_of b.payload) why.1)
+          next_cause stored devices (fault.MissingEpochInfo height) why = inl why
+          next_cause stored devices (fault.WrongEpoch expected got) why = inl (by_info (info_of b.payload) why.1)
             where
               by_info : (o : Option (EpochInfo directory.Unit)) → IsSomeAnd o (λ info. (got ≡ info.epoch) × (info.epoch ≡ next_epoch g.script b → ⊥))
                   → IsSomeAnd o (λ info. IsInfoCause g.script (next_epoch g.script b) info (fault.WrongEpoch expected got))
               by_info None none = absurd none
               by_info (Some info) its = (why.0, its.0, its.1)
-          next_cause devices fault.HeightRange why =
+          next_cause stored devices fault.HeightRange why =
               inl (subst (λ (o : Option (EpochInfo directory.Unit)). IsSomeAnd o (λ info. info.epoch ≡ next_epoch g.script b)) (sym (why.0).carried) (why.0).of_next, why.1)
-          next_cause devices own why = by_either (setup_cause g (suc i) (next_epoch g.script b) on.info (share_read c on.info on.k) (seed_read c on.info on.k) (taken_over c b on.info on.share st) own why.1)
+          next_cause stored devices own why = by_either (setup_cause g (suc i) (next_epoch g.script b) on.info (share_read c on.info on.k) (seed_read c on.info on.k) (taken_over c b on.info on.share st) own why.1)
             where
-              on : IsCarriedOn c any_shares b st devices
+              on : IsCarriedOn c stored b st devices
               on = why.0
 
               by_either : IsInfoCause g.script (next_epoch g.script b) on.info own ⊎ IsOwnCause g.script (next_epoch g.script b) on.info own
@@ -586,8 +584,8 @@ module _ (g : Lived) (here : IsLifeInForm g) where
                   of_info other its = absurd its
               by_either (inr its) = inr (subst (λ (o : Option (EpochInfo directory.Unit)). IsSomeAnd o (λ info. IsOwnCause g.script (next_epoch g.script b) info own)) (sym on.carried) its)
 
-          last_cause : is_last_height c b.height ≡ true → (devices : Option Held) (own : Fault) → IsPassingStop c any_shares b st devices own → Why own
-          last_cause last_one devices own stop = by_either (next_cause devices own stop)
+          last_cause : is_last_height c b.height ≡ true → (stored : OfShares) (devices : Option Held) (own : Fault) → IsPassingStop c stored b st devices own → Why own
+          last_cause last_one stored devices own stop = by_either (next_cause stored devices own stop)
             where
               by_either : IsNextCause g.script b own ⊎ OnCarried (Some b) (λ info. IsOwnCause g.script (next_epoch g.script b) info own) → Why own
               by_either (inl its) = inl (inr (taken last_one, inr its))
@@ -616,38 +614,38 @@ module _ (g : Lived) (here : IsLifeInForm g) where
               inr (accepted_by b Applied applied refl, (at, ap (follows (alone g.script) g.number g.life) at ∙ stands.parts apart, why.differs))
           deals_other stage own why = absurd why
 
-          by_stage : AreMade g i st → (devices : Option Held) (own : Fault) (stage : Stage) → st.participation.stage ≡ stage → IsAppliedStopThrough c any_shares b st devices stage own → Why own
-          by_stage made devices own Deals stage (inl dealing) = inr (inl (deals_other stage own dealing))
-          by_stage made devices own Deals stage (inr ask) = inr (inr (
-            of_made reading apart (height_behind (midpoint n e) (inr late)) (λ none. ask.1 none.1) made,
+          late_dealt : (st.participation.stage ≡ Follows → ⊥) → b.height + 1 ≡ midpoint c.blocks_per_epoch st.participation.epoch → midpoint n e ≤ b.height + 1
+          unfolding at_step
+          late_dealt apart at = no_more (midpoint n e) (b.height + 1) (at ∙ ap (midpoint n) (stands.epoch apart))
+            where
+              no_more : (x y : ℕ) → y ≡ x → x ≤ y
+              no_more x y same = omega (arith, same)
+
+          by_stage : AreMade g i st → (stored : OfShares) (devices : Option Held) (own : Fault) (stage : Stage) → st.participation.stage ≡ stage → IsAppliedStopThrough c stored b st devices stage own → Why own
+          by_stage made stored devices own Deals stage (inl dealing) = inr (inl (deals_other stage own dealing))
+          by_stage made stored devices own Deals stage (inr ask) = inr (inr (
+            of_made reading apart (height_behind (midpoint n e) (inr (late_dealt apart ask.0))) (λ none. ask.1 none.1) made,
             asked_cause (given_itself c st) ((dealing.given_same c st).same).round ((dealing.given_same c st).same).current apart own ask.2,
           ))
             where
               apart : st.participation.stage ≡ Follows → ⊥
               apart follows = deals_apart (sym stage ∙ follows)
-
-              late : midpoint n e ≤ b.height + 1
-              unfolding at_step
-              late = no_more (midpoint n e) (b.height + 1) (ask.0 ∙ ap (midpoint n) (stands.epoch apart))
-                where
-                  no_more : (x y : ℕ) → y ≡ x → x ≤ y
-                  no_more x y same = omega (arith, same)
-          by_stage made devices own Includes stage (inl (inl last_one, ask)) = ended_cause stage last_one own ask
-          by_stage made devices own Includes stage (inl (inr some, ask)) = inr (inr (
+          by_stage made stored devices own Includes stage (inl (inl last_one, ask)) = ended_cause stage last_one own ask
+          by_stage made stored devices own Includes stage (inl (inr some, ask)) = inr (inr (
             of_made reading (apart stage) (height_behind (midpoint n e) (inl (late_here stage))) (λ none. some none.1) made,
             asked_cause st refl refl (apart stage) own ask,
           ))
-          by_stage made devices own Includes stage (inr (last_one, stop)) = last_cause last_one devices own stop
-          by_stage made devices own Follows stage (last_one, stop) = last_cause last_one devices own stop
-          by_stage made devices own Ends stage stop = absurd stop
+          by_stage made stored devices own Includes stage (inr (last_one, stop)) = last_cause last_one stored devices own stop
+          by_stage made stored devices own Follows stage (last_one, stop) = last_cause last_one stored devices own stop
+          by_stage made stored devices own Ends stage stop = absurd stop
 
-        pub block_cause : AreMade g i st → (devices : Option Held) (own : Fault) → IsStopThrough c any_shares st (Finalized b) devices own → Why own
-        block_cause made devices own stop = by_judged (judged_block c b st) refl stop
+        pub block_cause : AreMade g i st → (stored : OfShares) (devices : Option Held) (own : Fault) → IsStopThrough c stored st (Finalized b) devices own → Why own
+        block_cause made stored devices own stop = by_judged (judged_block c b st) refl stop
           where
-            by_judged : (j : Judged) → judged_block c b st ≡ j → IsBlockStopThrough c any_shares b st devices j own → Why own
+            by_judged : (j : Judged) → judged_block c b st ≡ j → IsBlockStopThrough c stored b st devices j own → Why own
             by_judged (Refusal refused) is why = inl (inl (sym (judged_so b) ∙ ap (refusal b) is ∙ ap (λ (f : Fault). Some f) (sym why)))
             by_judged Passed is why = absurd why
-            by_judged Applied is why = by_stage is made devices own st.participation.stage refl why
+            by_judged Applied is why = by_stage is made stored devices own st.participation.stage refl why
 
     -- AND WHAT DOESN'T
     module _ (b : Block directory.Unit) (devices : Option Held) (end : Live directory.Unit) (left : Option Held)
@@ -684,17 +682,24 @@ module _ (g : Lived) (here : IsLifeInForm g) where
               (subst (λ (x : EpochInfo directory.Unit). IsInfoCause g.script (next_epoch g.script b) x own) (some_is there) why)
 
       -- the provider had the set that the artifact needs
-      provider_clear : (epoch : ℕ) (own : Fault) → IsProvided the_step (epoch + 2) → IsProviderCause g.script epoch own → ⊥
+      provider_clear : (info : EpochInfo directory.Unit) (own : Fault) → IsProvided the_step info → IsProviderCause g.script info.epoch own → ⊥
       unfolding at_step
-      provider_clear epoch (fault.InvalidParticipants cause.ProviderEmpty) has why = none _ has.some why
+      provider_clear info (fault.InvalidParticipants cause.ProviderEmpty) has why = none _ has.some why
         where
-          none : (k : ℕ) → 0 < k → k ≡ 0 → ⊥
+          none : (k : ℕ) → 1 ≤ k → k ≡ 0 → ⊥
           none k some is = omega (arith, some, is)
-      provider_clear epoch (fault.InvalidParticipants (cause.ProviderAbove count most)) has why = over count most _ _ has.few why.0 why.1 why.2
+      provider_clear info (fault.InvalidParticipants (cause.ProviderAbove count most)) has why = over count most _ _ has.few why.0 why.1 why.2
         where
           over : (count most k limit : ℕ) → k ≤ limit → count ≡ k → most ≡ limit → most < count → ⊥
           over count most k limit few one two high = omega (arith, few, one, two, high)
-      provider_clear epoch own has why = absurd why
+      provider_clear info own has why = absurd why
+
+      ended_epoch : IsTakenLast g.script g.number g.life i b → st.participation.stage ≡ Includes → (round : Round) (info : EpochInfo directory.Unit) → st.participation.round ≡ Some round → st.participation.current ≡ Some info
+          → info.epoch ≡ epoch_of n b.height
+      unfolding at_step
+      ended_epoch its stage round info of_round of_info =
+          (subst (λ (o : Option (EpochInfo directory.Unit)). IsSomeAnd o (λ x. (x.epoch ≡ st.participation.epoch) × (validity the_step x ≡ Ok tt) × (round_for the_step st.participation.epoch x ≡ Ok round))) of_info (live.informed round of_round)).0
+          ∙ (includes_above the_step b st live.stands (new_of b its) stage).0
 
       ended_clear : IsTakenLast g.script g.number g.life i b → IsPassedOn the_step any_shares b st devices end left → follows (alone g.script) g.number g.life (epoch_by g i) ≡ false → (own : Fault)
           → IsProviderCause g.script (epoch_of n b.height) own → ⊥
@@ -702,17 +707,10 @@ module _ (g : Lived) (here : IsLifeInForm g) where
         where
           by_part : (st.participation.stage ≡ Follows) ⊎ (st.participation.stage ≡ Includes) → ⊥
           by_part (inl stage) = bools_apart (follows (alone g.script) g.number g.life (epoch_by g i)) (stands.blind stage) unfollowed
-          by_part (inr stage) = provider_clear (epoch_of n b.height) own (subst (λ (k : ℕ). IsProvided the_step (k + 2)) epoch (shared.4.1).provided) why
+          by_part (inr stage) = provider_clear shared.1 own (shared.4.1).provided (subst (λ (k : ℕ). IsProviderCause g.script k own) (sym (ended_epoch its stage shared.0 shared.1 shared.2 shared.3)) why)
             where
               shared : IsShareTaken the_step any_shares st (over.on).h (over.on).info (over.on).share Includes
               shared = subst (λ (x : Stage). IsShareTaken the_step any_shares st (over.on).h (over.on).info (over.on).share x) stage (over.on).shared
-
-              epoch : (shared.1).epoch ≡ epoch_of n b.height
-              unfolding at_step
-              epoch =
-                  (subst (λ (o : Option (EpochInfo directory.Unit)). IsSomeAnd o (λ x. (x.epoch ≡ st.participation.epoch) × (validity the_step x ≡ Ok tt) × (round_for the_step st.participation.epoch x ≡ Ok shared.0))) shared.3
-                  (live.informed shared.0 shared.2)).0
-                  ∙ (includes_above the_step b st live.stands (new_of b its) stage).0
 
       pub block_clear : (own : Fault) → IsBlockCause g.script g.number g.life i b own → ⊥
       block_clear own (inl refused) = by_judged (judged_block the_step b st) refl next

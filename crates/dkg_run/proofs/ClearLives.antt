@@ -14,6 +14,7 @@ use Rattle.dkg_secrets.specs.declared.secrets.SecretOp.TheVariants.{PutSeed}
 use Rattle.dkg_types.specs.BlockCodes.{info_of}
 use Rattle.dkg_types.specs.Blocks.{Block}
 use Rattle.dkg_types.specs.declared.directory.Unit as directory
+use Rattle.dkg_ceremony.specs.declared.output.Output.{Output}
 use Rattle.dkg_types.specs.declared.fault.Fault.{Fault}
 use Rattle.dkg_types.specs.declared.fault.Fault.TheVariants.{LocalState}
 use Rattle.dkg_types.specs.declared.fault.LocalCause.TheVariants.{OwnDealing, ShareRefused, StoredDealing}
@@ -57,11 +58,12 @@ use Rattle.dkg_run.proofs.Former.{Brings, IsMessage, event_in_form, form_at, lac
 use Rattle.dkg_run.proofs.GivingDealings.{FitsRecords}
 use Rattle.dkg_run.proofs.GivingLives.{LeavesSo}
 use Rattle.dkg_run.proofs.LivesClear.{EndsOutside, IsClear, KeepsClear, LeavesClear, life_clear}
-use Rattle.dkg_run.proofs.OwnBacked.{AreBacked}
+use Rattle.dkg_run.proofs.OwnBacked.{AreBacked, has_previous}
 use Rattle.dkg_run.proofs.OwnClear.{own_same}
 use Rattle.dkg_run.proofs.OwnRuns as owning
 use Rattle.dkg_run.proofs.OwnRuns.{IsOwning, ValidHeld}
 use Rattle.dkg_run.proofs.OwnValid.{AreValidAt, IsStateFault, next_valid, opening_valid}
+use Rattle.dkg_run.proofs.Sharing.{fits_dealt, one_share}
 use Rattle.dkg_run.proofs.SharesFit.{same_shares, share_put}
 use Rattle.dkg_run.proofs.SharesKnown.{IsMineAt, SharesFit, last_serves, opening_fits, reads_shares, step_fits, there_below}
 use Rattle.dkg_run.proofs.StoredDealers.{IsStoredDealer}
@@ -291,20 +293,27 @@ module _ (s : Setting) (ends : List (Option CutAt)) (valid : IsValidCase s ends)
             number_is : epoch ≡ (stored.round).number
             number_is = differs.number ∙ ap (λ (r : Round). r.number) (some_is (sym differs.of_epoch ∙ stored.of_epoch))
 
-            backed : (seed : List ℕ) × (privates : List (ℕ × ℕ)) × (get w.held.secrets.seeds epoch ≡ Some seed) × (deal_of stored.round (me s) (get w.held.secrets.shares epoch) seed ≡ Ok (kept, privates))
-            backed = (clear.owns).own (epoch, me s) (kept, found_own.0) refl found_own.1 stored.round (ap (round_at s) number_is ∙ ((clear.owns).passing).rounds stored.round stored.of_epoch)
+            made : round_at s epoch ≡ Some stored.round
+            made = ap (round_at s) number_is ∙ ((clear.owns).passing).rounds stored.round stored.of_epoch
+
+            backed : (seed : List ℕ) × (share : ℕ) × (privates : List (ℕ × ℕ)) × (get w.held.secrets.seeds epoch ≡ Some seed) × (deal_of stored.round (me s) (Some share) seed ≡ Ok (kept, privates))
+            backed = (clear.owns).own (epoch, me s) (kept, found_own.0) refl found_own.1 stored.round made
+
+            previous : (o : Output) × ((stored.round).previous ≡ Some o)
+            previous = has_previous s form epoch stored.round made
 
             seed_is : stored.seed ≡ backed.0
-            seed_is = some_is (sym stored.seed_is ∙ sym (ap (get w.held.secrets.seeds) number_is) ∙ backed.2)
+            seed_is = some_is (sym stored.seed_is ∙ sym (ap (get w.held.secrets.seeds) number_is) ∙ backed.3)
 
-            share_is : Some stored.share ≡ get w.held.secrets.shares epoch
-            share_is = sym stored.share_is ∙ sym (ap (get w.held.secrets.shares) number_is)
+            -- there is one share that is dealt with
+            share_is : stored.share ≡ backed.1
+            share_is = one_share stored.round (me s) stored.share backed.1 stored.fits (fits_dealt stored.round (me s) backed.1 backed.0 (kept, backed.2) previous.0 previous.1 backed.4)
 
-            again : deal_of stored.round (me s) (Some stored.share) stored.seed ≡ Ok (kept, backed.1)
-            again = ap (deal_of stored.round (me s) (Some stored.share)) seed_is ∙ ap (λ (o : Option ℕ). deal_of stored.round (me s) o backed.0) share_is ∙ backed.3
+            again : deal_of stored.round (me s) (Some stored.share) stored.seed ≡ Ok (kept, backed.2)
+            again = ap (deal_of stored.round (me s) (Some stored.share)) seed_is ∙ ap (λ (share : ℕ). deal_of stored.round (me s) (Some share) backed.0) share_is ∙ backed.4
 
             same : kept ≡ (differs.dealer).public
-            same = own_same stored.round (me s) (Some stored.share) stored.seed kept (differs.dealer).public backed.1 (differs.dealer).privates again stored.dealt
+            same = own_same stored.round (me s) (Some stored.share) stored.seed kept (differs.dealer).public backed.2 (differs.dealer).privates again stored.dealt
 
         dealing_never : (epoch : ℕ) (kept dealt : List ℕ) → refusal_in s.script l life i block ≡ None → Stops (LocalState (OwnDealing epoch kept dealt)) → ⊥
         dealing_never epoch kept dealt accepted stop = by_judged (judged_block c block st) refl stop

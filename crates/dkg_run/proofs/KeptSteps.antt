@@ -317,14 +317,14 @@ asked_aside (other ∷ lines) all = absurd all.0
 module _ {Dir : Type 0} (c : Fixed Dir) (b e l : ℕ) (life : Life) (j : ℕ) (mail : Mail Dir) (st : Live Dir) (ended : Ended NodeStop (Live Dir)) (w new : World) (s : Setting) (p : Progress) (at : IsAtStep l life j s p)
     (carries : CarriesAt c b e l st w.held s p) (can : CanRecord c st (Sent mail)) (other : IsOther (Sent mail)) (next : IfWentTo ended (λ end. IsLiveThrough c any_shares end × IsActiveThrough end))
     (run : EndsSo (node_step c (event_of (Sent mail)) st) ended w new) where
-  abbrev told : LeavesIdle st ended w new
-  told = mails_are_idle c mail st ended w new other ((carries.active).active).unawaited run
+  abbrev answers : LeavesIdle st ended w new
+  answers = mails_are_idle c mail st ended w new other ((carries.active).active).unawaited run
 
   idle_pairs : recovered_in new.held ≡ recovered_in w.held
-  idle_pairs = ap (λ (h : Held). recovered_in h) told.held
+  idle_pairs = ap (λ (h : Held). recovered_in h) answers.held
 
   idle_behind : IfWentTo ended (λ end. IsBehindStep c e end new.held s)
-  idle_behind = by_end ended told.goes next
+  idle_behind = by_end ended answers.goes next
     where
       by_end : (its : Ended NodeStop (Live Dir)) → CameTo (λ stop. Unit {0}) (λ end. end ≡ with_inclusion end.inclusion st) its → IfWentTo its (λ end. IsLiveThrough c any_shares end × IsActiveThrough end)
           → IfWentTo its (λ end. IsBehindStep c e end new.held s)
@@ -340,15 +340,15 @@ module _ {Dir : Type 0} (c : Fixed Dir) (b e l : ℕ) (life : Life) (j : ℕ) (m
 
   pub mail_kept : Reaches s p w.out new.out (IsLeftBy c b e l (Unit {0}) ended new.held s p)
   mail_kept = record {
-    added = told.lines;
-    out = told.out;
-    each = each_aside s told.lines p (asked_aside told.lines told.says);
-    to = left (fold (read s) p told.lines) (read_aside s told.lines p (asked_aside told.lines told.says));
+    added = answers.lines;
+    out = answers.out;
+    each = each_aside s answers.lines p (asked_aside answers.lines answers.says);
+    to = left (fold (read s) p answers.lines) (read_aside s answers.lines p (asked_aside answers.lines answers.says));
   }
     where
       left : (q : Progress) → IsUnchanged p q → IsLeftBy c b e l (Unit {0}) ended new.held s p q
       left q unchanged = leaves c b e b e l life j st (Sent mail) ended w new s p at carries (agreed_by c st (Sent mail) ended w new carries.half.agreed can run) carries.half.current idle_behind (Unit {0}) q
-          (record { cuts = unchanged.cuts; step = unchanged.step; opened = unchanged.opened }) (subst (λ (h : Held). IsWhole (notes h) h.secrets) (sym told.held) carries.half.agreed.whole)
+          (record { cuts = unchanged.cuts; step = unchanged.step; opened = unchanged.opened }) (subst (λ (h : Held). IsWhole (notes h) h.secrets) (sym answers.held) carries.half.agreed.whole)
           (subst (λ (m : Pairs). AllCurrent b (Gives m) q.recorded) (sym idle_pairs) (rw unchanged.recorded carries.half.are.given)) (λ pair there. inl (known pair there))
           (λ pair there. rw unchanged.recorded there) (by_end ended)
         where

@@ -224,12 +224,12 @@ module _ (given : Held) (asked : List Pair) where
   -- .. and of one that touches no device, and changes only what the life has of requests
   pub lands_asked : {Dir : Type 0} (line : Line → Type 0) (base : Live Dir) (course : Course Dir Fault (Live Dir)) (h : Held) → asked ≡ base.records.dealings → IsKnown base h
       → OnlySays line (λ end. end ≡ with_inclusion end.inclusion base) course → Lands course h
-  lands_asked line base (Say one course) h same a only = lands_asked line base course h same a only.1
-  lands_asked line base (Do op course) h same a only = absurd only
-  lands_asked line base (Call outer course) h same a only = lands_asked line base course h same a only
-  lands_asked line base (Ask f) h same a only = lands_asked line base (f h) h same a (only h)
-  lands_asked {Dir} line base (Goes st) h same a only = (subst (λ (r : Records). Knows r h) (sym (ap (λ (x : Live Dir). x.records) only)) a.0, a.1)
-  lands_asked line base (Stops fault) h same a only = (a.1, if_stored fault (asked ≡ maps.entries (recovered_in h)) (same ∙ a.0.dealings))
+  lands_asked line base (Say one course) h is_asked a only = lands_asked line base course h is_asked a only.1
+  lands_asked line base (Do op course) h is_asked a only = absurd only
+  lands_asked line base (Call outer course) h is_asked a only = lands_asked line base course h is_asked a only
+  lands_asked line base (Ask f) h is_asked a only = lands_asked line base (f h) h is_asked a (only h)
+  lands_asked {Dir} line base (Goes st) h is_asked a only = (subst (λ (r : Records). Knows r h) (sym (ap (λ (x : Live Dir). x.records) only)) a.0, a.1)
+  lands_asked line base (Stops fault) h is_asked a only = (a.1, if_stored fault (asked ≡ maps.entries (recovered_in h)) (is_asked ∙ a.0.dealings))
 
   lands_if : {Dir : Type 0} (t : Bool) (x y : Course Dir Fault (Live Dir)) (h : Held) → (t ≡ true → Lands x h) → (t ≡ false → Lands y h) → Lands (if t then x else y) h
   lands_if true x y h one other = one refl
@@ -395,8 +395,8 @@ module _ {Dir : Type 0} (c : Fixed Dir) (given : Held) (asked : List Pair) where
 
     still_asked : (st : Live Dir) (t : Bool) → asked ≡ st.records.dealings
         → asked ≡ (if t then with_participation (record st.participation { dealer = option_map b.unoffered st.participation.dealer }) st else st).records.dealings
-    still_asked st true same = same
-    still_asked st false same = same
+    still_asked st true is_asked = is_asked
+    still_asked st false is_asked = is_asked
 
     observes_known : (round : Round) (found : Option SignedDealerLog) (st : Live Dir) (h : Held) → option_and_then its_log block.payload ≡ found → Known st h → Comes (b.observes c round block st found) h
     observes_known round None st h carried a = a
@@ -410,19 +410,21 @@ module _ {Dir : Type 0} (c : Fixed Dir) (given : Held) (asked : List Pair) where
           log_persists given asked round.number h log.dealer block.height log.log (fits log carried) a.1,
         ))) (λ now h a. without_own now h (log.dealer == c.me) a)) (λ e. a)
 
-    observes_same : (round : Round) (found : Option SignedDealerLog) (st : Live Dir) → asked ≡ st.records.dealings → ComesTo (λ (its : Fault). ⊤) (λ now. asked ≡ now.records.dealings) (b.observes c round block st found)
-    observes_same round None st same = same
-    observes_same round (Some log) st same = by_test (is_accepted c round log)
-      where
-        by_found : (t : Bool) → ComesTo (λ (its : Fault). ⊤) (λ now. asked ≡ now.records.dealings)
-            (bind (if t then Goes st else d.appends round.number (log_event log.dealer block.height log.log) (Goes (b.with_log round.number log.dealer block.height log.log st))) (λ now. Goes (b.without_own_log c log.dealer now)))
-        by_found true = still_asked st (log.dealer == c.me) same
-        by_found false = still_asked (b.with_log round.number log.dealer block.height log.log st) (log.dealer == c.me) same
+    abbrev Asks : Course Dir Fault (Live Dir) → Type 0
+    Asks course = ComesTo (λ (its : Fault). ⊤) (λ (now : Live Dir). asked ≡ now.records.dealings) course
 
-        by_test : (t : Bool) → ComesTo (λ (its : Fault). ⊤) (λ now. asked ≡ now.records.dealings)
-            (if t then bind (b.records_log round.number block.height log st) (λ now. Goes (b.without_own_log c log.dealer now)) else Goes st)
+    observes_same : (round : Round) (found : Option SignedDealerLog) (st : Live Dir) → asked ≡ st.records.dealings → Asks (b.observes c round block st found)
+    observes_same round None st is_asked = is_asked
+    observes_same round (Some log) st is_asked = by_test (is_accepted c round log)
+      where
+        by_found : (t : Bool)
+            → Asks (bind (if t then Goes st else d.appends round.number (log_event log.dealer block.height log.log) (Goes (b.with_log round.number log.dealer block.height log.log st))) (λ now. Goes (b.without_own_log c log.dealer now)))
+        by_found true = still_asked st (log.dealer == c.me) is_asked
+        by_found false = still_asked (b.with_log round.number log.dealer block.height log.log st) (log.dealer == c.me) is_asked
+
+        by_test : (t : Bool) → Asks (if t then bind (b.records_log round.number block.height log st) (λ now. Goes (b.without_own_log c log.dealer now)) else Goes st)
         by_test true = by_found (is_some (recorded_at st.records.logs round.number log.dealer))
-        by_test false = same
+        by_test false = is_asked
 
     included : (round : Round) (st : Live Dir) (h : Held) → asked ≡ st.records.dealings → Known st h → Comes (b.includes c round block st) h
     included round st h same a =

@@ -109,6 +109,7 @@ pub mod Stepping
 pub mod Steps
 pub mod StepsOn
 pub mod Stood
+pub mod StopsBehind
 pub mod StoredDealers
 pub mod StoredFound
 pub mod Telling

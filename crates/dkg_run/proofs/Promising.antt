@@ -191,7 +191,7 @@ module _ (script : Script) (form : IsFormOfInclusion script) (o : Over) (disk_of
     begun_shown : Shown added
     begun_shown = record {
       ends = subst (λ (c : Option Fault). EndsScript c answered added o.disk_rose o.secrets_rose) (sym checked) run_ended;
-      found = λ told here. run_found script form checked answered o.before.files o.now.files o.before.held o.now.held old new added o.disk_rose o.secrets_rose is run_ended (runs told here o.now.files (left (disk_of told)));
+      found = λ told here. run_found script form bytes checked answered o.before.files o.now.files o.before.held o.now.held old new added o.disk_rose o.secrets_rose is run_ended (runs told here o.now.files (left (disk_of told)));
       skips = if_err answered (BlamesOnlySkips its_setting o.before.image (cuts_in its_setting added)) (λ its. o.tells → BlamesOnlySkips its_setting o.before.image (cuts_in its_setting added) its) (λ its blames told. blames)
           (run_skips script form checked bytes o.before.files o.before.image o.before.held answered old new added is picks as_it_was);
       kept = begun_keeps script form checked bytes o disk_of answered old new added is runs itself left;
