@@ -285,12 +285,9 @@ module _ (s : Setting) (cuts : List (Option CutAt)) (form : IsFormOfInclusion s.
     pub opening_fitting : (ended : Ended NodeStop (Live directory.Unit)) (w new : World) → EndsSo (node_opening (at_step g 0)) ended w new → CameTo (λ stop. Unit {0}) (IsFitting s (at_step g 0)) ended
     opening_fitting ended w new run = by_end ended (node_openings_lead_over (at_step g 0) ended w new (form_at g here 0) (lacks_nobody g 0) run)
       where
-        abbrev behind : Held
-        behind = held_behind (at_step g 0) w.held
-
-        by_end : (e : Ended NodeStop (Live directory.Unit)) → CameTo (IsFaultBy (IsOpeningStop (at_step g 0) ((at_step g 0).seen behind) behind))
-            (λ st. IsNodeBegun (at_step g 0) ((at_step g 0).seen behind) behind st × LeavesHeld (at_step g 0) behind new.held (first_block (at_step g 0))) e → CameTo (λ stop. Unit {0}) (IsFitting s (at_step g 0)) e
-        by_end (went end) its = begun_fits behind behind end its.0
+        by_end : (e : Ended NodeStop (Live directory.Unit)) → CameTo (IsFaultBy (IsOpeningStop (at_step g 0) ((at_step g 0).seen (held_behind (at_step g 0) w.held)) (held_behind (at_step g 0) w.held)))
+            (λ st. IsNodeBegun (at_step g 0) ((at_step g 0).seen (held_behind (at_step g 0) w.held)) (held_behind (at_step g 0) w.held) st × LeavesHeld (at_step g 0) (held_behind (at_step g 0) w.held) new.held (first_block (at_step g 0))) e → CameTo (λ stop. Unit {0}) (IsFitting s (at_step g 0)) e
+        by_end (went end) its = begun_fits (held_behind (at_step g 0) w.held) (held_behind (at_step g 0) w.held) end its.0
         by_end (stopped stop) why = tt
         by_end (broken cause) u = tt
 
@@ -315,15 +312,15 @@ module _ (s : Setting) (cuts : List (Option CutAt)) (form : IsFormOfInclusion s.
       its_run : (ended : Ended NodeStop (Live directory.Unit)) (new : World) → EndsSo (step_of g (suc i) its st) ended w new → Runs ended new m.message
       its_run ended new run = subst (λ (course : Course directory.Unit NodeStop (Live directory.Unit)). EndsSo course ended w new) (m.course (suc i) st) run
 
+      abbrev Of : made.Block directory.Unit → (epoch share : ℕ) → EpochInfo directory.Unit → Type 0
+      Of block epoch share info = (info.epoch ≡ epoch) × (info.epoch ≡ next_epoch c block)
+          × InEpoch st (λ round current. (artifact : Artifact directory.Unit) × IsArtifactIn c (mine s) round current st (canonical c st) artifact × (share_for c info artifact ≡ Some share))
+
       -- what the last block of a life that includes puts is such a share
       such_mine : (number : ℕ) → its ≡ event.Final number → (block : made.Block directory.Unit) → slice_get (blocks_in s.script) number ≡ Some block → (epoch share : ℕ) → IsSuchShare c (mine s) block st epoch share → IsMineAt s epoch share
       such_mine number of block there epoch share such = by_info (info_of block.payload) refl such.1
         where
-          abbrev Of : EpochInfo directory.Unit → Type 0
-          Of info = (info.epoch ≡ epoch) × (info.epoch ≡ next_epoch c block)
-              × InEpoch st (λ round current. (artifact : Artifact directory.Unit) × IsArtifactIn c (mine s) round current st (canonical c st) artifact × (share_for c info artifact ≡ Some share))
-
-          by_info : (o : Option (EpochInfo directory.Unit)) → info_of block.payload ≡ o → IsSomeAnd o Of → IsMineAt s epoch share
+          by_info : (o : Option (EpochInfo directory.Unit)) → info_of block.payload ≡ o → IsSomeAnd o (Of block epoch share) → IsMineAt s epoch share
           by_info None carries none = absurd none
           by_info (Some info) carries its_share = λ other is_other.
               let known : IsScripts s info = last_known i number (is ∙ ap (λ (e : Event). Some e) of) reached block there such.0 info carries its_share.1 in
