@@ -1,12 +1,13 @@
 -- Which share an epoch's last block puts, of a life that includes, wherever the node's step ends.
-use Rattle.std.proofs.Common.{◌≡◌, ◌≤◌, ◌<◌, ◌⊎◌, inl, inr, ℕ, Bool, true, List, [], ◌∷◌, Option, Some, None, refl, sym, ◌∙◌, ap, subst, arith}
-use Rattle.std.specs.Prelude.{◌+◌, ◌-◌, ◌==◌, ◌&&◌, if◌then◌else◌, is_some, is_none, IsSomeAnd, Ok, Err, Result, option_and_then}
+use Rattle.std.proofs.Common.{◌≡◌, ◌≤◌, ◌<◌, ◌⊎◌, inl, inr, ℕ, Bool, true, false, List, [], ◌∷◌, Option, Some, None, refl, sym, ◌∙◌, ap, subst, arith}
+use Rattle.std.specs.Prelude.{◌+◌, ◌-◌, ◌==◌, ◌&&◌, if◌then◌else◌, is_some, is_none, IfSome, IsSomeAnd, Ok, Err, Result, option_and_then, option_map}
 use Rattle.std.specs.Option.{option_map_or}
 use Rattle.std.specs.FinMap as maps
 use Rattle.std.specs.FinMap.{FinMap, get, nat_cmp-IsAntisymmetric}
 use Rattle.std.specs.Ordering.{nat_cmp}
 use Rattle.std.specs.Cmp.{nat_cmp_total}
 use Rattle.std.proofs.lemmas.Bool.Decides.{nat_tests}
+use Rattle.dkg_values.specs.Rising.{lookup}
 use Rattle.dkg_ceremony.specs.declared.round.RoundParts.{RoundParts as Round}
 use Rattle.dkg_ceremony.specs.declared.signed_log.SignedDealerLog.{SignedDealerLog}
 use Rattle.dkg_ceremony.specs.Outcomes.{LogMap}
@@ -26,12 +27,12 @@ use Rattle.dkg_secrets.specs.Secrets.{Secrets, Tries, after}
 use Rattle.dkg_secrets.specs.declared.secrets.SecretOp.TheVariants.{PutShare, PutSeed, Prune}
 use Rattle.dkg_secrets.proofs.Map.{same_key, get_here, get_other}
 use Rattle.dkg_secrets.proofs.Tried.{all_done}
-use Rattle.dkg_store.specs.Acts.{Held, OnDisk, World, says, Cause, Tears}
+use Rattle.dkg_store.specs.Acts.{Held, OnDisk, Changes, World, Ended, does, says, Cause, Tears}
 use Rattle.dkg_store.proofs.Acts.{along_runs}
-use Rattle.dkg_core.specs.Courses.{Course, Say, Do, Call, Ask, Goes, Stops, bind, on_devices, Throughout}
+use Rattle.dkg_core.specs.Courses.{Course, EndsSo, Say, Do, Call, Ask, Goes, Stops, bind, on_devices, Throughout}
 use Rattle.dkg_core.specs.Sources.{Tip}
 use Rattle.dkg_core.specs.Fixed.{Fixed, OneShot}
-use Rattle.dkg_core.specs.Live.{Live, Stage, Includes, Inclusion, Request, Job, VerifiedLogs, Artifact, GaveNone, Finalized, awaited_height, is_last_height, recorded_at, with_tip, with_participation, with_inclusion, with_told}
+use Rattle.dkg_core.specs.Live.{Live, Stage, Deals, Includes, Inclusion, Request, Job, VerifiedLogs, Artifact, Cached, NodeStop, Delivers, GaveNone, Finalized, awaited_height, is_last_height, recorded_at, with_tip, with_participation, with_inclusion, with_told}
 use Rattle.dkg_core.specs.Logs.{canonical, is_accepted, log_event}
 use Rattle.dkg_core.specs.Setup as s
 use Rattle.dkg_core.specs.Dealing as d
@@ -39,15 +40,17 @@ use Rattle.dkg_core.specs.Including as i
 use Rattle.dkg_core.specs.Including.{can_finish, cached_for, job_for, retained_for, retains, verified}
 use Rattle.dkg_core.specs.Blocks as b
 use Rattle.dkg_core.specs.Core.{step}
+use Rattle.dkg_core.specs.Node.{node_step}
 use Rattle.dkg_core.specs.Behind.{OnlySays}
+use Rattle.dkg_core.specs.Laws.{reach_of}
 use Rattle.dkg_core.specs.Endings.{validity}
-use Rattle.dkg_core.specs.Forms.{ComesOver, round_for, share_read, seed_read}
+use Rattle.dkg_core.specs.Forms.{Applied, judged_block, ComesOver, Finds, round_for, share_read, seed_read}
 use Rattle.dkg_core.specs.Idle.{IsAskedLine}
 use Rattle.dkg_core.specs.Stepping.{next_epoch}
 use Rattle.dkg_core.specs.Storing.{ReadsSecrets}
 use Rattle.dkg_core.specs.Asked.{OfShares, Reads, IsArtifactIn, IsResultIn, IsJobIn, HasAsked, IsAskStop, IsMadeIn}
 use Rattle.dkg_core.specs.Through.{IsFormThrough, IsLiveThrough}
-use Rattle.dkg_core.specs.SharesMoved.{IsSuchShare, BlocksMoveShares}
+use Rattle.dkg_core.specs.SharesMoved.{IsSuchShare, BlocksMoveShares, BlocksPutShares}
 use Rattle.dkg_core.proofs.Advancing.{included, none_found, of_round, retained_is, some_of}
 use Rattle.dkg_core.proofs.Applied.{judged_is}
 use Rattle.dkg_core.proofs.Artifacts.{artifact_is, cached_is}
@@ -93,12 +96,6 @@ module _ (Such : ℕ → ℕ → Type 0) (most : ℕ) (held : Held) where
       either (inl stays) = as_found epoch (get old.shares epoch) (get new.shares epoch) stays (was epoch above)
       either (inr goes) = absurd (let under = goes.0 in omega (arith, under, low, above))
 
-  moved_seed : (at : ℕ) (seed : List ℕ) (old new : Secrets) → Tries (PutSeed at seed) old new → Moved old → Moved new
-  moved_seed at seed old new tries was = elim tries.so [
-    | inl same ↦ moved_same old new (ap (λ (x : Secrets). x.shares) same) was
-    | inr done ↦ moved_same old new (ap (λ (x : Secrets). x.shares) done) was
-  ]
-
   moved_put : (at share : ℕ) (old new : Secrets) → Such at share → new.shares ≡ maps.insert old.shares at share → Moved old → Moved new
   moved_put at share old new such is was epoch above = elim (same_key nat_cmp_total nat_cmp-IsAntisymmetric epoch at) [
     | inl here ↦ inr (
@@ -110,11 +107,39 @@ module _ (Such : ℕ → ℕ → Type 0) (most : ℕ) (held : Held) where
         (ap (λ (m : FinMap nat_cmp ℕ). get m epoch) is ∙ get_other nat_cmp_total nat_cmp-IsAntisymmetric old.shares at epoch share apart) (was epoch above)
   ]
 
-  moved_share : (at share : ℕ) (old new : Secrets) → Such at share → Tries (PutShare at share) old new → Moved old → Moved new
-  moved_share at share old new such tries was = elim tries.so [
-    | inl same ↦ moved_same old new (ap (λ (x : Secrets). x.shares) same) was
-    | inr done ↦ moved_put at share old new such (ap (λ (x : Secrets). x.shares) done) was
+-- What is had of the secrets stays as long as their shares do, where what is pruned lies below, and where such a share is put.
+record Keeps (Such : ℕ → ℕ → Type 0) (most : ℕ) (R : Secrets → Type 0) : Type 0 where
+  same : (old new : Secrets) → new.shares ≡ old.shares → R old → R new
+  pruned : (min : ℕ) (old new : Secrets) → min ≤ most → Tries (Prune min) old new → R old → R new
+  put : (at share : ℕ) (old new : Secrets) → Such at share → new.shares ≡ maps.insert old.shares at share → R old → R new
+
+moved_keeps : (Such : ℕ → ℕ → Type 0) (most : ℕ) (held : Held) → Keeps Such most (Moved Such most held)
+moved_keeps Such most held = record { same = moved_same Such most held; pruned = moved_pruned Such most held; put = moved_put Such most held }
+
+-- .. as: each share that is held was held, or is such a one
+module _ (Such : ℕ → ℕ → Type 0) (held : Held) where
+  abbrev Put : Secrets → Type 0
+  Put now = (epoch share : ℕ) → get now.shares epoch ≡ Some share → (get held.secrets.shares epoch ≡ Some share) ⊎ Such epoch share
+
+  put_same : (old new : Secrets) → new.shares ≡ old.shares → Put old → Put new
+  put_same old new same was epoch share got = was epoch share (sym (ap (λ (m : FinMap nat_cmp ℕ). get m epoch) same) ∙ got)
+
+  put_pruned : (min : ℕ) (old new : Secrets) → Tries (Prune min) old new → Put old → Put new
+  put_pruned min old new tries was epoch share got = either (tries.so.shares epoch)
+    where
+      either : (get new.shares epoch ≡ get old.shares epoch) ⊎ ((epoch < min) × (get new.shares epoch ≡ None)) → (get held.secrets.shares epoch ≡ Some share) ⊎ Such epoch share
+      either (inl stays) = was epoch share (sym stays ∙ got)
+      either (inr goes) = absurd (none_apart share (sym goes.1 ∙ got))
+
+  put_put : (at share : ℕ) (old new : Secrets) → Such at share → new.shares ≡ maps.insert old.shares at share → Put old → Put new
+  put_put at share old new such is was epoch its got = elim (same_key nat_cmp_total nat_cmp-IsAntisymmetric epoch at) [
+    | inl here ↦ inr (subst (λ (n : ℕ). Such n its) (sym here) (subst (Such at) (sym (some_is its share (sym got ∙ ap (λ (m : FinMap nat_cmp ℕ). get m epoch) is ∙ ap (get (maps.insert old.shares at share)) here
+        ∙ get_here nat_cmp_total nat_cmp-IsAntisymmetric old.shares at share))) such))
+    | inr apart ↦ was epoch its (sym (get_other nat_cmp_total nat_cmp-IsAntisymmetric old.shares at epoch share apart) ∙ sym (ap (λ (m : FinMap nat_cmp ℕ). get m epoch) is) ∙ got)
   ]
+
+put_keeps : (Such : ℕ → ℕ → Type 0) (held : Held) (most : ℕ) → Keeps Such most (Put Such held)
+put_keeps Such held most = record { same = put_same Such held; pruned = λ min old new low tries was. put_pruned Such held min old new tries was; put = put_put Such held }
 
 -- A COURSE THAT ONLY SAYS, and what comes behind it over the same devices
 
@@ -129,36 +154,77 @@ idle_behind P quiet L Q stops first (Ask f) next w only comes q so = idle_behind
 idle_behind P quiet L Q stops first (Goes end) next w only comes q so = so end w refl q comes
 idle_behind P quiet L Q stops first (Stops fault) next w only comes q so = q
 
+-- WHAT A BLOCK CHANGES while including: it prunes what lies below, commits such a share with the seed that is read there, and records a log.
+pub record Walks {Dir : Type 0} (c : Fixed Dir) (Such : ℕ → ℕ → Type 0) (most : ℕ) (P : Held → Type 0) : Type 0 where
+  pub prunes : (min : ℕ) → min ≤ most → (now : Live Dir) (w : World) → P w.held → Throughout {Dir = Dir} (λ (x : World). P x.held) (s.prunes min now) w
+  pub commits : (info : EpochInfo Dir) (share : Option ℕ) → IfSome share (Such info.epoch) → (now : Live Dir) (w : World) → P w.held
+      → Throughout {Dir = Dir} (λ (x : World). P x.held) (s.commits info (seed_read c info w.held) share now) w
+  pub records : (epoch height : ℕ) (log : SignedDealerLog) (now : Live Dir) (w : World) → P w.held → Throughout {Dir = Dir} (λ (x : World). P x.held) (d.appends epoch (log_event log.dealer height log.log) (Goes now)) w
+
+-- .. so is what is had of the secrets kept
+module _ {Dir : Type 0} (c : Fixed Dir) (Such : ℕ → ℕ → Type 0) (most : ℕ) (R : Secrets → Type 0) (keeps : Keeps Such most R) where
+  abbrev S : World → Type 0
+  S w = R w.held.secrets
+
+  -- a seed leaves the shares
+  seeded : (at : ℕ) (seed : List ℕ) (old new : Secrets) → Tries (PutSeed at seed) old new → R old → R new
+  seeded at seed old new tries was = elim tries.so [
+    | inl same ↦ keeps.same old new (ap (λ (x : Secrets). x.shares) same) was
+    | inr done ↦ keeps.same old new (ap (λ (x : Secrets). x.shares) done) was
+  ]
+
+  given : (at share : ℕ) (old new : Secrets) → Such at share → Tries (PutShare at share) old new → R old → R new
+  given at share old new such tries was = elim tries.so [
+    | inl same ↦ keeps.same old new (ap (λ (x : Secrets). x.shares) same) was
+    | inr done ↦ keeps.put at share old new such (ap (λ (x : Secrets). x.shares) done) was
+  ]
+
+  pruned : (min : ℕ) → min ≤ most → (now : Live Dir) (w : World) → S w → Throughout S (s.prunes min now) w
+  pruned min under now w q = (
+    λ cause new tears. subst R (sym tears.torn.0) q,
+    (
+      λ cause new tears. keeps.pruned min w.held.secrets new.held.secrets under tears.torn.1 q,
+      keeps.pruned min w.held.secrets (after (Prune min) w.held.secrets) under (all_done (Prune min) w.held.secrets (after (Prune min) w.held.secrets) refl) q,
+    ),
+  )
+
+  committed : (info : EpochInfo Dir) (share : Option ℕ) → IfSome share (Such info.epoch) → (seed : List ℕ) (now : Live Dir) (w : World) → S w → Throughout S (s.commits info seed share now) w
+  committed info None none seed now w q =
+      let new = after (PutSeed info.epoch seed) w.held.secrets in
+      let done = seeded info.epoch seed w.held.secrets new (all_done (PutSeed info.epoch seed) w.held.secrets new refl) q in
+      (λ cause new tears. seeded info.epoch seed w.held.secrets new.held.secrets tears.torn.1 q, (done, done))
+  committed info (Some value) such seed now w q =
+      let shared = after (PutShare info.epoch value) w.held.secrets in
+      let new = after (PutSeed info.epoch seed) shared in
+      let first = given info.epoch value w.held.secrets shared such (all_done (PutShare info.epoch value) w.held.secrets shared refl) q in
+      let done = seeded info.epoch seed shared new (all_done (PutSeed info.epoch seed) shared new refl) first in (
+        λ cause new tears. given info.epoch value w.held.secrets new.held.secrets such tears.torn.1 q,
+        (λ cause new tears. seeded info.epoch seed shared new.held.secrets tears.torn.1 first, (done, done)),
+      )
+
+  walks : Walks c Such most (λ h. R h.secrets)
+  walks = record {
+    prunes = pruned;
+    commits = λ info share such now w q. committed info share such (seed_read c info w.held) now w q;
+    records = λ epoch height log now w q. (λ cause new tears. subst R (sym tears.torn.0) q, q);
+  }
+
 -- A BLOCK
 
-module _ {Dir : Type 0} (c : Fixed Dir) (form : IsFormThrough c) (secrets : ReadsSecrets c.seen) (stored : OfShares) (block : Block Dir) (st : Live Dir) (live : IsLiveThrough c stored st)
-    (includes : st.participation.stage ≡ Includes) (most : ℕ) (low : (epoch_of c.blocks_per_epoch (block.height + 1) - 1) ≤ most) (held : Held) (reads : Reads c stored (Some held)) where
+module _ {Dir : Type 0} (c : Fixed Dir) (form : IsFormThrough c) (stored : OfShares) (block : Block Dir) (st : Live Dir) (live : IsLiveThrough c stored st)
+    (includes : st.participation.stage ≡ Includes) (most : ℕ) (low : (epoch_of c.blocks_per_epoch (block.height + 1) - 1) ≤ most) (held : Held) (reads : Reads c stored (Some held))
+    (Q : Held → Type 0) (walks : Walks c (IsSuchShare c stored block st) most Q) (base : Q held) where
   abbrev Such : ℕ → ℕ → Type 0
   Such = IsSuchShare c stored block st
 
-  abbrev R : Secrets → Type 0
-  R = Moved Such most held
-
   abbrev P : World → Type 0
-  P w = R w.held.secrets
+  P w = Q w.held
 
   abbrev quiet : (w : World) (line : Line) → P w → P (says w line)
   quiet w line q = q
 
   begun : (w : World) → w.held ≡ held → P w
-  begun w same epoch above = inl (ap (λ (h : Held). get h.secrets.shares epoch) same)
-
-  on_disk : (op : of_journal.Operation) (cause : Cause) (w new : World) → Tears cause (OnDisk op) w new → P w → P new
-  on_disk op cause w new tears q = subst R (sym tears.torn.0) q
-
-  prunes : (min : ℕ) → min ≤ most → (now : Live Dir) (w : World) → P w → Throughout P (s.prunes min now) w
-  prunes min under now w q = (
-    λ cause new tears. on_disk (of_journal.Prunes min) cause w new tears q,
-    (
-      λ cause new tears. moved_pruned Such most held min w.held.secrets new.held.secrets under tears.torn.1 q,
-      moved_pruned Such most held min w.held.secrets (after (Prune min) w.held.secrets) under (all_done (Prune min) w.held.secrets (after (Prune min) w.held.secrets) refl) q,
-    ),
-  )
+  begun w same = subst Q (sym same) base
 
   -- A SETUP BY THE COMMITTED INFO commits nothing
 
@@ -166,7 +232,7 @@ module _ {Dir : Type 0} (c : Fixed Dir) (form : IsFormThrough c) (secrets : Read
       → Throughout P (s.with_share_and_seed c None s.WasCommitted info share seed now) w
   with_parts info share seed now w under q =
       walk.then_next c P (λ w line aside q. q) (s.prunes (now.participation.epoch - 1) now)
-      (λ st. if s.is_late_floor c None then s.follows c st else s.draws_up c (s.participants_of info) (Some info.output) share seed st) w (prunes (now.participation.epoch - 1) under now w q)
+      (λ st. if s.is_late_floor c None then s.follows c st else s.draws_up c (s.participants_of info) (Some info.output) share seed st) w (walks.prunes (now.participation.epoch - 1) under now w q)
       (λ end mid q. walk.behind_prune c P (λ w line aside q. q) None info share seed end mid q)
 
   judged : (info : EpochInfo Dir) (now : Live Dir) (valid : Result (Unit {0}) ParticipantsError) (w : World) → (now.participation.epoch - 1) ≤ most → P w → Throughout P (s.judged c None s.WasCommitted info now valid) w
@@ -213,19 +279,9 @@ module _ {Dir : Type 0} (c : Fixed Dir) (form : IsFormThrough c) (secrets : Read
           let its = s.with_registered info.epoch (s.scheme_for c info share) committed_life in
           (q, answers_all its.inclusion.queue (with_tip block its) refl refl (says w _) q)
 
-      commits : (put : Option ℕ) → ((value : ℕ) → put ≡ Some value → Such info.epoch value) → (seed : List ℕ) (w : World) → P w → Throughout P (bind (s.commits info seed put now) next) w
-      commits None none seed w q =
-          let new = after (PutSeed info.epoch seed) w.held.secrets in
-          let done = moved_seed Such most held info.epoch seed w.held.secrets new (all_done (PutSeed info.epoch seed) w.held.secrets new refl) q in
-          (λ cause new tears. moved_seed Such most held info.epoch seed w.held.secrets new.held.secrets tears.torn.1 q, (done, registered _ done))
-      commits (Some value) its seed w q =
-          let shared = after (PutShare info.epoch value) w.held.secrets in
-          let new = after (PutSeed info.epoch seed) shared in
-          let first = moved_share Such most held info.epoch value w.held.secrets shared (its value refl) (all_done (PutShare info.epoch value) w.held.secrets shared refl) q in
-          let done = moved_seed Such most held info.epoch seed shared new (all_done (PutSeed info.epoch seed) shared new refl) first in (
-            λ cause new tears. moved_share Such most held info.epoch value w.held.secrets new.held.secrets (its value refl) tears.torn.1 q,
-            (λ cause new tears. moved_seed Such most held info.epoch seed shared new.held.secrets tears.torn.1 first, (done, registered _ done)),
-          )
+      commits : (put : Option ℕ) → ((value : ℕ) → put ≡ Some value → Such info.epoch value) → (w : World) → P w → Throughout P (bind (s.commits info (seed_read c info w.held) put now) next) w
+      commits None none w q = let its = walks.commits info None tt now w q in (its.0, (its.1.0, registered _ its.1.1))
+      commits (Some value) its w q = let all = walks.commits info (Some value) (its value refl) now w q in (all.0, (all.1.0, (all.1.1.0, registered _ all.1.1.1)))
 
   -- BY AN ARTIFACT
 
@@ -264,13 +320,13 @@ module _ {Dir : Type 0} (c : Fixed Dir) (form : IsFormThrough c) (secrets : Read
             subst (λ (o : Option (OneShot Dir)). Throughout P (bind (s.commits info (seed_read c info w.held) share (with its))
             (λ st. bind (if is_some o then Goes st else s.registers c info share st)
             (λ st. bind (b.answers_all st.inclusion.queue (with_tip block st)) (λ st. if is_some o then b.ends_once c (Some info) st else s.setup c None st)))) w) (sym form.form.reshare)
-            (commits last info of_next share (λ value is. such value is) (with its) share (λ value is. such value is) (seed_read c info w.held) w (begun w same))
+            (commits last info of_next share (λ value is. such value is) (with its) share (λ value is. such value is) w (begun w same))
           where
             such : (value : ℕ) → b.share_for c info made ≡ Some value → Such info.epoch value
             such value found =
-                subst (λ (o : Option (EpochInfo Dir)). IsSomeAnd o (λ x. (x.epoch ≡ info.epoch) × ((r : Round) × (current : EpochInfo Dir) × (st.participation.round ≡ Some r) × (st.participation.current ≡ Some current)
+                (last, subst (λ (o : Option (EpochInfo Dir)). IsSomeAnd o (λ x. (x.epoch ≡ info.epoch) × (x.epoch ≡ next_epoch c block) × ((r : Round) × (current : EpochInfo Dir) × (st.participation.round ≡ Some r) × (st.participation.current ≡ Some current)
                 × ((a : Artifact Dir) × IsArtifactIn c stored r current st (canonical c st) a × (b.share_for c x a ≡ Some value))))) (sym carries)
-                (refl, (round, known.0, of_epoch, known.1, (made, is, found)))
+                (refl, of_next, (round, known.0, of_epoch, known.1, (made, is, found))))
 
     by_result : (r : VerifiedLogs) (its : Inclusion Dir) → HasAsked c stored (with its) → r.logs ≡ logs → IsResultIn c round st r → (w : World) → w.held ≡ held
         → Throughout P (i.artifact c r (with its) (b.concludes c block)) w
@@ -332,7 +388,7 @@ module _ {Dir : Type 0} (c : Fixed Dir) (form : IsFormThrough c) (secrets : Read
   records_log : (epoch : ℕ) (log : SignedDealerLog) (w : World) → P w → Throughout {Dir = Dir} P (b.records_log epoch block.height log st) w
   records_log epoch log w q =
       along_if P w (is_some (recorded_at st.records.logs epoch log.dealer)) (Goes st)
-      (d.appends epoch (log_event log.dealer block.height log.log) (Goes (b.with_log epoch log.dealer block.height log.log st))) (λ e. q) (λ e. (λ cause new tears. on_disk _ cause w new tears q, q))
+      (d.appends epoch (log_event log.dealer block.height log.log) (Goes (b.with_log epoch log.dealer block.height log.log st))) (λ e. q) (λ e. walks.records epoch block.height log (b.with_log epoch log.dealer block.height log.log st) w q)
 
   observes : (round : Round) (log : Option SignedDealerLog) (w : World) → P w → Throughout P (b.observes c round block st log) w
   observes round None w q = q
@@ -358,10 +414,25 @@ module _ {Dir : Type 0} (c : Fixed Dir) (form : IsFormThrough c) (secrets : Read
   block_moves w same =
       judged_is c block st (λ course. Throughout P course w) (λ t x y one other. along_if P w t x y one other) (λ fault is. begun w same) (λ is. begun w same) (λ is. applies w same) (λ is. begun w same)
 
+-- .. so what each change keeps is had wherever the node's step ends
+pub ends_kept : {Dir : Type 0} (c : Fixed Dir) (stored : OfShares) (block : Block Dir) (st : Live Dir) (ended : Ended NodeStop (Live Dir)) (most : ℕ) (w new : World) → IsFormThrough c → Reads c stored (Some w.held)
+    → IsLiveThrough c stored st → st.participation.stage ≡ Includes → reach_of c (Finalized block) ≤ most → EndsSo (node_step c (Delivers block) st) ended w new
+    → (P : Held → Type 0) → Walks c (IsSuchShare c stored block st) most P → P w.held → P new.held
+ends_kept c stored block st ended most w new form reads live includes low run P walks base =
+    let behind = steps_run_behind c st (Finalized block) ended w new run in
+    subst P (sym behind.held)
+    (along_runs (λ (x : World). P x.held) (on_devices (step c (Finalized block) st)) behind.half w behind.mid
+    (block_moves c form stored block st live includes most low w.held reads P walks base w refl) behind.run)
+
 pub blocks_move_shares : {Dir : Type 0} → BlocksMoveShares Dir
 blocks_move_shares c stored block st ended most w new form secrets reads live includes low run =
-    let behind = steps_run_behind c st (Finalized block) ended w new run in
-    subst (λ (h : Held). (epoch : ℕ) → most ≤ epoch → (get h.secrets.shares epoch ≡ get w.held.secrets.shares epoch) ⊎ ((share : ℕ) × (get h.secrets.shares epoch ≡ Some share) × IsSuchShare c stored block st epoch share))
-    (sym behind.held)
-    (along_runs (P c form secrets stored block st live includes most low w.held reads) (on_devices (step c (Finalized block) st)) behind.half w behind.mid
-    (block_moves c form secrets stored block st live includes most low w.held reads w refl) behind.run)
+    let Such : ℕ → ℕ → Type 0 = IsSuchShare c stored block st in
+    ends_kept c stored block st ended most w new form reads live includes low run (λ h. Moved Such most w.held h.secrets)
+    (walks c Such most (Moved Such most w.held) (moved_keeps Such most w.held)) (λ epoch above. inl refl)
+
+pub blocks_put_shares : {Dir : Type 0} → BlocksPutShares Dir
+blocks_put_shares c stored block st ended w new form reads live includes run =
+    let Such : ℕ → ℕ → Type 0 = IsSuchShare c stored block st in
+    let most : ℕ = reach_of c (Finalized block) in
+    ends_kept c stored block st ended most w new form reads live includes (omega arith) run (λ h. Put Such w.held h.secrets)
+    (walks c Such most (Put Such w.held) (put_keeps Such w.held most)) (λ epoch share got. inl got)

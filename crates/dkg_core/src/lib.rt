@@ -37,7 +37,7 @@ ghost use Rattle.dkg_core.specs.LogsRecorded.{NodeStepsRecordLogs, ObservesFirst
 ghost use Rattle.dkg_core.specs.NodeSaying.{NodeStepsSayThroughAt};
 ghost use Rattle.dkg_core.specs.NodeThrough.{HalvesPassOn, NodeOpeningsThroughAt, NodeStepsComeThroughAt, OpeningsThroughAt};
 ghost use Rattle.dkg_core.specs.SayingThrough.{StepsSayThroughAt};
-ghost use Rattle.dkg_core.specs.SharesMoved.{BlocksMoveSharesAt, NodeStepsSpareShares};
+ghost use Rattle.dkg_core.specs.SharesMoved.{BlocksMoveSharesAt, BlocksPutSharesAt, NodeStepsSpareShares};
 ghost use Rattle.dkg_core.specs.Through.{NextLivesStayThroughAt, SetupsComeThrough, StepsComeThroughAt};
 ghost use Rattle.dkg_core.specs.Transcripts.{OpeningsAreQuiet, RunsAddDeeds, StepsAreQuiet, TranscriptsMove};
 
@@ -497,6 +497,11 @@ pub fn node_steps_record_logs<Dir>()
 /// for the artifact's: the share of the canonical logs' next info, where the block carries that.
 pub fn blocks_move_shares<Dir>()
     ensures { (c : Fixed Dir) → BlocksMoveSharesAt c (read_somewhere c) }
+{}
+
+/// .. and each share that is held then was held, or is such a one, whatever the epoch.
+pub fn blocks_put_shares<Dir>()
+    ensures { (c : Fixed Dir) → BlocksPutSharesAt c (read_somewhere c) }
 {}
 
 /// Whatever is read: each answer of a step is that of a request that it reads, by the logs that were found or what lacks, or of the one that waited for

@@ -21,7 +21,7 @@ use Rattle.dkg_script.specs.Blocks.{delivered_number}
 use Rattle.dkg_script.specs.Epochs.{alone}
 use Rattle.dkg_script.specs.Inclusion.{IsEventIn, IsLifeIn}
 use Rattle.dkg_script.specs.Setting.{blocks_per_epoch}
-use Rattle.dkg_core.specs.Asked.{FirstNeeds, HasAsked, IsArtifactOf, IsResultOf}
+use Rattle.dkg_core.specs.Asked.{FirstNeeds, HasAsked, IsArtifactOf, IsResultOf, OfShares}
 use Rattle.dkg_core.specs.Behind.{event_of}
 use Rattle.dkg_core.specs.Courses.{Goes}
 use Rattle.dkg_core.specs.Forms.{IsForm, IsLiveIn}
@@ -178,31 +178,35 @@ module _ (g : Lived) (i k : ℕ) where
   unfolding at_step
   same_result round plays r is = record { me_is = is.me_is; outcome = is.outcome; shared = is.shared; fits = is.fits }
 
-  same_artifact : (round : Round) (info : EpochInfo directory.Unit) (plays : Bool) (logs : LogMap) (made : Artifact directory.Unit)
-      → IsArtifactOf (at_step g i) any_shares round info plays logs made → IsArtifactOf (at_step g k) any_shares round info plays logs made
+  same_artifact : (stored : OfShares) (round : Round) (info : EpochInfo directory.Unit) (plays : Bool) (logs : LogMap) (made : Artifact directory.Unit)
+      → IsArtifactOf (at_step g i) stored round info plays logs made → IsArtifactOf (at_step g k) stored round info plays logs made
   unfolding at_step
-  same_artifact round info plays logs made is =
+  same_artifact stored round info plays logs made is =
       record { info_is = is.info_is; provided = record { in_range = is.provided.in_range; some = is.provided.some; few = is.provided.few }; success = is.success; failure = is.failure }
 
-  same_asked : (st : Live directory.Unit) → HasAsked (at_step g i) any_shares st → HasAsked (at_step g k) any_shares st
+  same_asked : (stored : OfShares) (st : Live directory.Unit) → HasAsked (at_step g i) stored st → HasAsked (at_step g k) stored st
   unfolding at_step
-  same_asked st is = record {
+  same_asked stored st is = record {
     served = is.served;
     none = is.none;
     early = is.early;
     waits = is.waits;
     runs = is.runs;
     kept = λ r there. let its = is.kept r there in (its.0, its.1, same_result its.0 (can_finish (at_step g i) its.0 r.logs st) r its.2);
-    made = λ d there. let its = is.made d there in (its.0, its.1, its.2, its.3, same_artifact its.0 its.1 (can_finish (at_step g i) its.0 d.logs st) d.logs d.artifact its.4);
+    made = λ d there. let its = is.made d there in (its.0, its.1, its.2, its.3, same_artifact stored its.0 its.1 (can_finish (at_step g i) its.0 d.logs st) d.logs d.artifact its.4);
   }
 
-pub live_at : (g : Lived) (i k : ℕ) (st : Live directory.Unit) → IsLiveThrough (at_step g i) any_shares st → IsLiveThrough (at_step g k) any_shares st
+-- .. and so does a life, whatever is said of the shares that are read
+pub live_through : (g : Lived) (stored : OfShares) (i k : ℕ) (st : Live directory.Unit) → IsLiveThrough (at_step g i) stored st → IsLiveThrough (at_step g k) stored st
 unfolding at_step
-live_at g i k st is = record {
+live_through g stored i k st is = record {
   stands = stands_at g i k (unasked st) is.stands;
   informed = is.informed;
-  asked = record { has = same_asked g i k st is.asked.has; read = λ includes none round there. same_need g i k round st st.inclusion.queue (is.asked.read includes none round there) };
+  asked = record { has = same_asked g i k stored st is.asked.has; read = λ includes none round there. same_need g i k round st st.inclusion.queue (is.asked.read includes none round there) };
 }
+
+pub live_at : (g : Lived) (i k : ℕ) (st : Live directory.Unit) → IsLiveThrough (at_step g i) any_shares st → IsLiveThrough (at_step g k) any_shares st
+live_at g i k st is = live_through g any_shares i k st is
 
 -- EVENTS
 
