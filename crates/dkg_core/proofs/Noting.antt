@@ -55,7 +55,7 @@ use Rattle.dkg_core.proofs.Running.{along_next, along_end}
 use Rattle.dkg_core.proofs.Upkeep.{along_if, along_option}
 use Rattle.dkg_core.proofs.Walking as walk
 
-not_there : {A : Type 0} (found : Option A) → is_some found ≡ false → found ≡ None
+pub not_there : {A : Type 0} (found : Option A) → is_some found ≡ false → found ≡ None
 not_there None e = refl
 not_there (Some a) e = absurd (let no : ◌≡◌ {A = Bool} true false = e in cc)
 
@@ -77,7 +77,7 @@ module _ {Dir : Type 0} (c : Fixed Dir) (R : List Entry → Type 0) (most : ℕ)
   prune_torn min low w new (inr (inr part)) q =
       subst (λ (j : Journaled). R j.entries) (sym part.2) (pruned part.0 (notes w.held) (let least : part.0 ≤ min = part.1 in omega (arith, least, low)) q)
 
-  prunes : (min : ℕ) → min ≤ most → (st : Live Dir) (w : World) → Q w → Throughout Q (s.prunes min st) w
+  pub prunes : (min : ℕ) → min ≤ most → (st : Live Dir) (w : World) → Q w → Throughout Q (s.prunes min st) w
   prunes min low st w q =
       let done = pruned min (notes w.held) low q in
       (λ cause new tears. prune_torn min low w new tears.torn.1 q, (λ cause new tears. changed (Prune min) cause (does w (OnDisk (Prunes min))) new tears done, done))
@@ -101,18 +101,18 @@ module _ {Dir : Type 0} (c : Fixed Dir) (R : List Entry → Type 0) (most : ℕ)
   P w = R (notes w.held)
 
   -- an entry is there, or it isn't yet
-  appended : (e : Entry) (cause : Cause) (w new : World) → R (placed (notes w.held) e) → Tears cause (OnDisk (Appends e)) w new → P w → P new
+  pub appended : (e : Entry) (cause : Cause) (w new : World) → R (placed (notes w.held) e) → Tears cause (OnDisk (Appends e)) w new → P w → P new
   appended e cause w new more tears q = either (left_entries e w.held.journaled new.held.journaled tears.torn.1)
     where
       either : (notes new.held ≡ notes w.held) ⊎ (notes new.held ≡ placed (notes w.held) e) → P new
       either (inl is) = subst R (sym is) q
       either (inr is) = subst R (sym is) more
 
-  commits : (info : EpochInfo Dir) (seed : List ℕ) (share : Option ℕ) (st : Live Dir) (w : World) → P w → Throughout {Dir = Dir} P (s.commits info seed share st) w
+  pub commits : (info : EpochInfo Dir) (seed : List ℕ) (share : Option ℕ) (st : Live Dir) (w : World) → P w → Throughout {Dir = Dir} P (s.commits info seed share st) w
   commits info seed None st w q = (λ cause new tears. changed c R most keeps.pruned _ cause w new tears q, (q, q))
   commits info seed (Some share) st w q = (λ cause new tears. changed c R most keeps.pruned _ cause w new tears q, (λ cause new tears. changed c R most keeps.pruned _ cause _ new tears q, (q, q)))
 
-  commits_read : (info : EpochInfo Dir) (st : Live Dir) (w : World) → P w
+  pub commits_read : (info : EpochInfo Dir) (st : Live Dir) (w : World) → P w
       → Throughout {Dir = Dir} P (s.commits info (s.seed_for c info.epoch (lookup info.epoch (c.seen w.held).seeds)) (s.recovered_share c (c.seen w.held) info) st) w
   commits_read info st w q = commits info (s.seed_for c info.epoch (lookup info.epoch (c.seen w.held).seeds)) (s.recovered_share c (c.seen w.held) info) st w q
 
@@ -221,7 +221,7 @@ module _ {Dir : Type 0} (c : Fixed Dir) (R : List Entry → Type 0) (most : ℕ)
         (λ e. let more = keeps_log epoch log st.records w.held (can.brings log is) a (not_there (recorded_at st.records.logs epoch log.dealer) e) q in
         (λ cause new tears. appended (epoch, event_spelling (log_event log.dealer block.height log.log)) cause w new more tears q, more))
 
-    applies : (stage : Stage) → (stage ≡ Includes → KeepsLog block R) → P w → Throughout P (b.applies_in c block st stage) w
+    pub applies : (stage : Stage) → (stage ≡ Includes → KeepsLog block R) → P w → Throughout P (b.applies_in c block st stage) w
     applies Deals keeps_log q = walk.ends_dealing c P (λ w line aside q. q) most commits_read (prunes c R most keeps.pruned) block low st w q (deals can.acks st w can.dealing a q)
     applies Includes keeps_log q =
         walk.including c P (λ w line aside q. q) most commits_read (prunes c R most keeps.pruned) block low (λ info share st w q. commits info (s.seed_for c info.epoch (lookup info.epoch (c.seen w.held).seeds)) share st w q) st w
@@ -271,7 +271,7 @@ module _ {V : Type 0} (note_of : Entry → Option (Note V)) (most : ℕ) (held :
   ]
 
   module _ (from_is : (min : ℕ) (es : List Entry) → noted note_of (from_section min es) ≡ retain_keys (noted note_of es) (λ k. nat_le min k.0)) where
-    kept_at : (min : ℕ) (es : List Entry) (key : ℕ × ℕ) → min ≤ key.0 → get (noted note_of (from_section min es)) key ≡ get (noted note_of es) key
+    pub kept_at : (min : ℕ) (es : List Entry) (key : ℕ × ℕ) → min ≤ key.0 → get (noted note_of (from_section min es)) key ≡ get (noted note_of es) key
     kept_at min es key above =
         ap (λ (m : Notes V). get m key) (from_is min es)
         ∙ get-retain_keys (noted note_of es) (λ (x : ℕ × ℕ). nat_le min x.0) key (λ x tied. ap (λ (y : ℕ × ℕ). nat_le min y.0) (sym (exact_keys key x tied)))

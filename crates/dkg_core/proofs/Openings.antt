@@ -227,20 +227,20 @@ module _ {Dir : Type 0} (c : Fixed Dir) (st : Live Dir) (seen : Seen) (k : Held)
     abbrev waiting : Waiting Dir
     waiting = record { epoch = first_epoch c; info = info; floor = Genesis block.digest; block = None }
 
-    entered : (o : Orchestrator Dir) (answer : half.HalfAnswer) → o.halted ≡ false → Entered (record { live = with_orchestrator (half.with_entered (first_epoch c) o) st; answer = answer }) devices
-    entered o answer active = (record { entered = subst (HasEntered c (half.with_entered (first_epoch c) o)) (sym is) (refl, active); unawaited = refl; same = refl }, refl)
+    entered : (o : Orchestrator Dir) (answer : half.HalfAnswer) → o.halted ≡ false → o.fence.closed ≡ st.orchestrator.fence.closed → Entered (record { live = with_orchestrator (half.with_entered (first_epoch c) o) st; answer = answer }) devices
+    entered o answer active unclosed = (record { entered = subst (HasEntered c (half.with_entered (first_epoch c) o)) (sym is) (refl, active); unawaited = refl; unclosed = unclosed; same = refl }, refl)
 
-    starts_engine : (o : Orchestrator Dir) (scheme : Option SchemeInfo) → is_some scheme ≡ true → o.halted ≡ false → ComesOver NoStop Entered (half.starts_engine o waiting scheme st) devices
-    starts_engine o None e active = let t : ◌≡◌ {A = Bool} false true = e in cc
-    starts_engine o (Some scheme) e active = stopped o.entered
+    starts_engine : (o : Orchestrator Dir) (scheme : Option SchemeInfo) → is_some scheme ≡ true → o.halted ≡ false → o.fence.closed ≡ st.orchestrator.fence.closed → ComesOver NoStop Entered (half.starts_engine o waiting scheme st) devices
+    starts_engine o None e active unclosed = let t : ◌≡◌ {A = Bool} false true = e in cc
+    starts_engine o (Some scheme) e active unclosed = stopped o.entered
       where
         stopped : (old : Option ℕ) → ComesOver NoStop Entered (half.stops_engine old (Say (lines.Entered (first_epoch c)) (half.leaves (half.with_entered (first_epoch c) o) half.Acknowledges st))) devices
-        stopped None = entered o half.Acknowledges active
-        stopped (Some epoch) = entered o half.Acknowledges active
+        stopped None = entered o half.Acknowledges active unclosed
+        stopped (Some epoch) = entered o half.Acknowledges active unclosed
 
-    tracks : (o : Orchestrator Dir) (lacking : Option ℕ) → lacking ≡ None → is_some (lookup (first_epoch c) o.schemes) ≡ true → o.halted ≡ false → ComesOver NoStop Entered (half.tracks_peers o waiting lacking st) devices
-    tracks o None none e active = starts_engine o (lookup (first_epoch c) o.schemes) e active
-    tracks o (Some peer) none e active = absurd (none_apart peer (sym none))
+    tracks : (o : Orchestrator Dir) (lacking : Option ℕ) → lacking ≡ None → is_some (lookup (first_epoch c) o.schemes) ≡ true → o.halted ≡ false → o.fence.closed ≡ st.orchestrator.fence.closed → ComesOver NoStop Entered (half.tracks_peers o waiting lacking st) devices
+    tracks o None none e active unclosed = starts_engine o (lookup (first_epoch c) o.schemes) e active unclosed
+    tracks o (Some peer) none e active unclosed = absurd (none_apart peer (sym none))
 
     registered : is_some (lookup (first_epoch c) st.orchestrator.schemes) ≡ true
     registered = subst (λ (o : Orchestrator Dir). is_some (lookup (first_epoch c) o.schemes) ≡ true) (sym seated.orchestrator) (at_epoch (info.epoch == first_epoch c) (equal info.epoch (first_epoch c) same))
@@ -263,7 +263,7 @@ module _ {Dir : Type 0} (c : Fixed Dir) (st : Live Dir) (seen : Seen) (k : Held)
     enters =
         subst (λ (answer : Waited). ComesOver NoStop Entered (half.waited_for c (record st.orchestrator { fence = waited (first_epoch c) answer st.orchestrator.fence }) waiting answer st) devices) (sym answered)
         (tracks (record st.orchestrator { fence = waited (first_epoch c) waits.Ready st.orchestrator.fence }) (c.directories.lacking info.directory (half.peers_for waiting)) (full info.directory (half.peers_for waiting)) registered
-        (ap (λ (o : Orchestrator Dir). o.halted) seated.orchestrator))
+        (ap (λ (o : Orchestrator Dir). o.halted) seated.orchestrator) refl)
 
     by_epoch : ComesOver NoStop Entered (if info.epoch == first_epoch c then half.enters c waiting st else Stops (Faulted (WrongEpoch (first_epoch c) info.epoch))) devices
     by_epoch =
@@ -278,7 +278,7 @@ module _ {Dir : Type 0} (c : Fixed Dir) (st : Live Dir) (seen : Seen) (k : Held)
   at_block block is (Some info) carries set_up = by_epoch block is info set_up
 
   at : (block : Option (Block Dir)) → first_block c ≡ block → IsSetUpIn c seen k st block → ComesOver NoStop Entered (half.opens_at c (first_epoch c) block st) devices
-  at None is set_up = (record { entered = subst (HasEntered c (record st.orchestrator { halted = true; waiting = None })) (sym is) refl; unawaited = refl; same = refl }, refl)
+  at None is set_up = (record { entered = subst (HasEntered c (record st.orchestrator { halted = true; waiting = None })) (sym is) refl; unawaited = refl; unclosed = refl; same = refl }, refl)
   at (Some block) is set_up = at_block block is (info_of block.payload) refl set_up
 
   halves : ComesOver NoStop Entered (half.opens_half c None st) devices

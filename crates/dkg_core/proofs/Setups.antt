@@ -26,12 +26,14 @@ use Rattle.dkg_store.specs.Recorded.{Pair, first_refused, bare_logs}
 use Rattle.dkg_store.specs.declared.recorded_log.RecordedLog.{RecordedLog}
 use Rattle.dkg_core.specs.Courses.{Course, Say, Do, Call, Ask, Goes, Stops, bind, under, on_devices, EndsSo}
 use Rattle.dkg_core.specs.Fixed.{Fixed, has}
-use Rattle.dkg_core.specs.Live.{Live, Records, Dealer, Inclusion, Stage, Deals, Includes, Seat, Plays, Watches, awaited_height, phase_of, of_epoch}
+use Rattle.dkg_core.specs.Live.{Live, Records, Dealer, Inclusion, Stage, Deals, Includes, Seat, Plays, Watches, awaited_height, phase_of, of_epoch, with_inclusion}
 use Rattle.dkg_core.specs.Logs.{logs_of}
 use Rattle.dkg_core.specs.Setup as s
 use Rattle.dkg_core.specs.Core.{no_inclusion}
 use Rattle.dkg_core.specs.Endings.{ComesTo, CameTo, stage_in, validity, seat_in}
 use Rattle.dkg_core.specs.Forms.{IsForm, IsMine, ComesOver, Finds, round_for, signed_in, dealer_by, dealer_in, IsDealable, IsSetupFault, current_by, orchestrator_by, IsSeated, share_read, seed_read, set_up_by, StoresBoth, SetupsStore, SetupsComeTo}
+use Rattle.dkg_core.specs.Asked.{IsEmptied}
+use Rattle.dkg_core.specs.Through.{unasked, SetupsComeThrough}
 use Rattle.dkg_core.proofs.Sound.{first_of_three}
 
 -- WHERE A COURSE COMES TO
@@ -121,7 +123,7 @@ over_under name stops goes (Goes end) devices comes = comes
 over_under name stops goes (Stops fault) devices comes = (fault, refl, comes)
 
 -- there are devices
-no_held : Held
+pub no_held : Held
 no_held = record { journaled = record { entries = []; plan = None; names = [] }; secrets = record { shares = empty; seeds = empty; privates = empty } }
 
 pub some_found : (devices : Option Held) → (h : Held) × Finds devices h
@@ -250,7 +252,7 @@ setups_store epoch info share seed h same = subst (λ (e : ℕ). StoresBoth e sh
 -- A SETUP
 
 module _ {Dir : Type 0} (c : Fixed Dir) (form : IsForm c) (standing : s.Standing) (info : EpochInfo Dir) (st : Live Dir)
-    (awaited : st.participation.epoch ≡ epoch_of c.blocks_per_epoch (awaited_height st)) (idle : st.inclusion ≡ no_inclusion) where
+    (awaited : st.participation.epoch ≡ epoch_of c.blocks_per_epoch (awaited_height st)) (empty : IsEmptied st.inclusion) where
   abbrev at_epoch : ℕ
   at_epoch = st.participation.epoch
 
@@ -259,7 +261,7 @@ module _ {Dir : Type 0} (c : Fixed Dir) (form : IsForm c) (standing : s.Standing
     Stop fault = IsSetupFault c at_epoch info share seed st fault
 
     abbrev Seated : Live Dir → Option Held → Type 0
-    Seated end held = IsSeated c standing info share seed st end × (held ≡ devices)
+    Seated end held = (IsSeated c standing info share seed (unasked st) (unasked end) × (end.inclusion ≡ st.inclusion)) × (held ≡ devices)
 
     abbrev left : Live Dir
     left = ready c standing info share st
@@ -300,10 +302,10 @@ module _ {Dir : Type 0} (c : Fixed Dir) (form : IsForm c) (standing : s.Standing
         inclusion_in Midpoint = record st.inclusion { served = None }
         inclusion_in Late = record st.inclusion { served = None }
 
-        idle_in : (phase : Phase) → inclusion_in phase ≡ no_inclusion
-        idle_in Early = idle
-        idle_in Midpoint = ap (λ (i : Inclusion Dir). record i { served = None }) idle
-        idle_in Late = ap (λ (i : Inclusion Dir). record i { served = None }) idle
+        inclusion_is : (phase : Phase) → inclusion_in phase ≡ st.inclusion
+        inclusion_is Early = refl
+        inclusion_is Midpoint = ap (λ (served : Option ℕ). record st.inclusion { served = served }) (sym empty.served)
+        inclusion_is Late = ap (λ (served : Option ℕ). record st.inclusion { served = served }) (sym empty.served)
 
         abbrev end_in : Phase → Option Dealer → Seat → Live Dir
         end_in phase dealer seat = record left {
@@ -312,7 +314,7 @@ module _ {Dir : Type 0} (c : Fixed Dir) (form : IsForm c) (standing : s.Standing
         }
 
         seated : (phase : Phase) (dealer : Option Dealer) (seat : Seat) → HasDealer phase dealer → seat ≡ seat_in c round left → (seat ≡ Plays → s.refused_in c round left ≡ None)
-            → IsSeated c standing info share seed st (end_in phase dealer seat)
+            → IsSeated c standing info share seed (unasked st) (unasked (end_in phase dealer seat))
         seated phase dealer seat its at_seat passes = record {
           of_epoch = same;
           valid = valid;
@@ -334,15 +336,15 @@ module _ {Dir : Type 0} (c : Fixed Dir) (form : IsForm c) (standing : s.Standing
             without = λ e. absurd (none_apart round (sym e));
             mine = λ d e. (round, refl, its.3 d e);
             numbered = λ other e. ap (λ (r : Round). r.number) (sym (same_some round other e)) ∙ number;
-            idle = idle_in phase;
+            idle = refl;
           };
         }
 
         takes : (phase : Phase) (dealer : Option Dealer) (seat : Seat) → HasDealer phase dealer → seat ≡ seat_in c round left → (seat ≡ Plays → s.refused_in c round left ≡ None)
             → ComesOver Stop Seated (s.takes_part c round phase dealer seat left) devices
-        takes Early dealer seat its at_seat passes = (seated Early dealer seat its at_seat passes, refl)
-        takes Midpoint dealer seat its at_seat passes = (seated Midpoint dealer seat its at_seat passes, refl)
-        takes Late dealer seat its at_seat passes = (seated Late dealer seat its at_seat passes, refl)
+        takes Early dealer seat its at_seat passes = ((seated Early dealer seat its at_seat passes, inclusion_is Early), refl)
+        takes Midpoint dealer seat its at_seat passes = ((seated Midpoint dealer seat its at_seat passes, inclusion_is Midpoint), refl)
+        takes Late dealer seat its at_seat passes = ((seated Late dealer seat its at_seat passes, inclusion_is Late), refl)
 
         abbrev stands_aside : Bool
         stands_aside = not (has round.players c.me) || s.is_lost c round (of_epoch round.number left.records.dealings) (logs_of left round.number)
@@ -435,16 +437,17 @@ module _ {Dir : Type 0} (c : Fixed Dir) (form : IsForm c) (standing : s.Standing
 
     abbrev Goes_to : Live Dir → Option Held → Type 0
     Goes_to end left =
-        (h : Held) × Finds devices h × IsSeated c standing info (share_read c info h) (seed_read c info h) st end
+        (h : Held) × Finds devices h × IsSeated c standing info (share_read c info h) (seed_read c info h) (unasked st) (unasked end) × (end.inclusion ≡ st.inclusion)
         × (left ≡ option_map (set_up_by standing at_epoch info (share_read c info h) (seed_read c info h)) devices)
 
     shared : (h : Held) → Finds devices h → info.epoch ≡ at_epoch → validity c info ≡ Ok tt → ComesOver Stops_by Goes_to (s.with_share_and_seed c None standing info (share_read c info h) (seed_read c info h) st) devices
     shared h found same valid =
         let share : Option ℕ = share_read c info h in
         let seed : List ℕ = seed_read c info h in
-        over_as (IsSetupFault c at_epoch info share seed st) Stops_by (λ end left. IsSeated c standing info share seed st end × (left ≡ option_map (set_up_by standing at_epoch info share seed) devices)) Goes_to
-        (s.with_share_and_seed c None standing info share seed st) devices (λ fault stop. (h, found, stop)) (λ end left is. (h, found, is.0, is.1))
-        (behind_commit c (IsSetupFault c at_epoch info share seed st) (IsSeated c standing info share seed st) standing info share seed st
+        over_as (IsSetupFault c at_epoch info share seed st) Stops_by
+        (λ end left. (IsSeated c standing info share seed (unasked st) (unasked end) × (end.inclusion ≡ st.inclusion)) × (left ≡ option_map (set_up_by standing at_epoch info share seed) devices)) Goes_to
+        (s.with_share_and_seed c None standing info share seed st) devices (λ fault stop. (h, found, stop)) (λ end left is. (h, found, is.0.0, is.0.1, is.1))
+        (behind_commit c (IsSetupFault c at_epoch info share seed st) (λ end. IsSeated c standing info share seed (unasked st) (unasked end) × (end.inclusion ≡ st.inclusion)) standing info share seed st
         (λ behind. rounds share seed behind same valid (phase_of c (awaited_height st)) (round_for c at_epoch info) refl refl) devices)
 
     judged : (valid : Result (Unit {0}) ParticipantsError) → info.epoch ≡ at_epoch → validity c info ≡ valid → ComesOver Stops_by Goes_to (s.judged c None standing info st valid) devices
@@ -458,5 +461,24 @@ module _ {Dir : Type 0} (c : Fixed Dir) (form : IsForm c) (standing : s.Standing
         (λ e. judged (validity c info) (same_number info.epoch at_epoch e) refl)
         (λ e. let known = some_found devices in (known.0, known.1, (refl, refl, other_number info.epoch at_epoch e)))
 
+pub setups_come_through : {Dir : Type 0} → SetupsComeThrough Dir
+setups_come_through c standing info st devices form awaited empty = by_info c form standing info st awaited empty devices
+
+-- .. of a life that never had a request
+nothing_asked : {Dir : Type 0} → IsEmptied {Dir = Dir} no_inclusion
+nothing_asked = record { served = refl; queue = refl; running = refl; waiter = refl; retained = refl; cached = refl }
+
+module _ {Dir : Type 0} (c : Fixed Dir) (standing : s.Standing) (info : EpochInfo Dir) (st : Live Dir) (idle : st.inclusion ≡ no_inclusion) where
+  seated_idle : (share : Option ℕ) (seed : List ℕ) (end : Live Dir) → IsSeated c standing info share seed (unasked st) (unasked end) → end.inclusion ≡ st.inclusion → IsSeated c standing info share seed st end
+  seated_idle share seed end its same =
+      subst (λ (i : Inclusion Dir). IsSeated c standing info share seed st (with_inclusion i end)) (sym (same ∙ idle))
+      (subst (λ (i : Inclusion Dir). IsSeated c standing info share seed (with_inclusion i st) (unasked end)) (sym idle) its)
+
 pub setups_come_to : {Dir : Type 0} → SetupsComeTo Dir
-setups_come_to c standing info st devices form awaited idle = by_info c form standing info st awaited idle devices
+setups_come_to c standing info st devices form awaited idle =
+    let empty = subst IsEmptied (sym idle) nothing_asked in
+    over_as (Stops_by c form standing info st awaited empty devices) (Stops_by c form standing info st awaited empty devices) (Goes_to c form standing info st awaited empty devices)
+    (λ end left. (h : Held) × Finds devices h × IsSeated c standing info (share_read c info h) (seed_read c info h) st end
+    × (left ≡ option_map (set_up_by standing st.participation.epoch info (share_read c info h) (seed_read c info h)) devices)) (s.with_info c None standing info st) devices (λ fault stop. stop)
+    (λ end left its. (its.0, its.1, seated_idle c standing info st idle (share_read c info its.0) (seed_read c info its.0) end its.2 its.3, its.4))
+    (by_info c form standing info st awaited empty devices)

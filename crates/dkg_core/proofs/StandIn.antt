@@ -1,5 +1,5 @@
 -- The stand-in's rules are those of a ceremony.
-use Rattle.std.proofs.Common.{◌≡◌, ℕ, List, true, Option, Some, None, refl, sym, ◌∙◌, ap, subst}
+use Rattle.std.proofs.Common.{◌≡◌, ℕ, List, true, Option, Some, None, sym, ◌∙◌, ap, subst}
 use Rattle.std.specs.Prelude.{IfOk, IsSomeAnd, Contains, Result, Ok, Err}
 use Rattle.dkg_values.specs.Rising.{lookup}
 use Rattle.dkg_values.specs.Places.{Contains-place_of}
@@ -12,7 +12,7 @@ use Rattle.dkg_ceremony.specs.declared.mode.Mode.{Mode}
 use Rattle.dkg_ceremony.specs.declared.mode.Reveal.{Reveal}
 use Rattle.dkg_ceremony.specs.declared.output.Output.{Output}
 use Rattle.dkg_ceremony.specs.declared.round.RoundParts.{RoundParts as Round}
-use Rattle.dkg_core.specs.Fixed.{Fixed, Rules, has}
+use Rattle.dkg_core.specs.Fixed.{Rules, has}
 use Rattle.dkg_core.specs.Laws.{StandInsAreCeremonies}
 
 -- of what a call answers

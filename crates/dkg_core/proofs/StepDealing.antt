@@ -243,7 +243,7 @@ module _ {Dir : Type 0} (c : Fixed Dir) (st : Live Dir) where
   deals_by (Some round) None of_epoch of_dealer = refl
   deals_by (Some round) (Some dealer) of_epoch of_dealer = offers c st round of_epoch dealer of_dealer (s.unsent round dealer) refl
 
-  deals : ComesTo (IsDealingStop c st) (λ end. end ≡ given_itself c st) (d.deals c st)
+  pub deals : ComesTo (IsDealingStop c st) (λ end. end ≡ given_itself c st) (d.deals c st)
   deals = deals_by st.participation.round st.participation.dealer refl refl
 
   -- Nothing changes but what is recorded of dealings and acknowledgements, and the dealer: this life goes on so.
@@ -317,7 +317,7 @@ module _ {Dir : Type 0} (c : Fixed Dir) (st : Live Dir) where
     live_of (Some round) None of_epoch of_dealer = live
     live_of (Some round) (Some dealer) of_epoch of_dealer = live_by_seat round of_epoch dealer of_dealer st.participation.seat (own_half c round dealer)
 
-    given_live : IsLiveIn c (given_itself c st)
+    pub given_live : IsLiveIn c (given_itself c st)
     given_live = live_of st.participation.round st.participation.dealer refl refl
 
 -- STAGES
@@ -327,7 +327,7 @@ stage_early middle height low =
     let is : nat_lt height middle ≡ true = grind (arith, nat_tests, low) in
     ap (λ (t : Bool). stage_in (if t then Early else (if height == middle then Midpoint else Late))) is
 
-stage_later : (middle height : ℕ) → middle ≤ height → stage_in (phase_at middle height) ≡ Includes
+pub stage_later : (middle height : ℕ) → middle ≤ height → stage_in (phase_at middle height) ≡ Includes
 stage_later middle height high =
     let is : nat_lt height middle ≡ false = grind (arith, nat_tests, high) in
     ap (λ (t : Bool). stage_in (if t then Early else (if height == middle then Midpoint else Late))) is ∙ either (height == middle)
@@ -366,7 +366,7 @@ module _ {Dir : Type 0} (c : Fixed Dir) (form : IsForm c) (block : Block Dir) wh
     not_without : at.participation.round ≡ None → ⊥
     not_without none = deals_apart (sym deals ∙ (live.without none).0)
 
-    goes_on : (block.height + 1 == midpoint c.blocks_per_epoch at.participation.epoch) ≡ false → IsLiveIn c (with_tip block at)
+    pub goes_on : (block.height + 1 == midpoint c.blocks_per_epoch at.participation.epoch) ≡ false → IsLiveIn c (with_tip block at)
     goes_on e = record {
       awaits = λ apart. sym next;
       in_round = λ round is. deals ∙ sym (phase ∙ stage_early (midpoint c.blocks_per_epoch at.participation.epoch) (block.height + 1) (strictly block.height (midpoint c.blocks_per_epoch at.participation.epoch) under e));
@@ -390,7 +390,7 @@ module _ {Dir : Type 0} (c : Fixed Dir) (form : IsForm c) (block : Block Dir) wh
           record { member = mine.member; share = mine.share; seed = mine.seed; dealt = mine.dealt; passed = mine.passed; unsigned = λ deals. absurd (includes_apart deals) },
         )
 
-    begins : (block.height + 1 == midpoint c.blocks_per_epoch at.participation.epoch) ≡ true → IsLiveIn c (s.begins_inclusion c (with_tip block at))
+    pub begins : (block.height + 1 == midpoint c.blocks_per_epoch at.participation.epoch) ≡ true → IsLiveIn c (s.begins_inclusion c (with_tip block at))
     begins e = record {
       awaits = λ apart. sym next;
       in_round = λ round is. sym (phase ∙ stage_later (midpoint c.blocks_per_epoch at.participation.epoch) (block.height + 1) (reached block.height (midpoint c.blocks_per_epoch at.participation.epoch) e));

@@ -45,7 +45,7 @@ IfLeft (Some now) P = P now
 
 module _ {Dir : Type 0} (c : Fixed Dir) (form : IsForm c) (block : Block Dir) (st : Live Dir) (live : IsLiveIn c st) (follows : st.participation.stage ≡ Follows) (devices : Option Held) where
   -- a life that follows goes on following at any tip
-  followed : IsLiveIn c (with_tip block st)
+  pub followed : IsLiveIn c (with_tip block st)
   followed = record {
     awaits = λ apart. absurd (apart follows);
     in_round = λ round is. absurd (no_follower (phase_of c (awaited_height st)) (sym (live.in_round round is) ∙ follows));

@@ -1,4 +1,4 @@
--- What a peer's message leaves of a life of the form.
+-- What a peer's message leaves of a life.
 use Rattle.std.proofs.Common.{◌≡◌, inl, inr, ℕ, List, Option, Some, None, refl, sym, subst}
 use Rattle.std.specs.Prelude.{Result, Ok, Err}
 use Rattle.std.specs.Option.{option_map_or}
@@ -21,31 +21,28 @@ use Rattle.dkg_core.specs.Forms.{IsLiveIn}
 use Rattle.dkg_core.specs.Stepping.{IsHeardBy, with_taken}
 use Rattle.dkg_core.proofs.Counting.{comes_as, recorded_live, taken_live, takes_ack}
 
-module _ {Dir : Type 0} (c : Fixed Dir) (st : Live Dir) (live : IsLiveIn c st) (from : ℕ) (bytes : List ℕ) where
+module _ {Dir : Type 0} (c : Fixed Dir) (st : Live Dir) (from : ℕ) (bytes : List ℕ) where
   abbrev pub Never : Fault → Type 0
   Never fault = ⊥
 
   abbrev pub Heard : Live Dir → Type 0
-  Heard end = IsLiveIn c end × IsHeardBy c st from end
+  Heard end = IsHeardBy c st from end
 
   same : Heard st
-  same = (live, inl refl)
+  same = inl refl
 
   module _ (round : Round) (of_epoch : st.participation.round ≡ Some round) where
     checked : (public : List ℕ) (private : ℕ) (check : Result (Unit {0}) DealingError) → recorded_at st.records.dealings round.number from ≡ None → c.rules.dealing_of round c.me from public private ≡ check
         → ComesTo Never Heard (d.checked_dealing c round from public private st check)
     checked public private (Err e) new is = same
-    checked public private (Ok passed) new is = (
-      recorded_live c st (d.with_dealing_of round.number from public private st).records live,
-      inr (inl (record {
-        round = round;
-        of_epoch = of_epoch;
-        public = public;
-        private = private;
-        accepted = record { round = round; of_epoch = of_epoch; number = refl; new = new; valid = is };
-        is = refl;
-      })),
-    )
+    checked public private (Ok passed) new is = inr (inl (record {
+      round = round;
+      of_epoch = of_epoch;
+      public = public;
+      private = private;
+      accepted = record { round = round; of_epoch = of_epoch; number = refl; new = new; valid = is };
+      is = refl;
+    }))
 
     of_recorded : (public : List ℕ) (private : ℕ) (found : Option (List ℕ × ℕ)) → recorded_at st.records.dealings round.number from ≡ found
         → ComesTo Never Heard (d.hears_dealing_in c round from public private st found)
@@ -61,10 +58,8 @@ module _ {Dir : Type 0} (c : Fixed Dir) (st : Live Dir) (live : IsLiveIn c st) (
     ack_checked dealer ack (Err e) of_dealer is = same
     ack_checked dealer ack (Ok passed) of_dealer is =
         comes_as Never Never (λ end. end ≡ with_taken round.number dealer from ack st) Heard (d.takes_ack round.number dealer from ack st) (λ fault never. never)
-        (λ end at. (
-          subst (IsLiveIn c) (sym at) (taken_live c round dealer from ack is round.number st of_epoch of_dealer live),
-          inr (inr (record { round = round; of_epoch = of_epoch; dealer = dealer; of_dealer = of_dealer; ack = ack; passes = is; is = at })),
-        )) (takes_ack Never round.number dealer from ack st)
+        (λ end at. inr (inr (record { round = round; of_epoch = of_epoch; dealer = dealer; of_dealer = of_dealer; ack = ack; passes = is; is = at })))
+        (takes_ack Never round.number dealer from ack st)
 
     an_ack : (found : Option Dealer) (ack : List ℕ) → st.participation.dealer ≡ found → ComesTo Never Heard (d.hears_ack c round found from ack st)
     an_ack None ack is = same
@@ -79,7 +74,7 @@ module _ {Dir : Type 0} (c : Fixed Dir) (st : Live Dir) (live : IsLiveIn c st) (
   in_a_round None is = same
   in_a_round (Some round) is = reads round is (all_of (message_at c.limit bytes))
 
-  hears : (stage : Stage) → ComesTo Never Heard (d.hears_peer_in c from bytes st stage)
+  pub hears : (stage : Stage) → ComesTo Never Heard (d.hears_peer_in c from bytes st stage)
   hears Deals = in_a_round st.participation.round refl
   hears Includes = same
   hears Follows = same
@@ -87,3 +82,11 @@ module _ {Dir : Type 0} (c : Fixed Dir) (st : Live Dir) (live : IsLiveIn c st) (
 
   pub peers_come : ComesTo Never Heard (step c (Sent (Peer from bytes)) st)
   peers_come = hears st.participation.stage
+
+-- .. which is of the form again
+pub heard_live : {Dir : Type 0} (c : Fixed Dir) (st : Live Dir) (from : ℕ) (end : Live Dir) → IsLiveIn c st → IsHeardBy c st from end → IsLiveIn c end
+heard_live c st from end live (inl same) = subst (IsLiveIn c) (sym same) live
+heard_live c st from end live (inr (inl heard)) =
+    subst (IsLiveIn c) (sym heard.is) (recorded_live c st (d.with_dealing_of heard.round.number from heard.public heard.private st).records live)
+heard_live c st from end live (inr (inr heard)) =
+    subst (IsLiveIn c) (sym heard.is) (taken_live c heard.round heard.dealer from heard.ack heard.passes heard.round.number st heard.of_epoch heard.of_dealer live)

@@ -30,10 +30,11 @@ use Rattle.dkg_core.specs.Endings.{ComesTo, CameTo, stage_in, answer_in}
 use Rattle.dkg_core.specs.NodeEndings.{IsFaultBy}
 use Rattle.dkg_core.specs.Forms.{IsForm, IsLiveIn, IsActiveIn, Judged, Refusal, Passed, Applied, judged_over, judged_block, IsTakenIn, ComesOver, Finds}
 use Rattle.dkg_core.specs.Stepping.{with_taken, held_at_setup, given_itself, dealt_behind, IsDealingStop, IsFollowedEnd, IsAppliedStop, IsBlockStop, IsAppliedEnd, IsBlockEnd, IsStepStop, IsNextIn, IsHeardBy, LeavesTaken, StepsLead, StepsLeadOver, HalvesGoOn, NodeStepsLead, NodeStepsLeadOver, IsSameLife, NextLivesStay}
+use Rattle.dkg_core.proofs.Applied.{place_of, judged_comes}
 use Rattle.dkg_core.proofs.Behind.{heard_aside, block_aside}
 use Rattle.dkg_core.proofs.Counting.{comes_if}
 use Rattle.dkg_core.proofs.Heights.{next_below, below_middle, below_tip}
-use Rattle.dkg_core.proofs.Setups.{over_if, over_as, over_behind, over_under, anywhere_over, comes_anywhere, came_over, some_found}
+use Rattle.dkg_core.proofs.Setups.{over_as, over_behind, over_under, anywhere_over, comes_anywhere, came_over, some_found}
 use Rattle.dkg_core.proofs.Splitting.{came_to, comes_behind}
 use Rattle.dkg_core.proofs.StepDealing.{IsSameBut, taken_same, given_same, dealing_comes}
 use Rattle.dkg_core.proofs.StepFollowing as follow
@@ -202,36 +203,9 @@ module _ {Dir : Type 0} (c : Fixed Dir) (form : IsForm c) (st : Live Dir) (live 
           either None none = includes_apart (sym is ∙ (live.without none).0)
           either (Some round) at = included_apart (sym sooner ∙ sym (live.in_round round at) ∙ is)
 
-    -- an applied block is one or the other
-    next_of : (conflicts skips detached low : Bool) (one two three : Fault)
-        → (if conflicts then Refusal one else if skips then Refusal two else if detached then Refusal three else if low then Passed else Applied) ≡ Applied → (skips ≡ false) × (low ≡ false)
-    next_of true skips detached low one two three e = absurd (let no : ◌≡◌ {A = Judged} (Refusal one) Applied = e in cc)
-    next_of false true detached low one two three e = absurd (let no : ◌≡◌ {A = Judged} (Refusal two) Applied = e in cc)
-    next_of false false true low one two three e = absurd (let no : ◌≡◌ {A = Judged} (Refusal three) Applied = e in cc)
-    next_of false false false true one two three e = absurd (let no : ◌≡◌ {A = Judged} Passed Applied = e in cc)
-    next_of false false false false one two three e = (refl, refl)
-
-    is_child : (height tip : ℕ) → nat_lt (tip + 1) height ≡ false → nat_le height tip ≡ false → tip + 1 ≡ height
-    is_child height tip e f = grind (arith, nat_tests)
-
-    applied_over : (tip : Option Tip) → st.tip ≡ tip → judged_over c block st tip ≡ Applied → (b.is_in_window c block st ≡ true) ⊎ (awaited_height st ≡ block.height)
-    applied_over None is e = inl (either (b.is_in_window c block st) e)
-      where
-        either : (t : Bool) → (if t then Applied else Refusal (OutOfWindow block.height)) ≡ Applied → t ≡ true
-        either true e = refl
-        either false e = absurd (let no : ◌≡◌ {A = Judged} (Refusal (OutOfWindow block.height)) Applied = e in cc)
-    applied_over (Some t) is e =
-        let tests = next_of ((block.height == t.height) && not (bytes_eq block.digest t.digest)) (nat_lt (t.height + 1) block.height) ((block.height == t.height + 1) && not (bytes_eq block.parent t.digest))
-        (nat_le block.height t.height) (ConflictingBlock block.height) (SkippedHeight (t.height + 1) block.height) (DetachedBlock block.height) e in
-        inr (ap (λ (o : Option Tip). option_map_or (λ t. t.height + 1) o 0) is ∙ is_child block.height t.height tests.0 tests.1)
-
-    applied_where : (past : Bool) → (if past then Refusal HeightRange else judged_over c block st st.tip) ≡ Applied → (b.is_in_window c block st ≡ true) ⊎ (awaited_height st ≡ block.height)
-    applied_where true e = absurd (let no : ◌≡◌ {A = Judged} (Refusal HeightRange) Applied = e in cc)
-    applied_where false e = applied_over st.tip refl e
-
     -- so none is applied while including
     pub not_included : judged_block c block st ≡ Applied → st.participation.stage ≡ Includes → ⊥
-    not_included accepted includes = either (applied_where (s.is_past_range c block.height) accepted) (taken accepted)
+    not_included accepted includes = either (place_of c block st accepted) (taken accepted)
       where
         either : (b.is_in_window c block st ≡ true) ⊎ (awaited_height st ≡ block.height)
             → (st.participation.stage ≡ Follows) ⊎ (block.height < midpoint c.blocks_per_epoch (epoch_of c.blocks_per_epoch block.height)) → ⊥
@@ -239,49 +213,16 @@ module _ {Dir : Type 0} (c : Fixed Dir) (form : IsForm c) (st : Live Dir) (live 
         either (inl e) (inr low) = window_outside e includes low
         either (inr next) (inr low) = tip_outside next includes low
 
-    over_tip : (tip : Option Tip) → st.tip ≡ tip → judged_block c block st ≡ judged_over c block st tip → ComesOver Stop To (b.over_tip_in c block st tip) devices
-    over_tip None is_tip r =
-        over_if Stop To devices (b.is_in_window c block st) (b.applies c block st) (Stops (OutOfWindow block.height))
-        (λ e. applied (r ∙ ap (λ (t : Bool). if t then Applied else Refusal (OutOfWindow block.height)) e) (window_here e) (window_outside e) st.participation.stage refl)
-        (λ e. refused (OutOfWindow block.height) (r ∙ ap (λ (t : Bool). if t then Applied else Refusal (OutOfWindow block.height)) e))
-    over_tip (Some t) is_tip r =
-        let conflicts = (block.height == t.height) && not (bytes_eq block.digest t.digest) in
-        let skips = nat_lt (t.height + 1) block.height in
-        let detached = (block.height == t.height + 1) && not (bytes_eq block.parent t.digest) in
-        let low = nat_le block.height t.height in
-        let third : Judged = if low then Passed else Applied in
-        let second : Judged = if detached then Refusal (DetachedBlock block.height) else third in
-        let first : Judged = if skips then Refusal (SkippedHeight (t.height + 1) block.height) else second in
-        let old_or_new : Course Dir Fault (Live Dir) = if low then Goes st else b.applies c block st in
-        let child : Course Dir Fault (Live Dir) = if detached then Stops (DetachedBlock block.height) else old_or_new in
-        let next : Course Dir Fault (Live Dir) = if skips then Stops (SkippedHeight (t.height + 1) block.height) else child in
-        over_if Stop To devices conflicts (Stops (ConflictingBlock block.height)) next
-        (λ e. refused (ConflictingBlock block.height) (r ∙ ap (λ (x : Bool). if x then Refusal (ConflictingBlock block.height) else first) e))
-        (λ e. let r1 = r ∙ ap (λ (x : Bool). if x then Refusal (ConflictingBlock block.height) else first) e in
-        over_if Stop To devices skips (Stops (SkippedHeight (t.height + 1) block.height)) child
-        (λ e1. refused (SkippedHeight (t.height + 1) block.height) (r1 ∙ ap (λ (x : Bool). if x then Refusal (SkippedHeight (t.height + 1) block.height) else second) e1))
-        (λ e1. let r2 = r1 ∙ ap (λ (x : Bool). if x then Refusal (SkippedHeight (t.height + 1) block.height) else second) e1 in
-        over_if Stop To devices detached (Stops (DetachedBlock block.height)) old_or_new
-        (λ e2. refused (DetachedBlock block.height) (r2 ∙ ap (λ (x : Bool). if x then Refusal (DetachedBlock block.height) else third) e2))
-        (λ e2. let r3 = r2 ∙ ap (λ (x : Bool). if x then Refusal (DetachedBlock block.height) else third) e2 in
-        over_if Stop To devices low (Goes st) (b.applies c block st)
-        (λ e3. passed (r3 ∙ ap (λ (x : Bool). if x then Passed else Applied) e3) devices)
-        (λ e3. let at = reaches e1 e3 in applied (r3 ∙ ap (λ (x : Bool). if x then Passed else Applied) e3) (tip_here at) (tip_outside at) st.participation.stage refl))))
+    -- by where it lies
+    applied_at : judged_block c block st ≡ Applied → ComesOver Stop To (b.applies c block st) devices
+    applied_at accepted = either (place_of c block st accepted)
       where
-        reaches : nat_lt (t.height + 1) block.height ≡ false → nat_le block.height t.height ≡ false → awaited_height st ≡ block.height
-        reaches e f = ap (λ (o : Option Tip). option_map_or (λ t. t.height + 1) o 0) is_tip ∙ is_child block.height t.height e f
+        either : (b.is_in_window c block st ≡ true) ⊎ (awaited_height st ≡ block.height) → ComesOver Stop To (b.applies c block st) devices
+        either (inl e) = applied accepted (window_here e) (window_outside e) st.participation.stage refl
+        either (inr next) = applied accepted (tip_here next) (tip_outside next) st.participation.stage refl
 
-    in_reach : ComesOver {Dir = Dir} Stop To (if s.is_past_range c block.height then Stops HeightRange else b.over_tip c block st) devices
-    in_reach =
-        over_if Stop To devices (s.is_past_range c block.height) (Stops HeightRange) (b.over_tip c block st)
-        (λ e. refused HeightRange (ap (λ (x : Bool). if x then Refusal HeightRange else judged_over c block st st.tip) e))
-        (λ e. over_tip st.tip refl (ap (λ (x : Bool). if x then Refusal HeightRange else judged_over c block st st.tip) e))
-
-    delivered : (stage : Stage) → st.participation.stage ≡ stage → ComesOver Stop To (b.delivers_in c block st stage) devices
-    delivered Deals is = in_reach
-    delivered Includes is = in_reach
-    delivered Follows is = in_reach
-    delivered Ends is = absurd (not_ended is)
+    delivered : ComesOver Stop To (b.delivers c block st) devices
+    delivered = judged_comes c block st devices Stop To refused (λ is. passed is devices) applied_at not_ended
 
 -- A STEP
 
@@ -299,9 +240,9 @@ module _ {Dir : Type 0} (c : Fixed Dir) (form : IsForm c) (st : Live Dir) (live 
       let message : Message Dir = Sent (Peer from bytes) in
       let first = some_found devices in
       let second = some_found (option_map (held_at_setup c message) devices) in
-      over_as (peer.Never c st live from bytes) (StepStop c form st live message devices) (λ end left. peer.Heard c st live from bytes end) (StepTo c form st live message devices) (step c message st) devices
-      (λ fault never. absurd never) (λ end left its. (first.0, second.0, first.1, second.1, record { live = its.0; is = its.1 }, nothing left second.0))
-      (anywhere_over (peer.Never c st live from bytes) (peer.Heard c st live from bytes) (step c message st) devices (peer.peers_come c st live from bytes))
+      over_as (peer.Never c st from bytes) (StepStop c form st live message devices) (λ end left. peer.Heard c st from bytes end) (StepTo c form st live message devices) (step c message st) devices
+      (λ fault never. absurd never) (λ end left its. (first.0, second.0, first.1, second.1, record { live = peer.heard_live c st from end live its; is = its }, nothing left second.0))
+      (anywhere_over (peer.Never c st from bytes) (peer.Heard c st from bytes) (step c message st) devices (peer.peers_come c st from bytes))
     where
       nothing : (left : Option Held) (k : Held) → IfLeft left (LeavesTaken c st (Sent (Peer from bytes)) k)
       nothing None k = tt
@@ -309,7 +250,7 @@ module _ {Dir : Type 0} (c : Fixed Dir) (form : IsForm c) (st : Live Dir) (live 
   steps_over (Finalized block) taken =
       over_as (Stop c form st live devices block taken) (StepStop c form st live (Finalized block) devices) (To c form st live devices block taken) (StepTo c form st live (Finalized block) devices)
       (step c (Finalized block) st) devices (λ fault stop. stop)
-      (λ end left its. (its.0, its.1, its.2, its.3, its.4, its.5)) (delivered c form st live devices block taken st.participation.stage refl)
+      (λ end left its. (its.0, its.1, its.2, its.3, its.4, its.5)) (delivered c form st live devices block taken)
   steps_over (Sent (NextLog request height)) taken = absurd taken
   steps_over (Sent (ReleaseLog height)) taken = absurd taken
   steps_over (Sent (EpochInfoOf request)) taken = absurd taken
@@ -391,7 +332,7 @@ halves_go_on c st block low none = by_half c st block st.orchestrator.waiting no
 -- A NODE'S STEP
 
 -- a course that touches no device leaves them
-still_over : {Dir F S : Type 0} (P : Line → Type 0) (Q : S → Type 0) (stops : F → Type 0) (goes : S → Type 0) (course : Course Dir F S) (devices : Option Held)
+pub still_over : {Dir F S : Type 0} (P : Line → Type 0) (Q : S → Type 0) (stops : F → Type 0) (goes : S → Type 0) (course : Course Dir F S) (devices : Option Held)
     → OnlySays P Q course → ComesTo stops goes course → ComesOver stops (λ end left. goes end × (left ≡ devices)) course devices
 still_over P Q stops goes (Say line course) devices only comes = still_over P Q stops goes course devices only.1 comes
 still_over P Q stops goes (Do op course) devices only comes = absurd only
@@ -402,7 +343,7 @@ still_over P Q stops goes (Goes end) devices only comes = (comes, refl)
 still_over P Q stops goes (Stops fault) devices only comes = comes
 
 -- which epoch is active, by what the orchestrator entered
-active_of : {Dir : Type 0} (o : Orchestrator Dir) (epoch : ℕ) → half.active o ≡ Some epoch → (o.halted ≡ false) × (o.entered ≡ Some epoch)
+pub active_of : {Dir : Type 0} (o : Orchestrator Dir) (epoch : ℕ) → half.active o ≡ Some epoch → (o.halted ≡ false) × (o.entered ≡ Some epoch)
 active_of o epoch is = either o.halted (is_some o.waiting) refl is
   where
     either : (halted waits : Bool) → o.halted ≡ halted → (if halted || waits then None else o.entered) ≡ Some epoch → (o.halted ≡ false) × (o.entered ≡ Some epoch)
@@ -490,7 +431,7 @@ module _ {Dir : Type 0} (c : Fixed Dir) (form : IsForm c) (st : Live Dir) (live 
         sym (live.awaits at.1 ∙ ap (λ (o : Option Tip). epoch_of c.blocks_per_epoch (option_map_or (λ t. t.height + 1) o 0)) is) ∙ at.0 in
         below_tip c.blocks_per_epoch epoch t.height block.height form.counted next (at_most block.height t.height low)
 
-    passed_below : (past : Bool) → (if past then Refusal HeightRange else judged_over c block st st.tip) ≡ Passed → IsBelow block st
+    pub passed_below : (past : Bool) → (if past then Refusal HeightRange else judged_over c block st st.tip) ≡ Passed → IsBelow block st
     passed_below true e = absurd (let no : ◌≡◌ {A = Judged} (Refusal HeightRange) Passed = e in cc)
     passed_below false e = passed_over st.tip refl e
 

@@ -200,7 +200,7 @@ module _ {Dir : Type 0} (c : Fixed Dir) (P : World → Type 0) (tell : (w : Worl
   draws_up p previous share seed st w q =
       in_round (phase_of c (awaited_height st)) share seed st (c.rules.round_of c.namespace st.participation.epoch previous c.mode c.reveal p.dealers p.players) w q
 
-  behind_prune : (floor : Option ℕ) (info : EpochInfo Dir) (share : Option ℕ) (seed : List ℕ) (st : Live Dir) (w : World) → P w
+  pub behind_prune : (floor : Option ℕ) (info : EpochInfo Dir) (share : Option ℕ) (seed : List ℕ) (st : Live Dir) (w : World) → P w
       → Throughout P (if s.is_late_floor c floor then s.follows c st else s.draws_up c (s.participants_of info) (Some info.output) share seed st) w
   behind_prune floor info share seed st w q =
       along_if P w (s.is_late_floor c floor) (s.follows c st) (s.draws_up c (s.participants_of info) (Some info.output) share seed st)
@@ -350,7 +350,7 @@ module _ {Dir : Type 0} (c : Fixed Dir) (P : World → Type 0) (tell : (w : Worl
         concludes_by round logs None (Some made) st w q = concludes made st w q
         concludes_by round logs None None st w q = derives_now round logs (i.retained_for st.inclusion.retained logs) st w q
 
-        final_block : (round : Round) (st : Live Dir) (w : World) → P w → Throughout P (b.final_block c round block st) w
+        pub final_block : (round : Round) (st : Live Dir) (w : World) → P w → Throughout P (b.final_block c round block st) w
         final_block round st w q =
             let logs = canonical c st in
             let before = i.cached_for st.inclusion.cached logs in

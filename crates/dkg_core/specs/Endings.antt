@@ -1,5 +1,5 @@
 -- The words in which it is told how openings and steps end: where a course comes to, what an opening begins with, and what a step leaves of the tip.
-use Rattle.std.specs.Prelude.{◌≡◌, ◌||◌, ℕ, true, false, not, nat_le, [], Option, Some, None, IsSomeAnd, Result, if◌then◌else◌}
+use Rattle.std.specs.Prelude.{◌≡◌, ◌||◌, ℕ, true, false, not, nat_le, Option, Some, None, IsSomeAnd, Result, if◌then◌else◌}
 use Rattle.std.specs.Option.{option_map_or}
 use Rattle.dkg_ceremony.specs.declared.phase.Phase.{Phase}
 use Rattle.dkg_ceremony.specs.declared.phase.Phase.TheVariants.{Early, Midpoint, Late}
@@ -70,10 +70,11 @@ abbrev pub HasEntered : {Dir : Type 0} → Fixed Dir → Orchestrator Dir → Op
 HasEntered c o None = o.halted ≡ true
 HasEntered c o (Some b) = (o.entered ≡ Some (first_epoch c)) × (o.halted ≡ false)
 
--- .. which waits for nothing, and nothing else was changed
+-- .. which waits for nothing, its fence is as open as it was, and nothing else was changed
 pub record IsEntered {Dir : Type 0} (c : Fixed Dir) (st end : Live Dir) : Type 0 where
   pub entered : HasEntered c end.orchestrator (first_block c)
   pub unawaited : end.orchestrator.waiting ≡ None
+  pub unclosed : end.orchestrator.fence.closed ≡ st.orchestrator.fence.closed
   pub same : end ≡ with_orchestrator end.orchestrator st
 
 -- A STEP

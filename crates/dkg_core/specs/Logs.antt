@@ -1,5 +1,5 @@
 -- Dealers' logs as they are recorded, and which of them count.
-use Rattle.std.specs.Prelude.{ℕ, Bool, true, false, ◌&&◌, ◌==◌, [], ◌∷◌, option_map, Some}
+use Rattle.std.specs.Prelude.{ℕ, Bool, ◌&&◌, [], ◌∷◌, option_map, Some}
 use Rattle.dkg_ceremony.specs.declared.dealer_log.DealerLog.{DealerLog}
 use Rattle.dkg_ceremony.specs.declared.round.RoundParts.{RoundParts as Round}
 use Rattle.dkg_ceremony.specs.declared.signed_log.SignedDealerLog.{SignedDealerLog}

@@ -14,6 +14,8 @@ ghost use Rattle.dkg_core.specs.Agreeing.{OpeningsAgree, SetupsAgree, StepsAgree
 ghost use Rattle.dkg_core.specs.Behind.{OpeningsRunBehind, OpeningsSayBehind, StepsRunBehind, StepsSayBehind};
 ghost use Rattle.dkg_core.specs.Enduring.{OpeningsEndure, StepsGiveBack, StepsKeep};
 ghost use Rattle.dkg_core.specs.Entry.{EntersRegistered, LastBlocksAreEntered};
+ghost use Rattle.dkg_core.specs.Finishing.{StandInsFinish};
+ghost use Rattle.dkg_core.specs.Fixed.{Fixed};
 ghost use Rattle.dkg_core.specs.Forms.{HalvesBegin, NodeOpeningsLead, NodeOpeningsLeadOver, OpeningsLead, OpeningsLeadOver, SetupsComeTo, SetupsStore};
 ghost use Rattle.dkg_core.specs.Heard.{OpeningsKeep, OpeningsRestore, PeersAgree, PeersAreKept, RunsAreKept, SetupsKeep};
 ghost use Rattle.dkg_core.specs.Joining.{JoinsTrack, ProbesJoin};
@@ -29,6 +31,14 @@ ghost use Rattle.dkg_core.specs.Storing.{NodeOpeningsKeepSecrets, NodeStepsKeepS
 ghost use Rattle.dkg_core.specs.Offering.{NodeOffersAreDealt, OffersAreDealt};
 ghost use Rattle.dkg_core.specs.Stepping.{CommitsAreRead, HalvesGoOn, NextLivesStay, NodeStepsLead, NodeStepsLeadOver, StepsLead, StepsLeadOver};
 ghost use Rattle.dkg_core.specs.BlocksKept.{BlocksKeep, NodeStepsKeepNotes, NodeStepsKeepPlans, NodeStepsSpareTheirLogs};
+ghost use Rattle.dkg_core.specs.Asked.{AdvancesLeadAt, read_somewhere};
+ghost use Rattle.dkg_core.specs.Idle.{MailsAreIdle};
+ghost use Rattle.dkg_core.specs.LogsRecorded.{NodeStepsRecordLogs, ObservesFirst, ObservesNothingElse};
+ghost use Rattle.dkg_core.specs.NodeSaying.{NodeStepsSayThroughAt};
+ghost use Rattle.dkg_core.specs.NodeThrough.{HalvesPassOn, NodeOpeningsThroughAt, NodeStepsComeThroughAt, OpeningsThroughAt};
+ghost use Rattle.dkg_core.specs.SayingThrough.{StepsSayThroughAt};
+ghost use Rattle.dkg_core.specs.SharesMoved.{BlocksMoveSharesAt, BlocksPutSharesAt, NodeStepsSpareShares};
+ghost use Rattle.dkg_core.specs.Through.{NextLivesStayThroughAt, SetupsComeThrough, StepsComeThroughAt};
 ghost use Rattle.dkg_core.specs.Transcripts.{OpeningsAreQuiet, RunsAddDeeds, StepsAreQuiet, TranscriptsMove};
 
 /// A peer's message records a valid dealing of its sender under a new key alone, behind its private half, and acknowledges only
@@ -104,6 +114,12 @@ pub fn runs_are_kept<Dir>()
 /// The stand-in's rules are those of a ceremony.
 pub fn stand_ins_are_ceremonies<Dir>()
     ensures { StandInsAreCeremonies Dir }
+{}
+
+/// .. and they promise what is asked of a round that is finished: a player that lacks no dealing finishes, with the round's outcome,
+/// and where all its dealings are valid, its share fits the output.
+pub fn stand_ins_finish<Dir>()
+    ensures { StandInsFinish Dir }
 {}
 
 /// Under what a ceremony promises: a setup leaves the life awaiting the epoch of the next height, and where it takes part in a
@@ -422,4 +438,94 @@ pub fn node_steps_keep_notes<Dir>()
 /// At every exit of a node's step the plan is as it was.
 pub fn node_steps_keep_plans<Dir>()
     ensures { NodeStepsKeepPlans Dir }
+{}
+
+/// A setup of a life that has nothing of requests stops by its faults alone, or leaves such a life; which requests were used, and what they were told, stays.
+pub fn setups_come_through<Dir>()
+    ensures { SetupsComeThrough Dir }
+{}
+
+/// Requests are read until one needs more, none is left, or a verification runs: so no request is left unread while inclusion runs none, and a
+/// verification starts exactly where the logs that were found have neither a cached artifact nor a retained result.
+pub fn advances_lead<Dir>()
+    ensures { (c : Fixed Dir) → AdvancesLeadAt c (read_somewhere c) }
+{}
+
+/// In a life that passes through whole epochs any step stops by these faults alone, each of which has its cause; or it leaves such a life.
+pub fn steps_come_through<Dir>()
+    ensures { (c : Fixed Dir) → StepsComeThroughAt c (read_somewhere c) }
+{}
+
+/// The life that an opening leaves is one that passes through whole epochs.
+pub fn openings_through<Dir>()
+    ensures { (c : Fixed Dir) → OpeningsThroughAt c (read_somewhere c) }
+{}
+
+/// So is that of a node's opening, whose orchestrator waits for nothing.
+pub fn node_openings_through<Dir>()
+    ensures { (c : Fixed Dir) → NodeOpeningsThroughAt c (read_somewhere c) }
+{}
+
+/// At the last block of the entered epoch the orchestrator's half enters the next one, which is ready and registered, and acknowledges the block.
+pub fn halves_pass_on<Dir>()
+    ensures { HalvesPassOn Dir }
+{}
+
+/// In a life that passes through whole epochs a node's step stops by the faults of its reshare half alone, or leaves such a life, whose orchestrator
+/// waits for nothing.
+pub fn node_steps_come_through<Dir>()
+    ensures { (c : Fixed Dir) → NodeStepsComeThroughAt c (read_somewhere c) }
+{}
+
+/// Where no epoch is passed on, the life that a step leaves awaits the same epoch, in the same round and seat, by the same info.
+pub fn next_lives_stay_through<Dir>()
+    ensures { (c : Fixed Dir) → NextLivesStayThroughAt c (read_somewhere c) }
+{}
+
+/// Mail but a peer's touches no device, and says what requests are answered alone.
+pub fn mails_are_idle<Dir>()
+    ensures { MailsAreIdle Dir }
+{}
+
+/// At every exit of a node's step the devices give back the logs that they gave back, of the epochs that the step prunes nothing of, but for one:
+/// that of an included block, of a dealer that had none.
+pub fn node_steps_record_logs<Dir>()
+    ensures { NodeStepsRecordLogs Dir }
+{}
+
+/// At every exit of a node's step that takes a block while including, each share is what it was, of the epochs that the step prunes nothing of, but
+/// for the artifact's: the share of the canonical logs' next info, where the block carries that.
+pub fn blocks_move_shares<Dir>()
+    ensures { (c : Fixed Dir) → BlocksMoveSharesAt c (read_somewhere c) }
+{}
+
+/// .. and each share that is held then was held, or is such a one, whatever the epoch.
+pub fn blocks_put_shares<Dir>()
+    ensures { (c : Fixed Dir) → BlocksPutSharesAt c (read_somewhere c) }
+{}
+
+/// Whatever is read: each answer of a step is that of a request that it reads, by the logs that were found or what lacks, or of the one that waited for
+/// the verification that ended, or the last block finished it; and what it tells as committed is the carried info's share.
+pub fn steps_say_through<Dir>()
+    ensures { (c : Fixed Dir) → StepsSayThroughAt c (read_somewhere c) }
+{}
+
+/// So it is of a node's step, whose orchestrator's half says that an epoch is entered, that it halted, or that a block is acknowledged.
+pub fn node_steps_say_through<Dir>()
+    ensures { (c : Fixed Dir) → NodeStepsSayThroughAt c (read_somewhere c) }
+{}
+
+/// The first log of a dealer that counts in the round stays recorded, with the height of the block that brought it first.
+pub fn observes_first<Dir>()
+    ensures { ObservesFirst Dir }
+{}
+
+/// A look at a block's log changes what is recorded of no other dealer and epoch.
+pub fn observes_nothing_else<Dir>()
+    ensures { ObservesNothingElse Dir }
+{}
+
+/// At every exit of a node's step that passes no epoch on, each share that was stored is stored, of the epochs that the step prunes nothing of.
+pub fn node_steps_spare_shares<Dir>()
+    ensures { NodeStepsSpareShares Dir }
 {}

@@ -1,5 +1,5 @@
 -- Which epoch has begun and is awaited from step to step of a life over many epochs.
-use Rattle.std.proofs.Common.{◌≡◌, ◌⊎◌, inl, inr, ℕ, zero, suc, ◌+◌, ◌-◌, ◌*◌, ◌<◌, ◌≤◌, List, [], ◌∷◌, ◌++◌, Option, Some, Bool, true, false, refl, sym, ap, subst, ◌∙◌, arith, take, filter_map}
+use Rattle.std.proofs.Common.{◌≡◌, ◌⊎◌, inl, inr, ℕ, zero, suc, ◌+◌, ◌-◌, ◌*◌, ◌<◌, ◌≤◌, List, [], ◌∷◌, ◌++◌, Option, Some, None, Bool, true, false, refl, sym, ap, subst, ◌∙◌, arith, take, filter_map}
 use Rattle.std.specs.Prelude.{fold, max, nat_lt, slice_get, ◌==◌}
 use Rattle.std.proofs.lemmas.Bool.Decides.{nat_tests}
 use Rattle.std.proofs.lemmas.List.Elements.{filter_map-append}
@@ -8,13 +8,13 @@ use Rattle.dkg_ceremony.specs.Schedule.{epoch_of, last}
 use Rattle.dkg_types.specs.Blocks as made
 use Rattle.dkg_types.specs.declared.directory.Unit as directory
 use Rattle.dkg_text.specs.declared.script.Event.{Event}
-use Rattle.dkg_text.specs.declared.script.Event.TheVariants.{Final, Peer}
+use Rattle.dkg_text.specs.declared.script.Event.TheVariants.{Final}
 use Rattle.dkg_text.specs.declared.script.Life.{Life}
 use Rattle.dkg_script.specs.Blocks.{Block, block_at, delivered_number, events_come_to}
 use Rattle.dkg_script.specs.Position.{awaited_before, awaited_epoch, awaited_height, begun, delivered, start_height}
 use Rattle.dkg_script.specs.Setting.{Setting, CutAt, blocks_per_epoch, is_oneshot, life_at}
 use Rattle.dkg_core.proofs.Heights.{epoch_from, epoch_is, epoch_to, next_last}
-use Rattle.dkg_run.proofs.Awaiting.{HasHeight, IsReached, block_behind, message_behind}
+use Rattle.dkg_run.proofs.Awaiting.{HasHeight, IsReached, block_behind, event_behind}
 use Rattle.dkg_run.proofs.Currently.{begun_is}
 use Rattle.dkg_run.proofs.Delivered.{epochs_rise, from_first}
 
@@ -123,11 +123,12 @@ module _ (s : Setting) (reshares : is_oneshot s ≡ false) (l : ℕ) (life : Lif
       so : (a m x : ℕ) → a ≡ max m x → x ≤ a
       so a m x p = omega (arith, p)
 
-  pub message_epoch : (i from : ℕ) (bytes : List ℕ) → slice_get life.events i ≡ Some (Peer from bytes) → IsReached life.cut (suc i) → e (suc i) ≡ e i
-  message_epoch i from bytes is reached = ap (epoch_of n) (message_behind s l life i from bytes is reached)
+  -- an event that delivers nothing leaves both
+  pub mail_epoch : (i : ℕ) (its : Event) → slice_get life.events i ≡ Some its → IsReached life.cut (suc i) → delivered_number its ≡ None → e (suc i) ≡ e i
+  mail_epoch i its is reached none = ap (epoch_of n) (event_behind s l life i its is reached none)
 
-  pub message_begun : (i from : ℕ) (bytes : List ℕ) → slice_get life.events i ≡ Some (Peer from bytes) → IsReached life.cut (suc i) → b (suc i) ≡ b i
-  message_begun i from bytes is reached = b_is (suc i) ∙ ap (λ (x : ℕ). max (awaited_before s cuts l) x) (message_epoch i from bytes is reached) ∙ sym (b_is i)
+  pub mail_begun : (i : ℕ) (its : Event) → slice_get life.events i ≡ Some its → IsReached life.cut (suc i) → delivered_number its ≡ None → b (suc i) ≡ b i
+  mail_begun i its is reached none = b_is (suc i) ∙ ap (λ (x : ℕ). max (awaited_before s cuts l) x) (mail_epoch i its is reached none) ∙ sym (b_is i)
 
   -- A BLOCK
 

@@ -1,6 +1,7 @@
 -- The height that a life awaits from step to step, as its state has it and as the script says.
 use Rattle.std.proofs.Common.{◌≡◌, ℕ, zero, suc, ◌+◌, ◌-◌, ◌<◌, ◌≤◌, ◌==◌, List, [], ◌∷◌, ◌++◌, Option, Some, None, Bool, true, false, cond, arith, refl, sym, ap, subst, ◌∙◌, take, filter_map}
 use Rattle.std.specs.Prelude.{fold, max, nat_le, slice_get, IfSome, IsSomeAnd, if◌then◌else◌}
+use Rattle.std.specs.List.{cons_option}
 use Rattle.std.specs.Option.{option_map_or}
 use Rattle.std.proofs.lemmas.Bool.Decides.{nat_tests}
 use Rattle.std.proofs.lemmas.List.Elements.{filter_map-append}
@@ -107,7 +108,13 @@ module _ (s : Setting) (l : ℕ) (life : Life) (i : ℕ) (one : Event) (event_is
   height_more = ap (λ (bs : List Block). fold (λ height b. max height (suc b.height)) (start_height s l life) bs) delivered_more
       ∙ fold-append (λ height b. max height (suc b.height)) (start_height s l life) (delivered s life i) (filter_map (block_at s) (filter_map delivered_number (one ∷ [])))
 
--- what is awaited behind a message, and behind a block
+-- what is awaited behind an event that delivers nothing, as a message, and behind a block
+pub event_behind : (s : Setting) (l : ℕ) (life : Life) (i : ℕ) (one : Event) → slice_get life.events i ≡ Some one → IsReached life.cut (suc i) → delivered_number one ≡ None
+    → awaited_height s l life (suc i) ≡ awaited_height s l life i
+event_behind s l life i one is reached none =
+    height_more s l life i one is reached
+    ∙ ap (λ (o : Option ℕ). fold (λ height b. max height (suc b.height)) (awaited_height s l life i) (filter_map (block_at s) (cons_option o []))) none
+
 pub message_behind : (s : Setting) (l : ℕ) (life : Life) (i from : ℕ) (bytes : List ℕ) → slice_get life.events i ≡ Some (Peer from bytes) → IsReached life.cut (suc i) → awaited_height s l life (suc i) ≡ awaited_height s l life i
 message_behind s l life i from bytes is reached = height_more s l life i (Peer from bytes) is reached
 

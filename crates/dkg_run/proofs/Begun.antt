@@ -13,12 +13,12 @@ use Rattle.dkg_types.specs.declared.fault.Fault.{Fault}
 use Rattle.dkg_text.specs.declared.script.Script.{Script}
 use Rattle.dkg_script.specs.AsCut.{as_cut, setting_as_cut}
 use Rattle.dkg_script.specs.Consistent.{IsConsistentScript}
-use Rattle.dkg_script.specs.Epochs.{IsFormOfEpochs}
+use Rattle.dkg_script.specs.Inclusion.{IsFormOfInclusion}
 use Rattle.dkg_script.specs.Progress.{progress}
 use Rattle.dkg_script.specs.Promise.{AnswersDealings, KeepsDealings, RunsAll, cuts_in}
 use Rattle.dkg_script.specs.SameOffers.{OffersTheSame}
 use Rattle.dkg_script.specs.Setting.{CutAt, Setting, setting_of}
-use Rattle.dkg_script.proofs.EpochsAsCut.{epochs_as_cut}
+use Rattle.dkg_script.proofs.InclusionAsCut.{inclusion_as_cut}
 use Rattle.dkg_run.specs.Epochs.{IsChecked}
 use Rattle.dkg_run.specs.Given.{AreBytes}
 use Rattle.dkg_run.specs.GivesBack.{StaysValid}
@@ -36,7 +36,7 @@ use Rattle.dkg_run.proofs.Keeping.{IsBuiltSetting}
 use Rattle.dkg_run.proofs.OfferingSame.{offers_the_same}
 use Rattle.dkg_run.proofs.PlanlessReads.{planless_records, planless_secrets}
 
-pub built_setting : (script : Script) (files : Files) (secrets : Secrets) → IsFormOfEpochs script → IsChecked script → AreBytes script.blocks → get files Plan ≡ None → IsBuiltSetting (setting_of script files secrets)
+pub built_setting : (script : Script) (files : Files) (secrets : Secrets) → IsFormOfInclusion script → IsChecked script → AreBytes script.blocks → get files Plan ≡ None → IsBuiltSetting (setting_of script files secrets)
 built_setting script files secrets form checked bytes no_plan = record {
   form = form;
   anchored = λ l life is. anchor_above script.blocks life.anchor (form.lives l life is).anchor;
@@ -50,7 +50,7 @@ built_setting script files secrets form checked bytes no_plan = record {
 stands : {files : Files} {image : Files → Type 0} → image files → Lands files image → Stands files image
 stands here lands = record { lands = lands; itself = here }
 
-module _ (script : Script) (form : IsFormOfEpochs script) (checked : IsChecked script) (bytes : AreBytes script.blocks) (o : Over) (disk_of : o.tells → o.disk_tells) (answered : Result (Unit {0}) Fault) (old new added : List Entry)
+module _ (script : Script) (form : IsFormOfInclusion script) (checked : IsChecked script) (bytes : AreBytes script.blocks) (o : Over) (disk_of : o.tells → o.disk_tells) (answered : Result (Unit {0}) Fault) (old new added : List Entry)
     (is : new ≡ old ++ added) (runs : DoesRun script o old answered new) (itself : o.disk_tells → o.before.image o.before.files) (left : o.disk_tells → o.now.image o.now.files) where
   -- the script as these entries say that it was cut
   abbrev pub cut_script : Script
@@ -62,8 +62,8 @@ module _ (script : Script) (form : IsFormOfEpochs script) (checked : IsChecked s
   abbrev pub ends : List (Option CutAt)
   ends = cuts_in its_setting added
 
-  pub cut_form : IsFormOfEpochs cut_script
-  cut_form = epochs_as_cut (progress (setting_of script o.before.files o.before.held) added).cuts script form
+  pub cut_form : IsFormOfInclusion cut_script
+  cut_form = inclusion_as_cut (progress (setting_of script o.before.files o.before.held) added).cuts script form
 
   pub cut_runs : o.tells → Stands o.before.files o.before.image → (c : Files) → o.now.image c
       → RunsOver cut_script answered o.before.files (at (moment old o.before.held never) o.before.files) (λ f. at (moment new o.now.held f) c)

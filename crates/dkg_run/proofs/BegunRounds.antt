@@ -5,7 +5,6 @@ use Rattle.std.specs.Prelude.{◌-◌, ◌==◌, IsSomeAnd, Ok, find, option_map
 use Rattle.std.specs.FinMap.{get}
 use Rattle.std.specs.List.{AllByRecursion}
 use Rattle.std.proofs.lemmas.Bool.Decides.{nat_tests}
-use Rattle.dkg_ceremony.specs.Deals.{deal_of}
 use Rattle.dkg_ceremony.specs.Schedule.{boundary, epoch_of, last}
 use Rattle.dkg_ceremony.specs.declared.round.RoundParts.{RoundParts as Round}
 use Rattle.dkg_secrets.specs.Secrets.{Secrets}
@@ -22,30 +21,32 @@ use Rattle.dkg_script.specs.Epochs.{alone}
 use Rattle.dkg_core.specs.Behind.{event_of}
 use Rattle.dkg_core.specs.Courses.{Course, EndsSo}
 use Rattle.dkg_core.specs.Fixed.{stand_in}
-use Rattle.dkg_core.specs.Forms.{IsActiveIn, IsLiveIn, IsNodeBegun, IsSeated, IsSetUpIn, IsTakenIn, LeavesHeld, held_behind, seed_read, share_read, started}
+use Rattle.dkg_core.specs.Forms.{IsNodeBegun, IsSeated, IsSetUpIn, LeavesHeld, held_behind, seed_read, share_read, started}
 use Rattle.dkg_core.specs.Laws.{reach_of}
-use Rattle.dkg_core.specs.Live.{Finalized, Live, Message, NodeStop, Peer, Sent, is_last_height}
+use Rattle.dkg_core.specs.Live.{Finalized, Live, Message, NodeStop, Participation, Sent, is_last_height}
 use Rattle.dkg_core.specs.Node.{node_opening, node_step}
 use Rattle.dkg_core.specs.Seen.{Seen}
 use Rattle.dkg_core.specs.Setup.{Standing, Uncommitted}
-use Rattle.dkg_core.specs.Stepping.{IsNextIn, LeavesTaken, OwnDiffers, held_at_setup, next_epoch}
-use Rattle.dkg_core.specs.Storing.{KeepsSeeds, KeepsShares, ReadsSecrets}
+use Rattle.dkg_core.specs.NodeThrough.{IsNodeThrough}
+use Rattle.dkg_core.specs.Stepping.{OwnDiffers, next_epoch}
+use Rattle.dkg_core.specs.Storing.{ReadsSecrets}
 use Rattle.dkg_core.specs.Endings.{first_block, first_epoch}
+use Rattle.dkg_core.specs.Through.{IsLiveThrough, IsNextThrough, IsTakenThrough, unasked}
 use Rattle.dkg_core.proofs.Openings.{node_openings_lead_over}
-use Rattle.dkg_core.proofs.Stepping.{node_steps_lead_over}
+use Rattle.dkg_core.proofs.NodeThrough.{node_steps_lead_through_over}
+use Rattle.dkg_core.proofs.Storing.{node_steps_keep_secrets}
 use Rattle.dkg_run.specs.Blamed.{per_epoch}
-use Rattle.dkg_run.specs.Epochs.{IsAt, IsLifeInForm, awaited_by, epoch_by}
+use Rattle.dkg_run.specs.Epochs.{IsAt, IsLifeInForm, any_shares, awaited_by, epoch_by}
 use Rattle.dkg_run.specs.Found.{IsBegunBy, IsDealtBy}
 use Rattle.dkg_run.specs.Given.{Lived, at_step, blocks_in, step_of}
 use Rattle.dkg_run.proofs.Awaiting.{HasHeight, IsReached, block_behind, has_height}
 use Rattle.dkg_run.proofs.Delivered.{epochs_rise}
 use Rattle.dkg_run.proofs.Drawn.{found_number}
-use Rattle.dkg_run.proofs.Former.{Brings, IsMadeOf, IsMessage, event_in_form, form_at, is_ceremony, lacks_nobody, live_at, message_in}
+use Rattle.dkg_run.proofs.Former.{Brings, BringsBlock, BringsMail, IsMadeOf, IsMessage, brings_so, event_in_form, form_at, is_ceremony, lacks_nobody, live_at, message_in, step_taken, through_at}
 use Rattle.dkg_run.proofs.NextLives.{GoesOn, TakesOver, next_so, with_round}
-use Rattle.dkg_run.proofs.OpeningsStore.{steps_upkeep}
 use Rattle.dkg_run.proofs.Started.{source_is}
-use Rattle.dkg_run.proofs.Stood.{step_stands, step_taken}
-use Rattle.dkg_run.proofs.StoredDealers.{DealsStored, IsStoredDealer, begun_stored, step_stored}
+use Rattle.dkg_run.proofs.Stood.{step_stands}
+use Rattle.dkg_run.proofs.StoredDealers.{DealsStored, IsStoredDealer, begun_stored, step_stored, stored_on}
 
 some_is : {A : Type 0} {x y : A} → ◌≡◌ {A = Option A} (Some x) (Some y) → x ≡ y
 some_is e = cc
@@ -85,10 +86,11 @@ module _ (g : Lived) (taken : ℕ) (st : Live directory.Unit) (h : Held) (drawn 
       there : IsDealtBy g.script held (stored.round).number dealt stored.round
       there = (
         stored.seed,
+        Some stored.share,
         (own.dealer).privates,
         ap (λ m. get m (stored.round).number) seeds ∙ stored.seed_is,
-        ap (λ (o : Option ℕ). deal_of stored.round g.script.config.me o stored.seed) (ap (λ m. get m (stored.round).number) shares ∙ stored.share_is) ∙ stored.dealt
-            ∙ ap (λ (public : List ℕ). Ok (public, (own.dealer).privates)) (sym own.is_dealt),
+        inr stored.fits,
+        stored.dealt ∙ ap (λ (public : List ℕ). Ok (public, (own.dealer).privates)) (sym own.is_dealt),
       )
 
       here : IsDealtBy g.script held (own.round).number dealt own.round
@@ -168,33 +170,35 @@ module _ (g : Lived) (here : IsLifeInForm g) where
 
   -- the block that it brings is one of the script
   there_of : (e : Event) (message : Message directory.Unit) → Brings g e message → (block : Block directory.Unit) → message ≡ Finalized block → (number : ℕ) × (slice_get (blocks_in g.script) number ≡ Some block)
-  there_of (event.Peer from bytes) message brings block is = absurd (let wrong : ◌≡◌ {A = Message directory.Unit} (Sent (Peer from bytes)) (Finalized block) = sym brings ∙ is in cc)
-  there_of (event.Final number) message brings block is = (number, (brings.0).is ∙ ap (λ (x : Block directory.Unit). Some x) (the_block (sym brings.1 ∙ is)))
-  there_of other message brings block is = absurd brings
+  there_of e message brings block is = by_brought (brings_so g e message brings)
+    where
+      by_brought : BringsBlock g e message ⊎ BringsMail e message → (number : ℕ) × (slice_get (blocks_in g.script) number ≡ Some block)
+      by_brought (inl b) = (b.0, (b.1).is ∙ ap (λ (x : Block directory.Unit). Some x) (the_block (sym b.3 ∙ is)))
+      by_brought (inr mail) = absurd (let wrong : ◌≡◌ {A = Message directory.Unit} (Sent mail.0) (Finalized block) = sym mail.1 ∙ is in cc)
 
   module _ (i : ℕ) (its : Event) (is : slice_get g.life.events i ≡ Some its) (reached : IsReached g.life.cut (suc i)) (st : Live directory.Unit) (at : IsAt g i st) where
     abbrev m : IsMessage g its
     m = message_in g its (event_in_form g here i its is)
 
-    live : IsLiveIn (at_step g (suc i)) st
+    live : IsLiveThrough (at_step g (suc i)) any_shares st
     live = live_at g i (suc i) st at.live
 
-    taken : IsTakenIn (at_step g (suc i)) m.message st
-    taken = step_taken g here i its is reached m st live at.stands
+    taken : IsTakenThrough (at_step g (suc i)) m.message st
+    taken = step_taken g its m.message m.brings (at_step g (suc i)) st
 
     reads : ReadsSecrets (at_step g (suc i)).seen
     unfolding at_step
     reads = record { shares = λ h. refl; seeds = λ h. refl }
 
-    next_drawn : (h k : Held) (end : Live directory.Unit) → IsNextIn (at_step g (suc i)) st m.message h k end → HasDrawn g.script st → HasDrawn g.script end
-    next_drawn h k end next before = either (next_so (at_step g (suc i)) st m.message h k end live next)
+    next_drawn : (h now : Held) (end : Live directory.Unit) → IsNextThrough (at_step g (suc i)) any_shares st m.message (Some h) end (Some now) → HasDrawn g.script st → HasDrawn g.script end
+    next_drawn h now end next before = either (next_so (at_step g (suc i)) any_shares st m.message (Some h) end (Some now) (form_at g here (suc i)) live next)
       where
-        either : GoesOn (at_step g (suc i)) st m.message end ⊎ TakesOver (at_step g (suc i)) st m.message h k end → HasDrawn g.script end
+        either : GoesOn (at_step g (suc i)) st m.message end ⊎ TakesOver (at_step g (suc i)) any_shares st m.message (Some h) end (Some now) → HasDrawn g.script end
         either (inl goes) = λ round there. before round (sym (goes.same).round ∙ there)
         either (inr over) =
             let found = there_of its m.message m.brings over.block over.is in
-            seated_drawn (suc i) _ (over.taken).info _ _ _ end (over.taken).seated found.0 over.block found.1
-            (last_begins (suc i) over.block over.last ∙ ap (boundary (per_epoch g.script)) (sym (over.taken).of_next ∙ ((over.taken).seated).of_epoch)) (over.taken).carried
+            seated_drawn (suc i) _ (over.taken).on.info _ _ _ (unasked end) (over.taken).seated found.0 over.block found.1
+            (last_begins (suc i) over.block over.last ∙ ap (boundary (per_epoch g.script)) (sym (over.taken).on.of_next ∙ ((over.taken).seated).of_epoch)) (over.taken).on.carried
 
     some : 1 ≤ per_epoch g.script
     some = one (per_epoch g.script) here.long
@@ -221,26 +225,32 @@ module _ (g : Lived) (here : IsLifeInForm g) where
             less a b low = omega (arith, low)
 
         by_event : (e : Event) → slice_get g.life.events i ≡ Some e → (message : Message directory.Unit) → Brings g e message → reach_of (at_step g (suc i)) message ≤ epoch_by g (suc i) - 1
-        by_event (event.Peer from bytes) at message brings = subst (λ (x : Message directory.Unit). reach_of (at_step g (suc i)) x ≤ epoch_by g (suc i) - 1) (sym brings) (omega arith)
-        by_event (event.Final number) at message brings = subst (λ (x : Message directory.Unit). reach_of (at_step g (suc i)) x ≤ epoch_by g (suc i) - 1) (sym brings.1) (of_height number brings.0 at)
-        by_event other at message brings = absurd brings
+        by_event e at message brings = by_brought (brings_so g e message brings)
+          where
+            by_brought : BringsBlock g e message ⊎ BringsMail e message → reach_of (at_step g (suc i)) message ≤ epoch_by g (suc i) - 1
+            by_brought (inl b) = subst (λ (x : Message directory.Unit). reach_of (at_step g (suc i)) x ≤ epoch_by g (suc i) - 1) (sym b.3) (of_height b.0 b.1 (at ∙ ap (λ (x : Event). Some x) b.2))
+            by_brought (inr mail) = subst (λ (x : Message directory.Unit). reach_of (at_step g (suc i)) x ≤ epoch_by g (suc i) - 1) (sym mail.1) (omega arith)
 
     pub step_deals : (end : Live directory.Unit) (w new : World) → EndsSo (step_of g (suc i) its st) (went end) w new → HasDrawn g.script st → DealsStored g.script.config.me st w.held
         → HasDrawn g.script end × DealsStored g.script.config.me end new.held
     step_deals end w new run drawn deals =
         let run_here : EndsSo (node_step (at_step g (suc i)) (event_of m.message) st) (went end) w new
         = subst (λ (course : Course directory.Unit NodeStop (Live directory.Unit)). EndsSo course (went end) w new) (m.course (suc i) st) run in
-        let k : Held = held_at_setup (at_step g (suc i)) m.message w.held in
-        let led : IsNextIn (at_step g (suc i)) st m.message w.held k end × IsActiveIn end × LeavesTaken (at_step g (suc i)) st m.message k new.held
-        = node_steps_lead_over (at_step g (suc i)) st m.message (went end) w new (form_at g here (suc i)) taken live at.active run_here in
-        let stands = step_stands g here i its is reached m st live at.stands w.held k end led.0 in
-        let kept : KeepsSeeds (epoch_by g (suc i) - 1) w.held new × KeepsShares (epoch_by g (suc i) - 1) w.held new
-        = steps_upkeep (at_step g (suc i)) reads (epoch_by g (suc i) - 1) w (form_at g here (suc i)) st live m.message (went end) new taken reach_low run_here in
-        let low : (round : Round) → end.participation.round ≡ Some round → epoch_by g (suc i) - 1 ≤ round.number
-        = λ round of. upto round.number (epoch_by g (suc i)) ((led.0).live.numbered round of ∙ stands.epoch (with_round (at_step g (suc i)) end round (led.0).live of)) in (
-          next_drawn w.held k end led.0 drawn,
-          subst (λ (n : ℕ). DealsStored n end new.held) (me_is (suc i)) (step_stored (at_step g (suc i)) (rules_at (suc i)) reads st m.message w.held new.held end live led.0 led.2
-              (subst (λ (n : ℕ). DealsStored n st w.held) (sym (me_is (suc i))) deals) (λ round of seed got. kept.0 round.number seed (low round of) got) (λ round of share got. kept.1 round.number share (low round of) got)),
+        let led : IsNodeThrough (at_step g (suc i)) any_shares st m.message (Some w.held) end (Some new.held)
+        = node_steps_lead_through_over (at_step g (suc i)) any_shares st m.message (went end) w new (through_at g here (suc i)) (lacks_nobody g (suc i)) (λ h epoch found. tt) taken live at.active run_here in
+        let stands = step_stands g here i its is reached m st live at.stands (Some w.held) end (Some new.held) led in
+        let same : end.participation ≡ (led.mid).participation = ap (λ (x : Live directory.Unit). x.participation) led.same in
+        let kept = node_steps_keep_secrets (at_step g (suc i)) st m.message (went end) (epoch_by g (suc i) - 1) w new reads reach_low run_here in
+        let low : (round : Round) → (led.mid).participation.round ≡ Some round → epoch_by g (suc i) - 1 ≤ round.number
+        = λ round of. upto round.number (epoch_by g (suc i)) (((led.next).live).stands.numbered round of ∙ ap (λ (p : Participation directory.Unit). p.epoch) (sym same)
+            ∙ stands.epoch (λ follows. with_round (at_step g (suc i)) (unasked led.mid) round ((led.next).live).stands of (ap (λ (p : Participation directory.Unit). p.stage) (sym same) ∙ follows))) in
+        let behind : DealsStored (at_step g (suc i)).me led.mid new.held
+        = step_stored (at_step g (suc i)) (rules_at (suc i)) reads any_shares (form_at g here (suc i)) st m.message w.held new.held led.mid live led.next
+            (subst (λ (n : ℕ). DealsStored n st w.held) (sym (me_is (suc i))) deals) (λ round of seed got. kept.0 round.number seed (low round of) got) in (
+          λ round there. next_drawn w.held new.held led.mid led.next drawn round (sym (ap (λ (p : Participation directory.Unit). p.round) same) ∙ there),
+          λ d there. subst (λ (n : ℕ). IsStoredDealer n end d new.held) (me_is (suc i))
+            (stored_on (at_step g (suc i)).me led.mid end d d new.held new.held (ap (λ (p : Participation directory.Unit). p.round) same) refl refl (λ round of seed is. is)
+            (behind d (sym (ap (λ (p : Participation directory.Unit). p.dealer) same) ∙ there))),
         )
       where
         upto : (a b : ℕ) → a ≡ b → b - 1 ≤ a

@@ -19,6 +19,7 @@ use Rattle.dkg_text.specs.declared.script.Event.{Event}
 use Rattle.dkg_text.specs.declared.script.Event.TheVariants as event
 use Rattle.dkg_text.specs.declared.script.Life.{Life}
 use Rattle.dkg_text.specs.declared.script.Script.{Script}
+use Rattle.dkg_script.specs.Blocks.{delivered_number}
 use Rattle.dkg_script.specs.Ends.{EndsWell}
 use Rattle.dkg_script.specs.Order.{IsInOrder}
 use Rattle.dkg_script.specs.Progress.{Progress, read, at_start}
@@ -26,34 +27,40 @@ use Rattle.dkg_script.specs.Promise.{Adds}
 use Rattle.dkg_script.specs.Setting.{Setting, setting_of}
 use Rattle.dkg_script.proofs.EachEntry.{at_each}
 use Rattle.dkg_store.specs.Acts.{Ended, Held, broken, by_cut, stopped, went}
+use Rattle.dkg_core.specs.Asked.{OfShares}
 use Rattle.dkg_core.specs.Courses.{Course, on_devices}
-use Rattle.dkg_core.specs.Forms.{IsLiveIn, IsNodeBegun, IsOpeningStop}
+use Rattle.dkg_core.specs.Forms.{IsNodeBegun, IsOpeningStop}
 use Rattle.dkg_core.specs.Laws.{IsQuiet}
-use Rattle.dkg_core.specs.Live.{Faulted, Finalized, Live, Message, NodeStop}
-use Rattle.dkg_core.specs.Node.{node_opening}
+use Rattle.dkg_core.specs.Live.{Cancel, EpochInfoOf, Faulted, Feed, Finalized, Live, Message, NodeStop, NextLog, Over, ReleaseLog, Sent, Work}
+use Rattle.dkg_core.specs.Behind.{event_of}
+use Rattle.dkg_core.specs.Node.{node_opening, node_step}
+use Rattle.dkg_core.specs.NodeEndings.{IsFaultBy}
+use Rattle.dkg_core.specs.NodeThrough.{IsNodeThrough}
 use Rattle.dkg_core.specs.Said.{Said}
 use Rattle.dkg_core.specs.Seen.{Seen}
 use Rattle.dkg_core.specs.Sources.{Tip, position}
-use Rattle.dkg_core.specs.Stepping.{IsNextIn, IsStepEnd, IsStepStop}
+use Rattle.dkg_core.specs.Through.{IsEndThrough, IsLiveThrough, IsStopThrough}
 use Rattle.dkg_core.specs.Endings.{CameTo, tip_behind}
-use Rattle.dkg_core.specs.Forms.{IsActiveIn}
 use Rattle.dkg_core.proofs.Openings.{node_openings_lead}
-use Rattle.dkg_core.proofs.Stepping.{node_steps_lead}
+use Rattle.dkg_core.proofs.NodeThrough.{node_openings_through, node_steps_come_through}
+use Rattle.dkg_core.proofs.Setups.{comes_anywhere}
+use Rattle.dkg_core.proofs.Splitting.{came_to}
 use Rattle.dkg_reshare.specs.declared.stop.Stop.{Stop}
 use Rattle.dkg_reshare.specs.declared.stop.Stop.TheVariants.{Cut as AtCut, Failed, Fault as FaultOf}
 use Rattle.dkg_core.specs.Splitting.{named}
 use Rattle.dkg_reshare.specs.Ends.{by_fault}
-use Rattle.dkg_run.specs.Blamed.{BlamesSo, IsBlamedSo, IsBlockCause, IsBlockOwn, IsClear, IsFromOutside, IsWhy, IsWhyNow, OnBlock, tip_in, tip_over}
+use Rattle.dkg_run.specs.Blamed.{BlamesSo, IsAskedOwn, IsBlamedSo, IsBlockCause, IsBlockOwn, IsCause, IsClear, IsFromOutside, IsOwn, IsProviderCause, IsReadingEvent, IsWhy, IsWhyNow, MayRead, OnBlock, tip_in, tip_over}
 use Rattle.dkg_run.specs.Causes.{IfFault}
 use Rattle.dkg_run.specs.Ended.{by_node_stop}
-use Rattle.dkg_run.specs.Epochs.{IsAt, IsChecked, IsLifeInForm}
+use Rattle.dkg_run.specs.Epochs.{IsAt, IsChecked, IsLifeInForm, StandsInScript, any_shares, epoch_by}
 use Rattle.dkg_run.specs.Given.{Lived, anchor_in, at_step, blocks_in, lived, step_of}
 use Rattle.dkg_run.specs.Lives.{LivesSo, RunsAllSo, RunsSo, Steps, TakesAll, TellsEnd, fuse_for}
 use Rattle.dkg_run.specs.Ways.{ReadsSomething, Trace, by_lines}
+use Rattle.dkg_run.proofs.Asking.{AreMade, IsCarried, opening_carried, opening_made, step_carried, step_made}
 use Rattle.dkg_run.proofs.Awaiting.{IsBefore as IsUncut, IsReached, before_all, one_more, reached_lit}
-use Rattle.dkg_run.proofs.Causing.{block_cause, block_clear, opening_cause, opening_clear}
+use Rattle.dkg_run.proofs.Causing.{block_cause, block_clear, info_cause, mail_cause, opening_cause, opening_clear}
 use Rattle.dkg_run.proofs.Following.{EndsBy, RunEndsBy, all_move, item_at, rest_at}
-use Rattle.dkg_run.proofs.Former.{Brings, IsMessage, event_in_form, form_at, lacks_nobody, live_at, message_in}
+use Rattle.dkg_run.proofs.Former.{Brings, BringsBlock, BringsMail, IsMessage, brings_so, event_in_form, form_at, lacks_nobody, live_at, message_in, step_taken, through_at}
 use Rattle.dkg_run.proofs.InPlace.{begins, cut_before, cut_within, moves_cut, moves_step}
 use Rattle.dkg_run.proofs.LivesStand.{before_suc}
 use Rattle.dkg_run.proofs.NextLives.{next_tip}
@@ -62,7 +69,7 @@ use Rattle.dkg_run.proofs.Places.{each_of_both, moves_none, moves_then, moves_wi
 use Rattle.dkg_run.proofs.Runs.{each_after, starts}
 use Rattle.dkg_run.proofs.Standing.{AddsOpening, AddsQuiet, Each, IsAtCut, IsBefore, IsBehind, IsBetween, IsBetweenOf, IsCutBefore, IsCutWithin, IsWithin, Moves, TellsFault}
 use Rattle.dkg_run.proofs.Steps.{Opening, opened_so_far, quiet_so_far}
-use Rattle.dkg_run.proofs.Stood.{begun_stands, step_stands, step_taken}
+use Rattle.dkg_run.proofs.Stood.{begun_stands, step_stands}
 
 -- a fault that doesn't come from outside is the course's own
 own_or_outside : {S : Type 0} (its : Fault) → IsFromOutside its ⊎ (named {S = S} Faulted (by_fault its) ≡ stopped (Faulted its))
@@ -95,6 +102,8 @@ module _ (g : Lived) (here : IsLifeInForm g) where
   pub record Stood (i : ℕ) (st : Live directory.Unit) : Type 0 where
     pub at : IsAt g i st
     pub tip : st.tip ≡ tip_in g.script g.life i
+    pub made : AreMade g i st
+    pub carried : IsCarried g st
 
   abbrev Came : (Fault → Type 0) → (Live directory.Unit → Type 0) → Ended NodeStop (Live directory.Unit) → Type 0
   Came P Next ended = CameTo (λ (stop : NodeStop). (own : Fault) × (stop ≡ Faulted own) × P own) Next ended
@@ -110,10 +119,14 @@ module _ (g : Lived) (here : IsLifeInForm g) where
 
   pub opened_stood : (seen : Seen) (k : Held) (st : Live directory.Unit) → IsNodeBegun (at_step g 0) seen k st → Stood 0 st
   unfolding at_step
-  opened_stood seen k st begun = record {
-    at = record { live = begun.live; active = begun.active; stands = begun_stands g here seen k st begun };
-    tip = ap (λ (x : Live directory.Unit). x.tip) (begun.entered).same ∙ (begun.opened).tip ∙ sym first_tip;
-  }
+  opened_stood seen k st begun =
+      let lives = node_openings_through (at_step g 0) any_shares seen k st (form_at g here 0) begun in
+      record {
+        at = record { live = lives.0; active = lives.1; stands = begun_stands g here seen k st begun };
+        tip = ap (λ (x : Live directory.Unit). x.tip) (begun.entered).same ∙ (begun.opened).tip ∙ sym first_tip;
+        made = opening_made g here seen k st begun;
+        carried = opening_carried g here seen k st begun lives.0;
+      }
 
   opening_comes : (ended : Ended NodeStop (Live directory.Unit)) (out now : List Entry) → Said (on_devices (node_opening (at_step g 0))) ended out now → Came (Why 0) (λ end. Stood 0 end × Clear 0) ended
   opening_comes ended out now said = by_end ended (node_openings_lead (at_step g 0) ended out now (form_at g here 0) (lacks_nobody g 0) said)
@@ -122,7 +135,11 @@ module _ (g : Lived) (here : IsLifeInForm g) where
           → CameTo (λ stop. (own : Fault) × (stop ≡ Faulted own) × ((h k : Held) × IsOpeningStop (at_step g 0) ((at_step g 0).seen h) k own)) (λ st. (h k : Held) × IsNodeBegun (at_step g 0) ((at_step g 0).seen h) k st) ended
           → Came (Why 0) (λ end. Stood 0 end × Clear 0) ended
       by_end (went end) (h, k, begun) = (opened_stood ((at_step g 0).seen h) k end begun, opening_clear g here ((at_step g 0).seen h) k end begun)
-      by_end (stopped stop) (own, is, (h, k, why)) = (own, is, inr (opening_cause g here ((at_step g 0).seen h) k own why))
+      by_end (stopped stop) (own, is, (h, k, why)) = (own, is, either (opening_cause g here ((at_step g 0).seen h) k own why))
+        where
+          either : IsCause g.script g.number g.life 0 own ⊎ IsOwn g.script g.number g.life 0 own → Why 0 own
+          either (inl cause) = inr (inl (inl cause))
+          either (inr its_own) = inr (inr (inl its_own))
       by_end (broken its) came = tt
 
   -- A STEP
@@ -131,69 +148,118 @@ module _ (g : Lived) (here : IsLifeInForm g) where
     abbrev pub m : IsMessage g e
     m = message_in g e (event_in_form g here i e e_is)
 
-    pub its_live : IsLiveIn (at_step g (suc i)) st
+    pub its_live : IsLiveThrough (at_step g (suc i)) any_shares st
     its_live = live_at g i (suc i) st (stood.at).live
 
     -- a cause, or a reason of its own, of this step
     at_event : (P : Event → Type 0) → P e → IsSomeAnd (slice_get g.life.events i) P
     at_event P so = of_there P (slice_get g.life.events i) e e_is so
 
-    pub step_why : (h k : Held) (own : Fault) → IsStepStop (at_step g (suc i)) st m.message h k own → Why (suc i) own
-    step_why h k own stop = by_event e refl m.message m.brings stop
+    -- where requests are read
+    reads_why : (own : Fault) → MayRead g.script g.number g.life i × (IsProviderCause g.script (epoch_by g i) own ⊎ IsAskedOwn g.script (epoch_by g i) own) → Why (suc i) own
+    reads_why own (may, inl provider) = inr (inl (inr (may, provider)))
+    reads_why own (may, inr asked) = inr (inr (inr (may, asked)))
+
+    pub step_why : (stored : OfShares) (devices : Option Held) (own : Fault) → IsStopThrough (at_step g (suc i)) stored st m.message devices own → Why (suc i) own
+    step_why stored devices own stop = by_event e refl m.message m.brings stop
       where
-        by_event : (its : Event) → e ≡ its → (message : Message directory.Unit) → Brings g its message → IsStepStop (at_step g (suc i)) st message h k own → Why (suc i) own
-        by_event (event.Peer from bytes) is message brings stop = absurd (subst (λ (x : Message directory.Unit). IsStepStop (at_step g (suc i)) st x h k own) brings stop)
+        as_brought : (message other : Message directory.Unit) → message ≡ other → IsStopThrough (at_step g (suc i)) stored st message devices own → IsStopThrough (at_step g (suc i)) stored st other devices own
+        as_brought message other same stop = subst (λ (x : Message directory.Unit). IsStopThrough (at_step g (suc i)) stored st x devices own) same stop
+
+        reading : (its : Event) → e ≡ its → IsReadingEvent its → IsReadingEvent e
+        reading its is so = subst IsReadingEvent (sym is) so
+
+        by_event : (its : Event) → e ≡ its → (message : Message directory.Unit) → Brings g its message → IsStopThrough (at_step g (suc i)) stored st message devices own → Why (suc i) own
+        by_event (event.Peer from bytes) is message brings stop = absurd (subst (λ (x : Message directory.Unit). IsStopThrough (at_step g (suc i)) stored st x devices own) brings stop)
         by_event (event.Final number) is message brings stop =
-            either (block_cause g here i e e_is reached m st its_live (stood.at).stands stood.tip (brings.0).block h k own (subst (λ (x : Message directory.Unit). IsStepStop (at_step g (suc i)) st x h k own) brings.1 stop))
+            either (block_cause g here i e e_is reached m st its_live (stood.at).stands stood.tip stood.carried number is (brings.0).block (brings.0).is stood.made stored devices own
+            (as_brought message (Finalized (brings.0).block) brings.1 stop))
           where
-            either : IsBlockCause g.script g.number g.life i (brings.0).block own ⊎ IsBlockOwn g.script g.number g.life i (brings.0).block own → Why (suc i) own
-            either (inl its) = inr (inl (at_event (λ x. OnBlock g.script x (λ b. IsBlockCause g.script g.number g.life i b own))
-                (subst (λ (x : Event). OnBlock g.script x (λ b. IsBlockCause g.script g.number g.life i b own)) (sym is) (of_there (λ b. IsBlockCause g.script g.number g.life i b own) (slice_get (blocks_in g.script) number) (brings.0).block (brings.0).is its))))
-            either (inr its) = inr (inr (at_event (λ x. OnBlock g.script x (λ b. IsBlockOwn g.script g.number g.life i b own))
-                (subst (λ (x : Event). OnBlock g.script x (λ b. IsBlockOwn g.script g.number g.life i b own)) (sym is) (of_there (λ b. IsBlockOwn g.script g.number g.life i b own) (slice_get (blocks_in g.script) number) (brings.0).block (brings.0).is its))))
+            at_block : (P : Block directory.Unit → Type 0) → P (brings.0).block → IsSomeAnd (slice_get g.life.events i) (λ x. OnBlock g.script x P)
+            at_block P so = at_event (λ x. OnBlock g.script x P) (subst (λ (x : Event). OnBlock g.script x P) (sym is) (of_there P (slice_get (blocks_in g.script) number) (brings.0).block (brings.0).is so))
+
+            either : IsBlockCause g.script g.number g.life i (brings.0).block own
+                ⊎ (IsBlockOwn g.script g.number g.life i (brings.0).block own ⊎ (MayRead g.script g.number g.life i × (IsProviderCause g.script (epoch_by g i) own ⊎ IsAskedOwn g.script (epoch_by g i) own))) → Why (suc i) own
+            either (inl its) = inr (inl (inl (at_block (λ b. IsBlockCause g.script g.number g.life i b own) its)))
+            either (inr (inl its)) = inr (inr (inl (at_block (λ b. IsBlockOwn g.script g.number g.life i b own) its)))
+            either (inr (inr reads)) = reads_why own reads
+        by_event (event.Next request height) is message brings stop = absurd (as_brought message (Sent (NextLog request height)) brings stop)
+        by_event (event.Release height) is message brings stop = absurd (as_brought message (Sent (ReleaseLog height)) brings stop)
+        by_event (event.Info request) is message brings stop =
+            let its = as_brought message (Sent (EpochInfoOf request)) brings stop in
+            reads_why own (info_cause g here i e e_is reached m st its_live (stood.at).stands stood.tip stood.carried (reading (event.Info request) is tt) (ap delivered_number is) request is its.0 own its.1)
+        by_event (event.Feed request number) is message brings stop =
+            let its = as_brought message (Sent (Feed request (brings.0).block)) brings.1 stop in
+            reads_why own (mail_cause g here i e e_is reached m st its_live (stood.at).stands stood.tip stood.carried (reading (event.Feed request number) is tt) (ap delivered_number is) stood.made its.0 own its.1)
+        by_event (event.Over request) is message brings stop =
+            let its = as_brought message (Sent (Over request)) brings stop in
+            reads_why own (mail_cause g here i e e_is reached m st its_live (stood.at).stands stood.tip stood.carried (reading (event.Over request) is tt) (ap delivered_number is) stood.made its.0 own its.1)
+        by_event (event.Cancel request) is message brings stop =
+            let its = as_brought message (Sent (Cancel request)) brings stop in
+            reads_why own (mail_cause g here i e e_is reached m st its_live (stood.at).stands stood.tip stood.carried (reading (event.Cancel request) is tt) (ap delivered_number is) stood.made its.0 own its.1)
+        by_event event.Work is message brings stop =
+            let its = as_brought message (Sent (Work None)) brings stop in
+            reads_why own (mail_cause g here i e e_is reached m st its_live (stood.at).stands stood.tip stood.carried (reading event.Work is tt) (ap delivered_number is) stood.made its.0 own its.1)
         by_event other is message brings stop = absurd brings
 
-    step_clear : (h k : Held) (end : Live directory.Unit) → IsStepEnd (at_step g (suc i)) st m.message h k end → Clear (suc i)
-    step_clear h k end next own why = by_event e refl m.message m.brings next (at_there (λ x. OnBlock g.script x (λ b. IsBlockCause g.script g.number g.life i b own)) (slice_get g.life.events i) e e_is why)
+    step_clear : (devices : Option Held) (end : Live directory.Unit) (left : Option Held) → IsEndThrough (at_step g (suc i)) any_shares st m.message devices end left → Clear (suc i)
+    step_clear devices end left next own why =
+        by_event e refl m.message m.brings next (at_there (λ x. OnBlock g.script x (λ b. IsBlockCause g.script g.number g.life i b own)) (slice_get g.life.events i) e e_is why)
       where
-        by_event : (its : Event) → e ≡ its → (message : Message directory.Unit) → Brings g its message → IsStepEnd (at_step g (suc i)) st message h k end → OnBlock g.script e (λ b. IsBlockCause g.script g.number g.life i b own) → ⊥
-        by_event (event.Peer from bytes) is message brings next on = subst (λ (x : Event). OnBlock g.script x (λ b. IsBlockCause g.script g.number g.life i b own)) is on
+        by_event : (its : Event) → e ≡ its → (message : Message directory.Unit) → Brings g its message → IsEndThrough (at_step g (suc i)) any_shares st message devices end left
+            → OnBlock g.script e (λ b. IsBlockCause g.script g.number g.life i b own) → ⊥
         by_event (event.Final number) is message brings next on =
-            block_clear g here i e e_is reached m st its_live (stood.at).stands stood.tip (brings.0).block h k end (subst (λ (x : Message directory.Unit). IsStepEnd (at_step g (suc i)) st x h k end) brings.1 next) own
+            block_clear g here i e e_is reached m st its_live (stood.at).stands stood.tip (brings.0).block devices end left
+            (subst (λ (x : Message directory.Unit). IsEndThrough (at_step g (suc i)) any_shares st x devices end left) brings.1 next) own
             (at_there (λ b. IsBlockCause g.script g.number g.life i b own) (slice_get (blocks_in g.script) number) (brings.0).block (brings.0).is (subst (λ (x : Event). OnBlock g.script x (λ b. IsBlockCause g.script g.number g.life i b own)) is on))
-        by_event other is message brings next on = absurd brings
+        by_event other is message brings next on = subst (λ (x : Event). OnBlock g.script x (λ b. IsBlockCause g.script g.number g.life i b own)) is on
 
     tip_next : tip_in g.script g.life (suc i) ≡ tip_over (blocks_in g.script) (tip_in g.script g.life i) e
     tip_next = ap (λ (es : List Event). fold (tip_over (blocks_in g.script)) (position (anchor_in (blocks_in g.script) g.life.anchor)) es) (one_more g.life.events i e e_is)
         ∙ fold-append (tip_over (blocks_in g.script)) (position (anchor_in (blocks_in g.script) g.life.anchor)) (take i g.life.events) (e ∷ [])
 
-    behind : tip_behind m.message st.tip ≡ tip_over (blocks_in g.script) st.tip e
-    behind = by_event e refl m.message m.brings
-      where
-        by_event : (its : Event) → e ≡ its → (message : Message directory.Unit) → Brings g its message → tip_behind message st.tip ≡ tip_over (blocks_in g.script) st.tip e
-        by_event (event.Peer from bytes) is message brings = ap (λ (x : Message directory.Unit). tip_behind x st.tip) brings ∙ ap (tip_over (blocks_in g.script) st.tip) (sym is)
-        by_event (event.Final number) is message brings =
-            ap (λ (x : Message directory.Unit). tip_behind x st.tip) brings.1
-            ∙ sym (ap (λ (o : Option (Block directory.Unit)). option_map_or (λ b. tip_behind (Finalized b) st.tip) o st.tip) (brings.0).is)
-            ∙ ap (tip_over (blocks_in g.script) st.tip) (sym is)
-        by_event other is message brings = absurd brings
+    -- an event that delivers nothing moves no tip
+    unmoved : (its : Event) → delivered_number its ≡ None → st.tip ≡ tip_over (blocks_in g.script) st.tip its
+    unmoved (event.Final number) none = absurd (let wrong : ◌≡◌ {A = Option ℕ} (Some number) None = none in cc)
+    unmoved other none = refl
 
-    pub step_next : (h k : Held) (end : Live directory.Unit) → IsNextIn (at_step g (suc i)) st m.message h k end → IsActiveIn end → Stood (suc i) end
-    step_next h k end next active = record {
-      at = record { live = next.live; active = active; stands = step_stands g here i e e_is reached m st its_live (stood.at).stands h k end next };
-      tip = next_tip (at_step g (suc i)) st m.message h k end next ∙ behind ∙ ap (λ (o : Option Tip). tip_over (blocks_in g.script) o e) stood.tip ∙ sym tip_next;
-    }
+    behind : tip_behind m.message st.tip ≡ tip_over (blocks_in g.script) st.tip e
+    behind = by_brought (brings_so g e m.message m.brings)
+      where
+        by_brought : BringsBlock g e m.message ⊎ BringsMail e m.message → tip_behind m.message st.tip ≡ tip_over (blocks_in g.script) st.tip e
+        by_brought (inr mail) = ap (λ (x : Message directory.Unit). tip_behind x st.tip) mail.1 ∙ unmoved e mail.2
+        by_brought (inl b) =
+            ap (λ (x : Message directory.Unit). tip_behind x st.tip) b.3
+            ∙ sym (ap (λ (o : Option (Block directory.Unit)). option_map_or (λ b. tip_behind (Finalized b) st.tip) o st.tip) (b.1).is)
+            ∙ ap (tip_over (blocks_in g.script) st.tip) (sym b.2)
+
+    pub step_next : (devices : Option Held) (end : Live directory.Unit) (left : Option Held) → IsNodeThrough (at_step g (suc i)) any_shares st m.message devices end left → Stood (suc i) end
+    step_next devices end left node =
+        let its_stands : StandsInScript g (suc i) end = step_stands g here i e e_is reached m st its_live (stood.at).stands devices end left node in
+        record {
+          at = record { live = node.live; active = node.active; stands = its_stands };
+          tip = ap (λ (x : Live directory.Unit). x.tip) node.same ∙ next_tip (at_step g (suc i)) st any_shares m.message devices node.mid left node.next ∙ behind
+              ∙ ap (λ (o : Option Tip). tip_over (blocks_in g.script) o e) stood.tip ∙ sym tip_next;
+          made = step_made g here i e e_is m st its_live (stood.at).stands devices end left node its_stands stood.made;
+          carried = step_carried g here i e e_is m st its_live (stood.at).stands devices end left node its_stands stood.carried;
+        }
+
+    abbrev its_step : Course directory.Unit NodeStop (Live directory.Unit)
+    its_step = node_step (at_step g (suc i)) (event_of m.message) st
 
     step_comes : (ended : Ended NodeStop (Live directory.Unit)) (out now : List Entry) → Said (on_devices (step_of g (suc i) e st)) ended out now → Came (Why (suc i)) (λ end. Stood (suc i) end × Clear (suc i)) ended
     step_comes ended out now said =
-        by_end ended (node_steps_lead (at_step g (suc i)) st m.message ended out now (form_at g here (suc i)) (step_taken g here i e e_is reached m st its_live (stood.at).stands) its_live (stood.at).active
+        by_end ended (came_to (IsFaultBy (IsStopThrough (at_step g (suc i)) any_shares st m.message None)) (λ end. IsNodeThrough (at_step g (suc i)) any_shares st m.message None end None) its_step ended out now
+        (comes_anywhere (IsFaultBy (IsStopThrough (at_step g (suc i)) any_shares st m.message None)) (IsNodeThrough (at_step g (suc i)) any_shares st m.message None) its_step
+        (node_steps_come_through (at_step g (suc i)) any_shares st m.message None (through_at g here (suc i)) (lacks_nobody g (suc i)) (λ h epoch found. tt)
+        (step_taken g e m.message m.brings (at_step g (suc i)) st) its_live (stood.at).active))
         (subst (λ (k : Course directory.Unit NodeStop (Live directory.Unit)). Said (on_devices k) ended out now) (m.course (suc i) st) said))
       where
         by_end : (ended : Ended NodeStop (Live directory.Unit))
-            → CameTo (λ stop. (own : Fault) × (stop ≡ Faulted own) × ((h k : Held) × IsStepStop (at_step g (suc i)) st m.message h k own)) (λ end. (h k : Held) × IsNextIn (at_step g (suc i)) st m.message h k end × IsActiveIn end) ended
+            → CameTo (IsFaultBy (IsStopThrough (at_step g (suc i)) any_shares st m.message None)) (λ end. IsNodeThrough (at_step g (suc i)) any_shares st m.message None end None) ended
             → Came (Why (suc i)) (λ end. Stood (suc i) end × Clear (suc i)) ended
-        by_end (went end) (h, k, next, active) = (step_next h k end next active, step_clear h k end next.is)
-        by_end (stopped stop) (own, is, (h, k, why)) = (own, is, step_why h k own why)
+        by_end (went end) node = (step_next None end None node, step_clear None node.mid None (node.next).is)
+        by_end (stopped stop) (own, is, why) = (own, is, step_why any_shares None own why)
         by_end (broken its) came = tt
 
 -- WHAT IS TOLD on the way

@@ -1,11 +1,12 @@
 -- What a node's step for a block leaves on the devices of dealings, wherever it ends: nothing that wasn't there before but what this node deals to itself, which is told where the step
 -- goes to its end.
 use Rattle.std.proofs.Common.{◌≡◌, ◌⊎◌, inl, inr, ◌≤◌, ℕ, List, [], ◌∷◌, ◌++◌, Option, Some, None, refl, sym, ◌∙◌, ap, subst, arith, append_assoc, append-nil}
-use Rattle.std.specs.Prelude.{◌+◌, ◌-◌, ◌==◌, ◌&&◌, nat_le, nat_lt, not, if◌then◌else◌}
+use Rattle.std.specs.Prelude.{◌+◌, ◌-◌, ◌==◌, ◌&&◌, is_some, nat_le, nat_lt, not, if◌then◌else◌}
 use Rattle.std.specs.FinMap.{get}
 use Rattle.std.specs.List.{AllByRecursion}
 use Rattle.std.specs.Str.{bytes_eq}
 use Rattle.dkg_values.specs.Rising.{lookup}
+use Rattle.dkg_ceremony.specs.declared.signed_log.SignedDealerLog.{SignedDealerLog}
 use Rattle.dkg_ceremony.specs.Schedule.{epoch_of, midpoint}
 use Rattle.dkg_types.specs.Blocks.{Block}
 use Rattle.dkg_types.specs.declared.entry.Entry.{Entry as Line}
@@ -15,11 +16,13 @@ use Rattle.dkg_types.specs.declared.fault.Fault.TheVariants.{HeightRange, Confli
 use Rattle.dkg_types.specs.declared.info.EpochInfo.{EpochInfo}
 use Rattle.dkg_secrets.specs.declared.secrets.SecretOp.TheVariants.{PutShare, PutSeed}
 use Rattle.dkg_store.specs.Acts.{World, Held, Changes, Cause, Ended, went, stopped, broken, says, does}
+use Rattle.dkg_store.specs.Events.{IsEvent}
 use Rattle.dkg_store.specs.Pairs.{Pairs}
+use Rattle.dkg_store.specs.declared.event.Event.TheVariants as events
 use Rattle.dkg_store.proofs.Acts.{along_runs}
 use Rattle.dkg_core.specs.Courses.{Course, Say, Do, Call, Ask, Goes, Stops, Throughout, EndsSo, on_devices}
 use Rattle.dkg_core.specs.Fixed.{Fixed}
-use Rattle.dkg_core.specs.Live.{Live, NodeStop, Faulted, Stage, Deals, Includes, Follows, Ends, Finalized, Delivers, with_tip}
+use Rattle.dkg_core.specs.Live.{Live, NodeStop, Faulted, Stage, Deals, Includes, Follows, Ends, Finalized, Delivers, recorded_at, with_tip}
 use Rattle.dkg_core.specs.Sources.{Tip}
 use Rattle.dkg_core.specs.Setup as s
 use Rattle.dkg_core.specs.Dealing as d
@@ -30,12 +33,13 @@ use Rattle.dkg_core.specs.Node.{node_step}
 use Rattle.dkg_core.specs.Behind.{EndsBehind, IsAside, RunsBehind}
 use Rattle.dkg_core.specs.Agreeing.{AreAgreed, CanRecord}
 use Rattle.dkg_core.specs.Heard.{recovered_in}
-use Rattle.dkg_core.specs.Forms.{Applied, IsForm, IsLiveIn, IsTakenIn, judged_block}
+use Rattle.dkg_core.specs.Forms.{Applied, judged_block}
+use Rattle.dkg_core.specs.Logs.{log_event}
 use Rattle.dkg_core.specs.Transcripts.{IfWentTo}
 use Rattle.dkg_core.proofs.Behind.{steps_run_behind}
-use Rattle.dkg_core.proofs.Stepping.{not_included}
+use Rattle.dkg_core.proofs.Upkeep.{along_if}
 use Rattle.dkg_core.proofs.Walking as walk
-use Rattle.dkg_run.proofs.NoOthers.{AtEnd, GivesNoOther, IsNoOther, IsOwnDealt, IsToldSince, TellsAll, commits, deals, deals_end, end_if, end_is, end_next, prunes, tells_line}
+use Rattle.dkg_run.proofs.NoOthers.{AtEnd, GivesNoOther, IsNoOther, IsOwnDealt, IsToldSince, TellsAll, commits, deals, deals_end, end_if, end_is, end_next, prunes, silent_done, silent_torn, tells_line}
 
 -- what holds throughout holds at the end
 along_to_end : {Dir F S : Type 0} (G : World → Type 0) (course : Course Dir F S) (w : World) → Throughout G course w → AtEnd G course w
@@ -56,8 +60,18 @@ went_broken end cause e = cc
 abbrev pub AreTold : (m0 : Pairs) (base : List Line) → World → Type 0
 AreTold m0 base w = (key : ℕ × ℕ) (pair : List ℕ × ℕ) → get (recovered_in w.held) key ≡ Some pair → (get m0 key ≡ Some pair) ⊎ IsToldSince base w key pair
 
-module _ {Dir : Type 0} (c : Fixed Dir) (form : IsForm c) (st : Live Dir) (live : IsLiveIn c st) (block : Block Dir) (taken : IsTakenIn c (Finalized block) st) (w : World) (agreed : AreAgreed st.records w.held)
-    (can : CanRecord c st (Finalized block)) where
+-- a log that is recorded is silent of dealings
+pub records_log : {Dir : Type 0} (m0 : Pairs) (own : ℕ × ℕ → List ℕ × ℕ → Type 0) (height : ℕ) (log : SignedDealerLog) (st : Live Dir) (w : World) → IsEvent (events.LogAt log.dealer height log.log)
+    → IsNoOther m0 own w → (epoch : ℕ) → Throughout {Dir = Dir} (IsNoOther m0 own) (b.records_log epoch height log st) w
+records_log m0 own height log st w is q epoch =
+    along_if (IsNoOther m0 own) w (is_some (recorded_at st.records.logs epoch log.dealer)) (Goes st) (d.appends epoch (log_event log.dealer height log.log) (Goes (b.with_log epoch log.dealer height log.log st)))
+    (λ e. q)
+    (λ e. (
+      λ cause new tears. silent_torn m0 own epoch (log_event log.dealer height log.log) is refl w new cause tears q,
+      silent_done m0 own epoch (log_event log.dealer height log.log) is refl w q,
+    ))
+
+module _ {Dir : Type 0} (c : Fixed Dir) (st : Live Dir) (block : Block Dir) (w : World) (agreed : AreAgreed st.records w.held) (can : CanRecord c st (Finalized block)) where
   abbrev m0 : Pairs
   m0 = recovered_in w.held
 
@@ -86,7 +100,9 @@ module _ {Dir : Type 0} (c : Fixed Dir) (form : IsForm c) (st : Live Dir) (live 
 
     applies : judged_block c block st ≡ Applied → (stage : Stage) → st.participation.stage ≡ stage → Throughout P (b.applies_in c block st stage) w
     applies judged Deals is = walk.ends_dealing c P told reach commits_read prunes_low block low st w first (dealt judged is)
-    applies judged Includes is = absurd (not_included c form st live None block taken judged is)
+    applies judged Includes is = walk.including c P told reach commits_read prunes_low block low
+        (λ info share at x q. commits m0 own info (s.seed_for c info.epoch (lookup info.epoch (c.seen x.held).seeds)) share at x q) st w
+        (λ log its epoch. records_log m0 own block.height log st w (can.brings log its) first epoch) first
     applies judged Follows is = walk.follows_at c P told reach commits_read prunes_low block low st w first
     applies judged Ends is = first
 

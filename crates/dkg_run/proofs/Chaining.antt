@@ -18,9 +18,9 @@ use Rattle.dkg_text.specs.declared.script.BlockLine.{BlockLine}
 use Rattle.dkg_text.specs.declared.script.Event.{Event}
 use Rattle.dkg_text.specs.declared.script.Event.TheVariants as event
 use Rattle.dkg_text.specs.declared.script.Life.{Life}
-use Rattle.dkg_script.specs.Blocks.{Block, block_at, chain, chain_below}
+use Rattle.dkg_script.specs.Blocks.{Block, block_at, chain, chain_below, delivered_number}
 use Rattle.dkg_script.specs.Consistent.{IsConsistentScript}
-use Rattle.dkg_script.specs.Epochs.{IsEventIn, IsFormOfEpochs}
+use Rattle.dkg_script.specs.Inclusion.{IsEventIn, IsFormOfInclusion}
 use Rattle.dkg_script.specs.Position.{awaited_height}
 use Rattle.dkg_script.specs.Setting.{CutAt, Setting, found, life_at}
 use Rattle.dkg_core.specs.Live.{Finalized}
@@ -29,7 +29,7 @@ use Rattle.dkg_core.specs.Endings.{tip_behind}
 use Rattle.dkg_run.specs.Blamed.{is_beyond, is_first_taken, refusal_by, refusal_in, refusal_over, tip_in, tip_over}
 use Rattle.dkg_run.specs.Epochs.{IsAnchorAbove}
 use Rattle.dkg_run.specs.Given.{AreBytes, anchor_at, anchor_in, blocks_in}
-use Rattle.dkg_run.proofs.Awaiting.{IsReached, awaited, block_awaits, comes_to, message_behind, one_more}
+use Rattle.dkg_run.proofs.Awaiting.{IsReached, awaited, block_awaits, comes_to, event_behind, one_more}
 use Rattle.dkg_run.proofs.BlocksMade.{IsOf, each_is}
 use Rattle.dkg_run.proofs.Former.{height_at}
 use Rattle.dkg_run.proofs.Living.{holds_at}
@@ -154,7 +154,7 @@ module _ (s : Setting) (ends : List (Option CutAt)) (consistent : IsConsistentSc
   below_made : (b : Block) (its : made.Block directory.Unit) → IsOf b its → IsOnChain s (record { height = b.height - 1; digest = b.parent }) → IsOnChain s (record { height = its.height - 1; digest = its.parent })
   below_made b its same on = subst (λ (h : ℕ). IsOnChain s (record { height = h - 1; digest = its.parent })) (sym same.height) (subst (λ (d : List ℕ). IsOnChain s (record { height = b.height - 1; digest = d })) (sym same.parent) on)
 
-  module _ (form : IsFormOfEpochs s.script) (bytes : AreBytes s.script.blocks) (l : ℕ) (life : Life) (life_is : life_at s l ≡ Some life) (anchored : IfSome life.anchor (IsAnchorAbove s.script.blocks)) where
+  module _ (form : IsFormOfInclusion s.script) (bytes : AreBytes s.script.blocks) (l : ℕ) (life : Life) (life_is : life_at s l ≡ Some life) (anchored : IfSome life.anchor (IsAnchorAbove s.script.blocks)) where
     -- a block as the node holds it is one of the script's
     pub record HasBlock (number : ℕ) (its : made.Block directory.Unit) : Type 0 where
       pub b : Block
@@ -237,11 +237,15 @@ module _ (s : Setting) (ends : List (Option CutAt)) (consistent : IsConsistentSc
       tip_next i e is = ap (λ (es : List Event). fold (tip_over (blocks_in s.script)) (position (anchor_in (blocks_in s.script) life.anchor)) es) (one_more life.events i e is)
           ∙ fold-append (tip_over (blocks_in s.script)) (position (anchor_in (blocks_in s.script) life.anchor)) (take i life.events) (e ∷ [])
 
-      by_event : (i : ℕ) (e : Event) → slice_get life.events i ≡ Some e → IsReached life.cut (suc i) → IsEventIn s.script.blocks e → Tips i → Tips (suc i)
-      by_event i (event.Peer from bytes) is reached of_form tips = record {
-        chained = subst Chained (sym (tip_next i (event.Peer from bytes) is)) tips.chained;
-        height = ap awaited (tip_next i (event.Peer from bytes) is) ∙ tips.height ∙ sym (message_behind s l life i from bytes is reached);
+      -- behind an event that delivers nothing
+      still : (i : ℕ) (e : Event) → slice_get life.events i ≡ Some e → IsReached life.cut (suc i) → tip_over (blocks_in s.script) (tip_in s.script life i) e ≡ tip_in s.script life i
+          → delivered_number e ≡ None → Tips i → Tips (suc i)
+      still i e is reached same none tips = record {
+        chained = subst Chained (sym (tip_next i e is ∙ same)) tips.chained;
+        height = ap awaited (tip_next i e is ∙ same) ∙ tips.height ∙ sym (event_behind s l life i e is reached none);
       }
+
+      by_event : (i : ℕ) (e : Event) → slice_get life.events i ≡ Some e → IsReached life.cut (suc i) → IsEventIn s.script.blocks e → Tips i → Tips (suc i)
       by_event i (event.Final number) is reached of_form tips = by_block (slice_get (blocks_in s.script) number) refl
         where
           by_block : (o : Option (made.Block directory.Unit)) → slice_get (blocks_in s.script) number ≡ o → Tips (suc i)
@@ -258,6 +262,14 @@ module _ (s : Setting) (ends : List (Option CutAt)) (consistent : IsConsistentSc
                 chained = subst Chained (sym at) (tip_is (tip_in s.script life i) its (has.0).b Chained (has.0).same tips.chained (chained_at (has.0).b has.1));
                 height = ap awaited at ∙ block_awaits s l life i number its (tip_in s.script life i) (record { b = (has.0).b; there = (has.0).there; same = ((has.0).same).height }) is reached tips.height;
               }
+      by_event i (event.Peer from bytes) is reached of_form tips = still i (event.Peer from bytes) is reached refl refl tips
+      by_event i (event.Next request height) is reached of_form tips = still i (event.Next request height) is reached refl refl tips
+      by_event i (event.Release height) is reached of_form tips = still i (event.Release height) is reached refl refl tips
+      by_event i (event.Info request) is reached of_form tips = still i (event.Info request) is reached refl refl tips
+      by_event i (event.Feed request number) is reached of_form tips = still i (event.Feed request number) is reached refl refl tips
+      by_event i (event.Over request) is reached of_form tips = still i (event.Over request) is reached refl refl tips
+      by_event i (event.Cancel request) is reached of_form tips = still i (event.Cancel request) is reached refl refl tips
+      by_event i event.Work is reached of_form tips = still i event.Work is reached refl refl tips
       by_event i other is reached of_form tips = absurd of_form
 
       pub tips_so : (events_in : AllByRecursion (IsEventIn s.script.blocks) life.events) (j : ℕ) → IsReached life.cut j → ((i : ℕ) → i < j → (e : Event) × (slice_get life.events i ≡ Some e)) → Tips j

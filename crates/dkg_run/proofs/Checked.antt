@@ -16,7 +16,8 @@ use Rattle.dkg_text.specs.declared.script.Anchor.TheVariants.{Absent, Processed}
 use Rattle.dkg_text.specs.declared.script.BlockLine.{BlockLine}
 use Rattle.dkg_text.specs.declared.script.Life.{Life}
 use Rattle.dkg_text.specs.declared.script.Script.{Script}
-use Rattle.dkg_script.specs.Epochs.{IsAnchorIn, IsFormOfEpochs}
+use Rattle.dkg_script.specs.Epochs.{IsAnchorIn}
+use Rattle.dkg_script.specs.Inclusion.{IsFormOfInclusion}
 use Rattle.dkg_store.specs.Acts.{Held}
 use Rattle.dkg_core.specs.Seen.{Seen}
 use Rattle.dkg_reshare.specs.Configured.{config_fault}
@@ -53,7 +54,7 @@ anchor_above blocks (Some (Absent number)) is = by_line (slice_get blocks number
     by_line None is = absurd is
     by_line (Some line) is = is
 
-pub life_in_form : (script : Script) (number : ℕ) (life : Life) (seen : Held → Seen) (files : Files) → IsFormOfEpochs script → IsChecked script → slice_get script.lives number ≡ Some life → IsUnplanned seen
+pub life_in_form : (script : Script) (number : ℕ) (life : Life) (seen : Held → Seen) (files : Files) → IsFormOfInclusion script → IsChecked script → slice_get script.lives number ≡ Some life → IsUnplanned seen
     → IsLifeInForm (lived script number life seen files)
 life_in_form script number life seen files form checked life_is none = record {
   form = form;

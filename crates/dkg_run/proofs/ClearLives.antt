@@ -14,6 +14,7 @@ use Rattle.dkg_secrets.specs.declared.secrets.SecretOp.TheVariants.{PutSeed}
 use Rattle.dkg_types.specs.BlockCodes.{info_of}
 use Rattle.dkg_types.specs.Blocks.{Block}
 use Rattle.dkg_types.specs.declared.directory.Unit as directory
+use Rattle.dkg_ceremony.specs.declared.output.Output.{Output}
 use Rattle.dkg_types.specs.declared.fault.Fault.{Fault}
 use Rattle.dkg_types.specs.declared.fault.Fault.TheVariants.{LocalState}
 use Rattle.dkg_types.specs.declared.fault.LocalCause.TheVariants.{OwnDealing, ShareRefused, StoredDealing}
@@ -22,7 +23,7 @@ use Rattle.dkg_text.specs.declared.script.Event.{Event}
 use Rattle.dkg_text.specs.declared.script.Event.TheVariants as event
 use Rattle.dkg_text.specs.declared.script.Life.{Life}
 use Rattle.dkg_script.specs.Blocks.{round_at}
-use Rattle.dkg_script.specs.Epochs.{IsFormOfEpochs}
+use Rattle.dkg_script.specs.Inclusion.{IsFormOfInclusion}
 use Rattle.dkg_script.specs.Setting.{CutAt, Setting, found, life_at, me}
 use Rattle.dkg_store.specs.Acts.{Changes, Ended, Held, World, after, broken, notes, stopped, went}
 use Rattle.dkg_store.specs.Pairs.{IsWhole, Pairs, recovered}
@@ -48,7 +49,7 @@ use Rattle.dkg_run.specs.Epochs.{IsLifeInForm}
 use Rattle.dkg_run.specs.Given.{AreBytes, Lived, at_step, blocks_in, lived, step_of}
 use Rattle.dkg_run.specs.GivesBack.{PassesAll}
 use Rattle.dkg_run.specs.Lives.{LivesSo}
-use Rattle.dkg_script.specs.Valid.{ComesInTurn, IsValidCase}
+use Rattle.dkg_script.specs.Valid.{ComesInTurn, ProvidesNext, IsValidCase}
 use Rattle.dkg_run.specs.Ways.{by_worlds}
 use Rattle.dkg_run.proofs.Awaiting.{IsReached}
 use Rattle.dkg_run.proofs.Blaming.{Stood, at_there, opened_stood, step_next, step_why}
@@ -57,11 +58,12 @@ use Rattle.dkg_run.proofs.Former.{Brings, IsMessage, event_in_form, form_at, lac
 use Rattle.dkg_run.proofs.GivingDealings.{FitsRecords}
 use Rattle.dkg_run.proofs.GivingLives.{LeavesSo}
 use Rattle.dkg_run.proofs.LivesClear.{EndsOutside, IsClear, KeepsClear, LeavesClear, life_clear}
-use Rattle.dkg_run.proofs.OwnBacked.{AreBacked}
+use Rattle.dkg_run.proofs.OwnBacked.{AreBacked, has_previous}
 use Rattle.dkg_run.proofs.OwnClear.{own_same}
 use Rattle.dkg_run.proofs.OwnRuns as owning
 use Rattle.dkg_run.proofs.OwnRuns.{IsOwning, ValidHeld}
 use Rattle.dkg_run.proofs.OwnValid.{AreValidAt, IsStateFault, next_valid, opening_valid}
+use Rattle.dkg_run.proofs.Sharing.{fits_dealt, one_share}
 use Rattle.dkg_run.proofs.SharesFit.{same_shares, share_put}
 use Rattle.dkg_run.proofs.SharesKnown.{IsMineAt, SharesFit, last_serves, opening_fits, reads_shares, step_fits, there_below}
 use Rattle.dkg_run.proofs.StoredDealers.{IsStoredDealer}
@@ -117,7 +119,7 @@ module _ (c : Fixed directory.Unit) (info : EpochInfo directory.Unit) (h : Held)
       by_share None such = seeded h fits
       by_share (Some share) such = seeded (with_share info.epoch (Some share) h) (share_put (IsMineAt s) h (with_share info.epoch (Some share) h) info.epoch share such refl fits)
 
-module _ (s : Setting) (ends : List (Option CutAt)) (valid : IsValidCase s ends) (form : IsFormOfEpochs s.script) (bytes : AreBytes s.script.blocks) (unfound : (l : ℕ) → found s l ≡ None) where
+module _ (s : Setting) (ends : List (Option CutAt)) (valid : IsValidCase s ends) (form : IsFormOfInclusion s.script) (bytes : AreBytes s.script.blocks) (unfound : (l : ℕ) → found s l ≡ None) where
   -- whole devices give back dealings that pass, own ones that the secrets deal, and hold shares that fit
   pub record HoldsAll (h : Held) : Type 0 where
     pub given : ValidHeld s ends form valid.consistent h
@@ -141,10 +143,13 @@ module _ (s : Setting) (ends : List (Option CutAt)) (valid : IsValidCase s ends)
     in_turn : ComesInTurn s l life
     in_turn = subst (λ (o : Option Life). IfSome o (ComesInTurn s l)) life_is (valid.in_turn l begun)
 
+    provides : ProvidesNext s l life
+    provides = subst (λ (o : Option Life). IfSome o (ProvidesNext s l)) life_is (valid.provided l begun)
+
     -- no step that is reached has a cause in the script
     cause_clear : (step : ℕ) → IsReached life.cut step → ((i : ℕ) → i < step → (e : Event) × (slice_get life.events i ≡ Some e)) → (its : Fault) → IsCause s.script l life step its → ⊥
     cause_clear step reached all its why =
-        valid_clear s ends valid form bytes here.long l life life_is here.anchor (life_in g here).no_sync (unfound l) (life_in g here).events in_turn step reached all its why
+        valid_clear s ends valid form bytes here.long l life life_is here.anchor (life_in g here).no_sync (unfound l) (life_in g here).events in_turn provides step reached all its why
 
     -- A STATE behind the first j events
     pub record IsClearAt (j : ℕ) (st : Live directory.Unit) (h : Held) : Type 0 where
@@ -288,20 +293,27 @@ module _ (s : Setting) (ends : List (Option CutAt)) (valid : IsValidCase s ends)
             number_is : epoch ≡ (stored.round).number
             number_is = differs.number ∙ ap (λ (r : Round). r.number) (some_is (sym differs.of_epoch ∙ stored.of_epoch))
 
-            backed : (seed : List ℕ) × (privates : List (ℕ × ℕ)) × (get w.held.secrets.seeds epoch ≡ Some seed) × (deal_of stored.round (me s) (get w.held.secrets.shares epoch) seed ≡ Ok (kept, privates))
-            backed = (clear.owns).own (epoch, me s) (kept, found_own.0) refl found_own.1 stored.round (ap (round_at s) number_is ∙ ((clear.owns).passing).rounds stored.round stored.of_epoch)
+            made : round_at s epoch ≡ Some stored.round
+            made = ap (round_at s) number_is ∙ ((clear.owns).passing).rounds stored.round stored.of_epoch
+
+            backed : (seed : List ℕ) × (share : ℕ) × (privates : List (ℕ × ℕ)) × (get w.held.secrets.seeds epoch ≡ Some seed) × (deal_of stored.round (me s) (Some share) seed ≡ Ok (kept, privates))
+            backed = (clear.owns).own (epoch, me s) (kept, found_own.0) refl found_own.1 stored.round made
+
+            previous : (o : Output) × ((stored.round).previous ≡ Some o)
+            previous = has_previous s form epoch stored.round made
 
             seed_is : stored.seed ≡ backed.0
-            seed_is = some_is (sym stored.seed_is ∙ sym (ap (get w.held.secrets.seeds) number_is) ∙ backed.2)
+            seed_is = some_is (sym stored.seed_is ∙ sym (ap (get w.held.secrets.seeds) number_is) ∙ backed.3)
 
-            share_is : Some stored.share ≡ get w.held.secrets.shares epoch
-            share_is = sym stored.share_is ∙ sym (ap (get w.held.secrets.shares) number_is)
+            -- there is one share that is dealt with
+            share_is : stored.share ≡ backed.1
+            share_is = one_share stored.round (me s) stored.share backed.1 stored.fits (fits_dealt stored.round (me s) backed.1 backed.0 (kept, backed.2) previous.0 previous.1 backed.4)
 
-            again : deal_of stored.round (me s) (Some stored.share) stored.seed ≡ Ok (kept, backed.1)
-            again = ap (deal_of stored.round (me s) (Some stored.share)) seed_is ∙ ap (λ (o : Option ℕ). deal_of stored.round (me s) o backed.0) share_is ∙ backed.3
+            again : deal_of stored.round (me s) (Some stored.share) stored.seed ≡ Ok (kept, backed.2)
+            again = ap (deal_of stored.round (me s) (Some stored.share)) seed_is ∙ ap (λ (share : ℕ). deal_of stored.round (me s) (Some share) backed.0) share_is ∙ backed.4
 
             same : kept ≡ (differs.dealer).public
-            same = own_same stored.round (me s) (Some stored.share) stored.seed kept (differs.dealer).public backed.1 (differs.dealer).privates again stored.dealt
+            same = own_same stored.round (me s) (Some stored.share) stored.seed kept (differs.dealer).public backed.2 (differs.dealer).privates again stored.dealt
 
         dealing_never : (epoch : ℕ) (kept dealt : List ℕ) → refusal_in s.script l life i block ≡ None → Stops (LocalState (OwnDealing epoch kept dealt)) → ⊥
         dealing_never epoch kept dealt accepted stop = by_judged (judged_block c block st) refl stop

@@ -10,9 +10,7 @@ use Rattle.dkg_types.specs.declared.entry.Entry.{Entry}
 use Rattle.dkg_types.specs.declared.entry.Entry.TheVariants as entry
 use Rattle.dkg_types.specs.declared.entry.Restored.{Restored}
 use Rattle.dkg_text.specs.declared.script.Life.{Life}
-use Rattle.dkg_script.specs.Due.{IsDue, WroteAck}
 use Rattle.dkg_script.specs.Kept.{AllCurrent, Gives, IsBroughtAtCut, IsRecordedAs, IsSound, IsSoundOpening, IsLaterOpening}
-use Rattle.dkg_script.specs.OwnMarks.{AreKnownHandedIn}
 use Rattle.dkg_script.specs.Position.{awaited_before, awaited_epoch, begun, begun_before, cut_of, events_taken, last_awaited}
 use Rattle.dkg_script.specs.Progress.{Progress, read, is_last_step, pair_of, with_life_ended, with_pair, IsBrought}
 use Rattle.dkg_script.specs.Setting.{Setting, CutAt, is_oneshot, life_at, listed, recovered_from}
@@ -23,13 +21,14 @@ use Rattle.dkg_run.proofs.Recorded.{all_with_all, all_with_pair, found_is, with_
 
 -- ENTRIES
 
--- Where a step ends, the acknowledgement that was due in it was written, if no log that was handed in bears one that this node never gave.
-abbrev pub IsAnsweredStep : Setting → Progress → Entry → Type 0
-IsAnsweredStep s p (entry.Step step) = AreKnownHandedIn s → IsDue s p → WroteAck p.written
-IsAnsweredStep s p _ = Unit {0}
+-- an entry of an opening or of a step: it ends neither a step nor a life
+abbrev pub IsWithin : Entry → Type 0
+IsWithin (entry.Step step) = ⊥
+IsWithin (entry.Cut step call) = ⊥
+IsWithin _ = Unit {0}
 
 abbrev pub IsKeptEntry : Setting → Progress → Entry → Type 0
-IsKeptEntry s p one = IsSound s p one × IsAnsweredStep s p one
+IsKeptEntry s p one = IsSound s p one × IsWithin one
 
 -- WHAT IS CURRENT
 
@@ -84,19 +83,18 @@ pub record MayBeKept (b : ℕ) (s : Setting) (p : Progress) (pairs : Pairs) : Ty
       → (pair_of p.recorded pair.epoch pair.dealer ≡ Some pair) ⊎ ((pair_of p.recorded pair.epoch pair.dealer ≡ None) × IsBroughtAtCut s p pair)
   pub first : p.opened ≡ None → pairs ≡ recovered_from s.files s.secrets
 
--- Each dealing that the devices handed in gave back is recorded.
-pub record HandsOn (s : Setting) (p : Progress) : Type 0 where
-  pub dealings : (pair : Restored) → Gives (recovered_from s.files s.secrets) pair → pair_of p.recorded pair.epoch pair.dealer ≡ Some pair
+-- what is recorded stays so
+abbrev pub IsGrown : List Restored → List Restored → Type 0
+IsGrown before now = (pair : Restored) → pair_of before pair.epoch pair.dealer ≡ Some pair → pair_of now pair.epoch pair.dealer ≡ Some pair
 
 -- between two lives
 pub record RestsIn (h : Held) (s : Setting) (p : Progress) : Type 0 where
   pub whole : IsWhole (notes h) h.secrets
   pub may : MayBeKept (begun_before s p.cuts (length p.cuts)) s p (recovered_in h)
-  pub handed : HandsOn s p
 
 -- NO ENTRY TAKES A RECORDED DEALING AWAY
 
-pub grown : (s : Setting) (p : Progress) (one : Entry) (pair : Restored) → pair_of p.recorded pair.epoch pair.dealer ≡ Some pair → pair_of (read s p one).recorded pair.epoch pair.dealer ≡ Some pair
+pub grown : (s : Setting) (p : Progress) (one : Entry) → IsGrown p.recorded (read s p one).recorded
 grown s p (entry.Opened life restored) pair there = with_all_finds restored p.recorded pair.epoch pair.dealer ∙ (rw there refl)
 grown s p (entry.Recorded epoch dealer public private) pair there =
     with_pair_finds p.recorded (record { epoch = epoch; dealer = dealer; public = public; private = private }) pair.epoch pair.dealer ∙ (rw there refl)
@@ -107,8 +105,7 @@ grown s p (entry.Step step) pair there = by_last (is_last_step s p)
     by_last false = there
 grown s p _ pair there = there
 
-pub grown_all : (s : Setting) (entries : List Entry) (p : Progress) (pair : Restored) → pair_of p.recorded pair.epoch pair.dealer ≡ Some pair
-    → pair_of (fold (read s) p entries).recorded pair.epoch pair.dealer ≡ Some pair
+pub grown_all : (s : Setting) (entries : List Entry) (p : Progress) → IsGrown p.recorded (fold (read s) p entries).recorded
 grown_all s [] p pair there = there
 grown_all s (one ∷ entries) p pair there = grown_all s entries (read s p one) pair (grown s p one pair there)
 

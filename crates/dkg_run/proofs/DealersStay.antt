@@ -1,4 +1,4 @@
--- What a dealer deals stays the same over a step that takes no epoch over: acknowledgements come in, and its log is signed.
+-- What a dealer deals stays the same over a step that passes no epoch on: acknowledgements come in, its log is signed, and offered no more once it is observed.
 use Rattle.std.proofs.Common.{◌≡◌, inl, inr, Bool, true, false, ℕ, List, Option, Some, None, Result, Ok, Err, refl, sym, ◌∙◌, ap, subst}
 use Rattle.std.specs.Prelude.{◌+◌, ◌==◌, if◌then◌else◌, is_some, option_and_then, option_map}
 use Rattle.std.specs.Option.{option_map_or}
@@ -6,14 +6,22 @@ use Rattle.dkg_values.specs.Rising.{lookup}
 use Rattle.dkg_ceremony.specs.declared.ceremony.AckError.{AckError}
 use Rattle.dkg_ceremony.specs.declared.round.RoundParts.{RoundParts as Round}
 use Rattle.dkg_ceremony.specs.Schedule.{midpoint}
+use Rattle.dkg_ceremony.specs.declared.signed_log.SignedDealerLog.{SignedDealerLog}
+use Rattle.dkg_types.specs.PayloadCodes.{its_log}
 use Rattle.dkg_types.specs.Blocks.{Block}
 use Rattle.dkg_store.specs.Acts.{Held}
 use Rattle.dkg_core.specs.Dealing.{counts, with_ack}
 use Rattle.dkg_core.specs.Fixed.{Fixed}
 use Rattle.dkg_core.specs.Forms.{Judged, Refusal, Passed, Applied, judged_block}
-use Rattle.dkg_core.specs.Live.{Live, Dealer, Seat, Plays, Watches, Stage, Deals, Includes, Follows, Ends, Message, Sent, Peer, Finalized, NextLog, ReleaseLog, EpochInfoOf, Feed, Over, Cancel, Work, is_last_height, recorded_at, with_tip}
+use Rattle.dkg_core.specs.Live.{Live, Dealer, Seat, Plays, Watches, Stage, Deals, Includes, Follows, Ends, Mail, Message, Sent, Peer, Finalized, NextLog, ReleaseLog, EpochInfoOf, Feed, Over, Cancel, Work, is_last_height, recorded_at, with_participation, with_tip}
 use Rattle.dkg_core.specs.Setup.{begins_inclusion, signed}
-use Rattle.dkg_core.specs.Stepping.{IsAppliedEnd, IsBlockEnd, IsFollowedEnd, IsHeardBy, IsNextIn, TakesNothingOver, dealt_behind, given_in, given_itself, own_given, own_half, with_own_ack, with_own_dealing, with_taken}
+use Rattle.dkg_core.specs.Asked.{OfShares}
+use Rattle.dkg_core.specs.Blocks.{unoffered, with_log, without_own_log}
+use Rattle.dkg_core.specs.Logs.{is_accepted}
+use Rattle.dkg_core.specs.Through.{IsAppliedThrough, IsBlockThrough, IsFollowedThrough, IsIncludedThrough, IsNextThrough, IsReadFrom, PassesNothingOn, asked_by, observed, observed_log}
+use Rattle.dkg_core.specs.Through.{included as included_over}
+use Rattle.dkg_core.proofs.Mailing.{asked_beside}
+use Rattle.dkg_core.specs.Stepping.{IsHeardBy, dealt_behind, given_in, given_itself, own_given, own_half, with_own_ack, with_own_dealing, with_taken}
 
 some_is : {A : Type 0} {x y : A} → ◌≡◌ {A = Option A} (Some x) (Some y) → x ≡ y
 some_is e = cc
@@ -124,32 +132,78 @@ module _ {Dir : Type 0} where
         by_test true = both st (with_tip b st) (begins_inclusion c (with_tip b st)) (same st (with_tip b st) refl) (included (with_tip b st))
         by_test false = same st (with_tip b st) refl
 
-    -- A BLOCK that takes nothing over
+    -- A LOG that is looked at: the own one is offered no more
 
-    module _ (b : Block Dir) (st end : Live Dir) (h k : Held) where
-      followed : (last : Bool) → (last ≡ true → ⊥) → IsFollowedEnd c b st h k last end → StaysDealt st end
+    offered_no_more : (st end : Live Dir) → end.participation.dealer ≡ option_map unoffered st.participation.dealer → StaysDealt st end
+    offered_no_more st end is d there = by_dealer st.participation.dealer refl (sym is ∙ there)
+      where
+        by_dealer : (o : Option Dealer) → st.participation.dealer ≡ o → option_map unoffered o ≡ Some d → WasDealer st d
+        by_dealer None none there = absurd (none_some there)
+        by_dealer (Some its) is there = with_halves st its (unoffered its) d is refl refl there
+
+    no_more : (dealer : ℕ) (st : Live Dir) → StaysDealt st (without_own_log c dealer st)
+    no_more dealer st = by_test (dealer == c.me)
+      where
+        by_test : (own : Bool) → StaysDealt st (if own then with_participation (record st.participation { dealer = option_map unoffered st.participation.dealer }) st else st)
+        by_test true = offered_no_more st (with_participation (record st.participation { dealer = option_map unoffered st.participation.dealer }) st) refl
+        by_test false = same st st refl
+
+    looked_at : (round : Round) (b : Block Dir) (st : Live Dir) → StaysDealt st (observed c round b st)
+    looked_at round b st = by_log (option_and_then its_log b.payload)
+      where
+        by_log : (o : Option SignedDealerLog) → StaysDealt st (observed_log c round b st o)
+        by_log None = same st st refl
+        by_log (Some log) = by_tests (is_accepted c round log) (is_some (recorded_at st.records.logs round.number log.dealer))
+          where
+            with_it : Live Dir
+            with_it = with_log round.number log.dealer b.height log.log st
+
+            by_tests : (accepted kept : Bool) → StaysDealt st (if accepted then without_own_log c log.dealer (if kept then st else with_log round.number log.dealer b.height log.log st) else st)
+            by_tests false kept = same st st refl
+            by_tests true true = no_more log.dealer st
+            by_tests true false = both st with_it (without_own_log c log.dealer with_it) (same st with_it refl) (no_more log.dealer with_it)
+
+    -- A BLOCK by which no epoch is passed on
+
+    read_on : (st mid end : Live Dir) → StaysDealt st mid → IsReadFrom c mid end → StaysDealt st end
+    read_on st mid end stays read = both st mid end stays (same mid end (ap (λ (x : Live Dir). x.participation.dealer) read.same))
+
+    module _ (stored : OfShares) (b : Block Dir) (st : Live Dir) (devices : Option Held) (end : Live Dir) (left : Option Held) where
+      followed : (last : Bool) → (last ≡ true → ⊥) → IsFollowedThrough c stored b st devices last end left → StaysDealt st end
       followed true apart is = absurd (apart refl)
       followed false apart is = same st end (ap (λ (x : Live Dir). x.participation.dealer) is)
 
-      applied : (stage : Stage) → (stage ≡ Follows → is_last_height c b.height ≡ true → ⊥) → IsAppliedEnd c b st h k stage end → StaysDealt st end
-      applied Deals apart is = subst (λ (x : Live Dir). StaysDealt st x) (sym is) (both st (given_itself c st) (dealt_behind c b (given_itself c st)) (itself st) (dealt b (given_itself c st)))
-      applied Follows apart is = followed (is_last_height c b.height) (apart refl) is
-      applied Includes apart is = absurd is
+      including : (last : Bool) → (last ≡ true → ⊥) → IsIncludedThrough c stored b st devices last end left → StaysDealt st end
+      including true apart is = absurd (apart refl)
+      including false apart is =
+          read_on st (included_over c is.0 b st) end
+          (both st (observed c is.0 b st) (included_over c is.0 b st) (looked_at is.0 b st) (same (observed c is.0 b st) (included_over c is.0 b st) refl)) is.2
+
+      applied : (stage : Stage) → (is_last_height c b.height ≡ true → ⊥) → IsAppliedThrough c stored b st devices stage end left → StaysDealt st end
+      applied Deals apart is =
+          read_on st (dealt_behind c b (given_itself c st)) end (both st (given_itself c st) (dealt_behind c b (given_itself c st)) (itself st) (dealt b (given_itself c st))) is
+      applied Follows apart is = followed (is_last_height c b.height) apart is
+      applied Includes apart is = including (is_last_height c b.height) apart is
       applied Ends apart is = absurd is
 
-      block : (j : Judged) → (j ≡ Applied → st.participation.stage ≡ Follows → is_last_height c b.height ≡ true → ⊥) → IsBlockEnd c b st h k j end → StaysDealt st end
+      block : (j : Judged) → (j ≡ Applied → is_last_height c b.height ≡ true → ⊥) → IsBlockThrough c stored b st devices j end left → StaysDealt st end
       block (Refusal fault) apart is = absurd is
-      block Passed apart is = same st end (ap (λ (x : Live Dir). x.participation.dealer) is)
+      block Passed apart is = same st end (ap (λ (x : Live Dir). x.participation.dealer) is.0)
       block Applied apart is = applied st.participation.stage (apart refl) is
 
-    -- ANY STEP that takes nothing over
-    pub next_dealt : (st : Live Dir) (message : Message Dir) (h k : Held) (end : Live Dir) → TakesNothingOver c st message → IsNextIn c st message h k end → StaysDealt st end
-    next_dealt st (Finalized b) h k end nothing next = block b st end h k (judged_block c b st) nothing next.is
-    next_dealt st (Sent (Peer from bytes)) h k end nothing next = heard c from st end next.is
-    next_dealt st (Sent (NextLog request height)) h k end nothing next = absurd next.is
-    next_dealt st (Sent (ReleaseLog height)) h k end nothing next = absurd next.is
-    next_dealt st (Sent (EpochInfoOf request)) h k end nothing next = absurd next.is
-    next_dealt st (Sent (Feed request block)) h k end nothing next = absurd next.is
-    next_dealt st (Sent (Over request)) h k end nothing next = absurd next.is
-    next_dealt st (Sent (Cancel request)) h k end nothing next = absurd next.is
-    next_dealt st (Sent (Work result)) h k end nothing next = absurd next.is
+    -- MAIL but a peer's leaves it
+    mailed : (its : Mail Dir) (st end : Live Dir) → IsReadFrom c (asked_by its st) end → StaysDealt st end
+    mailed its st end read = read_on st (asked_by its st) end (same st (asked_by its st) (ap (λ (x : Live Dir). x.participation.dealer) (asked_beside st its))) read
+
+    -- ANY STEP by which no epoch is passed on
+    pub next_dealt : (stored : OfShares) (st : Live Dir) (message : Message Dir) (devices : Option Held) (end : Live Dir) (left : Option Held) → PassesNothingOn c st message
+        → IsNextThrough c stored st message devices end left → StaysDealt st end
+    next_dealt stored st (Finalized b) devices end left nothing next = block stored b st devices end left (judged_block c b st) nothing next.is
+    next_dealt stored st (Sent (Peer from bytes)) devices end left nothing next = heard c from st end next.is
+    next_dealt stored st (Sent (NextLog request height)) devices end left nothing next = mailed (NextLog request height) st end next.is.0
+    next_dealt stored st (Sent (ReleaseLog height)) devices end left nothing next = mailed (ReleaseLog height) st end next.is.0
+    next_dealt stored st (Sent (EpochInfoOf request)) devices end left nothing next = mailed (EpochInfoOf request) st end next.is.0
+    next_dealt stored st (Sent (Feed request block)) devices end left nothing next = mailed (Feed request block) st end next.is.0
+    next_dealt stored st (Sent (Over request)) devices end left nothing next = mailed (Over request) st end next.is.0
+    next_dealt stored st (Sent (Cancel request)) devices end left nothing next = mailed (Cancel request) st end next.is.0
+    next_dealt stored st (Sent (Work result)) devices end left nothing next = mailed (Work result) st end next.is.0

@@ -8,7 +8,7 @@ use Rattle.dkg_types.specs.declared.fault.Fault.{Fault}
 use Rattle.dkg_text.specs.declared.script.Script.{Script}
 use Rattle.dkg_store.specs.Acts.{Stands, at, moment}
 use Rattle.dkg_script.specs.AsCut.{as_cut, setting_as_cut}
-use Rattle.dkg_script.specs.Epochs.{IsFormOfEpochs}
+use Rattle.dkg_script.specs.Inclusion.{IsFormOfInclusion}
 use Rattle.dkg_script.specs.Kept.{Kept}
 use Rattle.dkg_script.specs.Progress.{progress}
 use Rattle.dkg_script.specs.Promise.{InACase, IsComplete, IsHonestRun, RunsAll, cuts_in}
@@ -19,7 +19,7 @@ use Rattle.dkg_run.proofs.Keeping.{IsBuiltSetting, answered_of, built_as_cut, ke
 
 module _ (script : Script) (files : Files) (image : Files → Type 0) (secrets : Secrets) (now : Files → Type 0) (secrets_now : Secrets) (answered : Result (Unit {0}) Fault) (old new added : List Entry) (is : new ≡ old ++ added)
     (runs : Stands files image → (c : Files) → now c → RunsOver script answered files (at (moment old secrets never) files) (λ f. at (moment new secrets_now f) c)) (itself : image files) (left : Files) (is_left : now left)
-    (built : IsBuiltSetting (setting_of script files secrets)) (form : IsFormOfEpochs (as_cut (progress (setting_of script files secrets) added).cuts script)) where
+    (built : IsBuiltSetting (setting_of script files secrets)) (form : IsFormOfInclusion (as_cut (progress (setting_of script files secrets) added).cuts script)) where
   abbrev cut_script : Script
   cut_script = as_cut (progress (setting_of script files secrets) added).cuts script
 

@@ -18,25 +18,26 @@ use Rattle.dkg_types.specs.declared.payload.Payload.TheVariants as payload
 use Rattle.dkg_journal.specs.Names.{Files}
 use Rattle.dkg_text.specs.declared.script.Event.{Event}
 use Rattle.dkg_text.specs.declared.script.Event.TheVariants.{Final}
-use Rattle.dkg_text.specs.declared.script.Event.TheVariants as event
 use Rattle.dkg_text.specs.declared.script.Life.{Life}
 use Rattle.dkg_script.specs.Blocks.{Block, anchor_number, block_at, block_of, blocks, info_at_boundary, known_info, reshare_round, round_at, used}
 use Rattle.dkg_script.specs.Consistent.{IsConsistentScript}
-use Rattle.dkg_script.specs.Epochs.{IsFormOfEpochs}
+use Rattle.dkg_script.specs.Inclusion.{IsFormOfInclusion}
 use Rattle.dkg_script.specs.Readings.{Info, Limits, info_in, unit_payload, with_spelled}
 use Rattle.dkg_script.specs.Setting.{Setting, CutAt, blocks_per_epoch, life_at, limits}
 use Rattle.dkg_script.proofs.Bridges.{reads_info}
 use Rattle.dkg_script.proofs.LineBlocks.{of_line}
 use Rattle.dkg_store.specs.Acts.{Held}
-use Rattle.dkg_core.specs.Forms.{IsLiveIn, IsNodeBegun, IsSeated, IsSetUpIn, round_for, seed_read, share_read, started}
-use Rattle.dkg_core.specs.Live.{Finalized, Live, Message, Peer, Sent}
+use Rattle.dkg_core.specs.Forms.{IsForm, IsNodeBegun, IsSeated, IsSetUpIn, round_for, seed_read, share_read, started}
+use Rattle.dkg_core.specs.Live.{Finalized, Live, Message, Sent}
+use Rattle.dkg_core.specs.NodeThrough.{IsNodeThrough}
 use Rattle.dkg_core.specs.Seen.{Seen}
 use Rattle.dkg_core.specs.Setup.{Uncommitted}
-use Rattle.dkg_core.specs.Stepping.{IsNextIn}
+use Rattle.dkg_core.specs.Through.{IsLiveThrough}
 use Rattle.dkg_core.specs.Endings.{first_block, first_epoch}
+use Rattle.dkg_run.specs.Epochs.{any_shares}
 use Rattle.dkg_run.specs.Given.{Lived, at_step, blocks_in, limits_of, lived, numbered, payload_in}
 use Rattle.dkg_run.proofs.Awaiting.{IsReached, comes_to}
-use Rattle.dkg_run.proofs.Former.{Brings, IsMadeOf, IsMessage, is_ceremony, made_there}
+use Rattle.dkg_run.proofs.Former.{BringsBlock, BringsMail, IsMadeOf, IsMessage, brings_so, is_ceremony, made_there}
 use Rattle.dkg_run.proofs.NextLives.{GoesOn, TakesOver, next_so}
 use Rattle.dkg_run.proofs.Started.{source_is}
 use Rattle.dkg_run.proofs.Used.{all_back, all_front, all_sources, held as held_in, of_delivered}
@@ -78,7 +79,7 @@ found_number bs at Q b (number ∷ numbers) all is = by_block (slice_get bs numb
 abbrev pub HasRoundOf : Setting → Live directory.Unit → Type 0
 HasRoundOf s st = (round : Round) → st.participation.round ≡ Some round → round_at s round.number ≡ Some round
 
-module _ (s : Setting) (cuts : List (Option CutAt)) (form : IsFormOfEpochs s.script) (consistent : IsConsistentScript s cuts) where
+module _ (s : Setting) (cuts : List (Option CutAt)) (form : IsFormOfInclusion s.script) (consistent : IsConsistentScript s cuts) where
   abbrev pub Known : Info → Type 0
   Known info = known_info s info.epoch ≡ Some info
 
@@ -181,33 +182,34 @@ module _ (s : Setting) (cuts : List (Option CutAt)) (form : IsFormOfEpochs s.scr
       begun_round = λ round is. by_block (first_block (at_step g 0)) refl (begun.opened).set_up round (sym (ap (λ (x : Live directory.Unit). x.participation.round) (begun.entered).same) ∙ is)
 
     -- BEHIND A STEP
-    module _ (i : ℕ) (its : Event) (is : slice_get life.events i ≡ Some its) (reached : IsReached life.cut (suc i)) (m : IsMessage g its) (st : Live directory.Unit) (live : IsLiveIn (at_step g (suc i)) st)
-        (h k : Held) (end : Live directory.Unit) (next : IsNextIn (at_step g (suc i)) st m.message h k end) (before : HasRoundOf s st) where
-      over_round : (over : TakesOver (at_step g (suc i)) st m.message h k end) → HasRoundOf s end
+    module _ (i : ℕ) (its : Event) (is : slice_get life.events i ≡ Some its) (reached : IsReached life.cut (suc i)) (m : IsMessage g its) (st : Live directory.Unit) (live : IsLiveThrough (at_step g (suc i)) any_shares st)
+        (devices : Option Held) (end : Live directory.Unit) (left : Option Held) (of_form : IsForm (at_step g (suc i))) (node : IsNodeThrough (at_step g (suc i)) any_shares st m.message devices end left)
+        (before : HasRoundOf s st) where
+      over_round : (over : TakesOver (at_step g (suc i)) any_shares st m.message devices node.mid left) → HasRoundOf s node.mid
       unfolding at_step
-      over_round over = by_event its is m.message m.brings refl
+      over_round over = by_brought (brings_so g its m.message m.brings)
         where
-          by_number : (number : ℕ) (made_it : IsMadeOf s.script number) → slice_get life.events i ≡ Some (Final number) → m.message ≡ Finalized made_it.block → HasRoundOf s end
+          by_number : (number : ℕ) (made_it : IsMadeOf s.script number) → slice_get life.events i ≡ Some (Final number) → m.message ≡ Finalized made_it.block → HasRoundOf s node.mid
           by_number number made_it at message_is = λ round there.
               let block_is : over.block ≡ made_it.block = the_block (sym over.is ∙ message_is) in
-              let info = (over.taken).info in
+              let info = (over.taken).on.info in
               let seated = (over.taken).seated in
               let last_is : (over.block).height ≡ last (blocks_per_epoch s) (epoch_of (blocks_per_epoch s) (over.block).height) = same_number (over.block).height (last (blocks_per_epoch s) (epoch_of (blocks_per_epoch s) (over.block).height)) over.last in
               let at_boundary : (over.block).height ≡ boundary (blocks_per_epoch s) info.epoch
-              = last_is ∙ ap (boundary (blocks_per_epoch s)) (sym (add-one (epoch_of (blocks_per_epoch s) (over.block).height))) ∙ ap (boundary (blocks_per_epoch s)) (sym (over.taken).of_next) in
+              = last_is ∙ ap (boundary (blocks_per_epoch s)) (sym (add-one (epoch_of (blocks_per_epoch s) (over.block).height))) ∙ ap (boundary (blocks_per_epoch s)) (sym (over.taken).on.of_next) in
               let come : Numbered number = of_delivered s l life Begins life_is used_begin i number (comes_to life.cut life.events i reached ∙ at) in
               subst (λ (r : Round). round_at s r.number ≡ Some r) (some_is (sym seated.in_round ∙ there))
-              (of_seat (suc i) number made_it info _ seated.round come (subst (λ (x : made.Block directory.Unit). info_of x.payload ≡ Some info) block_is (over.taken).carried) seated.of_epoch
+              (of_seat (suc i) number made_it info _ seated.round come (subst (λ (x : made.Block directory.Unit). info_of x.payload ≡ Some info) block_is (over.taken).on.carried) seated.of_epoch
               (subst (λ (x : made.Block directory.Unit). x.height ≡ boundary (blocks_per_epoch s) info.epoch) block_is at_boundary) seated.drawn)
 
-          by_event : (event : Event) → slice_get life.events i ≡ Some event → (message : Message directory.Unit) → Brings g event message → m.message ≡ message → HasRoundOf s end
-          by_event (event.Peer from bytes) at message brings same = absurd (let wrong : ◌≡◌ {A = Message directory.Unit} (Sent (Peer from bytes)) (Finalized over.block) = sym brings ∙ sym same ∙ over.is in cc)
-          by_event (event.Final number) at message brings same = by_number number brings.0 at (same ∙ brings.1)
-          by_event other at message brings same = absurd brings
+          by_brought : BringsBlock g its m.message ⊎ BringsMail its m.message → HasRoundOf s node.mid
+          by_brought (inl b) = by_number b.0 b.1 (is ∙ ap (λ (e : Event). Some e) b.2) b.3
+          by_brought (inr mail) = absurd (let wrong : ◌≡◌ {A = Message directory.Unit} (Sent mail.0) (Finalized over.block) = sym mail.1 ∙ over.is in cc)
 
       pub step_round : HasRoundOf s end
-      step_round = either (next_so (at_step g (suc i)) st m.message h k end live next)
+      step_round = λ round there.
+          either (next_so (at_step g (suc i)) any_shares st m.message devices node.mid left of_form live node.next) round (sym (ap (λ (x : Live directory.Unit). x.participation.round) node.same) ∙ there)
         where
-          either : GoesOn (at_step g (suc i)) st m.message end ⊎ TakesOver (at_step g (suc i)) st m.message h k end → HasRoundOf s end
+          either : GoesOn (at_step g (suc i)) st m.message node.mid ⊎ TakesOver (at_step g (suc i)) any_shares st m.message devices node.mid left → HasRoundOf s node.mid
           either (inl goes) = λ round there. before round (sym (goes.same).round ∙ there)
           either (inr over) = over_round over

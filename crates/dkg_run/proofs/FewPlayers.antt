@@ -20,15 +20,17 @@ use Rattle.dkg_types.specs.declared.participants.ParticipantsError.TheVariants.{
 use Rattle.dkg_store.specs.Acts.{Held}
 use Rattle.dkg_store.specs.Events.{IsEvent}
 use Rattle.dkg_store.specs.declared.event.Event.TheVariants as events
-use Rattle.dkg_core.specs.Forms.{IsLiveIn, IsNodeBegun, IsSeated, IsSetUpIn, seed_read, share_read, started}
-use Rattle.dkg_core.specs.Live.{Dealer, Live}
+use Rattle.dkg_core.specs.Forms.{IsNodeBegun, IsSeated, IsSetUpIn, seed_read, share_read, started}
+use Rattle.dkg_core.specs.Live.{Dealer, Live, Message}
+use Rattle.dkg_core.specs.NodeThrough.{IsNodeThrough}
 use Rattle.dkg_core.specs.Seen.{Seen}
 use Rattle.dkg_core.specs.Setup.{Standing, Uncommitted}
-use Rattle.dkg_core.specs.Stepping.{IsNextIn}
+use Rattle.dkg_core.specs.Through.{IsLiveThrough, unasked}
 use Rattle.dkg_core.specs.Endings.{first_block}
-use Rattle.dkg_run.specs.Epochs.{IsLifeInForm}
+use Rattle.dkg_run.specs.Epochs.{IsLifeInForm, any_shares}
 use Rattle.dkg_run.specs.Given.{Lived, at_step}
 use Rattle.dkg_run.proofs.FitsOwn.{dealt_fits}
+use Rattle.dkg_run.proofs.Former.{form_at}
 use Rattle.dkg_run.proofs.NextLives.{GoesOn, TakesOver, next_so}
 
 some_is : {A : Type 0} {x y : A} → ◌≡◌ {A = Option A} (Some x) (Some y) → x ≡ y
@@ -95,16 +97,18 @@ module _ (g : Lived) (here : IsLifeInForm g) where
       by_block None set_up = λ round there. absurd (not_there round (sym set_up.0 ∙ there))
       by_block (Some b) set_up = by_info (info_of b.payload) set_up
 
-  pub next_few : (taken : ℕ) (st end : Live directory.Unit) (message : _) (h k : Held) → IsLiveIn (at_step g taken) st → IsNextIn (at_step g taken) st message h k end → HasFew st → HasFew end
-  next_few taken st end message h k live next few = either (next_so (at_step g taken) st message h k end live next)
+  pub next_few : (taken : ℕ) (st end : Live directory.Unit) (message : Message directory.Unit) (devices left : Option Held) → IsLiveThrough (at_step g taken) any_shares st
+      → IsNodeThrough (at_step g taken) any_shares st message devices end left → HasFew st → HasFew end
+  next_few taken st end message devices left live through few = λ round there. either (next_so (at_step g taken) any_shares st message devices through.mid left (form_at g here taken) live through.next)
+      round (sym (ap (λ (x : Live directory.Unit). x.participation.round) through.same) ∙ there)
     where
-      either : GoesOn (at_step g taken) st message end ⊎ TakesOver (at_step g taken) st message h k end → HasFew end
+      either : GoesOn (at_step g taken) st message through.mid ⊎ TakesOver (at_step g taken) any_shares st message devices through.mid left → HasFew through.mid
       either (inl goes) = λ round there. few round (sym (goes.same).round ∙ there)
-      either (inr over) = seated_few taken _ _ _ _ _ end (over.taken).seated
+      either (inr over) = seated_few taken _ _ _ _ _ (unasked through.mid) (over.taken).seated
 
   -- what this node deals fits a record
-  pub own_fits : (taken : ℕ) (st : Live directory.Unit) → IsLiveIn (at_step g taken) st → HasFew st → (dealer : Dealer) → st.participation.dealer ≡ Some dealer → IsEvent (events.Dealing (at_step g taken).me dealer.public)
+  pub own_fits : (taken : ℕ) (st : Live directory.Unit) → IsLiveThrough (at_step g taken) any_shares st → HasFew st → (dealer : Dealer) → st.participation.dealer ≡ Some dealer → IsEvent (events.Dealing (at_step g taken).me dealer.public)
   unfolding at_step
   own_fits taken st live few dealer is =
-      let mine = live.mine dealer is in
+      let mine = (live.stands).mine dealer is in
       record { one = here.form.own; other = dealt_fits mine.0 g.script.config.me mine.2.share mine.2.seed dealer.public dealer.privates (few mine.0 mine.1) mine.2.dealt }

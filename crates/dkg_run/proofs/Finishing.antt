@@ -10,7 +10,7 @@ use Rattle.dkg_types.specs.declared.fault.Fault.{Fault}
 use Rattle.dkg_types.specs.declared.fault.Fault.TheVariants.{Corrupt, Disk, NoMemory, Secrets}
 use Rattle.dkg_text.specs.declared.script.Life.{Life}
 use Rattle.dkg_text.specs.declared.script.Script.{Script}
-use Rattle.dkg_script.specs.Epochs.{IsFormOfEpochs}
+use Rattle.dkg_script.specs.Inclusion.{IsFormOfInclusion}
 use Rattle.dkg_script.specs.Progress.{at_start, progress, read}
 use Rattle.dkg_script.specs.Promise.{cuts_in}
 use Rattle.dkg_script.specs.Setting.{CutAt, Setting, found, life_at, setting_of}
@@ -30,6 +30,7 @@ use Rattle.dkg_run.specs.Lives.{LivesSo, RunsOver, never}
 use Rattle.dkg_script.specs.Valid.{IsValidCase}
 use Rattle.dkg_run.specs.Ways.{by_worlds}
 use Rattle.dkg_run.proofs.ClearLives.{HoldsAll, life_holds_all}
+use Rattle.dkg_run.proofs.OwnBacked.{with_share}
 use Rattle.dkg_run.proofs.Completing.{names_none}
 use Rattle.dkg_run.proofs.EachLife.{worlds_over}
 use Rattle.dkg_run.proofs.EndsTold.{ends_are_told}
@@ -43,7 +44,7 @@ use Rattle.dkg_run.proofs.PlanlessReads.{planless_records, planless_secrets}
 
 -- A RUN OVER WORLDS, of a script whose configuration is checked and whose payloads are bytes
 
-module _ (script : Script) (form : IsFormOfEpochs script) (checked : IsChecked script) (bytes : AreBytes script.blocks) (files : Files) (image : Files → Type 0) (held : store.Secrets) (itself : image files) where
+module _ (script : Script) (form : IsFormOfInclusion script) (checked : IsChecked script) (bytes : AreBytes script.blocks) (files : Files) (image : Files → Type 0) (held : store.Secrets) (itself : image files) where
   abbrev s : Setting
   s = setting_of script files held
 
@@ -81,7 +82,7 @@ module _ (script : Script) (form : IsFormOfEpochs script) (checked : IsChecked s
             valid.devices.stores.whole,
             λ key pair round low got made. valid.devices.agree.dealings key.0 key.1 pair.0 pair.1 round low got made,
           ),
-          λ key pair mine got round made. valid.devices.agree.own key.0 pair.0 pair.1 round (ap (λ (n : ℕ). get (recovered_in w.held) (key.0, n)) (sym mine) ∙ got) made,
+          λ key pair mine got. with_share s form w.held.secrets key pair (λ round made. valid.devices.agree.own key.0 pair.0 pair.1 round (ap (λ (n : ℕ). get (recovered_in w.held) (key.0, n)) (sym mine) ∙ got) made),
         );
         shares = λ epoch share got info known. valid.devices.agree.shares epoch share info got known;
       }
@@ -103,7 +104,7 @@ module _ (script : Script) (form : IsFormOfEpochs script) (checked : IsChecked s
           ends_so = ends_are ∙ ap (λ (xs : List Entry). (fold (read s) (at_start s) xs).cuts) (append_cancel_left old added told.added (sym is ∙ told.out)) ∙ told.to
 
 -- THE CLAUSE of complete, where the devices tell: P and Q say that the disk's count rose, and that of the secret store
-pub completes : (script : Script) (form : IsFormOfEpochs script) (checked : IsChecked script) (bytes : AreBytes script.blocks) (files files_now : Files) (image now : Files → Type 0) (held held_now : store.Secrets) (P Q : Type 0)
+pub completes : (script : Script) (form : IsFormOfInclusion script) (checked : IsChecked script) (bytes : AreBytes script.blocks) (files files_now : Files) (image now : Files → Type 0) (held held_now : store.Secrets) (P Q : Type 0)
     (answered : Result (Unit {0}) Fault) (old new added : List Entry) → new ≡ old ++ added → image files → now files_now
     → (Stands files image → RunsOver script answered files (at (moment old held never) files) (λ f. at (moment new held_now f) files_now))
     → EndsRun answered added P Q → IfErr answered (IsFoundRecord (limit_in script) files_now) → (AreFit (limit_in script) image → AreFit (limit_in script) now)

@@ -1,5 +1,5 @@
 -- What a life over many epochs records fits a record: its own acknowledgements, and what its events bring.
-use Rattle.std.proofs.Common.{◌≡◌, ◌-◌, ◌^◌, ◌<◌, ◌≤◌, ◌++◌, ◌∷◌, [], ℕ, List, length, Option, Some, None, Result, Ok, Err, true, false, suc, refl, sym, ◌∙◌, ap, subst, arith}
+use Rattle.std.proofs.Common.{◌≡◌, ◌-◌, ◌^◌, ◌<◌, ◌≤◌, ◌++◌, ◌∷◌, [], ℕ, List, length, Option, Some, None, Result, Ok, Err, true, false, suc, refl, sym, ◌∙◌, ap, subst, arith, ◌⊎◌, inl, inr}
 use Rattle.std.specs.Prelude.{⊤, IfSome, option_and_then, slice_get}
 use Rattle.std.specs.Int.{to_be_bytes, w32}
 use Rattle.std.specs.Int.NonZero.{non_zero_u32_get}
@@ -33,11 +33,11 @@ use Rattle.dkg_script.specs.Readings.{Limits, unit_payload}
 use Rattle.dkg_store.specs.Events.{IsEvent, no_limit}
 use Rattle.dkg_store.specs.declared.event.Event.TheVariants as events
 use Rattle.dkg_core.specs.Agreeing.{BringsRecords}
-use Rattle.dkg_core.specs.Live.{Message}
 use Rattle.dkg_run.specs.Epochs.{IsLifeInForm}
 use Rattle.dkg_run.specs.Given.{AreBytes, Lived, at_step}
 use Rattle.dkg_run.proofs.FitsRead.{message_fits}
-use Rattle.dkg_run.proofs.Former.{Brings, IsMadeOf, IsMessage, event_in_form}
+use Rattle.dkg_run.proofs.Former.{BringsBlock, BringsOther, BringsPeer, IsMadeOf, IsMessage, brings_kind, event_in_form}
+use Rattle.dkg_run.proofs.Idle.{idle_brings}
 use Rattle.dkg_run.proofs.Living.{holds_at}
 
 some_is : {A : Type 0} {x y : A} → ◌≡◌ {A = Option A} (Some x) (Some y) → x ≡ y
@@ -110,10 +110,11 @@ module _ (g : Lived) (here : IsLifeInForm g) where
         (ap (λ (o : Option (Payload directory.Unit)). option_and_then its_log o) (sym made.payload) ∙ is))
 
     pub brings_fit : (i : ℕ) (its : Event) → slice_get g.life.events i ≡ Some its → (m : IsMessage g its) → BringsRecords (at_step g (suc i)) m.message
-    brings_fit i its is m = by_event its is m.message m.brings
+    brings_fit i its is m = by_kind (brings_kind g its m.message m.brings)
       where
-        by_event : (e : Event) → slice_get g.life.events i ≡ Some e → (message : Message directory.Unit) → Brings g e message → BringsRecords (at_step g (suc i)) message
-        by_event (event.Peer from sent) at message brings =
-            subst (BringsRecords (at_step g (suc i))) (sym brings) (message_fits (at_step g (suc i)) from sent (few_at (suc i)) (event_in_form g here i (event.Peer from sent) at))
-        by_event (event.Final number) at message brings = subst (BringsRecords (at_step g (suc i))) (sym brings.1) (λ log is. block_brings number brings.0 log is)
-        by_event other at message brings = absurd brings
+        by_kind : BringsBlock g its m.message ⊎ (BringsPeer its m.message ⊎ BringsOther its m.message) → BringsRecords (at_step g (suc i)) m.message
+        by_kind (inl b) = subst (BringsRecords (at_step g (suc i))) (sym b.3) (λ log is. block_brings b.0 b.1 log is)
+        by_kind (inr (inl p)) =
+            subst (BringsRecords (at_step g (suc i))) (sym p.3)
+            (message_fits (at_step g (suc i)) p.0 p.1 (few_at (suc i)) (event_in_form g here i (event.Peer p.0 p.1) (is ∙ ap (λ (e : Event). Some e) p.2)))
+        by_kind (inr (inr mail)) = subst (BringsRecords (at_step g (suc i))) (sym mail.1) (idle_brings (at_step g (suc i)) mail.0 mail.2)

@@ -20,7 +20,7 @@ use Rattle.dkg_text.specs.declared.script.Event.{Event}
 use Rattle.dkg_text.specs.declared.script.Life.{Life}
 use Rattle.dkg_text.specs.declared.script.Script.{Script}
 use Rattle.dkg_script.specs.Ends.{EndsInFault, EndsWell}
-use Rattle.dkg_script.specs.Epochs.{IsFormOfEpochs}
+use Rattle.dkg_script.specs.Inclusion.{IsFormOfInclusion}
 use Rattle.dkg_script.specs.Setting.{recovered_from}
 use Rattle.dkg_store.specs.Acts.{Cause, Ended, Held, World, at, broken, moment, notes, stopped, went}
 use Rattle.dkg_core.specs.Courses.{Course, EndsSo}
@@ -37,7 +37,7 @@ use Rattle.dkg_run.specs.Ended.{by_node_stop}
 use Rattle.dkg_script.specs.Ends.{EndsFaulted, EndsRun}
 use Rattle.dkg_run.specs.Epochs.{IsAt, IsChecked, IsLifeInForm}
 use Rattle.dkg_run.specs.Found.{EachFault, OfFault, ShowsCause}
-use Rattle.dkg_run.specs.Given.{Lived, at_step, lived, step_of}
+use Rattle.dkg_run.specs.Given.{AreBytes, Lived, at_step, lived, step_of}
 use Rattle.dkg_run.specs.Lives.{AnyFiles, EndsLife, LivesFrom, LivesSo, RunsAllSo, RunsOver, RunsSo, Steps, TakesAll, TellsEnd, fuse_for, never}
 use Rattle.dkg_run.specs.Ways.{by_worlds}
 use Rattle.dkg_run.proofs.Awaiting.{IsBefore, IsReached, before_all, reached_lit}
@@ -100,7 +100,7 @@ module _ (script : Script) where
 
 -- A LIFE
 
-module _ (g : Lived) (here : IsLifeInForm g) where
+module _ (g : Lived) (here : IsLifeInForm g) (bytes : AreBytes g.script.blocks) where
   -- where a step begins
   record Stands (i : ℕ) (st : Live directory.Unit) (h : Held) : Type 0 where
     at : IsAt g i st
@@ -112,12 +112,12 @@ module _ (g : Lived) (here : IsLifeInForm g) where
   step_stands : (i : ℕ) (its : Event) (is : slice_get g.life.events i ≡ Some its) (reached : IsReached g.life.cut (suc i)) (st end : Live directory.Unit) (w new : World) → Stands i st w.held → (f : Burn)
       → by_worlds.goes (step_of g (suc i) its st) (went end) f w new → Stands (suc i) end new.held
   step_stands i its is reached st end w new stands f goes =
-      let led = stepped_at by_worlds worlds_lead g here i its is reached st stands.at end f w new goes in
+      let led = stepped_at by_worlds worlds_lead g here i its is st stands.at reached end f w new goes in
       let dealt = step_deals g here i its is reached st stands.at end (record w { fuse = f }) new goes.0 stands.drawn stands.deals in
       record {
-        at = led.3;
-        few = next_few g here (suc i) st end _ led.0 led.1 (live_here by_worlds worlds_lead g here i its is reached st stands.at) led.2 stands.few;
-        knows = step_knows g here i its is reached st stands.at stands.few (record w { fuse = f }) new stands.knows stands.drawn stands.deals end goes.0;
+        at = led.1;
+        few = next_few g here (suc i) st end _ (led.0).0 (led.0).1 (live_here by_worlds worlds_lead g here i its is st stands.at) (led.0).2 stands.few;
+        knows = step_knows g here bytes i its is reached st stands.at stands.few (record w { fuse = f }) new stands.knows stands.drawn stands.deals end goes.0;
         drawn = dealt.0;
         deals = dealt.1;
       }
@@ -127,7 +127,7 @@ module _ (g : Lived) (here : IsLifeInForm g) where
   takes_show [] i rest before st w new how stands takes = subst (λ (r : Result (Unit {0}) Stop). ShowsStop g.script r new.held) (sym takes.0) tt
   takes_show (its ∷ events) i rest before st w new how stands takes =
       steps_show g.script (step_of g (suc i) its st) (entry.Step (suc i)) (fuse_for g.life.cut (suc i)) w new how (λ end mid. TakesAll by_worlds g (suc i + 1) events end mid how new)
-      (λ f lit own run. step_shows g here i its is (reached_lit g.life.cut (suc i) f lit before) st stands.at stands.few (record w { fuse = f }) new stands.knows stands.drawn stands.deals own run)
+      (λ f lit own run. step_shows g here bytes i its is (reached_lit g.life.cut (suc i) f lit before) st stands.at stands.few (record w { fuse = f }) new stands.knows stands.drawn stands.deals own run)
       (λ f lit end mid goes more. takes_show events (suc i) (rest_at g.life.events i its events rest) (before_suc g.life.cut (suc i) (reached_lit g.life.cut (suc i) f lit before)) end (by_worlds.says mid (entry.Step (suc i))) new how
       (step_stands i its is (reached_lit g.life.cut (suc i) f lit before) st end w mid stands f goes)
       (subst (λ (j : ℕ). TakesAll by_worlds g j events end (by_worlds.says mid (entry.Step (suc i))) how new) (add-one (suc i)) more)) takes
@@ -141,12 +141,12 @@ module _ (g : Lived) (here : IsLifeInForm g) where
     opening_stands st mid f goes =
         let led = opened_at by_worlds worlds_lead g here st f w mid goes in
         let dealt = opening_deals g here st (record w { fuse = f }) mid goes.0 in
-        record { at = led.3; few = begun_few g here led.0 led.1 st led.2; knows = opening_knows g here reads (record w { fuse = f }) mid rising st goes.0; drawn = dealt.0; deals = dealt.1 }
+        record { at = led.3; few = begun_few g here led.0 led.1 st led.2; knows = opening_knows g here bytes reads (record w { fuse = f }) mid rising st goes.0; drawn = dealt.0; deals = dealt.1 }
 
     life_shows : (files : Files) (new : World) (how : Result (Unit {0}) Stop) → LivesSo by_worlds g files w how new → ShowsStop g.script how new.held
     life_shows files new how (inl steps) =
         steps_show g.script (node_opening (at_step g 0)) (entry.Step 0) (fuse_for g.life.cut 0) w new how (λ end mid. TakesAll by_worlds g 1 g.life.events end mid how new)
-        (λ f lit own run. opening_shows g here reads (record w { fuse = f }) new own run)
+        (λ f lit own run. opening_shows g here bytes reads (record w { fuse = f }) new own run)
         (λ f lit end mid goes more. takes_show g.life.events 0 refl (before_suc g.life.cut 0 (reached_lit g.life.cut 0 f lit (before_all g.life.cut))) end (by_worlds.says mid (entry.Step 0)) new how (opening_stands end mid f goes) more) steps
     life_shows files new how (inr (out, (stop, is, its))) = subst (λ (r : Result (Unit {0}) Stop). ShowsStop g.script r new.held) (sym is) (by_stop stop its.0.by)
       where
@@ -161,7 +161,7 @@ module _ (g : Lived) (here : IsLifeInForm g) where
 
 -- ALL LIVES
 
-module _ (script : Script) (form : IsFormOfEpochs script) (checked : IsChecked script) where
+module _ (script : Script) (form : IsFormOfInclusion script) (bytes : AreBytes script.blocks) (checked : IsChecked script) where
   abbrev ShowsEnd : Result (Unit {0}) Fault → Held → Type 0
   ShowsEnd result h = IfErr result (Shows script h)
 
@@ -182,7 +182,7 @@ module _ (script : Script) (form : IsFormOfEpochs script) (checked : IsChecked s
   from_shows first l [] is w new result run = subst (λ (r : Result (Unit {0}) Fault). ShowsEnd r new.held) (sym run.0) tt
   from_shows first l (life ∷ rest) is w new result (seen, files, how, mid, reads, known, begins, so, ends) =
       ends_show life how mid new result (λ w. LivesFrom by_worlds script AnyFiles (l + 1) rest w result new)
-      (life_shows (lived script l life seen files) (life_in_form script l life seen files form checked (item_at script.lives l life rest is) (planless seen reads)) (planless_records seen reads).dealings w
+      (life_shows (lived script l life seen files) (life_in_form script l life seen files form checked (item_at script.lives l life rest is) (planless seen reads)) bytes (planless_records seen reads).dealings w
       (subst (λ (es : List Noted). Above 0 es) (ap (λ (j : Journaled). j.entries) begins) (entries_above files)) files mid how so)
       (λ w more. from_shows AnyFiles (l + 1) rest (subst (λ (k : ℕ). rest ≡ drop k script.lives) (sym (add-one l)) (rest_at script.lives l life rest is)) w new result more)
       ends

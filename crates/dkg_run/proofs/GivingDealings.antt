@@ -1,5 +1,5 @@
 -- Where the dealings that the devices give back pass their rounds' checks, they do so behind each step and each life over many epochs, wherever it ends.
-use Rattle.std.proofs.Common.{◌≡◌, inl, inr, true, ℕ, zero, suc, ◌<◌, ◌≤◌, List, [], ◌∷◌, Option, Some, None, Ok, refl, sym, ◌∙◌, ap, subst, length, arith}
+use Rattle.std.proofs.Common.{◌≡◌, ◌⊎◌, inl, inr, true, ℕ, zero, suc, ◌<◌, ◌≤◌, List, [], ◌∷◌, Option, Some, None, Ok, refl, sym, ◌∙◌, ap, subst, length, arith}
 use Rattle.std.specs.Prelude.{Contains, slice_get}
 use Rattle.std.specs.FinMap.{get}
 use Rattle.dkg_values.specs.Places.{place_of-Contains}
@@ -8,13 +8,11 @@ use Rattle.dkg_ceremony.specs.declared.round.RoundParts.{RoundParts as Round}
 use Rattle.dkg_journal.specs.Names.{Files}
 use Rattle.dkg_types.specs.Blocks.{Block}
 use Rattle.dkg_types.specs.declared.directory.Unit as directory
-use Rattle.dkg_types.specs.declared.fault.Fault.{Fault}
 use Rattle.dkg_text.specs.declared.script.Event.{Event}
-use Rattle.dkg_text.specs.declared.script.Event.TheVariants as event
 use Rattle.dkg_text.specs.declared.script.Life.{Life}
 use Rattle.dkg_script.specs.Blocks.{round_at}
 use Rattle.dkg_script.specs.Consistent.{IsConsistentScript}
-use Rattle.dkg_script.specs.Epochs.{IsFormOfEpochs}
+use Rattle.dkg_script.specs.Inclusion.{IsFormOfInclusion}
 use Rattle.dkg_script.specs.Setting.{Setting, CutAt, life_at, me}
 use Rattle.dkg_store.specs.Acts.{Ended, Held, World, broken, notes, stopped, went}
 use Rattle.dkg_store.specs.Events.{IsEvent}
@@ -23,35 +21,38 @@ use Rattle.dkg_store.specs.declared.event.Event.TheVariants as events
 use Rattle.dkg_core.specs.Agreeing.{AreAgreed, BringsRecords, CanRecord}
 use Rattle.dkg_core.specs.Behind.{RunsBehind, event_of}
 use Rattle.dkg_core.specs.Core.{step}
-use Rattle.dkg_core.specs.Courses.{Course, EndsSo, Goes}
+use Rattle.dkg_core.specs.Courses.{Course, EndsSo}
 use Rattle.dkg_core.specs.Dealing.{hears_peer_in}
 use Rattle.dkg_core.specs.Fixed.{Fixed, Rules, has, stand_in}
-use Rattle.dkg_core.specs.Forms.{IsActiveIn, IsLiveIn, IsMine, IsNodeBegun, IsTakenIn, LeavesHeld, held_behind}
+use Rattle.dkg_core.specs.Forms.{IsMine, IsNodeBegun, LeavesHeld, held_behind}
 use Rattle.dkg_core.specs.Heard.{Fits, MayHave, recovered_in}
 use Rattle.dkg_core.specs.Laws.{IsAmong, reach_of}
 use Rattle.dkg_core.specs.Live.{Finalized, Live, Message, NodeStop, Peer, Sent, Stage}
 use Rattle.dkg_core.specs.Meant.{ReadsRecords}
 use Rattle.dkg_core.specs.Node.{node_opening, node_step}
 use Rattle.dkg_core.specs.Seen.{Seen}
-use Rattle.dkg_core.specs.Stepping.{IsNextIn, LeavesTaken, held_at_setup}
 use Rattle.dkg_core.specs.Endings.{first_block}
+use Rattle.dkg_core.specs.NodeThrough.{IsNodeThrough}
+use Rattle.dkg_core.specs.Through.{IsLiveThrough, IsTakenThrough}
 use Rattle.dkg_core.proofs.Behind.{steps_run_behind}
 use Rattle.dkg_core.proofs.BlocksKept.{blocks_keep}
 use Rattle.dkg_core.proofs.NodeKept.{node_openings_agree, node_peers_are_kept, node_steps_agree}
 use Rattle.dkg_core.proofs.Openings.{node_openings_lead_over}
-use Rattle.dkg_core.proofs.Stepping.{node_steps_lead_over}
-use Rattle.dkg_run.specs.Epochs.{IsAt, IsLifeInForm}
+use Rattle.dkg_core.proofs.NodeThrough.{node_steps_lead_through_over}
+use Rattle.dkg_run.specs.Epochs.{IsAt, IsLifeInForm, any_shares}
 use Rattle.dkg_run.specs.Given.{Lived, at_step, lived, step_of}
 use Rattle.dkg_run.specs.GivesBack.{PassesAll}
 use Rattle.dkg_run.proofs.Awaiting.{IsReached}
 use Rattle.dkg_run.proofs.BlocksLeave.{gives_no_other}
 use Rattle.dkg_run.proofs.Drawn.{HasRoundOf, begun_round, step_round}
 use Rattle.dkg_run.proofs.FewPlayers.{HasFew, begun_few, next_few, own_fits}
-use Rattle.dkg_run.proofs.Former.{Brings, IsMessage, event_in_form, form_at, lacks_nobody, live_at, message_in}
+use Rattle.dkg_run.proofs.Former.{BringsBlock, BringsOther, BringsPeer, IsMessage, brings_kind, event_in_form, form_at, lacks_nobody, live_at, message_in, step_taken, through_at}
 use Rattle.dkg_run.proofs.GivingLives.{KeepsSo, LeavesSo}
+use Rattle.dkg_run.proofs.Idle.{goes_nothing, idle_held}
+use Rattle.dkg_run.proofs.LivesStand.{begun_at}
 use Rattle.dkg_run.proofs.NoOthers.{IsOwnDealt, inserted}
 use Rattle.dkg_run.proofs.OpeningsLeave.{opening_gives, opening_whole}
-use Rattle.dkg_run.proofs.Stood.{begun_stands, step_stands, step_taken}
+use Rattle.dkg_run.proofs.Stood.{step_stands}
 
 some_is : {A : Type 0} {x y : A} → ◌≡◌ {A = Option A} (Some x) (Some y) → x ≡ y
 some_is e = cc
@@ -68,13 +69,7 @@ among_has key (x ∷ xs) (inr there) = let c = among_has key xs there in (suc c.
 abbrev pub PassHeld : Setting → Held → Type 0
 PassHeld s h = IsWhole (notes h) h.secrets × PassesAll s (recovered_in h)
 
--- a course that does nothing
-pub goes_nothing : (st : Live directory.Unit) (ended : Ended Fault (Live directory.Unit)) (w new : World) → EndsSo {Dir = directory.Unit} {F = Fault} (Goes st) ended w new → new ≡ w
-goes_nothing st (went end) w new run = run.0
-goes_nothing st (stopped its) w new run = absurd run
-goes_nothing st (broken cause) w new run = run.1
-
-module _ (s : Setting) (cuts : List (Option CutAt)) (form : IsFormOfEpochs s.script) (consistent : IsConsistentScript s cuts) (l : ℕ) (life : Life) (seen : Held → Seen) (files : Files) (life_is : life_at s l ≡ Some life)
+module _ (s : Setting) (cuts : List (Option CutAt)) (form : IsFormOfInclusion s.script) (consistent : IsConsistentScript s cuts) (l : ℕ) (life : Life) (seen : Held → Seen) (files : Files) (life_is : life_at s l ≡ Some life)
     (here : IsLifeInForm (lived s.script l life seen files)) (reads : ReadsRecords seen) where
   abbrev g : Lived
   g = lived s.script l life seen files
@@ -127,7 +122,7 @@ module _ (s : Setting) (cuts : List (Option CutAt)) (form : IsFormOfEpochs s.scr
         let k : Held = held_behind (at_step g 0) w.held in
         let led : IsNodeBegun (at_step g 0) ((at_step g 0).seen k) k st × LeavesHeld (at_step g 0) k new.held (first_block (at_step g 0)) = node_openings_lead_over (at_step g 0) (went st) w new (form_at g here 0) (lacks_nobody g 0) run in
         record {
-          at = record { live = (led.0).live; active = (led.0).active; stands = begun_stands g here ((at_step g 0).seen k) k st led.0 };
+          at = begun_at g here ((at_step g 0).seen k) k st led.0;
           rounds = begun_round s cuts form consistent l life seen files life_is ((at_step g 0).seen k) k st led.0;
           few = begun_few g here ((at_step g 0).seen k) k st led.0;
           agreed = node_openings_agree (at_step g 0) st w new (reads_at 0) pass.0 run;
@@ -147,11 +142,11 @@ module _ (s : Setting) (cuts : List (Option CutAt)) (form : IsFormOfEpochs s.scr
     abbrev m : IsMessage g its
     m = message_in g its (event_in_form g here i its is)
 
-    live : IsLiveIn c st
+    live : IsLiveThrough c any_shares st
     live = live_at g i (suc i) st (passing.at).live
 
-    taken : IsTakenIn c m.message st
-    taken = step_taken g here i its is reached m st live (passing.at).stands
+    taken : IsTakenThrough c m.message st
+    taken = step_taken g its m.message m.brings c st
 
     pub can : CanRecord c st m.message
     can = record { acks = fits.acks (suc i); dealing = own_fits g here (suc i) st live passing.few; brings = fits.brings i its is m }
@@ -166,7 +161,7 @@ module _ (s : Setting) (cuts : List (Option CutAt)) (form : IsFormOfEpochs s.scr
       pub unheard : st.participation.round ≡ None → new.held ≡ w.held
       unheard none =
           let b : RunsBehind (step c (Sent (Peer from bytes)) st) ended w new = steps_run_behind c st (Sent (Peer from bytes)) ended w new run in
-          b.held ∙ ap (λ (x : World). x.held) (goes_nothing st b.half w b.mid (subst (λ (stage : Stage). EndsSo (hears_peer_in c from bytes st stage) b.half w b.mid) (live.without none).0 b.run))
+          b.held ∙ ap (λ (x : World). x.held) (goes_nothing st b.half w b.mid (subst (λ (stage : Stage). EndsSo (hears_peer_in c from bytes st stage) b.half w b.mid) (live.stands.without none).0 b.run))
 
       more_pass : (round : Round) → st.participation.round ≡ Some round → (now : Pairs) → MayHave c st from round (recovered_in w.held) now → PassesAll s now
       more_pass round of now (inl same) = subst (PassesAll s) (sym same) passing.passes
@@ -191,7 +186,7 @@ module _ (s : Setting) (cuts : List (Option CutAt)) (form : IsFormOfEpochs s.scr
           (kept.whole, more_pass round of (recovered_in new.held) kept.gives)
 
     -- A BLOCK
-    module _ (block : Block directory.Unit) (its_taken : IsTakenIn c (Finalized block) st) (its_can : CanRecord c st (Finalized block)) (ended : Ended NodeStop (Live directory.Unit))
+    module _ (block : Block directory.Unit) (its_can : CanRecord c st (Finalized block)) (ended : Ended NodeStop (Live directory.Unit))
         (run : EndsSo (node_step c (event_of (Finalized block)) st) ended w new) where
       own_valid : (key : ℕ × ℕ) (pair : List ℕ × ℕ) → (own : IsOwnDealt c st key pair) → dealing_of own.round (me s) (me s) pair.0 pair.1 ≡ Ok tt
       own_valid key pair own =
@@ -202,7 +197,7 @@ module _ (s : Setting) (cuts : List (Option CutAt)) (form : IsFormOfEpochs s.scr
           ((form_at g here (suc i)).ceremony.deals_pass mine.0 mine.2.share mine.2.seed (own.dealer).public (own.dealer).privates pair.1 mine.2.member plays mine.2.dealt own.private)))
         where
           mine : (round : Round) × (st.participation.round ≡ Some round) × IsMine c round st.participation.stage own.dealer
-          mine = live.mine own.dealer own.of_dealer
+          mine = (live.stands).mine own.dealer own.of_dealer
 
           same : mine.0 ≡ own.round
           same = some_is (sym mine.1 ∙ own.of_epoch)
@@ -213,7 +208,7 @@ module _ (s : Setting) (cuts : List (Option CutAt)) (form : IsFormOfEpochs s.scr
       block_passes : PassHeld s new.held
       block_passes = (
         (blocks_keep c block st ended (reach_of c (Finalized block)) w new (itself (reach_of c (Finalized block))) passing.agreed its_can run).whole,
-        λ key pair round small got made. elim (gives_no_other c (form_at g here (suc i)) st live block its_taken w passing.agreed its_can ended new run key pair got) [
+        λ key pair round small got made. elim (gives_no_other c st block w passing.agreed its_can ended new run key pair got) [
           | inl was ↦ passing.passes key pair round small was made
           | inr own ↦ of_own key pair round own made
         ],
@@ -235,26 +230,26 @@ module _ (s : Setting) (cuts : List (Option CutAt)) (form : IsFormOfEpochs s.scr
       run_here = subst (λ (course : Course directory.Unit NodeStop (Live directory.Unit)). EndsSo course ended w new) (m.course (suc i) st) run
 
       step_passes : PassHeld s new.held
-      step_passes = by_event its m.message m.brings taken can run_here
+      step_passes = by_kind (brings_kind g its m.message m.brings)
         where
-          by_event : (e : Event) (message : Message directory.Unit) → Brings g e message → IsTakenIn c message st → CanRecord c st message → EndsSo (node_step c (event_of message) st) ended w new → PassHeld s new.held
-          by_event (event.Peer from bytes) message brings its_taken its_can its_run =
-              heard from bytes (subst (BringsRecords c) brings its_can.brings) ended (subst (λ (x : Message directory.Unit). EndsSo (node_step c (event_of x) st) ended w new) brings its_run) st.participation.round refl
-          by_event (event.Final number) message brings its_taken its_can its_run =
-              block_passes (brings.0).block (subst (λ (x : Message directory.Unit). IsTakenIn c x st) brings.1 its_taken) (subst (λ (x : Message directory.Unit). CanRecord c st x) brings.1 its_can) ended
-              (subst (λ (x : Message directory.Unit). EndsSo (node_step c (event_of x) st) ended w new) brings.1 its_run)
-          by_event other message brings its_taken its_can its_run = absurd brings
+          as_run : (message : Message directory.Unit) → m.message ≡ message → EndsSo (node_step c (event_of message) st) ended w new
+          as_run message is = subst (λ (x : Message directory.Unit). EndsSo (node_step c (event_of x) st) ended w new) is run_here
+
+          by_kind : BringsBlock g its m.message ⊎ (BringsPeer its m.message ⊎ BringsOther its m.message) → PassHeld s new.held
+          by_kind (inl b) = block_passes (b.1).block (subst (λ (x : Message directory.Unit). CanRecord c st x) b.3 can) ended (as_run (Finalized (b.1).block) b.3)
+          by_kind (inr (inl p)) = heard p.0 p.1 (subst (BringsRecords c) p.3 can.brings) ended (as_run (Sent (Peer p.0 p.1)) p.3) st.participation.round refl
+          by_kind (inr (inr mail)) =
+              subst (PassHeld s) (sym (idle_held c mail.0 mail.2 st ended w new (passing.at).active (as_run (Sent mail.0) mail.1))) ((passing.agreed).whole, passing.passes)
 
     step_goes : (end : Live directory.Unit) → EndsSo (step_of g (suc i) its st) (went end) w new → IsPassing (suc i) end new.held
     step_goes end run =
         let its_run : EndsSo (node_step c (event_of m.message) st) (went end) w new = run_here (went end) run in
-        let k : Held = held_at_setup c m.message w.held in
-        let led : IsNextIn c st m.message w.held k end × IsActiveIn end × LeavesTaken c st m.message k new.held
-        = node_steps_lead_over c st m.message (went end) w new (form_at g here (suc i)) taken live (passing.at).active its_run in
+        let led : IsNodeThrough c any_shares st m.message (Some w.held) end (Some new.held)
+        = node_steps_lead_through_over c any_shares st m.message (went end) w new (through_at g here (suc i)) (lacks_nobody g (suc i)) (λ h epoch found. tt) taken live (passing.at).active its_run in
         record {
-          at = record { live = (led.0).live; active = led.1; stands = step_stands g here i its is reached m st live (passing.at).stands w.held k end led.0 };
-          rounds = step_round s cuts form consistent l life seen files life_is i its is reached m st live w.held k end led.0 passing.rounds;
-          few = next_few g here (suc i) st end m.message w.held k live led.0 passing.few;
+          at = record { live = led.live; active = led.active; stands = step_stands g here i its is reached m st live (passing.at).stands (Some w.held) end (Some new.held) led };
+          rounds = step_round s cuts form consistent l life seen files life_is i its is reached m st live (Some w.held) end (Some new.held) (form_at g here (suc i)) led passing.rounds;
+          few = next_few g here (suc i) st end m.message (Some w.held) (Some new.held) live led passing.few;
           agreed = node_steps_agree c st end m.message w new passing.agreed can its_run;
           passes = (step_passes (went end) run).1;
         }

@@ -7,7 +7,7 @@ use Rattle.dkg_types.specs.declared.entry.Entry.{Entry}
 use Rattle.dkg_types.specs.declared.fault.Fault.{Fault}
 use Rattle.dkg_text.specs.declared.script.Life.{Life}
 use Rattle.dkg_script.specs.Consistent.{IsConsistentScript}
-use Rattle.dkg_script.specs.Epochs.{IsFormOfEpochs}
+use Rattle.dkg_script.specs.Inclusion.{IsFormOfInclusion}
 use Rattle.dkg_script.specs.Setting.{Setting, CutAt, life_at}
 use Rattle.dkg_store.specs.Acts.{Held, Stands, at, moment}
 use Rattle.dkg_core.specs.Meant.{ReadsRecords}
@@ -26,7 +26,7 @@ use Rattle.dkg_run.proofs.SharesStay.{run_shares}
 
 -- WHAT THE DEVICES HOLD stays valid, where both devices tell and what a read gives is one of what a crash may leave: of a script whose lives are of the form, whose blocks are bytes at
 -- heights of 64 bits, and which has one info for each epoch
-pub stays_valid : (s : Setting) (cuts : List (Option CutAt)) (form : IsFormOfEpochs s.script) (consistent : IsConsistentScript s cuts)
+pub stays_valid : (s : Setting) (cuts : List (Option CutAt)) (form : IsFormOfInclusion s.script) (consistent : IsConsistentScript s cuts)
     → (over : (l : ℕ) (life : Life) (seen : Held → Seen) (files : Files) → slice_get s.script.lives l ≡ Some life → by_worlds.reads seen → IsLifeInForm (lived s.script l life seen files))
     → (reads : (seen : Held → Seen) → by_worlds.reads seen → ReadsRecords seen) (secrets : (seen : Held → Seen) → by_worlds.reads seen → ReadsSecrets seen)
     → (bytes : AreBytes s.script.blocks) (heights : AllByRecursion (λ line. line.height < 2 ^ 64) s.script.blocks)

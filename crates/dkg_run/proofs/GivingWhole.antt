@@ -1,5 +1,5 @@
 -- Whole devices stay whole over a run of many epochs, wherever it ends and whatever its script carries: each dealing that is recorded has its private half.
-use Rattle.std.proofs.Common.{◌≡◌, ℕ, zero, suc, ◌≤◌, ◌<◌, ◌^◌, List, Option, Some, None, Result, refl, sym, ◌∙◌, ap, subst, arith}
+use Rattle.std.proofs.Common.{◌≡◌, ◌⊎◌, inl, inr, Some, ℕ, zero, suc, ◌≤◌, ◌<◌, ◌^◌, List, Option, None, Result, refl, sym, ◌∙◌, ap, subst, arith}
 use Rattle.std.specs.Prelude.{slice_get}
 use Rattle.std.specs.List.{AllByRecursion}
 use Rattle.dkg_ceremony.specs.declared.round.RoundParts.{RoundParts as Round}
@@ -12,7 +12,6 @@ use Rattle.dkg_types.specs.declared.directory.Unit as directory
 use Rattle.dkg_types.specs.declared.entry.Entry.{Entry as Line}
 use Rattle.dkg_types.specs.declared.fault.Fault.{Fault}
 use Rattle.dkg_text.specs.declared.script.Event.{Event}
-use Rattle.dkg_text.specs.declared.script.Event.TheVariants as event
 use Rattle.dkg_text.specs.declared.script.Life.{Life}
 use Rattle.dkg_text.specs.declared.script.Script.{Script}
 use Rattle.dkg_store.specs.Acts.{Ended, Held, Stands, World, at, broken, moment, notes, stopped, went}
@@ -23,22 +22,23 @@ use Rattle.dkg_core.specs.Core.{step}
 use Rattle.dkg_core.specs.Courses.{Course, EndsSo}
 use Rattle.dkg_core.specs.Dealing.{hears_peer_in}
 use Rattle.dkg_core.specs.Fixed.{Fixed}
-use Rattle.dkg_core.specs.Forms.{IsActiveIn, IsLiveIn, IsNodeBegun, IsTakenIn, LeavesHeld, held_behind}
+use Rattle.dkg_core.specs.Forms.{IsNodeBegun, LeavesHeld, held_behind}
 use Rattle.dkg_core.specs.Heard.{Fits, recovered_in}
 use Rattle.dkg_core.specs.Laws.{reach_of}
 use Rattle.dkg_core.specs.Live.{Finalized, Live, Message, NodeStop, Peer, Sent, Stage}
 use Rattle.dkg_core.specs.Meant.{ReadsRecords}
 use Rattle.dkg_core.specs.Node.{node_opening, node_step}
 use Rattle.dkg_core.specs.Seen.{Seen}
-use Rattle.dkg_core.specs.Stepping.{IsNextIn, LeavesTaken, held_at_setup}
+use Rattle.dkg_core.specs.NodeThrough.{IsNodeThrough}
+use Rattle.dkg_core.specs.Through.{IsLiveThrough, IsTakenThrough}
 use Rattle.dkg_core.specs.Endings.{first_block}
 use Rattle.dkg_core.proofs.Behind.{steps_run_behind}
 use Rattle.dkg_core.proofs.BlocksKept.{blocks_keep}
 use Rattle.dkg_core.proofs.NodeKept.{node_openings_agree, node_peers_are_kept, node_steps_agree}
 use Rattle.dkg_core.proofs.Openings.{node_openings_lead_over}
-use Rattle.dkg_core.proofs.Stepping.{node_steps_lead_over}
+use Rattle.dkg_core.proofs.NodeThrough.{node_steps_lead_through_over}
 use Rattle.dkg_reshare.specs.declared.stop.Stop.{Stop}
-use Rattle.dkg_run.specs.Epochs.{IsAt, IsLifeInForm}
+use Rattle.dkg_run.specs.Epochs.{IsAt, IsLifeInForm, any_shares}
 use Rattle.dkg_run.specs.Given.{AreBytes, Lived, at_step, lived, step_of}
 use Rattle.dkg_run.specs.Lives.{LivesSo, RunsOver, RunsSo, never}
 use Rattle.dkg_run.specs.Over.{Standing}
@@ -46,11 +46,12 @@ use Rattle.dkg_run.specs.Ways.{by_worlds}
 use Rattle.dkg_run.proofs.Awaiting.{IsReached}
 use Rattle.dkg_run.proofs.FewPlayers.{HasFew, begun_few, next_few, own_fits}
 use Rattle.dkg_run.proofs.FitsBrought.{acks_fit, brings_fit}
-use Rattle.dkg_run.proofs.Former.{Brings, IsMessage, event_in_form, form_at, lacks_nobody, live_at, message_in}
-use Rattle.dkg_run.proofs.GivingDealings.{goes_nothing}
+use Rattle.dkg_run.proofs.Former.{BringsBlock, BringsOther, BringsPeer, IsMessage, brings_kind, event_in_form, form_at, lacks_nobody, live_at, message_in, step_taken, through_at}
 use Rattle.dkg_run.proofs.GivingLives.{KeepsSo, LeavesSo, life_holds, run_holds}
+use Rattle.dkg_run.proofs.Idle.{goes_nothing, idle_held}
+use Rattle.dkg_run.proofs.LivesStand.{begun_at}
 use Rattle.dkg_run.proofs.OpeningsLeave.{opening_whole}
-use Rattle.dkg_run.proofs.Stood.{begun_stands, step_stands, step_taken}
+use Rattle.dkg_run.proofs.Stood.{step_stands}
 
 -- Each dealing that is recorded has its private half.
 abbrev pub WholeHeld : Held → Type 0
@@ -83,7 +84,7 @@ module _ (g : Lived) (here : IsLifeInForm g) (reads : ReadsRecords g.seen) (byte
       let k : Held = held_behind (at_step g 0) w.held in
       let led : IsNodeBegun (at_step g 0) ((at_step g 0).seen k) k st × LeavesHeld (at_step g 0) k new.held (first_block (at_step g 0)) = node_openings_lead_over (at_step g 0) (went st) w new (form_at g here 0) (lacks_nobody g 0) run in
       record {
-        at = record { live = (led.0).live; active = (led.0).active; stands = begun_stands g here ((at_step g 0).seen k) k st led.0 };
+        at = begun_at g here ((at_step g 0).seen k) k st led.0;
         few = begun_few g here ((at_step g 0).seen k) k st led.0;
         agreed = node_openings_agree (at_step g 0) st w new (reads_at 0) whole run;
       }
@@ -102,11 +103,11 @@ module _ (g : Lived) (here : IsLifeInForm g) (reads : ReadsRecords g.seen) (byte
     abbrev m : IsMessage g its
     m = message_in g its (event_in_form g here i its is)
 
-    live : IsLiveIn c st
+    live : IsLiveThrough c any_shares st
     live = live_at g i (suc i) st (here_at.at).live
 
-    taken : IsTakenIn c m.message st
-    taken = step_taken g here i its is reached m st live (here_at.at).stands
+    taken : IsTakenThrough c m.message st
+    taken = step_taken g its m.message m.brings c st
 
     can : CanRecord c st m.message
     can = record { acks = acks_fit g here (suc i); dealing = own_fits g here (suc i) st live here_at.few; brings = brings_fit g here bytes heights i its is m }
@@ -116,7 +117,7 @@ module _ (g : Lived) (here : IsLifeInForm g) (reads : ReadsRecords g.seen) (byte
       unheard : st.participation.round ≡ None → new.held ≡ w.held
       unheard none =
           let b : RunsBehind (step c (Sent (Peer from sent)) st) ended w new = steps_run_behind c st (Sent (Peer from sent)) ended w new run in
-          b.held ∙ ap (λ (x : World). x.held) (goes_nothing st b.half w b.mid (subst (λ (stage : Stage). EndsSo (hears_peer_in c from sent st stage) b.half w b.mid) (live.without none).0 b.run))
+          b.held ∙ ap (λ (x : World). x.held) (goes_nothing st b.half w b.mid (subst (λ (stage : Stage). EndsSo (hears_peer_in c from sent st stage) b.half w b.mid) (live.stands.without none).0 b.run))
 
       heard : (o : Option Round) → st.participation.round ≡ o → WholeHeld new.held
       heard None none = subst WholeHeld (sym (unheard none)) (here_at.agreed).whole
@@ -137,25 +138,25 @@ module _ (g : Lived) (here : IsLifeInForm g) (reads : ReadsRecords g.seen) (byte
       run_here = subst (λ (course : Course directory.Unit NodeStop (Live directory.Unit)). EndsSo course ended w new) (m.course (suc i) st) run
 
       step_whole : WholeHeld new.held
-      step_whole = by_event its m.message m.brings can run_here
+      step_whole = by_kind (brings_kind g its m.message m.brings)
         where
-          by_event : (e : Event) (message : Message directory.Unit) → Brings g e message → CanRecord c st message → EndsSo (node_step c (event_of message) st) ended w new → WholeHeld new.held
-          by_event (event.Peer from sent) message brings its_can its_run =
-              heard from sent (subst (BringsRecords c) brings its_can.brings) ended (subst (λ (x : Message directory.Unit). EndsSo (node_step c (event_of x) st) ended w new) brings its_run) st.participation.round refl
-          by_event (event.Final number) message brings its_can its_run =
-              block_whole (brings.0).block (subst (λ (x : Message directory.Unit). CanRecord c st x) brings.1 its_can) ended
-              (subst (λ (x : Message directory.Unit). EndsSo (node_step c (event_of x) st) ended w new) brings.1 its_run)
-          by_event other message brings its_can its_run = absurd brings
+          as_run : (message : Message directory.Unit) → m.message ≡ message → EndsSo (node_step c (event_of message) st) ended w new
+          as_run message is = subst (λ (x : Message directory.Unit). EndsSo (node_step c (event_of x) st) ended w new) is run_here
+
+          by_kind : BringsBlock g its m.message ⊎ (BringsPeer its m.message ⊎ BringsOther its m.message) → WholeHeld new.held
+          by_kind (inl b) = block_whole (b.1).block (subst (λ (x : Message directory.Unit). CanRecord c st x) b.3 can) ended (as_run (Finalized (b.1).block) b.3)
+          by_kind (inr (inl p)) = heard p.0 p.1 (subst (BringsRecords c) p.3 can.brings) ended (as_run (Sent (Peer p.0 p.1)) p.3) st.participation.round refl
+          by_kind (inr (inr mail)) =
+              subst WholeHeld (sym (idle_held c mail.0 mail.2 st ended w new (here_at.at).active (as_run (Sent mail.0) mail.1))) (here_at.agreed).whole
 
     step_goes : (end : Live directory.Unit) → EndsSo (step_of g (suc i) its st) (went end) w new → IsWholeAt (suc i) end new.held
     step_goes end run =
         let its_run : EndsSo (node_step c (event_of m.message) st) (went end) w new = run_here (went end) run in
-        let k : Held = held_at_setup c m.message w.held in
-        let led : IsNextIn c st m.message w.held k end × IsActiveIn end × LeavesTaken c st m.message k new.held
-        = node_steps_lead_over c st m.message (went end) w new (form_at g here (suc i)) taken live (here_at.at).active its_run in
+        let led : IsNodeThrough c any_shares st m.message (Some w.held) end (Some new.held)
+        = node_steps_lead_through_over c any_shares st m.message (went end) w new (through_at g here (suc i)) (lacks_nobody g (suc i)) (λ h epoch found. tt) taken live (here_at.at).active its_run in
         record {
-          at = record { live = (led.0).live; active = led.1; stands = step_stands g here i its is reached m st live (here_at.at).stands w.held k end led.0 };
-          few = next_few g here (suc i) st end m.message w.held k live led.0 here_at.few;
+          at = record { live = led.live; active = led.active; stands = step_stands g here i its is reached m st live (here_at.at).stands (Some w.held) end (Some new.held) led };
+          few = next_few g here (suc i) st end m.message (Some w.held) (Some new.held) live led here_at.few;
           agreed = node_steps_agree c st end m.message w new here_at.agreed can its_run;
         }
 

@@ -353,6 +353,7 @@ pub aside_kept : (s : Setting) (p : Progress) (one : Entry) → IsAside one → 
 aside_kept s p (entry.Opened life restored) aside = absurd aside
 aside_kept s p (entry.Recorded epoch dealer public private) aside = absurd aside
 aside_kept s p (entry.Ack epoch dealer ack) aside = absurd aside
+aside_kept s p (entry.Cut step call) aside = absurd aside
 aside_kept s p (entry.Step step) aside = absurd aside
 aside_kept s p other aside = (tt, tt)
 

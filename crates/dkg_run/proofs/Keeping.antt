@@ -37,37 +37,39 @@ use Rattle.dkg_store.specs.Pairs.{IsWhole}
 use Rattle.dkg_script.specs.AsCut.{as_cut, lives_as_cut}
 use Rattle.dkg_script.specs.Blocks.{handed_in, provided}
 use Rattle.dkg_script.specs.Consistent.{IsConsistentScript}
-use Rattle.dkg_script.specs.Epochs.{IsEventIn, IsFormOfEpochs}
-use Rattle.dkg_script.specs.Kept.{Gives, IsDurable, Kept}
+use Rattle.dkg_script.specs.Inclusion.{IsEventIn, IsFormOfInclusion}
+use Rattle.dkg_script.specs.Kept.{Gives, IsDurable, IsSound, Kept}
+use Rattle.dkg_script.specs.OwnMarks.{AreKnownHandedIn, IsKnownAt}
 use Rattle.dkg_script.specs.Position.{IsLeft, IsPlanHistory, cut_of, unless_outdated}
 use Rattle.dkg_script.specs.Progress.{AtEachEntry, at_start, pair_of, progress, read}
 use Rattle.dkg_script.specs.Promise.{InACase, IsAnswered, IsComplete, IsHonestRun, RunsAll, cuts_in}
 use Rattle.dkg_script.specs.Setting.{CutAt, Setting, found, is_oneshot, life_at, listed, recovered_from, setting_of}
 use Rattle.dkg_script.proofs.Listed.{gives_all, pair_of-listed}
-use Rattle.dkg_script.proofs.EachEntry.{EachAfter, at_each}
+use Rattle.dkg_script.proofs.EachEntry.{all_splits, at_each}
 use Rattle.dkg_core.specs.Agreeing.{BringsRecords}
 use Rattle.dkg_core.specs.Heard.{recovered_in}
-use Rattle.dkg_core.specs.Live.{Message}
+use Rattle.dkg_core.specs.Live.{Cancel, EpochInfoOf, Feed, Finalized, Message, NextLog, Over, Peer, ReleaseLog, Sent, Work}
 use Rattle.dkg_core.specs.Seen.{Seen}
 use Rattle.dkg_reshare.specs.Planless.{seen_planless}
 use Rattle.dkg_run.specs.Epochs.{IsAnchorAbove, IsLifeInForm}
 use Rattle.dkg_run.specs.Given.{AreBytes, Lived, at_step, lived}
 use Rattle.dkg_run.specs.Lives.{RunsOver, never}
 use Rattle.dkg_run.specs.Ways.{by_worlds}
-use Rattle.dkg_run.proofs.Currently.{IsKeptEntry, RestsIn, current_all}
+use Rattle.dkg_run.proofs.Currently.{RestsIn, current_all}
 use Rattle.dkg_run.proofs.FitsRead.{message_fits}
 use Rattle.dkg_run.proofs.Former.{Brings, IsMessage, event_in_form}
 use Rattle.dkg_run.proofs.LifeSteps.{IsLifeOfSetting}
 use Rattle.dkg_run.proofs.LogsFit.{block_fits}
 use Rattle.dkg_run.proofs.RunKept.{AreLives, LeavesRun, run_kept}
-use Rattle.dkg_run.proofs.KeptSteps.{Reaches}
+use Rattle.dkg_run.proofs.MarksAt.{handed_known}
+use Rattle.dkg_run.proofs.Marked.{Comes, EachMarked, answered_at, each_sound, marks_of}
 
 abbrev U : Type 0
 U = directory.Unit
 
 -- What is built: a script of the form over many epochs, whose mode is supported and whose epochs have two blocks at least, and no plan.
 pub record IsBuiltSetting (s : Setting) : Type 0 where
-  pub form : IsFormOfEpochs s.script
+  pub form : IsFormOfInclusion s.script
   pub anchored : (l : ℕ) (life : Life) → life_at s l ≡ Some life → IfSome life.anchor (IsAnchorAbove s.script.blocks)
   pub supported : supports_of s.script.config.max_mode.0 s.script.config.mode ≡ true
   pub long : 2 ≤ non_zero_u64_get s.script.config.blocks_per_epoch
@@ -103,9 +105,19 @@ module _ (s : Setting) (ends : List (Option CutAt)) (built : IsBuiltSetting s) (
     brings_given : (i : ℕ) (its : script_event.Event) → slice_get g.life.events i ≡ Some its → (m : IsMessage g its) → BringsRecords (at_step g (suc i)) m.message
     brings_given i its is m = by_event its (event_in_form g here i its is) m.message m.brings
       where
+        brought_as : (message other : Message U) → message ≡ other → BringsRecords (at_step g (suc i)) other → BringsRecords (at_step g (suc i)) message
+        brought_as message other is brings = subst (λ (y : Message U). BringsRecords (at_step g (suc i)) y) (sym is) brings
+
         by_event : (x : script_event.Event) → IsEventIn s.script.blocks x → (message : Message U) → Brings g x message → BringsRecords (at_step g (suc i)) message
-        by_event (event.Peer from bytes) form message brings = subst (λ (y : Message U). BringsRecords (at_step g (suc i)) y) (sym brings) (message_fits (at_step g (suc i)) from bytes (limit_given (suc i)) form)
-        by_event (event.Final number) form message brings = subst (λ (y : Message U). BringsRecords (at_step g (suc i)) y) (sym brings.1) (block_fits g built.bytes built.heights built.form.few (suc i) number brings.0)
+        by_event (event.Peer from bytes) form message brings = brought_as message (Sent (Peer from bytes)) brings (message_fits (at_step g (suc i)) from bytes (limit_given (suc i)) form)
+        by_event (event.Final number) form message brings = brought_as message (Finalized (brings.0).block) brings.1 (block_fits g built.bytes built.heights built.form.few (suc i) number brings.0)
+        by_event (event.Next request height) form message brings = brought_as message (Sent (NextLog request height)) brings tt
+        by_event (event.Release height) form message brings = brought_as message (Sent (ReleaseLog height)) brings tt
+        by_event (event.Info request) form message brings = brought_as message (Sent (EpochInfoOf request)) brings tt
+        by_event (event.Feed request number) form message brings = brought_as message (Sent (Feed request (brings.0).block)) brings.1 tt
+        by_event (event.Over request) form message brings = brought_as message (Sent (Over request)) brings tt
+        by_event (event.Cancel request) form message brings = brought_as message (Sent (Cancel request)) brings tt
+        by_event event.Work form message brings = brought_as message (Sent (Work None)) brings tt
         by_event other form message brings = absurd brings
 
     meant : IsLifeOfSetting s ends g
@@ -132,7 +144,7 @@ anchor_as_cut (end ∷ ends) (x ∷ xs) zero life is = (x, refl, ap (λ (y : Lif
     the_same e = cc
 anchor_as_cut (end ∷ ends) (x ∷ xs) (suc l) life is = anchor_as_cut ends xs l life is
 
-pub built_as_cut : (script : Script) (files : Files) (secrets : Secrets) (ends : List (Option CutAt)) → IsFormOfEpochs (as_cut ends script) → IsBuiltSetting (setting_of script files secrets) → IsBuiltSetting (setting_of (as_cut ends script) files secrets)
+pub built_as_cut : (script : Script) (files : Files) (secrets : Secrets) (ends : List (Option CutAt)) → IsFormOfInclusion (as_cut ends script) → IsBuiltSetting (setting_of script files secrets) → IsBuiltSetting (setting_of (as_cut ends script) files secrets)
 built_as_cut script files secrets ends form built = record {
   form = form;
   anchored = λ l life is. let its = anchor_as_cut ends script.lives l life is in subst (λ (x : Option Anchor). IfSome x (IsAnchorAbove script.blocks)) (sym its.2) (built.anchored l its.0 its.1);
@@ -145,7 +157,7 @@ built_as_cut script files secrets ends form built = record {
 
 -- THE PLAN'S ONE CASE
 
-pub history_of : (s : Setting) (cuts : List (Option CutAt)) → IsFormOfEpochs s.script → get s.files Plan ≡ None → s.plans ≡ [] → IsPlanHistory s cuts
+pub history_of : (s : Setting) (cuts : List (Option CutAt)) → IsFormOfInclusion s.script → get s.files Plan ≡ None → s.plans ≡ [] → IsPlanHistory s cuts
 history_of s cuts form no_plan no_plans = record { first = none 0 ∙ sym no_record; next = λ l below. by_life l (life_at s l) refl }
   where
     none : (l : ℕ) → found s l ≡ None
@@ -175,7 +187,6 @@ rests_at_start s h notes_are secrets_are whole = record {
     known = λ pair there. inl (known pair (rw same at there));
     first = λ none. same;
   };
-  handed = record { dealings = known };
 }
   where
     same : recovered_in h ≡ recovered_from s.files s.secrets
@@ -208,8 +219,8 @@ same_behind (x ∷ old) a b e = same_behind old a b (let rest : old ++ a ≡ old
 module _ (s : Setting) (built : IsBuiltSetting s) (no_plans : s.plans ≡ []) (whole : IsWhole (entries s.files) s.secrets) (answered : Result (Unit {0}) Fault) (old_out new_out added : List Entry) (secrets_now : Secrets)
     (is : new_out ≡ old_out ++ added) (consistent : IsConsistentScript s (fold (read s) (at_start s) added).cuts) where
   pub goes_to : (c : Files) → RunsOver s.script answered s.files (at (moment old_out s.secrets never) s.files) (λ f. at (moment new_out secrets_now f) c)
-      → EachAfter s (IsKeptEntry s) (at_start s) added × LeavesRun (at (moment new_out secrets_now never) c).held s (fold (read s) (at_start s) added)
-  goes_to c run = (subst (λ (xs : List Entry). EachAfter s (IsKeptEntry s) (at_start s) xs) same gone.each, subst (λ (xs : List Entry). LeavesRun (at (moment new_out secrets_now never) c).held s (fold (read s) (at_start s) xs)) same gone.to)
+      → EachMarked s (AreKnownHandedIn s) (at_start s) added × LeavesRun (at (moment new_out secrets_now never) c).held s (fold (read s) (at_start s) added)
+  goes_to c run = (subst (λ (xs : List Entry). EachMarked s (AreKnownHandedIn s) (at_start s) xs) same gone.each, subst (λ (xs : List Entry). LeavesRun (at (moment new_out secrets_now never) c).held s (fold (read s) (at_start s) xs)) same gone.to)
     where
       w : World
       w = at (moment old_out s.secrets never) s.files
@@ -223,10 +234,10 @@ module _ (s : Setting) (built : IsBuiltSetting s) (no_plans : s.plans ≡ []) (w
       end_so : (its : List Entry) → new_out ≡ old_out ++ its → (fold (read s) (at_start s) its).cuts ≡ ends
       end_so its out = ap (λ (xs : List Entry). (fold (read s) (at_start s) xs).cuts) (same_behind old_out its added (sym out ∙ is))
 
-      gone : Reaches s (at_start s) old_out new_out (LeavesRun (at (moment new_out secrets_now never) c).held s)
+      gone : Comes s (AreKnownHandedIn s) (at_start s) old_out new_out (λ marks q. LeavesRun (at (moment new_out secrets_now never) c).held s q)
       gone = run_kept s ends (ap is_some built.form.reshares) consistent (given s ends built no_plans consistent)
-          (λ its. its ≡ s.files) w answered new (at_start s) (lives_of s [] s.script.lives refl) (record { lives = refl; step = refl; nothing = refl }) (rests_at_start s w.held refl refl whole)
-          (λ key log now there. there) end_so run.so
+          (λ its. its ≡ s.files) (AreKnownHandedIn s) w answered new (at_start s) (lives_of s [] s.script.lives refl) (record { lives = refl; step = refl; nothing = refl }) (rests_at_start s w.held refl refl whole)
+          (handed_known s _) end_so run.so
 
       same : gone.added ≡ added
       same = same_behind old_out gone.added added (sym gone.out ∙ is)
@@ -247,11 +258,14 @@ module _ (script : Script) (files : Files) (image : Files → Type 0) (secrets :
     stands : Stands files image
     stands = record { lands = honest.stores.nothing_loose; itself = itself }
 
-    one : (c : Files) → now c → EachAfter s (IsKeptEntry s) (at_start s) added × LeavesRun (at (moment new_out secrets_now never) c).held s (fold (read s) (at_start s) added)
+    one : (c : Files) → now c → EachMarked s (AreKnownHandedIn s) (at_start s) added × LeavesRun (at (moment new_out secrets_now never) c).held s (fold (read s) (at_start s) added)
     one c there = goes_to s built refl honest.stores.whole answered old_out new_out added secrets_now is consistent c (runs stands c there)
 
-    each : AtEachEntry s (IsKeptEntry s) added
-    each = at_each s (IsKeptEntry s) added (one left is_left).0
+    abbrev each : EachMarked s (AreKnownHandedIn s) (at_start s) added
+    each = (one left is_left).0
+
+    sound : AtEachEntry s (IsSound s) added
+    sound = at_each s (IsSound s) added (each_sound s added (AreKnownHandedIn s) (at_start s) each)
 
     durable : IsDurable s (progress s added) now secrets_now
     unfolding progress
@@ -259,11 +273,14 @@ module _ (script : Script) (files : Files) (image : Files → Type 0) (secrets :
 
     -- THE TRANSCRIPT AND THE DEVICES keep each recorded dealing
     pub kept_of : InACase s (cuts_in s added) (λ case. Kept case added now secrets_now)
-    kept_of = ([], plain_history s (cuts_in s added) built refl, record { each = λ before entry after parts. (each before entry after parts).0; durable = durable })
+    kept_of = ([], plain_history s (cuts_in s added) built refl, record { each = sound; durable = durable })
 
     -- the case of no plan
     settled : (before after : List Entry) (step : ℕ) → added ≡ before ++ entry.Step step ∷ after → IsAnswered s before
-    settled before after step parts own due = (each before (entry.Step step) after parts).1 own.handed_in (due [] (plain_history s (cuts_in s before) built refl))
+    unfolding progress
+    settled before after step parts own due =
+        answered_at s before (entry.Step step) after (AreKnownHandedIn s) (at_start s) (subst (λ (xs : List Entry). EachMarked s (AreKnownHandedIn s) (at_start s) xs) parts each)
+        (marks_of s before (AreKnownHandedIn s) (at_start s) own.handed_in (all_splits s (IsKnownAt s) before (at_start s) own.delivered)) (due [] (plain_history s (cuts_in s before) built refl))
 
     -- .. AND WHAT WAS DUE was acknowledged
     pub answered_of : RunsAll script added → IsComplete s added

@@ -10,7 +10,7 @@ use Rattle.dkg_store.specs.Pairs.{Pairs, IsWhole}
 use Rattle.dkg_store.specs.Recorded.{restored_list}
 use Rattle.dkg_script.specs.Kept.{AllCurrent, Gives}
 use Rattle.dkg_script.specs.Position.{begun_before}
-use Rattle.dkg_script.specs.Progress.{Progress, read, pair_of}
+use Rattle.dkg_script.specs.Progress.{Progress, read}
 use Rattle.dkg_script.specs.Setting.{Setting, listed}
 use Rattle.dkg_core.specs.Agreeing.{AreAgreed}
 use Rattle.dkg_core.specs.Fixed.{Fixed}
@@ -18,7 +18,7 @@ use Rattle.dkg_core.specs.Heard.{KeepsFrom, recovered_in}
 use Rattle.dkg_core.specs.Live.{Live}
 use Rattle.dkg_core.specs.NodeKept.{BeginsRestored}
 use Rattle.dkg_core.specs.Transcripts.{IfWentTo}
-use Rattle.dkg_run.proofs.Currently.{AreKept, HandsOn, IsKeptEntry, MayBeKept, RestsIn, are_opened, current_as, current_later, grown, keeps_opening, may_of, may_still}
+use Rattle.dkg_run.proofs.Currently.{AreKept, IsGrown, IsKeptEntry, MayBeKept, RestsIn, are_opened, current_as, current_later, grown, keeps_opening, may_of, may_still}
 use Rattle.dkg_run.proofs.Heard.{IsUnchanged, Knows, each_aside, read_aside}
 use Rattle.dkg_run.proofs.KeptSteps.{AnyCall, CarriesAt, IsBehindStep, IsSaved, Reaches}
 
@@ -26,6 +26,7 @@ use Rattle.dkg_run.proofs.KeptSteps.{AnyCall, CarriesAt, IsBehindStep, IsSaved, 
 pub record IsOpenedBy {F Dir : Type 0} (c : Fixed Dir) (begun epoch l : ℕ) (ended : Ended F (Live Dir)) (h : Held) (s : Setting) (p q : Progress) : Type 0 where
   pub cuts : q.cuts ≡ p.cuts
   pub step : q.step ≡ p.step
+  pub grown : IsGrown p.recorded q.recorded
   pub saved : IsSaved AnyCall begun h s q
   pub went : IfWentTo ended (λ end. CarriesAt c begun epoch l end h s q)
 
@@ -48,25 +49,20 @@ module _ {F Dir : Type 0} (c : Fixed Dir) (b e l : ℕ) (ended : Ended F (Live D
   abbrev b0 : ℕ
   b0 = begun_before s p.cuts (length p.cuts)
 
-  handed : (q : Progress) → ((pair : Restored) → pair_of p.recorded pair.epoch pair.dealer ≡ Some pair → pair_of q.recorded pair.epoch pair.dealer ≡ Some pair) → HandsOn s q
-  handed q grown = record { dealings = λ pair given. grown pair (rests.handed.dealings pair given) }
-
   -- what was given back and is current still is
   still_given : (xs : List Restored) → AllCurrent b0 (Gives m) xs → AllCurrent b (Gives now) xs
   still_given xs all = current_as b (Gives m) (Gives now) (λ x current given. keeps (x.epoch, x.dealer) (omega (arith, low, current)) ∙ given) xs (current_later b0 b (Gives m) later xs all)
 
-  saved : (q : Progress) → AllCurrent b (Gives now) q.recorded → MayBeKept b s q now
-      → ((pair : Restored) → pair_of p.recorded pair.epoch pair.dealer ≡ Some pair → pair_of q.recorded pair.epoch pair.dealer ≡ Some pair) → IsSaved AnyCall b new.held s q
-  saved q given may grown = record {
+  saved : (q : Progress) → AllCurrent b (Gives now) q.recorded → MayBeKept b s q now → IsSaved AnyCall b new.held s q
+  saved q given may = record {
     whole = whole;
     gives = given;
     at_cut = λ step call here any. may_still b b s q (read s q (entry.Cut step call)) (Some (record { step = step; call = call })) now (omega arith) refl refl refl may;
-    handed = handed q grown;
   }
 
   -- it said nothing
   unopened : new.out ≡ w.out → IfWentTo ended (λ end. ⊥) → IsOpenedBy c b e l ended new.held s p p
-  unopened silent not = record { cuts = refl; step = refl; saved = saved p (still_given p.recorded rests.may.given) may (λ pair there. there); went = by_end ended not }
+  unopened silent not = record { cuts = refl; step = refl; grown = λ pair there. there; saved = saved p (still_given p.recorded rests.may.given) may; went = by_end ended not }
     where
       may : MayBeKept b s p now
       may = record {
@@ -94,7 +90,8 @@ module _ {F Dir : Type 0} (c : Fixed Dir) (b e l : ℕ) (ended : Ended F (Live D
   opened lines q same = record {
     cuts = same.cuts;
     step = same.step;
-    saved = saved q are.given (may_of b s q l now opened_is are) still;
+    grown = λ pair there. rw same.recorded (grown s p first pair there);
+    saved = saved q are.given (may_of b s q l now opened_is are);
     went = by_end ended opens;
   }
     where
@@ -107,14 +104,10 @@ module _ {F Dir : Type 0} (c : Fixed Dir) (b e l : ℕ) (ended : Ended F (Live D
       opened_is : q.opened ≡ Some l
       opened_is = same.opened ∙ ap (λ (n : ℕ). Some n) lives
 
-      still : (pair : Restored) → pair_of p.recorded pair.epoch pair.dealer ≡ Some pair → pair_of q.recorded pair.epoch pair.dealer ≡ Some pair
-      still pair there = rw same.recorded (grown s p first pair there)
-
       by_end : (its : Ended F (Live Dir)) → IfWentTo its (λ end. Opens c e end new.held s) → IfWentTo its (λ end. CarriesAt c b e l end new.held s q)
       by_end (went end) its = record {
         half = record { knows = knows; agreed = its.agreed; are = are; current = current; in_round = its.behind.in_round; valid = its.behind.valid };
         opened = opened_is;
-        handed = handed q still;
         live = its.behind.live;
         active = its.behind.active;
       }

@@ -28,23 +28,29 @@ use Rattle.dkg_script.specs.Setting.{Setting, CutAt, life_at, me}
 use Rattle.dkg_script.proofs.EachEntry.{EachAfter}
 use Rattle.dkg_core.specs.Courses.{EndsSo, on_devices}
 use Rattle.dkg_core.specs.Fixed.{Fixed}
-use Rattle.dkg_core.specs.Live.{Live, NodeStop, Faulted, Message, Sent, Peer, Finalized, Delivers}
+use Rattle.dkg_core.specs.Live.{Live, NodeStop, Faulted, Mail, Message, Sent, Peer, Finalized, Delivers, with_inclusion}
 use Rattle.dkg_core.specs.Core.{step}
 use Rattle.dkg_core.specs.Node.{node_step}
 use Rattle.dkg_core.specs.Agreeing.{AreAgreed, CanRecord}
 use Rattle.dkg_core.specs.Behind.{EndsBehind, IsAside, IsSameBeside, RunsBehind, event_of}
 use Rattle.dkg_core.specs.BlocksKept.{IsBlockLine, IsKeptBehind}
 use Rattle.dkg_core.specs.Enduring.{IsKeptFrom, IsSaidFrom}
-use Rattle.dkg_core.specs.Forms.{Judged, Refusal, Passed, Applied, IsActiveIn, IsForm, IsLiveIn, IsTakenIn, judged_block}
+use Rattle.dkg_core.specs.Endings.{CameTo}
+use Rattle.dkg_core.specs.Forms.{Judged, Refusal, Passed, Applied, IsForm, judged_block}
 use Rattle.dkg_core.specs.Heard.{recovered_in}
-use Rattle.dkg_core.specs.Laws.{IsOwn, IsOffered, reach_of}
+use Rattle.dkg_core.specs.Idle.{IsAskedLine, LeavesIdle}
+use Rattle.dkg_core.specs.Laws.{IsOther, IsOwn, IsOffered, reach_of}
+use Rattle.dkg_core.specs.NodeThrough.{IsActiveThrough}
+use Rattle.dkg_core.specs.Through.{IsLiveThrough}
 use Rattle.dkg_core.specs.Transcripts.{IfWentTo}
 use Rattle.dkg_core.proofs.Agreeing.{steps_agree}
 use Rattle.dkg_core.proofs.Behind.{steps_run_behind}
 use Rattle.dkg_core.proofs.BlocksKept.{blocks_keep}
 use Rattle.dkg_core.proofs.Enduring.{steps_keep}
+use Rattle.dkg_core.proofs.Idle.{mails_are_idle}
+use Rattle.dkg_run.specs.Epochs.{any_shares}
 use Rattle.dkg_run.proofs.BlocksLeave.{AreTold, gives_before, gives_no_other, says_aside, tells_own}
-use Rattle.dkg_run.proofs.Currently.{AreKept, HandsOn, IsKeptEntry, MayBeKept, current_as, current_later, current_with, found_current, grown, grown_all, may_of, may_still}
+use Rattle.dkg_run.proofs.Currently.{AreKept, IsGrown, IsKeptEntry, MayBeKept, current_as, current_later, current_with, found_current, grown, grown_all, may_of, may_still}
 use Rattle.dkg_run.proofs.Heard.{Carries, IsHeard, IsSameStep, IsUnchanged, ValidAt, each_aside, heard, own_found, read_aside}
 use Rattle.dkg_run.proofs.NoOthers.{IsOwnDealt, IsToldSince}
 use Rattle.dkg_run.proofs.PeerForms.{IsUndue}
@@ -91,7 +97,6 @@ pub record IsSaved (Call : ℕ → Type 0) (begun : ℕ) (h : Held) (s : Setting
   pub whole : IsWhole (notes h) h.secrets
   pub gives : AllCurrent begun (Gives (recovered_in h)) p.recorded
   pub at_cut : (step call : ℕ) → p.step ≡ step → Call call → MayBeKept begun s (read s p (entry.Cut step call)) (recovered_in h)
-  pub handed : HandsOn s p
 
 abbrev pub AnyCall : ℕ → Type 0
 AnyCall call = Unit {0}
@@ -110,9 +115,8 @@ pub record IsAtStep (l : ℕ) (life : Life) (j : ℕ) (s : Setting) (p : Progres
 pub record CarriesAt {Dir : Type 0} (c : Fixed Dir) (begun epoch l : ℕ) (st : Live Dir) (h : Held) (s : Setting) (p : Progress) : Type 0 where
   pub half : Carries c begun epoch st h s p
   pub opened : p.opened ≡ Some l
-  pub handed : HandsOn s p
-  pub live : IsLiveIn c st
-  pub active : IsActiveIn st
+  pub live : IsLiveThrough c any_shares st
+  pub active : IsActiveThrough st
 
 -- the cut that ended the life last
 last_cut : (cuts : List (Option CutAt)) (l : ℕ) (its : Option CutAt) → length cuts ≡ l → cut_of (cuts ++ its ∷ []) l ≡ its
@@ -144,7 +148,6 @@ saved_carried Call c b e l st h s p carries = record {
   gives = carries.half.are.given;
   at_cut = λ step call here within. may_still b b s p (read s p (entry.Cut step call)) (Some (record { step = step; call = call })) (recovered_in h) (omega arith) refl refl refl
       (may_of b s p l (recovered_in h) carries.opened carries.half.are);
-  handed = carries.handed;
 }
 
 -- THE STEP
@@ -164,6 +167,7 @@ half_went (broken cause) end ends = absurd (went_broken {F = NodeStop} end cause
 -- what a step leaves, how it ended
 pub record IsLeftBy {Dir : Type 0} (c : Fixed Dir) (begun epoch l : ℕ) (Unanswered : Type 0) (ended : Ended NodeStop (Live Dir)) (h : Held) (s : Setting) (p q : Progress) : Type 0 where
   pub same : IsSameStep p q
+  pub grown : IsGrown p.recorded q.recorded
   pub saved : IsSaved WithinCall begun h s q
   pub went : IfWentTo ended (λ end. CarriesAt c begun epoch l end h s q × (Unanswered ⊎ (list_any is_ack q.written ≡ true)))
 
@@ -181,39 +185,34 @@ agreed_by {Dir} c st message ended w new agreed can run end is =
 pub record IsBehindStep {Dir : Type 0} (c : Fixed Dir) (epoch : ℕ) (end : Live Dir) (h : Held) (s : Setting) : Type 0 where
   pub in_round : (round : Round) → end.participation.round ≡ Some round → (round_at s epoch ≡ Some round) × (round.number ≡ epoch)
   pub valid : ValidAt epoch end h s
-  pub live : IsLiveIn c end
-  pub active : IsActiveIn end
+  pub live : IsLiveThrough c any_shares end
+  pub active : IsActiveThrough end
 
 -- the rest, of what the half's entries leave: b has begun then, and e is awaited
 module _ {Dir : Type 0} (c : Fixed Dir) (b0 e0 b e l : ℕ) (life : Life) (j : ℕ) (st : Live Dir) (message : Message Dir) (ended : Ended NodeStop (Live Dir)) (w new : World) (s : Setting) (p : Progress)
     (at : IsAtStep l life j s p) (carries : CarriesAt c b0 e0 l st w.held s p) (agreed : (end : Live Dir) → ended ≡ went end → AreAgreed end.records new.held) (current : b < e + 2)
     (next : IfWentTo ended (λ end. IsBehindStep c e end new.held s)) where
-  -- what was handed in
-  still_handed : (q : Progress) → ((pair : Restored) → pair_of p.recorded pair.epoch pair.dealer ≡ Some pair → pair_of q.recorded pair.epoch pair.dealer ≡ Some pair) → HandsOn s q
-  still_handed q grown = record { dealings = λ pair given. grown pair (carries.handed.dealings pair given) }
-
-  carried : (end : Live Dir) (q : Progress) → ended ≡ went end → IsBehindStep c e end new.held s → q.opened ≡ p.opened → AreKept b (recovered_in new.held) q.recorded → HandsOn s q → CarriesAt c b e l end new.held s q
-  carried end q is its opened are handed = record {
+  carried : (end : Live Dir) (q : Progress) → ended ≡ went end → IsBehindStep c e end new.held s → q.opened ≡ p.opened → AreKept b (recovered_in new.held) q.recorded → CarriesAt c b e l end new.held s q
+  carried end q is its opened are = record {
     half = record { knows = carries.half.knows; agreed = agreed end is; are = are; current = current; in_round = its.in_round; valid = its.valid };
     opened = opened ∙ carries.opened;
-    handed = handed;
     live = its.live;
     active = its.active;
   }
 
   leaves : (Unanswered : Type 0) (q : Progress) → IsSameStep p q → IsWhole (notes new.held) new.held.secrets → AllCurrent b (Gives (recovered_in new.held)) q.recorded
       → ((pair : Restored) → Gives (recovered_in new.held) pair → (pair_of q.recorded pair.epoch pair.dealer ≡ Some pair) ⊎ ((pair_of q.recorded pair.epoch pair.dealer ≡ None) × IsBrought s l life j pair))
-      → ((pair : Restored) → pair_of p.recorded pair.epoch pair.dealer ≡ Some pair → pair_of q.recorded pair.epoch pair.dealer ≡ Some pair)
+      → IsGrown p.recorded q.recorded
       → IfWentTo ended (λ end. ((pair : Restored) → Gives (recovered_in new.held) pair → pair_of q.recorded pair.epoch pair.dealer ≡ Some pair) × (Unanswered ⊎ (list_any is_ack q.written ≡ true)))
       → IsLeftBy c b e l Unanswered ended new.held s p q
   leaves Unanswered q same whole given known grown settled = record {
     same = same;
+    grown = grown;
     saved = record {
       whole = whole;
       gives = given;
       at_cut = λ step call here within. subst (λ (n : ℕ). MayBeKept b s (read s q (entry.Cut n call)) (recovered_in new.held)) (sym at.step ∙ sym same.step ∙ here)
           (may_at_cut b s q l life j call (recovered_in new.held) at.life_is (ap length same.cuts ∙ at.lives) (same.opened ∙ carries.opened) within given known);
-      handed = still_handed q grown;
     };
     went = by_end ended refl next settled;
   }
@@ -221,7 +220,7 @@ module _ {Dir : Type 0} (c : Fixed Dir) (b0 e0 b e l : ℕ) (life : Life) (j : �
       by_end : (its : Ended NodeStop (Live Dir)) → ended ≡ its → IfWentTo its (λ end. IsBehindStep c e end new.held s)
           → IfWentTo its (λ end. ((pair : Restored) → Gives (recovered_in new.held) pair → pair_of q.recorded pair.epoch pair.dealer ≡ Some pair) × (Unanswered ⊎ (list_any is_ack q.written ≡ true)))
           → IfWentTo its (λ end. CarriesAt c b e l end new.held s q × (Unanswered ⊎ (list_any is_ack q.written ≡ true)))
-      by_end (went end) is next settled = (carried end q is next same.opened (record { given = given; known = settled.0 }) (still_handed q grown), settled.1)
+      by_end (went end) is next settled = (carried end q is next same.opened (record { given = given; known = settled.0 }), settled.1)
       by_end (stopped stop) is next settled = tt
       by_end (broken cause) is next settled = tt
 
@@ -246,7 +245,7 @@ module _ {Dir : Type 0} (c : Fixed Dir) (b e l : ℕ) (life : Life) (j from : �
     (at : IsAtStep l life j s p) (event_is : event_of_step life j ≡ Some (FromPeer from bytes)) (awaits : e ≡ awaited_epoch s l life (j - 1)) (carries : CarriesAt c b e l st w.held s p)
     (can : CanRecord c st (Sent (Peer from bytes))) (small : from < 2 ^ 32)
     -- the life goes on in its round and its seat
-    (next : IfWentTo ended (λ end. (end.participation.round ≡ st.participation.round) × (end.participation.seat ≡ st.participation.seat) × IsLiveIn c end × IsActiveIn end))
+    (next : IfWentTo ended (λ end. (end.participation.round ≡ st.participation.round) × (end.participation.seat ≡ st.participation.seat) × IsLiveThrough c any_shares end × IsActiveThrough end))
     (run : EndsSo (node_step c (event_of (Sent (Peer from bytes))) st) ended w new) where
   abbrev its : RunsBehind (step c (Sent (Peer from bytes)) st) ended w new
   its = steps_run_behind c st (Sent (Peer from bytes)) ended w new run
@@ -262,7 +261,7 @@ module _ {Dir : Type 0} (c : Fixed Dir) (b e l : ℕ) (life : Life) (j from : �
   behind_it : IfWentTo ended (λ end. IsBehindStep c e end new.held s)
   behind_it = by_end ended next
     where
-      by_end : (its_end : Ended NodeStop (Live Dir)) → IfWentTo its_end (λ end. (end.participation.round ≡ st.participation.round) × (end.participation.seat ≡ st.participation.seat) × IsLiveIn c end × IsActiveIn end)
+      by_end : (its_end : Ended NodeStop (Live Dir)) → IfWentTo its_end (λ end. (end.participation.round ≡ st.participation.round) × (end.participation.seat ≡ st.participation.seat) × IsLiveThrough c any_shares end × IsActiveThrough end)
           → IfWentTo its_end (λ end. IsBehindStep c e end new.held s)
       by_end (went end) so = record {
         in_round = λ round there. carries.half.in_round round (sym so.0 ∙ there);
@@ -305,6 +304,61 @@ module _ {Dir : Type 0} (c : Fixed Dir) (b e l : ℕ) (life : Life) (j from : �
           by_end half (broken cause) ends so = tt
           by_end (stopped fault) (went end) ends so = absurd (went_stopped end (Faulted fault) ends)
           by_end (broken cause) (went end) ends so = absurd (went_broken {F = NodeStop} end cause ends)
+
+-- ANY OTHER MESSAGE
+
+-- what a request is answered is aside
+asked_aside : (lines : List Entry) → AllByRecursion IsAskedLine lines → AllByRecursion IsAside lines
+asked_aside [] all = tt
+asked_aside (entry.Answer request answer ∷ lines) all = (tt, asked_aside lines all.1)
+asked_aside (entry.Log request log ∷ lines) all = (tt, asked_aside lines all.1)
+asked_aside (other ∷ lines) all = absurd all.0
+
+module _ {Dir : Type 0} (c : Fixed Dir) (b e l : ℕ) (life : Life) (j : ℕ) (mail : Mail Dir) (st : Live Dir) (ended : Ended NodeStop (Live Dir)) (w new : World) (s : Setting) (p : Progress) (at : IsAtStep l life j s p)
+    (carries : CarriesAt c b e l st w.held s p) (can : CanRecord c st (Sent mail)) (other : IsOther (Sent mail)) (next : IfWentTo ended (λ end. IsLiveThrough c any_shares end × IsActiveThrough end))
+    (run : EndsSo (node_step c (event_of (Sent mail)) st) ended w new) where
+  abbrev answers : LeavesIdle st ended w new
+  answers = mails_are_idle c mail st ended w new other ((carries.active).active).unawaited run
+
+  idle_pairs : recovered_in new.held ≡ recovered_in w.held
+  idle_pairs = ap (λ (h : Held). recovered_in h) answers.held
+
+  idle_behind : IfWentTo ended (λ end. IsBehindStep c e end new.held s)
+  idle_behind = by_end ended answers.goes next
+    where
+      by_end : (its : Ended NodeStop (Live Dir)) → CameTo (λ stop. Unit {0}) (λ end. end ≡ with_inclusion end.inclusion st) its → IfWentTo its (λ end. IsLiveThrough c any_shares end × IsActiveThrough end)
+          → IfWentTo its (λ end. IsBehindStep c e end new.held s)
+      by_end (went end) same lives = record {
+        in_round = λ round there. carries.half.in_round round (sym (ap (λ (x : Live Dir). x.participation.round) same) ∙ there);
+        valid = λ round dealer pair there plays low got. carries.half.valid round dealer pair (sym (ap (λ (x : Live Dir). x.participation.round) same) ∙ there)
+            (sym (ap (λ (x : Live Dir). x.participation.seat) same) ∙ plays) low (subst (λ (m : Pairs). get m (e, dealer) ≡ Some pair) idle_pairs got);
+        live = lives.0;
+        active = lives.1;
+      }
+      by_end (stopped stop) same lives = tt
+      by_end (broken cause) same lives = tt
+
+  pub mail_kept : Reaches s p w.out new.out (IsLeftBy c b e l (Unit {0}) ended new.held s p)
+  mail_kept = record {
+    added = answers.lines;
+    out = answers.out;
+    each = each_aside s answers.lines p (asked_aside answers.lines answers.says);
+    to = left (fold (read s) p answers.lines) (read_aside s answers.lines p (asked_aside answers.lines answers.says));
+  }
+    where
+      left : (q : Progress) → IsUnchanged p q → IsLeftBy c b e l (Unit {0}) ended new.held s p q
+      left q unchanged = leaves c b e b e l life j st (Sent mail) ended w new s p at carries (agreed_by c st (Sent mail) ended w new carries.half.agreed can run) carries.half.current idle_behind (Unit {0}) q
+          (record { cuts = unchanged.cuts; step = unchanged.step; opened = unchanged.opened }) (subst (λ (h : Held). IsWhole (notes h) h.secrets) (sym answers.held) carries.half.agreed.whole)
+          (subst (λ (m : Pairs). AllCurrent b (Gives m) q.recorded) (sym idle_pairs) (rw unchanged.recorded carries.half.are.given)) (λ pair there. inl (known pair there))
+          (λ pair there. rw unchanged.recorded there) (by_end ended)
+        where
+          known : (pair : Restored) → Gives (recovered_in new.held) pair → pair_of q.recorded pair.epoch pair.dealer ≡ Some pair
+          known pair there = rw unchanged.recorded (carries.half.are.known pair (subst (λ (m : Pairs). Gives m pair) idle_pairs there))
+
+          by_end : (its : Ended NodeStop (Live Dir)) → IfWentTo its (λ end. ((pair : Restored) → Gives (recovered_in new.held) pair → pair_of q.recorded pair.epoch pair.dealer ≡ Some pair) × (Unit {0} ⊎ (list_any is_ack q.written ≡ true)))
+          by_end (went end) = (known, inl tt)
+          by_end (stopped stop) = tt
+          by_end (broken cause) = tt
 
 -- A BLOCK
 
@@ -396,7 +450,7 @@ module _ {Dir : Type 0} (c : Fixed Dir) (b e l : ℕ) (life : Life) (j number : 
 
 module _ {Dir : Type 0} (c : Fixed Dir) (b0 e0 b e l : ℕ) (life : Life) (j number : ℕ) (block : Block Dir) (st : Live Dir) (ended : Ended NodeStop (Live Dir)) (w new : World) (s : Setting) (p : Progress) (form : IsForm c)
     (at : IsAtStep l life j s p) (event_is : event_of_step life j ≡ Some (Final number)) (awaits : e0 ≡ awaited_epoch s l life (j - 1)) (carries : CarriesAt c b0 e0 l st w.held s p)
-    (can : CanRecord c st (Finalized block)) (taken : IsTakenIn c (Finalized block) st)
+    (can : CanRecord c st (Finalized block))
     -- what has begun by then, and is awaited: a block that is applied while dealing is of the epoch that was awaited
     (later : b0 ≤ b) (reach : reach_of c (Finalized block) ≤ b - 1) (current : b < e + 2) (dealing : judged_block c block st ≡ Applied → (round : Round) → st.participation.round ≡ Some round → b < e0 + 2)
     (next : IfWentTo ended (λ end. IsBehindStep c e end new.held s)) (run : EndsSo (node_step c (Delivers block) st) ended w new) where
@@ -430,7 +484,7 @@ module _ {Dir : Type 0} (c : Fixed Dir) (b0 e0 b e l : ℕ) (life : Life) (j num
           by_end (broken cause) = tt
 
   abbrev its_known : (key : ℕ × ℕ) (pair : List ℕ × ℕ) → get (recovered_in new.held) key ≡ Some pair → (get (recovered_in w.held) key ≡ Some pair) ⊎ IsOwnDealt c st key pair
-  its_known = gives_no_other c form st carries.live block taken w carries.half.agreed can ended new run
+  its_known = gives_no_other c st block w carries.half.agreed can ended new run
 
   -- a life without a round has no dealing of its own
   roundless : st.participation.round ≡ None → Left
@@ -486,7 +540,7 @@ module _ {Dir : Type 0} (c : Fixed Dir) (b0 e0 b e l : ℕ) (life : Life) (j num
     old_or_own key pair got = elim (its_known key pair got) [ inl was ↦ inl (carries.half.are.known (restored_at key.0 key.1 pair) was) | inr its ↦ inr its ]
 
     valid_own : (key : ℕ × ℕ) (pair : List ℕ × ℕ) (its : IsOwnDealt c st key pair) → dealing_of its.round (me s) (me s) pair.0 pair.1 ≡ Ok tt
-    valid_own key pair its = own_valid c s st key pair form carries.live carries.half.knows its
+    valid_own key pair its = own_valid c any_shares s st key pair form carries.live carries.half.knows its
 
     each_kept : EachAfter s (IsKeptEntry s) p kept.lines × (IsSameStep p (fold (read s) p kept.lines) × AllCurrent b (Gives (recovered_in new.held)) (fold (read s) p kept.lines).recorded)
     each_kept = lines_kept c b e0 l life j number st new.held s p at event_is awaits now carries.half.in_round carries.half.knows.me_is old_or_own valid_own kept.lines p (record { cuts = refl; step = refl; opened = refl }) fine still_given
@@ -515,7 +569,7 @@ module _ {Dir : Type 0} (c : Fixed Dir) (b0 e0 b e l : ℕ) (life : Life) (j num
       out = kept.out;
       each = each_kept.0;
       to = leaves c b0 e0 b e l life j st (Finalized block) ended w new s p at carries agreed_then current next (Unit {0}) q each_kept.1.0 kept.whole each_kept.1.1 known (λ pair there. grown_all s kept.lines p pair there)
-          (by_end ended (tells_own c form st carries.live block taken w carries.half.agreed can ended new run));
+          (by_end ended (tells_own c st block w carries.half.agreed can ended new run));
     }
       where
         by_end : (its : Ended NodeStop (Live Dir)) → IfWentTo its (λ end. AreTold (recovered_in w.held) w.out new)
@@ -536,8 +590,8 @@ module _ {Dir : Type 0} (c : Fixed Dir) (b0 e0 b e l : ℕ) (life : Life) (j num
     where
       refused : (judged_block c block st ≡ Applied → ⊥) → Left
       refused not =
-          let its = says_aside c form st carries.live block taken w carries.half.agreed can ended new run not in
-          idle its.0 its.1 its.2 (gives_before c form st carries.live block taken w carries.half.agreed can ended new run not)
+          let its = says_aside c st block w carries.half.agreed can ended new run not in
+          idle its.0 its.1 its.2 (gives_before c st block w carries.half.agreed can ended new run not)
 
       by_round : judged_block c block st ≡ Applied → (o : Option Round) → st.participation.round ≡ o → Left
       by_round judged None none = roundless none

@@ -1,7 +1,7 @@
--- Memory has the dealings that the devices give back behind every step that is completed, and a step while dealing keeps all that they gave back, wherever it ends. The devices need not be
+-- Memory has the dealings that the devices give back behind every step that is completed, and a step that prunes nothing keeps all that they gave back, wherever it ends. The devices need not be
 -- whole.
 use Rattle.std.proofs.Common.{◌≡◌, ◌≤◌, inl, inr, ℕ, Bool, true, false, nat_le, List, [], ◌∷◌, Option, Some, None, refl, sym, ◌∙◌, ap, subst, arith}
-use Rattle.std.specs.Prelude.{◌+◌, ◌-◌, ◌==◌, ◌&&◌, nat_lt, length, if◌then◌else◌, not, Result, Ok, Err, is_some}
+use Rattle.std.specs.Prelude.{◌+◌, ◌-◌, ◌==◌, ◌&&◌, ⊤, nat_lt, if◌then◌else◌, not, Result, Ok, Err, is_some, option_and_then, option_map}
 use Rattle.std.specs.Option.{option_map_or}
 use Rattle.std.specs.Str.{bytes_eq}
 use Rattle.std.specs.FinMap as maps
@@ -11,17 +11,21 @@ use Rattle.dkg_values.specs.Rising.{lookup}
 use Rattle.dkg_values.specs.declared.codec.CodecError.{CodecError}
 use Rattle.dkg_ceremony.specs.declared.ceremony.AckError.{AckError}
 use Rattle.dkg_ceremony.specs.declared.ceremony.DealingError.{DealingError}
+use Rattle.dkg_ceremony.specs.declared.dealer_log.DealerLog.{DealerLog}
 use Rattle.dkg_ceremony.specs.declared.round.RoundParts.{RoundParts as Round}
+use Rattle.dkg_ceremony.specs.declared.signed_log.SignedDealerLog.{SignedDealerLog}
 use Rattle.dkg_ceremony.specs.Schedule.{midpoint}
 use Rattle.dkg_journal.specs.Operations.{Appends, Prunes}
 use Rattle.dkg_journal.specs.Records.{Entry, placed}
 use Rattle.dkg_journal.proofs.Order.{Above, placed_above}
 use Rattle.dkg_types.specs.Blocks.{Block}
 use Rattle.dkg_types.specs.MessageCodes.{message_at}
+use Rattle.dkg_types.specs.PayloadCodes.{its_log}
+use Rattle.dkg_types.specs.declared.entry.Entry.{Entry as Line}
 use Rattle.dkg_types.specs.declared.entry.Entry.TheVariants as lines
 use Rattle.dkg_types.specs.declared.fault.Fault.{Fault}
 use Rattle.dkg_types.specs.declared.fault.Fault.TheVariants.{ConflictingBlock, DetachedBlock, HeightRange, LocalState, OutOfWindow, SkippedHeight}
-use Rattle.dkg_types.specs.declared.fault.LocalCause.TheVariants.{OwnDealing}
+use Rattle.dkg_types.specs.declared.fault.LocalCause.TheVariants.{OwnDealing, StoredDealing}
 use Rattle.dkg_types.specs.declared.info.EpochInfo.{EpochInfo}
 use Rattle.dkg_types.specs.declared.message.Message.{Message as Channel}
 use Rattle.dkg_types.specs.declared.message.Message.TheVariants.{Dealer as ADealing, Ack as AnAck}
@@ -35,22 +39,32 @@ use Rattle.dkg_store.specs.Acts.{Changes, Held, OnDisk, World, after, does, note
 use Rattle.dkg_store.specs.Events.{IsEvent, event_spelling}
 use Rattle.dkg_store.specs.declared.event.Event.TheVariants as events
 use Rattle.dkg_store.specs.Pairs.{Pairs, recovered}
+use Rattle.dkg_store.specs.Recorded.{Pair}
 use Rattle.dkg_store.proofs.Halves.{prune_halves, recovered_at}
 use Rattle.dkg_store.proofs.Pairs.{get_other, same_key}
 use Rattle.dkg_store.proofs.Silent.{says_dealing}
 use Rattle.dkg_core.specs.Blocks as b
+use Rattle.dkg_core.specs.Behind.{OnlySays}
+use Rattle.dkg_core.specs.Core.{step}
 use Rattle.dkg_core.specs.Courses.{Ask, Call, Course, Do, EndsSo, Goes, Say, Stops, bind}
 use Rattle.dkg_core.specs.Dealing as d
+use Rattle.dkg_core.specs.Endings.{ComesTo}
 use Rattle.dkg_core.specs.Fixed.{Fixed}
 use Rattle.dkg_core.specs.Forms.{Applied, Judged, Passed, Refusal, committed_by, judged_block, judged_over, set_up_by}
 use Rattle.dkg_core.specs.Heard.{Fits, recovered_in}
 use Rattle.dkg_core.specs.Including as i
-use Rattle.dkg_core.specs.Live.{Deals, Dealer, Ends, Follows, Includes, Live, Plays, Records, Request, Seat, Stage, Watches, recorded_at, with_tip}
+use Rattle.dkg_core.specs.Idle.{IsAskedLine}
+use Rattle.dkg_core.specs.Laws.{IsOther}
+use Rattle.dkg_core.specs.Live.{Deals, Dealer, Ends, Follows, Includes, Live, Mail, Plays, Records, Seat, Sent, Stage, Watches, is_last_height, recorded_at, with_inclusion, with_participation, with_tip}
+use Rattle.dkg_core.specs.Logs.{is_accepted, log_event, recorded_log}
 use Rattle.dkg_core.specs.Setup as s
 use Rattle.dkg_core.specs.Setup.{Standing, Uncommitted, WasCommitted}
 use Rattle.dkg_core.specs.Sources.{Tip}
+use Rattle.dkg_core.specs.Stepping.{IsDealingStop, given_itself}
 use Rattle.dkg_core.proofs.Agreeing.{entries_kept}
+use Rattle.dkg_core.proofs.Idle as idle
 use Rattle.dkg_core.proofs.Keeping.{fold_silent}
+use Rattle.dkg_core.proofs.StepDealing as dealing
 use Rattle.dkg_run.proofs.LaterRecords.{above_from, pruned_later, recorded_later}
 
 -- The dealings in memory are those that the devices give back, whose journal's sections rise.
@@ -104,9 +118,18 @@ put_same r h k v same = ap (put key_cmp k v) same ∙ sym (entries-insert keys_t
 none_some : {A : Type 0} {x : A} → ◌≡◌ {A = Option A} None (Some x) → ⊥
 none_some e = cc
 
--- WHAT WAS GIVEN BACK stays so, and memory has it, of a life whose queue of requests is empty
+-- X, where a stored dealing is refused
+abbrev pub IfStored : Fault → Type 0 → Type 0
+IfStored (LocalState (StoredDealing epoch dealer)) X = X
+IfStored its X = ⊤
 
-module _ (given : Held) where
+if_stored : (its : Fault) (X : Type 0) → X → IfStored its X
+if_stored (LocalState (StoredDealing epoch dealer)) X x = x
+if_stored its X x = tt
+
+-- WHAT WAS GIVEN BACK stays so, and memory has it. Where a stored dealing is refused as a request is read, the devices give back these that memory has then.
+
+module _ (given : Held) (asked : List Pair) where
   -- .. and the seeds and the shares are as they were
   pub record Persists (h : Held) : Type 0 where
     pub gives : (key : ℕ × ℕ) (v : List ℕ × ℕ) → get (recovered_in given) key ≡ Some v → get (recovered_in h) key ≡ Some v
@@ -114,9 +137,23 @@ module _ (given : Held) where
     pub shares : h.secrets.shares ≡ given.secrets.shares
 
   abbrev pub IsKnown : {Dir : Type 0} → Live Dir → Held → Type 0
-  IsKnown st h = Knows st.records h × (st.inclusion.queue ≡ []) × Persists h
+  IsKnown st h = Knows st.records h × Persists h
 
   module _ (epoch : ℕ) (h : Held) where
+    -- a log more
+    module _ (dealer height : ℕ) (log : DealerLog) (is : IsEvent (log_event dealer height log)) where
+      abbrev log_entry : Entry
+      log_entry = (epoch, event_spelling (log_event dealer height log))
+
+      logged : recovered (placed (notes h) log_entry) h.secrets ≡ recovered_in h
+      logged = fold_silent h.secrets log_entry (says_dealing epoch (log_event dealer height log) is) (notes h) empty
+
+      log_more : (r : Records) → Knows r h → Knows (record r { logs = put key_cmp (epoch, dealer) (recorded_log height log) r.logs }) (after (OnDisk (Appends log_entry)) h)
+      log_more r a = record { dealings = a.dealings ∙ ap maps.entries (sym logged); rising = placed_above (notes h) log_entry 0 a.rising (low epoch) }
+
+      log_persists : Persists h → Persists (after (OnDisk (Appends log_entry)) h)
+      log_persists was = record { gives = λ key v got. ap (λ (m : Pairs). get m key) logged ∙ was.gives key v got; seeds = was.seeds; shares = was.shares }
+
     -- an acknowledgement more
     module _ (player : ℕ) (ack : List ℕ) (is : IsEvent (events.Ack player ack)) where
       abbrev ack_entry : Entry
@@ -163,7 +200,7 @@ module _ (given : Held) where
   Lands (Call outer course) h = Lands course h
   Lands (Ask f) h = Lands (f h) h
   Lands (Goes st) h = IsKnown st h
-  Lands (Stops fault) h = Persists h
+  Lands (Stops fault) h = Persists h × IfStored fault (asked ≡ maps.entries (recovered_in h))
 
   lands_bind : {Dir : Type 0} (course : Course Dir Fault (Live Dir)) (next : Live Dir → Course Dir Fault (Live Dir)) (h : Held) → Lands course h
       → ((st : Live Dir) (h : Held) → IsKnown st h → Lands (next st) h) → Lands (bind course next) h
@@ -173,6 +210,26 @@ module _ (given : Held) where
   lands_bind (Ask f) next h l more = lands_bind (f h) next h l more
   lands_bind (Goes st) next h l more = more st h l
   lands_bind (Stops fault) next h l more = l
+
+  -- .. behind a course that comes to such an end
+  lands_to : {Dir : Type 0} (stops : Fault → Type 0) (goes : Live Dir → Type 0) (course : Course Dir Fault (Live Dir)) (next : Live Dir → Course Dir Fault (Live Dir)) (h : Held) → Lands course h
+      → ComesTo stops goes course → ((st : Live Dir) (h : Held) → IsKnown st h → goes st → Lands (next st) h) → Lands (bind course next) h
+  lands_to stops goes (Say line course) next h l comes more = lands_to stops goes course next h l comes more
+  lands_to stops goes (Do op course) next h l comes more = lands_to stops goes course next (after op h) l comes more
+  lands_to stops goes (Call outer course) next h l comes more = lands_to stops goes course next h l comes more
+  lands_to stops goes (Ask f) next h l comes more = lands_to stops goes (f h) next h l (comes h) more
+  lands_to stops goes (Goes st) next h l comes more = more st h l comes
+  lands_to stops goes (Stops fault) next h l comes more = l
+
+  -- .. and of one that touches no device, and changes only what the life has of requests
+  pub lands_asked : {Dir : Type 0} (line : Line → Type 0) (base : Live Dir) (course : Course Dir Fault (Live Dir)) (h : Held) → asked ≡ base.records.dealings → IsKnown base h
+      → OnlySays line (λ end. end ≡ with_inclusion end.inclusion base) course → Lands course h
+  lands_asked line base (Say one course) h is_asked a only = lands_asked line base course h is_asked a only.1
+  lands_asked line base (Do op course) h is_asked a only = absurd only
+  lands_asked line base (Call outer course) h is_asked a only = lands_asked line base course h is_asked a only
+  lands_asked line base (Ask f) h is_asked a only = lands_asked line base (f h) h is_asked a (only h)
+  lands_asked {Dir} line base (Goes st) h is_asked a only = (subst (λ (r : Records). Knows r h) (sym (ap (λ (x : Live Dir). x.records) only)) a.0, a.1)
+  lands_asked line base (Stops fault) h is_asked a only = (a.1, if_stored fault (asked ≡ maps.entries (recovered_in h)) (is_asked ∙ a.0.dealings))
 
   lands_if : {Dir : Type 0} (t : Bool) (x y : Course Dir Fault (Live Dir)) (h : Held) → (t ≡ true → Lands x h) → (t ≡ false → Lands y h) → Lands (if t then x else y) h
   lands_if true x y h one other = one refl
@@ -198,43 +255,46 @@ module _ (given : Held) where
   lands_went (Do op course) w new end l done = lands_went course (does w op) new end l done
   lands_went (Call outer course) w new end l done = lands_went course w new end l done
   lands_went (Ask f) w new end l done = lands_went (f w.held) w new end l done
-  lands_went (Goes st) w new end l done = subst (λ (x : World). Persists x.held) (sym done.0) l.2
+  lands_went (Goes st) w new end l done = subst (λ (x : World). Persists x.held) (sym done.0) l.1
   lands_went (Stops fault) w new end l done = absurd done
 
-  pub lands_stopped : {Dir : Type 0} (course : Course Dir Fault (Live Dir)) (w new : World) (its : Fault) → Lands course w.held → EndsSo course (stopped its) w new → Persists new.held
+  pub lands_stopped : {Dir : Type 0} (course : Course Dir Fault (Live Dir)) (w new : World) (its : Fault) → Lands course w.held → EndsSo course (stopped its) w new
+      → Persists new.held × IfStored its (asked ≡ maps.entries (recovered_in new.held))
   lands_stopped (Say line course) w new its l done = lands_stopped course (says w line) new its l done
   lands_stopped (Do op course) w new its l done = lands_stopped course (does w op) new its l done
   lands_stopped (Call outer course) w new its l done = lands_stopped course w new its l done
   lands_stopped (Ask f) w new its l done = lands_stopped (f w.held) w new its l done
   lands_stopped (Goes st) w new its l done = absurd done
-  lands_stopped (Stops fault) w new its l done = subst (λ (x : World). Persists x.held) (sym done.0) l
+  lands_stopped (Stops own) w new its l done =
+      subst (λ (x : World). Persists x.held × IfStored its (asked ≡ maps.entries (recovered_in x.held))) (sym done.0)
+      (subst (λ (y : Fault). Persists w.held × IfStored y (asked ≡ maps.entries (recovered_in w.held))) (sym done.1) l)
 
-module _ {Dir : Type 0} (c : Fixed Dir) (given : Held) where
+module _ {Dir : Type 0} (c : Fixed Dir) (given : Held) (asked : List Pair) where
   abbrev pub Comes : Course Dir Fault (Live Dir) → Held → Type 0
-  Comes course h = Lands given course h
+  Comes course h = Lands given asked course h
 
   abbrev pub Known : Live Dir → Held → Type 0
-  Known st h = IsKnown given st h
+  Known st h = IsKnown given asked st h
 
   rounds : (st : Live Dir) (f : Round → Course Dir Fault (Live Dir)) (h : Held) → Known st h → ((round : Round) → Comes (f round) h) → Comes (d.with_round st f) h
-  rounds st f h a each = lands_option given st.participation.round f (Goes st) h (λ round e. each round) (λ e. a)
+  rounds st f h a each = lands_option given asked st.participation.round f (Goes st) h (λ round e. each round) (λ e. a)
 
   -- the life with one dealing more
   with_one : (epoch dealer : ℕ) (public : List ℕ) (private : ℕ) (st : Live Dir) (h : Held) → IsEvent (events.Dealing dealer public) → recorded_at st.records.dealings epoch dealer ≡ None → Known st h
       → Comes (d.keeps epoch dealer public private st) h
   with_one epoch dealer public private st h is none a =
-      (dealing_more given epoch h dealer public private is st.records a.0, a.1, dealing_persists given epoch h dealer public private is st.records a.0 none a.2)
+      (dealing_more given asked epoch h dealer public private is st.records a.0, dealing_persists given asked epoch h dealer public private is st.records a.0 none a.1)
 
   -- MESSAGES OF PEERS
 
   takes_ack : (epoch : ℕ) (dealer : Dealer) (player : ℕ) (ack : List ℕ) (st : Live Dir) (h : Held) → IsEvent (events.Ack player ack) → Known st h → Comes (d.takes_ack epoch dealer player ack st) h
   takes_ack epoch dealer player ack st h is a =
-      lands_if given (is_some (lookup player dealer.acks)) (Goes st)
+      lands_if given asked (is_some (lookup player dealer.acks)) (Goes st)
       (if is_some (recorded_at st.records.acks epoch player) then Goes (d.counts dealer player ack st)
       else d.appends epoch (events.Ack player ack) (Goes (d.counts dealer player ack (d.with_ack epoch player ack st)))) h
-      (λ e. a) (λ e. lands_if given (is_some (recorded_at st.records.acks epoch player)) (Goes (d.counts dealer player ack st))
+      (λ e. a) (λ e. lands_if given asked (is_some (recorded_at st.records.acks epoch player)) (Goes (d.counts dealer player ack st))
       (d.appends epoch (events.Ack player ack) (Goes (d.counts dealer player ack (d.with_ack epoch player ack st)))) h
-      (λ e. a) (λ e. (ack_more given epoch h player ack is st.records a.0, a.1, ack_persists given epoch h player ack is a.2)))
+      (λ e. a) (λ e. (ack_more given asked epoch h player ack is st.records a.0, ack_persists given asked epoch h player ack is a.1)))
 
   checked_ack : (round : Round) (dealer : Dealer) (player : ℕ) (ack : List ℕ) (st : Live Dir) (check : Result (Unit {0}) AckError) (h : Held) → IsEvent (events.Ack player ack) → Known st h
       → Comes (d.checked_ack round dealer player ack st check) h
@@ -273,22 +333,29 @@ module _ {Dir : Type 0} (c : Fixed Dir) (given : Held) where
   hears from bytes st Follows h fits a = a
   hears from bytes st Ends h fits a = a
 
+  -- REQUESTS are read
+  advanced : (st : Live Dir) (h : Held) → asked ≡ st.records.dealings → Known st h → Comes (i.advanced c st) h
+  advanced st h same a = lands_asked given asked IsAskedLine st (i.advanced c st) h same a (idle.advanced c st st.inclusion)
+
+  pub asks : (mail : Mail Dir) (st : Live Dir) (h : Held) → IsOther (Sent mail) → asked ≡ st.records.dealings → Known st h → Comes (step c (Sent mail) st) h
+  asks mail st h other same a = lands_asked given asked IsAskedLine st (step c (Sent mail) st) h same a (idle.mails c st mail other)
+
   -- ITS OWN DEALING, which another one that is recorded ends
 
   module _ (fits_own : (round : Round) (public : List ℕ) → IsEvent (events.Ack c.me (c.rules.ack_of c.me round c.me public))) where
     own_ack : (round : Round) (public : List ℕ) (st : Live Dir) (h : Held) → Known st h → Comes (d.own_ack c round public st) h
     own_ack round public st h a =
         let ack = c.rules.ack_of c.me round c.me public in
-        lands_option given st.participation.dealer (λ dealer. d.checked_ack round dealer c.me ack st (c.rules.check_ack_of round c.me dealer.public c.me ack)) (Goes st) h
+        lands_option given asked st.participation.dealer (λ dealer. d.checked_ack round dealer c.me ack st (c.rules.check_ack_of round c.me dealer.public c.me ack)) (Goes st) h
         (λ dealer e. checked_ack round dealer c.me ack st (c.rules.check_ack_of round c.me dealer.public c.me ack) h (fits_own round public) a) (λ e. a)
 
     to_itself_in : (round : Round) (public : List ℕ) (private : ℕ) (st : Live Dir) (found : Option (List ℕ × ℕ)) (h : Held) → IsEvent (events.Dealing c.me public)
         → recorded_at st.records.dealings round.number c.me ≡ found → Known st h → Comes (d.deals_to_itself_in c round public private st found) h
     to_itself_in round public private st (Some kept) h is found a =
-        lands_if given (bytes_eq kept.0 public) (d.own_ack c round public st) (Stops (LocalState (OwnDealing round.number kept.0 public))) h (λ e. own_ack round public st h a)
-        (λ e. a.2)
+        lands_if given asked (bytes_eq kept.0 public) (d.own_ack c round public st) (Stops (LocalState (OwnDealing round.number kept.0 public))) h (λ e. own_ack round public st h a)
+        (λ e. (a.1, tt))
     to_itself_in round public private st None h is none a =
-        lands_bind given (d.keeps round.number c.me public private st) (λ st. d.own_ack c round public st) h (with_one round.number c.me public private st h is none a) (λ st h a. own_ack round public st h a)
+        lands_bind given asked (d.keeps round.number c.me public private st) (λ st. d.own_ack c round public st) h (with_one round.number c.me public private st h is none a) (λ st h a. own_ack round public st h a)
 
     to_itself : (round : Round) (public : List ℕ) (private : ℕ) (st : Live Dir) (seat : Seat) (h : Held) → IsEvent (events.Dealing c.me public) → Known st h
         → Comes (d.offers_to_itself_in c round public private st seat) h
@@ -298,34 +365,85 @@ module _ {Dir : Type 0} (c : Fixed Dir) (given : Held) where
     offers : (round : Round) (public : List ℕ) (ps : List (ℕ × ℕ)) (st : Live Dir) (h : Held) → IsEvent (events.Dealing c.me public) → Known st h → Comes (d.offers c round public ps st) h
     offers round public [] st h is a = a
     offers round public (q ∷ ps) st h is a =
-        lands_if given (q.0 == c.me) (bind (d.offers_to_itself c round public q.1 st) (λ st. d.offers c round public ps st)) (Say (lines.Offer round.number q.0 public q.1) (d.offers c round public ps st)) h
-        (λ e. lands_bind given (d.offers_to_itself c round public q.1 st) (λ st. d.offers c round public ps st) h (to_itself round public q.1 st st.participation.seat h is a) (λ st h a. offers round public ps st h is a))
+        lands_if given asked (q.0 == c.me) (bind (d.offers_to_itself c round public q.1 st) (λ st. d.offers c round public ps st)) (Say (lines.Offer round.number q.0 public q.1) (d.offers c round public ps st)) h
+        (λ e. lands_bind given asked (d.offers_to_itself c round public q.1 st) (λ st. d.offers c round public ps st) h (to_itself round public q.1 st st.participation.seat h is a) (λ st h a. offers round public ps st h is a))
         (λ e. offers round public ps st h is a)
 
     deals : (st : Live Dir) (h : Held) → ((dealer : Dealer) → st.participation.dealer ≡ Some dealer → IsEvent (events.Dealing c.me dealer.public)) → Known st h → Comes (d.deals c st) h
     deals st h is a =
         rounds st (λ round. option_map_or (λ dealer. d.offers c round dealer.public (s.unsent round dealer) st) st.participation.dealer (Goes st)) h a
-        (λ round. lands_option given st.participation.dealer (λ dealer. d.offers c round dealer.public (s.unsent round dealer) st) (Goes st) h
+        (λ round. lands_option given asked st.participation.dealer (λ dealer. d.offers c round dealer.public (s.unsent round dealer) st) (Goes st) h
         (λ dealer e. offers round dealer.public (s.unsent round dealer) st h (is dealer e) a) (λ e. a))
 
-    -- without a request nothing advances
-    advanced : (st : Live Dir) (h : Held) → Known st h → Comes (i.advanced c st) h
-    advanced st h a = subst (λ (queue : List (Request Dir)). Comes (i.advances c (length queue) st) h) (sym a.1) a
-
     -- A BLOCK that is applied while dealing
-    pub deals_at : (block : Block Dir) (st : Live Dir) (h : Held) → ((dealer : Dealer) → st.participation.dealer ≡ Some dealer → IsEvent (events.Dealing c.me dealer.public)) → Known st h → Comes (b.deals_at c block st) h
-    deals_at block st h is a =
-        lands_bind given (d.deals c st) (λ st. if block.height + 1 == midpoint c.blocks_per_epoch st.participation.epoch then i.advanced c (s.begins_inclusion c (with_tip block st)) else Goes (with_tip block st)) h
-        (deals st h is a) (λ st h a. lands_if given (block.height + 1 == midpoint c.blocks_per_epoch st.participation.epoch) (i.advanced c (s.begins_inclusion c (with_tip block st))) (Goes (with_tip block st)) h
-        (λ e. advanced (s.begins_inclusion c (with_tip block st)) h a) (λ e. a))
+    pub deals_at : (block : Block Dir) (st : Live Dir) (h : Held) → asked ≡ (given_itself c st).records.dealings → ((dealer : Dealer) → st.participation.dealer ≡ Some dealer → IsEvent (events.Dealing c.me dealer.public)) → Known st h
+        → Comes (b.deals_at c block st) h
+    deals_at block st h is_asked is a =
+        lands_to given asked (IsDealingStop c st) (λ end. end ≡ given_itself c st) (d.deals c st)
+        (λ st. if block.height + 1 == midpoint c.blocks_per_epoch st.participation.epoch then i.advanced c (s.begins_inclusion c (with_tip block st)) else Goes (with_tip block st)) h
+        (deals st h is a) (dealing.deals c st)
+        (λ now h a same. lands_if given asked (block.height + 1 == midpoint c.blocks_per_epoch now.participation.epoch) (i.advanced c (s.begins_inclusion c (with_tip block now))) (Goes (with_tip block now)) h
+        (λ e. advanced (s.begins_inclusion c (with_tip block now)) h (is_asked ∙ sym (ap (λ (x : Live Dir). x.records.dealings) same)) a) (λ e. a))
+
+  -- A BLOCK that is included, and isn't the epoch's last
+
+  module _ (block : Block Dir) (fits : (log : SignedDealerLog) → option_and_then its_log block.payload ≡ Some log → IsEvent (events.LogAt log.dealer block.height log.log)) where
+    without_own : (st : Live Dir) (h : Held) (t : Bool) → Known st h
+        → Known (if t then with_participation (record st.participation { dealer = option_map b.unoffered st.participation.dealer }) st else st) h
+    without_own st h true a = a
+    without_own st h false a = a
+
+    still_asked : (st : Live Dir) (t : Bool) → asked ≡ st.records.dealings
+        → asked ≡ (if t then with_participation (record st.participation { dealer = option_map b.unoffered st.participation.dealer }) st else st).records.dealings
+    still_asked st true is_asked = is_asked
+    still_asked st false is_asked = is_asked
+
+    observes_known : (round : Round) (found : Option SignedDealerLog) (st : Live Dir) (h : Held) → option_and_then its_log block.payload ≡ found → Known st h → Comes (b.observes c round block st found) h
+    observes_known round None st h carried a = a
+    observes_known round (Some log) st h carried a =
+        lands_if given asked (is_accepted c round log) (bind (b.records_log round.number block.height log st) (λ now. Goes (b.without_own_log c log.dealer now))) (Goes st) h
+        (λ e. lands_bind given asked (b.records_log round.number block.height log st) (λ now. Goes (b.without_own_log c log.dealer now)) h
+        (lands_if given asked (is_some (recorded_at st.records.logs round.number log.dealer)) (Goes st)
+        (d.appends round.number (log_event log.dealer block.height log.log) (Goes (b.with_log round.number log.dealer block.height log.log st))) h (λ e. a)
+        (λ e. (
+          log_more given asked round.number h log.dealer block.height log.log (fits log carried) st.records a.0,
+          log_persists given asked round.number h log.dealer block.height log.log (fits log carried) a.1,
+        ))) (λ now h a. without_own now h (log.dealer == c.me) a)) (λ e. a)
+
+    abbrev Asks : Course Dir Fault (Live Dir) → Type 0
+    Asks course = ComesTo (λ (its : Fault). ⊤) (λ (now : Live Dir). asked ≡ now.records.dealings) course
+
+    observes_same : (round : Round) (found : Option SignedDealerLog) (st : Live Dir) → asked ≡ st.records.dealings → Asks (b.observes c round block st found)
+    observes_same round None st is_asked = is_asked
+    observes_same round (Some log) st is_asked = by_test (is_accepted c round log)
+      where
+        by_found : (t : Bool)
+            → Asks (bind (if t then Goes st else d.appends round.number (log_event log.dealer block.height log.log) (Goes (b.with_log round.number log.dealer block.height log.log st))) (λ now. Goes (b.without_own_log c log.dealer now)))
+        by_found true = still_asked st (log.dealer == c.me) is_asked
+        by_found false = still_asked (b.with_log round.number log.dealer block.height log.log st) (log.dealer == c.me) is_asked
+
+        by_test : (t : Bool) → Asks (if t then bind (b.records_log round.number block.height log st) (λ now. Goes (b.without_own_log c log.dealer now)) else Goes st)
+        by_test true = by_found (is_some (recorded_at st.records.logs round.number log.dealer))
+        by_test false = is_asked
+
+    included : (round : Round) (st : Live Dir) (h : Held) → asked ≡ st.records.dealings → Known st h → Comes (b.includes c round block st) h
+    included round st h same a =
+        lands_to given asked (λ its. ⊤) (λ now. asked ≡ now.records.dealings) (b.observes c round block st (option_and_then its_log block.payload)) (λ now. i.advanced c (with_tip block (b.unserved block.height now))) h
+        (observes_known round (option_and_then its_log block.payload) st h refl a) (observes_same round (option_and_then its_log block.payload) st same)
+        (λ now h a same. advanced (with_tip block (b.unserved block.height now)) h same a)
+
+    pub includes_at : (st : Live Dir) (h : Held) → is_last_height c block.height ≡ false → asked ≡ st.records.dealings → Known st h → Comes (b.applies_in c block st Includes) h
+    includes_at st h not same a = rounds st (λ round. if is_last_height c block.height then b.final_block c round block st else b.includes c round block st) h a
+        (λ round. subst (λ (t : Bool). Comes (if t then b.final_block c round block st else b.includes c round block st) h) (sym not)
+        (included round st h same a))
 
   -- A DELIVERED BLOCK, by where it comes to where it is applied
 
   module _ (block : Block Dir) (st : Live Dir) (h : Held) (a : Known st h) (applies : judged_block c block st ≡ Applied → Comes (b.applies c block st) h) where
     over_tip : (tip : Option Tip) → judged_block c block st ≡ judged_over c block st tip → Comes (b.over_tip_in c block st tip) h
     over_tip None r =
-        lands_if given (b.is_in_window c block st) (b.applies c block st) (Stops (OutOfWindow block.height)) h
-        (λ e. applies (r ∙ ap (λ (t : Bool). if t then Applied else Refusal (OutOfWindow block.height)) e)) (λ e. a.2)
+        lands_if given asked (b.is_in_window c block st) (b.applies c block st) (Stops (OutOfWindow block.height)) h
+        (λ e. applies (r ∙ ap (λ (t : Bool). if t then Applied else Refusal (OutOfWindow block.height)) e)) (λ e. (a.1, tt))
     over_tip (Some t) r =
         let conflicts = (block.height == t.height) && not (bytes_eq block.digest t.digest) in
         let skips = nat_lt (t.height + 1) block.height in
@@ -337,16 +455,16 @@ module _ {Dir : Type 0} (c : Fixed Dir) (given : Held) where
         let low_one : Course Dir Fault (Live Dir) = if lower then Goes st else b.applies c block st in
         let child : Course Dir Fault (Live Dir) = if detached then Stops (DetachedBlock block.height) else low_one in
         let next : Course Dir Fault (Live Dir) = if skips then Stops (SkippedHeight (t.height + 1) block.height) else child in
-        lands_if given conflicts (Stops (ConflictingBlock block.height)) next h (λ e. a.2)
-        (λ e. lands_if given skips (Stops (SkippedHeight (t.height + 1) block.height)) child h (λ e1. a.2)
-        (λ e1. lands_if given detached (Stops (DetachedBlock block.height)) low_one h (λ e2. a.2)
-        (λ e2. lands_if given lower (Goes st) (b.applies c block st) h (λ e3. a)
+        lands_if given asked conflicts (Stops (ConflictingBlock block.height)) next h (λ e. (a.1, tt))
+        (λ e. lands_if given asked skips (Stops (SkippedHeight (t.height + 1) block.height)) child h (λ e1. (a.1, tt))
+        (λ e1. lands_if given asked detached (Stops (DetachedBlock block.height)) low_one h (λ e2. (a.1, tt))
+        (λ e2. lands_if given asked lower (Goes st) (b.applies c block st) h (λ e3. a)
         (λ e3. applies (r ∙ ap (λ (x : Bool). if x then Refusal (ConflictingBlock block.height) else first) e ∙ ap (λ (x : Bool). if x then Refusal (SkippedHeight (t.height + 1) block.height) else second) e1
         ∙ ap (λ (x : Bool). if x then Refusal (DetachedBlock block.height) else third) e2 ∙ ap (λ (x : Bool). if x then Passed else Applied) e3)))))
 
     in_reach : Comes (if s.is_past_range c block.height then Stops HeightRange else b.over_tip c block st) h
     in_reach =
-        lands_if given (s.is_past_range c block.height) (Stops HeightRange) (b.over_tip c block st) h (λ e. a.2)
+        lands_if given asked (s.is_past_range c block.height) (Stops HeightRange) (b.over_tip c block st) h (λ e. (a.1, tt))
         (λ e. over_tip st.tip (ap (λ (x : Bool). if x then Refusal HeightRange else judged_over c block st st.tip) e))
 
     pub delivered : (stage : Stage) → Comes (b.delivers_in c block st stage) h

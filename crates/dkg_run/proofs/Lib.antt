@@ -1,5 +1,6 @@
 pub mod Alone
 pub mod Asked
+pub mod AwaitedRises
 pub mod Awaiting
 pub mod Begun
 pub mod BegunRounds
@@ -7,13 +8,13 @@ pub mod Behind
 pub mod Below
 pub mod Blaming
 pub mod BlocksLeave
+pub mod BlockLogs
 pub mod BlocksMade
 pub mod Causing
 pub mod Chaining
 pub mod Checked
 pub mod ClearLives
 pub mod Completing
-pub mod Finishing
 pub mod Currently
 pub mod CutLives
 pub mod DealersStay
@@ -27,6 +28,7 @@ pub mod EndsTold
 pub mod Entering
 pub mod FewPlayers
 pub mod Finding
+pub mod Finishing
 pub mod FitsBrought
 pub mod FitsOwn
 pub mod FitsRead
@@ -41,8 +43,11 @@ pub mod GivingWhole
 pub mod Going
 pub mod Heard
 pub mod HeightsRise
+pub mod Idle
 pub mod InPlace
 pub mod Keeping
+pub mod KeptOpenings
+pub mod KeptSteps
 pub mod Knowing
 pub mod Lasting
 pub mod LaterRecords
@@ -55,6 +60,7 @@ pub mod LivesStand
 pub mod Living
 pub mod LogsFit
 pub mod MarksAt
+pub mod Marked
 pub mod Naming
 pub mod NextLives
 pub mod NoOthers
@@ -65,7 +71,6 @@ pub mod OfferingLives
 pub mod OfferingRuns
 pub mod OfferingSame
 pub mod Opened
-pub mod KeptOpenings
 pub mod Opening
 pub mod OpeningsLeave
 pub mod OpeningsStore
@@ -86,7 +91,6 @@ pub mod Recorded
 pub mod RecordsFound
 pub mod Refusing
 pub mod Reported
-pub mod AwaitedRises
 pub mod RunKept
 pub mod Running
 pub mod Runs
@@ -104,8 +108,8 @@ pub mod Starting
 pub mod Stepping
 pub mod Steps
 pub mod StepsOn
-pub mod KeptSteps
 pub mod Stood
+pub mod StopsBehind
 pub mod StoredDealers
 pub mod StoredFound
 pub mod Telling

@@ -1,24 +1,27 @@
 -- A run of lives over many epochs keeps the dealings that are current: each life begins with what the one before left, wherever that ended.
 use Rattle.std.proofs.Common.{◌≡◌, ◌⊎◌, inl, inr, ℕ, suc, ◌+◌, ◌-◌, ◌<◌, ◌≤◌, List, [], ◌∷◌, ◌++◌, Option, Some, None, Bool, true, false, cond, refl, sym, ◌∙◌, ap, subst, length, arith, add-one, append_assoc, append-nil, length-append}
-use Rattle.std.specs.Prelude.{fold, slice_get, Result, Ok, Err, ◌==◌}
+use Rattle.std.specs.Prelude.{slice_get, Result, Ok, Err, ◌==◌}
 use Rattle.std.specs.FinMap.{get}
 use Rattle.std.proofs.lemmas.Bool.{eq-eqb, eqb-true}
 use Rattle.std.proofs.lemmas.Bool.Decides.{nat_tests}
-use Rattle.std.proofs.lemmas.List.Sums.{fold-append}
 use Rattle.dkg_journal.specs.Burn.{Burn}
 use Rattle.dkg_journal.specs.Names.{Files}
 use Rattle.dkg_types.specs.declared.directory.Unit as directory
 use Rattle.dkg_types.specs.declared.entry.Entry.{Entry}
 use Rattle.dkg_types.specs.declared.entry.Entry.TheVariants as entry
+use Rattle.dkg_types.specs.declared.entry.Restored.{Restored}
 use Rattle.dkg_types.specs.declared.fault.Fault.TheVariants.{NoMemory}
 use Rattle.dkg_text.specs.declared.script.Cut as cut
 use Rattle.dkg_text.specs.declared.script.Event as script
 use Rattle.dkg_text.specs.declared.script.Life.{Life}
 use Rattle.dkg_store.specs.Acts.{Held, World, by_cut, Ended, went, broken, notes, says}
 use Rattle.dkg_journal.specs.Records.{Entry as Note}
-use Rattle.dkg_store.specs.Noted.{logs_in}
+use Rattle.dkg_store.specs.Noted.{Notes, logs_in}
+use Rattle.dkg_store.specs.declared.recorded_log.RecordedLog.{RecordedLog}
 use Rattle.dkg_store.specs.Pairs.{IsWhole}
 use Rattle.dkg_script.specs.Kept.{AllCurrent, Gives}
+use Rattle.dkg_script.specs.LogsKnown.{LogsKnown}
+use Rattle.dkg_script.specs.OwnMarks.{IsKnownAt, IsKnownInStep}
 use Rattle.dkg_script.specs.Position.{awaited_before, awaited_epoch, begun, begun_before, event_of_step, events_taken}
 use Rattle.dkg_script.specs.Progress.{Progress, read, is_last_step, with_life_ended}
 use Rattle.dkg_script.specs.Setting.{Setting, CutAt, is_oneshot, life_at}
@@ -36,12 +39,13 @@ use Rattle.dkg_run.specs.Given.{Lived, at_step, lived, step_of}
 use Rattle.dkg_run.specs.Lives.{LivesSo, Steps, TakesAll, Wants, fuse_for, fuse_within, never}
 use Rattle.dkg_run.specs.Ways.{StaysHeld, by_worlds}
 use Rattle.dkg_run.proofs.Awaiting.{IsBefore, before_all, before_next, reached_lit}
-use Rattle.dkg_run.proofs.Currently.{HandsOn, IsKeptEntry, MayBeKept, RestsIn, begun_behind, begun_more, current_later, may_of, may_still}
+use Rattle.dkg_run.proofs.Currently.{MayBeKept, RestsIn, begun_behind, begun_more, current_later, may_of, may_still}
 use Rattle.dkg_run.proofs.Former.{IsMessage, event_in_form, message_in}
-use Rattle.dkg_run.proofs.LifeSteps.{IsGoing, IsLifeOfSetting, LogsAre, OpeningLeaves, StepLeaves, opening_goes, step_goes}
+use Rattle.dkg_run.proofs.LifeSteps.{IsGoing, IsLifeOfSetting, OpeningLeaves, StepLeaves, opening_goes, step_goes}
+use Rattle.dkg_run.proofs.Marked.{Comes, comes_behind, comes_first, comes_none, comes_of}
 use Rattle.dkg_run.proofs.Owed.{no_opening_due}
 use Rattle.dkg_run.proofs.AwaitedRises.{begun_rises}
-use Rattle.dkg_run.proofs.KeptSteps.{AnyCall, IsAtStep, IsSaved, Reaches, WithinCall, each_both, reaches_as, reaches_none, reaches_one, reaches_then, saved_carried}
+use Rattle.dkg_run.proofs.KeptSteps.{AnyCall, IsAtStep, IsSaved, Reaches, WithinCall, saved_carried}
 
 abbrev U : Type 0
 U = directory.Unit
@@ -51,19 +55,6 @@ none_some a e = cc
 
 some_is : {A : Type 0} (a b : A) → ◌≡◌ {A = Option A} (Some a) (Some b) → a ≡ b
 some_is a b e = cc
-
--- where the next life begins is told
-pub reaches_on : (s : Setting) (p : Progress) (old mid new : List Entry) (P Q : Progress → Type 0) → (a : Reaches s p old mid P)
-    → ((added : List Entry) → mid ≡ old ++ added → P (fold (read s) p added) → Reaches s (fold (read s) p added) mid new Q) → Reaches s p old new Q
-reaches_on s p old mid new P Q a next = record {
-  added = a.added ++ b.added;
-  out = b.out ∙ ap (λ (xs : List Entry). xs ++ b.added) a.out ∙ append_assoc old a.added b.added;
-  each = each_both s (IsKeptEntry s) a.added b.added p a.each b.each;
-  to = rw (fold-append (read s) p a.added b.added) b.to;
-}
-  where
-    b : Reaches s (fold (read s) p a.added) mid new Q
-    b = next a.added a.out a.to
 
 -- WHERE A LIFE STANDS
 
@@ -150,37 +141,37 @@ all_rest life = rest_of life [] life.events refl
 abbrev pub taken_by : Life → cut.Cut → ℕ
 taken_by life its = events_taken life (Some (record { step = its.step; call = its.call }))
 
--- Nothing that is current is lost, and where the script cuts the life there, that is told then.
-pub record IsStopped (l : ℕ) (life : Life) (stop : Stop) (h : Held) (s : Setting) (p : Progress) : Type 0 where
+-- Nothing that is current is lost, and where the script cuts the life there, that is told then; logs are known by what is known when it is.
+pub record IsStopped (l : ℕ) (life : Life) (stop : Stop) (h : Held) (s : Setting) (marks : Type 0) (p : Progress) : Type 0 where
   pub lives : length p.cuts ≡ l
   pub whole : IsWhole (notes h) h.secrets
   pub gives : AllCurrent (begun s p.cuts l p.step) (Gives (recovered_in h)) p.recorded
   pub at_cut : stop ≡ Cut → (its : cut.Cut) → life.cut ≡ Some its
-      → MayBeKept (begun s p.cuts l (taken_by life its)) s (read s p (entry.Cut its.step its.call)) (recovered_in h) × LogsAre s (begun s p.cuts l (taken_by life its)) h
-  pub handed : HandsOn s p
+      → MayBeKept (begun s p.cuts l (taken_by life its)) s (read s p (entry.Cut its.step its.call)) (recovered_in h)
+      × ((marks × IsKnownAt s p (entry.Cut its.step its.call)) → LogsKnown s (begun s p.cuts l (taken_by life its)) p.recorded (logs_in (notes h)))
 
-abbrev pub LeavesLife : ℕ → Life → Result (Unit {0}) Stop → Held → Setting → Progress → Type 0
-LeavesLife l life (Ok done) h s p = IsBetween (l + 1) s p × RestsIn h s p × LogsAre s (begun_before s p.cuts (length p.cuts)) h
-LeavesLife l life (Err stop) h s p = IsStopped l life stop h s p
+abbrev pub LeavesLife : ℕ → Life → Result (Unit {0}) Stop → Held → Setting → Type 0 → Progress → Type 0
+LeavesLife l life (Ok done) h s marks p = IsBetween (l + 1) s p × RestsIn h s p × (marks → LogsKnown s (begun_before s p.cuts (length p.cuts)) p.recorded (logs_in (notes h)))
+LeavesLife l life (Err stop) h s marks p = IsStopped l life stop h s marks p
 
-logs_later : (s : Setting) (b c : ℕ) (h : Held) → b ≤ c → LogsAre s b h → LogsAre s c h
-logs_later s b c h low logs = λ key log now there. logs key log (omega (arith, low, now)) there
+logs_later : (s : Setting) (b c : ℕ) (pairs : List Restored) (logs : Notes RecordedLog) → b ≤ c → LogsKnown s b pairs logs → LogsKnown s c pairs logs
+logs_later s b c pairs logs low known = λ key noted now there. known key noted (omega (arith, low, now)) there
 
 may_later : (b c : ℕ) (s : Setting) (p : Progress) (m : _) → b ≤ c → MayBeKept b s p m → MayBeKept c s p m
 may_later b c s p m low may = record { given = current_later b c (Gives m) low p.recorded may.given; known = may.known; first = may.first }
 
-stops_saved : (Call : ℕ → Type 0) (b l : ℕ) (life : Life) (j : ℕ) (stop : Stop) (h : Held) (s : Setting) (p : Progress) → length p.cuts ≡ l → p.step ≡ j → b ≤ begun s p.cuts l j
-    → (stop ≡ Cut → (its : cut.Cut) → life.cut ≡ Some its → (its.step ≡ j) × Call its.call × (b ≤ begun s p.cuts l (taken_by life its))) → LogsAre s b h → IsSaved Call b h s p → IsStopped l life stop h s p
-stops_saved Call b l life j stop h s p lives step low is_cut logs saved = record {
+stops_saved : (Call : ℕ → Type 0) (b l : ℕ) (life : Life) (j : ℕ) (stop : Stop) (h : Held) (s : Setting) (marks : Type 0) (p : Progress) → length p.cuts ≡ l → p.step ≡ j → b ≤ begun s p.cuts l j
+    → (stop ≡ Cut → (its : cut.Cut) → life.cut ≡ Some its → (its.step ≡ j) × Call its.call × (b ≤ begun s p.cuts l (taken_by life its)))
+    → ((its : cut.Cut) → Call its.call → (marks × IsKnownAt s p (entry.Cut its.step its.call)) → LogsKnown s b p.recorded (logs_in (notes h))) → IsSaved Call b h s p → IsStopped l life stop h s marks p
+stops_saved Call b l life j stop h s marks p lives step low is_cut logs saved = record {
   lives = lives;
   whole = saved.whole;
   gives = current_later b (begun s p.cuts l p.step) (Gives (recovered_in h)) (subst (λ (n : ℕ). b ≤ begun s p.cuts l n) (sym step) low) p.recorded saved.gives;
   at_cut = λ cuts its is.
       let where_is = is_cut cuts its is in (
         may_later b (begun s p.cuts l (taken_by life its)) s (read s p (entry.Cut its.step its.call)) (recovered_in h) where_is.2 (saved.at_cut its.step its.call (step ∙ sym where_is.0) where_is.1),
-        logs_later s b (begun s p.cuts l (taken_by life its)) h where_is.2 logs,
+        λ known. logs_later s b (begun s p.cuts l (taken_by life its)) p.recorded (logs_in (notes h)) where_is.2 (logs its where_is.1 known),
       );
-  handed = saved.handed;
 }
 
 memory_no_cut : (P : Type 0) → ◌≡◌ {A = Stop} (FaultOf NoMemory) Cut → P
@@ -249,21 +240,23 @@ module _ (s : Setting) (ends : List (Option CutAt)) (l : ℕ) (life : Life) (see
     abbrev b : ℕ → ℕ
     b i = begun s cuts l i
 
-    abbrev Going : ℕ → Live U → Held → Progress → Type 0
-    Going i st h p = IsGoing s ends l life seen files here meant cuts never_back i st h p
+    abbrev Going : Type 0 → ℕ → Live U → Held → Progress → Type 0
+    Going marks i st h p = IsGoing s ends l life seen files here meant cuts never_back marks i st h p
 
     life_is : life_at s l ≡ Some life
     life_is = here.life_is
 
-    abbrev Ends : Result (Unit {0}) Stop → Held → Progress → Type 0
-    Ends how h q = LeavesLife l life how h s q
+    abbrev Ends : Result (Unit {0}) Stop → Held → Type 0 → Progress → Type 0
+    Ends how h marks q = LeavesLife l life how h s marks q
 
     -- the cut of a course is the fuse's
     burns : {S : Type 0} (course : Course U NodeStop S) (f : Burn) (w new : World) (stop : Stop) → EndsSo course (by_node_stop stop) (record w { fuse = f }) new → stop ≡ Cut → f.spent < f.call
     burns {S} course f w new stop run is = (cuts_fall course (broken by_cut) (record w { fuse = f }) new (subst (λ (x : Stop). EndsSo course (by_node_stop {S = S} x) (record w { fuse = f }) new) is run)).0
 
-    told_going : (i j : ℕ) (end : Live U) (h : Held) (q : Progress) → length q.cuts ≡ l → q.step ≡ j → q.cuts ≡ cuts → Going i end h q → Going i end h (read s q (entry.Step j))
-    told_going i j end h q lives step cuts_are going = record {
+    -- behind a step's entry, by which more is known
+    told_going : (marks later : Type 0) (i j : ℕ) (end : Live U) (h : Held) (q : Progress) → (later → marks) → length q.cuts ≡ l → q.step ≡ j → q.cuts ≡ cuts → Going marks i end h q
+        → Going later i end h (read s q (entry.Step j))
+    told_going marks later i j end h q before lives step cuts_are going = record {
       carries = record {
         half = record {
           knows = going.carries.half.knows;
@@ -274,15 +267,14 @@ module _ (s : Setting) (ends : List (Option CutAt)) (l : ℕ) (life : Life) (see
           valid = going.carries.half.valid;
         };
         opened = step_opened s l life cuts j q life_is lives step cuts_are ∙ going.carries.opened;
-        handed = record { dealings = λ pair given. rw (step_recorded s l life cuts j q life_is lives step cuts_are) (going.carries.handed.dealings pair given) };
         live = going.carries.live;
         active = going.carries.active;
       };
       at = going.at;
       of_round = going.of_round;
       few = going.few;
-      plays = going.plays;
-      logs = going.logs;
+      plays = λ known. going.plays (before known);
+      logs = λ known. subst (λ (pairs : List Restored). LogsKnown s (b i) pairs (logs_in (notes h))) (sym (step_recorded s l life cuts j q life_is lives step cuts_are)) (going.logs (before known));
     }
 
     -- what has begun, over the cuts of this progress
@@ -292,10 +284,11 @@ module _ (s : Setting) (ends : List (Option CutAt)) (l : ℕ) (life : Life) (see
     same_or : (a c : ℕ) → a ≡ c → a ≤ c
     same_or a c is = omega (arith, is)
 
-    takes_kept : (events : List script.Event) (i : ℕ) (st : Live U) (w : World) (how : Result (Unit {0}) Stop) (new : World) (p : Progress) → Rest life (suc i) events → StandsAt l life cuts (suc i) events s p
-        → Going i st w.held p → IsBefore life.cut (suc i) → TakesAll by_worlds g (suc i) events st w how new → Reaches s p w.out new.out (Ends how new.held)
-    takes_kept [] i st w how new p rest stands going before takes =
-        reaches_none s p w.out new.out (Ends how new.held) (ap (λ (x : World). x.out) takes.1) (rw (takes.0, takes.1) (stands.0, rests, logs_later s (b i) (begun_before s p.cuts (length p.cuts)) w.held low going.logs))
+    takes_kept : (events : List script.Event) (marks : Type 0) (i : ℕ) (st : Live U) (w : World) (how : Result (Unit {0}) Stop) (new : World) (p : Progress) → Rest life (suc i) events
+        → StandsAt l life cuts (suc i) events s p → Going marks i st w.held p → IsBefore life.cut (suc i) → TakesAll by_worlds g (suc i) events st w how new → Comes s marks p w.out new.out (Ends how new.held)
+    takes_kept [] marks i st w how new p rest stands going before takes =
+        comes_none s marks p w.out new.out (Ends how new.held) (ap (λ (x : World). x.out) takes.1)
+        (rw (takes.0, takes.1) (stands.0, rests, λ known. logs_later s (b i) (begun_before s p.cuts (length p.cuts)) p.recorded (logs_in (notes w.held)) low (going.logs known)))
       where
         low : b i ≤ begun_before s p.cuts (length p.cuts)
         low = same_or (b i) (begun_before s p.cuts (length p.cuts))
@@ -306,10 +299,9 @@ module _ (s : Setting) (ends : List (Option CutAt)) (l : ℕ) (life : Life) (see
         rests = record {
           whole = going.carries.half.agreed.whole;
           may = may_later (b i) (begun_before s p.cuts (length p.cuts)) s p (recovered_in w.held) low (may_of (b i) s p l (recovered_in w.held) going.carries.opened going.carries.half.are);
-          handed = going.carries.handed;
         }
-    takes_kept (event ∷ events) i st w how new p rest stands going before takes =
-        by_fuse (λ end mid r stands going before more. takes_kept events (suc i) end mid how new r (subst (λ (n : ℕ). Rest life n events) (add-one (suc i)) rest.2) stands going before
+    takes_kept (event ∷ events) marks i st w how new p rest stands going before takes =
+        by_fuse (λ later end mid r stands going before more. takes_kept events later (suc i) end mid how new r (subst (λ (n : ℕ). Rest life n events) (add-one (suc i)) rest.2) stands going before
         (subst (λ (n : ℕ). TakesAll by_worlds g n events end mid how new) (add-one (suc i)) more)) (fuse_for life.cut (suc i)) refl takes
       where
         at : IsAtStep l life (suc i) s p
@@ -333,65 +325,68 @@ module _ (s : Setting) (ends : List (Option CutAt)) (l : ℕ) (life : Life) (see
         saved_here : IsSaved AnyCall (b i) w.held s p
         saved_here = saved_carried AnyCall (at_step g i) (b i) _ l st w.held s p going.carries
 
-        not_begun : fuse_for life.cut (suc i) ≡ None → how ≡ Err Cut → new ≡ w → Reaches s p w.out new.out (Ends how new.held)
-        not_begun fuse is same = reaches_none s p w.out new.out (Ends how new.held) (ap (λ (x : World). x.out) same)
-            (rw (is, same) (stops_saved AnyCall (b i) l life (suc i) Cut w.held s p at.lives at.step (at_cuts p i (suc i) stands.1 rises)
+        not_begun : fuse_for life.cut (suc i) ≡ None → how ≡ Err Cut → new ≡ w → Comes s marks p w.out new.out (Ends how new.held)
+        not_begun fuse is same = comes_none s marks p w.out new.out (Ends how new.held) (ap (λ (x : World). x.out) same)
+            (rw (is, same) (stops_saved AnyCall (b i) l life (suc i) Cut w.held s marks p at.lives at.step (at_cuts p i (suc i) stands.1 rises)
             (λ e its there.
             let its_cut = cut_before life.cut (suc i) fuse its there in
-            (its_cut.0, tt, at_cuts p i (taken_by life its) stands.1 (subst (λ (n : ℕ). b i ≤ b n) (sym (taken_before life its (suc i) its_cut.0 its_cut.1 ∙ back)) (itself (b i))))) going.logs saved_here))
+            (its_cut.0, tt, at_cuts p i (taken_by life its) stands.1 (subst (λ (n : ℕ). b i ≤ b n) (sym (taken_before life its (suc i) its_cut.0 its_cut.1 ∙ back)) (itself (b i))))) (λ its any known. going.logs known.0) saved_here))
           where
             back : suc i - 1 ≡ i
             back = omega arith
 
-        Again : Type 0
-        Again = (end : Live U) (mid : World) (r : Progress) → StandsAt l life cuts (suc (suc i)) events s r → Going (suc i) end mid.held r → IsBefore life.cut (suc (suc i))
-            → TakesAll by_worlds g (suc i + 1) events end mid how new → Reaches s r mid.out new.out (Ends how new.held)
+        Again : Type 1
+        Again = (later : Type 0) (end : Live U) (mid : World) (r : Progress) → StandsAt l life cuts (suc (suc i)) events s r → Going later (suc i) end mid.held r → IsBefore life.cut (suc (suc i))
+            → TakesAll by_worlds g (suc i + 1) events end mid how new → Comes s later r mid.out new.out (Ends how new.held)
 
         Left : Ended NodeStop (Live U) → Held → Progress → Type 0
-        Left ended h q = StepLeaves s ends l life seen files here meant cuts never_back i ended h p q
+        Left ended h q = StepLeaves s ends l life seen files here meant cuts never_back marks i ended h p q
 
         step_left : (f : Burn) → fuse_for life.cut (suc i) ≡ Some f → (ended : Ended NodeStop (Live U)) (mid : World) → EndsSo (step_of g (suc i) event st) ended (record w { fuse = f }) mid → Reaches s p w.out mid.out (Left ended mid.held)
         step_left f fuse ended mid run =
-            step_goes s ends l life seen files here meant cuts never_back i event rest.0 (reached_lit life.cut (suc i) f fuse before) st (record w { fuse = f }) p
+            step_goes s ends l life seen files here meant cuts never_back marks i event rest.0 (reached_lit life.cut (suc i) f fuse before) st (record w { fuse = f }) p
             going at ended mid m (subst (λ (course : Course U NodeStop (Live U)). EndsSo course ended (record w { fuse = f }) mid) (m.course (suc i) st) run)
 
         -- behind a step that left this
-        stop_left : (stop : Stop) (ended : Ended NodeStop (Live U)) (h : Held) (q : Progress) → (stop ≡ Cut → (its : cut.Cut) → life.cut ≡ Some its → (its.step ≡ suc i) × (0 < its.call)) → Left ended h q → IsStopped l life stop h s q
-        stop_left stop ended h q is_cut left =
+        stop_left : (later : Type 0) → (later → marks) → (stop : Stop) (ended : Ended NodeStop (Live U)) (h : Held) (q : Progress)
+            → (stop ≡ Cut → (its : cut.Cut) → life.cut ≡ Some its → (its.step ≡ suc i) × (0 < its.call)) → Left ended h q → IsStopped l life stop h s later q
+        stop_left later earlier stop ended h q is_cut left =
             let are : q.cuts ≡ cuts = left.cuts_are ∙ stands.1 in
-            stops_saved WithinCall (b (suc i)) l life (suc i) stop h s q (ap length left.cuts_are ∙ at.lives) (left.step ∙ at.step) (at_cuts q (suc i) (suc i) are (itself (b (suc i))))
+            stops_saved WithinCall (b (suc i)) l life (suc i) stop h s later q (ap length left.cuts_are ∙ at.lives) (left.step ∙ at.step) (at_cuts q (suc i) (suc i) are (itself (b (suc i))))
             (λ e its there.
             let its_cut = is_cut e its there in
-            (its_cut.0, its_cut.1, at_cuts q (suc i) (taken_by life its) are (subst (λ (n : ℕ). b (suc i) ≤ b n) (sym (taken_within life its (suc i) its_cut.0 its_cut.1)) (itself (b (suc i)))))) left.logs left.saved
+            (its_cut.0, its_cut.1, at_cuts q (suc i) (taken_by life its) are (subst (λ (n : ℕ). b (suc i) ≤ b n) (sym (taken_within life its (suc i) its_cut.0 its_cut.1)) (itself (b (suc i))))))
+            (λ its within known. left.logs (earlier known.0) (known.1 within)) left.saved
 
-        by_fuse : Again → (o : Option Burn) → fuse_for life.cut (suc i) ≡ o → Steps by_worlds (entry.Step (suc i)) o (step_of g (suc i) event st) w how new Next → Reaches s p w.out new.out (Ends how new.held)
+        by_fuse : Again → (o : Option Burn) → fuse_for life.cut (suc i) ≡ o → Steps by_worlds (entry.Step (suc i)) o (step_of g (suc i) event st) w how new Next → Comes s marks p w.out new.out (Ends how new.held)
         by_fuse again None fuse steps = not_begun fuse steps.0 steps.1
-        by_fuse again (Some f) fuse (inl wants) = reaches_none s p w.out new.out (Ends how new.held) (ap (λ (x : World). x.out) wants.1)
-            (rw (wants.0, wants.1) (stops_saved AnyCall (b i) l life (suc i) (FaultOf NoMemory) w.held s p at.lives at.step (at_cuts p i (suc i) stands.1 rises) (λ e its there. memory_no_cut _ e) going.logs saved_here))
+        by_fuse again (Some f) fuse (inl wants) = comes_none s marks p w.out new.out (Ends how new.held) (ap (λ (x : World). x.out) wants.1)
+            (rw (wants.0, wants.1) (stops_saved AnyCall (b i) l life (suc i) (FaultOf NoMemory) w.held s marks p at.lives at.step (at_cuts p i (suc i) stands.1 rises) (λ e its there. memory_no_cut _ e)
+            (λ its any known. going.logs known.0) saved_here))
         by_fuse again (Some f) fuse (inr (inl stops)) =
-            reaches_as s p w.out new.out (Left (by_node_stop stops.0) new.held) (Ends how new.held)
-            (λ q left. rw stops.1 (stop_left stops.0 (by_node_stop stops.0) new.held q (λ e its there. cut_within life.cut (suc i) f fuse (burns (step_of g (suc i) event st) f w new stops.0 stops.2.0 e) its there) left))
+            comes_of s marks p w.out new.out (Left (by_node_stop stops.0) new.held) (Ends how new.held)
+            (λ q later earlier left. rw stops.1 (stop_left later earlier stops.0 (by_node_stop stops.0) new.held q
+            (λ e its there. cut_within life.cut (suc i) f fuse (burns (step_of g (suc i) event st) f w new stops.0 stops.2.0 e) its there) left))
             (step_left f fuse (by_node_stop stops.0) new stops.2.0)
         by_fuse again (Some f) fuse (inr (inr done)) = by_next done.3
           where
             first : Reaches s p w.out done.1.out (Left (went done.0) done.1.held)
             first = step_left f fuse (went done.0) done.1 done.2.0
 
-            by_next : Wants how done.1 new ⊎ TakesAll by_worlds g (suc i + 1) events done.0 (says done.1 (entry.Step (suc i))) how new → Reaches s p w.out new.out (Ends how new.held)
-            by_next (inl wants) = reaches_then s p w.out done.1.out new.out (Left (went done.0) done.1.held) (Ends how new.held) first
-                (λ q left. reaches_none s q done.1.out new.out (Ends how new.held) (ap (λ (x : World). x.out) wants.1)
-                (rw (wants.0, wants.1) (stop_left (FaultOf NoMemory) (went done.0) done.1.held q (λ e its there. memory_no_cut _ e) left)))
-            by_next (inr more) = reaches_then s p w.out done.1.out new.out (Left (went done.0) done.1.held) (Ends how new.held) first
-                (λ q left.
+            by_next : Wants how done.1 new ⊎ TakesAll by_worlds g (suc i + 1) events done.0 (says done.1 (entry.Step (suc i))) how new → Comes s marks p w.out new.out (Ends how new.held)
+            by_next (inl wants) = comes_behind s marks p w.out done.1.out new.out (Left (went done.0) done.1.held) (Ends how new.held) first
+                (λ q later earlier left. comes_none s later q done.1.out new.out (Ends how new.held) (ap (λ (x : World). x.out) wants.1)
+                (rw (wants.0, wants.1) (stop_left later earlier (FaultOf NoMemory) (went done.0) done.1.held q (λ e its there. memory_no_cut _ e) left)))
+            by_next (inr more) = comes_behind s marks p w.out done.1.out new.out (Left (went done.0) done.1.held) (Ends how new.held) first
+                (λ q later earlier left.
                 let lives : length q.cuts ≡ l = ap length left.cuts_are ∙ at.lives in
                 let step : q.step ≡ suc i = left.step ∙ at.step in
                 let are : q.cuts ≡ cuts = left.cuts_are ∙ stands.1 in
-                reaches_then s q done.1.out (done.1.out ++ entry.Step (suc i) ∷ []) new.out (λ r. r ≡ read s q (entry.Step (suc i))) (Ends how new.held)
-                (reaches_one s q done.1.out (done.1.out ++ entry.Step (suc i) ∷ []) (λ r. r ≡ read s q (entry.Step (suc i))) (entry.Step (suc i)) refl (tt, left.went.1) refl)
-                (λ r is. rw is (again done.0 (says done.1 (entry.Step (suc i))) (read s q (entry.Step (suc i)))
+                comes_first s later q done.1.out new.out (Ends how new.held) (entry.Step (suc i)) (tt, λ known due. left.went.1 (earlier known) due)
+                (again (later × IsKnownAt s q (entry.Step (suc i))) done.0 (says done.1 (entry.Step (suc i))) (read s q (entry.Step (suc i)))
                 (subst (λ (n : ℕ). StandsAt l life cuts n events s (read s q (entry.Step (suc i)))) (add-one (suc i)) (behind s l life cuts (suc i) q life_is lives step are events rest.2))
-                (told_going (suc i) (suc i) done.0 done.1.held q lives step are left.went.0)
-                (subst (λ (n : ℕ). IsBefore life.cut n) (add-one (suc i)) (before_next life.cut (suc i) (reached_lit life.cut (suc i) f fuse before))) more)))
+                (told_going (marks × IsKnownInStep s q) (later × IsKnownAt s q (entry.Step (suc i))) (suc i) (suc i) done.0 done.1.held q (λ known. (earlier known.0, known.1)) lives step are left.went.0)
+                (subst (λ (n : ℕ). IsBefore life.cut n) (add-one (suc i)) (before_next life.cut (suc i) (reached_lit life.cut (suc i) f fuse before))) more))
 
     -- ITS OPENING
 
@@ -400,7 +395,6 @@ module _ (s : Setting) (ends : List (Option CutAt)) (l : ℕ) (life : Life) (see
       whole = rests.whole;
       gives = rests.may.given;
       at_cut = λ step call here any. may_still b0 b0 s p (read s p (entry.Cut step call)) (Some (record { step = step; call = call })) (recovered_in h) (itself b0) refl refl refl rests.may;
-      handed = rests.handed;
     }
       where
         b0 : ℕ
@@ -413,17 +407,16 @@ module _ (s : Setting) (ends : List (Option CutAt)) (l : ℕ) (life : Life) (see
     before_low : (p : Progress) (i : ℕ) → length p.cuts ≡ l → begun_before s p.cuts (length p.cuts) ≤ begun s p.cuts l i
     before_low p i lives = subst (λ (x : ℕ). begun_before s p.cuts x ≤ begun s p.cuts l i) (sym lives) (begun_more s reshares p.cuts l life i life_is)
 
-    pub lives_kept : (its_files : Files) (w : World) (how : Result (Unit {0}) Stop) (new : World) (p : Progress) → IsAtStep l life 0 s p → p.cuts ≡ cuts → RestsIn w.held s p
-        → LogsAre s (begun_before s p.cuts (length p.cuts)) w.held → LivesSo by_worlds g its_files w how new → Reaches s p w.out new.out (Ends how new.held)
-    lives_kept its_files w how new p stands are rests logs (inr refused) = reaches_none s p w.out new.out (Ends how new.held) refused.1.2.1 (rw refused.1.1 (record {
+    pub lives_kept : (its_files : Files) (marks : Type 0) (w : World) (how : Result (Unit {0}) Stop) (new : World) (p : Progress) → IsAtStep l life 0 s p → p.cuts ≡ cuts → RestsIn w.held s p
+        → (marks → LogsKnown s (begun_before s p.cuts (length p.cuts)) p.recorded (logs_in (notes w.held))) → LivesSo by_worlds g its_files w how new → Comes s marks p w.out new.out (Ends how new.held)
+    lives_kept its_files marks w how new p stands are rests logs (inr refused) = comes_none s marks p w.out new.out (Ends how new.held) refused.1.2.1 (rw refused.1.1 (record {
       lives = stands.lives;
       whole = held_whole w.held new.held stays rests.whole;
       gives = rw same (current_later b0 (begun s p.cuts l p.step) (Gives (recovered_in w.held)) (before_low p p.step stands.lives) p.recorded rests.may.given);
       at_cut = λ e its there. (
         rw same (may_still b0 (begun s p.cuts l (taken_by life its)) s p (read s p (entry.Cut its.step its.call)) (Some (record { step = its.step; call = its.call })) (recovered_in w.held) (before_low p (taken_by life its) stands.lives) refl refl refl rests.may),
-        logs_same (logs_later s b0 (begun s p.cuts l (taken_by life its)) w.held (before_low p (taken_by life its) stands.lives) logs),
+        λ known. logs_same (begun s p.cuts l (taken_by life its)) (logs_later s b0 (begun s p.cuts l (taken_by life its)) p.recorded (logs_in (notes w.held)) (before_low p (taken_by life its) stands.lives) (logs known.0)),
       );
-      handed = rests.handed;
     }))
       where
         b0 : ℕ
@@ -435,9 +428,9 @@ module _ (s : Setting) (ends : List (Option CutAt)) (l : ℕ) (life : Life) (see
         same : recovered_in new.held ≡ recovered_in w.held
         same = held_pairs w.held new.held stays
 
-        logs_same : {x : ℕ} → LogsAre s x w.held → LogsAre s x new.held
-        logs_same its key log now there = its key log now (subst (λ (es : List Note). get (logs_in es) key ≡ Some log) stays.entries there)
-    lives_kept its_files w how new p stands are rests logs (inl lives) = by_fuse (fuse_for life.cut 0) refl lives
+        logs_same : (x : ℕ) → LogsKnown s x p.recorded (logs_in (notes w.held)) → LogsKnown s x p.recorded (logs_in (notes new.held))
+        logs_same x its key noted now there = its key noted now (subst (λ (es : List Note). get (logs_in es) key ≡ Some noted) stays.entries there)
+    lives_kept its_files marks w how new p stands are rests logs (inl lives) = by_fuse (fuse_for life.cut 0) refl lives
       where
         b0 : ℕ
         b0 = begun_before s p.cuts (length p.cuts)
@@ -449,45 +442,48 @@ module _ (s : Setting) (ends : List (Option CutAt)) (l : ℕ) (life : Life) (see
         Next end mid = TakesAll by_worlds g 1 life.events end mid how new
 
         Left : Ended NodeStop (Live U) → Held → Progress → Type 0
-        Left ended h q = OpeningLeaves s ends l life seen files here meant cuts never_back ended h p q
+        Left ended h q = OpeningLeaves s ends l life seen files here meant cuts never_back marks ended h p q
 
         opening_left : (f : Burn) (ended : Ended NodeStop (Live U)) (mid : World) → EndsSo (node_opening (at_step g 0)) ended (record w { fuse = f }) mid → Reaches s p w.out mid.out (Left ended mid.held)
-        opening_left f ended mid run = opening_goes s ends l life seen files here meant cuts never_back (record w { fuse = f }) p are stands.lives rests logs ended mid run
+        opening_left f ended mid run = opening_goes s ends l life seen files here meant cuts never_back marks (record w { fuse = f }) p are stands.lives rests logs ended mid run
 
-        stop_left : (stop : Stop) (ended : Ended NodeStop (Live U)) (h : Held) (q : Progress) → (stop ≡ Cut → (its : cut.Cut) → life.cut ≡ Some its → (its.step ≡ 0) × (0 < its.call)) → Left ended h q → IsStopped l life stop h s q
-        stop_left stop ended h q is_cut left =
+        stop_left : (later : Type 0) → (later → marks) → (stop : Stop) (ended : Ended NodeStop (Live U)) (h : Held) (q : Progress)
+            → (stop ≡ Cut → (its : cut.Cut) → life.cut ≡ Some its → (its.step ≡ 0) × (0 < its.call)) → Left ended h q → IsStopped l life stop h s later q
+        stop_left later earlier stop ended h q is_cut left =
             let its_are : q.cuts ≡ cuts = left.cuts_are ∙ are in
-            stops_saved AnyCall (b 0) l life 0 stop h s q (ap length left.cuts_are ∙ stands.lives) (left.step ∙ stands.step) (at_cuts q 0 0 its_are (itself (b 0)))
+            stops_saved AnyCall (b 0) l life 0 stop h s later q (ap length left.cuts_are ∙ stands.lives) (left.step ∙ stands.step) (at_cuts q 0 0 its_are (itself (b 0)))
             (λ e its there.
             let its_cut = is_cut e its there in
-            (its_cut.0, tt, at_cuts q 0 (taken_by life its) its_are (subst (λ (n : ℕ). b 0 ≤ b n) (sym (taken_within life its 0 its_cut.0 its_cut.1)) (itself (b 0))))) left.logs left.saved
+            (its_cut.0, tt, at_cuts q 0 (taken_by life its) its_are (subst (λ (n : ℕ). b 0 ≤ b n) (sym (taken_within life its 0 its_cut.0 its_cut.1)) (itself (b 0))))) (λ its any known. left.logs (earlier known.0)) left.saved
 
-        by_fuse : (o : Option Burn) → fuse_for life.cut 0 ≡ o → Steps by_worlds (entry.Step 0) o (node_opening (at_step g 0)) w how new Next → Reaches s p w.out new.out (Ends how new.held)
-        by_fuse None fuse steps = reaches_none s p w.out new.out (Ends how new.held) (ap (λ (x : World). x.out) steps.1)
-            (rw (steps.0, steps.1) (stops_saved AnyCall b0 l life 0 Cut w.held s p stands.lives stands.step (before_low p 0 stands.lives)
-            (λ e its there. ((cut_before life.cut 0 fuse its there).0, tt, before_low p (taken_by life its) stands.lives)) logs (saved_rests w.held p rests)))
-        by_fuse (Some f) fuse (inl wants) = reaches_none s p w.out new.out (Ends how new.held) (ap (λ (x : World). x.out) wants.1)
-            (rw (wants.0, wants.1) (stops_saved AnyCall b0 l life 0 (FaultOf NoMemory) w.held s p stands.lives stands.step (before_low p 0 stands.lives) (λ e its there. memory_no_cut _ e) logs (saved_rests w.held p rests)))
+        by_fuse : (o : Option Burn) → fuse_for life.cut 0 ≡ o → Steps by_worlds (entry.Step 0) o (node_opening (at_step g 0)) w how new Next → Comes s marks p w.out new.out (Ends how new.held)
+        by_fuse None fuse steps = comes_none s marks p w.out new.out (Ends how new.held) (ap (λ (x : World). x.out) steps.1)
+            (rw (steps.0, steps.1) (stops_saved AnyCall b0 l life 0 Cut w.held s marks p stands.lives stands.step (before_low p 0 stands.lives)
+            (λ e its there. ((cut_before life.cut 0 fuse its there).0, tt, before_low p (taken_by life its) stands.lives)) (λ its any known. logs known.0) (saved_rests w.held p rests)))
+        by_fuse (Some f) fuse (inl wants) = comes_none s marks p w.out new.out (Ends how new.held) (ap (λ (x : World). x.out) wants.1)
+            (rw (wants.0, wants.1) (stops_saved AnyCall b0 l life 0 (FaultOf NoMemory) w.held s marks p stands.lives stands.step (before_low p 0 stands.lives) (λ e its there. memory_no_cut _ e)
+            (λ its any known. logs known.0) (saved_rests w.held p rests)))
         by_fuse (Some f) fuse (inr (inl stops)) =
-            reaches_as s p w.out new.out (Left (by_node_stop stops.0) new.held) (Ends how new.held)
-            (λ q left. rw stops.1 (stop_left stops.0 (by_node_stop stops.0) new.held q (λ e its there. cut_within life.cut 0 f fuse (burns (node_opening (at_step g 0)) f w new stops.0 stops.2.0 e) its there) left))
+            comes_of s marks p w.out new.out (Left (by_node_stop stops.0) new.held) (Ends how new.held)
+            (λ q later earlier left. rw stops.1 (stop_left later earlier stops.0 (by_node_stop stops.0) new.held q
+            (λ e its there. cut_within life.cut 0 f fuse (burns (node_opening (at_step g 0)) f w new stops.0 stops.2.0 e) its there) left))
             (opening_left f (by_node_stop stops.0) new stops.2.0)
         by_fuse (Some f) fuse (inr (inr done)) = by_next done.3
           where
             first : Reaches s p w.out done.1.out (Left (went done.0) done.1.held)
             first = opening_left f (went done.0) done.1 done.2.0
 
-            by_next : Wants how done.1 new ⊎ TakesAll by_worlds g 1 life.events done.0 (says done.1 (entry.Step 0)) how new → Reaches s p w.out new.out (Ends how new.held)
-            by_next (inl wants) = reaches_then s p w.out done.1.out new.out (Left (went done.0) done.1.held) (Ends how new.held) first
-                (λ q left. reaches_none s q done.1.out new.out (Ends how new.held) (ap (λ (x : World). x.out) wants.1)
-                (rw (wants.0, wants.1) (stop_left (FaultOf NoMemory) (went done.0) done.1.held q (λ e its there. memory_no_cut _ e) left)))
-            by_next (inr more) = reaches_then s p w.out done.1.out new.out (Left (went done.0) done.1.held) (Ends how new.held) first
-                (λ q left.
+            by_next : Wants how done.1 new ⊎ TakesAll by_worlds g 1 life.events done.0 (says done.1 (entry.Step 0)) how new → Comes s marks p w.out new.out (Ends how new.held)
+            by_next (inl wants) = comes_behind s marks p w.out done.1.out new.out (Left (went done.0) done.1.held) (Ends how new.held) first
+                (λ q later earlier left. comes_none s later q done.1.out new.out (Ends how new.held) (ap (λ (x : World). x.out) wants.1)
+                (rw (wants.0, wants.1) (stop_left later earlier (FaultOf NoMemory) (went done.0) done.1.held q (λ e its there. memory_no_cut _ e) left)))
+            by_next (inr more) = comes_behind s marks p w.out done.1.out new.out (Left (went done.0) done.1.held) (Ends how new.held) first
+                (λ q later earlier left.
                 let lives_are : length q.cuts ≡ l = ap length left.cuts_are ∙ stands.lives in
                 let step : q.step ≡ 0 = left.step ∙ stands.step in
                 let its_are : q.cuts ≡ cuts = left.cuts_are ∙ are in
-                reaches_then s q done.1.out (done.1.out ++ entry.Step 0 ∷ []) new.out (λ r. r ≡ read s q (entry.Step 0)) (Ends how new.held)
-                (reaches_one s q done.1.out (done.1.out ++ entry.Step 0 ∷ []) (λ r. r ≡ read s q (entry.Step 0)) (entry.Step 0) refl (tt, λ known due. absurd (no_opening_due s q step due)) refl)
-                (λ r is. rw is (takes_kept life.events 0 done.0 (says done.1 (entry.Step 0)) how new (read s q (entry.Step 0)) (all_rest life)
-                (behind s l life cuts 0 q life_is lives_are step its_are life.events (all_rest life)) (told_going 0 0 done.0 done.1.held q lives_are step its_are left.went)
-                (before_next life.cut 0 (reached_lit life.cut 0 f fuse (before_all life.cut))) more)))
+                comes_first s later q done.1.out new.out (Ends how new.held) (entry.Step 0) (tt, λ known due. absurd (no_opening_due s q step due))
+                (takes_kept life.events (later × IsKnownAt s q (entry.Step 0)) 0 done.0 (says done.1 (entry.Step 0)) how new (read s q (entry.Step 0)) (all_rest life)
+                (behind s l life cuts 0 q life_is lives_are step its_are life.events (all_rest life))
+                (told_going marks (later × IsKnownAt s q (entry.Step 0)) 0 0 done.0 done.1.held q (λ known. earlier known.0) lives_are step its_are left.went)
+                (before_next life.cut 0 (reached_lit life.cut 0 f fuse (before_all life.cut))) more))

@@ -1,5 +1,5 @@
--- Where no log that was handed in bears an acknowledgement that this node never gave, the node lacks no dealing that it acknowledged, of any epoch whose dealings the devices give back.
-use Rattle.std.proofs.Common.{◌≡◌, ℕ, ◌^◌, List, [], ◌∷◌, Option, Some, None, Bool, true, false, cond, refl, sym, ap, subst, ◌∙◌, inl, inr, nat_lt, ◌&&◌, ◌==◌, filter, map, fold, IsTrue, arith, ◌<◌}
+-- Where no log of an epoch bears an acknowledgement that this node never gave, the node lacks no dealing that it acknowledged, if the devices give back that epoch's recorded dealings.
+use Rattle.std.proofs.Common.{◌≡◌, ℕ, ◌^◌, List, [], ◌∷◌, Option, Some, None, Bool, true, false, cond, refl, sym, ap, subst, ◌∙◌, inl, inr, nat_lt, ◌&&◌, ◌==◌, ◌+◌, filter, map, fold, IsTrue, arith, ◌<◌}
 use Rattle.std.specs.Prelude.{IfSome, IsSomeAnd, not}
 use Rattle.std.specs.List.{AllByRecursion, list_any}
 use Rattle.std.specs.FinMap.{empty, get, get-empty, get-entries, entries as listing, entries_sorted, find}
@@ -22,12 +22,13 @@ use Rattle.dkg_store.proofs.Own.{lookup_at}
 use Rattle.dkg_store.proofs.Pairs.{same_key, get_at, get_other}
 use Rattle.dkg_types.specs.declared.entry.Restored.{Restored}
 use Rattle.dkg_script.specs.Blocks.{round_at}
-use Rattle.dkg_script.specs.Kept.{Gives}
+use Rattle.dkg_script.specs.Kept.{AllCurrent, Gives}
+use Rattle.dkg_script.specs.LogsKnown.{LogsKnown}
 use Rattle.dkg_script.specs.OwnMarks.{AreKnownHandedIn, IsOwnMarkKnown}
 use Rattle.dkg_script.specs.Progress.{pair_of}
 use Rattle.dkg_script.specs.Setting.{Setting, me, listed, recovered_from}
-use Rattle.dkg_script.proofs.Listed.{each_found, gives_all}
-use Rattle.dkg_run.proofs.Recorded.{found_is}
+use Rattle.dkg_script.proofs.Listed.{each_found}
+use Rattle.dkg_run.proofs.Currently.{found_current}
 
 -- WHAT HOLDS OF EACH RECORD holds of each that is found
 
@@ -74,42 +75,39 @@ all_map P Q (x ∷ xs) leads all = (leads x all.0, all_map P Q xs leads all.1)
 is_low : (q : ℕ) → nat_lt q (2 ^ 32) ≡ true → q < 2 ^ 32
 is_low q e = grind (arith, nat_tests)
 
--- THE DEALINGS that were handed in
+-- EACH LOG THAT WAS HANDED IN is known, where each entry of the journal is
+pub handed_known : (s : Setting) (begun : ℕ) → AreKnownHandedIn s → LogsKnown s begun (listed (recovered_from s.files s.secrets)) (logs_in (entries s.files))
+handed_known s begun known key noted now there =
+    all_found noted_log (λ key r. IsOwnMarkKnown s (listed (recovered_from s.files s.secrets)) key.0 key.1 r.log) (entries s.files) empty known (λ key v none. absurd (none_found key v none)) key noted there
 
-abbrev pub handed_in : Setting → List Restored
-handed_in s = listed (recovered_from s.files s.secrets)
+-- THE RECORDED DEALINGS of an epoch are given back, and its logs known by them
 
--- The devices give back each dealing of this epoch that was handed in.
-abbrev pub HasHanded : Setting → (epoch : ℕ) → Pairs → Type 0
-HasHanded s epoch pairs = (dealer : ℕ) (x : Restored) → pair_of (handed_in s) epoch dealer ≡ Some x → get pairs (epoch, dealer) ≡ Some (x.public, x.private)
+abbrev pub GivesRecorded : List Restored → (epoch : ℕ) → Pairs → Type 0
+GivesRecorded recorded epoch pairs = (dealer : ℕ) (x : Restored) → pair_of recorded epoch dealer ≡ Some x → get pairs (epoch, dealer) ≡ Some (x.public, x.private)
 
--- .. where each is recorded, and those that are recorded of this epoch are given back
-pub has_handed : (s : Setting) (epoch : ℕ) (pairs : Pairs) (recorded : List Restored) → ((pair : Restored) → Gives (recovered_from s.files s.secrets) pair → pair_of recorded pair.epoch pair.dealer ≡ Some pair)
-    → AllByRecursion (λ x. x.epoch ≡ epoch → Gives pairs x) recorded → HasHanded s epoch pairs
-has_handed s epoch pairs recorded handed given dealer x there =
-    let first = found_is (Gives (recovered_from s.files s.secrets)) (handed_in s) epoch dealer x (gives_all (recovered_from s.files s.secrets)) there in
-    let still = found_is (λ x. x.epoch ≡ epoch → Gives pairs x) recorded x.epoch x.dealer x given (handed x first.0) in
-    let gives : get pairs (x.epoch, x.dealer) ≡ Some (x.public, x.private) = still.0 first.1 in
-    subst (λ (e : ℕ). get pairs (e, dealer) ≡ Some (x.public, x.private)) first.1 (subst (λ (d : ℕ). get pairs (x.epoch, d) ≡ Some (x.public, x.private)) first.2 gives)
+abbrev pub KnowsMarks : Setting → List Restored → (epoch : ℕ) → Notes RecordedLog → Type 0
+KnowsMarks s recorded epoch logs = (dealer : ℕ) (noted : RecordedLog) → get logs (epoch, dealer) ≡ Some noted → IsOwnMarkKnown s recorded epoch dealer noted.log
 
--- THE LOGS of an epoch were handed in
+-- of one that is current
+pub gives_recorded : (begun epoch : ℕ) (pairs : Pairs) (recorded : List Restored) → begun < epoch + 2 → AllCurrent begun (Gives pairs) recorded → GivesRecorded recorded epoch pairs
+gives_recorded begun epoch pairs recorded now given dealer x there =
+    let its = found_current begun (Gives pairs) recorded epoch dealer x given there now in
+    subst (λ (e : ℕ). get pairs (e, dealer) ≡ Some (x.public, x.private)) its.1 (subst (λ (d : ℕ). get pairs (x.epoch, d) ≡ Some (x.public, x.private)) its.2 its.0)
 
-abbrev pub WereHandedIn : Setting → (epoch : ℕ) → Notes RecordedLog → Type 0
-WereHandedIn s epoch logs = (key : ℕ × ℕ) (log : RecordedLog) → key.0 ≡ epoch → get logs key ≡ Some log → get (logs_in (entries s.files)) key ≡ Some log
-
-module _ (s : Setting) (epoch : ℕ) (pairs : Pairs) (logs : Notes RecordedLog) (round : Round) (has : HasHanded s epoch pairs) (were : WereHandedIn s epoch logs) (known : AreKnownHandedIn s) (round_is : round_at s epoch ≡ Some round) where
+module _ (s : Setting) (epoch : ℕ) (recorded : List Restored) (pairs : Pairs) (logs : Notes RecordedLog) (round : Round) (has : GivesRecorded recorded epoch pairs) (known : KnowsMarks s recorded epoch logs)
+    (round_is : round_at s epoch ≡ Some round) where
   -- the dealing that a log names is recorded
-  has_it : (dealer : ℕ) (log : DealerLog) (x : Restored) → pair_of (handed_in s) epoch dealer ≡ Some x → log.public ≡ x.public → has_public log.public (get pairs (epoch, dealer)) ≡ true
+  has_it : (dealer : ℕ) (log : DealerLog) (x : Restored) → pair_of recorded epoch dealer ≡ Some x → log.public ≡ x.public → has_public log.public (get pairs (epoch, dealer)) ≡ true
   has_it dealer log x there same = rw (has dealer x there, same) ((bytes_eq-Decides x.public x.public).1 refl)
 
-  by_mark : (dealer : ℕ) (log : DealerLog) (bears : Bool) → bears_ack_of round dealer log (me s) ≡ bears → IsOwnMarkKnown s (handed_in s) epoch dealer log
+  by_mark : (dealer : ℕ) (log : DealerLog) (bears : Bool) → bears_ack_of round dealer log (me s) ≡ bears → IsOwnMarkKnown s recorded epoch dealer log
       → (bears && not (has_public log.public (get pairs (epoch, dealer)))) ≡ false
   by_mark dealer log false is own = refl
   by_mark dealer log true is own =
-      let of_round : IsTrue (bears_ack_of round dealer log (me s)) → IsSomeAnd (pair_of (handed_in s) epoch dealer) (λ x. log.public ≡ x.public) = rw round_is at own in
-      by_pair (pair_of (handed_in s) epoch dealer) refl (of_round is)
+      let of_round : IsTrue (bears_ack_of round dealer log (me s)) → IsSomeAnd (pair_of recorded epoch dealer) (λ x. log.public ≡ x.public) = rw round_is at own in
+      by_pair (pair_of recorded epoch dealer) refl (of_round is)
     where
-      by_pair : (o : Option Restored) → pair_of (handed_in s) epoch dealer ≡ o → IsSomeAnd o (λ x. log.public ≡ x.public) → (true && not (has_public log.public (get pairs (epoch, dealer)))) ≡ false
+      by_pair : (o : Option Restored) → pair_of recorded epoch dealer ≡ o → IsSomeAnd o (λ x. log.public ≡ x.public) → (true && not (has_public log.public (get pairs (epoch, dealer)))) ≡ false
       by_pair None there is = absurd is
       by_pair (Some x) there is = rw (has_it dealer log x there is) refl
 
@@ -118,11 +116,9 @@ module _ (s : Setting) (epoch : ℕ) (pairs : Pairs) (logs : Notes RecordedLog) 
       → is_orphan (λ dealer log. bears_ack_of round dealer log (me s)) (at_epoch epoch pairs) (x.0.1, x.1.log) ≡ false
   each_has x found is =
       let first : x.0.0 ≡ epoch = eqb-true x.0.0 epoch (and_parts (x.0.0 == epoch) (nat_lt x.0.1 (2 ^ 32)) is).0 in
-      let there : get (logs_in (entries s.files)) x.0 ≡ Some x.1 = were x.0 x.1 first (get-entries logs x.0 ∙ found) in
-      let own : IsOwnMarkKnown s (handed_in s) x.0.0 x.0.1 x.1.log =
-      all_found noted_log (λ key r. IsOwnMarkKnown s (handed_in s) key.0 key.1 r.log) (entries s.files) empty known (λ key v none. absurd (none_found key v none)) x.0 x.1 there in
+      let own : IsOwnMarkKnown s recorded epoch x.0.1 x.1.log = known x.0.1 x.1 (subst (λ (e : ℕ). get logs (e, x.0.1) ≡ Some x.1) first (get-entries logs x.0 ∙ found)) in
       let low : x.0.1 < 2 ^ 32 = is_low x.0.1 (and_parts (x.0.0 == epoch) (nat_lt x.0.1 (2 ^ 32)) is).1 in
-      rw (lookup_at epoch x.0.1 pairs low) (by_mark x.0.1 x.1.log (bears_ack_of round x.0.1 x.1.log (me s)) refl (rw first at own))
+      rw (lookup_at epoch x.0.1 pairs low) (by_mark x.0.1 x.1.log (bears_ack_of round x.0.1 x.1.log (me s)) refl own)
 
   pub lacks_none : has_orphan (λ dealer log. bears_ack_of round dealer log (me s)) (at_epoch epoch pairs) (bare_logs (at_epoch epoch logs)) ≡ false
   lacks_none =

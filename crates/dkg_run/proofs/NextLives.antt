@@ -1,6 +1,6 @@
 -- How a step of a life moves its tip, its stage and its epoch; and which blocks are of the form.
 use Rattle.std.proofs.Common.{◌≡◌, ◌<◌, ◌≤◌, ◌⊎◌, inl, inr, ℕ, Bool, true, false, nat_le, List, Option, Some, None, refl, sym, ◌∙◌, ap, subst, arith}
-use Rattle.std.specs.Prelude.{◌+◌, ◌==◌, ◌&&◌, nat_lt, not, is_some, if◌then◌else◌}
+use Rattle.std.specs.Prelude.{◌+◌, ◌==◌, ◌&&◌, filter, nat_lt, not, is_some, if◌then◌else◌}
 use Rattle.std.specs.Option.{option_map_or}
 use Rattle.std.specs.Str.{bytes_eq}
 use Rattle.std.proofs.lemmas.Bool.Decides.{nat_tests}
@@ -8,21 +8,26 @@ use Rattle.dkg_values.specs.Rising.{lookup}
 use Rattle.dkg_ceremony.specs.declared.phase.Phase.{Phase}
 use Rattle.dkg_ceremony.specs.declared.phase.Phase.TheVariants.{Early, Midpoint, Late}
 use Rattle.dkg_ceremony.specs.declared.round.RoundParts.{RoundParts as Round}
-use Rattle.dkg_ceremony.specs.Schedule.{epoch_of, midpoint}
+use Rattle.dkg_ceremony.specs.Schedule.{epoch_of, midpoint, last as last_height}
 use Rattle.dkg_types.specs.Blocks.{Block}
 use Rattle.dkg_types.specs.declared.fault.Fault.{Fault}
 use Rattle.dkg_types.specs.declared.fault.Fault.TheVariants.{HeightRange, ConflictingBlock, DetachedBlock, SkippedHeight, OutOfWindow}
 use Rattle.dkg_store.specs.Acts.{Held}
 use Rattle.dkg_core.specs.Sources.{Tip}
 use Rattle.dkg_core.specs.Fixed.{Fixed}
-use Rattle.dkg_core.specs.Live.{Live, Dealer, Stage, Deals, Includes, Follows, Ends, Message, Sent, Peer, Finalized, NextLog, ReleaseLog, EpochInfoOf, Feed, Over, Cancel, Work, awaited_height, phase_of, is_last_height, recorded_at, with_tip}
+use Rattle.dkg_core.specs.Live.{Live, Dealer, Stage, Deals, Includes, Follows, Ends, Mail, Message, Sent, Peer, Finalized, NextLog, ReleaseLog, EpochInfoOf, Feed, Over, Cancel, Work, awaited_height, phase_of, is_last_height, recorded_at, with_inclusion, with_queue, with_tip}
 use Rattle.dkg_core.specs.Setup.{begins_inclusion, is_past_range}
 use Rattle.dkg_core.specs.Blocks.{is_early, is_in_window, is_in_window_in}
 use Rattle.dkg_core.specs.Dealing.{counts, with_ack}
 use Rattle.dkg_core.specs.Endings.{stage_in, tip_behind}
-use Rattle.dkg_core.specs.Forms.{IsLiveIn, IsTakenIn, Judged, Refusal, Passed, Applied, judged_block, judged_over}
-use Rattle.dkg_core.specs.Stepping.{IsBlockEnd, IsAppliedEnd, IsFollowedEnd, IsHeardBy, IsNextIn, IsSameLife, IsStepEnd, IsTakenOver, TakesNothingOver, dealt_behind, given_itself, with_taken}
-use Rattle.dkg_core.proofs.Stepping.{next_lives_stay}
+use Rattle.dkg_core.specs.Asked.{OfShares}
+use Rattle.dkg_core.specs.Forms.{IsForm, IsLiveIn, Judged, Refusal, Passed, Applied, judged_block, judged_over}
+use Rattle.dkg_core.specs.Including.{is_served_at}
+use Rattle.dkg_core.specs.Stepping.{IsHeardBy, dealt_behind, given_itself, with_taken}
+use Rattle.dkg_core.specs.Through.{IsAppliedThrough, IsBlockThrough, IsEndThrough, IsFollowedThrough, IsIncludedThrough, IsLiveThrough, IsNextThrough, IsPassedOn, IsReadFrom, IsStillThrough, PassesNothingOn, asked_by, included, unasked, waits_for}
+use Rattle.dkg_core.proofs.Heights.{below_middle}
+use Rattle.dkg_core.proofs.Applied.{deals_below}
+use Rattle.dkg_core.proofs.StillThrough.{next_lives_stay_through}
 
 -- APART
 
@@ -185,25 +190,6 @@ module _ {Dir : Type 0} (c : Fixed Dir) (b : Block Dir) (st : Live Dir) where
       by_tip None none = in_stage st.participation.stage refl (its.anew none) ∙ live.awaits apart
       by_tip (Some t) is = ap (epoch_of c.blocks_per_epoch) (its.over t is ∙ sym (ap (λ (o : Option Tip). option_map_or (λ t. t.height + 1) o 0) is))
 
-  -- So one that would be applied is of the form where each one of the awaited epoch that comes while the life takes part lies below that epoch's midpoint,
-  pub taken_if : IsLiveIn c st → ((st.participation.stage ≡ Follows → ⊥) → epoch_of c.blocks_per_epoch b.height ≡ epoch_of c.blocks_per_epoch (awaited_height st) → b.height < midpoint c.blocks_per_epoch (epoch_of c.blocks_per_epoch b.height))
-      → IsApplied → (st.participation.stage ≡ Follows) ⊎ (b.height < midpoint c.blocks_per_epoch (epoch_of c.blocks_per_epoch b.height))
-  taken_if live early its = by_stage st.participation.stage refl
-    where
-      low : (st.participation.stage ≡ Follows → ⊥) → (st.participation.stage ≡ Follows) ⊎ (b.height < midpoint c.blocks_per_epoch (epoch_of c.blocks_per_epoch b.height))
-      low apart = inr (early apart (applied_here live its apart))
-
-      by_stage : (stage : Stage) → st.participation.stage ≡ stage → (st.participation.stage ≡ Follows) ⊎ (b.height < midpoint c.blocks_per_epoch (epoch_of c.blocks_per_epoch b.height))
-      by_stage Follows is = inl is
-      by_stage Deals is = low (λ e. deals_apart (sym is ∙ e))
-      by_stage Includes is = low (λ e. includes_apart (sym is ∙ e))
-      by_stage Ends is = low (λ e. ends_apart (sym is ∙ e))
-
-  -- .. and any block is.
-  pub taken_so : IsLiveIn c st → ((st.participation.stage ≡ Follows → ⊥) → epoch_of c.blocks_per_epoch b.height ≡ epoch_of c.blocks_per_epoch (awaited_height st) → b.height < midpoint c.blocks_per_epoch (epoch_of c.blocks_per_epoch b.height))
-      → IsTakenIn c (Finalized b) st
-  taken_so live early applied = taken_if live early (applied_so applied)
-
 -- THE TIP behind a step
 
 module _ {Dir : Type 0} (c : Fixed Dir) (st : Live Dir) where
@@ -247,93 +233,153 @@ module _ {Dir : Type 0} (c : Fixed Dir) (st : Live Dir) where
         by_test true = refl
         by_test false = refl
 
-  -- it is the block that was applied, and else as it was
-  pub next_tip : (message : Message Dir) (h k : Held) (end : Live Dir) → IsNextIn c st message h k end → end.tip ≡ tip_behind message st.tip
-  next_tip (Sent (Peer from bytes)) h k end next = heard_tip from end next.is
-  next_tip (Sent (NextLog request height)) h k end next = absurd next.is
-  next_tip (Sent (ReleaseLog height)) h k end next = absurd next.is
-  next_tip (Sent (EpochInfoOf request)) h k end next = absurd next.is
-  next_tip (Sent (Feed request block)) h k end next = absurd next.is
-  next_tip (Sent (Over request)) h k end next = absurd next.is
-  next_tip (Sent (Cancel request)) h k end next = absurd next.is
-  next_tip (Sent (Work result)) h k end next = absurd next.is
-  next_tip (Finalized b) h k end next = by_judged (judged_block c b st) refl next.is
+  -- what is told of requests leaves it
+  asked_tip : (its : Mail Dir) → (asked_by its st).tip ≡ st.tip
+  asked_tip (Peer from bytes) = refl
+  asked_tip (NextLog request height) = refl
+  asked_tip (ReleaseLog height) = by_test (is_served_at height st)
     where
-      by_last : judged_block c b st ≡ Applied → (last : Bool) → IsFollowedEnd c b st h k last end → end.tip ≡ tip_behind (Finalized b) st.tip
-      by_last e true taken = (taken.seated).tip ∙ sym (applied_tip b e)
-      by_last e false same = ap (λ (x : Live Dir). x.tip) same ∙ sym (applied_tip b e)
+      by_test : (t : Bool) → (if t then with_inclusion (record st.inclusion { served = None }) st else st).tip ≡ st.tip
+      by_test true = refl
+      by_test false = refl
+  asked_tip (EpochInfoOf request) = refl
+  asked_tip (Feed request block) = refl
+  asked_tip (Over request) = refl
+  asked_tip (Cancel request) = by_test (waits_for request st)
+    where
+      by_test : (t : Bool) → (if t then with_inclusion (record st.inclusion { waiter = None }) st else with_queue (filter (λ r. not (r.number == request)) st.inclusion.queue) st).tip ≡ st.tip
+      by_test true = refl
+      by_test false = refl
+  asked_tip (Work handed) = refl
 
-      by_stage : judged_block c b st ≡ Applied → (stage : Stage) → IsAppliedEnd c b st h k stage end → end.tip ≡ tip_behind (Finalized b) st.tip
-      by_stage e Deals dealt = ap (λ (x : Live Dir). x.tip) dealt ∙ dealt_tip b (given_itself c st) ∙ sym (applied_tip b e)
-      by_stage e Follows followed = by_last e (is_last_height c b.height) followed
-      by_stage e Includes none = absurd none
+  read_tip : (mid end : Live Dir) → IsReadFrom c mid end → end.tip ≡ mid.tip
+  read_tip mid end read = ap (λ (x : Live Dir). x.tip) read.same
+
+  -- it is the block that was applied, and else as it was
+  pub next_tip : (stored : OfShares) (message : Message Dir) (devices : Option Held) (end : Live Dir) (left : Option Held) → IsNextThrough c stored st message devices end left → end.tip ≡ tip_behind message st.tip
+  next_tip stored (Sent (Peer from bytes)) devices end left next = heard_tip from end next.is
+  next_tip stored (Sent (NextLog request height)) devices end left next = read_tip (asked_by (NextLog request height) st) end next.is.0 ∙ asked_tip (NextLog request height)
+  next_tip stored (Sent (ReleaseLog height)) devices end left next = read_tip (asked_by (ReleaseLog height) st) end next.is.0 ∙ asked_tip (ReleaseLog height)
+  next_tip stored (Sent (EpochInfoOf request)) devices end left next = read_tip (asked_by (EpochInfoOf request) st) end next.is.0 ∙ asked_tip (EpochInfoOf request)
+  next_tip stored (Sent (Feed request block)) devices end left next = read_tip (asked_by (Feed request block) st) end next.is.0 ∙ asked_tip (Feed request block)
+  next_tip stored (Sent (Over request)) devices end left next = read_tip (asked_by (Over request) st) end next.is.0 ∙ asked_tip (Over request)
+  next_tip stored (Sent (Cancel request)) devices end left next = read_tip (asked_by (Cancel request) st) end next.is.0 ∙ asked_tip (Cancel request)
+  next_tip stored (Sent (Work handed)) devices end left next = read_tip (asked_by (Work handed) st) end next.is.0 ∙ asked_tip (Work handed)
+  next_tip stored (Finalized b) devices end left next = by_judged (judged_block c b st) refl next.is
+    where
+      passed_on : judged_block c b st ≡ Applied → IsPassedOn c stored b st devices end left → end.tip ≡ tip_behind (Finalized b) st.tip
+      passed_on e taken = (taken.seated).tip ∙ sym (applied_tip b e)
+
+      follows_on : judged_block c b st ≡ Applied → (last : Bool) → IsFollowedThrough c stored b st devices last end left → end.tip ≡ tip_behind (Finalized b) st.tip
+      follows_on e true taken = passed_on e taken
+      follows_on e false same = ap (λ (x : Live Dir). x.tip) same ∙ sym (applied_tip b e)
+
+      includes_on : judged_block c b st ≡ Applied → (last : Bool) → IsIncludedThrough c stored b st devices last end left → end.tip ≡ tip_behind (Finalized b) st.tip
+      includes_on e true taken = passed_on e taken
+      includes_on e false its = read_tip (included c its.0 b st) end its.2 ∙ sym (applied_tip b e)
+
+      by_stage : judged_block c b st ≡ Applied → (stage : Stage) → IsAppliedThrough c stored b st devices stage end left → end.tip ≡ tip_behind (Finalized b) st.tip
+      by_stage e Deals dealt = read_tip (dealt_behind c b (given_itself c st)) end dealt ∙ dealt_tip b (given_itself c st) ∙ sym (applied_tip b e)
+      by_stage e Follows followed = follows_on e (is_last_height c b.height) followed
+      by_stage e Includes its = includes_on e (is_last_height c b.height) its
       by_stage e Ends none = absurd none
 
-      by_judged : (j : Judged) → judged_block c b st ≡ j → IsBlockEnd c b st h k j end → end.tip ≡ tip_behind (Finalized b) st.tip
+      by_judged : (j : Judged) → judged_block c b st ≡ j → IsBlockThrough c stored b st devices j end left → end.tip ≡ tip_behind (Finalized b) st.tip
       by_judged (Refusal fault) e none = absurd none
-      by_judged Passed e same = ap (λ (x : Live Dir). x.tip) same ∙ sym (passed_tip b e)
+      by_judged Passed e same = ap (λ (x : Live Dir). x.tip) same.0 ∙ sym (passed_tip b e)
       by_judged Applied e applied = by_stage e st.participation.stage applied
 
 -- STAGE AND EPOCH behind a step
 
--- an epoch's last block that a life takes while it follows: it takes part in the next one from there on
-pub record TakesOver {Dir : Type 0} (c : Fixed Dir) (st : Live Dir) (message : Message Dir) (h k : Held) (end : Live Dir) : Type 0 where
+-- an epoch's last block that a life takes: the life takes part in the next epoch from there on
+pub record TakesOver {Dir : Type 0} (c : Fixed Dir) (stored : OfShares) (st : Live Dir) (message : Message Dir) (devices : Option Held) (end : Live Dir) (left : Option Held) : Type 0 where
   pub block : Block Dir
   pub is : message ≡ Finalized block
   pub applied : judged_block c block st ≡ Applied
-  pub follows : st.participation.stage ≡ Follows
   pub last : is_last_height c block.height ≡ true
-  pub taken : IsTakenOver c block st h k end
+  pub stage : (st.participation.stage ≡ Follows) ⊎ (st.participation.stage ≡ Includes)
+  pub taken : IsPassedOn c stored block st devices end left
 
 -- any other: the life follows on, or takes part in the same epoch
 pub record GoesOn {Dir : Type 0} (c : Fixed Dir) (st : Live Dir) (message : Message Dir) (end : Live Dir) : Type 0 where
-  pub nothing : TakesNothingOver c st message
-  pub same : IsSameLife st end
+  pub nothing : PassesNothingOn c st message
+  pub same : IsStillThrough st end
   pub following : st.participation.stage ≡ Follows → end.participation.stage ≡ Follows
   pub parts : end.participation.stage ≡ Follows → st.participation.stage ≡ Follows
 
-module _ {Dir : Type 0} (c : Fixed Dir) (st : Live Dir) (message : Message Dir) (h k : Held) (end : Live Dir) (live : IsLiveIn c st) (next : IsNextIn c st message h k end) where
-  goes_on : TakesNothingOver c st message → GoesOn c st message end
-  goes_on nothing =
-      let same = next_lives_stay c st message h k end nothing next in
-      record { nothing = nothing; same = same; following = follows_alike c st end live next.live same.round; parts = follows_alike c end st next.live live (sym same.round) }
+module _ {Dir : Type 0} (c : Fixed Dir) (stored : OfShares) (st : Live Dir) (message : Message Dir) (devices : Option Held) (end : Live Dir) (left : Option Held) (form : IsForm c)
+    (live : IsLiveThrough c stored st) (next : IsNextThrough c stored st message devices end left) where
+  abbrev Either : Type 0
+  Either = GoesOn c st message end ⊎ TakesOver c stored st message devices end left
 
-  by_block : (b : Block Dir) → message ≡ Finalized b → GoesOn c st message end ⊎ TakesOver c st message h k end
+  goes_on : PassesNothingOn c st message → GoesOn c st message end
+  goes_on nothing =
+      let same = next_lives_stay_through c stored st message devices end left nothing next in
+      record {
+        nothing = nothing;
+        same = same;
+        following = follows_alike c (unasked st) (unasked end) live.stands (next.live).stands same.round;
+        parts = follows_alike c (unasked end) (unasked st) (next.live).stands live.stands (sym same.round);
+      }
+
+  by_block : (b : Block Dir) → message ≡ Finalized b → Either
   by_block b is = by_judged (judged_block c b st) refl
     where
-      nothing : (judged_block c b st ≡ Applied → st.participation.stage ≡ Follows → is_last_height c b.height ≡ true → ⊥) → GoesOn c st message end ⊎ TakesOver c st message h k end
-      nothing none = inl (goes_on (subst (TakesNothingOver c st) (sym is) none))
+      nothing : (judged_block c b st ≡ Applied → is_last_height c b.height ≡ true → ⊥) → Either
+      nothing none = inl (goes_on (subst (PassesNothingOn c st) (sym is) none))
 
-      the_end : IsBlockEnd c b st h k (judged_block c b st) end
-      the_end = subst (λ (m : Message Dir). IsStepEnd c st m h k end) is next.is
+      the_end : IsBlockThrough c stored b st devices (judged_block c b st) end left
+      the_end = subst (λ (m : Message Dir). IsEndThrough c stored st m devices end left) is next.is
 
-      by_stage : judged_block c b st ≡ Applied → (stage : Stage) → st.participation.stage ≡ stage → (last : Bool) → is_last_height c b.height ≡ last → GoesOn c st message end ⊎ TakesOver c st message h k end
+      applied_end : judged_block c b st ≡ Applied → (stage : Stage) → st.participation.stage ≡ stage → IsAppliedThrough c stored b st devices stage end left
+      applied_end applied stage at =
+          subst (λ (stage : Stage). IsAppliedThrough c stored b st devices stage end left) at (subst (λ (j : Judged). IsBlockThrough c stored b st devices j end left) applied the_end)
+
+      -- a life that deals takes no last block
+      deals_none : judged_block c b st ≡ Applied → st.participation.stage ≡ Deals → is_last_height c b.height ≡ true → ⊥
+      deals_none applied deals last =
+          let place = deals_below c b st live.stands applied deals in
+          below_it b.height (below_middle c.blocks_per_epoch (epoch_of c.blocks_per_epoch b.height) b.height form.counted place.1) (same_number b.height (last_of b.height) last)
+        where
+          last_of : ℕ → ℕ
+          last_of height = last_height c.blocks_per_epoch (epoch_of c.blocks_per_epoch height)
+
+          below_it : (height : ℕ) → height < last_height c.blocks_per_epoch (epoch_of c.blocks_per_epoch b.height) → height ≡ last_height c.blocks_per_epoch (epoch_of c.blocks_per_epoch b.height) → ⊥
+          below_it height low same = omega (arith, low, same)
+
+      by_stage : judged_block c b st ≡ Applied → (stage : Stage) → st.participation.stage ≡ stage → (last : Bool) → is_last_height c b.height ≡ last → Either
       by_stage applied Follows at true last = inr (record {
         block = b;
         is = is;
         applied = applied;
-        follows = at;
         last = last;
-        taken = subst (λ (t : Bool). IsFollowedEnd c b st h k t end) last
-            (subst (λ (stage : Stage). IsAppliedEnd c b st h k stage end) at (subst (λ (j : Judged). IsBlockEnd c b st h k j end) applied the_end));
+        stage = inl at;
+        taken = subst (λ (t : Bool). IsFollowedThrough c stored b st devices t end left) last (applied_end applied Follows at);
       })
-      by_stage applied Follows at false last = nothing (λ _ _ wrong. bools_apart (is_last_height c b.height) wrong last)
-      by_stage applied Deals at t last = nothing (λ _ follows _. deals_apart (sym at ∙ follows))
-      by_stage applied Includes at t last = nothing (λ _ follows _. includes_apart (sym at ∙ follows))
-      by_stage applied Ends at t last = nothing (λ _ follows _. ends_apart (sym at ∙ follows))
+      by_stage applied Includes at true last = inr (record {
+        block = b;
+        is = is;
+        applied = applied;
+        last = last;
+        stage = inr at;
+        taken = subst (λ (t : Bool). IsIncludedThrough c stored b st devices t end left) last (applied_end applied Includes at);
+      })
+      by_stage applied Deals at true last = absurd (deals_none applied at last)
+      by_stage applied Ends at true last = absurd (not_ended c (unasked st) live.stands at)
+      by_stage applied stage at false last = nothing (λ _ wrong. bools_apart (is_last_height c b.height) wrong last)
 
-      by_judged : (j : Judged) → judged_block c b st ≡ j → GoesOn c st message end ⊎ TakesOver c st message h k end
-      by_judged (Refusal fault) e = nothing (λ applied _ _. refusal_apart fault (sym e ∙ applied))
-      by_judged Passed e = nothing (λ applied _ _. passed_apart (sym e ∙ applied))
+      by_judged : (j : Judged) → judged_block c b st ≡ j → Either
+      by_judged (Refusal fault) e = nothing (λ applied _. refusal_apart fault (sym e ∙ applied))
+      by_judged Passed e = nothing (λ applied _. passed_apart (sym e ∙ applied))
       by_judged Applied e = by_stage e st.participation.stage refl (is_last_height c b.height) refl
 
-  pub next_so : GoesOn c st message end ⊎ TakesOver c st message h k end
+  pub next_so : GoesOn c st message end ⊎ TakesOver c stored st message devices end left
   next_so = by_message message refl
     where
-      by_message : (m : Message Dir) → message ≡ m → GoesOn c st message end ⊎ TakesOver c st message h k end
-      by_message (Sent mail) is = inl (goes_on (subst (TakesNothingOver c st) (sym is) tt))
+      by_message : (m : Message Dir) → message ≡ m → Either
+      by_message (Sent mail) is = inl (goes_on (subst (PassesNothingOn c st) (sym is) tt))
       by_message (Finalized b) is = by_block b is
 
   -- behind a take-over it takes part
-  pub parts_behind : TakesOver c st message h k end → end.participation.stage ≡ Follows → ⊥
-  parts_behind over = with_round c end ((over.taken).seated).round next.live ((over.taken).seated).in_round
+  pub parts_behind : TakesOver c stored st message devices end left → end.participation.stage ≡ Follows → ⊥
+  parts_behind over = with_round c (unasked end) ((over.taken).seated).round (next.live).stands ((over.taken).seated).in_round

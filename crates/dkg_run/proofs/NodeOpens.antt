@@ -18,7 +18,7 @@ use Rattle.dkg_types.specs.declared.scheme.SchemeInfo.{SchemeInfo}
 use Rattle.dkg_text.specs.declared.script.Life.{Life}
 use Rattle.dkg_text.specs.declared.script.Script.{Script}
 use Rattle.dkg_text.specs.declared.script.ScriptConfig.{ScriptConfig}
-use Rattle.dkg_script.specs.Epochs.{IsFormOfEpochs}
+use Rattle.dkg_script.specs.Inclusion.{IsFormOfInclusion}
 use Rattle.dkg_store.specs.Acts.{Ended, Held, Moment, Stands, moment, went}
 use Rattle.dkg_secrets.specs.Secrets.{Secrets}
 use Rattle.dkg_core.specs.Core.{opening}
@@ -110,7 +110,7 @@ pub starts_alike : (script : Script) (number : ℕ) (life : Life) (files : Files
 unfolding at_step
 starts_alike script number life files = refl
 
-module _ (script : Script) (number : ℕ) (life : Life) (source : HeldBlocks) (files : Files) (form : IsFormOfEpochs script) (checked : IsChecked script) (life_is : slice_get script.lives number ≡ Some life)
+module _ (script : Script) (number : ℕ) (life : Life) (source : HeldBlocks) (files : Files) (form : IsFormOfInclusion script) (checked : IsChecked script) (life_is : slice_get script.lives number ≡ Some life)
     (from : IsSourceOf (blocks_in script) life 0 source) (terms : Terms)
     (are : AreTerms terms script.config.me script.config.blocks_per_epoch script.config.limit script.config.max_mode script.config.mode V1 script.config.namespace)
   where

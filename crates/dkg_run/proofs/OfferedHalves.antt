@@ -14,8 +14,10 @@ use Rattle.dkg_script.specs.Blocks.{round_at}
 use Rattle.dkg_script.specs.SameOffers.{SameOffers}
 use Rattle.dkg_script.specs.Setting.{Setting, me}
 use Rattle.dkg_store.specs.Acts.{Held, World}
-use Rattle.dkg_core.specs.Storing.{KeepsSeeds, KeepsShares}
+use Rattle.dkg_core.specs.Storing.{KeepsSeeds}
+use Rattle.dkg_run.specs.Found.{IsCarriedShare}
 use Rattle.dkg_run.proofs.OpeningsStore.{IsUnoffered, all_joined}
+use Rattle.dkg_run.proofs.Sharing.{one_share}
 
 some_is : {A : Type 0} {x y : A} → ◌≡◌ {A = Option A} (Some x) (Some y) → x ≡ y
 some_is e = cc
@@ -31,7 +33,7 @@ contains_all P (y ∷ ys) x (suc k) within is all = contains_all P ys x k (omega
 pub all_of : {A : Type 0} (P : A → Type 0) (xs : List A) (x : A) → AllByRecursion P xs → Contains xs x → P x
 all_of P xs x all its = contains_all P xs x its.0 its.1 its.2 all
 
--- A HALF that the share and the seed of the epoch deal, both of which are stored
+-- A HALF that this node's share of the output that the round carries on and the seed of the epoch deal, which is stored
 pub record IsDealtAt (s : Setting) (h : Held) (epoch player : ℕ) (public : List ℕ) (private : ℕ) : Type 0 where
   pub round : Round
   pub round_is : round_at s epoch ≡ Some round
@@ -40,7 +42,7 @@ pub record IsDealtAt (s : Setting) (h : Held) (epoch player : ℕ) (public : Lis
   pub privates : List (ℕ × ℕ)
   pub dealt : deal_of round (me s) (Some share) seed ≡ Ok (public, privates)
   pub half : lookup player privates ≡ Some private
-  pub share_is : get h.secrets.shares epoch ≡ Some share
+  pub fits : IsCarriedShare (me s) round share
   pub seed_is : get h.secrets.seeds epoch ≡ Some seed
 
 -- there is one
@@ -52,7 +54,7 @@ one_dealt s h epoch player public other_public private other_private a b = (ap (
     same_round = some_is (sym a.round_is ∙ b.round_is)
 
     same_share : a.share ≡ b.share
-    same_share = some_is (sym a.share_is ∙ b.share_is)
+    same_share = one_share b.round (me s) a.share b.share (subst (λ (r : Round). IsCarriedShare (me s) r a.share) same_round a.fits) b.fits
 
     same_seed : a.seed ≡ b.seed
     same_seed = some_is (sym a.seed_is ∙ b.seed_is)
@@ -61,10 +63,10 @@ one_dealt s h epoch player public other_public private other_private a b = (ap (
     same_deal = ok_is (sym a.dealt ∙ ap (λ (r : Round). deal_of r (me s) (Some a.share) a.seed) same_round ∙ ap (λ (share : ℕ). deal_of b.round (me s) (Some share) a.seed) same_share
         ∙ ap (λ (seed : List ℕ). deal_of b.round (me s) (Some b.share) seed) same_seed ∙ b.dealt)
 
--- it stays so where both are kept
-pub still_dealt : (s : Setting) (most : ℕ) (h : Held) (new : World) (epoch player : ℕ) (public : List ℕ) (private : ℕ) → KeepsSeeds most h new → KeepsShares most h new → most ≤ epoch → IsDealtAt s h epoch player public private
+-- it stays so where the seed is kept
+pub still_dealt : (s : Setting) (most : ℕ) (h : Held) (new : World) (epoch player : ℕ) (public : List ℕ) (private : ℕ) → KeepsSeeds most h new → most ≤ epoch → IsDealtAt s h epoch player public private
     → IsDealtAt s new.held epoch player public private
-still_dealt s most h new epoch player public private seeds shares above its = record {
+still_dealt s most h new epoch player public private seeds above its = record {
   round = its.round;
   round_is = its.round_is;
   share = its.share;
@@ -72,7 +74,7 @@ still_dealt s most h new epoch player public private seeds shares above its = re
   privates = its.privates;
   dealt = its.dealt;
   half = its.half;
-  share_is = shares epoch its.share above its.share_is;
+  fits = its.fits;
   seed_is = seeds epoch its.seed above its.seed_is;
 }
 
@@ -114,9 +116,9 @@ nothing_offered s most w = record {
 
 -- MORE is offered now, and what is stored is kept from a later epoch on
 module _ (s : Setting) (most next : ℕ) (rises : most ≤ next) (base : List Line) (w new : World) (before : HasOffered s most base w) (lines : List Line) (out : new.out ≡ w.out ++ lines)
-    (seeds : KeepsSeeds next w.held new) (shares : KeepsShares next w.held new) (now : AllByRecursion (IsOfferedNow s most w.held) lines) where
+    (seeds : KeepsSeeds next w.held new) (now : AllByRecursion (IsOfferedNow s most w.held) lines) where
   old_still : (line : Line) → IsOfferedFrom s most w.held line → IsOfferedFrom s next new.held line
-  old_still (Offer epoch player public private) was = λ above. still_dealt s next w.held new epoch player public private seeds shares above (was (omega (arith, rises, above)))
+  old_still (Offer epoch player public private) was = λ above. still_dealt s next w.held new epoch player public private seeds above (was (omega (arith, rises, above)))
   old_still line was = tt
 
   all_still : (lines : List Line) → AllByRecursion (IsOfferedFrom s most w.held) lines → AllByRecursion (IsOfferedFrom s next new.held) lines
@@ -124,7 +126,7 @@ module _ (s : Setting) (most next : ℕ) (rises : most ≤ next) (base : List Li
   all_still (line ∷ lines) all = (old_still line all.0, all_still lines all.1)
 
   new_still : (line : Line) → IsOfferedNow s most w.held line → IsOfferedFrom s next new.held line
-  new_still (Offer epoch player public private) its = λ above. still_dealt s next w.held new epoch player public private seeds shares above its.1
+  new_still (Offer epoch player public private) its = λ above. still_dealt s next w.held new epoch player public private seeds above its.1
   new_still line its = tt
 
   all_new : (lines : List Line) → AllByRecursion (IsOfferedNow s most w.held) lines → AllByRecursion (IsOfferedFrom s next new.held) lines

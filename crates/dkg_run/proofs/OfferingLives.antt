@@ -1,5 +1,5 @@
--- A life over many epochs, over devices that tell: what it offers is what the stored share and seed of its epoch deal in the script's round, and both are stored when it ends.
-use Rattle.std.proofs.Common.{◌≡◌, inl, inr, Bool, true, false, ℕ, zero, suc, ◌+◌, ◌-◌, ◌<◌, ◌≤◌, ◌∷◌, [], List, Option, Some, None, Result, Ok, Err, cond, max, refl, sym, ◌∙◌, ap, subst, drop, length, add-one, arith, append-nil}
+-- A life over many epochs, over devices that tell: what it offers is what this node's share and the stored seed of its epoch deal in the script's round, and the seed is stored when it ends.
+use Rattle.std.proofs.Common.{◌≡◌, ◌⊎◌, inl, inr, Bool, true, false, ℕ, zero, suc, ◌+◌, ◌-◌, ◌<◌, ◌≤◌, ◌∷◌, [], List, Option, Some, None, Result, Ok, Err, cond, max, refl, sym, ◌∙◌, ap, subst, drop, length, add-one, arith, append-nil}
 use Rattle.std.specs.Prelude.{IfSome, ◌==◌, if◌then◌else◌, slice_get}
 use Rattle.std.specs.List.{AllByRecursion}
 use Rattle.std.specs.FinMap.{get}
@@ -19,44 +19,48 @@ use Rattle.dkg_text.specs.declared.script.Event.TheVariants as event
 use Rattle.dkg_text.specs.declared.script.Life.{Life}
 use Rattle.dkg_script.specs.Blocks.{round_at}
 use Rattle.dkg_script.specs.Consistent.{IsConsistentScript}
-use Rattle.dkg_script.specs.Epochs.{IsFormOfEpochs, alone}
+use Rattle.dkg_script.specs.Epochs.{alone}
+use Rattle.dkg_script.specs.Inclusion.{IsFormOfInclusion}
 use Rattle.dkg_script.specs.Setting.{Setting, CutAt, blocks_per_epoch, life_at, me}
 use Rattle.dkg_store.specs.Acts.{Ended, Held, World, broken, by_cut, says, went}
 use Rattle.dkg_core.specs.Behind.{event_of}
 use Rattle.dkg_core.specs.Courses.{Course, EndsSo, on_devices}
 use Rattle.dkg_core.specs.Fixed.{stand_in}
-use Rattle.dkg_core.specs.Forms.{IsActiveIn, IsLiveIn, IsNodeBegun, IsTakenIn, LeavesHeld, held_behind}
+use Rattle.dkg_core.specs.Forms.{IsNodeBegun, LeavesHeld, held_behind}
 use Rattle.dkg_core.specs.Laws.{reach_of}
-use Rattle.dkg_core.specs.Live.{Live, Message, NodeStop}
+use Rattle.dkg_core.specs.Live.{Live, Message, NodeStop, Participation}
 use Rattle.dkg_core.specs.Node.{node_opening, node_step}
+use Rattle.dkg_core.specs.NodeThrough.{IsNodeThrough}
+use Rattle.dkg_core.specs.Through.{IsLiveThrough, IsTakenThrough, unasked}
 use Rattle.dkg_core.specs.Seen.{Seen}
 use Rattle.dkg_core.specs.Offering.{IsOfferOf}
-use Rattle.dkg_core.specs.Stepping.{IsNextIn, LeavesTaken, held_at_setup}
-use Rattle.dkg_core.specs.Storing.{KeepsSeeds, KeepsShares, ReadsSecrets}
+use Rattle.dkg_core.specs.Storing.{KeepsSeeds, ReadsSecrets}
 use Rattle.dkg_core.specs.Endings.{first_block}
 use Rattle.dkg_core.proofs.Counted.{cuts_fall}
 use Rattle.dkg_core.proofs.Offering.{node_offers_are_dealt}
 use Rattle.dkg_core.proofs.Openings.{node_openings_lead_over}
 use Rattle.dkg_core.proofs.Said.{runs_say}
-use Rattle.dkg_core.proofs.Stepping.{node_steps_lead_over}
+use Rattle.dkg_core.proofs.NodeThrough.{node_steps_lead_through_over}
+use Rattle.dkg_core.proofs.Storing.{node_steps_keep_secrets}
 use Rattle.dkg_reshare.specs.declared.stop.Stop.{Stop}
 use Rattle.dkg_reshare.specs.declared.stop.Stop.TheVariants.{Cut, Failed, Fault as FaultOf}
 use Rattle.dkg_run.specs.Ended.{by_node_stop}
-use Rattle.dkg_run.specs.Epochs.{IsAt, IsLifeInForm, awaited_by, epoch_by}
+use Rattle.dkg_run.specs.Epochs.{IsAt, IsLifeInForm, any_shares, awaited_by, epoch_by}
 use Rattle.dkg_run.specs.Given.{Lived, at_step, lived, step_of}
 use Rattle.dkg_run.specs.Lives.{LivesSo, Steps, TakesAll, fuse_for, fuse_within, never}
 use Rattle.dkg_run.specs.Ways.{by_worlds}
 use Rattle.dkg_run.proofs.Awaiting.{HasHeight, IsBefore, IsReached, before_all, block_behind, has_height, reached_lit}
 use Rattle.dkg_run.proofs.Delivered.{epochs_rise, from_first}
 use Rattle.dkg_run.proofs.Drawn.{HasRoundOf, begun_round, step_round}
-use Rattle.dkg_run.proofs.Former.{Brings, IsMadeOf, IsMessage, event_in_form, form_at, lacks_nobody, live_at, message_in}
+use Rattle.dkg_run.proofs.Former.{Brings, BringsBlock, BringsMail, IsMadeOf, IsMessage, brings_so, event_in_form, form_at, lacks_nobody, live_at, message_in, step_taken, through_at}
 use Rattle.dkg_run.proofs.HeightsRise.{awaited_rise}
+use Rattle.dkg_run.proofs.LivesStand.{begun_at}
 use Rattle.dkg_run.proofs.NextLives.{with_round}
 use Rattle.dkg_run.proofs.OfferedHalves.{HasOffered, IsDealtAt, IsOfferedNow, more_offered, unoffered_now}
-use Rattle.dkg_run.proofs.OpeningsStore.{IsUnoffered, IsUpkept, openings_upkeep, steps_upkeep}
+use Rattle.dkg_run.proofs.OpeningsStore.{IsUnoffered, IsUpkept, openings_upkeep}
 use Rattle.dkg_run.proofs.Started.{first_epoch_is}
-use Rattle.dkg_run.proofs.Stood.{begun_stands, step_stands, step_taken}
-use Rattle.dkg_run.proofs.StoredDealers.{DealsStored, IsStoredDealer, begun_stored, step_stored}
+use Rattle.dkg_run.proofs.Stood.{step_stands}
+use Rattle.dkg_run.proofs.StoredDealers.{DealsStored, IsStoredDealer, begun_stored, step_stored, stored_on}
 
 some_is : {A : Type 0} {x y : A} → ◌≡◌ {A = Option A} (Some x) (Some y) → x ≡ y
 some_is e = cc
@@ -128,7 +132,7 @@ stop_top life j Cut so = so refl
 stop_top life j Failed so = tt
 stop_top life j (FaultOf fault) so = tt
 
-module _ (s : Setting) (cuts : List (Option CutAt)) (form : IsFormOfEpochs s.script) (consistent : IsConsistentScript s cuts) (l : ℕ) (life : Life) (seen : Held → Seen) (files : Files) (life_is : life_at s l ≡ Some life)
+module _ (s : Setting) (cuts : List (Option CutAt)) (form : IsFormOfInclusion s.script) (consistent : IsConsistentScript s cuts) (l : ℕ) (life : Life) (seen : Held → Seen) (files : Files) (life_is : life_at s l ≡ Some life)
     (here : IsLifeInForm (lived s.script l life seen files)) (reads : ReadsSecrets seen) where
   abbrev g : Lived
   g = lived s.script l life seen files
@@ -165,7 +169,7 @@ module _ (s : Setting) (cuts : List (Option CutAt)) (form : IsFormOfEpochs s.scr
       let k : Held = held_behind (at_step g 0) w.held in
       let led : IsNodeBegun (at_step g 0) ((at_step g 0).seen k) k st × LeavesHeld (at_step g 0) k new.held (first_block (at_step g 0)) = node_openings_lead_over (at_step g 0) (went st) w new (form_at g here 0) (lacks_nobody g 0) run in
       record {
-        at = record { live = (led.0).live; active = (led.0).active; stands = begun_stands g here ((at_step g 0).seen k) k st led.0 };
+        at = begun_at g here ((at_step g 0).seen k) k st led.0;
         rounds = begun_round s cuts form consistent l life seen files life_is ((at_step g 0).seen k) k st led.0;
         deals = subst (λ (n : ℕ). DealsStored n st new.held) (me_at 0) (begun_stored (at_step g 0) (rules_at 0) ((at_step g 0).seen k) k new.held st led.0 led.1);
       }
@@ -175,7 +179,7 @@ module _ (s : Setting) (cuts : List (Option CutAt)) (form : IsFormOfEpochs s.scr
   opening_offers most next base ended w new rises low before run =
       let kept : IsUpkept (at_step g 0) (reads_at 0) next w new
       = openings_upkeep (at_step g 0) (reads_at 0) next w (form_at g here 0) (subst (λ (e : ℕ). e - 1 ≤ next) (sym (first_epoch_is g here 0)) low) ended new run in
-      more_offered s most next rises base w new before kept.lines kept.out kept.seeds_held kept.shares_held (unoffered_now s most w.held kept.lines kept.unoffered)
+      more_offered s most next rises base w new before kept.lines kept.out kept.seeds_held (unoffered_now s most w.held kept.lines kept.unoffered)
 
   -- A STEP
 
@@ -183,11 +187,11 @@ module _ (s : Setting) (cuts : List (Option CutAt)) (form : IsFormOfEpochs s.scr
     abbrev m : IsMessage g its
     m = message_in g its (event_in_form g here i its is)
 
-    live : IsLiveIn (at_step g (suc i)) st
+    live : IsLiveThrough (at_step g (suc i)) any_shares st
     live = live_at g i (suc i) st (standing.at).live
 
-    taken : IsTakenIn (at_step g (suc i)) m.message st
-    taken = step_taken g here i its is reached m st live (standing.at).stands
+    taken : IsTakenThrough (at_step g (suc i)) m.message st
+    taken = step_taken g its m.message m.brings (at_step g (suc i)) st
 
     -- it prunes nothing of the epoch before the awaited one behind it
     reach_low : reach_of (at_step g (suc i)) m.message ≤ epoch_by g (suc i) - 1
@@ -208,16 +212,18 @@ module _ (s : Setting) (cuts : List (Option CutAt)) (form : IsFormOfEpochs s.scr
             less a b low = omega (arith, low)
 
         by_event : (e : Event) → slice_get life.events i ≡ Some e → (message : Message directory.Unit) → Brings g e message → reach_of (at_step g (suc i)) message ≤ epoch_by g (suc i) - 1
-        by_event (event.Peer from bytes) at message brings = subst (λ (x : Message directory.Unit). reach_of (at_step g (suc i)) x ≤ epoch_by g (suc i) - 1) (sym brings) (omega arith)
-        by_event (event.Final number) at message brings = subst (λ (x : Message directory.Unit). reach_of (at_step g (suc i)) x ≤ epoch_by g (suc i) - 1) (sym brings.1) (of_height number brings.0 at)
-        by_event other at message brings = absurd brings
+        by_event e at message brings = by_brought (brings_so g e message brings)
+          where
+            by_brought : BringsBlock g e message ⊎ BringsMail e message → reach_of (at_step g (suc i)) message ≤ epoch_by g (suc i) - 1
+            by_brought (inl b) = subst (λ (x : Message directory.Unit). reach_of (at_step g (suc i)) x ≤ epoch_by g (suc i) - 1) (sym b.3) (of_height b.0 b.1 (at ∙ ap (λ (x : Event). Some x) b.2))
+            by_brought (inr mail) = subst (λ (x : Message directory.Unit). reach_of (at_step g (suc i)) x ≤ epoch_by g (suc i) - 1) (sym mail.1) (omega arith)
 
     module _ (ended : Ended NodeStop (Live directory.Unit)) (new : World) (run : EndsSo (step_of g (suc i) its st) ended w new) where
       run_here : EndsSo (node_step (at_step g (suc i)) (event_of m.message) st) ended w new
       run_here = subst (λ (course : Course directory.Unit NodeStop (Live directory.Unit)). EndsSo course ended w new) (m.course (suc i) st) run
 
-      kept : (next : ℕ) → epoch_by g (suc i) - 1 ≤ next → KeepsSeeds next w.held new × KeepsShares next w.held new
-      kept next low = steps_upkeep (at_step g (suc i)) (reads_at (suc i)) next w (form_at g here (suc i)) st live m.message ended new taken (upto (reach_of (at_step g (suc i)) m.message) (epoch_by g (suc i) - 1) next reach_low low) run_here
+      kept : (next : ℕ) → epoch_by g (suc i) - 1 ≤ next → KeepsSeeds next w.held new
+      kept next low = (node_steps_keep_secrets (at_step g (suc i)) st m.message ended next w new (reads_at (suc i)) (upto (reach_of (at_step g (suc i)) m.message) (epoch_by g (suc i) - 1) next reach_low low) run_here).0
         where
           upto : (a b c : ℕ) → a ≤ b → b ≤ c → a ≤ c
           upto a b c one two = omega (arith, one, two)
@@ -237,7 +243,7 @@ module _ (s : Setting) (cuts : List (Option CutAt)) (form : IsFormOfEpochs s.scr
             number_is = ap (λ (r : Round). r.number) (sym same_round) ∙ sym offered.number
 
             epoch_is : epoch ≡ epoch_by g i
-            epoch_is = sym number_is ∙ live.numbered stored.round stored.of_epoch ∙ ((standing.at).stands).epoch (with_round (at_step g (suc i)) st stored.round live stored.of_epoch)
+            epoch_is = sym number_is ∙ (live.stands).numbered stored.round stored.of_epoch ∙ ((standing.at).stands).epoch (with_round (at_step g (suc i)) (unasked st) stored.round live.stands stored.of_epoch)
 
             here_now : most ≤ epoch
             here_now = subst (λ (e : ℕ). most ≤ e) (sym epoch_is) below
@@ -251,7 +257,7 @@ module _ (s : Setting) (cuts : List (Option CutAt)) (form : IsFormOfEpochs s.scr
               privates = (offered.dealer).privates;
               dealt = stored.dealt ∙ ap (λ (x : List ℕ). Ok (x, (offered.dealer).privates)) (sym offered.is_public);
               half = offered.is_private;
-              share_is = subst (λ (e : ℕ). get w.held.secrets.shares e ≡ Some stored.share) number_is stored.share_is;
+              fits = stored.fits;
               seed_is = subst (λ (e : ℕ). get w.held.secrets.seeds e ≡ Some stored.seed) number_is stored.seed_is;
             }
         one_offer line offered = tt
@@ -264,22 +270,27 @@ module _ (s : Setting) (cuts : List (Option CutAt)) (form : IsFormOfEpochs s.scr
         step_offers next base rises low before =
             let offers = node_offers_are_dealt (at_step g (suc i)) st m.message ended w.out new.out (runs_say (on_devices (node_step (at_step g (suc i)) (event_of m.message) st)) ended w new run_here) in
             let held = kept next low in
-            more_offered s most next rises base w new before offers.0 offers.1 held.0 held.1 (all_offers offers.0 offers.2)
+            more_offered s most next rises base w new before offers.0 offers.1 held (all_offers offers.0 offers.2)
 
     pub step_keeps : (end : Live directory.Unit) (new : World) → EndsSo (step_of g (suc i) its st) (went end) w new → IsStanding (suc i) end new.held
     step_keeps end new run =
-        let k : Held = held_at_setup (at_step g (suc i)) m.message w.held in
-        let led : IsNextIn (at_step g (suc i)) st m.message w.held k end × IsActiveIn end × LeavesTaken (at_step g (suc i)) st m.message k new.held
-        = node_steps_lead_over (at_step g (suc i)) st m.message (went end) w new (form_at g here (suc i)) taken live (standing.at).active (run_here (went end) new run) in
-        let at : IsAt g (suc i) end = record { live = (led.0).live; active = led.1; stands = step_stands g here i its is reached m st live (standing.at).stands w.held k end led.0 } in
+        let led : IsNodeThrough (at_step g (suc i)) any_shares st m.message (Some w.held) end (Some new.held)
+        = node_steps_lead_through_over (at_step g (suc i)) any_shares st m.message (went end) w new (through_at g here (suc i)) (lacks_nobody g (suc i)) (λ h epoch found. tt) taken live (standing.at).active (run_here (went end) new run) in
+        let at : IsAt g (suc i) end = record { live = led.live; active = led.active; stands = step_stands g here i its is reached m st live (standing.at).stands (Some w.held) end (Some new.held) led } in
         let held = kept (went end) new run (epoch_by g (suc i) - 1) (omega arith) in
-        let low : (round : Round) → end.participation.round ≡ Some round → epoch_by g (suc i) - 1 ≤ round.number
-        = λ round of. upto round.number (epoch_by g (suc i)) ((led.0).live.numbered round of ∙ (at.stands).epoch (with_round (at_step g (suc i)) end round (led.0).live of)) in
+        let same : end.participation ≡ (led.mid).participation = ap (λ (x : Live directory.Unit). x.participation) led.same in
+        let low : (round : Round) → (led.mid).participation.round ≡ Some round → epoch_by g (suc i) - 1 ≤ round.number
+        = λ round of. upto round.number (epoch_by g (suc i)) (((led.next).live).stands.numbered round of ∙ ap (λ (p : Participation directory.Unit). p.epoch) (sym same)
+            ∙ (at.stands).epoch (λ follows. with_round (at_step g (suc i)) (unasked led.mid) round ((led.next).live).stands of (ap (λ (p : Participation directory.Unit). p.stage) (sym same) ∙ follows))) in
+        let behind : DealsStored (at_step g (suc i)).me led.mid new.held
+        = step_stored (at_step g (suc i)) (rules_at (suc i)) (reads_at (suc i)) any_shares (form_at g here (suc i)) st m.message w.held new.held led.mid live led.next
+            (subst (λ (n : ℕ). DealsStored n st w.held) (sym (me_at (suc i))) standing.deals) (λ round of seed got. held round.number seed (low round of) got) in
         record {
           at = at;
-          rounds = step_round s cuts form consistent l life seen files life_is i its is reached m st live w.held k end led.0 standing.rounds;
-          deals = subst (λ (n : ℕ). DealsStored n end new.held) (me_at (suc i)) (step_stored (at_step g (suc i)) (rules_at (suc i)) (reads_at (suc i)) st m.message w.held new.held end live led.0 led.2
-              (subst (λ (n : ℕ). DealsStored n st w.held) (sym (me_at (suc i))) standing.deals) (λ round of seed got. held.0 round.number seed (low round of) got) (λ round of share got. held.1 round.number share (low round of) got));
+          rounds = step_round s cuts form consistent l life seen files life_is i its is reached m st live (Some w.held) end (Some new.held) (form_at g here (suc i)) led standing.rounds;
+          deals = λ d there. subst (λ (n : ℕ). IsStoredDealer n end d new.held) (me_at (suc i))
+            (stored_on (at_step g (suc i)).me led.mid end d d new.held new.held (ap (λ (p : Participation directory.Unit). p.round) same) refl refl (λ round of seed is. is)
+            (behind d (sym (ap (λ (p : Participation directory.Unit). p.dealer) same) ∙ there)));
         }
       where
         upto : (a b : ℕ) → a ≡ b → b - 1 ≤ a
@@ -303,7 +314,7 @@ module _ (s : Setting) (cuts : List (Option CutAt)) (form : IsFormOfEpochs s.scr
 
   told : (most : ℕ) (base : List Line) (mid : World) (line : Line) → IsUnoffered line → HasOffered s most base mid → HasOffered s most base (says mid line)
   told most base mid line none its =
-      more_offered s most most (omega arith) base mid (says mid line) its (line ∷ []) refl (λ epoch seed above got. got) (λ epoch share above got. got) (unoffered_now s most mid.held (line ∷ []) (none, tt))
+      more_offered s most most (omega arith) base mid (says mid line) its (line ∷ []) refl (λ epoch seed above got. got) (unoffered_now s most mid.held (line ∷ []) (none, tt))
 
   before_suc : (its : Option cut.Cut) (j : ℕ) → IsReached its j → IsBefore its (suc j)
   before_suc None j reached = tt
@@ -362,8 +373,7 @@ module _ (s : Setting) (cuts : List (Option CutAt)) (form : IsFormOfEpochs s.scr
     pub life_offers : (w : World) (how : Result (Unit {0}) Stop) (new : World) → HasOffered s most base w → LivesSo by_worlds g files w how new → IsLeft most base how new
     life_offers w how new offered (inr refused) =
         at_top how (Err refused.1.0) new new 0 refused.1.1 refl (stop_top life 0 refused.1.0 (λ e. none_taken life.cut))
-        (more_offered s most (least_at most 0) (omega arith) base w new offered [] (refused.1.2.1 ∙ sym (append-nil w.out)) (λ epoch seed above got. ap (λ x. get x.seeds epoch) ((refused.1.2.2).secrets) ∙ got)
-        (λ epoch share above got. ap (λ x. get x.shares epoch) ((refused.1.2.2).secrets) ∙ got) tt)
+        (more_offered s most (least_at most 0) (omega arith) base w new offered [] (refused.1.2.1 ∙ sym (append-nil w.out)) (λ epoch seed above got. ap (λ x. get x.seeds epoch) ((refused.1.2.2).secrets) ∙ got) tt)
       where
         none_taken : (o : Option cut.Cut) → IfSome o (λ its. 0 ≤ taken_by its)
         none_taken None = tt
@@ -371,7 +381,7 @@ module _ (s : Setting) (cuts : List (Option CutAt)) (form : IsFormOfEpochs s.scr
     life_offers w how new offered (inl opens) = by_fuse (fuse_for life.cut 0) refl opens
       where
         at_first : HasOffered s (least_at most 0) base w
-        at_first = more_offered s most (least_at most 0) (omega arith) base w w offered [] (sym (append-nil w.out)) (λ epoch seed above got. got) (λ epoch share above got. got) tt
+        at_first = more_offered s most (least_at most 0) (omega arith) base w w offered [] (sym (append-nil w.out)) (λ epoch seed above got. got) tt
 
         offers : (f : Burn) (ended : Ended NodeStop (Live directory.Unit)) (now : World) → EndsSo (node_opening (at_step g 0)) ended (record w { fuse = f }) now → HasOffered s (least_at most 0) base now
         offers f ended now run = opening_offers most (least_at most 0) base ended (record w { fuse = f }) now (omega arith) (has_at 0) (with_fuse most base w f offered) run

@@ -11,7 +11,8 @@ use Rattle.dkg_text.specs.declared.script.Cut as cut
 use Rattle.dkg_text.specs.declared.script.Life.{Life}
 use Rattle.dkg_text.specs.declared.script.Script.{Script}
 use Rattle.dkg_script.specs.Consistent.{IsConsistentScript}
-use Rattle.dkg_script.specs.Epochs.{IsFormOfEpochs, alone}
+use Rattle.dkg_script.specs.Epochs.{alone}
+use Rattle.dkg_script.specs.Inclusion.{IsFormOfInclusion}
 use Rattle.dkg_script.specs.Position.{awaited_before, awaited_epoch, awaited_epoch_in, cut_of, events_taken, last_awaited}
 use Rattle.dkg_script.specs.SameOffers.{SameOffers}
 use Rattle.dkg_script.specs.Setting.{Setting, CutAt, blocks_per_epoch, found, life_at}
@@ -82,7 +83,7 @@ script_lives s front (life ∷ lives) is =
     (ap (λ (xs : List Life). slice_get xs (length front)) is ∙ item_behind front life lives, subst (λ (n : ℕ). AreLivesFrom s n lives) (longer front life) (script_lives s (front ++ life ∷ []) lives (is ∙ sym (append_assoc front (life ∷ []) lives))))
 
 -- ALL LIVES, of a script that is consistent where they ended so
-module _ (s : Setting) (cuts : List (Option CutAt)) (form : IsFormOfEpochs s.script) (consistent : IsConsistentScript s cuts) (unfound : (l : ℕ) → found s l ≡ None)
+module _ (s : Setting) (cuts : List (Option CutAt)) (form : IsFormOfInclusion s.script) (consistent : IsConsistentScript s cuts) (unfound : (l : ℕ) → found s l ≡ None)
     (over : (l : ℕ) (life : Life) (seen : Held → Seen) (files : Files) → life_at s l ≡ Some life → by_worlds.reads seen → IsLifeInForm (lived s.script l life seen files) × ReadsSecrets seen) (base : List Line) where
   abbrev Offers : World → Type 0
   Offers new = (most : ℕ) × HasOffered s most base new
@@ -172,7 +173,7 @@ module _ (s : Setting) (cuts : List (Option CutAt)) (form : IsFormOfEpochs s.scr
           let bound : behind.top ≤ taken_by at = subst (λ (o : Option cut.Cut). IfSome o (λ own. behind.top ≤ taken_by own)) cut_is behind.bound in
           let least : ℕ = least_at s cuts form consistent l life seen files are.0 its.0 its.1 most behind.top in
           next here (cs ++ end ∷ []) are.1 (longer cs end ∙ ap (λ (n : ℕ). n + 1) count) least (next_low l life seen files are.0 its.0 most behind.top cs end (on here more) count is bound low)
-          (more_offered s least least (omega arith) base mid here behind.offered (entry.Cut at.step at.call ∷ []) refl (λ epoch seed above got. got) (λ epoch share above got. got) (tt, tt)) more
+          (more_offered s least least (omega arith) base mid here behind.offered (entry.Cut at.step at.call ∷ []) refl (λ epoch seed above got. got) (tt, tt)) more
           (is ∙ sym (append_assoc cs (end ∷ []) (on here more)))
 
       by_how : (how : Result (Unit {0}) Stop) (so : LivesSo by_worlds (lived s.script l life seen files) files w how mid) (ends : EndsLife by_worlds life how mid result new Rests)
@@ -193,7 +194,7 @@ pub record OffersSame (old new : List Line) : Type 0 where
   pub out : new ≡ old ++ added
   pub same : SameOffers added
 
-module _ (s : Setting) (form : IsFormOfEpochs s.script) (unfound : (l : ℕ) → found s l ≡ None)
+module _ (s : Setting) (form : IsFormOfInclusion s.script) (unfound : (l : ℕ) → found s l ≡ None)
     (over : (l : ℕ) (life : Life) (seen : Held → Seen) (files : Files) → life_at s l ≡ Some life → by_worlds.reads seen → IsLifeInForm (lived s.script l life seen files) × ReadsSecrets seen) where
   pub run_offers : (first : Files → Type 0) (w : World) (answered : Result (Unit {0}) Fault) (new : World) (run : RunsSo by_worlds s.script first w answered new)
       → IsConsistentScript s (run_ends s.script first w run.result run.mid run.lives) → OffersSame w.out new.out
@@ -210,5 +211,5 @@ module _ (s : Setting) (form : IsFormOfEpochs s.script) (unfound : (l : ℕ) →
       by_told (Ok done) told its = record { added = (its.1).added; out = ap (λ (x : World). x.out) told.1 ∙ (its.1).out; same = (its.1).same }
       by_told (Err fault) (inl wants) its = record { added = (its.1).added; out = ap (λ (x : World). x.out) wants.1 ∙ (its.1).out; same = (its.1).same }
       by_told (Err fault) (inr told) its =
-          let more = more_offered s its.0 its.0 (omega arith) w.out run.mid (says run.mid (entry.Fault fault)) its.1 (entry.Fault fault ∷ []) refl (λ epoch seed above got. got) (λ epoch share above got. got) (tt, tt) in
+          let more = more_offered s its.0 its.0 (omega arith) w.out run.mid (says run.mid (entry.Fault fault)) its.1 (entry.Fault fault ∷ []) refl (λ epoch seed above got. got) (tt, tt) in
           record { added = more.added; out = ap (λ (x : World). x.out) told.2 ∙ more.out; same = more.same }

@@ -9,7 +9,7 @@ use Rattle.dkg_text.specs.declared.script.Life.{Life}
 use Rattle.dkg_text.specs.declared.script.Script.{Script}
 use Rattle.dkg_script.specs.AsCut.{as_cut}
 use Rattle.dkg_script.specs.Consistent.{IsConsistentScript}
-use Rattle.dkg_script.specs.Epochs.{IsFormOfEpochs}
+use Rattle.dkg_script.specs.Inclusion.{IsFormOfInclusion}
 use Rattle.dkg_script.specs.Progress.{at_start, progress, read}
 use Rattle.dkg_script.specs.SameOffers.{OffersTheSame, SameOffers}
 use Rattle.dkg_script.specs.Setting.{Setting, found, life_at, setting_of}
@@ -36,7 +36,7 @@ module _ (script : Script) (files : Files) (secrets : Secrets) where
   abbrev pub KnowsLives : Type 0
   KnowsLives = (l : ℕ) (life : Life) (seen : Held → Seen) (its : Files) → life_at s l ≡ Some life → by_worlds.reads seen → IsLifeInForm (lived script l life seen its) × ReadsSecrets seen
 
-  pub same_offers : (form : IsFormOfEpochs script) → KnowsLives → (answered : Result (Unit {0}) Fault) (old new added : List Entry) (secrets_now : Secrets) (c : Files) → new ≡ old ++ added
+  pub same_offers : (form : IsFormOfInclusion script) → KnowsLives → (answered : Result (Unit {0}) Fault) (old new added : List Entry) (secrets_now : Secrets) (c : Files) → new ≡ old ++ added
       → RunsOver script answered files (at (moment old secrets never) files) (λ f. at (moment new secrets_now f) c) → IsConsistentScript s (progress s added).cuts → SameOffers added
   unfolding progress
   same_offers form knows answered old new added secrets_now c is run consistent = subst SameOffers (append_cancel_left old offers.added added (sym offers.out ∙ is)) offers.same

@@ -6,7 +6,7 @@ use Rattle.dkg_types.specs.declared.directory.Unit as directory
 use Rattle.dkg_types.specs.declared.entry.Entry.{Entry as Line}
 use Rattle.dkg_types.specs.declared.entry.Entry.TheVariants as entry
 use Rattle.dkg_types.specs.declared.fault.Fault.TheVariants.{NoMemory}
-use Rattle.dkg_script.specs.Epochs.{IsFormOfEpochs}
+use Rattle.dkg_script.specs.Inclusion.{IsFormOfInclusion}
 use Rattle.dkg_store.specs.Acts.{Ended, Stands, World, at, moment, went}
 use Rattle.dkg_secrets.specs.Secrets.{Secrets}
 use Rattle.dkg_store.specs.declared.devices.Devices.{Devices}
@@ -111,7 +111,7 @@ module _ {D X : Type 0} (files : D → Files) (image : D → Files → Type 0) (
             new now c here end (acts_over (went end) new now acts))
 
         -- .. the node stands at its life's first state,
-        pub at_first : IsFormOfEpochs script → IsChecked script → slice_get script.lives number ≡ Some life → IsAt its 0 end
+        pub at_first : IsFormOfInclusion script → IsChecked script → slice_get script.lives number ≡ Some life → IsAt its 0 end
         at_first form checked life_is = (opened_at by_worlds worlds_lead its (life_in_form script number life seen_planless (files old.disk.now) form checked life_is (λ h. refl)) end begun.fuse
             (record (at (moment out (held begun.secrets.now) begun.fuse) (files begun.disk.now)) { fuse = begun.fuse }) (at (moment now (held new.secrets.now) new.fuse) c)
             (worlds_go course (went end) (files begun.disk.now) (files new.disk.now) (image begun.disk.now) (image new.disk.now) (moment out (held begun.secrets.now) begun.fuse) (moment now (held new.secrets.now) new.fuse)

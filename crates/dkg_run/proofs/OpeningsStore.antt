@@ -1,5 +1,5 @@
--- Seeds and shares that are stored stay what they are, of the epoch that a life of the form awaits and of the one before on: over an opening, whatever blocks its source has, which
--- offers nothing, and over each step.
+-- Seeds and shares that are stored stay what they are, of the epoch that a life of the form awaits and of the one before on, over an opening, whatever blocks its source has, which
+-- offers nothing.
 use Rattle.std.proofs.Common.{◌≡◌, inl, inr, ◌≤◌, ℕ, false, List, [], ◌∷◌, ◌++◌, map, Option, Some, None, refl, sym, ◌∙◌, ap, subst, arith, append_assoc, append-nil}
 use Rattle.std.specs.Prelude.{◌+◌, ◌-◌}
 use Rattle.std.specs.List.{AllByRecursion}
@@ -11,7 +11,6 @@ use Rattle.std.specs.Cmp.{nat_cmp_total}
 use Rattle.dkg_values.specs.Rising.{lookup}
 use Rattle.dkg_journal.specs.Operations as of_journal
 use Rattle.dkg_journal.specs.Operations.{Bars, Opens}
-use Rattle.dkg_types.specs.Blocks.{Block}
 use Rattle.dkg_types.specs.declared.entry.Entry.{Entry as Line}
 use Rattle.dkg_types.specs.declared.entry.Entry.TheVariants.{Offer, Opened}
 use Rattle.dkg_types.specs.declared.fault.Fault.{Fault}
@@ -25,22 +24,20 @@ use Rattle.dkg_secrets.proofs.Tried.{all_done}
 use Rattle.dkg_store.specs.Acts.{World, Held, OnDisk, Changes, Ended, says, does}
 use Rattle.dkg_store.specs.Recorded.{restored_of}
 use Rattle.dkg_store.proofs.Acts.{along_runs}
-use Rattle.dkg_core.specs.Behind.{IsAside, RunsBehind, event_of}
+use Rattle.dkg_core.specs.Behind.{IsAside, RunsBehind}
 use Rattle.dkg_core.specs.Courses.{Course, Say, Do, Stops, Throughout, EndsSo, on_devices}
-use Rattle.dkg_core.specs.Core.{opening, opens_in, begun, step}
+use Rattle.dkg_core.specs.Core.{opening, opens_in, begun}
 use Rattle.dkg_core.specs.Fixed.{Fixed, Material, OneShot, start}
-use Rattle.dkg_core.specs.Forms.{IsForm, IsLiveIn, IsTakenIn}
-use Rattle.dkg_core.specs.Laws.{reach_of}
-use Rattle.dkg_core.specs.Live.{Live, NodeStop, Stage, Deals, Includes, Follows, Ends, Message, Sent, Finalized}
-use Rattle.dkg_core.specs.Node.{node_opening, node_step}
+use Rattle.dkg_core.specs.Forms.{IsForm}
+use Rattle.dkg_core.specs.Live.{Live, NodeStop}
+use Rattle.dkg_core.specs.Node.{node_opening}
 use Rattle.dkg_core.specs.Plans as p
 use Rattle.dkg_core.specs.Setup as s
 use Rattle.dkg_core.specs.Sources.{startup}
 use Rattle.dkg_core.specs.Storing.{ReadsSecrets, KeepsSeeds, KeepsShares}
 use Rattle.dkg_core.specs.Endings.{first_epoch}
-use Rattle.dkg_core.proofs.Behind.{openings_run_behind, steps_run_behind}
-use Rattle.dkg_core.proofs.Stepping.{not_included}
-use Rattle.dkg_core.proofs.Storing.{looked_up, node_steps_keep_secrets}
+use Rattle.dkg_core.proofs.Behind.{openings_run_behind}
+use Rattle.dkg_core.proofs.Storing.{looked_up}
 use Rattle.dkg_core.proofs.Upkeep.{along_if}
 use Rattle.dkg_core.proofs.Walking as walk
 
@@ -240,33 +237,3 @@ module _ {Dir : Type 0} (c : Fixed Dir) (reads : ReadsSecrets c.seen) (most : �
           out = its.out ∙ ap (λ (xs : List Line). xs ++ its.lines) mid.out ∙ append_assoc from.out mid.lines its.lines;
           unoffered = all_joined IsUnoffered mid.lines its.lines mid.unoffered (all_aside its.lines its.aside);
         }
-
-  -- A STEP of the form: a life that includes commits nothing
-  module _ (form : IsForm c) (st : Live Dir) (live : IsLiveIn c st) where
-    abbrev Kept : World → Type 0
-    Kept new = KeepsSeeds most from.held new × KeepsShares most from.held new
-
-    passes : (block : Block Dir) → IsTakenIn c (Finalized block) st → st.participation.stage ≡ Includes → Throughout IsUpkept (step c (Finalized block) st) from
-    passes block taken includes =
-        walk.delivered c IsUpkept tell most commits_read prunes block st from nothing_lost (λ judged. absurd (not_included c form st live None block taken judged includes)) st.participation.stage
-
-    included : (block : Block Dir) (ended : Ended NodeStop (Live Dir)) (new : World) → IsTakenIn c (Finalized block) st → st.participation.stage ≡ Includes → EndsSo (node_step c (event_of (Finalized block)) st) ended from new → Kept new
-    included block ended new taken includes run =
-        let its : RunsBehind (step c (Finalized block) st) ended from new = steps_run_behind c st (Finalized block) ended from new run in
-        let mid : IsUpkept its.mid = along_runs IsUpkept (on_devices (step c (Finalized block) st)) its.half from its.mid (passes block taken includes) its.run in (
-          λ epoch seed above got. ap (λ (h : Held). get h.secrets.seeds epoch) its.held ∙ mid.seeds_held epoch seed above got,
-          λ epoch share above got. ap (λ (h : Held). get h.secrets.shares epoch) its.held ∙ mid.shares_held epoch share above got,
-        )
-
-    pub steps_upkeep : (message : Message Dir) (ended : Ended NodeStop (Live Dir)) (new : World) → IsTakenIn c message st → reach_of c message ≤ most → EndsSo (node_step c (event_of message) st) ended from new → Kept new
-    steps_upkeep (Sent mail) ended new taken within run = let its = node_steps_keep_secrets c st (Sent mail) ended most from new reads within run in (its.0, its.1 tt)
-    steps_upkeep (Finalized block) ended new taken within run = by_stage st.participation.stage refl
-      where
-        other : (st.participation.stage ≡ Includes → ⊥) → Kept new
-        other apart = let its = node_steps_keep_secrets c st (Finalized block) ended most from new reads within run in (its.0, its.1 apart)
-
-        by_stage : (stage : Stage) → st.participation.stage ≡ stage → Kept new
-        by_stage Includes is = included block ended new taken is run
-        by_stage Deals is = other (λ e. let wrong : ◌≡◌ {A = Stage} Deals Includes = sym is ∙ e in cc)
-        by_stage Follows is = other (λ e. let wrong : ◌≡◌ {A = Stage} Follows Includes = sym is ∙ e in cc)
-        by_stage Ends is = other (λ e. let wrong : ◌≡◌ {A = Stage} Ends Includes = sym is ∙ e in cc)

@@ -14,7 +14,7 @@ use Rattle.dkg_types.specs.declared.entry.Restored.{Restored}
 use Rattle.dkg_types.specs.declared.message.Message.{Message}
 use Rattle.dkg_types.specs.declared.message.Message.TheVariants.{Dealer as ADealing, Ack as AnAck}
 use Rattle.dkg_text.specs.declared.script.Event.{Event}
-use Rattle.dkg_text.specs.declared.script.Event.TheVariants.{Final, Peer}
+use Rattle.dkg_text.specs.declared.script.Event.TheVariants.{Peer}
 use Rattle.dkg_text.specs.declared.script.Life.{Life}
 use Rattle.dkg_store.specs.Acts.{Held}
 use Rattle.dkg_script.specs.Due.{IsDueDealing, IsDueEvent, IsDueIn}
@@ -50,12 +50,14 @@ dealing_back limits bytes d is = by_read (whole (message_at limits.most bytes)) 
     by_read (Ok (AnAck ack)) reads is = absurd (not_there d is)
     by_read (Err e) reads is = absurd (not_there d is)
 
--- nothing is due at the event of a block
-pub no_block_due : (s : Setting) (q : Progress) (life : Life) (j number : ℕ) → life_at s (length q.cuts) ≡ Some life → q.step ≡ j → event_of_step life j ≡ Some (Final number) → script.IsDue s q → ⊥
-no_block_due s q life j number life_is step is due =
+-- nothing is due at an event that brings no dealing
+pub no_event_due : (s : Setting) (q : Progress) (life : Life) (j : ℕ) (its : Event) → life_at s (length q.cuts) ≡ Some life → q.step ≡ j → event_of_step life j ≡ Some its
+    → ((epoch : ℕ) → IsDueEvent s q epoch its → ⊥) → script.IsDue s q → ⊥
+no_event_due s q life j its life_is step is none due =
     let of_life : IsDueIn s q life = rw life_is at due in
     let event : IsSomeAnd (event_of_step life q.step) (IsDueEvent s q (awaited_epoch s (length q.cuts) life (q.step - 1))) = of_life.dealing in
-    subst (λ (e : Option Event). IsSomeAnd e (IsDueEvent s q (awaited_epoch s (length q.cuts) life (q.step - 1)))) (ap (event_of_step life) step ∙ is) event
+    none (awaited_epoch s (length q.cuts) life (q.step - 1))
+    (subst (λ (e : Option Event). IsSomeAnd e (IsDueEvent s q (awaited_epoch s (length q.cuts) life (q.step - 1)))) (ap (event_of_step life) step ∙ is) event)
 
 -- nor at an opening
 pub no_opening_due : (s : Setting) (q : Progress) → q.step ≡ 0 → script.IsDue s q → ⊥

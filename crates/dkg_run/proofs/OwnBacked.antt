@@ -1,8 +1,9 @@
--- This node's own dealings that the devices give back stay what the stored share and seed deal: over an opening of the form, over a block and over a message, wherever each ends.
-use Rattle.std.proofs.Common.{◌≡◌, inl, inr, ◌≤◌, ℕ, List, Option, Some, None, Result, Ok, Err, refl, sym, ◌∙◌, ap, subst, arith}
+-- This node's own dealings that the devices give back stay what this node's share and the stored seed deal: over an opening of the form, over a block and over a message, wherever each ends.
+use Rattle.std.proofs.Common.{◌≡◌, ◌⊎◌, inl, inr, ◌≤◌, ℕ, List, Option, Some, None, Result, Ok, Err, refl, sym, ◌∙◌, ap, subst, arith}
 use Rattle.std.specs.Prelude.{◌-◌, IfOk, if◌then◌else◌, not, option_and_then}
 use Rattle.std.specs.Result.{result_ok}
-use Rattle.std.specs.FinMap.{get}
+use Rattle.std.specs.FinMap.{get, insert, nat_cmp-IsAntisymmetric}
+use Rattle.std.specs.Cmp.{nat_cmp_total}
 use Rattle.dkg_values.specs.Rising.{lookup}
 use Rattle.dkg_ceremony.specs.Deals.{deal_of, is_share_of}
 use Rattle.dkg_ceremony.specs.RoundLaws as rounds
@@ -16,12 +17,13 @@ use Rattle.dkg_ceremony.specs.declared.round.RoundParts.{RoundParts as Round}
 use Rattle.dkg_ceremony.specs.declared.round.RoundError.{RoundError}
 use Rattle.dkg_journal.specs.Operations.{Journaled, Prunes}
 use Rattle.dkg_journal.specs.Records.{Entry as JournalEntry, from_section}
-use Rattle.dkg_secrets.specs.Secrets.{Secrets}
-use Rattle.dkg_secrets.specs.declared.secrets.SecretOp.TheVariants.{Prune}
+use Rattle.dkg_secrets.specs.Secrets.{Secrets, after}
+use Rattle.dkg_secrets.specs.declared.secrets.SecretOp.TheVariants.{Prune, PutSeed, PutShare}
+use Rattle.dkg_secrets.proofs.Map.{get_here, get_other, same_key}
 use Rattle.dkg_types.specs.declared.entry.Entry.{Entry as Line}
 use Rattle.dkg_types.specs.declared.info.EpochInfo.{EpochInfo}
 use Rattle.dkg_script.specs.Blocks.{known_info, reshare_round, round_at}
-use Rattle.dkg_script.specs.Epochs.{IsFormOfEpochs}
+use Rattle.dkg_script.specs.Inclusion.{IsFormOfInclusion}
 use Rattle.dkg_script.specs.Readings.{Info}
 use Rattle.dkg_script.specs.Setting.{Setting, me}
 use Rattle.dkg_store.specs.Acts.{Cause, Changes, Ended, Held, OnDisk, Tears, World, does, notes, says}
@@ -36,9 +38,10 @@ use Rattle.dkg_core.specs.Heard.{recovered_in}
 use Rattle.dkg_core.specs.Live.{Live, NodeStop, awaited_height}
 use Rattle.dkg_core.specs.Node.{node_opening}
 use Rattle.dkg_core.specs.Setup as setup
-use Rattle.dkg_core.specs.Storing.{ReadsSecrets}
+use Rattle.dkg_core.specs.Storing.{KeepsSeeds, ReadsSecrets}
 use Rattle.dkg_core.specs.Endings.{first_epoch}
 use Rattle.dkg_core.proofs.Behind.{openings_run_behind}
+use Rattle.dkg_core.proofs.Storing.{looked_up}
 use Rattle.dkg_core.proofs.Walking as walk
 use Rattle.dkg_run.proofs.NoOthers as others
 use Rattle.dkg_run.proofs.NoOthers.{IsNoOther, pruned_before}
@@ -67,12 +70,12 @@ of_answer : {T E : Type 0} (P : T → Type 0) (r : Result T E) (t : T) → IfOk 
 of_answer P (Ok x) t so is = subst P (let same : x ≡ t = cc in same) so
 of_answer {T} {E} P (Err e) t so is = absurd (let no : ◌≡◌ {A = Result T E} (Err e) (Ok t) = is in cc)
 
-module _ (s : Setting) (form : IsFormOfEpochs s.script) where
+module _ (s : Setting) (form : IsFormOfInclusion s.script) where
   round_is : (epoch : ℕ) → round_at s epoch ≡ option_and_then (reshare_round s epoch) (known_info s epoch)
   unfolding round_at
   round_is epoch = rw form.reshares refl
 
-  has_previous : (epoch : ℕ) (round : Round) → round_at s epoch ≡ Some round → (o : Output) × (round.previous ≡ Some o)
+  pub has_previous : (epoch : ℕ) (round : Round) → round_at s epoch ≡ Some round → (o : Output) × (round.previous ≡ Some o)
   has_previous epoch round made = by_info (known_info s epoch) (sym (round_is epoch) ∙ made)
     where
       by_round : (info : Info) (r : Result Round RoundError) → round_of s.script.config.namespace epoch (Some info.output) s.script.config.mode V1 info.output.players info.players ≡ r → result_ok r ≡ Some round → (o : Output) × (round.previous ≡ Some o)
@@ -101,30 +104,33 @@ module _ (s : Setting) (form : IsFormOfEpochs s.script) where
       refused x None same deals = none_some same
       refused x (Some other) same deals = let no : ◌≡◌ {A = Result (List ℕ × List (ℕ × ℕ)) DealError} (Err deal.ShareRefused) (Ok dealt) = deals in cc
 
-  -- ITS OWN DEALINGS among these are what these secrets deal
+  -- what the held share deals, a share deals
+  pub with_share : (t : Secrets) (key : ℕ × ℕ) (pair : List ℕ × ℕ)
+      → ((round : Round) → round_at s key.0 ≡ Some round → (seed : List ℕ) × (privates : List (ℕ × ℕ)) × (get t.seeds key.0 ≡ Some seed) × (deal_of round (me s) (get t.shares key.0) seed ≡ Ok (pair.0, privates)))
+      → (round : Round) → round_at s key.0 ≡ Some round → (seed : List ℕ) × (share : ℕ) × (privates : List (ℕ × ℕ)) × (get t.seeds key.0 ≡ Some seed) × (deal_of round (me s) (Some share) seed ≡ Ok (pair.0, privates))
+  with_share t key pair backed round made = let its = backed round made in by_share its.0 its.1 its.2 (get t.shares key.0) its.3
+    where
+      by_share : (seed : List ℕ) (privates : List (ℕ × ℕ)) → get t.seeds key.0 ≡ Some seed → (o : Option ℕ) → deal_of round (me s) o seed ≡ Ok (pair.0, privates)
+          → (seed : List ℕ) × (share : ℕ) × (privates : List (ℕ × ℕ)) × (get t.seeds key.0 ≡ Some seed) × (deal_of round (me s) (Some share) seed ≡ Ok (pair.0, privates))
+      by_share seed privates there None deals = let previous = has_previous key.0 round made in absurd (no_deal round previous.0 seed (pair.0, privates) previous.1 deals)
+      by_share seed privates there (Some share) deals = (seed, share, privates, there, deals)
+
+  -- ITS OWN DEALINGS among these are what a share deals, and the seed that these secrets hold. (There is one share that something is dealt with.)
 
   abbrev pub IsBackedBy : Secrets → (key : ℕ × ℕ) → (pair : List ℕ × ℕ) → Type 0
-  IsBackedBy t key pair = (round : Round) → round_at s key.0 ≡ Some round → (seed : List ℕ) × (privates : List (ℕ × ℕ)) × (get t.seeds key.0 ≡ Some seed) × (deal_of round (me s) (get t.shares key.0) seed ≡ Ok (pair.0, privates))
+  IsBackedBy t key pair = (round : Round) → round_at s key.0 ≡ Some round → (seed : List ℕ) × (share : ℕ) × (privates : List (ℕ × ℕ)) × (get t.seeds key.0 ≡ Some seed) × (deal_of round (me s) (Some share) seed ≡ Ok (pair.0, privates))
 
   abbrev pub AreBacked : Pairs → Secrets → Type 0
   AreBacked pairs t = (key : ℕ × ℕ) (pair : List ℕ × ℕ) → key.1 ≡ me s → get pairs key ≡ Some pair → IsBackedBy t key pair
 
-  -- what is held of an epoch is held
+  -- the seed that is held of an epoch is held
   pub record HoldsStill (t u : Secrets) (epoch : ℕ) : Type 0 where
     pub seeds : (seed : List ℕ) → get t.seeds epoch ≡ Some seed → get u.seeds epoch ≡ Some seed
-    pub shares : (share : ℕ) → get t.shares epoch ≡ Some share → get u.shares epoch ≡ Some share
 
   pub still_backed : (t u : Secrets) (key : ℕ × ℕ) (pair : List ℕ × ℕ) → HoldsStill t u key.0 → IsBackedBy t key pair → IsBackedBy u key pair
   still_backed t u key pair still backed round made =
       let its = backed round made in
-      (its.0, its.1, still.seeds its.0 its.2, by_share its.0 its.1 its.3 (get t.shares key.0) refl)
-    where
-      by_share : (seed : List ℕ) (privates : List (ℕ × ℕ)) → deal_of round (me s) (get t.shares key.0) seed ≡ Ok (pair.0, privates) → (o : Option ℕ) → get t.shares key.0 ≡ o → deal_of round (me s) (get u.shares key.0) seed ≡ Ok (pair.0, privates)
-      by_share seed privates deals None none =
-          let previous = has_previous key.0 round made in
-          absurd (no_deal round previous.0 seed (pair.0, privates) previous.1 (subst (λ (o : Option ℕ). deal_of round (me s) o seed ≡ Ok (pair.0, privates)) none deals))
-      by_share seed privates deals (Some share) is =
-          ap (λ (o : Option ℕ). deal_of round (me s) o seed) (still.shares share is ∙ sym is) ∙ deals
+      (its.0, its.1, its.2, still.seeds its.0 its.3, its.4)
 
   -- .. over whole devices
   pub record IsBacked (w : World) : Type 0 where
@@ -137,7 +143,7 @@ module _ (s : Setting) (form : IsFormOfEpochs s.script) where
   backed_less w new whole less q = record { whole = whole; own = λ key pair mine got. let its = less key pair got in still_backed w.held.secrets new.held.secrets key pair its.1 (q.own key pair mine its.0) }
 
   same_still : (t u : Secrets) (epoch : ℕ) → u ≡ t → HoldsStill t u epoch
-  same_still t u epoch is = record { seeds = λ seed got. ap (λ (x : Secrets). get x.seeds epoch) is ∙ got; shares = λ share got. ap (λ (x : Secrets). get x.shares epoch) is ∙ got }
+  same_still t u epoch is = record { seeds = λ seed got. ap (λ (x : Secrets). get x.seeds epoch) is ∙ got }
 
   pub same_backed : (w new : World) → notes new.held ≡ notes w.held → new.held.secrets ≡ w.held.secrets → IsBacked w → IsBacked new
   same_backed w new is_es is_t q =
@@ -153,9 +159,9 @@ module _ (s : Setting) (form : IsFormOfEpochs s.script) where
   module _ {Dir : Type 0} (c : Fixed Dir) (reads : ReadsSecrets c.seen) where
     -- A COMMIT and A PRUNE
 
-    from_least : (w : World) (x : World) → IsBacked w → IsNoOther (recovered_in w.held) NoOwn x → IsUpkept c reads 0 w x → IsBacked x
-    from_least w x q a b = backed_less w x a.whole (λ key pair got. elim (a.gives key pair got) [
-      | inl was ↦ (was, record { seeds = λ seed has. b.seeds_held key.0 seed (least key.0) has; shares = λ share has. b.shares_held key.0 share (least key.0) has })
+    from_seeds : (w : World) (x : World) → IsBacked w → IsNoOther (recovered_in w.held) NoOwn x → KeepsSeeds 0 w.held x → IsBacked x
+    from_seeds w x q a b = backed_less w x a.whole (λ key pair got. elim (a.gives key pair got) [
+      | inl was ↦ (was, record { seeds = λ seed has. b key.0 seed (least key.0) has })
       | inr none ↦ absurd none
     ]) q
       where
@@ -165,13 +171,48 @@ module _ (s : Setting) (form : IsFormOfEpochs s.script) where
     begins : (w : World) → IsBacked w → IsNoOther (recovered_in w.held) NoOwn w
     begins w q = record { whole = q.whole; gives = λ key pair got. inl got }
 
+    abbrev seed_of : World → (epoch : ℕ) → List ℕ
+    seed_of w epoch = setup.seed_for c epoch (lookup epoch (c.seen w.held).seeds)
+
+    -- what is put is the stored seed, if there is one
+    put_still : (w : World) (at epoch : ℕ) (value : List ℕ) → get w.held.secrets.seeds epoch ≡ Some value → get (insert w.held.secrets.seeds at (seed_of w at)) epoch ≡ Some value
+    put_still w at epoch value got = elim (same_key nat_cmp_total nat_cmp-IsAntisymmetric epoch at) [
+      | inl here ↦ (let read : lookup at (c.seen w.held).seeds ≡ Some value = ap (lookup at) (reads.seeds w.held) ∙ looked_up at w.held.secrets.seeds ∙ ap (get w.held.secrets.seeds) (sym here) ∙ got in
+          ap (get (insert w.held.secrets.seeds at (seed_of w at))) here ∙ get_here nat_cmp_total nat_cmp-IsAntisymmetric w.held.secrets.seeds at (seed_of w at) ∙ ap (λ (v : List ℕ). Some v) (ap (setup.seed_for c at) read))
+      | inr apart ↦ get_other nat_cmp_total nat_cmp-IsAntisymmetric w.held.secrets.seeds at epoch (seed_of w at) apart ∙ got
+    ]
+
+    -- the seed is put behind a world that holds the seeds of w
+    seed_tried : (w mid now : World) (at : ℕ) → mid.held.secrets.seeds ≡ w.held.secrets.seeds
+        → (now.held.secrets ≡ mid.held.secrets) ⊎ (now.held.secrets ≡ after (PutSeed at (seed_of w at)) mid.held.secrets) → KeepsSeeds 0 w.held now
+    seed_tried w mid now at same (inl stays) epoch value above got = ap (λ (x : Secrets). get x.seeds epoch) stays ∙ ap (λ m. get m epoch) same ∙ got
+    seed_tried w mid now at same (inr done) epoch value above got =
+        ap (λ (x : Secrets). get x.seeds epoch) done ∙ ap (λ m. get (insert m at (seed_of w at)) epoch) same ∙ put_still w at epoch value got
+
+    share_tried : (w now : World) (at share : ℕ) → (now.held.secrets ≡ w.held.secrets) ⊎ (now.held.secrets ≡ after (PutShare at share) w.held.secrets) → KeepsSeeds 0 w.held now
+    share_tried w now at share (inl stays) epoch value above got = ap (λ (x : Secrets). get x.seeds epoch) stays ∙ got
+    share_tried w now at share (inr done) epoch value above got = ap (λ (x : Secrets). get x.seeds epoch) done ∙ got
+
+    seeds_stay : (info : EpochInfo Dir) (share : Option ℕ) (st : Live Dir) (w : World) → Throughout {Dir = Dir} (KeepsSeeds 0 w.held) (setup.commits info (seed_of w info.epoch) share st) w
+    seeds_stay info None st w =
+        let new : World = does w (Changes (PutSeed info.epoch (seed_of w info.epoch))) in
+        let done : KeepsSeeds 0 w.held new = seed_tried w w new info.epoch refl (inr refl) in
+        (λ cause now tears. seed_tried w w now info.epoch refl tears.torn.1.so, (done, done))
+    seeds_stay info (Some share) st w =
+        let mid : World = does w (Changes (PutShare info.epoch share)) in
+        let new : World = does mid (Changes (PutSeed info.epoch (seed_of w info.epoch))) in
+        let done : KeepsSeeds 0 w.held new = seed_tried w mid new info.epoch refl (inr refl) in
+        (λ cause now tears. share_tried w now info.epoch share tears.torn.1.so, (λ cause now tears. seed_tried w mid now info.epoch refl tears.torn.1.so, (done, done)))
+
+    -- of any share
+    pub commits_any_backed : (info : EpochInfo Dir) (share : Option ℕ) (st : Live Dir) (w : World) → IsBacked w → Throughout {Dir = Dir} IsBacked (setup.commits info (setup.seed_for c info.epoch (lookup info.epoch (c.seen w.held).seeds)) share st) w
+    commits_any_backed info share st w q =
+        along_both (IsNoOther (recovered_in w.held) NoOwn) (KeepsSeeds 0 w.held) IsBacked (λ x a b. from_seeds w x q a b) (setup.commits info (seed_of w info.epoch) share st) w
+        (others.commits (recovered_in w.held) NoOwn info (seed_of w info.epoch) share st w (begins w q)) (seeds_stay info share st w)
+
     pub commits_backed : (info : EpochInfo Dir) (st : Live Dir) (w : World) → IsBacked w
         → Throughout {Dir = Dir} IsBacked (setup.commits info (setup.seed_for c info.epoch (lookup info.epoch (c.seen w.held).seeds)) (setup.recovered_share c (c.seen w.held) info) st) w
-    commits_backed info st w q =
-        along_both (IsNoOther (recovered_in w.held) NoOwn) (IsUpkept c reads 0 w) IsBacked (λ x a b. from_least w x q a b)
-        (setup.commits info (setup.seed_for c info.epoch (lookup info.epoch (c.seen w.held).seeds)) (setup.recovered_share c (c.seen w.held) info) st) w
-        (others.commits (recovered_in w.held) NoOwn info (setup.seed_for c info.epoch (lookup info.epoch (c.seen w.held).seeds)) (setup.recovered_share c (c.seen w.held) info) st w (begins w q))
-        (store.commits_read c reads 0 w info st w (store.nothing_lost c reads 0 w))
+    commits_backed info st w q = commits_any_backed info (setup.recovered_share c (c.seen w.held) info) st w q
 
     -- behind the journal's prune nothing below is given back
     from_pruned : (min : ℕ) (w x : World) → IsBacked w → notes x.held ≡ from_section min (notes w.held) → IsNoOther (recovered_in w.held) NoOwn x → IsUpkept c reads min w x → IsBacked x
@@ -183,7 +224,7 @@ module _ (s : Setting) (form : IsFormOfEpochs s.script) where
         at_least : (key : ℕ × ℕ) (pair : List ℕ × ℕ) → get (recovered_in x.held) key ≡ Some pair → HoldsStill w.held.secrets x.held.secrets key.0
         at_least key pair got =
             let above : min ≤ key.0 = (pruned_before min (notes w.held) x.held.secrets key pair (sym (ap (λ (es : List JournalEntry). get (recovered es x.held.secrets) key) is) ∙ got)).0 in
-            record { seeds = λ seed has. b.seeds_held key.0 seed above has; shares = λ share has. b.shares_held key.0 share above has }
+            record { seeds = λ seed has. b.seeds_held key.0 seed above has }
 
     pub prunes_backed : (min : ℕ) (st : Live Dir) (w : World) → IsBacked w → Throughout IsBacked (setup.prunes min st) w
     prunes_backed min st w q =

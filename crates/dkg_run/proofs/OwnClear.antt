@@ -155,18 +155,15 @@ module _ (g : Lived) (taken : ℕ) (epoch : ℕ) (info : EpochInfo directory.Uni
           let has : HasShare round.previous me share = subst (λ (p : Option Output). HasShare p me share) (sym previous) (subst (λ (o : Option ℕ). IsSomeAnd o (λ s. partial_public_of info.output me ≡ Some (share_public_of s))) (sym there) (fits its there)) in
           (shares_are_dealt round me share seed).1 has refused
 
-  -- A STORED DEALING is refused only where one that is given back is
-  pub stored_pass : (share : Option ℕ) (seed : List ℕ) (st : Live directory.Unit) (now : Held) (number dealer : ℕ) → st.records.dealings ≡ maps.entries (recovered_in now)
-      → ((round : Round) (who : ℕ) (pair : List ℕ × ℕ) → (at_step g taken).rules.round_of (at_step g taken).namespace epoch (Some info.output) (at_step g taken).mode (at_step g taken).reveal info.output.players info.players ≡ Ok round
-      → who < 2 ^ 32 → get (recovered_in now) (round.number, who) ≡ Some pair → dealing_of round me who pair.0 pair.1 ≡ Ok tt)
-      → IsSetupFault (at_step g taken) epoch info share seed st (LocalState (StoredDealing number dealer)) → ⊥
-  unfolding at_step
-  stored_pass share seed st now number dealer same passes why =
-      none_some dealer (sym nothing ∙ why.1.2.2.2)
+  -- NO STORED DEALING of a round is refused where each one passes that is given back
+  pub none_refused_in : (round : Round) (st : Live directory.Unit) (now : Held) → st.records.dealings ≡ maps.entries (recovered_in now)
+      → ((who : ℕ) (pair : List ℕ × ℕ) → who < 2 ^ 32 → get (recovered_in now) (round.number, who) ≡ Some pair → dealing_of round me who pair.0 pair.1 ≡ Ok tt)
+      → first_refused (λ d. dealing_of round me d) (pairs_of st round.number) ≡ None
+  none_refused_in round st now same passes =
+      ap (λ (ps : List Pair). first_refused (λ d. dealing_of round me d) (filter (λ p. (p.0.0 == round.number) && nat_lt p.0.1 (2 ^ 32)) ps)) same
+      ∙ none_refused (λ d. dealing_of round me d) round.number (pairs_in (recovered_in now))
+      (all_map (λ x. find key_cmp x.0 (pairs_in (recovered_in now)) ≡ Some x.1) _ (pairs_in (recovered_in now)) each (each_found keys_total (pairs_in (recovered_in now)) (entries_sorted (recovered_in now))))
     where
-      round : Round
-      round = why.1.2.0
-
       is_low : (q : ℕ) → nat_lt q (2 ^ 32) ≡ true → q < 2 ^ 32
       is_low q e = grind (arith, nat_tests)
 
@@ -174,12 +171,16 @@ module _ (g : Lived) (taken : ℕ) (epoch : ℕ) (info : EpochInfo directory.Uni
       each x there test =
           let parts = and_parts (x.0.0 == round.number) (nat_lt x.0.1 (2 ^ 32)) test in
           let at : get (recovered_in now) (round.number, x.0.1) ≡ Some x.1 = subst (λ (e : ℕ). get (recovered_in now) (e, x.0.1) ≡ Some x.1) (eqb-true x.0.0 round.number parts.0) (get-entries (recovered_in now) x.0 ∙ there) in
-          passes round x.0.1 x.1 why.1.2.1 (is_low x.0.1 parts.1) at
+          passes x.0.1 x.1 (is_low x.0.1 parts.1) at
 
-      nothing : first_refused (λ d. dealing_of round me d) (pairs_of st round.number) ≡ None
-      nothing = ap (λ (ps : List Pair). first_refused (λ d. dealing_of round me d) (filter (λ p. (p.0.0 == round.number) && nat_lt p.0.1 (2 ^ 32)) ps)) same
-          ∙ none_refused (λ d. dealing_of round me d) round.number (pairs_in (recovered_in now))
-          (all_map (λ x. find key_cmp x.0 (pairs_in (recovered_in now)) ≡ Some x.1) _ (pairs_in (recovered_in now)) each (each_found keys_total (pairs_in (recovered_in now)) (entries_sorted (recovered_in now))))
+  -- A STORED DEALING is refused only where one that is given back is
+  pub stored_pass : (share : Option ℕ) (seed : List ℕ) (st : Live directory.Unit) (now : Held) (number dealer : ℕ) → st.records.dealings ≡ maps.entries (recovered_in now)
+      → ((round : Round) (who : ℕ) (pair : List ℕ × ℕ) → (at_step g taken).rules.round_of (at_step g taken).namespace epoch (Some info.output) (at_step g taken).mode (at_step g taken).reveal info.output.players info.players ≡ Ok round
+      → who < 2 ^ 32 → get (recovered_in now) (round.number, who) ≡ Some pair → dealing_of round me who pair.0 pair.1 ≡ Ok tt)
+      → IsSetupFault (at_step g taken) epoch info share seed st (LocalState (StoredDealing number dealer)) → ⊥
+  unfolding at_step
+  stored_pass share seed st now number dealer same passes why =
+      none_some dealer (sym (none_refused_in why.1.2.0 st now same (λ who pair low at. passes why.1.2.0 who pair why.1.2.1 low at)) ∙ why.1.2.2.2)
 
 -- THIS NODE'S OWN dealing is what the same share and seed deal
 pub own_same : (round : Round) (me : ℕ) (share : Option ℕ) (seed kept dealt : List ℕ) (privates others : List (ℕ × ℕ)) → deal_of round me share seed ≡ Ok (kept, privates) → deal_of round me share seed ≡ Ok (dealt, others) → kept ≡ dealt

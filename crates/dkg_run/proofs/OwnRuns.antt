@@ -1,14 +1,16 @@
 -- A run over many epochs gives back dealings that pass their rounds' checks, and of this node's own those that the stored shares and seeds deal, where those before it were such.
-use Rattle.std.proofs.Common.{◌≡◌, inl, inr, ◌≤◌, ◌+◌, ℕ, zero, suc, List, Option, Some, None, Result, Ok, refl, sym, ◌∙◌, ap, subst, arith}
-use Rattle.std.specs.Prelude.{◌-◌, slice_get}
+use Rattle.std.proofs.Common.{◌≡◌, ◌⊎◌, inl, inr, ◌≤◌, ◌+◌, ℕ, zero, suc, List, Option, Some, None, Result, Ok, refl, sym, ◌∙◌, ap, subst, arith}
+use Rattle.std.specs.Prelude.{◌-◌, option_and_then, slice_get}
 use Rattle.std.specs.FinMap.{get}
 use Rattle.std.specs.List.{AllByRecursion}
 use Rattle.dkg_ceremony.specs.Deals.{deal_of}
 use Rattle.dkg_ceremony.specs.Schedule.{epoch_of}
 use Rattle.dkg_ceremony.specs.declared.round.RoundParts.{RoundParts as Round}
+use Rattle.dkg_ceremony.specs.declared.signed_log.SignedDealerLog.{SignedDealerLog}
 use Rattle.dkg_journal.specs.Names.{Files}
 use Rattle.dkg_secrets.specs.Secrets.{Secrets}
 use Rattle.dkg_types.specs.Blocks.{Block}
+use Rattle.dkg_types.specs.PayloadCodes.{its_log}
 use Rattle.dkg_types.specs.declared.directory.Unit as directory
 use Rattle.dkg_types.specs.declared.fault.Fault.{Fault}
 use Rattle.dkg_text.specs.declared.script.Event.{Event}
@@ -16,7 +18,7 @@ use Rattle.dkg_text.specs.declared.script.Event.TheVariants as event
 use Rattle.dkg_text.specs.declared.script.Life.{Life}
 use Rattle.dkg_script.specs.Blocks.{round_at}
 use Rattle.dkg_script.specs.Consistent.{IsConsistentScript, IsFromAnother}
-use Rattle.dkg_script.specs.Epochs.{IsFormOfEpochs}
+use Rattle.dkg_script.specs.Inclusion.{IsFormOfInclusion}
 use Rattle.dkg_script.specs.Setting.{Setting, CutAt, life_at, me}
 use Rattle.dkg_store.specs.Acts.{Ended, Held, World, broken, notes, stopped, went}
 use Rattle.dkg_store.specs.Pairs.{IsWhole, Pairs, recovered}
@@ -28,16 +30,16 @@ use Rattle.dkg_core.specs.Core.{step}
 use Rattle.dkg_core.specs.Courses.{Course, EndsSo, Throughout, on_devices}
 use Rattle.dkg_core.specs.Dealing as d
 use Rattle.dkg_core.specs.Fixed.{Fixed}
-use Rattle.dkg_core.specs.Forms.{Applied, IsLiveIn, IsTakenIn, judged_block}
+use Rattle.dkg_core.specs.Forms.{Applied, judged_block}
 use Rattle.dkg_core.specs.Heard.{Fits, MayHave, recovered_in}
 use Rattle.dkg_core.specs.Live.{Deals, Ends, Finalized, Follows, Includes, Live, Message, NodeStop, Peer, Sent, Stage}
 use Rattle.dkg_core.specs.Meant.{ReadsRecords}
 use Rattle.dkg_core.specs.Node.{node_opening, node_step}
 use Rattle.dkg_core.specs.Seen.{Seen}
-use Rattle.dkg_core.specs.Storing.{KeepsSeeds, KeepsShares, ReadsSecrets}
+use Rattle.dkg_core.specs.Storing.{KeepsSeeds, ReadsSecrets}
 use Rattle.dkg_core.proofs.Behind.{steps_run_behind}
 use Rattle.dkg_core.proofs.NodeKept.{node_peers_are_kept}
-use Rattle.dkg_core.proofs.Stepping.{not_included}
+use Rattle.dkg_core.proofs.Storing.{node_steps_keep_secrets}
 use Rattle.dkg_core.proofs.Walking as walk
 use Rattle.dkg_reshare.specs.declared.stop.Stop.{Stop}
 use Rattle.dkg_run.specs.Epochs.{IsLifeInForm}
@@ -46,25 +48,25 @@ use Rattle.dkg_run.specs.GivesBack.{PassesAll}
 use Rattle.dkg_run.specs.Lives.{LivesSo, RunsSo}
 use Rattle.dkg_run.specs.Ways.{by_worlds}
 use Rattle.dkg_run.proofs.Awaiting.{IsReached}
-use Rattle.dkg_run.proofs.Former.{Brings, IsMessage, event_in_form, form_at, live_at, message_in}
+use Rattle.dkg_run.proofs.BlocksLeave.{records_log}
+use Rattle.dkg_run.proofs.Former.{BringsBlock, BringsOther, BringsPeer, IsMessage, brings_kind, event_in_form, form_at, message_in}
 use Rattle.dkg_run.proofs.GivingDealings as giving
 use Rattle.dkg_run.proofs.GivingDealings.{FitsRecords, IsPassing, PassHeld}
 use Rattle.dkg_run.proofs.GivingLives.{KeepsSo, LeavesSo, life_holds, run_holds}
+use Rattle.dkg_run.proofs.Idle.{idle_held}
 use Rattle.dkg_run.proofs.Living.{holds_at}
 use Rattle.dkg_run.proofs.NoOthers as others
 use Rattle.dkg_run.proofs.NoOthers.{IsNoOther, IsOwnDealt, inserted}
 use Rattle.dkg_run.proofs.OfferingLives as offering
 use Rattle.dkg_run.proofs.OfferingLives.{IsStanding}
-use Rattle.dkg_run.proofs.OpeningsStore.{steps_upkeep}
-use Rattle.dkg_run.proofs.OwnBacked.{AreBacked, HoldsStill, IsBacked, IsBackedBy, along_both, commits_backed, opening_backed, prunes_backed, said_backed, same_backed, still_backed}
-use Rattle.dkg_run.proofs.OwnSteps.{SameSecrets, deals_same}
+use Rattle.dkg_run.proofs.OwnBacked.{AreBacked, HoldsStill, IsBacked, IsBackedBy, along_both, commits_any_backed, commits_backed, opening_backed, prunes_backed, said_backed, same_backed, still_backed}
+use Rattle.dkg_run.proofs.OwnSteps.{SameSecrets, deals_same, logs_same}
 use Rattle.dkg_run.proofs.StoredDealers.{IsStoredDealer}
-use Rattle.dkg_run.proofs.Stood.{step_taken}
 
 some_is : {A : Type 0} {x y : A} → ◌≡◌ {A = Option A} (Some x) (Some y) → x ≡ y
 some_is e = cc
 
-module _ (s : Setting) (cuts : List (Option CutAt)) (form : IsFormOfEpochs s.script) (consistent : IsConsistentScript s cuts) where
+module _ (s : Setting) (cuts : List (Option CutAt)) (form : IsFormOfInclusion s.script) (consistent : IsConsistentScript s cuts) where
   -- whole devices give back dealings that pass, and own ones that the secrets deal
   abbrev pub ValidHeld : Held → Type 0
   ValidHeld h = PassHeld s h × AreBacked s form (recovered_in h) h.secrets
@@ -115,17 +117,11 @@ module _ (s : Setting) (cuts : List (Option CutAt)) (form : IsFormOfEpochs s.scr
       abbrev m : IsMessage g its
       m = message_in g its (event_in_form g here i its is)
 
-      live : IsLiveIn c st
-      live = live_at g i (suc i) st ((owning.passing).at).live
-
-      taken : IsTakenIn c m.message st
-      taken = step_taken g here i its is reached m st live ((owning.passing).at).stands
-
       before : IsBacked s form w
       before = record { whole = ((owning.passing).agreed).whole; own = owning.own }
 
       same_kept : (x : World) (epoch : ℕ) → SameSecrets c w x → HoldsStill s form w.held.secrets x.held.secrets epoch
-      same_kept x epoch same = record { seeds = λ seed got. ap (λ m. get m epoch) same.seeds ∙ got; shares = λ share got. ap (λ m. get m epoch) same.shares ∙ got }
+      same_kept x epoch same = record { seeds = λ seed got. ap (λ m. get m epoch) same.seeds ∙ got }
 
       -- what it deals to itself
       fresh : (x : World) → SameSecrets c w x → (key : ℕ × ℕ) (pair : List ℕ × ℕ) → IsOwnDealt c st key pair → IsBackedBy s form x.held.secrets key pair
@@ -133,16 +129,16 @@ module _ (s : Setting) (cuts : List (Option CutAt)) (form : IsFormOfEpochs s.scr
           let stored : IsStoredDealer (me s) st own.dealer w.held = (owning.standing).deals own.dealer own.of_dealer in
           let number : key.0 ≡ (stored.round).number = ap (λ (k : ℕ × ℕ). k.0) own.at ∙ ap (λ (r : Round). r.number) (some_is (sym own.of_epoch ∙ stored.of_epoch)) in
           let its_round : round ≡ stored.round = some_is (sym made ∙ ap (round_at s) number ∙ (owning.passing).rounds stored.round stored.of_epoch) in
-          let share : get x.held.secrets.shares key.0 ≡ Some stored.share = ap (λ m. get m key.0) same.shares ∙ ap (get w.held.secrets.shares) number ∙ stored.share_is in (
+          (
             stored.seed,
+            stored.share,
             (own.dealer).privates,
             ap (λ m. get m key.0) same.seeds ∙ ap (get w.held.secrets.seeds) number ∙ stored.seed_is,
-            ap (λ (r : Round). deal_of r (me s) (get x.held.secrets.shares key.0) stored.seed) its_round ∙ ap (λ (o : Option ℕ). deal_of stored.round (me s) o stored.seed) share ∙ stored.dealt
-                ∙ ap (λ (public : List ℕ). Ok (public, (own.dealer).privates)) (sym own.public),
+            ap (λ (r : Round). deal_of r (me s) (Some stored.share) stored.seed) its_round ∙ stored.dealt ∙ ap (λ (public : List ℕ). Ok (public, (own.dealer).privates)) (sym own.public),
           )
 
       -- A BLOCK
-      module _ (block : Block directory.Unit) (its_taken : IsTakenIn c (Finalized block) st) (can : CanRecord c st (Finalized block)) where
+      module _ (block : Block directory.Unit) (can : CanRecord c st (Finalized block)) where
         abbrev Backed : World → Type 0
         Backed x = IsBacked s form x
 
@@ -165,12 +161,30 @@ module _ (s : Setting) (cuts : List (Option CutAt)) (form : IsFormOfEpochs s.scr
         itself : (n : ℕ) → n ≤ n
         itself n = omega arith
 
+        abbrev NoOwn : ℕ × ℕ → List ℕ × ℕ → Type 0
+        NoOwn key pair = ⊥
+
+        -- its log is silent of dealings
+        log_backed : (log : SignedDealerLog) → option_and_then its_log block.payload ≡ Some log → (epoch : ℕ) → Throughout {Dir = directory.Unit} Backed (b.records_log epoch block.height log st) w
+        log_backed log there epoch =
+            along_both (IsNoOther (recovered_in w.held) NoOwn) (SameSecrets c w) Backed (λ x a same. record {
+              whole = a.whole;
+              own = λ key pair mine got. elim (a.gives key pair got) [
+                | inl was ↦ still_backed s form w.held.secrets x.held.secrets key pair (same_kept x key.0 same) (owning.own key pair mine was)
+                | inr none ↦ absurd none
+              ];
+            }) (b.records_log epoch block.height log st) w
+            (records_log (recovered_in w.held) NoOwn block.height log st w (can.brings log there) (record { whole = before.whole; gives = λ key pair got. inl got }) epoch)
+            (logs_same c w block.height log st w (record { seeds = refl; shares = refl }) epoch)
+
         applies : judged_block c block st ≡ Applied → (stage : Stage) → st.participation.stage ≡ stage → Throughout Backed (b.applies_in c block st stage) w
         applies judged Deals at =
             walk.ends_dealing c Backed (λ x line aside q. said_backed s form x line q) most (commits_backed s form c (reads_at (suc i))) (λ min low at x q. prunes_backed s form c (reads_at (suc i)) min at x q) block (itself most) st w before deals_backed
         applies judged Follows at =
             walk.follows_at c Backed (λ x line aside q. said_backed s form x line q) most (commits_backed s form c (reads_at (suc i))) (λ min low at x q. prunes_backed s form c (reads_at (suc i)) min at x q) block (itself most) st w before
-        applies judged Includes at = absurd (not_included c (form_at g here (suc i)) st live None block its_taken judged at)
+        applies judged Includes at =
+            walk.including c Backed (λ x line aside q. said_backed s form x line q) most (commits_backed s form c (reads_at (suc i))) (λ min low at x q. prunes_backed s form c (reads_at (suc i)) min at x q) block (itself most)
+            (commits_any_backed s form c (reads_at (suc i))) st w log_backed before
         applies judged Ends at = before
 
         block_backed : (ended : Ended NodeStop (Live directory.Unit)) → EndsSo (node_step c (event_of (Finalized block)) st) ended w new → Backed new
@@ -182,13 +196,13 @@ module _ (s : Setting) (cuts : List (Option CutAt)) (form : IsFormOfEpochs s.scr
             same_backed s form behind.mid new (ap (λ (h : Held). notes h) behind.held) (ap (λ (h : Held). h.secrets) behind.held) mid
 
       -- A MESSAGE, of another node
-      module _ (from : ℕ) (bytes : List ℕ) (other : from ≡ me s → ⊥) (fit : Fits c (from, bytes)) (its_taken : IsTakenIn c (Sent (Peer from bytes)) st) (ended : Ended NodeStop (Live directory.Unit))
+      module _ (from : ℕ) (bytes : List ℕ) (other : from ≡ me s → ⊥) (fit : Fits c (from, bytes)) (ended : Ended NodeStop (Live directory.Unit))
           (run : EndsSo (node_step c (event_of (Sent (Peer from bytes))) st) ended w new) where
-        kept : KeepsSeeds 0 w.held new × KeepsShares 0 w.held new
-        kept = steps_upkeep c (reads_at (suc i)) 0 w (form_at g here (suc i)) st live (Sent (Peer from bytes)) ended new its_taken (omega arith) run
+        kept : KeepsSeeds 0 w.held new
+        kept = (node_steps_keep_secrets c st (Sent (Peer from bytes)) ended 0 w new (reads_at (suc i)) (omega arith) run).0
 
         still : (epoch : ℕ) → HoldsStill s form w.held.secrets new.held.secrets epoch
-        still epoch = record { seeds = λ seed got. kept.0 epoch seed (omega arith) got; shares = λ share got. kept.1 epoch share (omega arith) got }
+        still epoch = record { seeds = λ seed got. kept epoch seed (omega arith) got }
 
         was_there : (round : Round) → MayHave c st from round (recovered_in w.held) (recovered_in new.held) → (key : ℕ × ℕ) (pair : List ℕ × ℕ) → key.1 ≡ me s → get (recovered_in new.held) key ≡ Some pair → get (recovered_in w.held) key ≡ Some pair
         was_there round (inl same) key pair mine got = sym (ap (λ (pairs : Pairs). get pairs key) same) ∙ got
@@ -208,20 +222,25 @@ module _ (s : Setting) (cuts : List (Option CutAt)) (form : IsFormOfEpochs s.scr
 
       -- ANY STEP, wherever it ends
       step_backed : (ended : Ended NodeStop (Live directory.Unit)) → EndsSo (step_of g (suc i) its st) ended w new → AreBacked s form (recovered_in new.held) new.held.secrets
-      step_backed ended run =
-          by_event its is m.message m.brings taken (giving.can s cuts form consistent l life seen files life_is here records fits i its is reached st w new owning.passing)
-          (subst (λ (course : Course directory.Unit NodeStop (Live directory.Unit)). EndsSo course ended w new) (m.course (suc i) st) run)
+      step_backed ended run = by_kind (brings_kind g its m.message m.brings)
         where
-          by_event : (e : Event) → slice_get life.events i ≡ Some e → (message : Message directory.Unit) → Brings g e message → IsTakenIn c message st → CanRecord c st message → EndsSo (node_step c (event_of message) st) ended w new
-              → AreBacked s form (recovered_in new.held) new.held.secrets
-          by_event (event.Peer from bytes) at message brings its_taken its_can its_run =
-              heard_backed from bytes (holds_at (IsFromAnother (me s)) life.events i (event.Peer from bytes) (holds_at (λ (life : Life). AllByRecursion (IsFromAnother (me s)) life.events) s.script.lives l life consistent.others life_is) at)
-              (subst (BringsRecords c) brings its_can.brings) (subst (λ (x : Message directory.Unit). IsTakenIn c x st) brings its_taken) ended
-              (subst (λ (x : Message directory.Unit). EndsSo (node_step c (event_of x) st) ended w new) brings its_run) st.participation.round refl
-          by_event (event.Final number) at message brings its_taken its_can its_run =
-              (block_backed (brings.0).block (subst (λ (x : Message directory.Unit). IsTakenIn c x st) brings.1 its_taken) (subst (λ (x : Message directory.Unit). CanRecord c st x) brings.1 its_can) ended
-              (subst (λ (x : Message directory.Unit). EndsSo (node_step c (event_of x) st) ended w new) brings.1 its_run)).own
-          by_event other at message brings its_taken its_can its_run = absurd brings
+          its_run : EndsSo (node_step c (event_of m.message) st) ended w new
+          its_run = subst (λ (course : Course directory.Unit NodeStop (Live directory.Unit)). EndsSo course ended w new) (m.course (suc i) st) run
+
+          its_can : CanRecord c st m.message
+          its_can = giving.can s cuts form consistent l life seen files life_is here records fits i its is reached st w new owning.passing
+
+          as_run : (message : Message directory.Unit) → m.message ≡ message → EndsSo (node_step c (event_of message) st) ended w new
+          as_run message is = subst (λ (x : Message directory.Unit). EndsSo (node_step c (event_of x) st) ended w new) is its_run
+
+          by_kind : BringsBlock g its m.message ⊎ (BringsPeer its m.message ⊎ BringsOther its m.message) → AreBacked s form (recovered_in new.held) new.held.secrets
+          by_kind (inl b) = (block_backed (b.1).block (subst (λ (x : Message directory.Unit). CanRecord c st x) b.3 its_can) ended (as_run (Finalized (b.1).block) b.3)).own
+          by_kind (inr (inl p)) =
+              heard_backed p.0 p.1
+              (holds_at (IsFromAnother (me s)) life.events i (event.Peer p.0 p.1) (holds_at (λ (life : Life). AllByRecursion (IsFromAnother (me s)) life.events) s.script.lives l life consistent.others life_is) (is ∙ ap (λ (e : Event). Some e) p.2))
+              (subst (BringsRecords c) p.3 its_can.brings) ended (as_run (Sent (Peer p.0 p.1)) p.3) st.participation.round refl
+          by_kind (inr (inr mail)) =
+              subst (λ (h : Held). AreBacked s form (recovered_in h) h.secrets) (sym (idle_held c mail.0 mail.2 st ended w new ((owning.passing).at).active (as_run (Sent mail.0) mail.1))) owning.own
 
     pub step_keeps : FitsRecords s cuts form consistent l life seen files life_is here records → (i : ℕ) (its : Event) (st : Live directory.Unit) (h : Held) → slice_get life.events i ≡ Some its → IsReached life.cut (suc i) → IsOwning i st h
         → KeepsSo ValidHeld (IsOwning (suc i)) (step_of g (suc i) its st) h
@@ -247,7 +266,7 @@ module _ (s : Setting) (cuts : List (Option CutAt)) (form : IsFormOfEpochs s.scr
             )
 
 -- A RUN
-pub run_valid : (s : Setting) (cuts : List (Option CutAt)) (form : IsFormOfEpochs s.script) (consistent : IsConsistentScript s cuts)
+pub run_valid : (s : Setting) (cuts : List (Option CutAt)) (form : IsFormOfInclusion s.script) (consistent : IsConsistentScript s cuts)
     → (over : (l : ℕ) (life : Life) (seen : Held → Seen) (files : Files) → slice_get s.script.lives l ≡ Some life → by_worlds.reads seen → IsLifeInForm (lived s.script l life seen files))
     → (records : (seen : Held → Seen) → by_worlds.reads seen → ReadsRecords seen) (secrets : (seen : Held → Seen) → by_worlds.reads seen → ReadsSecrets seen)
     → ((l : ℕ) (life : Life) (seen : Held → Seen) (files : Files) (life_is : life_at s l ≡ Some life) (here : IsLifeInForm (lived s.script l life seen files)) (read : ReadsRecords seen) → FitsRecords s cuts form consistent l life seen files life_is here read)

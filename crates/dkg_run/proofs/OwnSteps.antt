@@ -8,6 +8,7 @@ use Rattle.dkg_values.specs.declared.codec.CodecError.{CodecError}
 use Rattle.dkg_ceremony.specs.declared.ceremony.AckError.{AckError}
 use Rattle.dkg_ceremony.specs.declared.ceremony.DealingError.{DealingError}
 use Rattle.dkg_ceremony.specs.declared.round.RoundParts.{RoundParts as Round}
+use Rattle.dkg_ceremony.specs.declared.signed_log.SignedDealerLog.{SignedDealerLog}
 use Rattle.dkg_journal.specs.Operations as of_journal
 use Rattle.dkg_secrets.specs.Secrets.{Secrets}
 use Rattle.dkg_secrets.specs.declared.secrets.SecretOp.TheVariants.{PutDealing}
@@ -20,10 +21,12 @@ use Rattle.dkg_types.specs.declared.message.Message.TheVariants.{Dealer as ADeal
 use Rattle.dkg_types.specs.MessageCodes.{message_at}
 use Rattle.dkg_store.specs.Acts.{Cause, Changes, OnDisk, Tears, World, does, says}
 use Rattle.dkg_store.specs.declared.event.Event.TheVariants as events
+use Rattle.dkg_core.specs.Blocks as b
 use Rattle.dkg_core.specs.Courses.{Course, Goes, Say, Stops, Throughout, bind}
 use Rattle.dkg_core.specs.Dealing as d
 use Rattle.dkg_core.specs.Fixed.{Fixed}
 use Rattle.dkg_core.specs.Live.{Dealer, Deals, Ends, Follows, Includes, Live, Plays, Seat, Stage, Watches, recorded_at}
+use Rattle.dkg_core.specs.Logs.{log_event}
 use Rattle.dkg_core.specs.Setup as s
 use Rattle.dkg_core.proofs.Running.{along_end, along_next}
 use Rattle.dkg_core.proofs.Upkeep.{along_if, along_option}
@@ -89,6 +92,12 @@ module _ {Dir : Type 0} (c : Fixed Dir) (from : World) where
       along_option SameSecrets w st.participation.round (λ round. option_map_or (λ dealer. d.offers c round dealer.public (s.unsent round dealer) st) st.participation.dealer (Goes st)) (Goes st)
       (λ round e. along_option SameSecrets w st.participation.dealer (λ dealer. d.offers c round dealer.public (s.unsent round dealer) st) (Goes st)
       (λ dealer e. offers round dealer.public (s.unsent round dealer) st w q) (λ e. q)) (λ e. q)
+
+  -- as a log is recorded
+  pub logs_same : (height : ℕ) (log : SignedDealerLog) (st : Live Dir) (w : World) → SameSecrets w → (epoch : ℕ) → Throughout SameSecrets (b.records_log epoch height log st) w
+  logs_same height log st w q epoch =
+      along_if SameSecrets w (is_some (recorded_at st.records.logs epoch log.dealer)) (Goes st) (d.appends epoch (log_event log.dealer height log.log) (Goes (b.with_log epoch log.dealer height log.log st)))
+      (λ e. q) (λ e. (λ cause new tears. on_disk _ cause w new tears q, record { seeds = q.seeds; shares = q.shares }))
 
   -- AS IT HEARS A PEER
 

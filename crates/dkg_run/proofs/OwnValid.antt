@@ -24,7 +24,7 @@ use Rattle.dkg_text.specs.declared.script.Event.TheVariants as event
 use Rattle.dkg_text.specs.declared.script.Life.{Life}
 use Rattle.dkg_script.specs.Blocks.{anchor_number, known_info, reshare_round, round_at}
 use Rattle.dkg_script.specs.Consistent.{IsConsistentScript}
-use Rattle.dkg_script.specs.Epochs.{IsFormOfEpochs}
+use Rattle.dkg_script.specs.Inclusion.{IsFormOfInclusion}
 use Rattle.dkg_script.specs.Readings.{Info, with_spelled}
 use Rattle.dkg_script.specs.Setting.{CutAt, Setting, blocks_per_epoch, life_at, me}
 use Rattle.dkg_store.specs.Acts.{Held}
@@ -53,7 +53,7 @@ IsStateFault (LocalState (ShareRefused number)) = Unit {0}
 IsStateFault (LocalState (StoredDealing number dealer)) = Unit {0}
 IsStateFault its = ⊥
 
-module _ (s : Setting) (cuts : List (Option CutAt)) (form : IsFormOfEpochs s.script) (consistent : IsConsistentScript s cuts) (l : ℕ) (life : Life) (seen : Held → Seen) (files : Files) (life_is : life_at s l ≡ Some life) where
+module _ (s : Setting) (cuts : List (Option CutAt)) (form : IsFormOfInclusion s.script) (consistent : IsConsistentScript s cuts) (l : ℕ) (life : Life) (seen : Held → Seen) (files : Files) (life_is : life_at s l ≡ Some life) where
   abbrev g : Lived
   g = lived s.script l life seen files
 

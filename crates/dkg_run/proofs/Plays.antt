@@ -13,13 +13,13 @@ use Rattle.dkg_ceremony.specs.declared.round.RoundParts.{RoundParts as Round}
 use Rattle.dkg_types.specs.BlockCodes.{info_of}
 use Rattle.dkg_types.specs.Blocks.{Block}
 use Rattle.dkg_types.specs.declared.directory.Unit as directory
+use Rattle.dkg_types.specs.declared.entry.Restored.{Restored}
 use Rattle.dkg_types.specs.declared.info.EpochInfo.{EpochInfo}
 use Rattle.std.specs.Prelude.{IsSomeAnd}
 use Rattle.dkg_text.specs.declared.script.Life.{Life}
 use Rattle.dkg_journal.specs.Names.{Files}
 use Rattle.dkg_store.specs.Acts.{Held, notes}
 use Rattle.dkg_store.specs.Noted.{logs_in}
-use Rattle.dkg_script.specs.OwnMarks.{AreKnownHandedIn}
 use Rattle.dkg_script.specs.Setting.{Setting, me}
 use Rattle.dkg_core.specs.Agreeing.{AreAgreed}
 use Rattle.dkg_core.specs.Fixed.{Fixed}
@@ -28,11 +28,10 @@ use Rattle.dkg_core.specs.Heard.{recovered_in}
 use Rattle.dkg_core.specs.Live.{Deals, Live, Plays, Records, awaited_height}
 use Rattle.dkg_core.specs.Seen.{Seen}
 use Rattle.dkg_core.specs.Setup.{Standing, Uncommitted}
-use Rattle.dkg_core.specs.Stepping.{IsSameLife}
 use Rattle.dkg_core.specs.Endings.{first_block, stage_in}
 use Rattle.dkg_run.specs.Given.{Lived, at_step, lived}
 use Rattle.dkg_run.proofs.Drawn.{HasRoundOf}
-use Rattle.dkg_run.proofs.MarksAt.{HasHanded, WereHandedIn, lacks_none}
+use Rattle.dkg_run.proofs.MarksAt.{GivesRecorded, KnowsMarks, lacks_none}
 use Rattle.dkg_run.proofs.Seats.{plays_so, valid_so}
 
 some_is : {A : Type 0} {x y : A} → ◌≡◌ {A = Option A} (Some x) (Some y) → x ≡ y
@@ -51,9 +50,9 @@ deals_early c st round live is low = live.in_round round is ∙ early_of (midpoi
         let is : nat_lt height middle ≡ true = grind (arith, nat_tests, low) in
         ap (λ (t : Bool). stage_in (if t then Early else (if nat_eq height middle then Midpoint else Late))) is
 
--- ITS SEAT: it plays where it is one of the round's players, if no log that was handed in bears an acknowledgement that it never gave
+-- ITS SEAT: it plays where it is one of the round's players
 abbrev pub PlaysWhere : Setting → Live directory.Unit → Type 0
-PlaysWhere s st = AreKnownHandedIn s → (round : Round) → st.participation.round ≡ Some round → has_key (me s) round.players ≡ true → st.participation.seat ≡ Plays
+PlaysWhere s st = (round : Round) → st.participation.round ≡ Some round → has_key (me s) round.players ≡ true → st.participation.seat ≡ Plays
 
 -- WHAT IS GIVEN BACK of its round passes its check
 abbrev pub ValidWhere : Setting → Held → Live directory.Unit → Type 0
@@ -61,14 +60,14 @@ ValidWhere s now st =
     (round : Round) (dealer : ℕ) (pair : List ℕ × ℕ) → st.participation.round ≡ Some round → st.participation.seat ≡ Plays → dealer < 2 ^ 32
     → get (recovered_in now) (round.number, dealer) ≡ Some pair → dealing_of round (me s) dealer pair.0 pair.1 ≡ Ok tt
 
--- both stay where the same life goes on over the same dealings
-pub plays_on : (s : Setting) (st end : Live directory.Unit) → IsSameLife st end → PlaysWhere s st → PlaysWhere s end
-plays_on s st end same plays = λ known round there key. same.seat ∙ plays known round (sym same.round ∙ there) key
+-- the seat stays where the same life goes on
+pub plays_on : (s : Setting) (st end : Live directory.Unit) → end.participation.round ≡ st.participation.round → end.participation.seat ≡ st.participation.seat → PlaysWhere s st → PlaysWhere s end
+plays_on s st end round_is seat_is plays = λ round there key. seat_is ∙ plays round (sym round_is ∙ there) key
 
--- What the devices hold of an epoch of which the life takes part: what was handed in of it, and no other logs.
-pub record HoldsHanded (s : Setting) (now : Held) (epoch : ℕ) : Type 0 where
-  pub dealings : HasHanded s epoch (recovered_in now)
-  pub logs : WereHandedIn s epoch (logs_in (notes now))
+-- What the devices hold of an epoch: its recorded dealings, and logs that are known by them.
+pub record HoldsKnown (s : Setting) (recorded : List Restored) (now : Held) (epoch : ℕ) : Type 0 where
+  pub dealings : GivesRecorded recorded epoch (recovered_in now)
+  pub logs : KnowsMarks s recorded epoch (logs_in (notes now))
 
 module _ (s : Setting) (l : ℕ) (life : Life) (seen : Held → Seen) (files : Files) where
   abbrev g : Lived
@@ -77,12 +76,12 @@ module _ (s : Setting) (l : ℕ) (life : Life) (seen : Held → Seen) (files : F
   -- BEHIND A SETUP
   module _ (taken : ℕ) (standing : Standing) (info : EpochInfo directory.Unit) (share : Option ℕ) (seed : List ℕ) (st end : Live directory.Unit) (seated : IsSeated (at_step g taken) standing info share seed st end)
       (now : Held) (agreed : AreAgreed end.records now) where
-    pub seated_plays : HoldsHanded s now (seated.round).number → HasRoundOf s end → PlaysWhere s end
-    seated_plays holds of_round = λ known round there key.
+    pub seated_plays : (recorded : List Restored) → HoldsKnown s recorded now (seated.round).number → HasRoundOf s end → PlaysWhere s end
+    seated_plays recorded holds of_round = λ round there key.
         let same : seated.round ≡ round = some_is (sym seated.in_round ∙ there) in
         let its_key : has_key (me s) (seated.round).players ≡ true = subst (λ (r : Round). has_key (me s) r.players ≡ true) (sym same) key in
         plays_so g taken standing info share seed st end seated now agreed (place_of-Contains (me s) (seated.round).players (has_key-to (seated.round).players (me s) its_key))
-        (lacks_none s (seated.round).number (recovered_in now) (logs_in (notes now)) seated.round holds.dealings holds.logs known (of_round seated.round seated.in_round))
+        (lacks_none s (seated.round).number recorded (recovered_in now) (logs_in (notes now)) seated.round holds.dealings holds.logs (of_round seated.round seated.in_round))
 
     pub seated_valid : ValidWhere s now end
     seated_valid = λ round dealer pair there plays low gives.
@@ -114,13 +113,13 @@ module _ (s : Setting) (l : ℕ) (life : Life) (seen : Held → Seen) (files : F
         by_block None set_up = absurd (not_there round (sym set_up.0 ∙ sym (ap (λ p. p.round) same_participation) ∙ is))
         by_block (Some b) set_up = by_info (info_of b.payload) set_up
 
-    pub begun_plays : ((round : Round) → st.participation.round ≡ Some round → HoldsHanded s now round.number) → HasRoundOf s st → PlaysWhere s st
-    begun_plays holds of_round = λ known round there key.
+    pub begun_plays : (recorded : List Restored) → ((round : Round) → st.participation.round ≡ Some round → HoldsKnown s recorded now round.number) → HasRoundOf s st → PlaysWhere s st
+    begun_plays recorded holds of_round = λ round there key.
         let its = seats round there in
         let in_round : st.participation.round ≡ Some (its.1).round = ap (λ p. p.round) same_participation ∙ (its.1).in_round in
         ap (λ p. p.seat) same_participation
-        ∙ seated_plays 0 Uncommitted its.0 (share_read (at_step g 0) its.0 k) (seed_read (at_step g 0) its.0 k) (started (at_step g 0) read) begun.before its.1 now before_agreed (holds (its.1).round in_round)
-        (λ r is. of_round r (ap (λ p. p.round) same_participation ∙ is)) known round (sym (ap (λ p. p.round) same_participation) ∙ there) key
+        ∙ seated_plays 0 Uncommitted its.0 (share_read (at_step g 0) its.0 k) (seed_read (at_step g 0) its.0 k) (started (at_step g 0) read) begun.before its.1 now before_agreed recorded (holds (its.1).round in_round)
+        (λ r is. of_round r (ap (λ p. p.round) same_participation ∙ is)) round (sym (ap (λ p. p.round) same_participation) ∙ there) key
 
     pub begun_valid : ValidWhere s now st
     begun_valid = λ round dealer pair there plays low gives.

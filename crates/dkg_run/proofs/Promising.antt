@@ -12,7 +12,7 @@ use Rattle.dkg_types.specs.declared.fault.Fault.{Fault}
 use Rattle.dkg_types.specs.declared.fault.Fault.TheVariants.{NoMemory}
 use Rattle.dkg_text.specs.declared.script.Script.{Script}
 use Rattle.dkg_script.specs.Ends.{EndsInFault, EndsWell}
-use Rattle.dkg_script.specs.Epochs.{IsFormOfEpochs}
+use Rattle.dkg_script.specs.Inclusion.{IsFormOfInclusion}
 use Rattle.dkg_script.specs.Promise.{Adds, AnswersDealings, KeepsDealings, RunsAll, RunsInOrder, cuts_in}
 use Rattle.dkg_script.specs.AsCut.{setting_as_cut}
 use Rattle.dkg_script.specs.SameOffers.{OffersTheSame}
@@ -104,7 +104,7 @@ all_run : (script : Script) (old new : List Entry) (picks : List ℕ) (answered 
 all_run script old new picks (Ok done) added is run = added_so old new added (RunsAll script) is (run_all_lives script AnyFiles (trace old []) (trace new picks) run)
 all_run script old new picks (Err its) added is run = tt
 
-module _ (script : Script) (form : IsFormOfEpochs script) (o : Over) (disk_of : o.tells → o.disk_tells) (old new : List Entry) (picks : List ℕ) (answered : Result (Unit {0}) Fault)
+module _ (script : Script) (form : IsFormOfInclusion script) (o : Over) (disk_of : o.tells → o.disk_tells) (old new : List Entry) (picks : List ℕ) (answered : Result (Unit {0}) Fault)
     (run : RunsSo by_lines script AnyFiles (trace old []) answered (trace new picks)) (runs : DoesRun script o old answered new) (itself : o.disk_tells → o.before.image o.before.files) (left : o.disk_tells → o.now.image o.now.files)
     (causes : IfErr answered (λ its. HasCause its o.disk_rose o.secrets_rose)) (records : IfErr answered (λ its. o.disk_tells → IsFoundRecord (limit_in script) o.now.files its))
     (fit : o.disk_tells → AreFit (limit_in script) o.before.image → AreFit (limit_in script) o.now.image) (stood : OnOk answered (o.disk_tells → Stands o.before.files o.before.image → Stands o.now.files o.now.image)) where
@@ -160,7 +160,7 @@ module _ (script : Script) (form : IsFormOfEpochs script) (o : Over) (disk_of : 
     abbrev its_script : Script
     its_script = cut_script script form checked bytes o disk_of answered old new added is runs itself left
 
-    its_form : IsFormOfEpochs its_script
+    its_form : IsFormOfInclusion its_script
     its_form = cut_form script form checked bytes o disk_of answered old new added is runs itself left
 
     abbrev its_setting : Setting
@@ -191,7 +191,7 @@ module _ (script : Script) (form : IsFormOfEpochs script) (o : Over) (disk_of : 
     begun_shown : Shown added
     begun_shown = record {
       ends = subst (λ (c : Option Fault). EndsScript c answered added o.disk_rose o.secrets_rose) (sym checked) run_ended;
-      found = λ told here. run_found script form checked answered o.before.files o.now.files o.before.held o.now.held old new added o.disk_rose o.secrets_rose is run_ended (runs told here o.now.files (left (disk_of told)));
+      found = λ told here. run_found script form bytes checked answered o.before.files o.now.files o.before.held o.now.held old new added o.disk_rose o.secrets_rose is run_ended (runs told here o.now.files (left (disk_of told)));
       skips = if_err answered (BlamesOnlySkips its_setting o.before.image (cuts_in its_setting added)) (λ its. o.tells → BlamesOnlySkips its_setting o.before.image (cuts_in its_setting added) its) (λ its blames told. blames)
           (run_skips script form checked bytes o.before.files o.before.image o.before.held answered old new added is picks as_it_was);
       kept = begun_keeps script form checked bytes o disk_of answered old new added is runs itself left;

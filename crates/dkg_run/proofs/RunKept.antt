@@ -15,9 +15,12 @@ use Rattle.dkg_text.specs.declared.script.Event as script
 use Rattle.dkg_text.specs.declared.script.Life.{Life}
 use Rattle.dkg_text.specs.declared.script.Script.{Script}
 use Rattle.dkg_store.specs.Acts.{Held, World, Ended, went, notes, says}
+use Rattle.dkg_store.specs.Noted.{logs_in}
 use Rattle.dkg_store.specs.Pairs.{IsWhole}
 use Rattle.dkg_script.specs.Consistent.{IsConsistentScript}
 use Rattle.dkg_script.specs.Kept.{AllCurrent, Gives}
+use Rattle.dkg_script.specs.LogsKnown.{LogsKnown}
+use Rattle.dkg_script.specs.OwnMarks.{IsKnownAt}
 use Rattle.dkg_script.specs.Position.{awaited_before, awaited_epoch, awaited_epoch_in, begun, begun_before}
 use Rattle.dkg_script.specs.Progress.{Progress, read, is_last_step, with_life_ended}
 use Rattle.dkg_script.specs.Setting.{Setting, CutAt, is_oneshot, life_at}
@@ -34,10 +37,10 @@ use Rattle.dkg_run.specs.Epochs.{IsLifeInForm}
 use Rattle.dkg_run.specs.Given.{Lived, at_step, lived, step_of}
 use Rattle.dkg_run.specs.Lives.{AnyFiles, EndsLife, LivesFrom, LivesSo, RunsAllSo, RunsSo, Steps, TakesAll, TellsEnd, Wants, fuse_for}
 use Rattle.dkg_run.specs.Ways.{by_worlds}
-use Rattle.dkg_run.proofs.Currently.{IsKeptEntry, RestsIn, before_front, begun_behind, current_later}
-use Rattle.dkg_run.proofs.LifeSteps.{IsLifeOfSetting, LogsAre}
-use Rattle.dkg_run.proofs.LivesKept.{IsBetween, IsStopped, LeavesLife, lives_kept, reaches_on, taken_by}
-use Rattle.dkg_run.proofs.KeptSteps.{Reaches, reaches_none, reaches_one}
+use Rattle.dkg_run.proofs.Currently.{RestsIn, before_front, begun_behind, current_later}
+use Rattle.dkg_run.proofs.LifeSteps.{IsLifeOfSetting}
+use Rattle.dkg_run.proofs.LivesKept.{IsBetween, IsStopped, LeavesLife, lives_kept, taken_by}
+use Rattle.dkg_run.proofs.Marked.{Comes, comes_first, comes_none, comes_then, marks_after}
 
 abbrev U : Type 0
 U = directory.Unit
@@ -114,10 +117,6 @@ cuts_all s (one ∷ entries) p =
     let rest = cuts_all s entries (read s p one) in
     (first.0 ++ rest.0, rest.1 ∙ ap (λ (x : List (Option CutAt)). x ++ rest.0) first.1 ∙ append_assoc p.cuts first.0 rest.0)
 
--- an entry, and what comes behind it
-reaches_first : (s : Setting) (p : Progress) (old new : List Entry) (Q : Progress → Type 0) (one : Entry) → IsKeptEntry s p one → Reaches s (read s p one) (old ++ one ∷ []) new Q → Reaches s p old new Q
-reaches_first s p old new Q one kept b = record { added = one ∷ b.added; out = b.out ∙ append_assoc old (one ∷ []) b.added; each = (kept, b.each); to = b.to }
-
 below_length : {A : Type 0} (xs : List A) (i : ℕ) (x : A) → slice_get xs i ≡ Some x → i < length xs
 below_length [] i x is = absurd (let no : ◌≡◌ {A = Option _} None (Some x) = is in cc)
 below_length (y ∷ xs) zero x is = omega arith
@@ -165,15 +164,15 @@ module _ (s : Setting) (ends : List (Option CutAt)) (reshares : is_oneshot s ≡
   least : (cuts : List (Option CutAt)) (l j : ℕ) → begun_before s cuts l ≤ begun s cuts l j
   least cuts l j = rw reshares (omega arith)
 
-  stopped_run : (l : ℕ) (life : Life) (stop : Stop) (h : Held) (q : Progress) → IsStopped l life stop h s q → LeavesRun h s q
-  stopped_run l life stop h q its = (its.whole, subst (λ (x : ℕ). AllCurrent (begun s q.cuts x q.step) (Gives (recovered_in h)) q.recorded) (sym its.lives) its.gives)
+  stopped_run : (l : ℕ) (life : Life) (stop : Stop) (h : Held) (marks : Type 0) (q : Progress) → IsStopped l life stop h s marks q → LeavesRun h s q
+  stopped_run l life stop h marks q its = (its.whole, subst (λ (x : ℕ). AllCurrent (begun s q.cuts x q.step) (Gives (recovered_in h)) q.recorded) (sym its.lives) its.gives)
 
   length_more : (xs : List (Option CutAt)) (x : Option CutAt) → length (xs ++ x ∷ []) ≡ suc (length xs)
   length_more [] x = refl
   length_more (y ∷ xs) x = ap suc (length_more xs x)
 
   -- behind a cut
-  module _ (l : ℕ) (life : Life) (life_is : life_at s l ≡ Some life) (its : cut.Cut) (cut_is : life.cut ≡ Some its) (h : Held) (q : Progress) (stopped : IsStopped l life Cut h s q) where
+  module _ (l : ℕ) (life : Life) (life_is : life_at s l ≡ Some life) (its : cut.Cut) (cut_is : life.cut ≡ Some its) (h : Held) (marks : Type 0) (q : Progress) (stopped : IsStopped l life Cut h s marks q) where
     abbrev r : Progress
     r = read s q (entry.Cut its.step its.call)
 
@@ -182,10 +181,10 @@ module _ (s : Setting) (ends : List (Option CutAt)) (reshares : is_oneshot s ≡
         ∙ begun_behind s reshares q.cuts l life (Some (record { step = its.step; call = its.call })) stopped.lives life_is
 
     rests_then : RestsIn h s r
-    rests_then = record { whole = stopped.whole; may = rw begun_is (stopped.at_cut refl its cut_is).0; handed = record { dealings = stopped.handed.dealings } }
+    rests_then = record { whole = stopped.whole; may = rw begun_is (stopped.at_cut refl its cut_is).0 }
 
-    logs_then : LogsAre s (begun_before s r.cuts (length r.cuts)) h
-    logs_then = rw begun_is (stopped.at_cut refl its cut_is).1
+    logs_then : (marks × IsKnownAt s q (entry.Cut its.step its.call)) → LogsKnown s (begun_before s r.cuts (length r.cuts)) r.recorded (logs_in (notes h))
+    logs_then known = subst (λ (n : ℕ). LogsKnown s n q.recorded (logs_in (notes h))) (sym begun_is) ((stopped.at_cut refl its cut_is).1 known)
 
     between_then : IsBetween (l + 1) s r
     between_then = record { lives = length_more q.cuts (Some (record { step = its.step; call = its.call })) ∙ ap suc stopped.lives ∙ one l; step = refl; nothing = refl }
@@ -193,16 +192,21 @@ module _ (s : Setting) (ends : List (Option CutAt)) (reshares : is_oneshot s ≡
         one : (n : ℕ) → suc n ≡ n + 1
         one n = omega arith
 
-  pub from_kept : (lives : List Life) (first : Files → Type 0) (l : ℕ) (w : World) (result : Result (Unit {0}) Fault) (new : World) (p : Progress) → AreLives s l lives → IsBetween l s p → RestsIn w.held s p
-      → LogsAre s (begun_before s p.cuts (length p.cuts)) w.held → EndSo w new p → LivesFrom by_worlds s.script first l lives w result new → Reaches s p w.out new.out (LeavesRun new.held s)
-  from_kept [] first l w result new p are between rests logs fin ends_so =
-      reaches_none s p w.out new.out (LeavesRun new.held s) (ap (λ (x : World). x.out) ends_so.1)
+  -- whatever is known then
+  abbrev pub Leaves : Held → Type 0 → Progress → Type 0
+  Leaves h marks q = LeavesRun h s q
+
+  pub from_kept : (lives : List Life) (first : Files → Type 0) (l : ℕ) (marks : Type 0) (w : World) (result : Result (Unit {0}) Fault) (new : World) (p : Progress) → AreLives s l lives → IsBetween l s p → RestsIn w.held s p
+      → (marks → LogsKnown s (begun_before s p.cuts (length p.cuts)) p.recorded (logs_in (notes w.held))) → EndSo w new p → LivesFrom by_worlds s.script first l lives w result new → Comes s marks p w.out new.out (Leaves new.held)
+  from_kept [] first l marks w result new p are between rests logs fin ends_so =
+      comes_none s marks p w.out new.out (Leaves new.held) (ap (λ (x : World). x.out) ends_so.1)
       (rw ends_so.1 (rests.whole, current_later (begun_before s p.cuts (length p.cuts)) (begun s p.cuts (length p.cuts) p.step) (Gives (recovered_in w.held)) (least p.cuts (length p.cuts) p.step) p.recorded rests.may.given))
-  from_kept (life ∷ lives) first l w result new p are between rests logs fin here =
-      reaches_on s p w.out here.3.out new.out (LeavesLife l life here.2 here.3.held s) (LeavesRun new.held s)
-      (lives_kept s ends l life here.0 here.1 both.0 both.1 p.cuts (never_back_at p l life are.0 between.lives (front w new p grows fin)) between.lives reshares here.1 w here.2 here.3 p
+  from_kept (life ∷ lives) first l marks w result new p are between rests logs fin here =
+      comes_then s marks p w.out here.3.out new.out (LeavesLife l life here.2 here.3.held s) (Leaves new.held)
+      (lives_kept s ends l life here.0 here.1 both.0 both.1 p.cuts (never_back_at p l life are.0 between.lives (front w new p grows fin)) between.lives reshares here.1 marks w here.2 here.3 p
       (record { life_is = are.0; lives = between.lives; step = between.step; nothing = between.nothing }) refl rests logs here.7)
-      (λ added out leaves. by_how (λ q mid between rests logs fin more. from_kept lives AnyFiles (l + 1) mid result new q are.1 between rests logs fin more) here.2 (fold (read s) p added) (end_then w here.3 new p added out fin) leaves here.8)
+      (λ added out leaves. by_how (λ later q mid between rests logs fin more. from_kept lives AnyFiles (l + 1) later mid result new q are.1 between rests logs fin more) here.2
+      (marks_after s marks p added) (fold (read s) p added) (end_then w here.3 new p added out fin) leaves here.8)
     where
       both : IsLifeInForm (lived s.script l life here.0 here.1) × IsLifeOfSetting s ends (lived s.script l life here.0 here.1)
       both = meant l life here.0 here.1 are.0 here.4
@@ -213,24 +217,28 @@ module _ (s : Setting) (ends : List (Option CutAt)) (reshares : is_oneshot s ≡
       Rests : World → Type 0
       Rests mid = LivesFrom by_worlds s.script AnyFiles (l + 1) lives mid result new
 
-      On : Type 0
-      On = (q : Progress) (mid : World) → IsBetween (l + 1) s q → RestsIn mid.held s q → LogsAre s (begun_before s q.cuts (length q.cuts)) mid.held → EndSo mid new q → Rests mid → Reaches s q mid.out new.out (LeavesRun new.held s)
+      On : Type 1
+      On = (later : Type 0) (q : Progress) (mid : World) → IsBetween (l + 1) s q → RestsIn mid.held s q → (later → LogsKnown s (begun_before s q.cuts (length q.cuts)) q.recorded (logs_in (notes mid.held))) → EndSo mid new q → Rests mid
+          → Comes s later q mid.out new.out (Leaves new.held)
 
-      by_cut : On → (o : Option cut.Cut) → life.cut ≡ o → (q : Progress) → EndSo here.3 new q → IsStopped l life Cut here.3.held s q
-          → IsSomeAnd o (λ its. ((result ≡ Err NoMemory) × (new ≡ here.3)) ⊎ Rests (says here.3 (entry.Cut its.step its.call))) → Reaches s q here.3.out new.out (LeavesRun new.held s)
-      by_cut on None is q fin its_stop ends_so = absurd ends_so
-      by_cut on (Some its) is q fin its_stop (inl wants) = reaches_none s q here.3.out new.out (LeavesRun new.held s) (ap (λ (x : World). x.out) wants.1) (rw wants.1 (stopped_run l life Cut here.3.held q its_stop))
-      by_cut on (Some its) is q fin its_stop (inr more) =
-          reaches_first s q here.3.out new.out (LeavesRun new.held s) (entry.Cut its.step its.call) (tt, tt)
-          (on (read s q (entry.Cut its.step its.call)) (says here.3 (entry.Cut its.step its.call)) (between_then l life are.0 its is here.3.held q its_stop) (rests_then l life are.0 its is here.3.held q its_stop)
-          (logs_then l life are.0 its is here.3.held q its_stop) (λ rest out. fin (entry.Cut its.step its.call ∷ rest) (out ∙ append_assoc here.3.out (entry.Cut its.step its.call ∷ []) rest)) more)
+      by_cut : On → (o : Option cut.Cut) → life.cut ≡ o → (later : Type 0) (q : Progress) → EndSo here.3 new q → IsStopped l life Cut here.3.held s later q
+          → IsSomeAnd o (λ its. ((result ≡ Err NoMemory) × (new ≡ here.3)) ⊎ Rests (says here.3 (entry.Cut its.step its.call))) → Comes s later q here.3.out new.out (Leaves new.held)
+      by_cut on None is later q fin its_stop ends_so = absurd ends_so
+      by_cut on (Some its) is later q fin its_stop (inl wants) =
+          comes_none s later q here.3.out new.out (Leaves new.held) (ap (λ (x : World). x.out) wants.1) (rw wants.1 (stopped_run l life Cut here.3.held later q its_stop))
+      by_cut on (Some its) is later q fin its_stop (inr more) =
+          comes_first s later q here.3.out new.out (Leaves new.held) (entry.Cut its.step its.call) (tt, tt)
+          (on (later × IsKnownAt s q (entry.Cut its.step its.call)) (read s q (entry.Cut its.step its.call)) (says here.3 (entry.Cut its.step its.call)) (between_then l life are.0 its is here.3.held later q its_stop)
+          (rests_then l life are.0 its is here.3.held later q its_stop) (logs_then l life are.0 its is here.3.held later q its_stop)
+          (λ rest out. fin (entry.Cut its.step its.call ∷ rest) (out ∙ append_assoc here.3.out (entry.Cut its.step its.call ∷ []) rest)) more)
 
-      by_how : On → (how : Result (Unit {0}) Stop) (q : Progress) → EndSo here.3 new q → LeavesLife l life how here.3.held s q → EndsLife by_worlds life how here.3 result new Rests → Reaches s q here.3.out new.out (LeavesRun new.held s)
-      by_how on (Ok done) q fin leaves ends_so = on q here.3 leaves.0 leaves.1 leaves.2 fin ends_so
-      by_how on (Err Cut) q fin leaves ends_so = by_cut on life.cut refl q fin leaves ends_so
-      by_how on (Err (FaultOf fault)) q fin leaves ends_so =
-          reaches_none s q here.3.out new.out (LeavesRun new.held s) (ap (λ (x : World). x.out) ends_so.1) (rw ends_so.1 (stopped_run l life (FaultOf fault) here.3.held q leaves))
-      by_how on (Err Failed) q fin leaves ends_so = absurd ends_so
+      by_how : On → (how : Result (Unit {0}) Stop) (later : Type 0) (q : Progress) → EndSo here.3 new q → LeavesLife l life how here.3.held s later q → EndsLife by_worlds life how here.3 result new Rests
+          → Comes s later q here.3.out new.out (Leaves new.held)
+      by_how on (Ok done) later q fin leaves ends_so = on later q here.3 leaves.0 leaves.1 leaves.2 fin ends_so
+      by_how on (Err Cut) later q fin leaves ends_so = by_cut on life.cut refl later q fin leaves ends_so
+      by_how on (Err (FaultOf fault)) later q fin leaves ends_so =
+          comes_none s later q here.3.out new.out (Leaves new.held) (ap (λ (x : World). x.out) ends_so.1) (rw ends_so.1 (stopped_run l life (FaultOf fault) here.3.held later q leaves))
+      by_how on (Err Failed) later q fin leaves ends_so = absurd ends_so
 
   -- THE RUN
 
@@ -241,27 +249,30 @@ module _ (s : Setting) (ends : List (Option CutAt)) (reshares : is_oneshot s ≡
       sym (ap (λ (q : Progress). q.cuts) (fold-append (read s) p added (entry.Fault fault ∷ [])))
       ∙ fin (added ++ entry.Fault fault ∷ []) (ap (λ (x : World). x.out) told.2 ∙ ap (λ (xs : List Entry). xs ++ entry.Fault fault ∷ []) out ∙ append_assoc w.out added (entry.Fault fault ∷ []))
 
-  pub run_kept : (first : Files → Type 0) (w : World) (answered : Result (Unit {0}) Fault) (new : World) (p : Progress) → AreLives s 0 s.script.lives → IsBetween 0 s p → RestsIn w.held s p
-      → LogsAre s (begun_before s p.cuts (length p.cuts)) w.held → EndSo w new p → RunsSo by_worlds s.script first w answered new → Reaches s p w.out new.out (LeavesRun new.held s)
-  run_kept first w answered new p are between rests logs fin run = by_lives run.lives
+  pub run_kept : (first : Files → Type 0) (marks : Type 0) (w : World) (answered : Result (Unit {0}) Fault) (new : World) (p : Progress) → AreLives s 0 s.script.lives → IsBetween 0 s p → RestsIn w.held s p
+      → (marks → LogsKnown s (begun_before s p.cuts (length p.cuts)) p.recorded (logs_in (notes w.held))) → EndSo w new p → RunsSo by_worlds s.script first w answered new → Comes s marks p w.out new.out (Leaves new.held)
+  run_kept first marks w answered new p are between rests logs fin run = by_lives run.lives
     where
       mid_fin : EndSo w run.mid p
       mid_fin = run_mid run.result answered w run.mid new p run.told fin
 
-      lives : Reaches s p w.out run.mid.out (LeavesRun run.mid.held s) → Reaches s p w.out new.out (LeavesRun new.held s)
-      lives a = reaches_on s p w.out run.mid.out new.out (LeavesRun run.mid.held s) (LeavesRun new.held s) a (λ added out leaves. by_end run.result run.told (fold (read s) p added) leaves)
+      lives : Comes s marks p w.out run.mid.out (Leaves run.mid.held) → Comes s marks p w.out new.out (Leaves new.held)
+      lives a = comes_then s marks p w.out run.mid.out new.out (Leaves run.mid.held) (Leaves new.held) a
+          (λ added out leaves. by_end run.result run.told (marks_after s marks p added) (fold (read s) p added) leaves)
         where
-          by_end : (result : Result (Unit {0}) Fault) → TellsEnd by_worlds result answered run.mid new → (q : Progress) → LeavesRun run.mid.held s q → Reaches s q run.mid.out new.out (LeavesRun new.held s)
-          by_end (Ok done) told q leaves = reaches_none s q run.mid.out new.out (LeavesRun new.held s) (ap (λ (x : World). x.out) told.1) (rw told.1 leaves)
-          by_end (Err fault) (inl wants) q leaves = reaches_none s q run.mid.out new.out (LeavesRun new.held s) (ap (λ (x : World). x.out) wants.1) (rw wants.1 leaves)
-          by_end (Err fault) (inr told) q leaves = reaches_one s q run.mid.out new.out (LeavesRun new.held s) (entry.Fault fault) (ap (λ (x : World). x.out) told.2) (tt, tt) (rw told.2 leaves)
+          by_end : (result : Result (Unit {0}) Fault) → TellsEnd by_worlds result answered run.mid new → (later : Type 0) (q : Progress) → LeavesRun run.mid.held s q → Comes s later q run.mid.out new.out (Leaves new.held)
+          by_end (Ok done) told later q leaves = comes_none s later q run.mid.out new.out (Leaves new.held) (ap (λ (x : World). x.out) told.1) (rw told.1 leaves)
+          by_end (Err fault) (inl wants) later q leaves = comes_none s later q run.mid.out new.out (Leaves new.held) (ap (λ (x : World). x.out) wants.1) (rw wants.1 leaves)
+          by_end (Err fault) (inr told) later q leaves =
+              comes_first s later q run.mid.out new.out (Leaves new.held) (entry.Fault fault) (tt, tt)
+              (comes_none s (later × IsKnownAt s q (entry.Fault fault)) (read s q (entry.Fault fault)) (run.mid.out ++ entry.Fault fault ∷ []) new.out (Leaves new.held) (ap (λ (x : World). x.out) told.2) (rw told.2 leaves))
 
       -- no life began
-      untouched : run.mid ≡ w → Reaches s p w.out new.out (LeavesRun new.held s)
-      untouched same = lives (reaches_none s p w.out run.mid.out (LeavesRun run.mid.held s) (ap (λ (x : World). x.out) same)
+      untouched : run.mid ≡ w → Comes s marks p w.out new.out (Leaves new.held)
+      untouched same = lives (comes_none s marks p w.out run.mid.out (Leaves run.mid.held) (ap (λ (x : World). x.out) same)
           (rw same (rests.whole, current_later (begun_before s p.cuts (length p.cuts)) (begun s p.cuts (length p.cuts) p.step) (Gives (recovered_in w.held)) (least p.cuts (length p.cuts) p.step) p.recorded rests.may.given)))
 
-      by_lives : RunsAllSo by_worlds s.script first w run.result run.mid → Reaches s p w.out new.out (LeavesRun new.held s)
+      by_lives : RunsAllSo by_worlds s.script first w run.result run.mid → Comes s marks p w.out new.out (Leaves new.held)
       by_lives (inl (fault, refused, is, same)) = untouched same
       by_lives (inr (checked, inl wants)) = untouched wants.1
-      by_lives (inr (checked, inr more)) = lives (from_kept s.script.lives first 0 w run.result run.mid p are between rests logs mid_fin more)
+      by_lives (inr (checked, inr more)) = lives (from_kept s.script.lives first 0 marks w run.result run.mid p are between rests logs mid_fin more)

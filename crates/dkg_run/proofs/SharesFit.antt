@@ -4,7 +4,6 @@ use Rattle.std.specs.Prelude.{◌+◌, ◌-◌, IfSome, Ok, Err, Result, if◌th
 use Rattle.std.specs.FinMap as maps
 use Rattle.std.specs.FinMap.{get, nat_cmp-IsAntisymmetric}
 use Rattle.std.specs.Cmp.{nat_cmp_total}
-use Rattle.std.specs.Str.{bytes_eq}
 use Rattle.std.proofs.lemmas.Bool.{eqb-true}
 use Rattle.dkg_values.specs.Rising.{lookup}
 use Rattle.dkg_ceremony.specs.Schedule.{boundary, epoch_of, midpoint}
@@ -19,7 +18,7 @@ use Rattle.dkg_types.specs.Blocks.{Block}
 use Rattle.dkg_types.specs.Validation.{validation}
 use Rattle.dkg_types.specs.declared.entry.Entry.{Entry as Line}
 use Rattle.dkg_types.specs.declared.fault.Fault.{Fault}
-use Rattle.dkg_types.specs.declared.fault.Fault.TheVariants.{ConflictingBlock, DetachedBlock, HeightRange, MissingEpochInfo, OutOfWindow, SkippedHeight, WrongEpoch}
+use Rattle.dkg_types.specs.declared.fault.Fault.TheVariants.{HeightRange, MissingEpochInfo, WrongEpoch}
 use Rattle.dkg_types.specs.declared.info.EpochInfo.{EpochInfo}
 use Rattle.dkg_types.specs.declared.participants.ParticipantsError.{ParticipantsError}
 use Rattle.dkg_store.specs.Acts.{Changes, Ended, Held, OnDisk, World, does, says}
@@ -30,16 +29,19 @@ use Rattle.dkg_core.specs.Core.{opening, step}
 use Rattle.dkg_core.specs.Courses.{Course, EndsSo, Goes, Stops, Throughout, bind, on_devices}
 use Rattle.dkg_core.specs.Dealing as d
 use Rattle.dkg_core.specs.Fixed.{Fixed}
-use Rattle.dkg_core.specs.Forms.{Applied, IsForm, IsLiveIn, IsTakenIn, Judged, Passed, Refusal, judged_block, judged_over}
+use Rattle.dkg_core.specs.Asked.{OfShares, Reads}
+use Rattle.dkg_core.specs.Forms.{IsForm}
+use Rattle.dkg_core.specs.SharesMoved.{IsSuchShare}
+use Rattle.dkg_core.specs.Through.{IsFormThrough, IsLiveThrough}
 use Rattle.dkg_core.specs.Including as i
 use Rattle.dkg_core.specs.Live.{Deals, Ends, Finalized, Follows, Includes, Live, NodeStop, Peer, Sent, Stage, awaited_height, is_last_height, with_tip}
 use Rattle.dkg_core.specs.Node.{node_opening, node_step}
 use Rattle.dkg_core.specs.Setup as s
-use Rattle.dkg_core.specs.Sources.{Tip}
 use Rattle.dkg_core.specs.Endings.{first_epoch}
 use Rattle.dkg_core.proofs.Behind.{openings_run_behind, steps_run_behind}
 use Rattle.dkg_core.proofs.Running.{along_as}
-use Rattle.dkg_core.proofs.Stepping.{not_included}
+use Rattle.dkg_core.proofs.Applied.{judged_is}
+use Rattle.dkg_core.proofs.MovingShares.{blocks_put_shares}
 use Rattle.dkg_core.proofs.Upkeep.{along_if, along_option}
 use Rattle.dkg_core.proofs.Walking as walk
 use Rattle.dkg_run.proofs.OpeningsLeave.{opening_walks}
@@ -50,6 +52,15 @@ none_some e = cc
 
 some_is : {A : Type 0} {x y : A} → ◌≡◌ {A = Option A} (Some x) (Some y) → x ≡ y
 some_is e = cc
+
+deals_apart : ◌≡◌ {A = Stage} Deals Includes → ⊥
+deals_apart e = cc
+
+follows_apart : ◌≡◌ {A = Stage} Follows Includes → ⊥
+follows_apart e = cc
+
+ends_apart : ◌≡◌ {A = Stage} Ends Includes → ⊥
+ends_apart e = cc
 
 -- Each share that these devices hold is such a one of its epoch.
 abbrev pub HoldsSuch : (Such : (epoch share : ℕ) → Type 0) → Held → Type 0
@@ -226,53 +237,39 @@ module _ (Such : (epoch share : ℕ) → Type 0) where
           (λ st w q. along_if A w (block.height + 1 == midpoint c.blocks_per_epoch st.participation.epoch) (i.advanced c (s.begins_inclusion c (with_tip block st))) (Goes (with_tip block st))
           (λ e. walk.advanced c A tell (s.begins_inclusion c (with_tip block st)) w q) (λ e. q))
 
-      module _ (form : IsForm c) (st : Live Dir) (live : IsLiveIn c st) (taken : IsTakenIn c (Finalized block) st) (w : World) (q : A w) where
-        applies_in : judged_block c block st ≡ Applied → (stage : Stage) → st.participation.stage ≡ stage → Throughout A (b.applies_in c block st stage) w
-        applies_in judged Deals at = deals_at st w q
-        applies_in judged Follows at = follows_at st w q
-        applies_in judged Includes at = absurd (not_included c form st live None block taken judged at)
-        applies_in judged Ends at = q
+      module _ (st : Live Dir) (apart : st.participation.stage ≡ Includes → ⊥) (w : World) (q : A w) where
+        applies_in : (stage : Stage) → st.participation.stage ≡ stage → Throughout A (b.applies_in c block st stage) w
+        applies_in Deals at = deals_at st w q
+        applies_in Follows at = follows_at st w q
+        applies_in Includes at = absurd (apart at)
+        applies_in Ends at = q
 
-        applies : judged_block c block st ≡ Applied → Throughout A (b.applies c block st) w
-        applies judged = applies_in judged st.participation.stage refl
+        delivered : Throughout A (step c (Finalized block) st) w
+        delivered =
+            judged_is c block st (λ course. Throughout A course w) (λ t x y one other. along_if A w t x y one other) (λ fault is. q) (λ is. q) (λ is. applies_in st.participation.stage refl) (λ is. q)
 
-        over_tip : (tip : Option Tip) → judged_block c block st ≡ judged_over c block st tip → Throughout A (b.over_tip_in c block st tip) w
-        over_tip None r =
-            along_if A w (b.is_in_window c block st) (b.applies c block st) (Stops (OutOfWindow block.height))
-            (λ e. applies (r ∙ ap (λ (t : Bool). if t then Applied else Refusal (OutOfWindow block.height)) e)) (λ e. q)
-        over_tip (Some t) r =
-            let conflicts = (block.height == t.height) && not (bytes_eq block.digest t.digest) in
-            let skips = nat_lt (t.height + 1) block.height in
-            let detached = (block.height == t.height + 1) && not (bytes_eq block.parent t.digest) in
-            let low = nat_le block.height t.height in
-            let third : Judged = if low then Passed else Applied in
-            let second : Judged = if detached then Refusal (DetachedBlock block.height) else third in
-            let first : Judged = if skips then Refusal (SkippedHeight (t.height + 1) block.height) else second in
-            let low_one : Course Dir Fault (Live Dir) = if low then Goes st else b.applies c block st in
-            let child : Course Dir Fault (Live Dir) = if detached then Stops (DetachedBlock block.height) else low_one in
-            let next : Course Dir Fault (Live Dir) = if skips then Stops (SkippedHeight (t.height + 1) block.height) else child in
-            along_if A w conflicts (Stops (ConflictingBlock block.height)) next (λ e. q)
-            (λ e. along_if A w skips (Stops (SkippedHeight (t.height + 1) block.height)) child (λ e1. q)
-            (λ e1. along_if A w detached (Stops (DetachedBlock block.height)) low_one (λ e2. q)
-            (λ e2. along_if A w low (Goes st) (b.applies c block st) (λ e3. q)
-            (λ e3. applies (r ∙ ap (λ (x : Bool). if x then Refusal (ConflictingBlock block.height) else first) e ∙ ap (λ (x : Bool). if x then Refusal (SkippedHeight (t.height + 1) block.height) else second) e1
-            ∙ ap (λ (x : Bool). if x then Refusal (DetachedBlock block.height) else third) e2 ∙ ap (λ (x : Bool). if x then Passed else Applied) e3)))))
-
-        in_reach : Throughout {Dir = Dir} A (if s.is_past_range c block.height then Stops HeightRange else b.over_tip c block st) w
-        in_reach =
-            along_if A w (s.is_past_range c block.height) (Stops HeightRange) (b.over_tip c block st) (λ e. q)
-            (λ e. over_tip st.tip (ap (λ (x : Bool). if x then Refusal HeightRange else judged_over c block st st.tip) e))
-
-        delivered : (stage : Stage) → Throughout A (b.delivers_in c block st stage) w
-        delivered Deals = in_reach
-        delivered Includes = in_reach
-        delivered Follows = in_reach
-        delivered Ends = q
-
+      -- A block of a life that includes puts the artifact's share alone.
+      module _ (stored : OfShares) (form : IsFormThrough c) (st : Live Dir) (live : IsLiveThrough c stored st)
+          (such : (epoch share : ℕ) → IsSuchShare c stored block st epoch share → Such epoch share) (w : World) (reads : Reads c stored (Some w.held)) (q : A w) where
         pub block_such : (ended : Ended NodeStop (Live Dir)) (new : World) → EndsSo (node_step c (event_of (Finalized block)) st) ended w new → A new
-        block_such ended new run =
-            let its : RunsBehind (step c (Finalized block) st) ended w new = steps_run_behind c st (Finalized block) ended w new run in
-            subst (HoldsSuch Such) (sym its.held) (along_runs A (on_devices (step c (Finalized block) st)) its.half w its.mid (delivered st.participation.stage) its.run)
+        block_such ended new run = by_stage st.participation.stage refl
+          where
+            walked : (st.participation.stage ≡ Includes → ⊥) → A new
+            walked apart =
+                let its : RunsBehind (step c (Finalized block) st) ended w new = steps_run_behind c st (Finalized block) ended w new run in
+                subst (HoldsSuch Such) (sym its.held) (along_runs A (on_devices (step c (Finalized block) st)) its.half w its.mid (delivered st apart w q) its.run)
+
+            put_at : st.participation.stage ≡ Includes → A new
+            put_at at epoch share got = elim (blocks_put_shares c stored block st ended w new form reads live at run epoch share got) [
+              | inl was ↦ q epoch share was
+              | inr is ↦ such epoch share is
+            ]
+
+            by_stage : (stage : Stage) → st.participation.stage ≡ stage → A new
+            by_stage Includes at = put_at at
+            by_stage Deals at = walked (λ is. deals_apart (sym at ∙ is))
+            by_stage Follows at = walked (λ is. follows_apart (sym at ∙ is))
+            by_stage Ends at = walked (λ is. ends_apart (sym at ∙ is))
 
     -- A MESSAGE
     pub message_such : (from : ℕ) (bytes : List ℕ) (st : Live Dir) (ended : Ended NodeStop (Live Dir)) (w new : World) → A w → EndsSo (node_step c (event_of (Sent (Peer from bytes))) st) ended w new → A new

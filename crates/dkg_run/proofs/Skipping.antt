@@ -2,6 +2,7 @@
 use Rattle.std.proofs.Common.{◌≡◌, ◌⊎◌, inl, inr, ℕ, zero, suc, ◌<◌, ◌++◌, List, [], ◌∷◌, Option, Some, None, Result, Ok, Err, arith, refl, sym, ◌∙◌, ap, subst, append_assoc}
 use Rattle.std.specs.Prelude.{IfErr, IfSome, IsSomeAnd, fold, length, slice_get, true}
 use Rattle.std.proofs.lemmas.List.{append_cancel_left}
+use Rattle.dkg_ceremony.specs.Schedule.{epoch_of}
 use Rattle.dkg_journal.specs.Names.{Files}
 use Rattle.dkg_secrets.specs.Secrets.{Secrets}
 use Rattle.dkg_types.specs.BlockCodes.{info_of}
@@ -19,14 +20,16 @@ use Rattle.dkg_text.specs.declared.script.Life.{Life}
 use Rattle.dkg_text.specs.declared.script.Script.{Script}
 use Rattle.dkg_script.specs.AsCut.{as_cut, setting_as_cut}
 use Rattle.dkg_script.specs.Consistent.{IsConsistentScript}
-use Rattle.dkg_script.specs.Epochs.{IsFormOfEpochs}
+use Rattle.dkg_script.specs.Epochs.{alone}
+use Rattle.dkg_script.specs.Inclusion.{IsFormOfInclusion}
+use Rattle.dkg_script.specs.Position.{awaited_epoch}
 use Rattle.dkg_script.specs.Order.{Begins, InLife, IsInOrder}
 use Rattle.dkg_script.specs.Progress.{Progress, at_start, progress, read}
 use Rattle.dkg_script.specs.Promise.{cuts_in}
 use Rattle.dkg_script.specs.Setting.{CutAt, Setting, found, life_at, setting_of}
 use Rattle.dkg_script.proofs.EachEntry.{progress-more}
-use Rattle.dkg_script.proofs.EpochsAsCut.{epochs_as_cut}
-use Rattle.dkg_run.specs.Blamed.{IsBlockCause, IsBlockOwn, IsFromOutside, IsNextCause, IsOpeningCause, IsOwnCause, IsOwnDealing, IsWhy, IsWhyNow, OnBlock, OnCarried, first_epoch_in, is_beyond, next_epoch, opening_block, refusal_in}
+use Rattle.dkg_script.proofs.InclusionAsCut.{inclusion_as_cut}
+use Rattle.dkg_run.specs.Blamed.{IsAskedOwn, IsBlockCause, IsBlockOwn, IsFromOutside, IsLastCause, IsLastOwn, IsNextCause, IsOpeningCause, IsOwnCause, IsOwnDealing, IsProviderCause, IsWhy, IsWhyNow, OnBlock, OnCarried, first_epoch_in, is_beyond, next_epoch, opening_block, per_epoch, refusal_in}
 use Rattle.dkg_run.specs.Epochs.{IsAnchorAbove, IsChecked}
 use Rattle.dkg_run.specs.Given.{AreBytes, blocks_in}
 use Rattle.dkg_run.specs.Lives.{AnyFiles, RunsSo, TellsEnd}
@@ -81,6 +84,31 @@ next_apart script b (fault.SkippedHeight awaited got) refusal why = carried_none
 next_apart script b (fault.OutOfWindow height) refusal why = carried_none (λ info. ⊥) (λ info none. none) (Some b) why
 next_apart script b its refusal why = refusal
 
+-- .. nor what the provider says
+
+provider_apart : (script : Script) (epoch : ℕ) (its : Fault) → IsRefusal its → IsProviderCause script epoch its → ⊥
+provider_apart script epoch (fault.ConflictingBlock height) refusal why = why
+provider_apart script epoch (fault.DetachedBlock height) refusal why = why
+provider_apart script epoch (fault.SkippedHeight awaited got) refusal why = why
+provider_apart script epoch (fault.OutOfWindow height) refusal why = why
+provider_apart script epoch its refusal why = refusal
+
+asked_apart : (script : Script) (epoch : ℕ) (its : Fault) → IsRefusal its → IsAskedOwn script epoch its → ⊥
+asked_apart script epoch (fault.ConflictingBlock height) refusal why = why
+asked_apart script epoch (fault.DetachedBlock height) refusal why = why
+asked_apart script epoch (fault.SkippedHeight awaited got) refusal why = why
+asked_apart script epoch (fault.OutOfWindow height) refusal why = why
+asked_apart script epoch its refusal why = refusal
+
+last_apart : (script : Script) (l : ℕ) (life : Life) (j : ℕ) (b : Block directory.Unit) (its : Fault) → IsRefusal its → IsLastCause script l life j b its → ⊥
+last_apart script l life j b its refusal (inl provider) = provider_apart script (epoch_of (per_epoch script) b.height) its refusal provider.1
+last_apart script l life j b its refusal (inr next) = next_apart script b its refusal next
+
+last_own_apart : (script : Script) (l : ℕ) (life : Life) (j : ℕ) (b : Block directory.Unit) (its : Fault) → IsRefusal its → IsLastOwn script l life j b its → ⊥
+last_own_apart script l life j b its refusal (inl next) =
+    carried_none (λ info. IsOwnCause script (next_epoch script b) info its) (λ info why. own_apart script (next_epoch script b) info its refusal why) (Some b) next
+last_own_apart script l life j b its refusal (inr asked) = asked_apart script (epoch_of (per_epoch script) b.height) its refusal asked.1
+
 opening_apart : (script : Script) (l : ℕ) (life : Life) (its : Fault) → IsRefusal its → IsOpeningCause script l life its → ⊥
 opening_apart script l life (fault.ConflictingBlock height) refusal why = carried_none (λ info. ⊥) (λ info none. none) (opening_block script l life) why
 opening_apart script l life (fault.DetachedBlock height) refusal why = carried_none (λ info. ⊥) (λ info none. none) (opening_block script l life) why
@@ -113,18 +141,22 @@ module _ (script : Script) (l : ℕ) (life : Life) (its : Fault) (refusal : IsRe
 
   block_refuses : (j : ℕ) (b : Block directory.Unit) → IsBlockCause script l life j b its → refusal_in script l life j b ≡ Some its
   block_refuses j b (inl refused) = refused
-  block_refuses j b (inr next) = absurd (next_apart script b its refusal next.1)
+  block_refuses j b (inr last) = absurd (last_apart script l life j b its refusal last.1)
 
   own_none : (j : ℕ) (b : Block directory.Unit) → IsBlockOwn script l life j b its → ⊥
-  own_none j b (inl next) = carried_none (λ info. IsOwnCause script (next_epoch script b) info its) (λ info why. own_apart script (next_epoch script b) info its refusal why) (Some b) next.1
+  own_none j b (inl last) = last_own_apart script l life j b its refusal last.1
   own_none j b (inr dealing) = dealing_apart script l life j its refusal dealing.1
 
   refuses : (step : ℕ) → IsWhy script l life step its → Refuses script l life step its
   refuses step (inl out) = absurd (outside_apart its refusal out)
-  refuses zero (inr (inl why)) = absurd (opening_apart script l life its refusal why)
-  refuses zero (inr (inr own)) = absurd (carried_none (λ info. IsOwnCause script (first_epoch_in script l life) info its) (λ info why. own_apart script (first_epoch_in script l life) info its refusal why) (opening_block script l life) own)
-  refuses (suc j) (inr (inl why)) = by_event j (λ b. IsBlockCause script l life j b its) (block_refuses j) (slice_get life.events j) refl why
-  refuses (suc j) (inr (inr own)) = by_event j (λ b. IsBlockOwn script l life j b its) (λ b why. absurd (own_none j b why)) (slice_get life.events j) refl own
+  refuses zero (inr (inl (inl why))) = absurd (opening_apart script l life its refusal why)
+  refuses zero (inr (inl (inr may))) = absurd may
+  refuses zero (inr (inr (inl own))) = absurd (carried_none (λ info. IsOwnCause script (first_epoch_in script l life) info its) (λ info why. own_apart script (first_epoch_in script l life) info its refusal why) (opening_block script l life) own)
+  refuses zero (inr (inr (inr asked))) = absurd asked
+  refuses (suc j) (inr (inl (inl why))) = by_event j (λ b. IsBlockCause script l life j b its) (block_refuses j) (slice_get life.events j) refl why
+  refuses (suc j) (inr (inl (inr may))) = absurd (provider_apart script (awaited_epoch (alone script) l life j) its refusal may.1)
+  refuses (suc j) (inr (inr (inl own))) = by_event j (λ b. IsBlockOwn script l life j b its) (λ b why. absurd (own_none j b why)) (slice_get life.events j) refl own
+  refuses (suc j) (inr (inr (inr asked))) = absurd (asked_apart script (awaited_epoch (alone script) l life j) its refusal asked.1)
 
 -- OF A CONSISTENT SCRIPT
 
@@ -139,7 +171,7 @@ reached_before : (its : Option Cut) (j : ℕ) → IsReached its (suc j) → IsRe
 reached_before None j reached = tt
 reached_before (Some cut) j reached = λ none. let more : suc j < cut.step = reached none in omega (arith, more)
 
-module _ (s : Setting) (ends : List (Option CutAt)) (form : IsFormOfEpochs s.script) (bytes : AreBytes s.script.blocks) (no_plans : s.plans ≡ []) (consistent : IsConsistentScript s ends) where
+module _ (s : Setting) (ends : List (Option CutAt)) (form : IsFormOfInclusion s.script) (bytes : AreBytes s.script.blocks) (no_plans : s.plans ≡ []) (consistent : IsConsistentScript s ends) where
   life_skips : (l : ℕ) (life : Life) → life_at s l ≡ Some life → (step : ℕ) → IsReached life.cut step → (its : Fault) → IsRefusal its → Refuses s.script l life step its → SkipsIn s l life its
   life_skips l life life_is step comes its refusal refuses = record {
     taken = refuses.j;
@@ -180,7 +212,7 @@ cuts_before s es its = ap (λ (q : Progress). q.cuts) (progress-more s es (entry
 
 -- IN A RUN of a script as it was cut
 
-module _ (script : Script) (form : IsFormOfEpochs script) (checked : IsChecked script) (bytes : AreBytes script.blocks) (files : Files) (image : Files → Type 0) (held : Secrets) (answered : Result (Unit {0}) Fault) (old new added : List Entry)
+module _ (script : Script) (form : IsFormOfInclusion script) (checked : IsChecked script) (bytes : AreBytes script.blocks) (files : Files) (image : Files → Type 0) (held : Secrets) (answered : Result (Unit {0}) Fault) (old new added : List Entry)
     (is : new ≡ old ++ added) (picks : List ℕ) where
   abbrev cut_script : Script
   cut_script = as_cut (progress (setting_of script files held) added).cuts script
@@ -188,8 +220,8 @@ module _ (script : Script) (form : IsFormOfEpochs script) (checked : IsChecked s
   abbrev s : Setting
   s = setting_as_cut script files held added
 
-  cut_form : IsFormOfEpochs cut_script
-  cut_form = epochs_as_cut (progress (setting_of script files held) added).cuts script form
+  cut_form : IsFormOfInclusion cut_script
+  cut_form = inclusion_as_cut (progress (setting_of script files held) added).cuts script form
 
   -- THE CLAUSE of skips
   pub run_skips : RunsSo by_lines cut_script AnyFiles (trace old []) answered (trace new picks) → IfErr answered (BlamesOnlySkips s image (cuts_in s added))

@@ -19,7 +19,7 @@ use Rattle.dkg_store.specs.declared.devices.Devices.{Devices}
 use Rattle.dkg_secrets.specs.declared.secrets.SecretOp.{SecretOp}
 use Rattle.dkg_text.specs.declared.script.Life.{Life}
 use Rattle.dkg_text.specs.declared.script.Script.{Script}
-use Rattle.dkg_script.specs.Epochs.{IsFormOfEpochs}
+use Rattle.dkg_script.specs.Inclusion.{IsFormOfInclusion}
 use Rattle.dkg_core.specs.Live.{Live}
 use Rattle.dkg_core.specs.Node.{node_opening}
 use Rattle.dkg_core.specs.Seen.{Seen}
@@ -109,7 +109,7 @@ module _ (script : Script) (number : ℕ) (life : Life) (files : Files) (out : L
         )
 
         -- .. or was told, and the steps of the life came then
-        module _ (form : IsFormOfEpochs script) (checked : IsChecked script) (life_is : slice_get script.lives number ≡ Some life)
+        module _ (form : IsFormOfInclusion script) (checked : IsChecked script) (life_is : slice_get script.lives number ≡ Some life)
             (of : (g : Lived) → g.script ≡ script → g.life ≡ life → IsUnplanned g.seen → IsOfLife g node) (blocks : List (Block directory.Unit)) (same : blocks ≡ blocks_in script)
           where
             over_it : IsLifeInForm its
@@ -145,7 +145,7 @@ lines_over files old begun same script number life out how now = subst (λ d. Li
 
 -- THE LIFE that is opened
 
-pub to_open : (script : Script) (number : ℕ) (life : Life) (source : HeldBlocks) → IsFormOfEpochs script → IsChecked script → slice_get script.lives number ≡ Some life → source.blocks.now ≡ blocks_in script
+pub to_open : (script : Script) (number : ℕ) (life : Life) (source : HeldBlocks) → IsFormOfInclusion script → IsChecked script → slice_get script.lives number ≡ Some life → source.blocks.now ≡ blocks_in script
     → source.anchor ≡ life.anchor → source.numbers.items ≡ life.held ++ anchor_numbers life.anchor → IsToOpen script number life source
 to_open script number life source form checked here blocks anchor numbers = record {
   form = form;

@@ -9,7 +9,8 @@ use Rattle.dkg_types.specs.declared.entry.Entry.{Entry as Line}
 use Rattle.dkg_text.specs.declared.script.Event.{Event}
 use Rattle.dkg_text.specs.declared.script.Event.TheVariants as event
 use Rattle.dkg_text.specs.declared.script.Life.{Life}
-use Rattle.dkg_script.specs.Epochs.{IsEventIn, alone}
+use Rattle.dkg_script.specs.Epochs.{alone}
+use Rattle.dkg_script.specs.Inclusion.{IsEventIn}
 use Rattle.dkg_script.specs.Setting.{blocks_per_epoch}
 use Rattle.dkg_store.specs.Acts.{went}
 use Rattle.dkg_core.specs.Live.{Deals, Follows, Includes, Live, NodeStop, awaited_height}

@@ -2,33 +2,33 @@
 use Rattle.std.proofs.Common.{◌≡◌, ◌⊎◌, inl, inr, ℕ, suc, ◌+◌, ◌-◌, ◌*◌, ◌<◌, ◌≤◌, ◌==◌, ◌&&◌, ◌||◌, Option, Some, None, Bool, true, false, arith, refl, sym, ap, subst, ◌∙◌}
 use Rattle.std.specs.Prelude.{max, nat_lt, not, is_some, slice_get, IsSomeAnd}
 use Rattle.std.proofs.lemmas.Bool.Decides.{nat_tests}
-use Rattle.dkg_ceremony.specs.Schedule.{epoch_of, last, midpoint}
+use Rattle.dkg_ceremony.specs.Schedule.{epoch_of, last}
 use Rattle.dkg_types.specs.Blocks as made
 use Rattle.dkg_types.specs.BlockCodes.{info_of}
 use Rattle.dkg_types.specs.declared.directory.Unit as directory
 use Rattle.dkg_types.specs.declared.info.EpochInfo.{EpochInfo}
 use Rattle.dkg_text.specs.declared.script.Event.{Event}
 use Rattle.dkg_text.specs.declared.script.Event.TheVariants.{Final}
-use Rattle.dkg_text.specs.declared.script.Event.TheVariants as event
 use Rattle.dkg_script.specs.Epochs.{alone}
 use Rattle.dkg_script.specs.Position.{awaited_epoch, enters_at, follows, lacks_boundary, starts_blind, starts_late}
 use Rattle.dkg_script.specs.Setting.{Setting, blocks_per_epoch, is_oneshot}
 use Rattle.dkg_store.specs.Acts.{Held}
-use Rattle.dkg_core.specs.Forms.{IsLiveIn, IsNodeBegun, IsSeated, IsSetUpIn, IsTakenIn, Judged, Refusal, Passed, Applied, judged_block, share_read, seed_read, started}
+use Rattle.dkg_core.specs.Forms.{IsNodeBegun, IsSeated, IsSetUpIn, Judged, Refusal, Passed, Applied, judged_block, share_read, seed_read, started}
 use Rattle.dkg_core.specs.Live as core
-use Rattle.dkg_core.specs.Live.{Finalized, Follows, Live, Message, Peer, Sent, is_last_height}
+use Rattle.dkg_core.specs.Live.{Finalized, Follows, Live, Message, Sent, is_last_height, with_orchestrator}
 use Rattle.dkg_core.specs.Seen.{Seen}
 use Rattle.dkg_core.specs.Setup.{Uncommitted}
 use Rattle.dkg_core.specs.Sources.{Tip, startup}
-use Rattle.dkg_core.specs.Stepping.{IsBlockEnd, IsNextIn, IsStepEnd, TakesNothingOver}
+use Rattle.dkg_core.specs.NodeThrough.{IsNodeThrough}
+use Rattle.dkg_core.specs.Through.{IsBlockThrough, IsEndThrough, IsLiveThrough, IsNextThrough, PassesNothingOn}
 use Rattle.dkg_core.specs.Endings.{first_block, tip_behind}
 use Rattle.dkg_core.proofs.Heights.{epoch_from, epoch_is, epoch_to, next_last}
-use Rattle.dkg_run.specs.Epochs.{IsEarlyBlock, IsLifeInForm, StandsInScript, awaited_by, epoch_by}
+use Rattle.dkg_run.specs.Epochs.{IsLifeInForm, StandsInScript, any_shares, awaited_by, epoch_by}
 use Rattle.dkg_run.specs.Given.{Lived, at_step}
-use Rattle.dkg_run.proofs.Awaiting.{HasHeight, IsReached, awaited, block_awaits, block_behind, has_height, message_behind}
+use Rattle.dkg_run.proofs.Awaiting.{HasHeight, IsReached, awaited, block_awaits, block_behind, event_behind, has_height}
 use Rattle.dkg_run.proofs.Delivered.{enters_here, enters_not, epochs_rise, first_not, starts}
-use Rattle.dkg_run.proofs.Former.{Brings, IsMadeOf, IsMessage, life_in}
-use Rattle.dkg_run.proofs.NextLives.{GoesOn, TakesOver, applied_high, applied_so, applied_tip, next_so, next_tip, parts_behind, taken_so, with_round}
+use Rattle.dkg_run.proofs.Former.{BringsBlock, BringsMail, IsMadeOf, IsMessage, brings_so, form_at, life_in}
+use Rattle.dkg_run.proofs.NextLives.{GoesOn, TakesOver, applied_high, applied_so, applied_tip, next_so, next_tip, parts_behind, with_round}
 use Rattle.dkg_run.proofs.Started.{awaits_at_first, blind_is, first_block_is, first_epoch_is, not_late}
 
 -- OVER NUMBERS
@@ -191,7 +191,7 @@ module _ (g : Lived) (here : IsLifeInForm g) where
 
   -- A STEP
 
-  module _ (i : ℕ) (its : Event) (is : slice_get g.life.events i ≡ Some its) (reached : IsReached g.life.cut (suc i)) (m : IsMessage g its) (st : Live directory.Unit) (live : IsLiveIn (at_step g (suc i)) st) (stands : StandsInScript g i st) where
+  module _ (i : ℕ) (its : Event) (is : slice_get g.life.events i ≡ Some its) (reached : IsReached g.life.cut (suc i)) (m : IsMessage g its) (st : Live directory.Unit) (live : IsLiveThrough (at_step g (suc i)) any_shares st) (stands : StandsInScript g i st) where
     stage_epoch : epoch_of (at_step g (suc i)).blocks_per_epoch (core.awaited_height st) ≡ epoch_by g i
     unfolding at_step
     stage_epoch = ap (epoch_of n) stands.awaits
@@ -201,66 +201,27 @@ module _ (g : Lived) (here : IsLifeInForm g) where
       the_height : HasHeight s number made_it.block
       the_height = has_height s number made_it.block made_it.line made_it.line_is made_it.is
 
-      low : slice_get g.life.events i ≡ Some (Final number) → (st.participation.stage ≡ Follows → ⊥) → epoch_of n made_it.block.height ≡ epoch_by g i → made_it.block.height < midpoint n (epoch_of n made_it.block.height)
-      low at apart same = by_test (nat_lt made_it.block.height (midpoint n (epoch_of n made_it.block.height))) refl
-        where
-          less : (a b : ℕ) → nat_lt a b ≡ true → a < b
-          less a b test = grind (arith, nat_tests)
-
-          more : (a b : ℕ) → nat_lt a b ≡ false → b ≤ a
-          more a b test = grind (arith, nat_tests)
-
-          by_test : (t : Bool) → nat_lt made_it.block.height (midpoint n (epoch_of n made_it.block.height)) ≡ t → made_it.block.height < midpoint n (epoch_of n made_it.block.height)
-          by_test true test = less made_it.block.height (midpoint n (epoch_of n made_it.block.height)) test
-          by_test false test =
-              let late : midpoint n (epoch_of n (the_height.b).height) ≤ (the_height.b).height
-              = subst (λ (h : ℕ). midpoint n (epoch_of n h) ≤ h) the_height.same (more made_it.block.height (midpoint n (epoch_of n made_it.block.height)) test) in
-              let there : epoch_of n (the_height.b).height ≡ epoch_by g i = ap (epoch_of n) (sym the_height.same) ∙ same in
-              let yes : follows s g.number g.life (epoch_of n (the_height.b).height) ≡ true = (life_in g here).takes i number the_height.b at reached the_height.there late there in
-              absurd (bools_apart (follows s g.number g.life (epoch_by g i)) (ap (follows s g.number g.life) (sym there) ∙ yes) (stands.parts apart))
-
-      -- a block of the epoch that is awaited lies below that epoch's midpoint, while the life takes part
-      pub block_early : slice_get g.life.events i ≡ Some (Final number) → IsEarlyBlock n st made_it.block
-      unfolding at_step
-      block_early at apart same = low at apart (same ∙ stage_epoch)
-
-      early : slice_get g.life.events i ≡ Some (Final number) → IsEarlyBlock (at_step g (suc i)).blocks_per_epoch st made_it.block
-      unfolding at_step
-      early at = λ apart same. low at apart (same ∙ stage_epoch)
-
-      block_taken : slice_get g.life.events i ≡ Some (Final number) → IsTakenIn (at_step g (suc i)) (Finalized made_it.block) st
-      block_taken at = taken_so (at_step g (suc i)) made_it.block st live (early at)
-
-    pub step_taken : IsTakenIn (at_step g (suc i)) m.message st
-    step_taken = by_event its is m.message m.brings
-      where
-        by_event : (event : Event) → slice_get g.life.events i ≡ Some event → (message : Message directory.Unit) → Brings g event message → IsTakenIn (at_step g (suc i)) message st
-        by_event (event.Peer from bytes) at message brings = subst (λ (x : Message directory.Unit). IsTakenIn (at_step g (suc i)) x st) (sym brings) tt
-        by_event (event.Final number) at message brings = subst (λ (x : Message directory.Unit). IsTakenIn (at_step g (suc i)) x st) (sym brings.1) (block_taken number brings.0 at)
-        by_event other at message brings = absurd brings
-
     -- WHERE IT STANDS BEHIND IT
-    module _ (h k : Held) (end : Live directory.Unit) (next : IsNextIn (at_step g (suc i)) st m.message h k end) where
+    module _ (devices : Option Held) (end : Live directory.Unit) (left : Option Held) (next : IsNextThrough (at_step g (suc i)) any_shares st m.message devices end left) where
       tip_is : end.tip ≡ tip_behind m.message st.tip
-      tip_is = next_tip (at_step g (suc i)) st m.message h k end next
+      tip_is = next_tip (at_step g (suc i)) st any_shares m.message devices end left next
 
       end_awaits : core.awaited_height end ≡ awaited_by g (suc i)
-      end_awaits = ap awaited tip_is ∙ by_event its is m.message m.brings
+      end_awaits = ap awaited tip_is ∙ by_brought (brings_so g its m.message m.brings)
         where
-          by_event : (event : Event) → slice_get g.life.events i ≡ Some event → (message : Message directory.Unit) → Brings g event message → awaited (tip_behind message st.tip) ≡ awaited_by g (suc i)
-          by_event (event.Peer from bytes) at message brings =
-              ap (λ (x : Message directory.Unit). awaited (tip_behind x st.tip)) brings ∙ stands.awaits ∙ sym (message_behind s g.number g.life i from bytes at reached)
-          by_event (event.Final number) at message brings =
-              ap (λ (x : Message directory.Unit). awaited (tip_behind x st.tip)) brings.1
-              ∙ block_awaits s g.number g.life i number (brings.0).block st.tip (the_height number brings.0) at reached stands.awaits
-          by_event other at message brings = absurd brings
+          by_brought : BringsBlock g its m.message ⊎ BringsMail its m.message → awaited (tip_behind m.message st.tip) ≡ awaited_by g (suc i)
+          by_brought (inr mail) =
+              ap (λ (x : Message directory.Unit). awaited (tip_behind x st.tip)) mail.1 ∙ stands.awaits ∙ sym (event_behind s g.number g.life i its is reached mail.2)
+          by_brought (inl b) =
+              ap (λ (x : Message directory.Unit). awaited (tip_behind x st.tip)) b.3
+              ∙ block_awaits s g.number g.life i b.0 (b.1).block st.tip (the_height b.0 b.1) (is ∙ ap (λ (e : Event). Some e) b.2) reached stands.awaits
 
       end_epoch : epoch_of (at_step g (suc i)).blocks_per_epoch (core.awaited_height end) ≡ epoch_by g (suc i)
       unfolding at_step
       end_epoch = ap (epoch_of n) end_awaits
 
       rising : awaited_by g i ≤ awaited_by g (suc i)
-      rising = by_event its is m.message m.brings
+      rising = by_brought (brings_so g its m.message m.brings)
         where
           same_or : (a b : ℕ) → b ≡ a → a ≤ b
           same_or a b e = omega (arith, e)
@@ -268,12 +229,12 @@ module _ (g : Lived) (here : IsLifeInForm g) where
           at_most : (a b k : ℕ) → b ≡ max a (k + 1) → a ≤ b
           at_most a b k e = omega (arith, e)
 
-          by_event : (event : Event) → slice_get g.life.events i ≡ Some event → (message : Message directory.Unit) → Brings g event message → awaited_by g i ≤ awaited_by g (suc i)
-          by_event (event.Peer from bytes) at message brings = same_or (awaited_by g i) (awaited_by g (suc i)) (message_behind s g.number g.life i from bytes at reached)
-          by_event (event.Final number) at message brings =
-              let its_height = the_height number brings.0 in
-              at_most (awaited_by g i) (awaited_by g (suc i)) (its_height.b).height (block_behind s g.number g.life i number its_height.b at reached its_height.there)
-          by_event other at message brings = absurd brings
+          by_brought : BringsBlock g its m.message ⊎ BringsMail its m.message → awaited_by g i ≤ awaited_by g (suc i)
+          by_brought (inr mail) = same_or (awaited_by g i) (awaited_by g (suc i)) (event_behind s g.number g.life i its is reached mail.2)
+          by_brought (inl b) =
+              let its_height = the_height b.0 b.1 in
+              at_most (awaited_by g i) (awaited_by g (suc i)) (its_height.b).height
+              (block_behind s g.number g.life i b.0 its_height.b (is ∙ ap (λ (e : Event). Some e) b.2) reached its_height.there)
 
       later : epoch_by g i ≤ epoch_by g (suc i)
       later = epochs_rise n (awaited_by g i) (awaited_by g (suc i)) some rising
@@ -292,7 +253,7 @@ module _ (g : Lived) (here : IsLifeInForm g) where
             upto : (a b c d : ℕ) → a ≡ b → c ≡ d → a ≤ c → b ≤ d
             upto a b c d one two low = omega (arith, one, two, low)
 
-        -- A LAST BLOCK that is taken while it follows: none of the epochs behind is followed
+        -- A LAST BLOCK that is taken: the epoch behind isn't followed
         module _ (ends : is_last_height (at_step g (suc i)) made_it.block.height ≡ true) where
           next_epoch : epoch_by g (suc i) ≡ epoch_of n height + 1
           unfolding at_step
@@ -334,10 +295,10 @@ module _ (g : Lived) (here : IsLifeInForm g) where
       -- the life goes on
       module _ (goes : GoesOn (at_step g (suc i)) st m.message end) where
         parted : (end.participation.stage ≡ Follows → ⊥) → epoch_by g (suc i) ≡ epoch_by g i
-        parted apart = sym end_epoch ∙ sym (next.live.awaits apart) ∙ (goes.same).epoch ∙ stands.epoch (λ follows. apart (goes.following follows))
+        parted apart = sym end_epoch ∙ sym ((next.live).stands.awaits apart) ∙ (goes.same).epoch ∙ stands.epoch (λ follows. apart (goes.following follows))
 
         followed_on : end.participation.stage ≡ Follows → follows s g.number g.life (epoch_by g (suc i)) ≡ true
-        followed_on stage = by_event its is m.message m.brings refl
+        followed_on stage = by_brought (brings_so g its m.message m.brings)
           where
             before : st.participation.stage ≡ Follows
             before = goes.parts stage
@@ -345,32 +306,29 @@ module _ (g : Lived) (here : IsLifeInForm g) where
             unmoved : end.tip ≡ st.tip → follows s g.number g.life (epoch_by g (suc i)) ≡ true
             unmoved same = ap (λ (h : ℕ). follows s g.number g.life (epoch_of n h)) (sym end_awaits ∙ ap awaited same ∙ stands.awaits) ∙ stands.blind before
 
-            by_event : (event : Event) → slice_get g.life.events i ≡ Some event → (message : Message directory.Unit) → Brings g event message → m.message ≡ message → follows s g.number g.life (epoch_by g (suc i)) ≡ true
-            by_event (event.Peer from bytes) at message brings same = unmoved (tip_is ∙ ap (λ (x : Message directory.Unit). tip_behind x st.tip) (same ∙ brings))
-            by_event (event.Final number) at message brings same = by_judged (judged_block (at_step g (suc i)) (brings.0).block st) refl
+            by_brought : BringsBlock g its m.message ⊎ BringsMail its m.message → follows s g.number g.life (epoch_by g (suc i)) ≡ true
+            by_brought (inr mail) = unmoved (tip_is ∙ ap (λ (x : Message directory.Unit). tip_behind x st.tip) mail.1)
+            by_brought (inl b) = by_judged (judged_block (at_step g (suc i)) (b.1).block st) refl
               where
-                message_is : m.message ≡ Finalized (brings.0).block
-                message_is = same ∙ brings.1
+                the_end : IsBlockThrough (at_step g (suc i)) any_shares (b.1).block st devices (judged_block (at_step g (suc i)) (b.1).block st) end left
+                the_end = subst (λ (x : Message directory.Unit). IsEndThrough (at_step g (suc i)) any_shares st x devices end left) b.3 next.is
 
-                the_end : IsBlockEnd (at_step g (suc i)) (brings.0).block st h k (judged_block (at_step g (suc i)) (brings.0).block st) end
-                the_end = subst (λ (x : Message directory.Unit). IsStepEnd (at_step g (suc i)) st x h k end) message_is next.is
+                by_last : (applied : judged_block (at_step g (suc i)) (b.1).block st ≡ Applied) (t : Bool) → is_last_height (at_step g (suc i)) (b.1).block.height ≡ t → follows s g.number g.life (epoch_by g (suc i)) ≡ true
+                by_last applied true ends = absurd (subst (λ (x : Message directory.Unit). PassesNothingOn (at_step g (suc i)) st x) b.3 goes.nothing applied ends)
+                by_last applied false ends = followed_then b.0 b.1 (is ∙ ap (λ (e : Event). Some e) b.2) b.3 applied ends before
 
-                by_last : (applied : judged_block (at_step g (suc i)) (brings.0).block st ≡ Applied) (t : Bool) → is_last_height (at_step g (suc i)) (brings.0).block.height ≡ t → follows s g.number g.life (epoch_by g (suc i)) ≡ true
-                by_last applied true ends = absurd (subst (λ (x : Message directory.Unit). TakesNothingOver (at_step g (suc i)) st x) message_is goes.nothing applied before ends)
-                by_last applied false ends = followed_then number brings.0 at message_is applied ends before
-
-                by_judged : (j : Judged) → judged_block (at_step g (suc i)) (brings.0).block st ≡ j → follows s g.number g.life (epoch_by g (suc i)) ≡ true
-                by_judged (Refusal fault) e = absurd (subst (λ (j : Judged). IsBlockEnd (at_step g (suc i)) (brings.0).block st h k j end) e the_end)
-                by_judged Passed e = unmoved (ap (λ (x : Live directory.Unit). x.tip) (subst (λ (j : Judged). IsBlockEnd (at_step g (suc i)) (brings.0).block st h k j end) e the_end))
-                by_judged Applied e = by_last e (is_last_height (at_step g (suc i)) (brings.0).block.height) refl
-            by_event other at message brings same = absurd brings
+                by_judged : (j : Judged) → judged_block (at_step g (suc i)) (b.1).block st ≡ j → follows s g.number g.life (epoch_by g (suc i)) ≡ true
+                by_judged (Refusal fault) e = absurd (subst (λ (j : Judged). IsBlockThrough (at_step g (suc i)) any_shares (b.1).block st devices j end left) e the_end)
+                by_judged Passed e =
+                    unmoved (ap (λ (x : Live directory.Unit). x.tip) (subst (λ (j : Judged). IsBlockThrough (at_step g (suc i)) any_shares (b.1).block st devices j end left) e the_end).0)
+                by_judged Applied e = by_last e (is_last_height (at_step g (suc i)) (b.1).block.height) refl
 
         on_stands : StandsInScript g (suc i) end
         on_stands = record {
           awaits = end_awaits;
           blind = followed_on;
           parts = λ apart. ap (follows s g.number g.life) (parted apart) ∙ stands.parts (λ follows. apart (goes.following follows));
-          epoch = λ apart. next.live.awaits apart ∙ end_epoch;
+          epoch = λ apart. (next.live).stands.awaits apart ∙ end_epoch;
           within = upto end.participation.epoch st.participation.epoch (epoch_by g i) (epoch_by g (suc i)) (goes.same).epoch stands.within later;
         }
           where
@@ -378,24 +336,23 @@ module _ (g : Lived) (here : IsLifeInForm g) where
             upto a b x y one two three = omega (arith, one, two, three)
 
       -- it takes the next epoch over
-      module _ (over : TakesOver (at_step g (suc i)) st m.message h k end) where
+      module _ (over : TakesOver (at_step g (suc i)) any_shares st m.message devices end left) where
         apart : end.participation.stage ≡ Follows → ⊥
-        apart = parts_behind (at_step g (suc i)) st m.message h k end live next over
+        apart = parts_behind (at_step g (suc i)) any_shares st m.message devices end left (form_at g here (suc i)) live next over
 
         unfollowed_over : follows s g.number g.life (epoch_by g (suc i)) ≡ false
-        unfollowed_over = by_event its is m.message m.brings refl
+        unfollowed_over = by_brought (brings_so g its m.message m.brings)
           where
-            by_event : (event : Event) → slice_get g.life.events i ≡ Some event → (message : Message directory.Unit) → Brings g event message → m.message ≡ message → follows s g.number g.life (epoch_by g (suc i)) ≡ false
-            by_event (event.Peer from bytes) at message brings same = absurd (let wrong : ◌≡◌ {A = Message directory.Unit} (Sent (Peer from bytes)) (Finalized over.block) = sym brings ∙ sym same ∙ over.is in cc)
-            by_event (event.Final number) at message brings same =
-                let block_is : over.block ≡ (brings.0).block = the_block (sym over.is ∙ same ∙ brings.1) in
-                unfollowed_then number brings.0 at (same ∙ brings.1) (subst (λ (b : made.Block directory.Unit). judged_block (at_step g (suc i)) b st ≡ Applied) block_is over.applied)
-                (subst (λ (b : made.Block directory.Unit). is_last_height (at_step g (suc i)) b.height ≡ true) block_is over.last)
-            by_event other at message brings same = absurd brings
+            by_brought : BringsBlock g its m.message ⊎ BringsMail its m.message → follows s g.number g.life (epoch_by g (suc i)) ≡ false
+            by_brought (inr mail) = absurd (let wrong : ◌≡◌ {A = Message directory.Unit} (Sent mail.0) (Finalized over.block) = sym mail.1 ∙ over.is in cc)
+            by_brought (inl b) =
+                let block_is : over.block ≡ (b.1).block = the_block (sym over.is ∙ b.3) in
+                unfollowed_then b.0 b.1 (is ∙ ap (λ (e : Event). Some e) b.2) b.3 (subst (λ (x : made.Block directory.Unit). judged_block (at_step g (suc i)) x st ≡ Applied) block_is over.applied)
+                (subst (λ (x : made.Block directory.Unit). is_last_height (at_step g (suc i)) x.height ≡ true) block_is over.last)
 
         over_stands : StandsInScript g (suc i) end
         over_stands =
-            let epoch : end.participation.epoch ≡ epoch_by g (suc i) = next.live.awaits apart ∙ end_epoch in
+            let epoch : end.participation.epoch ≡ epoch_by g (suc i) = (next.live).stands.awaits apart ∙ end_epoch in
             record {
               awaits = end_awaits;
               blind = λ stage. absurd (apart stage);
@@ -407,9 +364,20 @@ module _ (g : Lived) (here : IsLifeInForm g) where
             no_more : (a b : ℕ) → a ≡ b → a ≤ b
             no_more a b same = omega (arith, same)
 
-      pub step_stands : StandsInScript g (suc i) end
-      step_stands = either (next_so (at_step g (suc i)) st m.message h k end live next)
+      half_stands : StandsInScript g (suc i) end
+      half_stands = either (next_so (at_step g (suc i)) any_shares st m.message devices end left (form_at g here (suc i)) live next)
         where
-          either : GoesOn (at_step g (suc i)) st m.message end ⊎ TakesOver (at_step g (suc i)) st m.message h k end → StandsInScript g (suc i) end
+          either : GoesOn (at_step g (suc i)) st m.message end ⊎ TakesOver (at_step g (suc i)) any_shares st m.message devices end left → StandsInScript g (suc i) end
           either (inl goes) = on_stands goes
           either (inr over) = over_stands over
+
+    -- .. and behind the orchestrator's half
+    module _ (devices : Option Held) (end : Live directory.Unit) (left : Option Held) (node : IsNodeThrough (at_step g (suc i)) any_shares st m.message devices end left) where
+      pub step_stands : StandsInScript g (suc i) end
+      step_stands = subst (λ (x : Live directory.Unit). StandsInScript g (suc i) x) (sym node.same) beside
+        where
+          mid : StandsInScript g (suc i) node.mid
+          mid = half_stands devices node.mid left node.next
+
+          beside : StandsInScript g (suc i) (with_orchestrator end.orchestrator node.mid)
+          beside = record { awaits = mid.awaits; blind = mid.blind; parts = mid.parts; epoch = mid.epoch; within = mid.within }

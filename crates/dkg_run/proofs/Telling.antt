@@ -20,14 +20,17 @@ use Rattle.dkg_text.specs.declared.script.Event.{Event}
 use Rattle.dkg_text.specs.declared.script.Event.TheVariants as event
 use Rattle.dkg_text.specs.declared.script.Life.{Life}
 use Rattle.dkg_text.specs.declared.script.Script.{Script}
+use Rattle.dkg_ceremony.specs.Schedule.{epoch_of}
 use Rattle.dkg_script.specs.Ends.{EndsInFault}
+use Rattle.dkg_script.specs.Epochs.{alone}
+use Rattle.dkg_script.specs.Position.{awaited_epoch}
 use Rattle.dkg_script.specs.Progress.{Progress, at_start, read}
 use Rattle.dkg_script.specs.Promise.{Adds}
 use Rattle.dkg_script.specs.Setting.{setting_of}
 use Rattle.dkg_store.specs.Acts.{Held}
 use Rattle.dkg_core.specs.Seen.{Seen}
 use Rattle.dkg_core.specs.Sources.{Tip}
-use Rattle.dkg_run.specs.Blamed.{IsBlockCause, IsBlockOwn, IsFromOutside, IsInfoCause, IsNextCause, IsOpeningCause, IsOwnCause, IsOwnDealing, IsWhy, IsWhyNow, OnBlock, OnCarried, first_epoch_in, is_beyond, is_first_taken, next_epoch, opening_block, refusal_by, refusal_in, tip_in}
+use Rattle.dkg_run.specs.Blamed.{IsAskedOwn, IsBlockCause, IsBlockOwn, IsFromOutside, IsInfoCause, IsLastCause, IsLastOwn, IsNextCause, IsOpeningCause, IsOwnCause, IsOwnDealing, IsProviderCause, IsWhy, IsWhyNow, OnBlock, OnCarried, first_epoch_in, is_beyond, is_first_taken, next_epoch, opening_block, per_epoch, refusal_by, refusal_in, tip_in}
 use Rattle.dkg_run.specs.Causes.{HasCause}
 use Rattle.dkg_script.specs.Ends.{EndsFaulted, EndsRun, HasRisen, IsToldFault}
 use Rattle.dkg_run.specs.Epochs.{IsChecked, IsLifeInForm}
@@ -122,23 +125,44 @@ dealing_tellable : (script : Script) (l : ℕ) (life : Life) (j : ℕ) (its : Fa
 dealing_tellable script l life j (fault.LocalState (local.OwnDealing number kept dealt)) why = why.2
 dealing_tellable script l life j its why = absurd why
 
+provider_tellable : (script : Script) (epoch : ℕ) (its : Fault) → IsProviderCause script epoch its → IsToldFault its
+provider_tellable script epoch (fault.InvalidParticipants cause.ProviderEmpty) why = tt
+provider_tellable script epoch (fault.InvalidParticipants (cause.ProviderAbove count most)) why = why.2
+provider_tellable script epoch its why = absurd why
+
+asked_tellable : (script : Script) (epoch : ℕ) (its : Fault) → IsAskedOwn script epoch its → IsToldFault its
+asked_tellable script epoch (fault.LocalState (local.StoredDealing number dealer)) why = tt
+asked_tellable script epoch its why = absurd why
+
+last_tellable : (script : Script) (l : ℕ) (life : Life) (j : ℕ) (b : Block directory.Unit) (its : Fault) → IsLastCause script l life j b its → IsToldFault its
+last_tellable script l life j b its (inl provider) = provider_tellable script (epoch_of (per_epoch script) b.height) its provider.1
+last_tellable script l life j b its (inr next) = next_tellable script b its next
+
+last_own_tellable : (script : Script) (l : ℕ) (life : Life) (j : ℕ) (b : Block directory.Unit) (its : Fault) → IsLastOwn script l life j b its → IsToldFault its
+last_own_tellable script l life j b its (inl next) = on_carried (λ info. IsOwnCause script (next_epoch script b) info its) (Some b) next (λ info so. own_tellable script (next_epoch script b) info its so)
+last_own_tellable script l life j b its (inr asked) = asked_tellable script (epoch_of (per_epoch script) b.height) its asked.1
+
 block_tellable : (script : Script) (l : ℕ) (life : Life) (j : ℕ) (b : Block directory.Unit) (its : Fault) → IsBlockCause script l life j b its → IsToldFault its
 block_tellable script l life j b its (inl refused) = refusal_tellable script l life j b its refused
-block_tellable script l life j b its (inr next) = next_tellable script b its next.1
+block_tellable script l life j b its (inr last) = last_tellable script l life j b its last.1
 
 block_own_tellable : (script : Script) (l : ℕ) (life : Life) (j : ℕ) (b : Block directory.Unit) (its : Fault) → IsBlockOwn script l life j b its → IsToldFault its
-block_own_tellable script l life j b its (inl next) = on_carried (λ info. IsOwnCause script (next_epoch script b) info its) (Some b) next.1 (λ info so. own_tellable script (next_epoch script b) info its so)
+block_own_tellable script l life j b its (inl last) = last_own_tellable script l life j b its last.1
 block_own_tellable script l life j b its (inr dealing) = dealing_tellable script l life j its dealing.1
 
 pub why_tellable : (script : Script) (l : ℕ) (life : Life) (step : ℕ) (its : Fault) → IsWhy script l life step its → IsTellable its
 why_tellable script l life step its (inl out) = outside_tellable its out
-why_tellable script l life zero its (inr (inl why)) = inr (opening_tellable script l life its why)
-why_tellable script l life zero its (inr (inr own)) =
+why_tellable script l life zero its (inr (inl (inl why))) = inr (opening_tellable script l life its why)
+why_tellable script l life zero its (inr (inr (inl own))) =
     inr (on_carried (λ info. IsOwnCause script (first_epoch_in script l life) info its) (opening_block script l life) own (λ info so. own_tellable script (first_epoch_in script l life) info its so))
-why_tellable script l life (suc j) its (inr (inl why)) =
+why_tellable script l life (suc j) its (inr (inl (inl why))) =
     inr (on_there (λ e. OnBlock script e (λ b. IsBlockCause script l life j b its)) (slice_get life.events j) why (λ e on. on_block script e (λ b. IsBlockCause script l life j b its) on (λ b so. block_tellable script l life j b its so)))
-why_tellable script l life (suc j) its (inr (inr own)) =
+why_tellable script l life (suc j) its (inr (inr (inl own))) =
     inr (on_there (λ e. OnBlock script e (λ b. IsBlockOwn script l life j b its)) (slice_get life.events j) own (λ e on. on_block script e (λ b. IsBlockOwn script l life j b its) on (λ b so. block_own_tellable script l life j b its so)))
+why_tellable script l life zero its (inr (inl (inr may))) = absurd may
+why_tellable script l life (suc j) its (inr (inl (inr may))) = inr (provider_tellable script (awaited_epoch (alone script) l life j) its may.1)
+why_tellable script l life zero its (inr (inr (inr asked))) = absurd asked
+why_tellable script l life (suc j) its (inr (inr (inr asked))) = inr (asked_tellable script (awaited_epoch (alone script) l life j) its asked.1)
 
 now_tellable : (script : Script) (p : Progress) (its : Fault) → IsWhyNow script p its → IsTellable its
 now_tellable script p its (inl out) = outside_tellable its out

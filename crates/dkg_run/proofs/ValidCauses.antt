@@ -1,5 +1,5 @@
 -- A life of a valid script has no cause to stop by the script alone.
-use Rattle.std.proofs.Common.{◌≡◌, ◌⊎◌, inl, inr, ℕ, zero, suc, ◌+◌, ◌*◌, ◌<◌, ◌≤◌, ◌==◌, ◌&&◌, ◌||◌, ◌++◌, ◌^◌, List, [], ◌∷◌, Option, Some, None, Bool, true, false, Ok, Err, arith, refl, sym, ap, subst, ◌∙◌, add-one, nat_le, take}
+use Rattle.std.proofs.Common.{◌≡◌, ◌⊎◌, inl, inr, ℕ, zero, suc, ◌+◌, ◌*◌, ◌<◌, ◌≤◌, ◌==◌, ◌&&◌, ◌||◌, ◌++◌, ◌^◌, List, [], ◌∷◌, Option, Some, None, Bool, true, false, Ok, Err, arith, refl, sym, ap, subst, ◌∙◌, add-one, length, nat_le, take}
 use Rattle.std.specs.Prelude.{◌-◌, ◌/◌, nat_lt, option_and_then, option_map, option_to_list, slice_get, IfSome, IsSome, IsSomeAnd, Result}
 use Rattle.std.specs.Int.NonZero.{non_zero_u32_get}
 use Rattle.std.specs.List.{AllByRecursion}
@@ -30,18 +30,21 @@ use Rattle.dkg_text.specs.declared.script.Event.TheVariants as event
 use Rattle.dkg_text.specs.declared.script.Life.{Life}
 use Rattle.dkg_text.specs.declared.script.Script.{Script}
 use Rattle.dkg_script.specs.Blocks.{Block, anchor_number, block_at, block_of, blocks, used}
-use Rattle.dkg_script.specs.Epochs.{IsEventIn, IsFormOfEpochs, alone}
-use Rattle.dkg_script.specs.Position.{awaited_height, follows, height_after_anchor}
+use Rattle.dkg_script.specs.Epochs.{alone}
+use Rattle.dkg_script.specs.Inclusion.{IsEventIn, IsFormOfInclusion}
+use Rattle.dkg_script.specs.Players.{players_at}
+use Rattle.dkg_script.specs.Position.{awaited_epoch, awaited_height, follows, height_after_anchor}
 use Rattle.dkg_script.specs.Readings.{Info, Limits, info_in, unit_payload, with_spelled}
-use Rattle.dkg_script.specs.Setting.{CutAt, Setting, blocks_per_epoch, found, life_at}
+use Rattle.dkg_script.specs.Setting.{CutAt, Setting, blocks_per_epoch, found, life_at, limits}
 use Rattle.dkg_script.specs.Valid.{participants_in}
 use Rattle.dkg_script.proofs.LineBlocks.{of_line}
-use Rattle.dkg_run.specs.Blamed.{IsBlockCause, IsCause, IsInfoCause, IsNextCause, IsOpeningCause, IsTakenLast, OnBlock, refusal_in, first_epoch_in, is_beyond, is_first_taken, judged_by, next_epoch, opening_block, round_by}
+use Rattle.dkg_run.specs.Blamed.{IsBlockCause, IsCause, IsInfoCause, IsLastCause, IsMayCause, IsNextCause, IsOpeningCause, IsProviderCause, IsTakenLast, OnBlock, refusal_in, first_epoch_in, is_beyond, is_first_taken, judged_by, next_epoch, opening_block, round_by, tip_in}
 use Rattle.dkg_run.specs.Epochs.{IsAnchorAbove}
 use Rattle.dkg_run.specs.Given.{AreBytes, blocks_in, limits_of, payload_in}
-use Rattle.dkg_script.specs.Valid.{BeginsWell, ComesInTurn, IsValidCase, LiesInRange, ServesIn}
-use Rattle.dkg_run.proofs.Alone.{follows_alike, height_alike}
-use Rattle.dkg_run.proofs.Awaiting.{IsReached, comes_to}
+use Rattle.dkg_script.specs.Valid.{BeginsWell, ComesInTurn, EndsEpoch, HasPlayers, IsValidCase, LiesInRange, ProvidesNext, ServesIn}
+use Rattle.dkg_run.proofs.Alone.{epoch_alike, follows_alike, height_alike}
+use Rattle.dkg_core.specs.Sources.{Tip}
+use Rattle.dkg_run.proofs.Awaiting.{IsReached, awaited, comes_to}
 use Rattle.dkg_run.proofs.Chaining.{IsOutside, IsSkipped, Tips, refused_so, tips_so}
 use Rattle.dkg_run.proofs.Delivered.{starts}
 use Rattle.dkg_run.proofs.Drawn.{all_join, found_number, own_info, same_limits}
@@ -60,7 +63,7 @@ both_all P Q [] one two = tt
 both_all P Q (x ∷ xs) one two = ((one.0, two.0), both_all P Q xs one.1 two.1)
 
 -- what a payload carries that is no info
-none_read : (script : Script) → IsFormOfEpochs script → (bytes : Option (List ℕ)) → info_of (payload_in script.config bytes) ≡ None → option_and_then (info_in (limits_of script)) bytes ≡ None
+none_read : (script : Script) → IsFormOfInclusion script → (bytes : Option (List ℕ)) → info_of (payload_in script.config bytes) ≡ None → option_and_then (info_in (limits_of script)) bytes ≡ None
 unfolding info_in
 none_read script form None none = refl
 none_read script form (Some bytes) none =
@@ -77,7 +80,7 @@ none_read script form (Some bytes) none =
     by_payload (Some (payload.EpochInfo i)) is none = absurd (let wrong : ◌≡◌ {A = Option (EpochInfo directory.Unit)} (Some i) None = none in cc)
     by_payload (Some (payload.DealerLog log)) is none = rw is refl
 
-module _ (s : Setting) (ends : List (Option CutAt)) (valid : IsValidCase s ends) (form : IsFormOfEpochs s.script) where
+module _ (s : Setting) (ends : List (Option CutAt)) (valid : IsValidCase s ends) (form : IsFormOfInclusion s.script) where
   abbrev n : ℕ
   n = blocks_per_epoch s
 
@@ -136,9 +139,28 @@ module _ (s : Setting) (ends : List (Option CutAt)) (valid : IsValidCase s ends)
         by_round (Err other) is some = let wrong : false ≡ true = some in cc
     info_clear epoch info at carries its why = absurd why
 
+  -- WHERE THE SCRIPT HAS PLAYERS for it, the provider says what serves
+  none_provided : (epoch : ℕ) → HasPlayers s (epoch + 2) → (its : Fault) → IsProviderCause s.script epoch its → ⊥
+  none_provided epoch has (fault.InvalidParticipants cause.ProviderEmpty) why = empty (length (players_at s.script.config.players (epoch + 2))) why has.0
+    where
+      empty : (count : ℕ) → count ≡ 0 → 0 < count → ⊥
+      empty count none some = omega (arith, none, some)
+  none_provided epoch has (fault.InvalidParticipants (cause.ProviderAbove count most)) why =
+      beyond count most (length (players_at s.script.config.players (epoch + 2))) (limits s).most why.0 (why.1 ∙ sym (ap (λ (l : Limits). l.most) (same_limits s ends form valid.consistent))) why.2 has.1
+    where
+      beyond : (count most players limit : ℕ) → count ≡ players → most ≡ limit → most < count → players ≤ limit → ⊥
+      beyond count most players limit one other above low = omega (arith, one, other, above, low)
+  none_provided epoch has its why = absurd why
+
+  -- a life without material takes part by the script alone where it does
+  part_alike : (l : ℕ) (life : Life) → life.sync ≡ None → found s l ≡ None → (j : ℕ) → follows (alone s.script) l life (awaited_epoch (alone s.script) l life j) ≡ false
+      → follows s l life (awaited_epoch s l life j) ≡ false
+  part_alike l life no_sync none_found j takes_part =
+      ap (follows s l life) (epoch_alike s l life no_sync none_found j) ∙ follows_alike s l life no_sync none_found (awaited_epoch (alone s.script) l life j) ∙ takes_part
+
   -- A LIFE that began
   module _ (bytes : AreBytes s.script.blocks) (long : 2 ≤ blocks_per_epoch s) (l : ℕ) (life : Life) (life_is : life_at s l ≡ Some life) (anchored : IfSome life.anchor (IsAnchorAbove s.script.blocks)) (no_sync : life.sync ≡ None) (none_found : found s l ≡ None)
-      (events_in : AllByRecursion (IsEventIn s.script.blocks) life.events) (in_turn : ComesInTurn s l life) where
+      (events_in : AllByRecursion (IsEventIn s.script.blocks) life.events) (in_turn : ComesInTurn s l life) (provides : ProvidesNext s l life) where
     abbrev Numbered : ℕ → Type 0
     Numbered number = IfSome (block_at s number) Good
 
@@ -278,9 +300,67 @@ module _ (s : Setting) (ends : List (Option CutAt)) (valid : IsValidCase s ends)
           by_info None carries why = absurd why
           by_info (Some info) carries why = info_clear number made_it good (next_epoch s.script made_it.block) info (next_at taken) carries its why
 
+      -- the last block of an epoch that the life takes part in stands at the height that is awaited
+      stands_next : IsTakenLast s.script l life j made_it.block → follows s l life (awaited_epoch s l life j) ≡ false → (made_it.block).height ≡ awaited_height s l life j
+      stands_next taken takes_part = by_turn comes
+        where
+          higher : (height tip : ℕ) → nat_le height tip ≡ false → tip + 1 ≤ height
+          higher height tip not = grind (arith, nat_tests)
+
+          by_tip : (o : Option Tip) → option_map_or (λ t. nat_le (made_it.block).height t.height) o false ≡ false → awaited o ≤ (made_it.block).height
+          by_tip None not = omega arith
+          by_tip (Some t) not = higher (made_it.block).height t.height not
+
+          above : awaited_height s l life j ≤ (made_it.block).height
+          above = subst (λ (n : ℕ). n ≤ (made_it.block).height) tips.height (by_tip (tip_in s.script life j) taken.above)
+
+          same : (here its next : ℕ) → here ≡ its → its ≤ next → next ≤ here → here ≡ next
+          same here its next is low high = omega (arith, is, low, high)
+
+          some : (k : ℕ) → 2 ≤ k → 0 < k
+          some k long = omega (arith, long)
+
+          by_turn : ((own number made_it good).height ≤ awaited_height s l life j) ⊎ ((awaited_height s l life j ≡ 0) × (follows s l life 0 ≡ true)) → (made_it.block).height ≡ awaited_height s l life j
+          by_turn (inl low) = same (made_it.block).height (own number made_it good).height (awaited_height s l life j) same_height low above
+          by_turn (inr first) =
+              let zeroth : awaited_epoch s l life j ≡ 0 = ap (epoch_of n) first.0 ∙ div-eq_of_lt (some n long) in
+              absurd (bools_apart (follows s l life 0) first.1 (subst (λ (e : ℕ). follows s l life e ≡ false) zeroth takes_part))
+
+      provider_clear : IsTakenLast s.script l life j made_it.block → follows (alone s.script) l life (awaited_epoch (alone s.script) l life j) ≡ false → (its : Fault)
+          → IsProviderCause s.script (epoch_of n (made_it.block).height) its → ⊥
+      provider_clear taken takes_part its why =
+          let part = part_alike l life no_sync none_found j takes_part in
+          let at : (made_it.block).height ≡ awaited_height s l life j = stands_next taken part in
+          let ends_it : (own number made_it good).height ≡ last n (awaited_epoch s l life j) =
+          sym same_height ∙ same (made_it.block).height (last n (epoch_of n (made_it.block).height)) taken.ends ∙ ap (λ (h : ℕ). last n (epoch_of n h)) at in
+          let ended : EndsEpoch s (awaited_epoch s l life j) (event.Final number) =
+          subst (λ (o : Option Block). IsSomeAnd o (λ b. b.height ≡ last n (awaited_epoch s l life j))) (sym (of_line s number made_it.line made_it.line_is)) ends_it in
+          none_provided (awaited_epoch s l life j) (provides j (event.Final number) is reached ended part) its
+          (subst (λ (e : ℕ). IsProviderCause s.script e its) (ap (epoch_of n) at) why)
+        where
+          same : (a b : ℕ) → (a == b) ≡ true → a ≡ b
+          same a b e = grind (arith, nat_tests)
+
+      last_clear : IsTakenLast s.script l life j made_it.block → (its : Fault) → IsLastCause s.script l life j made_it.block its → ⊥
+      last_clear taken its (inl provider) = provider_clear taken provider.0 its provider.1
+      last_clear taken its (inr next) = next_clear taken its next
+
       block_clear : (its : Fault) → IsBlockCause s.script l life j made_it.block its → ⊥
       block_clear its (inl refused) = refused_clear its refused
-      block_clear its (inr next) = next_clear next.0 its next.1
+      block_clear its (inr last) = last_clear last.0 its last.1
+
+    -- NOR has one in which requests are read
+    pub valid_may : (step : ℕ) → IsReached life.cut step → (its : Fault) → IsMayCause s.script l life step its → ⊥
+    valid_may zero reached its may = absurd may
+    valid_may (suc j) reached its may =
+        let same : awaited_epoch (alone s.script) l life (may.0).at ≡ awaited_epoch (alone s.script) l life j = (may.0).same_epoch in
+        let part = part_alike l life no_sync none_found (may.0).at (subst (λ (e : ℕ). follows (alone s.script) l life e ≡ false) (sym same) (may.0).takes_part) in
+        none_provided (awaited_epoch s l life (may.0).at) (provides (may.0).at (event.Info (may.0).request) (may.0).asked (earlier life.cut (may.0).at (may.0).so_far reached) tt part) its
+        (subst (λ (e : ℕ). IsProviderCause s.script e its) (sym same ∙ sym (epoch_alike s l life no_sync none_found (may.0).at)) may.1)
+      where
+        earlier : (its : Option Cut) (at : ℕ) → at ≤ j → IsReached its (suc j) → IsReached its (suc at)
+        earlier None at low reached = tt
+        earlier (Some cut) at low reached = λ none. let more : suc j < cut.step = reached none in omega (arith, more, low)
 
     -- SO NO STEP to which it comes has a cause
     pub valid_clear : (step : ℕ) → IsReached life.cut step → ((i : ℕ) → i < step → (e : Event) × (slice_get life.events i ≡ Some e)) → (its : Fault) → IsCause s.script l life step its → ⊥

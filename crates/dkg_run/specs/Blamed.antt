@@ -1,5 +1,5 @@
 -- WHY A LIFE STOPS in a step, of a script whose lives go over many epochs, and how a transcript tells it, whatever the devices tell.
-use Rattle.std.specs.Prelude.{ℕ, zero, suc, ◌+◌, ◌^◌, ◌≡◌, ◌≢◌, ◌⊎◌, ◌==◌, ◌&&◌, ◌||◌, ◌++◌, Bool, true, false, not, nat_le, nat_lt, List, Option, Some, None, fold, find, length, option_map, option_to_list, slice_get, take, IsSomeAnd, Result, Ok, Err, if◌then◌else◌}
+use Rattle.std.specs.Prelude.{ℕ, zero, suc, ◌+◌, ◌^◌, ◌<◌, ◌≤◌, ⊤, ◌≡◌, ◌≢◌, ◌⊎◌, ◌==◌, ◌&&◌, ◌||◌, ◌++◌, Bool, true, false, not, nat_le, nat_lt, List, Option, Some, None, fold, find, length, option_map, option_to_list, slice_get, take, IsSomeAnd, Result, Ok, Err, if◌then◌else◌}
 use Rattle.std.specs.Int.NonZero.{non_zero_u32_get}
 use Rattle.std.specs.Option.{option_map_or}
 use Rattle.std.specs.Str.{bytes_eq}
@@ -23,15 +23,16 @@ use Rattle.dkg_types.specs.declared.entry.Entry.TheVariants as entry
 use Rattle.dkg_types.specs.declared.fault.Fault.{Fault}
 use Rattle.dkg_types.specs.declared.fault.Fault.TheVariants.{NoMemory, Disk, Secrets, Corrupt, HeightRange, MissingEpochInfo, WrongEpoch, InvalidParticipants, LocalState, ConflictingBlock, DetachedBlock, SkippedHeight, OutOfWindow}
 use Rattle.dkg_types.specs.declared.fault.LocalCause.TheVariants.{StoredDealing, ShareRefused, OwnDealing}
-use Rattle.dkg_types.specs.declared.fault.ParticipantsCause.TheVariants.{Refused, Round as NoRound}
+use Rattle.dkg_types.specs.declared.fault.ParticipantsCause.TheVariants.{Refused, Round as NoRound, ProviderEmpty, ProviderAbove}
 use Rattle.dkg_types.specs.declared.info.EpochInfo.{EpochInfo}
 use Rattle.dkg_types.specs.declared.participants.ParticipantsError.{ParticipantsError}
 use Rattle.dkg_text.specs.declared.script.Event.{Event}
-use Rattle.dkg_text.specs.declared.script.Event.TheVariants.{Final}
+use Rattle.dkg_text.specs.declared.script.Event.TheVariants.{Final, Info, Feed, Over, Cancel, Work}
 use Rattle.dkg_text.specs.declared.script.Life.{Life}
 use Rattle.dkg_text.specs.declared.script.Script.{Script}
 use Rattle.dkg_script.specs.Blocks.{anchor_number}
 use Rattle.dkg_script.specs.Epochs.{alone}
+use Rattle.dkg_script.specs.Players.{players_at}
 use Rattle.dkg_script.specs.Position.{awaited_epoch, awaited_height, follows}
 use Rattle.dkg_script.specs.Progress.{AtEachEntry, Progress}
 use Rattle.dkg_script.specs.Setting.{blocks_per_epoch, setting_of}
@@ -130,11 +131,10 @@ refusal_by script l life b (Some t) = refusal_over t b
 abbrev pub refusal_in : Script → (l : ℕ) → Life → (j : ℕ) → Block directory.Unit → Option Fault
 refusal_in script l life j b = if is_beyond script b.height then Some HeightRange else refusal_by script l life b (tip_in script life j)
 
--- It is new, and an epoch's last one, which the life follows: behind it the next epoch is set up by the info that it carries.
+-- It is new, and an epoch's last one: behind it the next epoch is set up by the info that it carries.
 pub record IsTakenLast (script : Script) (l : ℕ) (life : Life) (j : ℕ) (b : Block directory.Unit) : Type 0 where
   pub accepted : refusal_in script l life j b ≡ None
   pub above : option_map_or (λ t. nat_le b.height t.height) (tip_in script life j) false ≡ false
-  pub followed : follows (alone script) l life (awaited_epoch (alone script) l life j) ≡ true
   pub ends : (b.height == last (per_epoch script) (epoch_of (per_epoch script) b.height)) ≡ true
 
 abbrev pub next_epoch : Script → Block directory.Unit → ℕ
@@ -146,8 +146,35 @@ IsNextCause script b (MissingEpochInfo height) = (height ≡ b.height) × (info_
 IsNextCause script b HeightRange = IsSomeAnd (info_of b.payload) (λ info. info.epoch ≡ next_epoch script b) × (is_beyond script (b.height + 1) ≡ true)
 IsNextCause script b its = OnCarried (Some b) (λ info. IsInfoCause script (next_epoch script b) info its)
 
+-- What the provider says of the epoch two above is nobody, or more than the limit. (That epoch is a number of 64 bits, and a directory that says nothing never fails to match.)
+abbrev pub IsProviderCause : Script → (epoch : ℕ) → Fault → Type 0
+IsProviderCause script epoch (InvalidParticipants ProviderEmpty) = length (players_at script.config.players (epoch + 2)) ≡ 0
+IsProviderCause script epoch (InvalidParticipants (ProviderAbove count most)) =
+    (count ≡ length (players_at script.config.players (epoch + 2))) × (most ≡ non_zero_u32_get script.config.limit) × (most < count)
+IsProviderCause script epoch its = ⊥
+
+-- why a last block that is taken stops the life: the info that ends its epoch can't be made, where the life takes part in that epoch, or the next epoch can't be set up
+abbrev pub IsLastCause : Script → (l : ℕ) → Life → (j : ℕ) → Block directory.Unit → Fault → Type 0
+IsLastCause script l life j b its =
+    ((follows (alone script) l life (awaited_epoch (alone script) l life j) ≡ false) × IsProviderCause script (epoch_of (per_epoch script) b.height) its) ⊎ IsNextCause script b its
+
 abbrev pub IsBlockCause : Script → (l : ℕ) → Life → (j : ℕ) → Block directory.Unit → Fault → Type 0
-IsBlockCause script l life j b its = (refusal_in script l life j b ≡ Some its) ⊎ (IsTakenLast script l life j b × IsNextCause script b its)
+IsBlockCause script l life j b its = (refusal_in script l life j b ≡ Some its) ⊎ (IsTakenLast script l life j b × IsLastCause script l life j b its)
+
+-- a block that begins the epoch carries the info
+pub record IsInfoOf (script : Script) (epoch : ℕ) (info : EpochInfo directory.Unit) : Type 0 where
+  pub number : ℕ
+  pub block : Block directory.Unit
+  pub is : slice_get (blocks_in script) number ≡ Some block
+  pub begins : block.height ≡ boundary (per_epoch script) epoch
+  pub carries : info_of block.payload ≡ Some info
+  pub of_epoch : info.epoch ≡ epoch
+
+-- a dealing that is stored, and isn't looked at where a player takes no part by all logs, is refused where it can by those that are asked for
+abbrev pub IsAskedOwn : Script → (epoch : ℕ) → Fault → Type 0
+IsAskedOwn script epoch (LocalState (StoredDealing number dealer)) =
+    (info : EpochInfo directory.Unit) × IsInfoOf script epoch info × IsOwnCause script epoch info (LocalState (StoredDealing number dealer))
+IsAskedOwn script epoch its = ⊥
 
 -- what this node deals isn't what is recorded of it in the epoch that it takes part in
 abbrev pub IsOwnDealing : Script → (l : ℕ) → Life → (j : ℕ) → Fault → Type 0
@@ -155,10 +182,15 @@ IsOwnDealing script l life j (LocalState (OwnDealing number kept dealt)) =
     (number ≡ awaited_epoch (alone script) l life j) × (follows (alone script) l life number ≡ false) × (kept ≢ dealt)
 IsOwnDealing script l life j its = ⊥
 
+-- what of the state stops the life at a last block that is taken: it can't set the next epoch up, or verify the logs of the one that ends
+abbrev pub IsLastOwn : Script → (l : ℕ) → Life → (j : ℕ) → Block directory.Unit → Fault → Type 0
+IsLastOwn script l life j b its =
+    OnCarried (Some b) (λ info. IsOwnCause script (next_epoch script b) info its)
+    ⊎ ((follows (alone script) l life (awaited_epoch (alone script) l life j) ≡ false) × IsAskedOwn script (epoch_of (per_epoch script) b.height) its)
+
 abbrev pub IsBlockOwn : Script → (l : ℕ) → Life → (j : ℕ) → Block directory.Unit → Fault → Type 0
 IsBlockOwn script l life j b its =
-    (IsTakenLast script l life j b × OnCarried (Some b) (λ info. IsOwnCause script (next_epoch script b) info its))
-    ⊎ ((refusal_in script l life j b ≡ None) × IsOwnDealing script l life j its)
+    (IsTakenLast script l life j b × IsLastOwn script l life j b its) ⊎ ((refusal_in script l life j b ≡ None) × IsOwnDealing script l life j its)
 
 -- A STEP of a life: P of the block that an event brings
 
@@ -176,6 +208,42 @@ abbrev pub IsOwn : Script → (l : ℕ) → Life → (step : ℕ) → Fault → 
 IsOwn script l life zero its = OnCarried (opening_block script l life) (λ info. IsOwnCause script (first_epoch_in script l life) info its)
 IsOwn script l life (suc j) its = IsSomeAnd (slice_get life.events j) (λ event. OnBlock script event (λ b. IsBlockOwn script l life j b its))
 
+-- A STEP IN WHICH REQUESTS ARE READ: by the script alone it isn't known whether the info that ends the epoch is made in it
+
+-- the events in which they may be
+abbrev pub IsReadingEvent : Event → Type 0
+IsReadingEvent (Final number) = ⊤
+IsReadingEvent (Info request) = ⊤
+IsReadingEvent (Feed request number) = ⊤
+IsReadingEvent (Over request) = ⊤
+IsReadingEvent (Cancel request) = ⊤
+IsReadingEvent Work = ⊤
+IsReadingEvent _ = ⊥
+
+-- By the event behind the first j such requests may be read: one was made in the epoch that the life awaits and takes part in, and behind the event a height from its midpoint on is awaited.
+pub record MayRead (script : Script) (l : ℕ) (life : Life) (j : ℕ) : Type 0 where
+  pub event : IsSomeAnd (slice_get life.events j) IsReadingEvent
+  pub takes_part : follows (alone script) l life (awaited_epoch (alone script) l life j) ≡ false
+  pub late : midpoint (per_epoch script) (awaited_epoch (alone script) l life j) ≤ awaited_height (alone script) l life (suc j)
+  pub at : ℕ
+  pub so_far : at ≤ j
+  pub request : ℕ
+  pub asked : slice_get life.events at ≡ Some (Info request)
+  pub same_epoch : awaited_epoch (alone script) l life at ≡ awaited_epoch (alone script) l life j
+
+-- P of the epoch, in such a step
+abbrev pub OnReading : Script → (l : ℕ) → Life → (step : ℕ) → (ℕ → Type 0) → Type 0
+OnReading script l life zero P = ⊥
+OnReading script l life (suc j) P = MayRead script l life j × P (awaited_epoch (alone script) l life j)
+
+-- the info can't be made, by what the provider says
+abbrev pub IsMayCause : Script → (l : ℕ) → Life → (step : ℕ) → Fault → Type 0
+IsMayCause script l life step its = OnReading script l life step (λ epoch. IsProviderCause script epoch its)
+
+-- .. or by a dealing that the node has
+abbrev pub IsAskOwn : Script → (l : ℕ) → Life → (step : ℕ) → Fault → Type 0
+IsAskOwn script l life step its = OnReading script l life step (λ epoch. IsAskedOwn script epoch its)
+
 -- HOW IT IS TOLD
 
 -- of a device, a corrupt record, or want of memory: what ends a step from outside
@@ -186,12 +254,20 @@ IsFromOutside Secrets = Unit {0}
 IsFromOutside (Corrupt name place) = Unit {0}
 IsFromOutside its = ⊥
 
--- A step that has no cause in the script is completed, or ended from outside or by the node's own state; one that has is ended by such a cause, or by one of these.
+-- A step that has no certain cause in the script is completed, or ended from outside, by the node's own state, or where requests are read; one that has is ended by such a cause, or by one of these.
 abbrev pub IsClear : Script → (l : ℕ) → Life → (step : ℕ) → Type 0
 IsClear script l life step = (its : Fault) → IsCause script l life step its → ⊥
 
+-- the cause in the script: a certain one, or one of a step in which requests are read
+abbrev pub IsScriptCause : Script → (l : ℕ) → Life → (step : ℕ) → Fault → Type 0
+IsScriptCause script l life step its = IsCause script l life step its ⊎ IsMayCause script l life step its
+
+-- .. in the node's own state
+abbrev pub IsStateCause : Script → (l : ℕ) → Life → (step : ℕ) → Fault → Type 0
+IsStateCause script l life step its = IsOwn script l life step its ⊎ IsAskOwn script l life step its
+
 abbrev pub IsWhy : Script → (l : ℕ) → Life → (step : ℕ) → Fault → Type 0
-IsWhy script l life step its = IsFromOutside its ⊎ (IsCause script l life step its ⊎ IsOwn script l life step its)
+IsWhy script l life step its = IsFromOutside its ⊎ (IsScriptCause script l life step its ⊎ IsStateCause script l life step its)
 
 abbrev pub IsWhyNow : Script → Progress → Fault → Type 0
 IsWhyNow script p its = IsFromOutside its ⊎ IsSomeAnd (slice_get script.lives (length p.cuts)) (λ life. IsWhy script (length p.cuts) life p.step its)

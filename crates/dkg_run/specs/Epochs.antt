@@ -1,16 +1,12 @@
 -- Lives of scripts whose lives go over many epochs: what is known of one, and where its node stands after its first events.
-use Rattle.std.specs.Prelude.{ℕ, ◌<◌, ◌≤◌, ◌≡◌, List, Option, Some, None, true, false, IfSome, slice_get}
+use Rattle.std.specs.Prelude.{ℕ, ◌<◌, ◌≤◌, ◌≡◌, List, Option, Some, None, true, false, ⊤, IfSome, slice_get}
 use Rattle.std.specs.Int.NonZero.{non_zero_u64_get}
 use Rattle.dkg_ceremony.specs.Modes.{supports_of}
-use Rattle.dkg_ceremony.specs.Schedule.{epoch_of, midpoint}
-use Rattle.dkg_types.specs.Blocks.{Block}
 use Rattle.dkg_types.specs.declared.directory.Unit as directory
 use Rattle.dkg_types.specs.declared.fault.Fault.{Fault}
 use Rattle.dkg_text.specs.declared.script.Anchor.{Anchor}
 use Rattle.dkg_text.specs.declared.script.Anchor.TheVariants.{Processed, Absent}
 use Rattle.dkg_text.specs.declared.script.BlockLine.{BlockLine}
-use Rattle.dkg_text.specs.declared.script.Event.{Event}
-use Rattle.dkg_text.specs.declared.script.Event.TheVariants.{Final}
 use Rattle.dkg_text.specs.declared.script.Script.{Script}
 use Rattle.dkg_reshare.specs.Configured.{config_fault}
 use Rattle.dkg_reshare.specs.Planless.{seen_planless}
@@ -18,9 +14,11 @@ use Rattle.dkg_script.specs.Epochs.{alone}
 use Rattle.dkg_script.specs.Inclusion.{IsFormOfInclusion}
 use Rattle.dkg_script.specs.Position.{awaited_epoch, awaited_height, follows}
 use Rattle.dkg_store.specs.Acts.{Held}
-use Rattle.dkg_core.specs.Forms.{IsActiveIn, IsForm, IsLiveIn}
+use Rattle.dkg_core.specs.Asked.{OfShares}
 use Rattle.dkg_core.specs.Live as core
 use Rattle.dkg_core.specs.Live.{Follows, Live}
+use Rattle.dkg_core.specs.NodeThrough.{IsActiveThrough}
+use Rattle.dkg_core.specs.Through.{IsFormThrough, IsLiveThrough}
 use Rattle.dkg_run.specs.Given.{Lived, at_step}
 
 -- A LIFE
@@ -57,10 +55,14 @@ pub record StandsInScript (g : Lived) (j : ℕ) (st : Live directory.Unit) : Typ
   pub epoch : (st.participation.stage ≡ Follows → ⊥) → st.participation.epoch ≡ epoch_by g j
   pub within : st.participation.epoch ≤ epoch_by g j
 
+-- of the shares that a life has read nothing is said
+abbrev pub any_shares : OfShares
+any_shares epoch share = ⊤
+
 -- A STATE behind the first j events
 pub record IsAt (g : Lived) (j : ℕ) (st : Live directory.Unit) : Type 0 where
-  pub live : IsLiveIn (at_step g j) st
-  pub active : IsActiveIn st
+  pub live : IsLiveThrough (at_step g j) any_shares st
+  pub active : IsActiveThrough st
   pub stands : StandsInScript g j st
 
 -- what a script's configuration is refused for, before its first life
@@ -76,15 +78,6 @@ IsChecked script = refused_config script ≡ None
 -- The life goes on with this step, whose reads are those of the devices.
 pub record MayStep (g : Lived) (number : ℕ) (st : Live directory.Unit) : Type 0 where
   pub reads : (at_step g number).seen ≡ seen_planless
-  pub form : IsForm (at_step g number)
-  pub live : IsLiveIn (at_step g number) st
-  pub active : IsActiveIn st
-
--- A block of the epoch that is awaited lies below that epoch's midpoint, unless the life follows.
-abbrev pub IsEarlyBlock : (per_epoch : ℕ) → Live directory.Unit → Block directory.Unit → Type 0
-IsEarlyBlock per_epoch st b = (st.participation.stage ≡ Follows → ⊥) → epoch_of per_epoch b.height ≡ epoch_of per_epoch (core.awaited_height st) → b.height < midpoint per_epoch (epoch_of per_epoch b.height)
-
--- .. one that an event delivers
-abbrev pub IsEarlyEvent : (per_epoch : ℕ) → List (Block directory.Unit) → Live directory.Unit → Event → Type 0
-IsEarlyEvent per_epoch blocks st (Final number) = IfSome (slice_get blocks number) (IsEarlyBlock per_epoch st)
-IsEarlyEvent per_epoch blocks st event = Unit {0}
+  pub form : IsFormThrough (at_step g number)
+  pub live : IsLiveThrough (at_step g number) any_shares st
+  pub active : IsActiveThrough st

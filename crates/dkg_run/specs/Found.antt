@@ -1,5 +1,5 @@
 -- What the devices show of the cause of a fault that blames what is recorded, in a run over many epochs.
-use Rattle.std.specs.Prelude.{ℕ, List, ◌≡◌, ⊤, true, Some, Ok, Err, slice_get}
+use Rattle.std.specs.Prelude.{ℕ, List, Option, ◌≡◌, ◌⊎◌, ⊤, true, Some, Ok, Err, IsSomeAnd, slice_get}
 use Rattle.std.specs.FinMap.{get}
 use Rattle.std.specs.List.{AllByRecursion}
 use Rattle.dkg_ceremony.specs.Dealings.{dealing_of}
@@ -22,7 +22,7 @@ use Rattle.dkg_store.specs.Pairs.{Pairs}
 use Rattle.dkg_store.specs.Recorded.{first_refused, of_epoch}
 use Rattle.dkg_secrets.specs.Secrets.{Secrets}
 use Rattle.dkg_text.specs.declared.script.Script.{Script}
-use Rattle.dkg_core.specs.Fixed.{has}
+use Rattle.dkg_core.specs.Fixed.{has, stand_in}
 use Rattle.dkg_script.specs.Setting.{recovered_from}
 use Rattle.dkg_run.specs.Blamed.{Draws, per_epoch}
 use Rattle.dkg_run.specs.Given.{blocks_in}
@@ -47,16 +47,26 @@ pub record IsBegunBy (script : Script) (epoch : ℕ) (P : Round → Type 0) : Ty
   pub carries : info_of block.payload ≡ Some info
   pub draws : Draws script epoch info P
 
--- Of this round this node is a dealer, and the share and the seed that are held of the epoch don't deal in it.
+-- By its public half this is that node's share of the output that the round carries on.
+abbrev pub IsCarriedShare : (me : ℕ) → Round → (share : ℕ) → Type 0
+IsCarriedShare me round share = IsSomeAnd round.previous (λ output. stand_in.partial_public_of output me ≡ Some (stand_in.share_public_of share))
+
+-- In the round of an epoch this share is dealt from: that which is held of the epoch, or one that the round carries on. (A last block that a life includes commits no share where its info isn't
+-- the one that the life derived. Where that info carries an output on, the setup deals from the share of an epoch below, which it may prune.)
+abbrev pub IsDealtFrom : Script → Secrets → (epoch : ℕ) → Round → (share : Option ℕ) → Type 0
+IsDealtFrom script held epoch round share = (get held.shares epoch ≡ share) ⊎ IsSomeAnd share (IsCarriedShare script.config.me round)
+
+-- Of this round this node is a dealer, and the share and the seed that it deals from don't deal in it.
 abbrev pub IsRefusedBy : Script → Secrets → (epoch : ℕ) → Round → Type 0
 IsRefusedBy script held epoch round =
     (has round.dealers script.config.me ≡ true)
-    × ((seed : List ℕ) × (why : DealError) × (get held.seeds epoch ≡ Some seed) × (deal_of round script.config.me (get held.shares epoch) seed ≡ Err why))
+    × ((seed : List ℕ) × (share : Option ℕ) × (why : DealError) × (get held.seeds epoch ≡ Some seed) × IsDealtFrom script held epoch round share × (deal_of round script.config.me share seed ≡ Err why))
 
 -- .. or they deal this public half
 abbrev pub IsDealtBy : Script → Secrets → (epoch : ℕ) → (public : List ℕ) → Round → Type 0
 IsDealtBy script held epoch public round =
-    (seed : List ℕ) × (privates : List (ℕ × ℕ)) × (get held.seeds epoch ≡ Some seed) × (deal_of round script.config.me (get held.shares epoch) seed ≡ Ok (public, privates))
+    (seed : List ℕ) × (share : Option ℕ) × (privates : List (ℕ × ℕ)) × (get held.seeds epoch ≡ Some seed) × IsDealtFrom script held epoch round share
+    × (deal_of round script.config.me share seed ≡ Ok (public, privates))
 
 -- A CORRUPT RECORD stands where the fault says. (Of other faults nothing is to be found so.)
 abbrev pub NamesCorrupt : (limit : ℕ) → Files → Fault → Type 0
@@ -66,8 +76,8 @@ NamesCorrupt limit files its = ⊤
 pub record IsFoundRecord (limit : ℕ) (files : Files) (its : Fault) : Type 0 where
   pub so : NamesCorrupt limit files its
 
--- WHAT THE DEVICES HOLD against the node's own state: a stored dealing that it names is among those that the devices give back, and is refused; so is this node's own, where what is held
--- of its epoch deals another; and a share that is refused is held, with the seed that it doesn't deal by.
+-- WHAT THE DEVICES HOLD against the node's own state: a stored dealing that it names is among those that the devices give back, and is refused; so is this node's own, where its share and seed
+-- of the epoch deal another; and of a share that is refused the seed is held by which it doesn't deal.
 -- (Of other faults nothing is to be found: the script shows their causes.)
 abbrev pub ShowsCause : Script → Files → Secrets → Fault → Type 0
 ShowsCause script files held (LocalState (ShareRefused epoch)) = IsBegunBy script epoch (IsRefusedBy script held epoch)

@@ -1,5 +1,5 @@
 -- What a life of a script is given: the blocks that its source holds, and the configuration of its node.
-use Rattle.std.specs.Prelude.{ℕ, zero, suc, ◌-◌, ◌==◌, ◌++◌, ◌∷◌, [], List, true, false, Option, None, Some, filter_map, find, fold, option_and_then, option_map, slice_get, take, length, ◌≡◌, IfSome}
+use Rattle.std.specs.Prelude.{ℕ, zero, suc, ◌-◌, ◌++◌, ◌∷◌, [], List, true, false, Option, None, Some, filter_map, fold, option_and_then, option_map, slice_get, take, length, ◌≡◌, IfSome}
 use Rattle.std.specs.Int.NonZero.{non_zero_u32_get, non_zero_u64_get}
 use Rattle.std.specs.FinMap.{empty}
 use Rattle.std.specs.List.{AllByRecursion}
@@ -25,14 +25,14 @@ use Rattle.dkg_text.specs.declared.script.BlockLine.{BlockLine}
 use Rattle.dkg_text.specs.declared.script.Event as script
 use Rattle.dkg_text.specs.declared.script.Event.TheVariants as event
 use Rattle.dkg_text.specs.declared.script.Life.{Life}
-use Rattle.dkg_text.specs.declared.script.PlayerLine.{PlayerLine}
 use Rattle.dkg_text.specs.declared.script.Script.{Script}
 use Rattle.dkg_text.specs.declared.script.ScriptConfig.{ScriptConfig}
 use Rattle.dkg_script.specs.Blocks.{delivered_number, zeros}
+use Rattle.dkg_script.specs.Players.{players_at}
 use Rattle.dkg_script.specs.Readings.{Limits, unit_payload}
 use Rattle.dkg_core.specs.Courses.{Course, Goes}
 use Rattle.dkg_core.specs.Fixed.{Directories, Fixed, Inner, Probed, stand_in}
-use Rattle.dkg_core.specs.Live.{Event, Live, NodeStop, Delivers, Peer, EpochInfoOf, Feed, Over, Cancel, Work, Reshare}
+use Rattle.dkg_core.specs.Live.{Event, Live, NodeStop, Delivers, Peer, NextLog, ReleaseLog, EpochInfoOf, Feed, Over, Cancel, Work, Reshare}
 use Rattle.dkg_core.specs.Node.{node_step}
 use Rattle.dkg_core.specs.Seen.{Seen}
 use Rattle.dkg_core.specs.Sources.{Anchor, AtBlock, Absent, Source, source_of}
@@ -128,10 +128,6 @@ source_at g taken =
 abbrev pub unit_directories : Directories directory.Unit
 unit_directories = record { spelling = unit_spelling; read = λ peers. unit_at; matches = λ d peers. true; lacking = λ d peers. None }
 
--- the players that a script's lines give an epoch; without a line of it there are none
-abbrev pub players_at : List PlayerLine → (epoch : ℕ) → List ℕ
-players_at lines epoch = option_map_or (λ line. line.players) (find (λ line. line.epoch == epoch) lines) []
-
 -- what a script says of the participants that are to come, whose directories say nothing
 abbrev pub provided_by : Script → Provided directory.Unit
 provided_by script = record { participants = players_at script.config.players; directory = λ epoch peers. record {} }
@@ -177,6 +173,8 @@ at_step g taken = record {
 abbrev pub event_in : List (Block directory.Unit) → script.Event → Option (Event directory.Unit)
 event_in blocks (event.Peer from bytes) = Some (Reshare (Peer from bytes))
 event_in blocks (event.Final number) = option_map Delivers (slice_get blocks number)
+event_in blocks (event.Next request height) = Some (Reshare (NextLog request height))
+event_in blocks (event.Release height) = Some (Reshare (ReleaseLog height))
 event_in blocks (event.Info request) = Some (Reshare (EpochInfoOf request))
 event_in blocks (event.Feed request number) = option_map (λ b. Reshare (Feed request b)) (slice_get blocks number)
 event_in blocks (event.Over request) = Some (Reshare (Over request))

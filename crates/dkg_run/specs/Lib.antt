@@ -1,4 +1,6 @@
 pub mod Again
+pub mod Answers
+pub mod Asks
 pub mod Blamed
 pub mod Causes
 pub mod Command
@@ -18,6 +20,7 @@ pub mod Over
 pub mod Promised
 pub mod Refusals
 pub mod Reports
+pub mod SharesStand
 pub mod Sources
 pub mod Stopped
 pub mod Ways

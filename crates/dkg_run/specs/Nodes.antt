@@ -9,7 +9,7 @@ use Rattle.dkg_journal.specs.Names.{Files}
 use Rattle.dkg_store.specs.Acts.{Ended, went}
 use Rattle.dkg_store.specs.declared.devices.Devices.{Devices}
 use Rattle.dkg_text.specs.declared.script.Event.{Event}
-use Rattle.dkg_text.specs.declared.script.Event.TheVariants.{Peer, Final, Info, Feed, Over, Cancel, Work}
+use Rattle.dkg_text.specs.declared.script.Event.TheVariants.{Peer, Final, Next, Release, Info, Feed, Over, Cancel, Work}
 use Rattle.dkg_text.specs.declared.script.Life.{Life}
 use Rattle.dkg_types.specs.Blocks.{Block}
 use Rattle.dkg_types.specs.declared.directory.Unit as directory
@@ -159,6 +159,8 @@ sent_event its = event_of (message_of its)
 abbrev pub IsEventOfBlocks : List (Block directory.Unit) → Event → Type 0
 IsEventOfBlocks blocks (Peer from bytes) = ⊤
 IsEventOfBlocks blocks (Final number) = IsSome (slice_get blocks number)
+IsEventOfBlocks blocks (Next request height) = ⊤
+IsEventOfBlocks blocks (Release height) = ⊤
 IsEventOfBlocks blocks (Info request) = ⊤
 IsEventOfBlocks blocks (Feed request number) = IsSome (slice_get blocks number)
 IsEventOfBlocks blocks (Over request) = ⊤

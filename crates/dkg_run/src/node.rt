@@ -300,6 +300,14 @@ impl<'a> Node<'a> {
                 Some(block) => self.deliver(alloc, source, block, devices, out),
                 None => unreachable!(),
             },
+            Event::Next { request, height } => {
+                let message = Message::NextLog { request: *request, height: *height };
+                self.send(alloc, source, message, devices, out)
+            }
+            Event::Release { height } => {
+                let message = Message::ReleaseLog { height: *height };
+                self.send(alloc, source, message, devices, out)
+            }
             Event::Info { request } => {
                 let message = Message::EpochInfo { request: *request };
                 self.send(alloc, source, message, devices, out)

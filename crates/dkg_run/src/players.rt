@@ -1,7 +1,7 @@
 //! What a script says of the participants that are to come, as the provider of its node.
 ghost use Rattle.std.specs.Prelude.{◌≡◌};
 ghost use Rattle.std.specs.Option.{option_copied};
-ghost use Rattle.dkg_run.specs.Given.{players_at};
+ghost use Rattle.dkg_script.specs.Players.{players_at};
 
 use dkg_ceremony::{Epoch, Mem, Set, Value};
 use dkg_script::PlayerLine;
@@ -36,7 +36,7 @@ impl ParticipantsProvider for Players<'_> {
     type Dir = Unit;
 
     ghost use Rattle.std.specs.Prelude.{true};
-    ghost use Rattle.dkg_run.specs.Given.{players_at};
+    ghost use Rattle.dkg_script.specs.Players.{players_at};
 
     ghost tells = { true };
 

@@ -204,7 +204,7 @@ same_thrice n k m xs below = elim (cases_lt k n) [
   | inr more ↦ take-take n k (take m xs) more ∙ take-take n m xs below ∙ sym (take-take n k xs more)
 ]
 
-same_comes : (n : ℕ) (cut : Option ScriptCut) (end : Option CutAt) (events : List Event) → IsBefore n end → take n (events_come_to cut (cut_within end events)) ≡ take n (events_come_to cut events)
+pub same_comes : (n : ℕ) (cut : Option ScriptCut) (end : Option CutAt) (events : List Event) → IsBefore n end → take n (events_come_to cut (cut_within end events)) ≡ take n (events_come_to cut events)
 same_comes n None None events before = refl
 same_comes n (Some cut) None events before = refl
 same_comes n None (Some at) events before = by_call (at.call == 0) refl before
@@ -230,33 +230,46 @@ same_comes n (Some cut) (Some at) events before = by_calls (cut.call == 0) (at.c
     by_calls true false (inr not) = absurd (differ not)
     by_calls false false (inr not) = absurd (differ not)
 
-module _ (s : Setting) (ends cuts : List (Option CutAt)) (plain : IsPlain s) (history : IsPlanHistory (with_cuts ends s) cuts) (l : ℕ) (begun : l ≤ length cuts) where
-  same_start : (end : Option CutAt) (life : Life) → life_at s l ≡ Some life → start_height (with_cuts ends s) l (life_as_cut end life) ≡ start_height s l life
-  same_start end life is =
-      let no_sync = all_at (λ life. life.sync ≡ None) s.script.lives l life plain.no_sync is in
-      let none = finds_none s cuts plain (history_of s ends cuts history) l begun (slice_get_within s.script.lives l life is) in
-      start_is (with_cuts ends s) l (life_as_cut end life) no_sync none ∙ sym (start_is s l life no_sync none)
+pub before_all : (end : Option CutAt) → IsBefore 0 end
+before_all None = tt
+before_all (Some at) = inl (omega arith)
 
-  pub same_height : (end : Option CutAt) (life : Life) (n : ℕ) → life_at s l ≡ Some life → IsBefore n end
-      → awaited_height (with_cuts ends s) l (life_as_cut end life) n ≡ awaited_height s l life n
+pub before_it : (j : ℕ) (end : Option CutAt) → IsBefore (suc j) end → IsBefore j end
+before_it j None before = tt
+before_it j (Some at) (inl below) = inl (omega arith)
+before_it j (Some at) (inr before) = inr before
+
+-- a life without material comes as far
+module _ (s : Setting) (ends : List (Option CutAt)) (l : ℕ) (life : Life) (no_sync : life.sync ≡ None) (none : found s l ≡ None) (end : Option CutAt) where
+  pub start_as_cut : start_height (with_cuts ends s) l (life_as_cut end life) ≡ start_height s l life
+  start_as_cut = start_is (with_cuts ends s) l (life_as_cut end life) no_sync none ∙ sym (start_is s l life no_sync none)
+
+  pub height_as_cut : (n : ℕ) → IsBefore n end → awaited_height (with_cuts ends s) l (life_as_cut end life) n ≡ awaited_height s l life n
   unfolding awaited_height
-  same_height end life n is before =
+  height_as_cut n before =
       ap (λ (events : List Event). fold (λ height b. max height (suc b.height)) (start_height (with_cuts ends s) l (life_as_cut end life)) (filter_map (block_at s) (filter_map delivered_number events)))
       (same_comes n life.cut end life.events before)
-      ∙ ap (λ (height : ℕ). fold (λ height b. max height (suc b.height)) height (delivered s life n)) (same_start end life is)
+      ∙ ap (λ (height : ℕ). fold (λ height b. max height (suc b.height)) height (delivered s life n)) start_as_cut
+
+module _ (s : Setting) (ends cuts : List (Option CutAt)) (plain : IsPlain s) (history : IsPlanHistory (with_cuts ends s) cuts) (l : ℕ) (begun : l ≤ length cuts) where
+  pub is_plain : (life : Life) → life_at s l ≡ Some life → (life.sync ≡ None) × (found s l ≡ None)
+  is_plain life is = (
+    all_at (λ life. life.sync ≡ None) s.script.lives l life plain.no_sync is,
+    finds_none s cuts plain (history_of s ends cuts history) l begun (slice_get_within s.script.lives l life is),
+  )
+
+  same_height : (end : Option CutAt) (life : Life) (n : ℕ) → life_at s l ≡ Some life → IsBefore n end
+      → awaited_height (with_cuts ends s) l (life_as_cut end life) n ≡ awaited_height s l life n
+  same_height end life n is before = let its = is_plain life is in height_as_cut s ends l life its.0 its.1 end n before
 
   -- .. so it begins as far, and comes as far until it ends
   same_first : awaited_epoch_in (with_cuts ends s) l 0 ≡ awaited_epoch_in s l 0
   same_first = ap (λ (o : Option Life). option_map_or (λ life. awaited_epoch (with_cuts ends s) l life 0) o 0) (its_life ends s.script.lives l) ∙ by_life (life_at s l) refl
     where
-      before : (end : Option CutAt) → IsBefore 0 end
-      before None = tt
-      before (Some at) = inl (omega arith)
-
       by_life : (o : Option Life) → life_at s l ≡ o
           → option_map_or (λ life. awaited_epoch (with_cuts ends s) l life 0) (option_map (life_as_cut (cut_of ends l)) o) 0 ≡ option_map_or (λ life. awaited_epoch s l life 0) o 0
       by_life None is = refl
-      by_life (Some life) is = ap (λ (height : ℕ). epoch_of (blocks_per_epoch s) height) (same_height (cut_of ends l) life 0 is (before (cut_of ends l)))
+      by_life (Some life) is = ap (λ (height : ℕ). epoch_of (blocks_per_epoch s) height) (same_height (cut_of ends l) life 0 is (before_all (cut_of ends l)))
 
   same_last : last_awaited (with_cuts ends s) ends l ≡ last_awaited s ends l
   same_last =

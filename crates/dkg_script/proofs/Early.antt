@@ -1,8 +1,9 @@
 -- Early scripts: within the first epoch, and below its midpoint, nothing happens but messages of the dealing channel and finalized blocks. They are of the
--- form that is read and run (see Epochs), and easily seen to be: the worked scripts are such.
+-- form that is read and run (see Inclusion), and easily seen to be: the worked scripts are such.
 use Rattle.std.specs.Prelude.{ℕ, ◌+◌, ◌<◌, ◌≡◌, ◌≤◌, ◌^◌, ◌/◌, List, None, Some, true, false, IfSome, IsSome, IsSomeAnd, slice_get}
 use Rattle.std.specs.Int.NonZero.{non_zero_u32_get, non_zero_u64_get}
 use Rattle.std.specs.List.{AllByRecursion}
+use Rattle.dkg_values.specs.Rising.{rises}
 use Rattle.dkg_ceremony.specs.Modes.{supports_of}
 use Rattle.dkg_text.specs.declared.script.Anchor.{Anchor}
 use Rattle.dkg_text.specs.declared.script.Anchor.TheVariants.{Processed, Absent}
@@ -11,6 +12,7 @@ use Rattle.dkg_text.specs.declared.script.Event.{Event}
 use Rattle.dkg_text.specs.declared.script.Event.TheVariants.{Peer, Final}
 use Rattle.dkg_text.specs.declared.script.Life.{Life}
 use Rattle.dkg_text.specs.declared.script.Script.{Script}
+use Rattle.dkg_script.specs.Players.{epochs_of}
 use Rattle.dkg_script.specs.Readings.{unit_payload}
 
 -- the number of a block below the midpoint
@@ -45,8 +47,7 @@ IsBlockBelow script block =
     × IfSome block.payload (λ bytes. IsSome (unit_payload (record { most = non_zero_u32_get script.config.limit; version = script.config.max_mode.0; addressed = script.addressed }) bytes))
 
 -- The script is of a reshare without directories of addresses, its node has a key of 32 bits, its limit is one that a script may have, its epochs have two blocks at least, and a number of
--- 64 bits, its mode is supported, its blocks are of epoch 0
--- and their payloads are read, its first block stands at height 0, and each of its lives is of the form.
+-- 64 bits, its mode is supported, its players' epochs rise, its blocks are of epoch 0 and their payloads are read, its first block stands at height 0, and each of its lives is of the form.
 pub record IsEarlyScript (script : Script) : Type 0 where
   pub plain : script.addressed ≡ false
   pub reshares : script.config.oneshot ≡ None
@@ -55,6 +56,7 @@ pub record IsEarlyScript (script : Script) : Type 0 where
   pub long : 2 ≤ non_zero_u64_get script.config.blocks_per_epoch
   pub short : non_zero_u64_get script.config.blocks_per_epoch < 2 ^ 64
   pub supported : supports_of script.config.max_mode.0 script.config.mode ≡ true
+  pub rising : rises (epochs_of script.config.players) ≡ true
   pub blocks : AllByRecursion (IsBlockBelow script) script.blocks
   pub first : IfSome (slice_get script.blocks 0) (λ block. block.height ≡ 0)
   pub lives : AllByRecursion (IsLifeBelow (midpoint_of script) script.blocks) script.lives

@@ -1,5 +1,5 @@
--- An early script is of the form of epochs: of its blocks none stands at a midpoint or above.
-use Rattle.std.proofs.Common.{ℕ, ◌+◌, ◌<◌, ◌^◌, List, [], ◌∷◌, Option, Some, None, arith, refl, subst}
+-- An early script is of the form of inclusion, and of that of epochs: of its blocks none stands at a midpoint or above.
+use Rattle.std.proofs.Common.{ℕ, ◌+◌, ◌<◌, ◌^◌, List, [], ◌∷◌, ◌++◌, Option, Some, None, arith, refl, subst}
 use Rattle.std.specs.Prelude.{slice_get, IfSome, IsSome, IsSomeAnd}
 use Rattle.std.specs.Int.NonZero.{non_zero_u64_get}
 use Rattle.std.specs.List.{AllByRecursion}
@@ -9,8 +9,11 @@ use Rattle.dkg_text.specs.declared.script.BlockLine.{BlockLine}
 use Rattle.dkg_text.specs.declared.script.Event.{Event}
 use Rattle.dkg_text.specs.declared.script.Event.TheVariants.{Peer, Final}
 use Rattle.dkg_text.specs.declared.script.Script.{Script}
+use Rattle.dkg_text.specs.Spells.{FitAfter}
+use Rattle.dkg_script.specs.Asked.{IsAskedAnew}
 use Rattle.dkg_script.specs.Blocks.{Block}
 use Rattle.dkg_script.specs.Epochs.{IsAnchorIn, IsBlockIn, IsEventIn, IsFormOfEpochs, alone}
+use Rattle.dkg_script.specs.Inclusion as inclusion
 use Rattle.dkg_script.proofs.Early.{IsAnchorBelow, IsBlockBelow, IsEventBelow, IsEarlyScript, IsLifeBelow, midpoint_of}
 use Rattle.dkg_script.proofs.Formed.{holds_at}
 use Rattle.dkg_script.proofs.EarlyScripts.{early_block}
@@ -51,8 +54,45 @@ placed_within : (script : Script) (blocks : List BlockLine) → non_zero_u64_get
 placed_within script [] short all = tt
 placed_within script (block ∷ blocks) short all = let low = all.0.0 in (omega (arith, low, short), placed_within script blocks short all.1)
 
-pub early_within : (script : Script) → IsEarlyScript script → IsFormOfEpochs script
+-- none of its events asks for an info
+module _ (m : ℕ) (blocks : List BlockLine) where
+  pass_within : (events : List Event) → AllByRecursion (IsEventBelow m blocks) events → AllByRecursion (inclusion.IsEventIn blocks) events
+  pass_within [] all = tt
+  pass_within (Peer from bytes ∷ events) all = (all.0, pass_within events all.1)
+  pass_within (Final number ∷ events) all = (there_is m blocks (λ line. line.height < m) number all.0, pass_within events all.1)
+  pass_within (event ∷ events) all = absurd all.0
+
+  anew_within : (done events : List Event) → AllByRecursion (IsEventBelow m blocks) events → FitAfter IsAskedAnew done events
+  anew_within done [] all = tt
+  anew_within done (Peer from bytes ∷ events) all = (tt, anew_within (done ++ Peer from bytes ∷ []) events all.1)
+  anew_within done (Final number ∷ events) all = (tt, anew_within (done ++ Final number ∷ []) events all.1)
+  anew_within done (event ∷ events) all = absurd all.0
+
+pub early_within : (script : Script) → IsEarlyScript script → inclusion.IsFormOfInclusion script
 early_within script form =
+    let m = midpoint_of script in
+    let blocks = script.blocks in
+    record {
+      plain = form.plain;
+      reshares = form.reshares;
+      own = form.own;
+      few = form.few;
+      short = form.short;
+      rising = form.rising;
+      blocks = blocks_within script script.blocks form.blocks;
+      placed = placed_within script script.blocks form.short form.blocks;
+      lives = λ l life is.
+          let within = holds_at (IsLifeBelow m blocks) script.lives l life form.lives is in
+          record {
+            anchor = anchor_within m blocks life.anchor within.anchor;
+            no_sync = within.no_sync;
+            events = pass_within m blocks life.events within.events;
+            anew = anew_within m blocks [] life.events within.events;
+          };
+    }
+
+pub early_of_epochs : (script : Script) → IsEarlyScript script → IsFormOfEpochs script
+early_of_epochs script form =
     let m = midpoint_of script in
     let blocks = script.blocks in
     record {

@@ -1,19 +1,19 @@
 -- A script of a text that passes the test is of the form that is run. One that doesn't is of another form, where its node is told nothing besides.
 use Rattle.std.proofs.Common.{◌≡◌, ℕ, zero, suc, ◌<◌, ◌≤◌, ◌&&◌, ◌^◌, Bool, true, false, List, [], ◌∷◌, Option, Some, None, refl, sym, ap, subst, arith, length}
-use Rattle.std.specs.Prelude.{◌==◌, not, is_none, is_some, slice_get, IfSome, IsSome}
+use Rattle.std.specs.Prelude.{◌==◌, not, is_some, slice_get, IfSome, IsSome}
 use Rattle.std.specs.Bool.{OnFalse, OnTrue}
 use Rattle.std.specs.Int.NonZero.{non_zero_u32_get, non_zero_u64_get}
 use Rattle.std.specs.List.{AllByRecursion}
 use Rattle.std.proofs.lemmas.Bool.{and_parts, le-leb, leb-true, lt-ltb, ltb-true}
 use Rattle.dkg_text.specs.declared.script.BlockLine.{BlockLine}
 use Rattle.dkg_text.specs.declared.script.Event.{Event}
-use Rattle.dkg_text.specs.declared.script.Event.TheVariants.{Peer, Final}
+use Rattle.dkg_text.specs.declared.script.Event.TheVariants.{Peer, Final, Next, Release, Info, Feed, Over, Cancel, Work}
 use Rattle.dkg_text.specs.declared.script.Life.{Life}
 use Rattle.dkg_text.specs.declared.script.Script.{Script}
 use Rattle.dkg_script.specs.Built.{IsOfText, IsToldNothing, are_events, are_lives, is_alone, is_built, is_event, is_key, is_life, is_limit, is_plain}
-use Rattle.dkg_script.specs.Epochs.{IsAnchorIn, IsEventIn, IsFormOfEpochs, alone}
-use Rattle.dkg_script.specs.Walk.{late_event}
-use Rattle.dkg_script.proofs.Followed.{early_if_none_late, none_late_if_early}
+use Rattle.dkg_script.specs.Asked.{AskAnew}
+use Rattle.dkg_script.specs.Epochs.{IsAnchorIn}
+use Rattle.dkg_script.specs.Inclusion.{IsEventIn, IsFormOfInclusion}
 
 none_of : {A : Type 0} (o : Option A) → not (is_some o) ≡ true → o ≡ None
 none_of None e = refl
@@ -47,15 +47,29 @@ holds_all P (x ∷ xs) each = (each zero x refl, holds_all P xs (λ i y is. each
 
 -- THE LIVES
 
-module _ (n : ℕ) (blocks : List BlockLine) where
+module _ (blocks : List BlockLine) where
   event_in : (event : Event) → is_event (length blocks) event ≡ true → IsEventIn blocks event
   event_in (Peer from bytes) e = ltb-true from (2 ^ 32) e
   event_in (Final number) e = there_is blocks number (ltb-true number (length blocks) e)
+  event_in (Next request height) e = tt
+  event_in (Release height) e = tt
+  event_in (Info request) e = tt
+  event_in (Feed request number) e = there_is blocks number (ltb-true number (length blocks) e)
+  event_in (Over request) e = tt
+  event_in (Cancel request) e = tt
+  event_in Work e = tt
   event_in _ e = absurd cc
 
   event_passes : (event : Event) → IsEventIn blocks event → is_event (length blocks) event ≡ true
   event_passes (Peer from bytes) its = lt-ltb from (2 ^ 32) its
   event_passes (Final number) its = lt-ltb number (length blocks) (within blocks number its)
+  event_passes (Next request height) its = refl
+  event_passes (Release height) its = refl
+  event_passes (Info request) its = refl
+  event_passes (Feed request number) its = lt-ltb number (length blocks) (within blocks number its)
+  event_passes (Over request) its = refl
+  event_passes (Cancel request) its = refl
+  event_passes Work its = refl
   event_passes _ its = absurd its
 
   events_in : (events : List Event) → are_events (length blocks) events ≡ true → AllByRecursion (IsEventIn blocks) events
@@ -71,29 +85,24 @@ module _ (n : ℕ) (blocks : List BlockLine) where
   record IsTested (life : Life) : Type 0 where
     no_sync : life.sync ≡ None
     events : AllByRecursion (IsEventIn blocks) life.events
-    none_late : late_event n blocks life ≡ None
 
-  life_tested : (life : Life) → is_life n blocks life ≡ true → IsTested life
+  life_tested : (life : Life) → is_life (length blocks) life ≡ true → IsTested life
   life_tested life e =
-      let outer = and_parts (not (is_some life.sync) && are_events (length blocks) life.events) (is_none (late_event n blocks life)) e in
-      let inner = and_parts (not (is_some life.sync)) (are_events (length blocks) life.events) outer.0 in
-      record { no_sync = none_of life.sync inner.0; events = events_in life.events inner.1; none_late = none_of (late_event n blocks life) outer.1 }
+      let parts = and_parts (not (is_some life.sync)) (are_events (length blocks) life.events) e in
+      record { no_sync = none_of life.sync parts.0; events = events_in life.events parts.1 }
 
-  life_passes : (life : Life) → IsTested life → is_life n blocks life ≡ true
-  life_passes life its =
-      both (not (is_some life.sync) && are_events (length blocks) life.events) (is_none (late_event n blocks life))
-      (both (not (is_some life.sync)) (are_events (length blocks) life.events) (is_none_of life.sync its.no_sync) (events_pass life.events its.events))
-      (is_none_of (late_event n blocks life) its.none_late)
+  life_passes : (life : Life) → IsTested life → is_life (length blocks) life ≡ true
+  life_passes life its = both (not (is_some life.sync)) (are_events (length blocks) life.events) (is_none_of life.sync its.no_sync) (events_pass life.events its.events)
 
-  lives_tested : (lives : List Life) → are_lives n blocks lives ≡ true → AllByRecursion IsTested lives
+  lives_tested : (lives : List Life) → are_lives (length blocks) lives ≡ true → AllByRecursion IsTested lives
   lives_tested [] e = tt
   lives_tested (life ∷ lives) e =
-      let parts = and_parts (is_life n blocks life) (are_lives n blocks lives) e in
+      let parts = and_parts (is_life (length blocks) life) (are_lives (length blocks) lives) e in
       (life_tested life parts.0, lives_tested lives parts.1)
 
-  lives_pass : (lives : List Life) → AllByRecursion IsTested lives → are_lives n blocks lives ≡ true
+  lives_pass : (lives : List Life) → AllByRecursion IsTested lives → are_lives (length blocks) lives ≡ true
   lives_pass [] its = refl
-  lives_pass (life ∷ lives) its = both (is_life n blocks life) (are_lives n blocks lives) (life_passes life its.0) (lives_pass lives its.1)
+  lives_pass (life ∷ lives) its = both (is_life (length blocks) life) (are_lives (length blocks) lives) (life_passes life its.0) (lives_pass lives its.1)
 
 -- THE SCRIPT
 
@@ -107,13 +116,13 @@ pub record HasPassed (script : Script) : Type 0 where
   pub reshares : script.config.oneshot ≡ None
   pub own : script.config.me < 2 ^ 32
   pub few : non_zero_u32_get script.config.limit ≤ 2 ^ 30
-  pub lives : are_lives (non_zero_u64_get script.config.blocks_per_epoch) script.blocks script.lives ≡ true
+  pub lives : are_lives (length script.blocks) script.lives ≡ true
 
 pub has_passed : (script : Script) → is_built script ≡ true → HasPassed script
 unfolding is_built
 has_passed script e =
     let config = script.config in
-    let outer = and_parts (not script.addressed && is_plain config) (are_lives (non_zero_u64_get config.blocks_per_epoch) script.blocks script.lives) e in
+    let outer = and_parts (not script.addressed && is_plain config) (are_lives (length script.blocks) script.lives) e in
     let inner = and_parts (not script.addressed) (is_plain config) outer.0 in
     let keyed = and_parts (is_alone config && is_limit config) (is_key config.me) inner.1 in
     let limited = and_parts (is_alone config) (is_limit config) keyed.0 in
@@ -127,34 +136,33 @@ has_passed script e =
       lives = outer.1;
     }
 
-pub form_if_built : (script : Script) → is_built script ≡ true → non_zero_u64_get script.config.blocks_per_epoch < 2 ^ 64 → IsOfText script → IsFormOfEpochs script
+pub form_if_built : (script : Script) → is_built script ≡ true → non_zero_u64_get script.config.blocks_per_epoch < 2 ^ 64 → IsOfText script → IsFormOfInclusion script
 form_if_built script e short of_text =
-    let n = non_zero_u64_get script.config.blocks_per_epoch in
     let passed = has_passed script e in
-    let tested = lives_tested n script.blocks script.lives passed.lives in
+    let tested = lives_tested script.blocks script.lives passed.lives in
     record {
       plain = passed.plain;
       reshares = passed.reshares;
       own = passed.own;
       few = passed.few;
       short = short;
+      rising = of_text.rising;
       blocks = of_text.blocks;
       placed = of_text.placed;
       lives = λ l life is.
-          let its = holds_at (IsTested n script.blocks) script.lives l life tested is in
+          let its = holds_at (IsTested script.blocks) script.lives l life tested is in
           record {
             anchor = holds_at (λ (life : Life). IfSome life.anchor (IsAnchorIn script.blocks)) script.lives l life of_text.anchors is;
             no_sync = its.no_sync;
             events = its.events;
-            takes = early_if_none_late (alone script) l life passed.reshares its.no_sync refl its.none_late;
+            anew = holds_at (λ (life : Life). AskAnew life.events) script.lives l life of_text.anew is;
           };
     }
 
-pub built_if_form : (script : Script) → IsFormOfEpochs script → IsToldNothing script.config → is_built script ≡ true
+pub built_if_form : (script : Script) → IsFormOfInclusion script → IsToldNothing script.config → is_built script ≡ true
 unfolding is_built
 built_if_form script form nothing =
     let config = script.config in
-    let n = non_zero_u64_get config.blocks_per_epoch in
     let no_address : (length config.addresses == 0) ≡ true = rw nothing.0 refl in
     let alone_is : is_alone config ≡ true =
     both (not (is_some config.oneshot) && (length config.addresses == 0)) (not (is_some config.probe))
@@ -162,19 +170,17 @@ built_if_form script form nothing =
     let limited : is_limit config ≡ true = le-leb (non_zero_u32_get config.limit) (2 ^ 30) form.few in
     let keyed : is_key config.me ≡ true = lt-ltb config.me (2 ^ 32) form.own in
     let plain : is_plain config ≡ true = both (is_alone config && is_limit config) (is_key config.me) (both (is_alone config) (is_limit config) alone_is limited) keyed in
-    let tested = holds_all (IsTested n script.blocks) script.lives (λ l life is.
-    let its = form.lives l life is in
-    record { no_sync = its.no_sync; events = its.events; none_late = none_late_if_early (alone script) l life form.reshares its.no_sync refl its.takes }) in
-    both (not script.addressed && is_plain config) (are_lives n script.blocks script.lives)
-    (both (not script.addressed) (is_plain config) (ap not form.plain) plain) (lives_pass n script.blocks script.lives tested)
+    let tested = holds_all (IsTested script.blocks) script.lives (λ l life is. let its = form.lives l life is in record { no_sync = its.no_sync; events = its.events }) in
+    both (not script.addressed && is_plain config) (are_lives (length script.blocks) script.lives)
+    (both (not script.addressed) (is_plain config) (ap not form.plain) plain) (lives_pass script.blocks script.lives tested)
 
 -- WHAT THE TEST ANSWERS
 
-pub told_form : (script : Script) (yes : Bool) → yes ≡ is_built script → non_zero_u64_get script.config.blocks_per_epoch < 2 ^ 64 → OnTrue yes (IsOfText script → IsFormOfEpochs script)
+pub told_form : (script : Script) (yes : Bool) → yes ≡ is_built script → non_zero_u64_get script.config.blocks_per_epoch < 2 ^ 64 → OnTrue yes (IsOfText script → IsFormOfInclusion script)
 told_form script true is short = λ of_text. form_if_built script (sym is) short of_text
 told_form script false is short = tt
 
-pub told_other : (script : Script) (yes : Bool) → yes ≡ is_built script → OnFalse yes (IsFormOfEpochs script → IsToldNothing script.config → ⊥)
+pub told_other : (script : Script) (yes : Bool) → yes ≡ is_built script → OnFalse yes (IsFormOfInclusion script → IsToldNothing script.config → ⊥)
 told_other script true is = tt
 told_other script false is = λ form nothing. differ (is_built script) (sym is) (built_if_form script form nothing)
   where
@@ -182,6 +188,6 @@ told_other script false is = λ form nothing. differ (is_built script) (sym is) 
     differ b is_not is = cc
 
 -- .. and of a text's script that passed
-pub form_told : (script : Script) (yes : Bool) → yes ≡ true → OnTrue yes (IsOfText script → IsFormOfEpochs script) → IsOfText script → IsFormOfEpochs script
+pub form_told : (script : Script) (yes : Bool) → yes ≡ true → OnTrue yes (IsOfText script → IsFormOfInclusion script) → IsOfText script → IsFormOfInclusion script
 form_told script true is told of_text = told of_text
 form_told script false is told of_text = absurd cc

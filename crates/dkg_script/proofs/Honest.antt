@@ -49,6 +49,7 @@ two_is_early = record {
   long = lit≤ tt;
   short = lit< tt;
   supported = refl;
+  rising = refl;
   blocks = (genesis_is_early two.lives, tt);
   first = refl;
   lives = (record { anchor = tt; holds = refl; no_sync = refl; events = (lit< tt, tt) }, (record { anchor = tt; holds = refl; no_sync = refl; events = tt }, tt));
@@ -93,6 +94,7 @@ install_is_early = record {
   long = lit≤ tt;
   short = lit< tt;
   supported = refl;
+  rising = refl;
   blocks = (genesis_is_early at_install.lives, tt);
   first = refl;
   lives = (record { anchor = tt; holds = refl; no_sync = refl; events = (lit< tt, tt) }, (record { anchor = tt; holds = refl; no_sync = refl; events = (lit< tt, tt) }, (record { anchor = tt; holds = refl; no_sync = refl; events = tt }, tt)));
@@ -125,6 +127,7 @@ gate_is_early = record {
   long = lit≤ tt;
   short = lit< tt;
   supported = refl;
+  rising = refl;
   blocks = (genesis_is_early at_gate.lives, tt);
   first = refl;
   lives = (record { anchor = tt; holds = refl; no_sync = refl; events = (lit< tt, tt) }, (record { anchor = tt; holds = refl; no_sync = refl; events = tt }, tt));

@@ -1,27 +1,37 @@
--- What the blocks of a text's script carry is read under the script's limits, their heights have 64 bits, and none of its lives begins below height 0.
-use Rattle.std.proofs.Common.{◌≡◌, ℕ, zero, suc, ◌<◌, ◌^◌, ◌++◌, Bool, true, false, cond, List, [], ◌∷◌, Option, Some, None, Result, Ok, Err, ap, arith, refl, sym, ◌∙◌, length}
-use Rattle.std.specs.Prelude.{is_some, max, nat_lt, option_map, slice_get, IfSome, IsSome, IsSomeAnd}
+-- What a script of a text has: its players' epochs rise, what its blocks carry is read under its limits, their heights have 64 bits, and of its lives none begins below height 0 and none asks for an
+-- info by a number that is taken.
+use Rattle.std.proofs.Common.{◌≡◌, ℕ, zero, suc, ◌<◌, ◌^◌, ◌++◌, Bool, true, false, cond, List, [], ◌∷◌, Option, Some, None, Result, Ok, Err, ap, arith, refl, sym, ◌∙◌, length, append-nil, append_assoc, subst}
+use Rattle.std.specs.Prelude.{is_some, not, max, nat_lt, option_map, slice_get, IfSome, IsSome, IsSomeAnd}
 use Rattle.std.specs.Int.NonZero.{non_zero_u32_get}
 use Rattle.std.specs.List.{AllByRecursion}
+use Rattle.std.specs.List.Sorted.{IsStrictlyIncreasing}
 use Rattle.std.specs.Option.{option_map_or}
 use Rattle.std.specs.Result.{result_ok}
 use Rattle.std.proofs.lemmas.Bool.{ltb-true}
 use Rattle.dkg_values.specs.Codec.{whole}
+use Rattle.dkg_values.specs.Rising.{keys_of}
 use Rattle.dkg_types.specs.PayloadCodes.{payload_at}
 use Rattle.dkg_types.specs.Units.{unit_at}
 use Rattle.dkg_text.specs.declared.script.Anchor.{Anchor}
 use Rattle.dkg_text.specs.declared.script.Anchor.TheVariants.{Processed, Absent}
 use Rattle.dkg_text.specs.declared.script.BlockLine.{BlockLine}
+use Rattle.dkg_text.specs.declared.script.Event.{Event}
+use Rattle.dkg_text.specs.declared.script.Event.TheVariants.{Info}
 use Rattle.dkg_text.specs.declared.script.Life.{Life}
+use Rattle.dkg_text.specs.declared.script.PlayerLine.{PlayerLine}
 use Rattle.dkg_text.specs.declared.script.Script.{Script}
-use Rattle.dkg_text.specs.Allowed.{IsAnchor, IsBlockLine, IsLife, IsScript}
+use Rattle.dkg_text.specs.Allowed.{IsAnchor, IsBlockLine, IsEventAfter, IsLife, IsPlayerLine, IsScript}
+use Rattle.dkg_text.specs.Asked.{is_asked}
 use Rattle.dkg_text.specs.Carried.{carried, kind_of, unit_kind}
-use Rattle.dkg_text.specs.Grammar.{absent_from, is_payload, limit_of, reading_of, script_of, script_or_place, with_place}
+use Rattle.dkg_text.specs.Grammar.{absent_from, is_above, is_event, is_payload, limit_of, reading_of, script_of, script_or_place, with_place}
 use Rattle.dkg_text.specs.Rows.{◌>>=◌}
 use Rattle.dkg_text.specs.Spells.{FitAfter}
+use Rattle.dkg_text.proofs.Rise.{is_rising, pair_above, rising_is}
 use Rattle.dkg_text.proofs.ScriptLaws.{written_again}
+use Rattle.dkg_script.specs.Asked.{AskAnew, IsAskedAnew}
 use Rattle.dkg_script.specs.Built.{IsOfText}
 use Rattle.dkg_script.specs.Epochs.{IsAnchorIn, IsBlockIn}
+use Rattle.dkg_script.specs.Players.{epochs_of}
 use Rattle.dkg_script.specs.Readings.{unit_payload}
 
 spelled : {A : Type 0} (size : ℕ) (reading : Result A ℕ) (x : A) → with_place size reading ≡ Ok x → result_ok reading ≡ Some x
@@ -94,11 +104,62 @@ anchors_in : (script : Script) (done lives : List Life) → FitAfter (λ _. IsLi
 anchors_in script done [] fit = tt
 anchors_in script done (life ∷ lives) fit = (anchor_in script.blocks life.anchor fit.0.anchor, anchors_in script (done ++ life ∷ []) lives fit.1)
 
+-- THE PLAYERS' EPOCHS
+
+abbrev doubled : List ℕ → List (ℕ × ℕ)
+doubled [] = []
+doubled (key ∷ keys) = (key, key) ∷ doubled keys
+
+doubled_keys : (keys : List ℕ) → keys_of (doubled keys) ≡ keys
+doubled_keys [] = refl
+doubled_keys (key ∷ keys) = ap (λ (rest : List ℕ). key ∷ rest) (doubled_keys keys)
+
+doubled_more : (keys : List ℕ) (above : ℕ) → keys_of (doubled keys ++ (above, above) ∷ []) ≡ keys ++ above ∷ []
+doubled_more [] above = refl
+doubled_more (key ∷ keys) above = ap (λ (rest : List ℕ). key ∷ rest) (doubled_more keys above)
+
+key_above : (keys : List ℕ) (key : ℕ) → IsStrictlyIncreasing keys → is_above keys key ≡ true → IsStrictlyIncreasing (keys ++ key ∷ [])
+key_above keys key up above =
+    subst IsStrictlyIncreasing (doubled_more keys key)
+    (pair_above (doubled keys) (key, key) (subst IsStrictlyIncreasing (sym (doubled_keys keys)) up) (ap (λ (ks : List ℕ). is_above ks key) (doubled_keys keys) ∙ above))
+
+epochs_more : (lines : List PlayerLine) (line : PlayerLine) → epochs_of (lines ++ line ∷ []) ≡ epochs_of lines ++ line.epoch ∷ []
+epochs_more [] line = refl
+epochs_more (first ∷ lines) line = ap (λ (rest : List ℕ). first.epoch ∷ rest) (epochs_more lines line)
+
+players_rise : (done lines : List PlayerLine) → FitAfter IsPlayerLine done lines → IsStrictlyIncreasing (epochs_of done) → IsStrictlyIncreasing (epochs_of (done ++ lines))
+players_rise done [] fit up = subst (λ (all : List PlayerLine). IsStrictlyIncreasing (epochs_of all)) (sym (append-nil done)) up
+players_rise done (line ∷ lines) fit up =
+    let more : IsStrictlyIncreasing (epochs_of (done ++ line ∷ [])) =
+    subst IsStrictlyIncreasing (sym (epochs_more done line)) (key_above (epochs_of done) line.epoch up fit.0.above) in
+    subst (λ (all : List PlayerLine). IsStrictlyIncreasing (epochs_of all)) (append_assoc done (line ∷ []) lines) (players_rise (done ++ line ∷ []) lines fit.1 more)
+
+-- THE REQUESTS' NUMBERS
+
+none_asked : (b : Bool) → not b ≡ true → b ≡ false
+none_asked false is = refl
+none_asked true is = absurd cc
+
+asked_anew : (blocks : ℕ) (probe : Bool) (done : List Event) (event : Event) → is_event blocks probe done event ≡ true → IsAskedAnew done event
+asked_anew blocks probe done (Info request) is = none_asked (is_asked done request) is
+asked_anew blocks probe done _ is = tt
+
+ask_anew : (blocks : ℕ) (probe : Bool) (done events : List Event) → FitAfter (IsEventAfter blocks probe) done events → FitAfter IsAskedAnew done events
+ask_anew blocks probe done [] fit = tt
+ask_anew blocks probe done (event ∷ events) fit = (asked_anew blocks probe done event fit.0.stands, ask_anew blocks probe (done ++ event ∷ []) events fit.1)
+
+lives_ask_anew : (script : Script) (done lives : List Life) → FitAfter (λ _. IsLife script.addressed script.config script.blocks) done lives → AllByRecursion (λ life. AskAnew life.events) lives
+lives_ask_anew script done [] fit = tt
+lives_ask_anew script done (life ∷ lives) fit =
+    (ask_anew (length script.blocks) (is_some script.config.probe) [] life.events fit.0.events, lives_ask_anew script (done ++ life ∷ []) lives fit.1)
+
 pub is_of_text : (addressed : Bool) (bytes : List ℕ) (script : Script) → script_or_place addressed bytes ≡ Ok script → script.addressed ≡ false → script.config.oneshot ≡ None → IsOfText script
 is_of_text addressed bytes script is plain reshares =
     let its = script_is addressed bytes script is in
     record {
+      rising = rising_is (epochs_of script.config.players) (players_rise [] script.config.players its.config.players (is_rising [] refl));
       blocks = blocks_read script plain reshares [] script.blocks its.blocks;
       placed = blocks_placed script [] script.blocks its.blocks;
       anchors = anchors_in script [] script.lives its.lives;
+      anew = lives_ask_anew script [] script.lives its.lives;
     }

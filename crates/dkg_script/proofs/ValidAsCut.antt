@@ -1,136 +1,79 @@
--- A valid script is valid as it was cut: up to there each life is brought the same blocks, and each block that is used then is used anyhow.
-use Rattle.std.proofs.Common.{ℕ, zero, suc, ◌+◌, ◌≤◌, inl, inr, List, [], ◌∷◌, ◌≡◌, refl, sym, ap, subst, ◌∙◌, Option, Some, None, Bool, true, false, arith, take, length}
-use Rattle.std.specs.Prelude.{filter_map, fold, is_none, max, not, option_and_then, option_map, IfSome, IsSomeAnd, ◌==◌, ◌&&◌, ◌||◌, ◌/◌, nat_lt}
-use Rattle.std.specs.List.{AllByRecursion, list_any}
-use Rattle.std.specs.Option.{option_map_or}
+-- A valid script is valid as it was cut: up to there each life is brought the same blocks and asked the same, and each block that is used then is used anyhow.
+use Rattle.std.proofs.Common.{ℕ, zero, suc, ◌+◌, ◌≤◌, inl, inr, List, ◌≡◌, refl, sym, ap, subst, ◌∙◌, Option, Some, None, false, arith, length}
+use Rattle.std.specs.Prelude.{option_map, IfSome, IsSomeAnd, ◌/◌}
 use Rattle.std.proofs.Math.Nat.{div-eq_of_lt, div-zero}
-use Rattle.std.proofs.lemmas.Bool.{eq-eqb}
-use Rattle.std.proofs.lemmas.Option.{slice_get_within}
 use Rattle.dkg_text.specs.declared.script.Event.{Event}
-use Rattle.dkg_text.specs.declared.script.Event.TheVariants.{Final}
+use Rattle.dkg_text.specs.declared.script.Event.TheVariants as kind
 use Rattle.dkg_text.specs.declared.script.Life.{Life}
 use Rattle.dkg_script.specs.AsCut.{life_as_cut, with_cuts}
 use Rattle.dkg_script.specs.AsCutLaws.{ValidAnyhow}
-use Rattle.dkg_script.specs.Blocks.{Block, block_at, delivered_number, events_come_to, held_at_opening, used}
-use Rattle.dkg_script.specs.Position.{IsPlanHistory, awaited_epoch, awaited_height, cut_of, delivered, enters_at, floor_block, follows, lacks_boundary, start_height, starts_blind, starts_late}
+use Rattle.dkg_script.specs.Blocks.{Block, used}
+use Rattle.dkg_script.specs.Position.{IsPlanHistory, awaited_epoch, awaited_height, cut_of, follows}
 use Rattle.dkg_script.specs.Progress.{progress}
 use Rattle.dkg_script.specs.Promise.{with_plans}
-use Rattle.dkg_script.specs.Readings.{Info, Material}
-use Rattle.dkg_script.specs.Schedule.{boundary, epoch_of, midpoint}
-use Rattle.dkg_script.specs.Setting.{Setting, CutAt, blocks_per_epoch, found, is_oneshot, life_at, setting_of}
-use Rattle.dkg_script.specs.Valid.{BeginsWell, ComesInTurn, IsValidCase, IsValidScript, LiesInRange, ServesIn}
+use Rattle.dkg_script.specs.Readings.{Info}
+use Rattle.dkg_script.specs.Schedule.{epoch_of}
+use Rattle.dkg_script.specs.Setting.{Setting, CutAt, blocks_per_epoch, found, life_at, setting_of}
+use Rattle.dkg_script.specs.Valid.{BeginsWell, ComesInTurn, EndsEpoch, HasPlayers, IsValidCase, IsValidScript, LiesInRange, ProvidesNext, ServesIn}
 use Rattle.dkg_script.proofs.AsCut.{its_life}
-use Rattle.dkg_script.proofs.ConsistentAsCut.{IsBefore, consistent_as_cut, history_of, plain_case, same_ends, same_height, step_of_life, used_within}
-use Rattle.dkg_script.proofs.EarlyScripts.{no_material, plain_of}
+use Rattle.dkg_script.proofs.ConsistentAsCut.{before_it, consistent_as_cut, height_as_cut, history_of, is_plain, plain_case, same_ends, step_of_life, used_within}
+use Rattle.dkg_script.proofs.EarlyScripts.{plain_of}
+use Rattle.dkg_script.proofs.FollowsAsCut.{epoch_as_cut, follows_as_cut}
 use Rattle.dkg_script.proofs.Members.{all_of, of_all}
-use Rattle.dkg_script.proofs.Plain.{IsPlain, all_at, finds_none}
+use Rattle.dkg_script.proofs.Plain.{IsPlain}
 use Rattle.dkg_script.proofs.ScriptedCuts.{ends_as_scripted}
-
--- A HEIGHT THAT IS AWAITED never falls
-
-no_events : {A : Type 0} (xs : List A) → take zero xs ≡ []
-no_events [] = refl
-no_events (x ∷ xs) = refl
-
-over : (a b c : ℕ) → a ≤ b → b ≤ c → a ≤ c
-over a b c first then = omega (arith, first, then)
-
-least : (a b : ℕ) → a ≤ max a b
-least a b = omega arith
-
-none_below : (a b : ℕ) → a ≤ b → b ≡ 0 → a ≡ 0
-none_below a b low is = omega (arith, low, is)
-
-climbs : (bs : List Block) (n : ℕ) → n ≤ fold (λ height b. max height (suc b.height)) n bs
-climbs [] n = omega arith
-climbs (b ∷ bs) n = over n (max n (suc b.height)) (fold (λ height b. max height (suc b.height)) (max n (suc b.height)) bs) (least n (suc b.height)) (climbs bs (max n (suc b.height)))
 
 zero_over : (n : ℕ) → 0 / n ≡ 0
 zero_over zero = div-zero 0
 zero_over (suc n) = div-eq_of_lt (omega arith)
 
-module _ (s : Setting) (l : ℕ) (life : Life) where
-  first_awaited : awaited_height s l life 0 ≡ start_height s l life
-  unfolding awaited_height
-  first_awaited =
-      ap (λ (events : List Event). fold (λ height b. max height (suc b.height)) (start_height s l life) (filter_map (block_at s) (filter_map delivered_number events)))
-      (no_events (events_come_to life.cut life.events))
+-- the same event ends an epoch
+same_end : (s : Setting) (ends : List (Option CutAt)) (epoch : ℕ) (event : Event) → EndsEpoch (with_cuts ends s) epoch event → EndsEpoch s epoch event
+same_end s ends epoch (kind.Final number) its = its
+same_end s ends epoch (kind.Info request) its = tt
+same_end s ends epoch _ its = absurd its
 
-  -- where none is awaited after some events, none was before them
-  none_awaited : (j : ℕ) → awaited_height s l life j ≡ 0 → awaited_height s l life 0 ≡ 0
-  unfolding awaited_height
-  none_awaited j is =
-      first_awaited
-      ∙ none_below (start_height s l life) (fold (λ height b. max height (suc b.height)) (start_height s l life) (delivered s life j)) (climbs (delivered s life j) (start_height s l life)) is
+module _ (s : Setting) (ends : List (Option CutAt)) (l : ℕ) (life : Life) (no_sync : life.sync ≡ None) (none : found s l ≡ None) (end : Option CutAt) where
+  abbrev t : Setting
+  t = with_cuts ends s
 
-  module _ (no_sync : life.sync ≡ None) (none : found s l ≡ None) where
-    not_late : starts_late s l life ≡ false
-    not_late =
-        ap (λ (m : Option Material). option_map_or (λ b. nat_lt (midpoint (blocks_per_epoch s) (epoch_of (blocks_per_epoch s) b.height)) b.height) (option_and_then (floor_block s life) m) false)
-        (no_material s l life no_sync none)
-
-    blind_is : starts_blind s l life ≡ lacks_boundary s l life
-    blind_is = ap (λ (m : Option Material). is_none m && lacks_boundary s l life) (no_material s l life no_sync none)
-
--- A LIFE WITHOUT A POSITION follows where it lacks the boundary block, however it was cut
-
-abbrev follows_by : (oneshot first late blind enters : Bool) → Bool
-follows_by oneshot first late blind enters = not oneshot && ((first && (late || blind)) || (blind && enters))
-
-apart : false ≡ true → ⊥
-apart e = cc
-
-blind_alone : (oneshot first blind enters other : Bool) → follows_by oneshot first false blind enters ≡ true → follows_by oneshot true false blind other ≡ true
-blind_alone true first blind enters other e = absurd (apart e)
-blind_alone false first true enters other e = refl
-blind_alone false true false enters other e = absurd (apart e)
-blind_alone false false false enters other e = absurd (apart e)
-
-before_it : (j : ℕ) (end : Option CutAt) → IsBefore (suc j) end → IsBefore j end
-before_it j None before = tt
-before_it j (Some at) (inl below) = inl (omega arith)
-before_it j (Some at) (inr before) = inr before
-
-before_all : (end : Option CutAt) → IsBefore 0 end
-before_all None = tt
-before_all (Some at) = inl (omega arith)
-
-module _ (s : Setting) (ends cuts : List (Option CutAt)) (plain : IsPlain s) (history : IsPlanHistory (with_cuts ends s) cuts) (l : ℕ) (begun : l ≤ length cuts) where
-  follows_as_cut : (end : Option CutAt) (life : Life) (j : ℕ) → life_at s l ≡ Some life → awaited_height s l life j ≡ 0 → follows s l life 0 ≡ true
-      → follows (with_cuts ends s) l (life_as_cut end life) 0 ≡ true
-  follows_as_cut end life j is none_so_far follow =
-      let no_sync = all_at (λ life. life.sync ≡ None) s.script.lives l life plain.no_sync is in
-      let none = finds_none s cuts plain (history_of s ends cuts history) l begun (slice_get_within s.script.lives l life is) in
-      let shorter : Life = life_as_cut end life in
-      let t : Setting = with_cuts ends s in
-      let height : awaited_height t l shorter 0 ≡ awaited_height s l life 0 = same_height s ends cuts plain history l begun end life 0 is (before_all end) in
-      let epoch : awaited_epoch t l shorter 0 ≡ awaited_epoch s l life 0 = ap (λ (h : ℕ). epoch_of (blocks_per_epoch s) h) height in
-      let zeroth : awaited_epoch t l shorter 0 ≡ 0 = ap (λ (h : ℕ). epoch_of (blocks_per_epoch s) h) (height ∙ none_awaited s l life j none_so_far) ∙ zero_over (blocks_per_epoch s) in
-      let first : (0 == awaited_epoch t l shorter 0) ≡ true = eq-eqb 0 (awaited_epoch t l shorter 0) (sym zeroth) in
-      let lacks : lacks_boundary t l shorter ≡ lacks_boundary s l life = ap (λ (e : ℕ). not (list_any (λ b. b.height == boundary (blocks_per_epoch s) e) (held_at_opening s life))) epoch in
-      let its = subst (λ (b : Bool). follows_by (is_oneshot s) (0 == awaited_epoch s l life 0) false b (enters_at s l life 0) ≡ true) (blind_is s l life no_sync none)
-      (subst (λ (late : Bool). follows_by (is_oneshot s) (0 == awaited_epoch s l life 0) late (starts_blind s l life) (enters_at s l life 0) ≡ true) (not_late s l life no_sync none) follow) in
-      let alone = blind_alone (is_oneshot s) (0 == awaited_epoch s l life 0) (lacks_boundary s l life) (enters_at s l life 0) (enters_at t l shorter 0) its in
-      let blind = subst (λ (b : Bool). follows_by (is_oneshot s) true false b (enters_at t l shorter 0) ≡ true) (sym (blind_is t l shorter no_sync none ∙ lacks)) alone in
-      let late = subst (λ (late : Bool). follows_by (is_oneshot s) true late (starts_blind t l shorter) (enters_at t l shorter 0) ≡ true) (sym (not_late t l shorter no_sync none)) blind in
-      subst (λ (f : Bool). follows_by (is_oneshot s) f (starts_late t l shorter) (starts_blind t l shorter) (enters_at t l shorter 0) ≡ true) (sym first) late
+  abbrev shorter : Life
+  shorter = life_as_cut end life
 
   -- THE DELIVERIES come in turn there
-  turn_as_cut : (end : Option CutAt) (life : Life) → life_at s l ≡ Some life → ComesInTurn s l life → ComesInTurn (with_cuts ends s) l (life_as_cut end life)
-  turn_as_cut end life is turn j number b event comes there =
-      let its = step_of_life end life (suc j) (Final number) event in
-      let same : awaited_height (with_cuts ends s) l (life_as_cut end life) j ≡ awaited_height s l life j = same_height s ends cuts plain history l begun end life j is (before_it j end its.1) in
+  pub turn_as_cut : ComesInTurn s l life → ComesInTurn (with_cuts ends s) l (life_as_cut end life)
+  turn_as_cut turn j number b event comes there =
+      let its = step_of_life end life (suc j) (kind.Final number) event in
+      let before = before_it j end its.1 in
+      let same : awaited_height t l shorter j ≡ awaited_height s l life j = height_as_cut s ends l life no_sync none end j before in
       elim (turn j number b its.0 comes there) [
         | inl low ↦ inl (subst (λ (n : ℕ). b.height ≤ n) (sym same) low)
-        | inr first ↦ inr (same ∙ first.0, follows_as_cut end life j is first.0 first.1)
+        | inr first ↦
+            let zeroth : awaited_epoch s l life j ≡ 0 = ap (λ (h : ℕ). epoch_of (blocks_per_epoch s) h) first.0 ∙ zero_over (blocks_per_epoch s) in
+            inr (same ∙ first.0, subst (λ (epoch : ℕ). follows t l shorter epoch ≡ follows s l life epoch) zeroth (follows_as_cut s ends l life no_sync none end j before) ∙ first.1)
       ]
 
-  in_turn_as_cut : IfSome (life_at s l) (ComesInTurn s l) → IfSome (life_at (with_cuts ends s) l) (ComesInTurn (with_cuts ends s) l)
-  in_turn_as_cut turn = subst (λ (o : Option Life). IfSome o (ComesInTurn (with_cuts ends s) l)) (sym (its_life ends s.script.lives l)) (by_life (life_at s l) refl turn)
+  -- AND THE PROVIDER says as much
+  pub provides_as_cut : ProvidesNext s l life → ProvidesNext (with_cuts ends s) l (life_as_cut end life)
+  provides_as_cut provides j event is comes ends_epoch takes_part =
+      let its = step_of_life end life (suc j) event is in
+      let before = before_it j end its.1 in
+      let same : awaited_epoch t l shorter j ≡ awaited_epoch s l life j = epoch_as_cut s ends l life no_sync none end j before in
+      let ended : EndsEpoch s (awaited_epoch s l life j) event = same_end s ends (awaited_epoch s l life j) event (subst (λ (epoch : ℕ). EndsEpoch t epoch event) same ends_epoch) in
+      let part : follows t l shorter (awaited_epoch s l life j) ≡ false = subst (λ (epoch : ℕ). follows t l shorter epoch ≡ false) same takes_part in
+      subst (λ (epoch : ℕ). HasPlayers s (epoch + 2)) (sym same)
+      (provides j event its.0 comes ended (sym (follows_as_cut s ends l life no_sync none end j before) ∙ part))
+
+module _ (s : Setting) (ends cuts : List (Option CutAt)) (plain : IsPlain s) (history : IsPlanHistory (with_cuts ends s) cuts) (l : ℕ) (begun : l ≤ length cuts)
+    (P : Setting → (l : ℕ) → Life → Type 0)
+    (stays : (life : Life) (end : Option CutAt) → life.sync ≡ None → found s l ≡ None → P s l life → P (with_cuts ends s) l (life_as_cut end life)) where
+  -- what holds of the life in hand holds of it as it was cut
+  in_hand_as_cut : IfSome (life_at s l) (P s l) → IfSome (life_at (with_cuts ends s) l) (P (with_cuts ends s) l)
+  in_hand_as_cut holds = subst (λ (o : Option Life). IfSome o (P (with_cuts ends s) l)) (sym (its_life ends s.script.lives l)) (by_life (life_at s l) refl holds)
     where
-      by_life : (o : Option Life) → life_at s l ≡ o → IfSome o (ComesInTurn s l) → IfSome (option_map (life_as_cut (cut_of ends l)) o) (ComesInTurn (with_cuts ends s) l)
-      by_life None is turn = tt
-      by_life (Some life) is turn = turn_as_cut (cut_of ends l) life is turn
+      by_life : (o : Option Life) → life_at s l ≡ o → IfSome o (P s l) → IfSome (option_map (life_as_cut (cut_of ends l)) o) (P (with_cuts ends s) l)
+      by_life None is holds = tt
+      by_life (Some life) is holds = let its = is_plain s ends cuts plain history l begun life is in stays life (cut_of ends l) its.0 its.1 holds
 
 -- THE SCRIPT
 
@@ -145,7 +88,8 @@ module _ (s : Setting) (ends : List (Option CutAt)) where
   pub valid_case_as_cut : IsPlain s → IsPlanHistory (with_cuts ends s) ends → IsValidCase s ends → IsValidCase (with_cuts ends s) ends
   valid_case_as_cut plain history valid = record {
     consistent = consistent_as_cut s ends plain history valid.consistent;
-    in_turn = λ l began. in_turn_as_cut s ends ends plain history l began (valid.in_turn l began);
+    in_turn = λ l began. in_hand_as_cut s ends ends plain history l began ComesInTurn (λ life end no_sync none. turn_as_cut s ends l life no_sync none end) (valid.in_turn l began);
+    provided = λ l began. in_hand_as_cut s ends ends plain history l began ProvidesNext (λ life end no_sync none. provides_as_cut s ends l life no_sync none end) (valid.provided l began);
     in_range = all_of (λ b. LiesInRange s b.height × LiesInRange s (b.height + 1)) (used (with_cuts ends s))
         (λ b is. of_all (λ b. LiesInRange s b.height × LiesInRange s (b.height + 1)) (used s) b valid.in_range (used_within s ends b is));
     begins = all_of (BeginsWell (with_cuts ends s)) (used (with_cuts ends s)) (λ b is. begins_as_cut b (of_all (BeginsWell s) (used s) b valid.begins (used_within s ends b is)));

@@ -1,5 +1,5 @@
 -- Scripts that are valid: the stored run's, one that delivers blocks, and one over three epochs, where both of its lives came to their end.
-use Rattle.std.proofs.Common.{ℕ, zero, suc, ◌≤◌, List, [], ◌∷◌, ◌≡◌, refl, inl, Option, Some, None, lit<, lit≤, arith, sym, subst, ◌∙◌}
+use Rattle.std.proofs.Common.{ℕ, zero, suc, ◌≤◌, List, [], ◌∷◌, ◌≡◌, refl, inl, Option, Some, None, lit<, lit≤, arith, sym, subst, ◌∙◌, true, false, ◌<◌}
 use Rattle.std.specs.Prelude.{max, option_and_then, IfSome, IsSomeAnd, ◌+◌, ◌-◌, ◌*◌}
 use Rattle.std.specs.FinMap.{get-empty}
 use Rattle.std.specs.List.{AllByRecursion}
@@ -15,17 +15,18 @@ use Rattle.dkg_types.specs.InfoCodes.{held_at, parts_at}
 use Rattle.dkg_types.specs.OutcomeCodes.{outcome_after}
 use Rattle.dkg_types.specs.PayloadCodes.{carried_at, payload_after}
 use Rattle.dkg_types.specs.Validation.{validation}
-use Rattle.dkg_text.specs.declared.script.Event.TheVariants.{Peer, Final}
+use Rattle.dkg_text.specs.declared.script.Event.{Event}
+use Rattle.dkg_text.specs.declared.script.Event.TheVariants.{Peer, Final, Info}
 use Rattle.dkg_text.specs.declared.script.Life.{Life}
 use Rattle.dkg_text.specs.declared.script.Script.{Script}
 use Rattle.dkg_script.specs.Readings.{Material, info_in}
 use Rattle.dkg_script.specs.Setting.{Setting, CutAt, life_at}
 use Rattle.dkg_script.specs.Blocks.{Block, block_at, used}
 use Rattle.dkg_script.specs.Consistent.{IsConsistentScript}
-use Rattle.dkg_script.specs.Position.{IsPlanHistory, awaited_height, start_height}
+use Rattle.dkg_script.specs.Position.{IsPlanHistory, awaited_epoch, awaited_height, start_height}
 use Rattle.dkg_script.specs.Promise.{IsBuilt, with_plans}
-use Rattle.dkg_script.specs.Schedule.{boundary}
-use Rattle.dkg_script.specs.Valid.{BeginsWell, ComesInTurn, IsValidCase, IsValidScript, LiesInRange, ServesIn}
+use Rattle.dkg_script.specs.Schedule.{boundary, last}
+use Rattle.dkg_script.specs.Valid.{BeginsWell, ComesInTurn, EndsEpoch, IsValidCase, IsValidScript, LiesInRange, ProvidesNext, ServesIn}
 use Rattle.dkg_script.proofs.Early.{IsEarlyScript}
 use Rattle.dkg_script.proofs.EarlyScripts.{never_back, plain_of}
 use Rattle.dkg_script.proofs.EarlyWithin.{early_within}
@@ -52,6 +53,19 @@ its_block s k number known b same is there = let e : Some known ≡ Some b = sym
 in_turn_by : (s : Setting) (k number n : ℕ) (known b : Block) → Some (Final k) ≡ Some (Final number) → block_at s k ≡ Some known → known.height ≤ n → block_at s number ≡ Some b → b.height ≤ n
 in_turn_by s k number n known b final is low there =
     subst (λ (x : Block). x.height ≤ n) (its_block s k number known b (its_number k number final) is there) low
+
+-- ENDS OF EPOCHS
+ends_by : (s : Setting) (epoch : ℕ) (one event : Event) → Some one ≡ Some event → EndsEpoch s epoch event → EndsEpoch s epoch one
+ends_by s epoch one event is its = subst (λ (e : Event). EndsEpoch s epoch e) (sym (the_same is)) its
+  where
+    the_same : Some one ≡ Some event → one ≡ event
+    the_same e = cc
+
+zero_is_last : (n epoch : ℕ) → 2 ≤ n → 0 ≡ last n epoch → ⊥
+zero_is_last n epoch long is = let at : 0 ≡ epoch * n + n - 1 = is in omega (arith, at, long)
+
+one_is_last : (epoch : ℕ) → 1 ≡ last 8 epoch → ⊥
+one_is_last epoch is = let at : 1 ≡ epoch * 8 + 8 - 1 = is in omega (arith, at)
 
 -- BEGINNINGS: which epochs a height begins
 
@@ -80,6 +94,18 @@ module _ (plans : List (Option Material)) where
   two_in_turn (suc zero) = second_in_turn
   two_in_turn (suc (suc l)) = tt
 
+  first_provides : ProvidesNext stored 0 first_life
+  first_provides zero event is comes ends takes_part = absurd (ends_by stored (awaited_epoch stored 0 first_life 0) _ event is ends)
+  first_provides (suc j) event is comes ends takes_part = absurd (not_there event is)
+
+  second_provides : ProvidesNext stored 1 second_life
+  second_provides j event is comes ends takes_part = absurd (not_there event is)
+
+  two_provides : (l : ℕ) → IfSome (life_at stored l) (ProvidesNext stored l)
+  two_provides zero = first_provides
+  two_provides (suc zero) = second_provides
+  two_provides (suc (suc l)) = tt
+
   two_serves : (epoch : ℕ) → 0 ≡ boundary 8 epoch → IsSomeAnd (option_and_then (λ b. b.info) (block_at stored 0)) (ServesIn stored epoch)
   unfolding info_in payload_after carried_at parts_at held_at outcome_after mode_at byte_at many_at keys_at groups_at validation round_of
   two_serves zero at = record { of_epoch = refl; accepted = refl; round = refl }
@@ -98,6 +124,7 @@ two_is_valid ends = record {
   source = λ plans history. record {
     consistent = consistent_in plans ends history;
     in_turn = λ l began. two_in_turn plans l;
+    provided = λ l began. two_provides plans l;
     in_range = two_in_range plans;
     begins = two_begins plans;
   };
@@ -131,6 +158,7 @@ module _ (plans : List (Option Material)) where
     long = lit≤ tt;
     short = lit< tt;
     supported = refl;
+    rising = refl;
     blocks = (genesis_is_early [], ((lit< tt, tt), tt));
     first = refl;
     lives = (record { anchor = tt; holds = refl; no_sync = refl; events = (lit< tt, (lit< tt, tt)) }, tt);
@@ -159,6 +187,17 @@ module _ (plans : List (Option Material)) where
   delivering_in_turn zero = delivering_turn
   delivering_in_turn (suc l) = tt
 
+  delivering_brought : ProvidesNext case 0 brought
+  delivering_brought zero event is comes ends takes_part =
+      absurd (zero_is_last 8 (awaited_epoch case 0 brought 0) (lit≤ tt) (ends_by case (awaited_epoch case 0 brought 0) (Final 0) event is ends))
+  delivering_brought (suc zero) event is comes ends takes_part =
+      absurd (one_is_last (awaited_epoch case 0 brought 1) (ends_by case (awaited_epoch case 0 brought 1) (Final 1) event is ends))
+  delivering_brought (suc (suc j)) event is comes ends takes_part = absurd (not_there event is)
+
+  delivering_provides : (l : ℕ) → IfSome (life_at case l) (ProvidesNext case l)
+  delivering_provides zero = delivering_brought
+  delivering_provides (suc l) = tt
+
   delivering_serves : (epoch : ℕ) → 0 ≡ boundary 8 epoch → IsSomeAnd (option_and_then (λ b. b.info) (block_at case 0)) (ServesIn case epoch)
   unfolding info_in payload_after carried_at parts_at held_at outcome_after mode_at byte_at many_at keys_at groups_at validation round_of
   delivering_serves zero at = record { of_epoch = refl; accepted = refl; round = refl }
@@ -177,6 +216,7 @@ delivering_is_valid ends = record {
   source = λ plans history. record {
     consistent = delivering_consistent plans ends history;
     in_turn = λ l began. delivering_in_turn plans l;
+    provided = λ l began. delivering_provides plans l;
     in_range = delivering_in_range plans;
     begins = delivering_begins plans;
   };
@@ -236,6 +276,24 @@ chain_in_turn zero = chain_turn
 chain_in_turn (suc zero) = λ j number b is comes there. absurd (not_there (Final number) is)
 chain_in_turn (suc (suc l)) = tt
 
+two_is_last : (epoch : ℕ) → 2 ≡ last 2 epoch → ⊥
+two_is_last epoch is = let at : 2 ≡ epoch * 2 + 2 - 1 = is in omega (arith, at)
+
+chain_life_provides : ProvidesNext over 0 chain_life
+unfolding awaited_height
+chain_life_provides zero event is comes ends takes_part = absurd (ends_by over 0 _ event is ends)
+chain_life_provides (suc zero) event is comes ends takes_part = absurd (zero_is_last 2 0 (lit≤ tt) (ends_by over 0 (Final 0) event is ends))
+chain_life_provides (suc (suc zero)) event is comes ends takes_part = (lit< tt, lit≤ tt)
+chain_life_provides (suc (suc (suc zero))) event is comes ends takes_part = absurd (ends_by over 1 _ event is ends)
+chain_life_provides (suc (suc (suc (suc zero)))) event is comes ends takes_part = absurd (two_is_last 1 (ends_by over 1 (Final 2) event is ends))
+chain_life_provides (suc (suc (suc (suc (suc zero))))) event is comes ends takes_part = (lit< tt, lit≤ tt)
+chain_life_provides (suc (suc (suc (suc (suc (suc j)))))) event is comes ends takes_part = absurd (not_there event is)
+
+chain_provides : (l : ℕ) → IfSome (life_at over l) (ProvidesNext over l)
+chain_provides zero = chain_life_provides
+chain_provides (suc zero) = λ j event is comes ends takes_part. absurd (not_there event is)
+chain_provides (suc (suc l)) = tt
+
 chain_in_range : AllByRecursion (λ b. LiesInRange over b.height × LiesInRange over (b.height + 1)) (used over)
 unfolding used
 chain_in_range = ((lit< tt, lit< tt), ((lit< tt, lit< tt), ((lit< tt, lit< tt), ((lit< tt, lit< tt), ((lit< tt, lit< tt), ((lit< tt, lit< tt), ((lit< tt, lit< tt), tt)))))))
@@ -248,6 +306,38 @@ pub chain_is_valid : IsValidCase over (None ∷ None ∷ [])
 chain_is_valid = record {
   consistent = chain_is_consistent;
   in_turn = λ l began. chain_in_turn l;
+  provided = λ l began. chain_provides l;
   in_range = chain_in_range;
   begins = chain_begins;
 }
+
+-- WHERE THE SCRIPT'S LINES GIVE NO PLAYERS to the epoch two above one that ends, a life that takes part in it isn't served, and one that follows it wants none
+abbrev unserved : Setting
+unserved = setting (record chain { config = record chain.config { players = [] } })
+
+nobody : 0 < 0 → ⊥
+nobody below = omega arith
+
+pub chain_is_unserved : ProvidesNext unserved 0 chain_life → ⊥
+unfolding awaited_height
+chain_is_unserved its = nobody (its 2 (Final 1) refl tt refl refl).0
+
+abbrev follower : Life
+follower = record (life_of (Info 1 ∷ Final 1 ∷ []) None) { held = [] }
+
+follows_on : false ≡ true → ⊥
+follows_on e = cc
+
+pub follower_is_served : ProvidesNext (setting (record chain { config = record chain.config { players = [] }; lives = follower ∷ [] })) 0 follower
+unfolding awaited_height
+follower_is_served zero event is comes ends takes_part = absurd (follows_on (sym takes_part))
+follower_is_served (suc zero) event is comes ends takes_part = absurd (follows_on (sym takes_part))
+follower_is_served (suc (suc j)) event is comes ends takes_part = absurd (not_there event is)
+
+-- .. nor is the same life where it takes part, since it asks for an info
+abbrev asker : Life
+asker = life_of (Info 1 ∷ []) None
+
+pub asker_is_unserved : ProvidesNext (setting (record chain { config = record chain.config { players = [] }; lives = asker ∷ [] })) 0 asker → ⊥
+unfolding awaited_height
+asker_is_unserved its = nobody (its 0 (Info 1) refl tt tt refl).0

@@ -6,6 +6,7 @@ use Rattle.dkg_types.specs.declared.entry.Entry.{Entry}
 use Rattle.dkg_text.specs.declared.script.Script.{Script}
 use Rattle.dkg_script.specs.Setting.{Setting, CutAt, setting_of}
 use Rattle.dkg_script.specs.Epochs.{IsFormOfEpochs}
+use Rattle.dkg_script.specs.Inclusion.{IsFormOfInclusion}
 use Rattle.dkg_script.specs.Progress.{progress}
 use Rattle.dkg_script.specs.Order.{InOrder}
 use Rattle.dkg_script.specs.Consistent.{MayEndSo}
@@ -25,6 +26,10 @@ StaysInOrderAsCut = (s : Setting) (out : List Entry) → InOrder s out → InOrd
 -- Of the form of epochs stays a script however its lives were cut.
 abbrev pub StaysOfEpochs : Type 0
 StaysOfEpochs = (ends : List (Option CutAt)) (script : Script) → IsFormOfEpochs script → IsFormOfEpochs (as_cut ends script)
+
+-- .. and of the form of inclusion.
+abbrev pub StaysOfInclusion : Type 0
+StaysOfInclusion = (ends : List (Option CutAt)) (script : Script) → IsFormOfInclusion script → IsFormOfInclusion (as_cut ends script)
 
 -- WHAT IS PRESUMED of a script is asked of it as it was cut, with the ends that the transcript has. It holds there where it holds of the script wherever
 -- its cuts fall, or of the script as it is cut, however that may be.

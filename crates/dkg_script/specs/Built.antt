@@ -3,18 +3,21 @@ use Rattle.std.specs.Prelude.{◌≡◌, ℕ, ◌<◌, ◌^◌, ◌==◌, ◌&&�
 use Rattle.std.specs.Prelude.{List, [], ◌∷◌, length, is_some, None, IfSome, Result, Ok, Err}
 use Rattle.std.specs.Int.NonZero.{non_zero_u32_get}
 use Rattle.std.specs.List.{AllByRecursion}
+use Rattle.dkg_values.specs.Rising.{rises}
 use Rattle.dkg_text.specs.declared.error.ScriptError.{ScriptError}
 use Rattle.dkg_text.specs.declared.error.ScriptError.TheVariants as error
-use Rattle.dkg_text.specs.declared.script.BlockLine.{BlockLine}
 use Rattle.dkg_text.specs.declared.script.Event.{Event}
-use Rattle.dkg_text.specs.declared.script.Event.TheVariants.{Peer, Final, Info, Feed, Over, Cancel, Work}
+use Rattle.dkg_text.specs.declared.script.Event.TheVariants.{Peer, Final, Next, Release, Info, Feed, Over, Cancel, Work}
 use Rattle.dkg_text.specs.declared.script.Life.{Life}
 use Rattle.dkg_text.specs.declared.script.Script.{Script}
 use Rattle.dkg_text.specs.declared.script.ScriptConfig.{ScriptConfig}
 use Rattle.dkg_text.specs.Laws.{IsPlace}
 use Rattle.dkg_script.specs.declared.read.ReadError.{ReadError}
 use Rattle.dkg_script.specs.declared.read.ReadError.TheVariants.{Bad, Unsupported, NoMemory}
-use Rattle.dkg_script.specs.Epochs.{IsAnchorIn, IsBlockIn}
+use Rattle.dkg_script.specs.Asked.{AskAnew}
+use Rattle.dkg_script.specs.Epochs.{IsAnchorIn, IsBlockIn, IsFormOfEpochs}
+use Rattle.dkg_script.specs.Inclusion.{IsFormOfInclusion}
+use Rattle.dkg_script.specs.Players.{epochs_of}
 
 -- THE CONFIGURATION
 
@@ -38,10 +41,12 @@ is_plain config = is_alone config && is_limit config && is_key config.me
 
 -- THE LIVES
 
--- a message of the dealing channel, one of so many blocks, or a message of a final-block request
+-- a message of the dealing channel, one of so many blocks, a request for a log or its release, or a message of a final block's request
 abbrev pub is_event : (blocks : ℕ) → Event → Bool
 is_event blocks (Peer from bytes) = is_key from
 is_event blocks (Final number) = nat_lt number blocks
+is_event blocks (Next request height) = true
+is_event blocks (Release height) = true
 is_event blocks (Info request) = true
 is_event blocks (Feed request number) = nat_lt number blocks
 is_event blocks (Over request) = true
@@ -67,11 +72,18 @@ unfoldable pub is_built : Script → Bool
 is_built script =
     not script.addressed && is_plain script.config && are_lives (length script.blocks) script.lives
 
--- What the script of any text has: its blocks' payloads are read, their heights are numbers of 64 bits, and no position lies below height 0.
+-- What the script of any text has: its players' epochs rise, its blocks' payloads are read, their heights are numbers of 64 bits, no position lies below height 0, and in no life an info is
+-- asked for by a number that is taken.
 pub record IsOfText (script : Script) : Type 0 where
+  pub rising : rises (epochs_of script.config.players) ≡ true
   pub blocks : AllByRecursion (IsBlockIn script) script.blocks
   pub placed : AllByRecursion (λ block. block.height < 2 ^ 64) script.blocks
   pub anchors : AllByRecursion (λ life. IfSome life.anchor (IsAnchorIn script.blocks)) script.lives
+  pub anew : AllByRecursion (λ life. AskAnew life.events) script.lives
+
+-- Of a text the form of epochs lies within that of inclusion.
+abbrev pub EpochsIsOfInclusion : Type 0
+EpochsIsOfInclusion = (script : Script) → IsOfText script → IsFormOfEpochs script → IsFormOfInclusion script
 
 -- READING
 

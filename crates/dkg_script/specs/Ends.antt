@@ -8,7 +8,7 @@ use Rattle.dkg_types.specs.declared.fault.Fault.TheVariants.{NoMemory, Disk, Sec
 use Rattle.dkg_types.specs.declared.fault.LocalCause.{LocalCause}
 use Rattle.dkg_types.specs.declared.fault.LocalCause.TheVariants.{StoredDealing, ShareRefused, OwnDealing}
 use Rattle.dkg_types.specs.declared.fault.ParticipantsCause.{ParticipantsCause}
-use Rattle.dkg_types.specs.declared.fault.ParticipantsCause.TheVariants.{Refused, Round}
+use Rattle.dkg_types.specs.declared.fault.ParticipantsCause.TheVariants.{Refused, Round, ProviderEmpty, ProviderAbove}
 
 abbrev pub is_fault : Entry → Bool
 is_fault (entry.Fault fault) = true
@@ -34,11 +34,12 @@ IsToldLocal (ShareRefused epoch) = ⊤
 IsToldLocal (OwnDealing epoch kept dealt) = kept ≢ dealt
 IsToldLocal _ = ⊥
 
--- what refuses participants: the info's sets, or the round
+-- what refuses participants: the info's sets, the round, or what the provider says, which is nobody, or more than the limit
 abbrev pub IsToldRefusal : ParticipantsCause → Type 0
 IsToldRefusal (Refused why) = ⊤
 IsToldRefusal (Round why) = ⊤
-IsToldRefusal _ = ⊥
+IsToldRefusal ProviderEmpty = ⊤
+IsToldRefusal (ProviderAbove count most) = most < count
 
 -- The faults that lives over many epochs can tell: those of a device, a record that is none, a height past the range, an info that is missing, is of another epoch or is refused, what
 -- contradicts the node's own state, and a delivered block that doesn't belong to the chain, or to the window of a life without a position. Want of memory is never told.

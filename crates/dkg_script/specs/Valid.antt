@@ -1,5 +1,5 @@
 -- Which scripts are valid, and over which devices: those that a node runs to their end, where no device fails.
-use Rattle.std.specs.Prelude.{ℕ, suc, ◌+◌, ◌<◌, ◌≤◌, ◌^◌, ◌≡◌, ◌⊎◌, List, Option, Some, Ok, true, IfSome, IsSome, IsSomeAnd, length}
+use Rattle.std.specs.Prelude.{ℕ, suc, ◌+◌, ◌<◌, ◌≤◌, ◌^◌, ◌≡◌, ◌⊎◌, List, Option, Some, Ok, true, false, ⊤, IfSome, IsSome, IsSomeAnd, length}
 use Rattle.std.specs.FinMap.{get}
 use Rattle.std.specs.List.{AllByRecursion}
 use Rattle.dkg_ceremony.specs.Dealings.{dealing_of}
@@ -10,12 +10,15 @@ use Rattle.dkg_journal.specs.Names.{Files}
 use Rattle.dkg_secrets.specs.Secrets.{Secrets}
 use Rattle.dkg_types.specs.Validation.{validation}
 use Rattle.dkg_types.specs.declared.participants.Participants.{Participants}
+use Rattle.dkg_text.specs.declared.script.Event.{Event}
+use Rattle.dkg_text.specs.declared.script.Event.TheVariants as kind
 use Rattle.dkg_text.specs.declared.script.Event.TheVariants.{Final}
 use Rattle.dkg_text.specs.declared.script.Life.{Life}
 use Rattle.dkg_script.specs.Blocks.{Block, block_at, known_info, reshare_round, round_at, used}
 use Rattle.dkg_script.specs.Consistent.{IsConsistentScript}
 use Rattle.dkg_script.specs.Epochs.{ComesTo}
-use Rattle.dkg_script.specs.Position.{awaited_height, event_of_step, follows}
+use Rattle.dkg_script.specs.Players.{players_at}
+use Rattle.dkg_script.specs.Position.{awaited_epoch, awaited_height, event_of_step, follows}
 use Rattle.dkg_script.specs.Promise.{InEachCase}
 use Rattle.dkg_script.specs.Readings.{Info}
 use Rattle.dkg_script.specs.Schedule.{boundary, epoch_of, last}
@@ -26,6 +29,22 @@ abbrev pub ComesInTurn : Setting → (l : ℕ) → Life → Type 0
 ComesInTurn s l life =
     (j number : ℕ) (b : Block) → event_of_step life (suc j) ≡ Some (Final number) → ComesTo life.cut (suc j) → block_at s number ≡ Some b
     → (b.height ≤ awaited_height s l life j) ⊎ ((awaited_height s l life j ≡ 0) × (follows s l life 0 ≡ true))
+
+-- PROVIDER: where an epoch that a life takes part in ends, or the info that will end it is asked for, there are players for the epoch two above, and no more than the limit.
+
+abbrev pub HasPlayers : Setting → (epoch : ℕ) → Type 0
+HasPlayers s epoch = let players = players_at s.script.config.players epoch in (0 < length players) × (length players ≤ (limits s).most)
+
+-- an info is asked for, or a block delivered that is the last of the epoch
+abbrev pub EndsEpoch : Setting → (epoch : ℕ) → Event → Type 0
+EndsEpoch s epoch (kind.Info request) = ⊤
+EndsEpoch s epoch (kind.Final number) = IsSomeAnd (block_at s number) (λ b. b.height ≡ last (blocks_per_epoch s) epoch)
+EndsEpoch s epoch _ = ⊥
+
+abbrev pub ProvidesNext : Setting → (l : ℕ) → Life → Type 0
+ProvidesNext s l life =
+    (j : ℕ) (event : Event) → event_of_step life (suc j) ≡ Some event → ComesTo life.cut (suc j) → EndsEpoch s (awaited_epoch s l life j) event
+    → follows s l life (awaited_epoch s l life j) ≡ false → HasPlayers s (awaited_epoch s l life j + 2)
 
 -- RANGE: the heights of the epoch of this one are numbers of 64 bits.
 abbrev pub LiesInRange : Setting → (height : ℕ) → Type 0
@@ -51,6 +70,7 @@ BeginsWell s b = (epoch : ℕ) → b.height ≡ boundary (blocks_per_epoch s) ep
 pub record IsValidCase (s : Setting) (ends : List (Option CutAt)) : Type 0 where
   pub consistent : IsConsistentScript s ends
   pub in_turn : (l : ℕ) → l ≤ length ends → IfSome (life_at s l) (ComesInTurn s l)
+  pub provided : (l : ℕ) → l ≤ length ends → IfSome (life_at s l) (ProvidesNext s l)
   pub in_range : AllByRecursion (λ b. LiesInRange s b.height × LiesInRange s (b.height + 1)) (used s)
   pub begins : AllByRecursion (BeginsWell s) (used s)
 

@@ -35,13 +35,14 @@ fn is_plain(config: &ScriptConfig) -> bool
     is_alone(config) && is_limit(config) && is_key(config.me.0)
 }
 
-/// A message of the dealing channel, a block, or a message of a final-block request.
+/// A message of the dealing channel, a block, a request for a log or its release, or a message of a final block's request.
 fn is_event(blocks: &[BlockLine], event: &Event<'_>) -> bool
     ensures { result ≡ is_event_of (length blocks.now) event.now }
 {
     match event {
         Event::Peer { from, .. } => is_key(from.0),
         Event::Final { block } | Event::Feed { block, .. } => (*block as usize) < blocks.len(),
+        Event::Next { .. } | Event::Release { .. } => true,
         Event::Info { .. } | Event::Over { .. } | Event::Cancel { .. } | Event::Work => true,
         _ => false,
     }

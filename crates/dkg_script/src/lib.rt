@@ -7,7 +7,8 @@
 //! wants: `Order` (where an entry may stand), `Due` (when an acknowledgement is owed), `Consistent`, `OwnMarks` and `Valid` (what is
 //! presumed of a script), `AsCut` and `AsCutLaws` (a script as its lives were cut, and what stays of it), `Ends` (how entries end), and
 //! below these `Progress`, `Position`, `Blocks`, `Setting` and `Readings`. Which scripts are run so far is `Inclusion`, which the promise
-//! presumes, and `Built`, by which `read_built` answers.
+//! presumes, and `Built`, by which `read_built` answers. `Asked` is what requests are fed, `LogsKnown` what is known of recorded logs,
+//! and `History` what is presumed of a script's past where something rests on all logs of an epoch.
 #![tactic(auto)]
 
 mod built;
@@ -21,7 +22,7 @@ pub use dkg_text::{
 };
 pub use promise::{
     acknowledged_survives, acknowledges_once, comes_as_far, ends_as_scripted, honest_anyhow,
-    lies_within_inclusion, own_marks_stand_before, stays_in_order,
-    stays_in_order_as_cut, stays_kept, stays_of_epochs, valid_anyhow, valid_as_cut,
+    lies_within_inclusion, own_marks_stand_before, stays_in_order, stays_in_order_as_cut,
+    stays_kept, stays_of_epochs, stays_of_inclusion, valid_anyhow, valid_as_cut,
 };
 pub use read::{ReadError, read_built};

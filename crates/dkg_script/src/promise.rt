@@ -1,9 +1,8 @@
 //! What the promise of a run means, over every script, every transcript and every crash.
 //!
 //! Each law is a call without a body, whose contract is the law. Whoever relies on the promise cites them.
-ghost use Rattle.dkg_script.specs.AsCutLaws.{ComesAsFar, HonestAnyhow, StaysInOrderAsCut, StaysOfEpochs, StaysOfToday, ValidAnyhow, ValidAsCut};
-ghost use Rattle.dkg_script.specs.Epochs.{TodayIsOfEpochs};
-ghost use Rattle.dkg_script.specs.Inclusion.{EpochsIsOfInclusion};
+ghost use Rattle.dkg_script.specs.AsCutLaws.{ComesAsFar, HonestAnyhow, StaysInOrderAsCut, StaysOfEpochs, StaysOfInclusion, ValidAnyhow, ValidAsCut};
+ghost use Rattle.dkg_script.specs.Built.{EpochsIsOfInclusion};
 ghost use Rattle.dkg_script.specs.Laws.{AcknowledgesOnce, AcknowledgesOnceAgain, AcknowledgedSurvives, EndsAsScripted, OwnMarksStandBefore, StaysInOrder, StaysKept};
 
 use dkg_journal::Disk;
@@ -58,7 +57,12 @@ pub fn stays_of_epochs()
     ensures { StaysOfEpochs }
 {}
 
-/// A script of the form of epochs is of the form of inclusion.
+/// A script of the form of inclusion is of it as it was cut.
+pub fn stays_of_inclusion()
+    ensures { StaysOfInclusion }
+{}
+
+/// A text's script of the form of epochs is of the form of inclusion.
 pub fn lies_within_inclusion()
     ensures { EpochsIsOfInclusion }
 {}

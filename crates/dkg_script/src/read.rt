@@ -1,7 +1,7 @@
 //! The reading of a script that is to be run; the program calls it on the bytes that it was given.
 //!
 //! There is one form yet that is run: a reshare of any blocks, whose lives begin anywhere and receive messages of the dealing channel, blocks,
-//! and messages of final-block requests.
+//! requests for logs, and messages of final blocks' requests.
 ghost use Rattle.std.specs.Prelude.{◌≡◌, IfOk};
 ghost use Rattle.dkg_text.specs.Grammar.{script_or_place};
 ghost use Rattle.dkg_script.specs.Built.{ReadsBuilt, TellsPlace, refusal_of};

@@ -21,7 +21,7 @@ why_words Event = codes "this event"
 
 -- BY ITS NAME
 
--- Why no line of a name is run: of the events a message, a block, and the messages of a final-block request are.
+-- Why no line of a name is run: of the events a message, a block, a request for a log or its release, and the messages of a final block's request are.
 abbrev pub why_named : Name → Option Why
 why_named name.Oneshot = Some Oneshot
 why_named name.Address = Some Addresses
@@ -29,6 +29,8 @@ why_named name.Probe = Some Probe
 why_named name.Sync = Some Sync
 why_named name.Peer = None
 why_named name.Final = None
+why_named name.Next = None
+why_named name.Release = None
 why_named name.Info = None
 why_named name.Feed = None
 why_named name.Over = None

@@ -42,6 +42,8 @@ fn why_named(name: Name) -> Option<Why>
         Name::Sync => Some(Why::Sync),
         Name::Peer
         | Name::Final
+        | Name::Next
+        | Name::Release
         | Name::Info
         | Name::Feed
         | Name::Over

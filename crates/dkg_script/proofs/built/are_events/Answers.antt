@@ -2,7 +2,7 @@ use Rattle.std.proofs.Common.{◌≡◌, ◌&&◌, ◌∙◌, ◌+◌, Bool, fal
 use Rattle.std.specs.Prelude.{slice_get}
 use Rattle.dkg_text.specs.declared.script.Event.{Event}
 use Rattle.dkg_script.specs.Built.{are_events, is_event}
-use Rattle.dkg_script.proofs.Walked.{from_place}
+use Rattle.dkg_script.proofs.Placed.{from_place}
 use Rattle.dkg_script.proofs.built.are_events.Goals as goal
 
 judged_from : (blocks : ℕ) (events : List Event) (place : ℕ) (event : Event) → slice_get events place ≡ Some event
