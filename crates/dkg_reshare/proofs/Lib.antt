@@ -14,6 +14,7 @@ pub mod Dealers
 pub mod Dealt
 pub mod Drawing
 pub mod Ending
+pub mod Fitting
 pub mod Giving
 pub mod Handed
 pub mod Heard

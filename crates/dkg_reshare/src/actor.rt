@@ -4,9 +4,10 @@ ghost use Rattle.std.specs.Int.NonZero.{non_zero_u32_get, non_zero_u64_get};
 ghost use Rattle.dkg_journal.specs.Disk.{Rose};
 ghost use Rattle.dkg_journal.specs.Fuse.{Reached};
 ghost use Rattle.dkg_store.specs.Corrupt.{AreFit};
+ghost use Rattle.dkg_core.specs.Blocks as blocks;
 ghost use Rattle.dkg_core.specs.Core.{opening, step};
 ghost use Rattle.dkg_core.specs.Fixed.{Fixed};
-ghost use Rattle.dkg_reshare.specs.Actors.{AreTerms, EndsAt, FailsStop, IfLiving, IsAgreed, IsAt, IsFoundAt, IsNew, IsReadyLife, IsSoundAt, IsTaken, lives, message_of};
+ghost use Rattle.dkg_reshare.specs.Actors.{AreTerms, EndsAt, FailsStop, IfLiving, IsAgreed, IsAt, IsFoundAt, IsNew, IsReadyLife, IsSoundAt, IsTaken, TakesBlock, lives, message_of};
 ghost use Rattle.dkg_reshare.specs.Configured.{config_fault};
 ghost use Rattle.dkg_reshare.specs.Ends.{IsCausedBy, IsCausedInStep, ends, ends_in};
 ghost use Rattle.dkg_reshare.specs.Given.{AreGivenFrom, HasRead, IsIn, IsLent, ReadsPlanless, reading};
@@ -29,7 +30,7 @@ use dkg_ceremony::{Ceremony, Signer};
 use dkg_fence::Fence;
 use dkg_journal::Disk;
 use dkg_store::{Devices, SecretStore};
-use dkg_types::{Directory, Fault, Registrar, Transcript};
+use dkg_types::{Block, Directory, Fault, Registrar, Transcript};
 use std::alloc::Global;
 
 /// Where an actor stands in its life.
@@ -197,8 +198,7 @@ impl<C: Ceremony, P, R: Registrar, M, Dir: Directory + Drop> Actor<C, P, R, M, D
         ensures loose { IsTrue D.tells → StaysAbove (epoch_at (B.answers source.now) self.old.terms - 1)
             (D.image devices.old.disk.now) (D.image devices.new.disk.now) (X.held devices.old.secrets.now) (X.held devices.new.secrets.now) }
     {
-        self.state = State::Failed;
-        let life = open_life(
+        match open_life(
             alloc,
             &self.ceremony,
             &self.signer,
@@ -210,9 +210,25 @@ impl<C: Ceremony, P, R: Registrar, M, Dir: Directory + Drop> Actor<C, P, R, M, D
             word,
             fence,
             out,
-        )?;
-        self.state = State::Living(life);
-        Ok(())
+        ) {
+            Ok(life) => {
+                self.state = State::Living(life);
+                Ok(())
+            }
+            Err(why) => {
+                self.fail();
+                Err(why)
+            }
+        }
+    }
+
+    /// Goes on no more.
+    fn fail(&mut self)
+        ensures failed { self.new.state ≡ State.Failed }
+        ensures rest { (self.new.ceremony ≡ self.old.ceremony) × (self.new.signer ≡ self.old.signer) × (self.new.provider ≡ self.old.provider)
+            × (self.new.manager ≡ self.old.manager) × (self.new.terms ≡ self.old.terms) }
+    {
+        self.state = State::Failed;
     }
 
     /// Takes one message.
@@ -271,8 +287,69 @@ impl<C: Ceremony, P, R: Registrar, M, Dir: Directory + Drop> Actor<C, P, R, M, D
         ) {
             Ok(()) => Ok(()),
             Err(stop) => {
-                self.state = State::Failed;
+                self.fail();
                 Err(stop)
+            }
+        }
+    }
+
+    /// Takes a block, as `step` takes it in a message.
+    ///
+    /// Failed: exactly where a call before ended in a fault or a cut.
+    pub fn deliver<D: Disk, X: SecretStore>(
+        &mut self,
+        alloc: Global,
+        devices: &mut Devices<'_, D, X>,
+        block: &Block<Dir>,
+        fence: &mut Fence,
+        out: &mut Transcript,
+    ) -> Result<(), Stop>
+        requires at { IsAt D.tells D.files D.image C.ack_of C.deal_of C.check_ack_of self.old.terms self.old.state devices.old }
+        requires taken { IfLiving self.old.state (λ life. TakesBlock (non_zero_u64_get self.old.terms.blocks_per_epoch) life block.now) }
+        // It is the relation's step, and each act was made, whatever image a crash leaves.
+        ensures acts { IsTrue D.tells → IsTrue X.tells → (c : Fixed Dir) (beside : Beside Dir) → IfLiving self.old.state (λ old. IsIn self.old.terms old.word c
+            → ReadsPlanless c → IsRuledBy C.round_of C.deal_of C.dealing_of C.ack_of C.check_ack_of C.sign_log_of C.bears_ack_of C.share_public_of C.partial_public_of c.rules
+            → EndsBeside beside (λ more. OnOk result (Took R.tells (R.taken self.old.registrar) (R.taken self.new.registrar) more))
+            (λ now. Makes D.files D.image X.held (blocks.delivers c block.now (live_of beside fence.old old))
+            (lives (live_of now fence.new) self.new.state result) devices.old devices.new out.old.entries out.new.entries)) }
+        ensures tells { (c : Fixed Dir) (beside : Beside Dir) → IfLiving self.old.state (λ old. IsIn self.old.terms old.word c
+            → ReadsPlanless c → IsRuledBy C.round_of C.deal_of C.dealing_of C.ack_of C.check_ack_of C.sign_log_of C.bears_ack_of C.share_public_of C.partial_public_of c.rules
+            → EndsBeside beside (λ more. OnOk result (Took R.tells (R.taken self.old.registrar) (R.taken self.new.registrar) more))
+            (λ now. Tells (blocks.delivers c block.now (live_of beside fence.old old))
+            (lives (live_of now fence.new) self.new.state result) out.old.entries out.new.entries)) }
+        // It may go on over these devices alone, or it has failed.
+        ensures ends { EndsAt self.new.state result (λ life. IsReadyLife D.tells D.files D.image C.ack_of C.deal_of C.check_ack_of self.new.terms life devices.new) }
+        ensures word { IfLiving self.old.state (λ old. IfLiving self.new.state (λ life. life.word ≡ old.word)) }
+        ensures rest { (self.new.ceremony ≡ self.old.ceremony) × (self.new.signer ≡ self.old.signer) × (self.new.provider ≡ self.old.provider)
+            × (self.new.manager ≡ self.old.manager) × (self.new.terms ≡ self.old.terms) }
+        ensures fails { FailsStop self.old.state result ((self.new.state ≡ self.old.state) × (self.new.registrar ≡ self.old.registrar)
+            × (devices.new ≡ devices.old) × (out.new ≡ out.old) × (fence.new ≡ fence.old)) }
+        ensures moved { Moved D.tells D.made X.made D.faults X.faults devices.old devices.new }
+        ensures causes { IfErr result (λ stop. IsCausedInStep D.tells stop (Rose (D.faults devices.old.disk.now) (D.faults devices.new.disk.now))
+            (Rose (X.faults devices.old.secrets.now) (X.faults devices.new.secrets.now)) (Reached devices.old.fuse devices.new.fuse)) }
+        // No record that a crash leaves is out of its grammar, or past the limit, where none was.
+        ensures fit { IsTrue D.tells → AreFit (non_zero_u32_get self.old.terms.limit) (D.image devices.old.disk.now)
+            → AreFit (non_zero_u32_get self.old.terms.limit) (D.image devices.new.disk.now) }
+    {
+        let State::Living(life) = &mut self.state else {
+            return Err(Stop::Failed);
+        };
+        match take_block(
+            alloc,
+            &self.ceremony,
+            &self.signer,
+            &mut self.registrar,
+            &self.terms,
+            life,
+            devices,
+            block,
+            fence,
+            out,
+        ) {
+            Ok(()) => Ok(()),
+            Err(why) => {
+                self.fail();
+                Err(why)
             }
         }
     }
