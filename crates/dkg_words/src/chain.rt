@@ -140,12 +140,7 @@ fn is_counted_on(words: &mut [u8], last: usize) -> bool {
 
 /// What stands behind a line that begins so.
 fn behind_line<'a>(lines: &'a [u8], front: &[u8]) -> Option<&'a [u8]> {
-    let rest = lines.strip_prefix(front)?;
-    // Most end so: in view 0, without a payload.
-    match rest.strip_prefix(b"0 -\n".as_slice()) {
-        Some(more) => Some(more),
-        None => behind(rest, b'\n'),
-    }
+    behind(lines.strip_prefix(front)?, b'\n')
 }
 
 /// Whether each block line but the first stands in turn, so that those that are used make a chain.
