@@ -154,7 +154,6 @@ impl Node {
     fn deliver<D: Disk, X: SecretStore>(
         &mut self,
         alloc: Global,
-        source: &HeldBlocks<'_>,
         block: &Block<Unit>,
         devices: &mut Devices<'_, D, X>,
         out: &mut Transcript,
@@ -178,9 +177,8 @@ impl Node {
             → AreFit (non_zero_u32_get self.old.actor.terms.limit) (D.image devices.new.disk.now) }
     {
         let height = block.height();
-        let message = Message::Finalized(block.copy(alloc)?);
         self.actor
-            .step(alloc, devices, source, message, &mut self.fence, out)?;
+            .deliver(alloc, devices, block, &mut self.fence, out)?;
         self.half.acknowledge(height, out)
     }
 
@@ -223,7 +221,7 @@ impl Node {
                 out,
             ),
             Event::Final { block } => match source.of_number(*block) {
-                Some(block) => self.deliver(alloc, source, block, devices, out),
+                Some(block) => self.deliver(alloc, block, devices, out),
                 None => unreachable!(),
             },
             _ => unreachable!(),
