@@ -41,11 +41,11 @@ def set_bytes(keys):
     return uint(len(keys)) + b"".join(k.to_bytes(4, "big") for k in keys)
 
 
-def info_of(dealers, players, polynomial):
-    """The payload of block 0: an info of epoch 0 whose output these dealers share by the polynomial."""
+def info_of(dealers, players, polynomial, epoch=0):
+    """The payload of the block that begins an epoch: an info of that epoch whose output these dealers share by the polynomial."""
     sharing = b"\x00" + uint(len(dealers)) + polynomial_bytes(polynomial)
     output = bytes(8) + sharing + set_bytes(dealers) + set_bytes(dealers) + set_bytes(())
-    return (b"\x01\x00" + uint(0) + output + set_bytes(players) + set_bytes(players)).hex()
+    return (b"\x01\x00" + uint(epoch) + output + set_bytes(players) + set_bytes(players)).hex()
 
 
 def info(dealers):
@@ -140,6 +140,46 @@ def made(size):
     return text(lines + (first + second) * size)
 
 
+def epochs(size, members, life_of):
+    """So many epochs of eight blocks, each with a life: `life_of` has the epoch, and the dealings of all participants but this node."""
+    keys = tuple(range(1, members + 1))
+    output = [(7919 * i + 5) % FIELD for i in range(quorum(members))]
+    drawn = [[element(k.to_bytes(32, "big"), i.to_bytes(4, "big")) for i in range(quorum(members))] for k in keys]
+    peers = [f"peer {k} {dealing_of([value(output, k), *drawn[k - 1][1:]], 0)}" for k in keys if k != ME]
+    lines = [*config(members, 8), f"block 0 - 0 {info_of(keys, keys, output)}"]
+    for height in range(1, 8 * size + 8):
+        payload = info_of(keys, keys, output, height // 8 + 1) if height % 8 == 7 else "-"
+        lines.append(f"block {height} {height - 1} 0 {payload}")
+    return text(lines + [line for epoch in range(size) for line in life_of(epoch, peers)])
+
+
+def early_life(epoch, events):
+    """A life that begins at the block before its epoch, and is delivered the blocks below the midpoint."""
+    begins = [f"processed {8 * epoch - 1}", f"held {8 * epoch - 1}"] if epoch else ["held 0"]
+    return ["life 9", *begins, *events, *(f"final {8 * epoch + i}" for i in range(4)), "stop 0"]
+
+
+def following_life(epoch, peers):
+    """A life that holds nothing: it follows its epoch, takes the next one over at the last block, and hears the dealings there."""
+    return ["life 9", *(f"final {8 * epoch + i}" for i in range(8)), *peers, *(f"final {8 * epoch + i}" for i in range(8, 12)), "stop 0"]
+
+
+def lives(size):
+    return epochs(size, len(FEW), early_life)
+
+
+def quiet(size):
+    return epochs(size, len(FEW), lambda epoch, _: early_life(epoch, []))
+
+
+def follows(size):
+    return epochs(size, len(FEW), following_life)
+
+
+def members(size):
+    return epochs(size, 100, early_life)
+
+
 # Its name, how a script of a size is made, the least of the four sizes, and the exponent of growth that is still well.
 KINDS = [
     ("repeats", repeats, 8_000, 1.1),
@@ -149,6 +189,10 @@ KINDS = [
     ("blocks", blocks, 4_000, 1.1),
     ("mixed", mixed, 3_000, 1.1),
     ("make", made, 50, 1.1),
+    ("lives", lives, 125, 1.1),
+    ("quiet", quiet, 125, 1.1),
+    ("follows", follows, 125, 1.1),
+    ("members", members, 5, 1.1),
 ]
 
 

@@ -9,7 +9,7 @@ use dkg_types::{Entry, Transcript};
 use dkg_values::{Mem, NoMemory};
 use std::io::Write;
 use std::process::ExitCode;
-use std::{env, io};
+use std::{env, io, mem};
 
 /// The words of the command line. Where one is no text, there are none.
 fn words<R: env::Env + AllocGlobal>(rt: &R) -> Mem<Vec<String>> {
@@ -54,5 +54,7 @@ fn main(rt: HostRuntime) -> ExitCode {
     // Of a command that read no script there is nothing to warn of.
     let text = source.kept().unwrap_or(&[]);
     tell(&rt, &status, Some(text), out.entries());
+    // The process ends here, and its memory with it: the entries needn't be freed one by one.
+    mem::forget(out);
     ExitCode::from(status.number())
 }

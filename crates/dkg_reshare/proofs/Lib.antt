@@ -26,6 +26,7 @@ pub mod Derived
 pub mod Deriving
 pub mod Drawing
 pub mod Ending
+pub mod Fitting
 pub mod Giving
 pub mod Handed
 pub mod Heard

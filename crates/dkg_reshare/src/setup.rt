@@ -16,6 +16,7 @@ ghost use Rattle.dkg_store.specs.Acts.{Held, Stands, held_in};
 ghost use Rattle.dkg_store.specs.Called.{IsDue};
 ghost use Rattle.dkg_store.specs.Corrupt.{AreFit};
 ghost use Rattle.dkg_types.specs.Schemes.{scheme_of};
+ghost use Rattle.dkg_types.specs.Validation.{validation};
 ghost use Rattle.dkg_types.specs.declared.entry.Entry.{Entry as Line};
 ghost use Rattle.dkg_types.specs.declared.fault.Fault.TheVariants.{HeightRange, NoMemory as OutOfMemory};
 ghost use Rattle.dkg_core.specs.Agreeing.{AreAgreed};
@@ -54,6 +55,7 @@ use dkg_types::{
 use dkg_values::{Epoch, Height, Key, Mem, Seed, Value};
 use sha2::{Digest, Sha256};
 use std::alloc::Global;
+use std::num::NonZeroU32;
 
 /// What a node has in secret of an epoch: its share, where it holds one, and the seed from which it deals.
 #[derive(Clone, Copy, Debug, PartialEq, Eq)]
@@ -616,6 +618,22 @@ fn follow<Dir: Directory + Drop>(
     })?)
 }
 
+/// Whether an info has dealers and players, and no more of each kind than a limit. Its participants are valid then, since the dealers are the players of
+/// its own output.
+#[tactic(auto, using(crate::proofs::Fitting::within_passes))]
+fn are_within<Dir: Directory + Drop>(limit: NonZeroU32, info: &EpochInfo<Dir>) -> bool
+    ensures { IsTrue result → validation (setup.participants_of info.now) (non_zero_u32_get limit) (Some info.now.output) info.now.epoch ≡ Ok tt }
+{
+    let most = limit.get();
+    if info.output.players.is_empty() || info.players.is_empty() {
+        return false;
+    }
+    if most < info.output.players.len() || most < info.players.len() {
+        return false;
+    }
+    info.next_players.len() <= most
+}
+
 /// Judges an info: it has to be the awaited epoch's, and its participants valid (`with_info` and `judged`).
 fn judge_info<Dir: Directory + Drop>(
     alloc: Global,
@@ -631,6 +649,9 @@ fn judge_info<Dir: Directory + Drop>(
             expected: epoch,
             got: info.epoch,
         }));
+    }
+    if are_within(terms.limit, info) {
+        return Ok(());
     }
     let participants = info.participants(alloc)?;
     match participants.validate(terms.limit, Some(&info.output), info.epoch.0) {

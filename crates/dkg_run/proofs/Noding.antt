@@ -473,10 +473,6 @@ not_failed n viewed (Err Failed) same fails tells disk secrets reached is =
     let P : State directory.Unit → Type 0 = HasFailed in
     absurd (subst P (viewed.1).lives (fails.only refl))
 
--- A block that the actor takes, with what was copied.
-pub takes_copied : (blocks : ℕ) (state : State directory.Unit) (b its : Block directory.Unit) → its ≡ b → IfLiving state (λ life. TakesBlock blocks life b) → IfLiving state (λ life. TakesBlock blocks life its)
-takes_copied blocks state b its same = subst (λ (x : Block directory.Unit). IfLiving state (λ life. TakesBlock blocks life x)) (sym same)
-
 -- A message is taken in any state.
 pub hears_any : (state : State directory.Unit) → IfLiving state (λ life. ⊤)
 hears_any New = tt

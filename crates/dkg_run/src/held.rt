@@ -72,7 +72,14 @@ impl<'a> HeldBlocks<'a> {
         ensures anchor { IfOk result (λ source. source.anchor ≡ life.now.anchor) }
         ensures numbers { IfOk result (λ source. source.numbers.items ≡ life.now.held ++ anchor_numbers life.now.anchor) }
     {
-        let mut numbers = Vec::from_slice(alloc, life.held.as_slice())?;
+        let room = life
+            .held
+            .as_slice()
+            .len()
+            .saturating_add(life.events.len())
+            .saturating_add(1);
+        let mut numbers = Vec::with_capacity(alloc, room)?;
+        numbers.extend_from_slice(life.held.as_slice())?;
         if let Some(anchor) = life.anchor {
             numbers.push(number_of(anchor))?;
         }

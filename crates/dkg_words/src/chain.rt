@@ -71,33 +71,96 @@ fn block_of(line: &[u8], number: u64, place: u64) -> Option<Block> {
     })
 }
 
-/// Whether a block's line may stand behind another's in a head of one chain: its height is above, and where it is the next, the other is its parent.
-fn is_next(before: Block, block: Block) -> bool {
-    before.height < block.height
-        && (block.height - before.height != 1 || block.parent == Some(before.number))
+/// How the line of a block begins that stands in turn: at the height above the block before it, which is its parent.
+#[derive(Drop)]
+struct Front {
+    height: u64,
+    parent: u64,
+    words: Vec<u8>,
+    /// Where the last digits of the height and of the parent's number stand in the words.
+    height_end: usize,
+    parent_end: usize,
 }
 
-/// Whether all block lines make one chain in their order, so that those that are used do.
-fn are_in_turn(lines: &[u8]) -> bool {
-    let mut before: Option<Block> = None;
-    let mut rest = lines;
-    while let Some((line, more)) = cut(rest, b'\n') {
-        let number = match before {
-            Some(before) => counted(before.number),
-            None => 0,
-        };
-        let Some(block) = block_of(line, number, 0) else {
-            return true;
-        };
-        if let Some(before) = before {
-            if !is_next(before, block) {
-                return false;
-            }
+impl Front {
+    fn new(alloc: Global, height: u64, parent: u64) -> Mem<Front> {
+        let mut words = Vec::new(alloc);
+        put(&mut words, b"block ")?;
+        put_number(&mut words, height)?;
+        let height_end = words.len().saturating_sub(1);
+        put(&mut words, b" ")?;
+        put_number(&mut words, parent)?;
+        let parent_end = words.len().saturating_sub(1);
+        put(&mut words, b" ")?;
+        Ok(Front {
+            height,
+            parent,
+            words,
+            height_end,
+            parent_end,
+        })
+    }
+
+    /// Goes on to the line behind.
+    fn go_on(&mut self, alloc: Global) -> Mem<()> {
+        self.height = counted(self.height);
+        self.parent = counted(self.parent);
+        if is_counted_on(&mut self.words, self.height_end)
+            && is_counted_on(&mut self.words, self.parent_end)
+        {
+            return Ok(());
         }
-        before = Some(block);
+        self.renew(alloc)
+    }
+
+    /// Writes the words anew.
+    fn renew(&mut self, alloc: Global) -> Mem<()> {
+        *self = Front::new(alloc, self.height, self.parent)?;
+        Ok(())
+    }
+}
+
+/// Counts on the number whose last digit stands at a place, and says whether it has; where the number gets a digit more then, it hasn't.
+fn is_counted_on(words: &mut [u8], last: usize) -> bool {
+    for back in 0..last {
+        let Some(digit) = words.get_mut(last - back) else {
+            return false;
+        };
+        match *digit {
+            b'0'..=b'8' => {
+                *digit = digit.saturating_add(1);
+                return true;
+            }
+            b'9' => *digit = b'0',
+            _ => return false,
+        }
+    }
+    false
+}
+
+/// What stands behind a line that begins so.
+fn behind_line<'a>(lines: &'a [u8], front: &[u8]) -> Option<&'a [u8]> {
+    behind(lines.strip_prefix(front)?, b'\n')
+}
+
+/// Whether each block line but the first stands in turn, so that those that are used make a chain.
+fn are_in_turn(alloc: Global, lines: &[u8]) -> Mem<bool> {
+    let Some((line, behind_first)) = cut(lines, b'\n') else {
+        return Ok(true);
+    };
+    let Some(first) = block_of(line, 0, 0) else {
+        return Ok(true);
+    };
+    let mut front = Front::new(alloc, counted(first.height), 0)?;
+    let mut rest = behind_first;
+    for _ in 0..lines.len() {
+        let Some(more) = behind_line(rest, &front.words) else {
+            break;
+        };
+        front.go_on(alloc)?;
         rest = more;
     }
-    true
+    Ok(!rest.starts_with(b"block "))
 }
 
 /// The blocks of these lines, the first of which begins at a place of the text.
@@ -223,7 +286,7 @@ fn pair_of(alloc: Global, text: &[u8]) -> Mem<Option<Pair>> {
         return Ok(None);
     };
     let lines = on_from(text, place);
-    if are_in_turn(lines) {
+    if are_in_turn(alloc, lines)? {
         return Ok(None);
     }
     let mut blocks = blocks_of(alloc, lines, place)?;
