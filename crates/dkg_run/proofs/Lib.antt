@@ -1,5 +1,6 @@
 pub mod Alone
 pub mod Asked
+pub mod Asking
 pub mod AwaitedRises
 pub mod Awaiting
 pub mod Begun
@@ -101,6 +102,7 @@ pub mod Seats
 pub mod SharesFit
 pub mod SharesKnown
 pub mod SharesStay
+pub mod Sharing
 pub mod Shutting
 pub mod Skipping
 pub mod Sourced
