@@ -5,7 +5,6 @@ pub mod Awaiting
 pub mod Begun
 pub mod BegunRounds
 pub mod Behind
-pub mod Below
 pub mod Blaming
 pub mod BlocksLeave
 pub mod BlockLogs
@@ -82,6 +81,7 @@ pub mod OwnFaults
 pub mod OwnRuns
 pub mod OwnSteps
 pub mod OwnValid
+pub mod Passing
 pub mod PeerForms
 pub mod Places
 pub mod PlanlessReads

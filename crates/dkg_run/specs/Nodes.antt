@@ -1,5 +1,5 @@
 -- A node between two steps, as the relation's Live.
-use Rattle.std.specs.Prelude.{ℕ, ◌+◌, ◌<◌, ◌≡◌, ⊤, Bool, true, false, Contains, List, None, Option, Some, Result, Ok, Err, IsSome, IsSomeAnd, slice_get}
+use Rattle.std.specs.Prelude.{ℕ, ◌+◌, ◌<◌, ◌^◌, ◌≡◌, ⊤, Bool, true, false, Contains, List, None, Option, Some, Result, Ok, Err, IsSome, IsSomeAnd, slice_get}
 use Rattle.std.specs.Int.NonZero.{non_zero_u64_get}
 use Rattle.dkg_ceremony.specs.Acks.{ack_of, check_ack_of}
 use Rattle.dkg_ceremony.specs.Dealings.{dealing_of}
@@ -83,6 +83,15 @@ pub record MayGoOn (c : Fixed directory.Unit) (fence : Readiness) (b : Block dir
   pub fence_is : st.orchestrator.fence ≡ fence
   pub registered : b.height ≡ last c.blocks_per_epoch epoch → IsSome (lookup (epoch + 1) st.orchestrator.schemes)
   pub lacks : (d : directory.Unit) (peers : TrackedPeers) → c.directories.lacking d peers ≡ None
+
+-- The last height of the epoch that an active half has entered is a number of 64 bits.
+abbrev pub IsSettled : (per_epoch : ℕ) → Half → Type 0
+IsSettled per_epoch half = (epoch : ℕ) → half.halted ≡ false → half.entered ≡ Some epoch → last per_epoch epoch < 2 ^ 64
+
+-- .. and where the block at a height is that epoch's last, the next one's is, and the fence is ready for it
+abbrev pub MayPass : (per_epoch : ℕ) → Half → (ready : Option ℕ) → (height : ℕ) → Type 0
+MayPass per_epoch half ready height = (epoch : ℕ) → half.halted ≡ false → half.entered ≡ Some epoch
+    → (last per_epoch epoch < 2 ^ 64) × (height ≡ last per_epoch epoch → (last per_epoch (epoch + 1) < 2 ^ 64) × (is_ready ready (epoch + 1) ≡ true))
 
 -- how a half's step ended, whatever it answered
 abbrev pub ends_on : Live directory.Unit → Result (Unit {0}) Stop → Ended NodeStop (core.Half directory.Unit)
