@@ -1,12 +1,14 @@
 //! A node in one life: the reshare actor, and the orchestrator's half behind it.
-ghost use Rattle.std.specs.Prelude.{◌≡◌, ℕ, IfErr, IfOk, IsTrue, OnOk};
+ghost use Rattle.std.specs.Prelude.{◌≡◌, ℕ, IfErr, IfOk, IsTrue, OnOk, true};
 ghost use Rattle.std.specs.Int.NonZero.{non_zero_u32_get, non_zero_u64_get};
+ghost use Rattle.dkg_values.specs.Rising.{rises};
 ghost use Rattle.dkg_ceremony.specs.declared.mode.Reveal.TheVariants.{V1};
 ghost use Rattle.dkg_journal.specs.Disk.{Rose};
 ghost use Rattle.dkg_journal.specs.Fuse.{Reached};
 ghost use Rattle.dkg_store.specs.Corrupt.{AreFit};
 ghost use Rattle.dkg_types.specs.declared.directory.Unit as directory;
 ghost use Rattle.dkg_text.specs.declared.script.Event.TheVariants as event;
+ghost use Rattle.dkg_script.specs.Players.{epochs_of};
 ghost use Rattle.dkg_core.specs.Live.{Delivers, Feed, Live, Reshare};
 ghost use Rattle.dkg_core.specs.Node.{node_opening, node_step};
 ghost use Rattle.dkg_reshare.specs.Actors.{IsFoundAt};
@@ -49,6 +51,7 @@ fn config_of<'a>(
     alloc: Global,
     config: &'a ScriptConfig,
 ) -> Mem<Config<StandCeremony, Players<'a>, NoopRegistrar, ()>>
+    requires { rises (epochs_of config.now.players) ≡ true }
     ensures { IfOk result (λ made. (made.signer ≡ config.now.me) × (made.namespace ≡ config.now.namespace) × (made.mode ≡ config.now.mode)
         × (made.max_mode ≡ config.now.max_mode) × (made.reveal ≡ V1) × (made.max_participants ≡ config.now.limit)
         × (made.blocks_per_epoch ≡ config.now.blocks_per_epoch) × (made.provider.lines.now ≡ config.now.players)) }
