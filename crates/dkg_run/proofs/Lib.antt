@@ -41,6 +41,7 @@ pub mod GivingValid
 pub mod GivingWhole
 pub mod Going
 pub mod Heard
+pub mod Halves
 pub mod HeightsRise
 pub mod Idle
 pub mod InPlace
@@ -53,6 +54,7 @@ pub mod LaterRecords
 pub mod Leading
 pub mod LifeSteps
 pub mod LineHeights
+pub mod LinesFound
 pub mod LivesClear
 pub mod LivesKept
 pub mod LivesStand

@@ -192,6 +192,7 @@ impl Half {
     ) -> Result<(), Stop>
         requires range { MayPass (non_zero_u64_get blocks_per_epoch) self.old fence.old.ready block.now.height }
         ensures speaks { (c : Fixed directory.Unit) (st : Live directory.Unit) → c.blocks_per_epoch ≡ non_zero_u64_get blocks_per_epoch → HasHalf self.old st
+            → st.orchestrator.fence ≡ fence.old
             → ((epoch : ℕ) → self.old.halted ≡ false → self.old.entered ≡ Some epoch → MayGoOn c fence.old block.now epoch st)
             → Speaks (bind (delivered c block.now st) (λ half. acked_at block.now.height half.answer half.live))
             (ends_node (with_half self.new fence.new st) result) out.old.entries out.new.entries }
