@@ -3,6 +3,7 @@ use Rattle.std.proofs.Common.{◌≡◌, ℕ, Bool, true, false, nat_le, List, [
 use Rattle.std.specs.Prelude.{◌+◌, ◌-◌, ◌*◌, ◌<◌, ◌≤◌, ◌^◌, ⊤, IfErr, IfSome, IsSomeAnd, OnOk, is_some, option_map, slice_get, if◌then◌else◌}
 use Rattle.std.specs.Option.{option_map_or}
 use Rattle.std.specs.Int.NonZero.{non_zero_u32_get, non_zero_u64_get}
+use Rattle.std.specs.declared.num.NonZeroU64.{NonZeroU64}
 use Rattle.std.proofs.Math.Nat.{suc-mul}
 use Rattle.std.proofs.lemmas.Bool.Decides.{nat_tests}
 use Rattle.dkg_ceremony.specs.Acks as acks
@@ -34,6 +35,7 @@ use Rattle.dkg_store.specs.declared.devices.Devices.{Devices}
 use Rattle.dkg_secrets.specs.Secrets.{Secrets}
 use Rattle.dkg_text.specs.declared.script.Event.{Event}
 use Rattle.dkg_text.specs.declared.script.Event.TheVariants as event
+use Rattle.dkg_text.specs.declared.script.PlayerLine.{PlayerLine}
 use Rattle.dkg_text.specs.declared.script.ScriptConfig.{ScriptConfig}
 use Rattle.dkg_script.specs.Players.{players_at}
 use Rattle.dkg_core.specs.Core.{no_inclusion, no_orchestrator, no_probe, step}
@@ -49,7 +51,7 @@ use Rattle.dkg_core.proofs.Heights.{epoch_is}
 use Rattle.dkg_core.proofs.Setups.{comes_anywhere}
 use Rattle.dkg_core.proofs.Splitting.{came_to}
 use Rattle.dkg_core.proofs.StepThrough.{steps_come_through}
-use Rattle.dkg_reshare.specs.Actors.{AreTerms, EndsAt, FailsStop, HasFailed, IfIncluding, IfLiving, IsLiving, IsReadyLife, lives, message_of}
+use Rattle.dkg_reshare.specs.Actors.{AreTerms, BringsWithin, EndsAt, FailsStop, HasFailed, IfIncluding, IfLiving, IsLiving, IsReadyLife, lives, message_of}
 use Rattle.dkg_reshare.specs.Carried.{CarriesWithin}
 use Rattle.dkg_reshare.specs.Ends.{IsCaused, IsCausedBy, IsCausedInStep}
 use Rattle.dkg_reshare.specs.Given.{IsIn, IsOf, ReadsPlanless}
@@ -293,6 +295,18 @@ mail_of (message.Over request) is = (Over request, refl)
 mail_of (message.Cancel request) is = (Cancel request, refl)
 mail_of message.Work is = (Work None, refl)
 
+-- .. and brings nothing that has a limit
+pub mail_within : (limit : ℕ) (its : declared.Message directory.Unit (Unit {0})) → IsMail its → BringsWithin limit its
+mail_within limit (message.Peer from bytes) is = tt
+mail_within limit (message.Finalized b) is = absurd is
+mail_within limit (message.NextLog request height) is = tt
+mail_within limit (message.ReleaseLog height) is = tt
+mail_within limit (message.EpochInfo request) is = tt
+mail_within limit (message.Feed request b) is = tt
+mail_within limit (message.Over request) is = tt
+mail_within limit (message.Cancel request) is = tt
+mail_within limit message.Work is = tt
+
 -- A BLOCK: the reshare half took it, and then the orchestrator's half, which may enter the next epoch
 
 module _ (n : Node) (half_was : Half) (fence_was : Readiness) (c : Fixed directory.Unit) (beside : Beside directory.Unit) (has : HasBeside half_was beside) (reshare_is : c.oneshot ≡ None)
@@ -397,15 +411,39 @@ module _ {D X : Type 0} (tells : Bool) (files : D → Files) (image : D → File
       settled = settled;
     }
 
-    -- .. where its call went well
-    pub ready_on : (result : Result (Unit {0}) Stop) → EndsReady result → OnOk result SettlesInclusion → IsSettled (non_zero_u64_get n.actor.terms.blocks_per_epoch) n.half
-        → OnOk result (IsReadyNode tells files image n devices)
-    ready_on (Ok done) ends including settled = ready_node ends including settled
-    ready_on (Err stop) ends including settled = tt
+-- .. behind a call of it
+module _ {D X : Type 0} (tells : Bool) (files : D → Files) (image : D → Files → Type 0) (before n : Node) (old new : Devices D X) (was : IsReadyNode tells files image before old)
+    (terms : n.actor.terms ≡ before.actor.terms) (length : n.blocks_per_epoch ≡ before.blocks_per_epoch) where
+  length_is : n.blocks_per_epoch ≡ n.actor.terms.blocks_per_epoch
+  length_is = length ∙ was.blocks_are ∙ ap (λ (t : Terms). t.blocks_per_epoch) (sym terms)
 
--- A half that was left as it was has epochs of the same length.
-pub settled_as : (blocks now : ℕ) (half : Half) → now ≡ blocks → IsSettled blocks half → IsSettled now half
-settled_as blocks now half same settled = λ epoch going entered. subst (λ (n : ℕ). last n epoch < 2 ^ 64) (sym same) (settled epoch going entered)
+  -- where its half stayed as it was
+  pub ready_on : n.half ≡ before.half → (result : Result (Unit {0}) Stop) → EndsReady tells files image n new result → OnOk result (SettlesInclusion tells files image n new) → OnOk result (IsReadyNode tells files image n new)
+  ready_on half (Ok done) ends including =
+      ready_node tells files image n new length_is ends including
+      (subst (λ (t : Terms). IsSettled (non_zero_u64_get t.blocks_per_epoch) n.half) (sym terms)
+      (subst (λ (h : Half). IsSettled (non_zero_u64_get before.actor.terms.blocks_per_epoch) h) (sym half) was.settled))
+  ready_on half (Err stop) ends including = tt
+
+  -- .. or answered
+  pub ready_behind : EndsReady tells files image n new (Ok tt) → SettlesInclusion tells files image n new → (result : Result (Unit {0}) Stop) → OnOk result (IsSettled (non_zero_u64_get n.blocks_per_epoch) n.half)
+      → OnOk result (IsReadyNode tells files image n new)
+  ready_behind ends including (Ok done) settled = ready_node tells files image n new length_is ends including (subst (λ (k : NonZeroU64). IsSettled (non_zero_u64_get k) n.half) length_is settled)
+  ready_behind ends including (Err stop) settled = tt
+
+-- its half's epochs have the length of the life's
+module _ {D X : Type 0} (tells : Bool) (files : D → Files) (image : D → Files → Type 0) (n : Node) (devices : Devices D X) (ready : IsReadyNode tells files image n devices) where
+  pub half_length : (g : Lived) → IsOfLife g n → (number : ℕ) → non_zero_u64_get n.blocks_per_epoch ≡ (at_step g number).blocks_per_epoch
+  half_length g of number = ap non_zero_u64_get ready.blocks_are ∙ sym (of.of number).blocks
+
+  pub half_settled : IsSettled (non_zero_u64_get n.blocks_per_epoch) n.half
+  half_settled = subst (λ (k : NonZeroU64). IsSettled (non_zero_u64_get k) n.half) (sym ready.blocks_are) ready.settled
+
+-- what is said of an inclusion beside another thing
+pub including_both : (state : NodeState) (P Q : reshare.Life directory.Unit → NodeInclusion → Type 0) → IfIncluding state (λ life its. P life its × Q life its) → IfIncluding state P × IfIncluding state Q
+including_both New P Q is = (tt, tt)
+including_both (Living life its) P Q is = is
+including_both HadFailed P Q is = (tt, tt)
 
 -- THE CONFIGURATION of a life
 
@@ -432,7 +470,7 @@ pub of_terms : (g : Lived) (node : Node) (config : ScriptConfig) → g.script.co
 of_terms g node config same none are lines word word_is its = record {
   of = is_of g node.actor.terms config same none are;
   word = subst (λ (w : ℕ). IfLiving node.actor.state (λ its. its.word ≡ w)) (sym word_is) its;
-  players = λ epoch. ap (λ (c : ScriptConfig). players_at c.players epoch) same ∙ ap (λ (lines : List _). players_at lines epoch) (sym lines);
+  players = λ epoch. ap (λ (c : ScriptConfig). players_at c.players epoch) same ∙ ap (λ (lines : List PlayerLine). players_at lines epoch) (sym lines);
 }
 
 -- A node with the same terms and its life's word, whose provider says the same, is of the same lives.
