@@ -1,11 +1,12 @@
 -- What a call of the actor and the orchestrator's half behind it make of a node.
 use Rattle.std.proofs.Common.{◌≡◌, ℕ, Bool, true, false, nat_le, List, [], Option, Some, None, Result, Ok, Err, append-nil, refl, sym, ◌∙◌, ap, subst, add-one, arith}
-use Rattle.std.specs.Prelude.{◌+◌, ◌-◌, ◌*◌, ◌<◌, ◌≤◌, ◌^◌, ⊤, IfErr, IfSome, IsSomeAnd, OnOk, is_some, option_map, slice_get, if◌then◌else◌}
+use Rattle.std.specs.Prelude.{◌+◌, ◌-◌, ◌*◌, ◌<◌, ◌≤◌, ◌^◌, ⊤, IfErr, IsSome, IsSomeAnd, OnOk, is_some, option_map, slice_get, if◌then◌else◌}
 use Rattle.std.specs.Option.{option_map_or}
 use Rattle.std.specs.Int.NonZero.{non_zero_u32_get, non_zero_u64_get}
 use Rattle.std.specs.declared.num.NonZeroU64.{NonZeroU64}
 use Rattle.std.proofs.Math.Nat.{suc-mul}
 use Rattle.std.proofs.lemmas.Bool.Decides.{nat_tests}
+use Rattle.dkg_values.specs.Rising.{lookup}
 use Rattle.dkg_ceremony.specs.Acks as acks
 use Rattle.dkg_ceremony.specs.Dealings as dealings
 use Rattle.dkg_ceremony.specs.Deals as deals
@@ -564,6 +565,7 @@ module _ (before n : Node) (g : Lived) (number : ℕ) (st : Live directory.Unit)
         (steps_come_through given_at any_shares st (Finalized b) None may.form (λ h epoch found. tt) tt may.live)) said
 
     module _ (epoch : ℕ) (going : before.half.halted ≡ false) (entered : before.half.entered ≡ Some epoch) (at_last : b.height ≡ last given_at.blocks_per_epoch epoch) where
+      passes : (is_past_range given_at (b.height + 1) ≡ false) × (is_ready end.orchestrator.fence.ready (epoch + 1) ≡ true) × IsSome (lookup (epoch + 1) end.orchestrator.schemes)
       passes =
           may_pass given_at any_shares b st end None None may.form may.live may.active next_said epoch (view.half.halted ∙ going) (view.half.entered ∙ entered) at_last
 
@@ -680,17 +682,17 @@ module _ (before n : Node) (g : Lived) (number : ℕ) (st : Live directory.Unit)
 
     module _ (P : reshare.Life directory.Unit → Type 0) (ends : EndsAt n.actor.state (Ok tt) P) (result : Result (Unit {0}) Stop) where
       pub takes : (files files_now : Files) (image next : Files → Type 0) (old : Moment) (mid_out out : List Line) (s : Secrets) (f : Burn)
-          → Promises Includes (Shows n.actor.state) Took (MadeBy files files_now image next old (moment mid_out s f) (Ok tt)) → Speaking result mid_out out
+          → Promises Includes (λ i. Shows n.actor.state i) Took (MadeBy files files_now image next old (moment mid_out s f) (Ok tt)) → Speaking result mid_out out
           → Viewed n result (λ ended. MakesAt (on_devices (node_step given_at (Delivers b) st)) ended files image files_now next old (moment out s f))
       takes files files_now image next old mid_out out s f made speaks =
-          let e = behind Includes includes (Shows n.actor.state) Took (MadeBy files files_now image next old (moment mid_out s f) (Ok tt)) made in
+          let e = behind Includes includes (λ i. Shows n.actor.state i) Took (MadeBy files files_now image next old (moment mid_out s f) (Ok tt)) made in
           taken_in n before.half fence given_at e.now e.has (at_oneshot g number) b st MayGo leads_on files files_now image next old mid_out out s f n.actor.state refl P ends e.such
           (made_as files files_now image next old (moment mid_out s f) (Ok tt) e.now e.so) result speaks
 
-      pub takes_said : (out mid now : List Line) → Promises Includes (Shows n.actor.state) Took (ToldBy out mid (Ok tt)) → Speaking result mid now
+      pub takes_said : (out mid now : List Line) → Promises Includes (λ i. Shows n.actor.state i) Took (ToldBy out mid (Ok tt)) → Speaking result mid now
           → Viewed n result (λ ended. Tells (node_step given_at (Delivers b) st) ended out now)
       takes_said out mid now said speaks =
-          let e = behind Includes includes (Shows n.actor.state) Took (ToldBy out mid (Ok tt)) said in
+          let e = behind Includes includes (λ i. Shows n.actor.state i) Took (ToldBy out mid (Ok tt)) said in
           told_in n before.half fence given_at e.now e.has (at_oneshot g number) b st MayGo leads_on out mid now n.actor.state refl P ends e.such (told_as out mid (Ok tt) e.now e.so) result speaks
 
 -- nothing is said where nothing was found
