@@ -9,14 +9,12 @@ use Rattle.std.proofs.lemmas.Bool.{and_parts, eqb-true}
 use Rattle.std.proofs.lemmas.Bool.Decides.{nat_tests}
 use Rattle.dkg_values.specs.Rising.{lookup}
 use Rattle.dkg_ceremony.specs.Dealings.{dealing_of}
-use Rattle.dkg_ceremony.specs.Deals.{both_halves, deal_of, dealt_length, dealt_poly, again_of, is_share_of}
-use Rattle.dkg_ceremony.specs.DealLaws.{HasShare, shares_are_dealt}
+use Rattle.dkg_ceremony.specs.Deals.{deal_of}
 use Rattle.dkg_ceremony.specs.PartialPublics.{partial_public_of, share_public_of}
 use Rattle.dkg_ceremony.specs.RoundLaws.{round_has}
 use Rattle.dkg_ceremony.specs.Rounds.{round_of}
 use Rattle.dkg_ceremony.specs.declared.ceremony.DealingError.{DealingError}
 use Rattle.dkg_ceremony.specs.declared.deal.DealError.{DealError}
-use Rattle.dkg_ceremony.specs.declared.deal.DealError.TheVariants.{ShareRefused as Refuses}
 use Rattle.dkg_ceremony.specs.declared.mode.Reveal.TheVariants.{V1}
 use Rattle.dkg_ceremony.specs.declared.output.Output.{Output}
 use Rattle.dkg_ceremony.specs.declared.round.RoundParts.{RoundParts as Round}
@@ -29,6 +27,7 @@ use Rattle.dkg_types.specs.declared.outcome.EpochOutcome.TheVariants.{Success, F
 use Rattle.dkg_secrets.specs.Keys.{key_cmp}
 use Rattle.dkg_secrets.proofs.Map.{keys_total}
 use Rattle.dkg_store.specs.Acts.{Held}
+use Rattle.dkg_store.specs.Pairs.{Pairs}
 use Rattle.dkg_store.specs.Recorded.{Pair, first_refused, refused_or}
 use Rattle.dkg_script.proofs.Listed.{each_found}
 use Rattle.dkg_core.specs.Forms.{IsSetupFault}
@@ -37,15 +36,13 @@ use Rattle.dkg_core.specs.Live.{Live}
 use Rattle.dkg_core.specs.Setup.{carried_share, fitting, pairs_of, recovered_share, share_below}
 use Rattle.dkg_core.proofs.Storing.{looked_up}
 use Rattle.dkg_run.specs.Given.{Lived, at_step}
+use Rattle.dkg_run.proofs.Sharing.{carried_serves}
 
 some_is : {A : Type 0} {x y : A} → ◌≡◌ {A = Option A} (Some x) (Some y) → x ≡ y
 some_is e = cc
 
 none_some : {A : Type 0} (x : A) → ◌≡◌ {A = Option A} None (Some x) → ⊥
 none_some x e = cc
-
-ok_err : {A E : Type 0} (x : A) (e : E) → ◌≡◌ {A = Result A E} (Ok x) (Err e) → ⊥
-ok_err x e is = cc
 
 -- DEALINGS that all pass
 
@@ -69,16 +66,23 @@ all_map : {X : Type 0} (P Q : X → Type 0) (xs : List X) → ((x : X) → P x �
 all_map P Q [] leads all = tt
 all_map P Q (x ∷ xs) leads all = (leads x all.0, all_map P Q xs leads all.1)
 
--- A SHARE that fits
-
-deal_errs : (round : Round) (signer : ℕ) (share : Option ℕ) (seed : List ℕ) (why : DealError) → deal_of round signer share seed ≡ Err why → deal_of round signer share seed ≡ Err Refuses
-unfolding deal_of
-deal_errs round signer share seed why is = by_test (is_share_of round.previous signer share) is
+-- NO STORED DEALING of a round is refused where each one of it passes
+pub none_refused_in : (me : ℕ) (round : Round) (st : Live directory.Unit) (pairs : Pairs) → st.records.dealings ≡ maps.entries pairs
+    → ((who : ℕ) (pair : List ℕ × ℕ) → who < 2 ^ 32 → get pairs (round.number, who) ≡ Some pair → dealing_of round me who pair.0 pair.1 ≡ Ok tt)
+    → first_refused (λ d. dealing_of round me d) (pairs_of st round.number) ≡ None
+none_refused_in me round st pairs same passes =
+    ap (λ (ps : List Pair). first_refused (λ d. dealing_of round me d) (filter (λ p. (p.0.0 == round.number) && nat_lt p.0.1 (2 ^ 32)) ps)) same
+    ∙ none_refused (λ d. dealing_of round me d) round.number (pairs_in pairs)
+    (all_map (λ x. find key_cmp x.0 (pairs_in pairs) ≡ Some x.1) _ (pairs_in pairs) each (each_found keys_total (pairs_in pairs) (entries_sorted pairs)))
   where
-    by_test : (t : Bool) → (if not t then Err Refuses else Ok (both_halves (dealt_poly (again_of round.previous share) seed (dealt_length (length round.players))) round.players)) ≡ Err why
-        → (if not t then Err Refuses else Ok (both_halves (dealt_poly (again_of round.previous share) seed (dealt_length (length round.players))) round.players)) ≡ Err Refuses
-    by_test true e = absurd (ok_err _ why e)
-    by_test false e = refl
+    is_low : (q : ℕ) → nat_lt q (2 ^ 32) ≡ true → q < 2 ^ 32
+    is_low q e = grind (arith, nat_tests)
+
+    each : (x : Pair) → find key_cmp x.0 (pairs_in pairs) ≡ Some x.1 → ((x.0.0 == round.number) && nat_lt x.0.1 (2 ^ 32)) ≡ true → dealing_of round me x.0.1 x.1.0 x.1.1 ≡ Ok tt
+    each x there test =
+        let parts = and_parts (x.0.0 == round.number) (nat_lt x.0.1 (2 ^ 32)) test in
+        let at : get pairs (round.number, x.0.1) ≡ Some x.1 = subst (λ (e : ℕ). get pairs (e, x.0.1) ≡ Some x.1) (eqb-true x.0.0 round.number parts.0) (get-entries pairs x.0 ∙ there) in
+        passes x.0.1 x.1 (is_low x.0.1 parts.1) at
 
 -- of what a call answers
 of_answer : {T E : Type 0} (P : T → Type 0) (r : Result T E) (t : T) → IfOk r P → r ≡ Ok t → P t
@@ -137,9 +141,6 @@ module _ (g : Lived) (taken : ℕ) (epoch : ℕ) (info : EpochInfo directory.Uni
           (round_of g.script.config.namespace epoch (Some info.output) g.script.config.mode V1 info.output.players info.players) round
           (round_has g.script.config.namespace epoch (Some info.output) g.script.config.mode V1 info.output.players info.players) why.1.2.1)
 
-      refused : deal_of round me share seed ≡ Err Refuses
-      refused = deal_errs round me share seed why.1.2.2.1.0 why.1.2.2.1.1
-
       by_key : (a b c : Bool) → (a && b && c) ≡ true → b ≡ true
       by_key true true c e = refl
       by_key true false c e = absurd cc
@@ -152,26 +153,8 @@ module _ (g : Lived) (taken : ℕ) (epoch : ℕ) (info : EpochInfo directory.Uni
           let nothing : (is_some share || is_none round.previous) ≡ false = ap (λ (o : Option ℕ). is_some o || is_none round.previous) none ∙ ap (λ (o : Option Output). is_none o) previous in
           let wrong : true ≡ false = sym some ∙ nothing in cc
       by_share (Some its) there =
-          let has : HasShare round.previous me share = subst (λ (p : Option Output). HasShare p me share) (sym previous) (subst (λ (o : Option ℕ). IsSomeAnd o (λ s. partial_public_of info.output me ≡ Some (share_public_of s))) (sym there) (fits its there)) in
-          (shares_are_dealt round me share seed).1 has refused
-
-  -- NO STORED DEALING of a round is refused where each one passes that is given back
-  pub none_refused_in : (round : Round) (st : Live directory.Unit) (now : Held) → st.records.dealings ≡ maps.entries (recovered_in now)
-      → ((who : ℕ) (pair : List ℕ × ℕ) → who < 2 ^ 32 → get (recovered_in now) (round.number, who) ≡ Some pair → dealing_of round me who pair.0 pair.1 ≡ Ok tt)
-      → first_refused (λ d. dealing_of round me d) (pairs_of st round.number) ≡ None
-  none_refused_in round st now same passes =
-      ap (λ (ps : List Pair). first_refused (λ d. dealing_of round me d) (filter (λ p. (p.0.0 == round.number) && nat_lt p.0.1 (2 ^ 32)) ps)) same
-      ∙ none_refused (λ d. dealing_of round me d) round.number (pairs_in (recovered_in now))
-      (all_map (λ x. find key_cmp x.0 (pairs_in (recovered_in now)) ≡ Some x.1) _ (pairs_in (recovered_in now)) each (each_found keys_total (pairs_in (recovered_in now)) (entries_sorted (recovered_in now))))
-    where
-      is_low : (q : ℕ) → nat_lt q (2 ^ 32) ≡ true → q < 2 ^ 32
-      is_low q e = grind (arith, nat_tests)
-
-      each : (x : Pair) → find key_cmp x.0 (pairs_in (recovered_in now)) ≡ Some x.1 → ((x.0.0 == round.number) && nat_lt x.0.1 (2 ^ 32)) ≡ true → dealing_of round me x.0.1 x.1.0 x.1.1 ≡ Ok tt
-      each x there test =
-          let parts = and_parts (x.0.0 == round.number) (nat_lt x.0.1 (2 ^ 32)) test in
-          let at : get (recovered_in now) (round.number, x.0.1) ≡ Some x.1 = subst (λ (e : ℕ). get (recovered_in now) (e, x.0.1) ≡ Some x.1) (eqb-true x.0.0 round.number parts.0) (get-entries (recovered_in now) x.0 ∙ there) in
-          passes x.0.1 x.1 (is_low x.0.1 parts.1) at
+          carried_serves round me its seed why.1.2.2.1.0 (subst (λ (p : Option Output). IsSomeAnd p (λ (o : Output). partial_public_of o me ≡ Some (share_public_of its))) (sym previous) (fits its there))
+          (subst (λ (o : Option ℕ). deal_of round me o seed ≡ Err why.1.2.2.1.0) there why.1.2.2.1.1)
 
   -- A STORED DEALING is refused only where one that is given back is
   pub stored_pass : (share : Option ℕ) (seed : List ℕ) (st : Live directory.Unit) (now : Held) (number dealer : ℕ) → st.records.dealings ≡ maps.entries (recovered_in now)
@@ -180,7 +163,7 @@ module _ (g : Lived) (taken : ℕ) (epoch : ℕ) (info : EpochInfo directory.Uni
       → IsSetupFault (at_step g taken) epoch info share seed st (LocalState (StoredDealing number dealer)) → ⊥
   unfolding at_step
   stored_pass share seed st now number dealer same passes why =
-      none_some dealer (sym (none_refused_in why.1.2.0 st now same (λ who pair low at. passes why.1.2.0 who pair why.1.2.1 low at)) ∙ why.1.2.2.2)
+      none_some dealer (sym (none_refused_in me why.1.2.0 st (recovered_in now) same (λ who pair low at. passes why.1.2.0 who pair why.1.2.1 low at)) ∙ why.1.2.2.2)
 
 -- THIS NODE'S OWN dealing is what the same share and seed deal
 pub own_same : (round : Round) (me : ℕ) (share : Option ℕ) (seed kept dealt : List ℕ) (privates others : List (ℕ × ℕ)) → deal_of round me share seed ≡ Ok (kept, privates) → deal_of round me share seed ≡ Ok (dealt, others) → kept ≡ dealt
