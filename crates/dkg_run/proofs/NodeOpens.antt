@@ -53,8 +53,8 @@ use Rattle.dkg_run.specs.Sources.{IsSourceOf}
 use Rattle.dkg_run.specs.declared.held.HeldBlocks.{HeldBlocks}
 use Rattle.dkg_run.specs.declared.node.Node.{Node}
 use Rattle.dkg_run.proofs.Checked.{life_in_form}
-use Rattle.dkg_run.proofs.Noding.{at_oneshot, is_of}
-use Rattle.dkg_run.proofs.Opening.{Lives, end_of, ended_makes, ended_says, epoch_is, fence_ready, half_given, halted_makes, halted_says, lent_at, lives_at, lives_err, made_there, may_enter, may_enter_made, opened_made, opened_says, opened_view, opening_of, living_there, lives_went, number_at, planless_at, reading_as, seen_empty, unless_named, went_burns}
+use Rattle.dkg_run.proofs.Noding.{at_oneshot, is_of, made_there, went_burns}
+use Rattle.dkg_run.proofs.Opening.{Lives, end_of, ended_makes, ended_says, epoch_is, fence_ready, half_given, halted_makes, halted_says, lent_at, lives_at, lives_err, may_enter, may_enter_made, opened_made, opened_says, opened_view, opening_of, living_there, lives_went, number_at, planless_at, reading_as, seen_empty, unless_named}
 use Rattle.dkg_run.proofs.Sourced.{source_is}
 
 -- the terms that a script's configuration comes to

@@ -224,23 +224,6 @@ unless_named S T stops.Cut P Q so p = tt
 unless_named S T stops.Failed P Q so p = tt
 unless_named S T (stops.Fault its) P Q so p = unless_cause S T (cause_in its) its P Q so p
 
-went_so : {F S : Type 0} (how : Ended F S) (P Q : Type 0) → (P → IfWent how (P → Q)) → IfWent how (P → Q)
-went_so (went end) P Q so = λ p. so p p
-went_so (stopped fault) P Q so = tt
-went_so (broken cause) P Q so = tt
-
--- what was burnt to the end, whatever end that is
-pub went_burns : {F G S T : Type 0} {x : S} {y : T} {f g : Burn} → Burns {F = F} (went x) f g → Burns {F = G} (went y) f g
-went_burns burns = record { call = burns.call; pick = burns.pick; uncut = burns.uncut }
-
--- Acts were made where they were, of a disk of which nothing was loose, with what the fuse burnt.
-pub made_there : {S : Type 0} {acts : Acts NodeStop S} (how : Ended NodeStop S) {files files_now : Files} {image now : Files → Type 0} {old new : Moment} → Burns how old.fuse new.fuse
-    → (Stands files image → MakesAt acts how files image files_now now old new) → MakesAt acts how files image files_now now old new
-made_there how {files} {files_now} {image} {now} burns so = record {
-  made = record { made = λ stands c here. (so stands).made.made stands c here; stands = went_so how (Stands files image) (Stands files_now now) (λ stands. (so stands).made.stands) };
-  burns = burns;
-}
-
 -- WHAT A LIFE'S OPENING IS GIVEN
 
 -- the life, with other reads
