@@ -1,11 +1,11 @@
 pub mod Alone
 pub mod Asked
+pub mod Asking
 pub mod AwaitedRises
 pub mod Awaiting
 pub mod Begun
 pub mod BegunRounds
 pub mod Behind
-pub mod Below
 pub mod Blaming
 pub mod BlocksLeave
 pub mod BlockLogs
@@ -43,6 +43,7 @@ pub mod GivingValid
 pub mod GivingWhole
 pub mod Going
 pub mod Heard
+pub mod Halves
 pub mod HeightsRise
 pub mod Idle
 pub mod InPlace
@@ -55,6 +56,7 @@ pub mod LaterRecords
 pub mod Leading
 pub mod LifeSteps
 pub mod LineHeights
+pub mod LinesFound
 pub mod LivesClear
 pub mod LivesKept
 pub mod LivesStand
@@ -84,6 +86,7 @@ pub mod OwnFaults
 pub mod OwnRuns
 pub mod OwnSteps
 pub mod OwnValid
+pub mod Passing
 pub mod PeerForms
 pub mod Places
 pub mod PlanlessReads
@@ -101,6 +104,7 @@ pub mod Seats
 pub mod SharesFit
 pub mod SharesKnown
 pub mod SharesStay
+pub mod Sharing
 pub mod Shutting
 pub mod Skipping
 pub mod Sourced
