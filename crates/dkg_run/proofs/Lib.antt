@@ -61,6 +61,7 @@ pub mod LivesClear
 pub mod LivesKept
 pub mod LivesStand
 pub mod Living
+pub mod LogsBehind
 pub mod LogsFit
 pub mod MarksAt
 pub mod Marked
