@@ -7,13 +7,15 @@ pub mod BegunRounds
 pub mod Behind
 pub mod Below
 pub mod Blaming
-pub mod BlocksLeave
 pub mod BlockLogs
+pub mod BlocksLeave
 pub mod BlocksMade
 pub mod Causing
 pub mod Chaining
 pub mod Checked
 pub mod ClearLives
+pub mod CommitsFitting
+pub mod CommitsOver
 pub mod Completing
 pub mod Currently
 pub mod CutLives
@@ -60,8 +62,8 @@ pub mod LivesKept
 pub mod LivesStand
 pub mod Living
 pub mod LogsFit
-pub mod MarksAt
 pub mod Marked
+pub mod MarksAt
 pub mod Naming
 pub mod NextLives
 pub mod NoOthers
@@ -95,6 +97,7 @@ pub mod Reported
 pub mod RunKept
 pub mod Running
 pub mod Runs
+pub mod SaysOver
 pub mod Seated
 pub mod Seats
 pub mod SharesFit
@@ -120,3 +123,4 @@ pub mod TwiceAcked
 pub mod Unbegun
 pub mod Used
 pub mod ValidCauses
+pub mod WorldLives
