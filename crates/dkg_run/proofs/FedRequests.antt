@@ -122,6 +122,22 @@ module _ (request : ℕ) where
       by_event (event.Next number height) none = unmade es (neither (number == request) (is_asked es request) none).1
       by_event other none = unmade es none
 
+  -- .. and it was fed nothing yet
+  unfed : (es : List Event) → is_asked es request ≡ false → fed_to request es ≡ []
+  unfed [] none = refl
+  unfed (e ∷ es) none = by_event e none
+    where
+      neither : (a b : Bool) → (a || b) ≡ false → (a ≡ false) × (b ≡ false)
+      neither true b e = absurd (let wrong : ◌≡◌ {A = Bool} true false = e in cc)
+      neither false b e = (refl, e)
+
+      by_event : (x : Event) → (asks request x || is_asked es request) ≡ false → fed_to request (x ∷ es) ≡ []
+      by_event (event.Info number) none =
+          let both = neither (number == request) (is_asked es request) none in
+          ap (λ (t : Bool). if t then fed_while_open request es else fed_to request es) both.0 ∙ unfed es both.1
+      by_event (event.Next number height) none = unfed es (neither (number == request) (is_asked es request) none).1
+      by_event other none = unfed es none
+
 -- where it is made, no request of its number was made before
 anew_at : (done events : List Event) (i request : ℕ) → FitAfter IsAskedAnew done events → slice_get events i ≡ Some (event.Info request) → is_asked (done ++ take i events) request ≡ false
 anew_at done [] i request anew there = absurd (let wrong : ◌≡◌ {A = Option Event} None (Some (event.Info request)) = there in cc)
@@ -138,3 +154,9 @@ made_anew life i request anew there = unmade request (take i life.events) (anew_
 pub becomes_open : (life : Life) (i request : ℕ) → AskAnew life.events → slice_get life.events i ≡ Some (event.Info request) → standing_of life request (suc i) ≡ Open
 becomes_open life i request anew there =
     stands_more request life i (event.Info request) there ∙ ap (λ (s : Standing). turns request s (event.Info request)) (made_anew life i request anew there) ∙ ap (λ (t : Bool). if t then Open else Unmade) (itself request)
+
+pub fed_nothing : (script : Script) (life : Life) (i request : ℕ) → AskAnew life.events → slice_get life.events i ≡ Some (event.Info request) → fed_in script life request (suc i) ≡ []
+fed_nothing script life i request anew there =
+    fed_more request life i (event.Info request) there script
+    ∙ ap (λ (s : Standing). fed_in script life request i ++ numbered (blocks_in script) (adds request s (event.Info request))) (made_anew life i request anew there)
+    ∙ append-nil (fed_in script life request i) ∙ ap (numbered (blocks_in script)) (unfed request (take i life.events) (anew_at [] life.events i request anew there))
