@@ -20,6 +20,8 @@ use Rattle.dkg_types.specs.declared.entry.Why.TheVariants.{Short, WrongHeight, U
 use Rattle.dkg_types.specs.declared.info.EpochInfo.{EpochInfo}
 use Rattle.dkg_text.specs.declared.script.Event.{Event}
 use Rattle.dkg_text.specs.declared.script.Event.TheVariants as event
+use Rattle.dkg_text.specs.declared.script.Life.{Life}
+use Rattle.dkg_text.specs.declared.script.Script.{Script}
 use Rattle.dkg_store.specs.Acts.{Ended}
 use Rattle.dkg_script.specs.Epochs.{alone}
 use Rattle.dkg_script.specs.Position.{event_of_step, follows}
@@ -54,7 +56,7 @@ use Rattle.dkg_run.proofs.Awaiting.{IsReached}
 use Rattle.dkg_run.proofs.Causing.{above_by, taken}
 use Rattle.dkg_run.proofs.FedRequests.{becomes_open, stands_more}
 use Rattle.dkg_run.proofs.Former.{Brings, BringsBlock, BringsMail, IsMessage, brings_so, life_in, step_taken, through_at}
-use Rattle.dkg_run.proofs.Requested.{AreHeld, AreReady, IsAwaited, IsHeld, IsSamePart, asked_same, block_said, dealt_part, dealt_said, dealt_tip, included_said, keeps_final, keeps_work, mail_said, observed_part, read_here, stands_as, were_asked}
+use Rattle.dkg_run.proofs.Requested.{AreHeld, AreReady, IsAwaited, IsHeld, IsSamePart, asked_same, block_said, dealt_part, dealt_said, dealt_tip, included_said, keeps_final, keeps_work, mail_said, observed_part, read_here, sends_info, sends_work, stands_as, were_asked}
 use Rattle.dkg_run.proofs.Unanswered.{IsUnanswered, block_lines}
 
 abbrev U : Type 0
@@ -66,9 +68,12 @@ all_of P (y ∷ xs) x (inl is) all = subst P is all.0
 all_of P (y ∷ xs) x (inr among) all = all_of P xs x among all.1
 
 -- what is said in a step of a life
+abbrev pub IsSaidAt : Script → (l : ℕ) → Life → (j : ℕ) → Entry → Type 0
+IsSaidAt script l life j (Answer request answer) = IsAskedFor script l life j request × IsAnsweredSo script l life j request answer
+IsSaidAt script l life j line = Unit {0}
+
 abbrev pub IsSaidHere : Lived → (j : ℕ) → Entry → Type 0
-IsSaidHere g j (Answer request answer) = IsAskedFor g.script g.number g.life j request × IsAnsweredSo g.script g.number g.life j request answer
-IsSaidHere g j line = Unit {0}
+IsSaidHere g j line = IsSaidAt g.script g.number g.life j line
 
 pub unanswered_so : (g : Lived) (j : ℕ) (line : Entry) → IsUnanswered line → IsSaidHere g j line
 unanswered_so g j (Answer request answer) none = absurd none
@@ -247,34 +252,6 @@ module _ (g : Lived) (here : IsLifeInForm g) (i : ℕ) (its : Event) (is : slice
     asked_so : (line : Entry) → IsReadAnswer c (asked_by mail st) line → IsSaidHere g (suc i) line
     asked_so line read = read_in (asked_by mail st) part mail_tip (mail_said g here i its is st held mail its_brings) line read
 
-  -- an event's kind, by what it sends
-  sends_info : (x : Event) (number : ℕ) → Brings g x (Sent (EpochInfoOf number)) → x ≡ event.Info number
-  sends_info (event.Info request) number brings = let same : number ≡ request = the_number brings in ap event.Info (sym same)
-    where
-      the_number : {a b : ℕ} → ◌≡◌ {A = Message U} (Sent (EpochInfoOf a)) (Sent (EpochInfoOf b)) → a ≡ b
-      the_number e = cc
-  sends_info (event.Peer from bytes) number brings = absurd (let no : ◌≡◌ {A = Message U} (Sent (EpochInfoOf number)) (Sent (Peer from bytes)) = brings in cc)
-  sends_info (event.Final block) number brings = absurd (let no : ◌≡◌ {A = Message U} (Sent (EpochInfoOf number)) (Finalized (brings.0).block) = brings.1 in cc)
-  sends_info (event.Next request height) number brings = absurd (let no : ◌≡◌ {A = Message U} (Sent (EpochInfoOf number)) (Sent (NextLog request height)) = brings in cc)
-  sends_info (event.Release height) number brings = absurd (let no : ◌≡◌ {A = Message U} (Sent (EpochInfoOf number)) (Sent (ReleaseLog height)) = brings in cc)
-  sends_info (event.Feed request block) number brings = absurd (let no : ◌≡◌ {A = Message U} (Sent (EpochInfoOf number)) (Sent (Feed request (brings.0).block)) = brings.1 in cc)
-  sends_info (event.Over request) number brings = absurd (let no : ◌≡◌ {A = Message U} (Sent (EpochInfoOf number)) (Sent (Over request)) = brings in cc)
-  sends_info (event.Cancel request) number brings = absurd (let no : ◌≡◌ {A = Message U} (Sent (EpochInfoOf number)) (Sent (Cancel request)) = brings in cc)
-  sends_info event.Work number brings = absurd (let no : ◌≡◌ {A = Message U} (Sent (EpochInfoOf number)) (Sent (Work None)) = brings in cc)
-  sends_info other number brings = absurd brings
-
-  sends_work : (x : Event) (handed : Option VerifiedLogs) → Brings g x (Sent (Work handed)) → x ≡ event.Work
-  sends_work event.Work handed brings = refl
-  sends_work (event.Peer from bytes) handed brings = absurd (let no : ◌≡◌ {A = Message U} (Sent (Work handed)) (Sent (Peer from bytes)) = brings in cc)
-  sends_work (event.Final block) handed brings = absurd (let no : ◌≡◌ {A = Message U} (Sent (Work handed)) (Finalized (brings.0).block) = brings.1 in cc)
-  sends_work (event.Next request height) handed brings = absurd (let no : ◌≡◌ {A = Message U} (Sent (Work handed)) (Sent (NextLog request height)) = brings in cc)
-  sends_work (event.Release height) handed brings = absurd (let no : ◌≡◌ {A = Message U} (Sent (Work handed)) (Sent (ReleaseLog height)) = brings in cc)
-  sends_work (event.Info request) handed brings = absurd (let no : ◌≡◌ {A = Message U} (Sent (Work handed)) (Sent (EpochInfoOf request)) = brings in cc)
-  sends_work (event.Feed request block) handed brings = absurd (let no : ◌≡◌ {A = Message U} (Sent (Work handed)) (Sent (Feed request (brings.0).block)) = brings.1 in cc)
-  sends_work (event.Over request) handed brings = absurd (let no : ◌≡◌ {A = Message U} (Sent (Work handed)) (Sent (Over request)) = brings in cc)
-  sends_work (event.Cancel request) handed brings = absurd (let no : ◌≡◌ {A = Message U} (Sent (Work handed)) (Sent (Cancel request)) = brings in cc)
-  sends_work other handed brings = absurd brings
-
   following : (number : ℕ) → its ≡ event.Info number → st.participation.stage ≡ Follows → IsSaidHere g (suc i) (Answer number (Unavailable Following))
   following number of follows =
       let there : slice_get g.life.events i ≡ Some (event.Info number) = is ∙ ap (λ (x : Event). Some x) of in
@@ -296,13 +273,13 @@ module _ (g : Lived) (here : IsLifeInForm g) (i : ℕ) (its : Event) (is : slice
   mail_answers (ReleaseLog height) sent line said = absurd said
   mail_answers (EpochInfoOf number) sent line (inl read) = asked_so (EpochInfoOf number) sent line read
   mail_answers (EpochInfoOf number) sent line (inr (follows, same)) =
-      subst (λ (x : Entry). IsSaidHere g (suc i) x) (sym same) (following number (sends_info its number (its_brings (EpochInfoOf number) sent)) follows)
+      subst (λ (x : Entry). IsSaidHere g (suc i) x) (sym same) (following number (sends_info g its number (its_brings (EpochInfoOf number) sent)) follows)
   mail_answers (Feed number block) sent line said = asked_so (Feed number block) sent line said
   mail_answers (Over number) sent line said = asked_so (Over number) sent line said
   mail_answers (Cancel number) sent line said = asked_so (Cancel number) sent line said
   mail_answers (Work handed) sent line (inl waited) =
       let its_round = waited_round line waited in
-      let of : its ≡ event.Work = sends_work its handed (its_brings (Work handed) sent) in
+      let of : its ≡ event.Work = sends_work g its handed (its_brings (Work handed) sent) in
       waited_so (apart_by its_round.0 its_round.1) line waited (λ number one. waits_on number (λ s uncancelled. subst (λ (x : Event). IsUncancelled (turns number s x)) (sym of) (keeps_work number s uncancelled)) one)
   mail_answers (Work handed) sent line (inr read) = asked_so (Work handed) sent line read
 

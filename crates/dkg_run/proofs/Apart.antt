@@ -500,16 +500,33 @@ module _ (c : Fixed U) (reshare : c.oneshot ≡ None) where
     Reads (Sent (Peer from bytes)) = ⊥
     Reads (Sent mail) = Unit {0}
 
-    pub node_apart : (message : Message U) → Reads message → ((mail : Mail U) → message ≡ Sent mail → IsNewOne st mail) → ComesTo (λ (stop : NodeStop). ⊤) (λ end. IsApart end.inclusion) (node_step c (event_of message) st)
-    node_apart (Finalized block) reads new =
-        comes_behind Any (Where st apart block) EndsApart (under Faulted (step c (Finalized block) st))
-        (λ now. unless_once c (bind (delivered c block now) (λ left. half.acked_at block.height left.answer left.live)) (Say (Acked block.height) (Goes now)))
-        (any_under (Where st apart block) Faulted (step c (Finalized block) st) (block_to st apart block))
-        (λ now its. comes_as Any Any (λ end. end.inclusion ≡ now.inclusion) EndsApart
-        (unless_once c (bind (delivered c block now) (λ left. half.acked_at block.height left.answer left.live)) (Say (Acked block.height) (Goes now))) (λ stop any. any)
-        (λ end same. subst IsApart (sym same) (its reads)) (behind_block now.inclusion block now refl))
-    node_apart (Sent mail) reads new =
+    mail_apart : (mail : Mail U) → IsNewOne st mail → ((from : ℕ) (bytes : List ℕ) → mail ≡ Peer from bytes → ⊥) → ComesTo (λ (stop : NodeStop). ⊤) EndsApart (node_step c (event_of (Sent mail)) st)
+    mail_apart mail new other =
         comes_behind Any EndsApart EndsApart (under Faulted (step c (Sent mail) st)) (λ now. unless_once c (half.asks_again c now) (Goes now))
-        (any_under EndsApart Faulted (step c (Sent mail) st) (mail_to st apart mail (new mail refl) (λ from bytes is. subst (λ (x : Mail U). Reads (Sent x)) is reads)))
+        (any_under EndsApart Faulted (step c (Sent mail) st) (mail_to st apart mail new other))
         (λ now its. comes_as Any Any (λ end. end.inclusion ≡ now.inclusion) EndsApart (unless_once c (half.asks_again c now) (Goes now)) (λ stop any. any)
         (λ end same. subst IsApart (sym same) its) (behind_mail now.inclusion now refl))
+
+    abbrev WhereRead : Message U → Live U → Type 0
+    WhereRead message end = Reads message → IsApart end.inclusion
+
+    read_mail : (mail : Mail U) → IsNewOne st mail → ((from : ℕ) (bytes : List ℕ) → mail ≡ Peer from bytes → ⊥) → ComesTo (λ (stop : NodeStop). ⊤) (WhereRead (Sent mail)) (node_step c (event_of (Sent mail)) st)
+    read_mail mail new other =
+        comes_as (λ (stop : NodeStop). ⊤) (λ (stop : NodeStop). ⊤) EndsApart (WhereRead (Sent mail)) (node_step c (event_of (Sent mail)) st) (λ stop any. any) (λ end its reads. its) (mail_apart mail new other)
+
+    pub node_apart : (message : Message U) → ((mail : Mail U) → message ≡ Sent mail → IsNewOne st mail) → ComesTo (λ (stop : NodeStop). ⊤) (WhereRead message) (node_step c (event_of message) st)
+    node_apart (Finalized block) new =
+        comes_behind Any (Where st apart block) (WhereRead (Finalized block)) (under Faulted (step c (Finalized block) st))
+        (λ now. unless_once c (bind (delivered c block now) (λ left. half.acked_at block.height left.answer left.live)) (Say (Acked block.height) (Goes now)))
+        (any_under (Where st apart block) Faulted (step c (Finalized block) st) (block_to st apart block))
+        (λ now its. comes_as Any Any (λ end. end.inclusion ≡ now.inclusion) (WhereRead (Finalized block))
+        (unless_once c (bind (delivered c block now) (λ left. half.acked_at block.height left.answer left.live)) (Say (Acked block.height) (Goes now))) (λ stop any. any)
+        (λ end same reads. subst IsApart (sym same) (its reads)) (behind_block now.inclusion block now refl))
+    node_apart (Sent (Peer from bytes)) new = comes_so (WhereRead (Sent (Peer from bytes))) (λ end reads. absurd reads) (node_step c (event_of (Sent (Peer from bytes))) st)
+    node_apart (Sent (NextLog request height)) new = read_mail (NextLog request height) tt (λ from bytes e. cc)
+    node_apart (Sent (ReleaseLog height)) new = read_mail (ReleaseLog height) tt (λ from bytes e. cc)
+    node_apart (Sent (EpochInfoOf request)) new = read_mail (EpochInfoOf request) (new (EpochInfoOf request) refl) (λ from bytes e. cc)
+    node_apart (Sent (Feed request block)) new = read_mail (Feed request block) tt (λ from bytes e. cc)
+    node_apart (Sent (Over request)) new = read_mail (Over request) tt (λ from bytes e. cc)
+    node_apart (Sent (Cancel request)) new = read_mail (Cancel request) tt (λ from bytes e. cc)
+    node_apart (Sent (Work handed)) new = read_mail (Work handed) tt (λ from bytes e. cc)

@@ -28,7 +28,7 @@ use Rattle.dkg_core.specs.Forms.{Applied, Judged, Passed, Refusal, judged_block}
 use Rattle.dkg_core.specs.Including.{Found, read_of, releases, is_served_at}
 use Rattle.dkg_core.specs.Laws.{IsAmong}
 use Rattle.dkg_core.specs.Live as core
-use Rattle.dkg_core.specs.Live.{Cancel, Deals, Dealer, Ends, EpochInfoOf, Feed, Finalized, Follows, Inclusion, Includes, Job, Live, Mail, Message, NextLog, Over, Peer, ReleaseLog, Request, Sent, Stage, Work, is_last_height, recorded_at, with_inclusion, with_participation, with_tip}
+use Rattle.dkg_core.specs.Live.{Cancel, Deals, Dealer, Ends, EpochInfoOf, Feed, Finalized, Follows, Inclusion, Includes, Job, Live, Mail, Message, NextLog, Over, Peer, ReleaseLog, Request, Sent, Stage, VerifiedLogs, Work, is_last_height, recorded_at, with_inclusion, with_participation, with_tip}
 use Rattle.dkg_core.specs.Logs.{canonical, filled_by, is_accepted}
 use Rattle.dkg_core.specs.NodeThrough.{IsNodeThrough}
 use Rattle.dkg_core.specs.Setup.{begins_inclusion}
@@ -37,13 +37,12 @@ use Rattle.dkg_core.specs.Stepping.{dealt_behind, given_itself}
 use Rattle.dkg_core.specs.Through.{IsAppliedThrough, IsBlockThrough, IsEndThrough, IsFollowedThrough, IsIncludedThrough, IsLiveThrough, IsReadFrom, asked_by, finished, included, observed, observed_log, waits_for}
 use Rattle.dkg_core.proofs.Heights.{epoch_is}
 use Rattle.dkg_core.proofs.StepDealing as dealing
-use Rattle.dkg_run.specs.Asks.{Standing, Unmade, Open, Closed, Cancelled, IsReadAt, IsUncancelled, WereAsked, bounds_in, fed_in, scan_tip, standing_of, turns}
+use Rattle.dkg_run.specs.Asks.{Standing, Unmade, Open, Closed, Cancelled, IsUncancelled, WereAsked, bounds_in, fed_in, scan_tip, standing_of, turns}
 use Rattle.dkg_run.specs.Blamed.{per_epoch, tip_in}
 use Rattle.dkg_run.specs.Epochs.{IsLifeInForm, StandsInScript, any_shares, epoch_by}
 use Rattle.dkg_run.specs.Given.{Lived, at_step, blocks_in, numbered}
 use Rattle.dkg_run.proofs.Ancestry.{IsCompleted, IsRead, read_so}
-use Rattle.dkg_run.proofs.Apart.{IsApart, IsNewOne, LacksNumber, none_apart, as_apart}
-use Rattle.dkg_run.proofs.Apart as apart_of
+use Rattle.dkg_run.proofs.Apart.{IsApart, IsNewOne, IsReadAt, LacksNumber, Reads, none_apart, as_apart}
 use Rattle.dkg_run.proofs.Asking.{dealt_same, goes, heard_same, observed_same, same_epoch}
 use Rattle.dkg_run.proofs.FedRequests.{adds, adds_block, becomes_open, fed_more, fed_nothing, made_anew, stands_more}
 use Rattle.dkg_run.proofs.Former.{Brings, IsMadeOf, IsMessage, life_in}
@@ -247,6 +246,37 @@ module _ (g : Lived) where
 
   emptied : (j : ℕ) (st : Live U) → IsEmptied st.inclusion → AreHeld j st
   emptied j st its = none_held j st its.queue its.waiter
+
+-- WHAT SENDS A MESSAGE
+
+module _ (g : Lived) where
+  -- an event's kind, by what it sends
+  pub sends_info : (x : Event) (number : ℕ) → Brings g x (Sent (EpochInfoOf number)) → x ≡ event.Info number
+  sends_info (event.Info request) number brings = let same : number ≡ request = the_number brings in ap event.Info (sym same)
+    where
+      the_number : {a b : ℕ} → ◌≡◌ {A = Message U} (Sent (EpochInfoOf a)) (Sent (EpochInfoOf b)) → a ≡ b
+      the_number e = cc
+  sends_info (event.Peer from bytes) number brings = absurd (let no : ◌≡◌ {A = Message U} (Sent (EpochInfoOf number)) (Sent (Peer from bytes)) = brings in cc)
+  sends_info (event.Final block) number brings = absurd (let no : ◌≡◌ {A = Message U} (Sent (EpochInfoOf number)) (Finalized (brings.0).block) = brings.1 in cc)
+  sends_info (event.Next request height) number brings = absurd (let no : ◌≡◌ {A = Message U} (Sent (EpochInfoOf number)) (Sent (NextLog request height)) = brings in cc)
+  sends_info (event.Release height) number brings = absurd (let no : ◌≡◌ {A = Message U} (Sent (EpochInfoOf number)) (Sent (ReleaseLog height)) = brings in cc)
+  sends_info (event.Feed request block) number brings = absurd (let no : ◌≡◌ {A = Message U} (Sent (EpochInfoOf number)) (Sent (Feed request (brings.0).block)) = brings.1 in cc)
+  sends_info (event.Over request) number brings = absurd (let no : ◌≡◌ {A = Message U} (Sent (EpochInfoOf number)) (Sent (Over request)) = brings in cc)
+  sends_info (event.Cancel request) number brings = absurd (let no : ◌≡◌ {A = Message U} (Sent (EpochInfoOf number)) (Sent (Cancel request)) = brings in cc)
+  sends_info event.Work number brings = absurd (let no : ◌≡◌ {A = Message U} (Sent (EpochInfoOf number)) (Sent (Work None)) = brings in cc)
+  sends_info other number brings = absurd brings
+
+  pub sends_work : (x : Event) (handed : Option VerifiedLogs) → Brings g x (Sent (Work handed)) → x ≡ event.Work
+  sends_work event.Work handed brings = refl
+  sends_work (event.Peer from bytes) handed brings = absurd (let no : ◌≡◌ {A = Message U} (Sent (Work handed)) (Sent (Peer from bytes)) = brings in cc)
+  sends_work (event.Final block) handed brings = absurd (let no : ◌≡◌ {A = Message U} (Sent (Work handed)) (Finalized (brings.0).block) = brings.1 in cc)
+  sends_work (event.Next request height) handed brings = absurd (let no : ◌≡◌ {A = Message U} (Sent (Work handed)) (Sent (NextLog request height)) = brings in cc)
+  sends_work (event.Release height) handed brings = absurd (let no : ◌≡◌ {A = Message U} (Sent (Work handed)) (Sent (ReleaseLog height)) = brings in cc)
+  sends_work (event.Info request) handed brings = absurd (let no : ◌≡◌ {A = Message U} (Sent (Work handed)) (Sent (EpochInfoOf request)) = brings in cc)
+  sends_work (event.Feed request block) handed brings = absurd (let no : ◌≡◌ {A = Message U} (Sent (Work handed)) (Sent (Feed request (brings.0).block)) = brings.1 in cc)
+  sends_work (event.Over request) handed brings = absurd (let no : ◌≡◌ {A = Message U} (Sent (Work handed)) (Sent (Over request)) = brings in cc)
+  sends_work (event.Cancel request) handed brings = absurd (let no : ◌≡◌ {A = Message U} (Sent (Work handed)) (Sent (Cancel request)) = brings in cc)
+  sends_work other handed brings = absurd brings
 
 -- ONE EVENT MORE
 
@@ -584,6 +614,17 @@ module _ (g : Lived) (here : IsLifeInForm g) (i : ℕ) (its : Event) (is : slice
       waits None its = tt
       waits (Some number) its = λ same. apart number (sym same) its.uncancelled
 
+  -- .. where an event sends one
+  pub sent_new : (m : IsMessage g its) (c : Fixed U) (reshare : c.oneshot ≡ None) (mail : Mail U) → m.message ≡ Sent mail → IsNewOne c reshare st mail
+  sent_new m c reshare (EpochInfoOf request) sent = new_one request (sends_info g its request (subst (λ (x : Message U). Brings g its x) sent m.brings)) c reshare
+  sent_new m c reshare (Peer from bytes) sent = tt
+  sent_new m c reshare (NextLog request height) sent = tt
+  sent_new m c reshare (ReleaseLog height) sent = tt
+  sent_new m c reshare (Feed request b) sent = tt
+  sent_new m c reshare (Over request) sent = tt
+  sent_new m c reshare (Cancel request) sent = tt
+  sent_new m c reshare (Work handed) sent = tt
+
   -- what an event's mail says of requests
   pub mail_said : (mail : Mail U) → Brings g its (Sent mail) → Ready (asked_by mail st).inclusion
   mail_said mail brings = by_event its refl mail brings
@@ -865,6 +906,57 @@ module _ (g : Lived) (here : IsLifeInForm g) (i : ℕ) (its : Event) (is : slice
       either : GoesOn c st m.message mid ⊎ TakesOver c any_shares st m.message devices mid left → AreReady g (epoch_by g (suc i)) (suc i) mid.participation.round mid.inclusion
       either (inl on) = of_stage on mid.participation.stage refl
       either (inr over) = none_now (over.taken).emptied.queue (over.taken).emptied.waiter
+
+  -- their numbers are apart, where they are so in a step in which requests are read
+  module _ (reshare : c.oneshot ≡ None) (read_apart : Reads c reshare st held.apart m.message → IsApart end.inclusion) where
+    as_mid : IsApart mid.inclusion → IsApart end.inclusion
+    as_mid apart = subst (λ (x : Live U). IsApart x.inclusion) (sym node.same) apart
+
+    unread : mid.inclusion ≡ st.inclusion → IsApart end.inclusion
+    unread same = as_mid (as_apart st.inclusion mid.inclusion (ap (λ (x : Inclusion U). x.queue) same) (ap (λ (x : Inclusion U). x.waiter) same) held.apart)
+
+    none_left : IsEmptied mid.inclusion → IsApart end.inclusion
+    none_left empty = as_mid (none_apart mid.inclusion empty.queue empty.waiter)
+
+    block_apart : (b : Block U) → m.message ≡ Finalized b → IsBlockThrough c any_shares b st devices (judged_block c b st) mid left → IsApart end.inclusion
+    block_apart b sent block_end = by_judged (judged_block c b st) refl block_end
+      where
+        reads : IsReadAt c reshare st held.apart b → IsApart end.inclusion
+        reads read = read_apart (subst (λ (x : Message U). Reads c reshare st held.apart x) (sym sent) read)
+
+        followed : (t : Bool) → IsFollowedThrough c any_shares b st devices t mid left → IsApart end.inclusion
+        followed true passed = none_left passed.emptied
+        followed false same = unread (ap (λ (x : Live U). x.inclusion) same)
+
+        by_stage : judged_block c b st ≡ Applied → (stage : Stage) → st.participation.stage ≡ stage → (t : Bool) → is_last_height c b.height ≡ t → IsAppliedThrough c any_shares b st devices stage mid left → IsApart end.inclusion
+        by_stage applied Deals stage t last_is its_end = reads (applied, inl stage)
+        by_stage applied Includes stage true last_is its_end =
+            none_left (subst (λ (t : Bool). IsIncludedThrough c any_shares b st devices t mid left) last_is its_end).emptied
+        by_stage applied Includes stage false last_is its_end = reads (applied, inr (stage, last_is))
+        by_stage applied Follows stage t last_is its_end = followed (is_last_height c b.height) its_end
+        by_stage applied Ends stage t last_is none = absurd none
+
+        by_judged : (j : Judged) → judged_block c b st ≡ j → IsBlockThrough c any_shares b st devices j mid left → IsApart end.inclusion
+        by_judged (Refusal fault) is none = absurd none
+        by_judged Passed is same = unread (ap (λ (x : Live U). x.inclusion) same.0)
+        by_judged Applied is applied = by_stage is st.participation.stage refl (is_last_height c b.height) refl applied
+
+    pub step_apart : IsApart end.inclusion
+    step_apart = by_message m.message refl (node.next).is
+      where
+        sent : (message : Message U) → m.message ≡ message → Reads c reshare st held.apart message → IsApart end.inclusion
+        sent message is reads = read_apart (subst (λ (x : Message U). Reads c reshare st held.apart x) (sym is) reads)
+
+        by_message : (message : Message U) → m.message ≡ message → IsEndThrough c any_shares st message devices mid left → IsApart end.inclusion
+        by_message (Finalized b) is its_end = block_apart b is its_end
+        by_message (Sent (Peer from bytes)) is its_end = unread (heard_same c st from mid its_end)
+        by_message (Sent (NextLog request height)) is its_end = sent (Sent (NextLog request height)) is tt
+        by_message (Sent (ReleaseLog height)) is its_end = sent (Sent (ReleaseLog height)) is tt
+        by_message (Sent (EpochInfoOf request)) is its_end = sent (Sent (EpochInfoOf request)) is tt
+        by_message (Sent (Feed request b)) is its_end = sent (Sent (Feed request b)) is tt
+        by_message (Sent (Over request)) is its_end = sent (Sent (Over request)) is tt
+        by_message (Sent (Cancel request)) is its_end = sent (Sent (Cancel request)) is tt
+        by_message (Sent (Work handed)) is its_end = sent (Sent (Work handed)) is tt
 
   -- the requests that are left are held so, where their numbers are apart
   pub step_held : IsApart end.inclusion → AreHeld g (suc i) end
