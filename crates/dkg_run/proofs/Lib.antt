@@ -1,4 +1,7 @@
 pub mod Alone
+pub mod Ancestry
+pub mod Answered
+pub mod Apart
 pub mod Asked
 pub mod AwaitedRises
 pub mod Awaiting
@@ -28,6 +31,7 @@ pub mod Empty
 pub mod Ended
 pub mod EndsTold
 pub mod Entering
+pub mod FedRequests
 pub mod FewPlayers
 pub mod Finding
 pub mod Finishing
@@ -94,6 +98,7 @@ pub mod Recorded
 pub mod RecordsFound
 pub mod Refusing
 pub mod Reported
+pub mod Requested
 pub mod RunKept
 pub mod Running
 pub mod Runs
@@ -120,6 +125,7 @@ pub mod Telling
 pub mod Turns
 pub mod Twice
 pub mod TwiceAcked
+pub mod Unanswered
 pub mod Unbegun
 pub mod Used
 pub mod ValidCauses

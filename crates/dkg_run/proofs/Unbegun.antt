@@ -25,9 +25,10 @@ use Rattle.dkg_script.specs.Position.{begun}
 use Rattle.dkg_script.specs.Progress.{at_start, progress}
 use Rattle.dkg_script.specs.Promise.{AreHonestStores, KeepsDealings, cuts_in}
 use Rattle.dkg_script.specs.SameOffers.{SameOffers}
-use Rattle.dkg_script.specs.Setting.{Setting, listed, recovered_from}
+use Rattle.dkg_script.specs.Setting.{Setting, listed, recovered_from, setting_of}
 use Rattle.dkg_script.proofs.Listed.{gives_all}
 use Rattle.dkg_script.proofs.EachEntry.{EachAfter, at_each}
+use Rattle.dkg_run.specs.Answers.{AnswersSo, IsAnswer}
 use Rattle.dkg_run.specs.Complete.{IsSoundRun, IsValidAsCut}
 use Rattle.dkg_script.specs.Ends.{EndsScript}
 use Rattle.dkg_run.specs.Epochs.{refused_config}
@@ -183,6 +184,10 @@ module _ (script : Script) (o : Over) (answered : Result (Unit {0}) Fault) (old 
   pub none_offers : SameOffers added
   none_offers = offers_none added (by_why (λ r es. AllByRecursion IsSilent es) tt (λ fault refused. (tt, tt)))
 
+  -- no request is answered
+  pub none_answered : AnswersSo script added
+  none_answered = by_why (λ r es. AnswersSo script es) (λ files held. at_each (setting_of script files held) (IsAnswer script) [] tt)
+      (λ fault refused files held. at_each (setting_of script files held) (IsAnswer script) (entry.Fault fault ∷ []) (tt, tt))
   -- .. and nothing is committed
   pub none_commits : (So : ℕ → ℕ → Type 0) (epoch share : ℕ) → Contains added (entry.Committed epoch (Some share)) → So epoch share
   none_commits So epoch share has = absurd (all_of IsUncommitted added (entry.Committed epoch (Some share)) (by_why (λ r es. AllByRecursion IsUncommitted es) tt (λ fault refused. (tt, tt))) has)

@@ -9,6 +9,7 @@ use Rattle.dkg_text.specs.declared.script.Script.{Script}
 use Rattle.dkg_script.specs.AsCut.{setting_as_cut}
 use Rattle.dkg_script.specs.SameOffers.{OffersTheSame}
 use Rattle.dkg_script.specs.Promise.{AnswersDealings, KeepsDealings, RunsAll, RunsInOrder, cuts_in}
+use Rattle.dkg_run.specs.Answers.{AnswersSo}
 use Rattle.dkg_run.specs.Complete.{IsSoundRun, IsValidAsCut}
 use Rattle.dkg_run.specs.Blamed.{BlamesSo}
 use Rattle.dkg_script.specs.Ends.{EndsScript}
@@ -53,6 +54,8 @@ pub record Promised (script : Script) (o : Over) (result : Result (Unit {0}) Fau
   pub answered : OnOk result (o.tells → AnswersDealings script o.before.files o.before.held o.before.image added)
   -- To a player of an epoch one half alone is offered.
   pub offers : o.tells → Stands o.before.files o.before.image → OffersTheSame script o.before.files o.before.held added
+  -- Whatever the devices tell, each answer of a final block's request is of one that was asked and isn't cancelled: what follows the logs that were asked for, or why there is none.
+  pub answers : AnswersSo script added
   -- Each share that is committed is this node's in the output that its epoch's info carries.
   pub shares : o.tells → Stands o.before.files o.before.image → CommitsFit script o.before.files o.before.held added
   -- A valid script over valid devices, of which no count rises, is run to its end, unless memory runs out.
