@@ -3,12 +3,12 @@ pub mod Ancestry
 pub mod Answered
 pub mod Apart
 pub mod Asked
+pub mod Asking
 pub mod AwaitedRises
 pub mod Awaiting
 pub mod Begun
 pub mod BegunRounds
 pub mod Behind
-pub mod Below
 pub mod Blaming
 pub mod BlockLogs
 pub mod BlocksLeave
@@ -49,6 +49,7 @@ pub mod GivingValid
 pub mod GivingWhole
 pub mod Going
 pub mod Heard
+pub mod Halves
 pub mod HeightsRise
 pub mod Idle
 pub mod InPlace
@@ -61,10 +62,12 @@ pub mod LaterRecords
 pub mod Leading
 pub mod LifeSteps
 pub mod LineHeights
+pub mod LinesFound
 pub mod LivesClear
 pub mod LivesKept
 pub mod LivesStand
 pub mod Living
+pub mod LogsBehind
 pub mod LogsFit
 pub mod Marked
 pub mod MarksAt
@@ -89,6 +92,7 @@ pub mod OwnFaults
 pub mod OwnRuns
 pub mod OwnSteps
 pub mod OwnValid
+pub mod Passing
 pub mod PeerForms
 pub mod Places
 pub mod PlanlessReads
@@ -108,6 +112,7 @@ pub mod Seats
 pub mod SharesFit
 pub mod SharesKnown
 pub mod SharesStay
+pub mod Sharing
 pub mod Shutting
 pub mod Skipping
 pub mod Sourced
