@@ -221,7 +221,7 @@ module _ (s : Setting) (cuts : List (Option CutAt)) (form : IsFormOfInclusion s.
         (step_fitting s cuts form consistent l life seen files life_is reads here i its is reached st active fitting begun so.0 ended new run)
         (by_end ended (step_comes s cuts form consistent l life seen files life_is reads here i its is reached st active fitting begun so.0 ended new run))
       where
-        abbrev message : Message directory.Unit
+        message : Message directory.Unit
         message = (message_in g its (event_in_form g here i its is)).message
 
         by_end : (e : Ended NodeStop (Live directory.Unit)) → CameTo (IsFaultBy (IsStopThrough (at_step g (suc i)) (mine s) st message (Some w.held))) (λ end. IsNodeThrough (at_step g (suc i)) (mine s) st message (Some w.held) end (Some new.held)) e

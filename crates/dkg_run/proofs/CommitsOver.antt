@@ -1,6 +1,6 @@
 -- Which share is told as committed in an opening and in a step, over what the devices hold.
 use Rattle.std.proofs.Common.{◌≡◌, ℕ, Bool, true, false, List, [], ◌∷◌, Option, Some, None, refl, sym, ◌∙◌, ap, subst, arith}
-use Rattle.std.specs.Prelude.{◌+◌, ◌-◌, ◌==◌, ◌&&◌, ◌||◌, if◌then◌else◌, is_some, is_none, not, IsSomeAnd, Ok, Err, Result, option_and_then, option_map, nat_lt, map}
+use Rattle.std.specs.Prelude.{◌+◌, ◌-◌, ◌==◌, ◌&&◌, ◌||◌, if◌then◌else◌, is_some, is_none, not, result_ok, IsSomeAnd, Ok, Err, Result, option_and_then, option_map, nat_lt, map}
 use Rattle.std.specs.Option.{option_map_or}
 use Rattle.std.proofs.lemmas.Bool.Decides.{nat_tests}
 use Rattle.dkg_values.specs.Codec.{whole}
@@ -8,6 +8,7 @@ use Rattle.dkg_values.specs.Rising.{lookup}
 use Rattle.dkg_ceremony.specs.Outcomes.{LogMap}
 use Rattle.dkg_ceremony.specs.Schedule.{boundary, epoch_of, last, midpoint}
 use Rattle.dkg_ceremony.specs.declared.deal.DealError.{DealError}
+use Rattle.dkg_ceremony.specs.declared.output.Output.{Output}
 use Rattle.dkg_ceremony.specs.declared.phase.Phase.{Phase}
 use Rattle.dkg_ceremony.specs.declared.round.RoundError.{RoundError}
 use Rattle.dkg_ceremony.specs.declared.round.RoundParts.{RoundParts as Round}
@@ -15,7 +16,8 @@ use Rattle.dkg_ceremony.specs.declared.signed_log.SignedDealerLog.{SignedDealerL
 use Rattle.dkg_fence.specs.Fence.{waited}
 use Rattle.dkg_fence.specs.declared.fence.Waited.TheVariants as waits
 use Rattle.dkg_fence.specs.declared.fence.Waited.{Waited}
-use Rattle.dkg_store.specs.Acts.{Held, OnDisk, after}
+use Rattle.dkg_secrets.specs.declared.secrets.SecretOp.TheVariants.{PutSeed, PutShare}
+use Rattle.dkg_store.specs.Acts.{Changes, Held, OnDisk, after}
 use Rattle.dkg_store.specs.Recorded.{restored_of}
 use Rattle.dkg_journal.specs.Operations.{Bars, Opens}
 use Rattle.dkg_types.specs.BlockCodes.{info_of}
@@ -29,13 +31,14 @@ use Rattle.dkg_types.specs.declared.fault.Fault.TheVariants.{HeightRange, LocalS
 use Rattle.dkg_types.specs.declared.fault.Fault.{Fault}
 use Rattle.dkg_types.specs.declared.fault.LocalCause.TheVariants.{OutcomeOmitted}
 use Rattle.dkg_types.specs.declared.info.EpochInfo.{EpochInfo}
+use Rattle.dkg_types.specs.declared.participants.Participants.{Participants}
 use Rattle.dkg_types.specs.declared.participants.ParticipantsError.{ParticipantsError}
 use Rattle.dkg_types.specs.declared.scheme.SchemeInfo.{SchemeInfo}
 use Rattle.dkg_core.specs.Asked.{HasAsked, IsArtifactIn, IsAskStop, IsJobIn, IsResultIn, OfShares, Reads}
 use Rattle.dkg_core.specs.Behind.{event_of}
 use Rattle.dkg_core.specs.Blocks as b
 use Rattle.dkg_core.specs.Core.{begun, opening, opens_in, step}
-use Rattle.dkg_core.specs.Courses.{Course, Genesis, Goes, Say, Stops, bind, under}
+use Rattle.dkg_core.specs.Courses.{Certified, Course, Genesis, Goes, Say, Stops, bind, under}
 use Rattle.dkg_core.specs.Dealing as d
 use Rattle.dkg_core.specs.Endings.{first_epoch, validity}
 use Rattle.dkg_core.specs.Entering as half
@@ -130,18 +133,28 @@ module _ {Dir : Type 0} (c : Fixed Dir) (So : ℕ → Option ℕ → Type 0) whe
   sets_up info now =
       so_if P (info.epoch == now.participation.epoch) (s.judged c None s.WasCommitted info now (validity c info)) (Stops (WrongEpoch now.participation.epoch info.epoch)) (λ e. judged info now (validity c info)) (λ e. tt)
 
+  draws_up : (its : Participants) (previous : Option Output) (share : Option ℕ) (seed : List ℕ) (now : Live Dir) → SaysSo P (s.draws_up c its previous share seed now)
+  draws_up its previous share seed now =
+      in_round (phase_of c (awaited_height now)) share seed now (c.rules.round_of c.namespace now.participation.epoch previous c.mode c.reveal its.dealers its.players)
+
   -- .. and one that commits the info of the boundary block
+
+  -- the life behind a commit that is registered
+  abbrev behind_commit : EpochInfo Dir → Option ℕ → Live Dir → Live Dir
+  behind_commit info put now = s.with_registered info.epoch (s.scheme_for c info put) (with_participation (record now.participation { current = Some info }) now)
+
+  commits_then : (info : EpochInfo Dir) (seed : List ℕ) (put : Option ℕ) (now : Live Dir) (next : Live Dir → Course Dir Fault (Live Dir)) (h : Held) → So info.epoch put → ((end : Live Dir) → SaysSo P (next end))
+      → SaysOver P (bind (bind (s.commits info seed put now) (λ its. s.registers c info put its)) next) h
+  commits_then info seed None now next h told so = (told, (tt, anywhere P (next (behind_commit info None now)) (after (Changes (PutSeed info.epoch seed)) h) (so (behind_commit info None now))))
+  commits_then info seed (Some value) now next h told so =
+      (told, (tt, anywhere P (next (behind_commit info (Some value) now)) (after (Changes (PutSeed info.epoch seed)) (after (Changes (PutShare info.epoch value)) h)) (so (behind_commit info (Some value) now))))
 
   judged_new : (info : EpochInfo Dir) (now : Live Dir) (valid : Result (Unit {0}) ParticipantsError) (h : Held) → So info.epoch (share_read c info h) → SaysOver P (s.judged c None s.Uncommitted info now valid) h
   judged_new info now (Err e) h so = tt
-  judged_new info now (Ok passed) h so = by_share (share_read c info h) so
-    where
-      seed : List ℕ
-      seed = seed_read c info h
-
-      by_share : (share : Option ℕ) → So info.epoch share → SaysOver P (s.with_share_and_seed c None s.Uncommitted info share seed now) h
-      by_share None so = (so, (tt, anywhere P _ _ (in_round (phase_of c (awaited_height now)) None seed _ (round_for c now.participation.epoch info))))
-      by_share (Some share) so = (so, (tt, anywhere P _ _ (in_round (phase_of c (awaited_height now)) (Some share) seed _ (round_for c now.participation.epoch info))))
+  judged_new info now (Ok passed) h so =
+      commits_then info (seed_read c info h) (share_read c info h) now
+      (λ st. bind (s.prunes (st.participation.epoch - 1) st) (λ st. if s.is_late_floor c None then s.follows c st else s.draws_up c (s.participants_of info) (Some info.output) (share_read c info h) (seed_read c info h) st)) h so
+      (λ end. draws_up (s.participants_of info) (Some info.output) (share_read c info h) (seed_read c info h) (record end { records = s.records_from (end.participation.epoch - 1) end.records }))
 
   -- the info that the block at this epoch's boundary carries
   abbrev pub AtBoundary : (epoch : ℕ) → Held → Type 0
@@ -233,7 +246,7 @@ module _ {Dir : Type 0} (c : Fixed Dir) (So : ℕ → Option ℕ → Type 0) whe
       (over_under P Faulted (step c (Sent (Peer from bytes)) now) h (anywhere P (step c (Sent (Peer from bytes)) now) h (hears_so c P plain from bytes now now.participation.stage))) behind_mail
 
   opens_so : (now : Live Dir) (m : Option (Material Dir)) → Half_so (half.opens_half c m now)
-  opens_so now (Some m) = enters _ now
+  opens_so now (Some m) = enters (record { epoch = m.info.epoch; info = m.info; floor = Certified m.floor; block = None }) now
   opens_so now None =
       let epoch = epoch_of c.blocks_per_epoch (half.start_height c) in
       so_if P (s.is_past_range c (half.start_height c)) (Stops (Faulted HeightRange)) (half.opens_at c epoch (c.source.block (boundary c.blocks_per_epoch epoch)) now) (λ e. tt)
@@ -245,7 +258,10 @@ module _ {Dir : Type 0} (c : Fixed Dir) (So : ℕ → Option ℕ → Type 0) whe
 
   behind_opening : (now : Live Dir) → SaysSo P (unless_once c (kept_material c now) (Goes now))
   behind_opening now =
-      so_if P (is_some c.oneshot) (Goes now) (kept_material c now) (λ e. tt) (λ e h. so_behind P (half.opens_half c _ now) (λ left. Goes left.live) (opens_so now _) (λ left. tt))
+      so_if P (is_some c.oneshot) (Goes now) (kept_material c now) (λ e. tt) (λ e h. opens_by (option_and_then (λ bytes. result_ok (whole (p.material_at c bytes))) (c.seen h).plan))
+    where
+      opens_by : (m : Option (Material Dir)) → SaysSo P (bind (half.opens_half c m now) (λ left. Goes left.live))
+      opens_by m = so_behind P (half.opens_half c m now) (λ left. Goes left.live) (opens_so now m) (λ left. tt)
 
   -- AN OPENING of the form commits what is recovered for the info of its first epoch's boundary block, over the devices once the journal is open.
 
@@ -317,8 +333,9 @@ module _ {Dir : Type 0} (c : Fixed Dir) (form : IsFormThrough c) (stored : OfSha
     commits_over : (put : Option ℕ) (seed : List ℕ) (now : Live Dir) (next : Live Dir → Course Dir Fault (Live Dir)) → Taken info.epoch put
         → SaysSo Q (next (s.with_registered info.epoch (s.scheme_for c info put) (with_participation (record now.participation { current = Some info }) now)))
         → SaysOver Q (bind (s.commits info seed put now) (λ its. bind (s.registers c info put its) next)) held
-    commits_over None seed now next told so = (told, (tt, anywhere Q _ _ so))
-    commits_over (Some value) seed now next told so = (told, (tt, anywhere Q _ _ so))
+    commits_over None seed now next told so = (told, (tt, anywhere Q (next (behind_commit c Taken info None now)) (after (Changes (PutSeed info.epoch seed)) held) so))
+    commits_over (Some value) seed now next told so =
+        (told, (tt, anywhere Q (next (behind_commit c Taken info (Some value) now)) (after (Changes (PutSeed info.epoch seed)) (after (Changes (PutShare info.epoch value)) held)) so))
 
   -- WHILE FOLLOWING
   follows_over : st.participation.stage ≡ Follows → SaysOver Q (b.follows_at c block st) held

@@ -3,7 +3,7 @@ use Rattle.std.proofs.Common.{◌≡◌, ℕ, Bool, true, false, cond, eqb, List
 use Rattle.std.specs.Prelude.{filter}
 use Rattle.std.specs.Option.{option_or}
 use Rattle.std.proofs.lemmas.List.Elements.{filter_map-append}
-use Rattle.dkg_values.specs.Rising.{lookup, map_of}
+use Rattle.dkg_values.specs.Rising.{lookup, map_of, with_pair}
 use Rattle.dkg_values.specs.RisingLaws.{map_of-lookup, map_of-rises, same_lookups}
 use Rattle.dkg_ceremony.specs.Outcomes.{LogMap}
 use Rattle.dkg_ceremony.specs.declared.dealer_log.DealerLog.{DealerLog}
@@ -29,18 +29,15 @@ one_map xs ys same = same_lookups 0 0 (map_of xs) (map_of ys) (map_of-rises xs) 
 
 filled_map : (logs others : LogMap) → filled_by logs (map_of others) ≡ map_of (logs ++ others)
 filled_map [] others = refl
-filled_map (log ∷ logs) others = ap (λ (m : LogMap). map_of (log ∷ m)) refl ∙ more
-  where
-    more : filled_by (log ∷ logs) (map_of others) ≡ map_of (log ∷ (logs ++ others))
-    more = rw (filled_map logs others) refl
+filled_map (log ∷ logs) others = ap (with_pair log) (filled_map logs others)
 
 filter_append : {A : Type 0} (test : A → Bool) (xs ys : List A) → filter test (xs ++ ys) ≡ filter test xs ++ filter test ys
 filter_append test [] ys = refl
-filter_append {A} test (x ∷ xs) ys = by_test (test x)
+filter_append {A} test (x ∷ xs) ys = by_test (test x) (filter_append test xs ys)
   where
-    by_test : (t : Bool) → cond t (x ∷ filter test (xs ++ ys)) (filter test (xs ++ ys)) ≡ cond t (x ∷ filter test xs) (filter test xs) ++ filter test ys
-    by_test true = ap (λ (l : List A). x ∷ l) (filter_append test xs ys)
-    by_test false = filter_append test xs ys
+    by_test : (t : Bool) → filter test (xs ++ ys) ≡ filter test xs ++ filter test ys → cond t (x ∷ filter test (xs ++ ys)) (filter test (xs ++ ys)) ≡ cond t (x ∷ filter test xs) (filter test xs) ++ filter test ys
+    by_test true rest = ap (λ (l : List A). x ∷ l) rest
+    by_test false rest = rest
 
 map_append : {A B : Type 0} (f : A → B) (xs ys : List A) → map f (xs ++ ys) ≡ map f xs ++ map f ys
 map_append f [] ys = refl

@@ -351,8 +351,8 @@ module _ (s : Setting) (cuts : List (Option CutAt)) (form : IsFormOfInclusion s.
                   subst (λ (o : Option ℕ). IfSome o (IsMineAt s (on.info).epoch)) (sym read)
                   (last_serves i number (is ∙ ap (λ (e : Event). Some e) of) reached block there last_one on.info on.carried on.of_next on.h (subst (SharesFit s) (sym on.found) q))
               in_stage Includes made = by_share on.share refl made
-              in_stage Deals no = absurd no
-              in_stage Ends no = absurd no
+              in_stage Deals none = absurd none
+              in_stage Ends none = absurd none
 
       pub step_fits : (ended : Ended NodeStop (Live directory.Unit)) (new : World) → EndsSo (step_of g (suc i) its st) ended w new → SharesFit s new.held
       step_fits ended new run = by_kind (brings_kind g its m.message m.brings)
