@@ -33,7 +33,7 @@ use Rattle.dkg_core.specs.Behind.{event_of}
 use Rattle.dkg_core.specs.Courses.{Course, EndsSo}
 use Rattle.dkg_core.specs.Endings.{CameTo, first_block, first_epoch}
 use Rattle.dkg_core.specs.Fixed.{Fixed}
-use Rattle.dkg_core.specs.Forms.{IsNodeBegun, IsOpeningStop, LeavesHeld, held_behind, held_with, seed_read}
+use Rattle.dkg_core.specs.Forms.{IsNodeBegun, IsOpeningStop, LeavesHeld, held_behind}
 use Rattle.dkg_core.specs.Idle.{IsAskedLine}
 use Rattle.dkg_core.specs.Live.{Finalized, Live, Message, NodeStop, Peer, Sent, is_last_height}
 use Rattle.dkg_core.specs.Node.{node_opening, node_step}
@@ -43,7 +43,7 @@ use Rattle.dkg_core.specs.Seen.{Seen}
 use Rattle.dkg_core.specs.Setup.{recovered_share}
 use Rattle.dkg_core.specs.Stepping.{next_epoch}
 use Rattle.dkg_core.specs.Storing.{ReadsSecrets}
-use Rattle.dkg_core.specs.Through.{IsCarriedOn, IsShareTaken, IsStopThrough}
+use Rattle.dkg_core.specs.Through.{IsCarriedOn, IsShareTaken, IsStopThrough, held_with}
 use Rattle.dkg_core.proofs.Idle.{mails_are_idle}
 use Rattle.dkg_core.proofs.NodeThrough.{node_openings_through}
 use Rattle.dkg_core.proofs.Openings.{node_openings_lead_over}
@@ -233,7 +233,7 @@ module _ (s : Setting) (cuts : List (Option CutAt)) (form : IsFormOfInclusion s.
     -- wherever it ends
     pub life_fits : (w new : World) (how : Result (Unit {0}) Stop) → World_so w → LivesSo by_worlds g files w how new → World_so new
     life_fits w new how so lives =
-        life_holds World_so (tells s base) Here (λ j st w its. its.0) (λ j st w its. (tells s base w (entry.Step j) tt its.0, its.1)) g step_keeps files w new how so (opening_keeps w so)
+        life_holds World_so (tells s base) Here (λ j st w its. its.0) (λ j st w its. (tells s base w (entry.Step j) tt its.0, its.1, its.2)) g step_keeps files w new how so (opening_keeps w so)
         (λ stop now refused. (same_shares (IsMineAt s) w.held now.held (ap (λ (t : Secrets). t.shares) (refused.2).secrets) so.0, subst (AddsFitting s base) (sym refused.1) so.1)) lives
 
 -- A RUN

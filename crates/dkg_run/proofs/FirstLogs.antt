@@ -89,6 +89,12 @@ module _ (brings : ℕ → Option (ℕ × DealerLog)) where
       ((lookup dealer (brought_from low count) ≡ None) × NoneIn dealer low (low + count))
       ⊎ ((height : ℕ) × (log : DealerLog) × (lookup dealer (brought_from low count) ≡ Some log) × (low ≤ height) × (height < low + count) × (brings height ≡ Some (dealer, log)) × NoneIn dealer low height)
 
+  -- .. where its first height brings this
+  abbrev IsFoundBy : (dealer low count : ℕ) → Option (ℕ × DealerLog) → Type 0
+  IsFoundBy dealer low count o =
+      ((lookup dealer (option_to_list o ++ brought_from (low + 1) count) ≡ None) × NoneIn dealer low (low + suc count))
+      ⊎ ((height : ℕ) × (log : DealerLog) × (lookup dealer (option_to_list o ++ brought_from (low + 1) count) ≡ Some log) × (low ≤ height) × (height < low + suc count) × (brings height ≡ Some (dealer, log)) × NoneIn dealer low height)
+
   found_in : (dealer low count : ℕ) → IsFoundIn dealer low count
   found_in dealer low zero = inl (refl, λ at other above high is. absurd (omega (arith, above, high)))
   found_in dealer low (suc count) = by_here (brings low) refl (found_in dealer (low + 1) count)
@@ -102,14 +108,9 @@ module _ (brings : ℕ → Option (ℕ × DealerLog)) where
       here_or : (at : ℕ) → low ≤ at → (at ≡ low) ⊎ (low + 1 ≤ at)
       here_or at above = omega (arith, above)
 
-      abbrev Within : Option (ℕ × DealerLog) → Type 0
-      Within o =
-          ((lookup dealer (option_to_list o ++ brought_from (low + 1) count) ≡ None) × NoneIn dealer low (low + suc count))
-          ⊎ ((height : ℕ) × (log : DealerLog) × (lookup dealer (option_to_list o ++ brought_from (low + 1) count) ≡ Some log) × (low ≤ height) × (height < low + suc count) × (brings height ≡ Some (dealer, log)) × NoneIn dealer low height)
-
       -- where this height brings none of the dealer
       behind : (o : Option (ℕ × DealerLog)) → ((other : DealerLog) → brings low ≡ Some (dealer, other) → ⊥)
-          → lookup dealer (option_to_list o ++ brought_from (low + 1) count) ≡ lookup dealer (brought_from (low + 1) count) → IsFoundIn dealer (low + 1) count → Within o
+          → lookup dealer (option_to_list o ++ brought_from (low + 1) count) ≡ lookup dealer (brought_from (low + 1) count) → IsFoundIn dealer (low + 1) count → IsFoundBy dealer low count o
       behind o none same (inl nothing) = inl (same ∙ nothing.0, λ at other above high is. elim (here_or at above) [
         | inl here ↦ none other (ap brings (sym here) ∙ is)
         | inr up ↦ nothing.1 at other up (omega (arith, high)) is
@@ -120,13 +121,13 @@ module _ (brings : ℕ → Option (ℕ × DealerLog)) where
       ])
 
       by_here : (o : Option (ℕ × DealerLog)) → brings low ≡ o → IsFoundIn dealer (low + 1) count → IsFoundIn dealer low (suc count)
-      by_here o is rest = subst Within (sym is) (by_item o is rest)
+      by_here o is rest = subst (IsFoundBy dealer low count) (sym is) (by_item o is rest)
         where
-          by_item : (o : Option (ℕ × DealerLog)) → brings low ≡ o → IsFoundIn dealer (low + 1) count → Within o
+          by_item : (o : Option (ℕ × DealerLog)) → brings low ≡ o → IsFoundIn dealer (low + 1) count → IsFoundBy dealer low count o
           by_item None is rest = behind None (λ other there. none_some (sym is ∙ there)) refl rest
           by_item (Some (who, log)) is rest = by_test (who == dealer) refl
             where
-              by_test : (t : Bool) → (who == dealer) ≡ t → Within (Some (who, log))
+              by_test : (t : Bool) → (who == dealer) ≡ t → IsFoundBy dealer low count (Some (who, log))
               by_test true same = inr (
                 low,
                 log,

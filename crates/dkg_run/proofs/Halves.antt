@@ -195,7 +195,7 @@ module _ (c : Fixed directory.Unit) (b : Block directory.Unit) (epoch : ℕ) (st
         in_fault : (found : Option (EpochInfo directory.Unit)) (own : Fault) → own ≡ its → Speaks (beginning_by found) (by_node_stop (stop.Fault own)) out out → Speaks (beginning_by found) (by_node_stop (stop.Fault its)) out out
         in_fault found own same = subst (λ (x : Fault). Speaks (beginning_by found) (by_node_stop (stop.Fault x)) out out) same
 
-        by_test : (info : EpochInfo directory.Unit) (t : Bool) → (if t then Ok tt else Err (WrongEpoch (epoch + 1) info.epoch)) ≡ Err its
+        by_test : (info : EpochInfo directory.Unit) (t : Bool) → ◌≡◌ {A = Result (Unit {0}) Fault} (if t then Ok tt else Err (WrongEpoch (epoch + 1) info.epoch)) (Err its)
             → Speaks (if t then enters c (record { epoch = epoch + 1; info = info; floor = Genesis b.digest; block = Some b.height }) st else Stops (Faulted (WrongEpoch (epoch + 1) info.epoch))) (by_node_stop (stop.Fault its)) out out
         by_test info true e = absurd (ok_apart its e)
         by_test info false e =
@@ -254,7 +254,7 @@ module _ (c : Fixed directory.Unit) (b : Block directory.Unit) (epoch : ℕ) (st
       pub enters_next : Says course
       enters_next out = subst (λ (a : Course directory.Unit NodeStop (core.Half directory.Unit)). Speaks a (went entered) out (out ++ Entered (epoch + 1) ∷ [])) in_last (by_found (info_of b.payload) begins out)
         where
-          by_test : (info : EpochInfo directory.Unit) (t : Bool) → (if t then Ok tt else Err (WrongEpoch (epoch + 1) info.epoch)) ≡ Ok tt
+          by_test : (info : EpochInfo directory.Unit) (t : Bool) → ◌≡◌ {A = Result (Unit {0}) Fault} (if t then Ok tt else Err (WrongEpoch (epoch + 1) info.epoch)) (Ok tt)
               → Says (if t then enters c (record { epoch = epoch + 1; info = info; floor = Genesis b.digest; block = Some b.height }) st else Stops (Faulted (WrongEpoch (epoch + 1) info.epoch)))
           by_test info true e = entering info
           by_test info false e = absurd (ok_apart (WrongEpoch (epoch + 1) info.epoch) (sym e))
@@ -307,9 +307,9 @@ module _ (c : Fixed directory.Unit) (b : Block directory.Unit) (st : Live direct
     -- .. or went on, and the block is acknowledged
     pub acks : (end : Live directory.Unit) (out mid : List Line) → Speaks (delivered_in c b st (Some epoch)) (went (record { live = end; answer = Acknowledges })) out mid
         → (how : Ended NodeStop (Live directory.Unit)) (now : List Line) → Speaks {S = Live directory.Unit} (Say {Dir = directory.Unit} (Acked b.height) (Goes end)) how mid now → Speaks (bind (delivered c b st) answers) how out now
-    acks end out mid a how now then =
+    acks end out mid a how now b =
         subst (λ (x : Course directory.Unit NodeStop (Live directory.Unit)). Speaks x how out now) (in_epoch (Some epoch) is)
-        (then_speaks (delivered_in c b st (Some epoch)) answers (record { live = end; answer = Acknowledges }) how out mid now a then)
+        (then_speaks (delivered_in c b st (Some epoch)) answers (record { live = end; answer = Acknowledges }) how out mid now a b)
 
 -- THE EPOCHS that a half enters
 

@@ -7,6 +7,7 @@ use Rattle.std.proofs.lemmas.Bool.Decides.{nat_tests}
 use Rattle.dkg_values.specs.Rising.{lookup}
 use Rattle.dkg_ceremony.specs.Schedule.{epoch_of, last}
 use Rattle.dkg_fence.specs.Fence.{raised, unreached}
+use Rattle.dkg_fence.specs.Readiness.{Readiness}
 use Rattle.dkg_types.specs.Blocks.{Block}
 use Rattle.dkg_types.specs.declared.directory.Unit as directory
 use Rattle.dkg_store.specs.Acts.{Held}
@@ -99,12 +100,12 @@ module _ (c : Fixed directory.Unit) (stored : OfShares) (b : Block directory.Uni
           ready : is_ready end.orchestrator.fence.ready (epoch + 1) ≡ true
           ready = ap (λ (o : Orchestrator directory.Unit). is_ready o.fence.ready (epoch + 1)) orchestrator ∙ either st.orchestrator.fence.closed active.unclosed
             where
-              either : (t : Bool) → t ≡ false → is_ready (if t then st.orchestrator.fence
-              else record {
-                ready = raised its.on.info.epoch st.orchestrator.fence.ready;
-                closed = st.orchestrator.fence.closed;
-                awaited = unreached its.on.info.epoch st.orchestrator.fence.awaited;
-              }).ready (epoch + 1) ≡ true
+              abbrev in_test : Bool → Readiness
+              in_test t =
+                  if t then st.orchestrator.fence
+                  else record { ready = raised its.on.info.epoch st.orchestrator.fence.ready; closed = st.orchestrator.fence.closed; awaited = unreached its.on.info.epoch st.orchestrator.fence.awaited }
+
+              either : (t : Bool) → t ≡ false → is_ready (in_test t).ready (epoch + 1) ≡ true
               either true e = absurd (apart_bools true refl e)
               either false e = ready_marked st.orchestrator.fence.ready its.on.info.epoch (epoch + 1) of_next
 

@@ -332,6 +332,7 @@ module _ (s : Setting) (cuts : List (Option CutAt)) (form : IsFormOfInclusion s.
       -- so is the share that is carried on with a last block's info
       pub share_mine : (number : ℕ) → its ≡ event.Final number → (block : made.Block directory.Unit) → slice_get (blocks_in s.script) number ≡ Some block → is_last_height c block.height ≡ true
           → (on : IsCarriedOn c (mine s) block st (Some w.held)) → IfSome on.share (IsMineAt s (on.info).epoch)
+      unfolding at_step
       share_mine number of block there last_one on = by_stage st.participation.stage refl on.shared
         where
           made_of : (share : ℕ) → on.share ≡ Some share → IsShareTaken c (mine s) st on.h on.info on.share Includes → IsMineAt s (on.info).epoch share
