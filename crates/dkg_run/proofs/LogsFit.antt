@@ -79,6 +79,9 @@ module _ (g : Lived) (bytes : AreBytes g.script.blocks) (heights : AllByRecursio
         };
       }
 
+  abbrev Within : SignedDealerLog → Type 0
+  Within log = LogFits (non_zero_u32_get g.script.config.limit) log.log
+
   -- .. within the script's limit
   pub block_within : CarriesWithin (non_zero_u32_get g.script.config.limit) made_it.block
   block_within = by_log (option_and_then its_log (payload_in g.script.config (made_it.line).payload)) refl

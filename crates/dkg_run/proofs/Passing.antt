@@ -33,6 +33,11 @@ never_below m n low same = omega (arith, low, same)
 equal_number : (n m : ℕ) → n ≡ m → (n == m) ≡ true
 equal_number n m e = grind (arith, nat_tests)
 
+-- the fence, unless it is closed, with this epoch marked
+abbrev marked_in : (closed : Bool) → (epoch : ℕ) → Readiness → Readiness
+marked_in closed epoch fence =
+    if closed then fence else record { ready = raised epoch fence.ready; closed = fence.closed; awaited = unreached epoch fence.awaited }
+
 -- what marks an epoch makes the fence ready for it
 ready_marked : (r : Option ℕ) (e n : ℕ) → e ≡ n → is_ready (raised e r) n ≡ true
 ready_marked None e n same = at_least e n same
@@ -100,12 +105,7 @@ module _ (c : Fixed directory.Unit) (stored : OfShares) (b : Block directory.Uni
           ready : is_ready end.orchestrator.fence.ready (epoch + 1) ≡ true
           ready = ap (λ (o : Orchestrator directory.Unit). is_ready o.fence.ready (epoch + 1)) orchestrator ∙ either st.orchestrator.fence.closed active.unclosed
             where
-              abbrev in_test : Bool → Readiness
-              in_test t =
-                  if t then st.orchestrator.fence
-                  else record { ready = raised its.on.info.epoch st.orchestrator.fence.ready; closed = st.orchestrator.fence.closed; awaited = unreached its.on.info.epoch st.orchestrator.fence.awaited }
-
-              either : (t : Bool) → t ≡ false → is_ready (in_test t).ready (epoch + 1) ≡ true
+              either : (t : Bool) → t ≡ false → is_ready (marked_in t its.on.info.epoch st.orchestrator.fence).ready (epoch + 1) ≡ true
               either true e = absurd (apart_bools true refl e)
               either false e = ready_marked st.orchestrator.fence.ready its.on.info.epoch (epoch + 1) of_next
 
