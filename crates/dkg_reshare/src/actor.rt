@@ -5,10 +5,12 @@ ghost use Rattle.std.specs.Int.NonZero.{non_zero_u32_get, non_zero_u64_get};
 ghost use Rattle.dkg_journal.specs.Disk.{Rose};
 ghost use Rattle.dkg_journal.specs.Fuse.{Reached};
 ghost use Rattle.dkg_store.specs.Corrupt.{AreFit};
+ghost use Rattle.dkg_core.specs.Blocks as blocks;
 ghost use Rattle.dkg_core.specs.Core.{no_inclusion, opening, step};
 ghost use Rattle.dkg_core.specs.Fixed.{Fixed};
 ghost use Rattle.dkg_core.specs.Including.{works};
 ghost use Rattle.dkg_reshare.specs.Actors.{AreTerms, BringsWithin, EndsAt, FailsStop, IfIncluding, IfLiving, IsAgreed, IsAt, IsFoundAt, IsNew, IsReadyLife, IsSoundAt, lives, message_of, running_in, told_in};
+ghost use Rattle.dkg_reshare.specs.Carried.{CarriesWithin};
 ghost use Rattle.dkg_reshare.specs.Configured.{config_fault};
 ghost use Rattle.dkg_reshare.specs.Ends.{IsCausedBy, IsCausedInStep, ends, ends_in};
 ghost use Rattle.dkg_reshare.specs.Given.{AreGivenFrom, HasRead, IsIn, IsLent, ReadsPlanless, reading};
@@ -37,7 +39,7 @@ use dkg_ceremony::{Ceremony, Signer};
 use dkg_fence::Fence;
 use dkg_journal::Disk;
 use dkg_store::{Devices, SecretStore};
-use dkg_types::{Directory, Fault, ParticipantsProvider, Registrar, Transcript};
+use dkg_types::{Block, Directory, Fault, ParticipantsProvider, Registrar, Transcript};
 use std::alloc::Global;
 
 /// Where an actor stands in its life.
@@ -257,8 +259,7 @@ impl<
         ensures loose { IsTrue D.tells → StaysAbove (epoch_at (B.answers source.now) self.old.terms - 1)
             (D.image devices.old.disk.now) (D.image devices.new.disk.now) (X.held devices.old.secrets.now) (X.held devices.new.secrets.now) }
     {
-        self.state = State::Failed;
-        let life = open_life(
+        match open_life(
             alloc,
             &self.ceremony,
             &self.signer,
@@ -270,9 +271,27 @@ impl<
             word,
             fence,
             out,
-        )?;
-        self.state = State::Living(life, Inclusion::new(alloc));
-        Ok(())
+        ) {
+            Ok(life) => {
+                self.state = State::Living(life, Inclusion::new(alloc));
+                Ok(())
+            }
+            Err(why) => {
+                self.fail();
+                Err(why)
+            }
+        }
+    }
+
+    /// Goes on no more.
+    fn fail(&mut self)
+        ensures failed { self.new.state ≡ State.Failed }
+        ensures rest { (self.new.ceremony ≡ self.old.ceremony) × (self.new.signer ≡ self.old.signer)
+            × (self.new.manager ≡ self.old.manager) × (self.new.terms ≡ self.old.terms) }
+        ensures provider { self.new.provider ≡ self.old.provider }
+        ensures registrar { self.new.registrar ≡ self.old.registrar }
+    {
+        self.state = State::Failed;
     }
 
     /// Takes one message.
@@ -348,8 +367,86 @@ impl<
         ) {
             Ok(()) => Ok(()),
             Err(stop) => {
-                self.state = State::Failed;
+                self.fail();
                 Err(stop)
+            }
+        }
+    }
+
+    /// Takes a block, as `step` takes it in a message.
+    ///
+    /// Failed: exactly where a call before ended in a fault or a cut.
+    pub fn deliver<D: Disk, X: SecretStore>(
+        &mut self,
+        alloc: Global,
+        devices: &mut Devices<'_, D, X>,
+        block: &Block<Dir>,
+        fence: &mut Fence,
+        out: &mut Transcript,
+    ) -> Result<(), Stop>
+        requires at { IsAt D.tells D.files D.image C.ack_of C.deal_of C.check_ack_of self.old.terms self.old.state devices.old }
+        requires within { CarriesWithin (non_zero_u32_get self.old.terms.limit) block.now }
+        requires including { IfIncluding self.old.state (IsSettledInclusion C.check_log_of C.dealing_of C.finish_of (non_zero_u64_get self.old.terms.blocks_per_epoch)) }
+        ensures including { OnOk result (IfIncluding self.new.state (IsSettledInclusion C.check_log_of C.dealing_of C.finish_of
+            (non_zero_u64_get self.new.terms.blocks_per_epoch))) }
+        // It is the relation's step, and each act was made, whatever image a crash leaves.
+        ensures acts { IsTrue D.tells → IsTrue X.tells → IsTrue P.tells → (c : Fixed Dir) (beside : Beside Dir) → IfIncluding self.old.state
+            (λ old its. IsIn self.old.terms old.word c
+            → ReadsPlanless c → IsRuledBy C.round_of C.deal_of C.dealing_of C.ack_of C.check_ack_of C.sign_log_of C.bears_ack_of C.share_public_of
+            C.partial_public_of c.rules
+            → IncludesBy C.check_log_of C.outcome_of C.finish_of (P.participants_of self.old.provider) (P.directory_of self.old.provider) Dir.spelling
+            Dir.matches_of c
+            → IsSeen its beside.inclusion → EndsWith beside (λ i. OnOk result (IfIncluding self.new.state (λ life now. IsSeen now i)))
+            (λ more. OnOk result (Took R.tells (R.taken self.old.registrar) (R.taken self.new.registrar) more))
+            (λ now. Makes D.files D.image X.held (blocks.delivers c block.now (live_of beside fence.old old))
+            (lives (live_of now fence.new) self.new.state result) devices.old devices.new out.old.entries out.new.entries)) }
+        ensures tells { IsTrue P.tells → (c : Fixed Dir) (beside : Beside Dir) → IfIncluding self.old.state (λ old its. IsIn self.old.terms old.word c
+            → ReadsPlanless c → IsRuledBy C.round_of C.deal_of C.dealing_of C.ack_of C.check_ack_of C.sign_log_of C.bears_ack_of C.share_public_of
+            C.partial_public_of c.rules
+            → IncludesBy C.check_log_of C.outcome_of C.finish_of (P.participants_of self.old.provider) (P.directory_of self.old.provider) Dir.spelling
+            Dir.matches_of c
+            → IsSeen its beside.inclusion → EndsWith beside (λ i. OnOk result (IfIncluding self.new.state (λ life now. IsSeen now i)))
+            (λ more. OnOk result (Took R.tells (R.taken self.old.registrar) (R.taken self.new.registrar) more))
+            (λ now. Tells (blocks.delivers c block.now (live_of beside fence.old old))
+            (lives (live_of now fence.new) self.new.state result) out.old.entries out.new.entries)) }
+        // It may go on over these devices alone, or it has failed.
+        ensures ends { EndsAt self.new.state result (λ life. IsReadyLife D.tells D.files D.image C.ack_of C.deal_of C.check_ack_of self.new.terms life
+            devices.new) }
+        ensures word { IfLiving self.old.state (λ old. IfLiving self.new.state (λ life. life.word ≡ old.word)) }
+        ensures rest { (self.new.ceremony ≡ self.old.ceremony) × (self.new.signer ≡ self.old.signer)
+            × (self.new.manager ≡ self.old.manager) × (self.new.terms ≡ self.old.terms) }
+        ensures fails { FailsStop self.old.state result ((self.new.state ≡ self.old.state) × (self.new.registrar ≡ self.old.registrar)
+            × (devices.new ≡ devices.old) × (out.new ≡ out.old) × (fence.new ≡ fence.old)) }
+        ensures moved { Moved D.tells D.made X.made D.faults X.faults devices.old devices.new }
+        ensures causes { IfErr result (λ stop. IsCausedInStep D.tells stop (Rose (D.faults devices.old.disk.now) (D.faults devices.new.disk.now))
+            (Rose (X.faults devices.old.secrets.now) (X.faults devices.new.secrets.now)) (Reached devices.old.fuse devices.new.fuse)) }
+        // No record that a crash leaves is out of its grammar, or past the limit, where none was.
+        ensures fit { IsTrue D.tells → AreFit (non_zero_u32_get self.old.terms.limit) (D.image devices.old.disk.now)
+            → AreFit (non_zero_u32_get self.old.terms.limit) (D.image devices.new.disk.now) }
+        ensures provider { IsTrue P.tells → SameProvided (P.participants_of self.old.provider) (P.participants_of self.new.provider)
+            (P.directory_of self.old.provider) (P.directory_of self.new.provider) }
+    {
+        let State::Living(life, inclusion) = &mut self.state else {
+            return Err(Stop::Failed);
+        };
+        match take_block(
+            alloc,
+            &self.ceremony,
+            &self.signer,
+            &mut self.provider,
+            &mut self.registrar,
+            &self.terms,
+            life,
+            inclusion,
+            devices,
+            block,
+            fence,
+            out,
+        ) {
+            Ok(()) => Ok(()),
+            Err(why) => {
+                self.fail();
+                Err(why)
             }
         }
     }
@@ -425,7 +522,7 @@ impl<
         ) {
             Ok(()) => Ok(()),
             Err(why) => {
-                self.state = State::Failed;
+                self.fail();
                 Err(why)
             }
         }

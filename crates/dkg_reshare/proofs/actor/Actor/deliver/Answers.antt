@@ -7,11 +7,14 @@ use Rattle.dkg_reshare.proofs.Kept.{moved_none}
 use Rattle.dkg_reshare.proofs.Stopping.{caused_in_step, lives_on, no_error, not_failed, of_living, same_error}
 use Rattle.dkg_reshare.proofs.actor.Actor.deliver.Goals as goal
 
+pub returns-in_default-clause-including : goal.returns-in_default-clause-including
+returns-in_default-clause-including g c = tt
+
 pub returns-in_default-clause-acts : goal.returns-in_default-clause-acts
-returns-in_default-clause-acts g c = λ disk secrets fixed beside. not_living c.args.self.now.state c.in_default.not-Living _
+returns-in_default-clause-acts g c = λ disk secrets provided fixed beside. not_living c.args.self.now.state c.in_default.not-Living _
 
 pub returns-in_default-clause-tells : goal.returns-in_default-clause-tells
-returns-in_default-clause-tells g c = λ fixed beside. not_living c.args.self.now.state c.in_default.not-Living _
+returns-in_default-clause-tells g c = λ provided fixed beside. not_living c.args.self.now.state c.in_default.not-Living _
 
 pub returns-in_default-clause-ends : goal.returns-in_default-clause-ends
 returns-in_default-clause-ends g c = failed_ends c.args.self.now.state Failed (λ (life : Life g.row.Dir.Denot). IsReadyLife g.D.Disk.tells g.D.Disk.files g.D.Disk.image g.C.Ceremony.ack_of g.C.Ceremony.deal_of g.C.Ceremony.check_ack_of c.args.self.now.terms life c.args.devices.now)
@@ -23,12 +26,6 @@ returns-in_default-clause-fails g c = record {
   only = λ is. has_failed c.args.self.now.state c.requires.at.opened c.in_default.not-Living;
 }
 
-pub returns-in-Ok-clause-acts : goal.returns-in-Ok-clause-acts
-returns-in-Ok-clause-acts g c = λ disk secrets fixed beside. rw c.in-Living.is (c.in-Ok.ensures.acts disk secrets fixed beside)
-
-pub returns-in-Err-clause-acts : goal.returns-in-Err-clause-acts
-returns-in-Err-clause-acts g c = λ disk secrets fixed beside. rw c.in-Living.is (c.in-Err.ensures.acts disk secrets fixed beside)
-
 pub returns-in_default-clause-moved : goal.returns-in_default-clause-moved
 returns-in_default-clause-moved g c = moved_none g.D.Disk.tells g.D.Disk.made g.X.SecretStore.made g.D.Disk.faults g.X.SecretStore.faults g.met.D.Disk.made_none g.met.X.SecretStore.made_none c.args.devices.now
 
@@ -36,7 +33,7 @@ pub returns-in_default-clause-word : goal.returns-in_default-clause-word
 returns-in_default-clause-word g c = not_living c.args.self.now.state c.in_default.not-Living _
 
 pub returns-in_default-clause-rest : goal.returns-in_default-clause-rest
-returns-in_default-clause-rest g c = (refl, refl, refl, refl, refl)
+returns-in_default-clause-rest g c = (refl, refl, refl, refl)
 
 pub returns-in_default-clause-causes : goal.returns-in_default-clause-causes
 returns-in_default-clause-causes g c = tt
@@ -44,14 +41,26 @@ returns-in_default-clause-causes g c = tt
 pub returns-in_default-clause-fit : goal.returns-in_default-clause-fit
 returns-in_default-clause-fit g c = λ told fit. fit
 
-pub take_block-requires-clause-taken : goal.take_block-requires-clause-taken
-take_block-requires-clause-taken g c = of_living c.args.self.now.state c.in-Living.life c.in-Living.is _ c.requires.taken
+pub returns-in_default-clause-provider : goal.returns-in_default-clause-provider
+returns-in_default-clause-provider g c = λ provided. (λ epoch. refl, λ epoch peers. refl)
 
 pub take_block-requires-clause-ready : goal.take_block-requires-clause-ready
-take_block-requires-clause-ready g c = of_living c.args.self.now.state c.in-Living.life c.in-Living.is _ c.requires.at.ready
+take_block-requires-clause-ready g c = of_living c.args.self.now.state c.in-Living.life c.in-Living.inclusion c.in-Living.is _ c.requires.at.ready
+
+pub take_block-requires-clause-including : goal.take_block-requires-clause-including
+take_block-requires-clause-including g c = of_living c.args.self.now.state c.in-Living.life c.in-Living.inclusion c.in-Living.is _ c.requires.including
+
+pub take_block-requires-clause-within : goal.take_block-requires-clause-within
+take_block-requires-clause-within g c = c.requires.within
+
+pub returns-in-Ok-clause-including : goal.returns-in-Ok-clause-including
+returns-in-Ok-clause-including g c = c.in-Ok.ensures.including
+
+pub returns-in-Ok-clause-acts : goal.returns-in-Ok-clause-acts
+returns-in-Ok-clause-acts g c = λ disk secrets provided fixed beside. rw c.in-Living.is (c.in-Ok.ensures.acts disk secrets provided fixed beside)
 
 pub returns-in-Ok-clause-tells : goal.returns-in-Ok-clause-tells
-returns-in-Ok-clause-tells g c = λ fixed beside. rw c.in-Living.is (c.in-Ok.ensures.tells fixed beside)
+returns-in-Ok-clause-tells g c = λ provided fixed beside. rw c.in-Living.is (c.in-Ok.ensures.tells provided fixed beside)
 
 pub returns-in-Ok-clause-ends : goal.returns-in-Ok-clause-ends
 returns-in-Ok-clause-ends g c = c.in-Ok.ensures.ready
@@ -60,11 +69,11 @@ pub returns-in-Ok-clause-word : goal.returns-in-Ok-clause-word
 returns-in-Ok-clause-word g c = rw c.in-Living.is c.take_block.ensures.word
 
 pub returns-in-Ok-clause-rest : goal.returns-in-Ok-clause-rest
-returns-in-Ok-clause-rest g c = (refl, refl, refl, refl, refl)
+returns-in-Ok-clause-rest g c = (refl, refl, refl, refl)
 
 pub returns-in-Ok-clause-fails : goal.returns-in-Ok-clause-fails
 returns-in-Ok-clause-fails g c = record {
-  stopped = λ is. absurd (lives_on c.args.self.now.state _ c.in-Living.is is);
+  stopped = λ is. absurd (lives_on c.args.self.now.state _ _ c.in-Living.is is);
   only = λ is. absurd (no_error tt Failed is);
 }
 
@@ -77,8 +86,17 @@ returns-in-Ok-clause-causes g c = tt
 pub returns-in-Ok-clause-fit : goal.returns-in-Ok-clause-fit
 returns-in-Ok-clause-fit g c = c.take_block.ensures.fit
 
+pub returns-in-Ok-clause-provider : goal.returns-in-Ok-clause-provider
+returns-in-Ok-clause-provider g c = c.take_block.ensures.provider
+
+pub returns-in-Err-clause-including : goal.returns-in-Err-clause-including
+returns-in-Err-clause-including g c = tt
+
+pub returns-in-Err-clause-acts : goal.returns-in-Err-clause-acts
+returns-in-Err-clause-acts g c = λ disk secrets provided fixed beside. rw c.in-Living.is (c.in-Err.ensures.acts disk secrets provided fixed beside)
+
 pub returns-in-Err-clause-tells : goal.returns-in-Err-clause-tells
-returns-in-Err-clause-tells g c = λ fixed beside. rw c.in-Living.is (c.in-Err.ensures.tells fixed beside)
+returns-in-Err-clause-tells g c = λ provided fixed beside. rw c.in-Living.is (c.in-Err.ensures.tells provided fixed beside)
 
 pub returns-in-Err-clause-ends : goal.returns-in-Err-clause-ends
 returns-in-Err-clause-ends g c = rw c.fail.ensures.failed tt
@@ -91,7 +109,7 @@ returns-in-Err-clause-rest g c = c.fail.ensures.rest
 
 pub returns-in-Err-clause-fails : goal.returns-in-Err-clause-fails
 returns-in-Err-clause-fails g c = record {
-  stopped = λ is. absurd (lives_on c.args.self.now.state _ c.in-Living.is is);
+  stopped = λ is. absurd (lives_on c.args.self.now.state _ _ c.in-Living.is is);
   only = λ is. absurd (not_failed g.D.Disk.tells _ _ _ c.in-Err.why c.in-Err.ensures.causes (same_error (Unit {0}) c.in-Err.why Failed is));
 }
 
@@ -103,3 +121,6 @@ returns-in-Err-clause-causes g c = caused_in_step g.D.Disk.tells _ _ _ c.in-Err.
 
 pub returns-in-Err-clause-fit : goal.returns-in-Err-clause-fit
 returns-in-Err-clause-fit g c = c.take_block.ensures.fit
+
+pub returns-in-Err-clause-provider : goal.returns-in-Err-clause-provider
+returns-in-Err-clause-provider g c = rw c.fail.ensures.provider c.take_block.ensures.provider

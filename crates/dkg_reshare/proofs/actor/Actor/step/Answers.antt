@@ -99,13 +99,13 @@ pub returns-in-Err-clause-tells : goal.returns-in-Err-clause-tells
 returns-in-Err-clause-tells g c = λ provided fixed beside. rw c.in-Living.is (c.in-Err.ensures.tells provided fixed beside)
 
 pub returns-in-Err-clause-ends : goal.returns-in-Err-clause-ends
-returns-in-Err-clause-ends g c = tt
+returns-in-Err-clause-ends g c = rw c.fail.ensures.failed tt
 
 pub returns-in-Err-clause-word : goal.returns-in-Err-clause-word
-returns-in-Err-clause-word g c = rw c.in-Living.is tt
+returns-in-Err-clause-word g c = rw (c.in-Living.is, c.fail.ensures.failed) tt
 
 pub returns-in-Err-clause-rest : goal.returns-in-Err-clause-rest
-returns-in-Err-clause-rest g c = (refl, refl, refl, refl)
+returns-in-Err-clause-rest g c = c.fail.ensures.rest
 
 pub returns-in-Err-clause-fails : goal.returns-in-Err-clause-fails
 returns-in-Err-clause-fails g c = record {
@@ -123,4 +123,4 @@ pub returns-in-Err-clause-fit : goal.returns-in-Err-clause-fit
 returns-in-Err-clause-fit g c = c.take.ensures.fit
 
 pub returns-in-Err-clause-provider : goal.returns-in-Err-clause-provider
-returns-in-Err-clause-provider g c = c.take.ensures.provider
+returns-in-Err-clause-provider g c = rw c.fail.ensures.provider c.take.ensures.provider

@@ -59,7 +59,7 @@ pub returns-in-Ok-clause-registrar : goal.returns-in-Ok-clause-registrar
 returns-in-Ok-clause-registrar g c = refl
 
 pub returns-in-Err-clause-registrar : goal.returns-in-Err-clause-registrar
-returns-in-Err-clause-registrar g c = refl
+returns-in-Err-clause-registrar g c = c.fail.ensures.registrar
 
 pub returns-in-Ok-clause-including : goal.returns-in-Ok-clause-including
 returns-in-Ok-clause-including g c = c.in-Ok.ensures.including
@@ -111,13 +111,13 @@ returns-in-Err-clause-tells g c = λ provided fixed beside. rw c.in-Living.is (�
     (c.in-Err.ensures.tells provided fixed beside c.args._fence.now of.of reads by provides seen))
 
 pub returns-in-Err-clause-ends : goal.returns-in-Err-clause-ends
-returns-in-Err-clause-ends g c = tt
+returns-in-Err-clause-ends g c = rw c.fail.ensures.failed tt
 
 pub returns-in-Err-clause-word : goal.returns-in-Err-clause-word
-returns-in-Err-clause-word g c = rw c.in-Living.is tt
+returns-in-Err-clause-word g c = rw (c.in-Living.is, c.fail.ensures.failed) tt
 
 pub returns-in-Err-clause-rest : goal.returns-in-Err-clause-rest
-returns-in-Err-clause-rest g c = (refl, refl, refl, refl)
+returns-in-Err-clause-rest g c = c.fail.ensures.rest
 
 pub returns-in-Err-clause-fails : goal.returns-in-Err-clause-fails
 returns-in-Err-clause-fails g c = record {
@@ -135,4 +135,4 @@ pub returns-in-Err-clause-fit : goal.returns-in-Err-clause-fit
 returns-in-Err-clause-fit g c = λ told fit. rw c.work.ensures.disk fit
 
 pub returns-in-Err-clause-provider : goal.returns-in-Err-clause-provider
-returns-in-Err-clause-provider g c = c.work.ensures.provider
+returns-in-Err-clause-provider g c = rw c.fail.ensures.provider c.work.ensures.provider
