@@ -87,9 +87,9 @@ module _ (g : Lived) (bytes : AreBytes g.script.blocks) (heights : AllByRecursio
   block_within = by_log (option_and_then its_log (payload_in g.script.config (made_it.line).payload)) refl
     where
       by_log : (o : Option SignedDealerLog) → option_and_then its_log (payload_in g.script.config (made_it.line).payload) ≡ o → CarriesWithin (non_zero_u32_get g.script.config.limit) made_it.block
-      by_log o is = subst (λ (x : Option SignedDealerLog). IfSome x (λ log. LogFits (non_zero_u32_get g.script.config.limit) log.log)) (sym (ap (option_and_then its_log) made_it.payload ∙ is)) (each o is)
+      by_log o is = subst (λ (x : Option SignedDealerLog). IfSome x Within) (sym (ap (option_and_then its_log) made_it.payload ∙ is)) (each o is)
         where
-          each : (o : Option SignedDealerLog) → option_and_then its_log (payload_in g.script.config (made_it.line).payload) ≡ o → IfSome o (λ log. LogFits (non_zero_u32_get g.script.config.limit) log.log)
+          each : (o : Option SignedDealerLog) → option_and_then its_log (payload_in g.script.config (made_it.line).payload) ≡ o → IfSome o Within
           each None is = tt
           each (Some log) is =
               (log_read (made_it.line).payload (holds_at (λ (line : BlockLine). IfSome line.payload IsBytes) g.script.blocks number made_it.line bytes made_it.line_is) log is).other.one
