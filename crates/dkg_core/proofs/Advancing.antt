@@ -266,17 +266,20 @@ module _ {Dir : Type 0} (c : Fixed Dir) (stored : OfShares) (st : Live Dir) (dev
 
   stays : (i : Inclusion Dir) → HasAsked c stored (with i)
       → (st.participation.stage ≡ Includes → i.running ≡ None → (round : Round) → st.participation.round ≡ Some round → FirstNeeds c round (with i) i.queue) → To i (with i) devices
-  stays i has read = (refl, record {
-    asked = record { has = has; read = read };
-    same = refl;
-    served = refl;
-    used = refl;
-    retained = refl;
-    gone = [];
-    rest = refl;
-    busy = λ job e. refl;
-    starts = λ job none e. absurd (none_apart job (sym none ∙ e));
-  })
+  stays i has read = (
+    refl,
+    record {
+      asked = record { has = has; read = read };
+      same = refl;
+      served = refl;
+      used = refl;
+      retained = refl;
+      gone = [];
+      rest = refl;
+      busy = λ job e. refl;
+      starts = λ job none e. absurd (none_apart job (sym none ∙ e));
+    },
+  )
 
   -- behind a request that was read others are
   module _ (round : Round) (of_epoch : st.participation.round ≡ Some round) (r : Request Dir) (rs : List (Request Dir)) (i : Inclusion Dir) (queue_is : i.queue ≡ r ∷ rs) where
@@ -311,8 +314,7 @@ module _ {Dir : Type 0} (c : Fixed Dir) (stored : OfShares) (st : Live Dir) (dev
       started : (runs : Option Job) → on.now.running ≡ runs → (job : Job) → end.inclusion.running ≡ Some job → InRound (with i) (λ x. IsStarted c x (with i) end job)
       started (Some its_job) runs job e = (round, of_epoch, started_now job its_job runs e)
       started None runs job e =
-          let by = its.starts job runs e in
-          (
+          let by = its.starts job runs e in (
             by.0,
             by.1,
             record {

@@ -146,8 +146,7 @@ module _ {Dir : Type 0} (c : Fixed Dir) (form : IsFormThrough c) (stored : OfSha
     where
       either : (t : Bool) → ReadTo (if t then with_inclusion (record st.inclusion { served = None }) st else st) (if t then with_inclusion (record st.inclusion { served = None }) st else st) devices
       either true =
-          let now : Inclusion Dir = record st.inclusion { served = None } in
-          (
+          let now : Inclusion Dir = record st.inclusion { served = None } in (
             relived now (record { served = λ apart. refl; none = has.none; early = has.early; waits = has.waits; runs = has.runs; kept = has.kept; made = has.made }) (needs_still now refl refl),
             unread c st now now refl refl refl refl,
             refl,
@@ -168,8 +167,7 @@ module _ {Dir : Type 0} (c : Fixed Dir) (form : IsFormThrough c) (stored : OfSha
 
   asks : (request : ℕ) (stage : Stage) → st.participation.stage ≡ stage → ComesOver AskStop (ReadTo (asked_by (EpochInfoOf request) st)) (inc.asks_in c request (with_used request st) stage) devices
   asks request Deals is =
-      let now = asking request in
-      (
+      let now = asking request in (
         relived now (requeued c stored st st.inclusion now.queue now.used now.told has (λ follows. absurd (deals_apart (sym is ∙ follows)))) (λ includes. absurd (deals_early (sym is ∙ includes))),
         unread c st now now refl refl refl refl,
         refl,
@@ -179,8 +177,7 @@ module _ {Dir : Type 0} (c : Fixed Dir) (form : IsFormThrough c) (stored : OfSha
       advances now (requeued c stored st st.inclusion now.queue now.used now.told has (λ follows. absurd (follows_apart (sym follows ∙ is))))
   asks request Follows is =
       let r : Request Dir = record { number = request; blocks = []; ended = false } in
-      let now : Inclusion Dir = record st.inclusion { used = request ∷ st.inclusion.used; told = (request, GaveNone Following) ∷ st.inclusion.told } in
-      (
+      let now : Inclusion Dir = record st.inclusion { used = request ∷ st.inclusion.used; told = (request, GaveNone Following) ∷ st.inclusion.told } in (
         relived now (requeued c stored st st.inclusion now.queue now.used now.told has has.none) (λ includes. absurd (follows_apart (sym is ∙ includes))),
         record {
           same = refl;
@@ -210,8 +207,7 @@ module _ {Dir : Type 0} (c : Fixed Dir) (form : IsFormThrough c) (stored : OfSha
       either : (t : Bool) → ComesOver AskStop (ReadTo (if t then with_inclusion (record st.inclusion { waiter = None }) st else with_queue (filter (λ r. not (r.number == request)) st.inclusion.queue) st))
           (if t then Goes (with_inclusion (record st.inclusion { waiter = None }) st) else advanced c (with_queue (filter (λ r. not (r.number == request)) st.inclusion.queue) st)) devices
       either true =
-          let now : Inclusion Dir = record st.inclusion { waiter = None } in
-          (
+          let now : Inclusion Dir = record st.inclusion { waiter = None } in (
             relived now (record { served = has.served; none = has.none; early = has.early; waits = λ none. refl; runs = has.runs; kept = has.kept; made = has.made }) (needs_still now refl refl),
             unread c st now now refl refl refl refl,
             refl,

@@ -99,10 +99,10 @@ module _ (Such : ℕ → ℕ → Type 0) (most : ℕ) (held : Held) where
   moved_put : (at share : ℕ) (old new : Secrets) → Such at share → new.shares ≡ maps.insert old.shares at share → Moved old → Moved new
   moved_put at share old new such is was epoch above = elim (same_key nat_cmp_total nat_cmp-IsAntisymmetric epoch at) [
     | inl here ↦ inr (
-        share,
-        ap (λ (m : FinMap nat_cmp ℕ). get m epoch) is ∙ ap (get (maps.insert old.shares at share)) here ∙ get_here nat_cmp_total nat_cmp-IsAntisymmetric old.shares at share,
-        subst (λ (n : ℕ). Such n share) (sym here) such,
-      )
+      share,
+      ap (λ (m : FinMap nat_cmp ℕ). get m epoch) is ∙ ap (get (maps.insert old.shares at share)) here ∙ get_here nat_cmp_total nat_cmp-IsAntisymmetric old.shares at share,
+      subst (λ (n : ℕ). Such n share) (sym here) such,
+    )
     | inr apart ↦ as_found epoch (get old.shares epoch) (get new.shares epoch)
         (ap (λ (m : FinMap nat_cmp ℕ). get m epoch) is ∙ get_other nat_cmp_total nat_cmp-IsAntisymmetric old.shares at epoch share apart) (was epoch above)
   ]
@@ -323,10 +323,12 @@ module _ {Dir : Type 0} (c : Fixed Dir) (form : IsFormThrough c) (stored : OfSha
             (commits last info of_next share (λ value is. such value is) (with its) share (λ value is. such value is) w (begun w same))
           where
             such : (value : ℕ) → b.share_for c info made ≡ Some value → Such info.epoch value
-            such value found =
-                (last, subst (λ (o : Option (EpochInfo Dir)). IsSomeAnd o (λ x. (x.epoch ≡ info.epoch) × (x.epoch ≡ next_epoch c block) × ((r : Round) × (current : EpochInfo Dir) × (st.participation.round ≡ Some r) × (st.participation.current ≡ Some current)
-                × ((a : Artifact Dir) × IsArtifactIn c stored r current st (canonical c st) a × (b.share_for c x a ≡ Some value))))) (sym carries)
-                (refl, of_next, (round, known.0, of_epoch, known.1, (made, is, found))))
+            such value found = (
+              last,
+              subst (λ (o : Option (EpochInfo Dir)). IsSomeAnd o (λ x. (x.epoch ≡ info.epoch) × (x.epoch ≡ next_epoch c block) × ((r : Round) × (current : EpochInfo Dir) × (st.participation.round ≡ Some r) × (st.participation.current ≡ Some current)
+                  × ((a : Artifact Dir) × IsArtifactIn c stored r current st (canonical c st) a × (b.share_for c x a ≡ Some value))))) (sym carries)
+                  (refl, of_next, (round, known.0, of_epoch, known.1, (made, is, found))),
+            )
 
     by_result : (r : VerifiedLogs) (its : Inclusion Dir) → HasAsked c stored (with its) → r.logs ≡ logs → IsResultIn c round st r → (w : World) → w.held ≡ held
         → Throughout P (i.artifact c r (with its) (b.concludes c block)) w

@@ -140,8 +140,7 @@ openings_through c stored seen k st form opened = opens c stored seen k st form 
 
 pub node_openings_through : {Dir : Type 0} → NodeOpeningsThrough Dir
 node_openings_through {Dir} c stored seen k st form begun =
-    let before = begun.before in
-    (
+    let before = begun.before in (
       subst (λ (x : Live Dir). IsLiveThrough c stored x) (sym begun.entered.same) (live_beside c stored before st.orchestrator (openings_through c stored seen k before form begun.opened)),
       record { active = begun.active; unclosed = begun.entered.unclosed ∙ fence_open c stored seen k before form begun.opened (first_block c) begun.opened.set_up },
     )

@@ -161,8 +161,7 @@ module _ {Dir : Type 0} (c : Fixed Dir) (form : IsForm c) (stored : OfShares) (b
 
       went : s.is_past_range c (block.height + 1) ≡ false → (end : Live Dir) (left : Option Held) → set_up end left → PassedTo end left
       went reached end left its =
-          let emptied = subst IsEmptied (sym its.3) empty in
-          (
+          let emptied = subst IsEmptied (sym its.3) empty in (
             seated_through c stored form s.WasCommitted info (share_read c info its.0) (seed_read c info its.0) before end its.2 emptied refl,
             record {
               on = carried_on its.0 its.1;

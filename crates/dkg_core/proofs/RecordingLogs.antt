@@ -91,19 +91,19 @@ module _ {Dir : Type 0} (c : Fixed Dir) (st : Live Dir) (block : Block Dir) (mos
       recorded : recorded_at st.records.logs round.number log.dealer ≡ None → R (placed (notes w.held) its_entry)
       recorded none key above = elim (same_key keys_total exact_keys key its_key) [
         | inl here ↦ inr (record {
-            applied = judged;
-            includes = includes;
-            round = round;
-            of_epoch = of_epoch;
-            below = below;
-            log = log;
-            carried = carried;
-            accepted = accepted;
-            new = none;
-            at = here;
-            is = ap (get (noted noted_log (placed (notes w.held) its_entry))) here ∙ ap (λ (m : Notes RecordedLog). get m its_key) placed_is
-                ∙ get_here keys_total exact_keys held its_key (recorded_log block.height log.log);
-          })
+          applied = judged;
+          includes = includes;
+          round = round;
+          of_epoch = of_epoch;
+          below = below;
+          log = log;
+          carried = carried;
+          accepted = accepted;
+          new = none;
+          at = here;
+          is = ap (get (noted noted_log (placed (notes w.held) its_entry))) here ∙ ap (λ (m : Notes RecordedLog). get m its_key) placed_is
+              ∙ get_here keys_total exact_keys held its_key (recorded_log block.height log.log);
+        })
         | inr apart ↦ inl (ap (λ (m : Notes RecordedLog). get m key) placed_is ∙ get_other keys_total exact_keys held its_key key (recorded_log block.height log.log) apart)
       ]
         where

@@ -198,7 +198,7 @@ module _ {Dir : Type 0} (c : Fixed Dir) (form : IsForm c) (stored : OfShares) (r
         answered : (made : Artifact Dir) (now : Live Dir) → IsArtifactIn c stored round known.0 (with its) logs made → SaysSo P (i.answers c r.number made now)
         answered made now is = (
           subst (λ (payload : Option (List ℕ)). P (Answer r.number (Available payload))) (sym (payload_is round known.0 (with its) logs made is))
-          (found_so round known.0 r found of_epoch known.1 among (same_read ∙ read)),
+              (found_so round known.0 r found of_epoch known.1 among (same_read ∙ read)),
           tt,
         )
 
@@ -403,7 +403,7 @@ module _ {Dir : Type 0} (c : Fixed Dir) (form : IsFormThrough c) (stored : OfSha
         artifact_so c form.form stored reads st live.informed P round info.0 r st.inclusion (λ made now. bind (i.answers c number made now) (λ now. Goes (retains c r now))) live.asked.has is info.1 result
         (λ made at m. (
           subst (λ (payload : Option (List ℕ)). P (Answer number (Available payload)))
-          (sym (payload_is c form.form stored reads st live.informed P round info.0 st r.logs made m.artifact ∙ ap (payload_by c round info.0) are)) (waited_so round info.0 job number is info.1 runs waits),
+              (sym (payload_is c form.form stored reads st live.informed P round info.0 st r.logs made m.artifact ∙ ap (payload_by c round info.0) are)) (waited_so round info.0 job number is info.1 runs waits),
           tt,
         ))
 
@@ -589,9 +589,18 @@ module _ {Dir : Type 0} (c : Fixed Dir) (form : IsFormThrough c) (stored : OfSha
   -- what is read behind a verification that ended is read in the life without it
   as_finished : (its : Inclusion Dir) → its.queue ≡ st.inclusion.queue → (line : Line) → IsReadAnswer c (with_inclusion its st) line → IsReadAnswer c (finished st) line
   as_finished its queue_is (Answer number (Available payload)) read =
-      let r = read.4.0 in
-      (read.0, read.1, read.2, read.3, (r, subst (IsAmong r) queue_is read.4.1, read.4.2,
-      (read.4.3.0, read_again c read.0 st (finished st).inclusion r ∙ sym (read_again c read.0 st its r) ∙ read.4.3.1, read.4.3.2)))
+      let r = read.4.0 in (
+        read.0,
+        read.1,
+        read.2,
+        read.3,
+        (
+          r,
+          subst (IsAmong r) queue_is read.4.1,
+          read.4.2,
+          (read.4.3.0, read_again c read.0 st (finished st).inclusion r ∙ sym (read_again c read.0 st its r) ∙ read.4.3.1, read.4.3.2),
+        ),
+      )
   as_finished its queue_is (Answer number (Unavailable reason)) read =
       let r = read.2.0 in
       (read.0, read.1, (r, subst (IsAmong r) queue_is read.2.1, read.2.2, read_again c read.0 st (finished st).inclusion r ∙ sym (read_again c read.0 st its r) ∙ read.2.3))

@@ -98,14 +98,17 @@ module _ {Dir : Type 0} (c : Fixed Dir) where
 
   heard_unasked : (st : Live Dir) (from : ℕ) (end : Live Dir) → IsHeardBy c st from end → (end.inclusion ≡ st.inclusion) × IsHeardBy c (unasked st) from (unasked end)
   heard_unasked st from end (inl same) = (ap (λ (x : Live Dir). x.inclusion) same, inl (ap unasked same))
-  heard_unasked st from end (inr (inl heard)) = (ap (λ (x : Live Dir). x.inclusion) heard.is, inr (inl (record {
-    round = heard.round;
-    of_epoch = heard.of_epoch;
-    public = heard.public;
-    private = heard.private;
-    accepted = record { round = heard.accepted.round; of_epoch = heard.accepted.of_epoch; number = heard.accepted.number; new = heard.accepted.new; valid = heard.accepted.valid };
-    is = ap unasked heard.is;
-  })))
+  heard_unasked st from end (inr (inl heard)) = (
+    ap (λ (x : Live Dir). x.inclusion) heard.is,
+    inr (inl (record {
+      round = heard.round;
+      of_epoch = heard.of_epoch;
+      public = heard.public;
+      private = heard.private;
+      accepted = record { round = heard.accepted.round; of_epoch = heard.accepted.of_epoch; number = heard.accepted.number; new = heard.accepted.new; valid = heard.accepted.valid };
+      is = ap unasked heard.is;
+    })),
+  )
   heard_unasked st from end (inr (inr heard)) = (
     ap (λ (x : Live Dir). x.inclusion) heard.is ∙ (dealing.taken_same c st heard.round.number heard.dealer from heard.ack st.records refl).inclusion,
     inr (inr (record {
@@ -172,8 +175,7 @@ module _ {Dir : Type 0} (c : Fixed Dir) (stored : OfShares) (st : Live Dir) (liv
         ap (λ (x : Live Dir). x.participation.stage) its.is,
       )
       stays_of (inr (inr its)) =
-          let frame = dealing.taken_same c st its.round.number its.dealer from its.ack st.records refl in
-          (
+          let frame = dealing.taken_same c st its.round.number its.dealer from its.ack st.records refl in (
             ap (λ (x : Live Dir). x.participation.round) its.is ∙ frame.same.round,
             ap (λ (x : Live Dir). x.participation.current) its.is ∙ frame.same.current,
             ap (λ (x : Live Dir). x.participation.epoch) its.is ∙ frame.same.epoch,

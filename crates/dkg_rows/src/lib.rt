@@ -14,6 +14,8 @@ mod lives;
 #[cfg(test)]
 mod observer;
 #[cfg(test)]
+mod requests;
+#[cfg(test)]
 mod reshare;
 #[cfg(test)]
 mod runs;

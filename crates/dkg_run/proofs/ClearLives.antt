@@ -1,10 +1,11 @@
 -- A life of a valid script over valid devices is ended by nothing but its script and what comes from outside, and leaves the devices valid.
-use Rattle.std.proofs.Common.{◌≡◌, ◌⊎◌, inl, inr, ℕ, suc, ◌<◌, ◌≤◌, List, Option, Some, None, Result, Ok, true, arith, refl, sym, ◌∙◌, ap, subst, length}
+use Rattle.std.proofs.Common.{◌≡◌, ◌⊎◌, inl, inr, ℕ, suc, ◌<◌, ◌≤◌, ◌^◌, List, Option, Some, None, Result, Ok, true, arith, refl, sym, ◌∙◌, ap, subst, length}
 use Rattle.std.specs.Prelude.{slice_get, IfSome, IsSomeAnd}
-use Rattle.std.specs.Option.{option_map_or}
 use Rattle.std.specs.FinMap as maps
 use Rattle.std.specs.FinMap.{get, same_map}
+use Rattle.dkg_ceremony.specs.Dealings.{dealing_of}
 use Rattle.dkg_ceremony.specs.Deals.{deal_of}
+use Rattle.dkg_ceremony.specs.declared.output.Output.{Output}
 use Rattle.dkg_ceremony.specs.declared.round.RoundParts.{RoundParts as Round}
 use Rattle.dkg_journal.specs.Names.{Files}
 use Rattle.dkg_journal.specs.Records.{Entry}
@@ -13,63 +14,75 @@ use Rattle.dkg_secrets.proofs.Map.{exact_keys, keys_total}
 use Rattle.dkg_secrets.specs.declared.secrets.SecretOp.TheVariants.{PutSeed}
 use Rattle.dkg_types.specs.BlockCodes.{info_of}
 use Rattle.dkg_types.specs.Blocks.{Block}
+use Rattle.dkg_types.specs.Units.{unit_spelling}
 use Rattle.dkg_types.specs.declared.directory.Unit as directory
-use Rattle.dkg_ceremony.specs.declared.output.Output.{Output}
 use Rattle.dkg_types.specs.declared.fault.Fault.{Fault}
 use Rattle.dkg_types.specs.declared.fault.Fault.TheVariants.{LocalState}
+use Rattle.dkg_types.specs.declared.fault.LocalCause.{LocalCause}
 use Rattle.dkg_types.specs.declared.fault.LocalCause.TheVariants.{OwnDealing, ShareRefused, StoredDealing}
 use Rattle.dkg_types.specs.declared.info.EpochInfo.{EpochInfo}
 use Rattle.dkg_text.specs.declared.script.Event.{Event}
 use Rattle.dkg_text.specs.declared.script.Event.TheVariants as event
 use Rattle.dkg_text.specs.declared.script.Life.{Life}
-use Rattle.dkg_script.specs.Blocks.{round_at}
+use Rattle.dkg_text.specs.declared.script.Script.{Script}
+use Rattle.dkg_script.specs.Blocks.{known_info, round_at}
+use Rattle.dkg_script.specs.Epochs.{alone}
 use Rattle.dkg_script.specs.Inclusion.{IsFormOfInclusion}
+use Rattle.dkg_script.specs.Position.{awaited_epoch}
+use Rattle.dkg_script.specs.Readings.{with_spelled}
 use Rattle.dkg_script.specs.Setting.{CutAt, Setting, found, life_at, me}
+use Rattle.dkg_script.specs.Valid.{ComesInTurn, ProvidesNext, IsValidCase}
 use Rattle.dkg_store.specs.Acts.{Changes, Ended, Held, World, after, broken, notes, stopped, went}
 use Rattle.dkg_store.specs.Pairs.{IsWhole, Pairs, recovered}
 use Rattle.dkg_store.proofs.Halves.{recovered_at}
+use Rattle.dkg_core.specs.Asked.{IsAskStop, OfShares}
 use Rattle.dkg_core.specs.Courses.{Course, EndsSo}
+use Rattle.dkg_core.specs.Endings.{CameTo, first_block}
 use Rattle.dkg_core.specs.Fixed.{Fixed}
-use Rattle.dkg_core.specs.Forms.{Applied, IsLiveIn, IsNodeBegun, IsOpeningStop, IsTakenIn, Judged, LeavesHeld, Passed, Refusal, held_behind, judged_block, seed_read, share_read, with_share}
+use Rattle.dkg_core.specs.Forms.{Applied, IsNodeBegun, IsOpeningStop, IsSetupFault, Judged, LeavesHeld, Passed, Refusal, committed_by, held_behind, judged_block, seed_read, share_read, with_share}
 use Rattle.dkg_core.specs.Heard.{recovered_in}
-use Rattle.dkg_core.specs.Live.{Deals, Ends, Faulted, Finalized, Follows, Includes, Live, Message, NodeStop, Stage, is_last_height}
+use Rattle.dkg_core.specs.Live.{Cancel, Deals, Ends, EpochInfoOf, Faulted, Feed, Finalized, Follows, Includes, Live, Mail, Message, NextLog, NodeStop, Over, Peer, ReleaseLog, Sent, Stage, Work, is_last_height}
 use Rattle.dkg_core.specs.Meant.{ReadsRecords}
 use Rattle.dkg_core.specs.Node.{node_opening}
-use Rattle.dkg_core.specs.Seen.{Seen}
-use Rattle.dkg_core.specs.Stepping.{IsAppliedStop, IsBlockStop, IsNextIn, IsStepStop, IsTakeoverStop, LeavesTaken, OwnDiffers, held_at_setup, held_committed, next_epoch as next_of}
-use Rattle.dkg_core.specs.Forms.{IsActiveIn}
 use Rattle.dkg_core.specs.NodeEndings.{IsFaultBy}
+use Rattle.dkg_core.specs.NodeThrough.{IsActiveThrough, IsNodeThrough}
+use Rattle.dkg_core.specs.Seen.{Seen}
+use Rattle.dkg_core.specs.Setup.{Uncommitted}
+use Rattle.dkg_core.specs.Stepping.{IsDealingStop, OwnDiffers, given_itself, next_epoch as next_of, taken_over}
 use Rattle.dkg_core.specs.Storing.{ReadsSecrets}
-use Rattle.dkg_core.specs.Endings.{CameTo, first_block}
+use Rattle.dkg_core.specs.Through.{IsAppliedStopThrough, IsBlockStopThrough, IsCarriedOn, IsLiveThrough, IsPassingStop, IsStopThrough}
+use Rattle.dkg_core.proofs.NodeThrough.{node_steps_lead_through_over}
 use Rattle.dkg_core.proofs.Openings.{node_openings_lead_over}
-use Rattle.dkg_core.proofs.Stepping.{node_steps_lead_over}
+use Rattle.dkg_core.proofs.StepDealing.{given_same}
 use Rattle.dkg_reshare.specs.declared.stop.Stop.{Stop}
-use Rattle.dkg_run.specs.Blamed.{IsBlockOwn, IsCause, IsFromOutside, IsOwn, IsOwnCause, IsTakenLast, IsWhy, OnBlock, OnCarried, first_epoch_in, next_epoch, opening_block, refusal_in}
-use Rattle.dkg_run.specs.Epochs.{IsLifeInForm}
+use Rattle.dkg_run.specs.Blamed.{IsAskedOwn, IsBlockCause, IsBlockOwn, IsCause, IsFromOutside, IsMayCause, IsOwn, IsOwnCause, IsWhy, OnBlock, OnCarried, first_epoch_in, next_epoch, opening_block}
+use Rattle.dkg_run.specs.Epochs.{IsLifeInForm, any_shares}
 use Rattle.dkg_run.specs.Given.{AreBytes, Lived, at_step, blocks_in, lived, step_of}
 use Rattle.dkg_run.specs.GivesBack.{PassesAll}
 use Rattle.dkg_run.specs.Lives.{LivesSo}
-use Rattle.dkg_script.specs.Valid.{ComesInTurn, ProvidesNext, IsValidCase}
 use Rattle.dkg_run.specs.Ways.{by_worlds}
 use Rattle.dkg_run.proofs.Awaiting.{IsReached}
-use Rattle.dkg_run.proofs.Blaming.{Stood, at_there, opened_stood, step_next, step_why}
-use Rattle.dkg_run.proofs.Causing.{follows_of, judged_so, new_of, opening_cause, refusal}
-use Rattle.dkg_run.proofs.Former.{Brings, IsMessage, event_in_form, form_at, lacks_nobody, life_in, live_at, message_in}
+use Rattle.dkg_run.proofs.Blaming.{Stood, at_there, of_there, opened_stood, step_next, step_why}
+use Rattle.dkg_run.proofs.Causing.{judged_so, opening_cause, refusal}
+use Rattle.dkg_run.proofs.Former.{BringsBlock, BringsMail, IsMessage, brings_so, event_in_form, form_at, lacks_nobody, life_in, live_at, message_in, step_taken, through_at}
+use Rattle.dkg_run.proofs.GivenItself.{IsGiven, given}
 use Rattle.dkg_run.proofs.GivingDealings.{FitsRecords}
 use Rattle.dkg_run.proofs.GivingLives.{LeavesSo}
+use Rattle.dkg_run.proofs.Heard.{Knows}
 use Rattle.dkg_run.proofs.LivesClear.{EndsOutside, IsClear, KeepsClear, LeavesClear, life_clear}
+use Rattle.dkg_run.proofs.NoOthers.{IsOwnDealt}
 use Rattle.dkg_run.proofs.OwnBacked.{AreBacked, has_previous}
-use Rattle.dkg_run.proofs.OwnClear.{own_same}
+use Rattle.dkg_run.proofs.OwnClear.{none_refused_in, own_same}
 use Rattle.dkg_run.proofs.OwnRuns as owning
 use Rattle.dkg_run.proofs.OwnRuns.{IsOwning, ValidHeld}
-use Rattle.dkg_run.proofs.OwnValid.{AreValidAt, IsStateFault, next_valid, opening_valid}
+use Rattle.dkg_run.proofs.OwnValid.{AreValidAt, IsStateFault, opening_valid, setup_valid}
+use Rattle.dkg_run.proofs.Seated.{own_valid}
 use Rattle.dkg_run.proofs.Sharing.{fits_dealt, one_share}
 use Rattle.dkg_run.proofs.SharesFit.{same_shares, share_put}
-use Rattle.dkg_run.proofs.SharesKnown.{IsMineAt, SharesFit, last_serves, opening_fits, reads_shares, step_fits, there_below}
+use Rattle.dkg_run.proofs.SharesKnown.{IsFitting, IsMineAt, SharesFit, last_known, mine, opening_fits, opening_fitting, reads_shares, share_mine, step_comes, step_fits, step_fitting, there_below}
 use Rattle.dkg_run.proofs.StoredDealers.{IsStoredDealer}
 use Rattle.dkg_run.proofs.StoredFound.{own_found}
-use Rattle.dkg_run.proofs.Stood.{step_taken}
-use Rattle.dkg_run.proofs.ValidCauses.{valid_clear}
+use Rattle.dkg_run.proofs.ValidCauses.{valid_clear, valid_may}
 
 none_some : {A : Type 0} {x : A} → ◌≡◌ {A = Option A} None (Some x) → ⊥
 none_some e = cc
@@ -84,6 +97,10 @@ none_there : {A : Type 0} (P : A → Type 0) (o : Option A) → ((x : A) → P x
 none_there P None never so = so
 none_there P (Some x) never so = never x so
 
+some_there : {A : Type 0} (P : A → Type 0) (Q : Type 0) (o : Option A) → ((x : A) → P x → Q) → IsSomeAnd o P → Q
+some_there P Q None leads so = absurd so
+some_there P Q (Some x) leads so = leads x so
+
 -- nothing is carried that leads to nothing
 none_carried : (P : EpochInfo directory.Unit → Type 0) (o : Option (Block directory.Unit)) → ((info : EpochInfo directory.Unit) → P info → ⊥) → OnCarried o P → ⊥
 none_carried P o never so = none_there (λ (b : Block directory.Unit). IsSomeAnd (info_of b.payload) P) o (λ b its. none_there P (info_of b.payload) never its) so
@@ -94,30 +111,44 @@ same_given h k entries halves =
     ap (λ (es : List Entry). recovered es k.secrets) entries ∙ same_map keys_total exact_keys _ _ (λ key. recovered_at h.secrets k.secrets key (notes h) (ap (λ m. get m key) halves))
 
 -- WHAT A COMMIT leaves
-module _ (c : Fixed directory.Unit) (info : EpochInfo directory.Unit) (h : Held) where
-  committed_notes : notes (held_committed c info h) ≡ notes h
-  committed_notes = by_share (share_read c info h)
-    where
-      by_share : (o : Option ℕ) → notes (after (Changes (PutSeed info.epoch (seed_read c info h))) (with_share info.epoch o h)) ≡ notes h
-      by_share None = refl
-      by_share (Some share) = refl
+module _ (info : EpochInfo directory.Unit) (seed : List ℕ) (h : Held) where
+  abbrev committed : Option ℕ → Held
+  committed share = committed_by Uncommitted info share seed h
 
-  committed_halves : (held_committed c info h).secrets.privates ≡ h.secrets.privates
-  committed_halves = by_share (share_read c info h)
-    where
-      by_share : (o : Option ℕ) → (after (Changes (PutSeed info.epoch (seed_read c info h))) (with_share info.epoch o h)).secrets.privates ≡ h.secrets.privates
-      by_share None = refl
-      by_share (Some share) = refl
+  committed_notes : (share : Option ℕ) → notes (committed share) ≡ notes h
+  committed_notes None = refl
+  committed_notes (Some share) = refl
 
-  committed_fits : (s : Setting) → SharesFit s h → IfSome (share_read c info h) (IsMineAt s info.epoch) → SharesFit s (held_committed c info h)
-  committed_fits s fits such = by_share (share_read c info h) such
-    where
-      seeded : (k : Held) → SharesFit s k → SharesFit s (after (Changes (PutSeed info.epoch (seed_read c info h))) k)
-      seeded k its = same_shares (IsMineAt s) k (after (Changes (PutSeed info.epoch (seed_read c info h))) k) refl its
+  committed_halves : (share : Option ℕ) → (committed share).secrets.privates ≡ h.secrets.privates
+  committed_halves None = refl
+  committed_halves (Some share) = refl
 
-      by_share : (o : Option ℕ) → IfSome o (IsMineAt s info.epoch) → SharesFit s (after (Changes (PutSeed info.epoch (seed_read c info h))) (with_share info.epoch o h))
+  committed_given : (share : Option ℕ) → recovered_in (committed share) ≡ recovered_in h
+  committed_given share = same_given h (committed share) (committed_notes share) (committed_halves share)
+
+  committed_fits : (s : Setting) (share : Option ℕ) → SharesFit s h → IfSome share (IsMineAt s info.epoch) → SharesFit s (committed share)
+  committed_fits s share fits such = by_share share such
+    where
+      seeded : (k : Held) → SharesFit s k → SharesFit s (after (Changes (PutSeed info.epoch seed)) k)
+      seeded k its = same_shares (IsMineAt s) k (after (Changes (PutSeed info.epoch seed)) k) refl its
+
+      by_share : (o : Option ℕ) → IfSome o (IsMineAt s info.epoch) → SharesFit s (committed o)
       by_share None such = seeded h fits
       by_share (Some share) such = seeded (with_share info.epoch (Some share) h) (share_put (IsMineAt s) h (with_share info.epoch (Some share) h) info.epoch share such refl fits)
+
+-- WHAT STOPS IT by the node's own state is one of its causes
+abbrev IsLocal : Fault → Type 0
+IsLocal own = (cause : LocalCause) × (own ≡ LocalState cause)
+
+block_local : (script : Script) (l : ℕ) (life : Life) (j : ℕ) (block : Block directory.Unit) (own : Fault) → IsBlockOwn script l life j block own → IsLocal own
+block_local script l life j block (LocalState cause) so = (cause, refl)
+block_local script l life j block own (inl (taken, inl carried)) = absurd (none_carried (λ info. IsOwnCause script (next_epoch script block) info own) (Some block) (λ info its. its) carried)
+block_local script l life j block own (inl (taken, inr asked)) = absurd asked.1
+block_local script l life j block own (inr dealing) = absurd dealing.1
+
+asked_local : (script : Script) (epoch : ℕ) (own : Fault) → IsAskedOwn script epoch own → IsLocal own
+asked_local script epoch (LocalState cause) so = (cause, refl)
+asked_local script epoch own so = absurd so
 
 module _ (s : Setting) (ends : List (Option CutAt)) (valid : IsValidCase s ends) (form : IsFormOfInclusion s.script) (bytes : AreBytes s.script.blocks) (unfound : (l : ℕ) → found s l ≡ None) where
   -- whole devices give back dealings that pass, own ones that the secrets deal, and hold shares that fit
@@ -151,10 +182,16 @@ module _ (s : Setting) (ends : List (Option CutAt)) (valid : IsValidCase s ends)
     cause_clear step reached all its why =
         valid_clear s ends valid form bytes here.long l life life_is here.anchor (life_in g here).no_sync (unfound l) (life_in g here).events in_turn provides step reached all its why
 
+    -- .. nor one in which requests are read
+    may_clear : (step : ℕ) → IsReached life.cut step → (its : Fault) → IsMayCause s.script l life step its → ⊥
+    may_clear step reached its may =
+        valid_may s ends valid form bytes here.long l life life_is here.anchor (life_in g here).no_sync (unfound l) (life_in g here).events in_turn provides step reached its may
+
     -- A STATE behind the first j events
     pub record IsClearAt (j : ℕ) (st : Live directory.Unit) (h : Held) : Type 0 where
       pub owns : IsOwning s ends form valid.consistent l life seen files life_is here records secrets j st h
       pub stood : Stood g here j st
+      pub fitting : IsFitting s (at_step g j) st
       pub shares : SharesFit s h
 
     so : (j : ℕ) (st : Live directory.Unit) (h : Held) → IsClearAt j st h → HoldsAll h
@@ -188,14 +225,15 @@ module _ (s : Setting) (ends : List (Option CutAt)) (valid : IsValidCase s ends)
       opening_leaves : (ended : Ended NodeStop (Live directory.Unit)) (new : World) → EndsSo (node_opening (at_step g 0)) ended w new
           → LeavesSo (ValidHeld s ends form valid.consistent) (IsOwning s ends form valid.consistent l life seen files life_is here records secrets 0) ended new.held → LeavesClear HoldsAll (IsClearAt 0) ended new.held
       opening_leaves ended new run left = by_end ended left (opening_fits s ends form valid.consistent l life seen files life_is secrets here ended w new all.shares run)
+          (opening_fitting s ends form valid.consistent l life seen files life_is secrets here ended w new run)
           (node_openings_lead_over (at_step g 0) ended w new (form_at g here 0) (lacks_nobody g 0) run)
         where
-          by_end : (ended : Ended NodeStop (Live directory.Unit)) → LeavesSo (ValidHeld s ends form valid.consistent) (IsOwning s ends form valid.consistent l life seen files life_is here records secrets 0) ended new.held → SharesFit s new.held
+          by_end : (ended : Ended NodeStop (Live directory.Unit)) → LeavesSo (ValidHeld s ends form valid.consistent) (IsOwning s ends form valid.consistent l life seen files life_is here records secrets 0) ended new.held → SharesFit s new.held → CameTo (λ stop. Unit {0}) (IsFitting s (at_step g 0)) ended
               → CameTo (IsFaultBy (IsOpeningStop (at_step g 0) ((at_step g 0).seen k) k)) (λ st. IsNodeBegun (at_step g 0) ((at_step g 0).seen k) k st × LeavesHeld (at_step g 0) k new.held (first_block (at_step g 0))) ended
               → LeavesClear HoldsAll (IsClearAt 0) ended new.held
-          by_end (went end) left shares came = record { owns = left; stood = opened_stood g here ((at_step g 0).seen k) k end came.0; shares = shares }
-          by_end (stopped stop) left shares came = (record { given = left; shares = shares }, λ own is. absurd (opening_never came.0 came.2))
-          by_end (broken cause) left shares came = record { given = left; shares = shares }
+          by_end (went end) left shares fitting came = record { owns = left; stood = opened_stood g here ((at_step g 0).seen k) k end came.0; fitting = fitting; shares = shares }
+          by_end (stopped stop) left shares fitting came = (record { given = left; shares = shares }, λ own is. absurd (opening_never came.0 came.2))
+          by_end (broken cause) left shares fitting came = record { given = left; shares = shares }
 
     opening_keeps : (h : Held) → HoldsAll h → IsReached life.cut 0 → KeepsClear HoldsAll (IsClearAt 0) (node_opening (at_step g 0)) h
     opening_keeps h all reached ended w new at run =
@@ -210,169 +248,233 @@ module _ (s : Setting) (ends : List (Option CutAt)) (valid : IsValidCase s ends)
       abbrev m : IsMessage g its
       m = message_in g its (event_in_form g here i its is)
 
-      live : IsLiveIn c st
+      live : IsLiveThrough c any_shares st
       live = live_at g i (suc i) st ((clear.stood).at).live
-
-      taken : IsTakenIn c m.message st
-      taken = step_taken g here i its is reached m st live ((clear.stood).at).stands
 
       all_come : (k : ℕ) → k < suc i → (e : Event) × (slice_get life.events k ≡ Some e)
       all_come k low = there_below life.events i its is k (omega (arith, low))
 
-      -- A BLOCK
-      module _ (number : ℕ) (is_final : slice_get life.events i ≡ Some (event.Final number)) (block : Block directory.Unit) (there : slice_get (blocks_in s.script) number ≡ Some block) where
-        abbrev behind : Held
-        behind = held_at_setup c (Finalized block) w.held
+      before : AreValidAt s w.held
+      before = valid_at w.held (so i st w.held clear)
 
-        of_info : (info : EpochInfo directory.Unit) → info_of block.payload ≡ Some info → behind ≡ held_committed c info w.held
-        of_info info carries = ap (λ (o : Option (EpochInfo directory.Unit)). option_map_or (λ x. held_committed c x w.held) o w.held) carries
+      abbrev Stops : Message directory.Unit → LocalCause → Type 0
+      Stops message cause = IsStopThrough c (mine s) st message (Some w.held) (LocalState cause)
 
-        given_behind : (info : EpochInfo directory.Unit) → recovered_in (held_committed c info w.held) ≡ recovered_in w.held
-        given_behind info = same_given w.held (held_committed c info w.held) (committed_notes c info w.held) (committed_halves c info w.held)
+      -- WHAT IS RECORDED passes, as it was and behind its own dealing
 
+      abbrev AllPass : Pairs → Type 0
+      AllPass pairs = (round : Round) → st.participation.round ≡ Some round → (who : ℕ) (pair : List ℕ × ℕ) → who < 2 ^ 32 → get pairs (round.number, who) ≡ Some pair → dealing_of round (me s) who pair.0 pair.1 ≡ Ok tt
+
+      recorded_pass : AllPass (recovered_in w.held)
+      recorded_pass round of who pair low got = before.dealings round who pair (((clear.owns).passing).rounds round of) low got
+
+      itself : IsGiven c st (recovered_in w.held) (((clear.owns).passing).agreed).dealings (given_itself c st)
+      itself = given c st (recovered_in w.held) (((clear.owns).passing).agreed).dealings
+
+      knows : Knows c s
+      unfolding at_step
+      knows = record { me_is = refl; limit_is = rw here.form.reshares refl; rules_are = refl }
+
+      itself_pass : AllPass itself.now
+      itself_pass round of who pair low got = elim (itself.each (round.number, who) pair got) [
+        | inl was ↦ recorded_pass round of who pair low was
+        | inr own ↦ of_own own
+      ]
+        where
+          of_own : IsOwnDealt c st (round.number, who) pair → dealing_of round (me s) who pair.0 pair.1 ≡ Ok tt
+          of_own own =
+              subst (λ (n : ℕ). dealing_of round (me s) n pair.0 pair.1 ≡ Ok tt) (sym (ap (λ (k : ℕ × ℕ). k.1) own.at ∙ knows.me_is))
+              (subst (λ (r : Round). dealing_of r (me s) (me s) pair.0 pair.1 ≡ Ok tt) (some_is (sym own.of_epoch ∙ of))
+              (own_valid c any_shares s st (round.number, who) pair (form_at g here (suc i)) live knows own))
+
+      -- so no request stops it
+      asked_never : (at : Live directory.Unit) (pairs : Pairs) → at.records.dealings ≡ maps.entries pairs → AllPass pairs → at.participation.round ≡ st.participation.round → (cause : LocalCause) → IsAskStop c at (LocalState cause) → ⊥
+      unfolding at_step
+      asked_never at pairs same passes same_round (StoredDealing number dealer) stop =
+          none_some (sym (none_refused_in (me s) stop.0 at pairs same (λ who pair low got. passes stop.0 (sym same_round ∙ stop.2) who pair low got)) ∙ stop.4.2)
+      asked_never at pairs same passes same_round cause stop = stop.4
+
+      asked_here : (cause : LocalCause) → IsAskStop c st (LocalState cause) → ⊥
+      asked_here cause stop = asked_never st (recovered_in w.held) (((clear.owns).passing).agreed).dealings recorded_pass refl cause stop
+
+      -- NOR DOES ITS OWN DEALING
+      own_never : (epoch : ℕ) (kept dealt : List ℕ) → OwnDiffers c st epoch kept dealt → ⊥
+      own_never epoch kept dealt differs = differs.differs (same ∙ sym differs.is_dealt)
+        where
+          stored : IsStoredDealer (me s) st differs.dealer w.held
+          stored = ((clear.owns).standing).deals differs.dealer differs.of_dealer
+
+          found_own : (private : ℕ) × (get (recovered_in w.held) (epoch, me s) ≡ Some (kept, private))
+          found_own = own_found g (suc i) st w.held (((clear.owns).passing).agreed).dealings epoch kept dealt differs
+
+          number_is : epoch ≡ (stored.round).number
+          number_is = differs.number ∙ ap (λ (r : Round). r.number) (some_is (sym differs.of_epoch ∙ stored.of_epoch))
+
+          made : round_at s epoch ≡ Some stored.round
+          made = ap (round_at s) number_is ∙ ((clear.owns).passing).rounds stored.round stored.of_epoch
+
+          backed : (seed : List ℕ) × (share : ℕ) × (privates : List (ℕ × ℕ)) × (get w.held.secrets.seeds epoch ≡ Some seed) × (deal_of stored.round (me s) (Some share) seed ≡ Ok (kept, privates))
+          backed = (clear.owns).own (epoch, me s) (kept, found_own.0) refl found_own.1 stored.round made
+
+          previous : (o : Output) × ((stored.round).previous ≡ Some o)
+          previous = has_previous s form epoch stored.round made
+
+          seed_is : stored.seed ≡ backed.0
+          seed_is = some_is (sym stored.seed_is ∙ sym (ap (get w.held.secrets.seeds) number_is) ∙ backed.3)
+
+          -- there is one share that is dealt with
+          share_is : stored.share ≡ backed.1
+          share_is = one_share stored.round (me s) stored.share backed.1 stored.fits (fits_dealt stored.round (me s) backed.1 backed.0 (kept, backed.2) previous.0 previous.1 backed.4)
+
+          again : deal_of stored.round (me s) (Some stored.share) stored.seed ≡ Ok (kept, backed.2)
+          again = ap (deal_of stored.round (me s) (Some stored.share)) seed_is ∙ ap (λ (share : ℕ). deal_of stored.round (me s) (Some share) backed.0) share_is ∙ backed.4
+
+          same : kept ≡ (differs.dealer).public
+          same = own_same stored.round (me s) (Some stored.share) stored.seed kept (differs.dealer).public backed.2 (differs.dealer).privates again stored.dealt
+
+      dealing_never : (cause : LocalCause) → IsDealingStop c st (LocalState cause) → ⊥
+      dealing_never (OwnDealing epoch kept dealt) differs = own_never epoch kept dealt differs
+      dealing_never cause stop = stop
+
+      -- NOR DOES A BLOCK
+      module _ (number : ℕ) (of : its ≡ event.Final number) (block : Block directory.Unit) (there : slice_get (blocks_in s.script) number ≡ Some block) where
         -- what is held as the next epoch is set up is valid
-        behind_valid : is_last_height c block.height ≡ true → (info : EpochInfo directory.Unit) → info_of block.payload ≡ Some info → info.epoch ≡ next_of c block → AreValidAt s behind
-        unfolding at_step
-        behind_valid last_one info carries same = subst (AreValidAt s) (sym (of_info info carries)) now
+        committed_valid : (info : EpochInfo directory.Unit) (seed : List ℕ) (share : Option ℕ) → IfSome share (IsMineAt s info.epoch) → AreValidAt s (committed_by Uncommitted info share seed w.held)
+        committed_valid info seed share such = record {
+          shares = λ epoch its other got known. committed_fits info seed w.held s share clear.shares such epoch its got other known;
+          dealings = λ round dealer pair made low got. before.dealings round dealer pair made low (sym (ap (λ (p : Pairs). get p (round.number, dealer)) (committed_given info seed w.held share)) ∙ got);
+        }
+
+        -- so that setup goes to its end
+        passing_never : is_last_height c block.height ≡ true → (cause : LocalCause) → IsPassingStop c (mine s) block st (Some w.held) (LocalState cause) → ⊥
+        passing_never last_one cause stop = by_cause cause stop.1
           where
-            before : AreValidAt s w.held
-            before = valid_at w.held (so i st w.held clear)
+            on : IsCarriedOn c (mine s) block st (Some w.held)
+            on = stop.0
 
-            such : IfSome (share_read c info w.held) (IsMineAt s info.epoch)
-            such = last_serves s ends form valid.consistent l life seen files life_is secrets i number is_final reached block there last_one info carries same w.held clear.shares
+            seed : List ℕ
+            seed = seed_read c on.info w.held
 
-            fit : SharesFit s (held_committed c info w.held)
-            fit = committed_fits c info w.held s clear.shares such
+            such : IfSome on.share (IsMineAt s (on.info).epoch)
+            such = share_mine s ends form valid.consistent l life seen files life_is secrets here i its is reached st ((clear.stood).at).active clear.fitting w clear.shares number of block there last_one on
 
-            now : AreValidAt s (held_committed c info w.held)
-            now = record {
-              shares = λ epoch share other got known. fit epoch share got other known;
-              dealings = λ round dealer pair made low got. before.dealings round dealer pair made low (sym (ap (λ (p : Pairs). get p (round.number, dealer)) (given_behind info)) ∙ got);
-            }
+            known : known_info s (on.info).epoch ≡ Some (with_spelled unit_spelling on.info)
+            known = last_known s ends form valid.consistent l life seen files life_is secrets i number (is ∙ ap (λ (e : Event). Some e) of) reached block there last_one on.info on.carried on.of_next
 
-        gives_behind : (info : EpochInfo directory.Unit) → info_of block.payload ≡ Some info → st.records.dealings ≡ maps.entries (recovered_in behind)
-        gives_behind info carries = (((clear.owns).passing).agreed).dealings ∙ ap (λ (p : Pairs). maps.entries p) (sym (ap recovered_in (of_info info carries) ∙ given_behind info))
+            between : on.k ≡ committed_by Uncommitted on.info on.share seed w.held
+            between = on.between
 
-        abbrev Stops : Fault → Type 0
-        Stops own = IsStepStop c st (Finalized block) w.held behind own
+            gives : st.records.dealings ≡ maps.entries (recovered_in on.k)
+            gives = (((clear.owns).passing).agreed).dealings
+                ∙ sym (ap (λ (h : Held). maps.entries (recovered_in h)) between ∙ ap (λ (p : Pairs). maps.entries p) (committed_given on.info seed w.held on.share))
 
-        by_carried : (own : Fault) → IsStateFault own → IsTakenLast s.script l life i block → is_last_height c block.height ≡ true → IsTakeoverStop c block st w.held behind own → (P : EpochInfo directory.Unit → Type 0)
-            → IsSomeAnd (info_of block.payload) (λ info. (info.epoch ≡ next_of c block) × P info) → ⊥
-        by_carried own of_state ends_so last_one stop P carried = by_info (info_of block.payload) refl carried
+            valid_k : AreValidAt s on.k
+            valid_k = subst (AreValidAt s) (sym between) (committed_valid on.info seed on.share such)
+
+            Setup : LocalCause → Type 0
+            Setup cause = IsSetupFault c (next_of c block) on.info (share_read c on.info on.k) (seed_read c on.info on.k) (taken_over c block on.info on.share st) (LocalState cause)
+
+            of_state : (cause : LocalCause) → IsStateFault (LocalState cause) → Setup cause → ⊥
+            of_state cause state why =
+                setup_valid s ends form valid.consistent l life seen files life_is (suc i) (next_of c block) on.info known on.k valid_k (reads_shares s ends form valid.consistent l life seen files life_is secrets (suc i) on.k)
+                (seed_read c on.info on.k) (taken_over c block on.info on.share st) gives (LocalState cause) state why
+
+            by_cause : (cause : LocalCause) → Setup cause → ⊥
+            by_cause (ShareRefused epoch) why = of_state (ShareRefused epoch) tt why
+            by_cause (StoredDealing epoch dealer) why = of_state (StoredDealing epoch dealer) tt why
+            by_cause cause why = why
+
+        applied_never : (cause : LocalCause) (stage : Stage) → IsAppliedStopThrough c (mine s) block st (Some w.held) stage (LocalState cause) → ⊥
+        applied_never cause Deals (inl dealing) = dealing_never cause dealing
+        applied_never cause Deals (inr asked) = asked_never (given_itself c st) itself.now itself.recorded itself_pass ((given_same c st).same).round cause asked.2
+        applied_never cause Includes (inl asked) = asked_here cause asked.1
+        applied_never cause Includes (inr passing) = passing_never passing.0 cause passing.1
+        applied_never cause Follows passing = passing_never passing.0 cause passing.1
+        applied_never cause Ends stop = stop
+
+        -- one that is refused has its cause in the script
+        refused_never : (own : Fault) → judged_block c block st ≡ Refusal own → ⊥
+        refused_never own judged = cause_clear (suc i) reached all_come own
+            (of_there (λ e. OnBlock s.script e (λ b. IsBlockCause s.script l life i b own)) (slice_get life.events i) its is
+            (subst (λ (e : Event). OnBlock s.script e (λ b. IsBlockCause s.script l life i b own)) (sym of)
+            (of_there (λ b. IsBlockCause s.script l life i b own) (slice_get (blocks_in s.script) number) block there
+            (inl (sym (judged_so g here i its is reached m st live ((clear.stood).at).stands (clear.stood).tip block)
+            ∙ ap (refusal g here i its is reached m st live ((clear.stood).at).stands (clear.stood).tip block) judged)))))
+
+        block_never : (cause : LocalCause) → Stops (Finalized block) cause → ⊥
+        block_never cause stop = by_judged (judged_block c block st) refl stop
           where
-            by_info : (o : Option (EpochInfo directory.Unit)) → info_of block.payload ≡ o → IsSomeAnd o (λ info. (info.epoch ≡ next_of c block) × P info) → ⊥
-            by_info None carries none = none
-            by_info (Some info) carries so =
-                next_valid s ends form valid.consistent l life seen files life_is i number block is_final reached there ends_so.ends st w.held behind (behind_valid last_one info carries so.0)
-                (reads_shares s ends form valid.consistent l life seen files life_is secrets (suc i) behind) (gives_behind info carries) own of_state stop
+            by_judged : (j : Judged) → judged_block c block st ≡ j → IsBlockStopThrough c (mine s) block st (Some w.held) j (LocalState cause) → ⊥
+            by_judged (Refusal refused) judged why = refused_never refused judged
+            by_judged Passed judged why = why
+            by_judged Applied judged why = applied_never cause st.participation.stage why
 
-        state_never : (own : Fault) → IsStateFault own → IsTakenLast s.script l life i block → is_last_height c block.height ≡ true → IsTakeoverStop c block st w.held behind own → ⊥
-        state_never (LocalState (ShareRefused number)) of_state ends_so last_one stop = by_carried (LocalState (ShareRefused number)) of_state ends_so last_one stop _ stop
-        state_never (LocalState (StoredDealing number dealer)) of_state ends_so last_one stop = by_carried (LocalState (StoredDealing number dealer)) of_state ends_so last_one stop _ stop
-        state_never own of_state ends_so last_one stop = absurd of_state
+      -- SO NOTHING of its own state stops it
+      local_never : (cause : LocalCause) → Stops m.message cause → ⊥
+      local_never cause stop = by_brought (brings_so g its m.message m.brings)
+        where
+          of_mail : (mail : Mail directory.Unit) → Stops (Sent mail) cause → ⊥
+          of_mail (Peer from bytes) why = why
+          of_mail (NextLog request height) why = why
+          of_mail (ReleaseLog height) why = why
+          of_mail (EpochInfoOf request) why = asked_here cause why.1
+          of_mail (Feed request fed) why = asked_here cause why.1
+          of_mail (Over request) why = asked_here cause why.1
+          of_mail (Cancel request) why = asked_here cause why.1
+          of_mail (Work handed) why = asked_here cause why.1
 
-        -- the setup of the next epoch
-        next_never : (own : Fault) → IsStateFault own → IsTakenLast s.script l life i block → Stops own → ⊥
-        next_never own of_state ends_so stop =
-            let its_stop : (is_last_height c block.height ≡ true) × IsTakeoverStop c block st w.held behind own
-            = subst (λ (stage : Stage). IsAppliedStop c block st w.held behind stage own)
-            (follows_of g here i its is reached m st live ((clear.stood).at).stands (clear.stood).tip block ends_so)
-            (subst (λ (j : Judged). IsBlockStop c block st w.held behind j own) (new_of g here i its is reached m st live ((clear.stood).at).stands (clear.stood).tip block ends_so) stop) in
-            state_never own of_state ends_so its_stop.0 its_stop.1
+          by_brought : BringsBlock g its m.message ⊎ BringsMail its m.message → ⊥
+          by_brought (inl b) = block_never b.0 b.2 (b.1).block (b.1).is cause (subst (λ (x : Message directory.Unit). Stops x cause) b.3 stop)
+          by_brought (inr mail) = of_mail mail.0 (subst (λ (x : Message directory.Unit). Stops x cause) mail.1 stop)
 
-        -- this node's own dealing
-        own_never : (epoch : ℕ) (kept dealt : List ℕ) → OwnDiffers c st epoch kept dealt → ⊥
-        own_never epoch kept dealt differs = differs.differs (same ∙ sym differs.is_dealt)
-          where
-            stored : IsStoredDealer (me s) st differs.dealer w.held
-            stored = ((clear.owns).standing).deals differs.dealer differs.of_dealer
-
-            found_own : (private : ℕ) × (get (recovered_in w.held) (epoch, me s) ≡ Some (kept, private))
-            found_own = own_found g (suc i) st w.held (((clear.owns).passing).agreed).dealings epoch kept dealt differs
-
-            number_is : epoch ≡ (stored.round).number
-            number_is = differs.number ∙ ap (λ (r : Round). r.number) (some_is (sym differs.of_epoch ∙ stored.of_epoch))
-
-            made : round_at s epoch ≡ Some stored.round
-            made = ap (round_at s) number_is ∙ ((clear.owns).passing).rounds stored.round stored.of_epoch
-
-            backed : (seed : List ℕ) × (share : ℕ) × (privates : List (ℕ × ℕ)) × (get w.held.secrets.seeds epoch ≡ Some seed) × (deal_of stored.round (me s) (Some share) seed ≡ Ok (kept, privates))
-            backed = (clear.owns).own (epoch, me s) (kept, found_own.0) refl found_own.1 stored.round made
-
-            previous : (o : Output) × ((stored.round).previous ≡ Some o)
-            previous = has_previous s form epoch stored.round made
-
-            seed_is : stored.seed ≡ backed.0
-            seed_is = some_is (sym stored.seed_is ∙ sym (ap (get w.held.secrets.seeds) number_is) ∙ backed.3)
-
-            -- there is one share that is dealt with
-            share_is : stored.share ≡ backed.1
-            share_is = one_share stored.round (me s) stored.share backed.1 stored.fits (fits_dealt stored.round (me s) backed.1 backed.0 (kept, backed.2) previous.0 previous.1 backed.4)
-
-            again : deal_of stored.round (me s) (Some stored.share) stored.seed ≡ Ok (kept, backed.2)
-            again = ap (deal_of stored.round (me s) (Some stored.share)) seed_is ∙ ap (λ (share : ℕ). deal_of stored.round (me s) (Some share) backed.0) share_is ∙ backed.4
-
-            same : kept ≡ (differs.dealer).public
-            same = own_same stored.round (me s) (Some stored.share) stored.seed kept (differs.dealer).public backed.2 (differs.dealer).privates again stored.dealt
-
-        dealing_never : (epoch : ℕ) (kept dealt : List ℕ) → refusal_in s.script l life i block ≡ None → Stops (LocalState (OwnDealing epoch kept dealt)) → ⊥
-        dealing_never epoch kept dealt accepted stop = by_judged (judged_block c block st) refl stop
-          where
-            by_stage : (stage : Stage) → IsAppliedStop c block st w.held behind stage (LocalState (OwnDealing epoch kept dealt)) → ⊥
-            by_stage Deals its_stop = own_never epoch kept dealt its_stop
-            by_stage Follows its_stop = none_there _ (info_of block.payload) (λ info so. so.1) its_stop.1
-            by_stage Includes its_stop = its_stop
-            by_stage Ends its_stop = its_stop
-
-            by_judged : (j : Judged) → judged_block c block st ≡ j → IsBlockStop c block st w.held behind j (LocalState (OwnDealing epoch kept dealt)) → ⊥
-            by_judged (Refusal refused) j its_stop =
-                none_some (sym accepted ∙ sym (judged_so g here i its is reached m st live ((clear.stood).at).stands (clear.stood).tip block)
-                ∙ ap (refusal g here i its is reached m st live ((clear.stood).at).stands (clear.stood).tip block) j)
-            by_judged Passed j its_stop = its_stop
-            by_judged Applied j its_stop = by_stage st.participation.stage its_stop
-
-        carried_none : (own : Fault) → ((info : EpochInfo directory.Unit) → IsOwnCause s.script (next_epoch s.script block) info own → ⊥) → OnCarried (Some block) (λ info. IsOwnCause s.script (next_epoch s.script block) info own) → ⊥
-        carried_none own never why = none_carried (λ info. IsOwnCause s.script (next_epoch s.script block) info own) (Some block) never why
-
-        block_never : (own : Fault) → Stops own → IsBlockOwn s.script l life i block own → ⊥
-        block_never (LocalState (ShareRefused epoch)) stop (inl next) = next_never (LocalState (ShareRefused epoch)) tt next.0 stop
-        block_never (LocalState (ShareRefused epoch)) stop (inr dealing) = dealing.1
-        block_never (LocalState (StoredDealing epoch dealer)) stop (inl next) = next_never (LocalState (StoredDealing epoch dealer)) tt next.0 stop
-        block_never (LocalState (StoredDealing epoch dealer)) stop (inr dealing) = dealing.1
-        block_never (LocalState (OwnDealing epoch kept dealt)) stop (inl next) = carried_none (LocalState (OwnDealing epoch kept dealt)) (λ info so. so) next.1
-        block_never (LocalState (OwnDealing epoch kept dealt)) stop (inr dealing) = dealing_never epoch kept dealt dealing.0 stop
-        block_never own stop (inl next) = carried_none own (λ info so. so) next.1
-        block_never own stop (inr dealing) = dealing.1
+      -- what of it the script names
+      own_local : (own : Fault) → IsOwn s.script l life (suc i) own → IsLocal own
+      own_local own its_own = by_event its (at_there (λ e. OnBlock s.script e (λ b. IsBlockOwn s.script l life i b own)) (slice_get life.events i) its is its_own)
+        where
+          by_event : (e : Event) → OnBlock s.script e (λ b. IsBlockOwn s.script l life i b own) → IsLocal own
+          by_event (event.Final number) on = some_there (λ b. IsBlockOwn s.script l life i b own) (IsLocal own) (slice_get (blocks_in s.script) number) (λ b. block_local s.script l life i b own) on
+          by_event other on = absurd on
 
       -- ANY STEP stops by a fault from outside alone
-      step_never : (own : Fault) → IsStepStop c st m.message w.held (held_at_setup c m.message w.held) own → IsFromOutside own
-      step_never own stop = either (step_why g here i its is reached st clear.stood w.held (held_at_setup c m.message w.held) own stop)
+      step_never : (own : Fault) → IsStopThrough c (mine s) st m.message (Some w.held) own → IsFromOutside own
+      step_never own stop = either (step_why g here i its is reached st clear.stood (mine s) (Some w.held) own stop)
         where
-          by_event : (e : Event) → slice_get life.events i ≡ Some e → (message : Message directory.Unit) → Brings g e message → IsStepStop c st message w.held (held_at_setup c message w.held) own
-              → OnBlock s.script e (λ b. IsBlockOwn s.script l life i b own) → ⊥
-          by_event (event.Final number) there message brings its_stop on =
-              block_never number there (brings.0).block (brings.0).is own (subst (λ (x : Message directory.Unit). IsStepStop c st x w.held (held_at_setup c x w.held) own) brings.1 its_stop)
-              (at_there (λ b. IsBlockOwn s.script l life i b own) (slice_get (blocks_in s.script) number) (brings.0).block (brings.0).is on)
-          by_event other there message brings its_stop on = on
+          never : IsLocal own → ⊥
+          never (cause, is_it) = local_never cause (subst (IsStopThrough c (mine s) st m.message (Some w.held)) is_it stop)
 
           either : IsWhy s.script l life (suc i) own → IsFromOutside own
           either (inl out) = out
-          either (inr (inl cause)) = absurd (cause_clear (suc i) reached all_come own cause)
-          either (inr (inr its_own)) = absurd (by_event its is m.message m.brings stop (at_there (λ e. OnBlock s.script e (λ b. IsBlockOwn s.script l life i b own)) (slice_get life.events i) its is its_own))
+          either (inr (inl (inl cause))) = absurd (cause_clear (suc i) reached all_come own cause)
+          either (inr (inl (inr may))) = absurd (may_clear (suc i) reached own may)
+          either (inr (inr (inl its_own))) = absurd (never (own_local own its_own))
+          either (inr (inr (inr asked))) = absurd (never (asked_local s.script (awaited_epoch (alone s.script) l life i) own asked.1))
 
-      step_leaves : (ended : Ended NodeStop (Live directory.Unit)) (new : World) → EndsSo (step_of g (suc i) its st) ended w new
-          → LeavesSo (ValidHeld s ends form valid.consistent) (IsOwning s ends form valid.consistent l life seen files life_is here records secrets (suc i)) ended new.held → LeavesClear HoldsAll (IsClearAt (suc i)) ended new.held
-      step_leaves ended new run left = by_end ended left (step_fits s ends form valid.consistent l life seen files life_is secrets here i its is reached st (clear.stood).at w clear.shares ended new run)
-          (node_steps_lead_over c st m.message ended w new (form_at g here (suc i)) taken live ((clear.stood).at).active (subst (λ (course : Course directory.Unit NodeStop (Live directory.Unit)). EndsSo course ended w new) (m.course (suc i) st) run))
+      abbrev Leaves : Ended NodeStop (Live directory.Unit) → Held → Type 0
+      Leaves ended h = LeavesSo (ValidHeld s ends form valid.consistent) (IsOwning s ends form valid.consistent l life seen files life_is here records secrets (suc i)) ended h
+
+      step_leaves : (ended : Ended NodeStop (Live directory.Unit)) (new : World) → EndsSo (step_of g (suc i) its st) ended w new → Leaves ended new.held → LeavesClear HoldsAll (IsClearAt (suc i)) ended new.held
+      step_leaves ended new run left = by_end ended left (step_fits s ends form valid.consistent l life seen files life_is secrets here i its is reached st active clear.fitting w clear.shares ended new run)
+          (step_fitting s ends form valid.consistent l life seen files life_is secrets here i its is reached st active clear.fitting w clear.shares ended new run)
+          (step_comes s ends form valid.consistent l life seen files life_is secrets here i its is reached st active clear.fitting w clear.shares ended new run)
+          (node_steps_lead_through_over c any_shares st m.message ended w new (through_at g here (suc i)) (lacks_nobody g (suc i)) (λ h epoch found. tt) (step_taken g its m.message m.brings c st) live active
+          (subst (λ (course : Course directory.Unit NodeStop (Live directory.Unit)). EndsSo course ended w new) (m.course (suc i) st) run))
         where
-          by_end : (ended : Ended NodeStop (Live directory.Unit)) → LeavesSo (ValidHeld s ends form valid.consistent) (IsOwning s ends form valid.consistent l life seen files life_is here records secrets (suc i)) ended new.held → SharesFit s new.held
-              → CameTo (IsFaultBy (IsStepStop c st m.message w.held (held_at_setup c m.message w.held)))
-              (λ end. IsNextIn c st m.message w.held (held_at_setup c m.message w.held) end × IsActiveIn end × LeavesTaken c st m.message (held_at_setup c m.message w.held) new.held) ended
+          active : IsActiveThrough st
+          active = ((clear.stood).at).active
+
+          Comes : OfShares → Ended NodeStop (Live directory.Unit) → Type 0
+          Comes stored ended = CameTo (IsFaultBy (IsStopThrough c stored st m.message (Some w.held))) (λ end. IsNodeThrough c stored st m.message (Some w.held) end (Some new.held)) ended
+
+          by_end : (ended : Ended NodeStop (Live directory.Unit)) → Leaves ended new.held → SharesFit s new.held → CameTo (λ stop. Unit {0}) (IsFitting s c) ended → Comes (mine s) ended → Comes any_shares ended
               → LeavesClear HoldsAll (IsClearAt (suc i)) ended new.held
-          by_end (went end) left shares came =
-              record { owns = left; stood = step_next g here i its is reached st clear.stood w.held (held_at_setup c m.message w.held) end came.0 came.1; shares = shares }
-          by_end (stopped stop) left shares came = (record { given = left; shares = shares }, λ own is. subst IsFromOutside (own_fault (sym came.1 ∙ is)) (step_never came.0 came.2))
-          by_end (broken cause) left shares came = record { given = left; shares = shares }
+          by_end (went end) left shares fitting came stands = record {
+            owns = left;
+            stood = step_next g here i its is reached st clear.stood (Some w.held) end (Some new.held) stands;
+            fitting = fitting;
+            shares = shares;
+          }
+          by_end (stopped stop) left shares fitting came stands = (record { given = left; shares = shares }, λ own is. subst IsFromOutside (own_fault (sym came.1 ∙ is)) (step_never came.0 came.2))
+          by_end (broken cause) left shares fitting came stands = record { given = left; shares = shares }
 
     step_keeps : (i : ℕ) (its : Event) (st : Live directory.Unit) (h : Held) → slice_get life.events i ≡ Some its → IsReached life.cut (suc i) → IsClearAt i st h → KeepsClear HoldsAll (IsClearAt (suc i)) (step_of g (suc i) its st) h
     step_keeps i its st h is reached clear ended w new at run =

@@ -30,7 +30,6 @@ use Rattle.dkg_run.specs.Lives.{LivesSo, RunsOver, never}
 use Rattle.dkg_script.specs.Valid.{IsValidCase}
 use Rattle.dkg_run.specs.Ways.{by_worlds}
 use Rattle.dkg_run.proofs.ClearLives.{HoldsAll, life_holds_all}
-use Rattle.dkg_run.proofs.OwnBacked.{with_share}
 use Rattle.dkg_run.proofs.Completing.{names_none}
 use Rattle.dkg_run.proofs.EachLife.{worlds_over}
 use Rattle.dkg_run.proofs.EndsTold.{ends_are_told}
@@ -82,7 +81,7 @@ module _ (script : Script) (form : IsFormOfInclusion script) (checked : IsChecke
             valid.devices.stores.whole,
             λ key pair round low got made. valid.devices.agree.dealings key.0 key.1 pair.0 pair.1 round low got made,
           ),
-          λ key pair mine got. with_share s form w.held.secrets key pair (λ round made. valid.devices.agree.own key.0 pair.0 pair.1 round (ap (λ (n : ℕ). get (recovered_in w.held) (key.0, n)) (sym mine) ∙ got) made),
+          λ key pair mine got round made. valid.devices.agree.own key.0 pair.0 pair.1 round (ap (λ (n : ℕ). get (recovered_in w.held) (key.0, n)) (sym mine) ∙ got) made,
         );
         shares = λ epoch share got info known. valid.devices.agree.shares epoch share info got known;
       }

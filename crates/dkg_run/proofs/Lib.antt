@@ -36,6 +36,7 @@ pub mod Following
 pub mod Former
 pub mod FoundRun
 pub mod FoundSteps
+pub mod GivenItself
 pub mod GivingDealings
 pub mod GivingLives
 pub mod GivingValid

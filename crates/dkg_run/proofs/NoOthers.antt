@@ -456,7 +456,7 @@ module _ {Dir : Type 0} (c : Fixed Dir) (m0 : Pairs) (own : ℕ × ℕ → List 
           (λ e. offers_end ps st (says w (Offer round.number p.0 public p.1)) a (tells_line m0 base w (Offer round.number p.0 public p.1) t))
 
 -- what a life deals to itself is among what it offers
-fine_of : {Dir : Type 0} (c : Fixed Dir) (st : Live Dir) (round : Round) (dealer : Dealer) → st.participation.round ≡ Some round → st.participation.dealer ≡ Some dealer → (ps : List (ℕ × ℕ))
+pub fine_of : {Dir : Type 0} (c : Fixed Dir) (st : Live Dir) (round : Round) (dealer : Dealer) → st.participation.round ≡ Some round → st.participation.dealer ≡ Some dealer → (ps : List (ℕ × ℕ))
     → AllByRecursion (IsUnsent dealer.acks dealer.privates round.players) ps → AllByRecursion (λ (p : ℕ × ℕ). p.0 ≡ c.me → IsOwnDealt c st (round.number, c.me) (dealer.public, p.1)) ps
 fine_of c st round dealer of_epoch of_dealer [] all = tt
 fine_of c st round dealer of_epoch of_dealer (p ∷ ps) all = (

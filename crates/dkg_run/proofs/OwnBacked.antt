@@ -1,16 +1,14 @@
 -- This node's own dealings that the devices give back stay what this node's share and the stored seed deal: over an opening of the form, over a block and over a message, wherever each ends.
 use Rattle.std.proofs.Common.{◌≡◌, ◌⊎◌, inl, inr, ◌≤◌, ℕ, List, Option, Some, None, Result, Ok, Err, refl, sym, ◌∙◌, ap, subst, arith}
-use Rattle.std.specs.Prelude.{◌-◌, IfOk, if◌then◌else◌, not, option_and_then}
+use Rattle.std.specs.Prelude.{◌-◌, IfOk, option_and_then}
 use Rattle.std.specs.Result.{result_ok}
 use Rattle.std.specs.FinMap.{get, insert, nat_cmp-IsAntisymmetric}
 use Rattle.std.specs.Cmp.{nat_cmp_total}
 use Rattle.dkg_values.specs.Rising.{lookup}
-use Rattle.dkg_ceremony.specs.Deals.{deal_of, is_share_of}
+use Rattle.dkg_ceremony.specs.Deals.{deal_of}
 use Rattle.dkg_ceremony.specs.RoundLaws as rounds
 use Rattle.dkg_ceremony.specs.Rounds.{round_of}
 use Rattle.dkg_ceremony.specs.Schedule.{epoch_of}
-use Rattle.dkg_ceremony.specs.declared.deal.DealError.{DealError}
-use Rattle.dkg_ceremony.specs.declared.deal.DealError.TheVariants as deal
 use Rattle.dkg_ceremony.specs.declared.mode.Reveal.TheVariants.{V1}
 use Rattle.dkg_ceremony.specs.declared.output.Output.{Output}
 use Rattle.dkg_ceremony.specs.declared.round.RoundParts.{RoundParts as Round}
@@ -95,25 +93,6 @@ module _ (s : Setting) (form : IsFormOfInclusion s.script) where
       by_info : (o : Option Info) → option_and_then (reshare_round s epoch) o ≡ Some round → (o : Output) × (round.previous ≡ Some o)
       by_info None is = absurd (none_some is)
       by_info (Some info) is = by_round info (round_of s.script.config.namespace epoch (Some info.output) s.script.config.mode V1 info.output.players info.players) refl is
-
-  no_deal : (round : Round) (o : Output) (seed : List ℕ) (dealt : List ℕ × List (ℕ × ℕ)) → round.previous ≡ Some o → deal_of round (me s) None seed ≡ Ok dealt → ⊥
-  unfolding deal_of
-  no_deal round o seed dealt is deals = refused _ round.previous is deals
-    where
-      refused : (x : List ℕ × List (ℕ × ℕ)) (p : Option Output) → p ≡ Some o → ◌≡◌ {A = Result (List ℕ × List (ℕ × ℕ)) DealError} (if not (is_share_of p (me s) None) then Err deal.ShareRefused else Ok x) (Ok dealt) → ⊥
-      refused x None same deals = none_some same
-      refused x (Some other) same deals = let no : ◌≡◌ {A = Result (List ℕ × List (ℕ × ℕ)) DealError} (Err deal.ShareRefused) (Ok dealt) = deals in cc
-
-  -- what the held share deals, a share deals
-  pub with_share : (t : Secrets) (key : ℕ × ℕ) (pair : List ℕ × ℕ)
-      → ((round : Round) → round_at s key.0 ≡ Some round → (seed : List ℕ) × (privates : List (ℕ × ℕ)) × (get t.seeds key.0 ≡ Some seed) × (deal_of round (me s) (get t.shares key.0) seed ≡ Ok (pair.0, privates)))
-      → (round : Round) → round_at s key.0 ≡ Some round → (seed : List ℕ) × (share : ℕ) × (privates : List (ℕ × ℕ)) × (get t.seeds key.0 ≡ Some seed) × (deal_of round (me s) (Some share) seed ≡ Ok (pair.0, privates))
-  with_share t key pair backed round made = let its = backed round made in by_share its.0 its.1 its.2 (get t.shares key.0) its.3
-    where
-      by_share : (seed : List ℕ) (privates : List (ℕ × ℕ)) → get t.seeds key.0 ≡ Some seed → (o : Option ℕ) → deal_of round (me s) o seed ≡ Ok (pair.0, privates)
-          → (seed : List ℕ) × (share : ℕ) × (privates : List (ℕ × ℕ)) × (get t.seeds key.0 ≡ Some seed) × (deal_of round (me s) (Some share) seed ≡ Ok (pair.0, privates))
-      by_share seed privates there None deals = let previous = has_previous key.0 round made in absurd (no_deal round previous.0 seed (pair.0, privates) previous.1 deals)
-      by_share seed privates there (Some share) deals = (seed, share, privates, there, deals)
 
   -- ITS OWN DEALINGS among these are what a share deals, and the seed that these secrets hold. (There is one share that something is dealt with.)
 

@@ -29,6 +29,7 @@ use Rattle.dkg_types.specs.declared.outcome.EpochOutcome.TheVariants.{Success, F
 use Rattle.dkg_secrets.specs.Keys.{key_cmp}
 use Rattle.dkg_secrets.proofs.Map.{keys_total}
 use Rattle.dkg_store.specs.Acts.{Held}
+use Rattle.dkg_store.specs.Pairs.{Pairs}
 use Rattle.dkg_store.specs.Recorded.{Pair, first_refused, refused_or}
 use Rattle.dkg_script.proofs.Listed.{each_found}
 use Rattle.dkg_core.specs.Forms.{IsSetupFault}
@@ -68,6 +69,24 @@ module _ (check : ℕ → List ℕ → ℕ → Result (Unit {0}) DealingError) (
 all_map : {X : Type 0} (P Q : X → Type 0) (xs : List X) → ((x : X) → P x → Q x) → AllByRecursion P xs → AllByRecursion Q xs
 all_map P Q [] leads all = tt
 all_map P Q (x ∷ xs) leads all = (leads x all.0, all_map P Q xs leads all.1)
+
+-- NO STORED DEALING of a round is refused where each one of it passes
+pub none_refused_in : (me : ℕ) (round : Round) (st : Live directory.Unit) (pairs : Pairs) → st.records.dealings ≡ maps.entries pairs
+    → ((who : ℕ) (pair : List ℕ × ℕ) → who < 2 ^ 32 → get pairs (round.number, who) ≡ Some pair → dealing_of round me who pair.0 pair.1 ≡ Ok tt)
+    → first_refused (λ d. dealing_of round me d) (pairs_of st round.number) ≡ None
+none_refused_in me round st pairs same passes =
+    ap (λ (ps : List Pair). first_refused (λ d. dealing_of round me d) (filter (λ p. (p.0.0 == round.number) && nat_lt p.0.1 (2 ^ 32)) ps)) same
+    ∙ none_refused (λ d. dealing_of round me d) round.number (pairs_in pairs)
+    (all_map (λ x. find key_cmp x.0 (pairs_in pairs) ≡ Some x.1) _ (pairs_in pairs) each (each_found keys_total (pairs_in pairs) (entries_sorted pairs)))
+  where
+    is_low : (q : ℕ) → nat_lt q (2 ^ 32) ≡ true → q < 2 ^ 32
+    is_low q e = grind (arith, nat_tests)
+
+    each : (x : Pair) → find key_cmp x.0 (pairs_in pairs) ≡ Some x.1 → ((x.0.0 == round.number) && nat_lt x.0.1 (2 ^ 32)) ≡ true → dealing_of round me x.0.1 x.1.0 x.1.1 ≡ Ok tt
+    each x there test =
+        let parts = and_parts (x.0.0 == round.number) (nat_lt x.0.1 (2 ^ 32)) test in
+        let at : get pairs (round.number, x.0.1) ≡ Some x.1 = subst (λ (e : ℕ). get pairs (e, x.0.1) ≡ Some x.1) (eqb-true x.0.0 round.number parts.0) (get-entries pairs x.0 ∙ there) in
+        passes x.0.1 x.1 (is_low x.0.1 parts.1) at
 
 -- A SHARE that fits
 
@@ -155,24 +174,6 @@ module _ (g : Lived) (taken : ℕ) (epoch : ℕ) (info : EpochInfo directory.Uni
           let has : HasShare round.previous me share = subst (λ (p : Option Output). HasShare p me share) (sym previous) (subst (λ (o : Option ℕ). IsSomeAnd o (λ s. partial_public_of info.output me ≡ Some (share_public_of s))) (sym there) (fits its there)) in
           (shares_are_dealt round me share seed).1 has refused
 
-  -- NO STORED DEALING of a round is refused where each one passes that is given back
-  pub none_refused_in : (round : Round) (st : Live directory.Unit) (now : Held) → st.records.dealings ≡ maps.entries (recovered_in now)
-      → ((who : ℕ) (pair : List ℕ × ℕ) → who < 2 ^ 32 → get (recovered_in now) (round.number, who) ≡ Some pair → dealing_of round me who pair.0 pair.1 ≡ Ok tt)
-      → first_refused (λ d. dealing_of round me d) (pairs_of st round.number) ≡ None
-  none_refused_in round st now same passes =
-      ap (λ (ps : List Pair). first_refused (λ d. dealing_of round me d) (filter (λ p. (p.0.0 == round.number) && nat_lt p.0.1 (2 ^ 32)) ps)) same
-      ∙ none_refused (λ d. dealing_of round me d) round.number (pairs_in (recovered_in now))
-      (all_map (λ x. find key_cmp x.0 (pairs_in (recovered_in now)) ≡ Some x.1) _ (pairs_in (recovered_in now)) each (each_found keys_total (pairs_in (recovered_in now)) (entries_sorted (recovered_in now))))
-    where
-      is_low : (q : ℕ) → nat_lt q (2 ^ 32) ≡ true → q < 2 ^ 32
-      is_low q e = grind (arith, nat_tests)
-
-      each : (x : Pair) → find key_cmp x.0 (pairs_in (recovered_in now)) ≡ Some x.1 → ((x.0.0 == round.number) && nat_lt x.0.1 (2 ^ 32)) ≡ true → dealing_of round me x.0.1 x.1.0 x.1.1 ≡ Ok tt
-      each x there test =
-          let parts = and_parts (x.0.0 == round.number) (nat_lt x.0.1 (2 ^ 32)) test in
-          let at : get (recovered_in now) (round.number, x.0.1) ≡ Some x.1 = subst (λ (e : ℕ). get (recovered_in now) (e, x.0.1) ≡ Some x.1) (eqb-true x.0.0 round.number parts.0) (get-entries (recovered_in now) x.0 ∙ there) in
-          passes x.0.1 x.1 (is_low x.0.1 parts.1) at
-
   -- A STORED DEALING is refused only where one that is given back is
   pub stored_pass : (share : Option ℕ) (seed : List ℕ) (st : Live directory.Unit) (now : Held) (number dealer : ℕ) → st.records.dealings ≡ maps.entries (recovered_in now)
       → ((round : Round) (who : ℕ) (pair : List ℕ × ℕ) → (at_step g taken).rules.round_of (at_step g taken).namespace epoch (Some info.output) (at_step g taken).mode (at_step g taken).reveal info.output.players info.players ≡ Ok round
@@ -180,7 +181,7 @@ module _ (g : Lived) (taken : ℕ) (epoch : ℕ) (info : EpochInfo directory.Uni
       → IsSetupFault (at_step g taken) epoch info share seed st (LocalState (StoredDealing number dealer)) → ⊥
   unfolding at_step
   stored_pass share seed st now number dealer same passes why =
-      none_some dealer (sym (none_refused_in why.1.2.0 st now same (λ who pair low at. passes why.1.2.0 who pair why.1.2.1 low at)) ∙ why.1.2.2.2)
+      none_some dealer (sym (none_refused_in me why.1.2.0 st (recovered_in now) same (λ who pair low at. passes why.1.2.0 who pair why.1.2.1 low at)) ∙ why.1.2.2.2)
 
 -- THIS NODE'S OWN dealing is what the same share and seed deal
 pub own_same : (round : Round) (me : ℕ) (share : Option ℕ) (seed kept dealt : List ℕ) (privates others : List (ℕ × ℕ)) → deal_of round me share seed ≡ Ok (kept, privates) → deal_of round me share seed ≡ Ok (dealt, others) → kept ≡ dealt

@@ -1,14 +1,13 @@
 -- Over valid devices no setup of a life of a consistent script stops by this node's own state.
-use Rattle.std.proofs.Common.{◌≡◌, ℕ, suc, ◌+◌, ◌==◌, ◌<◌, ◌^◌, ◌++◌, List, Option, Some, None, Ok, true, arith, refl, sym, ap, subst, ◌∙◌, add-one}
+use Rattle.std.proofs.Common.{◌≡◌, ℕ, ◌==◌, ◌<◌, ◌^◌, ◌++◌, List, Option, Some, None, Ok, refl, sym, ap, subst, ◌∙◌}
 use Rattle.std.specs.Prelude.{find, option_and_then, option_map, option_to_list, slice_get, IsSomeAnd}
 use Rattle.std.specs.FinMap as maps
 use Rattle.std.specs.FinMap.{get}
 use Rattle.std.specs.Result.{result_ok}
-use Rattle.std.proofs.lemmas.Bool.Decides.{nat_tests}
 use Rattle.dkg_ceremony.specs.Dealings.{dealing_of}
 use Rattle.dkg_ceremony.specs.PartialPublics.{partial_public_of, share_public_of}
 use Rattle.dkg_ceremony.specs.Rounds.{round_of}
-use Rattle.dkg_ceremony.specs.Schedule.{boundary, epoch_of, last}
+use Rattle.dkg_ceremony.specs.Schedule.{boundary}
 use Rattle.dkg_ceremony.specs.declared.mode.Reveal.TheVariants.{V1}
 use Rattle.dkg_ceremony.specs.declared.round.RoundParts.{RoundParts as Round}
 use Rattle.dkg_journal.specs.Names.{Files}
@@ -20,7 +19,6 @@ use Rattle.dkg_types.specs.declared.fault.Fault.{Fault}
 use Rattle.dkg_types.specs.declared.fault.Fault.TheVariants.{LocalState}
 use Rattle.dkg_types.specs.declared.fault.LocalCause.TheVariants.{ShareRefused, StoredDealing}
 use Rattle.dkg_types.specs.declared.info.EpochInfo.{EpochInfo}
-use Rattle.dkg_text.specs.declared.script.Event.TheVariants as event
 use Rattle.dkg_text.specs.declared.script.Life.{Life}
 use Rattle.dkg_script.specs.Blocks.{anchor_number, known_info, reshare_round, round_at}
 use Rattle.dkg_script.specs.Consistent.{IsConsistentScript}
@@ -32,15 +30,12 @@ use Rattle.dkg_core.specs.Forms.{IsOpeningStop, IsSetupFault, seed_read, share_r
 use Rattle.dkg_core.specs.Heard.{recovered_in}
 use Rattle.dkg_core.specs.Live.{Live}
 use Rattle.dkg_core.specs.Seen.{Seen}
-use Rattle.dkg_core.specs.Stepping.{IsTakeoverStop, next_epoch as next_of, taken_over}
 use Rattle.dkg_core.specs.Endings.{OnInfo, first_block, first_epoch}
 use Rattle.dkg_run.specs.Given.{Lived, at_step, blocks_in, lived}
-use Rattle.dkg_run.proofs.Awaiting.{IsReached, comes_to}
-use Rattle.dkg_run.proofs.Drawn.{Begins, Numbered, found_number, held_begin, info_known, round_is, used_begin}
+use Rattle.dkg_run.proofs.Drawn.{Numbered, found_number, held_begin, info_known, round_is}
 use Rattle.dkg_run.proofs.Former.{is_ceremony, made_there}
 use Rattle.dkg_run.proofs.OwnClear.{recovered_fits, share_serves, stored_pass}
 use Rattle.dkg_run.proofs.Started.{source_is}
-use Rattle.dkg_run.proofs.Used.{of_delivered}
 
 -- What these devices hold is valid: each share of an epoch whose info the script has is this node's in its output, and each dealing of an epoch whose round it has passes.
 pub record AreValidAt (s : Setting) (h : Held) : Type 0 where
@@ -117,33 +112,3 @@ module _ (s : Setting) (cuts : List (Option CutAt)) (form : IsFormOfInclusion s.
     opening_valid (LocalState (ShareRefused number)) of_state stop = on_info (LocalState (ShareRefused number)) of_state (λ info why. why.1.0) stop
     opening_valid (LocalState (StoredDealing number dealer)) of_state stop = on_info (LocalState (StoredDealing number dealer)) of_state (λ info why. why.1.0) stop
     opening_valid its of_state stop = absurd of_state
-
-  -- A FOLLOWER'S LAST BLOCK, number j of its events
-  module _ (j number : ℕ) (b : made.Block directory.Unit) (is : slice_get life.events j ≡ Some (event.Final number)) (reached : IsReached life.cut (suc j)) (there : slice_get (blocks_in s.script) number ≡ Some b)
-      (ends : (b.height == last (blocks_per_epoch s) (epoch_of (blocks_per_epoch s) b.height)) ≡ true) (st : Live directory.Unit) (h k : Held) (valid : AreValidAt s k) (reads : ((at_step g (suc j)).seen k).shares ≡ maps.entries k.secrets.shares)
-      (gives : st.records.dealings ≡ maps.entries (recovered_in k)) where
-    last_there : b.height ≡ boundary (blocks_per_epoch s) (epoch_of (blocks_per_epoch s) b.height + 1)
-    last_there = same b.height (last (blocks_per_epoch s) (epoch_of (blocks_per_epoch s) b.height)) ends ∙ ap (boundary (blocks_per_epoch s)) (sym (add-one (epoch_of (blocks_per_epoch s) b.height)))
-      where
-        same : (x y : ℕ) → (x == y) ≡ true → x ≡ y
-        same x y e = grind (arith, nat_tests)
-
-    next_valid_in : (its : Fault) → IsStateFault its
-        → IsSomeAnd (info_of b.payload) (λ info. (info.epoch ≡ next_of (at_step g (suc j)) b) × IsSetupFault (at_step g (suc j)) (next_of (at_step g (suc j)) b) info (share_read (at_step g (suc j)) info k) (seed_read (at_step g (suc j)) info k)
-        (taken_over (at_step g (suc j)) b info (share_read (at_step g (suc j)) info h) st) its) → ⊥
-    unfolding at_step
-    next_valid_in its of_state why = by_info (info_of b.payload) refl why
-      where
-        by_info : (o : Option (EpochInfo directory.Unit)) → info_of b.payload ≡ o
-            → IsSomeAnd o (λ info. (info.epoch ≡ next_of (at_step g (suc j)) b) × IsSetupFault (at_step g (suc j)) (next_of (at_step g (suc j)) b) info (share_read (at_step g (suc j)) info k) (seed_read (at_step g (suc j)) info k)
-            (taken_over (at_step g (suc j)) b info (share_read (at_step g (suc j)) info h) st) its) → ⊥
-        by_info None carries why = absurd why
-        by_info (Some info) carries why =
-            setup_valid (suc j) (next_of (at_step g (suc j)) b) info
-            (known_at number b there (of_delivered s l life (Begins s cuts form consistent) life_is (used_begin s cuts form consistent) j number (comes_to life.cut life.events j reached ∙ is)) info carries (last_there ∙ ap (boundary (blocks_per_epoch s)) (sym why.0)))
-            k valid reads (seed_read (at_step g (suc j)) info k) (taken_over (at_step g (suc j)) b info (share_read (at_step g (suc j)) info h) st) gives its of_state why.1
-
-    pub next_valid : (its : Fault) → IsStateFault its → IsTakeoverStop (at_step g (suc j)) b st h k its → ⊥
-    next_valid (LocalState (ShareRefused number)) of_state stop = next_valid_in (LocalState (ShareRefused number)) of_state stop
-    next_valid (LocalState (StoredDealing number dealer)) of_state stop = next_valid_in (LocalState (StoredDealing number dealer)) of_state stop
-    next_valid its of_state stop = absurd of_state

@@ -42,9 +42,9 @@ use Rattle.dkg_core.specs.NodeEndings.{IsFaultBy}
 use Rattle.dkg_core.specs.NodeThrough.{IsActiveThrough, IsNodeThrough}
 use Rattle.dkg_core.specs.Same.{same_info}
 use Rattle.dkg_core.specs.SharesMoved.{IsSuchShare}
-use Rattle.dkg_core.specs.Through.{IsCarriedOn, IsLiveThrough, IsStopThrough}
+use Rattle.dkg_core.specs.Through.{IsCarriedOn, IsLiveThrough, IsShareTaken, IsStopThrough}
 use Rattle.dkg_core.specs.Including.{can_finish}
-use Rattle.dkg_core.specs.Live.{Artifact, Finalized, Live, Message, NodeStop, Peer, Sent, is_last_height, with_orchestrator}
+use Rattle.dkg_core.specs.Live.{Artifact, Deals, Ends, Finalized, Follows, Includes, Live, Message, NodeStop, Peer, Sent, Stage, is_last_height, with_orchestrator}
 use Rattle.dkg_core.specs.Node.{node_opening, node_step}
 use Rattle.dkg_core.specs.Seen.{Seen}
 use Rattle.dkg_core.specs.Setup.{Uncommitted, recovered_share}
@@ -329,6 +329,31 @@ module _ (s : Setting) (cuts : List (Option CutAt)) (form : IsFormOfInclusion s.
               subst (λ (x : Info). partial_public_of x.output (me s) ≡ Some (share_public_of share)) same
               (artifact_fits s l life seen files (suc i) its_share.2.0 its_share.2.1 (can_finish c its_share.2.0 (canonical c st) st) (canonical c st) its_share.2.4.0 its_share.2.4.1 current info share its_share.2.4.2)
 
+      -- so is the share that is carried on with a last block's info
+      pub share_mine : (number : ℕ) → its ≡ event.Final number → (block : made.Block directory.Unit) → slice_get (blocks_in s.script) number ≡ Some block → is_last_height c block.height ≡ true
+          → (on : IsCarriedOn c (mine s) block st (Some w.held)) → IfSome on.share (IsMineAt s (on.info).epoch)
+      share_mine number of block there last_one on = by_stage st.participation.stage refl on.shared
+        where
+          made_of : (share : ℕ) → on.share ≡ Some share → IsShareTaken c (mine s) st on.h on.info on.share Includes → IsMineAt s (on.info).epoch share
+          made_of share is (round, current, of_round, of_current, (artifact, of_logs, same)) =
+              such_mine number of block there (on.info).epoch share
+              (last_one, subst (λ (o : Option (EpochInfo directory.Unit)). IsSomeAnd o (Of block (on.info).epoch share)) (sym on.carried) (refl, on.of_next, (round, current, of_round, of_current, (artifact, of_logs, sym same ∙ is))))
+
+          by_share : (o : Option ℕ) → on.share ≡ o → IsShareTaken c (mine s) st on.h on.info on.share Includes → IfSome o (IsMineAt s (on.info).epoch)
+          by_share None is taken = tt
+          by_share (Some share) is taken = made_of share is taken
+
+          by_stage : (stage : Stage) → st.participation.stage ≡ stage → IsShareTaken c (mine s) st on.h on.info on.share st.participation.stage → IfSome on.share (IsMineAt s (on.info).epoch)
+          by_stage stage at taken = in_stage stage (subst (IsShareTaken c (mine s) st on.h on.info on.share) at taken)
+            where
+              in_stage : (stage : Stage) → IsShareTaken c (mine s) st on.h on.info on.share stage → IfSome on.share (IsMineAt s (on.info).epoch)
+              in_stage Follows read =
+                  subst (λ (o : Option ℕ). IfSome o (IsMineAt s (on.info).epoch)) (sym read)
+                  (last_serves i number (is ∙ ap (λ (e : Event). Some e) of) reached block there last_one on.info on.carried on.of_next on.h (subst (SharesFit s) (sym on.found) q))
+              in_stage Includes made = by_share on.share refl made
+              in_stage Deals no = absurd no
+              in_stage Ends no = absurd no
+
       pub step_fits : (ended : Ended NodeStop (Live directory.Unit)) (new : World) → EndsSo (step_of g (suc i) its st) ended w new → SharesFit s new.held
       step_fits ended new run = by_kind (brings_kind g its m.message m.brings)
         where
@@ -373,11 +398,15 @@ module _ (s : Setting) (cuts : List (Option CutAt)) (form : IsFormOfInclusion s.
           either (inl on) = subst (λ (o : Option (EpochInfo directory.Unit)). IsSomeAnd o (IsScripts s)) (sym on.same.current) (fitting.known round (sym on.same.round ∙ of))
           either (inr over) = taken over
 
+      -- where it comes to
+      pub step_comes : (ended : Ended NodeStop (Live directory.Unit)) (new : World) → EndsSo (step_of g (suc i) its st) ended w new
+          → CameTo (IsFaultBy (IsStopThrough c (mine s) st m.message (Some w.held))) (λ end. IsNodeThrough c (mine s) st m.message (Some w.held) end (Some new.held)) ended
+      step_comes ended new run =
+          node_steps_lead_through_over c (mine s) st m.message ended w new (through_at g here (suc i)) (lacks_nobody g (suc i)) (step_reads c (mine s) w.held (reads_secrets i) (said_of (suc i) w.held q))
+          (step_taken g its m.message m.brings c st) live active (its_run ended new run)
+
       pub step_fitting : (ended : Ended NodeStop (Live directory.Unit)) (new : World) → EndsSo (step_of g (suc i) its st) ended w new → CameTo (λ stop. Unit {0}) (IsFitting s c) ended
-      step_fitting ended new run =
-          by_end ended
-          (node_steps_lead_through_over c (mine s) st m.message ended w new (through_at g here (suc i)) (lacks_nobody g (suc i)) (step_reads c (mine s) w.held (reads_secrets i) (said_of (suc i) w.held q))
-          (step_taken g its m.message m.brings c st) live active (its_run ended new run))
+      step_fitting ended new run = by_end ended (step_comes ended new run)
         where
           by_end : (e : Ended NodeStop (Live directory.Unit)) → CameTo (IsFaultBy (IsStopThrough c (mine s) st m.message (Some w.held))) (λ end. IsNodeThrough c (mine s) st m.message (Some w.held) end (Some new.held)) e
               → CameTo (λ stop. Unit {0}) (IsFitting s c) e

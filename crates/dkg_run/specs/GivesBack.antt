@@ -38,10 +38,10 @@ limit_in script = non_zero_u32_get script.config.limit
 abbrev pub PassesAll : Setting → Pairs → Type 0
 PassesAll s pairs = (key : ℕ × ℕ) (pair : List ℕ × ℕ) (round : Round) → key.1 < 2 ^ 32 → get pairs key ≡ Some pair → round_at s key.0 ≡ Some round → dealing_of round (me s) key.1 pair.0 pair.1 ≡ Ok tt
 
--- Each dealing among these of this node itself, of such an epoch, is what these secrets deal.
+-- Each dealing among these of this node itself, of such an epoch, is what the seed that these secrets hold deals with some share.
 abbrev pub OwnDealt : Setting → Pairs → Secrets → Type 0
 OwnDealt s pairs held = (key : ℕ × ℕ) (pair : List ℕ × ℕ) → key.1 ≡ me s → get pairs key ≡ Some pair → (round : Round) → round_at s key.0 ≡ Some round
-    → (seed : List ℕ) × (privates : List (ℕ × ℕ)) × (get held.seeds key.0 ≡ Some seed) × (deal_of round (me s) (get held.shares key.0) seed ≡ Ok (pair.0, privates))
+    → (seed : List ℕ) × (share : ℕ) × (privates : List (ℕ × ℕ)) × (get held.seeds key.0 ≡ Some seed) × (deal_of round (me s) (Some share) seed ≡ Ok (pair.0, privates))
 
 -- Devices of this content are whole, and give dealings back that pass.
 abbrev pub GivesPassing : Setting → Files → Secrets → Type 0
@@ -51,7 +51,7 @@ GivesPassing s files held = IsWhole (entries files) held × PassesAll s (recover
 abbrev pub SharesFitInfos : Setting → Secrets → Type 0
 SharesFitInfos s held = (epoch share : ℕ) (info : Info) → get held.shares epoch ≡ Some share → known_info s epoch ≡ Some info → partial_public_of info.output (me s) ≡ Some (share_public_of share)
 
--- WHAT THE DEVICES HOLD of the epochs whose infos and rounds the script has: it is whole, the dealings pass, of those this node's own are what the secrets deal, and the shares are this node's.
+-- WHAT THE DEVICES HOLD of the epochs whose infos and rounds the script has: it is whole, the dealings pass, of those this node's own are what the stored seeds deal, and the shares are this node's.
 pub record HoldsValid (s : Setting) (files : Files) (held : Secrets) : Type 0 where
   pub passing : GivesPassing s files held
   pub own : OwnDealt s (recovered_from files held) held

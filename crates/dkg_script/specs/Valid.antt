@@ -79,10 +79,10 @@ pub record IsValidScript (s : Setting) (ends : List (Option CutAt)) : Type 0 whe
   pub source : InEachCase s ends (λ case. IsValidCase case ends)
 
 -- THE DEVICES. Of the epochs whose infos and rounds the script has: each stored share is this node's in what the epoch's info carries on; each dealing that is given back passes its check, and
--- this node's own is what the stored seed and share deal.
+-- this node's own is what the stored seed deals with some share. (There is one such share. It needn't be stored at that epoch: a failed round's is carried on from an epoch below.)
 pub record AgreesWith (s : Setting) (files : Files) (held : Secrets) : Type 0 where
   pub shares : (epoch share : ℕ) (info : Info) → get held.shares epoch ≡ Some share → known_info s epoch ≡ Some info → partial_public_of info.output (me s) ≡ Some (share_public_of share)
   pub dealings : (epoch dealer : ℕ) (public : List ℕ) (private : ℕ) (round : Round) → dealer < 2 ^ 32 → get (recovered_from files held) (epoch, dealer) ≡ Some (public, private) → round_at s epoch ≡ Some round
       → dealing_of round (me s) dealer public private ≡ Ok tt
   pub own : (epoch : ℕ) (public : List ℕ) (private : ℕ) (round : Round) → get (recovered_from files held) (epoch, me s) ≡ Some (public, private) → round_at s epoch ≡ Some round
-      → (seed : List ℕ) × (privates : List (ℕ × ℕ)) × (get held.seeds epoch ≡ Some seed) × (deal_of round (me s) (get held.shares epoch) seed ≡ Ok (public, privates))
+      → (seed : List ℕ) × (share : ℕ) × (privates : List (ℕ × ℕ)) × (get held.seeds epoch ≡ Some seed) × (deal_of round (me s) (Some share) seed ≡ Ok (public, privates))

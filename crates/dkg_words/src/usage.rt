@@ -7,7 +7,8 @@ pub fn help() -> &'static [u8]
     ensures { result.now ≡ help_text }
 {
     b"dkg run < SCRIPT     runs the script on standard input, and writes its transcript\n\
-dkg make N script    writes the text of the script that is made of the number N; it isn't run yet\n\
+dkg make N           runs the script that is made of the number N, and writes a summary of it\n\
+dkg make N script    writes the text of that script\n\
 \n\
 A script comes by standard input, never by its name. docs/SCRIPT.md has its grammar, line by line, and\n\
 examples/README.md a dozen of them, told. The devices live in memory, and the ceremony hides nothing\n\
