@@ -1,4 +1,7 @@
 pub mod Alone
+pub mod Ancestry
+pub mod Answered
+pub mod Apart
 pub mod Asked
 pub mod Asking
 pub mod AwaitedRises
@@ -7,13 +10,15 @@ pub mod Begun
 pub mod BegunRounds
 pub mod Behind
 pub mod Blaming
-pub mod BlocksLeave
 pub mod BlockLogs
+pub mod BlocksLeave
 pub mod BlocksMade
 pub mod Causing
 pub mod Chaining
 pub mod Checked
 pub mod ClearLives
+pub mod CommitsFitting
+pub mod CommitsOver
 pub mod Completing
 pub mod Currently
 pub mod CutLives
@@ -26,6 +31,7 @@ pub mod Empty
 pub mod Ended
 pub mod EndsTold
 pub mod Entering
+pub mod FedRequests
 pub mod FewPlayers
 pub mod Finding
 pub mod Finishing
@@ -63,8 +69,8 @@ pub mod LivesStand
 pub mod Living
 pub mod LogsBehind
 pub mod LogsFit
-pub mod MarksAt
 pub mod Marked
+pub mod MarksAt
 pub mod Naming
 pub mod NextLives
 pub mod NoOthers
@@ -96,9 +102,11 @@ pub mod Recorded
 pub mod RecordsFound
 pub mod Refusing
 pub mod Reported
+pub mod Requested
 pub mod RunKept
 pub mod Running
 pub mod Runs
+pub mod SaysOver
 pub mod Seated
 pub mod Seats
 pub mod SharesFit
@@ -122,6 +130,8 @@ pub mod Telling
 pub mod Turns
 pub mod Twice
 pub mod TwiceAcked
+pub mod Unanswered
 pub mod Unbegun
 pub mod Used
 pub mod ValidCauses
+pub mod WorldLives
