@@ -1,6 +1,7 @@
 -- The first logs of dealers, by what the heights of a chain bring: those that are recorded, and those that a part of the chain brings.
 use Rattle.std.proofs.Common.{◌≡◌, ◌⊎◌, inl, inr, ◌<◌, ◌≤◌, ◌+◌, ◌==◌, ℕ, zero, suc, Bool, true, false, List, [], ◌∷◌, ◌++◌, Option, Some, None, arith, refl, sym, ◌∙◌, ap, subst, nat_le}
 use Rattle.std.specs.Prelude.{option_to_list, IsSome, if◌then◌else◌}
+use Rattle.std.proofs.lemmas.Bool.{cases_lt}
 use Rattle.std.proofs.lemmas.Bool.Decides.{nat_tests}
 use Rattle.dkg_values.specs.Rising.{lookup}
 use Rattle.dkg_ceremony.specs.Outcomes.{LogMap}
@@ -40,7 +41,10 @@ module _ (brings : ℕ → Option (ℕ × DealerLog)) where
       other_number x e = grind (arith, nat_tests)
 
       last_or : (at : ℕ) → at < suc n → (at < n) ⊎ (at ≡ n)
-      last_or at high = omega (arith, high)
+      last_or at high = elim (cases_lt at n) [
+        | inl below ↦ inl below
+        | inr above ↦ inr (omega (arith, high, above))
+      ]
 
       at_last : NoneIn dealer 0 n → (o : Option (ℕ × DealerLog)) → brings n ≡ o → Finds dealer (suc n) ⊎ NoneIn dealer 0 (suc n)
       at_last none None is = inr (λ at other low high found. elim (last_or at high) [
@@ -66,15 +70,12 @@ module _ (brings : ℕ → Option (ℕ × DealerLog)) where
   pub one_first : (dealer height other : ℕ) (log its : DealerLog) → IsFirst dealer height log → IsFirst dealer other its → (height ≡ other) × (log ≡ its)
   one_first dealer height other log its one two = let same = same_height in (same, ap (λ (p : ℕ × DealerLog). p.1) (some_is (sym one.here ∙ ap brings same ∙ two.here)))
     where
-      ordered : (height < other) ⊎ ((other < height) ⊎ (height ≡ other))
-      ordered = omega arith
-
       same_height : height ≡ other
-      same_height = elim ordered [
+      same_height = elim (cases_lt height other) [
         | inl below ↦ absurd (two.first height log (omega arith) below one.here)
-        | inr rest ↦ elim rest [
+        | inr least ↦ elim (cases_lt other height) [
           | inl above ↦ absurd (one.first other its (omega arith) above two.here)
-          | inr same ↦ same
+          | inr most ↦ omega (arith, least, most)
         ]
       ]
 
@@ -106,7 +107,10 @@ module _ (brings : ℕ → Option (ℕ × DealerLog)) where
       not_same x e = grind (arith, nat_tests)
 
       here_or : (at : ℕ) → low ≤ at → (at ≡ low) ⊎ (low + 1 ≤ at)
-      here_or at above = omega (arith, above)
+      here_or at above = elim (cases_lt low at) [
+        | inl more ↦ inr (omega (arith, more))
+        | inr least ↦ inl (omega (arith, above, least))
+      ]
 
       -- where this height brings none of the dealer
       behind : (o : Option (ℕ × DealerLog)) → ((other : DealerLog) → brings low ≡ Some (dealer, other) → ⊥)
@@ -152,7 +156,7 @@ module _ (brings : ℕ → Option (ℕ × DealerLog)) where
       pub sound : (dealer : ℕ) (noted : Noted) → recorded dealer ≡ Some noted → (height : ℕ) × IsFirst dealer height (log_of noted) × (is_reached noted ≡ nat_le height tip)
       pub all : (dealer height : ℕ) (log : DealerLog) → IsFirst dealer height log → height ≤ tip → IsSome (recorded dealer)
 
-    reached_in : Option Noted → Option DealerLog
+    abbrev pub reached_in : Option Noted → Option DealerLog
     reached_in None = None
     reached_in (Some noted) = if is_reached noted then Some (log_of noted) else None
 
@@ -169,11 +173,8 @@ module _ (brings : ℕ → Option (ℕ × DealerLog)) where
         is_le height low = grind (arith, nat_tests)
 
         nothing_found : NoneIn dealer low (low + count) → (height : ℕ) (log : DealerLog) → IsFirst dealer height log → height ≤ tip → ⊥
-        nothing_found nothing height log first under = by_place (place height)
+        nothing_found nothing height log first under = by_place (cases_lt height low)
           where
-            place : (height : ℕ) → (height < low) ⊎ (low ≤ height)
-            place height = omega arith
-
             by_place : (height < low) ⊎ (low ≤ height) → ⊥
             by_place (inl below) = none height (dealer, log) below first.here
             by_place (inr above) = nothing height log above (omega (arith, under, ends)) first.here
@@ -194,12 +195,9 @@ module _ (brings : ℕ → Option (ℕ × DealerLog)) where
             is_first : IsFirst dealer height log
             is_first = record {
               here = here;
-              first = λ at other up high there. by_place at other high there (place at);
+              first = λ at other up high there. by_place at other high there (cases_lt at low);
             }
               where
-                place : (at : ℕ) → (at < low) ⊎ (low ≤ at)
-                place at = omega arith
-
                 by_place : (at : ℕ) (other : DealerLog) → at < height → brings at ≡ Some (dealer, other) → (at < low) ⊎ (low ≤ at) → ⊥
                 by_place at other high there (inl under) = none at (dealer, other) under there
                 by_place at other high there (inr over) = first at other over high there
