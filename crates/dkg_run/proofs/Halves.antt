@@ -155,9 +155,9 @@ module _ (c : Fixed directory.Unit) (b : Block directory.Unit) (st : Live direct
     -- .. or went on, and the block is acknowledged
     acks : (end : Live directory.Unit) (out mid : List Line) → Speaks (delivered_in c b st (Some epoch)) (went (record { live = end; answer = Acknowledges })) out mid
         → (how : Ended NodeStop (Live directory.Unit)) (now : List Line) → Speaks (says_acked end) how mid now → Speaks (bind (delivered c b st) answers) how out now
-    acks end out mid a how now b =
+    acks end out mid a how now more =
         subst (λ (x : Course directory.Unit NodeStop (Live directory.Unit)). Speaks x how out now) (in_epoch (Some epoch) is)
-        (then_speaks (delivered_in c b st (Some epoch)) answers (record { live = end; answer = Acknowledges }) how out mid now a b)
+        (then_speaks (delivered_in c b st (Some epoch)) answers (record { live = end; answer = Acknowledges }) how out mid now a more)
 
     module _ (end : Live directory.Unit) (out mid : List Line) (went_on : Speaks (delivered_in c b st (Some epoch)) (went (record { live = end; answer = Acknowledges })) out mid) where
       pub acks_wanted : (now : List Line) → now ≡ mid → Speaks (bind (delivered c b st) answers) (by_node_stop (stop.Fault NoMemory)) out now
@@ -172,5 +172,5 @@ module _ (c : Fixed directory.Unit) (b : Block directory.Unit) (st : Live direct
     is_going = by_test half.halted refl is
       where
         by_test : (t : Bool) → half.halted ≡ t → (if t then None else half.entered) ≡ Some epoch → (half.halted ≡ false) × (half.entered ≡ Some epoch)
-        by_test true e no = absurd (let wrong : ◌≡◌ {A = Option ℕ} None (Some epoch) = no in cc)
+        by_test true e none = absurd (let wrong : ◌≡◌ {A = Option ℕ} None (Some epoch) = none in cc)
         by_test false e its = (e, its)
