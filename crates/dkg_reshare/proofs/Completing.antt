@@ -1,5 +1,5 @@
 -- How a verification starts, answers its request and ends, in memory and in the relation.
-use Rattle.std.proofs.Common.{◌≡◌, ◌≢◌, inl, inr, ℕ, Bool, true, false, List, [], ◌∷◌, Option, Some, None, Result, Ok, Err, is_some, refl, sym, ◌∙◌, ap, subst}
+use Rattle.std.proofs.Common.{◌≡◌, ◌≢◌, inl, inr, ℕ, Bool, true, false, List, Option, Some, None, Result, is_some, refl, sym, ◌∙◌, ap, subst}
 use Rattle.std.specs.Prelude.{◌⊎◌, ◌&&◌, not, IfSome, IsSome, IsSomeAnd, option_and_then, option_map, if◌then◌else◌}
 use Rattle.std.specs.FinMap as maps
 use Rattle.std.specs.FinMap.{FinMap}
@@ -21,16 +21,16 @@ use Rattle.dkg_artifact.specs.Seen.{Verification}
 use Rattle.dkg_artifact.specs.declared.artifact.Artifact as artifact
 use Rattle.dkg_artifact.specs.declared.job.Job as job
 use Rattle.dkg_secrets.specs.Secrets.{Secrets}
-use Rattle.dkg_store.specs.Acts.{Ended, went}
+use Rattle.dkg_store.specs.Acts.{went}
 use Rattle.dkg_store.specs.declared.devices.Devices.{Devices}
-use Rattle.dkg_core.specs.Courses.{Course, Goes, Stops, bind, on_devices}
+use Rattle.dkg_core.specs.Courses.{Course, Goes, bind}
 use Rattle.dkg_core.specs.Fixed.{Fixed}
 use Rattle.dkg_core.specs.Including as including
 use Rattle.dkg_core.specs.Live as core
 use Rattle.dkg_core.specs.Live.{Live, GaveInfo, with_told}
 use Rattle.dkg_core.specs.Logs.{canonical}
 use Rattle.dkg_core.specs.Same.{same_logs}
-use Rattle.dkg_core.proofs.Same.{logs_again, logs_decide, one_logs}
+use Rattle.dkg_core.proofs.Same.{logs_decide, one_logs}
 use Rattle.dkg_reshare.specs.declared.inclusion.Inclusion.{Inclusion}
 use Rattle.dkg_reshare.specs.declared.life.Life.{Life}
 use Rattle.dkg_reshare.specs.declared.life.Stage.{Stage}
@@ -42,7 +42,7 @@ use Rattle.dkg_reshare.specs.declared.told.Told.{Told}
 use Rattle.dkg_reshare.specs.declared.told.Told.TheVariants as told
 use Rattle.dkg_reshare.specs.Ends.{by_stop, ends_in}
 use Rattle.dkg_reshare.specs.Including.{caching, telling}
-use Rattle.dkg_reshare.specs.InclusionOf.{IsReadyInclusion, IsRunnable, IsSeen, artifact_of, cached_of, job_of, kept_of, result_of}
+use Rattle.dkg_reshare.specs.InclusionOf.{IsReadyInclusion, IsRunnable, IsSeen, artifact_of, cached_of, job_of, result_of}
 use Rattle.dkg_reshare.specs.LiveOf.{Beside, EndsWith, IsPlaced, live_of}
 use Rattle.dkg_reshare.specs.Made.{Makes, Speaks, Tells}
 use Rattle.dkg_reshare.specs.Refusing.{refusal_for}
@@ -368,9 +368,6 @@ module _ {C Dir Signer Cfg : Type 0} (check_log_of : CheckLogOf) (dealing_of : D
 
     pub includes_now : IsSome its.verification.running → life.stage ≡ Including
     includes_now some = running_includes its.verification.running some ready.runs
-
-    pub current_now : IsSome its.verification.running → IsSome life.store.current
-    current_now some = ready.current (λ follows. apart_stages life.stage (includes_now some) follows)
 
     pub ready_behind : (v : Verification) (waiter : Option ℕ) (cache : Option (LogMap × artifact.Artifact Dir)) (answers : FinMap nat_cmp (Told Dir)) → v.running ≡ None
         → IsReadyInclusion check_log_of dealing_of finish_of n life (record its { verification = v; waiter = waiter; cache = cache; told = answers })

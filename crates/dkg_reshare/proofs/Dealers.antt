@@ -1,9 +1,8 @@
 -- A dealer that the store makes is the relation's, and what is made of it is the same.
-use Rattle.std.proofs.Common.{◌≡◌, ◌≤◌, inl, inr, ℕ, ◌<◌, ◌^◌, ◌==◌, nat_le, arith, Bool, true, false, List, [], ◌∷◌, filter, length, Option, Some, None, is_some, is_none, Ok, Err, refl, sym, ◌∙◌, ap, subst}
-use Rattle.std.specs.Prelude.{◌&&◌, ◌||◌, ◌⊎◌, ◌↔◌, not, is_ok, IsTrue, IfSome, option_map, option_and_then, if◌then◌else◌}
+use Rattle.std.proofs.Common.{◌≡◌, inl, inr, ℕ, ◌<◌, ◌^◌, ◌==◌, nat_le, Bool, true, false, List, [], ◌∷◌, filter, length, Option, Some, None, is_some, is_none, Ok, Err, refl, sym, ◌∙◌, ap, subst}
+use Rattle.std.specs.Prelude.{◌&&◌, ◌||◌, ◌⊎◌, not, is_ok, IfSome, option_map, option_and_then, if◌then◌else◌}
 use Rattle.std.specs.FinMap as maps
 use Rattle.std.specs.FinMap.{contains_key, get}
-use Rattle.std.proofs.lemmas.Bool.Decides.{nat_tests}
 use Rattle.dkg_values.specs.Rising.{lookup}
 use Rattle.dkg_ceremony.specs.Thresholds.{max_faults_of}
 use Rattle.dkg_ceremony.specs.declared.deal.DealError.TheVariants.{ShareRefused as DealRefused}
@@ -31,8 +30,7 @@ use Rattle.dkg_core.specs.Live as live
 use Rattle.dkg_core.specs.Setup as setup
 use Rattle.dkg_core.proofs.Storing.{looked_up}
 use Rattle.dkg_reshare.specs.declared.life.Life.{Life}
-use Rattle.dkg_reshare.specs.declared.life.Stage.{Stage}
-use Rattle.dkg_reshare.specs.declared.life.Stage.TheVariants.{Dealing, Including}
+use Rattle.dkg_reshare.specs.declared.life.Stage.TheVariants.{Including}
 use Rattle.dkg_reshare.specs.Ends.{IsCaused, stop_of}
 use Rattle.dkg_reshare.specs.LiveOf.{Beside, DealsFor, DealsIn, IsToSign, dealer_of, live_of, records_of}
 use Rattle.dkg_reshare.specs.Rules.{CheckAckOf, DealOf, DealsBy, SignLogOf}
@@ -69,9 +67,6 @@ recorded_is epoch key logs below =
     ∙ none_not_some (get logs (epoch, key))
 
 -- WHO IS KEPT
-
-pub quorum_is : (b : Bool) (m n : ℕ) → (IsTrue b ↔ (m ≤ n)) → b ≡ nat_le m n
-quorum_is b m n decides = grind (arith, nat_tests, decides)
 
 kept_by : (b : Bool) (d : Dealer) → (if b then Some (dealer_of d) else None) ≡ option_map dealer_of (if b then Some d else None)
 kept_by true d = refl
@@ -287,20 +282,6 @@ still_dealing deal_of check_ack_of me life (Some d) signs unsigned = record {
   is_open = λ dealing. signs.is_open;
   unsigned = λ dealing. unsigned;
 }
-
--- A dealer that signed deals in a life that includes.
-pub signed_deals : {Dir : Type 0} (deal_of : DealOf) (check_ack_of : CheckAckOf) (me : ℕ) (life : Life Dir) (old now : Dealer) (round : Round) → life.round ≡ Some round → life.stage ≡ Including
-    → DealsFor deal_of check_ack_of me round old → now.me ≡ old.me → now.round ≡ old.round → IsDealerOf deal_of check_ack_of now → DealsIn deal_of check_ack_of me life now
-signed_deals deal_of check_ack_of me life old now round has including deals me_is round_is is = record {
-  round = round;
-  has = has;
-  deals = record { me_is = me_is ∙ deals.me_is; round_is = round_is ∙ deals.round_is; is = is };
-  is_open = λ dealing. absurd (apart (sym including ∙ dealing));
-  unsigned = λ dealing. absurd (apart (sym including ∙ dealing));
-}
-  where
-    apart : ◌≡◌ {A = Stage} Including Dealing → ⊥
-    apart e = absurd cc
 
 -- THE STAGE OF A PHASE
 

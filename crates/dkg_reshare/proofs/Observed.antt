@@ -1,5 +1,5 @@
 -- The log that a block carries, where it counts.
-use Rattle.std.proofs.Common.{◌≡◌, ℕ, Bool, true, false, List, [], Option, Some, None, refl, sym, ◌∙◌, ap, subst}
+use Rattle.std.proofs.Common.{◌≡◌, ℕ, Bool, true, false, List, Option, Some, None, refl, sym, ◌∙◌, ap, subst}
 use Rattle.std.specs.Prelude.{◌==◌, ◌&&◌, IfSome, IsTrue, if◌then◌else◌, option_and_then, option_map}
 use Rattle.dkg_ceremony.specs.declared.round.RoundParts.{RoundParts as Round}
 use Rattle.dkg_ceremony.specs.declared.signed_log.SignedDealerLog.{SignedDealerLog}
@@ -9,8 +9,7 @@ use Rattle.dkg_types.specs.Blocks.{Block}
 use Rattle.dkg_types.specs.PayloadCodes.{its_log}
 use Rattle.dkg_types.specs.declared.entry.Entry.{Entry as Line}
 use Rattle.dkg_types.specs.declared.fault.Fault.{Fault}
-use Rattle.dkg_types.specs.declared.fault.Fault.TheVariants.{NoMemory}
-use Rattle.dkg_store.specs.Acts.{Ended, Moment, went}
+use Rattle.dkg_store.specs.Acts.{Moment, went}
 use Rattle.dkg_store.specs.declared.dealer.Dealer.{Dealer}
 use Rattle.dkg_store.specs.declared.devices.Devices.{Devices}
 use Rattle.dkg_store.specs.declared.store.Store.{Store}
@@ -54,19 +53,9 @@ module _ {Dir : Type 0} (c : Fixed Dir) (me dealer : ℕ) (mine : c.me ≡ me) (
       cleared_alike (dealer == me) life.dealer
       ∙ ap (λ (k : ℕ). if dealer == k then its_live (option_map blocks.unoffered (option_map dealer_of life.dealer)) else live_of beside fence life) (sym mine)
 
--- .. which is nothing where there is none, or it is another's
-pub cleared_none : (me dealer : ℕ) (its : Option Dealer) → its ≡ None → cleared_of me dealer its ≡ its
-cleared_none me dealer its none = ap (cleared_of me dealer) none ∙ neither (dealer == me) ∙ sym none
-  where
-    neither : (own : Bool) → ◌≡◌ {A = Option Dealer} (if own then None else None) None
-    neither true = refl
-    neither false = refl
-
+-- .. which is nothing where it is another's
 pub cleared_other : (me dealer : ℕ) (its : Option Dealer) → (dealer == me) ≡ false → cleared_of me dealer its ≡ its
 cleared_other me dealer its apart = ap (λ (own : Bool). if own then option_map forgotten its else its) apart
-
-pub cleared_own : (me dealer : ℕ) (its : Option Dealer) (d : Dealer) → (dealer == me) ≡ true → its ≡ Some d → cleared_of me dealer its ≡ Some (forgotten d)
-cleared_own me dealer its d same is = ap (λ (own : Bool). if own then option_map forgotten its else its) same ∙ ap (option_map forgotten) is
 
 -- A life stays ready, where its store keeps its dealings.
 module _ {Dir D X : Type 0} (tells : Bool) (files : D → Files) (image : D → Files → Type 0) (ack_of : AckOf) (deal_of : DealOf) (check_ack_of : CheckAckOf) (terms : Terms) (life : Life Dir) (devices next : Devices D X)

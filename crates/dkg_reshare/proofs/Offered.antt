@@ -88,9 +88,6 @@ module _ {Dir : Type 0} (c : Fixed Dir) (round : Round) (public : List ℕ) wher
   offers_own player private mine st =
       ap (λ (b : Bool). turn b (player, private) [] st) (is_it player c.me mine) ∙ bind_goes (dealing.offers_to_itself c round public private st)
 
-  pub offers_other : (player private : ℕ) → (player == c.me) ≡ false → (st : Live Dir) → offers ((player, private) ∷ []) st ≡ Say (Offer round.number player public private) (Goes st)
-  offers_other player private apart st = ap (λ (b : Bool). turn b (player, private) [] st) apart
-
   module _ (player private : ℕ) (mine : player ≡ c.me) (st : Live Dir) (how : Ended Fault (Live Dir)) where
     pub own_made : {files files_now : Files} {image next : Files → Type 0} {old new : Moment} → MakesAt (on_devices (dealing.offers_to_itself c round public private st)) how files image files_now next old new
         → MakesAt (on_devices (offers ((player, private) ∷ []) st)) how files image files_now next old new

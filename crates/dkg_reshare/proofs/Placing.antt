@@ -30,7 +30,7 @@ use Rattle.dkg_reshare.specs.declared.config.Terms.{Terms}
 use Rattle.dkg_reshare.specs.Actors.{IsReadyLife, IsSetUp}
 use Rattle.dkg_reshare.specs.LiveOf.{Beside, IsDealing, IsFresh, IsPlaced, IsSeated, IsWithin, awaited_of, live_of}
 use Rattle.dkg_reshare.specs.Moved.{IsFirm}
-use Rattle.dkg_reshare.specs.Given.{IsIn, IsLent, IsOf, ReadsPlanless}
+use Rattle.dkg_reshare.specs.Given.{IsLent, IsOf, ReadsPlanless}
 use Rattle.dkg_reshare.specs.Rules.{AckOf, BearsAckOf, CheckAckOf, DealOf, DealingOf, IsRuledBy, PartialPublicOf, RoundOf, SharePublicOf, SignLogOf}
 use Rattle.dkg_reshare.specs.Planless.{seen_planless}
 use Rattle.dkg_values.specs.declared.codec.CodecError.TheVariants.{EndOfBuffer}
@@ -306,10 +306,6 @@ module _ {Dir : Type 0} (terms : Terms) (source : Source Dir) (word : ℕ) (rule
   pub any_lent : IsLent terms source word its
   unfolding any_fixed
   any_lent = record { of = any_of; lent = refl; word_is = refl }
-
-  pub any_in : IsIn terms word its
-  unfolding any_fixed
-  any_in = record { of = any_of; word_is = refl }
 
   pub any_reads : ReadsPlanless its
   unfolding any_fixed

@@ -8,16 +8,12 @@ use Rattle.std.specs.Option.{option_copied}
 use Rattle.std.specs.Ordering.{eq_by_cmp, nat_cmp}
 use Rattle.std.proofs.lemmas.Bool.Decides.{nat_tests}
 use Rattle.dkg_reshare.specs.declared.told.Told.{Told}
-use Rattle.dkg_reshare.specs.declared.told.Told.TheVariants.{Posted}
 use Rattle.dkg_reshare.specs.InclusionOf.{answer_or, posted_in}
 
 one_number : (q k : ℕ) → eq_by_cmp nat_cmp q k ≡ true → q ≡ k
 one_number q k is = grind (arith, nat_tests)
 
 module _ {Dir : Type 0} (answers : FinMap nat_cmp (Told Dir)) (request : ℕ) where
-  pub posted_new : get answers request ≡ None → insert answers request Posted ≡ posted_in request answers
-  posted_new none = ap (λ (o : Option (Told Dir)). insert answers request (answer_or o)) (sym none)
-
   pub posted_again : (its : Told Dir) → get answers request ≡ Some its → answers ≡ posted_in request answers
   posted_again its is =
       sym (ap (λ (o : Option (Told Dir)). insert answers request (answer_or o)) is

@@ -7,7 +7,7 @@ use Rattle.dkg_reshare.specs.declared.life.Life.{Life}
 use Rattle.dkg_reshare.specs.declared.life.Stage.{Stage}
 use Rattle.dkg_reshare.specs.declared.life.Stage.TheVariants.{Dealing, Including, Following}
 use Rattle.dkg_reshare.specs.Heard.{round_dealt}
-use Rattle.dkg_reshare.specs.LiveOf.{IsSeated, Sits, SitsAt, SitsIn}
+use Rattle.dkg_reshare.specs.LiveOf.{Sits, SitsAt, SitsIn}
 use Rattle.dkg_reshare.specs.Rules.{AckOf}
 use Rattle.dkg_reshare.specs.Steps.{is_dealing}
 
@@ -36,17 +36,6 @@ module _ {Dir : Type 0} (ack_of : AckOf) (me its : ℕ) (life : Life Dir) (playe
 
   pub round_is : (round : Round) → life.round ≡ Some round → round ≡ player.round
   round_is round has = same_some round sits.round (sym has ∙ sits.has) ∙ sym sits.sits.round_is
-
--- A life whose tip and stage alone moved keeps its player.
-pub seated_on : {Dir : Type 0} (ack_of : AckOf) (me : ℕ) (old new : Life Dir) → new ≡ record old { tip = new.tip; stage = new.stage } → IsSeated ack_of me old → IsSeated ack_of me new
-seated_on {Dir} ack_of me old new same seated = subst (λ (l : Life Dir). IsSeated ack_of me l) (sym same) (in_seat old.player seated)
-  where
-    in_seat : (o : Option Player) → IfSome o (Sits ack_of me old) → IfSome o (Sits ack_of me (record old { tip = new.tip; stage = new.stage }))
-    in_seat None is = tt
-    in_seat (Some player) is = record { round = is.round; has = is.has; sits = is.sits }
-
-pub store_on : {Dir : Type 0} (old new : Life Dir) → new ≡ record old { tip = new.tip; stage = new.stage } → new.store ≡ old.store
-store_on {Dir} old new same = ap (λ (l : Life Dir). l.store) same
 
 -- A player of a life's round sits in it.
 pub seated_in : {Dir : Type 0} (ack_of : AckOf) (me : ℕ) (life : Life Dir) (round : Round) → life.round ≡ Some round → (player : Option Player)

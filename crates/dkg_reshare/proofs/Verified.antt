@@ -1,6 +1,6 @@
 -- What a verification is begun with, and what it finds, in memory and in the relation.
-use Rattle.std.proofs.Common.{◌≡◌, inl, inr, ℕ, Bool, true, false, List, [], ◌∷◌, Option, Some, None, Result, Ok, Err, IsOk, is_some, refl, sym, ◌∙◌, ap, subst, Contains, arith}
-use Rattle.std.specs.Prelude.{◌⊎◌, ◌&&◌, ◌||◌, ◌==◌, not, IfErr, IfSome, IsSomeAnd, OnErr, OnOk, option_map, if◌then◌else◌}
+use Rattle.std.proofs.Common.{◌≡◌, ℕ, Bool, true, false, List, [], ◌∷◌, Option, Some, None, Result, Ok, Err, refl, sym, ◌∙◌, ap, subst, Contains, arith}
+use Rattle.std.specs.Prelude.{◌&&◌, ◌||◌, ◌==◌, not, IfErr, IfSome, IsSomeAnd, option_map, if◌then◌else◌}
 use Rattle.std.specs.List.{AllByRecursion, list_any}
 use Rattle.std.proofs.lemmas.Bool.Decides.{nat_tests}
 use Rattle.dkg_values.specs.Rising.{lookup}
@@ -8,18 +8,16 @@ use Rattle.dkg_ceremony.specs.declared.dealer_log.DealerLog.{DealerLog}
 use Rattle.dkg_ceremony.specs.declared.finish.FinishError.{FinishError}
 use Rattle.dkg_ceremony.specs.declared.output.Output.{Output}
 use Rattle.dkg_ceremony.specs.declared.round.RoundParts.{RoundParts as Round}
-use Rattle.dkg_ceremony.specs.Finishes.{DealingMap, IsMissing, has_public}
+use Rattle.dkg_ceremony.specs.Finishes.{DealingMap, IsMissing}
 use Rattle.dkg_ceremony.specs.Outcomes.{LogMap}
-use Rattle.dkg_ceremony.specs.Schedule.{midpoint}
-use Rattle.dkg_artifact.specs.Results.{Checked, IsAnswered, checked, finished, finished_by, observed}
+use Rattle.dkg_artifact.specs.Results.{Checked, IsAnswered, checked, finished_by, observed}
 use Rattle.dkg_artifact.specs.Results as results
 use Rattle.dkg_artifact.specs.declared.job.Dealings as dealt
 use Rattle.dkg_artifact.specs.declared.job.Job as job
-use Rattle.dkg_artifact.specs.declared.verified.Verified as verified
 use Rattle.dkg_artifact.proofs.Lacked.{none_missing}
 use Rattle.dkg_store.specs.Player.{has_orphan, is_orphan}
 use Rattle.dkg_store.specs.Recorded as of_store
-use Rattle.dkg_store.specs.Recorded.{at_epoch, first_refused, reached_logs}
+use Rattle.dkg_store.specs.Recorded.{at_epoch, first_refused}
 use Rattle.dkg_store.specs.declared.store.Store.{Store}
 use Rattle.dkg_store.proofs.Passing.{passes_at}
 use Rattle.dkg_core.specs.Fixed.{Fixed, has}
@@ -79,13 +77,6 @@ module _ {Dir : Type 0} (c : Fixed Dir) (round : Round) (logs : LogMap) (st : Li
 
     finishes_by : (plays lost : Bool) → has round.players me ≡ plays → orphan ≡ lost → including.can_finish c round logs st ≡ (plays && not lost)
     finishes_by plays lost one other = finishes_is ∙ (λ i. one i && not (other i))
-
-    -- it isn't one of the round's
-    pub unseated : has round.players me ≡ false → None ≡ (including.job_for c round logs st).player
-    unseated plays = ap seat (sym (finishes_by false orphan plays refl))
-
-    pub unseated_passes : has round.players me ≡ false → refusal_for c round logs st ≡ None
-    unseated_passes plays = ap refused_where (finishes_by false orphan plays refl)
 
     -- it lacks a dealing
     lost_is : has round.players me ≡ true → false ≡ not orphan → including.can_finish c round logs st ≡ false

@@ -5,7 +5,7 @@ use Rattle.dkg_ceremony.specs.declared.phase.Phase.TheVariants as phase
 use Rattle.dkg_ceremony.specs.declared.round.RoundParts.{RoundParts as Round}
 use Rattle.dkg_ceremony.specs.declared.round.RoundError.{RoundError}
 use Rattle.dkg_ceremony.specs.declared.epocher.Bounds.{Bounds}
-use Rattle.dkg_ceremony.specs.Schedule.{bounds_at, epoch_of, first, last, midpoint}
+use Rattle.dkg_ceremony.specs.Schedule.{bounds_at, epoch_of, last}
 use Rattle.dkg_ceremony.specs.Thresholds.{max_faults_of}
 use Rattle.std.specs.Option.{option_map_or}
 use Rattle.dkg_types.specs.Blocks.{Block}
@@ -119,15 +119,6 @@ is_dealing stage.Following = false
 pub record AreBoundsAt (n : ℕ) (bounds : Bounds) (height : ℕ) : Type 0 where
   pub are : bounds ≡ bounds_at n height
   pub in_range : last n (epoch_of n height) < 2 ^ 64
-
--- .. part by part, as a Fixed has them
-pub record LiesAt {Dir : Type 0} (c : Fixed Dir) (bounds : Bounds) (height : ℕ) : Type 0 where
-  pub in_range : setup.is_past_range c height ≡ false
-  pub epoch : bounds.epoch ≡ epoch_of c.blocks_per_epoch height
-  pub phase : bounds.phase ≡ phase_of c height
-  pub first_is : bounds.first ≡ first c.blocks_per_epoch bounds.epoch
-  pub midpoint_is : bounds.midpoint ≡ midpoint c.blocks_per_epoch bounds.epoch
-  pub last_is : bounds.last ≡ last c.blocks_per_epoch bounds.epoch
 
 -- A dealer keeps its dealing; acknowledgements may have come in.
 abbrev pub SameHalves : Option Dealer → Option Dealer → Type 0

@@ -176,7 +176,7 @@ module _ (c : Fixed U) (st : Live U) where
       by_tests false true = refl
       by_tests false false = refl
 
-  heard_same : (from : ℕ) (end : Live U) → IsHeardBy c st from end → end.inclusion ≡ st.inclusion
+  pub heard_same : (from : ℕ) (end : Live U) → IsHeardBy c st from end → end.inclusion ≡ st.inclusion
   heard_same from end (inl same) = ap (λ (x : Live U). x.inclusion) same
   heard_same from end (inr (inl its)) = ap (λ (x : Live U). x.inclusion) its.is
   heard_same from end (inr (inr its)) = ap (λ (x : Live U). x.inclusion) its.is ∙ taken_same (its.round).number its.dealer from its.ack
@@ -188,7 +188,7 @@ module _ (c : Fixed U) (st : Live U) where
       by_test true = refl
       by_test false = refl
 
-  observed_same : (round : Round) (b : Block U) → (observed c round b st).inclusion ≡ st.inclusion
+  pub observed_same : (round : Round) (b : Block U) → (observed c round b st).inclusion ≡ st.inclusion
   observed_same round b = by_log (option_and_then its_log b.payload)
     where
       by_tests : (log : SignedDealerLog) (one two : Bool) → (if one then without_own_log c log.dealer (if two then st else with_log round.number log.dealer b.height log.log st) else st).inclusion ≡ st.inclusion
@@ -200,7 +200,7 @@ module _ (c : Fixed U) (st : Live U) where
       by_log None = refl
       by_log (Some log) = by_tests log (is_accepted c round log) (is_some (recorded_at st.records.logs round.number log.dealer))
 
-  dealt_same : (b : Block U) (x : Live U) → ((dealt_behind c b x).inclusion.queue ≡ x.inclusion.queue) × ((dealt_behind c b x).inclusion.waiter ≡ x.inclusion.waiter)
+  pub dealt_same : (b : Block U) (x : Live U) → ((dealt_behind c b x).inclusion.queue ≡ x.inclusion.queue) × ((dealt_behind c b x).inclusion.waiter ≡ x.inclusion.waiter)
   dealt_same b x = by_test (b.height + 1 == midpoint c.blocks_per_epoch x.participation.epoch)
     where
       by_test : (t : Bool) → ((if t then begins_inclusion c (with_tip b x) else with_tip b x).inclusion.queue ≡ x.inclusion.queue)
@@ -245,12 +245,12 @@ module _ (g : Lived) (here : IsLifeInForm g) where
     same_part : mid.participation.stage ≡ end.participation.stage
     same_part = sym (ap (λ (x : Live U). x.participation.stage) node.same)
 
-    goes : GoesOn c st m.message mid ⊎ TakesOver c any_shares st m.message devices mid left
+    pub goes : GoesOn c st m.message mid ⊎ TakesOver c any_shares st m.message devices mid left
     goes = next_so c any_shares st m.message devices mid left (form_at g here (suc i)) live node.next
 
     -- the same epoch is awaited, where the life takes part on
     module _ (on : GoesOn c st m.message mid) (apart : mid.participation.stage ≡ Follows → ⊥) where
-      same_epoch : epoch_by g (suc i) ≡ epoch_by g i
+      pub same_epoch : epoch_by g (suc i) ≡ epoch_by g i
       same_epoch =
           sym (behind.epoch (λ follows. apart (same_part ∙ follows))) ∙ ap (λ (x : Live U). x.participation.epoch) node.same ∙ (on.same).epoch ∙ stands.epoch (λ follows. apart (on.following follows))
 

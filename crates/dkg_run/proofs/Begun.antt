@@ -25,7 +25,9 @@ use Rattle.dkg_run.specs.GivesBack.{StaysValid}
 use Rattle.dkg_run.specs.Lives.{RunsOver, never}
 use Rattle.dkg_run.specs.Over.{Over}
 use Rattle.dkg_run.specs.Promised.{DoesRun}
+use Rattle.dkg_run.specs.SharesStand.{CommitsFit}
 use Rattle.dkg_run.proofs.Checked.{anchor_above, long_epochs, supported_mode}
+use Rattle.dkg_run.proofs.CommitsFitting.{commits_fit}
 use Rattle.dkg_run.proofs.CutLives.{worlds_cut}
 use Rattle.dkg_run.proofs.Dealings.{answers_dealings, keeps_dealings}
 use Rattle.dkg_run.proofs.EachLife.{worlds_over}
@@ -87,6 +89,12 @@ module _ (script : Script) (form : IsFormOfInclusion script) (checked : IsChecke
   begun_offers told here =
       offers_the_same script o.before.files o.before.held added (λ l life seen files life_is reads. (worlds_over cut_script cut_form checked l life seen files life_is reads, planless_secrets seen reads))
       answered old new o.now.held o.now.files is (cut_runs told here o.now.files (left (disk_of told)))
+
+  -- SHARES
+
+  pub begun_commits : o.tells → Stands o.before.files o.before.image → CommitsFit script o.before.files o.before.held added
+  begun_commits told here =
+      commits_fit script o.before.files o.before.held added (worlds_over cut_script cut_form checked) planless_secrets answered old new o.now.held o.now.files is (cut_runs told here o.now.files (left (disk_of told)))
 
   -- WHAT IS GIVEN BACK
 

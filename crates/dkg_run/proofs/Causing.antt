@@ -314,7 +314,7 @@ module _ (g : Lived) (here : IsLifeInForm g) where
       accepted_by : (j : Judged) → judged_block (at_step g (suc i)) b st ≡ j → refusal j ≡ None → refusal_in g.script g.number g.life i b ≡ None
       accepted_by j is none = sym judged_so ∙ ap refusal is ∙ none
 
-      above_by : judged_block (at_step g (suc i)) b st ≡ Applied → option_map_or (λ t. nat_le b.height t.height) (tip_in g.script g.life i) false ≡ false
+      pub above_by : judged_block (at_step g (suc i)) b st ≡ Applied → option_map_or (λ t. nat_le b.height t.height) (tip_in g.script g.life i) false ≡ false
       above_by applied = by_test (option_map_or (λ t. nat_le b.height t.height) st.tip false) refl
         where
           later : (h k : ℕ) → h ≡ k + 1 → nat_le h k ≡ false
@@ -552,7 +552,7 @@ module _ (g : Lived) (here : IsLifeInForm g) where
             upto x y h l k behind same (inr low) = omega (arith, behind, same, low)
 
         module _ (applied : judged_block c b st ≡ Applied) where
-          taken : is_last_height c b.height ≡ true → IsTakenLast g.script g.number g.life i b
+          pub taken : is_last_height c b.height ≡ true → IsTakenLast g.script g.number g.life i b
           taken last_one = record { accepted = accepted_by b Applied applied refl; above = above_by b applied; ends = sym (last_same b) ∙ last_one }
 
           -- the setup of the next epoch

@@ -93,17 +93,13 @@ some_is e = cc
 own_fault : {x y : Fault} → Faulted x ≡ Faulted y → x ≡ y
 own_fault e = cc
 
-none_there : {A : Type 0} (P : A → Type 0) (o : Option A) → ((x : A) → P x → ⊥) → IsSomeAnd o P → ⊥
-none_there P None never so = so
-none_there P (Some x) never so = never x so
-
 some_there : {A : Type 0} (P : A → Type 0) (Q : Type 0) (o : Option A) → ((x : A) → P x → Q) → IsSomeAnd o P → Q
 some_there P Q None leads so = absurd so
 some_there P Q (Some x) leads so = leads x so
 
 -- nothing is carried that leads to nothing
 none_carried : (P : EpochInfo directory.Unit → Type 0) (o : Option (Block directory.Unit)) → ((info : EpochInfo directory.Unit) → P info → ⊥) → OnCarried o P → ⊥
-none_carried P o never so = none_there (λ (b : Block directory.Unit). IsSomeAnd (info_of b.payload) P) o (λ b its. none_there P (info_of b.payload) never its) so
+none_carried P o never so = some_there (λ (b : Block directory.Unit). IsSomeAnd (info_of b.payload) P) ⊥ o (λ b its. some_there P ⊥ (info_of b.payload) never its) so
 
 -- what is given back depends on the records and the private halves alone
 same_given : (h k : Held) → notes k ≡ notes h → k.secrets.privates ≡ h.secrets.privates → recovered_in k ≡ recovered_in h

@@ -28,19 +28,19 @@ use Rattle.dkg_run.specs.Ways.{by_worlds}
 use Rattle.dkg_run.proofs.Awaiting.{IsBefore, IsReached, before_all, reached_lit}
 use Rattle.dkg_run.proofs.Former.{IsMessage, event_in_form, form_at, message_in}
 
-rest_at : {A : Type 0} (all : List A) (i : ℕ) (its : A) (more : List A) → its ∷ more ≡ drop i all → more ≡ drop (suc i) all
+pub rest_at : {A : Type 0} (all : List A) (i : ℕ) (its : A) (more : List A) → its ∷ more ≡ drop i all → more ≡ drop (suc i) all
 rest_at [] zero its more is = absurd (let wrong : its ∷ more ≡ [] = is in cc)
 rest_at [] (suc i) its more is = absurd (let wrong : its ∷ more ≡ [] = is in cc)
 rest_at (x ∷ all) zero its more is = let so : its ∷ more ≡ x ∷ all = is in cc
 rest_at (x ∷ all) (suc i) its more is = rest_at all i its more is
 
-item_at : {A : Type 0} (all : List A) (i : ℕ) (its : A) (more : List A) → its ∷ more ≡ drop i all → slice_get all i ≡ Some its
+pub item_at : {A : Type 0} (all : List A) (i : ℕ) (its : A) (more : List A) → its ∷ more ≡ drop i all → slice_get all i ≡ Some its
 item_at [] zero its more is = absurd (let wrong : its ∷ more ≡ [] = is in cc)
 item_at [] (suc i) its more is = absurd (let wrong : its ∷ more ≡ [] = is in cc)
 item_at (x ∷ all) zero its more is = let so : its ∷ more ≡ x ∷ all = is in cc
 item_at (x ∷ all) (suc i) its more is = item_at all i its more is
 
-before_suc : (its : Option cut.Cut) (j : ℕ) → IsReached its j → IsBefore its (suc j)
+pub before_suc : (its : Option cut.Cut) (j : ℕ) → IsReached its j → IsBefore its (suc j)
 before_suc None j reached = tt
 before_suc (Some its) j reached = λ none. let low : j < its.step = reached none in omega (arith, low)
 

@@ -18,6 +18,7 @@ use Rattle.dkg_script.specs.Readings.{Limits, unit_payload}
 use Rattle.dkg_store.specs.Events.{no_limit}
 use Rattle.dkg_core.specs.Agreeing.{BringsRecords}
 use Rattle.dkg_core.specs.Live.{Finalized}
+use Rattle.dkg_reshare.specs.Carried.{CarriesWithin}
 use Rattle.dkg_run.specs.Given.{AreBytes, Lived, at_step, payload_in}
 use Rattle.dkg_run.proofs.Former.{IsMadeOf}
 use Rattle.dkg_run.proofs.Living.{holds_at}
@@ -77,3 +78,18 @@ module _ (g : Lived) (bytes : AreBytes g.script.blocks) (heights : AllByRecursio
           other = no_more (non_zero_u32_get g.script.config.limit) log.log few fits.other.one;
         };
       }
+
+  abbrev Within : SignedDealerLog → Type 0
+  Within log = LogFits (non_zero_u32_get g.script.config.limit) log.log
+
+  -- .. within the script's limit
+  pub block_within : CarriesWithin (non_zero_u32_get g.script.config.limit) made_it.block
+  block_within = by_log (option_and_then its_log (payload_in g.script.config (made_it.line).payload)) refl
+    where
+      by_log : (o : Option SignedDealerLog) → option_and_then its_log (payload_in g.script.config (made_it.line).payload) ≡ o → CarriesWithin (non_zero_u32_get g.script.config.limit) made_it.block
+      by_log o is = subst (λ (x : Option SignedDealerLog). IfSome x Within) (sym (ap (option_and_then its_log) made_it.payload ∙ is)) (each o is)
+        where
+          each : (o : Option SignedDealerLog) → option_and_then its_log (payload_in g.script.config (made_it.line).payload) ≡ o → IfSome o Within
+          each None is = tt
+          each (Some log) is =
+              (log_read (made_it.line).payload (holds_at (λ (line : BlockLine). IfSome line.payload IsBytes) g.script.blocks number made_it.line bytes made_it.line_is) log is).other.one

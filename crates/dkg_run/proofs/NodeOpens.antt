@@ -21,7 +21,7 @@ use Rattle.dkg_text.specs.declared.script.ScriptConfig.{ScriptConfig}
 use Rattle.dkg_script.specs.Inclusion.{IsFormOfInclusion}
 use Rattle.dkg_store.specs.Acts.{Ended, Held, Moment, Stands, moment, went}
 use Rattle.dkg_secrets.specs.Secrets.{Secrets}
-use Rattle.dkg_core.specs.Core.{opening}
+use Rattle.dkg_core.specs.Core.{no_inclusion, opening}
 use Rattle.dkg_core.specs.Courses.{on_devices}
 use Rattle.dkg_core.specs.Fixed.{Fixed}
 use Rattle.dkg_core.specs.Live.{Live}
@@ -29,9 +29,10 @@ use Rattle.dkg_core.specs.Node.{kept_material, node_opening}
 use Rattle.dkg_core.specs.Said.{Said}
 use Rattle.dkg_core.specs.Seen.{Seen}
 use Rattle.dkg_core.specs.Sources.{Source, source_over}
-use Rattle.dkg_reshare.specs.Actors.{AreTerms, EndsAt, IsFoundAt, lives}
+use Rattle.dkg_reshare.specs.Actors.{AreTerms, EndsAt, IfIncluding, IsFoundAt, lives}
 use Rattle.dkg_reshare.specs.Ends.{IsCaused, by_stop}
 use Rattle.dkg_reshare.specs.Given.{AreGivenFrom, HasRead, IsLent, IsOf, reading}
+use Rattle.dkg_reshare.specs.InclusionOf.{IsSeen}
 use Rattle.dkg_reshare.specs.LiveOf.{Beside, EndsBeside, live_of, nothing_beside}
 use Rattle.dkg_reshare.specs.Made.{MakesAt, Speaks, Tells, UnlessBroken}
 use Rattle.dkg_reshare.specs.Moved.{StaysAbove}
@@ -52,8 +53,8 @@ use Rattle.dkg_run.specs.Sources.{IsSourceOf}
 use Rattle.dkg_run.specs.declared.held.HeldBlocks.{HeldBlocks}
 use Rattle.dkg_run.specs.declared.node.Node.{Node}
 use Rattle.dkg_run.proofs.Checked.{life_in_form}
-use Rattle.dkg_run.proofs.Noding.{at_oneshot, is_of}
-use Rattle.dkg_run.proofs.Opening.{Lives, end_of, ended_makes, ended_says, epoch_is, fence_ready, half_given, halted_makes, halted_says, lent_at, lives_at, lives_err, made_there, may_enter, may_enter_made, opened_made, opened_says, opened_view, opening_of, reading_as, planless_at, number_at, unless_named, went_burns}
+use Rattle.dkg_run.proofs.Noding.{at_oneshot, is_of, made_there, went_burns}
+use Rattle.dkg_run.proofs.Opening.{Lives, end_of, ended_makes, ended_says, epoch_is, fence_ready, half_given, halted_makes, halted_says, lent_at, lives_at, lives_err, may_enter, may_enter_made, opened_made, opened_says, opened_view, opening_of, living_there, lives_went, number_at, planless_at, reading_as, seen_empty, unless_named}
 use Rattle.dkg_run.proofs.Sourced.{source_is}
 
 -- the terms that a script's configuration comes to
@@ -154,18 +155,18 @@ module _ (script : Script) (number : ℕ) (life : Life) (source : HeldBlocks) (f
     read_as : (s : Seen) → reading s its ≡ at_step (life_with (λ h. s)) 0
     read_as s = reading_as (life_with seen_planless) s
 
-    module _ (Took : List (ℕ × SchemeInfo) → Type 0) (fence : Readiness) (state : State directory.Unit) (P : reshare.Life directory.Unit → Type 0) where
+    module _ (Took : List (ℕ × SchemeInfo) → Type 0) (fence : Readiness) (n : Node) (P : reshare.Life directory.Unit → Type 0) where
       -- THE ACTOR'S OPENING WENT, and the half's speaks
-      module _ (ends_at : EndsAt state (Ok tt) P) where
-        living : Lives state
-        living = lives_at state P ends_at
+      module _ (ends_at : EndsAt n.actor.state (Ok tt) P) where
+        living : Lives n.actor.state
+        living = lives_at n.actor.state P ends_at
 
-        went_to : (view : reshare.Life directory.Unit → Live directory.Unit) → lives view state (Ok tt) ≡ went (view living.life)
-        went_to view = ap (λ (s : State directory.Unit). lives view s (Ok tt)) living.is
+        went_to : (view : reshare.Life directory.Unit → Live directory.Unit) → lives view n.actor.state (Ok tt) ≡ went (view living.life)
+        went_to view = lives_went view n.actor.state living
 
         -- its lines, of what was read
         module _ {out mid : List Line} {Given : Seen → Type 0}
-            (said : HasRead Given (λ s. EndsBeside nothing_beside Took (λ now. Tells (opening (reading s its)) (lives (live_of now fence) state (Ok tt)) out mid)))
+            (said : HasRead Given (λ s. EndsBeside nothing_beside Took (λ now. Tells (opening (reading s its)) (lives (live_of now fence) n.actor.state (Ok tt)) out mid)))
           where
             abbrev now_is : Beside directory.Unit
             now_is = said.so.now
@@ -188,16 +189,16 @@ module _ (script : Script) (number : ℕ) (life : Life) (source : HeldBlocks) (f
             enters : MayEnter (at_step (life_with (λ h. said.seen)) 0) fence (live_of now_is fence living.life)
             enters = may_enter (life_with (λ h. said.seen)) (here_with (λ h. said.seen) reads_it) now_is fence living.life said.so.orchestrator lines_are
 
-            pub opened_lines : (n : Node) → n.actor.state ≡ state → (out_now : List Line) (Asked : Seen → Type 0) → ((s : Seen) → Given s → Asked s)
+            pub opened_lines : IfIncluding n.actor.state (λ life its. IsSeen its no_inclusion) → (out_now : List Line) (Asked : Seen → Type 0) → ((s : Seen) → Given s → Asked s)
                 → ((c : Fixed directory.Unit) (st : Live directory.Unit) → IsHalfGiven (non_zero_u64_get terms.blocks_per_epoch) answers c → MayEnter c fence st
                 → Speaks (kept_material c st) (ends_half n.fence st (Ok n.half)) mid out_now)
                 → HasRead Asked (λ s. ViewedNew (Ok n) (λ ended. Tells (node_opening (at_step (life_with (λ h. s)) 0)) ended out out_now))
-            opened_lines n same out_now Asked so speaks = record {
+            opened_lines empty out_now Asked so speaks = record {
               seen = said.seen;
               unplanned = said.unplanned;
               listed = said.listed;
               given = so said.seen said.given;
-              so = opened_says n (at_step (life_with (λ h. said.seen)) 0) (at_oneshot (life_with (λ h. said.seen)) 0) now_is fence living.life (same ∙ living.is) lines_are
+              so = opened_says n (at_step (life_with (λ h. said.seen)) 0) (at_oneshot (life_with (λ h. said.seen)) 0) now_is fence living.life (seen_empty now_is.inclusion said.so.inclusion n.actor.state living empty) (living_there n.actor.state living) lines_are
                   (speaks (at_step (life_with (λ h. said.seen)) 0) (live_of now_is fence living.life) (given_with (λ h. said.seen) reads_it) enters);
             }
 
@@ -216,7 +217,7 @@ module _ (script : Script) (number : ℕ) (life : Life) (source : HeldBlocks) (f
 
         -- .. over the devices
         module _ {files_now : Files} {image between : Files → Type 0} {old : Moment} {mid : List Line} {s : Secrets} {f : Burn}
-            (made : EndsBeside nothing_beside Took (λ now. MakesAt (on_devices (opening its)) (lives (live_of now fence) state (Ok tt)) files image files_now between old (moment mid s f)))
+            (made : EndsBeside nothing_beside Took (λ now. MakesAt (on_devices (opening its)) (lives (live_of now fence) n.actor.state (Ok tt)) files image files_now between old (moment mid s f)))
           where
             abbrev end_is : Live directory.Unit
             end_is = live_of made.now fence living.life
@@ -230,16 +231,16 @@ module _ (script : Script) (number : ℕ) (life : Life) (source : HeldBlocks) (f
             enters_made : Stands files image → MayEnter its fence end_is
             enters_made stands = may_enter_made (life_with seen_planless) (here_with seen_planless reads_planless) made.now fence living.life made.orchestrator stands acts_are
 
-            pub opened_acts : (n : Node) → n.actor.state ≡ state → (out : List Line)
+            pub opened_acts : IfIncluding n.actor.state (λ life its. IsSeen its no_inclusion) → (out : List Line)
                 → ((c : Fixed directory.Unit) (st : Live directory.Unit) → IsHalfGiven (non_zero_u64_get terms.blocks_per_epoch) answers c → MayEnter c fence st
                 → Speaks (kept_material c st) (ends_half n.fence st (Ok n.half)) mid out)
                 → ViewedNew (Ok n) (λ ended. MakesAt (on_devices (node_opening its)) ended files image files_now between old (moment out s f))
-            opened_acts n same out speaks =
-                let end = end_of n its (at_oneshot (life_with seen_planless) 0) made.now fence living.life (same ∙ living.is) in (
+            opened_acts empty out speaks =
+                let end = end_of n its (at_oneshot (life_with seen_planless) 0) made.now fence living.life (seen_empty (made.now).inclusion made.inclusion n.actor.state living empty) (living_there n.actor.state living) in (
                   end,
-                  opened_view n its (at_oneshot (life_with seen_planless) 0) made.now fence living.life (same ∙ living.is),
+                  opened_view n its (at_oneshot (life_with seen_planless) 0) made.now fence living.life (seen_empty (made.now).inclusion made.inclusion n.actor.state living empty) (living_there n.actor.state living),
                   made_there (went end) (burns_next (went end) (went_burns {S = Live directory.Unit} {T = Live directory.Unit} {y = end_is} acts_are.burns) (burns_none (went end) f)) (λ stands.
-                      opened_made n its (at_oneshot (life_with seen_planless) 0) made.now fence living.life (same ∙ living.is) acts_are (speaks its end_is given_is (enters_made stands))),
+                      opened_made n its (at_oneshot (life_with seen_planless) 0) made.now fence living.life (seen_empty (made.now).inclusion made.inclusion n.actor.state living empty) (living_there n.actor.state living) acts_are (speaks its end_is given_is (enters_made stands))),
                 )
 
             pub halted_acts : (stop : Stop) (out : List Line) (half_fence : Readiness)
@@ -250,7 +251,7 @@ module _ (script : Script) (number : ℕ) (life : Life) (source : HeldBlocks) (f
                 made_there (by_node_stop stop) (burns_next (by_node_stop stop) (went_burns {S = Live directory.Unit} {T = Live directory.Unit} {y = end_is} acts_are.burns) (burns_none (by_node_stop stop) f)) (λ stands.
                 halted_makes its (at_oneshot (life_with seen_planless) 0) end_is stop acts_are (speaks its end_is given_is (enters_made stands)))
 
-    module _ (Took : List (ℕ × SchemeInfo) → Type 0) (fence : Readiness) (state : State directory.Unit) where
+    module _ {C Signer Cfg : Type 0} (Took : List (ℕ × SchemeInfo) → Type 0) (fence : Readiness) (state : State C directory.Unit Signer Cfg) where
       -- IT ENDED in the actor's
       module _ (stop : Stop) where
         pub ended_acts : {files_now : Files} {image between : Files → Type 0} {old new : Moment}

@@ -20,10 +20,11 @@ use Rattle.dkg_types.specs.declared.scheme.SchemeInfo.{SchemeInfo}
 use Rattle.dkg_store.specs.Acts.{Acts, Cause, Ended, Held, IfWent, Moment, Stands, at, broken, moment, stopped, went}
 use Rattle.dkg_secrets.specs.Secrets.{Secrets}
 use Rattle.dkg_values.specs.Rising.{lookup}
-use Rattle.dkg_core.specs.Core.{no_orchestrator, opening}
+use Rattle.dkg_core.specs.Core.{no_inclusion, no_orchestrator, opening}
 use Rattle.dkg_core.specs.Courses.{Course, Goes, on_devices}
 use Rattle.dkg_core.specs.Entering.{is_ready}
 use Rattle.dkg_core.specs.Fixed.{Fixed}
+use Rattle.dkg_core.specs.Live as core
 use Rattle.dkg_core.specs.Live.{Faulted, Live, NodeStop, Orchestrator}
 use Rattle.dkg_core.specs.Node.{kept_material, node_opening, unless_once}
 use Rattle.dkg_core.specs.Said.{Said}
@@ -34,9 +35,10 @@ use Rattle.dkg_core.specs.Splitting.{named}
 use Rattle.dkg_core.specs.Forms.{IsOpened, IsSeated, IsSetUpIn, registered_with, seed_read, share_read, started}
 use Rattle.dkg_core.specs.Endings.{OnInfo, first_block, first_epoch}
 use Rattle.dkg_core.proofs.Openings.{openings_lead}
-use Rattle.dkg_reshare.specs.Actors.{EndsAt, lives}
+use Rattle.dkg_reshare.specs.Actors.{EndsAt, IfIncluding, IsLiving, lives}
 use Rattle.dkg_reshare.specs.Ends.{by_cause, by_stop, cause_in}
 use Rattle.dkg_reshare.specs.Given.{IsLent, IsOf, reading}
+use Rattle.dkg_reshare.specs.InclusionOf.{IsSeen}
 use Rattle.dkg_reshare.specs.LiveOf.{Beside, live_of, nothing_beside}
 use Rattle.dkg_reshare.specs.Made.{Burns, MakesAt, Speaks, Tells, UnlessBroken}
 use Rattle.dkg_reshare.specs.Opened.{IsInGrammar, IsOpeningOf, epoch_at}
@@ -44,6 +46,7 @@ use Rattle.dkg_reshare.specs.Planless.{IsBareOpening, seen_planless}
 use Rattle.dkg_reshare.specs.declared.actor.State.{State}
 use Rattle.dkg_reshare.specs.declared.actor.State.TheVariants.{New, Living, Failed as HadFailed}
 use Rattle.dkg_reshare.specs.declared.config.Terms.{Terms}
+use Rattle.dkg_reshare.specs.declared.inclusion.Inclusion.{Inclusion}
 use Rattle.dkg_reshare.specs.declared.life.Life as reshare
 use Rattle.dkg_reshare.specs.declared.stop.Stop.{Stop}
 use Rattle.dkg_reshare.specs.declared.stop.Stop.TheVariants as stops
@@ -109,42 +112,49 @@ module _ (c : Fixed directory.Unit) (seen : Seen) (k : Held) (st : Live director
 
 -- THE NODE, once both halves have opened
 
-module _ (n : Node) (c : Fixed directory.Unit) (reshare_is : c.oneshot ≡ None) (now : Beside directory.Unit) (fence : Readiness) (life : reshare.Life directory.Unit) (lives : n.actor.state ≡ Living life) where
-  abbrev pub end_of : Live directory.Unit
-  end_of = with_half n.half n.fence (live_of now fence life)
+module _ (n : Node) (c : Fixed directory.Unit) (reshare_is : c.oneshot ≡ None) (now : Beside directory.Unit) (fence : Readiness) (life : reshare.Life directory.Unit)
+    (lives : IfIncluding n.actor.state (λ its inclusion. (its ≡ life) × IsSeen inclusion now.inclusion)) (living : IsLiving n.actor.state)
+  where
+    abbrev pub end_of : Live directory.Unit
+    end_of = with_half n.half n.fence (live_of now fence life)
 
-  pub opened_view : IsView n end_of
-  opened_view = record {
-    life = life;
-    beside = record { orchestrator = record now.orchestrator { entered = n.half.entered; halted = n.half.halted; waiting = None }; probe = now.probe };
-    lives = lives;
-    is = refl;
-    half = record { entered = refl; halted = refl; unawaited = refl };
-  }
+    pub opened_view : IsView n end_of
+    opened_view = record {
+      life = life;
+      beside = record {
+          inclusion = now.inclusion;
+          orchestrator = record now.orchestrator { entered = n.half.entered; halted = n.half.halted; waiting = None };
+          probe = now.probe;
+        };
+        lives = lives;
+        living = living;
+      is = refl;
+      half = record { entered = refl; halted = refl; unawaited = refl };
+    }
 
-  abbrev next_opening : Live directory.Unit → Course directory.Unit NodeStop (Live directory.Unit)
-  next_opening st = unless_once c (kept_material c st) (Goes st)
+    abbrev next_opening : Live directory.Unit → Course directory.Unit NodeStop (Live directory.Unit)
+    next_opening st = unless_once c (kept_material c st) (Goes st)
 
-  entered_as : next_opening (live_of now fence life) ≡ kept_material c (live_of now fence life)
-  entered_as = unless_reshare c (kept_material c (live_of now fence life)) (Goes (live_of now fence life)) reshare_is
+    entered_as : next_opening (live_of now fence life) ≡ kept_material c (live_of now fence life)
+    entered_as = unless_reshare c (kept_material c (live_of now fence life)) (Goes (live_of now fence life)) reshare_is
 
-  pub opened_made : {files files_now : Files} {image next : Files → Type 0} {old : Moment} {mid_out out : List Line} {s : Secrets} {f : Burn}
-      → MakesAt (on_devices (opening c)) (went (live_of now fence life)) files image files_now next old (moment mid_out s f)
-      → Speaks (kept_material c (live_of now fence life)) (went end_of) mid_out out
-      → MakesAt (on_devices (node_opening c)) (went end_of) files image files_now next old (moment out s f)
-  opened_made {files_now = files_now} {next = next} {mid_out = mid_out} {out = out} {s = s} {f = f} made speaks =
-      node_goes (opening c) next_opening made
-      (subst (λ (a : Course directory.Unit NodeStop (Live directory.Unit)). MakesAt (on_devices a) (went end_of) files_now next files_now next (moment mid_out s f) (moment out s f)) (sym entered_as)
-      (speaks_makes (kept_material c (live_of now fence life)) (went end_of) files_now next speaks))
+    pub opened_made : {files files_now : Files} {image next : Files → Type 0} {old : Moment} {mid_out out : List Line} {s : Secrets} {f : Burn}
+        → MakesAt (on_devices (opening c)) (went (live_of now fence life)) files image files_now next old (moment mid_out s f)
+        → Speaks (kept_material c (live_of now fence life)) (went end_of) mid_out out
+        → MakesAt (on_devices (node_opening c)) (went end_of) files image files_now next old (moment out s f)
+    opened_made {files_now = files_now} {next = next} {mid_out = mid_out} {out = out} {s = s} {f = f} made speaks =
+        node_goes (opening c) next_opening made
+        (subst (λ (a : Course directory.Unit NodeStop (Live directory.Unit)). MakesAt (on_devices a) (went end_of) files_now next files_now next (moment mid_out s f) (moment out s f)) (sym entered_as)
+        (speaks_makes (kept_material c (live_of now fence life)) (went end_of) files_now next speaks))
 
-  pub opened_says : {out mid_out new : List Line} → Said (on_devices (opening c)) (went (live_of now fence life)) out mid_out
-      → Speaks (kept_material c (live_of now fence life)) (went end_of) mid_out new → ViewedNew (Ok n) (λ ended. Tells (node_opening c) ended out new)
-  opened_says {mid_out = mid_out} {new = new} said speaks = (
-    end_of,
-    opened_view,
-    node_says (opening c) next_opening said
-        (subst (λ (a : Course directory.Unit NodeStop (Live directory.Unit)). Tells a (went end_of) mid_out new) (sym entered_as) (speaks_says (kept_material c (live_of now fence life)) (went end_of) speaks)),
-  )
+    pub opened_says : {out mid_out new : List Line} → Said (on_devices (opening c)) (went (live_of now fence life)) out mid_out
+        → Speaks (kept_material c (live_of now fence life)) (went end_of) mid_out new → ViewedNew (Ok n) (λ ended. Tells (node_opening c) ended out new)
+    opened_says {mid_out = mid_out} {new = new} said speaks = (
+      end_of,
+      opened_view,
+      node_says (opening c) next_opening said
+          (subst (λ (a : Course directory.Unit NodeStop (Live directory.Unit)). Tells a (went end_of) mid_out new) (sym entered_as) (speaks_says (kept_material c (live_of now fence life)) (went end_of) speaks)),
+    )
 
 -- .. or the second has found no memory: an orchestrator's half that stops, over any node
 module _ (c : Fixed directory.Unit) (reshare_is : c.oneshot ≡ None) (st : Live directory.Unit) (stop : Stop) where
@@ -173,20 +183,35 @@ module _ (c : Fixed directory.Unit) (stop : Stop) where
 
 -- HOW AN OPENING OF THE ACTOR ENDED
 
-pub lives_err : (view : reshare.Life directory.Unit → Live directory.Unit) (state : State directory.Unit) (stop : Stop) → lives view state (Err stop) ≡ by_stop stop
+pub lives_err : {C Signer Cfg : Type 0} (view : reshare.Life directory.Unit → Live directory.Unit) (state : State C directory.Unit Signer Cfg) (stop : Stop) → lives view state (Err stop) ≡ by_stop stop
 lives_err view New stop = refl
-lives_err view (Living life) stop = refl
+lives_err view (Living life inclusion) stop = refl
 lives_err view HadFailed stop = refl
 
 -- where it went
-pub record Lives (state : State directory.Unit) : Type 0 where
+pub record Lives {C Signer Cfg : Type 0} (state : State C directory.Unit Signer Cfg) : Type 0 where
   pub life : reshare.Life directory.Unit
-  pub is : state ≡ Living life
+  pub its : Inclusion C directory.Unit Signer Cfg
+  pub is : state ≡ Living life its
 
-pub lives_at : (state : State directory.Unit) (P : reshare.Life directory.Unit → Type 0) → EndsAt state (Ok tt) P → Lives state
+pub lives_at : {C Signer Cfg : Type 0} (state : State C directory.Unit Signer Cfg) (P : reshare.Life directory.Unit → Type 0) → EndsAt state (Ok tt) P → Lives state
 lives_at New P ends = absurd ends
-lives_at (Living life) P ends = record { life = life; is = refl }
+lives_at (Living life its) P ends = record { life = life; its = its; is = refl }
 lives_at HadFailed P ends = absurd ends
+
+module _ {C Signer Cfg : Type 0} where
+  pub lives_went : (view : reshare.Life directory.Unit → Live directory.Unit) (state : State C directory.Unit Signer Cfg) (its : Lives state) → lives view state (Ok tt) ≡ went (view its.life)
+  lives_went view state its = ap (λ (s : State C directory.Unit Signer Cfg). lives view s (Ok tt)) its.is
+
+  pub living_there : (state : State C directory.Unit Signer Cfg) → Lives state → IsLiving state
+  living_there state its = subst (λ (s : State C directory.Unit Signer Cfg). IsLiving s) (sym its.is) tt
+
+  -- .. with nothing of requests
+  pub seen_empty : (now : core.Inclusion directory.Unit) → now ≡ no_inclusion → (state : State C directory.Unit Signer Cfg) (there : Lives state) → IfIncluding state (λ life its. IsSeen its no_inclusion)
+      → IfIncluding state (λ own inclusion. (own ≡ there.life) × IsSeen inclusion now)
+  seen_empty now is state there empty =
+      subst (λ (s : State C directory.Unit Signer Cfg). IfIncluding s (λ own inclusion. (own ≡ there.life) × IsSeen inclusion now)) (sym there.is)
+      (refl, subst (λ (i : core.Inclusion directory.Unit). IsSeen there.its i) (sym is) (subst (λ (s : State C directory.Unit Signer Cfg). IfIncluding s (λ life its. IsSeen its no_inclusion)) there.is empty))
 
 -- UNDER NAMES, and under what is asked of devices
 
@@ -198,23 +223,6 @@ pub unless_named : (S T : Type 0) (stop : Stop) (P Q : Type 0) → (P → Q) →
 unless_named S T stops.Cut P Q so p = tt
 unless_named S T stops.Failed P Q so p = tt
 unless_named S T (stops.Fault its) P Q so p = unless_cause S T (cause_in its) its P Q so p
-
-went_so : {F S : Type 0} (how : Ended F S) (P Q : Type 0) → (P → IfWent how (P → Q)) → IfWent how (P → Q)
-went_so (went end) P Q so = λ p. so p p
-went_so (stopped fault) P Q so = tt
-went_so (broken cause) P Q so = tt
-
--- what was burnt to the end, whatever end that is
-pub went_burns : {F G S T : Type 0} {x : S} {y : T} {f g : Burn} → Burns {F = F} (went x) f g → Burns {F = G} (went y) f g
-went_burns burns = record { call = burns.call; pick = burns.pick; uncut = burns.uncut }
-
--- Acts were made where they were, of a disk of which nothing was loose, with what the fuse burnt.
-pub made_there : {S : Type 0} {acts : Acts NodeStop S} (how : Ended NodeStop S) {files files_now : Files} {image now : Files → Type 0} {old new : Moment} → Burns how old.fuse new.fuse
-    → (Stands files image → MakesAt acts how files image files_now now old new) → MakesAt acts how files image files_now now old new
-made_there how {files} {files_now} {image} {now} burns so = record {
-  made = record { made = λ stands c here. (so stands).made.made stands c here; stands = went_so how (Stands files image) (Stands files_now now) (λ stands. (so stands).made.stands) };
-  burns = burns;
-}
 
 -- WHAT A LIFE'S OPENING IS GIVEN
 

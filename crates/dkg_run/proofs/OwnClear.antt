@@ -9,14 +9,12 @@ use Rattle.std.proofs.lemmas.Bool.{and_parts, eqb-true}
 use Rattle.std.proofs.lemmas.Bool.Decides.{nat_tests}
 use Rattle.dkg_values.specs.Rising.{lookup}
 use Rattle.dkg_ceremony.specs.Dealings.{dealing_of}
-use Rattle.dkg_ceremony.specs.Deals.{both_halves, deal_of, dealt_length, dealt_poly, again_of, is_share_of}
-use Rattle.dkg_ceremony.specs.DealLaws.{HasShare, shares_are_dealt}
+use Rattle.dkg_ceremony.specs.Deals.{deal_of}
 use Rattle.dkg_ceremony.specs.PartialPublics.{partial_public_of, share_public_of}
 use Rattle.dkg_ceremony.specs.RoundLaws.{round_has}
 use Rattle.dkg_ceremony.specs.Rounds.{round_of}
 use Rattle.dkg_ceremony.specs.declared.ceremony.DealingError.{DealingError}
 use Rattle.dkg_ceremony.specs.declared.deal.DealError.{DealError}
-use Rattle.dkg_ceremony.specs.declared.deal.DealError.TheVariants.{ShareRefused as Refuses}
 use Rattle.dkg_ceremony.specs.declared.mode.Reveal.TheVariants.{V1}
 use Rattle.dkg_ceremony.specs.declared.output.Output.{Output}
 use Rattle.dkg_ceremony.specs.declared.round.RoundParts.{RoundParts as Round}
@@ -38,15 +36,13 @@ use Rattle.dkg_core.specs.Live.{Live}
 use Rattle.dkg_core.specs.Setup.{carried_share, fitting, pairs_of, recovered_share, share_below}
 use Rattle.dkg_core.proofs.Storing.{looked_up}
 use Rattle.dkg_run.specs.Given.{Lived, at_step}
+use Rattle.dkg_run.proofs.Sharing.{carried_serves}
 
 some_is : {A : Type 0} {x y : A} → ◌≡◌ {A = Option A} (Some x) (Some y) → x ≡ y
 some_is e = cc
 
 none_some : {A : Type 0} (x : A) → ◌≡◌ {A = Option A} None (Some x) → ⊥
 none_some x e = cc
-
-ok_err : {A E : Type 0} (x : A) (e : E) → ◌≡◌ {A = Result A E} (Ok x) (Err e) → ⊥
-ok_err x e is = cc
 
 -- DEALINGS that all pass
 
@@ -87,17 +83,6 @@ none_refused_in me round st pairs same passes =
         let parts = and_parts (x.0.0 == round.number) (nat_lt x.0.1 (2 ^ 32)) test in
         let at : get pairs (round.number, x.0.1) ≡ Some x.1 = subst (λ (e : ℕ). get pairs (e, x.0.1) ≡ Some x.1) (eqb-true x.0.0 round.number parts.0) (get-entries pairs x.0 ∙ there) in
         passes x.0.1 x.1 (is_low x.0.1 parts.1) at
-
--- A SHARE that fits
-
-deal_errs : (round : Round) (signer : ℕ) (share : Option ℕ) (seed : List ℕ) (why : DealError) → deal_of round signer share seed ≡ Err why → deal_of round signer share seed ≡ Err Refuses
-unfolding deal_of
-deal_errs round signer share seed why is = by_test (is_share_of round.previous signer share) is
-  where
-    by_test : (t : Bool) → (if not t then Err Refuses else Ok (both_halves (dealt_poly (again_of round.previous share) seed (dealt_length (length round.players))) round.players)) ≡ Err why
-        → (if not t then Err Refuses else Ok (both_halves (dealt_poly (again_of round.previous share) seed (dealt_length (length round.players))) round.players)) ≡ Err Refuses
-    by_test true e = absurd (ok_err _ why e)
-    by_test false e = refl
 
 -- of what a call answers
 of_answer : {T E : Type 0} (P : T → Type 0) (r : Result T E) (t : T) → IfOk r P → r ≡ Ok t → P t
@@ -156,9 +141,6 @@ module _ (g : Lived) (taken : ℕ) (epoch : ℕ) (info : EpochInfo directory.Uni
           (round_of g.script.config.namespace epoch (Some info.output) g.script.config.mode V1 info.output.players info.players) round
           (round_has g.script.config.namespace epoch (Some info.output) g.script.config.mode V1 info.output.players info.players) why.1.2.1)
 
-      refused : deal_of round me share seed ≡ Err Refuses
-      refused = deal_errs round me share seed why.1.2.2.1.0 why.1.2.2.1.1
-
       by_key : (a b c : Bool) → (a && b && c) ≡ true → b ≡ true
       by_key true true c e = refl
       by_key true false c e = absurd cc
@@ -171,8 +153,8 @@ module _ (g : Lived) (taken : ℕ) (epoch : ℕ) (info : EpochInfo directory.Uni
           let nothing : (is_some share || is_none round.previous) ≡ false = ap (λ (o : Option ℕ). is_some o || is_none round.previous) none ∙ ap (λ (o : Option Output). is_none o) previous in
           let wrong : true ≡ false = sym some ∙ nothing in cc
       by_share (Some its) there =
-          let has : HasShare round.previous me share = subst (λ (p : Option Output). HasShare p me share) (sym previous) (subst (λ (o : Option ℕ). IsSomeAnd o (λ s. partial_public_of info.output me ≡ Some (share_public_of s))) (sym there) (fits its there)) in
-          (shares_are_dealt round me share seed).1 has refused
+          carried_serves round me its seed why.1.2.2.1.0 (subst (λ (p : Option Output). IsSomeAnd p (λ (o : Output). partial_public_of o me ≡ Some (share_public_of its))) (sym previous) (fits its there))
+          (subst (λ (o : Option ℕ). deal_of round me o seed ≡ Err why.1.2.2.1.0) there why.1.2.2.1.1)
 
   -- A STORED DEALING is refused only where one that is given back is
   pub stored_pass : (share : Option ℕ) (seed : List ℕ) (st : Live directory.Unit) (now : Held) (number dealer : ℕ) → st.records.dealings ≡ maps.entries (recovered_in now)

@@ -17,6 +17,7 @@ use Rattle.dkg_script.specs.Promise.{Adds, AnswersDealings, KeepsDealings, RunsA
 use Rattle.dkg_script.specs.AsCut.{setting_as_cut}
 use Rattle.dkg_script.specs.SameOffers.{OffersTheSame}
 use Rattle.dkg_script.specs.Setting.{Setting, setting_of}
+use Rattle.dkg_run.specs.Answers.{AnswersSo}
 use Rattle.dkg_run.specs.Blamed.{BlamesSo}
 use Rattle.dkg_run.specs.Causes.{HasCause}
 use Rattle.dkg_run.specs.Complete.{IsSoundRun, IsValidAsCut}
@@ -29,9 +30,10 @@ use Rattle.dkg_run.specs.Lives.{AnyFiles, RunsSo, TellsEnd}
 use Rattle.dkg_run.specs.Over.{Over}
 use Rattle.dkg_run.specs.Promised.{DoesRun, Promised}
 use Rattle.dkg_run.specs.Refusals.{BlamesOnlySkips}
+use Rattle.dkg_run.specs.SharesStand.{CommitsFit, Fits}
 use Rattle.dkg_run.specs.Ways.{by_lines, trace}
-use Rattle.dkg_run.proofs.Begun.{begun_answers, begun_keeps, begun_offers, begun_plans, begun_valid, begun_valid_uncut, begun_whole, cut_form, cut_runs, cut_script}
-use Rattle.dkg_run.proofs.Blaming.{run_blames}
+use Rattle.dkg_run.proofs.Begun.{begun_answers, begun_commits, begun_keeps, begun_offers, begun_plans, begun_valid, begun_valid_uncut, begun_whole, cut_form, cut_runs, cut_script}
+use Rattle.dkg_run.proofs.Blaming.{run_answers, run_blames}
 use Rattle.dkg_run.proofs.Completing.{unblamed}
 use Rattle.dkg_run.proofs.Finishing.{completes}
 use Rattle.dkg_run.proofs.CutLives.{lines_cut}
@@ -41,7 +43,7 @@ use Rattle.dkg_run.proofs.Ordered.{run_all_lives, run_in_order}
 use Rattle.dkg_run.proofs.Places.{all_of_both}
 use Rattle.dkg_run.proofs.Skipping.{run_skips}
 use Rattle.dkg_run.proofs.Telling.{run_ends}
-use Rattle.dkg_run.proofs.Unbegun.{ToldNone, Unmoved, none_answers, none_completes, none_ends, none_keeps, none_offers, none_plans, none_shows, none_skips, none_valid, none_whole}
+use Rattle.dkg_run.proofs.Unbegun.{ToldNone, Unmoved, none_answered, none_answers, none_commits, none_completes, none_ends, none_keeps, none_offers, none_plans, none_shows, none_skips, none_valid, none_whole}
 
 -- WHAT IS KNOWN OF WHAT ENDED THE LIVES is known where it is told
 pub known_told : (F : Fault → Type 0) (its answered : Fault) (mid new : List Entry) (picks : List ℕ) → F NoMemory → TellsEnd by_lines (Err its) (Err answered) (trace mid picks) (trace new picks) → F its → F answered
@@ -116,6 +118,8 @@ module _ (script : Script) (form : IsFormOfInclusion script) (o : Over) (disk_of
     pub kept : o.tells → KeepsDealings script o.before.files o.before.held o.before.image o.now.image o.now.held added
     pub answers : OnOk answered (o.tells → AnswersDealings script o.before.files o.before.held o.before.image added)
     pub offers : o.tells → Stands o.before.files o.before.image → OffersTheSame script o.before.files o.before.held added
+    pub requests : AnswersSo script added
+    pub shares : o.tells → Stands o.before.files o.before.image → CommitsFit script o.before.files o.before.held added
     pub complete : IfErr answered (λ its. IsSoundRun o (IsValidAsCut script added) → its ≡ NoMemory)
     pub gives_back : o.tells → GivesBack script answered o.before o.now added
 
@@ -143,6 +147,8 @@ module _ (script : Script) (form : IsFormOfInclusion script) (o : Over) (disk_of
         kept = λ told. none_keeps script o answered old new added is none;
         answers = none_answers script o answered old new added is none (o.tells → AnswersDealings script o.before.files o.before.held o.before.image added);
         offers = λ told here form consistent. none_offers script o answered old new added is none;
+        requests = none_answered script o answered old new added is none;
+        shares = λ told here form consistent fit. none_commits script o answered old new added is none (Fits (setting_as_cut script o.before.files o.before.held added));
         complete = none_completes script o answered old new added is none;
         gives_back = λ told. record {
           fit = fits told;
@@ -197,6 +203,8 @@ module _ (script : Script) (form : IsFormOfInclusion script) (o : Over) (disk_of
       kept = begun_keeps script form checked bytes o disk_of answered old new added is runs itself left;
       answers = all_answered;
       offers = begun_offers script form checked bytes o disk_of answered old new added is runs itself left;
+      requests = added_so old new added (AnswersSo script) is (run_answers script checked (lives_over script form checked) AnyFiles (trace old []) (trace new picks) answered run);
+      shares = begun_commits script form checked bytes o disk_of answered old new added is runs itself left;
       complete = completed answered all_completed;
       gives_back = λ told. record {
         fit = fits told;
@@ -226,6 +234,8 @@ module _ (script : Script) (form : IsFormOfInclusion script) (o : Over) (disk_of
     kept = its.kept;
     answered = its.answers;
     offers = its.offers;
+    answers = its.requests;
+    shares = its.shares;
     complete = its.complete;
     gives_back = its.gives_back;
   }

@@ -160,7 +160,7 @@ module _ (s : Setting) (cuts : List (Option CutAt)) (form : IsFormOfInclusion s.
   unfolding at_step
   reads_secrets i = record { shares = λ h. refl; seeds = λ h. refl }
 
-  said_of : (taken : ℕ) (h : Held) → SharesFit s h → (epoch : ℕ) → mine s epoch (lookup epoch ((at_step g taken).seen h).shares)
+  pub said_of : (taken : ℕ) (h : Held) → SharesFit s h → (epoch : ℕ) → mine s epoch (lookup epoch ((at_step g taken).seen h).shares)
   said_of taken h such epoch = subst (λ (o : Option ℕ). mine s epoch o) (sym (ap (lookup epoch) (reads_shares taken h) ∙ looked_up epoch h.secrets.shares)) (by_share (get h.secrets.shares epoch) refl)
     where
       by_share : (o : Option ℕ) → get h.secrets.shares epoch ≡ o → mine s epoch o
@@ -168,7 +168,7 @@ module _ (s : Setting) (cuts : List (Option CutAt)) (form : IsFormOfInclusion s.
       by_share (Some share) got = such epoch share got
 
   -- AN INFO that the script has of its epoch
-  known_serves : (taken : ℕ) (info : EpochInfo directory.Unit) → known_info s info.epoch ≡ Some (with_spelled unit_spelling info) → Serves (IsMineAt s) (at_step g taken) info
+  pub known_serves : (taken : ℕ) (info : EpochInfo directory.Unit) → known_info s info.epoch ≡ Some (with_spelled unit_spelling info) → Serves (IsMineAt s) (at_step g taken) info
   known_serves taken info known h such = by_share (recovered_share (at_step g taken) ((at_step g taken).seen h) info) refl
     where
       by_share : (o : Option ℕ) → recovered_share (at_step g taken) ((at_step g taken).seen h) info ≡ o → IfSome o (IsMineAt s info.epoch)
@@ -190,7 +190,7 @@ module _ (s : Setting) (cuts : List (Option CutAt)) (form : IsFormOfInclusion s.
       ∙ sym (filter_map-append (slice_get (blocks_in s.script)) life.held (option_to_list (option_map anchor_number life.anchor) ++ filter_map delivered_number (take taken life.events)))
 
   -- so many came
-  abbrev Came : (taken : ℕ) → Type 0
+  abbrev pub Came : (taken : ℕ) → Type 0
   Came taken = (i : ℕ) → i < taken → (e : Event) × (slice_get life.events i ≡ Some e) × IsReached life.cut (suc i)
 
   delivered_known : (taken : ℕ) → Came taken → AllByRecursion Known (filter_map delivered_number (take taken life.events))
@@ -210,7 +210,7 @@ module _ (s : Setting) (cuts : List (Option CutAt)) (form : IsFormOfInclusion s.
       one (event.Final number) is = (of_delivered s l life (Begins s cuts form consistent) life_is (used_begin s cuts form consistent) i number (comes_to life.cut life.events i last.2 ∙ is), tt)
       one other is = tt
 
-  boundary_known : (taken : ℕ) → Came taken → (epoch : ℕ) (block : made.Block directory.Unit) (info : EpochInfo directory.Unit) → (at_step g taken).source.block (boundary (at_step g taken).blocks_per_epoch epoch) ≡ Some block
+  pub boundary_known : (taken : ℕ) → Came taken → (epoch : ℕ) (block : made.Block directory.Unit) (info : EpochInfo directory.Unit) → (at_step g taken).source.block (boundary (at_step g taken).blocks_per_epoch epoch) ≡ Some block
       → info_of block.payload ≡ Some info → info.epoch ≡ epoch → IsScripts s info
   unfolding at_step
   boundary_known taken came epoch block info found carries same =
@@ -332,6 +332,7 @@ module _ (s : Setting) (cuts : List (Option CutAt)) (form : IsFormOfInclusion s.
       -- so is the share that is carried on with a last block's info
       pub share_mine : (number : ℕ) → its ≡ event.Final number → (block : made.Block directory.Unit) → slice_get (blocks_in s.script) number ≡ Some block → is_last_height c block.height ≡ true
           → (on : IsCarriedOn c (mine s) block st (Some w.held)) → IfSome on.share (IsMineAt s (on.info).epoch)
+      unfolding at_step
       share_mine number of block there last_one on = by_stage st.participation.stage refl on.shared
         where
           made_of : (share : ℕ) → on.share ≡ Some share → IsShareTaken c (mine s) st on.h on.info on.share Includes → IsMineAt s (on.info).epoch share
@@ -351,8 +352,8 @@ module _ (s : Setting) (cuts : List (Option CutAt)) (form : IsFormOfInclusion s.
                   subst (λ (o : Option ℕ). IfSome o (IsMineAt s (on.info).epoch)) (sym read)
                   (last_serves i number (is ∙ ap (λ (e : Event). Some e) of) reached block there last_one on.info on.carried on.of_next on.h (subst (SharesFit s) (sym on.found) q))
               in_stage Includes made = by_share on.share refl made
-              in_stage Deals no = absurd no
-              in_stage Ends no = absurd no
+              in_stage Deals none = absurd none
+              in_stage Ends none = absurd none
 
       pub step_fits : (ended : Ended NodeStop (Live directory.Unit)) (new : World) → EndsSo (step_of g (suc i) its st) ended w new → SharesFit s new.held
       step_fits ended new run = by_kind (brings_kind g its m.message m.brings)

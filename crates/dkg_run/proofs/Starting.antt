@@ -33,7 +33,7 @@ use Rattle.dkg_reshare.specs.declared.stop.Stop.TheVariants.{Cut, Failed, Fault 
 use Rattle.dkg_reshare.proofs.Said.{nothing_held}
 use Rattle.dkg_run.specs.Causes.{StopHasCause}
 use Rattle.dkg_run.specs.Epochs.{IsAt, IsChecked, IsLifeInForm}
-use Rattle.dkg_run.specs.Given.{IsUnplanned, Lived, at_step, blocks_in, lived}
+use Rattle.dkg_run.specs.Given.{AreBytes, IsUnplanned, Lived, at_step, blocks_in, lived}
 use Rattle.dkg_run.specs.Lives.{LivesSo, TakesAll, fuse_for}
 use Rattle.dkg_run.specs.Moving.{StepBlames, StopBlames, Went}
 use Rattle.dkg_run.specs.Nodes.{HasOpened, IsOfLife, IsStepHere, IsView, ViewedNew}
@@ -122,8 +122,8 @@ module _ (script : Script) (number : ℕ) (life : Life) (files : Files) (out : L
             at_first = (opened_at by_lines lines_lead its over_it (read.so).0 f (trace out []) (trace now [])
                 (lines_go (node_opening (at_step its 0)) (went (read.so).0) f out now [] (read.so).2 (λ is. absurd (went_uncut (read.so).0 is)))).3
 
-            pub has_opened : HasOpened node blocks life
-            has_opened = record { g = its; here = over_it; of = step_of_it; st = (read.so).0; view = (read.so).1; at = at_first }
+            pub has_opened : AreBytes script.blocks → HasOpened node blocks life
+            has_opened bytes = record { g = its; here = over_it; bytes = bytes; of = step_of_it; st = (read.so).0; view = (read.so).1; at = at_first }
 
             pub told_first : (how : Result (Unit {0}) Stop) (behind now_then : List Line) → behind ≡ now ++ entry.Step 0 ∷ []
                 → ((g : Lived) (st : Live directory.Unit) (picks : List ℕ) → IsLifeInForm g → IsStepHere g node blocks life → IsView node st → IsAt g 0 st

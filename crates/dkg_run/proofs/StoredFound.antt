@@ -32,9 +32,10 @@ use Rattle.dkg_core.specs.Setup.{may_deal, refused_in}
 use Rattle.dkg_core.specs.Stepping.{OwnDiffers}
 use Rattle.dkg_core.proofs.Sound.{first_of_three}
 use Rattle.dkg_run.specs.Blamed.{Draws, per_epoch, round_by}
-use Rattle.dkg_run.specs.Found.{IsBegunBy, IsCarriedShare, IsDealtFrom, IsFirstRefusedIn, IsRefusedBy}
+use Rattle.dkg_run.specs.Found.{IsBegunBy, IsCarriedShare, IsFirstRefusedIn, IsRefusedBy}
 use Rattle.dkg_run.specs.Given.{Lived, at_step, blocks_in}
 use Rattle.dkg_run.proofs.Former.{is_ceremony}
+use Rattle.dkg_run.proofs.Sharing.{carried_serves}
 
 module _ (g : Lived) (taken : ℕ) (st : Live directory.Unit) (now : Held) (same : st.records.dealings ≡ maps.entries (recovered_in now)) where
   -- a stored dealing, by the block that the info stands in
@@ -87,7 +88,7 @@ module _ (g : Lived) (taken : ℕ) (st : Live directory.Unit) (pairs : Pairs) (s
       here = ap (λ (ps : List Pair). first_refused (dealing_of round g.script.config.me) (filter (λ (p : Pair). (p.0.0 == round.number) && nat_lt p.0.1 (2 ^ 32)) ps)) (sym same) ∙ refused
 
 module _ (g : Lived) (taken : ℕ) (now : Held) where
-  -- A share that is refused: its seed is stored, and so is it, or the round carries it on.
+  -- A share that is refused is stored, with its seed.
   module _ (epoch : ℕ) (info : EpochInfo directory.Unit) (share : Option ℕ) (seed : List ℕ) (of_epoch : info.epoch ≡ epoch) (seed_is : get now.secrets.seeds epoch ≡ Some seed)
       (shared : (its : ℕ) → share ≡ Some its → (get now.secrets.shares epoch ≡ Some its) ⊎ (stand_in.partial_public_of info.output g.script.config.me ≡ Some (stand_in.share_public_of its)))
       (round : Round) (why : DealError) (at : Live directory.Unit) (may : may_deal (at_step g taken) round share at ≡ true) where
@@ -107,9 +108,10 @@ module _ (g : Lived) (taken : ℕ) (now : Held) where
     unfolding at_step
     dealer = first_of_three (has round.dealers g.script.config.me) (is_some share || is_none round.previous) (is_none (lookup g.script.config.me (logs_of at round.number))) may
 
-    from : round_by g.script epoch info ≡ Ok round → IsDealtFrom g.script now.secrets epoch round share
+    -- one that the round carries on isn't refused
+    held : round_by g.script epoch info ≡ Ok round → deal_of round g.script.config.me share seed ≡ Err why → get now.secrets.shares epoch ≡ share
     unfolding at_step
-    from drawn = by_share share refl may
+    held drawn deals = by_share share refl may
       where
         lacks : (m x : Bool) → (m && false && x) ≡ true → ⊥
         lacks true x e = let wrong : ◌≡◌ {A = Bool} false true = e in cc
@@ -118,15 +120,19 @@ module _ (g : Lived) (taken : ℕ) (now : Held) where
         carried : (its : ℕ) → stand_in.partial_public_of info.output g.script.config.me ≡ Some (stand_in.share_public_of its) → IsCarriedShare g.script.config.me round its
         carried its fits = subst (λ (o : Option Output). IsSomeAnd o (λ output. stand_in.partial_public_of output g.script.config.me ≡ Some (stand_in.share_public_of its))) (sym (previous_is drawn)) fits
 
-        by_share : (o : Option ℕ) → share ≡ o → may_deal (at_step g taken) round o at ≡ true → (get now.secrets.shares epoch ≡ o) ⊎ IsSomeAnd o (IsCarriedShare g.script.config.me round)
-        by_share (Some its) is may = elim (shared its is) [ inl there ↦ inl there | inr fits ↦ inr (carried its fits) ]
+        by_share : (o : Option ℕ) → share ≡ o → may_deal (at_step g taken) round o at ≡ true → get now.secrets.shares epoch ≡ o
+        by_share (Some its) is may = elim (shared its is) [
+          | inl there ↦ there
+          | inr fits ↦ absurd (carried_serves round g.script.config.me its seed why (carried its fits) (subst (λ (o : Option ℕ). deal_of round g.script.config.me o seed ≡ Err why) is deals))
+        ]
         by_share None is may = absurd (lacks (has round.dealers g.script.config.me) (is_none (lookup g.script.config.me (logs_of at round.number)))
             (subst (λ (o : Option Output). (has round.dealers g.script.config.me && (is_some {T = ℕ} None || is_none o) && is_none (lookup g.script.config.me (logs_of at round.number))) ≡ true) (previous_is drawn) may))
 
     pub refused_drawn : validity (at_step g taken) info ≡ Ok tt → round_for (at_step g taken) epoch info ≡ Ok round → (at_step g taken).rules.deal_of round (at_step g taken).me share seed ≡ Err why
         → Draws g.script epoch info (IsRefusedBy g.script now.secrets epoch)
     unfolding at_step
-    refused_drawn valid drawn deals = (of_epoch, valid, (round, drawn, (dealer, (seed, share, why, seed_is, from drawn, deals))))
+    refused_drawn valid drawn deals =
+        (of_epoch, valid, (round, drawn, (dealer, (seed, why, seed_is, subst (λ (o : Option ℕ). deal_of round g.script.config.me o seed ≡ Err why) (sym (held drawn deals)) deals))))
 
   -- .. by the block that the info stands in
   pub refused_found : (epoch : ℕ) (info : EpochInfo directory.Unit) (number : ℕ) → number ≡ epoch → Draws g.script epoch info (IsRefusedBy g.script now.secrets epoch)

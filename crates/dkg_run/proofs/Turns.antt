@@ -2,7 +2,7 @@
 use Rattle.std.proofs.Common.{MutBor, ◌≡◌, inl, inr, ℕ, ◌<◌, ◌++◌, [], ◌∷◌, Bool, List, Option, Some, None, Result, Ok, Err, refl, sym, subst, arith}
 use Rattle.std.specs.Prelude.{Contains, IsTrue, filter_map}
 use Rattle.std.proofs.lemmas.List.Elements.{Contains-append_right}
-use Rattle.std.specs.Int.NonZero.{non_zero_u32_get, non_zero_u64_get}
+use Rattle.std.specs.Int.NonZero.{non_zero_u32_get}
 use Rattle.dkg_ceremony.specs.Acks.{ack_of, check_ack_of}
 use Rattle.dkg_ceremony.specs.Deals.{deal_of}
 use Rattle.dkg_journal.specs.Burn.{Burn}
@@ -21,14 +21,12 @@ use Rattle.dkg_script.specs.Blocks.{delivered_number}
 use Rattle.dkg_text.specs.declared.script.Cut as cut
 use Rattle.dkg_text.specs.declared.script.Life.{Life}
 use Rattle.dkg_text.specs.declared.script.Event.{Event}
-use Rattle.dkg_text.specs.declared.script.Event.TheVariants.{Final, Peer}
+use Rattle.dkg_text.specs.declared.script.Event.TheVariants.{Peer, Final, Next, Release, Info, Feed, Over, Cancel, Work}
 use Rattle.dkg_core.specs.Courses.{Course, on_devices}
 use Rattle.dkg_core.specs.Live.{Live, NodeStop}
 use Rattle.dkg_reshare.specs.Actors.{IfLiving, IsReadyLife}
-use Rattle.dkg_reshare.specs.LiveOf.{IsPlaced}
 use Rattle.dkg_reshare.specs.Made.{MakesAt, MakesOn, Tells}
 use Rattle.dkg_reshare.specs.Moved.{IsFirm}
-use Rattle.dkg_reshare.specs.declared.actor.State.{State}
 use Rattle.dkg_reshare.specs.declared.actor.State.TheVariants.{Failed as HadFailed, Living, New}
 use Rattle.dkg_reshare.specs.declared.config.Terms.{Terms}
 use Rattle.dkg_reshare.specs.declared.stop.Stop.{Stop}
@@ -43,6 +41,7 @@ use Rattle.dkg_run.specs.declared.held.HeldBlocks.{HeldBlocks}
 use Rattle.dkg_run.specs.Given.{Lived}
 use Rattle.dkg_run.specs.Ways.{Trace, Way, by_lines, by_worlds, trace}
 use Rattle.dkg_run.specs.declared.node.Node.{Node}
+use Rattle.dkg_run.proofs.Noding.{NodeState, living_in}
 use Rattle.dkg_run.proofs.Stepping.{lines_go, step_cut, step_stops, step_told, step_untold, uncut, worlds_go}
 
 -- NOTHING IS LOOSE on the devices of a node that goes on
@@ -50,19 +49,8 @@ use Rattle.dkg_run.proofs.Stepping.{lines_go, step_cut, step_stops, step_told, s
 pub node_lands : {D X : Type 0} (tells : Bool) (files : D → Files) (image : D → Files → Type 0) (node : Node) (devices : Devices D X) → IsReadyNode tells files image node devices → IsTrue tells
     → Lands (files devices.disk.now) (image devices.disk.now)
 node_lands tells files image node devices ready told =
-    let its : IsReadyLife tells files image ack_of deal_of check_ack_of node.actor.terms (ready.viewed.1).life devices =
-    subst (λ (s : State directory.Unit). IfLiving s (λ life. IsReadyLife tells files image ack_of deal_of check_ack_of node.actor.terms life devices)) (ready.viewed.1).lives ready.at.ready in
-    (its.firm told).lands
-
--- .. and its life stands in its epoch
-pub node_placed : {D X : Type 0} (tells : Bool) (files : D → Files) (image : D → Files → Type 0) (node : Node) (devices : Devices D X) → IsReadyNode tells files image node devices
-    → IfLiving node.actor.state (IsPlaced (non_zero_u64_get node.actor.terms.blocks_per_epoch))
-node_placed tells files image node devices ready = in_state node.actor.state ready.at.ready
-  where
-    in_state : (s : State directory.Unit) → IfLiving s (λ life. IsReadyLife tells files image ack_of deal_of check_ack_of node.actor.terms life devices) → IfLiving s (IsPlaced (non_zero_u64_get node.actor.terms.blocks_per_epoch))
-    in_state New is = tt
-    in_state (Living life) is = is.placed
-    in_state HadFailed is = tt
+    let its = living_in node.actor.state (λ life. IsReadyLife tells files image ack_of deal_of check_ack_of node.actor.terms life devices) ready.living ready.at.ready in
+    (its.1.firm told).lands
 
 -- A STEP WITH ITS FUSE
 
@@ -143,14 +131,21 @@ module _ (line : Line) (its : Option cut.Cut) (number : ℕ) (none : fuse_for it
 
 -- THE BLOCK that an event delivers is held
 
-pub event_here : (per_epoch : ℕ) (old now : HeldBlocks) (state : State directory.Unit) (event : Event) → now.blocks ≡ old.blocks → now.numbers.items ≡ old.numbers.items ++ filter_map delivered_number (event ∷ [])
-    → IsEventOfBlocks per_epoch old.blocks.now state event → IsEventHere per_epoch now state event
-event_here per_epoch old now state (Final number) blocks numbers is = (
+pub event_here : (limit : ℕ) (old now : HeldBlocks) (event : Event) → now.blocks ≡ old.blocks → now.numbers.items ≡ old.numbers.items ++ filter_map delivered_number (event ∷ [])
+    → IsEventOfBlocks limit old.blocks.now event → IsEventHere limit now event
+event_here limit old now (Final number) blocks numbers is = (
   subst (λ (l : List ℕ). Contains l number) (sym numbers) (Contains-append_right old.numbers.items (number ∷ []) number (0, omega arith, refl)),
   rw blocks is,
 )
-event_here per_epoch old now state (Peer from bytes) blocks numbers is = tt
-event_here per_epoch old now state event blocks numbers is = absurd is
+event_here limit old now (Peer from bytes) blocks numbers is = tt
+event_here limit old now (Next request height) blocks numbers is = tt
+event_here limit old now (Release height) blocks numbers is = tt
+event_here limit old now (Info request) blocks numbers is = tt
+event_here limit old now (Feed request number) blocks numbers is = rw blocks is
+event_here limit old now (Over request) blocks numbers is = tt
+event_here limit old now (Cancel request) blocks numbers is = tt
+event_here limit old now Work blocks numbers is = tt
+event_here limit old now event blocks numbers is = absurd is
 
 -- A CUT is one of the fuse
 
@@ -205,13 +200,16 @@ module _ {D X : Type 0} (files : D → Files) (image : D → Files → Type 0) (
 pub ready_over : {D X : Type 0} (tells : Bool) (files : D → Files) (image : D → Files → Type 0) (node : Node) (old begun : Devices D X) → begun.disk ≡ old.disk → IsReadyNode tells files image node old → IsReadyNode tells files image node begun
 ready_over {D} {X} tells files image node old begun same ready = record {
   at = record { opened = ready.at.opened; ready = in_state node.actor.state ready.at.ready };
-  viewed = ready.viewed;
+  living = ready.living;
+  including = ready.including;
+  blocks_are = ready.blocks_are;
+  settled = ready.settled;
 }
   where
-    in_state : (s : State directory.Unit) → IfLiving s (λ life. IsReadyLife tells files image ack_of deal_of check_ack_of node.actor.terms life old)
+    in_state : (s : NodeState) → IfLiving s (λ life. IsReadyLife tells files image ack_of deal_of check_ack_of node.actor.terms life old)
         → IfLiving s (λ life. IsReadyLife tells files image ack_of deal_of check_ack_of node.actor.terms life begun)
     in_state New is = tt
-    in_state (Living life) is = record {
+    in_state (Living life its) is = record {
       seated = is.seated;
       dealing = is.dealing;
       placed = is.placed;

@@ -1,6 +1,6 @@
 -- A run of which no life began: memory ran out before the first, or the configuration is refused. All is as it was, and what is told is the refusal at most.
 use Rattle.std.proofs.Common.{◌≡◌, ◌⊎◌, inl, inr, ℕ, Bool, List, [], ◌∷◌, ◌++◌, Option, Some, None, Result, Ok, Err, refl, sym, ◌∙◌, ap, subst, append-nil, length}
-use Rattle.std.specs.Prelude.{IfErr, OnOk}
+use Rattle.std.specs.Prelude.{Contains, IfErr, OnOk}
 use Rattle.std.specs.FinMap.{get}
 use Rattle.std.specs.List.{AllByRecursion}
 use Rattle.std.proofs.lemmas.List.{append_cancel_left}
@@ -25,9 +25,10 @@ use Rattle.dkg_script.specs.Position.{begun}
 use Rattle.dkg_script.specs.Progress.{at_start, progress}
 use Rattle.dkg_script.specs.Promise.{AreHonestStores, KeepsDealings, cuts_in}
 use Rattle.dkg_script.specs.SameOffers.{SameOffers}
-use Rattle.dkg_script.specs.Setting.{Setting, listed, recovered_from}
+use Rattle.dkg_script.specs.Setting.{Setting, listed, recovered_from, setting_of}
 use Rattle.dkg_script.proofs.Listed.{gives_all}
 use Rattle.dkg_script.proofs.EachEntry.{EachAfter, at_each}
+use Rattle.dkg_run.specs.Answers.{AnswersSo, IsAnswer}
 use Rattle.dkg_run.specs.Complete.{IsSoundRun, IsValidAsCut}
 use Rattle.dkg_script.specs.Ends.{EndsScript}
 use Rattle.dkg_run.specs.Epochs.{refused_config}
@@ -121,6 +122,10 @@ offers_none : (lines : List Entry) → AllByRecursion IsSilent lines → SameOff
 offers_none lines silent =
     record { one = λ epoch player public other_public private other_private here there. absurd (all_of IsSilent lines (entry.Offer epoch player public private) silent here) }
 
+abbrev IsUncommitted : Entry → Type 0
+IsUncommitted (entry.Committed epoch share) = ⊥
+IsUncommitted _ = Unit {0}
+
 -- THE CLAUSES
 
 module _ (script : Script) (o : Over) (answered : Result (Unit {0}) Fault) (old new added : List Entry) (is : new ≡ old ++ added) (none : ToldNone script answered old new (Unmoved o)) where
@@ -178,6 +183,14 @@ module _ (script : Script) (o : Over) (answered : Result (Unit {0}) Fault) (old 
 
   pub none_offers : SameOffers added
   none_offers = offers_none added (by_why (λ r es. AllByRecursion IsSilent es) tt (λ fault refused. (tt, tt)))
+
+  -- no request is answered
+  pub none_answered : AnswersSo script added
+  none_answered = by_why (λ r es. AnswersSo script es) (λ files held. at_each (setting_of script files held) (IsAnswer script) [] tt)
+      (λ fault refused files held. at_each (setting_of script files held) (IsAnswer script) (entry.Fault fault ∷ []) (tt, tt))
+  -- .. and nothing is committed
+  pub none_commits : (So : ℕ → ℕ → Type 0) (epoch share : ℕ) → Contains added (entry.Committed epoch (Some share)) → So epoch share
+  none_commits So epoch share has = absurd (all_of IsUncommitted added (entry.Committed epoch (Some share)) (by_why (λ r es. AllByRecursion IsUncommitted es) tt (λ fault refused. (tt, tt))) has)
 
   -- .. and what the devices held they hold
   pub none_plans : Lands o.before.files o.before.image → (c : Files) → o.now.image c → get c Plan ≡ get o.before.files Plan

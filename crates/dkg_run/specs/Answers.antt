@@ -10,17 +10,17 @@ use Rattle.dkg_types.specs.Blocks.{Block}
 use Rattle.dkg_types.specs.Paths.{logs_of_path}
 use Rattle.dkg_types.specs.Units.{unit_spelling}
 use Rattle.dkg_types.specs.declared.directory.Unit as directory
+use Rattle.dkg_types.specs.declared.entry.AnswerLine.{AnswerLine}
 use Rattle.dkg_types.specs.declared.entry.AnswerLine.TheVariants.{Available, Unavailable}
 use Rattle.dkg_types.specs.declared.entry.Entry.{Entry}
 use Rattle.dkg_types.specs.declared.entry.Entry.TheVariants.{Answer}
 use Rattle.dkg_types.specs.declared.entry.Why.{Why}
 use Rattle.dkg_types.specs.declared.entry.Why.TheVariants.{Short, WrongHeight, Unlinked, Detached, Following, Terminal, Finished, Held}
 use Rattle.dkg_types.specs.declared.info.EpochInfo.{EpochInfo}
-use Rattle.dkg_text.specs.declared.script.Event.TheVariants.{Final}
+use Rattle.dkg_text.specs.declared.script.Event.TheVariants.{Final, Info}
 use Rattle.dkg_text.specs.declared.script.Life.{Life}
 use Rattle.dkg_text.specs.declared.script.Script.{Script}
 use Rattle.dkg_script.specs.AsCut.{setting_as_cut}
-use Rattle.dkg_script.specs.Asked.{has_ended}
 use Rattle.dkg_script.specs.Epochs.{alone}
 use Rattle.dkg_script.specs.Blocks.{chain}
 use Rattle.dkg_script.specs.History.{IsWholeHistory}
@@ -29,7 +29,7 @@ use Rattle.dkg_script.specs.Position.{awaited_epoch, event_of_step, follows}
 use Rattle.dkg_script.specs.Progress.{AtEachEntry, Progress, progress}
 use Rattle.dkg_script.specs.Setting.{Setting, life_at, setting_of}
 use Rattle.dkg_script.specs.Views.{seen_block}
-use Rattle.dkg_run.specs.Asks.{IsPathOf, IsRefusedAt, IsShortAt, WereAsked, fed_in, next_bytes}
+use Rattle.dkg_run.specs.Asks.{IsPathOf, IsRefusedAt, IsShortAt, IsUncancelled, WereAsked, fed_in, next_bytes, standing_of}
 use Rattle.dkg_run.specs.Blamed.{IsInfoOf, IsTakenLast, per_epoch, round_by}
 use Rattle.dkg_run.specs.Given.{blocks_in}
 
@@ -38,33 +38,48 @@ U = directory.Unit
 
 -- WHATEVER THE DEVICES TELL
 
--- in step j the request is answered by what was asked of it in this step or an earlier one, while the same epoch was awaited
-pub record IsMadeOf (script : Script) (l : ℕ) (life : Life) (j request : ℕ) (payload : Option (List ℕ)) : Type 0 where
+-- the request was made while this epoch was awaited, and isn't cancelled by the first j events
+pub record IsAskedFor (script : Script) (l : ℕ) (life : Life) (epoch j request : ℕ) : Type 0 where
+  pub at : ℕ
+  pub before : at < j
+  pub made : slice_get life.events at ≡ Some (Info request)
+  pub same : awaited_epoch (alone script) l life at ≡ epoch
+  pub uncancelled : IsUncancelled (standing_of life request j)
+
+-- In step j the request is answered by the logs that were asked for as its ancestry was read, in this step or an earlier one that began while this epoch was awaited, in which the life takes part.
+pub record IsMadeOf (script : Script) (l : ℕ) (life : Life) (epoch j request : ℕ) (payload : Option (List ℕ)) : Type 0 where
+  pub takes_part : follows (alone script) l life epoch ≡ false
+  pub info : EpochInfo U
+  pub info_is : IsInfoOf script epoch info
+  pub round : Round
+  pub round_is : round_by script epoch info ≡ Ok round
   pub at : ℕ
   pub within : at ≤ j
-  pub same : awaited_epoch (alone script) l life at ≡ awaited_epoch (alone script) l life (j - 1)
-  pub info : EpochInfo U
-  pub info_is : IsInfoOf script (awaited_epoch (alone script) l life (j - 1)) info
-  pub round : Round
-  pub round_is : round_by script (awaited_epoch (alone script) l life (j - 1)) info ≡ Ok round
+  pub same : awaited_epoch (alone script) l life (at - 1) ≡ epoch
   pub recorded : LogMap
   pub logs : LogMap
-  pub asked : WereAsked script life (awaited_epoch (alone script) l life (j - 1)) request at round recorded logs
+  pub asked : WereAsked script life epoch request at round recorded logs
   pub bytes : payload ≡ Some (next_bytes script info round logs)
 
 -- why none is available
-abbrev pub IsUnavailable : Script → (l : ℕ) → Life → (j request : ℕ) → Why → Type 0
-IsUnavailable script l life j request Following = follows (alone script) l life (awaited_epoch (alone script) l life (j - 1)) ≡ true
-IsUnavailable script l life j request Finished =
-    IsSomeAnd (event_of_step life j) (λ event. (number : ℕ) × (b : Block U) × (event ≡ Final number) × (slice_get (blocks_in script) number ≡ Some b) × IsTakenLast script l life (j - 1) b)
-IsUnavailable script l life j request Short = (has_ended request (take j life.events) ≡ true) × IsShortAt script life (awaited_epoch (alone script) l life (j - 1)) request j
-IsUnavailable script l life j request Terminal = ⊥
-IsUnavailable script l life j request Held = ⊥
-IsUnavailable script l life j request why = IsRefusedAt script life (awaited_epoch (alone script) l life (j - 1)) request j why
+abbrev pub IsUnavailable : Script → (l : ℕ) → Life → (epoch j request : ℕ) → Why → Type 0
+IsUnavailable script l life epoch j request Following = follows (alone script) l life epoch ≡ true
+IsUnavailable script l life epoch j request Finished =
+    (follows (alone script) l life epoch ≡ false)
+    × IsSomeAnd (event_of_step life j) (λ event. (number : ℕ) × (b : Block U) × (event ≡ Final number) × (slice_get (blocks_in script) number ≡ Some b) × IsTakenLast script l life (j - 1) b)
+IsUnavailable script l life epoch j request Short = IsShortAt script life epoch request j
+IsUnavailable script l life epoch j request Terminal = ⊥
+IsUnavailable script l life epoch j request Held = ⊥
+IsUnavailable script l life epoch j request why = IsRefusedAt script life epoch request j why
+
+-- what an answer of step j says, which begins while this epoch is awaited: of which request it is, and what it is made of or why there is none
+abbrev pub IsAnsweredSo : Script → (l : ℕ) → Life → (epoch j request : ℕ) → AnswerLine → Type 0
+IsAnsweredSo script l life epoch j request (Available payload) = IsAskedFor script l life epoch j request × IsMadeOf script l life epoch j request payload
+IsAnsweredSo script l life epoch j request (Unavailable why) = IsAskedFor script l life epoch j request × IsUnavailable script l life epoch j request why
 
 abbrev pub IsAnswer : Script → Progress → Entry → Type 0
-IsAnswer script p (Answer request (Available payload)) = IsSomeAnd (slice_get script.lives (length p.cuts)) (λ life. IsMadeOf script (length p.cuts) life p.step request payload)
-IsAnswer script p (Answer request (Unavailable why)) = IsSomeAnd (slice_get script.lives (length p.cuts)) (λ life. IsUnavailable script (length p.cuts) life p.step request why)
+IsAnswer script p (Answer request answer) =
+    IsSomeAnd (slice_get script.lives (length p.cuts)) (λ life. IsAnsweredSo script (length p.cuts) life (awaited_epoch (alone script) (length p.cuts) life (p.step - 1)) p.step request answer)
 IsAnswer script p _ = Unit {0}
 
 -- each entry is so, over what was written before it (the clause `answers` of the promise, beside `blamed`: it speaks of no device)

@@ -1,5 +1,5 @@
 -- What a life of a script is asked, and what it was fed: the blocks of a request, as a scan reads them, and the logs that these make.
-use Rattle.std.specs.Prelude.{ℕ, ◌≡◌, ◌+◌, ◌-◌, ◌<◌, ◌≤◌, ◌⊎◌, Contains, length, List, [], ◌∷◌, ◌++◌, Option, Some, None, filter_map, slice_get, reverse, option_map, IsSomeAnd}
+use Rattle.std.specs.Prelude.{ℕ, ◌≡◌, ◌+◌, ◌-◌, ◌<◌, ◌≤◌, ◌==◌, ◌⊎◌, Contains, fold, length, List, [], ◌∷◌, ◌++◌, Option, Some, None, filter_map, slice_get, reverse, take, option_map, IsSomeAnd, if◌then◌else◌}
 use Rattle.dkg_ceremony.specs.declared.epocher.Bounds.{Bounds}
 use Rattle.dkg_ceremony.specs.declared.round.RoundParts.{RoundParts as Round}
 use Rattle.dkg_ceremony.specs.Outcomes.{LogMap, outcome_of}
@@ -16,6 +16,8 @@ use Rattle.dkg_types.specs.declared.info.EpochInfo.{EpochInfo}
 use Rattle.dkg_artifact.specs.Ancestries.{Completes, IsLinked, IsUnderWay, Refuses}
 use Rattle.dkg_artifact.specs.Scans.{above}
 use Rattle.dkg_artifact.specs.declared.scan.Tip as scan
+use Rattle.dkg_text.specs.declared.script.Event.{Event}
+use Rattle.dkg_text.specs.declared.script.Event.TheVariants.{Info, Over, Cancel}
 use Rattle.dkg_text.specs.declared.script.Life.{Life}
 use Rattle.dkg_text.specs.declared.script.Script.{Script}
 use Rattle.dkg_script.specs.Asked.{fed_by}
@@ -25,6 +27,33 @@ use Rattle.dkg_run.specs.Given.{blocks_in, numbered, provided_by}
 
 abbrev U : Type 0
 U = directory.Unit
+
+-- HOW A REQUEST STANDS behind some events: it wasn't made, its ancestry goes on or has ended, or it was cancelled
+pub data Standing : Type 0 where
+  Unmade : Standing
+  Open : Standing
+  Closed : Standing
+  Cancelled : Standing
+
+abbrev pub turns : (request : ℕ) → Standing → Event → Standing
+turns request Unmade (Info number) = if number == request then Open else Unmade
+turns request Open (Over number) = if number == request then Closed else Open
+turns request Open (Cancel number) = if number == request then Cancelled else Open
+turns request Closed (Cancel number) = if number == request then Cancelled else Closed
+turns request standing _ = standing
+
+-- .. behind the first j events of a life
+abbrev pub standing_of : Life → (request j : ℕ) → Standing
+standing_of life request j = fold (turns request) Unmade (take j life.events)
+
+-- It was made, and wasn't cancelled.
+abbrev pub IsUncancelled : Standing → Type 0
+IsUncancelled Unmade = ⊥
+IsUncancelled Open = Unit {0}
+IsUncancelled Closed = Unit {0}
+IsUncancelled Cancelled = ⊥
+
+-- WHAT IT WAS FED
 
 -- the blocks that a request was fed by the first j events, in their order, from the parent of the block asked for (or that block) downward
 abbrev pub fed_in : Script → Life → (request j : ℕ) → List (Block U)
@@ -67,6 +96,7 @@ pub record IsRefusedAt (script : Script) (life : Life) (epoch request j : ℕ) (
 
 -- it ended too soon
 pub record IsShortAt (script : Script) (life : Life) (epoch request j : ℕ) : Type 0 where
+  pub closed : standing_of life request j ≡ Closed
   pub path : List (Block U)
   pub fed : fed_in script life request j ≡ reverse path
   pub under_way : IsUnderWay (bounds_in script epoch) (scan_tip script life j) path

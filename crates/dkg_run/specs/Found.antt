@@ -51,18 +51,18 @@ pub record IsBegunBy (script : Script) (epoch : ℕ) (P : Round → Type 0) : Ty
 abbrev pub IsCarriedShare : (me : ℕ) → Round → (share : ℕ) → Type 0
 IsCarriedShare me round share = IsSomeAnd round.previous (λ output. stand_in.partial_public_of output me ≡ Some (stand_in.share_public_of share))
 
+-- Of this round this node is a dealer, and the share and the seed that are held of the epoch don't deal in it.
+abbrev pub IsRefusedBy : Script → Secrets → (epoch : ℕ) → Round → Type 0
+IsRefusedBy script held epoch round =
+    (has round.dealers script.config.me ≡ true)
+    × ((seed : List ℕ) × (why : DealError) × (get held.seeds epoch ≡ Some seed) × (deal_of round script.config.me (get held.shares epoch) seed ≡ Err why))
+
 -- In the round of an epoch this share is dealt from: that which is held of the epoch, or one that the round carries on. (A last block that a life includes commits no share where its info isn't
 -- the one that the life derived. Where that info carries an output on, the setup deals from the share of an epoch below, which it may prune.)
 abbrev pub IsDealtFrom : Script → Secrets → (epoch : ℕ) → Round → (share : Option ℕ) → Type 0
 IsDealtFrom script held epoch round share = (get held.shares epoch ≡ share) ⊎ IsSomeAnd share (IsCarriedShare script.config.me round)
 
--- Of this round this node is a dealer, and the share and the seed that it deals from don't deal in it.
-abbrev pub IsRefusedBy : Script → Secrets → (epoch : ℕ) → Round → Type 0
-IsRefusedBy script held epoch round =
-    (has round.dealers script.config.me ≡ true)
-    × ((seed : List ℕ) × (share : Option ℕ) × (why : DealError) × (get held.seeds epoch ≡ Some seed) × IsDealtFrom script held epoch round share × (deal_of round script.config.me share seed ≡ Err why))
-
--- .. or they deal this public half
+-- By such a share, and by the seed that is held of the epoch, this public half is dealt.
 abbrev pub IsDealtBy : Script → Secrets → (epoch : ℕ) → (public : List ℕ) → Round → Type 0
 IsDealtBy script held epoch public round =
     (seed : List ℕ) × (share : Option ℕ) × (privates : List (ℕ × ℕ)) × (get held.seeds epoch ≡ Some seed) × IsDealtFrom script held epoch round share
@@ -77,7 +77,7 @@ pub record IsFoundRecord (limit : ℕ) (files : Files) (its : Fault) : Type 0 wh
   pub so : NamesCorrupt limit files its
 
 -- WHAT THE DEVICES HOLD against the node's own state: a stored dealing that it names is among those that the devices give back, and is refused; so is this node's own, where its share and seed
--- of the epoch deal another; and of a share that is refused the seed is held by which it doesn't deal.
+-- of the epoch deal another; and a share that is refused is held, with the seed that it doesn't deal by.
 -- (Of other faults nothing is to be found: the script shows their causes.)
 abbrev pub ShowsCause : Script → Files → Secrets → Fault → Type 0
 ShowsCause script files held (LocalState (ShareRefused epoch)) = IsBegunBy script epoch (IsRefusedBy script held epoch)

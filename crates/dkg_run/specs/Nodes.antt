@@ -1,9 +1,12 @@
 -- A node between two steps, as the relation's Live.
-use Rattle.std.specs.Prelude.{ℕ, ◌+◌, ◌<◌, ◌≡◌, ⊤, Bool, true, false, Contains, List, None, Option, Some, Result, Ok, Err, IsSome, slice_get}
+use Rattle.std.specs.Prelude.{ℕ, ◌+◌, ◌<◌, ◌^◌, ◌≡◌, ⊤, Bool, true, false, Contains, List, None, Option, Some, Result, Ok, Err, IsSome, IsSomeAnd, slice_get}
 use Rattle.std.specs.Int.NonZero.{non_zero_u64_get}
 use Rattle.dkg_ceremony.specs.Acks.{ack_of, check_ack_of}
+use Rattle.dkg_ceremony.specs.Dealings.{dealing_of}
 use Rattle.dkg_ceremony.specs.Deals.{deal_of}
+use Rattle.dkg_ceremony.specs.Finishes.{finish_of}
 use Rattle.dkg_ceremony.specs.Schedule.{last}
+use Rattle.dkg_ceremony.specs.ValidLogs.{check_log_of}
 use Rattle.dkg_fence.specs.Readiness.{Readiness}
 use Rattle.dkg_journal.specs.Names.{Files}
 use Rattle.dkg_store.specs.Acts.{Ended, went}
@@ -26,13 +29,15 @@ use Rattle.dkg_core.specs.Sources.{Source}
 use Rattle.dkg_core.specs.Endings.{OnInfo, first_epoch}
 use Rattle.dkg_reshare.specs.Actors.{IfIncluding, IfLiving, IsAt, IsLiving, message_of}
 use Rattle.dkg_reshare.specs.Given.{IsOf}
-use Rattle.dkg_reshare.specs.InclusionOf.{IsSeen}
+use Rattle.dkg_reshare.specs.Carried.{CarriesWithin}
+use Rattle.dkg_reshare.specs.InclusionOf.{IsSeen, IsSettledInclusion}
 use Rattle.dkg_reshare.specs.LiveOf.{Beside, live_of}
 use Rattle.dkg_reshare.specs.declared.life.Life as reshare
 use Rattle.dkg_reshare.specs.declared.stop.Stop.{Stop}
 use Rattle.dkg_run.specs.Ended.{by_node_stop}
-use Rattle.dkg_run.specs.Epochs.{IsAt as StandsAt, IsLifeInForm}
-use Rattle.dkg_run.specs.Given.{IsUnplanned, Lived, at_step, blocks_in}
+use Rattle.dkg_script.specs.Players.{players_at}
+use Rattle.dkg_run.specs.Epochs.{IsAt as StandsAt, IsLifeInForm, MayStep}
+use Rattle.dkg_run.specs.Given.{AreBytes, IsUnplanned, Lived, at_step, blocks_in}
 use Rattle.dkg_run.specs.declared.half.Half.{Half}
 use Rattle.dkg_run.specs.declared.held.HeldBlocks.{HeldBlocks}
 use Rattle.dkg_run.specs.declared.node.Node.{Node}
@@ -79,6 +84,15 @@ pub record MayGoOn (c : Fixed directory.Unit) (fence : Readiness) (b : Block dir
   pub registered : b.height ≡ last c.blocks_per_epoch epoch → IsSome (lookup (epoch + 1) st.orchestrator.schemes)
   pub lacks : (d : directory.Unit) (peers : TrackedPeers) → c.directories.lacking d peers ≡ None
 
+-- The last height of the epoch that an active half has entered is a number of 64 bits.
+abbrev pub IsSettled : (per_epoch : ℕ) → Half → Type 0
+IsSettled per_epoch half = (epoch : ℕ) → half.halted ≡ false → half.entered ≡ Some epoch → last per_epoch epoch < 2 ^ 64
+
+-- .. and where the block at a height is that epoch's last, the next one's is, and the fence is ready for it
+abbrev pub MayPass : (per_epoch : ℕ) → Half → (ready : Option ℕ) → (height : ℕ) → Type 0
+MayPass per_epoch half ready height = (epoch : ℕ) → half.halted ≡ false → half.entered ≡ Some epoch
+    → (last per_epoch epoch < 2 ^ 64) × (height ≡ last per_epoch epoch → (last per_epoch (epoch + 1) < 2 ^ 64) × (is_ready ready (epoch + 1) ≡ true))
+
 -- how a half's step ended, whatever it answered
 abbrev pub ends_on : Live directory.Unit → Result (Unit {0}) Stop → Ended NodeStop (core.Half directory.Unit)
 ends_on st (Ok done) = went (record { live = st; answer = core.Acknowledges })
@@ -98,16 +112,25 @@ pub record IsView (node : Node) (st : Live directory.Unit) : Type 0 where
 -- It goes on over these devices.
 pub record IsReadyNode {D X : Type 0} (tells : Bool) (files : D → Files) (image : D → Files → Type 0) (node : Node) (devices : Devices D X) : Type 0 where
   pub at : IsAt tells files image ack_of deal_of check_ack_of node.actor.terms node.actor.state devices
-  pub viewed : (st : Live directory.Unit) × IsView node st
+  pub living : IsLiving node.actor.state
+  pub including : IfIncluding node.actor.state (IsSettledInclusion check_log_of dealing_of finish_of (non_zero_u64_get node.actor.terms.blocks_per_epoch))
+  pub blocks_are : node.blocks_per_epoch ≡ node.actor.terms.blocks_per_epoch
+  pub settled : IsSettled (non_zero_u64_get node.actor.terms.blocks_per_epoch) node.half
 
--- Its configuration is that of the life, and so is its random word.
+-- Its configuration is that of the life, so is its random word, and its provider says of players what the script does.
 pub record IsOfLife (g : Lived) (node : Node) : Type 0 where
   pub of : (taken : ℕ) → IsOf node.actor.terms (at_step g taken)
   pub word : IfLiving node.actor.state (λ its. its.word ≡ g.life.word)
+  pub players : (epoch : ℕ) → players_at g.script.config.players epoch ≡ players_at node.actor.provider.lines.now epoch
 
--- This half has entered no epoch whose last block this height is, or stands below.
-abbrev pub IsBelow : (per_epoch : ℕ) → Half → (height : ℕ) → Type 0
-IsBelow per_epoch half height = (epoch : ℕ) → half.halted ≡ false → half.entered ≡ Some epoch → height < last per_epoch epoch
+-- There is a life that goes on in it with a step.
+pub record GoesIn (node : Node) : Type 0 where
+  pub g : Lived
+  pub number : ℕ
+  pub st : Live directory.Unit
+  pub of : IsOfLife g node
+  pub may : MayStep g number st
+  pub view : IsView node st
 
 -- how a call of a node ended, in a view of what it left
 abbrev pub Viewed : Node → Result (Unit {0}) Stop → (Ended NodeStop (Live directory.Unit) → Type 0) → Type 0
@@ -134,6 +157,7 @@ pub record IsStepHere (g : Lived) (node : Node) (blocks : List (Block directory.
 pub record HasOpened (node : Node) (blocks : List (Block directory.Unit)) (life : Life) : Type 0 where
   pub g : Lived
   pub here : IsLifeInForm g
+  pub bytes : AreBytes g.script.blocks
   pub of : IsStepHere g node blocks life
   pub st : Live directory.Unit
   pub view : IsView node st
@@ -155,20 +179,20 @@ sent_event its = event_of (message_of its)
 
 -- EVENTS
 
--- A message, or one of these blocks.
-abbrev pub IsEventOfBlocks : List (Block directory.Unit) → Event → Type 0
-IsEventOfBlocks blocks (Peer from bytes) = ⊤
-IsEventOfBlocks blocks (Final number) = IsSome (slice_get blocks number)
-IsEventOfBlocks blocks (Next request height) = ⊤
-IsEventOfBlocks blocks (Release height) = ⊤
-IsEventOfBlocks blocks (Info request) = ⊤
-IsEventOfBlocks blocks (Feed request number) = IsSome (slice_get blocks number)
-IsEventOfBlocks blocks (Over request) = ⊤
-IsEventOfBlocks blocks (Cancel request) = ⊤
-IsEventOfBlocks blocks Work = ⊤
-IsEventOfBlocks blocks event = ⊥
+-- A message, or one of these blocks, whose log is within the limit where it is delivered.
+abbrev pub IsEventOfBlocks : (limit : ℕ) → List (Block directory.Unit) → Event → Type 0
+IsEventOfBlocks limit blocks (Peer from bytes) = ⊤
+IsEventOfBlocks limit blocks (Final number) = IsSomeAnd (slice_get blocks number) (CarriesWithin limit)
+IsEventOfBlocks limit blocks (Next request height) = ⊤
+IsEventOfBlocks limit blocks (Release height) = ⊤
+IsEventOfBlocks limit blocks (Info request) = ⊤
+IsEventOfBlocks limit blocks (Feed request number) = IsSome (slice_get blocks number)
+IsEventOfBlocks limit blocks (Over request) = ⊤
+IsEventOfBlocks limit blocks (Cancel request) = ⊤
+IsEventOfBlocks limit blocks Work = ⊤
+IsEventOfBlocks limit blocks event = ⊥
 
--- .. which is held by then, where it is delivered.
-abbrev pub IsEventHere : HeldBlocks → Event → Type 0
-IsEventHere source (Final number) = Contains source.numbers.items number × IsEventOfBlocks source.blocks.now (Final number)
-IsEventHere source event = IsEventOfBlocks source.blocks.now event
+-- .. which is held by then.
+abbrev pub IsEventHere : (limit : ℕ) → HeldBlocks → Event → Type 0
+IsEventHere limit source (Final number) = Contains source.numbers.items number × IsEventOfBlocks limit source.blocks.now (Final number)
+IsEventHere limit source event = IsEventOfBlocks limit source.blocks.now event

@@ -9,6 +9,7 @@ use Rattle.dkg_text.specs.declared.script.Script.{Script}
 use Rattle.dkg_script.specs.AsCut.{setting_as_cut}
 use Rattle.dkg_script.specs.SameOffers.{OffersTheSame}
 use Rattle.dkg_script.specs.Promise.{AnswersDealings, KeepsDealings, RunsAll, RunsInOrder, cuts_in}
+use Rattle.dkg_run.specs.Answers.{AnswersSo}
 use Rattle.dkg_run.specs.Complete.{IsSoundRun, IsValidAsCut}
 use Rattle.dkg_run.specs.Blamed.{BlamesSo}
 use Rattle.dkg_script.specs.Ends.{EndsScript}
@@ -18,6 +19,7 @@ use Rattle.dkg_run.specs.GivesBack.{GivesBack, limit_in}
 use Rattle.dkg_run.specs.Lives.{AnyFiles, RunsOver, RunsSo, never}
 use Rattle.dkg_run.specs.Over.{Over}
 use Rattle.dkg_run.specs.Refusals.{BlamesOnlySkips}
+use Rattle.dkg_run.specs.SharesStand.{CommitsFit}
 use Rattle.dkg_run.specs.Ways.{by_lines, trace}
 
 -- THE ENTRIES are those of a node run of the script, whatever the devices tell: a step that is ended early gives a front of its lines. Each life's end
@@ -52,6 +54,10 @@ pub record Promised (script : Script) (o : Over) (result : Result (Unit {0}) Fau
   pub answered : OnOk result (o.tells → AnswersDealings script o.before.files o.before.held o.before.image added)
   -- To a player of an epoch one half alone is offered.
   pub offers : o.tells → Stands o.before.files o.before.image → OffersTheSame script o.before.files o.before.held added
+  -- Whatever the devices tell, each answer of a final block's request is of one that was asked and isn't cancelled: what follows the logs that were asked for, or why there is none.
+  pub answers : AnswersSo script added
+  -- Each share that is committed is this node's in the output that its epoch's info carries.
+  pub shares : o.tells → Stands o.before.files o.before.image → CommitsFit script o.before.files o.before.held added
   -- A valid script over valid devices, of which no count rises, is run to its end, unless memory runs out.
   pub complete : IfErr result (λ fault. IsSoundRun o (IsValidAsCut script added) → fault ≡ NoMemory)
   -- A second call stands under what this one leaves.

@@ -22,27 +22,25 @@ use Rattle.dkg_script.specs.History.{IsHonestlyDerived, IsWholeHistory}
 use Rattle.dkg_script.specs.Inclusion.{IsFormOfInclusion}
 use Rattle.dkg_script.specs.OwnMarks.{OwnMarks}
 use Rattle.dkg_script.specs.Position.{awaited_epoch, event_of_step, follows}
-use Rattle.dkg_script.specs.Progress.{AtEachEntry, Progress, progress}
+use Rattle.dkg_script.specs.Progress.{Progress, progress}
 use Rattle.dkg_script.specs.Schedule.{last}
 use Rattle.dkg_script.specs.Setting.{Setting, blocks_per_epoch, life_at, me}
 use Rattle.dkg_script.specs.Valid.{AgreesWith}
 use Rattle.dkg_script.specs.Views.{seen_provided}
 use Rattle.dkg_types.specs.Units.{unit_spelling}
 use Rattle.dkg_run.specs.Given.{provided_by}
+use Rattle.dkg_run.specs.GivesBack.{SharesFitInfos}
 
 -- IT FITS
 
+-- the script has the epoch's info, and this is the node's share of the output that this carries on
 abbrev pub Fits : Setting → (epoch share : ℕ) → Type 0
-Fits s epoch share = IfSome (known_info s epoch) (λ info. partial_public_of info.output (me s) ≡ Some (share_public_of share))
-
-abbrev pub IsFitting : Setting → Progress → Entry → Type 0
-IsFitting s p (Committed epoch (Some share)) = Fits s epoch share
-IsFitting s p _ = Unit {0}
+Fits s epoch share = IsSomeAnd (known_info s epoch) (λ info. partial_public_of info.output (me s) ≡ Some (share_public_of share))
 
 -- THE CLAUSE `shares` of the promise: over devices whose shares fit, of a consistent script (judged as it was cut)
 abbrev pub CommitsFit : Script → Files → Secrets → List Entry → Type 0
 CommitsFit script files held out = let s = setting_as_cut script files held out in
-    IsFormOfInclusion s.script → IsConsistentScript s (progress s out).cuts → AgreesWith s s.files s.secrets → AtEachEntry s (IsFitting s) out
+    IsFormOfInclusion s.script → IsConsistentScript s (progress s out).cuts → SharesFitInfos s s.secrets → (epoch share : ℕ) → Contains out (Committed epoch (Some share)) → Fits s epoch share
 
 -- IT STANDS EXACTLY
 

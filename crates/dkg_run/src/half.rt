@@ -2,7 +2,7 @@
 //!
 //! It enters the epoch of the height above its source's position, or halts without that epoch's boundary block. From then on it enters the next
 //! epoch at the last block of each.
-ghost use Rattle.std.specs.Prelude.{◌≡◌, ◌<◌, ◌+◌, ◌++◌, ◌∷◌, [], ◌^◌, ℕ, IfErr, IfNone, IfOk, IfSome, if◌then◌else◌, true, false, None, Some};
+ghost use Rattle.std.specs.Prelude.{◌≡◌, ◌<◌, ◌+◌, ◌++◌, ◌∷◌, [], ◌^◌, ℕ, IfErr, IfNone, IfOk, IfSome, OnOk, if◌then◌else◌, true, false, None, Some};
 ghost use Rattle.std.specs.Int.NonZero.{non_zero_u64_get};
 ghost use Rattle.std.specs.Option.{option_map_or};
 ghost use Rattle.dkg_ceremony.specs.Schedule.{boundary, first, last};
@@ -22,7 +22,7 @@ ghost use Rattle.dkg_reshare.specs.declared.stop.Stop.TheVariants.{Fault as Faul
 ghost use Rattle.dkg_types.specs.declared.fault.Fault.TheVariants.{NoMemory};
 ghost use Rattle.dkg_run.specs.Ended.{ends_node};
 ghost use Rattle.dkg_run.specs.Halves.{IsStartOf, beginning_of};
-ghost use Rattle.dkg_run.specs.Nodes.{HasHalf, IsFenceReady, IsHalfGiven, MayEnter, MayGoOn, ends_half, ends_on, with_half};
+ghost use Rattle.dkg_run.specs.Nodes.{HasHalf, IsFenceReady, IsHalfGiven, IsSettled, MayEnter, MayGoOn, MayPass, ends_half, ends_on, with_half};
 
 use dkg_ceremony::{Bounds, Epoch, Epocher, Height};
 use dkg_fence::{Fence, Waited};
@@ -121,6 +121,7 @@ impl Half {
         ensures speaks { (c : Fixed directory.Unit) (st : Live directory.Unit) → IsHalfGiven (non_zero_u64_get blocks_per_epoch) (B.answers source.now) c
             → MayEnter c fence.old st
             → Speaks (kept_material c st) (ends_half fence.new st result) out.old.entries out.new.entries }
+        ensures settled { IfOk result (IsSettled (non_zero_u64_get blocks_per_epoch)) }
         // It blames no device.
         ensures causes { IfErr result (λ stop. IsCaused stop ⊥ ⊥ ⊥) }
     {
@@ -153,12 +154,13 @@ impl Half {
         out: &mut Transcript,
     ) -> Result<(), Stop>
         requires range { last (non_zero_u64_get blocks_per_epoch) epoch < 2 ^ 64 }
-        requires next { epoch + 1 < 2 ^ 64 }
-        requires ready { block.now.height ≡ last (non_zero_u64_get blocks_per_epoch) epoch → is_ready fence.old.ready (epoch + 1) ≡ true }
+        requires next { block.now.height ≡ last (non_zero_u64_get blocks_per_epoch) epoch
+            → (last (non_zero_u64_get blocks_per_epoch) (epoch + 1) < 2 ^ 64) × (is_ready fence.old.ready (epoch + 1) ≡ true) }
         requires active { (self.old.halted ≡ false) × (self.old.entered ≡ Some epoch) }
         ensures speaks { (c : Fixed directory.Unit) (st : Live directory.Unit) → c.blocks_per_epoch ≡ non_zero_u64_get blocks_per_epoch → HasHalf self.old st
             → MayGoOn c fence.old block.now epoch st
             → Speaks (delivered_in c block.now st (Some epoch)) (ends_on (with_half self.new fence.new st) result) out.old.entries out.new.entries }
+        ensures settled { OnOk result (IsSettled (non_zero_u64_get blocks_per_epoch) self.new) }
         ensures causes { IfErr result (λ stop. IsCaused stop ⊥ ⊥ ⊥) }
     {
         let Some(last) = Epocher::new(blocks_per_epoch).last(epoch) else {
@@ -188,12 +190,13 @@ impl Half {
         fence: &mut Fence,
         out: &mut Transcript,
     ) -> Result<(), Stop>
-        requires range { IfSome self.old.entered (λ epoch. (last (non_zero_u64_get blocks_per_epoch) epoch < 2 ^ 64) × (epoch + 1 < 2 ^ 64)
-            × (block.now.height ≡ last (non_zero_u64_get blocks_per_epoch) epoch → is_ready fence.old.ready (epoch + 1) ≡ true)) }
+        requires range { MayPass (non_zero_u64_get blocks_per_epoch) self.old fence.old.ready block.now.height }
         ensures speaks { (c : Fixed directory.Unit) (st : Live directory.Unit) → c.blocks_per_epoch ≡ non_zero_u64_get blocks_per_epoch → HasHalf self.old st
-            → IfSome self.old.entered (λ epoch. MayGoOn c fence.old block.now epoch st)
+            → st.orchestrator.fence ≡ fence.old
+            → ((epoch : ℕ) → self.old.halted ≡ false → self.old.entered ≡ Some epoch → MayGoOn c fence.old block.now epoch st)
             → Speaks (bind (delivered c block.now st) (λ half. acked_at block.now.height half.answer half.live))
             (ends_node (with_half self.new fence.new st) result) out.old.entries out.new.entries }
+        ensures settled { OnOk result (IsSettled (non_zero_u64_get blocks_per_epoch) self.new) }
         ensures causes { IfErr result (λ stop. IsCaused stop ⊥ ⊥ ⊥) }
     {
         let Some(epoch) = self.active() else {

@@ -25,7 +25,7 @@ ghost use Rattle.dkg_run.specs.Epochs.{IsAt, IsChecked, IsLifeInForm, MayStep};
 ghost use Rattle.dkg_run.specs.Given.{AreBytes, Lived, blocks_in, limits_of, lived, step_of};
 ghost use Rattle.dkg_run.specs.Lives.{AnyFiles, BeganNone, EndsLife, LivesHere, LivesSo, RunsAllSo, Steps, TakesAll, TellsEnd, fuse_for};
 ghost use Rattle.dkg_run.specs.Moving.{Blames, StepBlames, StopBlames, Went, world_of};
-ghost use Rattle.dkg_run.specs.Nodes.{HasOpened, IsEventOfBlocks, IsOfLife, IsReadyNode, IsStepHere, IsView};
+ghost use Rattle.dkg_run.specs.Nodes.{GoesIn, HasOpened, IsEventOfBlocks, IsOfLife, IsReadyNode, IsStepHere, IsView};
 ghost use Rattle.dkg_run.specs.Over.{over};
 ghost use Rattle.dkg_run.specs.Promised.{DoesRun, Promised, SaysRun};
 ghost use Rattle.dkg_run.specs.Stopped.{picks_at_end};
@@ -101,8 +101,9 @@ fn take_step<D: Disk, X: SecretStore>(
     out: &mut Transcript,
 ) -> Result<(), Stop>
     requires here { (f : Burn) → fuse_for life.now.cut number ≡ Some f
-        → IsEventOfBlocks source.old.blocks.now event.now }
+        → IsEventOfBlocks (non_zero_u32_get node.old.actor.terms.limit) source.old.blocks.now event.now }
     requires ready { IsReadyNode D.tells D.files D.image node.old devices.old }
+    requires goes { (f : Burn) → fuse_for life.now.cut number ≡ Some f → GoesIn node.old }
     ensures ready { OnOk result (IsReadyNode D.tells D.files D.image node.new devices.new) }
     ensures terms { node.new.actor.terms ≡ node.old.actor.terms }
     ensures of { (g : Lived) → IsOfLife g node.old → IsOfLife g node.new }
@@ -184,6 +185,7 @@ fn live<D: Disk, X: SecretStore>(
     requires form { IsFormOfInclusion script.now }
     requires checked { IsChecked script.now }
     requires here { (slice_get script.now.lives number ≡ Some life.now) × (blocks.now ≡ blocks_in script.now) }
+    requires bytes { AreBytes script.now.blocks }
     // It is a life of the node, over the lines and over both devices, whatever image a crash leaves.
     ensures lines { (seen : Held → Seen) × by_lines.reads seen × ((picks : List ℕ)
         → LivesSo by_lines (lived script.now number life.now seen (D.files devices.old.disk.now)) (D.files devices.old.disk.now)
@@ -269,6 +271,7 @@ fn run_life<D: Disk, X: SecretStore>(
     requires form { IsFormOfInclusion script.now }
     requires checked { IsChecked script.now }
     requires here { (slice_get script.now.lives number ≡ Some life.now) × (blocks.now ≡ blocks_in script.now) }
+    requires bytes { AreBytes script.now.blocks }
     ensures lines { (added : List ℕ) × Went D.tells D.made X.made D.faults X.faults devices.old devices.new added
         × ((picks : List ℕ) → LivesHere by_lines script.now AnyFiles number life.now (trace out.old.entries picks) result
         (trace out.new.entries (picks ++ added))

@@ -1,15 +1,18 @@
 //! A node in one life: the reshare actor, and the orchestrator's half behind it.
-ghost use Rattle.std.specs.Prelude.{◌≡◌, ℕ, IfErr, IfOk, IsTrue, OnOk};
+ghost use Rattle.std.specs.Prelude.{◌≡◌, ℕ, IfErr, IfOk, IsTrue, OnOk, true};
 ghost use Rattle.std.specs.Int.NonZero.{non_zero_u32_get, non_zero_u64_get};
+ghost use Rattle.dkg_values.specs.Rising.{rises};
 ghost use Rattle.dkg_ceremony.specs.declared.mode.Reveal.TheVariants.{V1};
 ghost use Rattle.dkg_journal.specs.Disk.{Rose};
 ghost use Rattle.dkg_journal.specs.Fuse.{Reached};
 ghost use Rattle.dkg_store.specs.Corrupt.{AreFit};
 ghost use Rattle.dkg_types.specs.declared.directory.Unit as directory;
 ghost use Rattle.dkg_text.specs.declared.script.Event.TheVariants as event;
+ghost use Rattle.dkg_script.specs.Players.{epochs_of};
 ghost use Rattle.dkg_core.specs.Live.{Delivers, Feed, Live, Reshare};
 ghost use Rattle.dkg_core.specs.Node.{node_opening, node_step};
 ghost use Rattle.dkg_reshare.specs.Actors.{IsFoundAt};
+ghost use Rattle.dkg_reshare.specs.Carried.{CarriesWithin};
 ghost use Rattle.dkg_reshare.specs.Ends.{IsCausedBy};
 ghost use Rattle.dkg_reshare.specs.Given.{AreGivenFrom, HasRead};
 ghost use Rattle.dkg_reshare.specs.Made.{Makes, Tells, UnlessBroken};
@@ -18,7 +21,7 @@ ghost use Rattle.dkg_reshare.specs.Opened.{IsInGrammar, OpensReadable};
 ghost use Rattle.dkg_reshare.specs.Planless.{seen_planless};
 ghost use Rattle.dkg_run.specs.Epochs.{MayStep};
 ghost use Rattle.dkg_run.specs.Given.{IsUnplanned, Lived, at_step, blocks_in, limits_of, lived, starts_above, step_of};
-ghost use Rattle.dkg_run.specs.Nodes.{IsEventHere, IsMail, IsOfLife, IsReadyNode, IsView, Viewed, ViewedNew, ended_new, sent_event};
+ghost use Rattle.dkg_run.specs.Nodes.{GoesIn, IsEventHere, IsMail, IsOfLife, IsReadyNode, IsView, Viewed, ViewedNew, ended_new, sent_event};
 ghost use Rattle.dkg_run.specs.Sources.{IsToOpen};
 
 use crate::half::Half;
@@ -48,9 +51,10 @@ fn config_of<'a>(
     alloc: Global,
     config: &'a ScriptConfig,
 ) -> Mem<Config<StandCeremony, Players<'a>, NoopRegistrar, ()>>
+    requires { rises (epochs_of config.now.players) ≡ true }
     ensures { IfOk result (λ made. (made.signer ≡ config.now.me) × (made.namespace ≡ config.now.namespace) × (made.mode ≡ config.now.mode)
         × (made.max_mode ≡ config.now.max_mode) × (made.reveal ≡ V1) × (made.max_participants ≡ config.now.limit)
-        × (made.blocks_per_epoch ≡ config.now.blocks_per_epoch)) }
+        × (made.blocks_per_epoch ≡ config.now.blocks_per_epoch) × (made.provider.lines.now ≡ config.now.players)) }
 {
     Ok(Config {
         ceremony: StandCeremony,
@@ -138,6 +142,7 @@ impl<'a> Node<'a> {
         out: &mut Transcript,
     ) -> Result<(), Stop>
         requires ready { IsReadyNode D.tells D.files D.image self.old devices.old }
+        requires goes { GoesIn self.old }
         ensures ready { OnOk result (IsReadyNode D.tells D.files D.image self.new devices.new) }
         ensures terms { self.new.actor.terms ≡ self.old.actor.terms }
         ensures of { (g : Lived) → IsOfLife g self.old → IsOfLife g self.new }
@@ -154,21 +159,20 @@ impl<'a> Node<'a> {
             → AreFit (non_zero_u32_get self.old.actor.terms.limit) (D.image devices.new.disk.now) }
     {
         let bytes = copied(alloc, bytes)?;
-        let message = Message::Peer { from, bytes };
-        self.actor
-            .step(alloc, devices, source, message, &mut self.fence, out)
+        self.send(alloc, source, Message::Peer { from, bytes }, devices, out)
     }
 
     /// Takes a finalized block, and acknowledges it once both halves did.
     fn deliver<D: Disk, X: SecretStore>(
         &mut self,
         alloc: Global,
-        source: &HeldBlocks<'_>,
         block: &Block<Unit>,
         devices: &mut Devices<'_, D, X>,
         out: &mut Transcript,
     ) -> Result<(), Stop>
+        requires within { CarriesWithin (non_zero_u32_get self.old.actor.terms.limit) block.now }
         requires ready { IsReadyNode D.tells D.files D.image self.old devices.old }
+        requires goes { GoesIn self.old }
         ensures ready { OnOk result (IsReadyNode D.tells D.files D.image self.new devices.new) }
         ensures terms { self.new.actor.terms ≡ self.old.actor.terms }
         ensures of { (g : Lived) → IsOfLife g self.old → IsOfLife g self.new }
@@ -185,14 +189,13 @@ impl<'a> Node<'a> {
         ensures fit { IsTrue D.tells → AreFit (non_zero_u32_get self.old.actor.terms.limit) (D.image devices.old.disk.now)
             → AreFit (non_zero_u32_get self.old.actor.terms.limit) (D.image devices.new.disk.now) }
     {
-        let message = Message::Finalized(block.copy(alloc)?);
         self.actor
-            .step(alloc, devices, source, message, &mut self.fence, out)?;
+            .deliver(alloc, devices, block, &mut self.fence, out)?;
         self.half
             .deliver(self.blocks_per_epoch, block, &mut self.fence, out)
     }
 
-    /// Takes a message of a request.
+    /// Takes a message of the dealing channel, or of a request.
     fn send<D: Disk, X: SecretStore>(
         &mut self,
         alloc: Global,
@@ -203,6 +206,7 @@ impl<'a> Node<'a> {
     ) -> Result<(), Stop>
         requires mail { IsMail message }
         requires ready { IsReadyNode D.tells D.files D.image self.old devices.old }
+        requires goes { GoesIn self.old }
         ensures ready { OnOk result (IsReadyNode D.tells D.files D.image self.new devices.new) }
         ensures terms { self.new.actor.terms ≡ self.old.actor.terms }
         ensures of { (g : Lived) → IsOfLife g self.old → IsOfLife g self.new }
@@ -233,6 +237,7 @@ impl<'a> Node<'a> {
         out: &mut Transcript,
     ) -> Result<(), Stop>
         requires ready { IsReadyNode D.tells D.files D.image self.old devices.old }
+        requires goes { GoesIn self.old }
         ensures ready { OnOk result (IsReadyNode D.tells D.files D.image self.new devices.new) }
         ensures terms { self.new.actor.terms ≡ self.old.actor.terms }
         ensures of { (g : Lived) → IsOfLife g self.old → IsOfLife g self.new }
@@ -267,8 +272,9 @@ impl<'a> Node<'a> {
         devices: &mut Devices<'_, D, X>,
         out: &mut Transcript,
     ) -> Result<(), Stop>
-        requires here { IsEventHere source.now event.now }
+        requires here { IsEventHere (non_zero_u32_get self.old.actor.terms.limit) source.now event.now }
         requires ready { IsReadyNode D.tells D.files D.image self.old devices.old }
+        requires goes { GoesIn self.old }
         ensures ready { OnOk result (IsReadyNode D.tells D.files D.image self.new devices.new) }
         ensures terms { self.new.actor.terms ≡ self.old.actor.terms }
         ensures of { (g : Lived) → IsOfLife g self.old → IsOfLife g self.new }
@@ -297,7 +303,7 @@ impl<'a> Node<'a> {
                 out,
             ),
             Event::Final { block } => match source.of_number(*block) {
-                Some(block) => self.deliver(alloc, source, block, devices, out),
+                Some(block) => self.deliver(alloc, block, devices, out),
                 None => unreachable!(),
             },
             Event::Next { request, height } => {

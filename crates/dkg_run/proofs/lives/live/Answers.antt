@@ -59,7 +59,7 @@ pub take_steps-requires-clause-here : goal.take_steps-requires-clause-here
 take_steps-requires-clause-here g c =
     has_opened c.args.script.now c.args.number c.args.life.now (g.D.Disk.files c.begin_step.new.devices.disk.now) c.args.out.now.entries c.begin_step.new.devices.fuse c.in_ok-begin_step.ensures.lit
     _ c.open.new.out.entries c.in_ok-node.node c.in_ok-node.ensures.tells c.requires.form c.requires.checked c.requires.here.0 c.in_ok-node.ensures.of
-    c.in_ok-source.source.blocks.now (c.in_ok-source.ensures.blocks ∙ c.requires.here.1)
+    c.in_ok-source.source.blocks.now (c.in_ok-source.ensures.blocks ∙ c.requires.here.1) c.requires.bytes
 
 pub take_steps-requires-clause-begun : goal.take_steps-requires-clause-begun
 take_steps-requires-clause-begun g c = (c.begin_step.new.devices.fuse, c.in_ok-begin_step.ensures.lit)

@@ -198,6 +198,9 @@ run_life-requires-clause-form g c = c.requires.form
 pub run_life-requires-clause-checked : goal.run_life-requires-clause-checked
 run_life-requires-clause-checked g c = c.in_ok-check_config.ensures.accepted
 
+pub run_life-requires-clause-bytes : goal.run_life-requires-clause-bytes
+run_life-requires-clause-bytes g c = c.in_ok-blocks.ensures.bytes
+
 -- WHETHER LIVES BEGAN
 
 pub returns-in_err-check_config-clause-begun : goal.returns-in_err-check_config-clause-begun

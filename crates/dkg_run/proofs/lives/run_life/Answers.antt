@@ -33,6 +33,9 @@ live-how-requires-clause-checked g c = c.requires.checked
 pub live-how-requires-clause-here : goal.live-how-requires-clause-here
 live-how-requires-clause-here g c = c.requires.here
 
+pub live-how-requires-clause-bytes : goal.live-how-requires-clause-bytes
+live-how-requires-clause-bytes g c = c.requires.bytes
+
 pub returns-clause-stands : goal.returns-clause-stands
 returns-clause-stands g c = c.end_life.ensures.stands
 

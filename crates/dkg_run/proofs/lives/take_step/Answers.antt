@@ -1,5 +1,5 @@
 use Rattle.std.proofs.Common.{List, [], refl, sym, ap}
-use Rattle.std.specs.Int.NonZero.{non_zero_u32_get, non_zero_u64_get}
+use Rattle.std.specs.Int.NonZero.{non_zero_u32_get}
 use Rattle.std.proofs.lemmas.Result.{err_from_is_err_and}
 use Rattle.dkg_types.specs.declared.entry.Entry.{Entry}
 use Rattle.dkg_types.specs.declared.entry.Entry.TheVariants as entry
@@ -23,7 +23,7 @@ returns-in_err-begin_step-clause-went g c =
     c.begin_step.ensures.same.0 c.begin_step.ensures.same.1
 
 pub returns-in_err-hold-clause-run : goal.returns-in_err-hold-clause-run
-returns-in_err-hold-clause-run g c = λ disk secrets lived st here may early view left image.
+returns-in_err-hold-clause-run g c = λ disk secrets lived st here may view left image.
     let p = err_from_is_err_and c.from_residual-in_err-hold.result c.from_residual-in_err-hold.ensures.1 in
     let stands : Stands (g.D.Disk.files c.args.devices.now.disk.now) (g.D.Disk.image c.args.devices.now.disk.now) = record {
       lands = node_lands g.D.Disk.tells g.D.Disk.files g.D.Disk.image c.args.node.now c.args.devices.now c.requires.ready disk;
@@ -40,16 +40,16 @@ returns-in_err-hold-clause-went g c =
 -- THE STEP WENT, and its line found no memory
 
 pub returns-in_err-push-clause-lines : goal.returns-in_err-push-clause-lines
-returns-in_err-push-clause-lines g c = λ lived st picks here may early view.
+returns-in_err-push-clause-lines g c = λ lived st picks here may view.
     let p = err_from_is_err_and c.from_residual-in_err-push.result c.from_residual-in_err-push.ensures.1 in
-    let its = c.in_ok-step.ensures.tells lived c.args.number st here.of (blocks_held c.args.source.now c.hold.new.source _ c.hold.ensures.blocks here.blocks_are) may (early c.begin_step.new.devices.fuse c.in_ok-begin_step.ensures.lit) view in
+    let its = c.in_ok-step.ensures.tells lived c.args.number st here.of (blocks_held c.args.source.now c.hold.new.source _ c.hold.ensures.blocks here.blocks_are) may view in
     rw (p.1, p.2, c.in_err-push.ensures.err) (untold_lines (entry.Step c.args.number) c.args.life.now.cut c.args.number c.begin_step.new.devices.fuse c.in_ok-begin_step.ensures.lit (step_of lived c.args.number c.args.event.now st)
     _ c.args.out.now.entries c.step.new.out.entries picks its.0 its.2)
 
 pub returns-in_err-push-clause-run : goal.returns-in_err-push-clause-run
-returns-in_err-push-clause-run g c = λ disk secrets lived st here may early view left image.
+returns-in_err-push-clause-run g c = λ disk secrets lived st here may view left image.
     let p = err_from_is_err_and c.from_residual-in_err-push.result c.from_residual-in_err-push.ensures.1 in
-    let its = c.in_ok-step.ensures.acts disk secrets lived c.args.number st here.of (blocks_held c.args.source.now c.hold.new.source _ c.hold.ensures.blocks here.blocks_are) may (early c.begin_step.new.devices.fuse c.in_ok-begin_step.ensures.lit) view in
+    let its = c.in_ok-step.ensures.acts disk secrets lived c.args.number st here.of (blocks_held c.args.source.now c.hold.new.source _ c.hold.ensures.blocks here.blocks_are) may view in
     let stands : Stands (g.D.Disk.files c.args.devices.now.disk.now) (g.D.Disk.image c.args.devices.now.disk.now) = record {
       lands = node_lands g.D.Disk.tells g.D.Disk.files g.D.Disk.image c.args.node.now c.args.devices.now c.requires.ready disk;
       itself = g.met.D.Disk.reads c.args.devices.now.disk.now disk;
@@ -68,15 +68,15 @@ returns-in_err-push-clause-went g c =
 -- .. or was told
 
 pub returns-clause-lines : goal.returns-clause-lines
-returns-clause-lines g c = λ lived st picks here may early view.
-    let its = c.in_ok-step.ensures.tells lived c.args.number st here.of (blocks_held c.args.source.now c.hold.new.source _ c.hold.ensures.blocks here.blocks_are) may (early c.begin_step.new.devices.fuse c.in_ok-begin_step.ensures.lit) view in
+returns-clause-lines g c = λ lived st picks here may view.
+    let its = c.in_ok-step.ensures.tells lived c.args.number st here.of (blocks_held c.args.source.now c.hold.new.source _ c.hold.ensures.blocks here.blocks_are) may view in
     told_lines (entry.Step c.args.number) c.args.life.now.cut c.args.number c.begin_step.new.devices.fuse c.in_ok-begin_step.ensures.lit (step_of lived c.args.number c.args.event.now st)
     _ c.args.out.now.entries c.step.new.out.entries picks its.0 its.2 _ (trace c.push.new.self.entries picks)
     (refl, its.1, ap (λ (l : List Entry). trace l picks) (sym c.in_ok-push.ensures.ok))
 
 pub returns-clause-run : goal.returns-clause-run
-returns-clause-run g c = λ disk secrets lived st here may early view left image.
-    let its = c.in_ok-step.ensures.acts disk secrets lived c.args.number st here.of (blocks_held c.args.source.now c.hold.new.source _ c.hold.ensures.blocks here.blocks_are) may (early c.begin_step.new.devices.fuse c.in_ok-begin_step.ensures.lit) view in
+returns-clause-run g c = λ disk secrets lived st here may view left image.
+    let its = c.in_ok-step.ensures.acts disk secrets lived c.args.number st here.of (blocks_held c.args.source.now c.hold.new.source _ c.hold.ensures.blocks here.blocks_are) may view in
     let stands : Stands (g.D.Disk.files c.args.devices.now.disk.now) (g.D.Disk.image c.args.devices.now.disk.now) = record {
       lands = node_lands g.D.Disk.tells g.D.Disk.files g.D.Disk.image c.args.node.now c.args.devices.now c.requires.ready disk;
       itself = g.met.D.Disk.reads c.args.devices.now.disk.now disk;
@@ -95,17 +95,17 @@ returns-clause-went g c =
 -- THE STEP STOPPED
 
 pub returns-in_err-step-clause-lines : goal.returns-in_err-step-clause-lines
-returns-in_err-step-clause-lines g c = λ lived st picks here may early view.
+returns-in_err-step-clause-lines g c = λ lived st picks here may view.
     let p = err_from_is_err_and c.from_residual-in_err-step.result c.from_residual-in_err-step.ensures.1 in
-    let its = c.in_err-step.ensures.tells lived c.args.number st here.of (blocks_held c.args.source.now c.hold.new.source _ c.hold.ensures.blocks here.blocks_are) may (early c.begin_step.new.devices.fuse c.in_ok-begin_step.ensures.lit) view in
+    let its = c.in_err-step.ensures.tells lived c.args.number st here.of (blocks_held c.args.source.now c.hold.new.source _ c.hold.ensures.blocks here.blocks_are) may view in
     rw (p.1, p.2) (stopped_lines (entry.Step c.args.number) c.args.life.now.cut c.args.number c.begin_step.new.devices.fuse c.in_ok-begin_step.ensures.lit (step_of lived c.args.number c.args.event.now st)
     _ c.args.out.now.entries c.step.new.out.entries picks c.in_err-step.field-0.0
     (λ is. reached_cuts _ _ c.step.ensures.moved.counts (cut_reached g.D.Disk.tells c.in_err-step.field-0.0 _ _ _ c.in_err-step.ensures.causes is)) its)
 
 pub returns-in_err-step-clause-run : goal.returns-in_err-step-clause-run
-returns-in_err-step-clause-run g c = λ disk secrets lived st here may early view left image.
+returns-in_err-step-clause-run g c = λ disk secrets lived st here may view left image.
     let p = err_from_is_err_and c.from_residual-in_err-step.result c.from_residual-in_err-step.ensures.1 in
-    let its = c.in_err-step.ensures.acts disk secrets lived c.args.number st here.of (blocks_held c.args.source.now c.hold.new.source _ c.hold.ensures.blocks here.blocks_are) may (early c.begin_step.new.devices.fuse c.in_ok-begin_step.ensures.lit) view in
+    let its = c.in_err-step.ensures.acts disk secrets lived c.args.number st here.of (blocks_held c.args.source.now c.hold.new.source _ c.hold.ensures.blocks here.blocks_are) may view in
     let stands : Stands (g.D.Disk.files c.args.devices.now.disk.now) (g.D.Disk.image c.args.devices.now.disk.now) = record {
       lands = node_lands g.D.Disk.tells g.D.Disk.files g.D.Disk.image c.args.node.now c.args.devices.now c.requires.ready disk;
       itself = g.met.D.Disk.reads c.args.devices.now.disk.now disk;
@@ -125,18 +125,21 @@ returns-in_err-step-clause-went g c =
 
 pub step-requires-clause-here : goal.step-requires-clause-here
 step-requires-clause-here g c =
-    event_here (non_zero_u64_get (c.args.node.now).actor.terms.blocks_per_epoch) c.args.source.now c.hold.new.source (c.args.node.now).actor.state c.args.event.now c.hold.ensures.blocks c.in_ok-hold.ensures.numbers
+    event_here (non_zero_u32_get (c.args.node.now).actor.terms.limit) c.args.source.now c.hold.new.source c.args.event.now c.hold.ensures.blocks c.in_ok-hold.ensures.numbers
     (c.requires.here c.begin_step.new.devices.fuse c.in_ok-begin_step.ensures.lit)
+
+pub step-requires-clause-goes : goal.step-requires-clause-goes
+step-requires-clause-goes g c = c.requires.goes c.begin_step.new.devices.fuse c.in_ok-begin_step.ensures.lit
 
 -- THE LIFE IS CUT BEFORE IT
 
 pub returns-in_err-begin_step-clause-lines : goal.returns-in_err-begin_step-clause-lines
-returns-in_err-begin_step-clause-lines g c = λ lived st picks here may early view.
+returns-in_err-begin_step-clause-lines g c = λ lived st picks here may view.
     let p = err_from_is_err_and c.from_residual.result c.from_residual.ensures.1 in
     rw (p.1, p.2) (cut_lines (entry.Step c.args.number) c.args.life.now.cut c.args.number c.in_err-begin_step.ensures.ends.1 (step_of lived c.args.number c.args.event.now st) c.in_err-begin_step.field-0.0 c.in_err-begin_step.ensures.ends.0 _ c.args.out.now.entries picks)
 
 pub returns-in_err-begin_step-clause-run : goal.returns-in_err-begin_step-clause-run
-returns-in_err-begin_step-clause-run g c = λ disk secrets lived st here may early view left image.
+returns-in_err-begin_step-clause-run g c = λ disk secrets lived st here may view left image.
     let p = err_from_is_err_and c.from_residual.result c.from_residual.ensures.1 in
     let stands : Stands (g.D.Disk.files c.args.devices.now.disk.now) (g.D.Disk.image c.args.devices.now.disk.now) = record {
       lands = node_lands g.D.Disk.tells g.D.Disk.files g.D.Disk.image c.args.node.now c.args.devices.now c.requires.ready disk;
@@ -166,7 +169,7 @@ returns-in_err-begin_step-clause-fit g c = λ told. fit_over g.D.Disk.image c.ar
 -- .. or memory wants for its block
 
 pub returns-in_err-hold-clause-lines : goal.returns-in_err-hold-clause-lines
-returns-in_err-hold-clause-lines g c = λ lived st picks here may early view.
+returns-in_err-hold-clause-lines g c = λ lived st picks here may view.
     let p = err_from_is_err_and c.from_residual-in_err-hold.result c.from_residual-in_err-hold.ensures.1 in
     rw (p.1, p.2) (step_wants by_lines (entry.Step c.args.number) (fuse_for c.args.life.now.cut c.args.number) (step_of lived c.args.number c.args.event.now st) (trace c.args.out.now.entries picks) _ c.begin_step.new.devices.fuse c.in_ok-begin_step.ensures.lit)
 

@@ -1,7 +1,7 @@
 use Rattle.std.proofs.Common.{◌≡◌, ◌≤◌, ◌+◌, [], ◌∙◌, arith, length, Result, Ok, Err, Some, refl, subst, sym}
 use Rattle.std.specs.Prelude.{slice_get}
 use Rattle.std.proofs.lemmas.Result.{err_from_is_err_and}
-use Rattle.std.specs.Int.NonZero.{non_zero_u64_get}
+use Rattle.std.specs.Int.NonZero.{non_zero_u32_get}
 use Rattle.dkg_journal.specs.Names.{Files}
 use Rattle.dkg_reshare.specs.declared.stop.Stop.{Stop}
 use Rattle.dkg_types.specs.declared.entry.Entry.TheVariants as entry
@@ -13,10 +13,10 @@ use Rattle.dkg_run.specs.Ways.{by_lines, by_worlds, trace}
 use Rattle.dkg_run.proofs.Going.{went_none, went_then}
 use Rattle.dkg_run.proofs.Living.{step_here}
 use Rattle.dkg_run.proofs.LivesStand.{lines_lead, worlds_lead}
-use Rattle.dkg_run.proofs.StepsOn.{IsHere, early_event, here_first, may_step, steps_here, taken_event}
+use Rattle.dkg_run.proofs.StepsOn.{IsHere, goes_in, here_first, may_step, steps_here, taken_event}
 use Rattle.dkg_run.proofs.Starting.{step_blames_from}
 use Rattle.dkg_run.proofs.Stepping.{takes_end, takes_first, takes_next, takes_stop}
-use Rattle.dkg_run.proofs.Turns.{blocks_same, fit_on, node_lands, node_placed, not_done, steps_of, stops_with}
+use Rattle.dkg_run.proofs.Turns.{blocks_same, fit_on, node_lands, not_done, steps_of, stops_with}
 use Rattle.dkg_run.proofs.lives.take_steps.Goals as goal
 
 pub loop-i-init : goal.loop-i-init
@@ -38,10 +38,16 @@ take_step-requires-clause-here g c = λ f lit.
     let at_event : slice_get c.args.life.now.events c.loop-i.i ≡ Some c.at.result = c.at.ensures in
     let its = c.requires.here in
     let taken = c.loop-i.invariant.lines its.g its.st [] its.here its.of its.view its.at in
-    taken_event its.g its.here c.loop-i.i c.at.result c.args.life.now its.of.life_is at_event c.loop-i.node taken.now taken.so f lit c.loop-i.source.blocks.now
+    taken_event its.g its.here c.loop-i.i c.at.result c.args.life.now its.of.life_is at_event c.loop-i.node taken.now taken.so its.bytes c.loop-i.source.blocks.now
     (blocks_same c.args.source.now c.loop-i.source c.loop-i.invariant.blocks ∙ its.of.blocks_are)
-    (non_zero_u64_get c.loop-i.node.actor.terms.blocks_per_epoch) (sym ((c.loop-i.invariant.of its.g its.of.of).of (c.loop-i.i + 1)).blocks)
-    (node_placed g.D.Disk.tells g.D.Disk.files g.D.Disk.image c.loop-i.node c.loop-i.devices c.loop-i.invariant.ready)
+    (non_zero_u32_get c.loop-i.node.actor.terms.limit) ((c.loop-i.invariant.of its.g its.of.of).of (c.loop-i.i + 1)).limit
+
+pub take_step-requires-clause-goes : goal.take_step-requires-clause-goes
+take_step-requires-clause-goes g c = λ f lit.
+    let at_event : slice_get c.args.life.now.events c.loop-i.i ≡ Some c.at.result = c.at.ensures in
+    let its = c.requires.here in
+    let taken = c.loop-i.invariant.lines its.g its.st [] its.here its.of its.view its.at in
+    goes_in its.g its.here c.loop-i.i c.at.result c.args.life.now its.of.life_is at_event c.loop-i.node taken.now taken.so (c.loop-i.invariant.of its.g its.of.of)
 
 pub returns-in_err-take_step-clause-lines : goal.returns-in_err-take_step-clause-lines
 returns-in_err-take_step-clause-lines g c = λ lived st picks over here view at.
@@ -50,7 +56,7 @@ returns-in_err-take_step-clause-lines g c = λ lived st picks over here view at.
     let taken = c.loop-i.invariant.lines lived st picks over here view at in
     let its : Steps by_lines (entry.Step (c.loop-i.i + 1)) (fuse_for c.args.life.now.cut (c.loop-i.i + 1)) (step_of lived (c.loop-i.i + 1) c.at.result taken.now) (trace c.loop-i.out.entries picks)
     (Err c.in_err-take_step.field-0.0) (trace c.take_step.new.out.entries picks) (λ end t. (◌≡◌ {A = Result (Unit {0}) Stop} (Err c.in_err-take_step.field-0.0) (Ok tt)) × IsView c.take_step.new.node end × (t ≡ trace c.take_step.new.out.entries picks)) =
-    c.in_err-take_step.ensures.lines lived taken.now picks (step_here lived c.args.node.now c.loop-i.node c.args.source.now.blocks.now c.loop-i.source.blocks.now c.args.life.now c.loop-i.invariant.of (blocks_same c.args.source.now c.loop-i.source c.loop-i.invariant.blocks) here) (may_step lived over c.loop-i.i c.at.result c.args.life.now here.life_is at_event c.loop-i.node taken.now taken.so) (λ f lit. early_event lived over c.loop-i.i c.at.result c.args.life.now here.life_is at_event c.loop-i.node taken.now taken.so f lit) taken.so.view in
+    c.in_err-take_step.ensures.lines lived taken.now picks (step_here lived c.args.node.now c.loop-i.node c.args.source.now.blocks.now c.loop-i.source.blocks.now c.args.life.now c.loop-i.invariant.of (blocks_same c.args.source.now c.loop-i.source c.loop-i.invariant.blocks) here) (may_step lived over c.loop-i.i c.at.result c.args.life.now here.life_is at_event c.loop-i.node taken.now taken.so) taken.so.view in
     rw (p.1, p.2) (takes_stop by_lines lived c.args.life.now.events st (trace c.args.out.now.entries picks) c.loop-i.i c.at.result at_event taken.now (trace c.loop-i.out.entries picks) taken.on c.in_err-take_step.field-0.0 (trace c.take_step.new.out.entries picks) (λ end t. Unit {0})
     (stops_with by_lines _ _ _ _ _ _ _ _ (λ end t so. not_done so.0) (steps_of by_lines lived c.args.life.now here.life_is (entry.Step (c.loop-i.i + 1)) (c.loop-i.i + 1) (step_of lived (c.loop-i.i + 1) c.at.result taken.now) (trace c.loop-i.out.entries picks) (Err c.in_err-take_step.field-0.0) (trace c.take_step.new.out.entries picks)
     (λ end t. (◌≡◌ {A = Result (Unit {0}) Stop} (Err c.in_err-take_step.field-0.0) (Ok tt)) × IsView c.take_step.new.node end × (t ≡ trace c.take_step.new.out.entries picks)) its)))
@@ -62,7 +68,7 @@ returns-in_err-take_step-clause-run g c = λ disk secrets lived st over here vie
     let taken = c.loop-i.invariant.run disk secrets lived st over here view at in
     let its : Steps by_worlds (entry.Step (c.loop-i.i + 1)) (fuse_for c.args.life.now.cut (c.loop-i.i + 1)) (step_of lived (c.loop-i.i + 1) c.at.result taken.now) (world_of g.X.SecretStore.held c.loop-i.devices c.loop-i.out.entries (g.D.Disk.files c.loop-i.devices.disk.now))
     (Err c.in_err-take_step.field-0.0) (world_of g.X.SecretStore.held c.take_step.new.devices c.take_step.new.out.entries left) (λ end w. (◌≡◌ {A = Result (Unit {0}) Stop} (Err c.in_err-take_step.field-0.0) (Ok tt)) × IsView c.take_step.new.node end × (w ≡ world_of g.X.SecretStore.held c.take_step.new.devices c.take_step.new.out.entries left)) =
-    c.in_err-take_step.ensures.run disk secrets lived taken.now (step_here lived c.args.node.now c.loop-i.node c.args.source.now.blocks.now c.loop-i.source.blocks.now c.args.life.now c.loop-i.invariant.of (blocks_same c.args.source.now c.loop-i.source c.loop-i.invariant.blocks) here) (may_step lived over c.loop-i.i c.at.result c.args.life.now here.life_is at_event c.loop-i.node taken.now taken.so) (λ f lit. early_event lived over c.loop-i.i c.at.result c.args.life.now here.life_is at_event c.loop-i.node taken.now taken.so f lit) taken.so.view left image in
+    c.in_err-take_step.ensures.run disk secrets lived taken.now (step_here lived c.args.node.now c.loop-i.node c.args.source.now.blocks.now c.loop-i.source.blocks.now c.args.life.now c.loop-i.invariant.of (blocks_same c.args.source.now c.loop-i.source c.loop-i.invariant.blocks) here) (may_step lived over c.loop-i.i c.at.result c.args.life.now here.life_is at_event c.loop-i.node taken.now taken.so) taken.so.view left image in
     rw (p.1, p.2) (takes_stop by_worlds lived c.args.life.now.events st (world_of g.X.SecretStore.held c.args.devices.now c.args.out.now.entries (g.D.Disk.files c.args.devices.now.disk.now)) c.loop-i.i c.at.result at_event taken.now (world_of g.X.SecretStore.held c.loop-i.devices c.loop-i.out.entries (g.D.Disk.files c.loop-i.devices.disk.now)) taken.on c.in_err-take_step.field-0.0 (world_of g.X.SecretStore.held c.take_step.new.devices c.take_step.new.out.entries left)
     (λ end w. Unit {0})
     (stops_with by_worlds _ _ _ _ _ _ _ _ (λ end w so. not_done so.0) (steps_of by_worlds lived c.args.life.now here.life_is (entry.Step (c.loop-i.i + 1)) (c.loop-i.i + 1) (step_of lived (c.loop-i.i + 1) c.at.result taken.now) (world_of g.X.SecretStore.held c.loop-i.devices c.loop-i.out.entries (g.D.Disk.files c.loop-i.devices.disk.now)) (Err c.in_err-take_step.field-0.0) (world_of g.X.SecretStore.held c.take_step.new.devices c.take_step.new.out.entries left)
@@ -83,13 +89,13 @@ loop-i-preserved g c =
       fit = λ told fit. fit_on c.args.node.now c.loop-i.node c.loop-i.invariant.terms _ _ (c.take_step.ensures.fit told) (c.loop-i.invariant.fit told fit);
       lines = λ lived st picks over here view at.
           let taken = c.loop-i.invariant.lines lived st picks over here view at in
-          let its = c.in_ok-take_step.ensures.lines lived taken.now picks (step_here lived c.args.node.now c.loop-i.node c.args.source.now.blocks.now c.loop-i.source.blocks.now c.args.life.now c.loop-i.invariant.of (blocks_same c.args.source.now c.loop-i.source c.loop-i.invariant.blocks) here) (may_step lived over c.loop-i.i c.at.result c.args.life.now here.life_is at_event c.loop-i.node taken.now taken.so) (λ f lit. early_event lived over c.loop-i.i c.at.result c.args.life.now here.life_is at_event c.loop-i.node taken.now taken.so f lit) taken.so.view in
+          let its = c.in_ok-take_step.ensures.lines lived taken.now picks (step_here lived c.args.node.now c.loop-i.node c.args.source.now.blocks.now c.loop-i.source.blocks.now c.args.life.now c.loop-i.invariant.of (blocks_same c.args.source.now c.loop-i.source c.loop-i.invariant.blocks) here) (may_step lived over c.loop-i.i c.at.result c.args.life.now here.life_is at_event c.loop-i.node taken.now taken.so) taken.so.view in
           takes_next by_lines lived c.args.life.now.events st (trace c.args.out.now.entries picks) c.loop-i.i c.at.result at_event taken.now (trace c.loop-i.out.entries picks) taken.on (trace c.take_step.new.out.entries picks) (IsHere lived c.take_step.new.node (c.loop-i.i + 1))
           (steps_of by_lines lived c.args.life.now here.life_is _ _ _ _ _ _ _
           (steps_here lived over c.loop-i.i c.at.result c.args.life.now here.life_is at_event c.loop-i.node taken.now taken.so by_lines lines_lead (entry.Step (c.loop-i.i + 1)) c.take_step.new.node (trace c.loop-i.out.entries picks) (trace c.take_step.new.out.entries picks) its));
       run = λ disk secrets lived st over here view at.
           let taken = c.loop-i.invariant.run disk secrets lived st over here view at in
-          let its = c.in_ok-take_step.ensures.run disk secrets lived taken.now (step_here lived c.args.node.now c.loop-i.node c.args.source.now.blocks.now c.loop-i.source.blocks.now c.args.life.now c.loop-i.invariant.of (blocks_same c.args.source.now c.loop-i.source c.loop-i.invariant.blocks) here) (may_step lived over c.loop-i.i c.at.result c.args.life.now here.life_is at_event c.loop-i.node taken.now taken.so) (λ f lit. early_event lived over c.loop-i.i c.at.result c.args.life.now here.life_is at_event c.loop-i.node taken.now taken.so f lit) taken.so.view (g.D.Disk.files c.take_step.new.devices.disk.now) (g.met.D.Disk.reads c.take_step.new.devices.disk.now disk) in
+          let its = c.in_ok-take_step.ensures.run disk secrets lived taken.now (step_here lived c.args.node.now c.loop-i.node c.args.source.now.blocks.now c.loop-i.source.blocks.now c.args.life.now c.loop-i.invariant.of (blocks_same c.args.source.now c.loop-i.source c.loop-i.invariant.blocks) here) (may_step lived over c.loop-i.i c.at.result c.args.life.now here.life_is at_event c.loop-i.node taken.now taken.so) taken.so.view (g.D.Disk.files c.take_step.new.devices.disk.now) (g.met.D.Disk.reads c.take_step.new.devices.disk.now disk) in
           takes_next by_worlds lived c.args.life.now.events st (world_of g.X.SecretStore.held c.args.devices.now c.args.out.now.entries (g.D.Disk.files c.args.devices.now.disk.now)) c.loop-i.i c.at.result at_event taken.now (world_of g.X.SecretStore.held c.loop-i.devices c.loop-i.out.entries (g.D.Disk.files c.loop-i.devices.disk.now)) taken.on
           (world_of g.X.SecretStore.held c.take_step.new.devices c.take_step.new.out.entries (g.D.Disk.files c.take_step.new.devices.disk.now)) (IsHere lived c.take_step.new.node (c.loop-i.i + 1))
           (steps_of by_worlds lived c.args.life.now here.life_is _ _ _ _ _ _ _

@@ -1,9 +1,20 @@
-use Rattle.std.proofs.Common.{Err, Ok, ap, refl, subst, sym}
+use Rattle.std.proofs.Common.{◌≡◌, Err, None, Ok, false, ap, refl, subst, sym, ◌∙◌}
+use Rattle.std.specs.declared.num.NonZeroU32.{NonZeroU32}
+use Rattle.std.specs.declared.num.NonZeroU64.{NonZeroU64}
+use Rattle.dkg_ceremony.specs.Dealings as dealings
+use Rattle.dkg_ceremony.specs.Finishes as finishes
+use Rattle.dkg_ceremony.specs.ValidLogs as logs
+use Rattle.dkg_types.specs.declared.directory.Unit as directory
+use Rattle.dkg_core.specs.Core.{no_inclusion}
+use Rattle.dkg_reshare.specs.InclusionOf.{IsSeen, IsSettledInclusion}
+use Rattle.dkg_reshare.specs.declared.life.Life as reshare
+use Rattle.dkg_run.specs.Nodes.{IsSettled}
+use Rattle.dkg_run.specs.declared.players.Players as players
 use Rattle.std.specs.Int.NonZero.{non_zero_u32_get, non_zero_u64_get}
 use Rattle.std.proofs.lemmas.Result.{err_from_is_err_and}
 use Rattle.dkg_store.specs.Acts.{by_want}
 use Rattle.dkg_core.specs.Heard.{recovered_in}
-use Rattle.std.specs.Prelude.{IsTrue}
+use Rattle.std.specs.Prelude.{◌≤◌, ◌^◌, IsTrue}
 use Rattle.dkg_ceremony.specs.declared.mode.ModeVersion.{ModeVersion}
 use Rattle.dkg_ceremony.specs.declared.mode.Reveal.TheVariants.{V1}
 use Rattle.dkg_text.specs.declared.script.Life.{Life}
@@ -21,7 +32,7 @@ use Rattle.dkg_run.specs.Given.{starts_above}
 use Rattle.dkg_run.specs.Nodes.{ended_new}
 use Rattle.dkg_run.proofs.Checked.{not_refused}
 use Rattle.dkg_run.proofs.NodeOpens.{above_from, are_of, ended_acts, ended_lines, found_as, found_nothing, given_ended, given_halted, given_opened, half_as, halted_acts, halted_lines, its, lent_is, life_with, number_is, opened_acts, opened_lines, opening_is, ready_is, planless_is}
-use Rattle.dkg_run.proofs.Noding.{at_rules, of_terms, ready_node, unsaid}
+use Rattle.dkg_run.proofs.Noding.{NodeInclusion, at_rules, including_both, of_terms, ready_node, unsaid}
 use Rattle.dkg_run.proofs.Shutting.{grammar_as, readable_ended, unopened}
 use Rattle.dkg_run.proofs.node.Node.open.Goals as goal
 
@@ -56,20 +67,20 @@ returns-in_err-open-clause-loose g c = λ told.
 pub open-requires-2 : goal.open-requires-2
 open-requires-2 g c =
     let are = (are_of (c.in_ok-actor.actor).terms c.args.script.now.config _ _ _ _ _ _ _ c.in_ok-actor.ensures.terms c.in_ok-config.ensures.0 c.in_ok-config.ensures.1 c.in_ok-config.ensures.2 c.in_ok-config.ensures.3 c.in_ok-config.ensures.4 c.in_ok-config.ensures.5 c.in_ok-config.ensures.6) in
-    record { ready = ready_is c.args.script.now c.args.number c.args.life.now c.args.source.now (g.D.Disk.files c.args.devices.now.disk.now) c.requires.here.form c.requires.here.checked c.requires.here.life_is c.requires.here.source_is (c.in_ok-actor.actor).terms are _ c.open.new.fence (c.open.new.self).state _ c.in_ok-open.ensures.ends (c.in_ok-open.ensures.tells (its c.args.script.now c.args.number c.args.life.now c.args.source.now (g.D.Disk.files c.args.devices.now.disk.now) c.requires.here.form c.requires.here.checked c.requires.here.life_is c.requires.here.source_is (c.in_ok-actor.actor).terms are) (lent_is c.args.script.now c.args.number c.args.life.now c.args.source.now (g.D.Disk.files c.args.devices.now.disk.now) c.requires.here.form c.requires.here.checked c.requires.here.life_is c.requires.here.source_is (c.in_ok-actor.actor).terms are) (number_is c.args.script.now c.args.number c.args.life.now c.args.source.now (g.D.Disk.files c.args.devices.now.disk.now) c.requires.here.form c.requires.here.checked c.requires.here.life_is c.requires.here.source_is (c.in_ok-actor.actor).terms are) (planless_is c.args.script.now c.args.number c.args.life.now c.args.source.now (g.D.Disk.files c.args.devices.now.disk.now) c.requires.here.form c.requires.here.checked c.requires.here.life_is c.requires.here.source_is (c.in_ok-actor.actor).terms are) (at_rules (life_with c.args.script.now c.args.number c.args.life.now c.args.source.now (g.D.Disk.files c.args.devices.now.disk.now) c.requires.here.form c.requires.here.checked c.requires.here.life_is c.requires.here.source_is (c.in_ok-actor.actor).terms are seen_planless) 0) c.new-fence.ensures.fresh) _ (ap non_zero_u64_get are.blocks_are) }
+    record { ready = ready_is c.args.script.now c.args.number c.args.life.now c.args.source.now (g.D.Disk.files c.args.devices.now.disk.now) c.requires.here.form c.requires.here.checked c.requires.here.life_is c.requires.here.source_is (c.in_ok-actor.actor).terms are _ c.open.new.fence (record { actor = c.open.new.self; fence = c.open.new.fence; half = record { entered = None; halted = false }; blocks_per_epoch = c.args.script.now.config.blocks_per_epoch }) _ c.in_ok-open.ensures.ends (c.in_ok-open.ensures.tells (its c.args.script.now c.args.number c.args.life.now c.args.source.now (g.D.Disk.files c.args.devices.now.disk.now) c.requires.here.form c.requires.here.checked c.requires.here.life_is c.requires.here.source_is (c.in_ok-actor.actor).terms are) (lent_is c.args.script.now c.args.number c.args.life.now c.args.source.now (g.D.Disk.files c.args.devices.now.disk.now) c.requires.here.form c.requires.here.checked c.requires.here.life_is c.requires.here.source_is (c.in_ok-actor.actor).terms are) (number_is c.args.script.now c.args.number c.args.life.now c.args.source.now (g.D.Disk.files c.args.devices.now.disk.now) c.requires.here.form c.requires.here.checked c.requires.here.life_is c.requires.here.source_is (c.in_ok-actor.actor).terms are) (planless_is c.args.script.now c.args.number c.args.life.now c.args.source.now (g.D.Disk.files c.args.devices.now.disk.now) c.requires.here.form c.requires.here.checked c.requires.here.life_is c.requires.here.source_is (c.in_ok-actor.actor).terms are) (at_rules (life_with c.args.script.now c.args.number c.args.life.now c.args.source.now (g.D.Disk.files c.args.devices.now.disk.now) c.requires.here.form c.requires.here.checked c.requires.here.life_is c.requires.here.source_is (c.in_ok-actor.actor).terms are seen_planless) 0) c.new-fence.ensures.fresh) _ (ap non_zero_u64_get are.blocks_are) }
 
 pub returns-in_err-half-clause-acts : goal.returns-in_err-half-clause-acts
 returns-in_err-half-clause-acts g c = λ disk secrets grammar.
     let p = err_from_is_err_and c.from_residual-in_err-half.result c.from_residual-in_err-half.ensures.1 in
     let are = (are_of (c.in_ok-actor.actor).terms c.args.script.now.config _ _ _ _ _ _ _ c.in_ok-actor.ensures.terms c.in_ok-config.ensures.0 c.in_ok-config.ensures.1 c.in_ok-config.ensures.2 c.in_ok-config.ensures.3 c.in_ok-config.ensures.4 c.in_ok-config.ensures.5 c.in_ok-config.ensures.6) in
-    rw (p.1, p.2) (halted_acts c.args.script.now c.args.number c.args.life.now c.args.source.now (g.D.Disk.files c.args.devices.now.disk.now) c.requires.here.form c.requires.here.checked c.requires.here.life_is c.requires.here.source_is (c.in_ok-actor.actor).terms are _ c.open.new.fence (c.open.new.self).state _ c.in_ok-open.ensures.ends (c.in_ok-open.ensures.acts disk secrets (its c.args.script.now c.args.number c.args.life.now c.args.source.now (g.D.Disk.files c.args.devices.now.disk.now) c.requires.here.form c.requires.here.checked c.requires.here.life_is c.requires.here.source_is (c.in_ok-actor.actor).terms are) (opening_is c.args.script.now c.args.number c.args.life.now c.args.source.now (g.D.Disk.files c.args.devices.now.disk.now) c.requires.here.form c.requires.here.checked c.requires.here.life_is c.requires.here.source_is (c.in_ok-actor.actor).terms are grammar) (at_rules (life_with c.args.script.now c.args.number c.args.life.now c.args.source.now (g.D.Disk.files c.args.devices.now.disk.now) c.requires.here.form c.requires.here.checked c.requires.here.life_is c.requires.here.source_is (c.in_ok-actor.actor).terms are seen_planless) 0) c.new-fence.ensures.fresh) c.in_err-half.field-0.0 _ c.open-2.new.fence
+    rw (p.1, p.2) (halted_acts c.args.script.now c.args.number c.args.life.now c.args.source.now (g.D.Disk.files c.args.devices.now.disk.now) c.requires.here.form c.requires.here.checked c.requires.here.life_is c.requires.here.source_is (c.in_ok-actor.actor).terms are _ c.open.new.fence (record { actor = c.open.new.self; fence = c.open.new.fence; half = record { entered = None; halted = false }; blocks_per_epoch = c.args.script.now.config.blocks_per_epoch }) _ c.in_ok-open.ensures.ends (c.in_ok-open.ensures.acts disk secrets (its c.args.script.now c.args.number c.args.life.now c.args.source.now (g.D.Disk.files c.args.devices.now.disk.now) c.requires.here.form c.requires.here.checked c.requires.here.life_is c.requires.here.source_is (c.in_ok-actor.actor).terms are) (opening_is c.args.script.now c.args.number c.args.life.now c.args.source.now (g.D.Disk.files c.args.devices.now.disk.now) c.requires.here.form c.requires.here.checked c.requires.here.life_is c.requires.here.source_is (c.in_ok-actor.actor).terms are grammar) (at_rules (life_with c.args.script.now c.args.number c.args.life.now c.args.source.now (g.D.Disk.files c.args.devices.now.disk.now) c.requires.here.form c.requires.here.checked c.requires.here.life_is c.requires.here.source_is (c.in_ok-actor.actor).terms are seen_planless) 0) c.new-fence.ensures.fresh) c.in_err-half.field-0.0 _ c.open-2.new.fence
     (λ fixed st half may. c.in_err-half.ensures.speaks fixed st (half_as half (ap non_zero_u64_get are.blocks_are)) may))
 
 pub returns-in_err-half-clause-tells : goal.returns-in_err-half-clause-tells
 returns-in_err-half-clause-tells g c =
     let p = err_from_is_err_and c.from_residual-in_err-half.result c.from_residual-in_err-half.ensures.1 in
     let are = (are_of (c.in_ok-actor.actor).terms c.args.script.now.config _ _ _ _ _ _ _ c.in_ok-actor.ensures.terms c.in_ok-config.ensures.0 c.in_ok-config.ensures.1 c.in_ok-config.ensures.2 c.in_ok-config.ensures.3 c.in_ok-config.ensures.4 c.in_ok-config.ensures.5 c.in_ok-config.ensures.6) in
-    rw (p.1, p.2) (halted_lines c.args.script.now c.args.number c.args.life.now c.args.source.now (g.D.Disk.files c.args.devices.now.disk.now) c.requires.here.form c.requires.here.checked c.requires.here.life_is c.requires.here.source_is (c.in_ok-actor.actor).terms are _ c.open.new.fence (c.open.new.self).state _ c.in_ok-open.ensures.ends (c.in_ok-open.ensures.tells (its c.args.script.now c.args.number c.args.life.now c.args.source.now (g.D.Disk.files c.args.devices.now.disk.now) c.requires.here.form c.requires.here.checked c.requires.here.life_is c.requires.here.source_is (c.in_ok-actor.actor).terms are) (lent_is c.args.script.now c.args.number c.args.life.now c.args.source.now (g.D.Disk.files c.args.devices.now.disk.now) c.requires.here.form c.requires.here.checked c.requires.here.life_is c.requires.here.source_is (c.in_ok-actor.actor).terms are) (number_is c.args.script.now c.args.number c.args.life.now c.args.source.now (g.D.Disk.files c.args.devices.now.disk.now) c.requires.here.form c.requires.here.checked c.requires.here.life_is c.requires.here.source_is (c.in_ok-actor.actor).terms are) (planless_is c.args.script.now c.args.number c.args.life.now c.args.source.now (g.D.Disk.files c.args.devices.now.disk.now) c.requires.here.form c.requires.here.checked c.requires.here.life_is c.requires.here.source_is (c.in_ok-actor.actor).terms are) (at_rules (life_with c.args.script.now c.args.number c.args.life.now c.args.source.now (g.D.Disk.files c.args.devices.now.disk.now) c.requires.here.form c.requires.here.checked c.requires.here.life_is c.requires.here.source_is (c.in_ok-actor.actor).terms are seen_planless) 0) c.new-fence.ensures.fresh) c.in_err-half.field-0.0 _ c.open-2.new.fence (λ s. UnlessBroken (ended_new (Err c.in_err-half.field-0.0)) (IsTrue g.D.Disk.tells → IsTrue g.X.SecretStore.tells → AreGivenFrom (starts_above c.args.script.now c.args.number c.args.life.now) s.dealings (g.D.Disk.image c.open.new.devices.disk.now) (g.X.SecretStore.held c.open.new.devices.secrets.now)))
+    rw (p.1, p.2) (halted_lines c.args.script.now c.args.number c.args.life.now c.args.source.now (g.D.Disk.files c.args.devices.now.disk.now) c.requires.here.form c.requires.here.checked c.requires.here.life_is c.requires.here.source_is (c.in_ok-actor.actor).terms are _ c.open.new.fence (record { actor = c.open.new.self; fence = c.open.new.fence; half = record { entered = None; halted = false }; blocks_per_epoch = c.args.script.now.config.blocks_per_epoch }) _ c.in_ok-open.ensures.ends (c.in_ok-open.ensures.tells (its c.args.script.now c.args.number c.args.life.now c.args.source.now (g.D.Disk.files c.args.devices.now.disk.now) c.requires.here.form c.requires.here.checked c.requires.here.life_is c.requires.here.source_is (c.in_ok-actor.actor).terms are) (lent_is c.args.script.now c.args.number c.args.life.now c.args.source.now (g.D.Disk.files c.args.devices.now.disk.now) c.requires.here.form c.requires.here.checked c.requires.here.life_is c.requires.here.source_is (c.in_ok-actor.actor).terms are) (number_is c.args.script.now c.args.number c.args.life.now c.args.source.now (g.D.Disk.files c.args.devices.now.disk.now) c.requires.here.form c.requires.here.checked c.requires.here.life_is c.requires.here.source_is (c.in_ok-actor.actor).terms are) (planless_is c.args.script.now c.args.number c.args.life.now c.args.source.now (g.D.Disk.files c.args.devices.now.disk.now) c.requires.here.form c.requires.here.checked c.requires.here.life_is c.requires.here.source_is (c.in_ok-actor.actor).terms are) (at_rules (life_with c.args.script.now c.args.number c.args.life.now c.args.source.now (g.D.Disk.files c.args.devices.now.disk.now) c.requires.here.form c.requires.here.checked c.requires.here.life_is c.requires.here.source_is (c.in_ok-actor.actor).terms are seen_planless) 0) c.new-fence.ensures.fresh) c.in_err-half.field-0.0 _ c.open-2.new.fence (λ s. UnlessBroken (ended_new (Err c.in_err-half.field-0.0)) (IsTrue g.D.Disk.tells → IsTrue g.X.SecretStore.tells → AreGivenFrom (starts_above c.args.script.now c.args.number c.args.life.now) s.dealings (g.D.Disk.image c.open.new.devices.disk.now) (g.X.SecretStore.held c.open.new.devices.secrets.now)))
     (given_halted c.args.script.now c.args.number c.args.life.now c.args.source.now (g.D.Disk.files c.args.devices.now.disk.now) c.requires.here.form c.requires.here.checked c.requires.here.life_is c.requires.here.source_is (c.in_ok-actor.actor).terms are (IsTrue g.D.Disk.tells) (IsTrue g.X.SecretStore.tells) (g.D.Disk.image c.open.new.devices.disk.now) (g.X.SecretStore.held c.open.new.devices.secrets.now) c.in_err-half.field-0.0)
     (λ fixed st half may. c.in_err-half.ensures.speaks fixed st (half_as half (ap non_zero_u64_get are.blocks_are)) may))
 
@@ -89,24 +100,29 @@ returns-in_err-half-clause-loose g c = λ told.
     above_from c.args.script.now c.args.number c.args.life.now c.args.source.now (g.D.Disk.files c.args.devices.now.disk.now) c.requires.here.form c.requires.here.checked c.requires.here.life_is c.requires.here.source_is (c.in_ok-actor.actor).terms are _ _ _ _ (c.in_ok-open.ensures.loose told)
 
 pub returns-clause-ready : goal.returns-clause-ready
-returns-clause-ready g c = ready_node g.D.Disk.tells g.D.Disk.files g.D.Disk.image (record { actor = c.open.new.self; fence = c.open-2.new.fence; half = c.in_ok-half.half }) c.open.new.devices c.in_ok-open.ensures.ends
+returns-clause-ready g c =
+    let are = (are_of (c.in_ok-actor.actor).terms c.args.script.now.config _ _ _ _ _ _ _ c.in_ok-actor.ensures.terms c.in_ok-config.ensures.0 c.in_ok-config.ensures.1 c.in_ok-config.ensures.2 c.in_ok-config.ensures.3 c.in_ok-config.ensures.4 c.in_ok-config.ensures.5 c.in_ok-config.ensures.6) in
+    let length : c.args.script.now.config.blocks_per_epoch ≡ (c.open.new.self).terms.blocks_per_epoch = sym (ap (λ (t : Terms). t.blocks_per_epoch) c.in_ok-open.ensures.rest.4 ∙ are.blocks_are) in
+    ready_node g.D.Disk.tells g.D.Disk.files g.D.Disk.image (record { actor = c.open.new.self; fence = c.open-2.new.fence; half = c.in_ok-half.half; blocks_per_epoch = c.args.script.now.config.blocks_per_epoch }) c.open.new.devices length c.in_ok-open.ensures.ends (including_both (c.open.new.self).state (IsSettledInclusion logs.check_log_of dealings.dealing_of finishes.finish_of (non_zero_u64_get (c.open.new.self).terms.blocks_per_epoch)) (λ (life : reshare.Life directory.Unit) (its : NodeInclusion). IsSeen its no_inclusion) c.in_ok-open.ensures.including).0
+    (subst (λ (k : NonZeroU64). IsSettled (non_zero_u64_get k) c.in_ok-half.half) length c.in_ok-half.ensures.settled)
 
 pub returns-clause-of : goal.returns-clause-of
 returns-clause-of g c = λ lived same same_life none.
     let are = (are_of (c.in_ok-actor.actor).terms c.args.script.now.config _ _ _ _ _ _ _ c.in_ok-actor.ensures.terms c.in_ok-config.ensures.0 c.in_ok-config.ensures.1 c.in_ok-config.ensures.2 c.in_ok-config.ensures.3 c.in_ok-config.ensures.4 c.in_ok-config.ensures.5 c.in_ok-config.ensures.6) in
-    of_terms lived (record { actor = c.open.new.self; fence = c.open-2.new.fence; half = c.in_ok-half.half }) c.args.script.now.config (ap (λ (s : Script). s.config) same) none (subst (λ (t : Terms). AreTerms t c.args.script.now.config.me c.args.script.now.config.blocks_per_epoch c.args.script.now.config.limit c.args.script.now.config.max_mode c.args.script.now.config.mode V1 c.args.script.now.config.namespace) (sym c.in_ok-open.ensures.rest.4) are)
+    of_terms lived (record { actor = c.open.new.self; fence = c.open-2.new.fence; half = c.in_ok-half.half; blocks_per_epoch = c.args.script.now.config.blocks_per_epoch }) c.args.script.now.config (ap (λ (s : Script). s.config) same) none (subst (λ (t : Terms). AreTerms t c.args.script.now.config.me c.args.script.now.config.blocks_per_epoch c.args.script.now.config.limit c.args.script.now.config.max_mode c.args.script.now.config.mode V1 c.args.script.now.config.namespace) (sym c.in_ok-open.ensures.rest.4) are)
+    (ap (λ (p : players.Players). p.lines.now) (c.in_ok-open.ensures.rest.2 ∙ c.in_ok-actor.ensures.parts.3) ∙ c.in_ok-config.ensures.7)
     c.args.life.now.word (ap (λ (l : Life). l.word) same_life) c.in_ok-open.ensures.word
 
 pub returns-clause-acts : goal.returns-clause-acts
 returns-clause-acts g c = λ disk secrets grammar.
     let are = (are_of (c.in_ok-actor.actor).terms c.args.script.now.config _ _ _ _ _ _ _ c.in_ok-actor.ensures.terms c.in_ok-config.ensures.0 c.in_ok-config.ensures.1 c.in_ok-config.ensures.2 c.in_ok-config.ensures.3 c.in_ok-config.ensures.4 c.in_ok-config.ensures.5 c.in_ok-config.ensures.6) in
-    opened_acts c.args.script.now c.args.number c.args.life.now c.args.source.now (g.D.Disk.files c.args.devices.now.disk.now) c.requires.here.form c.requires.here.checked c.requires.here.life_is c.requires.here.source_is (c.in_ok-actor.actor).terms are _ c.open.new.fence (c.open.new.self).state _ c.in_ok-open.ensures.ends (c.in_ok-open.ensures.acts disk secrets (its c.args.script.now c.args.number c.args.life.now c.args.source.now (g.D.Disk.files c.args.devices.now.disk.now) c.requires.here.form c.requires.here.checked c.requires.here.life_is c.requires.here.source_is (c.in_ok-actor.actor).terms are) (opening_is c.args.script.now c.args.number c.args.life.now c.args.source.now (g.D.Disk.files c.args.devices.now.disk.now) c.requires.here.form c.requires.here.checked c.requires.here.life_is c.requires.here.source_is (c.in_ok-actor.actor).terms are grammar) (at_rules (life_with c.args.script.now c.args.number c.args.life.now c.args.source.now (g.D.Disk.files c.args.devices.now.disk.now) c.requires.here.form c.requires.here.checked c.requires.here.life_is c.requires.here.source_is (c.in_ok-actor.actor).terms are seen_planless) 0) c.new-fence.ensures.fresh) (record { actor = c.open.new.self; fence = c.open-2.new.fence; half = c.in_ok-half.half }) refl _
+    opened_acts c.args.script.now c.args.number c.args.life.now c.args.source.now (g.D.Disk.files c.args.devices.now.disk.now) c.requires.here.form c.requires.here.checked c.requires.here.life_is c.requires.here.source_is (c.in_ok-actor.actor).terms are _ c.open.new.fence (record { actor = c.open.new.self; fence = c.open-2.new.fence; half = c.in_ok-half.half; blocks_per_epoch = c.args.script.now.config.blocks_per_epoch }) _ c.in_ok-open.ensures.ends (c.in_ok-open.ensures.acts disk secrets (its c.args.script.now c.args.number c.args.life.now c.args.source.now (g.D.Disk.files c.args.devices.now.disk.now) c.requires.here.form c.requires.here.checked c.requires.here.life_is c.requires.here.source_is (c.in_ok-actor.actor).terms are) (opening_is c.args.script.now c.args.number c.args.life.now c.args.source.now (g.D.Disk.files c.args.devices.now.disk.now) c.requires.here.form c.requires.here.checked c.requires.here.life_is c.requires.here.source_is (c.in_ok-actor.actor).terms are grammar) (at_rules (life_with c.args.script.now c.args.number c.args.life.now c.args.source.now (g.D.Disk.files c.args.devices.now.disk.now) c.requires.here.form c.requires.here.checked c.requires.here.life_is c.requires.here.source_is (c.in_ok-actor.actor).terms are seen_planless) 0) c.new-fence.ensures.fresh) (including_both (c.open.new.self).state (IsSettledInclusion logs.check_log_of dealings.dealing_of finishes.finish_of (non_zero_u64_get (c.open.new.self).terms.blocks_per_epoch)) (λ (life : reshare.Life directory.Unit) (its : NodeInclusion). IsSeen its no_inclusion) c.in_ok-open.ensures.including).1 _
     (λ fixed st half may. c.in_ok-half.ensures.speaks fixed st (half_as half (ap non_zero_u64_get are.blocks_are)) may)
 
 pub returns-clause-tells : goal.returns-clause-tells
 returns-clause-tells g c =
     let are = (are_of (c.in_ok-actor.actor).terms c.args.script.now.config _ _ _ _ _ _ _ c.in_ok-actor.ensures.terms c.in_ok-config.ensures.0 c.in_ok-config.ensures.1 c.in_ok-config.ensures.2 c.in_ok-config.ensures.3 c.in_ok-config.ensures.4 c.in_ok-config.ensures.5 c.in_ok-config.ensures.6) in
-    opened_lines c.args.script.now c.args.number c.args.life.now c.args.source.now (g.D.Disk.files c.args.devices.now.disk.now) c.requires.here.form c.requires.here.checked c.requires.here.life_is c.requires.here.source_is (c.in_ok-actor.actor).terms are _ c.open.new.fence (c.open.new.self).state _ c.in_ok-open.ensures.ends (c.in_ok-open.ensures.tells (its c.args.script.now c.args.number c.args.life.now c.args.source.now (g.D.Disk.files c.args.devices.now.disk.now) c.requires.here.form c.requires.here.checked c.requires.here.life_is c.requires.here.source_is (c.in_ok-actor.actor).terms are) (lent_is c.args.script.now c.args.number c.args.life.now c.args.source.now (g.D.Disk.files c.args.devices.now.disk.now) c.requires.here.form c.requires.here.checked c.requires.here.life_is c.requires.here.source_is (c.in_ok-actor.actor).terms are) (number_is c.args.script.now c.args.number c.args.life.now c.args.source.now (g.D.Disk.files c.args.devices.now.disk.now) c.requires.here.form c.requires.here.checked c.requires.here.life_is c.requires.here.source_is (c.in_ok-actor.actor).terms are) (planless_is c.args.script.now c.args.number c.args.life.now c.args.source.now (g.D.Disk.files c.args.devices.now.disk.now) c.requires.here.form c.requires.here.checked c.requires.here.life_is c.requires.here.source_is (c.in_ok-actor.actor).terms are) (at_rules (life_with c.args.script.now c.args.number c.args.life.now c.args.source.now (g.D.Disk.files c.args.devices.now.disk.now) c.requires.here.form c.requires.here.checked c.requires.here.life_is c.requires.here.source_is (c.in_ok-actor.actor).terms are seen_planless) 0) c.new-fence.ensures.fresh) (record { actor = c.open.new.self; fence = c.open-2.new.fence; half = c.in_ok-half.half }) refl _ (λ s. UnlessBroken (ended_new (Ok (record { actor = c.open.new.self; fence = c.open-2.new.fence; half = c.in_ok-half.half }))) (IsTrue g.D.Disk.tells → IsTrue g.X.SecretStore.tells → AreGivenFrom (starts_above c.args.script.now c.args.number c.args.life.now) s.dealings (g.D.Disk.image c.open.new.devices.disk.now) (g.X.SecretStore.held c.open.new.devices.secrets.now)))
+    opened_lines c.args.script.now c.args.number c.args.life.now c.args.source.now (g.D.Disk.files c.args.devices.now.disk.now) c.requires.here.form c.requires.here.checked c.requires.here.life_is c.requires.here.source_is (c.in_ok-actor.actor).terms are _ c.open.new.fence (record { actor = c.open.new.self; fence = c.open-2.new.fence; half = c.in_ok-half.half; blocks_per_epoch = c.args.script.now.config.blocks_per_epoch }) _ c.in_ok-open.ensures.ends (c.in_ok-open.ensures.tells (its c.args.script.now c.args.number c.args.life.now c.args.source.now (g.D.Disk.files c.args.devices.now.disk.now) c.requires.here.form c.requires.here.checked c.requires.here.life_is c.requires.here.source_is (c.in_ok-actor.actor).terms are) (lent_is c.args.script.now c.args.number c.args.life.now c.args.source.now (g.D.Disk.files c.args.devices.now.disk.now) c.requires.here.form c.requires.here.checked c.requires.here.life_is c.requires.here.source_is (c.in_ok-actor.actor).terms are) (number_is c.args.script.now c.args.number c.args.life.now c.args.source.now (g.D.Disk.files c.args.devices.now.disk.now) c.requires.here.form c.requires.here.checked c.requires.here.life_is c.requires.here.source_is (c.in_ok-actor.actor).terms are) (planless_is c.args.script.now c.args.number c.args.life.now c.args.source.now (g.D.Disk.files c.args.devices.now.disk.now) c.requires.here.form c.requires.here.checked c.requires.here.life_is c.requires.here.source_is (c.in_ok-actor.actor).terms are) (at_rules (life_with c.args.script.now c.args.number c.args.life.now c.args.source.now (g.D.Disk.files c.args.devices.now.disk.now) c.requires.here.form c.requires.here.checked c.requires.here.life_is c.requires.here.source_is (c.in_ok-actor.actor).terms are seen_planless) 0) c.new-fence.ensures.fresh) (including_both (c.open.new.self).state (IsSettledInclusion logs.check_log_of dealings.dealing_of finishes.finish_of (non_zero_u64_get (c.open.new.self).terms.blocks_per_epoch)) (λ (life : reshare.Life directory.Unit) (its : NodeInclusion). IsSeen its no_inclusion) c.in_ok-open.ensures.including).1 _ (λ s. UnlessBroken (ended_new (Ok (record { actor = c.open.new.self; fence = c.open-2.new.fence; half = c.in_ok-half.half; blocks_per_epoch = c.args.script.now.config.blocks_per_epoch }))) (IsTrue g.D.Disk.tells → IsTrue g.X.SecretStore.tells → AreGivenFrom (starts_above c.args.script.now c.args.number c.args.life.now) s.dealings (g.D.Disk.image c.open.new.devices.disk.now) (g.X.SecretStore.held c.open.new.devices.secrets.now)))
     (given_opened c.args.script.now c.args.number c.args.life.now c.args.source.now (g.D.Disk.files c.args.devices.now.disk.now) c.requires.here.form c.requires.here.checked c.requires.here.life_is c.requires.here.source_is (c.in_ok-actor.actor).terms are (IsTrue g.D.Disk.tells) (IsTrue g.X.SecretStore.tells) (g.D.Disk.image c.open.new.devices.disk.now) (g.X.SecretStore.held c.open.new.devices.secrets.now))
     (λ fixed st half may. c.in_ok-half.ensures.speaks fixed st (half_as half (ap non_zero_u64_get are.blocks_are)) may)
 
@@ -207,3 +223,9 @@ returns-in_err-config-clause-loose g c = λ told. above_itself (starts_above c.a
 
 pub returns-clause-causes : goal.returns-clause-causes
 returns-clause-causes g c = tt
+
+pub config_of-requires : goal.config_of-requires
+config_of-requires g c = c.requires.here.form.rising
+
+pub new-requires : goal.new-requires
+new-requires g c = record { few = subst (λ (n : NonZeroU32). non_zero_u32_get n ≤ 2 ^ 30) (sym c.in_ok-config.ensures.5) c.requires.here.form.few }
