@@ -10,13 +10,14 @@ use std::test::Fail;
 
 /// Words, each in a line of its own; the numbers of the calls of the source and of the sink that fail, from 1; the number of the status, and what is
 /// written, of a script without blocks and lives.
-const CALLS: [(&str, u64, u64, u8, &str); 16] = [
+const CALLS: [(&str, u64, u64, u8, &str); 18] = [
     ("run", 0, 0, 0, "done\n"),
     ("", 0, 0, 2, "usage\n"),
     ("run\nx", 0, 0, 2, "usage\n"),
     ("Run", 0, 0, 2, "usage\n"),
     ("run ", 0, 0, 2, "usage\n"),
-    ("make\n7", 0, 0, 2, "usage\n"),
+    ("make", 0, 0, 2, "usage\n"),
+    ("make\n07", 0, 0, 2, "usage\n"),
     ("make\n07\nscript", 0, 0, 2, "usage\n"),
     ("make\n-\nscript", 0, 0, 2, "usage\n"),
     ("make\n18446744073709551616\nscript", 0, 0, 2, "usage\n"),
@@ -27,6 +28,7 @@ const CALLS: [(&str, u64, u64, u8, &str); 16] = [
     ("run", 0, 1, 8, ""),
     ("walk", 0, 1, 8, ""),
     ("make\n18446744073709551615\nscript", 0, 1, 8, ""),
+    ("make\n7", 0, 1, 8, ""),
 ];
 
 /// The number of the status that words give over new devices.
@@ -80,5 +82,20 @@ fn a_made_script_is_written(rt: HostRuntime) -> Result<(), Fail> {
     assert_eq!(rt; status, 0);
     assert_eq!(rt; sink.bytes().len(), MADE.1);
     assert_eq!(rt; sink.bytes().starts_with(MADE.0.as_bytes()), true);
+    Ok(())
+}
+
+/// What the run of a made script sums up to.
+const SUMMARY: &str =
+    "made 7\nlives 6\nsteps 399\nrestored 61\nrecorded 34\nacks 35\noffers 72\nregistered 11\nentered 11\nacknowledged 320\nlogs 4\nanswers 5\nblocked 0\ndone\n";
+
+#[test]
+fn a_made_script_is_run(rt: HostRuntime) -> Result<(), Fail> {
+    let alloc = rt.alloc();
+    let mut source = MemorySource::new(alloc, Vec::new(alloc));
+    let mut sink = MemorySink::new(alloc);
+    let status = status_of(alloc, "make\n7", &mut source, &mut sink)?;
+    assert_eq!(rt; status, 0);
+    assert_eq!(rt; sink.bytes(), SUMMARY.as_bytes());
     Ok(())
 }

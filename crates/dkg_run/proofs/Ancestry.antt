@@ -72,14 +72,16 @@ module _ {Dir : Type 0} (check : Check) (round : Round) (bounds : Bounds) (tip :
 
     walk : (bs path : List (Block Dir)) (s : Scan) → Stands check round bounds tip path s → all ≡ reverse path ++ bs → IsRead all ended (closed_by ended (fed_all check s answer.Need bs).0)
     walk [] path s stands fed = at_end path stands.under_way fed
-    walk (b ∷ bs) path s stands fed = by_answer (feeds check s b).0 (feeds check s b).1 (feed_says check round bounds tip path s b stands)
+    walk (b ∷ bs) path s stands fed =
+        by_answer (λ now says. walk bs (b ∷ path) now (says.goes_on refl) (fed ∙ one_more path b bs)) (feeds check s b).0 (feeds check s b).1 (feed_says check round bounds tip path s b stands)
       where
-        by_answer : (its : declared.Fed) (now : Scan) → Says check round bounds tip path b its now → IsRead all ended (closed_by ended (fed_all check now its bs).0)
-        by_answer answer.Need now says = walk bs (b ∷ path) now (says.goes_on refl) (fed ∙ one_more path b bs)
-        by_answer (answer.Logs found) now says =
+        by_answer : ((now : Scan) → Says check round bounds tip path b answer.Need now → IsRead all ended (closed_by ended (fed_all check now answer.Need bs).0)) → (its : declared.Fed) (now : Scan) → Says check round bounds tip path b its now
+            → IsRead all ended (closed_by ended (fed_all check now its bs).0)
+        by_answer again answer.Need now says = again now says
+        by_answer again (answer.Logs found) now says =
             subst (λ (p : declared.Fed × Scan). IsRead all ended (closed_by ended p.0)) (sym (fed_done check now (answer.Logs found) bs (λ e. cc)))
             (record { path = path; lowest = b; rest = bs; fed = fed ∙ one_more path b bs; completes = says.answers.0; logs = says.answers.1 })
-        by_answer (answer.Unavailable why) now says =
+        by_answer again (answer.Unavailable why) now says =
             subst (λ (p : declared.Fed × Scan). IsRead all ended (closed_by ended p.0)) (sym (fed_done check now (answer.Unavailable why) bs (λ e. cc)))
             (inr (record { path = path; next = b; rest = bs; fed = fed; under_way = stands.under_way; so = says.answers }))
 

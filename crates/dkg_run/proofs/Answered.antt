@@ -24,7 +24,7 @@ use Rattle.dkg_text.specs.declared.script.Life.{Life}
 use Rattle.dkg_text.specs.declared.script.Script.{Script}
 use Rattle.dkg_store.specs.Acts.{Ended}
 use Rattle.dkg_script.specs.Epochs.{alone}
-use Rattle.dkg_script.specs.Position.{event_of_step, follows}
+use Rattle.dkg_script.specs.Position.{awaited_epoch, event_of_step, follows}
 use Rattle.dkg_core.specs.Asked.{InEpoch, InRound}
 use Rattle.dkg_core.specs.Behind.{event_of}
 use Rattle.dkg_core.specs.Courses.{on_devices}
@@ -56,7 +56,7 @@ use Rattle.dkg_run.proofs.Awaiting.{IsReached}
 use Rattle.dkg_run.proofs.Causing.{above_by, taken}
 use Rattle.dkg_run.proofs.FedRequests.{becomes_open, stands_more}
 use Rattle.dkg_run.proofs.Former.{Brings, BringsBlock, BringsMail, IsMessage, brings_so, life_in, step_taken, through_at}
-use Rattle.dkg_run.proofs.Requested.{AreHeld, AreReady, IsAwaited, IsHeld, IsSamePart, asked_same, block_said, dealt_part, dealt_said, dealt_tip, included_said, keeps_final, keeps_work, mail_said, observed_part, read_here, sends_info, sends_work, stands_as, were_asked}
+use Rattle.dkg_run.proofs.Requested.{AreHeld, AreReady, IsAwaited, IsHeld, IsSamePart, asked_same, block_said, dealt_part, dealt_said, dealt_tip, included_said, keeps_final, keeps_work, less_one, mail_said, observed_part, read_here, sends_info, sends_work, stands_as, were_asked}
 use Rattle.dkg_run.proofs.Unanswered.{IsUnanswered, block_lines}
 
 abbrev U : Type 0
@@ -68,14 +68,14 @@ all_of P (y ∷ xs) x (inl is) all = subst P is all.0
 all_of P (y ∷ xs) x (inr among) all = all_of P xs x among all.1
 
 -- what is said in a step of a life
+abbrev pub IsSaidIn : Script → (l : ℕ) → Life → (epoch j : ℕ) → Entry → Type 0
+IsSaidIn script l life epoch j (Answer request answer) = IsAnsweredSo script l life epoch j request answer
+IsSaidIn script l life epoch j line = Unit {0}
+
 abbrev pub IsSaidAt : Script → (l : ℕ) → Life → (j : ℕ) → Entry → Type 0
-IsSaidAt script l life j (Answer request answer) = IsAskedFor script l life j request × IsAnsweredSo script l life j request answer
-IsSaidAt script l life j line = Unit {0}
+IsSaidAt script l life j line = IsSaidIn script l life (awaited_epoch (alone script) l life (j - 1)) j line
 
-abbrev pub IsSaidHere : Lived → (j : ℕ) → Entry → Type 0
-IsSaidHere g j line = IsSaidAt g.script g.number g.life j line
-
-pub unanswered_so : (g : Lived) (j : ℕ) (line : Entry) → IsUnanswered line → IsSaidHere g j line
+pub unanswered_so : (g : Lived) (j : ℕ) (line : Entry) → IsUnanswered line → IsSaidAt g.script g.number g.life j line
 unanswered_so g j (Answer request answer) none = absurd none
 unanswered_so g j line none = tt
 
@@ -88,16 +88,19 @@ module _ (g : Lived) (here : IsLifeInForm g) (i : ℕ) (its : Event) (is : slice
   abbrev e : ℕ
   e = epoch_by g i
 
+  abbrev IsSaidHere : Entry → Type 0
+  IsSaidHere line = IsSaidIn g.script g.number g.life e (suc i) line
+
   itself : (a : ℕ) → a ≤ a
   itself a = omega arith
 
   -- OF WHICH REQUEST
-  of_held : (r : Request U) → IsHeld g e (suc i) r → IsAskedFor g.script g.number g.life (suc i) r.number
-  of_held r one = record { at = one.at; before = one.before; made = one.made; same = one.same; uncancelled = subst IsUncancelled (sym one.stands) (open r.ended) }
+  of_held : (r : Request U) → IsHeld g e (suc i) r → IsAskedFor g.script g.number g.life e (suc i) r.number
+  of_held r one = record { at = one.at; before = one.before; made = one.made; same = one.same; uncancelled = subst IsUncancelled (sym one.stands) (uncut r.ended) }
     where
-      open : (ended : Bool) → IsUncancelled (stands_as ended)
-      open true = tt
-      open false = tt
+      uncut : (ended : Bool) → IsUncancelled (stands_as ended)
+      uncut true = tt
+      uncut false = tt
 
   -- A LIFE THAT TAKES PART
   module _ (apart : st.participation.stage ≡ Follows → ⊥) where
@@ -122,7 +125,7 @@ module _ (g : Lived) (here : IsLifeInForm g) (i : ℕ) (its : Event) (is : slice
 
       -- made of these logs
       made_of : (request read : ℕ) (recorded logs : LogMap) (payload : Option (List ℕ)) → read ≤ suc i → epoch_by g (read - 1) ≡ e → WereAsked g.script g.life e request read round recorded logs → payload ≡ payload_by c round info logs
-          → IsMadeOf g.script g.number g.life (suc i) request payload
+          → IsMadeOf g.script g.number g.life e (suc i) request payload
       made_of request read recorded logs payload within same asked is = record {
         takes_part = takes_part;
         info = info;
@@ -144,13 +147,13 @@ module _ (g : Lived) (here : IsLifeInForm g) (i : ℕ) (its : Event) (is : slice
       x_epoch = same.epoch ∙ its_epoch
 
       lacking : (round : Round) (r : Request U) (why : Why) → r.blocks ≡ fed_in g.script g.life r.number (suc i) → standing_of g.life r.number (suc i) ≡ stands_as r.ended
-          → IsRead check_log_of round (bounds_in g.script e) (scan_tip g.script g.life (suc i)) r.blocks r.ended (Lacks why) → IsUnavailable g.script g.number g.life (suc i) r.number why
+          → IsRead check_log_of round (bounds_in g.script e) (scan_tip g.script g.life (suc i)) r.blocks r.ended (Lacks why) → IsUnavailable g.script g.number g.life e (suc i) r.number why
       lacking round r why fed standing (inl (short, ended, on)) =
-          subst (λ (w : Why). IsUnavailable g.script g.number g.life (suc i) r.number w) (sym short)
+          subst (λ (w : Why). IsUnavailable g.script g.number g.life e (suc i) r.number w) (sym short)
           (record { closed = standing ∙ ap stands_as ended; path = on.path; fed = sym fed ∙ on.fed; under_way = on.under_way })
       lacking round r why fed standing (inr refused) = by_why why (record { path = refused.path; next = refused.next; rest = refused.rest; fed = sym fed ∙ refused.fed; under_way = refused.under_way; so = refused.so })
         where
-          by_why : (w : Why) → IsRefusedAt g.script g.life e r.number (suc i) w → IsUnavailable g.script g.number g.life (suc i) r.number w
+          by_why : (w : Why) → IsRefusedAt g.script g.life e r.number (suc i) w → IsUnavailable g.script g.number g.life e (suc i) r.number w
           by_why (WrongHeight wanted got) its = its
           by_why (Unlinked height) its = its
           by_why (Detached height) its = its
@@ -160,34 +163,34 @@ module _ (g : Lived) (here : IsLifeInForm g) (i : ℕ) (its : Event) (is : slice
           by_why Finished its = absurd its.so
           by_why Held its = absurd its.so
 
-      found_for : (number : ℕ) (answer : AnswerLine) → IsReadAnswer c x (Answer number answer) → IsSaidHere g (suc i) (Answer number answer)
+      found_for : (number : ℕ) (answer : AnswerLine) → IsReadAnswer c x (Answer number answer) → IsSaidHere (Answer number answer)
       found_for number (Available payload) (round, info, of_round, of_info, (r, among, numbered, (found, read, is))) =
           let one : IsHeld g e (suc i) r = all_of (IsHeld g e (suc i)) x.inclusion.queue r among ready.queue in
-          subst (λ (n : ℕ). IsAskedFor g.script g.number g.life (suc i) n × IsMadeOf g.script g.number g.life (suc i) n payload) numbered (
+          subst (λ (n : ℕ). IsAskedFor g.script g.number g.life e (suc i) n × IsMadeOf g.script g.number g.life e (suc i) n payload) numbered (
             of_held r one,
-            made_of round info (sym same.round ∙ of_round) (sym same.current ∙ of_info) r.number (suc i) (canonical c x) (filled_by (canonical c x) found) payload (itself (suc i)) refl
+            made_of round info (sym same.round ∙ of_round) (sym same.current ∙ of_info) r.number (suc i) (canonical c x) (filled_by (canonical c x) found) payload (itself (suc i)) (ap (epoch_by g) (less_one i))
                 (were_asked g here (suc i) e x x_tip x_epoch round r found read one.fed) is,
           )
       found_for number (Unavailable why) (round, of_round, (r, among, numbered, lacks)) =
           let one : IsHeld g e (suc i) r = all_of (IsHeld g e (suc i)) x.inclusion.queue r among ready.queue in
-          subst (λ (n : ℕ). IsAskedFor g.script g.number g.life (suc i) n × IsUnavailable g.script g.number g.life (suc i) n why) numbered (
+          subst (λ (n : ℕ). IsAskedFor g.script g.number g.life e (suc i) n × IsUnavailable g.script g.number g.life e (suc i) n why) numbered (
             of_held r one,
             lacking round r why one.fed one.stands (subst (IsRead check_log_of round (bounds_in g.script e) (scan_tip g.script g.life (suc i)) r.blocks r.ended) lacks (read_here g here (suc i) e x x_tip x_epoch round r)),
           )
 
-      found_so : (line : Entry) → IsReadAnswer c x line → IsSaidHere g (suc i) line
+      found_so : (line : Entry) → IsReadAnswer c x line → IsSaidHere line
       found_so (Answer number answer) read = found_for number answer read
       found_so line read = absurd read
 
     -- A VERIFICATION ENDS
     waited_for : (number : ℕ) (payload : Option (List ℕ)) → IsWaitedAnswer c st (Answer number (Available payload)) → ((awaited : IsAwaited g e i st.inclusion.running st.participation.round number) → IsUncancelled (standing_of g.life number (suc i)))
-        → IsSaidHere g (suc i) (Answer number (Available payload))
-    waited_for number payload (round, info, of_round, of_info, (job, runs, waits, is)) open =
+        → IsSaidHere (Answer number (Available payload))
+    waited_for number payload (round, info, of_round, of_info, (job, runs, waits, is)) keeps =
         let one : IsAwaited g e i st.inclusion.running st.participation.round number = subst (λ (o : Option ℕ). IfSome o (IsAwaited g e i st.inclusion.running st.participation.round)) waits held.ready.waiter in
         let of_job : one.job ≡ job = the_same (sym one.runs ∙ runs) in
         let of_its : one.its_round ≡ round = the_same (sym one.of_round ∙ of_round) in
         (
-          record { at = one.at; before = more one.at one.before; made = one.made; same = one.same; uncancelled = open one },
+          record { at = one.at; before = more one.at one.before; made = one.made; same = one.same; uncancelled = keeps one },
           made_of round info of_round of_info number one.read one.recorded job.logs payload (upto one.read one.within) one.began
               (subst (λ (x : Job). WereAsked g.script g.life e number one.read round one.recorded x.logs) of_job (subst (λ (x : Round). WereAsked g.script g.life e number one.read x one.recorded (one.job).logs) of_its one.asked)) is,
         )
@@ -201,10 +204,10 @@ module _ (g : Lived) (here : IsLifeInForm g) (i : ℕ) (its : Event) (is : slice
         upto : (a : ℕ) → a ≤ i → a ≤ suc i
         upto a low = omega (arith, low)
 
-    waited_so : (line : Entry) → IsWaitedAnswer c st line → ((number : ℕ) → IsAwaited g e i st.inclusion.running st.participation.round number → IsUncancelled (standing_of g.life number (suc i))) → IsSaidHere g (suc i) line
-    waited_so (Answer number (Available payload)) waited open = waited_for number payload waited (open number)
-    waited_so (Answer number (Unavailable why)) waited open = absurd waited
-    waited_so line waited open = absurd waited
+    waited_so : (line : Entry) → IsWaitedAnswer c st line → ((number : ℕ) → IsAwaited g e i st.inclusion.running st.participation.round number → IsUncancelled (standing_of g.life number (suc i))) → IsSaidHere line
+    waited_so (Answer number (Available payload)) waited keeps = waited_for number payload waited (keeps number)
+    waited_so (Answer number (Unavailable why)) waited keeps = absurd waited
+    waited_so line waited keeps = absurd waited
 
   -- a life with a round takes part
   apart_by : (round : Round) → st.participation.round ≡ Some round → st.participation.stage ≡ Follows → ⊥
@@ -226,10 +229,10 @@ module _ (g : Lived) (here : IsLifeInForm g) (i : ℕ) (its : Event) (is : slice
   waited_round (Answer number (Unavailable why)) waited = absurd waited
   waited_round line waited = absurd waited
 
-  read_in : (x : Live U) → IsSamePart c st x → x.tip ≡ tip_in g.script g.life (suc i) → AreReady g e (suc i) st.participation.round x.inclusion → (line : Entry) → IsReadAnswer c x line → IsSaidHere g (suc i) line
+  read_in : (x : Live U) → IsSamePart c st x → x.tip ≡ tip_in g.script g.life (suc i) → AreReady g e (suc i) st.participation.round x.inclusion → (line : Entry) → IsReadAnswer c x line → IsSaidHere line
   read_in x same x_tip ready line read = let its_round = round_of x line read in found_so (apart_by its_round.0 (sym same.round ∙ its_round.1)) x same x_tip ready line read
 
-  unasked_so : (line : Entry) → IsUnasked line → IsSaidHere g (suc i) line
+  unasked_so : (line : Entry) → IsUnasked line → IsSaidHere line
   unasked_so (Answer number answer) none = absurd none
   unasked_so line none = tt
 
@@ -240,19 +243,19 @@ module _ (g : Lived) (here : IsLifeInForm g) (i : ℕ) (its : Event) (is : slice
     its_brings = subst (λ (x : Message U). Brings g its x) sent m.brings
 
     part : IsSamePart c st (asked_by mail st)
-    part = let same = asked_same mail st in record {
+    part = let same = asked_same c mail st in record {
       epoch = ap (λ (x : Live U). x.participation.epoch) same;
       round = ap (λ (x : Live U). x.participation.round) same;
       current = ap (λ (x : Live U). x.participation.current) same;
     }
 
     mail_tip : (asked_by mail st).tip ≡ tip_in g.script g.life (suc i)
-    mail_tip = ap (λ (x : Live U). x.tip) (asked_same mail st) ∙ ap (λ (x : Message U). tip_behind x st.tip) (sym sent) ∙ tip_next
+    mail_tip = ap (λ (x : Live U). x.tip) (asked_same c mail st) ∙ ap (λ (x : Message U). tip_behind x st.tip) (sym sent) ∙ tip_next
 
-    asked_so : (line : Entry) → IsReadAnswer c (asked_by mail st) line → IsSaidHere g (suc i) line
+    asked_so : (line : Entry) → IsReadAnswer c (asked_by mail st) line → IsSaidHere line
     asked_so line read = read_in (asked_by mail st) part mail_tip (mail_said g here i its is st held mail its_brings) line read
 
-  following : (number : ℕ) → its ≡ event.Info number → st.participation.stage ≡ Follows → IsSaidHere g (suc i) (Answer number (Unavailable Following))
+  following : (number : ℕ) → its ≡ event.Info number → st.participation.stage ≡ Follows → IsSaidHere (Answer number (Unavailable Following))
   following number of follows =
       let there : slice_get g.life.events i ≡ Some (event.Info number) = is ∙ ap (λ (x : Event). Some x) of in
       (
@@ -267,13 +270,13 @@ module _ (g : Lived) (here : IsLifeInForm g) (i : ℕ) (its : Event) (is : slice
   waits_on : (number : ℕ) → ((s : Standing) → IsUncancelled s → IsUncancelled (turns number s its)) → IsAwaited g e i st.inclusion.running st.participation.round number → IsUncancelled (standing_of g.life number (suc i))
   waits_on number keeps one = subst IsUncancelled (sym (stands_more number g.life i its is)) (keeps (standing_of g.life number i) one.uncancelled)
 
-  mail_answers : (mail : Mail U) → m.message ≡ Sent mail → (line : Entry) → IsMailLine c st mail line → IsSaidHere g (suc i) line
+  mail_answers : (mail : Mail U) → m.message ≡ Sent mail → (line : Entry) → IsMailLine c st mail line → IsSaidHere line
   mail_answers (Peer from bytes) sent line said = unasked_so line said
-  mail_answers (NextLog number height) sent line said = subst (λ (x : Entry). IsSaidHere g (suc i) x) (sym said.1) tt
+  mail_answers (NextLog number height) sent line said = subst (λ (x : Entry). IsSaidHere x) (sym said.1) tt
   mail_answers (ReleaseLog height) sent line said = absurd said
   mail_answers (EpochInfoOf number) sent line (inl read) = asked_so (EpochInfoOf number) sent line read
   mail_answers (EpochInfoOf number) sent line (inr (follows, same)) =
-      subst (λ (x : Entry). IsSaidHere g (suc i) x) (sym same) (following number (sends_info g its number (its_brings (EpochInfoOf number) sent)) follows)
+      subst (λ (x : Entry). IsSaidHere x) (sym same) (following number (sends_info g its number (its_brings (EpochInfoOf number) sent)) follows)
   mail_answers (Feed number block) sent line said = asked_so (Feed number block) sent line said
   mail_answers (Over number) sent line said = asked_so (Over number) sent line said
   mail_answers (Cancel number) sent line said = asked_so (Cancel number) sent line said
@@ -286,7 +289,7 @@ module _ (g : Lived) (here : IsLifeInForm g) (i : ℕ) (its : Event) (is : slice
   -- A BLOCK
 
   module _ (number : ℕ) (of : its ≡ event.Final number) (b : Block U) (there : slice_get (blocks_in g.script) number ≡ Some b) (sent : m.message ≡ Finalized b) (applied : judged_block c b st ≡ Applied) where
-    its_tip : Option Tip
+    abbrev its_tip : Option Tip
     its_tip = Some (record { height = b.height; digest = b.digest })
 
     block_tip : its_tip ≡ tip_in g.script g.life (suc i)
@@ -297,18 +300,20 @@ module _ (g : Lived) (here : IsLifeInForm g) (i : ℕ) (its : Event) (is : slice
     keeps : (n : ℕ) (s : Standing) → IsUncancelled s → IsUncancelled (turns n s its)
     keeps n s its_open = subst (λ (x : Event). IsUncancelled (turns n s x)) (sym of) (keeps_final n number s its_open)
 
-    final_so : st.participation.stage ≡ Includes → is_last_height c b.height ≡ true → (n : ℕ) (line : Entry) → OfRequest st n (λ r. line ≡ Answer n (Unavailable Finished)) → IsSaidHere g (suc i) line
+    final_so : st.participation.stage ≡ Includes → is_last_height c b.height ≡ true → (n : ℕ) (line : Entry) → OfRequest st n (λ r. line ≡ Answer n (Unavailable Finished)) → IsSaidHere line
     final_so stage last_one n line (r, among, numbered, same) =
         let apart : st.participation.stage ≡ Follows → ⊥ = λ follows. let no : ◌≡◌ {A = Stage} Includes Follows = sym stage ∙ follows in cc in
         let ready = block_said g here i its is st held number of st.inclusion refl refl refl in
-        subst (λ (x : Entry). IsSaidHere g (suc i) x) (sym same) (
-          subst (λ (k : ℕ). IsAskedFor g.script g.number g.life (suc i) k) numbered (of_held r (all_of (IsHeld g e (suc i)) st.inclusion.queue r among ready.queue)),
-          stands.parts apart,
-          subst (λ (o : Option Event). IsSomeAnd o (λ x. (k : ℕ) × (y : Block U) × (x ≡ event.Final k) × (slice_get (blocks_in g.script) k ≡ Some y) × IsTakenLast g.script g.number g.life i y)) (sym is)
-              (number, b, of, there, taken g here i its is reached m st live stands tip carried number of b there applied last_one),
+        subst (λ (x : Entry). IsSaidHere x) (sym same) (
+          subst (λ (k : ℕ). IsAskedFor g.script g.number g.life e (suc i) k) numbered (of_held r (all_of (IsHeld g e (suc i)) st.inclusion.queue r among ready.queue)),
+          (
+            stands.parts apart,
+            subst (λ (o : Option Event). IsSomeAnd o (λ x. (k : ℕ) × (y : Block U) × (x ≡ event.Final k) × (slice_get (blocks_in g.script) k ≡ Some y) × IsTakenLast g.script g.number g.life (suc i - 1) y)) (sym is)
+                (number, b, of, there, subst (λ (k : ℕ). IsTakenLast g.script g.number g.life k b) (sym (less_one i)) (taken g here i its is reached m st live stands tip carried number of b there applied last_one)),
+          ),
         )
 
-    includes_so : (last_one : Bool) → is_last_height c b.height ≡ last_one → st.participation.stage ≡ Includes → (line : Entry) → IsFinalAnswer c st last_one b line → IsSaidHere g (suc i) line
+    includes_so : (last_one : Bool) → is_last_height c b.height ≡ last_one → st.participation.stage ≡ Includes → (line : Entry) → IsFinalAnswer c st last_one b line → IsSaidHere line
     includes_so true last_is stage line (inl waited) =
         let its_round = waited_round line waited in waited_so (apart_by its_round.0 its_round.1) line waited (λ n one. waits_on n (keeps n) one)
     includes_so true last_is stage line (inr (n, left)) = final_so stage last_is n line left
@@ -316,32 +321,32 @@ module _ (g : Lived) (here : IsLifeInForm g) (i : ℕ) (its : Event) (is : slice
         let same = observed_part c st round b in
         read_in (included c round b st) (record { epoch = same.epoch; round = same.round; current = same.current }) block_tip (included_said g here i its is st held number of c round b) line read
 
-    deals_so : st.participation.stage ≡ Deals → (line : Entry) → IsReadAnswer c (dealt_behind c b (given_itself c st)) line → IsSaidHere g (suc i) line
+    deals_so : st.participation.stage ≡ Deals → (line : Entry) → IsReadAnswer c (dealt_behind c b (given_itself c st)) line → IsSaidHere line
     deals_so stage line read =
         let none : st.inclusion.running ≡ None = (live.asked.has.early (λ includes. let no : ◌≡◌ {A = Stage} Deals Includes = sym stage ∙ includes in cc)).0 in
         read_in (dealt_behind c b (given_itself c st)) (dealt_part c st b) (dealt_tip c st b ∙ block_tip) (dealt_said g here i its is st held number of c b (live.asked.has.waits none)) line read
 
-    by_stage : (stage : Stage) → st.participation.stage ≡ stage → (line : Entry) → IsBlockAnswer c st b stage line → IsSaidHere g (suc i) line
+    by_stage : (stage : Stage) → st.participation.stage ≡ stage → (line : Entry) → IsBlockAnswer c st b stage line → IsSaidHere line
     by_stage Deals stage line said = deals_so stage line said
     by_stage Includes stage line said = includes_so (is_last_height c b.height) refl stage line said
     by_stage Follows stage line said = absurd said
     by_stage Ends stage line said = absurd said
 
-    block_answers : (line : Entry) → IsLineThrough c any_shares st (Finalized b) line → IsSaidHere g (suc i) line
+    block_answers : (line : Entry) → IsLineThrough c any_shares st (Finalized b) line → IsSaidHere line
     block_answers (Answer n answer) said = by_stage st.participation.stage refl (Answer n answer) said
     block_answers line said = tt
 
   -- A STEP
 
-  half_so : (line : Entry) → IsHalfLine line → IsSaidHere g (suc i) line
+  half_so : (line : Entry) → IsHalfLine line → IsSaidHere line
   half_so (Answer n answer) said = absurd said
   half_so line said = tt
 
-  all_said : {P : Entry → Type 0} → ((line : Entry) → P line → IsSaidHere g (suc i) line) → (lines : List Entry) → AllByRecursion P lines → AllByRecursion (IsSaidHere g (suc i)) lines
+  all_said : {P : Entry → Type 0} → ((line : Entry) → P line → IsSaidHere line) → (lines : List Entry) → AllByRecursion P lines → AllByRecursion IsSaidHere lines
   all_said so [] all = tt
   all_said so (line ∷ lines) all = (so line all.0, all_said so lines all.1)
 
-  both_said : {P Q : Entry → Type 0} → ((line : Entry) → P line → Q line → IsSaidHere g (suc i) line) → (lines : List Entry) → AllByRecursion P lines → AllByRecursion Q lines → AllByRecursion (IsSaidHere g (suc i)) lines
+  both_said : {P Q : Entry → Type 0} → ((line : Entry) → P line → Q line → IsSaidHere line) → (lines : List Entry) → AllByRecursion P lines → AllByRecursion Q lines → AllByRecursion IsSaidHere lines
   both_said so [] one other = tt
   both_said so (line ∷ lines) one other = (so line one.0 other.0, both_said so lines one.1 other.1)
 
@@ -352,17 +357,17 @@ module _ (g : Lived) (here : IsLifeInForm g) (i : ℕ) (its : Event) (is : slice
   through_so ended old new said = node_steps_say_through c any_shares st m.message ended old new (through_at g here (suc i)) (λ h epoch found. tt) (step_taken g its m.message m.brings c st) live said
 
   -- each of its lines is said so
-  pub step_answers : (ended : Ended NodeStop (Live U)) (old new : List Entry) → Said (on_devices (node_step c (event_of m.message) st)) ended old new
-      → (added : List Entry) × (new ≡ old ++ added) × AllByRecursion (IsSaidHere g (suc i)) added
-  step_answers ended old new said = by_brought (brings_so g its m.message m.brings)
+  step_said : (ended : Ended NodeStop (Live U)) (old new : List Entry) → Said (on_devices (node_step c (event_of m.message) st)) ended old new
+      → (added : List Entry) × (new ≡ old ++ added) × AllByRecursion IsSaidHere added
+  step_said ended old new said = by_brought (brings_so g its m.message m.brings)
     where
       through : (added : List Entry) × (new ≡ old ++ added) × AllByRecursion Through added
       through = through_so ended old new said
 
-      by_brought : BringsBlock g its m.message ⊎ BringsMail its m.message → (added : List Entry) × (new ≡ old ++ added) × AllByRecursion (IsSaidHere g (suc i)) added
+      by_brought : BringsBlock g its m.message ⊎ BringsMail its m.message → (added : List Entry) × (new ≡ old ++ added) × AllByRecursion IsSaidHere added
       by_brought (inr (mail, sent, none)) = (through.0, through.1, all_said of_mail through.0 through.2)
         where
-          of_mail : (line : Entry) → Through line → IsSaidHere g (suc i) line
+          of_mail : (line : Entry) → Through line → IsSaidHere line
           of_mail line (inl said) = mail_answers mail sent line (subst (λ (x : Message U). IsLineThrough c any_shares st x line) sent said)
           of_mail line (inr said) = half_so line said
       by_brought (inl (number, made, of, sent)) = (through.0, through.1, both_said of_block through.0 through.2 lines)
@@ -376,7 +381,13 @@ module _ (g : Lived) (here : IsLifeInForm g) (i : ℕ) (its : Event) (is : slice
           lines : AllByRecursion (λ line. (judged_block c b st ≡ Applied) ⊎ IsHalfLine line) through.0
           lines = subst (λ (xs : List Entry). AllByRecursion (λ line. (judged_block c b st ≡ Applied) ⊎ IsHalfLine line) xs) (append_cancel_left old applied_or.0 through.0 (sym applied_or.1 ∙ through.1)) applied_or.2
 
-          of_block : (line : Entry) → Through line → (judged_block c b st ≡ Applied) ⊎ IsHalfLine line → IsSaidHere g (suc i) line
+          of_block : (line : Entry) → Through line → (judged_block c b st ≡ Applied) ⊎ IsHalfLine line → IsSaidHere line
           of_block line (inr said) applied = half_so line said
           of_block line (inl said) (inr half) = half_so line half
           of_block line (inl said) (inl applied) = block_answers number of b made.is sent applied line (subst (λ (x : Message U). IsLineThrough c any_shares st x line) sent said)
+
+  pub step_answers : (ended : Ended NodeStop (Live U)) (old new : List Entry) → Said (on_devices (node_step c (event_of m.message) st)) ended old new
+      → (added : List Entry) × (new ≡ old ++ added) × AllByRecursion (IsSaidAt g.script g.number g.life (suc i)) added
+  step_answers ended old new said =
+      let its_lines = step_said ended old new said in
+      (its_lines.0, its_lines.1, subst (λ (k : ℕ). AllByRecursion (IsSaidIn g.script g.number g.life k (suc i)) its_lines.0) (sym (ap (epoch_by g) (less_one i))) its_lines.2)

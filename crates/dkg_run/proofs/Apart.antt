@@ -1,6 +1,6 @@
 -- No two requests of a life have one number: not two that wait in its queue, nor one of them and the one whose verification runs.
 use Rattle.std.proofs.Common.{◌≡◌, inl, inr, ℕ, zero, suc, ◌+◌, ◌==◌, ◌++◌, List, [], ◌∷◌, Option, Some, None, Bool, true, false, arith, refl, sym, ◌∙◌, ap, subst, length}
-use Rattle.std.specs.Prelude.{⊤, filter, is_some, map, not, nat_le, nat_lt, IfSome, if◌then◌else◌, option_map, option_and_then}
+use Rattle.std.specs.Prelude.{⊤, ◌⊎◌, ◌^◌, filter, is_some, map, not, nat_le, nat_lt, IfSome, if◌then◌else◌, option_map, option_and_then}
 use Rattle.std.specs.List.{AllByRecursion}
 use Rattle.std.specs.Option.{option_map_or}
 use Rattle.dkg_values.specs.Rising.{lookup}
@@ -211,7 +211,7 @@ module _ (c : Fixed U) (reshare : c.oneshot ≡ None) where
   advances_to : (most : ℕ) (st : Live U) → IsApart st.inclusion → To (i.advances c most st)
   advances_to zero st apart = apart
   advances_to (suc most) st apart = to_option (λ (round : Round). i.reads_first c round (λ now. i.advances c most now) st) st.participation.round (Goes st)
-      (λ round e. by_stage round st.participation.stage st.inclusion.running st.inclusion.queue refl) apart
+      (λ round e. by_stage (λ end its. advances_to most end its) round st.participation.stage st.inclusion.running st.inclusion.queue refl) apart
     where
       next : Live U → Course U Fault (Live U)
       next now = i.advances c most now
@@ -222,16 +222,16 @@ module _ (c : Fixed U) (reshare : c.oneshot ≡ None) where
           let waits : IfSome st.inclusion.waiter (λ number. LacksNumber number (r ∷ rs)) = subst (λ (q : List (Request U)). IfSome st.inclusion.waiter (λ number. LacksNumber number q)) queue apart.waiter in
           (record { queue = all.1; waiter = if_some (λ number. LacksNumber number (r ∷ rs)) (λ number. LacksNumber number rs) st.inclusion.waiter (λ number lacks. lacks.1) waits }, all.0)
 
-      by_stage : (round : Round) (stage : Stage) (running : Option Job) (queue : List (Request U)) → st.inclusion.queue ≡ queue → To (i.reads_first_in c round next st stage running queue)
-      by_stage round Includes None (r ∷ rs) queue =
+      by_stage : ((end : Live U) → IsApart end.inclusion → To (i.advances c most end)) → (round : Round) (stage : Stage) (running : Option Job) (queue : List (Request U)) → st.inclusion.queue ≡ queue → To (i.reads_first_in c round next st stage running queue)
+      by_stage again round Includes None (r ∷ rs) queue =
           to_if (is_need (read_of c round st r)) (Goes st) (bind (i.fed c round r.number (with_queue rs st) (read_of c round st r)) next) (λ e. apart)
           (λ e. comes_behind Any EndsApart EndsApart (i.fed c round r.number (with_queue rs st) (read_of c round st r)) next
-          (fed_to round r.number (with_queue rs st) (first r rs queue).0 (first r rs queue).1 (read_of c round st r)) (λ end its. advances_to most end its))
-      by_stage round Includes None [] queue = apart
-      by_stage round Includes (Some job) queue is = apart
-      by_stage round Deals running queue is = apart
-      by_stage round Follows running queue is = apart
-      by_stage round Ends running queue is = apart
+          (fed_to round r.number (with_queue rs st) (first r rs queue).0 (first r rs queue).1 (read_of c round st r)) again)
+      by_stage again round Includes None [] queue = apart
+      by_stage again round Includes (Some job) queue is = apart
+      by_stage again round Deals running queue is = apart
+      by_stage again round Follows running queue is = apart
+      by_stage again round Ends running queue is = apart
 
   advanced_to : (st : Live U) → IsApart st.inclusion → To (i.advanced c st)
   advanced_to st apart = advances_to (length st.inclusion.queue) st apart

@@ -22,7 +22,9 @@ use Rattle.dkg_text.specs.declared.script.Life.{Life}
 use Rattle.dkg_text.specs.declared.script.Script.{Script}
 use Rattle.dkg_script.specs.Blocks.{delivered_number}
 use Rattle.dkg_script.specs.Ends.{EndsWell}
+use Rattle.dkg_script.specs.Epochs.{alone}
 use Rattle.dkg_script.specs.Order.{IsInOrder}
+use Rattle.dkg_script.specs.Position.{awaited_epoch}
 use Rattle.dkg_script.specs.Progress.{AtEachEntry, Progress, read, at_start}
 use Rattle.dkg_script.specs.Promise.{Adds}
 use Rattle.dkg_script.specs.Setting.{Setting, setting_of}
@@ -51,7 +53,7 @@ use Rattle.dkg_reshare.specs.declared.stop.Stop.{Stop}
 use Rattle.dkg_reshare.specs.declared.stop.Stop.TheVariants.{Cut as AtCut, Failed, Fault as FaultOf}
 use Rattle.dkg_core.specs.Splitting.{named}
 use Rattle.dkg_reshare.specs.Ends.{by_fault}
-use Rattle.dkg_run.specs.Answers.{AnswersSo, IsAnswer, IsAnsweredSo, IsAskedFor}
+use Rattle.dkg_run.specs.Answers.{AnswersSo, IsAnswer, IsAnsweredSo}
 use Rattle.dkg_run.specs.Blamed.{BlamesSo, IsAskedOwn, IsBlamedSo, IsBlockCause, IsBlockOwn, IsCause, IsClear, IsFromOutside, IsOwn, IsProviderCause, IsReadingEvent, IsWhy, IsWhyNow, MayRead, OnBlock, tip_in, tip_over}
 use Rattle.dkg_run.specs.Causes.{IfFault}
 use Rattle.dkg_run.specs.Ended.{by_node_stop}
@@ -59,7 +61,7 @@ use Rattle.dkg_run.specs.Epochs.{IsAt, IsChecked, IsLifeInForm, StandsInScript, 
 use Rattle.dkg_run.specs.Given.{Lived, anchor_in, at_step, blocks_in, lived, step_of}
 use Rattle.dkg_run.specs.Lives.{LivesSo, RunsAllSo, RunsSo, Steps, TakesAll, TellsEnd, fuse_for}
 use Rattle.dkg_run.specs.Ways.{ReadsSomething, Trace, by_lines}
-use Rattle.dkg_run.proofs.Answered.{IsSaidAt, IsSaidHere, step_answers, unanswered_so}
+use Rattle.dkg_run.proofs.Answered.{IsSaidAt, step_answers, unanswered_so}
 use Rattle.dkg_run.proofs.Apart.{IsApart, Reads, node_apart}
 use Rattle.dkg_run.proofs.Asking.{AreMade, IsCarried, opening_carried, opening_made, step_carried, step_made}
 use Rattle.dkg_run.proofs.Awaiting.{IsBefore as IsUncut, IsReached, before_all, one_more, reached_lit}
@@ -278,7 +280,7 @@ module _ (g : Lived) (here : IsLifeInForm g) where
       on_course ended out now said = subst (λ (k : Course directory.Unit NodeStop (Live directory.Unit)). Said (on_devices k) ended out now) (m.course (suc i) st) said
 
       -- its lines
-      step_lines : (ended : Ended NodeStop (Live directory.Unit)) (out now : List Entry) → Said (on_devices (step_of g (suc i) e st)) ended out now → (added : List Entry) × (now ≡ out ++ added) × AllByRecursion (IsSaidHere g (suc i)) added
+      step_lines : (ended : Ended NodeStop (Live directory.Unit)) (out now : List Entry) → Said (on_devices (step_of g (suc i) e st)) ended out now → (added : List Entry) × (now ≡ out ++ added) × AllByRecursion (IsSaidAt g.script g.number g.life (suc i)) added
       step_lines ended out now said =
           step_answers g here i e e_is reached m st its_live (stood.at).stands stood.tip stood.carried held (behind ∙ ap (λ (o : Option Tip). tip_over (blocks_in g.script) o e) stood.tip ∙ sym tip_next) ended out now (on_course ended out now said)
 
@@ -372,7 +374,7 @@ module _ (script : Script) (life : Life) (l : ℕ) (life_is : slice_get script.l
       (subst (λ (o : Option Life). IsSomeAnd o (λ its. P l its p.step)) (sym life_is) (subst (λ (k : ℕ). P l life k) (sym step) so))
 
   said_now : (j : ℕ) (p : Progress) (one : Entry) → length p.cuts ≡ l → p.step ≡ j → IsSaidAt script l life j one → IsAnswer script p one
-  said_now j p (entry.Answer request answer) lives step said = here_now (λ n x k. IsAskedFor script n x k request × IsAnsweredSo script n x k request answer) j p lives step said
+  said_now j p (entry.Answer request answer) lives step said = here_now (λ n x k. IsAnsweredSo script n x (awaited_epoch (alone script) n x (k - 1)) k request answer) j p lives step said
   said_now j p one lives step said = tt
 
   all_quiet : (j : ℕ) (s : Setting) (p : Progress) (added : List Entry) → AllByRecursion IsQuiet added → AllByRecursion (IsSaidAt script l life j) added → length p.cuts ≡ l → p.step ≡ j → Each s (Says script s) p added

@@ -33,7 +33,7 @@ module _ (request : ℕ) where
   adds Open (event.Feed number block) = if number == request then block ∷ [] else []
   adds standing _ = []
 
-  fed_from : Standing → List Event → List ℕ
+  abbrev fed_from : Standing → List Event → List ℕ
   fed_from Unmade events = fed_to request events
   fed_from Open events = fed_while_open request events
   fed_from Closed events = []
@@ -109,34 +109,34 @@ module _ (request : ℕ) where
 
   unmade : (es : List Event) → is_asked es request ≡ false → fold (turns request) Unmade es ≡ Unmade
   unmade [] none = refl
-  unmade (e ∷ es) none = by_event e none
+  unmade (e ∷ es) none = by_event (λ rest. unmade es rest) e none
     where
       neither : (a b : Bool) → (a || b) ≡ false → (a ≡ false) × (b ≡ false)
       neither true b e = absurd (let wrong : ◌≡◌ {A = Bool} true false = e in cc)
       neither false b e = (refl, e)
 
-      by_event : (x : Event) → (asks request x || is_asked es request) ≡ false → fold (turns request) (turns request Unmade x) es ≡ Unmade
-      by_event (event.Info number) none =
+      by_event : (is_asked es request ≡ false → fold (turns request) Unmade es ≡ Unmade) → (x : Event) → (asks request x || is_asked es request) ≡ false → fold (turns request) (turns request Unmade x) es ≡ Unmade
+      by_event again (event.Info number) none =
           let both = neither (number == request) (is_asked es request) none in
-          ap (λ (t : Bool). fold (turns request) (if t then Open else Unmade) es) both.0 ∙ unmade es both.1
-      by_event (event.Next number height) none = unmade es (neither (number == request) (is_asked es request) none).1
-      by_event other none = unmade es none
+          ap (λ (t : Bool). fold (turns request) (if t then Open else Unmade) es) both.0 ∙ again both.1
+      by_event again (event.Next number height) none = again (neither (number == request) (is_asked es request) none).1
+      by_event again other none = again none
 
   -- .. and it was fed nothing yet
   unfed : (es : List Event) → is_asked es request ≡ false → fed_to request es ≡ []
   unfed [] none = refl
-  unfed (e ∷ es) none = by_event e none
+  unfed (e ∷ es) none = by_event (λ rest. unfed es rest) e none
     where
       neither : (a b : Bool) → (a || b) ≡ false → (a ≡ false) × (b ≡ false)
       neither true b e = absurd (let wrong : ◌≡◌ {A = Bool} true false = e in cc)
       neither false b e = (refl, e)
 
-      by_event : (x : Event) → (asks request x || is_asked es request) ≡ false → fed_to request (x ∷ es) ≡ []
-      by_event (event.Info number) none =
+      by_event : (is_asked es request ≡ false → fed_to request es ≡ []) → (x : Event) → (asks request x || is_asked es request) ≡ false → fed_to request (x ∷ es) ≡ []
+      by_event again (event.Info number) none =
           let both = neither (number == request) (is_asked es request) none in
-          ap (λ (t : Bool). if t then fed_while_open request es else fed_to request es) both.0 ∙ unfed es both.1
-      by_event (event.Next number height) none = unfed es (neither (number == request) (is_asked es request) none).1
-      by_event other none = unfed es none
+          ap (λ (t : Bool). if t then fed_while_open request es else fed_to request es) both.0 ∙ again both.1
+      by_event again (event.Next number height) none = again (neither (number == request) (is_asked es request) none).1
+      by_event again other none = again none
 
 -- where it is made, no request of its number was made before
 anew_at : (done events : List Event) (i request : ℕ) → FitAfter IsAskedAnew done events → slice_get events i ≡ Some (event.Info request) → is_asked (done ++ take i events) request ≡ false

@@ -173,6 +173,9 @@ module _ (c : Fixed directory.Unit) (b : Block directory.Unit) (epoch : ℕ) (st
         (λ info. if info.epoch == epoch + 1 then enters c (record { epoch = epoch + 1; info = info; floor = Genesis b.digest; block = Some b.height }) st else Stops (Faulted (WrongEpoch (epoch + 1) info.epoch)))
         found (Stops (Faulted (MissingEpochInfo b.height)))
 
+    abbrev stops_by : Fault → Course directory.Unit NodeStop (core.Half directory.Unit)
+    stops_by its = Stops (Faulted its)
+
     abbrev judged_by : Option (EpochInfo directory.Unit) → Result (Unit {0}) Fault
     judged_by found = option_map_or (λ info. if info.epoch == epoch + 1 then Ok tt else Err (WrongEpoch (epoch + 1) info.epoch)) found (Err (MissingEpochInfo b.height))
 
@@ -199,7 +202,7 @@ module _ (c : Fixed directory.Unit) (b : Block directory.Unit) (epoch : ℕ) (st
             → Speaks (if t then enters c (record { epoch = epoch + 1; info = info; floor = Genesis b.digest; block = Some b.height }) st else Stops (Faulted (WrongEpoch (epoch + 1) info.epoch))) (by_node_stop (stop.Fault its)) out out
         by_test info true e = absurd (ok_apart its e)
         by_test info false e =
-            subst (λ (x : Fault). Speaks {S = core.Half directory.Unit} (Stops {Dir = directory.Unit} (Faulted (WrongEpoch (epoch + 1) info.epoch))) (by_node_stop (stop.Fault x)) out out) (the_fault (WrongEpoch (epoch + 1) info.epoch) its e) (λ h f. (refl, refl))
+            subst (λ (x : Fault). Speaks (stops_by (WrongEpoch (epoch + 1) info.epoch)) (by_node_stop (stop.Fault x)) out out) (the_fault (WrongEpoch (epoch + 1) info.epoch) its e) (λ h f. (refl, refl))
 
         by_found : (found : Option (EpochInfo directory.Unit)) → judged_by found ≡ Err its → Speaks (beginning_by found) (by_node_stop (stop.Fault its)) out out
         by_found None e = in_fault None (MissingEpochInfo b.height) (the_fault (MissingEpochInfo b.height) its e) (λ h f. (refl, refl))
@@ -269,6 +272,9 @@ module _ (c : Fixed directory.Unit) (b : Block directory.Unit) (st : Live direct
   abbrev answers : core.Half directory.Unit → Course directory.Unit NodeStop (Live directory.Unit)
   answers its = acked_at b.height its.answer its.live
 
+  abbrev says_acked : Live directory.Unit → Course directory.Unit NodeStop (Live directory.Unit)
+  says_acked end = Say (Acked b.height) (Goes end)
+
   abbrev at_waiting : Option (Waiting directory.Unit) → Course directory.Unit NodeStop (Live directory.Unit)
   at_waiting waiting = option_map_or (λ w. bind (enters c w st) (acked_late w.block)) waiting (Goes st)
 
@@ -306,7 +312,7 @@ module _ (c : Fixed directory.Unit) (b : Block directory.Unit) (st : Live direct
 
     -- .. or went on, and the block is acknowledged
     pub acks : (end : Live directory.Unit) (out mid : List Line) → Speaks (delivered_in c b st (Some epoch)) (went (record { live = end; answer = Acknowledges })) out mid
-        → (how : Ended NodeStop (Live directory.Unit)) (now : List Line) → Speaks {S = Live directory.Unit} (Say {Dir = directory.Unit} (Acked b.height) (Goes end)) how mid now → Speaks (bind (delivered c b st) answers) how out now
+        → (how : Ended NodeStop (Live directory.Unit)) (now : List Line) → Speaks (says_acked end) how mid now → Speaks (bind (delivered c b st) answers) how out now
     acks end out mid a how now b =
         subst (λ (x : Course directory.Unit NodeStop (Live directory.Unit)). Speaks x how out now) (in_epoch (Some epoch) is)
         (then_speaks (delivered_in c b st (Some epoch)) answers (record { live = end; answer = Acknowledges }) how out mid now a b)

@@ -88,6 +88,12 @@ module _ (c : Fixed directory.Unit) (stored : OfShares) (b : Block directory.Uni
       is_last : is_last_height c b.height ≡ true
       is_last = equal_number b.height (last c.blocks_per_epoch (epoch_of c.blocks_per_epoch b.height)) (at_last ∙ ap (last c.blocks_per_epoch) here)
 
+      -- the fence that an epoch marks, by whether it is closed
+      abbrev marked_in : (epoch : ℕ) → Bool → Readiness
+      marked_in epoch t =
+          if t then st.orchestrator.fence
+          else record { ready = raised epoch st.orchestrator.fence.ready; closed = st.orchestrator.fence.closed; awaited = unreached epoch st.orchestrator.fence.awaited }
+
       of_passing : IsPassedOn c stored b st devices end left → Passes
       of_passing its = (its.in_range, ready, there)
         where
@@ -100,12 +106,7 @@ module _ (c : Fixed directory.Unit) (stored : OfShares) (b : Block directory.Uni
           ready : is_ready end.orchestrator.fence.ready (epoch + 1) ≡ true
           ready = ap (λ (o : Orchestrator directory.Unit). is_ready o.fence.ready (epoch + 1)) orchestrator ∙ either st.orchestrator.fence.closed active.unclosed
             where
-              abbrev in_test : Bool → Readiness
-              in_test t =
-                  if t then st.orchestrator.fence
-                  else record { ready = raised its.on.info.epoch st.orchestrator.fence.ready; closed = st.orchestrator.fence.closed; awaited = unreached its.on.info.epoch st.orchestrator.fence.awaited }
-
-              either : (t : Bool) → t ≡ false → is_ready (in_test t).ready (epoch + 1) ≡ true
+              either : (t : Bool) → t ≡ false → is_ready (marked_in its.on.info.epoch t).ready (epoch + 1) ≡ true
               either true e = absurd (apart_bools true refl e)
               either false e = ready_marked st.orchestrator.fence.ready its.on.info.epoch (epoch + 1) of_next
 

@@ -71,6 +71,53 @@ runs_faulted Gave o out entries its ran = by_its its ran (ended_so ran.script it
     by_its its ran (inr (inl wants)) = absurd (let wrong : its ≡ NoMemory = wants in cc)
     by_its its ran (inr (inr ends)) = (ends.1, ran)
 
+-- It is none that tells of reading.
+pub is_no_read : (its : Fault) → (fault_status its ≢ status.ReadFault) × (fault_status its ≢ status.TooLong)
+is_no_read NoMemory = (λ e. cc, λ e. cc)
+is_no_read Disk = (λ e. cc, λ e. cc)
+is_no_read Secrets = (λ e. cc, λ e. cc)
+is_no_read its = (λ e. cc, λ e. cc)
+
+-- Of whatever is so of the bytes that were read
+pub gives : (bytes : List ℕ) (Gave : List ℕ → Type 0) → Gave bytes → (o : Over) (out : List Entry) (ended : Status) (entries : List Entry)
+    → RanByStatus (λ its. its ≡ bytes) o out ended entries → RanByStatus Gave o out ended entries
+gives bytes Gave gave o out ended entries runs = by_status ended runs
+  where
+    given : (its : List ℕ) → its ≡ bytes → Gave its
+    given its is = subst (λ (x : List ℕ). Gave x) (sym is) gave
+
+    ran : (result : Result (Unit {0}) Fault) → Ran (λ its. its ≡ bytes) o out result entries → Ran Gave o out result entries
+    ran result its = record {
+      bytes = its.bytes;
+      gave = given its.bytes its.gave;
+      script = its.script;
+      spells = its.spells;
+      built = its.built;
+      form = its.form;
+      lives = its.lives;
+    }
+
+    by_status : (ended : Status) → RanByStatus (λ its. its ≡ bytes) o out ended entries → RanByStatus Gave o out ended entries
+    by_status status.Done runs = ran (Ok tt) runs
+    by_status (status.Fault its) runs = (runs.0, ran (Err its) runs.1)
+    by_status status.Device (inl runs) = inl (ran (Err Disk) runs)
+    by_status status.Device (inr runs) = inr (ran (Err Secrets) runs)
+    by_status status.NoMemory (inl runs) = inl runs
+    by_status status.NoMemory (inr runs) = inr (ran (Err NoMemory) runs)
+    by_status (status.BadScript place) runs = record { bytes = runs.bytes; gave = given runs.bytes runs.gave; no_script = runs.no_script; nothing = runs.nothing }
+    by_status status.Unsupported runs = record {
+      bytes = runs.bytes;
+      gave = given runs.bytes runs.gave;
+      script = runs.script;
+      spells = runs.spells;
+      not_built = runs.not_built;
+      nothing = runs.nothing;
+    }
+    by_status status.ReadFault runs = runs
+    by_status status.TooLong runs = runs
+    by_status status.Usage runs = absurd runs
+    by_status status.WriteFault runs = absurd runs
+
 -- HOW A STATUS IS TOLD
 
 -- what is answered, but for a failed write and want of memory, is the status

@@ -1,6 +1,6 @@
 -- What a life has of requests, by the events of its script: each request that waits was made in the epoch that is awaited, isn't cancelled, and has what it was fed; and the one whose
 -- verification runs was read in a step that began in that epoch.
-use Rattle.std.proofs.Common.{◌≡◌, ◌⊎◌, inl, inr, ℕ, suc, ◌+◌, ◌-◌, ◌<◌, ◌≤◌, ◌==◌, ◌++◌, List, [], ◌∷◌, Option, Some, None, Bool, true, false, arith, refl, sym, ◌∙◌, ap, subst, append-nil}
+use Rattle.std.proofs.Common.{◌≡◌, ◌⊎◌, inl, inr, ℕ, suc, ◌+◌, ◌-◌, ◌*◌, ◌<◌, ◌≤◌, ◌==◌, ◌++◌, List, [], ◌∷◌, Option, Some, None, Bool, true, false, arith, refl, sym, ◌∙◌, ap, subst, append-nil}
 use Rattle.std.specs.Prelude.{filter, is_some, map, not, reverse, slice_get, option_map, option_and_then, IfSome, if◌then◌else◌}
 use Rattle.std.specs.List.{AllByRecursion}
 use Rattle.std.specs.Option.{option_map_or}
@@ -16,6 +16,7 @@ use Rattle.dkg_types.specs.Paths.{logs_of_path}
 use Rattle.dkg_types.specs.PayloadCodes.{its_log}
 use Rattle.dkg_types.specs.declared.directory.Unit as directory
 use Rattle.dkg_artifact.specs.Scans.{above}
+use Rattle.dkg_artifact.specs.declared.scan.Tip.{Tip}
 use Rattle.dkg_reshare.specs.InclusionOf.{tip_of}
 use Rattle.dkg_text.specs.declared.script.Event.{Event}
 use Rattle.dkg_text.specs.declared.script.Event.TheVariants as event
@@ -32,7 +33,6 @@ use Rattle.dkg_core.specs.Live.{Cancel, Deals, Dealer, Ends, EpochInfoOf, Feed, 
 use Rattle.dkg_core.specs.Logs.{canonical, filled_by, is_accepted}
 use Rattle.dkg_core.specs.NodeThrough.{IsNodeThrough}
 use Rattle.dkg_core.specs.Setup.{begins_inclusion}
-use Rattle.dkg_core.specs.Sources.{Tip}
 use Rattle.dkg_core.specs.Stepping.{dealt_behind, given_itself}
 use Rattle.dkg_core.specs.Through.{IsAppliedThrough, IsBlockThrough, IsEndThrough, IsFollowedThrough, IsIncludedThrough, IsLiveThrough, IsReadFrom, asked_by, finished, included, observed, observed_log, waits_for}
 use Rattle.dkg_core.proofs.Heights.{epoch_is}
@@ -53,6 +53,9 @@ U = directory.Unit
 
 same_number : (a b : ℕ) → (a == b) ≡ true → a ≡ b
 same_number a b e = grind (arith, nat_tests)
+
+pub less_one : (n : ℕ) → suc n - 1 ≡ n
+less_one n = omega arith
 
 -- STANDINGS
 
@@ -327,8 +330,8 @@ module _ (g : Lived) (here : IsLifeInForm g) (i : ℕ) (its : Event) (is : slice
         );
       }
 
-      open : r.ended ≡ false → IsHeld g e (suc i) (record r { blocks = r.blocks ++ b ∷ [] })
-      open ended = record {
+      still_open : r.ended ≡ false → IsHeld g e (suc i) (record r { blocks = r.blocks ++ b ∷ [] })
+      still_open ended = record {
         at = held.at;
         before = more held.at held.before;
         made = held.made;
@@ -344,7 +347,7 @@ module _ (g : Lived) (here : IsLifeInForm g) (i : ℕ) (its : Event) (is : slice
 
       by_ended : (t : Bool) → r.ended ≡ t → IsHeld g e (suc i) (if t then r else record r { blocks = r.blocks ++ b ∷ [] })
       by_ended true ended = closed ended
-      by_ended false ended = open ended
+      by_ended false ended = still_open ended
 
   -- one whose ancestry ends
   held_closed : (r : Request U) → its ≡ event.Over r.number → IsHeld g e i r → IsHeld g e (suc i) (record r { ended = true })
@@ -411,11 +414,7 @@ module _ (g : Lived) (here : IsLifeInForm g) (i : ℕ) (its : Event) (is : slice
   waiter_on running round None spares was = tt
   waiter_on running round (Some number) spares was = awaited_on running round number (spares number) was
 
-  -- an event that cancels nothing
-  Cancels_none : Event → Type 0
-  Cancels_none x = (number : ℕ) (s : Standing) → IsUncancelled s → IsUncancelled (turns number s x)
-
--- .. of each kind
+-- WHICH EVENTS CANCEL no request of a number
 module _ (number : ℕ) where
   keeps_plain : (x : Event) → ((s : Standing) → IsUncancelled s → turns number s x ≡ s) → (s : Standing) → IsUncancelled s → IsUncancelled (turns number s x)
   keeps_plain x same s is = subst IsUncancelled (sym (same s is)) is
@@ -562,15 +561,15 @@ module _ (g : Lived) (here : IsLifeInForm g) (i : ℕ) (its : Event) (is : slice
         by_test true same rest = rest
         by_test false apart rest = (held_on g here i its is r (subst (λ (x : Event). Spares x r.number) (sym of) (spares_cancel r.number request (turned r.number request apart))) all.0, rest)
 
+    abbrev without : Live U
+    without = with_inclusion (record st.inclusion { waiter = None }) st
+
+    abbrev others : Live U
+    others = core.with_queue (filter (λ r. not (r.number == request)) st.inclusion.queue) st
+
     cancelled_one : Ready (asked_by (Cancel request) st).inclusion
     cancelled_one = by_waiter st.inclusion.waiter refl
       where
-        abbrev without : Live U
-        without = with_inclusion (record st.inclusion { waiter = None }) st
-
-        abbrev others : Live U
-        others = core.with_queue (filter (λ r. not (r.number == request)) st.inclusion.queue) st
-
         waits_not : (o : Option ℕ) → st.inclusion.waiter ≡ o → option_map_or (λ n. n == request) o false ≡ false → IfSome o (IsAwaited g now (suc i) st.inclusion.running its_round)
         waits_not None there apart = tt
         waits_not (Some number) there apart =
@@ -597,8 +596,8 @@ module _ (g : Lived) (here : IsLifeInForm g) (i : ℕ) (its : Event) (is : slice
   worked of = record { queue = all_on g here i its is st.inclusion.queue (λ n. subst (λ (x : Event). Spares x n) (sym of) (spares_work n)) was.queue; waiter = tt }
 
   -- a new one's number is that of none
-  pub new_one : (request : ℕ) → its ≡ event.Info request → (c : Fixed U) (reshare : c.oneshot ≡ None) → LacksNumber request st.inclusion.queue × IfSome st.inclusion.waiter (λ number. request ≡ number → ⊥)
-  new_one request of c reshare = (lacks st.inclusion.queue was.queue, waits st.inclusion.waiter was.waiter)
+  pub new_one : (request : ℕ) → its ≡ event.Info request → LacksNumber request st.inclusion.queue × IfSome st.inclusion.waiter (λ number. request ≡ number → ⊥)
+  new_one request of = (lacks st.inclusion.queue was.queue, waits st.inclusion.waiter was.waiter)
     where
       unmade : standing_of g.life request i ≡ Unmade
       unmade = made_anew g.life i request (life_in g here).anew (is ∙ ap (λ (x : Event). Some x) of)
@@ -616,7 +615,7 @@ module _ (g : Lived) (here : IsLifeInForm g) (i : ℕ) (its : Event) (is : slice
 
   -- .. where an event sends one
   pub sent_new : (m : IsMessage g its) (c : Fixed U) (reshare : c.oneshot ≡ None) (mail : Mail U) → m.message ≡ Sent mail → IsNewOne c reshare st mail
-  sent_new m c reshare (EpochInfoOf request) sent = new_one request (sends_info g its request (subst (λ (x : Message U). Brings g its x) sent m.brings)) c reshare
+  sent_new m c reshare (EpochInfoOf request) sent = new_one request (sends_info g its request (subst (λ (x : Message U). Brings g its x) sent m.brings))
   sent_new m c reshare (Peer from bytes) sent = tt
   sent_new m c reshare (NextLog request height) sent = tt
   sent_new m c reshare (ReleaseLog height) sent = tt
@@ -713,7 +712,7 @@ module _ (g : Lived) (here : IsLifeInForm g) (j e : ℕ) (x : Live U) (tip : x.t
   -- .. by the tip and the bounds that the script tells
   pub read_here : (round : Round) (r : Request U) → IsRead check_log_of round (bounds_in g.script e) (scan_tip g.script g.life j) r.blocks r.ended (read_of (at_step g j) round x r)
   read_here round r =
-      subst (λ (o : Option _). IsRead check_log_of round (bounds_in g.script e) o r.blocks r.ended (read_of (at_step g j) round x r)) tip_is
+      subst (λ (o : Option Tip). IsRead check_log_of round (bounds_in g.script e) o r.blocks r.ended (read_of (at_step g j) round x r)) tip_is
       (read_so (at_step g j) round x check_log_of checks_are (bounds_in g.script e) last_is middle_is (bounds_of g here e).2 r)
 
   pub were_asked : (round : Round) (r : Request U) (found : LogMap) → read_of (at_step g j) round x r ≡ Found found → r.blocks ≡ fed_in g.script g.life r.number j
@@ -791,7 +790,7 @@ module _ (g : Lived) (here : IsLifeInForm g) (i : ℕ) (its : Event) (is : slice
               of_round = ap (λ (y : Live U). y.participation.round) read.same ∙ of;
               read = suc i;
               within = itself (suc i);
-              began = refl;
+              began = ap (epoch_by g) (less_one i);
               recorded = canonical c x;
               asked = subst (λ (logs : LogMap). WereAsked g.script g.life (epoch_by g i) r.number (suc i) round (canonical c x) logs) (sym logs) (were_asked g here (suc i) (epoch_by g i) x of_tip of_epoch round r found its_read one.fed);
             }
@@ -929,12 +928,12 @@ module _ (g : Lived) (here : IsLifeInForm g) (i : ℕ) (its : Event) (is : slice
         followed false same = unread (ap (λ (x : Live U). x.inclusion) same)
 
         by_stage : judged_block c b st ≡ Applied → (stage : Stage) → st.participation.stage ≡ stage → (t : Bool) → is_last_height c b.height ≡ t → IsAppliedThrough c any_shares b st devices stage mid left → IsApart end.inclusion
-        by_stage applied Deals stage t last_is its_end = reads (applied, inl stage)
-        by_stage applied Includes stage true last_is its_end =
-            none_left (subst (λ (t : Bool). IsIncludedThrough c any_shares b st devices t mid left) last_is its_end).emptied
-        by_stage applied Includes stage false last_is its_end = reads (applied, inr (stage, last_is))
-        by_stage applied Follows stage t last_is its_end = followed (is_last_height c b.height) its_end
-        by_stage applied Ends stage t last_is none = absurd none
+        by_stage applied Deals stage t ends its_end = reads (applied, inl stage)
+        by_stage applied Includes stage true ends its_end =
+            none_left (subst (λ (t : Bool). IsIncludedThrough c any_shares b st devices t mid left) ends its_end).emptied
+        by_stage applied Includes stage false ends its_end = reads (applied, inr (stage, ends))
+        by_stage applied Follows stage t ends its_end = followed (is_last_height c b.height) its_end
+        by_stage applied Ends stage t ends none = absurd none
 
         by_judged : (j : Judged) → judged_block c b st ≡ j → IsBlockThrough c any_shares b st devices j mid left → IsApart end.inclusion
         by_judged (Refusal fault) is none = absurd none

@@ -1,7 +1,8 @@
 -- An opening answers no request, and a block does where it is applied.
 use Rattle.std.proofs.Common.{◌≡◌, ◌⊎◌, inl, inr, ℕ, ◌+◌, ◌-◌, ◌==◌, ◌++◌, List, [], Option, Some, None, Bool, true, false, Result, Ok, Err, refl, sym, ◌∙◌, subst}
-use Rattle.std.specs.Prelude.{◌&&◌, ◌||◌, ◌^◌, has_key, is_none, is_ok, is_some, nat_le, nat_lt, not, option_and_then, option_map, result_ok, if◌then◌else◌}
+use Rattle.std.specs.Prelude.{◌&&◌, ◌||◌, is_none, is_ok, is_some, nat_le, nat_lt, not, option_and_then, option_map, if◌then◌else◌}
 use Rattle.std.specs.List.{AllByRecursion}
+use Rattle.std.specs.Result.{result_ok}
 use Rattle.std.specs.Option.{option_map_or}
 use Rattle.dkg_values.specs.Codec.{whole}
 use Rattle.dkg_values.specs.Rising.{lookup}
@@ -23,14 +24,16 @@ use Rattle.dkg_types.specs.declared.fault.Fault.TheVariants.{HeightRange, Invali
 use Rattle.dkg_types.specs.declared.info.EpochInfo.{EpochInfo}
 use Rattle.dkg_types.specs.declared.participants.ParticipantsError.{ParticipantsError}
 use Rattle.dkg_types.specs.declared.scheme.SchemeInfo.{SchemeInfo}
-use Rattle.dkg_store.specs.Acts.{Ended, Held}
+use Rattle.dkg_journal.specs.Operations.{ClearsPlan, PutsPlan}
+use Rattle.dkg_store.specs.Acts.{Ended, Held, OnDisk}
 use Rattle.dkg_core.specs.Behind.{event_of}
+use Rattle.dkg_core.specs.Blocks as b
 use Rattle.dkg_core.specs.Core.{begun, opening, opens_in, step}
 use Rattle.dkg_core.specs.Courses.{Course, Say, Do, Call, Ask, Certified, Genesis, Goes, Stops, bind, on_devices, under}
 use Rattle.dkg_core.specs.Endings.{validity}
 use Rattle.dkg_core.specs.Entering as half
 use Rattle.dkg_core.specs.Entering.{Half, HalfAnswer, Acknowledges, Withholds, active, delivered}
-use Rattle.dkg_core.specs.Fixed.{Fixed, OneShot, has}
+use Rattle.dkg_core.specs.Fixed.{Fixed, Material, OneShot, has}
 use Rattle.dkg_core.specs.Forms.{Applied, Judged, judged_block, share_read}
 use Rattle.dkg_core.specs.Live.{Dealer, Faulted, Finalized, Live, NodeStop, Orchestrator, Plays, Seat, Waiting, Watches, awaited_height, of_epoch, phase_of}
 use Rattle.dkg_core.specs.Logs.{logs_of}
@@ -41,7 +44,8 @@ use Rattle.dkg_core.specs.Plans as plans
 use Rattle.dkg_core.specs.Said.{Said}
 use Rattle.dkg_core.specs.SayingThrough.{SaysSo}
 use Rattle.dkg_core.specs.Setup as s
-use Rattle.dkg_core.specs.Sources.{Material}
+use Rattle.dkg_core.specs.Setup.{Standing, Uncommitted, WasCommitted}
+use Rattle.dkg_core.specs.Sources.{startup}
 use Rattle.dkg_core.proofs.Applied.{judged_is}
 use Rattle.dkg_core.proofs.SayingThrough.{said_so, so_behind, so_if, so_option}
 
@@ -153,10 +157,10 @@ block_lines {Dir} c block st ended old new said =
     (so_behind P (under Faulted (step c (Finalized block) st))
     (λ now. unless_once c (bind (delivered c block now) (λ left. half.acked_at block.height left.answer left.live)) (Say (Acked block.height) (Goes now)))
     (so_under P Faulted (step c (Finalized block) st)
-    (judged_is c block st (λ course. SaysSo P course) (λ t x y one other. so_if P t x y one other) (λ fault is. tt) (λ is. tt) (λ is. so_any P (λ line. inl is) _) (λ is. tt)))
+    (judged_is c block st (λ course. SaysSo P course) (λ t x y one other. so_if P t x y one other) (λ fault is. tt) (λ is. tt) (λ is. so_any {Dir = Dir} {F = Fault} {S = Live Dir} P (λ line. inl is) (b.applies c block st)) (λ is. tt)))
     (λ now. behind_block c P (λ line is. inr is) block now)) said
   where
-    abbrev P : Line → Type 0
+    P : Line → Type 0
     P line = (judged_block c block st ≡ Applied) ⊎ IsHalfLine line
 
 -- AN OPENING
@@ -187,10 +191,10 @@ module _ {Dir : Type 0} (c : Fixed Dir) (reshare : c.oneshot ≡ None) where
       so_if No (s.may_deal c round share now) (s.dealt_by c round phase now (c.rules.deal_of round c.me share seed)) (s.makes_player c round phase None now)
       (λ e. dealt_by round phase now (c.rules.deal_of round c.me share seed)) (λ e. makes_player round phase None now)
 
-  commits_new : (standing : s.Standing) (info : EpochInfo Dir) (seed : List ℕ) (share : Option ℕ) (now : Live Dir) → Quiet (s.commits_new standing c info seed share now)
-  commits_new s.WasCommitted info seed share now = tt
-  commits_new s.Uncommitted info seed None now = (tt, (tt, tt))
-  commits_new s.Uncommitted info seed (Some share) now = (tt, (tt, tt))
+  commits_new : (standing : Standing) (info : EpochInfo Dir) (seed : List ℕ) (share : Option ℕ) (now : Live Dir) → Quiet (s.commits_new standing c info seed share now)
+  commits_new WasCommitted info seed share now = tt
+  commits_new Uncommitted info seed None now = (tt, (tt, tt))
+  commits_new Uncommitted info seed (Some share) now = (tt, (tt, tt))
 
   behind_prune : (floor : Option ℕ) (info : EpochInfo Dir) (share : Option ℕ) (seed : List ℕ) (now : Live Dir)
       → Quiet (if s.is_late_floor c floor then s.follows c now else s.draws_up c (s.participants_of info) (Some info.output) share seed now)
@@ -198,31 +202,31 @@ module _ {Dir : Type 0} (c : Fixed Dir) (reshare : c.oneshot ≡ None) where
       so_if No (s.is_late_floor c floor) (s.follows c now) (s.draws_up c (s.participants_of info) (Some info.output) share seed now) (λ e. (tt, tt))
       (λ e. in_round (phase_of c (awaited_height now)) share seed now (c.rules.round_of c.namespace now.participation.epoch (Some info.output) c.mode c.reveal (s.participants_of info).dealers (s.participants_of info).players))
 
-  with_share_and_seed : (floor : Option ℕ) (standing : s.Standing) (info : EpochInfo Dir) (share : Option ℕ) (seed : List ℕ) (now : Live Dir) → Quiet (s.with_share_and_seed c floor standing info share seed now)
+  with_share_and_seed : (floor : Option ℕ) (standing : Standing) (info : EpochInfo Dir) (share : Option ℕ) (seed : List ℕ) (now : Live Dir) → Quiet (s.with_share_and_seed c floor standing info share seed now)
   with_share_and_seed floor standing info share seed now =
       so_behind No (s.commits_new standing c info seed share now)
       (λ st. bind (s.prunes (st.participation.epoch - 1) st) (λ st. if s.is_late_floor c floor then s.follows c st else s.draws_up c (s.participants_of info) (Some info.output) share seed st))
       (commits_new standing info seed share now) (λ end. behind_prune floor info share seed (record end { records = s.records_from (end.participation.epoch - 1) end.records }))
 
-  judged : (floor : Option ℕ) (standing : s.Standing) (info : EpochInfo Dir) (now : Live Dir) (valid : Result (Unit {0}) ParticipantsError) → Quiet (s.judged c floor standing info now valid)
+  judged : (floor : Option ℕ) (standing : Standing) (info : EpochInfo Dir) (now : Live Dir) (valid : Result (Unit {0}) ParticipantsError) → Quiet (s.judged c floor standing info now valid)
   judged floor standing info now (Err e) = tt
   judged floor standing info now (Ok passed) = λ h. with_share_and_seed floor standing info (share_read c info h) (s.seed_for c info.epoch (lookup info.epoch (c.seen h).seeds)) now
 
-  with_info : (floor : Option ℕ) (standing : s.Standing) (info : EpochInfo Dir) (now : Live Dir) → Quiet (s.with_info c floor standing info now)
+  with_info : (floor : Option ℕ) (standing : Standing) (info : EpochInfo Dir) (now : Live Dir) → Quiet (s.with_info c floor standing info now)
   with_info floor standing info now =
       so_if No (info.epoch == now.participation.epoch) (s.judged c floor standing info now (validity c info)) (Stops (WrongEpoch now.participation.epoch info.epoch)) (λ e. judged floor standing info now (validity c info)) (λ e. tt)
 
   from_boundary : (o : Option (Block Dir)) (now : Live Dir) → Quiet (s.from_boundary c o now)
   from_boundary None now = (tt, tt)
   from_boundary (Some b) now =
-      so_option No (λ (info : EpochInfo Dir). s.with_info c None s.Uncommitted info now) (info_of b.payload) (Stops (MissingEpochInfo b.height)) (λ info e. with_info None s.Uncommitted info now) tt
+      so_option No (λ (info : EpochInfo Dir). s.with_info c None Uncommitted info now) (info_of b.payload) (Stops (MissingEpochInfo b.height)) (λ info e. with_info None Uncommitted info now) tt
 
   from_material : (material : Option (EpochInfo Dir × ℕ)) (now : Live Dir) → Quiet (s.from_material c material now)
-  from_material (Some m) now = with_info (Some m.1) s.Uncommitted m.0 now
+  from_material (Some m) now = with_info (Some m.1) Uncommitted m.0 now
   from_material None now = from_boundary (c.source.block (boundary c.blocks_per_epoch now.participation.epoch)) now
 
   sets_up_by : (material : Option (EpochInfo Dir × ℕ)) (committed : Option (EpochInfo Dir)) (now : Live Dir) → Quiet (s.sets_up_by c material committed now)
-  sets_up_by material (Some info) now = with_info (option_map (λ m. m.1) material) s.WasCommitted info now
+  sets_up_by material (Some info) now = with_info (option_map (λ m. m.1) material) WasCommitted info now
   sets_up_by material None now = from_material material now
 
   setup : (material : Option (EpochInfo Dir × ℕ)) (now : Live Dir) → Quiet (s.setup c material now)
@@ -231,19 +235,19 @@ module _ {Dir : Type 0} (c : Fixed Dir) (reshare : c.oneshot ≡ None) where
 
   starts_at : (m : Material Dir) (o : Option (Block Dir)) (now : Live Dir) → Quiet (plans.starts_at c m o now)
   starts_at m None now = tt
-  starts_at m (Some floor) now = setup (Some (m.info, floor.height)) _
+  starts_at m (Some floor) now = setup (Some (m.info, floor.height)) (record now { tip = startup c.source.anchor (Some floor) })
 
   starts_from : (found : Option (Material Dir)) (now : Live Dir) → Quiet (plans.starts_from c now found)
-  starts_from None now = setup None _
+  starts_from None now = setup None (record now { tip = startup c.source.anchor None })
   starts_from (Some m) now = λ h.
       so_behind No (s.registers c m.info (s.recovered_share c (c.seen h) m.info) now) (λ st. plans.starts_at c m (c.source.by_digest m.floor.payload) st) (tt, tt) (λ end. starts_at m (c.source.by_digest m.floor.payload) end)
 
   module _ (now : Live Dir) where
     resolves : (found : Option (Material Dir)) → Quiet (plans.resolves_plan c (plans.starts_from c now) found)
     resolves None = starts_from None now
-    resolves (Some m) = so_if No (plans.is_outdated c m) (Do _ (plans.starts_from c now None)) (plans.starts_from c now (Some m)) (λ e. starts_from None now) (λ e. starts_from (Some m) now)
+    resolves (Some m) = so_if No (plans.is_outdated c m) (Do (OnDisk ClearsPlan) (plans.starts_from c now None)) (plans.starts_from c now (Some m)) (λ e. starts_from None now) (λ e. starts_from (Some m) now)
 
-    next : Option (Material Dir) → Course Dir Fault (Live Dir)
+    abbrev next : Option (Material Dir) → Course Dir Fault (Live Dir)
     next found = plans.in_range c (plans.resolves_plan c (plans.starts_from c now) found)
 
     next_so : (found : Option (Material Dir)) → Quiet (next found)
@@ -263,8 +267,8 @@ module _ {Dir : Type 0} (c : Fixed Dir) (reshare : c.oneshot ≡ None) where
     finds : (material : Option (Material Dir)) → Quiet (plans.finds_material c material next)
     finds None = λ h. reads_plan (c.seen h).plan
     finds (Some m) =
-        of_one_epoch m (if is_ok (whole (plans.material_at c (plans.material_bytes c m))) then Do _ (next (Some m)) else Stops StateSyncMaterial)
-        (so_if No (is_ok (whole (plans.material_at c (plans.material_bytes c m)))) (Do _ (next (Some m))) (Stops StateSyncMaterial) (λ e. next_so (Some m)) (λ e. tt))
+        of_one_epoch m (if is_ok (whole (plans.material_at c (plans.material_bytes c m))) then Do (OnDisk (PutsPlan (plans.material_bytes c m))) (next (Some m)) else Stops StateSyncMaterial)
+        (so_if No (is_ok (whole (plans.material_at c (plans.material_bytes c m)))) (Do (OnDisk (PutsPlan (plans.material_bytes c m))) (next (Some m))) (Stops StateSyncMaterial) (λ e. next_so (Some m)) (λ e. tt))
 
   opening_so : Quiet (opening c)
   opening_so = λ h. (tt, subst (λ (o : Option (OneShot Dir)). Quiet (opens_in c o (begun (c.seen h)))) (sym reshare) (finds (begun (c.seen h)) c.material))

@@ -38,48 +38,48 @@ U = directory.Unit
 
 -- WHATEVER THE DEVICES TELL
 
--- the request was made while the epoch was awaited in which step j begins, and isn't cancelled by then
-pub record IsAskedFor (script : Script) (l : ℕ) (life : Life) (j request : ℕ) : Type 0 where
+-- the request was made while this epoch was awaited, and isn't cancelled by the first j events
+pub record IsAskedFor (script : Script) (l : ℕ) (life : Life) (epoch j request : ℕ) : Type 0 where
   pub at : ℕ
   pub before : at < j
   pub made : slice_get life.events at ≡ Some (Info request)
-  pub same : awaited_epoch (alone script) l life at ≡ awaited_epoch (alone script) l life (j - 1)
+  pub same : awaited_epoch (alone script) l life at ≡ epoch
   pub uncancelled : IsUncancelled (standing_of life request j)
 
--- in step j the request is answered by the logs that were asked for as its ancestry was read, in this step or an earlier one that begins in the same epoch, in which the life takes part
-pub record IsMadeOf (script : Script) (l : ℕ) (life : Life) (j request : ℕ) (payload : Option (List ℕ)) : Type 0 where
-  pub takes_part : follows (alone script) l life (awaited_epoch (alone script) l life (j - 1)) ≡ false
+-- In step j the request is answered by the logs that were asked for as its ancestry was read, in this step or an earlier one that began while this epoch was awaited, in which the life takes part.
+pub record IsMadeOf (script : Script) (l : ℕ) (life : Life) (epoch j request : ℕ) (payload : Option (List ℕ)) : Type 0 where
+  pub takes_part : follows (alone script) l life epoch ≡ false
   pub info : EpochInfo U
-  pub info_is : IsInfoOf script (awaited_epoch (alone script) l life (j - 1)) info
+  pub info_is : IsInfoOf script epoch info
   pub round : Round
-  pub round_is : round_by script (awaited_epoch (alone script) l life (j - 1)) info ≡ Ok round
+  pub round_is : round_by script epoch info ≡ Ok round
   pub at : ℕ
   pub within : at ≤ j
-  pub same : awaited_epoch (alone script) l life (at - 1) ≡ awaited_epoch (alone script) l life (j - 1)
+  pub same : awaited_epoch (alone script) l life (at - 1) ≡ epoch
   pub recorded : LogMap
   pub logs : LogMap
-  pub asked : WereAsked script life (awaited_epoch (alone script) l life (j - 1)) request at round recorded logs
+  pub asked : WereAsked script life epoch request at round recorded logs
   pub bytes : payload ≡ Some (next_bytes script info round logs)
 
 -- why none is available
-abbrev pub IsUnavailable : Script → (l : ℕ) → Life → (j request : ℕ) → Why → Type 0
-IsUnavailable script l life j request Following = follows (alone script) l life (awaited_epoch (alone script) l life (j - 1)) ≡ true
-IsUnavailable script l life j request Finished =
-    (follows (alone script) l life (awaited_epoch (alone script) l life (j - 1)) ≡ false)
+abbrev pub IsUnavailable : Script → (l : ℕ) → Life → (epoch j request : ℕ) → Why → Type 0
+IsUnavailable script l life epoch j request Following = follows (alone script) l life epoch ≡ true
+IsUnavailable script l life epoch j request Finished =
+    (follows (alone script) l life epoch ≡ false)
     × IsSomeAnd (event_of_step life j) (λ event. (number : ℕ) × (b : Block U) × (event ≡ Final number) × (slice_get (blocks_in script) number ≡ Some b) × IsTakenLast script l life (j - 1) b)
-IsUnavailable script l life j request Short = IsShortAt script life (awaited_epoch (alone script) l life (j - 1)) request j
-IsUnavailable script l life j request Terminal = ⊥
-IsUnavailable script l life j request Held = ⊥
-IsUnavailable script l life j request why = IsRefusedAt script life (awaited_epoch (alone script) l life (j - 1)) request j why
+IsUnavailable script l life epoch j request Short = IsShortAt script life epoch request j
+IsUnavailable script l life epoch j request Terminal = ⊥
+IsUnavailable script l life epoch j request Held = ⊥
+IsUnavailable script l life epoch j request why = IsRefusedAt script life epoch request j why
 
--- what an answer says: of which request it is, and what it is made of or why there is none
-abbrev pub IsAnsweredSo : Script → (l : ℕ) → Life → (j request : ℕ) → AnswerLine → Type 0
-IsAnsweredSo script l life j request (Available payload) = IsMadeOf script l life j request payload
-IsAnsweredSo script l life j request (Unavailable why) = IsUnavailable script l life j request why
+-- what an answer of step j says, which begins while this epoch is awaited: of which request it is, and what it is made of or why there is none
+abbrev pub IsAnsweredSo : Script → (l : ℕ) → Life → (epoch j request : ℕ) → AnswerLine → Type 0
+IsAnsweredSo script l life epoch j request (Available payload) = IsAskedFor script l life epoch j request × IsMadeOf script l life epoch j request payload
+IsAnsweredSo script l life epoch j request (Unavailable why) = IsAskedFor script l life epoch j request × IsUnavailable script l life epoch j request why
 
 abbrev pub IsAnswer : Script → Progress → Entry → Type 0
 IsAnswer script p (Answer request answer) =
-    IsSomeAnd (slice_get script.lives (length p.cuts)) (λ life. IsAskedFor script (length p.cuts) life p.step request × IsAnsweredSo script (length p.cuts) life p.step request answer)
+    IsSomeAnd (slice_get script.lives (length p.cuts)) (λ life. IsAnsweredSo script (length p.cuts) life (awaited_epoch (alone script) (length p.cuts) life (p.step - 1)) p.step request answer)
 IsAnswer script p _ = Unit {0}
 
 -- each entry is so, over what was written before it (the clause `answers` of the promise, beside `blamed`: it speaks of no device)

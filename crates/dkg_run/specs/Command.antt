@@ -8,10 +8,15 @@ use Rattle.dkg_run.specs.declared.command.Status.TheVariants.{WriteFault, NoMemo
 abbrev pub IsRun : (words : List (List ℕ)) → Type 0
 IsRun words = words ≡ codes "run" ∷ []
 
--- .. for the made script of this number
+-- .. for the text of the made script of this number
 pub record IsMake (number : ℕ) (words : List (List ℕ)) : Type 0 where
   pub below : number < 2 ^ 64
   pub words_are : words ≡ codes "make" ∷ decimal number ∷ codes "script" ∷ []
+
+-- .. or for that script to be run
+pub record IsRunOfMade (number : ℕ) (words : List (List ℕ)) : Type 0 where
+  pub below : number < 2 ^ 64
+  pub words_are : words ≡ codes "make" ∷ decimal number ∷ []
 
 -- The status is answered, and all its text was written; or a write failed, and a front of it was; or there was no memory for the
 -- text, and nothing was. (`old` and `new` are what the sink held and holds, where it tells.)

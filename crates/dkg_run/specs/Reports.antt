@@ -1,12 +1,16 @@
 -- How a command ends, by its status: what was read and run, what there is to write, and what a status blames.
-use Rattle.std.specs.Prelude.{ℕ, List, [], ◌∷◌, ◌++◌, ◌≡◌, ◌≤◌, ◌⊎◌, true, false, Some, Result, Ok, Err, codes, length}
+use Rattle.std.specs.Prelude.{ℕ, List, [], ◌∷◌, ◌++◌, ◌-◌, ◌≡◌, ◌≤◌, ◌⊎◌, true, false, Option, Some, None, Result, Ok, Err, codes, length, slice_get}
 use Rattle.dkg_types.specs.declared.entry.Entry.{Entry}
+use Rattle.dkg_types.specs.declared.entry.Entry.TheVariants as entry
 use Rattle.dkg_types.specs.declared.fault.Fault.{Fault}
 use Rattle.dkg_types.specs.declared.fault.Fault.TheVariants as fault
 use Rattle.dkg_text.specs.declared.script.Script.{Script}
 use Rattle.dkg_text.specs.Fields.{number_field}
 use Rattle.dkg_text.specs.Grammar.{script_of, script_or_place}
 use Rattle.dkg_text.specs.Printing.{lines_of}
+use Rattle.dkg_text.specs.Summary.{summary_of}
+use Rattle.dkg_text.specs.Writing.{text_of}
+use Rattle.dkg_generator.specs.Made.{made_script}
 use Rattle.dkg_script.specs.Built.{is_built}
 use Rattle.dkg_script.specs.Inclusion.{IsFormOfInclusion}
 use Rattle.dkg_run.specs.Command.{IsTold}
@@ -106,6 +110,35 @@ pub record Reported (Gave : List ℕ → Type 0) (o : Over) (out new : List Entr
   pub ended : Status
   pub runs : RanByStatus Gave o out ended entries
   pub told : IsTold ended result (lines_of entries ++ last_of ended) Tells held held_now
+
+-- THE RUN OF A MADE SCRIPT
+
+-- These bytes are the text of the made script of a number.
+abbrev pub IsMade : (number : ℕ) → (bytes : List ℕ) → Type 0
+IsMade number bytes = bytes ≡ text_of (made_script number)
+
+abbrev pub fault_of : Option Entry → Option Fault
+fault_of (Some (entry.Fault its)) = Some its
+fault_of its = None
+
+-- the fault that entries end in, if they end in one
+abbrev pub last_fault : List Entry → Option Fault
+last_fault entries = fault_of (slice_get entries (length entries - 1))
+
+-- what there is to write, by the status: the summary of the entries, where the lives were run
+abbrev pub summary_by : (number : ℕ) → List Entry → Status → List ℕ
+summary_by number entries status.Done = summary_of number entries (last_fault entries)
+summary_by number entries (status.Fault its) = summary_of number entries (last_fault entries)
+summary_by number entries status.Device = summary_of number entries (last_fault entries)
+summary_by number entries ended = last_of ended
+
+-- HOW THE WORDS `make N` END: as `run` of that script's text does, and the sink took the summary.
+pub record Summed (number : ℕ) (o : Over) (out new : List Entry) (result : Status) (Tells : Type 0) (held held_now : List ℕ) : Type 0 where
+  pub entries : List Entry
+  pub added : new ≡ out ++ entries
+  pub ended : Status
+  pub runs : RanByStatus (IsMade number) o out ended entries
+  pub told : IsTold ended result (summary_by number entries ended) Tells held held_now
 
 -- WHAT A STATUS BLAMES, outside, is so. (The source's and the sink's rises, and that the source has too many bytes, are handed in as facts.)
 pub record Blamed (o : Over) (source_rose sink_rose TooMany : Type 0) (result : Status) : Type 0 where

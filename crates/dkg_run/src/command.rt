@@ -1,6 +1,7 @@
 //! The top call: it reads a script, runs its lives, and writes their transcript.
-ghost use Rattle.std.specs.Prelude.{◌≡◌, ◌≢◌, ◌↔◌, ◌⊎◌, ◌≤◌, ◌++◌, [], ◌∷◌, ℕ, true, false, IfNone, IfOk, IfSome, IsTrue, OnOk, Some};
+ghost use Rattle.std.specs.Prelude.{◌≡◌, ◌≢◌, ◌↔◌, ◌⊎◌, ◌≤◌, ◌++◌, [], ◌∷◌, ℕ, List, true, false, IfNone, IfOk, IfSome, IsTrue, OnOk, Some};
 ghost use Rattle.std.specs.Prelude.{codes, drop, length, map, string_bytes};
+ghost use Rattle.std.specs.Option.{option_copied};
 ghost use Rattle.dkg_journal.specs.Disk.{Rose};
 ghost use Rattle.dkg_generator.specs.Made.{made_script};
 ghost use Rattle.dkg_text.specs.Fields.{number_field};
@@ -11,11 +12,11 @@ ghost use Rattle.dkg_text.specs.declared.script.Script.{Script};
 ghost use Rattle.dkg_script.specs.Built.{ReadsBuilt, is_built};
 ghost use Rattle.dkg_script.specs.Inclusion.{IsFormOfInclusion};
 ghost use Rattle.dkg_script.specs.Promise.{Adds};
-ghost use Rattle.dkg_run.specs.Command.{IsMake, IsRun, IsTold};
+ghost use Rattle.dkg_run.specs.Command.{IsMake, IsRun, IsRunOfMade, IsTold};
 ghost use Rattle.dkg_run.specs.Complete.{IsSoundRun, IsValidAnyhow};
 ghost use Rattle.dkg_run.specs.Outside.{TookFew, TookMore};
 ghost use Rattle.dkg_run.specs.Over.{over};
-ghost use Rattle.dkg_run.specs.Reports.{Blamed, WasRead, Reported, RanByStatus, fault_status, last_of, number_of};
+ghost use Rattle.dkg_run.specs.Reports.{Blamed, IsMade, WasRead, Reported, RanByStatus, Summed, fault_status, last_fault as last_fault_of, last_of, number_of, summary_by};
 
 use crate::lives::run_lives;
 use crate::sink::Sink;
@@ -24,9 +25,9 @@ use crate::transfer::{ReadError, read_all, write_all};
 use dkg_ceremony::Mem;
 use dkg_generator::make_script;
 use dkg_journal::Disk;
-use dkg_script::{ReadError as BuiltError, print_of, read_built};
+use dkg_script::{ReadError as BuiltError, Script, print_of, read_built};
 use dkg_store::SecretStore;
-use dkg_text::{number, script_text};
+use dkg_text::{number, script_text, summary};
 use dkg_types::{Entry, Fault, Transcript};
 use itoa::Buffer;
 use std::alloc::Global;
@@ -124,6 +125,22 @@ fn made_number(words: &[String]) -> Option<u64>
     }
 }
 
+/// The number whose script is to be run, where the words are those that ask for that.
+fn run_number(words: &[String]) -> Option<u64>
+    ensures some { IfSome result (λ n. IsRunOfMade n (map string_bytes words.now)) }
+    ensures none { IfNone result ((n : ℕ) → IsRunOfMade n (map string_bytes words.now) → ⊥) }
+{
+    match words {
+        [verb, name] => {
+            if !is_make_word(verb.as_str()) {
+                return None;
+            }
+            number(name.as_str().as_bytes())
+        }
+        _ => None,
+    }
+}
+
 /// The status of a run that a fault ended.
 fn status_of(fault: Fault) -> Status
     ensures { result ≡ fault_status fault }
@@ -136,11 +153,7 @@ fn status_of(fault: Fault) -> Status
 }
 
 /// The script that bytes spell which were read of a source. It is given them back.
-fn script_in<S: Source>(
-    alloc: Global,
-    source: &mut S,
-    bytes: Vec<u8>,
-) -> Result<dkg_script::Script, BuiltError>
+fn script_in<S: Source>(alloc: Global, source: &mut S, bytes: Vec<u8>) -> Result<Script, BuiltError>
     ensures reads { ReadsBuilt (script_or_place false bytes.items) result }
     ensures form { IfOk result IsFormOfInclusion }
     ensures left { S.left source.new ≡ S.left source.old }
@@ -149,6 +162,32 @@ fn script_in<S: Source>(
     let read = read_built(alloc, &bytes, false);
     source.give_back(bytes);
     read
+}
+
+/// Runs the lives of a script that was read, or says why none was.
+fn run_read<D: Disk, X: SecretStore>(
+    alloc: Global,
+    read: Result<Script, BuiltError>,
+    disk: &mut D,
+    secrets: &mut X,
+    out: &mut Transcript,
+) -> Status
+    requires form { IfOk read IsFormOfInclusion }
+    ensures read { (result ≢ Status.ReadFault) × (result ≢ Status.TooLong) }
+    ensures ends { (bytes : List ℕ) → ReadsBuilt (script_or_place false bytes) read → Adds out.old.entries out.new.entries (RanByStatus (λ its. its ≡ bytes)
+        (over D.tells D.files D.image D.faults D.made X.tells X.held X.faults X.made (disk.old, secrets.old) (disk.new, secrets.new))
+        out.old.entries result) }
+{
+    let script = match read {
+        Ok(script) => script,
+        Err(BuiltError::Bad { place }) => return Status::BadScript { place },
+        Err(BuiltError::Unsupported) => return Status::Unsupported,
+        Err(BuiltError::NoMemory) => return Status::NoMemory,
+    };
+    match run_lives(alloc, &script, disk, secrets, out) {
+        Ok(()) => Status::Done,
+        Err(fault) => status_of(fault),
+    }
 }
 
 /// Reads a script and runs its lives.
@@ -172,16 +211,8 @@ fn run<S: Source, D: Disk, X: SecretStore>(
         Err(ReadError::TooLong) => return Status::TooLong,
         Err(ReadError::NoMemory) => return Status::NoMemory,
     };
-    let script = match script_in(alloc, source, bytes) {
-        Ok(script) => script,
-        Err(BuiltError::Bad { place }) => return Status::BadScript { place },
-        Err(BuiltError::Unsupported) => return Status::Unsupported,
-        Err(BuiltError::NoMemory) => return Status::NoMemory,
-    };
-    match run_lives(alloc, &script, disk, secrets, out) {
-        Ok(()) => Status::Done,
-        Err(fault) => status_of(fault),
-    }
+    let read = script_in(alloc, source, bytes);
+    run_read(alloc, read, disk, secrets, out)
 }
 
 fn put(text: &mut Vec<u8>, more: &[u8]) -> Mem<()>
@@ -259,6 +290,74 @@ fn make<K: Sink>(alloc: Global, sink: &mut K, number: u64) -> Status
     }
 }
 
+/// The made script of a number, read from its text.
+fn made_built(alloc: Global, number: u64) -> Result<Script, BuiltError>
+    ensures reads { ReadsBuilt (script_or_place false (script_text_of (made_script number))) result }
+    ensures form { IfOk result IsFormOfInclusion }
+{
+    let text = made_text(alloc, number)?;
+    read_built(alloc, &text, false)
+}
+
+/// Runs the lives of the made script of a number.
+fn run_made<D: Disk, X: SecretStore>(
+    alloc: Global,
+    number: u64,
+    disk: &mut D,
+    secrets: &mut X,
+    out: &mut Transcript,
+) -> Status
+    ensures read { (result ≢ Status.ReadFault) × (result ≢ Status.TooLong) }
+    ensures ends { Adds out.old.entries out.new.entries (RanByStatus (IsMade number)
+        (over D.tells D.files D.image D.faults D.made X.tells X.held X.faults X.made (disk.old, secrets.old) (disk.new, secrets.new))
+        out.old.entries result) }
+{
+    let read = made_built(alloc, number);
+    run_read(alloc, read, disk, secrets, out)
+}
+
+/// The fault that entries end in, if they end in one.
+fn last_fault(entries: &[Entry]) -> Option<&Fault>
+    ensures { option_copied result ≡ last_fault_of entries.now }
+{
+    match entries.last() {
+        Some(Entry::Fault(fault)) => Some(fault),
+        _ => None,
+    }
+}
+
+/// What there is to write of a run of a made script: its summary, where the lives were run, or the status's last line.
+fn summary_text(alloc: Global, number: u64, entries: &[Entry], status: &Status) -> Mem<Vec<u8>>
+    ensures { IfOk result (λ text. text.items ≡ summary_by number entries.now status.now) }
+{
+    match status {
+        Status::Done | Status::Fault(_) | Status::Device => {
+            summary(alloc, number, entries, last_fault(entries))
+        }
+        _ => text_of(alloc, &[], status),
+    }
+}
+
+/// Writes it.
+fn sum_up<K: Sink>(
+    alloc: Global,
+    sink: &mut K,
+    number: u64,
+    entries: &[Entry],
+    status: Status,
+) -> Status
+    ensures told { IsTold status result (summary_by number entries.now status) (IsTrue K.tells) (K.held sink.old) (K.held sink.new) }
+    ensures write_fault { status ≢ Status.WriteFault → result ≡ Status.WriteFault → Rose (K.faults sink.old) (K.faults sink.new) }
+{
+    let Ok(text) = summary_text(alloc, number, entries, &status) else {
+        return Status::NoMemory;
+    };
+    match write_all(sink, &text) {
+        Ok(()) => status,
+        Err(_) => Status::WriteFault,
+    }
+}
+
 /// The entries of a transcript from a place on.
 fn entries_from(out: &Transcript, place: usize) -> &[Entry]
     ensures { result.now ≡ drop place out.now.entries }
@@ -267,8 +366,8 @@ fn entries_from(out: &Transcript, place: usize) -> &[Entry]
 }
 
 /// Does what the words say. `run` reads a script from the source, runs its lives over the devices, and writes the
-/// lines of the new entries and the status's last line to the sink. `make N script` writes the text of the made script of the number N.
-/// Any other words are Usage.
+/// lines of the new entries and the status's last line to the sink. `make N` runs the made script of the number N over them, and writes a summary; `make N script`
+/// writes that script's text. Any other words are Usage.
 pub fn run_command<S: Source, K: Sink, D: Disk, X: SecretStore>(
     alloc: Global,
     words: &[String],
@@ -280,14 +379,20 @@ pub fn run_command<S: Source, K: Sink, D: Disk, X: SecretStore>(
 ) -> Status
     // Other words read and run nothing.
     ensures usage { (IsRun (map string_bytes words.now) → ⊥) → ((n : ℕ) → IsMake n (map string_bytes words.now) → ⊥)
+        → ((n : ℕ) → IsRunOfMade n (map string_bytes words.now) → ⊥)
         → IsTold Status.Usage result (last_of Status.Usage) (IsTrue K.tells) (K.held sink.old) (K.held sink.new)
         × (source.new ≡ source.old) × (disk.new ≡ disk.old) × (secrets.new ≡ secrets.old) × (out.new ≡ out.old) }
     ensures only_usage { result ≡ Status.Usage
-        → (IsRun (map string_bytes words.now) → ⊥) × ((n : ℕ) → IsMake n (map string_bytes words.now) → ⊥) }
+        → (IsRun (map string_bytes words.now) → ⊥) × ((n : ℕ) → IsMake n (map string_bytes words.now) → ⊥)
+        × ((n : ℕ) → IsRunOfMade n (map string_bytes words.now) → ⊥) }
     // `make N script` writes that script's text, and touches nothing but the sink.
     ensures make { (n : ℕ) → IsMake n (map string_bytes words.now)
         → IsTold Status.Done result (script_text_of (made_script n)) (IsTrue K.tells) (K.held sink.old) (K.held sink.new)
         × (source.new ≡ source.old) × (disk.new ≡ disk.old) × (secrets.new ≡ secrets.old) × (out.new ≡ out.old) }
+    // `make N` runs that script, of which all holds that holds of one that was read, and the sink took the summary of the new entries.
+    ensures sums { (n : ℕ) → IsRunOfMade n (map string_bytes words.now) → (source.new ≡ source.old) × Summed n
+        (over D.tells D.files D.image D.faults D.made X.tells X.held X.faults X.made (disk.old, secrets.old) (disk.new, secrets.new))
+        out.old.entries out.new.entries result (IsTrue K.tells) (K.held sink.old) (K.held sink.new) }
     // However the words `run` end, the new entries, the devices and what was read are as the status says, with all that `run_lives` promises of the
     // script that the source gave, and the sink took the lines of the entries and the status's last line: all, or a front where a write failed, or
     // nothing where there was no memory for them.
@@ -314,10 +419,14 @@ pub fn run_command<S: Source, K: Sink, D: Disk, X: SecretStore>(
     if let Some(number) = made_number(words) {
         return make(alloc, sink, number);
     }
+    let before = out.entries().len();
+    if let Some(number) = run_number(words) {
+        let ended = run_made(alloc, number, disk, secrets, out);
+        return sum_up(alloc, sink, number, entries_from(out, before), ended);
+    }
     if !is_run(words) {
         return report(alloc, sink, &[], Status::Usage);
     }
-    let before = out.entries().len();
     let status = run(alloc, source, disk, secrets, out);
     report(alloc, sink, entries_from(out, before), status)
 }
