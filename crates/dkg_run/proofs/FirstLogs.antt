@@ -203,7 +203,7 @@ module _ (brings : ℕ → Option (ℕ × DealerLog)) where
                 by_place at other high there (inr over) = first at other over high there
 
             by_noted : (o : Option Noted) → recorded dealer ≡ o → reached_in o ≡ lookup dealer (brought_from low count)
-            by_noted None is = absurd (subst (λ (o : Option Noted). IsSome o) is (are.all dealer height log is_first (omega (arith, below, ends))))
+            by_noted None is = absurd (let no : false ≡ true = subst (λ (o : Option Noted). IsSome o) is (are.all dealer height log is_first (omega (arith, below, ends))) in cc)
             by_noted (Some noted) is =
                 let its = are.sound dealer noted is in
                 let one = one_first dealer its.0 height (log_of noted) log its.1 is_first in
