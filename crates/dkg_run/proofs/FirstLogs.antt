@@ -1,5 +1,5 @@
 -- The first logs of dealers, by what the heights of a chain bring: those that are recorded, and those that a part of the chain brings.
-use Rattle.std.proofs.Common.{◌≡◌, ◌⊎◌, inl, inr, ◌<◌, ◌≤◌, ◌+◌, ◌==◌, ℕ, zero, suc, Bool, true, false, List, [], ◌∷◌, ◌++◌, Option, Some, None, arith, refl, sym, ◌∙◌, ap, subst, nat_le}
+use Rattle.std.proofs.Common.{◌≡◌, ◌⊎◌, inl, inr, ◌<◌, ◌≤◌, ◌+◌, ◌==◌, ℕ, zero, suc, Bool, true, false, [], ◌++◌, Option, Some, None, arith, refl, sym, ◌∙◌, ap, subst, nat_le}
 use Rattle.std.specs.Prelude.{option_to_list, IsSome, if◌then◌else◌}
 use Rattle.std.proofs.lemmas.Bool.{cases_lt}
 use Rattle.std.proofs.lemmas.Bool.Decides.{nat_tests}
@@ -115,14 +115,25 @@ module _ (brings : ℕ → Option (ℕ × DealerLog)) where
       -- where this height brings none of the dealer
       behind : (o : Option (ℕ × DealerLog)) → ((other : DealerLog) → brings low ≡ Some (dealer, other) → ⊥)
           → lookup dealer (option_to_list o ++ brought_from (low + 1) count) ≡ lookup dealer (brought_from (low + 1) count) → IsFoundIn dealer (low + 1) count → IsFoundBy dealer low count o
-      behind o none same (inl nothing) = inl (same ∙ nothing.0, λ at other above high is. elim (here_or at above) [
-        | inl here ↦ none other (ap brings (sym here) ∙ is)
-        | inr up ↦ nothing.1 at other up (omega (arith, high)) is
-      ])
-      behind o none same (inr (height, log, found, above, below, is, first)) = inr (height, log, same ∙ found, omega (arith, above), omega (arith, below), is, λ at other up high there. elim (here_or at up) [
-        | inl here ↦ none other (ap brings (sym here) ∙ there)
-        | inr more ↦ first at other more high there
-      ])
+      behind o none same (inl nothing) = inl (
+        same ∙ nothing.0,
+        λ at other above high is. elim (here_or at above) [
+          | inl here ↦ none other (ap brings (sym here) ∙ is)
+          | inr up ↦ nothing.1 at other up (omega (arith, high)) is
+        ],
+      )
+      behind o none same (inr (height, log, found, above, below, is, first)) = inr (
+        height,
+        log,
+        same ∙ found,
+        omega (arith, above),
+        omega (arith, below),
+        is,
+        λ at other up high there. elim (here_or at up) [
+          | inl here ↦ none other (ap brings (sym here) ∙ there)
+          | inr more ↦ first at other more high there
+        ],
+      )
 
       by_here : (o : Option (ℕ × DealerLog)) → brings low ≡ o → IsFoundIn dealer (low + 1) count → IsFoundIn dealer low (suc count)
       by_here o is rest = subst (IsFoundBy dealer low count) (sym is) (by_item o is rest)
