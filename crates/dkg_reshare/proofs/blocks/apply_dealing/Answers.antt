@@ -66,7 +66,7 @@ returns-in_err-begin_inclusion-clause-tells g c = λ provided fixed beside fence
 pub returns-in_err-begin_inclusion-clause-causes : goal.returns-in_err-begin_inclusion-clause-causes
 returns-in_err-begin_inclusion-clause-causes g c =
     let p = err_from_is_err_and c.from_residual-in_err-begin_inclusion.result c.from_residual-in_err-begin_inclusion.ensures.1 in
-    rw (p.1, p.2) (want_caused _ _ _ c.begin_inclusion.result c.begin_inclusion.ensures.memory)
+    rw (p.1, p.2) (rw c.in_err-begin_inclusion.ensures.memory tt)
 
 pub returns-in_err-begin_inclusion-clause-word : goal.returns-in_err-begin_inclusion-clause-word
 returns-in_err-begin_inclusion-clause-word g c = ap (λ (l : Life g.row.Dir.Denot). l.word) c.begin_inclusion.ensures.rest ∙ ap (λ (l : Life g.row.Dir.Denot). l.word) c.deal.ensures.rest
