@@ -1,4 +1,4 @@
-use Rattle.std.proofs.Common.{◌≡◌, [], ℕ, List, Result, Ok, Err, false, inl, refl, subst, sym}
+use Rattle.std.proofs.Common.{◌≡◌, [], ℕ, List, Result, Ok, Err, false, inl, refl, subst, sym, ◌∙◌, ap}
 use Rattle.std.specs.Prelude.{IfOk}
 use Rattle.std.proofs.lemmas.List.{append-nil}
 use Rattle.dkg_text.specs.Grammar.{script_or_place}
@@ -22,7 +22,7 @@ returns-in-Err-NoMemory-clause-ends g c bytes reads = ([], sym (append-nil _), i
 
 pub returns-in-Err-Bad-clause-ends : goal.returns-in-Err-Bad-clause-ends
 returns-in-Err-Bad-clause-ends g c bytes reads =
-    let is : c.args.read ≡ Err (Bad c.in-Err-Bad.place) = search in (
+    let is : c.args.read ≡ Err (Bad c.in-Err-Bad.place) = c.in-Err-Bad.is ∙ ap (λ (e : ReadError). Err e) (rw c.in-Err-Bad.is at c.in-Err-Bad.field-0-is) in (
       [],
       sym (append-nil _),
       record {
@@ -35,7 +35,7 @@ returns-in-Err-Bad-clause-ends g c bytes reads =
 
 pub returns-in-Err-Unsupported-clause-ends : goal.returns-in-Err-Unsupported-clause-ends
 returns-in-Err-Unsupported-clause-ends g c bytes reads =
-    let is : c.args.read ≡ Err Unsupported = search in
+    let is : c.args.read ≡ Err Unsupported = c.in-Err-Unsupported.is ∙ ap (λ (e : ReadError). Err e) (rw c.in-Err-Unsupported.is at c.in-Err-Unsupported.field-0-is) in
     let refused = reads_so bytes c.args.read (Err Unsupported) is reads in (
       [],
       sym (append-nil _),

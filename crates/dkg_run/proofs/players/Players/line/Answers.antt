@@ -19,6 +19,7 @@ returns-in_default c =
     let point = IsPartitionPoint-from_clause (λ y. ltb y.epoch c.args.epoch) _ _ c.partition_point-at.ensures.partitioned (parted c.args.epoch lines c.args.self.now.rising) (λ a r q k. search rules) in
     sym (none_at c.args.epoch lines c.args.self.now.rising c.partition_point-at.result point
     (elim c.in_default.branch [
-    in_default-via-in-Some+else-eq w ↦ none_other c.args.epoch lines c.partition_point-at.result w.in-Some.line.now
-    (slice_get_read lines _ c.partition_point-at.result w.in-Some.line.now refl (ltb-true _ _ (sym w.in-Some.ensures.lookup.0)) w.in-Some.ensures.lookup.1) (sym w.if-eq.ensures)
-    | in_default-via-in_default w ↦ none_past c.args.epoch lines c.partition_point-at.result (sym w.in_default.ensures.lookup.0) ]))
+      | in_default-via-in-Some+else-eq w ↦ none_other c.args.epoch lines c.partition_point-at.result w.in-Some.line.now
+          (slice_get_read lines _ c.partition_point-at.result w.in-Some.line.now refl (ltb-true _ _ (sym w.in-Some.ensures.lookup.0)) w.in-Some.ensures.lookup.1) (sym w.if-eq.ensures)
+      | in_default-via-in_default w ↦ none_past c.args.epoch lines c.partition_point-at.result (sym w.in_default.ensures.lookup.0)
+    ]))
