@@ -368,7 +368,7 @@ module _ (c : Fixed U) (reshare : c.oneshot ≡ None) where
           by_test true = refl
           by_test false = refl
 
-      observes_to : (round : Round) (log : Option SignedDealerLog) → ComesTo Any (λ end. end.inclusion ≡ st.inclusion) (b.observes c round block st log)
+      pub observes_to : (round : Round) (log : Option SignedDealerLog) → ComesTo Any (λ end. end.inclusion ≡ st.inclusion) (b.observes c round block st log)
       observes_to round None = refl
       observes_to round (Some log) = by_tests (is_accepted c round log) (is_some (recorded_at st.records.logs round.number log.dealer))
         where
@@ -481,10 +481,10 @@ module _ (c : Fixed U) (reshare : c.oneshot ≡ None) where
         comes_behind Any (λ now. now.inclusion ≡ its) (λ left. left.live.inclusion ≡ its) (half.asks_again c st) (λ now. half.delivered_in c block now (active now.orchestrator)) (again st same)
         (λ now is. delivers_in block now is (active now.orchestrator))
 
-    behind_mail : (st : Live U) → st.inclusion ≡ its → LifeTo (unless_once c (half.asks_again c st) (Goes st))
+    pub behind_mail : (st : Live U) → st.inclusion ≡ its → LifeTo (unless_once c (half.asks_again c st) (Goes st))
     behind_mail st same = comes_if Any (λ end. end.inclusion ≡ its) (is_some c.oneshot) (Goes st) (half.asks_again c st) (λ e. same) (λ e. again st same)
 
-    behind_block : (block : Block U) (st : Live U) → st.inclusion ≡ its
+    pub behind_block : (block : Block U) (st : Live U) → st.inclusion ≡ its
         → LifeTo (unless_once c (bind (delivered c block st) (λ left. half.acked_at block.height left.answer left.live)) (Say (Acked block.height) (Goes st)))
     behind_block block st same =
         comes_if Any (λ end. end.inclusion ≡ its) (is_some c.oneshot) (Say (Acked block.height) (Goes st)) (bind (delivered c block st) (λ left. half.acked_at block.height left.answer left.live)) (λ e. same)

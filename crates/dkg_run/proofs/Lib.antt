@@ -1,3 +1,4 @@
+pub mod Accounting
 pub mod Alone
 pub mod Ancestry
 pub mod Answered
