@@ -148,6 +148,9 @@ anew_at done (e ∷ events) zero request anew there = subst (λ (es : List Event
 anew_at done (e ∷ events) (suc i) request anew there =
     subst (λ (es : List Event). is_asked es request ≡ false) (append_assoc done (e ∷ []) (take i events)) (anew_at (done ++ e ∷ []) events i request anew.1 there)
 
+pub asked_anew : (life : Life) (i request : ℕ) → AskAnew life.events → slice_get life.events i ≡ Some (event.Info request) → is_asked (take i life.events) request ≡ false
+asked_anew life i request anew there = anew_at [] life.events i request anew there
+
 pub made_anew : (life : Life) (i request : ℕ) → AskAnew life.events → slice_get life.events i ≡ Some (event.Info request) → standing_of life request i ≡ Unmade
 made_anew life i request anew there = unmade request (take i life.events) (anew_at [] life.events i request anew there)
 

@@ -128,6 +128,7 @@ pub mod StopsBehind
 pub mod StoredDealers
 pub mod StoredFound
 pub mod Telling
+pub mod Tracking
 pub mod Turns
 pub mod Twice
 pub mod TwiceAcked
