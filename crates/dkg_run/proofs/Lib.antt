@@ -61,6 +61,7 @@ pub mod Knowing
 pub mod Lasting
 pub mod LaterRecords
 pub mod Leading
+pub mod Leaving
 pub mod LifeSteps
 pub mod LineHeights
 pub mod LinesFound

@@ -134,7 +134,7 @@ module _ (g : Lived) where
       below a low = omega (arith, low)
 
   -- the first was made no later than any of them
-  order_first : (j low n at : ℕ) (rs : List (Request U)) → ((k : ℕ) → slice_get g.life.events k ≡ Some (event.Info n) → k ≡ at) → InOrder j low rs → (r : Request U) → IsAmong r rs → r.number ≡ n → low ≤ at
+  pub order_first : (j low n at : ℕ) (rs : List (Request U)) → ((k : ℕ) → slice_get g.life.events k ≡ Some (event.Info n) → k ≡ at) → InOrder j low rs → (r : Request U) → IsAmong r rs → r.number ≡ n → low ≤ at
   order_first j low n at [] one order r among is = absurd among
   order_first j low n at (x ∷ rs) one (k, above, before, made, rest) r (inl same) is = subst (λ (m : ℕ). low ≤ m) (one k (made ∙ ap (λ (y : ℕ). Some (event.Info y)) (ap (λ (y : Request U). y.number) same ∙ is))) above
   order_first j low n at (x ∷ rs) one (k, above, before, made, rest) r (inr among) is = less low k at above (order_first j k n at rs one rest r among is)
