@@ -188,8 +188,7 @@ module _ (g : Lived) (here : IsLifeInForm g) (i : ℕ) (its : Event) (is : slice
     waited_for number payload (round, info, of_round, of_info, (job, runs, waits, is)) keeps =
         let one : IsAwaited g e i st.inclusion.running st.participation.round number = subst (λ (o : Option ℕ). IfSome o (IsAwaited g e i st.inclusion.running st.participation.round)) waits held.ready.waiter in
         let of_job : one.job ≡ job = the_same (sym one.runs ∙ runs) in
-        let of_its : one.its_round ≡ round = the_same (sym one.of_round ∙ of_round) in
-        (
+        let of_its : one.its_round ≡ round = the_same (sym one.of_round ∙ of_round) in (
           record { at = one.at; before = more one.at one.before; made = one.made; same = one.same; uncancelled = keeps one },
           made_of round info of_round of_info number one.read one.recorded job.logs payload (upto one.read one.within) one.began
               (subst (λ (x : Job). WereAsked g.script g.life e number one.read round one.recorded x.logs) of_job (subst (λ (x : Round). WereAsked g.script g.life e number one.read x one.recorded (one.job).logs) of_its one.asked)) is,
@@ -257,8 +256,7 @@ module _ (g : Lived) (here : IsLifeInForm g) (i : ℕ) (its : Event) (is : slice
 
   following : (number : ℕ) → its ≡ event.Info number → st.participation.stage ≡ Follows → IsSaidHere (Answer number (Unavailable Following))
   following number of follows =
-      let there : slice_get g.life.events i ≡ Some (event.Info number) = is ∙ ap (λ (x : Event). Some x) of in
-      (
+      let there : slice_get g.life.events i ≡ Some (event.Info number) = is ∙ ap (λ (x : Event). Some x) of in (
         record { at = i; before = next i; made = there; same = refl; uncancelled = subst IsUncancelled (sym (becomes_open g.life i number (life_in g here).anew there)) tt },
         stands.blind follows,
       )

@@ -243,14 +243,14 @@ module _ (g : Lived) (here : IsLifeInForm g) where
         let kept = node_steps_keep_secrets (at_step g (suc i)) st m.message (went end) (epoch_by g (suc i) - 1) w new reads reach_low run_here in
         let low : (round : Round) → (led.mid).participation.round ≡ Some round → epoch_by g (suc i) - 1 ≤ round.number
         = λ round of. upto round.number (epoch_by g (suc i)) (((led.next).live).stands.numbered round of ∙ ap (λ (p : Participation directory.Unit). p.epoch) (sym same)
-            ∙ stands.epoch (λ follows. with_round (at_step g (suc i)) (unasked led.mid) round ((led.next).live).stands of (ap (λ (p : Participation directory.Unit). p.stage) (sym same) ∙ follows))) in
+        ∙ stands.epoch (λ follows. with_round (at_step g (suc i)) (unasked led.mid) round ((led.next).live).stands of (ap (λ (p : Participation directory.Unit). p.stage) (sym same) ∙ follows))) in
         let behind : DealsStored (at_step g (suc i)).me led.mid new.held
         = step_stored (at_step g (suc i)) (rules_at (suc i)) reads any_shares (form_at g here (suc i)) st m.message w.held new.held led.mid live led.next
-            (subst (λ (n : ℕ). DealsStored n st w.held) (sym (me_is (suc i))) deals) (λ round of seed got. kept.0 round.number seed (low round of) got) in (
+        (subst (λ (n : ℕ). DealsStored n st w.held) (sym (me_is (suc i))) deals) (λ round of seed got. kept.0 round.number seed (low round of) got) in (
           λ round there. next_drawn w.held new.held led.mid led.next drawn round (sym (ap (λ (p : Participation directory.Unit). p.round) same) ∙ there),
           λ d there. subst (λ (n : ℕ). IsStoredDealer n end d new.held) (me_is (suc i))
-            (stored_on (at_step g (suc i)).me led.mid end d d new.held new.held (ap (λ (p : Participation directory.Unit). p.round) same) refl refl (λ round of seed is. is)
-            (behind d (sym (ap (λ (p : Participation directory.Unit). p.dealer) same) ∙ there))),
+              (stored_on (at_step g (suc i)).me led.mid end d d new.held new.held (ap (λ (p : Participation directory.Unit). p.round) same) refl refl (λ round of seed is. is)
+              (behind d (sym (ap (λ (p : Participation directory.Unit). p.dealer) same) ∙ there))),
         )
       where
         upto : (a b : ℕ) → a ≡ b → b - 1 ≤ a

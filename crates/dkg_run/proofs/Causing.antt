@@ -39,7 +39,7 @@ use Rattle.dkg_core.specs.Setup.{Standing, Uncommitted, WasCommitted, is_past_ra
 use Rattle.dkg_core.specs.Sources.{Tip}
 use Rattle.dkg_core.specs.Stepping.{IsDealingStop, given_itself, taken_over}
 use Rattle.dkg_core.specs.Through.{IsAppliedStopThrough, IsAppliedThrough, IsBlockStopThrough, IsBlockThrough, IsCarriedOn, IsFollowedThrough, IsIncludedThrough, IsLiveThrough, IsPassedOn, IsPassingStop, IsShareTaken, IsStopThrough, unasked}
-use Rattle.dkg_core.specs.Endings.{OnInfo, first_block, first_epoch, seat_in, stage_in, validity}
+use Rattle.dkg_core.specs.Endings.{OnInfo, first_epoch, seat_in, stage_in, validity}
 use Rattle.dkg_core.proofs.Applied.{deals_below, includes_above}
 use Rattle.dkg_core.proofs.Heights.{below_middle}
 use Rattle.dkg_core.proofs.StepDealing as dealing

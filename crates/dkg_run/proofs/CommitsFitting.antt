@@ -1,5 +1,5 @@
 -- Each share that a run over devices that tell tells as committed is this node's in what its epoch's info carries on, where the shares that the devices held are.
-use Rattle.std.proofs.Common.{◌≡◌, inl, inr, ◌⊎◌, ℕ, suc, ◌<◌, List, [], ◌∷◌, ◌++◌, Option, Some, None, Result, arith, refl, sym, ◌∙◌, ap, subst, append-nil, append_assoc}
+use Rattle.std.proofs.Common.{◌≡◌, inl, inr, ◌⊎◌, ℕ, suc, List, [], ◌∷◌, ◌++◌, Option, Some, None, Result, arith, refl, sym, ◌∙◌, ap, subst, append-nil, append_assoc}
 use Rattle.std.specs.Prelude.{Contains, IfSome, IsSomeAnd, slice_get}
 use Rattle.std.specs.FinMap as maps
 use Rattle.std.specs.List.{AllByRecursion}
@@ -35,7 +35,7 @@ use Rattle.dkg_core.specs.Endings.{CameTo, first_block, first_epoch}
 use Rattle.dkg_core.specs.Fixed.{Fixed}
 use Rattle.dkg_core.specs.Forms.{IsNodeBegun, IsOpeningStop, LeavesHeld, held_behind}
 use Rattle.dkg_core.specs.Idle.{IsAskedLine}
-use Rattle.dkg_core.specs.Live.{Finalized, Live, Message, NodeStop, Peer, Sent, is_last_height}
+use Rattle.dkg_core.specs.Live.{Finalized, Live, Message, NodeStop, Peer, Sent}
 use Rattle.dkg_core.specs.Node.{node_opening, node_step}
 use Rattle.dkg_core.specs.NodeEndings.{IsFaultBy}
 use Rattle.dkg_core.specs.NodeThrough.{IsActiveThrough, IsNodeThrough}

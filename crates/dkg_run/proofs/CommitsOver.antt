@@ -1,6 +1,6 @@
 -- Which share is told as committed in an opening and in a step, over what the devices hold.
 use Rattle.std.proofs.Common.{◌≡◌, ℕ, Bool, true, false, List, [], ◌∷◌, Option, Some, None, refl, sym, ◌∙◌, ap, subst, arith}
-use Rattle.std.specs.Prelude.{◌+◌, ◌-◌, ◌==◌, ◌&&◌, ◌||◌, if◌then◌else◌, is_some, is_none, not, IsSomeAnd, Ok, Err, Result, option_and_then, option_map, nat_lt, map}
+use Rattle.std.specs.Prelude.{◌+◌, ◌-◌, ◌==◌, ◌&&◌, ◌||◌, if◌then◌else◌, is_some, is_none, not, IsSomeAnd, Ok, Err, Result, option_and_then, nat_lt}
 use Rattle.std.specs.Option.{option_map_or}
 use Rattle.std.specs.Result.{result_ok}
 use Rattle.std.proofs.lemmas.Bool.Decides.{nat_tests}
@@ -19,12 +19,10 @@ use Rattle.dkg_fence.specs.declared.fence.Waited.TheVariants as waits
 use Rattle.dkg_fence.specs.declared.fence.Waited.{Waited}
 use Rattle.dkg_secrets.specs.declared.secrets.SecretOp.TheVariants.{PutSeed, PutShare}
 use Rattle.dkg_store.specs.Acts.{Changes, Held, OnDisk, after}
-use Rattle.dkg_store.specs.Recorded.{restored_of}
 use Rattle.dkg_journal.specs.Operations.{Bars, Opens}
 use Rattle.dkg_types.specs.BlockCodes.{info_of}
 use Rattle.dkg_types.specs.Blocks.{Block}
 use Rattle.dkg_types.specs.PayloadCodes.{its_log}
-use Rattle.dkg_types.specs.Validation.{validation}
 use Rattle.dkg_types.specs.declared.entry.Entry.TheVariants.{Acked, Committed, Entered}
 use Rattle.dkg_types.specs.declared.entry.Entry.{Entry as Line}
 use Rattle.dkg_types.specs.declared.entry.Why.TheVariants.{Finished}
@@ -54,7 +52,6 @@ use Rattle.dkg_core.specs.Logs.{canonical, is_accepted, log_event, logs_of}
 use Rattle.dkg_core.specs.Node.{kept_material, node_opening, node_step, unless_once}
 use Rattle.dkg_core.specs.Plans as p
 use Rattle.dkg_core.specs.SayingThrough.{IsUnasked, SaysSo}
-use Rattle.dkg_core.specs.Seen.{Seen}
 use Rattle.dkg_core.specs.Setup as s
 use Rattle.dkg_core.specs.Sources.{Tip, startup}
 use Rattle.dkg_core.specs.Stepping.{next_epoch}
@@ -307,7 +304,7 @@ module _ {Dir : Type 0} (c : Fixed Dir) (form : IsFormThrough c) (stored : OfSha
   taken_at last info carries of_next share stage at taken = (
     last,
     subst (λ (o : Option (EpochInfo Dir)). IsSomeAnd o (λ x. (x.epoch ≡ info.epoch) × (x.epoch ≡ next_epoch c block) × IsShareTaken c stored st held x share st.participation.stage)) (sym carries)
-    (refl, of_next, subst (λ (x : Stage). IsShareTaken c stored st held info share x) (sym at) taken),
+        (refl, of_next, subst (λ (x : Stage). IsShareTaken c stored st held info share x) (sym at) taken),
   )
 
   expected_is : b.expected_epoch c block.height ≡ next_epoch c block

@@ -28,11 +28,11 @@ some_is e = cc
 
 of_key : (P : ℕ → Type 0) (key : ℕ) (ps : List (ℕ × ℕ)) (x : ℕ) → AllByRecursion (λ (p : ℕ × ℕ). p.0 ≡ key → P p.1) ps → lookup key ps ≡ Some x → P x
 of_key P key [] x all is = absurd (none_some is)
-of_key P key (p ∷ ps) x all is = by_test (λ its. of_key P key ps x all.1 its) (p.0 == key) refl is
+of_key P key (p ∷ ps) x all is = by_test (p.0 == key) refl is (of_key P key ps x all.1)
   where
-    by_test : (lookup key ps ≡ Some x → P x) → (t : Bool) → (p.0 == key) ≡ t → (if t then Some p.1 else lookup key ps) ≡ Some x → P x
-    by_test rest true e its = subst P (some_is its) (all.0 (eqb-true p.0 key e))
-    by_test rest false e its = rest its
+    by_test : (t : Bool) → (p.0 == key) ≡ t → (if t then Some p.1 else lookup key ps) ≡ Some x → (lookup key ps ≡ Some x → P x) → P x
+    by_test true e its rest = subst P (some_is its) (all.0 (eqb-true p.0 key e))
+    by_test false e its rest = rest its
 
 module _ {Dir : Type 0} (c : Fixed Dir) (st : Live Dir) (pairs : Pairs) (same : st.records.dealings ≡ maps.entries pairs) where
   -- These dealings are recorded, and none else but what it deals to itself.

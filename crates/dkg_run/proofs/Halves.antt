@@ -119,153 +119,6 @@ wants_speaks {S} course its is out now same =
     subst (λ (l : List Line). Speaks course (by_node_stop its) out l) (sym same)
     (subst (λ (s : Stop). Speaks course (by_node_stop s) out out) (sym is) (λ h f. breaks_none by_want tt (on_devices course) (world_of out h f)))
 
--- A BLOCK of the epoch that was entered
-
-module _ (c : Fixed directory.Unit) (b : Block directory.Unit) (epoch : ℕ) (st : Live directory.Unit) (half : Half) (fence : Readiness) (has : HasHalf half st) (may : MayGoOn c fence b epoch st) where
-  abbrev its_last : ℕ
-  its_last = last c.blocks_per_epoch epoch
-
-  abbrev course : Course directory.Unit NodeStop (core.Half directory.Unit)
-  course = delivered_in c b st (Some epoch)
-
-  abbrev in_tests : (over low : Bool) → Course directory.Unit NodeStop (core.Half directory.Unit)
-  in_tests over low =
-      if over then Stops (Faulted (SkippedHeight its_last b.height)) else if low then leaves st.orchestrator Acknowledges st else enters_at c b (epoch + 1) (Some b.height) st
-
-  in_case : (over low : Bool) → nat_lt its_last b.height ≡ over → nat_lt b.height its_last ≡ low → in_tests over low ≡ course
-  in_case over low e f = λ i. in_tests (sym e i) (sym f i)
-
-  is_over : (n m : ℕ) → n < m → nat_lt n m ≡ true
-  is_over n m low = grind (arith, nat_tests, low)
-
-  not_over : (n m : ℕ) → n ≤ m → nat_lt m n ≡ false
-  not_over n m low = grind (arith, nat_tests, low)
-
-  -- above its last one
-  pub skips : its_last < b.height → (out : List Line) → Speaks course (by_node_stop (stop.Fault (SkippedHeight its_last b.height))) out out
-  skips over out =
-      subst (λ (a : Course directory.Unit NodeStop (core.Half directory.Unit)). Speaks a (by_node_stop (stop.Fault (SkippedHeight its_last b.height))) out out)
-      (in_case true false (is_over its_last b.height over) (not_over its_last b.height (below its_last b.height over))) (λ h f. (refl, refl))
-    where
-      below : (n m : ℕ) → n < m → n ≤ m
-      below n m low = omega (arith, low)
-
-  same_half : with_half half fence st ≡ st
-  same_half = λ i.
-      with_orchestrator (record st.orchestrator {
-      fence = sym may.fence_is i; entered = sym has.entered i; halted = sym has.halted i; waiting = sym has.unawaited i }) st
-
-  -- below it
-  pub stays : b.height < its_last → (out : List Line) → Speaks course (went (record { live = with_half half fence st; answer = Acknowledges })) out out
-  stays low out =
-      subst (λ (a : Course directory.Unit NodeStop (core.Half directory.Unit)). Speaks a (went (record { live = with_half half fence st; answer = Acknowledges })) out out)
-      (in_case false true (not_over b.height its_last (below b.height its_last low)) (is_over b.height its_last low))
-      (λ h f. (refl, ap (λ (s : Live directory.Unit). record { live = s; answer = Acknowledges }) same_half))
-    where
-      below : (n m : ℕ) → n < m → n ≤ m
-      below n m low = omega (arith, low)
-
-  -- the last one
-  module _ (at_last : b.height ≡ its_last) where
-    abbrev beginning_by : Option (EpochInfo directory.Unit) → Course directory.Unit NodeStop (core.Half directory.Unit)
-    beginning_by found =
-        option_map_or
-        (λ info. if info.epoch == epoch + 1 then enters c (record { epoch = epoch + 1; info = info; floor = Genesis b.digest; block = Some b.height }) st else Stops (Faulted (WrongEpoch (epoch + 1) info.epoch)))
-        found (Stops (Faulted (MissingEpochInfo b.height)))
-
-    abbrev stops_by : Fault → Course directory.Unit NodeStop (core.Half directory.Unit)
-    stops_by its = Stops (Faulted its)
-
-    abbrev judged_by : Option (EpochInfo directory.Unit) → Result (Unit {0}) Fault
-    judged_by found = option_map_or (λ info. if info.epoch == epoch + 1 then Ok tt else Err (WrongEpoch (epoch + 1) info.epoch)) found (Err (MissingEpochInfo b.height))
-
-    in_last : enters_at c b (epoch + 1) (Some b.height) st ≡ course
-    in_last = in_case false false (not_over b.height its_last (level b.height its_last at_last)) (not_over its_last b.height (level its_last b.height (sym at_last)))
-      where
-        level : (n m : ℕ) → n ≡ m → n ≤ m
-        level n m is = omega (arith, is)
-
-    the_fault : (one two : Fault) → ◌≡◌ {A = Result (Unit {0}) Fault} (Err one) (Err two) → one ≡ two
-    the_fault one two e = cc
-
-    ok_apart : (its : Fault) → ◌≡◌ {A = Result (Unit {0}) Fault} (Ok tt) (Err its) → ⊥
-    ok_apart its e = cc
-
-    -- it doesn't begin the next epoch
-    pub begins_none : (its : Fault) → beginning_of b (epoch + 1) ≡ Err its → (out : List Line) → Speaks course (by_node_stop (stop.Fault its)) out out
-    begins_none its is out = subst (λ (a : Course directory.Unit NodeStop (core.Half directory.Unit)). Speaks a (by_node_stop (stop.Fault its)) out out) in_last (by_found (info_of b.payload) is)
-      where
-        in_fault : (found : Option (EpochInfo directory.Unit)) (own : Fault) → own ≡ its → Speaks (beginning_by found) (by_node_stop (stop.Fault own)) out out → Speaks (beginning_by found) (by_node_stop (stop.Fault its)) out out
-        in_fault found own same = subst (λ (x : Fault). Speaks (beginning_by found) (by_node_stop (stop.Fault x)) out out) same
-
-        by_test : (info : EpochInfo directory.Unit) (t : Bool) → ◌≡◌ {A = Result (Unit {0}) Fault} (if t then Ok tt else Err (WrongEpoch (epoch + 1) info.epoch)) (Err its)
-            → Speaks (if t then enters c (record { epoch = epoch + 1; info = info; floor = Genesis b.digest; block = Some b.height }) st else Stops (Faulted (WrongEpoch (epoch + 1) info.epoch))) (by_node_stop (stop.Fault its)) out out
-        by_test info true e = absurd (ok_apart its e)
-        by_test info false e =
-            subst (λ (x : Fault). Speaks (stops_by (WrongEpoch (epoch + 1) info.epoch)) (by_node_stop (stop.Fault x)) out out) (the_fault (WrongEpoch (epoch + 1) info.epoch) its e) (λ h f. (refl, refl))
-
-        by_found : (found : Option (EpochInfo directory.Unit)) → judged_by found ≡ Err its → Speaks (beginning_by found) (by_node_stop (stop.Fault its)) out out
-        by_found None e = in_fault None (MissingEpochInfo b.height) (the_fault (MissingEpochInfo b.height) its e) (λ h f. (refl, refl))
-        by_found (Some info) e = by_test info (info.epoch == epoch + 1) e
-
-    -- it does, and the fence is ready
-    module _ (going : half.halted ≡ false) (begins : beginning_of b (epoch + 1) ≡ Ok tt) (ready : is_ready fence.ready (epoch + 1) ≡ true) where
-      abbrev next_half : Half
-      next_half = record { entered = Some (epoch + 1); halted = false }
-
-      abbrev entered : core.Half directory.Unit
-      entered = record { live = with_half next_half (waited (epoch + 1) waits.Ready fence) st; answer = Acknowledges }
-
-      abbrev Says : Course directory.Unit NodeStop (core.Half directory.Unit) → Type 0
-      Says a = (out : List Line) → Speaks a (went entered) out (out ++ Entered (epoch + 1) ∷ [])
-
-      abbrev asked : Orchestrator directory.Unit
-      asked = record st.orchestrator { fence = waited (epoch + 1) waits.Ready st.orchestrator.fence }
-
-      module _ (info : EpochInfo directory.Unit) where
-        abbrev waiting : Waiting directory.Unit
-        waiting = record { epoch = epoch + 1; info = info; floor = Genesis b.digest; block = Some b.height }
-
-        left_so : entered ≡ record { live = with_orchestrator (core.with_entered (epoch + 1) asked) st; answer = Acknowledges }
-        left_so = λ i. record {
-          live = with_orchestrator (record st.orchestrator { fence = waited (epoch + 1) waits.Ready (sym may.fence_is i); entered = Some (epoch + 1); halted = sym (has.halted ∙ going) i; waiting = None }) st;
-          answer = Acknowledges;
-        }
-
-        stops : (old : Option ℕ) → Says (stops_engine old (Say (Entered (epoch + 1)) (leaves (core.with_entered (epoch + 1) asked) Acknowledges st)))
-        stops None out = λ h f. (refl, left_so)
-        stops (Some own) out = λ h f. (refl, left_so)
-
-        starts : (found : Option SchemeInfo) → IsSome found → Says (starts_engine asked waiting found st)
-        starts None some = absurd (let no : ◌≡◌ {A = Bool} false true = some in cc)
-        starts (Some scheme) some = stops st.orchestrator.entered
-
-        tracks : (lacking : Option ℕ) → lacking ≡ None → Says (tracks_peers asked waiting lacking st)
-        tracks None is = starts (lookup (epoch + 1) st.orchestrator.schemes) (may.registered at_last)
-        tracks (Some peer) is = absurd (let wrong : ◌≡◌ {A = Option ℕ} (Some peer) None = is in cc)
-
-        answered : wait_for st.orchestrator.fence (epoch + 1) ≡ waits.Ready
-        answered =
-            ap (λ (t : Bool). if t then waits.Ready else if st.orchestrator.fence.closed then waits.Closed else waits.Pending)
-            (ap (λ (x : Readiness). is_ready x.ready (epoch + 1)) may.fence_is ∙ ready)
-
-        entering : Says (enters c waiting st)
-        entering =
-            subst (λ (answer : Waited). Says (waited_for c (record st.orchestrator { fence = waited (epoch + 1) answer st.orchestrator.fence }) waiting answer st)) (sym answered)
-            (tracks (c.directories.lacking info.directory (core.peers_for waiting)) (may.lacks info.directory (core.peers_for waiting)))
-
-      pub enters_next : Says course
-      enters_next out = subst (λ (a : Course directory.Unit NodeStop (core.Half directory.Unit)). Speaks a (went entered) out (out ++ Entered (epoch + 1) ∷ [])) in_last (by_found (info_of b.payload) begins out)
-        where
-          by_test : (info : EpochInfo directory.Unit) (t : Bool) → ◌≡◌ {A = Result (Unit {0}) Fault} (if t then Ok tt else Err (WrongEpoch (epoch + 1) info.epoch)) (Ok tt)
-              → Says (if t then enters c (record { epoch = epoch + 1; info = info; floor = Genesis b.digest; block = Some b.height }) st else Stops (Faulted (WrongEpoch (epoch + 1) info.epoch)))
-          by_test info true e = entering info
-          by_test info false e = absurd (ok_apart (WrongEpoch (epoch + 1) info.epoch) (sym e))
-
-          by_found : (found : Option (EpochInfo directory.Unit)) → judged_by found ≡ Ok tt → Says (beginning_by found)
-          by_found None e = absurd (ok_apart (MissingEpochInfo b.height) (sym e))
-          by_found (Some info) e = by_test info (info.epoch == epoch + 1) e
-
 -- ANY BLOCK, where the half waits for nothing
 
 module _ (c : Fixed directory.Unit) (b : Block directory.Unit) (st : Live directory.Unit) (half : Half) (has : HasHalf half st) where
@@ -293,17 +146,6 @@ module _ (c : Fixed directory.Unit) (b : Block directory.Unit) (st : Live direct
           by_test true = refl
           by_test false = refl
 
-  -- an inactive half says nothing
-  pub withholds : (fence : Readiness) → st.orchestrator.fence ≡ fence → (if half.halted then None else half.entered) ≡ None → (out : List Line)
-      → Speaks (bind (delivered c b st) answers) (went (with_half half fence st)) out out
-  withholds fence fence_is none out =
-      subst (λ (a : Course directory.Unit NodeStop (Live directory.Unit)). Speaks a (went (with_half half fence st)) out out) (in_epoch None none) (λ h f. (refl, same))
-    where
-      same : with_half half fence st ≡ with_orchestrator st.orchestrator st
-      same = λ i.
-          with_orchestrator (record st.orchestrator {
-          fence = sym fence_is i; entered = sym has.entered i; halted = sym has.halted i; waiting = sym has.unawaited i }) st
-
   module _ (epoch : ℕ) (is : (if half.halted then None else half.entered) ≡ Some epoch) where
     -- an active one stops
     pub stops_so : (its : Stop) (out now : List Line) → Speaks (delivered_in c b st (Some epoch)) (by_node_stop its) out now → Speaks (bind (delivered c b st) answers) (by_node_stop its) out now
@@ -311,20 +153,24 @@ module _ (c : Fixed directory.Unit) (b : Block directory.Unit) (st : Live direct
         subst (λ (x : Course directory.Unit NodeStop (Live directory.Unit)). Speaks x (by_node_stop its) out now) (in_epoch (Some epoch) is) (early_speaks (delivered_in c b st (Some epoch)) answers its out now a)
 
     -- .. or went on, and the block is acknowledged
-    pub acks : (end : Live directory.Unit) (out mid : List Line) → Speaks (delivered_in c b st (Some epoch)) (went (record { live = end; answer = Acknowledges })) out mid
+    acks : (end : Live directory.Unit) (out mid : List Line) → Speaks (delivered_in c b st (Some epoch)) (went (record { live = end; answer = Acknowledges })) out mid
         → (how : Ended NodeStop (Live directory.Unit)) (now : List Line) → Speaks (says_acked end) how mid now → Speaks (bind (delivered c b st) answers) how out now
-    acks end out mid a how now b =
+    acks end out mid a how now more =
         subst (λ (x : Course directory.Unit NodeStop (Live directory.Unit)). Speaks x how out now) (in_epoch (Some epoch) is)
-        (then_speaks (delivered_in c b st (Some epoch)) answers (record { live = end; answer = Acknowledges }) how out mid now a b)
+        (then_speaks (delivered_in c b st (Some epoch)) answers (record { live = end; answer = Acknowledges }) how out mid now a more)
 
--- THE EPOCHS that a half enters
+    module _ (end : Live directory.Unit) (out mid : List Line) (went_on : Speaks (delivered_in c b st (Some epoch)) (went (record { live = end; answer = Acknowledges })) out mid) where
+      pub acks_wanted : (now : List Line) → now ≡ mid → Speaks (bind (delivered c b st) answers) (by_node_stop (stop.Fault NoMemory)) out now
+      acks_wanted now same = acks end out mid went_on (by_node_stop (stop.Fault NoMemory)) now (wants_speaks (says_acked end) (stop.Fault NoMemory) refl mid now same)
 
--- an epoch whose last height is a number of 64 bits is one
-pub next_within : (n epoch : ℕ) → 1 ≤ n → last n (epoch + 1) < 2 ^ 64 → epoch + 1 < 2 ^ 64
-next_within n epoch some low = small (epoch + 1) ((epoch + 1) * n) n (2 ^ 64) some (grows (epoch + 1) n some) low
-  where
-    small : (e product n most : ℕ) → 1 ≤ n → e ≤ product → product + n - 1 < most → e < most
-    small e product n most some up low = omega (arith, some, up, low)
+      pub acks_said : (height : ℕ) → height ≡ b.height → (now : List Line) → now ≡ mid ++ Acked height ∷ [] → Speaks (bind (delivered c b st) answers) (went end) out now
+      acks_said height is now told =
+          acks end out mid went_on (went end) now (λ h f. (ap (λ (l : List Line). world_of l h f) (told ∙ ap (λ (n : ℕ). mid ++ Acked n ∷ []) is), refl))
 
-    grows : (m n : ℕ) → 1 ≤ n → m ≤ m * n
-    grows m n some = le-mul_of_pos_right m (omega (arith, some))
+    -- it is active
+    pub is_going : (half.halted ≡ false) × (half.entered ≡ Some epoch)
+    is_going = by_test half.halted refl is
+      where
+        by_test : (t : Bool) → half.halted ≡ t → (if t then None else half.entered) ≡ Some epoch → (half.halted ≡ false) × (half.entered ≡ Some epoch)
+        by_test true e none = absurd (let wrong : ◌≡◌ {A = Option ℕ} None (Some epoch) = none in cc)
+        by_test false e its = (e, its)

@@ -489,7 +489,7 @@ module _ (s : Setting) (ends : List (Option CutAt)) (l : ℕ) (life : Life) (see
                 let same_epoch : e (suc i) ≡ e i = sym now_is ∙ was_is in
                 elim (gives_no_other (c (suc i)) st block w going.carries.half.agreed block_can ended new block_run (e (suc i), dealer) pair got) [
                   | inl was ↦ going.carries.half.valid round dealer pair before (sym (goes.same).seat ∙ sym (ap (λ (x : Participation U). x.seat) part) ∙ plays) small
-                    (subst (λ (x : ℕ). get (recovered_in w.held) (x, dealer) ≡ Some pair) same_epoch was)
+                      (subst (λ (x : ℕ). get (recovered_in w.held) (x, dealer) ≡ Some pair) same_epoch was)
                   | inr own ↦ own_passes round dealer pair before own
                 ]
               where

@@ -1,8 +1,9 @@
 -- The line of an epoch among lines whose epochs rise.
-use Rattle.std.proofs.Common.{◌≡◌, ◌<◌, ◌≤◌, ℕ, zero, suc, Bool, true, false, List, [], ◌∷◌, length, Option, Some, None, refl, sym, ◌∙◌, ap, subst, arith, ltb, lt-ltb, ltb-true}
+use Rattle.std.proofs.Common.{◌≡◌, ◌<◌, ◌≤◌, ℕ, zero, suc, Bool, true, false, List, [], ◌∷◌, length, ◌⊎◌, inl, inr, Option, Some, None, refl, sym, ◌∙◌, ap, subst, arith, ltb, lt-ltb, ltb-true}
 use Rattle.std.specs.Prelude.{◌==◌, ◌&&◌, find, nat_lt, slice_get, slice_index_or, if◌then◌else◌}
 use Rattle.std.specs.List.Sorted.{IsPartitionPoint, IsPartitionedBy}
 use Rattle.std.proofs.lemmas.Bool.Decides.{nat_tests}
+use Rattle.std.proofs.lemmas.Option.{slice_get_cases}
 use Rattle.dkg_values.specs.Rising.{rises, rises_after}
 use Rattle.dkg_text.specs.declared.script.PlayerLine.{PlayerLine}
 use Rattle.dkg_script.specs.Players.{epochs_of}
@@ -42,6 +43,9 @@ from_test n m e = by_le n m e
   where
     by_le : (n m : ℕ) → ltb n m ≡ false → m ≤ n
     by_le n m e = grind (arith, nat_tests)
+
+pub same_epoch : (n m : ℕ) → (n == m) ≡ true → n ≡ m
+same_epoch n m e = grind (arith, nat_tests)
 
 -- the epochs behind one lie above it
 later_up : (x : ℕ) (ys : List PlayerLine) → rises_after x (epochs_of ys) ≡ true → (j : ℕ) (d : PlayerLine) → j < length ys → x < (slice_index_or ys j d).epoch
@@ -132,3 +136,22 @@ none_at epoch (x ∷ xs) up zero place other =
     ∙ none_later epoch x.epoch xs up (from_test x.epoch epoch (place.1 0 x (omega arith) (omega arith)))
 none_at epoch (x ∷ xs) up (suc i) place other =
     ap (λ (t : Bool). if t then Some x else find (λ line. line.epoch == epoch) xs) (head_low epoch x xs i place) ∙ none_at epoch xs (tail_up x xs up) i (tail_place epoch x xs i place) other
+
+-- WHAT IS NO LINE of an epoch
+
+pub none_other : (epoch : ℕ) (xs : List PlayerLine) (i : ℕ) (line : PlayerLine) → slice_get xs i ≡ Some line → (line.epoch == epoch) ≡ false → (own : PlayerLine) → slice_get xs i ≡ Some own → own.epoch ≡ epoch → ⊥
+none_other epoch xs i line is other own its same =
+    apart_bools (line.epoch == epoch) (are_equal line.epoch epoch (ap (λ (l : PlayerLine). l.epoch) (the_line line own (sym is ∙ its)) ∙ same)) other
+  where
+    the_line : (a b : PlayerLine) → ◌≡◌ {A = Option PlayerLine} (Some a) (Some b) → a ≡ b
+    the_line a b e = cc
+
+pub none_past : (epoch : ℕ) (xs : List PlayerLine) (i : ℕ) → nat_lt i (length xs) ≡ false → (own : PlayerLine) → slice_get xs i ≡ Some own → own.epoch ≡ epoch → ⊥
+none_past epoch xs i past own its same = either (slice_get_cases xs i).1
+  where
+    is_past : (n m : ℕ) → n < m → nat_lt n m ≡ true
+    is_past n m low = grind (arith, nat_tests, low)
+
+    either : ((x : PlayerLine) × (i < length xs) × (slice_get xs i ≡ Some x) × (slice_index_or xs i x ≡ x)) ⊎ ((length xs ≤ i) × (slice_get xs i ≡ None)) → ⊥
+    either (inl at) = apart_bools (nat_lt i (length xs)) (is_past i (length xs) at.1) past
+    either (inr none) = let wrong : ◌≡◌ {A = Option PlayerLine} None (Some own) = sym none.1 ∙ its in cc

@@ -19,7 +19,7 @@ use Rattle.dkg_core.specs.LogsRecorded.{first_of_both}
 use Rattle.dkg_core.specs.NodeThrough.{IsNodeThrough}
 use Rattle.dkg_core.specs.Setup.{begins_inclusion, records_from}
 use Rattle.dkg_core.specs.Stepping.{IsHeardBy, dealt_behind, given_itself, next_epoch, with_taken}
-use Rattle.dkg_core.specs.Through.{IsAppliedThrough, IsBlockThrough, IsFollowedThrough, IsIncludedThrough, IsNextThrough, IsPassedOn, IsReadFrom, asked_by, included, observed, waits_for}
+use Rattle.dkg_core.specs.Through.{IsAppliedThrough, IsBlockThrough, IsFollowedThrough, IsIncludedThrough, IsNextThrough, IsPassedOn, IsReadFrom, asked_by, observed, waits_for}
 use Rattle.dkg_core.proofs.Observing.{observes_first, observes_nothing_else}
 use Rattle.dkg_core.proofs.StepDealing.{given_same}
 

@@ -281,16 +281,16 @@ module _ (s : Setting) (cuts : List (Option CutAt)) (form : IsFormOfInclusion s.
         let same : end.participation ≡ (led.mid).participation = ap (λ (x : Live directory.Unit). x.participation) led.same in
         let low : (round : Round) → (led.mid).participation.round ≡ Some round → epoch_by g (suc i) - 1 ≤ round.number
         = λ round of. upto round.number (epoch_by g (suc i)) (((led.next).live).stands.numbered round of ∙ ap (λ (p : Participation directory.Unit). p.epoch) (sym same)
-            ∙ (at.stands).epoch (λ follows. with_round (at_step g (suc i)) (unasked led.mid) round ((led.next).live).stands of (ap (λ (p : Participation directory.Unit). p.stage) (sym same) ∙ follows))) in
+        ∙ (at.stands).epoch (λ follows. with_round (at_step g (suc i)) (unasked led.mid) round ((led.next).live).stands of (ap (λ (p : Participation directory.Unit). p.stage) (sym same) ∙ follows))) in
         let behind : DealsStored (at_step g (suc i)).me led.mid new.held
         = step_stored (at_step g (suc i)) (rules_at (suc i)) (reads_at (suc i)) any_shares (form_at g here (suc i)) st m.message w.held new.held led.mid live led.next
-            (subst (λ (n : ℕ). DealsStored n st w.held) (sym (me_at (suc i))) standing.deals) (λ round of seed got. held round.number seed (low round of) got) in
+        (subst (λ (n : ℕ). DealsStored n st w.held) (sym (me_at (suc i))) standing.deals) (λ round of seed got. held round.number seed (low round of) got) in
         record {
           at = at;
           rounds = step_round s cuts form consistent l life seen files life_is i its is reached m st live (Some w.held) end (Some new.held) (form_at g here (suc i)) led standing.rounds;
           deals = λ d there. subst (λ (n : ℕ). IsStoredDealer n end d new.held) (me_at (suc i))
-            (stored_on (at_step g (suc i)).me led.mid end d d new.held new.held (ap (λ (p : Participation directory.Unit). p.round) same) refl refl (λ round of seed is. is)
-            (behind d (sym (ap (λ (p : Participation directory.Unit). p.dealer) same) ∙ there)));
+              (stored_on (at_step g (suc i)).me led.mid end d d new.held new.held (ap (λ (p : Participation directory.Unit). p.round) same) refl refl (λ round of seed is. is)
+              (behind d (sym (ap (λ (p : Participation directory.Unit). p.dealer) same) ∙ there)));
         }
       where
         upto : (a b : ℕ) → a ≡ b → b - 1 ≤ a

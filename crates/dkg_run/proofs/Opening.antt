@@ -122,12 +122,12 @@ module _ (n : Node) (c : Fixed directory.Unit) (reshare_is : c.oneshot ≡ None)
     opened_view = record {
       life = life;
       beside = record {
-          inclusion = now.inclusion;
-          orchestrator = record now.orchestrator { entered = n.half.entered; halted = n.half.halted; waiting = None };
-          probe = now.probe;
-        };
-        lives = lives;
-        living = living;
+        inclusion = now.inclusion;
+        orchestrator = record now.orchestrator { entered = n.half.entered; halted = n.half.halted; waiting = None };
+        probe = now.probe;
+      };
+      lives = lives;
+      living = living;
       is = refl;
       half = record { entered = refl; halted = refl; unawaited = refl };
     }

@@ -1,6 +1,6 @@
 -- Over devices that are valid for a consistent script a setup stops neither by this node's share nor by a dealing that is given back, and this node deals what it dealt.
-use Rattle.std.proofs.Common.{◌≡◌, ℕ, ◌==◌, ◌&&◌, ◌<◌, ◌^◌, List, [], ◌∷◌, Option, Some, None, Ok, Err, Bool, true, false, cond, arith, refl, sym, ap, subst, ◌∙◌, filter, nat_lt, length}
-use Rattle.std.specs.Prelude.{◌||◌, not, is_none, is_some, IfOk, IsSomeAnd, Result, if◌then◌else◌}
+use Rattle.std.proofs.Common.{◌≡◌, ℕ, ◌==◌, ◌&&◌, ◌<◌, ◌^◌, List, [], ◌∷◌, Option, Some, None, Ok, Err, Bool, true, false, cond, arith, refl, sym, ap, subst, ◌∙◌, filter, nat_lt}
+use Rattle.std.specs.Prelude.{◌||◌, is_none, is_some, IfOk, IsSomeAnd, Result, if◌then◌else◌}
 use Rattle.std.specs.FinMap as maps
 use Rattle.std.specs.FinMap.{entries as pairs_in, entries_sorted, find, get, get-entries}
 use Rattle.std.specs.List.{AllByRecursion}

@@ -299,11 +299,11 @@ module _ (g : Lived) (here : IsLifeInForm g) (i : ℕ) (its : Event) (is : slice
     same = held.same;
     stands = stands_more r.number g.life i its is ∙ ap (λ (s : Standing). turns r.number s its) held.stands ∙ (spares r.ended).0;
     fed = held.fed ∙ sym (
-      fed_more r.number g.life i its is g.script
-      ∙ ap (λ (s : Standing). fed_in g.script g.life r.number i ++ numbered (blocks_in g.script) (adds r.number s its)) held.stands
-      ∙ ap (λ (ns : List ℕ). fed_in g.script g.life r.number i ++ numbered (blocks_in g.script) ns) (spares r.ended).1
-      ∙ append-nil (fed_in g.script g.life r.number i)
-    );
+        fed_more r.number g.life i its is g.script
+        ∙ ap (λ (s : Standing). fed_in g.script g.life r.number i ++ numbered (blocks_in g.script) (adds r.number s its)) held.stands
+        ∙ ap (λ (ns : List ℕ). fed_in g.script g.life r.number i ++ numbered (blocks_in g.script) ns) (spares r.ended).1
+        ∙ append-nil (fed_in g.script g.life r.number i)
+        );
   }
 
   all_on : (rs : List (Request U)) → ((number : ℕ) → Spares its number) → AllByRecursion (IsHeld g e i) rs → AllByRecursion (IsHeld g e (suc i)) rs
@@ -323,11 +323,11 @@ module _ (g : Lived) (here : IsLifeInForm g) (i : ℕ) (its : Event) (is : slice
         same = held.same;
         stands = stands_more r.number g.life i its is ∙ ap (λ (s : Standing). turns r.number s its) (held.stands ∙ ap stands_as ended) ∙ ap (turns r.number Closed) of ∙ sym (ap stands_as ended);
         fed = held.fed ∙ sym (
-          fed_more r.number g.life i its is g.script
-          ∙ ap (λ (s : Standing). fed_in g.script g.life r.number i ++ numbered (blocks_in g.script) (adds r.number s its)) (held.stands ∙ ap stands_as ended)
-          ∙ ap (λ (x : Event). fed_in g.script g.life r.number i ++ numbered (blocks_in g.script) (adds r.number Closed x)) of
-          ∙ append-nil (fed_in g.script g.life r.number i)
-        );
+            fed_more r.number g.life i its is g.script
+            ∙ ap (λ (s : Standing). fed_in g.script g.life r.number i ++ numbered (blocks_in g.script) (adds r.number s its)) (held.stands ∙ ap stands_as ended)
+            ∙ ap (λ (x : Event). fed_in g.script g.life r.number i ++ numbered (blocks_in g.script) (adds r.number Closed x)) of
+            ∙ append-nil (fed_in g.script g.life r.number i)
+            );
       }
 
       still_open : r.ended ≡ false → IsHeld g e (suc i) (record r { blocks = r.blocks ++ b ∷ [] })
@@ -338,11 +338,11 @@ module _ (g : Lived) (here : IsLifeInForm g) (i : ℕ) (its : Event) (is : slice
         same = held.same;
         stands = stands_more r.number g.life i its is ∙ ap (λ (s : Standing). turns r.number s its) (held.stands ∙ ap stands_as ended) ∙ ap (turns r.number Open) of ∙ sym (ap stands_as ended);
         fed = ap (λ (bs : List (Block U)). bs ++ b ∷ []) held.fed ∙ sym (
-          fed_more r.number g.life i its is g.script
-          ∙ ap (λ (s : Standing). fed_in g.script g.life r.number i ++ numbered (blocks_in g.script) (adds r.number s its)) (held.stands ∙ ap stands_as ended)
-          ∙ ap (λ (x : Event). fed_in g.script g.life r.number i ++ numbered (blocks_in g.script) (adds r.number Open x)) of
-          ∙ ap (λ (bs : List (Block U)). fed_in g.script g.life r.number i ++ bs) (adds_block r.number (blocks_in g.script) number b there)
-        );
+            fed_more r.number g.life i its is g.script
+            ∙ ap (λ (s : Standing). fed_in g.script g.life r.number i ++ numbered (blocks_in g.script) (adds r.number s its)) (held.stands ∙ ap stands_as ended)
+            ∙ ap (λ (x : Event). fed_in g.script g.life r.number i ++ numbered (blocks_in g.script) (adds r.number Open x)) of
+            ∙ ap (λ (bs : List (Block U)). fed_in g.script g.life r.number i ++ bs) (adds_block r.number (blocks_in g.script) number b there)
+            );
       }
 
       by_ended : (t : Bool) → r.ended ≡ t → IsHeld g e (suc i) (if t then r else record r { blocks = r.blocks ++ b ∷ [] })
@@ -358,12 +358,12 @@ module _ (g : Lived) (here : IsLifeInForm g) (i : ℕ) (its : Event) (is : slice
     same = held.same;
     stands = stands_more r.number g.life i its is ∙ ap (λ (s : Standing). turns r.number s its) held.stands ∙ ap (turns r.number (stands_as r.ended)) of ∙ over r.ended;
     fed = held.fed ∙ sym (
-      fed_more r.number g.life i its is g.script
-      ∙ ap (λ (s : Standing). fed_in g.script g.life r.number i ++ numbered (blocks_in g.script) (adds r.number s its)) held.stands
-      ∙ ap (λ (x : Event). fed_in g.script g.life r.number i ++ numbered (blocks_in g.script) (adds r.number (stands_as r.ended) x)) of
-      ∙ ap (λ (ns : List ℕ). fed_in g.script g.life r.number i ++ numbered (blocks_in g.script) ns) (adds_none r.ended)
-      ∙ append-nil (fed_in g.script g.life r.number i)
-    );
+        fed_more r.number g.life i its is g.script
+        ∙ ap (λ (s : Standing). fed_in g.script g.life r.number i ++ numbered (blocks_in g.script) (adds r.number s its)) held.stands
+        ∙ ap (λ (x : Event). fed_in g.script g.life r.number i ++ numbered (blocks_in g.script) (adds r.number (stands_as r.ended) x)) of
+        ∙ ap (λ (ns : List ℕ). fed_in g.script g.life r.number i ++ numbered (blocks_in g.script) ns) (adds_none r.ended)
+        ∙ append-nil (fed_in g.script g.life r.number i)
+        );
   }
     where
       itself : (a : ℕ) → (a == a) ≡ true

@@ -1,5 +1,5 @@
 -- FITTING SHARES: each share that is committed is this node's in the output that its epoch's info carries; and behind an epoch that the node takes part in it stands exactly where it can.
-use Rattle.std.specs.Prelude.{ℕ, ◌≡◌, ◌+◌, ◌-◌, ◌⊎◌, ◌↔◌, ◌++◌, ◌∷◌, Bool, true, false, Contains, List, Option, Some, None, IsSome, IsSomeAnd, IfSome, IsTrue, IsFalse, length}
+use Rattle.std.specs.Prelude.{ℕ, ◌≡◌, ◌+◌, ◌-◌, ◌⊎◌, ◌↔◌, ◌++◌, ◌∷◌, Bool, true, false, Contains, List, Option, Some, IsSome, IsSomeAnd, IfSome, IsFalse, length}
 use Rattle.std.specs.FinMap.{get}
 use Rattle.std.specs.List.{list_any}
 use Rattle.dkg_ceremony.specs.PartialPublics.{partial_public_of, share_public_of}

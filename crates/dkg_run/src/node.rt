@@ -307,7 +307,10 @@ impl<'a> Node<'a> {
                 None => unreachable!(),
             },
             Event::Next { request, height } => {
-                let message = Message::NextLog { request: *request, height: *height };
+                let message = Message::NextLog {
+                    request: *request,
+                    height: *height,
+                };
                 self.send(alloc, source, message, devices, out)
             }
             Event::Release { height } => {

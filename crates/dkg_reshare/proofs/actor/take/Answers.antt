@@ -139,14 +139,14 @@ returns-in-NextLog-clause-fit g c = λ told fit. fit
 pub returns-in-ReleaseLog-clause-acts : goal.returns-in-ReleaseLog-clause-acts
 returns-in-ReleaseLog-clause-acts g c = λ disk secrets provided fixed beside of reads by provides seen.
     rw c.in-ReleaseLog.is (none_with beside _ _ _ (record beside { inclusion = (including.releases c.in-ReleaseLog.height (live_of beside c.args.fence.now c.args.life.now)).inclusion }).inclusion (c.release.ensures.released beside c.args.fence.now seen) (took_none g.R.Registrar.tells (g.R.Registrar.taken c.args.registrar.now))
-    (speaks_makes (Goes (including.releases c.in-ReleaseLog.height (live_of beside c.args.fence.now c.args.life.now))) (went (live_of (record beside { inclusion = (including.releases c.in-ReleaseLog.height (live_of beside c.args.fence.now c.args.life.now)).inclusion }) c.args.fence.now c.args.life.now)) _ _
-    (goes_speaks (Goes (including.releases c.in-ReleaseLog.height (live_of beside c.args.fence.now c.args.life.now))) (live_of (record beside { inclusion = (including.releases c.in-ReleaseLog.height (live_of beside c.args.fence.now c.args.life.now)).inclusion }) c.args.fence.now c.args.life.now) (including.releases c.in-ReleaseLog.height (live_of beside c.args.fence.now c.args.life.now)) refl (released_live c.in-ReleaseLog.height beside c.args.fence.now c.args.life.now) c.args.out.now.entries)))
+    (speaks_makes {Dir = g.row.Dir.Denot} (Goes (including.releases c.in-ReleaseLog.height (live_of beside c.args.fence.now c.args.life.now))) (went (live_of (record beside { inclusion = (including.releases c.in-ReleaseLog.height (live_of beside c.args.fence.now c.args.life.now)).inclusion }) c.args.fence.now c.args.life.now)) _ _
+    (goes_speaks {Dir = g.row.Dir.Denot} (Goes (including.releases c.in-ReleaseLog.height (live_of beside c.args.fence.now c.args.life.now))) (live_of (record beside { inclusion = (including.releases c.in-ReleaseLog.height (live_of beside c.args.fence.now c.args.life.now)).inclusion }) c.args.fence.now c.args.life.now) (including.releases c.in-ReleaseLog.height (live_of beside c.args.fence.now c.args.life.now)) refl (released_live c.in-ReleaseLog.height beside c.args.fence.now c.args.life.now) c.args.out.now.entries)))
 
 pub returns-in-ReleaseLog-clause-tells : goal.returns-in-ReleaseLog-clause-tells
 returns-in-ReleaseLog-clause-tells g c = λ provided fixed beside of reads by provides seen.
     rw c.in-ReleaseLog.is (none_with beside _ _ _ (record beside { inclusion = (including.releases c.in-ReleaseLog.height (live_of beside c.args.fence.now c.args.life.now)).inclusion }).inclusion (c.release.ensures.released beside c.args.fence.now seen) (took_none g.R.Registrar.tells (g.R.Registrar.taken c.args.registrar.now))
-    (speaks_tells (Goes (including.releases c.in-ReleaseLog.height (live_of beside c.args.fence.now c.args.life.now))) (went (live_of (record beside { inclusion = (including.releases c.in-ReleaseLog.height (live_of beside c.args.fence.now c.args.life.now)).inclusion }) c.args.fence.now c.args.life.now))
-    (goes_speaks (Goes (including.releases c.in-ReleaseLog.height (live_of beside c.args.fence.now c.args.life.now))) (live_of (record beside { inclusion = (including.releases c.in-ReleaseLog.height (live_of beside c.args.fence.now c.args.life.now)).inclusion }) c.args.fence.now c.args.life.now) (including.releases c.in-ReleaseLog.height (live_of beside c.args.fence.now c.args.life.now)) refl (released_live c.in-ReleaseLog.height beside c.args.fence.now c.args.life.now) c.args.out.now.entries)))
+    (speaks_tells {Dir = g.row.Dir.Denot} (Goes (including.releases c.in-ReleaseLog.height (live_of beside c.args.fence.now c.args.life.now))) (went (live_of (record beside { inclusion = (including.releases c.in-ReleaseLog.height (live_of beside c.args.fence.now c.args.life.now)).inclusion }) c.args.fence.now c.args.life.now))
+    (goes_speaks {Dir = g.row.Dir.Denot} (Goes (including.releases c.in-ReleaseLog.height (live_of beside c.args.fence.now c.args.life.now))) (live_of (record beside { inclusion = (including.releases c.in-ReleaseLog.height (live_of beside c.args.fence.now c.args.life.now)).inclusion }) c.args.fence.now c.args.life.now) (including.releases c.in-ReleaseLog.height (live_of beside c.args.fence.now c.args.life.now)) refl (released_live c.in-ReleaseLog.height beside c.args.fence.now c.args.life.now) c.args.out.now.entries)))
 
 pub returns-in-ReleaseLog-clause-causes : goal.returns-in-ReleaseLog-clause-causes
 returns-in-ReleaseLog-clause-causes g c = tt

@@ -49,36 +49,36 @@ begin_inclusion-requires g c = record {
   signs = to_sign g.C.Ceremony.deal_of g.C.Ceremony.check_ack_of c.args.terms.now.me _ c.requires.me c.deal.new.life (ap (λ (l : Life g.row.Dir.Denot). l.stage) c.deal.ensures.rest ∙ c.requires.dealing) c.in_ok-deal.ensures.ready.dealing;
 }
 
-pub returns-then-ends_dealing-in_err-begin_inclusion-clause-acts : goal.returns-then-ends_dealing-in_err-begin_inclusion-clause-acts
-returns-then-ends_dealing-in_err-begin_inclusion-clause-acts g c = λ disk secrets provided fixed beside fence of reads by provides seen.
+pub returns-in_err-begin_inclusion-clause-acts : goal.returns-in_err-begin_inclusion-clause-acts
+returns-in_err-begin_inclusion-clause-acts g c = λ disk secrets provided fixed beside fence of reads by provides seen.
     let p = err_from_is_err_and c.from_residual-in_err-begin_inclusion.result c.from_residual-in_err-begin_inclusion.ensures.1 in
     rw (p.1, p.2) (none_with beside _ _ _ beside.inclusion tt refl (offered_makes fixed c.args.block.now (live_of beside fence c.args.life.now) (live_of beside fence c.deal.new.life) (by_stop c.in_err-begin_inclusion.field-0.0) (c.in_ok-deal.ensures.acts disk secrets fixed beside fence of by.answers)
     (speaks_makes (ends_offers fixed c.args.block.now (live_of beside fence c.deal.new.life)) (by_stop c.in_err-begin_inclusion.field-0.0) _ _ (wants_speaks (ends_offers fixed c.args.block.now (live_of beside fence c.deal.new.life)) c.in_err-begin_inclusion.field-0.0 c.in_err-begin_inclusion.ensures.memory
     c.deal.new.out.entries c.deal.new.out.entries refl))))
 
-pub returns-then-ends_dealing-in_err-begin_inclusion-clause-tells : goal.returns-then-ends_dealing-in_err-begin_inclusion-clause-tells
-returns-then-ends_dealing-in_err-begin_inclusion-clause-tells g c = λ provided fixed beside fence of reads by provides seen.
+pub returns-in_err-begin_inclusion-clause-tells : goal.returns-in_err-begin_inclusion-clause-tells
+returns-in_err-begin_inclusion-clause-tells g c = λ provided fixed beside fence of reads by provides seen.
     let p = err_from_is_err_and c.from_residual-in_err-begin_inclusion.result c.from_residual-in_err-begin_inclusion.ensures.1 in
     rw (p.1, p.2) (none_with beside _ _ _ beside.inclusion tt refl (offered_told fixed c.args.block.now (live_of beside fence c.args.life.now) (live_of beside fence c.deal.new.life) (by_stop c.in_err-begin_inclusion.field-0.0) (c.in_ok-deal.ensures.tells fixed beside fence of by.answers)
     (speaks_tells (ends_offers fixed c.args.block.now (live_of beside fence c.deal.new.life)) (by_stop c.in_err-begin_inclusion.field-0.0) (wants_speaks (ends_offers fixed c.args.block.now (live_of beside fence c.deal.new.life)) c.in_err-begin_inclusion.field-0.0 c.in_err-begin_inclusion.ensures.memory
     c.deal.new.out.entries c.deal.new.out.entries refl))))
 
-pub returns-then-ends_dealing-in_err-begin_inclusion-clause-causes : goal.returns-then-ends_dealing-in_err-begin_inclusion-clause-causes
-returns-then-ends_dealing-in_err-begin_inclusion-clause-causes g c =
+pub returns-in_err-begin_inclusion-clause-causes : goal.returns-in_err-begin_inclusion-clause-causes
+returns-in_err-begin_inclusion-clause-causes g c =
     let p = err_from_is_err_and c.from_residual-in_err-begin_inclusion.result c.from_residual-in_err-begin_inclusion.ensures.1 in
-    rw (p.1, p.2) (want_caused _ _ _ c.begin_inclusion.result c.begin_inclusion.ensures.memory)
+    rw (p.1, p.2) (rw c.in_err-begin_inclusion.ensures.memory tt)
 
-pub returns-then-ends_dealing-in_err-begin_inclusion-clause-word : goal.returns-then-ends_dealing-in_err-begin_inclusion-clause-word
-returns-then-ends_dealing-in_err-begin_inclusion-clause-word g c = ap (λ (l : Life g.row.Dir.Denot). l.word) c.begin_inclusion.ensures.rest ∙ ap (λ (l : Life g.row.Dir.Denot). l.word) c.deal.ensures.rest
+pub returns-in_err-begin_inclusion-clause-word : goal.returns-in_err-begin_inclusion-clause-word
+returns-in_err-begin_inclusion-clause-word g c = ap (λ (l : Life g.row.Dir.Denot). l.word) c.begin_inclusion.ensures.rest ∙ ap (λ (l : Life g.row.Dir.Denot). l.word) c.deal.ensures.rest
 
-pub returns-then-ends_dealing-in_err-begin_inclusion-clause-moved : goal.returns-then-ends_dealing-in_err-begin_inclusion-clause-moved
-returns-then-ends_dealing-in_err-begin_inclusion-clause-moved g c = c.deal.ensures.moved
+pub returns-in_err-begin_inclusion-clause-moved : goal.returns-in_err-begin_inclusion-clause-moved
+returns-in_err-begin_inclusion-clause-moved g c = c.deal.ensures.moved
 
-pub returns-then-ends_dealing-in_err-begin_inclusion-clause-fit : goal.returns-then-ends_dealing-in_err-begin_inclusion-clause-fit
-returns-then-ends_dealing-in_err-begin_inclusion-clause-fit g c = c.deal.ensures.fit
+pub returns-in_err-begin_inclusion-clause-fit : goal.returns-in_err-begin_inclusion-clause-fit
+returns-in_err-begin_inclusion-clause-fit g c = c.deal.ensures.fit
 
-pub returns-then-ends_dealing-in_err-begin_inclusion-clause-provider : goal.returns-then-ends_dealing-in_err-begin_inclusion-clause-provider
-returns-then-ends_dealing-in_err-begin_inclusion-clause-provider g c = λ provided. (λ epoch. refl, λ epoch peers. refl)
+pub returns-in_err-begin_inclusion-clause-provider : goal.returns-in_err-begin_inclusion-clause-provider
+returns-in_err-begin_inclusion-clause-provider g c = λ provided. (λ epoch. refl, λ epoch peers. refl)
 
 pub advance-requires-clause-ready : goal.advance-requires-clause-ready
 advance-requires-clause-ready g c =

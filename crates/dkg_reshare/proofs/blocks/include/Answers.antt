@@ -20,11 +20,8 @@ use Rattle.dkg_reshare.proofs.Standing.{placed_included}
 use Rattle.dkg_reshare.proofs.Chained.{early_makes, early_told, then_makes, then_told}
 use Rattle.dkg_reshare.proofs.blocks.include.Goals as goal
 
-pub observe-requires-clause-includes : goal.observe-requires-clause-includes
-observe-requires-clause-includes g c = c.requires.includes
-
-pub observe-requires-clause-ready : goal.observe-requires-clause-ready
-observe-requires-clause-ready g c = c.requires.ready
+pub observe-requires : goal.observe-requires
+observe-requires g c = record { ready = c.requires.ready }
 
 -- WHAT ITS LOG COMES TO
 
