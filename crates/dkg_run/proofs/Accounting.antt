@@ -5,7 +5,7 @@ use Rattle.std.specs.Option.{option_map_or}
 use Rattle.std.proofs.lemmas.Bool.Decides.{nat_tests}
 use Rattle.dkg_values.specs.Rising.{lookup}
 use Rattle.dkg_ceremony.specs.Outcomes.{LogMap}
-use Rattle.dkg_ceremony.specs.Schedule.{last, midpoint}
+use Rattle.dkg_ceremony.specs.Schedule.{midpoint}
 use Rattle.dkg_ceremony.specs.declared.round.RoundParts.{RoundParts as Round}
 use Rattle.dkg_ceremony.specs.declared.signed_log.SignedDealerLog.{SignedDealerLog}
 use Rattle.dkg_types.specs.Blocks.{Block}
@@ -28,7 +28,6 @@ use Rattle.dkg_core.specs.Endings.{ComesTo}
 use Rattle.dkg_core.specs.Entering as half
 use Rattle.dkg_core.specs.Entering.{delivered}
 use Rattle.dkg_core.specs.Fixed.{Fixed, OneShot, has}
-use Rattle.dkg_core.specs.Forms.{Applied, judged_block}
 use Rattle.dkg_core.specs.Including as i
 use Rattle.dkg_core.specs.Including.{Fed, Need, Found, Lacks, can_finish, cached_for, is_need, job_for, read_of, result_of, retained_for, retains}
 use Rattle.dkg_core.specs.Laws.{IsAmong}
@@ -38,7 +37,7 @@ use Rattle.dkg_core.specs.Node.{node_step, unless_once}
 use Rattle.dkg_core.specs.Said.{Said, SaysAll}
 use Rattle.dkg_core.specs.Setup as s
 use Rattle.dkg_core.specs.Stepping.{IsDealingStop, given_itself}
-use Rattle.dkg_core.specs.Through.{asked_by, cancelled, waits_for}
+use Rattle.dkg_core.specs.Through.{cancelled, waits_for}
 use Rattle.dkg_store.specs.Acts.{Held, went}
 use Rattle.dkg_core.proofs.Applied.{judged_is}
 use Rattle.dkg_core.proofs.StepDealing as dealing

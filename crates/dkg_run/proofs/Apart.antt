@@ -1,5 +1,5 @@
 -- No two requests of a life have one number: not two that wait in its queue, nor one of them and the one whose verification runs.
-use Rattle.std.proofs.Common.{◌≡◌, inl, inr, ℕ, zero, suc, ◌+◌, ◌==◌, ◌++◌, List, [], ◌∷◌, Option, Some, None, Bool, true, false, arith, refl, sym, ◌∙◌, ap, subst, length}
+use Rattle.std.proofs.Common.{◌≡◌, inl, inr, ℕ, zero, suc, ◌+◌, ◌==◌, ◌++◌, List, [], ◌∷◌, Option, Some, None, Bool, true, false, refl, sym, ◌∙◌, subst, length}
 use Rattle.std.specs.Prelude.{⊤, ◌⊎◌, ◌^◌, filter, is_some, map, not, nat_le, nat_lt, IfSome, if◌then◌else◌, option_map, option_and_then}
 use Rattle.std.specs.List.{AllByRecursion}
 use Rattle.std.specs.Option.{option_map_or}
@@ -31,10 +31,10 @@ use Rattle.dkg_core.specs.Endings.{ComesTo}
 use Rattle.dkg_core.specs.Entering as half
 use Rattle.dkg_core.specs.Entering.{Half, HalfAnswer, Acknowledges, Withholds, active, delivered}
 use Rattle.dkg_core.specs.Fixed.{Fixed, OneShot, has}
-use Rattle.dkg_core.specs.Forms.{Applied, Judged, judged_block}
+use Rattle.dkg_core.specs.Forms.{Applied, judged_block}
 use Rattle.dkg_core.specs.Including as i
 use Rattle.dkg_core.specs.Including.{Fed, Need, Found, Lacks, can_finish, cached_for, is_need, job_for, read_of, result_of, retained_for, retains}
-use Rattle.dkg_core.specs.Live.{Artifact, Cancel, Cached, Deals, Ends, EpochInfoOf, Faulted, Feed, Finalized, Follows, Inclusion, Includes, Job, Live, Mail, Message, NextLog, NodeStop, Orchestrator, Over, Peer, ReleaseLog, Request, Sent, Stage, VerifiedLogs, Verified, Waiting, Work, is_last_height, recorded_at, with_inclusion, with_participation, with_queue, with_tip, with_used}
+use Rattle.dkg_core.specs.Live.{Artifact, Cancel, Deals, Ends, EpochInfoOf, Faulted, Feed, Finalized, Follows, Inclusion, Includes, Job, Live, Mail, Message, NextLog, NodeStop, Orchestrator, Over, Peer, ReleaseLog, Request, Sent, Stage, VerifiedLogs, Verified, Waiting, Work, is_last_height, recorded_at, with_inclusion, with_participation, with_queue, with_tip, with_used}
 use Rattle.dkg_core.specs.Logs.{canonical, filled_by, is_accepted, log_event}
 use Rattle.dkg_core.specs.Node.{node_step, unless_once}
 use Rattle.dkg_core.specs.Setup as s

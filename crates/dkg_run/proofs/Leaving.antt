@@ -1,12 +1,11 @@
 -- What a run's completed steps leave of requests, whatever the devices tell: its lines tell it.
-use Rattle.std.proofs.Common.{◌≡◌, ◌⊎◌, inl, inr, Bool, true, false, ℕ, zero, suc, ◌+◌, ◌-◌, ◌<◌, ◌≤◌, ◌||◌, ◌++◌, ◌∷◌, [], List, Option, Some, None, Result, Ok, Err, arith, refl, sym, ◌∙◌, ap, subst, add-one, append_assoc, append-nil, drop, length}
-use Rattle.std.specs.Prelude.{⊤, fold, reverse, slice_get, IfSome, IsFalse, IsSomeAnd, nat_le, nat_lt, ◌==◌, if◌then◌else◌}
+use Rattle.std.proofs.Common.{◌≡◌, ◌⊎◌, inl, inr, Bool, true, false, ℕ, suc, ◌+◌, ◌-◌, ◌<◌, ◌≤◌, ◌||◌, ◌++◌, ◌∷◌, [], List, Option, Some, None, Result, Ok, Err, arith, refl, sym, ◌∙◌, ap, subst, add-one, append_assoc, append-nil, drop, length}
+use Rattle.std.specs.Prelude.{⊤, fold, slice_get, IfSome, IsFalse, IsSomeAnd, nat_lt, ◌==◌, if◌then◌else◌}
 use Rattle.std.specs.List.{AllByRecursion, list_any}
 use Rattle.std.proofs.lemmas.Bool.Decides.{nat_tests}
 use Rattle.std.proofs.lemmas.List.{append_cancel_left, length-drop}
 use Rattle.dkg_ceremony.specs.Schedule.{epoch_of, midpoint, phase_at}
 use Rattle.dkg_ceremony.specs.ValidLogs.{check_log_of}
-use Rattle.dkg_ceremony.specs.declared.phase.Phase.{Phase}
 use Rattle.dkg_ceremony.specs.declared.phase.Phase.TheVariants.{Early, Midpoint, Late}
 use Rattle.dkg_ceremony.specs.declared.round.RoundParts.{RoundParts as Round}
 use Rattle.dkg_journal.specs.Burn.{Burn}
@@ -24,18 +23,17 @@ use Rattle.dkg_text.specs.declared.script.Life.{Life}
 use Rattle.dkg_text.specs.declared.script.Script.{Script}
 use Rattle.dkg_script.specs.Epochs.{alone}
 use Rattle.dkg_script.specs.Order.{is_opened}
-use Rattle.dkg_script.specs.Position.{awaited_epoch, awaited_height, follows}
+use Rattle.dkg_script.specs.Position.{follows}
 use Rattle.dkg_script.specs.Promise.{Adds}
-use Rattle.dkg_store.specs.Acts.{Ended, Held, went}
+use Rattle.dkg_store.specs.Acts.{Held, went}
 use Rattle.dkg_core.specs.Asked.{FirstNeeds}
 use Rattle.dkg_core.specs.Behind.{event_of}
 use Rattle.dkg_core.specs.Courses.{Course, on_devices}
-use Rattle.dkg_core.specs.Endings.{CameTo, stage_in}
+use Rattle.dkg_core.specs.Endings.{stage_in}
 use Rattle.dkg_core.specs.Fixed.{Fixed}
 use Rattle.dkg_core.specs.Including.{Fed, Found, Lacks, Need, is_need, read_of}
 use Rattle.dkg_core.specs.Laws.{IsAmong, IsQuiet}
-use Rattle.dkg_core.specs.Live as core
-use Rattle.dkg_core.specs.Live.{Deals, Follows, Includes, Inclusion, Job, Live, NodeStop, Request, Stage, phase_of}
+use Rattle.dkg_core.specs.Live.{Follows, Includes, Inclusion, Job, Live, NodeStop, Request}
 use Rattle.dkg_core.specs.Node.{node_opening, node_step}
 use Rattle.dkg_core.specs.NodeEndings.{IsFaultBy}
 use Rattle.dkg_core.specs.NodeThrough.{IsNodeThrough}

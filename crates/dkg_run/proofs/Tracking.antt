@@ -1,12 +1,11 @@
 -- Each request of the epoch that a life takes part in waits until it is answered, in the order in which they were made; and a verification that runs is of one that was read in a step which began in that epoch.
 use Rattle.std.proofs.Common.{◌≡◌, ◌⊎◌, inl, inr, ℕ, zero, suc, ◌+◌, ◌-◌, ◌<◌, ◌≤◌, ◌==◌, ◌||◌, ◌++◌, List, [], ◌∷◌, Option, Some, None, Bool, true, false, arith, refl, sym, ◌∙◌, ap, subst}
 use Rattle.std.specs.Prelude.{filter, fold, map, nat_lt, not, slice_get, take, IfSome, IsSomeAnd, Ok, if◌then◌else◌}
-use Rattle.std.specs.List.{AllByRecursion, list_any}
+use Rattle.std.specs.List.{AllByRecursion}
 use Rattle.std.specs.Option.{option_map_or}
 use Rattle.std.proofs.lemmas.Bool.Decides.{nat_tests}
 use Rattle.dkg_ceremony.specs.Outcomes.{LogMap}
 use Rattle.dkg_ceremony.specs.Schedule.{epoch_of, midpoint}
-use Rattle.dkg_ceremony.specs.ValidLogs.{check_log_of}
 use Rattle.dkg_ceremony.specs.declared.round.RoundParts.{RoundParts as Round}
 use Rattle.dkg_types.specs.Blocks.{Block}
 use Rattle.dkg_types.specs.declared.directory.Unit as directory
@@ -16,8 +15,7 @@ use Rattle.dkg_types.specs.declared.entry.Entry.TheVariants.{Answer}
 use Rattle.dkg_text.specs.Asked.{asks, is_asked}
 use Rattle.dkg_text.specs.declared.script.Event.{Event}
 use Rattle.dkg_text.specs.declared.script.Event.TheVariants as event
-use Rattle.dkg_store.specs.Acts.{Held, went}
-use Rattle.dkg_script.specs.Asked.{AskAnew}
+use Rattle.dkg_store.specs.Acts.{went}
 use Rattle.dkg_script.specs.Epochs.{alone}
 use Rattle.dkg_core.specs.Asked.{IsEmptied}
 use Rattle.dkg_core.specs.Behind.{event_of}
@@ -35,21 +33,21 @@ use Rattle.dkg_core.specs.NodeThrough.{IsNodeThrough}
 use Rattle.dkg_core.specs.Said.{Said}
 use Rattle.dkg_core.specs.Setup.{begins_inclusion}
 use Rattle.dkg_core.specs.Stepping.{dealt_behind, given_itself}
-use Rattle.dkg_core.specs.Through.{PassesNothingOn, IsAppliedThrough, IsBlockThrough, IsCarriedOn, IsEndThrough, IsFollowedThrough, IsIncludedThrough, IsLiveThrough, IsReadFrom, asked_by, cancelled, finished, included, waits_for}
+use Rattle.dkg_core.specs.Through.{PassesNothingOn, IsAppliedThrough, IsBlockThrough, IsCarriedOn, IsEndThrough, IsFollowedThrough, IsIncludedThrough, IsLiveThrough, IsReadFrom, asked_by, cancelled, included, waits_for}
 use Rattle.dkg_core.proofs.StepDealing as dealing
 use Rattle.dkg_run.specs.Asks.{Standing, Unmade, Open, Closed, Cancelled, IsUncancelled, WereAsked, standing_of, turns}
 use Rattle.dkg_run.specs.Blamed.{per_epoch, tip_in}
 use Rattle.dkg_run.specs.Epochs.{IsLifeInForm, StandsInScript, any_shares, awaited_by, epoch_by}
 use Rattle.dkg_run.specs.Given.{Lived, at_step}
 use Rattle.dkg_run.proofs.Accounting.{Before, IsAnsweredIn, IsKept, IsWaiting, among_last, among_left, step_kept}
-use Rattle.dkg_run.proofs.Apart.{IsApart, Reads}
+use Rattle.dkg_run.proofs.Apart.{Reads}
 use Rattle.dkg_run.proofs.Asking.{dealt_same, goes, heard_same, observed_same, same_epoch}
 use Rattle.dkg_run.proofs.Delivered.{epochs_rise}
-use Rattle.dkg_run.proofs.FedRequests.{asked_anew, made_anew, stands_more}
+use Rattle.dkg_run.proofs.FedRequests.{asked_anew, stands_more}
 use Rattle.dkg_run.proofs.Former.{Brings, IsMessage, life_in}
 use Rattle.dkg_run.proofs.HeightsRise.{awaited_rise}
 use Rattle.dkg_run.proofs.NextLives.{GoesOn, TakesOver, applied_high}
-use Rattle.dkg_run.proofs.Requested.{AreHeld, AreReady, IsHeld, block_said, dealt_said, included_said, less_one, mail_said, sends_info, sends_work, were_asked}
+use Rattle.dkg_run.proofs.Requested.{AreHeld, AreReady, IsHeld, dealt_said, included_said, less_one, mail_said, were_asked}
 
 abbrev U : Type 0
 U = directory.Unit

@@ -1,5 +1,5 @@
 -- ANSWERS FROM THE PATH: what each answer to a final block's request says, by the entries and the script; first whatever the devices tell, and then over devices that tell.
-use Rattle.std.specs.Prelude.{ℕ, ◌≡◌, ◌≤◌, ◌<◌, ◌+◌, ◌-◌, ◌⊎◌, ◌++◌, ◌∷◌, true, false, Contains, List, Option, Some, None, IsSomeAnd, IfSome, IsTrue, Ok, [], length, filter_map, option_map, option_to_list, slice_get, take}
+use Rattle.std.specs.Prelude.{ℕ, ◌≡◌, ◌≤◌, ◌<◌, ◌-◌, true, false, List, Option, Some, IsSomeAnd, Ok, length, slice_get}
 use Rattle.dkg_ceremony.specs.declared.round.RoundParts.{RoundParts as Round}
 use Rattle.dkg_ceremony.specs.Outcomes.{LogMap}
 use Rattle.dkg_ceremony.specs.Schedule.{last, midpoint}
@@ -15,7 +15,7 @@ use Rattle.dkg_types.specs.declared.entry.AnswerLine.TheVariants.{Available, Una
 use Rattle.dkg_types.specs.declared.entry.Entry.{Entry}
 use Rattle.dkg_types.specs.declared.entry.Entry.TheVariants.{Answer}
 use Rattle.dkg_types.specs.declared.entry.Why.{Why}
-use Rattle.dkg_types.specs.declared.entry.Why.TheVariants.{Short, WrongHeight, Unlinked, Detached, Following, Terminal, Finished, Held}
+use Rattle.dkg_types.specs.declared.entry.Why.TheVariants.{Short, Following, Terminal, Finished, Held}
 use Rattle.dkg_types.specs.declared.info.EpochInfo.{EpochInfo}
 use Rattle.dkg_text.specs.declared.script.Event.TheVariants.{Final, Info}
 use Rattle.dkg_text.specs.declared.script.Life.{Life}

@@ -1,9 +1,9 @@
 -- What a life of a script is asked, and what it was fed: the blocks of a request, as a scan reads them, and the logs that these make.
-use Rattle.std.specs.Prelude.{ℕ, ◌≡◌, ◌+◌, ◌-◌, ◌<◌, ◌≤◌, ◌==◌, ◌⊎◌, Contains, fold, length, List, [], ◌∷◌, ◌++◌, Option, Some, None, filter_map, slice_get, reverse, take, option_map, IsSomeAnd, if◌then◌else◌}
+use Rattle.std.specs.Prelude.{ℕ, ◌≡◌, ◌+◌, ◌-◌, ◌≤◌, ◌==◌, ◌⊎◌, Contains, fold, length, List, ◌∷◌, ◌++◌, Option, slice_get, reverse, take, option_map, IsSomeAnd, if◌then◌else◌}
 use Rattle.dkg_ceremony.specs.declared.epocher.Bounds.{Bounds}
 use Rattle.dkg_ceremony.specs.declared.round.RoundParts.{RoundParts as Round}
 use Rattle.dkg_ceremony.specs.Outcomes.{LogMap, outcome_of}
-use Rattle.dkg_ceremony.specs.Schedule.{bounds_at, boundary, first, last, midpoint}
+use Rattle.dkg_ceremony.specs.Schedule.{bounds_at, first, last, midpoint}
 use Rattle.dkg_ceremony.specs.ValidLogs.{check_log_of}
 use Rattle.dkg_types.specs.Blocks.{Block}
 use Rattle.dkg_types.specs.NextInfos.{next_info}

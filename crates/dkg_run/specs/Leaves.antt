@@ -1,6 +1,6 @@
 -- WHAT A COMPLETED STEP LEAVES OPEN past an epoch's midpoint: no request, unless a verification runs or one that was made no later still needs blocks. By the entries and the script,
 -- whatever the devices tell.
-use Rattle.std.specs.Prelude.{ℕ, ◌≡◌, ◌≤◌, ◌<◌, ◌-◌, ◌++◌, ◌∷◌, ◌⊎◌, [], false, IsFalse, List, Some, reverse, slice_get}
+use Rattle.std.specs.Prelude.{ℕ, ◌≡◌, ◌≤◌, ◌<◌, ◌-◌, ◌++◌, ◌∷◌, ◌⊎◌, false, IsFalse, List, Some, reverse, slice_get}
 use Rattle.std.specs.List.{list_any}
 use Rattle.dkg_ceremony.specs.Outcomes.{LogMap}
 use Rattle.dkg_ceremony.specs.Schedule.{midpoint}
