@@ -51,7 +51,7 @@ use Rattle.dkg_run.specs.Blamed.{per_epoch}
 use Rattle.dkg_run.specs.Ended.{by_node_stop}
 use Rattle.dkg_run.specs.Epochs.{IsChecked, IsLifeInForm, any_shares, awaited_by, epoch_by}
 use Rattle.dkg_run.specs.Given.{Lived, at_step, lived, step_of}
-use Rattle.dkg_run.specs.Leaves.{IsOpen, IsVerifying, LeavesNone, LeavesSo, NeedsBlocks}
+use Rattle.dkg_run.specs.Leaves.{IsOpen, MayVerify, LeavesNone, LeavesSo, NeedsBlocks}
 use Rattle.dkg_run.specs.Lives.{AnyFiles, EndsLife, LivesFrom, LivesSo, RunsAllSo, RunsSo, Steps, TakesAll, TellsEnd, fuse_for}
 use Rattle.dkg_run.specs.Ways.{ReadsSomething, Trace, by_lines}
 use Rattle.dkg_run.proofs.Accounting.{IsAnsweredIn, IsWaiting, among_left}
@@ -113,7 +113,7 @@ module _ (g : Lived) (here : IsLifeInForm g) (j : ℕ) (st : Live U) (said : Lis
     waiting : IsWaiting request st.inclusion ⊎ IsAnsweredIn request said
     waiting = tracked.all apart request its.at its.before its.made its.same its.uncancelled
 
-    verifying : (job : Job) → IsRun g e j job → IsVerifying g.script g.number g.life e j
+    verifying : (job : Job) → IsRun g e j job → MayVerify g.script g.number g.life e j
     verifying job run = record {
       request = run.request;
       read = run.read;
@@ -177,15 +177,15 @@ module _ (g : Lived) (here : IsLifeInForm g) (j : ℕ) (st : Live U) (said : Lis
         by_queue [] is needs among = absurd among
         by_queue (r ∷ rs) is needs among = of_first round r rs is needs (x, among, same)
 
-    leaves : IsVerifying g.script g.number g.life e j ⊎ Needs
+    leaves : MayVerify g.script g.number g.life e j ⊎ Needs
     leaves = by_round st.participation.round refl
       where
-        by_running : (round : Round) → st.participation.round ≡ Some round → (o : Option Job) → st.inclusion.running ≡ o → IsWaiting request st.inclusion ⊎ IsAnsweredIn request said → IsVerifying g.script g.number g.life e j ⊎ Needs
+        by_running : (round : Round) → st.participation.round ≡ Some round → (o : Option Job) → st.inclusion.running ≡ o → IsWaiting request st.inclusion ⊎ IsAnsweredIn request said → MayVerify g.script g.number g.life e j ⊎ Needs
         by_running round of o running (inr (answer, among)) = absurd (its.unanswered answer among)
         by_running round of (Some job) running (inl waits) = inl (verifying job (subst (λ (o : Option Job). IfSome o (IsRun g e j)) running (tracked.runs apart)))
         by_running round of None running (inl waits) = inr (idle running round of waits)
 
-        by_round : (o : Option Round) → st.participation.round ≡ o → IsVerifying g.script g.number g.life e j ⊎ Needs
+        by_round : (o : Option Round) → st.participation.round ≡ o → MayVerify g.script g.number g.life e j ⊎ Needs
         by_round None nothing = absurd (apart ((live.stands).without nothing).0)
         by_round (Some round) of = by_running round of st.inclusion.running refl waiting
 

@@ -1,4 +1,4 @@
--- WHAT A COMPLETED STEP LEAVES OPEN past an epoch's midpoint: no request, unless a verification runs or one that was made no later still needs blocks. By the entries and the script,
+-- WHAT A COMPLETED STEP LEAVES OPEN past an epoch's midpoint: no request, unless a verification may run or one that was made no later still needs blocks. By the entries and the script,
 -- whatever the devices tell.
 use Rattle.std.specs.Prelude.{ℕ, ◌≡◌, ◌≤◌, ◌<◌, ◌-◌, ◌++◌, ◌∷◌, ◌⊎◌, false, IsFalse, List, Some, reverse, slice_get}
 use Rattle.std.specs.List.{list_any}
@@ -45,8 +45,8 @@ pub record NeedsBlocks (script : Script) (l : ℕ) (life : Life) (epoch j reques
   pub fed : fed_in script life request j ≡ reverse path
   pub under_way : IsUnderWay (bounds_in script epoch) (scan_tip script life j) path
 
--- A verification runs behind the first j events: the ancestry of a request was read in a step that began in the epoch, and no event ended its verification since.
-pub record IsVerifying (script : Script) (l : ℕ) (life : Life) (epoch j : ℕ) : Type 0 where
+-- A verification may run behind the first j events: the ancestry of a request was read to its end in a step that began in the epoch, and no event has ended a verification since.
+pub record MayVerify (script : Script) (l : ℕ) (life : Life) (epoch j : ℕ) : Type 0 where
   pub request : ℕ
   pub read : ℕ
   pub within : read ≤ j
@@ -61,7 +61,7 @@ pub record IsVerifying (script : Script) (l : ℕ) (life : Life) (epoch j : ℕ)
 abbrev pub LeavesNone : Script → (l : ℕ) → Life → (j : ℕ) → List Entry → Type 0
 LeavesNone script l life j said =
     follows (alone script) l life (awaited_epoch (alone script) l life j) ≡ false → midpoint (per_epoch script) (awaited_epoch (alone script) l life j) ≤ awaited_height (alone script) l life j
-    → (request : ℕ) (its : IsOpen script l life j said request) → IsVerifying script l life (awaited_epoch (alone script) l life j) j
+    → (request : ℕ) (its : IsOpen script l life j said request) → MayVerify script l life (awaited_epoch (alone script) l life j) j
     ⊎ ((first : ℕ) × (needs : NeedsBlocks script l life (awaited_epoch (alone script) l life j) j first) × (needs.at ≤ its.at))
 
 -- each completed step of each life, by what the life has written since it opened
