@@ -1,5 +1,5 @@
 -- What was read of a request's ancestry, in terms of its blocks: a path of it is read, the highest block first, until it is completed or refused.
-use Rattle.std.proofs.Common.{◌≡◌, ◌⊎◌, inl, inr, ℕ, ◌<◌, ◌++◌, Bool, true, false, List, [], ◌∷◌, Option, Some, None, refl, sym, ◌∙◌, ap, subst, arith, append_assoc, append-nil}
+use Rattle.std.proofs.Common.{◌≡◌, ◌⊎◌, inl, inr, ℕ, ◌<◌, ◌++◌, Bool, true, false, List, [], ◌∷◌, Option, refl, sym, ◌∙◌, ap, subst, arith, append_assoc, append-nil}
 use Rattle.std.specs.Prelude.{◌==◌, if◌then◌else◌, option_map, reverse}
 use Rattle.std.proofs.lemmas.Bool.Decides.{nat_tests}
 use Rattle.std.proofs.lemmas.Grind.{reverse_onto}
@@ -10,7 +10,7 @@ use Rattle.dkg_types.specs.Blocks.{Block}
 use Rattle.dkg_types.specs.Paths.{logs_of_path}
 use Rattle.dkg_types.specs.declared.entry.Why.{Why}
 use Rattle.dkg_types.specs.declared.entry.Why.TheVariants.{Short}
-use Rattle.dkg_artifact.specs.Ancestries.{Answers, Completes, IsUnderWay, Refuses, Says, Stands}
+use Rattle.dkg_artifact.specs.Ancestries.{Completes, IsUnderWay, Refuses, Says, Stands}
 use Rattle.dkg_artifact.specs.Scans.{Check, above, feeds, first_answer, starts}
 use Rattle.dkg_artifact.specs.Seen.{Scan}
 use Rattle.dkg_artifact.specs.declared.scan.Fed as declared
@@ -23,7 +23,7 @@ use Rattle.dkg_reshare.proofs.Scans.{closed_by, fed_done, read_is}
 use Rattle.dkg_core.specs.Fixed.{Fixed}
 use Rattle.dkg_core.specs.Including.{Fed, Need, Found, Lacks, final_height, read_of}
 use Rattle.dkg_core.specs.Live.{Live, Request}
-use Rattle.dkg_ceremony.specs.Schedule.{last, midpoint}
+use Rattle.dkg_ceremony.specs.Schedule.{midpoint}
 
 module _ {Dir : Type 0} (check : Check) (round : Round) (bounds : Bounds) (tip : Option Tip) where
   -- A path completes what was fed, and these are its logs.

@@ -1,6 +1,6 @@
 -- What the answers of a step say, by the events of the script: of which request each is, and what it is made of or why there is none.
-use Rattle.std.proofs.Common.{◌≡◌, ◌⊎◌, inl, inr, ℕ, suc, ◌-◌, ◌<◌, ◌≤◌, ◌++◌, List, [], ◌∷◌, Option, Some, None, Bool, true, false, Result, Ok, arith, refl, sym, ◌∙◌, ap, subst}
-use Rattle.std.specs.Prelude.{nat_le, slice_get, option_map, IfSome, IsSomeAnd, if◌then◌else◌}
+use Rattle.std.proofs.Common.{◌≡◌, ◌⊎◌, inl, inr, ℕ, suc, ◌-◌, ◌<◌, ◌≤◌, ◌++◌, List, [], ◌∷◌, Option, Some, None, Bool, true, false, Ok, arith, refl, sym, ◌∙◌, ap, subst}
+use Rattle.std.specs.Prelude.{nat_le, slice_get, IfSome, IsSomeAnd, if◌then◌else◌}
 use Rattle.std.specs.List.{AllByRecursion}
 use Rattle.std.specs.Option.{option_map_or}
 use Rattle.std.proofs.lemmas.List.{append_cancel_left}
@@ -24,14 +24,13 @@ use Rattle.dkg_text.specs.declared.script.Life.{Life}
 use Rattle.dkg_text.specs.declared.script.Script.{Script}
 use Rattle.dkg_store.specs.Acts.{Ended}
 use Rattle.dkg_script.specs.Epochs.{alone}
-use Rattle.dkg_script.specs.Position.{awaited_epoch, event_of_step, follows}
-use Rattle.dkg_core.specs.Asked.{InEpoch, InRound}
+use Rattle.dkg_script.specs.Position.{awaited_epoch, follows}
 use Rattle.dkg_core.specs.Behind.{event_of}
 use Rattle.dkg_core.specs.Courses.{on_devices}
 use Rattle.dkg_core.specs.Endings.{stage_in, tip_behind, validity}
 use Rattle.dkg_core.specs.Fixed.{Fixed}
 use Rattle.dkg_core.specs.Forms.{Applied, judged_block, round_for}
-use Rattle.dkg_core.specs.Including.{Found, Lacks, read_of}
+use Rattle.dkg_core.specs.Including.{Lacks}
 use Rattle.dkg_core.specs.Laws.{IsAmong}
 use Rattle.dkg_core.specs.Live as core
 use Rattle.dkg_core.specs.Live.{Cancel, Deals, Ends, EpochInfoOf, Feed, Finalized, Follows, Inclusion, Includes, Job, Live, Mail, Message, NextLog, NodeStop, Over, Peer, ReleaseLog, Request, Sent, Stage, VerifiedLogs, Work, is_last_height, phase_of}
@@ -40,14 +39,13 @@ use Rattle.dkg_core.specs.Node.{node_step}
 use Rattle.dkg_core.specs.NodeSaying.{IsHalfLine}
 use Rattle.dkg_core.specs.Said.{Said}
 use Rattle.dkg_core.specs.SayingThrough.{IsBlockAnswer, IsFinalAnswer, IsLineThrough, IsMailLine, IsReadAnswer, IsUnasked, IsWaitedAnswer, OfRequest, payload_by}
-use Rattle.dkg_core.specs.Setup.{is_past_range}
 use Rattle.dkg_core.specs.Sources.{Tip}
 use Rattle.dkg_core.specs.Stepping.{dealt_behind, given_itself}
-use Rattle.dkg_core.specs.Through.{IsLiveThrough, asked_by, finished, included}
+use Rattle.dkg_core.specs.Through.{IsLiveThrough, asked_by, included}
 use Rattle.dkg_core.proofs.NodeSaying.{node_steps_say_through}
 use Rattle.dkg_run.specs.Answers.{IsAnsweredSo, IsAskedFor, IsMadeOf, IsUnavailable}
-use Rattle.dkg_run.specs.Asks.{IsRefusedAt, IsShortAt, IsUncancelled, Standing, WereAsked, bounds_in, fed_in, next_bytes, scan_tip, standing_of, turns}
-use Rattle.dkg_run.specs.Blamed.{IsInfoOf, IsTakenLast, per_epoch, round_by, tip_in}
+use Rattle.dkg_run.specs.Asks.{IsRefusedAt, IsUncancelled, Standing, WereAsked, bounds_in, fed_in, next_bytes, scan_tip, standing_of, turns}
+use Rattle.dkg_run.specs.Blamed.{IsInfoOf, IsTakenLast, round_by, tip_in}
 use Rattle.dkg_run.specs.Epochs.{IsLifeInForm, StandsInScript, any_shares, epoch_by}
 use Rattle.dkg_run.specs.Given.{Lived, at_step, blocks_in}
 use Rattle.dkg_run.proofs.Ancestry.{IsRead}

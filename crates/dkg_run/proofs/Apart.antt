@@ -1,5 +1,5 @@
 -- No two requests of a life have one number: not two that wait in its queue, nor one of them and the one whose verification runs.
-use Rattle.std.proofs.Common.{◌≡◌, inl, inr, ℕ, zero, suc, ◌+◌, ◌==◌, ◌++◌, List, [], ◌∷◌, Option, Some, None, Bool, true, false, arith, refl, sym, ◌∙◌, ap, subst, length}
+use Rattle.std.proofs.Common.{◌≡◌, inl, inr, ℕ, zero, suc, ◌+◌, ◌==◌, ◌++◌, List, [], ◌∷◌, Option, Some, None, Bool, true, false, refl, sym, ◌∙◌, subst, length}
 use Rattle.std.specs.Prelude.{⊤, ◌⊎◌, ◌^◌, filter, is_some, map, not, nat_le, nat_lt, IfSome, if◌then◌else◌, option_map, option_and_then}
 use Rattle.std.specs.List.{AllByRecursion}
 use Rattle.std.specs.Option.{option_map_or}
@@ -31,10 +31,10 @@ use Rattle.dkg_core.specs.Endings.{ComesTo}
 use Rattle.dkg_core.specs.Entering as half
 use Rattle.dkg_core.specs.Entering.{Half, HalfAnswer, Acknowledges, Withholds, active, delivered}
 use Rattle.dkg_core.specs.Fixed.{Fixed, OneShot, has}
-use Rattle.dkg_core.specs.Forms.{Applied, Judged, judged_block}
+use Rattle.dkg_core.specs.Forms.{Applied, judged_block}
 use Rattle.dkg_core.specs.Including as i
 use Rattle.dkg_core.specs.Including.{Fed, Need, Found, Lacks, can_finish, cached_for, is_need, job_for, read_of, result_of, retained_for, retains}
-use Rattle.dkg_core.specs.Live.{Artifact, Cancel, Cached, Deals, Ends, EpochInfoOf, Faulted, Feed, Finalized, Follows, Inclusion, Includes, Job, Live, Mail, Message, NextLog, NodeStop, Orchestrator, Over, Peer, ReleaseLog, Request, Sent, Stage, VerifiedLogs, Verified, Waiting, Work, is_last_height, recorded_at, with_inclusion, with_participation, with_queue, with_tip, with_used}
+use Rattle.dkg_core.specs.Live.{Artifact, Cancel, Deals, Ends, EpochInfoOf, Faulted, Feed, Finalized, Follows, Inclusion, Includes, Job, Live, Mail, Message, NextLog, NodeStop, Orchestrator, Over, Peer, ReleaseLog, Request, Sent, Stage, VerifiedLogs, Verified, Waiting, Work, is_last_height, recorded_at, with_inclusion, with_participation, with_queue, with_tip, with_used}
 use Rattle.dkg_core.specs.Logs.{canonical, filled_by, is_accepted, log_event}
 use Rattle.dkg_core.specs.Node.{node_step, unless_once}
 use Rattle.dkg_core.specs.Setup as s
@@ -368,7 +368,7 @@ module _ (c : Fixed U) (reshare : c.oneshot ≡ None) where
           by_test true = refl
           by_test false = refl
 
-      observes_to : (round : Round) (log : Option SignedDealerLog) → ComesTo Any (λ end. end.inclusion ≡ st.inclusion) (b.observes c round block st log)
+      pub observes_to : (round : Round) (log : Option SignedDealerLog) → ComesTo Any (λ end. end.inclusion ≡ st.inclusion) (b.observes c round block st log)
       observes_to round None = refl
       observes_to round (Some log) = by_tests (is_accepted c round log) (is_some (recorded_at st.records.logs round.number log.dealer))
         where
@@ -481,10 +481,10 @@ module _ (c : Fixed U) (reshare : c.oneshot ≡ None) where
         comes_behind Any (λ now. now.inclusion ≡ its) (λ left. left.live.inclusion ≡ its) (half.asks_again c st) (λ now. half.delivered_in c block now (active now.orchestrator)) (again st same)
         (λ now is. delivers_in block now is (active now.orchestrator))
 
-    behind_mail : (st : Live U) → st.inclusion ≡ its → LifeTo (unless_once c (half.asks_again c st) (Goes st))
+    pub behind_mail : (st : Live U) → st.inclusion ≡ its → LifeTo (unless_once c (half.asks_again c st) (Goes st))
     behind_mail st same = comes_if Any (λ end. end.inclusion ≡ its) (is_some c.oneshot) (Goes st) (half.asks_again c st) (λ e. same) (λ e. again st same)
 
-    behind_block : (block : Block U) (st : Live U) → st.inclusion ≡ its
+    pub behind_block : (block : Block U) (st : Live U) → st.inclusion ≡ its
         → LifeTo (unless_once c (bind (delivered c block st) (λ left. half.acked_at block.height left.answer left.live)) (Say (Acked block.height) (Goes st)))
     behind_block block st same =
         comes_if Any (λ end. end.inclusion ≡ its) (is_some c.oneshot) (Say (Acked block.height) (Goes st)) (bind (delivered c block st) (λ left. half.acked_at block.height left.answer left.live)) (λ e. same)

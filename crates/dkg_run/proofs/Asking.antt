@@ -1,8 +1,7 @@
 -- Each request of a life was made by an event while the life awaited the epoch that it awaits now; and the info by which it takes part is carried by a block of the script that begins its epoch.
-use Rattle.std.proofs.Common.{◌≡◌, ◌⊎◌, inl, inr, ℕ, suc, ◌+◌, ◌<◌, ◌==◌, ◌++◌, List, [], ◌∷◌, Option, Some, None, Bool, true, false, Ok, arith, refl, sym, ◌∙◌, ap, subst, filter_map}
+use Rattle.std.proofs.Common.{◌≡◌, ◌⊎◌, inl, inr, ℕ, suc, ◌+◌, ◌<◌, ◌==◌, ◌++◌, List, [], ◌∷◌, Option, Some, None, Bool, true, false, Ok, arith, refl, sym, ◌∙◌, ap, subst}
 use Rattle.std.specs.Prelude.{filter, find, is_some, map, not, slice_get, option_map, option_to_list, option_and_then, IfSome, IsSomeAnd, if◌then◌else◌}
 use Rattle.std.specs.List.{AllByRecursion, cons_option}
-use Rattle.std.specs.Option.{option_map_or}
 use Rattle.std.proofs.lemmas.Bool.Decides.{nat_tests}
 use Rattle.dkg_values.specs.Rising.{lookup}
 use Rattle.dkg_ceremony.specs.Schedule.{boundary, epoch_of, last, midpoint}
@@ -18,10 +17,10 @@ use Rattle.dkg_text.specs.declared.script.Event.TheVariants as event
 use Rattle.dkg_store.specs.Acts.{Held}
 use Rattle.dkg_script.specs.Blocks.{anchor_number}
 use Rattle.dkg_script.specs.Epochs.{alone}
-use Rattle.dkg_core.specs.Asked.{IsEmptied, InRound}
+use Rattle.dkg_core.specs.Asked.{IsEmptied}
 use Rattle.dkg_core.specs.Blocks.{unoffered, without_own_log, with_log}
 use Rattle.dkg_core.specs.Dealing.{counts, with_ack}
-use Rattle.dkg_core.specs.Endings.{first_block, first_epoch, validity}
+use Rattle.dkg_core.specs.Endings.{first_block, validity}
 use Rattle.dkg_core.specs.Fixed.{Fixed}
 use Rattle.dkg_core.specs.Forms.{IsNodeBegun, IsSeated, IsSetUpIn, Judged, Refusal, Passed, Applied, judged_block, round_for, share_read, seed_read, started}
 use Rattle.dkg_core.specs.Including.{is_served_at, releases}
@@ -33,13 +32,12 @@ use Rattle.dkg_core.specs.NodeThrough.{IsNodeThrough}
 use Rattle.dkg_core.specs.Seen.{Seen}
 use Rattle.dkg_core.specs.Setup.{Uncommitted, begins_inclusion}
 use Rattle.dkg_core.specs.Stepping.{IsHeardBy, dealt_behind, given_itself, next_epoch, with_taken}
-use Rattle.dkg_core.specs.Through.{IsAppliedThrough, IsBlockThrough, IsCarriedOn, IsEndThrough, IsFollowedThrough, IsIncludedThrough, IsLiveThrough, IsNextThrough, IsPassedOn, IsReadFrom, asked_by, cancelled, finished, included, observed, observed_log, waits_for}
-use Rattle.dkg_core.proofs.Heights.{next_last}
+use Rattle.dkg_core.specs.Through.{IsAppliedThrough, IsBlockThrough, IsCarriedOn, IsEndThrough, IsFollowedThrough, IsIncludedThrough, IsLiveThrough, IsReadFrom, asked_by, cancelled, included, observed, observed_log, waits_for}
 use Rattle.dkg_core.proofs.StepDealing as dealing
 use Rattle.dkg_run.specs.Blamed.{IsInfoOf, first_epoch_in, opening_block, per_epoch}
 use Rattle.dkg_run.specs.Epochs.{IsLifeInForm, StandsInScript, any_shares, epoch_by}
 use Rattle.dkg_run.specs.Given.{Lived, at_step, blocks_in, numbered}
-use Rattle.dkg_run.proofs.Former.{Brings, BringsBlock, BringsMail, IsMadeOf, IsMessage, brings_so, form_at}
+use Rattle.dkg_run.proofs.Former.{Brings, BringsBlock, BringsMail, IsMessage, brings_so, form_at}
 use Rattle.dkg_run.proofs.NextLives.{GoesOn, TakesOver, next_so}
 use Rattle.dkg_run.proofs.Started.{first_epoch_is, source_is}
 

@@ -149,7 +149,7 @@ module _ (g : Lived) (here : IsLifeInForm g) where
       none_held g 0 st (ap (λ (x : Live directory.Unit). x.inclusion.queue) same ∙ ap (λ (x : Inclusion directory.Unit). x.queue) idle)
       (ap (λ (x : Live directory.Unit). x.inclusion.waiter) same ∙ ap (λ (x : Inclusion directory.Unit). x.waiter) idle)
 
-  opening_comes : (ended : Ended NodeStop (Live directory.Unit)) (out now : List Entry) → Said (on_devices (node_opening (at_step g 0))) ended out now → Came (Why 0) (λ end. Known 0 end × Clear 0) ended
+  pub opening_comes : (ended : Ended NodeStop (Live directory.Unit)) (out now : List Entry) → Said (on_devices (node_opening (at_step g 0))) ended out now → Came (Why 0) (λ end. Known 0 end × Clear 0) ended
   opening_comes ended out now said = by_end ended (node_openings_lead (at_step g 0) ended out now (form_at g here 0) (lacks_nobody g 0) said)
     where
       by_end : (ended : Ended NodeStop (Live directory.Unit))
@@ -273,7 +273,7 @@ module _ (g : Lived) (here : IsLifeInForm g) where
       abbrev c : Fixed directory.Unit
       c = at_step g (suc i)
 
-      reshare : c.oneshot ≡ None
+      pub reshare : c.oneshot ≡ None
       reshare = (form_at g here (suc i)).reshare
 
       on_course : (ended : Ended NodeStop (Live directory.Unit)) (out now : List Entry) → Said (on_devices (step_of g (suc i) e st)) ended out now → Said (on_devices its_step) ended out now
@@ -284,7 +284,7 @@ module _ (g : Lived) (here : IsLifeInForm g) where
       step_lines ended out now said =
           step_answers g here i e e_is reached m st its_live (stood.at).stands stood.tip stood.carried held (behind ∙ ap (λ (o : Option Tip). tip_over (blocks_in g.script) o e) stood.tip ∙ sym tip_next) ended out now (on_course ended out now said)
 
-      next_known : (end : Live directory.Unit) → IsNodeThrough c any_shares st m.message None end None → (Reads c reshare st held.apart m.message → IsApart end.inclusion) → Known (suc i) end
+      pub next_known : (end : Live directory.Unit) → IsNodeThrough c any_shares st m.message None end None → (Reads c reshare st held.apart m.message → IsApart end.inclusion) → Known (suc i) end
       next_known end node apart =
           let next : Stood (suc i) end = step_next None end None node in
           record {

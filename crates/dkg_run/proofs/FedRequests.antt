@@ -1,7 +1,7 @@
 -- How a request stands behind one event more, and what it was fed.
 use Rattle.std.proofs.Common.{◌≡◌, ℕ, zero, suc, ◌++◌, ◌==◌, ◌||◌, Bool, true, false, List, [], ◌∷◌, Option, Some, None, refl, sym, ◌∙◌, ap, subst, arith, append-nil, append_assoc}
-use Rattle.std.specs.Prelude.{fold, slice_get, take, filter_map, if◌then◌else◌}
-use Rattle.std.specs.List.{list_any, cons_option}
+use Rattle.std.specs.Prelude.{fold, slice_get, take, if◌then◌else◌}
+use Rattle.std.specs.List.{cons_option}
 use Rattle.std.proofs.lemmas.Bool.Decides.{nat_tests}
 use Rattle.std.proofs.lemmas.List.Elements.{filter_map-append}
 use Rattle.std.proofs.lemmas.List.Sums.{fold-append}
@@ -147,6 +147,9 @@ anew_at done (e ∷ events) zero request anew there = subst (λ (es : List Event
     same e = cc
 anew_at done (e ∷ events) (suc i) request anew there =
     subst (λ (es : List Event). is_asked es request ≡ false) (append_assoc done (e ∷ []) (take i events)) (anew_at (done ++ e ∷ []) events i request anew.1 there)
+
+pub asked_anew : (life : Life) (i request : ℕ) → AskAnew life.events → slice_get life.events i ≡ Some (event.Info request) → is_asked (take i life.events) request ≡ false
+asked_anew life i request anew there = anew_at [] life.events i request anew there
 
 pub made_anew : (life : Life) (i request : ℕ) → AskAnew life.events → slice_get life.events i ≡ Some (event.Info request) → standing_of life request i ≡ Unmade
 made_anew life i request anew there = unmade request (take i life.events) (anew_at [] life.events i request anew there)

@@ -1,3 +1,4 @@
+pub mod Accounting
 pub mod Alone
 pub mod Ancestry
 pub mod Answered
@@ -60,6 +61,7 @@ pub mod Knowing
 pub mod Lasting
 pub mod LaterRecords
 pub mod Leading
+pub mod Leaving
 pub mod LifeSteps
 pub mod LineHeights
 pub mod LinesFound
@@ -127,6 +129,7 @@ pub mod StopsBehind
 pub mod StoredDealers
 pub mod StoredFound
 pub mod Telling
+pub mod Tracking
 pub mod Turns
 pub mod Twice
 pub mod TwiceAcked

@@ -26,6 +26,7 @@ use Rattle.dkg_run.specs.Epochs.{IsChecked, refused_config}
 use Rattle.dkg_run.specs.Found.{EachFault, IsFoundRecord, OfFault, ShowsCause}
 use Rattle.dkg_run.specs.Given.{AreBytes}
 use Rattle.dkg_run.specs.GivesBack.{GivesBack, NamesNoRecord, limit_in}
+use Rattle.dkg_run.specs.Leaves.{LeavesSo}
 use Rattle.dkg_run.specs.Lives.{AnyFiles, RunsSo, TellsEnd}
 use Rattle.dkg_run.specs.Over.{Over}
 use Rattle.dkg_run.specs.Promised.{DoesRun, Promised}
@@ -39,11 +40,12 @@ use Rattle.dkg_run.proofs.Finishing.{completes}
 use Rattle.dkg_run.proofs.CutLives.{lines_cut}
 use Rattle.dkg_run.proofs.EachLife.{lives_over}
 use Rattle.dkg_run.proofs.FoundRun.{run_found}
+use Rattle.dkg_run.proofs.Leaving.{run_leaves}
 use Rattle.dkg_run.proofs.Ordered.{run_all_lives, run_in_order}
 use Rattle.dkg_run.proofs.Places.{all_of_both}
 use Rattle.dkg_run.proofs.Skipping.{run_skips}
 use Rattle.dkg_run.proofs.Telling.{run_ends}
-use Rattle.dkg_run.proofs.Unbegun.{ToldNone, Unmoved, none_answered, none_answers, none_commits, none_completes, none_ends, none_keeps, none_offers, none_plans, none_shows, none_skips, none_valid, none_whole}
+use Rattle.dkg_run.proofs.Unbegun.{ToldNone, Unmoved, none_answered, none_answers, none_commits, none_completes, none_ends, none_keeps, none_left, none_offers, none_plans, none_shows, none_skips, none_valid, none_whole}
 
 -- WHAT IS KNOWN OF WHAT ENDED THE LIVES is known where it is told
 pub known_told : (F : Fault → Type 0) (its answered : Fault) (mid new : List Entry) (picks : List ℕ) → F NoMemory → TellsEnd by_lines (Err its) (Err answered) (trace mid picks) (trace new picks) → F its → F answered
@@ -119,6 +121,7 @@ module _ (script : Script) (form : IsFormOfInclusion script) (o : Over) (disk_of
     pub answers : OnOk answered (o.tells → AnswersDealings script o.before.files o.before.held o.before.image added)
     pub offers : o.tells → Stands o.before.files o.before.image → OffersTheSame script o.before.files o.before.held added
     pub requests : AnswersSo script added
+    pub leaves : LeavesSo script added
     pub shares : o.tells → Stands o.before.files o.before.image → CommitsFit script o.before.files o.before.held added
     pub complete : IfErr answered (λ its. IsSoundRun o (IsValidAsCut script added) → its ≡ NoMemory)
     pub gives_back : o.tells → GivesBack script answered o.before o.now added
@@ -148,6 +151,7 @@ module _ (script : Script) (form : IsFormOfInclusion script) (o : Over) (disk_of
         answers = none_answers script o answered old new added is none (o.tells → AnswersDealings script o.before.files o.before.held o.before.image added);
         offers = λ told here form consistent. none_offers script o answered old new added is none;
         requests = none_answered script o answered old new added is none;
+        leaves = none_left script o answered old new added is none;
         shares = λ told here form consistent fit. none_commits script o answered old new added is none (Fits (setting_as_cut script o.before.files o.before.held added));
         complete = none_completes script o answered old new added is none;
         gives_back = λ told. record {
@@ -204,6 +208,7 @@ module _ (script : Script) (form : IsFormOfInclusion script) (o : Over) (disk_of
       answers = all_answered;
       offers = begun_offers script form checked bytes o disk_of answered old new added is runs itself left;
       requests = added_so old new added (AnswersSo script) is (run_answers script checked (lives_over script form checked) AnyFiles (trace old []) (trace new picks) answered run);
+      leaves = added_so old new added (LeavesSo script) is (run_leaves script checked (lives_over script form checked) AnyFiles (trace old []) (trace new picks) answered run);
       shares = begun_commits script form checked bytes o disk_of answered old new added is runs itself left;
       complete = completed answered all_completed;
       gives_back = λ told. record {
@@ -235,6 +240,7 @@ module _ (script : Script) (form : IsFormOfInclusion script) (o : Over) (disk_of
     answered = its.answers;
     offers = its.offers;
     answers = its.requests;
+    leaves = its.leaves;
     shares = its.shares;
     complete = its.complete;
     gives_back = its.gives_back;

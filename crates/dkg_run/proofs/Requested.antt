@@ -1,14 +1,13 @@
 -- What a life has of requests, by the events of its script: each request that waits was made in the epoch that is awaited, isn't cancelled, and has what it was fed; and the one whose
 -- verification runs was read in a step that began in that epoch.
 use Rattle.std.proofs.Common.{◌≡◌, ◌⊎◌, inl, inr, ℕ, suc, ◌+◌, ◌-◌, ◌*◌, ◌<◌, ◌≤◌, ◌==◌, ◌++◌, List, [], ◌∷◌, Option, Some, None, Bool, true, false, arith, refl, sym, ◌∙◌, ap, subst, append-nil}
-use Rattle.std.specs.Prelude.{filter, is_some, map, not, reverse, slice_get, option_map, option_and_then, IfSome, if◌then◌else◌}
+use Rattle.std.specs.Prelude.{filter, is_some, map, not, slice_get, option_map, option_and_then, IfSome, if◌then◌else◌}
 use Rattle.std.specs.List.{AllByRecursion}
 use Rattle.std.specs.Option.{option_map_or}
 use Rattle.std.proofs.lemmas.Bool.Decides.{nat_tests}
 use Rattle.dkg_ceremony.specs.Outcomes.{LogMap}
 use Rattle.dkg_ceremony.specs.Schedule.{epoch_of, first, last, midpoint}
 use Rattle.dkg_ceremony.specs.ValidLogs.{check_log_of}
-use Rattle.dkg_ceremony.specs.declared.epocher.Bounds.{Bounds}
 use Rattle.dkg_ceremony.specs.declared.round.RoundParts.{RoundParts as Round}
 use Rattle.dkg_ceremony.specs.declared.signed_log.SignedDealerLog.{SignedDealerLog}
 use Rattle.dkg_types.specs.Blocks.{Block}
@@ -22,7 +21,7 @@ use Rattle.dkg_text.specs.declared.script.Event.{Event}
 use Rattle.dkg_text.specs.declared.script.Event.TheVariants as event
 use Rattle.dkg_store.specs.Acts.{Held}
 use Rattle.dkg_script.specs.Asked.{AskAnew}
-use Rattle.dkg_core.specs.Asked.{InRound, IsEmptied}
+use Rattle.dkg_core.specs.Asked.{IsEmptied}
 use Rattle.dkg_core.specs.Blocks.{unoffered, with_log, without_own_log}
 use Rattle.dkg_core.specs.Fixed.{Fixed}
 use Rattle.dkg_core.specs.Forms.{Applied, Judged, Passed, Refusal, judged_block}
@@ -45,7 +44,7 @@ use Rattle.dkg_run.proofs.Ancestry.{IsCompleted, IsRead, read_so}
 use Rattle.dkg_run.proofs.Apart.{IsApart, IsNewOne, IsReadAt, LacksNumber, Reads, none_apart, as_apart}
 use Rattle.dkg_run.proofs.Asking.{dealt_same, goes, heard_same, observed_same, same_epoch}
 use Rattle.dkg_run.proofs.FedRequests.{adds, adds_block, becomes_open, fed_more, fed_nothing, made_anew, stands_more}
-use Rattle.dkg_run.proofs.Former.{Brings, IsMadeOf, IsMessage, life_in}
+use Rattle.dkg_run.proofs.Former.{Brings, IsMessage, life_in}
 use Rattle.dkg_run.proofs.NextLives.{GoesOn, TakesOver}
 
 abbrev U : Type 0

@@ -1,9 +1,8 @@
 -- An opening answers no request, and a block does where it is applied.
-use Rattle.std.proofs.Common.{◌≡◌, ◌⊎◌, inl, inr, ℕ, ◌+◌, ◌-◌, ◌==◌, ◌++◌, List, [], Option, Some, None, Bool, true, false, Result, Ok, Err, refl, sym, ◌∙◌, subst}
-use Rattle.std.specs.Prelude.{◌&&◌, ◌||◌, is_none, is_ok, is_some, nat_le, nat_lt, not, option_and_then, option_map, if◌then◌else◌}
+use Rattle.std.proofs.Common.{◌≡◌, ◌⊎◌, inl, inr, ℕ, ◌+◌, ◌-◌, ◌==◌, ◌++◌, List, Option, Some, None, Result, Ok, Err, sym, subst}
+use Rattle.std.specs.Prelude.{◌||◌, is_ok, is_some, nat_lt, not, option_and_then, option_map, if◌then◌else◌}
 use Rattle.std.specs.List.{AllByRecursion}
 use Rattle.std.specs.Result.{result_ok}
-use Rattle.std.specs.Option.{option_map_or}
 use Rattle.dkg_values.specs.Codec.{whole}
 use Rattle.dkg_values.specs.Rising.{lookup}
 use Rattle.dkg_values.specs.declared.codec.CodecError.{CodecError}
@@ -18,14 +17,14 @@ use Rattle.dkg_fence.specs.Fence.{waited}
 use Rattle.dkg_types.specs.BlockCodes.{info_of}
 use Rattle.dkg_types.specs.Blocks.{Block}
 use Rattle.dkg_types.specs.declared.entry.Entry.{Entry as Line}
-use Rattle.dkg_types.specs.declared.entry.Entry.TheVariants.{Acked, Answer, Committed, Entered, Halted, Opened, Registered, Setup}
+use Rattle.dkg_types.specs.declared.entry.Entry.TheVariants.{Acked, Answer, Entered, Halted}
 use Rattle.dkg_types.specs.declared.fault.Fault.{Fault}
-use Rattle.dkg_types.specs.declared.fault.Fault.TheVariants.{HeightRange, InvalidParticipants, LocalState, MissingEpochInfo, SkippedHeight, StateSyncEpochs, StateSyncMaterial, WrongEpoch}
+use Rattle.dkg_types.specs.declared.fault.Fault.TheVariants.{HeightRange, MissingEpochInfo, SkippedHeight, StateSyncEpochs, StateSyncMaterial, WrongEpoch}
 use Rattle.dkg_types.specs.declared.info.EpochInfo.{EpochInfo}
 use Rattle.dkg_types.specs.declared.participants.ParticipantsError.{ParticipantsError}
 use Rattle.dkg_types.specs.declared.scheme.SchemeInfo.{SchemeInfo}
 use Rattle.dkg_journal.specs.Operations.{ClearsPlan, PutsPlan}
-use Rattle.dkg_store.specs.Acts.{Ended, Held, OnDisk}
+use Rattle.dkg_store.specs.Acts.{Ended, OnDisk}
 use Rattle.dkg_core.specs.Behind.{event_of}
 use Rattle.dkg_core.specs.Blocks as b
 use Rattle.dkg_core.specs.Core.{begun, opening, opens_in, step}
@@ -34,8 +33,8 @@ use Rattle.dkg_core.specs.Endings.{validity}
 use Rattle.dkg_core.specs.Entering as half
 use Rattle.dkg_core.specs.Entering.{Half, HalfAnswer, Acknowledges, Withholds, active, delivered}
 use Rattle.dkg_core.specs.Fixed.{Fixed, Material, OneShot, has}
-use Rattle.dkg_core.specs.Forms.{Applied, Judged, judged_block, share_read}
-use Rattle.dkg_core.specs.Live.{Dealer, Faulted, Finalized, Live, NodeStop, Orchestrator, Plays, Seat, Waiting, Watches, awaited_height, of_epoch, phase_of}
+use Rattle.dkg_core.specs.Forms.{Applied, judged_block, share_read}
+use Rattle.dkg_core.specs.Live.{Dealer, Faulted, Finalized, Live, NodeStop, Orchestrator, Waiting, Watches, awaited_height, of_epoch, phase_of}
 use Rattle.dkg_core.specs.Logs.{logs_of}
 use Rattle.dkg_core.specs.Node as node
 use Rattle.dkg_core.specs.Node.{node_opening, node_step, unless_once}

@@ -34,6 +34,7 @@ use Rattle.dkg_script.specs.Ends.{EndsScript}
 use Rattle.dkg_run.specs.Epochs.{refused_config}
 use Rattle.dkg_run.specs.Found.{ShowsCause}
 use Rattle.dkg_run.specs.GivesBack.{HoldsValid, StaysValid}
+use Rattle.dkg_run.specs.Leaves.{LeavesSo}
 use Rattle.dkg_run.specs.Lives.{BeganNone, TellsEnd}
 use Rattle.dkg_run.specs.Over.{Over, over}
 use Rattle.dkg_run.specs.Refusals.{BlamesOnlySkips, IsRefusal}
@@ -41,6 +42,7 @@ use Rattle.dkg_run.specs.Ways.{Trace, by_lines, trace}
 use Rattle.dkg_run.proofs.Checked.{refused_so}
 use Rattle.dkg_run.proofs.Currently.{current_all}
 use Rattle.dkg_run.proofs.Keeping.{history_of}
+use Rattle.dkg_run.proofs.Leaving.{scan_leaves}
 use Rattle.dkg_run.proofs.OfferedHalves.{all_of}
 
 -- Both devices stand as they stood.
@@ -192,6 +194,10 @@ module _ (script : Script) (o : Over) (answered : Result (Unit {0}) Fault) (old 
   -- .. and nothing is committed
   pub none_commits : (So : ℕ → ℕ → Type 0) (epoch share : ℕ) → Contains added (entry.Committed epoch (Some share)) → So epoch share
   none_commits So epoch share has = absurd (all_of IsUncommitted added (entry.Committed epoch (Some share)) (by_why (λ r es. AllByRecursion IsUncommitted es) tt (λ fault refused. (tt, tt))) has)
+
+  -- .. and none is left open
+  pub none_left : LeavesSo script added
+  none_left = by_why (λ r es. LeavesSo script es) (scan_leaves script None [] tt) (λ fault refused. scan_leaves script None (entry.Fault fault ∷ []) (tt, tt))
 
   -- .. and what the devices held they hold
   pub none_plans : Lands o.before.files o.before.image → (c : Files) → o.now.image c → get c Plan ≡ get o.before.files Plan

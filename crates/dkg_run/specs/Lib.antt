@@ -12,6 +12,7 @@ pub mod Fresh
 pub mod Given
 pub mod GivesBack
 pub mod Halves
+pub mod Leaves
 pub mod Lives
 pub mod Moving
 pub mod Nodes

@@ -16,6 +16,7 @@ use Rattle.dkg_script.specs.Ends.{EndsScript}
 use Rattle.dkg_run.specs.Epochs.{IsChecked, refused_config}
 use Rattle.dkg_run.specs.Found.{EachFault, IsFoundRecord, ShowsCause}
 use Rattle.dkg_run.specs.GivesBack.{GivesBack, limit_in}
+use Rattle.dkg_run.specs.Leaves.{LeavesSo}
 use Rattle.dkg_run.specs.Lives.{AnyFiles, RunsOver, RunsSo, never}
 use Rattle.dkg_run.specs.Over.{Over}
 use Rattle.dkg_run.specs.Refusals.{BlamesOnlySkips}
@@ -56,6 +57,8 @@ pub record Promised (script : Script) (o : Over) (result : Result (Unit {0}) Fau
   pub offers : o.tells → Stands o.before.files o.before.image → OffersTheSame script o.before.files o.before.held added
   -- Whatever the devices tell, each answer of a final block's request is of one that was asked and isn't cancelled: what follows the logs that were asked for, or why there is none.
   pub answers : AnswersSo script added
+  -- .. and a completed step of a life that takes part, past its epoch's midpoint, leaves no request open unless a verification may run or one that was made no later still needs blocks.
+  pub leaves : LeavesSo script added
   -- Each share that is committed is this node's in the output that its epoch's info carries.
   pub shares : o.tells → Stands o.before.files o.before.image → CommitsFit script o.before.files o.before.held added
   -- A valid script over valid devices, of which no count rises, is run to its end, unless memory runs out.

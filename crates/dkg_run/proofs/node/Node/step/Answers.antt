@@ -286,30 +286,30 @@ feed-requires-clause-ready g c = c.requires.ready
 pub feed-requires-clause-goes : goal.feed-requires-clause-goes
 feed-requires-clause-goes g c = c.requires.goes
 
-pub returns-in-Some-2-clause-acts : goal.returns-in-Some-2-clause-acts
-returns-in-Some-2-clause-acts g c = λ disk secrets lived number st of here may view.
-    let at = ap (λ (bs : List (Block directory.Unit)). slice_get bs c.in-Feed.block) (sym here) ∙ sym c.in-Some-2.ensures in
-    rw c.in-Feed.is (feed_made lived number c.in-Feed.block st c.in-Some-2.block.now at c.feed.new.self c.feed.result _ _ _ _ _ _ c.in-Feed.request (c.feed.ensures.acts disk secrets lived number st of may view))
+pub returns-in-Some-of_number-clause-acts : goal.returns-in-Some-of_number-clause-acts
+returns-in-Some-of_number-clause-acts g c = λ disk secrets lived number st of here may view.
+    let at = ap (λ (bs : List (Block directory.Unit)). slice_get bs c.in-Feed.block) (sym here) ∙ sym c.in-Some-of_number.ensures in
+    rw c.in-Feed.is (feed_made lived number c.in-Feed.block st c.in-Some-of_number.block.now at c.feed.new.self c.feed.result _ _ _ _ _ _ c.in-Feed.request (c.feed.ensures.acts disk secrets lived number st of may view))
 
-pub returns-in-Some-2-clause-tells : goal.returns-in-Some-2-clause-tells
-returns-in-Some-2-clause-tells g c = λ lived number st of here may view.
-    let at = ap (λ (bs : List (Block directory.Unit)). slice_get bs c.in-Feed.block) (sym here) ∙ sym c.in-Some-2.ensures in
-    rw c.in-Feed.is (feed_said lived number c.in-Feed.block st c.in-Some-2.block.now at c.feed.new.self c.feed.result _ _ c.in-Feed.request (c.feed.ensures.tells lived number st of may view))
+pub returns-in-Some-of_number-clause-tells : goal.returns-in-Some-of_number-clause-tells
+returns-in-Some-of_number-clause-tells g c = λ lived number st of here may view.
+    let at = ap (λ (bs : List (Block directory.Unit)). slice_get bs c.in-Feed.block) (sym here) ∙ sym c.in-Some-of_number.ensures in
+    rw c.in-Feed.is (feed_said lived number c.in-Feed.block st c.in-Some-of_number.block.now at c.feed.new.self c.feed.result _ _ c.in-Feed.request (c.feed.ensures.tells lived number st of may view))
 
-pub returns-in-Some-2-clause-ready : goal.returns-in-Some-2-clause-ready
-returns-in-Some-2-clause-ready g c = c.feed.ensures.ready
+pub returns-in-Some-of_number-clause-ready : goal.returns-in-Some-of_number-clause-ready
+returns-in-Some-of_number-clause-ready g c = c.feed.ensures.ready
 
-pub returns-in-Some-2-clause-terms : goal.returns-in-Some-2-clause-terms
-returns-in-Some-2-clause-terms g c = c.feed.ensures.terms
+pub returns-in-Some-of_number-clause-terms : goal.returns-in-Some-of_number-clause-terms
+returns-in-Some-of_number-clause-terms g c = c.feed.ensures.terms
 
-pub returns-in-Some-2-clause-of : goal.returns-in-Some-2-clause-of
-returns-in-Some-2-clause-of g c = c.feed.ensures.of
+pub returns-in-Some-of_number-clause-of : goal.returns-in-Some-of_number-clause-of
+returns-in-Some-of_number-clause-of g c = c.feed.ensures.of
 
-pub returns-in-Some-2-clause-moved : goal.returns-in-Some-2-clause-moved
-returns-in-Some-2-clause-moved g c = c.feed.ensures.moved
+pub returns-in-Some-of_number-clause-moved : goal.returns-in-Some-of_number-clause-moved
+returns-in-Some-of_number-clause-moved g c = c.feed.ensures.moved
 
-pub returns-in-Some-2-clause-causes : goal.returns-in-Some-2-clause-causes
-returns-in-Some-2-clause-causes g c = c.feed.ensures.causes
+pub returns-in-Some-of_number-clause-causes : goal.returns-in-Some-of_number-clause-causes
+returns-in-Some-of_number-clause-causes g c = c.feed.ensures.causes
 
-pub returns-in-Some-2-clause-fit : goal.returns-in-Some-2-clause-fit
-returns-in-Some-2-clause-fit g c = c.feed.ensures.fit
+pub returns-in-Some-of_number-clause-fit : goal.returns-in-Some-of_number-clause-fit
+returns-in-Some-of_number-clause-fit g c = c.feed.ensures.fit
