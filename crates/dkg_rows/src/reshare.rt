@@ -2,7 +2,7 @@
 ghost use Rattle.std.specs.Prelude.{◌≡◌, ℕ, IfOk, OnOk, None, Some, if◌then◌else◌, ◌==◌};
 ghost use Rattle.std.specs.Int.NonZero.{non_zero_u64_get};
 ghost use Rattle.dkg_core.specs.Sources.{AtBlock};
-ghost use Rattle.dkg_reshare.specs.Actors.{IfLiving, IsAt, IsNew, IsTaken};
+ghost use Rattle.dkg_reshare.specs.Actors.{IfLiving, IsAt, IsNew, IsTaken, TakesBlock};
 ghost use Rattle.dkg_reshare.specs.declared.life.Life as life;
 ghost use Rattle.dkg_types.specs.declared.directory.Unit as directory;
 
@@ -156,6 +156,23 @@ fn step<C: Ceremony, P, R: Registrar, M, D: Disk, X: SecretStore, B: BlockSource
     actor.step(alloc, devices, source, message, fence, out)
 }
 
+/// .. and the delivery of a block.
+fn deliver<C: Ceremony, P, R: Registrar, M, D: Disk, X: SecretStore>(
+    alloc: Global,
+    actor: &mut Actor<C, P, R, M, Unit>,
+    devices: &mut Devices<'_, D, X>,
+    block: &Block<Unit>,
+    fence: &mut Fence,
+    out: &mut Transcript,
+) -> Result<(), Stop>
+    requires at { IsAt D.tells D.files D.image C.ack_of C.deal_of C.check_ack_of actor.old.terms actor.old.state devices.old }
+    requires taken { IfLiving actor.old.state (λ its. TakesBlock (non_zero_u64_get actor.old.terms.blocks_per_epoch) its block.now) }
+    ensures at { IsAt D.tells D.files D.image C.ack_of C.deal_of C.check_ack_of actor.new.terms actor.new.state devices.new }
+    ensures terms { actor.new.terms ≡ actor.old.terms }
+{
+    actor.deliver(alloc, devices, block, fence, out)
+}
+
 /// The dealing, from its dealer.
 fn dealing(alloc: Global) -> Result<Message<Unit>, Fail>
     ensures { (blocks : ℕ) (its : life.Life directory.Unit) → IfOk result (IsTaken blocks its) }
@@ -212,7 +229,7 @@ fn heard<C: Ceremony, P, R: Registrar, M, D: Disk, X: SecretStore, B: BlockSourc
     Ok([opened, out.entries().len()])
 }
 
-/// The steps of the block behind this one, of one that doesn't stand on that, and one more. The height of the block that doesn't fit.
+/// The delivery of the block behind this one, the step of one that doesn't stand on that, and one more. The height of the block that doesn't fit.
 fn taken<C: Ceremony, P, R: Registrar, M, D: Disk, X: SecretStore, B: BlockSource<Unit>>(
     alloc: Global,
     actor: &mut Actor<C, P, R, M, Unit>,
@@ -225,8 +242,8 @@ fn taken<C: Ceremony, P, R: Registrar, M, D: Disk, X: SecretStore, B: BlockSourc
     requires at { IsAt D.tells D.files D.image C.ack_of C.deal_of C.check_ack_of actor.old.terms actor.old.state devices.old }
     requires blocks { non_zero_u64_get actor.old.terms.blocks_per_epoch ≡ 8 }
 {
-    let block = Message::Finalized(block_at(alloc, parent, Height(1), None)?);
-    if step(alloc, actor, devices, source, block, fence, out).is_err() {
+    let block = block_at(alloc, parent, Height(1), None)?;
+    if deliver(alloc, actor, devices, &block, fence, out).is_err() {
         return Err(Fail::from("not taken"));
     }
     let apart = Message::Finalized(block_at(alloc, parent, Height(2), None)?);
