@@ -1,5 +1,5 @@
 -- An actor's inclusion behind a call, and what a block without a payload carries.
-use Rattle.std.proofs.Common.{◌≡◌, ℕ, Option, None, Result, Ok, Err, OnOk}
+use Rattle.std.proofs.Common.{◌≡◌, ℕ, None, Result, Ok, Err, OnOk}
 use Rattle.dkg_types.specs.Blocks.{Block}
 use Rattle.dkg_reshare.specs.declared.actor.State.{State}
 use Rattle.dkg_reshare.specs.declared.actor.State.TheVariants.{New, Living, Failed}

@@ -355,6 +355,32 @@ fn taken<
     Ok(height)
 }
 
+/// The opening and the dealing's step, and what follows them. How many lines were told behind the opening and the dealing, and the height of the block
+/// that doesn't fit.
+fn lives<
+    C: Ceremony + Drop,
+    P: ParticipantsProvider<Dir = Unit>,
+    R: Registrar,
+    M,
+    D: Disk,
+    X: SecretStore,
+    B: BlockSource<Unit>,
+>(
+    alloc: Global,
+    actor: &mut Actor<C, P, R, M, Unit>,
+    devices: &mut Devices<'_, D, X>,
+    source: &B,
+    parent: Digest,
+    out: &mut Transcript,
+) -> Result<([usize; 2], u64), Fail>
+    requires { IsNew actor.old.state }
+{
+    let mut fence = Fence::new();
+    let told = heard(alloc, actor, devices, source, &mut fence, out)?;
+    let height = taken(alloc, actor, devices, source, parent, &mut fence, out)?;
+    Ok((told, height))
+}
+
 /// How many lines were told behind the opening, the dealing and all else, and the height of the block that doesn't fit.
 fn lived(alloc: Global) -> Result<([usize; 2], usize, u64), Fail> {
     let first = first_block(alloc)?;
@@ -368,25 +394,8 @@ fn lived(alloc: Global) -> Result<([usize; 2], usize, u64), Fail> {
         secrets: &mut secrets,
         fuse: Fuse::never(),
     };
-    let mut fence = Fence::new();
     let mut out = Transcript::new(alloc);
-    let told = heard(
-        alloc,
-        &mut actor,
-        &mut devices,
-        &source,
-        &mut fence,
-        &mut out,
-    )?;
-    let height = taken(
-        alloc,
-        &mut actor,
-        &mut devices,
-        &source,
-        parent,
-        &mut fence,
-        &mut out,
-    )?;
+    let (told, height) = lives(alloc, &mut actor, &mut devices, &source, parent, &mut out)?;
     Ok((told, out.entries().len(), height))
 }
 
@@ -517,6 +526,30 @@ fn verified<
     Ok(has_info(alloc, actor.told(1))?)
 }
 
+/// An opening with its requests, and the end of the verification. Whether the first request is answered by an info.
+fn includes<
+    C: Ceremony + Drop,
+    P: ParticipantsProvider<Dir = Unit>,
+    R: Registrar,
+    M,
+    D: Disk,
+    X: SecretStore,
+    B: BlockSource<Unit>,
+>(
+    alloc: Global,
+    actor: &mut Actor<C, P, R, M, Unit>,
+    devices: &mut Devices<'_, D, X>,
+    source: &B,
+    below: Block<Unit>,
+    out: &mut Transcript,
+) -> Result<bool, Fail>
+    requires { IsNew actor.old.state }
+{
+    let mut fence = Fence::new();
+    asked(alloc, actor, devices, source, below, &mut fence, out)?;
+    verified(alloc, actor, devices, source, &mut fence, out)
+}
+
 /// Whether a request is answered by an info, and how many lines were told.
 fn included(alloc: Global) -> Result<(bool, usize), Fail> {
     let first = first_block(alloc)?;
@@ -530,25 +563,8 @@ fn included(alloc: Global) -> Result<(bool, usize), Fail> {
         secrets: &mut secrets,
         fuse: Fuse::never(),
     };
-    let mut fence = Fence::new();
     let mut out = Transcript::new(alloc);
-    asked(
-        alloc,
-        &mut actor,
-        &mut devices,
-        &source,
-        below,
-        &mut fence,
-        &mut out,
-    )?;
-    let answered = verified(
-        alloc,
-        &mut actor,
-        &mut devices,
-        &source,
-        &mut fence,
-        &mut out,
-    )?;
+    let answered = includes(alloc, &mut actor, &mut devices, &source, below, &mut out)?;
     Ok((answered, out.entries().len()))
 }
 
