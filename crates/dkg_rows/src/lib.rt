@@ -1,4 +1,4 @@
-//! Tests of scripts, of the actor and of the top call over devices, a source and a sink that a script can't give; and two appends that are composed
+//! Tests of scripts and of the top call over devices, a source and a sink that a script can't give; and two appends that are composed
 //! through the journal's clauses.
 //!
 //! Worked rows are data: `dkg_replay` runs them.
@@ -15,8 +15,6 @@ mod lives;
 mod observer;
 #[cfg(test)]
 mod requests;
-#[cfg(test)]
-mod reshare;
 #[cfg(test)]
 mod runs;
 #[cfg(test)]

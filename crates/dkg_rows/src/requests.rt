@@ -1,9 +1,8 @@
 //! Requests for a final block's payload: they are fed, ended and taken away by their numbers.
 
-use crate::reshare::bare;
 use dkg_artifact::{Path, Request, Requests};
-use dkg_types::Unit;
-use dkg_values::{Digest, Mem};
+use dkg_types::{Block, Context, Unit};
+use dkg_values::{Digest, Epoch, Height, Key, Mem};
 use std::alloc::Global;
 use std::test::Fail;
 
@@ -20,6 +19,18 @@ fn ask(alloc: Global, requests: &mut Requests<Unit>, number: u64) -> Mem<()> {
 fn first(requests: &mut Requests<Unit>) -> Option<(u64, usize, bool)> {
     let request = requests.pop()?;
     Some((request.number, request.blocks.0.len(), request.ended))
+}
+
+/// A block that carries nothing.
+fn bare(alloc: Global, parent: Digest, height: u64) -> Mem<Block<Unit>> {
+    let context = Context {
+        epoch: Epoch(0),
+        view: height,
+        leader: Key(1),
+        parent_view: 0,
+        parent,
+    };
+    Block::new(alloc, context, parent, Height(height), None)
 }
 
 #[test]
