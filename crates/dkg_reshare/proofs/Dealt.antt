@@ -15,7 +15,7 @@ use Rattle.dkg_reshare.specs.declared.config.Terms.{Terms}
 use Rattle.dkg_reshare.specs.declared.life.Life.{Life}
 use Rattle.dkg_reshare.specs.declared.life.Stage.{Stage}
 use Rattle.dkg_reshare.specs.declared.life.Stage.TheVariants.{Dealing, Including, Following}
-use Rattle.dkg_reshare.specs.Actors.{IsReadyLife}
+use Rattle.dkg_reshare.specs.Ready.{IsReadyLife}
 use Rattle.dkg_reshare.specs.Heard.{round_dealt}
 use Rattle.dkg_reshare.specs.LiveOf.{DealsIn, IsDealing, IsSeated, Sits, SitsIn}
 use Rattle.dkg_reshare.specs.Moved.{IsFirm}

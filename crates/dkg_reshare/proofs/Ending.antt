@@ -9,7 +9,8 @@ use Rattle.dkg_reshare.specs.declared.actor.State.TheVariants.{New, Living, Fail
 use Rattle.dkg_reshare.specs.declared.inclusion.Inclusion.{Inclusion}
 use Rattle.dkg_reshare.specs.declared.life.Life.{Life}
 use Rattle.dkg_reshare.specs.declared.stop.Stop.{Stop}
-use Rattle.dkg_reshare.specs.Actors.{EndsAt, HasFailed, IfIncluding, IsAt, IsNew, IsReadyLife}
+use Rattle.dkg_reshare.specs.Ready.{IsReadyLife}
+use Rattle.dkg_reshare.specs.Actors.{EndsAt, HasFailed, IfIncluding, IsAt, IsNew}
 
 module _ {C Dir Signer Cfg : Type 0} where
   abbrev Apart : State C Dir Signer Cfg → Type 0

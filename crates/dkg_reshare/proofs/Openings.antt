@@ -48,7 +48,7 @@ use Rattle.dkg_core.specs.Said.{SaysBy}
 use Rattle.dkg_core.specs.Seen.{Seen}
 use Rattle.dkg_reshare.specs.declared.stop.Stop.{Stop}
 use Rattle.dkg_reshare.specs.declared.stop.Stop.TheVariants.{Fault as Faulted, Cut, Failed}
-use Rattle.dkg_reshare.specs.Actors.{IsFoundAt}
+use Rattle.dkg_reshare.specs.Ready.{IsFoundAt}
 use Rattle.dkg_reshare.specs.declared.config.Terms.{Terms}
 use Rattle.dkg_reshare.specs.declared.life.Life.{Life}
 use Rattle.dkg_reshare.specs.declared.life.Stage.TheVariants.{Following}

@@ -27,7 +27,7 @@ use Rattle.dkg_reshare.specs.declared.life.Life.{Life}
 use Rattle.dkg_reshare.specs.declared.life.Stage.{Stage}
 use Rattle.dkg_reshare.specs.declared.life.Stage.TheVariants.{Dealing, Including, Following}
 use Rattle.dkg_reshare.specs.declared.config.Terms.{Terms}
-use Rattle.dkg_reshare.specs.Actors.{IsReadyLife, IsSetUp}
+use Rattle.dkg_reshare.specs.Ready.{IsReadyLife, IsSetUp}
 use Rattle.dkg_reshare.specs.LiveOf.{Beside, IsDealing, IsFresh, IsPlaced, IsSeated, IsWithin, awaited_of, live_of}
 use Rattle.dkg_reshare.specs.Moved.{IsFirm}
 use Rattle.dkg_reshare.specs.Given.{IsLent, IsOf, ReadsPlanless}

@@ -17,7 +17,7 @@ use Rattle.dkg_reshare.specs.declared.life.Life.{Life}
 use Rattle.dkg_reshare.specs.declared.life.Stage.{Stage}
 use Rattle.dkg_reshare.specs.declared.life.Stage.TheVariants.{Dealing, Including, Following}
 use Rattle.dkg_reshare.specs.declared.stop.Stop.{Stop}
-use Rattle.dkg_reshare.specs.Actors.{IsReadyLife}
+use Rattle.dkg_reshare.specs.Ready.{IsReadyLife}
 use Rattle.dkg_reshare.specs.LiveOf.{DealsIn, IsDealing, IsPlaced, IsSeated, IsToSign, IsWithin, Sits, SitsIn}
 use Rattle.dkg_reshare.specs.Moved.{IsFirm}
 use Rattle.dkg_reshare.specs.Rules.{AckOf, CheckAckOf, DealOf}

@@ -23,7 +23,7 @@ use Rattle.dkg_reshare.specs.declared.life.Stage.TheVariants as stage
 use Rattle.dkg_reshare.specs.declared.stop.Stop.{Stop}
 use Rattle.dkg_reshare.specs.declared.stop.Stop.TheVariants.{Fault as Faulted}
 use Rattle.dkg_reshare.specs.declared.told.Told.{Told}
-use Rattle.dkg_reshare.specs.Actors.{IsReadyLife}
+use Rattle.dkg_reshare.specs.Ready.{IsReadyLife}
 use Rattle.dkg_reshare.specs.Ends.{IsCaused}
 use Rattle.dkg_reshare.specs.Including.{behind_answer}
 use Rattle.dkg_reshare.specs.InclusionOf.{IsReadyInclusion, IsRunnable, IsSettledInclusion, tip_of}

@@ -14,6 +14,7 @@ pub mod LiveOf
 pub mod Made
 pub mod Moved
 pub mod Opened
+pub mod Ready
 pub mod Refusing
 pub mod Rules
 pub mod Scanned

@@ -17,7 +17,7 @@ ghost use Rattle.dkg_types.specs.declared.fault.Fault.TheVariants.{NoMemory as O
 ghost use Rattle.dkg_core.specs.Dealing as dealing;
 ghost use Rattle.dkg_core.specs.Fixed.{Fixed};
 ghost use Rattle.dkg_core.specs.Said.{Said};
-ghost use Rattle.dkg_reshare.specs.Actors.{IsReadyLife};
+ghost use Rattle.dkg_reshare.specs.Ready.{IsReadyLife};
 ghost use Rattle.dkg_reshare.specs.Ends.{IsCaused, ends, ends_in};
 ghost use Rattle.dkg_reshare.specs.Given.{IsOf};
 ghost use Rattle.dkg_reshare.specs.Heard.{Keeps, answers, round_dealt};

@@ -13,7 +13,7 @@ ghost use Rattle.dkg_types.specs.declared.fault.Fault.TheVariants.{NoMemory as O
 ghost use Rattle.dkg_core.specs.Blocks as blocks;
 ghost use Rattle.dkg_core.specs.Fixed.{Fixed, has};
 ghost use Rattle.dkg_core.specs.Including as including;
-ghost use Rattle.dkg_reshare.specs.Actors.{IsReadyLife};
+ghost use Rattle.dkg_reshare.specs.Ready.{IsReadyLife};
 ghost use Rattle.dkg_reshare.specs.Carried.{CarriesWithin, cleared_of};
 ghost use Rattle.dkg_reshare.specs.Ends.{IsCaused, ends_in};
 ghost use Rattle.dkg_reshare.specs.InclusionOf.{IsSeen};

@@ -1,8 +1,8 @@
 //! This node's own dealing: each new early block offers it to the players that have not acknowledged it.
 //!
-//! Its half of the dealing goes through its own player, and its own acknowledgement through its dealer. Each function here is a part of the
-//! relation's `deals`, and names it.
-ghost use Rattle.std.specs.Prelude.{◌≡◌, ◌∷◌, ◌⊎◌, [], IfErr, IfOk, IfSome, IsSomeAnd, IsTrue, OnOk};
+//! Its half of the dealing goes through its own player, and its own acknowledgement through its dealer. At the midpoint the dealer signs its log.
+//! Each function here is a part of the relation's `deals`, or of a setup, and names it.
+ghost use Rattle.std.specs.Prelude.{◌≡◌, ◌∷◌, ◌⊎◌, [], IfErr, IfOk, IfSome, IsSomeAnd, IsTrue, OnErr, OnOk};
 ghost use Rattle.std.specs.FinMap as map;
 ghost use Rattle.std.specs.Int.NonZero.{non_zero_u32_get};
 ghost use Rattle.std.specs.List.{AllByRecursion};
@@ -18,21 +18,22 @@ ghost use Rattle.dkg_types.specs.declared.fault.Fault.TheVariants.{LocalState, N
 ghost use Rattle.dkg_types.specs.declared.fault.LocalCause.TheVariants.{OwnDealing};
 ghost use Rattle.dkg_core.specs.Dealing as dealing;
 ghost use Rattle.dkg_core.specs.Fixed.{Fixed};
-ghost use Rattle.dkg_reshare.specs.Actors.{IsReadyLife};
+ghost use Rattle.dkg_core.specs.Setup as setup;
+ghost use Rattle.dkg_reshare.specs.Ready.{IsReadyLife};
 ghost use Rattle.dkg_reshare.specs.Ends.{IsCaused, ends_in};
 ghost use Rattle.dkg_reshare.specs.Given.{IsOf};
 ghost use Rattle.dkg_reshare.specs.Heard.{round_dealt};
-ghost use Rattle.dkg_reshare.specs.LiveOf.{Beside, live_of};
+ghost use Rattle.dkg_reshare.specs.LiveOf.{Beside, IsDealing, IsToSign, live_of};
 ghost use Rattle.dkg_reshare.specs.Made.{Makes, Tells};
 ghost use Rattle.dkg_reshare.specs.Moved.{Moved};
-ghost use Rattle.dkg_reshare.specs.Rules.{AnswersBy};
+ghost use Rattle.dkg_reshare.specs.Rules.{AnswersBy, DealsBy};
 ghost use Rattle.dkg_reshare.specs.Steps.{SameHalves, halves_of, with_public};
 ghost use Rattle.dkg_reshare.specs.declared.life.Stage.TheVariants.{Dealing};
 ghost use Rattle.dkg_reshare.specs.declared.stop.Stop.TheVariants.{Fault as Faulted};
 
 use crate::config::Terms;
 use crate::dealing::{handle, take_ack};
-use crate::life::Life;
+use crate::life::{Life, Stage};
 use crate::stop::Stop;
 use dkg_ceremony::{Ceremony, Private, Public, Value};
 use dkg_journal::Disk;
@@ -291,4 +292,27 @@ pub(crate) fn deal<C: Ceremony, Dir: Directory + Drop, D: Disk, X: SecretStore>(
     offer_all(
         alloc, ceremony, signer, terms, life, devices, epoch, unsent, out,
     )
+}
+
+/// Begins inclusion: the dealer, where there is one, signs its log, and offers it from now on (`begins_inclusion`).
+pub(crate) fn begin_inclusion<C: Ceremony, Dir: Directory + Drop>(
+    alloc: Global,
+    ceremony: &C,
+    signer: &C::Signer,
+    life: &mut Life<Dir>,
+) -> Result<(), Stop>
+    requires signs { IfSome life.old.dealer (IsToSign C.deal_of C.check_ack_of (C.Signer.key_of signer.now) life.old.round) }
+    ensures begun { OnOk result ((c : Fixed Dir) (beside : Beside Dir) (fence : Readiness) → beside.inclusion.served ≡ None → c.me ≡ C.Signer.key_of signer.now
+        → DealsBy C.deal_of C.check_ack_of C.sign_log_of c.rules → live_of beside fence life.new ≡ setup.begins_inclusion c (live_of beside fence life.old)) }
+    ensures rest { life.new ≡ record life.old { stage = life.new.stage; dealer = life.new.dealer } }
+    ensures stage { OnOk result (life.new.stage ≡ Stage.Including) }
+    ensures dealing { OnOk result (IsDealing C.deal_of C.check_ack_of (C.Signer.key_of signer.now) life.new) }
+    ensures same { OnErr result (life.new ≡ life.old) }
+    ensures memory { IfErr result (λ stop. stop ≡ Faulted OutOfMemory) }
+{
+    if let Some(dealer) = &mut life.dealer {
+        dealer.finalize(alloc, ceremony, signer)?;
+    }
+    life.stage = Stage::Including;
+    Ok(())
 }

@@ -8,7 +8,7 @@ ghost use Rattle.dkg_store.specs.Acts.{held_in};
 ghost use Rattle.dkg_core.specs.Agreeing.{AreAgreed};
 ghost use Rattle.dkg_core.specs.Core.{opening};
 ghost use Rattle.dkg_core.specs.Fixed.{Fixed};
-ghost use Rattle.dkg_reshare.specs.Actors.{IsFoundAt, IsReadyLife, IsSoundAt};
+ghost use Rattle.dkg_reshare.specs.Ready.{IsFoundAt, IsReadyLife, IsSoundAt};
 ghost use Rattle.dkg_reshare.specs.Ends.{ends};
 ghost use Rattle.dkg_reshare.specs.Given.{AreGivenFrom, HasRead, IsLent, reading};
 ghost use Rattle.dkg_reshare.specs.LiveOf.{EndsBeside, Took, live_of, no_fence, nothing_beside, records_of};

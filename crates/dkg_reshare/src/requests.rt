@@ -8,7 +8,7 @@ ghost use Rattle.dkg_journal.specs.Disk.{Rose};
 ghost use Rattle.dkg_journal.specs.Fuse.{Reached};
 ghost use Rattle.dkg_core.specs.Fixed.{Fixed};
 ghost use Rattle.dkg_core.specs.Including as including;
-ghost use Rattle.dkg_reshare.specs.Actors.{IsReadyLife};
+ghost use Rattle.dkg_reshare.specs.Ready.{IsReadyLife};
 ghost use Rattle.dkg_reshare.specs.Ends.{IsCaused, ends_in};
 ghost use Rattle.dkg_reshare.specs.Given.{IsOf, ReadsPlanless};
 ghost use Rattle.dkg_reshare.specs.LiveOf.{Beside, EndsWith, live_of};

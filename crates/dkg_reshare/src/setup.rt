@@ -26,7 +26,7 @@ ghost use Rattle.dkg_core.specs.Fixed as given;
 ghost use Rattle.dkg_core.specs.Live.{Live};
 ghost use Rattle.dkg_core.specs.Live as live;
 ghost use Rattle.dkg_core.specs.Setup as setup;
-ghost use Rattle.dkg_reshare.specs.Actors.{IsReadyLife, IsSetUp};
+ghost use Rattle.dkg_reshare.specs.Ready.{IsReadyLife, IsSetUp};
 ghost use Rattle.dkg_reshare.specs.Ends.{IsCaused, IsCausedBy, IsOutside, by_stop, ends, ends_in};
 ghost use Rattle.dkg_reshare.specs.Given.{CanRead, GivesBoth, GivesSeed, GivesShare, IsIn, IsLent, IsOf, ReadsPlanless};
 ghost use Rattle.dkg_reshare.specs.LiveOf.{Beside, DealsFor, EndsBeside, IsDealing, IsFresh, IsSeated, IsToSign, IsWithin, SitsIn, Took, awaited_of, dealer_of, live_of, records_of, scheme_by, seat_of, with_scheme_of};
@@ -39,7 +39,7 @@ ghost use Rattle.dkg_reshare.specs.declared.life.Life.{Life};
 ghost use Rattle.dkg_reshare.specs.declared.stop.Stop.TheVariants.{Fault as Faulted};
 
 use crate::config::Terms;
-use crate::inclusion::begin_inclusion;
+use crate::offers::begin_inclusion;
 use crate::life::{Life, Stage};
 use crate::source::BlockSource;
 use crate::stop::Stop;

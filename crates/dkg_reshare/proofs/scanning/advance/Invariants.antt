@@ -5,7 +5,7 @@ use Rattle.dkg_fence.specs.Readiness.{Readiness}
 use Rattle.dkg_store.specs.Acts.{went}
 use Rattle.dkg_core.specs.Fixed.{Fixed}
 use Rattle.dkg_core.specs.Including.{advances}
-use Rattle.dkg_reshare.specs.Actors.{IsReadyLife}
+use Rattle.dkg_reshare.specs.Ready.{IsReadyLife}
 use Rattle.dkg_reshare.specs.Given.{IsOf, ReadsPlanless}
 use Rattle.dkg_reshare.specs.InclusionOf.{IsReadyInclusion, IsSeen}
 use Rattle.dkg_reshare.specs.LiveOf.{Beside, EndsWith, live_of}

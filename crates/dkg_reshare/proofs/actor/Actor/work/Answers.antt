@@ -1,7 +1,7 @@
 use Rattle.std.proofs.Common.{ap, refl}
 use Rattle.dkg_reshare.specs.declared.life.Life.{Life}
 use Rattle.dkg_reshare.specs.declared.stop.Stop.TheVariants.{Failed}
-use Rattle.dkg_reshare.specs.Actors.{IsReadyLife}
+use Rattle.dkg_reshare.specs.Ready.{IsReadyLife}
 use Rattle.dkg_reshare.proofs.Beside.{took_nothing, with_as}
 use Rattle.dkg_reshare.proofs.Caused.{caused_around}
 use Rattle.dkg_reshare.proofs.Ending.{failed_ends, has_failed, not_living}

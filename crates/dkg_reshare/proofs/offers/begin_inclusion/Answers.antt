@@ -4,8 +4,8 @@ use Rattle.dkg_reshare.specs.declared.life.Stage.TheVariants.{Including}
 use Rattle.dkg_reshare.specs.LiveOf.{IsToSign, live_of}
 use Rattle.dkg_reshare.proofs.Dealers.{begun_bare, begun_signed, signs_it}
 use Rattle.dkg_reshare.proofs.Seated.{at_some}
-use Rattle.dkg_reshare.proofs.inclusion.begin_inclusion.Goals as goal
-use Rattle.dkg_reshare.proofs.inclusion.begin_inclusion.Goals.{in-Some+in_ok-finalize, in_default}
+use Rattle.dkg_reshare.proofs.offers.begin_inclusion.Goals as goal
+use Rattle.dkg_reshare.proofs.offers.begin_inclusion.Goals.{in-Some+in_ok-finalize, in_default}
 
 pub returns-clause-begun : goal.returns-clause-begun
 returns-clause-begun g c = λ fixed beside fence unserved mine deals. elim c.match-life.branch [
