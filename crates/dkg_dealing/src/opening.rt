@@ -62,7 +62,8 @@ fn open_store<Dir: Directory + Drop, D: Disk, X: SecretStore>(
         out.old.entries out.new.entries
         (D.image devices.old.disk.now) (D.image devices.new.disk.now) (X.held devices.old.secrets.now) (X.held devices.new.secrets.now) }
     ensures acts { IsTrue D.tells → IsTrue X.tells → IsInGrammar (non_zero_u32_get limit) (D.files devices.old.disk.now)
-        → Makes {Dir = Dir} D.files D.image X.held (opens_store seen_planless life (length (open_calls (D.files devices.old.disk.now)))) (ends records_of result)
+        → Makes {Dir = Dir} D.files D.image X.held (opens_store seen_planless life (length (open_calls (D.files devices.old.disk.now))))
+        (ends records_of result)
         devices.old devices.new out.old.entries out.new.entries }
     ensures tells { (calls : ℕ) → HasRead (λ s. UnlessBroken (ends records_of result) (IsTrue D.tells → IsTrue X.tells
         → AreGivenFrom 0 s.dealings (D.image devices.new.disk.now) (X.held devices.new.secrets.now)))
@@ -145,7 +146,8 @@ pub fn open_life<
         (λ now. Makes D.files D.image X.held (opening c) (ends (live_of now fence.new) result)
         devices.old devices.new out.old.entries out.new.entries) }
     ensures tells { (c : Fixed Dir) → IsLent terms.now (B.answers source.now) word c → c.life ≡ number → IsBareOpening c
-        → IsRuledBy C.round_of C.deal_of C.dealing_of C.ack_of C.check_ack_of C.sign_log_of C.bears_ack_of C.share_public_of C.partial_public_of c.rules → fence.old ≡ no_fence
+        → IsRuledBy C.round_of C.deal_of C.dealing_of C.ack_of C.check_ack_of C.sign_log_of C.bears_ack_of C.share_public_of C.partial_public_of c.rules
+        → fence.old ≡ no_fence
         → HasRead (λ s. UnlessBroken (ends (λ life. life) result) (IsTrue D.tells → IsTrue X.tells
         → AreGivenFrom (epoch_at (B.answers source.now) terms.now - 1) s.dealings (D.image devices.new.disk.now) (X.held devices.new.secrets.now)))
         (λ s. EndsBeside nothing_beside (λ more. OnOk result (Took R.tells (R.taken registrar.old) (R.taken registrar.new) more))

@@ -327,7 +327,8 @@ pub fn commit_and_register<R: Registrar, Dir: Directory + Drop, D: Disk, X: Secr
         (ends_in (live_of (with_scheme_of me info.now secrets.now.share beside) fence.new life.new) result)
         devices.old devices.new out.old.entries out.new.entries }
     ensures tells { (any : List ℕ) (c : Fixed Dir) (beside : Beside Dir) → c.me ≡ me
-        → Tells (bind (setup.commits info.now any secrets.now.share (live_of beside fence.old life.old)) (λ st. setup.registers c info.now secrets.now.share st))
+        → Tells (bind (setup.commits info.now any secrets.now.share (live_of beside fence.old life.old))
+        (λ st. setup.registers c info.now secrets.now.share st))
         (ends_in (live_of (with_scheme_of me info.now secrets.now.share beside) fence.new life.new) result) out.old.entries out.new.entries }
     ensures taken { OnOk result (IsTrue R.tells → R.taken registrar.new ≡ R.taken registrar.old ++ scheme_by me info.now secrets.now.share ∷ []) }
     ensures moved { Moved D.tells D.made X.made D.faults X.faults devices.old devices.new }
@@ -358,7 +359,8 @@ fn commit_new<R: Registrar, Dir: Directory + Drop, D: Disk, X: SecretStore>(
     ensures current { OnOk result ((standing ≡ Standing.WasCommitted → IsSome life.old.store.current) → IsSome life.new.store.current) }
     ensures acts { IsTrue D.tells → IsTrue X.tells → (c : Fixed Dir) (beside : Beside Dir) → c.me ≡ me
         → EndsBeside beside (λ more. OnOk result (Took R.tells (R.taken registrar.old) (R.taken registrar.new) more))
-        (λ now. Makes D.files D.image X.held (setup.commits_new (standing_of standing) c info.now secrets.now.seed secrets.now.share (live_of beside fence.old life.old))
+        (λ now. Makes D.files D.image X.held (setup.commits_new (standing_of standing) c info.now secrets.now.seed secrets.now.share
+        (live_of beside fence.old life.old))
         (ends_in (live_of now fence.new life.new) result) devices.old devices.new out.old.entries out.new.entries) }
     ensures tells { (any : List ℕ) (c : Fixed Dir) (beside : Beside Dir) → c.me ≡ me
         → EndsBeside beside (λ more. OnOk result (Took R.tells (R.taken registrar.old) (R.taken registrar.new) more))
@@ -679,19 +681,31 @@ fn set_up_by<C: Ceremony, R: Registrar, Dir: Directory + Drop, D: Disk, X: Secre
     requires me { terms.now.me ≡ C.Signer.key_of signer.now }
     requires open { IsTrue D.tells → IsFirm life.old.store.journal (D.files devices.old.disk.now) (D.image devices.old.disk.now) }
     requires known { standing ≡ Standing.WasCommitted → IsSome life.old.store.current }
-    ensures done { OnOk result (IsSetUp D.tells D.files D.image C.ack_of C.deal_of C.check_ack_of terms.now.me (non_zero_u32_get terms.now.limit) phase life.new devices.new) }
-    ensures rest { life.new ≡ record life.old { store = life.new.store; stage = life.new.stage; round = life.new.round; dealer = life.new.dealer; player = life.new.player } }
+    ensures done { OnOk result (IsSetUp D.tells D.files D.image C.ack_of C.deal_of C.check_ack_of terms.now.me
+        (non_zero_u32_get terms.now.limit) phase life.new devices.new) }
+    ensures rest { life.new ≡ record life.old {
+      store = life.new.store;
+      stage = life.new.stage;
+      round = life.new.round;
+      dealer = life.new.dealer;
+      player = life.new.player;
+    } }
     ensures current { OnOk result (IsSome life.new.store.current) }
-    ensures acts { IsTrue D.tells → IsTrue X.tells → (c : Fixed Dir) (beside : Beside Dir) → IsFresh beside.inclusion → IsIn terms.now life.old.word c → ReadsPlanless c
-        → IsRuledBy C.round_of C.deal_of C.dealing_of C.ack_of C.check_ack_of C.sign_log_of C.bears_ack_of C.share_public_of C.partial_public_of c.rules → StandsIn c (live_of beside fence.old life.old) phase
+    ensures acts { IsTrue D.tells → IsTrue X.tells → (c : Fixed Dir) (beside : Beside Dir) → IsFresh beside.inclusion → IsIn terms.now life.old.word c
+        → ReadsPlanless c
+        → IsRuledBy C.round_of C.deal_of C.dealing_of C.ack_of C.check_ack_of C.sign_log_of C.bears_ack_of C.share_public_of C.partial_public_of c.rules
+        → StandsIn c (live_of beside fence.old life.old) phase
         → EndsBeside beside (λ more. OnOk result (Took R.tells (R.taken registrar.old) (R.taken registrar.new) more))
-        (λ now. Makes D.files D.image X.held (setup.with_info c None (standing_of standing) info.now (live_of beside fence.old life.old)) (ends_in (live_of now fence.new life.new) result)
+        (λ now. Makes D.files D.image X.held (setup.with_info c None (standing_of standing) info.now (live_of beside fence.old life.old))
+        (ends_in (live_of now fence.new life.new) result)
         devices.old devices.new out.old.entries out.new.entries) }
     // Whatever the devices tell, its lines are those of one that has read some shares and seeds.
     ensures tells { (h : Held) × ((c : Fixed Dir) (beside : Beside Dir) → IsFresh beside.inclusion → IsIn terms.now life.old.word c → CanRead c h
-        → IsRuledBy C.round_of C.deal_of C.dealing_of C.ack_of C.check_ack_of C.sign_log_of C.bears_ack_of C.share_public_of C.partial_public_of c.rules → StandsIn c (live_of beside fence.old life.old) phase
+        → IsRuledBy C.round_of C.deal_of C.dealing_of C.ack_of C.check_ack_of C.sign_log_of C.bears_ack_of C.share_public_of C.partial_public_of c.rules
+        → StandsIn c (live_of beside fence.old life.old) phase
         → EndsBeside beside (λ more. OnOk result (Took R.tells (R.taken registrar.old) (R.taken registrar.new) more))
-        (λ now. Tells (setup.with_info c None (standing_of standing) info.now (live_of beside fence.old life.old)) (ends_in (live_of now fence.new life.new) result)
+        (λ now. Tells (setup.with_info c None (standing_of standing) info.now (live_of beside fence.old life.old))
+        (ends_in (live_of now fence.new life.new) result)
         out.old.entries out.new.entries)) }
     ensures moved { Moved D.tells D.made X.made D.faults X.faults devices.old devices.new }
     ensures causes { IfErr result (λ stop. IsCausedBy D.tells stop (Rose (D.faults devices.old.disk.now) (D.faults devices.new.disk.now))
@@ -723,7 +737,14 @@ fn boundary_of(bounds: &Bounds) -> Height
 
 /// A life in the epoch of these bounds, with nothing of the epoch before but its records and its current info (`anew`).
 fn begin_epoch<Dir: Directory + Drop>(life: &mut Life<Dir>, bounds: &Bounds)
-    ensures { life.new ≡ record life.old { epoch = bounds.now.epoch; midpoint = bounds.now.midpoint; stage = Stage.Following; round = None; dealer = None; player = None } }
+    ensures { life.new ≡ record life.old {
+      epoch = bounds.now.epoch;
+      midpoint = bounds.now.midpoint;
+      stage = Stage.Following;
+      round = None;
+      dealer = None;
+      player = None;
+    } }
 {
     life.epoch = bounds.epoch;
     life.midpoint = bounds.midpoint;
@@ -786,13 +807,15 @@ pub(crate) fn set_up<
     ensures ready { OnOk result (IsReadyLife D.tells D.files D.image C.ack_of C.deal_of C.check_ack_of terms.now life.new devices.new) }
     ensures word { life.new.word ≡ life.old.word }
     ensures current { OnOk result ((life.new.stage ≡ Stage.Following → ⊥) → IsSome life.new.store.current) }
-    ensures acts { IsTrue D.tells → IsTrue X.tells → (c : Fixed Dir) (beside : Beside Dir) → IsFresh beside.inclusion → IsLent terms.now (B.answers source.now) life.old.word c → ReadsPlanless c
+    ensures acts { IsTrue D.tells → IsTrue X.tells → (c : Fixed Dir) (beside : Beside Dir) → IsFresh beside.inclusion
+        → IsLent terms.now (B.answers source.now) life.old.word c → ReadsPlanless c
         → IsRuledBy C.round_of C.deal_of C.dealing_of C.ack_of C.check_ack_of C.sign_log_of C.bears_ack_of C.share_public_of C.partial_public_of c.rules
         → EndsBeside beside (λ more. OnOk result (Took R.tells (R.taken registrar.old) (R.taken registrar.new) more))
         (λ now. Makes D.files D.image X.held (setup.setup c None (live_of beside fence.old life.old)) (ends_in (live_of now fence.new life.new) result)
         devices.old devices.new out.old.entries out.new.entries) }
     // Whatever the devices tell, its lines are those of one that has read some shares and seeds.
-    ensures tells { (h : Held) × ((c : Fixed Dir) (beside : Beside Dir) → IsFresh beside.inclusion → IsLent terms.now (B.answers source.now) life.old.word c → CanRead c h
+    ensures tells { (h : Held) × ((c : Fixed Dir) (beside : Beside Dir) → IsFresh beside.inclusion
+        → IsLent terms.now (B.answers source.now) life.old.word c → CanRead c h
         → IsRuledBy C.round_of C.deal_of C.dealing_of C.ack_of C.check_ack_of C.sign_log_of C.bears_ack_of C.share_public_of C.partial_public_of c.rules
         → EndsBeside beside (λ more. OnOk result (Took R.tells (R.taken registrar.old) (R.taken registrar.new) more))
         (λ now. Tells (setup.setup c None (live_of beside fence.old life.old)) (ends_in (live_of now fence.new life.new) result)
@@ -854,7 +877,8 @@ pub fn set_up_committed<C: Ceremony, R: Registrar, Dir: Directory + Drop, D: Dis
     ensures ready { OnOk result (IsReadyLife D.tells D.files D.image C.ack_of C.deal_of C.check_ack_of terms.now life.new devices.new) }
     ensures word { life.new.word ≡ life.old.word }
     ensures current { OnOk result (IsSome life.new.store.current) }
-    ensures acts { IsTrue D.tells → IsTrue X.tells → (c : Fixed Dir) (beside : Beside Dir) → IsFresh beside.inclusion → IsIn terms.now life.old.word c → ReadsPlanless c
+    ensures acts { IsTrue D.tells → IsTrue X.tells → (c : Fixed Dir) (beside : Beside Dir) → IsFresh beside.inclusion → IsIn terms.now life.old.word c
+        → ReadsPlanless c
         → IsRuledBy C.round_of C.deal_of C.dealing_of C.ack_of C.check_ack_of C.sign_log_of C.bears_ack_of C.share_public_of C.partial_public_of c.rules
         → EndsBeside beside (λ more. OnOk result (Took R.tells (R.taken registrar.old) (R.taken registrar.new) more))
         (λ now. Makes D.files D.image X.held (setup.setup c None (live_of beside fence.old life.old)) (ends_in (live_of now fence.new life.new) result)

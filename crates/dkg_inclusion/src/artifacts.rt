@@ -144,7 +144,8 @@ where
     ensures ok { IfOk result (λ made. IsTrue P.tells → (made ≡ follows_with (P.directory_of provider.old) info found.now next_players)
         × (P.Dir.matches_of made.directory (including.info_peers made) ≡ true)) }
     ensures err { IfErr result (λ stop. IsTrue P.tells → (stop ≡ Faulted OutOfMemory) ⊎ ((stop ≡ Faulted (DirectoryMismatch (info.epoch + 1)))
-        × (let made = follows_with (P.directory_of provider.old) info found.now next_players in P.Dir.matches_of made.directory (including.info_peers made) ≡ false))) }
+        × (let made = follows_with (P.directory_of provider.old) info found.now next_players in P.Dir.matches_of made.directory
+        (including.info_peers made) ≡ false))) }
     ensures causes { IfErr result (λ stop. IsCaused stop ⊥ ⊥ ⊥) }
 {
     let epoch = Epoch(info.epoch.0 + 1);

@@ -302,7 +302,8 @@ impl<
     ) -> Result<(), Stop>
         requires at { IsAt D.tells D.files D.image C.ack_of C.deal_of C.check_ack_of self.old.terms self.old.state devices.old }
         requires within { BringsWithin (non_zero_u32_get self.old.terms.limit) message }
-        requires including { IfIncluding self.old.state (IsSettledInclusion C.check_log_of C.dealing_of C.finish_of (non_zero_u64_get self.old.terms.blocks_per_epoch)) }
+        requires including { IfIncluding self.old.state (IsSettledInclusion C.check_log_of C.dealing_of C.finish_of
+            (non_zero_u64_get self.old.terms.blocks_per_epoch)) }
         ensures including { OnOk result (IfIncluding self.new.state (IsSettledInclusion C.check_log_of C.dealing_of C.finish_of
             (non_zero_u64_get self.new.terms.blocks_per_epoch))) }
         // It is the relation's step, and each act was made, whatever image a crash leaves.
@@ -380,7 +381,8 @@ impl<
     ) -> Result<(), Stop>
         requires at { IsAt D.tells D.files D.image C.ack_of C.deal_of C.check_ack_of self.old.terms self.old.state devices.old }
         requires within { CarriesWithin (non_zero_u32_get self.old.terms.limit) block.now }
-        requires including { IfIncluding self.old.state (IsSettledInclusion C.check_log_of C.dealing_of C.finish_of (non_zero_u64_get self.old.terms.blocks_per_epoch)) }
+        requires including { IfIncluding self.old.state (IsSettledInclusion C.check_log_of C.dealing_of C.finish_of
+            (non_zero_u64_get self.old.terms.blocks_per_epoch)) }
         ensures including { OnOk result (IfIncluding self.new.state (IsSettledInclusion C.check_log_of C.dealing_of C.finish_of
             (non_zero_u64_get self.new.terms.blocks_per_epoch))) }
         // It is the relation's step, and each act was made, whatever image a crash leaves.
@@ -459,7 +461,8 @@ impl<
         out: &mut Transcript,
     ) -> Result<(), Stop>
         requires at { IsAt D.tells D.files D.image C.ack_of C.deal_of C.check_ack_of self.old.terms self.old.state devices.old }
-        requires including { IfIncluding self.old.state (IsSettledInclusion C.check_log_of C.dealing_of C.finish_of (non_zero_u64_get self.old.terms.blocks_per_epoch)) }
+        requires including { IfIncluding self.old.state (IsSettledInclusion C.check_log_of C.dealing_of C.finish_of
+            (non_zero_u64_get self.old.terms.blocks_per_epoch)) }
         ensures including { OnOk result (IfIncluding self.new.state (IsSettledInclusion C.check_log_of C.dealing_of C.finish_of
             (non_zero_u64_get self.new.terms.blocks_per_epoch))) }
         // It is the relation's step of that message, and each act was made, whatever image a crash leaves.

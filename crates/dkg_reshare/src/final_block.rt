@@ -112,7 +112,8 @@ fn see_verified<C: Ceremony + Drop, Dir: Directory + Drop>(
     ensures speaks { (c : Fixed Dir) (round : Round) (beside : Beside Dir) (fence : Readiness) → c.me ≡ terms.now.me
         → FindsBy C.bears_ack_of C.dealing_of C.outcome_of C.finish_of c → midpoint c.blocks_per_epoch life.now.epoch ≡ life.now.midpoint
         → life.now.round ≡ Some round → IsSeen inclusion.old beside.inclusion → EndsWith beside (λ i. OnOk result (IsSeen inclusion.new i)) (λ more. more ≡ [])
-        (λ now. (out : List Line) → Speaks (sees_verified c round logs.now (live_of beside fence life.now)) (ends_in (live_of now fence life.now) result) out out) }
+        (λ now. (out : List Line) → Speaks (sees_verified c round logs.now (live_of beside fence life.now))
+        (ends_in (live_of now fence life.now) result) out out) }
     ensures causes { IfErr result (λ stop. IsCaused stop ⊥ ⊥ ⊥) }
 {
     if inclusion.verification.ready(logs).is_some() {
@@ -162,7 +163,8 @@ fn derive_now<
         (λ now. Makes D.files D.image X.held (derives_now c round logs.now (live_of beside fence life.old)) (ends
         (λ made. (artifact_of made, live_of now fence life.new)) result)
         devices.old devices.new out out) }
-    ensures tells { IsTrue P.tells → (c : Fixed Dir) (round : Round) (beside : Beside Dir) (fence : Readiness) (out : List Line) → IsOf terms.now c → ReadsPlanless c
+    ensures tells { IsTrue P.tells → (c : Fixed Dir) (round : Round) (beside : Beside Dir) (fence : Readiness) (out : List Line) → IsOf terms.now c
+        → ReadsPlanless c
         → IsRuledBy C.round_of C.deal_of C.dealing_of C.ack_of C.check_ack_of C.sign_log_of C.bears_ack_of C.share_public_of C.partial_public_of c.rules
         → IncludesBy C.check_log_of C.outcome_of C.finish_of (P.participants_of provider.old) (P.directory_of provider.old) Dir.spelling Dir.matches_of c
         → life.old.round ≡ Some round → IsSeen inclusion.old beside.inclusion → EndsWith beside (λ i. OnOk result (IsSeen inclusion.new i)) (λ more. more ≡ [])
@@ -235,7 +237,8 @@ fn artifact_by<
         (λ now. Makes D.files D.image X.held (derives_by c round logs.now (option_map artifact_of before) (live_of beside fence life.old)) (ends
         (λ made. (artifact_of made, live_of now fence life.new)) result)
         devices.old devices.new out out) }
-    ensures tells { IsTrue P.tells → (c : Fixed Dir) (round : Round) (beside : Beside Dir) (fence : Readiness) (out : List Line) → IsOf terms.now c → ReadsPlanless c
+    ensures tells { IsTrue P.tells → (c : Fixed Dir) (round : Round) (beside : Beside Dir) (fence : Readiness) (out : List Line) → IsOf terms.now c
+        → ReadsPlanless c
         → IsRuledBy C.round_of C.deal_of C.dealing_of C.ack_of C.check_ack_of C.sign_log_of C.bears_ack_of C.share_public_of C.partial_public_of c.rules
         → IncludesBy C.check_log_of C.outcome_of C.finish_of (P.participants_of provider.old) (P.directory_of provider.old) Dir.spelling Dir.matches_of c
         → life.old.round ≡ Some round → IsSeen inclusion.old beside.inclusion → EndsWith beside (λ i. OnOk result (IsSeen inclusion.new i)) (λ more. more ≡ [])
