@@ -37,7 +37,7 @@ pair_same n p m q = grind (arith, nat_tests)
 same_true : (a b : ℕ) → (a == b) ≡ true → a ≡ b
 same_true a b h = grind (arith, nat_tests)
 
-same_self : (a : ℕ) → (a == a) ≡ true
+pub same_self : (a : ℕ) → (a == a) ≡ true
 same_self a = grind (arith, nat_tests)
 
 same_false : (a b : ℕ) → a ≢ b → (a == b) ≡ false
@@ -167,69 +167,69 @@ module _ {Dir : Type 0} where
 
   module _ (numbers : BTreeSet (ℕ × ℕ)) (waiting : BTreeMap ℕ (Request Dir)) (known : AreKnown numbers waiting) where
     at_place : (place n q : ℕ) → (place == q) ≡ true → has_place numbers n q ≡ is_of n (get nat_cmp waiting place)
-    at_place place n q same = known n q ∙ ap (λ (p : ℕ). is_of n (get nat_cmp waiting p)) (sym (same_true place q same))
+    at_place place n q same = known.1 n q ∙ ap (λ (p : ℕ). is_of n (get nat_cmp waiting p)) (sym (same_true place q same))
 
     pub known_put : (ns : BTreeSet (ℕ × ℕ)) (ws : BTreeMap ℕ (Request Dir)) (number place : ℕ) (r : Request Dir) → number ≡ r.number → get nat_cmp waiting place ≡ None
-        → Adds numbers number place true ns → Puts waiting place (Some r) ws → AreKnown ns ws
-    known_put ns ws number place r same free adds puts n q =
+        → Adds numbers number place true ns → Puts waiting place (Some r) ws → IsOrdered nat_cmp ws → AreKnown ns ws
+    known_put ns ws number place r same free adds puts ordered = (ordered, λ n q.
         adds (n, q)
         ∙ ap (λ (b : Bool). cond b true (has_place numbers n q)) (pair_same number place n q)
-        ∙ by_tests (number == n) (place == q) (ap (λ (k : ℕ). k == n) (sym same)) refl
+        ∙ by_tests n q (number == n) (place == q) (ap (λ (k : ℕ). k == n) (sym same)) refl
         ∙ ap (λ (b : Bool). is_of n (cond b (Some r) (get nat_cmp waiting q))) (sym (one_same place q))
-        ∙ ap (is_of n) (sym (puts q))
+        ∙ ap (is_of n) (sym (puts q)))
       where
-        by_tests : (a b : Bool) → (r.number == n) ≡ a → (place == q) ≡ b → cond (a && b) true (has_place numbers n q) ≡ is_of n (cond b (Some r) (get nat_cmp waiting q))
-        by_tests true true of_n here = sym of_n
-        by_tests false true of_n here = at_place place n q here ∙ ap (is_of n) free ∙ sym of_n
-        by_tests true false of_n here = known n q
-        by_tests false false of_n here = known n q
+        by_tests : (n q : ℕ) (a b : Bool) → (r.number == n) ≡ a → (place == q) ≡ b → cond (a && b) true (has_place numbers n q) ≡ is_of n (cond b (Some r) (get nat_cmp waiting q))
+        by_tests n q true true of_n here = sym of_n
+        by_tests n q false true of_n here = at_place place n q here ∙ ap (is_of n) free ∙ sym of_n
+        by_tests n q true false of_n here = known.1 n q
+        by_tests n q false false of_n here = known.1 n q
 
     pub known_taken : (ns : BTreeSet (ℕ × ℕ)) (ws : BTreeMap ℕ (Request Dir)) (number place : ℕ) → is_of number (get nat_cmp waiting place) ≡ true
-        → Adds numbers number place false ns → Puts waiting place None ws → AreKnown ns ws
-    known_taken ns ws number place of_number adds puts n q =
+        → Adds numbers number place false ns → Puts waiting place None ws → IsOrdered nat_cmp ws → AreKnown ns ws
+    known_taken ns ws number place of_number adds puts ordered = (ordered, λ n q.
         adds (n, q)
         ∙ ap (λ (b : Bool). cond b false (has_place numbers n q)) (pair_same number place n q)
-        ∙ by_tests (number == n) (place == q) refl refl
+        ∙ by_tests n q (number == n) (place == q) refl refl
         ∙ ap (λ (b : Bool). is_of n (cond b None (get nat_cmp waiting q))) (sym (one_same place q))
-        ∙ ap (is_of n) (sym (puts q))
+        ∙ ap (is_of n) (sym (puts q)))
       where
-        by_tests : (a b : Bool) → (number == n) ≡ a → (place == q) ≡ b → cond (a && b) false (has_place numbers n q) ≡ is_of n (cond b None (get nat_cmp waiting q))
-        by_tests true true of_n here = refl
-        by_tests false true of_n here = at_place place n q here ∙ of_other number n (get nat_cmp waiting place) of_number of_n
-        by_tests true false of_n here = known n q
-        by_tests false false of_n here = known n q
+        by_tests : (n q : ℕ) (a b : Bool) → (number == n) ≡ a → (place == q) ≡ b → cond (a && b) false (has_place numbers n q) ≡ is_of n (cond b None (get nat_cmp waiting q))
+        by_tests n q true true of_n here = refl
+        by_tests n q false true of_n here = at_place place n q here ∙ of_other number n (get nat_cmp waiting place) of_number of_n
+        by_tests n q true false of_n here = known.1 n q
+        by_tests n q false false of_n here = known.1 n q
 
     -- a pair that was put in and taken out again
     pub known_undone : (ms ns : BTreeSet (ℕ × ℕ)) (ws : BTreeMap ℕ (Request Dir)) (number place : ℕ) → get nat_cmp waiting place ≡ None
         → Adds numbers number place true ms → Adds ms number place false ns → ws.entries ≡ waiting.entries → AreKnown ns ws
-    known_undone ms ns ws number place free adds removes same n q =
+    known_undone ms ns ws number place free adds removes same = (subst (λ (es : List (ℕ × Request Dir)). IsStrictlySortedBy nat_cmp (keys_of es)) (sym same) known.0, λ n q.
         removes (n, q)
         ∙ ap (λ (b : Bool). cond b false (has_place ms n q)) (pair_same number place n q)
         ∙ ap (λ (b : Bool). cond ((number == n) && (place == q)) false b) (adds (n, q) ∙ ap (λ (b : Bool). cond b true (has_place numbers n q)) (pair_same number place n q))
-        ∙ by_tests (number == n) (place == q) refl
-        ∙ ap (λ (es : List (ℕ × Request Dir)). is_of n (lookup (is_at (nat_cmp q)) es)) (sym same)
+        ∙ by_tests n q (number == n) (place == q) refl
+        ∙ ap (λ (es : List (ℕ × Request Dir)). is_of n (lookup (is_at (nat_cmp q)) es)) (sym same))
       where
-        by_tests : (a b : Bool) → (place == q) ≡ b → cond (a && b) false (cond (a && b) true (has_place numbers n q)) ≡ is_of n (get nat_cmp waiting q)
-        by_tests true true here = sym (sym (known n q) ∙ at_place place n q here ∙ ap (is_of n) free)
-        by_tests false true here = known n q
-        by_tests true false here = known n q
-        by_tests false false here = known n q
+        by_tests : (n q : ℕ) (a b : Bool) → (place == q) ≡ b → cond (a && b) false (cond (a && b) true (has_place numbers n q)) ≡ is_of n (get nat_cmp waiting q)
+        by_tests n q true true here = sym (sym (known.1 n q) ∙ at_place place n q here ∙ ap (is_of n) free)
+        by_tests n q false true here = known.1 n q
+        by_tests n q true false here = known.1 n q
+        by_tests n q false false here = known.1 n q
 
     pub known_same : (ns : BTreeSet (ℕ × ℕ)) (ws : BTreeMap ℕ (Request Dir)) → ns.keys ≡ numbers.keys → ws.entries ≡ waiting.entries → AreKnown ns ws
-    known_same ns ws keys entries n q =
+    known_same ns ws keys entries = (subst (λ (es : List (ℕ × Request Dir)). IsStrictlySortedBy nat_cmp (keys_of es)) (sym entries) known.0, λ n q.
         ap (λ (ks : List (ℕ × ℕ)). contains pair_cmp (record { keys = ks }) (n, q)) keys
-        ∙ known n q
-        ∙ ap (λ (es : List (ℕ × Request Dir)). is_of n (lookup (is_at (nat_cmp q)) es)) (sym entries)
+        ∙ known.1 n q
+        ∙ ap (λ (es : List (ℕ × Request Dir)). is_of n (lookup (is_at (nat_cmp q)) es)) (sym entries))
 
-    pub known_kept : (ws : BTreeMap ℕ (Request Dir)) → KeepsNumbers waiting ws → AreKnown numbers ws
-    known_kept ws keeps n q = known n q ∙ sym (keeps n q)
+    pub known_kept : (ws : BTreeMap ℕ (Request Dir)) → IsOrdered nat_cmp ws → KeepsNumbers waiting ws → AreKnown numbers ws
+    known_kept ws ordered keeps = (ordered, λ n q. known.1 n q ∙ sym (keeps n q))
 
     -- each request is known by its number and place
-    pub all_known : IsOrdered nat_cmp waiting → AllByRecursion (λ e. has_place numbers e.1.number e.0 ≡ true) waiting.entries
-    all_known ordered = 
+    pub all_known : AllByRecursion (λ e. has_place numbers e.1.number e.0 ≡ true) waiting.entries
+    all_known = 
         recursion_from_All (λ e. has_place numbers e.1.number e.0 ≡ true) waiting.entries
-        (All-weaker (λ e. get nat_cmp waiting e.0 ≡ Some e.1) (λ e. has_place numbers e.1.number e.0 ≡ true) (λ e found. known e.1.number e.0 ∙ ap (is_of e.1.number) {y = Some e.1} found ∙ same_self e.1.number) waiting.entries
-        (All-found nat_cmp_total waiting ordered))
+        (All-weaker (λ e. get nat_cmp waiting e.0 ≡ Some e.1) (λ e. has_place numbers e.1.number e.0 ≡ true) (λ e found. known.1 e.1.number e.0 ∙ ap (is_of e.1.number) {y = Some e.1} found ∙ same_self e.1.number) waiting.entries
+        (All-found nat_cmp_total waiting known.0))
 
   -- WHAT BECOMES OF THE REQUESTS OF A NUMBER
 
@@ -384,3 +384,10 @@ on_ok_as (Err e) by so = so
 abbrev pub to_go : (next : Option ℕ) → ℕ
 to_go None = 0
 to_go (Some next) = 2 ^ 64 - next
+
+pub goes_on : (numbers : BTreeSet (ℕ × ℕ)) (number at : ℕ) (next before : Option ℕ) → at < 2 ^ 64 → IsNext numbers number (at + 1) next → before ≡ Some at → to_go next < to_go before
+goes_on numbers number at next before fits is at_it = subst (λ (o : Option ℕ). to_go next < to_go o) (sym at_it) (on next is)
+  where
+    on : (next : Option ℕ) → IsNext numbers number (at + 1) next → to_go next < 2 ^ 64 - at
+    on None is = omega (arith, fits)
+    on (Some next) is = let low : at + 1 ≤ next = is.0 in omega (arith, fits, low)

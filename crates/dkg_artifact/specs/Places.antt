@@ -1,6 +1,6 @@
 -- Where requests wait: the requests by place, and the places by number.
 use Rattle.std.specs.Prelude.{ℕ, Bool, Option, Some, None, List, ◌≡◌, ◌<◌, ◌≤◌, ◌==◌, false, true, if◌then◌else◌, map}
-use Rattle.std.specs.BTreeMap.{BTreeMap, get, keys}
+use Rattle.std.specs.BTreeMap.{BTreeMap, IsOrdered, get, keys}
 use Rattle.std.specs.BTreeSet.{BTreeSet, contains}
 use Rattle.std.specs.List.{AllByRecursion}
 use Rattle.std.specs.Ordering.{nat_cmp, ordering_then}
@@ -26,9 +26,9 @@ module _ {Dir : Type 0} where
   is_of number None = false
   is_of number (Some r) = r.number == number
 
-  -- A number has exactly the places at which a request of it waits.
+  -- The places rise, and a number has exactly those at which a request of it waits.
   abbrev pub AreKnown : BTreeSet (ℕ × ℕ) → BTreeMap ℕ (Request Dir) → Type 0
-  AreKnown numbers waiting = (number place : ℕ) → has_place numbers number place ≡ is_of number (get nat_cmp waiting place)
+  AreKnown numbers waiting = IsOrdered nat_cmp waiting × ((number place : ℕ) → has_place numbers number place ≡ is_of number (get nat_cmp waiting place))
 
   -- At each place the same number waits.
   abbrev pub KeepsNumbers : BTreeMap ℕ (Request Dir) → BTreeMap ℕ (Request Dir) → Type 0

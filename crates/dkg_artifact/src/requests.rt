@@ -3,7 +3,7 @@
 //! Each that waits has a place, and the places rise in the order of the requests. A tree has the requests by place, and a second one the
 //! places by number. So whatever is done to the requests of a number costs the logarithm of how many wait, for each of them.
 ghost use Rattle.std.specs.Prelude.{◌≡◌, ◌+◌, ◌++◌, ◌∷◌, [], OnOk, OnErr, IfOk, IfSome, IfNone, None, filter, length, map};
-ghost use Rattle.std.specs.BTreeMap.{get, insert_entry, values};
+ghost use Rattle.std.specs.BTreeMap.{IsOrdered, get, insert_entry, values};
 ghost use Rattle.std.specs.Ordering.{nat_cmp};
 ghost use Rattle.dkg_artifact.specs.Requested.{ended_for, fed_for, is_other};
 ghost use Rattle.dkg_artifact.specs.Places.{AreKnown, IsBefore, IsBehind, IsNext, changed_at, KeepsNumbers};
@@ -169,6 +169,7 @@ fn next_of(numbers: &BTreeSet<(u64, u64)>, number: u64, place: u64) -> Option<u6
 fn end_at<Dir: Directory>(waiting: &mut BTreeMap<u64, Request<Dir>>, place: u64, number: u64)
     ensures entries { waiting.new.entries ≡ changed_at place (ended_for number) waiting.old.entries }
     ensures numbers { KeepsNumbers waiting.old waiting.new }
+    ensures ordered { IsOrdered nat_cmp waiting.new }
 {
     if let Some(request) = waiting.get_mut(&place) {
         request.end(number);
@@ -202,6 +203,7 @@ fn feed_at<Dir: Directory + Drop>(
 ) -> Mem<()>
     ensures entries { OnOk result (waiting.new.entries ≡ changed_at place (fed_for number block.now) waiting.old.entries) }
     ensures numbers { KeepsNumbers waiting.old waiting.new }
+    ensures ordered { IsOrdered nat_cmp waiting.new }
 {
     match waiting.get_mut(&place) {
         Some(request) => request.feed(alloc, number, block),
