@@ -171,12 +171,15 @@ module _ {Dir : Type 0} where
 
     pub known_put : (ns : BTreeSet (ℕ × ℕ)) (ws : BTreeMap ℕ (Request Dir)) (number place : ℕ) (r : Request Dir) → number ≡ r.number → get nat_cmp waiting place ≡ None
         → Adds numbers number place true ns → Puts waiting place (Some r) ws → IsOrdered nat_cmp ws → AreKnown ns ws
-    known_put ns ws number place r same free adds puts ordered = (ordered, λ n q.
-        adds (n, q)
-        ∙ ap (λ (b : Bool). cond b true (has_place numbers n q)) (pair_same number place n q)
-        ∙ by_tests n q (number == n) (place == q) (ap (λ (k : ℕ). k == n) (sym same)) refl
-        ∙ ap (λ (b : Bool). is_of n (cond b (Some r) (get nat_cmp waiting q))) (sym (one_same place q))
-        ∙ ap (is_of n) (sym (puts q)))
+    known_put ns ws number place r same free adds puts ordered = (
+      ordered,
+      λ n q.
+          adds (n, q)
+          ∙ ap (λ (b : Bool). cond b true (has_place numbers n q)) (pair_same number place n q)
+          ∙ by_tests n q (number == n) (place == q) (ap (λ (k : ℕ). k == n) (sym same)) refl
+          ∙ ap (λ (b : Bool). is_of n (cond b (Some r) (get nat_cmp waiting q))) (sym (one_same place q))
+          ∙ ap (is_of n) (sym (puts q)),
+    )
       where
         by_tests : (n q : ℕ) (a b : Bool) → (r.number == n) ≡ a → (place == q) ≡ b → cond (a && b) true (has_place numbers n q) ≡ is_of n (cond b (Some r) (get nat_cmp waiting q))
         by_tests n q true true of_n here = sym of_n
@@ -186,12 +189,15 @@ module _ {Dir : Type 0} where
 
     pub known_taken : (ns : BTreeSet (ℕ × ℕ)) (ws : BTreeMap ℕ (Request Dir)) (number place : ℕ) → is_of number (get nat_cmp waiting place) ≡ true
         → Adds numbers number place false ns → Puts waiting place None ws → IsOrdered nat_cmp ws → AreKnown ns ws
-    known_taken ns ws number place of_number adds puts ordered = (ordered, λ n q.
-        adds (n, q)
-        ∙ ap (λ (b : Bool). cond b false (has_place numbers n q)) (pair_same number place n q)
-        ∙ by_tests n q (number == n) (place == q) refl refl
-        ∙ ap (λ (b : Bool). is_of n (cond b None (get nat_cmp waiting q))) (sym (one_same place q))
-        ∙ ap (is_of n) (sym (puts q)))
+    known_taken ns ws number place of_number adds puts ordered = (
+      ordered,
+      λ n q.
+          adds (n, q)
+          ∙ ap (λ (b : Bool). cond b false (has_place numbers n q)) (pair_same number place n q)
+          ∙ by_tests n q (number == n) (place == q) refl refl
+          ∙ ap (λ (b : Bool). is_of n (cond b None (get nat_cmp waiting q))) (sym (one_same place q))
+          ∙ ap (is_of n) (sym (puts q)),
+    )
       where
         by_tests : (n q : ℕ) (a b : Bool) → (number == n) ≡ a → (place == q) ≡ b → cond (a && b) false (has_place numbers n q) ≡ is_of n (cond b None (get nat_cmp waiting q))
         by_tests n q true true of_n here = refl
@@ -202,12 +208,15 @@ module _ {Dir : Type 0} where
     -- a pair that was put in and taken out again
     pub known_undone : (ms ns : BTreeSet (ℕ × ℕ)) (ws : BTreeMap ℕ (Request Dir)) (number place : ℕ) → get nat_cmp waiting place ≡ None
         → Adds numbers number place true ms → Adds ms number place false ns → ws.entries ≡ waiting.entries → AreKnown ns ws
-    known_undone ms ns ws number place free adds removes same = (subst (λ (es : List (ℕ × Request Dir)). IsStrictlySortedBy nat_cmp (keys_of es)) (sym same) known.0, λ n q.
-        removes (n, q)
-        ∙ ap (λ (b : Bool). cond b false (has_place ms n q)) (pair_same number place n q)
-        ∙ ap (λ (b : Bool). cond ((number == n) && (place == q)) false b) (adds (n, q) ∙ ap (λ (b : Bool). cond b true (has_place numbers n q)) (pair_same number place n q))
-        ∙ by_tests n q (number == n) (place == q) refl
-        ∙ ap (λ (es : List (ℕ × Request Dir)). is_of n (lookup (is_at (nat_cmp q)) es)) (sym same))
+    known_undone ms ns ws number place free adds removes same = (
+      subst (λ (es : List (ℕ × Request Dir)). IsStrictlySortedBy nat_cmp (keys_of es)) (sym same) known.0,
+      λ n q.
+          removes (n, q)
+          ∙ ap (λ (b : Bool). cond b false (has_place ms n q)) (pair_same number place n q)
+          ∙ ap (λ (b : Bool). cond ((number == n) && (place == q)) false b) (adds (n, q) ∙ ap (λ (b : Bool). cond b true (has_place numbers n q)) (pair_same number place n q))
+          ∙ by_tests n q (number == n) (place == q) refl
+          ∙ ap (λ (es : List (ℕ × Request Dir)). is_of n (lookup (is_at (nat_cmp q)) es)) (sym same),
+    )
       where
         by_tests : (n q : ℕ) (a b : Bool) → (place == q) ≡ b → cond (a && b) false (cond (a && b) true (has_place numbers n q)) ≡ is_of n (get nat_cmp waiting q)
         by_tests n q true true here = sym (sym (known.1 n q) ∙ at_place place n q here ∙ ap (is_of n) free)
@@ -216,17 +225,20 @@ module _ {Dir : Type 0} where
         by_tests n q false false here = known.1 n q
 
     pub known_same : (ns : BTreeSet (ℕ × ℕ)) (ws : BTreeMap ℕ (Request Dir)) → ns.keys ≡ numbers.keys → ws.entries ≡ waiting.entries → AreKnown ns ws
-    known_same ns ws keys entries = (subst (λ (es : List (ℕ × Request Dir)). IsStrictlySortedBy nat_cmp (keys_of es)) (sym entries) known.0, λ n q.
-        ap (λ (ks : List (ℕ × ℕ)). contains pair_cmp (record { keys = ks }) (n, q)) keys
-        ∙ known.1 n q
-        ∙ ap (λ (es : List (ℕ × Request Dir)). is_of n (lookup (is_at (nat_cmp q)) es)) (sym entries))
+    known_same ns ws keys entries = (
+      subst (λ (es : List (ℕ × Request Dir)). IsStrictlySortedBy nat_cmp (keys_of es)) (sym entries) known.0,
+      λ n q.
+          ap (λ (ks : List (ℕ × ℕ)). contains pair_cmp (record { keys = ks }) (n, q)) keys
+          ∙ known.1 n q
+          ∙ ap (λ (es : List (ℕ × Request Dir)). is_of n (lookup (is_at (nat_cmp q)) es)) (sym entries),
+    )
 
     pub known_kept : (ws : BTreeMap ℕ (Request Dir)) → IsOrdered nat_cmp ws → KeepsNumbers waiting ws → AreKnown numbers ws
     known_kept ws ordered keeps = (ordered, λ n q. known.1 n q ∙ sym (keeps n q))
 
     -- each request is known by its number and place
     pub all_known : AllByRecursion (λ e. has_place numbers e.1.number e.0 ≡ true) waiting.entries
-    all_known = 
+    all_known =
         recursion_from_All (λ e. has_place numbers e.1.number e.0 ≡ true) waiting.entries
         (All-weaker (λ e. get nat_cmp waiting e.0 ≡ Some e.1) (λ e. has_place numbers e.1.number e.0 ≡ true) (λ e found. known.1 e.1.number e.0 ∙ ap (is_of e.1.number) {y = Some e.1} found ∙ same_self e.1.number) waiting.entries
         (All-found nat_cmp_total waiting known.0))

@@ -2,7 +2,7 @@
 //!
 //! Each that waits has a place, and the places rise in the order of the requests. A tree has the requests by place, and a second one the
 //! places by number. So whatever is done to the requests of a number costs the logarithm of how many wait, for each of them.
-ghost use Rattle.std.specs.Prelude.{◌≡◌, ◌+◌, ◌++◌, ◌∷◌, [], OnOk, OnErr, IfOk, IfSome, IfNone, None, filter, length, map};
+ghost use Rattle.std.specs.Prelude.{◌≡◌, ◌+◌, ◌^◌, ◌<◌, ◌++◌, ◌∷◌, [], OnOk, OnErr, IfOk, IfSome, IfNone, None, filter, length, map};
 ghost use Rattle.std.specs.BTreeMap.{IsOrdered, get, insert_entry, values};
 ghost use Rattle.std.specs.Ordering.{nat_cmp};
 ghost use Rattle.dkg_artifact.specs.Requested.{ended_for, fed_for, is_other};
@@ -156,7 +156,8 @@ fn first_of(numbers: &BTreeSet<(u64, u64)>, number: u64) -> Option<u64>
 
 /// .. behind a place
 fn next_of(numbers: &BTreeSet<(u64, u64)>, number: u64, place: u64) -> Option<u64>
-    ensures { IsNext numbers.now number (place + 1) result }
+    ensures next { IsNext numbers.now number (place + 1) result }
+    ensures fits { place < 2 ^ 64 }
 {
     let from = Bound::Excluded((number, place));
     match numbers.range((from, Bound::Unbounded)).next() {
