@@ -40,9 +40,6 @@ same_true a b h = grind (arith, nat_tests)
 pub same_self : (a : ℕ) → (a == a) ≡ true
 same_self a = grind (arith, nat_tests)
 
-same_false : (a b : ℕ) → a ≢ b → (a == b) ≡ false
-same_false a b h = grind (arith, nat_tests)
-
 never : {A : Type 0} → true ≡ false → A
 never h = absurd (let e : ◌≡◌ {A = Bool} true false = h in cc)
 
@@ -224,15 +221,6 @@ module _ {Dir : Type 0} where
         by_tests n q true false here = known.1 n q
         by_tests n q false false here = known.1 n q
 
-    pub known_same : (ns : BTreeSet (ℕ × ℕ)) (ws : BTreeMap ℕ (Request Dir)) → ns.keys ≡ numbers.keys → ws.entries ≡ waiting.entries → AreKnown ns ws
-    known_same ns ws keys entries = (
-      subst (λ (es : List (ℕ × Request Dir)). IsStrictlySortedBy nat_cmp (keys_of es)) (sym entries) known.0,
-      λ n q.
-          ap (λ (ks : List (ℕ × ℕ)). contains pair_cmp (record { keys = ks }) (n, q)) keys
-          ∙ known.1 n q
-          ∙ ap (λ (es : List (ℕ × Request Dir)). is_of n (lookup (is_at (nat_cmp q)) es)) (sym entries),
-    )
-
     pub known_kept : (ws : BTreeMap ℕ (Request Dir)) → IsOrdered nat_cmp ws → KeepsNumbers waiting ws → AreKnown numbers ws
     known_kept ws ordered keeps = (ordered, λ n q. known.1 n q ∙ sym (keeps n q))
 
@@ -343,17 +331,6 @@ module _ {Dir : Type 0} where
         by_key true at rest = never (sym (ap is_some (none ∙ ap (λ (b : Bool). cond b (Some e.1) (lookup (is_at (nat_cmp place)) es)) at)))
         by_key false at rest = λ i. (e.0, sym (ap (λ (b : Bool). if b then f e.1 else e.1) (at_apart place e.0 at)) i) ∷ rest at i
 
-  pub kept_written : (old new : BTreeMap ℕ (Request Dir)) (place : ℕ) (r s : Request Dir) → Some r ≡ get nat_cmp old place → s.number ≡ r.number
-      → Puts old place (Some s) new → KeepsNumbers old new
-  kept_written old new place r s found same puts n q =
-      ap (is_of n) (puts q)
-      ∙ ap (λ (b : Bool). is_of n (cond b (Some s) (get nat_cmp old q))) (one_same place q)
-      ∙ by_key (place == q) refl
-    where
-      by_key : (b : Bool) → (place == q) ≡ b → is_of n (cond b (Some s) (get nat_cmp old q)) ≡ is_of n (get nat_cmp old q)
-      by_key true here = ap (λ (k : ℕ). k == n) same ∙ ap (is_of n) found ∙ ap (λ (p : ℕ). is_of n (get nat_cmp old p)) (same_true place q here)
-      by_key false here = refl
-
   -- a request of the number taken away
   pub fewer : (test : ℕ → Bool) (number : ℕ) (es : List (ℕ × Request Dir)) → is_of number (lookup test es) ≡ true
       → filter (is_other number) (values_of (remove_entry test es)) ≡ filter (is_other number) (values_of es)
@@ -380,13 +357,6 @@ module _ {Dir : Type 0} where
       by_same : (same : Bool) → not same ≡ true → (if same then record r { ended = true } else r) ≡ r
       by_same true apart = never (sym apart)
       by_same false apart = refl
-
-  pub ended_number : (number : ℕ) (r : Request Dir) → (ended_for number r).number ≡ r.number
-  ended_number number r = by_same (r.number == number)
-    where
-      by_same : (same : Bool) → (if same then record r { ended = true } else r).number ≡ r.number
-      by_same true = refl
-      by_same false = refl
 
 pub on_ok_as : {T E : Type 0} {P Q : Type 0} (r : Result T E) → (P → Q) → OnOk r P → OnOk r Q
 on_ok_as (Ok x) by so = by so
