@@ -1,15 +1,15 @@
 -- Requests at their places: where the next of a number waits, and what becomes of them.
-use Rattle.std.proofs.Common.{Option, Some, None, is_some, unwrap_or, ◌≡◌, ◌≢◌, ◌<◌, ◌≤◌, ◌++◌, ◌+◌, ◌-◌, ◌^◌, ◌==◌, ◌⊎◌, nat_le, ℕ, zero, suc, List, [], ◌∷◌, Bool, true, false, Result, Ok, Err, ◌&&◌, cond, if◌then◌else◌, not, ap, arith, inl, inr, length, map, refl, subst, sym, ◌∙◌}
-use Rattle.std.specs.Prelude.{filter, IsTrue, OnOk}
-use Rattle.std.specs.BTreeMap.{BTreeMap, get, insert_entry, is_at, keys, IsOrdered}
+use Rattle.std.proofs.Common.{Option, Some, None, is_some, unwrap_or, ◌≡◌, ◌≢◌, ◌<◌, ◌≤◌, ◌++◌, ◌+◌, ◌-◌, ◌^◌, ◌==◌, ◌⊎◌, nat_le, ℕ, List, [], ◌∷◌, Bool, true, false, Result, Ok, Err, ◌&&◌, cond, if◌then◌else◌, not, ap, arith, inl, inr, map, refl, subst, sym, ◌∙◌}
+use Rattle.std.specs.Prelude.{filter, OnOk}
+use Rattle.std.specs.BTreeMap.{BTreeMap, get, insert_entry, is_at, IsOrdered}
 use Rattle.std.specs.BTreeMap.Range.{IsFromStart}
 use Rattle.std.specs.BTreeSet.{BTreeSet, contains, IsKeyRangeOf}
-use Rattle.std.specs.List.{All, AllByRecursion}
+use Rattle.std.specs.List.{AllByRecursion}
 use Rattle.std.specs.List.Sorted.{IsStrictlySortedBy}
 use Rattle.std.specs.Map.{keys_of, values_of, lookup, remove_entry, set_value}
-use Rattle.std.specs.Ordering.{is_eq, is_gt, is_lt, match_ordering, nat_cmp}
+use Rattle.std.specs.Ordering.{is_eq, is_gt, match_ordering, nat_cmp}
 use Rattle.std.specs.declared.cmp.Ordering.{Ordering}
-use Rattle.std.specs.declared.cmp.Ordering.TheVariants.{Less, Equal, Greater}
+use Rattle.std.specs.declared.cmp.Ordering.TheVariants.{Less, Greater}
 use Rattle.std.specs.declared.ops.Bound.{Bound}
 use Rattle.std.specs.declared.ops.Bound.TheVariants.{Included, Excluded, Unbounded}
 use Rattle.std.specs.Cmp.{nat_cmp_total}
@@ -18,7 +18,7 @@ use Rattle.std.proofs.lemmas.List.Elements.{All-weaker, recursion_from_All}
 use Rattle.std.proofs.lemmas.Map.Views.{All-found}
 use Rattle.dkg_types.specs.Blocks.{Block}
 use Rattle.dkg_artifact.specs.Requested.{Request, ended_for, fed_for, is_other}
-use Rattle.dkg_artifact.specs.Places.{AreKnown, IsBefore, IsBehind, IsNext, KeepsNumbers, changed_at, has_place, is_of, pair_cmp}
+use Rattle.dkg_artifact.specs.Places.{AreKnown, IsNext, KeepsNumbers, changed_at, has_place, is_of, pair_cmp}
 
 -- NUMBERS
 

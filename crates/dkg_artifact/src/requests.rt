@@ -94,7 +94,7 @@ impl<Dir: Directory> Model for Requests<Dir> {
     ghost invariant = { λ r. AreKnown r.numbers r.waiting };
 }
 
-/// A place behind all of these. Where a place of 64 bits lies behind none, it is as if memory ran out.
+/// A place behind all of these. Where no number of 64 bits is left for one, it is as if memory ran out.
 fn behind<Dir: Directory>(waiting: &BTreeMap<u64, Request<Dir>>) -> Mem<u64>
     ensures { IfOk result (λ place. IsBehind place waiting.now) }
 {

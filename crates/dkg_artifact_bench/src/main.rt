@@ -59,7 +59,9 @@ fn main(rt: HostRuntime) -> io::Result<ExitCode> {
         Some(Task::Round { keys, blocks }) => write_round(&rt, alloc, keys, blocks),
         Some(Task::Requests { count }) => write_requests(&rt, alloc, count),
         None => {
-            eprintln!(rt; "usage: dkg_artifact_bench KEYS BLOCKS, or dkg_artifact_bench requests COUNT")?;
+            eprintln!(rt;
+                "usage: dkg_artifact_bench KEYS BLOCKS, or dkg_artifact_bench requests COUNT"
+            )?;
             Ok(ExitCode::from(2))
         }
     }

@@ -1,4 +1,4 @@
-use Rattle.std.proofs.Common.{◌∙◌, ◌++◌, ◌∷◌, [], List, ap}
+use Rattle.std.proofs.Common.{◌∙◌, ◌∷◌, List, ap}
 use Rattle.std.specs.Map.{values_of}
 use Rattle.dkg_artifact.specs.Requested.{Request}
 use Rattle.dkg_artifact.proofs.Waiting.{free_before, on_ok_as, values_before}
