@@ -34,6 +34,7 @@ use Rattle.dkg_dealing.specs.declared.tip.Judged.TheVariants.{New as IsNewBlock}
 use Rattle.dkg_reshare.specs.Carried.{CarriesWithin}
 use Rattle.dkg_dealing.specs.Judged.{judged}
 use Rattle.dkg_dealing.specs.LiveOf.{records_of}
+use Rattle.dkg_dealing.specs.Ready.{IsReadyLife}
 use Rattle.dkg_dealing.specs.Rules.{AckOf, DealOf, CheckAckOf}
 
 -- STATES
