@@ -2,9 +2,13 @@
 use Rattle.std.specs.Prelude.{ℕ, ◌≡◌, ◌≤◌, ◌<◌, ◌-◌, true, false, List, Option, Some, IsSomeAnd, Ok, length, slice_get}
 use Rattle.dkg_ceremony.specs.declared.round.RoundParts.{RoundParts as Round}
 use Rattle.dkg_ceremony.specs.Outcomes.{LogMap}
+use Rattle.dkg_ceremony.specs.Schedule.{last, midpoint}
+use Rattle.dkg_ceremony.specs.ValidLogs.{check_log_of}
 use Rattle.dkg_journal.specs.Names.{Files}
 use Rattle.dkg_secrets.specs.Secrets.{Secrets}
 use Rattle.dkg_types.specs.Blocks.{Block}
+use Rattle.dkg_types.specs.Paths.{logs_of_path}
+use Rattle.dkg_types.specs.Units.{unit_spelling}
 use Rattle.dkg_types.specs.declared.directory.Unit as directory
 use Rattle.dkg_types.specs.declared.entry.AnswerLine.{AnswerLine}
 use Rattle.dkg_types.specs.declared.entry.AnswerLine.TheVariants.{Available, Unavailable}
@@ -16,12 +20,17 @@ use Rattle.dkg_types.specs.declared.info.EpochInfo.{EpochInfo}
 use Rattle.dkg_text.specs.declared.script.Event.TheVariants.{Final, Info}
 use Rattle.dkg_text.specs.declared.script.Life.{Life}
 use Rattle.dkg_text.specs.declared.script.Script.{Script}
+use Rattle.dkg_script.specs.AsCut.{setting_as_cut}
 use Rattle.dkg_script.specs.Epochs.{alone}
+use Rattle.dkg_script.specs.Blocks.{chain}
+use Rattle.dkg_script.specs.History.{IsWholeHistory}
+use Rattle.dkg_script.specs.Inclusion.{IsFormOfInclusion}
 use Rattle.dkg_script.specs.Position.{awaited_epoch, event_of_step, follows}
-use Rattle.dkg_script.specs.Progress.{AtEachEntry, Progress}
-use Rattle.dkg_script.specs.Setting.{setting_of}
-use Rattle.dkg_run.specs.Asks.{IsRefusedAt, IsShortAt, IsUncancelled, WereAsked, next_bytes, standing_of}
-use Rattle.dkg_run.specs.Blamed.{IsInfoOf, IsTakenLast, round_by}
+use Rattle.dkg_script.specs.Progress.{AtEachEntry, Progress, progress}
+use Rattle.dkg_script.specs.Setting.{Setting, life_at, setting_of}
+use Rattle.dkg_script.specs.Views.{seen_block}
+use Rattle.dkg_run.specs.Asks.{IsPathOf, IsRefusedAt, IsShortAt, IsUncancelled, WereAsked, fed_in, next_bytes, standing_of}
+use Rattle.dkg_run.specs.Blamed.{IsInfoOf, IsTakenLast, per_epoch, round_by}
 use Rattle.dkg_run.specs.Given.{blocks_in}
 
 abbrev U : Type 0
@@ -71,6 +80,6 @@ IsAnswer script p (Answer request answer) =
     IsSomeAnd (slice_get script.lives (length p.cuts)) (λ life. IsAnsweredSo script (length p.cuts) life (awaited_epoch (alone script) (length p.cuts) life (p.step - 1)) p.step request answer)
 IsAnswer script p _ = Unit {0}
 
--- each entry is so, over what was written before it. (It speaks of no device.)
+-- each entry is so, over what was written before it (It speaks of no device.)
 abbrev pub AnswersSo : Script → List Entry → Type 0
 AnswersSo script out = (files : Files) (held : Secrets) → AtEachEntry (setting_of script files held) (IsAnswer script) out

@@ -1,5 +1,5 @@
 -- What a life of a script is asked, and what it was fed: the blocks of a request, as a scan reads them, and the logs that these make.
-use Rattle.std.specs.Prelude.{ℕ, ◌≡◌, ◌==◌, fold, List, ◌∷◌, ◌++◌, Option, reverse, take, option_map, if◌then◌else◌}
+use Rattle.std.specs.Prelude.{ℕ, ◌≡◌, ◌+◌, ◌-◌, ◌≤◌, ◌==◌, ◌⊎◌, Contains, fold, length, List, ◌∷◌, ◌++◌, Option, slice_get, reverse, take, option_map, IsSomeAnd, if◌then◌else◌}
 use Rattle.dkg_ceremony.specs.declared.epocher.Bounds.{Bounds}
 use Rattle.dkg_ceremony.specs.declared.round.RoundParts.{RoundParts as Round}
 use Rattle.dkg_ceremony.specs.Outcomes.{LogMap, outcome_of}
@@ -13,7 +13,7 @@ use Rattle.dkg_types.specs.Units.{unit_spelling}
 use Rattle.dkg_types.specs.declared.directory.Unit as directory
 use Rattle.dkg_types.specs.declared.entry.Why.{Why}
 use Rattle.dkg_types.specs.declared.info.EpochInfo.{EpochInfo}
-use Rattle.dkg_artifact.specs.Ancestries.{Completes, IsUnderWay, Refuses}
+use Rattle.dkg_artifact.specs.Ancestries.{Completes, IsLinked, IsUnderWay, Refuses}
 use Rattle.dkg_artifact.specs.Scans.{above}
 use Rattle.dkg_artifact.specs.declared.scan.Tip as scan
 use Rattle.dkg_text.specs.declared.script.Event.{Event}

@@ -1,17 +1,34 @@
 -- FITTING SHARES: each share that is committed is this node's in the output that its epoch's info carries.
-use Rattle.std.specs.Prelude.{ℕ, ◌≡◌, Contains, List, Some, IsSomeAnd}
+use Rattle.std.specs.Prelude.{ℕ, ◌≡◌, ◌+◌, ◌-◌, ◌⊎◌, ◌↔◌, ◌++◌, ◌∷◌, Bool, true, false, Contains, List, Option, Some, IsSome, IsSomeAnd, IfSome, IsFalse, length}
+use Rattle.std.specs.FinMap.{get}
+use Rattle.std.specs.List.{list_any}
 use Rattle.dkg_ceremony.specs.PartialPublics.{partial_public_of, share_public_of}
+use Rattle.dkg_ceremony.specs.declared.phase.Phase.{Phase}
 use Rattle.dkg_journal.specs.Names.{Files}
 use Rattle.dkg_secrets.specs.Secrets.{Secrets}
 use Rattle.dkg_types.specs.declared.entry.Entry.{Entry}
-use Rattle.dkg_types.specs.declared.entry.Entry.TheVariants.{Committed}
+use Rattle.dkg_types.specs.declared.entry.Entry.TheVariants.{Committed, Opened, Setup}
+use Rattle.dkg_types.specs.declared.entry.Part.{Part}
+use Rattle.dkg_types.specs.declared.entry.Part.TheVariants.{Player, Both}
+use Rattle.dkg_types.specs.declared.outcome.EpochOutcome.{EpochOutcome}
+use Rattle.dkg_types.specs.declared.outcome.EpochOutcome.TheVariants.{Success, Failure}
+use Rattle.dkg_text.specs.declared.script.Event.TheVariants.{Final}
+use Rattle.dkg_text.specs.declared.script.Life.{Life}
 use Rattle.dkg_text.specs.declared.script.Script.{Script}
 use Rattle.dkg_script.specs.AsCut.{setting_as_cut}
-use Rattle.dkg_script.specs.Blocks.{known_info}
+use Rattle.dkg_script.specs.Blocks.{block_at, known_info}
 use Rattle.dkg_script.specs.Consistent.{IsConsistentScript}
+use Rattle.dkg_script.specs.History.{IsHonestlyDerived, IsWholeHistory}
 use Rattle.dkg_script.specs.Inclusion.{IsFormOfInclusion}
-use Rattle.dkg_script.specs.Progress.{progress}
-use Rattle.dkg_script.specs.Setting.{Setting, me}
+use Rattle.dkg_script.specs.OwnMarks.{OwnMarks}
+use Rattle.dkg_script.specs.Position.{awaited_epoch, event_of_step, follows}
+use Rattle.dkg_script.specs.Progress.{Progress, progress}
+use Rattle.dkg_script.specs.Schedule.{last}
+use Rattle.dkg_script.specs.Setting.{Setting, blocks_per_epoch, life_at, me}
+use Rattle.dkg_script.specs.Valid.{AgreesWith}
+use Rattle.dkg_script.specs.Views.{seen_provided}
+use Rattle.dkg_types.specs.Units.{unit_spelling}
+use Rattle.dkg_run.specs.Given.{provided_by}
 use Rattle.dkg_run.specs.GivesBack.{SharesFitInfos}
 
 -- IT FITS
