@@ -1,4 +1,4 @@
--- ANSWERS FROM THE PATH: what each answer to a final block's request says, by the entries and the script, whatever the devices tell.
+-- ANSWERS FROM THE PATH: what each answer to a final block's request says, by the entries and the script; first whatever the devices tell, and then over devices that tell.
 use Rattle.std.specs.Prelude.{ℕ, ◌≡◌, ◌≤◌, ◌<◌, ◌-◌, true, false, List, Option, Some, IsSomeAnd, Ok, length, slice_get}
 use Rattle.dkg_ceremony.specs.declared.round.RoundParts.{RoundParts as Round}
 use Rattle.dkg_ceremony.specs.Outcomes.{LogMap}
@@ -35,6 +35,8 @@ use Rattle.dkg_run.specs.Given.{blocks_in}
 
 abbrev U : Type 0
 U = directory.Unit
+
+-- WHATEVER THE DEVICES TELL
 
 -- the request was made while this epoch was awaited, and isn't cancelled by the first j events
 pub record IsAskedFor (script : Script) (l : ℕ) (life : Life) (epoch j request : ℕ) : Type 0 where
@@ -80,6 +82,32 @@ IsAnswer script p (Answer request answer) =
     IsSomeAnd (slice_get script.lives (length p.cuts)) (λ life. IsAnsweredSo script (length p.cuts) life (awaited_epoch (alone script) (length p.cuts) life (p.step - 1)) p.step request answer)
 IsAnswer script p _ = Unit {0}
 
--- each entry is so, over what was written before it (It speaks of no device.)
+-- each entry is so, over what was written before it (the clause `answers` of the promise, beside `blamed`: it speaks of no device)
 abbrev pub AnswersSo : Script → List Entry → Type 0
 AnswersSo script out = (files : Files) (held : Secrets) → AtEachEntry (setting_of script files held) (IsAnswer script) out
+
+-- OVER DEVICES THAT TELL, where the script has a whole history (dkg_script's History)
+
+-- the chain, as a node's blocks
+abbrev pub IsOfChain : Setting → (height : ℕ) → Block U → Type 0
+IsOfChain s height b = chain s height ≡ Some (seen_block unit_spelling b)
+
+-- the answer is by the logs of a path of the request
+pub record IsFromPath (s : Setting) (l : ℕ) (life : Life) (j request : ℕ) (payload : Option (List ℕ)) : Type 0 where
+  pub epoch : ℕ
+  pub epoch_is : epoch ≡ awaited_epoch s l life (j - 1)
+  pub info : EpochInfo U
+  pub info_is : IsInfoOf s.script epoch info
+  pub round : Round
+  pub round_is : round_by s.script epoch info ≡ Ok round
+  pub path : List (Block U)
+  pub path_is : IsPathOf s.script (IsOfChain s) epoch (fed_in s.script life request j) path
+  pub bytes : payload ≡ Some (next_bytes s.script info round (logs_of_path check_log_of (midpoint (per_epoch s.script) epoch) (last (per_epoch s.script) epoch) round path))
+
+abbrev pub IsPathAnswer : Setting → Progress → Entry → Type 0
+IsPathAnswer s p (Answer request (Available payload)) = IsSomeAnd (life_at s (length p.cuts)) (λ life. IsFromPath s (length p.cuts) life p.step request payload)
+IsPathAnswer s p _ = Unit {0}
+
+-- THE CLAUSE `paths` of the promise: of the entries that a run adds, whatever ends it, where the script as it was cut has a whole history
+abbrev pub AnswersThePath : Script → Files → Secrets → List Entry → Type 0
+AnswersThePath script files held out = let s = setting_as_cut script files held out in IsFormOfInclusion s.script → IsWholeHistory s (progress s out).cuts → AtEachEntry s (IsPathAnswer s) out

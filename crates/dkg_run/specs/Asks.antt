@@ -100,3 +100,10 @@ pub record IsShortAt (script : Script) (life : Life) (epoch request j : ℕ) : T
   pub path : List (Block U)
   pub fed : fed_in script life request j ≡ reverse path
   pub under_way : IsUnderWay (bounds_in script epoch) (scan_tip script life j) path
+
+-- THE PATH OF AN ANSWER, for a consistent script: linked blocks from the midpoint at the latest up to the block asked for or its parent, each of which was fed or is the chain's
+pub record IsPathOf (script : Script) (chain : ℕ → Block U → Type 0) (epoch : ℕ) (fed path : List (Block U)) : Type 0 where
+  pub linked : IsLinked path
+  pub of : (b : Block U) → Contains path b → Contains fed b ⊎ chain b.height b
+  pub bottom : IsSomeAnd (slice_get path 0) (λ b. b.height ≤ midpoint (per_epoch script) epoch)
+  pub top : IsSomeAnd (slice_get path (length path - 1)) (λ b. (b.height ≡ last (per_epoch script) epoch) ⊎ (b.height + 1 ≡ last (per_epoch script) epoch))

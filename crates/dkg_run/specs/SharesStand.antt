@@ -1,4 +1,4 @@
--- FITTING SHARES: each share that is committed is this node's in the output that its epoch's info carries.
+-- FITTING SHARES: each share that is committed is this node's in the output that its epoch's info carries; and behind an epoch that the node takes part in it stands exactly where it can.
 use Rattle.std.specs.Prelude.{ℕ, ◌≡◌, ◌+◌, ◌-◌, ◌⊎◌, ◌↔◌, ◌++◌, ◌∷◌, Bool, true, false, Contains, List, Option, Some, IsSome, IsSomeAnd, IfSome, IsFalse, length}
 use Rattle.std.specs.FinMap.{get}
 use Rattle.std.specs.List.{list_any}
@@ -41,3 +41,48 @@ Fits s epoch share = IsSomeAnd (known_info s epoch) (λ info. partial_public_of 
 abbrev pub CommitsFit : Script → Files → Secrets → List Entry → Type 0
 CommitsFit script files held out = let s = setting_as_cut script files held out in
     IsFormOfInclusion s.script → IsConsistentScript s (progress s out).cuts → SharesFitInfos s s.secrets → (epoch share : ℕ) → Contains out (Committed epoch (Some share)) → Fits s epoch share
+
+-- IT STANDS EXACTLY
+
+abbrev pub is_opened : Entry → Bool
+is_opened (Opened life restored) = true
+is_opened _ = false
+
+-- these entries set the epoch up with this part, in the life that is in hand behind them
+pub record WasSetUp (before : List Entry) (epoch : ℕ) (part : Part) : Type 0 where
+  pub front : List Entry
+  pub phase : Phase
+  pub rest : List Entry
+  pub is : before ≡ front ++ Setup epoch phase part ∷ rest
+  pub same_life : IsFalse (list_any is_opened rest)
+
+abbrev pub Plays : Part → Type 0
+Plays Player = Unit {0}
+Plays Both = Unit {0}
+Plays _ = ⊥
+
+-- this node holds a share of the epoch: it was handed in, or committed by then
+abbrev pub HeldShare : Setting → (before : List Entry) → (epoch : ℕ) → Type 0
+HeldShare s before epoch = IsSome (get s.secrets.shares epoch) ⊎ ((share : ℕ) × Contains before (Committed epoch (Some share)))
+
+-- by the outcome that the next info tells
+abbrev pub ShouldHold : Setting → (before : List Entry) → (epoch : ℕ) → Part → EpochOutcome → Type 0
+ShouldHold s before epoch part Success = Plays part
+ShouldHold s before epoch part Failure = HeldShare s before epoch
+
+-- the step in hand delivers the last block of an epoch that its life awaits and doesn't follow
+pub record EndsEpoch (s : Setting) (p : Progress) (epoch : ℕ) : Type 0 where
+  pub life : Life
+  pub life_is : life_at s (length p.cuts) ≡ Some life
+  pub number : ℕ
+  pub event : event_of_step life p.step ≡ Some (Final number)
+  pub delivers : IsSomeAnd (block_at s number) (λ b. b.height ≡ last (blocks_per_epoch s) epoch)
+  pub awaited : awaited_epoch s (length p.cuts) life (p.step - 1) ≡ epoch
+  pub takes_part : follows s (length p.cuts) life epoch ≡ false
+
+-- THE CLAUSE `exactly`: where no log bears an acknowledgement that this node never gave, the history is whole, and last blocks carry what their chain makes
+abbrev pub CommitsExactly : Script → Files → Secrets → List Entry → Type 0
+CommitsExactly script files held out = let s = setting_as_cut script files held out in
+    IsFormOfInclusion s.script → IsWholeHistory s (progress s out).cuts → IsHonestlyDerived s (seen_provided unit_spelling (provided_by script)) → AgreesWith s s.files s.secrets
+    → (before after : List Entry) (epoch : ℕ) (share : Option ℕ) (part : Part) → out ≡ before ++ Committed (epoch + 1) share ∷ after → OwnMarks s before → EndsEpoch s (progress s before) epoch
+    → WasSetUp before epoch part → IfSome (known_info s (epoch + 1)) (λ info. IsSome share ↔ ShouldHold s before epoch part info.outcome)
