@@ -14,6 +14,7 @@ pub mod BlockLogs
 pub mod BlocksLeave
 pub mod BlocksMade
 pub mod Causing
+pub mod ChainLogs
 pub mod Chaining
 pub mod Checked
 pub mod ClearLives
@@ -35,6 +36,7 @@ pub mod FedRequests
 pub mod FewPlayers
 pub mod Finding
 pub mod Finishing
+pub mod FirstLogs
 pub mod FitsBrought
 pub mod FitsOwn
 pub mod FitsRead
@@ -48,8 +50,8 @@ pub mod GivingLives
 pub mod GivingValid
 pub mod GivingWhole
 pub mod Going
-pub mod Heard
 pub mod Halves
+pub mod Heard
 pub mod HeightsRise
 pub mod Idle
 pub mod InPlace
@@ -93,6 +95,7 @@ pub mod OwnRuns
 pub mod OwnSteps
 pub mod OwnValid
 pub mod Passing
+pub mod PathLogs
 pub mod PeerForms
 pub mod Places
 pub mod PlanlessReads
