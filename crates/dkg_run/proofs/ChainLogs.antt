@@ -59,12 +59,19 @@ module _ (test : RecordedLog → Bool) where
       same_low : (x : ℕ) → (x == k) ≡ true → k < x + 1
       same_low x e = grind (arith, nat_tests)
 
+      chosen : (t : Bool) → test r.1 ≡ t → lookup k (bare_logs (if test r.1 then r ∷ filter (λ p. test p.1) rs else filter (λ p. test p.1) rs))
+          ≡ lookup k (bare_logs (if t then r ∷ filter (λ p. test p.1) rs else filter (λ p. test p.1) rs))
+      chosen t is = ap (λ (t : Bool). lookup k (bare_logs (if t then r ∷ filter (λ p. test p.1) rs else filter (λ p. test p.1) rs))) is
+
+      found : (same : Bool) → (r.0 == k) ≡ same → reached_in (λ (n : RecordedLog). n.log) test (if r.0 == k then Some r.1 else lookup k rs) ≡ reached_in (λ (n : RecordedLog). n.log) test (if same then Some r.1 else lookup k rs)
+      found same is = ap (λ (t : Bool). reached_in (λ (n : RecordedLog). n.log) test (if t then Some r.1 else lookup k rs)) is
+
       by_key : (same : Bool) → (r.0 == k) ≡ same → (t : Bool) → test r.1 ≡ t → lookup k (passing rs) ≡ reached_in (λ (n : RecordedLog). n.log) test (lookup k rs)
           → lookup k (bare_logs (if test r.1 then r ∷ filter (λ p. test p.1) rs else filter (λ p. test p.1) rs)) ≡ reached_in (λ (n : RecordedLog). n.log) test (if r.0 == k then Some r.1 else lookup k rs)
-      by_key true is true passes rest = rw (is, passes) refl
-      by_key true is false fails rest = rw (is, fails) none_there k (r.0 + 1) rs (same_low r.0 is) rises.1
-      by_key false is true passes rest = rw (is, passes) rest
-      by_key false is false fails rest = rw (is, fails) rest
+      by_key true is true passes rest = chosen true passes ∙ ap (λ (t : Bool). if t then Some (r.1).log else lookup k (passing rs)) is ∙ sym (found true is ∙ ap (λ (t : Bool). if t then Some (r.1).log else None) passes)
+      by_key true is false fails rest = chosen false fails ∙ none_there k (r.0 + 1) rs (same_low r.0 is) rises.1 ∙ sym (found true is ∙ ap (λ (t : Bool). if t then Some (r.1).log else None) fails)
+      by_key false is true passes rest = chosen true passes ∙ ap (λ (t : Bool). if t then Some (r.1).log else lookup k (passing rs)) is ∙ rest ∙ sym (found false is)
+      by_key false is false fails rest = chosen false fails ∙ rest ∙ sym (found false is)
 
 -- no key beyond 32 bits
 none_beyond : (k epoch : ℕ) (es : List ((ℕ × ℕ) × RecordedLog)) → 2 ^ 32 ≤ k → lookup k (map (λ p. (p.0.1, p.1)) (filter (λ p. (p.0.0 == epoch) && nat_lt p.0.1 (2 ^ 32)) es)) ≡ None
@@ -126,7 +133,7 @@ module _ (s : Setting) (epoch : ℕ) (round : Round) where
       by_log (Some signed) is rest = by_test (counts check_log_of middle ends round (height, signed)) refl
         where
           by_test : (t : Bool) → counts check_log_of middle ends round (height, signed) ≡ t → brought check_log_of middle ends round (b ∷ bs) ≡ option_to_list (brings_of height) ++ brought_from brings_of (height + 1) (length bs)
-          by_test true counted = rw (here, is, are.0, counted) ap (λ (l : LogMap). (signed.dealer, signed.log) ∷ l) rest
+          by_test true counted = rw (here, is, are.0, counted) (ap (λ (l : LogMap). (signed.dealer, signed.log) ∷ l) rest)
           by_test false counted = rw (here, is, are.0, counted) rest
 
   -- nothing counts below the midpoint

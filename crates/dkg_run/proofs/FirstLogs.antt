@@ -13,6 +13,11 @@ some_is e = cc
 none_some : {A : Type 0} {x : A} → ◌≡◌ {A = Option A} None (Some x) → ⊥
 none_some e = cc
 
+-- what is recorded of a dealer, where that is reached
+abbrev pub reached_in : {Noted : Type 0} → (Noted → DealerLog) → (Noted → Bool) → Option Noted → Option DealerLog
+reached_in log_of is_reached None = None
+reached_in log_of is_reached (Some noted) = if is_reached noted then Some (log_of noted) else None
+
 -- what each height brings that counts: a log with its dealer, if it brings one
 module _ (brings : ℕ → Option (ℕ × DealerLog)) where
   -- None of the dealer comes from here on below this height.
@@ -167,11 +172,7 @@ module _ (brings : ℕ → Option (ℕ × DealerLog)) where
       pub sound : (dealer : ℕ) (noted : Noted) → recorded dealer ≡ Some noted → (height : ℕ) × IsFirst dealer height (log_of noted) × (is_reached noted ≡ nat_le height tip)
       pub all : (dealer height : ℕ) (log : DealerLog) → IsFirst dealer height log → height ≤ tip → IsSome (recorded dealer)
 
-    abbrev pub reached_in : Option Noted → Option DealerLog
-    reached_in None = None
-    reached_in (Some noted) = if is_reached noted then Some (log_of noted) else None
-
-    pub recorded_brought : AreFirst → (low count : ℕ) → NoneBelow low → low + count ≡ tip + 1 → (dealer : ℕ) → reached_in (recorded dealer) ≡ lookup dealer (brought_from low count)
+    pub recorded_brought : AreFirst → (low count : ℕ) → NoneBelow low → low + count ≡ tip + 1 → (dealer : ℕ) → reached_in log_of is_reached (recorded dealer) ≡ lookup dealer (brought_from low count)
     recorded_brought are low count none ends dealer = by_found (found_in dealer low count) (recorded dealer) refl
       where
         reached : (height : ℕ) → nat_le height tip ≡ true → height ≤ tip
@@ -190,15 +191,15 @@ module _ (brings : ℕ → Option (ℕ × DealerLog)) where
             by_place (inl below) = none height (dealer, log) below first.here
             by_place (inr above) = nothing height log above (omega (arith, under, ends)) first.here
 
-        by_found : IsFoundIn dealer low count → (o : Option Noted) → recorded dealer ≡ o → reached_in o ≡ lookup dealer (brought_from low count)
+        by_found : IsFoundIn dealer low count → (o : Option Noted) → recorded dealer ≡ o → reached_in log_of is_reached o ≡ lookup dealer (brought_from low count)
         by_found (inl (nothing, all)) None is = sym nothing
         by_found (inl (nothing, all)) (Some noted) is =
             unreached (are.sound dealer noted is) ∙ sym nothing
           where
-            unreached : (height : ℕ) × IsFirst dealer height (log_of noted) × (is_reached noted ≡ nat_le height tip) → reached_in (Some noted) ≡ None
+            unreached : (height : ℕ) × IsFirst dealer height (log_of noted) × (is_reached noted ≡ nat_le height tip) → reached_in log_of is_reached (Some noted) ≡ None
             unreached its = by_height (nat_le its.0 tip) refl
               where
-                by_height : (u : Bool) → nat_le its.0 tip ≡ u → reached_in (Some noted) ≡ None
+                by_height : (u : Bool) → nat_le its.0 tip ≡ u → reached_in log_of is_reached (Some noted) ≡ None
                 by_height true e = absurd (nothing_found all its.0 (log_of noted) its.1 (reached its.0 e))
                 by_height false e = ap (λ (x : Bool). if x then Some (log_of noted) else None) (its.2 ∙ e)
         by_found (inr (height, log, found, above, below, here, first)) o is = by_noted o is
@@ -213,7 +214,7 @@ module _ (brings : ℕ → Option (ℕ × DealerLog)) where
                 by_place at other high there (inl under) = none at (dealer, other) under there
                 by_place at other high there (inr over) = first at other over high there
 
-            by_noted : (o : Option Noted) → recorded dealer ≡ o → reached_in o ≡ lookup dealer (brought_from low count)
+            by_noted : (o : Option Noted) → recorded dealer ≡ o → reached_in log_of is_reached o ≡ lookup dealer (brought_from low count)
             by_noted None is = absurd (let no : false ≡ true = subst (λ (o : Option Noted). IsSome o) is (are.all dealer height log is_first (omega (arith, below, ends))) in cc)
             by_noted (Some noted) is =
                 let its = are.sound dealer noted is in

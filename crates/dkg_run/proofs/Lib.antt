@@ -50,6 +50,7 @@ pub mod GivingLives
 pub mod GivingValid
 pub mod GivingWhole
 pub mod Going
+pub mod GrowingLogs
 pub mod Halves
 pub mod Heard
 pub mod HeightsRise
