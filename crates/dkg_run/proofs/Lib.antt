@@ -79,6 +79,7 @@ pub mod NextLives
 pub mod NoOthers
 pub mod NodeOpens
 pub mod Noding
+pub mod ObservedLogs
 pub mod OfferedHalves
 pub mod OfferingLives
 pub mod OfferingRuns
