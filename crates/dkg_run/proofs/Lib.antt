@@ -15,6 +15,7 @@ pub mod BlockLogs
 pub mod BlocksLeave
 pub mod BlocksMade
 pub mod Causing
+pub mod ChainLogs
 pub mod Chaining
 pub mod Checked
 pub mod ClearLives
@@ -36,6 +37,7 @@ pub mod FedRequests
 pub mod FewPlayers
 pub mod Finding
 pub mod Finishing
+pub mod FirstLogs
 pub mod FitsBrought
 pub mod FitsOwn
 pub mod FitsRead
@@ -49,8 +51,9 @@ pub mod GivingLives
 pub mod GivingValid
 pub mod GivingWhole
 pub mod Going
-pub mod Heard
+pub mod GrowingLogs
 pub mod Halves
+pub mod Heard
 pub mod HeightsRise
 pub mod Idle
 pub mod InPlace
@@ -78,6 +81,7 @@ pub mod NextLives
 pub mod NoOthers
 pub mod NodeOpens
 pub mod Noding
+pub mod ObservedLogs
 pub mod OfferedHalves
 pub mod OfferingLives
 pub mod OfferingRuns
@@ -95,6 +99,7 @@ pub mod OwnRuns
 pub mod OwnSteps
 pub mod OwnValid
 pub mod Passing
+pub mod PathLogs
 pub mod PeerForms
 pub mod Places
 pub mod PlanlessReads

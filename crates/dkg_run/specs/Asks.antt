@@ -101,9 +101,14 @@ pub record IsShortAt (script : Script) (life : Life) (epoch request j : ℕ) : T
   pub fed : fed_in script life request j ≡ reverse path
   pub under_way : IsUnderWay (bounds_in script epoch) (scan_tip script life j) path
 
--- THE PATH OF AN ANSWER, for a consistent script: linked blocks from the midpoint at the latest up to the block asked for or its parent, each of which was fed or is the chain's
+-- THE PATH OF AN ANSWER: linked blocks from the midpoint at the latest up to the block asked for or its parent. The upper ones are those that were fed first, from the top down, and the chain goes on below them.
 pub record IsPathOf (script : Script) (chain : ℕ → Block U → Type 0) (epoch : ℕ) (fed path : List (Block U)) : Type 0 where
+  pub lower : List (Block U)
+  pub upper : List (Block U)
+  pub rest : List (Block U)
+  pub parts : path ≡ lower ++ upper
+  pub fed_first : fed ≡ reverse upper ++ rest
+  pub below : (b : Block U) → Contains lower b → chain b.height b
   pub linked : IsLinked path
-  pub of : (b : Block U) → Contains path b → Contains fed b ⊎ chain b.height b
   pub bottom : IsSomeAnd (slice_get path 0) (λ b. b.height ≤ midpoint (per_epoch script) epoch)
-  pub top : IsSomeAnd (slice_get path (length path - 1)) (λ b. (b.height ≡ last (per_epoch script) epoch) ⊎ (b.height + 1 ≡ last (per_epoch script) epoch))
+  pub top : IsSomeAnd (slice_get fed 0) (λ b. (slice_get path (length path - 1) ≡ Some b) × ((b.height ≡ last (per_epoch script) epoch) ⊎ (b.height + 1 ≡ last (per_epoch script) epoch)))

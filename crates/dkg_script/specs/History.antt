@@ -7,11 +7,12 @@ use Rattle.dkg_values.specs.Rising.{lookup}
 use Rattle.dkg_ceremony.specs.declared.round.RoundParts.{RoundParts as Round}
 use Rattle.dkg_ceremony.specs.Outcomes.{LogMap, outcome_of}
 use Rattle.dkg_ceremony.specs.ValidLogs.{check_log_of}
+use Rattle.dkg_ceremony.specs.declared.signed_log.SignedDealerLog.{SignedDealerLog}
 use Rattle.dkg_journal.specs.Records.{entries}
 use Rattle.dkg_store.specs.Noted.{logs_in}
 use Rattle.dkg_store.specs.declared.recorded_log.RecordedLog.{RecordedLog}
 use Rattle.dkg_types.specs.NextInfos.{Provided, next_info}
-use Rattle.dkg_types.specs.Paths.{logs_from}
+use Rattle.dkg_types.specs.Paths.{counts, logs_from}
 use Rattle.dkg_text.specs.declared.script.Event.TheVariants.{Final}
 use Rattle.dkg_text.specs.declared.script.Life.{Life}
 use Rattle.dkg_script.specs.Blocks.{Block, block_at, chain, known_info, round_at, used}
@@ -45,18 +46,23 @@ chain_logs s round epoch = logs_from check_log_of (midpoint (blocks_per_epoch s)
 abbrev pub CarriesAt : Setting → (height dealer : ℕ) → RecordedLog → Type 0
 CarriesAt s height dealer noted = IsSomeAnd (chain s height) (CarriesLog dealer noted.log)
 
--- A log that is noted with a height stands there on the chain. One without stands below each height that a life awaits first which begins in its epoch.
-abbrev pub StandsAtIts : Setting → (epoch dealer : ℕ) → RecordedLog → Option ℕ → Type 0
-StandsAtIts s epoch dealer noted (Some height) = CarriesAt s height dealer noted
-StandsAtIts s epoch dealer noted None =
-    (height : ℕ) × CarriesAt s height dealer noted
-    × ((l : ℕ) (life : Life) → life_at s l ≡ Some life → awaited_epoch s l life 0 ≡ epoch → height < awaited_height s l life 0)
+-- No block of the chain below this height carries a log of the dealer that counts in the round.
+abbrev pub IsFirstAt : Setting → (epoch : ℕ) → Round → (height dealer : ℕ) → Type 0
+IsFirstAt s epoch round height dealer =
+    (lower : ℕ) (b : Block) (log : SignedDealerLog) → lower < height → chain s lower ≡ Some b → b.log ≡ Some log → log.dealer ≡ dealer
+    → counts check_log_of (midpoint (blocks_per_epoch s) epoch) (last (blocks_per_epoch s) epoch) round (lower, log) ≡ false
 
--- Each log that was handed in, of an epoch whose round the script has, is its dealer's first one on the chain.
+-- A log that is noted with a height stands there on the chain. One without stands below each height that a life awaits first which awaits its epoch at any step.
+abbrev pub StandsAtIts : Setting → (epoch height : ℕ) → Option ℕ → Type 0
+StandsAtIts s epoch height (Some noted) = noted ≡ height
+StandsAtIts s epoch height None = (l j : ℕ) (life : Life) → life_at s l ≡ Some life → awaited_epoch s l life j ≡ epoch → height < awaited_height s l life 0
+
+-- Each log that was handed in, of an epoch whose round the script has, is its dealer's first one on the chain, and is noted at its height.
 abbrev pub AreChainLogs : Setting → Type 0
 AreChainLogs s =
     (epoch dealer : ℕ) (noted : RecordedLog) (round : Round) → get (logs_in (entries s.files)) (epoch, dealer) ≡ Some noted → round_at s epoch ≡ Some round
-    → (lookup dealer (chain_logs s round epoch) ≡ Some noted.log) × StandsAtIts s epoch dealer noted noted.height
+    → (lookup dealer (chain_logs s round epoch) ≡ Some noted.log)
+    × ((height : ℕ) × CarriesAt s height dealer noted × IsFirstAt s epoch round height dealer × StandsAtIts s epoch height noted.height)
 
 -- the step of a life was completed: the life did not end before it or within it
 abbrev pub WasCompleted : List (Option CutAt) → (l step : ℕ) → Type 0
