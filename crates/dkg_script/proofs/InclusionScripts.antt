@@ -17,7 +17,7 @@ use Rattle.dkg_text.specs.declared.script.Life.{Life}
 use Rattle.dkg_text.specs.declared.script.PlayerLine.{PlayerLine}
 use Rattle.dkg_text.specs.declared.script.Script.{Script}
 use Rattle.dkg_text.specs.declared.script.SyncLine.{SyncLine}
-use Rattle.dkg_script.specs.Asked.{AskAnew, fed_by, fed_to, has_ended}
+use Rattle.dkg_script.specs.Asked.{AskAnew, fed_by, fed_to}
 use Rattle.dkg_script.specs.Built.{is_built}
 use Rattle.dkg_script.specs.Epochs.{IsBlockIn, IsFormOfEpochs}
 use Rattle.dkg_script.specs.Inclusion.{IsEventIn, IsFormOfInclusion, IsLifeIn}
@@ -192,10 +192,3 @@ fed_cancelled = refl
 
 pub fed_other : fed_to 3 asking ≡ []
 fed_other = refl
-
--- .. whose ancestry ends
-pub ended_two : has_ended 2 asking ≡ true
-ended_two = refl
-
-pub ended_three : has_ended 3 asking ≡ false
-ended_three = refl

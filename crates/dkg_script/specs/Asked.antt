@@ -1,5 +1,5 @@
 -- Requests of a life: their numbers, and the blocks that each is fed.
-use Rattle.std.specs.Prelude.{ℕ, ◌≡◌, ◌==◌, Bool, true, false, List, [], ◌∷◌, take, if◌then◌else◌, ⊤}
+use Rattle.std.specs.Prelude.{ℕ, ◌≡◌, ◌==◌, false, List, [], ◌∷◌, take, if◌then◌else◌, ⊤}
 use Rattle.dkg_text.specs.Asked.{is_asked}
 use Rattle.dkg_text.specs.Spells.{FitAfter}
 use Rattle.dkg_text.specs.declared.script.Event.{Event}
@@ -32,9 +32,3 @@ fed_to request (_ ∷ events) = fed_to request events
 -- .. by the first j events of a life
 abbrev pub fed_by : Life → (request j : ℕ) → List ℕ
 fed_by life request j = fed_to request (take j life.events)
-
--- an `over` of the request is among these events: its ancestry has ended
-abbrev pub has_ended : (request : ℕ) → List Event → Bool
-has_ended request [] = false
-has_ended request (Over number ∷ events) = if number == request then true else has_ended request events
-has_ended request (_ ∷ events) = has_ended request events
