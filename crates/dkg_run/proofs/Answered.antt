@@ -54,7 +54,7 @@ use Rattle.dkg_run.proofs.Awaiting.{IsReached}
 use Rattle.dkg_run.proofs.Causing.{above_by, taken}
 use Rattle.dkg_run.proofs.FedRequests.{becomes_open, stands_more}
 use Rattle.dkg_run.proofs.Former.{Brings, BringsBlock, BringsMail, IsMessage, brings_so, life_in, step_taken, through_at}
-use Rattle.dkg_run.proofs.Requested.{AreHeld, AreReady, IsAwaited, IsHeld, IsReadIn, IsSamePart, Knows, KnowsRead, asked_same, block_said, dealt_part, dealt_said, dealt_tip, included_said, keeps_final, keeps_work, less_one, mail_said, observed_part, read_here, sends_info, sends_work, stands_as, were_asked}
+use Rattle.dkg_run.proofs.Requested.{AreHeld, AreReady, IsAwaited, IsHeld, IsReadFor, IsSamePart, Knows, KnowsRead, asked_same, block_said, dealt_part, dealt_said, dealt_tip, included_said, keeps_final, keeps_work, less_one, mail_said, observed_part, read_here, sends_info, sends_work, stands_as, were_asked}
 use Rattle.dkg_run.proofs.Unanswered.{IsUnanswered, block_lines}
 
 abbrev U : Type 0
@@ -236,8 +236,11 @@ module _ {Known : Knows} (g : Lived) (here : IsLifeInForm g) (i : ℕ) (its : Ev
   waited_round (Answer number (Unavailable why)) waited = absurd waited
   waited_round line waited = absurd waited
 
-  read_in : (x : Live U) → IsReadIn c st m.message x → IsSamePart c st x → x.tip ≡ tip_in g.script g.life (suc i) → AreReady g Known e (suc i) st.participation.round x.inclusion → (line : Entry) → IsReadAnswer c x line → IsSaidHere line
-  read_in x in_it same x_tip ready line read = let its_round = round_of x line read in found_so (apart_by its_round.0 (sym same.round ∙ its_round.1)) x same x_tip ready (known x in_it) line read
+  read_in : (x : Live U) → IsReadFor c st m.message x → IsSamePart c st x → x.tip ≡ tip_in g.script g.life (suc i) → AreReady g Known e (suc i) st.participation.round x.inclusion → (line : Entry) → IsReadAnswer c x line → IsSaidHere line
+  read_in x in_it same x_tip ready line read =
+      let its_round = round_of x line read in
+      let apart : st.participation.stage ≡ Follows → ⊥ = apart_by its_round.0 (sym same.round ∙ its_round.1) in
+      found_so apart x same x_tip ready (known x in_it x_tip (same.epoch ∙ stands.epoch apart)) line read
 
   unasked_so : (line : Entry) → IsUnasked line → IsSaidHere line
   unasked_so (Answer number answer) none = absurd none
@@ -260,7 +263,7 @@ module _ {Known : Knows} (g : Lived) (here : IsLifeInForm g) (i : ℕ) (its : Ev
     mail_tip = ap (λ (x : Live U). x.tip) (asked_same c mail st) ∙ ap (λ (x : Message U). tip_behind x st.tip) (sym sent) ∙ tip_next
 
     asked_so : (line : Entry) → IsReadAnswer c (asked_by mail st) line → IsSaidHere line
-    asked_so line read = read_in (asked_by mail st) (subst (λ (y : Message U). IsReadIn c st y (asked_by mail st)) (sym sent) refl) part mail_tip (mail_said g here i its is st held mail its_brings) line read
+    asked_so line read = read_in (asked_by mail st) (subst (λ (y : Message U). IsReadFor c st y (asked_by mail st)) (sym sent) refl) part mail_tip (mail_said g here i its is st held mail its_brings) line read
 
   following : (number : ℕ) → its ≡ event.Info number → st.participation.stage ≡ Follows → IsSaidHere (Answer number (Unavailable Following))
   following number of follows =
@@ -295,8 +298,8 @@ module _ {Known : Knows} (g : Lived) (here : IsLifeInForm g) (i : ℕ) (its : Ev
   -- A BLOCK
 
   module _ (number : ℕ) (of : its ≡ event.Final number) (b : Block U) (there : slice_get (blocks_in g.script) number ≡ Some b) (sent : m.message ≡ Finalized b) (applied : judged_block c b st ≡ Applied) where
-    block_read : (x : Live U) → IsReadIn c st (Finalized b) x → IsReadIn c st m.message x
-    block_read x in_it = subst (λ (y : Message U). IsReadIn c st y x) (sym sent) in_it
+    block_read : (x : Live U) → IsReadFor c st (Finalized b) x → IsReadFor c st m.message x
+    block_read x in_it = subst (λ (y : Message U). IsReadFor c st y x) (sym sent) in_it
 
     abbrev its_tip : Option Tip
     its_tip = Some (record { height = b.height; digest = b.digest })

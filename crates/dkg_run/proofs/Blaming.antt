@@ -282,15 +282,15 @@ module _ (g : Lived) (here : IsLifeInForm g) where
       -- its lines
       step_lines : (ended : Ended NodeStop (Live directory.Unit)) (out now : List Entry) → Said (on_devices (step_of g (suc i) e st)) ended out now → (added : List Entry) × (now ≡ out ++ added) × AllByRecursion (IsSaidAt untold g.script g.number g.life (suc i)) added
       step_lines ended out now said =
-          step_answers g here i e e_is reached m st its_live (stood.at).stands stood.tip stood.carried held (behind ∙ ap (λ (o : Option Tip). tip_over (blocks_in g.script) o e) stood.tip ∙ sym tip_next) (λ x read round of. tt) ended out now (on_course ended out now said)
+          step_answers g here i e e_is reached m st its_live (stood.at).stands stood.tip stood.carried held (behind ∙ ap (λ (o : Option Tip). tip_over (blocks_in g.script) o e) stood.tip ∙ sym tip_next) (λ x read at of_epoch round of. tt) ended out now (on_course ended out now said)
 
       pub next_known : (end : Live directory.Unit) → IsNodeThrough c any_shares st m.message None end None → (Reads c reshare st held.apart m.message → IsApart end.inclusion) → Known (suc i) end
       next_known end node apart =
           let next : Stood (suc i) end = step_next None end None node in
           record {
             stood = next;
-            held = step_held g here i e e_is m st its_live (stood.at).stands held None end None node (next.at).stands next.tip (λ x read round of. tt)
-                (step_apart g here i e e_is m st its_live (stood.at).stands held None end None node (next.at).stands next.tip (λ x read round of. tt) reshare apart);
+            held = step_held g here i e e_is m st its_live (stood.at).stands held None end None node (next.at).stands next.tip (λ x read at of_epoch round of. tt)
+                (step_apart g here i e e_is m st its_live (stood.at).stands held None end None node (next.at).stands next.tip (λ x read at of_epoch round of. tt) reshare apart);
           }
 
       step_comes : (ended : Ended NodeStop (Live directory.Unit)) (out now : List Entry) → Said (on_devices (step_of g (suc i) e st)) ended out now → Came (Why (suc i)) (λ end. Known (suc i) end × Clear (suc i)) ended

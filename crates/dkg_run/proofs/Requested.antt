@@ -208,9 +208,9 @@ abbrev pub untold : Knows
 untold epoch read round recorded = Unit {0}
 
 -- The life in which requests are read in a step.
-abbrev pub IsReadIn : Fixed U → Live U → Message U → Live U → Type 0
-IsReadIn c st (Sent mail) x = x ≡ asked_by mail st
-IsReadIn c st (Finalized b) x =
+abbrev pub IsReadFor : Fixed U → Live U → Message U → Live U → Type 0
+IsReadFor c st (Sent mail) x = x ≡ asked_by mail st
+IsReadFor c st (Finalized b) x =
     (judged_block c b st ≡ Applied)
     × (((st.participation.stage ≡ Deals) × (x ≡ dealt_behind c b (given_itself c st)))
     ⊎ ((st.participation.stage ≡ Includes) × (is_last_height c b.height ≡ false) × InRound st (λ round. x ≡ included c round b st)))
@@ -270,7 +270,8 @@ module _ (g : Lived) (Known : Knows) where
   -- what is known where requests are read in a step
   abbrev pub KnowsRead : (i : ℕ) → Live U → Message U → Type 0
   KnowsRead i st message =
-      (x : Live U) → IsReadIn (at_step g (suc i)) st message x → (round : Round) → x.participation.round ≡ Some round → Known (epoch_by g i) (suc i) round (canonical (at_step g (suc i)) x)
+      (x : Live U) → IsReadFor (at_step g (suc i)) st message x → x.tip ≡ tip_in g.script g.life (suc i) → x.participation.epoch ≡ epoch_by g i
+      → (round : Round) → x.participation.round ≡ Some round → Known (epoch_by g i) (suc i) round (canonical (at_step g (suc i)) x)
 
 -- WHAT SENDS A MESSAGE
 
@@ -786,10 +787,10 @@ module _ {Known : Knows} (g : Lived) (here : IsLifeInForm g) (i : ℕ) (its : Ev
 
     -- what is known where requests are read in a life x
     abbrev KnowsIn : Live U → Type 0
-    KnowsIn x = (round : Round) → x.participation.round ≡ Some round → Known (epoch_by g i) (suc i) round (canonical c x)
+    KnowsIn x = x.tip ≡ tip_in g.script g.life (suc i) → x.participation.epoch ≡ epoch_by g i → (round : Round) → x.participation.round ≡ Some round → Known (epoch_by g i) (suc i) round (canonical c x)
 
-    known_in : (message : Message U) → m.message ≡ message → (x : Live U) → IsReadIn c st message x → KnowsIn x
-    known_in message is x in_it = known x (subst (λ (y : Message U). IsReadIn c st y x) (sym is) in_it)
+    known_in : (message : Message U) → m.message ≡ message → (x : Live U) → IsReadFor c st message x → KnowsIn x
+    known_in message is x in_it = known x (subst (λ (y : Message U). IsReadFor c st y x) (sym is) in_it)
 
     -- requests are read in it
     read_on : (x : Live U) → KnowsIn x → IsReadFrom c x mid → AreReady g Known (epoch_by g i) (suc i) st.participation.round x.inclusion → IsLeft
@@ -822,7 +823,7 @@ module _ {Known : Knows} (g : Lived) (here : IsLifeInForm g) (i : ℕ) (its : Ev
               within = itself (suc i);
               began = ap (epoch_by g) (less_one i);
               recorded = canonical c x;
-              known = knows round of;
+              known = knows of_tip of_epoch round of;
               asked = subst (λ (logs : LogMap). WereAsked g.script g.life (epoch_by g i) r.number (suc i) round (canonical c x) logs) (sym logs) (were_asked g here (suc i) (epoch_by g i) x of_tip of_epoch round r found its_read one.fed);
             }
           where
