@@ -105,6 +105,7 @@ pub mod Places
 pub mod PlanlessReads
 pub mod Plays
 pub mod Promising
+pub mod ReadLogs
 pub mod Recorded
 pub mod RecordsFound
 pub mod Refusing
