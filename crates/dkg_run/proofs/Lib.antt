@@ -67,6 +67,7 @@ pub mod Leading
 pub mod Leaving
 pub mod LifeSteps
 pub mod LineHeights
+pub mod LineLives
 pub mod LinesFound
 pub mod LivesClear
 pub mod LivesKept
