@@ -52,6 +52,7 @@ pub mod GivingValid
 pub mod GivingWhole
 pub mod Going
 pub mod GrowingLogs
+pub mod HalfLines
 pub mod Halves
 pub mod Heard
 pub mod HeightsRise
@@ -118,6 +119,7 @@ pub mod Runs
 pub mod SaysOver
 pub mod Seated
 pub mod Seats
+pub mod SetUpLines
 pub mod SharesFit
 pub mod SharesKnown
 pub mod SharesStay
