@@ -61,7 +61,7 @@ use Rattle.dkg_run.specs.Epochs.{IsAt, IsChecked, IsLifeInForm, StandsInScript, 
 use Rattle.dkg_run.specs.Given.{Lived, anchor_in, at_step, blocks_in, lived, step_of}
 use Rattle.dkg_run.specs.Lives.{LivesSo, RunsAllSo, RunsSo, Steps, TakesAll, TellsEnd, fuse_for}
 use Rattle.dkg_run.specs.Ways.{ReadsSomething, Trace, by_lines}
-use Rattle.dkg_run.proofs.Answered.{IsSaidAt, step_answers, unanswered_so}
+use Rattle.dkg_run.proofs.Answered.{IsSaidAt, answered_so, step_answers, unanswered_so}
 use Rattle.dkg_run.proofs.Apart.{IsApart, Reads, node_apart}
 use Rattle.dkg_run.proofs.Asking.{AreMade, IsCarried, opening_carried, opening_made, step_carried, step_made}
 use Rattle.dkg_run.proofs.Awaiting.{IsBefore as IsUncut, IsReached, before_all, one_more, reached_lit}
@@ -73,7 +73,7 @@ use Rattle.dkg_run.proofs.LivesStand.{before_suc}
 use Rattle.dkg_run.proofs.NextLives.{next_tip}
 use Rattle.dkg_run.proofs.Ordered.{lit_begins, lit_within, opened_in, opening_added, step_is_quiet, tells_fault, unlit, went_opened}
 use Rattle.dkg_run.proofs.Places.{each_of_both, moves_none, moves_then, moves_within}
-use Rattle.dkg_run.proofs.Requested.{AreHeld, none_held, sent_new, step_apart, step_held}
+use Rattle.dkg_run.proofs.Requested.{AreHeld, none_held, sent_new, step_apart, step_held, untold}
 use Rattle.dkg_run.proofs.Runs.{each_after, starts}
 use Rattle.dkg_run.proofs.Standing.{AddsOpening, AddsQuiet, Each, IsAtCut, IsBefore, IsBehind, IsBetween, IsBetweenOf, IsCutBefore, IsCutWithin, IsWithin, Moves, TellsFault}
 use Rattle.dkg_run.proofs.Steps.{Opening, opened_so_far, quiet_so_far}
@@ -117,7 +117,7 @@ module _ (g : Lived) (here : IsLifeInForm g) where
   -- .. with what it has of requests
   pub record Known (i : ℕ) (st : Live directory.Unit) : Type 0 where
     pub stood : Stood i st
-    pub held : AreHeld g i st
+    pub held : AreHeld g untold i st
 
   abbrev Came : (Fault → Type 0) → (Live directory.Unit → Type 0) → Ended NodeStop (Live directory.Unit) → Type 0
   Came P Next ended = CameTo (λ (stop : NodeStop). (own : Fault) × (stop ≡ Faulted own) × P own) Next ended
@@ -142,11 +142,11 @@ module _ (g : Lived) (here : IsLifeInForm g) where
         carried = opening_carried g here seen k st begun lives.0;
       }
 
-  opened_held : (seen : Seen) (k : Held) (st : Live directory.Unit) → IsNodeBegun (at_step g 0) seen k st → AreHeld g 0 st
+  opened_held : (seen : Seen) (k : Held) (st : Live directory.Unit) → IsNodeBegun (at_step g 0) seen k st → AreHeld g untold 0 st
   opened_held seen k st begun =
       let same = (begun.entered).same in
       let idle = ((begun.opened).live).idle in
-      none_held g 0 st (ap (λ (x : Live directory.Unit). x.inclusion.queue) same ∙ ap (λ (x : Inclusion directory.Unit). x.queue) idle)
+      none_held g untold 0 st (ap (λ (x : Live directory.Unit). x.inclusion.queue) same ∙ ap (λ (x : Inclusion directory.Unit). x.queue) idle)
       (ap (λ (x : Live directory.Unit). x.inclusion.waiter) same ∙ ap (λ (x : Inclusion directory.Unit). x.waiter) idle)
 
   pub opening_comes : (ended : Ended NodeStop (Live directory.Unit)) (out now : List Entry) → Said (on_devices (node_opening (at_step g 0))) ended out now → Came (Why 0) (λ end. Known 0 end × Clear 0) ended
@@ -269,7 +269,7 @@ module _ (g : Lived) (here : IsLifeInForm g) where
     its_step = node_step (at_step g (suc i)) (event_of m.message) st
 
     -- WHAT IT HAS OF REQUESTS
-    module _ (held : AreHeld g i st) where
+    module _ (held : AreHeld g untold i st) where
       abbrev c : Fixed directory.Unit
       c = at_step g (suc i)
 
@@ -280,17 +280,17 @@ module _ (g : Lived) (here : IsLifeInForm g) where
       on_course ended out now said = subst (λ (k : Course directory.Unit NodeStop (Live directory.Unit)). Said (on_devices k) ended out now) (m.course (suc i) st) said
 
       -- its lines
-      step_lines : (ended : Ended NodeStop (Live directory.Unit)) (out now : List Entry) → Said (on_devices (step_of g (suc i) e st)) ended out now → (added : List Entry) × (now ≡ out ++ added) × AllByRecursion (IsSaidAt g.script g.number g.life (suc i)) added
+      step_lines : (ended : Ended NodeStop (Live directory.Unit)) (out now : List Entry) → Said (on_devices (step_of g (suc i) e st)) ended out now → (added : List Entry) × (now ≡ out ++ added) × AllByRecursion (IsSaidAt untold g.script g.number g.life (suc i)) added
       step_lines ended out now said =
-          step_answers g here i e e_is reached m st its_live (stood.at).stands stood.tip stood.carried held (behind ∙ ap (λ (o : Option Tip). tip_over (blocks_in g.script) o e) stood.tip ∙ sym tip_next) ended out now (on_course ended out now said)
+          step_answers g here i e e_is reached m st its_live (stood.at).stands stood.tip stood.carried held (behind ∙ ap (λ (o : Option Tip). tip_over (blocks_in g.script) o e) stood.tip ∙ sym tip_next) (λ x read at of_epoch round of. tt) ended out now (on_course ended out now said)
 
       pub next_known : (end : Live directory.Unit) → IsNodeThrough c any_shares st m.message None end None → (Reads c reshare st held.apart m.message → IsApart end.inclusion) → Known (suc i) end
       next_known end node apart =
           let next : Stood (suc i) end = step_next None end None node in
           record {
             stood = next;
-            held = step_held g here i e e_is m st its_live (stood.at).stands held None end None node (next.at).stands next.tip
-                (step_apart g here i e e_is m st its_live (stood.at).stands held None end None node (next.at).stands next.tip reshare apart);
+            held = step_held g here i e e_is m st its_live (stood.at).stands held None end None node (next.at).stands next.tip (λ x read at of_epoch round of. tt)
+                (step_apart g here i e e_is m st its_live (stood.at).stands held None end None node (next.at).stands next.tip (λ x read at of_epoch round of. tt) reshare apart);
           }
 
       step_comes : (ended : Ended NodeStop (Live directory.Unit)) (out now : List Entry) → Said (on_devices (step_of g (suc i) e st)) ended out now → Came (Why (suc i)) (λ end. Known (suc i) end × Clear (suc i)) ended
@@ -373,11 +373,11 @@ module _ (script : Script) (life : Life) (l : ℕ) (life_is : slice_get script.l
       subst (λ (n : ℕ). IsSomeAnd (slice_get script.lives n) (λ its. P n its p.step)) (sym lives)
       (subst (λ (o : Option Life). IsSomeAnd o (λ its. P l its p.step)) (sym life_is) (subst (λ (k : ℕ). P l life k) (sym step) so))
 
-  said_now : (j : ℕ) (p : Progress) (one : Entry) → length p.cuts ≡ l → p.step ≡ j → IsSaidAt script l life j one → IsAnswer script p one
-  said_now j p (entry.Answer request answer) lives step said = here_now (λ n x k. IsAnsweredSo script n x (awaited_epoch (alone script) n x (k - 1)) k request answer) j p lives step said
+  said_now : (j : ℕ) (p : Progress) (one : Entry) → length p.cuts ≡ l → p.step ≡ j → IsSaidAt untold script l life j one → IsAnswer script p one
+  said_now j p (entry.Answer request answer) lives step said = here_now (λ n x k. IsAnsweredSo script n x (awaited_epoch (alone script) n x (k - 1)) k request answer) j p lives step (answered_so untold script l life (awaited_epoch (alone script) l life (j - 1)) j request answer said)
   said_now j p one lives step said = tt
 
-  all_quiet : (j : ℕ) (s : Setting) (p : Progress) (added : List Entry) → AllByRecursion IsQuiet added → AllByRecursion (IsSaidAt script l life j) added → length p.cuts ≡ l → p.step ≡ j → Each s (Says script s) p added
+  all_quiet : (j : ℕ) (s : Setting) (p : Progress) (added : List Entry) → AllByRecursion IsQuiet added → AllByRecursion (IsSaidAt untold script l life j) added → length p.cuts ≡ l → p.step ≡ j → Each s (Says script s) p added
   all_quiet j s p [] quiet said lives step = tt
   all_quiet j s p (one ∷ added) quiet said lives step =
       let same = same_place s p one quiet.0 in
@@ -397,11 +397,11 @@ module _ (script : Script) (life : Life) (l : ℕ) (life_is : slice_get script.l
   wanted : (P : Setting → Progress → Type 0) (t new : Trace) → new ≡ t → Moves (Says script) P (Ends (Err (FaultOf NoMemory))) t.out new.out
   wanted P t new is = moves_none (Says script) P (Ends (Err (FaultOf NoMemory))) t.out new.out (ap (λ (x : Trace). x.out) is) (λ s p at. inl tt)
 
-  quiet_part : (j : ℕ) (out now : List Entry) → (IsCutBefore life.cut j → ⊥) → (adds : AddsQuiet out now) → AllByRecursion (IsSaidAt script l life j) adds.added → Moves (Says script) (IsBefore life l j) (IsWithin life l j false) out now
+  quiet_part : (j : ℕ) (out now : List Entry) → (IsCutBefore life.cut j → ⊥) → (adds : AddsQuiet out now) → AllByRecursion (IsSaidAt untold script l life j) adds.added → Moves (Says script) (IsBefore life l j) (IsWithin life l j false) out now
   quiet_part j out now not adds said =
       judged_by script (IsBefore life l j) (IsWithin life l j false) out now adds.added adds.parts (λ s p is. all_quiet j s p adds.added adds.quiet said is.lives is.step) (quiet_so_far life l j out now not adds)
 
-  opening_part : (out now : List Entry) → (IsCutBefore life.cut 0 → ⊥) → (adds : AddsOpening l out now) → AllByRecursion (IsSaidAt script l life 0) adds.more → Moves (Says script) (IsBefore life l 0) (IsWithin life l 0 true) out now
+  opening_part : (out now : List Entry) → (IsCutBefore life.cut 0 → ⊥) → (adds : AddsOpening l out now) → AllByRecursion (IsSaidAt untold script l life 0) adds.more → Moves (Says script) (IsBefore life l 0) (IsWithin life l 0 true) out now
   opening_part out now not adds said = judged_by script (IsBefore life l 0) (IsWithin life l 0 true) out now (entry.Opened l adds.restored ∷ adds.more) adds.parts
       (λ s p is. ((tt, tt), all_quiet 0 s (read s p (entry.Opened l adds.restored)) adds.more adds.quiet said is.lives is.step)) (opened_so_far life l out now not adds)
 
@@ -467,7 +467,7 @@ module _ (g : Lived) (here : IsLifeInForm g) where
           let adds : AddsQuiet out now = step_is_quiet g (suc i) e st ended out now said in
           let lines = step_lines g here i e e_is reached st known.stood known.held ended out now said in
           quiet_part g.script g.life g.number here.life_is (suc i) out now not adds
-          (subst (λ (xs : List Entry). AllByRecursion (IsSaidAt g.script g.number g.life (suc i)) xs) (append_cancel_left out lines.0 adds.added (sym lines.1 ∙ adds.parts)) lines.2)
+          (subst (λ (xs : List Entry). AllByRecursion (IsSaidAt untold g.script g.number g.life (suc i)) xs) (append_cancel_left out lines.0 adds.added (sym lines.1 ∙ adds.parts)) lines.2)
 
   takes_judged : (i : ℕ) (events : List Event) (st : Live directory.Unit) (t new : Trace) (how : Result (Unit {0}) Stop) → i ≤ length g.life.events → events ≡ drop i g.life.events → IsUncut g.life.cut (suc i) → Known g here i st
       → TakesAll by_lines g (suc i) events st t how new → Moves (Says g.script) (IsBehind g.life g.number i) (EndsHere how) t.out new.out
@@ -497,9 +497,9 @@ module _ (g : Lived) (here : IsLifeInForm g) where
       none : AllByRecursion IsUnanswered (entry.Opened g.number adds.restored ∷ adds.more)
       none = subst (λ (xs : List Entry). AllByRecursion IsUnanswered xs) (append_cancel_left out lines.0 (entry.Opened g.number adds.restored ∷ adds.more) (sym lines.1 ∙ adds.parts)) lines.2
 
-      all_said : (xs : List Entry) → AllByRecursion IsUnanswered xs → AllByRecursion (IsSaidAt g.script g.number g.life 0) xs
+      all_said : (xs : List Entry) → AllByRecursion IsUnanswered xs → AllByRecursion (IsSaidAt untold g.script g.number g.life 0) xs
       all_said [] all = tt
-      all_said (one ∷ xs) all = (unanswered_so g 0 one all.0, all_said xs all.1)
+      all_said (one ∷ xs) all = (unanswered_so untold g 0 one all.0, all_said xs all.1)
 
   opens_within : (IsCutBefore g.life.cut 0 → ⊥) → (ended : Ended NodeStop (Live directory.Unit)) (out now : List Entry) → Said (on_devices (node_opening (at_step g 0))) ended out now → Opening g.number out now
       → Moves (Says g.script) (IsBefore g.life g.number 0) (λ s p. (so : Bool) × IsWithin g.life g.number 0 so s p) out now

@@ -47,7 +47,7 @@ use Rattle.dkg_run.proofs.FedRequests.{asked_anew, stands_more}
 use Rattle.dkg_run.proofs.Former.{Brings, IsMessage, life_in}
 use Rattle.dkg_run.proofs.HeightsRise.{awaited_rise}
 use Rattle.dkg_run.proofs.NextLives.{GoesOn, TakesOver, applied_high}
-use Rattle.dkg_run.proofs.Requested.{AreHeld, AreReady, IsHeld, dealt_said, included_said, less_one, mail_said, were_asked}
+use Rattle.dkg_run.proofs.Requested.{AreHeld, AreReady, IsHeld, dealt_said, included_said, less_one, mail_said, untold, were_asked}
 
 abbrev U : Type 0
 U = directory.Unit
@@ -253,7 +253,7 @@ made_once g here at other n there too = by_order (cases at other)
 -- A STEP
 
 module _ (g : Lived) (here : IsLifeInForm g) (i : ℕ) (its : Event) (is : slice_get g.life.events i ≡ Some its) (m : IsMessage g its) (st : Live U) (live : IsLiveThrough (at_step g (suc i)) any_shares st) (stands : StandsInScript g i st)
-    (held : AreHeld g i st) (end : Live U) (node : IsNodeThrough (at_step g (suc i)) any_shares st m.message None end None) (behind : StandsInScript g (suc i) end) (tip : end.tip ≡ tip_in g.script g.life (suc i)) where
+    (held : AreHeld g untold i st) (end : Live U) (node : IsNodeThrough (at_step g (suc i)) any_shares st m.message None end None) (behind : StandsInScript g (suc i) end) (tip : end.tip ≡ tip_in g.script g.life (suc i)) where
   abbrev c : Fixed U
   c = at_step g (suc i)
 
@@ -309,7 +309,7 @@ module _ (g : Lived) (here : IsLifeInForm g) (i : ℕ) (its : Event) (is : slice
         by_cases k from (inr last) work = other (the_same (sym is ∙ ap (slice_get g.life.events) (sym last) ∙ work))
 
     -- requests are read in a life x
-    read_on : (x : Live U) → IsReadFrom c x mid → AreReady g e (suc i) st.participation.round x.inclusion → InOrder g (suc i) 0 x.inclusion.queue → IfSome x.inclusion.running (IsRun g e (suc i)) → IsLeft mid.inclusion
+    read_on : (x : Live U) → IsReadFrom c x mid → AreReady g untold e (suc i) st.participation.round x.inclusion → InOrder g (suc i) 0 x.inclusion.queue → IfSome x.inclusion.running (IsRun g e (suc i)) → IsLeft mid.inclusion
     read_on x read ready order runs =
         record { order = order_back g (suc i) 0 read.gone mid.inclusion.queue (subst (InOrder g (suc i) 0) read.rest order); runs = by_running mid.inclusion.running refl }
       where
