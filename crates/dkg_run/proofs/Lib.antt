@@ -63,6 +63,7 @@ pub mod KeptOpenings
 pub mod KeptSteps
 pub mod Knowing
 pub mod Lasting
+pub mod LastLogs
 pub mod LaterRecords
 pub mod Leading
 pub mod Leaving
