@@ -52,6 +52,7 @@ pub mod GivingValid
 pub mod GivingWhole
 pub mod Going
 pub mod GrowingLogs
+pub mod HalfLines
 pub mod Halves
 pub mod Heard
 pub mod HeightsRise
@@ -62,11 +63,13 @@ pub mod KeptOpenings
 pub mod KeptSteps
 pub mod Knowing
 pub mod Lasting
+pub mod LastLogs
 pub mod LaterRecords
 pub mod Leading
 pub mod Leaving
 pub mod LifeSteps
 pub mod LineHeights
+pub mod LineLives
 pub mod LinesFound
 pub mod LivesClear
 pub mod LivesKept
@@ -120,6 +123,7 @@ pub mod Runs
 pub mod SaysOver
 pub mod Seated
 pub mod Seats
+pub mod SetUpLines
 pub mod SharesFit
 pub mod SharesKnown
 pub mod SharesStay
