@@ -112,6 +112,7 @@ pub mod Promising
 pub mod ReadLogs
 pub mod ReadingRecords
 pub mod Recorded
+pub mod RecordingLives
 pub mod RecordingSteps
 pub mod RecordsFound
 pub mod Refusing

@@ -236,7 +236,7 @@ module _ (s : Setting) (ends : List (Option CutAt)) (whole : IsWholeHistory s en
         on_chain = subst (λ (o : Option Block). IfSome o (λ x. chain s x.height ≡ Some x)) seen_there
             (of_delivered s l life (λ x. chain s x.height ≡ Some x) life_is (whole.consistent).one_chain i number (comes_to life.cut life.events i reached ∙ its_is))
 
-        next_height : h (suc i) ≡ max (h i) (block.height + 1)
+        pub next_height : h (suc i) ≡ max (h i) (block.height + 1)
         next_height = block_behind s l life i number (seen_block unit_spelling block) its_is reached seen_there
 
         -- a round is there, where the life takes part
