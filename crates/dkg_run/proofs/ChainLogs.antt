@@ -155,7 +155,7 @@ module _ (s : Setting) (epoch : ℕ) (round : Round) where
   -- THE LOGS OF A PATH. What is recorded are first logs, all of them up to the tip; dealers are keys of 32 bits.
   module _ (m : Notes RecordedLog) (tip : ℕ) (are : AreFirst brings_of (λ (n : RecordedLog). n.log) (λ d. get m (epoch, d)) tip (is_reached middle (Some tip)))
       (keys : (height dealer : ℕ) (log : DealerLog) → brings_of height ≡ Some (dealer, log) → dealer < 2 ^ 32) where
-    recorded_found : (low count : ℕ) → NoneBelow brings_of low → low + count ≡ tip + 1 → (k : ℕ) → lookup k (reached_logs middle (Some tip) (at_epoch epoch m)) ≡ lookup k (brought_from brings_of low count)
+    pub recorded_found : (low count : ℕ) → NoneBelow brings_of low → low + count ≡ tip + 1 → (k : ℕ) → lookup k (reached_logs middle (Some tip) (at_epoch epoch m)) ≡ lookup k (brought_from brings_of low count)
     recorded_found low count none upto k = passing_found (is_reached middle (Some tip)) k 0 (at_epoch epoch m) (rises_from (keys_of (at_epoch epoch m)) (rising epoch m)) ∙ by_size (cases_lt k (2 ^ 32))
       where
         by_size : (k < 2 ^ 32) ⊎ (2 ^ 32 ≤ k) → reached_in (λ (n : RecordedLog). n.log) (is_reached middle (Some tip)) (lookup k (at_epoch epoch m)) ≡ lookup k (brought_from brings_of low count)

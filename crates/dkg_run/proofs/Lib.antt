@@ -55,6 +55,7 @@ pub mod GivingValid
 pub mod GivingWhole
 pub mod Going
 pub mod GrowingLogs
+pub mod HalfLines
 pub mod Halves
 pub mod Heard
 pub mod HeightsRise
@@ -65,11 +66,13 @@ pub mod KeptOpenings
 pub mod KeptSteps
 pub mod Knowing
 pub mod Lasting
+pub mod LastLogs
 pub mod LaterRecords
 pub mod Leading
 pub mod Leaving
 pub mod LifeSteps
 pub mod LineHeights
+pub mod LineLives
 pub mod LinesFound
 pub mod LivesClear
 pub mod LivesKept
@@ -84,6 +87,7 @@ pub mod NextLives
 pub mod NoOthers
 pub mod NodeOpens
 pub mod Noding
+pub mod NotedFirst
 pub mod ObservedLogs
 pub mod OfferedHalves
 pub mod OfferingLives
@@ -110,7 +114,9 @@ pub mod PlanlessReads
 pub mod Plays
 pub mod Promising
 pub mod ReadLogs
+pub mod ReadingRecords
 pub mod Recorded
+pub mod RecordingSteps
 pub mod RecordsFound
 pub mod Refusing
 pub mod Reported
@@ -122,6 +128,7 @@ pub mod SaysOver
 pub mod Seated
 pub mod Seats
 pub mod SeenBlocks
+pub mod SetUpLines
 pub mod SharesFit
 pub mod SharesKnown
 pub mod SharesStay

@@ -83,7 +83,7 @@ module _ (s : Setting) (l : ℕ) (life : Life) (cuts : List (Option CutAt)) (j :
   last_is : is_last_step s q ≡ (j == length life.events)
   last_is = rw (lives, life_is, step) refl
 
-  behind : (events : List script.Event) → Rest life (j + 1) events → StandsAt l life cuts (j + 1) events s (read s q (entry.Step j))
+  pub behind : (events : List script.Event) → Rest life (j + 1) events → StandsAt l life cuts (j + 1) events s (read s q (entry.Step j))
   behind [] rest = subst (λ (last : Bool). StandsAt l life cuts (j + 1) [] s (cond last (with_life_ended q None) (record q { step = suc q.step; written = [] }))) (sym (last_is ∙ eq-eqb j (length life.events) (omega (arith, rest))))
       (record { lives = length-more q.cuts None ∙ ap (λ (n : ℕ). n + 1) lives; step = refl; nothing = refl }, ap (λ (x : List (Option CutAt)). x ++ None ∷ []) cuts_are)
   behind (event ∷ events) rest = subst (λ (last : Bool). StandsAt l life cuts (j + 1) (event ∷ events) s (cond last (with_life_ended q None) (record q { step = suc q.step; written = [] }))) (sym (last_is ∙ differs))
@@ -192,7 +192,7 @@ module _ (old new : Held) (stays : StaysHeld old new) where
 -- FUSES
 
 -- a step that isn't begun is the one before which the script cuts
-cut_before : (o : Option cut.Cut) (j : ℕ) → fuse_for o j ≡ None → (its : cut.Cut) → o ≡ Some its → (its.step ≡ j) × ((its.call == 0) ≡ true)
+pub cut_before : (o : Option cut.Cut) (j : ℕ) → fuse_for o j ≡ None → (its : cut.Cut) → o ≡ Some its → (its.step ≡ j) × ((its.call == 0) ≡ true)
 cut_before None j fuse its is = absurd (none_some its is)
 cut_before (Some at) j fuse its is = subst (λ (x : cut.Cut). (x.step ≡ j) × ((x.call == 0) ≡ true)) (some_is at its is) (by_step (at.step == j) refl fuse)
   where
@@ -205,7 +205,7 @@ cut_before (Some at) j fuse its is = subst (λ (x : cut.Cut). (x.step ≡ j) × 
     by_step false e fuse = absurd (none_some never (sym fuse))
 
 -- a step with a fuse that can burn is the one within which it does
-cut_within : (o : Option cut.Cut) (j : ℕ) (f : Burn) → fuse_for o j ≡ Some f → f.spent < f.call → (its : cut.Cut) → o ≡ Some its → (its.step ≡ j) × (0 < its.call)
+pub cut_within : (o : Option cut.Cut) (j : ℕ) (f : Burn) → fuse_for o j ≡ Some f → f.spent < f.call → (its : cut.Cut) → o ≡ Some its → (its.step ≡ j) × (0 < its.call)
 cut_within None j f fuse burns its is = absurd (none_some its is)
 cut_within (Some at) j f fuse burns its is = subst (λ (c : cut.Cut). (c.step ≡ j) × (0 < c.call)) (some_is at its is) (by_step (at.step == j) refl fuse)
   where

@@ -1,5 +1,5 @@
--- What a life has recorded of an epoch's logs where it counts them: first ones of the chain, and all of them up to its tip, where the chain goes on without a gap from the midpoint.
-use Rattle.std.specs.Prelude.{ℕ, ◌≡◌, ◌⊎◌, ◌<◌, ◌≤◌, false, Option, Some, List}
+-- What a life has recorded of an epoch's logs where it counts them: first ones of the chain, and all of them up to its tip.
+use Rattle.std.specs.Prelude.{ℕ, ◌≡◌, ◌<◌, Some, List}
 use Rattle.std.specs.FinMap.{entries, get}
 use Rattle.dkg_ceremony.specs.Outcomes.{LogMap}
 use Rattle.dkg_ceremony.specs.Schedule.{last, midpoint}
@@ -12,15 +12,10 @@ use Rattle.dkg_types.specs.Blocks as made
 use Rattle.dkg_types.specs.Paths.{logs_of_path}
 use Rattle.dkg_types.specs.declared.directory.Unit as directory
 use Rattle.dkg_text.specs.declared.script.Life.{Life}
-use Rattle.dkg_script.specs.Blocks.{Block, block_at, chain}
 use Rattle.dkg_script.specs.Position.{awaited_epoch, awaited_height}
 use Rattle.dkg_script.specs.Setting.{Setting, blocks_per_epoch, life_at}
-use Rattle.dkg_core.specs.Fixed.{Fixed}
-use Rattle.dkg_core.specs.Forms.{Applied, judged_block}
-use Rattle.dkg_core.specs.Live.{Deals, Finalized, Includes, Live, Message, Sent, is_last_height}
+use Rattle.dkg_core.specs.Live.{Live}
 use Rattle.dkg_core.specs.Sources.{Tip}
-use Rattle.dkg_core.specs.Stepping.{dealt_behind, given_itself}
-use Rattle.dkg_core.specs.Through.{asked_by, included}
 use Rattle.dkg_run.specs.Answers.{IsOfChain}
 use Rattle.dkg_run.specs.Asks.{IsPathOf, fed_in}
 use Rattle.dkg_run.specs.Blamed.{per_epoch}
@@ -30,26 +25,10 @@ use Rattle.dkg_run.proofs.FirstLogs.{AreFirst}
 abbrev U : Type 0
 U = directory.Unit
 
--- THE LIVES IN WHICH REQUESTS ARE READ in a step: behind mail, or behind a block that is applied and isn't its epoch's last
-abbrev pub IsReadFor : Fixed U → Live U → Message U → Live U → Type 0
-IsReadFor c st (Sent mail) x = x ≡ asked_by mail st
-IsReadFor c st (Finalized b) x =
-    (judged_block c b st ≡ Applied)
-    × (((st.participation.stage ≡ Deals) × (x ≡ dealt_behind c b (given_itself c st)))
-    ⊎ ((st.participation.stage ≡ Includes) × (is_last_height c b.height ≡ false) × ((round : Round) × (st.participation.round ≡ Some round) × (x ≡ included c round b st))))
-
 module _ (s : Setting) where
   -- It lies below the start of each life that comes to the epoch.
   abbrev pub IsEarly : (epoch height : ℕ) → Type 0
   IsEarly epoch height = (l j : ℕ) (life : Life) → life_at s l ≡ Some life → awaited_epoch s l life j ≡ epoch → height < awaited_height s l life 0
-
-  -- the chain's block at a height is one of the script's
-  pub record IsOnChain (height : ℕ) : Type 0 where
-    pub number : ℕ
-    pub block : Block
-    pub there : block_at s number ≡ Some block
-    pub height_is : block.height ≡ height
-    pub chained : chain s height ≡ Some block
 
   -- RECORDED UP TO THE TIP, of a life x in this epoch and round
   pub record IsRecordedTo (epoch : ℕ) (round : Round) (x : Live U) : Type 0 where
@@ -57,7 +36,6 @@ module _ (s : Setting) where
     pub memory : x.records.logs ≡ entries m
     pub first : (t : Tip) → x.tip ≡ Some t
         → AreFirst (brings_of s epoch round) (λ (n : RecordedLog). n.log) (λ d. get m (epoch, d)) t.height (is_reached (midpoint (blocks_per_epoch s) epoch) (Some t.height))
-    pub chained : (t : Tip) → x.tip ≡ Some t → (height : ℕ) → midpoint (blocks_per_epoch s) epoch ≤ height → height ≤ t.height → IsOnChain height
 
   -- BY A PATH: these logs are those of a path of the request, by what it was fed by the first j events of the life
   pub record IsByPath (life : Life) (epoch request j : ℕ) (round : Round) (logs : LogMap) : Type 0 where

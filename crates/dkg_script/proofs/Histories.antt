@@ -145,7 +145,7 @@ one_digest : IsOneDigest (setting two)
 one_digest one other a b first second same = only_one (blocks (setting two)) one other a b refl first second
 
 no_records : AreChainLogs (setting two)
-no_records epoch dealer noted round is there =
+no_records epoch dealer noted round l j life there comes known is =
     absurd (none_noted (epoch, dealer) noted (sym (ap (λ (es : List Entry). get (logs_in es) (epoch, dealer)) nothing_there) ∙ is))
 
 starts_at_zero : (life : Life) → awaited_height (setting two) 0 first_life 0 ≡ 0

@@ -1,9 +1,9 @@
 -- What is presumed of a script's past, besides its consistency, where an answer or a share rests on all of an epoch's logs: the logs that the devices handed in record are the chain's, and
 -- no block between an epoch's midpoint and a life's start was missed.
-use Rattle.std.specs.Prelude.{ℕ, zero, suc, ◌≡◌, ◌+◌, ◌-◌, ◌<◌, ◌≤◌, false, List, [], ◌++◌, Option, Some, None, filter_map, option_to_list, IfSome, IsSomeAnd}
+use Rattle.std.specs.Prelude.{ℕ, zero, suc, ◌≡◌, ◌+◌, ◌-◌, ◌<◌, ◌≤◌, true, false, List, [], ◌++◌, Option, Some, None, filter_map, option_to_list, IfSome}
 use Rattle.std.specs.FinMap.{get}
 use Rattle.std.specs.List.{AllByRecursion}
-use Rattle.dkg_values.specs.Rising.{lookup}
+use Rattle.dkg_ceremony.specs.declared.dealer_log.DealerLog.{DealerLog}
 use Rattle.dkg_ceremony.specs.declared.round.RoundParts.{RoundParts as Round}
 use Rattle.dkg_ceremony.specs.Outcomes.{LogMap, outcome_of}
 use Rattle.dkg_ceremony.specs.ValidLogs.{check_log_of}
@@ -17,7 +17,6 @@ use Rattle.dkg_text.specs.declared.script.Event.TheVariants.{Final}
 use Rattle.dkg_text.specs.declared.script.Life.{Life}
 use Rattle.dkg_script.specs.Blocks.{Block, block_at, chain, known_info, round_at, used}
 use Rattle.dkg_script.specs.Consistent.{IsConsistentScript}
-use Rattle.dkg_script.specs.LogsKnown.{CarriesLog}
 use Rattle.dkg_script.specs.Position.{awaited_epoch, awaited_height, cut_of, event_of_step, follows}
 use Rattle.dkg_script.specs.Readings.{Info}
 use Rattle.dkg_script.specs.Schedule.{last, midpoint}
@@ -42,27 +41,30 @@ chain_logs s round epoch = logs_from check_log_of (midpoint (blocks_per_epoch s)
 
 -- PREMISES
 
--- the chain's block at the height carries this log of the dealer
-abbrev pub CarriesAt : Setting → (height dealer : ℕ) → RecordedLog → Type 0
-CarriesAt s height dealer noted = IsSomeAnd (chain s height) (CarriesLog dealer noted.log)
+-- The chain's block at the height carries this log of the dealer, and it counts in the round,
+pub record CountsAt (s : Setting) (epoch : ℕ) (round : Round) (height dealer : ℕ) (log : DealerLog) : Type 0 where
+  pub block : Block
+  pub chained : chain s height ≡ Some block
+  pub signed : SignedDealerLog
+  pub carried : block.log ≡ Some signed
+  pub dealer_is : signed.dealer ≡ dealer
+  pub log_is : signed.log ≡ log
+  pub counted : counts check_log_of (midpoint (blocks_per_epoch s) epoch) (last (blocks_per_epoch s) epoch) round (height, signed) ≡ true
 
--- No block of the chain below this height carries a log of the dealer that counts in the round.
+-- .. and below it no block of the chain carries one of the dealer that counts.
 abbrev pub IsFirstAt : Setting → (epoch : ℕ) → Round → (height dealer : ℕ) → Type 0
-IsFirstAt s epoch round height dealer =
-    (lower : ℕ) (b : Block) (log : SignedDealerLog) → lower < height → chain s lower ≡ Some b → b.log ≡ Some log → log.dealer ≡ dealer
-    → counts check_log_of (midpoint (blocks_per_epoch s) epoch) (last (blocks_per_epoch s) epoch) round (lower, log) ≡ false
+IsFirstAt s epoch round height dealer = (lower : ℕ) (log : DealerLog) → lower < height → CountsAt s epoch round lower dealer log → ⊥
 
 -- A log that is noted with a height stands there on the chain. One without stands below each height that a life awaits first which awaits its epoch at any step.
 abbrev pub StandsAtIts : Setting → (epoch height : ℕ) → Option ℕ → Type 0
 StandsAtIts s epoch height (Some noted) = noted ≡ height
 StandsAtIts s epoch height None = (l j : ℕ) (life : Life) → life_at s l ≡ Some life → awaited_epoch s l life j ≡ epoch → height < awaited_height s l life 0
 
--- Each log that was handed in, of an epoch whose round the script has, is its dealer's first one on the chain, and is noted at its height.
+-- Each log that was handed in, of an epoch that a life comes to and whose round the script has, is its dealer's first one on the chain, and is noted at its height.
 abbrev pub AreChainLogs : Setting → Type 0
 AreChainLogs s =
-    (epoch dealer : ℕ) (noted : RecordedLog) (round : Round) → get (logs_in (entries s.files)) (epoch, dealer) ≡ Some noted → round_at s epoch ≡ Some round
-    → (lookup dealer (chain_logs s round epoch) ≡ Some noted.log)
-    × ((height : ℕ) × CarriesAt s height dealer noted × IsFirstAt s epoch round height dealer × StandsAtIts s epoch height noted.height)
+    (epoch dealer : ℕ) (noted : RecordedLog) (round : Round) (l j : ℕ) (life : Life) → life_at s l ≡ Some life → awaited_epoch s l life j ≡ epoch → round_at s epoch ≡ Some round
+    → get (logs_in (entries s.files)) (epoch, dealer) ≡ Some noted → (height : ℕ) × CountsAt s epoch round height dealer noted.log × IsFirstAt s epoch round height dealer × StandsAtIts s epoch height noted.height
 
 -- the step of a life was completed: the life did not end before it or within it
 abbrev pub WasCompleted : List (Option CutAt) → (l step : ℕ) → Type 0
