@@ -26,15 +26,17 @@ use Rattle.dkg_script.specs.Inclusion.{IsFormOfInclusion}
 use Rattle.dkg_script.specs.Position.{awaited_epoch, follows}
 use Rattle.dkg_script.specs.Progress.{Progress}
 use Rattle.dkg_script.specs.Setting.{CutAt, Setting, blocks_per_epoch, found, life_at}
-use Rattle.dkg_store.specs.Acts.{Held}
+use Rattle.dkg_store.specs.Acts.{Ended, Held, went}
 use Rattle.dkg_store.specs.Noted.{Notes}
 use Rattle.dkg_store.specs.Recorded.{at_epoch, reached_logs}
 use Rattle.dkg_store.specs.declared.recorded_log.RecordedLog.{RecordedLog}
+use Rattle.dkg_core.specs.Courses.{on_devices}
 use Rattle.dkg_core.specs.Fixed.{Fixed}
-use Rattle.dkg_core.specs.Forms.{Applied, Judged, Passed, Refusal, judged_block}
-use Rattle.dkg_core.specs.Live.{Finalized, Follows, Live, Message, of_epoch}
+use Rattle.dkg_core.specs.Forms.{Applied, IsNodeBegun, Judged, Passed, Refusal, judged_block}
+use Rattle.dkg_core.specs.Live.{Finalized, Follows, Live, Message, NodeStop, of_epoch}
 use Rattle.dkg_core.specs.Logs.{canonical}
 use Rattle.dkg_core.specs.NodeThrough.{IsNodeThrough}
+use Rattle.dkg_core.specs.Said.{Said}
 use Rattle.dkg_core.specs.Seen.{Seen}
 use Rattle.dkg_core.specs.Sources.{Tip}
 use Rattle.dkg_core.specs.Through.{IsBlockThrough, IsEndThrough, IsLiveThrough, asked_by, unasked}
@@ -42,20 +44,21 @@ use Rattle.dkg_run.specs.Answers.{IsFromPath, IsPathAnswer}
 use Rattle.dkg_run.specs.Asks.{bounds_in, fed_in, next_bytes}
 use Rattle.dkg_run.specs.Blamed.{per_epoch, refusal_in, tip_in}
 use Rattle.dkg_run.specs.Epochs.{IsLifeInForm, StandsInScript, any_shares, epoch_by}
-use Rattle.dkg_run.specs.Given.{AreBytes, Lived, at_step, blocks_in, lived}
+use Rattle.dkg_run.specs.Given.{AreBytes, Lived, at_step, blocks_in, lived, step_of}
 use Rattle.dkg_run.proofs.Alone.{epoch_alike, follows_alike}
 use Rattle.dkg_run.proofs.AnswerPaths.{IsRecordedBy, by_path, by_path_later}
 use Rattle.dkg_run.proofs.Answered.{IsSaidAt, IsSaidIn}
 use Rattle.dkg_run.proofs.Awaiting.{IsReached}
-use Rattle.dkg_run.proofs.Causing.{accepted_by}
-use Rattle.dkg_run.proofs.ChainBlocks.{ChainTo, HasBlockAt, chain_begins, chain_next, chain_to_tip, on_chain}
+use Rattle.dkg_run.proofs.Blaming.{Stood, its_live, opened_held, opened_stood, step_next, told_apart, told_lines, told_next}
+use Rattle.dkg_run.proofs.Causing.{accepted_by, first_awaited}
+use Rattle.dkg_run.proofs.ChainBlocks.{ChainTo, HasBlockAt, chain_begins, chain_next, chain_to_tip, first_taken, on_chain}
 use Rattle.dkg_run.proofs.Chaining.{IsOnChain, Tips, tips_so}
 use Rattle.dkg_run.proofs.DealerKeys.{keys}
 use Rattle.dkg_run.proofs.FedRequests.{fed_grows}
-use Rattle.dkg_run.proofs.Former.{Brings, BringsBlock, BringsMail, IsMessage, brings_so, event_in_form, life_in}
+use Rattle.dkg_run.proofs.Former.{BringsBlock, BringsMail, IsMessage, brings_so, event_in_form, life_in, message_in}
 use Rattle.dkg_run.proofs.NextLives.{applied_so, with_round}
 use Rattle.dkg_run.proofs.ReadLogs.{IsByPath, IsRecordedTo}
-use Rattle.dkg_run.proofs.Requested.{IsReadFor, KnowsRead, asked_same, bounds_of, dealt_part, dealt_tip, observed_part}
+use Rattle.dkg_run.proofs.Requested.{AreHeld, IsReadFor, KnowsRead, asked_same, bounds_of, dealt_part, dealt_tip, observed_part}
 
 abbrev U : Type 0
 U = directory.Unit
@@ -323,6 +326,42 @@ module _ (s : Setting) (ends : List (Option CutAt)) (history : IsWholeHistory s 
     pub lines_path : (lines : List Entry) → AllByRecursion (IsSaidAt IsReadWell s.script l life (suc i)) lines → AllByRecursion (IsPathSaid (suc i)) lines
     lines_path [] said = tt
     lines_path (line ∷ lines) said = (line_path line (subst (λ (k : ℕ). IsSaidIn IsReadWell s.script l life (epoch_by g k) (suc i) line) (less_one i) said.0), lines_path lines said.1)
+
+  -- A STATE behind the first i events
+  pub record IsPathState (i : ℕ) (st : Live U) : Type 0 where
+    pub stood : Stood g here i st
+    pub asked : AreHeld g IsReadWell i st
+    pub chain : ChainHere i
+
+  pub state_opens : (sees : Seen) (k : Held) (st : Live U) → IsNodeBegun (at_step g 0) sees k st → IsPathState 0 st
+  state_opens sees k st begun = record { stood = opened_stood g here sees k st begun; asked = opened_held g here IsReadWell sees k st begun; chain = chain_opens }
+
+  module _ (i : ℕ) (its : Event) (is : slice_get life.events i ≡ Some its) (reached : IsReached life.cut (suc i)) (st : Live U) (state : IsPathState i st)
+      (recorded : (x : Live U) → IsReadFor (at_step g (suc i)) st (message_in g its (event_in_form g here i its is)).message x → x.tip ≡ tip_in s.script life (suc i) → x.participation.epoch ≡ epoch_by g i
+      → (round : Round) → x.participation.round ≡ Some round → IsRecordedTo s (epoch_by g i) round x) where
+    abbrev its_message : IsMessage g its
+    its_message = message_in g its (event_in_form g here i its is)
+
+    abbrev its_stood : Stood g here i st
+    its_stood = state.stood
+
+    its_knows : KnowsRead g IsReadWell i st its_message.message
+    its_knows = knows_paths i its is reached its_message st (its_live g here i its is reached st its_stood) (its_stood.at).stands its_stood.tip state.chain recorded
+
+    -- Its lines are from the path, wherever it ends,
+    pub state_lines : (ended : Ended NodeStop (Live U)) (out now : List Entry) → Said (on_devices (step_of g (suc i) its st)) ended out now → (added : List Entry) × (now ≡ out ++ added) × AllByRecursion (IsPathSaid (suc i)) added
+    state_lines ended out now said =
+        let lines = told_lines g here i its is reached st its_stood state.asked its_knows ended out now said in
+        (lines.0, lines.1, lines_path i its is lines.0 lines.2)
+
+    -- .. and it leaves such a state.
+    pub state_next : (out now : List Entry) (devices : Option Held) (end : Live U) (left : Option Held) → Said (on_devices (step_of g (suc i) its st)) (went end) out now
+        → IsNodeThrough (at_step g (suc i)) any_shares st its_message.message devices end left → IsPathState (suc i) end
+    state_next out now devices end left said node = record {
+      stood = step_next g here i its is reached st its_stood devices end left node;
+      asked = told_next g here i its is reached st its_stood state.asked its_knows devices end left node (told_apart g here i its is reached st its_stood state.asked its_knows (went end) out now said);
+      chain = chain_stays i its is reached its_message st (its_live g here i its is reached st its_stood) (its_stood.at).stands its_stood.tip state.chain devices end left node;
+    }
 
   -- .. by where a run stands
   pub path_answer : (j : ℕ) (p : Progress) (line : Entry) → length p.cuts ≡ l → p.step ≡ j → IsPathSaid j line → IsPathAnswer s p line
