@@ -73,7 +73,7 @@ use Rattle.dkg_run.proofs.LivesStand.{before_suc}
 use Rattle.dkg_run.proofs.NextLives.{next_tip}
 use Rattle.dkg_run.proofs.Ordered.{lit_begins, lit_within, opened_in, opening_added, step_is_quiet, tells_fault, unlit, went_opened}
 use Rattle.dkg_run.proofs.Places.{each_of_both, moves_none, moves_then, moves_within}
-use Rattle.dkg_run.proofs.Requested.{AreHeld, none_held, sent_new, step_apart, step_held, untold}
+use Rattle.dkg_run.proofs.Requested.{AreHeld, Knows, KnowsRead, none_held, sent_new, step_apart, step_held, untold}
 use Rattle.dkg_run.proofs.Runs.{each_after, starts}
 use Rattle.dkg_run.proofs.Standing.{AddsOpening, AddsQuiet, Each, IsAtCut, IsBefore, IsBehind, IsBetween, IsBetweenOf, IsCutBefore, IsCutWithin, IsWithin, Moves, TellsFault}
 use Rattle.dkg_run.proofs.Steps.{Opening, opened_so_far, quiet_so_far}
@@ -142,11 +142,11 @@ module _ (g : Lived) (here : IsLifeInForm g) where
         carried = opening_carried g here seen k st begun lives.0;
       }
 
-  opened_held : (seen : Seen) (k : Held) (st : Live directory.Unit) → IsNodeBegun (at_step g 0) seen k st → AreHeld g untold 0 st
-  opened_held seen k st begun =
+  pub opened_held : (Told : Knows) (seen : Seen) (k : Held) (st : Live directory.Unit) → IsNodeBegun (at_step g 0) seen k st → AreHeld g Told 0 st
+  opened_held Told seen k st begun =
       let same = (begun.entered).same in
       let idle = ((begun.opened).live).idle in
-      none_held g untold 0 st (ap (λ (x : Live directory.Unit). x.inclusion.queue) same ∙ ap (λ (x : Inclusion directory.Unit). x.queue) idle)
+      none_held g Told 0 st (ap (λ (x : Live directory.Unit). x.inclusion.queue) same ∙ ap (λ (x : Inclusion directory.Unit). x.queue) idle)
       (ap (λ (x : Live directory.Unit). x.inclusion.waiter) same ∙ ap (λ (x : Inclusion directory.Unit). x.waiter) idle)
 
   pub opening_comes : (ended : Ended NodeStop (Live directory.Unit)) (out now : List Entry) → Said (on_devices (node_opening (at_step g 0))) ended out now → Came (Why 0) (λ end. Known 0 end × Clear 0) ended
@@ -155,7 +155,7 @@ module _ (g : Lived) (here : IsLifeInForm g) where
       by_end : (ended : Ended NodeStop (Live directory.Unit))
           → CameTo (λ stop. (own : Fault) × (stop ≡ Faulted own) × ((h k : Held) × IsOpeningStop (at_step g 0) ((at_step g 0).seen h) k own)) (λ st. (h k : Held) × IsNodeBegun (at_step g 0) ((at_step g 0).seen h) k st) ended
           → Came (Why 0) (λ end. Known 0 end × Clear 0) ended
-      by_end (went end) (h, k, begun) = (record { stood = opened_stood ((at_step g 0).seen h) k end begun; held = opened_held ((at_step g 0).seen h) k end begun }, opening_clear g here ((at_step g 0).seen h) k end begun)
+      by_end (went end) (h, k, begun) = (record { stood = opened_stood ((at_step g 0).seen h) k end begun; held = opened_held untold ((at_step g 0).seen h) k end begun }, opening_clear g here ((at_step g 0).seen h) k end begun)
       by_end (stopped stop) (own, is, (h, k, why)) = (own, is, either (opening_cause g here ((at_step g 0).seen h) k own why))
         where
           either : IsCause g.script g.number g.life 0 own ⊎ IsOwn g.script g.number g.life 0 own → Why 0 own
@@ -268,7 +268,32 @@ module _ (g : Lived) (here : IsLifeInForm g) where
     abbrev its_step : Course directory.Unit NodeStop (Live directory.Unit)
     its_step = node_step (at_step g (suc i)) (event_of m.message) st
 
-    -- WHAT IT HAS OF REQUESTS
+    -- WHAT IT HAS OF REQUESTS, where this is known of the recorded logs by which they are read
+    module _ {Told : Knows} (asked : AreHeld g Told i st) (told : KnowsRead g Told i st m.message) where
+      -- its lines
+      pub told_lines : (ended : Ended NodeStop (Live directory.Unit)) (out now : List Entry) → Said (on_devices (step_of g (suc i) e st)) ended out now
+          → (added : List Entry) × (now ≡ out ++ added) × AllByRecursion (IsSaidAt Told g.script g.number g.life (suc i)) added
+      told_lines ended out now said =
+          step_answers g here i e e_is reached m st its_live (stood.at).stands stood.tip stood.carried asked (behind ∙ ap (λ (o : Option Tip). tip_over (blocks_in g.script) o e) stood.tip ∙ sym tip_next) told ended out now
+          (subst (λ (k : Course directory.Unit NodeStop (Live directory.Unit)). Said (on_devices k) ended out now) (m.course (suc i) st) said)
+
+      -- their numbers stay apart where they are read
+      pub told_apart : (ended : Ended NodeStop (Live directory.Unit)) (out now : List Entry) → Said (on_devices (step_of g (suc i) e st)) ended out now
+          → CameTo (λ (stop : NodeStop). ⊤) (λ end. Reads (at_step g (suc i)) (form_at g here (suc i)).reshare st asked.apart m.message → IsApart end.inclusion) ended
+      told_apart ended out now said =
+          came_to (λ (stop : NodeStop). ⊤) (λ end. Reads (at_step g (suc i)) (form_at g here (suc i)).reshare st asked.apart m.message → IsApart end.inclusion) its_step ended out now
+          (node_apart (at_step g (suc i)) (form_at g here (suc i)).reshare st asked.apart m.message (λ mail sent. sent_new g here i e e_is st asked m (at_step g (suc i)) (form_at g here (suc i)).reshare mail sent))
+          (subst (λ (k : Course directory.Unit NodeStop (Live directory.Unit)). Said (on_devices k) ended out now) (m.course (suc i) st) said)
+
+      -- .. and what it has of them behind the step
+      pub told_next : (devices : Option Held) (end : Live directory.Unit) (left : Option Held) → IsNodeThrough (at_step g (suc i)) any_shares st m.message devices end left
+          → (Reads (at_step g (suc i)) (form_at g here (suc i)).reshare st asked.apart m.message → IsApart end.inclusion) → AreHeld g Told (suc i) end
+      told_next devices end left node apart =
+          let next : Stood (suc i) end = step_next devices end left node in
+          step_held g here i e e_is m st its_live (stood.at).stands asked devices end left node (next.at).stands next.tip told
+          (step_apart g here i e e_is m st its_live (stood.at).stands asked devices end left node (next.at).stands next.tip told (form_at g here (suc i)).reshare apart)
+
+    -- .. and where nothing is
     module _ (held : AreHeld g untold i st) where
       abbrev c : Fixed directory.Unit
       c = at_step g (suc i)
@@ -282,16 +307,11 @@ module _ (g : Lived) (here : IsLifeInForm g) where
       -- its lines
       step_lines : (ended : Ended NodeStop (Live directory.Unit)) (out now : List Entry) → Said (on_devices (step_of g (suc i) e st)) ended out now → (added : List Entry) × (now ≡ out ++ added) × AllByRecursion (IsSaidAt untold g.script g.number g.life (suc i)) added
       step_lines ended out now said =
-          step_answers g here i e e_is reached m st its_live (stood.at).stands stood.tip stood.carried held (behind ∙ ap (λ (o : Option Tip). tip_over (blocks_in g.script) o e) stood.tip ∙ sym tip_next) (λ x read at of_epoch round of. tt) ended out now (on_course ended out now said)
+          told_lines held (λ x read at of_epoch round of. tt) ended out now said
 
       pub next_known : (end : Live directory.Unit) → IsNodeThrough c any_shares st m.message None end None → (Reads c reshare st held.apart m.message → IsApart end.inclusion) → Known (suc i) end
       next_known end node apart =
-          let next : Stood (suc i) end = step_next None end None node in
-          record {
-            stood = next;
-            held = step_held g here i e e_is m st its_live (stood.at).stands held None end None node (next.at).stands next.tip (λ x read at of_epoch round of. tt)
-                (step_apart g here i e e_is m st its_live (stood.at).stands held None end None node (next.at).stands next.tip (λ x read at of_epoch round of. tt) reshare apart);
-          }
+          record { stood = step_next None end None node; held = told_next held (λ x read at of_epoch round of. tt) None end None node apart }
 
       step_comes : (ended : Ended NodeStop (Live directory.Unit)) (out now : List Entry) → Said (on_devices (step_of g (suc i) e st)) ended out now → Came (Why (suc i)) (λ end. Known (suc i) end × Clear (suc i)) ended
       step_comes ended out now said =
@@ -300,8 +320,7 @@ module _ (g : Lived) (here : IsLifeInForm g) where
           (node_steps_come_through c any_shares st m.message None (through_at g here (suc i)) (lacks_nobody g (suc i)) (λ h epoch found. tt)
           (step_taken g e m.message m.brings c st) its_live (stood.at).active))
           (on_course ended out now said))
-          (came_to (λ (stop : NodeStop). ⊤) (λ end. Reads c reshare st held.apart m.message → IsApart end.inclusion) its_step ended out now
-          (node_apart c reshare st held.apart m.message (λ mail sent. sent_new g here i e e_is st held m c reshare mail sent)) (on_course ended out now said))
+          (told_apart held (λ x read at of_epoch round of. tt) ended out now said)
         where
           by_end : (ended : Ended NodeStop (Live directory.Unit))
               → CameTo (IsFaultBy (IsStopThrough c any_shares st m.message None)) (λ end. IsNodeThrough c any_shares st m.message None end None) ended

@@ -1,6 +1,7 @@
 pub mod Accounting
 pub mod Alone
 pub mod Ancestry
+pub mod AnswerPaths
 pub mod Answered
 pub mod Apart
 pub mod Asked
@@ -15,6 +16,7 @@ pub mod BlockLogs
 pub mod BlocksLeave
 pub mod BlocksMade
 pub mod Causing
+pub mod ChainBlocks
 pub mod ChainLogs
 pub mod Chaining
 pub mod Checked
@@ -24,6 +26,7 @@ pub mod CommitsOver
 pub mod Completing
 pub mod Currently
 pub mod CutLives
+pub mod DealerKeys
 pub mod DealersStay
 pub mod Dealings
 pub mod Delivered
@@ -104,6 +107,7 @@ pub mod OwnSteps
 pub mod OwnValid
 pub mod Passing
 pub mod PathLogs
+pub mod PathsAsked
 pub mod PeerForms
 pub mod Places
 pub mod PlanlessReads
@@ -124,6 +128,7 @@ pub mod Runs
 pub mod SaysOver
 pub mod Seated
 pub mod Seats
+pub mod SeenBlocks
 pub mod SetUpLines
 pub mod SharesFit
 pub mod SharesKnown
