@@ -5,7 +5,9 @@ use Rattle.dkg_ceremony.specs.Outcomes.{LogMap}
 use Rattle.dkg_ceremony.specs.Schedule.{last, midpoint}
 use Rattle.dkg_ceremony.specs.ValidLogs.{check_log_of}
 use Rattle.dkg_journal.specs.Names.{Files}
+use Rattle.dkg_journal.specs.Records.{entries}
 use Rattle.dkg_secrets.specs.Secrets.{Secrets}
+use Rattle.dkg_store.specs.Pairs.{IsWhole}
 use Rattle.dkg_types.specs.Blocks.{Block}
 use Rattle.dkg_types.specs.Paths.{logs_of_path}
 use Rattle.dkg_types.specs.Units.{unit_spelling}
@@ -108,6 +110,7 @@ abbrev pub IsPathAnswer : Setting → Progress → Entry → Type 0
 IsPathAnswer s p (Answer request (Available payload)) = IsSomeAnd (life_at s (length p.cuts)) (λ life. IsFromPath s (length p.cuts) life p.step request payload)
 IsPathAnswer s p _ = Unit {0}
 
--- THE CLAUSE `paths` of the promise: of the entries that a run adds, whatever ends it, where the script as it was cut has a whole history
+-- THE CLAUSE `paths` of the promise: of the entries that a run adds, whatever ends it, where the script as it was cut has a whole history and each dealing that was handed in has its private half
 abbrev pub AnswersThePath : Script → Files → Secrets → List Entry → Type 0
-AnswersThePath script files held out = let s = setting_as_cut script files held out in IsFormOfInclusion s.script → IsWholeHistory s (progress s out).cuts → AtEachEntry s (IsPathAnswer s) out
+AnswersThePath script files held out = let s = setting_as_cut script files held out in
+    IsFormOfInclusion s.script → IsWholeHistory s (progress s out).cuts → IsWhole (entries s.files) s.secrets → AtEachEntry s (IsPathAnswer s) out
