@@ -120,7 +120,7 @@ pub mod Runs
 pub mod SaysOver
 pub mod Seated
 pub mod Seats
-pub mod SetUpLines
+pub mod SetUps
 pub mod SharesFit
 pub mod SharesKnown
 pub mod SharesStay
