@@ -84,6 +84,7 @@ pub mod NextLives
 pub mod NoOthers
 pub mod NodeOpens
 pub mod Noding
+pub mod NotedFirst
 pub mod ObservedLogs
 pub mod OfferedHalves
 pub mod OfferingLives
@@ -109,7 +110,10 @@ pub mod PlanlessReads
 pub mod Plays
 pub mod Promising
 pub mod ReadLogs
+pub mod ReadingRecords
 pub mod Recorded
+pub mod RecordingLives
+pub mod RecordingSteps
 pub mod RecordsFound
 pub mod Refusing
 pub mod Reported

@@ -1,5 +1,5 @@
 -- What a life has recorded of an epoch's logs where it counts them: first ones of the chain, and all of them up to its tip.
-use Rattle.std.specs.Prelude.{ℕ, ◌≡◌, ◌⊎◌, ◌<◌, false, Option, Some, List}
+use Rattle.std.specs.Prelude.{ℕ, ◌≡◌, ◌<◌, Some, List}
 use Rattle.std.specs.FinMap.{entries, get}
 use Rattle.dkg_ceremony.specs.Outcomes.{LogMap}
 use Rattle.dkg_ceremony.specs.Schedule.{last, midpoint}
@@ -14,12 +14,8 @@ use Rattle.dkg_types.specs.declared.directory.Unit as directory
 use Rattle.dkg_text.specs.declared.script.Life.{Life}
 use Rattle.dkg_script.specs.Position.{awaited_epoch, awaited_height}
 use Rattle.dkg_script.specs.Setting.{Setting, blocks_per_epoch, life_at}
-use Rattle.dkg_core.specs.Fixed.{Fixed}
-use Rattle.dkg_core.specs.Forms.{Applied, judged_block}
-use Rattle.dkg_core.specs.Live.{Deals, Finalized, Includes, Live, Message, Sent, is_last_height}
+use Rattle.dkg_core.specs.Live.{Live}
 use Rattle.dkg_core.specs.Sources.{Tip}
-use Rattle.dkg_core.specs.Stepping.{dealt_behind, given_itself}
-use Rattle.dkg_core.specs.Through.{asked_by, included}
 use Rattle.dkg_run.specs.Answers.{IsOfChain}
 use Rattle.dkg_run.specs.Asks.{IsPathOf, fed_in}
 use Rattle.dkg_run.specs.Blamed.{per_epoch}
@@ -28,14 +24,6 @@ use Rattle.dkg_run.proofs.FirstLogs.{AreFirst}
 
 abbrev U : Type 0
 U = directory.Unit
-
--- THE LIVES IN WHICH REQUESTS ARE READ in a step: behind mail, or behind a block that is applied and isn't its epoch's last
-abbrev pub IsReadFor : Fixed U → Live U → Message U → Live U → Type 0
-IsReadFor c st (Sent mail) x = x ≡ asked_by mail st
-IsReadFor c st (Finalized b) x =
-    (judged_block c b st ≡ Applied)
-    × (((st.participation.stage ≡ Deals) × (x ≡ dealt_behind c b (given_itself c st)))
-    ⊎ ((st.participation.stage ≡ Includes) × (is_last_height c b.height ≡ false) × ((round : Round) × (st.participation.round ≡ Some round) × (x ≡ included c round b st))))
 
 module _ (s : Setting) where
   -- It lies below the start of each life that comes to the epoch.
