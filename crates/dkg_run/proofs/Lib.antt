@@ -74,6 +74,7 @@ pub mod LinesFound
 pub mod LivesClear
 pub mod LivesKept
 pub mod LivesStand
+pub mod LivesTold
 pub mod Living
 pub mod LogsBehind
 pub mod LogsFit
