@@ -144,6 +144,7 @@ pub mod StopsBehind
 pub mod StoredDealers
 pub mod StoredFound
 pub mod Telling
+pub mod ToldBeside
 pub mod Tracking
 pub mod Turns
 pub mod Twice
