@@ -77,6 +77,7 @@ pub mod LinesFound
 pub mod LivesClear
 pub mod LivesKept
 pub mod LivesStand
+pub mod LivesTold
 pub mod Living
 pub mod LogsBehind
 pub mod LogsFit
@@ -130,6 +131,7 @@ pub mod Seated
 pub mod Seats
 pub mod SeenBlocks
 pub mod SetUpLines
+pub mod SetUps
 pub mod SharesFit
 pub mod SharesKnown
 pub mod SharesStay

@@ -180,10 +180,10 @@ module _ (s : Setting) (ends : List (Option CutAt)) (reshares : is_oneshot s ≡
     begun_is = ap (begun_before s r.cuts) (length_more q.cuts (Some (record { step = its.step; call = its.call })) ∙ ap suc stopped.lives)
         ∙ begun_behind s reshares q.cuts l life (Some (record { step = its.step; call = its.call })) stopped.lives life_is
 
-    rests_then : RestsIn h s r
+    pub rests_then : RestsIn h s r
     rests_then = record { whole = stopped.whole; may = rw begun_is (stopped.at_cut refl its cut_is).0 }
 
-    logs_then : (marks × IsKnownAt s q (entry.Cut its.step its.call)) → LogsKnown s (begun_before s r.cuts (length r.cuts)) r.recorded (logs_in (notes h))
+    pub logs_then : (marks × IsKnownAt s q (entry.Cut its.step its.call)) → LogsKnown s (begun_before s r.cuts (length r.cuts)) r.recorded (logs_in (notes h))
     logs_then known = subst (λ (n : ℕ). LogsKnown s n q.recorded (logs_in (notes h))) (sym begun_is) ((stopped.at_cut refl its cut_is).1 known)
 
     between_then : IsBetween (l + 1) s r
