@@ -119,6 +119,7 @@ pub mod ReadingRecords
 pub mod Recorded
 pub mod RecordingLives
 pub mod RecordingSteps
+pub mod RecordsBeside
 pub mod RecordsFound
 pub mod Refusing
 pub mod Reported
