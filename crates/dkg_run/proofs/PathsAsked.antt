@@ -151,7 +151,7 @@ module _ (s : Setting) (ends : List (Option CutAt)) (history : IsWholeHistory s 
       up_to_block number b of there applied height late low = by_place (cases_lt height b.height)
         where
           by_tip : (o : Option Tip) → tip_in s.script life i ≡ o → height < b.height → HasBlockAt s height
-          by_tip (Some t) at under = up_to_tip t at height late (below height t.height b.height ((applied_so c st b applied).over t (tip ∙ at)) under)
+          by_tip (Some t) at under = up_to_tip t at height late (below height t.height b.height ((applied_so c b st applied).over t (tip ∙ at)) under)
             where
               below : (h t b : ℕ) → b ≡ t + 1 → h < b → h ≤ t
               below h t b same low = omega (arith, same, low)
@@ -237,10 +237,9 @@ module _ (s : Setting) (ends : List (Option CutAt)) (history : IsWholeHistory s 
         ∙ ap (λ (logs : List ((ℕ × ℕ) × RecordedLog)). reached_logs (midpoint n (epoch_by g i)) (option_map (λ t. t.height) (tip_in s.script life (suc i))) (of_epoch (epoch_by g i) logs)) memory
 
     -- The law: from what is recorded where requests are read.
-    pub knows_paths : ((x : Live U) → IsReadFor c st m.message x → x.tip ≡ tip_in s.script life (suc i) → x.participation.epoch ≡ epoch_by g i → (round : Round) → x.participation.round ≡ Some round → IsRecordedTo s (epoch_by g i) round x)
-        → KnowsRead g IsReadWell i st m.message
+    pub knows_paths : ((x : Live U) → IsReadFor c st m.message x → (round : Round) → st.participation.round ≡ Some round → IsRecordedTo s (epoch_by g i) round x) → KnowsRead g IsReadWell i st m.message
     knows_paths recorded x in_it x_tip x_epoch round of =
-        let its_own : IsRecordedTo s (epoch_by g i) round x = recorded x in_it x_tip x_epoch round of in
+        let its_own : IsRecordedTo s (epoch_by g i) round x = recorded x in_it round (sym (same_round x in_it) ∙ of) in
         record {
           recorded_by = record {
             m = its_own.m;
@@ -337,8 +336,7 @@ module _ (s : Setting) (ends : List (Option CutAt)) (history : IsWholeHistory s 
   state_opens sees k st begun = record { stood = opened_stood g here sees k st begun; asked = opened_held g here IsReadWell sees k st begun; chain = chain_opens }
 
   module _ (i : ℕ) (its : Event) (is : slice_get life.events i ≡ Some its) (reached : IsReached life.cut (suc i)) (st : Live U) (state : IsPathState i st)
-      (recorded : (x : Live U) → IsReadFor (at_step g (suc i)) st (message_in g its (event_in_form g here i its is)).message x → x.tip ≡ tip_in s.script life (suc i) → x.participation.epoch ≡ epoch_by g i
-      → (round : Round) → x.participation.round ≡ Some round → IsRecordedTo s (epoch_by g i) round x) where
+      (recorded : (x : Live U) → IsReadFor (at_step g (suc i)) st (message_in g its (event_in_form g here i its is)).message x → (round : Round) → st.participation.round ≡ Some round → IsRecordedTo s (epoch_by g i) round x) where
     abbrev its_message : IsMessage g its
     its_message = message_in g its (event_in_form g here i its is)
 
