@@ -120,6 +120,7 @@ pub mod ReadingRecords
 pub mod Recorded
 pub mod RecordingLives
 pub mod RecordingSteps
+pub mod RecordsBeside
 pub mod RecordsFound
 pub mod Refusing
 pub mod Reported
@@ -151,6 +152,7 @@ pub mod StopsBehind
 pub mod StoredDealers
 pub mod StoredFound
 pub mod Telling
+pub mod ToldBeside
 pub mod Tracking
 pub mod Turns
 pub mod Twice

@@ -103,6 +103,14 @@ module _ (s : Setting) (ends : List (Option CutAt)) (l : ℕ) (life : Life) wher
     pub below : follows s l life (awaited_epoch s l life i) ≡ false → (round : Round) → round_at s (awaited_epoch s l life i) ≡ Some round
         → HasBelow (brings_of s (awaited_epoch s l life i) round) (IsEarly s (awaited_epoch s l life i)) (λ d. get m (awaited_epoch s l life i, d)) (awaited_height s l life i)
 
+-- before a life's first event earlier lives alone were given something
+pub saw_first : (s : Setting) (ends : List (Option CutAt)) (l : ℕ) (life : Life) (epoch height : ℕ) → Saw s ends l life 0 epoch height → WasSeen s ends l epoch height
+saw_first s ends l life epoch height (inl seen) = seen
+saw_first s ends l life epoch height (inr given) = absurd (none_some (ap (event_of_step life) (sym (least given.step given.upto)) ∙ given.is))
+  where
+    least : (k : ℕ) → k ≤ 0 → k ≡ 0
+    least k low = omega (arith, low)
+
 module _ (s : Setting) (ends : List (Option CutAt)) (whole : IsWholeHistory s ends) (l : ℕ) (life : Life) (seen : Held → Seen) (files : Files) where
   abbrev g : Lived
   g = lived s.script l life seen files
@@ -156,15 +164,8 @@ module _ (s : Setting) (ends : List (Option CutAt)) (whole : IsWholeHistory s en
       below = λ takes_part round known height low. by_place takes_part round known height low (cases_lt height (midpoint n (e 0)));
     }
       where
-        was_seen : (epoch height : ℕ) → Saw s ends l life 0 epoch height → WasSeen s ends l epoch height
-        was_seen epoch height (inl seen) = seen
-        was_seen epoch height (inr given) = absurd (none_some (ap (event_of_step life) (sym (least given.step given.upto)) ∙ given.is))
-          where
-            least : (k : ℕ) → k ≤ 0 → k ≡ 0
-            least k low = omega (arith, low)
-
         first : AreNoted s (b 0) (Saw s ends l life 0) now
-        first = noted_same s (begun_before s cuts l) (b 0) (WasSeen s ends l) (Saw s ends l life 0) m now (begun_more s reshares cuts l life 0 life_is) was_seen same noted
+        first = noted_same s (begun_before s cuts l) (b 0) (WasSeen s ends l) (Saw s ends l life 0) m now (begun_more s reshares cuts l life 0 life_is) (saw_first s ends l life) same noted
 
         by_place : follows s l life (e 0) ≡ false → (round : Round) → round_at s (e 0) ≡ Some round → (height : ℕ) → height < h 0 → (height < midpoint n (e 0)) ⊎ (midpoint n (e 0) ≤ height)
             → HasThoseIn s (e 0) round now height
