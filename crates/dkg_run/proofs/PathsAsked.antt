@@ -81,6 +81,20 @@ reached_before (Some cut) i reached = λ none. let more : suc i < cut.step = rea
 less_one : (i : ℕ) → suc i - 1 ≡ i
 less_one i = omega arith
 
+-- WHAT A LINE of a step says
+module _ (s : Setting) (l : ℕ) (life : Life) where
+  abbrev pub IsPathSaid : (j : ℕ) → Entry → Type 0
+  IsPathSaid j (Answer request (Available payload)) = IsFromPath s l life j request payload
+  IsPathSaid j line = Unit {0}
+
+  -- .. by where a run stands
+  pub path_answer : life_at s l ≡ Some life → (j : ℕ) (p : Progress) (line : Entry) → length p.cuts ≡ l → p.step ≡ j → IsPathSaid j line → IsPathAnswer s p line
+  path_answer life_is j p (Answer request (Available payload)) lives step said =
+      subst (λ (k : ℕ). IsSomeAnd (life_at s k) (λ its. IsFromPath s k its p.step request payload)) (sym lives)
+      (subst (λ (o : Option Life). IsSomeAnd o (λ its. IsFromPath s l its p.step request payload)) (sym life_is) (subst (λ (k : ℕ). IsFromPath s l life k request payload) (sym step) said))
+  path_answer life_is j p (Answer request (Unavailable why)) lives step said = tt
+  path_answer life_is j p line lives step said = tt
+
 module _ (s : Setting) (ends : List (Option CutAt)) (history : IsWholeHistory s ends) (form : IsFormOfInclusion s.script) (bytes : AreBytes s.script.blocks) (may : MayEndSo s.script.lives ends) (l : ℕ) (life : Life) (begun : l ≤ length ends)
     (none_found : found s l ≡ None) (seen : Held → Seen) (files : Files) (here : IsLifeInForm (lived s.script l life seen files)) where
   abbrev g : Lived
@@ -275,11 +289,6 @@ module _ (s : Setting) (ends : List (Option CutAt)) (history : IsWholeHistory s 
 
   -- ANSWERS
 
-  -- what a line of a step says
-  abbrev pub IsPathSaid : (j : ℕ) → Entry → Type 0
-  IsPathSaid j (Answer request (Available payload)) = IsFromPath s l life j request payload
-  IsPathSaid j line = Unit {0}
-
   module _ (i : ℕ) (its : Event) (is : slice_get life.events i ≡ Some its) where
     from_path : (request : ℕ) (payload : Option (List ℕ)) → IsSaidIn IsReadWell s.script l life (epoch_by g i) (suc i) (Answer request (Available payload)) → IsFromPath s l life (suc i) request payload
     from_path request payload (asked, (made_of, known)) =
@@ -316,13 +325,13 @@ module _ (s : Setting) (ends : List (Option CutAt)) (history : IsWholeHistory s 
             (by_path s ends history.consistent form bytes (epoch_by g i) made_of.round history.one_digest life request made_of.at made_of.recorded made_of.logs made_of.asked known.recorded_by bounds.0 bounds.1 known.chained known.has
             (keys s form bytes (epoch_by g i) made_of.round))
 
-    line_path : (line : Entry) → IsSaidIn IsReadWell s.script l life (epoch_by g i) (suc i) line → IsPathSaid (suc i) line
+    line_path : (line : Entry) → IsSaidIn IsReadWell s.script l life (epoch_by g i) (suc i) line → IsPathSaid s l life (suc i) line
     line_path (Answer request (Available payload)) said = from_path request payload said
     line_path (Answer request (Unavailable why)) said = tt
     line_path line said = tt
 
     -- The law: each answer of a step is from the path.
-    pub lines_path : (lines : List Entry) → AllByRecursion (IsSaidAt IsReadWell s.script l life (suc i)) lines → AllByRecursion (IsPathSaid (suc i)) lines
+    pub lines_path : (lines : List Entry) → AllByRecursion (IsSaidAt IsReadWell s.script l life (suc i)) lines → AllByRecursion (IsPathSaid s l life (suc i)) lines
     lines_path [] said = tt
     lines_path (line ∷ lines) said = (line_path line (subst (λ (k : ℕ). IsSaidIn IsReadWell s.script l life (epoch_by g k) (suc i) line) (less_one i) said.0), lines_path lines said.1)
 
@@ -347,7 +356,7 @@ module _ (s : Setting) (ends : List (Option CutAt)) (history : IsWholeHistory s 
     its_knows = knows_paths i its is reached its_message st (its_live g here i its is reached st its_stood) (its_stood.at).stands its_stood.tip state.chain recorded
 
     -- Its lines are from the path, wherever it ends,
-    pub state_lines : (ended : Ended NodeStop (Live U)) (out now : List Entry) → Said (on_devices (step_of g (suc i) its st)) ended out now → (added : List Entry) × (now ≡ out ++ added) × AllByRecursion (IsPathSaid (suc i)) added
+    pub state_lines : (ended : Ended NodeStop (Live U)) (out now : List Entry) → Said (on_devices (step_of g (suc i) its st)) ended out now → (added : List Entry) × (now ≡ out ++ added) × AllByRecursion (IsPathSaid s l life (suc i)) added
     state_lines ended out now said =
         let lines = told_lines g here i its is reached st its_stood state.asked its_knows ended out now said in
         (lines.0, lines.1, lines_path i its is lines.0 lines.2)
@@ -360,11 +369,3 @@ module _ (s : Setting) (ends : List (Option CutAt)) (history : IsWholeHistory s 
       asked = told_next g here i its is reached st its_stood state.asked its_knows devices end left node (told_apart g here i its is reached st its_stood state.asked its_knows (went end) out now said);
       chain = chain_stays i its is reached its_message st (its_live g here i its is reached st its_stood) (its_stood.at).stands its_stood.tip state.chain devices end left node;
     }
-
-  -- .. by where a run stands
-  pub path_answer : (j : ℕ) (p : Progress) (line : Entry) → length p.cuts ≡ l → p.step ≡ j → IsPathSaid j line → IsPathAnswer s p line
-  path_answer j p (Answer request (Available payload)) lives step said =
-      subst (λ (k : ℕ). IsSomeAnd (life_at s k) (λ its. IsFromPath s k its p.step request payload)) (sym lives)
-      (subst (λ (o : Option Life). IsSomeAnd o (λ its. IsFromPath s l its p.step request payload)) (sym here.life_is) (subst (λ (k : ℕ). IsFromPath s l life k request payload) (sym step) said))
-  path_answer j p (Answer request (Unavailable why)) lives step said = tt
-  path_answer j p line lives step said = tt
