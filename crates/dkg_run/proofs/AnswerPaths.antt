@@ -377,19 +377,22 @@ module _ (s : Setting) (ends : List (Option CutAt)) (consistent : IsConsistentSc
           none : (a : ℕ) → a + 0 ≡ a
           none a = omega arith
 
+          less : (a b m : ℕ) → a < b + 1 → b < m → a < m
+          less a b m one two = omega (arith, one, two)
+
           up : (at : ℕ) → at < t.height + 1 → at < middle
-          up at under = omega (arith, under, low)
+          up at under = less at t.height middle under low
 
           tested : nat_lt t.height middle ≡ true
-          tested = grind (arith, nat_tests)
+          tested = above_test t.height middle low
 
           bound : lowest.height ≤ middle
           bound = subst (λ (m : ℕ). lowest.height ≤ m) (ap (λ (m : ℕ). if nat_lt t.height m then m else t.height + 1) begins_at ∙ ap (λ (u : Bool). if u then middle else t.height + 1) tested) (completes_at (Some t) is).low
 
           dropped : (b : made.Block U) → nat_lt t.height b.height ≡ false → b.height < middle
-          dropped b test = let under : b.height ≤ t.height = at_most t.height b.height test in omega (arith, under, low)
+          dropped b test = up b.height (at_most t.height b.height test)
             where
-              at_most : (x y : ℕ) → nat_lt x y ≡ false → y ≤ x
+              at_most : (x y : ℕ) → nat_lt x y ≡ false → y < x + 1
               at_most x y test = grind (arith, nat_tests)
 
       -- it lies there or above

@@ -360,7 +360,7 @@ one_quiet script p (entry.Fault its) quiet = absurd quiet
 one_quiet script p one quiet = tt
 
 -- it leaves the life and the step in hand
-same_place : (s : Setting) (p : Progress) (one : Entry) → IsQuiet one → ((read s p one).cuts ≡ p.cuts) × ((read s p one).step ≡ p.step)
+pub same_place : (s : Setting) (p : Progress) (one : Entry) → IsQuiet one → ((read s p one).cuts ≡ p.cuts) × ((read s p one).step ≡ p.step)
 same_place s p (entry.Opened life restored) quiet = absurd quiet
 same_place s p (entry.Cut step call) quiet = absurd quiet
 same_place s p (entry.Step step) quiet = absurd quiet

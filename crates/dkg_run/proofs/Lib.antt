@@ -109,6 +109,7 @@ pub mod OwnValid
 pub mod Passing
 pub mod PathLogs
 pub mod PathsAsked
+pub mod PathsTold
 pub mod PeerForms
 pub mod Places
 pub mod PlanlessReads

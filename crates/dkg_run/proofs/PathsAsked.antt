@@ -81,6 +81,20 @@ reached_before (Some cut) i reached = λ none. let more : suc i < cut.step = rea
 less_one : (i : ℕ) → suc i - 1 ≡ i
 less_one i = omega arith
 
+-- WHAT A LINE of a step says
+module _ (s : Setting) (l : ℕ) (life : Life) where
+  abbrev pub IsPathSaid : (j : ℕ) → Entry → Type 0
+  IsPathSaid j (Answer request (Available payload)) = IsFromPath s l life j request payload
+  IsPathSaid j line = Unit {0}
+
+  -- .. by where a run stands
+  pub path_answer : life_at s l ≡ Some life → (j : ℕ) (p : Progress) (line : Entry) → length p.cuts ≡ l → p.step ≡ j → IsPathSaid j line → IsPathAnswer s p line
+  path_answer life_is j p (Answer request (Available payload)) lives step said =
+      subst (λ (k : ℕ). IsSomeAnd (life_at s k) (λ its. IsFromPath s k its p.step request payload)) (sym lives)
+      (subst (λ (o : Option Life). IsSomeAnd o (λ its. IsFromPath s l its p.step request payload)) (sym life_is) (subst (λ (k : ℕ). IsFromPath s l life k request payload) (sym step) said))
+  path_answer life_is j p (Answer request (Unavailable why)) lives step said = tt
+  path_answer life_is j p line lives step said = tt
+
 module _ (s : Setting) (ends : List (Option CutAt)) (history : IsWholeHistory s ends) (form : IsFormOfInclusion s.script) (bytes : AreBytes s.script.blocks) (may : MayEndSo s.script.lives ends) (l : ℕ) (life : Life) (begun : l ≤ length ends)
     (none_found : found s l ≡ None) (seen : Held → Seen) (files : Files) (here : IsLifeInForm (lived s.script l life seen files)) where
   abbrev g : Lived
@@ -151,7 +165,7 @@ module _ (s : Setting) (ends : List (Option CutAt)) (history : IsWholeHistory s 
       up_to_block number b of there applied height late low = by_place (cases_lt height b.height)
         where
           by_tip : (o : Option Tip) → tip_in s.script life i ≡ o → height < b.height → HasBlockAt s height
-          by_tip (Some t) at under = up_to_tip t at height late (below height t.height b.height ((applied_so c st b applied).over t (tip ∙ at)) under)
+          by_tip (Some t) at under = up_to_tip t at height late (below height t.height b.height ((applied_so c b st applied).over t (tip ∙ at)) under)
             where
               below : (h t b : ℕ) → b ≡ t + 1 → h < b → h ≤ t
               below h t b same low = omega (arith, same, low)
@@ -237,10 +251,9 @@ module _ (s : Setting) (ends : List (Option CutAt)) (history : IsWholeHistory s 
         ∙ ap (λ (logs : List ((ℕ × ℕ) × RecordedLog)). reached_logs (midpoint n (epoch_by g i)) (option_map (λ t. t.height) (tip_in s.script life (suc i))) (of_epoch (epoch_by g i) logs)) memory
 
     -- The law: from what is recorded where requests are read.
-    pub knows_paths : ((x : Live U) → IsReadFor c st m.message x → x.tip ≡ tip_in s.script life (suc i) → x.participation.epoch ≡ epoch_by g i → (round : Round) → x.participation.round ≡ Some round → IsRecordedTo s (epoch_by g i) round x)
-        → KnowsRead g IsReadWell i st m.message
+    pub knows_paths : ((x : Live U) → IsReadFor c st m.message x → (round : Round) → st.participation.round ≡ Some round → IsRecordedTo s (epoch_by g i) round x) → KnowsRead g IsReadWell i st m.message
     knows_paths recorded x in_it x_tip x_epoch round of =
-        let its_own : IsRecordedTo s (epoch_by g i) round x = recorded x in_it x_tip x_epoch round of in
+        let its_own : IsRecordedTo s (epoch_by g i) round x = recorded x in_it round (sym (same_round x in_it) ∙ of) in
         record {
           recorded_by = record {
             m = its_own.m;
@@ -275,11 +288,6 @@ module _ (s : Setting) (ends : List (Option CutAt)) (history : IsWholeHistory s 
                 (subst (λ (x : Message U). IsEndThrough c any_shares st x devices node.mid left) sent (node.next).is))
 
   -- ANSWERS
-
-  -- what a line of a step says
-  abbrev pub IsPathSaid : (j : ℕ) → Entry → Type 0
-  IsPathSaid j (Answer request (Available payload)) = IsFromPath s l life j request payload
-  IsPathSaid j line = Unit {0}
 
   module _ (i : ℕ) (its : Event) (is : slice_get life.events i ≡ Some its) where
     from_path : (request : ℕ) (payload : Option (List ℕ)) → IsSaidIn IsReadWell s.script l life (epoch_by g i) (suc i) (Answer request (Available payload)) → IsFromPath s l life (suc i) request payload
@@ -317,13 +325,13 @@ module _ (s : Setting) (ends : List (Option CutAt)) (history : IsWholeHistory s 
             (by_path s ends history.consistent form bytes (epoch_by g i) made_of.round history.one_digest life request made_of.at made_of.recorded made_of.logs made_of.asked known.recorded_by bounds.0 bounds.1 known.chained known.has
             (keys s form bytes (epoch_by g i) made_of.round))
 
-    line_path : (line : Entry) → IsSaidIn IsReadWell s.script l life (epoch_by g i) (suc i) line → IsPathSaid (suc i) line
+    line_path : (line : Entry) → IsSaidIn IsReadWell s.script l life (epoch_by g i) (suc i) line → IsPathSaid s l life (suc i) line
     line_path (Answer request (Available payload)) said = from_path request payload said
     line_path (Answer request (Unavailable why)) said = tt
     line_path line said = tt
 
     -- The law: each answer of a step is from the path.
-    pub lines_path : (lines : List Entry) → AllByRecursion (IsSaidAt IsReadWell s.script l life (suc i)) lines → AllByRecursion (IsPathSaid (suc i)) lines
+    pub lines_path : (lines : List Entry) → AllByRecursion (IsSaidAt IsReadWell s.script l life (suc i)) lines → AllByRecursion (IsPathSaid s l life (suc i)) lines
     lines_path [] said = tt
     lines_path (line ∷ lines) said = (line_path line (subst (λ (k : ℕ). IsSaidIn IsReadWell s.script l life (epoch_by g k) (suc i) line) (less_one i) said.0), lines_path lines said.1)
 
@@ -337,8 +345,7 @@ module _ (s : Setting) (ends : List (Option CutAt)) (history : IsWholeHistory s 
   state_opens sees k st begun = record { stood = opened_stood g here sees k st begun; asked = opened_held g here IsReadWell sees k st begun; chain = chain_opens }
 
   module _ (i : ℕ) (its : Event) (is : slice_get life.events i ≡ Some its) (reached : IsReached life.cut (suc i)) (st : Live U) (state : IsPathState i st)
-      (recorded : (x : Live U) → IsReadFor (at_step g (suc i)) st (message_in g its (event_in_form g here i its is)).message x → x.tip ≡ tip_in s.script life (suc i) → x.participation.epoch ≡ epoch_by g i
-      → (round : Round) → x.participation.round ≡ Some round → IsRecordedTo s (epoch_by g i) round x) where
+      (recorded : (x : Live U) → IsReadFor (at_step g (suc i)) st (message_in g its (event_in_form g here i its is)).message x → (round : Round) → st.participation.round ≡ Some round → IsRecordedTo s (epoch_by g i) round x) where
     abbrev its_message : IsMessage g its
     its_message = message_in g its (event_in_form g here i its is)
 
@@ -349,7 +356,7 @@ module _ (s : Setting) (ends : List (Option CutAt)) (history : IsWholeHistory s 
     its_knows = knows_paths i its is reached its_message st (its_live g here i its is reached st its_stood) (its_stood.at).stands its_stood.tip state.chain recorded
 
     -- Its lines are from the path, wherever it ends,
-    pub state_lines : (ended : Ended NodeStop (Live U)) (out now : List Entry) → Said (on_devices (step_of g (suc i) its st)) ended out now → (added : List Entry) × (now ≡ out ++ added) × AllByRecursion (IsPathSaid (suc i)) added
+    pub state_lines : (ended : Ended NodeStop (Live U)) (out now : List Entry) → Said (on_devices (step_of g (suc i) its st)) ended out now → (added : List Entry) × (now ≡ out ++ added) × AllByRecursion (IsPathSaid s l life (suc i)) added
     state_lines ended out now said =
         let lines = told_lines g here i its is reached st its_stood state.asked its_knows ended out now said in
         (lines.0, lines.1, lines_path i its is lines.0 lines.2)
@@ -362,11 +369,3 @@ module _ (s : Setting) (ends : List (Option CutAt)) (history : IsWholeHistory s 
       asked = told_next g here i its is reached st its_stood state.asked its_knows devices end left node (told_apart g here i its is reached st its_stood state.asked its_knows (went end) out now said);
       chain = chain_stays i its is reached its_message st (its_live g here i its is reached st its_stood) (its_stood.at).stands its_stood.tip state.chain devices end left node;
     }
-
-  -- .. by where a run stands
-  pub path_answer : (j : ℕ) (p : Progress) (line : Entry) → length p.cuts ≡ l → p.step ≡ j → IsPathSaid j line → IsPathAnswer s p line
-  path_answer j p (Answer request (Available payload)) lives step said =
-      subst (λ (k : ℕ). IsSomeAnd (life_at s k) (λ its. IsFromPath s k its p.step request payload)) (sym lives)
-      (subst (λ (o : Option Life). IsSomeAnd o (λ its. IsFromPath s l its p.step request payload)) (sym here.life_is) (subst (λ (k : ℕ). IsFromPath s l life k request payload) (sym step) said))
-  path_answer j p (Answer request (Unavailable why)) lives step said = tt
-  path_answer j p line lives step said = tt
