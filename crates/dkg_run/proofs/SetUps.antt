@@ -145,19 +145,19 @@ Spares (Changes (PutShare epoch share)) = ⊥
 Spares (Changes (Prune min)) = ⊥
 Spares op = Unit {0}
 
-plain_keeps : (x : Telling) (line : Line) → IsPlain line → after_line x line ≡ x
+pub plain_keeps : (x : Telling) (line : Line) → IsPlain line → after_line x line ≡ x
 plain_keeps x (Setup epoch phase part) is = absurd is
 plain_keeps x (Opened life restored) is = absurd is
 plain_keeps x (Committed epoch (Some share)) is = absurd is
 plain_keeps x (Committed epoch None) is = refl
 plain_keeps x line is = refl
 
-plain_said : (x : Telling) (line : Line) → IsPlain line → MaySay x line
+pub plain_said : (x : Telling) (line : Line) → IsPlain line → MaySay x line
 plain_said x (Committed epoch (Some share)) is = absurd is
 plain_said x (Committed epoch None) is = tt
 plain_said x line is = tt
 
-spares_keeps : (x : Telling) (op : Operation) → Spares op → after_op x op ≡ x
+pub spares_keeps : (x : Telling) (op : Operation) → Spares op → after_op x op ≡ x
 spares_keeps x (Changes (PutShare epoch share)) is = absurd is
 spares_keeps x (Changes (Prune min)) is = absurd is
 spares_keeps x (Changes (PutSeed epoch seed)) is = refl
@@ -221,7 +221,7 @@ module _ (Into : ℕ → Type 0) (most : ℕ) where
   MayDo x (Changes (Prune min)) = (x.untold ≡ None) × (min ≤ most)
   MayDo x op = Unit {0}
 
-  spares_may : (x : Telling) (op : Operation) → Spares op → MayDo x op
+  pub spares_may : (x : Telling) (op : Operation) → Spares op → MayDo x op
   spares_may x (Changes (PutShare epoch share)) is = absurd is
   spares_may x (Changes (Prune min)) is = absurd is
   spares_may x (Changes (PutSeed epoch seed)) is = tt
