@@ -1,11 +1,11 @@
 -- What a course stores of shares and tells: each share that is held behind it was held before, or is told, or is the one that it was about to tell; and what was held, or told, is held.
-use Rattle.std.proofs.Common.{◌≡◌, ◌⊎◌, inl, inr, ◌<◌, ◌≤◌, ℕ, List, [], ◌∷◌, ◌++◌, Option, Some, None, get_or, arith, refl, sym, ◌∙◌, ap, subst, append-nil, append_assoc, fold}
+use Rattle.std.proofs.Common.{◌≡◌, ◌⊎◌, inl, inr, ◌<◌, ◌≤◌, ℕ, List, [], ◌∷◌, ◌++◌, Option, Some, None, arith, refl, sym, ◌∙◌, ap, subst, append-nil, append_assoc, fold}
 use Rattle.std.specs.Prelude.{Contains, IsSome, Ok}
 use Rattle.std.specs.FinMap as maps
 use Rattle.std.specs.FinMap.{FinMap, get, nat_cmp-IsAntisymmetric}
 use Rattle.std.specs.Cmp.{nat_cmp_total}
 use Rattle.std.specs.Ordering.{nat_cmp}
-use Rattle.std.proofs.lemmas.List.Elements.{Contains-append_cases, Contains-append_left, Contains-append_right}
+use Rattle.std.proofs.lemmas.List.Elements.{Contains-append_left, Contains-push, Contains-push_cases}
 use Rattle.std.proofs.lemmas.List.Sums.{fold-append}
 use Rattle.dkg_secrets.proofs.Map.{get_here, get_other, same_key}
 use Rattle.dkg_secrets.proofs.Tried.{all_done}
@@ -44,13 +44,7 @@ tells_more : (lines : List Line) (line : Line) (epoch : ℕ) → TellsShare line
 tells_more lines line epoch its = (its.0, Contains-append_left lines (line ∷ []) (Committed epoch (Some its.0)) its.1)
 
 tells_this : (lines : List Line) (epoch share : ℕ) → TellsShare (lines ++ Committed epoch (Some share) ∷ []) epoch
-tells_this lines epoch share = (share, Contains-append_right lines (Committed epoch (Some share) ∷ []) (Committed epoch (Some share)) (0, omega arith, refl))
-
-is_only : (x y : Line) → Contains (x ∷ []) y → x ≡ y
-is_only x y has = by_place has.0 has.1 has.2
-  where
-    by_place : (k : ℕ) → k < 1 → get_or (x ∷ []) k y ≡ y → x ≡ y
-    by_place k low is = subst (λ (n : ℕ). get_or (x ∷ []) n y ≡ y → x ≡ y) (omega (arith, low)) (λ e. e) is
+tells_this lines epoch share = (share, Contains-push lines (Committed epoch (Some share)))
 
 module _ (Into : ℕ → Type 0) (most : ℕ) (w0 : World) (x0 : Telling) where
   pub record Stores (w : World) (x : Telling) : Type 0 where
@@ -92,9 +86,9 @@ module _ (Into : ℕ → Type 0) (most : ℕ) (w0 : World) (x0 : Telling) where
       }
         where
           told_before : (epoch : ℕ) → TellsShare (its.added ++ line ∷ []) epoch → TellsShare its.added epoch
-          told_before epoch tells = elim (Contains-append_cases its.added (line ∷ []) (Committed epoch (Some tells.0)) tells.1) [
+          told_before epoch tells = elim (Contains-push_cases its.added line (Committed epoch (Some tells.0)) tells.1) [
             | inl before ↦ (tells.0, before)
-            | inr here ↦ absurd (none epoch tells.0 (is_only line (Committed epoch (Some tells.0)) here))
+            | inr here ↦ absurd (none epoch tells.0 here)
           ]
 
       -- one that commits the share that was stored
@@ -120,9 +114,9 @@ module _ (Into : ℕ → Type 0) (most : ℕ) (w0 : World) (x0 : Telling) where
           number other its_share e = cc
 
           told_kept : (other : ℕ) → most ≤ other → TellsShare (its.added ++ Committed epoch (Some share) ∷ []) other → IsSome (get w.held.secrets.shares other)
-          told_kept other high tells = elim (Contains-append_cases its.added (Committed epoch (Some share) ∷ []) (Committed other (Some tells.0)) tells.1) [
+          told_kept other high tells = elim (Contains-push_cases its.added (Committed epoch (Some share)) (Committed other (Some tells.0)) tells.1) [
             | inl before ↦ its.kept other high (inr (tells.0, before))
-            | inr here ↦ its.put other (untold ∙ ap (λ (e : ℕ). Some e) (number other tells.0 (is_only (Committed epoch (Some share)) (Committed other (Some tells.0)) here)))
+            | inr here ↦ its.put other (untold ∙ ap (λ (e : ℕ). Some e) (number other tells.0 here))
           ]
 
       by_line : (line : Line) → MaySay x line → Stores (says w line) (after_line x line)
