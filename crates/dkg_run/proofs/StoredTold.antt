@@ -16,6 +16,7 @@ use Rattle.dkg_secrets.specs.declared.secrets.SecretOp.{SecretOp}
 use Rattle.dkg_secrets.specs.declared.secrets.SecretOp.TheVariants.{Prune, PutDealing, PutSeed, PutShare}
 use Rattle.dkg_types.specs.declared.entry.Entry.{Entry as Line}
 use Rattle.dkg_types.specs.declared.entry.Entry.TheVariants.{Committed, Opened, Setup}
+use Rattle.dkg_types.specs.declared.entry.Part.{Part}
 use Rattle.dkg_store.specs.Acts.{Cause, Changes, Ended, OnDisk, Operation, Tears, World, after, broken, does, says, stopped, went}
 use Rattle.dkg_core.specs.Courses.{Ask, Call, Course, Do, EndsSo, Goes, Say, Stops}
 use Rattle.dkg_run.proofs.SetUps.{IsQuiet, LeadsTo, MayDo, MaySay, Spares, Telling, after_line, after_op, last_line, plain_keeps, plain_said, set_up_last, spares_keeps, spares_may}
@@ -46,18 +47,33 @@ tells_more lines line epoch its = (its.0, Contains-append_left lines (line ∷ [
 tells_this : (lines : List Line) (epoch share : ℕ) → TellsShare (lines ++ Committed epoch (Some share) ∷ []) epoch
 tells_this lines epoch share = (share, Contains-push lines (Committed epoch (Some share)))
 
-module _ (Into : ℕ → Type 0) (most : ℕ) (w0 : World) (x0 : Telling) where
+-- which setup is the last where an epoch is committed
+module _ (At : Option (ℕ × Part) → Type 0) where
+  abbrev pub AtLine : Option (ℕ × Part) → Line → Type 0
+  AtLine last (Committed epoch share) = At last
+  AtLine last line = Unit {0}
+
+  abbrev pub AtCommits : Option (ℕ × Part) → List Line → Type 0
+  AtCommits last [] = Unit {0}
+  AtCommits last (line ∷ lines) = AtLine last line × AtCommits (last_line last line) lines
+
+  at_more : (last : Option (ℕ × Part)) (lines : List Line) (line : Line) → AtCommits last lines → AtLine (set_up_last last lines) line → AtCommits last (lines ++ line ∷ [])
+  at_more last [] line all its = (its, tt)
+  at_more last (one ∷ lines) line all its = (all.0, at_more (last_line last one) lines line all.1 its)
+
+module _ (Into : ℕ → Type 0) (most : ℕ) (At : Option (ℕ × Part) → Type 0) (w0 : World) (x0 : Telling) where
   pub record Stores (w : World) (x : Telling) : Type 0 where
     pub added : List Line
     pub out : w.out ≡ w0.out ++ added
     pub last : x.last ≡ set_up_last x0.last added
+    pub commits : AtCommits At x0.last added
     pub sound : (epoch : ℕ) → IsSome (get w.held.secrets.shares epoch) → IsSome (get w0.held.secrets.shares epoch) ⊎ (TellsShare added epoch ⊎ (x.untold ≡ Some epoch))
     pub kept : (epoch : ℕ) → most ≤ epoch → IsSome (get w0.held.secrets.shares epoch) ⊎ TellsShare added epoch → IsSome (get w.held.secrets.shares epoch)
     pub put : (epoch : ℕ) → x.untold ≡ Some epoch → IsSome (get w.held.secrets.shares epoch)
     pub into : (epoch : ℕ) → x.untold ≡ Some epoch → Into epoch
 
   -- A LINE
-  said_stores : (w : World) (x : Telling) (line : Line) → MaySay x line → Stores w x → Stores (says w line) (after_line x line)
+  said_stores : (w : World) (x : Telling) (line : Line) → MaySay At x line → Stores w x → Stores (says w line) (after_line x line)
   said_stores w x line may its = by_line line may
     where
       out_is : (line : Line) → (says w line).out ≡ w0.out ++ (its.added ++ line ∷ [])
@@ -67,11 +83,12 @@ module _ (Into : ℕ → Type 0) (most : ℕ) (w0 : World) (x0 : Telling) where
       last_is line same = same ∙ ap (λ (o : _). last_line o line) its.last ∙ sym (fold-append last_line x0.last its.added (line ∷ []))
 
       -- a line that commits no share
-      other : (line : Line) → after_line x line ≡ after_line x line → ((epoch share : ℕ) → line ≡ Committed epoch (Some share) → ⊥) → (after_line x line).last ≡ last_line x.last line → (after_line x line).untold ≡ x.untold → Stores (says w line) (after_line x line)
-      other line u none last_same untold_same = record {
+      other : (line : Line) → AtLine At x.last line → ((epoch share : ℕ) → line ≡ Committed epoch (Some share) → ⊥) → (after_line x line).last ≡ last_line x.last line → (after_line x line).untold ≡ x.untold → Stores (says w line) (after_line x line)
+      other line at none last_same untold_same = record {
         added = its.added ++ line ∷ [];
         out = out_is line;
         last = last_is line last_same;
+        commits = at_more At x0.last its.added line its.commits (subst (λ (o : Option (ℕ × Part)). AtLine At o line) its.last at);
         sound = λ epoch some. elim (its.sound epoch some) [
           | inl was ↦ inl was
           | inr (inl tells) ↦ inr (inl (tells_more its.added line epoch tells))
@@ -92,11 +109,12 @@ module _ (Into : ℕ → Type 0) (most : ℕ) (w0 : World) (x0 : Telling) where
           ]
 
       -- one that commits the share that was stored
-      committed : (epoch share : ℕ) → x.untold ≡ Some epoch → Stores (says w (Committed epoch (Some share))) (after_line x (Committed epoch (Some share)))
-      committed epoch share untold = record {
+      committed : (epoch share : ℕ) → x.untold ≡ Some epoch → At x.last → Stores (says w (Committed epoch (Some share))) (after_line x (Committed epoch (Some share)))
+      committed epoch share untold at = record {
         added = its.added ++ Committed epoch (Some share) ∷ [];
         out = out_is (Committed epoch (Some share));
         last = last_is (Committed epoch (Some share)) refl;
+        commits = at_more At x0.last its.added (Committed epoch (Some share)) its.commits (subst At its.last at);
         sound = λ other some. elim (its.sound other some) [
           | inl was ↦ inl was
           | inr (inl tells) ↦ inr (inl (tells_more its.added (Committed epoch (Some share)) other tells))
@@ -119,12 +137,12 @@ module _ (Into : ℕ → Type 0) (most : ℕ) (w0 : World) (x0 : Telling) where
             | inr here ↦ its.put other (untold ∙ ap (λ (e : ℕ). Some e) (number other tells.0 here))
           ]
 
-      by_line : (line : Line) → MaySay x line → Stores (says w line) (after_line x line)
-      by_line (Committed epoch (Some share)) untold = committed epoch share untold
-      by_line (Committed epoch None) u = other (Committed epoch None) refl (λ n share e. (let wrong : Committed epoch None ≡ Committed n (Some share) = e in cc)) refl refl
-      by_line (Setup epoch phase part) u = other (Setup epoch phase part) refl (λ n share e. cc) refl refl
-      by_line (Opened life restored) u = other (Opened life restored) refl (λ n share e. cc) refl refl
-      by_line one u = other one refl (λ n share e. cc) refl refl
+      by_line : (line : Line) → MaySay At x line → Stores (says w line) (after_line x line)
+      by_line (Committed epoch (Some share)) its_may = committed epoch share its_may.0 its_may.1
+      by_line (Committed epoch None) at = other (Committed epoch None) at (λ n share e. (let wrong : Committed epoch None ≡ Committed n (Some share) = e in cc)) refl refl
+      by_line (Setup epoch phase part) u = other (Setup epoch phase part) tt (λ n share e. cc) refl refl
+      by_line (Opened life restored) u = other (Opened life restored) tt (λ n share e. cc) refl refl
+      by_line one u = other one tt (λ n share e. cc) refl refl
 
   -- AN OPERATION that leaves the shares
   same_stores : (w new : World) (x : Telling) → new.out ≡ w.out → new.held.secrets.shares ≡ w.held.secrets.shares → Stores w x → Stores new x
@@ -132,6 +150,7 @@ module _ (Into : ℕ → Type 0) (most : ℕ) (w0 : World) (x0 : Telling) where
     added = its.added;
     out = same ∙ its.out;
     last = its.last;
+    commits = its.commits;
     sound = λ epoch some. its.sound epoch (subst (λ (m : Shares). IsSome (get m epoch)) shares some);
     kept = λ epoch high from. subst (λ (m : Shares). IsSome (get m epoch)) (sym shares) (its.kept epoch high from);
     put = λ epoch untold. subst (λ (m : Shares). IsSome (get m epoch)) (sym shares) (its.put epoch untold);
@@ -144,6 +163,7 @@ module _ (Into : ℕ → Type 0) (most : ℕ) (w0 : World) (x0 : Telling) where
     added = its.added;
     out = same ∙ its.out;
     last = its.last;
+    commits = its.commits;
     sound = λ epoch some. elim (same_key nat_cmp_total nat_cmp-IsAntisymmetric epoch at) [
       | inl here ↦ inr (inr (ap (λ (e : ℕ). Some e) (sym here)))
       | inr apart ↦ elim (its.sound epoch (subst IsSome (ap (λ (m : Shares). get m epoch) shares ∙ get_other nat_cmp_total nat_cmp-IsAntisymmetric w.held.secrets.shares at epoch share apart) some)) [
@@ -172,6 +192,7 @@ module _ (Into : ℕ → Type 0) (most : ℕ) (w0 : World) (x0 : Telling) where
     added = its.added;
     out = same ∙ its.out;
     last = its.last;
+    commits = its.commits;
     sound = λ epoch some. elim (each epoch) [
       | inl stays ↦ its.sound epoch (subst IsSome stays some)
       | inr goes ↦ absurd (gone goes.1 some)
@@ -185,7 +206,7 @@ module _ (Into : ℕ → Type 0) (most : ℕ) (w0 : World) (x0 : Telling) where
   }
 
   -- what an operation on the secrets leaves, done or not
-  tried_stores : (w new : World) (x : Telling) (op : SecretOp) → MayDo Into most x (Changes op) → new.out ≡ w.out → Tries op w.held.secrets new.held.secrets → Stores w x → (y : Telling) × Stores new y
+  tried_stores : (w new : World) (x : Telling) (op : SecretOp) → MayDo Into most At x (Changes op) → new.out ≡ w.out → Tries op w.held.secrets new.held.secrets → Stores w x → (y : Telling) × Stores new y
   tried_stores w new x (PutShare epoch share) may same tries its = elim tries.so [
     | inl stays ↦ (x, same_stores w new x same (ap (λ (t : Secrets). t.shares) stays) its)
     | inr done ↦ (record { last = x.last; untold = Some epoch }, put_stores w new x epoch share may.0 may.1 same (ap (λ (t : Secrets). t.shares) done) its)
@@ -201,7 +222,7 @@ module _ (Into : ℕ → Type 0) (most : ℕ) (w0 : World) (x0 : Telling) where
   tried_stores w new x (Prune min) may same tries its = (x, pruned_stores w new x min may.0 may.1 same tries.so.shares its)
 
   -- .. and any that is done
-  does_stores : (w : World) (x : Telling) (op : Operation) → MayDo Into most x op → Stores w x → Stores (does w op) (after_op x op)
+  does_stores : (w : World) (x : Telling) (op : Operation) → MayDo Into most At x op → Stores w x → Stores (does w op) (after_op x op)
   does_stores w x (OnDisk op) may its = same_stores w (does w (OnDisk op)) x refl refl its
   does_stores w x (Changes (PutShare epoch share)) may its = put_stores w (does w (Changes (PutShare epoch share))) x epoch share may.0 may.1 refl refl its
   does_stores w x (Changes (PutSeed epoch seed)) may its = same_stores w (does w (Changes (PutSeed epoch seed))) x refl refl its
@@ -209,7 +230,7 @@ module _ (Into : ℕ → Type 0) (most : ℕ) (w0 : World) (x0 : Telling) where
   does_stores w x (Changes (Prune min)) may its =
       pruned_stores w (does w (Changes (Prune min))) x min may.0 may.1 refl (all_done (Prune min) w.held.secrets (of_secrets.after (Prune min) w.held.secrets) refl).so.shares its
 
-  torn_stores : (cause : Cause) (w new : World) (x : Telling) (op : Operation) → MayDo Into most x op → Tears cause op w new → Stores w x → (y : Telling) × Stores new y
+  torn_stores : (cause : Cause) (w new : World) (x : Telling) (op : Operation) → MayDo Into most At x op → Tears cause op w new → Stores w x → (y : Telling) × Stores new y
   torn_stores cause w new x (OnDisk op) may tears its = (x, same_stores w new x tears.same (ap (λ (t : Secrets). t.shares) tears.torn.0) its)
   torn_stores cause w new x (Changes op) may tears its = tried_stores w new x op may tears.same tears.torn.1 its
 
@@ -220,7 +241,7 @@ module _ (Into : ℕ → Type 0) (most : ℕ) (w0 : World) (x0 : Telling) where
   Leaves goes (broken cause) new = (y : Telling) × Stores new y
 
   module _ {Dir F S : Type 0} (goes : Telling → S → Type 0) where
-    pub run_stores : (course : Course Dir F S) (ended : Ended F S) (w new : World) (x : Telling) → LeadsTo Into most goes x course → Stores w x → EndsSo course ended w new → Leaves goes ended new
+    pub run_stores : (course : Course Dir F S) (ended : Ended F S) (w new : World) (x : Telling) → LeadsTo Into most At goes x course → Stores w x → EndsSo course ended w new → Leaves goes ended new
     run_stores (Say line course) (went end) w new x leads its run = run_stores course (went end) (says w line) new (after_line x line) leads.1 (said_stores w x line leads.0 its) run
     run_stores (Say line course) (stopped fault) w new x leads its run = run_stores course (stopped fault) (says w line) new (after_line x line) leads.1 (said_stores w x line leads.0 its) run
     run_stores (Say line course) (broken cause) w new x leads its (inl here) = (x, subst (λ (v : World). Stores v x) (sym here.1) its)
@@ -246,23 +267,24 @@ module _ (Into : ℕ → Type 0) (most : ℕ) (w0 : World) (x0 : Telling) where
     run_stores (Stops fault) (broken cause) w new x leads its run = (x, subst (λ (v : World). Stores v x) (sym run.1) its)
 
 -- a course that leaves all of it
-pub quiet_to : {Dir F S : Type 0} (Into : ℕ → Type 0) (most : ℕ) (x : Telling) (course : Course Dir F S) → IsQuiet course → LeadsTo Into most (λ y end. y ≡ x) x course
-quiet_to Into most x course so = by_course course x refl so
+pub quiet_to : {Dir F S : Type 0} (Into : ℕ → Type 0) (most : ℕ) (At : Option (ℕ × Part) → Type 0) (x : Telling) (course : Course Dir F S) → IsQuiet course → LeadsTo Into most At (λ y end. y ≡ x) x course
+quiet_to Into most At x course so = by_course course x refl so
   where
-    by_course : (course : Course Dir F S) (y : Telling) → y ≡ x → IsQuiet course → LeadsTo Into most (λ z end. z ≡ x) y course
-    by_course (Say line course) y same so = (plain_said y line so.0, by_course course (after_line y line) (plain_keeps y line so.0 ∙ same) so.1)
-    by_course (Do op course) y same so = (spares_may Into most y op so.0, by_course course (after_op y op) (spares_keeps y op so.0 ∙ same) so.1)
+    by_course : (course : Course Dir F S) (y : Telling) → y ≡ x → IsQuiet course → LeadsTo Into most At (λ z end. z ≡ x) y course
+    by_course (Say line course) y same so = (plain_said At y line so.0, by_course course (after_line y line) (plain_keeps y line so.0 ∙ same) so.1)
+    by_course (Do op course) y same so = (spares_may Into most At y op so.0, by_course course (after_op y op) (spares_keeps y op so.0 ∙ same) so.1)
     by_course (Call outer course) y same so = by_course course y same so
     by_course (Ask f) y same so = λ h. by_course (f h) y same (so h)
     by_course (Goes end) y same so = same
     by_course (Stops fault) y same so = tt
 
 -- it begins with nothing told
-pub begins_so : (Into : ℕ → Type 0) (most : ℕ) (w : World) (x : Telling) → x.untold ≡ None → Stores Into most w x w x
-begins_so Into most w x none = record {
+pub begins_so : (Into : ℕ → Type 0) (most : ℕ) (At : Option (ℕ × Part) → Type 0) (w : World) (x : Telling) → x.untold ≡ None → Stores Into most At w x w x
+begins_so Into most At w x none = record {
   added = [];
   out = sym (append-nil w.out);
   last = refl;
+  commits = tt;
   sound = λ epoch some. inl some;
   kept = λ epoch high from. elim from [
     | inl was ↦ was
