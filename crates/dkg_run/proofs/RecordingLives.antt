@@ -189,6 +189,7 @@ module _ (s : Setting) (ends : List (Option CutAt)) (whole : IsWholeHistory s en
         -- it takes part in the same epoch on, or stands at the first height of another
         goes : (block : made.Block U) → m.message ≡ Finalized block → h (suc i) ≡ max (h i) (block.height + 1) → core.awaited_height st ≡ h i → follows s l life (e (suc i)) ≡ false
             → (e (suc i) ≡ e i) ⊎ (h (suc i) ≤ midpoint n (e (suc i)))
+        unfolding at_step
         goes block sent next stands part = by_next (next_so C any_shares st m.message (Some w.held) node.mid (Some new.held) (form_at g here (suc i)) live node.next)
           where
             apart : (node.mid).participation.stage ≡ Follows → ⊥
@@ -208,7 +209,6 @@ module _ (s : Setting) (ends : List (Option CutAt)) (whole : IsWholeHistory s en
                 inr (at_first (subst (λ (x : made.Block U). judged_block C x st ≡ Applied) (sym same_block) over.applied) (subst (λ (x : made.Block U). is_last_height C x.height ≡ true) (sym same_block) over.last))
               where
                 at_first : judged_block C block st ≡ Applied → is_last_height C block.height ≡ true → h (suc i) ≤ midpoint n (e (suc i))
-                unfolding at_step
                 at_first applied at_last =
                     let high : h i ≤ block.height = subst (λ (x : ℕ). x ≤ block.height) stands (applied_high C block st applied) in
                     let same : h (suc i) ≡ block.height + 1 = top (h (suc i)) (h i) (block.height) next high in
