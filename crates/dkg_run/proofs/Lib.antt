@@ -109,6 +109,7 @@ pub mod OwnValid
 pub mod Passing
 pub mod PathLogs
 pub mod PathsAsked
+pub mod PathsRun
 pub mod PathsTold
 pub mod PeerForms
 pub mod Places
