@@ -58,10 +58,10 @@ module _ (s : Setting) (epoch : ℕ) (round : Round) (placed : (height : ℕ) (b
   chain_brought height zero = refl
   chain_brought height (suc count) = by_block (chain s height) refl (chain_brought (height + 1) count)
     where
-      abbrev rest : LogMap
+      rest : LogMap
       rest = brought_from (brings_of s epoch round) (height + 1) count
 
-      abbrev upper : List Block
+      upper : List Block
       upper = chain_from s (height + 1) count
 
       by_signed : (b : Block) (o : Option SignedDealerLog) → b.log ≡ o → b.height ≡ height → counting (filter_map log_at upper) ≡ rest

@@ -1,5 +1,5 @@
 -- What each line of a run says, over worlds: a clause of a line over the lines before it, from what holds of the life, the devices and the lines at each step.
-use Rattle.std.proofs.Common.{◌≡◌, ◌⊎◌, inl, inr, ℕ, true, suc, ◌+◌, ◌<◌, ◌≤◌, List, [], ◌∷◌, ◌++◌, Option, Some, None, refl, sym, ◌∙◌, ap, subst, length, arith, add-one, append_assoc, append-nil, length-append}
+use Rattle.std.proofs.Common.{◌≡◌, ◌⊎◌, inl, inr, ℕ, true, false, suc, ◌+◌, ◌<◌, ◌≤◌, List, [], ◌∷◌, ◌++◌, Option, Some, None, refl, sym, ◌∙◌, ap, subst, length, arith, add-one, append_assoc, append-nil, length-append}
 use Rattle.std.specs.Prelude.{fold, slice_get, Result, Ok, Err, IsSomeAnd, ◌==◌}
 use Rattle.std.proofs.lemmas.List.Sums.{fold-append}
 use Rattle.dkg_journal.specs.Burn.{Burn}
@@ -108,18 +108,19 @@ module _ (s : Setting) (E : Type 0 → List Entry → Entry → Type 0) where
     to = subst (Q (KnownAfter s marks before (one ∷ b.added))) (append_assoc before (one ∷ []) b.added) b.to;
   }
 
-  pub told_then : (marks : Type 0) (before old mid new : List Entry) (P Q : Type 0 → List Entry → Type 0) (a : Told marks before old mid P)
-      → ((later : Type 0) (b : List Entry) (added : List Entry) → (later → marks) → b ≡ before ++ added → mid ≡ old ++ added → P later b → Told later b mid new Q) → Told marks before old new Q
-  told_then marks before old mid new P Q a next = record {
+  told_both : (marks : Type 0) (before old mid new : List Entry) (P Q : Type 0 → List Entry → Type 0) (a : Told marks before old mid P) → Told (KnownAfter s marks before a.added) (before ++ a.added) mid new Q → Told marks before old new Q
+  told_both marks before old mid new P Q a b = record {
     added = a.added ++ b.added;
     out = b.out ∙ ap (λ (xs : List Entry). xs ++ b.added) a.out ∙ append_assoc old a.added b.added;
     each = each_joined a.added b.added marks before a.each b.each;
-    to = subst (λ (known : Type 0). Q known (before ++ a.added ++ b.added)) (sym (known_joined s a.added b.added marks before))
+    to = subst (λ (known : Type 0). Q known (before ++ (a.added ++ b.added))) (sym (known_joined s a.added b.added marks before))
         (subst (Q (KnownAfter s (KnownAfter s marks before a.added) (before ++ a.added) b.added)) (append_assoc before a.added b.added) b.to);
   }
-    where
-      b : Told (KnownAfter s marks before a.added) (before ++ a.added) mid new Q
-      b = next (KnownAfter s marks before a.added) (before ++ a.added) a.added (known_before s a.added marks before) refl a.out a.to
+
+  pub told_then : (marks : Type 0) (before old mid new : List Entry) (P Q : Type 0 → List Entry → Type 0) (a : Told marks before old mid P)
+      → ((later : Type 0) (b : List Entry) (added : List Entry) → (later → marks) → b ≡ before ++ added → mid ≡ old ++ added → P later b → Told later b mid new Q) → Told marks before old new Q
+  told_then marks before old mid new P Q a next =
+      told_both marks before old mid new P Q a (next (KnownAfter s marks before a.added) (before ++ a.added) a.added (known_before s a.added marks before) refl a.out a.to)
 
   module _ (ends : List (Option CutAt)) (reshares : is_oneshot s ≡ false) (consistent : IsConsistentScript s ends)
       (meant : (l : ℕ) (life : Life) (seen : Held → Seen) (files : Files) → life_at s l ≡ Some life → by_worlds.reads seen → IsLifeInForm (lived s.script l life seen files) × IsLifeOfSetting s ends (lived s.script l life seen files))

@@ -125,10 +125,10 @@ module _ (s : Setting) (ends : List (Option CutAt)) (reshares : is_oneshot s ≡
       unopened = unopened;
     }
       where
-        abbrev LeftBy : (before : List Entry) → ℕ → Ended NodeStop (Live U) → World → Type 0 → List Entry → Type 0
+        LeftBy : (before : List Entry) → ℕ → Ended NodeStop (Live U) → World → Type 0 → List Entry → Type 0
         LeftBy = Left s Anything ends reshares consistent meant BaseBetween BaseHere l life seen files life_is reads cuts back
 
-        abbrev AfterIt : ℕ → Ended NodeStop (Live U) → World → Type 0 → List Entry → Type 0
+        AfterIt : ℕ → Ended NodeStop (Live U) → World → Type 0 → List Entry → Type 0
         AfterIt = After s Anything ends reshares consistent meant BaseBetween BaseHere l life seen files life_is reads cuts back
 
         -- AN OPENING
@@ -137,7 +137,7 @@ module _ (s : Setting) (ends : List (Option CutAt)) (reshares : is_oneshot s ≡
         opened marks w before at are between f ended new run =
             record { added = r.added; out = r.out; each = all_told s r.added marks before; to = left (KnownAfter s marks before r.added) (before ++ r.added) (known_before s r.added marks before) (subst Opens (sym (fold-append (read s) _ before r.added)) r.to) }
           where
-            abbrev Opens : Progress → Type 0
+            Opens : Progress → Type 0
             Opens q = OpeningLeaves s ends l life seen files here its cuts back marks ended new.held (come s before) q
 
             r : Reaches s (come s before) w.out new.out Opens
@@ -172,7 +172,7 @@ module _ (s : Setting) (ends : List (Option CutAt)) (reshares : is_oneshot s ≡
         stepped marks i event is reached st w before at are going f ended new run =
             record { added = r.added; out = r.out; each = all_told s r.added marks before; to = left (KnownAfter s marks before r.added) (before ++ r.added) (known_before s r.added marks before) (subst Leaves (sym (fold-append (read s) _ before r.added)) r.to) }
           where
-            abbrev Leaves : Progress → Type 0
+            Leaves : Progress → Type 0
             Leaves q = StepLeaves s ends l life seen files here its cuts back marks i ended new.held (come s before) q
 
             m : IsMessage g event
@@ -206,7 +206,7 @@ module _ (s : Setting) (ends : List (Option CutAt)) (reshares : is_oneshot s ≡
                     (subst (λ (n : ℕ). b (suc i) ≤ begun s (come s c).cuts l n) (sym (taken_within life at_cut (suc i) there within)) low)))
                     (λ other within known. so.logs (earlier known.0) (known.1 within)) so.saved)
 
-                abbrev Settles : Progress → Type 0
+                Settles : Progress → Type 0
                 Settles q = IsSettled marks s q
 
         -- BEHIND THE LIFE
@@ -220,7 +220,7 @@ module _ (s : Setting) (ends : List (Option CutAt)) (reshares : is_oneshot s ≡
             λ known. logs_later s (b n) (begun_before s (come s c).cuts (length (come s c).cuts)) (come s c).recorded (logs_in (notes w.held)) low (going.logs known),
         )
           where
-            abbrev n : ℕ
+            n : ℕ
             n = length life.events
 
             lives_before : length cuts ≡ l
@@ -267,10 +267,10 @@ module _ (s : Setting) (ends : List (Option CutAt)) (reshares : is_oneshot s ≡
           );
         })
           where
-            abbrev p : Progress
+            p : Progress
             p = come s c
 
-            abbrev b0 : ℕ
+            b0 : ℕ
             b0 = begun_before s p.cuts (length p.cuts)
 
             pairs_are : recovered_in new.held ≡ recovered_in w.held

@@ -427,7 +427,7 @@ module _ {Dir : Type 0} (c : Fixed Dir) where
     takes_part : (round : Round) (phase : Phase) (dealer : Option Dealer) (seat : Seat) (now : Live Dir) (x : Telling) → x.untold ≡ None → Leads IsSetUpBy x (s.takes_part c round phase dealer seat now)
     takes_part round phase dealer seat now x none = (tt, (by_phase phase, none))
       where
-        abbrev life : Live Dir
+        life : Live Dir
         life = with_participation (record now.participation { round = Some round; dealer = dealer; seat = seat }) now
 
         by_phase : (phase : Phase) → IsSeatedBy (Some (now.participation.epoch, s.part_of dealer seat)) (s.in_stage c phase life)
@@ -645,7 +645,7 @@ module _ {Dir : Type 0} (c : Fixed Dir) where
         leads_then Into most At IsSetUpBy IsSetUpBy x (under Faulted (step c (Finalized block) st)) behind (leads_under Into most At IsSetUpBy Faulted x (step c (Finalized block) st) half)
         (λ y st so. behind_half y st (behind st) (halves.behind_block c IsPlain (λ epoch. tt) tt (λ height. tt) block st) (block_aside c block st) so)
       where
-        abbrev behind : Live Dir → Course Dir NodeStop (Live Dir)
+        behind : Live Dir → Course Dir NodeStop (Live Dir)
         behind now = unless_once c (bind (delivered c block now) (λ left. acked_at block.height left.answer left.live)) (Say (Acked block.height) (Goes now))
 
         never_ends : (st.participation.stage ≡ Follows) ⊎ ((st.participation.stage ≡ Includes) × ((round : Round) × (st.participation.round ≡ Some round))) → st.participation.stage ≡ Ends → ⊥

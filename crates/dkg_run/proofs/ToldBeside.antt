@@ -95,7 +95,7 @@ module _ (s : Setting) (ends : List (Option CutAt)) (reshares : is_oneshot s ≡
       unopened = λ marks w new b at are both same stays its is. (first.unopened marks w new b at are both.0 same stays its is, adds.unopened marks w new b at are both.0 both.1 same stays its is);
     }
       where
-        abbrev BothAfter : ℕ → Ended NodeStop (Live U) → World → Type 0 → List Entry → Type 0
+        BothAfter : ℕ → Ended NodeStop (Live U) → World → Type 0 → List Entry → Type 0
         BothAfter = After s E ends reshares consistent meant BothBetween BothHere l life seen files life_is reads cuts back
 
         after : (j : ℕ) (ended : Ended NodeStop (Live U)) (new : World) (later : Type 0) (b : List Entry) → After s First ends reshares consistent meant Between Here l life seen files life_is reads cuts back j ended new later b
