@@ -149,6 +149,7 @@ pub mod Stepping
 pub mod Steps
 pub mod StepsOn
 pub mod Stood
+pub mod StoredTold
 pub mod StopsBehind
 pub mod StoredDealers
 pub mod StoredFound

@@ -53,7 +53,7 @@ some_is e = cc
 abbrev pub Anything : Type 0 → List Entry → Entry → Type 0
 Anything marks before line = Unit {0}
 
-all_told : (s : Setting) (lines : List Entry) (marks : Type 0) (before : List Entry) → EachTold s Anything marks before lines
+pub all_told : (s : Setting) (lines : List Entry) (marks : Type 0) (before : List Entry) → EachTold s Anything marks before lines
 all_told s [] marks before = tt
 all_told s (line ∷ lines) marks before = (tt, all_told s lines (marks × IsKnownAt s (come s before) line) (before ++ line ∷ []))
 

@@ -211,7 +211,8 @@ module _ (script : Script) (form : IsFormOfInclusion script) (o : Over) (disk_of
       offers = begun_offers script form checked bytes o disk_of answered old new added is runs itself left;
       requests = added_so old new added (AnswersSo script) is (run_answers script checked (lives_over script form checked) AnyFiles (trace old []) (trace new picks) answered run);
       leaves = added_so old new added (LeavesSo script) is (run_leaves script checked (lives_over script form checked) AnyFiles (trace old []) (trace new picks) answered run);
-      paths = begun_paths script form checked bytes o disk_of answered old new added is runs itself left;
+      paths = begun_paths script form checked bytes o disk_of answered old new added is runs itself left
+          (added_so old new added (RunsInOrder its_script) is (run_in_order its_script AnyFiles (trace old []) (trace new picks) answered as_it_was) o.before.files o.before.held);
       shares = begun_commits script form checked bytes o disk_of answered old new added is runs itself left;
       complete = completed answered all_completed;
       gives_back = λ told. record {

@@ -1,8 +1,9 @@
 -- Each life records the chain's first logs, over devices that tell: its opening and each of its steps, wherever they end, and what it leaves to the lives behind it.
-use Rattle.std.proofs.Common.{◌≡◌, ◌⊎◌, inl, inr, ◌<◌, ◌≤◌, ◌+◌, ◌*◌, ◌-◌, ◌/◌, ◌==◌, ◌++◌, ◌∷◌, [], ℕ, zero, suc, Bool, true, false, List, Option, Some, None, max, length, arith, refl, sym, ◌∙◌, ap, subst, add-one, suc-mul, append_assoc}
+use Rattle.std.proofs.Common.{◌≡◌, ◌⊎◌, inl, inr, ◌<◌, ◌≤◌, ◌+◌, ◌*◌, ◌-◌, ◌/◌, ◌==◌, ◌++◌, ◌∷◌, [], ℕ, zero, suc, Bool, true, false, List, Option, Some, None, max, length, arith, refl, sym, ◌∙◌, ap, subst, add-one, append_assoc}
 use Rattle.std.specs.Prelude.{is_some, slice_get, IfSome}
 use Rattle.std.specs.FinMap.{entries, get}
 use Rattle.std.specs.Option.{option_flatten}
+use Rattle.std.proofs.Math.Nat.{suc-mul}
 use Rattle.std.proofs.lemmas.Bool.{cases_lt}
 use Rattle.std.proofs.lemmas.Bool.Decides.{nat_tests}
 use Rattle.dkg_ceremony.specs.Schedule.{epoch_of, last, midpoint}
@@ -188,6 +189,7 @@ module _ (s : Setting) (ends : List (Option CutAt)) (whole : IsWholeHistory s en
         -- it takes part in the same epoch on, or stands at the first height of another
         goes : (block : made.Block U) → m.message ≡ Finalized block → h (suc i) ≡ max (h i) (block.height + 1) → core.awaited_height st ≡ h i → follows s l life (e (suc i)) ≡ false
             → (e (suc i) ≡ e i) ⊎ (h (suc i) ≤ midpoint n (e (suc i)))
+        unfolding at_step
         goes block sent next stands part = by_next (next_so C any_shares st m.message (Some w.held) node.mid (Some new.held) (form_at g here (suc i)) live node.next)
           where
             apart : (node.mid).participation.stage ≡ Follows → ⊥
@@ -207,7 +209,6 @@ module _ (s : Setting) (ends : List (Option CutAt)) (whole : IsWholeHistory s en
                 inr (at_first (subst (λ (x : made.Block U). judged_block C x st ≡ Applied) (sym same_block) over.applied) (subst (λ (x : made.Block U). is_last_height C x.height ≡ true) (sym same_block) over.last))
               where
                 at_first : judged_block C block st ≡ Applied → is_last_height C block.height ≡ true → h (suc i) ≤ midpoint n (e (suc i))
-                unfolding at_step
                 at_first applied at_last =
                     let high : h i ≤ block.height = subst (λ (x : ℕ). x ≤ block.height) stands (applied_high C block st applied) in
                     let same : h (suc i) ≡ block.height + 1 = top (h (suc i)) (h i) (block.height) next high in

@@ -265,6 +265,7 @@ module _ (s : Setting) (ends : List (Option CutAt)) (whole : IsWholeHistory s en
 
           -- it stands at the awaited height, or below the midpoint
           pub level : (block.height ≡ h i) ⊎ (block.height < midpoint n (e i))
+          unfolding at_step
           level = by_tip st.tip refl
             where
               is_under : (t : Bool) (middle height : ℕ) → nat_lt height middle ≡ t → is_early (phase_at middle height) ≡ true → height < middle
@@ -289,7 +290,6 @@ module _ (s : Setting) (ends : List (Option CutAt)) (whole : IsWholeHistory s en
               first_deals none = deals round there (subst (λ (x : ℕ). x < midpoint n (epoch_of n x)) (sym (at_zero none) ∙ stands_at) (half_there (epoch_of n 0 * n) here.long))
 
               windowed : st.tip ≡ None → is_early (phase_at (midpoint n (epoch_of n block.height)) block.height) ≡ true
-              unfolding at_step
               windowed none =
                   (and_parts (epoch_of n block.height == st.participation.epoch) (is_early (phase_at (midpoint n (epoch_of n block.height)) block.height))
                   (subst (λ (x : Stage). is_in_window_in C block st x ≡ true) (first_deals none) ((applied_so C block st applied).anew none))).1
@@ -410,6 +410,7 @@ module _ (s : Setting) (ends : List (Option CutAt)) (whole : IsWholeHistory s en
           module _ (end : Live U) (behind : LogsBehind C st (Finalized block) end) (end_memory : end.records.logs ≡ entries now) (judged : (judged_block C block st ≡ Passed) ⊎ (judged_block C block st ≡ Applied)) where
             -- what it brings is there
             its_here : follows s l life (e i) ≡ false → b (suc i) < e i + 2 → (round : Round) → round_at s (e i) ≡ Some round → HasThoseIn s (e i) round now block.height
+            unfolding at_step
             its_here part left round known = by_place (cases_lt block.height (midpoint n (e i))) (cases_lt block.height (last n (e i)))
               where
                 own : (x : Round) × (st.participation.round ≡ Some x)
@@ -447,7 +448,6 @@ module _ (s : Setting) (ends : List (Option CutAt)) (whole : IsWholeHistory s en
                 applied_so_far late below applied (inr (inr passed_on)) = absurd (at_last (its_epoch applied round there))
                   where
                     at_last : epoch_of n block.height ≡ e i → ⊥
-                    unfolding at_step
                     at_last of = let is : block.height ≡ last n (e i) = equal block.height (last n (e i)) (subst (λ (x : ℕ). (block.height == last n x) ≡ true) of passed_on.last) in omega (arith, is, below)
                       where
                         equal : (x y : ℕ) → (x == y) ≡ true → x ≡ y

@@ -124,10 +124,11 @@ after_line x (Opened life restored) = record { last = None; untold = x.untold }
 after_line x (Committed epoch (Some share)) = record { last = x.last; untold = None }
 after_line x line = x
 
--- a share is told where it was stored
-abbrev pub MaySay : Telling → Line → Type 0
-MaySay x (Committed epoch (Some share)) = x.untold ≡ Some epoch
-MaySay x line = Unit {0}
+-- a share is told where it was stored, and an epoch is committed where this is the last setup
+abbrev pub MaySay : (At : Option (ℕ × Part) → Type 0) → Telling → Line → Type 0
+MaySay At x (Committed epoch (Some share)) = (x.untold ≡ Some epoch) × At x.last
+MaySay At x (Committed epoch None) = At x.last
+MaySay At x line = Unit {0}
 
 abbrev pub after_op : Telling → Operation → Telling
 after_op x (Changes (PutShare epoch share)) = record { last = x.last; untold = Some epoch }
@@ -137,7 +138,7 @@ after_op x op = x
 abbrev pub IsPlain : Line → Type 0
 IsPlain (Setup epoch phase part) = ⊥
 IsPlain (Opened life restored) = ⊥
-IsPlain (Committed epoch (Some share)) = ⊥
+IsPlain (Committed epoch share) = ⊥
 IsPlain line = Unit {0}
 
 abbrev pub Spares : Operation → Type 0
@@ -145,19 +146,17 @@ Spares (Changes (PutShare epoch share)) = ⊥
 Spares (Changes (Prune min)) = ⊥
 Spares op = Unit {0}
 
-plain_keeps : (x : Telling) (line : Line) → IsPlain line → after_line x line ≡ x
+pub plain_keeps : (x : Telling) (line : Line) → IsPlain line → after_line x line ≡ x
 plain_keeps x (Setup epoch phase part) is = absurd is
 plain_keeps x (Opened life restored) is = absurd is
-plain_keeps x (Committed epoch (Some share)) is = absurd is
-plain_keeps x (Committed epoch None) is = refl
+plain_keeps x (Committed epoch share) is = absurd is
 plain_keeps x line is = refl
 
-plain_said : (x : Telling) (line : Line) → IsPlain line → MaySay x line
-plain_said x (Committed epoch (Some share)) is = absurd is
-plain_said x (Committed epoch None) is = tt
-plain_said x line is = tt
+pub plain_said : (At : Option (ℕ × Part) → Type 0) (x : Telling) (line : Line) → IsPlain line → MaySay At x line
+plain_said At x (Committed epoch share) is = absurd is
+plain_said At x line is = tt
 
-spares_keeps : (x : Telling) (op : Operation) → Spares op → after_op x op ≡ x
+pub spares_keeps : (x : Telling) (op : Operation) → Spares op → after_op x op ≡ x
 spares_keeps x (Changes (PutShare epoch share)) is = absurd is
 spares_keeps x (Changes (Prune min)) is = absurd is
 spares_keeps x (Changes (PutSeed epoch seed)) is = refl
@@ -214,14 +213,14 @@ quiet_both L Q (Ask f) so only = λ h. quiet_both L Q (f h) (so h) (only h)
 quiet_both L Q (Goes end) so only = tt
 quiet_both L Q (Stops fault) so only = tt
 
--- the epochs whose shares may be stored, and up to which may be pruned
-module _ (Into : ℕ → Type 0) (most : ℕ) where
+-- the epochs whose shares may be stored, up to which may be pruned, and which setup is the last where an epoch is committed
+module _ (Into : ℕ → Type 0) (most : ℕ) (At : Option (ℕ × Part) → Type 0) where
   abbrev pub MayDo : Telling → Operation → Type 0
   MayDo x (Changes (PutShare epoch share)) = (x.untold ≡ None) × Into epoch
   MayDo x (Changes (Prune min)) = (x.untold ≡ None) × (min ≤ most)
   MayDo x op = Unit {0}
 
-  spares_may : (x : Telling) (op : Operation) → Spares op → MayDo x op
+  pub spares_may : (x : Telling) (op : Operation) → Spares op → MayDo x op
   spares_may x (Changes (PutShare epoch share)) is = absurd is
   spares_may x (Changes (Prune min)) is = absurd is
   spares_may x (Changes (PutSeed epoch seed)) is = tt
@@ -230,7 +229,7 @@ module _ (Into : ℕ → Type 0) (most : ℕ) where
 
   -- WHERE A COURSE LEADS, from what was told and stored before it
   abbrev pub LeadsTo : {Dir F S : Type 0} → (goes : Telling → S → Type 0) → Telling → Course Dir F S → Type 0
-  LeadsTo goes x (Say line course) = MaySay x line × LeadsTo goes (after_line x line) course
+  LeadsTo goes x (Say line course) = MaySay At x line × LeadsTo goes (after_line x line) course
   LeadsTo goes x (Do op course) = MayDo x op × LeadsTo goes (after_op x op) course
   LeadsTo goes x (Call outer course) = LeadsTo goes x course
   LeadsTo goes x (Ask f) = (h : Held) → LeadsTo goes x (f h)
@@ -249,7 +248,7 @@ module _ (Into : ℕ → Type 0) (most : ℕ) where
   -- behind one that leaves it
   leads_behind : {Dir F S T : Type 0} (goes : Telling → T → Type 0) (x : Telling) (course : Course Dir F S) (next : S → Course Dir F T) → IsQuiet course → ((end : S) → LeadsTo goes x (next end)) → LeadsTo goes x (bind course next)
   leads_behind goes x (Say line course) next so more =
-      (plain_said x line so.0, subst (λ (y : Telling). LeadsTo goes y (bind course next)) (sym (plain_keeps x line so.0)) (leads_behind goes x course next so.1 more))
+      (plain_said At x line so.0, subst (λ (y : Telling). LeadsTo goes y (bind course next)) (sym (plain_keeps x line so.0)) (leads_behind goes x course next so.1 more))
   leads_behind goes x (Do op course) next so more =
       (spares_may x op so.0, subst (λ (y : Telling). LeadsTo goes y (bind course next)) (sym (spares_keeps x op so.0)) (leads_behind goes x course next so.1 more))
   leads_behind goes x (Call outer course) next so more = leads_behind goes x course next so more
@@ -278,7 +277,7 @@ module _ (Into : ℕ → Type 0) (most : ℕ) where
   -- by its ends alone, where it leaves it
   quiet_leads : {Dir F S : Type 0} (goes : Telling → S → Type 0) (L : Line → Type 0) (Q : S → Type 0) (x : Telling) (course : Course Dir F S) → SaysSo IsPlain course → OnlySays L Q course → ((end : S) → Q end → goes x end) → LeadsTo goes x course
   quiet_leads goes L Q x (Say line course) so only more =
-      (plain_said x line so.0, subst (λ (y : Telling). LeadsTo goes y course) (sym (plain_keeps x line so.0)) (quiet_leads goes L Q x course so.1 only.1 more))
+      (plain_said At x line so.0, subst (λ (y : Telling). LeadsTo goes y course) (sym (plain_keeps x line so.0)) (quiet_leads goes L Q x course so.1 only.1 more))
   quiet_leads goes L Q x (Do op course) so only more = absurd only
   quiet_leads goes L Q x (Call outer course) so only more = quiet_leads goes L Q x course so only more
   quiet_leads goes L Q x (Ask f) so only more = λ h. quiet_leads goes L Q x (f h) (so h) (only h) more
@@ -416,12 +415,12 @@ module _ {Dir : Type 0} (c : Fixed Dir) where
       (λ end. quiet_if (block.height + 1 == midpoint c.blocks_per_epoch end.participation.epoch) (i.advanced c (s.begins_inclusion c (with_tip block end))) (Goes (with_tip block end))
       (λ e. advanced_plain (s.begins_inclusion c (with_tip block end))) (λ e. tt))
 
-  module _ (Into : ℕ → Type 0) (most : ℕ) where
+  module _ (Into : ℕ → Type 0) (most : ℕ) (At : Option (ℕ × Part) → Type 0) where
     abbrev Leads : {S : Type 0} → (Telling → S → Type 0) → Telling → Course Dir Fault S → Type 0
-    Leads goes x course = LeadsTo Into most goes x course
+    Leads goes x course = LeadsTo Into most At goes x course
 
     abbrev if_so : (x : Telling) (t : Bool) (one other : Course Dir Fault (Live Dir)) → (t ≡ true → Leads IsSetUpBy x one) → (t ≡ false → Leads IsSetUpBy x other) → Leads IsSetUpBy x (if t then one else other)
-    if_so = leads_if Into most IsSetUpBy
+    if_so = leads_if Into most At IsSetUpBy
 
     -- A SETUP
 
@@ -463,40 +462,40 @@ module _ {Dir : Type 0} (c : Fixed Dir) where
         (c.rules.round_of c.namespace now.participation.epoch (Some info.output) c.mode c.reveal (s.participants_of info).dealers (s.participants_of info).players) x none))
 
     -- what is committed is stored and told
-    commits : {S : Type 0} (goes : Telling → S → Type 0) (info : EpochInfo Dir) (seed : List ℕ) (put : Option ℕ) (now : Live Dir) (next : Live Dir → Course Dir Fault S) (x : Telling) → x.untold ≡ None → Into info.epoch
-        → ((y : Telling) → y.untold ≡ None → Leads goes y (next (with_participation (record now.participation { current = Some info }) now))) → Leads goes x (bind (s.commits info seed put now) next)
-    commits goes info seed None now next x none into more = (tt, (tt, more x none))
-    commits goes info seed (Some share) now next x none into more = ((none, into), (tt, (refl, more (record { last = x.last; untold = None }) refl)))
+    commits : {S : Type 0} (goes : Telling → S → Type 0) (info : EpochInfo Dir) (seed : List ℕ) (put : Option ℕ) (now : Live Dir) (next : Live Dir → Course Dir Fault S) (x : Telling) → x.untold ≡ None → At x.last → Into info.epoch
+        → ((y : Telling) → y.untold ≡ None → At y.last → Leads goes y (next (with_participation (record now.participation { current = Some info }) now))) → Leads goes x (bind (s.commits info seed put now) next)
+    commits goes info seed None now next x none at into more = (tt, (at, more x none at))
+    commits goes info seed (Some share) now next x none at into more = ((none, into), (tt, ((refl, at), more (record { last = x.last; untold = None }) refl at)))
 
-    judged : (standing : s.Standing) (info : EpochInfo Dir) (now : Live Dir) (valid : Result (Unit {0}) ParticipantsError) (x : Telling) → x.untold ≡ None → now.participation.epoch - 1 ≤ most → Into info.epoch
+    judged : (standing : s.Standing) (info : EpochInfo Dir) (now : Live Dir) (valid : Result (Unit {0}) ParticipantsError) (x : Telling) → x.untold ≡ None → At x.last → now.participation.epoch - 1 ≤ most → Into info.epoch
         → Leads IsSetUpBy x (s.judged c None standing info now valid)
-    judged standing info now (Err e) x none low into = tt
-    judged s.WasCommitted info now (Ok passed) x none low into = λ h. behind_prune info (s.recovered_share c (c.seen h) info) (s.seed_for c info.epoch (lookup info.epoch (c.seen h).seeds)) now x none low
-    judged s.Uncommitted info now (Ok passed) x none low into = λ h.
+    judged standing info now (Err e) x none at low into = tt
+    judged s.WasCommitted info now (Ok passed) x none at low into = λ h. behind_prune info (s.recovered_share c (c.seen h) info) (s.seed_for c info.epoch (lookup info.epoch (c.seen h).seeds)) now x none low
+    judged s.Uncommitted info now (Ok passed) x none at low into = λ h.
         let share : Option ℕ = s.recovered_share c (c.seen h) info in
         let seed : List ℕ = s.seed_for c info.epoch (lookup info.epoch (c.seen h).seeds) in
         let last : Live Dir → Course Dir Fault (Live Dir) = λ st. bind (s.prunes (st.participation.epoch - 1) st) (λ st. if s.is_late_floor c None then s.follows c st else s.draws_up c (s.participants_of info) (Some info.output) share seed st) in
-        leads_then Into most (λ y end. (y.untold ≡ None) × (end.participation.epoch ≡ now.participation.epoch)) IsSetUpBy x (bind (s.commits info seed share now) (λ st. s.registers c info share st)) last
-        (commits (λ y end. (y.untold ≡ None) × (end.participation.epoch ≡ now.participation.epoch)) info seed share now (λ st. s.registers c info share st) x none into (λ y none. (tt, (none, refl))))
+        leads_then Into most At (λ y end. (y.untold ≡ None) × (end.participation.epoch ≡ now.participation.epoch)) IsSetUpBy x (bind (s.commits info seed share now) (λ st. s.registers c info share st)) last
+        (commits (λ y end. (y.untold ≡ None) × (end.participation.epoch ≡ now.participation.epoch)) info seed share now (λ st. s.registers c info share st) x none at into (λ y none at. (tt, (none, refl))))
         (λ y end so. behind_prune info share seed end y so.0 (subst (λ (e : ℕ). e - 1 ≤ most) (sym so.1) low))
 
-    with_info : (standing : s.Standing) (info : EpochInfo Dir) (now : Live Dir) (x : Telling) → x.untold ≡ None → now.participation.epoch - 1 ≤ most → Into now.participation.epoch → Leads IsSetUpBy x (s.with_info c None standing info now)
-    with_info standing info now x none low into =
+    with_info : (standing : s.Standing) (info : EpochInfo Dir) (now : Live Dir) (x : Telling) → x.untold ≡ None → At x.last → now.participation.epoch - 1 ≤ most → Into now.participation.epoch → Leads IsSetUpBy x (s.with_info c None standing info now)
+    with_info standing info now x none at low into =
         if_so x (info.epoch == now.participation.epoch) (s.judged c None standing info now (validity c info)) (Stops (WrongEpoch now.participation.epoch info.epoch))
-        (λ e. judged standing info now (validity c info) x none low (subst Into (sym (same_number info.epoch now.participation.epoch e)) into)) (λ e. tt)
+        (λ e. judged standing info now (validity c info) x none at low (subst Into (sym (same_number info.epoch now.participation.epoch e)) into)) (λ e. tt)
 
     -- (without its boundary block there is no round)
-    from_boundary : (found : Option (Block Dir)) (now : Live Dir) (x : Telling) → x.untold ≡ None → now.participation.epoch - 1 ≤ most → Into now.participation.epoch → now.participation.round ≡ None → Leads IsSetUpBy x (s.from_boundary c found now)
-    from_boundary None now x untold low into none = (tt, ((λ round there. absurd (none_round (sym none ∙ there))), untold))
-    from_boundary (Some block) now x untold low into none =
-        leads_option Into most IsSetUpBy x (λ (info : EpochInfo Dir). s.with_info c None s.Uncommitted info now) (info_of block.payload) (Stops (MissingEpochInfo block.height)) (λ info. with_info s.Uncommitted info now x untold low into) tt
+    from_boundary : (found : Option (Block Dir)) (now : Live Dir) (x : Telling) → x.untold ≡ None → At x.last → now.participation.epoch - 1 ≤ most → Into now.participation.epoch → now.participation.round ≡ None → Leads IsSetUpBy x (s.from_boundary c found now)
+    from_boundary None now x untold at low into none = (tt, ((λ round there. absurd (none_round (sym none ∙ there))), untold))
+    from_boundary (Some block) now x untold at low into none =
+        leads_option Into most At IsSetUpBy x (λ (info : EpochInfo Dir). s.with_info c None s.Uncommitted info now) (info_of block.payload) (Stops (MissingEpochInfo block.height)) (λ info. with_info s.Uncommitted info now x untold at low into) tt
 
-    sets_up : (committed : Option (EpochInfo Dir)) (now : Live Dir) (x : Telling) → x.untold ≡ None → now.participation.epoch - 1 ≤ most → Into now.participation.epoch → now.participation.round ≡ None → Leads IsSetUpBy x (s.sets_up_by c None committed now)
-    sets_up (Some info) now x untold low into none = with_info s.WasCommitted info now x untold low into
-    sets_up None now x untold low into none = from_boundary (c.source.block (boundary c.blocks_per_epoch now.participation.epoch)) now x untold low into none
+    sets_up : (committed : Option (EpochInfo Dir)) (now : Live Dir) (x : Telling) → x.untold ≡ None → At x.last → now.participation.epoch - 1 ≤ most → Into now.participation.epoch → now.participation.round ≡ None → Leads IsSetUpBy x (s.sets_up_by c None committed now)
+    sets_up (Some info) now x untold at low into none = with_info s.WasCommitted info now x untold at low into
+    sets_up None now x untold at low into none = from_boundary (c.source.block (boundary c.blocks_per_epoch now.participation.epoch)) now x untold at low into none
 
-    setup_so : (now : Live Dir) (x : Telling) → x.untold ≡ None → epoch_of c.blocks_per_epoch (awaited_height now) - 1 ≤ most → Into (epoch_of c.blocks_per_epoch (awaited_height now)) → Leads IsSetUpBy x (s.setup c None now)
-    setup_so now x none low into = if_so x (s.is_past_range c (awaited_height now)) (Stops HeightRange) (s.sets_up c None now) (λ e. tt) (λ e. sets_up (s.committed_info (s.anew c now)) (s.anew c now) x none low into refl)
+    setup_so : (now : Live Dir) (x : Telling) → x.untold ≡ None → At x.last → epoch_of c.blocks_per_epoch (awaited_height now) - 1 ≤ most → Into (epoch_of c.blocks_per_epoch (awaited_height now)) → Leads IsSetUpBy x (s.setup c None now)
+    setup_so now x none at low into = if_so x (s.is_past_range c (awaited_height now)) (Stops HeightRange) (s.sets_up c None now) (λ e. tt) (λ e. sets_up (s.committed_info (s.anew c now)) (s.anew c now) x none at low into refl)
 
     module _ (form : IsForm c) where
       -- AN OPENING of the form
@@ -504,52 +503,52 @@ module _ {Dir : Type 0} (c : Fixed Dir) where
       abbrev begins : ℕ
       begins = option_map_or (λ t. t.height + 1) (startup c.source.anchor None) 0
 
-      opening_so : epoch_of c.blocks_per_epoch begins - 1 ≤ most → Into (epoch_of c.blocks_per_epoch begins) → (x : Telling) → x.untold ≡ None → Leads IsSetUpBy x (opening c)
-      opening_so low into x none = (tt, (tt, λ h. (tt, opens (begun (c.seen h)) (record { last = None; untold = x.untold }) none)))
+      opening_so : At None → epoch_of c.blocks_per_epoch begins - 1 ≤ most → Into (epoch_of c.blocks_per_epoch begins) → (x : Telling) → x.untold ≡ None → Leads IsSetUpBy x (opening c)
+      opening_so at low into x none = (tt, (tt, λ h. (tt, opens (begun (c.seen h)) (record { last = None; untold = x.untold }) none at)))
         where
-          opens : (now : Live Dir) (y : Telling) → y.untold ≡ None → Leads IsSetUpBy y (opens_in c c.oneshot now)
-          opens now y none = subst (λ (o : Option (OneShot Dir)). Leads IsSetUpBy y (opens_in c o now)) (sym form.reshare)
+          opens : (now : Live Dir) (y : Telling) → y.untold ≡ None → At y.last → Leads IsSetUpBy y (opens_in c c.oneshot now)
+          opens now y none its = subst (λ (o : Option (OneShot Dir)). Leads IsSetUpBy y (opens_in c o now)) (sym form.reshare)
               (subst (λ (m : Option (Material Dir)). Leads IsSetUpBy y (p.finds_material c m (λ found. p.in_range c (p.resolves_plan c (p.starts_from c now) found)))) (sym form.bare)
               (λ h. subst (λ (found : Option (List ℕ)). Leads IsSetUpBy y (p.reads_plan c found (λ found. p.in_range c (p.resolves_plan c (p.starts_from c now) found)))) (sym (form.unplanned h))
               (if_so y (option_map_or (λ t. s.is_past_range c (t.height + 1)) (start c) false) (Stops HeightRange) (p.starts_from c now None) (λ e. tt)
-              (λ e. setup_so (record now { tip = startup c.source.anchor None }) y none low into))))
+              (λ e. setup_so (record now { tip = startup c.source.anchor None }) y none its low into))))
 
       -- AN EPOCH'S LAST BLOCK
 
       module _ (block : Block Dir) (low : epoch_of c.blocks_per_epoch (block.height + 1) - 1 ≤ most) (into : Into (epoch_of c.blocks_per_epoch (block.height + 1))) (into_next : Into (b.expected_epoch c block.height)) where
-        next_setup : (outcome : Option (EpochInfo Dir)) (queue : List (Request Dir)) (now : Live Dir) (x : Telling) → x.untold ≡ None → now.tip ≡ Some (record { height = block.height; digest = block.digest })
+        next_setup : (outcome : Option (EpochInfo Dir)) (queue : List (Request Dir)) (now : Live Dir) (x : Telling) → x.untold ≡ None → At x.last → now.tip ≡ Some (record { height = block.height; digest = block.digest })
             → Leads IsSetUpBy x (bind (b.answers_all queue now) (λ now. if is_some c.oneshot then b.ends_once c outcome now else s.setup c None now))
-        next_setup outcome [] now x none tip =
+        next_setup outcome [] now x none at tip =
             subst (λ (o : Option (OneShot Dir)). Leads IsSetUpBy x (if is_some o then b.ends_once c outcome (with_queue [] now) else s.setup c None (with_queue [] now))) (sym form.reshare)
-            (setup_so (with_queue [] now) x none (subst (λ (h : ℕ). epoch_of c.blocks_per_epoch h - 1 ≤ most) (sym awaited) low) (subst (λ (h : ℕ). Into (epoch_of c.blocks_per_epoch h)) (sym awaited) into))
+            (setup_so (with_queue [] now) x none at (subst (λ (h : ℕ). epoch_of c.blocks_per_epoch h - 1 ≤ most) (sym awaited) low) (subst (λ (h : ℕ). Into (epoch_of c.blocks_per_epoch h)) (sym awaited) into))
           where
             awaited : awaited_height now ≡ block.height + 1
             awaited = ap (λ (o : Option Tip). option_map_or (λ t. t.height + 1) o 0) tip
-        next_setup outcome (r ∷ rs) now x none tip = (tt, next_setup outcome rs (with_told r.number (GaveNone Finished) now) x none tip)
+        next_setup outcome (r ∷ rs) now x none at tip = (tt, next_setup outcome rs (with_told r.number (GaveNone Finished) now) x none at tip)
 
-        passes_on : (outcome : Option (EpochInfo Dir)) (now : Live Dir) (x : Telling) → x.untold ≡ None → Leads IsSetUpBy x (b.passes_on c block outcome now)
-        passes_on outcome now x none = next_setup outcome now.inclusion.queue (with_tip block now) x none refl
+        passes_on : (outcome : Option (EpochInfo Dir)) (now : Live Dir) (x : Telling) → x.untold ≡ None → At x.last → Leads IsSetUpBy x (b.passes_on c block outcome now)
+        passes_on outcome now x none at = next_setup outcome now.inclusion.queue (with_tip block now) x none at refl
 
-        takes_over : (info : EpochInfo Dir) (put : Option ℕ) (now : Live Dir) (x : Telling) → x.untold ≡ None → Into info.epoch → Leads IsSetUpBy x (b.takes_over c block info put now)
-        takes_over info put now x none its = λ h.
+        takes_over : (info : EpochInfo Dir) (put : Option ℕ) (now : Live Dir) (x : Telling) → x.untold ≡ None → At x.last → Into info.epoch → Leads IsSetUpBy x (b.takes_over c block info put now)
+        takes_over info put now x none at its = λ h.
             let seed : List ℕ = s.seed_for c info.epoch (lookup info.epoch (c.seen h).seeds) in
             let life : Live Dir = with_participation (record now.participation { current = Some info }) now in
-            commits IsSetUpBy info seed put now (λ now. bind (if is_some c.oneshot then Goes now else s.registers c info put now) (λ now. b.passes_on c block (Some info) now)) x none its
-            (λ y untold. subst (λ (o : Option (OneShot Dir)). Leads IsSetUpBy y (bind (if is_some o then Goes life else s.registers c info put life) (λ now. b.passes_on c block (Some info) now))) (sym form.reshare)
-            (tt, passes_on (Some info) (s.with_registered info.epoch (s.scheme_for c info put) life) y untold))
+            commits IsSetUpBy info seed put now (λ now. bind (if is_some c.oneshot then Goes now else s.registers c info put now) (λ now. b.passes_on c block (Some info) now)) x none at its
+            (λ y untold at. subst (λ (o : Option (OneShot Dir)). Leads IsSetUpBy y (bind (if is_some o then Goes life else s.registers c info put life) (λ now. b.passes_on c block (Some info) now))) (sym form.reshare)
+            (tt, passes_on (Some info) (s.with_registered info.epoch (s.scheme_for c info put) life) y untold at))
 
         carried : (f : EpochInfo Dir → Course Dir Fault (Live Dir)) (x : Telling) → ((info : EpochInfo Dir) → Into info.epoch → Leads IsSetUpBy x (f info)) → Leads IsSetUpBy x (b.carried c block f)
         carried f x so =
-            leads_option Into most IsSetUpBy x (λ (info : EpochInfo Dir). if info.epoch == b.expected_epoch c block.height then f info else Stops (WrongEpoch (b.expected_epoch c block.height) info.epoch)) (info_of block.payload) (Stops (MissingEpochInfo block.height))
+            leads_option Into most At IsSetUpBy x (λ (info : EpochInfo Dir). if info.epoch == b.expected_epoch c block.height then f info else Stops (WrongEpoch (b.expected_epoch c block.height) info.epoch)) (info_of block.payload) (Stops (MissingEpochInfo block.height))
             (λ info. if_so x (info.epoch == b.expected_epoch c block.height) (f info) (Stops (WrongEpoch (b.expected_epoch c block.height) info.epoch))
             (λ e. so info (subst Into (sym (same_number info.epoch (b.expected_epoch c block.height) e)) into_next)) (λ e. tt)) tt
 
-        concludes : (made : Artifact Dir) (now : Live Dir) (x : Telling) → x.untold ≡ None → Leads IsSetUpBy x (b.concludes c block made now)
-        concludes made now x none =
+        concludes : (made : Artifact Dir) (now : Live Dir) (x : Telling) → x.untold ≡ None → At x.last → Leads IsSetUpBy x (b.concludes c block made now)
+        concludes made now x none at =
             if_so x (is_some c.oneshot && is_none block.payload) (if is_some made.info then Stops (LocalState OutcomeOmitted) else b.passes_on c block None now)
             (b.carried c block (λ info. b.takes_over c block info (b.share_for c info made) now))
-            (λ e. if_so x (is_some made.info) (Stops (LocalState OutcomeOmitted)) (b.passes_on c block None now) (λ e. tt) (λ e. passes_on None now x none))
-            (λ e. carried (λ info. b.takes_over c block info (b.share_for c info made) now) x (λ info its. takes_over info (b.share_for c info made) now x none its))
+            (λ e. if_so x (is_some made.info) (Stops (LocalState OutcomeOmitted)) (b.passes_on c block None now) (λ e. tt) (λ e. passes_on None now x none at))
+            (λ e. carried (λ info. b.takes_over c block info (b.share_for c info made) now) x (λ info its. takes_over info (b.share_for c info made) now x none at its))
 
         -- the artifact tells nothing on the way
         module _ (x : Telling) (next : Next Dir) (so : (made : Artifact Dir) (now : Live Dir) → Leads IsSetUpBy x (next made now)) where
@@ -580,11 +579,11 @@ module _ {Dir : Type 0} (c : Fixed Dir) where
           artifact_so r (Some made) now = so made now
           artifact_so r None now =
               subst (λ (o : Option (OneShot Dir)). Leads IsSetUpBy x (i.derives c o r now next)) (sym form.reshare)
-              (leads_option Into most IsSetUpBy x (λ (info : EpochInfo Dir). i.derives_next c info r now (i.keeping r.logs next)) now.participation.current (Stops HeightRange) (λ info. derives_next info r now) tt)
+              (leads_option Into most At IsSetUpBy x (λ (info : EpochInfo Dir). i.derives_next c info r now (i.keeping r.logs next)) now.participation.current (Stops HeightRange) (λ info. derives_next info r now) tt)
 
-        module _ (round : Round) (x : Telling) (none : x.untold ≡ None) where
+        module _ (round : Round) (x : Telling) (none : x.untold ≡ None) (at : At x.last) where
           by_result : (r : VerifiedLogs) (now : Live Dir) → Leads IsSetUpBy x (i.artifact c r now (b.concludes c block))
-          by_result r now = artifact_so x (b.concludes c block) (λ made end. concludes made end x none) r (cached_for now.inclusion.cached r.logs) now
+          by_result r now = artifact_so x (b.concludes c block) (λ made end. concludes made end x none at) r (cached_for now.inclusion.cached r.logs) now
 
           starts_quiet : (job : Job) (waiter refused : Option ℕ) (now : Live Dir) → IsQuiet (i.starts_unless job waiter refused now)
           starts_quiet job waiter (Some who) now = tt
@@ -594,56 +593,56 @@ module _ {Dir : Type 0} (c : Fixed Dir) where
           derives_now logs (Some r) now = by_result r now
           derives_now logs None now =
               let found : VerifiedLogs = i.verified c (i.job_for c round logs now) in
-              leads_behind Into most IsSetUpBy x (i.starts_verifying c round logs None now) (λ now. i.artifact c found (i.retains c found now) (b.concludes c block))
+              leads_behind Into most At IsSetUpBy x (i.starts_verifying c round logs None now) (λ now. i.artifact c found (i.retains c found now) (b.concludes c block))
               (starts_quiet (i.job_for c round logs now) None (if i.can_finish c round logs now then s.refused_in c round now else None) now) (λ end. by_result found (i.retains c found end))
 
           concludes_by : (logs : LogMap) (before now : Option (Artifact Dir)) (life : Live Dir) → Leads IsSetUpBy x (b.concludes_by c round block logs before now life)
-          concludes_by logs (Some made) now life = concludes made life x none
-          concludes_by logs None (Some made) life = concludes made life x none
+          concludes_by logs (Some made) now life = concludes made life x none at
+          concludes_by logs None (Some made) life = concludes made life x none at
           concludes_by logs None None life = derives_now logs (i.retained_for life.inclusion.retained logs) life
 
           final_so : (st : Live Dir) → Leads IsSetUpBy x (b.final_block c round block st)
           final_so st =
-              leads_behind Into most IsSetUpBy x (i.ends_verifying c None st)
+              leads_behind Into most At IsSetUpBy x (i.ends_verifying c None st)
               (λ now. b.concludes_by c round block (canonical c st) (cached_for st.inclusion.cached (canonical c st)) (cached_for now.inclusion.cached (canonical c st)) now)
               (quiet_only IsAskedLine (idle.Beside c st) (i.ends_verifying c None st) asked_plain (idle.ends c st None st.inclusion.running))
               (λ end. concludes_by (canonical c st) (cached_for st.inclusion.cached (canonical c st)) (cached_for end.inclusion.cached (canonical c st)) end)
 
-        follows_so : (st : Live Dir) (x : Telling) → x.untold ≡ None → Leads IsSetUpBy x (b.carried c block (λ info. b.follows_into c block info st))
-        follows_so st x none = carried (λ info. b.follows_into c block info st) x (λ info its h.
+        follows_so : (st : Live Dir) (x : Telling) → x.untold ≡ None → At x.last → Leads IsSetUpBy x (b.carried c block (λ info. b.follows_into c block info st))
+        follows_so st x none at = carried (λ info. b.follows_into c block info st) x (λ info its h.
             let share : Option ℕ = s.recovered_share c (c.seen h) info in
-            commits IsSetUpBy info (s.seed_for c info.epoch (lookup info.epoch (c.seen h).seeds)) share st (λ st. bind (s.registers c info share st) (λ st. s.setup c None (with_tip block st))) x none its
-            (λ y untold. (tt, setup_so (with_tip block (s.with_registered info.epoch (s.scheme_for c info share) (with_participation (record st.participation { current = Some info }) st))) y untold low into)))
+            commits IsSetUpBy info (s.seed_for c info.epoch (lookup info.epoch (c.seen h).seeds)) share st (λ st. bind (s.registers c info share st) (λ st. s.setup c None (with_tip block st))) x none at its
+            (λ y untold at. (tt, setup_so (with_tip block (s.with_registered info.epoch (s.scheme_for c info share) (with_participation (record st.participation { current = Some info }) st))) y untold at low into)))
 
-        taken_so : (st : Live Dir) (x : Telling) → x.untold ≡ None → is_last_height c block.height ≡ true → (st.participation.stage ≡ Follows) ⊎ ((st.participation.stage ≡ Includes) × ((round : Round) × (st.participation.round ≡ Some round)))
+        taken_so : (st : Live Dir) (x : Telling) → x.untold ≡ None → At x.last → is_last_height c block.height ≡ true → (st.participation.stage ≡ Follows) ⊎ ((st.participation.stage ≡ Includes) × ((round : Round) × (st.participation.round ≡ Some round)))
             → Leads IsSetUpBy x (b.applies c block st)
-        taken_so st x none ends (inl at) =
+        taken_so st x none its ends (inl at) =
             subst (λ (stage : Stage). Leads IsSetUpBy x (b.applies_in c block st stage)) (sym at)
-            (subst (λ (t : Bool). Leads IsSetUpBy x (if t then b.carried c block (λ info. b.follows_into c block info st) else Goes (with_tip block st))) (sym ends) (follows_so st x none))
-        taken_so st x none ends (inr (at, (round, there))) =
+            (subst (λ (t : Bool). Leads IsSetUpBy x (if t then b.carried c block (λ info. b.follows_into c block info st) else Goes (with_tip block st))) (sym ends) (follows_so st x none its))
+        taken_so st x none its ends (inr (at, (round, there))) =
             subst (λ (stage : Stage). Leads IsSetUpBy x (b.applies_in c block st stage)) (sym at)
             (subst (λ (o : Option Round). Leads IsSetUpBy x (option_map_or (λ round. if is_last_height c block.height then b.final_block c round block st else b.includes c round block st) o (Goes st))) (sym there)
-            (subst (λ (t : Bool). Leads IsSetUpBy x (if t then b.final_block c round block st else b.includes c round block st)) (sym ends) (final_so round x none st)))
+            (subst (λ (t : Bool). Leads IsSetUpBy x (if t then b.final_block c round block st else b.includes c round block st)) (sym ends) (final_so round x none its st)))
 
     -- behind the reshare half
-    behind_half : (x : Telling) (end : Live Dir) (course : Course Dir NodeStop (Live Dir)) → SaysSo IsPlain course → OnlySays IsAside (IsSameBeside end) course → IsSetUpBy x end → LeadsTo Into most IsSetUpBy x course
+    behind_half : (x : Telling) (end : Live Dir) (course : Course Dir NodeStop (Live Dir)) → SaysSo IsPlain course → OnlySays IsAside (IsSameBeside end) course → IsSetUpBy x end → LeadsTo Into most At IsSetUpBy x course
     behind_half x end course says only so =
-        quiet_leads Into most IsSetUpBy IsAside (IsSameBeside end) x course says only
+        quiet_leads Into most At IsSetUpBy IsAside (IsSameBeside end) x course says only
         (λ left same. (still_seated x.last end left (ap (λ (y : Live Dir). y.participation.round) same) (ap (λ (y : Live Dir). y.participation.epoch) same) (ap (λ (y : Live Dir). y.participation.seat) same) so.0, so.1))
 
     -- A NODE'S OPENING
-    pub opening_leads : (form : IsForm c) → epoch_of c.blocks_per_epoch (option_map_or (λ t. t.height + 1) (startup c.source.anchor None) 0) - 1 ≤ most → Into (epoch_of c.blocks_per_epoch (option_map_or (λ t. t.height + 1) (startup c.source.anchor None) 0))
-        → (x : Telling) → x.untold ≡ None → LeadsTo Into most IsSetUpBy x (node_opening c)
-    opening_leads form low into x none =
-        leads_then Into most IsSetUpBy IsSetUpBy x (under Faulted (opening c)) (λ st. unless_once c (kept_material c st) (Goes st)) (leads_under Into most IsSetUpBy Faulted x (opening c) (opening_so form low into x none))
+    pub opening_leads : (form : IsForm c) → At None → epoch_of c.blocks_per_epoch (option_map_or (λ t. t.height + 1) (startup c.source.anchor None) 0) - 1 ≤ most → Into (epoch_of c.blocks_per_epoch (option_map_or (λ t. t.height + 1) (startup c.source.anchor None) 0))
+        → (x : Telling) → x.untold ≡ None → LeadsTo Into most At IsSetUpBy x (node_opening c)
+    opening_leads form at low into x none =
+        leads_then Into most At IsSetUpBy IsSetUpBy x (under Faulted (opening c)) (λ st. unless_once c (kept_material c st) (Goes st)) (leads_under Into most At IsSetUpBy Faulted x (opening c) (opening_so form at low into x none))
         (λ y st so. behind_half y st (unless_once c (kept_material c st) (Goes st)) (halves.behind_opening c IsPlain (λ epoch. tt) tt (λ height. tt) st) (opened_aside c st) so)
 
     -- .. and its step by an epoch's last block that is taken over
     pub taken_leads : (form : IsForm c) (block : Block Dir) → epoch_of c.blocks_per_epoch (block.height + 1) - 1 ≤ most → Into (epoch_of c.blocks_per_epoch (block.height + 1)) → Into (b.expected_epoch c block.height) → (st : Live Dir) (x : Telling)
-        → x.untold ≡ None → judged_block c block st ≡ Applied → is_last_height c block.height ≡ true → (st.participation.stage ≡ Follows) ⊎ ((st.participation.stage ≡ Includes) × ((round : Round) × (st.participation.round ≡ Some round)))
-        → LeadsTo Into most IsSetUpBy x (node_step c (event_of (Finalized block)) st)
-    taken_leads form block low into into_next st x none applied ends at =
-        leads_then Into most IsSetUpBy IsSetUpBy x (under Faulted (step c (Finalized block) st)) behind (leads_under Into most IsSetUpBy Faulted x (step c (Finalized block) st) half)
+        → x.untold ≡ None → At x.last → judged_block c block st ≡ Applied → is_last_height c block.height ≡ true → (st.participation.stage ≡ Follows) ⊎ ((st.participation.stage ≡ Includes) × ((round : Round) × (st.participation.round ≡ Some round)))
+        → LeadsTo Into most At IsSetUpBy x (node_step c (event_of (Finalized block)) st)
+    taken_leads form block low into into_next st x none its applied ends at =
+        leads_then Into most At IsSetUpBy IsSetUpBy x (under Faulted (step c (Finalized block) st)) behind (leads_under Into most At IsSetUpBy Faulted x (step c (Finalized block) st) half)
         (λ y st so. behind_half y st (behind st) (halves.behind_block c IsPlain (λ epoch. tt) tt (λ height. tt) block st) (block_aside c block st) so)
       where
         abbrev behind : Live Dir → Course Dir NodeStop (Live Dir)
@@ -654,8 +653,8 @@ module _ {Dir : Type 0} (c : Fixed Dir) where
         never_ends (inr includes) is = let wrong : ◌≡◌ {A = Stage} Ends Includes = sym is ∙ includes.0 in cc
 
         half : Leads IsSetUpBy x (step c (Finalized block) st)
-        half = judged_is c block st (λ course. Leads IsSetUpBy x course) (λ t one other yes no. leads_if Into most IsSetUpBy x t one other yes no) (λ fault is. tt)
-            (λ is. absurd (let wrong : ◌≡◌ {A = Judged} Passed Applied = sym is ∙ applied in cc)) (λ is. taken_so form block low into into_next st x none ends at) (λ is. absurd (never_ends at is))
+        half = judged_is c block st (λ course. Leads IsSetUpBy x course) (λ t one other yes no. leads_if Into most At IsSetUpBy x t one other yes no) (λ fault is. tt)
+            (λ is. absurd (let wrong : ◌≡◌ {A = Judged} Passed Applied = sym is ∙ applied in cc)) (λ is. taken_so form block low into into_next st x none its ends at) (λ is. absurd (never_ends at is))
 
   -- ANY OTHER STEP leaves all that
 

@@ -1,5 +1,5 @@
 -- What a life of a script is asked, and what it was fed: the blocks of a request, as a scan reads them, and the logs that these make.
-use Rattle.std.specs.Prelude.{ℕ, ◌≡◌, ◌+◌, ◌-◌, ◌≤◌, ◌==◌, ◌⊎◌, Contains, fold, length, List, ◌∷◌, ◌++◌, Option, slice_get, reverse, take, option_map, IsSomeAnd, if◌then◌else◌}
+use Rattle.std.specs.Prelude.{ℕ, ◌≡◌, ◌+◌, ◌-◌, ◌≤◌, ◌==◌, ◌⊎◌, Contains, fold, length, List, ◌∷◌, ◌++◌, Option, Some, slice_get, reverse, take, option_map, IsSomeAnd, if◌then◌else◌}
 use Rattle.dkg_ceremony.specs.declared.epocher.Bounds.{Bounds}
 use Rattle.dkg_ceremony.specs.declared.round.RoundParts.{RoundParts as Round}
 use Rattle.dkg_ceremony.specs.Outcomes.{LogMap, outcome_of}
