@@ -65,9 +65,9 @@ none_some : {A : Type 0} {x : A} → ◌≡◌ {A = Option A} None (Some x) → 
 none_some e = cc
 
 -- what is looked at by the same records
-looked_as : (brings : ℕ → Option (ℕ × DealerLog)) (Early : ℕ → Type 0) (one now other then : ℕ → Option RecordedLog) (height : ℕ) → ((d : ℕ) → one d ≡ other d) → ((d : ℕ) → now d ≡ then d)
-    → IsLookedAt brings Early one now height → IsLookedAt brings Early other then height
-looked_as brings Early one now other then height same same_now looked = record {
+looked_as : (brings : ℕ → Option (ℕ × DealerLog)) (Early : ℕ → Type 0) (one now other later : ℕ → Option RecordedLog) (height : ℕ) → ((d : ℕ) → one d ≡ other d) → ((d : ℕ) → now d ≡ later d)
+    → IsLookedAt brings Early one now height → IsLookedAt brings Early other later height
+looked_as brings Early one now other later height same same_now looked = record {
   brought = λ dealer log is. sym (same_now dealer) ∙ looked.brought dealer log is ∙ ap (λ (o : Option RecordedLog). Some (first_of_both o (recorded_log height log))) (same dealer);
   others = λ dealer none. sym (same_now dealer) ∙ looked.others dealer none ∙ same dealer;
 }

@@ -314,7 +314,7 @@ module _ (s : Setting) (ends : List (Option CutAt)) (whole : IsWholeHistory s en
           -- .. and below the last one, unless it is that
           pub not_last : is_last_height C block.height ≡ false → block.height < last n (e i)
           unfolding at_step
-          not_last no = less (e i * n) n block.height (subst (λ (x : ℕ). block.height < x * n + n) its_epoch (epoch_to n block.height some)) (other block.height (last n (e i)) (subst (λ (x : ℕ). (block.height == last n x) ≡ false) its_epoch no))
+          not_last before = less (e i * n) n block.height (subst (λ (x : ℕ). block.height < x * n + n) its_epoch (epoch_to n block.height some)) (other block.height (last n (e i)) (subst (λ (x : ℕ). (block.height == last n x) ≡ false) its_epoch before))
             where
               other : (x y : ℕ) → (x == y) ≡ false → x ≡ y → ⊥
               other x y test same = bools_apart (x == y) (grind (arith, nat_tests)) test
@@ -472,12 +472,15 @@ module _ (s : Setting) (ends : List (Option CutAt)) (whole : IsWholeHistory s en
                     let number_at : ◌≡◌ {A = Option script.Event} (Some (event.Final number)) (Some (event.Final given.number)) = sym its_is ∙ ap (event_of_step life) (sym of) ∙ given.is in
                     let same_block : given.block ≡ seen_block unit_spelling block = some_is (sym given.block_is ∙ ap (block_at s) (sym (the_number number_at)) ∙ seen_there) in
                     let same_height : block.height ≡ height = sym (ap (λ (x : Block). x.height) same_block) ∙ given.height_is in
-                    let same_epoch : e i ≡ epoch = ap (λ (x : ℕ). awaited_epoch s l life (x - 1)) (sym of) ∙ given.awaited in
+                    let same_epoch : e i ≡ epoch = ap (λ (x : ℕ). awaited_epoch s l life x) (sym back) ∙ ap (λ (x : ℕ). awaited_epoch s l life (x - 1)) (sym of) ∙ given.awaited in
                     subst (λ (x : ℕ). HasThoseIn s epoch round now x) same_height
                     (subst (λ (x : ℕ). HasThoseIn s x round now block.height) same_epoch
                     (its_here (subst (λ (x : ℕ). follows s l life x ≡ false) (sym same_epoch) given.took_part) (subst (λ (x : ℕ). b (suc i) < x + 2) (sym same_epoch) left) round
                     (subst (λ (x : ℕ). round_at s x ≡ Some round) (sym same_epoch) known)))
                   where
+                    back : suc i - 1 ≡ i
+                    back = omega arith
+
                     the_number : {x y : ℕ} → ◌≡◌ {A = Option script.Event} (Some (event.Final x)) (Some (event.Final y)) → x ≡ y
                     the_number e = cc
 
