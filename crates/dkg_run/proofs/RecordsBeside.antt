@@ -83,10 +83,10 @@ module _ (s : Setting) (ends : List (Option CutAt)) (reshares : is_oneshot s ≡
     abbrev g : Lived
     g = lived s.script l life seen files
 
-    here : IsLifeInForm g
+    abbrev here : IsLifeInForm g
     here = (meant l life seen files life_is reads).0
 
-    its_own : IsLifeOfSetting s ends g
+    abbrev its_own : IsLifeOfSetting s ends g
     its_own = (meant l life seen files life_is reads).1
 
     abbrev logs : World → Notes RecordedLog
