@@ -53,13 +53,13 @@ module _ (s : Setting) (built : IsGivenSetting s) (no_plans : s.plans ≡ []) (a
       → LeadsOn s E ends reshares consistent its_given Between Here l life seen files life_is reads cuts back) where
     pub each_told : (marks : Type 0) (answered : Result (Unit {0}) Fault) (old_out new_out : List Entry) (secrets_now : Secrets) → new_out ≡ old_out ++ added → Between marks 0 (begins old_out) []
         → (c : Files) → RunsOver s.script answered s.files (begins old_out) (λ f. at (moment new_out secrets_now f) c) → EachTold s E marks [] added
+    unfolding progress
     each_told marks answered old_out new_out secrets_now is first c run = subst (EachTold s E marks []) same told.each
       where
         new : World
         new = at (moment new_out secrets_now run.fuse) c
 
         end_so : (its : List Entry) → new_out ≡ old_out ++ its → (fold (read s) (at_start s) its).cuts ≡ ends
-        unfolding progress
         end_so its out = ap (λ (xs : List Entry). (fold (read s) (at_start s) xs).cuts) (same_behind old_out its added (sym out ∙ is))
 
         told : Told s E marks [] old_out new_out (λ later b. Unit {0})
