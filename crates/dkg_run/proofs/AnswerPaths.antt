@@ -1,5 +1,5 @@
 -- The logs that a request was answered by, where what was recorded is what the chain brings up to the tip: those of a path, the chain's blocks from the midpoint on and above them what the request was fed.
-use Rattle.std.proofs.Common.{◌≡◌, ◌⊎◌, inl, inr, ℕ, zero, suc, ◌+◌, ◌-◌, ◌*◌, ◌/◌, ◌<◌, ◌≤◌, ◌==◌, ◌&&◌, Bool, true, false, nat_le, List, [], ◌∷◌, ◌++◌, Option, Some, None, arith, refl, sym, ◌∙◌, ap, subst, length, map, filter_map, add-one, append_assoc, append-nil, length-append}
+use Rattle.std.proofs.Common.{◌≡◌, ◌⊎◌, inl, inr, ℕ, zero, suc, ◌+◌, ◌-◌, ◌*◌, ◌/◌, ◌<◌, ◌≤◌, ◌^◌, ◌==◌, ◌&&◌, Bool, true, false, nat_le, List, [], ◌∷◌, ◌++◌, Option, Some, None, arith, refl, sym, ◌∙◌, ap, subst, length, map, filter_map, add-one, append_assoc, append-nil, length-append}
 use Rattle.std.specs.Prelude.{Contains, filter, is_some, nat_lt, option_and_then, option_map, reverse, slice_get, IfSome, IsSomeAnd, if◌then◌else◌}
 use Rattle.std.specs.FinMap.{get}
 use Rattle.std.specs.List.{AllByRecursion, cons_option}
@@ -86,22 +86,25 @@ top_of end b (c ∷ path) =
 -- BLOCKS THAT DON'T COUNT
 
 module _ (middle end : ℕ) (round : Round) where
+  abbrev dealt : ℕ × SignedDealerLog → ℕ × DealerLog
+  dealt p = (p.1.dealer, p.1.log)
+
   abbrev pairs : List (ℕ × SignedDealerLog) → LogMap
-  pairs ps = map (λ p. (p.1.dealer, p.1.log)) (filter (counts check_log_of middle end round) ps)
+  pairs ps = map dealt (filter (counts check_log_of middle end round) ps)
 
   one_more : (o : Option (ℕ × SignedDealerLog)) (xs ys : List (ℕ × SignedDealerLog)) → pairs xs ≡ pairs ys → pairs (cons_option o xs) ≡ pairs (cons_option o ys)
   one_more None xs ys same = same
   one_more (Some p) xs ys same = by_test (counts check_log_of middle end round p)
     where
-      by_test : (t : Bool) → map (λ (q : ℕ × SignedDealerLog). (q.1.dealer, q.1.log)) (if t then p ∷ filter (counts check_log_of middle end round) xs else filter (counts check_log_of middle end round) xs)
-          ≡ map (λ (q : ℕ × SignedDealerLog). (q.1.dealer, q.1.log)) (if t then p ∷ filter (counts check_log_of middle end round) ys else filter (counts check_log_of middle end round) ys)
+      by_test : (t : Bool) → map dealt (if t then p ∷ filter (counts check_log_of middle end round) xs else filter (counts check_log_of middle end round) xs)
+          ≡ map dealt (if t then p ∷ filter (counts check_log_of middle end round) ys else filter (counts check_log_of middle end round) ys)
       by_test true = ap (λ (logs : LogMap). (p.1.dealer, p.1.log) ∷ logs) same
       by_test false = same
 
   none_more : (o : Option (ℕ × SignedDealerLog)) (xs : List (ℕ × SignedDealerLog)) → IfSome o (λ p. counts check_log_of middle end round p ≡ false) → pairs (cons_option o xs) ≡ pairs xs
   none_more None xs none = refl
   none_more (Some p) xs none =
-      ap (λ (t : Bool). map (λ (q : ℕ × SignedDealerLog). (q.1.dealer, q.1.log)) (if t then p ∷ filter (counts check_log_of middle end round) xs else filter (counts check_log_of middle end round) xs)) none
+      ap (λ (t : Bool). map dealt (if t then p ∷ filter (counts check_log_of middle end round) xs else filter (counts check_log_of middle end round) xs)) none
 
   early : (b : made.Block U) → b.height < middle → IfSome (log_of_block b) (λ p. counts check_log_of middle end round p ≡ false)
   early b low = by_log (option_and_then its_log b.payload)

@@ -82,7 +82,7 @@ module _ (Known : Knows) where
 
   -- each answer is of a request, by what it is made of or why there is none
   pub answered_so : (script : Script) (l : ℕ) (life : Life) (epoch j request : ℕ) (answer : AnswerLine) → IsSaidIn script l life epoch j (Answer request answer) → IsAnsweredSo script l life epoch j request answer
-  answered_so script l life epoch j request (Available payload) said = (said.0, said.1)
+  answered_so script l life epoch j request (Available payload) said = (said.0, said.1.0)
   answered_so script l life epoch j request (Unavailable why) said = said
 
 module _ {Known : Knows} (g : Lived) (here : IsLifeInForm g) (i : ℕ) (its : Event) (is : slice_get g.life.events i ≡ Some its) (reached : IsReached g.life.cut (suc i)) (m : IsMessage g its) (st : Live U)

@@ -112,6 +112,7 @@ pub mod PathLogs
 pub mod PathsAsked
 pub mod PathsRun
 pub mod PathsTold
+pub mod RunTold
 pub mod PeerForms
 pub mod Places
 pub mod PlanlessReads

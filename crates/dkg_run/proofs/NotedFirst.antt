@@ -1,5 +1,5 @@
 -- What devices note of dealers' logs, over lives: each is the chain's first log of its dealer, and the first logs of the heights that were seen are there.
-use Rattle.std.proofs.Common.{◌≡◌, ◌⊎◌, inl, inr, ◌<◌, ◌≤◌, ◌+◌, ◌-◌, ◌&&◌, ℕ, Bool, true, false, nat_le, List, Option, Some, None, arith, refl, sym, ◌∙◌, ap, subst}
+use Rattle.std.proofs.Common.{◌≡◌, ◌⊎◌, inl, inr, ◌<◌, ◌≤◌, ◌+◌, ◌&&◌, ℕ, Bool, true, false, nat_le, Option, Some, None, arith, refl, sym, ◌∙◌, ap, subst}
 use Rattle.std.specs.Prelude.{is_some, nat_lt, option_and_then, IsSome, if◌then◌else◌}
 use Rattle.std.specs.FinMap.{get}
 use Rattle.std.proofs.lemmas.Bool.Decides.{nat_tests}
@@ -19,7 +19,6 @@ use Rattle.dkg_script.specs.History.{AreChainLogs, CountsAt, StandsAtIts}
 use Rattle.dkg_script.specs.Position.{awaited_epoch}
 use Rattle.dkg_script.specs.Setting.{Setting, blocks_per_epoch, life_at}
 use Rattle.dkg_run.proofs.ChainLogs.{brings_of, counted_at}
-use Rattle.dkg_run.proofs.FirstLogs.{IsFirst}
 use Rattle.dkg_run.proofs.GrowingLogs.{AreSound, HasThose, IsAtIts}
 use Rattle.dkg_run.proofs.ReadLogs.{IsEarly}
 
@@ -74,13 +73,13 @@ module _ (s : Setting) (epoch : ℕ) (round : Round) where
   pub counts_within : (height dealer : ℕ) (log : DealerLog) → brings_of s epoch round height ≡ Some (dealer, log) → (middle ≤ height) × (height < ends)
   counts_within height dealer log is =
       let its = counts_there height dealer log is in
-      let both = two_first (nat_le middle height) (nat_lt height ends) (is_some (place_of (its.signed).dealer round.dealers) && check_log_of round its.signed) its.counted in
+      let both = two_first (nat_le middle height) (nat_lt height ends) (is_some (place_of (its.signed).dealer round.dealers)) (check_log_of round its.signed) its.counted in
       (is_low middle height both.0, is_below height ends both.1)
     where
-      two_first : (a b c : Bool) → (a && b && c) ≡ true → (a ≡ true) × (b ≡ true)
-      two_first true true c e = (refl, refl)
-      two_first true false c e = absurd (let no : false ≡ true = e in cc)
-      two_first false b c e = absurd (let no : false ≡ true = e in cc)
+      two_first : (a b p q : Bool) → (a && b && p && q) ≡ true → (a ≡ true) × (b ≡ true)
+      two_first true true p q e = (refl, refl)
+      two_first true false p q e = absurd (let no : false ≡ true = e in cc)
+      two_first false b p q e = absurd (let no : false ≡ true = e in cc)
 
       is_low : (a b : ℕ) → nat_le a b ≡ true → a ≤ b
       is_low a b e = grind (arith, nat_tests)

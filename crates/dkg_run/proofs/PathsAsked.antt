@@ -218,7 +218,7 @@ module _ (s : Setting) (ends : List (Option CutAt)) (history : IsWholeHistory s 
               up_to_tip t (sym tip ∙ sym same ∙ x_tip ∙ at) height late low
           by_brought (inl (number, made_it, of, sent)) = of_read (subst (λ (y : Message U). IsReadFor c st y x) sent in_it)
             where
-              abbrev b : made.Block U
+              b : made.Block U
               b = made_it.block
 
               of_tip : judged_block c b st ≡ Applied → x.tip ≡ Some (record { height = b.height; digest = b.digest }) → HasBlockAt s height

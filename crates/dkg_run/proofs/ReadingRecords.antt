@@ -5,7 +5,7 @@ use Rattle.std.specs.FinMap.{entries, get, get-entries, insert}
 use Rattle.std.specs.Option.{option_map_or}
 use Rattle.std.proofs.lemmas.Bool.{cases_lt}
 use Rattle.std.proofs.lemmas.Bool.Decides.{nat_tests}
-use Rattle.dkg_ceremony.specs.Schedule.{epoch_of, last, midpoint}
+use Rattle.dkg_ceremony.specs.Schedule.{last, midpoint}
 use Rattle.dkg_ceremony.specs.declared.dealer_log.DealerLog.{DealerLog}
 use Rattle.dkg_ceremony.specs.declared.round.RoundParts.{RoundParts as Round}
 use Rattle.dkg_ceremony.specs.declared.signed_log.SignedDealerLog.{SignedDealerLog}
@@ -30,9 +30,10 @@ use Rattle.dkg_core.specs.Fixed.{Fixed}
 use Rattle.dkg_core.specs.Forms.{Applied, judged_block}
 use Rattle.dkg_core.specs.Live as core
 use Rattle.dkg_core.specs.Blocks.{unoffered, with_log, without_own_log}
-use Rattle.dkg_core.specs.Live.{Deals, Finalized, Includes, Live, Mail, Message, Sent, Stage, is_last_height, recorded_at, with_participation}
+use Rattle.dkg_core.specs.Live.{Deals, Finalized, Includes, Live, Mail, Stage, is_last_height, recorded_at, with_participation}
 use Rattle.dkg_core.specs.Logs.{is_accepted, recorded_log}
 use Rattle.dkg_core.specs.LogsRecorded.{first_of_both}
+use Rattle.dkg_core.specs.Seen.{Seen}
 use Rattle.dkg_core.specs.Sources.{Tip}
 use Rattle.dkg_core.specs.Stepping.{dealt_behind, given_itself}
 use Rattle.dkg_core.specs.Through.{asked_by, included, observed, observed_log}
@@ -43,8 +44,8 @@ use Rattle.dkg_run.specs.Given.{Lived, at_step, lived}
 use Rattle.dkg_run.proofs.Awaiting.{IsReached}
 use Rattle.dkg_run.proofs.ChainLogs.{brings_of}
 use Rattle.dkg_run.proofs.Drawn.{HasRoundOf}
-use Rattle.dkg_run.proofs.FirstLogs.{AreFirst, IsFirst}
-use Rattle.dkg_run.proofs.GrowingLogs.{AreSound, HasBelow, IsAtIts, IsLookedAt, below_next, sound_next}
+use Rattle.dkg_run.proofs.FirstLogs.{IsFirst}
+use Rattle.dkg_run.proofs.GrowingLogs.{HasBelow, IsAtIts, IsLookedAt, below_next, sound_next}
 use Rattle.dkg_run.proofs.HeightsRise.{heights_rise}
 use Rattle.dkg_run.proofs.LogsBehind.{HasObserved, dealt_logs}
 use Rattle.dkg_run.proofs.NotedFirst.{AreSoundIn, HasThoseIn, counts_within, has_none}
@@ -64,9 +65,9 @@ none_some : {A : Type 0} {x : A} → ◌≡◌ {A = Option A} None (Some x) → 
 none_some e = cc
 
 -- what is looked at by the same records
-looked_as : (brings : ℕ → Option (ℕ × DealerLog)) (Early : ℕ → Type 0) (one now other then : ℕ → Option RecordedLog) (height : ℕ) → ((d : ℕ) → one d ≡ other d) → ((d : ℕ) → now d ≡ then d)
-    → IsLookedAt brings Early one now height → IsLookedAt brings Early other then height
-looked_as brings Early one now other then height same same_now looked = record {
+looked_as : (brings : ℕ → Option (ℕ × DealerLog)) (Early : ℕ → Type 0) (one now other later : ℕ → Option RecordedLog) (height : ℕ) → ((d : ℕ) → one d ≡ other d) → ((d : ℕ) → now d ≡ later d)
+    → IsLookedAt brings Early one now height → IsLookedAt brings Early other later height
+looked_as brings Early one now other later height same same_now looked = record {
   brought = λ dealer log is. sym (same_now dealer) ∙ looked.brought dealer log is ∙ ap (λ (o : Option RecordedLog). Some (first_of_both o (recorded_log height log))) (same dealer);
   others = λ dealer none. sym (same_now dealer) ∙ looked.others dealer none ∙ same dealer;
 }

@@ -7,9 +7,8 @@ use Rattle.std.proofs.Math.Nat.{suc-mul}
 use Rattle.std.proofs.lemmas.Bool.{cases_lt}
 use Rattle.std.proofs.lemmas.Bool.Decides.{nat_tests}
 use Rattle.dkg_ceremony.specs.Schedule.{epoch_of, last, midpoint}
-use Rattle.dkg_ceremony.specs.declared.round.RoundParts.{RoundParts as Round}
 use Rattle.dkg_journal.specs.Names.{Files}
-use Rattle.dkg_store.specs.Acts.{Ended, Held, World, broken, notes, stopped, went}
+use Rattle.dkg_store.specs.Acts.{Ended, Held, World, notes, went}
 use Rattle.dkg_store.specs.Noted.{Notes, logs_in}
 use Rattle.dkg_store.specs.declared.recorded_log.RecordedLog.{RecordedLog}
 use Rattle.dkg_types.specs.Blocks as made
@@ -18,7 +17,7 @@ use Rattle.dkg_types.specs.declared.directory.Unit as directory
 use Rattle.dkg_text.specs.declared.script.Event as script
 use Rattle.dkg_text.specs.declared.script.Event.TheVariants as event
 use Rattle.dkg_text.specs.declared.script.Life.{Life}
-use Rattle.dkg_script.specs.Blocks.{Block, block_at, delivered_number}
+use Rattle.dkg_script.specs.Blocks.{block_at, delivered_number}
 use Rattle.dkg_script.specs.Epochs.{alone}
 use Rattle.dkg_script.specs.History.{IsWholeHistory, WasSeen}
 use Rattle.dkg_script.specs.Position.{awaited_before, awaited_epoch, awaited_height, begun, begun_before, cut_of, event_of_step, events_taken, follows}
@@ -43,13 +42,13 @@ use Rattle.dkg_core.proofs.Heights.{next_last}
 use Rattle.dkg_core.proofs.NodeKept.{node_steps_agree}
 use Rattle.dkg_core.proofs.NodeThrough.{node_steps_lead_through_over}
 use Rattle.dkg_core.proofs.RecordingLogs.{node_steps_record_logs}
-use Rattle.dkg_run.specs.Epochs.{IsAt, IsLifeInForm, StandsInScript, any_shares, epoch_by}
+use Rattle.dkg_run.specs.Epochs.{IsLifeInForm, StandsInScript, any_shares}
 use Rattle.dkg_run.specs.Given.{Lived, at_step, blocks_in, lived}
 use Rattle.dkg_run.proofs.Alone.{epoch_alike, follows_alike}
 use Rattle.dkg_run.proofs.Asking.{same_epoch}
 use Rattle.dkg_run.proofs.Awaiting.{HasHeight, IsReached, event_behind, has_height}
 use Rattle.dkg_run.proofs.AwaitedRises.{awaited_begun, block_reach}
-use Rattle.dkg_run.proofs.Currently.{begun_behind, begun_more}
+use Rattle.dkg_run.proofs.Currently.{begun_behind}
 use Rattle.dkg_run.proofs.FewPlayers.{own_fits}
 use Rattle.dkg_run.proofs.Former.{BringsBlock, BringsMail, IsMessage, IsMadeOf, brings_so, form_at, lacks_nobody, life_in, live_at, step_taken, through_at}
 use Rattle.dkg_run.proofs.LifeSteps.{IsGoing, IsLifeOfSetting}

@@ -1,6 +1,6 @@
 -- What a life of a script records of dealers' logs, over devices that tell: the chain's first ones, and while it takes part in an epoch all of them up to its tip. So it stays from its opening
 -- on, step by step.
-use Rattle.std.proofs.Common.{◌≡◌, ◌⊎◌, inl, inr, ◌<◌, ◌≤◌, ◌+◌, ◌*◌, ◌-◌, ◌/◌, ◌==◌, ℕ, zero, suc, Bool, true, false, nat_le, List, Option, Some, None, max, arith, refl, sym, ◌∙◌, ap, subst}
+use Rattle.std.proofs.Common.{◌≡◌, ◌⊎◌, inl, inr, ◌<◌, ◌≤◌, ◌+◌, ◌*◌, ◌-◌, ◌/◌, ◌==◌, ℕ, suc, Bool, true, false, nat_le, List, Option, Some, None, max, arith, refl, sym, ◌∙◌, ap, subst}
 use Rattle.std.specs.Prelude.{nat_eq, nat_lt, is_some, slice_get, IfSome, IsSome, if◌then◌else◌}
 use Rattle.std.specs.FinMap.{entries, get, get-entries}
 use Rattle.std.specs.Option.{option_map_or}
@@ -11,8 +11,8 @@ use Rattle.dkg_ceremony.specs.declared.dealer_log.DealerLog.{DealerLog}
 use Rattle.dkg_ceremony.specs.declared.phase.Phase.TheVariants.{Early, Midpoint, Late}
 use Rattle.dkg_ceremony.specs.declared.round.RoundParts.{RoundParts as Round}
 use Rattle.dkg_journal.specs.Names.{Files}
-use Rattle.dkg_store.specs.Acts.{Held, notes}
-use Rattle.dkg_store.specs.Noted.{Notes, logs_in}
+use Rattle.dkg_store.specs.Acts.{Held}
+use Rattle.dkg_store.specs.Noted.{Notes}
 use Rattle.dkg_store.specs.declared.recorded_log.RecordedLog.{RecordedLog}
 use Rattle.dkg_types.specs.Blocks as made
 use Rattle.dkg_types.specs.Units.{unit_spelling}
@@ -20,7 +20,7 @@ use Rattle.dkg_types.specs.declared.directory.Unit as directory
 use Rattle.dkg_text.specs.declared.script.Event as script
 use Rattle.dkg_text.specs.declared.script.Event.TheVariants as event
 use Rattle.dkg_text.specs.declared.script.Life.{Life}
-use Rattle.dkg_script.specs.Blocks.{Block, block_at, chain, delivered_number, round_at}
+use Rattle.dkg_script.specs.Blocks.{Block, block_at, chain, round_at}
 use Rattle.dkg_script.specs.Epochs.{alone}
 use Rattle.dkg_script.specs.History.{IsWholeHistory, WasSeen}
 use Rattle.dkg_script.specs.Position.{awaited_before, awaited_epoch, awaited_height, begun, begun_before, event_of_step, follows}
@@ -28,17 +28,18 @@ use Rattle.dkg_script.specs.Setting.{Setting, CutAt, blocks_per_epoch, found, is
 use Rattle.dkg_script.specs.Views.{seen_block}
 use Rattle.dkg_core.specs.Blocks.{is_early, is_in_window_in}
 use Rattle.dkg_core.specs.Fixed.{Fixed}
-use Rattle.dkg_core.specs.Forms.{Applied, Judged, Passed, Refusal, judged_block}
+use Rattle.dkg_core.specs.Forms.{Applied, Passed, judged_block}
 use Rattle.dkg_core.specs.Endings.{stage_in}
 use Rattle.dkg_core.specs.Live as core
-use Rattle.dkg_core.specs.Live.{Deals, Follows, Finalized, Includes, Live, Message, Sent, Stage, is_last_height, phase_of, recorded_at}
+use Rattle.dkg_core.specs.Live.{Deals, Follows, Finalized, Includes, Live, Stage, is_last_height, recorded_at}
 use Rattle.dkg_core.specs.Logs.{recorded_log}
 use Rattle.dkg_core.specs.LogsRecorded.{IsNotedNow, IsRecordedNow}
+use Rattle.dkg_core.specs.Seen.{Seen}
 use Rattle.dkg_core.specs.Sources.{Tip}
 use Rattle.dkg_core.specs.Through.{IsLiveThrough, unasked}
 use Rattle.dkg_core.proofs.Heights.{epoch_to}
-use Rattle.dkg_run.specs.Epochs.{IsAt, IsLifeInForm, StandsInScript, any_shares, awaited_by, epoch_by}
-use Rattle.dkg_run.specs.Given.{Lived, at_step, blocks_in, lived}
+use Rattle.dkg_run.specs.Epochs.{IsAt, IsLifeInForm, StandsInScript, any_shares, epoch_by}
+use Rattle.dkg_run.specs.Given.{Lived, at_step, lived}
 use Rattle.dkg_run.proofs.Alone.{epoch_alike, follows_alike, height_alike}
 use Rattle.dkg_run.proofs.Awaiting.{IsReached, block_behind, comes_to}
 use Rattle.dkg_run.proofs.AwaitedRises.{begun_rises, is_current}
@@ -313,7 +314,7 @@ module _ (s : Setting) (ends : List (Option CutAt)) (whole : IsWholeHistory s en
           -- .. and below the last one, unless it is that
           pub not_last : is_last_height C block.height ≡ false → block.height < last n (e i)
           unfolding at_step
-          not_last no = less (e i * n) n block.height (subst (λ (x : ℕ). block.height < x * n + n) its_epoch (epoch_to n block.height some)) (other block.height (last n (e i)) (subst (λ (x : ℕ). (block.height == last n x) ≡ false) its_epoch no))
+          not_last before = less (e i * n) n block.height (subst (λ (x : ℕ). block.height < x * n + n) its_epoch (epoch_to n block.height some)) (other block.height (last n (e i)) (subst (λ (x : ℕ). (block.height == last n x) ≡ false) its_epoch before))
             where
               other : (x y : ℕ) → (x == y) ≡ false → x ≡ y → ⊥
               other x y test same = bools_apart (x == y) (grind (arith, nat_tests)) test
@@ -471,12 +472,15 @@ module _ (s : Setting) (ends : List (Option CutAt)) (whole : IsWholeHistory s en
                     let number_at : ◌≡◌ {A = Option script.Event} (Some (event.Final number)) (Some (event.Final given.number)) = sym its_is ∙ ap (event_of_step life) (sym of) ∙ given.is in
                     let same_block : given.block ≡ seen_block unit_spelling block = some_is (sym given.block_is ∙ ap (block_at s) (sym (the_number number_at)) ∙ seen_there) in
                     let same_height : block.height ≡ height = sym (ap (λ (x : Block). x.height) same_block) ∙ given.height_is in
-                    let same_epoch : e i ≡ epoch = ap (λ (x : ℕ). awaited_epoch s l life (x - 1)) (sym of) ∙ given.awaited in
+                    let same_epoch : e i ≡ epoch = ap (λ (x : ℕ). awaited_epoch s l life x) (sym back) ∙ ap (λ (x : ℕ). awaited_epoch s l life (x - 1)) (sym of) ∙ given.awaited in
                     subst (λ (x : ℕ). HasThoseIn s epoch round now x) same_height
                     (subst (λ (x : ℕ). HasThoseIn s x round now block.height) same_epoch
                     (its_here (subst (λ (x : ℕ). follows s l life x ≡ false) (sym same_epoch) given.took_part) (subst (λ (x : ℕ). b (suc i) < x + 2) (sym same_epoch) left) round
                     (subst (λ (x : ℕ). round_at s x ≡ Some round) (sym same_epoch) known)))
                   where
+                    back : suc i - 1 ≡ i
+                    back = omega arith
+
                     the_number : {x y : ℕ} → ◌≡◌ {A = Option script.Event} (Some (event.Final x)) (Some (event.Final y)) → x ≡ y
                     the_number e = cc
 

@@ -21,7 +21,7 @@ use Rattle.dkg_script.specs.Position.{awaited_before, awaited_epoch, begun, begu
 use Rattle.dkg_script.specs.Progress.{AtEachEntry, Progress, at_start, read}
 use Rattle.dkg_script.specs.Setting.{CutAt, Setting, is_oneshot, life_at}
 use Rattle.dkg_script.specs.Views.{seen_block}
-use Rattle.dkg_store.specs.Acts.{Ended, Held, World, broken, notes, says, stopped, went}
+use Rattle.dkg_store.specs.Acts.{Ended, Held, World, broken, notes, stopped, went}
 use Rattle.dkg_store.specs.Noted.{Notes, logs_in}
 use Rattle.dkg_store.specs.declared.recorded_log.RecordedLog.{RecordedLog}
 use Rattle.dkg_core.specs.Behind.{event_of}
@@ -83,10 +83,10 @@ module _ (s : Setting) (ends : List (Option CutAt)) (reshares : is_oneshot s ≡
     abbrev g : Lived
     g = lived s.script l life seen files
 
-    here : IsLifeInForm g
+    abbrev here : IsLifeInForm g
     here = (meant l life seen files life_is reads).0
 
-    its_own : IsLifeOfSetting s ends g
+    abbrev its_own : IsLifeOfSetting s ends g
     its_own = (meant l life seen files life_is reads).1
 
     abbrev logs : World → Notes RecordedLog
@@ -120,13 +120,13 @@ module _ (s : Setting) (ends : List (Option CutAt)) (reshares : is_oneshot s ≡
       unopened = λ marks w new b at are base records same stays its there front. unopened w new b at are records stays its front;
     }
       where
-        abbrev BaseIt : Type 0 → ℕ → Live U → World → List Entry → Type 0
+        BaseIt : Type 0 → ℕ → Live U → World → List Entry → Type 0
         BaseIt = BaseHere s ends reshares whole.consistent meant l life seen files life_is reads cuts back
 
-        abbrev LeftBase : (before : List Entry) → ℕ → Ended NodeStop (Live U) → World → Type 0 → List Entry → Type 0
+        LeftBase : (before : List Entry) → ℕ → Ended NodeStop (Live U) → World → Type 0 → List Entry → Type 0
         LeftBase = Left s Anything ends reshares whole.consistent meant (BaseBetween s ends reshares whole.consistent meant) (BaseHere s ends reshares whole.consistent meant) l life seen files life_is reads cuts back
 
-        abbrev AlsoAfter : ℕ → Ended NodeStop (Live U) → World → Type 0 → List Entry → Type 0
+        AlsoAfter : ℕ → Ended NodeStop (Live U) → World → Type 0 → List Entry → Type 0
         AlsoAfter = After s Anything ends reshares whole.consistent meant RecordsBetween RecordsHere l life seen files life_is reads cuts back
 
         less_one : (k : ℕ) → suc k - 1 ≡ k

@@ -433,10 +433,10 @@ module _ (g : Lived) (here : IsLifeInForm g) (i : ℕ) (its : Event) (is : slice
       later : (a : ℕ) → a ≤ i → a ≤ suc i
       later a low = omega (arith, low)
 
-  waiter_on : {Known : Knows} (running : Option Job) (round : Option Round) (o : Option ℕ) → ((number : ℕ) (s : Standing) → IsUncancelled s → IsUncancelled (turns number s its)) → IfSome o (IsAwaited g Known e i running round)
+  waiter_on : (Known : Knows) (running : Option Job) (round : Option Round) (o : Option ℕ) → ((number : ℕ) (s : Standing) → IsUncancelled s → IsUncancelled (turns number s its)) → IfSome o (IsAwaited g Known e i running round)
       → IfSome o (IsAwaited g Known e (suc i) running round)
-  waiter_on {Known} running round None spares was = tt
-  waiter_on {Known} running round (Some number) spares was = awaited_on running round number (spares number) was
+  waiter_on Known running round None spares was = tt
+  waiter_on Known running round (Some number) spares was = awaited_on running round number (spares number) was
 
 -- WHICH EVENTS CANCEL no request of a number
 module _ (number : ℕ) where
@@ -522,7 +522,7 @@ module _ {Known : Knows} (g : Lived) (here : IsLifeInForm g) (i : ℕ) (its : Ev
   unsaid x queue waiter running spares keeps = record {
     queue = subst (AllByRecursion (IsHeld g now (suc i))) (sym queue) (all_on g here i its is st.inclusion.queue spares was.queue);
     waiter = subst (λ (o : Option ℕ). IfSome o (IsAwaited g Known now (suc i) x.running its_round)) (sym waiter)
-        (subst (λ (o : Option Job). IfSome st.inclusion.waiter (IsAwaited g Known now (suc i) o its_round)) (sym running) (waiter_on g here i its is st.inclusion.running its_round st.inclusion.waiter keeps was.waiter));
+        (subst (λ (o : Option Job). IfSome st.inclusion.waiter (IsAwaited g Known now (suc i) o its_round)) (sym running) (waiter_on g here i its is Known st.inclusion.running its_round st.inclusion.waiter keeps was.waiter));
   }
 
   pub said_none : (x : Event) → its ≡ x → ((number : ℕ) → Spares x number) → ((number : ℕ) (s : Standing) → IsUncancelled s → IsUncancelled (turns number s x)) → (y : Inclusion U)
@@ -551,7 +551,7 @@ module _ {Known : Knows} (g : Lived) (here : IsLifeInForm g) (i : ℕ) (its : Ev
     queue = changed request (λ r. if r.ended then r else record r { blocks = r.blocks ++ b ∷ [] }) st.inclusion.queue
         (λ r same held. held_more g here i its is r number b (of ∙ ap (λ (n : ℕ). event.Feed n number) (sym (same_number r.number request same))) there held)
         (λ r apart. subst (λ (x : Event). Spares x r.number) (sym of) (spares_feed r.number request (turned r.number request apart) number)) was.queue;
-    waiter = waiter_on g here i its is st.inclusion.running its_round st.inclusion.waiter (λ n s is. subst (λ (x : Event). IsUncancelled (turns n s x)) (sym of) (keeps_feed n request number s is)) was.waiter;
+    waiter = waiter_on g here i its is Known st.inclusion.running its_round st.inclusion.waiter (λ n s is. subst (λ (x : Event). IsUncancelled (turns n s x)) (sym of) (keeps_feed n request number s is)) was.waiter;
   }
 
   closed_one : (request : ℕ) → its ≡ event.Over request → Ready (asked_by (Over request) st).inclusion
@@ -559,14 +559,14 @@ module _ {Known : Knows} (g : Lived) (here : IsLifeInForm g) (i : ℕ) (its : Ev
     queue = changed request (λ r. record r { ended = true }) st.inclusion.queue
         (λ r same held. held_closed g here i its is r (of ∙ ap event.Over (sym (same_number r.number request same))) held)
         (λ r apart. subst (λ (x : Event). Spares x r.number) (sym of) (spares_over r.number request (turned r.number request apart))) was.queue;
-    waiter = waiter_on g here i its is st.inclusion.running its_round st.inclusion.waiter (λ n s is. subst (λ (x : Event). IsUncancelled (turns n s x)) (sym of) (keeps_over n request s is)) was.waiter;
+    waiter = waiter_on g here i its is Known st.inclusion.running its_round st.inclusion.waiter (λ n s is. subst (λ (x : Event). IsUncancelled (turns n s x)) (sym of) (keeps_over n request s is)) was.waiter;
   }
 
   made_one : (request : ℕ) → its ≡ event.Info request → Ready (asked_by (EpochInfoOf request) st).inclusion
   made_one request of = record {
     queue = all_and_one (IsHeld g now (suc i)) st.inclusion.queue (record { number = request; blocks = []; ended = false })
         (all_on g here i its is st.inclusion.queue (λ n. subst (λ (x : Event). Spares x n) (sym of) (spares_info n request)) was.queue) (held_new g here i its is request of);
-    waiter = waiter_on g here i its is st.inclusion.running its_round st.inclusion.waiter (λ n s is. subst (λ (x : Event). IsUncancelled (turns n s x)) (sym of) (keeps_info n request s is)) was.waiter;
+    waiter = waiter_on g here i its is Known st.inclusion.running its_round st.inclusion.waiter (λ n s is. subst (λ (x : Event). IsUncancelled (turns n s x)) (sym of) (keeps_info n request s is)) was.waiter;
   }
 
   -- of others than the one that is cancelled
