@@ -32,7 +32,7 @@ use Rattle.dkg_script.specs.Position.{awaited_before, awaited_epoch, awaited_hei
 use Rattle.dkg_script.specs.Progress.{Progress, read}
 use Rattle.dkg_script.specs.Setting.{CutAt, Setting, blocks_per_epoch, is_oneshot, life_at, me}
 use Rattle.dkg_store.specs.Acts.{Cause, Ended, Held, World, broken, says, stopped, went}
-use Rattle.dkg_core.specs.Asked.{Cached, OfShares}
+use Rattle.dkg_core.specs.Asked.{OfShares}
 use Rattle.dkg_core.specs.Behind.{event_of}
 use Rattle.dkg_core.specs.Blocks as b
 use Rattle.dkg_core.specs.Courses.{Course, EndsSo}
@@ -626,7 +626,7 @@ module _ (s : Setting) (ends : List (Option CutAt)) (form : IsFormOfInclusion s.
                 by_round : (o : Option Round) → end.participation.round ≡ o → IsLiveThrough C more end
                 by_round None out_of =
                     live_emptied C before_it more end live_then
-                    ((live_then.asked.has.early (λ includes. (let wrong : ◌≡◌ {A = Stage} Follows Includes = sym (live_then.stands.without out_of).0 ∙ includes in cc))).1.1)
+                    ((live_then.asked.has.early (λ includes. (let wrong : ◌≡◌ {A = Stage} Follows Includes = sym (live_then.stands.without out_of).0 ∙ includes in cc))).2)
                 by_round (Some round) there = live_as C before_it more (λ epoch share so same. so (same ∙ epoch_same) ∙ held_same) end live_then
                   where
                     follows_not : end.participation.stage ≡ Follows → ⊥
