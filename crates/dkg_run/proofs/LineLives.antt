@@ -287,7 +287,7 @@ module _ (s : Setting) (E : Type 0 → List Entry → Entry → Type 0) where
     module _ (plain : (marks : Type 0) (before : List Entry) (line : Entry) → IsCounted line → E marks before line)
         (leads : (l : ℕ) (life : Life) (seen : Held → Seen) (files : Files) (life_is : life_at s l ≡ Some life) (reads : by_worlds.reads seen) (cuts : List (Option CutAt))
         (never_back : awaited_before s cuts l ≤ awaited_epoch s l life 0 + 1) (began : (more : List (Option CutAt)) × (ends ≡ cuts ++ more)) → LeadsOn l life seen files life_is reads cuts never_back) where
-      Any : Type 0 → List Entry → Type 0
+      abbrev pub Any : Type 0 → List Entry → Type 0
       Any marks b = Unit {0}
 
       abbrev EndSo : World → World → Progress → Type 0
@@ -309,7 +309,7 @@ module _ (s : Setting) (E : Type 0 → List Entry → Entry → Type 0) where
           (life_told l life run.0 run.1 are.0 run.4 (come s before).cuts back plain (leads l life run.0 run.1 are.0 run.4 (come s before).cuts back began) run.1 marks w run.2 run.3 before
           (record { life_is = are.0; lives = between.lives; step = between.step; nothing = between.nothing }) refl here run.7)
           (λ later b added earlier b_is out ended. by_how (λ later mid c between here fin more. from_told lives AnyFiles (l + 1) later mid result new c are.1 between here fin more) run.2 later b
-          (subst (EndSo run.3 new) (sym (ap come s b_is ∙ come_joined before added)) (end_then s ends reshares consistent meant w run.3 new (come s before) added out fin)) ended run.8)
+          (subst (EndSo run.3 new) (sym (ap (come s) b_is ∙ come_joined before added)) (end_then s ends reshares consistent meant w run.3 new (come s before) added out fin)) ended run.8)
         where
           grows : Grows w new
           grows = from_grow s.script first l (life ∷ lives) w result new run

@@ -76,10 +76,10 @@ module _ (s : Setting) (ends : List (Option CutAt)) (reshares : is_oneshot s ≡
     abbrev g : Lived
     g = lived s.script l life seen files
 
-    here : IsLifeInForm g
+    abbrev here : IsLifeInForm g
     here = (meant l life seen files life_is reads).0
 
-    its : IsLifeOfSetting s ends g
+    abbrev its : IsLifeOfSetting s ends g
     its = (meant l life seen files life_is reads).1
 
     abbrev b : ℕ → ℕ
@@ -94,15 +94,15 @@ module _ (s : Setting) (ends : List (Option CutAt)) (reshares : is_oneshot s ≡
     rises : (i : ℕ) → b i ≤ b (suc i)
     rises i = begun_rises s reshares l life life_is cuts some back i
 
-    Going : Type 0 → ℕ → Live U → Held → Progress → Type 0
+    abbrev Going : Type 0 → ℕ → Live U → Held → Progress → Type 0
     Going marks i st h p = IsGoing s ends l life seen files here its cuts back marks i st h p
 
     -- behind a cut
     cut_then : (marks : Type 0) (w : World) (before : List Entry) (at : cut.Cut) → life.cut ≡ Some at → IsStopped l life Cut w.held s marks (come s before) → CutThen s Anything ends reshares consistent meant BaseBetween BaseHere l marks w before at
-    cut_then marks w before at is stopped =
+    cut_then marks w before at is its_stop =
         subst (λ (p : Progress). RestsIn w.held s p × ((marks × IsKnownAt s (come s before) (entry.Cut at.step at.call)) → LogsKnown s (begun_before s p.cuts (length p.cuts)) p.recorded (logs_in (notes w.held))))
         (sym (come_more s before (entry.Cut at.step at.call)))
-        (rests_then s ends reshares consistent meant l life life_is at is w.held marks (come s before) stopped, logs_then s ends reshares consistent meant l life life_is at is w.held marks (come s before) stopped)
+        (rests_then s ends reshares consistent meant l life life_is at is w.held marks (come s before) its_stop, logs_then s ends reshares consistent meant l life life_is at is w.held marks (come s before) its_stop)
 
     -- the cut that the life has
     module _ (at : cut.Cut) (is : life.cut ≡ Some at) where
@@ -143,6 +143,9 @@ module _ (s : Setting) (ends : List (Option CutAt)) (reshares : is_oneshot s ≡
             r : Reaches s (come s before) w.out new.out Opens
             r = opening_goes s ends l life seen files here its cuts back marks (record w { fuse = f }) (come s before) are at.lives between.0 between.1 ended new run
 
+            low : (c : List Entry) → (come s c).cuts ≡ cuts → b 0 ≤ begun s (come s c).cuts l 0
+            low c its_are = subst (λ (x : List (Option CutAt)). b 0 ≤ begun s x l 0) (sym its_are) (itself (b 0))
+
             left : (later : Type 0) (c : List Entry) → (later → marks) → Opens (come s c) → LeftBy before 0 ended new later c
             left later c earlier so = (so.cuts_are, so.step, by_end ended so.went)
               where
@@ -161,9 +164,6 @@ module _ (s : Setting) (ends : List (Option CutAt)) (reshares : is_oneshot s ≡
                     (λ e other known. (of_cut at_cut is (λ x. x.step ≡ 0) other known there, tt, of_cut at_cut is (λ x. b 0 ≤ begun s (come s c).cuts l (taken_by life x)) other known
                     (subst (λ (n : ℕ). b 0 ≤ begun s (come s c).cuts l n) (sym (taken_within life at_cut 0 there within)) (low c its_are))))
                     (λ other any known. so.logs (earlier known.0)) so.saved)
-
-            low : (c : List Entry) → (come s c).cuts ≡ cuts → b 0 ≤ begun s (come s c).cuts l 0
-            low c its_are = subst (λ (x : List (Option CutAt)). b 0 ≤ begun s x l 0) (sym its_are) (itself (b 0))
 
         -- A STEP
         stepped : (marks : Type 0) (i : ℕ) (event : script.Event) → slice_get life.events i ≡ Some event → IsReached life.cut (suc i) → (st : Live U) (w : World) (before : List Entry) → IsAtStep l life (suc i) s (come s before)
@@ -194,6 +194,9 @@ module _ (s : Setting) (ends : List (Option CutAt)) (reshares : is_oneshot s ≡
                 low : b (suc i) ≤ begun s (come s c).cuts l (suc i)
                 low = subst (λ (x : List (Option CutAt)). b (suc i) ≤ begun s x l (suc i)) (sym its_are) (itself (b (suc i)))
 
+                Settles : Progress → Type 0
+                Settles q = IsSettled marks s q
+
                 by_end : (x : Ended NodeStop (Live U)) → IfWentTo x (λ end. Going (marks × IsKnownInStep s (come s c)) (suc i) end new.held (come s c) × Settles (come s c)) → AfterIt (suc i) x new later c
                 by_end (went end) both =
                     told_here (marks × IsKnownInStep s (come s c)) (later × IsKnownAt s (come s c) (entry.Step (suc i))) (suc i) end new c (λ known. (earlier known.0, known.1)) lives (so.step ∙ at.step) its_are both.0
@@ -205,9 +208,6 @@ module _ (s : Setting) (ends : List (Option CutAt)) (reshares : is_oneshot s ≡
                     of_cut at_cut is (λ x. b (suc i) ≤ begun s (come s c).cuts l (taken_by life x)) other known
                     (subst (λ (n : ℕ). b (suc i) ≤ begun s (come s c).cuts l n) (sym (taken_within life at_cut (suc i) there within)) low)))
                     (λ other within known. so.logs (earlier known.0) (known.1 within)) so.saved)
-
-                Settles : Progress → Type 0
-                Settles q = IsSettled marks s q
 
         -- BEHIND THE LIFE
         over : (marks : Type 0) (st : Live U) (w : World) (c : List Entry) → IsBetween (l + 1) s (come s c) → (come s c).cuts ≡ cuts ++ None ∷ [] → BaseHere l life seen files life_is reads cuts back marks (length life.events) st w c
