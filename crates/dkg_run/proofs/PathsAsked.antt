@@ -103,13 +103,13 @@ module _ (s : Setting) (ends : List (Option CutAt)) (history : IsWholeHistory s 
   abbrev n : ℕ
   n = blocks_per_epoch s
 
-  some : 1 ≤ n
+  pub some : 1 ≤ n
   some = one n here.long
     where
       one : (n : ℕ) → 2 ≤ n → 1 ≤ n
       one n long = omega (arith, long)
 
-  no_sync : life.sync ≡ None
+  pub no_sync : life.sync ≡ None
   no_sync = (life_in g here).no_sync
 
   epoch_is : (j : ℕ) → awaited_epoch s l life j ≡ epoch_by g j

@@ -1,5 +1,5 @@
 -- Each answer of a run over devices that tell is from the path: line by line, with what the lives record.
-use Rattle.std.proofs.Common.{◌≡◌, ◌⊎◌, inl, inr, ℕ, suc, false, ◌+◌, ◌≤◌, List, [], ◌∷◌, ◌++◌, Option, Some, refl, sym, ◌∙◌, ap, subst, length, arith, length-append}
+use Rattle.std.proofs.Common.{◌≡◌, ◌⊎◌, inl, inr, ℕ, suc, false, ◌+◌, ◌≤◌, List, [], ◌∷◌, ◌++◌, Option, Some, sym, ◌∙◌, ap, subst, length, arith, length-append}
 use Rattle.std.specs.Prelude.{slice_get}
 use Rattle.std.specs.List.{AllByRecursion}
 use Rattle.std.proofs.lemmas.List.{append_cancel_left}
@@ -83,7 +83,7 @@ module _ (s : Setting) (ends : List (Option CutAt)) where
 
 module _ (s : Setting) (ends : List (Option CutAt)) (reshares : is_oneshot s ≡ false) (history : IsWholeHistory s ends) (form : IsFormOfInclusion s.script) (bytes : AreBytes s.script.blocks) (may : MayEndSo s.script.lives ends)
     (meant : (l : ℕ) (life : Life) (seen : Held → Seen) (files : Files) → life_at s l ≡ Some life → by_worlds.reads seen → IsLifeInForm (lived s.script l life seen files) × IsLifeOfSetting s ends (lived s.script l life seen files)) where
-  abbrev Nothing : OfRests
+  abbrev pub Nothing : OfRests
   Nothing marks l w b = Unit {0}
 
   -- what is kept of recorded dealings and logs, and what is noted of the chain's
