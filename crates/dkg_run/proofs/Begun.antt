@@ -27,7 +27,7 @@ use Rattle.dkg_run.specs.GivesBack.{StaysValid}
 use Rattle.dkg_run.specs.Lives.{RunsOver, never}
 use Rattle.dkg_run.specs.Over.{Over}
 use Rattle.dkg_run.specs.Promised.{DoesRun}
-use Rattle.dkg_run.specs.SharesStand.{CommitsFit}
+use Rattle.dkg_run.specs.SharesStand.{CommitsExactly, CommitsFit}
 use Rattle.dkg_run.proofs.Checked.{anchor_above, long_epochs, supported_mode}
 use Rattle.dkg_run.proofs.CommitsFitting.{commits_fit}
 use Rattle.dkg_run.proofs.CutLives.{worlds_cut}
@@ -38,6 +38,7 @@ use Rattle.dkg_run.proofs.GivingValid.{stays_valid}
 use Rattle.dkg_run.proofs.GivingWhole.{stays_whole}
 use Rattle.dkg_run.proofs.Keeping.{IsBuiltSetting, IsGivenSetting}
 use Rattle.dkg_run.proofs.OfferingSame.{offers_the_same}
+use Rattle.dkg_run.proofs.ExactRun.{exactly_of}
 use Rattle.dkg_run.proofs.PathsRun.{paths_of}
 use Rattle.dkg_run.proofs.PlanlessReads.{planless_records, planless_secrets}
 
@@ -114,6 +115,11 @@ module _ (script : Script) (form : IsFormOfInclusion script) (checked : IsChecke
   pub begun_commits : o.tells → Stands o.before.files o.before.image → CommitsFit script o.before.files o.before.held added
   begun_commits told here =
       commits_fit script o.before.files o.before.held added (worlds_over cut_script cut_form checked) planless_secrets answered old new o.now.held o.now.files is (cut_runs told here o.now.files (left (disk_of told)))
+
+  pub begun_exactly : InOrder its_setting added → o.tells → Stands o.before.files o.before.image → CommitsExactly script o.before.files o.before.held added
+  begun_exactly ordered told here of_form history honest devices fit =
+      exactly_of its_setting (given_setting cut_script o.before.files o.before.held cut_form checked bytes) refl devices fit planless_secrets answered old new added o.now.held is history honest ordered o.now.files
+      (cut_runs told here o.now.files (left (disk_of told)))
 
   -- WHAT IS GIVEN BACK
 

@@ -119,18 +119,18 @@ player_of output player x is = by_place (place_of player output.players) is
     by_place None none = absurd (none_some none)
     by_place (Some place) got = refl
 
+neither : (a b : Bool) → (a || b) ≡ false → (a ≡ false) × (b ≡ false)
+neither false b e = (refl, e)
+neither true b e = absurd (let wrong : true ≡ false = e in cc)
+
 -- what none of some passes, none of fewer does
 any_fewer : {A B : Type 0} (test : B → Bool) (f : A → B) (keep : A → Bool) (xs : List A) → list_any test (map f xs) ≡ false → list_any test (map f (filter keep xs)) ≡ false
 any_fewer test f keep [] none = refl
-any_fewer test f keep (x ∷ xs) none = by_test (either (test (f x)) (list_any test (map f xs)) none) (keep x)
+any_fewer test f keep (x ∷ xs) none = let parts = neither (test (f x)) (list_any test (map f xs)) none in by_test parts.0 (any_fewer test f keep xs parts.1) (keep x)
   where
-    either : (a b : Bool) → (a || b) ≡ false → (a ≡ false) × (b ≡ false)
-    either false b e = (refl, e)
-    either true b e = absurd (let wrong : true ≡ false = e in cc)
-
-    by_test : (test (f x) ≡ false) × (list_any test (map f xs) ≡ false) → (t : Bool) → list_any test (map f (if t then x ∷ filter keep xs else filter keep xs)) ≡ false
-    by_test parts true = rw (parts.0) (any_fewer test f keep xs parts.1)
-    by_test parts false = any_fewer test f keep xs parts.1
+    by_test : test (f x) ≡ false → list_any test (map f (filter keep xs)) ≡ false → (t : Bool) → list_any test (map f (if t then x ∷ filter keep xs else filter keep xs)) ≡ false
+    by_test here rest true = rw here rest
+    by_test here rest false = rest
 
 -- THE INFO BEHIND ONE, as a script sees it
 module _ (provided : Provided U) (current : EpochInfo U) (round : Round) (logs : LogMap) where
@@ -384,7 +384,7 @@ module _ (s : Setting) (ends : List (Option CutAt)) (form : IsFormOfInclusion s.
         in_stage info carried Follows at read = absurd (apart at)
         in_stage info carried Deals at none = absurd none
         in_stage info carried Ends at none = absurd none
-        in_stage info carried Includes at (round, current, there, of_current, artifact, art, same) =
+        in_stage info carried Includes at (round, current, there, of_current, (artifact, art, same)) =
             let its_seat = seat round there at info carried current of_current artifact art in
             (its_seat.0, its_seat.1 ∙ ap (λ (k : ℕ). Some (k, its_seat.0)) epoch_here,
             subst (λ (o : Option ℕ). StandsBy s before e its_seat.0 o info.outcome) (sym (same ∙ share_is round there at info carried current of_current artifact art)) (stands round there at info carried current of_current artifact art))

@@ -32,7 +32,7 @@ use Rattle.dkg_script.specs.Position.{awaited_before, awaited_epoch, awaited_hei
 use Rattle.dkg_script.specs.Progress.{Progress, read}
 use Rattle.dkg_script.specs.Setting.{CutAt, Setting, blocks_per_epoch, is_oneshot, life_at, me}
 use Rattle.dkg_store.specs.Acts.{Cause, Ended, Held, World, broken, says, stopped, went}
-use Rattle.dkg_core.specs.Asked.{OfShares}
+use Rattle.dkg_core.specs.Asked.{OfShares, Reads}
 use Rattle.dkg_core.specs.Behind.{event_of}
 use Rattle.dkg_core.specs.Blocks as b
 use Rattle.dkg_core.specs.Courses.{Course, EndsSo}
@@ -64,6 +64,7 @@ use Rattle.dkg_run.specs.Ways.{StaysHeld, by_worlds}
 use Rattle.dkg_run.proofs.Alone.{epoch_alike, height_alike}
 use Rattle.dkg_run.proofs.Awaiting.{HasHeight, IsReached, block_behind, has_height}
 use Rattle.dkg_run.proofs.AwaitedRises.{awaited_begun, begun_rises, block_reach, is_current}
+use Rattle.dkg_run.proofs.CommitsOver.{IsTakenShare, Tells, block_over}
 use Rattle.dkg_run.proofs.Currently.{begun_behind, begun_more}
 use Rattle.dkg_run.proofs.Former.{BringsBlock, BringsOther, BringsPeer, IsMadeOf, IsMessage, brings_kind, event_in_form, form_at, lacks_nobody, life_in, live_through, message_in, step_taken, through_at}
 use Rattle.dkg_run.proofs.KeptSteps.{IsAtStep}
@@ -73,6 +74,7 @@ use Rattle.dkg_run.proofs.LivesKept.{IsBetween, taken_before, taken_within}
 use Rattle.dkg_run.proofs.OfferedHalves.{all_of}
 use Rattle.dkg_run.proofs.RunKept.{cuts_all}
 use Rattle.dkg_run.proofs.NextLives.{GoesOn, TakesOver, applied_high, has_round, next_so, with_round}
+use Rattle.dkg_run.proofs.SaysOver.{said_over}
 use Rattle.dkg_run.proofs.SetUps.{IsQuiet, IsSeatedBy, IsSetUpBy, Telling, block_quiet, last_line, opening_leads, peer_quiet, set_up_last, still_seated, taken_leads}
 use Rattle.dkg_run.proofs.SharesKnown.{IsFitting, IsMineAt, SharesFit, mine, opening_fits, opening_fitting, reads_shares, step_fits, step_fitting}
 use Rattle.dkg_run.proofs.SharesFit.{same_shares}
@@ -108,7 +110,7 @@ SomeAt epoch held other share = other ≡ epoch → is_some share ≡ held
 
 -- HELD SHARES over more lines
 
-held_more : (s : Setting) (b added : List Entry) (epoch : ℕ) → HeldShare s b epoch → HeldShare s (b ++ added) epoch
+pub held_more : (s : Setting) (b added : List Entry) (epoch : ℕ) → HeldShare s b epoch → HeldShare s (b ++ added) epoch
 held_more s b added epoch (inl handed) = inl handed
 held_more s b added epoch (inr tells) = inr (tells.0, Contains-append_left b added (entry.Committed epoch (Some tells.0)) tells.1)
 
@@ -175,7 +177,7 @@ cut_last s cuts l life at epoch lives life_is within awaited = record {
 
 -- LINES that commit nothing
 
-abbrev Never : Option (ℕ × Part) → Type 0
+abbrev pub Never : Option (ℕ × Part) → Type 0
 Never last = ⊥
 
 abbrev NoCommit : Entry → Type 0
@@ -391,7 +393,7 @@ module _ (s : Setting) (ends : List (Option CutAt)) (form : IsFormOfInclusion s.
     abbrev begun_w : World
     begun_w = record w { fuse = f }
 
-    m : IsMessage g its
+    abbrev m : IsMessage g its
     m = message_in g its (event_in_form g here i its is)
 
     abbrev x0 : Telling
@@ -691,6 +693,32 @@ module _ (s : Setting) (ends : List (Option CutAt)) (form : IsFormOfInclusion s.
             by_stored (inl takes) = made_of At takes.1.0 takes.1.1 takes.1.2.1 takes.1.2.0
             by_stored (inr quietly) =
                 made_of Never quietly.1.0 quietly.1.1 (ap (λ (x : Telling). x.untold) quietly.1.2) (subst (λ (o : Option (ℕ × Part)). IsSeatedBy o end) (sym (ap (λ (x : Telling). x.last) quietly.1.2)) (still either quietly.0))
+
+      -- THE LINES THAT COMMIT: the last setup before each is the one before the step, where there is any
+      pub commits_told : (Takes × AtCommits At (set_up_last None before) added) ⊎ AtCommits Never (set_up_last None before) added
+      commits_told = by_end ended stored
+        where
+          told_so : (Where : Option (ℕ × Part) → Type 0) (y : Telling) → Stores Into most Where begun_w x0 new y → AtCommits Where (set_up_last None before) added
+          told_so Where y its = subst (AtCommits Where (set_up_last None before)) (lines_are Where y its) its.commits
+
+          by_end : (x : Ended NodeStop (Live U)) → Stored x → (Takes × AtCommits At (set_up_last None before) added) ⊎ AtCommits Never (set_up_last None before) added
+          by_end (went end) (inl takes) = inl (takes.0, told_so At takes.1.0 takes.1.1)
+          by_end (went end) (inr quietly) = inr (told_so Never quietly.1.0 quietly.1.1)
+          by_end (stopped stop) (inl takes) = inl (takes.0, told_so At takes.1.0 takes.1.1)
+          by_end (stopped stop) (inr quietly) = inr (told_so Never quietly.1.0 quietly.1.1)
+          by_end (broken cause) (inl takes) = inl (takes.0, told_so At takes.1.0 takes.1.1)
+          by_end (broken cause) (inr quietly) = inr (told_so Never quietly.1.0 quietly.1.1)
+
+      -- .. and each share is the one that is taken
+      found : Reads C (SomeAt (e i) (is_some (get w.held.secrets.shares (e i)))) (Some w.held)
+      found h epoch same = subst (λ (x : Held). SomeAt (e i) (is_some (get w.held.secrets.shares (e i))) epoch (lookup epoch (C.seen x).shares)) (sym same) (some_read i w.held epoch)
+
+      pub shares_told : (block : made.Block U) → m.message ≡ Finalized block → AllByRecursion (Tells (IsTakenShare C (SomeAt (e i) (is_some (get w.held.secrets.shares (e i)))) block st w.held)) added
+      shares_told block is_block =
+          let said = said_over (Tells (IsTakenShare C (SomeAt (e i) (is_some (get w.held.secrets.shares (e i)))) block st w.held)) (node_step C (event_of (Finalized block)) st) ended begun_w new
+          (block_over C (through_at g here (suc i)) (SomeAt (e i) (is_some (get w.held.secrets.shares (e i)))) block st (live_through g (SomeAt (e i) (is_some (get w.held.secrets.shares (e i)))) i (suc i) st also.live) w.held found)
+          (run_of (Finalized block) is_block) in
+          subst (AllByRecursion (Tells (IsTakenShare C (SomeAt (e i) (is_some (get w.held.secrets.shares (e i)))) block st w.held))) (append_cancel_left w.out said.0 added (sym said.1 ∙ out)) said.2
 
       -- WHERE IT IS CUT
       cut_new : (at_cut : cut.Cut) → at_cut.step ≡ suc i → 0 < at_cut.call → (Where : Option (ℕ × Part) → Type 0) (y : Telling) → Stores Into most Where begun_w x0 new y

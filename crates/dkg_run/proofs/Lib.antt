@@ -36,7 +36,9 @@ pub mod Empty
 pub mod Ended
 pub mod EndsTold
 pub mod ExactLine
+pub mod ExactRun
 pub mod ExactSteps
+pub mod ExactTold
 pub mod Entering
 pub mod FedRequests
 pub mod FewPlayers

@@ -42,7 +42,7 @@ plain_path s ends marks before (entry.Fault its) counted = λ front. tt
 plain_path s ends marks before line counted = absurd counted
 
 -- no life was before the first
-none_seen : (s : Setting) (ends : List (Option CutAt)) (epoch height : ℕ) → WasSeen s ends 0 epoch height → ⊥
+pub none_seen : (s : Setting) (ends : List (Option CutAt)) (epoch height : ℕ) → WasSeen s ends 0 epoch height → ⊥
 none_seen s ends epoch height seen = none seen.before seen.earlier
   where
     none : (a : ℕ) → a < 0 → ⊥

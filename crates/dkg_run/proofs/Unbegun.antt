@@ -44,6 +44,7 @@ use Rattle.dkg_run.proofs.Currently.{current_all}
 use Rattle.dkg_run.proofs.Keeping.{history_of}
 use Rattle.dkg_run.proofs.Leaving.{scan_leaves}
 use Rattle.dkg_run.proofs.OfferedHalves.{all_of}
+use Rattle.dkg_run.proofs.Used.{all_back}
 
 -- Both devices stand as they stood.
 pub record Unmoved (o : Over) : Type 0 where
@@ -198,6 +199,10 @@ module _ (script : Script) (o : Over) (answered : Result (Unit {0}) Fault) (old 
   -- .. and nothing is committed
   pub none_commits : (So : ℕ → ℕ → Type 0) (epoch share : ℕ) → Contains added (entry.Committed epoch (Some share)) → So epoch share
   none_commits So epoch share has = absurd (all_of IsUncommitted added (entry.Committed epoch (Some share)) (by_why (λ r es. AllByRecursion IsUncommitted es) tt (λ fault refused. (tt, tt))) has)
+
+  pub none_committed : (before after : List Entry) (epoch : ℕ) (share : Option ℕ) → added ≡ before ++ entry.Committed epoch share ∷ after → ⊥
+  none_committed before after epoch share parts =
+      (all_back IsUncommitted before (entry.Committed epoch share ∷ after) (subst (AllByRecursion IsUncommitted) parts (by_why (λ r es. AllByRecursion IsUncommitted es) tt (λ fault refused. (tt, tt))))).0
 
   -- .. and none is left open
   pub none_left : LeavesSo script added

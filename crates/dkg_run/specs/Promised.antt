@@ -20,7 +20,7 @@ use Rattle.dkg_run.specs.Leaves.{LeavesSo}
 use Rattle.dkg_run.specs.Lives.{AnyFiles, RunsOver, RunsSo, never}
 use Rattle.dkg_run.specs.Over.{Over}
 use Rattle.dkg_run.specs.Refusals.{BlamesOnlySkips}
-use Rattle.dkg_run.specs.SharesStand.{CommitsFit}
+use Rattle.dkg_run.specs.SharesStand.{CommitsExactly, CommitsFit}
 use Rattle.dkg_run.specs.Ways.{by_lines, trace}
 
 -- THE ENTRIES are those of a node run of the script, whatever the devices tell: a step that is ended early gives a front of its lines. Each life's end
@@ -63,6 +63,8 @@ pub record Promised (script : Script) (o : Over) (result : Result (Unit {0}) Fau
   pub paths : o.tells → Stands o.before.files o.before.image → AnswersThePath script o.before.files o.before.held added
   -- Each share that is committed is this node's in the output that its epoch's info carries.
   pub shares : o.tells → Stands o.before.files o.before.image → CommitsFit script o.before.files o.before.held added
+  -- .. and, where the past is whole, it stands exactly: behind an epoch that a life takes part in there is one just where the node played, or where it held one and the ceremony failed.
+  pub exactly : o.tells → Stands o.before.files o.before.image → CommitsExactly script o.before.files o.before.held added
   -- A valid script over valid devices, of which no count rises, is run to its end, unless memory runs out.
   pub complete : IfErr result (λ fault. IsSoundRun o (IsValidAsCut script added) → fault ≡ NoMemory)
   -- A second call stands under what this one leaves.
