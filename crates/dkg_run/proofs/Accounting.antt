@@ -17,7 +17,7 @@ use Rattle.dkg_types.specs.BlockCodes.{info_of}
 use Rattle.dkg_types.specs.declared.entry.AnswerLine.{AnswerLine}
 use Rattle.dkg_types.specs.declared.entry.AnswerLine.TheVariants.{Unavailable}
 use Rattle.dkg_types.specs.declared.entry.Entry.{Entry}
-use Rattle.dkg_types.specs.declared.entry.Entry.TheVariants.{Acked, Answer, Log}
+use Rattle.dkg_types.specs.declared.entry.Entry.TheVariants.{Acked, Answer, Committed, Log, Registered}
 use Rattle.dkg_types.specs.declared.entry.Why.TheVariants.{Finished}
 use Rattle.dkg_types.specs.declared.fault.Fault.{Fault}
 use Rattle.dkg_types.specs.declared.fault.Fault.TheVariants.{DirectoryMismatch, HeightRange, InvalidParticipants, LocalState, MissingEpochInfo, WrongEpoch}
@@ -37,7 +37,7 @@ use Rattle.dkg_core.specs.Forms.{Applied, Judged, Passed, judged_block}
 use Rattle.dkg_core.specs.Including as i
 use Rattle.dkg_core.specs.Including.{Fed, Need, Found, Lacks, can_finish, cached_for, is_need, job_for, read_of, result_of, retained_for, retains}
 use Rattle.dkg_core.specs.Laws.{IsAmong}
-use Rattle.dkg_core.specs.Live.{Artifact, Cancel, Deals, Ends, EpochInfoOf, Faulted, Feed, Finalized, Follows, Inclusion, Includes, Job, Live, Mail, Message, NextLog, NodeStop, Over, Peer, ReleaseLog, Request, Sent, Stage, VerifiedLogs, Verified, Work, is_last_height, recorded_at, with_inclusion, with_queue, with_tip, with_used}
+use Rattle.dkg_core.specs.Live.{Artifact, Cancel, Deals, Ends, EpochInfoOf, Faulted, Feed, Finalized, Follows, GaveNone, Inclusion, Includes, Job, Live, Mail, Message, NextLog, NodeStop, Over, Peer, ReleaseLog, Request, Sent, Stage, VerifiedLogs, Verified, Work, is_last_height, recorded_at, with_inclusion, with_participation, with_queue, with_tip, with_told, with_used}
 use Rattle.dkg_core.specs.Logs.{canonical, filled_by, is_accepted, log_event}
 use Rattle.dkg_core.specs.Node.{node_step, unless_once}
 use Rattle.dkg_core.specs.NodeSaying.{IsHalfLine}
@@ -787,7 +787,7 @@ module _ (c : Fixed U) (reshare : c.oneshot ≡ None) (n : ℕ) (Was : Type 0) w
       answers_rest : (rs : List (Request U)) (now : Live U) (said : List Entry) → IsLeft rs ⊎ IsAnsweredIn n said → Accounts Done said (b.answers_all rs now)
       answers_rest [] now said (inl (r, none, is)) = absurd none
       answers_rest [] now said (inr done) = done
-      answers_rest (x ∷ rs) now said rest = answers_rest rs _ (said ++ Answer x.number _ ∷ []) (by_rest rest)
+      answers_rest (x ∷ rs) now said rest = answers_rest rs (with_told x.number (GaveNone Finished) now) (said ++ Answer x.number (Unavailable Finished) ∷ []) (by_rest rest)
         where
           by_rest : IsLeft (x ∷ rs) ⊎ IsAnsweredIn n said → IsLeft rs ⊎ IsAnsweredIn n (said ++ Answer x.number (Unavailable Finished) ∷ [])
           by_rest (inl (r, inl same, is)) =
@@ -805,15 +805,16 @@ module _ (c : Fixed U) (reshare : c.oneshot ≡ None) (n : ℕ) (Was : Type 0) w
           (answers_rest now.inclusion.queue (with_tip block now) said rest) (λ more end done. stays (if is_some c.oneshot then b.ends_once c outcome end else s.setup c None end) more done)
 
       committed : (info : EpochInfo U) (seed : List ℕ) (share : Option ℕ) (now : Live U) (said : List Entry) → Rest said now → Accounts Rest said (s.commits info seed share now)
-      committed info seed None now said rest = rest_on said _ now _ refl rest
-      committed info seed (Some share) now said rest = rest_on said _ now _ refl rest
+      committed info seed None now said rest = rest_on said (Committed info.epoch None) now (with_participation (record now.participation { current = Some info }) now) refl rest
+      committed info seed (Some share) now said rest = rest_on said (Committed info.epoch (Some share)) now (with_participation (record now.participation { current = Some info }) now) refl rest
 
       registered : (info : EpochInfo U) (share : Option ℕ) (now : Live U) (said : List Entry) → Rest said now → Accounts Rest said (if is_some c.oneshot then Goes now else s.registers c info share now)
-      registered info share now said rest = acc_if Rest said (is_some c.oneshot) (Goes now) (s.registers c info share now) (λ e. rest) (λ e. rest_on said _ now _ refl rest)
+      registered info share now said rest = acc_if Rest said (is_some c.oneshot) (Goes now) (s.registers c info share now) (λ e. rest)
+          (λ e. rest_on said (Registered info.epoch (s.role_of (s.scheme_for c info share))) now (s.with_registered info.epoch (s.scheme_for c info share) now) refl rest)
 
       takes : (block : Block U) (info : EpochInfo U) (share : Option ℕ) (now : Live U) (said : List Entry) → Rest said now → Accounts Done said (b.takes_over c block info share now)
       takes block info share now said rest = λ h.
-          acc_behind Rest Done (s.commits info (s.seed_for c info.epoch (lookup info.epoch (c.seen h).seeds)) share now) _ said (committed info _ share now said rest)
+          acc_behind Rest Done (s.commits info (s.seed_for c info.epoch (lookup info.epoch (c.seen h).seeds)) share now) (λ x. bind (if is_some c.oneshot then Goes x else s.registers c info share x) (λ y. b.passes_on c block (Some info) y)) said (committed info (s.seed_for c info.epoch (lookup info.epoch (c.seen h).seeds)) share now said rest)
           (λ more x left. acc_behind Rest Done (if is_some c.oneshot then Goes x else s.registers c info share x) (λ y. b.passes_on c block (Some info) y) more (registered info share x more left)
           (λ last y its. passes block (Some info) y last its))
 

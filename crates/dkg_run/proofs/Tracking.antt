@@ -39,7 +39,7 @@ use Rattle.dkg_core.specs.Said.{Said}
 use Rattle.dkg_core.specs.SayingThrough.{IsBlockAnswer, IsLineThrough, IsUnasked}
 use Rattle.dkg_core.specs.Setup.{begins_inclusion}
 use Rattle.dkg_core.specs.Stepping.{dealt_behind, given_itself}
-use Rattle.dkg_core.specs.Through.{PassesNothingOn, IsAppliedThrough, IsBlockThrough, IsEndThrough, IsFollowedThrough, IsIncludedThrough, IsLiveThrough, IsReadFrom, asked_by, cancelled, finished, included, waits_for}
+use Rattle.dkg_core.specs.Through.{PassesNothingOn, IsAppliedThrough, IsBlockThrough, IsEndThrough, IsFollowedThrough, IsIncludedThrough, IsLiveThrough, IsReadFrom, asked_by, cancelled, finished, included, unasked, waits_for}
 use Rattle.dkg_core.proofs.NodeSaying.{node_steps_say_through}
 use Rattle.dkg_core.proofs.Splitting.{came_to}
 use Rattle.dkg_core.proofs.StepDealing as dealing
@@ -299,9 +299,6 @@ module _ (g : Lived) (here : IsLifeInForm g) (i : ℕ) (its : Event) (is : slice
 
   mid_tip : mid.tip ≡ tip_in g.script g.life (suc i)
   mid_tip = sym (ap (λ (x : Live U). x.tip) node.same) ∙ tip
-
-  less : (a : ℕ) → a < i → a ≤ i
-  less a low = omega (arith, low)
 
   -- as a step's messages say
   brings : (message : Message U) → m.message ≡ message → Brings g its message
@@ -667,7 +664,7 @@ module _ (g : Lived) (here : IsLifeInForm g) (i : ℕ) (its : Event) (is : slice
           by_stage waits (inl follows) = absurd (follows_none follows n waits)
           by_stage waits (inr includes) =
               let sent : Said (on_devices (node_step c (event_of (Finalized over.block)) st)) (went end) out now = subst (λ (x : Message U). Said (on_devices (node_step c (event_of x) st)) (went end) out now) over.is lines in
-              let rounds = has_round c st (live.stands) (λ follows. let no : ◌≡◌ {A = Stage} Includes Follows = sym includes ∙ follows in cc) in
+              let rounds = has_round c (unasked st) live.stands (λ follows. let no : ◌≡◌ {A = Stage} Includes Follows = sym includes ∙ follows in cc) in
               let answered = last_kept c reshare n (IsWaiting n st.inclusion) st held.apart waits (at_first c reshare n st held.apart live.asked.has.waits) over.block over.applied includes over.last rounds.0 rounds.1 end out now sent in
               subst (IsAnsweredIn n) (append_cancel_left out sent.lines lines.lines (sym sent.added ∙ lines.added)) answered
 
@@ -739,13 +736,13 @@ module _ (g : Lived) (here : IsLifeInForm g) (i : ℕ) (its : Event) (is : slice
           deals : st.participation.stage ≡ Deals → IsReadFrom c (dealt_behind c b (given_itself c st)) mid → IsReading (dealt_behind c b (given_itself c st)) st
           deals stage read = record {
             read = read;
-            ready = dealt_said g here i its is st held number of c b (live.asked.has.waits early.0);
+            ready = dealt_said g here i its is st held number of c b (live.asked.has.waits idle);
             order = λ low le order. subst (InOrder g (suc i) low) (sym ((dealt_same c st b (given_itself c st)).0 ∙ ap (λ (x : Inclusion U). x.queue) (dealing.given_same c st).inclusion)) (later_order low le order);
-            goes_on = λ job runs. absurd (none_some (sym (none_runs early.0) ∙ runs));
+            goes_on = λ job runs. absurd (none_some (sym (none_runs idle) ∙ runs));
           }
             where
-              early : (st.inclusion.running ≡ None) × _
-              early = live.asked.has.early (λ includes. let no : ◌≡◌ {A = Stage} Deals Includes = sym stage ∙ includes in cc)
+              idle : st.inclusion.running ≡ None
+              idle = (live.asked.has.early (λ includes. let no : ◌≡◌ {A = Stage} Deals Includes = sym stage ∙ includes in cc)).0
 
               none_runs : st.inclusion.running ≡ None → (dealt_behind c b (given_itself c st)).inclusion.running ≡ None
               none_runs none = by_test (b.height + 1 == midpoint c.blocks_per_epoch (given_itself c st).participation.epoch)
@@ -802,9 +799,9 @@ module _ (g : Lived) (here : IsLifeInForm g) (i : ℕ) (its : Event) (is : slice
           by_test true = (later_order, refl, inr refl)
           by_test false = ((λ low le order. order_kept g (suc i) low (λ r. not (r.number == request)) st.inclusion.queue (later_order low le order)), refl, inl refl)
 
-      changed_reading : (mail : Mail U) (request : ℕ) (f : Request U → Request U) → IsReadFrom c (changed request f st) mid → AreReady g e (suc i) st.participation.round (changed request f st).inclusion
+      changed_reading : (request : ℕ) (f : Request U → Request U) → IsReadFrom c (changed request f st) mid → AreReady g e (suc i) st.participation.round (changed request f st).inclusion
           → ((r : Request U) → (f r).number ≡ r.number) → (its ≡ event.Work → ⊥) → IsReading (changed request f st) st
-      changed_reading mail request f read ready same other = record {
+      changed_reading request f read ready same other = record {
         read = read;
         ready = ready;
         order = changed_order request f same;
@@ -847,11 +844,11 @@ module _ (g : Lived) (here : IsLifeInForm g) (i : ℕ) (its : Event) (is : slice
           by_message (Sent (Feed request block)) sent its_end =
               inl (
                 asked_by (Feed request block) st,
-                changed_reading (Feed request block) request (λ r. if r.ended then r else record r { blocks = r.blocks ++ block ∷ [] }) its_end.0 (ready (Feed request block) sent) (fed_same block)
+                changed_reading request (λ r. if r.ended then r else record r { blocks = r.blocks ++ block ∷ [] }) its_end.0 (ready (Feed request block) sent) (fed_same block)
                     (no_work (Sent (Feed request block)) sent (λ e. cc)),
               )
           by_message (Sent (Over request)) sent its_end =
-              inl (asked_by (Over request) st, changed_reading (Over request) request (λ r. record r { ended = true }) its_end.0 (ready (Over request) sent) (λ r. refl) (no_work (Sent (Over request)) sent (λ e. cc)))
+              inl (asked_by (Over request) st, changed_reading request (λ r. record r { ended = true }) its_end.0 (ready (Over request) sent) (λ r. refl) (no_work (Sent (Over request)) sent (λ e. cc)))
           by_message (Sent (Cancel request)) sent its_end =
               let its_life = cancelled_as request in
               inl (
