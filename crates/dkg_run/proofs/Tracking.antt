@@ -80,12 +80,12 @@ all_of P (y ∷ xs) x (inr among) all = all_of P xs x among all.1
 
 among_kept : {A : Type 0} (keep : A → Bool) (xs : List A) (x : A) → IsAmong x (filter keep xs) → IsAmong x xs
 among_kept keep [] x among = absurd among
-among_kept keep (y ∷ xs) x among = by_test (keep y) among
+among_kept keep (y ∷ xs) x among = by_test (λ rest. among_kept keep xs x rest) (keep y) among
   where
-    by_test : (t : Bool) → IsAmong x (if t then y ∷ filter keep xs else filter keep xs) → IsAmong x (y ∷ xs)
-    by_test true (inl is) = inl is
-    by_test true (inr rest) = inr (among_kept keep xs x rest)
-    by_test false rest = inr (among_kept keep xs x rest)
+    by_test : (IsAmong x (filter keep xs) → IsAmong x xs) → (t : Bool) → IsAmong x (if t then y ∷ filter keep xs else filter keep xs) → IsAmong x (y ∷ xs)
+    by_test more true (inl is) = inl is
+    by_test more true (inr rest) = inr (more rest)
+    by_test more false rest = inr (more rest)
 
 -- EVENTS
 
@@ -313,18 +313,15 @@ module _ (g : Lived) (here : IsLifeInForm g) (i : ℕ) (its : Event) (is : slice
   before_apart reshare = by_message m.message refl
     where
       by_message : (message : Message U) → m.message ≡ message → IsApart (Before st message).inclusion
-      by_message (Finalized b) is = held.apart
-      by_message (Sent (Peer from bytes)) is = held.apart
-      by_message (Sent (NextLog request height)) is = held.apart
-      by_message (Sent (ReleaseLog height)) is = held.apart
-      by_message (Sent (EpochInfoOf request)) is = let new : IsNewOne c reshare st (EpochInfoOf request) = sent_new g here i its is_there st held m c reshare (EpochInfoOf request) is in queued_apart c reshare st held.apart request new.0 new.1
-      by_message (Sent (Feed request b)) is = held.apart
-      by_message (Sent (Over request)) is = held.apart
-      by_message (Sent (Cancel request)) is = cancelled_apart request st held.apart
-      by_message (Sent (Work handed)) is = held.apart
-
-      is_there : slice_get g.life.events i ≡ Some its
-      is_there = is
+      by_message (Finalized b) sent = held.apart
+      by_message (Sent (Peer from bytes)) sent = held.apart
+      by_message (Sent (NextLog request height)) sent = held.apart
+      by_message (Sent (ReleaseLog height)) sent = held.apart
+      by_message (Sent (EpochInfoOf request)) sent = let new : IsNewOne c reshare st (EpochInfoOf request) = sent_new g here i its is st held m c reshare (EpochInfoOf request) sent in queued_apart c reshare st held.apart request new.0 new.1
+      by_message (Sent (Feed request b)) sent = held.apart
+      by_message (Sent (Over request)) sent = held.apart
+      by_message (Sent (Cancel request)) sent = cancelled_apart request st held.apart
+      by_message (Sent (Work handed)) sent = held.apart
 
   before_idle : before.inclusion.running ≡ None → before.inclusion.waiter ≡ None
   before_idle = by_message m.message
@@ -1067,6 +1064,7 @@ module _ (g : Lived) (here : IsLifeInForm g) (i : ℕ) (its : Event) (is : slice
               )
 
         begins_run : IsRun g e (suc i) said_now end.inclusion
+        unfolding oldest its_held
         begins_run = record {
           verifies = record {
             request = r.number;
